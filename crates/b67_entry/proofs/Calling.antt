@@ -7,7 +7,7 @@ use Rattle.b67_word.specs.declared.faults.Fault.{Fault}
 use Rattle.b67_word.specs.declared.faults.Fault.TheVariants.{InvalidOperand}
 use Rattle.b67_model.specs.Answers.{Answer, ◌>>=◌}
 use Rattle.b67_lemmas.specs.Lists.{Has}
-use Rattle.b67_lemmas.proofs.Members.{change_twice, change_found, keyed-has}
+use Rattle.b67_lemmas.proofs.Members.{change_twice, change_found, keyed_has}
 use Rattle.b67_model.specs.Words.{Word}
 use Rattle.b67_model.specs.State as State
 use Rattle.b67_model.specs.State.{Standing, Return, Ready, Frame, Array, Condition, Task, Job, OperatorContext, SessionJob, frame, head_words, height, with_top_cells, with_task}
@@ -121,7 +121,7 @@ module _ (x : Storage) (old : Cpu) (plan : Placement) (s : Session) (m : Session
   free = fresh plan s m t o runs
 
   in_t : Has m.progress.job.tasks t
-  in_t = keyed-has (λ (u : Task). u.number) t.number m.progress.job.tasks t runs.task
+  in_t = (keyed_has (λ (u : Task). u.number) t.number m.progress.job.tasks t runs.task).0
 
   running_on : (d : Condition) → IsRunning plan (with_job s m (job_on d)).jobs (member_on d) (task_on d)
   running_on d = record {

@@ -7,7 +7,7 @@ use Rattle.b67_word.specs.declared.faults.Fault.TheVariants.{InvalidOperand, Upl
 use Rattle.b67_ctl.specs.Descriptors.{data_word, IsDataDesc}
 use Rattle.b67_ctl.specs.declared.descriptors.DataDesc.{DataDesc}
 use Rattle.b67_lemmas.specs.Lists.{Has, Falls}
-use Rattle.b67_lemmas.proofs.Members.{keyed_falls, keyed-has}
+use Rattle.b67_lemmas.proofs.Members.{keyed_falls, keyed_has}
 use Rattle.b67_model.specs.Words as Words
 use Rattle.b67_model.specs.Words.{Word, Operand, Name, Ref, Row, Element, Original, Proc, Intrinsic}
 use Rattle.b67_model.specs.State.{Frame, Array, Task, Job, SessionJob, top}
@@ -122,7 +122,7 @@ module _ (x : Storage) (cpu : Cpu) (plan : Placement) (s : Session) (m : Session
     by (Words.Segment number) fit g = absurd g
 
   in_m : Has s.jobs m
-  in_m = keyed-has number_of m.constants.number s.jobs m runs.member
+  in_m = (keyed_has number_of m.constants.number s.jobs m runs.member).0
 
   id_is : (top t.frames).identity ≡ b.frame.identity
   id_is = ap (λ (fs : List Frame). (top fs).identity) b.frames

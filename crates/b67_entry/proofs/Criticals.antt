@@ -20,7 +20,7 @@ use Rattle.b67_layout.proofs.Frames.{height-is}
 use Rattle.b67_layout.proofs.Fresh.{running_in_order}
 use Rattle.b67_layout.proofs.Rows.{slot_below}
 use Rattle.b67_layout.proofs.Starts.{runs_here}
-use Rattle.b67_lemmas.proofs.Members.{keyed-has}
+use Rattle.b67_lemmas.proofs.Members.{keyed_has}
 use Rattle.b67_layout_leave.proofs.Apart.{some_words}
 
 mark_under : (job : Job) (fs : List Frame) → critical_mark job fs < height fs
@@ -38,7 +38,7 @@ tells job f below = by (is_critical job f.identity) where
 
 module _ (x : Storage) (cpu : Cpu) (plan : Placement) (s : Session) (m : SessionJob) (t : Task) (o : IsInOrderButCounts s) (h : RepresentsSession x cpu plan s) (runs : IsRunning plan s.jobs m t) where
   pub slot_small : cpu.regs.slot < 120
-  slot_small = omega (arith, (h.holds.running m t runs).slot, h.holds.fits.few, slot_below plan s.jobs m t h.holds.fits.rows (keyed-has number_of m.constants.number s.jobs m runs.member) (keyed-has (λ (u : Task). u.number) t.number m.progress.job.tasks t runs.task))
+  slot_small = omega (arith, (h.holds.running m t runs).slot, h.holds.fits.few, slot_below plan s.jobs m t h.holds.fits.rows (keyed_has number_of m.constants.number s.jobs m runs.member).0 (keyed_has (λ (u : Task). u.number) t.number m.progress.job.tasks t runs.task).0)
 
   stack_is : RepresentsRunning cpu.regs (machine_view plan s.jobs) cpu.regs.slot (stack_of_task plan m.constants.number m.progress.job plan.running t)
   stack_is = running_slot x cpu.core cpu.regs (machine_view plan s.jobs) cpu.regs.slot (stack_of_task plan m.constants.number m.progress.job plan.running t) h.holds.memory (runs_here x cpu plan s m t h runs)
@@ -48,7 +48,7 @@ module _ (x : Storage) (cpu : Cpu) (plan : Placement) (s : Session) (m : Session
 
   -- the word of the running slot
   pub word_there : slice_get cpu.critical cpu.regs.slot ≡ Some (critical_mark m.progress.job t.frames)
-  word_there = ap (slice_get cpu.critical) (h.holds.running m t runs).slot ∙ h.holds.critical.live m t (keyed-has number_of m.constants.number s.jobs m runs.member) (keyed-has (λ (u : Task). u.number) t.number m.progress.job.tasks t runs.task)
+  word_there = ap (slice_get cpu.critical) (h.holds.running m t runs).slot ∙ h.holds.critical.live m t (keyed_has number_of m.constants.number s.jobs m runs.member).0 (keyed_has (λ (u : Task). u.number) t.number m.progress.job.tasks t runs.task).0
 
   place_is : (fs : List Frame) → fs ≢ [] → mark_place (activations plan m.constants.number m.progress.job plan.running (outer_spots plan m.constants.number m.progress.job t.critical t.parents) fs) ≡ cpu.regs.f - cpu.regs.bosr
       → eqb (critical_mark m.progress.job fs) (cpu.regs.f - cpu.regs.bosr) ≡ is_critical m.progress.job (top fs).identity

@@ -28,7 +28,7 @@ use Rattle.b67_layout_leave.proofs.Leaves.{Leaver, task_at, may_leave, below-sam
 use Rattle.b67_layout_leave.proofs.Orders.{left_ready}
 use Rattle.b67_entry.specs.Left.{MayReturn, caller_regs, Returns}
 use Rattle.b67_entry.proofs.Exits.{exit_left}
-use Rattle.b67_lemmas.proofs.Members.{keyed-has}
+use Rattle.b67_lemmas.proofs.Members.{keyed_has}
 
 pub some_first : {A : Type 0} (x : A) (xs : List A) → x ∷ xs ≢ []
 some_first x xs e = cc
@@ -100,7 +100,7 @@ module _ (x : Storage) (old : Cpu) (plan : Placement) (s : Session) (m : Session
   -- what references are followed in, once the frame is left. The task is seen as a ready one
   abbrev pub scene_left : RunningContext old.core regs_left
   scene_left =
-      let i = member_in_order s m o (keyed-has number_of m.constants.number s.jobs m runs.member) in
+      let i = member_in_order s m o (keyed_has number_of m.constants.number s.jobs m runs.member).0 in
       record {
         left = objects_gone plan m (job_at Ready);
         storage = x;
@@ -119,7 +119,7 @@ module _ (x : Storage) (old : Cpu) (plan : Placement) (s : Session) (m : Session
   shown_left display shown =
       let free = fresh plan s m t o runs in
       Shows-condition display plan m (without_arrays_of a.f.identity m.progress.job) (task_left Ready) Ready t.condition t m.progress.job.next_frame runs.task
-      (record { some = free.some; uncritical = free.uncritical }) (free.uncritical t (keyed-has (λ (u : Task). u.number) t.number m.progress.job.tasks t runs.task)) shown
+      (record { some = free.some; uncritical = free.uncritical }) (free.uncritical t (keyed_has (λ (u : Task). u.number) t.number m.progress.job.tasks t runs.task).0) shown
 
   -- EXIT was made
   pub exit_made : (q : Place) (display : List ℕ) → ShowsDisplay display plan (member_at Ready) (task_left Ready)

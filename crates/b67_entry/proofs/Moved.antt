@@ -4,7 +4,7 @@ use Rattle.std.specs.Prelude.{◌==◌}
 use Rattle.std.proofs.lemmas.Bool.Decides.{eqb_tells}
 use Rattle.b67_word.specs.Tagged.{Tagged}
 use Rattle.b67_lemmas.specs.Lists.{Has}
-use Rattle.b67_lemmas.proofs.Members.{has_filter_in, keyed-has}
+use Rattle.b67_lemmas.proofs.Members.{has_filter_in, keyed_has}
 use Rattle.b67_model.specs.Words as Words
 use Rattle.b67_model.specs.Words.{Word, Operand, Name, Ref, Row, Element, Original, Proc, Intrinsic}
 use Rattle.b67_model.specs.State.{Ready, Frame, Standing, Array, Task, Job, SessionJob}
@@ -84,7 +84,7 @@ module _ (x : Storage) (old : Cpu) (plan : Placement) (s : Session) (m : Session
   spots_same : spots plan m.constants.number job task ≡ spot_in plan.running (outer x old plan s m t o h runs a) (a.next ∷ a.more)
   spots_same =
       let by = replaces plan s m t a.f (a.next ∷ a.more) (may x old plan s m t o h runs a) job (a.next ∷ a.more) a.back.segment a.back.place Ready refl refl (Frames-below plan s m t a.f (a.next ∷ a.more) (may x old plan s m t o h runs a)) in
-      let in_t = keyed-has (λ (u : Task). u.number) t.number m.progress.job.tasks t runs.task in
+      let in_t = (keyed_has (λ (u : Task). u.number) t.number m.progress.job.tasks t runs.task).0 in
       let out : outer_spots plan m.constants.number job t.critical t.parents ≡ outer x old plan s m t o h runs a = λ z i. outer_spots-after plan m.constants.number m.progress.job job t task by t.parents t.critical (inr (t, in_t, refl)) i z in
       (λ z i. (ap (λ (k : ℕ). spot_in k (outer_spots plan m.constants.number job t.critical t.parents) (a.next ∷ a.more) i) (sym runs.slot) ∙ ap (λ (q : ℕ → StackPlace). spot_in plan.running q (a.next ∷ a.more) i) out) z)
 

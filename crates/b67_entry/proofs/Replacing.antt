@@ -6,7 +6,7 @@ use Rattle.b67_word.specs.Tagged.{Tagged, word}
 use Rattle.b67_ctl.specs.declared.registers.Regs.{Regs}
 use Rattle.b67_core.proofs.Writes.{slice_get-set_other}
 use Rattle.b67_lemmas.specs.Lists.{Has}
-use Rattle.b67_lemmas.proofs.Members.{change_twice, has_append_left, has_map, change_found, keyed-has}
+use Rattle.b67_lemmas.proofs.Members.{change_twice, has_append_left, has_map, change_found, keyed_has}
 use Rattle.b67_model.specs.Words.{Word, Operand}
 use Rattle.b67_model.specs.State.{Frame, Condition, Ready, Task, Job, SessionJob, with_top_cells, with_task}
 use Rattle.b67_model.specs.Steps.{without_arrays_of}
@@ -72,7 +72,7 @@ module _ (x : Storage) (old : Cpu) (plan : Placement) (s : Session) (m : Session
         free = fresh plan s m t o runs
 
         in_t : Has m.progress.job.tasks t
-        in_t = keyed-has (λ (u : Task). u.number) t.number m.progress.job.tasks t runs.task
+        in_t = (keyed_has (λ (u : Task). u.number) t.number m.progress.job.tasks t runs.task).0
 
         there : keyed (λ (u : Task). u.number) t.number (job_with (a.next ∷ a.more) d).tasks ≡ Some (task_with (a.next ∷ a.more) d)
         there = change_found (λ (u : Task). u.number) t.number t (task_with (a.next ∷ a.more) d) m.progress.job.tasks refl runs.task

@@ -7,7 +7,7 @@ use Rattle.b67_word.specs.declared.faults.Fault.TheVariants.{InvalidOperand, Upl
 use Rattle.b67_ctl.specs.Layout.{sirw_word, IsSirw}
 use Rattle.b67_ctl.specs.declared.references.Sirw.{Sirw}
 use Rattle.b67_lemmas.specs.Lists.{Has}
-use Rattle.b67_lemmas.proofs.Members.{keyed-has}
+use Rattle.b67_lemmas.proofs.Members.{keyed_has}
 use Rattle.b67_model.specs.Words as Words
 use Rattle.b67_model.specs.Words.{Word, Operand, Name, Ref, Row, Element, Original, Proc, Intrinsic}
 use Rattle.b67_model.specs.State.{Frame, Task, SessionJob, height, top}
@@ -46,10 +46,10 @@ module _ (x : Storage) (cpu : Cpu) (plan : Placement) (s : Session) (m : Session
   id_is = ap (λ (fs : List Frame). (top fs).identity) b.frames
 
   in_m : Has s.jobs m
-  in_m = keyed-has number_of m.constants.number s.jobs m runs.member
+  in_m = (keyed_has number_of m.constants.number s.jobs m runs.member).0
 
   in_t : Has m.progress.job.tasks t
-  in_t = keyed-has (λ (u : Task). u.number) t.number m.progress.job.tasks t runs.task
+  in_t = (keyed_has (λ (u : Task). u.number) t.number m.progress.job.tasks t runs.task).0
 
   -- the displacement of the mark at F
   pub place_is : cpu.regs.f - cpu.regs.bosr ≡ height b.below

@@ -36,7 +36,7 @@ use Rattle.b67_layout_enter.proofs.Heads.{IsClear}
 use Rattle.b67_layout.proofs.Steps.{IsFree}
 use Rattle.b67_core.proofs.Writes.{slice_get-set_other}
 use Rattle.b67_lemmas.specs.Lists.{Has}
-use Rattle.b67_lemmas.proofs.Members.{all_in, keyed-has}
+use Rattle.b67_lemmas.proofs.Members.{all_in, keyed_has}
 use Rattle.b67_entry_enter.specs.Procedures.{IsEntered}
 use Rattle.b67_entry_enter.proofs.Sites.{Site, site}
 use Rattle.b67_entry_enter.proofs.Segments.{few_segments}
@@ -48,7 +48,7 @@ same_cells (f ∷ below) = refl
 module _ (core : List Tagged) (r : Regs) (a : RunningContext core r) (q : Place)
     (f segment level : ℕ) (place : Place) (names : NamesEntered (reach_of a.member.progress.job a.task) f) (own : 1 < f) (high : level ≤ 31) (starts : IsSegment a.member.constants segment level place) (value : Bool) (b : Place) (good : IsPlace b) where
   has_t : Has a.member.progress.job.tasks a.task
-  has_t = keyed-has (λ (u : Task). u.number) a.task.number a.member.progress.job.tasks a.task a.running.task
+  has_t = (keyed_has (λ (u : Task). u.number) a.task.number a.member.progress.job.tasks a.task a.running.task).0
 
   pub free : IsFree a.member.progress.job a.member.progress.job.next_frame
   free = next_is_free (IsSegment a.member.constants) a.member.constants a.member.progress.job a.ordered.tasks a.task has_t

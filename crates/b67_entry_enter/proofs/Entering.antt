@@ -9,7 +9,7 @@ use Rattle.b67_ctl.specs.declared.marks.Mscw.{Mscw}
 use Rattle.b67_ctl.specs.declared.marks.Rcw.{Rcw}
 use Rattle.b67_ctl.specs.Layout.{IsPlace, IsMscw, mscw_word, IsRcw, rcw_word}
 use Rattle.b67_lemmas.specs.Lists.{Has}
-use Rattle.b67_lemmas.proofs.Members.{keyed-has}
+use Rattle.b67_lemmas.proofs.Members.{keyed_has}
 use Rattle.b67_model.specs.Words.{Word}
 use Rattle.b67_model.specs.State as State
 use Rattle.b67_model.specs.State.{Frame, Return, Ready, Task, Job, SessionJob, top, below_top, height, frame}
@@ -193,7 +193,7 @@ module _ (x : Storage) (old : Cpu) (plan : Placement) (s : Session) (m : Session
       session = with_job s m job_ready;
       member = record m { progress = record m.progress { job = job_ready } };
       task = task_ready;
-      ordered = (let was = member_in_order s m o (keyed-has number_of m.constants.number s.jobs m runs.member) in record { from_one = was.from_one; few = was.few; constants = was.constants; tasks = tasks_ready });
+      ordered = (let was = member_in_order s m o (keyed_has number_of m.constants.number s.jobs m runs.member).0 in record { from_one = was.from_one; few = was.few; constants = was.constants; tasks = tasks_ready });
       holds = holds_ready;
       running = IsRunning-entered x old.core old.regs old.critical plan s m t h.holds runs first (reverse arguments) w level f back spot m.progress.job.next_frame (fresh plan s m t o runs) segment place Ready;
     }

@@ -26,7 +26,7 @@ use Rattle.b67_layout.proofs.Gone.{no_objects_gone}
 use Rattle.b67_layout.proofs.Fresh.{job_in_order}
 use Rattle.b67_layout_enter.proofs.Marks.{job_marked, RepresentsSession-mark}
 use Rattle.b67_layout_enter.proofs.Rooms.{height_room, written}
-use Rattle.b67_lemmas.proofs.Members.{keyed-has}
+use Rattle.b67_lemmas.proofs.Members.{keyed_has}
 
 -- the machine after it
 abbrev pub marked_at : Cpu → Place → Cpu
@@ -39,7 +39,7 @@ module _ (x : Storage) (old : Cpu) (plan : Placement) (s : Session) (m : Session
   pub mkst_done : old.regs.s ≢ old.regs.losr → IsMade x plan s m old (marked_at old q) (mkst (here m t q))
   mkst_done room =
       let new = marked_at old q in
-      let in_m = keyed-has number_of m.constants.number s.jobs m runs.member in
+      let in_m = (keyed_has number_of m.constants.number s.jobs m runs.member).0 in
       let job = job_marked m.progress.job t q in
       let g = job_in_order s m o in_m in
       let p = machine_view plan s.jobs in

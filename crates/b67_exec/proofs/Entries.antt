@@ -15,7 +15,7 @@ use Rattle.b67_model.specs.InOrder.{NamesEntered}
 use Rattle.b67_layout.specs.Orders.{IsInOrderButCounts}
 use Rattle.b67_model.specs.Keyed.{change_keyed}
 use Rattle.b67_lemmas.specs.Lists.{Has}
-use Rattle.b67_lemmas.proofs.Members.{change_twice, change_found, keyed-has}
+use Rattle.b67_lemmas.proofs.Members.{change_twice, change_found, keyed_has}
 use Rattle.b67_model.specs.Run.{number_of}
 use Rattle.b67_model.specs.Schedule.{Session}
 use Rattle.b67_model.specs.State.{Frame, Entered, Array, Task, Job, JobProgress, SessionJob, top, with_top_cells, with_task, height, frame}
@@ -112,7 +112,7 @@ module _ (x : Storage) (old : Cpu) (plan : Placement) (s : Session) (m : Session
   can_enter q at f segment level place i = record {
     marks = critical;
     clear = λ fits. clear_settled x cpu0.core (record old.regs { s = level0 }) (machine_view plan session0.jobs) plan.running (stack_of_task plan m.constants.number (with_task m.progress.job (task_with t cs t.place)) plan.running task0) holds0.memory
-        (runs_on plan session0.jobs member0 task0 holds0.fits.rows (keyed-has number_of m.constants.number session0.jobs member0 runs0.member) (keyed-has (λ (u : Task). u.number) t.number (with_task m.progress.job (task_with t cs t.place)).tasks task0 runs0.task) runs0.slot runs0.member runs0.task)
+        (runs_on plan session0.jobs member0 task0 holds0.fits.rows (keyed_has number_of m.constants.number session0.jobs member0 runs0.member).0 (keyed_has (λ (u : Task). u.number) t.number (with_task m.progress.job (task_with t cs t.place)).tasks task0 runs0.task).0 runs0.slot runs0.member runs0.task)
         fits holds0.settled;
     procedure = i;
   }

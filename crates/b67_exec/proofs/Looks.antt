@@ -12,7 +12,7 @@ use Rattle.b67_word.specs.declared.faults.Fault.TheVariants.{InvalidAddress}
 use Rattle.b67_model.specs.Answers.{Answer}
 use Rattle.b67_model.specs.Keyed.{keyed, change_keyed}
 use Rattle.b67_lemmas.specs.Lists.{Has}
-use Rattle.b67_lemmas.proofs.Members.{has_get, has_reverse_back, change_found, change_other, keyed-has}
+use Rattle.b67_lemmas.proofs.Members.{has_get, has_reverse_back, change_found, change_other, keyed_has}
 use Rattle.b67_model.specs.Words.{Word}
 use Rattle.b67_model.specs.State as State
 use Rattle.b67_model.specs.State.{Frame, Task, Job, SessionJob, OperatorContext, top, with_top_cells, with_task, all_frames, frame, no_frame}
@@ -123,7 +123,7 @@ module _ (plan : Placement) (s : Session) (m : SessionJob) (t : Task) (ordered :
 
   pub spots-same : (id : ℕ) → spots plan m.constants.number (with_task m.progress.job (task_with t cs p)) (task_with t cs p) id ≡ spots plan m.constants.number m.progress.job t id
   spots-same id =
-      let own : t.critical ≢ m.progress.job.next_frame = (fresh plan s m t ordered runs).uncritical t (keyed-has (λ (u : Task). u.number) t.number m.progress.job.tasks t runs.task) in
+      let own : t.critical ≢ m.progress.job.next_frame = (fresh plan s m t ordered runs).uncritical t (keyed_has (λ (u : Task). u.number) t.number m.progress.job.tasks t runs.task).0 in
       let outer : outer_spots plan m.constants.number (with_task m.progress.job (task_with t cs p)) t.critical t.parents ≡ outer_spots plan m.constants.number m.progress.job t.critical t.parents =
       λ z i. outer_spots-after plan m.constants.number m.progress.job (with_task m.progress.job (task_with t cs p)) t (task_with t cs p) m.progress.job.next_frame on_top t.parents t.critical own i z in
       ap (λ (o : ℕ → StackPlace). spot_in (slot_of plan m.constants.number t.number) o (with_top_cells t.frames cs) id) outer

@@ -10,7 +10,7 @@ use Rattle.b67_area.proofs.Laws.{area_inside}
 use Rattle.b67_ctl.specs.declared.descriptors.DataDesc.{DataDesc}
 use Rattle.b67_ctl.specs.Descriptors.{data_word, IsDataDesc}
 use Rattle.b67_lemmas.specs.Lists.{Has}
-use Rattle.b67_lemmas.proofs.Members.{keyed_falls, keyed-has}
+use Rattle.b67_lemmas.proofs.Members.{keyed_falls, keyed_has}
 use Rattle.b67_model.specs.Words.{Row}
 use Rattle.b67_model.specs.Arrays.{array, element, no_array}
 use Rattle.b67_model.specs.Keyed.{keyed}
@@ -61,7 +61,7 @@ module _ (x : Storage) (cpu : Cpu) (plan : Placement) (s : Session) (m : Session
   object = array_object plan m.constants.number e.item
 
   there : Has (flat_map (objects_of plan) s.jobs) object
-  there = array_object-has plan s.jobs m e.item (keyed-has number_of m.constants.number s.jobs m runs.member) e.live
+  there = array_object-has plan s.jobs m e.item (keyed_has number_of m.constants.number s.jobs m runs.member).0 e.live
 
   home-is : plan.home m.constants.number e.item.identity ≡ plan.home m.constants.number n
   home-is = ap (plan.home m.constants.number) e.named

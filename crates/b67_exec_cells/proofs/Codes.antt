@@ -9,7 +9,7 @@ use Rattle.b67_area.proofs.Laws.{area_inside}
 use Rattle.b67_ctl.specs.declared.descriptors.SegDesc.{SegDesc}
 use Rattle.b67_ctl.specs.Descriptors.{seg_word, IsSegDesc}
 use Rattle.b67_lemmas.specs.Lists.{Has}
-use Rattle.b67_lemmas.proofs.Members.{all_in, has_get, keyed-has}
+use Rattle.b67_lemmas.proofs.Members.{all_in, has_get, keyed_has}
 use Rattle.b67_lemmas.proofs.Places.{get_within}
 use Rattle.b67_model.specs.State.{Segment, Task, SessionJob}
 use Rattle.b67_model.specs.Operators.{Reading, operator_at}
@@ -44,7 +44,7 @@ contents-words tag (n ∷ ns) = ap (λ ms. n ∷ ms) (contents-words tag ns)
 
 module _ (x : Storage) (cpu : Cpu) (plan : Placement) (s : Session) (m : SessionJob) (t : Task) (ordered : IsInOrderButCounts s) (h : RepresentsSession x cpu plan s) (runs : IsRunning plan s.jobs m t) where
   has_m : Has s.jobs m
-  has_m = keyed-has number_of m.constants.number s.jobs m runs.member
+  has_m = (keyed_has number_of m.constants.number s.jobs m runs.member).0
 
   home : ℕ
   home = plan.dictionary m.constants.number + 1 + t.segment

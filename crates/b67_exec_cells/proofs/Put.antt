@@ -40,7 +40,7 @@ use Rattle.b67_layout.proofs.Fresh.{fresh, running_in_order}
 use Rattle.b67_layout.proofs.Gone.{no_objects_gone}
 use Rattle.b67_exec_cells.specs.Tops.{IsWordOf, IsAt, cells, GivesTop, GivesTwo, MayStand, NoOriginals}
 use Rattle.b67_exec_cells.proofs.Replaced.{cells-are, height-with, shapes_plain, may_push, Represents-less, Represents-put, word_under}
-use Rattle.b67_lemmas.proofs.Members.{keyed-has}
+use Rattle.b67_lemmas.proofs.Members.{keyed_has}
 
 module _ (x : Storage) (old : Cpu) (plan : Placement) (s : Session) (m : SessionJob) (t : Task) (ordered : IsInOrderButCounts s) (h : RepresentsSession x old plan s) (runs : IsRunning plan s.jobs m t) where
   -- the running stack, and the shapes of its top cells
@@ -51,7 +51,7 @@ module _ (x : Storage) (old : Cpu) (plan : Placement) (s : Session) (m : Session
   shaped = shape plan m.constants.number m.progress.job (spot_in plan.running (outer_spots plan m.constants.number m.progress.job t.critical t.parents) t.frames)
 
   pub runs_here : RunsOn (machine_view plan s.jobs) plan.running stack
-  runs_here = runs_on plan s.jobs m t h.holds.fits.rows (keyed-has number_of m.constants.number s.jobs m runs.member) (keyed-has (λ (u : Task). u.number) t.number m.progress.job.tasks t runs.task) runs.slot runs.member runs.task
+  runs_here = runs_on plan s.jobs m t h.holds.fits.rows (keyed_has number_of m.constants.number s.jobs m runs.member).0 (keyed_has (λ (u : Task). u.number) t.number m.progress.job.tasks t runs.task).0 runs.slot runs.member runs.task
 
   pub registers : RepresentsRunning old.regs (machine_view plan s.jobs) plan.running stack
   registers = running_slot x old.core old.regs (machine_view plan s.jobs) plan.running stack h.holds.memory runs_here
@@ -60,7 +60,7 @@ module _ (x : Storage) (old : Cpu) (plan : Placement) (s : Session) (m : Session
   room = room_of x old.core old.regs (machine_view plan s.jobs) plan.running stack h.holds.memory runs_here
 
   pub size-is : m.constants.stack_size ≡ plan.size
-  size-is = h.holds.fits.sizes m (keyed-has number_of m.constants.number s.jobs m runs.member)
+  size-is = h.holds.fits.sizes m (keyed_has number_of m.constants.number s.jobs m runs.member).0
 
   some_frame : t.frames ≢ []
   some_frame = (running_in_order plan s m t ordered runs).1.some
@@ -144,7 +144,7 @@ module _ (x : Storage) (old : Cpu) (plan : Placement) (s : Session) (m : Session
       → Represents x (slice_set old.core i v) (record old.regs { s = i; place = q }) (with_stack (machine_view plan s.jobs) plan.running (with_cells stack (map shaped (w ∷ rest)))) × NoOriginalAboveTop (with_stack (machine_view plan s.jobs) plan.running (with_cells stack (map shaped (w ∷ rest))))
   Represents-replaced count i v q gone rest w e n at inside plain may fit =
       let spot : ℕ → StackPlace = spot_in plan.running (outer_spots plan m.constants.number m.progress.job t.critical t.parents) t.frames in
-      let has_m = keyed-has number_of m.constants.number s.jobs m runs.member in
+      let has_m = (keyed_has number_of m.constants.number s.jobs m runs.member).0 in
       let count-is : length (map shaped gone) ≡ count = length-map gone shaped ∙ n in
       Represents-put x old.core old.regs (machine_view plan s.jobs) plan.running stack h.holds.memory runs_here (map shaped gone) (map shaped rest) (shaped w) v i q (tops gone rest e)
       (at ∙ ap (λ (k : ℕ). old.regs.s - k + 1) (sym count-is)) inside (shapes_plain plan m.constants.number m.progress.job spot gone plain) h.holds.settled (may_push plan s.jobs m spot w has_m may) (seen w i v fit)

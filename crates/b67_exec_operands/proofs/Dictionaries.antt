@@ -12,7 +12,7 @@ use Rattle.b67_area.specs.declared.Kind.{Kind}
 use Rattle.b67_area.specs.declared.Kind.TheVariants as kind
 use Rattle.b67_ctl.specs.Layout.{pcw_word}
 use Rattle.b67_lemmas.specs.Lists.{Has}
-use Rattle.b67_lemmas.proofs.Members.{all_in, has_get, has_reverse_back, keyed-has}
+use Rattle.b67_lemmas.proofs.Members.{all_in, has_get, has_reverse_back, keyed_has}
 use Rattle.b67_lemmas.proofs.Places.{get_within}
 use Rattle.b67_model.specs.Words.{Word, Original}
 use Rattle.b67_model.specs.State.{Array, Segment, Task, SessionJob}
@@ -56,7 +56,7 @@ and_none false b c e f = refl
 
 module _ (x : Storage) (cpu : Cpu) (plan : Placement) (s : Session) (m : SessionJob) (t : Task) (ordered : IsInOrderButCounts s) (h : RepresentsSession x cpu plan s) (runs : IsRunning plan s.jobs m t) where
   has_m : Has s.jobs m
-  has_m = keyed-has number_of m.constants.number s.jobs m runs.member
+  has_m = (keyed_has number_of m.constants.number s.jobs m runs.member).0
 
   -- the word of an entry is of tag 3 for a segment, and 5 for a data row
   pub record Entry (d : ℕ) : Type 0 where

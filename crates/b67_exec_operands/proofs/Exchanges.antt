@@ -34,7 +34,7 @@ use Rattle.b67_exec_cells.proofs.Replaced.{Represents-put, shapes_plain, may_pus
 use Rattle.b67_exec_cells.proofs.Put.{stack, shaped, runs_here, room, tops, seen, made_cells}
 use Rattle.b67_layout.proofs.Fresh.{running_in_order}
 use Rattle.b67_exec_operands.proofs.Rows.{elsewhere, two_may_stand}
-use Rattle.b67_lemmas.proofs.Members.{keyed-has}
+use Rattle.b67_lemmas.proofs.Members.{keyed_has}
 
 cells-twice : (st : List Activation) (cs ds : List Shape) → with_cells (with_cells st cs) ds ≡ with_cells st ds
 cells-twice [] cs ds = refl
@@ -68,7 +68,7 @@ module _ (x : Storage) (old : Cpu) (plan : Placement) (s : Session) (m : Session
       → IsMade x plan s m old (record old { core = slice_set (slice_set old.core (old.regs.s - 1) v) old.regs.s u; regs = record old.regs { place = q } }) (leaves_cells (here m t q) (a ∷ b ∷ rest) None)
   exchanged u v q b a rest e enough plain_a plain_b may_a may_b fit_a fit_b =
       let g = room x old plan s m t ordered h runs in
-      let has_m = keyed-has number_of m.constants.number s.jobs m runs.member in
+      let has_m = (keyed_has number_of m.constants.number s.jobs m runs.member).0 in
       let spot = spot_in plan.running (outer_spots plan m.constants.number m.progress.job t.critical t.parents) t.frames in
       let sh = shaped x old plan s m t ordered h runs in
       let d = Represents-two x old.core old.regs (machine_view plan s.jobs) plan.running (stack x old plan s m t ordered h runs) h.holds.memory (runs_here x old plan s m t ordered h runs) (sh b) (sh a) (map sh rest) v u q

@@ -23,7 +23,7 @@ use Rattle.b67_layout.proofs.Steps.{IsFree}
 use Rattle.b67_layout.proofs.Whole.{session_with, RepresentsSession-cells}
 use Rattle.b67_exec_cells.specs.Tops.{cells, NoOriginals}
 use Rattle.b67_exec_cells.proofs.Replaced.{cells-are, shapes_plain, Represents-less, Represents-put}
-use Rattle.b67_lemmas.proofs.Members.{keyed-has}
+use Rattle.b67_lemmas.proofs.Members.{keyed_has}
 
 module _ (x : Storage) (cpu : Cpu) (plan : Placement) (s : Session) (m : SessionJob) (t : Task) (h : RepresentsSession x cpu plan s) (runs : IsRunning plan s.jobs m t) (n : ℕ) (free : IsFree m.progress.job n) (q : Place) where
   abbrev stack : List Activation
@@ -33,7 +33,7 @@ module _ (x : Storage) (cpu : Cpu) (plan : Placement) (s : Session) (m : Session
   shaped = shape plan m.constants.number m.progress.job (spot_in plan.running (outer_spots plan m.constants.number m.progress.job t.critical t.parents) t.frames)
 
   runs_here : RunsOn (machine_view plan s.jobs) plan.running stack
-  runs_here = runs_on plan s.jobs m t h.holds.fits.rows (keyed-has number_of m.constants.number s.jobs m runs.member) (keyed-has (λ (u : Task). u.number) t.number m.progress.job.tasks t runs.task) runs.slot runs.member runs.task
+  runs_here = runs_on plan s.jobs m t h.holds.fits.rows (keyed_has number_of m.constants.number s.jobs m runs.member).0 (keyed_has (λ (u : Task). u.number) t.number m.progress.job.tasks t runs.task).0 runs.slot runs.member runs.task
 
   registers : RepresentsRunning cpu.regs (machine_view plan s.jobs) plan.running stack
   registers = running_slot x cpu.core cpu.regs (machine_view plan s.jobs) plan.running stack h.holds.memory runs_here

@@ -19,7 +19,7 @@ use Rattle.b67_refer.proofs.Bases.{stacks_is, size_is}
 use Rattle.b67_refer.proofs.Marks.{view_low}
 use Rattle.b67_refer.proofs.Rule.{seat_address}
 use Rattle.b67_refer.proofs.Unders.{seat_low, high_address, is_mcp, is_dictionary, is_task}
-use Rattle.b67_lemmas.proofs.Members.{keyed-has}
+use Rattle.b67_lemmas.proofs.Members.{keyed_has}
 
 vector_job : (plan : Placement) (j : ℕ) (parents : List ℕ) → j < 16 → bits_at (vector_word plan j parents) 16 4 ≡ j
 vector_job plan j parents small = by parents where
@@ -39,7 +39,7 @@ module _ (core : List Tagged) (r : Regs) (a : RunningContext core r) (f base off
   vector_at =
       let o = (a.holds.running a.member a.task a.running).slot in
       ap (λ (k : ℕ). slice_get core (32 + k)) o
-      ∙ a.holds.vector.live a.member a.task (keyed-has number_of a.member.constants.number a.session.jobs a.member a.running.member) (keyed-has (λ u. u.number) a.task.number a.member.progress.job.tasks a.task a.running.task)
+      ∙ a.holds.vector.live a.member a.task (keyed_has number_of a.member.constants.number a.session.jobs a.member a.running.member).0 (keyed_has (λ u. u.number) a.task.number a.member.progress.job.tasks a.task a.running.task).0
 
   pub vector_inside : 32 + r.slot < length core
   vector_inside = slice_get_within core (32 + r.slot) (vector_word a.plan a.member.constants.number a.task.parents) vector_at

@@ -27,7 +27,7 @@ use Rattle.b67_stack.specs.Shapes.{Location, nowhere, Fits, LieDownward}
 use Rattle.b67_stack.specs.Stacks.{stack_words, words}
 use Rattle.b67_stack.specs.MachineView.{PagedObject, words_of, MachineView, stack_of, Laid, SlotFits, slot_base, CopiesName}
 use Rattle.b67_stack.specs.Represents.{Storage, RepresentsSlots, RepresentsSlot, StacksLie, RepresentsObjects, RepresentsObject, Owned, Represents, HoldsIn, info_of}
-use Rattle.b67_lemmas.proofs.Members.{keyed-has}
+use Rattle.b67_lemmas.proofs.Members.{keyed_has}
 use Rattle.b67_layout.specs.Placement.{Placement, Slotted, slot_of}
 use Rattle.b67_layout.specs.Layout.{machine_view}
 use Rattle.b67_layout.specs.Session.{PlanFits, RowsFit, IsRunning, RepresentsDictionary, RepresentsVector, RepresentsCritical, RepresentsTask, vector_word, critical_mark, frame_address, ShowsDisplay, SessionHolds, RepresentsSession}
@@ -323,7 +323,7 @@ runs = record { member = refl; task = refl; slot = refl }
 for_running : (P : SessionJob → Task → Type 0) → P member child → (m : SessionJob) (t : Task) → IsRunning plan session.jobs m t → P m t
 for_running P h m t r =
     for_tasks (λ x u. IsRunning plan session.jobs x u → P x u) (λ z. h) (λ z. absurd (let e : 1 ≡ 0 = z.slot in omega (arith, e))) m t
-    (keyed-has number_of m.constants.number session.jobs m r.member) (keyed-has (λ (u : Task). u.number) t.number m.progress.job.tasks t r.task) r
+    (keyed_has number_of m.constants.number session.jobs m r.member).0 (keyed_has (λ (u : Task). u.number) t.number m.progress.job.tasks t r.task).0 r
 
 holds : SessionHolds storage core regs machine.critical plan session
 holds = record {

@@ -3,7 +3,7 @@ use Rattle.std.proofs.Common.{◌≡◌, ◌≢◌, ℕ, ◌<◌, List, [], ◌�
 use Rattle.std.specs.List.{list_any}
 use Rattle.std.proofs.lemmas.Bool.{ne_eqb}
 use Rattle.b67_lemmas.specs.Lists.{Has, Falls}
-use Rattle.b67_lemmas.proofs.Members.{all_in, falls_low, keyed-has}
+use Rattle.b67_lemmas.proofs.Members.{all_in, falls_low, keyed_has}
 use Rattle.b67_model.specs.State.{Frame, Task, JobConstants, Job, SessionJob}
 use Rattle.b67_model.specs.Steps.{is_critical}
 use Rattle.b67_model.specs.Run.{number_of}
@@ -29,8 +29,8 @@ job_in_order s m o h = all_in (λ (y : SessionJob). JobInOrderButCounts (IsSegme
 
 pub running_in_order : (plan : Placement) (s : Session) (m : SessionJob) (t : Task) → IsInOrderButCounts s → IsRunning plan s.jobs m t → JobInOrderButCounts (IsSegment m.constants) m.constants m.progress × TaskInOrder (IsSegment m.constants) m.constants m.progress.job t
 running_in_order plan s m t o runs =
-    let j = job_in_order s m o (keyed-has number_of m.constants.number s.jobs m runs.member) in
-    (j, all_in (TaskInOrder (IsSegment m.constants) m.constants m.progress.job) m.progress.job.tasks t j.tasks.tasks (keyed-has (λ (u : Task). u.number) t.number m.progress.job.tasks t runs.task))
+    let j = job_in_order s m o (keyed_has number_of m.constants.number s.jobs m runs.member).0 in
+    (j, all_in (TaskInOrder (IsSegment m.constants) m.constants m.progress.job) m.progress.job.tasks t j.tasks.tasks (keyed_has (λ (u : Task). u.number) t.number m.progress.job.tasks t runs.task).0)
 
 module _ (P : Starts) (constants : JobConstants) (job : Job) (o : TasksInOrder P constants job) where
   task_in_order : (u : Task) → Has job.tasks u → TaskInOrder P constants job u
@@ -39,7 +39,7 @@ module _ (P : Starts) (constants : JobConstants) (job : Job) (o : TasksInOrder P
   by_birth : (u : Task) (parents : List ℕ) → 0 < job.next_frame → BirthInOrder job u parents → u.critical < job.next_frame
   by_birth u [] low b = omega (arith, b.1)
   by_birth u (parent ∷ above) low b =
-      let p = task_in_order b.parent (keyed-has (λ (v : Task). v.number) parent job.tasks b.parent b.found) in
+      let p = task_in_order b.parent (keyed_has (λ (v : Task). v.number) parent job.tasks b.parent b.found).0 in
       falls_low job.next_frame (known_numbers (reach_of job b.parent)) u.critical p.falls (has-number b.parent.frames (outer_of job b.parent) u.critical b.is_critical)
 
   pub critical-below : (u : Task) → Has job.tasks u → u.critical < job.next_frame
@@ -62,4 +62,4 @@ free-uncritical job n free = none_critical n job.tasks free.uncritical
 -- in a session in order
 pub fresh : (plan : Placement) (s : Session) (m : SessionJob) (t : Task) → IsInOrderButCounts s → IsRunning plan s.jobs m t → IsFree m.progress.job m.progress.job.next_frame
 fresh plan s m t o runs =
-    next_is_free (IsSegment m.constants) m.constants m.progress.job (job_in_order s m o (keyed-has number_of m.constants.number s.jobs m runs.member)).tasks t (keyed-has (λ (u : Task). u.number) t.number m.progress.job.tasks t runs.task)
+    next_is_free (IsSegment m.constants) m.constants m.progress.job (job_in_order s m o (keyed_has number_of m.constants.number s.jobs m runs.member).0).tasks t (keyed_has (λ (u : Task). u.number) t.number m.progress.job.tasks t runs.task).0

@@ -13,7 +13,7 @@ use Rattle.b67_stack.proofs.Slots.{slot-same, slot-other}
 use Rattle.b67_layout.specs.Placement.{Slotted, Placement, outer_spots}
 use Rattle.b67_layout.specs.Layout.{activations, stack_of_task, slot_with, slot_in, slot_by, slot_at, objects_of, array_object, code_objects, machine_view}
 use Rattle.b67_layout.proofs.Others.{OnTop, task-same, task-other, slot_with-after, outer_spots-after, activations-job}
-use Rattle.b67_lemmas.proofs.Members.{keyed-has}
+use Rattle.b67_lemmas.proofs.Members.{keyed_has}
 
 -- the jobs with another course of job j
 abbrev pub with_course : List SessionJob → ℕ → JobProgress → List SessionJob
@@ -74,7 +74,7 @@ module _ (plan : Placement) (jobs : List SessionJob) (j : ℕ) (m : SessionJob) 
   same_task i u ne = ap (slot_with plan i j c.job) (task-other plan j m.progress.job c.job t t' n top u ne) ∙ by_task (keyed (λ (v : Task). v.number) u m.progress.job.tasks) refl where
     by_task : (o : Option Task) → keyed (λ (v : Task). v.number) u m.progress.job.tasks ≡ o → slot_with plan i j c.job o ≡ slot_with plan i j m.progress.job o
     by_task None e = refl
-    by_task (Some v) e = slot_with-after plan j m.progress.job c.job t t' n top i v (top.uncritical v (keyed-has (λ (v : Task). v.number) u m.progress.job.tasks v e))
+    by_task (Some v) e = slot_with-after plan j m.progress.job c.job t t' n top i v (top.uncritical v (keyed_has (λ (v : Task). v.number) u m.progress.job.tasks v e).0)
 
   slot-there : (i : ℕ) → i ≢ k → slot_at plan (with_course jobs j c) i ≡ slot_at plan jobs i
   slot-there i ne = by_row (keyed (λ (r : Slotted). r.slot) i plan.rows) refl where
@@ -109,7 +109,7 @@ module _ (plan : Placement) (jobs : List SessionJob) (j : ℕ) (m : SessionJob) 
   -- the changed task's stack, by what it saw before
   pub stack-after : stack_of_task plan j c.job k t' ≡ activations plan j m.progress.job k (outer_spots plan j m.progress.job t.critical t.parents) t'.frames
   stack-after =
-      let own : t.critical ≢ n = top.uncritical t (keyed-has (λ (v : Task). v.number) t.number m.progress.job.tasks t top.there) in
+      let own : t.critical ≢ n = top.uncritical t (keyed_has (λ (v : Task). v.number) t.number m.progress.job.tasks t top.there).0 in
       let outer : outer_spots plan j c.job t'.critical t'.parents ≡ outer_spots plan j m.progress.job t.critical t.parents =
       ap (λ (d : ℕ). outer_spots plan j c.job d t'.parents) top.critical ∙ ap (outer_spots plan j c.job t.critical) top.parents ∙ (λ z id. outer_spots-after plan j m.progress.job c.job t t' n top t.parents t.critical own id z) in
       ap (λ (o : ℕ → StackPlace). activations plan j c.job k o t'.frames) outer

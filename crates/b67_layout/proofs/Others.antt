@@ -3,7 +3,7 @@ use Rattle.std.proofs.Common.{◌≡◌, ◌≢◌, ℕ, List, [], ◌∷◌, ma
 use Rattle.std.specs.Prelude.{if◌then◌else◌}
 use Rattle.std.proofs.lemmas.Bool.{cases_eq, cases_Bool, ne_eqb}
 use Rattle.b67_lemmas.specs.Lists.{Has}
-use Rattle.b67_lemmas.proofs.Members.{change_found, change_other, keyed-has}
+use Rattle.b67_lemmas.proofs.Members.{change_found, change_other, keyed_has}
 use Rattle.b67_model.specs.Words as Words
 use Rattle.b67_model.specs.Words.{Word, Operand, Name, Ref, Row, Element, Original, Proc, Intrinsic}
 use Rattle.b67_model.specs.State.{Frame, Array, Task, Job, height}
@@ -36,7 +36,7 @@ pub record OnTop (job job' : Job) (t t' : Task) (n : ℕ) : Type 0 where
 module _ (plan : Placement) (j : ℕ) (job job' : Job) (t t' : Task) (n : ℕ) (top : OnTop job job' t t' n) where
   any : (m : ℕ) (o : Option Task) → keyed (λ (u : Task). u.number) m job.tasks ≡ o → critical_of o ≢ n
   any m None e = top.some
-  any m (Some u) e = top.uncritical u (keyed-has (λ (u : Task). u.number) m job.tasks u e)
+  any m (Some u) e = top.uncritical u (keyed_has (λ (u : Task). u.number) m job.tasks u e).0
 
   pub task-same : keyed (λ (u : Task). u.number) t.number job'.tasks ≡ Some t'
   task-same = ap (λ ts. keyed (λ (u : Task). u.number) t.number ts) top.tasks ∙ change_found (λ (u : Task). u.number) t.number t t' job.tasks top.number top.there
@@ -55,7 +55,7 @@ module _ (plan : Placement) (j : ℕ) (job job' : Job) (t t' : Task) (n : ℕ) (
       (λ (e : parent ≡ t.number).
       let is_old : old ≡ Some t = ap (λ m. keyed (λ (u : Task). u.number) m job.tasks) e ∙ top.there in
       let is_new : new ≡ Some t' = ap (λ m. keyed (λ (u : Task). u.number) m job'.tasks) e ∙ task-same in
-      let inner : (x : ℕ) → O job' (Some t') x ≡ O job (Some t) x = λ x. outer_spots-after more t'.critical (λ z. top.uncritical t (keyed-has (λ (u : Task). u.number) t.number job.tasks t top.there) (sym top.critical ∙ z)) x ∙ ap (λ d. outer_spots plan j job d more x) top.critical in
+      let inner : (x : ℕ) → O job' (Some t') x ≡ O job (Some t) x = λ x. outer_spots-after more t'.critical (λ z. top.uncritical t (keyed_has (λ (u : Task). u.number) t.number job.tasks t top.there).0 (sym top.critical ∙ z)) x ∙ ap (λ d. outer_spots plan j job d more x) top.critical in
       ap (λ o. S (O job' o) o) is_new
       ∙ spot_in-outer (slot_of plan j parent) (O job (Some t)) (O job' (Some t')) inner (from_frame c t'.frames) id
       ∙ top.same c (slot_of plan j parent) (O job (Some t)) id ne

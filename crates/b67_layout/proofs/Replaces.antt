@@ -2,7 +2,7 @@
 use Rattle.std.proofs.Common.{◌≡◌, ◌≢◌, ℕ, List, [], ◌∷◌, Option, Some, None, refl, sym, ◌∙◌, ap, ⊎_elim, inl, inr, ◌⊎◌}
 use Rattle.std.proofs.lemmas.Bool.{cases_eq}
 use Rattle.b67_lemmas.specs.Lists.{Has}
-use Rattle.b67_lemmas.proofs.Members.{change_found, change_other, keyed-has}
+use Rattle.b67_lemmas.proofs.Members.{change_found, change_other, keyed_has}
 use Rattle.b67_model.specs.State.{Task, Job}
 use Rattle.b67_model.specs.Keyed.{keyed, change_keyed}
 use Rattle.b67_model.specs.InOrder.{from_frame, frames_of_task, critical_of}
@@ -26,7 +26,7 @@ pub record Replaces (job job' : Job) (t t' : Task) : Type 0 where
 module _ (plan : Placement) (j : ℕ) (job job' : Job) (t t' : Task) (by : Replaces job job' t t') where
   depended : (m : ℕ) (o : Option Task) → keyed (λ (u : Task). u.number) m job.tasks ≡ o → IsDependedOn job (critical_of o)
   depended m None e = inl refl
-  depended m (Some u) e = inr (u, keyed-has (λ (u : Task). u.number) m job.tasks u e, refl)
+  depended m (Some u) e = inr (u, (keyed_has (λ (u : Task). u.number) m job.tasks u e).0, refl)
 
   pub task-same : keyed (λ (u : Task). u.number) t.number job'.tasks ≡ Some t'
   task-same = ap (λ (ts : List Task). keyed (λ (u : Task). u.number) t.number ts) by.tasks ∙ change_found (λ (u : Task). u.number) t.number t t' job.tasks by.number by.there
@@ -45,7 +45,7 @@ module _ (plan : Placement) (j : ℕ) (job job' : Job) (t t' : Task) (by : Repla
       (λ (e : parent ≡ t.number).
       let is_old : old ≡ Some t = ap (λ m. keyed (λ (u : Task). u.number) m job.tasks) e ∙ by.there in
       let is_new : new ≡ Some t' = ap (λ m. keyed (λ (u : Task). u.number) m job'.tasks) e ∙ task-same in
-      let inner : (x : ℕ) → O job' (Some t') x ≡ O job (Some t) x = λ x. outer_spots-after more t'.critical (inr (t, keyed-has (λ (u : Task). u.number) t.number job.tasks t by.there, sym by.critical)) x ∙ ap (λ d. outer_spots plan j job d more x) by.critical in
+      let inner : (x : ℕ) → O job' (Some t') x ≡ O job (Some t) x = λ x. outer_spots-after more t'.critical (inr (t, (keyed_has (λ (u : Task). u.number) t.number job.tasks t by.there).0, sym by.critical)) x ∙ ap (λ d. outer_spots plan j job d more x) by.critical in
       ap (λ o. S (O job' o) o) is_new
       ∙ spot_in-outer (slot_of plan j parent) (O job (Some t)) (O job' (Some t')) inner (from_frame c t'.frames) id
       ∙ by.seen c (slot_of plan j parent) (O job (Some t)) id d

@@ -7,7 +7,7 @@ use Rattle.std.proofs.lemmas.Bool.{cases_Bool}
 use Rattle.b67_word.specs.Tagged.{Tagged}
 use Rattle.b67_ctl.specs.declared.registers.Regs.{Regs}
 use Rattle.b67_lemmas.specs.Lists.{Has}
-use Rattle.b67_lemmas.proofs.Members.{keyed-has}
+use Rattle.b67_lemmas.proofs.Members.{keyed_has}
 use Rattle.b67_model.specs.State.{Frame, Task, Job, JobProgress, SessionJob, height, Segment}
 use Rattle.b67_model.specs.Keyed.{keyed, change_keyed}
 use Rattle.b67_model.specs.Run.{number_of}
@@ -92,8 +92,8 @@ follow-course plan at j c (m ∷ more) d = ⊎_elim
 pub running_only : (plan : Placement) (jobs : List SessionJob) (m y : SessionJob) (t u : Task) (P : SessionJob → Task → Type 0) → RowsFit plan jobs → IsRunning plan jobs m t → IsRunning plan jobs y u → P m t → P y u
 running_only plan jobs m y t u P fit a b h =
     let N : Task → ℕ = λ (v : Task). v.number in
-    let ra = task_row plan jobs m t fit (keyed-has number_of m.constants.number jobs m a.member) (keyed-has N t.number m.progress.job.tasks t a.task) in
-    let rb = task_row plan jobs y u fit (keyed-has number_of y.constants.number jobs y b.member) (keyed-has N u.number y.progress.job.tasks u b.task) in
+    let ra = task_row plan jobs m t fit (keyed_has number_of m.constants.number jobs m a.member).0 (keyed_has N t.number m.progress.job.tasks t a.task).0 in
+    let rb = task_row plan jobs y u fit (keyed_has number_of y.constants.number jobs y b.member).0 (keyed_has N u.number y.progress.job.tasks u b.task).0 in
     let same : rb.row ≡ ra.row = fit.differ rb.row ra.row rb.among ra.among (sym rb.slot ∙ sym b.slot ∙ a.slot ∙ ra.slot) in
     let en : y.constants.number ≡ m.constants.number = sym rb.job ∙ ap (λ (r : Slotted). r.job) same ∙ ra.job in
     let et : u.number ≡ t.number = sym rb.number ∙ ap (λ (r : Slotted). r.task) same ∙ ra.number in
@@ -112,10 +112,10 @@ module _ (before left : List PagedObject) (x : Storage) (core new : List Tagged)
   jobs' = with_course s.jobs m.constants.number c
 
   has_m : Has s.jobs m
-  has_m = keyed-has number_of m.constants.number s.jobs m runs.member
+  has_m = (keyed_has number_of m.constants.number s.jobs m runs.member).0
 
   has_t : Has m.progress.job.tasks t
-  has_t = keyed-has (λ (u : Task). u.number) t.number m.progress.job.tasks t runs.task
+  has_t = (keyed_has (λ (u : Task). u.number) t.number m.progress.job.tasks t runs.task).0
 
   -- each job is an old one or the one that moved, and each of that one's tasks an old one or the new one
   for_members : (P : SessionJob → Type 0) → ((y : SessionJob) → Has s.jobs y → P y) → P moved → (y : SessionJob) → Has jobs' y → P y

@@ -11,7 +11,7 @@ use Rattle.b67_layout.specs.Placement.{Placement}
 use Rattle.b67_layout.specs.Layout.{machine_view, stack_of_task}
 use Rattle.b67_layout.specs.Session.{IsRunning, RepresentsSession}
 use Rattle.b67_layout.proofs.Rows.{runs_on}
-use Rattle.b67_lemmas.proofs.Members.{keyed-has}
+use Rattle.b67_lemmas.proofs.Members.{keyed_has}
 
 module _ (x : Storage) (cpu : Cpu) (plan : Placement) (s : Session) (m : SessionJob) (t : Task) (h : RepresentsSession x cpu plan s) (runs : IsRunning plan s.jobs m t) where
   -- the running slot is that of the registers
@@ -21,7 +21,7 @@ module _ (x : Storage) (cpu : Cpu) (plan : Placement) (s : Session) (m : Session
   pub runs_here : RunsOn (machine_view plan s.jobs) cpu.regs.slot (stack_of_task plan m.constants.number m.progress.job plan.running t)
   runs_here =
       let P : ℕ → Type 0 = λ k. RunsOn (machine_view plan s.jobs) k (stack_of_task plan m.constants.number m.progress.job plan.running t) in
-      subst P (sym slot_is) (runs_on plan s.jobs m t h.holds.fits.rows (keyed-has number_of m.constants.number s.jobs m runs.member) (keyed-has (λ (u : Task). u.number) t.number m.progress.job.tasks t runs.task) runs.slot runs.member runs.task)
+      subst P (sym slot_is) (runs_on plan s.jobs m t h.holds.fits.rows (keyed_has number_of m.constants.number s.jobs m runs.member).0 (keyed_has (λ (u : Task). u.number) t.number m.progress.job.tasks t runs.task).0 runs.slot runs.member runs.task)
 
   pub meets_runs : Runs cpu
   meets_runs = record { storage = x; machine_view = machine_view plan s.jobs; stack = stack_of_task plan m.constants.number m.progress.job plan.running t; stands = h.holds.memory; runs = runs_here }

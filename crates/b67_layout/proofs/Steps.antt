@@ -6,7 +6,7 @@ use Rattle.b67_word.specs.Tagged.{Tagged}
 use Rattle.b67_word.specs.declared.couples.Place.{Place}
 use Rattle.b67_ctl.specs.declared.registers.Regs.{Regs}
 use Rattle.b67_lemmas.specs.Lists.{Has}
-use Rattle.b67_lemmas.proofs.Members.{keyed-has}
+use Rattle.b67_lemmas.proofs.Members.{keyed_has}
 use Rattle.b67_model.specs.Words.{Word}
 use Rattle.b67_model.specs.State as State
 use Rattle.b67_model.specs.State.{Frame, Task, Job, JobProgress, SessionJob, height, with_top_cells, with_task}
@@ -57,10 +57,10 @@ pub record GoesOn (r r' : Regs) (q : Place) : Type 0 where
 module _ (x : Storage) (core new : List Tagged) (r r' : Regs) (marks : List ℕ) (plan : Placement) (s : Session) (m : SessionJob) (t : Task) (q : Place)
     (h : SessionHolds x core r marks plan s) (runs : IsRunning plan s.jobs m t) (same : (i : ℕ) → i < plan.stacks → slice_get new i ≡ slice_get core i) (on : GoesOn r r' q) where
   has_m : Has s.jobs m
-  has_m = keyed-has number_of m.constants.number s.jobs m runs.member
+  has_m = (keyed_has number_of m.constants.number s.jobs m runs.member).0
 
   has_t : Has m.progress.job.tasks t
-  has_t = keyed-has (λ (u : Task). u.number) t.number m.progress.job.tasks t runs.task
+  has_t = (keyed_has (λ (u : Task). u.number) t.number m.progress.job.tasks t runs.task).0
 
   -- the outer spots that the running task names
   abbrev pub outer : ℕ → StackPlace

@@ -18,7 +18,7 @@ use Rattle.b67_layout.proofs.MachineViews.{with_course, member-same}
 use Rattle.b67_layout.proofs.Sessions.{running_only}
 use Rattle.b67_layout.proofs.Steps.{IsFree, GoesOn, seen-with, SessionHolds-cells}
 use Rattle.b67_layout.proofs.Displays.{Shows-same}
-use Rattle.b67_lemmas.proofs.Members.{keyed-has}
+use Rattle.b67_lemmas.proofs.Members.{keyed_has}
 use Rattle.b67_law_order.proofs.Looks.{known_cells}
 
 pub spots-with : (k : ℕ) (outer : ℕ → StackPlace) (fs : List Frame) (cells : List Word) (id : ℕ) → spot_in k outer (with_top_cells fs cells) id ≡ spot_in k outer fs id
@@ -57,7 +57,7 @@ module _ (x : Storage) (old new : Cpu) (plan : Placement) (s : Session) (m : Ses
       let holds = subst P (sym critical) (SessionHolds-cells x old.core new.core old.regs new.regs old.critical plan s m t q h.holds runs same on n cells free stands settled) in
       let moved : SessionJob = record m { progress = c } in
       let still : IsRunning plan (with_course s.jobs m.constants.number c) moved t' = record { member = member-same s.jobs m.constants.number c m runs.member; task = task-same plan m.constants.number m.progress.job c.job t t' n top; slot = runs.slot } in
-      let own : t.critical ≢ n = free.uncritical t (keyed-has (λ (u : Task). u.number) t.number m.progress.job.tasks t runs.task) in
+      let own : t.critical ≢ n = free.uncritical t (keyed_has (λ (u : Task). u.number) t.number m.progress.job.tasks t runs.task).0 in
       let places : (id : ℕ) → spots plan m.constants.number c.job t' id ≡ spots plan m.constants.number m.progress.job t id = λ id.
       (let outer : outer_spots plan m.constants.number c.job t.critical t.parents ≡ outer_spots plan m.constants.number m.progress.job t.critical t.parents = λ z i. outer_spots-after plan m.constants.number m.progress.job c.job t t' n top t.parents t.critical own i z in
       ap (λ (o : ℕ → StackPlace). spot_in (slot_of plan m.constants.number t.number) o (with_top_cells t.frames cells) id) outer

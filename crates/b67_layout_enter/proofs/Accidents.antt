@@ -32,7 +32,7 @@ use Rattle.b67_layout_enter.proofs.Conditions.{Shows-condition}
 use Rattle.b67_layout.proofs.Sessions.{running_only}
 use Rattle.b67_stack.specs.declared.Cpu.{Cpu}
 use Rattle.b67_lemmas.specs.Lists.{Has}
-use Rattle.b67_lemmas.proofs.Members.{keyed-has}
+use Rattle.b67_lemmas.proofs.Members.{keyed_has}
 
 -- the frame that is entered
 abbrev pub new_frame : ℕ → ℕ → ℕ → Return → Frame
@@ -55,7 +55,7 @@ module _ (left : List PagedObject) (x : Storage) (core : List Tagged) (r : Regs)
   viewed = with_objects left (machine_view plan s.jobs)
 
   under_objects : RunsOn (machine_view plan s.jobs) plan.running stack
-  under_objects = runs_on plan s.jobs m t h.fits.rows (keyed-has number_of m.constants.number s.jobs m runs.member) (keyed-has (λ (u : Task). u.number) t.number m.progress.job.tasks t runs.task) runs.slot runs.member runs.task
+  under_objects = runs_on plan s.jobs m t h.fits.rows (keyed_has number_of m.constants.number s.jobs m runs.member).0 (keyed_has (λ (u : Task). u.number) t.number m.progress.job.tasks t runs.task).0 runs.slot runs.member runs.task
 
   pub on_stack : RunsOn viewed plan.running stack
   on_stack = record { used = under_objects.used; is = under_objects.is }
@@ -132,7 +132,7 @@ module _ (left : List PagedObject) (x : Storage) (core : List Tagged) (r : Regs)
         let moved = record m { progress = record m.progress { job = job_after t.condition } } in
         let there = ap (λ (ts : List Task). keyed (λ (u : Task). u.number) t.number ts) tasks ∙ runs.task in
         let free' : IsFree job n = record { some = free.some; uncritical = λ u k. free.uncritical u (let Q : List Task → Type 0 = λ ts. Has ts u in subst Q tasks k) } in
-        let own = free.uncritical t (keyed-has (λ (u : Task). u.number) t.number m.progress.job.tasks t runs.task) in
+        let own = free.uncritical t (keyed_has (λ (u : Task). u.number) t.number m.progress.job.tasks t runs.task).0 in
         let shows : ShowsDisplay new.display plan moved (task_after t.condition) = Shows-condition new.display plan m job (task_after Ready) Ready t.condition t n there free' own shown in
         record {
           holds = rw (ec, er, em) holds;

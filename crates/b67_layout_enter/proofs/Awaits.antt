@@ -21,7 +21,7 @@ use Rattle.b67_layout.proofs.Sessions.{running_only, course_twice}
 use Rattle.b67_layout.proofs.Steps.{IsFree}
 use Rattle.b67_layout_enter.proofs.Conditions.{waiting}
 use Rattle.b67_layout_enter.proofs.Tops.{SessionHolds-top, still_running, outer-same}
-use Rattle.b67_lemmas.proofs.Members.{change_twice, keyed-has}
+use Rattle.b67_lemmas.proofs.Members.{change_twice, keyed_has}
 
 pub with_job-twice : (s : Session) (m : SessionJob) (one two : Job) → with_job (with_job s m one) (record m { progress = record m.progress { job = one } }) two ≡ with_job s m two
 with_job-twice s m one two = ap (λ (js : List SessionJob). record s { jobs = js }) (course_twice s.jobs m.constants.number (record m.progress { job = one }) (record m.progress { job = two }))
@@ -66,7 +66,7 @@ module _ (left : List PagedObject) (x : Storage) (cpu : Cpu) (plan : Placement) 
       } in
       let stack = stack_of_task plan m1.constants.number m1.progress.job plan.running t1 in
       let p = machine_view plan s1.jobs in
-      let on = runs_on plan s1.jobs m1 t1 h.holds.fits.rows (keyed-has number_of m1.constants.number s1.jobs m1 runs.member) (keyed-has (λ (v : Task). v.number) u.number m1.progress.job.tasks t1 runs.task) runs.slot runs.member runs.task in
+      let on = runs_on plan s1.jobs m1 t1 h.holds.fits.rows (keyed_has number_of m1.constants.number s1.jobs m1 runs.member).0 (keyed_has (λ (v : Task). v.number) u.number m1.progress.job.tasks t1 runs.task).0 runs.slot runs.member runs.task in
       let is : with_stack p plan.running stack ≡ p = same_stack p plan.running stack on.is in
       let P : MachineView → Type 0 = λ z. Represents x cpu.core cpu.regs (with_objects left z) in
       let o = h.holds.running m1 t1 runs in

@@ -33,7 +33,7 @@ use Rattle.b67_layout_enter.proofs.Tops.{task_on, SessionHolds-top, still_runnin
 use Rattle.b67_layout_enter.proofs.Conditions.{Shows-condition}
 use Rattle.b67_layout.proofs.Sessions.{running_only}
 use Rattle.b67_stack.specs.declared.Cpu.{Cpu}
-use Rattle.b67_lemmas.proofs.Members.{keyed-has}
+use Rattle.b67_lemmas.proofs.Members.{keyed_has}
 
 -- the frames with the top one entered, with these cells
 abbrev pub entered_frames : List Frame → ℕ → ℕ → Return → List Word → List Frame
@@ -97,7 +97,7 @@ module _ (x : Storage) (core : List Tagged) (r : Regs) (marks : List ℕ) (plan 
 
   pub on_stack : RunsOn (machine_view plan s.jobs) plan.running stack
   on_stack = subst (RunsOn (machine_view plan s.jobs) plan.running) stack_is
-      (runs_on plan s.jobs m t h.fits.rows (keyed-has number_of m.constants.number s.jobs m runs.member) (keyed-has (λ (u : Task). u.number) t.number m.progress.job.tasks t runs.task) runs.slot runs.member runs.task)
+      (runs_on plan s.jobs m t h.fits.rows (keyed_has number_of m.constants.number s.jobs m runs.member).0 (keyed_has (λ (u : Task). u.number) t.number m.progress.job.tasks t runs.task).0 runs.slot runs.member runs.task)
 
   abbrev pub mark : Tagged
   mark = mscw_word (mark_of plan.running (Entered level spot (Some back)) under)
@@ -174,7 +174,7 @@ module _ (x : Storage) (core : List Tagged) (r : Regs) (marks : List ℕ) (plan 
     RepresentsSession-entered new ec er em plain at fit shown =
         let holds = SessionHolds-entered t.condition plain at fit in
         let moved = record m { progress = record m.progress { job = job_after t.condition } } in
-        let own = free.uncritical t (keyed-has (λ (u : Task). u.number) t.number m.progress.job.tasks t runs.task) in
+        let own = free.uncritical t (keyed_has (λ (u : Task). u.number) t.number m.progress.job.tasks t runs.task).0 in
         let shows : ShowsDisplay new.display plan moved (task_after t.condition) = Shows-condition new.display plan m m.progress.job (task_after Ready) Ready t.condition t n runs.task free own shown in
         record {
           holds = rw (ec, er, em) holds;

@@ -4,7 +4,7 @@ use Rattle.std.specs.List.{slice_get}
 use Rattle.std.proofs.lemmas.Bool.{ne_eqb}
 use Rattle.b67_word.specs.declared.couples.Place.{Place}
 use Rattle.b67_lemmas.specs.Lists.{Has}
-use Rattle.b67_lemmas.proofs.Members.{keyed-has}
+use Rattle.b67_lemmas.proofs.Members.{keyed_has}
 use Rattle.b67_model.specs.State as State
 use Rattle.b67_model.specs.State.{Frame, Task, JobConstants, Job, SessionJob, OperatorContext, mcp, no_frame, all_frames, frame, with_task}
 use Rattle.b67_model.specs.Environment.{frame_at}
@@ -47,7 +47,7 @@ module _ (x : Storage) (old new : Cpu) (plan : Placement) (s : Session) (m : Ses
   t' = record t { frames = next_mark m.progress.job ∷ t.frames; place = q }
 
   has_t : Has m.progress.job.tasks t
-  has_t = keyed-has (λ (u : Task). u.number) t.number m.progress.job.tasks t runs.task
+  has_t = (keyed_has (λ (u : Task). u.number) t.number m.progress.job.tasks t runs.task).0
 
   free : IsFree m.progress.job m.progress.job.next_frame
   free = next_is_free (IsSegment m.constants) m.constants m.progress.job g t has_t

@@ -17,14 +17,14 @@ use Rattle.b67_layout.specs.Meets.{IsInStack}
 use Rattle.b67_layout.specs.Session.{IsRunning, with_objects, SessionHoldsBut}
 use Rattle.b67_layout.proofs.Frames.{height-is}
 use Rattle.b67_layout.proofs.Rows.{runs_on}
-use Rattle.b67_lemmas.proofs.Members.{keyed-has}
+use Rattle.b67_lemmas.proofs.Members.{keyed_has}
 
 -- the words left over the top
 pub height_room : (left : List PagedObject) (x : Storage) (core : List Tagged) (r : Regs) (marks : List ℕ) (plan : Placement) (s : Session) (m : SessionJob) (t : Task) → SessionHoldsBut left x core r marks plan s → IsRunning plan s.jobs m t
     → height t.frames + r.losr ≡ r.s + m.constants.stack_size
 height_room left x core r marks plan s m t h runs =
-    let in_m = keyed-has number_of m.constants.number s.jobs m runs.member in
-    let in_t = keyed-has (λ (u : Task). u.number) t.number m.progress.job.tasks t runs.task in
+    let in_m = (keyed_has number_of m.constants.number s.jobs m runs.member).0 in
+    let in_t = (keyed_has (λ (u : Task). u.number) t.number m.progress.job.tasks t runs.task).0 in
     let u = runs_on plan s.jobs m t h.fits.rows in_m in_t runs.slot runs.member runs.task in
     let top = running_slot x core r (with_objects left (machine_view plan s.jobs)) plan.running (stack_of_task plan m.constants.number m.progress.job plan.running t) h.memory (record { used = u.used; is = u.is }) in
     omega (arith, height-is plan m.constants.number m.progress.job plan.running (outer_spots plan m.constants.number m.progress.job t.critical t.parents) t.frames, top.top, top.last, h.fits.sizes m in_m)

@@ -5,7 +5,7 @@ use Rattle.b67_word.specs.Tagged.{Tagged}
 use Rattle.b67_word.specs.declared.couples.Place.{Place}
 use Rattle.b67_ctl.specs.declared.registers.Regs.{Regs}
 use Rattle.b67_lemmas.specs.Lists.{Has}
-use Rattle.b67_lemmas.proofs.Members.{keyed-has}
+use Rattle.b67_lemmas.proofs.Members.{keyed_has}
 use Rattle.b67_model.specs.State.{Frame, Condition, Task, Job, JobProgress, SessionJob}
 use Rattle.b67_model.specs.Run.{number_of}
 use Rattle.b67_model.specs.Schedule.{Session}
@@ -37,10 +37,10 @@ task_on t fs segment q condition = record t { frames = fs; segment = segment; pl
 
 module _ (left : List PagedObject) (x : Storage) (core new : List Tagged) (r r' : Regs) (marks : List ℕ) (plan : Placement) (s : Session) (m : SessionJob) (t : Task) (h : SessionHoldsBut left x core r marks plan s) (runs : IsRunning plan s.jobs m t) where
   has_m : Has s.jobs m
-  has_m = keyed-has number_of m.constants.number s.jobs m runs.member
+  has_m = (keyed_has number_of m.constants.number s.jobs m runs.member).0
 
   has_t : Has m.progress.job.tasks t
-  has_t = keyed-has (λ (u : Task). u.number) t.number m.progress.job.tasks t runs.task
+  has_t = (keyed_has (λ (u : Task). u.number) t.number m.progress.job.tasks t runs.task).0
 
   -- the outer spots that the running task names
   abbrev pub outer : ℕ → StackPlace

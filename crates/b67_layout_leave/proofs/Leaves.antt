@@ -7,7 +7,7 @@ use Rattle.b67_word.specs.Tagged.{Tagged}
 use Rattle.b67_word.specs.declared.couples.Place.{Place}
 use Rattle.b67_ctl.specs.declared.registers.Regs.{Regs}
 use Rattle.b67_lemmas.specs.Lists.{Falls}
-use Rattle.b67_lemmas.proofs.Members.{all_in, keyed-has}
+use Rattle.b67_lemmas.proofs.Members.{all_in, keyed_has}
 use Rattle.b67_model.specs.State.{Frame, Array, Condition, Task, Job, JobProgress, SessionJob, height}
 use Rattle.b67_model.specs.Keyed.{change_keyed}
 use Rattle.b67_model.specs.Steps.{is_critical}
@@ -58,7 +58,7 @@ module _ (plan : Placement) (s : Session) (m : SessionJob) (t : Task) (f : Frame
   depended_apart c (inr (u, h, e)) z = uncritical m.constants m.progress.job t f below may_leave u h (e ∙ z)
 
   own_critical : t.critical ≢ f.identity
-  own_critical = uncritical m.constants m.progress.job t f below may_leave t (keyed-has (λ (u : Task). u.number) t.number m.progress.job.tasks t may.running.task)
+  own_critical = uncritical m.constants m.progress.job t f below may_leave t (keyed_has (λ (u : Task). u.number) t.number m.progress.job.tasks t may.running.task).0
 
   names_fall : Falls m.progress.job.next_array (map (λ (a : Array). a.identity) m.progress.job.arrays)
   names_fall = job_order.tasks.names
@@ -128,8 +128,8 @@ module _ (plan : Placement) (s : Session) (m : SessionJob) (t : Task) (f : Frame
         → RepresentsTask r' plan new_member new_task
         → SessionHoldsBut (objects_gone plan m new) x core' r' marks plan (with_job s m new)
     holds_after x core core' r r' marks h same stands higher task =
-        let in_m = keyed-has (λ (y : SessionJob). y.constants.number) m.constants.number s.jobs m may.running.member in
-        let in_t = keyed-has (λ (u : Task). u.number) t.number m.progress.job.tasks t may.running.task in
+        let in_m = (keyed_has (λ (y : SessionJob). y.constants.number) m.constants.number s.jobs m may.running.member).0 in
+        let in_t = (keyed_has (λ (u : Task). u.number) t.number m.progress.job.tasks t may.running.task).0 in
         let row = row_of plan s.jobs m t h.fits.rows in_m in_t may.running.slot in
         let is = stack-after plan m.constants.number m.progress.job new t new_task replaces plan.running in
         let memory = memory-after plan s.jobs m new_course t new_task plan.running may.running.member replaces row (others-same new arrays) x core' r' f.identity m.progress.job.next_array names_fall arrays

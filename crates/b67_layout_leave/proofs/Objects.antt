@@ -7,7 +7,7 @@ use Rattle.std.proofs.lemmas.Bool.Decides.{eqb_tells}
 use Rattle.b67_word.specs.Tagged.{Tagged}
 use Rattle.b67_ctl.specs.declared.registers.Regs.{Regs}
 use Rattle.b67_lemmas.specs.Lists.{Has, Falls}
-use Rattle.b67_lemmas.proofs.Members.{any_has, falls_same, has_append_cases, has_append_left, has_append_right, has_filter, has_filter_in, has_flat, has_flat_back, has_map, has_map_back, keyed-has}
+use Rattle.b67_lemmas.proofs.Members.{any_has, falls_same, has_append_cases, has_append_left, has_append_right, has_filter, has_filter_in, has_flat, has_flat_back, has_map, has_map_back, keyed_has}
 use Rattle.b67_model.specs.State.{Array, Job, JobProgress, SessionJob}
 use Rattle.b67_model.specs.Keyed.{keyed}
 use Rattle.b67_model.specs.Run.{number_of}
@@ -118,7 +118,7 @@ module _ (plan : Placement) (jobs : List SessionJob) (m : SessionJob) (c : JobPr
   ]
 
   now : Has (with_course jobs m.constants.number c) (record m { progress = c })
-  now = keyed-has number_of m.constants.number (with_course jobs m.constants.number c) (record m { progress = c }) (member-same jobs m.constants.number c m found)
+  now = (keyed_has number_of m.constants.number (with_course jobs m.constants.number c) (record m { progress = c }) (member-same jobs m.constants.number c m found)).0
 
   -- all objects of before, with those of the arrays that are gone among those that are left
   pub objects-after : SameObjects (flat_map (objects_of plan) jobs) (objects_gone plan m c.job ++ flat_map (objects_of plan) (with_course jobs m.constants.number c))
@@ -139,11 +139,11 @@ module _ (plan : Placement) (jobs : List SessionJob) (m : SessionJob) (c : JobPr
 
     back : (t : PagedObject) → Has (objects_gone plan m c.job ++ flat_map (objects_of plan) (with_course jobs m.constants.number c)) t → Has (flat_map (objects_of plan) jobs) t
     back t h = elim (has_append_cases (objects_gone plan m c.job) (flat_map (objects_of plan) (with_course jobs m.constants.number c)) t h) [
-      | inl a ↦ has_flat (objects_of plan) jobs m t (keyed-has number_of m.constants.number jobs m found) (in_left t a)
+      | inl a ↦ has_flat (objects_of plan) jobs m t (keyed_has number_of m.constants.number jobs m found).0 (in_left t a)
       | inr b ↦
           let r = has_flat_back (objects_of plan) (with_course jobs m.constants.number c) t b in
           elim (change-has number_of m.constants.number (λ (y : SessionJob). record y { progress = c }) jobs m found r.item r.among) [
             | inl k ↦ has_flat (objects_of plan) jobs r.item t k r.inside
-            | inr e ↦ has_flat (objects_of plan) jobs m t (keyed-has number_of m.constants.number jobs m found) (in_new t (subst (λ (y : SessionJob). Has (objects_of plan y) t) e r.inside))
+            | inr e ↦ has_flat (objects_of plan) jobs m t (keyed_has number_of m.constants.number jobs m found).0 (in_new t (subst (λ (y : SessionJob). Has (objects_of plan y) t) e r.inside))
           ]
     ]

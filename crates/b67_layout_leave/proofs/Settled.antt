@@ -8,7 +8,7 @@ use Rattle.b67_word.specs.Tagged.{Tagged}
 use Rattle.b67_area.specs.declared.Kind.TheVariants as kind
 use Rattle.b67_ctl.specs.declared.registers.Regs.{Regs}
 use Rattle.b67_lemmas.specs.Lists.{Has, Falls}
-use Rattle.b67_lemmas.proofs.Members.{has_append_cases, has_append_right, has_filter, has_flat_back, has_map_back, keyed-has}
+use Rattle.b67_lemmas.proofs.Members.{has_append_cases, has_append_right, has_filter, has_flat_back, has_map_back, keyed_has}
 use Rattle.b67_model.specs.State.{Frame, Array, Segment, Task, JobProgress, SessionJob}
 use Rattle.b67_model.specs.Keyed.{keyed}
 use Rattle.b67_model.specs.Run.{number_of}
@@ -60,7 +60,7 @@ module _ (x : Storage) (core : List Tagged) (r : Regs) (marks : List ℕ) (plan 
         let two = member-same s.jobs m.constants.number c m runs.member in
         let same : z ≡ record m { progress = c } = same_Some z (record m { progress = c }) (sym one ∙ ap (λ (n : ℕ). keyed number_of n (with_course s.jobs m.constants.number c)) e ∙ two) in
         let a = owner_apart b (subst (λ (y : SessionJob). Has y.progress.job.arrays b) same in_b) in
-        elim (homes_low x core r marks plan s m t f below o h runs frames m (keyed-has number_of m.constants.number s.jobs m runs.member) b a.0) [
+        elim (homes_low x core r marks plan s m t f below o h runs frames m (keyed_has number_of m.constants.number s.jobs m runs.member).0 b a.0) [
           | inl q ↦ absurd (a.1 q.1)
           | inr q ↦ subst (λ (n : ℕ). LowHome (plan.home n b.identity)) (sym e) q
         ]

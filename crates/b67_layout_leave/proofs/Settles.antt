@@ -8,7 +8,7 @@ use Rattle.std.proofs.lemmas.List.{length-reverse}
 use Rattle.b67_word.specs.Tagged.{Tagged}
 use Rattle.b67_ctl.specs.declared.registers.Regs.{Regs}
 use Rattle.b67_lemmas.specs.Lists.{Has}
-use Rattle.b67_lemmas.proofs.Members.{all_in, falls_same, has_map, has_reverse, keyed_falls, keyed-has}
+use Rattle.b67_lemmas.proofs.Members.{all_in, falls_same, has_map, has_reverse, keyed_falls, keyed_has}
 use Rattle.b67_model.specs.Words.{Original}
 use Rattle.b67_model.specs.State.{Frame, Array, Task, Job, JobProgress, SessionJob}
 use Rattle.b67_model.specs.Keyed.{keyed}
@@ -101,7 +101,7 @@ module _ (x : Storage) (core : List Tagged) (r : Regs) (marks : List ℕ) (plan 
   order_of y in_y = all_in (λ (z : SessionJob). JobInOrderButCounts (IsSegment z.constants) z.constants z.progress) s.jobs y o.jobs in_y
 
   used : RunsOn (machine_view plan s.jobs) plan.running (stack_of_task plan m.constants.number m.progress.job plan.running t)
-  used = runs_on plan s.jobs m t h.fits.rows (keyed-has number_of m.constants.number s.jobs m runs.member) (keyed-has (λ (u : Task). u.number) t.number m.progress.job.tasks t runs.task) runs.slot runs.member runs.task
+  used = runs_on plan s.jobs m t h.fits.rows (keyed_has number_of m.constants.number s.jobs m runs.member).0 (keyed_has (λ (u : Task). u.number) t.number m.progress.job.tasks t runs.task).0 runs.slot runs.member runs.task
 
   -- of the running task
   own : (b : Array) (g : Frame) → Has t.frames g → Has g.cells (Original b.identity) → b.owner ≡ g.identity → b.owner ≢ f.identity → Low m b
@@ -165,7 +165,7 @@ module _ (x : Storage) (core : List Tagged) (r : Regs) (marks : List ℕ) (plan 
   all = activations plan m.constants.number m.progress.job plan.running (outer_spots plan m.constants.number m.progress.job t.critical t.parents) (f ∷ below)
 
   on_top : IsOnTop m.constants m.progress.job t f below
-  on_top = record { order = (order_of m (keyed-has number_of m.constants.number s.jobs m runs.member)).tasks; there = runs.task; frames = frames }
+  on_top = record { order = (order_of m (keyed_has number_of m.constants.number s.jobs m runs.member).0).tasks; there = runs.task; frames = frames }
 
   -- an original among the cells of the frame
   in_cells : (b : ℕ) → Has f.cells (Original b) → (base + stack_words under + 1 < plan.home m.constants.number b) × (plan.home m.constants.number b ≤ base + stack_words all)

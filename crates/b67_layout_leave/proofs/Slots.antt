@@ -6,7 +6,7 @@ use Rattle.std.proofs.lemmas.Bool.{cases_eq, eq-eqb}
 use Rattle.b67_word.specs.Tagged.{Tagged}
 use Rattle.b67_ctl.specs.declared.registers.Regs.{Regs}
 use Rattle.b67_lemmas.specs.Lists.{Has, Falls}
-use Rattle.b67_lemmas.proofs.Members.{keyed_has, keyed-has}
+use Rattle.b67_lemmas.proofs.Members.{keyed_has}
 use Rattle.b67_model.specs.State.{Array, Task, Job, JobProgress, SessionJob}
 use Rattle.b67_model.specs.Keyed.{keyed}
 use Rattle.b67_model.specs.Run.{number_of}
@@ -37,7 +37,7 @@ module _ (plan : Placement) (j : ℕ) (job job' : Job) (t t' : Task) (by : Repla
   -- the task's own stack, by what it saw before
   pub stack-after : (k : ℕ) → stack_of_task plan j job' k t' ≡ activations plan j job' k (outer_spots plan j job t.critical t.parents) t'.frames
   stack-after k =
-      let h = keyed-has (λ (u : Task). u.number) t.number job.tasks t by.there in
+      let h = (keyed_has (λ (u : Task). u.number) t.number job.tasks t by.there).0 in
       let outer : outer_spots plan j job' t'.critical t'.parents ≡ outer_spots plan j job t.critical t.parents =
       ap (λ (d : ℕ). outer_spots plan j job' d t'.parents) by.critical ∙ ap (outer_spots plan j job' t.critical) by.parents ∙ outer-same t h in
       ap (λ (o : ℕ → StackPlace). activations plan j job' k o t'.frames) outer

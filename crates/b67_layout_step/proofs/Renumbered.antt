@@ -5,7 +5,7 @@ use Rattle.std.proofs.lemmas.Bool.{cases_Bool, eqb-true}
 use Rattle.std.proofs.lemmas.List.{map-append}
 use Rattle.std.specs.List.{AllByRecursion}
 use Rattle.b67_lemmas.specs.Lists.{Has}
-use Rattle.b67_lemmas.proofs.Members.{has_append_left, has_append_right, keyed_has, keyed-has}
+use Rattle.b67_lemmas.proofs.Members.{has_append_left, has_append_right, keyed_has}
 use Rattle.b67_model.specs.Schedule.{Session}
 use Rattle.b67_model.specs.InOrder.{IsSegment, SegmentInOrder, ArrayInOrder}
 use Rattle.b67_layout.specs.Orders.{JobInOrderButCounts, IsInOrderButCounts}
@@ -175,7 +175,7 @@ module _ (plan : Placement) (home : ℕ) (ns : List ℕ) (jobs : List SessionJob
   slot_in_same k j task None e = refl
   slot_in_same k j task (Some m) e =
       let number : m.constants.number ≡ j = (keyed_has number_of j jobs m e).1 in
-      let among : Has jobs m = keyed-has number_of j jobs m e in
+      let among : Has jobs m = (keyed_has number_of j jobs m e).0 in
       let own : Fitting home ns (map (array_object plan m.constants.number) m.progress.job.arrays) = λ t int. fits t (array_among plan jobs m among t int) in
       let o = keyed (λ (t : Task). t.number) task m.progress.job.tasks in
       let P : ℕ → Type 0 = λ i. slot_with plan k i (job_refilled plan m.constants.number home ns m.progress.job) o ≡ slot_with plan k i m.progress.job o in

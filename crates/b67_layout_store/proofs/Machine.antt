@@ -8,7 +8,7 @@ use Rattle.b67_word.specs.Tagged.{Tagged, word}
 use Rattle.b67_area.specs.declared.Kind.TheVariants as kind
 use Rattle.b67_area.proofs.Laws.{area_inside}
 use Rattle.b67_lemmas.specs.Lists.{Has}
-use Rattle.b67_lemmas.proofs.Members.{keyed-has}
+use Rattle.b67_lemmas.proofs.Members.{keyed_has}
 use Rattle.b67_model.specs.Keyed.{keyed}
 use Rattle.b67_model.specs.State.{Array, Task, Job, JobProgress, SessionJob, OperatorContext}
 use Rattle.b67_model.specs.Environment.{frame_at}
@@ -67,7 +67,7 @@ module _ (x : Storage) (old : Cpu) (plan : Placement) (s : Session) (m : Session
   object = array_object plan m.constants.number a
 
   has_m : Has s.jobs m
-  has_m = keyed-has number_of m.constants.number s.jobs m runs.member
+  has_m = (keyed_has number_of m.constants.number s.jobs m runs.member).0
 
   is_array : object.kind ≡ kind.Array
   is_array = ap (λ (w : Bool). Rattle.std.specs.Prelude.if◌then◌else◌ w kind.Array kind.Row) writable
@@ -164,7 +164,7 @@ module _ (x : Storage) (old : Cpu) (plan : Placement) (s : Session) (m : Session
   task_stands = let q = h.holds.running m t runs in record { slot = q.slot; dict = q.dict; entries = q.entries; segment = q.segment; place = q.place }
 
   slot_small : plan.running ≢ 255
-  slot_small e = let d = slot_below plan s.jobs m t h.holds.fits.rows has_m (keyed-has (λ (u : Task). u.number) t.number m.progress.job.tasks t runs.task) in let few = h.holds.fits.few in let r = runs.slot in omega (arith, e, d, few, r)
+  slot_small e = let d = slot_below plan s.jobs m t h.holds.fits.rows has_m (keyed_has (λ (u : Task). u.number) t.number m.progress.job.tasks t runs.task).0 in let few = h.holds.fits.few in let r = runs.slot in omega (arith, e, d, few, r)
 
   -- all words up to the first area's are as before, and what lies there
   stacks_under : plan.stacks ≤ x.low

@@ -5,7 +5,7 @@ use Rattle.std.specs.List.{slice_get, list_any}
 use Rattle.std.proofs.lemmas.Bool.{cases_Bool, cases_eq, eqb-true}
 use Rattle.std.proofs.lemmas.List.{map-append}
 use Rattle.b67_lemmas.specs.Lists.{Has}
-use Rattle.b67_lemmas.proofs.Members.{has_map, has_map_back, found-has, keyed-has}
+use Rattle.b67_lemmas.proofs.Members.{has_map, has_map_back, found-has, keyed_has}
 use Rattle.b67_model.specs.Keyed.{keyed}
 use Rattle.b67_model.specs.Words.{Word}
 use Rattle.b67_model.specs.State as State
@@ -131,7 +131,7 @@ module _ (plan : Placement) (jobs : List SessionJob) (m : SessionJob) (id i : �
   moved = record m { progress = c }
 
   has_m : Has jobs m
-  has_m = keyed-has number_of m.constants.number jobs m member
+  has_m = (keyed_has number_of m.constants.number jobs m member).0
 
   pub rows_put : RowsFit plan (with_course jobs m.constants.number (record m.progress { job = put_job m.progress.job id i w }))
   rows_put = record {
@@ -171,8 +171,8 @@ module _ (plan : Placement) (jobs : List SessionJob) (m : SessionJob) (id i : �
           → slot_with plan q m.constants.number (put_job m.progress.job id i w) (option_map (put_task id i w) o) ≡ slot_with plan q m.constants.number m.progress.job o
       by_task r e z None f = refl
       by_task r e z (Some v) f =
-          let in_v = keyed-has (λ (v : Task). v.number) r.task m.progress.job.tasks v f in
-          let in_u = keyed-has (λ (v : Task). v.number) u.number m.progress.job.tasks u there in
+          let in_v = (keyed_has (λ (v : Task). v.number) r.task m.progress.job.tasks v f).0 in
+          let in_u = (keyed_has (λ (v : Task). v.number) u.number m.progress.job.tasks u there).0 in
           let number : v.number ≡ r.task = (Rattle.b67_lemmas.proofs.Members.keyed_has (λ (v : Task). v.number) r.task m.progress.job.tasks v f).1 in
           let h = found-has (λ (b : Slotted). b.slot == q) plan.rows r e in
           let b = task_row plan jobs m u fit has_m in_u in

@@ -6,7 +6,7 @@ use Rattle.b67_word.specs.Tagged.{Tagged}
 use Rattle.b67_area.specs.declared.Kind.TheVariants as kind
 use Rattle.b67_ctl.specs.declared.registers.Regs.{Regs}
 use Rattle.b67_lemmas.specs.Lists.{Has, Falls}
-use Rattle.b67_lemmas.proofs.Members.{falls_same, has_append_cases, has_append_left, has_append_right, has_flat, has_flat_back, has_map, has_map_back, keyed-has}
+use Rattle.b67_lemmas.proofs.Members.{falls_same, has_append_cases, has_append_left, has_append_right, has_flat, has_flat_back, has_map, has_map_back, keyed_has}
 use Rattle.b67_lemmas.proofs.Keyed.{changed_there}
 use Rattle.b67_model.specs.Keyed.{keyed, change_keyed}
 use Rattle.b67_model.specs.State.{Array, Job, JobProgress, SessionJob}
@@ -69,10 +69,10 @@ module _ (x : Storage) (core : List Tagged) (r : Regs) (plan : Placement) (s : S
   a' = f a
 
   has_m : Has s.jobs m
-  has_m = keyed-has number_of m.constants.number s.jobs m member
+  has_m = (keyed_has number_of m.constants.number s.jobs m member).0
 
   has_a : Has m.progress.job.arrays a
-  has_a = keyed-has (λ (z : Array). z.identity) a.identity m.progress.job.arrays a found
+  has_a = (keyed_has (λ (z : Array). z.identity) a.identity m.progress.job.arrays a found).0
 
   has_new : Has (with_array m.progress.job a.identity f).arrays (f a)
   has_new = changed_there (λ (z : Array). z.identity) a.identity f m.progress.job.arrays a found
@@ -81,7 +81,7 @@ module _ (x : Storage) (core : List Tagged) (r : Regs) (plan : Placement) (s : S
   old_object = has_flat (objects_of plan) s.jobs m t has_m (has_append_right (code_objects plan j 1 m.constants.segments) (map (array_object plan j) m.progress.job.arrays) t (has_map (array_object plan j) m.progress.job.arrays a has_a))
 
   moved_there : Has jobs' moved
-  moved_there = keyed-has number_of m.constants.number jobs' moved (member-same s.jobs m.constants.number c m member)
+  moved_there = (keyed_has number_of m.constants.number jobs' moved (member-same s.jobs m.constants.number c m member)).0
 
   -- an array of the changed job: the changed one, or another of before
   array_of : (b : Array) → Has (with_array m.progress.job a.identity f).arrays b → (b ≡ f a) ⊎ (Has m.progress.job.arrays b × (b.identity ≢ a.identity))

@@ -10,7 +10,7 @@ use Rattle.b67_word.specs.declared.couples.Place.{Place}
 use Rattle.b67_word.specs.declared.faults.Fault.TheVariants.{InvalidAddress}
 use Rattle.b67_ctl.specs.declared.registers.Regs.{Regs}
 use Rattle.b67_lemmas.specs.Lists.{Has}
-use Rattle.b67_lemmas.proofs.Members.{all_in, has_map_back, keyed_has, keyed_left, keyed-has}
+use Rattle.b67_lemmas.proofs.Members.{all_in, has_map_back, keyed_has, keyed_left}
 use Rattle.b67_model.specs.Keyed.{keyed}
 use Rattle.b67_model.specs.Words.{Word, Operand}
 use Rattle.b67_model.specs.State.{Frame, Task, Job, JobProgress, SessionJob, mcp, no_frame, frame, height}
@@ -159,7 +159,7 @@ module _ (x : Storage) (old : Cpu) (plan : Placement) (s : Session) (m : Session
     u = own_of old.core old.regs scene q at f offset bits here_at
 
     has_m : Has s.jobs m
-    has_m = keyed-has number_of m.constants.number s.jobs m runs_t.member
+    has_m = (keyed_has number_of m.constants.number s.jobs m runs_t.member).0
 
     once : Rattle.b67_model.specs.InOrder.frames_in_job f m.progress.job ≤ 1
     once = scene.ordered.tasks.apart f
@@ -243,7 +243,7 @@ module _ (x : Storage) (old : Cpu) (plan : Placement) (s : Session) (m : Session
     task_stands = let o' = h.holds.running m t runs_t in record { slot = o'.slot; dict = o'.dict; entries = o'.entries; segment = o'.segment; place = o'.place }
 
     slot_small : plan.running ≢ 255
-    slot_small e = let b = slot_below plan s.jobs m t h.holds.fits.rows has_m (keyed-has (λ (v : Task). v.number) t.number m.progress.job.tasks t runs_t.task) in let few = h.holds.fits.few in let r = runs_t.slot in omega (arith, e, b, few, r)
+    slot_small e = let b = slot_below plan s.jobs m t h.holds.fits.rows has_m (keyed_has (λ (v : Task). v.number) t.number m.progress.job.tasks t runs_t.task).0 in let few = h.holds.fits.few in let r = runs_t.slot in omega (arith, e, b, few, r)
 
     vector : (y : SessionJob) (v : Task) → Has s.jobs y → Has y.progress.job.tasks v → slice_get (slice_set old.core at (word 0 new_bits)) (32 + slot_of plan y.constants.number v.number) ≡ Some (vector_word plan y.constants.number v.parents)
     vector y v in_y in_v = same (32 + slot_of plan y.constants.number v.number) (let b = slot_below plan s.jobs y v h.holds.fits.rows in_y in_v in let few = h.holds.fits.few in let first = h.holds.memory.slots.laid.first in omega (arith, b, few, first)) ∙ h.holds.vector.live y v in_y in_v

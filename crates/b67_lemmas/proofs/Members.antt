@@ -402,6 +402,3 @@ found-has test (y ∷ ys) x e = ⊎_elim
     (λ (t : test y ≡ true). let same : y ≡ x = same_Some y x (rw t at e) in (inl same, ap test (sym same) ∙ t))
     (λ (t : test y ≡ false). let r = found-has test ys x (rw t at e) in (inr r.0, r.1))
     (cases_Bool (test y))
-
-pub keyed-has : {A : Type 0} (key : A → ℕ) (n : ℕ) (xs : List A) (x : A) → keyed key n xs ≡ Some x → Has xs x
-keyed-has key n xs x e = (keyed_has key n xs x e).0

@@ -5,7 +5,7 @@ use Rattle.b67_word.specs.Tagged.{Tagged}
 use Rattle.b67_word.specs.declared.faults.Fault.{Fault}
 use Rattle.b67_word.specs.declared.couples.Place.{Place}
 use Rattle.b67_lemmas.specs.Lists.{Has}
-use Rattle.b67_lemmas.proofs.Members.{has_get, keyed-has}
+use Rattle.b67_lemmas.proofs.Members.{has_get, keyed_has}
 use Rattle.b67_lemmas.proofs.Places.{at_mapped, map-slice_set, mapped_at, put_back}
 use Rattle.b67_model.specs.Words.{Word, Operand}
 use Rattle.b67_model.specs.State.{Task, SessionJob, top, below_top}
@@ -37,7 +37,7 @@ pub record JobIn (tasks : Tasks) (plan : Placement) (m : SessionJob) : Type 0 wh
 
 pub job_in : (tasks : Tasks) (plan : Placement) (s : Session) (m : SessionJob) (t : Task) → IsInOrderButCounts s → TasksShow plan s tasks → IsRunning plan s.jobs m t → JobIn tasks plan m
 job_in tasks plan s m t o h runs =
-    let inm = keyed-has number_of m.constants.number s.jobs m runs.member in
+    let inm = (keyed_has number_of m.constants.number s.jobs m runs.member).0 in
     let b = job_at plan 1 s.jobs (map job_row tasks.jobs) m o.numbered h.jobs inm in
     let (row, at, same) = mapped_at job_row tasks.jobs (m.constants.number - 1) b.row b.at in
     record { row = row; at = at; shows = subst (λ (r : rows.JobRow). JobShows plan m r) (sym same) b.shows; from_one = numbered_low 1 s.jobs m o.numbered inm }
@@ -85,7 +85,7 @@ module _ (plan : Placement) (s : Session) (m : SessionJob) (t : Task) (o : IsInO
   pub tables_read : TasksShow plan (with_job s m (job_read m t q)) tasks'
   tables_read =
       let word : Word = Operand (read_from m.progress.job.numbers).0 in
-      let low = numbered_low 1 s.jobs m o.numbered (keyed-has number_of m.constants.number s.jobs m runs.member) in
+      let low = numbered_low 1 s.jobs m o.numbered (keyed_has number_of m.constants.number s.jobs m runs.member).0 in
       let jobs = jobs_put plan 1 (m.constants.number - 1) m.constants.number m (record m.progress { job = job_read m t q }) s.jobs (map job_row tasks.jobs) (job_row old) (job_row new) (omega (arith, low)) o.numbered runs.member
       (at_mapped job_row tasks.jobs (m.constants.number - 1) old at) (did.shows q) h.jobs in
       let shown : TablesShow plan (with_job s m (job_read m t q)) (map task_row tasks.rows.items) (slice_set (map job_row tasks.jobs) (m.constants.number - 1) (job_row new)) (counts_of tasks) =

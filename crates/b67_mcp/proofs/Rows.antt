@@ -17,7 +17,7 @@ use Rattle.b67_task_tables.specs.declared.tables.TaskRow.{TaskRow}
 use Rattle.b67_task_tables.specs.declared.tables.Tasks.{Tasks}
 use Rattle.b67_task_tables.specs.Tables.{task_row, TasksShow}
 use Rattle.b67_task_switch.proofs.Tables.{live_in_order}
-use Rattle.b67_lemmas.proofs.Members.{has_get, keyed-has}
+use Rattle.b67_lemmas.proofs.Members.{has_get, keyed_has}
 use Rattle.b67_lemmas.proofs.Places.{mapped_at}
 use Rattle.b67_law_order.proofs.Numbered.{keyed_member}
 
@@ -32,7 +32,7 @@ row_of x cpu tasks plan s m t o h shows runs = by (slice_get (map task_row tasks
   where
     low : plan.running < 120
     low =
-        let below = slot_below plan s.jobs m t h.holds.fits.rows (keyed-has number_of m.constants.number s.jobs m runs.member) (keyed-has (λ (u : Task). u.number) t.number m.progress.job.tasks t runs.task) in
+        let below = slot_below plan s.jobs m t h.holds.fits.rows (keyed_has number_of m.constants.number s.jobs m runs.member).0 (keyed_has (λ (u : Task). u.number) t.number m.progress.job.tasks t runs.task).0 in
         omega (arith, below, runs.slot, h.holds.fits.few)
 
     by : (q : Option rows.TaskRow) → slice_get (map task_row tasks.rows.items) tasks.running ≡ q → RunningRow plan q tasks.running → RowOf tasks m t

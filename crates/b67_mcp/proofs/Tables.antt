@@ -5,7 +5,7 @@ use Rattle.std.proofs.lemmas.Option.{same_Some, none-some}
 use Rattle.std.proofs.lemmas.Bool.{cases_eq}
 use Rattle.std.proofs.lemmas.Bool.Decides.{eqb_tells}
 use Rattle.b67_lemmas.specs.Lists.{Has}
-use Rattle.b67_lemmas.proofs.Members.{has_change, keyed-has}
+use Rattle.b67_lemmas.proofs.Members.{has_change, keyed_has}
 use Rattle.b67_model.specs.State.{Frame, Condition, Ready, Awaits, WaitsAt, Task, Job, JobProgress, SessionJob}
 use Rattle.b67_model.specs.Keyed.{keyed, change_keyed}
 use Rattle.b67_model.specs.Run.{number_of}
@@ -116,10 +116,10 @@ module _ (plan : Placement) (s : Session) (m : SessionJob) (t t' : Task) (job' :
   j = m.constants.number
 
   has_t : Has m.progress.job.tasks t
-  has_t = keyed-has (λ (u : Task). u.number) t.number m.progress.job.tasks t runs.task
+  has_t = (keyed_has (λ (u : Task). u.number) t.number m.progress.job.tasks t runs.task).0
 
   has_m : Has s.jobs m
-  has_m = keyed-has number_of m.constants.number s.jobs m runs.member
+  has_m = (keyed_has number_of m.constants.number s.jobs m runs.member).0
 
   own : (row : TaskRow) → TaskShows plan m t row → TaskShows plan after t' row
   own row w =
@@ -149,7 +149,7 @@ module _ (plan : Placement) (s : Session) (m : SessionJob) (t t' : Task) (job' :
   }
 
   has_after : Has (with_job s m job').jobs after
-  has_after = keyed-has number_of m.constants.number (with_job s m job').jobs after (member-same s.jobs m.constants.number (record m.progress { job = job' }) m runs.member)
+  has_after = (keyed_has number_of m.constants.number (with_job s m job').jobs after (member-same s.jobs m.constants.number (record m.progress { job = job' }) m runs.member)).0
 
   kept_member : (y : SessionJob) → Has s.jobs y → number_of y ≢ m.constants.number → Has (with_job s m job').jobs y
   kept_member y h ne = elim (change-kept number_of m.constants.number (λ (y : SessionJob). record y { progress = record m.progress { job = job' } }) s.jobs m runs.member y h) [
@@ -177,7 +177,7 @@ module _ (plan : Placement) (s : Session) (m : SessionJob) (t t' : Task) (job' :
       ])
 
   new_task : Has job'.tasks t'
-  new_task = keyed-has (λ (u : Task). u.number) t.number job'.tasks t' (task-same plan m.constants.number m.progress.job job' t t' by)
+  new_task = (keyed_has (λ (u : Task). u.number) t.number job'.tasks t' (task-same plan m.constants.number m.progress.job job' t t' by)).0
 
   shown_by : (rows : List TaskRow) (row : TaskRow) (y : SessionJob) (u : Task) → Has s.jobs y → Has y.progress.job.tasks u → TaskShows plan y u row
       → (z : SessionJob) × (v : Task) × Has (with_job s m job').jobs z × Has z.progress.job.tasks v × TaskShows plan z v row

@@ -30,7 +30,7 @@ use Rattle.b67_mcp_calls.specs.Calls.{MayCut, job_cut}
 use Rattle.b67_mcp_calls.proofs.Cuts.{cut_of}
 use Rattle.b67_mcp_calls.specs.Answered.{job_answered}
 use Rattle.b67_mcp_calls.proofs.Pushed.{stack, shaped, on_slot, registers, stands_pushed}
-use Rattle.b67_lemmas.proofs.Members.{change_twice, change_found, keyed-has}
+use Rattle.b67_lemmas.proofs.Members.{change_twice, change_found, keyed_has}
 
 -- the task and the job's member without the call
 abbrev pub task_cut : SessionJob → Task → Place → Task
@@ -65,7 +65,7 @@ module _ (x : Storage) (old mid : Cpu) (plan : Placement) (s : Session) (m : Ses
         some = free.some;
         uncritical = λ u k. elim (change-has (λ (v : Task). v.number) t.number (λ (v : Task). task_cut m t q) m.progress.job.tasks t runs.task u k) [
           | inl i ↦ free.uncritical u i
-          | inr e ↦ subst (λ (v : Task). v.critical ≢ m.progress.job.next_frame) (sym e) (free.uncritical t (keyed-has (λ (v : Task). v.number) t.number m.progress.job.tasks t runs.task))
+          | inr e ↦ subst (λ (v : Task). v.critical ≢ m.progress.job.next_frame) (sym e) (free.uncritical t (keyed_has (λ (v : Task). v.number) t.number m.progress.job.tasks t runs.task).0)
         ];
       }
 

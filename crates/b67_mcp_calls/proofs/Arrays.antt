@@ -8,7 +8,7 @@ use Rattle.b67_word.specs.declared.couples.Place.{Place}
 use Rattle.b67_area.specs.declared.Kind.TheVariants.{Array}
 use Rattle.b67_ctl.specs.Descriptors.{data_word}
 use Rattle.b67_lemmas.specs.Lists.{Has}
-use Rattle.b67_lemmas.proofs.Members.{change_twice, keyed-has}
+use Rattle.b67_lemmas.proofs.Members.{change_twice, keyed_has}
 use Rattle.b67_model.specs.Words.{Original}
 use Rattle.b67_model.specs.State.{Frame, Task, SessionJob, below_top}
 use Rattle.b67_model.specs.Keyed.{keyed}
@@ -83,7 +83,7 @@ module _ (x : Storage) (old mid : Cpu) (plan : Placement) (s : Session) (m : Ses
   avoids_cut = record {
     tasks = λ u i. elim (change-has (λ (v : Task). v.number) t.number (λ (v : Task). task_cut m t q) m.progress.job.tasks t runs.task u i) [
       | inl k ↦ avoids.tasks u k
-      | inr e ↦ subst (λ (v : Task). FramesAvoid n v.frames) (sym e) (below_avoids n t.frames (avoids.tasks t (keyed-has (λ (v : Task). v.number) t.number m.progress.job.tasks t runs.task)))
+      | inr e ↦ subst (λ (v : Task). FramesAvoid n v.frames) (sym e) (below_avoids n t.frames (avoids.tasks t (keyed_has (λ (v : Task). v.number) t.number m.progress.job.tasks t runs.task).0))
     ];
     arrays = avoids.arrays;
   }

@@ -36,7 +36,7 @@ use Rattle.b67_layout_leave.proofs.Leaves.{Leaver, task_at, may_leave, below-sam
 use Rattle.b67_layout_leave.proofs.Orders.{left_ready}
 use Rattle.b67_mcp_calls.specs.Calls.{MayCut, job_cut}
 use Rattle.b67_mcp_calls.proofs.Owned.{arrays_stay}
-use Rattle.b67_lemmas.proofs.Members.{keyed-has}
+use Rattle.b67_lemmas.proofs.Members.{keyed_has}
 
 -- a marked frame without an original on top, on which no live task depends
 pub record Cut (m : SessionJob) (t : Task) : Type 0 where
@@ -111,7 +111,7 @@ module _ (x : Storage) (old : Cpu) (plan : Placement) (s : Session) (m : Session
   -- what the display is rebuilt for. The task is seen as a ready one
   abbrev pub scene_cut : RunningContext old.core regs_cut
   scene_cut =
-      let i = member_in_order s m o (keyed-has number_of m.constants.number s.jobs m runs.member) in
+      let i = member_in_order s m o (keyed_has number_of m.constants.number s.jobs m runs.member).0 in
       record {
         left = objects_gone plan m (job_at Ready);
         storage = x;
@@ -129,7 +129,7 @@ module _ (x : Storage) (old : Cpu) (plan : Placement) (s : Session) (m : Session
   shown_cut display shown =
       let free = fresh plan s m t o runs in
       Shows-condition display plan m m.progress.job (task_cut Ready) Ready t.condition t m.progress.job.next_frame runs.task
-      (record { some = free.some; uncritical = free.uncritical }) (free.uncritical t (keyed-has (λ (u : Task). u.number) t.number m.progress.job.tasks t runs.task)) shown
+      (record { some = free.some; uncritical = free.uncritical }) (free.uncritical t (keyed_has (λ (u : Task). u.number) t.number m.progress.job.tasks t runs.task).0) shown
 
   -- the whole machine, by a display that was built for it
   pub stands_cut : (display : List ℕ) → ShowsDisplay display plan (member_at Ready) (task_cut Ready)

@@ -8,7 +8,7 @@ use Rattle.b67_area.specs.declared.Kind.TheVariants as kind
 use Rattle.b67_ctl.specs.declared.registers.Regs.{Regs}
 use Rattle.b67_core.proofs.Writes.{slice_get-set_same, slice_get-set_other}
 use Rattle.b67_lemmas.specs.Lists.{Has}
-use Rattle.b67_lemmas.proofs.Members.{has_append_cases, has_append_left, has_append_right, has_flat, has_flat_back, keyed-has}
+use Rattle.b67_lemmas.proofs.Members.{has_append_cases, has_append_left, has_append_right, has_flat, has_flat_back, keyed_has}
 use Rattle.b67_model.specs.Words as Words
 use Rattle.b67_model.specs.Words.{Word, Operand, Name, Ref, Row, Element, Original, Proc, Intrinsic}
 use Rattle.b67_model.specs.State.{Frame, Array, Task, Job, JobProgress, SessionJob, top, with_top_cells}
@@ -138,7 +138,7 @@ module _ (plan : Placement) (jobs : List SessionJob) (m : SessionJob) (t : Task)
   ]
 
   now : Has (with_course jobs m.constants.number progress) moved
-  now = keyed-has number_of m.constants.number (with_course jobs m.constants.number progress) moved (member-same jobs m.constants.number progress m found)
+  now = (keyed_has number_of m.constants.number (with_course jobs m.constants.number progress) moved (member-same jobs m.constants.number progress m found)).0
 
   pub objects_added : Added (flat_map (objects_of plan) jobs) object (flat_map (objects_of plan) (with_course jobs m.constants.number progress))
   objects_added = record {
@@ -155,7 +155,7 @@ module _ (plan : Placement) (jobs : List SessionJob) (m : SessionJob) (t : Task)
           | inl k ↦ inr (has_flat (objects_of plan) jobs r.item z k r.inside)
           | inr e ↦ elim (in_old z (subst (λ (y : SessionJob). Has (objects_of plan y) z) e r.inside)) [
             | inl i ↦ inl i
-            | inr i ↦ inr (has_flat (objects_of plan) jobs m z (keyed-has number_of m.constants.number jobs m found) i)
+            | inr i ↦ inr (has_flat (objects_of plan) jobs m z (keyed_has number_of m.constants.number jobs m found).0 i)
           ]
         ];
   }
@@ -199,10 +199,10 @@ module _ (x : Storage) (cpu : Cpu) (plan : Placement) (s : Session) (m : Session
   t' = task_with t a.identity
 
   has_m : Has s.jobs m
-  has_m = keyed-has number_of m.constants.number s.jobs m runs.member
+  has_m = (keyed_has number_of m.constants.number s.jobs m runs.member).0
 
   has_t : Has m.progress.job.tasks t
-  has_t = keyed-has (λ (u : Task). u.number) t.number m.progress.job.tasks t runs.task
+  has_t = (keyed_has (λ (u : Task). u.number) t.number m.progress.job.tasks t runs.task).0
 
   apart : (z : PagedObject) → Has p.objects z → z.home ≢ at
   apart = next_apart x cpu.core cpu.regs p k h.holds.memory h.holds.settled w original higher before (on_slot x cpu plan s m t h runs)

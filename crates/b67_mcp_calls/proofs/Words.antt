@@ -27,7 +27,7 @@ use Rattle.b67_exec_cells.proofs.Replaced.{array_object-has}
 use Rattle.b67_exec_cells.specs.Elements.{HasElement}
 use Rattle.b67_exec_cells.proofs.Arrays.{array_is, tag_by}
 use Rattle.b67_mcp_calls.specs.Texts.{joined, values_of}
-use Rattle.b67_lemmas.proofs.Members.{keyed-has}
+use Rattle.b67_lemmas.proofs.Members.{keyed_has}
 
 -- the values of a row's numbers, or EXPONENT
 abbrev pub answer_of : Option (List ℤ) → Answer (List ℤ)
@@ -50,7 +50,7 @@ module _ (x : Storage) (cpu : Cpu) (plan : Placement) (s : Session) (m : Session
   pub row_words : (at : ℕ) → area_held x plan m.constants.number n ≡ Some at → slice_range cpu.core at (at + length (array m.progress.job n).numbers) ≡ map (word 0) (array m.progress.job n).numbers
   row_words at held =
       let object = array_object plan m.constants.number e.item in
-      let there = array_object-has plan s.jobs m e.item (keyed-has number_of_member m.constants.number s.jobs m runs.member) e.live in
+      let there = array_object-has plan s.jobs m e.item (keyed_has number_of_member m.constants.number s.jobs m runs.member).0 e.live in
       let stands = h.holds.memory.objects object there in
       let C : Option ℕ → Type 0 = λ o. Content x cpu.core object o (x.held object.home).chain in
       let area : (x.held object.home).area ≡ Some at = ap (λ (i : ℕ). (x.held (plan.home m.constants.number i)).area) e.named ∙ held in

@@ -3,7 +3,7 @@ use Rattle.std.proofs.Common.{◌≡◌, ◌≢◌, ℕ, ◌+◌, ◌-◌, ◌^�
 use Rattle.std.proofs.lemmas.Bool.{ne_eqb}
 use Rattle.b67_area.specs.declared.kinds.Kind.TheVariants.{Code}
 use Rattle.b67_lemmas.specs.Lists.{Has}
-use Rattle.b67_lemmas.proofs.Members.{all_in, keyed-has}
+use Rattle.b67_lemmas.proofs.Members.{all_in, keyed_has}
 use Rattle.b67_lemmas.proofs.Places.{get_within}
 use Rattle.b67_model.specs.State.{Task, SessionJob}
 use Rattle.b67_model.specs.Rows.{code_of}
@@ -48,7 +48,7 @@ pub record CodeObject (plan : Placement) (s : Session) (m : SessionJob) (t : Tas
 
 pub code_found : (plan : Placement) (s : Session) (m : SessionJob) (t : Task) → IsInOrderButCounts s → IsRunning plan s.jobs m t → CodeObject plan s m t
 code_found plan s m t o runs =
-    let has_m : Has s.jobs m = keyed-has number_of m.constants.number s.jobs m runs.member in
+    let has_m : Has s.jobs m = (keyed_has number_of m.constants.number s.jobs m runs.member).0 in
     let place = (running_in_order plan s m t o runs).1.place in
     let found = get_within m.constants.segments (t.segment - 1) (omega (arith, place.from_one, place.within)) in
     let at = plan.dictionary m.constants.number + 1 + t.segment in
@@ -88,7 +88,7 @@ module _ (x : Storage) (told : Option (List (List ℕ))) (k : Machine) (plan : P
 
   pub array_absent : (home words : ℕ) (w : IsArrayWanted x plan m t home words) → IsAbsent x (machine_view plan s.jobs) home (array_object plan m.constants.number w.array)
   array_absent home words w = record {
-    there = array_object-has plan s.jobs m w.array (keyed-has number_of m.constants.number s.jobs m runs.member) w.among;
+    there = array_object-has plan s.jobs m w.array (keyed_has number_of m.constants.number s.jobs m runs.member).0 w.among;
     is = w.home_is;
     absent = ap (λ (q : ℕ). (x.held q).area) (sym w.home_is) ∙ w.absent;
   }

@@ -11,7 +11,7 @@ use Rattle.b67_layout.specs.Layout.{machine_view}
 use Rattle.b67_layout.specs.Session.{with_objects}
 use Rattle.b67_layout.proofs.Sessions.{dictionary_below}
 use Rattle.b67_refer.specs.RunningContext.{LiveContext, IsStackOf}
-use Rattle.b67_lemmas.proofs.Members.{keyed-has}
+use Rattle.b67_lemmas.proofs.Members.{keyed_has}
 
 module _ (core : List Tagged) (r : Regs) (a : LiveContext core r) where
   abbrev pub viewed : MachineView
@@ -35,7 +35,7 @@ module _ (core : List Tagged) (r : Regs) (a : LiveContext core r) where
 
   -- the dictionary lies below slot 0
   pub dictionary_low : a.plan.dictionary a.member.constants.number + 2 ≤ a.plan.stacks
-  dictionary_low = dictionary_below a.plan 160 a.session.jobs a.member a.holds.fits.dictionaries (keyed-has (λ m. m.constants.number) a.member.constants.number a.session.jobs a.member a.running.member)
+  dictionary_low = dictionary_below a.plan 160 a.session.jobs a.member a.holds.fits.dictionaries (keyed_has (λ m. m.constants.number) a.member.constants.number a.session.jobs a.member a.running.member).0
 
   pub slot_zero : (a.plan.stacks ≤ a.storage.low) × (a.storage.low < 2 ^ 20)
   slot_zero = let m = a.holds.memory in (let low : a.storage.low ≡ a.plan.stacks + a.plan.peak * a.plan.size = m.slots.laid.low in omega (arith, low), omega (arith, m.inside, m.directory.small))

@@ -16,7 +16,7 @@ use Rattle.b67_area.specs.declared.Kind.TheVariants as kind
 use Rattle.b67_area.proofs.Laws.{area_inside}
 use Rattle.b67_model.specs.Answers.{Answer}
 use Rattle.b67_lemmas.specs.Lists.{Has}
-use Rattle.b67_lemmas.proofs.Members.{all_in, has_append_left, has_append_right, has_flat, has_get, has_map, has_reverse_back, keyed-has}
+use Rattle.b67_lemmas.proofs.Members.{all_in, has_append_left, has_append_right, has_flat, has_get, has_map, has_reverse_back, keyed_has}
 use Rattle.b67_lemmas.proofs.Places.{get_within}
 use Rattle.b67_model.specs.Words as Words
 use Rattle.b67_model.specs.Words.{Word, Operand, Name, Ref, Row, Element, Original, Proc, Intrinsic}
@@ -92,7 +92,7 @@ module _ (core : List Tagged) (r : Regs) (a : LiveContext core r) where
   dictionary_home = ap (address_of a.plan) (view_low core r a 1 (omega arith)) ∙ dictionary_address core r a
 
   has_member : Has a.session.jobs a.member
-  has_member = keyed-has (λ m. m.constants.number) a.member.constants.number a.session.jobs a.member a.running.member
+  has_member = (keyed_has (λ m. m.constants.number) a.member.constants.number a.session.jobs a.member a.running.member).0
 
   pub dictionary_high : 160 ≤ a.plan.dictionary a.member.constants.number
   dictionary_high = dictionary_above a.plan 160 a.session.jobs a.member a.holds.fits.dictionaries has_member

@@ -9,7 +9,7 @@ use Rattle.b67_ctl.specs.declared.registers.Regs.{Regs}
 use Rattle.b67_ctl.specs.declared.marks.Mscw.{Mscw}
 use Rattle.b67_ctl.specs.Layout.{mscw_word, IsMscw}
 use Rattle.b67_lemmas.specs.Lists.{Has, how_many}
-use Rattle.b67_lemmas.proofs.Members.{has_append_cases, has_append_right, has_map, has_map_back, keyed_has, keyed_left, keyed_right, none_pass, total_flat, total_zero, keyed-has}
+use Rattle.b67_lemmas.proofs.Members.{has_append_cases, has_append_right, has_map, has_map_back, keyed_has, keyed_left, keyed_right, none_pass, total_flat, total_zero}
 use Rattle.b67_model.specs.Keyed.{keyed}
 use Rattle.b67_model.specs.State.{Frame, Standing, Marked, Entered, Task, OperatorContext, height, mcp, no_frame, frame}
 use Rattle.b67_model.specs.Environment.{level_of_standing, environment_of}
@@ -187,7 +187,7 @@ module _ (core : List Tagged) (r : Regs) (a : LiveContext core r) where
   mark_low id s (inl e) low = subst (λ (k : Known). MarkOf k.0 k.1) e (record {
     mark = record { far = true; entered = true; env_stack = 136; env_disp = 0; value = false; level = 1; back = 0 };
     fits = record { env_stack = omega arith; env_disp = omega arith; level = omega arith; back = omega arith; marked = λ z. absurd (let y : ⊥ = cc in y) };
-    there = ap (slice_get core) (ap (address_of a.plan) (view_low 1 (omega arith)) ∙ dictionary_address) ∙ (a.holds.dictionaries a.member (keyed-has (λ m. m.constants.number) a.member.constants.number a.session.jobs a.member a.running.member)).mark;
+    there = ap (slice_get core) (ap (address_of a.plan) (view_low 1 (omega arith)) ∙ dictionary_address) ∙ (a.holds.dictionaries a.member (keyed_has (λ m. m.constants.number) a.member.constants.number a.session.jobs a.member a.running.member).0).mark;
     level = refl;
     standing = Entered 0 0 None;
     among = base_in 0 (Entered 0 0 None) (inr (inl refl));

@@ -3,7 +3,7 @@ use Rattle.std.proofs.Common.{ℕ, ◌+◌, ◌<◌, ◌≤◌, List, [], ◌∷
 use Rattle.b67_word.specs.Tagged.{Tagged}
 use Rattle.b67_ctl.specs.declared.registers.Regs.{Regs}
 use Rattle.b67_lemmas.specs.Lists.{Has}
-use Rattle.b67_lemmas.proofs.Members.{all_in, keyed-has}
+use Rattle.b67_lemmas.proofs.Members.{all_in, keyed_has}
 use Rattle.b67_model.specs.State.{Task, SessionJob}
 use Rattle.b67_model.specs.Schedule.{Session}
 use Rattle.b67_model.specs.InOrder.{IsSegment, NumberedFrom}
@@ -36,7 +36,7 @@ module _ (left : List PagedObject) (x : Storage) (core : List Tagged) (r : Regs)
     session = s;
     member = m;
     task = t;
-    ordered = member_in_order s m o (keyed-has (λ y. y.constants.number) m.constants.number s.jobs m runs.member);
+    ordered = member_in_order s m o (keyed_has (λ y. y.constants.number) m.constants.number s.jobs m runs.member).0;
     holds = h;
     running = runs;
   }

@@ -25,7 +25,7 @@ use Rattle.b67_layout.proofs.Rows.{finds, task_row}
 use Rattle.b67_layout.proofs.Frames.{height-is}
 use Rattle.b67_refer.specs.RunningContext.{LiveContext}
 use Rattle.b67_refer.specs.LiveCells.{IsTop}
-use Rattle.b67_lemmas.proofs.Members.{keyed-has}
+use Rattle.b67_lemmas.proofs.Members.{keyed_has}
 
 -- the slot of a live task, by its number
 pub live_slot : (plan : Placement) (jobs : List SessionJob) (m : SessionJob) (u : Task) → RowsFit plan jobs → keyed number_of m.constants.number jobs ≡ Some m → keyed (λ (v : Task). v.number) u.number m.progress.job.tasks ≡ Some u
@@ -33,7 +33,7 @@ pub live_slot : (plan : Placement) (jobs : List SessionJob) (m : SessionJob) (u 
 live_slot plan jobs m u fit km ku =
     let j = m.constants.number in
     let k = slot_of plan j u.number in
-    let b = task_row plan jobs m u fit (keyed-has number_of j jobs m km) (keyed-has (λ (v : Task). v.number) u.number m.progress.job.tasks u ku) in
+    let b = task_row plan jobs m u fit (keyed_has number_of j jobs m km).0 (keyed_has (λ (v : Task). v.number) u.number m.progress.job.tasks u ku).0 in
     let f = finds (λ (q : Slotted). q.slot == k) plan.rows b.row b.among (eq-eqb b.row.slot k (sym b.slot)) in
     let same : f.item ≡ b.row = fit.differ f.item b.row f.among b.among (eqb-true f.item.slot k f.passes ∙ b.slot) in (
       subst (λ (n : ℕ). n < plan.peak) (sym b.slot) (fit.below b.row b.among),

@@ -45,7 +45,7 @@ use Rattle.b67_mcp.proofs.Present.{row_only}
 use Rattle.b67_session_attempt.specs.Tries.{TryFits}
 use Rattle.b67_session_attempt.proofs.Still.{operator_starts, call_starts}
 use Rattle.b67_session_attempt.proofs.Mute.{printing_built}
-use Rattle.b67_lemmas.proofs.Members.{keyed-has}
+use Rattle.b67_lemmas.proofs.Members.{keyed_has}
 
 -- before a fault an operator touches nothing that calls no intrinsic
 module _ (m : SessionJob) (t : Task) (a : ℕ) where
@@ -120,7 +120,7 @@ module _ (x : Storage) (told : Option (List (List ℕ))) (plan : Placement) (s :
     made_touches old new h a e =
         let same : h.touched ≡ Some a = sym (ap touched h.is) ∙ e in
         let is : step m.constants m.progress.job t ≡ Ok (Goes h.job [] (Some a)) = h.is ∙ ap (λ (q : Option ℕ). Ok (Goes h.job [] q)) same in
-        let (array, among, named) = touches_arrays s m t o (keyed-has number_of m.constants.number s.jobs m runs.member) (keyed-has (λ (u : Task). u.number) t.number m.progress.job.tasks t runs.task) h.job [] a is in
+        let (array, among, named) = touches_arrays s m t o (keyed_has number_of m.constants.number s.jobs m runs.member).0 (keyed_has (λ (u : Task). u.number) t.number m.progress.job.tasks t runs.task).0 h.job [] a is in
         let (at, held) = subst (IsPresent x plan m.constants.number) same h.present in
         record { array = array; among = among; named = named; there = λ none. none-some at (sym none ∙ held) }
 

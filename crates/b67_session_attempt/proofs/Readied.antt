@@ -2,7 +2,7 @@
 use Rattle.std.proofs.Common.{◌≡◌, ◌≢◌, List, [], ◌∷◌, map, Some, refl, sym, ◌∙◌, ap, arith, inl, subst}
 use Rattle.b67_model.specs.Keyed.{keyed}
 use Rattle.b67_lemmas.specs.Lists.{Has}
-use Rattle.b67_lemmas.proofs.Members.{all_in, length_change, change_found, keyed-has}
+use Rattle.b67_lemmas.proofs.Members.{all_in, length_change, change_found, keyed_has}
 use Rattle.b67_lemmas.proofs.Keyed.{change_same}
 use Rattle.b67_model.specs.State.{Array, Ready, Task, Job, SessionJob, with_task}
 use Rattle.b67_model.specs.Run.{number_of}
@@ -36,7 +36,7 @@ module _ (plan : Placement) (s : Session) (m : SessionJob) (t : Task) (o : IsInO
   session = with_job s m job
 
   in_t : Has m.progress.job.tasks t
-  in_t = keyed-has (λ (u : Task). u.number) t.number m.progress.job.tasks t runs.task
+  in_t = (keyed_has (λ (u : Task). u.number) t.number m.progress.job.tasks t runs.task).0
 
   there : keyed (λ (u : Task). u.number) t.number job.tasks ≡ Some task
   there = change_found (λ (u : Task). u.number) t.number t task m.progress.job.tasks refl runs.task

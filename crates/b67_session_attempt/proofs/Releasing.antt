@@ -24,13 +24,13 @@ use Rattle.b67_task_release.specs.Left.{IsLeft}
 use Rattle.b67_task_release.proofs.Leavings.{new_top, left_after}
 use Rattle.b67_session_attempt.proofs.Inversion.{IsEntered, LeftFrame}
 use Rattle.b67_session_attempt.proofs.Ordered.{frames_after}
-use Rattle.b67_lemmas.proofs.Members.{keyed-has}
+use Rattle.b67_lemmas.proofs.Members.{keyed_has}
 
 -- a running task's stack, whatever objects are left
 on_objects : (left : List PagedObject) (plan : Placement) (s : Session) (m : SessionJob) (t : Task) (x : Storage) (cpu : Cpu) → RepresentsSessionBut left x cpu plan s → IsRunning plan s.jobs m t
     → RunsOn (with_objects left (machine_view plan s.jobs)) plan.running (stack_of_task plan m.constants.number m.progress.job plan.running t)
 on_objects left plan s m t x cpu h runs =
-    let on = runs_on plan s.jobs m t h.holds.fits.rows (keyed-has number_of m.constants.number s.jobs m runs.member) (keyed-has (λ (u : Task). u.number) t.number m.progress.job.tasks t runs.task) runs.slot runs.member runs.task in
+    let on = runs_on plan s.jobs m t h.holds.fits.rows (keyed_has number_of m.constants.number s.jobs m runs.member).0 (keyed_has (λ (u : Task). u.number) t.number m.progress.job.tasks t runs.task).0 runs.slot runs.member runs.task in
     record { used = on.used; is = on.is }
 
 -- where its slot ends
@@ -63,8 +63,8 @@ module _ (x : Storage) (old : Cpu) (plan : Placement) (s : Session) (m : Session
 
   not_none : plan.running ≢ 255
   not_none e =
-      let in_m = keyed-has number_of m.constants.number s.jobs m runs.member in
-      let in_t = keyed-has (λ (u : Task). u.number) t.number m.progress.job.tasks t runs.task in
+      let in_m = (keyed_has number_of m.constants.number s.jobs m runs.member).0 in
+      let in_t = (keyed_has (λ (u : Task). u.number) t.number m.progress.job.tasks t runs.task).0 in
       omega (arith, e, runs.slot, slot_below plan s.jobs m t h.holds.fits.rows in_m in_t, h.holds.fits.few)
 
   module _ (ready : t.condition ≡ Ready) (job : Job) (k : LeftFrame t m.progress.job job) (order : TasksInOrder (IsSegment m.constants) m.constants job) (new : Cpu)

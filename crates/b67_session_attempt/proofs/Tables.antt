@@ -4,7 +4,7 @@ use Rattle.std.specs.Prelude.{◌==◌, if◌then◌else◌}
 use Rattle.std.proofs.lemmas.Bool.{cases_Bool, cases_eq}
 use Rattle.std.proofs.lemmas.Option.{same_Some}
 use Rattle.b67_lemmas.specs.Lists.{Has}
-use Rattle.b67_lemmas.proofs.Members.{falls_same, keyed-has}
+use Rattle.b67_lemmas.proofs.Members.{falls_same, keyed_has}
 use Rattle.b67_model.specs.State.{Frame, Condition, Ready, Awaits, WaitsAt, Task, Job, SessionJob}
 use Rattle.b67_model.specs.Keyed.{keyed, change_keyed}
 use Rattle.b67_model.specs.Run.{number_of}
@@ -99,7 +99,7 @@ module _ (plan : Placement) (s : Session) (m : SessionJob) (t : Task) (o : IsInO
 
   depended : (k : ℕ) (a : Option Task) → keyed (λ (u : Task). u.number) k old.tasks ≡ a → D (critical_of a)
   depended k None e = inl refl
-  depended k (Some u) e = inr (u, keyed-has (λ (u : Task). u.number) k old.tasks u e, refl)
+  depended k (Some u) e = inr (u, (keyed_has (λ (u : Task). u.number) k old.tasks u e).0, refl)
 
   -- outer spots are where they were
   outer_same : (parents : List ℕ) (c : ℕ) → D c → (id : ℕ) → outer_spots plan j job c parents id ≡ outer_spots plan j old c parents id
@@ -136,7 +136,7 @@ module _ (plan : Placement) (s : Session) (m : SessionJob) (t : Task) (o : IsInO
       ap (λ (z : StackPlace). WaitsAtCell (address_of plan z) offset) (one ∙ two)
 
   own : (u : Task) → Has old.tasks u → u.number ≡ t.number → u ≡ t
-  own u h e = falls_same (λ (u : Task). u.number) old.next_task old.tasks u t (running_in_order plan s m t o runs).0.tasks.numbers h (keyed-has (λ (u : Task). u.number) t.number old.tasks t runs.task) e
+  own u h e = falls_same (λ (u : Task). u.number) old.next_task old.tasks u t (running_in_order plan s m t o runs).0.tasks.numbers h (keyed_has (λ (u : Task). u.number) t.number old.tasks t runs.task).0 e
 
   state_same : (u v : Task) → Has old.tasks u → Same D t.number u v → shown plan j job v v.condition ≡ shown plan j old u u.condition
   state_same u v h s =
@@ -210,5 +210,5 @@ module _ (plan : Placement) (s : Session) (m : SessionJob) (t : Task) (o : IsInO
     each_after y v inv (inr e) =
         let ina : Has job.tasks v = subst (λ (z : SessionJob). Has z.progress.job.tasks v) e inv in
         let (u, inu, same) = back D t.number old.tasks job.tasks kept.tasks v ina in
-        let (row, inr_, r) = shows.each m u (keyed-has number_of j s.jobs m runs.member) inu in
+        let (row, inr_, r) = shows.each m u (keyed_has number_of j s.jobs m runs.member).0 inu in
         (row, inr_, subst (λ (z : SessionJob). TaskShows plan z v row) (sym e) (task_shows u v inu same row r))

@@ -29,7 +29,7 @@ use Rattle.b67_mcp.specs.declared.ends.Stop.TheVariants as stops
 use Rattle.b67_mcp.specs.Called.{CallsBuilt, IsCalled, IsCut, OnlyPrinted, TouchesAbsent, CallMeets}
 use Rattle.b67_presence.specs.Bringing.{IsWanted}
 use Rattle.b67_session_attempt.specs.Tries.{IsTouched, TryMeets}
-use Rattle.b67_lemmas.proofs.Members.{keyed-has}
+use Rattle.b67_lemmas.proofs.Members.{keyed_has}
 
 -- what is wanted, and that the step touches it, where nothing has changed
 abbrev pub Wants : Storage → Placement → SessionJob → Task → What → Machine → Machine → Type 0
@@ -86,7 +86,7 @@ module _ (x : Storage) (told : Option (List (List ℕ))) (plan : Placement) (s :
     touches : (found : What) → FindsAbsent x plan m found (step m.constants m.progress.job t) → TouchesAbsent x plan m t found
     touches found a =
         let T : Answer Done → Option ℕ = touched_of m.constants m.progress.job t in
-        let (array, among, named) = touches_arrays s m t o (keyed-has number_of m.constants.number s.jobs m runs.member) (keyed-has (λ (u : Task). u.number) t.number m.progress.job.tasks t runs.task) a.job [] a.touched a.is in
+        let (array, among, named) = touches_arrays s m t o (keyed_has number_of m.constants.number s.jobs m runs.member).0 (keyed_has (λ (u : Task). u.number) t.number m.progress.job.tasks t runs.task).0 a.job [] a.touched a.is in
         let H : ℕ → ℕ = plan.home m.constants.number in
         record {
           array = array;

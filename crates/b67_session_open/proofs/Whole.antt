@@ -6,7 +6,7 @@ use Rattle.std.proofs.lemmas.Option.{slice_get_within}
 use Rattle.b67_word.specs.Tagged.{word}
 use Rattle.b67_area.specs.Directory.{IsDirectory}
 use Rattle.b67_lemmas.specs.Lists.{Has}
-use Rattle.b67_lemmas.proofs.Members.{keyed-has}
+use Rattle.b67_lemmas.proofs.Members.{keyed_has}
 use Rattle.b67_lemmas.proofs.Places.{at_mapped, get_within}
 use Rattle.b67_model.specs.State.{Task, SessionJob}
 use Rattle.b67_model.specs.Program.{Program}
@@ -150,7 +150,7 @@ module _ (x : Storage) (cpu : Cpu) (stack quantum : ℕ) (switches : List Switch
   nobody : (m : SessionJob) (t : Task) → IsRunning plan jobs m t → ⊥
   nobody m t r = for_places (λ n u. slot_of plan n.constants.number u.number ≢ 255)
       (λ k o e small low is z. omega (arith, small, is, z))
-      m t (keyed-has number_of m.constants.number jobs m r.member) (keyed-has (λ (u : Task). u.number) t.number m.progress.job.tasks t r.task) (sym r.slot)
+      m t (keyed_has number_of m.constants.number jobs m r.member).0 (keyed_has (λ (u : Task). u.number) t.number m.progress.job.tasks t r.task).0 (sym r.slot)
 
   pub opening_stands : RepresentsSession x cpu plan (opening stack quantum switches openings)
   opening_stands = record {

@@ -6,7 +6,7 @@ use Rattle.b67_word.specs.Tagged.{word}
 use Rattle.b67_area.specs.declared.Kind.TheVariants as kind
 use Rattle.b67_ctl.specs.declared.registers.Regs.{Regs}
 use Rattle.b67_lemmas.specs.Lists.{Has}
-use Rattle.b67_lemmas.proofs.Members.{all_in, keyed-has}
+use Rattle.b67_lemmas.proofs.Members.{all_in, keyed_has}
 use Rattle.b67_model.specs.State.{Frame, Segment, Task, Job, SessionJob}
 use Rattle.b67_model.specs.Steps.{is_critical}
 use Rattle.b67_model.specs.Run.{number_of}
@@ -54,7 +54,7 @@ module _ (x : Storage) (cpu : Cpu) (plan : Placement) (s : Session) (m : Session
   no_task y u i l = subst (λ (z : SessionJob). Has z.progress.job.tasks u) (sym (only_one y i)) l
 
   no_run : (y : SessionJob) (u : Task) → IsRunning gone_plan (one ∷ []) y u → ⊥
-  no_run y u q = no_task y u (keyed-has number_of y.constants.number (one ∷ []) y q.member) (keyed-has (λ (v : Task). v.number) u.number y.progress.job.tasks u q.task)
+  no_run y u q = no_task y u (keyed_has number_of y.constants.number (one ∷ []) y q.member).0 (keyed_has (λ (v : Task). v.number) u.number y.progress.job.tasks u q.task).0
 
   for_one : (P : SessionJob → Type 0) → P one → (y : SessionJob) → Has (one ∷ []) y → P y
   for_one P q y i = subst P (only_one y i) q

@@ -3,7 +3,7 @@ use Rattle.std.proofs.Common.{◌≡◌, ◌≢◌, ℕ, List, [], ◌∷◌, �
 use Rattle.std.specs.Prelude.{filter, flat_map, ◌==◌, if◌then◌else◌}
 use Rattle.std.proofs.lemmas.Bool.{cases_Bool, cases_eq, eq-eqb, eqb-true}
 use Rattle.b67_lemmas.specs.Lists.{Has}
-use Rattle.b67_lemmas.proofs.Members.{has_append_cases, has_append_left, has_append_right, has_filter, has_filter_in, has_flat, has_flat_back, has_map, has_map_back, filter_none, found-has, keyed-has}
+use Rattle.b67_lemmas.proofs.Members.{has_append_cases, has_append_left, has_append_right, has_filter, has_filter_in, has_flat, has_flat_back, has_map, has_map_back, filter_none, found-has, keyed_has}
 use Rattle.b67_model.specs.State.{Array, Task, SessionJob}
 use Rattle.b67_model.specs.Keyed.{keyed}
 use Rattle.b67_model.specs.Run.{number_of}
@@ -77,8 +77,8 @@ module _ (plan : Placement) (s : Session) (m : SessionJob) (t : Task) (single : 
         (cases_Bool (plan.running == k)))
         (λ (ne : plan.running ≡ 255 → ⊥).
         let (y, u, runs) = live ne in
-        let my = only_member s m t single y (keyed-has number_of y.constants.number s.jobs y runs.member) in
-        let tu = only_task s m t single u (subst (λ (z : SessionJob). Has z.progress.job.tasks u) (sym my) (keyed-has (λ (v : Task). v.number) u.number y.progress.job.tasks u runs.task)) in
+        let my = only_member s m t single y (keyed_has number_of y.constants.number s.jobs y runs.member).0 in
+        let tu = only_task s m t single u (subst (λ (z : SessionJob). Has z.progress.job.tasks u) (sym my) (keyed_has (λ (v : Task). v.number) u.number y.progress.job.tasks u runs.task).0) in
         let is : plan.running ≡ k = runs.slot ∙ ap (λ (z : SessionJob). slot_of plan z.constants.number u.number) (sym my) ∙ ap (λ (v : Task). slot_of plan m.constants.number v.number) (sym tu) in
         rw (eq-eqb plan.running k is) refl)
         (cases_eq plan.running 255)

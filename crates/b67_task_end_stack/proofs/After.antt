@@ -25,7 +25,7 @@ use Rattle.b67_layout.specs.Orders.{IsInOrderButCounts}
 use Rattle.b67_task_end_stack.specs.Leaves.{Lost, Stays, Leaves, Lists, Cleared, Marked}
 use Rattle.b67_task_end_stack.proofs.Slotwise.{In, one_each, found_member}
 use Rattle.b67_task_end_stack.proofs.Turns.{SomeDied, pic}
-use Rattle.b67_lemmas.proofs.Members.{keyed-has}
+use Rattle.b67_lemmas.proofs.Members.{keyed_has}
 use Rattle.b67_task_end_stack.proofs.Fewer.{lost_or_not, stays_row, slots_left, back, Represents-left, above}
 
 follow : (plan : Placement) (rows : List Slotted) (running at : ℕ) (jobs : List SessionJob) → DictionariesFollow plan at jobs → DictionariesFollow (record plan { rows = rows; running = running }) at jobs
@@ -215,6 +215,6 @@ module _ (x : Storage) (core : List Tagged) (r : Regs) (marks : List ℕ) (plan 
       vector = vector_after;
       critical = critical;
       live = λ ne. absurd (ne refl);
-      running = λ z u q. absurd (let w : ⊥ = omega (arith, q.slot, slot_below plan_after after.jobs z u rows_fit (keyed-has number_of z.constants.number after.jobs z q.member) (keyed-has (λ (v : Task). v.number) u.number z.progress.job.tasks u q.task), h.fits.few) in w);
+      running = λ z u q. absurd (let w : ⊥ = omega (arith, q.slot, slot_below plan_after after.jobs z u rows_fit (keyed_has number_of z.constants.number after.jobs z q.member).0 (keyed_has (λ (v : Task). v.number) u.number z.progress.job.tasks u q.task).0, h.fits.few) in w);
       none = λ e. halted;
     }

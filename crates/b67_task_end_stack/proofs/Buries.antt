@@ -12,7 +12,7 @@ use Rattle.b67_model.specs.State.{Task, Job, SessionJob}
 use Rattle.b67_model.specs.Run.{number_of}
 use Rattle.b67_model.specs.Schedule.{Session}
 use Rattle.b67_model.specs.Endings.{among}
-use Rattle.b67_lemmas.proofs.Members.{any_has, any_some, falls_same, has_filter, has_filter_in, has_map, has_map_back, keyed-has}
+use Rattle.b67_lemmas.proofs.Members.{any_has, any_some, falls_same, has_filter, has_filter_in, has_map, has_map_back, keyed_has}
 use Rattle.b67_stack.specs.MachineView.{PagedObject, Slot, MachineView, slot_base}
 use Rattle.b67_stack.specs.Represents.{Storage, Represents}
 use Rattle.b67_stack.proofs.Bases.{base-apart}

@@ -15,7 +15,7 @@ use Rattle.b67_model.specs.Arrays.{array}
 use Rattle.b67_model.specs.Run.{number_of}
 use Rattle.b67_model.specs.Schedule.{Session}
 use Rattle.b67_model.specs.InOrder.{Starts, IsSegment, Known, known_of, WordInOrder, FramesInOrder, outer_of}
-use Rattle.b67_lemmas.proofs.Members.{has_append_left, has_append_right, has_append_cases, has_flat, has_map, has_map_back, keyed_has, falls_same, keyed-has, has_flat_back}
+use Rattle.b67_lemmas.proofs.Members.{has_append_left, has_append_right, has_append_cases, has_flat, has_map, has_map_back, keyed_has, falls_same, has_flat_back}
 use Rattle.b67_area.specs.declared.Kind.TheVariants as kind
 use Rattle.b67_stack.specs.MachineView.{PagedObject, Slot, Free, MachineView}
 use Rattle.b67_stack.specs.Represents.{Storage, Represents}
@@ -247,7 +247,7 @@ module _ (x : Storage) (core : List Tagged) (r : Regs) (marks : List ℕ) (plan 
             by : (y : SessionJob) → Has s.jobs y → Has (objects_of plan y) u → (y.constants.number ≡ m.constants.number) ⊎ (y.constants.number ≢ m.constants.number) → Has (flat_map (objects_of plan_left) jobs_left) u
             by y in_y i (inl e) =
                 let is : y ≡ m = same_Some y m (sym (found_member x core r marks plan s o h y in_y) ∙ ap (λ (n : ℕ). keyed number_of n s.jobs) e ∙ member_m) in
-                in_left m_left (keyed-has number_of m.constants.number jobs_left m_left left_found) u (in_m_left (subst (λ (v : SessionJob). Has (objects_of plan v) u) is i))
+                in_left m_left (keyed_has number_of m.constants.number jobs_left m_left left_found).0 u (in_m_left (subst (λ (v : SessionJob). Has (objects_of plan v) u) is i))
             by y in_y i (inr n) = in_left y (member_there y in_y n) u i
 
       -- a machine that stands for the picture after the deaths stands for that of the session afterwards

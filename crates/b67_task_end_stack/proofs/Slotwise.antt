@@ -17,7 +17,7 @@ use Rattle.b67_model.specs.Run.{number_of}
 use Rattle.b67_model.specs.Schedule.{Session}
 use Rattle.b67_model.specs.InOrder.{Starts, IsSegment, Known, identities, frames_named, OwnsArray, EntryInOrder, WordInOrder, FramesInOrder, TaskInOrder, outer_of}
 use Rattle.b67_law_order.proofs.Looks.{above_one}
-use Rattle.b67_lemmas.proofs.Members.{has_reverse, has_map, has_map_back, keyed_has, keyed_falls, falls_same, all_in, keyed-has}
+use Rattle.b67_lemmas.proofs.Members.{has_reverse, has_map, has_map_back, keyed_has, keyed_falls, falls_same, all_in}
 use Rattle.b67_stack.specs.Shapes as Shapes
 use Rattle.b67_stack.specs.Shapes.{Shape, Is, Copy, Copied, Fits, LieDownward, IsOriginal}
 use Rattle.b67_stack.specs.Stacks.{StackPlace, Activation, stack_words, words}

@@ -22,7 +22,7 @@ use Rattle.b67_task_tables.specs.Tables.{MachineRepresents, task_row, job_row, c
 use Rattle.b67_exec_cells.proofs.Codes.{short}
 use Rattle.b67_task_need.specs.Needing.{array_area, need_with, touched_words, HasWords}
 use Rattle.b67_task_need.proofs.Counts.{rows_live}
-use Rattle.b67_lemmas.proofs.Members.{keyed-has}
+use Rattle.b67_lemmas.proofs.Members.{keyed_has}
 
 pub follow_all : (plan : Placement) (at : ℕ) (jobs : List SessionJob) → DictionariesFollow plan at jobs → at + sum_by (λ (m : SessionJob). 2 + length m.constants.dictionary.cells) jobs ≡ plan.stacks
 follow_all plan at [] d = omega (arith, d)
@@ -51,7 +51,7 @@ read x told k plan s m t o h runs =
     record {
       stacks = slots.regs.stacks ∙ sym (follow_all plan 160 s.jobs holds.fits.dictionaries);
       peak = slots.regs.peak ∙ holds.fits.peak;
-      size = slots.regs.size ∙ sym (holds.fits.sizes m (keyed-has number_of m.constants.number s.jobs m runs.member));
+      size = slots.regs.size ∙ sym (holds.fits.sizes m (keyed_has number_of m.constants.number s.jobs m runs.member).0);
       live = sym (length-map k.tasks.rows.items task_row) ∙ rows_live plan s o holds.fits.rows (map task_row k.tasks.rows.items) (map job_row k.tasks.jobs) (counts_of k.tasks) h.tables;
       low = omega (arith, slots.regs.stacks, slots.laid.low, holds.memory.inside, holds.memory.directory.small);
       small = omega (arith, slots.regs.size, slots.laid.room);

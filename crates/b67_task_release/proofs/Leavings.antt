@@ -7,7 +7,7 @@ use Rattle.std.proofs.lemmas.Option.{same_Some}
 use Rattle.b67_word.specs.Tagged.{Tagged}
 use Rattle.b67_area.specs.declared.Kind.TheVariants.{Code}
 use Rattle.b67_lemmas.specs.Lists.{Has, Falls}
-use Rattle.b67_lemmas.proofs.Members.{all_in, any_has, any_some, falls_same, has_append_right, has_filter, has_filter_in, has_flat, has_map, has_map_back, keyed-has}
+use Rattle.b67_lemmas.proofs.Members.{all_in, any_has, any_some, falls_same, has_append_right, has_filter, has_filter_in, has_flat, has_map, has_map_back, keyed_has}
 use Rattle.b67_model.specs.Words as Words
 use Rattle.b67_model.specs.Words.{Word, Operand, Name, Ref, Row, Element, Original, Proc, Intrinsic}
 use Rattle.b67_model.specs.State.{Standing, Entered, Return, Frame, Array, Task, Job, SessionJob}
@@ -123,10 +123,10 @@ module _ (x : Storage) (old : Cpu) (plan : Placement) (s : Session) (m : Session
   stack = stack_of_task plan j m.progress.job plan.running t
 
   in_m : Has s.jobs m
-  in_m = keyed-has number_of j s.jobs m runs.member
+  in_m = (keyed_has number_of j s.jobs m runs.member).0
 
   in_t : Has m.progress.job.tasks t
-  in_t = keyed-has (λ (u : Task). u.number) t.number m.progress.job.tasks t runs.task
+  in_t = (keyed_has (λ (u : Task). u.number) t.number m.progress.job.tasks t runs.task).0
 
   on : RunsOn p plan.running stack
   on = runs_on plan s.jobs m t h.holds.fits.rows in_m in_t runs.slot runs.member runs.task

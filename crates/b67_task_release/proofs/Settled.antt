@@ -4,7 +4,7 @@ use Rattle.b67_area.specs.declared.Areas.{Areas}
 use Rattle.b67_backing.specs.Shelf.{Table}
 use Rattle.b67_ctl.specs.declared.registers.Regs.{Regs}
 use Rattle.b67_lemmas.specs.Lists.{Has}
-use Rattle.b67_lemmas.proofs.Members.{keyed-has}
+use Rattle.b67_lemmas.proofs.Members.{keyed_has}
 use Rattle.b67_model.specs.State.{Task, SessionJob}
 use Rattle.b67_model.specs.Run.{number_of}
 use Rattle.b67_model.specs.Schedule.{Session}
@@ -44,7 +44,7 @@ module _ (left : List PagedObject) (x : Storage) (cpu : Cpu) (plan : Placement) 
   top_is : TopIs p cpu.regs
   top_is =
       let (m, t, runs) = l.stands.holds.live l.runs in
-      let on = runs_on plan s.jobs m t l.stands.holds.fits.rows (keyed-has number_of m.constants.number s.jobs m runs.member) (keyed-has (λ (u : Task). u.number) t.number m.progress.job.tasks t runs.task) runs.slot runs.member runs.task in
+      let on = runs_on plan s.jobs m t l.stands.holds.fits.rows (keyed_has number_of m.constants.number s.jobs m runs.member).0 (keyed_has (λ (u : Task). u.number) t.number m.progress.job.tasks t runs.task).0 runs.slot runs.member runs.task in
       let stack = stack_of_task plan m.constants.number m.progress.job plan.running t in
       let r = running_slot x cpu.core cpu.regs (with_objects left p) plan.running stack l.stands.holds.memory (record { used = on.used; is = on.is }) in
       record { slot = plan.running; used = on.used; top = r.top ∙ ap (λ (a : Slot). slot_base p plan.running + stack_words (stack_of a)) (sym on.is); last = r.last }

@@ -27,7 +27,7 @@ use Rattle.b67_layout.proofs.Sessions.{dictionary_below, running_only}
 use Rattle.b67_layout_enter.proofs.Names.{frame_at_same}
 use Rattle.b67_task_start_stack.specs.Born.{with_task_at}
 use Rattle.b67_task_start_stack.specs.Joining.{Joins}
-use Rattle.b67_lemmas.proofs.Members.{keyed-has}
+use Rattle.b67_lemmas.proofs.Members.{keyed_has}
 use Rattle.b67_task_start_stack.proofs.OneMore.{slot_of-other, slot_of-new, plan_more, course_more, jobs_more, keyed_child, keyed_old, spots_own}
 
 -- jobs are numbered in order, so one job has a number
@@ -69,7 +69,7 @@ kept_member j c (x ∷ xs) y h ne = ⊎_elim
     (cases_Bool (number_of x == j))
 
 pub moved_member : (j : ℕ) (c : JobProgress) (jobs : List SessionJob) (m : SessionJob) → keyed number_of j jobs ≡ Some m → Has (with_course jobs j c) (record m { progress = c })
-moved_member j c jobs m e = keyed-has number_of j (with_course jobs j c) (record m { progress = c }) (member-same jobs j c m e)
+moved_member j c jobs m e = (keyed_has number_of j (with_course jobs j c) (record m { progress = c }) (member-same jobs j c m e)).0
 
 follow-more : (plan : Placement) (j n k peak i at : ℕ) (c : JobProgress) (jobs : List SessionJob) → DictionariesFollow plan at jobs → DictionariesFollow (with_task_at plan j n k peak) at (with_course jobs i c)
 follow-more plan j n k peak i at c [] d = d
@@ -130,10 +130,10 @@ module _ (x y : Storage) (core new : List Tagged) (r r' : Regs) (marks marks' : 
   low = h.memory.slots.laid.first
 
   has_m : Has s.jobs m
-  has_m = keyed-has number_of m.constants.number s.jobs m runs.member
+  has_m = (keyed_has number_of m.constants.number s.jobs m runs.member).0
 
   has_t : Has m.progress.job.tasks t
-  has_t = keyed-has (λ (u : Task). u.number) t.number m.progress.job.tasks t runs.task
+  has_t = (keyed_has (λ (u : Task). u.number) t.number m.progress.job.tasks t runs.task).0
 
   has_moved : Has after.jobs after_member
   has_moved = moved_member m.constants.number (record m.progress { job = job' }) s.jobs m runs.member

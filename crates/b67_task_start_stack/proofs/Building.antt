@@ -26,7 +26,7 @@ use Rattle.b67_layout.proofs.Starts.{runs_here}
 use Rattle.b67_task_start_stack.specs.Born.{with_task_at}
 use Rattle.b67_task_start_stack.specs.Joining.{Joins, Calls, MayBuild, joined}
 use Rattle.b67_task_start_stack.proofs.OneMore.{slot_of-other}
-use Rattle.b67_lemmas.proofs.Members.{keyed-has}
+use Rattle.b67_lemmas.proofs.Members.{keyed_has}
 use Rattle.b67_task_start_stack.proofs.Started.{Built, slot_apart, enough, slot_room, slot_low, running_small, below_some, under_place, mark_now, RepresentsSession-started}
 
 numbered_high : (k : ℕ) (jobs : List SessionJob) (y : SessionJob) → NumberedFrom k jobs → Has jobs y → y.constants.number < k + length jobs
@@ -68,7 +68,7 @@ module _ (x : Storage) (cpu : Cpu) (plan : Placement) (s : Session) (m : Session
   slot_small = running_small x cpu plan s m t job' child k b.ordered b.stands b.running b.joins b.calls
 
   pub job_small : j < 9
-  job_small = omega (arith, numbered_high 1 s.jobs m b.ordered.numbered (keyed-has (λ (y : SessionJob). y.constants.number) m.constants.number s.jobs m b.running.member), b.ordered.few, b.job_is)
+  job_small = omega (arith, numbered_high 1 s.jobs m b.ordered.numbered (keyed_has (λ (y : SessionJob). y.constants.number) m.constants.number s.jobs m b.running.member).0, b.ordered.few, b.job_is)
 
   slot_is : cpu.regs.slot ≡ slot_of plan m.constants.number t.number
   slot_is = (b.stands.holds.running m t b.running).slot
@@ -126,12 +126,12 @@ module _ (x : Storage) (cpu : Cpu) (plan : Placement) (s : Session) (m : Session
       vector = vector_there ∙ ap (λ (n : ℕ). Some (word 3 n)) vector_is ∙ vector_parent;
       others = λ q ne. others q (λ e. ne (e ∙ slot_is));
       own = subst (λ (n : ℕ). slice_get critical n ≡ Some (critical_mark job' t.frames)) slot_is
-          (own (critical_mark m.progress.job t.frames) (ap (slice_get cpu.critical) slot_is ∙ b.stands.holds.critical.live m t (keyed-has (λ (y : SessionJob). y.constants.number) m.constants.number s.jobs m b.running.member) has_t)
+          (own (critical_mark m.progress.job t.frames) (ap (slice_get cpu.critical) slot_is ∙ b.stands.holds.critical.live m t (keyed_has (λ (y : SessionJob). y.constants.number) m.constants.number s.jobs m b.running.member).0 has_t)
           ∙ ap (λ (n : ℕ). Some (max (critical_mark m.progress.job t.frames) n)) (under_is ∙ under_place x cpu plan s m t job' child k b.ordered b.stands b.running b.joins b.calls)
           ∙ ap Some (sym (mark_now x cpu plan s m t job' child k b.ordered b.stands b.running b.joins b.calls)));
     } where
       has_t : Has m.progress.job.tasks t
-      has_t = keyed-has (λ (u : Task). u.number) t.number m.progress.job.tasks t b.running.task
+      has_t = (keyed_has (λ (u : Task). u.number) t.number m.progress.job.tasks t b.running.task).0
 
       vector_parent : Some (word 3 (2 ^ 46 + cpu.regs.slot * 2 ^ 36 + j * 2 ^ 16)) ≡ Some (vector_word (with_task_at plan m.constants.number child.number k plan.peak) m.constants.number child.parents)
       vector_parent =

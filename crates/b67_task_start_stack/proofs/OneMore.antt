@@ -24,7 +24,7 @@ use Rattle.b67_layout.proofs.Others.{shape-job}
 use Rattle.b67_layout.proofs.MachineViews.{with_course, member-same, member-other, objects-after}
 use Rattle.b67_task_start_stack.specs.Born.{with_task_at}
 use Rattle.b67_task_start_stack.specs.Joining.{Joins}
-use Rattle.b67_lemmas.proofs.Members.{keyed-has}
+use Rattle.b67_lemmas.proofs.Members.{keyed_has}
 use Rattle.b67_task_start_stack.proofs.Twins.{Like, like_same, stack-twin, spots-twin, slot_with-twin, name_all}
 
 module _ (plan : Placement) (j n k peak : ℕ) where
@@ -116,7 +116,7 @@ module _ (plan : Placement) (jobs : List SessionJob) (m : SessionJob) (job' : Jo
   own_slot : (q u : ℕ) → u ≢ child.number → slot_with plan_more q m.constants.number job' (keyed (λ (t : Task). t.number) u job'.tasks) ≡ slot_with plan q m.constants.number m.progress.job (keyed (λ (t : Task). t.number) u m.progress.job.tasks)
   own_slot q u ne =
       slot_with-twin plan plan_more m.constants.number m.progress.job job' Old (λ a. Unit {0}) old_slots old_tasks any_array q refl (keyed N u job'.tasks) (keyed N u m.progress.job.tasks) (old_tasks u ne)
-      (λ t e. (h.above t (keyed-has N u m.progress.job.tasks t e), name_all t.frames))
+      (λ t e. (h.above t (keyed_has N u m.progress.job.tasks t e).0, name_all t.frames))
 
   other_slot : (q i u : ℕ) → i ≢ m.constants.number → (o : Option SessionJob) → slot_in plan_more q i u o ≡ slot_in plan q i u o
   other_slot q i u ne None = refl
@@ -134,7 +134,7 @@ module _ (plan : Placement) (jobs : List SessionJob) (m : SessionJob) (job' : Jo
             let old : keyed number_of r.job jobs ≡ Some m = ap (λ (i : ℕ). keyed number_of i jobs) z ∙ h.member in
             ap (slot_in plan_more q r.job r.task) new
             ∙ ap (λ (i : ℕ). slot_with plan_more q i job' (keyed N r.task job'.tasks)) z
-            ∙ own_slot q r.task (h.row r (keyed-has (λ (r : Slotted). r.slot) q plan.rows r e) z)
+            ∙ own_slot q r.task (h.row r (keyed_has (λ (r : Slotted). r.slot) q plan.rows r e).0 z)
             ∙ ap (λ (i : ℕ). slot_with plan q i m.progress.job (keyed N r.task m.progress.job.tasks)) (sym z)
             ∙ ap (slot_in plan q r.job r.task) (sym old))
             (λ (z : r.job ≡ m.constants.number → ⊥).

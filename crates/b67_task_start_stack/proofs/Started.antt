@@ -19,7 +19,7 @@ use Rattle.b67_model.specs.Steps.{is_critical}
 use Rattle.b67_model.specs.Schedule.{Session}
 use Rattle.b67_model.specs.InOrder.{IsSegment, from_frame, frames_of_task, critical_of}
 use Rattle.b67_layout.specs.Orders.{IsInOrderButCounts, JobInOrderButCounts}
-use Rattle.b67_lemmas.proofs.Members.{has_append_left, has_append_cases, has_map, has_map_back, keyed_falls, keyed-has, found-has}
+use Rattle.b67_lemmas.proofs.Members.{has_append_left, has_append_cases, has_map, has_map_back, keyed_falls, keyed_has, found-has}
 use Rattle.b67_stack.specs.declared.Cpu.{Cpu}
 use Rattle.b67_stack.specs.Shapes.{Locations, Shape, Copy, Copied, Is, Fits, LieDownward}
 use Rattle.b67_stack.specs.Stacks.{StackPlace, Head, Marked, Entered, Activation, HeadFits, IsStack, stack_words, mark_of, return_of, headed, mark_place, words, toscw_of}
@@ -78,10 +78,10 @@ module _ (x : Storage) (cpu : Cpu) (plan : Placement) (s : Session) (m : Session
   running = plan.running
 
   has_m : Has s.jobs m
-  has_m = keyed-has (λ (y : SessionJob). y.constants.number) m.constants.number s.jobs m runs.member
+  has_m = (keyed_has (λ (y : SessionJob). y.constants.number) m.constants.number s.jobs m runs.member).0
 
   has_t : Has m.progress.job.tasks t
-  has_t = keyed-has (λ (u : Task). u.number) t.number m.progress.job.tasks t runs.task
+  has_t = (keyed_has (λ (u : Task). u.number) t.number m.progress.job.tasks t runs.task).0
 
   order : JobInOrderButCounts (IsSegment m.constants) m.constants m.progress
   order = job_in_order s m o has_m

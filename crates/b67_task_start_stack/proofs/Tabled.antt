@@ -10,7 +10,7 @@ use Rattle.b67_model.specs.Keyed.{keyed}
 use Rattle.b67_model.specs.Run.{number_of}
 use Rattle.b67_model.specs.Schedule.{Session}
 use Rattle.b67_model.specs.InOrder.{NumberedFrom, frames_of_task}
-use Rattle.b67_lemmas.proofs.Members.{has_append_left, has_append_right, has_append_cases, keyed-has}
+use Rattle.b67_lemmas.proofs.Members.{has_append_left, has_append_right, has_append_cases, keyed_has}
 use Rattle.b67_stack.specs.Stacks.{StackPlace}
 use Rattle.b67_layout.specs.Placement.{Placement, slot_of, spot_in, base_spot, spots, address_of}
 use Rattle.b67_layout.specs.Rows.{RowState, WaitsAtCell, TaskRow, JobRow, JobCounts, shown, parent_slot, critical_disp, TaskShows, JobsShow, RunningRow, CountsShow, Differ, TablesShow}
@@ -123,7 +123,7 @@ module _ (plan : Placement) (s : Session) (m : SessionJob) (job' : Job) (child :
         let there : Has (child ∷ m.progress.job.tasks) t = subst (λ (ts : List Task). Has ts t) joins.tasks (subst (λ (z : SessionJob). Has z.progress.job.tasks t) e in_t) in
         subst (λ (z : SessionJob). (w : TaskRow) × Has (rows ++ row ∷ []) w × TaskShows more z t w) (sym e) (⊎_elim
         (λ (is : child ≡ t). (row, has_append_right rows (row ∷ []) row (inl refl), subst (λ (u : Task). TaskShows more new_member u row) is new))
-        (λ (old : Has m.progress.job.tasks t). let (w, i, sh) = h.each m t (keyed-has number_of m.constants.number s.jobs m joins.member) old in (w, has_append_left rows (row ∷ []) w i, own_shows t old w sh))
+        (λ (old : Has m.progress.job.tasks t). let (w, i, sh) = h.each m t (keyed_has number_of m.constants.number s.jobs m joins.member).0 old in (w, has_append_left rows (row ∷ []) w i, own_shows t old w sh))
         there))
         (changed_member 1 m.constants.number (record m.progress { job = job' }) s.jobs m numbered joins.member y in_y);
     once = subst Differ (sym (map-append (λ (w : TaskRow). w.slot) rows (row ∷ []))) (differ_more (map (λ (w : TaskRow). w.slot) rows) row.slot h.once (λ i. new_slot rows (λ w l. l) i));

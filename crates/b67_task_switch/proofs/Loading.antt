@@ -5,7 +5,7 @@ use Rattle.std.proofs.lemmas.Bool.{ne_eqb, eq-eqb}
 use Rattle.b67_word.specs.Tagged.{Tagged}
 use Rattle.b67_ctl.specs.declared.registers.Regs.{Regs}
 use Rattle.b67_lemmas.specs.Lists.{Has}
-use Rattle.b67_lemmas.proofs.Members.{keyed-has}
+use Rattle.b67_lemmas.proofs.Members.{keyed_has}
 use Rattle.b67_model.specs.State.{Task, SessionJob}
 use Rattle.b67_model.specs.Run.{number_of}
 use Rattle.b67_model.specs.Schedule.{Session}
@@ -29,10 +29,10 @@ module _ (x : Storage) (core : List Tagged) (r : Regs) (marks : List ℕ) (plan 
   waiting_stack = stack_of_task plan m.constants.number m.progress.job turn.slot t
 
   has_m : Has s.jobs m
-  has_m = keyed-has number_of m.constants.number s.jobs m q.member
+  has_m = (keyed_has number_of m.constants.number s.jobs m q.member).0
 
   has_t : Has m.progress.job.tasks t
-  has_t = keyed-has (λ (u : Task). u.number) t.number m.progress.job.tasks t q.task
+  has_t = (keyed_has (λ (u : Task). u.number) t.number m.progress.job.tasks t q.task).0
 
   used : turn.slot < plan.peak
   used = omega (arith, q.slot, slot_below plan s.jobs m t h.fits.rows has_m has_t)

@@ -18,7 +18,7 @@ use Rattle.b67_layout.specs.Layout.{shape, head, activations, stack_of_task, slo
 use Rattle.b67_layout.specs.Session.{RowsFit}
 use Rattle.b67_layout.proofs.Rows.{row_of}
 use Rattle.b67_task_switch.specs.Turns.{with_running}
-use Rattle.b67_lemmas.proofs.Members.{found-has, keyed-has}
+use Rattle.b67_lemmas.proofs.Members.{found-has, keyed_has}
 
 module _ (plan : Placement) (k : ℕ) where
   outer_spots-replan : (j : ℕ) (job : Job) (parents : List ℕ) (c id : ℕ) → outer_spots (with_running plan k) j job c parents id ≡ outer_spots plan j job c parents id
@@ -89,8 +89,8 @@ fit_replan plan k jobs f = record { live = f.live; slotted = f.slotted; below = 
 slot-of_task : (plan : Placement) (jobs : List SessionJob) (m : SessionJob) (t : Task) → RowsFit plan jobs → keyed number_of m.constants.number jobs ≡ Some m → keyed (λ (u : Task). u.number) t.number m.progress.job.tasks ≡ Some t → (q : ℕ) → q ≡ slot_of plan m.constants.number t.number
     → slot_at plan jobs q ≡ slot_with plan q m.constants.number m.progress.job (Some t)
 slot-of_task plan jobs m t fit km kt q here =
-    let inm = keyed-has number_of m.constants.number jobs m km in
-    let int = keyed-has (λ (u : Task). u.number) t.number m.progress.job.tasks t kt in
+    let inm = (keyed_has number_of m.constants.number jobs m km).0 in
+    let int = (keyed_has (λ (u : Task). u.number) t.number m.progress.job.tasks t kt).0 in
     let r = row_of (with_running plan q) jobs m t (fit_replan plan q jobs fit) inm int here in
     ap (slot_by plan jobs q) r.found
     ∙ ap (λ (i : ℕ). slot_in plan q i r.row.task (keyed number_of i jobs)) r.job

@@ -8,7 +8,7 @@ use Rattle.b67_core.proofs.Writes.{slice_get-set_same, slice_get-set_other}
 use Rattle.b67_ctl.specs.declared.registers.Regs.{Regs}
 use Rattle.b67_ctl.specs.Layout.{toscw_word}
 use Rattle.b67_lemmas.specs.Lists.{Has}
-use Rattle.b67_lemmas.proofs.Members.{keyed-has}
+use Rattle.b67_lemmas.proofs.Members.{keyed_has}
 use Rattle.b67_model.specs.State.{Task, SessionJob}
 use Rattle.b67_model.specs.Run.{number_of}
 use Rattle.b67_model.specs.Schedule.{Session}
@@ -32,7 +32,7 @@ runs_of x core r marks plan s h ne = h.live (λ e. ne (h.none e))
 -- no task runs where no registers are in use
 pub none_runs : (x : Storage) (core : List Tagged) (r : Regs) (marks : List ℕ) (plan : Placement) (s : Session) → SessionHolds x core r marks plan s → (y : SessionJob) (u : Task) → IsRunning (with_running plan 255) s.jobs y u → ⊥
 none_runs x core r marks plan s h y u q =
-    omega (arith, q.slot, slot_below plan s.jobs y u h.fits.rows (keyed-has number_of y.constants.number s.jobs y q.member) (keyed-has (λ (v : Task). v.number) u.number y.progress.job.tasks u q.task), h.fits.few)
+    omega (arith, q.slot, slot_below plan s.jobs y u h.fits.rows (keyed_has number_of y.constants.number s.jobs y q.member).0 (keyed_has (λ (v : Task). v.number) u.number y.progress.job.tasks u q.task).0, h.fits.few)
 
 module _ (x : Storage) (core : List Tagged) (r : Regs) (marks : List ℕ) (plan : Placement) (s : Session) (m : SessionJob) (t : Task)
     (h : SessionHolds x core r marks plan s) (runs : IsRunning plan s.jobs m t) where
@@ -40,10 +40,10 @@ module _ (x : Storage) (core : List Tagged) (r : Regs) (marks : List ℕ) (plan 
   running_stack = stack_of_task plan m.constants.number m.progress.job plan.running t
 
   has_m : Has s.jobs m
-  has_m = keyed-has number_of m.constants.number s.jobs m runs.member
+  has_m = (keyed_has number_of m.constants.number s.jobs m runs.member).0
 
   has_t : Has m.progress.job.tasks t
-  has_t = keyed-has (λ (u : Task). u.number) t.number m.progress.job.tasks t runs.task
+  has_t = (keyed_has (λ (u : Task). u.number) t.number m.progress.job.tasks t runs.task).0
 
   small : slot_of plan m.constants.number t.number < 120
   small = omega (arith, slot_below plan s.jobs m t h.fits.rows has_m has_t, h.fits.few)
