@@ -16,8 +16,8 @@ rest_none : {K : Type 0} (taken : K → Option (List ℕ)) (paper : K) (before :
 rest_none taken paper zero = record { rest = []; took = Took-none taken paper; same = refl }
 rest_none taken paper (suc n) = record { rest = []; took = Took-none taken paper; same = refl }
 
-pub silent_meets : {K : Type 0} (taken : K → Option (List ℕ)) (paper : K) (x : Storage) (told : Option (List (List ℕ))) (plan : Placement) (s : Session) (m : SessionJob) (t : Task) (n : ℕ) (done : Result (Unit {0}) Fault) (old new : Machine)
-    → CallsBuilt m t → AnswerMeets told s m t done old new → CallMeets taken x told plan s m t n (Ok (end_of done)) old new paper paper
-silent_meets taken paper x told plan s m t n (Ok done) old new built h =
+pub silent_meets : {K : Type 0} (taken : K → Option (List ℕ)) (paper : K) (x : Storage) (told : Option (List (List ℕ))) (count : ℕ) (plan : Placement) (s : Session) (m : SessionJob) (t : Task) (n : ℕ) (done : Result (Unit {0}) Fault) (old new : Machine)
+    → CallsBuilt m t → AnswerMeets told s m t done old new → CallMeets taken told count x plan s m t n (Ok (end_of done)) old new paper paper
+silent_meets taken paper x told count plan s m t n (Ok done) old new built h =
     record { job = h.job; printed = []; touched = None; is = h.is; built = built; storage = h.storage; plan = h.plan; stands = h.stands; text = rest_none taken paper old.tasks.printed; reset = h.printed }
-silent_meets taken paper x told plan s m t n (Err fault) old new built h = (h.0, h.1, refl)
+silent_meets taken paper x told count plan s m t n (Err fault) old new built h = (h.0, h.1, refl)

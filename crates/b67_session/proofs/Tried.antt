@@ -13,7 +13,7 @@ use Rattle.b67_task_tables.specs.declared.tables.Machine.{Machine}
 use Rattle.b67_task.specs.Endings.{HasOne}
 use Rattle.b67_session_schedule.specs.declared.counting.Chosen.{Chosen}
 use Rattle.b67_session_schedule.specs.Counted.{CountsHaveRoom}
-use Rattle.b67_session_attempt.specs.Passed.{StandsOver}
+use Rattle.b67_session_attempt.specs.Passed.{StandsOver, Lengthens}
 use Rattle.b67_session_attempt.specs.Stops.{Stop}
 use Rattle.b67_session_attempt.specs.Stops as stops
 use Rattle.b67_session_attempt.specs.Brought.{WantsNothing}
@@ -57,7 +57,7 @@ stopped_room core x plan s m t stops.Unbuilt fits code = tt
 -- what the attempt promises where nothing is wanted
 abbrev pub AttemptQuiet : {D : Type 0} → Option (List (List ℕ)) → Machine → D → D → Type 0
 AttemptQuiet told old device device' =
-    (x : Storage) (plan : Placement) (s : Session) (m : SessionJob) (t : Task) → IsInOrderButCounts s → StandsOver x told old plan s → IsRunning plan s.jobs m t → t.condition ≡ Ready → WantsNothing x plan m t → device' ≡ device
+    (x : Storage) (plan : Placement) (s : Session) (m : SessionJob) (t : Task) → IsInOrderButCounts s → StandsOver x told old plan s → IsRunning plan s.jobs m t → t.condition ≡ Ready → WantsNothing x plan m t → (Lengthens m t → ⊥) → device' ≡ device
 
 module _ {K : Type 0} {taken : K → Option (List ℕ)} {told told' : Option (List (List ℕ))} {count : ℕ} {k mid new : Machine} {c : Chosen} {paper paper' : K} where
   -- at another answer

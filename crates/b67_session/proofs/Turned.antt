@@ -9,7 +9,7 @@ use Rattle.b67_layout.specs.Orders.{IsInOrderButCounts}
 use Rattle.b67_layout.proofs.Weaker.{but_counts}
 use Rattle.b67_stack.specs.Represents.{Storage}
 use Rattle.b67_layout_storage.specs.Machine.{Says, content_after}
-use Rattle.b67_session_attempt.specs.Passed.{StandsOver}
+use Rattle.b67_session_attempt.specs.Passed.{StandsOver, Lengthens}
 use Rattle.b67_layout.specs.Placement.{Placement}
 use Rattle.b67_layout.specs.Rows as rows
 use Rattle.b67_layout.specs.Rows.{RunningRow}
@@ -220,6 +220,6 @@ module _ {K : Type 0} {taken : K → Option (List ℕ)} {told told' : Option (Li
 
   -- what the attempt promises where nothing is wanted
   pub quiet_here : {A : Type 0}
-      → ((x : Storage) (plan : Placement) (s : Session) (m : SessionJob) (t : Task) → IsInOrderButCounts s → StandsOver x told mid plan s → IsRunning plan s.jobs m t → t.condition ≡ Ready → WantsNothing x plan m t → A)
-      → WantsNothing h.storage h.plan m t → A
-  quiet_here quiet wants = quiet here.storage here.plan s m t (but_counts s here.ordered) stood here.running here.single.ready (record { code = wants.code; array = wants.array })
+      → ((x : Storage) (plan : Placement) (s : Session) (m : SessionJob) (t : Task) → IsInOrderButCounts s → StandsOver x told mid plan s → IsRunning plan s.jobs m t → t.condition ≡ Ready → WantsNothing x plan m t → (Lengthens m t → ⊥) → A)
+      → WantsNothing h.storage h.plan m t → (Lengthens m t → ⊥) → A
+  quiet_here quiet wants same = quiet here.storage here.plan s m t (but_counts s here.ordered) stood here.running here.single.ready (record { code = wants.code; array = wants.array }) same

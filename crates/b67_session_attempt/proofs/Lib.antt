@@ -16,6 +16,7 @@ pub mod Space
 pub mod FittingMade
 pub mod Trying
 pub mod Started
+pub mod Calls
 pub mod Still
 pub mod Mute
 pub mod AttemptFits

@@ -3,6 +3,7 @@ use Rattle.b67_task_tables.specs.declared.tables.Tasks.{Tasks}
 use Rattle.b67_session_attempt.specs.Passed.{AreCountable}
 use Rattle.b67_session_attempt.specs.declared.attempts.Attempt.{Attempt}
 use Rattle.b67_session_attempt.specs.declared.attempts.Attempt.TheVariants as attempts
+use Rattle.b67_session_attempt.proofs.Runs.{caused_stop}
 use Rattle.b67_session.proofs.Turned.{Tries, chooses_one, has_row, turned, runs_over}
 use Rattle.b67_session.proofs.Tried.{tries_as, made_counts, made_has, made_row, made_present, ends_counts, ends_has, ends_row, ends_present, stop_row, stop_present}
 use Rattle.b67_session.proofs.steps.step.Given.{Over}
@@ -20,11 +21,14 @@ context g c = record {
   row = c.attempt.ensures.row;
   room = c.attempt.ensures.fits;
   stay = c.attempt.ensures.tables;
-  halt = c.attempt.ensures.keeps.halt;
+  halt = c.attempt.ensures.kept.keeps.halt;
 }
 
 halted : (g : Over) (c : After-attempt g) → c.attempt.new.machine.tasks.halt ≡ c.args.machine.now.tasks.halt
-halted g c = c.attempt.ensures.keeps.halt ∙ ap (λ (z : Tasks). z.halt) c.give_turn.ensures.tables
+halted g c = c.attempt.ensures.kept.keeps.halt ∙ ap (λ (z : Tasks). z.halt) c.give_turn.ensures.tables
+
+countable : (g : Over) (c : After-attempt g) → AreCountable c.attempt.new.machine.tasks.jobs
+countable g c = c.attempt.ensures.kept.countable (subst (λ (z : Tasks). AreCountable z.jobs) (sym c.give_turn.ensures.tables) c.requires.countable)
 
 pub returns-in-None-clause-row : goal.returns-in-None-clause-row
 returns-in-None-clause-row g c = λ known s m t says h. chooses_one known c.args.machine.now s m t h (c.in-None.ensures.choice h.plan s h.ordered h.stands.tables)
@@ -82,7 +86,7 @@ returns-in-Ok-Made-clause-present g c = λ known s m t says h.
     known s m t says h c.args.backing.now c.attempt.new.backing c.attempt.ensures.quiet c.advance.result c.advance.new.machine c.advance.new.paper c.advance.ensures.advances
 
 pub returns-in-Ok-Made-clause-countable : goal.returns-in-Ok-Made-clause-countable
-returns-in-Ok-Made-clause-countable g c = c.advance.ensures.countable c.attempt.ensures.countable
+returns-in-Ok-Made-clause-countable g c = c.advance.ensures.countable (countable g (goal.at.returns-in-Ok-Made-clause-countable g c).After-attempt)
 
 pub returns-in-Ok-Ends-clause-row : goal.returns-in-Ok-Ends-clause-row
 returns-in-Ok-Ends-clause-row g c = λ known s m t says h.
@@ -96,7 +100,7 @@ returns-in-Ok-Ends-clause-present g c = λ known s m t says h.
     known s m t says h c.args.backing.now c.attempt.new.backing c.attempt.ensures.quiet c.close.result c.close.new.machine c.close.new.paper c.close.ensures.closes
 
 pub returns-in-Ok-Ends-clause-countable : goal.returns-in-Ok-Ends-clause-countable
-returns-in-Ok-Ends-clause-countable g c = c.close.ensures.countable c.attempt.ensures.countable
+returns-in-Ok-Ends-clause-countable g c = c.close.ensures.countable (countable g (goal.at.returns-in-Ok-Ends-clause-countable g c).After-attempt)
 
 pub returns-in-Err-clause-row : goal.returns-in-Err-clause-row
 returns-in-Err-clause-row g c = λ known s m t says h.
@@ -106,3 +110,9 @@ pub returns-in-Err-clause-present : goal.returns-in-Err-clause-present
 returns-in-Err-clause-present g c = λ known s m t says h.
     stop_present c.in-Err.stop (tries_as c.attempt.result (Err c.in-Err.stop) c.in-Err.is (context g (goal.at.returns-in-Err-clause-present g c).After-attempt)) known s m t says h
     c.args.backing.now c.attempt.new.backing c.attempt.ensures.quiet
+
+pub returns-in-Err-clause-countable : goal.returns-in-Err-clause-countable
+returns-in-Err-clause-countable g c = countable g (goal.at.returns-in-Err-clause-countable g c).After-attempt
+
+pub returns-in-Err-clause-causes : goal.returns-in-Err-clause-causes
+returns-in-Err-clause-causes g c = caused_stop g.B.Backing.faults g.K.Sink.faults c.args.backing.now c.attempt.new.backing c.args.paper.now c.attempt.new.paper c.in-Err.stop c.in-Err.ensures.causes
