@@ -27,9 +27,9 @@ use Rattle.b67_mcp.specs.declared.ends.CallEnd.TheVariants as ends
 use Rattle.b67_mcp.specs.declared.ends.Stop.{Stop}
 use Rattle.b67_mcp.specs.declared.ends.Stop.TheVariants as stops
 
--- the intrinsics that are built
+-- the intrinsics that are built: not 12 to 16
 abbrev pub IsBuilt : ℕ → Type 0
-IsBuilt n = n < 12
+IsBuilt n = (n < 12) ⊎ (16 < n)
 
 -- the operator calls no intrinsic, or one that is built
 abbrev pub CallsBuilt : SessionJob → Task → Type 0

@@ -1,11 +1,13 @@
 //! The call of an intrinsic by the running task.
 #![tactic(auto)]
 
+mod deallocate;
 mod declare;
 mod ends;
 mod print;
 mod print_row;
 mod read;
+mod resize;
 mod running;
 
 ghost use Rattle.std.specs.Prelude.{◌≡◌, ◌+◌, length};
@@ -14,10 +16,12 @@ ghost use Rattle.b67_mcp.specs.Called.{CallsSome, CallMeets, CallTouches, CallWr
 ghost use Rattle.b67_mcp.specs.Answers.{end_of};
 ghost use Rattle.b67_mcp.specs.Running.{ForCalls, CallCauses, Kept};
 
+use crate::deallocate::deallocate;
 use crate::declare::declare;
 use crate::print::print;
 use crate::print_row::print_row;
 use crate::read::read;
+use crate::resize::resize;
 use b67_backing::Backing;
 use b67_io::Sink;
 use b67_task_tables::Machine;
@@ -34,8 +38,8 @@ fn silent(done: Result<(), Fault>) -> CallEnd
     }
 }
 
-/// Makes the call of an intrinsic at which the running task stands: ARRAYDEC, PRINT, PRINTROW or READ by their rows; the
-/// others aren't built: `Unbuilt`, with nothing changed.
+/// Makes the call of an intrinsic at which the running task stands: ARRAYDEC, PRINT, PRINTROW, READ, DEALLOCATE or RESIZE
+/// by their rows; the others aren't built: `Unbuilt`, with nothing changed.
 ///
 /// Where its row prints, what isn't printed yet of its text (past the first `printed` bytes) is taken by the printer before
 /// anything is changed, and `printed` is then 0. `PrintFault`, with nothing changed but that `printed` is raised by the
@@ -67,6 +71,8 @@ pub fn intrinsic<B: Backing, K: Sink>(
         9 => print(machine, paper),
         10 => print_row(machine, paper),
         11 => Ok(silent(read(machine))),
+        17 => Ok(silent(deallocate(machine))),
+        18 => resize(machine, backing),
         _ => Err(Stop::Unbuilt),
     }
 }

@@ -1,9 +1,11 @@
-//! The intrinsics on the running stack: PRINT, READ, ARRAYDEC, PRINTROW, and the call that is cut or answered.
+//! The intrinsics on the running stack: PRINT, READ, ARRAYDEC, PRINTROW, DEALLOCATE, RESIZE, and the call that is cut or
+//! answered.
 #![tactic(auto)]
 
 mod answer;
 mod calls;
 mod declare;
+mod lengths;
 mod only;
 mod print;
 mod read;
@@ -14,6 +16,7 @@ mod whole;
 pub use answer::answer_call;
 pub use calls::cut_call;
 pub use declare::{answer_array, array_length};
+pub use lengths::{Resizing, array_to_empty, array_to_resize};
 pub use print::print_value;
 pub use read::read_number;
 pub use row::{Found, row_to_print};

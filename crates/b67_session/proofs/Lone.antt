@@ -88,7 +88,7 @@ module _ (s : Session) (m : SessionJob) (t : Task) (single : IsSingle s m t) whe
 
     pub kept : CallsBuilt m t → (job : Job) (printed : List Line) (touched : Option ℕ) → step m.constants m.progress.job t ≡ Ok (Goes job printed touched) → Keeps job
     unfolding step
-    kept built job printed touched e = kept_by (reading_of m.constants t) refl (λ n called. inl (built n called)) job printed touched e
+    kept built job printed touched e = kept_by (reading_of m.constants t) refl built job printed touched e
 
 -- the chosen task is the one that there is
 pub record Chose (plan : Placement) (tasks : Tasks) (m : SessionJob) (t : Task) (c : Chosen) : Type 0 where

@@ -1,5 +1,5 @@
 -- A step that was made, or ends its task, needs no more words than core has.
-use Rattle.std.proofs.Common.{◌≡◌, ◌≢◌, ℕ, ◌+◌, ◌<◌, ◌≤◌, List, [], ◌∷◌, reverse, length, Option, Some, None, Ok, Err, refl, sym, ◌∙◌, ap, arith, subst, inl}
+use Rattle.std.proofs.Common.{◌≡◌, ◌≢◌, ℕ, ◌+◌, ◌<◌, ◌≤◌, List, [], ◌∷◌, reverse, length, Option, Some, None, Ok, Err, refl, sym, ◌∙◌, ap, arith, subst}
 use Rattle.std.proofs.lemmas.Option.{none-some}
 use Rattle.b67_word.specs.declared.faults.Fault.{Fault}
 use Rattle.b67_word.specs.declared.couples.Place.{Place}
@@ -129,7 +129,7 @@ module _ (x : Storage) (told : Option (List (List ℕ))) (plan : Placement) (s :
 
     -- and for the call of an intrinsic
     pub call_fits : (k : Machine) (n : ℕ) → MachineRepresents x told k plan s → code_area x plan m t ≢ None → called_in m t ≡ Some n → CallsBuilt m t → TouchesPresent x plan m t → need (length k.cpu.core) s m t ≤ length k.cpu.core
-    call_fits k n h code called built touches = step_fits k o h runs code touches (call_starts m t n (calling m t n called) (inl (built n called)))
+    call_fits k n h code called built touches = step_fits k o h runs code touches (call_starts m t n (calling m t n called) (built n called))
 
     pub fault_fits : (k : Machine) (fault : Fault) → MachineRepresents x told k plan s → code_area x plan m t ≢ None → step m.constants m.progress.job t ≡ Err fault → TouchesPresent x plan m t → need (length k.cpu.core) s m t ≤ length k.cpu.core
     fault_fits k fault h code is touches = step_fits k o h runs code touches (ap (started_by m.progress.job) is)

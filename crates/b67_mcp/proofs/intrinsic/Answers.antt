@@ -1,8 +1,8 @@
-use Rattle.std.proofs.Common.{ℕ, List, Option, Some, Ok, refl, sym, ◌∙◌, ap, arith, subst}
+use Rattle.std.proofs.Common.{ℕ, List, Option, Some, Ok, refl, sym, ◌∙◌, ap, arith, subst, inl, ⊎_elim}
 use Rattle.b67_mcp.specs.declared.ends.CallEnd.{CallEnd}
 use Rattle.b67_mcp.specs.Called.{CallMeets, CallTouches}
 use Rattle.b67_mcp.proofs.Built.{built_of}
-use Rattle.b67_mcp.proofs.Low.{from_eight}
+use Rattle.b67_mcp.proofs.Low.{numbered}
 use Rattle.b67_mcp.proofs.Quiet.{silent_meets}
 use Rattle.b67_mcp.proofs.Told.{told_is}
 use Rattle.b67_mcp.proofs.Callings.{calling}
@@ -15,7 +15,7 @@ returns-in-8-clause-row g c = λ x told plan s m t o h runs code called says.
     let M : CallEnd → Option (List (List ℕ)) → Type 0 = λ e d. CallMeets g.K.Sink.taken d (B.size c.args.backing.now) x plan s m t c.args.n (Ok e) c.args.machine.now c.declare.new.machine c.args.paper.now c.args.paper.now in
     subst (M c.silent.result) (sym (told_is told (B.holds c.args.backing.now) says))
     (subst (λ e. M e told) (sym c.silent.ensures)
-    (silent_meets g.K.Sink.taken c.args.paper.now x told (B.size c.args.backing.now) plan s m t c.args.n c.declare.result c.args.machine.now c.declare.new.machine (built_of m t c.args.n called (omega (arith, c.in-8.is))) (c.declare.ensures.row x told plan s m t o h runs code (called ∙ ap Some c.in-8.is))))
+    (silent_meets g.K.Sink.taken c.args.paper.now x told (B.size c.args.backing.now) plan s m t c.args.n c.declare.result c.args.machine.now c.declare.new.machine (built_of m t c.args.n called (inl (omega (arith, c.in-8.is)))) (c.declare.ensures.row x told plan s m t o h runs code (called ∙ ap Some c.in-8.is))))
 
 pub returns-in-9-clause-row : goal.returns-in-9-clause-row
 returns-in-9-clause-row g c = λ x told plan s m t o h runs code called says.
@@ -37,10 +37,12 @@ returns-in-11-clause-row g c = λ x told plan s m t o h runs code called says.
     let M : CallEnd → Option (List (List ℕ)) → Type 0 = λ e d. CallMeets g.K.Sink.taken d (B.size c.args.backing.now) x plan s m t c.args.n (Ok e) c.args.machine.now c.read.new.machine c.args.paper.now c.args.paper.now in
     subst (M c.silent-in-11.result) (sym (told_is told (B.holds c.args.backing.now) says))
     (subst (λ e. M e told) (sym c.silent-in-11.ensures)
-    (silent_meets g.K.Sink.taken c.args.paper.now x told (B.size c.args.backing.now) plan s m t c.args.n c.read.result c.args.machine.now c.read.new.machine (built_of m t c.args.n called (omega (arith, c.in-11.is))) (c.read.ensures.row x told plan s m t o h runs code (called ∙ ap Some c.in-11.is))))
+    (silent_meets g.K.Sink.taken c.args.paper.now x told (B.size c.args.backing.now) plan s m t c.args.n c.read.result c.args.machine.now c.read.new.machine (built_of m t c.args.n called (inl (omega (arith, c.in-11.is)))) (c.read.ensures.row x told plan s m t o h runs code (called ∙ ap Some c.in-11.is))))
 
 pub returns-in_default-clause-row : goal.returns-in_default-clause-row
-returns-in_default-clause-row g c = λ x told plan s m t o h runs code called says. (λ built. omega (arith, built, from_eight plan s m t c.args.n o runs called), refl, refl)
+returns-in_default-clause-row g c = λ x told plan s m t o h runs code called says.
+    let between = numbered plan s m t c.args.n o runs called in
+    (λ built. ⊎_elim (λ low. omega (arith, low, between.0)) (λ high. omega (arith, high, between.1)) built, refl, refl)
 
 pub returns-in-8-clause-present : goal.returns-in-8-clause-present
 returns-in-8-clause-present g c = λ x told plan s m t o h runs code called.

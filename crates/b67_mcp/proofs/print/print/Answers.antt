@@ -1,4 +1,4 @@
-use Rattle.std.proofs.Common.{ℤ, refl, ◌∙◌, [], ◌∷◌, None, subst, rules, w64, SFits, arith}
+use Rattle.std.proofs.Common.{inl, ℤ, refl, ◌∙◌, [], ◌∷◌, None, subst, rules, w64, SFits, arith}
 use Rattle.std.proofs.lemmas.Int.{to_z-of_z}
 use Rattle.b67_session_lines.specs.Parts.{TookRest, TookMore}
 use Rattle.b67_mcp.specs.Called.{printed_text}
@@ -46,7 +46,7 @@ returns-in-Ok-say_value-clause-row g c = λ x told plan s m t o h runs code call
       printed = Value c.in-Ok.value ∷ [];
       touched = None;
       is = k.is ∙ r.0 k.next;
-      built = built_of m t 9 called (omega arith);
+      built = built_of m t 9 called (inl (omega arith));
       storage = x;
       plan = plan;
       stands = c.cut.ensures.stands x told plan s m t o h runs code r.1 k.next (Plain Entr, k.reading);

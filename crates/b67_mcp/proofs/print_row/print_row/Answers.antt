@@ -1,4 +1,4 @@
-use Rattle.std.proofs.Common.{[], ◌∷◌, Some, Ok, refl, ◌∙◌, ap, subst, arith}
+use Rattle.std.proofs.Common.{inl, [], ◌∷◌, Some, Ok, refl, ◌∙◌, ap, subst, arith}
 use Rattle.b67_model.specs.declared.operators.Op.TheVariants.{Plain}
 use Rattle.b67_model.specs.declared.operators.Code.TheVariants.{Entr}
 use Rattle.b67_model.specs.Steps.{Values, Goes}
@@ -64,7 +64,7 @@ returns-in-Ok-say_words-clause-row g c = λ x told plan s m t o h runs code call
       printed = Values row.values ∷ [];
       touched = Some row.array;
       is = k.is ∙ row.makes k.next;
-      built = built_of m t 10 called (omega arith);
+      built = built_of m t 10 called (inl (omega arith));
       storage = x;
       plan = plan;
       stands = c.cut.ensures.stands x told plan s m t o h runs code row.may k.next (Plain Entr, k.reading);
