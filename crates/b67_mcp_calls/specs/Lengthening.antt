@@ -12,8 +12,8 @@ use Rattle.b67_stack.specs.Represents.{Storage}
 use Rattle.b67_layout.specs.Placement.{Placement}
 use Rattle.b67_layout.specs.Meets.{here, area_held}
 use Rattle.b67_mcp_calls.specs.Calls.{MayCut}
-use Rattle.b67_mcp_calls.specs.declared.lengths.Resizing.{Resizing}
-use Rattle.b67_mcp_calls.specs.declared.lengths.Resizing.TheVariants as resizing
+use Rattle.b67_mcp_calls.specs.declared.resize.Resizing.{Resizing}
+use Rattle.b67_mcp_calls.specs.declared.resize.Resizing.TheVariants as resizing
 
 -- a writable array of the job, whose original has this address
 pub record IsWritable (plan : Placement) (m : SessionJob) (original : ℕ) : Type 0 where

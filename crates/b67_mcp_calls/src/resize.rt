@@ -40,7 +40,8 @@ pub fn array_to_empty(cpu: &Cpu) -> Result<u32, Fault>
         Ok(original) => original,
         Err(fault) => return Err(fault),
     };
-    if array_descriptor(cpu, original).read_only {
+    let desc = array_descriptor(cpu, original);
+    if desc.read_only {
         return Err(Fault::MemoryProtect);
     }
     if is_critical(cpu) {
