@@ -2,6 +2,8 @@
 use Rattle.std.specs.Prelude.{◌≡◌, ◌≢◌, ℕ, ◌+◌, ◌<◌, ◌⊎◌, true, List, [], length, Option, None, Result, Ok, Err}
 use Rattle.b67_lemmas.specs.Lists.{Has}
 use Rattle.b67_backing.specs.Held.{sectors_for}
+use Rattle.b67_backing.specs.declared.refusals.SpaceFault.{SpaceFault}
+use Rattle.b67_backing.specs.declared.refusals.SpaceFault.TheVariants as space
 use Rattle.b67_model.specs.State.{Array, Task, Job, SessionJob}
 use Rattle.b67_model.specs.Steps.{Goes}
 use Rattle.b67_model.specs.Arrays.{with_array, resized}
@@ -9,6 +11,7 @@ use Rattle.b67_model.specs.Sectors.{sectors}
 use Rattle.b67_model.specs.Rows.{step}
 use Rattle.b67_model.specs.Schedule.{Session}
 use Rattle.b67_stack.specs.Represents.{Storage}
+use Rattle.b67_layout.specs.Orders.{IsInOrderButCounts}
 use Rattle.b67_layout.specs.Placement.{Placement}
 use Rattle.b67_layout.specs.Meets.{with_job, area_held}
 use Rattle.b67_task_tables.specs.declared.tables.Machine.{Machine}
@@ -35,8 +38,20 @@ pub record HasArray (k : Machine) (original words : ℕ) : Type 0 where
 -- for each such session and array
 abbrev pub ForArrays : Machine → ℕ → ℕ → (Storage → Option (List (List ℕ)) → Placement → Session → SessionJob → Array → Type 0) → Type 0
 ForArrays k original words P =
-    ForEachRun k (λ x told plan s m t. (a : Array) → Has m.progress.job.arrays a → original ≡ plan.home m.constants.number a.identity → length a.numbers ≡ words → area_held x plan m.constants.number a.identity ≢ None
-    → P x told plan s m a)
+    ForEachRun k (λ x told plan s m t. (a : Array) → Has m.progress.job.arrays a → original ≡ plan.home m.constants.number a.identity → a.writable ≡ true → length a.numbers ≡ words
+    → area_held x plan m.constants.number a.identity ≢ None → P x told plan s m a)
+
+-- so many sectors are those of each session in order that the machine stands for, where an array of so many words gets so many
+abbrev pub SumsTo : Machine → ℕ → ℕ → ℕ → Type 0
+SumsTo k before after sum =
+    (x : Storage) (told : Option (List (List ℕ))) (plan : Placement) (s : Session) → IsInOrderButCounts s → MachineRepresents x told k plan s
+    → sum + sectors_for before ≡ sectors s.jobs + sectors_for after
+
+-- the stop for a want of space there: where sectors are missing, with that sum and the number of the device's
+abbrev pub StopsAt : Machine → ℕ → ℕ → SpaceFault → Stop → Type 0
+StopsAt k before after (space.BackingFull wants free) stop = (sum : ℕ) × (count : ℕ) × (stop ≡ stops.BackingFull sum count) × SumsTo k before after sum × (count + 1 ≡ length k.sectors.links)
+StopsAt k before after space.BackingFault stop = stop ≡ stops.BackingFault
+StopsAt k before after (space.NoCore words size) stop = ⊥
 
 -- the session in which an array has another length
 abbrev pub session_resized : Session → SessionJob → Array → ℕ → Session

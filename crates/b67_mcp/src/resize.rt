@@ -1,13 +1,15 @@
 //! RESIZE.
 
-ghost use Rattle.std.specs.Prelude.{◌≡◌, ◌≢◌, ◌+◌, ◌^◌, ◌<◌, ◌≤◌, Ok, Err, length};
+ghost use Rattle.std.specs.Prelude.{◌≡◌, ◌≢◌, ℕ, ◌+◌, ◌^◌, ◌<◌, ◌≤◌, Ok, Err, length};
 ghost use Rattle.b67_io.specs.Causes.{Rose};
 ghost use Rattle.b67_backing.specs.Held.{sectors_for};
+ghost use Rattle.b67_backing.specs.declared.refusals.SpaceFault.TheVariants.{NoCore};
 ghost use Rattle.b67_layout_storage.specs.Machine.{Says, DeviceAfterCalls, content_after};
 ghost use Rattle.b67_mcp.specs.Called.{CallsSome, CallTouches, CallWrites};
-ghost use Rattle.b67_mcp.specs.Resizing.{HasArray, ForArrays, LengthSet, ResizeAnswers};
+ghost use Rattle.b67_mcp.specs.Resizing.{HasArray, ForArrays, StopsAt, LengthSet, ResizeAnswers};
 ghost use Rattle.b67_mcp.specs.Running.{ForCalls, Kept};
 ghost use Rattle.b67_mcp.specs.declared.ends.Stop.TheVariants.{BackingFault, PrintFault};
+ghost use Rattle.b67_task_need.specs.Needing.{StandsInOrder};
 
 use crate::running::next_place;
 use crate::{CallEnd, Stop};
@@ -20,9 +22,29 @@ use b67_task_tables::Machine;
 
 /// The sectors that so many words take.
 fn sectors_of(words: u32) -> u32
+    requires { words < 2 ^ 16 }
     ensures { result ≡ sectors_for words }
 {
-    words.div_ceil(30)
+    (words + 29) / 30
+}
+
+/// The stop for a want of space, where an array of so many words was to get more: with the sectors that the session would
+/// take, and those of the device, where too few are free.
+fn stopped(machine: &Machine, fault: SpaceFault, before: u32, after: u32) -> Stop
+    requires stands { StandsInOrder machine.now }
+    requires space { (need core : ℕ) → fault ≢ NoCore need core }
+    requires more { before ≤ after }
+    requires few { after < 2 ^ 16 }
+    ensures { StopsAt machine.now before after fault result }
+{
+    match fault {
+        SpaceFault::BackingFull { .. } => Stop::BackingFull {
+            sum: sector_sum(machine) + sectors_of(after) - sectors_of(before),
+            sectors: machine.sectors.count(),
+        },
+        SpaceFault::BackingFault => Stop::BackingFault,
+        SpaceFault::NoCore { .. } => unreachable!(),
+    }
 }
 
 /// Gives a present array, whose original has this address, another length. A longer one is left absent, with zeros after its
@@ -42,6 +64,7 @@ fn set_length<B: Backing>(
         → LengthSet (content_after told (B.holds backing.new)) (B.size backing.old) x plan s m a after result machine.old machine.new) }
     ensures quiet { after ≤ before → (result ≡ Ok tt) × (backing.new ≡ backing.old) }
     ensures cause { result ≡ Err BackingFault → Rose B.faults backing.old backing.new }
+    ensures silent { result ≢ Err PrintFault }
     ensures kept { Kept machine.old machine.new }
     ensures device { DeviceAfterCalls B.holds B.size B.calls B.faults backing.old backing.new }
 {
@@ -67,12 +90,7 @@ fn set_length<B: Backing>(
         after,
     ) {
         Ok(()) => Ok(()),
-        Err(SpaceFault::BackingFull { .. }) => Err(Stop::BackingFull {
-            sum: sector_sum(machine) + sectors_of(after) - sectors_of(before),
-            sectors: machine.sectors.count(),
-        }),
-        Err(SpaceFault::BackingFault) => Err(Stop::BackingFault),
-        Err(SpaceFault::NoCore { .. }) => unreachable!(),
+        Err(fault) => Err(stopped(machine, fault, before, after)),
     }
 }
 
