@@ -31,7 +31,7 @@ use Rattle.b67_exec_cells.proofs.Replaced.{array_object-has}
 use Rattle.b67_presence.proofs.FullDevice.{short_full, within}
 use Rattle.b67_task_tables.specs.declared.tables.Machine.{Machine}
 use Rattle.b67_task_tables.specs.Tables.{MachineRepresents}
-use Rattle.b67_task_tables.specs.Runs.{Keeps}
+use Rattle.b67_task_need.specs.Needing.{StandsInOrder}
 use Rattle.b67_mcp_lengths.specs.Lengths.{IsArray, zeroed, cut_to, grown_to, emptied, shorter, OthersStay, LengthenMeets, IsLackingFor}
 use Rattle.b67_mcp.specs.declared.ends.Stop.{Stop}
 use Rattle.b67_mcp.specs.declared.ends.Stop.TheVariants as stops
@@ -227,3 +227,10 @@ module _ (x : Storage) (told : Option (List (List ℕ))) (k : Machine) (plan : P
           let S : Stop → Type 0 = λ z. LengthSet (content_after told now) count x plan s m a words (Err z) k new in
           subst S (sym is) (record { storage = y; stands = left y others view; others = others.others; tables = refl })
       set_refused before (space.NoCore need core) stop e up size l is writable = absurd is
+
+      -- the machine stands for some session then
+      pub stands_after : (fault : SpaceFault) → LengthenMeets x (machine_view plan s.jobs) (array_object plan m.constants.number a) words (Err fault) cpu areas table now → StandsInOrder (record { cpu = cpu; areas = areas; sectors = table; tasks = k.tasks })
+      stands_after (space.BackingFull wants free) (y, others, view, lacking) =
+          record { storage = y; told = content_after told now; plan = plan; session = s; ordered = o; stands = left y others view }
+      stands_after space.BackingFault (y, others, view) = record { storage = y; told = content_after told now; plan = plan; session = s; ordered = o; stands = left y others view }
+      stands_after (space.NoCore need core) l = absurd l
