@@ -94,8 +94,8 @@ module _ (x : Storage) (told : Option (List (List ℕ))) (k : Machine) (plan : P
   abbrev pub objects_zeroed : List PagedObject
   objects_zeroed = flat_map (objects_of plan) (with_job s m (with_array m.progress.job a.identity all_zero)).jobs
 
-  zeros_long : length (replicate (length a.numbers) 0) ≡ length a.numbers
-  zeros_long = length-replicate (length a.numbers) 0
+  zeros_long : length {A = ℕ} (replicate (length a.numbers) 0) ≡ length a.numbers
+  zeros_long = length-replicate {A = ℕ} (length a.numbers) 0
 
   pub zero_place : TakesPlace (machine_view plan s.jobs).objects (flat_map (objects_of plan) (with_job s m (with_array m.progress.job a.identity all_zero)).jobs) (array_object plan m.constants.number a) (zeroed (array_object plan m.constants.number a))
   zero_place = takes x told k plan s h m t o runs a among all_zero zeros_renumber (omega (arith, zeros_long, few_numbers.0)) (omega (arith, zeros_long, few_numbers.1))

@@ -41,7 +41,7 @@ resized_same n xs e = resized_cut n xs (omega (arith, e)) ∙ take_all n xs (ome
 pub length_resized : (n : ℕ) (xs : List ℕ) → length (take n xs ++ replicate (n - length xs) 0) ≡ n
 length_resized n xs = ⊎_elim
     (λ (low : n < length xs). ap length (resized_cut n xs (omega (arith, low))) ∙ length-take-le n xs (omega (arith, low)))
-    (λ (up : length xs ≤ n). (let count = length-append xs (replicate (n - length xs) 0) in let zeros = length-replicate (n - length xs) 0 in ap length (resized_grown n xs up) ∙ omega (arith, count, zeros, up)))
+    (λ (up : length xs ≤ n). (let count = length-append xs (replicate (n - length xs) 0) in let zeros = length-replicate {A = ℕ} (n - length xs) 0 in ap length (resized_grown n xs up) ∙ omega (arith, count, zeros, up)))
     (cases_lt n (length xs))
 
 -- another job in a session
