@@ -1,9 +1,10 @@
-use Rattle.std.proofs.Common.{ℕ, List, Option, Some, Ok, refl, sym, ◌∙◌, ap, arith, subst, inl, ⊎_elim}
+use Rattle.std.proofs.Common.{ℕ, List, Option, Some, Ok, refl, sym, ◌∙◌, ap, arith, subst, inl, inr, ⊎_elim}
+use Rattle.b67_layout_storage.specs.Machine.{content_after}
 use Rattle.b67_mcp.specs.declared.ends.CallEnd.{CallEnd}
 use Rattle.b67_mcp.specs.Called.{CallMeets, CallTouches}
 use Rattle.b67_mcp.proofs.Built.{built_of}
 use Rattle.b67_mcp.proofs.Low.{numbered}
-use Rattle.b67_mcp.proofs.Quiet.{silent_meets}
+use Rattle.b67_mcp.proofs.Quiet.{silent_meets, resize_meets}
 use Rattle.b67_mcp.proofs.Told.{told_is}
 use Rattle.b67_mcp.proofs.Callings.{calling}
 use Rattle.b67_mcp.proofs.Present.{silent_untouched}
@@ -67,3 +68,32 @@ returns-in-9-clause-causes g c = record { printer = c.print.ensures.cause; devic
 
 pub returns-in-10-clause-causes : goal.returns-in-10-clause-causes
 returns-in-10-clause-causes g c = record { printer = c.print_row.ensures.cause; device = λ e. absurd (c.print_row.ensures.stops e) }
+
+pub returns-in-17-clause-row : goal.returns-in-17-clause-row
+returns-in-17-clause-row g c = λ x told plan s m t o h runs code called says.
+    let B = g.B.Backing in
+    let M : CallEnd → Option (List (List ℕ)) → Type 0 = λ e d. CallMeets g.K.Sink.taken d (B.size c.args.backing.now) x plan s m t c.args.n (Ok e) c.args.machine.now c.deallocate.new.machine c.args.paper.now c.args.paper.now in
+    subst (M c.silent-in-17.result) (sym (told_is told (B.holds c.args.backing.now) says))
+    (subst (λ e. M e told) (sym c.silent-in-17.ensures)
+    (silent_meets g.K.Sink.taken c.args.paper.now x told (B.size c.args.backing.now) plan s m t c.args.n c.deallocate.result c.args.machine.now c.deallocate.new.machine (built_of m t c.args.n called (inr (omega (arith, c.in-17.is)))) (c.deallocate.ensures.row x told plan s m t o h runs code (called ∙ ap Some c.in-17.is))))
+
+pub returns-in-17-clause-present : goal.returns-in-17-clause-present
+returns-in-17-clause-present g c = λ x told plan s m t o h runs code called.
+    (let P : CallEnd → Type 0 = λ e. CallTouches x plan m t (Ok e) in
+    let k = calling m t 17 (called ∙ ap Some c.in-17.is) in
+    subst P (sym c.silent-in-17.ensures) (silent_untouched m t x plan 17 (λ e. absurd cc) k told s c.args.machine.now c.deallocate.new.machine c.deallocate.result (c.deallocate.ensures.row x told plan s m t o h runs code (called ∙ ap Some c.in-17.is))))
+
+pub returns-in-18-clause-row : goal.returns-in-18-clause-row
+returns-in-18-clause-row g c = λ x told plan s m t o h runs code called says.
+    let B = g.B.Backing in
+    resize_meets g.K.Sink.taken c.args.paper.now x (content_after told (B.holds c.resize.new.backing)) (B.size c.args.backing.now) plan s m t c.args.n c.resize.result c.args.machine.now c.resize.new.machine
+    (built_of m t c.args.n called (inr (omega (arith, c.in-18.is)))) (c.resize.ensures.row x told plan s m t o h runs code (called ∙ ap Some c.in-18.is) says)
+
+pub returns-in-18-clause-present : goal.returns-in-18-clause-present
+returns-in-18-clause-present g c = λ x told plan s m t o h runs code called. c.resize.ensures.present x told plan s m t o h runs code (called ∙ ap Some c.in-18.is)
+
+pub returns-in-18-clause-quiet : goal.returns-in-18-clause-quiet
+returns-in-18-clause-quiet g c = λ x told plan s m t o h runs code called none. c.resize.ensures.quiet x told plan s m t o h runs code (called ∙ ap Some c.in-18.is) none
+
+pub returns-in-18-clause-causes : goal.returns-in-18-clause-causes
+returns-in-18-clause-causes g c = record { printer = record { later = omega arith; failed = λ e. absurd (c.resize.ensures.silent e) }; device = c.resize.ensures.cause }
