@@ -1,6 +1,7 @@
 pub mod Areas
 pub mod Space
 pub mod FittingMade
+pub mod Untold
 pub mod Trying
 pub mod Started
 pub mod Calls

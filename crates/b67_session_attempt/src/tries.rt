@@ -41,7 +41,7 @@ pub fn try_once<B: Backing, K: Sink>(
     requires same { B.size backing.old + 1 ≡ length machine.old.sectors.links }
     ensures row { ForEachReady machine.old (λ x told plan s m t. Says told (B.holds backing.old)
         → TryMeets K.taken (content_after told (B.holds backing.new)) (B.size backing.old) x plan s m t result machine.old machine.new paper.old paper.new) }
-    ensures fits { ForEachReady machine.old (λ x told plan s m t. Says told (B.holds backing.old) → TryFits (length machine.old.cpu.core) s m t result) }
+    ensures fits { ForEachReady machine.old (λ x told plan s m t. TryFits (length machine.old.cpu.core) s m t result) }
     ensures quiet { ForEachReady machine.old (λ x told plan s m t. (TryWrites x plan m t result → ⊥) → backing.new ≡ backing.old) }
     ensures causes { CallCauses B.faults K.faults backing.old backing.new paper.old paper.new result }
     ensures countable { AreCountable machine.new.tasks.jobs }
