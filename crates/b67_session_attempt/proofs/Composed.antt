@@ -30,8 +30,8 @@ use Rattle.b67_session_attempt.specs.declared.attempts.Attempt.TheVariants as at
 use Rattle.b67_session_attempt.specs.declared.tries.Tried.{Tried}
 use Rattle.b67_session_attempt.specs.declared.tries.Tried.TheVariants as tries
 use Rattle.b67_session_attempt.specs.Tries.{IsTouched, TryMeets, TryFits, TryWrites}
-use Rattle.b67_session_attempt.specs.Attempts.{RunsOver, ForEachOver, StillStands, StandsLacking, AttemptMeets, Attempts, AttemptFits, TablesStay}
-use Rattle.b67_session_attempt.specs.Brought.{WantsNothing, StopMeets, Stopped, BroughtFits}
+use Rattle.b67_session_attempt.specs.Attempts.{RunsOver, ForEachOver, StillStands, StandsLacking, AttemptMeets, Attempts, AttemptFits, TablesStay, WantsNothing}
+use Rattle.b67_session_attempt.specs.Brought.{StopMeets, Stopped, BroughtFits}
 
 abbrev Told : Type 0
 Told = Option (List (List ℕ))

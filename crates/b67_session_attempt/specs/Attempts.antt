@@ -46,6 +46,11 @@ ForEachOver k told P =
 abbrev pub StillStands : Option (List (List ℕ)) → Machine → Placement → Session → Type 0
 StillStands told k plan s = (x : Storage) × MachineRepresents x told k plan s
 
+-- the running segment and the array that the step touches are in core
+pub record WantsNothing (x : Storage) (plan : Placement) (m : SessionJob) (t : Task) : Type 0 where
+  pub code : code_area x plan m t ≢ None
+  pub array : (a : ℕ) → touched_of m.constants m.progress.job t (step m.constants m.progress.job t) ≡ Some a → area_held x plan m.constants.number a ≢ None
+
 -- the running segment is absent, or the array that the step touches is, or the step makes an array longer
 abbrev pub IsLacking : Storage → Placement → SessionJob → Task → Type 0
 IsLacking x plan m t =
@@ -57,8 +62,8 @@ IsLacking x plan m t =
 abbrev pub TakesSectors : Session → SessionJob → Task → ℕ → Type 0
 TakesSectors s m t sum = (sum ≡ sectors s.jobs) ⊎ ((l : Lengthens m t) × (sum ≡ sectors (with_job s m l.job).jobs))
 
--- the machine stands for the session, whose next step lacks its segment or its array, or makes it longer; it needs no more words than core has,
--- or its segment is absent. `exact` is as below
+-- the machine stands for the session, whose next step lacks its segment or its array, or makes it longer; it needs no more
+-- words than core has, or its segment is absent. `exact` is as below
 pub record StandsLacking (exact : Type 0) (told : Option (List (List ℕ))) (core : ℕ) (k : Machine) (plan : Placement) (s : Session) (m : SessionJob) (t : Task) : Type 0 where
   pub storage : Storage
   pub stands : MachineRepresents storage told k plan s
@@ -105,6 +110,13 @@ AttemptFits core x plan s m t (Err stops.PrintFault) = need core s m t ≤ core
 AttemptFits core x plan s m t (Err (stops.BackingFull sum size)) = code_area x plan m t ≢ None → need core s m t ≤ core
 AttemptFits core x plan s m t (Err stops.BackingFault) = code_area x plan m t ≢ None → need core s m t ≤ core
 AttemptFits core x plan s m t (Err stop) = Unit {0}
+
+-- What an attempt answers and leaves. Over a device that tells what its sectors hold, core has room as said. Where nothing is
+-- wanted, and no array becomes longer, the device isn't called
+pub record AttemptRow {D K : Type 0} (taken : K → Option (List ℕ)) (x : Storage) (told : Option (List (List ℕ))) (core count before : ℕ) (plan : Placement) (s : Session) (m : SessionJob) (t : Task) (answered : Result Attempt Stop) (new : Machine) (device device' : D) (paper paper' : K) : Type 0 where
+  pub meets : Attempts taken x told core count before plan s t answered new paper paper'
+  pub fits : x.device ≢ None → AttemptFits core x plan s m t answered
+  pub quiet : WantsNothing x plan m t → (Lengthens m t → ⊥) → device' ≡ device
 
 -- the tables are as they were but where the operator was made; after a printer's failure it is counted how much is printed
 abbrev pub TablesStay : Result Attempt Stop → Tasks → Tasks → Type 0

@@ -3,11 +3,9 @@
 ghost use Rattle.std.specs.Prelude.{◌≡◌, ◌≢◌, ◌+◌, None, length};
 ghost use Rattle.b67_layout_storage.specs.Machine.{DeviceAfterCalls, content_after};
 ghost use Rattle.b67_exec_cells.specs.Running.{code_area};
-ghost use Rattle.b67_task_tables.specs.Shortage.{Lengthens};
 ghost use Rattle.b67_mcp.specs.Called.{AreCountable};
 ghost use Rattle.b67_mcp.specs.Running.{CallCauses, Kept};
-ghost use Rattle.b67_session_attempt.specs.Brought.{WantsNothing};
-ghost use Rattle.b67_session_attempt.specs.Attempts.{RunsOver, ForEachOver, Attempts, AttemptFits, TablesStay};
+ghost use Rattle.b67_session_attempt.specs.Attempts.{RunsOver, ForEachOver, WantsNothing, Attempts, AttemptFits, AttemptRow, TablesStay};
 
 use crate::attempts::Attempt;
 use crate::bringing::bring_wanted;
@@ -96,9 +94,8 @@ pub fn attempt<B: Backing, K: Sink>(
     requires countable { AreCountable machine.old.tasks.jobs }
     requires same { B.size backing.old + 1 ≡ length machine.old.sectors.links }
     ensures row { ForEachOver machine.old (B.holds backing.old) (λ x plan s m t.
-        Attempts K.taken x (content_after x.device (B.holds backing.new)) (length machine.old.cpu.core) (B.size backing.old) machine.old.tasks.printed plan s t result machine.new paper.old paper.new) }
-    ensures fits { ForEachOver machine.old (B.holds backing.old) (λ x plan s m t. x.device ≢ None → AttemptFits (length machine.old.cpu.core) x plan s m t result) }
-    ensures quiet { ForEachOver machine.old (B.holds backing.old) (λ x plan s m t. WantsNothing x plan m t → (Lengthens m t → ⊥) → backing.new ≡ backing.old) }
+        AttemptRow K.taken x (content_after x.device (B.holds backing.new)) (length machine.old.cpu.core) (B.size backing.old) machine.old.tasks.printed plan s m t result machine.new
+        backing.old backing.new paper.old paper.new) }
     ensures causes { CallCauses B.faults K.faults backing.old backing.new paper.old paper.new result }
     ensures kept { Kept machine.old machine.new }
     ensures tables { TablesStay result machine.old.tasks machine.new.tasks }

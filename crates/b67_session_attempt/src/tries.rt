@@ -5,13 +5,13 @@ ghost use Rattle.b67_layout_storage.specs.Machine.{Says, DeviceAfterCalls, conte
 ghost use Rattle.b67_task_tables.specs.Runs.{Keeps};
 ghost use Rattle.b67_mcp.specs.Called.{AreCountable};
 ghost use Rattle.b67_mcp.specs.Running.{CallCauses};
-ghost use Rattle.b67_session_attempt.specs.Makes.{ForEachReady};
+ghost use Rattle.b67_session_make.specs.Makes.{ForEachReady};
 ghost use Rattle.b67_session_attempt.specs.Tries.{ReadyRuns, TryMeets, TryFits, TryWrites};
 
-use crate::making::make;
 use b67_backing::Backing;
 use b67_io::Sink;
 use b67_mcp::{CallEnd, Stop, intrinsic};
+use b67_session_make::make;
 use b67_stack::{Step, What};
 use b67_task_tables::Machine;
 use b67_word::Ending;
@@ -41,7 +41,7 @@ pub fn try_once<B: Backing, K: Sink>(
     requires same { B.size backing.old + 1 ≡ length machine.old.sectors.links }
     ensures row { ForEachReady machine.old (λ x told plan s m t. Says told (B.holds backing.old)
         → TryMeets K.taken (content_after told (B.holds backing.new)) (B.size backing.old) x plan s m t result machine.old machine.new paper.old paper.new) }
-    ensures fits { ForEachReady machine.old (λ x told plan s m t. Says told (B.holds backing.old) → TryFits (length machine.old.cpu.core) s m t result) }
+    ensures fits { ForEachReady machine.old (λ x told plan s m t. TryFits (length machine.old.cpu.core) s m t result) }
     ensures quiet { ForEachReady machine.old (λ x told plan s m t. (TryWrites x plan m t result → ⊥) → backing.new ≡ backing.old) }
     ensures causes { CallCauses B.faults K.faults backing.old backing.new paper.old paper.new result }
     ensures countable { AreCountable machine.new.tasks.jobs }

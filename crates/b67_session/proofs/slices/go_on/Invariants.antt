@@ -3,7 +3,7 @@ use Rattle.b67_model.specs.State.{Task, SessionJob}
 use Rattle.b67_model.specs.Schedule.{Session}
 use Rattle.b67_layout_storage.specs.Machine.{Says, DeviceAfterCalls, content_after}
 use Rattle.b67_session_attempt.specs.Passed.{AreCountable, Lengthens}
-use Rattle.b67_session_attempt.specs.Brought.{WantsNothing}
+use Rattle.b67_session_attempt.specs.Attempts.{WantsNothing}
 use Rattle.b67_session.specs.Slices.{IsLone, Keeps}
 use Rattle.b67_session.proofs.Going.{Going}
 use Rattle.b67_session.proofs.slices.go_on.Given as goal

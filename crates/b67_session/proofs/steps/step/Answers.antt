@@ -11,7 +11,7 @@ use Rattle.b67_session.proofs.steps.step.Goals.{After-attempt}
 use Rattle.b67_session.proofs.steps.step.Goals as goal
 
 -- a task has the turn, and its operator was tried
-context : (g : Over) (c : After-attempt g) → Tries g.K.Sink.taken (g.B.Backing.holds c.args.backing.now) (g.B.Backing.holds c.attempt.new.backing) (g.B.Backing.size c.args.backing.now) c.args.machine.now c.in-Some.chosen c.give_turn.new.machine c.attempt.result c.attempt.new.machine c.args.paper.now c.attempt.new.paper
+context : (g : Over) (c : After-attempt g) → Tries g.K.Sink.taken (g.B.Backing.holds c.args.backing.now) (g.B.Backing.holds c.attempt.new.backing) (g.B.Backing.size c.args.backing.now) c.args.machine.now c.in-Some.chosen c.give_turn.new.machine c.attempt.result c.attempt.new.machine c.args.backing.now c.attempt.new.backing c.args.paper.now c.attempt.new.paper
 context g c = record {
   chooses = c.in-Some.ensures.choice;
   counts = c.in-Some.ensures.room;
@@ -19,7 +19,6 @@ context g c = record {
   tables = c.give_turn.ensures.tables;
   core = c.give_turn.ensures.len;
   row = c.attempt.ensures.row;
-  room = c.attempt.ensures.fits;
   stay = c.attempt.ensures.tables;
   halt = c.attempt.ensures.kept.keeps.halt;
 }
@@ -83,7 +82,7 @@ returns-in-Ok-Made-clause-row g c = λ known s m t says h.
 pub returns-in-Ok-Made-clause-present : goal.returns-in-Ok-Made-clause-present
 returns-in-Ok-Made-clause-present g c = λ known s m t says h.
     made_present (tries_as c.attempt.result (Ok attempts.Made) (c.in-Ok-Made.is ∙ ap (λ (z : Attempt). Ok z) c.in-Ok-Made.field-0-is) (context g (goal.at.returns-in-Ok-Made-clause-present g c).After-attempt))
-    known s m t says h c.args.backing.now c.attempt.new.backing c.attempt.ensures.quiet c.advance.result c.advance.new.machine c.advance.new.paper c.advance.ensures.advances
+    known s m t says h c.advance.result c.advance.new.machine c.advance.new.paper c.advance.ensures.advances
 
 pub returns-in-Ok-Made-clause-countable : goal.returns-in-Ok-Made-clause-countable
 returns-in-Ok-Made-clause-countable g c = c.advance.ensures.countable (countable g (goal.at.returns-in-Ok-Made-clause-countable g c).After-attempt)
@@ -97,7 +96,7 @@ returns-in-Ok-Ends-clause-row g c = λ known s m t says h.
 pub returns-in-Ok-Ends-clause-present : goal.returns-in-Ok-Ends-clause-present
 returns-in-Ok-Ends-clause-present g c = λ known s m t says h.
     ends_present c.in-Ok-Ends.ending (tries_as c.attempt.result (Ok (attempts.Ends c.in-Ok-Ends.ending)) (c.in-Ok-Ends.is ∙ ap (λ (z : Attempt). Ok z) c.in-Ok-Ends.field-0-is) (context g (goal.at.returns-in-Ok-Ends-clause-present g c).After-attempt))
-    known s m t says h c.args.backing.now c.attempt.new.backing c.attempt.ensures.quiet c.close.result c.close.new.machine c.close.new.paper c.close.ensures.closes
+    known s m t says h c.close.result c.close.new.machine c.close.new.paper c.close.ensures.closes
 
 pub returns-in-Ok-Ends-clause-countable : goal.returns-in-Ok-Ends-clause-countable
 returns-in-Ok-Ends-clause-countable g c = c.close.ensures.countable (countable g (goal.at.returns-in-Ok-Ends-clause-countable g c).After-attempt)
@@ -109,7 +108,6 @@ returns-in-Err-clause-row g c = λ known s m t says h.
 pub returns-in-Err-clause-present : goal.returns-in-Err-clause-present
 returns-in-Err-clause-present g c = λ known s m t says h.
     stop_present c.in-Err.stop (tries_as c.attempt.result (Err c.in-Err.stop) c.in-Err.is (context g (goal.at.returns-in-Err-clause-present g c).After-attempt)) known s m t says h
-    c.args.backing.now c.attempt.new.backing c.attempt.ensures.quiet
 
 pub returns-in-Err-clause-countable : goal.returns-in-Err-clause-countable
 returns-in-Err-clause-countable g c = countable g (goal.at.returns-in-Err-clause-countable g c).After-attempt

@@ -33,21 +33,35 @@ with_code-requires-clause-runs g c =
 pub returns-in-Ok-Made-clause-row : goal.returns-in-Ok-Made-clause-row
 returns-in-Ok-Made-clause-row g c = λ x plan s m t o h runs ready.
     let B = g.B.Backing in
-    made_once B.holds g.K.Sink.taken c.args.backing.now c.try_once.new.backing x (length c.args.machine.now.cpu.core) (B.size c.args.backing.now) plan s m t o runs c.args.machine.now c.try_once.new.machine h c.args.paper.now c.try_once.new.paper
-    ((rw c.in-Ok-Made.field-0-is at c.in-Ok-Made.ensures.row) x x.device plan s m t o h.stands runs ready h.says)
+    record {
+      meets = made_once B.holds g.K.Sink.taken c.args.backing.now c.try_once.new.backing x (length c.args.machine.now.cpu.core) (B.size c.args.backing.now) plan s m t o runs c.args.machine.now c.try_once.new.machine h c.args.paper.now c.try_once.new.paper
+          ((rw c.in-Ok-Made.field-0-is at c.in-Ok-Made.ensures.row) x x.device plan s m t o h.stands runs ready h.says);
+      fits = λ tells. (rw c.in-Ok-Made.field-0-is at c.in-Ok-Made.ensures.fits) x x.device plan s m t o h.stands runs ready;
+      quiet = λ nothing same. (rw c.in-Ok-Made.field-0-is at c.in-Ok-Made.ensures.quiet) x x.device plan s m t o h.stands runs ready (λ w. same w.0);
+    }
 
 pub returns-in-Ok-Ends-clause-row : goal.returns-in-Ok-Ends-clause-row
 returns-in-Ok-Ends-clause-row g c = λ x plan s m t o h runs ready.
     let B = g.B.Backing in
-    ends_once B.holds g.K.Sink.taken c.args.backing.now c.try_once.new.backing x (length c.args.machine.now.cpu.core) (B.size c.args.backing.now) plan s m t o runs c.args.machine.now c.try_once.new.machine h c.args.paper.now c.try_once.new.paper c.in-Ok-Ends.ending
-    ((rw c.in-Ok-Ends.field-0-is at c.in-Ok-Ends.ensures.quiet) x x.device plan s m t o h.stands runs ready (λ w. w))
-    ((rw c.in-Ok-Ends.field-0-is at c.in-Ok-Ends.ensures.row) x x.device plan s m t o h.stands runs ready h.says)
+    let quiet = (rw c.in-Ok-Ends.field-0-is at c.in-Ok-Ends.ensures.quiet) x x.device plan s m t o h.stands runs ready (λ w. w) in
+    record {
+      meets = ends_once B.holds g.K.Sink.taken c.args.backing.now c.try_once.new.backing x (length c.args.machine.now.cpu.core) (B.size c.args.backing.now) plan s m t o runs c.args.machine.now c.try_once.new.machine h c.args.paper.now c.try_once.new.paper c.in-Ok-Ends.ending
+          quiet ((rw c.in-Ok-Ends.field-0-is at c.in-Ok-Ends.ensures.row) x x.device plan s m t o h.stands runs ready h.says);
+      fits = λ tells. (rw c.in-Ok-Ends.field-0-is at c.in-Ok-Ends.ensures.fits) x x.device plan s m t o h.stands runs ready;
+      quiet = λ nothing same. quiet;
+    }
 
 pub returns-in-Err-clause-row : goal.returns-in-Err-clause-row
 returns-in-Err-clause-row g c = λ x plan s m t o h runs ready.
     let B = g.B.Backing in
-    stops_once B.holds g.K.Sink.taken c.args.backing.now c.try_once.new.backing x (length c.args.machine.now.cpu.core) (B.size c.args.backing.now) plan s m t o runs c.args.machine.now c.try_once.new.machine h c.args.paper.now c.try_once.new.paper c.in-Err.stop
-    (c.in-Err.ensures.quiet x x.device plan s m t o h.stands runs ready) (c.in-Err.ensures.fits x x.device plan s m t o h.stands runs ready h.says) (c.in-Err.ensures.row x x.device plan s m t o h.stands runs ready h.says)
+    let quiet = c.in-Err.ensures.quiet x x.device plan s m t o h.stands runs ready in
+    let fits = c.in-Err.ensures.fits x x.device plan s m t o h.stands runs ready in
+    record {
+      meets = stops_once B.holds g.K.Sink.taken c.args.backing.now c.try_once.new.backing x (length c.args.machine.now.cpu.core) (B.size c.args.backing.now) plan s m t o runs c.args.machine.now c.try_once.new.machine h c.args.paper.now c.try_once.new.paper c.in-Err.stop
+          quiet fits (c.in-Err.ensures.row x x.device plan s m t o h.stands runs ready h.says);
+      fits = λ tells. room_after_stop (length c.args.machine.now.cpu.core) x plan s m t c.in-Err.stop fits;
+      quiet = λ nothing same. quiet (λ w. same (stop_longer x plan m t c.in-Err.stop w));
+    }
 
 pub returns-in-Err-bring_wanted-clause-row : goal.returns-in-Err-bring_wanted-clause-row
 returns-in-Err-bring_wanted-clause-row g c = λ x plan s m t o h runs ready.
@@ -59,9 +73,15 @@ returns-in-Err-bring_wanted-clause-row g c = λ x plan s m t o h runs ready.
     let printed = c.args.machine.now.tasks.printed in
     let size = length c.try_once.new.machine.cpu.core in
     let many = B.size c.try_once.new.backing in
-    attempt_as g.K.Sink.taken x after after size (length c.args.machine.now.cpu.core) many (B.size c.args.backing.now) printed printed plan s t (Err c.in-Err-bring_wanted.stop) c.bring_wanted.new.machine
-    c.args.paper.now c.try_once.new.paper c.try_once.new.paper refl (ap (λ (z : Machine). length z.cpu.core) w.3) (ap B.size same) refl w.4
-    (stopped_attempt g.K.Sink.taken x after size many printed plan s t c.in-Err-bring_wanted.stop c.bring_wanted.new.machine c.try_once.new.paper (c.in-Err-bring_wanted.ensures.row x plan s m t w.0 o k runs w.1 w.2))
+    let core = ap (λ (z : Machine). length z.cpu.core) w.3 in
+    record {
+      meets = attempt_as g.K.Sink.taken x after after size (length c.args.machine.now.cpu.core) many (B.size c.args.backing.now) printed printed plan s t (Err c.in-Err-bring_wanted.stop) c.bring_wanted.new.machine
+          c.args.paper.now c.try_once.new.paper c.try_once.new.paper refl core (ap B.size same) refl w.4
+          (stopped_attempt g.K.Sink.taken x after size many printed plan s t c.in-Err-bring_wanted.stop c.bring_wanted.new.machine c.try_once.new.paper (c.in-Err-bring_wanted.ensures.row x plan s m t w.0 o k runs w.1 w.2));
+      fits = λ tells. room_after_want (length c.args.machine.now.cpu.core) size x plan s m t c.in-Err-bring_wanted.stop core
+          (λ e. c.in-Err-bring_wanted.ensures.silent (ap Err e)) (c.in-Err-bring_wanted.ensures.fits x plan s m t w.0 o k runs w.1 w.2);
+      quiet = λ nothing same. absurd (never g.K.Sink.taken (content_after x.device (B.holds c.try_once.new.backing)) (B.size c.args.backing.now) x plan s m t c.args.machine.now c.try_once.new.machine c.args.paper.now c.try_once.new.paper c.in-Ok-Absent.wanted nothing w);
+    }
 
 pub returns-in-Ok-clause-row : goal.returns-in-Ok-clause-row
 returns-in-Ok-clause-row g c = λ x plan s m t o h runs ready.
@@ -77,48 +97,18 @@ returns-in-Ok-clause-row g c = λ x plan s m t o h runs ready.
     let b = c.in-Ok.ensures.row x plan s m t w.0 o k runs w.1 w.2 in
     let printed = ap (λ (z : Tasks). z.printed) c.bring_wanted.ensures.tasks ∙ ap (λ (z : Machine). z.tasks.printed) w.3 in
     let tells = goes_on_telling x.device mid told' k.says (still_tells B.holds B.size B.calls B.faults c.try_once.new.backing c.bring_wanted.new.backing c.bring_wanted.ensures.device) in
-    then_on g.K.Sink.taken x told' (B.holds c.with_code.new.backing) new c.with_code.new.machine (length c.args.machine.now.cpu.core) (B.size c.args.backing.now) c.args.machine.now.tasks.printed plan s m t o runs found b ready
-    tells c.with_code.result c.args.paper.now c.try_once.new.paper c.with_code.new.paper w.4 printed (length new.cpu.core) (B.size c.bring_wanted.new.backing)
-    (c.bring_wanted.ensures.len ∙ ap (λ (z : Machine). length z.cpu.core) w.3) (c.bring_wanted.ensures.device.size ∙ ap B.size same)
-    (λ y p n u. code_area y p n u ≢ None) (code_there x told' new plan s m t o runs found b) c.with_code.ensures.row
-
-pub returns-in-Ok-Made-clause-fits : goal.returns-in-Ok-Made-clause-fits
-returns-in-Ok-Made-clause-fits g c = λ x plan s m t o h runs ready tells. (rw c.in-Ok-Made.field-0-is at c.in-Ok-Made.ensures.fits) x x.device plan s m t o h.stands runs ready h.says
-
-pub returns-in-Ok-Ends-clause-fits : goal.returns-in-Ok-Ends-clause-fits
-returns-in-Ok-Ends-clause-fits g c = λ x plan s m t o h runs ready tells. (rw c.in-Ok-Ends.field-0-is at c.in-Ok-Ends.ensures.fits) x x.device plan s m t o h.stands runs ready h.says
-
-pub returns-in-Err-clause-fits : goal.returns-in-Err-clause-fits
-returns-in-Err-clause-fits g c = λ x plan s m t o h runs ready tells.
-    room_after_stop (length c.args.machine.now.cpu.core) x plan s m t c.in-Err.stop (c.in-Err.ensures.fits x x.device plan s m t o h.stands runs ready h.says)
-
-pub returns-in-Err-bring_wanted-clause-fits : goal.returns-in-Err-bring_wanted-clause-fits
-returns-in-Err-bring_wanted-clause-fits g c = λ x plan s m t o h runs ready tells.
-    let B = g.B.Backing in
-    let same = (rw c.in-Ok-Absent.field-0-is at c.in-Ok-Absent.ensures.quiet) x x.device plan s m t o h.stands runs ready (λ w. w) in
-    let w = (rw c.in-Ok-Absent.field-0-is at c.in-Ok-Absent.ensures.row) x x.device plan s m t o h.stands runs ready h.says in
-    let k = unchanged_over x (B.holds c.args.backing.now) (B.holds c.try_once.new.backing) plan s c.args.machine.now c.try_once.new.machine w.3 (ap B.holds same) h in
-    room_after_want (length c.args.machine.now.cpu.core) (length c.try_once.new.machine.cpu.core) x plan s m t c.in-Err-bring_wanted.stop (ap (λ (z : Machine). length z.cpu.core) w.3)
-    (λ e. c.in-Err-bring_wanted.ensures.silent (ap Err e)) (c.in-Err-bring_wanted.ensures.fits x plan s m t w.0 o k runs w.1 w.2)
-
-pub returns-in-Ok-clause-fits : goal.returns-in-Ok-clause-fits
-returns-in-Ok-clause-fits g c = λ x plan s m t o h runs ready exact.
-    let B = g.B.Backing in
-    let mid = B.holds c.try_once.new.backing in
-    let told' = B.holds c.bring_wanted.new.backing in
-    let new = c.bring_wanted.new.machine in
-    let found = c.in-Ok-Absent.wanted in
-    let same = (rw c.in-Ok-Absent.field-0-is at c.in-Ok-Absent.ensures.quiet) x x.device plan s m t o h.stands runs ready (λ w. w) in
-    let w = (rw c.in-Ok-Absent.field-0-is at c.in-Ok-Absent.ensures.row) x x.device plan s m t o h.stands runs ready h.says in
-    let k = unchanged_over x (B.holds c.args.backing.now) mid plan s c.args.machine.now c.try_once.new.machine w.3 (ap B.holds same) h in
-    let b = c.in-Ok.ensures.row x plan s m t w.0 o k runs w.1 w.2 in
-    let tells = goes_on_telling x.device mid told' k.says (still_tells B.holds B.size B.calls B.faults c.try_once.new.backing c.bring_wanted.new.backing c.bring_wanted.ensures.device) in
-    let still = still_told x told' new plan s m t o runs found b exact tells in
+    let core = c.bring_wanted.ensures.len ∙ ap (λ (z : Machine). length z.cpu.core) w.3 in
     let r = other x told' new plan s m t o runs found b in
-    let ordered = in_order x told' new plan s m t o runs found b in
-    same_needs x told' new plan s m t o runs found b exact tells (length new.cpu.core) (length c.args.machine.now.cpu.core) c.with_code.result
-    (c.bring_wanted.ensures.len ∙ ap (λ (z : Machine). length z.cpu.core) w.3)
-    (c.with_code.ensures.fits b.again.storage plan (record s { jobs = b.again.jobs }) r.member t ordered b.again.stands r.runs ready (code_there x told' new plan s m t o runs found b) still)
+    let code = code_there x told' new plan s m t o runs found b in
+    record {
+      meets = then_on g.K.Sink.taken x told' (B.holds c.with_code.new.backing) new c.with_code.new.machine (length c.args.machine.now.cpu.core) (B.size c.args.backing.now) c.args.machine.now.tasks.printed plan s m t o runs found b ready
+          tells c.with_code.result c.args.paper.now c.try_once.new.paper c.with_code.new.paper w.4 printed (length new.cpu.core) (B.size c.bring_wanted.new.backing) core (c.bring_wanted.ensures.device.size ∙ ap B.size same)
+          (λ y p n u. code_area y p n u ≢ None) code c.with_code.ensures.row;
+      fits = λ exact. same_needs x told' new plan s m t o runs found b exact tells (length new.cpu.core) (length c.args.machine.now.cpu.core) c.with_code.result core
+          (c.with_code.ensures.fits b.again.storage plan (record s { jobs = b.again.jobs }) r.member t (in_order x told' new plan s m t o runs found b) b.again.stands r.runs ready code
+          (still_told x told' new plan s m t o runs found b exact tells));
+      quiet = λ nothing same. absurd (never g.K.Sink.taken (content_after x.device mid) (B.size c.args.backing.now) x plan s m t c.args.machine.now c.try_once.new.machine c.args.paper.now c.try_once.new.paper found nothing w);
+    }
 
 pub returns-in-Ok-Made-clause-causes : goal.returns-in-Ok-Made-clause-causes
 returns-in-Ok-Made-clause-causes g c = caused_none g.B.Backing.faults g.K.Sink.faults c.args.backing.now c.try_once.new.backing c.args.paper.now c.try_once.new.paper Made c.try_once.ensures.causes.printer.later
@@ -169,25 +159,6 @@ returns-in-Ok-clause-tables g c =
     let same = tables_after_want g.K.Sink.taken (content_after r.storage.device (B.holds c.try_once.new.backing)) (B.size c.args.backing.now) r.storage r.plan r.session r.member r.task c.args.machine.now c.try_once.new.machine c.args.paper.now c.try_once.new.paper c.in-Ok-Absent.wanted
     ((rw c.in-Ok-Absent.field-0-is at c.in-Ok-Absent.ensures.row) r.storage r.storage.device r.plan r.session r.member r.task r.ordered r.stands.stands r.running r.ready r.stands.says) in
     tables_from c.with_code.result c.args.machine.now.tasks c.bring_wanted.new.machine.tasks c.with_code.new.machine.tasks (c.bring_wanted.ensures.tasks ∙ same) c.with_code.ensures.tables
-
-pub returns-in-Ok-Made-clause-quiet : goal.returns-in-Ok-Made-clause-quiet
-returns-in-Ok-Made-clause-quiet g c = λ x plan s m t o h runs ready nothing same. (rw c.in-Ok-Made.field-0-is at c.in-Ok-Made.ensures.quiet) x x.device plan s m t o h.stands runs ready (λ w. same w.0)
-
-pub returns-in-Ok-Ends-clause-quiet : goal.returns-in-Ok-Ends-clause-quiet
-returns-in-Ok-Ends-clause-quiet g c = λ x plan s m t o h runs ready nothing same. (rw c.in-Ok-Ends.field-0-is at c.in-Ok-Ends.ensures.quiet) x x.device plan s m t o h.stands runs ready (λ w. w)
-
-pub returns-in-Err-clause-quiet : goal.returns-in-Err-clause-quiet
-returns-in-Err-clause-quiet g c = λ x plan s m t o h runs ready nothing same. c.in-Err.ensures.quiet x x.device plan s m t o h.stands runs ready (λ w. same (stop_longer x plan m t c.in-Err.stop w))
-
-pub returns-in-Ok-clause-quiet : goal.returns-in-Ok-clause-quiet
-returns-in-Ok-clause-quiet g c = λ x plan s m t o h runs ready nothing same.
-    absurd (never g.K.Sink.taken (content_after x.device (g.B.Backing.holds c.try_once.new.backing)) (g.B.Backing.size c.args.backing.now) x plan s m t c.args.machine.now c.try_once.new.machine c.args.paper.now c.try_once.new.paper c.in-Ok-Absent.wanted nothing
-    ((rw c.in-Ok-Absent.field-0-is at c.in-Ok-Absent.ensures.row) x x.device plan s m t o h.stands runs ready h.says))
-
-pub returns-in-Err-bring_wanted-clause-quiet : goal.returns-in-Err-bring_wanted-clause-quiet
-returns-in-Err-bring_wanted-clause-quiet g c = λ x plan s m t o h runs ready nothing same.
-    absurd (never g.K.Sink.taken (content_after x.device (g.B.Backing.holds c.try_once.new.backing)) (g.B.Backing.size c.args.backing.now) x plan s m t c.args.machine.now c.try_once.new.machine c.args.paper.now c.try_once.new.paper c.in-Ok-Absent.wanted nothing
-    ((rw c.in-Ok-Absent.field-0-is at c.in-Ok-Absent.ensures.row) x x.device plan s m t o h.stands runs ready h.says))
 
 pub returns-in-Err-bring_wanted-clause-kept : goal.returns-in-Err-bring_wanted-clause-kept
 returns-in-Err-bring_wanted-clause-kept g c = kept_then c.args.machine.now c.try_once.new.machine c.bring_wanted.new.machine (record { countable = λ k. c.try_once.ensures.countable; keeps = c.try_once.ensures.keeps }) (kept_tasks c.try_once.new.machine c.bring_wanted.new.machine c.bring_wanted.ensures.tasks c.bring_wanted.ensures.len c.bring_wanted.ensures.count)

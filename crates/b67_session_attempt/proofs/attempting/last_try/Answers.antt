@@ -34,13 +34,13 @@ pub returns-in-Err-clause-row : goal.returns-in-Err-clause-row
 returns-in-Err-clause-row g c = λ x plan s m t o h runs ready none.
     let B = g.B.Backing in
     stops_once B.holds g.K.Sink.taken c.args.backing.now c.try_once.new.backing x (length c.args.machine.now.cpu.core) (B.size c.args.backing.now) plan s m t o runs c.args.machine.now c.try_once.new.machine h c.args.paper.now c.try_once.new.paper c.in-Err.stop
-    (c.in-Err.ensures.quiet x x.device plan s m t o h.stands runs ready) (c.in-Err.ensures.fits x x.device plan s m t o h.stands runs ready h.says) (c.in-Err.ensures.row x x.device plan s m t o h.stands runs ready h.says)
+    (c.in-Err.ensures.quiet x x.device plan s m t o h.stands runs ready) (c.in-Err.ensures.fits x x.device plan s m t o h.stands runs ready) (c.in-Err.ensures.row x x.device plan s m t o h.stands runs ready h.says)
 
 pub returns-in-Ok-Made-clause-fits : goal.returns-in-Ok-Made-clause-fits
-returns-in-Ok-Made-clause-fits g c = λ x plan s m t o h runs ready none. (rw c.in-Ok-Made.field-0-is at c.in-Ok-Made.ensures.fits) x x.device plan s m t o h.stands runs ready h.says
+returns-in-Ok-Made-clause-fits g c = λ x plan s m t o h runs ready none. (rw c.in-Ok-Made.field-0-is at c.in-Ok-Made.ensures.fits) x x.device plan s m t o h.stands runs ready
 
 pub returns-in-Ok-Ends-clause-fits : goal.returns-in-Ok-Ends-clause-fits
-returns-in-Ok-Ends-clause-fits g c = λ x plan s m t o h runs ready none. (rw c.in-Ok-Ends.field-0-is at c.in-Ok-Ends.ensures.fits) x x.device plan s m t o h.stands runs ready h.says
+returns-in-Ok-Ends-clause-fits g c = λ x plan s m t o h runs ready none. (rw c.in-Ok-Ends.field-0-is at c.in-Ok-Ends.ensures.fits) x x.device plan s m t o h.stands runs ready
 
 pub returns-in-Ok-Absent-clause-fits : goal.returns-in-Ok-Absent-clause-fits
 returns-in-Ok-Absent-clause-fits g c = λ x plan s m t o h runs ready none.
@@ -50,7 +50,7 @@ returns-in-Ok-Absent-clause-fits g c = λ x plan s m t o h runs ready none.
 
 pub returns-in-Err-clause-fits : goal.returns-in-Err-clause-fits
 returns-in-Err-clause-fits g c = λ x plan s m t o h runs ready none.
-    room_after_stop (length c.args.machine.now.cpu.core) x plan s m t c.in-Err.stop (c.in-Err.ensures.fits x x.device plan s m t o h.stands runs ready h.says)
+    room_after_stop (length c.args.machine.now.cpu.core) x plan s m t c.in-Err.stop (c.in-Err.ensures.fits x x.device plan s m t o h.stands runs ready)
 
 pub returns-in-Ok-Made-clause-causes : goal.returns-in-Ok-Made-clause-causes
 returns-in-Ok-Made-clause-causes g c = caused_none g.B.Backing.faults g.K.Sink.faults c.args.backing.now c.try_once.new.backing c.args.paper.now c.try_once.new.paper Made c.try_once.ensures.causes.printer.later

@@ -4,7 +4,7 @@ use Rattle.b67_layout_storage.proofs.Devices.{still_tells, Served-then}
 use Rattle.b67_task_tables.specs.declared.tables.Machine.{Machine}
 use Rattle.b67_task_tables.specs.declared.tables.Tasks.{Tasks}
 use Rattle.b67_session_attempt.specs.declared.attempts.Attempt.TheVariants.{Made, Ends}
-use Rattle.b67_session_attempt.specs.Brought.{WantsNothing}
+use Rattle.b67_session_attempt.specs.Attempts.{WantsNothing}
 use Rattle.b67_session_attempt.proofs.Composed.{made_once, ends_once, stops_once, unchanged_over, goes_on_telling, stopped_attempt, runs_over, wants_some, tables_after_end, tables_after_want, tables_after_stop, tables_stay, tables_from, room_after_stop, attempt_as, same_needs, still_told, other, in_order, then_on, room_after_want, wants_nothing}
 use Rattle.b67_session_attempt.proofs.Runs.{ready_over, caused_none, caused_stop, caused_want, caused_later, kept_then, kept_tasks}
 use Rattle.b67_session_attempt.proofs.attempting.with_code.Goals as goal
@@ -47,7 +47,7 @@ pub returns-in-Err-clause-row : goal.returns-in-Err-clause-row
 returns-in-Err-clause-row g c = λ x plan s m t o h runs ready code.
     let B = g.B.Backing in
     stops_once B.holds g.K.Sink.taken c.args.backing.now c.try_once.new.backing x (length c.args.machine.now.cpu.core) (B.size c.args.backing.now) plan s m t o runs c.args.machine.now c.try_once.new.machine h c.args.paper.now c.try_once.new.paper c.in-Err.stop
-    (c.in-Err.ensures.quiet x x.device plan s m t o h.stands runs ready) (c.in-Err.ensures.fits x x.device plan s m t o h.stands runs ready h.says) (c.in-Err.ensures.row x x.device plan s m t o h.stands runs ready h.says)
+    (c.in-Err.ensures.quiet x x.device plan s m t o h.stands runs ready) (c.in-Err.ensures.fits x x.device plan s m t o h.stands runs ready) (c.in-Err.ensures.row x x.device plan s m t o h.stands runs ready h.says)
 
 pub returns-in-Err-bring_wanted-clause-row : goal.returns-in-Err-bring_wanted-clause-row
 returns-in-Err-bring_wanted-clause-row g c = λ x plan s m t o h runs ready code.
@@ -83,14 +83,14 @@ returns-in-Ok-clause-row g c = λ x plan s m t o h runs ready code.
     (λ y p n u. y.device ≢ None → WantsNothing y p n u) (wants_nothing x told' new plan s m t o runs found b w.0 code w.1 w.2) c.last_try.ensures.row
 
 pub returns-in-Ok-Made-clause-fits : goal.returns-in-Ok-Made-clause-fits
-returns-in-Ok-Made-clause-fits g c = λ x plan s m t o h runs ready code tells. (rw c.in-Ok-Made.field-0-is at c.in-Ok-Made.ensures.fits) x x.device plan s m t o h.stands runs ready h.says
+returns-in-Ok-Made-clause-fits g c = λ x plan s m t o h runs ready code tells. (rw c.in-Ok-Made.field-0-is at c.in-Ok-Made.ensures.fits) x x.device plan s m t o h.stands runs ready
 
 pub returns-in-Ok-Ends-clause-fits : goal.returns-in-Ok-Ends-clause-fits
-returns-in-Ok-Ends-clause-fits g c = λ x plan s m t o h runs ready code tells. (rw c.in-Ok-Ends.field-0-is at c.in-Ok-Ends.ensures.fits) x x.device plan s m t o h.stands runs ready h.says
+returns-in-Ok-Ends-clause-fits g c = λ x plan s m t o h runs ready code tells. (rw c.in-Ok-Ends.field-0-is at c.in-Ok-Ends.ensures.fits) x x.device plan s m t o h.stands runs ready
 
 pub returns-in-Err-clause-fits : goal.returns-in-Err-clause-fits
 returns-in-Err-clause-fits g c = λ x plan s m t o h runs ready code tells.
-    room_after_stop (length c.args.machine.now.cpu.core) x plan s m t c.in-Err.stop (c.in-Err.ensures.fits x x.device plan s m t o h.stands runs ready h.says)
+    room_after_stop (length c.args.machine.now.cpu.core) x plan s m t c.in-Err.stop (c.in-Err.ensures.fits x x.device plan s m t o h.stands runs ready)
 
 pub returns-in-Err-bring_wanted-clause-fits : goal.returns-in-Err-bring_wanted-clause-fits
 returns-in-Err-bring_wanted-clause-fits g c = λ x plan s m t o h runs ready code tells.

@@ -1,8 +1,9 @@
-use Rattle.std.proofs.Common.{◌∙◌, ◌≡◌, ℕ, List, length, Option, Err, sym, subst, refl}
+use Rattle.std.proofs.Common.{◌∙◌, ◌≡◌, ℕ, List, length, Option, None, Err, sym, subst, refl}
 use Rattle.b67_model.specs.Schedule.{Session}
 use Rattle.b67_stack.specs.declared.Step.TheVariants as answers
 use Rattle.b67_stack.specs.Represents.{Storage}
 use Rattle.b67_layout_storage.specs.Machine.{content_after}
+use Rattle.b67_layout_storage.proofs.Untold.{untold}
 use Rattle.b67_layout.specs.Placement.{Placement}
 use Rattle.b67_exec_cells.specs.Running.{code_area}
 use Rattle.b67_task_tables.specs.declared.tables.Machine.{Machine}
@@ -11,6 +12,7 @@ use Rattle.b67_session_attempt.specs.Tries.{TryFits}
 use Rattle.b67_mcp.specs.Called.{IsCalled}
 use Rattle.b67_mcp.proofs.Told.{told_is}
 use Rattle.b67_session_attempt.proofs.Runs.{caused_stop}
+use Rattle.b67_session_attempt.proofs.Untold.{machine_untold}
 use Rattle.b67_session_attempt.proofs.Trying.{wants_array, was_made, was_built, was_fault, was_ended, was_call, was_absent, called_made, called_so, stops_so, writes_so}
 use Rattle.b67_session_attempt.proofs.AttemptFits.{was_operator, fault_touches, leaves_touches, made_touches, operator_fits, call_fits, fault_fits, stop_fits}
 use Rattle.b67_session_attempt.proofs.tries.try_once.Goals as goal
@@ -92,7 +94,7 @@ returns-in-Err-clause-row g c = λ x told plan s m t o h runs ready says.
     stops_so g.K.Sink.taken (content_after told (g.B.Backing.holds c.intrinsic.new.backing)) (g.B.Backing.size c.args.backing.now) x plan s m t c.in-Call.n c.in-Err.stop c.args.machine.now c.make.new.machine c.intrinsic.new.machine c.args.paper.now c.intrinsic.new.paper it.1 it.2 (c.in-Err.ensures.row x told plan s m t o k runs it.0 it.1 says)
 
 pub returns-in-Done-clause-fits : goal.returns-in-Done-clause-fits
-returns-in-Done-clause-fits g c = λ x told plan s m t o h runs ready says.
+returns-in-Done-clause-fits g c = λ x told plan s m t o h runs ready.
     let old = c.args.machine.now in
     let new = c.make.new.machine in
     let row = c.in-Done.ensures.row x told plan s m t o h runs ready in
@@ -100,7 +102,7 @@ returns-in-Done-clause-fits g c = λ x told plan s m t o h runs ready says.
     operator_fits x told plan s m t o runs old h is (made_touches x told plan s m t o runs old new (was_made x told plan s m t old new (code_area x plan m t) row))
 
 pub returns-in-Fault-clause-fits : goal.returns-in-Fault-clause-fits
-returns-in-Fault-clause-fits g c = λ x told plan s m t o h runs ready says.
+returns-in-Fault-clause-fits g c = λ x told plan s m t o h runs ready.
     let old = c.args.machine.now in
     let new = c.make.new.machine in
     let row = c.in-Fault.ensures.row x told plan s m t o h runs ready in
@@ -108,7 +110,7 @@ returns-in-Fault-clause-fits g c = λ x told plan s m t o h runs ready says.
     operator_fits x told plan s m t o runs old h is (fault_touches x told plan s m t c.in-Fault.fault is.1 (was_fault x told plan s m t old new c.in-Fault.fault (code_area x plan m t) row).0)
 
 pub returns-in-Ended-clause-fits : goal.returns-in-Ended-clause-fits
-returns-in-Ended-clause-fits g c = λ x told plan s m t o h runs ready says.
+returns-in-Ended-clause-fits g c = λ x told plan s m t o h runs ready.
     let old = c.args.machine.now in
     let new = c.make.new.machine in
     let row = c.in-Ended.ensures.row x told plan s m t o h runs ready in
@@ -116,32 +118,33 @@ returns-in-Ended-clause-fits g c = λ x told plan s m t o h runs ready says.
     operator_fits x told plan s m t o runs old h is (leaves_touches x told plan s m t (was_ended x told plan s m t old new (code_area x plan m t) row).0)
 
 pub returns-in-Ok-Done-clause-fits : goal.returns-in-Ok-Done-clause-fits
-returns-in-Ok-Done-clause-fits g c = λ x told plan s m t o h runs ready says.
+returns-in-Ok-Done-clause-fits g c = λ x told plan s m t o h runs ready.
     let old = c.args.machine.now in
     let it = was_call x told plan s m t old c.make.new.machine c.in-Call.n (code_area x plan m t) refl (c.in-Call.ensures.row x told plan s m t o h runs ready) in
     let k = stays x told plan s old c.make.new.machine it.2 h in
-    let row = (rw c.in-Ok-Done.field-0-is at c.in-Ok-Done.ensures.row) x told plan s m t o k runs it.0 it.1 says in
+    let row = (rw c.in-Ok-Done.field-0-is at c.in-Ok-Done.ensures.row) (untold x) None plan s m t o (machine_untold x told c.make.new.machine plan s k) runs it.0 it.1 tt in
     let present = (rw c.in-Ok-Done.field-0-is at c.in-Ok-Done.ensures.present) x told plan s m t o k runs it.0 it.1 in
     call_fits x told plan s m t o runs old c.in-Call.n h it.0 it.1 row.built present
 
 pub returns-in-Ok-Fault-clause-fits : goal.returns-in-Ok-Fault-clause-fits
-returns-in-Ok-Fault-clause-fits g c = λ x told plan s m t o h runs ready says.
+returns-in-Ok-Fault-clause-fits g c = λ x told plan s m t o h runs ready.
     let old = c.args.machine.now in
     let it = was_call x told plan s m t old c.make.new.machine c.in-Call.n (code_area x plan m t) refl (c.in-Call.ensures.row x told plan s m t o h runs ready) in
     let k = stays x told plan s old c.make.new.machine it.2 h in
-    let row = (rw c.in-Ok-Fault.field-0-is at c.in-Ok-Fault.ensures.row) x told plan s m t o k runs it.0 it.1 says in
+    let row = (rw c.in-Ok-Fault.field-0-is at c.in-Ok-Fault.ensures.row) (untold x) None plan s m t o (machine_untold x told c.make.new.machine plan s k) runs it.0 it.1 tt in
     let present = (rw c.in-Ok-Fault.field-0-is at c.in-Ok-Fault.ensures.present) x told plan s m t o k runs it.0 it.1 in
     fault_fits x told plan s m t o runs old c.in-Ok-Fault.fault h it.0 row.0 present
 
 pub returns-in-Err-clause-fits : goal.returns-in-Err-clause-fits
-returns-in-Err-clause-fits g c = λ x told plan s m t o h runs ready says.
+returns-in-Err-clause-fits g c = λ x told plan s m t o h runs ready.
     let old = c.args.machine.now in
     let new = c.make.new.machine in
     let it = was_call x told plan s m t old new c.in-Call.n (code_area x plan m t) refl (c.in-Call.ensures.row x told plan s m t o h runs ready) in
-    let k = stays x told plan s old new it.2 h in
+    let y = untold x in
+    let k = machine_untold x told new plan s (stays x told plan s old new it.2 h) in
     let F : Machine → Type 0 = λ z. TryFits (length z.cpu.core) s m t (Err c.in-Err.stop) in
-    subst F it.2 (stop_fits x told plan s m t o runs g.K.Sink.taken (content_after told (g.B.Backing.holds c.intrinsic.new.backing)) (g.B.Backing.size c.args.backing.now) new c.intrinsic.new.machine c.args.paper.now c.intrinsic.new.paper c.in-Call.n c.in-Err.stop k it.0 it.1
-    (c.in-Err.ensures.row x told plan s m t o k runs it.0 it.1 says) (c.in-Err.ensures.present x told plan s m t o k runs it.0 it.1))
+    subst F it.2 (stop_fits y None plan s m t o runs g.K.Sink.taken None (g.B.Backing.size c.args.backing.now) new c.intrinsic.new.machine c.args.paper.now c.intrinsic.new.paper c.in-Call.n c.in-Err.stop k it.0 it.1
+    (c.in-Err.ensures.row y None plan s m t o k runs it.0 it.1 tt) (c.in-Err.ensures.present y None plan s m t o k runs it.0 it.1))
 
 pub returns-in-Ok-Done-clause-quiet : goal.returns-in-Ok-Done-clause-quiet
 returns-in-Ok-Done-clause-quiet g c = λ x told plan s m t o h runs ready none.
