@@ -32,6 +32,7 @@ use Rattle.b67_session_open.specs.Opens.{need_of, sectors_of_all, IsOpened}
 use Rattle.b67_session_open.proofs.Decks.{deck_within}
 use Rattle.b67_layout_storage.specs.Machine.{Says, DeviceAfterCalls, content_after}
 use Rattle.b67_session_open.specs.Opened.{opening_plan}
+use Rattle.b67_session.specs.Passed.{IsBuilt}
 use Rattle.b67_session.specs.Slices.{IsLone, IsOpen, Keeps, PrintsWhole, RepresentsWithoutTasks, SliceMeets, StepsFit}
 use Rattle.b67_session_lines.specs.Ends.{Ends}
 use Rattle.b67_job.specs.Device.{device_of}
@@ -65,10 +66,10 @@ has_only : {X : Type 0} (xs : List X) (x : X) → xs ≡ x ∷ [] → Has xs x
 has_only {X = X} xs x e = subst (λ (ys : List X). Has ys x) (sym e) (inl refl)
 
 pub never_unbuilt : (d : Deck) (fs : List Codefile) → DeckInRange d → AllByRecursion IsLoaded fs → AllByRecursion (λ (f : Codefile). uses_built (program_of f) ≡ true) fs
-    → (n : ℕ) (m : SessionJob) (t : Task) (k : ℕ) → IsSingle (after n (session_of d (map program_of fs))) m t → called_in m t ≡ Some k → k < 12
+    → (n : ℕ) (m : SessionJob) (t : Task) (k : ℕ) → IsSingle (after n (session_of d (map program_of fs))) m t → called_in m t ≡ Some k → IsBuilt k
 never_unbuilt d fs range loaded built n m t k single calls = by_reading (reading_of m.constants t) refl calls
   where
-    by_reading : (r : Reading) → reading_of m.constants t ≡ r → called_by m t r ≡ Some k → k < 12
+    by_reading : (r : Reading) → reading_of m.constants t ≡ r → called_by m t r ≡ Some k → IsBuilt k
     by_reading (Err why) e calls = absurd (none-some k calls)
     by_reading (Ok read) e calls =
         unbuilt_is_never_called n d.stack d.quantum (map switch_of d.switches) (openings_of d.jobs (map program_of fs)) (deck_within d fs range loaded) (all_built d.jobs fs built)

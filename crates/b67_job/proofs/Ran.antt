@@ -9,7 +9,6 @@ use Rattle.b67_io.proofs.Joined.{Took-then}
 use Rattle.b67_model_text.specs.declared.deck.Job.{Job}
 use Rattle.b67_model.specs.State.{Task, SessionJob}
 use Rattle.b67_model.specs.Need.{need}
-use Rattle.b67_model.specs.Sectors.{sectors}
 use Rattle.b67_model.specs.Lines.{run_text}
 use Rattle.b67_model.specs.Schedule.{Session}
 use Rattle.b67_model.specs.InOrder.{IsStart, IsSegment}
@@ -25,6 +24,7 @@ use Rattle.b67_single.proofs.Runs.{Came}
 use Rattle.b67_task_tables.specs.declared.tables.Machine.{Machine}
 use Rattle.b67_session.specs.declared.slices.Progress.{Progress}
 use Rattle.b67_session.specs.declared.slices.Progress.TheVariants as progress
+use Rattle.b67_session.specs.Passed.{IsBuilt}
 use Rattle.b67_session.specs.Slices.{IsLone, IsLimited, RepresentsWithoutTasks, Reaches, Prints, SliceMeets, StopsBefore}
 use Rattle.b67_session.proofs.Texts.{run_text-append}
 use Rattle.b67_session_lines.specs.Moments.{last_part, due}
@@ -101,7 +101,7 @@ untold_is (Some all) h = absurd (h (λ e. cc))
 module _ {K B : Type 0} (taken : K → Option (List ℕ)) (faults : K → ℕ) (d : Device B) (core : ℕ) (p : Prepared) (job : Job) (k : Machine) (opens : WasOpened d core p k)
     (one : p.0.jobs ≡ job ∷ []) (E : Type 0) (exact : Tells d → E) (steps : ℕ) (s : Session) (printed : List RunLine) (below_halt : (j : ℕ) → j < steps → p.0.halt ≢ Some j) (made : k.tasks.made ≡ steps)
     (leads : Tells d → Reaches (run_of p).session steps s printed) (was is : List ℕ) (due_is : Tells d → is ≡ due s) (before : ℕ) (begun : before ≡ 0)
-    (built : (m : SessionJob) (t : Task) (n : ℕ) → IsSingle (after steps (run_of p).session) m t → called_in m t ≡ Some n → n < 12) where
+    (built : (m : SessionJob) (t : Task) (n : ℕ) → IsSingle (after steps (run_of p).session) m t → called_in m t ≡ Some n → IsBuilt n) where
   abbrev first : Session
   first = (run_of p).session
 
@@ -216,12 +216,14 @@ module _ {K B : Type 0} (taken : K → Option (List ℕ)) (faults : K → ℕ) (
       (closes_then (lines_took prints begun (unprinted (λ e. cc))) later end)
   ran (Err (stops.BackingFull sum size)) old between new answer meets end prints unprinted failed rose later =
       let b = meets.0 in
-      let line : backing_full_line sum size ≡ backing_full_line (sectors s.jobs) d.sectors = ap (λ n. backing_full_line n size) meets.3 ∙ ap (λ n. backing_full_line (sectors s.jobs) n) meets.4 in
+      let line : backing_full_line sum size ≡ backing_full_line sum d.sectors = ap (λ n. backing_full_line sum n) meets.4 in
       stopped (ending (backing_full_line sum size)) (unprinted (λ e. cc))
       (step_wants_sectors refl (record {
         stop = stops_at b.member b.task b.lone;
         due = is_due b.halt;
-        exceeds = subst (λ n. d.sectors < n) meets.3 meets.5;
+        sum = sum;
+        takes = meets.3;
+        exceeds = meets.5;
         absent = record { lacks = λ tells. meets.1.lacks (exact tells); room = λ tells. meets.1.room (exact tells) };
         wants = meets.2.0;
         free = meets.2.1;
@@ -256,9 +258,7 @@ module _ {K B : Type 0} (taken : K → Option (List ℕ)) (faults : K → ℕ) (
       (code_is_strange refl (record {
         untold = untold_is d.before (λ tells.
             let c = came tells (none_due b.member b.task b.lone) in
-            let less = built b.member b.task meets.1 (subst (λ (z : Session). IsSingle z b.member b.task) (sym c.session) b.lone.single) meets.2 in
-            let more = meets.3 in
-            omega (arith, less, more));
+            meets.3 (built b.member b.task meets.1 (subst (λ (z : Session). IsSingle z b.member b.task) (sym c.session) b.lone.single) meets.2));
         job = job;
         only_job = one;
         stop = stops_at b.member b.task b.lone;

@@ -13,10 +13,10 @@ use Rattle.b67_job_admit.specs.Verdicts.{Verdict}
 use Rattle.b67_job_admit.proofs.Judged.{check_long, asm_long, convert_long}
 use Rattle.b67_model.specs.Lines.{run_text}
 use Rattle.b67_model.specs.Need.{need}
-use Rattle.b67_model.specs.Sectors.{sectors}
 use Rattle.b67_model.specs.Schedule.{Session}
 use Rattle.b67_model.specs.Run.{RunLine, live_tasks}
 use Rattle.b67_single.specs.Single.{IsSingle}
+use Rattle.b67_session.specs.Passed.{TakesSectors}
 use Rattle.b67_session_lines.specs.Stops.{IsFinished, IsHalted, halted_line}
 use Rattle.b67_session_lines.proofs.Statuses.{finished-status, halted-status}
 use Rattle.b67_job.specs.Device.{Device, Tells, Worked}
@@ -89,7 +89,9 @@ run_status_is d core p machine status text tells ample worked (opened k is opens
     let more = w.exceeds in
     absurd (omega (arith, more, less))
 run_status_is d core p machine status text tells ample worked (opened k is opens none (step_wants_sectors s w)) =
-    let less = subst (λ (z : Session). sectors z.jobs ≤ d.sectors) (sym (w.stop.comes.session tells)) (ample.sectors_suffice k.tasks.made w.due) in
+    let same = w.stop.comes.session tells in
+    let less = subst (λ (z : Session). IsSingle z w.stop.member w.stop.task → TakesSectors z w.stop.member w.stop.task w.sum → w.sum ≤ d.sectors) (sym same)
+        (ample.sectors_suffice k.tasks.made w.sum w.stop.member w.stop.task w.due) w.stop.lone.single w.takes in
     let more = w.exceeds in
     absurd (omega (arith, more, less))
 run_status_is d core p machine status text tells ample worked (opened k is opens none (step_fails s failed h)) = absurd (omega (arith, failed, worked))

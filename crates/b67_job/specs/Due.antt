@@ -7,7 +7,6 @@ use Rattle.b67_io.specs.Causes.{Rose}
 use Rattle.b67_model_text.specs.Deck.{limit}
 use Rattle.b67_model.specs.State.{Task, SessionJob}
 use Rattle.b67_model.specs.Need.{need}
-use Rattle.b67_model.specs.Sectors.{sectors}
 use Rattle.b67_model.specs.Run.{after}
 use Rattle.b67_single.specs.Single.{IsSingle}
 use Rattle.b67_task_tables.specs.declared.tables.Machine.{Machine}
@@ -19,6 +18,7 @@ use Rattle.b67_job_admit.specs.CommandMeets.{IsJudged}
 use Rattle.b67_job_admit.specs.Told.{refusal_text}
 use Rattle.b67_job_admit.specs.Verdicts.{Verdict}
 use Rattle.b67_session_lines.specs.Ends.{Ends}
+use Rattle.b67_session.specs.Passed.{TakesSectors}
 use Rattle.b67_session_lines.specs.Stops.{IsFinished, IsHalted}
 use Rattle.b67_session_open.specs.Opens.{need_of, sectors_of_all}
 use Rattle.b67_job.specs.Device.{Device, Tells, Failed, IsUntouched}
@@ -145,11 +145,12 @@ DeckEnds (Prints text) taken faults d core machine old new answer = ⊥
 
 -- ---- a run for which core and device are large enough
 
--- the session opens, and no state of its run before the halt needs more
+-- the session opens, and no step of its run before the halt needs more words of core, or sectors for the arrays that there are
+-- before it, and after it where it makes one longer
 pub record Suffices {B : Type 0} (d : Device B) (core : ℕ) (p : Prepared) : Type 0 where
   pub room : RoomSuffices d core p
   pub core_suffices : (steps : ℕ) (m : SessionJob) (t : Task) → IsBeforeHalt (run_of p) steps → IsSingle (after steps (run_of p).session) m t → need core (after steps (run_of p).session) m t ≤ core
-  pub sectors_suffice : (steps : ℕ) → IsBeforeHalt (run_of p) steps → sectors (after steps (run_of p).session).jobs ≤ d.sectors
+  pub sectors_suffice : (steps sum : ℕ) (m : SessionJob) (t : Task) → IsBeforeHalt (run_of p) steps → IsSingle (after steps (run_of p).session) m t → TakesSectors (after steps (run_of p).session) m t sum → sum ≤ d.sectors
 
 -- a run is told and has room; the other commands need neither
 abbrev pub IsAmple : {B : Type 0} → Device B → CommandLine → List ℕ → Type 0

@@ -5,14 +5,12 @@ use Rattle.b67_io.specs.Line.{ended}
 use Rattle.b67_io.specs.Causes.{Rose}
 use Rattle.b67_model.specs.State.{Task, SessionJob}
 use Rattle.b67_model.specs.Need.{need}
-use Rattle.b67_model.specs.Sectors.{sectors}
 use Rattle.b67_model.specs.Lines.{run_text}
 use Rattle.b67_model.specs.Schedule.{Session}
 use Rattle.b67_model.specs.Run.{RunLine, StepResult, lines, after}
 use Rattle.b67_exec_cells.specs.Running.{code_area}
 use Rattle.b67_exec_cells.specs.Called.{called_in}
-use Rattle.b67_session.specs.Passed.{IsShortOf}
-use Rattle.b67_session.specs.Passed.{IsLacking}
+use Rattle.b67_session.specs.Passed.{IsBuilt, IsLacking, IsShortAt, TakesSectors}
 use Rattle.b67_model_text.specs.declared.deck.Job.{Job}
 use Rattle.b67_job_admit.specs.declared.refusal.Refusal.TheVariants as refusals
 use Rattle.b67_job_admit.specs.Admitting.{Prepared}
@@ -84,23 +82,25 @@ pub record WantsCore {B : Type 0} (d : Device B) (core : ℕ) (r : Run) (k : Mac
   pub exceeds : core < need core stop.session stop.member stop.task
   pub text_is : text ≡ text_to stop.printed (no_core_line (need core stop.session stop.member stop.task) core)
 
--- if the device told what its sectors hold, the machine lacks the segment or the array of the next step, which needs no
--- more words than core has, or its segment is absent
+-- if the device told what its sectors hold, the machine lacks the segment or the array of the next step, or that step makes
+-- an array longer; it needs no more words than core has, or its segment is absent
 pub record LacksNext {B : Type 0} (d : Device B) (core : ℕ) (first : Session) (k : Machine) (stop : StopsAt d first k) : Type 0 where
   pub lacks : Tells d → IsLacking stop.lone.storage stop.lone.plan stop.member stop.task
   pub room : Tells d → (need core stop.session stop.member stop.task ≤ core) ⊎ (code_area stop.lone.storage stop.lone.plan stop.member stop.task ≡ None)
 
--- the next step is due, the session takes more sectors than the device has, and a present array that keeps no chain wants
--- more than are free
+-- the next step is due, and the session, or the one that it makes if it makes an array longer, takes so many sectors, more
+-- than the device has; and more are wanted than are free
 pub record WantsSectors {B : Type 0} (d : Device B) (core : ℕ) (r : Run) (k : Machine) (text : Text) : Type 0 where
   pub stop : StopsAt d r.session k
   pub due : IsBeforeHalt r k.tasks.made
-  pub exceeds : d.sectors < sectors stop.session.jobs
+  pub sum : ℕ
+  pub takes : TakesSectors stop.session stop.member stop.task sum
+  pub exceeds : d.sectors < sum
   pub absent : LacksNext d core r.session k stop
   pub wants : ℕ
   pub free : ℕ
-  pub short : IsShortOf stop.lone.storage stop.lone.plan stop.session.jobs wants free
-  pub text_is : text ≡ text_to stop.printed (backing_full_line (sectors stop.session.jobs) d.sectors)
+  pub short : IsShortAt stop.lone.storage stop.lone.plan stop.session.jobs stop.member stop.task wants free
+  pub text_is : text ≡ text_to stop.printed (backing_full_line sum d.sectors)
 
 -- the next step is due, and the device failed
 pub record IsCutOff {B : Type 0} (d : Device B) (core : ℕ) (r : Run) (k : Machine) (text : Text) : Type 0 where
@@ -119,7 +119,7 @@ pub record IsStrange {B : Type 0} (d : Device B) (p : Prepared) (k : Machine) (t
   pub due : IsBeforeHalt (run_of p) k.tasks.made
   pub called : ℕ
   pub calls : called_in stop.member stop.task ≡ Some called
-  pub unbuilt : 12 ≤ called
+  pub unbuilt : IsBuilt called → ⊥
   pub text_is : text ≡ text_to stop.printed (refusal_line (refusals.Deck job.body_card 90))
 
 -- ---- the printer failed in the text of a step

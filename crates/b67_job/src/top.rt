@@ -228,13 +228,13 @@ pub fn run<S: Source, K: Sink, B: Backing>(
         × Halts (device_of B.holds B.size B.faults backing.old backing.new) p result.machine text × Took K.taken printer.old printer.new (whole_of text) }
 
     // Core is too small for the session that opens or for a step, or the device has too few sectors for it. The machine is
-    // before that step, which lacks its segment or its array where sectors are wanted.
+    // before that step, which lacks its segment or its array where sectors are wanted, or makes an array longer.
     ensures core_wanted { result.status ≡ 4 → (core : ℕ) × (p : Prepared) × (text : Text) × IsRun words.now S.left deck.old deck.new core p
         × IsShortOfCore (device_of B.holds B.size B.faults backing.old backing.new) core p result.machine text × Took K.taken printer.old printer.new (whole_of text) }
     ensures sectors_wanted { result.status ≡ 5 → (core : ℕ) × (p : Prepared) × (text : Text) × IsRun words.now S.left deck.old deck.new core p
         × IsShortOfSectors (device_of B.holds B.size B.faults backing.old backing.new) core p result.machine text × Took K.taken printer.old printer.new (whole_of text) }
 
-    // A device failed. At a step the machine is before it, and lacks its segment or its array.
+    // A device failed. At a step the machine is before it, and lacks its segment or its array, or the step makes one longer.
     ensures backing_fault { result.status ≡ 6 → Rose B.faults backing.old backing.new
         × ((core : ℕ) × (p : Prepared) × (text : Text) × IsRun words.now S.left deck.old deck.new core p
         × IsFailedBy (device_of B.holds B.size B.faults backing.old backing.new) core p result.machine text × Took K.taken printer.old printer.new (whole_of text)) }

@@ -1,4 +1,4 @@
--- The intrinsics that the MCP's cells hold have numbers from 8 on.
+-- The intrinsics that the MCP's cells hold have numbers from 8 to 18.
 use Rattle.std.proofs.Common.{◌≡◌, ℕ, zero, suc, ◌≤◌, ltb, cond, Bool, true, false, length, List, [], ◌∷◌, flat_map, Option, Some, None, unwrap_or, Ok, Err, refl, sym, ◌∙◌, ap, subst, inl, inr, arith}
 use Rattle.b67_word.specs.declared.faults.Fault.TheVariants.{InvalidIndex}
 use Rattle.b67_model.specs.Answers.{Answer}
@@ -23,11 +23,11 @@ use Rattle.b67_mcp.proofs.Callings.{calling}
 use Rattle.b67_law_order.proofs.Chases.{cell_has}
 
 abbrev IsLow : Word → Type 0
-IsLow (Intrinsic n) = 8 ≤ n
+IsLow (Intrinsic n) = (8 ≤ n) × (n ≤ 18)
 IsLow _ = Unit {0}
 
 abbrev EndLow : Answer End → Type 0
-EndLow (Ok (AtIntrinsic n)) = 8 ≤ n
+EndLow (Ok (AtIntrinsic n)) = (8 ≤ n) × (n ≤ 18)
 EndLow _ = Unit {0}
 
 abbrev LinkLow : Link → Type 0
@@ -75,7 +75,7 @@ module _ (constants : JobConstants) (h : OperatorContext) (same : h.constants �
         of_entry h.job.arrays w (all_in (EntryInOrder h.job.arrays) constants.dictionary.cells w o.entries there)
     | inr (inr (inl e)) ↦
         let there : Has mcp.cells w = subst (λ (z : Frame). Has z.cells w) (sym e) c in
-        all_in IsLow mcp.cells w (omega arith, (omega arith, (omega arith, (omega arith, (omega arith, (omega arith, (omega arith, (omega arith, (omega arith, (omega arith, (omega arith, tt))))))))))) there
+        all_in IsLow mcp.cells w ((omega arith, omega arith), ((omega arith, omega arith), ((omega arith, omega arith), ((omega arith, omega arith), ((omega arith, omega arith), ((omega arith, omega arith), ((omega arith, omega arith), ((omega arith, omega arith), ((omega arith, omega arith), ((omega arith, omega arith), ((omega arith, omega arith), tt))))))))))) there
     | inr (inr (inr z)) ↦ absurd z
   ]
 
@@ -123,7 +123,7 @@ module _ (constants : JobConstants) (h : OperatorContext) (same : h.constants �
   followed (Intrinsic n) = tt
   followed (Words.Segment n) = tt
 
-pub from_eight : (plan : Placement) (s : Session) (m : SessionJob) (t : Task) (n : ℕ) → IsInOrderButCounts s → IsRunning plan s.jobs m t → called_in m t ≡ Some n → 8 ≤ n
-from_eight plan s m t n o runs c =
+pub numbered : (plan : Placement) (s : Session) (m : SessionJob) (t : Task) (n : ℕ) → IsInOrderButCounts s → IsRunning plan s.jobs m t → called_in m t ≡ Some n → (8 ≤ n) × (n ≤ 18)
+numbered plan s m t n o runs c =
     let k = calling m t n c in
     subst EndLow k.ends (followed m.constants (here m t k.next) refl (running_in_order plan s m t o runs).0.tasks k.reference)

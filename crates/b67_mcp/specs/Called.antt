@@ -5,6 +5,7 @@ use Rattle.b67_model.specs.State.{Array, Task, Job, SessionJob}
 use Rattle.b67_model.specs.Steps.{Line, Goes}
 use Rattle.b67_model.specs.Rows.{step}
 use Rattle.b67_model.specs.Need.{touched_of}
+use Rattle.b67_model.specs.Sectors.{sectors}
 use Rattle.b67_model.specs.Lines.{run_text}
 use Rattle.b67_model.specs.Schedule.{Session}
 use Rattle.b67_stack.specs.declared.What.{What}
@@ -20,14 +21,19 @@ use Rattle.b67_task_tables.specs.declared.tables.Machine.{Machine}
 use Rattle.b67_task_tables.specs.Tables.{MachineRepresents}
 pub use Rattle.b67_task_tables.specs.Tables.{AreCountable}
 use Rattle.b67_task_tables.specs.Runs.{RunsTask}
+pub use Rattle.b67_task_tables.specs.Shortage.{Lengthens, IsShortOf, IsShortAt}
 use Rattle.b67_mcp.specs.declared.ends.CallEnd.{CallEnd}
 use Rattle.b67_mcp.specs.declared.ends.CallEnd.TheVariants as ends
 use Rattle.b67_mcp.specs.declared.ends.Stop.{Stop}
 use Rattle.b67_mcp.specs.declared.ends.Stop.TheVariants as stops
 
+-- the intrinsics that are built: not 12 to 16
+abbrev pub IsBuilt : ℕ → Type 0
+IsBuilt n = (n < 12) ⊎ (16 < n)
+
 -- the operator calls no intrinsic, or one that is built
 abbrev pub CallsBuilt : SessionJob → Task → Type 0
-CallsBuilt m t = (n : ℕ) → called_in m t ≡ Some n → n < 12
+CallsBuilt m t = (n : ℕ) → called_in m t ≡ Some n → IsBuilt n
 
 -- the text of what a step of a task prints
 abbrev pub printed_text : SessionJob → Task → List Line → List ℕ
@@ -72,21 +78,6 @@ pub record IsCut {K : Type 0} (taken : K → Option (List ℕ)) (paper paper' : 
 abbrev pub OnlyPrinted : Machine → Machine → Type 0
 OnlyPrinted old new = new ≡ record old { tasks = record old.tasks { printed = new.tasks.printed } }
 
--- by what was answered. Where the call wasn't made nothing has changed but, after a printer's failure, how much is printed
-abbrev pub CallMeets : {K : Type 0} → (K → Option (List ℕ)) → Storage → Option (List (List ℕ)) → Placement → Session → SessionJob → Task → ℕ → Result CallEnd Stop → Machine → Machine → K → K → Type 0
-CallMeets taken x told plan s m t n (Ok ends.Done) old new paper paper' = IsCalled taken paper paper' told s m t old.tasks.printed new
-CallMeets taken x told plan s m t n (Ok (ends.Absent found)) old new paper paper' = TouchesAbsent x plan m t found × (new ≡ old) × (paper' ≡ paper)
-CallMeets taken x told plan s m t n (Ok (ends.Fault fault)) old new paper paper' = (step m.constants m.progress.job t ≡ Err fault) × (new ≡ old) × (paper' ≡ paper)
-CallMeets taken x told plan s m t n (Err stops.PrintFault) old new paper paper' = IsCut taken paper paper' m t old.tasks.printed new.tasks.printed × OnlyPrinted old new
-CallMeets taken x told plan s m t n (Err stops.Unbuilt) old new paper paper' = (12 ≤ n) × (new ≡ old) × (paper' ≡ paper)
-CallMeets taken x told plan s m t n (Err _) old new paper paper' = ⊥
-
--- the machine stands for some session in order, whose running task's operator calls this intrinsic
-pub record CallsSome (k : Machine) (n : ℕ) : Type 0 where
-  pub runs : RunsTask k
-  pub code : code_area runs.storage runs.plan runs.member runs.task ≢ None
-  pub called : called_in runs.member runs.task ≡ Some n
-
 -- an array of the job, which is present
 pub record IsThere (x : Storage) (plan : Placement) (m : SessionJob) (n : ℕ) : Type 0 where
   pub array : Array
@@ -98,12 +89,64 @@ pub record IsThere (x : Storage) (plan : Placement) (m : SessionJob) (n : ℕ) :
 abbrev pub TouchesPresent : Storage → Placement → SessionJob → Task → Type 0
 TouchesPresent x plan m t = (n : ℕ) → touched_of m.constants m.progress.job t (step m.constants m.progress.job t) ≡ Some n → IsThere x plan m n
 
--- so it is where the call was made, where it faults, and where the printer failed
+-- the call may write to the device: it makes an array longer, and the array is present
+abbrev pub MayWrite : Storage → Placement → SessionJob → Task → Type 0
+MayWrite x plan m t = Lengthens m t × TouchesPresent x plan m t
+
+-- after every other answer the device is as it was
+abbrev pub CallWrites : Storage → Placement → SessionJob → Task → Result CallEnd Stop → Type 0
+CallWrites x plan m t (Ok ends.Done) = MayWrite x plan m t
+CallWrites x plan m t (Err (stops.BackingFull sum size)) = MayWrite x plan m t
+CallWrites x plan m t (Err stops.BackingFault) = MayWrite x plan m t
+CallWrites x plan m t answered = ⊥
+
+-- The call was to make an array longer, and isn't made: the machine stands for the same session. The array may be absent now,
+-- and everything else is held as it was
+pub record IsRefused (x : Storage) (told : Option (List (List ℕ))) (plan : Placement) (s : Session) (m : SessionJob) (t : Task) (old new : Machine) : Type 0 where
+  pub built : CallsBuilt m t
+  pub longer : Lengthens m t
+  pub storage : Storage
+  pub stands : MachineRepresents storage told new plan s
+  pub others : (home : ℕ) → home ≢ plan.home m.constants.number longer.array.identity → storage.held home ≡ x.held home
+  pub tables : new.tasks ≡ old.tasks
+
+-- so it is where the session that the call would make takes more sectors than the device has, and the machine is short of some
+pub record IsFull (x : Storage) (told : Option (List (List ℕ))) (count : ℕ) (plan : Placement) (s : Session) (m : SessionJob) (t : Task) (sum size : ℕ) (old new : Machine) : Type 0 where
+  pub refused : IsRefused x told plan s m t old new
+  pub wants : ℕ
+  pub free : ℕ
+  pub short : IsShortAt refused.storage plan s.jobs m t wants free
+  pub sum_is : sum ≡ sectors (with_job s m refused.longer.job).jobs
+  pub size_is : size ≡ count
+  pub exceeds : count < sum
+
+-- By what was answered, over a device of so many sectors that tells this afterwards. Where the call wasn't made nothing has
+-- changed but, after a printer's failure, how much is printed, and, after a want of sectors or a device's failure, where the
+-- array is held
+abbrev pub CallMeets : {K : Type 0} → (K → Option (List ℕ)) → Option (List (List ℕ)) → ℕ → Storage → Placement → Session → SessionJob → Task → ℕ → Result CallEnd Stop → Machine → Machine → K → K → Type 0
+CallMeets taken told count x plan s m t n (Ok ends.Done) old new paper paper' = IsCalled taken paper paper' told s m t old.tasks.printed new
+CallMeets taken told count x plan s m t n (Ok (ends.Absent found)) old new paper paper' = TouchesAbsent x plan m t found × (new ≡ old) × (paper' ≡ paper)
+CallMeets taken told count x plan s m t n (Ok (ends.Fault fault)) old new paper paper' = (step m.constants m.progress.job t ≡ Err fault) × (new ≡ old) × (paper' ≡ paper)
+CallMeets taken told count x plan s m t n (Err stops.PrintFault) old new paper paper' = IsCut taken paper paper' m t old.tasks.printed new.tasks.printed × OnlyPrinted old new
+CallMeets taken told count x plan s m t n (Err (stops.BackingFull sum size)) old new paper paper' = IsFull x told count plan s m t sum size old new × (paper' ≡ paper)
+CallMeets taken told count x plan s m t n (Err stops.BackingFault) old new paper paper' = IsRefused x told plan s m t old new × (paper' ≡ paper)
+CallMeets taken told count x plan s m t n (Err stops.Unbuilt) old new paper paper' = (IsBuilt n → ⊥) × (new ≡ old) × (paper' ≡ paper)
+CallMeets taken told count x plan s m t n (Err (stops.NoCore need core)) old new paper paper' = ⊥
+
+-- the machine stands for some session in order, whose running task's operator calls this intrinsic
+pub record CallsSome (k : Machine) (n : ℕ) : Type 0 where
+  pub runs : RunsTask k
+  pub code : code_area runs.storage runs.plan runs.member runs.task ≢ None
+  pub called : called_in runs.member runs.task ≡ Some n
+
+-- so it is where the call was made, where it faults, and where the printer or the device stopped it
 abbrev pub CallTouches : Storage → Placement → SessionJob → Task → Result CallEnd Stop → Type 0
 CallTouches x plan m t (Ok ends.Done) = TouchesPresent x plan m t
 CallTouches x plan m t (Ok (ends.Absent found)) = Unit {0}
 CallTouches x plan m t (Ok (ends.Fault fault)) = TouchesPresent x plan m t
 CallTouches x plan m t (Err stops.PrintFault) = TouchesPresent x plan m t
+CallTouches x plan m t (Err (stops.BackingFull sum size)) = TouchesPresent x plan m t
+CallTouches x plan m t (Err stops.BackingFault) = TouchesPresent x plan m t
 CallTouches x plan m t (Err stop) = Unit {0}
 
 -- the core words that have changed lie in the running stack

@@ -14,7 +14,7 @@ use Rattle.b67_task_tables.specs.Runs.{RunsTask, ForEachRun, Keeps}
 use Rattle.b67_exec_cells.specs.Called.{called_in}
 use Rattle.b67_io.specs.Causes.{Rose}
 use Rattle.b67_mcp.specs.declared.ends.Stop.{Stop}
-use Rattle.b67_mcp.specs.declared.ends.Stop.TheVariants.{PrintFault}
+use Rattle.b67_mcp.specs.declared.ends.Stop.TheVariants.{BackingFault, PrintFault}
 use Rattle.b67_mcp.specs.Called.{AreCountable, ChangesStack}
 
 -- for each session in order that the machine stands for, with its running task, whose segment is present
@@ -41,10 +41,14 @@ pub record CutsSome (k : Machine) : Type 0 where
   pub reads : ReadsOperator k
   pub may : MayCut reads.runs.member reads.runs.task
 
--- what a call keeps: core outside the running stack, the sectors, the halt, and that the numbers for READ are few
+-- what a call keeps: the size of core, the number of sectors, the halt, and that the numbers for READ are few
 pub record Kept (old new : Machine) : Type 0 where
   pub countable : AreCountable old.tasks.jobs → AreCountable new.tasks.jobs
   pub keeps : Keeps old new
+
+-- and what it keeps that pages nothing: core outside the running stack, and the sectors
+pub record KeptOutside (old new : Machine) : Type 0 where
+  pub kept : Kept old new
   pub changed : ChangesStack old new
   pub sectors : new.sectors ≡ old.sectors
 
@@ -52,3 +56,8 @@ pub record Kept (old new : Machine) : Type 0 where
 pub record IsHeard {K A : Type 0} (faults : K → ℕ) (old new : K) (result : Result A Stop) : Type 0 where
   pub later : faults old ≤ faults new
   pub failed : result ≡ Err PrintFault → Rose faults old new
+
+-- the device's count of failures has risen where it failed; so has the printer's, which never falls
+pub record CallCauses {B K A : Type 0} (failed : B → ℕ) (unprinted : K → ℕ) (backing backing' : B) (paper paper' : K) (answered : Result A Stop) : Type 0 where
+  pub printer : IsHeard unprinted paper paper' answered
+  pub device : answered ≡ Err BackingFault → Rose failed backing backing'

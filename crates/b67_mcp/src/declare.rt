@@ -2,7 +2,7 @@
 
 ghost use Rattle.b67_mcp.specs.Answers.{AnswerMeets};
 ghost use Rattle.b67_mcp.specs.Called.{CallsSome};
-ghost use Rattle.b67_mcp.specs.Running.{ForCalls, Kept};
+ghost use Rattle.b67_mcp.specs.Running.{ForCalls, KeptOutside};
 
 use crate::running::next_place;
 use b67_mcp_calls::{answer_array, array_length};
@@ -13,7 +13,7 @@ use b67_word::Fault;
 pub(crate) fn declare(machine: &mut Machine) -> Result<(), Fault>
     requires { CallsSome machine.old 8 }
     ensures row { ForCalls machine.old 8 (λ x told plan s m t. AnswerMeets told s m t result machine.old machine.new) }
-    ensures kept { Kept machine.old machine.new }
+    ensures kept { KeptOutside machine.old machine.new }
 {
     let length = match array_length(&machine.cpu) {
         Ok(length) => length,

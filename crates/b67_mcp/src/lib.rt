@@ -1,22 +1,28 @@
 //! The call of an intrinsic by the running task.
 #![tactic(auto)]
 
+mod deallocate;
 mod declare;
 mod ends;
 mod print;
 mod print_row;
 mod read;
+mod resize;
 mod running;
 
-ghost use Rattle.std.specs.Prelude.{◌≡◌};
-ghost use Rattle.b67_mcp.specs.Called.{CallsSome, CallMeets, CallTouches, AreCountable};
+ghost use Rattle.std.specs.Prelude.{◌≡◌, ◌+◌, length};
+ghost use Rattle.b67_layout_storage.specs.Machine.{Says, DeviceAfterCalls, content_after};
+ghost use Rattle.b67_mcp.specs.Called.{CallsSome, CallMeets, CallTouches, CallWrites, AreCountable};
 ghost use Rattle.b67_mcp.specs.Answers.{end_of};
-ghost use Rattle.b67_mcp.specs.Running.{ForCalls, IsHeard, Kept};
+ghost use Rattle.b67_mcp.specs.Running.{ForCalls, CallCauses, Kept};
 
+use crate::deallocate::deallocate;
 use crate::declare::declare;
 use crate::print::print;
 use crate::print_row::print_row;
 use crate::read::read;
+use crate::resize::resize;
+use b67_backing::Backing;
 use b67_io::Sink;
 use b67_task_tables::Machine;
 use b67_word::Fault;
@@ -32,27 +38,41 @@ fn silent(done: Result<(), Fault>) -> CallEnd
     }
 }
 
-/// Makes the call of an intrinsic at which the running task stands: ARRAYDEC, PRINT, PRINTROW or READ by their rows; the
-/// others aren't built: `Unbuilt`, with nothing changed.
+/// Makes the call of an intrinsic at which the running task stands: ARRAYDEC, PRINT, PRINTROW, READ, DEALLOCATE or RESIZE
+/// by their rows; the others aren't built: `Unbuilt`, with nothing changed.
 ///
 /// Where its row prints, what isn't printed yet of its text (past the first `printed` bytes) is taken by the printer before
 /// anything is changed, and `printed` is then 0. `PrintFault`, with nothing changed but that `printed` is raised by the
 /// bytes that were taken, which aren't all, comes only where the printer failed. `Absent`, with nothing changed, comes
-/// exactly where PRINTROW touches an absent array. `Fault` changes nothing and prints nothing. Where the call was made,
-/// faults, or can't be printed, what its row touches is present. Of core only words of the running stack may change.
-pub fn intrinsic<K: Sink>(machine: &mut Machine, n: u8, paper: &mut K) -> Result<CallEnd, Stop>
+/// exactly where the row touches an absent array. `Fault` changes nothing and prints nothing. `BackingFull`, only where
+/// the session that the call would make takes more sectors than the device has, with both, and `BackingFault`, only where
+/// the device failed, leave the machine for the same session. Where the call was made, faults, or is stopped, what its row
+/// touches is present. The backing is called only where the call makes a present array longer, and is made or stopped by the
+/// backing.
+pub fn intrinsic<B: Backing, K: Sink>(
+    machine: &mut Machine,
+    n: u8,
+    backing: &mut B,
+    paper: &mut K,
+) -> Result<CallEnd, Stop>
     requires calls { CallsSome machine.old n }
     requires countable { AreCountable machine.old.tasks.jobs }
-    ensures row { ForCalls machine.old n (λ x told plan s m t. CallMeets K.taken x told plan s m t n result machine.old machine.new paper.old paper.new) }
+    requires same { B.size backing.old + 1 ≡ length machine.old.sectors.links }
+    ensures row { ForCalls machine.old n (λ x told plan s m t. Says told (B.holds backing.old)
+        → CallMeets K.taken (content_after told (B.holds backing.new)) (B.size backing.old) x plan s m t n result machine.old machine.new paper.old paper.new) }
     ensures present { ForCalls machine.old n (λ x told plan s m t. CallTouches x plan m t result) }
-    ensures cause { IsHeard K.faults paper.old paper.new result }
+    ensures quiet { ForCalls machine.old n (λ x told plan s m t. (CallWrites x plan m t result → ⊥) → backing.new ≡ backing.old) }
+    ensures causes { CallCauses B.faults K.faults backing.old backing.new paper.old paper.new result }
     ensures kept { Kept machine.old machine.new }
+    ensures device { DeviceAfterCalls B.holds B.size B.calls B.faults backing.old backing.new }
 {
     match n {
         8 => Ok(silent(declare(machine))),
         9 => print(machine, paper),
         10 => print_row(machine, paper),
         11 => Ok(silent(read(machine))),
+        17 => Ok(silent(deallocate(machine))),
+        18 => resize(machine, backing),
         _ => Err(Stop::Unbuilt),
     }
 }

@@ -44,7 +44,7 @@ copies_present x plan m arguments original at k on a e =
     let P : ℕ → Type 0 = λ n. HasElement m.progress.job n 0 × (area_held x plan m.constants.number n ≢ None) in
     subst P same (k.some, λ none. none-some at (sym none ∙ on))
 
-lower : (fs : List Frame) → height (below_top fs) ≤ height fs
+pub lower : (fs : List Frame) → height (below_top fs) ≤ height fs
 lower [] = omega arith
 lower (f ∷ below) = omega arith
 

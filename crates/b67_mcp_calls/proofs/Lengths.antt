@@ -27,11 +27,11 @@ use Rattle.b67_mcp_calls.proofs.Answering.{no_higher}
 abbrev pub wanted : Word → Answer ℕ
 wanted w = whole w >>= array_length
 
-chain : (o : Answer ℤ) (K : ℕ → Answer Done) → (o >>= λ v. array_length v >>= K) ≡ ((o >>= array_length) >>= K)
+pub chain : (o : Answer ℤ) (K : ℕ → Answer Done) → (o >>= λ v. array_length v >>= K) ≡ ((o >>= array_length) >>= K)
 chain (Ok v) K = refl
 chain (Err fault) K = refl
 
-plain_word : (w : Word) (n : ℕ) → wanted w ≡ Ok n → is_original w ≡ false
+pub plain_word : (w : Word) (n : ℕ) → wanted w ≡ Ok n → is_original w ≡ false
 plain_word w n e = by (operand w) refl e
   where
     by : (o : Answer ℕ) → operand w ≡ o → ((o >>= number) >>= array_length) ≡ Ok n → is_original w ≡ false

@@ -20,3 +20,4 @@ pub mod Copied
 pub mod Arguments
 pub mod Words
 pub mod Founds
+pub mod Writables

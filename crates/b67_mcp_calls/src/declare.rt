@@ -18,7 +18,7 @@ use b67_word::{Fault, Place, Word};
 
 /// The length that a word says: INVALID OPERAND where it is no operand, EXPONENT where it isn't whole, INVALID INDEX where
 /// no array has that length.
-fn length_in(w: Word) -> Result<u32, Fault>
+pub(crate) fn length_in(w: Word) -> Result<u32, Fault>
     ensures value { result ≡ definition.length_in w }
     ensures bounds { IfOk result (λ n. (0 < n) × (n < 2 ^ 16)) }
 {

@@ -1,4 +1,5 @@
-//! The intrinsics on the running stack: PRINT, READ, ARRAYDEC, PRINTROW, and the call that is cut or answered.
+//! The intrinsics on the running stack: PRINT, READ, ARRAYDEC, PRINTROW, DEALLOCATE, RESIZE, and the call that is cut or
+//! answered.
 #![tactic(auto)]
 
 mod answer;
@@ -7,6 +8,7 @@ mod declare;
 mod only;
 mod print;
 mod read;
+mod resize;
 mod row;
 mod text;
 mod whole;
@@ -16,5 +18,6 @@ pub use calls::cut_call;
 pub use declare::{answer_array, array_length};
 pub use print::print_value;
 pub use read::read_number;
+pub use resize::{Resizing, array_to_empty, array_to_resize};
 pub use row::{Found, row_to_print};
 pub use text::say_row;

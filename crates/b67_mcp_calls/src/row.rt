@@ -26,7 +26,7 @@ pub enum Found {
 }
 
 /// The address of the original that a word copies whole. INVALID OPERAND where it is no such copy.
-fn copied(cpu: &Cpu, w: Word) -> Result<u32, Fault>
+pub(crate) fn copied(cpu: &Cpu, w: Word) -> Result<u32, Fault>
     requires { MayFollow cpu.now w }
     ensures { ForEach cpu.now (λ x plan s m t. (v : words.Word) → IsFollowed x plan m t w v → FindsArray plan m result (row_copy v)) }
 {

@@ -8,10 +8,11 @@ use Rattle.b67_backing.specs.Shelf.{Table, chain_of}
 use Rattle.b67_backing.specs.Held.{sectors_for}
 use Rattle.b67_lemmas.specs.Lists.{Has, total}
 use Rattle.b67_lemmas.proofs.Members.{has_map, total_append, total_flat, total_map, total_same}
-use Rattle.b67_lemmas.proofs.Sums.{sum_total, total_gap}
+use Rattle.b67_lemmas.proofs.Sums.{sum_total, total_gap, total_le}
 use Rattle.b67_model.specs.State as State
 use Rattle.b67_model.specs.State.{Segment, SessionJob}
 use Rattle.b67_model.specs.Sectors.{sectors_of, sectors}
+use Rattle.b67_model.specs.Schedule.{Session}
 use Rattle.b67_stack.specs.declared.Cpu.{Cpu}
 use Rattle.b67_stack.specs.MachineView.{PagedObject, MachineView}
 use Rattle.b67_stack.specs.Represents.{Storage, KeptChain, Content}
@@ -73,6 +74,18 @@ session_total plan jobs =
     total_flat (objects_of plan) sectors_of_object jobs
     ∙ total_same (λ (m : SessionJob). total sectors_of_object (objects_of plan m)) sectors_of jobs (λ m k. member_total plan m)
     ∙ sym (sum_total sectors_of jobs)
+
+-- and never more than those that are free and the session's
+pub within : (x : Storage) (cpu : Cpu) (areas : Areas) (table : Table) (told : Option (List (List ℕ))) (plan : Placement) (s : Session) → MachineRepresentsView x cpu areas table told (machine_view plan s.jobs)
+    → length table.links ≤ length x.shelf.free + sectors s.jobs + 1
+within x cpu areas table told plan s m =
+    let p : MachineView = machine_view plan s.jobs in
+    let o = m.stands.owned in
+    let c : PagedObject → ℕ = λ u. (x.held u.home).chain in
+    let kept : ℕ → ℕ = λ f. length (chain_of f x.shelf.chains) in
+    let all = covers table x.shelf m.shelf (map c p.objects) (λ f some. let t = o.of_chain f some in subst (Has (map c p.objects)) t.2 (has_map c p.objects t.0 t.1)) in
+    let few = total_le (λ u. kept (c u)) sectors_of_object p.objects (λ u k. content_few x cpu.core u (x.held u.home).area (x.held u.home).chain o.no_zero (m.stands.objects u k).content) in
+    omega (arith, all, few, total_map c kept p.objects, session_total plan s.jobs)
 
 pub short_full : ShortIsFull
 short_full x cpu areas table told plan s wants free size m w e =

@@ -23,7 +23,7 @@ const ORIGIN: Place = Place {
 fn names_unbuilt(couple: Couple) -> bool
     ensures { result ≡ names_unbuilt couple }
 {
-    couple.level == 0 && 11 < couple.disp && couple.disp < 19
+    couple.level == 0 && 11 < couple.disp && couple.disp < 17
 }
 
 // Whether an operator of a segment of this level pushes no such name.
@@ -56,8 +56,8 @@ fn code_uses_built(level: u8, code: &[Word]) -> bool
     }
 }
 
-/// Whether no operator of a program pushes the name of an intrinsic that isn't built: 12 to 18, PROCESS, AWAIT, STATUS, WAIT,
-/// CAUSE, DEALLOCATE and RESIZE. Such a program never calls one.
+/// Whether no operator of a program pushes the name of an intrinsic that isn't built: 12 to 16, PROCESS, AWAIT, STATUS, WAIT
+/// and CAUSE. Such a program never calls one.
 pub fn uses_built(file: &Codefile) -> bool
     requires { IsWithin file.now }
     ensures { result ≡ uses_built (program_of file.now) }

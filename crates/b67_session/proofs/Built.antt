@@ -1,10 +1,7 @@
--- The calls of ARRAYDEC, PRINT, PRINTROW and READ keep what is known of tasks; and so each operator that calls no other intrinsic.
-use Rattle.std.proofs.Common.{◌≡◌, ◌≢◌, ℕ, ◌+◌, ◌<◌, true, List, [], ◌∷◌, reverse, replicate, Option, Some, None, Ok, Err, refl, sym, ◌∙◌, subst, arith, cond}
-use Rattle.std.specs.Prelude.{◌==◌}
-use Rattle.std.proofs.lemmas.Bool.{eqb-true}
+-- The calls that start no task and wait for none keep what is known of tasks; and so each operator that calls no other intrinsic.
+use Rattle.std.proofs.Common.{◌≡◌, ◌≢◌, ℕ, ◌+◌, true, List, [], ◌∷◌, reverse, replicate, Option, Some, None, Ok, Err, refl, sym, ◌∙◌, subst}
 use Rattle.std.proofs.lemmas.Option.{same_Some, none-some}
 use Rattle.b67_word.specs.declared.couples.Place.{Place}
-use Rattle.b67_word.specs.declared.faults.Fault.TheVariants.{InvalidOperand}
 use Rattle.b67_model.specs.declared.operators.Op.{Op}
 use Rattle.b67_model.specs.declared.operators.Op.TheVariants.{Plain}
 use Rattle.b67_model.specs.declared.operators.Code.TheVariants.{Entr}
@@ -12,16 +9,17 @@ use Rattle.b67_model.specs.Answers.{Answer, ◌>>=◌}
 use Rattle.b67_model.specs.Words.{Word, Operand, Original, whole}
 use Rattle.b67_model.specs.State.{Array, Standing, Marked, Entered, Task, Job, SessionJob, OperatorContext, with_task, top, below_top}
 use Rattle.b67_model.specs.Keyed.{keyed}
-use Rattle.b67_model.specs.Arrays.{array}
+use Rattle.b67_model.specs.Arrays.{array, with_array, all_zero, resized}
 use Rattle.b67_model.specs.Chase.{End, AtCell, AtElement, AtArray, AtProc, AtIntrinsic, follow_reference}
 use Rattle.b67_model.specs.Steps.{Line, Value, Values, Done, Goes, Leaves, Waits, top_of, cells_of}
-use Rattle.b67_model.specs.Intrinsics.{answered, answers, array_length, arraydec, print, numbers_of, row_copy, printrow, read_from, read, process, await, status, wait, cause, deallocate, resize, intrinsic}
+use Rattle.b67_model.specs.Intrinsics.{answered, answers, array_length, arraydec, print, numbers_of, row_copy, printrow, read_from, read, needs_writable, deallocate, resize, intrinsic}
 use Rattle.b67_model.specs.Rows.{entr_at, entr_with, entr, row}
-use Rattle.b67_law_order.proofs.Posts.{Post, post_ok, post_err, post_any, post_then, post_if, post_if_is, post_at}
+use Rattle.b67_law_order.proofs.Posts.{Post, post_ok, post_err, post_any, post_then, post_at}
 use Rattle.b67_model.specs.Called.{called_at, called_by, called_on, called}
 use Rattle.b67_law_order_steps.specs.Profiles.{Profile, profile, profiles, IsKnown}
 use Rattle.b67_law_order_steps.proofs.Lemmas.{rows_keep, profiles_put}
 use Rattle.b67_layout.specs.Meets.{here}
+use Rattle.b67_session_attempt.proofs.Calls.{IsApart, apart_row}
 use Rattle.b67_session_attempt.proofs.Passed.{row_keeps}
 
 module _ (first : List Profile) (next : ℕ) (own : Profile) (known : keyed (λ (p : Profile). p.number) own.number first ≡ Some own) where
@@ -69,48 +67,47 @@ module _ (first : List Profile) (next : ℕ) (own : Profile) (known : keyed (λ 
   read_good h [] s = answers_good h (record h.job { numbers = (read_from h.job.numbers).1 }) (Operand (read_from h.job.numbers).0 ∷ []) [] None s s.tasks s.number
   read_good h (w ∷ more) s = post_err Keeps _
 
-  unless : (k n : ℕ) (a b : Answer Done) → (k ≡ n → ⊥) → Good b → Good (cond (k == n) a b)
-  unless k n a b ne g = post_if_is Keeps (k == n) a b (λ q. absurd (ne (eqb-true k n q))) (λ q. g)
+  deallocate_good : (h : OperatorContext) (arguments : List Word) → Source h → Good (deallocate h arguments)
+  deallocate_good h [] s = post_err Keeps _
+  deallocate_good h (w ∷ []) s = post_any Keeps (row_copy w) _ (λ a. post_then Keeps (needs_writable h a) _ (answers_good h (with_array h.job a all_zero) [] [] None s s.tasks s.number))
+  deallocate_good h (w ∷ v ∷ more) s = post_err Keeps _
 
-  -- intrinsics are called by their numbers from 8 on
-  intrinsic_good : (n : ℕ) (h : OperatorContext) (arguments : List Word) → n < 12 → Source h → Good (intrinsic n h arguments)
-  intrinsic_good n h arguments low s =
-      let none : Good (Err InvalidOperand) = post_err Keeps _ in
-      let from_18 = unless 18 n (resize h arguments) _ (λ e. omega (arith, low, e)) none in
-      let from_17 = unless 17 n (deallocate h arguments) _ (λ e. omega (arith, low, e)) from_18 in
-      let from_16 = unless 16 n (cause h arguments) _ (λ e. omega (arith, low, e)) from_17 in
-      let from_15 = unless 15 n (wait h arguments) _ (λ e. omega (arith, low, e)) from_16 in
-      let from_14 = unless 14 n (status h arguments) _ (λ e. omega (arith, low, e)) from_15 in
-      let from_13 = unless 13 n (await h arguments) _ (λ e. omega (arith, low, e)) from_14 in
-      let from_12 = unless 12 n (process h arguments) _ (λ e. omega (arith, low, e)) from_13 in
-      post_if Keeps (8 == n) _ _ (arraydec_good h arguments s)
-      (post_if Keeps (9 == n) _ _ (print_good h arguments s) (post_if Keeps (10 == n) _ _ (printrow_good h arguments s) (post_if Keeps (11 == n) _ _ (read_good h arguments s) from_12)))
+  resize_good : (h : OperatorContext) (arguments : List Word) → Source h → Good (resize h arguments)
+  resize_good h [] s = post_err Keeps _
+  resize_good h (r ∷ []) s = post_err Keeps _
+  resize_good h (r ∷ w ∷ []) s =
+      post_any Keeps (row_copy r) _ (λ a. post_any Keeps (whole w) _ (λ v. post_any Keeps (array_length v) _ (λ len. post_then Keeps (needs_writable h a) _ (answers_good h (with_array h.job a (resized len)) [] [] (Some a) s s.tasks s.number))))
+  resize_good h (r ∷ w ∷ v ∷ more) s = post_err Keeps _
 
-  at_good : (h : OperatorContext) (arguments : List Word) (end : End) (n : ℕ) → called_at (Ok end) ≡ Some n → n < 12 → Source h → Good (entr_at h arguments end)
-  at_good h arguments (AtIntrinsic k) n e low s = intrinsic_good k h arguments (let same : k ≡ n = same_Some k n e in omega arith) s
-  at_good h arguments (AtCell f offset bits) n e low s = absurd (none-some n e)
-  at_good h arguments (AtElement a index) n e low s = absurd (none-some n e)
-  at_good h arguments (AtArray a) n e low s = absurd (none-some n e)
-  at_good h arguments (AtProc f segment level place) n e low s = absurd (none-some n e)
+  intrinsic_good : (n : ℕ) (h : OperatorContext) (arguments : List Word) → IsApart n → Source h → Good (intrinsic n h arguments)
+  intrinsic_good n h arguments apart s =
+      apart_row Keeps n h arguments apart (arraydec_good h arguments s) (print_good h arguments s) (printrow_good h arguments s) (read_good h arguments s) (deallocate_good h arguments s) (resize_good h arguments s)
 
-  end_good : (h : OperatorContext) (arguments : List Word) (end : Answer End) (n : ℕ) → called_at end ≡ Some n → n < 12 → Source h → Good (end >>= entr_at h arguments)
-  end_good h arguments (Ok end) n e low s = at_good h arguments end n e low s
-  end_good h arguments (Err fault) n e low s = absurd (none-some n e)
+  at_good : (h : OperatorContext) (arguments : List Word) (end : End) (n : ℕ) → called_at (Ok end) ≡ Some n → IsApart n → Source h → Good (entr_at h arguments end)
+  at_good h arguments (AtIntrinsic k) n e apart s = intrinsic_good k h arguments (subst IsApart (sym (same_Some k n e)) apart) s
+  at_good h arguments (AtCell f offset bits) n e apart s = absurd (none-some n e)
+  at_good h arguments (AtElement a index) n e apart s = absurd (none-some n e)
+  at_good h arguments (AtArray a) n e apart s = absurd (none-some n e)
+  at_good h arguments (AtProc f segment level place) n e apart s = absurd (none-some n e)
 
-  with_good_call : (h : OperatorContext) (cells : List Word) (n : ℕ) → called_by h cells ≡ Some n → n < 12 → Source h → Good (entr_with h cells)
-  with_good_call h [] n e low s = absurd (none-some n e)
-  with_good_call h (r ∷ arguments) n e low s = end_good h arguments (follow_reference h r) n e low s
+  end_good : (h : OperatorContext) (arguments : List Word) (end : Answer End) (n : ℕ) → called_at end ≡ Some n → IsApart n → Source h → Good (end >>= entr_at h arguments)
+  end_good h arguments (Ok end) n e apart s = at_good h arguments end n e apart s
+  end_good h arguments (Err fault) n e apart s = absurd (none-some n e)
 
-  entr_good : (h : OperatorContext) (standing : Standing) (n : ℕ) → called_on h standing ≡ Some n → n < 12 → Source h → Good (entr h standing)
-  entr_good h Marked n e low s = with_good_call h (reverse (cells_of h)) n e low s
-  entr_good h (Entered level environment back) n e low s = absurd (none-some n e)
+  with_good_call : (h : OperatorContext) (cells : List Word) (n : ℕ) → called_by h cells ≡ Some n → IsApart n → Source h → Good (entr_with h cells)
+  with_good_call h [] n e apart s = absurd (none-some n e)
+  with_good_call h (r ∷ arguments) n e apart s = end_good h arguments (follow_reference h r) n e apart s
 
-  row_good : (op : Op) (h : OperatorContext) (n : ℕ) → called op h ≡ Some n → n < 12 → Source h → Good (row op h)
-  row_good (Plain Entr) h n e low s = entr_good h (top_of h).standing n e low s
-  row_good _ h n e low s = absurd (none-some n e)
+  entr_good : (h : OperatorContext) (standing : Standing) (n : ℕ) → called_on h standing ≡ Some n → IsApart n → Source h → Good (entr h standing)
+  entr_good h Marked n e apart s = with_good_call h (reverse (cells_of h)) n e apart s
+  entr_good h (Entered level environment back) n e apart s = absurd (none-some n e)
+
+  row_good : (op : Op) (h : OperatorContext) (n : ℕ) → called op h ≡ Some n → IsApart n → Source h → Good (row op h)
+  row_good (Plain Entr) h n e apart s = entr_good h (top_of h).standing n e apart s
+  row_good _ h n e apart s = absurd (none-some n e)
 
 -- an operator of a live task that calls no intrinsic, or one of these
-pub built_keep : (op : Op) (m : SessionJob) (t : Task) (q : Place) → keyed (λ (u : Task). u.number) t.number m.progress.job.tasks ≡ Some t → t.frames ≢ [] → IsKnown (here m t q) → ((n : ℕ) → called op (here m t q) ≡ Some n → n < 12)
+pub built_keep : (op : Op) (m : SessionJob) (t : Task) (q : Place) → keyed (λ (u : Task). u.number) t.number m.progress.job.tasks ≡ Some t → t.frames ≢ [] → IsKnown (here m t q) → ((n : ℕ) → called op (here m t q) ≡ Some n → IsApart n)
     → (after : Job) (printed : List Line) (touched : Option ℕ) → row op (here m t q) ≡ Ok (Goes after printed touched)
     → (profiles after.tasks ≡ profiles m.progress.job.tasks) × (after.next_task ≡ m.progress.job.next_task)
 built_keep op m t q live some known built after printed touched is = by (called op (here m t q)) refl

@@ -10,13 +10,15 @@ use Rattle.b67_single.proofs.Runs.{Came, came-none, came-more}
 use Rattle.b67_task_tables.specs.declared.tables.TaskRow.{TaskRow}
 use Rattle.b67_task_tables.specs.declared.tables.Machine.{Machine}
 use Rattle.b67_task_tables.specs.Tables.{task_row}
+use Rattle.b67_session_attempt.specs.Passed.{CallCauses}
 use Rattle.b67_session_attempt.specs.Stops.{Stop}
 use Rattle.b67_session_attempt.specs.Stops as stops
+use Rattle.b67_session_attempt.proofs.Runs.{caused_stop, caused_later}
 use Rattle.b67_session.specs.declared.ends.StepEnd.{StepEnd}
 use Rattle.b67_session.specs.declared.ends.StepEnd.TheVariants as ends
 use Rattle.b67_session.specs.declared.slices.Progress.{Progress}
 use Rattle.b67_session.specs.declared.slices.Progress.TheVariants as progress
-use Rattle.b67_session.specs.Slices.{IsLone, LivesOn, Keeps, HasCauses, Reaches, whole, but_limit, Prints, PrintsWhole, StepsFit, StopsWithRoom, IfPresent, StopsBefore, SliceMeets, Slices}
+use Rattle.b67_session.specs.Slices.{IsLone, LivesOn, Keeps, Reaches, whole, but_limit, Prints, PrintsWhole, StepsFit, StopsWithRoom, IfPresent, StopsBefore, SliceMeets, Slices}
 use Rattle.b67_session.specs.Steps.{StepGives, Leads, stays, makes, halves, Steps}
 use Rattle.b67_session.proofs.Lone.{has_member, has_task}
 use Rattle.b67_session.proofs.Printing.{prints_none, prints_then, prints_before}
@@ -258,9 +260,8 @@ stop_rooms core s m t stop step is room = by stop (subst (λ (z : Result StepEnd
   by stops.Unbuilt r = tt
 
 -- and what it says of a failure
-pub stop_causes : {D K : Type 0} (failed : D → ℕ) (refused : K → ℕ) (stop : Stop) (step : Result StepEnd Stop) (a b c : D) (p q r : K) → step ≡ Err stop → failed a ≤ failed b → refused p ≤ refused q → HasCauses failed refused step b c q r → HasCauses {A = Progress} failed refused (Err stop) a c p r
-stop_causes failed refused stop step a b c p q r is device printer h = record {
-  backing = λ e. let why : stop ≡ stops.BackingFault = cc in let rose = h.backing (is ∙ ap (λ (x : Stop). Err x) why) in omega (arith, rose, device);
-  print = λ e. let why : stop ≡ stops.PrintFault = cc in let rose = h.print (is ∙ ap (λ (x : Stop). Err x) why) in omega (arith, rose, printer);
-  later = omega (arith, h.later, printer);
-}
+pub stop_causes : {D K : Type 0} (failed : D → ℕ) (refused : K → ℕ) (stop : Stop) (step : Result StepEnd Stop) (a b c : D) (p q r : K) → step ≡ Err stop → failed a ≤ failed b → refused p ≤ refused q
+    → CallCauses failed refused b c q r step → CallCauses {A = Progress} failed refused a c p r (Err stop)
+stop_causes failed refused stop step a b c p q r is device printer h =
+    caused_later {A = Progress} failed refused a b c p q r (Err stop) device printer
+    (caused_stop {A = StepEnd} {C = Progress} failed refused b c q r stop (subst (λ (z : Result StepEnd Stop). CallCauses failed refused b c q r z) is h))

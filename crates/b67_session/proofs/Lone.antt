@@ -1,5 +1,5 @@
 -- A session of one job with one ready task: what there is of it, and which task is chosen.
-use Rattle.std.proofs.Common.{◌≡◌, ℕ, ◌<◌, List, [], ◌∷◌, ◌++◌, map, reverse, Option, Some, Ok, Err, refl, sym, ap, ◌∙◌, subst, ⊎_elim, inl, inr, true, false}
+use Rattle.std.proofs.Common.{◌≡◌, ℕ, List, [], ◌∷◌, ◌++◌, map, reverse, Option, Some, Ok, Err, refl, sym, ap, ◌∙◌, subst, ⊎_elim, inl, inr, true, false}
 use Rattle.std.specs.Prelude.{◌==◌, filter}
 use Rattle.std.specs.List.{slice_get}
 use Rattle.std.proofs.lemmas.Bool.{cases_Bool, eq-eqb}
@@ -32,6 +32,7 @@ use Rattle.b67_session_schedule.specs.declared.counting.Chosen.{Chosen}
 use Rattle.b67_session_schedule.specs.Counted.{choice_of}
 use Rattle.b67_session_schedule.specs.Chosen.{IsReadyAt}
 use Rattle.b67_session_attempt.specs.Passed.{CallsBuilt}
+use Rattle.b67_session_attempt.proofs.Calls.{IsApart}
 use Rattle.b67_session.proofs.Built.{built_keep}
 
 module _ (s : Session) (m : SessionJob) (t : Task) (single : IsSingle s m t) where
@@ -75,7 +76,7 @@ module _ (s : Session) (m : SessionJob) (t : Task) (single : IsSingle s m t) whe
     pub job_ordered : JobInOrder (IsSegment m.constants) m.constants m.progress
     job_ordered = all_in (λ (y : SessionJob). JobInOrder (IsSegment y.constants) y.constants y.progress) s.jobs m o.jobs has_member
 
-    kept_by : (read : Reading) → reading_of m.constants t ≡ read → ((n : ℕ) → called_by m t read ≡ Some n → n < 12) → (job : Job) (printed : List Line) (touched : Option ℕ)
+    kept_by : (read : Reading) → reading_of m.constants t ≡ read → ((n : ℕ) → called_by m t read ≡ Some n → IsApart n) → (job : Job) (printed : List Line) (touched : Option ℕ)
         → step_by m.constants m.progress.job t read ≡ Ok (Goes job printed touched) → Keeps job
     kept_by (Err why) at built job printed touched e = absurd cc
     kept_by (Ok read) at built job printed touched e =

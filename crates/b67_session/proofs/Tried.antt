@@ -1,22 +1,18 @@
 -- A step, once its operator was tried: what it answers, prints and leaves.
 use Rattle.std.proofs.Common.{◌≡◌, ◌≢◌, ℕ, List, length, Option, Some, None, Result, Ok, Err, refl, ◌∙◌, subst}
 use Rattle.b67_word.specs.declared.faults.Ending.{Ending}
-use Rattle.b67_model.specs.State.{Ready, Task, SessionJob}
+use Rattle.b67_model.specs.State.{Task, SessionJob}
 use Rattle.b67_model.specs.Schedule.{Session}
-use Rattle.b67_layout.specs.Orders.{IsInOrderButCounts}
 use Rattle.b67_stack.specs.Represents.{Storage}
 use Rattle.b67_layout_storage.specs.Machine.{Says, content_after}
 use Rattle.b67_layout.specs.Placement.{Placement}
-use Rattle.b67_layout.specs.Session.{IsRunning}
 use Rattle.b67_exec_cells.specs.Running.{code_area}
 use Rattle.b67_task_tables.specs.declared.tables.Machine.{Machine}
 use Rattle.b67_task.specs.Endings.{HasOne}
 use Rattle.b67_session_schedule.specs.declared.counting.Chosen.{Chosen}
 use Rattle.b67_session_schedule.specs.Counted.{CountsHaveRoom}
-use Rattle.b67_session_attempt.specs.Passed.{StandsOver}
 use Rattle.b67_session_attempt.specs.Stops.{Stop}
 use Rattle.b67_session_attempt.specs.Stops as stops
-use Rattle.b67_session_attempt.specs.Brought.{WantsNothing}
 use Rattle.b67_session_attempt.specs.Attempts.{AttemptFits}
 use Rattle.b67_session_attempt.specs.declared.attempts.Attempt.{Attempt}
 use Rattle.b67_session_attempt.specs.declared.attempts.Attempt.TheVariants as attempts
@@ -54,21 +50,16 @@ stopped_room core x plan s m t stops.Unbuilt fits code = tt
 
 -- ---- the step
 
--- what the attempt promises where nothing is wanted
-abbrev pub AttemptQuiet : {D : Type 0} → Option (List (List ℕ)) → Machine → D → D → Type 0
-AttemptQuiet told old device device' =
-    (x : Storage) (plan : Placement) (s : Session) (m : SessionJob) (t : Task) → IsInOrderButCounts s → StandsOver x told old plan s → IsRunning plan s.jobs m t → t.condition ≡ Ready → WantsNothing x plan m t → device' ≡ device
-
-module _ {K : Type 0} {taken : K → Option (List ℕ)} {told told' : Option (List (List ℕ))} {count : ℕ} {k mid new : Machine} {c : Chosen} {paper paper' : K} where
+module _ {D K : Type 0} {taken : K → Option (List ℕ)} {told told' : Option (List (List ℕ))} {count : ℕ} {k mid new : Machine} {c : Chosen} {device device' : D} {paper paper' : K} where
   -- at another answer
-  pub tries_as : (answered other : Result Attempt Stop) → answered ≡ other → Tries taken told told' count k c mid answered new paper paper' → Tries taken told told' count k c mid other new paper paper'
-  tries_as answered other e x = subst (λ (a : Result Attempt Stop). Tries taken told told' count k c mid a new paper paper') e x
+  pub tries_as : (answered other : Result Attempt Stop) → answered ≡ other → Tries taken told told' count k c mid answered new device device' paper paper' → Tries taken told told' count k c mid other new device device' paper paper'
+  tries_as answered other e x = subst (λ (a : Result Attempt Stop). Tries taken told told' count k c mid a new device device' paper paper') e x
 
-  printed_is : (answered : Result Attempt Stop) → Tries taken told told' count k c mid answered new paper paper' → mid.tasks.printed ≡ k.tasks.printed
+  printed_is : (answered : Result Attempt Stop) → Tries taken told told' count k c mid answered new device device' paper paper' → mid.tasks.printed ≡ k.tasks.printed
   printed_is answered x = turned_printed k.tasks mid.tasks c.row x.tables
 
   -- the operator was made
-  module _ (x : Tries taken told told' count k c mid (Ok attempts.Made) new paper paper') (known : Option (List (List ℕ))) (s : Session) (m : SessionJob) (t : Task) (says : Says known told) (h : IsLone known k s m t) where
+  module _ (x : Tries taken told told' count k c mid (Ok attempts.Made) new device device' paper paper') (known : Option (List (List ℕ))) (s : Session) (m : SessionJob) (t : Task) (says : Says known told) (h : IsLone known k s m t) where
     made : Attempted taken known (content_after known told') (length k.cpu.core) count k.tasks.printed s c (Ok attempts.Made) new paper paper'
     made = attempted x known s m t says h
 
@@ -82,15 +73,15 @@ module _ {K : Type 0} {taken : K → Option (List ℕ)} {told told' : Option (Li
     made_row answered last paper'' a =
         made_steps taken known (content_after known told') (length k.cpu.core) count k.tasks.printed s c new paper paper' made answered k last paper'' h.stands.tables.counts.made refl refl a
 
-    pub made_present : {D : Type 0} (device device' : D) → AttemptQuiet told mid device device' → (answered : Result StepEnd Stop) (last : Machine) (paper'' : K) → Advances taken c answered new last paper' paper''
+    pub made_present : (answered : Result StepEnd Stop) (last : Machine) (paper'' : K) → Advances taken c answered new last paper' paper''
         → IfPresent (known ≢ None) (length k.cpu.core) 1 h.storage h.plan s m t answered k last device device'
-    made_present device device' quiet answered last paper'' a = record {
-      quiet = λ one wants. quiet_here x known s m t says h quiet wants;
+    made_present answered last paper'' a = record {
+      quiet = λ one wants same. quiet_here x known s m t says h wants same;
       room = λ tells code none. advanced_room taken c (length k.cpu.core) s m t answered new last paper' paper'' a;
     }
 
   -- the operator ends its task
-  module _ (ending : Ending) (x : Tries taken told told' count k c mid (Ok (attempts.Ends ending)) new paper paper') (known : Option (List (List ℕ))) (s : Session) (m : SessionJob) (t : Task) (says : Says known told) (h : IsLone known k s m t) where
+  module _ (ending : Ending) (x : Tries taken told told' count k c mid (Ok (attempts.Ends ending)) new device device' paper paper') (known : Option (List (List ℕ))) (s : Session) (m : SessionJob) (t : Task) (says : Says known told) (h : IsLone known k s m t) where
     left : Attempted taken known (content_after known told') (length k.cpu.core) count k.tasks.printed s c (Ok (attempts.Ends ending)) new paper paper'
     left = attempted x known s m t says h
 
@@ -106,22 +97,22 @@ module _ {K : Type 0} {taken : K → Option (List ℕ)} {told told' : Option (Li
         ends_steps taken known (content_after known told') (length k.cpu.core) count k.tasks.printed s c new paper paper' ending left answered k last paper'' h.stands.tables.counts.made refl
         (ended_printed ending mid.tasks new.tasks x.stay ∙ printed_is (Ok (attempts.Ends ending)) x) refl due halt a f
 
-    pub ends_present : {D : Type 0} (device device' : D) → AttemptQuiet told mid device device' → (answered : Result StepEnd Stop) (last : Machine) (paper'' : K) → Closes taken c ending answered new last paper' paper''
+    pub ends_present : (answered : Result StepEnd Stop) (last : Machine) (paper'' : K) → Closes taken c ending answered new last paper' paper''
         → IfPresent (known ≢ None) (length k.cpu.core) 1 h.storage h.plan s m t answered k last device device'
-    ends_present device device' quiet answered last paper'' a = record {
-      quiet = λ one wants. quiet_here x known s m t says h quiet wants;
+    ends_present answered last paper'' a = record {
+      quiet = λ one wants same. quiet_here x known s m t says h wants same;
       room = λ tells code none. closed_room taken c ending (length k.cpu.core) s m t answered new last paper' paper'' a;
     }
 
   -- it isn't made
-  module _ (stop : Stop) (x : Tries taken told told' count k c mid (Err stop) new paper paper') (known : Option (List (List ℕ))) (s : Session) (m : SessionJob) (t : Task) (says : Says known told) (h : IsLone known k s m t) where
+  module _ (stop : Stop) (x : Tries taken told told' count k c mid (Err stop) new device device' paper paper') (known : Option (List (List ℕ))) (s : Session) (m : SessionJob) (t : Task) (says : Says known told) (h : IsLone known k s m t) where
     pub stop_row : k.tasks.halt ≢ Some k.tasks.made → new.tasks.halt ≡ k.tasks.halt → Steps taken (content_after known told') (known ≢ None) count s (Err stop) k new paper paper'
     stop_row due halt =
         stop_steps taken known (content_after known told') (length k.cpu.core) count k.tasks.printed s c new paper paper' stop (attempted x known s m t says h) k h.stands.tables.counts.made refl refl due halt
         (λ other. stop_printed stop mid.tasks new.tasks x.stay other ∙ printed_is (Err stop) x)
 
-    pub stop_present : {D : Type 0} (device device' : D) → AttemptQuiet told mid device device' → IfPresent {A = StepEnd} (known ≢ None) (length k.cpu.core) 1 h.storage h.plan s m t (Err stop) k new device device'
-    stop_present device device' quiet = record {
-      quiet = λ one wants. quiet_here x known s m t says h quiet wants;
+    pub stop_present : IfPresent {A = StepEnd} (known ≢ None) (length k.cpu.core) 1 h.storage h.plan s m t (Err stop) k new device device'
+    stop_present = record {
+      quiet = λ one wants same. quiet_here x known s m t says h wants same;
       room = λ tells code none. stopped_room (length k.cpu.core) h.storage h.plan s m t stop (room_there x known s m t says h tells) code;
     }

@@ -2,14 +2,14 @@
 use Rattle.std.proofs.Common.{◌≡◌, ◌≢◌, ℕ, ◌+◌, ◌<◌, ◌^◌, List, [], ◌∷◌, length, map, Option, Some, None, Result, Ok, Err, refl, sym, ap, ◌∙◌, subst}
 use Rattle.std.specs.List.{slice_get}
 use Rattle.std.proofs.lemmas.Option.{slice_get_within}
-use Rattle.b67_model.specs.State.{Ready, Task, SessionJob}
+use Rattle.b67_model.specs.State.{Task, SessionJob}
 use Rattle.b67_model.specs.Schedule.{Session, choice}
 use Rattle.b67_model.specs.InOrder.{IsInOrderButPlaces}
 use Rattle.b67_layout.specs.Orders.{IsInOrderButCounts}
 use Rattle.b67_layout.proofs.Weaker.{but_counts}
 use Rattle.b67_stack.specs.Represents.{Storage}
 use Rattle.b67_layout_storage.specs.Machine.{Says, content_after}
-use Rattle.b67_session_attempt.specs.Passed.{StandsOver}
+use Rattle.b67_session_attempt.specs.Passed.{StandsOver, Lengthens}
 use Rattle.b67_layout.specs.Placement.{Placement}
 use Rattle.b67_layout.specs.Rows as rows
 use Rattle.b67_layout.specs.Rows.{RunningRow}
@@ -28,8 +28,7 @@ use Rattle.b67_task_switch.specs.Standing.{HasRow}
 use Rattle.b67_session_attempt.specs.Stops.{Stop}
 use Rattle.b67_session_attempt.specs.Stops as stops
 use Rattle.b67_session_attempt.specs.declared.attempts.Attempt.{Attempt}
-use Rattle.b67_session_attempt.specs.Brought.{WantsNothing}
-use Rattle.b67_session_attempt.specs.Attempts.{RunsOver, AttemptMeets, Attempts, AttemptFits, TablesStay}
+use Rattle.b67_session_attempt.specs.Attempts.{RunsOver, ForEachOver, WantsNothing, AttemptMeets, Attempts, AttemptFits, AttemptRow, TablesStay}
 use Rattle.b67_single.specs.Single.{IsSingle}
 use Rattle.b67_session.specs.Slices.{IsLone}
 use Rattle.b67_session.proofs.Lone.{Chose, chose, runs_then, other, some_ready, Other}
@@ -111,17 +110,6 @@ pub record Attempted {K : Type 0} (taken : K → Option (List ℕ)) (known known
   pub meets : AttemptMeets taken known' (known ≢ None) core count before plan session member task answered k paper paper'
   pub room : known ≢ None → AttemptFits core storage plan session member task answered
 
--- what the attempt promises of each session that the machine represents
-abbrev pub AttemptRow : {K : Type 0} → (K → Option (List ℕ)) → Option (List (List ℕ)) → Option (List (List ℕ)) → ℕ → Machine → Result Attempt Stop → Machine → K → K → Type 0
-AttemptRow taken told told' count old answered new paper paper' =
-    (x : Storage) (plan : Placement) (s : Session) (m : SessionJob) (t : Task) → IsInOrderButCounts s → StandsOver x told old plan s → IsRunning plan s.jobs m t → t.condition ≡ Ready
-    → Attempts taken x (content_after x.device told') (length old.cpu.core) count old.tasks.printed plan s t answered new paper paper'
-
-abbrev pub AttemptRoom : Option (List (List ℕ)) → Machine → Result Attempt Stop → Type 0
-AttemptRoom told old answered =
-    (x : Storage) (plan : Placement) (s : Session) (m : SessionJob) (t : Task) → IsInOrderButCounts s → StandsOver x told old plan s → IsRunning plan s.jobs m t → t.condition ≡ Ready → x.device ≢ None
-    → AttemptFits (length old.cpu.core) x plan s m t answered
-
 -- the chosen task's row, and what the machine then stands for
 abbrev pub GivesTurn : Machine → ℕ → Machine → Type 0
 GivesTurn k row new =
@@ -134,18 +122,17 @@ abbrev pub ChosenRoom : Machine → Chosen → Type 0
 ChosenRoom k c = (plan : Placement) (s : Session) → IsInOrderButPlaces s → TasksShow plan s k.tasks → CountsHaveRoom k.tasks c
 
 -- a step as far as its operator was tried: a task was chosen and has the turn, and the attempt answered
-pub record Tries {K : Type 0} (taken : K → Option (List ℕ)) (told told' : Option (List (List ℕ))) (count : ℕ) (k : Machine) (c : Chosen) (mid : Machine) (answered : Result Attempt Stop) (new : Machine) (paper paper' : K) : Type 0 where
+pub record Tries {D K : Type 0} (taken : K → Option (List ℕ)) (told told' : Option (List (List ℕ))) (count : ℕ) (k : Machine) (c : Chosen) (mid : Machine) (answered : Result Attempt Stop) (new : Machine) (device device' : D) (paper paper' : K) : Type 0 where
   pub chooses : ChoosesRow k c
   pub counts : ChosenRoom k c
   pub gives : GivesTurn k c.row mid
   pub tables : mid.tasks ≡ record k.tasks { rows = mid.tasks.rows; running = c.row }
   pub core : length mid.cpu.core ≡ length k.cpu.core
-  pub row : AttemptRow taken told told' count mid answered new paper paper'
-  pub room : AttemptRoom told mid answered
+  pub row : ForEachOver mid told (λ x plan s m t. AttemptRow taken x (content_after x.device told') (length mid.cpu.core) count mid.tasks.printed plan s m t answered new device device' paper paper')
   pub stay : TablesStay answered mid.tasks new.tasks
   pub halt : new.tasks.halt ≡ mid.tasks.halt
 
-module _ {K : Type 0} {taken : K → Option (List ℕ)} {told told' : Option (List (List ℕ))} {count : ℕ} {k mid new : Machine} {c : Chosen} {answered : Result Attempt Stop} {paper paper' : K} (x : Tries taken told told' count k c mid answered new paper paper')
+module _ {D K : Type 0} {taken : K → Option (List ℕ)} {told told' : Option (List (List ℕ))} {count : ℕ} {k mid new : Machine} {c : Chosen} {answered : Result Attempt Stop} {device device' : D} {paper paper' : K} (x : Tries taken told told' count k c mid answered new device device' paper paper')
     (known : Option (List (List ℕ))) (s : Session) (m : SessionJob) (t : Task) (says : Says known told) (h : IsLone known k s m t) where
   abbrev here : Turned known mid s m t c
   here = turned known k s m t h c (x.chooses h.plan s h.ordered h.stands.tables) mid x.gives (x.counts h.plan s h.ordered h.stands.tables)
@@ -159,8 +146,11 @@ module _ {K : Type 0} {taken : K → Option (List ℕ)} {told told' : Option (Li
   device_told : known ≢ None → here.storage.device ≢ None
   device_told tells = subst (λ (d : Option (List (List ℕ))). d ≢ None) device_is tells
 
+  abbrev tried : AttemptRow taken here.storage (content_after here.storage.device told') (length mid.cpu.core) count mid.tasks.printed here.plan s m t answered new device device' paper paper'
+  tried = x.row here.storage here.plan s m t (but_counts s here.ordered) stood here.running here.single.ready
+
   abbrev a : Attempts taken here.storage (content_after here.storage.device told') (length mid.cpu.core) count mid.tasks.printed here.plan s t answered new paper paper'
-  a = x.row here.storage here.plan s m t (but_counts s here.ordered) stood here.running here.single.ready
+  a = tried.meets
 
   one : Other s a.jobs m a.member t
   one = other here.plan s m a.member t a.jobs here.single a.others a.running
@@ -174,7 +164,7 @@ module _ {K : Type 0} {taken : K → Option (List ℕ)} {told told' : Option (Li
       ap first (sym one.single.jobs ∙ jobs_same tells ∙ here.single.jobs)
 
   room_here : known ≢ None → AttemptFits (length mid.cpu.core) here.storage here.plan s m t answered
-  room_here tells = x.room here.storage here.plan s m t (but_counts s here.ordered) stood here.running here.single.ready (device_told tells)
+  room_here tells = tried.fits (device_told tells)
 
   -- the same of the session that the machine represents again
   room_again : known ≢ None → AttemptFits (length mid.cpu.core) here.storage here.plan (record s { jobs = a.jobs }) a.member t answered
@@ -218,8 +208,6 @@ module _ {K : Type 0} {taken : K → Option (List ℕ)} {told told' : Option (Li
         room = room_again;
       }))
 
-  -- what the attempt promises where nothing is wanted
-  pub quiet_here : {A : Type 0}
-      → ((x : Storage) (plan : Placement) (s : Session) (m : SessionJob) (t : Task) → IsInOrderButCounts s → StandsOver x told mid plan s → IsRunning plan s.jobs m t → t.condition ≡ Ready → WantsNothing x plan m t → A)
-      → WantsNothing h.storage h.plan m t → A
-  quiet_here quiet wants = quiet here.storage here.plan s m t (but_counts s here.ordered) stood here.running here.single.ready (record { code = wants.code; array = wants.array })
+  -- where nothing is wanted
+  pub quiet_here : WantsNothing h.storage h.plan m t → (Lengthens m t → ⊥) → device' ≡ device
+  quiet_here wants same = tried.quiet (record { code = wants.code; array = wants.array }) same

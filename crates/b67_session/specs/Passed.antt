@@ -1,3 +1,3 @@
 -- Definitions of the crates below, for the crates above.
-pub use Rattle.b67_session_attempt.specs.Attempts.{IsLacking}
-pub use Rattle.b67_session_attempt.specs.Passed.{AreCountable, IsShortOf}
+pub use Rattle.b67_session_attempt.specs.Attempts.{IsLacking, TakesSectors}
+pub use Rattle.b67_session_attempt.specs.Passed.{AreCountable, CallCauses, IsBuilt, IsShortAt, Lengthens}

@@ -1,10 +1,8 @@
 -- What a slice of a run answers, prints and leaves: a session of one job with one task.
 use Rattle.std.specs.Prelude.{◌≡◌, ◌≢◌, ℕ, ◌+◌, ◌<◌, ◌≤◌, ◌⊎◌, List, [], ◌++◌, length, take, Option, Some, None, Result, Ok, Err}
-use Rattle.b67_io.specs.Causes.{Rose}
 use Rattle.b67_io.specs.Told.{Took}
 use Rattle.b67_model.specs.State.{Task, SessionJob}
 use Rattle.b67_model.specs.Need.{need, need_next}
-use Rattle.b67_model.specs.Sectors.{sectors}
 use Rattle.b67_model.specs.Lines.{run_text}
 use Rattle.b67_model.specs.Schedule.{Session}
 use Rattle.b67_model.specs.InOrder.{IsInOrderButPlaces}
@@ -21,9 +19,8 @@ use Rattle.b67_task_tables.specs.declared.tables.Tasks.{Tasks}
 use Rattle.b67_task_tables.specs.declared.tables.Machine.{Machine}
 use Rattle.b67_task_tables.specs.Tables.{MachineRepresents}
 pub use Rattle.b67_task_tables.specs.Runs.{Keeps}
-use Rattle.b67_session_attempt.specs.Passed.{AreCountable, IsShortOf}
-use Rattle.b67_session_attempt.specs.Attempts.{IsLacking}
-use Rattle.b67_session_attempt.specs.Brought.{WantsNothing}
+use Rattle.b67_session_attempt.specs.Passed.{AreCountable, IsBuilt, IsShortAt, Lengthens}
+use Rattle.b67_session_attempt.specs.Attempts.{IsLacking, TakesSectors, WantsNothing}
 use Rattle.b67_session_attempt.specs.Stops.{Stop}
 use Rattle.b67_session_attempt.specs.Stops as stops
 use Rattle.b67_session.specs.declared.slices.Progress.{Progress}
@@ -88,12 +85,6 @@ pub record IsOpen (told : Option (List (List ℕ))) (k : Machine) : Type 0 where
   pub stage : LivesOn told k ⊎ (StandsLimited told k ⊎ HasNoTasks told k)
   pub countable : AreCountable k.tasks.jobs
 
--- the device failed, or the printer, where the answer says so; the printer's count of failures hasn't fallen
-pub record HasCauses {A D K : Type 0} (failed : D → ℕ) (refused : K → ℕ) (answered : Result A Stop) (device device' : D) (paper paper' : K) : Type 0 where
-  pub backing : answered ≡ Err stops.BackingFault → Rose failed device device'
-  pub print : answered ≡ Err stops.PrintFault → Rose refused paper paper'
-  pub later : refused paper ≤ refused paper'
-
 -- why a slice goes no further: no task lives, or the count of a halt is reached
 abbrev pub Pauses : Tasks → Option ℕ → Option Progress → Type 0
 Pauses tasks halt None = halt ≢ Some tasks.made
@@ -133,7 +124,8 @@ pub record NextFits (core : ℕ) (s : Session) : Type 0 where
 abbrev pub StepsFit : ℕ → ℕ → Session → Type 0
 StepsFit core steps first = (k : ℕ) → k < steps → NextFits core (after k first)
 
--- the next step lacks its segment or its array; it needs no more words than core has, or its segment is absent
+-- the next step lacks its segment or its array, or makes it longer; it needs no more words than core has, or its segment is
+-- absent
 pub record Lacks (exact : Type 0) (core : ℕ) (x : Storage) (plan : Placement) (s : Session) (m : SessionJob) (t : Task) : Type 0 where
   pub lacks : exact → IsLacking x plan m t
   pub room : exact → (need core s m t ≤ core) ⊎ (code_area x plan m t ≡ None)
@@ -145,10 +137,10 @@ StopsWithRoom core s m t (Err stops.BackingFault) = need core s m t ≤ core
 StopsWithRoom core s m t _ = Unit {0}
 
 -- The session's next step is looked at in a storage, where a slice of n steps sets out. Where its segment and its array are
--- present, a slice of one step doesn't call the device. Where its segment is present, the device stops it only if core has
--- room for it
+-- present, and it makes no array longer, a slice of one step doesn't call the device. Where its segment is present, the device
+-- stops it only if core has room for it
 pub record IfPresent {A D : Type 0} (exact : Type 0) (core n : ℕ) (x : Storage) (plan : Placement) (s : Session) (m : SessionJob) (t : Task) (answered : Result A Stop) (old new : Machine) (device device' : D) : Type 0 where
-  pub quiet : n ≤ 1 → WantsNothing x plan m t → device' ≡ device
+  pub quiet : n ≤ 1 → WantsNothing x plan m t → (Lengthens m t → ⊥) → device' ≡ device
   pub room : exact → code_area x plan m t ≢ None → new.tasks.made ≡ old.tasks.made → StopsWithRoom core s m t answered
 
 -- ---- what is answered
@@ -174,14 +166,14 @@ SliceMeets known exact core count n steps s is_due (Err (stops.NoCore words size
     (b : StopsBefore known n steps s new) × (words ≡ need core s b.member b.task) × (size ≡ core) × (core < words)
 SliceMeets known exact core count n steps s is_due (Err (stops.BackingFull sum size)) new =
     (b : StopsBefore known n steps s new) × Lacks exact core b.lone.storage b.lone.plan s b.member b.task
-    × ((wants : ℕ) × (free : ℕ) × IsShortOf b.lone.storage b.lone.plan s.jobs wants free) × (sum ≡ sectors s.jobs) × (size ≡ count) × (count < sum)
+    × ((wants : ℕ) × (free : ℕ) × IsShortAt b.lone.storage b.lone.plan s.jobs b.member b.task wants free) × TakesSectors s b.member b.task sum × (size ≡ count) × (count < sum)
 SliceMeets known exact core count n steps s is_due (Err stops.BackingFault) new =
     (b : StopsBefore known n steps s new) × Lacks exact core b.lone.storage b.lone.plan s b.member b.task
 SliceMeets known exact core count n steps s is_due (Err stops.PrintFault) new =
     (new.tasks.printed < length is_due)
     × (((b : StopsBefore known n steps s new) × (exact → need core s b.member b.task ≤ core)) ⊎ ((m : SessionJob) × (t : Task) × IsLimited known new s m t))
 SliceMeets known exact core count n steps s is_due (Err stops.Unbuilt) new =
-    (b : StopsBefore known n steps s new) × (called : ℕ) × (called_in b.member b.task ≡ Some called) × (12 ≤ called)
+    (b : StopsBefore known n steps s new) × (called : ℕ) × (called_in b.member b.task ≡ Some called) × (IsBuilt called → ⊥)
 
 -- Where it is known what the device's sectors hold, the steps are those of the session from which the slice set out. Where
 -- nothing is known, they are those of a machine that had some code and some numbers. None is made at the halt

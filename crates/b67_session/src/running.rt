@@ -4,7 +4,8 @@ ghost use Rattle.std.specs.Prelude.{◌≡◌, ◌≢◌, ℕ, ◌+◌, List, Op
 ghost use Rattle.b67_model.specs.State.{Task, SessionJob};
 ghost use Rattle.b67_model.specs.Schedule as schedule;
 ghost use Rattle.b67_layout_storage.specs.Machine.{Says, DeviceAfterCalls, content_after};
-ghost use Rattle.b67_session.specs.Slices.{IsOpen, IsLone, IsLimited, RepresentsWithoutTasks, Keeps, HasCauses, Slices, IfPresent, Resumes, StaysEnded};
+ghost use Rattle.b67_session_attempt.specs.Passed.{CallCauses};
+ghost use Rattle.b67_session.specs.Slices.{IsOpen, IsLone, IsLimited, RepresentsWithoutTasks, Keeps, Slices, IfPresent, Resumes, StaysEnded};
 
 use crate::slices::{Progress, slice};
 use b67_backing::Backing;
@@ -70,7 +71,7 @@ impl Session {
         ensures ended { (known : Option (List (List ℕ))) (s : schedule.Session) → RepresentsWithoutTasks known self.old s
             → StaysEnded result self.old self.new backing.old backing.new paper.old paper.new }
         ensures open { IsOpen (B.holds backing.new) self.new }
-        ensures causes { HasCauses B.faults K.faults result backing.old backing.new paper.old paper.new }
+        ensures causes { CallCauses B.faults K.faults backing.old backing.new paper.old paper.new result }
         ensures keeps { Keeps self.old self.new }
         ensures device { DeviceAfterCalls B.holds B.size B.calls B.faults backing.old backing.new }
     {

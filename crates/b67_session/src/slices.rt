@@ -4,8 +4,8 @@ ghost use Rattle.std.specs.Prelude.{◌≡◌, ◌≢◌, ℕ, ◌+◌, List, Op
 ghost use Rattle.b67_model.specs.State.{Task, SessionJob};
 ghost use Rattle.b67_model.specs.Schedule.{Session};
 ghost use Rattle.b67_layout_storage.specs.Machine.{Says, DeviceAfterCalls, content_after};
-ghost use Rattle.b67_session_attempt.specs.Passed.{AreCountable};
-ghost use Rattle.b67_session.specs.Slices.{IsOpen, LivesOn, IsLone, IsLimited, RepresentsWithoutTasks, Keeps, HasCauses, Slices, IfPresent, Resumes, StaysEnded, Pauses};
+ghost use Rattle.b67_session_attempt.specs.Passed.{AreCountable, CallCauses};
+ghost use Rattle.b67_session.specs.Slices.{IsOpen, LivesOn, IsLone, IsLimited, RepresentsWithoutTasks, Keeps, Slices, IfPresent, Resumes, StaysEnded, Pauses};
 
 use crate::ends::{StepEnd, end_by_limit, is_at_limit};
 use crate::steps::step;
@@ -53,7 +53,7 @@ fn go_on<B: Backing, K: Sink>(
     ensures present { (known : Option (List (List ℕ))) (s : Session) (m : SessionJob) (t : Task) → Says known (B.holds backing.old) → (h : IsLone known machine.old s m t)
         → IfPresent (known ≢ None) (length machine.old.cpu.core) n h.storage h.plan s m t result machine.old machine.new backing.old backing.new }
     ensures countable { AreCountable machine.new.tasks.jobs }
-    ensures causes { HasCauses B.faults K.faults result backing.old backing.new paper.old paper.new }
+    ensures causes { CallCauses B.faults K.faults backing.old backing.new paper.old paper.new result }
     ensures keeps { Keeps machine.old machine.new }
     ensures device { DeviceAfterCalls B.holds B.size B.calls B.faults backing.old backing.new }
 {
@@ -86,12 +86,12 @@ fn go_on<B: Backing, K: Sink>(
 /// `NoCore` only if the step's need exceeds core, with both; no step that was made needs more. A step that does ends in
 /// another stop only if its segment is absent and the device is full or fails as it is brought in: if the segment was
 /// present when a call began that made no step, `BackingFull` and `BackingFault` come only with enough core. `PrintFault`
-/// before a step comes only with enough core too. `BackingFull` only if the session takes more sectors than the device
-/// has, with both, the step's segment or array is absent, and a present array that keeps no chain wants more sectors than
-/// are free; `BackingFault` and `PrintFault` only if that device failed. A single step whose segment and array are
-/// present doesn't call the backing. If nothing is known of what the device's sectors hold, the words that it gives back
-/// may be others, and as many. After `Ended` the machine represents the session without a task; if it was known what the
-/// sectors hold, the one after the steps.
+/// before a step comes only with enough core too. `BackingFull` only if the session, or the one that a RESIZE to a greater
+/// length would make, takes more sectors than the device has, with both, the step's segment or array is absent, or it is
+/// such a RESIZE, and more sectors are wanted than are free; `BackingFault` and `PrintFault` only if that device failed. A
+/// single step whose segment and array are present doesn't call the backing, if it isn't such a RESIZE. If nothing is known
+/// of what the device's sectors hold, the words that it gives back may be others, and as many. After `Ended` the machine
+/// represents the session without a task; if it was known what the sectors hold, the one after the steps.
 #[inline(always)]
 pub fn slice<B: Backing, K: Sink>(
     machine: &mut Machine,
@@ -110,7 +110,7 @@ pub fn slice<B: Backing, K: Sink>(
     ensures ended { (known : Option (List (List ℕ))) (s : Session) → RepresentsWithoutTasks known machine.old s
         → StaysEnded result machine.old machine.new backing.old backing.new paper.old paper.new }
     ensures open { IsOpen (B.holds backing.new) machine.new }
-    ensures causes { HasCauses B.faults K.faults result backing.old backing.new paper.old paper.new }
+    ensures causes { CallCauses B.faults K.faults backing.old backing.new paper.old paper.new result }
     ensures keeps { Keeps machine.old machine.new }
     ensures device { DeviceAfterCalls B.holds B.size B.calls B.faults backing.old backing.new }
 {

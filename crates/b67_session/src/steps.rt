@@ -4,8 +4,8 @@ ghost use Rattle.std.specs.Prelude.{◌≡◌, ◌≢◌, ℕ, ◌+◌, List, Op
 ghost use Rattle.b67_model.specs.State.{Task, SessionJob};
 ghost use Rattle.b67_model.specs.Schedule.{Session};
 ghost use Rattle.b67_layout_storage.specs.Machine.{Says, DeviceAfterCalls, content_after};
-ghost use Rattle.b67_session_attempt.specs.Passed.{AreCountable};
-ghost use Rattle.b67_session.specs.Slices.{LivesOn, IsLone, Keeps, HasCauses, IfPresent};
+ghost use Rattle.b67_session_attempt.specs.Passed.{AreCountable, CallCauses};
+ghost use Rattle.b67_session.specs.Slices.{LivesOn, IsLone, Keeps, IfPresent};
 ghost use Rattle.b67_session.specs.Steps.{Steps};
 
 use crate::ends::{StepEnd, advance, close};
@@ -34,7 +34,7 @@ pub(crate) fn step<B: Backing, K: Sink>(
     ensures present { (known : Option (List (List ℕ))) (s : Session) (m : SessionJob) (t : Task) → Says known (B.holds backing.old) → (h : IsLone known machine.old s m t)
         → IfPresent (known ≢ None) (length machine.old.cpu.core) 1 h.storage h.plan s m t result machine.old machine.new backing.old backing.new }
     ensures countable { AreCountable machine.new.tasks.jobs }
-    ensures causes { HasCauses B.faults K.faults result backing.old backing.new paper.old paper.new }
+    ensures causes { CallCauses B.faults K.faults backing.old backing.new paper.old paper.new result }
     ensures keeps { Keeps machine.old machine.new }
     ensures device { DeviceAfterCalls B.holds B.size B.calls B.faults backing.old backing.new }
 {

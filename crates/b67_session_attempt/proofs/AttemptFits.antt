@@ -34,12 +34,11 @@ use Rattle.b67_task_tables.specs.Tables.{MachineRepresents}
 use Rattle.b67_layout_step.proofs.Laws.{touches_arrays}
 use Rattle.b67_session_attempt.specs.Fits.{IsOfJob}
 use Rattle.b67_session_attempt.proofs.FittingMade.{made_fit}
-use Rattle.b67_session_attempt.specs.Makes.{OperatorMade, CallsOrMakes, MakesAt}
+use Rattle.b67_session_make.specs.Makes.{OperatorMade, CallsOrMakes, MakesAt}
 use Rattle.b67_mcp.specs.declared.ends.Stop.{Stop}
 use Rattle.b67_mcp.specs.declared.ends.Stop.TheVariants as stops
 use Rattle.b67_mcp.specs.Called.{CallsBuilt, IsCut, CallMeets, CallTouches, printed_text, IsThere, TouchesPresent}
 use Rattle.b67_mcp.proofs.Callings.{calling}
-use Rattle.b67_mcp.proofs.Low.{from_eight}
 use Rattle.b67_mcp.proofs.Touched.{reference_same}
 use Rattle.b67_mcp.proofs.Present.{row_only}
 use Rattle.b67_session_attempt.specs.Tries.{TryFits}
@@ -130,7 +129,7 @@ module _ (x : Storage) (told : Option (List (List ℕ))) (plan : Placement) (s :
 
     -- and for the call of an intrinsic
     pub call_fits : (k : Machine) (n : ℕ) → MachineRepresents x told k plan s → code_area x plan m t ≢ None → called_in m t ≡ Some n → CallsBuilt m t → TouchesPresent x plan m t → need (length k.cpu.core) s m t ≤ length k.cpu.core
-    call_fits k n h code called built touches = step_fits k o h runs code touches (call_starts m t n (calling m t n called) (from_eight plan s m t n o runs called) (built n called))
+    call_fits k n h code called built touches = step_fits k o h runs code touches (call_starts m t n (calling m t n called) (built n called))
 
     pub fault_fits : (k : Machine) (fault : Fault) → MachineRepresents x told k plan s → code_area x plan m t ≢ None → step m.constants m.progress.job t ≡ Err fault → TouchesPresent x plan m t → need (length k.cpu.core) s m t ≤ length k.cpu.core
     fault_fits k fault h code is touches = step_fits k o h runs code touches (ap (started_by m.progress.job) is)
@@ -145,11 +144,11 @@ module _ (x : Storage) (told : Option (List (List ℕ))) (plan : Placement) (s :
         by [] e low = omega (arith, low)
         by (line ∷ more) e low = absurd cc
 
-    pub stop_fits : {K : Type 0} (taken : K → Option (List ℕ)) (k new : Machine) (paper paper' : K) (n : ℕ) (stop : Stop) → MachineRepresents x told k plan s → code_area x plan m t ≢ None → called_in m t ≡ Some n
-        → CallMeets taken x told plan s m t n (Err stop) k new paper paper' → CallTouches x plan m t (Err stop) → TryFits (length k.cpu.core) s m t (Err stop)
-    stop_fits taken k new paper paper' n stops.PrintFault h code called meets touches =
+    pub stop_fits : {K : Type 0} (taken : K → Option (List ℕ)) (after : Option (List (List ℕ))) (count : ℕ) (k new : Machine) (paper paper' : K) (n : ℕ) (stop : Stop) → MachineRepresents x told k plan s → code_area x plan m t ≢ None → called_in m t ≡ Some n
+        → CallMeets taken after count x plan s m t n (Err stop) k new paper paper' → CallTouches x plan m t (Err stop) → TryFits (length k.cpu.core) s m t (Err stop)
+    stop_fits taken after count k new paper paper' n stops.PrintFault h code called meets touches =
         call_fits k n h code called (cut_built taken paper paper' n k.tasks.printed new.tasks.printed called meets.0) touches
-    stop_fits taken k new paper paper' n stops.Unbuilt h code called meets touches = tt
-    stop_fits taken k new paper paper' n (stops.NoCore need core) h code called meets touches = tt
-    stop_fits taken k new paper paper' n (stops.BackingFull sum sectors) h code called meets touches = tt
-    stop_fits taken k new paper paper' n stops.BackingFault h code called meets touches = tt
+    stop_fits taken after count k new paper paper' n stops.Unbuilt h code called meets touches = tt
+    stop_fits taken after count k new paper paper' n (stops.NoCore need core) h code called meets touches = tt
+    stop_fits taken after count k new paper paper' n (stops.BackingFull sum sectors) h code called meets touches = call_fits k n h code called meets.0.refused.built touches
+    stop_fits taken after count k new paper paper' n stops.BackingFault h code called meets touches = call_fits k n h code called meets.0.built touches

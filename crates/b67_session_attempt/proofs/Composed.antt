@@ -1,5 +1,5 @@
 -- One attempt of several tries.
-use Rattle.std.proofs.Common.{◌≡◌, ◌≢◌, ℕ, ◌+◌, ◌≤◌, List, Option, Some, None, Result, Ok, Err, refl, sym, ◌∙◌, ap, subst}
+use Rattle.std.proofs.Common.{◌≡◌, ◌≢◌, ℕ, ◌+◌, ◌≤◌, inl, inr, List, Option, Some, None, Result, Ok, Err, refl, sym, ◌∙◌, ap, subst}
 use Rattle.std.proofs.lemmas.Option.{same_Some}
 use Rattle.b67_word.specs.declared.faults.Ending.{Ending}
 use Rattle.b67_model.specs.State.{Ready, Task, SessionJob}
@@ -19,26 +19,24 @@ use Rattle.b67_layout_step.proofs.OtherNumbers.{others_in_order}
 use Rattle.b67_task_tables.specs.declared.tables.Machine.{Machine}
 use Rattle.b67_task_tables.specs.declared.tables.Tasks.{Tasks}
 use Rattle.b67_task_tables.specs.Tables.{MachineRepresents}
-use Rattle.b67_mcp.specs.Called.{OnlyPrinted}
+use Rattle.b67_mcp.specs.Called.{OnlyPrinted, IsRefused, Lengthens}
+use Rattle.b67_mcp.proofs.Told.{told_is}
 use Rattle.b67_mcp.specs.declared.ends.Stop.{Stop}
 use Rattle.b67_mcp.specs.declared.ends.Stop.TheVariants as stops
 use Rattle.b67_presence.specs.Bringing.{StandsOver, IsWanted, WantsSome, StandsAgain, Brings}
 use Rattle.b67_presence.proofs.Others.{others_same, others_then, others_running, RunsOther}
 use Rattle.b67_session_attempt.specs.declared.attempts.Attempt.{Attempt}
 use Rattle.b67_session_attempt.specs.declared.attempts.Attempt.TheVariants as attempts
+use Rattle.b67_session_attempt.specs.declared.tries.Tried.{Tried}
 use Rattle.b67_session_attempt.specs.declared.tries.Tried.TheVariants as tries
-use Rattle.b67_session_attempt.specs.Tries.{IsTouched, TryMeets, TryFits}
-use Rattle.b67_session_attempt.specs.Attempts.{RunsOver, AttemptMeets, Attempts, AttemptFits, TablesStay}
-use Rattle.b67_session_attempt.specs.Brought.{WantsNothing, StopMeets, Stopped, BroughtFits}
+use Rattle.b67_session_attempt.specs.Tries.{IsTouched, TryMeets, TryFits, TryWrites}
+use Rattle.b67_session_attempt.specs.Attempts.{RunsOver, ForEachOver, StillStands, StandsLacking, AttemptMeets, Attempts, AttemptFits, TablesStay, WantsNothing}
+use Rattle.b67_session_attempt.specs.Brought.{StopMeets, Stopped, BroughtFits}
 
 abbrev Told : Type 0
 Told = Option (List (List ℕ))
 
--- what a storage says, after no call and after two
-pub told_is : (d told : Told) → Says d told → content_after d told ≡ d
-told_is None told h = refl
-told_is (Some all) told h = h
-
+-- what a storage says after two calls
 retold_twice : (d told told' : Told) → (d ≢ None → told ≢ None) → content_after (content_after d told) told' ≡ content_after d told'
 retold_twice None told told' h = refl
 retold_twice (Some all) None told' h = absurd (h (λ e. absurd cc) refl)
@@ -61,8 +59,8 @@ goes_on_telling (Some all) told told' says each n = λ e. let (y, is) = each all
 pub unchanged : (x : Storage) (told : Told) (plan : Placement) (s : Session) (old new : Machine) → new ≡ old → MachineRepresents x told old plan s → MachineRepresents x told new plan s
 unchanged x told plan s old new same h = let P : Machine → Type 0 = λ k. MachineRepresents x told k plan s in subst P (sym same) h
 
-pub unchanged_over : (x : Storage) (told : Told) (plan : Placement) (s : Session) (old new : Machine) → new ≡ old → StandsOver x told old plan s → StandsOver x told new plan s
-unchanged_over x told plan s old new same h = record { says = h.says; stands = unchanged x x.device plan s old new same h.stands }
+pub unchanged_over : (x : Storage) (told told' : Told) (plan : Placement) (s : Session) (old new : Machine) → new ≡ old → told' ≡ told → StandsOver x told old plan s → StandsOver x told' new plan s
+unchanged_over x told told' plan s old new same tells h = record { says = subst (Says x.device) (sym tells) h.says; stands = unchanged x x.device plan s old new same h.stands }
 
 -- and after one that changed nothing but how much is printed
 pub only_printed : (x : Storage) (told : Told) (plan : Placement) (s : Session) (old new : Machine) → OnlyPrinted old new → MachineRepresents x told old plan s → MachineRepresents x told new plan s
@@ -72,63 +70,74 @@ only_printed x told plan s old new same h =
     subst P (sym same) it
 
 -- where nothing is wanted, a try finds nothing absent
-pub never : {K : Type 0} (taken : K → Option (List ℕ)) (x : Storage) (plan : Placement) (s : Session) (m : SessionJob) (t : Task) (old new : Machine) (paper paper' : K) (found : What) → WantsNothing x plan m t → TryMeets taken x x.device plan s m t (Ok (tries.Absent found)) old new paper paper' → ⊥
-never taken x plan s m t old new paper paper' (what.Code displacement) nothing meets = nothing.code meets.1.1
-never taken x plan s m t old new paper paper' (what.Array home) nothing meets =
+pub never : {K : Type 0} (taken : K → Option (List ℕ)) (told : Told) (count : ℕ) (x : Storage) (plan : Placement) (s : Session) (m : SessionJob) (t : Task) (old new : Machine) (paper paper' : K) (found : What) → WantsNothing x plan m t
+    → TryMeets taken told count x plan s m t (Ok (tries.Absent found)) old new paper paper' → ⊥
+never taken told count x plan s m t old new paper paper' (what.Code displacement) nothing meets = nothing.code meets.1.1
+never taken told count x plan s m t old new paper paper' (what.Array home) nothing meets =
     let w = meets.1 in
     let (a, among, home_is, is, words) = meets.2 in
     nothing.array a.identity is (ap (λ (at : ℕ). (x.held at).area) (home_is ∙ sym w.home_is) ∙ w.absent)
 
--- the answer of the session itself
-module _ {K : Type 0} (taken : K → Option (List ℕ)) (x : Storage) (core count : ℕ) (plan : Placement) (s : Session) (m : SessionJob) (t : Task) (o : IsInOrderButCounts s) (runs : IsRunning plan s.jobs m t) (old new : Machine) (h : MachineRepresents x x.device old plan s) (paper paper' : K) where
-  at_once : (answered : Result Attempt Stop) → AttemptMeets taken x.device (x.device ≢ None) core count old.tasks.printed plan s m t answered new paper paper' → Attempts taken x x.device core count old.tasks.printed plan s t answered new paper paper'
+-- one try, in the session itself
+module _ {B K : Type 0} (holds : B → Told) (taken : K → Option (List ℕ)) (backing backing' : B) (x : Storage) (core count : ℕ) (plan : Placement) (s : Session) (m : SessionJob) (t : Task) (o : IsInOrderButCounts s) (runs : IsRunning plan s.jobs m t) (old new : Machine) (h : StandsOver x (holds backing) old plan s) (paper paper' : K) where
+  abbrev known : Told
+  known = content_after x.device (holds backing')
+
+  abbrev Try : Result Tried Stop → Type 0
+  Try answered = TryMeets taken known count x plan s m t answered old new paper paper'
+
+  abbrev Whole : Result Attempt Stop → Type 0
+  Whole answered = Attempts taken x known core count old.tasks.printed plan s t answered new paper paper'
+
+  at_once : (answered : Result Attempt Stop) → AttemptMeets taken known (x.device ≢ None) core count old.tasks.printed plan s m t answered new paper paper' → Whole answered
   at_once answered meets = record { jobs = s.jobs; others = others_same s o; same = λ e. refl; member = m; running = runs; meets = meets }
 
-  pub made_once : TryMeets taken x x.device plan s m t (Ok tries.Made) old new paper paper' → Attempts taken x x.device core count old.tasks.printed plan s t (Ok attempts.Made) new paper paper'
+  -- the device wasn't called
+  silent : backing' ≡ backing → MachineRepresents x x.device new plan s → StillStands known new plan s
+  silent same k =
+      let says : Says x.device (holds backing') = subst (λ b. Says x.device (holds b)) (sym same) h.says in
+      (x, subst (λ d. MachineRepresents x d new plan s) (sym (told_is x.device (holds backing') says)) k)
+
+  pub made_once : Try (Ok tries.Made) → Whole (Ok attempts.Made)
   made_once meets = at_once (Ok attempts.Made) meets
 
-  pub ends_once : (ending : Ending) → TryMeets taken x x.device plan s m t (Ok (tries.Ends ending)) old new paper paper' → Attempts taken x x.device core count old.tasks.printed plan s t (Ok (attempts.Ends ending)) new paper paper'
-  ends_once ending meets = at_once (Ok (attempts.Ends ending)) (λ e. meets.0, (x, unchanged x x.device plan s old new meets.1 h), meets.2)
+  pub ends_once : (ending : Ending) → backing' ≡ backing → Try (Ok (tries.Ends ending)) → Whole (Ok (attempts.Ends ending))
+  ends_once ending quiet meets = at_once (Ok (attempts.Ends ending)) (λ e. meets.0, silent quiet (unchanged x x.device plan s old new meets.1 h.stands), meets.2)
 
-  stop_meets : (stop : Stop) → TryMeets taken x x.device plan s m t (Err stop) old new paper paper' → AttemptMeets taken x.device (x.device ≢ None) core count old.tasks.printed plan s m t (Err stop) new paper paper'
-  stop_meets stops.PrintFault meets = (meets.0, (x, only_printed x x.device plan s old new meets.1 h))
-  stop_meets stops.Unbuilt meets = (meets.0, meets.1, meets.2, (x, unchanged x x.device plan s old new meets.3 h), meets.4)
-  stop_meets (stops.NoCore words size) meets = absurd meets
-  stop_meets (stops.BackingFull sum size) meets = absurd meets
-  stop_meets stops.BackingFault meets = absurd meets
+  abbrev refused : IsRefused x known plan s m t old new → need core s m t ≤ core → StandsLacking (x.device ≢ None) known core new plan s m t
+  refused r fits = record { storage = r.storage; stands = r.stands; lacks = λ e. inr (inr r.longer); room = λ e. inl fits }
 
-  pub stops_once : (stop : Stop) → TryMeets taken x x.device plan s m t (Err stop) old new paper paper' → Attempts taken x x.device core count old.tasks.printed plan s t (Err stop) new paper paper'
-  stops_once stop meets = at_once (Err stop) (stop_meets stop meets)
+  pub stops_once : (stop : Stop) → ((TryWrites x plan m t (Err stop) → ⊥) → backing' ≡ backing) → TryFits core s m t (Err stop) → Try (Err stop) → Whole (Err stop)
+  stops_once stop quiet fits meets = at_once (Err stop) (by stop quiet fits meets) where
+    by : (why : Stop) → ((TryWrites x plan m t (Err why) → ⊥) → backing' ≡ backing) → TryFits core s m t (Err why) → Try (Err why)
+        → AttemptMeets taken known (x.device ≢ None) core count old.tasks.printed plan s m t (Err why) new paper paper'
+    by stops.PrintFault quiet fits meets = (meets.0, silent (quiet (λ w. w)) (only_printed x x.device plan s old new meets.1 h.stands))
+    by stops.Unbuilt quiet fits meets = (meets.0, meets.1, meets.2, silent (quiet (λ w. w)) (unchanged x x.device plan s old new meets.3 h.stands), meets.4)
+    by (stops.NoCore words size) quiet fits meets = absurd meets
+    by (stops.BackingFull sum size) quiet fits meets =
+        let f = meets.0 in
+        (inr (f.refused.longer, f.sum_is), f.size_is, f.exceeds, record { lacking = refused f.refused fits; wants = f.wants; free = f.free; short = f.short }, meets.1)
+    by stops.BackingFault quiet fits meets = (refused meets.0 fits, meets.1)
 
   -- nothing was wanted where the device tells
-  pub gives_up_once : (ending : Ending) (found : What) → (x.device ≢ None → WantsNothing x plan m t) → TryMeets taken x x.device plan s m t (Ok (tries.Absent found)) old new paper paper' → Attempts taken x x.device core count old.tasks.printed plan s t (Ok (attempts.Ends ending)) new paper paper'
-  gives_up_once ending found none meets = at_once (Ok (attempts.Ends ending)) (λ e. absurd (never taken x plan s m t old new paper paper' found (none e) meets), (x, unchanged x x.device plan s old new meets.3 h), meets.4)
-
--- a try never finds the device failing
-pub no_device_fault : {K : Type 0} (taken : K → Option (List ℕ)) (x : Storage) (told : Told) (plan : Placement) (s : Session) (m : SessionJob) (t : Task) (stop : Stop) (old new : Machine) (paper paper' : K)
-    → TryMeets taken x told plan s m t (Err stop) old new paper paper' → stop ≢ stops.BackingFault
-no_device_fault taken x told plan s m t (stops.NoCore words size) old new paper paper' meets = λ e. meets
-no_device_fault taken x told plan s m t (stops.BackingFull sum size) old new paper paper' meets = λ e. meets
-no_device_fault taken x told plan s m t stops.BackingFault old new paper paper' meets = λ e. meets
-no_device_fault taken x told plan s m t stops.PrintFault old new paper paper' meets = λ e. absurd cc
-no_device_fault taken x told plan s m t stops.Unbuilt old new paper paper' meets = λ e. absurd cc
+  pub gives_up_once : (ending : Ending) (found : What) → backing' ≡ backing → (x.device ≢ None → WantsNothing x plan m t) → Try (Ok (tries.Absent found)) → Whole (Ok (attempts.Ends ending))
+  gives_up_once ending found quiet none meets =
+      at_once (Ok (attempts.Ends ending)) (λ e. absurd (never taken known count x plan s m t old new paper paper' found (none e) meets), silent quiet (unchanged x x.device plan s old new meets.3 h.stands), meets.4)
 
 -- what a try leaves of the tables
-pub tables_after_end : {K : Type 0} (taken : K → Option (List ℕ)) (x : Storage) (told : Told) (plan : Placement) (s : Session) (m : SessionJob) (t : Task) (ending : Ending) (old new : Machine) (paper paper' : K)
-    → TryMeets taken x told plan s m t (Ok (tries.Ends ending)) old new paper paper' → new.tasks ≡ old.tasks
-tables_after_end taken x told plan s m t ending old new paper paper' meets = ap (λ (k : Machine). k.tasks) meets.1
+module _ {K : Type 0} (taken : K → Option (List ℕ)) (told : Told) (count : ℕ) (x : Storage) (plan : Placement) (s : Session) (m : SessionJob) (t : Task) (old new : Machine) (paper paper' : K) where
+  pub tables_after_end : (ending : Ending) → TryMeets taken told count x plan s m t (Ok (tries.Ends ending)) old new paper paper' → new.tasks ≡ old.tasks
+  tables_after_end ending meets = ap (λ (k : Machine). k.tasks) meets.1
 
-pub tables_after_want : {K : Type 0} (taken : K → Option (List ℕ)) (x : Storage) (told : Told) (plan : Placement) (s : Session) (m : SessionJob) (t : Task) (found : What) (old new : Machine) (paper paper' : K)
-    → TryMeets taken x told plan s m t (Ok (tries.Absent found)) old new paper paper' → new.tasks ≡ old.tasks
-tables_after_want taken x told plan s m t found old new paper paper' meets = ap (λ (k : Machine). k.tasks) meets.3
+  pub tables_after_want : (found : What) → TryMeets taken told count x plan s m t (Ok (tries.Absent found)) old new paper paper' → new.tasks ≡ old.tasks
+  tables_after_want found meets = ap (λ (k : Machine). k.tasks) meets.3
 
-pub tables_after_stop : {K : Type 0} (taken : K → Option (List ℕ)) (x : Storage) (told : Told) (plan : Placement) (s : Session) (m : SessionJob) (t : Task) (stop : Stop) (old new : Machine) (paper paper' : K)
-    → TryMeets taken x told plan s m t (Err stop) old new paper paper' → TablesStay (Err stop) old.tasks new.tasks
-tables_after_stop taken x told plan s m t (stops.NoCore words size) old new paper paper' meets = absurd meets
-tables_after_stop taken x told plan s m t (stops.BackingFull sum size) old new paper paper' meets = absurd meets
-tables_after_stop taken x told plan s m t stops.BackingFault old new paper paper' meets = absurd meets
-tables_after_stop taken x told plan s m t stops.PrintFault old new paper paper' meets = ap (λ (k : Machine). k.tasks) meets.1
-tables_after_stop taken x told plan s m t stops.Unbuilt old new paper paper' meets = ap (λ (k : Machine). k.tasks) meets.3
+  pub tables_after_stop : (stop : Stop) → TryMeets taken told count x plan s m t (Err stop) old new paper paper' → TablesStay (Err stop) old.tasks new.tasks
+  tables_after_stop (stops.NoCore words size) meets = absurd meets
+  tables_after_stop (stops.BackingFull sum size) meets = meets.0.refused.tables
+  tables_after_stop stops.BackingFault meets = meets.0.tables
+  tables_after_stop stops.PrintFault meets = ap (λ (k : Machine). k.tasks) meets.1
+  tables_after_stop stops.Unbuilt meets = ap (λ (k : Machine). k.tasks) meets.3
 
 -- the tables after a stop that isn't the printer's, and after tries that went on from the same tables
 pub tables_stay : (stop : Stop) (old new : Tasks) → stop ≢ stops.PrintFault → new ≡ old → TablesStay (Err stop) old new
@@ -142,13 +151,20 @@ pub tables_from : (answered : Result Attempt Stop) (old mid new : Tasks) → mid
 tables_from answered old mid new same stay = let P : Tasks → Type 0 = λ k. TablesStay answered k new in subst P same stay
 
 -- core has room where a try stopped
-pub room_after_stop : {K : Type 0} (taken : K → Option (List ℕ)) (told : Told) (old new : Machine) (paper paper' : K) (core : ℕ) (x : Storage) (plan : Placement) (s : Session) (m : SessionJob) (t : Task) (stop : Stop)
-    → TryMeets taken x told plan s m t (Err stop) old new paper paper' → TryFits core s m t (Err stop) → AttemptFits core x plan s m t (Err stop)
-room_after_stop taken told old new paper paper' core x plan s m t (stops.NoCore words size) meets fits = absurd meets
-room_after_stop taken told old new paper paper' core x plan s m t (stops.BackingFull sum size) meets fits = absurd meets
-room_after_stop taken told old new paper paper' core x plan s m t stops.BackingFault meets fits = absurd meets
-room_after_stop taken told old new paper paper' core x plan s m t stops.PrintFault meets fits = fits
-room_after_stop taken told old new paper paper' core x plan s m t stops.Unbuilt meets fits = tt
+pub room_after_stop : (core : ℕ) (x : Storage) (plan : Placement) (s : Session) (m : SessionJob) (t : Task) (stop : Stop) → TryFits core s m t (Err stop) → AttemptFits core x plan s m t (Err stop)
+room_after_stop core x plan s m t (stops.NoCore words size) fits = tt
+room_after_stop core x plan s m t (stops.BackingFull sum size) fits = λ code. fits
+room_after_stop core x plan s m t stops.BackingFault fits = λ code. fits
+room_after_stop core x plan s m t stops.PrintFault fits = fits
+room_after_stop core x plan s m t stops.Unbuilt fits = tt
+
+-- a stop after which the device may have been written
+pub stop_longer : (x : Storage) (plan : Placement) (m : SessionJob) (t : Task) (stop : Stop) → TryWrites x plan m t (Err stop) → Lengthens m t
+stop_longer x plan m t (stops.NoCore words size) w = absurd w
+stop_longer x plan m t (stops.BackingFull sum size) w = w.0
+stop_longer x plan m t stops.BackingFault w = w.0
+stop_longer x plan m t stops.PrintFault w = absurd w
+stop_longer x plan m t stops.Unbuilt w = absurd w
 
 -- and where what was wanted wasn't brought in
 pub room_after_want : (core size : ℕ) (x : Storage) (plan : Placement) (s : Session) (m : SessionJob) (t : Task) (stop : Stop) → size ≡ core → stop ≢ stops.PrintFault → BroughtFits size x plan s m t (Err stop) → AttemptFits core x plan s m t (Err stop)
@@ -210,7 +226,7 @@ pub stopped_attempt : {K : Type 0} (taken : K → Option (List ℕ)) (x : Storag
 stopped_attempt taken x told core count before plan s t stop new paper a = record { jobs = a.jobs; others = a.others; same = a.same; member = a.member; running = a.running; meets = by stop a.meets } where
   by : (why : Stop) → StopMeets told (x.device ≢ None) core count plan (record s { jobs = a.jobs }) a.member t why new → AttemptMeets taken told (x.device ≢ None) core count before plan (record s { jobs = a.jobs }) a.member t (Err why) new paper paper
   by (stops.NoCore words size) meets = (meets.0, meets.1, meets.2, meets.3, refl)
-  by (stops.BackingFull sum size) meets = (meets.0, meets.1, meets.2, meets.3, refl)
+  by (stops.BackingFull sum size) meets = (inl meets.0, meets.1, meets.2, meets.3, refl)
   by stops.BackingFault meets = (meets, refl)
   by stops.PrintFault meets = absurd meets
   by stops.Unbuilt meets = absurd meets
@@ -277,8 +293,9 @@ module _ (x : Storage) (told : Told) (k : Machine) (plan : Placement) (s : Sessi
       subst S same (subst M (member_is x told k plan s m t o runs found b same) (subst C e here))
 
 -- what is wanted, where the try changed nothing
-pub wants_some : {K : Type 0} (taken : K → Option (List ℕ)) (told : Told) (old new : Machine) (paper paper' : K) (found : What) (r : RunsOver old told) → TryMeets taken r.storage r.storage.device r.plan r.session r.member r.task (Ok (tries.Absent found)) old new paper paper' → WantsSome new told found
-wants_some taken told old new paper paper' found r w = record {
+pub wants_some : {K : Type 0} (taken : K → Option (List ℕ)) (told told' after : Told) (count : ℕ) (old new : Machine) (paper paper' : K) (found : What) (r : RunsOver old told) → told' ≡ told
+    → TryMeets taken after count r.storage r.plan r.session r.member r.task (Ok (tries.Absent found)) old new paper paper' → WantsSome new told' found
+wants_some taken told told' after count old new paper paper' found r tells w = record {
   storage = r.storage;
   plan = r.plan;
   session = r.session;
@@ -286,7 +303,7 @@ wants_some taken told old new paper paper' found r w = record {
   task = r.task;
   words = w.0;
   ordered = r.ordered;
-  stands = unchanged_over r.storage told r.plan r.session old new w.3 r.stands;
+  stands = unchanged_over r.storage told told' r.plan r.session old new w.3 tells r.stands;
   running = r.running;
   wanted = w.1;
 }
@@ -303,36 +320,16 @@ attempt_as {K} taken x told told' core core' count count' before before' plan s 
     subst A a (subst B b (subst C c (subst D d (subst E e h))))
 
 -- the tries after something was brought in
-module _ {K : Type 0} (taken : K → Option (List ℕ)) (x : Storage) (told told' after : Told) (new last : Machine) (core count printed : ℕ) (plan : Placement) (s : Session) (m : SessionJob) (t : Task) (o : IsInOrderButCounts s) (runs : IsRunning plan s.jobs m t) (found : What)
-    (b : Brings x told' new plan s m t found) (ready : t.condition ≡ Ready) (tells : x.device ≢ None → told' ≢ None) (answered : Result Attempt Stop) (paper first paper' : K) (same_paper : first ≡ paper) (same_printed : new.tasks.printed ≡ printed) where
-  -- what the last try shows
-  abbrev pub Last : Type 0
-  Last =
-      (y : Storage) (core count : ℕ) (plan : Placement) (s : Session) (m : SessionJob) (t : Task) → IsInOrderButCounts s → MachineRepresents y y.device new plan s → IsRunning plan s.jobs m t → t.condition ≡ Ready → (y.device ≢ None → WantsNothing y plan m t)
-      → Attempts taken y y.device core count new.tasks.printed plan s t answered last first paper'
-
-  pub then_last : (words : ℕ) → code_area x plan m t ≢ None → IsWanted x plan m t found words → IsTouched plan m t found words → Last → Attempts taken x (content_after x.device told') core count printed plan s t answered last paper paper'
-  then_last words code wanted touched row =
+module _ {K : Type 0} (taken : K → Option (List ℕ)) (x : Storage) (told after : Told) (new last : Machine) (core count printed : ℕ) (plan : Placement) (s : Session) (m : SessionJob) (t : Task) (o : IsInOrderButCounts s) (runs : IsRunning plan s.jobs m t) (found : What) (b : Brings x told new plan s m t found) (ready : t.condition ≡ Ready)
+    (tells : x.device ≢ None → told ≢ None) (answered : Result Attempt Stop) (paper first paper' : K) (same_paper : first ≡ paper) (same_printed : new.tasks.printed ≡ printed) (size many : ℕ) (same_size : size ≡ core) (same_count : many ≡ count) (Premise : Storage → Placement → SessionJob → Task → Type 0) where
+  pub then_on : Premise b.again.storage plan (other x told new plan s m t o runs found b).member t
+      → ForEachOver new told (λ y p z n u. Premise y p n u → Attempts taken y (content_after y.device after) size many new.tasks.printed p z u answered last first paper')
+      → Attempts taken x (content_after x.device after) core count printed plan s t answered last paper paper'
+  then_on premise row =
       let y = b.again.storage in
-      let s' : Session = record s { jobs = b.again.jobs } in
-      let r = other x told' new plan s m t o runs found b in
-      let it : Attempts taken y y.device core count new.tasks.printed plan s' t answered last first paper' =
-      row y core count plan s' r.member t (in_order x told' new plan s m t o runs found b) b.again.stands.stands r.runs ready (wants_nothing x told' new plan s m t o runs found b words code wanted touched) in
-      goes_on taken x told' told' new core count printed plan s t b.again tells answered last paper paper'
-      (attempt_as taken y y.device (content_after y.device told') core core count count new.tasks.printed printed plan s' t answered last paper first paper' (sym (told_is y.device told' b.again.stands.says)) refl refl same_printed same_paper it)
-
-  -- what the tries behind the code's show
-  abbrev pub Coded : ℕ → ℕ → Type 0
-  Coded core count =
-      (y : Storage) (plan : Placement) (s : Session) (m : SessionJob) (t : Task) → IsInOrderButCounts s → StandsOver y told' new plan s → IsRunning plan s.jobs m t → t.condition ≡ Ready → code_area y plan m t ≢ None
-      → Attempts taken y (content_after y.device after) core count new.tasks.printed plan s t answered last first paper'
-
-  pub then_coded : (core' count' : ℕ) → core' ≡ core → count' ≡ count → Coded core' count' → Attempts taken x (content_after x.device after) core count printed plan s t answered last paper paper'
-  then_coded core' count' same_core same_count row =
-      let y = b.again.storage in
-      let s' : Session = record s { jobs = b.again.jobs } in
-      let r = other x told' new plan s m t o runs found b in
-      let it : Attempts taken y (content_after y.device after) core' count' new.tasks.printed plan s' t answered last first paper' =
-      row y plan s' r.member t (in_order x told' new plan s m t o runs found b) b.again.stands r.runs ready (code_there x told' new plan s m t o runs found b) in
-      goes_on taken x told' after new core count printed plan s t b.again tells answered last paper paper'
-      (attempt_as taken y (content_after y.device after) (content_after y.device after) core' core count' count new.tasks.printed printed plan s' t answered last paper first paper' refl same_core same_count same_printed same_paper it)
+      let z : Session = record s { jobs = b.again.jobs } in
+      let r = other x told new plan s m t o runs found b in
+      let it : Attempts taken y (content_after y.device after) size many new.tasks.printed plan z t answered last first paper' =
+      row y plan z r.member t (in_order x told new plan s m t o runs found b) b.again.stands r.runs ready premise in
+      goes_on taken x told after new core count printed plan s t b.again tells answered last paper paper'
+      (attempt_as taken y (content_after y.device after) (content_after y.device after) size core many count new.tasks.printed printed plan z t answered last paper first paper' refl same_size same_count same_printed same_paper it)

@@ -1,5 +1,5 @@
 -- The calls of intrinsics that aren't built print nothing.
-use Rattle.std.proofs.Common.{◌≡◌, ◌≢◌, ℕ, ◌+◌, ◌<◌, ◌≤◌, ltb, eqb, ℤ, pos, negsuc, List, [], ◌∷◌, length, Option, Some, None, Ok, refl, sym, ◌∙◌, arith, ⊎_elim}
+use Rattle.std.proofs.Common.{◌≡◌, ◌≢◌, ℕ, ◌+◌, ◌<◌, ◌≤◌, ltb, eqb, ℤ, pos, negsuc, List, [], ◌∷◌, length, Option, Some, None, Ok, refl, sym, ◌∙◌, arith, ⊎_elim, inl}
 use Rattle.std.proofs.lemmas.Bool.{eqb-true, cases_lt}
 use Rattle.b67_model.specs.Words.{Word, Operand, whole}
 use Rattle.b67_model.specs.State.{Task, Job, SessionJob, OperatorContext}
@@ -10,6 +10,7 @@ use Rattle.b67_model.specs.Intrinsics.{answers, array_length, row_copy, needs_wr
 use Rattle.b67_model.specs.Rows.{step}
 use Rattle.b67_law_order.proofs.Posts.{Post, post_ok, post_err, post_any, post_then, post_if, post_if_is, post_at}
 use Rattle.b67_layout.specs.Meets.{here}
+use Rattle.b67_mcp.specs.Called.{IsBuilt}
 use Rattle.b67_mcp.proofs.Callings.{Calling}
 
 -- nothing is printed
@@ -100,6 +101,6 @@ module _ (n : ℕ) (h : OperatorContext) (arguments : List Word) where
       by_rows calls (λ e. absurd (omega (arith, e, above)), (λ e. absurd (omega (arith, e, above)), (λ e. absurd (omega (arith, e, above)), (λ e. absurd (omega (arith, e, above)), last))))
 
 -- an intrinsic whose call prints is built
-pub printing_built : (m : SessionJob) (t : Task) (n : ℕ) (job : Job) (printed : List Line) (touched : Option ℕ) → Calling m t n → step m.constants m.progress.job t ≡ Ok (Goes job printed touched) → printed ≢ [] → n < 12
+pub printing_built : (m : SessionJob) (t : Task) (n : ℕ) (job : Job) (printed : List Line) (touched : Option ℕ) → Calling m t n → step m.constants m.progress.job t ≡ Ok (Goes job printed touched) → printed ≢ [] → IsBuilt n
 printing_built m t n job printed touched k is some =
-    ⊎_elim (λ low. low) (λ above. absurd (some (post_at Mute (intrinsic n (here m t k.next) k.arguments) (Goes job printed touched) (sym k.is ∙ is) (unbuilt_mute n (here m t k.next) k.arguments above)))) (cases_lt n 12)
+    ⊎_elim (λ low. inl low) (λ above. absurd (some (post_at Mute (intrinsic n (here m t k.next) k.arguments) (Goes job printed touched) (sym k.is ∙ is) (unbuilt_mute n (here m t k.next) k.arguments above)))) (cases_lt n 12)

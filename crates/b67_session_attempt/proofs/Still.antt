@@ -1,5 +1,5 @@
--- A step that calls no intrinsic, or one that is built, starts no task.
-use Rattle.std.proofs.Common.{true, ◌≡◌, ℕ, zero, suc, ◌+◌, ◌-◌, ◌<◌, ◌≤◌, List, [], ◌∷◌, replicate, length, Option, Some, None, Ok, Err, refl, sym, ◌∙◌, ap, arith, subst}
+-- A step that calls no intrinsic, or none from 12 to 16, starts no task.
+use Rattle.std.proofs.Common.{true, ◌≡◌, ℕ, ◌+◌, List, [], ◌∷◌, replicate, length, Option, Some, None, Ok, Err, refl, sym, ◌∙◌, ap, arith, subst}
 use Rattle.std.proofs.lemmas.List.{length-map}
 use Rattle.b67_model.specs.declared.operators.Op.{Op}
 use Rattle.b67_model.specs.Answers.{Answer}
@@ -7,9 +7,9 @@ use Rattle.b67_model.specs.Words.{Word, Operand, Original, whole}
 use Rattle.b67_model.specs.Operators.{Reading}
 use Rattle.b67_model.specs.State.{Array, Task, Job, SessionJob, OperatorContext, top, below_top}
 use Rattle.b67_model.specs.Keyed.{keyed}
-use Rattle.b67_model.specs.Arrays.{array}
+use Rattle.b67_model.specs.Arrays.{array, with_array, all_zero, resized}
 use Rattle.b67_model.specs.Steps.{Line, Value, Values, Done, Goes, Leaves, Waits}
-use Rattle.b67_model.specs.Intrinsics.{answered, answers, array_length, arraydec, print, numbers_of, row_copy, printrow, read_from, read, intrinsic}
+use Rattle.b67_model.specs.Intrinsics.{answered, answers, array_length, arraydec, print, numbers_of, row_copy, printrow, read_from, read, needs_writable, deallocate, resize, intrinsic}
 use Rattle.b67_model.specs.Need.{started_by}
 use Rattle.b67_model.specs.Rows.{row, reading_of, step_by, step}
 use Rattle.b67_law_order.proofs.Posts.{Post, post_ok, post_err, post_any, post_then, post_more, post_is}
@@ -20,6 +20,7 @@ use Rattle.b67_exec_cells.specs.Called as operators
 use Rattle.b67_exec_cells.specs.Called.{called_in}
 use Rattle.b67_layout.specs.Meets.{here}
 use Rattle.b67_mcp.proofs.Callings.{Calling}
+use Rattle.b67_session_attempt.proofs.Calls.{IsApart, apart_row}
 use Rattle.b67_session_attempt.proofs.Started.{known_in}
 use Rattle.b67_lemmas.proofs.Members.{length_change}
 
@@ -55,18 +56,21 @@ module _ (n : ℕ) where
   read_still h [] e = still h (record h.job { numbers = (read_from h.job.numbers).1 }) (Operand (read_from h.job.numbers).0 ∷ []) [] None e
   read_still h (w ∷ more) e = post_err (Still n) _
 
-  -- the four that are built
-  built_still : (j : ℕ) (h : OperatorContext) (arguments : List Word) → j < 4 → length h.job.tasks ≡ n → Post (Still n) (intrinsic (8 + j) h arguments)
-  built_still zero h arguments low e = arraydec_still h arguments e
-  built_still (suc zero) h arguments low e = print_still h arguments e
-  built_still (suc (suc zero)) h arguments low e = printrow_still h arguments e
-  built_still (suc (suc (suc zero))) h arguments low e = read_still h arguments e
-  built_still (suc (suc (suc (suc j)))) h arguments low e = absurd (omega (arith, low))
+  deallocate_still : (h : OperatorContext) (arguments : List Word) → length h.job.tasks ≡ n → Post (Still n) (deallocate h arguments)
+  deallocate_still h [] e = post_err (Still n) _
+  deallocate_still h (w ∷ []) e = post_any (Still n) (row_copy w) _ (λ a. post_then (Still n) (needs_writable h a) _ (still h (with_array h.job a all_zero) [] [] None e))
+  deallocate_still h (w ∷ v ∷ more) e = post_err (Still n) _
 
-  call_still : (k : ℕ) (h : OperatorContext) (arguments : List Word) → 8 ≤ k → k < 12 → length h.job.tasks ≡ n → Post (Still n) (intrinsic k h arguments)
-  call_still k h arguments from below e =
-      let same : 8 + (k - 8) ≡ k = omega (arith, from) in
-      subst (λ (i : ℕ). Post (Still n) (intrinsic i h arguments)) same (built_still (k - 8) h arguments (omega (arith, from, below)) e)
+  resize_still : (h : OperatorContext) (arguments : List Word) → length h.job.tasks ≡ n → Post (Still n) (resize h arguments)
+  resize_still h [] e = post_err (Still n) _
+  resize_still h (r ∷ []) e = post_err (Still n) _
+  resize_still h (r ∷ w ∷ []) e =
+      post_any (Still n) (row_copy r) _ (λ a. post_any (Still n) (whole w) _ (λ v. post_any (Still n) (array_length v) _ (λ len. post_then (Still n) (needs_writable h a) _ (still h (with_array h.job a (resized len)) [] [] (Some a) e))))
+  resize_still h (r ∷ w ∷ v ∷ more) e = post_err (Still n) _
+
+  call_still : (k : ℕ) (h : OperatorContext) (arguments : List Word) → IsApart k → length h.job.tasks ≡ n → Post (Still n) (intrinsic k h arguments)
+  call_still k h arguments apart e =
+      apart_row (Still n) k h arguments apart (arraydec_still h arguments e) (print_still h arguments e) (printrow_still h arguments e) (read_still h arguments e) (deallocate_still h arguments e) (resize_still h arguments e)
 
 -- other operators keep the profiles of all tasks
 kept : (op : Op) (h : OperatorContext) → IsKnown h → called op h ≡ None → Post (Still (length h.job.tasks)) (row op h)
@@ -95,7 +99,7 @@ module _ (m : SessionJob) (t : Task) (here_is : keyed (λ (u : Task). u.number) 
   pub operator_starts : called_in m t ≡ None → started_by m.progress.job (step m.constants m.progress.job t) ≡ 0
   operator_starts none = starts_none m.progress.job (step m.constants m.progress.job t) (step_still none)
 
-pub call_starts : (m : SessionJob) (t : Task) (n : ℕ) → Calling m t n → 8 ≤ n → n < 12 → started_by m.progress.job (step m.constants m.progress.job t) ≡ 0
-call_starts m t n k from below =
+pub call_starts : (m : SessionJob) (t : Task) (n : ℕ) → Calling m t n → IsApart n → started_by m.progress.job (step m.constants m.progress.job t) ≡ 0
+call_starts m t n k apart =
     starts_none m.progress.job (step m.constants m.progress.job t)
-    (subst (Post (Still (length m.progress.job.tasks))) (sym k.is) (call_still (length m.progress.job.tasks) n (here m t k.next) k.arguments from below refl))
+    (subst (Post (Still (length m.progress.job.tasks))) (sym k.is) (call_still (length m.progress.job.tasks) n (here m t k.next) k.arguments apart refl))

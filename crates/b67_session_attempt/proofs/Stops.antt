@@ -27,7 +27,8 @@ use Rattle.b67_session_attempt.specs.Tries.{IsTouched}
 use Rattle.b67_session_attempt.specs.Attempts.{IsLacking}
 use Rattle.b67_session_attempt.specs.Brought.{StopsFor, Stopped, BroughtFits}
 use Rattle.b67_session_attempt.proofs.Numbers.{need_of, need_fits}
-use Rattle.b67_session_attempt.proofs.Composed.{told_is, unchanged, same_member}
+use Rattle.b67_mcp.proofs.Told.{told_is}
+use Rattle.b67_session_attempt.proofs.Composed.{unchanged, same_member}
 
 module _ (x : Storage) (told told' : Option (List (List ℕ))) (old new : Machine) (plan : Placement) (s : Session) (m : SessionJob) (t : Task) (count words : ℕ) (found : What) (o : IsInOrderButCounts s) (h : StandsOver x told old plan s) (runs : IsRunning plan s.jobs m t)
     (wanted : IsWanted x plan m t found words) (touched : IsTouched plan m t found words) where
@@ -53,7 +54,7 @@ module _ (x : Storage) (told told' : Option (List (List ℕ))) (old new : Machin
   lacking y (what.Array home) touch (inl absent) = inl absent
   lacking y (what.Array home) touch (inr absent) =
       let (a, among, home_is, is, count_is) = touch in
-      inr (a.identity, is, ap (λ (at : ℕ). (y.held at).area) home_is ∙ absent)
+      inr (inl (a.identity, is, ap (λ (at : ℕ). (y.held at).area) home_is ∙ absent))
 
   -- and that core has room
   room : (y : Storage) (home : What) → IsWanted x plan m t home words → IsTouched plan m t home words → Lacks y home plan m t → need_with s m t 0 words ≤ length old.cpu.core
@@ -106,7 +107,7 @@ module _ (x : Storage) (told told' : Option (List (List ℕ))) (old new : Machin
             lacking = record { storage = again.storage; stands = stands_told again; lacks = lacks_again again r.refused.lacks; room = room_again again r.refused.lacks low };
             wants = wants;
             free = free;
-            short = r.short;
+            short = inl r.short;
           },
         );
       }

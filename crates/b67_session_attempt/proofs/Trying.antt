@@ -23,12 +23,12 @@ use Rattle.b67_exec_cells.specs.Called.{called_in}
 use Rattle.b67_task_tables.specs.declared.tables.Machine.{Machine}
 use Rattle.b67_task_tables.specs.declared.tables.Tasks.{Tasks}
 use Rattle.b67_layout_step.proofs.Laws.{touches_arrays}
-use Rattle.b67_session_attempt.specs.Makes.{OperatorMade, CallsOrMakes, MakesAt}
+use Rattle.b67_session_make.specs.Makes.{OperatorMade, CallsOrMakes, MakesAt}
 use Rattle.b67_mcp.specs.declared.ends.Stop.{Stop}
 use Rattle.b67_mcp.specs.declared.ends.Stop.TheVariants as stops
-use Rattle.b67_mcp.specs.Called.{CallsBuilt, IsCalled, IsCut, OnlyPrinted, TouchesAbsent, CallMeets}
+use Rattle.b67_mcp.specs.Called.{CallsBuilt, IsCalled, TouchesAbsent, CallMeets, CallWrites}
 use Rattle.b67_presence.specs.Bringing.{IsWanted}
-use Rattle.b67_session_attempt.specs.Tries.{IsTouched, TryMeets}
+use Rattle.b67_session_attempt.specs.Tries.{IsTouched, TryMeets, TryWrites}
 use Rattle.b67_lemmas.proofs.Members.{keyed_has}
 
 -- what is wanted, and that the step touches it, where nothing has changed
@@ -132,11 +132,21 @@ pub called_so : {K : Type 0} (taken : K → Option (List ℕ)) (told : Option (L
 called_so taken told s m t first old new paper paper' same h = let P : Machine → Type 0 = λ k. IsCalled taken paper paper' told s m t k.tasks.printed new in subst P same h
 
 -- an intrinsic's stop is the try's
-pub stops_so : {K : Type 0} (taken : K → Option (List ℕ)) (x : Storage) (told : Option (List (List ℕ))) (plan : Placement) (s : Session) (m : SessionJob) (t : Task) (n : ℕ) (stop : Stop) (first old new : Machine) (paper paper' : K) → called_in m t ≡ Some n → old ≡ first
-    → CallMeets taken x told plan s m t n (Err stop) old new paper paper' → TryMeets taken x told plan s m t (Err stop) first new paper paper'
-stops_so taken x told plan s m t n stops.PrintFault first old new paper paper' called same h =
-    let P : Machine → Type 0 = λ k. IsCut taken paper paper' m t k.tasks.printed new.tasks.printed × OnlyPrinted k new in subst P same h
-stops_so taken x told plan s m t n stops.Unbuilt first old new paper paper' called same h = (n, called, h.0, h.1 ∙ same, h.2)
-stops_so taken x told plan s m t n (stops.NoCore need core) first old new paper paper' called same h = absurd h
-stops_so taken x told plan s m t n (stops.BackingFull sum sectors) first old new paper paper' called same h = absurd h
-stops_so taken x told plan s m t n stops.BackingFault first old new paper paper' called same h = absurd h
+pub stops_so : {K : Type 0} (taken : K → Option (List ℕ)) (told : Option (List (List ℕ))) (count : ℕ) (x : Storage) (plan : Placement) (s : Session) (m : SessionJob) (t : Task) (n : ℕ) (stop : Stop) (first old new : Machine) (paper paper' : K) → called_in m t ≡ Some n → old ≡ first
+    → CallMeets taken told count x plan s m t n (Err stop) old new paper paper' → TryMeets taken told count x plan s m t (Err stop) first new paper paper'
+stops_so taken told count x plan s m t n stop first old new paper paper' called same h =
+    let P : Machine → Type 0 = λ k. TryMeets taken told count x plan s m t (Err stop) k new paper paper' in subst P same (by stop h)
+  where
+    by : (why : Stop) → CallMeets taken told count x plan s m t n (Err why) old new paper paper' → TryMeets taken told count x plan s m t (Err why) old new paper paper'
+    by stops.PrintFault h = h
+    by stops.Unbuilt h = (n, called, h.0, h.1, h.2)
+    by (stops.NoCore need core) h = absurd h
+    by (stops.BackingFull sum sectors) h = h
+    by stops.BackingFault h = h
+
+pub writes_so : (x : Storage) (plan : Placement) (m : SessionJob) (t : Task) (stop : Stop) → CallWrites x plan m t (Err stop) → TryWrites x plan m t (Err stop)
+writes_so x plan m t stops.PrintFault w = absurd w
+writes_so x plan m t stops.Unbuilt w = absurd w
+writes_so x plan m t (stops.NoCore need core) w = absurd w
+writes_so x plan m t (stops.BackingFull sum sectors) w = w
+writes_so x plan m t stops.BackingFault w = w

@@ -1,9 +1,8 @@
 -- What bringing in answers and leaves that the next operator wants, with the numbers that a stop says.
-use Rattle.std.specs.Prelude.{◌≡◌, ◌≢◌, ℕ, ◌+◌, ◌<◌, ◌≤◌, List, length, Option, Some, None, Result, Ok, Err}
+use Rattle.std.specs.Prelude.{◌≡◌, ◌≢◌, ℕ, ◌+◌, ◌<◌, ◌≤◌, List, length, Option, None, Result, Ok, Err}
 use Rattle.b67_model.specs.State.{Task, SessionJob}
 use Rattle.b67_model.specs.Sectors.{sectors}
-use Rattle.b67_model.specs.Need.{touched_of, need}
-use Rattle.b67_model.specs.Rows.{step}
+use Rattle.b67_model.specs.Need.{need}
 use Rattle.b67_model.specs.Schedule.{Session}
 use Rattle.b67_layout.specs.Orders.{IsInOrderButCounts}
 use Rattle.b67_backing.specs.declared.refusals.SpaceFault.{SpaceFault}
@@ -13,7 +12,6 @@ use Rattle.b67_stack.specs.Represents.{Storage}
 use Rattle.b67_layout_storage.specs.Machine.{content_after}
 use Rattle.b67_layout.specs.Placement.{Placement}
 use Rattle.b67_layout.specs.Session.{IsRunning}
-use Rattle.b67_layout.specs.Meets.{area_held}
 use Rattle.b67_exec_cells.specs.Running.{code_area}
 use Rattle.b67_law_order_steps.specs.Weaker.{AllOtherNumbers}
 use Rattle.b67_task_tables.specs.declared.tables.Machine.{Machine}
@@ -22,11 +20,6 @@ use Rattle.b67_presence.specs.Bringing.{Brings}
 use Rattle.b67_mcp.specs.declared.ends.Stop.{Stop}
 use Rattle.b67_mcp.specs.declared.ends.Stop.TheVariants as stops
 use Rattle.b67_session_attempt.specs.Attempts.{StillStands, StandsLacking, StandsShort}
-
--- the running segment and the array that the step touches are in core
-pub record WantsNothing (x : Storage) (plan : Placement) (m : SessionJob) (t : Task) : Type 0 where
-  pub code : code_area x plan m t ≢ None
-  pub array : (a : ℕ) → touched_of m.constants m.progress.job t (step m.constants m.progress.job t) ≡ Some a → area_held x plan m.constants.number a ≢ None
 
 -- the sectors of each session that the machine stands for are so many
 abbrev pub SumsTo : Machine → ℕ → Type 0

@@ -1,4 +1,3 @@
-pub mod Makes
 pub mod Fits
 pub mod Tries
 pub mod Attempts

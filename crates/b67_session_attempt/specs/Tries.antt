@@ -16,7 +16,7 @@ use Rattle.b67_exec_cells.specs.Called.{called_in}
 use Rattle.b67_presence.specs.Bringing.{IsWanted}
 use Rattle.b67_task_tables.specs.declared.tables.Machine.{Machine}
 use Rattle.b67_task_tables.specs.Runs.{RunsTask}
-use Rattle.b67_mcp.specs.Called.{IsCalled, IsCut, OnlyPrinted}
+use Rattle.b67_mcp.specs.Called.{IsBuilt, IsCalled, IsCut, IsFull, IsRefused, MayWrite, OnlyPrinted}
 use Rattle.b67_mcp.specs.declared.ends.Stop.{Stop}
 use Rattle.b67_mcp.specs.declared.ends.Stop.TheVariants as stops
 use Rattle.b67_session_attempt.specs.declared.tries.Tried.{Tried}
@@ -40,20 +40,33 @@ EndsSo m t Ended = step m.constants m.progress.job t ≡ Ok Leaves
 EndsSo m t (Faulted fault) = step m.constants m.progress.job t ≡ Err fault
 EndsSo m t _ = ⊥
 
--- by what was answered. Where the step wasn't made nothing has changed but, after a printer's failure, how much is printed
-abbrev pub TryMeets : {K : Type 0} → (K → Option (List ℕ)) → Storage → Option (List (List ℕ)) → Placement → Session → SessionJob → Task → Result Tried Stop → Machine → Machine → K → K → Type 0
-TryMeets taken x told plan s m t (Ok tries.Made) old new paper paper' = IsCalled taken paper paper' told s m t old.tasks.printed new
-TryMeets taken x told plan s m t (Ok (tries.Absent found)) old new paper paper' =
+-- By what was answered, over a device of so many sectors that tells this afterwards. Where the step wasn't made nothing has
+-- changed but, after a printer's failure, how much is printed, and, after a want of sectors or a device's failure, where the
+-- array is held that was to become longer
+abbrev pub TryMeets : {K : Type 0} → (K → Option (List ℕ)) → Option (List (List ℕ)) → ℕ → Storage → Placement → Session → SessionJob → Task → Result Tried Stop → Machine → Machine → K → K → Type 0
+TryMeets taken told count x plan s m t (Ok tries.Made) old new paper paper' = IsCalled taken paper paper' told s m t old.tasks.printed new
+TryMeets taken told count x plan s m t (Ok (tries.Absent found)) old new paper paper' =
     (words : ℕ) × IsWanted x plan m t found words × IsTouched plan m t found words × (new ≡ old) × (paper' ≡ paper)
-TryMeets taken x told plan s m t (Ok (tries.Ends ending)) old new paper paper' = EndsSo m t ending × (new ≡ old) × (paper' ≡ paper)
-TryMeets taken x told plan s m t (Err stops.PrintFault) old new paper paper' = IsCut taken paper paper' m t old.tasks.printed new.tasks.printed × OnlyPrinted old new
-TryMeets taken x told plan s m t (Err stops.Unbuilt) old new paper paper' = (n : ℕ) × (called_in m t ≡ Some n) × (12 ≤ n) × (new ≡ old) × (paper' ≡ paper)
-TryMeets taken x told plan s m t (Err _) old new paper paper' = ⊥
+TryMeets taken told count x plan s m t (Ok (tries.Ends ending)) old new paper paper' = EndsSo m t ending × (new ≡ old) × (paper' ≡ paper)
+TryMeets taken told count x plan s m t (Err stops.PrintFault) old new paper paper' = IsCut taken paper paper' m t old.tasks.printed new.tasks.printed × OnlyPrinted old new
+TryMeets taken told count x plan s m t (Err (stops.BackingFull sum size)) old new paper paper' = IsFull x told count plan s m t sum size old new × (paper' ≡ paper)
+TryMeets taken told count x plan s m t (Err stops.BackingFault) old new paper paper' = IsRefused x told plan s m t old new × (paper' ≡ paper)
+TryMeets taken told count x plan s m t (Err stops.Unbuilt) old new paper paper' = (n : ℕ) × (called_in m t ≡ Some n) × (IsBuilt n → ⊥) × (new ≡ old) × (paper' ≡ paper)
+TryMeets taken told count x plan s m t (Err (stops.NoCore words size)) old new paper paper' = ⊥
 
--- a step that was made, ends its task, or couldn't be printed needs no more words than core has
+-- after every other answer the device is as it was
+abbrev pub TryWrites : Storage → Placement → SessionJob → Task → Result Tried Stop → Type 0
+TryWrites x plan m t (Ok tries.Made) = MayWrite x plan m t
+TryWrites x plan m t (Err (stops.BackingFull sum size)) = MayWrite x plan m t
+TryWrites x plan m t (Err stops.BackingFault) = MayWrite x plan m t
+TryWrites x plan m t answered = ⊥
+
+-- a step that was made, ends its task, or was stopped by the printer or the device needs no more words than core has
 abbrev pub TryFits : ℕ → Session → SessionJob → Task → Result Tried Stop → Type 0
 TryFits core s m t (Ok tries.Made) = need core s m t ≤ core
 TryFits core s m t (Ok (tries.Absent found)) = Unit {0}
 TryFits core s m t (Ok (tries.Ends ending)) = need core s m t ≤ core
 TryFits core s m t (Err stops.PrintFault) = need core s m t ≤ core
+TryFits core s m t (Err (stops.BackingFull sum size)) = need core s m t ≤ core
+TryFits core s m t (Err stops.BackingFault) = need core s m t ≤ core
 TryFits core s m t (Err stop) = Unit {0}

@@ -5,12 +5,10 @@ mod attempting;
 mod attempts;
 mod bringing;
 mod fits;
-mod making;
 mod tries;
 
 pub use attempting::attempt;
 pub use attempts::Attempt;
 pub use b67_mcp::Stop;
 pub use fits::{made_fits, present_fits};
-pub use making::make;
 pub use tries::{Tried, try_once};

@@ -1,15 +1,17 @@
 //! One try at the next operator.
 
-ghost use Rattle.std.specs.Prelude.{length};
+ghost use Rattle.std.specs.Prelude.{◌≡◌, ◌+◌, length};
+ghost use Rattle.b67_layout_storage.specs.Machine.{Says, DeviceAfterCalls, content_after};
 ghost use Rattle.b67_task_tables.specs.Runs.{Keeps};
 ghost use Rattle.b67_mcp.specs.Called.{AreCountable};
-ghost use Rattle.b67_mcp.specs.Running.{IsHeard};
-ghost use Rattle.b67_session_attempt.specs.Makes.{ForEachReady};
-ghost use Rattle.b67_session_attempt.specs.Tries.{ReadyRuns, TryMeets, TryFits};
+ghost use Rattle.b67_mcp.specs.Running.{CallCauses};
+ghost use Rattle.b67_session_make.specs.Makes.{ForEachReady};
+ghost use Rattle.b67_session_attempt.specs.Tries.{ReadyRuns, TryMeets, TryFits, TryWrites};
 
-use crate::making::make;
+use b67_backing::Backing;
 use b67_io::Sink;
 use b67_mcp::{CallEnd, Stop, intrinsic};
+use b67_session_make::make;
 use b67_stack::{Step, What};
 use b67_task_tables::Machine;
 use b67_word::Ending;
@@ -24,24 +26,34 @@ pub enum Tried {
 
 /// Makes the next operator of the running task, an intrinsic's call included, unless what it wants is absent. Nothing has
 /// changed but where it was made. `PrintFault`, with nothing changed but that `printed` is raised by the bytes of its text
-/// that were taken, which aren't all, only where the printer failed. A step that was made, ends its task, or can't be printed
-/// needs no more words than core has.
+/// that were taken, which aren't all, only where the printer failed. `BackingFull`, only where the session that the call would
+/// make takes more sectors than the device has, with both, and `BackingFault`, only where the device failed, leave the
+/// machine for the same session. A step that was made, ends its task, or was stopped by either of the two needs no more words
+/// than core has. The backing is called only where a call makes a present array longer, and is made or stopped by the backing.
 #[inline(always)]
-pub fn try_once<K: Sink>(machine: &mut Machine, paper: &mut K) -> Result<Tried, Stop>
+pub fn try_once<B: Backing, K: Sink>(
+    machine: &mut Machine,
+    backing: &mut B,
+    paper: &mut K,
+) -> Result<Tried, Stop>
     requires runs { ReadyRuns machine.old }
     requires countable { AreCountable machine.old.tasks.jobs }
-    ensures row { ForEachReady machine.old (λ x told plan s m t. TryMeets K.taken x told plan s m t result machine.old machine.new paper.old paper.new) }
+    requires same { B.size backing.old + 1 ≡ length machine.old.sectors.links }
+    ensures row { ForEachReady machine.old (λ x told plan s m t. Says told (B.holds backing.old)
+        → TryMeets K.taken (content_after told (B.holds backing.new)) (B.size backing.old) x plan s m t result machine.old machine.new paper.old paper.new) }
     ensures fits { ForEachReady machine.old (λ x told plan s m t. TryFits (length machine.old.cpu.core) s m t result) }
-    ensures cause { IsHeard K.faults paper.old paper.new result }
+    ensures quiet { ForEachReady machine.old (λ x told plan s m t. (TryWrites x plan m t result → ⊥) → backing.new ≡ backing.old) }
+    ensures causes { CallCauses B.faults K.faults backing.old backing.new paper.old paper.new result }
     ensures countable { AreCountable machine.new.tasks.jobs }
     ensures keeps { Keeps machine.old machine.new }
+    ensures device { DeviceAfterCalls B.holds B.size B.calls B.faults backing.old backing.new }
 {
     match make(machine) {
         Step::Done => Ok(Tried::Made),
         Step::Absent(found) => Ok(Tried::Absent(found)),
         Step::Fault(fault) => Ok(Tried::Ends(Ending::Faulted(fault))),
         Step::Ended => Ok(Tried::Ends(Ending::Ended)),
-        Step::Call(n) => match intrinsic(machine, n, paper) {
+        Step::Call(n) => match intrinsic(machine, n, backing, paper) {
             Ok(CallEnd::Done) => Ok(Tried::Made),
             Ok(CallEnd::Absent(found)) => Ok(Tried::Absent(found)),
             Ok(CallEnd::Fault(fault)) => Ok(Tried::Ends(Ending::Faulted(fault))),

@@ -18,11 +18,17 @@ use b67_task_tables::{Machine, Tasks};
 use std::alloc::Global;
 
 // b67_mcp
-pub fn intrinsic<K: Sink>(machine: &mut Machine, n: u8, paper: &mut K) -> Result<CallEnd, Stop>
+pub fn intrinsic<B: Backing, K: Sink>(
+    machine: &mut Machine,
+    n: u8,
+    backing: &mut B,
+    paper: &mut K,
+) -> Result<CallEnd, Stop>
     requires calls { CallsSome machine.old n }
     requires countable { AreCountable machine.old.tasks.jobs }
+    requires same { B.size backing.old + 1 ≡ length machine.old.sectors.links }
 {
-    b67_mcp::intrinsic(machine, n, paper)
+    b67_mcp::intrinsic(machine, n, backing, paper)
 }
 
 // b67_session

@@ -1,4 +1,4 @@
--- Each state of a run has safe words, and so calls no intrinsic from 12 on.
+-- Each state of a run has safe words, and so calls no intrinsic from 12 to 16.
 use Rattle.std.proofs.Common.{◌≡◌, ℕ, zero, suc, ◌+◌, true, List, [], ◌∷◌, Option, Some, None, refl, sym, subst, inl, inr}
 use Rattle.std.specs.List.{AllByRecursion}
 use Rattle.b67_model.specs.Keyed.{keyed}

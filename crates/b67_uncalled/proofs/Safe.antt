@@ -1,16 +1,16 @@
--- Words that lead to none of the intrinsics 12 to 18.
+-- Words that lead to none of the intrinsics 12 to 16.
 use Rattle.std.proofs.Common.{◌≡◌, ◌^◌, ◌<◌, List}
 use Rattle.b67_lemmas.specs.Lists.{Has}
 use Rattle.b67_model.specs.Words as Words
 use Rattle.b67_model.specs.Words.{Word, Operand, Name, Ref, Row, Element, Original, Proc, Intrinsic}
 use Rattle.b67_model.specs.State.{Frame, Task, Array}
 use Rattle.b67_model.specs.InOrder.{EntryInOrder}
-use Rattle.b67_uncalled.proofs.Couples.{Apart}
+use Rattle.b67_uncalled.specs.Uncalled.{IsApart}
 
 abbrev pub Safe : Word → Type 0
 Safe (Operand bits) = Unit {0}
-Safe (Name couple) = (couple < 2 ^ 14) × Apart couple
-Safe (Ref frame offset) = frame ≡ 0 → Apart offset
+Safe (Name couple) = (couple < 2 ^ 14) × IsApart couple
+Safe (Ref frame offset) = frame ≡ 0 → IsApart offset
 Safe (Row array) = Unit {0}
 Safe (Element array index) = Unit {0}
 Safe (Original array) = Unit {0}

@@ -1,35 +1,49 @@
-use Rattle.std.proofs.Common.{ℕ, Some, Ok, refl, sym, ◌∙◌, ap, arith, subst}
+use Rattle.std.proofs.Common.{ℕ, List, Option, Some, Ok, refl, sym, ◌∙◌, ap, arith, subst, inl, inr, ⊎_elim}
+use Rattle.b67_layout_storage.specs.Machine.{content_after}
 use Rattle.b67_mcp.specs.declared.ends.CallEnd.{CallEnd}
 use Rattle.b67_mcp.specs.Called.{CallMeets, CallTouches}
 use Rattle.b67_mcp.proofs.Built.{built_of}
-use Rattle.b67_mcp.proofs.Low.{from_eight}
-use Rattle.b67_mcp.proofs.Quiet.{silent_meets}
+use Rattle.b67_mcp.proofs.Low.{numbered}
+use Rattle.b67_mcp.proofs.Quiet.{silent_meets, resize_meets}
+use Rattle.b67_mcp.proofs.Told.{told_is}
 use Rattle.b67_mcp.proofs.Callings.{calling}
 use Rattle.b67_mcp.proofs.Present.{silent_untouched}
 use Rattle.b67_mcp.proofs.intrinsic.Goals as goal
 
 pub returns-in-8-clause-row : goal.returns-in-8-clause-row
-returns-in-8-clause-row g c = λ x told plan s m t o h runs code called.
-    (let P : CallEnd → Type 0 = λ e. CallMeets g.K.Sink.taken x told plan s m t c.args.n (Ok e) c.args.machine.now c.declare.new.machine c.args.paper.now c.args.paper.now in
-    subst P (sym c.silent.ensures) (silent_meets g.K.Sink.taken c.args.paper.now x told plan s m t c.args.n c.declare.result c.args.machine.now c.declare.new.machine (built_of m t c.args.n called (omega (arith, c.in-8.is))) (c.declare.ensures.row x told plan s m t o h runs code (called ∙ ap Some c.in-8.is))))
+returns-in-8-clause-row g c = λ x told plan s m t o h runs code called says.
+    let B = g.B.Backing in
+    let M : CallEnd → Option (List (List ℕ)) → Type 0 = λ e d. CallMeets g.K.Sink.taken d (B.size c.args.backing.now) x plan s m t c.args.n (Ok e) c.args.machine.now c.declare.new.machine c.args.paper.now c.args.paper.now in
+    subst (M c.silent.result) (sym (told_is told (B.holds c.args.backing.now) says))
+    (subst (λ e. M e told) (sym c.silent.ensures)
+    (silent_meets g.K.Sink.taken c.args.paper.now x told (B.size c.args.backing.now) plan s m t c.args.n c.declare.result c.args.machine.now c.declare.new.machine (built_of m t c.args.n called (inl (omega (arith, c.in-8.is)))) (c.declare.ensures.row x told plan s m t o h runs code (called ∙ ap Some c.in-8.is))))
 
 pub returns-in-9-clause-row : goal.returns-in-9-clause-row
-returns-in-9-clause-row g c = λ x told plan s m t o h runs code called.
-    (let P : ℕ → Type 0 = λ n. CallMeets g.K.Sink.taken x told plan s m t n c.print.result c.args.machine.now c.print.new.machine c.args.paper.now c.print.new.paper in
-    subst P (sym c.in-9.is) (c.print.ensures.row x told plan s m t o h runs code (called ∙ ap Some c.in-9.is)))
+returns-in-9-clause-row g c = λ x told plan s m t o h runs code called says.
+    let B = g.B.Backing in
+    let M : ℕ → Option (List (List ℕ)) → Type 0 = λ n d. CallMeets g.K.Sink.taken d (B.size c.args.backing.now) x plan s m t n c.print.result c.args.machine.now c.print.new.machine c.args.paper.now c.print.new.paper in
+    subst (M c.args.n) (sym (told_is told (B.holds c.args.backing.now) says))
+    (subst (λ n. M n told) (sym c.in-9.is) (c.print.ensures.row x told plan s m t o h runs code (called ∙ ap Some c.in-9.is) (B.size c.args.backing.now)))
 
 pub returns-in-10-clause-row : goal.returns-in-10-clause-row
-returns-in-10-clause-row g c = λ x told plan s m t o h runs code called.
-    (let P : ℕ → Type 0 = λ n. CallMeets g.K.Sink.taken x told plan s m t n c.print_row.result c.args.machine.now c.print_row.new.machine c.args.paper.now c.print_row.new.paper in
-    subst P (sym c.in-10.is) (c.print_row.ensures.row x told plan s m t o h runs code (called ∙ ap Some c.in-10.is)))
+returns-in-10-clause-row g c = λ x told plan s m t o h runs code called says.
+    let B = g.B.Backing in
+    let M : ℕ → Option (List (List ℕ)) → Type 0 = λ n d. CallMeets g.K.Sink.taken d (B.size c.args.backing.now) x plan s m t n c.print_row.result c.args.machine.now c.print_row.new.machine c.args.paper.now c.print_row.new.paper in
+    subst (M c.args.n) (sym (told_is told (B.holds c.args.backing.now) says))
+    (subst (λ n. M n told) (sym c.in-10.is) (c.print_row.ensures.row x told plan s m t o h runs code (called ∙ ap Some c.in-10.is) (B.size c.args.backing.now)))
 
 pub returns-in-11-clause-row : goal.returns-in-11-clause-row
-returns-in-11-clause-row g c = λ x told plan s m t o h runs code called.
-    (let P : CallEnd → Type 0 = λ e. CallMeets g.K.Sink.taken x told plan s m t c.args.n (Ok e) c.args.machine.now c.read.new.machine c.args.paper.now c.args.paper.now in
-    subst P (sym c.silent-in-11.ensures) (silent_meets g.K.Sink.taken c.args.paper.now x told plan s m t c.args.n c.read.result c.args.machine.now c.read.new.machine (built_of m t c.args.n called (omega (arith, c.in-11.is))) (c.read.ensures.row x told plan s m t o h runs code (called ∙ ap Some c.in-11.is))))
+returns-in-11-clause-row g c = λ x told plan s m t o h runs code called says.
+    let B = g.B.Backing in
+    let M : CallEnd → Option (List (List ℕ)) → Type 0 = λ e d. CallMeets g.K.Sink.taken d (B.size c.args.backing.now) x plan s m t c.args.n (Ok e) c.args.machine.now c.read.new.machine c.args.paper.now c.args.paper.now in
+    subst (M c.silent-in-11.result) (sym (told_is told (B.holds c.args.backing.now) says))
+    (subst (λ e. M e told) (sym c.silent-in-11.ensures)
+    (silent_meets g.K.Sink.taken c.args.paper.now x told (B.size c.args.backing.now) plan s m t c.args.n c.read.result c.args.machine.now c.read.new.machine (built_of m t c.args.n called (inl (omega (arith, c.in-11.is)))) (c.read.ensures.row x told plan s m t o h runs code (called ∙ ap Some c.in-11.is))))
 
 pub returns-in_default-clause-row : goal.returns-in_default-clause-row
-returns-in_default-clause-row g c = λ x told plan s m t o h runs code called. (omega (arith, from_eight plan s m t c.args.n o runs called), refl, refl)
+returns-in_default-clause-row g c = λ x told plan s m t o h runs code called says.
+    let between = numbered plan s m t c.args.n o runs called in
+    (λ built. ⊎_elim (λ low. omega (arith, low, between.0)) (λ high. omega (arith, high, between.1)) built, refl, refl)
 
 pub returns-in-8-clause-present : goal.returns-in-8-clause-present
 returns-in-8-clause-present g c = λ x told plan s m t o h runs code called.
@@ -48,3 +62,38 @@ returns-in-9-clause-present g c = λ x told plan s m t o h runs code called. c.p
 
 pub returns-in-10-clause-present : goal.returns-in-10-clause-present
 returns-in-10-clause-present g c = λ x told plan s m t o h runs code called. c.print_row.ensures.present x told plan s m t o h runs code (called ∙ ap Some c.in-10.is)
+
+pub returns-in-9-clause-causes : goal.returns-in-9-clause-causes
+returns-in-9-clause-causes g c = record { printer = c.print.ensures.cause; device = λ e. absurd (c.print.ensures.stops e) }
+
+pub returns-in-10-clause-causes : goal.returns-in-10-clause-causes
+returns-in-10-clause-causes g c = record { printer = c.print_row.ensures.cause; device = λ e. absurd (c.print_row.ensures.stops e) }
+
+pub returns-in-17-clause-row : goal.returns-in-17-clause-row
+returns-in-17-clause-row g c = λ x told plan s m t o h runs code called says.
+    let B = g.B.Backing in
+    let M : CallEnd → Option (List (List ℕ)) → Type 0 = λ e d. CallMeets g.K.Sink.taken d (B.size c.args.backing.now) x plan s m t c.args.n (Ok e) c.args.machine.now c.deallocate.new.machine c.args.paper.now c.args.paper.now in
+    subst (M c.silent-in-17.result) (sym (told_is told (B.holds c.args.backing.now) says))
+    (subst (λ e. M e told) (sym c.silent-in-17.ensures)
+    (silent_meets g.K.Sink.taken c.args.paper.now x told (B.size c.args.backing.now) plan s m t c.args.n c.deallocate.result c.args.machine.now c.deallocate.new.machine (built_of m t c.args.n called (inr (omega (arith, c.in-17.is)))) (c.deallocate.ensures.row x told plan s m t o h runs code (called ∙ ap Some c.in-17.is))))
+
+pub returns-in-17-clause-present : goal.returns-in-17-clause-present
+returns-in-17-clause-present g c = λ x told plan s m t o h runs code called.
+    (let P : CallEnd → Type 0 = λ e. CallTouches x plan m t (Ok e) in
+    let k = calling m t 17 (called ∙ ap Some c.in-17.is) in
+    subst P (sym c.silent-in-17.ensures) (silent_untouched m t x plan 17 (λ e. absurd cc) k told s c.args.machine.now c.deallocate.new.machine c.deallocate.result (c.deallocate.ensures.row x told plan s m t o h runs code (called ∙ ap Some c.in-17.is))))
+
+pub returns-in-18-clause-row : goal.returns-in-18-clause-row
+returns-in-18-clause-row g c = λ x told plan s m t o h runs code called says.
+    let B = g.B.Backing in
+    resize_meets g.K.Sink.taken c.args.paper.now x (content_after told (B.holds c.resize.new.backing)) (B.size c.args.backing.now) plan s m t c.args.n c.resize.result c.args.machine.now c.resize.new.machine
+    (built_of m t c.args.n called (inr (omega (arith, c.in-18.is)))) (c.resize.ensures.row x told plan s m t o h runs code (called ∙ ap Some c.in-18.is) says)
+
+pub returns-in-18-clause-present : goal.returns-in-18-clause-present
+returns-in-18-clause-present g c = λ x told plan s m t o h runs code called. c.resize.ensures.present x told plan s m t o h runs code (called ∙ ap Some c.in-18.is)
+
+pub returns-in-18-clause-quiet : goal.returns-in-18-clause-quiet
+returns-in-18-clause-quiet g c = λ x told plan s m t o h runs code called none. c.resize.ensures.quiet x told plan s m t o h runs code (called ∙ ap Some c.in-18.is) none
+
+pub returns-in-18-clause-causes : goal.returns-in-18-clause-causes
+returns-in-18-clause-causes g c = record { printer = record { later = omega arith; failed = λ e. absurd (c.resize.ensures.silent e) }; device = c.resize.ensures.cause }

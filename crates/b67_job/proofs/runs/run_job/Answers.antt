@@ -6,7 +6,7 @@ returns-clause-ran g c = λ known s m t says lone. record {
   between = c.slice-answered.new.paper;
   slices = c.slice-answered.ensures.row known s m t says lone;
   finishes = c.finish.ensures;
-  device_failed = c.slice-answered.ensures.causes.backing;
-  printer_failed = c.slice-answered.ensures.causes.print;
-  later = c.slice-answered.ensures.causes.later;
+  device_failed = c.slice-answered.ensures.causes.device;
+  printer_failed = c.slice-answered.ensures.causes.printer.failed;
+  later = c.slice-answered.ensures.causes.printer.later;
 }

@@ -1,4 +1,4 @@
-use Rattle.std.proofs.Common.{ℤ, refl, ◌∙◌, [], ◌∷◌, None, subst, rules, w64, SFits, arith}
+use Rattle.std.proofs.Common.{inl, ℤ, refl, ◌∙◌, [], ◌∷◌, None, subst, rules, w64, SFits, arith}
 use Rattle.std.proofs.lemmas.Int.{to_z-of_z}
 use Rattle.b67_session_lines.specs.Parts.{TookRest, TookMore}
 use Rattle.b67_mcp.specs.Called.{printed_text}
@@ -16,7 +16,7 @@ pub print_value-requires : goal.print_value-requires
 print_value-requires g c = call_some c.args.machine.now 9 c.requires
 
 pub returns-in-Err-clause-row : goal.returns-in-Err-clause-row
-returns-in-Err-clause-row g c = λ x told plan s m t o h runs code called.
+returns-in-Err-clause-row g c = λ x told plan s m t o h runs code called count.
     (let k = calling m t 9 called in
     (k.is ∙ c.in-Err.ensures.row x plan s m t o h.session runs k.reference k.arguments k.call k.next, refl, refl))
 
@@ -24,7 +24,7 @@ pub say_value-requires : goal.say_value-requires
 say_value-requires g c = reads_of c.args.machine.now 9 c.requires
 
 pub returns-in-Err-say_value-clause-row : goal.returns-in-Err-say_value-clause-row
-returns-in-Err-say_value-clause-row g c = λ x told plan s m t o h runs code called.
+returns-in-Err-say_value-clause-row g c = λ x told plan s m t o h runs code called count.
     (let k = calling m t 9 called in
     let f : SFits w64 c.in-Ok.value = search rules in
     let r = c.in-Ok.ensures.row x plan s m t o h.session runs k.reference k.arguments k.call in
@@ -37,7 +37,7 @@ cut-requires g c =
     record { reads = reads_of c.args.machine.now 9 c.requires; may = (c.in-Ok.ensures.row q.storage q.plan q.session q.member q.task q.ordered q.stands.session q.running k.reference k.arguments k.call).1 }
 
 pub returns-in-Ok-say_value-clause-row : goal.returns-in-Ok-say_value-clause-row
-returns-in-Ok-say_value-clause-row g c = λ x told plan s m t o h runs code called.
+returns-in-Ok-say_value-clause-row g c = λ x told plan s m t o h runs code called count.
     (let k = calling m t 9 called in
     let f : SFits w64 c.in-Ok.value = search rules in
     let r = c.in-Ok.ensures.row x plan s m t o h.session runs k.reference k.arguments k.call in
@@ -46,7 +46,7 @@ returns-in-Ok-say_value-clause-row g c = λ x told plan s m t o h runs code call
       printed = Value c.in-Ok.value ∷ [];
       touched = None;
       is = k.is ∙ r.0 k.next;
-      built = built_of m t 9 called (omega arith);
+      built = built_of m t 9 called (inl (omega arith));
       storage = x;
       plan = plan;
       stands = c.cut.ensures.stands x told plan s m t o h runs code r.1 k.next (Plain Entr, k.reading);

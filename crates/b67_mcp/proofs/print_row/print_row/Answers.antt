@@ -1,4 +1,4 @@
-use Rattle.std.proofs.Common.{[], ◌∷◌, Some, Ok, refl, ◌∙◌, ap, subst, arith}
+use Rattle.std.proofs.Common.{inl, [], ◌∷◌, Some, Ok, refl, ◌∙◌, ap, subst, arith}
 use Rattle.b67_model.specs.declared.operators.Op.TheVariants.{Plain}
 use Rattle.b67_model.specs.declared.operators.Code.TheVariants.{Entr}
 use Rattle.b67_model.specs.Steps.{Values, Goes}
@@ -17,7 +17,7 @@ pub row_to_print-requires : goal.row_to_print-requires
 row_to_print-requires g c = call_some c.args.machine.now 10 c.requires
 
 pub returns-in-Err-clause-row : goal.returns-in-Err-clause-row
-returns-in-Err-clause-row g c = λ x told plan s m t o h runs code called.
+returns-in-Err-clause-row g c = λ x told plan s m t o h runs code called count.
     (let k = calling m t 10 called in
     (k.is ∙ c.in-Err.ensures.row x plan s m t o h.session runs k.reference k.arguments k.call k.next, refl, refl))
 
@@ -48,14 +48,14 @@ cut-requires g c =
     record { reads = reads_of c.args.machine.now 10 c.requires; may = row.may }
 
 pub returns-in-Absent-clause-row : goal.returns-in-Absent-clause-row
-returns-in-Absent-clause-row g c = λ x told plan s m t o h runs code called.
+returns-in-Absent-clause-row g c = λ x told plan s m t o h runs code called count.
     (let k = calling m t 10 called in
     let P : Found → Type 0 = λ f. RowMeets x plan m t c.args.machine.now.cpu.core k.arguments (Ok f) in
     let row = subst P c.in-Absent.is (c.in-Ok.ensures.row x plan s m t o h.session runs k.reference k.arguments k.call) in
     (record { array = row.array; among = row.among; touched = touched_by_row m t k row.array.identity row.are; absent = row.absent; named = ap what.Array row.home }, refl, refl))
 
 pub returns-in-Ok-say_words-clause-row : goal.returns-in-Ok-say_words-clause-row
-returns-in-Ok-say_words-clause-row g c = λ x told plan s m t o h runs code called.
+returns-in-Ok-say_words-clause-row g c = λ x told plan s m t o h runs code called count.
     (let k = calling m t 10 called in
     let P : Found → Type 0 = λ f. RowMeets x plan m t c.args.machine.now.cpu.core k.arguments (Ok f) in
     let row = subst P c.in-Words.is (c.in-Ok.ensures.row x plan s m t o h.session runs k.reference k.arguments k.call) in
@@ -64,7 +64,7 @@ returns-in-Ok-say_words-clause-row g c = λ x told plan s m t o h runs code call
       printed = Values row.values ∷ [];
       touched = Some row.array;
       is = k.is ∙ row.makes k.next;
-      built = built_of m t 10 called (omega arith);
+      built = built_of m t 10 called (inl (omega arith));
       storage = x;
       plan = plan;
       stands = c.cut.ensures.stands x told plan s m t o h runs code row.may k.next (Plain Entr, k.reading);
@@ -73,7 +73,7 @@ returns-in-Ok-say_words-clause-row g c = λ x told plan s m t o h runs code call
     })
 
 pub returns-in-Err-say_words-clause-row : goal.returns-in-Err-say_words-clause-row
-returns-in-Err-say_words-clause-row g c = λ x told plan s m t o h runs code called.
+returns-in-Err-say_words-clause-row g c = λ x told plan s m t o h runs code called count.
     (let k = calling m t 10 called in
     let P : Found → Type 0 = λ f. RowMeets x plan m t c.args.machine.now.cpu.core k.arguments (Ok f) in
     let row = subst P c.in-Words.is (c.in-Ok.ensures.row x plan s m t o h.session runs k.reference k.arguments k.call) in

@@ -117,12 +117,14 @@ returns-clause-kept c =
     let taken = read_from q.member.progress.job.numbers in
     let session = c.answer_call.ensures.stands q.storage q.plan q.session q.member q.task q.ordered q.stands.session q.running taken.0 taken.1 meets.may meets.is in
     record {
-      countable = countable_read q.plan q.member q.task k.arguments old.tasks.jobs c.take_number.new.tasks.jobs (c.running_row.result.job - 1) j.row did.new (Ok c.in-Ok.number) at did.is meets;
-      keeps = record {
-        core = same_size q.storage q.storage old.cpu cpu q.plan q.plan q.session (with_job q.session q.member (job_read q.member q.task c.next_place-next.result)) q.stands.session session refl refl;
-        sectors = refl;
-        halt = ap (λ (z : Tasks). z.halt) c.take_number.ensures.rest;
-        names = names_read q.plan q.member q.task k.arguments old.tasks.jobs c.take_number.new.tasks.jobs (c.running_row.result.job - 1) j.row did.new (Ok c.in-Ok.number) at did.is meets;
+      kept = record {
+        countable = countable_read q.plan q.member q.task k.arguments old.tasks.jobs c.take_number.new.tasks.jobs (c.running_row.result.job - 1) j.row did.new (Ok c.in-Ok.number) at did.is meets;
+        keeps = record {
+          core = same_size q.storage q.storage old.cpu cpu q.plan q.plan q.session (with_job q.session q.member (job_read q.member q.task c.next_place-next.result)) q.stands.session session refl refl;
+          sectors = refl;
+          halt = ap (λ (z : Tasks). z.halt) c.take_number.ensures.rest;
+          names = names_read q.plan q.member q.task k.arguments old.tasks.jobs c.take_number.new.tasks.jobs (c.running_row.result.job - 1) j.row did.new (Ok c.in-Ok.number) at did.is meets;
+        };
       };
       changed = c.answer_call.ensures.changed q.storage q.plan q.session q.member q.task q.ordered q.stands.session q.running meets.may;
       sectors = refl;

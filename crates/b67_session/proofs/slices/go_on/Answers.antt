@@ -68,7 +68,7 @@ step-init g c = record {
       let P : Option (List (List ℕ)) → Type 0 = λ d. Going g.K.Sink.taken (known ≢ None) d 0 s c.args.machine.now c.args.machine.now c.args.paper.now c.args.paper.now in
       subst P (sym (retold-same known (g.B.Backing.holds c.args.backing.now) says)) (going-begins g.K.Sink.taken (known ≢ None) known s m t c.args.machine.now c.args.paper.now h);
   begun = λ none. (refl, refl);
-  quiet = λ known s m t h says few wants. refl;
+  quiet = λ known s m t h says few wants same. refl;
 }
 
 pub step-requires-clause-lives : goal.step-requires-clause-lives
@@ -89,7 +89,7 @@ step-preserved g c =
     let is : c.step-in-step.result ≡ Ok ends.GoesOn = c.in-Ok-GoesOn.is ∙ ap (λ (z : StepEnd). Ok z) c.in-Ok-GoesOn.field-0-is in
     record {
       countable = c.step-in-step.ensures.countable;
-      later = omega (arith, c.step.invariant.later, c.step-in-step.ensures.causes.later);
+      later = omega (arith, c.step.invariant.later, c.step-in-step.ensures.causes.printer.later);
       device = Served-then g.B.Backing.holds g.B.Backing.size g.B.Backing.calls g.B.Backing.faults c.args.backing.now c.step.backing c.step-in-step.new.backing c.step.invariant.device c.step-in-step.ensures.device;
       keeps = keeps g a;
       going = λ known s m t says h.

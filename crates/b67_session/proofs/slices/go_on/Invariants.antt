@@ -2,8 +2,8 @@ use Rattle.std.proofs.Common.{◌≡◌, ◌≢◌, ◌≤◌, ℕ, List, Option
 use Rattle.b67_model.specs.State.{Task, SessionJob}
 use Rattle.b67_model.specs.Schedule.{Session}
 use Rattle.b67_layout_storage.specs.Machine.{Says, DeviceAfterCalls, content_after}
-use Rattle.b67_session_attempt.specs.Passed.{AreCountable}
-use Rattle.b67_session_attempt.specs.Brought.{WantsNothing}
+use Rattle.b67_session_attempt.specs.Passed.{AreCountable, Lengthens}
+use Rattle.b67_session_attempt.specs.Attempts.{WantsNothing}
 use Rattle.b67_session.specs.Slices.{IsLone, Keeps}
 use Rattle.b67_session.proofs.Going.{Going}
 use Rattle.b67_session.proofs.slices.go_on.Given as goal
@@ -18,5 +18,5 @@ invariant-step g l = record {
       → Going g.K.Sink.taken (known ≢ None) (content_after known (g.B.Backing.holds l.backing)) l._made s l.initial.machine l.machine l.initial.paper l.paper;
   begun : l._made ≡ 0 → (l.machine ≡ l.initial.machine) × (l.backing ≡ l.initial.backing);
   quiet : (known : Option (List (List ℕ))) (s : Session) (m : SessionJob) (t : Task) (h : IsLone known l.initial.machine s m t) → Says known (g.B.Backing.holds l.initial.backing)
-      → l.n ≤ 1 → WantsNothing h.storage h.plan m t → l.backing ≡ l.initial.backing;
+      → l.n ≤ 1 → WantsNothing h.storage h.plan m t → (Lengthens m t → ⊥) → l.backing ≡ l.initial.backing;
 }

@@ -1,5 +1,5 @@
 -- The session after an operator of the running task, which is ready, has its frames in order.
-use Rattle.std.proofs.Common.{◌≡◌, ℕ, List, Option, Ok, sym, ◌∙◌, arith, true, inl, inr, ◌⊎◌, subst}
+use Rattle.std.proofs.Common.{◌≡◌, ℕ, List, Option, Ok, sym, ◌∙◌, true, inl, inr, ◌⊎◌, subst}
 use Rattle.std.proofs.lemmas.Bool.{true≢false}
 use Rattle.b67_word.specs.declared.couples.Place.{Place}
 use Rattle.b67_model.specs.declared.operators.Op.{Op}

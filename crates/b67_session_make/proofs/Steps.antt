@@ -17,8 +17,8 @@ use Rattle.b67_layout.proofs.Fresh.{running_in_order, critical-below, fresh}
 use Rattle.b67_layout.proofs.Replaces.{IsDependedOn}
 use Rattle.b67_layout_leave.proofs.Leaves.{depended_apart}
 use Rattle.b67_layout_step.proofs.Stepped.{CallsNone}
-use Rattle.b67_session_attempt.proofs.Places.{AllSame}
-use Rattle.b67_session_attempt.proofs.Keeps.{row_keeps}
+use Rattle.b67_session_make.proofs.Places.{AllSame}
+use Rattle.b67_session_make.proofs.Keeps.{row_keeps}
 
 -- the job afterwards, but for its arrays and its next frame and array
 pub record JobKept (m : SessionJob) (t : Task) (after : Job) : Type 0 where

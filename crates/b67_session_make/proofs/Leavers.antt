@@ -23,8 +23,8 @@ use Rattle.b67_layout_step.specs.Keeping.{is_leaving}
 use Rattle.b67_exec_cells.specs.Running.{code_area}
 use Rattle.b67_exec_cells.specs.Called.{called_in, called_by}
 use Rattle.b67_exec.specs.Operators.{CallsOrMeets, OperatorAt, OperatorMeets, leaves_record}
-use Rattle.b67_session_attempt.proofs.Inversion.{LeftFrame, exit_frame, retn_frame}
-use Rattle.b67_session_attempt.proofs.Read.{step_read}
+use Rattle.b67_session_make.proofs.Inversion.{LeftFrame, exit_frame, retn_frame}
+use Rattle.b67_session_make.proofs.Read.{step_read}
 
 -- what is asked of such an operator
 pub record LeavesFrame (op : Op) : Type 0 where

@@ -1,7 +1,7 @@
 use Rattle.std.proofs.Common.{arith, refl}
-use Rattle.b67_session_attempt.proofs.Made.{operator_made, not_made, operator_length}
-use Rattle.b67_session_attempt.proofs.Gives.{upto_fits, stays_so, asks, in_turn, kept_after, gives}
-use Rattle.b67_session_attempt.proofs.making.make.Goals as goal
+use Rattle.b67_session_make.proofs.Made.{operator_made, not_made, operator_length}
+use Rattle.b67_session_make.proofs.Gives.{upto_fits, stays_so, asks, in_turn, kept_after, gives}
+use Rattle.b67_session_make.proofs.making.make.Goals as goal
 
 pub overflow_add-upto : goal.overflow_add-upto
 overflow_add-upto c = omega (arith, upto_fits c.args.machine.now c.requires.runs)

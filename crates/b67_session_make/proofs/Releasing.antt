@@ -22,8 +22,8 @@ use Rattle.b67_layout.specs.Session.{IsRunning, RepresentsSession, RepresentsSes
 use Rattle.b67_layout.proofs.Rows.{runs_on, slot_below}
 use Rattle.b67_task_release.specs.Left.{IsLeft}
 use Rattle.b67_task_release.proofs.Leavings.{new_top, left_after}
-use Rattle.b67_session_attempt.proofs.Inversion.{IsEntered, LeftFrame}
-use Rattle.b67_session_attempt.proofs.Ordered.{frames_after}
+use Rattle.b67_session_make.proofs.Inversion.{IsEntered, LeftFrame}
+use Rattle.b67_session_make.proofs.Ordered.{frames_after}
 use Rattle.b67_lemmas.proofs.Members.{keyed_has}
 
 -- a running task's stack, whatever objects are left

@@ -25,7 +25,7 @@ use Rattle.b67_layout.specs.Layout.{machine_view}
 use Rattle.b67_layout.specs.Session.{with_objects, RepresentsStorage}
 use Rattle.b67_task_release.specs.Left.{IsLeft, AreReleased}
 use Rattle.b67_task_release.proofs.Settled.{are_left}
-use Rattle.b67_session_attempt.specs.Makes.{MayFree}
+use Rattle.b67_session_make.specs.Makes.{MayFree}
 
 -- an area's words, its head and its tail are as they were
 abbrev Same : List Tagged → List Tagged → ℕ → Info → Type 0

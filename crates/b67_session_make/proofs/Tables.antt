@@ -20,8 +20,8 @@ use Rattle.b67_layout.specs.Meets.{with_job}
 use Rattle.b67_layout.proofs.Fresh.{running_in_order}
 use Rattle.b67_layout.proofs.Sessions.{change-has, change-kept}
 use Rattle.b67_layout.proofs.Replaces.{IsDependedOn}
-use Rattle.b67_session_attempt.proofs.Places.{At, places, IsAlike, Same, AllSame}
-use Rattle.b67_session_attempt.proofs.Steps.{JobKept}
+use Rattle.b67_session_make.proofs.Places.{At, places, IsAlike, Same, AllSame}
+use Rattle.b67_session_make.proofs.Steps.{JobKept}
 
 -- a spot is looked up among the places of frames
 abbrev look : ℕ → StackPlace → List At → ℕ → StackPlace

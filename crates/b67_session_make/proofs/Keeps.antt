@@ -24,7 +24,7 @@ use Rattle.b67_law_order.proofs.Posts.{Post, post_ok, post_err, post_any, post_t
 use Rattle.b67_model.specs.Called.{called_at, called_by, called_on, called}
 use Rattle.b67_law_order_steps.specs.Profiles.{Profile, profile}
 use Rattle.b67_layout.specs.Meets.{here}
-use Rattle.b67_session_attempt.proofs.Places.{places, top_from, push_from, drop_from, enter_from, Same, AllSame, all_same, put, store_same}
+use Rattle.b67_session_make.proofs.Places.{places, top_from, push_from, drop_from, enter_from, Same, AllSame, all_same, put, store_same}
 
 -- what a row leaves of a job whose tasks, next number and numbers were these: others depend on frames of D
 abbrev pub Keeps : (D : ℕ → Type 0) (first : List Task) (n next : ℕ) (numbers : List ℤ) → Done → Type 0

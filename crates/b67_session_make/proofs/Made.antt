@@ -26,13 +26,13 @@ use Rattle.b67_exec.specs.Operators.{CallsOrMeets, OperatorAt, OperatorMeets, le
 use Rattle.b67_layout_step.specs.Keeping.{is_leaving}
 use Rattle.b67_task_tables.specs.declared.tables.Machine.{Machine}
 use Rattle.b67_task_tables.specs.Tables.{TasksShow, task_row, job_row, counts_of, MachineRepresents}
-use Rattle.b67_session_attempt.specs.Makes.{OperatorMade, StepMakes, CallsOrMakes, MakesAt, MakesOperator}
+use Rattle.b67_session_make.specs.Makes.{OperatorMade, StepMakes, CallsOrMakes, MakesAt, MakesOperator}
 use Rattle.b67_task_release.specs.Released.{HasHome, Released}
 use Rattle.b67_task_release.proofs.Remaining.{Released-none}
-use Rattle.b67_session_attempt.proofs.Read.{step_read}
-use Rattle.b67_session_attempt.proofs.Releasing.{same_length, storage_over}
-use Rattle.b67_session_attempt.proofs.Steps.{row_kept}
-use Rattle.b67_session_attempt.proofs.Tables.{tables_after}
+use Rattle.b67_session_make.proofs.Read.{step_read}
+use Rattle.b67_session_make.proofs.Releasing.{same_length, storage_over}
+use Rattle.b67_session_make.proofs.Steps.{row_kept}
+use Rattle.b67_session_make.proofs.Tables.{tables_after}
 use Rattle.b67_layout_step.proofs.Laws.{keeps_arrays}
 
 -- after all answers but Done nothing has changed

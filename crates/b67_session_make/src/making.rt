@@ -2,7 +2,7 @@
 
 ghost use Rattle.std.specs.Prelude.{◌≡◌};
 ghost use Rattle.b67_task_tables.specs.Runs.{RunsTask, Keeps};
-ghost use Rattle.b67_session_attempt.specs.Makes.{MakesOperator, ForEachReady};
+ghost use Rattle.b67_session_make.specs.Makes.{MakesOperator, ForEachReady};
 
 use b67_exec::operate;
 use b67_stack::Step;

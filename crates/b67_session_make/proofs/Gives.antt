@@ -21,18 +21,18 @@ use Rattle.b67_task_tables.specs.declared.tables.Tasks.{Tasks}
 use Rattle.b67_task_tables.specs.Tables.{TasksShow, task_row, job_row, counts_of, MachineRepresents, row_names}
 use Rattle.b67_task_release.specs.Left.{IsLeft, AreReleased}
 use Rattle.b67_task_tables.specs.Runs.{RunsTask, Keeps}
-use Rattle.b67_session_attempt.specs.Makes.{OperatorMade, MakesOperator}
-use Rattle.b67_session_attempt.proofs.Inversion.{LeftFrame}
+use Rattle.b67_session_make.specs.Makes.{OperatorMade, MakesOperator}
+use Rattle.b67_session_make.proofs.Inversion.{LeftFrame}
 use Rattle.b67_exec_cells.specs.Running.{code_area}
 use Rattle.b67_exec.specs.Operators.{leaves_record, CutsRecord, OperatorMeets}
-use Rattle.b67_session_attempt.proofs.Holes.{only_holes}
-use Rattle.b67_session_attempt.proofs.Leavers.{LeftBy, left_by, code_there}
-use Rattle.b67_session_attempt.proofs.Made.{made_so}
-use Rattle.b67_session_attempt.proofs.Ordered.{job_after}
-use Rattle.b67_session_attempt.proofs.Readied as ready_one
-use Rattle.b67_session_attempt.proofs.Releasing.{rooms, same_length, storage_over, left_to_give, top_under}
-use Rattle.b67_session_attempt.proofs.Steps.{row_kept}
-use Rattle.b67_session_attempt.proofs.Tables.{tables_after}
+use Rattle.b67_session_make.proofs.Holes.{only_holes}
+use Rattle.b67_session_make.proofs.Leavers.{LeftBy, left_by, code_there}
+use Rattle.b67_session_make.proofs.Made.{made_so}
+use Rattle.b67_session_make.proofs.Ordered.{job_after}
+use Rattle.b67_session_make.proofs.Readied as ready_one
+use Rattle.b67_session_make.proofs.Releasing.{rooms, same_length, storage_over, left_to_give, top_under}
+use Rattle.b67_session_make.proofs.Steps.{row_kept}
+use Rattle.b67_session_make.proofs.Tables.{tables_after}
 
 -- what giving back says of a machine
 abbrev pub GivesBack : Machine → Cpu → Machine → Type 0

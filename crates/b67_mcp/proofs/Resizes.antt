@@ -1,0 +1,101 @@
+-- A call of RESIZE that found its array present: what it makes, touches and leaves.
+use Rattle.std.proofs.Common.{◌≡◌, ◌≢◌, ℕ, ◌+◌, ◌-◌, ◌<◌, ◌≤◌, List, [], ◌++◌, length, take, replicate, Option, Some, None, Result, Ok, Err, refl, sym, ◌∙◌, ap, arith, subst, inl, inr, ⊎_elim}
+use Rattle.std.proofs.lemmas.Option.{same_Some}
+use Rattle.b67_backing.specs.Held.{sectors_for}
+use Rattle.b67_lemmas.specs.Lists.{Has}
+use Rattle.b67_lemmas.proofs.Keyed.{changed_there}
+use Rattle.b67_model.specs.Answers.{Answer}
+use Rattle.b67_model.specs.State.{Array, Task, SessionJob}
+use Rattle.b67_model.specs.Arrays.{with_array, resized}
+use Rattle.b67_model.specs.Steps.{Done, Goes}
+use Rattle.b67_model.specs.Rows.{step}
+use Rattle.b67_model.specs.Need.{touched_of}
+use Rattle.b67_model.specs.Schedule.{Session}
+use Rattle.b67_stack.specs.Represents.{Storage}
+use Rattle.b67_layout.specs.Orders.{IsInOrderButCounts}
+use Rattle.b67_layout.specs.Placement.{Placement}
+use Rattle.b67_layout.specs.Session.{IsRunning}
+use Rattle.b67_mcp_calls.specs.Lengthening.{ResizeMeets, job_resized}
+use Rattle.b67_mcp_calls.specs.declared.resize.Resizing.TheVariants as resizing
+use Rattle.b67_task_tables.specs.declared.tables.Machine.{Machine}
+use Rattle.b67_task_tables.specs.Tables.{MachineRepresents}
+use Rattle.b67_mcp.specs.declared.ends.CallEnd.TheVariants as ends
+use Rattle.b67_mcp.specs.declared.ends.Stop.{Stop}
+use Rattle.b67_mcp.specs.declared.ends.Stop.TheVariants as stops
+use Rattle.b67_mcp.specs.Called.{CallsBuilt, IsThere, TouchesPresent, CallTouches, CallWrites, Lengthens}
+use Rattle.b67_mcp.specs.Resizing.{LengthSet, ResizeAnswers}
+use Rattle.b67_mcp.proofs.Callings.{Calling}
+use Rattle.b67_mcp.proofs.Renumbered.{found}
+use Rattle.b67_mcp.proofs.Lengthened.{resized_renumbers}
+use Rattle.b67_mcp.proofs.SectorSums.{length_resized, same_sectors}
+
+module _ (x : Storage) (told : Option (List (List ℕ))) (old : Machine) (plan : Placement) (s : Session) (m : SessionJob) (t : Task) (o : IsInOrderButCounts s) (h : MachineRepresents x told old plan s) (runs : IsRunning plan s.jobs m t)
+    (k : Calling m t 18) (original before after : ℕ) (q : ResizeMeets x plan m t k.arguments (Ok (resizing.Lengths original before after))) where
+  abbrev pub it : Array
+  it = q.0.which.array
+
+  pub makes : step m.constants m.progress.job t ≡ Ok (Goes (job_resized m t q.0.which.array.identity after k.next) [] (Some q.0.which.array.identity))
+  makes = k.is ∙ q.0.makes k.next
+
+  pub there_after : before < after → length q.0.which.array.numbers < length (resized after q.0.which.array).numbers
+  there_after up = let long = length_resized after q.0.which.array.numbers in let is = q.1 in omega (arith, up, long, is)
+
+  pub found_after : Has (with_array m.progress.job q.0.which.array.identity (resized after)).arrays (resized after q.0.which.array)
+  found_after = changed_there (λ (z : Array). z.identity) q.0.which.array.identity (resized after) m.progress.job.arrays q.0.which.array (found x told old plan s h m t o runs q.0.which.array q.0.which.among (resized after) (resized_renumbers after))
+
+  -- a greater length
+  abbrev pub lengthens : before < after → Lengthens m t
+  lengthens up = record {
+    job = job_resized m t q.0.which.array.identity after k.next;
+    touched = Some q.0.which.array.identity;
+    is = makes;
+    array = q.0.which.array;
+    after = resized after q.0.which.array;
+    among = q.0.which.among;
+    still = found_after;
+    same = refl;
+    longer = there_after up;
+  }
+
+  pub touches : TouchesPresent x plan m t
+  touches n e =
+      let id : ℕ = q.0.which.array.identity in
+      let is = ap (λ (answer : Answer Done). touched_of m.constants m.progress.job t answer) makes in
+      let same : id ≡ n = same_Some id n (sym is ∙ e) in
+      subst (IsThere x plan m) same (record { array = q.0.which.array; among = q.0.which.among; named = refl; there = q.2 })
+
+  pub touches_stopped : (stop : Stop) → CallTouches x plan m t (Err stop)
+  touches_stopped (stops.NoCore need core) = tt
+  touches_stopped (stops.BackingFull sum size) = touches
+  touches_stopped stops.BackingFault = touches
+  touches_stopped stops.PrintFault = touches
+  touches_stopped stops.Unbuilt = tt
+
+  -- a stop
+  pub refused : (d : Option (List (List ℕ))) (count : ℕ) (new : Machine) (stop : Stop) → CallsBuilt m t → before < after → LengthSet d count x plan s m q.0.which.array after (Err stop) old new → ResizeAnswers d count x plan s m t (Err stop) old new
+  refused d count new (stops.BackingFull sum size) built up set =
+      let long : sectors_for after ≡ sectors_for (length (take after q.0.which.array.numbers ++ replicate (after - length q.0.which.array.numbers) 0)) = ap sectors_for (sym (length_resized after q.0.which.array.numbers)) in
+      record {
+        refused = record { built = built; longer = lengthens up; storage = set.left.storage; stands = set.left.stands; others = set.left.others; tables = set.left.tables };
+        wants = set.wants;
+        free = set.free;
+        short = ⊎_elim (λ l. inl l) (λ l. inr (record { longer = lengthens up; chain = l.chain; wants_is = l.wants_is ∙ long; free_is = l.free_is; fewer = l.fewer })) set.short;
+        sum_is = set.sum_is ∙ sym (same_sectors s m (with_array m.progress.job q.0.which.array.identity (resized after)) (job_resized m t q.0.which.array.identity after k.next) runs.member refl);
+        size_is = set.size_is;
+        exceeds = set.exceeds;
+      }
+  refused d count new stops.BackingFault built up set = record { built = built; longer = lengthens up; storage = set.storage; stands = set.stands; others = set.others; tables = set.tables }
+  refused d count new (stops.NoCore need core) built up set = absurd set
+  refused d count new stops.PrintFault built up set = absurd set
+  refused d count new stops.Unbuilt built up set = absurd set
+
+  -- the device may have been written only then
+  pub writes_done : before < after → CallWrites x plan m t (Ok ends.Done)
+  writes_done up = (lengthens up, touches)
+
+  pub writes_stopped : (y : Storage) (d : Option (List (List ℕ))) (count : ℕ) (new : Machine) (stop : Stop) → before < after → LengthSet d count y plan s m q.0.which.array after (Err stop) old new → CallWrites x plan m t (Err stop)
+  writes_stopped y d count new (stops.BackingFull sum size) up set = (lengthens up, touches)
+  writes_stopped y d count new stops.BackingFault up set = (lengthens up, touches)
+  writes_stopped y d count new (stops.NoCore need core) up set = absurd set
+  writes_stopped y d count new stops.PrintFault up set = absurd set
+  writes_stopped y d count new stops.Unbuilt up set = absurd set

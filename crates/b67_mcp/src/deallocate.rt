@@ -1,0 +1,33 @@
+//! DEALLOCATE.
+
+ghost use Rattle.b67_mcp.specs.Answers.{AnswerMeets};
+ghost use Rattle.b67_mcp.specs.Called.{CallsSome};
+ghost use Rattle.b67_mcp.specs.Running.{ForCalls, Kept};
+
+use crate::running::next_place;
+use b67_mcp_calls::{array_to_empty, cut_call};
+use b67_mcp_lengths::empty_array;
+use b67_task_tables::Machine;
+use b67_word::Fault;
+
+/// DEALLOCATE: the array is one of zeros that was never touched, its area and its sectors are free, and the call is cut. Its
+/// fault changes nothing.
+pub(crate) fn deallocate(machine: &mut Machine) -> Result<(), Fault>
+    requires { CallsSome machine.old 17 }
+    ensures row { ForCalls machine.old 17 (λ x told plan s m t. AnswerMeets told s m t result machine.old machine.new) }
+    ensures kept { Kept machine.old machine.new }
+{
+    let original = match array_to_empty(&machine.cpu) {
+        Ok(original) => original,
+        Err(fault) => return Err(fault),
+    };
+    let next = next_place(machine);
+    empty_array(
+        &mut machine.cpu,
+        &mut machine.areas,
+        &mut machine.sectors,
+        original,
+    );
+    cut_call(&mut machine.cpu, next);
+    Ok(())
+}

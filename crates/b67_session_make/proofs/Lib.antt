@@ -1,0 +1,13 @@
+pub mod Places
+pub mod Keeps
+pub mod Steps
+pub mod Tables
+pub mod Inversion
+pub mod Read
+pub mod Leavers
+pub mod Ordered
+pub mod Readied
+pub mod Releasing
+pub mod Holes
+pub mod Made
+pub mod Gives

@@ -1,0 +1,6 @@
+//! The operator at the running place of the whole machine, made.
+#![tactic(auto)]
+
+mod making;
+
+pub use making::make;
