@@ -2,6 +2,8 @@
 #![tactic(auto)]
 
 mod command;
+#[cfg(test)]
+mod lengths;
 mod lines;
 mod outcome;
 mod planning;

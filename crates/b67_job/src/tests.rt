@@ -186,11 +186,11 @@ fn stack_size(rt: HostRuntime) -> Result<(), Fail> {
 /// The code of SUM as cards.
 const SUM_CARDS: &str = "SEGMENT MAIN 2\nMKST\nNAMC 0,9\nLT8 2\nLT8 3\nADD\nENTR\nEXIT\n";
 
-/// Its mnemonic of card 6 is misspelt.
 /// A procedure that begins at an entry.
 const ENTRY_CARDS: &str =
     "SEGMENT MAIN 2\nMPCW P:B\nMKST\nNAMC 2,2\nENTR\nEXIT\nSEGMENT P 3\nEXIT\nB: MKST\nNAMC 0,9\nONE\nENTR\nEXIT\nENTRY B\n";
 
+/// SUM's code, with a misspelt mnemonic on card 6.
 const ADDD_CARDS: &str = "SEGMENT MAIN 2\nMKST\nNAMC 0,9\nLT8 2\nLT8 3\nADDD\nENTR\nEXIT\n";
 
 /// SUM's deck, and behind it that of a job with a BRUN into a literal.

@@ -36,7 +36,7 @@ const SMALL: &str =
     "?JOB A\n?ASM\nSEGMENT MAIN 2\nMPCW P\nMPCW Q\nMKST\nNAMC 2,2\nENTR\nMKST\nNAMC 2,3\nENTR\nEXIT\nSEGMENT P 3\nNOOP\nNOOP\nNOOP\nNOOP\nNOOP\nNOOP\nNOOP\nNOOP\nNOOP\nNOOP\nNOOP\nNOOP\nNOOP\nNOOP\nNOOP\nNOOP\nNOOP\nNOOP\nNOOP\nNOOP\nNOOP\nNOOP\nNOOP\nNOOP\nNOOP\nNOOP\nNOOP\nNOOP\nNOOP\nNOOP\nNOOP\nNOOP\nNOOP\nNOOP\nNOOP\nNOOP\nNOOP\nNOOP\nNOOP\nNOOP\nNOOP\nNOOP\nNOOP\nNOOP\nNOOP\nNOOP\nNOOP\nNOOP\nNOOP\nNOOP\nNOOP\nNOOP\nNOOP\nNOOP\nNOOP\nNOOP\nNOOP\nNOOP\nNOOP\nNOOP\nEXIT\nSEGMENT Q 3\nNOOP\nNOOP\nNOOP\nNOOP\nNOOP\nNOOP\nNOOP\nNOOP\nNOOP\nNOOP\nNOOP\nNOOP\nNOOP\nNOOP\nNOOP\nNOOP\nNOOP\nNOOP\nNOOP\nNOOP\nNOOP\nNOOP\nNOOP\nNOOP\nNOOP\nNOOP\nNOOP\nNOOP\nNOOP\nNOOP\nNOOP\nNOOP\nNOOP\nNOOP\nNOOP\nNOOP\nNOOP\nNOOP\nNOOP\nNOOP\nNOOP\nNOOP\nNOOP\nNOOP\nNOOP\nNOOP\nNOOP\nNOOP\nNOOP\nNOOP\nNOOP\nNOOP\nNOOP\nNOOP\nNOOP\nNOOP\nNOOP\nNOOP\nNOOP\nNOOP\nEXIT\n?END\n";
 
 /// Runs a deck of these cards and this job in so much core over a backing. What is printed, and the outcome.
-fn run_over<B: Backing>(
+pub(crate) fn run_over<B: Backing>(
     alloc: Global,
     core: &str,
     cards: &str,
@@ -52,8 +52,8 @@ fn run_over<B: Backing>(
     Ok((Vec::from_slice(alloc, paper.bytes())?, outcome))
 }
 
-/// Core, sectors, the run's cards, the job, the status and the lines.
-type Row = (
+/// Core, sectors, the deck's first cards and the others, the status and the lines.
+pub(crate) type Row = (
     &'static str,
     u32,
     &'static str,
@@ -62,7 +62,7 @@ type Row = (
     &'static str,
 );
 
-fn check_rows(rt: &impl Abort, alloc: Global, rows: &[Row]) -> Result<(), Fail> {
+pub(crate) fn check_rows(rt: &impl Abort, alloc: Global, rows: &[Row]) -> Result<(), Fail> {
     for (core, sectors, cards, job, status, lines) in rows {
         let mut backing = HonestBacking::new(alloc, (*sectors).clamp(1, 65_536))?;
         let (printed, outcome) = run_over(alloc, core, cards, job, &mut backing)?;
