@@ -11,7 +11,7 @@ use Rattle.b67_model_text.specs.Deck.{Refusal, of_card}
 use Rattle.b67_model_text.specs.Encoding.{code_of, packed, laid}
 use Rattle.b67_model_text.specs.Asm as asm
 use Rattle.b67_asm.specs.Blocks.{segment_head, row_head, has_entry_card, Grows, SegmentPut}
-use Rattle.b67_asm.specs.Putting.{put_behind, code_count, IsCode}
+use Rattle.b67_asm.specs.Putting.{put_behind, code_count, IsSegmentCode}
 use Rattle.b67_asm.specs.Scope.{scope_at}
 use Rattle.b67_asm.proofs.Entries.{entries_fit, no_entries}
 use Rattle.b67_codefile.specs.Spelling.{IsSegment, AreWords, HasTag, HasNoEntries}
@@ -109,7 +109,7 @@ all_plain old new s own grows plain none same is one =
     subst (AllByRecursion HasNoEntries) (sym is) (all_one HasNoEntries old.segments s (grows.plain first) (none (plain first)))
 
 -- a segment that was made of its own cards
-pub segment_made : (names : asm.Names) (segments s r number l : ℕ) (name : List ℕ) (level : Option ℕ) (lines : List Line) (syllables entries own : List ℕ) (code : List Tagged) → segment_head names s r name level lines ≡ Ok l → l < 2 ^ 8 → 1 ≤ code_count lines → put_behind [] (asm.content_of (scope_at names segments l lines) 0 [] lines) ≡ Ok (syllables, entries) → IsCode code syllables (code_count lines) → own ≡ map asm.place_bits entries
+pub segment_made : (names : asm.Names) (segments s r number l : ℕ) (name : List ℕ) (level : Option ℕ) (lines : List Line) (syllables entries own : List ℕ) (code : List Tagged) → segment_head names s r name level lines ≡ Ok l → l < 2 ^ 8 → 1 ≤ code_count lines → put_behind [] (asm.content_of (scope_at names segments l lines) 0 [] lines) ≡ Ok (syllables, entries) → IsSegmentCode code syllables (code_count lines) → own ≡ map asm.place_bits entries
     → SegmentPut (Ok (record { level = l; entries = own; code = code })) (asm.segment_part names segments s r number name level lines) lines
 segment_made names segments s r number l name level lines syllables entries own code head small some e is o = (
   segment_ok names segments s r number l name level lines syllables entries own (contents code) head e o is.code,

@@ -73,13 +73,13 @@ ContentPut (Err (faults.Card card reason)) answer count out entries = answer ≡
 ContentPut (Err faults.Memory) answer count out entries = Unit {0}
 
 -- the code of these syllables
-pub record IsCode (words : List Tagged) (syllables : List ℕ) (count : ℕ) : Type 0 where
+pub record IsSegmentCode (words : List Tagged) (syllables : List ℕ) (count : ℕ) : Type 0 where
   pub code : contents words ≡ packed syllables
   pub tags : AllByRecursion (HasTag 3) words
   pub few : length words ≤ 8191
   pub some : 1 ≤ count → 1 ≤ length words
 
 abbrev pub CodePut : Result Coded AsmFault → Result (List ℕ × List ℕ) Refusal → ℕ → Type 0
-CodePut (Ok coded) answer count = (syllables : List ℕ) × (entries : List ℕ) × (answer ≡ Ok (syllables, entries)) × IsCode coded.code syllables count × (coded.entries ≡ map asm.place_bits entries)
+CodePut (Ok coded) answer count = (syllables : List ℕ) × (entries : List ℕ) × (answer ≡ Ok (syllables, entries)) × IsSegmentCode coded.code syllables count × (coded.entries ≡ map asm.place_bits entries)
 CodePut (Err (faults.Card card reason)) answer count = answer ≡ Err (record { card = card; reason = reason })
 CodePut (Err faults.Memory) answer count = Unit {0}

@@ -26,7 +26,7 @@ use Rattle.b67_stack.specs.declared.What.TheVariants as what
 use Rattle.b67_stack.specs.Represents.{Storage}
 use Rattle.b67_layout.specs.Placement.{Placement}
 use Rattle.b67_layout.specs.Session.{IsRunning, RepresentsSession}
-use Rattle.b67_layout.specs.Meets.{IsMade, IsAbsent, IsPresent, area_held, here}
+use Rattle.b67_layout.specs.Meets.{IsMade, FindsAbsent, IsPresent, area_held, here}
 use Rattle.b67_layout.proofs.Fresh.{running_in_order}
 use Rattle.b67_refer.specs.declared.ends.End.TheVariants as end
 use Rattle.b67_refer.specs.RunningContext.{RunningContext, IsShown}
@@ -175,7 +175,7 @@ module _ (x : Storage) (old : Cpu) (plan : Placement) (s : Session) (m : Session
           let Q : Tagged → Type 0 = λ z. IsMade x plan s m old (with_word old (regs_left x old plan s m t o h runs a) display z) (returned (here_left m t a) v true) in
           subst Q (sym same) (put_made (Operand (element m.progress.job number index)) (word 0 (element m.progress.job number index)) (puts_operand x old plan s m t o h runs a (element m.progress.job number index)) (Some number) (at, held) display shown (returned (here_left m t a) v true) element_answer)
 
-      pub element_absent : area_held x plan m.constants.number number ≡ None → IsAbsent x plan m (what.Array original) (returned (here_left m t a) v true)
+      pub element_absent : area_held x plan m.constants.number number ≡ None → FindsAbsent x plan m (what.Array original) (returned (here_left m t a) v true)
       element_absent none = record {
         job = job_with x old plan s m t o h runs a (frames_with x old plan s m t o h runs a (Operand (element m.progress.job number index) ∷ a.next.cells)) t.condition;
         touched = number;

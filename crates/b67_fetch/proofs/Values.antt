@@ -33,7 +33,7 @@ use Rattle.b67_stack.specs.declared.What.TheVariants as what
 use Rattle.b67_stack.specs.Represents.{Storage}
 use Rattle.b67_layout.specs.Placement.{Placement}
 use Rattle.b67_layout.specs.Session.{IsRunning, RepresentsSession}
-use Rattle.b67_layout.specs.Meets.{here, IsPresent, IsTouched, IsMade, IsAbsent, Meets, RunsSome, area_held}
+use Rattle.b67_layout.specs.Meets.{here, IsPresent, IsTouched, IsMade, FindsAbsent, Meets, RunsSome, area_held}
 use Rattle.b67_layout.proofs.Whole.{task_with}
 use Rattle.b67_layout.proofs.Fresh.{running_in_order}
 use Rattle.b67_refer.proofs.Items.{array_is, not_empty}
@@ -151,7 +151,7 @@ overflow_touching m t q cs touched e = overflow_by m t q cs touched (nat_le (hei
 pub absent_element : (x : Storage) (old : Cpu) (plan : Placement) (s : Session) (m : SessionJob) (t : Task) (ordered : IsInOrderButCounts s) (h : RepresentsSession x old plan s) (runs : IsRunning plan s.jobs m t)
     (count original : ℕ) (q : Place) (gone rest : List Word) (n : ℕ) (v : Word) → cells t ≡ gone ++ rest → length gone ≡ count → old.regs.f + count ≤ old.regs.s → old.regs.s - count < old.regs.losr
     → original ≡ plan.home m.constants.number n → area_held x plan m.constants.number n ≡ None
-    → IsAbsent x plan m (what.Array original) (leaves_cells (here m t q) (v ∷ rest) (Some n))
+    → FindsAbsent x plan m (what.Array original) (leaves_cells (here m t q) (v ∷ rest) (Some n))
 absent_element x old plan s m t ordered h runs count original q gone rest n v e len enough inside home absent =
     let test = fitting x old plan s m t ordered h runs count (old.regs.s - count + 1) gone rest v e len enough refl (omega (arith, inside)) in
     record { job = with_task m.progress.job (task_with t (v ∷ rest) q); touched = n; is = rw test refl; absent = absent; named = ap what.Array home }

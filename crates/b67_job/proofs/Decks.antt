@@ -39,7 +39,7 @@ use Rattle.b67_job.specs.Lines.{no_core_line, backing_full_line}
 use Rattle.b67_job.specs.Texts.{only, all_taken}
 use Rattle.b67_job.specs.States.{StatesInOrder}
 use Rattle.b67_job.specs.Finishing.{refused_status, refused_line, JobRan}
-use Rattle.b67_job.specs.Runs.{run_of, IsDone, WasOpened, memory_refused, opening_wants_core, opening_wants_sectors, opening_fails, all_end, unopened, opened, RunEnds, run_stops}
+use Rattle.b67_job.specs.Runs.{run_of, IsDone, WasOpened, memory_refused, opening_wants_core, opening_wants_sectors, opening_fails, all_end, unopened, opened, DeckRunEnds, run_stops}
 use Rattle.b67_job.proofs.Opened.{member_of, task_of, single_opens, states_in_order, says_after, lone_opens, known_after, known_later}
 use Rattle.b67_job.proofs.Ran.{closes_only, ran}
 
@@ -79,7 +79,7 @@ never_unbuilt d fs range loaded built n m t k single calls = by_reading (reading
 module _ {K B : Type 0} (taken : K → Option (List ℕ)) (failures : K → ℕ) (holds : B → Option (List (List ℕ))) (size broken : B → ℕ) (d : Deck) (ps : List Program) (core : ℕ) where
   -- no session was opened
   pub refused : (b b' : B) (fault : OpenFault) (old new : K) (answer : ℕ) → IsOpened holds size broken d ps core b b' (Err fault)
-      → Ends taken failures old new (refused_status fault) (ended (refused_line fault)) answer → RunEnds taken failures (device_of holds size broken b b') core (d, ps) None old new answer
+      → Ends taken failures old new (refused_status fault) (ended (refused_line fault)) answer → DeckRunEnds taken failures (device_of holds size broken b b') core (d, ps) None old new answer
   refused b b' faults.Memory old new answer o ends = run_stops 9 _ (unopened refl (memory_refused o refl refl)) (closes_only ends)
   refused b b' (faults.NoCore need words) old new answer o ends =
       let line : no_core_line need words ≡ no_core_line (need_of d ps) core = ap (λ n. no_core_line n words) o.0 ∙ ap (λ n. no_core_line (need_of d ps) n) o.1 in
@@ -91,7 +91,7 @@ module _ {K B : Type 0} (taken : K → Option (List ℕ)) (failures : K → ℕ)
 
   -- no job
   pub idle : (b b' : B) (k : Machine) (now : K) → ((n : ℕ) → StatesInOrder n (session_of d ps)) → size b' ≡ size b → d.jobs ≡ [] → IsOpened holds size broken d ps core b b' (Ok k)
-      → RunEnds taken failures (device_of holds size broken b b') core (d, ps) (Some k) now now 0
+      → DeckRunEnds taken failures (device_of holds size broken b b') core (d, ps) (Some k) now now 0
   idle b b' k now in_order same none o = run_stops 0 (only []) (opened k refl opens o.2.printed (all_end refl done)) (all_taken refl (Took-none taken now))
     where
       made : k.tasks.made ≡ 0
@@ -182,7 +182,7 @@ module _ {K B : Type 0} (taken : K → Option (List ℕ)) (failures : K → ℕ)
       → IsOpen (holds b'') k → Keeps k0 k
       → ((x : Option (List (List ℕ))) (s : Session) (m : SessionJob) (t : Task) → Says x (holds b') → IsLone x k0 s m t
       → JobRan taken failures (content_after x (holds b'')) (x ≢ None) (Rose broken b' b'') (size b') 100000000 j.body_card s k0 k old new answer)
-      → RunEnds taken failures (device_of holds size broken b b'') core (d, program_of f ∷ []) (Some k) old new answer
+      → DeckRunEnds taken failures (device_of holds size broken b b'') core (d, program_of f ∷ []) (Some k) old new answer
   one_run old new answer first_calls more_calls may_go_on keeps rans =
       let first = session_of d (program_of f ∷ []) in
       let still = still_told holds b b' first_calls.tells in

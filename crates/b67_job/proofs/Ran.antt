@@ -33,7 +33,7 @@ use Rattle.b67_session_lines.specs.Ends.{Ends, whole, cut}
 use Rattle.b67_job.specs.Device.{Device, Tells, Failed, known_now}
 use Rattle.b67_job.specs.Lines.{no_core_line, backing_full_line, backing_fault_line}
 use Rattle.b67_job.specs.Texts.{Text, only, Closes, all_taken, cut_short}
-use Rattle.b67_job.specs.Runs.{run_of, text_to, ComesTo, IsBeforeHalt, IsWithinHalt, StopsAt, IsCutInStep, IsCutInLimit, WasOpened, StopsOpened, all_end, halt_comes, step_wants_core, step_wants_sectors, step_fails, code_is_strange, opened, RunEnds, run_stops, step_is_cut}
+use Rattle.b67_job.specs.Runs.{run_of, text_to, StandsAfter, IsBeforeHalt, IsWithinHalt, StopsAt, IsCutInStep, IsCutInLimit, WasOpened, StopsOpened, all_end, halt_comes, step_wants_core, step_wants_sectors, step_fails, code_is_strange, opened, DeckRunEnds, run_stops, step_is_cut}
 use Rattle.b67_job.specs.Finishing.{Finishes}
 use Rattle.b67_job.proofs.Parts.{over_has_no_last}
 use Rattle.b67_job.proofs.Reached.{below, limit_high, single_below, came_whole, came_limited, begins_step, ends_step}
@@ -117,7 +117,7 @@ module _ {K B : Type 0} (taken : K → Option (List ℕ)) (faults : K → ℕ) (
   same_lines : Came first steps s printed → printed ≡ lines k.tasks.made first
   same_lines c = sym (ap (λ n. lines n first) made ∙ c.lines_are)
 
-  comes_to : last_part s ≡ None → ComesTo d first k s printed
+  comes_to : last_part s ≡ None → StandsAfter d first k s printed
   comes_to none = record {
     session = λ tells. sym (ap (λ n. after n first) made ∙ (came tells none).session);
     lines_are = λ tells. same_lines (came tells none);
@@ -180,7 +180,7 @@ module _ {K B : Type 0} (taken : K → Option (List ℕ)) (faults : K → ℕ) (
         };
   }
 
-  stopped : {old new : K} {answer status : ℕ} (y : Text) → k.tasks.printed ≡ 0 → StopsOpened d core p k status y → Closes taken faults old new status y answer → RunEnds taken faults d core p (Some k) old new answer
+  stopped : {old new : K} {answer status : ℕ} (y : Text) → k.tasks.printed ≡ 0 → StopsOpened d core p k status y → Closes taken faults old new status y answer → DeckRunEnds taken faults d core p (Some k) old new answer
   stopped {status = status} y none stops ends = run_stops status y (opened k refl opens none stops) ends
 
   -- by what the steps answered
@@ -189,7 +189,7 @@ module _ {K B : Type 0} (taken : K → Option (List ℕ)) (faults : K → ℕ) (
       → Finishes taken faults job.body_card k.tasks.made answered between new answer
       → Prints taken old between was before printed is k.tasks.printed → (answered ≢ Err stops.PrintFault → k.tasks.printed ≡ 0)
       → (answered ≡ Err stops.BackingFault → Failed d) → (answered ≡ Err stops.PrintFault → Rose faults old between) → faults old ≤ faults between
-      → RunEnds taken faults d core p (Some k) old new answer
+      → DeckRunEnds taken faults d core p (Some k) old new answer
   ran (Ok progress.Ended) old between new answer rests end prints unprinted failed rose later =
       let none = unprinted (λ e. cc) in
       let took = subst (λ (z : K). Took taken old z (run_text printed)) (sym end.1) (lines_took prints begun none) in

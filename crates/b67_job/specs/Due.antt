@@ -24,7 +24,7 @@ use Rattle.b67_session_open.specs.Opens.{need_of, sectors_of_all}
 use Rattle.b67_job.specs.Device.{Device, Tells, Failed, IsUntouched}
 use Rattle.b67_job.specs.Lines.{no_core_line, backing_full_line, backing_fault_line, memory_text}
 use Rattle.b67_job.specs.Texts.{Text, whole_of, only, TookUpTo, Closes}
-use Rattle.b67_job.specs.Runs.{run_of, IsBeforeHalt, IsDone, IsHaltedAt, WantsCore, WantsSectors, IsCutOff, IsStrange, RoomSuffices, RunStops, IsPrinting, RunEnds}
+use Rattle.b67_job.specs.Runs.{run_of, IsBeforeHalt, IsDone, IsHaltedAt, WantsCore, WantsSectors, IsCutOff, IsStrange, RoomSuffices, RunStops, IsPrinting, DeckRunEnds}
 use Rattle.b67_job.specs.Command.{command_of}
 use Rattle.b67_job.specs.declared.command.CommandLine.{CommandLine}
 use Rattle.b67_job.specs.declared.command.CommandLine.TheVariants as lines
@@ -140,7 +140,7 @@ Writes verdict left source_faults deck deck' taken faults old new answer =
 -- how the answer to a deck ends that is judged so: it is refused, or it runs
 abbrev pub DeckEnds : {K B : Type 0} → Judgement → (K → Option (List ℕ)) → (K → ℕ) → Device B → ℕ → Option Machine → K → K → ℕ → Type 0
 DeckEnds (Refused refusal) taken faults d core machine old new answer = (machine ≡ None) × IsUntouched d × Ends taken faults old new 2 (refusal_text refusal) answer
-DeckEnds (Runs p) taken faults d core machine old new answer = RunEnds taken faults d core p machine old new answer
+DeckEnds (Runs p) taken faults d core machine old new answer = DeckRunEnds taken faults d core p machine old new answer
 DeckEnds (Prints text) taken faults d core machine old new answer = ⊥
 
 -- ---- a run for which core and device are large enough

@@ -42,7 +42,7 @@ text_to printed line = record { front = run_text printed; last = ended line }
 -- A run that set out from a session has come to another and has printed these lines. If its device told what the sectors
 -- hold, that is the session after as many steps as the machine counts, and these are their lines. One that tells nothing
 -- may give back other code and other numbers than were written.
-pub record ComesTo {B : Type 0} (d : Device B) (first : Session) (k : Machine) (s : Session) (printed : List RunLine) : Type 0 where
+pub record StandsAfter {B : Type 0} (d : Device B) (first : Session) (k : Machine) (s : Session) (printed : List RunLine) : Type 0 where
   pub session : Tells d → s ≡ after k.tasks.made first
   pub lines_are : Tells d → printed ≡ lines k.tasks.made first
 
@@ -57,7 +57,7 @@ IsWithinHalt r steps = IfSome r.halt (λ count. steps ≤ count)
 pub record IsDone {B : Type 0} (d : Device B) (r : Run) (k : Machine) (text : Text) : Type 0 where
   pub session : Session
   pub printed : List RunLine
-  pub comes : ComesTo d r.session k session printed
+  pub comes : StandsAfter d r.session k session printed
   pub within : IsWithinHalt r k.tasks.made
   pub rests : RepresentsWithoutTasks (known_now d) k session
   pub text_is : text ≡ record { front = run_text printed; last = [] }
@@ -66,7 +66,7 @@ pub record IsDone {B : Type 0} (d : Device B) (r : Run) (k : Machine) (text : Te
 pub record StopsAt {B : Type 0} (d : Device B) (first : Session) (k : Machine) : Type 0 where
   pub session : Session
   pub printed : List RunLine
-  pub comes : ComesTo d first k session printed
+  pub comes : StandsAfter d first k session printed
   pub member : SessionJob
   pub task : Task
   pub lone : IsLone (known_now d) k session member task
@@ -207,8 +207,8 @@ pub record IsPrinting {B : Type 0} (d : Device B) (core : ℕ) (p : Prepared) (m
   pub cut : IsCutInStep d core (run_of p) left text ⊎ IsCutInLimit d (run_of p) left text
 
 -- a run stops and its text is printed, unless the printer fails, in its last line or in the text of a step
-pub data RunEnds {K B : Type 0} (taken : K → Option (List ℕ)) (faults : K → ℕ) (d : Device B) (core : ℕ) (p : Prepared) (machine : Option Machine) (old new : K) (answer : ℕ) : Type 0 where
+pub data DeckRunEnds {K B : Type 0} (taken : K → Option (List ℕ)) (faults : K → ℕ) (d : Device B) (core : ℕ) (p : Prepared) (machine : Option Machine) (old new : K) (answer : ℕ) : Type 0 where
   run_stops : (status : ℕ) (text : Text) → RunStops d core p machine status text → Closes taken faults old new status text answer
-      → RunEnds taken faults d core p machine old new answer
+      → DeckRunEnds taken faults d core p machine old new answer
   step_is_cut : (text : Text) (count : ℕ) → IsPrinting d core p machine text count → answer ≡ 8 → Rose faults old new → TookUpTo taken old new text count
-      → RunEnds taken faults d core p machine old new answer
+      → DeckRunEnds taken faults d core p machine old new answer

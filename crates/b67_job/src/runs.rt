@@ -15,7 +15,7 @@ ghost use Rattle.b67_uncalled.specs.Uncalled.{uses_built};
 ghost use Rattle.b67_job.specs.Device.{device_of};
 ghost use Rattle.b67_job.specs.Finishing.{refused_status, refused_line, Finishes, JobRan};
 ghost use Rattle.b67_job.specs.Lines.{backing_fault_line};
-ghost use Rattle.b67_job.specs.Runs.{RunEnds};
+ghost use Rattle.b67_job.specs.Runs.{DeckRunEnds};
 
 use crate::lines::{backing_full_line, no_core_line, refusal_line};
 use crate::outcome::Outcome;
@@ -120,7 +120,7 @@ pub fn run_deck<K: Sink, B: Backing>(
     requires built { AllByRecursion (λ f. uses_built (program_of f) ≡ true) programs.now }
     requires core_low { 256 ≤ core }
     requires core_high { core < 2 ^ 20 }
-    ensures ends { RunEnds K.taken K.faults (device_of B.holds B.size B.faults backing.old backing.new) core (deck.now, map program_of programs.now)
+    ensures ends { DeckRunEnds K.taken K.faults (device_of B.holds B.size B.faults backing.old backing.new) core (deck.now, map program_of programs.now)
         result.machine printer.old printer.new result.status }
     ensures device { DeviceAfterCalls B.holds B.size B.calls B.faults backing.old backing.new }
 {

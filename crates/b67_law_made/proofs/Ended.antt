@@ -22,7 +22,7 @@ use Rattle.b67_law_order_runs.proofs.Opens.{opens_in_order}
 use Rattle.b67_law_order_runs.specs.Runs.{RunsAdmitted}
 use Rattle.b67_law_order_runs.proofs.Sessions.{sessions_stay_in_order, opened_admitted}
 use Rattle.b67_law_made.specs.RunFaults.{ChosenFaultsAtNvld}
-use Rattle.b67_law_made.specs.RunMade.{Runs}
+use Rattle.b67_law_made.specs.RunMade.{MakesOperator}
 use Rattle.b67_law_made.specs.Ended.{SteppedAtNvld, RunsEndExactlyAtNvld}
 use Rattle.b67_law_made.proofs.States.{sessions_fault_exactly_at_nvld}
 use Rattle.b67_law_made.proofs.Makers.{after_more}
@@ -37,7 +37,7 @@ pub record TheSame (c : Choice) (job x : ℕ) (op chosen : Op) : Type 0 where
 pub op_read : (a b : Op) (m n : Place) → (let first : Reading = Ok (a, m) in first ≡ Ok (b, n)) → a ≡ b
 op_read a b m n e = let pair : (a, m) ≡ (b, n) = cc in ap (λ (y : Op × Place). y.0) pair
 
-the_same : (s : Session) (c : Choice) (job x : ℕ) (op : Op) (t : ChosenFaultsAtNvld s c) → choice s ≡ Some c → Runs s job x op → TheSame c job x op t.at_nvld.op
+the_same : (s : Session) (c : Choice) (job x : ℕ) (op : Op) (t : ChosenFaultsAtNvld s c) → choice s ≡ Some c → MakesOperator s job x op → TheSame c job x op t.at_nvld.op
 the_same s c job x op t chooses r =
     let both : Some r.chosen ≡ Some c = sym r.chooses ∙ chooses in
     let is : r.chosen ≡ c = cc in
@@ -73,7 +73,7 @@ after_stop (suc k) first s is e = by (λ from. after_stop k from s) (next first)
     by rest (Some n) f = let later : after k n.session ≡ s = rw f at is in rw f (rest n.session later e)
 
 -- where a task makes the next step there is one
-runs_on : (s : Session) (job x : ℕ) (op : Op) → Runs s job x op → next s ≡ None → ⊥
+runs_on : (s : Session) (job x : ℕ) (op : Op) → MakesOperator s job x op → next s ≡ None → ⊥
 unfolding next
 runs_on s job x op r e =
     let for_choice : moment_for s (Some r.chosen) ≡ None = subst (λ o. moment_for s o ≡ None) r.chooses e in
@@ -89,9 +89,9 @@ module _ (first : Session) where
   later k job x r = record { steps_before = r.steps_before; earlier = omega (arith, r.earlier); ran = r.ran }
 
   -- an earlier step, or the last one
-  last_or : (k job x : ℕ) (s : Session) → after k first ≡ s → SteppedAtNvld first (suc k) job x → SteppedAtNvld first k job x ⊎ Runs s job x (Plain Nvld)
+  last_or : (k job x : ℕ) (s : Session) → after k first ≡ s → SteppedAtNvld first (suc k) job x → SteppedAtNvld first k job x ⊎ MakesOperator s job x (Plain Nvld)
   last_or k job x s is r = elim (eqb_tells r.steps_before k) [
-    | inl t ↦ inr (subst (λ (y : Session). Runs y job x (Plain Nvld)) is (subst (λ i. Runs (after i first) job x (Plain Nvld)) t.1 r.ran))
+    | inl t ↦ inr (subst (λ (y : Session). MakesOperator y job x (Plain Nvld)) is (subst (λ i. MakesOperator (after i first) job x (Plain Nvld)) t.1 r.ran))
     | inr t ↦ let ne = t.1 in inl (record { steps_before = r.steps_before; earlier = omega (arith, r.earlier, ne); ran = r.ran })
   ]
 
@@ -108,7 +108,7 @@ module _ (first : Session) where
       named : number_of t.member ≡ c.who.job
       named = (keyed_has number_of c.who.job s.jobs t.member t.job).1
 
-      now : (x : ℕ) → x ≡ t.task.number → t.at_nvld.op ≡ Plain Nvld → Runs s c.who.job x (Plain Nvld)
+      now : (x : ℕ) → x ≡ t.task.number → t.at_nvld.op ≡ Plain Nvld → MakesOperator s c.who.job x (Plain Nvld)
       now x stepped nvld = record {
         chosen = c;
         chooses = chooses;
@@ -128,7 +128,7 @@ module _ (first : Session) where
           let old = exact c.who.job x t.member t.job in (
             λ h. elim (step.0 h) [
               | inl o ↦ later k c.who.job x (old.0 o)
-              | inr n ↦ record { steps_before = k; earlier = omega arith; ran = subst (λ (y : Session). Runs y c.who.job x (Plain Nvld)) (sym is) (now x n.0 (t.at_nvld.faults.0 n.1)) }
+              | inr n ↦ record { steps_before = k; earlier = omega arith; ran = subst (λ (y : Session). MakesOperator y c.who.job x (Plain Nvld)) (sym is) (now x n.0 (t.at_nvld.faults.0 n.1)) }
             ],
             λ r. elim (last_or k c.who.job x s is r) [
               | inl earlier ↦ step.1 (inl (old.1 earlier))

@@ -15,7 +15,7 @@ use Rattle.b67_model.specs.Run.{StepResult, number_of, of_job, with_moment, mome
 use Rattle.b67_law_order_runs.specs.Opening.{opening}
 use Rattle.b67_law_order_rows.proofs.Kept.{here}
 use Rattle.b67_law_made.specs.Made.{OperatorMakes, MakesMark}
-use Rattle.b67_law_made.specs.RunMade.{Runs, context, EarlierStep, RunsMakeTheirWords}
+use Rattle.b67_law_made.specs.RunMade.{MakesOperator, context, EarlierStep, RunsMakeTheirWords}
 use Rattle.b67_law_made.proofs.Opened.{openings_are_made_by_the_loader}
 use Rattle.b67_law_made.proofs.Keeping.{has_changed, TasksMade, Maker, step_kept}
 
@@ -50,8 +50,8 @@ module _ (first : Session) (total : ℕ) where
     marks = λ identity standing made. inr (at (λ o call. MakesMark o call standing) made);
   }
     where
-      step : (Made : Op → Option ℕ → Type 0) (x : Session) → after k first ≡ x → (r : Runs x c.who.job c.who.task op) → Made op (called op (context r)) → EarlierStep first total c.who.job Made
-      step Made x is' r made = subst (λ (y : Session). (r : Runs y c.who.job c.who.task op) → Made op (called op (context r)) → EarlierStep first total c.who.job Made) is'
+      step : (Made : Op → Option ℕ → Type 0) (x : Session) → after k first ≡ x → (r : MakesOperator x c.who.job c.who.task op) → Made op (called op (context r)) → EarlierStep first total c.who.job Made
+      step Made x is' r made = subst (λ (y : Session). (r : MakesOperator y c.who.job c.who.task op) → Made op (called op (context r)) → EarlierStep first total c.who.job Made) is'
           (λ ran made'. record { steps_before = k; earlier = below; number = c.who.task; op = op; ran = ran; made = made' }) r made
 
       at : (Made : Op → Option ℕ → Type 0) → Made op (called op (here m.constants m.progress.job task place)) → EarlierStep first total c.who.job Made

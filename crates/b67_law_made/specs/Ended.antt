@@ -10,13 +10,13 @@ use Rattle.b67_model.specs.State.{SessionJob}
 use Rattle.b67_model.specs.Schedule.{Switch, Session}
 use Rattle.b67_model.specs.Run.{number_of, after}
 use Rattle.b67_law_order_runs.specs.Opening.{Opening, DeckWithin, opening}
-use Rattle.b67_law_made.specs.RunMade.{Runs}
+use Rattle.b67_law_made.specs.RunMade.{MakesOperator}
 
 -- one of the first n steps of a run was that of the task, at NVLD
 pub record SteppedAtNvld (s : Session) (n job task : ℕ) : Type 0 where
   pub steps_before : ℕ
   pub earlier : steps_before < n
-  pub ran : Runs (after steps_before s) job task (Plain Nvld)
+  pub ran : MakesOperator (after steps_before s) job task (Plain Nvld)
 
 -- after any number of steps of the run of an admitted deck a task has ended with INVALID OPERATOR exactly if one of these
 -- was its step at NVLD

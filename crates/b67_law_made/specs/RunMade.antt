@@ -14,7 +14,7 @@ use Rattle.b67_law_order_runs.specs.Opening.{Opening, opening}
 use Rattle.b67_law_made.specs.Made.{OperatorMakes, MakesMark}
 
 -- a task of a job makes the next step of a session, and stands at this operator
-pub record Runs (s : Session) (job number : ℕ) (op : Op) : Type 0 where
+pub record MakesOperator (s : Session) (job number : ℕ) (op : Op) : Type 0 where
   pub chosen : Choice
   pub chooses : choice s ≡ Some chosen
   pub of_job : chosen.who.job ≡ job
@@ -27,7 +27,7 @@ pub record Runs (s : Session) (job number : ℕ) (op : Op) : Type 0 where
   pub stands : reading_of member.constants task ≡ Ok (op, next)
 
 -- where that operator is made
-abbrev pub context : {s : Session} {job number : ℕ} {op : Op} → Runs s job number op → OperatorContext
+abbrev pub context : {s : Session} {job number : ℕ} {op : Op} → MakesOperator s job number op → OperatorContext
 context r = record { constants = r.member.constants; job = r.member.progress.job; task = record r.task { place = r.next }; at = r.task.place }
 
 -- one of the first n steps of a run was that of a task of the job, and its operator, with the intrinsic that it calls, if
@@ -37,7 +37,7 @@ pub record EarlierStep (s : Session) (n job : ℕ) (Made : Op → Option ℕ →
   pub earlier : steps_before < n
   pub number : ℕ
   pub op : Op
-  pub ran : Runs (after steps_before s) job number op
+  pub ran : MakesOperator (after steps_before s) job number op
   pub made : Made op (called op (context ran))
 
 -- each word of a frame was made by an earlier step of its job, and so were its mark and return, but for the mark of the

@@ -83,7 +83,7 @@ pub record IsMade (x : Storage) (plan : Placement) (s : Session) (m : SessionJob
   pub changed : (i : ℕ) → (slice_get new.core i ≡ slice_get old.core i) ⊎ MayChange x plan m old.regs touched i
 
 -- the row touches an array that is absent
-pub record IsAbsent (x : Storage) (plan : Placement) (m : SessionJob) (found : What) (answer : Answer Done) : Type 0 where
+pub record FindsAbsent (x : Storage) (plan : Placement) (m : SessionJob) (found : What) (answer : Answer Done) : Type 0 where
   pub job : Job
   pub touched : ℕ
   pub is : answer ≡ Ok (Goes job [] (Some touched))
@@ -93,7 +93,7 @@ pub record IsAbsent (x : Storage) (plan : Placement) (m : SessionJob) (found : W
 -- what an operator answered and left is what its row makes; after all answers but Done nothing has changed
 abbrev pub Meets : Storage → Placement → Session → SessionJob → Step → Cpu → Cpu → Answer Done → Type 0
 Meets x plan s m step.Done old new answer = IsMade x plan s m old new answer
-Meets x plan s m (step.Absent found) old new answer = IsAbsent x plan m found answer × (new ≡ old)
+Meets x plan s m (step.Absent found) old new answer = FindsAbsent x plan m found answer × (new ≡ old)
 Meets x plan s m (step.Call n) old new answer = ⊥
 Meets x plan s m (step.Fault fault) old new answer = (answer ≡ Err fault) × (new ≡ old)
 Meets x plan s m step.Ended old new answer = (answer ≡ Ok Leaves) × (new ≡ old)

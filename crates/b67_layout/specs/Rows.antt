@@ -40,7 +40,7 @@ pub record JobRow : Type 0 where
   pub next_number : ℕ
 
 -- the counts of the session: the first switch that is left, the row of the running task, 255 for none
-pub record Counts : Type 0 where
+pub record JobCounts : Type 0 where
   pub quantum : ℕ
   pub made : ℕ
   pub turn : ℕ
@@ -96,7 +96,7 @@ abbrev pub RunningRow : Placement → Option TaskRow → ℕ → Type 0
 RunningRow plan None running = (running ≡ 255) × (plan.running ≡ 255)
 RunningRow plan (Some row) running = (running ≢ 255) × (row.slot ≡ plan.running)
 
-pub record CountsShow (plan : Placement) (s : Session) (rows : List TaskRow) (c : Counts) : Type 0 where
+pub record CountsShow (plan : Placement) (s : Session) (rows : List TaskRow) (c : JobCounts) : Type 0 where
   pub quantum : c.quantum ≡ s.quantum
   pub made : c.made ≡ s.made
   pub turn : c.turn ≡ s.turn
@@ -113,7 +113,7 @@ Differ [] = Unit {0}
 Differ (n ∷ more) = (Has more n → ⊥) × Differ more
 
 -- the tables show the session: a row for each live task and each row a live task's, the jobs in order, the counts
-pub record TablesShow (plan : Placement) (s : Session) (rows : List TaskRow) (job_rows : List JobRow) (c : Counts) : Type 0 where
+pub record TablesShow (plan : Placement) (s : Session) (rows : List TaskRow) (job_rows : List JobRow) (c : JobCounts) : Type 0 where
   pub tasks : (row : TaskRow) → Has rows row → (m : SessionJob) × (t : Task) × Has s.jobs m × Has m.progress.job.tasks t × TaskShows plan m t row
   pub each : (m : SessionJob) (t : Task) → Has s.jobs m → Has m.progress.job.tasks t → (row : TaskRow) × Has rows row × TaskShows plan m t row
   pub once : Differ (map (λ (row : TaskRow). row.slot) rows)

@@ -16,7 +16,7 @@ use Rattle.b67_lemmas.specs.Lists.{Has}
 use Rattle.b67_ctl.specs.declared.registers.Regs.{Regs}
 use Rattle.b67_stack.specs.Shapes.{Location}
 use Rattle.b67_stack.specs.MachineView.{PagedObject, MachineView, Slot, Free, Running, Waiting, slot_base, home_word, words_of, tag_of}
-use Rattle.b67_stack.specs.Represents.{Storage, RepresentsSlot, RepresentsSlots, StacksLie, RepresentsObjects, RepresentsObject, Content, KeptChain, AbsentContent, HasChain, HoldsIn, Told, Owned, info_of, Represents}
+use Rattle.b67_stack.specs.Represents.{Storage, RepresentsSlot, RepresentsSlots, StacksLie, RepresentsObjects, RepresentsObject, Content, KeptChain, AbsentContent, ObjectHasChain, HoldsIn, Told, Owned, info_of, Represents}
 use Rattle.b67_stack.proofs.Lies.{Upward-same}
 use Rattle.b67_layout_storage.specs.Machine.{with_held, ChainStays}
 use Rattle.b67_layout_storage.proofs.Helds.{held-other, held-same}
@@ -31,7 +31,7 @@ pub RepresentsSlots-same : (core new : List Tagged) (r : Regs) (low : ℕ) (p : 
 RepresentsSlots-same core new r low p same s = record { laid = s.laid; regs = s.regs; slots = λ k h. slot_same core new r p k (p.slots k) (same k h) (s.slots k h) }
 
 module _ (x y : Storage) (t : PagedObject) (f : ℕ) (c : ChainStays x y f) where
-  pub HasChain-stays : HasChain x t f → HasChain y t f
+  pub HasChain-stays : ObjectHasChain x t f → ObjectHasChain y t f
   HasChain-stays h = record { some = h.some; small = h.small; sectors = ap length c.chain ∙ h.sectors }
 
   pub HoldsIn-stays : HoldsIn x t f → HoldsIn y t f

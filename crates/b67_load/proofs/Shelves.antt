@@ -8,7 +8,7 @@ use Rattle.b67_backing.proofs.Links.{Chain, chain_there, linked_within, rest, on
 use Rattle.b67_backing.proofs.News.{first_take}
 use Rattle.b67_lemmas.specs.Lists.{Has}
 use Rattle.b67_stack.specs.MachineView.{PagedObject}
-use Rattle.b67_load.specs.Objects.{sectors_of, sectors_of_all}
+use Rattle.b67_load.specs.Objects.{sectors_of, sectors_of_objects}
 use Rattle.b67_load.specs.Resting.{Resting, placed, stocked, KeepsChains}
 
 -- a chain's first sector is a sector's number
@@ -123,7 +123,7 @@ pub placed-append : (xs ys : List PagedObject) (s : Shelf) → placed (xs ++ ys)
 placed-append [] ys s = refl
 placed-append (x ∷ xs) ys s = ap (λ (r : List Resting). record { object = x; chain = take (sectors_of x) s.free } ∷ r) (placed-append xs ys (taken (sectors_of x) s))
 
-pub free-stocked : (xs : List PagedObject) (s : Shelf) → length (stocked xs s).free ≡ length s.free - sectors_of_all xs
+pub free-stocked : (xs : List PagedObject) (s : Shelf) → length (stocked xs s).free ≡ length s.free - sectors_of_objects xs
 free-stocked [] s = omega arith
 free-stocked (x ∷ xs) s = omega (arith, free-stocked xs (taken (sectors_of x) s), length-drop (sectors_of x) s.free)
 

@@ -11,7 +11,7 @@ use Rattle.b67_lemmas.specs.Lists.{Has, total}
 use Rattle.b67_lemmas.proofs.Members.{total_append}
 use Rattle.b67_model.specs.Program.{Program}
 use Rattle.b67_stack.specs.MachineView.{PagedObject}
-use Rattle.b67_load.specs.Objects.{code_from, rows_from, objects_of, entries_of, sectors_of, sectors_of_all, sectors_of_program}
+use Rattle.b67_load.specs.Objects.{code_from, rows_from, objects_of, entries_of, sectors_of, sectors_of_objects, sectors_of_program}
 use Rattle.b67_load.specs.Resting.{placed, dictionary_mark, DescriptorsStand, DictionaryIs, SameOutside}
 use Rattle.b67_backing.specs.Shelf.{Shelf, IsShelf}
 use Rattle.b67_load.specs.Writing.{Parts, Spares, Writes, Installed}
@@ -59,7 +59,7 @@ total-rows_from : (at : ℕ) (rows : List (List ℕ)) → total sectors_of (rows
 total-rows_from at [] = refl
 total-rows_from at (r ∷ more) = ap (λ (n : ℕ). sectors_for (length r) + n) (total-rows_from (at + 1) more)
 
-pub sectors-objects : (base : ℕ) (p : Program) → sectors_of_all (objects_of base p) ≡ sectors_of_program p
+pub sectors-objects : (base : ℕ) (p : Program) → sectors_of_objects (objects_of base p) ≡ sectors_of_program p
 sectors-objects base p =
     omega (arith, total_append sectors_of (code_from (base + 2) p.segments) (rows_from (base + (2 + length p.segments)) p.rows), total-code_from (base + 2) p.segments, total-rows_from (base + (2 + length p.segments)) p.rows)
 
@@ -70,7 +70,7 @@ code_low at (s ∷ more) t (inl e) = let k : at ≡ t.home = ap (λ (u : PagedOb
 code_low at (s ∷ more) t (inr h) = let (low, high) = code_low (at + 1) more t h in (omega (arith, low), omega (arith, high))
 
 pub sectors-parts : (base : ℕ) (f : Codefile) (segments : List Segment) (rows : List (List Tagged)) → segments ≡ f.segments → rows ≡ f.rows
-    → sectors_of_all (code_from (base + 2) (map segment_of segments)) + sectors_of_all (rows_from (base + (2 + length segments)) (map contents rows)) ≡ sectors_of_all (objects_of base (program_of f))
+    → sectors_of_objects (code_from (base + 2) (map segment_of segments)) + sectors_of_objects (rows_from (base + (2 + length segments)) (map contents rows)) ≡ sectors_of_objects (objects_of base (program_of f))
 sectors-parts base f segments rows e q =
     rw (← e, ← q, length-map segments segment_of) (sym (total_append sectors_of (code_from (base + 2) (map segment_of segments)) (rows_from (base + (2 + length segments)) (map contents rows))))
 

@@ -12,7 +12,7 @@ use Rattle.b67_lemmas.specs.Lists.{Has}
 use Rattle.b67_lemmas.proofs.Members.{has_append_cases, total_append}
 use Rattle.b67_stack.specs.MachineView.{PagedObject, words_of, home_word}
 use Rattle.b67_stack.specs.Shapes.{at_rest}
-use Rattle.b67_load.specs.Objects.{sectors_of, sectors_of_all}
+use Rattle.b67_load.specs.Objects.{sectors_of, sectors_of_objects}
 use Rattle.b67_load.specs.Resting.{Resting, placed, stocked, descriptor, DescriptorsStand, WordsRest, WritesFreeSectors, SameOutside}
 use Rattle.b67_load.specs.Writing.{Parts, Spares, Writes}
 use Rattle.b67_load.proofs.Shelves.{keeps_taken, keeps-refl, keeps_both, stocked-append, placed-append, stocked_has, placed_chain, placed_object, holds_stay, chain_apart, times-take_drop, none_more}
@@ -178,11 +178,11 @@ module _ {D : Type 0} (tell : D → Option (List (List ℕ))) where
   pub record Going (base upto at : ℕ) (all rest : List PagedObject) (start now : Parts D) : Type 0 where
     pub low : base ≤ at
     pub high : at + length rest ≡ base + upto
-    pub room : sectors_of_all rest ≤ now.table.free
+    pub room : sectors_of_objects rest ≤ now.table.free
     pub spares : Spares tell base upto start now
     pub writes : (end : Parts D) → Writes tell rest now end → Spares tell at (length rest) now end → Writes tell all start end
 
-  pub going_first : (base : ℕ) (all : List PagedObject) (upto : ℕ) (start : Parts D) → length all ≡ upto → sectors_of_all all ≤ start.table.free → Going base upto base all all start start
+  pub going_first : (base : ℕ) (all : List PagedObject) (upto : ℕ) (start : Parts D) → length all ≡ upto → sectors_of_objects all ≤ start.table.free → Going base upto base all all start start
   going_first base all upto start e room = record { low = omega arith; high = omega arith; room = room; spares = spares-refl base upto start; writes = λ end w s. w }
 
   pub going_next : (base upto at : ℕ) (all : List PagedObject) (t : PagedObject) (rest more : List PagedObject) (start now next : Parts D) → rest ≡ t ∷ more → t.home ≡ at

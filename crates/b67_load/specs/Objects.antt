@@ -29,8 +29,8 @@ entries_of p = length p.segments + length p.rows
 abbrev pub sectors_of : PagedObject → ℕ
 sectors_of t = sectors_for (length t.numbers)
 
-abbrev pub sectors_of_all : List PagedObject → ℕ
-sectors_of_all objects = total sectors_of objects
+abbrev pub sectors_of_objects : List PagedObject → ℕ
+sectors_of_objects objects = total sectors_of objects
 
 -- the sectors that a program takes
 abbrev pub sectors_of_program : Program → ℕ

@@ -5,7 +5,7 @@ use Rattle.b67_backing.specs.Shelf.{Table, Shelf, IsShelf}
 use Rattle.b67_backing.specs.Held.{Changes, SameBut}
 use Rattle.b67_model.specs.Program.{Program}
 use Rattle.b67_stack.specs.MachineView.{PagedObject}
-use Rattle.b67_load.specs.Objects.{objects_of, sectors_of_all, sectors_of_program}
+use Rattle.b67_load.specs.Objects.{objects_of, sectors_of_objects, sectors_of_program}
 use Rattle.b67_load.specs.Resting.{placed, stocked, DescriptorsStand, DictionaryIs, WritesFreeSectors, SameOutside, KeepsChains}
 
 -- core, the table of sectors, and the device
@@ -27,7 +27,7 @@ pub record Writes {D : Type 0} (tell : D → Option (List (List ℕ))) (objects 
   pub shelf : (st : Shelf) → IsShelf old.table st → IsShelf new.table (stocked objects st)
   pub descriptors : (st : Shelf) → IsShelf old.table st → DescriptorsStand new.core (placed objects st.free)
   pub stocks : (st : Shelf) → IsShelf old.table st → Changes tell old.device new.device (WritesFreeSectors objects st.free)
-  pub left : new.table.free + sectors_of_all objects ≡ old.table.free
+  pub left : new.table.free + sectors_of_objects objects ≡ old.table.free
 
 -- a table of chains and free sectors for a device of `many` sectors, of which as many as are wanted are free
 pub record HasSectors (many : ℕ) (table : Table) (wanted : ℕ) : Type 0 where

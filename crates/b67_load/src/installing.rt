@@ -11,7 +11,7 @@ ghost use Rattle.b67_backing.specs.declared.refusals.SpaceFault.TheVariants.{Bac
 ghost use Rattle.b67_codefile.specs.Spelling.{IsSegment, IsRow, IsWithin};
 ghost use Rattle.b67_codefile.specs.Meaning.{segment_of, program_of};
 ghost use Rattle.b67_stack.specs.declared.Cpu.{Cpu};
-ghost use Rattle.b67_load.specs.Objects.{code_from, rows_from, objects_of, entries_of, sectors_of_all, sectors_of_program};
+ghost use Rattle.b67_load.specs.Objects.{code_from, rows_from, objects_of, entries_of, sectors_of_objects, sectors_of_program};
 ghost use Rattle.b67_load.specs.Writing.{Parts, Spares, Writes, HasSectors, Installed};
 
 use b67_backing::{Backing, Sectors, SpaceFault};
@@ -127,7 +127,7 @@ fn install_segments<B: Backing>(
 ) -> Result<(), SpaceFault>
     requires inside { base + length segments.now ≤ length core.old }
     requires within { AllByRecursion IsSegment segments.now }
-    requires sectors { HasSectors (B.size backing.old) sectors.old (sectors_of_all (code_from base (map segment_of segments.now))) }
+    requires sectors { HasSectors (B.size backing.old) sectors.old (sectors_of_objects (code_from base (map segment_of segments.now))) }
     ensures writes { OnOk result (Writes B.holds (code_from base (map segment_of segments.now))
         (record { core = core.old; table = sectors.old; device = backing.old })
         (record { core = core.new; table = sectors.new; device = backing.new })) }
@@ -156,7 +156,7 @@ fn install_rows<B: Backing>(
 ) -> Result<(), SpaceFault>
     requires inside { base + length rows.now ≤ length core.old }
     requires within { AllByRecursion IsRow rows.now }
-    requires sectors { HasSectors (B.size backing.old) sectors.old (sectors_of_all (rows_from base (map contents rows.now))) }
+    requires sectors { HasSectors (B.size backing.old) sectors.old (sectors_of_objects (rows_from base (map contents rows.now))) }
     ensures writes { OnOk result (Writes B.holds (rows_from base (map contents rows.now))
         (record { core = core.old; table = sectors.old; device = backing.old })
         (record { core = core.new; table = sectors.new; device = backing.new })) }
@@ -185,7 +185,7 @@ fn install_objects<B: Backing>(
 ) -> Result<(), SpaceFault>
     requires inside { base + (2 + entries_of (program_of file.now)) ≤ length core.old }
     requires within { IsWithin file.now }
-    requires sectors { HasSectors (B.size backing.old) sectors.old (sectors_of_all (objects_of base (program_of file.now))) }
+    requires sectors { HasSectors (B.size backing.old) sectors.old (sectors_of_objects (objects_of base (program_of file.now))) }
     ensures writes { OnOk result (Writes B.holds (objects_of base (program_of file.now))
         (record { core = core.old; table = sectors.old; device = backing.old })
         (record { core = core.new; table = sectors.new; device = backing.new })) }

@@ -14,7 +14,7 @@ use Rattle.b67_model.specs.InOrder.{from_frame, frames_of_task, NumberedFrom}
 use Rattle.b67_layout.specs.Orders.{IsInOrderButCounts}
 use Rattle.b67_stack.specs.Stacks.{StackPlace}
 use Rattle.b67_layout.specs.Placement.{Placement, slot_of, spot_in, base_spot, outer_spots, address_of}
-use Rattle.b67_layout.specs.Rows.{RowState, WaitsAtCell, TaskRow, JobRow, Counts, shown, critical_disp, TaskShows, JobShows, JobsShow, TablesShow}
+use Rattle.b67_layout.specs.Rows.{RowState, WaitsAtCell, TaskRow, JobRow, JobCounts, shown, critical_disp, TaskShows, JobShows, JobsShow, TablesShow}
 use Rattle.b67_layout.specs.Session.{IsRunning}
 use Rattle.b67_layout.specs.Meets.{with_job}
 use Rattle.b67_layout.proofs.Fresh.{running_in_order}
@@ -207,7 +207,7 @@ module _ (plan : Placement) (s : Session) (m : SessionJob) (t t' : Task) (job' :
         ]) inu
   ]
 
-  pub tables_after : (rows : List TaskRow) (job_rows job_rows' : List JobRow) (c : Counts) → TablesShow plan s rows job_rows c → JobsShow plan (with_job s m job').jobs job_rows' → TablesShow plan (with_job s m job') rows job_rows' c
+  pub tables_after : (rows : List TaskRow) (job_rows job_rows' : List JobRow) (c : JobCounts) → TablesShow plan s rows job_rows c → JobsShow plan (with_job s m job').jobs job_rows' → TablesShow plan (with_job s m job') rows job_rows' c
   tables_after rows job_rows job_rows' c h jobs = record {
     tasks = λ row i. let (y, u, iny, inu, w) = h.tasks row i in shown_by rows row y u iny inu w;
     each = each_by rows h.each;

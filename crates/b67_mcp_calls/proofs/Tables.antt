@@ -5,7 +5,7 @@ use Rattle.b67_model.specs.State.{Condition, Ready, Awaits, WaitsAt, Task, Job, 
 use Rattle.b67_model.specs.Schedule.{Session}
 use Rattle.b67_stack.specs.Stacks.{StackPlace}
 use Rattle.b67_layout.specs.Placement.{Placement, slot_of, spot_in, outer_spots, address_of}
-use Rattle.b67_layout.specs.Rows.{WaitsAtCell, TaskRow, JobRow, Counts, shown, parent_slot, critical_disp, TaskShows, JobShows, JobsShow, RunningRow, TablesShow}
+use Rattle.b67_layout.specs.Rows.{WaitsAtCell, TaskRow, JobRow, JobCounts, shown, parent_slot, critical_disp, TaskShows, JobShows, JobsShow, RunningRow, TablesShow}
 use Rattle.b67_mcp_calls.specs.Declaring.{with_home}
 use Rattle.b67_mcp_calls.proofs.Replanned.{outer_spots-there}
 
@@ -53,7 +53,7 @@ module _ (plan : Placement) (j n at : ℕ) where
   running-there None k h = h
   running-there (Some row) k h = h
 
-  pub tables-there : (s : Session) (rows : List TaskRow) (job_rows : List JobRow) (c : Counts) → TablesShow plan s rows job_rows c → TablesShow (with_home plan j n at) s rows job_rows c
+  pub tables-there : (s : Session) (rows : List TaskRow) (job_rows : List JobRow) (c : JobCounts) → TablesShow plan s rows job_rows c → TablesShow (with_home plan j n at) s rows job_rows c
   tables-there s rows job_rows c h = record {
     tasks = λ row i. let (m, t, a, b, e) = h.tasks row i in (m, t, a, b, task-there m t row e);
     each = λ m t a b. let (row, i, e) = h.each m t a b in (row, i, task-there m t row e);

@@ -14,7 +14,7 @@ use Rattle.b67_area.specs.declared.Kind.{Kind}
 use Rattle.b67_area.specs.declared.Kind.TheVariants.{Array}
 use Rattle.b67_stack.specs.Shapes.{Location}
 use Rattle.b67_stack.specs.MachineView.{PagedObject, MachineView, home_desc, home_word_of}
-use Rattle.b67_stack.specs.Represents.{Storage, Represents, HasChain}
+use Rattle.b67_stack.specs.Represents.{Storage, Represents, ObjectHasChain}
 use Rattle.b67_stack.proofs.Homes.{chain_small}
 use Rattle.b67_layout_storage.specs.Machine.{ChainStays}
 use Rattle.b67_layout_storage.proofs.Unchanged.{area_bounds}
@@ -31,14 +31,14 @@ module _ (x : Storage) (core : List Tagged) (r : Regs) (p : MachineView) (s : Re
   abbrev kept : ℕ
   kept = (x.held t.home).chain
 
-  pub chain_or : (u : PagedObject) → Has p.objects u → ((x.held u.home).chain ≡ 0) ⊎ HasChain x u (x.held u.home).chain
+  pub chain_or : (u : PagedObject) → Has p.objects u → ((x.held u.home).chain ≡ 0) ⊎ ObjectHasChain x u (x.held u.home).chain
   chain_or u inu = Content-chain x core u (x.held u.home).area (x.held u.home).chain (s.objects u inu).content
 
   some_sectors : (n : ℕ) → 0 < n → 1 ≤ sectors_for n
   some_sectors n h = omega arith
 
   pub is_chain : IsChain x.shelf (x.held t.home).chain
-  is_chain = ⊎_elim inl (λ (h : HasChain x t (x.held t.home).chain). inr (omega (arith, h.sectors, some_sectors (length t.numbers) (s.slots.laid.lengths t int).0))) (chain_or t int)
+  is_chain = ⊎_elim inl (λ (h : ObjectHasChain x t (x.held t.home).chain). inr (omega (arith, h.sectors, some_sectors (length t.numbers) (s.slots.laid.lengths t int).0))) (chain_or t int)
 
   module _ (table : Table) (sh : IsShelf table x.shelf) where
     -- what is left of the chains

@@ -15,7 +15,7 @@ use Rattle.b67_ctl.specs.declared.registers.Regs.{Regs}
 use Rattle.b67_lemmas.specs.Lists.{Has}
 use Rattle.b67_stack.specs.Shapes.{Locations, LieUpward}
 use Rattle.b67_stack.specs.MachineView.{PagedObject, MachineView, words_of}
-use Rattle.b67_stack.specs.Represents.{Storage, Represents, Content, KeptChain, HasChain, HoldsIn, Told, StacksLie, info_of}
+use Rattle.b67_stack.specs.Represents.{Storage, Represents, Content, KeptChain, ObjectHasChain, HoldsIn, Told, StacksLie, info_of}
 use Rattle.b67_stack.proofs.Homes.{chain_small}
 use Rattle.b67_stack.proofs.Lies.{upward-take}
 use Rattle.b67_layout_storage.specs.Machine.{IsPresent, Says, content_after}
@@ -58,7 +58,7 @@ module _ (x : Storage) (core : List Tagged) (r : Regs) (p : MachineView) (s : Re
         keeps = c.1;
       }
 
-  object_chain : (u : PagedObject) → Has p.objects u → ((x.held u.home).chain ≡ 0) ⊎ HasChain x u (x.held u.home).chain
+  object_chain : (u : PagedObject) → Has p.objects u → ((x.held u.home).chain ≡ 0) ⊎ ObjectHasChain x u (x.held u.home).chain
   object_chain u inu = Content-chain x core u (x.held u.home).area (x.held u.home).chain (s.objects u inu).content
 
   -- another object has another chain
@@ -101,7 +101,7 @@ module _ (x : Storage) (core : List Tagged) (r : Regs) (p : MachineView) (s : Re
     abbrev n : ℕ
     n = length t.numbers
 
-    pub kept_chain : (kept ≡ 0) ⊎ HasChain x t kept
+    pub kept_chain : (kept ≡ 0) ⊎ ObjectHasChain x t kept
     kept_chain = let K : Kind → Type 0 = λ k. KeptChain x t k kept in subst K array about.keeps
 
     -- the sectors that may have been written are none of another object's
@@ -113,7 +113,7 @@ module _ (x : Storage) (core : List Tagged) (r : Regs) (p : MachineView) (s : Re
         chain_of-taken (sectors_for n) (first x.shelf.free) (first x.shelf.free) x.shelf (sectors_some n about.some) refl ∙ cond-true (first x.shelf.free == first x.shelf.free) _ _ (eq-eqb (first x.shelf.free) (first x.shelf.free) refl) in
         let Q : List ℕ → Type 0 = λ k. Apart k (chain_of (x.held u.home).chain x.shelf.chains) in
         subst P (sym z) (subst Q (sym e) (free_apart table x.shelf sh (x.held u.home).chain (sectors_for n))))
-        (λ (h : HasChain x t kept).
+        (λ (h : ObjectHasChain x t kept).
         let q = ne_eqb kept 0 (λ e. omega (arith, h.some, e)) in
         let e : sectors_out x.shelf kept n ≡ chain_of kept x.shelf.chains = rw q refl in
         let Q : List ℕ → Type 0 = λ k. Apart k (chain_of (x.held u.home).chain x.shelf.chains) in
@@ -131,7 +131,7 @@ module _ (x : Storage) (core : List Tagged) (r : Regs) (p : MachineView) (s : Re
         let z = storage_with x t.home (x.held t.home) x.spans x.shelf d in
         let P : Option ℕ → Type 0 = λ o. Content z core t o kept in
         let K : Kind → Type 0 = λ k. KeptChain z t k kept in
-        let chain : (kept ≡ 0) ⊎ HasChain z t kept = ⊎_elim (λ (e : kept ≡ 0). inl e) (λ (h : HasChain x t kept). let g : HasChain z t kept = record { some = h.some; small = h.small; sectors = h.sectors } in inr g) kept_chain in
+        let chain : (kept ≡ 0) ⊎ ObjectHasChain z t kept = ⊎_elim (λ (e : kept ≡ 0). inl e) (λ (h : ObjectHasChain x t kept). let g : ObjectHasChain z t kept = record { some = h.some; small = h.small; sectors = h.sectors } in inr g) kept_chain in
         let a = about in
         let re : Reheld x core core p t (x.held t.home) x.spans x.shelf d = record {
           bases = λ k hk. refl;
@@ -168,7 +168,7 @@ module _ (x : Storage) (core : List Tagged) (r : Regs) (p : MachineView) (s : Re
       written = Told-stored (sectors_out x.shelf kept n) (map number (words_of t)) x.device told new says f
 
       -- in the chain that was kept
-      out_kept : HasChain x t kept → IsOut x out p t (chain_out x.shelf kept)
+      out_kept : ObjectHasChain x t kept → IsOut x out p t (chain_out x.shelf kept)
       out_kept h =
           let q = ne_eqb kept 0 (λ e. omega (arith, h.some, e)) in
           let ec : chain_out x.shelf kept ≡ kept = cond-false (kept == 0) _ _ q in
@@ -202,7 +202,7 @@ module _ (x : Storage) (core : List Tagged) (r : Regs) (p : MachineView) (s : Re
           let W : List ℕ → Type 0 = λ k. Told (content_after x.device new) k (map number (words_of t)) in
           let own : (u : PagedObject) → Has p.objects u → u.home ≢ t.home → (x.held u.home).chain ≢ f0 = λ u inu w e. ⊎_elim
           (λ (z : (x.held u.home).chain ≡ 0). let b : ⊥ = omega (arith, ff.0, e, z) in b)
-          (λ (h : HasChain x u (x.held u.home).chain). let b : ⊥ = omega (arith, h.sectors, ap (λ k. length (chain_of k x.shelf.chains)) e, ap length ff.2, sectors_some (length u.numbers) (s.slots.laid.lengths u inu).0) in b)
+          (λ (h : ObjectHasChain x u (x.held u.home).chain). let b : ⊥ = omega (arith, h.sectors, ap (λ k. length (chain_of k x.shelf.chains)) e, ap length ff.2, sectors_some (length u.numbers) (s.slots.laid.lengths u inu).0) in b)
           (object_chain u inu) in
           let y : Storage = record x { shelf = taken m x.shelf; device = content_after x.device new } in
           let done : IsOut x y p t f0 = record {

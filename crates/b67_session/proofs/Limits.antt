@@ -21,7 +21,7 @@ use Rattle.b67_layout.specs.Orders.{IsInOrderButCounts}
 use Rattle.b67_session_lines.specs.Moments.{first_part, last_part, last_part_by, last_part_if, is_at_limit, has_tasks, text_of, due}
 use Rattle.b67_stack.specs.Represents.{Storage}
 use Rattle.b67_layout.specs.Placement.{Placement, slot_of}
-use Rattle.b67_layout.specs.Rows.{Counts, TaskShows, JobsShow, TablesShow}
+use Rattle.b67_layout.specs.Rows.{JobCounts, TaskShows, JobsShow, TablesShow}
 use Rattle.b67_layout.specs.Rows as rows
 use Rattle.b67_single.specs.Single.{IsSingle, task_lines}
 use Rattle.b67_task_tables.specs.declared.tables.JobRow.{JobRow}
@@ -141,13 +141,13 @@ jobs_with q m gone [] w = absurd w
 jobs_with q m gone (r ∷ []) w = (record { dictionary = w.0.dictionary; segments = w.0.segments; rows = w.0.rows; limit = w.0.limit; made = w.0.made; next_task = w.0.next_task; numbers = w.0.numbers }, tt)
 jobs_with q m gone (r ∷ p ∷ more) w = absurd w.1
 
-none_there : (q : Placement) (s : Session) (m : SessionJob) (js : List rows.JobRow) (c : Counts) (gone : List (ℕ × Ending)) → TablesShow q (record s { jobs = m ∷ [] }) [] js c
+none_there : (q : Placement) (s : Session) (m : SessionJob) (js : List rows.JobRow) (c : JobCounts) (gone : List (ℕ × Ending)) → TablesShow q (record s { jobs = m ∷ [] }) [] js c
     → (y : SessionJob) (u : Task) → Has (with_gone m gone ∷ []) y → Has y.progress.job.tasks u → ⊥
 none_there q s m js c gone h y u (inl e) inu = (h.each m u (inl refl) (subst (λ (z : SessionJob). Has z.progress.job.tasks u) (sym e) inu)).1
 none_there q s m js c gone h y u (inr none) inu = absurd none
 
 -- the tables don't show which tasks of a job have ended
-tables_with : (q : Placement) (s : Session) (m : SessionJob) (js : List rows.JobRow) (c : Counts) (gone : List (ℕ × Ending)) → TablesShow q (record s { jobs = m ∷ [] }) [] js c
+tables_with : (q : Placement) (s : Session) (m : SessionJob) (js : List rows.JobRow) (c : JobCounts) (gone : List (ℕ × Ending)) → TablesShow q (record s { jobs = m ∷ [] }) [] js c
     → TablesShow q (record s { jobs = with_gone m gone ∷ [] }) [] js c
 tables_with q s m js c gone h = record {
   tasks = λ row i. absurd i;
@@ -204,7 +204,7 @@ module _ (known : Option (List (List ℕ))) (k : Machine) (h : Session) (m : Ses
       let z : Session = ended h m t.number Limit in
       let after = (limit_part h m t l.single).session in
       let js = map job_row k.tasks.jobs in
-      let cs : Counts = record (counts_of k.tasks) { running = 255 } in
+      let cs : JobCounts = record (counts_of k.tasks) { running = 255 } in
       let none : List TaskRow = [] in
       let gone : TablesShow q z [] js cs = tables_ended l.storage k.cpu l.plan h m t Limit l.stands.session l.single (map task_row k.tasks.rows.items) js (counts_of k.tasks) l.stands.tables in
       let alone = subst (λ (x : Session). TablesShow q x [] js cs) (ended_alone h m t Limit l.single) gone in

@@ -17,7 +17,7 @@ use Rattle.b67_stack.specs.MachineView.{PagedObject}
 use Rattle.b67_stack.specs.Represents.{Storage}
 use Rattle.b67_layout.specs.Placement.{Placement}
 use Rattle.b67_layout.specs.Layout.{array_object}
-use Rattle.b67_layout.specs.Meets.{here, objects_gone, with_job, IsAbsent, IsMade, Meets}
+use Rattle.b67_layout.specs.Meets.{here, objects_gone, with_job, FindsAbsent, IsMade, Meets}
 use Rattle.b67_layout.specs.Session.{IsRunning, RepresentsSession, RepresentsSessionBut}
 use Rattle.b67_model.specs.Called.{called}
 use Rattle.b67_exec_cells.specs.Running.{code_area}
@@ -40,7 +40,7 @@ unchanged : (x : Storage) (told : Option (List (List ℕ))) (plan : Placement) (
     → answered ≢ answers.Done → step m.constants m.progress.job t ≡ answer → Meets x plan s m answered old.cpu new answer → StepMakes x told plan s m t answered old (record old { cpu = new })
 unchanged x told plan s m t answers.Done old new answer ne is made = absurd (ne refl)
 unchanged x told plan s m t (answers.Absent found) old new answer ne is made =
-    (subst (IsAbsent x plan m found) (sym is) made.0, ap (λ (c : Cpu). record old { cpu = c }) made.1)
+    (subst (FindsAbsent x plan m found) (sym is) made.0, ap (λ (c : Cpu). record old { cpu = c }) made.1)
 unchanged x told plan s m t (answers.Call n) old new answer ne is made = absurd made
 unchanged x told plan s m t (answers.Fault fault) old new answer ne is made = (is ∙ made.0, ap (λ (c : Cpu). record old { cpu = c }) made.1)
 unchanged x told plan s m t answers.Ended old new answer ne is made = (is ∙ made.0, ap (λ (c : Cpu). record old { cpu = c }) made.1)

@@ -14,7 +14,7 @@ use Rattle.b67_layout.specs.Orders.{IsInOrderButCounts}
 use Rattle.b67_law_order_steps.specs.Profiles.{Profile, profile}
 use Rattle.b67_stack.specs.Stacks.{StackPlace}
 use Rattle.b67_layout.specs.Placement.{Placement, slot_of, spot_in, base_spot, outer_spots, spots, address_of}
-use Rattle.b67_layout.specs.Rows.{WaitsAtCell, TaskRow, JobRow, Counts, shown, parent_slot, critical_disp, TaskShows, JobShows, JobsShow, TablesShow}
+use Rattle.b67_layout.specs.Rows.{WaitsAtCell, TaskRow, JobRow, JobCounts, shown, parent_slot, critical_disp, TaskShows, JobShows, JobsShow, TablesShow}
 use Rattle.b67_layout.specs.Session.{IsRunning}
 use Rattle.b67_layout.specs.Meets.{with_job}
 use Rattle.b67_layout.proofs.Fresh.{running_in_order}
@@ -187,7 +187,7 @@ module _ (plan : Placement) (s : Session) (m : SessionJob) (t : Task) (o : IsInO
     | inr q ↦ rw q (shows.0, jobs_show ys rows (rw q at e) shows.1)
   ]
 
-  pub tables_after : (rows : List TaskRow) (job_rows : List JobRow) (c : Counts) → TablesShow plan s rows job_rows c → TablesShow plan (with_job s m job) rows job_rows c
+  pub tables_after : (rows : List TaskRow) (job_rows : List JobRow) (c : JobCounts) → TablesShow plan s rows job_rows c → TablesShow plan (with_job s m job) rows job_rows c
   tables_after rows job_rows c shows = record {
     tasks = λ row h. let (y, u, iny, inu, r) = shows.tasks row h in
         row_after row y u iny inu r (change-kept number_of j to s.jobs m runs.member y iny);

@@ -17,7 +17,7 @@ use Rattle.b67_stack.specs.declared.Step.TheVariants as answers
 use Rattle.b67_stack.specs.Represents.{Storage}
 use Rattle.b67_layout.specs.Placement.{Placement}
 use Rattle.b67_layout.specs.Session.{IsRunning}
-use Rattle.b67_layout.specs.Meets.{IsAbsent}
+use Rattle.b67_layout.specs.Meets.{FindsAbsent}
 use Rattle.b67_exec_cells.specs.Running.{code_area}
 use Rattle.b67_exec_cells.specs.Called.{called_in}
 use Rattle.b67_task_tables.specs.declared.tables.Machine.{Machine}
@@ -83,7 +83,7 @@ module _ (x : Storage) (told : Option (List (List ℕ))) (plan : Placement) (s :
     by None at_k h = absurd h
 
   module _ (o : IsInOrderButCounts s) (runs : IsRunning plan s.jobs m t) where
-    touches : (found : What) → IsAbsent x plan m found (step m.constants m.progress.job t) → TouchesAbsent x plan m t found
+    touches : (found : What) → FindsAbsent x plan m found (step m.constants m.progress.job t) → TouchesAbsent x plan m t found
     touches found a =
         let T : Answer Done → Option ℕ = touched_of m.constants m.progress.job t in
         let (array, among, named) = touches_arrays s m t o (keyed-has number_of m.constants.number s.jobs m runs.member) (keyed-has (λ (u : Task). u.number) t.number m.progress.job.tasks t runs.task) a.job [] a.touched a.is in

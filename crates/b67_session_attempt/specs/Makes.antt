@@ -11,7 +11,7 @@ use Rattle.b67_stack.specs.declared.Step.{Step}
 use Rattle.b67_stack.specs.declared.Step.TheVariants as answers
 use Rattle.b67_stack.specs.Represents.{Storage}
 use Rattle.b67_layout.specs.Placement.{Placement}
-use Rattle.b67_layout.specs.Meets.{with_job, objects_gone, IsAbsent, IsPresent, MayChange}
+use Rattle.b67_layout.specs.Meets.{with_job, objects_gone, FindsAbsent, IsPresent, MayChange}
 use Rattle.b67_exec_cells.specs.Running.{code_area}
 use Rattle.b67_exec_cells.specs.Called.{called_in}
 use Rattle.b67_exec.specs.Operators.{leaves_record}
@@ -41,7 +41,7 @@ pub record OperatorMade (x : Storage) (told : Option (List (List ℕ))) (plan : 
 -- by what was answered, where the operator calls no intrinsic: after all answers but Done nothing has changed
 abbrev pub StepMakes : Storage → Option (List (List ℕ)) → Placement → Session → SessionJob → Task → Step → Machine → Machine → Type 0
 StepMakes x told plan s m t answers.Done old new = OperatorMade x told plan s m t old new
-StepMakes x told plan s m t (answers.Absent found) old new = IsAbsent x plan m found (step m.constants m.progress.job t) × (new ≡ old)
+StepMakes x told plan s m t (answers.Absent found) old new = FindsAbsent x plan m found (step m.constants m.progress.job t) × (new ≡ old)
 StepMakes x told plan s m t (answers.Call n) old new = ⊥
 StepMakes x told plan s m t (answers.Fault fault) old new = (step m.constants m.progress.job t ≡ Err fault) × (new ≡ old)
 StepMakes x told plan s m t answers.Ended old new = (step m.constants m.progress.job t ≡ Ok Leaves) × (new ≡ old)

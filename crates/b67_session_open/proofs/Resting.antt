@@ -6,7 +6,7 @@ use Rattle.b67_backing.specs.Shelf.{Table, Shelf, IsShelf, AreChains, one, times
 use Rattle.b67_backing.proofs.Links.{chain_there, one-same, uses-split}
 use Rattle.b67_lemmas.specs.Lists.{Has}
 use Rattle.b67_stack.specs.MachineView.{PagedObject}
-use Rattle.b67_load.specs.Objects.{sectors_of, sectors_of_all}
+use Rattle.b67_load.specs.Objects.{sectors_of, sectors_of_objects}
 use Rattle.b67_load.specs.Resting.{Resting, placed, stocked}
 use Rattle.b67_load.proofs.Shelves.{Apart, chain_apart, has_uses, has_times, times-take_drop}
 
@@ -62,7 +62,7 @@ chain_begins (k ∷ ks) x h = ⊎_elim
     (cases_eq (first k) x)
 
 -- each object has its sectors
-pub placed_length : (ts : List PagedObject) (free : List ℕ) (r : Resting) → sectors_of_all ts ≤ length free → Has (placed ts free) r → length r.chain ≡ sectors_of r.object
+pub placed_length : (ts : List PagedObject) (free : List ℕ) (r : Resting) → sectors_of_objects ts ≤ length free → Has (placed ts free) r → length r.chain ≡ sectors_of r.object
 placed_length [] free r fits h = absurd h
 placed_length (t ∷ more) free r fits (inl e) =
     subst (λ (q : Resting). length q.chain ≡ sectors_of q.object) e (omega (arith, fits, length-take (sectors_of t) free))

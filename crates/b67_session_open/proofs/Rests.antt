@@ -12,7 +12,7 @@ use Rattle.b67_lemmas.specs.Lists.{Has}
 use Rattle.b67_stack.specs.MachineView.{PagedObject, home_word_of, home_word, words_of}
 use Rattle.b67_stack.specs.Represents.{Storage, Told, HoldsIn, RepresentsObject, Owned}
 use Rattle.b67_stack.specs.Shapes.{at_rest}
-use Rattle.b67_load.specs.Objects.{sectors_of, sectors_of_all}
+use Rattle.b67_load.specs.Objects.{sectors_of, sectors_of_objects}
 use Rattle.b67_load.specs.Resting.{Resting, placed, stocked, DescriptorsStand, WritesFreeSectors}
 use Rattle.b67_load.proofs.Shelves.{Apart, placed_chain, placed_object}
 use Rattle.b67_session_open.specs.Stored.{sector_named, absent_storage}
@@ -25,7 +25,7 @@ pub record Stored (core : List Tagged) (old new : Table) (st : Shelf) (ts : List
   pub new_shelf : IsShelf new (stocked ts st)
   pub links : length new.links ≡ length old.links
   pub none : st.chains ≡ []
-  pub room : sectors_of_all ts ≤ length st.free
+  pub room : sectors_of_objects ts ≤ length st.free
   pub long : (t : PagedObject) → Has ts t → 0 < length t.numbers
   pub descriptors : DescriptorsStand core (placed ts st.free)
   pub stocks : (a : List (List ℕ)) → before ≡ Some a → (b : List (List ℕ)) × (now ≡ Some b) × WritesFreeSectors ts st.free a b

@@ -3,7 +3,7 @@ use Rattle.std.specs.Prelude.{ℕ, ◌+◌, List, [], ◌∷◌, length}
 use Rattle.b67_model.specs.Program.{Program}
 use Rattle.b67_model.specs.Schedule.{Switch}
 use Rattle.b67_law_order_runs.specs.Opening.{Opening}
-use Rattle.b67_layout.specs.Rows.{IsReady, TaskRow, JobRow, Counts}
+use Rattle.b67_layout.specs.Rows.{IsReady, TaskRow, JobRow, JobCounts}
 use Rattle.b67_session_open.specs.Opened.{dictionary_words}
 
 -- the first task of a job, in slot k
@@ -32,6 +32,6 @@ abbrev pub opening_rows : ℕ → List Opening → List JobRow
 opening_rows at [] = []
 opening_rows at (o ∷ more) = opening_row at o ∷ opening_rows (at + dictionary_words o.program) more
 
-abbrev pub opening_counts : ℕ → List Switch → Counts
+abbrev pub opening_counts : ℕ → List Switch → JobCounts
 opening_counts quantum switches =
     record { quantum = quantum; made = 0; turn = 0; last_job = 0; last_number = 0; switches = switches; next_switch = 0; running = 255 }

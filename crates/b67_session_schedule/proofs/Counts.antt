@@ -15,7 +15,7 @@ use Rattle.b67_model.specs.Schedule.{Switch, Session, Choice}
 use Rattle.b67_model.specs.InOrder.{NumberedFrom}
 use Rattle.b67_layout.specs.Placement.{Placement}
 use Rattle.b67_layout.specs.Rows as rows
-use Rattle.b67_layout.specs.Rows.{TaskRow, Counts, TaskShows, JobShows, JobsShow, TablesShow}
+use Rattle.b67_layout.specs.Rows.{TaskRow, JobCounts, TaskShows, JobShows, JobsShow, TablesShow}
 use Rattle.b67_task_tables.specs.declared.tables.JobRow.{JobRow}
 use Rattle.b67_task_tables.specs.declared.tables.Tasks.{Tasks}
 use Rattle.b67_task_tables.specs.Tables.{task_row, job_row, switch_of, counts_of, TasksShow}
@@ -85,7 +85,7 @@ jobs_counted plan k (suc i) n (m ∷ more) (q ∷ job_rows) r e d h at = elim (e
   | inr t ↦ rw t.0 (h.0, jobs_counted plan (k + 1) i n more job_rows r (omega (arith, e)) d.1 h.1 at)
 ]
 
-module _ (plan : Placement) (s : Session) (choice : Choice) (task_rows : List TaskRow) (job_rows : List rows.JobRow) (c : Counts) (numbered : NumberedFrom 1 s.jobs) (shows : TablesShow plan s task_rows job_rows c) where
+module _ (plan : Placement) (s : Session) (choice : Choice) (task_rows : List TaskRow) (job_rows : List rows.JobRow) (c : JobCounts) (numbered : NumberedFrom 1 s.jobs) (shows : TablesShow plan s task_rows job_rows c) where
   after : List SessionJob
   after = change_keyed number_of choice.who.job counted_member s.jobs
 

@@ -10,7 +10,7 @@ use Rattle.b67_model.specs.Run.{number_of, with_moment}
 use Rattle.b67_model.specs.Schedule.{Session, Choice}
 use Rattle.b67_model.specs.InOrder.{NumberedFrom}
 use Rattle.b67_layout.specs.Placement.{Placement, slot_of}
-use Rattle.b67_layout.specs.Rows.{TaskRow, JobRow, Counts, shown, parent_slot, critical_disp, TaskShows, JobShows, JobsShow, TablesShow}
+use Rattle.b67_layout.specs.Rows.{TaskRow, JobRow, JobCounts, shown, parent_slot, critical_disp, TaskShows, JobShows, JobsShow, TablesShow}
 use Rattle.b67_layout.specs.Meets.{with_job}
 use Rattle.b67_session_schedule.specs.Counted.{counted_member, counted}
 
@@ -80,7 +80,7 @@ jobs_same plan (a ∷ xs) (b ∷ ys) [] w h = absurd h
 jobs_same plan (a ∷ xs) (b ∷ ys) (row ∷ job_rows) w h = (job_same plan a b w.0 row h.0, jobs_same plan xs ys job_rows w.1 h.1)
 
 -- tables show a session's settings, jobs and counts of operators, and no more of its members
-pub tables_same : (plan : Placement) (s : Session) (jobs : List SessionJob) (peak : ℕ) (rows : List TaskRow) (job_rows : List JobRow) (c : Counts) → SameMembers s.jobs jobs → TablesShow plan s rows job_rows c
+pub tables_same : (plan : Placement) (s : Session) (jobs : List SessionJob) (peak : ℕ) (rows : List TaskRow) (job_rows : List JobRow) (c : JobCounts) → SameMembers s.jobs jobs → TablesShow plan s rows job_rows c
     → TablesShow plan (record s { jobs = jobs; peak = peak }) rows job_rows c
 tables_same plan s jobs peak rows job_rows c w shows = record {
   tasks = λ row h.
@@ -126,7 +126,7 @@ module _ (s : Session) (m : SessionJob) (job : Job) where
   pub numbered_with_job : NumberedFrom 1 s.jobs → NumberedFrom 1 (with_job s m job).jobs
   numbered_with_job d = numbered_change 1 m.constants.number (record m.progress { job = job }) s.jobs d
 
-pub moment_shows : (plan : Placement) (s : Session) (m : SessionJob) (made : JobMoment) (choice : Choice) (rows : List TaskRow) (job_rows : List JobRow) (c : Counts) → keyed number_of choice.who.job s.jobs ≡ Some m
+pub moment_shows : (plan : Placement) (s : Session) (m : SessionJob) (made : JobMoment) (choice : Choice) (rows : List TaskRow) (job_rows : List JobRow) (c : JobCounts) → keyed number_of choice.who.job s.jobs ≡ Some m
     → made.progress.made ≡ m.progress.made + 1 → TablesShow plan (counted (with_job s m made.progress.job) choice) rows job_rows c → TablesShow plan (with_moment s choice m made) rows job_rows c
 moment_shows plan s m made choice rows job_rows c found count shows =
     let (inm, number) = keyed_has number_of choice.who.job s.jobs m found in

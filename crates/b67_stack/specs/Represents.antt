@@ -57,7 +57,7 @@ StacksLie held core p =
     (k : ℕ) → k < p.peak → LieDownward (Fits held) core (suc (slot_base p k)) (words k (stack_of (p.slots k)))
 
 -- a chain of as many sectors as an object's words take
-pub record HasChain (x : Storage) (t : PagedObject) (first : ℕ) : Type 0 where
+pub record ObjectHasChain (x : Storage) (t : PagedObject) (first : ℕ) : Type 0 where
   pub some : 0 < first
   pub small : first < 2 ^ 20
   pub sectors : length (chain_of first x.shelf.chains) ≡ sectors_for (length t.numbers)
@@ -69,12 +69,12 @@ Told (Some all) chain numbers = Fills all chain 0 numbers
 
 -- a chain that holds an object's words
 pub record HoldsIn (x : Storage) (t : PagedObject) (first : ℕ) : Type 0 where
-  pub chain : HasChain x t first
+  pub chain : ObjectHasChain x t first
   pub told : Told x.device (chain_of first x.shelf.chains) (map number (words_of t))
 
 -- what a present object keeps in sectors: an array maybe a chain, which may hold anything; the others their words
 abbrev pub KeptChain : Storage → PagedObject → Kind → ℕ → Type 0
-KeptChain x t Array first = (first ≡ 0) ⊎ HasChain x t first
+KeptChain x t Array first = (first ≡ 0) ⊎ ObjectHasChain x t first
 KeptChain x t Row first = HoldsIn x t first
 KeptChain x t Code first = HoldsIn x t first
 

@@ -10,7 +10,7 @@ use Rattle.b67_single.specs.Single.{IsSingle}
 use Rattle.b67_stack.specs.declared.Cpu.{Cpu}
 use Rattle.b67_stack.specs.Represents.{Storage}
 use Rattle.b67_layout.specs.Placement.{Placement, slot_of}
-use Rattle.b67_layout.specs.Rows.{TaskRow, JobRow, Counts, JobsShow, RunningRow, TablesShow}
+use Rattle.b67_layout.specs.Rows.{TaskRow, JobRow, JobCounts, JobsShow, RunningRow, TablesShow}
 use Rattle.b67_layout.specs.Session.{RowsFit, RepresentsSession}
 use Rattle.b67_task_tables.specs.declared.tables.TaskRow as kept
 use Rattle.b67_task_tables.specs.declared.tables.Tasks.{Tasks}
@@ -19,7 +19,7 @@ use Rattle.b67_task.specs.Endings.{without_slot, ended}
 use Rattle.b67_task.proofs.Ends.{left_job, alone, ended_left}
 use Rattle.b67_task.proofs.Alone.{in_jobs, in_tasks, only_member, only_task, bare_plan, bare_member, without_bare}
 
-module _ (plan : Placement) (s : Session) (m : SessionJob) (t : Task) (single : IsSingle s m t) (rows : List TaskRow) (job_rows : List JobRow) (c : Counts) (shows : TablesShow plan s rows job_rows c) where
+module _ (plan : Placement) (s : Session) (m : SessionJob) (t : Task) (single : IsSingle s m t) (rows : List TaskRow) (job_rows : List JobRow) (c : JobCounts) (shows : TablesShow plan s rows job_rows c) where
   -- there is a row, and each row is that of the task
   pub some_row : 0 < length rows
   some_row = let (row, i, w) = shows.each m t (in_jobs s m t single) (in_tasks s m t single) in has_some rows row i where
@@ -70,7 +70,7 @@ pub row_items : (u k : Tasks) → u.rows ≡ k.rows → u.rows.items ≡ k.rows.
 row_items u k e = ap (λ r. r.items) e
 
 -- the first row of the machine's table, whatever stands for a row that isn't there
-module _ (plan : Placement) (s : Session) (m : SessionJob) (t : Task) (single : IsSingle s m t) (job_rows : List JobRow) (c : Counts) where
+module _ (plan : Placement) (s : Session) (m : SessionJob) (t : Task) (single : IsSingle s m t) (job_rows : List JobRow) (c : JobCounts) where
   pub has_first : (rows now : List kept.TaskRow) → now ≡ rows → TablesShow plan s (map task_row rows) job_rows c → 0 < length now
   has_first rows now is shows = subst (λ (rs : List kept.TaskRow). 0 < length rs) (sym is) (by rows shows) where
     by : (rs : List kept.TaskRow) → TablesShow plan s (map task_row rs) job_rows c → 0 < length rs
@@ -85,7 +85,7 @@ module _ (plan : Placement) (s : Session) (m : SessionJob) (t : Task) (single : 
 
 -- the tables of the session after the end
 pub tables_ended : (x : Storage) (cpu : Cpu) (plan : Placement) (s : Session) (m : SessionJob) (t : Task) (ending : Ending) → RepresentsSession x cpu plan s → IsSingle s m t
-    → (rows : List TaskRow) (job_rows : List JobRow) (c : Counts) → TablesShow plan s rows job_rows c
+    → (rows : List TaskRow) (job_rows : List JobRow) (c : JobCounts) → TablesShow plan s rows job_rows c
     → TablesShow (without_slot plan (slot_of plan m.constants.number t.number)) (ended s m t.number ending) [] job_rows (record c { running = 255 })
 tables_ended x cpu plan s m t ending h single rows job_rows c shows =
     let fit = h.holds.fits.rows in

@@ -10,7 +10,7 @@ use Rattle.b67_model.specs.Schedule.{Session}
 use Rattle.b67_model.specs.InOrder.{NumberedFrom}
 use Rattle.b67_layout.specs.Orders.{IsInOrderButCounts}
 use Rattle.b67_layout.specs.Placement.{Slotted, Placement, slot_of}
-use Rattle.b67_layout.specs.Rows.{TaskRow, JobRow, Counts, Differ, TablesShow}
+use Rattle.b67_layout.specs.Rows.{TaskRow, JobRow, JobCounts, Differ, TablesShow}
 use Rattle.b67_layout.specs.Session.{RowsFit}
 use Rattle.b67_layout.proofs.Rows.{task_row}
 use Rattle.b67_layout.proofs.Fresh.{job_in_order}
@@ -93,7 +93,7 @@ module _ (plan : Placement) (s : Session) (o : IsInOrderButCounts s) (fit : Rows
       omega (arith, e, d.0, numbered_low (n + 1) more y.item d.1 y.among))
 
   -- as many rows as live tasks
-  pub rows_live : (rows : List TaskRow) (job_rows : List JobRow) (c : Counts) → TablesShow plan s rows job_rows c → length rows ≡ live_tasks s.jobs
+  pub rows_live : (rows : List TaskRow) (job_rows : List JobRow) (c : JobCounts) → TablesShow plan s rows job_rows c → length rows ≡ live_tasks s.jobs
   rows_live rows job_rows c shows =
       let slots : List ℕ = map (λ (r : TaskRow). r.slot) rows in
       let live : List ℕ = flat_map (slots_of plan) s.jobs in

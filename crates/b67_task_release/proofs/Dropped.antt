@@ -14,7 +14,7 @@ use Rattle.b67_lemmas.specs.Lists.{Has}
 use Rattle.b67_stack.specs.Shapes.{Location, Locations, Shape, Is, Original, Copy, Copied, Fits, nowhere}
 use Rattle.b67_stack.specs.Stacks.{words}
 use Rattle.b67_stack.specs.MachineView.{PagedObject, MachineView, Slot, Free, Running, Waiting, stack_of, slot_base, SlotFits, CopiesName, home_word}
-use Rattle.b67_stack.specs.Represents.{Storage, RepresentsSlot, StacksLie, RepresentsObject, Content, HasChain, Owned, Represents, info_of}
+use Rattle.b67_stack.specs.Represents.{Storage, RepresentsSlot, StacksLie, RepresentsObject, Content, ObjectHasChain, Owned, Represents, info_of}
 use Rattle.b67_stack.proofs.Lies.{Lie-each}
 use Rattle.b67_layout_storage.specs.Machine.{with_held, ChainStays}
 use Rattle.b67_layout_storage.proofs.Helds.{held-other, held-same}
@@ -23,7 +23,7 @@ use Rattle.b67_layout_storage.proofs.Unchanged.{area_of_object, home_below, slot
 use Rattle.b67_layout_storage.proofs.Chained.{Content-chain}
 use Rattle.b67_task_release.specs.Released.{without_chain, released, of_objects, Drops, Vacated}
 
-sectors_some : (x : Storage) (t : PagedObject) (f : ℕ) → 0 < length t.numbers → HasChain x t f → 1 ≤ length (chain_of f x.shelf.chains)
+sectors_some : (x : Storage) (t : PagedObject) (f : ℕ) → 0 < length t.numbers → ObjectHasChain x t f → 1 ≤ length (chain_of f x.shelf.chains)
 sectors_some x t f some h = omega (arith, h.sectors)
 
 -- the chains but one, where that is free
@@ -54,7 +54,7 @@ fits_other held home h (Copy c q) i v other f = record { number = f.number; numb
 pub has_chain : (x : Storage) (core : List Tagged) (r : Regs) (p : MachineView) → Represents x core r p → (t : PagedObject) → Has p.objects t → ((x.held t.home).chain ≡ 0) ⊎ (1 ≤ length (chain_of (x.held t.home).chain x.shelf.chains))
 has_chain x core r p s t int = ⊎_elim
     (λ (z : (x.held t.home).chain ≡ 0). inl z)
-    (λ (h : HasChain x t (x.held t.home).chain). inr (sectors_some x t (x.held t.home).chain (s.slots.laid.lengths t int).0 h))
+    (λ (h : ObjectHasChain x t (x.held t.home).chain). inr (sectors_some x t (x.held t.home).chain (s.slots.laid.lengths t int).0 h))
     (Content-chain x core t (x.held t.home).area (x.held t.home).chain (s.objects t int).content)
 
 module _ (x : Storage) (core : List Tagged) (r : Regs) (p : MachineView) (s : Represents x core r p) (t : PagedObject) (objects : List PagedObject) (d : Drops p t objects)

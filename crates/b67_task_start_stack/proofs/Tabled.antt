@@ -13,7 +13,7 @@ use Rattle.b67_model.specs.InOrder.{NumberedFrom, frames_of_task}
 use Rattle.b67_lemmas.proofs.Members.{has_append_left, has_append_right, has_append_cases, keyed-has}
 use Rattle.b67_stack.specs.Stacks.{StackPlace}
 use Rattle.b67_layout.specs.Placement.{Placement, slot_of, spot_in, base_spot, spots, address_of}
-use Rattle.b67_layout.specs.Rows.{RowState, WaitsAtCell, TaskRow, JobRow, Counts, shown, parent_slot, critical_disp, TaskShows, JobsShow, RunningRow, CountsShow, Differ, TablesShow}
+use Rattle.b67_layout.specs.Rows.{RowState, WaitsAtCell, TaskRow, JobRow, JobCounts, shown, parent_slot, critical_disp, TaskShows, JobsShow, RunningRow, CountsShow, Differ, TablesShow}
 use Rattle.b67_layout.proofs.MachineViews.{with_course}
 use Rattle.b67_layout.specs.Session.{RowsFit}
 use Rattle.b67_layout.proofs.Rows.{task_row}
@@ -96,7 +96,7 @@ module _ (plan : Placement) (s : Session) (m : SessionJob) (job' : Job) (child :
   old_task : (t : Task) → Has m.progress.job.tasks t → Has job'.tasks t
   old_task t i = subst (λ (ts : List Task). Has ts t) (sym joins.tasks) (inr i)
 
-  pub tables_born : (rows : List TaskRow) (job_rows job_rows' : List JobRow) (c : Counts) (row : TaskRow) → TablesShow plan s rows job_rows c → TaskShows more new_member child row → row.slot ≡ k
+  pub tables_born : (rows : List TaskRow) (job_rows job_rows' : List JobRow) (c : JobCounts) (row : TaskRow) → TablesShow plan s rows job_rows c → TaskShows more new_member child row → row.slot ≡ k
       → JobsShow more after.jobs job_rows' → (running : TaskRow) → slice_get rows c.running ≡ Some running → TablesShow more after (rows ++ row ∷ []) job_rows' c
   tables_born rows job_rows job_rows' c row h new at jobs running runs = record {
     tasks = λ w i. ⊎_elim

@@ -17,7 +17,7 @@ use Rattle.b67_layout.specs.Orders.{JobInOrderButCounts, IsInOrderButCounts}
 use Rattle.b67_stack.specs.Represents.{Storage}
 use Rattle.b67_stack.specs.Stacks.{StackPlace}
 use Rattle.b67_layout.specs.Placement.{Placement, slot_of, address_of}
-use Rattle.b67_layout.specs.Rows.{WaitsAtCell, TaskRow, JobRow, Counts, shown, parent_slot, critical_disp, TaskShows, JobShows, JobsShow, RunningRow, Differ, TablesShow}
+use Rattle.b67_layout.specs.Rows.{WaitsAtCell, TaskRow, JobRow, JobCounts, shown, parent_slot, critical_disp, TaskShows, JobShows, JobsShow, RunningRow, Differ, TablesShow}
 use Rattle.b67_layout.specs.Session.{RowsFit, IsRunning, SessionHolds}
 use Rattle.b67_layout.proofs.Rows.{slot_below}
 use Rattle.b67_task_switch.specs.Turns.{with_running}
@@ -70,7 +70,7 @@ module _ (plan : Placement) (k : ℕ) where
       (record { dictionary = h.0.dictionary; segments = h.0.segments; rows = h.0.rows; limit = h.0.limit; made = h.0.made; next_task = h.0.next_task; numbers = h.0.numbers }, JobsShow-replan more rows h.1)
 
 module _ (x : Storage) (core : List Tagged) (r : Regs) (marks : List ℕ) (plan : Placement) (s : Session) (o : IsInOrderButCounts s) (h : SessionHolds x core r marks plan s)
-    (rows : List TaskRow) (job_rows : List JobRow) (c : Counts) (shows : TablesShow plan s rows job_rows c) (few : length rows ≤ 120) where
+    (rows : List TaskRow) (job_rows : List JobRow) (c : JobCounts) (shows : TablesShow plan s rows job_rows c) (few : length rows ≤ 120) where
   is_running : (m : SessionJob) (t : Task) → Has s.jobs m → Has m.progress.job.tasks t → plan.running ≡ slot_of plan m.constants.number t.number → IsRunning plan s.jobs m t
   is_running m t inm int e = record { member = keyed_member 1 s.jobs m o.numbered inm; task = live_in_order s m t o inm int; slot = e }
 
@@ -136,7 +136,7 @@ module _ (x : Storage) (core : List Tagged) (r : Regs) (marks : List ℕ) (plan 
       let P : Option TaskRow → Type 0 = λ y. RunningRow plan y c.running in (subst P none shows.counts.running).1
 
 module _ (plan : Placement) (s : Session) (fit : RowsFit plan s.jobs) (small : plan.peak ≤ 120) (idle : plan.running ≡ 255)
-    (rows : List TaskRow) (job_rows : List JobRow) (c : Counts) (shows : TablesShow plan s rows job_rows c) where
+    (rows : List TaskRow) (job_rows : List JobRow) (c : JobCounts) (shows : TablesShow plan s rows job_rows c) where
   -- every row says where its task goes on
   pub goes_on : (m : SessionJob) (t : Task) (y : TaskRow) → Has s.jobs m → Has m.progress.job.tasks t → TaskShows plan m t y → (y.segment ≡ t.segment + 1) × (y.place ≡ t.place)
   goes_on m t y inm int w =

@@ -6,7 +6,7 @@ use Rattle.b67_model.specs.Schedule.{Switch, Session}
 use Rattle.b67_stack.specs.Represents.{Storage}
 use Rattle.b67_layout.specs.Placement.{Placement}
 use Rattle.b67_layout.specs.Rows as rows
-use Rattle.b67_layout.specs.Rows.{RowState, IsReady, AwaitsTask, WaitsAtCell, Counts, TablesShow}
+use Rattle.b67_layout.specs.Rows.{RowState, IsReady, AwaitsTask, WaitsAtCell, JobCounts, TablesShow}
 use Rattle.b67_layout.specs.Session.{RepresentsSession, RepresentsStorage}
 use Rattle.b67_task_tables.specs.declared.tables.TaskState.{TaskState}
 use Rattle.b67_task_tables.specs.declared.tables.TaskState.TheVariants.{Ready, Awaits, WaitsAt}
@@ -29,7 +29,7 @@ job_row r = record { dictionary = r.dict; segments = r.segments; rows = r.rows; 
 abbrev pub switch_of : text.Switch → Switch
 switch_of w = record { count = w.count; to = record { job = w.job; task = w.task } }
 
-abbrev pub counts_of : Tasks → Counts
+abbrev pub counts_of : Tasks → JobCounts
 counts_of t = record {
   quantum = t.quantum;
   made = t.made;

@@ -7,7 +7,7 @@ use Rattle.b67_uncalled.specs.Uncalled.{uses_built}
 use Rattle.b67_session_open.specs.Decks.{IsLoaded}
 use Rattle.b67_session_open.specs.Opens.{IsOpened}
 use Rattle.b67_job.specs.Device.{device_of}
-use Rattle.b67_job.specs.Runs.{RunEnds}
+use Rattle.b67_job.specs.Runs.{DeckRunEnds}
 use Rattle.b67_job.proofs.Opened.{states_in_order}
 use Rattle.b67_job.proofs.Decks.{none_in, one_in, one_file, refused, idle, is_open, one_run, after_more}
 use Rattle.b67_job.proofs.runs.run_deck.Goals as goal
@@ -42,7 +42,7 @@ returns-in-len1-up-clause-ends g c =
     let one = one_in c.as_slice.result.now c.args.deck.now.jobs c.job-item.result c.as_slice.ensures c.in-len1-up.len_at_least c.requires.few c.job-item.is in
     let file = one_file c.args.deck.now.jobs c.args.programs.now c.job-item.result one c.requires.each in
     let opens = subst (λ (fs : List Codefile). IsOpened g.B.Backing.holds g.B.Backing.size g.B.Backing.faults c.args.deck.now (map program_of fs) c.args.core c.args.backing.now c.open.new.backing (Ok c.in-Ok.machine)) file.1 c.in-Ok.ensures.opens in
-    subst (λ (fs : List Codefile). RunEnds g.K.Sink.taken g.K.Sink.faults (device_of g.B.Backing.holds g.B.Backing.size g.B.Backing.faults c.args.backing.now c.run_job-status.new.backing) c.args.core
+    subst (λ (fs : List Codefile). DeckRunEnds g.K.Sink.taken g.K.Sink.faults (device_of g.B.Backing.holds g.B.Backing.size g.B.Backing.faults c.args.backing.now c.run_job-status.new.backing) c.args.core
     (c.args.deck.now, map program_of fs) (Some c.run_job-status.new.machine) c.args.printer.now c.run_job-status.new.printer c.run_job-status.result) (sym file.1)
     (one_run g.K.Sink.taken g.K.Sink.faults g.B.Backing.holds g.B.Backing.size g.B.Backing.calls g.B.Backing.faults c.args.deck.now file.0 c.args.core
     c.requires.range (subst (AllByRecursion IsLoaded) file.1 c.requires.loaded).0 (subst (AllByRecursion (λ (f : Codefile). uses_built (program_of f) ≡ true)) file.1 c.requires.built).0 c.job-item.result one

@@ -10,7 +10,7 @@ use Rattle.b67_area.specs.Directory.{IsDirectory}
 use Rattle.b67_backing.specs.Shelf.{IsShelf, HasChain as ChainIs}
 use Rattle.b67_backing.specs.Held.{sectors_for, Stores, SameBut, Changes}
 use Rattle.b67_stack.specs.MachineView.{words_of, tag_of}
-use Rattle.b67_stack.specs.Represents.{Storage, Represents, HasChain, info_of}
+use Rattle.b67_stack.specs.Represents.{Storage, Represents, ObjectHasChain, info_of}
 use Rattle.b67_layout_storage.specs.Machine.{MachineRepresentsView, content_after}
 use Rattle.std.proofs.lemmas.List.{length-map}
 use Rattle.b67_layout_storage.proofs.Below.{Stayed-none}
@@ -55,7 +55,7 @@ write_out-requires-clause-chain g c =
     let Q : Info → Type 0 = λ i. (i.kept ≡ 0) ⊎ ChainIs c.args.sectors.now x.shelf i.kept (sectors_for i.words) in
     let chain : (c.info-info.result.kept ≡ 0) ⊎ ChainIs c.args.sectors.now x.shelf c.info-info.result.kept (sectors_for c.info-info.result.words) = subst Q (sym is) (⊎_elim
     (λ (z : (x.held t.home).chain ≡ 0). let r : Q (info_of x t) = inl z in r)
-    (λ (h : HasChain x t (x.held t.home).chain). let r : Q (info_of x t) = inr (record { shelf = m.shelf; many = h.sectors }) in r)
+    (λ (h : ObjectHasChain x t (x.held t.home).chain). let r : Q (info_of x t) = inr (record { shelf = m.shelf; many = h.sectors }) in r)
     (kept_chain x c.args.cpu.now.core c.args.cpu.now.regs p m.stands c.args.area t at c.args.sectors.now (g.B.Backing.holds c.args.backing.now) (g.B.Backing.holds c.args.backing.now) m.shelf m.device array)) in
     (x.shelf, m.shelf, chain)
 
@@ -79,7 +79,7 @@ give_back-requires-clause-first g c =
     let Q : Info → Type 0 = λ i. (i.kept ≡ 0) ⊎ ChainIs c.args.sectors.now x.shelf i.kept (sectors_for i.words) in
     let chain : (c.info-info.result.kept ≡ 0) ⊎ ChainIs c.args.sectors.now x.shelf c.info-info.result.kept (sectors_for c.info-info.result.words) = subst Q (sym is) (⊎_elim
     (λ (z : (x.held t.home).chain ≡ 0). let r : Q (info_of x t) = inl z in r)
-    (λ (h : HasChain x t (x.held t.home).chain). let r : Q (info_of x t) = inr (record { shelf = m.shelf; many = h.sectors }) in r)
+    (λ (h : ObjectHasChain x t (x.held t.home).chain). let r : Q (info_of x t) = inr (record { shelf = m.shelf; many = h.sectors }) in r)
     (kept_chain x c.args.cpu.now.core c.args.cpu.now.regs p m.stands c.args.area t at c.args.sectors.now (g.B.Backing.holds c.args.backing.now) (g.B.Backing.holds c.args.backing.now) m.shelf m.device array)) in
     let W : Info → Type 0 = λ i. (c.in-Ok.first ≡ chain_out x.shelf i.kept) × IsShelf c.write_out.new.sectors (shelf_out x.shelf i.kept i.words)
     × Changes g.B.Backing.holds c.args.backing.now c.write_out.new.backing (Stores (sectors_out x.shelf i.kept i.words) (map number (slice_range c.args.cpu.now.core c.args.area (c.args.area + i.words)))) in
@@ -121,7 +121,7 @@ returns-in-Ok-clause-row g c = λ x p t m at.
           let Q : Info → Type 0 = λ i. (i.kept ≡ 0) ⊎ ChainIs c.args.sectors.now x.shelf i.kept (sectors_for i.words) in
           let chain : (c.info-info.result.kept ≡ 0) ⊎ ChainIs c.args.sectors.now x.shelf c.info-info.result.kept (sectors_for c.info-info.result.words) = subst Q (sym is) (⊎_elim
           (λ (z : (x.held t.home).chain ≡ 0). let r : Q (info_of x t) = inl z in r)
-          (λ (h : HasChain x t (x.held t.home).chain). let r : Q (info_of x t) = inr (record { shelf = m.shelf; many = h.sectors }) in r)
+          (λ (h : ObjectHasChain x t (x.held t.home).chain). let r : Q (info_of x t) = inr (record { shelf = m.shelf; many = h.sectors }) in r)
           (kept_chain x c.args.cpu.now.core c.args.cpu.now.regs p m.stands c.args.area t at c.args.sectors.now (g.B.Backing.holds c.args.backing.now) (g.B.Backing.holds c.args.backing.now) m.shelf m.device array)) in
           let W : Info → Type 0 = λ i. (c.in-Ok.first ≡ chain_out x.shelf i.kept) × IsShelf c.write_out.new.sectors (shelf_out x.shelf i.kept i.words)
           × Changes g.B.Backing.holds c.args.backing.now c.write_out.new.backing (Stores (sectors_out x.shelf i.kept i.words) (map number (slice_range c.args.cpu.now.core c.args.area (c.args.area + i.words)))) in
@@ -173,7 +173,7 @@ returns-in-Err-clause-row g c = λ x p t m at.
           let Q : Info → Type 0 = λ i. (i.kept ≡ 0) ⊎ ChainIs c.args.sectors.now x.shelf i.kept (sectors_for i.words) in
           let chain : (c.info-info.result.kept ≡ 0) ⊎ ChainIs c.args.sectors.now x.shelf c.info-info.result.kept (sectors_for c.info-info.result.words) = subst Q (sym is) (⊎_elim
           (λ (z : (x.held t.home).chain ≡ 0). let r : Q (info_of x t) = inl z in r)
-          (λ (h : HasChain x t (x.held t.home).chain). let r : Q (info_of x t) = inr (record { shelf = m.shelf; many = h.sectors }) in r)
+          (λ (h : ObjectHasChain x t (x.held t.home).chain). let r : Q (info_of x t) = inr (record { shelf = m.shelf; many = h.sectors }) in r)
           (kept_chain x c.args.cpu.now.core c.args.cpu.now.regs p m.stands c.args.area t at c.args.sectors.now (g.B.Backing.holds c.args.backing.now) (g.B.Backing.holds c.args.backing.now) m.shelf m.device array)) in
           let W : Info → Type 0 = λ i. IsShelf c.write_out.new.sectors x.shelf × Changes g.B.Backing.holds c.args.backing.now c.write_out.new.backing (SameBut (sectors_out x.shelf i.kept i.words)) in
           let rf = subst W is ((c.in-Err.ensures.row x.shelf m.shelf).refused chain) in
