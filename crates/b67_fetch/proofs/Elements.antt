@@ -9,7 +9,7 @@ use Rattle.b67_word.specs.declared.couples.Place.{Place}
 use Rattle.b67_model.specs.Keyed.{keyed}
 use Rattle.b67_model.specs.Words.{Word, Operand}
 use Rattle.b67_model.specs.State.{Array, Task, Job, SessionJob, with_task}
-use Rattle.b67_model.specs.Arrays.{array, no_array, with_element}
+use Rattle.b67_model.specs.Arrays.{array, no_array, with_element, with_number}
 use Rattle.b67_model.specs.Schedule.{Session}
 use Rattle.b67_model.specs.Steps.{Goes, with_cells}
 use Rattle.b67_layout.specs.Orders.{IsInOrderButCounts}
@@ -27,6 +27,7 @@ use Rattle.b67_layout.proofs.Whole.{task_with}
 use Rattle.b67_layout.proofs.Sessions.{course_twice}
 use Rattle.b67_exec_cells.specs.Tops.{cells, NoOriginals}
 use Rattle.b67_exec_cells.proofs.Put.{room, registers}
+use Rattle.b67_layout_store.proofs.Arrays.{number_renumbers}
 use Rattle.b67_layout_store.proofs.Objects.{identities_kept}
 use Rattle.b67_layout_store.proofs.Machine.{RepresentsSession-element, still_runs}
 use Rattle.b67_fetch.proofs.Finishes.{finish_drop, finish_keep}
@@ -73,7 +74,7 @@ module _ (x : Storage) (old : Cpu) (plan : Placement) (s : Session) (m : Session
         touched = Some a.identity;
         is = refl;
         present = (b, held);
-        stands = subst L (sym (no_objects_gone plan m (made kept) (identities_kept a.identity i bits m.progress.job.arrays))) whole;
+        stands = subst L (sym (no_objects_gone plan m (made kept) (identities_kept a.identity (with_number i bits) (number_renumbers i bits) m.progress.job.arrays))) whole;
         changed = λ k. ⊎_elim inl (λ c. inr (⊎_elim inl (λ e. inr (inr (b, held, omega (arith, e), omega (arith, e, low, long)))) c)) (changed k);
       }
 

@@ -1,6 +1,7 @@
 -- A number stored into an element of a present array: the machine stands for the session with that array changed.
 use Rattle.std.proofs.Common.{◌≡◌, ◌≢◌, ℕ, ◌+◌, ◌<◌, ◌≤◌, List, [], ◌∷◌, flat_map, length, Some, refl, sym, ◌∙◌, ap, arith, Bool, true, false, ◌==◌, ⊎_elim, subst, slice_set}
 use Rattle.std.specs.List.{slice_get}
+use Rattle.std.proofs.Math.ListN.{length-set}
 use Rattle.std.proofs.lemmas.Bool.{cases_Bool}
 use Rattle.b67_core.proofs.Writes.{slice_get-set_other}
 use Rattle.b67_word.specs.Tagged.{Tagged, word}
@@ -12,6 +13,7 @@ use Rattle.b67_model.specs.Keyed.{keyed}
 use Rattle.b67_model.specs.State.{Array, Task, Job, JobProgress, SessionJob, OperatorContext}
 use Rattle.b67_model.specs.Environment.{frame_at}
 use Rattle.b67_model.specs.Arrays.{with_element}
+use Rattle.b67_model.specs.Arrays as Arrays
 use Rattle.b67_model.specs.Run.{number_of}
 use Rattle.b67_model.specs.Schedule.{Session}
 use Rattle.b67_model.specs.InOrder.{Known}
@@ -27,7 +29,7 @@ use Rattle.b67_layout.proofs.MachineViews.{with_course, member-same}
 use Rattle.b67_layout.proofs.Rows.{slot_below}
 use Rattle.b67_layout.proofs.Sessions.{change-has, change-kept, dictionary_below, running_only}
 use Rattle.b67_layout_store.proofs.Elements.{with_number, Replaces, Represents-element}
-use Rattle.b67_layout_store.proofs.Arrays.{spots_same, mark_same, slots_same}
+use Rattle.b67_layout_store.proofs.Arrays.{number_renumbers, spots_same, mark_same, slots_same}
 use Rattle.b67_layout_store.proofs.Objects.{old_object, replaces}
 
 -- the display
@@ -39,7 +41,7 @@ Shows-element display plan m t id i v shown n up =
     let same : (frame_at h' n).identity ≡ (frame_at h n).identity = ap (λ (k : Known). k.0) (same_frame_at h h' refl n refl) in
     shown n up
     ∙ ap (λ (g : ℕ). Some (address_of plan (spots plan m.constants.number m.progress.job t g))) (sym same)
-    ∙ ap (λ s. Some (address_of plan (s (frame_at h' n).identity))) (sym (spots_same plan m.constants.number m.progress.job id i v t))
+    ∙ ap (λ s. Some (address_of plan (s (frame_at h' n).identity))) (sym (spots_same plan m.constants.number m.progress.job id (Arrays.with_number i v) (number_renumbers i v) t))
 
 module _ (x : Storage) (old : Cpu) (plan : Placement) (s : Session) (m : SessionJob) (t : Task) (o : IsInOrderButCounts s) (h : RepresentsSession x old plan s) (runs : IsRunning plan s.jobs m t)
     (a : Array) (found : keyed (λ (z : Array). z.identity) a.identity m.progress.job.arrays ≡ Some a) (writable : a.writable ≡ true) (i v b : ℕ) (low : i < length a.numbers) (held : (x.held (plan.home m.constants.number a.identity)).area ≡ Some b) where
@@ -71,10 +73,14 @@ module _ (x : Storage) (old : Cpu) (plan : Placement) (s : Session) (m : Session
   is_array = ap (λ (w : Bool). Rattle.std.specs.Prelude.if◌then◌else◌ w kind.Array kind.Row) writable
 
   has_object : Has (machine_view plan s.jobs).objects object
-  has_object = old_object x old.core old.regs plan s o h.holds.fits h.holds.memory m runs.member a found i v
+  has_object = old_object x old.core old.regs plan s o h.holds.fits h.holds.memory m runs.member a found (Arrays.with_number i v) (number_renumbers i v)
 
   re : Replaces (machine_view plan s.jobs).objects (flat_map (objects_of plan) jobs') object i v
-  re = replaces x old.core old.regs plan s o h.holds.fits h.holds.memory m runs.member a found i v
+  re =
+      let long = length-set a.numbers i v in
+      let l = h.holds.memory.slots.laid.lengths object has_object in
+      let k = replaces x old.core old.regs plan s o h.holds.fits h.holds.memory m runs.member a found (Arrays.with_number i v) (number_renumbers i v) (omega (arith, l.0, long)) (omega (arith, l.1, long)) in
+      record { new = k.new; each = k.each; kept = k.kept }
 
   above : x.low < b
   above =
@@ -91,7 +97,7 @@ module _ (x : Storage) (old : Cpu) (plan : Placement) (s : Session) (m : Session
   machine_view_is : machine_view plan (with_course s.jobs m.constants.number (record m.progress { job = with_element m.progress.job a.identity i v })) ≡ record (machine_view plan s.jobs) { objects = flat_map (objects_of plan) (with_course s.jobs m.constants.number (record m.progress { job = with_element m.progress.job a.identity i v })) }
   machine_view_is =
       let F : (ℕ → Slot) → MachineView = λ slots. record { stacks = plan.stacks; size = plan.size; peak = plan.peak; slots = slots; objects = flat_map (objects_of plan) jobs' } in
-      ap F (slots_same plan s.jobs m a.identity i v runs.member)
+      ap F (slots_same plan s.jobs m a.identity (Arrays.with_number i v) (number_renumbers i v) runs.member)
 
   memory : Represents x (slice_set old.core (b + i) (word 0 v)) old.regs (machine_view plan (with_course s.jobs m.constants.number (record m.progress { job = with_element m.progress.job a.identity i v })))
   memory =
@@ -186,7 +192,7 @@ module _ (x : Storage) (old : Cpu) (plan : Placement) (s : Session) (m : Session
     };
     critical = record {
       live = for_tasks (λ y u. slice_get old.critical (slot_of plan y.constants.number u.number) ≡ Some (critical_mark y.progress.job u.frames)) h.holds.critical.live
-          (λ u in_u. h.holds.critical.live m u has_m in_u ∙ ap Some (sym (mark_same plan m.constants.number m.progress.job a.identity i v u.frames)));
+          (λ u in_u. h.holds.critical.live m u has_m in_u ∙ ap Some (sym (mark_same plan m.constants.number m.progress.job a.identity (Arrays.with_number i v) (number_renumbers i v) u.frames)));
       free = h.holds.critical.free;
     };
     live = λ z. (moved, t, still);

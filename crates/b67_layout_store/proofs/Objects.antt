@@ -1,5 +1,5 @@
 -- The objects of a session with another number in an array: one of them is replaced.
-use Rattle.std.proofs.Common.{◌≡◌, ◌≢◌, ℕ, List, [], ◌∷◌, map, flat_map, Some, refl, sym, ◌∙◌, ap, Bool, true, false, ◌==◌, ⊎_elim, inl, inr, ◌⊎◌, subst}
+use Rattle.std.proofs.Common.{◌≡◌, ◌≢◌, ℕ, ◌<◌, ◌^◌, length, List, [], ◌∷◌, map, flat_map, Some, refl, sym, ◌∙◌, ap, Bool, true, false, ◌==◌, ⊎_elim, inl, inr, ◌⊎◌, subst}
 use Rattle.std.proofs.lemmas.Bool.{cases_Bool, cases_eq}
 use Rattle.std.proofs.lemmas.Option.{same_Some}
 use Rattle.b67_word.specs.Tagged.{Tagged}
@@ -10,8 +10,7 @@ use Rattle.b67_lemmas.proofs.Members.{falls_same, has_append_cases, has_append_l
 use Rattle.b67_lemmas.proofs.Keyed.{changed_there}
 use Rattle.b67_model.specs.Keyed.{keyed, change_keyed}
 use Rattle.b67_model.specs.State.{Array, Job, JobProgress, SessionJob}
-use Rattle.b67_model.specs.Arrays as Arrays
-use Rattle.b67_model.specs.Arrays.{with_element}
+use Rattle.b67_model.specs.Arrays.{with_array}
 use Rattle.b67_model.specs.Run.{number_of}
 use Rattle.b67_model.specs.Schedule.{Session}
 use Rattle.b67_layout.specs.Orders.{IsInOrderButCounts}
@@ -25,15 +24,16 @@ use Rattle.b67_layout.proofs.MachineViews.{with_course, member-same}
 use Rattle.b67_layout.proofs.Sessions.{change-has, change-kept}
 use Rattle.b67_layout_leave.proofs.Settles.{numbered_course}
 use Rattle.b67_layout_leave.proofs.Settled.{code_kind}
-use Rattle.b67_layout_store.proofs.Elements.{with_number, Replaces}
+use Rattle.b67_layout_store.proofs.Arrays.{Renumbers}
+use Rattle.b67_layout_storage.specs.Machine.{TakesPlace}
 use Rattle.b67_layout_store.proofs.Homes.{one_home}
 use Rattle.b67_law_order.proofs.Numbered.{keyed_member}
 
-pub identities_kept : (id i v : ℕ) (xs : List Array) → map (λ (a : Array). a.identity) (change_keyed (λ (a : Array). a.identity) id (Arrays.with_number i v) xs) ≡ map (λ (a : Array). a.identity) xs
-identities_kept id i v [] = refl
-identities_kept id i v (x ∷ xs) = ⊎_elim
-    (λ (t : (x.identity == id) ≡ true). rw t refl)
-    (λ (t : (x.identity == id) ≡ false). rw t (ap (λ (ns : List ℕ). x.identity ∷ ns) (identities_kept id i v xs)))
+pub identities_kept : (id : ℕ) (f : Array → Array) → Renumbers f → (xs : List Array) → map (λ (a : Array). a.identity) (change_keyed (λ (a : Array). a.identity) id f xs) ≡ map (λ (a : Array). a.identity) xs
+identities_kept id f keeps [] = refl
+identities_kept id f keeps (x ∷ xs) = ⊎_elim
+    (λ (t : (x.identity == id) ≡ true). rw t (ap (λ (n : ℕ). n ∷ map (λ (a : Array). a.identity) xs) (keeps.identity x)))
+    (λ (t : (x.identity == id) ≡ false). rw t (ap (λ (ns : List ℕ). x.identity ∷ ns) (identities_kept id f keeps xs)))
     (cases_Bool (x.identity == id))
 
 array_kind : (plan : Placement) (j : ℕ) (a : Array) → (array_object plan j a).kind ≢ kind.Code
@@ -43,7 +43,7 @@ array_kind plan j a = by a.writable where
   by false e = let f : ⊥ = cc in f
 
 module _ (x : Storage) (core : List Tagged) (r : Regs) (plan : Placement) (s : Session) (o : IsInOrderButCounts s) (fits : PlanFits plan s) (memory : Represents x core r (machine_view plan s.jobs))
-    (m : SessionJob) (member : keyed number_of m.constants.number s.jobs ≡ Some m) (a : Array) (found : keyed (λ (z : Array). z.identity) a.identity m.progress.job.arrays ≡ Some a) (i v : ℕ) where
+    (m : SessionJob) (member : keyed number_of m.constants.number s.jobs ≡ Some m) (a : Array) (found : keyed (λ (z : Array). z.identity) a.identity m.progress.job.arrays ≡ Some a) (f : Array → Array) (keeps : Renumbers f) where
   abbrev j : ℕ
   j = m.constants.number
 
@@ -51,22 +51,22 @@ module _ (x : Storage) (core : List Tagged) (r : Regs) (plan : Placement) (s : S
   key = λ (z : Array). z.identity
 
   abbrev job' : Job
-  job' = with_element m.progress.job a.identity i v
+  job' = with_array m.progress.job a.identity f
 
   abbrev c : JobProgress
-  c = record m.progress { job = with_element m.progress.job a.identity i v }
+  c = record m.progress { job = with_array m.progress.job a.identity f }
 
   abbrev moved : SessionJob
-  moved = record m { progress = record m.progress { job = with_element m.progress.job a.identity i v } }
+  moved = record m { progress = record m.progress { job = with_array m.progress.job a.identity f } }
 
   abbrev jobs' : List SessionJob
-  jobs' = with_course s.jobs m.constants.number (record m.progress { job = with_element m.progress.job a.identity i v })
+  jobs' = with_course s.jobs m.constants.number (record m.progress { job = with_array m.progress.job a.identity f })
 
   abbrev pub t : PagedObject
   t = array_object plan m.constants.number a
 
   abbrev a' : Array
-  a' = Arrays.with_number i v a
+  a' = f a
 
   has_m : Has s.jobs m
   has_m = keyed-has number_of m.constants.number s.jobs m member
@@ -74,8 +74,8 @@ module _ (x : Storage) (core : List Tagged) (r : Regs) (plan : Placement) (s : S
   has_a : Has m.progress.job.arrays a
   has_a = keyed-has (λ (z : Array). z.identity) a.identity m.progress.job.arrays a found
 
-  has_new : Has (with_element m.progress.job a.identity i v).arrays (Arrays.with_number i v a)
-  has_new = changed_there (λ (z : Array). z.identity) a.identity (Arrays.with_number i v) m.progress.job.arrays a found
+  has_new : Has (with_array m.progress.job a.identity f).arrays (f a)
+  has_new = changed_there (λ (z : Array). z.identity) a.identity f m.progress.job.arrays a found
 
   pub old_object : Has (machine_view plan s.jobs).objects (array_object plan m.constants.number a)
   old_object = has_flat (objects_of plan) s.jobs m t has_m (has_append_right (code_objects plan j 1 m.constants.segments) (map (array_object plan j) m.progress.job.arrays) t (has_map (array_object plan j) m.progress.job.arrays a has_a))
@@ -84,13 +84,13 @@ module _ (x : Storage) (core : List Tagged) (r : Regs) (plan : Placement) (s : S
   moved_there = keyed-has number_of m.constants.number jobs' moved (member-same s.jobs m.constants.number c m member)
 
   -- an array of the changed job: the changed one, or another of before
-  array_of : (b : Array) → Has (with_element m.progress.job a.identity i v).arrays b → (b ≡ Arrays.with_number i v a) ⊎ (Has m.progress.job.arrays b × (b.identity ≢ a.identity))
+  array_of : (b : Array) → Has (with_array m.progress.job a.identity f).arrays b → (b ≡ f a) ⊎ (Has m.progress.job.arrays b × (b.identity ≢ a.identity))
   array_of b h = ⊎_elim
-      (λ (e : b.identity ≡ a.identity). inl (falls_same (λ (z : Array). z.identity) m.progress.job.next_array job'.arrays b a' falls h has_new e))
-      (λ (ne : b.identity ≡ a.identity → ⊥). inr (⊎_elim (λ k. k) (λ (e : b ≡ a'). absurd (ne (ap (λ (z : Array). z.identity) e))) (change-has (λ (z : Array). z.identity) a.identity (Arrays.with_number i v) m.progress.job.arrays a found b h), ne))
+      (λ (e : b.identity ≡ a.identity). inl (falls_same (λ (z : Array). z.identity) m.progress.job.next_array job'.arrays b a' falls h has_new (e ∙ sym (keeps.identity a))))
+      (λ (ne : b.identity ≡ a.identity → ⊥). inr (⊎_elim (λ k. k) (λ (e : b ≡ a'). absurd (ne (ap (λ (z : Array). z.identity) e ∙ keeps.identity a))) (change-has (λ (z : Array). z.identity) a.identity f m.progress.job.arrays a found b h), ne))
       (cases_eq b.identity a.identity) where
-        falls : Falls m.progress.job.next_array (map (λ (z : Array). z.identity) (with_element m.progress.job a.identity i v).arrays)
-        falls = subst (Falls m.progress.job.next_array) (sym (identities_kept a.identity i v m.progress.job.arrays)) (job_in_order s m o has_m).tasks.names
+        falls : Falls m.progress.job.next_array (map (λ (z : Array). z.identity) (with_array m.progress.job a.identity f).arrays)
+        falls = subst (Falls m.progress.job.next_array) (sym (identities_kept a.identity f keeps m.progress.job.arrays)) (job_in_order s m o has_m).tasks.names
 
   -- a member of the changed session: the changed one, or another of before
   member_of : (y : SessionJob) → Has jobs' y → (y ≡ moved) ⊎ (Has s.jobs y × (y.constants.number ≢ m.constants.number))
@@ -111,7 +111,7 @@ module _ (x : Storage) (core : List Tagged) (r : Regs) (plan : Placement) (s : S
   other_array : (y : SessionJob) (b : Array) → Has s.jobs y → Has y.progress.job.arrays b → (y ≡ m → b.identity ≢ a.identity) → plan.home y.constants.number b.identity ≢ plan.home j a.identity
   other_array y b hy hb ne e = let one = one_home x core r plan s o fits memory y m b a hy has_m hb has_a e in ne one.0 one.1
 
-  in_moved : (u : PagedObject) → Has (objects_of plan moved) u → (u ≡ with_number i v t) ⊎ (Has (objects_of plan m) u × (u.home ≢ t.home))
+  in_moved : (u : PagedObject) → Has (objects_of plan moved) u → (u ≡ array_object plan m.constants.number (f a)) ⊎ (Has (objects_of plan m) u × (u.home ≢ t.home))
   in_moved u h = ⊎_elim
       (λ k. inr (has_append_left (code_objects plan j 1 m.constants.segments) (map (array_object plan j) m.progress.job.arrays) u k, code_apart m has_m u k))
       (λ k. (let b = has_map_back (array_object plan j) job'.arrays u k in ⊎_elim
@@ -136,13 +136,18 @@ module _ (x : Storage) (core : List Tagged) (r : Regs) (plan : Placement) (s : S
       (λ k. (let b = has_map_back (array_object plan j) m.progress.job.arrays u k in ⊎_elim
       (λ q. has_append_right (code_objects plan j 1 m.constants.segments) (map (array_object plan j) job'.arrays) u (subst (Has (map (array_object plan j) job'.arrays)) b.is (has_map (array_object plan j) job'.arrays b.item q)))
       (λ q. absurd (ne (ap (λ (z : PagedObject). z.home) (sym b.is ∙ ap (array_object plan j) q.0))))
-      (change-kept (λ (z : Array). z.identity) a.identity (Arrays.with_number i v) m.progress.job.arrays a found b.item b.among)))
+      (change-kept (λ (z : Array). z.identity) a.identity f m.progress.job.arrays a found b.item b.among)))
       (has_append_cases (code_objects plan j 1 m.constants.segments) (map (array_object plan j) m.progress.job.arrays) u h)
 
-  pub replaces : Replaces (flat_map (objects_of plan) s.jobs) (flat_map (objects_of plan) (with_course s.jobs m.constants.number (record m.progress { job = with_element m.progress.job a.identity i v }))) (array_object plan m.constants.number a) i v
-  replaces = record {
-    new = has_flat (objects_of plan) jobs' moved (with_number i v t) moved_there
-        (has_append_right (code_objects plan j 1 m.constants.segments) (map (array_object plan j) job'.arrays) (with_number i v t) (has_map (array_object plan j) job'.arrays a' has_new));
+  pub replaces : 0 < length (f a).numbers → length (f a).numbers < 2 ^ 16
+      → TakesPlace (flat_map (objects_of plan) s.jobs) (flat_map (objects_of plan) (with_course s.jobs m.constants.number (record m.progress { job = with_array m.progress.job a.identity f }))) (array_object plan m.constants.number a) (array_object plan m.constants.number (f a))
+  replaces some few = record {
+    home = ap (plan.home m.constants.number) (keeps.identity a);
+    kind = ap (λ (w : Bool). Rattle.std.specs.Prelude.if◌then◌else◌ w kind.Array kind.Row) (keeps.writable a);
+    some = some;
+    few = few;
+    new = has_flat (objects_of plan) jobs' moved (array_object plan m.constants.number (f a)) moved_there
+        (has_append_right (code_objects plan j 1 m.constants.segments) (map (array_object plan j) job'.arrays) (array_object plan m.constants.number (f a)) (has_map (array_object plan j) job'.arrays a' has_new));
     each = λ u h. (let f = has_flat_back (objects_of plan) jobs' u h in ⊎_elim
         (λ (e : f.item ≡ moved). ⊎_elim inl (λ q. inr (has_flat (objects_of plan) s.jobs m u has_m q.0, q.1)) (in_moved u (subst (λ (y : SessionJob). Has (objects_of plan y) u) e f.inside)))
         (λ q. inr (has_flat (objects_of plan) s.jobs f.item u q.0 f.inside, in_other f.item u q.0 q.1 f.inside))

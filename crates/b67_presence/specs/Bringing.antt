@@ -14,8 +14,9 @@ use Rattle.b67_exec_cells.specs.Running.{code_area}
 use Rattle.b67_law_order_steps.specs.Weaker.{AllOtherNumbers}
 use Rattle.b67_task_tables.specs.declared.tables.Machine.{Machine}
 use Rattle.b67_task_tables.specs.Tables.{MachineRepresents}
+pub use Rattle.b67_task_tables.specs.Shortage.{IsShortOf}
 use Rattle.b67_layout_storage.specs.Machine.{Says, HasHole, content_after}
-use Rattle.b67_backing.specs.Held.{Becomes, sectors_for}
+use Rattle.b67_backing.specs.Held.{Becomes}
 use Rattle.b67_backing.specs.declared.SpaceFault.{SpaceFault}
 use Rattle.b67_backing.specs.declared.SpaceFault.TheVariants.{NoCore, BackingFull}
 use Rattle.b67_model.specs.Sectors.{sectors}
@@ -86,18 +87,6 @@ Lacks x (what.Array home) plan m t = (code_area x plan m t ≡ None) ⊎ ((x.hel
 pub record Refused (x : Storage) (told : Option (List (List ℕ))) (k : Machine) (plan : Placement) (s : Session) (m : SessionJob) (t : Task) (absent : What) : Type 0 where
   pub again : StandsAgain x told k plan s
   pub lacks : Lacks again.storage absent plan m t
-
--- a present array of a job of the session keeps no chain, needs so many sectors, and fewer are free
-pub record IsShortOf (x : Storage) (plan : Placement) (jobs : List SessionJob) (wants free : ℕ) : Type 0 where
-  pub member : SessionJob
-  pub in_session : Has jobs member
-  pub array : Array
-  pub among : Has member.progress.job.arrays array
-  pub present : area_held x plan member.constants.number array.identity ≢ None
-  pub unkept : (x.held (plan.home member.constants.number array.identity)).chain ≡ 0
-  pub wants_is : wants ≡ sectors_for (length array.numbers)
-  pub free_is : free ≡ length x.shelf.free
-  pub fewer : free < wants
 
 -- there was no hole for what is wanted, whose area has so many words
 abbrev pub words_wanted : SessionJob → Task → What → ℕ → ℕ
