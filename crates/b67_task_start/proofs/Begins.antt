@@ -129,13 +129,13 @@ module _ (x : Storage) (told : Option (List (List ℕ))) (k : Machine) (plan : P
   pub may_open : HasSlot x plan s (length k.cpu.core) slot
   may_open = has_slot x k.cpu plan s m t o h.session runs (length k.cpu.core) at count f segment level place slot may
 
-  proc : IsProcCell (with_peak plan (peak_with s 1)) m t at f segment level place
+  pub proc : IsProcCell (with_peak plan (peak_with s 1)) m t at f segment level place
   proc = opened_proc x k.cpu plan s m t o h.session runs (length k.cpu.core) at count f segment level place slot may
 
-  order : IsInOrderButCounts (record s { peak = peak_with s 1 })
+  pub order : IsInOrderButCounts (record s { peak = peak_with s 1 })
   order = opened_order x k.cpu plan s m t o h.session runs (length k.cpu.core) at count f segment level place slot may
 
-  still : IsRunning (with_peak plan (peak_with s 1)) s.jobs m t
+  pub still : IsRunning (with_peak plan (peak_with s 1)) s.jobs m t
   still = opened_runs x k.cpu plan s m t o h.session runs (length k.cpu.core) at count f segment level place slot may
 
   pub job_row : JobRowOf k.tasks m
@@ -170,7 +170,7 @@ module _ (x : Storage) (told : Option (List (List ℕ))) (k : Machine) (plan : P
         (opened_build x k.cpu plan s m t o h.session runs (length k.cpu.core) at count f segment level place slot may op.storage now op.stands job env_stack env_disp job_is spot_is))
 
     module _ (free job env_stack env_disp lev : ℕ) (b : MayBuild op.storage now (with_peak plan (peak_with s 1)) (record s { peak = peak_with s 1 }) m t (with_child m.progress.job new) new free job env_stack env_disp lev count) (is : free ≡ slot) where
-      two_frames : Two t.frames
+      abbrev pub two_frames : Two t.frames
       two_frames = frames x k.cpu plan s m t o h.session runs at count f segment level place may.proc may.marked
 
       under_same : (call call' under under' : Frame) (below below' : List Frame) → (call ∷ under ∷ below) ≡ (call' ∷ under' ∷ below') → below ≡ below'

@@ -50,7 +50,7 @@ row_or_none rows k = ⊎_elim
 
 module _ (x : Storage) (core : List Tagged) (r : Regs) (marks : List ℕ) (plan : Placement) (s : Session) (h : SessionHolds x core r marks plan s) where
   pub few : (r.peak ≡ plan.peak) × (plan.peak ≤ 120) × (160 ≤ length core)
-  pub few = (h.memory.slots.regs.peak, h.fits.few, omega (arith, h.memory.slots.laid.first, h.memory.slots.laid.low, h.memory.inside))
+  few = (h.memory.slots.regs.peak, h.fits.few, omega (arith, h.memory.slots.laid.first, h.memory.slots.laid.low, h.memory.inside))
 
   -- a live task's word in the vector
   taken : (q : Slotted) → Has plan.rows q → IsTaken core q.slot

@@ -144,6 +144,6 @@ tables_started tasks tasks' plan s m t new k x cpu o h shows runs joins row job_
     (task_row of.row) (at_mapped task_row tasks.rows.items tasks.running of.row of.at) in
     let more = with_task_at plan m.constants.number new.number k P in
     let after = moved s m (with_child m.progress.job new) 1 in
-    subst (λ (c : rows.Counts). TablesShow more after (map task_row tasks'.rows.items) (map job_row tasks'.jobs) c) (sym (ap counts_of rest))
+    subst (λ (c : rows.JobCounts). TablesShow more after (map task_row tasks'.rows.items) (map job_row tasks'.jobs) c) (sym (ap counts_of rest))
     (subst (λ (js : List rows.JobRow). TablesShow more after (map task_row tasks'.rows.items) js (counts_of tasks)) jobs_mapped
     (subst (λ (rs : List rows.TaskRow). TablesShow more after rs (slice_set (map job_row tasks.jobs) (m.constants.number - 1) (job_row (with_next j.row))) (counts_of tasks)) mapped born))

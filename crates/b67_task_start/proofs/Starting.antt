@@ -103,7 +103,7 @@ module _ (x : Storage) (cpu : Cpu) (plan : Placement) (s : Session) (m : Session
   has_t = keyed-has (λ (u : Task). u.number) t.number m.progress.job.tasks t runs.task
 
   abbrev pub context : RunningContext cpu.core cpu.regs
-  context = record { left = []; storage = x; marks = cpu.critical; plan = plan; session = s; member = m; task = t; ordered = member_in_order s m o (has_m x cpu plan s m t o h runs); holds = h.holds; running = runs }
+  context = record { left = []; storage = x; marks = cpu.critical; plan = plan; session = s; member = m; task = t; ordered = member_in_order s m o has_m; holds = h.holds; running = runs }
 
   order : JobInOrderButCounts (IsSegment m.constants) m.constants m.progress
   order = (running_in_order plan s m t o runs).0
@@ -128,7 +128,7 @@ module _ (x : Storage) (cpu : Cpu) (plan : Placement) (s : Session) (m : Session
     procedure = record {
       own = proc.own;
       offset = proc.offset;
-      cell = subst (λ (n : ℕ). IsCellAt (context x cpu plan s m t o h runs) t.place n f proc.offset (Proc segment level place)) (sym proc.at_is) (found_cell cpu.core cpu.regs (context x cpu plan s m t o h runs) t.place f proc.offset (Proc segment level place) proc.names proc.own proc.found);
+      cell = subst (λ (n : ℕ). IsCellAt context t.place n f proc.offset (Proc segment level place)) (sym proc.at_is) (found_cell cpu.core cpu.regs context t.place f proc.offset (Proc segment level place) proc.names proc.own proc.found);
     }
 
     pub record IsPcwAt : Type 0 where
@@ -138,7 +138,7 @@ module _ (x : Storage) (cpu : Cpu) (plan : Placement) (s : Session) (m : Session
     pub pcw : IsPcwAt
     pcw =
         let c = procedure.cell in
-        let few = segments_few cpu.core cpu.regs (context x cpu plan s m t o h runs) t.place in
+        let few = segments_few cpu.core cpu.regs context t.place in
         record {
           fits = record { place = record { syllable = c.stands.1.1.syllable_fits; word = c.stands.1.1.word_fits }; level = omega (arith, c.stands.1.0); segment = omega (arith, c.stands.1.1.within, few) };
           there = c.there ∙ ap (λ (w : Tagged). Some w) c.stands.0.0;
@@ -237,7 +237,7 @@ module _ (x : Storage) (cpu : Cpu) (plan : Placement) (s : Session) (m : Session
 
       pub environment_fits : ((spots plan m.constants.number m.progress.job t f).stack < 2 ^ 10) × ((spots plan m.constants.number m.progress.job t f).disp < 2 ^ 16) × (level < 2 ^ 5)
       environment_fits =
-          let a = live_of (context x cpu plan s m t o h runs) in
+          let a = live_of context in
           let b = seat cpu.core cpu.regs a f proc.names.standing proc.names.among proc.own in
           let small = h.holds.memory.slots.laid.room in
           let low = seat_low cpu.core cpu.regs a f proc.names proc.own in

@@ -8,13 +8,13 @@ pub get-requires : goal.get-requires
 get-requires c =
     let q = c.requires in
     let f = few q.storage c.args.core.now c.args.regs.now q.marks q.plan q.session q.holds in
-    omega (arith, f.0, f.1, f.2, c.from.ensures, c.loop-slot.range.1)
+    omega (arith, f.0, f.1, f.2, c.from.ensures, c.loop-slot-test.true)
 
 pub returns-then-tag-eq0 : goal.returns-then-tag-eq0
 returns-then-tag-eq0 c = λ x marks plan s h.
     let f = few x c.args.core.now c.args.regs.now marks plan s h in
     let at : 32 + c.loop-slot.slot ≡ 32 + c.loop-slot.slot = refl in
-    let low : c.loop-slot.slot ≤ plan.peak = omega (arith, f.0, c.loop-slot.range.1) in
+    let low : c.loop-slot.slot ≤ plan.peak = omega (arith, f.0, c.loop-slot-test.true) in
     (lowest x c.args.core.now c.args.regs.now marks plan s h c.loop-slot.slot low c.loop-slot.invariant (inr (c.get.result, ap (λ (n : ℕ). slice_get c.args.core.now (32 + n)) (sym c.from.ensures) ∙ c.get.ensures, sym c.tag.ensures.value ∙ c.if-tag-eq0.true)), low)
 
 pub loop-slot-preserved : goal.loop-slot-preserved
@@ -29,4 +29,4 @@ pub returns : goal.returns
 returns c = λ x marks plan s h.
     let f = few x c.args.core.now c.args.regs.now marks plan s h in
     let low : c.args.regs.now.peak ≤ plan.peak = omega (arith, f.0) in
-    (lowest x c.args.core.now c.args.regs.now marks plan s h c.args.regs.now.peak low c.loop-slot.invariant (inl f.0), low)
+    (lowest x c.args.core.now c.args.regs.now marks plan s h c.args.regs.now.peak low (λ i less. c.loop-slot.invariant i (omega (arith, less, c.loop-slot-test.false))) (inl f.0), low)
