@@ -1,25 +1,24 @@
 -- A task is started: its slot is opened, its stack built, its row added.
-use Rattle.std.proofs.Common.{◌≡◌, ◌≢◌, ℕ, suc, ◌+◌, ◌-◌, ◌*◌, ◌<◌, ◌≤◌, List, [], ◌∷◌, ◌++◌, length, Option, Some, refl, sym, ◌∙◌, ap, arith, inl, inr, subst, slice_set}
+use Rattle.std.proofs.Common.{◌≡◌, ℕ, ◌+◌, ◌-◌, ◌*◌, ◌<◌, ◌≤◌, List, [], ◌∷◌, ◌++◌, length, Option, Some, refl, sym, ◌∙◌, ap, arith, inl, inr, subst, slice_set}
 use Rattle.std.specs.Prelude.{max}
 use Rattle.std.specs.List.{slice_get}
 use Rattle.b67_word.specs.declared.couples.Place.{Place}
 use Rattle.b67_area.specs.declared.Areas.{Areas}
 use Rattle.b67_backing.specs.Shelf.{Table, IsShelf}
 use Rattle.b67_lemmas.specs.Lists.{Has, total}
-use Rattle.b67_lemmas.proofs.Members.{all_in, keyed-has}
+use Rattle.b67_lemmas.proofs.Members.{keyed-has}
 use Rattle.b67_lemmas.proofs.Sums.{sum_total, total_gap}
 use Rattle.b67_model.specs.State.{Frame, Task, SessionJob, height}
 use Rattle.b67_model.specs.Words.{Proc}
 use Rattle.b67_law_order.proofs.Numbered.{numbered_low}
-use Rattle.b67_model.specs.InOrder.{IsSegment}
-use Rattle.b67_layout.specs.Orders.{IsInOrderButCounts, JobInOrderButCounts}
+use Rattle.b67_layout.specs.Orders.{IsInOrderButCounts}
 use Rattle.b67_model.specs.Run.{live_tasks, number_of}
 use Rattle.b67_model.specs.Schedule.{Session}
 use Rattle.b67_stack.specs.declared.Cpu.{Cpu}
 use Rattle.b67_stack.specs.Stacks.{StackPlace, mark_place}
 use Rattle.b67_stack.specs.Changes as Changes
 use Rattle.b67_stack.specs.Represents.{Storage}
-use Rattle.b67_layout.specs.Placement.{Slotted, Placement, address_of, spots}
+use Rattle.b67_layout.specs.Placement.{Placement, address_of, spots}
 use Rattle.b67_layout.specs.Session.{IsRunning, RepresentsSession, RepresentsStorage}
 use Rattle.b67_layout.specs.Layout.{stack_of_task}
 use Rattle.b67_layout.specs.Rows.{IsReady}
@@ -35,7 +34,7 @@ use Rattle.b67_task_tables.specs.declared.tables.Machine.{Machine}
 use Rattle.b67_task_tables.specs.Tables.{state_of, task_row, MachineRepresents}
 use Rattle.b67_task_start_stack.specs.Born.{with_peak, with_task_at}
 use Rattle.b67_task_start_stack.specs.Joining.{MayBuild, joined}
-use Rattle.b67_task_start.specs.Opening.{IsLowestFree, peak_with, HasSlot, IsOpened}
+use Rattle.b67_task_start.specs.Opening.{peak_with, HasSlot, IsOpened}
 use Rattle.b67_task_start.specs.Starts.{IsProcCell, MayStart, IsStarted, child, with_child, with_next, moved}
 use Rattle.b67_task_start.proofs.Opens.{not_past, peak_stays, peak_rises}
 use Rattle.b67_task_start.proofs.Rows.{JobRowOf, job_row_of, rows_few, tables_started}

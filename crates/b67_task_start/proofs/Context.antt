@@ -1,7 +1,6 @@
 -- What the code that starts a task finds and makes, by the session that the machine stands for.
-use Rattle.std.proofs.Common.{◌≡◌, ◌≢◌, ℕ, ◌+◌, ◌-◌, ◌<◌, ◌≤◌, List, [], ◌∷◌, ◌++◌, map, length, Option, Some, refl, sym, ◌∙◌, ap, arith, subst, slice_set}
+use Rattle.std.proofs.Common.{◌≡◌, ◌≢◌, ℕ, ◌+◌, ◌-◌, ◌≤◌, List, [], ◌∷◌, ◌++◌, length, Option, Some, refl, sym, ◌∙◌, ap, arith, slice_set}
 use Rattle.std.specs.List.{slice_get}
-use Rattle.b67_word.specs.declared.couples.Place.{Place}
 use Rattle.b67_area.specs.declared.Areas.{Areas}
 use Rattle.b67_ctl.specs.Layout.{IsPcw, pcw_word}
 use Rattle.b67_ctl.specs.declared.programs.Pcw.{Pcw}
@@ -12,9 +11,9 @@ use Rattle.b67_model.specs.Schedule.{Session}
 use Rattle.b67_model.specs.State.{Task, Job, SessionJob}
 use Rattle.b67_stack.specs.declared.Cpu.{Cpu}
 use Rattle.b67_stack.specs.Changes.{below_top}
-use Rattle.b67_stack.specs.MachineView.{MachineView, RunsOn}
+use Rattle.b67_stack.specs.MachineView.{RunsOn}
 use Rattle.b67_stack.specs.Stacks.{StackPlace, Activation, mark_place}
-use Rattle.b67_stack.specs.Represents.{Storage, Represents}
+use Rattle.b67_stack.specs.Represents.{Storage}
 use Rattle.b67_layout.specs.Layout.{machine_view, stack_of_task}
 use Rattle.b67_layout.specs.Orders.{IsInOrderButCounts}
 use Rattle.b67_layout.specs.Placement.{Placement}
@@ -140,7 +139,7 @@ module _ (k : Machine) (at count : ℕ) (q : StartsSome k at count) where
       -- the machine with the child's stack, and its row
       pub is_started : (built : Cpu) (tasks' : Tasks) (number under : ℕ) (row : TaskRow)
           → ((x : Storage) (plan : Placement) (s : Session) (m : SessionJob) (t : Task) (after : Job) (z : Task)
-              → MayBuild x now plan s m t after z slot parent.job env_stack env_disp p.level count → RepresentsSession x built (with_task_at plan m.constants.number z.number slot plan.peak) (joined plan s m after))
+          → MayBuild x now plan s m t after z slot parent.job env_stack env_disp p.level count → RepresentsSession x built (with_task_at plan m.constants.number z.number slot plan.peak) (joined plan s m after))
           → areas' ≡ record k.areas { low = areas'.low } → length now.core ≡ length k.cpu.core → length built.core ≡ length now.core
           → number ≡ q.member.progress.job.next_task → under ≡ mark_place (below_top stack_now)
           → row.job ≡ parent.job → row.number ≡ number → row.slot ≡ slot → row.parent ≡ parent.slot → row.critical ≡ under → state_of row.state ≡ IsReady → row.segment ≡ p.segment → row.place ≡ p.place

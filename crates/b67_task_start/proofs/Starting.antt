@@ -1,14 +1,13 @@
 -- The task that is started, by what the running task may name.
-use Rattle.std.proofs.Common.{◌≡◌, ◌≢◌, ℕ, zero, suc, ◌+◌, ◌-◌, ◌^◌, ◌<◌, ◌≤◌, List, [], ◌∷◌, ◌++◌, map, length, take, drop, reverse, find, Option, Some, None, Result, Ok, Err, refl, sym, ◌∙◌, ap, arith, inl, inr, ◌⊎◌, ⊎_elim, subst, false}
+use Rattle.std.proofs.Common.{◌≡◌, ◌≢◌, ℕ, ◌+◌, ◌-◌, ◌^◌, ◌<◌, ◌≤◌, List, [], ◌∷◌, ◌++◌, map, length, drop, reverse, Option, Some, None, Ok, Err, refl, sym, ◌∙◌, ap, arith, inl, inr, ⊎_elim, subst, false}
 use Rattle.std.specs.List.{slice_get, AllByRecursion}
-use Rattle.std.proofs.lemmas.Bool.{cases_lt, cases_eq, eq-eqb, ne_eqb}
+use Rattle.std.proofs.lemmas.Bool.{cases_lt, eq-eqb, ne_eqb}
 use Rattle.std.proofs.lemmas.Option.{same_Some}
-use Rattle.std.proofs.lemmas.List.{take-append-drop, reverse-reverse, length-reverse, length-take-le}
+use Rattle.std.proofs.lemmas.List.{take-append-drop, reverse-reverse, length-take-le}
 use Rattle.b67_word.specs.Tagged.{Tagged}
 use Rattle.b67_word.specs.declared.couples.Place.{Place}
 use Rattle.b67_word.specs.declared.faults.Fault.{Fault}
 use Rattle.b67_ctl.specs.Layout.{IsPcw, pcw_word}
-use Rattle.b67_ctl.specs.declared.programs.Pcw.{Pcw}
 use Rattle.b67_ctl.specs.declared.registers.Regs.{Regs}
 use Rattle.b67_lemmas.specs.Lists.{Has, Falls}
 use Rattle.b67_lemmas.proofs.Members.{all_in, falls_low, has_append_left, has_map, keyed-has, keyed_has}
@@ -22,7 +21,7 @@ use Rattle.b67_model.specs.Words as Words
 use Rattle.b67_model.specs.Words.{Word, Proc}
 use Rattle.b67_model.specs.State as State
 use Rattle.b67_model.specs.State.{Standing, Frame, Task, Job, SessionJob, top, below_top, height}
-use Rattle.b67_model.specs.InOrder.{Starts, Known, known_of, known_numbers, from_frame, frames_of_task, critical_of, outer_of, reach_of, IsEntered, IsSegment, NamesEntered, WordInOrder, FramesInOrder, StackInOrder, ReturnsInOrder, BirthInOrder, ParentInOrder, TaskInOrder, TasksInOrder}
+use Rattle.b67_model.specs.InOrder.{Starts, Known, known_of, known_numbers, from_frame, frames_of_task, critical_of, outer_of, IsEntered, IsSegment, NamesEntered, WordInOrder, FramesInOrder, StackInOrder, ReturnsInOrder, BirthInOrder, ParentInOrder, TaskInOrder, TasksInOrder}
 use Rattle.b67_layout.specs.Orders.{IsInOrderButCounts, JobInOrderButCounts}
 use Rattle.b67_law_order.proofs.Numbered.{keyed_member}
 use Rattle.b67_stack.specs.declared.Cpu.{Cpu}
@@ -35,7 +34,7 @@ use Rattle.b67_layout.specs.Meets.{here}
 use Rattle.b67_layout.proofs.Fresh.{running_in_order}
 use Rattle.b67_layout.proofs.Rows.{task_row}
 use Rattle.b67_refer.specs.RunningContext.{RunningContext, live_of}
-use Rattle.b67_refer.specs.Cells.{reach, view, frame_at_core, CellMeets, IsCellAt}
+use Rattle.b67_refer.specs.Cells.{reach, frame_at_core, CellMeets, IsCellAt}
 use Rattle.b67_refer.specs.Ends.{IsProcAt}
 use Rattle.b67_refer.proofs.Marks.{stack_known}
 use Rattle.b67_refer.proofs.Procs.{segments_few}

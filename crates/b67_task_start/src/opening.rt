@@ -8,7 +8,6 @@ ghost use Rattle.b67_layout.specs.Placement.{Placement};
 ghost use Rattle.b67_layout.specs.Session.{SessionHolds, RepresentsSession};
 ghost use Rattle.b67_task_start.specs.Opening.{IsLowestFree, HoldsOne, HasSlot, HasSomeSlot, IsOpened};
 
-
 use b67_area::Areas;
 use b67_core::Core;
 use b67_ctl::Regs;

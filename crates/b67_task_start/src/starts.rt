@@ -15,7 +15,6 @@ ghost use Rattle.b67_task_tables.specs.Runs.{ForEachRun, Keeps, RunsTask};
 ghost use Rattle.b67_task_tables.specs.Tables.{MachineRepresents};
 ghost use Rattle.b67_task_start.specs.Starts.{StartsSome, MayStart, IsStarted, child, HasRowRoom, with_next};
 
-
 use crate::opening::open_slot;
 use b67_core::Core;
 use b67_ctl::Pcw;

@@ -1,4 +1,4 @@
-use Rattle.std.proofs.Common.{◌≡◌, ℕ, ◌<◌, ◌≤◌, sym, ◌∙◌, arith, length}
+use Rattle.std.proofs.Common.{◌≡◌, ◌<◌, sym, ◌∙◌, arith}
 use Rattle.b67_layout.specs.Layout.{machine_view}
 use Rattle.b67_task_start.proofs.Opens.{few, has_room, one_lowest, opened_before, opened_now}
 use Rattle.b67_task_start.proofs.opening.open_slot.Goals as goal

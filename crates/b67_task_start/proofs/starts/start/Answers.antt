@@ -1,5 +1,4 @@
-use Rattle.std.proofs.Common.{◌≡◌, ℕ, ◌+◌, refl, ◌∙◌, ap}
-use Rattle.b67_ctl.specs.declared.programs.Pcw.{Pcw}
+use Rattle.std.proofs.Common.{◌+◌, refl, ◌∙◌, ap}
 use Rattle.b67_layout.specs.Layout.{machine_view}
 use Rattle.b67_refer.specs.declared.activation.Activation.{Activation}
 use Rattle.b67_task_start_stack.specs.Born.{with_peak}
@@ -26,8 +25,7 @@ procedure_at-procedure-requires c =
 pub activation_of-env-requires : goal.activation_of-env-requires
 activation_of-env-requires c =
     let q = c.requires in
-    let op = c.open_slot-slot.ensures.stands q.storage q.plan q.session q.slot q.ordered q.stands.session q.stands.storage.low (has c.args.machine.now c.args.cell c.args.args q) in
-    (
+    let op = c.open_slot-slot.ensures.stands q.storage q.plan q.session q.slot q.ordered q.stands.session q.stands.storage.low (has c.args.machine.now c.args.cell c.args.args q) in (
       context c.args.machine.now c.args.cell c.args.args q c.open_slot-slot.new.cpu c.open_slot-slot.new.areas op,
       q.task.place,
       q.f,
@@ -41,8 +39,7 @@ pub mark_under-requires : goal.mark_under-requires
 mark_under-requires c =
     let q = c.requires in
     let op = c.open_slot-slot.ensures.stands q.storage q.plan q.session q.slot q.ordered q.stands.session q.stands.storage.low (has c.args.machine.now c.args.cell c.args.args q) in
-    let u = marked c.args.machine.now c.args.cell c.args.args q c.open_slot-slot.new.cpu c.open_slot-slot.new.areas op in
-    (
+    let u = marked c.args.machine.now c.args.cell c.args.args q c.open_slot-slot.new.cpu c.open_slot-slot.new.areas op in (
       op.storage,
       machine_view (with_peak q.plan (peak_with q.session 1)) q.session.jobs,
       stack_now c.args.machine.now c.args.cell c.args.args q c.open_slot-slot.new.cpu c.open_slot-slot.new.areas op,
