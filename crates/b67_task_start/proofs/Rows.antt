@@ -1,0 +1,149 @@
+-- The tables once a task was started: its row is the last, and its job's next task has the next number.
+use Rattle.std.proofs.Common.{◌≡◌, ℕ, zero, suc, ◌+◌, ◌-◌, ◌<◌, ◌≤◌, List, [], ◌∷◌, ◌++◌, map, length, drop, take, Option, Some, None, refl, sym, ◌∙◌, ap, arith, inl, inr, subst, slice_set}
+use Rattle.std.specs.List.{slice_get}
+use Rattle.std.proofs.lemmas.Bool.Decides.{eqb_tells}
+use Rattle.std.proofs.lemmas.List.{map-append, length-map}
+use Rattle.std.proofs.lemmas.Option.{same_Some, none-some}
+use Rattle.b67_lemmas.specs.Lists.{Has}
+use Rattle.b67_lemmas.proofs.Members.{has_get, keyed-has}
+use Rattle.b67_lemmas.proofs.Places.{came_back, map-slice_set, mapped_at, at_mapped}
+use Rattle.b67_law_order.proofs.Numbered.{keyed_member, numbered_low}
+use Rattle.b67_model.specs.State.{Task, Job, SessionJob}
+use Rattle.b67_model.specs.Keyed.{keyed}
+use Rattle.b67_model.specs.Run.{live_tasks, number_of}
+use Rattle.b67_model.specs.Schedule.{Session}
+use Rattle.b67_model.specs.InOrder.{NumberedFrom}
+use Rattle.b67_layout.specs.Orders.{IsInOrderButCounts}
+use Rattle.b67_stack.specs.Represents.{Storage}
+use Rattle.b67_layout.specs.Placement.{Placement}
+use Rattle.b67_layout.specs.Rows as rows
+use Rattle.b67_layout.specs.Rows.{JobShows, JobsShow, RunningRow, TaskShows, TablesShow}
+use Rattle.b67_layout.specs.Session.{IsRunning, RepresentsSession}
+use Rattle.b67_layout.proofs.MachineViews.{with_course}
+use Rattle.b67_layout.proofs.Rows.{slot_below}
+use Rattle.b67_layout.proofs.Sessions.{running_only}
+use Rattle.b67_stack.specs.declared.Cpu.{Cpu}
+use Rattle.b67_task_need.proofs.Counts.{rows_live}
+use Rattle.b67_task_switch.proofs.Tables.{job_at, live_in_order}
+use Rattle.b67_task_tables.specs.declared.tables.JobRow.{JobRow}
+use Rattle.b67_task_tables.specs.declared.tables.TaskRow.{TaskRow}
+use Rattle.b67_task_tables.specs.declared.tables.Tasks.{Tasks}
+use Rattle.b67_task_tables.specs.Tables.{task_row, job_row, counts_of, TasksShow}
+use Rattle.b67_task_start_stack.specs.Born.{with_task_at}
+use Rattle.b67_task_start_stack.specs.Joining.{Joins}
+use Rattle.b67_task_start.specs.Opening.{peak_with}
+use Rattle.b67_task_start.specs.Starts.{with_child, with_next, moved}
+use Rattle.b67_task_start_stack.proofs.Tabled.{tables_born}
+
+-- the row of the running task
+pub record RowOf (tasks : Tasks) (plan : Placement) (m : SessionJob) (t : Task) : Type 0 where
+  pub row : TaskRow
+  pub at : slice_get tasks.rows.items tasks.running ≡ Some row
+  pub job : row.job ≡ m.constants.number
+  pub slot : row.slot ≡ plan.running
+
+pub row_of : (x : Storage) (cpu : Cpu) (tasks : Tasks) (plan : Placement) (s : Session) (m : SessionJob) (t : Task) → IsInOrderButCounts s → RepresentsSession x cpu plan s → TasksShow plan s tasks → IsRunning plan s.jobs m t → RowOf tasks plan m t
+row_of x cpu tasks plan s m t o h shows runs = by (slice_get (map task_row tasks.rows.items) tasks.running) refl shows.counts.running
+  where
+    low : plan.running < 120
+    low =
+        let below = slot_below plan s.jobs m t h.holds.fits.rows (keyed-has number_of m.constants.number s.jobs m runs.member) (keyed-has (λ (u : Task). u.number) t.number m.progress.job.tasks t runs.task) in
+        omega (arith, below, runs.slot, h.holds.fits.few)
+
+    by : (q : Option rows.TaskRow) → slice_get (map task_row tasks.rows.items) tasks.running ≡ q → RunningRow plan q tasks.running → RowOf tasks plan m t
+    by None e r = absurd (omega (arith, low, r.1))
+    by (Some row) e r =
+        let (found, at, same) = mapped_at task_row tasks.rows.items tasks.running row e in
+        let (y, u, iny, inu, w) = shows.tasks row (has_get (map task_row tasks.rows.items) tasks.running row e) in
+        let running : IsRunning plan s.jobs y u = record { member = keyed_member 1 s.jobs y o.numbered iny; task = live_in_order s y u o iny inu; slot = sym r.1 ∙ w.slot } in
+        let P : SessionJob → Task → Type 0 = λ z v. row.job ≡ z.constants.number in
+        let is = running_only plan s.jobs y m u t P h.holds.fits.rows running runs w.job in
+        record { row = found; at = at; job = ap (λ (z : rows.TaskRow). z.job) same ∙ is; slot = ap (λ (z : rows.TaskRow). z.slot) same ∙ r.1 }
+
+-- the row of its job
+pub record JobRowOf (tasks : Tasks) (m : SessionJob) : Type 0 where
+  pub row : JobRow
+  pub at : slice_get tasks.jobs (m.constants.number - 1) ≡ Some row
+  pub next : row.next_task ≡ m.progress.job.next_task
+
+pub job_row_of : (tasks : Tasks) (plan : Placement) (s : Session) (m : SessionJob) → NumberedFrom 1 s.jobs → TasksShow plan s tasks → Has s.jobs m → JobRowOf tasks m
+job_row_of tasks plan s m numbered shows i =
+    let b = job_at plan 1 s.jobs (map job_row tasks.jobs) m numbered shows.jobs i in
+    let (row, at, same) = mapped_at job_row tasks.jobs (m.constants.number - 1) b.row b.at in
+    record { row = row; at = at; next = ap (λ (z : rows.JobRow). z.next_task) same ∙ b.shows.next_task }
+
+-- as many rows as live tasks
+pub rows_few : (tasks : Tasks) (plan : Placement) (s : Session) (x : Storage) (cpu : Cpu) → IsInOrderButCounts s → RepresentsSession x cpu plan s → TasksShow plan s tasks → length tasks.rows.items ≡ live_tasks s.jobs
+rows_few tasks plan s x cpu o h shows = sym (length-map tasks.rows.items task_row) ∙ rows_live plan s o h.holds.fits.rows (map task_row tasks.rows.items) (map job_row tasks.jobs) (counts_of tasks) shows
+
+module _ (plan : Placement) (m : SessionJob) (job' : Job) (number k peak : ℕ) (next : job'.next_task ≡ m.progress.job.next_task + 1) (numbers : job'.numbers ≡ m.progress.job.numbers) where
+  abbrev more : Placement
+  more = with_task_at plan m.constants.number number k peak
+
+  rest_shows : (jobs : List SessionJob) (rs : List rows.JobRow) → JobsShow plan jobs rs → JobsShow more jobs rs
+  rest_shows [] [] h = h
+  rest_shows [] (r ∷ rs) h = absurd h
+  rest_shows (y ∷ ys) [] h = absurd h
+  rest_shows (y ∷ ys) (r ∷ rs) h = (
+    record { dictionary = h.0.dictionary; segments = h.0.segments; rows = h.0.rows; limit = h.0.limit; made = h.0.made; next_task = h.0.next_task; numbers = h.0.numbers },
+    rest_shows ys rs h.1,
+  )
+
+  pub jobs_next : (from i : ℕ) (jobs : List SessionJob) (rs : List rows.JobRow) (r : rows.JobRow) → from + i ≡ m.constants.number → NumberedFrom from jobs → keyed number_of m.constants.number jobs ≡ Some m → JobsShow plan jobs rs → slice_get rs i ≡ Some r
+      → JobsShow (with_task_at plan m.constants.number number k peak) (with_course jobs m.constants.number (record m.progress { job = job' })) (slice_set rs i (record r { next_task = r.next_task + 1 }))
+  jobs_next from i [] [] r e d found h at = absurd (none-some r at)
+  jobs_next from i [] (q ∷ rs) r e d found h at = absurd h
+  jobs_next from i (y ∷ ys) [] r e d found h at = absurd h
+  jobs_next from zero (y ∷ ys) (q ∷ rs) r e d found h at = elim (eqb_tells (number_of y) m.constants.number) [
+    | inl t ↦ let same : q ≡ r = same_Some q r at in
+        let is : y ≡ m = same_Some y m (rw t.0 at found) in
+        let shows : JobShows more (record y { progress = record m.progress { job = job' } }) (record q { next_task = q.next_task + 1 }) = record {
+          dictionary = h.0.dictionary;
+          segments = h.0.segments;
+          rows = h.0.rows;
+          limit = h.0.limit;
+          made = h.0.made ∙ ap (λ (z : SessionJob). z.progress.made) is;
+          next_task = omega (arith, h.0.next_task, ap (λ (z : SessionJob). z.progress.job.next_task) is, next);
+          numbers = h.0.numbers ∙ ap (λ (z : SessionJob). z.progress.job.numbers) is ∙ sym numbers;
+        } in
+        rw t.0 (subst (λ (z : rows.JobRow). JobShows more (record y { progress = record m.progress { job = job' } }) (record z { next_task = z.next_task + 1 })) same shows, rest_shows ys rs h.1)
+    | inr t ↦ absurd (t.1 (omega (arith, d.0, e)))
+  ]
+  jobs_next from (suc i) (y ∷ ys) (q ∷ rs) r e d found h at = elim (eqb_tells (number_of y) m.constants.number) [
+    | inl t ↦ absurd (omega (arith, t.1, d.0, e))
+    | inr t ↦ rw t.0 (
+      record { dictionary = h.0.dictionary; segments = h.0.segments; rows = h.0.rows; limit = h.0.limit; made = h.0.made; next_task = h.0.next_task; numbers = h.0.numbers },
+      jobs_next (from + 1) i ys rs r (omega (arith, e)) d.1 (rw t.0 at found) h.1 at,
+    )
+  ]
+
+-- what is counted through the lent slice
+pub counted_is : (xs lent new : List JobRow) (n : ℕ) (r : JobRow) → lent ≡ xs → (slice_get lent n ≡ Some r → new ≡ slice_set lent n (with_next r)) → length new ≡ length lent → slice_get xs n ≡ Some r
+    → take (length xs) (new ++ drop (length new) xs) ≡ slice_set xs n (with_next r)
+counted_is xs lent new n r same changed len at =
+    came_back xs new (len ∙ ap length same) ∙ changed (ap (λ (l : List JobRow). slice_get l n) same ∙ at) ∙ ap (λ (l : List JobRow). slice_set l n (with_next r)) same
+
+-- the tables show the session with the new task
+pub tables_started : (tasks tasks' : Tasks) (plan : Placement) (s : Session) (m : SessionJob) (t new : Task) (k : ℕ) (x : Storage) (cpu : Cpu) (o : IsInOrderButCounts s) (h : RepresentsSession x cpu plan s) (shows : TasksShow plan s tasks) (runs : IsRunning plan s.jobs m t)
+    → Joins plan s.jobs m (with_child m.progress.job new) new k (peak_with s 1) → (row : TaskRow) → row.job ≡ m.constants.number → row.slot ≡ k
+    → TaskShows (with_task_at plan m.constants.number new.number k (peak_with s 1)) (record m { progress = record m.progress { job = with_child m.progress.job new } }) new (task_row row)
+    → tasks'.rows.items ≡ tasks.rows.items ++ row ∷ [] → ((r : JobRow) → slice_get tasks.jobs (row.job - 1) ≡ Some r → tasks'.jobs ≡ slice_set tasks.jobs (row.job - 1) (with_next r)) → tasks' ≡ record tasks { rows = tasks'.rows; jobs = tasks'.jobs }
+    → TasksShow (with_task_at plan m.constants.number new.number k (peak_with s 1)) (moved s m (with_child m.progress.job new) 1) tasks'
+tables_started tasks tasks' plan s m t new k x cpu o h shows runs joins row job_is at_slot row_shows rows_are jobs_are rest =
+    let P = peak_with s 1 in
+    let has_m = keyed-has number_of m.constants.number s.jobs m runs.member in
+    let of = row_of x cpu tasks plan s m t o h shows runs in
+    let j = job_row_of tasks plan s m o.numbered shows has_m in
+    let low : 1 ≤ m.constants.number = numbered_low 1 s.jobs m o.numbered has_m in
+    let got : slice_get tasks.jobs (row.job - 1) ≡ Some j.row = ap (λ (n : ℕ). slice_get tasks.jobs (n - 1)) job_is ∙ j.at in
+    let jobs_mapped : slice_set (map job_row tasks.jobs) (m.constants.number - 1) (job_row (with_next j.row)) ≡ map job_row tasks'.jobs =
+    sym (ap (map job_row) (jobs_are j.row got) ∙ map-slice_set job_row tasks.jobs (row.job - 1) (with_next j.row) ∙ ap (λ (n : ℕ). slice_set (map job_row tasks.jobs) (n - 1) (job_row (with_next j.row))) job_is) in
+    let mapped : map task_row tasks.rows.items ++ task_row row ∷ [] ≡ map task_row tasks'.rows.items = sym (ap (map task_row) rows_are ∙ map-append task_row tasks.rows.items (row ∷ [])) in
+    let next = jobs_next plan m (with_child m.progress.job new) new.number k P refl refl 1 (m.constants.number - 1) s.jobs (map job_row tasks.jobs) (job_row j.row) (omega (arith, low)) o.numbered runs.member shows.jobs (at_mapped job_row tasks.jobs (m.constants.number - 1) j.row j.at) in
+    let born = tables_born plan s m (with_child m.progress.job new) new k P o.numbered joins (map task_row tasks.rows.items) (map job_row tasks.jobs) (slice_set (map job_row tasks.jobs) (m.constants.number - 1) (job_row (with_next j.row))) (counts_of tasks) (task_row row) shows row_shows at_slot next
+    (task_row of.row) (at_mapped task_row tasks.rows.items tasks.running of.row of.at) in
+    let more = with_task_at plan m.constants.number new.number k P in
+    let after = moved s m (with_child m.progress.job new) 1 in
+    subst (λ (c : rows.JobCounts). TablesShow more after (map task_row tasks'.rows.items) (map job_row tasks'.jobs) c) (sym (ap counts_of rest))
+    (subst (λ (js : List rows.JobRow). TablesShow more after (map task_row tasks'.rows.items) js (counts_of tasks)) jobs_mapped
+    (subst (λ (rs : List rows.TaskRow). TablesShow more after rs (slice_set (map job_row tasks.jobs) (m.constants.number - 1) (job_row (with_next j.row))) (counts_of tasks)) mapped born))
