@@ -6,7 +6,7 @@ use Rattle.b67_word.specs.declared.couples.Place.{Place}
 use Rattle.b67_area.specs.declared.Areas.{Areas}
 use Rattle.b67_backing.specs.Shelf.{Table, IsShelf}
 use Rattle.b67_lemmas.specs.Lists.{Has, total}
-use Rattle.b67_lemmas.proofs.Members.{keyed-has}
+use Rattle.b67_lemmas.proofs.Members.{keyed_has}
 use Rattle.b67_lemmas.proofs.Sums.{sum_total, total_gap}
 use Rattle.b67_model.specs.State.{Frame, Task, SessionJob, height}
 use Rattle.b67_model.specs.Words.{Proc}
@@ -49,7 +49,7 @@ fifteens (y ∷ ys) = omega (arith, fifteens ys)
 module _ (x : Storage) (cpu : Cpu) (plan : Placement) (s : Session) (m : SessionJob) (t : Task) (o : IsInOrderButCounts s) (h : RepresentsSession x cpu plan s) (runs : IsRunning plan s.jobs m t)
     (core at count f segment level : ℕ) (place : Place) (k : ℕ) (may : MayStart x plan m t core at count f segment level place k) where
   has_m : Has s.jobs m
-  has_m = keyed-has number_of m.constants.number s.jobs m runs.member
+  has_m = (keyed_has number_of m.constants.number s.jobs m runs.member).0
 
   live_low : live_tasks s.jobs < 120
   live_low =
@@ -138,10 +138,10 @@ module _ (x : Storage) (told : Option (List (List ℕ))) (k : Machine) (plan : P
   still = opened_runs x k.cpu plan s m t o h.session runs (length k.cpu.core) at count f segment level place slot may
 
   pub job_row : JobRowOf k.tasks m
-  job_row = job_row_of k.tasks plan s m o.numbered h.tables (keyed-has number_of m.constants.number s.jobs m runs.member)
+  job_row = job_row_of k.tasks plan s m o.numbered h.tables (keyed_has number_of m.constants.number s.jobs m runs.member).0
 
   pub first_job : 1 ≤ m.constants.number
-  first_job = numbered_low 1 s.jobs m o.numbered (keyed-has number_of m.constants.number s.jobs m runs.member)
+  first_job = numbered_low 1 s.jobs m o.numbered (keyed_has number_of m.constants.number s.jobs m runs.member).0
 
   pub row_room : length k.tasks.rows.items < 120
   row_room = omega (arith, rows_few k.tasks plan s x k.cpu o h.session h.tables, may_open.few)
@@ -149,7 +149,7 @@ module _ (x : Storage) (told : Option (List (List ℕ))) (k : Machine) (plan : P
   module _ (now : Cpu) (areas' : Areas) (op : IsOpened x plan s now areas') where
     -- what the new machine shows of the procedure
     abbrev pub seen : RunningContext now.core now.regs
-    seen = record { left = []; storage = op.storage; marks = now.critical; plan = with_peak plan (peak_with s 1); session = record s { peak = peak_with s 1 }; member = m; task = t; ordered = member_in_order s m o (keyed-has number_of m.constants.number s.jobs m runs.member); holds = op.stands.holds; running = opened_runs x k.cpu plan s m t o h.session runs (length k.cpu.core) at count f segment level place slot may }
+    seen = record { left = []; storage = op.storage; marks = now.critical; plan = with_peak plan (peak_with s 1); session = record s { peak = peak_with s 1 }; member = m; task = t; ordered = member_in_order s m o (keyed_has number_of m.constants.number s.jobs m runs.member).0; holds = op.stands.holds; running = opened_runs x k.cpu plan s m t o h.session runs (length k.cpu.core) at count f segment level place slot may }
 
     pub seen_procedure : IsProcAt seen t.place at f segment level place
     seen_procedure = record {

@@ -4,7 +4,7 @@ use Rattle.std.specs.List.{slice_get}
 use Rattle.b67_area.specs.declared.Areas.{Areas}
 use Rattle.b67_ctl.specs.Layout.{IsPcw, pcw_word}
 use Rattle.b67_ctl.specs.declared.programs.Pcw.{Pcw}
-use Rattle.b67_lemmas.proofs.Members.{keyed-has}
+use Rattle.b67_lemmas.proofs.Members.{keyed_has}
 use Rattle.b67_lemmas.proofs.Places.{map-slice_set, put_back, at_mapped}
 use Rattle.b67_model.specs.Run as Run
 use Rattle.b67_model.specs.Schedule.{Session}
@@ -46,7 +46,7 @@ names_same rows new i r at is =
 pub number_of : (k : Machine) (x : Storage) (told : Option (List (List ℕ))) (plan : Placement) (s : Session) (m : SessionJob) (t : Task) → IsInOrderButCounts s → MachineRepresents x told k plan s → IsRunning plan s.jobs m t
     → (j n : ℕ) → j ≡ m.constants.number → ((r : JobRow) → slice_get k.tasks.jobs (j - 1) ≡ Some r → n ≡ r.next_task) → n ≡ m.progress.job.next_task
 number_of k x told plan s m t o h runs j n e next =
-    let b = job_row_of k.tasks plan s m o.numbered h.tables (keyed-has Run.number_of m.constants.number s.jobs m runs.member) in
+    let b = job_row_of k.tasks plan s m o.numbered h.tables (keyed_has Run.number_of m.constants.number s.jobs m runs.member).0 in
     next b.row (ap (λ (i : ℕ). slice_get k.tasks.jobs (i - 1)) e ∙ b.at) ∙ b.next
 
 module _ (k : Machine) (at count : ℕ) (q : StartsSome k at count) where

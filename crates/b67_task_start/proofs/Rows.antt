@@ -5,7 +5,7 @@ use Rattle.std.proofs.lemmas.Bool.Decides.{eqb_tells}
 use Rattle.std.proofs.lemmas.List.{map-append, length-map}
 use Rattle.std.proofs.lemmas.Option.{same_Some, none-some}
 use Rattle.b67_lemmas.specs.Lists.{Has}
-use Rattle.b67_lemmas.proofs.Members.{has_get, keyed-has}
+use Rattle.b67_lemmas.proofs.Members.{has_get, keyed_has}
 use Rattle.b67_lemmas.proofs.Places.{came_back, map-slice_set, mapped_at, at_mapped}
 use Rattle.b67_law_order.proofs.Numbered.{keyed_member, numbered_low}
 use Rattle.b67_model.specs.State.{Task, Job, SessionJob}
@@ -47,7 +47,7 @@ row_of x cpu tasks plan s m t o h shows runs = by (slice_get (map task_row tasks
   where
     low : plan.running < 120
     low =
-        let below = slot_below plan s.jobs m t h.holds.fits.rows (keyed-has number_of m.constants.number s.jobs m runs.member) (keyed-has (λ (u : Task). u.number) t.number m.progress.job.tasks t runs.task) in
+        let below = slot_below plan s.jobs m t h.holds.fits.rows (keyed_has number_of m.constants.number s.jobs m runs.member).0 (keyed_has (λ (u : Task). u.number) t.number m.progress.job.tasks t runs.task).0 in
         omega (arith, below, runs.slot, h.holds.fits.few)
 
     by : (q : Option rows.TaskRow) → slice_get (map task_row tasks.rows.items) tasks.running ≡ q → RunningRow plan q tasks.running → RowOf tasks plan m t
@@ -131,7 +131,7 @@ pub tables_started : (tasks tasks' : Tasks) (plan : Placement) (s : Session) (m 
     → TasksShow (with_task_at plan m.constants.number new.number k (peak_with s 1)) (moved s m (with_child m.progress.job new) 1) tasks'
 tables_started tasks tasks' plan s m t new k x cpu o h shows runs joins row job_is at_slot row_shows rows_are jobs_are rest =
     let P = peak_with s 1 in
-    let has_m = keyed-has number_of m.constants.number s.jobs m runs.member in
+    let has_m = (keyed_has number_of m.constants.number s.jobs m runs.member).0 in
     let of = row_of x cpu tasks plan s m t o h shows runs in
     let j = job_row_of tasks plan s m o.numbered shows has_m in
     let low : 1 ≤ m.constants.number = numbered_low 1 s.jobs m o.numbered has_m in

@@ -10,7 +10,7 @@ use Rattle.b67_word.specs.declared.faults.Fault.{Fault}
 use Rattle.b67_ctl.specs.Layout.{IsPcw, pcw_word}
 use Rattle.b67_ctl.specs.declared.registers.Regs.{Regs}
 use Rattle.b67_lemmas.specs.Lists.{Has, Falls}
-use Rattle.b67_lemmas.proofs.Members.{all_in, falls_low, has_append_left, has_map, keyed-has, keyed_has}
+use Rattle.b67_lemmas.proofs.Members.{all_in, falls_low, has_append_left, has_map, keyed_has}
 use Rattle.b67_model.specs.Answers.{Answer}
 use Rattle.b67_model.specs.Cells.{cell}
 use Rattle.b67_model.specs.Intrinsics.{is_original}
@@ -96,10 +96,10 @@ second_spot k outer f g below apart = rw (ne_eqb f.identity g.identity apart, eq
 
 module _ (x : Storage) (cpu : Cpu) (plan : Placement) (s : Session) (m : SessionJob) (t : Task) (o : IsInOrderButCounts s) (h : RepresentsSession x cpu plan s) (runs : IsRunning plan s.jobs m t) where
   pub has_m : Has s.jobs m
-  has_m = keyed-has number_of m.constants.number s.jobs m runs.member
+  has_m = (keyed_has number_of m.constants.number s.jobs m runs.member).0
 
   pub has_t : Has m.progress.job.tasks t
-  has_t = keyed-has (λ (u : Task). u.number) t.number m.progress.job.tasks t runs.task
+  has_t = (keyed_has (λ (u : Task). u.number) t.number m.progress.job.tasks t runs.task).0
 
   abbrev pub context : RunningContext cpu.core cpu.regs
   context = record { left = []; storage = x; marks = cpu.critical; plan = plan; session = s; member = m; task = t; ordered = member_in_order s m o has_m; holds = h.holds; running = runs }
