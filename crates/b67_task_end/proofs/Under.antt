@@ -16,7 +16,7 @@ use Rattle.b67_layout.specs.Placement.{Placement, slot_of}
 use Rattle.b67_layout.specs.Rows as rows
 use Rattle.b67_layout.specs.Rows.{parent_slot, Differ, TaskShows}
 use Rattle.b67_layout.proofs.Rows.{task_row}
-use Rattle.b67_task_start_stack.proofs.Counting.{not_more}
+use Rattle.b67_layout.proofs.Counting.{not_more}
 use Rattle.b67_task_tables.specs.declared.tables.TaskRow.{TaskRow}
 use Rattle.b67_task_tables.specs.declared.tables.Tasks.{Tasks}
 use Rattle.b67_task_end.specs.declared.families.Deep.{Deep}

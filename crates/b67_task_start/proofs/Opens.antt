@@ -24,7 +24,7 @@ use Rattle.b67_layout.specs.Rows.{Differ}
 use Rattle.b67_layout.specs.Session.{RowsFit, SessionHolds, RepresentsSession, vector_word}
 use Rattle.b67_layout.proofs.Rows.{task_row}
 use Rattle.b67_task_need.proofs.Counts.{jobs_differ}
-use Rattle.b67_task_start_stack.proofs.Counting.{not_more, slots_of, slots_length}
+use Rattle.b67_layout.proofs.Counting.{not_more, slots_of, slots_length}
 use Rattle.b67_task_start_stack.specs.Born.{with_peak}
 use Rattle.b67_task_start_stack.specs.Slots.{grown, raised, HasRoom}
 use Rattle.b67_task_start.specs.Opening.{IsLowestFree, peak_with, HasSlot, IsOpened}
