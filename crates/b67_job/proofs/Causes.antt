@@ -1,5 +1,7 @@
 -- The causes of a status.
-use Rattle.std.proofs.Common.{◌≡◌, ◌≢◌, ◌⊎◌, inl, inr, ℕ, List, sym, ◌∙◌, subst, arith, Option, Some, None}
+use Rattle.std.proofs.Common.{◌≡◌, ◌≢◌, ◌⊎◌, inl, inr, ℕ, false, List, sym, ap, ◌∙◌, subst, arith, Option, Some, None}
+use Rattle.std.specs.Prelude.{is_some}
+use Rattle.std.proofs.lemmas.Bool.{false≢true}
 use Rattle.std.proofs.lemmas.Option.{none-some, same_Some}
 use denote.Ref.{Bor}
 use Rattle.b67_io.specs.Told.{Took, GaveAll}
@@ -7,13 +9,15 @@ use Rattle.b67_io.specs.Causes.{Rose}
 use Rattle.b67_task_tables.specs.declared.tables.Machine.{Machine}
 use Rattle.b67_job_admit.specs.Admitting.{Prepared}
 use Rattle.b67_job.specs.Device.{Device, Failed, IsUntouched}
-use Rattle.b67_job.specs.Texts.{Text, whole_of, TookUpTo, all_taken, cut_short}
+use Rattle.b67_job.specs.Texts.{Text, whole_of, only, TookUpTo, all_taken, cut_short}
+use Rattle.b67_job.specs.Lines.{memory_text}
+use Rattle.b67_job.specs.Statuses.{StatusMeans}
 use Rattle.b67_job.specs.Runs.{RoomSuffices, WasOpened, memory_refused, opening_wants_core, opening_wants_sectors, opening_fails, all_end, halt_comes, step_wants_core, step_wants_sectors, step_fails, code_is_strange, RunStops, unopened, opened, IsPrinting}
 use Rattle.b67_job.specs.Command.{command_of}
 use Rattle.b67_job.specs.declared.command.CommandLine.{CommandLine}
 use Rattle.b67_job.specs.declared.command.CommandLine.TheVariants as lines
 use Rattle.b67_job.specs.Judgement.{Judgement, Runs, asked}
-use Rattle.b67_job.specs.Due.{IsRun, IsDue, usage_due, refusal_due, print_due, run_due, reading_due, memory_due, Answered, answered, cut_in_step, Leaves, IsAllDone, Halts, IsShortOfCore, IsShortOfSectors, IsFailedBy, IsRefused, IsSpared}
+use Rattle.b67_job.specs.Due.{usage_text, reading_text, IsRun, IsDue, usage_due, refusal_due, print_due, run_due, reading_due, memory_due, Answered, answered, cut_in_step, Leaves, IsAllDone, Halts, IsShortOfCore, IsShortOfSectors, IsFailedBy, IsRefused, IsSpared}
 use Rattle.b67_job.proofs.Status.{is_finished, is_halted}
 
 -- ---- runs
@@ -92,8 +96,8 @@ module _ {B : Type 0} (d : Device B) (core : ℕ) (p : Prepared) (machine : Opti
   run_refuses run e (opened k is opens none (step_fails s failed h)) = absurd (omega (arith, e, s))
   run_refuses run e (opened k is opens none (code_is_strange s h)) = inr (core, p, run, (k, is, none, h))
 
-  run_is_9 : status ≡ 9 → RunStops d core p machine status text → (machine ≡ None) × IsUntouched d
-  run_is_9 e (unopened none (memory_refused same s t)) = (none, same)
+  run_is_9 : status ≡ 9 → RunStops d core p machine status text → (machine ≡ None) × IsUntouched d × (text ≡ only memory_text)
+  run_is_9 e (unopened none (memory_refused same s t)) = (none, same, t)
   run_is_9 e (unopened none (opening_wants_core same more s t)) = absurd (omega (arith, e, s))
   run_is_9 e (unopened none (opening_wants_sectors same fits more s t)) = absurd (omega (arith, e, s))
   run_is_9 e (unopened none (opening_fails room failed s t)) = absurd (omega (arith, e, s))
@@ -127,6 +131,18 @@ module _ {B : Type 0} (d : Device B) (core : ℕ) (p : Prepared) (machine : Opti
   run_not_7 e (opened k is opens none (step_wants_sectors s h)) = absurd (omega (arith, e, s))
   run_not_7 e (opened k is opens none (step_fails s failed h)) = absurd (omega (arith, e, s))
   run_not_7 e (opened k is opens none (code_is_strange s h)) = absurd (omega (arith, e, s))
+
+  run_not_1 : status ≡ 1 → RunStops d core p machine status text → ⊥
+  run_not_1 e (unopened none (memory_refused same s t)) = absurd (omega (arith, e, s))
+  run_not_1 e (unopened none (opening_wants_core same more s t)) = absurd (omega (arith, e, s))
+  run_not_1 e (unopened none (opening_wants_sectors same fits more s t)) = absurd (omega (arith, e, s))
+  run_not_1 e (unopened none (opening_fails room failed s t)) = absurd (omega (arith, e, s))
+  run_not_1 e (opened k is opens none (all_end s h)) = absurd (omega (arith, e, s))
+  run_not_1 e (opened k is opens none (halt_comes s h)) = absurd (omega (arith, e, s))
+  run_not_1 e (opened k is opens none (step_wants_core s h)) = absurd (omega (arith, e, s))
+  run_not_1 e (opened k is opens none (step_wants_sectors s h)) = absurd (omega (arith, e, s))
+  run_not_1 e (opened k is opens none (step_fails s failed h)) = absurd (omega (arith, e, s))
+  run_not_1 e (opened k is opens none (code_is_strange s h)) = absurd (omega (arith, e, s))
 
   -- without a machine
   run_spares : {S : Type 0} {words : List (Bor (List ℕ))} {left : S → Option (List ℕ)} {deck deck' : S} → IsRun words left deck deck' core p → machine ≡ None → RunStops d core p machine status text
@@ -194,21 +210,38 @@ module _ {S B : Type 0} {words : List (Bor (List ℕ))} {left : S → Option (Li
   due_fails e (reading_due c r same m s t) = absurd (omega (arith, e, s))
   due_fails e (memory_due c same m s t) = absurd (omega (arith, e, s))
 
-  due_9 : {n : ℕ} {text : Text} → n ≡ 9 → IsDue words left source_faults deck deck' d machine n text → (machine ≡ None) × IsUntouched d
+  due_9 : {n : ℕ} {text : Text} → n ≡ 9 → IsDue words left source_faults deck deck' d machine n text → (machine ≡ None) × IsUntouched d × (text ≡ only memory_text)
   due_9 e (usage_due c g same m s t) = absurd (omega (arith, e, s))
   due_9 e (refusal_due command b r c w same j m s t) = absurd (omega (arith, e, s))
   due_9 e (print_due command b printed c r same j m s t) = absurd (omega (arith, e, s))
   due_9 {n = n} {text = text} e (run_due core p run stops) = run_is_9 d core p machine n text e stops
   due_9 e (reading_due c r same m s t) = absurd (omega (arith, e, s))
-  due_9 e (memory_due c same m s t) = (m, same)
+  due_9 e (memory_due c same m s t) = (m, same, t)
 
-  due_7 : {n : ℕ} {text : Text} → n ≡ 7 → IsDue words left source_faults deck deck' d machine n text → (machine ≡ None) × IsUntouched d × Rose source_faults deck deck'
+  due_7 : {n : ℕ} {text : Text} → n ≡ 7 → IsDue words left source_faults deck deck' d machine n text → Rose source_faults deck deck' × (text ≡ only reading_text)
   due_7 e (usage_due c g same m s t) = absurd (omega (arith, e, s))
   due_7 e (refusal_due command b r c w same j m s t) = absurd (omega (arith, e, s))
   due_7 e (print_due command b printed c r same j m s t) = absurd (omega (arith, e, s))
   due_7 {n = n} {text = text} e (run_due core p run stops) = absurd (run_not_7 d core p machine n text e stops)
-  due_7 e (reading_due c r same m s t) = (m, same, r)
+  due_7 e (reading_due c r same m s t) = (r, t)
   due_7 e (memory_due c same m s t) = absurd (omega (arith, e, s))
+
+  due_1 : {n : ℕ} {text : Text} → n ≡ 1 → IsDue words left source_faults deck deck' d machine n text → (is_some (command_of words) ≡ false) × (deck' ≡ deck) × (text ≡ only usage_text)
+  due_1 e (usage_due c g same m s t) = (c, g, t)
+  due_1 e (refusal_due command b r c w same j m s t) = absurd (omega (arith, e, s))
+  due_1 e (print_due command b printed c r same j m s t) = absurd (omega (arith, e, s))
+  due_1 {n = n} {text = text} e (run_due core p run stops) = absurd (run_not_1 d core p machine n text e stops)
+  due_1 e (reading_due c r same m s t) = absurd (omega (arith, e, s))
+  due_1 e (memory_due c same m s t) = absurd (omega (arith, e, s))
+
+  -- words that are no command are due the usage line alone
+  due_unknown : {n : ℕ} {text : Text} → is_some (command_of words) ≡ false → IsDue words left source_faults deck deck' d machine n text → n ≡ 1
+  due_unknown none (usage_due c g same m s t) = s
+  due_unknown none (refusal_due command b r c w same j m s t) = absurd (false≢true (sym none ∙ ap is_some c))
+  due_unknown none (print_due command b printed c r same j m s t) = absurd (false≢true (sym none ∙ ap is_some c))
+  due_unknown none (run_due core p run stops) = absurd (false≢true (sym none ∙ ap is_some run.command))
+  due_unknown none (reading_due c r same m s t) = absurd (false≢true (sym none ∙ c))
+  due_unknown none (memory_due c same m s t) = absurd (false≢true (sym none ∙ c))
 
   due_not_8 : {n : ℕ} {text : Text} → IsDue words left source_faults deck deck' d machine n text → n ≢ 8
   due_not_8 (usage_due c g same m s t) e = absurd (omega (arith, e, s))
@@ -243,41 +276,41 @@ module _ {S B : Type 0} {words : List (Bor (List ℕ))} {left : S → Option (Li
         by_end (answered status text due (cut_short count a rose part)) = absurd (other a)
         by_end (cut_in_step core p text count run printing a rose part) = absurd (other a)
 
-    pub is_refused : answer ≡ 2 → (text : Text) × IsRefused words left deck deck' d machine text × Took taken old new (whole_of text)
+    is_refused : answer ≡ 2 → (text : Text) × IsRefused words left deck deck' d machine text × Took taken old new (whole_of text)
     is_refused e = let u = due_at (λ z. omega (arith, e, z)) in (u.0, due_refused e u.1, u.2)
 
-    pub is_done : answer ≡ 0 → (command : CommandLine) × (bytes : List ℕ) × (text : Text) × (command_of words ≡ Some command) × GaveAll left deck deck' bytes
+    is_done : answer ≡ 0 → (command : CommandLine) × (bytes : List ℕ) × (text : Text) × (command_of words ≡ Some command) × GaveAll left deck deck' bytes
         × IsAllDone d (asked command bytes) machine text × Took taken old new (whole_of text)
     is_done e =
         let u = due_at (λ z. omega (arith, e, z)) in
         let v = due_done e u.1 in
         (v.0, v.1, u.0, v.2, v.3, v.4, u.2)
 
-    pub is_halt : answer ≡ 3 → (core : ℕ) × (p : Prepared) × (text : Text) × IsRun words left deck deck' core p × Halts d p machine text × Took taken old new (whole_of text)
+    is_halt : answer ≡ 3 → (core : ℕ) × (p : Prepared) × (text : Text) × IsRun words left deck deck' core p × Halts d p machine text × Took taken old new (whole_of text)
     is_halt e =
         let u = due_at (λ z. omega (arith, e, z)) in
         let v = due_halts e u.1 in
         (v.0, v.1, u.0, v.2, v.3, u.2)
 
-    pub is_core : answer ≡ 4 → (core : ℕ) × (p : Prepared) × (text : Text) × IsRun words left deck deck' core p × IsShortOfCore d core p machine text × Took taken old new (whole_of text)
+    is_core : answer ≡ 4 → (core : ℕ) × (p : Prepared) × (text : Text) × IsRun words left deck deck' core p × IsShortOfCore d core p machine text × Took taken old new (whole_of text)
     is_core e =
         let u = due_at (λ z. omega (arith, e, z)) in
         let v = due_core e u.1 in
         (v.0, v.1, u.0, v.2, v.3, u.2)
 
-    pub is_sectors : answer ≡ 5 → (core : ℕ) × (p : Prepared) × (text : Text) × IsRun words left deck deck' core p × IsShortOfSectors d core p machine text × Took taken old new (whole_of text)
+    is_sectors : answer ≡ 5 → (core : ℕ) × (p : Prepared) × (text : Text) × IsRun words left deck deck' core p × IsShortOfSectors d core p machine text × Took taken old new (whole_of text)
     is_sectors e =
         let u = due_at (λ z. omega (arith, e, z)) in
         let v = due_sectors e u.1 in
         (v.0, v.1, u.0, v.2, v.3, u.2)
 
-    pub is_fault : answer ≡ 6 → Failed d × ((core : ℕ) × (p : Prepared) × (text : Text) × IsRun words left deck deck' core p × IsFailedBy d core p machine text × Took taken old new (whole_of text))
+    is_fault : answer ≡ 6 → Failed d × ((core : ℕ) × (p : Prepared) × (text : Text) × IsRun words left deck deck' core p × IsFailedBy d core p machine text × Took taken old new (whole_of text))
     is_fault e =
         let u = due_at (λ z. omega (arith, e, z)) in
         let v = due_fails e u.1 in
         (v.3, (v.0, v.1, u.0, v.2, v.4, u.2))
 
-    pub is_cut : answer ≡ 8 → Rose faults old new × ((text : Text) × (count : ℕ) × (((status : ℕ) × IsDue words left source_faults deck deck' d machine status text)
+    is_cut : answer ≡ 8 → Rose faults old new × ((text : Text) × (count : ℕ) × (((status : ℕ) × IsDue words left source_faults deck deck' d machine status text)
         ⊎ ((core : ℕ) × (p : Prepared) × IsRun words left deck deck' core p × IsPrinting d core p machine text count)) × TookUpTo taken old new text count)
     is_cut e = by_end h
       where
@@ -287,8 +320,47 @@ module _ {S B : Type 0} {words : List (Bor (List ℕ))} {left : S → Option (Li
         by_end (answered status text due (cut_short count a rose part)) = (rose, (text, count, inl (status, due), part))
         by_end (cut_in_step core p text count run printing a rose part) = (rose, (text, count, inr (core, p, run, printing), part))
 
-    pub is_memory : answer ≡ 9 → (machine ≡ None) × IsUntouched d
-    is_memory e = due_9 e (due_at (λ z. omega (arith, e, z))).1
+    is_memory : answer ≡ 9 → (machine ≡ None) × IsUntouched d × Took taken old new memory_text
+    is_memory e =
+        let u = due_at (λ z. omega (arith, e, z)) in
+        let v = due_9 e u.1 in
+        (v.0, v.1, subst (λ (x : Text). Took taken old new (whole_of x)) v.2 u.2)
+
+    is_reading : answer ≡ 7 → Rose source_faults deck deck' × Took taken old new reading_text
+    is_reading e =
+        let u = due_at (λ z. omega (arith, e, z)) in
+        let v = due_7 e u.1 in
+        (v.0, subst (λ (x : Text). Took taken old new (whole_of x)) v.1 u.2)
+
+    is_usage : answer ≡ 1 → (is_some (command_of words) ≡ false) × (deck' ≡ deck) × Took taken old new usage_text
+    is_usage e =
+        let u = due_at (λ z. omega (arith, e, z)) in
+        let v = due_1 e u.1 in
+        (v.0, v.1, subst (λ (x : Text). Took taken old new (whole_of x)) v.2 u.2)
+
+    is_unknown : is_some (command_of words) ≡ false → (answer ≡ 1) ⊎ (answer ≡ 8)
+    is_unknown none = by_end h
+      where
+        by_end : Answered words left source_faults deck deck' d machine taken faults old new answer → (answer ≡ 1) ⊎ (answer ≡ 8)
+        by_end (answered status text due (all_taken a took)) = inl (a ∙ due_unknown none due)
+        by_end (answered status text due (cut_short count a rose part)) = inr a
+        by_end (cut_in_step core p text count run printing a rose part) = inr a
+
+    -- a sentence for each status
+    pub means : StatusMeans words left source_faults deck deck' d machine taken faults old new answer
+    means = record {
+      usage = is_usage;
+      no_command = is_unknown;
+      refused = is_refused;
+      done = is_done;
+      halted = is_halt;
+      core_wanted = is_core;
+      sectors_wanted = is_sectors;
+      backing_fault = is_fault;
+      reading_fault = is_reading;
+      printing_fault = is_cut;
+      memory = is_memory;
+    }
 
     pub is_spared : machine ≡ None → IsSpared words left deck deck' d
     is_spared none = by_end h

@@ -9,3 +9,4 @@ pub mod Command
 pub mod Seen
 pub mod Judgement
 pub mod Due
+pub mod Statuses

@@ -1,8 +1,7 @@
 //! The top call.
 
-ghost use Rattle.std.specs.Prelude.{◌≡◌, ◌⊎◌, ◌≤◌, ◌<◌, ◌^◌, ℕ, List, length, map, false, is_some, Some, None};
-ghost use Rattle.b67_io.specs.Told.{Took, GaveAll};
-ghost use Rattle.b67_io.specs.Causes.{Rose, Stayed};
+ghost use Rattle.std.specs.Prelude.{◌≡◌, ◌⊎◌, ◌≤◌, ◌<◌, ◌^◌, ℕ, List, length, Some, None};
+ghost use Rattle.b67_io.specs.Causes.{Stayed};
 ghost use Rattle.b67_task_tables.specs.declared.tables.Machine.{Machine};
 ghost use Rattle.b67_layout_storage.specs.Machine.{DeviceAfterCalls};
 ghost use Rattle.b67_job_admit.specs.Told.{refusal_text};
@@ -13,12 +12,12 @@ ghost use Rattle.b67_session_open.specs.Decks.{DeckInRange};
 ghost use Rattle.b67_session_lines.specs.Ends.{Ends};
 ghost use Rattle.b67_job.specs.Device.{device_of};
 ghost use Rattle.b67_job.specs.Lines.{memory_text};
-ghost use Rattle.b67_job.specs.Texts.{Text, whole_of, TookUpTo};
-ghost use Rattle.b67_job.specs.Runs.{IsPrinting, WasOpened};
+ghost use Rattle.b67_job.specs.Runs.{WasOpened};
+ghost use Rattle.b67_job.specs.Statuses.{StatusMeans};
 ghost use Rattle.b67_job.specs.Command.{command_of};
 ghost use Rattle.b67_job.specs.declared.command.CommandLine.{CommandLine};
 ghost use Rattle.b67_job.specs.Judgement.{deck_judgement, asked, judged_status};
-ghost use Rattle.b67_job.specs.Due.{Answered, Serves, RefusalEnds, TextEnds, Writes, DeckEnds, IsDue, IsRun, IsAllDone, Halts, IsShortOfCore, IsShortOfSectors, IsFailedBy, IsRefused, IsSpared, IsAmple, usage_text, reading_text};
+ghost use Rattle.b67_job.specs.Due.{Answered, Serves, RefusalEnds, TextEnds, Writes, DeckEnds, IsRun, IsSpared, IsAmple, reading_text};
 
 use crate::command::{CommandLine, command_of};
 use crate::lines::{refusal_line, say_text};
@@ -205,52 +204,9 @@ pub fn run<S: Source, K: Sink, B: Backing>(
     // Without a machine the backing is as it was, or core and sectors sufficed and it failed as the session was opened.
     ensures spared { result.machine ≡ None → IsSpared words.now S.left deck.old deck.new (device_of B.holds B.size B.faults backing.old backing.new) }
 
-    // No words of a command: nothing is read, and the usage line is printed.
-    ensures usage { result.status ≡ 1 → (is_some (command_of words.now) ≡ false) × (deck.new ≡ deck.old)
-        × Took K.taken printer.old printer.new usage_text }
-    ensures no_command { is_some (command_of words.now) ≡ false → (result.status ≡ 1) ⊎ (result.status ≡ 8) }
-
-    // A text that was read, up to the first byte past its limit, is refused by the command: the line of its first refusal is
-    // printed. Or a backing that tells nothing gave back code that calls what isn't built.
-    ensures refused { result.status ≡ 2 → (text : Text) × IsRefused words.now S.left deck.old deck.new (device_of B.holds B.size B.faults backing.old backing.new) result.machine text
-        × Took K.taken printer.old printer.new (whole_of text) }
-
-    // The deck was read to its end, and the command's work is done: the whole text of its run is printed, at the halt at the
-    // latest, and the machine represents a session without tasks; or the text that it is to print.
-    ensures done { result.status ≡ 0 → (command : CommandLine) × (bytes : List ℕ) × (text : Text)
-        × (command_of words.now ≡ Some command) × GaveAll S.left deck.old deck.new bytes
-        × IsAllDone (device_of B.holds B.size B.faults backing.old backing.new) (asked command bytes) result.machine text
-        × Took K.taken printer.old printer.new (whole_of text) }
-
-    // The run halted: the machine represents a session with a task at the count of its halt, and the text up to there is
-    // printed, with the line of the halt after it.
-    ensures halted { result.status ≡ 3 → (core : ℕ) × (p : Prepared) × (text : Text) × IsRun words.now S.left deck.old deck.new core p
-        × Halts (device_of B.holds B.size B.faults backing.old backing.new) p result.machine text × Took K.taken printer.old printer.new (whole_of text) }
-
-    // Core is too small for the session that opens or for a step, or the device has too few sectors for it. The machine is
-    // before that step, which lacks its segment or its array where sectors are wanted, or makes an array longer.
-    ensures core_wanted { result.status ≡ 4 → (core : ℕ) × (p : Prepared) × (text : Text) × IsRun words.now S.left deck.old deck.new core p
-        × IsShortOfCore (device_of B.holds B.size B.faults backing.old backing.new) core p result.machine text × Took K.taken printer.old printer.new (whole_of text) }
-    ensures sectors_wanted { result.status ≡ 5 → (core : ℕ) × (p : Prepared) × (text : Text) × IsRun words.now S.left deck.old deck.new core p
-        × IsShortOfSectors (device_of B.holds B.size B.faults backing.old backing.new) core p result.machine text × Took K.taken printer.old printer.new (whole_of text) }
-
-    // A device failed. At a step the machine is before it, and lacks its segment or its array, or the step makes one longer.
-    ensures backing_fault { result.status ≡ 6 → Rose B.faults backing.old backing.new
-        × ((core : ℕ) × (p : Prepared) × (text : Text) × IsRun words.now S.left deck.old deck.new core p
-        × IsFailedBy (device_of B.holds B.size B.faults backing.old backing.new) core p result.machine text × Took K.taken printer.old printer.new (whole_of text)) }
-    ensures reading_fault { result.status ≡ 7 → Rose S.faults deck.old deck.new
-        × Took K.taken printer.old printer.new reading_text }
-
-    // The printer failed. It has taken all lines of the steps, and a part of what is due after them: of the last line; or,
-    // as the machine counts, of the first part of the next step, or of the line of LIMIT of the last one.
-    ensures printing_fault { result.status ≡ 8 → Rose K.faults printer.old printer.new × ((text : Text) × (count : ℕ)
-        × (((status : ℕ) × IsDue words.now S.left S.faults deck.old deck.new (device_of B.holds B.size B.faults backing.old backing.new) result.machine status text)
-        ⊎ ((core : ℕ) × (p : Prepared) × IsRun words.now S.left deck.old deck.new core p
-        × IsPrinting (device_of B.holds B.size B.faults backing.old backing.new) core p result.machine text count))
-        × TookUpTo K.taken printer.old printer.new text count) }
-
-    // Memory was refused, and no session is open; the backing is as it was.
-    ensures memory { result.status ≡ 9 → (result.machine ≡ None) × (backing.new ≡ backing.old) × Took K.taken printer.old printer.new memory_text }
+    // What the status says: a sentence for each.
+    ensures status { StatusMeans words.now S.left S.faults deck.old deck.new (device_of B.holds B.size B.faults backing.old backing.new)
+        result.machine K.taken K.faults printer.old printer.new result.status }
 
     // The machine is that of a session that was opened: its states are in order and fit core, and a slice of more steps may be
     // asked of it.
