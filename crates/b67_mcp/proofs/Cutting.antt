@@ -1,8 +1,7 @@
 -- A call whose array was changed first: its machine stands for the session with that array, and then for what its row makes.
-use Rattle.std.proofs.Common.{◌≡◌, ℕ, zero, suc, ◌^◌, ◌<◌, ◌-◌, List, [], ◌∷◌, ◌++◌, length, take, replicate, Option, refl, sym, ap, arith, subst}
+use Rattle.std.proofs.Common.{◌≡◌, ℕ, zero, suc, ◌^◌, ◌<◌, ◌-◌, List, [], ◌∷◌, ◌++◌, length, take, replicate, Option, refl, subst}
 use Rattle.std.specs.List.{AllByRecursion}
 use Rattle.b67_word.specs.declared.couples.Place.{Place}
-use Rattle.b67_word.specs.Tagged.{Tagged}
 use Rattle.b67_model.specs.State.{Array, Task, SessionJob, with_task}
 use Rattle.b67_model.specs.Arrays.{with_array, all_zero, resized}
 use Rattle.b67_model.specs.Intrinsics.{answered}

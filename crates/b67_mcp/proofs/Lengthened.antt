@@ -1,5 +1,5 @@
 -- The machine with an array emptied or of another length, and the stops of a RESIZE to a greater one.
-use Rattle.std.proofs.Common.{◌≡◌, ◌≢◌, ℕ, ◌+◌, ◌-◌, ◌^◌, ◌<◌, ◌≤◌, ◌⊎◌, List, ◌++◌, flat_map, length, take, replicate, Option, Some, None, Ok, Err, refl, sym, ◌∙◌, ap, arith, Bool, true, subst, inl, inr, ⊎_elim}
+use Rattle.std.proofs.Common.{◌≡◌, ◌≢◌, ℕ, ◌+◌, ◌-◌, ◌^◌, ◌<◌, ◌≤◌, List, ◌++◌, flat_map, length, take, replicate, Option, Some, None, Ok, Err, refl, sym, ◌∙◌, ap, arith, Bool, true, subst, inl, inr, ⊎_elim}
 use Rattle.std.specs.Prelude.{if◌then◌else◌}
 use Rattle.std.proofs.lemmas.List.{length-replicate}
 use Rattle.b67_area.specs.declared.Areas.{Areas}
@@ -11,7 +11,6 @@ use Rattle.b67_backing.specs.declared.refusals.SpaceFault.TheVariants as space
 use Rattle.b67_lemmas.specs.Lists.{Has}
 use Rattle.b67_lemmas.proofs.Keyed.{change_same}
 use Rattle.b67_lemmas.proofs.Members.{keyed_has}
-use Rattle.b67_model.specs.Keyed.{keyed}
 use Rattle.b67_model.specs.State.{Array, Task, Job, SessionJob}
 use Rattle.b67_model.specs.Arrays.{with_array, all_zero, resized}
 use Rattle.b67_model.specs.Run.{number_of}
@@ -32,13 +31,13 @@ use Rattle.b67_presence.proofs.FullDevice.{short_full, within}
 use Rattle.b67_task_tables.specs.declared.tables.Machine.{Machine}
 use Rattle.b67_task_tables.specs.Tables.{MachineRepresents}
 use Rattle.b67_task_need.specs.Needing.{StandsInOrder}
-use Rattle.b67_mcp_lengths.specs.Lengths.{IsArray, zeroed, cut_to, grown_to, emptied, shorter, OthersStay, LengthenMeets, IsLackingFor}
+use Rattle.b67_mcp_lengths.specs.Lengths.{IsArray, zeroed, cut_to, grown_to, emptied, shorter, OthersStay, LengthenMeets}
 use Rattle.b67_mcp.specs.declared.ends.Stop.{Stop}
 use Rattle.b67_mcp.specs.declared.ends.Stop.TheVariants as stops
 use Rattle.b67_mcp.specs.Running.{Kept}
-use Rattle.b67_mcp.specs.Resizing.{session_resized, SumsTo, StopsAt, IsLeft, IsUnset, LengthSet}
+use Rattle.b67_mcp.specs.Resizing.{session_resized, SumsTo, StopsAt, LengthSet}
 use Rattle.b67_mcp.proofs.Told.{told_is}
-use Rattle.b67_mcp.proofs.Renumbered.{seen, found, takes, stands_renumbered, stands_moved}
+use Rattle.b67_mcp.proofs.Renumbered.{found, takes, stands_renumbered, stands_moved}
 use Rattle.b67_mcp.proofs.SectorSums.{resized_cut, resized_grown, resized_same, length_resized, session_sectors}
 
 pub zeros_renumber : Renumbers all_zero

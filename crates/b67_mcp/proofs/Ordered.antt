@@ -1,13 +1,11 @@
 -- A session of which an array has other numbers is in order but for its counts.
-use Rattle.std.proofs.Common.{◌≡◌, ℕ, List, map, length, Some, refl, sym, ◌∙◌, arith, inl, subst}
-use Rattle.std.specs.List.{AllByRecursion}
+use Rattle.std.proofs.Common.{◌≡◌, ℕ, List, length, Some, refl, sym, ◌∙◌, arith, inl, subst}
 use Rattle.b67_lemmas.specs.Lists.{Has, Falls}
 use Rattle.b67_lemmas.proofs.Members.{all_in, all_from, keyed_has, length_change, total_change}
 use Rattle.b67_lemmas.proofs.Keyed.{change_is, all_change}
 use Rattle.b67_lemmas.proofs.Sums.{sum_total}
 use Rattle.b67_model.specs.Keyed.{keyed, change_keyed}
-use Rattle.b67_model.specs.Words.{Word}
-use Rattle.b67_model.specs.State.{Array, Task, SessionJob}
+use Rattle.b67_model.specs.State.{Array, SessionJob}
 use Rattle.b67_model.specs.Arrays.{with_array}
 use Rattle.b67_model.specs.Run.{number_of}
 use Rattle.b67_model.specs.Schedule.{Session}

@@ -1,5 +1,5 @@
 -- The array whose whole copy is an argument, and what DEALLOCATE and RESIZE make of it.
-use Rattle.std.proofs.Common.{◌≡◌, ◌≢◌, ℕ, suc, ◌<◌, ◌≤◌, ◌^◌, List, [], ◌∷◌, reverse, length, Option, Some, None, Result, Ok, Err, refl, sym, ◌∙◌, ap, arith, true, false, not, subst}
+use Rattle.std.proofs.Common.{◌≡◌, ◌≢◌, ℕ, suc, ◌<◌, ◌≤◌, ◌^◌, List, [], ◌∷◌, reverse, length, Some, Ok, Err, refl, sym, ◌∙◌, ap, arith, true, false, subst}
 use Rattle.std.specs.List.{AllByRecursion}
 use Rattle.std.proofs.lemmas.Bool.{le-leb, not-false, not-true}
 use Rattle.std.proofs.lemmas.Option.{none-some}
@@ -23,18 +23,18 @@ use Rattle.b67_stack.specs.Represents.{Storage}
 use Rattle.b67_layout.specs.Orders.{IsInOrderButCounts}
 use Rattle.b67_layout.specs.Placement.{Placement}
 use Rattle.b67_layout.specs.Session.{IsRunning, RepresentsSession}
-use Rattle.b67_layout.specs.Meets.{here, area_held}
+use Rattle.b67_layout.specs.Meets.{here}
 use Rattle.b67_exec_cells.specs.Elements.{HasElement, original_desc}
-use Rattle.b67_exec_cells.specs.Tops.{cells, GivesTop, GivesTwo}
+use Rattle.b67_exec_cells.specs.Tops.{cells, GivesTwo}
 use Rattle.b67_exec_cells.proofs.Arrays.{array_is, absent, present}
 use Rattle.b67_exec_operands.proofs.Rows.{operand_seen}
 use Rattle.b67_fetch.specs.Fetches.{IsFollowed}
 use Rattle.b67_fetch.specs.Indexes.{FindsArray}
-use Rattle.b67_fetch.proofs.Values.{TopFollowed, top_followed}
-use Rattle.b67_fetch.proofs.Items.{TwoFollowed, two_followed}
+use Rattle.b67_fetch.proofs.Values.{TopFollowed}
+use Rattle.b67_fetch.proofs.Items.{TwoFollowed}
 use Rattle.b67_mcp_calls.specs.Calls.{IsCall}
 use Rattle.b67_mcp_calls.specs.Declaring.{length_in}
-use Rattle.b67_mcp_calls.specs.Lengthening.{IsWritable, Empties, EmptyMeets, Resizes, ResizeMeets}
+use Rattle.b67_mcp_calls.specs.Lengthening.{EmptyMeets, Resizes, ResizeMeets}
 use Rattle.b67_mcp_calls.specs.declared.resize.Resizing.TheVariants as resizing
 use Rattle.b67_mcp_calls.proofs.Prints.{one}
 use Rattle.b67_mcp_calls.proofs.Founds.{lower}

@@ -1,9 +1,9 @@
 -- Calls of DEALLOCATE and RESIZE: the array that is emptied, or that gets another length.
-use Rattle.std.specs.Prelude.{◌≡◌, ◌≢◌, ℕ, ◌<◌, ◌^◌, true, List, [], ◌∷◌, length, Some, None, Result, Ok, Err}
+use Rattle.std.specs.Prelude.{◌≡◌, ◌≢◌, ℕ, ◌<◌, ◌^◌, true, List, [], length, Some, None, Result, Ok, Err}
 use Rattle.b67_word.specs.declared.couples.Place.{Place}
 use Rattle.b67_word.specs.declared.faults.Fault.{Fault}
 use Rattle.b67_lemmas.specs.Lists.{Has}
-use Rattle.b67_model.specs.Words.{Word, Row}
+use Rattle.b67_model.specs.Words.{Word}
 use Rattle.b67_model.specs.State.{Array, Task, Job, SessionJob, with_task}
 use Rattle.b67_model.specs.Arrays.{with_array, all_zero, resized}
 use Rattle.b67_model.specs.Steps.{Goes}

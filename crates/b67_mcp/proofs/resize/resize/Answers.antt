@@ -1,4 +1,4 @@
-use Rattle.std.proofs.Common.{◌≡◌, ℕ, ◌<◌, ◌≤◌, List, length, Some, None, Ok, Err, refl, sym, ◌∙◌, ap, arith, subst, inr, ⊎_elim}
+use Rattle.std.proofs.Common.{◌<◌, List, length, Some, None, Ok, refl, ◌∙◌, ap, arith, subst, inr, ⊎_elim}
 use Rattle.std.proofs.lemmas.Bool.{cases_lt}
 use Rattle.b67_word.specs.Tagged.{Tagged}
 use Rattle.b67_word.specs.declared.couples.Place.{Place}
@@ -25,7 +25,7 @@ use Rattle.b67_mcp.proofs.Cutting.{resized_fit, order_changed, runs_changed, may
 use Rattle.b67_mcp.proofs.Present.{faults_untouched}
 use Rattle.b67_mcp.proofs.Renumbered.{stands_silent}
 use Rattle.b67_mcp.proofs.Lengthened.{resized_renumbers}
-use Rattle.b67_mcp.proofs.Resizes.{makes, touches, touches_stopped, refused, writes_done, writes_stopped}
+use Rattle.b67_mcp.proofs.Resizes.{touches, touches_stopped, refused, writes_done, writes_stopped}
 use Rattle.b67_mcp.proofs.resize.resize.Goals as goal
 
 pub array_to_resize-requires : goal.array_to_resize-requires

@@ -1,4 +1,4 @@
-use Rattle.std.proofs.Common.{◌≡◌, ◌+◌, ◌-◌, length, refl, sym, arith, subst}
+use Rattle.std.proofs.Common.{◌+◌, ◌-◌, refl, sym, arith, subst}
 use Rattle.b67_backing.specs.declared.refusals.SpaceFault.{SpaceFault}
 use Rattle.b67_mcp.specs.declared.ends.Stop.TheVariants.{BackingFull}
 use Rattle.b67_mcp.specs.Resizing.{StopsAt}

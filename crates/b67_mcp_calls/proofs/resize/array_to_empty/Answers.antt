@@ -1,4 +1,4 @@
-use Rattle.std.proofs.Common.{ℕ, Result, Ok, Err, sym, ◌∙◌, subst}
+use Rattle.std.proofs.Common.{Err, sym, ◌∙◌, subst}
 use Rattle.b67_word.specs.declared.faults.Fault.{Fault}
 use Rattle.b67_layout.proofs.Fresh.{running_in_order}
 use Rattle.b67_fetch.proofs.Values.{top_followed}
