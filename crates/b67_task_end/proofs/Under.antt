@@ -1,9 +1,9 @@
 -- The tasks of a job that are under a head, sorted, are the model's.
-use Rattle.std.proofs.Common.{◌≡◌, ◌≢◌, ℕ, zero, suc, ◌+◌, ◌-◌, ◌<◌, ◌≤◌, List, [], ◌∷◌, ◌++◌, map, length, take, drop, reverse, Option, Some, None, refl, sym, ◌∙◌, ap, arith, inl, inr, ◌⊎◌, ⊎_elim, subst, Bool, true, false, ◌==◌}
+use Rattle.std.proofs.Common.{◌≡◌, ◌≢◌, ℕ, zero, suc, ◌+◌, ◌-◌, ◌<◌, ◌≤◌, List, [], ◌∷◌, ◌++◌, map, length, take, drop, reverse, Some, refl, sym, ◌∙◌, ap, arith, inl, inr, ⊎_elim, subst, Bool, true, ◌==◌}
 use Rattle.std.specs.Prelude.{filter}
 use Rattle.std.specs.List.{slice_get}
 use Rattle.std.proofs.lemmas.Bool.{cases_eq, cases_lt, eq-eqb, eqb-true}
-use Rattle.std.proofs.lemmas.List.{map-append, length-map, length-append, take-append-drop}
+use Rattle.std.proofs.lemmas.List.{map-append, length-map, take-append-drop}
 use Rattle.std.proofs.lemmas.Option.{same_Some, none-some}
 use Rattle.std.proofs.lemmas.Simd.{map-map}
 use Rattle.b67_lemmas.specs.Lists.{Has, Falls}
@@ -11,7 +11,7 @@ use Rattle.b67_lemmas.proofs.Members.{any_has, any_some, falls_low, falls_same, 
 use Rattle.b67_model.specs.State.{Task, SessionJob}
 use Rattle.b67_model.specs.Endings.{among, at_depth, deepest_below}
 use Rattle.b67_model.specs.Schedule.{Session}
-use Rattle.b67_model.specs.InOrder.{IsSegment, TasksInOrder}
+use Rattle.b67_model.specs.InOrder.{IsSegment}
 use Rattle.b67_layout.specs.Placement.{Placement, slot_of}
 use Rattle.b67_layout.specs.Rows as rows
 use Rattle.b67_layout.specs.Rows.{parent_slot, Differ, TaskShows}
@@ -173,7 +173,7 @@ module _ (plan : Placement) (s : Session) (tasks : Tasks) (h : TablesHold plan s
   }
 
   -- a slot tells the task
-  one_task : (t u : Task) → Has m.progress.job.tasks t → Has m.progress.job.tasks u → t.number ≡ u.number → t ≡ u
+  pub one_task : (t u : Task) → Has m.progress.job.tasks t → Has m.progress.job.tasks u → t.number ≡ u.number → t ≡ u
   one_task t u it iu e = falls_same number m.progress.job.next_task m.progress.job.tasks t u (order plan s tasks h m in_m).numbers it iu e
 
   slot_tells : (t u : Task) → Has m.progress.job.tasks t → Has m.progress.job.tasks u → slot_of plan m.constants.number t.number ≡ slot_of plan m.constants.number u.number → t ≡ u
@@ -248,12 +248,12 @@ module _ (plan : Placement) (s : Session) (tasks : Tasks) (h : TablesHold plan s
     under_none = record { sorted = tt; each = λ d i. absurd i; all = λ i t d low. absurd (omega (arith, low)) }
 
     pub under_skip : (upto : ℕ) (list : List Deep) → AreUnder plan s m head tasks.rows.items upto list → ((t : Task) (d : ℕ) → IsRowOf plan s tasks.rows.items upto m t → IsUnder plan m.constants.number head t.parents d → ⊥) → AreUnder plan s m head tasks.rows.items (upto + 1) list
-    under_skip upto list u no = record {
+    under_skip upto list u never = record {
       sorted = u.sorted;
       each = λ d i. (let (k, t, low, row, n, under) = u.each d i in (k, t, omega (arith, low), row, n, under));
       all = λ i t d low row under. elim (cases_lt i upto) [
         | inl less ↦ u.all i t d less row under
-        | inr more ↦ absurd (no t d (subst (λ (k : ℕ). IsRowOf plan s tasks.rows.items k m t) (let e : i ≡ upto = omega (arith, more, low) in e) row) under)
+        | inr more ↦ absurd (never t d (subst (λ (k : ℕ). IsRowOf plan s tasks.rows.items k m t) (let e : i ≡ upto = omega (arith, more, low) in e) row) under)
       ];
     }
 
@@ -262,7 +262,7 @@ module _ (plan : Placement) (s : Session) (tasks : Tasks) (h : TablesHold plan s
       item = record { number = t.number; depth = d }
 
       -- the task of this row isn't among those before
-      new_number : Has (map (λ (e : Deep). e.number) list) t.number → ⊥
+      pub new_number : Has (map (λ (e : Deep). e.number) list) t.number → ⊥
       new_number i =
           let b = has_map_back (λ (e : Deep). e.number) list t.number i in
           let (k, v, low, other, n, w) = u.each b.item b.among in
