@@ -19,7 +19,7 @@ use Rattle.b67_stack.specs.Represents.{Storage}
 use Rattle.b67_layout.specs.Placement.{Placement, Slotted, slot_of, is_row_of}
 use Rattle.b67_layout.specs.Session.{SessionHolds}
 use Rattle.b67_layout.proofs.Rows.{task_row}
-use Rattle.b67_task_start_stack.proofs.Twins.{Like, SameStack}
+use Rattle.b67_task_start_stack.specs.Likes.{Like, SameStack}
 use Rattle.b67_layout.specs.Orders.{IsInOrderButCounts}
 use Rattle.b67_task_end_stack.specs.Leaves.{Lost, Stays, NotTheirs, Kept, Leaves, Lists}
 use Rattle.b67_task_end_stack.specs.Ends.{gone_of, job_without, row_stays, rows_without}

@@ -1,4 +1,4 @@
--- The picture of the session without some of its tasks.
+-- The view of the session without some of its tasks.
 use Rattle.std.proofs.Common.{◌≡◌, ◌≢◌, ℕ, ◌+◌, ◌<◌, ◌≤◌, List, [], ◌∷◌, ◌++◌, map, Option, Some, None, refl, sym, ◌∙◌, ap, arith, inl, inr, ◌⊎◌, ⊎_elim, Bool, true, false, ◌==◌, subst}
 use Rattle.std.specs.Prelude.{if◌then◌else◌, flat_map}
 use Rattle.std.specs.List.{AllByRecursion}
@@ -193,7 +193,7 @@ module _ (x : Storage) (core : List Tagged) (r : Regs) (marks : List ℕ) (plan 
         | inr n ↦ kept_slot q n ∙ sym (d.stays q (λ g i e. n (g, i, e)))
       ]
 
-      -- a thing of the session that stays
+      -- an object of the session that stays
       code_stays : (y : SessionJob) → Has s.jobs y → (u : PagedObject) → Has (code_objects plan y.constants.number 1 y.constants.segments) u → Has ts u
       code_stays y in_y u i =
           let j = y.constants.number in
@@ -250,7 +250,7 @@ module _ (x : Storage) (core : List Tagged) (r : Regs) (marks : List ℕ) (plan 
                 in_left m_left (keyed_has number_of m.constants.number jobs_left m_left left_found).0 u (in_m_left (subst (λ (v : SessionJob). Has (objects_of plan v) u) is i))
             by y in_y i (inr n) = in_left y (member_there y in_y n) u i
 
-      -- a machine that stands for the picture after the deaths stands for that of the session afterwards
+      -- a machine that stands for the view after the deaths stands for that of the session afterwards
       pub Represents-left : (y : Storage) (new : List Tagged) (r' : Regs) → Represents y new r' (pic x core r marks plan s o h m in_m some f ts) → Represents y new r' (machine_view plan_left jobs_left)
       Represents-left y new r' st =
           let us = flat_map (objects_of plan_left) jobs_left in

@@ -126,7 +126,7 @@ module _ (x y z : Storage) (p q : MachineView) (core now new : List Tagged) (all
       h)
       (has_append_cases done one g.0 g.1)
 
-  -- a thing that stays is one that was there
+  -- an object that stays is one that was there
   was : (t : PagedObject) → Has d.rest t → Has q.objects t
   was t h = may.back t (has_append_right d.gone d.rest t h)
 

@@ -7,10 +7,13 @@ use Rattle.b67_model.specs.State.{Task, SessionJob}
 use Rattle.b67_model.specs.Keyed.{change_keyed}
 use Rattle.b67_model.specs.Run.{number_of}
 use Rattle.b67_model.specs.Schedule.{Session}
+use Rattle.b67_stack.specs.MachineView.{MachineView}
 use Rattle.b67_stack.specs.Represents.{Storage}
 use Rattle.b67_layout.specs.Placement.{Placement, slot_of}
 use Rattle.b67_layout.specs.Session.{RepresentsCritical, SessionHolds}
 use Rattle.b67_layout.specs.Orders.{IsInOrderButCounts}
+use Rattle.b67_task_release.specs.Released.{Released}
+use Rattle.b67_task_end_stack.specs.Graves.{Death, HasGone, MayAllDie, SameButSlots, slots_of}
 use Rattle.b67_task_end_stack.specs.Turns.{InTurn}
 use Rattle.b67_task_end_stack.specs.Leaves.{Lost}
 use Rattle.b67_task_end_stack.specs.Ends.{gone_of, job_without, rows_without}
@@ -42,3 +45,12 @@ session_without s m numbers = record s {
 abbrev pub IsBuried : Storage → List Tagged → Regs → Placement → Session → SessionJob → List ℕ → Type 0
 IsBuried y new r plan s m numbers =
     (marks : List ℕ) → RepresentsCritical marks (plan_without plan m numbers) (session_without s m numbers).jobs → SessionHolds y new r marks (plan_without plan m numbers) (session_without s m numbers)
+
+-- the arrays whose originals lay in these slots are given back, with their areas and chains; all other areas and chains are
+-- as they were, and so are the words below the areas but for the slots' first and their words in the stack vector
+pub record GaveBack (x y : Storage) (p : MachineView) (core new : List Tagged) (slots : List ℕ) : Type 0 where
+  pub deaths : List Death
+  pub may : MayAllDie p core deaths
+  pub slots_are : slots_of deaths ≡ slots
+  pub released : Released (HasGone deaths) x y
+  pub same : SameButSlots x.low p slots core new

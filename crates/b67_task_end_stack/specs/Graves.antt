@@ -8,7 +8,7 @@ use Rattle.b67_stack.specs.Represents.{Storage}
 use Rattle.b67_task_release.specs.Released.{HasHome, Released}
 use Rattle.b67_task_end_stack.specs.Vacated.{put_out, died, MayDie}
 
--- a slot, the arrays whose originals lie in it, and all other things
+-- a slot, the arrays whose originals lie in it, and all other objects
 pub record Death : Type 0 where
   pub slot : ℕ
   pub gone : List PagedObject

@@ -8,7 +8,7 @@ use Rattle.b67_model.specs.Keyed.{keyed}
 use Rattle.b67_model.specs.InOrder.{identities}
 use Rattle.b67_layout.specs.Placement.{Placement, Slotted, slot_of}
 use Rattle.b67_layout.specs.Session.{critical_mark}
-use Rattle.b67_task_start_stack.proofs.Twins.{Like, SameStack}
+use Rattle.b67_task_start_stack.specs.Likes.{Like, SameStack}
 
 abbrev pub Lost : Placement → ℕ → List Task → ℕ → Type 0
 Lost plan j gone q = (g : Task) × Has gone g × (slot_of plan j g.number ≡ q)

@@ -31,11 +31,11 @@ pub record Vacated (core new : List Tagged) (r r' : Regs) (p : MachineView) (k :
   pub outside : (i : ℕ) → i ≢ slot_base p k → i ≢ 32 + k → slice_get new i ≡ slice_get core i
   pub regs : ((r.slot ≢ k) × (r' ≡ r)) ⊎ ((r.slot ≡ k) × (r' ≡ record r { slot = 255 }))
 
--- the picture without the task of slot k, with these things
+-- the view without the task of slot k, with these objects
 abbrev pub died : MachineView → ℕ → List PagedObject → MachineView
 died p k rest = of_objects (with_slot p k Free) rest
 
--- The task of slot k may die: of the things, some are arrays whose originals lie in its stack, each original there is that of
+-- The task of slot k may die: of the objects, some are arrays whose originals lie in its stack, each original there is that of
 -- one of them, and no word of another stack is a copy of one.
 pub record MayDie (p : MachineView) (core : List Tagged) (k : ℕ) (gone rest : List PagedObject) : Type 0 where
   pub used : k < p.peak

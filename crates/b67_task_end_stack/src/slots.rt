@@ -10,7 +10,7 @@ ghost use Rattle.b67_model.specs.State.{SessionJob};
 ghost use Rattle.b67_model.specs.Schedule.{Session};
 ghost use Rattle.b67_layout.specs.Placement.{Placement};
 ghost use Rattle.b67_layout.specs.Layout.{machine_view};
-ghost use Rattle.b67_task_end_stack.specs.Bury.{MayBury, IsBuried, slots_gone};
+ghost use Rattle.b67_task_end_stack.specs.Bury.{MayBury, IsBuried, GaveBack, slots_gone};
 ghost use Rattle.b67_task_end_stack.specs.Vacated.{put_out, vacated, MayDie, died};
 ghost use Rattle.b67_task_end_stack.specs.Graves.{Death, MayAllDie, all_died, slots_of, HasGone, SameButSlot, SameButSlots, ZeroVector, all_put_out};
 
@@ -36,7 +36,7 @@ fn vacate(cpu: &mut Cpu, slot: u8, base: u32)
 }
 
 /// Takes a task out of its slot, and gives back the areas and the chains of the arrays whose originals lie in its stack.
-/// All other stacks and things stay. Its registers may be in use or not, and so may another task's.
+/// All other stacks and objects stay. Its registers may be in use or not, and so may another task's.
 pub fn empty_slot(cpu: &mut Cpu, areas: &mut Areas, sectors: &mut Sectors, slot: u8)
     requires { (x : Storage) × (told : Option (List (List ℕ))) × (p : MachineView) × (gone : List PagedObject) × (rest : List PagedObject)
         × MachineRepresentsView x cpu.old areas.old sectors.old told p × MayDie p cpu.old.core slot gone rest }
@@ -74,7 +74,8 @@ pub fn empty_slots(cpu: &mut Cpu, areas: &mut Areas, sectors: &mut Sectors, slot
     }
 }
 
-/// Takes tasks of one job out of their slots, with their arrays, each after those under it.
+/// Takes tasks of one job out of their slots, with their arrays, each after those under it. The areas and the chains of
+/// those arrays are given back, and all others stay.
 pub fn bury(cpu: &mut Cpu, areas: &mut Areas, sectors: &mut Sectors, slots: &[u8])
     requires { (x : Storage) × (told : Option (List (List ℕ))) × (plan : Placement) × (s : Session) × (m : SessionJob) × (numbers : List ℕ)
         × MachineRepresentsView x cpu.old areas.old sectors.old told (machine_view plan s.jobs) × MayBury x cpu.old.core cpu.old.regs cpu.old.critical plan s m numbers
@@ -85,7 +86,8 @@ pub fn bury(cpu: &mut Cpu, areas: &mut Areas, sectors: &mut Sectors, slots: &[u8
     ensures stands { (x : Storage) (told : Option (List (List ℕ))) (plan : Placement) (s : Session) (m : SessionJob) (numbers : List ℕ)
         → MachineRepresentsView x cpu.old areas.old sectors.old told (machine_view plan s.jobs) → MayBury x cpu.old.core cpu.old.regs cpu.old.critical plan s m numbers
         → slots_gone plan m numbers ≡ slots.now
-        → (y : Storage) × (p : MachineView) × MachineRepresentsView y cpu.new areas.new sectors.new told p × IsBuried y cpu.new.core cpu.new.regs plan s m numbers }
+        → (y : Storage) × (p : MachineView) × MachineRepresentsView y cpu.new areas.new sectors.new told p × IsBuried y cpu.new.core cpu.new.regs plan s m numbers
+        × GaveBack x y (machine_view plan s.jobs) cpu.old.core cpu.new.core slots.now }
 {
     empty_slots(cpu, areas, sectors, slots);
 }

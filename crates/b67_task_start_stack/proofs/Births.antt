@@ -98,7 +98,7 @@ past_child : (n : ℕ) (fs rest : List Frame) (id : ℕ) → ((f : Frame) → Ha
 past_child n [] rest id apart = refl
 past_child n (f ∷ fs) rest id apart = rw (ne_eqb f.identity id (apart f (inl refl))) (past_child n fs rest id (λ g i. apart g (inr i)))
 
--- what the machine's parts are to show beside the picture: words below the slots, critical marks and registers
+-- what the machine's parts are to show beside the view: words below the slots, critical marks and registers
 pub record Shown (core new : List Tagged) (r r' : Regs) (marks marks' : List ℕ) (plan : Placement) (m : SessionJob) (t : Task) (job' : Job) (child : Task) (k peak : ℕ) : Type 0 where
   pub few : peak ≤ 120
   pub words : (i : ℕ) → i < plan.stacks → i ≢ 152 → i ≢ 32 + k → slice_get new i ≡ slice_get core i

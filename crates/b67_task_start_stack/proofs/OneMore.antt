@@ -1,4 +1,4 @@
--- The session with one live task more, which nobody depends on: every other task, slot and thing looks as it did.
+-- The session with one live task more, which nobody depends on: every other task, slot and object looks as it did.
 -- Births read it forwards; the death of a task without descendants reads it backwards.
 use Rattle.std.proofs.Common.{◌≡◌, ◌≢◌, ℕ, ◌+◌, ◌<◌, ◌≤◌, List, [], ◌∷◌, ◌++◌, map, Option, Some, None, refl, sym, ◌∙◌, ap, arith, Bool, true, false, ◌==◌, inl, inr, ◌⊎◌, ⊎_elim, subst}
 use Rattle.std.specs.Prelude.{if◌then◌else◌, flat_map}
@@ -25,7 +25,8 @@ use Rattle.b67_layout.proofs.MachineViews.{with_course, member-same, member-othe
 use Rattle.b67_task_start_stack.specs.Born.{with_task_at}
 use Rattle.b67_task_start_stack.specs.Joining.{Joins}
 use Rattle.b67_lemmas.proofs.Members.{keyed_has}
-use Rattle.b67_task_start_stack.proofs.Twins.{Like, like_same, stack-twin, spots-twin, slot_with-twin, name_all}
+use Rattle.b67_task_start_stack.specs.Likes.{Like}
+use Rattle.b67_task_start_stack.proofs.Twins.{like_same, stack-twin, spots-twin, slot_with-twin, name_all}
 
 module _ (plan : Placement) (j n k peak : ℕ) where
   abbrev more : Placement
@@ -43,7 +44,7 @@ module _ (plan : Placement) (j n k peak : ℕ) where
   pub slot_of-new : slot_of (with_task_at plan j n k peak) j n ≡ k
   slot_of-new = rw (eq-eqb j j refl, eq-eqb n n refl) refl
 
-  -- things have no slots
+  -- objects have no slots
   code-more : (i at : ℕ) (segments : List Segment) → code_objects more i at segments ≡ code_objects plan i at segments
   code-more i at [] = refl
   code-more i at (s ∷ rest) = ap (λ (ts : List PagedObject). record { home = plan.dictionary i + 1 + at; kind = kind.Code; numbers = s.code } ∷ ts) (code-more i (at + 1) rest)
@@ -142,9 +143,9 @@ module _ (plan : Placement) (jobs : List SessionJob) (m : SessionJob) (job' : Jo
             ∙ other_slot q r.job r.task z (keyed number_of r.job jobs))
             (cases_eq r.job m.constants.number)
 
-  -- the picture: the task waits in its slot, and all else is as it was
-  pub picture_more : machine_view plan_more jobs_more ≡ with_slot (record (machine_view plan jobs) { peak = peak }) k (Waiting (stack_of_task plan_more m.constants.number job' k child))
-  picture_more =
+  -- the view: the task waits in its slot, and all else is as it was
+  pub view_more : machine_view plan_more jobs_more ≡ with_slot (record (machine_view plan jobs) { peak = peak }) k (Waiting (stack_of_task plan_more m.constants.number job' k child))
+  view_more =
       let p : MachineView = record (machine_view plan jobs) { peak = peak } in
       let slot = Waiting (stack_of_task plan_more m.constants.number job' k child) in
       let each : (q : ℕ) → slot_at plan_more jobs_more q ≡ (with_slot p k slot).slots q = λ q. ⊎_elim

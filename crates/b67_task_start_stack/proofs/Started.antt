@@ -45,7 +45,7 @@ use Rattle.b67_task_start_stack.proofs.Apart.{frames_apart}
 use Rattle.b67_task_start_stack.specs.Joining.{Sees, Joins, Calls}
 use Rattle.b67_task_start_stack.proofs.Copies.{shape_seen, seen_below, child_lies}
 use Rattle.b67_task_start_stack.proofs.Fills.{Represents-filled, NoOriginalAboveTop-filled}
-use Rattle.b67_task_start_stack.proofs.OneMore.{child_stack, picture_more}
+use Rattle.b67_task_start_stack.proofs.OneMore.{child_stack, view_more}
 use Rattle.b67_task_start_stack.proofs.Births.{Shown, rows, still_running, SessionHolds-born, ShowsDisplay-born}
 
 -- its stack was built in slot k
@@ -229,7 +229,7 @@ module _ (x : Storage) (cpu : Cpu) (plan : Placement) (s : Session) (m : Session
   started = record s { jobs = with_course s.jobs m.constants.number (record m.progress { job = job' }); peak = plan.peak }
 
   machine_view_is : machine_view started_plan started.jobs ≡ with_slot p k (Waiting built)
-  machine_view_is = picture_more plan s.jobs m job' child k plan.peak joins ∙ ap (λ (st : List Activation). with_slot p k (Waiting st)) stack_is
+  machine_view_is = view_more plan s.jobs m job' child k plan.peak joins ∙ ap (λ (st : List Activation). with_slot p k (Waiting st)) stack_is
 
   under_low : c.under.identity < m.progress.job.next_frame
   under_low = (frames_low (IsSegment m.constants) m.constants m.progress.job order.tasks t has_t c.under (subst (λ (fs : List Frame). Has fs c.under) (sym c.frames) (inr (inl refl)))).identity

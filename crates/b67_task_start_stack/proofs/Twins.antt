@@ -1,4 +1,4 @@
--- Two plans and two states of a job that show the same of some tasks. What a picture shows of these is the same, whatever
+-- Two plans and two states of a job that show the same of some tasks. What a view shows of these is the same, whatever
 -- tasks, slots and arrays were born or died beside them, whichever task's registers are in use, and who waits.
 use Rattle.std.proofs.Common.{◌≡◌, ◌≢◌, ℕ, ◌+◌, List, [], ◌∷◌, ◌++◌, map, length, not, Option, Some, None, refl, sym, ◌∙◌, ap, Bool, true, false, ◌==◌, inl, inr}
 use Rattle.std.specs.Prelude.{if◌then◌else◌}
@@ -16,6 +16,7 @@ use Rattle.b67_stack.specs.Stacks.{StackPlace, Activation}
 use Rattle.b67_stack.specs.MachineView.{Slot, Free, Running, Waiting}
 use Rattle.b67_layout.specs.Placement.{Placement, slot_of, spot_in, outer_spots, spots}
 use Rattle.b67_layout.specs.Layout.{shape, head, activations, stack_of_task, slot_with}
+use Rattle.b67_task_start_stack.specs.Likes.{SameStack, Like}
 
 -- a word names no array but such ones
 abbrev pub NamesOnly : (ℕ → Type 0) → Word → Type 0
@@ -31,19 +32,6 @@ NamesOnly Named (Words.Segment number) = Unit {0}
 
 abbrev pub FramesName : (ℕ → Type 0) → List Frame → Type 0
 FramesName Named fs = AllByRecursion (λ (f : Frame). AllByRecursion (NamesOnly Named) f.cells) fs
-
--- the same stack, whatever the task's condition and place are
-pub record SameStack (t' t : Task) : Type 0 where
-  pub number : t'.number ≡ t.number
-  pub parents : t'.parents ≡ t.parents
-  pub critical : t'.critical ≡ t.critical
-  pub frames : t'.frames ≡ t.frames
-
-abbrev pub Like : Option Task → Option Task → Type 0
-Like None None = Unit {0}
-Like (Some t') (Some t) = SameStack t' t
-Like None (Some t) = ⊥
-Like (Some t') None = ⊥
 
 pub like_same : (o : Option Task) → Like o o
 like_same None = tt

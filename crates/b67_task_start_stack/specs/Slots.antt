@@ -10,7 +10,7 @@ use Rattle.b67_stack.specs.Stacks.{Activation, IsStack, words, toscw_of}
 use Rattle.b67_stack.specs.MachineView.{MachineView, Free, Waiting, CopiesName, slot_base, with_slot}
 use Rattle.b67_stack.specs.Represents.{Storage}
 
--- the picture with one slot more, which no task has yet
+-- the view with one slot more, which no task has yet
 abbrev pub grown : MachineView → MachineView
 grown p = record p { peak = p.peak + 1 }
 
