@@ -91,7 +91,7 @@ run_status_is d core p machine status text tells ample worked (opened k is opens
 run_status_is d core p machine status text tells ample worked (opened k is opens none (step_wants_sectors s w)) =
     let same = w.stop.comes.session tells in
     let less = subst (λ (z : Session). IsSingle z w.stop.member w.stop.task → TakesSectors z w.stop.member w.stop.task w.sum → w.sum ≤ d.sectors) (sym same)
-        (ample.sectors_suffice k.tasks.made w.sum w.stop.member w.stop.task w.due) w.stop.lone.single w.takes in
+    (ample.sectors_suffice k.tasks.made w.sum w.stop.member w.stop.task w.due) w.stop.lone.single w.takes in
     let more = w.exceeds in
     absurd (omega (arith, more, less))
 run_status_is d core p machine status text tells ample worked (opened k is opens none (step_fails s failed h)) = absurd (omega (arith, failed, worked))

@@ -43,12 +43,12 @@ const REPLACED: &str =
     "NAMC 2,2\nLT8 9\nINDX\nMKST\nNAMC 0,17\nNAMC 2,2\nLOAD\nENTR\nMKST\nNAMC 0,8\nLT8 10\nENTR\nLT8 8\nNAMC 2,5\nLT8 9\nINDX\nSTOD\nMKST\nNAMC 0,9\nVALC 2,4\nENTR\nEXIT\n?END\n";
 
 /// Of a data row.
-const ROW_EMPTIED: &str =
-    "MKST\nNAMC 0,17\nNAMC 1,R\nLOAD\nENTR\nEXIT\nROW R\nNUM 1\n?END\n";
-const ROW_RESIZED: &str =
-    "MKST\nNAMC 0,18\nNAMC 1,R\nLOAD\nONE\nENTR\nEXIT\nROW R\nNUM 1\n?END\n";
+const ROW_EMPTIED: &str = "MKST\nNAMC 0,17\nNAMC 1,R\nLOAD\nENTR\nEXIT\nROW R\nNUM 1\n?END\n";
+
+const ROW_RESIZED: &str = "MKST\nNAMC 0,18\nNAMC 1,R\nLOAD\nONE\nENTR\nEXIT\nROW R\nNUM 1\n?END\n";
 
 const TO_NONE: &str = "MKST\nNAMC 0,18\nNAMC 2,2\nLOAD\nZERO\nENTR\nEXIT\n?END\n";
+
 const TO_TOO_MANY: &str = "MKST\nNAMC 0,18\nNAMC 2,2\nLOAD\nLT48 65536\nENTR\nEXIT\n?END\n";
 
 /// An array of 30 words, which is one sector, gets 60. 3 words.
@@ -98,7 +98,14 @@ fn lengths(rt: HostRuntime) -> Result<(), Fail> {
         ("699", 3, FILLED, MOVED, 4, "NO CORE 700 699\n"),
         ("700", 2, FILLED, MOVED, 5, "BACKING FULL 3 2\n"),
         ("698", 2, FILLED, REPLACED, 0, "1.1 0\n1.1 ENDED\n"),
-        ("302", 5, PAIR, FEWER_SECTORS, 0, "1.1 7\n1.1 8\n1.1 ENDED\n"),
+        (
+            "302",
+            5,
+            PAIR,
+            FEWER_SECTORS,
+            0,
+            "1.1 7\n1.1 8\n1.1 ENDED\n",
+        ),
         ("301", 5, PAIR, FEWER_SECTORS, 4, "NO CORE 302 301\n"),
         ("302", 4, PAIR, FEWER_SECTORS, 5, "BACKING FULL 5 4\n"),
         ("302", 5, PAIR, NO_SECTORS, 0, "1.1 8\n1.1 0\n1.1 ENDED\n"),

@@ -61,9 +61,11 @@ loop-i-preserved c = λ a q shown at owner v stands ref.
     let l = c.loop-i.invariant a q shown at owner v stands ref in
     let f = cell_found c.args.core.now c.args.regs.now a q (1024 - c.loop-i._i) v c.loop-i.w c.in-Ok.at l (c.in-Ok.ensures (eye a l.0) q shown l.1.at l.1.owner l.1.word l.1.stands l.1.reference) in
     let m = subst (λ (y : Result (Option End) Fault). LinkMeets (eye a f.next) q y (link_at (here a.member a.runner q) f.turned.frame f.turned.offset f.turned.word)) (c.in-Ok-None.is ∙ ap Ok c.in-Ok-None.field-0-is) (c.end_at.ensures (eye a f.next) q f.turned.frame f.turned.offset f.turned.word f.turned.cell) in
-    let n : 1024 - c.loop-i._i - 1 ≡ 1024 - (c.loop-i._i + 1) = omega arith in
-    (f.next, subst (λ (i : ℕ). Rest c.args.core.now c.args.regs.now (eye a f.next) q i v c.get-w.result) n
-      (turn_on c.args.core.now c.args.regs.now (eye a f.next) q (1024 - c.loop-i._i) c.in-Ok.at v f.rest.word c.get-w.result f.rest.same f.turned (omega (arith, c.loop-i-test.true)) m c.get-w.ensures))
+    let n : 1024 - c.loop-i._i - 1 ≡ 1024 - (c.loop-i._i + 1) = omega arith in (
+      f.next,
+      subst (λ (i : ℕ). Rest c.args.core.now c.args.regs.now (eye a f.next) q i v c.get-w.result) n
+          (turn_on c.args.core.now c.args.regs.now (eye a f.next) q (1024 - c.loop-i._i) c.in-Ok.at v f.rest.word c.get-w.result f.rest.same f.turned (omega (arith, c.loop-i-test.true)) m c.get-w.ensures),
+    )
 
 pub returns : goal.returns
 returns c = λ a q shown at owner v stands ref.
