@@ -11,18 +11,23 @@ ghost use Rattle.b67_model.specs.Schedule.{Session};
 ghost use Rattle.b67_presence.specs.Bringing.{WantsSome};
 ghost use Rattle.b67_stack.specs.MachineView.{MachineView, PagedObject};
 ghost use Rattle.b67_stack.specs.Represents.{Represents, Storage};
+ghost use Rattle.b67_task_end.specs.Family.{HasSomeHead, HasSomeRow};
 ghost use Rattle.b67_task_need.specs.Needing.{StandsInOrder};
 ghost use Rattle.b67_task_release.specs.Left.{IsLeft};
+ghost use Rattle.b67_task_start.specs.Starts.{StartsSome};
 ghost use Rattle.b67_task_switch.specs.Standing.{HasRow};
 ghost use Rattle.b67_task_tables.specs.Runs.{RunsTask};
 ghost use Rattle.std.specs.Prelude.{List, Option, length, ℕ, ◌+◌, ◌<◌, ◌^◌, ◌≡◌, ◌≤◌};
 
+use arrayvec::ArrayVec;
 use b67_area::Areas;
 use b67_backing::{Backing, Sectors, SpaceFault};
 use b67_codefile::Codefile;
 use b67_load::{Admitted, LoadFault};
 use b67_stack::{Cpu, What};
-use b67_task_tables::Machine;
+use b67_task::EndedTask;
+use b67_task_tables::{Machine, Tasks};
+use b67_word::Ending;
 use std::alloc::Global;
 
 // b67_overlay
@@ -100,6 +105,24 @@ pub fn release(machine: &mut Machine, from: u32, upto: u32)
     requires order { from ≤ upto }
 {
     b67_task::release(machine, from, upto)
+}
+
+pub fn start(machine: &mut Machine, cell: u32, args: u32) -> u32
+    requires { StartsSome machine.old cell args }
+{
+    b67_task::start(machine, cell, args)
+}
+
+pub fn endings(tasks: &Tasks, row: u8, ending: Ending) -> ArrayVec<EndedTask, 15>
+    requires { HasSomeRow tasks.now row }
+{
+    b67_task::endings(tasks, row, ending)
+}
+
+pub fn live_of(tasks: &Tasks, job: u8) -> ArrayVec<u32, 15>
+    requires { HasSomeHead tasks.now job 255 }
+{
+    b67_task::live_of(tasks, job)
 }
 
 pub fn switch_to(machine: &mut Machine, row: u8)
