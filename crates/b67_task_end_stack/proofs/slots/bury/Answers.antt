@@ -18,8 +18,7 @@ returns-clause-stands c = λ x told plan s m numbers b may e.
     let cpu = c.args.cpu.now in
     let q = ends_in x cpu.core cpu.regs cpu.critical plan s m numbers may in
     let (y, released, my, same, zero) = c.empty_slots.ensures.stands x told (machine_view plan s.jobs) q.0 b q.1 (q.2 ∙ e) in
-    let regs : c.empty_slots.new.cpu.regs ≡ all_put_out cpu.regs (slots_of q.0) = ap (λ (z : Cpu). z.regs) c.empty_slots.ensures.rest ∙ ap (all_put_out cpu.regs) (sym (q.2 ∙ e)) in
-    (
+    let regs : c.empty_slots.new.cpu.regs ≡ all_put_out cpu.regs (slots_of q.0) = ap (λ (z : Cpu). z.regs) c.empty_slots.ensures.rest ∙ ap (all_put_out cpu.regs) (sym (q.2 ∙ e)) in (
       y,
       all_died (machine_view plan s.jobs) q.0,
       my,
