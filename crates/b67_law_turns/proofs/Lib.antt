@@ -1,0 +1,4 @@
+pub mod Choices
+pub mod Settled
+pub mod Parts
+pub mod Limits
