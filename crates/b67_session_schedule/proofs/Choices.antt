@@ -74,7 +74,7 @@ cyclic_none last before (x ∷ xs) none all q = absurd (true≢false (sym (all x
 pub choice_is : (s : Session) (o : Option Who) (b : Bool) → switched s ≡ o → goes_on s ≡ b → choice s ≡ choice_by s o b
 choice_is s o b e f = ap (λ (v : Option Who). choice_by s v (goes_on s)) e ∙ ap (λ (v : Bool). choice_by s o v) f
 
-module _ (plan : Placement) (s : Session) (o : IsInOrderButPlaces s) (task_rows : List TaskRow) (job_rows : List rows.JobRow) (c : rows.Counts) (shows : TablesShow plan s (map task_row task_rows) job_rows c) where
+module _ (plan : Placement) (s : Session) (o : IsInOrderButPlaces s) (task_rows : List TaskRow) (job_rows : List rows.JobRow) (c : rows.JobCounts) (shows : TablesShow plan s (map task_row task_rows) job_rows c) where
   in_row : (i : ℕ) (w : Who) → IsReadyAt task_rows i w → Has (ready s) w
   in_row = row_ready plan s o task_rows job_rows c shows
 

@@ -115,7 +115,7 @@ module _ (plan : Placement) (s : Session) (o : IsInOrderButPlaces s) where
       let (t, int, r, e) = among_tasks m.constants.number m.progress.job.tasks w k in
       omega (arith, numbered_low 1 s.jobs m o.numbered inm, ap (λ (v : Who). v.job) e)
 
-  module _ (task_rows : List TaskRow) (job_rows : List rows.JobRow) (c : rows.Counts) (shows : TablesShow plan s (map task_row task_rows) job_rows c) where
+  module _ (task_rows : List TaskRow) (job_rows : List rows.JobRow) (c : rows.JobCounts) (shows : TablesShow plan s (map task_row task_rows) job_rows c) where
     -- a ready task's row is one of a ready task of the session
     pub row_ready : (i : ℕ) (w : Who) → IsReadyAt task_rows i w → Has (ready s) w
     row_ready i w a =

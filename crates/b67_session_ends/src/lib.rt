@@ -1,0 +1,10 @@
+//! The end of a step: its operator is counted, the lines of endings are printed, and tasks end.
+#![tactic(auto)]
+
+mod counts;
+mod limits;
+mod texts;
+
+pub use counts::count_one;
+pub use limits::is_at_limit;
+pub use texts::put_endings;
