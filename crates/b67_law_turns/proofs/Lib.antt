@@ -2,3 +2,4 @@ pub mod Choices
 pub mod Settled
 pub mod Parts
 pub mod Limits
+pub mod First

@@ -4,6 +4,7 @@ use Rattle.std.specs.Prelude.{◌==◌, ◌&&◌, ◌⊎◌}
 use Rattle.std.specs.List.{AllByRecursion, sum_by}
 use Rattle.std.proofs.lemmas.Bool.Decides.{eqb_tells}
 use Rattle.std.proofs.lemmas.Bool.{true≢false}
+use Rattle.std.proofs.lemmas.Option.{none-some}
 use Rattle.b67_word.specs.declared.faults.Ending.TheVariants.{Limit}
 use Rattle.b67_model.specs.Keyed.{keyed, change_keyed}
 use Rattle.b67_lemmas.specs.Lists.{Has}
@@ -13,7 +14,7 @@ use Rattle.b67_lemmas.proofs.Sums.{sum_total}
 use Rattle.b67_model.specs.State.{Task, JobProgress, SessionJob}
 use Rattle.b67_model.specs.Endings.{Settled, ends_each_if, unsettled}
 use Rattle.b67_model.specs.Schedule.{Session}
-use Rattle.b67_model.specs.Run.{number_of}
+use Rattle.b67_model.specs.Run.{StepResult, number_of}
 use Rattle.b67_model.specs.InOrder.{IsSegment, JobInOrder, BelowLimit, NumberedFrom, IsInOrderButPlaces}
 use Rattle.b67_law_order.proofs.Numbered.{numbered_change, numbered_low, keyed_member, made_of, tasks_of}
 use Rattle.b67_session_lines.specs.Moments.{has_tasks, is_at_limit, last_part, last_part_by, last_part_if}
@@ -157,3 +158,30 @@ module _ (h : Session) (o : IsInOrderButLimit h) where
 
 pub last_parts_restore_order : LastPartsRestoreOrder
 last_parts_restore_order h o = restored h o
+
+-- ---- who ends in the last part
+
+-- the job whose tasks end in it
+pub record LimitOf (h : Session) (part : StepResult) : Type 0 where
+  pub member : SessionJob
+  pub found : keyed number_of h.last.job h.jobs ≡ Some member
+  pub lives : member.progress.job.tasks ≢ []
+  pub is : last_part_if true h member ≡ Some part
+
+lives_by : (a : Bool) (ts : List Task) → (a && has_tasks ts) ≡ true → ts ≢ []
+lives_by true [] e = absurd (true≢false (sym e))
+lives_by true (t ∷ ts) e = λ none. cc
+lives_by false ts e = absurd (true≢false (sym e))
+
+module _ (h : Session) (part : StepResult) where
+  limit_if : (m : SessionJob) → keyed number_of h.last.job h.jobs ≡ Some m → (b : Bool) → is_at_limit m ≡ b → last_part_if b h m ≡ Some part → LimitOf h part
+  limit_if m found true at is = record { member = m; found = found; lives = lives_by (m.progress.made == m.constants.limit) m.progress.job.tasks at; is = is }
+  limit_if m found false at is = absurd (none-some part is)
+
+  limit_by : (o : Option SessionJob) → keyed number_of h.last.job h.jobs ≡ o → last_part_by h o ≡ Some part → LimitOf h part
+  limit_by None e is = absurd (none-some part is)
+  limit_by (Some m) e is = limit_if m e (is_at_limit m) refl is
+
+  pub limit_of : last_part h ≡ Some part → LimitOf h part
+  unfolding last_part
+  limit_of is = limit_by (keyed number_of h.last.job h.jobs) refl is

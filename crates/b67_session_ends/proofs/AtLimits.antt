@@ -120,5 +120,5 @@ module _ (plan : Placement) (s : Session) (tasks : Tasks) (numbered : NumberedFr
       ap (λ (o : Option SessionJob). is_some (last_part_by s o)) (found m j.among last) ∙ some_if (is_at_limit m) s m ∙ test in
       subst (λ (n : ℕ). list_any (λ (q : TaskRow). q.job == n) tasks.rows.items ≡ has_tasks m.progress.job.tasks) number (lives m j.among) ∙ sym part
 
-  pub made_all_is : AtLimit tasks true → (found : Bool) → found ≡ list_any (λ (r : TaskRow). r.job == tasks.last_job) tasks.rows.items → found ≡ is_some (last_part s)
-  made_all_is a found e = e ∙ made_all a
+  pub made_all_is : AtLimit tasks true → (found : Bool) (rs : List TaskRow) → rs ≡ tasks.rows.items → found ≡ list_any (λ (r : TaskRow). r.job == tasks.last_job) rs → found ≡ is_some (last_part s)
+  made_all_is a found rs same e = e ∙ ap (list_any (λ (r : TaskRow). r.job == tasks.last_job)) same ∙ made_all a

@@ -1,3 +1,4 @@
 pub mod Texts
 pub mod Limits
 pub mod Counts
+pub mod Ends

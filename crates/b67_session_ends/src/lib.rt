@@ -2,9 +2,12 @@
 #![tactic(auto)]
 
 mod counts;
+mod deaths;
+mod ends;
 mod limits;
 mod texts;
 
 pub use counts::count_one;
+pub use ends::{end_by_limit, finish};
 pub use limits::is_at_limit;
 pub use texts::put_endings;
