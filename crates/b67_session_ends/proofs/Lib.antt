@@ -1,5 +1,6 @@
 pub mod Endings
 pub mod AtLimits
 pub mod Counting
+pub mod Counted
 pub mod Ended
 pub mod Firsts

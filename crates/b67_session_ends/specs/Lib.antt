@@ -2,3 +2,4 @@ pub mod Texts
 pub mod Limits
 pub mod Counts
 pub mod Ends
+pub mod Machines
