@@ -3,3 +3,4 @@ pub mod Settled
 pub mod Parts
 pub mod Limits
 pub mod First
+pub mod Deepest

@@ -1,12 +1,13 @@
 -- Lines of endings that are printed one after the other.
 use Rattle.std.proofs.Common.{◌≡◌, ◌≤◌, ◌<◌, ◌+◌, ℕ, suc, List, [], ◌∷◌, ◌++◌, length, map, Option, refl, sym, ◌∙◌, ap, arith, subst, append_assoc, length-append, append-nil, get_or}
 use Rattle.std.specs.Prelude.{codes, take, drop}
-use Rattle.std.proofs.lemmas.List.{take_all, drop_all}
+use Rattle.std.proofs.lemmas.List.{take_all, drop_all, take_more, map-append}
 use Rattle.std.proofs.lemmas.Option.{slice_get-get_or}
 use Rattle.b67_word.specs.declared.faults.Ending.{Ending}
 use Rattle.b67_io.specs.Line.{ended}
 use Rattle.b67_io.specs.Told.{Continues}
 use Rattle.b67_io.proofs.Joined.{Continues-none, Continues-then}
+use Rattle.b67_model.specs.Endings.{all_with}
 use Rattle.b67_model.specs.Lines.{task_name, ending_name}
 use Rattle.b67_session_lines.specs.Parts.{TookRest, TookMore}
 use Rattle.b67_lemmas.proofs.Places.{drop-get}
@@ -80,3 +81,15 @@ next_line job i xs d line low is =
 -- behind the last one there is none
 pub no_line : (job i : ℕ) (xs : List EndedTask) → length xs ≤ i → endings_text job (map pair_of (drop i xs)) ≡ []
 no_line job i xs past = ap (λ (ys : List EndedTask). endings_text job (map pair_of ys)) (drop_all i xs past)
+
+-- ---- tasks that end in one way
+
+pub ended_more : (ending : Ending) (list : List EndedTask) (ns : List ℕ) (at d : ℕ) → at < length ns → map pair_of list ≡ all_with ending (take at ns)
+    → map pair_of (list ++ (record { number = get_or ns at d; ending = ending } ∷ [])) ≡ all_with ending (take (at + 1) ns)
+ended_more ending list ns at d low e =
+    let one : EndedTask = record { number = get_or ns at d; ending = ending } in
+    map-append pair_of list (one ∷ []) ∙ ap (λ (l : List (ℕ × Ending)). l ++ (pair_of one ∷ [])) e
+    ∙ sym (ap (all_with ending) (take_more ns at d low) ∙ map-append (λ (n : ℕ). (n, ending)) (take at ns) (get_or ns at d ∷ []))
+
+pub ended_all : (ending : Ending) (list : List EndedTask) (ns : List ℕ) (at : ℕ) → length ns ≤ at → map pair_of list ≡ all_with ending (take at ns) → map pair_of list ≡ all_with ending ns
+ended_all ending list ns at past e = e ∙ ap (all_with ending) (take_all at ns past)

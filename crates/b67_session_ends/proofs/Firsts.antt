@@ -1,11 +1,13 @@
 -- The row of a job's first task, with which all its tasks end.
-use Rattle.std.proofs.Common.{◌≡◌, ◌≢◌, ℕ, true, List, [], map, Option, Some, refl, sym, ap, ◌∙◌, subst}
+use Rattle.std.proofs.Common.{◌≡◌, ◌≢◌, ◌<◌, ◌≤◌, ◌+◌, ◌⊎◌, ℕ, true, false, List, [], length, map, Option, Some, refl, sym, ap, ◌∙◌, subst, arith, get_or, inl, inr}
+use Rattle.std.specs.Prelude.{◌==◌}
+use Rattle.std.proofs.lemmas.Bool.Decides.{eqb_tells}
 use Rattle.b67_word.specs.declared.faults.Ending.TheVariants.{Limit}
 use Rattle.b67_lemmas.specs.Lists.{Has}
 use Rattle.b67_lemmas.proofs.Members.{all_in, has_get, has_map_back}
 use Rattle.b67_lemmas.proofs.Places.{at_mapped, has_at}
 use Rattle.std.specs.List.{slice_get}
-use Rattle.std.proofs.lemmas.Option.{same_Some}
+use Rattle.std.proofs.lemmas.Option.{same_Some, get_or_from_slice_get, slice_get-get_or, slice_get_within}
 use Rattle.b67_model.specs.State.{Task, Job, SessionJob}
 use Rattle.b67_model.specs.Keyed.{keyed}
 use Rattle.b67_model.specs.Endings.{ends_each_if, ends_task, unsettled}
@@ -25,7 +27,7 @@ use Rattle.b67_task_tables.specs.declared.tables.Tasks.{Tasks}
 use Rattle.b67_task_tables.specs.declared.tables.Machine.{Machine}
 use Rattle.b67_task_tables.specs.Tables.{task_row, MachineRepresents}
 use Rattle.b67_task_end.specs.Family.{IsRowOf, endings_of}
-use Rattle.b67_task_end.specs.Deaths.{MayEnd, HasEnded}
+use Rattle.b67_task_end.specs.Deaths.{MayEnd, HasEnded, numbers_of, without_tasks}
 use Rattle.b67_session_ends.specs.Ends.{StandsFor, IsFirstRow}
 
 module _ (x : Storage) (told : Option (List (List ℕ))) (k : Machine) (plan : Placement) (s : Session) (m : SessionJob) (o : IsInOrderButCounts s) (h : MachineRepresents x told k plan s) (among : Has s.jobs m) where
@@ -77,8 +79,29 @@ module _ (x : Storage) (told : Option (List (List ℕ))) (k : Machine) (plan : P
       let job : (ends_task m.progress.job u.number Limit).job ≡ (ends_each_if true Limit (unsettled m.progress.job)).job =
       ap (λ (n : ℕ). (ends_task m.progress.job n Limit).job) one ∙ first_emptied (IsSegment m.constants) m.constants m.progress.job order Limit
       ∙ sym (each_emptied (IsSegment m.constants) m.constants m.progress.job order Limit) in
-      record {
-        storage = e.storage;
-        plan = _;
-        stands = subst (λ (j : Job). MachineRepresents e.storage told new _ (with_job s m j)) job (subst (λ (z : Tasks). MachineRepresents e.storage told (record new { tasks = z }) _ _) (sym tasks) e.stands);
-      }
+      let after : Placement = without_tasks plan m.constants.number (numbers_of (endings_of m.progress.job u.number Limit)) in
+      let J : Job → Type 0 = λ j. MachineRepresents e.storage told new after (with_job s m j) in
+      let T : Tasks → Type 0 = λ z. MachineRepresents e.storage told (record new { tasks = z }) after (with_job s m (ends_task m.progress.job u.number Limit).job) in
+      record { storage = e.storage; plan = after; stands = subst J job (subst T (sym tasks) e.stands) }
+
+-- a row that is read
+pub read_row : (rs : List TaskRow) (job at i : ℕ) (d : TaskRow) → at ≡ i → IsFirstRow rs job i → ((get_or rs at d).job ≡ job) × ((get_or rs at d).number ≡ 1)
+read_row rs job at i d same f =
+    let e : get_or rs at d ≡ f.row = ap (λ (n : ℕ). get_or rs n d) same ∙ get_or_from_slice_get rs i f.row d f.there in
+    (ap (λ (r : TaskRow). r.job) e ∙ f.of_job, ap (λ (r : TaskRow). r.number) e ∙ f.first)
+
+pub first_read : (rs : List TaskRow) (job at : ℕ) (d : TaskRow) → at < length rs → (get_or rs at d).job ≡ job → (get_or rs at d).number ≡ 1 → IsFirstRow rs job at
+first_read rs job at d low of_job first = record { row = get_or rs at d; there = slice_get-get_or rs at d low; of_job = of_job; first = first }
+
+pub none_past : (rs : List TaskRow) (job at i : ℕ) → IsFirstRow rs job i → at ≤ i → length rs ≤ at → ⊥
+none_past rs job at i f low past = omega (arith, low, past, slice_get_within rs i f.row f.there)
+
+-- the same rows, and the same number
+pub first_as : (rs qs : List TaskRow) (n job at : ℕ) → rs ≡ qs → n ≡ job → IsFirstRow rs n at → IsFirstRow qs job at
+first_as rs qs n job at same number f = subst (λ (ys : List TaskRow). IsFirstRow ys job at) same (subst (λ (k : ℕ). IsFirstRow rs k at) number f)
+
+pub next_low : (at i : ℕ) → at ≤ i → (at ≡ i → ⊥) → at + 1 ≤ i
+next_low at i low other = by (eqb_tells at i) where
+  by : ((at == i) ≡ true × (at ≡ i)) ⊎ ((at == i) ≡ false × (at ≢ i)) → at + 1 ≤ i
+  by (inl e) = absurd (other e.1)
+  by (inr e) = omega (arith, low, e.1)

@@ -4,3 +4,4 @@ pub mod Counting
 pub mod Counted
 pub mod Ended
 pub mod Firsts
+pub mod ByLimit

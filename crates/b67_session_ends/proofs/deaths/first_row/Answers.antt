@@ -1,10 +1,15 @@
+use Rattle.std.proofs.Common.{◌≡◌, ◌≤◌, ◌+◌, ℕ, arith, ⊎_elim}
+use Rattle.b67_session_ends.proofs.Firsts.{read_row, first_read, none_past, next_low}
+use Rattle.b67_session_ends.proofs.deaths.first_row.Goals.{else-row-job-via-then-row-job+else-row-eq1, else-row-job-via-else-row-job}
 use Rattle.b67_session_ends.proofs.deaths.first_row.Goals as goal
 
 pub loop-at-preserved : goal.loop-at-preserved
-loop-at-preserved c = ?
+loop-at-preserved c = λ i f. next_low c.loop-at.at i (c.loop-at.invariant i f) (λ same.
+    let read = read_row c.args.rows.now c.args.job c.loop-at.at i _ same f in
+    elim c.else-row-job.branch [ else-row-job-via-then-row-job+else-row-eq1 w ↦ absurd (w.if-row-eq1 read.1) | else-row-job-via-else-row-job w ↦ absurd (w.if-row-job read.0) ])
 
-pub returns-then-row-job : goal.returns-then-row-job
-returns-then-row-job c = ?
+pub returns-then-row-eq1 : goal.returns-then-row-eq1
+returns-then-row-eq1 c = first_read c.args.rows.now c.args.job c.loop-at.at _ c.loop-at-test.true c.if-row-job.true c.if-row-eq1.true
 
 pub returns : goal.returns
-returns c = ?
+returns c = absurd (none_past c.args.rows.now c.args.job c.loop-at.at c.requires.lives.0 c.requires.lives.1 (c.loop-at.invariant c.requires.lives.0 c.requires.lives.1) c.loop-at-test.false)
