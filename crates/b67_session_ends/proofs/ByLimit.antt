@@ -1,6 +1,8 @@
 -- The tasks of a job that stands at its limit end: who they are, their lines, and the session afterwards.
-use Rattle.std.proofs.Common.{◌≡◌, ◌≢◌, ℕ, ◌+◌, true, List, [], ◌∷◌, ◌++◌, length, map, Option, Some, refl, sym, ap, ◌∙◌, subst, inl, arith}
+use Rattle.std.proofs.Common.{◌≡◌, ◌≢◌, ℕ, ◌+◌, true, false, List, [], ◌∷◌, ◌++◌, length, map, Option, Some, None, Ok, refl, sym, ap, ◌∙◌, subst, inl, arith}
+use Rattle.std.specs.Prelude.{is_some}
 use Rattle.std.specs.List.{AllByRecursion}
+use Rattle.std.proofs.lemmas.Bool.{true≢false}
 use Rattle.std.proofs.lemmas.Option.{same_Some}
 use Rattle.b67_word.specs.declared.faults.Ending.{Ending}
 use Rattle.b67_word.specs.declared.faults.Ending.TheVariants.{Limit}
@@ -23,8 +25,9 @@ use Rattle.b67_law_turns.specs.Orders.{JobInOrderButLimit, IsInOrderButLimit}
 use Rattle.b67_law_turns.proofs.Limits.{LimitOf, limit_of}
 use Rattle.b67_task_tables.specs.declared.tables.Machine.{Machine}
 use Rattle.b67_task_tables.specs.Tables.{MachineRepresents}
-use Rattle.b67_task_end.specs.Family.{TablesHold, HasSomeHead}
-use Rattle.b67_session_ends.specs.Ends.{StandsFor, JobLives}
+use Rattle.b67_task_end.specs.declared.families.EndedTask.{EndedTask}
+use Rattle.b67_task_end.specs.Family.{TablesHold, HasSomeHead, pair_of}
+use Rattle.b67_session_ends.specs.Ends.{StandsFor, JobLives, Finishes}
 use Rattle.b67_session_ends.specs.Texts.{endings_text}
 use Rattle.b67_session_ends.proofs.Ended.{part_ended, stands_ended}
 
@@ -102,6 +105,11 @@ module _ (x : Storage) (told : Option (List (List ℕ))) (k : Machine) (plan : P
       ∙ ap (endings_text m.constants.number) (e ∙ ap (all_with Limit) (shows plan h m holds named.0 number))
       ∙ ap (λ (p : StepResult). run_text p.lines) part_is
 
+  pub text_by : (live slice : List ℕ) (items ended : List EndedTask) → ((plan : Placement) (s : Session) (m : SessionJob) → TablesHold plan s k.tasks → Has s.jobs m → m.constants.number ≡ k.tasks.last_job → live ≡ deepest_first m.progress.job.tasks)
+      → slice ≡ live → ended ≡ items → map pair_of items ≡ all_with Limit slice → endings_text k.tasks.last_job (map pair_of ended) ≡ run_text part.lines
+  text_by live slice items ended shows same lent all =
+      text_is slice (map pair_of ended) (λ p s m t among e. same ∙ shows p s m t among e) (ap (λ (es : List EndedTask). map pair_of es) lent ∙ all)
+
   -- the session after it
   pub after_part : (new : Machine) (printed : ℕ)
       → ((x : Storage) (told : Option (List (List ℕ))) (plan : Placement) (s : Session) (m : SessionJob) → IsInOrderButCounts s → MachineRepresents x told (record k { tasks = record k.tasks { printed = printed } }) plan s → Has s.jobs m → m.constants.number ≡ k.tasks.last_job → m.progress.job.tasks ≢ []
@@ -113,3 +121,13 @@ module _ (x : Storage) (told : Option (List (List ℕ))) (k : Machine) (plan : P
       stands_ended f.plan (with_job h m gone.job) whole.session.jobs (part_ended m.constants.number m gone.job gone.endings h.jobs found) f.storage told new f.stands in
       let P : StepResult → Type 0 = λ p. MachineRepresents f.storage told new f.plan p.session in
       record { storage = f.storage; plan = f.plan; stands = subst P part_is there }
+
+-- ---- whether there is a last part
+
+pub some_part : (o : Option StepResult) → true ≡ is_some o → (part : StepResult) × (o ≡ Some part)
+some_part None e = absurd (true≢false e)
+some_part (Some part) e = (part, refl)
+
+pub finishes_none : {K : Type 0} (taken : K → Option (List ℕ)) (told : Option (List (List ℕ))) (o : Option StepResult) (k : Machine) (paper : K) → false ≡ is_some o → Finishes taken told o (Ok tt) k k paper paper
+finishes_none taken told None k paper e = (refl, refl)
+finishes_none taken told (Some part) k paper e = absurd (true≢false (sym e))

@@ -1,4 +1,4 @@
-use Rattle.std.proofs.Common.{◌≡◌, ◌≤◌, ◌+◌, ℕ, arith, ⊎_elim}
+use Rattle.std.proofs.Common.{arith}
 use Rattle.b67_session_ends.proofs.Firsts.{read_row, first_read, none_past, next_low}
 use Rattle.b67_session_ends.proofs.deaths.first_row.Goals.{else-row-job-via-then-row-job+else-row-eq1, else-row-job-via-else-row-job}
 use Rattle.b67_session_ends.proofs.deaths.first_row.Goals as goal
@@ -6,7 +6,7 @@ use Rattle.b67_session_ends.proofs.deaths.first_row.Goals as goal
 pub loop-at-preserved : goal.loop-at-preserved
 loop-at-preserved c = λ i f. next_low c.loop-at.at i (c.loop-at.invariant i f) (λ same.
     let read = read_row c.args.rows.now c.args.job c.loop-at.at i _ same f in
-    elim c.else-row-job.branch [ else-row-job-via-then-row-job+else-row-eq1 w ↦ absurd (w.if-row-eq1 read.1) | else-row-job-via-else-row-job w ↦ absurd (w.if-row-job read.0) ])
+    elim c.else-row-job.branch [ else-row-job-via-then-row-job+else-row-eq1 w ↦ absurd (omega (arith, w.if-row-eq1.false, read.1)) | else-row-job-via-else-row-job w ↦ absurd (omega (arith, w.if-row-job.false, read.0)) ])
 
 pub returns-then-row-eq1 : goal.returns-then-row-eq1
 returns-then-row-eq1 c = first_read c.args.rows.now c.args.job c.loop-at.at _ c.loop-at-test.true c.if-row-job.true c.if-row-eq1.true
