@@ -1,9 +1,11 @@
 -- The chosen task is the running one, and what the attempt at its operator then answers.
 use Rattle.std.proofs.Common.{◌≡◌, ◌≢◌, ℕ, ◌+◌, ◌<◌, ◌^◌, List, [], ◌∷◌, length, map, Option, Some, None, Result, Ok, Err, refl, sym, ap, ◌∙◌, subst}
 use Rattle.std.specs.List.{slice_get}
-use Rattle.std.proofs.lemmas.Option.{slice_get_within}
+use Rattle.std.proofs.lemmas.Option.{same_Some, slice_get_within}
 use Rattle.b67_lemmas.proofs.Places.{at_mapped}
 use Rattle.b67_model.specs.State.{Ready, Task, SessionJob}
+use Rattle.b67_model.specs.Keyed.{keyed}
+use Rattle.b67_model.specs.Run.{number_of}
 use Rattle.b67_model.specs.Schedule.{Session, Choice, choice}
 use Rattle.b67_model.specs.InOrder.{IsInOrderButPlaces}
 use Rattle.b67_law_order_steps.proofs.Sessions.{other_numbers_keep_order}
@@ -177,3 +179,50 @@ module _ {D K : Type 0} {taken : K → Option (List ℕ)} {told told' : Option (
 
   jobs_same : known ≢ None → a.jobs ≡ s.jobs
   jobs_same tells = a.same (device_told tells)
+
+  member_same : known ≢ None → a.member ≡ n.member
+  member_same tells =
+      let found : keyed number_of n.next.chosen.who.job a.jobs ≡ Some a.member = subst (λ (z : Choice). keyed number_of z.who.job a.jobs ≡ Some a.member) again.1 again.0.member in
+      let there : keyed number_of n.next.chosen.who.job s.jobs ≡ Some a.member = subst (λ (js : List SessionJob). keyed number_of n.next.chosen.who.job js ≡ Some a.member) (jobs_same tells) found in
+      same_Some a.member n.member (sym there ∙ n.next.member)
+
+  room_here : known ≢ None → AttemptFits (length mid.cpu.core) here.storage here.plan s n.member n.task answered
+  room_here tells = promise.fits (device_told tells)
+
+  -- the same of the session that the machine represents again
+  room_again : known ≢ None → AttemptFits (length mid.cpu.core) here.storage here.plan (record s { jobs = a.jobs }) a.member n.task answered
+  room_again tells =
+      let J : List SessionJob → Type 0 = λ jobs. AttemptFits (length mid.cpu.core) here.storage here.plan (record s { jobs = jobs }) n.member n.task answered in
+      let M : SessionJob → Type 0 = λ z. AttemptFits (length mid.cpu.core) here.storage here.plan (record s { jobs = a.jobs }) z n.task answered in
+      subst M (sym (member_same tells)) (subst J (sym (jobs_same tells)) (room_here tells))
+
+  -- and of the machine before
+  pub room_there : known ≢ None → AttemptFits (length k.cpu.core) h.storage h.plan s n.member n.task answered
+  room_there tells = subst (λ (size : ℕ). AttemptFits size h.storage h.plan s n.member n.task answered) x.core (room_over answered (room_here tells)) where
+    room_over : (other : Result Attempt Stop) → AttemptFits (length mid.cpu.core) here.storage here.plan s n.member n.task other → AttemptFits (length mid.cpu.core) h.storage h.plan s n.member n.task other
+    room_over (Ok attempted) fits = fits
+    room_over (Err (stops.NoCore words size)) fits = tt
+    room_over (Err (stops.BackingFull sum size)) fits = fits
+    room_over (Err stops.BackingFault) fits = fits
+    room_over (Err stops.PrintFault) fits = fits
+    room_over (Err stops.Unbuilt) fits = tt
+
+  pub attempted : Attempted taken known (content_after known told') (length k.cpu.core) count k.tasks.printed s c answered new paper paper'
+  attempted =
+      let P : ℕ → ℕ → Type 0 = λ core before. Attempted taken known (content_after known told') core count before s c answered new paper paper' in
+      let printed : mid.tasks.printed ≡ k.tasks.printed = ap (λ (z : Tasks). z.printed) x.tables in
+      subst (λ (size : ℕ). P size k.tasks.printed) x.core (subst (P (length mid.cpu.core)) printed (record {
+        session = record s { jobs = a.jobs };
+        same = λ tells. ap (λ (jobs : List SessionJob). record s { jobs = jobs }) (jobs_same tells);
+        same_made = refl;
+        member = a.member;
+        task = n.task;
+        storage = here.storage;
+        plan = here.plan;
+        ordered = other_numbers_keep_order s a.jobs a.others here.ordered;
+        next = again.0;
+        chosen = again.1 ∙ n.chosen;
+        few = here.turn;
+        meets = subst (λ (d : Option (List (List ℕ))). AttemptMeets taken (content_after d told') (d ≢ None) (length mid.cpu.core) count mid.tasks.printed here.plan (record s { jobs = a.jobs }) a.member n.task answered new paper paper') (sym device_is) a.meets;
+        room = room_again;
+      }))
