@@ -4,3 +4,4 @@ pub mod Parts
 pub mod Limits
 pub mod First
 pub mod Deepest
+pub mod Halves

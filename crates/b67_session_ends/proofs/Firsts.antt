@@ -105,3 +105,9 @@ next_low at i low other = by (eqb_tells at i) where
   by : ((at == i) ≡ true × (at ≡ i)) ⊎ ((at == i) ≡ false × (at ≢ i)) → at + 1 ≤ i
   by (inl e) = absurd (other e.1)
   by (inr e) = omega (arith, low, e.1)
+
+pub other_number : (rs : List TaskRow) (job at i : ℕ) (d : TaskRow) → IsFirstRow rs job i → (get_or rs at d).number ≢ 1 → at ≡ i → ⊥
+other_number rs job at i d f other same = other (read_row rs job at i d same f).1
+
+pub other_job : (rs : List TaskRow) (job at i : ℕ) (d : TaskRow) → IsFirstRow rs job i → (get_or rs at d).job ≢ job → at ≡ i → ⊥
+other_job rs job at i d f other same = other (read_row rs job at i d same f).0

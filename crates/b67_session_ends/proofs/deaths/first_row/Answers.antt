@@ -1,12 +1,14 @@
-use Rattle.std.proofs.Common.{arith}
-use Rattle.b67_session_ends.proofs.Firsts.{read_row, first_read, none_past, next_low}
+use Rattle.b67_session_ends.proofs.Firsts.{first_read, none_past, next_low, other_number, other_job}
 use Rattle.b67_session_ends.proofs.deaths.first_row.Goals.{else-row-job-via-then-row-job+else-row-eq1, else-row-job-via-else-row-job}
 use Rattle.b67_session_ends.proofs.deaths.first_row.Goals as goal
 
 pub loop-at-preserved : goal.loop-at-preserved
-loop-at-preserved c = λ i f. next_low c.loop-at.at i (c.loop-at.invariant i f) (λ same.
-    let read = read_row c.args.rows.now c.args.job c.loop-at.at i _ same f in
-    elim c.else-row-job.branch [ else-row-job-via-then-row-job+else-row-eq1 w ↦ absurd (omega (arith, w.if-row-eq1.false, read.1)) | else-row-job-via-else-row-job w ↦ absurd (omega (arith, w.if-row-job.false, read.0)) ])
+loop-at-preserved c = λ i f.
+    next_low c.loop-at.at i (c.loop-at.invariant i f)
+    (elim c.else-row-job.branch [
+      | else-row-job-via-then-row-job+else-row-eq1 w ↦ other_number c.args.rows.now c.args.job c.loop-at.at i _ f w.if-row-eq1.false
+      | else-row-job-via-else-row-job w ↦ other_job c.args.rows.now c.args.job c.loop-at.at i _ f w.if-row-job.false
+    ])
 
 pub returns-then-row-eq1 : goal.returns-then-row-eq1
 returns-then-row-eq1 c = first_read c.args.rows.now c.args.job c.loop-at.at _ c.loop-at-test.true c.if-row-job.true c.if-row-eq1.true
