@@ -5,3 +5,4 @@ pub mod Counted
 pub mod Ended
 pub mod Firsts
 pub mod ByLimit
+pub mod Stuck

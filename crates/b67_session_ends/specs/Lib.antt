@@ -3,3 +3,4 @@ pub mod Limits
 pub mod Counts
 pub mod Ends
 pub mod Machines
+pub mod Closing

@@ -1,6 +1,7 @@
 //! The end of a step: its operator is counted, the lines of endings are printed, and tasks end.
 #![tactic(auto)]
 
+mod closing;
 mod counts;
 mod deaths;
 mod ends;
