@@ -6,3 +6,4 @@ pub mod Ended
 pub mod Firsts
 pub mod ByLimit
 pub mod Stuck
+pub mod Searches
