@@ -137,7 +137,7 @@ module _ (x : Storage) (cpu : Cpu) (plan : Placement) (s : Session) (m : Session
     pub pcw : IsPcwAt
     pcw =
         let c = procedure.cell in
-        let few = segments_few cpu.core cpu.regs context t.place in
+        let few = segments_few cpu.core cpu.regs (live_of context) t.place in
         record {
           fits = record { place = record { syllable = c.stands.1.1.syllable_fits; word = c.stands.1.1.word_fits }; level = omega (arith, c.stands.1.0); segment = omega (arith, c.stands.1.1.within, few) };
           there = c.there ∙ ap (λ (w : Tagged). Some w) c.stands.0.0;
