@@ -2,6 +2,4 @@ pub mod Mnemonics
 pub mod Programs
 pub mod LongPrograms
 pub mod Sessions
-pub mod Cards
-pub mod Texts
 pub mod TaskPrograms

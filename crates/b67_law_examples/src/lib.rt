@@ -2,9 +2,7 @@
 //! they need, and which programs the loader refuses.
 #![tactic(auto, unfolding(b67_model::specs::Rows::step, b67_model::specs::Endings::stepped, b67_model::specs::Alone::step_of, b67_model::specs::Run::next))]
 
-pub mod assembly;
 pub mod choices;
-pub mod decks;
 pub mod lengths;
 pub mod long;
 pub mod refusals;

@@ -1,8 +1,8 @@
 //! What decks say, and which cards are refused.
 
 ghost use Rattle.std.specs.Prelude.{◌≡◌, [], ◌∷◌, None, Ok, Some, codes, negsuc, pos};
-ghost use Rattle.b67_law_examples.specs.Cards.{refused};
-ghost use Rattle.b67_law_examples.specs.Texts.{small_job, sum_deck, text_of, times};
+ghost use Rattle.b67_law_cards.specs.Cards.{refused};
+ghost use Rattle.b67_law_cards.specs.Texts.{small_job, sum_deck, text_of, times};
 ghost use Rattle.b67_model_text.specs.declared.deck.Body.TheVariants.{Bytes, Cards};
 ghost use Rattle.b67_model_text.specs.Deck.{deck_of, hexadecimal_cards};
 

@@ -3,11 +3,11 @@
 ghost use Rattle.std.specs.Prelude.{◌≡◌, [], ◌∷◌, Ok, codes};
 ghost use Rattle.b67_model_text.specs.Cards.{cards};
 ghost use Rattle.b67_model_text.specs.Asm.{version_of};
-ghost use Rattle.b67_law_examples.specs.Cards.{assembly, refused};
+ghost use Rattle.b67_law_cards.specs.Cards.{assembly, refused};
 ghost use Rattle.b67_law_examples.specs.LongPrograms.{manboy};
 ghost use Rattle.b67_law_examples.specs.Programs.{eight, jensen, leave, sum};
 ghost use Rattle.b67_law_examples.specs.Sessions.{without_rows};
-ghost use Rattle.b67_law_examples.specs.Texts.{eight_cards, jensen_cards, leave_cards, manboy_cards, small_segments, sum_cards, text_of};
+ghost use Rattle.b67_law_cards.specs.Texts.{eight_cards, jensen_cards, leave_cards, manboy_cards, small_segments, sum_cards, text_of};
 
 /// The cards of a sum denote its two words.
 pub fn sum_is_assembled()
