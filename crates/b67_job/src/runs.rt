@@ -96,8 +96,7 @@ fn run_job<K: Sink, B: Backing>(
     finish(answered, card, machine.tasks.made, printer)
 }
 
-/// Opens a deck's session over a core of so many words and a device, runs it to its end or to its halt, and prints its
-/// lines.
+/// Opens a deck's session in a core of `core` words over a device, runs it to its end or to its halt, and prints its lines.
 ///
 /// Status 0 is that all tasks ended, 3 that the halt's count was reached while a task lives. Else the run stops before a
 /// step, or before the first one: 4 if core is too small, 5 if the device has too few sectors, 6 if it failed, 8 if the

@@ -17,7 +17,7 @@ use b67_stack::What;
 use b67_task_tables::Machine;
 use b67_word::Failed;
 
-/// Prints what isn't printed yet of the lines of so many words of core from an address on, which the running task prints.
+/// Prints what isn't printed yet of the lines of a row of words in core, from an address on, which the running task prints.
 /// `printed` counts how many first bytes of them are printed; it is raised by those that are taken.
 fn say_words<K: Sink>(
     machine: &Machine,

@@ -28,8 +28,8 @@ fn sectors_of(words: u32) -> u32
     (words + 29) / 30
 }
 
-/// The stop for a want of space, where an array of so many words was to get more: with the sectors that the session would
-/// take, and those of the device, where too few are free.
+/// The stop when there is no space to make an array longer: with the sectors that the session would take, and those of the
+/// device, if too few are free.
 fn stopped(machine: &Machine, fault: SpaceFault, before: u32, after: u32) -> Stop
     requires stands { StandsInOrder machine.now }
     requires space { (need core : ℕ) → fault ≢ NoCore need core }

@@ -13,7 +13,7 @@ use b67_model_text::Deck;
 use b67_session_open::{OpenFault, open as open_machine};
 use std::alloc::Global;
 
-/// Opens a deck's session with a program for each job, in a core of so many words over a device: its machine represents the
+/// Opens a deck's session with a program for each job, in a core of `core` words over a device: its machine represents the
 /// opening state, and a slice of steps may be called. Refused in this order: if memory is refused; with `NoCore` exactly if
 /// the opening's need exceeds core; with `BackingFull` exactly if the programs take more sectors than the device has; with
 /// `BackingFault` only if the device failed. After all other refusals the device is as it was.

@@ -72,15 +72,15 @@ fn with_code<B: Backing, K: Sink>(
     }
 }
 
-/// Makes the next operator of the running task, an intrinsic's call included. The running segment and the array that it
-/// touches are brought into core first, whatever has to give way.
+/// Executes the next operator of the running task, including an intrinsic's call. The running segment and the array that it
+/// touches are brought into core first, and other areas are evicted if need be.
 ///
 /// `NoCore` exactly where the step's need exceeds core, with both, unless its call isn't built, or the running segment is
 /// absent and the device is full or fails as it is brought in. `BackingFull` only where the session, or the one that a RESIZE
 /// to a greater length would make, takes more sectors than the device has, with both, and more are wanted than are free: by a
 /// present array that keeps no chain, or by the chain of the array that becomes longer. `BackingFault` and `PrintFault` only
-/// where that device failed. After each of them, and where the operator ends its task, the machine stands for the same
-/// session; after want of sectors and a failure of the backing its segment or its array is absent, or the step is such a
+/// where that device failed. After each of them, and when the operator ends its task, the machine represents the same
+/// session; after `BackingFull` and `BackingFault` its segment or its array is absent, or the step is such a
 /// RESIZE. Where both are present the backing isn't called but by such a RESIZE. After `PrintFault` `printed` is raised by the
 /// bytes that were taken. Over a device that doesn't tell what its sectors hold, the words that it gave back may be others, and
 /// as many.

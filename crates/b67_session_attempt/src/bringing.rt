@@ -38,8 +38,8 @@ fn stopped(machine: &Machine, fault: SpaceFault) -> Stop
     }
 }
 
-/// Brings in what the next operator wants, whatever has to give way; the running segment is then present too. After a
-/// stop the machine stands for the same session.
+/// Brings in what the next operator wants, and evicts other areas if need be; the running segment is then present too. After
+/// a stop the machine represents the same session.
 #[inline(always)]
 pub fn bring_wanted<B: Backing>(
     machine: &mut Machine,
