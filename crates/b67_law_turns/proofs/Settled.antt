@@ -29,7 +29,7 @@ each_next : (test : Bool) (ending : Ending) (z : Settled) → (ends_each_if test
 each_next true ending z = refl
 each_next false ending z = refl
 
-ends_fewer : (z : Settled) (endings : List (ℕ × Ending)) → length (ends_all z endings).job.tasks ≤ length z.job.tasks
+pub ends_fewer : (z : Settled) (endings : List (ℕ × Ending)) → length (ends_all z endings).job.tasks ≤ length z.job.tasks
 ends_fewer z endings =
     let numbers = map (λ (e : ℕ × Ending). e.0) endings in
     let stay = filter (λ (t : Task). not (among numbers t.number)) z.job.tasks in

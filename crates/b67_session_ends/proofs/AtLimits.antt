@@ -1,5 +1,5 @@
 -- The tables say whether a job stands at its limit with a live task.
-use Rattle.std.proofs.Common.{◌≡◌, ℕ, zero, suc, ◌+◌, ◌-◌, ◌<◌, ◌≤◌, Bool, true, false, List, [], ◌∷◌, map, Option, Some, None, refl, sym, ap, ◌∙◌, subst, arith, inl, inr, ⊎_elim}
+use Rattle.std.proofs.Common.{◌≡◌, ◌≢◌, ℕ, zero, suc, ◌+◌, ◌-◌, ◌<◌, ◌≤◌, Bool, true, false, List, [], ◌∷◌, map, Option, Some, None, refl, sym, ap, ◌∙◌, subst, arith, inl, inr, ⊎_elim}
 use Rattle.std.specs.Prelude.{◌==◌, ◌&&◌, is_some}
 use Rattle.std.specs.List.{list_any, slice_get}
 use Rattle.std.proofs.lemmas.Bool.{cases_Bool, true≢false, eqb-true, eq-eqb}
@@ -82,6 +82,16 @@ module _ (plan : Placement) (s : Session) (tasks : Tasks) (numbered : NumberedFr
           let (row, among, w) = shows.each m t inm (subst (λ (us : List Task). Has us t) (sym e) (inl refl)) in
           let back = has_map_back task_row tasks.rows.items row among in
           any_some test tasks.rows.items back.item back.among (eq-eqb back.item.job m.constants.number (ap (λ (r : rows.TaskRow). r.job) back.is ∙ w.job))
+
+  pub no_tasks : (m : SessionJob) → Has s.jobs m → list_any (λ (r : TaskRow). r.job == m.constants.number) tasks.rows.items ≡ false → m.progress.job.tasks ≡ []
+  no_tasks m inm e = by m.progress.job.tasks (sym (lives m inm) ∙ e)
+    where
+      by : (ts : List Task) → has_tasks ts ≡ false → ts ≡ []
+      by [] f = refl
+      by (t ∷ ts) f = absurd (true≢false f)
+
+  pub some_tasks : (m : SessionJob) → Has s.jobs m → list_any (λ (r : TaskRow). r.job == m.constants.number) tasks.rows.items ≡ true → m.progress.job.tasks ≢ []
+  some_tasks m inm e none = absurd (true≢false (sym e ∙ lives m inm ∙ ap has_tasks none))
 
   -- the counts of the job's row are the job's
   made_is : (m : SessionJob) → Has s.jobs m → m.constants.number ≡ s.last.job → (at : Bool) → AtLimit tasks at → (m.progress.made == m.constants.limit) ≡ at

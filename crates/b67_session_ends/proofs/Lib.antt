@@ -7,3 +7,5 @@ pub mod Firsts
 pub mod ByLimit
 pub mod Stuck
 pub mod Searches
+pub mod Deadlocks
+pub mod Closed

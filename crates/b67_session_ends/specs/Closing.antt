@@ -13,6 +13,17 @@ use Rattle.b67_task_tables.specs.declared.tables.TaskRow.{TaskRow}
 use Rattle.b67_task_tables.specs.declared.tables.Machine.{Machine}
 use Rattle.b67_task_tables.specs.Tables.{AreCountable, row_names}
 use Rattle.b67_session_ends.specs.Ends.{StandsFor}
+use Rattle.b67_lemmas.specs.Lists.{Has}
+use Rattle.b67_model.specs.InOrder.{IsInOrderButPlaces}
+use Rattle.b67_model.specs.State.{Task, SessionJob}
+use Rattle.b67_stack.specs.Represents.{Storage}
+use Rattle.b67_layout.specs.Orders.{IsInOrderButCounts}
+use Rattle.b67_layout.specs.Placement.{Placement}
+use Rattle.b67_law_turns.specs.Turns.{IsNext}
+use Rattle.b67_task_tables.specs.Tables.{MachineRepresents}
+use Rattle.b67_task_end.specs.Family.{IsRowOf}
+use Rattle.b67_session_schedule.specs.declared.counting.Chosen.{Chosen}
+use Rattle.b67_session_schedule.specs.Counted.{choice_of}
 
 -- the task of a number is among those that ended
 abbrev pub is_dead_of : List EndedTask → ℕ → Bool
@@ -48,3 +59,33 @@ pub record KeepsNames (old new : Machine) : Type 0 where
   pub halt : new.tasks.halt ≡ old.tasks.halt
   pub names : row_names new.tasks.jobs ≡ row_names old.tasks.jobs
   pub countable : AreCountable old.tasks.jobs → AreCountable new.tasks.jobs
+
+-- the machine stands for some session in order but for counts, with a job of this number
+pub record HasJobOf (k : Machine) (job : ℕ) : Type 0 where
+  pub storage : Storage
+  pub told : Option (List (List ℕ))
+  pub plan : Placement
+  pub session : Session
+  pub member : SessionJob
+  pub ordered : IsInOrderButCounts session
+  pub stands : MachineRepresents storage told k plan session
+  pub among : Has session.jobs member
+  pub number : member.constants.number ≡ job
+
+-- the machine stands for a session in order, and the chosen row is that of the task that makes its next step
+pub record StandsChosen (x : Storage) (told : Option (List (List ℕ))) (k : Machine) (plan : Placement) (s : Session) (m : SessionJob) (t : Task) (c : Chosen) : Type 0 where
+  pub ordered : IsInOrderButPlaces s
+  pub next : IsNext s m t
+  pub chosen : next.chosen ≡ choice_of c
+  pub stands : MachineRepresents x told k plan s
+  pub row : IsRowOf plan s k.tasks.rows.items c.row m t
+
+-- it does for some session
+pub record ChoseSome (k : Machine) (c : Chosen) : Type 0 where
+  pub storage : Storage
+  pub told : Option (List (List ℕ))
+  pub plan : Placement
+  pub session : Session
+  pub member : SessionJob
+  pub task : Task
+  pub stands : StandsChosen storage told k plan session member task c

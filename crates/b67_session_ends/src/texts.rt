@@ -19,7 +19,7 @@ pub fn put_endings<K: Sink>(
     ended: &[EndedTask],
     printed: &mut u64,
 ) -> Result<(), Failed>
-    requires { length ended.now ≤ 15 }
+    requires { length ended.now ≤ 30 }
     ensures whole { OnOk result (TookRest K.taken paper.old paper.new (endings_text job (map pair_of ended.now)) printed.old) }
     ensures part { OnErr result (TookMore K.taken paper.old paper.new (endings_text job (map pair_of ended.now)) printed.old printed.new) }
     ensures cause { HasCause K.faults paper.old paper.new result }
