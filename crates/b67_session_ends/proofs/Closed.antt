@@ -12,6 +12,7 @@ use Rattle.b67_model.specs.State.{Task, Job, SessionJob}
 use Rattle.b67_model.specs.Keyed.{keyed, change_keyed}
 use Rattle.b67_model.specs.Endings.{Settled, Stepped, is_ready, deadlocked, ends_each_if, ends_task, ends_with, unsettled}
 use Rattle.b67_model.specs.InOrder.{IsSegment, TasksInOrder, NumberedFrom}
+use Rattle.b67_model.specs.Lines.{run_text}
 use Rattle.b67_model.specs.Run.{StepResult, number_of}
 use Rattle.b67_model.specs.Schedule.{Session, Choice}
 use Rattle.b67_law_order.proofs.Numbered.{numbered_change}
@@ -26,15 +27,16 @@ use Rattle.b67_layout.proofs.Sessions.{course_twice}
 use Rattle.b67_layout.proofs.Weaker.{but_counts}
 use Rattle.b67_task_tables.specs.declared.tables.Tasks.{Tasks}
 use Rattle.b67_task_tables.specs.declared.tables.Machine.{Machine}
-use Rattle.b67_task_tables.specs.Tables.{MachineRepresents}
+use Rattle.b67_task_tables.specs.Tables.{MachineRepresents, AreCountable, row_names}
 use Rattle.b67_task_deaths.specs.Deaths.{MayEnd, HasEnded, numbers_of, without_tasks}
 use Rattle.b67_task_end.specs.declared.families.EndedTask.{EndedTask}
 use Rattle.b67_task_end.specs.Family.{TablesHold, HasSomeRow, HasSomeHead, pair_of, endings_of}
 use Rattle.b67_session_schedule.specs.declared.counting.Chosen.{Chosen}
 use Rattle.b67_session_schedule.specs.Counted.{choice_of, CountsHaveRoom}
-use Rattle.b67_session_ends.specs.Closing.{HasJobOf, StandsChosen}
+use Rattle.b67_session_ends.specs.Closing.{HasJobOf, StandsChosen, KeepsNames}
 use Rattle.b67_session_ends.specs.Counts.{IsCounted}
 use Rattle.b67_session_ends.specs.Ends.{StandsFor}
+use Rattle.b67_session_ends.specs.Texts.{endings_text}
 use Rattle.b67_session_ends.proofs.ByLimit.{reprinted}
 use Rattle.b67_session_ends.proofs.Counted.{counted_stands}
 
@@ -150,3 +152,31 @@ module _ (x : Storage) (told : Option (List (List ℕ))) (k : Machine) (plan : P
 -- the counts have room still
 pub room_still : (old new : Tasks) (c : Chosen) (printed : ℕ) → new ≡ record old { rows = new.rows; running = new.running; printed = printed } → CountsHaveRoom old c → CountsHaveRoom new c
 room_still old new c printed same r = subst (λ (z : Tasks). CountsHaveRoom z c) (sym same) (record { job = r.job; from_one = r.from_one; at = r.at; of_job = r.of_job; made = r.made; turn = r.turn; next = r.next })
+
+-- ---- the text that is printed first
+
+module _ (x : Storage) (told : Option (List (List ℕ))) (k : Machine) (plan : Placement) (s : Session) (m : SessionJob) (t : Task) (c : Chosen) (w : StandsChosen x told k plan s m t c) (ending : Ending) where
+  -- all that end, by what was said of who they are
+  pub all_text : (items dead all slice : List EndedTask) → map pair_of items ≡ endings_of m.progress.job t.number ending → dead ≡ items
+      → ((plan : Placement) (s : Session) (m : SessionJob) (number : ℕ) (ending : Ending) → TablesHold plan s k.tasks → Has s.jobs m → m.constants.number ≡ c.job → map pair_of dead ≡ (ends_task m.progress.job number ending).endings → map pair_of all ≡ (deadlocked (ends_task m.progress.job number ending)).endings)
+      → slice ≡ all → endings_text c.job (map pair_of slice) ≡ run_text (part_of s (choice_of c) m t (ends_with m.progress.job t.number ending)).lines
+  all_text items dead all slice first lent shows lent' =
+      let dead_is : map pair_of dead ≡ (ends_task m.progress.job t.number ending).endings = ap (λ (l : List EndedTask). map pair_of l) lent ∙ first in
+      let all_is : map pair_of all ≡ (deadlocked (ends_task m.progress.job t.number ending)).endings =
+      shows plan s m t.number ending (holds x told k plan s m t c w) (among x told k plan s m t c w) (own x told k plan s m t c w) dead_is in
+      ap (λ (l : List EndedTask). endings_text c.job (map pair_of l)) lent' ∙ ap (endings_text c.job) all_is
+
+-- ---- what stays
+
+pub keeps_close : (c : Chosen) (old last : Machine) (counts : Tasks) (printed : ℕ) → last.tasks ≡ record old.tasks { rows = last.tasks.rows; running = last.tasks.running; printed = printed } → IsCounted c last.tasks counts
+    → length last.cpu.core ≡ length old.cpu.core → length last.sectors.links ≡ length old.sectors.links → KeepsNames old (record last { tasks = counts })
+keeps_close c old last counts printed same counted core sectors = record {
+  core = core;
+  sectors = sectors;
+  halt = counted.halt ∙ ap (λ (z : Tasks). z.halt) same;
+  names = counted.names ∙ ap (λ (z : Tasks). row_names z.jobs) same;
+  countable = λ all. counted.countable (subst (λ (z : Tasks). AreCountable z.jobs) (sym same) all);
+}
+
+pub keeps_cut : (old : Machine) (printed : ℕ) → KeepsNames old (record old { tasks = record old.tasks { printed = printed } })
+keeps_cut old printed = record { core = refl; sectors = refl; halt = refl; names = refl; countable = λ all. all }
