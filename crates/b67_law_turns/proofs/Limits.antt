@@ -3,7 +3,7 @@ use Rattle.std.proofs.Common.{◌≡◌, ◌≢◌, ℕ, zero, suc, ◌+◌, ◌
 use Rattle.std.specs.Prelude.{◌==◌, ◌&&◌, ◌⊎◌}
 use Rattle.std.specs.List.{AllByRecursion, sum_by}
 use Rattle.std.proofs.lemmas.Bool.Decides.{eqb_tells}
-use Rattle.std.proofs.lemmas.Bool.{true≢false}
+use Rattle.std.proofs.lemmas.Bool.{true≢false, and_parts, eqb-true}
 use Rattle.std.proofs.lemmas.Option.{none-some}
 use Rattle.b67_word.specs.declared.faults.Ending.TheVariants.{Limit}
 use Rattle.b67_model.specs.Keyed.{keyed, change_keyed}
@@ -166,6 +166,7 @@ pub record LimitOf (h : Session) (part : StepResult) : Type 0 where
   pub member : SessionJob
   pub found : keyed number_of h.last.job h.jobs ≡ Some member
   pub lives : member.progress.job.tasks ≢ []
+  pub full : is_at_limit member ≡ true
   pub is : last_part_if true h member ≡ Some part
 
 lives_by : (a : Bool) (ts : List Task) → (a && has_tasks ts) ≡ true → ts ≢ []
@@ -175,7 +176,7 @@ lives_by false ts e = absurd (true≢false (sym e))
 
 module _ (h : Session) (part : StepResult) where
   limit_if : (m : SessionJob) → keyed number_of h.last.job h.jobs ≡ Some m → (b : Bool) → is_at_limit m ≡ b → last_part_if b h m ≡ Some part → LimitOf h part
-  limit_if m found true at is = record { member = m; found = found; lives = lives_by (m.progress.made == m.constants.limit) m.progress.job.tasks at; is = is }
+  limit_if m found true at is = record { member = m; found = found; lives = lives_by (m.progress.made == m.constants.limit) m.progress.job.tasks at; full = at; is = is }
   limit_if m found false at is = absurd (none-some part is)
 
   limit_by : (o : Option SessionJob) → keyed number_of h.last.job h.jobs ≡ o → last_part_by h o ≡ Some part → LimitOf h part
@@ -185,3 +186,15 @@ module _ (h : Session) (part : StepResult) where
   pub limit_of : last_part h ≡ Some part → LimitOf h part
   unfolding last_part
   limit_of is = limit_by (keyed number_of h.last.job h.jobs) refl is
+
+-- a session in order has no last part
+pub no_last : (s : Session) → IsInOrderButPlaces s → last_part s ≡ None
+no_last s o = by (last_part s) refl
+  where
+    by : (x : Option StepResult) → last_part s ≡ x → last_part s ≡ None
+    by None e = e
+    by (Some part) e =
+        let l = limit_of s part e in
+        let j = all_in Good s.jobs l.member o.jobs (keyed_has number_of s.last.job s.jobs l.member l.found).0 in
+        let made : l.member.progress.made ≡ l.member.constants.limit = eqb-true l.member.progress.made l.member.constants.limit (and_parts (l.member.progress.made == l.member.constants.limit) (has_tasks l.member.progress.job.tasks) l.full).0 in
+        absurd (omega (arith, made, j.below_limit l.lives))

@@ -21,7 +21,7 @@ use Rattle.b67_session_attempt.specs.Stops as stops
 use Rattle.b67_session_ends.specs.Ends.{Finishes, KeepsCounts}
 use Rattle.b67_session_ends.specs.Machines.{StandsAt, IsLimited}
 use Rattle.b67_session.specs.Slices.{Prints, PrintsWhole, NextFits}
-use Rattle.b67_session.specs.Steps.{StepGives, Leads, makes, halves, Steps}
+use Rattle.b67_session.specs.Steps.{StepGives, Leads, makes, halves, Steps, StopOf}
 use Rattle.b67_session.proofs.Printing.{prints_rest, prints_more, prints_then}
 
 -- The first part of a step of a session was printed and made, and the step is counted. Where the device tells, it is that
@@ -41,11 +41,6 @@ pub record IsHalfMade {K : Type 0} (taken : K → Option (List ℕ)) (known : Op
   pub was_due : List ℕ
   pub was_is : exact → was_due ≡ due was
   pub prints : (is_due : List ℕ) → Prints taken paper paper' was_due old.tasks.printed part.lines is_due 0
-
--- how the wrapper's answer goes with the call's
-abbrev pub StopOf : Result (Unit {0}) Failed → Result (Unit {0}) Stop → Type 0
-StopOf (Ok done) answered = answered ≡ Ok tt
-StopOf (Err failed) answered = answered ≡ Err stops.PrintFault
 
 module _ {K : Type 0} (taken : K → Option (List ℕ)) (known : Option (List (List ℕ))) (exact : Type 0) (count : ℕ) (s : Session) (old mid new : Machine) (paper paper' paper'' : K)
     (x : IsHalfMade taken known exact s old mid paper paper') (keeps : KeepsCounts mid new) where

@@ -116,6 +116,7 @@ pub record Attempted {K : Type 0} (taken : K → Option (List ℕ)) (known known
   pub ordered : IsInOrderButPlaces session
   pub next : IsNext session member task
   pub chosen : next.chosen ≡ choice_of c
+  pub running : IsRunning plan session.jobs member task
   pub few : c.turn + 1 < 2 ^ 32
   pub meets : AttemptMeets taken known' (known ≢ None) core count before plan session member task answered k paper paper'
   pub room : known ≢ None → AttemptFits core storage plan session member task answered
@@ -216,6 +217,7 @@ module _ {D K : Type 0} {taken : K → Option (List ℕ)} {told told' : Option (
         ordered = other_numbers_keep_order s a.jobs a.others here.ordered;
         next = again.0;
         chosen = again.1 ∙ n.chosen;
+        running = a.running;
         few = here.turn;
         meets = subst (λ (d : Option (List (List ℕ))). AttemptMeets taken (content_after d told') (d ≢ None) (length mid.cpu.core) count mid.tasks.printed here.plan (record s { jobs = a.jobs }) a.member n.task answered new paper paper') (sym device_is) a.meets;
         room = room_again;

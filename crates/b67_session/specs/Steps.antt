@@ -6,6 +6,8 @@ use Rattle.b67_model.specs.Schedule.{Session}
 use Rattle.b67_task_tables.specs.declared.tables.Machine.{Machine}
 use Rattle.b67_session_attempt.specs.Stops.{Stop}
 use Rattle.b67_session_attempt.specs.Stops as stops
+use Rattle.b67_word.specs.declared.faults.Failed.{Failed}
+use Rattle.b67_session_ends.specs.Ends.{Finishes}
 use Rattle.b67_session.specs.Slices.{StandsAt, Prints, PrintsWhole, NextFits, SliceMeets}
 
 -- a whole step leads from a session to another, and these are its lines
@@ -47,3 +49,16 @@ pub record Steps {K : Type 0} (taken : K → Option (List ℕ)) (known : Option 
   pub prints : Prints taken paper paper' was_due old.tasks.printed printed is_due new.tasks.printed
   pub texts : answered ≢ Err stops.PrintFault → PrintsWhole steps old new paper paper'
   pub meets : StepMeets known exact (length old.cpu.core) count steps was session printed is_due answered new
+
+-- ---- the last part
+
+-- what a call answers whose printer failed, or didn't
+abbrev pub StopOf : Result (Unit {0}) Failed → Result (Unit {0}) Stop → Type 0
+StopOf (Ok done) answered = answered ≡ Ok tt
+StopOf (Err failed) answered = answered ≡ Err stops.PrintFault
+
+-- the last part of a step of a session, where one is due
+pub record EndsStep {K : Type 0} (taken : K → Option (List ℕ)) (told : Option (List (List ℕ))) (h : Session) (answered : Result (Unit {0}) Stop) (old new : Machine) (paper paper' : K) : Type 0 where
+  pub result : Result (Unit {0}) Failed
+  pub finishes : Finishes taken told (last_part h) result old new paper paper'
+  pub answer : StopOf result answered

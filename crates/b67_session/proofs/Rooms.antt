@@ -1,0 +1,74 @@
+-- One operator more fits the counts after it was made, and which row is the running task's.
+use Rattle.std.proofs.Common.{◌≡◌, ℕ, ◌+◌, ◌-◌, ◌<◌, ◌≤◌, ◌^◌, List, length, map, Option, Some, None, refl, sym, ap, ◌∙◌, subst, arith}
+use Rattle.std.specs.List.{slice_get}
+use Rattle.std.proofs.lemmas.List.{length-map}
+use Rattle.b67_lemmas.specs.Lists.{Has}
+use Rattle.b67_lemmas.proofs.Members.{has_get, keyed_has}
+use Rattle.b67_lemmas.proofs.Places.{mapped_at}
+use Rattle.b67_model.specs.State.{Task, SessionJob}
+use Rattle.b67_model.specs.Schedule.{Session}
+use Rattle.b67_model.specs.Run.{number_of}
+use Rattle.b67_model.specs.InOrder.{NumberedFrom}
+use Rattle.b67_law_order.proofs.Numbered.{keyed_member, numbered_low}
+use Rattle.b67_stack.specs.declared.Cpu.{Cpu}
+use Rattle.b67_stack.specs.Represents.{Storage}
+use Rattle.b67_layout.specs.Placement.{Placement}
+use Rattle.b67_layout.specs.Orders.{IsInOrderButCounts}
+use Rattle.b67_layout.specs.Rows as rows
+use Rattle.b67_layout.specs.Rows.{RunningRow, TaskShows}
+use Rattle.b67_layout.specs.Session.{IsRunning, RepresentsSession}
+use Rattle.b67_layout.proofs.Rows.{slot_below}
+use Rattle.b67_layout.proofs.Sessions.{running_only}
+use Rattle.b67_task_tables.specs.declared.tables.TaskRow.{TaskRow}
+use Rattle.b67_task_tables.specs.declared.tables.Tasks.{Tasks}
+use Rattle.b67_task_tables.specs.Tables.{task_row, job_row, switch_of, TasksShow}
+use Rattle.b67_task_switch.proofs.Tables.{job_at, live_in_order}
+use Rattle.b67_task_end.specs.Family.{IsRowOf}
+use Rattle.b67_session_schedule.specs.declared.counting.Chosen.{Chosen}
+use Rattle.b67_session_schedule.specs.Counted.{CountsHaveRoom}
+
+-- the tables show some session with a job of these counts
+pub room_for : (plan : Placement) (shown : Session) (y : SessionJob) (tasks : Tasks) (c : Chosen) → NumberedFrom 1 shown.jobs → TasksShow plan shown tasks → Has shown.jobs y → y.constants.number ≡ c.job
+    → y.progress.made ≤ 100000000 → shown.made ≤ 800000000 → c.turn + 1 < 2 ^ 32 → CountsHaveRoom tasks c
+room_for plan shown y tasks c numbered shows among number few all turn =
+    let b = job_at plan 1 shown.jobs (map job_row tasks.jobs) y numbered shows.jobs among in
+    let (j, at, same) = mapped_at job_row tasks.jobs (y.constants.number - 1) b.row b.at in
+    let made : j.made ≡ y.progress.made = ap (λ (r : rows.JobRow). r.made) same ∙ b.shows.made in
+    record {
+      job = j;
+      from_one = omega (arith, number, numbered_low 1 shown.jobs y numbered among);
+      at = ap (λ (n : ℕ). slice_get tasks.jobs (n - 1)) (sym number) ∙ at;
+      of_job = omega (arith, made, few);
+      made = omega (arith, shows.counts.made, all);
+      turn = turn;
+      next = omega (arith, shows.counts.next, length-map tasks.switches switch_of);
+    }
+
+-- the row of the running task
+pub running_row : (x : Storage) (cpu : Cpu) (tasks : Tasks) (plan : Placement) (s : Session) (m : SessionJob) (t : Task) (at : ℕ) → IsInOrderButCounts s → RepresentsSession x cpu plan s → TasksShow plan s tasks → IsRunning plan s.jobs m t → tasks.running ≡ at
+    → IsRowOf plan s tasks.rows.items at m t
+running_row x cpu tasks plan s m t at o h shows runs here = by (slice_get (map task_row tasks.rows.items) tasks.running) refl shows.counts.running
+  where
+    inm : Has s.jobs m
+    inm = (keyed_has number_of m.constants.number s.jobs m runs.member).0
+
+    int : Has m.progress.job.tasks t
+    int = (keyed_has (λ (u : Task). u.number) t.number m.progress.job.tasks t runs.task).0
+
+    low : plan.running < 120
+    low = let below = slot_below plan s.jobs m t h.holds.fits.rows inm int in omega (arith, below, runs.slot, h.holds.fits.few)
+
+    by : (q : Option rows.TaskRow) → slice_get (map task_row tasks.rows.items) tasks.running ≡ q → RunningRow plan q tasks.running → IsRowOf plan s tasks.rows.items at m t
+    by None e r = absurd (omega (arith, low, r.1))
+    by (Some row) e r =
+        let (found, there, same) = mapped_at task_row tasks.rows.items tasks.running row e in
+        let (y, u, iny, inu, w) = shows.tasks row (has_get (map task_row tasks.rows.items) tasks.running row e) in
+        let running : IsRunning plan s.jobs y u = record { member = keyed_member 1 s.jobs y o.numbered iny; task = live_in_order s y u o iny inu; slot = sym r.1 ∙ w.slot } in
+        let is : TaskShows plan m t row = running_only plan s.jobs y m u t (λ (z : SessionJob) (v : Task). TaskShows plan z v row) h.holds.fits.rows running runs w in
+        record {
+          row = found;
+          there = ap (slice_get tasks.rows.items) (sym here) ∙ there;
+          member = inm;
+          task = int;
+          shows = subst (TaskShows plan m t) (sym same) is;
+        }
