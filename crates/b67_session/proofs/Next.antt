@@ -99,3 +99,13 @@ next_other plan s m y t jobs fit all runs runs' n =
       },
       refl,
     )
+
+-- one task makes the next step
+pub as_next : (s : Session) (m y : SessionJob) (t u : Task) (P : SessionJob → Task → Type 0) → IsNext s y u → IsNext s m t → P y u → P m t
+as_next s m y t u P a b p =
+    let chosen : a.chosen ≡ b.chosen = same_Some a.chosen b.chosen (sym a.is ∙ b.is) in
+    let member : y ≡ m = same_Some y m (sym (subst (λ (z : Choice). keyed number_of z.who.job s.jobs ≡ Some y) chosen a.member) ∙ b.member) in
+    let own : keyed (λ (v : Task). v.number) b.chosen.who.task y.progress.job.tasks ≡ Some u = subst (λ (z : Choice). keyed (λ (v : Task). v.number) z.who.task y.progress.job.tasks ≡ Some u) chosen a.task in
+    let there : keyed (λ (v : Task). v.number) b.chosen.who.task m.progress.job.tasks ≡ Some u = subst (λ (z : SessionJob). keyed (λ (v : Task). v.number) b.chosen.who.task z.progress.job.tasks ≡ Some u) member own in
+    let task : u ≡ t = same_Some u t (sym there ∙ b.task) in
+    subst (λ (v : Task). P m v) task (subst (λ (z : SessionJob). P z u) member p)

@@ -28,11 +28,11 @@ use Rattle.b67_task_tables.specs.Tables.{task_row, TasksShow, MachineRepresents}
 use Rattle.b67_session_schedule.specs.declared.counting.Chosen.{Chosen}
 use Rattle.b67_session_schedule.specs.Counted.{choice_of, CountsHaveRoom}
 use Rattle.b67_session_schedule.specs.Chosen.{Chooses}
-use Rattle.b67_session_attempt.specs.Passed.{StandsOver}
+use Rattle.b67_session_attempt.specs.Passed.{StandsOver, Lengthens}
 use Rattle.b67_session_attempt.specs.Stops.{Stop}
 use Rattle.b67_session_attempt.specs.Stops as stops
 use Rattle.b67_session_attempt.specs.declared.attempts.Attempt.{Attempt}
-use Rattle.b67_session_attempt.specs.Attempts.{RunsOver, ForEachOver, AttemptMeets, Attempts, AttemptFits, AttemptRow, TablesStay}
+use Rattle.b67_session_attempt.specs.Attempts.{RunsOver, ForEachOver, WantsNothing, AttemptMeets, Attempts, AttemptFits, AttemptRow, TablesStay}
 use Rattle.b67_session.specs.Slices.{StandsAt}
 use Rattle.b67_session.proofs.Next.{Chose, chose, runs_then, next_other}
 
@@ -222,3 +222,7 @@ module _ {D K : Type 0} {taken : K → Option (List ℕ)} {told told' : Option (
         meets = subst (λ (d : Option (List (List ℕ))). AttemptMeets taken (content_after d told') (d ≢ None) (length mid.cpu.core) count mid.tasks.printed here.plan (record s { jobs = a.jobs }) a.member n.task answered new paper paper') (sym device_is) a.meets;
         room = room_again;
       }))
+
+  -- where nothing is wanted
+  pub quiet_here : WantsNothing h.storage h.plan n.member n.task → (Lengthens n.member n.task → ⊥) → device' ≡ device
+  quiet_here wants same = promise.quiet (record { code = wants.code; array = wants.array }) same

@@ -149,6 +149,18 @@ module _ (x : Storage) (told : Option (List (List ℕ))) (k : Machine) (plan : P
             let moment : JobMoment = moment_with m.progress t made made.settled in
             record { storage = f.storage; plan = f.plan; stands = counted_stands s c m moment w.ordered there refl f.storage told last f.plan counts refl counted stuck_stands }
 
+      -- by what is promised of the call that ends them
+      pub closed_by : (last : Machine)
+          → ((x : Storage) (told : Option (List (List ℕ))) (plan : Placement) (s : Session) (m : SessionJob) → IsInOrderButCounts s → MachineRepresents x told new plan s → Has s.jobs m → m.constants.number ≡ c.job
+          → StandsFor told last (with_job s m (deadlocked (unsettled m.progress.job)).job))
+          → (counts : Tasks) → IsCounted c last.tasks counts → StandsFor told (record last { tasks = counts }) (part_of s (choice_of c) m t (ends_with m.progress.job t.number ending)).session
+      closed_by last ends counts counted = closed last (ends e.storage told after_plan (with_job s m gone.job) left left_ordered left_stands left_among own) counts counted
+
+-- but for the rows, the one that runs and how much is printed the tables are as before the tasks' ends
+pub same_tasks : (old mid last : Tasks) (printed : ℕ) → last ≡ record mid { rows = last.rows; running = last.running } → mid ≡ record old { rows = mid.rows; running = mid.running; printed = printed }
+    → last ≡ record old { rows = last.rows; running = last.running; printed = printed }
+same_tasks old mid last printed e f = e ∙ ap (λ (z : Tasks). record z { rows = last.rows; running = last.running }) f
+
 -- the counts have room still
 pub room_still : (old new : Tasks) (c : Chosen) (printed : ℕ) → new ≡ record old { rows = new.rows; running = new.running; printed = printed } → CountsHaveRoom old c → CountsHaveRoom new c
 room_still old new c printed same r = subst (λ (z : Tasks). CountsHaveRoom z c) (sym same) (record { job = r.job; from_one = r.from_one; at = r.at; of_job = r.of_job; made = r.made; turn = r.turn; next = r.next })

@@ -2,6 +2,7 @@
 use Rattle.std.proofs.Common.{◌≡◌, ◌≢◌, ℕ, ◌+◌, ◌<◌, ◌≤◌, Bool, true, false, not, List, [], ◌∷◌, ◌++◌, length, map, filter, take, Option, Some, refl, sym, ap, ◌∙◌, subst, inl, inr, append-nil, append_assoc, get_or}
 use Rattle.std.specs.Prelude.{◌==◌}
 use Rattle.std.specs.List.{list_any, list_all}
+use Rattle.std.proofs.lemmas.Bool.{cases_Bool}
 use Rattle.std.proofs.lemmas.List.{take_all, take_more, map-append}
 use Rattle.std.proofs.lemmas.List.Elements.{filter-append}
 use Rattle.b67_word.specs.declared.faults.Ending.{Ending}
@@ -41,11 +42,10 @@ copied_more copy new list at d low e is = is ∙ ap (λ (l : List EndedTask). l 
 
 filter_same : (p q : ℕ → Bool) (ns : List ℕ) → ((n : ℕ) → p n ≡ q n) → filter p ns ≡ filter q ns
 filter_same p q [] same = refl
-filter_same p q (n ∷ ns) same = by (q n) refl
-  where
-    by : (b : Bool) → q n ≡ b → filter p (n ∷ ns) ≡ filter q (n ∷ ns)
-    by true e = let own : p n ≡ true = same n ∙ e in rw (own, e) (ap (λ (l : List ℕ). n ∷ l) (filter_same p q ns same))
-    by false e = let own : p n ≡ false = same n ∙ e in rw (own, e) (filter_same p q ns same)
+filter_same p q (n ∷ ns) same = elim (cases_Bool (q n)) [
+  | inl t ↦ let own : p n ≡ true = same n ∙ t in rw (own, t) (ap (λ (l : List ℕ). n ∷ l) (filter_same p q ns same))
+  | inr t ↦ let own : p n ≡ false = same n ∙ t in rw (own, t) (filter_same p q ns same)
+]
 
 pub others_is : (dead : List EndedTask) (ns : List ℕ) → others_of dead ns ≡ others (numbers_of (map pair_of dead)) ns
 others_is dead ns = filter_same (λ (n : ℕ). not (is_dead_of dead n)) (λ (n : ℕ). not (among (numbers_of (map pair_of dead)) n)) ns (λ n. ap not (dead_is dead n))
