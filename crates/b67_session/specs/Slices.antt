@@ -63,9 +63,9 @@ pub record IsOpen (told : Option (List (List ℕ))) (k : Machine) : Type 0 where
 
 -- why a slice goes no further: no task lives, or the count of a halt is reached
 abbrev pub Pauses : Tasks → Option ℕ → Option Progress → Type 0
-Pauses tasks halt None = halt ≢ Some tasks.made
+Pauses tasks halt None = (tasks.rows.items ≢ []) × (halt ≢ Some tasks.made)
 Pauses tasks halt (Some progress.Ended) = tasks.rows.items ≡ []
-Pauses tasks halt (Some progress.Halted) = halt ≡ Some tasks.made
+Pauses tasks halt (Some progress.Halted) = (tasks.rows.items ≢ []) × (halt ≡ Some tasks.made)
 Pauses tasks halt (Some progress.More) = ⊥
 
 -- ---- steps and their text

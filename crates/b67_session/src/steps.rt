@@ -1,13 +1,20 @@
 //! One step of a session of any jobs and tasks.
 
-ghost use Rattle.std.specs.Prelude.{◌≡◌, ◌≢◌, ℕ, ◌+◌, List, Option, Some, None, length};
+ghost use Rattle.std.specs.Prelude.{◌≡◌, ◌≢◌, ℕ, ◌+◌, ◌≤◌, List, Option, Some, None, Err, length};
 ghost use Rattle.b67_model.specs.State.{Task, SessionJob};
 ghost use Rattle.b67_model.specs.Schedule.{Session};
 ghost use Rattle.b67_layout_storage.specs.Machine.{Says, DeviceAfterCalls, content_after};
+ghost use Rattle.b67_io.specs.Causes.{Rose};
+ghost use Rattle.b67_law_turns.specs.Orders.{IsInOrderButLimit};
 ghost use Rattle.b67_law_turns.specs.Turns.{IsNext};
+ghost use Rattle.b67_stack.specs.Represents.{Storage};
+ghost use Rattle.b67_layout.specs.Placement.{Placement};
+ghost use Rattle.b67_task_tables.specs.Tables.{MachineRepresents};
+ghost use Rattle.b67_session_ends.specs.Ends.{StandsBetween, KeepsCounts};
+ghost use Rattle.b67_session_attempt.specs.Stops as stops;
 ghost use Rattle.b67_session_attempt.specs.Passed.{AreCountable, CallCauses};
 ghost use Rattle.b67_session.specs.Slices.{LivesOn, StandsAt, Keeps, IfPresent};
-ghost use Rattle.b67_session.specs.Steps.{Steps};
+ghost use Rattle.b67_session.specs.Steps.{EndsStep, Steps};
 
 use crate::turns::give_turn;
 use b67_backing::Backing;
@@ -23,7 +30,7 @@ fn end_step<K: Sink>(machine: &mut Machine, paper: &mut K) -> Result<(), Stop>
     requires { StandsBetween machine.old }
     ensures finishes { (x : Storage) (told : Option (List (List ℕ))) (plan : Placement) (h : Session) → IsInOrderButLimit h → MachineRepresents x told machine.old plan h
         → EndsStep K.taken told h result machine.old machine.new paper.old paper.new }
-    ensures cause { result ≡ Err PrintFault → Rose K.faults paper.old paper.new }
+    ensures cause { result ≡ Err stops.PrintFault → Rose K.faults paper.old paper.new }
     ensures later { K.faults paper.old ≤ K.faults paper.new }
     ensures keeps { KeepsCounts machine.old machine.new }
 {
