@@ -11,6 +11,7 @@ pub mod Halved
 pub mod Stopped
 pub mod Tabled
 pub mod Tried
+pub mod Caused
 pub mod Going
 pub mod Fitting
 pub mod Pausing

@@ -32,6 +32,7 @@ fn end_step<K: Sink>(machine: &mut Machine, paper: &mut K) -> Result<(), Stop>
         → EndsStep K.taken told h result machine.old machine.new paper.old paper.new }
     ensures cause { result ≡ Err stops.PrintFault → Rose K.faults paper.old paper.new }
     ensures later { K.faults paper.old ≤ K.faults paper.new }
+    ensures other { result ≢ Err stops.BackingFault }
     ensures keeps { KeepsCounts machine.old machine.new }
 {
     match finish(machine, paper) {

@@ -36,7 +36,7 @@ pub none_any : {A : Type 0} (test : A → Bool) (xs : List A) → ((x : A) → H
 none_any test [] each = refl
 none_any test (x ∷ xs) each = rw (each x (inl refl)) (none_any test xs (λ y h. each y (inr h)))
 
-one_not : {A : Type 0} (test : A → Bool) (xs : List A) (x : A) → Has xs x → test x ≡ false → list_all test xs ≡ false
+pub one_not : {A : Type 0} (test : A → Bool) (xs : List A) (x : A) → Has xs x → test x ≡ false → list_all test xs ≡ false
 one_not test [] x h e = absurd h
 one_not test (y ∷ xs) x (inl same) e = let first : test y ≡ false = ap test same ∙ e in rw first refl
 one_not test (y ∷ xs) x (inr later) e = elim (cases_Bool (test y)) [ inl t ↦ rw t (one_not test xs x later e) | inr t ↦ rw t refl ]

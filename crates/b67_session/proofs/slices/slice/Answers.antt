@@ -116,8 +116,8 @@ returns-in-Ok-clause-open g c =
 pub returns-in-Ok-clause-keeps : goal.returns-in-Ok-clause-keeps
 returns-in-Ok-clause-keeps g c =
     let first = keeps_counts c.args.machine.now c.end_by_limit.new.machine c.end_by_limit.ensures.keeps in
-    let then = c.go_on-2.ensures.keeps in
-    record { core = then.core ∙ first.core; sectors = then.sectors ∙ first.sectors; halt = then.halt ∙ first.halt; names = then.names ∙ first.names }
+    let rest = c.go_on-2.ensures.keeps in
+    record { core = rest.core ∙ first.core; sectors = rest.sectors ∙ first.sectors; halt = rest.halt ∙ first.halt; names = rest.names ∙ first.names }
 
 pub returns-in-Err-clause-row : goal.returns-in-Err-clause-row
 returns-in-Err-clause-row g c = λ known s says h. absurd (stands_not known c.args.machine.now s h c.is_at_limit.ensures c.if-not-is_at_limit.false)
