@@ -1,0 +1,27 @@
+//! The marks on which live tasks depend, by the rows of the table.
+
+ghost use Rattle.std.specs.Prelude.{◌≡◌, ◌≢◌, ℕ, ◌≤◌, ◌<◌, max, Some, length, slice_get};
+ghost use Rattle.b67_task_end_tables.specs.Marks.{ShowsMarks, Raised};
+
+use b67_task_tables::TaskRow;
+
+/// The parent of a row's task may not leave the row's critical mark, nor any under it.
+fn depend(marks: &mut [u16; 120], row: TaskRow)
+    ensures { Raised marks.old marks.new row }
+{
+    if row.parent < 120 && marks[row.parent as usize] < row.critical {
+        marks[row.parent as usize] = row.critical;
+    }
+}
+
+/// The displacement of the topmost mark in each slot on which a task of these rows depends, 0 for none.
+pub fn marks_of(rows: &[TaskRow]) -> [u16; 120]
+    requires { length rows.now ≤ 255 }
+    ensures { ShowsMarks result rows.now }
+{
+    let mut marks = [0; 120];
+    for at in 0..rows.len() as u8 {
+        depend(&mut marks, rows[at as usize]);
+    }
+    marks
+}
