@@ -1,0 +1,4 @@
+pub mod Kept
+pub mod Remains
+pub mod TopMarks
+pub mod Family
