@@ -47,7 +47,7 @@ keeps_on {A = A} {B = B} f p xs done at d low e =
     ∙ ap (λ (zs : List A). done ++ map f (filter p zs)) (sym (drop-get xs at x (slice_get-get_or xs at d low)))
     ∙ e
 
-drop_past : {A : Type 0} (xs : List A) (at : ℕ) → length xs ≤ at → drop at xs ≡ []
+pub drop_past : {A : Type 0} (xs : List A) (at : ℕ) → length xs ≤ at → drop at xs ≡ []
 drop_past [] zero low = refl
 drop_past [] (suc at) low = refl
 drop_past (x ∷ xs) zero low = absurd (omega (arith, low))

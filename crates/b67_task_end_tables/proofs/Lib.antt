@@ -2,3 +2,5 @@ pub mod Kept
 pub mod Remains
 pub mod TopMarks
 pub mod Family
+pub mod Machines
+pub mod Marking

@@ -16,7 +16,6 @@ use Rattle.b67_task_tables.specs.Tables.{MachineRepresents}
 use Rattle.b67_task_end_stack.specs.Ends.{gone_of}
 use Rattle.b67_task_end_stack.specs.Leaves.{Lost}
 use Rattle.b67_task_end_stack.specs.Turns.{InTurn}
-use Rattle.b67_task_end.specs.Family.{IsRowOf, endings_of}
 
 -- the numbers of tasks that end so, in order
 abbrev pub numbers_of : List (ℕ × Ending) → List ℕ
@@ -53,7 +52,7 @@ pub record StandsWith (machine : Machine) (u : Tasks) (x : Storage) (told : Opti
   pub stands : MachineRepresents x told (record machine { tasks = u }) plan s
 
 -- these tasks of a job may end: each goes after those under it, and the registers of no other task are in use
-pub record MayEndAll (plan : Placement) (s : Session) (m : SessionJob) (numbers : List ℕ) : Type 0 where
+pub record MayEnd (plan : Placement) (s : Session) (m : SessionJob) (numbers : List ℕ) : Type 0 where
   pub member : Has s.jobs m
   pub todo : List Task
   pub named : map (λ (t : Task). t.number) todo ≡ numbers
@@ -61,7 +60,7 @@ pub record MayEndAll (plan : Placement) (s : Session) (m : SessionJob) (numbers 
   pub stopped : IsStopped plan m numbers
 
 -- the machine stands for some session, of whose job these may end
-pub record EndSome (machine : Machine) (job : ℕ) (numbers : List ℕ) : Type 0 where
+pub record EndsSome (machine : Machine) (job : ℕ) (numbers : List ℕ) : Type 0 where
   pub tables : Tasks
   pub storage : Storage
   pub told : Option (List (List ℕ))
@@ -69,25 +68,8 @@ pub record EndSome (machine : Machine) (job : ℕ) (numbers : List ℕ) : Type 0
   pub session : Session
   pub job_of : SessionJob
   pub stands : StandsWith machine tables storage told plan session
-  pub may : MayEndAll plan session job_of numbers
+  pub may : MayEnd plan session job_of numbers
   pub number : job_of.constants.number ≡ job
-
--- the row shows a live task, and the registers of no task are in use that doesn't end with it
-pub record EndsAt (machine : Machine) (row : ℕ) (ending : Ending) (plan : Placement) (s : Session) (m : SessionJob) (t : Task) : Type 0 where
-  pub at : IsRowOf plan s machine.tasks.rows.items row m t
-  pub stopped : IsStopped plan m (numbers_of (endings_of m.progress.job t.number ending))
-
--- the machine stands for some session in order but for counts, with a live task in this row
-pub record MayEnd (machine : Machine) (row : ℕ) (ending : Ending) : Type 0 where
-  pub tables : Tasks
-  pub storage : Storage
-  pub told : Option (List (List ℕ))
-  pub plan : Placement
-  pub session : Session
-  pub member : SessionJob
-  pub task : Task
-  pub stands : StandsWith machine tables storage told plan session
-  pub ends : EndsAt machine row ending plan session member task
 
 -- the machine stands for the session in which these tasks of a job have ended
 pub record HasEnded (u : Tasks) (told : Option (List (List ℕ))) (plan : Placement) (s : Session) (m : SessionJob) (endings : List (ℕ × Ending)) (new : Machine) : Type 0 where

@@ -1,5 +1,8 @@
-//! The tables after tasks have ended, and the end of a task over the whole machine.
+//! The end of tasks over the whole machine.
 #![tactic(auto)]
 
+mod ends;
 mod marks;
 mod rows;
+
+pub use ends::end;
