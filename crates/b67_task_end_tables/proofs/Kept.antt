@@ -1,16 +1,14 @@
 -- Lists whose items are kept or left out, each then changed but for its key.
 use Rattle.std.proofs.Common.{◌≡◌, ◌≢◌, ℕ, zero, suc, ◌+◌, ◌<◌, ◌≤◌, List, [], ◌∷◌, ◌++◌, map, filter, find, length, drop, get_or, Option, Some, None, Bool, true, false, not, refl, sym, ◌∙◌, ap, arith, inl, inr, ⊎_elim, subst, ◌==◌}
-use Rattle.std.specs.Prelude.{◌&&◌, if◌then◌else◌, unwrap_or, option_map}
+use Rattle.std.specs.Prelude.{◌||◌}
 use Rattle.std.specs.List.{slice_get, list_any}
-use Rattle.std.proofs.lemmas.Bool.{cases_Bool, eq-eqb, ne_eqb, eqb-true, true≢false}
+use Rattle.std.proofs.lemmas.Bool.{cases_Bool}
 use Rattle.std.proofs.lemmas.List.{length-map, append-nil, append_assoc}
 use Rattle.std.proofs.lemmas.Option.{slice_get-get_or}
 use Rattle.b67_lemmas.specs.Lists.{Has}
 use Rattle.b67_lemmas.proofs.Members.{length_filter}
 use Rattle.b67_lemmas.proofs.Places.{drop-get}
 use Rattle.b67_layout.specs.Rows.{Differ}
-use Rattle.b67_task_tables.specs.declared.tables.TaskRow.{TaskRow}
-use Rattle.b67_task_end_tables.specs.Left.{freed, stays, rows_left, is_of, slot_shown}
 
 module _ {A : Type 0} (f : A → A) (p : A → Bool) (key : A → ℕ) (same : (a : A) → key (f a) ≡ key a) where
   kept_has : (xs : List A) (n : ℕ) → Has (map key (map f (filter p xs))) n → Has (map key xs) n
@@ -79,3 +77,16 @@ finds_here {A = A} p xs at d low e t =
 
 pub finds_none : {A : Type 0} (p : A → Bool) (xs : List A) (at : ℕ) → length xs ≤ at → find p (drop at xs) ≡ find p xs → find p xs ≡ None
 finds_none p xs at past e = sym e ∙ ap (find p) (drop_past xs at past)
+
+pub keep_out : {A B : Type 0} (f : A → B) (p : A → Bool) (done : List B) (x : A) → p x ≡ false → done ≡ done ++ map f (filter p (x ∷ []))
+keep_out f p done x t = rw t (sym (append-nil done))
+
+pub keep_in : {A B : Type 0} (f : A → B) (p : A → Bool) (done : List B) (x : A) → p x ≡ true → done ++ f x ∷ [] ≡ done ++ map f (filter p (x ∷ []))
+keep_in f p done x t = rw t refl
+
+pub keep_one : {A B : Type 0} (f : A → B) (p : A → Bool) (x : A) → length (map f (filter p (x ∷ []))) ≤ 1
+keep_one f p x = kept_length f p (x ∷ [])
+
+pub any_map : {A B : Type 0} (f : A → B) (p : B → Bool) (xs : List A) → list_any (λ (x : A). p (f x)) xs ≡ list_any p (map f xs)
+any_map f p [] = refl
+any_map f p (x ∷ xs) = ap (λ (b : Bool). p (f x) || b) (any_map f p xs)

@@ -4,3 +4,4 @@ pub mod TopMarks
 pub mod Family
 pub mod Machines
 pub mod Marking
+pub mod Freed

@@ -51,22 +51,22 @@ frames_like None (Some t) l = absurd l
 frames_like (Some t') None l = absurd l
 
 -- a row that stays
-stays_then : (j : ℕ) (numbers : List ℕ) (q : TaskRow) → stays j numbers q ≡ true → q.job ≡ j → among numbers q.number ≡ false
+pub stays_then : (j : ℕ) (numbers : List ℕ) (q : TaskRow) → stays j numbers q ≡ true → q.job ≡ j → among numbers q.number ≡ false
 stays_then j numbers q t e = elim (cases_Bool (among numbers q.number)) [
   | inl a ↦ absurd (let w : false ≡ true = rw (eq-eqb q.job j e, a) at t in true≢false (sym w))
   | inr a ↦ a
 ]
 
-stays_if : (j : ℕ) (numbers : List ℕ) (q : TaskRow) → (q.job ≡ j → among numbers q.number ≡ false) → stays j numbers q ≡ true
+pub stays_if : (j : ℕ) (numbers : List ℕ) (q : TaskRow) → (q.job ≡ j → among numbers q.number ≡ false) → stays j numbers q ≡ true
 stays_if j numbers q f = elim (cases_eq q.job j) [ inl e ↦ rw (eq-eqb q.job j e) (ap not (f e)) | inr n ↦ rw (ne_eqb q.job j n) refl ]
 
-freed_own : (j : ℕ) (numbers : List ℕ) (q : TaskRow) → q.job ≡ j → freed j numbers q ≡ record q { state = freed_state numbers q.state }
+pub freed_own : (j : ℕ) (numbers : List ℕ) (q : TaskRow) → q.job ≡ j → freed j numbers q ≡ record q { state = freed_state numbers q.state }
 freed_own j numbers q e = rw (eq-eqb q.job j e) refl
 
-freed_other : (j : ℕ) (numbers : List ℕ) (q : TaskRow) → q.job ≢ j → freed j numbers q ≡ q
+pub freed_other : (j : ℕ) (numbers : List ℕ) (q : TaskRow) → q.job ≢ j → freed j numbers q ≡ q
 freed_other j numbers q e = rw (ne_eqb q.job j e) refl
 
-freed_slot : (j : ℕ) (numbers : List ℕ) (q : TaskRow) → (freed j numbers q).slot ≡ q.slot
+pub freed_slot : (j : ℕ) (numbers : List ℕ) (q : TaskRow) → (freed j numbers q).slot ≡ q.slot
 freed_slot j numbers q = elim (cases_eq q.job j) [ inl e ↦ ap (λ (z : TaskRow). z.slot) (freed_own j numbers q e) | inr e ↦ ap (λ (z : TaskRow). z.slot) (freed_other j numbers q e) ]
 
 -- what a state shows once these have ended
