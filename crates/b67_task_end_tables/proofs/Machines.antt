@@ -18,7 +18,7 @@ use Rattle.b67_model.specs.Keyed.{keyed}
 use Rattle.b67_model.specs.Schedule.{Session}
 use Rattle.b67_model.specs.InOrder.{IsSegment, NumberedFrom, TasksInOrder}
 use Rattle.b67_law_order.proofs.Numbered.{keyed_member}
-use Rattle.b67_law_order_steps.proofs.Deaths.{ends_good}
+use Rattle.b67_law_order_steps.proofs.Deaths.{IsClosed, ends_good}
 use Rattle.b67_stack.specs.declared.Cpu.{Cpu}
 use Rattle.b67_stack.specs.MachineView.{MachineView}
 use Rattle.b67_stack.specs.Represents.{Storage}
@@ -43,12 +43,12 @@ use Rattle.b67_task_end_stack.specs.Ends.{gone_of}
 use Rattle.b67_task_end_stack.specs.Leaves.{Lost}
 use Rattle.b67_task_end_stack.specs.Turns.{InTurn}
 use Rattle.b67_task_end.specs.declared.families.EndedTask.{EndedTask}
-use Rattle.b67_task_end.specs.Family.{pair_of}
+use Rattle.b67_task_end.specs.Family.{pair_of, endings_of}
 use Rattle.b67_task_end_tables.specs.Left.{numbers_in, is_of, slot_shown, rows_left}
 use Rattle.b67_task_end_tables.specs.Marks.{ShowsMarks}
 use Rattle.b67_task_end_tables.specs.Deaths.{numbers_of, is_gone, without_tasks, IsStopped, StandsWith, MayEnd, HasEnded}
-use Rattle.b67_task_end_tables.proofs.Family.{among_has, has_among}
-use Rattle.b67_task_end_tables.proofs.Remains.{IsClosed, after, after_plan, member', member_of, rows_fit, few_left, tables_left}
+use Rattle.b67_task_end_tables.proofs.Family.{among_has, has_among, family, family_numbers, family_turn}
+use Rattle.b67_task_end_tables.proofs.Remains.{member', member_of, rows_fit, tables_left}
 use Rattle.b67_task_end_tables.proofs.TopMarks.{marks_show}
 
 pub numbers_same : (list : List EndedTask) → numbers_of (map pair_of list) ≡ numbers_in list
@@ -233,3 +233,16 @@ module _ (k : Machine) (u : Tasks) (x : Storage) (told : Option (List (List ℕ)
           storage = y;
           stands = subst (λ (q : Placement). MachineRepresents y told new q left_session) (sym (plan_is plan s m numbers may h.stands.session.holds.fits.rows)) all;
         }
+
+-- a task may end with all that are under it
+pub family_may : (plan : Placement) (s : Session) (m : SessionJob) (t : Task) (ending : Ending) → IsInOrderButCounts s → Has s.jobs m → (live : Has m.progress.job.tasks t) → IsStopped plan m (numbers_of (endings_of m.progress.job t.number ending))
+    → MayEnd plan s m (numbers_of (endings_of m.progress.job t.number ending))
+family_may plan s m t ending o in_m live stopped =
+    let g = (job_in_order s m o in_m).tasks in
+    record {
+      member = in_m;
+      todo = family (IsSegment m.constants) m.constants m.progress.job g t live;
+      named = family_numbers (IsSegment m.constants) m.constants m.progress.job g t live ending;
+      turn = family_turn (IsSegment m.constants) m.constants m.progress.job g t live;
+      stopped = stopped;
+    }

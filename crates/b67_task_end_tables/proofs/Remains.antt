@@ -16,6 +16,7 @@ use Rattle.b67_model.specs.Keyed.{keyed}
 use Rattle.b67_model.specs.Run.{number_of}
 use Rattle.b67_model.specs.Schedule.{Session}
 use Rattle.b67_model.specs.InOrder.{frames_of_task}
+use Rattle.b67_law_order_steps.proofs.Deaths.{IsClosed}
 use Rattle.b67_stack.specs.Represents.{Storage}
 use Rattle.b67_stack.specs.Stacks.{StackPlace}
 use Rattle.b67_layout.specs.Placement.{Placement, Slotted, slot_of, spot_in, base_spot, spots, address_of}
@@ -27,7 +28,7 @@ use Rattle.b67_layout.proofs.MachineViews.{with_course}
 use Rattle.b67_layout.proofs.Rows.{slot_below}
 use Rattle.b67_task_tables.specs.declared.tables.TaskRow.{TaskRow}
 use Rattle.b67_task_tables.specs.declared.tables.TaskState.{TaskState}
-use Rattle.b67_task_tables.specs.declared.tables.TaskState.TheVariants as state
+use Rattle.b67_task_tables.specs.declared.tables.TaskState.TheVariants as states
 use Rattle.b67_task_tables.specs.Tables.{state_of, task_row}
 use Rattle.b67_task_start_stack.specs.Likes.{SameStack, Like}
 use Rattle.b67_task_start_stack.proofs.Twins.{like_same, spots-twin}
@@ -39,10 +40,6 @@ use Rattle.b67_task_end_stack.proofs.Ends.{leaves, lists}
 use Rattle.b67_task_end_stack.proofs.Slotwise.{found_member, one_each}
 use Rattle.b67_task_end_tables.specs.Left.{freed_state, freed, stays, rows_left}
 use Rattle.b67_task_end_tables.proofs.Kept.{kept_differ, kept_length}
-
--- whoever has one of these above it is one of these
-abbrev pub IsClosed : Job → List ℕ → Type 0
-IsClosed job numbers = (t : Task) → Has job.tasks t → (n : ℕ) → Has t.parents n → among numbers n ≡ true → among numbers t.number ≡ true
 
 frames_like : (o' o : Option Task) → Like o' o → frames_of_task o' ≡ frames_of_task o
 frames_like None None l = refl
@@ -72,20 +69,20 @@ freed_slot j numbers q = elim (cases_eq q.job j) [ inl e ↦ ap (λ (z : TaskRow
 -- what a state shows once these have ended
 freed_shows : (plan plan' : Placement) (j : ℕ) (job job' : Job) (t t' : Task) (numbers : List ℕ) → ((id : ℕ) → address_of plan' (spots plan' j job' t' id) ≡ address_of plan (spots plan j job t id))
     → (w : TaskState) (c : Condition) → state_of w ≡ shown plan j job t c → state_of (freed_state numbers w) ≡ shown plan' j job' t' (released numbers c)
-freed_shows plan plan' j job job' t t' numbers same state.Ready Ready e = refl
-freed_shows plan plan' j job job' t t' numbers same (state.Awaits n) (Awaits k) e =
+freed_shows plan plan' j job job' t t' numbers same states.Ready Ready e = refl
+freed_shows plan plan' j job job' t t' numbers same (states.Awaits n) (Awaits k) e =
     let w : AwaitsTask n ≡ AwaitsTask k = e in
     let is : n ≡ k = cc in
-    subst (λ (z : ℕ). state_of (freed_state numbers (state.Awaits n)) ≡ shown plan' j job' t' (released numbers (Awaits z))) is
+    subst (λ (z : ℕ). state_of (freed_state numbers (states.Awaits n)) ≡ shown plan' j job' t' (released numbers (Awaits z))) is
     (elim (cases_Bool (among numbers n)) [ inl b ↦ rw b refl | inr b ↦ rw b refl ])
-freed_shows plan plan' j job job' t t' numbers same (state.WaitsAt mark offset) (WaitsAt frame off) e =
+freed_shows plan plan' j job job' t t' numbers same (states.WaitsAt mark offset) (WaitsAt frame off) e =
     e ∙ ap (λ (q : ℕ). WaitsAtCell q off) (sym (same frame))
-freed_shows plan plan' j job job' t t' numbers same state.Ready (Awaits k) e = (let w : rows.IsReady ≡ AwaitsTask k = e in let z : ⊥ = cc in absurd z)
-freed_shows plan plan' j job job' t t' numbers same state.Ready (WaitsAt frame off) e = (let w : rows.IsReady ≡ WaitsAtCell (address_of plan (spots plan j job t frame)) off = e in let z : ⊥ = cc in absurd z)
-freed_shows plan plan' j job job' t t' numbers same (state.Awaits n) Ready e = (let w : AwaitsTask n ≡ rows.IsReady = e in let z : ⊥ = cc in absurd z)
-freed_shows plan plan' j job job' t t' numbers same (state.Awaits n) (WaitsAt frame off) e = (let w : AwaitsTask n ≡ WaitsAtCell (address_of plan (spots plan j job t frame)) off = e in let z : ⊥ = cc in absurd z)
-freed_shows plan plan' j job job' t t' numbers same (state.WaitsAt mark offset) Ready e = (let w : WaitsAtCell mark offset ≡ rows.IsReady = e in let z : ⊥ = cc in absurd z)
-freed_shows plan plan' j job job' t t' numbers same (state.WaitsAt mark offset) (Awaits k) e = (let w : WaitsAtCell mark offset ≡ AwaitsTask k = e in let z : ⊥ = cc in absurd z)
+freed_shows plan plan' j job job' t t' numbers same states.Ready (Awaits k) e = (let w : rows.IsReady ≡ AwaitsTask k = e in let z : ⊥ = cc in absurd z)
+freed_shows plan plan' j job job' t t' numbers same states.Ready (WaitsAt frame off) e = (let w : rows.IsReady ≡ WaitsAtCell (address_of plan (spots plan j job t frame)) off = e in let z : ⊥ = cc in absurd z)
+freed_shows plan plan' j job job' t t' numbers same (states.Awaits n) Ready e = (let w : AwaitsTask n ≡ rows.IsReady = e in let z : ⊥ = cc in absurd z)
+freed_shows plan plan' j job job' t t' numbers same (states.Awaits n) (WaitsAt frame off) e = (let w : AwaitsTask n ≡ WaitsAtCell (address_of plan (spots plan j job t frame)) off = e in let z : ⊥ = cc in absurd z)
+freed_shows plan plan' j job job' t t' numbers same (states.WaitsAt mark offset) Ready e = (let w : WaitsAtCell mark offset ≡ rows.IsReady = e in let z : ⊥ = cc in absurd z)
+freed_shows plan plan' j job job' t t' numbers same (states.WaitsAt mark offset) (Awaits k) e = (let w : WaitsAtCell mark offset ≡ AwaitsTask k = e in let z : ⊥ = cc in absurd z)
 
 module _ (x : Storage) (core : List Tagged) (r : Regs) (marks : List ℕ) (plan : Placement) (s : Session) (o : IsInOrderButCounts s) (h : SessionHolds x core r marks plan s)
     (m : SessionJob) (in_m : Has s.jobs m) (numbers : List ℕ) (stopped : (plan.running ≡ 255) ⊎ Lost plan m.constants.number (gone_of m.progress.job numbers) plan.running)

@@ -1,8 +1,7 @@
 //! The rows of those who stay when tasks end, and the slots of those who go.
 
-ghost use Rattle.std.specs.Prelude.{◌≡◌, ◌<◌, ◌≤◌, [], ◌∷◌, ◌++◌, length, map};
+ghost use Rattle.std.specs.Prelude.{◌≡◌, ◌<◌, ◌≤◌, ◌==◌, [], ◌∷◌, ◌++◌, length, map};
 ghost use Rattle.std.specs.List.{list_any};
-ghost use Rattle.b67_model.specs.Endings.{among};
 ghost use Rattle.b67_task_end.specs.declared.families.EndedTask.{EndedTask};
 ghost use Rattle.b67_task_end_tables.specs.Left as left;
 ghost use Rattle.b67_task_end_tables.specs.Left.{numbers_in, slot_shown};
@@ -13,7 +12,7 @@ use b67_task_tables::{TaskRow, TaskState};
 
 /// Whether a number is that of one of these tasks.
 fn is_among(list: &[EndedTask], number: u32) -> bool
-    ensures { result ≡ among (numbers_in list.now) number }
+    ensures { result ≡ list_any (λ (e : EndedTask). e.number == number) list.now }
 {
     list.iter().any(|e| e.number == number)
 }

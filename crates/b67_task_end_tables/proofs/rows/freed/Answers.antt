@@ -1,6 +1,8 @@
-use Rattle.std.proofs.Common.{sym, ◌∙◌, refl}
+use Rattle.std.proofs.Common.{ℕ, ◌==◌, sym, ◌∙◌, refl}
+use Rattle.b67_task_end.specs.declared.families.EndedTask.{EndedTask}
 use Rattle.b67_task_end_tables.specs.Left.{numbers_in}
 use Rattle.b67_task_end_tables.proofs.Freed.{freed_awaits, freed_awaiting, freed_same}
+use Rattle.b67_task_end_tables.proofs.Kept.{any_map}
 use Rattle.b67_task_end_tables.proofs.Remains.{freed_other}
 use Rattle.b67_task_end_tables.proofs.rows.freed.Goals as goal
 
@@ -9,11 +11,11 @@ returns-then-row-job c = sym (freed_other c.args.job (numbers_in c.args.list.now
 
 pub returns-in-Awaits-then-is_among : goal.returns-in-Awaits-then-is_among
 returns-in-Awaits-then-is_among c =
-    freed_awaits c.args.job (numbers_in c.args.list.now) c.args.row c.in-Awaits.number c.if-row-job.false c.in-Awaits.is (sym c.is_among.ensures ∙ c.if-is_among.true)
+    freed_awaits c.args.job (numbers_in c.args.list.now) c.args.row c.in-Awaits.number c.if-row-job.false c.in-Awaits.is (sym (c.is_among.ensures ∙ any_map (λ (e : EndedTask). e.number) (λ (n : ℕ). n == c.in-Awaits.number) c.args.list.now) ∙ c.if-is_among.true)
 
 pub returns-in-Awaits : goal.returns-in-Awaits
 returns-in-Awaits c =
-    freed_awaiting c.args.job (numbers_in c.args.list.now) c.args.row c.in-Awaits.number c.if-row-job.false c.in-Awaits.is (sym c.is_among.ensures ∙ c.if-is_among.false)
+    freed_awaiting c.args.job (numbers_in c.args.list.now) c.args.row c.in-Awaits.number c.if-row-job.false c.in-Awaits.is (sym (c.is_among.ensures ∙ any_map (λ (e : EndedTask). e.number) (λ (n : ℕ). n == c.in-Awaits.number) c.args.list.now) ∙ c.if-is_among.false)
 
 pub returns-in-Ready : goal.returns-in-Ready
 returns-in-Ready c = freed_same c.args.job (numbers_in c.args.list.now) c.args.row _ c.if-row-job.false c.in-Ready.is refl
