@@ -40,7 +40,7 @@ keeps_on {A = A} {B = B} f p xs done at d low e =
     let x = get_or xs at d in
     let next : at + 1 ≡ suc at = omega arith in
     append_assoc done (map f (filter p (x ∷ []))) (map f (filter p (drop (at + 1) xs)))
-    ∙ ap (λ (n : ℕ). done ++ map f (filter p (x ∷ [])) ++ map f (filter p (drop n xs))) next
+    ∙ ap (λ (n : ℕ). done ++ (map f (filter p (x ∷ [])) ++ map f (filter p (drop n xs)))) next
     ∙ ap (λ (zs : List B). done ++ zs) (sym (kept_cons f p x (drop (suc at) xs)))
     ∙ ap (λ (zs : List A). done ++ map f (filter p zs)) (sym (drop-get xs at x (slice_get-get_or xs at d low)))
     ∙ e

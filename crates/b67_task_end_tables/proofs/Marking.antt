@@ -22,13 +22,13 @@ raised_by old new r own others k n low e = elim (cases_eq r.parent k) [
 abbrev pub MarksSoFar : List ℕ → List TaskRow → List TaskRow → Type 0
 MarksSoFar marks rest rows = (k : ℕ) → k < 120 → (n : ℕ) × (slice_get marks k ≡ Some n) × (max n (top_mark k rest) ≡ top_mark k rows)
 
-zeros : (n k : ℕ) → k < n → slice_get (replicate n 0) k ≡ Some 0
-zeros zero k low = absurd (omega (arith, low))
-zeros (suc n) zero low = refl
-zeros (suc n) (suc k) low = zeros n k (omega (arith, low))
+each_is : {A : Type 0} (x : A) (n k : ℕ) → k < n → slice_get (replicate n x) k ≡ Some x
+each_is x zero k low = absurd (omega (arith, low))
+each_is x (suc n) zero low = refl
+each_is x (suc n) (suc k) low = each_is x n k (omega (arith, low))
 
 pub marks_first : (marks : List ℕ) (rows : List TaskRow) → marks ≡ replicate 120 0 → MarksSoFar marks rows rows
-marks_first marks rows e k low = (0, ap (λ (l : List ℕ). slice_get l k) e ∙ zeros 120 k low, (let g : max 0 (top_mark k rows) ≡ top_mark k rows = omega arith in g))
+marks_first marks rows e k low = (0, ap (λ (l : List ℕ). slice_get l k) e ∙ each_is 0 120 k low, (let g : max 0 (top_mark k rows) ≡ top_mark k rows = omega arith in g))
 
 step : (k n : ℕ) (r : TaskRow) (rest : List TaskRow) → (max (if r.parent == k then max n r.critical else n) (top_mark k rest)) ≡ max n (top_mark k (r ∷ rest))
 step k n r rest = elim (cases_eq r.parent k) [
