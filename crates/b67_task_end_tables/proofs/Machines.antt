@@ -80,8 +80,8 @@ module _ (plan : Placement) (s : Session) (m : SessionJob) (numbers : List ℕ) 
   live_task n i = let (t, k, e) = named_task n i in (t, turn_live m.progress.job.tasks [] may.todo may.turn t k, e)
 
   pub closed : IsClosed m.progress.job numbers
-  closed u in_u n above yes =
-      let (t, k, e) = named_task n (has_among numbers n yes) in
+  closed u in_u n above is =
+      let (t, k, e) = named_task n (has_among numbers n is) in
       let there : Has may.todo u = ⊎_elim (λ (z : Has [] u). absurd z) (λ (z : Has may.todo u). z) (turn_closed m.progress.job.tasks [] may.todo may.turn t k u in_u (subst (Has u.parents) (sym e) above)) in
       among_has numbers u.number (subst (λ (ns : List ℕ). Has ns u.number) may.named (has_map (λ (t : Task). t.number) may.todo u there))
 
