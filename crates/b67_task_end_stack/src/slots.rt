@@ -81,6 +81,7 @@ pub fn bury(cpu: &mut Cpu, areas: &mut Areas, sectors: &mut Sectors, slots: &[u8
         × MachineRepresentsView x cpu.old areas.old sectors.old told (machine_view plan s.jobs) × MayBury x cpu.old.core cpu.old.regs cpu.old.critical plan s m numbers
         × (slots_gone plan m numbers ≡ slots.now) }
     ensures rest { cpu.new ≡ record cpu.old { core = cpu.new.core; regs = all_put_out cpu.old.regs slots.now } }
+    ensures len { length cpu.new.core ≡ length cpu.old.core }
     ensures areas { areas.new ≡ areas.old }
     ensures count { length sectors.new.links ≡ length sectors.old.links }
     ensures stands { (x : Storage) (told : Option (List (List ℕ))) (plan : Placement) (s : Session) (m : SessionJob) (numbers : List ℕ)

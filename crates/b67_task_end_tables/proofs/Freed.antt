@@ -1,0 +1,28 @@
+-- A row once tasks of a job have ended.
+use Rattle.std.proofs.Common.{◌≡◌, ◌≢◌, ℕ, List, Bool, true, false, refl, sym, ◌∙◌, ap, not}
+use Rattle.std.proofs.lemmas.Bool.{eq-eqb, ne_eqb}
+use Rattle.b67_model.specs.Endings.{among}
+use Rattle.b67_task_tables.specs.declared.tables.TaskRow.{TaskRow}
+use Rattle.b67_task_tables.specs.declared.tables.TaskState.{TaskState}
+use Rattle.b67_task_tables.specs.declared.tables.TaskState.TheVariants.{Ready, Awaits}
+use Rattle.b67_task_end_tables.specs.Left.{freed_state, freed, stays}
+use Rattle.b67_task_end_tables.proofs.Remains.{freed_own}
+
+pub stays_own : (j : ℕ) (numbers : List ℕ) (q : TaskRow) (b : Bool) → q.job ≡ j → b ≡ among numbers q.number → not b ≡ stays j numbers q
+stays_own j numbers q b e is = rw (eq-eqb q.job j e) (ap not is)
+
+pub stays_other : (j : ℕ) (numbers : List ℕ) (q : TaskRow) → q.job ≢ j → true ≡ stays j numbers q
+stays_other j numbers q e = rw (ne_eqb q.job j e) refl
+
+pub freed_awaits : (j : ℕ) (numbers : List ℕ) (q : TaskRow) (n : ℕ) → q.job ≡ j → Awaits n ≡ q.state → among numbers n ≡ true → record q { state = Ready } ≡ freed j numbers q
+freed_awaits j numbers q n e is t =
+    let to : freed_state numbers (Awaits n) ≡ Ready = rw t refl in
+    sym (freed_own j numbers q e ∙ ap (λ (w : TaskState). record q { state = w }) (ap (freed_state numbers) (sym is) ∙ to))
+
+pub freed_awaiting : (j : ℕ) (numbers : List ℕ) (q : TaskRow) (n : ℕ) → q.job ≡ j → Awaits n ≡ q.state → among numbers n ≡ false → q ≡ freed j numbers q
+freed_awaiting j numbers q n e is t =
+    let to : freed_state numbers (Awaits n) ≡ Awaits n = rw t refl in
+    sym (freed_own j numbers q e ∙ ap (λ (w : TaskState). record q { state = w }) (ap (freed_state numbers) (sym is) ∙ to ∙ is))
+
+pub freed_same : (j : ℕ) (numbers : List ℕ) (q : TaskRow) (w : TaskState) → q.job ≡ j → w ≡ q.state → freed_state numbers w ≡ w → q ≡ freed j numbers q
+freed_same j numbers q w e is fix = sym (freed_own j numbers q e ∙ ap (λ (v : TaskState). record q { state = v }) (ap (freed_state numbers) (sym is) ∙ fix ∙ is))

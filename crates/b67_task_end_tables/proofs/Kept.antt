@@ -1,0 +1,92 @@
+-- Lists whose items are kept or left out, each then changed but for its key.
+use Rattle.std.proofs.Common.{◌≡◌, ◌≢◌, ℕ, zero, suc, ◌+◌, ◌<◌, ◌≤◌, List, [], ◌∷◌, ◌++◌, map, filter, find, length, drop, get_or, Option, Some, None, Bool, true, false, not, refl, sym, ◌∙◌, ap, arith, inl, inr, ⊎_elim, subst, ◌==◌}
+use Rattle.std.specs.Prelude.{◌||◌}
+use Rattle.std.specs.List.{slice_get, list_any}
+use Rattle.std.proofs.lemmas.Bool.{cases_Bool}
+use Rattle.std.proofs.lemmas.List.{length-map, append-nil, append_assoc}
+use Rattle.std.proofs.lemmas.Option.{slice_get-get_or}
+use Rattle.b67_lemmas.specs.Lists.{Has}
+use Rattle.b67_lemmas.proofs.Members.{length_filter}
+use Rattle.b67_lemmas.proofs.Places.{drop-get}
+use Rattle.b67_layout.specs.Rows.{Differ}
+
+module _ {A : Type 0} (f : A → A) (p : A → Bool) (key : A → ℕ) (same : (a : A) → key (f a) ≡ key a) where
+  kept_has : (xs : List A) (n : ℕ) → Has (map key (map f (filter p xs))) n → Has (map key xs) n
+  kept_has [] n i = i
+  kept_has (x ∷ xs) n i = elim (cases_Bool (p x)) [
+    | inl t ↦
+        (let k : Has (map key (map f (x ∷ filter p xs))) n = rw t at i in
+        ⊎_elim (λ (e : key (f x) ≡ n). inl (sym (same x) ∙ e)) (λ (r : Has (map key (map f (filter p xs))) n). inr (kept_has xs n r)) k)
+    | inr t ↦ (let k : Has (map key (map f (filter p xs))) n = rw t at i in inr (kept_has xs n k))
+  ]
+
+  pub kept_differ : (xs : List A) → Differ (map key xs) → Differ (map key (map f (filter p xs)))
+  kept_differ [] d = d
+  kept_differ (x ∷ xs) d = elim (cases_Bool (p x)) [
+    | inl t ↦ rw t (λ i. d.0 (kept_has xs (key x) (subst (Has (map key (map f (filter p xs)))) (same x) i)), kept_differ xs d.1)
+    | inr t ↦ rw t (kept_differ xs d.1)
+  ]
+
+pub kept_length : {A B : Type 0} (f : A → B) (p : A → Bool) (xs : List A) → length (map f (filter p xs)) ≤ length xs
+kept_length f p xs = omega (arith, length-map (filter p xs) f, length_filter p xs)
+
+kept_cons : {A B : Type 0} (f : A → B) (p : A → Bool) (x : A) (xs : List A) → map f (filter p (x ∷ xs)) ≡ map f (filter p (x ∷ [])) ++ map f (filter p xs)
+kept_cons f p x xs = elim (cases_Bool (p x)) [ inl t ↦ rw t refl | inr t ↦ rw t refl ]
+
+-- what is kept so far, with what is still to be kept
+pub keeps_on : {A B : Type 0} (f : A → B) (p : A → Bool) (xs : List A) (done : List B) (at : ℕ) (d : A) → at < length xs → done ++ map f (filter p (drop at xs)) ≡ map f (filter p xs)
+    → (done ++ map f (filter p (get_or xs at d ∷ []))) ++ map f (filter p (drop (at + 1) xs)) ≡ map f (filter p xs)
+keeps_on {A = A} {B = B} f p xs done at d low e =
+    let x = get_or xs at d in
+    let next : at + 1 ≡ suc at = omega arith in
+    append_assoc done (map f (filter p (x ∷ []))) (map f (filter p (drop (at + 1) xs)))
+    ∙ ap (λ (n : ℕ). done ++ (map f (filter p (x ∷ [])) ++ map f (filter p (drop n xs)))) next
+    ∙ ap (λ (zs : List B). done ++ zs) (sym (kept_cons f p x (drop (suc at) xs)))
+    ∙ ap (λ (zs : List A). done ++ map f (filter p zs)) (sym (drop-get xs at x (slice_get-get_or xs at d low)))
+    ∙ e
+
+pub drop_past : {A : Type 0} (xs : List A) (at : ℕ) → length xs ≤ at → drop at xs ≡ []
+drop_past [] zero low = refl
+drop_past [] (suc at) low = refl
+drop_past (x ∷ xs) zero low = absurd (omega (arith, low))
+drop_past (x ∷ xs) (suc at) low = drop_past xs at (omega (arith, low))
+
+pub keeps_all : {A B : Type 0} (f : A → B) (p : A → Bool) (xs : List A) (done : List B) (at : ℕ) → length xs ≤ at → done ++ map f (filter p (drop at xs)) ≡ map f (filter p xs) → done ≡ map f (filter p xs)
+keeps_all {A = A} f p xs done at past e = sym (append-nil done) ∙ ap (λ (zs : List A). done ++ map f (filter p zs)) (sym (drop_past xs at past)) ∙ e
+
+-- a search goes on
+pub finds_on : {A : Type 0} (p : A → Bool) (xs : List A) (at : ℕ) (d : A) → at < length xs → find p (drop at xs) ≡ find p xs → p (get_or xs at d) ≡ false → find p (drop (at + 1) xs) ≡ find p xs
+finds_on {A = A} p xs at d low e t =
+    let next : at + 1 ≡ suc at = omega arith in
+    ap (λ (n : ℕ). find p (drop n xs)) next
+    ∙ passed (get_or xs at d) (drop (suc at) xs) t
+    ∙ ap (find p) (sym (drop-get xs at (get_or xs at d) (slice_get-get_or xs at d low)))
+    ∙ e
+  where
+    passed : (x : A) (ys : List A) → p x ≡ false → find p ys ≡ find p (x ∷ ys)
+    passed x ys q = rw q refl
+
+pub finds_here : {A : Type 0} (p : A → Bool) (xs : List A) (at : ℕ) (d : A) → at < length xs → find p (drop at xs) ≡ find p xs → p (get_or xs at d) ≡ true → find p xs ≡ Some (get_or xs at d)
+finds_here {A = A} p xs at d low e t =
+    sym e
+    ∙ ap (find p) (drop-get xs at (get_or xs at d) (slice_get-get_or xs at d low))
+    ∙ met (get_or xs at d) (drop (suc at) xs) t
+  where
+    met : (x : A) (ys : List A) → p x ≡ true → find p (x ∷ ys) ≡ Some x
+    met x ys q = rw q refl
+
+pub finds_none : {A : Type 0} (p : A → Bool) (xs : List A) (at : ℕ) → length xs ≤ at → find p (drop at xs) ≡ find p xs → find p xs ≡ None
+finds_none p xs at past e = sym e ∙ ap (find p) (drop_past xs at past)
+
+pub keep_out : {A B : Type 0} (f : A → B) (p : A → Bool) (done : List B) (x : A) → p x ≡ false → done ≡ done ++ map f (filter p (x ∷ []))
+keep_out f p done x t = rw t (sym (append-nil done))
+
+pub keep_in : {A B : Type 0} (f : A → B) (p : A → Bool) (done : List B) (x : A) → p x ≡ true → done ++ f x ∷ [] ≡ done ++ map f (filter p (x ∷ []))
+keep_in f p done x t = rw t refl
+
+pub keep_one : {A B : Type 0} (f : A → B) (p : A → Bool) (x : A) → length (map f (filter p (x ∷ []))) ≤ 1
+keep_one f p x = kept_length f p (x ∷ [])
+
+pub any_map : {A B : Type 0} (f : A → B) (p : B → Bool) (xs : List A) → list_any (λ (x : A). p (f x)) xs ≡ list_any p (map f xs)
+any_map f p [] = refl
+any_map f p (x ∷ xs) = ap (λ (b : Bool). p (f x) || b) (any_map f p xs)

@@ -1,0 +1,16 @@
+-- The marks on which live tasks depend, by the rows of the table.
+use Rattle.std.specs.Prelude.{◌≡◌, ℕ, ◌<◌, ◌==◌, max, List, [], ◌∷◌, Some, slice_get, if◌then◌else◌}
+use Rattle.b67_task_tables.specs.declared.tables.TaskRow.{TaskRow}
+
+-- the topmost mark in a slot on which a task of these rows depends, 0 for none
+abbrev pub top_mark : ℕ → List TaskRow → ℕ
+top_mark k [] = 0
+top_mark k (r ∷ rows) = if r.parent == k then max r.critical (top_mark k rows) else top_mark k rows
+
+-- that of each slot
+abbrev pub ShowsMarks : List ℕ → List TaskRow → Type 0
+ShowsMarks marks rows = (k : ℕ) → k < 120 → slice_get marks k ≡ Some (top_mark k rows)
+
+-- the row's task depends on its mark
+abbrev pub Raised : List ℕ → List ℕ → TaskRow → Type 0
+Raised old new r = (k n : ℕ) → k < 120 → slice_get old k ≡ Some n → slice_get new k ≡ Some (if r.parent == k then max n r.critical else n)

@@ -1,0 +1,42 @@
+//! A task ends, and its descendants with it.
+
+ghost use Rattle.std.specs.Prelude.{◌≡◌, ◌≤◌, ℕ, List, Option, length, map};
+ghost use Rattle.b67_model.specs.State.{SessionJob};
+ghost use Rattle.b67_model.specs.Schedule.{Session};
+ghost use Rattle.b67_stack.specs.Represents.{Storage};
+ghost use Rattle.b67_layout.specs.Placement.{Placement};
+ghost use Rattle.b67_task_tables.specs.declared.tables.Tasks.{Tasks};
+ghost use Rattle.b67_task_end.specs.Family.{pair_of};
+ghost use Rattle.b67_task_end_tables.specs.Deaths.{numbers_of, StandsWith, MayEnd, EndsSome, HasEnded};
+
+use crate::marks::marks_of;
+use crate::rows::{rows_left, slots_of};
+use b67_task_end::EndedTask;
+use b67_task_end_stack::bury;
+use b67_task_tables::Machine;
+
+/// These tasks of a job end, each after those under it, as `endings` lists them. Their rows are gone, their slots are free,
+/// and the areas and sectors of their arrays are given back; who awaited one is ready. The registers of no other task may be
+/// in use, and none are then. The tables' counts needn't be those of the session.
+pub fn end(machine: &mut Machine, job: u8, list: &[EndedTask])
+    requires some { EndsSome machine.old job (numbers_of (map pair_of list.now)) }
+    requires few { length list.now ≤ 15 }
+    ensures stands { (u : Tasks) (x : Storage) (told : Option (List (List ℕ))) (plan : Placement) (s : Session) (m : SessionJob) → StandsWith machine.old u x told plan s
+        → MayEnd plan s m (numbers_of (map pair_of list.now)) → m.constants.number ≡ job → HasEnded u told plan s m (map pair_of list.now) machine.new }
+    ensures tasks { machine.new.tasks ≡ record machine.old.tasks { rows = machine.new.tasks.rows; running = 255 } }
+    ensures areas { machine.new.areas ≡ machine.old.areas }
+    ensures len { length machine.new.cpu.core ≡ length machine.old.cpu.core }
+    ensures count { length machine.new.sectors.links ≡ length machine.old.sectors.links }
+{
+    let slots = slots_of(machine.tasks.rows.as_slice(), job, list);
+    bury(
+        &mut machine.cpu,
+        &mut machine.areas,
+        &mut machine.sectors,
+        slots.as_slice(),
+    );
+    let rows = rows_left(machine.tasks.rows.as_slice(), job, list);
+    machine.cpu.critical = marks_of(rows.as_slice());
+    machine.tasks.rows = rows;
+    machine.tasks.running = 255;
+}

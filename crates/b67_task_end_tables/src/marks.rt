@@ -1,0 +1,39 @@
+//! The marks on which live tasks depend, by the rows of the table.
+
+ghost use Rattle.std.specs.Prelude.{◌≡◌, ◌≢◌, ℕ, ◌≤◌, ◌<◌, max, Some, length, slice_get};
+ghost use Rattle.b67_task_end_tables.specs.Marks.{ShowsMarks, Raised};
+
+use b67_task_tables::TaskRow;
+
+/// A live task depends on the mark at a displacement of a slot.
+fn raise(marks: &mut [u16; 120], slot: u8, at: u16)
+    requires { slot < 120 }
+    ensures own { (v : ℕ) → slice_get marks.old slot ≡ Some v → slice_get marks.new slot ≡ Some (max v at) }
+    ensures others { (q : ℕ) → q ≢ slot → slice_get marks.new q ≡ slice_get marks.old q }
+{
+    if marks[slot as usize] < at {
+        marks[slot as usize] = at;
+    }
+}
+
+/// A row's task depends on the row's critical mark in its parent's slot.
+fn depend(marks: &mut [u16; 120], row: TaskRow)
+    ensures { Raised marks.old marks.new row }
+{
+    if row.parent >= 120 {
+        return;
+    }
+    raise(marks, row.parent, row.critical);
+}
+
+/// The displacement of the topmost mark in each slot on which a task of these rows depends, 0 for none.
+pub fn marks_of(rows: &[TaskRow]) -> [u16; 120]
+    requires { length rows.now ≤ 255 }
+    ensures { ShowsMarks result rows.now }
+{
+    let mut marks = [0; 120];
+    for at in 0..rows.len() as u8 {
+        depend(&mut marks, rows[at as usize]);
+    }
+    marks
+}

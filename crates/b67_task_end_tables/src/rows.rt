@@ -1,0 +1,105 @@
+//! The rows of those who stay when tasks end, and the slots of those who go.
+
+ghost use Rattle.std.specs.Prelude.{◌≡◌, ◌<◌, ◌≤◌, ◌==◌, [], ◌∷◌, ◌++◌, length, map};
+ghost use Rattle.std.specs.List.{list_any};
+ghost use Rattle.b67_task_end.specs.declared.families.EndedTask.{EndedTask};
+ghost use Rattle.b67_task_end_tables.specs.Left as left;
+ghost use Rattle.b67_task_end_tables.specs.Left.{numbers_in, slot_shown};
+
+use arrayvec::ArrayVec;
+use b67_task_end::EndedTask;
+use b67_task_tables::{TaskRow, TaskState};
+
+/// Whether a number is that of one of these tasks.
+fn is_among(list: &[EndedTask], number: u32) -> bool
+    ensures { result ≡ list_any (λ (e : EndedTask). e.number == number) list.now }
+{
+    list.iter().any(|e| e.number == number)
+}
+
+/// Whether a row isn't that of one of a job's tasks that ended.
+fn stays(row: TaskRow, job: u8, list: &[EndedTask]) -> bool
+    ensures { result ≡ left.stays job (numbers_in list.now) row }
+{
+    if row.job == job {
+        return !is_among(list, row.number);
+    }
+    true
+}
+
+/// The row once these tasks of a job have ended: who awaited one of them is ready.
+fn freed(row: TaskRow, job: u8, list: &[EndedTask]) -> TaskRow
+    ensures { result ≡ left.freed job (numbers_in list.now) row }
+{
+    if row.job != job {
+        return row;
+    }
+    match row.state {
+        TaskState::Awaits(number) => {
+            if is_among(list, number) {
+                let mut ready = row;
+                ready.state = TaskState::Ready;
+                return ready;
+            }
+            row
+        }
+        TaskState::Ready => row,
+        TaskState::WaitsAt { .. } => row,
+    }
+}
+
+/// Keeps a row, as it is then, if it stays.
+fn keep(rows: &mut ArrayVec<TaskRow, 120>, row: TaskRow, job: u8, list: &[EndedTask])
+    requires { length rows.old.items < 120 }
+    ensures { rows.new.items ≡ rows.old.items ++ left.rows_left job (numbers_in list.now) (row ∷ []) }
+{
+    if !stays(row, job, list) {
+        return;
+    }
+    rows.push(freed(row, job, list));
+}
+
+/// The rows once these tasks of a job have ended.
+pub fn rows_left(rows: &[TaskRow], job: u8, list: &[EndedTask]) -> ArrayVec<TaskRow, 120>
+    requires { length rows.now ≤ 120 }
+    ensures { result.items ≡ left.rows_left job (numbers_in list.now) rows.now }
+{
+    let mut kept = ArrayVec::new();
+    for at in 0..rows.len() as u8 {
+        keep(&mut kept, rows[at as usize], job, list);
+    }
+    kept
+}
+
+/// Whether a row is that of a job's task of a number.
+fn is_of(row: TaskRow, job: u8, number: u32) -> bool
+    ensures { result ≡ left.is_of job number row }
+{
+    row.job == job && row.number == number
+}
+
+/// The slot of a job's task of a number, 255 for none.
+fn slot_in(rows: &[TaskRow], job: u8, number: u32) -> u8
+    requires { length rows.now ≤ 255 }
+    ensures { result ≡ slot_shown job number rows.now }
+{
+    for at in 0..rows.len() as u8 {
+        if is_of(rows[at as usize], job, number) {
+            return rows[at as usize].slot;
+        }
+    }
+    255
+}
+
+/// The slots of these tasks of a job, in their order.
+pub fn slots_of(rows: &[TaskRow], job: u8, list: &[EndedTask]) -> ArrayVec<u8, 15>
+    requires rows { length rows.now ≤ 255 }
+    requires list { length list.now ≤ 15 }
+    ensures { result.items ≡ map (λ (e : EndedTask). slot_shown job e.number rows.now) list.now }
+{
+    let mut slots = ArrayVec::new();
+    for at in 0..list.len() as u8 {
+        slots.push(slot_in(rows, job, list[at as usize].number));
+    }
+    slots
+}
