@@ -1,10 +1,10 @@
 -- What the call of an intrinsic answers, prints and leaves.
-use Rattle.std.specs.Prelude.{◌≡◌, ◌≢◌, ℕ, ◌<◌, ◌⊎◌, List, [], ◌∷◌, slice_get, Option, Some, None, Result, Ok, Err}
+use Rattle.std.specs.Prelude.{◌≡◌, ◌≢◌, ℕ, ◌+◌, ◌-◌, ◌<◌, ◌≤◌, ◌⊎◌, List, [], ◌∷◌, length, slice_get, Option, Some, None, Result, Ok, Err}
 use Rattle.b67_lemmas.specs.Lists.{Has}
-use Rattle.b67_model.specs.State.{Array, Task, Job, SessionJob}
-use Rattle.b67_model.specs.Steps.{Line, Goes}
+use Rattle.b67_model.specs.State.{Array, Condition, Task, Job, SessionJob}
+use Rattle.b67_model.specs.Steps.{Line, Goes, Waits}
 use Rattle.b67_model.specs.Rows.{step}
-use Rattle.b67_model.specs.Need.{touched_of}
+use Rattle.b67_model.specs.Need.{touched_of, need}
 use Rattle.b67_model.specs.Sectors.{sectors}
 use Rattle.b67_model.specs.Lines.{run_text}
 use Rattle.b67_model.specs.Schedule.{Session}
@@ -17,8 +17,11 @@ use Rattle.b67_exec_cells.specs.Running.{code_area}
 use Rattle.b67_exec_cells.specs.Called.{called_in}
 use Rattle.b67_single.specs.Single.{task_lines}
 use Rattle.b67_session_lines.specs.Parts.{TookRest, TookMore}
+use Rattle.b67_layout.specs.Rows.{shown}
+use Rattle.b67_task_start.specs.Starts.{moved}
+use Rattle.b67_task_tables.specs.declared.tables.TaskState.{TaskState}
 use Rattle.b67_task_tables.specs.declared.tables.Machine.{Machine}
-use Rattle.b67_task_tables.specs.Tables.{MachineRepresents}
+use Rattle.b67_task_tables.specs.Tables.{MachineRepresents, state_of}
 pub use Rattle.b67_task_tables.specs.Tables.{AreCountable}
 use Rattle.b67_task_tables.specs.Runs.{RunsTask}
 pub use Rattle.b67_task_tables.specs.Shortage.{Lengthens, IsShortOf, IsShortAt}
@@ -27,13 +30,21 @@ use Rattle.b67_mcp.specs.declared.ends.CallEnd.TheVariants as ends
 use Rattle.b67_mcp.specs.declared.ends.Stop.{Stop}
 use Rattle.b67_mcp.specs.declared.ends.Stop.TheVariants as stops
 
--- the intrinsics that are built: not 12 to 16
-abbrev pub IsBuilt : ℕ → Type 0
-IsBuilt n = (n < 12) ⊎ (16 < n)
+-- the step of a task starts another: it is a PROCESS that doesn't answer 0
+pub record StartsTask (m : SessionJob) (t : Task) : Type 0 where
+  pub job : Job
+  pub is : step m.constants m.progress.job t ≡ Ok (Goes job [] None)
+  pub more : length job.tasks ≡ length m.progress.job.tasks + 1
 
--- the operator calls no intrinsic, or one that is built
-abbrev pub CallsBuilt : SessionJob → Task → Type 0
-CallsBuilt m t = (n : ℕ) → called_in m t ≡ Some n → IsBuilt n
+-- the step may call the device though its segment and its array are present: it makes an array longer, or starts a task
+abbrev pub CallsDevice : SessionJob → Task → Type 0
+CallsDevice m t = Lengthens m t ⊎ StartsTask m t
+
+-- the step makes its task wait, and this is what its row in the tables is to show then
+pub record WaitsSo (plan : Placement) (m : SessionJob) (t : Task) (state : TaskState) : Type 0 where
+  pub condition : Condition
+  pub is : step m.constants m.progress.job t ≡ Ok (Waits condition)
+  pub shows : state_of state ≡ shown plan m.constants.number m.progress.job t condition
 
 -- the text of what a step of a task prints
 abbrev pub printed_text : SessionJob → Task → List Line → List ℕ
@@ -45,16 +56,15 @@ printed_after [] before = before
 printed_after (line ∷ more) before = 0
 
 -- the call was made and the rest of its text was taken, of which so many first bytes were printed before, and the machine
--- stands for what its row makes. A new array has its home in the plan
+-- stands for what its row makes. A new array has its home in the plan, and a task that is started counts for the peak
 pub record IsCalled {K : Type 0} (taken : K → Option (List ℕ)) (paper paper' : K) (told : Option (List (List ℕ))) (s : Session) (m : SessionJob) (t : Task) (before : ℕ) (new : Machine) : Type 0 where
   pub job : Job
   pub printed : List Line
   pub touched : Option ℕ
   pub is : step m.constants m.progress.job t ≡ Ok (Goes job printed touched)
-  pub built : CallsBuilt m t
   pub storage : Storage
   pub plan : Placement
-  pub stands : MachineRepresents storage told new plan (with_job s m job)
+  pub stands : MachineRepresents storage told new plan (moved s m job (length job.tasks - length m.progress.job.tasks))
   pub text : TookRest taken paper paper' (printed_text m t printed) before
   pub reset : new.tasks.printed ≡ printed_after printed before
 
@@ -89,9 +99,9 @@ pub record IsThere (x : Storage) (plan : Placement) (m : SessionJob) (n : ℕ) :
 abbrev pub TouchesPresent : Storage → Placement → SessionJob → Task → Type 0
 TouchesPresent x plan m t = (n : ℕ) → touched_of m.constants m.progress.job t (step m.constants m.progress.job t) ≡ Some n → IsThere x plan m n
 
--- the call may write to the device: it makes an array longer, and the array is present
+-- the call may write to the device: it makes an array longer, and the array is present, or it starts a task
 abbrev pub MayWrite : Storage → Placement → SessionJob → Task → Type 0
-MayWrite x plan m t = Lengthens m t × TouchesPresent x plan m t
+MayWrite x plan m t = (Lengthens m t × TouchesPresent x plan m t) ⊎ StartsTask m t
 
 -- after every other answer the device is as it was
 abbrev pub CallWrites : Storage → Placement → SessionJob → Task → Result CallEnd Stop → Type 0
@@ -103,7 +113,6 @@ CallWrites x plan m t answered = ⊥
 -- The call was to make an array longer, and isn't made: the machine stands for the same session. The array may be absent now,
 -- and everything else is held as it was
 pub record IsRefused (x : Storage) (told : Option (List (List ℕ))) (plan : Placement) (s : Session) (m : SessionJob) (t : Task) (old new : Machine) : Type 0 where
-  pub built : CallsBuilt m t
   pub longer : Lengthens m t
   pub storage : Storage
   pub stands : MachineRepresents storage told new plan s
@@ -120,18 +129,50 @@ pub record IsFull (x : Storage) (told : Option (List (List ℕ))) (count : ℕ) 
   pub size_is : size ≡ count
   pub exceeds : count < sum
 
+-- The call was to start a task, and doesn't: the machine stands for the same session. Areas may have been evicted
+pub record IsUnstarted (told : Option (List (List ℕ))) (plan : Placement) (s : Session) (m : SessionJob) (t : Task) (old new : Machine) : Type 0 where
+  pub starts : StartsTask m t
+  pub storage : Storage
+  pub stands : MachineRepresents storage told new plan s
+  pub tables : new.tasks ≡ old.tasks
+
+-- so it is where the session takes more sectors than the device has, and the machine is short of some
+pub record IsUnstartedFull (told : Option (List (List ℕ))) (count : ℕ) (plan : Placement) (s : Session) (m : SessionJob) (t : Task) (sum size : ℕ) (old new : Machine) : Type 0 where
+  pub unstarted : IsUnstarted told plan s m t old new
+  pub wants : ℕ
+  pub free : ℕ
+  pub short : IsShortOf unstarted.storage plan s.jobs wants free
+  pub sum_is : sum ≡ sectors s.jobs
+  pub size_is : size ≡ count
+  pub exceeds : count < sum
+
+-- core is too small for the step, which starts a task
+pub record LacksCore (core : ℕ) (s : Session) (m : SessionJob) (t : Task) (words size : ℕ) : Type 0 where
+  pub starts : StartsTask m t
+  pub words_is : words ≡ need core s m t
+  pub size_is : size ≡ core
+  pub exceeds : core < words
+
 -- By what was answered, over a device of so many sectors that tells this afterwards. Where the call wasn't made nothing has
 -- changed but, after a printer's failure, how much is printed, and, after a want of sectors or a device's failure, where the
--- array is held
+-- array is held or which areas are present
 abbrev pub CallMeets : {K : Type 0} → (K → Option (List ℕ)) → Option (List (List ℕ)) → ℕ → Storage → Placement → Session → SessionJob → Task → ℕ → Result CallEnd Stop → Machine → Machine → K → K → Type 0
 CallMeets taken told count x plan s m t n (Ok ends.Done) old new paper paper' = IsCalled taken paper paper' told s m t old.tasks.printed new
 CallMeets taken told count x plan s m t n (Ok (ends.Absent found)) old new paper paper' = TouchesAbsent x plan m t found × (new ≡ old) × (paper' ≡ paper)
 CallMeets taken told count x plan s m t n (Ok (ends.Fault fault)) old new paper paper' = (step m.constants m.progress.job t ≡ Err fault) × (new ≡ old) × (paper' ≡ paper)
+CallMeets taken told count x plan s m t n (Ok (ends.Waits state)) old new paper paper' = WaitsSo plan m t state × (new ≡ old) × (paper' ≡ paper)
 CallMeets taken told count x plan s m t n (Err stops.PrintFault) old new paper paper' = IsCut taken paper paper' m t old.tasks.printed new.tasks.printed × OnlyPrinted old new
-CallMeets taken told count x plan s m t n (Err (stops.BackingFull sum size)) old new paper paper' = IsFull x told count plan s m t sum size old new × (paper' ≡ paper)
-CallMeets taken told count x plan s m t n (Err stops.BackingFault) old new paper paper' = IsRefused x told plan s m t old new × (paper' ≡ paper)
-CallMeets taken told count x plan s m t n (Err stops.Unbuilt) old new paper paper' = (IsBuilt n → ⊥) × (new ≡ old) × (paper' ≡ paper)
-CallMeets taken told count x plan s m t n (Err (stops.NoCore need core)) old new paper paper' = ⊥
+CallMeets taken told count x plan s m t n (Err (stops.BackingFull sum size)) old new paper paper' =
+    (IsFull x told count plan s m t sum size old new ⊎ IsUnstartedFull told count plan s m t sum size old new) × (paper' ≡ paper)
+CallMeets taken told count x plan s m t n (Err stops.BackingFault) old new paper paper' = (IsRefused x told plan s m t old new ⊎ IsUnstarted told plan s m t old new) × (paper' ≡ paper)
+CallMeets taken told count x plan s m t n (Err (stops.NoCore words size)) old new paper paper' = LacksCore (length old.cpu.core) s m t words size × (new ≡ old) × (paper' ≡ paper)
+
+-- a step that starts a task, was made so or was stopped by the device, needs no more words than core has
+abbrev pub CallFits : ℕ → Session → SessionJob → Task → Result CallEnd Stop → Type 0
+CallFits core s m t (Ok ends.Done) = StartsTask m t → need core s m t ≤ core
+CallFits core s m t (Err (stops.BackingFull sum size)) = StartsTask m t → need core s m t ≤ core
+CallFits core s m t (Err stops.BackingFault) = StartsTask m t → need core s m t ≤ core
+CallFits core s m t answered = Unit {0}
 
 -- the machine stands for some session in order, whose running task's operator calls this intrinsic
 pub record CallsSome (k : Machine) (n : ℕ) : Type 0 where
@@ -144,6 +185,7 @@ abbrev pub CallTouches : Storage → Placement → SessionJob → Task → Resul
 CallTouches x plan m t (Ok ends.Done) = TouchesPresent x plan m t
 CallTouches x plan m t (Ok (ends.Absent found)) = Unit {0}
 CallTouches x plan m t (Ok (ends.Fault fault)) = TouchesPresent x plan m t
+CallTouches x plan m t (Ok (ends.Waits state)) = Unit {0}
 CallTouches x plan m t (Err stops.PrintFault) = TouchesPresent x plan m t
 CallTouches x plan m t (Err (stops.BackingFull sum size)) = TouchesPresent x plan m t
 CallTouches x plan m t (Err stops.BackingFault) = TouchesPresent x plan m t

@@ -1,27 +1,10 @@
 -- The core that the steps of a slice need, the halt before which they are made, and their whole texts.
 use Rattle.std.proofs.Common.{◌≡◌, ◌≢◌, ℕ, zero, suc, ◌+◌, ◌<◌, ◌≤◌, Option, Some, inl, inr, refl, sym, ◌∙◌, ap, arith, subst}
-use Rattle.std.specs.Prelude.{◌⊎◌, option_map}
-use Rattle.b67_model.specs.Keyed.{keyed}
-use Rattle.b67_model.specs.Need.{need, need_of_job, need_by}
+use Rattle.std.specs.Prelude.{◌⊎◌}
 use Rattle.b67_model.specs.Run.{after}
-use Rattle.b67_model.specs.Schedule.{Session, Choice, choice}
-use Rattle.b67_model.specs.State.{Task, SessionJob}
-use Rattle.b67_single.specs.Single.{IsSingle}
+use Rattle.b67_model.specs.Schedule.{Session}
 use Rattle.b67_task_tables.specs.declared.tables.Machine.{Machine}
 use Rattle.b67_session.specs.Slices.{PrintsWhole, NextFits, StepsFit}
-use Rattle.b67_session.proofs.Lone.{task_found}
-use Rattle.b67_session.proofs.Moments.{found_by}
-
--- the need of the chosen task is the session's
-pub next_fits : (core : ℕ) (s : Session) (m : SessionJob) (t : Task) (single : IsSingle s m t) (c : Choice) → choice s ≡ Some c → c.who.job ≡ m.constants.number → c.who.task ≡ t.number → need core s m t ≤ core → NextFits core s
-next_fits core s m t single c chosen job task fits =
-    let by_task : Option Task → Option ℕ = λ o. option_map (need core s m) o in
-    record {
-      words = need core s m t;
-      needs = ap (need_by core s) chosen ∙ ap (need_of_job core s c.who.task) (found_by s m t single c chosen job task)
-          ∙ ap (λ (n : ℕ). by_task (keyed (λ (u : Task). u.number) n m.progress.job.tasks)) task ∙ ap by_task (task_found s m t single);
-      fits = fits;
-    }
 
 pub below : (k n : ℕ) → k < n + 1 → (k < n) ⊎ (k ≡ n)
 below zero zero low = inr refl

@@ -1,9 +1,17 @@
 -- A slice that has made so many steps, and how it ends.
-use Rattle.std.proofs.Common.{◌≡◌, ◌≢◌, ℕ, ◌+◌, ◌<◌, ◌≤◌, List, [], ◌++◌, length, map, Option, Some, None, Result, Ok, Err, inl, inr, refl, sym, ap, ◌∙◌, subst, arith, append-nil}
+use Rattle.std.proofs.Common.{◌≡◌, ◌≢◌, ℕ, ◌+◌, ◌<◌, ◌≤◌, IsTrue, List, [], ◌∷◌, ◌++◌, length, map, Option, Some, None, Result, Ok, Err, inl, inr, refl, sym, ap, ◌∙◌, subst, arith, append-nil}
+use Rattle.std.proofs.lemmas.List.Sums.{sum_by-cons}
 use Rattle.b67_lemmas.specs.Lists.{Has}
+use Rattle.b67_lemmas.proofs.Members.{all_in, has_flat}
+use Rattle.b67_model.specs.Endings.{is_ready}
+use Rattle.b67_model.specs.InOrder.{IsSegment, JobInOrder, IsInOrderButPlaces}
+use Rattle.b67_law_turns.specs.Turns.{IsNext}
+use Rattle.b67_law_turns.proofs.Choices.{chosen_tasks_are_ready}
+use Rattle.b67_session_schedule.proofs.Rooms.{none_ready}
+use Rattle.b67_session_schedule.proofs.ReadyTasks.{of_tasks}
 use Rattle.b67_model.specs.State.{Task, SessionJob}
-use Rattle.b67_model.specs.Run.{RunLine, next, after, lines}
-use Rattle.b67_model.specs.Schedule.{Session}
+use Rattle.b67_model.specs.Run.{RunLine, next, after, lines, live_tasks}
+use Rattle.b67_model.specs.Schedule.{Session, Choice, choice, ready_of, ready, Who}
 use Rattle.b67_session_lines.specs.Moments.{first_part, due}
 use Rattle.b67_layout_storage.specs.Machine.{Says}
 use Rattle.b67_single.proofs.Runs.{Came, came-none, came-more}
@@ -14,13 +22,10 @@ use Rattle.b67_session_attempt.specs.Passed.{CallCauses}
 use Rattle.b67_session_attempt.specs.Stops.{Stop}
 use Rattle.b67_session_attempt.specs.Stops as stops
 use Rattle.b67_session_attempt.proofs.Runs.{caused_stop, caused_later}
-use Rattle.b67_session.specs.declared.ends.StepEnd.{StepEnd}
-use Rattle.b67_session.specs.declared.ends.StepEnd.TheVariants as ends
 use Rattle.b67_session.specs.declared.slices.Progress.{Progress}
 use Rattle.b67_session.specs.declared.slices.Progress.TheVariants as progress
-use Rattle.b67_session.specs.Slices.{IsLone, LivesOn, Keeps, Reaches, whole, but_limit, Prints, PrintsWhole, StepsFit, StopsWithRoom, IfPresent, StopsBefore, SliceMeets, Slices}
+use Rattle.b67_session.specs.Slices.{StandsAt, LivesOn, GoesOn, RepresentsWithoutTasks, Keeps, Reaches, whole, but_limit, Prints, PrintsWhole, StepsFit, StopsWithRoom, IfPresent, StopsBefore, SliceMeets, Slices}
 use Rattle.b67_session.specs.Steps.{StepGives, Leads, stays, makes, halves, Steps}
-use Rattle.b67_session.proofs.Lone.{has_member, has_task}
 use Rattle.b67_session.proofs.Printing.{prints_none, prints_then, prints_before}
 use Rattle.b67_session.proofs.Fitting.{fits_then, below_then, whole_then}
 
@@ -32,37 +37,70 @@ pub record PrintsTo {K : Type 0} (taken : K → Option (List ℕ)) (exact : Type
 
 pub record Going {K : Type 0} (taken : K → Option (List ℕ)) (exact : Type 0) (known : Option (List (List ℕ))) (steps : ℕ) (first : Session) (old now : Machine) (paper paper' : K) : Type 0 where
   pub session : Session
-  pub member : SessionJob
-  pub task : Task
   pub printed : List RunLine
   pub came : exact → Came first steps session printed
   pub made : now.tasks.made ≡ old.tasks.made + steps
-  pub lone : IsLone known now session member task
+  pub stands : StandsAt known now session
   pub below : (j : ℕ) → j < steps → old.tasks.halt ≢ Some (old.tasks.made + j)
   pub fits : exact → StepsFit (length old.cpu.core) steps first
   pub texts : PrintsWhole steps old now paper paper'
   pub prints : (is_due : List ℕ) → (exact → is_due ≡ due session) → PrintsTo taken exact first paper paper' old.tasks.printed printed is_due now.tasks.printed
 
-pub going-begins : {K : Type 0} (taken : K → Option (List ℕ)) (exact : Type 0) (known : Option (List (List ℕ))) (s : Session) (m : SessionJob) (t : Task) (now : Machine) (paper : K) → IsLone known now s m t → Going taken exact known 0 s now now paper paper
-going-begins taken exact known s m t now paper lone = record {
+pub going-begins : {K : Type 0} (taken : K → Option (List ℕ)) (exact : Type 0) (known : Option (List (List ℕ))) (s : Session) (now : Machine) (paper : K) → StandsAt known now s → Going taken exact known 0 s now now paper paper
+going-begins taken exact known s now paper stands = record {
   session = s;
-  member = m;
-  task = t;
   printed = [];
   came = λ tells. came-none s;
   made = omega arith;
-  lone = lone;
+  stands = stands;
   below = λ j low. absurd (omega (arith, low));
   fits = λ tells k low. absurd (omega (arith, low));
   texts = record { some = λ low. absurd (omega (arith, low)); none = λ none. (refl, refl) };
   prints = λ is_due same. record { was_due = is_due; was = same; prints = prints_none taken paper paper is_due now.tasks.printed now.tasks.printed refl refl };
 }
 
--- a machine that stands for such a session has a row
-pub some_row : (known : Option (List (List ℕ))) (now : Machine) (s : Session) (m : SessionJob) (t : Task) → IsLone known now s m t → now.tasks.rows.items ≡ [] → ⊥
-some_row known now s m t lone none =
-    let (row, among, shows) = lone.stands.tables.each m t (has_member s m t lone.single) (has_task s m t lone.single) in
-    subst (λ (rs : List TaskRow). Has (map task_row rs) row) none among
+-- where there is no row, no task lives
+no_tasks : (jobs : List SessionJob) → ((m : SessionJob) (t : Task) → Has jobs m → Has m.progress.job.tasks t → ⊥) → live_tasks jobs ≡ 0
+no_tasks [] none = refl
+no_tasks (m ∷ jobs) none =
+    let own : length m.progress.job.tasks ≡ 0 = by m.progress.job.tasks (λ t h. none m t (inl refl) h) in
+    sum_by-cons (λ (y : SessionJob). length y.progress.job.tasks) m jobs ∙ omega (arith, own, no_tasks jobs (λ y t iny int. none y t (inr iny) int))
+  where
+    by : (ts : List Task) → ((t : Task) → Has ts t → ⊥) → length ts ≡ 0
+    by [] out = refl
+    by (t ∷ ts) out = absurd (out t (inl refl))
+
+pub rests_now : (known : Option (List (List ℕ))) (now : Machine) (s : Session) → StandsAt known now s → now.tasks.rows.items ≡ [] → RepresentsWithoutTasks known now s
+rests_now known now s h none = record {
+  storage = h.storage;
+  plan = h.plan;
+  stands = h.stands;
+  none = no_tasks s.jobs (λ m t inm int.
+      let (row, among, shows) = h.stands.tables.each m t inm int in
+      subst (λ (rs : List TaskRow). Has (map task_row rs) row) none among);
+}
+
+-- a ready task is among those that are ready
+ready_some : (s : Session) (m : SessionJob) (u : Task) → Has s.jobs m → Has m.progress.job.tasks u → IsTrue (is_ready u) → ready s ≢ []
+ready_some s m u inm inu r none =
+    let w : Who = record { job = m.constants.number; task = u.number } in
+    subst (λ (ws : List Who). Has ws w) none (has_flat ready_of s.jobs m w inm (of_tasks m.constants.number m.progress.job.tasks u inu r))
+
+-- where there is one, a task makes the next step
+next_by : (s : Session) (o : IsInOrderButPlaces s) (x : Option Choice) → choice s ≡ x → ready s ≢ [] → (m : SessionJob) × (t : Task) × IsNext s m t
+next_by s o None e some = absurd (some (none_ready s e))
+next_by s o (Some c) e some = let (m, t, n, same, ready) = chosen_tasks_are_ready s c o e in (m, t, n)
+
+pub next_now : (known : Option (List (List ℕ))) (now : Machine) (s : Session) → StandsAt known now s → now.tasks.rows.items ≢ [] → (m : SessionJob) × (t : Task) × IsNext s m t
+next_now known now s h some = by now.tasks.rows.items refl
+  where
+    by : (rs : List TaskRow) → now.tasks.rows.items ≡ rs → (m : SessionJob) × (t : Task) × IsNext s m t
+    by [] e = absurd (some e)
+    by (r ∷ rs) e =
+        let (m, t, inm, int, shows) = h.stands.tables.tasks (task_row r) (subst (λ (qs : List TaskRow). Has (map task_row qs) (task_row r)) (sym e) (inl refl)) in
+        let j = all_in (λ (y : SessionJob). JobInOrder (IsSegment y.constants) y.constants y.progress) s.jobs m h.ordered.jobs inm in
+        let (u, inu, ready_u) = j.counts.goes_on (λ none. subst (λ (ts : List Task). Has ts t) none int) in
+        next_by s h.ordered (choice s) refl (ready_some s m u inm inu ready_u)
 
 -- one step further
 one_more : (first : Session) (steps : ℕ) (s was after : Session) (printed more : List RunLine) → Came first steps s printed → was ≡ s → StepGives was after more → Came first (steps + 1) after (printed ++ more)
@@ -87,7 +125,7 @@ leads_then first steps n s was now printed more came same (halves part one is se
 
 -- the step that wasn't made, after steps that were
 abbrev stops_later : (known : Option (List (List ℕ))) (n steps more : ℕ) (s : Session) (new : Machine) → steps + 1 ≤ n → StopsBefore known 1 more s new → StopsBefore known n (steps + more) s new
-stops_later known n steps more s new few b = record { left = omega (arith, few, b.left); halt = b.halt; member = b.member; task = b.task; lone = b.lone }
+stops_later known n steps more s new few b = record { left = omega (arith, few, b.left); halt = b.halt; stands = b.stands; member = b.member; task = b.task; next = b.next }
 
 stop_meets : (known : Option (List (List ℕ))) (exact sure : Type 0) (core count n steps more : ℕ) (s : Session) (is_due : List ℕ) (stop : Stop) (new : Machine) → (exact → sure) → steps + 1 ≤ n
     → SliceMeets known sure core count 1 more s is_due (Err stop) new → SliceMeets known exact core count n (steps + more) s is_due (Err stop) new
@@ -103,12 +141,14 @@ stop_meets known exact sure core count n steps more s is_due stops.PrintFault ne
 stop_meets known exact sure core count n steps more s is_due stops.Unbuilt new up few m = (stops_later known n steps more s new few m.0, m.1, m.2, m.3)
 
 module _ {K : Type 0} (taken : K → Option (List ℕ)) (exact : Type 0) (known : Option (List (List ℕ))) (count n steps : ℕ) (first : Session) (old now : Machine) (paper paper' : K) (g : Going taken exact known steps first old now paper paper') where
-  pub going-lives : (told : Option (List (List ℕ))) → Says known told → LivesOn told now
-  going-lives told says = record { known = known; says = says; session = g.session; member = g.member; task = g.task; lone = g.lone }
+  pub going-lives : (told : Option (List (List ℕ))) → Says known told → now.tasks.rows.items ≢ [] → LivesOn told now
+  going-lives told says some =
+      let (m, t, next) = next_now known now g.session g.stands some in
+      record { some = record { known = known; says = says; session = g.session; stands = g.stands }; member = m; task = t; next = next }
 
   -- it goes no further
-  pub going-halted : steps ≤ n → now.tasks.halt ≡ Some now.tasks.made → Slices taken known exact count n first (Ok progress.Halted) old now paper paper'
-  going-halted few halt =
+  pub going-halted : steps ≤ n → now.tasks.rows.items ≢ [] → now.tasks.halt ≡ Some now.tasks.made → Slices taken known exact count n first (Ok progress.Halted) old now paper paper'
+  going-halted few some halt =
       let p = g.prints (due g.session) (λ tells. refl) in
       record {
         steps = steps;
@@ -126,11 +166,11 @@ module _ {K : Type 0} (taken : K → Option (List ℕ)) (exact : Type 0) (known 
         was = p.was;
         next = λ tells. refl;
         prints = p.prints;
-        meets = (halt, (g.member, g.task, g.lone));
+        meets = (halt, (g.stands, next_now known now g.session g.stands some));
       }
 
-  pub going-more : steps ≡ n → now.tasks.halt ≢ Some now.tasks.made → Slices taken known exact count n first (Ok progress.More) old now paper paper'
-  going-more all halt =
+  pub going-more : steps ≡ n → now.tasks.rows.items ≢ [] → now.tasks.halt ≢ Some now.tasks.made → Slices taken known exact count n first (Ok progress.More) old now paper paper'
+  going-more all some halt =
       let p = g.prints (due g.session) (λ tells. refl) in
       record {
         steps = steps;
@@ -148,30 +188,47 @@ module _ {K : Type 0} (taken : K → Option (List ℕ)) (exact : Type 0) (known 
         was = p.was;
         next = λ tells. refl;
         prints = p.prints;
-        meets = (all, halt, (g.member, g.task, g.lone));
+        meets = (all, halt, (g.stands, next_now known now g.session g.stands some));
       }
 
-  pub going-ended : {A : Type 0} → now.tasks.rows.items ≡ [] → A
-  going-ended none = absurd (some_row known now g.session g.member g.task g.lone none)
+  pub going-ended : steps ≤ n → now.tasks.rows.items ≡ [] → Slices taken known exact count n first (Ok progress.Ended) old now paper paper'
+  going-ended few none =
+      let p = g.prints (due g.session) (λ tells. refl) in
+      record {
+        steps = steps;
+        few = few;
+        session = g.session;
+        printed = g.printed;
+        below = g.below;
+        leads = λ tells. let c = g.came tells in whole c.session c.lines_are;
+        ends = λ tells e. (g.came tells).session;
+        fits = g.fits;
+        texts = λ fine. g.texts;
+        made = g.made;
+        was_due = p.was_due;
+        is_due = due g.session;
+        was = p.was;
+        next = λ tells. refl;
+        prints = p.prints;
+        meets = rests_now known now g.session g.stands none;
+      }
 
   -- one step more was tried: the halt wasn't reached
   module _ (known' : Option (List (List ℕ))) (up : exact → known ≢ None) (new : Machine) (paper'' : K) (keeps : Keeps old now) (halt : now.tasks.halt ≢ Some now.tasks.made) where
     below_more : (more : ℕ) → more ≤ 1 → (j : ℕ) → j < steps + more → old.tasks.halt ≢ Some (old.tasks.made + j)
     below_more more few = below_then old.tasks.halt now.tasks.halt old.tasks.made now.tasks.made steps more keeps.halt g.made few halt g.below
 
-    pub going-steps : Steps taken known' (known ≢ None) count g.session (Ok ends.GoesOn) now new paper' paper'' → Going taken exact known' (steps + 1) first old new paper paper''
+    pub going-steps : Steps taken known' (known ≢ None) count g.session (Ok tt) now new paper' paper'' → Going taken exact known' (steps + 1) first old new paper paper''
     going-steps s =
-        let (one, made, (m, t, lone)) = s.meets in
+        let (one, made, stands) = s.meets in
         let p = g.prints s.was_due (λ tells. s.was_is (up tells) ∙ ap due (s.same (up tells))) in
         let texts : PrintsWhole s.steps now new paper' paper'' = s.texts (λ e. absurd cc) in
         record {
           session = s.session;
-          member = m;
-          task = t;
           printed = g.printed ++ s.printed;
-          came = λ tells. one_more first steps g.session s.was s.session g.printed s.printed (g.came tells) (s.same (up tells)) made;
+          came = λ tells. one_more first steps g.session s.was s.session g.printed s.printed (g.came tells) (s.same (up tells)) (made (up tells));
           made = omega (arith, s.made, g.made, one);
-          lone = lone;
+          stands = stands;
           below = below_more 1 (omega arith);
           fits = λ tells. fits_then (length old.cpu.core) (length now.cpu.core) steps 1 first g.session keeps.core (g.came tells).session (omega arith) (g.fits tells) (λ low. s.fits (up tells) (omega (arith, one)));
           texts = subst (λ (k : ℕ). PrintsWhole (steps + k) old new paper paper'') one (whole_then steps s.steps old now new paper paper' paper'' g.texts texts);
@@ -181,31 +238,6 @@ module _ {K : Type 0} (taken : K → Option (List ℕ)) (exact : Type 0) (known 
             prints = prints_before taken paper paper'' p.was_due s.is_due is_due old.tasks.printed new.tasks.printed (g.printed ++ s.printed) (texts.some (omega (arith, one)))
                 (prints_then taken paper paper' paper'' p.was_due s.was_due s.is_due old.tasks.printed now.tasks.printed new.tasks.printed g.printed s.printed p.prints s.prints);
           };
-        }
-
-    pub going-over : steps + 1 ≤ n → Steps taken known' (known ≢ None) count g.session (Ok ends.Over) now new paper' paper'' → Slices taken known' exact count n first (Ok progress.Ended) old new paper paper''
-    going-over few s =
-        let (one, made, rests) = s.meets in
-        let p = g.prints s.was_due (λ tells. s.was_is (up tells) ∙ ap due (s.same (up tells))) in
-        record {
-          steps = steps + s.steps;
-          few = omega (arith, few, one);
-          below = below_more s.steps s.few;
-          made = omega (arith, s.made, g.made);
-          session = s.session;
-          printed = g.printed ++ s.printed;
-          leads = λ tells. leads_then first steps s.steps g.session s.was s.session g.printed s.printed (g.came tells) (s.same (up tells)) (s.leads (up tells));
-          ends = λ tells e.
-              let more = one_more first steps g.session s.was s.session g.printed s.printed (g.came tells) (s.same (up tells)) (made (up tells)) in
-              subst (λ (k : ℕ). after (steps + k) first ≡ s.session) (sym one) more.session;
-          fits = λ tells. fits_then (length old.cpu.core) (length now.cpu.core) steps s.steps first g.session keeps.core (g.came tells).session s.few (g.fits tells) (s.fits (up tells));
-          was_due = p.was_due;
-          is_due = s.is_due;
-          was = p.was;
-          next = λ tells. s.next_is (up tells);
-          prints = prints_then taken paper paper' paper'' p.was_due s.was_due s.is_due old.tasks.printed now.tasks.printed new.tasks.printed g.printed s.printed p.prints s.prints;
-          texts = λ fine. whole_then steps s.steps old now new paper paper' paper'' g.texts (s.texts (λ e. absurd cc));
-          meets = rests;
         }
 
     pub going-stops : (stop : Stop) → steps + 1 ≤ n → Steps taken known' (known ≢ None) count g.session (Err stop) now new paper' paper'' → Slices taken known' exact count n first (Err stop) old new paper paper''
@@ -234,25 +266,25 @@ module _ {K : Type 0} (taken : K → Option (List ℕ)) (exact : Type 0) (known 
 -- at the beginning of a slice nothing has changed: what a step says of the machine before it, a slice says
 pub begun_present : {A B D : Type 0} (known : Option (List (List ℕ))) (core' core n made : ℕ) (k k' new : Machine) (s : Session) (m : SessionJob) (t : Task) (d d' e : D) (step : Result A Stop) (answered : Result B Stop) → (made ≡ 0 → (k' ≡ k) × (d' ≡ d)) → core' ≡ core
     → k'.tasks.made ≡ k.tasks.made + made → k'.tasks.made ≤ new.tasks.made → made + 1 ≤ n → (StopsWithRoom core s m t step → StopsWithRoom core s m t answered)
-    → (made ≡ 0 → (h : IsLone known k' s m t) → IfPresent (known ≢ None) core' 1 h.storage h.plan s m t step k' new d' e) → (h : IsLone known k s m t) → IfPresent (known ≢ None) core n h.storage h.plan s m t answered k new d e
+    → (made ≡ 0 → (h : StandsAt known k' s) → IfPresent (known ≢ None) core' 1 h.storage h.plan s m t step k' new d' e) → (h : StandsAt known k s) → IfPresent (known ≢ None) core n h.storage h.plan s m t answered k new d e
 begun_present {A} {B} {D} known core' core n made k k' new s m t d d' e step answered begun len counted later few same present h = record {
   quiet = λ one wants. (first (omega (arith, one, few)) h).quiet (omega arith) wants;
   room = λ tells code none. same ((first (omega (arith, none, counted, later)) h).room tells code none);
 } where
-  first : made ≡ 0 → (h : IsLone known k s m t) → IfPresent (known ≢ None) core 1 h.storage h.plan s m t step k new d e
+  first : made ≡ 0 → (h : StandsAt known k s) → IfPresent (known ≢ None) core 1 h.storage h.plan s m t step k new d e
   first none =
       let (is, device) = begun none in
-      let P : Machine → D → ℕ → Type 0 = λ z x size. (h : IsLone known z s m t) → IfPresent (known ≢ None) size 1 h.storage h.plan s m t step z new x e in
+      let P : Machine → D → ℕ → Type 0 = λ z x size. (h : StandsAt known z s) → IfPresent (known ≢ None) size 1 h.storage h.plan s m t step z new x e in
       subst (P k d) len (subst (λ (z : Machine). P z d core') is (subst (λ (x : D). P k' x core') device (present none)))
 
 -- a step makes none or one
-pub made_no_fewer : {K : Type 0} {taken : K → Option (List ℕ)} {known : Option (List (List ℕ))} {exact : Type 0} {count : ℕ} {s : Session} {answered : Result StepEnd Stop} {old new : Machine} {paper paper' : K} → Steps taken known exact count s answered old new paper paper' → old.tasks.made ≤ new.tasks.made
+pub made_no_fewer : {K : Type 0} {taken : K → Option (List ℕ)} {known : Option (List (List ℕ))} {exact : Type 0} {count : ℕ} {s : Session} {answered : Result (Unit {0}) Stop} {old new : Machine} {paper paper' : K} → Steps taken known exact count s answered old new paper paper' → old.tasks.made ≤ new.tasks.made
 made_no_fewer x = omega (arith, x.made)
 
 -- a step's stop is the slice's
-pub stop_rooms : (core : ℕ) (s : Session) (m : SessionJob) (t : Task) (stop : Stop) (step : Result StepEnd Stop) → step ≡ Err stop → StopsWithRoom core s m t step → StopsWithRoom {A = Progress} core s m t (Err stop)
-stop_rooms core s m t stop step is room = by stop (subst (λ (z : Result StepEnd Stop). StopsWithRoom core s m t z) is room) where
-  by : (why : Stop) → StopsWithRoom {A = StepEnd} core s m t (Err why) → StopsWithRoom {A = Progress} core s m t (Err why)
+pub stop_rooms : (core : ℕ) (s : Session) (m : SessionJob) (t : Task) (stop : Stop) (step : Result (Unit {0}) Stop) → step ≡ Err stop → StopsWithRoom core s m t step → StopsWithRoom {A = Progress} core s m t (Err stop)
+stop_rooms core s m t stop step is room = by stop (subst (λ (z : Result (Unit {0}) Stop). StopsWithRoom core s m t z) is room) where
+  by : (why : Stop) → StopsWithRoom {A = Unit {0}} core s m t (Err why) → StopsWithRoom {A = Progress} core s m t (Err why)
   by (stops.NoCore words size) r = tt
   by (stops.BackingFull sum size) r = r
   by stops.BackingFault r = r
@@ -260,8 +292,8 @@ stop_rooms core s m t stop step is room = by stop (subst (λ (z : Result StepEnd
   by stops.Unbuilt r = tt
 
 -- and what it says of a failure
-pub stop_causes : {D K : Type 0} (failed : D → ℕ) (refused : K → ℕ) (stop : Stop) (step : Result StepEnd Stop) (a b c : D) (p q r : K) → step ≡ Err stop → failed a ≤ failed b → refused p ≤ refused q
+pub stop_causes : {D K : Type 0} (failed : D → ℕ) (refused : K → ℕ) (stop : Stop) (step : Result (Unit {0}) Stop) (a b c : D) (p q r : K) → step ≡ Err stop → failed a ≤ failed b → refused p ≤ refused q
     → CallCauses failed refused b c q r step → CallCauses {A = Progress} failed refused a c p r (Err stop)
 stop_causes failed refused stop step a b c p q r is device printer h =
     caused_later {A = Progress} failed refused a b c p q r (Err stop) device printer
-    (caused_stop {A = StepEnd} {C = Progress} failed refused b c q r stop (subst (λ (z : Result StepEnd Stop). CallCauses failed refused b c q r z) is h))
+    (caused_stop {A = Unit {0}} {C = Progress} failed refused b c q r stop (subst (λ (z : Result (Unit {0}) Stop). CallCauses failed refused b c q r z) is h))

@@ -32,6 +32,6 @@ retold_twice (Some all) (Some other) told' tells = refl
 
 pub pause_slices : {K : Type 0} (taken : K → Option (List ℕ)) (exact : Type 0) (known : Option (List (List ℕ))) (count n steps : ℕ) (first : Session) (old now : Machine) (paper paper' : K) → Going taken exact known steps first old now paper paper'
     → steps ≤ n → (p : Progress) → Pauses now.tasks now.tasks.halt (Some p) → Slices taken known exact count n first (Ok p) old now paper paper'
-pause_slices taken exact known count n steps first old now paper paper' g few progress.Ended h = going-ended taken exact known count n steps first old now paper paper' g h
-pause_slices taken exact known count n steps first old now paper paper' g few progress.Halted h = going-halted taken exact known count n steps first old now paper paper' g few h
+pause_slices taken exact known count n steps first old now paper paper' g few progress.Ended h = going-ended taken exact known count n steps first old now paper paper' g few h
+pause_slices taken exact known count n steps first old now paper paper' g few progress.Halted h = going-halted taken exact known count n steps first old now paper paper' g few h.0 h.1
 pause_slices taken exact known count n steps first old now paper paper' g few progress.More h = absurd h

@@ -1,128 +1,129 @@
--- A slice that begins with the line of LIMIT.
-use Rattle.std.proofs.Common.{◌≡◌, ◌≢◌, ◌<◌, ℕ, ◌+◌, arith, true, false, List, [], ◌∷◌, length, map, Option, Ok, Err, refl, sym, ap, ◌∙◌, subst, inl, inr, ◌⊎◌}
-use Rattle.b67_word.specs.declared.faults.Ending.TheVariants.{Limit}
-use Rattle.std.specs.Prelude.{◌==◌}
-use Rattle.std.proofs.lemmas.Bool.{eqb-true}
-use Rattle.std.proofs.lemmas.List.Sums.{sum_by-cons}
+-- A slice that begins with the lines of LIMIT.
+use Rattle.std.proofs.Common.{◌≡◌, ◌≢◌, ◌<◌, ℕ, Bool, true, false, List, [], ◌∷◌, length, map, Option, Some, None, Result, Ok, Err, refl, sym, ap, ◌∙◌, subst, inl, inr, ◌⊎◌}
+use Rattle.std.specs.Prelude.{is_some}
+use Rattle.std.specs.Option.{option_or}
+use Rattle.std.proofs.lemmas.Bool.{true≢false}
+use Rattle.std.proofs.lemmas.Option.{none-some}
+use Rattle.b67_word.specs.declared.faults.Failed.{Failed}
 use Rattle.b67_lemmas.specs.Lists.{Has}
+use Rattle.b67_lemmas.proofs.Members.{keyed_has}
 use Rattle.b67_model.specs.State.{Task, SessionJob}
-use Rattle.b67_model.specs.Steps.{Ends}
 use Rattle.b67_model.specs.Lines.{run_text}
-use Rattle.b67_model.specs.Run.{RunLine, live_tasks}
+use Rattle.b67_model.specs.Run.{StepResult, number_of}
 use Rattle.b67_model.specs.Schedule.{Session}
-use Rattle.b67_session_lines.specs.Moments.{due}
-use Rattle.b67_single.specs.Single.{task_lines}
+use Rattle.b67_session_lines.specs.Moments.{first_part, last_part, text_of, due}
+use Rattle.b67_law_turns.specs.Turns.{IsNext, OrderAfter}
+use Rattle.b67_law_turns.proofs.Limits.{LimitOf, limit_of, no_last, last_parts_restore_order}
+use Rattle.b67_layout.specs.Placement.{Placement}
+use Rattle.b67_model.specs.InOrder.{NumberedFrom, IsInOrderButPlaces}
+use Rattle.b67_session_attempt.specs.Stops as stops
 use Rattle.b67_task_tables.specs.declared.tables.TaskRow.{TaskRow}
 use Rattle.b67_task_tables.specs.declared.tables.Tasks.{Tasks}
 use Rattle.b67_task_tables.specs.declared.tables.Machine.{Machine}
-use Rattle.b67_task_tables.specs.Tables.{task_row}
-use Rattle.b67_task.specs.Endings.{HasOne}
-use Rattle.b67_session_attempt.specs.Stops.{Stop}
-use Rattle.b67_session_attempt.specs.Stops as stops
-use Rattle.b67_session.specs.declared.slices.Progress.TheVariants as progress
-use Rattle.b67_session.specs.Slices.{IsLone, IsLimited, IsOpen, LivesOn, StandsLimited, HasNoTasks, RepresentsWithoutTasks, Resumes}
-use Rattle.b67_session.specs.Steps.{AtLimit, IsEmptied, LimitEnds, ending_text}
-use Rattle.b67_session.proofs.Lone.{has_member, has_task}
-use Rattle.b67_session.proofs.Texts.{ending_is}
+use Rattle.b67_task_tables.specs.Tables.{task_row, row_names, TasksShow}
+use Rattle.b67_session_ends.specs.Ends.{LimitEnds, HasLimited, KeepsCounts}
+use Rattle.b67_session.specs.Slices.{StandsAt, StandsSome, IsLimited, IsOpen, LivesOn, StandsLimited, HasNoTasks, RepresentsWithoutTasks, Keeps, Prints, IsCutAgain}
+use Rattle.b67_session.proofs.Next.{in_session, in_job}
 use Rattle.b67_session.proofs.Printing.{prints_rest, prints_more}
-use Rattle.b67_session.proofs.Finishing.{none_lives, none_left}
-use Rattle.b67_session.proofs.Limits.{not_at_limit, limit_member, limit_part, limited_one, limited_not, limited_part, limit_stands, due_limit}
+use Rattle.b67_session.proofs.Rows.{no_row}
 
--- whether the tables have a row
-pub empty_rows : (k : Machine) → true ≡ (length k.tasks.rows.items == 0) → k.tasks.rows.items ≡ []
-empty_rows k e = by k.tasks.rows.items (eqb-true (length k.tasks.rows.items) 0 (sym e)) where
-  by : (rows : List TaskRow) → length rows ≡ 0 → rows ≡ []
-  by [] none = refl
-  by (row ∷ rows) none = absurd (omega (arith, none))
+-- whether a last part is due, by the tables
+abbrev pub TellsLimit : Tasks → Bool → Type 0
+TellsLimit tasks at = (plan : Placement) (s : Session) → NumberedFrom 1 s.jobs → TasksShow plan s tasks → at ≡ is_some (last_part s)
 
-pub some_rows : (k : Machine) → false ≡ (length k.tasks.rows.items == 0) → k.tasks.rows.items ≢ []
-some_rows k e none = let z : false ≡ true = subst (λ (rows : List TaskRow). false ≡ (length rows == 0)) none e in absurd cc
+pub stands_not : (known : Option (List (List ℕ))) (k : Machine) (s : Session) {at : Bool} → StandsAt known k s → TellsLimit k.tasks at → at ≡ true → ⊥
+stands_not known k s h tells is =
+    let none : is_some (last_part s) ≡ false = ap is_some (no_last s h.ordered) in
+    true≢false (sym is ∙ tells h.plan s h.ordered.numbered h.stands.tables ∙ none)
 
--- where no task lives there is none
-no_task : (ts : List Task) (t : Task) → Has ts t → length ts ≡ 0 → ⊥
-no_task [] t among none = among
-no_task (u ∷ ts) t among none = omega (arith, none)
-
-none_of : (jobs : List SessionJob) (m : SessionJob) (t : Task) → Has jobs m → Has m.progress.job.tasks t → live_tasks jobs ≡ 0 → ⊥
-none_of [] m t inm int none = inm
-none_of (y ∷ jobs) m t (inl e) int none =
-    let both : length y.progress.job.tasks + live_tasks jobs ≡ 0 = sym (sum_by-cons (λ (z : SessionJob). length z.progress.job.tasks) y jobs) ∙ none in
-    no_task y.progress.job.tasks t (subst (λ (z : SessionJob). Has z.progress.job.tasks t) (sym e) int) (omega (arith, both))
-none_of (y ∷ jobs) m t (inr later) int none =
-    let both : length y.progress.job.tasks + live_tasks jobs ≡ 0 = sym (sum_by-cons (λ (z : SessionJob). length z.progress.job.tasks) y jobs) ∙ none in
-    none_of jobs m t later int (omega (arith, both))
-
--- a machine without a task has no row, and one with a task has a row
-no_row : (known : Option (List (List ℕ))) (k : Machine) (s : Session) → RepresentsWithoutTasks known k s → k.tasks.rows.items ≡ []
-no_row known k s r = by k.tasks.rows.items refl where
-  by : (rows : List TaskRow) → k.tasks.rows.items ≡ rows → k.tasks.rows.items ≡ []
-  by [] e = e
-  by (row ∷ more) e =
-      let (m, t, inm, int, shows) = r.stands.tables.tasks (task_row row) (subst (λ (rs : List TaskRow). Has (map task_row rs) (task_row row)) (sym e) (inl refl)) in
-      absurd (none_of s.jobs m t inm int r.none)
+pub limited_not : (known : Option (List (List ℕ))) (k : Machine) (h : Session) (part : StepResult) {at : Bool} → IsLimited known k h part → TellsLimit k.tasks at → at ≡ false → ⊥
+limited_not known k h part l tells is =
+    let some : is_some (last_part h) ≡ true = ap is_some l.is in
+    true≢false (sym some ∙ sym (tells l.plan h l.ordered.numbered l.stands.tables) ∙ is)
 
 pub rests_not : (known : Option (List (List ℕ))) (k : Machine) (s : Session) → RepresentsWithoutTasks known k s → k.tasks.rows.items ≢ [] → ⊥
 rests_not known k s r some = some (no_row known k s r)
 
-pub limited_row : (known : Option (List (List ℕ))) (k : Machine) (h : Session) (m : SessionJob) (t : Task) → IsLimited known k h m t → k.tasks.rows.items ≡ [] → ⊥
-limited_row known k h m t l none =
-    let (row, among, shows) = l.stands.tables.each m t (has_member h m t l.single) (has_task h m t l.single) in
+some_item : (ts : List Task) → ts ≢ [] → (t : Task) × Has ts t
+some_item [] some = absurd (some refl)
+some_item (t ∷ ts) some = (t, inl refl)
+
+-- a live task has a row
+has_row : (known : Option (List (List ℕ))) (k : Machine) (s : Session) (plan : Placement) (m : SessionJob) (t : Task) → TasksShow plan s k.tasks → Has s.jobs m → Has m.progress.job.tasks t → k.tasks.rows.items ≡ [] → ⊥
+has_row known k s plan m t shows inm int none =
+    let (row, among, w) = shows.each m t inm int in
     subst (λ (rs : List TaskRow). Has (map task_row rs) row) none among
 
--- a task lives that isn't to end by LIMIT
-pub open_lives : (told : Option (List (List ℕ))) (k : Machine) → IsOpen told k → k.tasks.rows.items ≢ [] → AtLimit k.tasks false → LivesOn told k
-open_lives told k o some a = by o.stage where
-  by : LivesOn told k ⊎ (StandsLimited told k ⊎ HasNoTasks told k) → LivesOn told k
-  by (inl l) = l
-  by (inr (inl l)) = absurd (limited_not l.known k l.session l.member l.task l.limited a)
+pub next_row : (known : Option (List (List ℕ))) (k : Machine) (s : Session) (m : SessionJob) (t : Task) → StandsAt known k s → IsNext s m t → k.tasks.rows.items ≡ [] → ⊥
+next_row known k s m t h n none = has_row known k s h.plan m t h.stands.tables (in_session s m t n) (in_job s m t n) none
+
+pub limited_row : (known : Option (List (List ℕ))) (k : Machine) (h : Session) (part : StepResult) → IsLimited known k h part → k.tasks.rows.items ≡ [] → ⊥
+limited_row known k h part l none =
+    let q = limit_of h part l.is in
+    let inm = (keyed_has number_of h.last.job h.jobs q.member q.found).0 in
+    let (u, int) = some_item q.member.progress.job.tasks q.lives in
+    has_row known k h l.plan q.member u l.stands.tables inm int none
+
+-- a slice begins with a step, if any
+pub open_stands : (told : Option (List (List ℕ))) (k : Machine) {at : Bool} → IsOpen told k → k.tasks.rows.items ≢ [] → TellsLimit k.tasks at → at ≡ false → StandsSome told k
+open_stands told k {at} o some tells is = by o.stage where
+  by : LivesOn told k ⊎ (StandsLimited told k ⊎ HasNoTasks told k) → StandsSome told k
+  by (inl l) = l.some
+  by (inr (inl l)) = absurd (limited_not l.known k l.session l.part l.limited tells is)
   by (inr (inr r)) = absurd (rests_not r.known k r.session r.rests some)
 
-pub lone_not : (known : Option (List (List ℕ))) (k : Machine) (s : Session) (m : SessionJob) (t : Task) → IsLone known k s m t → AtLimit k.tasks true → ⊥
-lone_not known k s m t h a = not_at_limit s m t h.single h.plan k.tasks h.ordered h.stands.tables a
-
--- one lives that is to end by LIMIT
-pub open_limited : (told : Option (List (List ℕ))) (k : Machine) → IsOpen told k → k.tasks.rows.items ≢ [] → AtLimit k.tasks true → StandsLimited told k
-open_limited told k o some a = by o.stage where
+-- or with the lines of LIMIT
+pub open_limited : (told : Option (List (List ℕ))) (k : Machine) {at : Bool} → IsOpen told k → k.tasks.rows.items ≢ [] → TellsLimit k.tasks at → at ≡ true → StandsLimited told k
+open_limited told k {at} o some tells is = by o.stage where
   by : LivesOn told k ⊎ (StandsLimited told k ⊎ HasNoTasks told k) → StandsLimited told k
-  by (inl l) = absurd (lone_not l.known k l.session l.member l.task l.lone a)
+  by (inl l) = absurd (stands_not l.some.known k l.some.session l.some.stands tells is)
   by (inr (inl l)) = l
   by (inr (inr r)) = absurd (rests_not r.known k r.session r.rests some)
 
-pub open_one : (told : Option (List (List ℕ))) (k : Machine) → StandsLimited told k → HasOne k
-open_one told k l = limited_one l.known k l.session l.member l.task l.limited
+pub has_limited : (told : Option (List (List ℕ))) (k : Machine) → StandsLimited told k → HasLimited k
+has_limited told k l = record {
+  between = record { storage = l.limited.storage; told = l.known; plan = l.limited.plan; session = l.session; ordered = l.limited.ordered; stands = l.limited.stands };
+  part = l.part;
+  is_due = l.limited.is;
+}
 
-module _ {K : Type 0} (taken : K → Option (List ℕ)) (known : Option (List (List ℕ))) (h : Session) (m : SessionJob) (t : Task) (old new : Machine) (paper paper' : K) (l : IsLimited known old h m t) where
-  abbrev lines : List RunLine
-  lines = task_lines m t (Ends Limit ∷ [])
+pub keeps_counts : (old new : Machine) → KeepsCounts old new → Keeps old new
+keeps_counts old new k = record {
+  core = k.core;
+  sectors = k.sectors;
+  halt = ap (λ (z : Tasks). z.halt) k.tasks;
+  names = ap (λ (z : Tasks). row_names z.jobs) k.tasks;
+}
 
-  abbrev text : List ℕ
-  text = ending_text old.tasks.last_job old.tasks.last_number Limit
+module _ (known : Option (List (List ℕ))) (h : Session) (part : StepResult) (old : Machine) (l : IsLimited known old h part) where
+  pub due_is : due h ≡ run_text part.lines
+  due_is = ap (λ (o : Option StepResult). text_of (option_or o (first_part h))) l.is
 
-  text_is : text ≡ run_text lines
-  text_is = ending_is m t old.tasks.last_job old.tasks.last_number Limit (l.stands.tables.counts.last_job ∙ l.last) (l.stands.tables.counts.last_number ∙ l.named)
+  order : IsInOrderButPlaces part.session
+  order = subst (OrderAfter h) l.is (last_parts_restore_order h l.ordered)
 
-  due_is : due h ≡ text
-  due_is = due_limit h m t l.single (limited_part known old h m t l) ∙ sym text_is
+  module _ {K : Type 0} (taken : K → Option (List ℕ)) (new : Machine) (paper paper' : K) where
+    pub over_stands : LimitEnds taken known part (Ok tt) old new paper paper' → StandsAt known new part.session
+    over_stands (text, none, stands) = record { storage = stands.storage; plan = stands.plan; ordered = order; stands = stands.stands }
 
-  rests : IsEmptied old new → RepresentsWithoutTasks known new (limit_part h m t l.single).session
-  rests e =
-      let (y, q, stands) = limit_stands known old h m t l new e in
-      record { storage = y; plan = q; stands = stands; none = none_lives (limit_part h m t l.single).session (limit_member h m t l.single) refl (none_left m.progress.job t Limit l.single.tasks l.single.ready l.single.first) }
+    pub over_prints : LimitEnds taken known part (Ok tt) old new paper paper' → Prints taken paper paper' (due h) old.tasks.printed part.lines [] 0
+    over_prints (text, none, stands) = prints_rest taken paper paper' (run_text part.lines) (due h) [] old.tasks.printed 0 part.lines due_is refl refl text
 
-  pub resumes_whole : (done : Unit {0}) → LimitEnds taken (Ok done) old new paper paper' → Resumes taken known h m t (Ok progress.Ended) old new paper paper'
-  resumes_whole done (rest, emptied) = (
-    limit_part h m t l.single,
-    limited_part known old h m t l,
-    ap (λ (z : Tasks). z.made) emptied.tasks,
-    ap (λ (z : Tasks). z.printed) emptied.tasks,
-    rests emptied,
-    prints_rest taken paper paper' text (due h) [] old.tasks.printed 0 lines due_is text_is refl rest,
-  )
+    module _ (failed : Failed) where
+      pub cut_again : {D : Type 0} (device : D) → LimitEnds taken known part (Err failed) old new paper paper' → IsCutAgain taken h (Err stops.PrintFault) old new device device paper paper'
+      cut_again device (text, only) = record {
+        answer = refl;
+        only = only;
+        proper = subst (λ (d : List ℕ). new.tasks.printed < length d) (sym due_is) text.proper;
+        prints = prints_more taken paper paper' (run_text part.lines) (due h) old.tasks.printed new.tasks.printed due_is text;
+        backing = refl;
+      }
 
-  pub resumes_more : (stop : Stop) → LimitEnds taken (Err stop) old new paper paper' → Resumes taken known h m t (Err stop) old new paper paper'
-  resumes_more stops.PrintFault (more, only) =
-      (only, subst (λ (d : List ℕ). new.tasks.printed < length d) (sym due_is) more.proper, prints_more taken paper paper' text (due h) old.tasks.printed new.tasks.printed due_is more)
-  resumes_more (stops.NoCore words size) a = absurd a
-  resumes_more (stops.BackingFull sum size) a = absurd a
-  resumes_more stops.BackingFault a = absurd a
-  resumes_more stops.Unbuilt a = absurd a
+      pub cut_limited : LimitEnds taken known part (Err failed) old new paper paper' → IsLimited known new h part
+      cut_limited (text, only) = subst (λ (k : Machine). IsLimited known k h part) (sym only) (record {
+        storage = l.storage;
+        plan = l.plan;
+        ordered = l.ordered;
+        is = l.is;
+        stands = record { session = l.stands.session; storage = l.stands.storage; tables = l.stands.tables };
+      })

@@ -1,52 +1,62 @@
 -- A step, once its operator was tried: what it answers, prints and leaves.
-use Rattle.std.proofs.Common.{◌≡◌, ◌≢◌, ℕ, List, length, Option, Some, None, Result, Ok, Err, refl, ◌∙◌, subst}
+use Rattle.std.proofs.Common.{◌≡◌, ◌≢◌, ℕ, List, length, Option, Some, None, Result, Ok, Err, refl, sym, ap, ◌∙◌, subst}
 use Rattle.b67_word.specs.declared.faults.Ending.{Ending}
+use Rattle.b67_word.specs.declared.faults.Failed.{Failed}
+use Rattle.b67_model.specs.Endings.{ends_with}
 use Rattle.b67_model.specs.State.{Task, SessionJob}
 use Rattle.b67_model.specs.Schedule.{Session}
+use Rattle.b67_law_turns.specs.Orders.{IsInOrderButLimit}
+use Rattle.b67_law_turns.specs.Turns.{IsNext, part_of}
 use Rattle.b67_stack.specs.Represents.{Storage}
 use Rattle.b67_layout_storage.specs.Machine.{Says, content_after}
 use Rattle.b67_layout.specs.Placement.{Placement}
 use Rattle.b67_exec_cells.specs.Running.{code_area}
+use Rattle.b67_task_tables.specs.declared.tables.Tasks.{Tasks}
 use Rattle.b67_task_tables.specs.declared.tables.Machine.{Machine}
-use Rattle.b67_task.specs.Endings.{HasOne}
+use Rattle.b67_task_tables.specs.Tables.{MachineRepresents}
 use Rattle.b67_session_schedule.specs.declared.counting.Chosen.{Chosen}
-use Rattle.b67_session_schedule.specs.Counted.{CountsHaveRoom}
+use Rattle.b67_session_schedule.specs.Counted.{choice_of, CountsHaveRoom}
 use Rattle.b67_session_attempt.specs.Stops.{Stop}
 use Rattle.b67_session_attempt.specs.Stops as stops
 use Rattle.b67_session_attempt.specs.Attempts.{AttemptFits}
 use Rattle.b67_session_attempt.specs.declared.attempts.Attempt.{Attempt}
 use Rattle.b67_session_attempt.specs.declared.attempts.Attempt.TheVariants as attempts
-use Rattle.b67_session.specs.declared.ends.StepEnd.{StepEnd}
-use Rattle.b67_session.specs.Slices.{IsLone, StopsWithRoom, IfPresent}
-use Rattle.b67_session.specs.Steps.{Closes, Advances, Finishes, Steps}
-use Rattle.b67_session.proofs.Turned.{Tries, Attempted, attempted, quiet_here, room_there}
+use Rattle.b67_session_ends.specs.Closing.{StandsChosen, ChoseSome, Closes}
+use Rattle.b67_session_ends.specs.Counts.{IsCounted}
+use Rattle.b67_session_ends.specs.Ends.{StandsBetween, KeepsCounts}
+use Rattle.b67_session.specs.Slices.{StandsAt, StopsWithRoom, IfPresent}
+use Rattle.b67_session.specs.Steps.{StopOf, EndsStep, Steps}
+use Rattle.b67_session.proofs.Between.{IsHalfMade, finished}
+use Rattle.b67_session.proofs.Halved.{made_room, made_half, ends_room, still, chosen_stands, chose_some, ends_half, between_of}
+use Rattle.b67_session.proofs.Next.{as_next}
+use Rattle.b67_session.proofs.Stopped.{cut_steps, stop_steps}
+use Rattle.b67_session.proofs.Turned.{NextOf, Tries, Attempted, attempted, n, quiet_here, room_there}
 use Rattle.b67_session.proofs.Tabled.{stop_printed, ended_printed, turned_printed}
-use Rattle.b67_session.proofs.Stepping.{made_room, has_one, made_steps, ends_room, ends_one, ends_steps, stop_steps}
 
 -- ---- stops with room
 
-advanced_room : {K : Type 0} (taken : K → Option (List ℕ)) (c : Chosen) (core : ℕ) (s : Session) (m : SessionJob) (t : Task) (answered : Result StepEnd Stop) (old new : Machine) (paper paper' : K) → Advances taken c answered old new paper paper' → StopsWithRoom core s m t answered
-advanced_room taken c core s m t (Ok end) old new paper paper' a = tt
-advanced_room taken c core s m t (Err (stops.NoCore words size)) old new paper paper' a = tt
-advanced_room taken c core s m t (Err (stops.BackingFull sum size)) old new paper paper' a = absurd a.3
-advanced_room taken c core s m t (Err stops.BackingFault) old new paper paper' a = absurd a.3
-advanced_room taken c core s m t (Err stops.PrintFault) old new paper paper' a = tt
-advanced_room taken c core s m t (Err stops.Unbuilt) old new paper paper' a = tt
+module _ (core : ℕ) (s : Session) (m : SessionJob) (t : Task) where
+  pub ended_room : (result : Result (Unit {0}) Failed) (answered : Result (Unit {0}) Stop) → StopOf result answered → StopsWithRoom core s m t answered
+  ended_room (Ok done) answered is = subst (λ (r : Result (Unit {0}) Stop). StopsWithRoom core s m t r) (sym is) tt
+  ended_room (Err failed) answered is = subst (λ (r : Result (Unit {0}) Stop). StopsWithRoom core s m t r) (sym is) tt
 
-closed_room : {K : Type 0} (taken : K → Option (List ℕ)) (c : Chosen) (ending : Ending) (core : ℕ) (s : Session) (m : SessionJob) (t : Task) (answered : Result StepEnd Stop) (old new : Machine) (paper paper' : K) → Closes taken c ending answered old new paper paper' → StopsWithRoom core s m t answered
-closed_room taken c ending core s m t (Ok end) old new paper paper' a = tt
-closed_room taken c ending core s m t (Err (stops.NoCore words size)) old new paper paper' a = tt
-closed_room taken c ending core s m t (Err (stops.BackingFull sum size)) old new paper paper' a = absurd a
-closed_room taken c ending core s m t (Err stops.BackingFault) old new paper paper' a = absurd a
-closed_room taken c ending core s m t (Err stops.PrintFault) old new paper paper' a = tt
-closed_room taken c ending core s m t (Err stops.Unbuilt) old new paper paper' a = tt
+  stopped_room : (x : Storage) (plan : Placement) (stop : Stop) → AttemptFits core x plan s m t (Err stop) → code_area x plan m t ≢ None → StopsWithRoom {A = Unit {0}} core s m t (Err stop)
+  stopped_room x plan (stops.NoCore words size) fits code = tt
+  stopped_room x plan (stops.BackingFull sum size) fits code = fits code
+  stopped_room x plan stops.BackingFault fits code = fits code
+  stopped_room x plan stops.PrintFault fits code = tt
+  stopped_room x plan stops.Unbuilt fits code = tt
 
-stopped_room : (core : ℕ) (x : Storage) (plan : Placement) (s : Session) (m : SessionJob) (t : Task) (stop : Stop) → AttemptFits core x plan s m t (Err stop) → code_area x plan m t ≢ None → StopsWithRoom {A = StepEnd} core s m t (Err stop)
-stopped_room core x plan s m t (stops.NoCore words size) fits code = tt
-stopped_room core x plan s m t (stops.BackingFull sum size) fits code = fits code
-stopped_room core x plan s m t stops.BackingFault fits code = fits code
-stopped_room core x plan s m t stops.PrintFault fits code = tt
-stopped_room core x plan s m t stops.Unbuilt fits code = tt
+-- what the end of a step promises of each session between its parts
+abbrev pub EndsEach : {K : Type 0} → (K → Option (List ℕ)) → Result (Unit {0}) Stop → Machine → Machine → K → K → Type 0
+EndsEach taken answered mid last paper paper' =
+    (x : Storage) (told : Option (List (List ℕ))) (plan : Placement) (h : Session) → IsInOrderButLimit h → MachineRepresents x told mid plan h → EndsStep taken told h answered mid last paper paper'
+
+-- and `close` of each whose chosen task is known
+abbrev pub ClosesEach : {K : Type 0} → (K → Option (List ℕ)) → Chosen → Ending → Result (Unit {0}) Failed → Machine → Machine → K → K → Type 0
+ClosesEach taken c ending result old new paper paper' =
+    (x : Storage) (told : Option (List (List ℕ))) (plan : Placement) (s : Session) (m : SessionJob) (t : Task) → StandsChosen x told old plan s m t c
+    → Closes taken told (part_of s (choice_of c) m t (ends_with m.progress.job t.number ending)) result old new paper paper'
 
 -- ---- the step
 
@@ -58,61 +68,112 @@ module _ {D K : Type 0} {taken : K → Option (List ℕ)} {told told' : Option (
   printed_is : (answered : Result Attempt Stop) → Tries taken told told' count k c mid answered new device device' paper paper' → mid.tasks.printed ≡ k.tasks.printed
   printed_is answered x = turned_printed k.tasks mid.tasks c.row x.tables
 
+  -- where its segment and array are present
+  module _ (answered : Result Attempt Stop) (x : Tries taken told told' count k c mid answered new device device' paper paper') (known : Option (List (List ℕ))) (s : Session) (says : Says known told) (h : StandsAt known k s) where
+    abbrev next_of : NextOf s c
+    next_of = n x known s says h
+
+    pub present_by : (m : SessionJob) (t : Task) → IsNext s m t → (step : Result (Unit {0}) Stop) (last : Machine)
+        → (known ≢ None → code_area h.storage h.plan next_of.member next_of.task ≢ None → last.tasks.made ≡ k.tasks.made → StopsWithRoom (length k.cpu.core) s next_of.member next_of.task step)
+        → IfPresent (known ≢ None) (length k.cpu.core) 1 h.storage h.plan s m t step k last device device'
+    present_by m t next step last room =
+        as_next s m next_of.member t next_of.task (λ (z : SessionJob) (v : Task). IfPresent (known ≢ None) (length k.cpu.core) 1 h.storage h.plan s z v step k last device device') next_of.next next
+        (record { quiet = λ one wants same. quiet_here x known s says h wants same; room = room })
+
   -- the operator was made
-  module _ (x : Tries taken told told' count k c mid (Ok attempts.Made) new device device' paper paper') (known : Option (List (List ℕ))) (s : Session) (m : SessionJob) (t : Task) (says : Says known told) (h : IsLone known k s m t) where
-    made : Attempted taken known (content_after known told') (length k.cpu.core) count k.tasks.printed s c (Ok attempts.Made) new paper paper'
-    made = attempted x known s m t says h
+  module _ (x : Tries taken told told' count k c mid (Ok attempts.Made) new device device' paper paper') (known : Option (List (List ℕ))) (s : Session) (says : Says known told) (h : StandsAt known k s) where
+    abbrev made : Attempted taken known (content_after known told') (length k.cpu.core) count k.tasks.printed s c (Ok attempts.Made) new paper paper'
+    made = attempted x known s says h
 
     pub made_counts : CountsHaveRoom new.tasks c
     made_counts = made_room taken known (content_after known told') (length k.cpu.core) count k.tasks.printed s c new paper paper' made
 
-    pub made_has : HasOne new
-    made_has = has_one taken known (content_after known told') (length k.cpu.core) count k.tasks.printed s c new paper paper' made
+    module _ (tasks : Tasks) (counted : IsCounted c new.tasks tasks) where
+      abbrev counts : Machine
+      counts = record new { tasks = tasks }
 
-    pub made_row : (answered : Result StepEnd Stop) (last : Machine) (paper'' : K) → Advances taken c answered new last paper' paper'' → Steps taken (content_after known told') (known ≢ None) count s answered k last paper paper''
-    made_row answered last paper'' a =
-        made_steps taken known (content_after known told') (length k.cpu.core) count k.tasks.printed s c new paper paper' made answered k last paper'' h.stands.tables.counts.made refl refl a
+      halved : IsHalfMade taken (content_after known told') (known ≢ None) s k counts paper paper'
+      halved = made_half taken known (content_after known told') (length k.cpu.core) count k.tasks.printed s c new paper paper' made k tasks counted h.stands.tables.counts.made refl refl
 
-    pub made_present : (answered : Result StepEnd Stop) (last : Machine) (paper'' : K) → Advances taken c answered new last paper' paper''
-        → IfPresent (known ≢ None) (length k.cpu.core) 1 h.storage h.plan s m t answered k last device device'
-    made_present answered last paper'' a = record {
-      quiet = λ one wants same. quiet_here x known s m t says h wants same;
-      room = λ tells code none. advanced_room taken c (length k.cpu.core) s m t answered new last paper' paper'' a;
-    }
+      pub made_between : StandsBetween counts
+      made_between = between_of taken (content_after known told') (known ≢ None) s k counts paper paper' halved
+
+      module _ (answered : Result (Unit {0}) Stop) (last : Machine) (paper'' : K) (each : EndsEach taken answered counts last paper' paper'') where
+        abbrev ended : EndsStep taken (content_after known told') halved.part.session answered counts last paper' paper''
+        ended = each halved.storage (content_after known told') halved.plan halved.part.session halved.ordered halved.stands
+
+        pub made_row : KeepsCounts counts last → Steps taken (content_after known told') (known ≢ None) count s answered k last paper paper''
+        made_row keeps = finished taken (content_after known told') (known ≢ None) count s k counts last paper paper' paper'' halved keeps ended.result ended.finishes answered ended.answer
+
+        pub made_present : (m : SessionJob) (t : Task) → IsNext s m t → IfPresent (known ≢ None) (length k.cpu.core) 1 h.storage h.plan s m t answered k last device device'
+        made_present m t next =
+            let z = n x known s says h in
+            present_by (Ok attempts.Made) x known s says h m t next answered last (λ tells code none. ended_room (length k.cpu.core) s z.member z.task ended.result answered ended.answer)
 
   -- the operator ends its task
-  module _ (ending : Ending) (x : Tries taken told told' count k c mid (Ok (attempts.Ends ending)) new device device' paper paper') (known : Option (List (List ℕ))) (s : Session) (m : SessionJob) (t : Task) (says : Says known told) (h : IsLone known k s m t) where
-    left : Attempted taken known (content_after known told') (length k.cpu.core) count k.tasks.printed s c (Ok (attempts.Ends ending)) new paper paper'
-    left = attempted x known s m t says h
+  module _ (ending : Ending) (x : Tries taken told told' count k c mid (Ok (attempts.Ends ending)) new device device' paper paper') (known : Option (List (List ℕ))) (s : Session) (says : Says known told) (h : StandsAt known k s) where
+    abbrev left : Attempted taken known (content_after known told') (length k.cpu.core) count k.tasks.printed s c (Ok (attempts.Ends ending)) new paper paper'
+    left = attempted x known s says h
+
+    runs : new.tasks.running ≡ c.row
+    runs = ap (λ (z : Tasks). z.running) x.stay ∙ ap (λ (z : Tasks). z.running) x.tables
+
+    printed_still : new.tasks.printed ≡ k.tasks.printed
+    printed_still = ended_printed ending mid.tasks new.tasks x.stay ∙ printed_is (Ok (attempts.Ends ending)) x
 
     pub ends_counts : CountsHaveRoom new.tasks c
     ends_counts = ends_room taken known (content_after known told') (length k.cpu.core) count k.tasks.printed s c new paper paper' ending left
 
-    pub ends_has : HasOne new
-    ends_has = ends_one taken known (content_after known told') (length k.cpu.core) count k.tasks.printed s c new paper paper' ending left
+    pub ends_chose : ChoseSome new c
+    ends_chose = chose_some taken known (content_after known told') (length k.cpu.core) count k.tasks.printed s c new paper paper' ending left runs
 
-    pub ends_row : k.tasks.halt ≢ Some k.tasks.made → (answered : Result StepEnd Stop) (last : Machine) (paper'' : K) → last.tasks.halt ≡ k.tasks.halt → Closes taken c ending answered new last paper' paper'' → Finishes c ending answered new last
-        → Steps taken (content_after known told') (known ≢ None) count s answered k last paper paper''
-    ends_row due answered last paper'' halt a f =
-        ends_steps taken known (content_after known told') (length k.cpu.core) count k.tasks.printed s c new paper paper' ending left answered k last paper'' h.stands.tables.counts.made refl
-        (ended_printed ending mid.tasks new.tasks x.stay ∙ printed_is (Ok (attempts.Ends ending)) x) refl due halt a f
+    abbrev stands_chosen : StandsChosen (still taken known (content_after known told') (length k.cpu.core) count k.tasks.printed s c new paper paper' ending left).0 (content_after known told') new left.plan left.session left.member left.task c
+    stands_chosen = chosen_stands taken known (content_after known told') (length k.cpu.core) count k.tasks.printed s c new paper paper' ending left runs
 
-    pub ends_present : (answered : Result StepEnd Stop) (last : Machine) (paper'' : K) → Closes taken c ending answered new last paper' paper''
-        → IfPresent (known ≢ None) (length k.cpu.core) 1 h.storage h.plan s m t answered k last device device'
-    ends_present answered last paper'' a = record {
-      quiet = λ one wants same. quiet_here x known s m t says h wants same;
-      room = λ tells code none. closed_room taken c ending (length k.cpu.core) s m t answered new last paper' paper'' a;
-    }
+    abbrev closes_here : {result : Result (Unit {0}) Failed} {closed : Machine} {paper'' : K} → ClosesEach taken c ending result new closed paper' paper''
+        → Closes taken (content_after known told') (part_of left.session (choice_of c) left.member left.task (ends_with left.member.progress.job left.task.number ending)) result new closed paper' paper''
+    closes_here closes = closes (still taken known (content_after known told') (length k.cpu.core) count k.tasks.printed s c new paper paper' ending left).0 (content_after known told') left.plan left.session left.member left.task stands_chosen
+
+    -- the endings' lines were printed
+    module _ (closed : Machine) (paper'' : K) (closes : ClosesEach taken c ending (Ok tt) new closed paper' paper'') where
+      closed_half : IsHalfMade taken (content_after known told') (known ≢ None) s k closed paper paper''
+      closed_half =
+          let (rest, none, made, stands) = closes_here closes in
+          ends_half taken known (content_after known told') (length k.cpu.core) count k.tasks.printed s c new paper paper' ending left k closed paper'' rest none made stands h.stands.tables.counts.made refl printed_still refl
+
+      pub closed_between : StandsBetween closed
+      closed_between = between_of taken (content_after known told') (known ≢ None) s k closed paper paper'' closed_half
+
+      module _ (answered : Result (Unit {0}) Stop) (last : Machine) (paper''' : K) (each : EndsEach taken answered closed last paper'' paper''') where
+        abbrev over : EndsStep taken (content_after known told') closed_half.part.session answered closed last paper'' paper'''
+        over = each closed_half.storage (content_after known told') closed_half.plan closed_half.part.session closed_half.ordered closed_half.stands
+
+        pub ends_row : KeepsCounts closed last → Steps taken (content_after known told') (known ≢ None) count s answered k last paper paper'''
+        ends_row keeps = finished taken (content_after known told') (known ≢ None) count s k closed last paper paper'' paper''' closed_half keeps over.result over.finishes answered over.answer
+
+        pub ends_present : (m : SessionJob) (t : Task) → IsNext s m t → IfPresent (known ≢ None) (length k.cpu.core) 1 h.storage h.plan s m t answered k last device device'
+        ends_present m t next =
+            let z = n x known s says h in
+            present_by (Ok (attempts.Ends ending)) x known s says h m t next answered last (λ tells code none. ended_room (length k.cpu.core) s z.member z.task over.result answered over.answer)
+
+    -- the printer failed in them
+    module _ (failed : Failed) (last : Machine) (paper'' : K) where
+      pub cut_row : k.tasks.halt ≢ Some k.tasks.made → new.tasks.halt ≡ k.tasks.halt → ClosesEach taken c ending (Err failed) new last paper' paper'' → Steps taken (content_after known told') (known ≢ None) count s (Err stops.PrintFault) k last paper paper''
+      cut_row due halt closes =
+          let (more, only) = closes_here closes in
+          cut_steps taken known (content_after known told') (length k.cpu.core) count k.tasks.printed s c new paper paper' ending left k last paper'' h.stands.tables.counts.made refl printed_still refl due halt more only
+
+      pub cut_present : (m : SessionJob) (t : Task) → IsNext s m t → IfPresent {A = Unit {0}} (known ≢ None) (length k.cpu.core) 1 h.storage h.plan s m t (Err stops.PrintFault) k last device device'
+      cut_present m t next = present_by (Ok (attempts.Ends ending)) x known s says h m t next (Err stops.PrintFault) last (λ tells code none. tt)
 
   -- it isn't made
-  module _ (stop : Stop) (x : Tries taken told told' count k c mid (Err stop) new device device' paper paper') (known : Option (List (List ℕ))) (s : Session) (m : SessionJob) (t : Task) (says : Says known told) (h : IsLone known k s m t) where
+  module _ (stop : Stop) (x : Tries taken told told' count k c mid (Err stop) new device device' paper paper') (known : Option (List (List ℕ))) (s : Session) (says : Says known told) (h : StandsAt known k s) where
     pub stop_row : k.tasks.halt ≢ Some k.tasks.made → new.tasks.halt ≡ k.tasks.halt → Steps taken (content_after known told') (known ≢ None) count s (Err stop) k new paper paper'
     stop_row due halt =
-        stop_steps taken known (content_after known told') (length k.cpu.core) count k.tasks.printed s c new paper paper' stop (attempted x known s m t says h) k h.stands.tables.counts.made refl refl due halt
+        stop_steps taken known (content_after known told') (length k.cpu.core) count k.tasks.printed s c new paper paper' stop (attempted x known s says h) k h.stands.tables.counts.made refl refl due halt
         (λ other. stop_printed stop mid.tasks new.tasks x.stay other ∙ printed_is (Err stop) x)
 
-    pub stop_present : IfPresent {A = StepEnd} (known ≢ None) (length k.cpu.core) 1 h.storage h.plan s m t (Err stop) k new device device'
-    stop_present = record {
-      quiet = λ one wants same. quiet_here x known s m t says h wants same;
-      room = λ tells code none. stopped_room (length k.cpu.core) h.storage h.plan s m t stop (room_there x known s m t says h tells) code;
-    }
+    pub stop_present : (m : SessionJob) (t : Task) → IsNext s m t → IfPresent {A = Unit {0}} (known ≢ None) (length k.cpu.core) 1 h.storage h.plan s m t (Err stop) k new device device'
+    stop_present m t next =
+        let z = n x known s says h in
+        present_by (Err stop) x known s says h m t next (Err stop) new (λ tells code none. stopped_room (length k.cpu.core) s z.member z.task h.storage h.plan stop (room_there x known s says h tells) code)

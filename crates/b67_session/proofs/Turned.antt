@@ -1,21 +1,26 @@
 -- The chosen task is the running one, and what the attempt at its operator then answers.
 use Rattle.std.proofs.Common.{◌≡◌, ◌≢◌, ℕ, ◌+◌, ◌<◌, ◌^◌, List, [], ◌∷◌, length, map, Option, Some, None, Result, Ok, Err, refl, sym, ap, ◌∙◌, subst}
 use Rattle.std.specs.List.{slice_get}
-use Rattle.std.proofs.lemmas.Option.{slice_get_within}
-use Rattle.b67_model.specs.State.{Task, SessionJob}
-use Rattle.b67_model.specs.Schedule.{Session, choice}
+use Rattle.std.proofs.lemmas.Option.{same_Some, slice_get_within}
+use Rattle.b67_lemmas.proofs.Places.{at_mapped}
+use Rattle.b67_model.specs.State.{Ready, Task, SessionJob}
+use Rattle.b67_model.specs.Keyed.{keyed}
+use Rattle.b67_model.specs.Run.{number_of}
+use Rattle.b67_model.specs.Schedule.{Session, Choice, choice}
 use Rattle.b67_model.specs.InOrder.{IsInOrderButPlaces}
-use Rattle.b67_layout.specs.Orders.{IsInOrderButCounts}
-use Rattle.b67_layout.proofs.Weaker.{but_counts}
+use Rattle.b67_law_order_steps.proofs.Sessions.{other_numbers_keep_order}
+use Rattle.b67_law_turns.specs.Turns.{IsNext}
+use Rattle.b67_law_turns.proofs.Choices.{chosen_tasks_are_ready, next_is_ready}
 use Rattle.b67_stack.specs.Represents.{Storage}
 use Rattle.b67_layout_storage.specs.Machine.{Says, content_after}
-use Rattle.b67_session_attempt.specs.Passed.{StandsOver, Lengthens}
+use Rattle.b67_layout.specs.Orders.{IsInOrderButCounts}
 use Rattle.b67_layout.specs.Placement.{Placement}
 use Rattle.b67_layout.specs.Rows as rows
 use Rattle.b67_layout.specs.Rows.{RunningRow}
 use Rattle.b67_layout.specs.Session.{IsRunning}
-use Rattle.b67_law_order_steps.proofs.Sessions.{other_numbers_keep_order}
+use Rattle.b67_layout.proofs.Weaker.{but_counts}
 use Rattle.b67_task_switch.specs.Turns.{with_running}
+use Rattle.b67_task_switch.specs.Standing.{HasRow}
 use Rattle.b67_task_tables.specs.declared.tables.TaskRow.{TaskRow}
 use Rattle.b67_task_tables.specs.declared.tables.Tasks.{Tasks}
 use Rattle.b67_task_tables.specs.declared.tables.Machine.{Machine}
@@ -23,17 +28,13 @@ use Rattle.b67_task_tables.specs.Tables.{task_row, TasksShow, MachineRepresents}
 use Rattle.b67_session_schedule.specs.declared.counting.Chosen.{Chosen}
 use Rattle.b67_session_schedule.specs.Counted.{choice_of, CountsHaveRoom}
 use Rattle.b67_session_schedule.specs.Chosen.{Chooses}
-use Rattle.b67_session_schedule.proofs.Rooms.{none_ready}
-use Rattle.b67_task_switch.specs.Standing.{HasRow}
+use Rattle.b67_session_attempt.specs.Passed.{StandsOver, Lengthens}
 use Rattle.b67_session_attempt.specs.Stops.{Stop}
 use Rattle.b67_session_attempt.specs.Stops as stops
 use Rattle.b67_session_attempt.specs.declared.attempts.Attempt.{Attempt}
 use Rattle.b67_session_attempt.specs.Attempts.{RunsOver, ForEachOver, WantsNothing, AttemptMeets, Attempts, AttemptFits, AttemptRow, TablesStay}
-use Rattle.b67_single.specs.Single.{IsSingle}
-use Rattle.b67_session.specs.Slices.{IsLone}
-use Rattle.b67_session.proofs.Lone.{Chose, chose, runs_then, other, some_ready, Other}
-use Rattle.b67_lemmas.proofs.Places.{at_mapped}
-use Rattle.b67_session.proofs.Finished.{OneTurn}
+use Rattle.b67_session.specs.Slices.{StandsAt}
+use Rattle.b67_session.proofs.Next.{Chose, chose, runs_then, next_other}
 
 -- the running row's task is running already
 pub runs_already : (x : Storage) (told : Option (List (List ℕ))) (k : Machine) (plan : Placement) (s : Session) (r : TaskRow) → MachineRepresents x told k plan s → slice_get k.tasks.rows.items k.tasks.running ≡ Some r
@@ -49,42 +50,49 @@ pub record Turned (known : Option (List (List ℕ))) (k : Machine) (s : Session)
   pub storage : Storage
   pub plan : Placement
   pub ordered : IsInOrderButPlaces s
-  pub single : IsSingle s m t
+  pub next : IsNext s m t
+  pub chosen : next.chosen ≡ choice_of c
+  pub ready : t.condition ≡ Ready
   pub stands : MachineRepresents storage known k plan s
   pub running : IsRunning plan s.jobs m t
-  pub choice : choice s ≡ Some (choice_of c)
-  pub job : c.job ≡ m.constants.number
-  pub number : c.number ≡ t.number
   pub turn : c.turn + 1 < 2 ^ 32
 
-module _ (known : Option (List (List ℕ))) (k : Machine) (s : Session) (m : SessionJob) (t : Task) (h : IsLone known k s m t) where
-  -- a task is chosen
-  pub chooses_one : {A : Type 0} → Chooses k.tasks.rows.items None (choice s) → A
-  chooses_one none = absurd (some_ready s m t h.single (none_ready s none))
+-- the task that makes the next step of a session whose choice is known
+pub record NextOf (s : Session) (c : Chosen) : Type 0 where
+  pub member : SessionJob
+  pub task : Task
+  pub next : IsNext s member task
+  pub chosen : next.chosen ≡ choice_of c
+  pub ready : task.condition ≡ Ready
 
-  module _ (c : Chosen) (chooses : Chooses k.tasks.rows.items (Some c) (choice s)) where
-    abbrev the_row : Chose h.plan k.tasks m t c
-    the_row = chose h.plan s m t h.single k.tasks h.stands.tables c chooses.0
+pub next_of : (s : Session) (c : Chosen) → IsInOrderButPlaces s → choice s ≡ Some (choice_of c) → NextOf s c
+next_of s c o is = let (m, t, n, same, ready) = chosen_tasks_are_ready s (choice_of c) o is in record { member = m; task = t; next = n; chosen = same; ready = ready }
 
-    pub has_row : HasRow k c.row
-    has_row = record { storage = h.storage; told = known; plan = h.plan; session = s; ordered = but_counts s h.ordered; stands = h.stands; inside = slice_get_within k.tasks.rows.items c.row the_row.row the_row.at }
+module _ (known : Option (List (List ℕ))) (k : Machine) (s : Session) (h : StandsAt known k s) (c : Chosen) (chooses : Chooses k.tasks.rows.items (Some c) (choice s)) where
+  abbrev pub who : NextOf s c
+  who = next_of s c h.ordered chooses.1
 
-    abbrev pub turned : (new : Machine)
-        → ((x : Storage) (known : Option (List (List ℕ))) (plan : Placement) (s : Session) (r : TaskRow) → IsInOrderButCounts s → MachineRepresents x known k plan s → slice_get k.tasks.rows.items c.row ≡ Some r → MachineRepresents x known new (with_running plan r.slot) s)
-        → CountsHaveRoom k.tasks c → Turned known new s m t c
-    turned new stands room =
-        let r = the_row in record {
-          storage = h.storage;
-          plan = with_running h.plan r.row.slot;
-          ordered = h.ordered;
-          single = h.single;
-          stands = stands h.storage known h.plan s r.row (but_counts s h.ordered) h.stands r.at;
-          running = runs_then h.plan s m t h.single r.row.slot r.slot;
-          choice = chooses.1;
-          job = r.job;
-          number = r.number;
-          turn = room.turn;
-        }
+  abbrev the_row : Chose s who.member who.task who.next h.plan k.tasks c
+  the_row = chose s who.member who.task who.next h.plan k.tasks c h.ordered h.stands.tables who.chosen chooses.0
+
+  pub has_row : HasRow k c.row
+  has_row = record { storage = h.storage; told = known; plan = h.plan; session = s; ordered = but_counts s h.ordered; stands = h.stands; inside = slice_get_within k.tasks.rows.items c.row the_row.row the_row.at }
+
+  abbrev pub turned : (new : Machine)
+      → ((x : Storage) (known : Option (List (List ℕ))) (plan : Placement) (s : Session) (r : TaskRow) → IsInOrderButCounts s → MachineRepresents x known k plan s → slice_get k.tasks.rows.items c.row ≡ Some r → MachineRepresents x known new (with_running plan r.slot) s)
+      → CountsHaveRoom k.tasks c → Turned known new s who.member who.task c
+  turned new stands room =
+      let r = the_row in record {
+        storage = h.storage;
+        plan = with_running h.plan r.row.slot;
+        ordered = h.ordered;
+        next = who.next;
+        chosen = who.chosen;
+        ready = who.ready;
+        stands = stands h.storage known h.plan s r.row (but_counts s h.ordered) h.stands r.at;
+        running = runs_then s who.member who.task who.next h.plan r.row.slot r.shows.slot;
+        turn = room.turn;
+      }
 
 -- what is known is what the storage says
 pub over : (x : Storage) (known told : Option (List (List ℕ))) (k : Machine) (plan : Placement) (s : Session) → Says known told → MachineRepresents x known k plan s → StandsOver x told k plan s
@@ -94,7 +102,7 @@ over x known told k plan s says h = record {
 }
 
 pub runs_over : (known told : Option (List (List ℕ))) → Says known told → (k : Machine) (s : Session) (m : SessionJob) (t : Task) (c : Chosen) → Turned known k s m t c → RunsOver k told
-runs_over known told says k s m t c h = record { storage = h.storage; plan = h.plan; session = s; member = m; task = t; ordered = but_counts s h.ordered; stands = over h.storage known told k h.plan s says h.stands; running = h.running; ready = h.single.ready }
+runs_over known told says k s m t c h = record { storage = h.storage; plan = h.plan; session = s; member = m; task = t; ordered = but_counts s h.ordered; stands = over h.storage known told k h.plan s says h.stands; running = h.running; ready = h.ready }
 
 -- what the attempt answered, for the session or where nothing is known of the sectors for one with other numbers
 pub record Attempted {K : Type 0} (taken : K → Option (List ℕ)) (known known' : Option (List (List ℕ))) (core count before : ℕ) (s : Session) (c : Chosen) (answered : Result Attempt Stop) (k : Machine) (paper paper' : K) : Type 0 where
@@ -105,7 +113,10 @@ pub record Attempted {K : Type 0} (taken : K → Option (List ℕ)) (known known
   pub task : Task
   pub storage : Storage
   pub plan : Placement
-  pub turn : OneTurn session member task c
+  pub ordered : IsInOrderButPlaces session
+  pub next : IsNext session member task
+  pub chosen : next.chosen ≡ choice_of c
+  pub running : IsRunning plan session.jobs member task
   pub few : c.turn + 1 < 2 ^ 32
   pub meets : AttemptMeets taken known' (known ≢ None) core count before plan session member task answered k paper paper'
   pub room : known ≢ None → AttemptFits core storage plan session member task answered
@@ -132,10 +143,16 @@ pub record Tries {D K : Type 0} (taken : K → Option (List ℕ)) (told told' : 
   pub stay : TablesStay answered mid.tasks new.tasks
   pub halt : new.tasks.halt ≡ mid.tasks.halt
 
-module _ {D K : Type 0} {taken : K → Option (List ℕ)} {told told' : Option (List (List ℕ))} {count : ℕ} {k mid new : Machine} {c : Chosen} {answered : Result Attempt Stop} {device device' : D} {paper paper' : K} (x : Tries taken told told' count k c mid answered new device device' paper paper')
-    (known : Option (List (List ℕ))) (s : Session) (m : SessionJob) (t : Task) (says : Says known told) (h : IsLone known k s m t) where
-  abbrev here : Turned known mid s m t c
-  here = turned known k s m t h c (x.chooses h.plan s h.ordered h.stands.tables) mid x.gives (x.counts h.plan s h.ordered h.stands.tables)
+module _ {D K : Type 0} {taken : K → Option (List ℕ)} {told told' : Option (List (List ℕ))} {count : ℕ} {k mid new : Machine} {c : Chosen} {answered : Result Attempt Stop} {device device' : D} {paper paper' : K}
+    (x : Tries taken told told' count k c mid answered new device device' paper paper') (known : Option (List (List ℕ))) (s : Session) (says : Says known told) (h : StandsAt known k s) where
+  abbrev chooses_here : Chooses k.tasks.rows.items (Some c) (choice s)
+  chooses_here = x.chooses h.plan s h.ordered h.stands.tables
+
+  abbrev pub n : NextOf s c
+  n = who known k s h c chooses_here
+
+  abbrev here : Turned known mid s n.member n.task c
+  here = turned known k s h c chooses_here mid x.gives (x.counts h.plan s h.ordered h.stands.tables)
 
   abbrev stood : StandsOver here.storage told mid here.plan s
   stood = over here.storage known told mid here.plan s says here.stands
@@ -146,37 +163,38 @@ module _ {D K : Type 0} {taken : K → Option (List ℕ)} {told told' : Option (
   device_told : known ≢ None → here.storage.device ≢ None
   device_told tells = subst (λ (d : Option (List (List ℕ))). d ≢ None) device_is tells
 
-  abbrev tried : AttemptRow taken here.storage (content_after here.storage.device told') (length mid.cpu.core) count mid.tasks.printed here.plan s m t answered new device device' paper paper'
-  tried = x.row here.storage here.plan s m t (but_counts s here.ordered) stood here.running here.single.ready
+  abbrev pub promise : AttemptRow taken here.storage (content_after here.storage.device told') (length mid.cpu.core) count mid.tasks.printed here.plan s n.member n.task answered new device device' paper paper'
+  promise = x.row here.storage here.plan s n.member n.task (but_counts s here.ordered) stood here.running here.ready
 
-  abbrev a : Attempts taken here.storage (content_after here.storage.device told') (length mid.cpu.core) count mid.tasks.printed here.plan s t answered new paper paper'
-  a = tried.meets
+  abbrev a : Attempts taken here.storage (content_after here.storage.device told') (length mid.cpu.core) count mid.tasks.printed here.plan s n.task answered new paper paper'
+  a = promise.meets
 
-  one : Other s a.jobs m a.member t
-  one = other here.plan s m a.member t a.jobs here.single a.others a.running
+  again : (q : IsNext (record s { jobs = a.jobs }) a.member n.task) × (q.chosen ≡ n.next.chosen)
+  again = next_other here.plan s n.member a.member n.task a.jobs here.stands.session.holds.fits.rows a.others here.running a.running n.next
 
   jobs_same : known ≢ None → a.jobs ≡ s.jobs
   jobs_same tells = a.same (device_told tells)
 
-  member_same : known ≢ None → a.member ≡ m
+  member_same : known ≢ None → a.member ≡ n.member
   member_same tells =
-      let first : List SessionJob → SessionJob = λ ms. elim ms [ [] ↦ m | y ∷ more ↦ y ] in
-      ap first (sym one.single.jobs ∙ jobs_same tells ∙ here.single.jobs)
+      let found : keyed number_of n.next.chosen.who.job a.jobs ≡ Some a.member = subst (λ (z : Choice). keyed number_of z.who.job a.jobs ≡ Some a.member) again.1 again.0.member in
+      let there : keyed number_of n.next.chosen.who.job s.jobs ≡ Some a.member = subst (λ (js : List SessionJob). keyed number_of n.next.chosen.who.job js ≡ Some a.member) (jobs_same tells) found in
+      same_Some a.member n.member (sym there ∙ n.next.member)
 
-  room_here : known ≢ None → AttemptFits (length mid.cpu.core) here.storage here.plan s m t answered
-  room_here tells = tried.fits (device_told tells)
+  room_here : known ≢ None → AttemptFits (length mid.cpu.core) here.storage here.plan s n.member n.task answered
+  room_here tells = promise.fits (device_told tells)
 
   -- the same of the session that the machine represents again
-  room_again : known ≢ None → AttemptFits (length mid.cpu.core) here.storage here.plan (record s { jobs = a.jobs }) a.member t answered
+  room_again : known ≢ None → AttemptFits (length mid.cpu.core) here.storage here.plan (record s { jobs = a.jobs }) a.member n.task answered
   room_again tells =
-      let J : List SessionJob → Type 0 = λ jobs. AttemptFits (length mid.cpu.core) here.storage here.plan (record s { jobs = jobs }) m t answered in
-      let M : SessionJob → Type 0 = λ z. AttemptFits (length mid.cpu.core) here.storage here.plan (record s { jobs = a.jobs }) z t answered in
+      let J : List SessionJob → Type 0 = λ jobs. AttemptFits (length mid.cpu.core) here.storage here.plan (record s { jobs = jobs }) n.member n.task answered in
+      let M : SessionJob → Type 0 = λ z. AttemptFits (length mid.cpu.core) here.storage here.plan (record s { jobs = a.jobs }) z n.task answered in
       subst M (sym (member_same tells)) (subst J (sym (jobs_same tells)) (room_here tells))
 
   -- and of the machine before
-  pub room_there : known ≢ None → AttemptFits (length k.cpu.core) h.storage h.plan s m t answered
-  room_there tells = subst (λ (n : ℕ). AttemptFits n h.storage h.plan s m t answered) x.core (room_over answered (room_here tells)) where
-    room_over : (other : Result Attempt Stop) → AttemptFits (length mid.cpu.core) here.storage here.plan s m t other → AttemptFits (length mid.cpu.core) h.storage h.plan s m t other
+  pub room_there : known ≢ None → AttemptFits (length k.cpu.core) h.storage h.plan s n.member n.task answered
+  room_there tells = subst (λ (size : ℕ). AttemptFits size h.storage h.plan s n.member n.task answered) x.core (room_over answered (room_here tells)) where
+    room_over : (other : Result Attempt Stop) → AttemptFits (length mid.cpu.core) here.storage here.plan s n.member n.task other → AttemptFits (length mid.cpu.core) h.storage h.plan s n.member n.task other
     room_over (Ok attempted) fits = fits
     room_over (Err (stops.NoCore words size)) fits = tt
     room_over (Err (stops.BackingFull sum size)) fits = fits
@@ -188,26 +206,23 @@ module _ {D K : Type 0} {taken : K → Option (List ℕ)} {told told' : Option (
   attempted =
       let P : ℕ → ℕ → Type 0 = λ core before. Attempted taken known (content_after known told') core count before s c answered new paper paper' in
       let printed : mid.tasks.printed ≡ k.tasks.printed = ap (λ (z : Tasks). z.printed) x.tables in
-      subst (λ (n : ℕ). P n k.tasks.printed) x.core (subst (P (length mid.cpu.core)) printed (record {
+      subst (λ (size : ℕ). P size k.tasks.printed) x.core (subst (P (length mid.cpu.core)) printed (record {
         session = record s { jobs = a.jobs };
         same = λ tells. ap (λ (jobs : List SessionJob). record s { jobs = jobs }) (jobs_same tells);
         same_made = refl;
         member = a.member;
-        task = t;
+        task = n.task;
         storage = here.storage;
         plan = here.plan;
-        turn = record {
-          ordered = other_numbers_keep_order s a.jobs a.others here.ordered;
-          single = one.single;
-          choice = one.choice ∙ here.choice;
-          job = here.job ∙ sym one.number;
-          number = here.number;
-        };
+        ordered = other_numbers_keep_order s a.jobs a.others here.ordered;
+        next = again.0;
+        chosen = again.1 ∙ n.chosen;
+        running = a.running;
         few = here.turn;
-        meets = subst (λ (d : Option (List (List ℕ))). AttemptMeets taken (content_after d told') (d ≢ None) (length mid.cpu.core) count mid.tasks.printed here.plan (record s { jobs = a.jobs }) a.member t answered new paper paper') (sym device_is) a.meets;
+        meets = subst (λ (d : Option (List (List ℕ))). AttemptMeets taken (content_after d told') (d ≢ None) (length mid.cpu.core) count mid.tasks.printed here.plan (record s { jobs = a.jobs }) a.member n.task answered new paper paper') (sym device_is) a.meets;
         room = room_again;
       }))
 
   -- where nothing is wanted
-  pub quiet_here : WantsNothing h.storage h.plan m t → (Lengthens m t → ⊥) → device' ≡ device
-  quiet_here wants same = tried.quiet (record { code = wants.code; array = wants.array }) same
+  pub quiet_here : WantsNothing h.storage h.plan n.member n.task → (Lengthens n.member n.task → ⊥) → device' ≡ device
+  quiet_here wants same = promise.quiet (record { code = wants.code; array = wants.array }) same

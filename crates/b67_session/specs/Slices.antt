@@ -1,95 +1,70 @@
--- What a slice of a run answers, prints and leaves: a session of one job with one task.
+-- What a slice of a run answers, prints and leaves: a session of any jobs and tasks.
 use Rattle.std.specs.Prelude.{◌≡◌, ◌≢◌, ℕ, ◌+◌, ◌<◌, ◌≤◌, ◌⊎◌, List, [], ◌++◌, length, take, Option, Some, None, Result, Ok, Err}
 use Rattle.b67_io.specs.Told.{Took}
 use Rattle.b67_model.specs.State.{Task, SessionJob}
 use Rattle.b67_model.specs.Need.{need, need_next}
 use Rattle.b67_model.specs.Lines.{run_text}
 use Rattle.b67_model.specs.Schedule.{Session}
-use Rattle.b67_model.specs.InOrder.{IsInOrderButPlaces}
 use Rattle.b67_model.specs.Run.{RunLine, StepResult, after, lines, live_tasks}
 use Rattle.b67_session_lines.specs.Moments.{first_part, last_part, due}
 use Rattle.b67_stack.specs.Represents.{Storage}
 use Rattle.b67_layout_storage.specs.Machine.{Says}
 use Rattle.b67_layout.specs.Placement.{Placement}
-use Rattle.b67_layout.specs.Orders.{IsInOrderButCounts}
 use Rattle.b67_exec_cells.specs.Running.{code_area}
-use Rattle.b67_exec_cells.specs.Called.{called_in}
-use Rattle.b67_single.specs.Single.{IsSingle}
+use Rattle.b67_law_turns.specs.Turns.{IsNext}
 use Rattle.b67_task_tables.specs.declared.tables.Tasks.{Tasks}
 use Rattle.b67_task_tables.specs.declared.tables.Machine.{Machine}
-use Rattle.b67_task_tables.specs.Tables.{MachineRepresents}
 pub use Rattle.b67_task_tables.specs.Runs.{Keeps}
-use Rattle.b67_session_attempt.specs.Passed.{AreCountable, IsBuilt, IsShortAt, Lengthens}
+use Rattle.b67_session_attempt.specs.Passed.{AreCountable, IsShortAt, CallsDevice}
 use Rattle.b67_session_attempt.specs.Attempts.{IsLacking, TakesSectors, WantsNothing}
 use Rattle.b67_session_attempt.specs.Stops.{Stop}
 use Rattle.b67_session_attempt.specs.Stops as stops
+pub use Rattle.b67_session_ends.specs.Machines.{StandsAt, IsLimited, RepresentsWithoutTasks}
 use Rattle.b67_session.specs.declared.slices.Progress.{Progress}
 use Rattle.b67_session.specs.declared.slices.Progress.TheVariants as progress
 
 -- ---- machines
 
--- the machine stands for a session in order, of one job with one ready task, and this is known of what the device's
--- sectors hold
-pub record IsLone (known : Option (List (List ℕ))) (k : Machine) (s : Session) (m : SessionJob) (t : Task) : Type 0 where
-  pub storage : Storage
-  pub plan : Placement
-  pub ordered : IsInOrderButPlaces s
-  pub single : IsSingle s m t
-  pub stands : MachineRepresents storage known k plan s
-
--- for some such session, over a device that tells this
-pub record LivesOn (told : Option (List (List ℕ))) (k : Machine) : Type 0 where
+-- the machine stands for some session in order, over a device that tells this
+pub record StandsSome (told : Option (List (List ℕ))) (k : Machine) : Type 0 where
   pub known : Option (List (List ℕ))
   pub says : Says known told
   pub session : Session
+  pub stands : StandsAt known k session
+
+-- for one of which a task makes the next step
+pub record LivesOn (told : Option (List (List ℕ))) (k : Machine) : Type 0 where
+  pub some : StandsSome told k
   pub member : SessionJob
   pub task : Task
-  pub lone : IsLone known k session member task
+  pub next : IsNext some.session member task
 
--- the machine stands for a session in order but for its counts, whose one task has just made the last operator that its job
--- may make, and is to end by LIMIT
-pub record IsLimited (known : Option (List (List ℕ))) (k : Machine) (h : Session) (m : SessionJob) (t : Task) : Type 0 where
-  pub storage : Storage
-  pub plan : Placement
-  pub ordered : IsInOrderButCounts h
-  pub single : IsSingle h m t
-  pub limit : m.progress.made ≡ m.constants.limit
-  pub last : h.last.job ≡ m.constants.number
-  pub named : h.last.task ≡ t.number
-  pub stands : MachineRepresents storage known k plan h
-
+-- for some session whose last part is due
 pub record StandsLimited (told : Option (List (List ℕ))) (k : Machine) : Type 0 where
   pub known : Option (List (List ℕ))
   pub says : Says known told
   pub session : Session
-  pub member : SessionJob
-  pub task : Task
-  pub limited : IsLimited known k session member task
+  pub part : StepResult
+  pub limited : IsLimited known k session part
 
--- the machine stands for a session that no task is left of, and this is known of what the device's sectors hold
-pub record RepresentsWithoutTasks (known : Option (List (List ℕ))) (k : Machine) (s : Session) : Type 0 where
-  pub storage : Storage
-  pub plan : Placement
-  pub stands : MachineRepresents storage known k plan s
-  pub none : live_tasks s.jobs ≡ 0
-
--- for some such session, over a device that tells this
+-- for some session that no task is left of
 pub record HasNoTasks (told : Option (List (List ℕ))) (k : Machine) : Type 0 where
   pub known : Option (List (List ℕ))
   pub says : Says known told
   pub session : Session
   pub rests : RepresentsWithoutTasks known k session
 
--- a slice may be called: a task lives, or is to end by LIMIT, or none is left; and each job's numbers can be counted
+-- a slice may be called: a task makes the next step, or some are to end by LIMIT, or none is left; and each job's numbers can be
+-- counted
 pub record IsOpen (told : Option (List (List ℕ))) (k : Machine) : Type 0 where
   pub stage : LivesOn told k ⊎ (StandsLimited told k ⊎ HasNoTasks told k)
   pub countable : AreCountable k.tasks.jobs
 
 -- why a slice goes no further: no task lives, or the count of a halt is reached
 abbrev pub Pauses : Tasks → Option ℕ → Option Progress → Type 0
-Pauses tasks halt None = halt ≢ Some tasks.made
+Pauses tasks halt None = (tasks.rows.items ≢ []) × (halt ≢ Some tasks.made)
 Pauses tasks halt (Some progress.Ended) = tasks.rows.items ≡ []
-Pauses tasks halt (Some progress.Halted) = halt ≡ Some tasks.made
+Pauses tasks halt (Some progress.Halted) = (tasks.rows.items ≢ []) × (halt ≡ Some tasks.made)
 Pauses tasks halt (Some progress.More) = ⊥
 
 -- ---- steps and their text
@@ -140,40 +115,43 @@ StopsWithRoom core s m t _ = Unit {0}
 -- present, and it makes no array longer, a slice of one step doesn't call the device. Where its segment is present, the device
 -- stops it only if core has room for it
 pub record IfPresent {A D : Type 0} (exact : Type 0) (core n : ℕ) (x : Storage) (plan : Placement) (s : Session) (m : SessionJob) (t : Task) (answered : Result A Stop) (old new : Machine) (device device' : D) : Type 0 where
-  pub quiet : n ≤ 1 → WantsNothing x plan m t → (Lengthens m t → ⊥) → device' ≡ device
+  pub quiet : n ≤ 1 → WantsNothing x plan m t → (CallsDevice m t → ⊥) → device' ≡ device
   pub room : exact → code_area x plan m t ≢ None → new.tasks.made ≡ old.tasks.made → StopsWithRoom core s m t answered
 
 -- ---- what is answered
 
 -- a slice of n steps stopped after so many of them, before one that was due: they are not all made, and the halt isn't
--- reached. The machine stands for the session before that step
+-- reached. The machine stands for the session before that step, which this task makes
 pub record StopsBefore (known : Option (List (List ℕ))) (n steps : ℕ) (s : Session) (new : Machine) : Type 0 where
   pub left : steps < n
   pub halt : new.tasks.halt ≢ Some new.tasks.made
+  pub stands : StandsAt known new s
   pub member : SessionJob
   pub task : Task
-  pub lone : IsLone known new s member task
+  pub next : IsNext s member task
+
+-- the machine stands for the session, of which a task lives
+abbrev pub GoesOn : Option (List (List ℕ)) → Session → Machine → Type 0
+GoesOn known s new = StandsAt known new s × ((m : SessionJob) × (t : Task) × IsNext s m t)
 
 -- how a slice of n steps ended after so many that led to a session, over a core of so many words and a device of so many
 -- sectors, of which this is known. `exact` is whether anything was known of them at the start
 abbrev pub SliceMeets : Option (List (List ℕ)) → Type 0 → ℕ → ℕ → ℕ → ℕ → Session → List ℕ → Result Progress Stop → Machine → Type 0
 SliceMeets known exact core count n steps s is_due (Ok progress.Ended) new = RepresentsWithoutTasks known new s
 SliceMeets known exact core count n steps s is_due (Ok progress.Halted) new =
-    (new.tasks.halt ≡ Some new.tasks.made) × ((m : SessionJob) × (t : Task) × IsLone known new s m t)
+    (new.tasks.halt ≡ Some new.tasks.made) × GoesOn known s new
 SliceMeets known exact core count n steps s is_due (Ok progress.More) new =
-    (steps ≡ n) × (new.tasks.halt ≢ Some new.tasks.made) × ((m : SessionJob) × (t : Task) × IsLone known new s m t)
+    (steps ≡ n) × (new.tasks.halt ≢ Some new.tasks.made) × GoesOn known s new
 SliceMeets known exact core count n steps s is_due (Err (stops.NoCore words size)) new =
     (b : StopsBefore known n steps s new) × (words ≡ need core s b.member b.task) × (size ≡ core) × (core < words)
 SliceMeets known exact core count n steps s is_due (Err (stops.BackingFull sum size)) new =
-    (b : StopsBefore known n steps s new) × Lacks exact core b.lone.storage b.lone.plan s b.member b.task
-    × ((wants : ℕ) × (free : ℕ) × IsShortAt b.lone.storage b.lone.plan s.jobs b.member b.task wants free) × TakesSectors s b.member b.task sum × (size ≡ count) × (count < sum)
+    (b : StopsBefore known n steps s new) × Lacks exact core b.stands.storage b.stands.plan s b.member b.task
+    × ((wants : ℕ) × (free : ℕ) × IsShortAt b.stands.storage b.stands.plan s.jobs b.member b.task wants free) × TakesSectors s b.member b.task sum × (size ≡ count) × (count < sum)
 SliceMeets known exact core count n steps s is_due (Err stops.BackingFault) new =
-    (b : StopsBefore known n steps s new) × Lacks exact core b.lone.storage b.lone.plan s b.member b.task
+    (b : StopsBefore known n steps s new) × Lacks exact core b.stands.storage b.stands.plan s b.member b.task
 SliceMeets known exact core count n steps s is_due (Err stops.PrintFault) new =
     (new.tasks.printed < length is_due)
-    × (((b : StopsBefore known n steps s new) × (exact → need core s b.member b.task ≤ core)) ⊎ ((m : SessionJob) × (t : Task) × IsLimited known new s m t))
-SliceMeets known exact core count n steps s is_due (Err stops.Unbuilt) new =
-    (b : StopsBefore known n steps s new) × (called : ℕ) × (called_in b.member b.task ≡ Some called) × (IsBuilt called → ⊥)
+    × (((b : StopsBefore known n steps s new) × (exact → need core s b.member b.task ≤ core)) ⊎ ((part : StepResult) × IsLimited known new s part))
 
 -- Where it is known what the device's sectors hold, the steps are those of the session from which the slice set out. Where
 -- nothing is known, they are those of a machine that had some code and some numbers. None is made at the halt
@@ -195,15 +173,33 @@ pub record Slices {K : Type 0} (taken : K → Option (List ℕ)) (known : Option
   pub texts : answered ≢ Err stops.PrintFault → PrintsWhole steps old new paper paper'
   pub meets : SliceMeets known exact (length old.cpu.core) count n steps session is_due answered new
 
--- From a session whose task is to end by LIMIT: it ends, with the rest of its line printed; or the printer has failed again.
-abbrev pub Resumes : {K : Type 0} → (K → Option (List ℕ)) → Option (List (List ℕ)) → Session → SessionJob → Task → Result Progress Stop → Machine → Machine → K → K → Type 0
-Resumes taken known h m t (Ok progress.Ended) old new paper paper' =
-    (part : StepResult) × (last_part h ≡ Some part) × (new.tasks.made ≡ old.tasks.made) × (new.tasks.printed ≡ 0) × RepresentsWithoutTasks known new part.session
-    × Prints taken paper paper' (due h) old.tasks.printed part.lines [] 0
-Resumes taken known h m t (Err stops.PrintFault) old new paper paper' =
-    (new ≡ record old { tasks = record old.tasks { printed = new.tasks.printed } }) × (new.tasks.printed < length (due h))
-    × Prints taken paper paper' (due h) old.tasks.printed [] (due h) new.tasks.printed
-Resumes taken known h m t answered old new paper paper' = ⊥
+-- the printer has failed again in the lines of LIMIT: nothing has changed but how much of them is printed
+pub record IsCutAgain {D K : Type 0} (taken : K → Option (List ℕ)) (h : Session) (answered : Result Progress Stop) (old new : Machine) (device device' : D) (paper paper' : K) : Type 0 where
+  pub answer : answered ≡ Err stops.PrintFault
+  pub only : new ≡ record old { tasks = record old.tasks { printed = new.tasks.printed } }
+  pub proper : new.tasks.printed < length (due h)
+  pub prints : Prints taken paper paper' (due h) old.tasks.printed [] (due h) new.tasks.printed
+  pub backing : device' ≡ device
+
+-- the rest of these lines was printed and the tasks have ended: a machine stands for the session after the last part, and from
+-- there a slice was made
+pub record GoesOnAfter {D K : Type 0} (taken : K → Option (List ℕ)) (known known' : Option (List (List ℕ))) (count n : ℕ) (h : Session) (part : StepResult) (answered : Result Progress Stop) (old new : Machine) (device device' : D) (paper paper' : K) : Type 0 where
+  pub middle : Machine
+  pub printer : K
+  pub stands : StandsAt known middle part.session
+  pub made : middle.tasks.made ≡ old.tasks.made
+  pub unprinted : middle.tasks.printed ≡ 0
+  pub keeps : Keeps old middle
+  pub prints : Prints taken paper printer (due h) old.tasks.printed part.lines [] 0
+  pub slices : Slices taken known' (known ≢ None) count n part.session answered middle new printer paper'
+  pub present : (g : StandsAt known middle part.session) (m : SessionJob) (t : Task) → IsNext part.session m t
+      → IfPresent (known ≢ None) (length middle.cpu.core) n g.storage g.plan part.session m t answered middle new device device'
+  pub rests : live_tasks part.session.jobs ≡ 0 → device' ≡ device
+
+-- from a session of which tasks are to end by LIMIT
+abbrev pub Resumes : {D K : Type 0} → (K → Option (List ℕ)) → Option (List (List ℕ)) → Option (List (List ℕ)) → ℕ → ℕ → Session → StepResult → Result Progress Stop → Machine → Machine → D → D → K → K → Type 0
+Resumes taken known known' count n h part answered old new device device' paper paper' =
+    IsCutAgain taken h answered old new device device' paper paper' ⊎ GoesOnAfter taken known known' count n h part answered old new device device' paper paper'
 
 -- of a session without a task nothing is made, printed or changed
 pub record StaysEnded {D K : Type 0} (answered : Result Progress Stop) (old new : Machine) (device device' : D) (paper paper' : K) : Type 0 where

@@ -1,7 +1,6 @@
-//! A session of one job with one task, step by step.
+//! A session of any jobs and tasks, step by step.
 #![tactic(auto)]
 
-mod ends;
 mod opened;
 mod running;
 mod slices;

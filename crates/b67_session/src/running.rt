@@ -2,10 +2,12 @@
 
 ghost use Rattle.std.specs.Prelude.{◌≡◌, ◌≢◌, ℕ, ◌+◌, List, Option, None, length};
 ghost use Rattle.b67_model.specs.State.{Task, SessionJob};
+ghost use Rattle.b67_model.specs.Run.{StepResult};
 ghost use Rattle.b67_model.specs.Schedule as schedule;
+ghost use Rattle.b67_law_turns.specs.Turns.{IsNext};
 ghost use Rattle.b67_layout_storage.specs.Machine.{Says, DeviceAfterCalls, content_after};
 ghost use Rattle.b67_session_attempt.specs.Passed.{CallCauses};
-ghost use Rattle.b67_session.specs.Slices.{IsOpen, IsLone, IsLimited, RepresentsWithoutTasks, Keeps, Slices, IfPresent, Resumes, StaysEnded};
+ghost use Rattle.b67_session.specs.Slices.{IsOpen, StandsAt, IsLimited, RepresentsWithoutTasks, Keeps, Slices, IfPresent, Resumes, StaysEnded};
 
 use crate::slices::{Progress, slice};
 use b67_backing::Backing;
@@ -62,12 +64,12 @@ impl Session {
     ) -> Result<Progress, Stop>
         requires open { IsOpen (B.holds backing.old) self.old }
         requires sized { B.size backing.old + 1 ≡ length self.old.sectors.links }
-        ensures row { (known : Option (List (List ℕ))) (s : schedule.Session) (m : SessionJob) (t : Task) → Says known (B.holds backing.old) → IsLone known self.old s m t
+        ensures row { (known : Option (List (List ℕ))) (s : schedule.Session) → Says known (B.holds backing.old) → StandsAt known self.old s
             → Slices K.taken (content_after known (B.holds backing.new)) (known ≢ None) (B.size backing.old) n s result self.old self.new paper.old paper.new }
-        ensures present { (known : Option (List (List ℕ))) (s : schedule.Session) (m : SessionJob) (t : Task) → Says known (B.holds backing.old) → (h : IsLone known self.old s m t)
+        ensures present { (known : Option (List (List ℕ))) (s : schedule.Session) (m : SessionJob) (t : Task) → Says known (B.holds backing.old) → (h : StandsAt known self.old s) → IsNext s m t
             → IfPresent (known ≢ None) (length self.old.cpu.core) n h.storage h.plan s m t result self.old self.new backing.old backing.new }
-        ensures resumed { (known : Option (List (List ℕ))) (h : schedule.Session) (m : SessionJob) (t : Task) → Says known (B.holds backing.old) → IsLimited known self.old h m t
-            → Resumes K.taken known h m t result self.old self.new paper.old paper.new × (backing.new ≡ backing.old) }
+        ensures resumed { (known : Option (List (List ℕ))) (h : schedule.Session) (part : StepResult) → Says known (B.holds backing.old) → IsLimited known self.old h part
+            → Resumes K.taken known (content_after known (B.holds backing.new)) (B.size backing.old) n h part result self.old self.new backing.old backing.new paper.old paper.new }
         ensures ended { (known : Option (List (List ℕ))) (s : schedule.Session) → RepresentsWithoutTasks known self.old s
             → StaysEnded result self.old self.new backing.old backing.new paper.old paper.new }
         ensures open { IsOpen (B.holds backing.new) self.new }

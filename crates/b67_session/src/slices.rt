@@ -5,13 +5,15 @@ ghost use Rattle.b67_model.specs.State.{Task, SessionJob};
 ghost use Rattle.b67_model.specs.Schedule.{Session};
 ghost use Rattle.b67_layout_storage.specs.Machine.{Says, DeviceAfterCalls, content_after};
 ghost use Rattle.b67_session_attempt.specs.Passed.{AreCountable, CallCauses};
-ghost use Rattle.b67_session.specs.Slices.{IsOpen, LivesOn, IsLone, IsLimited, RepresentsWithoutTasks, Keeps, Slices, IfPresent, Resumes, StaysEnded, Pauses};
+ghost use Rattle.b67_model.specs.Run.{StepResult};
+ghost use Rattle.b67_law_turns.specs.Turns.{IsNext};
+ghost use Rattle.b67_session.specs.Slices.{IsOpen, StandsSome, StandsAt, IsLimited, RepresentsWithoutTasks, Keeps, Slices, IfPresent, Resumes, StaysEnded, Pauses};
 
-use crate::ends::{StepEnd, end_by_limit, is_at_limit};
 use crate::steps::step;
 use b67_backing::Backing;
 use b67_io::Sink;
 use b67_session_attempt::Stop;
+use b67_session_ends::{end_by_limit, is_at_limit};
 use b67_task_tables::{Machine, Tasks};
 
 /// How far a slice came: no task lives; the count of the halt is reached and a task lives; all its steps were made.
@@ -36,8 +38,7 @@ fn pause(tasks: &Tasks, halt: Option<u64>) -> Option<Progress>
     }
 }
 
-/// Makes steps of a session of one job with one ready task until that has ended, the count of the halt is reached, or `n`
-/// were made, looked at in this order.
+/// Makes steps of a session until no task lives, the count of the halt is reached, or `n` were made, looked at in this order.
 #[inline(always)]
 fn go_on<B: Backing, K: Sink>(
     machine: &mut Machine,
@@ -45,13 +46,15 @@ fn go_on<B: Backing, K: Sink>(
     backing: &mut B,
     paper: &mut K,
 ) -> Result<Progress, Stop>
-    requires lives { LivesOn (B.holds backing.old) machine.old }
+    requires stands { StandsSome (B.holds backing.old) machine.old }
     requires countable { AreCountable machine.old.tasks.jobs }
     requires sized { B.size backing.old + 1 ≡ length machine.old.sectors.links }
-    ensures row { (known : Option (List (List ℕ))) (s : Session) (m : SessionJob) (t : Task) → Says known (B.holds backing.old) → IsLone known machine.old s m t
+    ensures row { (known : Option (List (List ℕ))) (s : Session) → Says known (B.holds backing.old) → StandsAt known machine.old s
         → Slices K.taken (content_after known (B.holds backing.new)) (known ≢ None) (B.size backing.old) n s result machine.old machine.new paper.old paper.new }
-    ensures present { (known : Option (List (List ℕ))) (s : Session) (m : SessionJob) (t : Task) → Says known (B.holds backing.old) → (h : IsLone known machine.old s m t)
+    ensures present { (known : Option (List (List ℕ))) (s : Session) (m : SessionJob) (t : Task) → Says known (B.holds backing.old) → (h : StandsAt known machine.old s) → IsNext s m t
         → IfPresent (known ≢ None) (length machine.old.cpu.core) n h.storage h.plan s m t result machine.old machine.new backing.old backing.new }
+    ensures ended { (known : Option (List (List ℕ))) (s : Session) → RepresentsWithoutTasks known machine.old s
+        → StaysEnded result machine.old machine.new backing.old backing.new paper.old paper.new }
     ensures countable { AreCountable machine.new.tasks.jobs }
     ensures causes { CallCauses B.faults K.faults backing.old backing.new paper.old paper.new result }
     ensures keeps { Keeps machine.old machine.new }
@@ -62,8 +65,7 @@ fn go_on<B: Backing, K: Sink>(
             return Ok(progress);
         }
         match step(machine, backing, paper) {
-            Ok(StepEnd::GoesOn) => {}
-            Ok(StepEnd::Over) => return Ok(Progress::Ended),
+            Ok(()) => {}
             Err(stop) => return Err(stop),
         }
     }
@@ -73,13 +75,13 @@ fn go_on<B: Backing, K: Sink>(
     }
 }
 
-/// Makes steps of a session of at most one job with at most one task until no task lives, the count of the halt is reached,
-/// or `n` were made, looked at in this order. Each step's text is printed as the step is made. Without a task it answers
-/// `Ended`, and nothing is printed or changed.
+/// Makes steps of a session of any jobs and tasks until no task lives, the count of the halt is reached, or `n` were made,
+/// looked at in this order. Each step's text is printed as the step is made. Without a task it answers `Ended`, and nothing is
+/// printed or changed.
 ///
 /// No step is made or stopped at the count of the halt. After a `Stop` the step isn't made, and the machine represents
-/// the state before it; but if the printer failed in the line of LIMIT, the step is made and counted but for that line
-/// and the task's end, and the next call begins with them. The call may be made again after every answer. `printed`
+/// the state before it; but if the printer failed in the lines of LIMIT, the step is made and counted but for those lines
+/// and the tasks' ends, and the next call begins with them. The call may be made again after every answer. `printed`
 /// counts the bytes of the text in hand that were taken, and the next call skips these: no byte is printed twice. After
 /// every answer but `PrintFault` the text of each step that was made is printed whole, and nothing of the next step's.
 ///
@@ -101,12 +103,12 @@ pub fn slice<B: Backing, K: Sink>(
 ) -> Result<Progress, Stop>
     requires open { IsOpen (B.holds backing.old) machine.old }
     requires sized { B.size backing.old + 1 ≡ length machine.old.sectors.links }
-    ensures row { (known : Option (List (List ℕ))) (s : Session) (m : SessionJob) (t : Task) → Says known (B.holds backing.old) → IsLone known machine.old s m t
+    ensures row { (known : Option (List (List ℕ))) (s : Session) → Says known (B.holds backing.old) → StandsAt known machine.old s
         → Slices K.taken (content_after known (B.holds backing.new)) (known ≢ None) (B.size backing.old) n s result machine.old machine.new paper.old paper.new }
-    ensures present { (known : Option (List (List ℕ))) (s : Session) (m : SessionJob) (t : Task) → Says known (B.holds backing.old) → (h : IsLone known machine.old s m t)
+    ensures present { (known : Option (List (List ℕ))) (s : Session) (m : SessionJob) (t : Task) → Says known (B.holds backing.old) → (h : StandsAt known machine.old s) → IsNext s m t
         → IfPresent (known ≢ None) (length machine.old.cpu.core) n h.storage h.plan s m t result machine.old machine.new backing.old backing.new }
-    ensures resumed { (known : Option (List (List ℕ))) (h : Session) (m : SessionJob) (t : Task) → Says known (B.holds backing.old) → IsLimited known machine.old h m t
-        → Resumes K.taken known h m t result machine.old machine.new paper.old paper.new × (backing.new ≡ backing.old) }
+    ensures resumed { (known : Option (List (List ℕ))) (h : Session) (part : StepResult) → Says known (B.holds backing.old) → IsLimited known machine.old h part
+        → Resumes K.taken known (content_after known (B.holds backing.new)) (B.size backing.old) n h part result machine.old machine.new backing.old backing.new paper.old paper.new }
     ensures ended { (known : Option (List (List ℕ))) (s : Session) → RepresentsWithoutTasks known machine.old s
         → StaysEnded result machine.old machine.new backing.old backing.new paper.old paper.new }
     ensures open { IsOpen (B.holds backing.new) machine.new }
@@ -121,7 +123,7 @@ pub fn slice<B: Backing, K: Sink>(
         return go_on(machine, n, backing, paper);
     }
     match end_by_limit(machine, paper) {
-        Ok(()) => Ok(Progress::Ended),
-        Err(stop) => Err(stop),
+        Ok(()) => go_on(machine, n, backing, paper),
+        Err(_failed) => Err(Stop::PrintFault),
     }
 }

@@ -1,37 +1,63 @@
-//! One step of a session of one job with one task.
+//! One step of a session of any jobs and tasks.
 
-ghost use Rattle.std.specs.Prelude.{◌≡◌, ◌≢◌, ℕ, ◌+◌, List, Option, Some, None, length};
+ghost use Rattle.std.specs.Prelude.{◌≡◌, ◌≢◌, ℕ, ◌+◌, ◌≤◌, List, Option, Some, None, Err, length};
 ghost use Rattle.b67_model.specs.State.{Task, SessionJob};
 ghost use Rattle.b67_model.specs.Schedule.{Session};
 ghost use Rattle.b67_layout_storage.specs.Machine.{Says, DeviceAfterCalls, content_after};
+ghost use Rattle.b67_io.specs.Causes.{Rose};
+ghost use Rattle.b67_law_turns.specs.Orders.{IsInOrderButLimit};
+ghost use Rattle.b67_law_turns.specs.Turns.{IsNext};
+ghost use Rattle.b67_stack.specs.Represents.{Storage};
+ghost use Rattle.b67_layout.specs.Placement.{Placement};
+ghost use Rattle.b67_task_tables.specs.Tables.{MachineRepresents};
+ghost use Rattle.b67_session_ends.specs.Ends.{StandsBetween, KeepsCounts};
+ghost use Rattle.b67_session_attempt.specs.Stops as stops;
 ghost use Rattle.b67_session_attempt.specs.Passed.{AreCountable, CallCauses};
-ghost use Rattle.b67_session.specs.Slices.{LivesOn, IsLone, Keeps, IfPresent};
-ghost use Rattle.b67_session.specs.Steps.{Steps};
+ghost use Rattle.b67_session.specs.Slices.{LivesOn, StandsAt, Keeps, IfPresent};
+ghost use Rattle.b67_session.specs.Steps.{EndsStep, Steps};
 
-use crate::ends::{StepEnd, advance, close};
 use crate::turns::give_turn;
 use b67_backing::Backing;
 use b67_io::Sink;
 use b67_session_attempt::{Attempt, Stop, attempt};
+use b67_session_ends::{close, count_one, finish};
 use b67_session_schedule::choose;
+use b67_session_waits::hold;
 use b67_task_tables::Machine;
 
-/// Makes one step, with its text printed and its operator counted. After a `Stop` it isn't counted, and the machine
-/// represents the state before it; but if the printer failed in the line of LIMIT, the step is made and counted but for that
-/// line and the task's end. After the last step the machine represents the session without a task.
+/// The last part of a step whose operator is counted: the lines of LIMIT, if its job stands at its limit.
+#[inline(always)]
+fn end_step<K: Sink>(machine: &mut Machine, paper: &mut K) -> Result<(), Stop>
+    requires { StandsBetween machine.old }
+    ensures finishes { (x : Storage) (told : Option (List (List ℕ))) (plan : Placement) (h : Session) → IsInOrderButLimit h → MachineRepresents x told machine.old plan h
+        → EndsStep K.taken told h result machine.old machine.new paper.old paper.new }
+    ensures cause { result ≡ Err stops.PrintFault → Rose K.faults paper.old paper.new }
+    ensures later { K.faults paper.old ≤ K.faults paper.new }
+    ensures other { result ≢ Err stops.BackingFault }
+    ensures keeps { KeepsCounts machine.old machine.new }
+{
+    match finish(machine, paper) {
+        Ok(()) => Ok(()),
+        Err(_failed) => Err(Stop::PrintFault),
+    }
+}
+
+/// Makes one step of a session of which a task lives, with its text printed and its operator counted. After a `Stop` it isn't
+/// counted, and the machine represents the state before it; but if the printer failed in the lines of LIMIT, the step is made
+/// and counted but for these lines and the tasks' ends.
 #[inline(always)]
 pub(crate) fn step<B: Backing, K: Sink>(
     machine: &mut Machine,
     backing: &mut B,
     paper: &mut K,
-) -> Result<StepEnd, Stop>
+) -> Result<(), Stop>
     requires lives { LivesOn (B.holds backing.old) machine.old }
     requires due { machine.old.tasks.halt ≢ Some machine.old.tasks.made }
     requires countable { AreCountable machine.old.tasks.jobs }
     requires sized { B.size backing.old + 1 ≡ length machine.old.sectors.links }
-    ensures row { (known : Option (List (List ℕ))) (s : Session) (m : SessionJob) (t : Task) → Says known (B.holds backing.old) → IsLone known machine.old s m t
+    ensures row { (known : Option (List (List ℕ))) (s : Session) → Says known (B.holds backing.old) → StandsAt known machine.old s
         → Steps K.taken (content_after known (B.holds backing.new)) (known ≢ None) (B.size backing.old) s result machine.old machine.new paper.old paper.new }
-    ensures present { (known : Option (List (List ℕ))) (s : Session) (m : SessionJob) (t : Task) → Says known (B.holds backing.old) → (h : IsLone known machine.old s m t)
+    ensures present { (known : Option (List (List ℕ))) (s : Session) (m : SessionJob) (t : Task) → Says known (B.holds backing.old) → (h : StandsAt known machine.old s) → IsNext s m t
         → IfPresent (known ≢ None) (length machine.old.cpu.core) 1 h.storage h.plan s m t result machine.old machine.new backing.old backing.new }
     ensures countable { AreCountable machine.new.tasks.jobs }
     ensures causes { CallCauses B.faults K.faults backing.old backing.new paper.old paper.new result }
@@ -40,12 +66,22 @@ pub(crate) fn step<B: Backing, K: Sink>(
 {
     let chosen = match choose(&machine.tasks) {
         Some(chosen) => chosen,
-        None => return Ok(StepEnd::Over),
+        None => unreachable!(),
     };
     give_turn(machine, chosen.row);
     match attempt(machine, backing, paper) {
-        Ok(Attempt::Made) => advance(machine, chosen, paper),
-        Ok(Attempt::Ends(ending)) => close(machine, chosen, ending, paper),
+        Ok(Attempt::Made) => {
+            count_one(&mut machine.tasks, chosen);
+            end_step(machine, paper)
+        }
+        Ok(Attempt::Ends(ending)) => match close(machine, chosen, ending, paper) {
+            Ok(()) => end_step(machine, paper),
+            Err(_failed) => Err(Stop::PrintFault),
+        },
+        Ok(Attempt::Waits(state)) => match hold(machine, chosen, state, paper) {
+            Ok(()) => end_step(machine, paper),
+            Err(_failed) => Err(Stop::PrintFault),
+        },
         Err(stop) => Err(stop),
     }
 }

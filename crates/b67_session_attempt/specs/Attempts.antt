@@ -9,7 +9,6 @@ use Rattle.b67_layout.specs.Orders.{IsInOrderButCounts}
 use Rattle.b67_stack.specs.Represents.{Storage}
 use Rattle.b67_layout.specs.Placement.{Placement}
 use Rattle.b67_layout.specs.Session.{IsRunning}
-use Rattle.b67_exec_cells.specs.Called.{called_in}
 use Rattle.b67_law_order_steps.specs.Weaker.{AllOtherNumbers}
 use Rattle.b67_presence.specs.Bringing.{StandsOver}
 use Rattle.b67_layout.specs.Meets.{area_held, with_job}
@@ -17,7 +16,7 @@ use Rattle.b67_exec_cells.specs.Running.{code_area}
 use Rattle.b67_task_tables.specs.declared.tables.Machine.{Machine}
 use Rattle.b67_task_tables.specs.declared.tables.Tasks.{Tasks}
 use Rattle.b67_task_tables.specs.Tables.{MachineRepresents}
-use Rattle.b67_mcp.specs.Called.{IsBuilt, IsCalled, IsCut, IsShortAt, Lengthens}
+use Rattle.b67_mcp.specs.Called.{IsCalled, IsCut, IsShortAt, Lengthens, CallsDevice, WaitsSo}
 use Rattle.b67_mcp.specs.declared.ends.Stop.{Stop}
 use Rattle.b67_mcp.specs.declared.ends.Stop.TheVariants as stops
 use Rattle.b67_session_attempt.specs.declared.attempts.Attempt.{Attempt}
@@ -51,19 +50,19 @@ pub record WantsNothing (x : Storage) (plan : Placement) (m : SessionJob) (t : T
   pub code : code_area x plan m t ≢ None
   pub array : (a : ℕ) → touched_of m.constants m.progress.job t (step m.constants m.progress.job t) ≡ Some a → area_held x plan m.constants.number a ≢ None
 
--- the running segment is absent, or the array that the step touches is, or the step makes an array longer
+-- the running segment is absent, or the array that the step touches is, or the step makes an array longer or starts a task
 abbrev pub IsLacking : Storage → Placement → SessionJob → Task → Type 0
 IsLacking x plan m t =
     (code_area x plan m t ≡ None)
     ⊎ (((a : ℕ) × (touched_of m.constants m.progress.job t (step m.constants m.progress.job t) ≡ Some a) × (area_held x plan m.constants.number a ≡ None))
-    ⊎ Lengthens m t)
+    ⊎ CallsDevice m t)
 
 -- the session takes so many sectors, or does once the step has made its array longer
 abbrev pub TakesSectors : Session → SessionJob → Task → ℕ → Type 0
 TakesSectors s m t sum = (sum ≡ sectors s.jobs) ⊎ ((l : Lengthens m t) × (sum ≡ sectors (with_job s m l.job).jobs))
 
--- the machine stands for the session, whose next step lacks its segment or its array, or makes it longer; it needs no more
--- words than core has, or its segment is absent. `exact` is as below
+-- the machine stands for the session, whose next step lacks its segment or its array, makes it longer or starts a task; it
+-- needs no more words than core has, or its segment is absent. `exact` is as below
 pub record StandsLacking (exact : Type 0) (told : Option (List (List ℕ))) (core : ℕ) (k : Machine) (plan : Placement) (s : Session) (m : SessionJob) (t : Task) : Type 0 where
   pub storage : Storage
   pub stands : MachineRepresents storage told k plan s
@@ -84,14 +83,13 @@ abbrev pub AttemptMeets : {K : Type 0} → (K → Option (List ℕ)) → Option 
 AttemptMeets taken told exact core count before plan s m t (Ok attempts.Made) new paper paper' = IsCalled taken paper paper' told s m t before new
 AttemptMeets taken told exact core count before plan s m t (Ok (attempts.Ends ending)) new paper paper' =
     (exact → EndsSo m t ending) × StillStands told new plan s × (paper' ≡ paper)
+AttemptMeets taken told exact core count before plan s m t (Ok (attempts.Waits state)) new paper paper' = WaitsSo plan m t state × StillStands told new plan s × (paper' ≡ paper)
 AttemptMeets taken told exact core count before plan s m t (Err (stops.NoCore words size)) new paper paper' =
     (words ≡ need core s m t) × (size ≡ core) × (core < words) × StillStands told new plan s × (paper' ≡ paper)
 AttemptMeets taken told exact core count before plan s m t (Err (stops.BackingFull sum size)) new paper paper' =
     TakesSectors s m t sum × (size ≡ count) × (count < sum) × StandsShort exact told core new plan s m t × (paper' ≡ paper)
 AttemptMeets taken told exact core count before plan s m t (Err stops.BackingFault) new paper paper' = StandsLacking exact told core new plan s m t × (paper' ≡ paper)
 AttemptMeets taken told exact core count before plan s m t (Err stops.PrintFault) new paper paper' = IsCut taken paper paper' m t before new.tasks.printed × StillStands told new plan s
-AttemptMeets taken told exact core count before plan s m t (Err stops.Unbuilt) new paper paper' =
-    (n : ℕ) × (called_in m t ≡ Some n) × (IsBuilt n → ⊥) × StillStands told new plan s × (paper' ≡ paper)
 
 -- the session, or over a device that tells nothing one with other numbers, and what its step answered
 pub record Attempts {K : Type 0} (taken : K → Option (List ℕ)) (x : Storage) (told : Option (List (List ℕ))) (core count before : ℕ) (plan : Placement) (s : Session) (t : Task) (answered : Result Attempt Stop) (new : Machine) (paper paper' : K) : Type 0 where
@@ -112,15 +110,16 @@ AttemptFits core x plan s m t (Err stops.BackingFault) = code_area x plan m t �
 AttemptFits core x plan s m t (Err stop) = Unit {0}
 
 -- What an attempt answers and leaves. Over a device that tells what its sectors hold, core has room as said. Where nothing is
--- wanted, and no array becomes longer, the device isn't called
+-- wanted, no array becomes longer and no task starts, the device isn't called
 pub record AttemptRow {D K : Type 0} (taken : K → Option (List ℕ)) (x : Storage) (told : Option (List (List ℕ))) (core count before : ℕ) (plan : Placement) (s : Session) (m : SessionJob) (t : Task) (answered : Result Attempt Stop) (new : Machine) (device device' : D) (paper paper' : K) : Type 0 where
   pub meets : Attempts taken x told core count before plan s t answered new paper paper'
   pub fits : x.device ≢ None → AttemptFits core x plan s m t answered
-  pub quiet : WantsNothing x plan m t → (Lengthens m t → ⊥) → device' ≡ device
+  pub quiet : WantsNothing x plan m t → (CallsDevice m t → ⊥) → device' ≡ device
 
 -- the tables are as they were but where the operator was made; after a printer's failure it is counted how much is printed
 abbrev pub TablesStay : Result Attempt Stop → Tasks → Tasks → Type 0
 TablesStay (Ok attempts.Made) old new = Unit {0}
 TablesStay (Ok (attempts.Ends ending)) old new = new ≡ old
+TablesStay (Ok (attempts.Waits state)) old new = new ≡ old
 TablesStay (Err stops.PrintFault) old new = new ≡ record old { printed = new.printed }
 TablesStay (Err stop) old new = new ≡ old

@@ -1,3 +1,3 @@
 -- Why a step isn't made, for the crates above.
 pub use Rattle.b67_mcp.specs.declared.ends.Stop.{Stop}
-pub use Rattle.b67_mcp.specs.declared.ends.Stop.TheVariants.{NoCore, BackingFull, BackingFault, PrintFault, Unbuilt}
+pub use Rattle.b67_mcp.specs.declared.ends.Stop.TheVariants.{NoCore, BackingFull, BackingFault, PrintFault}

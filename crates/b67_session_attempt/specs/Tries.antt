@@ -1,5 +1,5 @@
 -- What one try at the next operator of the running task answers and leaves.
-use Rattle.std.specs.Prelude.{◌≡◌, ℕ, ◌≤◌, List, length, Option, Some, Result, Ok, Err}
+use Rattle.std.specs.Prelude.{◌≡◌, ℕ, ◌≤◌, ◌⊎◌, List, length, Option, Some, Result, Ok, Err}
 use Rattle.b67_word.specs.declared.faults.Ending.{Ending}
 use Rattle.b67_word.specs.declared.faults.Ending.TheVariants.{Ended, Faulted}
 use Rattle.b67_lemmas.specs.Lists.{Has}
@@ -12,11 +12,10 @@ use Rattle.b67_stack.specs.declared.What.{What}
 use Rattle.b67_stack.specs.declared.What.TheVariants as what
 use Rattle.b67_stack.specs.Represents.{Storage}
 use Rattle.b67_layout.specs.Placement.{Placement}
-use Rattle.b67_exec_cells.specs.Called.{called_in}
 use Rattle.b67_presence.specs.Bringing.{IsWanted}
 use Rattle.b67_task_tables.specs.declared.tables.Machine.{Machine}
 use Rattle.b67_task_tables.specs.Runs.{RunsTask}
-use Rattle.b67_mcp.specs.Called.{IsBuilt, IsCalled, IsCut, IsFull, IsRefused, MayWrite, OnlyPrinted}
+use Rattle.b67_mcp.specs.Called.{IsCalled, IsCut, IsFull, IsRefused, IsUnstarted, IsUnstartedFull, LacksCore, MayWrite, OnlyPrinted, WaitsSo}
 use Rattle.b67_mcp.specs.declared.ends.Stop.{Stop}
 use Rattle.b67_mcp.specs.declared.ends.Stop.TheVariants as stops
 use Rattle.b67_session_attempt.specs.declared.tries.Tried.{Tried}
@@ -42,17 +41,18 @@ EndsSo m t _ = ⊥
 
 -- By what was answered, over a device of so many sectors that tells this afterwards. Where the step wasn't made nothing has
 -- changed but, after a printer's failure, how much is printed, and, after a want of sectors or a device's failure, where the
--- array is held that was to become longer
+-- array is held that was to become longer, or which areas are present
 abbrev pub TryMeets : {K : Type 0} → (K → Option (List ℕ)) → Option (List (List ℕ)) → ℕ → Storage → Placement → Session → SessionJob → Task → Result Tried Stop → Machine → Machine → K → K → Type 0
 TryMeets taken told count x plan s m t (Ok tries.Made) old new paper paper' = IsCalled taken paper paper' told s m t old.tasks.printed new
 TryMeets taken told count x plan s m t (Ok (tries.Absent found)) old new paper paper' =
     (words : ℕ) × IsWanted x plan m t found words × IsTouched plan m t found words × (new ≡ old) × (paper' ≡ paper)
 TryMeets taken told count x plan s m t (Ok (tries.Ends ending)) old new paper paper' = EndsSo m t ending × (new ≡ old) × (paper' ≡ paper)
+TryMeets taken told count x plan s m t (Ok (tries.Waits state)) old new paper paper' = WaitsSo plan m t state × (new ≡ old) × (paper' ≡ paper)
 TryMeets taken told count x plan s m t (Err stops.PrintFault) old new paper paper' = IsCut taken paper paper' m t old.tasks.printed new.tasks.printed × OnlyPrinted old new
-TryMeets taken told count x plan s m t (Err (stops.BackingFull sum size)) old new paper paper' = IsFull x told count plan s m t sum size old new × (paper' ≡ paper)
-TryMeets taken told count x plan s m t (Err stops.BackingFault) old new paper paper' = IsRefused x told plan s m t old new × (paper' ≡ paper)
-TryMeets taken told count x plan s m t (Err stops.Unbuilt) old new paper paper' = (n : ℕ) × (called_in m t ≡ Some n) × (IsBuilt n → ⊥) × (new ≡ old) × (paper' ≡ paper)
-TryMeets taken told count x plan s m t (Err (stops.NoCore words size)) old new paper paper' = ⊥
+TryMeets taken told count x plan s m t (Err (stops.BackingFull sum size)) old new paper paper' =
+    (IsFull x told count plan s m t sum size old new ⊎ IsUnstartedFull told count plan s m t sum size old new) × (paper' ≡ paper)
+TryMeets taken told count x plan s m t (Err stops.BackingFault) old new paper paper' = (IsRefused x told plan s m t old new ⊎ IsUnstarted told plan s m t old new) × (paper' ≡ paper)
+TryMeets taken told count x plan s m t (Err (stops.NoCore words size)) old new paper paper' = LacksCore (length old.cpu.core) s m t words size × (new ≡ old) × (paper' ≡ paper)
 
 -- after every other answer the device is as it was
 abbrev pub TryWrites : Storage → Placement → SessionJob → Task → Result Tried Stop → Type 0
@@ -66,6 +66,7 @@ abbrev pub TryFits : ℕ → Session → SessionJob → Task → Result Tried St
 TryFits core s m t (Ok tries.Made) = need core s m t ≤ core
 TryFits core s m t (Ok (tries.Absent found)) = Unit {0}
 TryFits core s m t (Ok (tries.Ends ending)) = need core s m t ≤ core
+TryFits core s m t (Ok (tries.Waits state)) = need core s m t ≤ core
 TryFits core s m t (Err stops.PrintFault) = need core s m t ≤ core
 TryFits core s m t (Err (stops.BackingFull sum size)) = need core s m t ≤ core
 TryFits core s m t (Err stops.BackingFault) = need core s m t ≤ core

@@ -38,6 +38,7 @@ fn last_try<B: Backing, K: Sink>(
     match try_once(machine, backing, paper) {
         Ok(Tried::Made) => Ok(Attempt::Made),
         Ok(Tried::Ends(ending)) => Ok(Attempt::Ends(ending)),
+        Ok(Tried::Waits(state)) => Ok(Attempt::Waits(state)),
         Ok(Tried::Absent(_)) => Ok(Attempt::Ends(Ending::Faulted(Fault::InvalidOperator))),
         Err(stop) => Err(stop),
     }
@@ -64,6 +65,7 @@ fn with_code<B: Backing, K: Sink>(
     match try_once(machine, backing, paper) {
         Ok(Tried::Made) => Ok(Attempt::Made),
         Ok(Tried::Ends(ending)) => Ok(Attempt::Ends(ending)),
+        Ok(Tried::Waits(state)) => Ok(Attempt::Waits(state)),
         Ok(Tried::Absent(wanted)) => match bring_wanted(machine, backing, wanted) {
             Ok(()) => last_try(machine, backing, paper),
             Err(stop) => Err(stop),
@@ -104,6 +106,7 @@ pub fn attempt<B: Backing, K: Sink>(
     match try_once(machine, backing, paper) {
         Ok(Tried::Made) => Ok(Attempt::Made),
         Ok(Tried::Ends(ending)) => Ok(Attempt::Ends(ending)),
+        Ok(Tried::Waits(state)) => Ok(Attempt::Waits(state)),
         Ok(Tried::Absent(wanted)) => match bring_wanted(machine, backing, wanted) {
             Ok(()) => with_code(machine, backing, paper),
             Err(stop) => Err(stop),

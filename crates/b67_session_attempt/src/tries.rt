@@ -13,15 +13,17 @@ use b67_io::Sink;
 use b67_mcp::{CallEnd, Stop, intrinsic};
 use b67_session_make::make;
 use b67_stack::{Step, What};
-use b67_task_tables::Machine;
+use b67_task_tables::{Machine, TaskState};
 use b67_word::Ending;
 
-/// The operator was made, with its text printed; it wants something in core; or it ends its task.
+/// The operator was made, with its text printed; it wants something in core; it ends its task; or it makes its task wait, in
+/// this state.
 #[derive(Clone, Copy, Debug, PartialEq, Eq)]
 pub enum Tried {
     Made,
     Absent(What),
     Ends(Ending),
+    Waits(TaskState),
 }
 
 /// Makes the next operator of the running task, an intrinsic's call included, unless what it wants is absent. Nothing has
@@ -57,6 +59,7 @@ pub fn try_once<B: Backing, K: Sink>(
             Ok(CallEnd::Done) => Ok(Tried::Made),
             Ok(CallEnd::Absent(found)) => Ok(Tried::Absent(found)),
             Ok(CallEnd::Fault(fault)) => Ok(Tried::Ends(Ending::Faulted(fault))),
+            Ok(CallEnd::Waits(state)) => Ok(Tried::Waits(state)),
             Err(stop) => Err(stop),
         },
     }

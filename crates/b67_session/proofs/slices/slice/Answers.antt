@@ -1,15 +1,15 @@
-use Rattle.std.proofs.Common.{◌≢◌, List, None, Ok, Err, refl, sym, subst}
+use Rattle.std.proofs.Common.{◌≡◌, ◌≢◌, ◌+◌, ℕ, List, Option, None, Ok, Err, refl, sym, ap, ◌∙◌, subst, inl, inr, arith}
 use Rattle.b67_layout_storage.specs.Machine.{content_after}
 use Rattle.b67_layout_storage.proofs.Devices.{Served-none}
-use Rattle.b67_task_tables.specs.declared.tables.JobRow.{JobRow}
+use Rattle.b67_overlay.proofs.Chains.{retold-same}
+use Rattle.b67_task_tables.specs.declared.tables.Tasks.{Tasks}
 use Rattle.b67_session_attempt.specs.Passed.{AreCountable}
-use Rattle.b67_session.specs.declared.slices.Progress.TheVariants.{Ended}
-use Rattle.b67_session.specs.Slices.{StandsLimited}
-use Rattle.b67_session.proofs.Going.{some_row}
-use Rattle.b67_session.proofs.Limits.{limited_not}
+use Rattle.b67_session.specs.Slices.{StandsSome, StandsLimited}
+use Rattle.b67_session.proofs.Going.{Going, going-begins, going-ended}
 use Rattle.b67_session.proofs.Pausing.{says_retold}
-use Rattle.b67_session.proofs.Resuming.{empty_rows, some_rows, rests_not, limited_row, open_lives, lone_not, open_limited, open_one, resumes_whole, resumes_more}
-use Rattle.b67_session.proofs.Again.{open_again, open_limited_again}
+use Rattle.b67_session.proofs.Rows.{empty_rows, some_rows}
+use Rattle.b67_session.proofs.Resuming.{stands_not, limited_not, rests_not, next_row, limited_row, open_stands, open_limited, has_limited, keeps_counts, over_stands, over_prints, cut_again, cut_limited}
+use Rattle.b67_session.proofs.Again.{open_again, limited}
 use Rattle.b67_session.proofs.slices.slice.Given.{Over}
 use Rattle.b67_session.proofs.slices.slice.Goals.{Else-not-is_at_limit}
 use Rattle.b67_session.proofs.slices.slice.Goals as goal
@@ -17,13 +17,18 @@ use Rattle.b67_session.proofs.slices.slice.Goals as goal
 -- ---- no task
 
 pub returns-then-is_empty-clause-row : goal.returns-then-is_empty-clause-row
-returns-then-is_empty-clause-row g c = λ known s m t says h. absurd (some_row known c.args.machine.now s m t h (empty_rows c.args.machine.now c.if-is_empty.ensures))
+returns-then-is_empty-clause-row g c = λ known s says h.
+    (let k = c.args.machine.now in
+    let told = g.B.Backing.holds c.args.backing.now in
+    let P : Option (List (List ℕ)) → Type 0 = λ d. Going g.K.Sink.taken (known ≢ None) d 0 s k k c.args.paper.now c.args.paper.now in
+    going-ended g.K.Sink.taken (known ≢ None) (content_after known told) (g.B.Backing.size c.args.backing.now) c.args.n 0 s k k c.args.paper.now c.args.paper.now
+    (subst P (sym (retold-same known told says)) (going-begins g.K.Sink.taken (known ≢ None) known s k c.args.paper.now h)) (omega arith) (empty_rows k.tasks c.if-is_empty.ensures))
 
 pub returns-then-is_empty-clause-present : goal.returns-then-is_empty-clause-present
-returns-then-is_empty-clause-present g c = λ known s m t says h. absurd (some_row known c.args.machine.now s m t h (empty_rows c.args.machine.now c.if-is_empty.ensures))
+returns-then-is_empty-clause-present g c = λ known s m t says h n. absurd (next_row known c.args.machine.now s m t h n (empty_rows c.args.machine.now.tasks c.if-is_empty.ensures))
 
 pub returns-then-is_empty-clause-resumed : goal.returns-then-is_empty-clause-resumed
-returns-then-is_empty-clause-resumed g c = λ known h m t says l. absurd (limited_row known c.args.machine.now h m t l (empty_rows c.args.machine.now c.if-is_empty.ensures))
+returns-then-is_empty-clause-resumed g c = λ known h part says l. absurd (limited_row known c.args.machine.now h part l (empty_rows c.args.machine.now.tasks c.if-is_empty.ensures))
 
 pub returns-then-is_empty-clause-open : goal.returns-then-is_empty-clause-open
 returns-then-is_empty-clause-open g c = c.requires.open
@@ -31,76 +36,114 @@ returns-then-is_empty-clause-open g c = c.requires.open
 pub returns-then-is_empty-clause-device : goal.returns-then-is_empty-clause-device
 returns-then-is_empty-clause-device g c = Served-none g.B.Backing.holds g.B.Backing.size g.B.Backing.calls g.B.Backing.faults c.args.backing.now
 
--- ---- a task that goes on
+-- ---- a step, if any
 
-pub go_on-requires-clause-lives : goal.go_on-requires-clause-lives
-go_on-requires-clause-lives g c = open_lives (g.B.Backing.holds c.args.backing.now) c.args.machine.now c.requires.open (some_rows c.args.machine.now c.if-is_empty.ensures) c.if-not-is_at_limit.ensures
+pub go_on-requires-clause-stands : goal.go_on-requires-clause-stands
+go_on-requires-clause-stands g c = open_stands (g.B.Backing.holds c.args.backing.now) c.args.machine.now c.requires.open (some_rows c.args.machine.now.tasks c.if-is_empty.ensures) c.is_at_limit.ensures c.if-not-is_at_limit.true
 
 pub go_on-requires-clause-countable : goal.go_on-requires-clause-countable
 go_on-requires-clause-countable g c = c.requires.open.countable
 
 pub returns-then-not-is_at_limit-clause-resumed : goal.returns-then-not-is_at_limit-clause-resumed
-returns-then-not-is_at_limit-clause-resumed g c = λ known h m t says l. absurd (limited_not known c.args.machine.now h m t l c.if-not-is_at_limit.ensures)
-
-pub returns-then-not-is_at_limit-clause-ended : goal.returns-then-not-is_at_limit-clause-ended
-returns-then-not-is_at_limit-clause-ended g c = λ known s r. absurd (rests_not known c.args.machine.now s r (some_rows c.args.machine.now c.if-is_empty.ensures))
+returns-then-not-is_at_limit-clause-resumed g c = λ known h part says l. absurd (limited_not known c.args.machine.now h part l c.is_at_limit.ensures c.if-not-is_at_limit.true)
 
 pub returns-then-not-is_at_limit-clause-open : goal.returns-then-not-is_at_limit-clause-open
 returns-then-not-is_at_limit-clause-open g c =
-    let l = open_lives (g.B.Backing.holds c.args.backing.now) c.args.machine.now c.requires.open (some_rows c.args.machine.now c.if-is_empty.ensures) c.if-not-is_at_limit.ensures in
+    let l = open_stands (g.B.Backing.holds c.args.backing.now) c.args.machine.now c.requires.open (some_rows c.args.machine.now.tasks c.if-is_empty.ensures) c.is_at_limit.ensures c.if-not-is_at_limit.true in
     open_again g.K.Sink.taken (content_after l.known (g.B.Backing.holds c.go_on.new.backing)) (g.B.Backing.holds c.go_on.new.backing) (l.known ≢ None) (g.B.Backing.size c.args.backing.now) c.args.n l.session c.go_on.result
-    c.args.machine.now c.go_on.new.machine c.args.paper.now c.go_on.new.paper (says_retold l.known (g.B.Backing.holds c.go_on.new.backing)) c.go_on.ensures.countable (c.go_on.ensures.row l.known l.session l.member l.task l.says l.lone)
+    c.args.machine.now c.go_on.new.machine c.args.paper.now c.go_on.new.paper (says_retold l.known (g.B.Backing.holds c.go_on.new.backing)) c.go_on.ensures.countable (c.go_on.ensures.row l.known l.session l.says l.stands)
 
--- ---- one that is to end by LIMIT
+-- ---- the lines of LIMIT
 
 context : (g : Over) (c : Else-not-is_at_limit g) → StandsLimited (g.B.Backing.holds c.args.backing.now) c.args.machine.now
-context g c = open_limited (g.B.Backing.holds c.args.backing.now) c.args.machine.now c.requires.open (some_rows c.args.machine.now c.if-is_empty.ensures) c.if-not-is_at_limit.ensures
+context g c = open_limited (g.B.Backing.holds c.args.backing.now) c.args.machine.now c.requires.open (some_rows c.args.machine.now.tasks c.if-is_empty.ensures) c.is_at_limit.ensures c.if-not-is_at_limit.false
 
 pub end_by_limit-requires : goal.end_by_limit-requires
-end_by_limit-requires g c = open_one (g.B.Backing.holds c.args.backing.now) c.args.machine.now (context g (goal.at.end_by_limit-requires g c).Else-not-is_at_limit)
+end_by_limit-requires g c = has_limited (g.B.Backing.holds c.args.backing.now) c.args.machine.now (context g (goal.at.end_by_limit-requires g c).Else-not-is_at_limit)
+
+pub go_on-2-requires-clause-stands : goal.go_on-2-requires-clause-stands
+go_on-2-requires-clause-stands g c =
+    let l = context g (goal.at.go_on-2-requires-clause-stands g c).Else-not-is_at_limit in
+    let q = l.limited in
+    record {
+      known = l.known;
+      says = l.says;
+      session = l.part.session;
+      stands = over_stands l.known l.session l.part c.args.machine.now q g.K.Sink.taken c.end_by_limit.new.machine c.args.paper.now c.end_by_limit.new.paper
+          (c.in-Ok.ensures.ends q.storage l.known q.plan l.session l.part q.ordered q.is q.stands);
+    }
+
+pub go_on-2-requires-clause-countable : goal.go_on-2-requires-clause-countable
+go_on-2-requires-clause-countable g c = subst (λ (z : Tasks). AreCountable z.jobs) (sym c.end_by_limit.ensures.keeps.tasks) c.requires.open.countable
+
+pub go_on-2-requires-clause-sized : goal.go_on-2-requires-clause-sized
+go_on-2-requires-clause-sized g c = omega (arith, c.end_by_limit.ensures.keeps.sectors, c.requires.sized)
 
 pub returns-in-Ok-clause-row : goal.returns-in-Ok-clause-row
-returns-in-Ok-clause-row g c = λ known s m t says h. absurd (lone_not known c.args.machine.now s m t h c.if-not-is_at_limit.ensures)
+returns-in-Ok-clause-row g c = λ known s says h. absurd (stands_not known c.args.machine.now s h c.is_at_limit.ensures c.if-not-is_at_limit.false)
 
 pub returns-in-Ok-clause-present : goal.returns-in-Ok-clause-present
-returns-in-Ok-clause-present g c = λ known s m t says h. absurd (lone_not known c.args.machine.now s m t h c.if-not-is_at_limit.ensures)
+returns-in-Ok-clause-present g c = λ known s m t says h n. absurd (stands_not known c.args.machine.now s h c.is_at_limit.ensures c.if-not-is_at_limit.false)
 
 pub returns-in-Ok-clause-resumed : goal.returns-in-Ok-clause-resumed
-returns-in-Ok-clause-resumed g c = λ known h m t says l.
-    (resumes_whole g.K.Sink.taken known h m t c.args.machine.now c.end_by_limit.new.machine c.args.paper.now c.end_by_limit.new.paper l c.in-Ok.field-0 c.in-Ok.ensures.ends, refl)
+returns-in-Ok-clause-resumed g c = λ known h part says l.
+    (let ends = c.in-Ok.ensures.ends l.storage known l.plan h part l.ordered l.is l.stands in
+    let stands = over_stands known h part c.args.machine.now l g.K.Sink.taken c.end_by_limit.new.machine c.args.paper.now c.end_by_limit.new.paper ends in
+    inr (record {
+      middle = c.end_by_limit.new.machine;
+      printer = c.end_by_limit.new.paper;
+      stands = stands;
+      made = ap (λ (z : Tasks). z.made) c.end_by_limit.ensures.keeps.tasks;
+      unprinted = ends.1;
+      keeps = keeps_counts c.args.machine.now c.end_by_limit.new.machine c.end_by_limit.ensures.keeps;
+      prints = over_prints known h part c.args.machine.now l g.K.Sink.taken c.end_by_limit.new.machine c.args.paper.now c.end_by_limit.new.paper ends;
+      slices = c.go_on-2.ensures.row known part.session says stands;
+      present = λ q m t n. c.go_on-2.ensures.present known part.session m t says q n;
+      rests = λ none. (c.go_on-2.ensures.ended known part.session (record { storage = stands.storage; plan = stands.plan; stands = stands.stands; none = none })).backing;
+    }))
 
 pub returns-in-Ok-clause-ended : goal.returns-in-Ok-clause-ended
-returns-in-Ok-clause-ended g c = λ known s r. absurd (rests_not known c.args.machine.now s r (some_rows c.args.machine.now c.if-is_empty.ensures))
+returns-in-Ok-clause-ended g c = λ known s r. absurd (rests_not known c.args.machine.now s r (some_rows c.args.machine.now.tasks c.if-is_empty.ensures))
 
 pub returns-in-Ok-clause-open : goal.returns-in-Ok-clause-open
 returns-in-Ok-clause-open g c =
     let l = context g (goal.at.returns-in-Ok-clause-open g c).Else-not-is_at_limit in
-    open_limited_again g.K.Sink.taken (g.B.Backing.holds c.args.backing.now) c.args.machine.now l (Ok Ended) c.end_by_limit.new.machine c.args.paper.now c.end_by_limit.new.paper
-    (subst (λ (js : List JobRow). AreCountable js) (sym c.in-Ok.ensures.jobs) c.requires.open.countable)
-    (resumes_whole g.K.Sink.taken l.known l.session l.member l.task c.args.machine.now c.end_by_limit.new.machine c.args.paper.now c.end_by_limit.new.paper l.limited c.in-Ok.field-0 c.in-Ok.ensures.ends)
+    let q = l.limited in
+    let stands = over_stands l.known l.session l.part c.args.machine.now q g.K.Sink.taken c.end_by_limit.new.machine c.args.paper.now c.end_by_limit.new.paper (c.in-Ok.ensures.ends q.storage l.known q.plan l.session l.part q.ordered q.is q.stands) in
+    open_again g.K.Sink.taken (content_after l.known (g.B.Backing.holds c.go_on-2.new.backing)) (g.B.Backing.holds c.go_on-2.new.backing) (l.known ≢ None) (g.B.Backing.size c.args.backing.now) c.args.n l.part.session c.go_on-2.result
+    c.end_by_limit.new.machine c.go_on-2.new.machine c.end_by_limit.new.paper c.go_on-2.new.paper (says_retold l.known (g.B.Backing.holds c.go_on-2.new.backing)) c.go_on-2.ensures.countable (c.go_on-2.ensures.row l.known l.part.session l.says stands)
 
-pub returns-in-Ok-clause-device : goal.returns-in-Ok-clause-device
-returns-in-Ok-clause-device g c = Served-none g.B.Backing.holds g.B.Backing.size g.B.Backing.calls g.B.Backing.faults c.args.backing.now
+pub returns-in-Ok-clause-keeps : goal.returns-in-Ok-clause-keeps
+returns-in-Ok-clause-keeps g c =
+    let first = keeps_counts c.args.machine.now c.end_by_limit.new.machine c.end_by_limit.ensures.keeps in
+    let rest = c.go_on-2.ensures.keeps in
+    record { core = rest.core ∙ first.core; sectors = rest.sectors ∙ first.sectors; halt = rest.halt ∙ first.halt; names = rest.names ∙ first.names }
 
 pub returns-in-Err-clause-row : goal.returns-in-Err-clause-row
-returns-in-Err-clause-row g c = λ known s m t says h. absurd (lone_not known c.args.machine.now s m t h c.if-not-is_at_limit.ensures)
+returns-in-Err-clause-row g c = λ known s says h. absurd (stands_not known c.args.machine.now s h c.is_at_limit.ensures c.if-not-is_at_limit.false)
 
 pub returns-in-Err-clause-present : goal.returns-in-Err-clause-present
-returns-in-Err-clause-present g c = λ known s m t says h. absurd (lone_not known c.args.machine.now s m t h c.if-not-is_at_limit.ensures)
+returns-in-Err-clause-present g c = λ known s m t says h n. absurd (stands_not known c.args.machine.now s h c.is_at_limit.ensures c.if-not-is_at_limit.false)
 
 pub returns-in-Err-clause-resumed : goal.returns-in-Err-clause-resumed
-returns-in-Err-clause-resumed g c = λ known h m t says l.
-    (resumes_more g.K.Sink.taken known h m t c.args.machine.now c.end_by_limit.new.machine c.args.paper.now c.end_by_limit.new.paper l c.in-Err.stop c.in-Err.ensures.ends, refl)
+returns-in-Err-clause-resumed g c = λ known h part says l.
+    (let ends = c.in-Err.ensures.ends l.storage known l.plan h part l.ordered l.is l.stands in
+    inl (cut_again known h part c.args.machine.now l g.K.Sink.taken c.end_by_limit.new.machine c.args.paper.now c.end_by_limit.new.paper c.in-Err._failed c.args.backing.now ends))
 
 pub returns-in-Err-clause-ended : goal.returns-in-Err-clause-ended
-returns-in-Err-clause-ended g c = λ known s r. absurd (rests_not known c.args.machine.now s r (some_rows c.args.machine.now c.if-is_empty.ensures))
+returns-in-Err-clause-ended g c = λ known s r. absurd (rests_not known c.args.machine.now s r (some_rows c.args.machine.now.tasks c.if-is_empty.ensures))
 
 pub returns-in-Err-clause-open : goal.returns-in-Err-clause-open
 returns-in-Err-clause-open g c =
     let l = context g (goal.at.returns-in-Err-clause-open g c).Else-not-is_at_limit in
-    open_limited_again g.K.Sink.taken (g.B.Backing.holds c.args.backing.now) c.args.machine.now l (Err c.in-Err.stop) c.end_by_limit.new.machine c.args.paper.now c.end_by_limit.new.paper
-    (subst (λ (js : List JobRow). AreCountable js) (sym c.in-Err.ensures.jobs) c.requires.open.countable)
-    (resumes_more g.K.Sink.taken l.known l.session l.member l.task c.args.machine.now c.end_by_limit.new.machine c.args.paper.now c.end_by_limit.new.paper l.limited c.in-Err.stop c.in-Err.ensures.ends)
+    let q = l.limited in
+    limited l.known (g.B.Backing.holds c.args.backing.now) c.end_by_limit.new.machine l.says
+    (subst (λ (z : Tasks). AreCountable z.jobs) (sym c.end_by_limit.ensures.keeps.tasks) c.requires.open.countable) l.session l.part
+    (cut_limited l.known l.session l.part c.args.machine.now q g.K.Sink.taken c.end_by_limit.new.machine c.args.paper.now c.end_by_limit.new.paper c.in-Err._failed
+    (c.in-Err.ensures.ends q.storage l.known q.plan l.session l.part q.ordered q.is q.stands))
+
+pub returns-in-Err-clause-keeps : goal.returns-in-Err-clause-keeps
+returns-in-Err-clause-keeps g c = keeps_counts c.args.machine.now c.end_by_limit.new.machine c.end_by_limit.ensures.keeps
 
 pub returns-in-Err-clause-device : goal.returns-in-Err-clause-device
 returns-in-Err-clause-device g c = Served-none g.B.Backing.holds g.B.Backing.size g.B.Backing.calls g.B.Backing.faults c.args.backing.now

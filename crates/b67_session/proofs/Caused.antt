@@ -1,0 +1,28 @@
+-- What a step says of failures, and what it keeps, by what its parts do.
+use Rattle.std.proofs.Common.{◌≡◌, ◌≢◌, ◌≤◌, ℕ, length, Option, Result, Ok, Err, refl, sym, ap, ◌∙◌, arith}
+use Rattle.b67_io.specs.Causes.{Rose}
+use Rattle.b67_task_tables.specs.declared.tables.Tasks.{Tasks}
+use Rattle.b67_task_tables.specs.declared.tables.Machine.{Machine}
+use Rattle.b67_task_tables.specs.Tables.{row_names}
+use Rattle.b67_session_attempt.specs.Passed.{CallCauses}
+use Rattle.b67_session_attempt.specs.Stops.{Stop}
+use Rattle.b67_session_attempt.specs.Stops as stops
+use Rattle.b67_session_ends.specs.Ends.{KeepsCounts}
+use Rattle.b67_session.specs.Slices.{Keeps}
+
+-- an attempt that didn't stop, and a last part of which only the printer may fail
+pub step_causes : {D K : Type 0} (failed : D → ℕ) (refused : K → ℕ) (a b : D) (p q r : K) (answered : Result (Unit {0}) Stop) → refused p ≤ refused q → refused q ≤ refused r → (answered ≡ Err stops.PrintFault → Rose refused q r)
+    → answered ≢ Err stops.BackingFault → CallCauses failed refused a b p r answered
+step_causes failed refused a b p q r answered one two rose other = record {
+  printer = record { later = omega (arith, one, two); failed = λ e. (let up = rose e in omega (arith, one, up)) };
+  device = λ e. absurd (other e);
+}
+
+-- a step's parts one after the other
+pub keeps_then : (old mid last : Machine) → Keeps old mid → KeepsCounts mid last → Keeps old last
+keeps_then old mid last a b = record {
+  core = b.core ∙ a.core;
+  sectors = b.sectors ∙ a.sectors;
+  halt = ap (λ (z : Tasks). z.halt) b.tasks ∙ a.halt;
+  names = ap (λ (z : Tasks). row_names z.jobs) b.tasks ∙ a.names;
+}

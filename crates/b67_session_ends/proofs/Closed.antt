@@ -1,0 +1,194 @@
+-- The machine once the chosen task has ended, with those under it, those that are deadlocked then, and the step is counted.
+use Rattle.std.proofs.Common.{◌≡◌, ℕ, ◌+◌, ◌^◌, ◌<◌, ◌≤◌, Bool, true, false, not, List, [], ◌∷◌, ◌++◌, length, map, Option, Some, refl, sym, ap, ◌∙◌, subst, inl, arith}
+use Rattle.std.specs.List.{list_all}
+use Rattle.b67_word.specs.declared.faults.Ending.{Ending}
+use Rattle.b67_word.specs.declared.faults.Ending.TheVariants.{Deadlock}
+use Rattle.b67_lemmas.specs.Lists.{Has}
+use Rattle.b67_lemmas.proofs.Members.{all_in, keyed_has, length_change, total_change}
+use Rattle.b67_lemmas.proofs.Keyed.{change_is, all_change, changed_there}
+use Rattle.b67_lemmas.proofs.Sums.{sum_total}
+use Rattle.b67_model.specs.Alone.{JobMoment, moment_with}
+use Rattle.b67_model.specs.State.{Task, Job, SessionJob}
+use Rattle.b67_model.specs.Keyed.{keyed, change_keyed}
+use Rattle.b67_model.specs.Endings.{Settled, Stepped, is_ready, deadlocked, ends_each_if, ends_task, ends_with, unsettled}
+use Rattle.b67_model.specs.InOrder.{IsSegment, TasksInOrder, NumberedFrom}
+use Rattle.b67_model.specs.Lines.{run_text}
+use Rattle.b67_model.specs.Run.{StepResult, number_of}
+use Rattle.b67_model.specs.Schedule.{Session, Choice}
+use Rattle.b67_law_order.proofs.Numbered.{numbered_change}
+use Rattle.b67_law_order_steps.proofs.Deaths.{ends_task_good}
+use Rattle.b67_law_turns.specs.Turns.{part_of}
+use Rattle.b67_law_turns.proofs.Settled.{ends_fewer}
+use Rattle.b67_stack.specs.Represents.{Storage}
+use Rattle.b67_layout.specs.Meets.{with_job}
+use Rattle.b67_layout.specs.Orders.{JobInOrderButCounts, IsInOrderButCounts}
+use Rattle.b67_layout.specs.Placement.{Placement}
+use Rattle.b67_layout.proofs.Sessions.{course_twice}
+use Rattle.b67_layout.proofs.Weaker.{but_counts}
+use Rattle.b67_task_tables.specs.declared.tables.Tasks.{Tasks}
+use Rattle.b67_task_tables.specs.declared.tables.Machine.{Machine}
+use Rattle.b67_task_tables.specs.Tables.{MachineRepresents, AreCountable, row_names}
+use Rattle.b67_task_deaths.specs.Deaths.{MayEnd, HasEnded, numbers_of, without_tasks}
+use Rattle.b67_task_end.specs.declared.families.EndedTask.{EndedTask}
+use Rattle.b67_task_end.specs.Family.{TablesHold, HasSomeRow, HasSomeHead, pair_of, endings_of}
+use Rattle.b67_session_schedule.specs.declared.counting.Chosen.{Chosen}
+use Rattle.b67_session_schedule.specs.Counted.{choice_of, CountsHaveRoom}
+use Rattle.b67_session_ends.specs.Closing.{HasJobOf, StandsChosen, KeepsNames}
+use Rattle.b67_session_ends.specs.Counts.{IsCounted}
+use Rattle.b67_session_ends.specs.Ends.{StandsFor}
+use Rattle.b67_session_ends.specs.Texts.{endings_text}
+use Rattle.b67_session_ends.proofs.ByLimit.{reprinted}
+use Rattle.b67_session_ends.proofs.Counted.{counted_stands}
+
+-- a session with another job, which is in order and has no more tasks
+module _ (s : Session) (m : SessionJob) (job : Job) (found : keyed number_of m.constants.number s.jobs ≡ Some m) (o : IsInOrderButCounts s) (g : TasksInOrder (IsSegment m.constants) m.constants job) (next : job.next_task ≡ m.progress.job.next_task) (fewer : length job.tasks ≤ length m.progress.job.tasks) where
+  abbrev Good : SessionJob → Type 0
+  Good y = JobInOrderButCounts (IsSegment y.constants) y.constants y.progress
+
+  abbrev after : SessionJob
+  after = record m { progress = record m.progress { job = job } }
+
+  pub ordered_with : IsInOrderButCounts (with_job s m job)
+  ordered_with =
+      let there = (keyed_has number_of m.constants.number s.jobs m found).0 in
+      let n : ℕ = m.constants.number in
+      let jobs' : List SessionJob = change_keyed number_of n (λ (y : SessionJob). after) s.jobs in
+      let changed : (with_job s m job).jobs ≡ jobs' = change_is number_of n (λ (y : SessionJob). record y { progress = record m.progress { job = job } }) m s.jobs found in
+      let own = all_in Good s.jobs m o.jobs there in
+      let size : SessionJob → Type 0 = λ y. y.constants.stack_size ≡ o.one_size.0 in
+      let alive : SessionJob → ℕ = λ y. length y.progress.job.tasks in
+      let P : List SessionJob → Type 0 = λ jobs. IsInOrderButCounts (record s { jobs = jobs }) in
+      subst P (sym changed) (record {
+        few = omega (arith, o.few, length_change number_of n after s.jobs);
+        numbered = numbered_change 1 n after s.jobs o.numbered refl;
+        one_size = (o.one_size.0, all_change size number_of n after s.jobs o.one_size.1 (all_in size s.jobs m o.one_size.1 there));
+        jobs = all_change Good number_of n after s.jobs o.jobs (record { unchanging = own.unchanging; tasks = g; few_born = omega (arith, next, own.few_born) });
+        peak_low = omega (arith, o.peak_low, fewer, sum_total alive s.jobs, sum_total alive jobs', total_change number_of alive n m after s.jobs found);
+        peak_high = o.peak_high;
+      })
+
+settled_job : (b : Bool) (z : Settled) → (ends_each_if b Deadlock z).job ≡ (ends_each_if b Deadlock (unsettled z.job)).job
+settled_job true z = refl
+settled_job false z = refl
+
+module _ (x : Storage) (told : Option (List (List ℕ))) (k : Machine) (plan : Placement) (s : Session) (m : SessionJob) (t : Task) (c : Chosen) (w : StandsChosen x told k plan s m t c) where
+  abbrev pub o : IsInOrderButCounts s
+  o = but_counts s w.ordered
+
+  there : keyed number_of c.job s.jobs ≡ Some m
+  there = ap (λ (z : Choice). keyed number_of z.who.job s.jobs) (sym w.chosen) ∙ w.next.member
+
+  pub among : Has s.jobs m
+  among = (keyed_has number_of c.job s.jobs m there).0
+
+  pub own : m.constants.number ≡ c.job
+  own = (keyed_has number_of c.job s.jobs m there).1
+
+  found : keyed number_of m.constants.number s.jobs ≡ Some m
+  found = ap (λ (n : ℕ). keyed number_of n s.jobs) own ∙ there
+
+  pub holds : TablesHold plan s k.tasks
+  holds = record { ordered = o; fits = w.stands.session.holds.fits.rows; few = w.stands.session.holds.fits.few; shows = w.stands.tables }
+
+  pub has_row : HasSomeRow k.tasks c.row
+  has_row = record { plan = plan; session = s; job_of = m; task = t; holds = holds; row = w.row }
+
+  pub has_head : HasSomeHead k.tasks c.job 255
+  has_head = record { plan = plan; session = s; job_of = m; has = record { holds = holds; member = among; number = own; heads = inl refl } }
+
+  -- once the lines are printed
+  module _ (printed : ℕ) where
+    abbrev now : Machine
+    now = record k { tasks = record k.tasks { printed = printed } }
+
+    pub still : MachineRepresents x told now plan s
+    still = reprinted x told k plan s printed w.stands
+
+    pub may_end : MayEnd now c.row
+    may_end = record { tables = now.tasks; same = record { rows = refl; running = refl }; storage = x; told = told; plan = plan; session = s; member = m; task = t; ordered = o; stands = still; at = w.row }
+
+    module _ (ending : Ending) (new : Machine) (e : HasEnded now.tasks told plan s m (endings_of m.progress.job t.number ending) new) (tasks : new.tasks ≡ record now.tasks { rows = new.tasks.rows; running = new.tasks.running }) where
+      abbrev gone : Settled
+      gone = ends_task m.progress.job t.number ending
+
+      abbrev left : SessionJob
+      left = record m { progress = record m.progress { job = gone.job } }
+
+      abbrev after_plan : Placement
+      after_plan = without_tasks plan m.constants.number (numbers_of (endings_of m.progress.job t.number ending))
+
+      order : TasksInOrder (IsSegment m.constants) m.constants m.progress.job
+      order = (all_in (λ (y : SessionJob). JobInOrderButCounts (IsSegment y.constants) y.constants y.progress) s.jobs m o.jobs among).tasks
+
+      pub left_stands : MachineRepresents e.storage told new after_plan (with_job s m gone.job)
+      left_stands = subst (λ (z : Tasks). MachineRepresents e.storage told (record new { tasks = z }) after_plan (with_job s m gone.job)) (sym tasks) e.stands
+
+      pub left_ordered : IsInOrderButCounts (with_job s m gone.job)
+      left_ordered = ordered_with s m gone.job found o (ends_task_good (IsSegment m.constants) m.constants m.progress.job t.number ending order) refl (ends_fewer (unsettled m.progress.job) _)
+
+      pub left_among : Has (with_job s m gone.job).jobs left
+      left_among = changed_there number_of m.constants.number (λ (y : SessionJob). record y { progress = record m.progress { job = gone.job } }) s.jobs m found
+
+      pub has_job : HasJobOf new c.job
+      has_job = record { storage = e.storage; told = told; plan = after_plan; session = with_job s m gone.job; member = left; ordered = left_ordered; stands = left_stands; among = left_among; number = own }
+
+      -- and those that are deadlocked
+      module _ (last : Machine) (f : StandsFor told last (with_job (with_job s m gone.job) left (deadlocked (unsettled gone.job)).job)) where
+        abbrev made : Stepped
+        made = ends_with m.progress.job t.number ending
+
+        stuck_stands : MachineRepresents f.storage told last f.plan (with_job s m made.settled.job)
+        stuck_stands =
+            let J : Job = (deadlocked (unsettled gone.job)).job in
+            let twice : with_job (with_job s m gone.job) left J ≡ with_job s m J = ap (λ (js : List SessionJob). record s { jobs = js }) (course_twice s.jobs m.constants.number (record m.progress { job = gone.job }) (record m.progress { job = J })) in
+            let same : made.settled.job ≡ J = settled_job (list_all (λ (u : Task). not (is_ready u)) gone.job.tasks) gone in
+            subst (λ (j : Job). MachineRepresents f.storage told last f.plan (with_job s m j)) (sym same) (subst (MachineRepresents f.storage told last f.plan) twice f.stands)
+
+        pub closed : (counts : Tasks) → IsCounted c last.tasks counts → StandsFor told (record last { tasks = counts }) (part_of s (choice_of c) m t made).session
+        closed counts counted =
+            let moment : JobMoment = moment_with m.progress t made made.settled in
+            record { storage = f.storage; plan = f.plan; stands = counted_stands s c m moment w.ordered there refl f.storage told last f.plan counts refl counted stuck_stands }
+
+      -- by what is promised of the call that ends them
+      pub closed_by : (last : Machine)
+          → ((x : Storage) (told : Option (List (List ℕ))) (plan : Placement) (s : Session) (m : SessionJob) → IsInOrderButCounts s → MachineRepresents x told new plan s → Has s.jobs m → m.constants.number ≡ c.job
+          → StandsFor told last (with_job s m (deadlocked (unsettled m.progress.job)).job))
+          → (counts : Tasks) → IsCounted c last.tasks counts → StandsFor told (record last { tasks = counts }) (part_of s (choice_of c) m t (ends_with m.progress.job t.number ending)).session
+      closed_by last ends counts counted = closed last (ends e.storage told after_plan (with_job s m gone.job) left left_ordered left_stands left_among own) counts counted
+
+-- but for the rows, the one that runs and how much is printed the tables are as before the tasks' ends
+pub same_tasks : (old mid last : Tasks) (printed : ℕ) → last ≡ record mid { rows = last.rows; running = last.running } → mid ≡ record old { rows = mid.rows; running = mid.running; printed = printed }
+    → last ≡ record old { rows = last.rows; running = last.running; printed = printed }
+same_tasks old mid last printed e f = e ∙ ap (λ (z : Tasks). record z { rows = last.rows; running = last.running }) f
+
+-- the counts have room still
+pub room_still : (old new : Tasks) (c : Chosen) (printed : ℕ) → new ≡ record old { rows = new.rows; running = new.running; printed = printed } → CountsHaveRoom old c → CountsHaveRoom new c
+room_still old new c printed same r = subst (λ (z : Tasks). CountsHaveRoom z c) (sym same) (record { job = r.job; from_one = r.from_one; at = r.at; of_job = r.of_job; made = r.made; turn = r.turn; next = r.next })
+
+-- ---- the text that is printed first
+
+module _ (x : Storage) (told : Option (List (List ℕ))) (k : Machine) (plan : Placement) (s : Session) (m : SessionJob) (t : Task) (c : Chosen) (w : StandsChosen x told k plan s m t c) (ending : Ending) where
+  -- all that end, by what was said of who they are
+  pub all_text : (items dead all slice : List EndedTask) → map pair_of items ≡ endings_of m.progress.job t.number ending → dead ≡ items
+      → ((plan : Placement) (s : Session) (m : SessionJob) (number : ℕ) (ending : Ending) → TablesHold plan s k.tasks → Has s.jobs m → m.constants.number ≡ c.job → map pair_of dead ≡ (ends_task m.progress.job number ending).endings → map pair_of all ≡ (deadlocked (ends_task m.progress.job number ending)).endings)
+      → slice ≡ all → endings_text c.job (map pair_of slice) ≡ run_text (part_of s (choice_of c) m t (ends_with m.progress.job t.number ending)).lines
+  all_text items dead all slice first lent shows lent' =
+      let dead_is : map pair_of dead ≡ (ends_task m.progress.job t.number ending).endings = ap (λ (l : List EndedTask). map pair_of l) lent ∙ first in
+      let all_is : map pair_of all ≡ (deadlocked (ends_task m.progress.job t.number ending)).endings =
+      shows plan s m t.number ending (holds x told k plan s m t c w) (among x told k plan s m t c w) (own x told k plan s m t c w) dead_is in
+      ap (λ (l : List EndedTask). endings_text c.job (map pair_of l)) lent' ∙ ap (endings_text c.job) all_is
+
+-- ---- what stays
+
+pub keeps_close : (c : Chosen) (old last : Machine) (counts : Tasks) (printed : ℕ) → last.tasks ≡ record old.tasks { rows = last.tasks.rows; running = last.tasks.running; printed = printed } → IsCounted c last.tasks counts
+    → length last.cpu.core ≡ length old.cpu.core → length last.sectors.links ≡ length old.sectors.links → KeepsNames old (record last { tasks = counts })
+keeps_close c old last counts printed same counted core sectors = record {
+  core = core;
+  sectors = sectors;
+  halt = counted.halt ∙ ap (λ (z : Tasks). z.halt) same;
+  names = counted.names ∙ ap (λ (z : Tasks). row_names z.jobs) same;
+  countable = λ all. counted.countable (subst (λ (z : Tasks). AreCountable z.jobs) (sym same) all);
+}
+
+pub keeps_cut : (old : Machine) (printed : ℕ) → KeepsNames old (record old { tasks = record old.tasks { printed = printed } })
+keeps_cut old printed = record { core = refl; sectors = refl; halt = refl; names = refl; countable = λ all. all }

@@ -1,0 +1,90 @@
+-- The machine once an operator is counted.
+use Rattle.std.proofs.Common.{◌≡◌, ℕ, ◌+◌, ◌-◌, ◌≤◌, max, List, [], ◌∷◌, length, Option, Some, refl, sym, ap, ◌∙◌, subst, inl, inr, arith}
+use Rattle.std.specs.Prelude.{◌==◌, sum_by}
+use Rattle.std.proofs.lemmas.Bool.Decides.{eqb_tells}
+use Rattle.b67_lemmas.proofs.Members.{keyed_has, total_has}
+use Rattle.b67_lemmas.proofs.Sums.{sum_total}
+use Rattle.b67_model.specs.State.{Job, JobProgress, SessionJob}
+use Rattle.b67_model.specs.Alone.{JobMoment}
+use Rattle.b67_model.specs.Keyed.{keyed, change_keyed}
+use Rattle.b67_model.specs.InOrder.{IsInOrderButPlaces}
+use Rattle.b67_model.specs.Run.{number_of, live_tasks, with_moment}
+use Rattle.b67_model.specs.Schedule.{Session}
+use Rattle.b67_law_order.proofs.Numbered.{tasks_of}
+use Rattle.b67_stack.specs.declared.Cpu.{Cpu}
+use Rattle.b67_stack.specs.MachineView.{MachineView, NoOriginalAboveTop as Calm}
+use Rattle.b67_stack.specs.Represents.{Storage, Represents}
+use Rattle.b67_layout.specs.Placement.{Placement}
+use Rattle.b67_layout.specs.Layout.{machine_view}
+use Rattle.b67_layout.specs.Session.{RepresentsSession, with_objects}
+use Rattle.b67_layout.specs.Meets.{with_job}
+use Rattle.b67_layout_step.proofs.Alike.{AllAlike}
+use Rattle.b67_layout_step.proofs.Counted.{SameJobs, same_machine_view}
+use Rattle.b67_layout_step.proofs.Paged.{RepresentsSession-over}
+use Rattle.b67_task_tables.specs.declared.tables.Tasks.{Tasks}
+use Rattle.b67_task_tables.specs.declared.tables.Machine.{Machine}
+use Rattle.b67_task_tables.specs.Tables.{MachineRepresents}
+use Rattle.b67_session_schedule.specs.declared.counting.Chosen.{Chosen}
+use Rattle.b67_session_schedule.specs.Counted.{choice_of}
+use Rattle.b67_session_ends.specs.Counts.{IsCounted}
+
+alike_refl : (ms : List SessionJob) → AllAlike ms ms
+alike_refl [] = tt
+alike_refl (m ∷ ms) = (record { number = refl; stack_size = refl; dictionary = refl; count = refl; tasks = refl }, alike_refl ms)
+
+same_refl : (ms : List SessionJob) → SameJobs ms ms
+same_refl [] = tt
+same_refl (m ∷ ms) = (record { constants = refl; job = refl }, same_refl ms)
+
+-- two courses with the same job
+module _ (n : ℕ) (a b : JobProgress) (job : b.job ≡ a.job) where
+  abbrev put : JobProgress → SessionJob → SessionJob
+  put progress y = record y { progress = progress }
+
+  changed_alike : (ms : List SessionJob) → AllAlike (change_keyed number_of n (put a) ms) (change_keyed number_of n (put b) ms)
+  changed_alike [] = tt
+  changed_alike (y ∷ ms) = elim (eqb_tells (number_of y) n) [
+    | inl t ↦ rw t.0 (record { number = refl; stack_size = refl; dictionary = refl; count = refl; tasks = ap (λ (j : Job). j.tasks) job }, alike_refl ms)
+    | inr t ↦ rw t.0 (record { number = refl; stack_size = refl; dictionary = refl; count = refl; tasks = refl }, changed_alike ms)
+  ]
+
+  changed_same : (ms : List SessionJob) → SameJobs (change_keyed number_of n (put a) ms) (change_keyed number_of n (put b) ms)
+  changed_same [] = tt
+  changed_same (y ∷ ms) = elim (eqb_tells (number_of y) n) [
+    | inl t ↦ rw t.0 (record { constants = refl; job = job }, same_refl ms)
+    | inr t ↦ rw t.0 (record { constants = refl; job = refl }, changed_same ms)
+  ]
+
+module _ (s : Session) (c : Chosen) (m : SessionJob) (moment : JobMoment) (o : IsInOrderButPlaces s) (found : keyed number_of c.job s.jobs ≡ Some m) (alive : moment.alive ≡ length m.progress.job.tasks) where
+  abbrev after : Session
+  after = with_moment s (choice_of c) m moment
+
+  -- no task was started
+  same_peak : after.peak ≡ s.peak
+  same_peak =
+      let k = keyed_has number_of c.job s.jobs m found in
+      let own = total_has tasks_of s.jobs m k.0 in
+      omega (arith, alive, own, sum_total tasks_of s.jobs, o.peak_low)
+
+  session_stands : (x : Storage) (cpu : Cpu) (plan : Placement) → RepresentsSession x cpu plan (with_job s m moment.progress.job) → RepresentsSession x cpu plan after
+  session_stands x cpu plan h =
+      let before : Session = with_job s m moment.progress.job in
+      let own : JobProgress = record m.progress { job = moment.progress.job } in
+      let number : c.job ≡ m.constants.number = sym (keyed_has number_of c.job s.jobs m found).1 in
+      let named : change_keyed number_of m.constants.number (put m.constants.number own moment.progress refl moment.progress) s.jobs ≡ after.jobs =
+      ap (λ (n : ℕ). change_keyed number_of n (λ (y : SessionJob). record y { progress = moment.progress }) s.jobs) (sym number) in
+      let alike : AllAlike before.jobs after.jobs = subst (λ (js : List SessionJob). AllAlike before.jobs js) named (changed_alike m.constants.number own moment.progress refl s.jobs) in
+      let same : SameJobs before.jobs after.jobs = subst (λ (js : List SessionJob). SameJobs before.jobs js) named (changed_same m.constants.number own moment.progress refl s.jobs) in
+      let view : machine_view plan after.jobs ≡ machine_view plan before.jobs = same_machine_view plan before.jobs after.jobs same in
+      RepresentsSession-over [] [] x x cpu cpu plan before after h alike same_peak refl refl refl
+      (subst (λ (p : MachineView). Represents x cpu.core cpu.regs (with_objects [] p)) (sym view) h.holds.memory)
+      (subst Calm (sym view) h.holds.settled)
+      (λ i low other homes. refl)
+
+  pub counted_stands : (x : Storage) (told : Option (List (List ℕ))) (k : Machine) (plan : Placement) (tasks : Tasks) → moment.progress.made ≡ m.progress.made + 1 → IsCounted c k.tasks tasks
+      → MachineRepresents x told k plan (with_job s m moment.progress.job) → MachineRepresents x told (record k { tasks = tasks }) plan after
+  counted_stands x told k plan tasks made counted h = record {
+    session = session_stands x k.cpu plan h.session;
+    storage = h.storage;
+    tables = counted.shows plan s m moment o.numbered found made h.tables;
+  }

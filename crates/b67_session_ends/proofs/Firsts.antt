@@ -1,0 +1,113 @@
+-- The row of a job's first task, with which all its tasks end.
+use Rattle.std.proofs.Common.{◌≡◌, ◌≢◌, ◌<◌, ◌≤◌, ◌+◌, ◌⊎◌, ℕ, true, false, List, [], length, map, Option, Some, refl, sym, ap, ◌∙◌, subst, arith, get_or, inl, inr}
+use Rattle.std.specs.Prelude.{◌==◌}
+use Rattle.std.proofs.lemmas.Bool.Decides.{eqb_tells}
+use Rattle.b67_word.specs.declared.faults.Ending.TheVariants.{Limit}
+use Rattle.b67_lemmas.specs.Lists.{Has}
+use Rattle.b67_lemmas.proofs.Members.{all_in, has_get, has_map_back}
+use Rattle.b67_lemmas.proofs.Places.{at_mapped, has_at}
+use Rattle.std.specs.List.{slice_get}
+use Rattle.std.proofs.lemmas.Option.{same_Some, get_or_from_slice_get, slice_get-get_or, slice_get_within}
+use Rattle.b67_model.specs.State.{Task, Job, SessionJob}
+use Rattle.b67_model.specs.Keyed.{keyed}
+use Rattle.b67_model.specs.Endings.{ends_each_if, ends_task, unsettled}
+use Rattle.b67_model.specs.InOrder.{IsSegment, TasksInOrder}
+use Rattle.b67_model.specs.Run.{number_of}
+use Rattle.b67_model.specs.Schedule.{Session}
+use Rattle.b67_law_order.proofs.Numbered.{keyed_member}
+use Rattle.b67_law_turns.proofs.First.{first_lives, first_emptied, each_emptied}
+use Rattle.b67_stack.specs.Represents.{Storage}
+use Rattle.b67_layout.specs.Meets.{with_job}
+use Rattle.b67_layout.specs.Orders.{JobInOrderButCounts, IsInOrderButCounts}
+use Rattle.b67_layout.specs.Placement.{Placement}
+use Rattle.b67_layout.specs.Rows as rows
+use Rattle.b67_layout.specs.Rows.{TaskShows}
+use Rattle.b67_task_tables.specs.declared.tables.TaskRow.{TaskRow}
+use Rattle.b67_task_tables.specs.declared.tables.Tasks.{Tasks}
+use Rattle.b67_task_tables.specs.declared.tables.Machine.{Machine}
+use Rattle.b67_task_tables.specs.Tables.{task_row, MachineRepresents}
+use Rattle.b67_task_end.specs.Family.{IsRowOf, endings_of}
+use Rattle.b67_task_deaths.specs.Deaths.{MayEnd, HasEnded, numbers_of, without_tasks}
+use Rattle.b67_session_ends.specs.Ends.{StandsFor, IsFirstRow}
+
+module _ (x : Storage) (told : Option (List (List ℕ))) (k : Machine) (plan : Placement) (s : Session) (m : SessionJob) (o : IsInOrderButCounts s) (h : MachineRepresents x told k plan s) (among : Has s.jobs m) where
+  order : TasksInOrder (IsSegment m.constants) m.constants m.progress.job
+  order = (all_in (λ (y : SessionJob). JobInOrderButCounts (IsSegment y.constants) y.constants y.progress) s.jobs m o.jobs among).tasks
+
+  -- where a task of the job lives there is one
+  pub has_first : m.progress.job.tasks ≢ [] → (at : ℕ) × IsFirstRow k.tasks.rows.items m.constants.number at
+  has_first some =
+      let (u, inu, one) = first_lives (IsSegment m.constants) m.constants m.progress.job order some in
+      let (row, inrow, w) = h.tables.each m u among inu in
+      let back = has_map_back task_row k.tasks.rows.items row inrow in
+      let (at, there) = has_at k.tasks.rows.items back.item back.among in
+      (at, record { row = back.item; there = there; of_job = ap (λ (r : rows.TaskRow). r.job) back.is ∙ w.job; first = ap (λ (r : rows.TaskRow). r.number) back.is ∙ w.number ∙ one })
+
+  -- and it is this task's
+  pub record FirstOf (at : ℕ) : Type 0 where
+    pub task : Task
+    pub one : task.number ≡ 1
+    pub row : IsRowOf plan s k.tasks.rows.items at m task
+
+  pub first_of : (at : ℕ) → IsFirstRow k.tasks.rows.items m.constants.number at → FirstOf at
+  first_of at f =
+      let shown : slice_get (map task_row k.tasks.rows.items) at ≡ Some (task_row f.row) = at_mapped task_row k.tasks.rows.items at f.row f.there in
+      let (y, u, iny, inu, w) = h.tables.tasks (task_row f.row) (has_get (map task_row k.tasks.rows.items) at (task_row f.row) shown) in
+      let number : y.constants.number ≡ m.constants.number = sym w.job ∙ f.of_job in
+      let same : y ≡ m = same_Some y m (sym (subst (λ (n : ℕ). keyed number_of n s.jobs ≡ Some y) number (keyed_member 1 s.jobs y o.numbered iny)) ∙ keyed_member 1 s.jobs m o.numbered among) in
+      record {
+        task = u;
+        one = sym w.number ∙ f.first;
+        row = record {
+          row = f.row;
+          there = f.there;
+          member = among;
+          task = subst (λ (z : SessionJob). Has z.progress.job.tasks u) same inu;
+          shows = subst (λ (z : SessionJob). TaskShows plan z u (task_row f.row)) same w;
+        };
+      }
+
+  pub may_end : (at : ℕ) → IsFirstRow k.tasks.rows.items m.constants.number at → MayEnd k at
+  may_end at f =
+      let g = first_of at f in
+      record { tables = k.tasks; same = record { rows = refl; running = refl }; storage = x; told = told; plan = plan; session = s; member = m; task = g.task; ordered = o; stands = h; at = g.row }
+
+  -- once it has ended, all have
+  pub all_ended : (new : Machine) (u : Task) → u.number ≡ 1 → HasEnded k.tasks told plan s m (endings_of m.progress.job u.number Limit) new
+      → new.tasks ≡ record k.tasks { rows = new.tasks.rows; running = new.tasks.running } → StandsFor told new (with_job s m (ends_each_if true Limit (unsettled m.progress.job)).job)
+  all_ended new u one e tasks =
+      let job : (ends_task m.progress.job u.number Limit).job ≡ (ends_each_if true Limit (unsettled m.progress.job)).job =
+      ap (λ (n : ℕ). (ends_task m.progress.job n Limit).job) one ∙ first_emptied (IsSegment m.constants) m.constants m.progress.job order Limit
+      ∙ sym (each_emptied (IsSegment m.constants) m.constants m.progress.job order Limit) in
+      let after : Placement = without_tasks plan m.constants.number (numbers_of (endings_of m.progress.job u.number Limit)) in
+      let J : Job → Type 0 = λ j. MachineRepresents e.storage told new after (with_job s m j) in
+      let T : Tasks → Type 0 = λ z. MachineRepresents e.storage told (record new { tasks = z }) after (with_job s m (ends_task m.progress.job u.number Limit).job) in
+      record { storage = e.storage; plan = after; stands = subst J job (subst T (sym tasks) e.stands) }
+
+-- a row that is read
+pub read_row : (rs : List TaskRow) (job at i : ℕ) (d : TaskRow) → at ≡ i → IsFirstRow rs job i → ((get_or rs at d).job ≡ job) × ((get_or rs at d).number ≡ 1)
+read_row rs job at i d same f =
+    let e : get_or rs at d ≡ f.row = ap (λ (n : ℕ). get_or rs n d) same ∙ get_or_from_slice_get rs i f.row d f.there in
+    (ap (λ (r : TaskRow). r.job) e ∙ f.of_job, ap (λ (r : TaskRow). r.number) e ∙ f.first)
+
+pub first_read : (rs : List TaskRow) (job at : ℕ) (d : TaskRow) → at < length rs → (get_or rs at d).job ≡ job → (get_or rs at d).number ≡ 1 → IsFirstRow rs job at
+first_read rs job at d low of_job first = record { row = get_or rs at d; there = slice_get-get_or rs at d low; of_job = of_job; first = first }
+
+pub none_past : (rs : List TaskRow) (job at i : ℕ) → IsFirstRow rs job i → at ≤ i → length rs ≤ at → ⊥
+none_past rs job at i f low past = omega (arith, low, past, slice_get_within rs i f.row f.there)
+
+-- the same rows, and the same number
+pub first_as : (rs qs : List TaskRow) (n job at : ℕ) → rs ≡ qs → n ≡ job → IsFirstRow rs n at → IsFirstRow qs job at
+first_as rs qs n job at same number f = subst (λ (ys : List TaskRow). IsFirstRow ys job at) same (subst (λ (k : ℕ). IsFirstRow rs k at) number f)
+
+pub next_low : (at i : ℕ) → at ≤ i → (at ≡ i → ⊥) → at + 1 ≤ i
+next_low at i low other = by (eqb_tells at i) where
+  by : ((at == i) ≡ true × (at ≡ i)) ⊎ ((at == i) ≡ false × (at ≢ i)) → at + 1 ≤ i
+  by (inl e) = absurd (other e.1)
+  by (inr e) = omega (arith, low, e.1)
+
+pub other_number : (rs : List TaskRow) (job at i : ℕ) (d : TaskRow) → IsFirstRow rs job i → (get_or rs at d).number ≢ 1 → at ≡ i → ⊥
+other_number rs job at i d f other same = other (read_row rs job at i d same f).1
+
+pub other_job : (rs : List TaskRow) (job at i : ℕ) (d : TaskRow) → IsFirstRow rs job i → (get_or rs at d).job ≢ job → at ≡ i → ⊥
+other_job rs job at i d f other same = other (read_row rs job at i d same f).0

@@ -1,0 +1,79 @@
+-- The end of a step over the whole machine: what is printed, and for which session the machine stands then.
+use Rattle.std.specs.Prelude.{◌≡◌, ◌≢◌, ℕ, List, [], length, Option, Some, None, Result, Ok, Err, slice_get}
+use Rattle.b67_word.specs.declared.faults.Failed.{Failed}
+use Rattle.b67_model.specs.Lines.{run_text}
+use Rattle.b67_model.specs.Run.{StepResult}
+use Rattle.b67_model.specs.Schedule.{Session}
+use Rattle.b67_model.specs.State.{SessionJob}
+use Rattle.b67_lemmas.specs.Lists.{Has}
+use Rattle.b67_session_lines.specs.Moments.{last_part}
+use Rattle.b67_session_lines.specs.Parts.{TookRest, TookMore}
+use Rattle.b67_stack.specs.Represents.{Storage}
+use Rattle.b67_layout.specs.Placement.{Placement}
+use Rattle.b67_layout.specs.Orders.{IsInOrderButCounts}
+use Rattle.b67_task_tables.specs.declared.tables.TaskRow.{TaskRow}
+use Rattle.b67_task_tables.specs.declared.tables.Machine.{Machine}
+use Rattle.b67_task_tables.specs.Tables.{MachineRepresents}
+use Rattle.b67_law_turns.specs.Orders.{IsInOrderButLimit}
+
+-- the machine stands for the session, in some storage and placement
+pub record StandsFor (told : Option (List (List ℕ))) (k : Machine) (s : Session) : Type 0 where
+  pub storage : Storage
+  pub plan : Placement
+  pub stands : MachineRepresents storage told k plan s
+
+-- the row of a job's first task
+pub record IsFirstRow (rows : List TaskRow) (job at : ℕ) : Type 0 where
+  pub row : TaskRow
+  pub there : slice_get rows at ≡ Some row
+  pub of_job : row.job ≡ job
+  pub first : row.number ≡ 1
+
+-- the machine stands for some session in order but for counts, a job of which has live tasks
+pub record JobLives (k : Machine) (job : ℕ) : Type 0 where
+  pub storage : Storage
+  pub told : Option (List (List ℕ))
+  pub plan : Placement
+  pub session : Session
+  pub member : SessionJob
+  pub ordered : IsInOrderButCounts session
+  pub stands : MachineRepresents storage told k plan session
+  pub among : Has session.jobs member
+  pub number : member.constants.number ≡ job
+  pub lives : member.progress.job.tasks ≢ []
+
+-- the machine stands for some session between the parts of a step
+pub record StandsBetween (k : Machine) : Type 0 where
+  pub storage : Storage
+  pub told : Option (List (List ℕ))
+  pub plan : Placement
+  pub session : Session
+  pub ordered : IsInOrderButLimit session
+  pub stands : MachineRepresents storage told k plan session
+
+-- the last part of a step: what isn't printed yet of its lines was printed, and its tasks have ended; or nothing has changed
+-- but how much of them is printed
+abbrev pub LimitEnds : {K : Type 0} → (K → Option (List ℕ)) → Option (List (List ℕ)) → StepResult → Result (Unit {0}) Failed → Machine → Machine → K → K → Type 0
+LimitEnds taken told part (Ok done) old new paper paper' =
+    TookRest taken paper paper' (run_text part.lines) old.tasks.printed × (new.tasks.printed ≡ 0) × StandsFor told new part.session
+LimitEnds taken told part (Err failed) old new paper paper' =
+    TookMore taken paper paper' (run_text part.lines) old.tasks.printed new.tasks.printed × (new ≡ record old { tasks = record old.tasks { printed = new.tasks.printed } })
+
+-- where there is none, nothing is done
+abbrev pub Finishes : {K : Type 0} → (K → Option (List ℕ)) → Option (List (List ℕ)) → Option StepResult → Result (Unit {0}) Failed → Machine → Machine → K → K → Type 0
+Finishes taken told None (Ok done) old new paper paper' = (new ≡ old) × (paper' ≡ paper)
+Finishes taken told None (Err failed) old new paper paper' = ⊥
+Finishes taken told (Some part) answered old new paper paper' = LimitEnds taken told part answered old new paper paper'
+
+-- but for the rows of tasks, the one that runs and how much is printed, the tables are as they were; core and the table of
+-- sectors have as many words and sectors
+pub record KeepsCounts (old new : Machine) : Type 0 where
+  pub tasks : new.tasks ≡ record old.tasks { rows = new.tasks.rows; running = new.tasks.running; printed = new.tasks.printed }
+  pub core : length new.cpu.core ≡ length old.cpu.core
+  pub sectors : length new.sectors.links ≡ length old.sectors.links
+
+-- the machine stands for some session whose last part is due
+pub record HasLimited (k : Machine) : Type 0 where
+  pub between : StandsBetween k
+  pub part : StepResult
+  pub is_due : last_part between.session ≡ Some part

@@ -1,0 +1,79 @@
+//! A task ends by itself, and if no other task of its job is ready then, all of them end by DEADLOCK.
+
+ghost use Rattle.std.specs.Prelude.{◌≡◌, ℕ, List, Option, length};
+ghost use Rattle.b67_io.specs.Causes.{HasCause};
+ghost use Rattle.b67_lemmas.specs.Lists.{Has};
+ghost use Rattle.b67_model.specs.Endings.{deadlocked, ends_with, unsettled};
+ghost use Rattle.b67_model.specs.Schedule.{Session};
+ghost use Rattle.b67_model.specs.State.{Task, SessionJob};
+ghost use Rattle.b67_stack.specs.Represents.{Storage};
+ghost use Rattle.b67_layout.specs.Meets.{with_job};
+ghost use Rattle.b67_layout.specs.Orders.{IsInOrderButCounts};
+ghost use Rattle.b67_layout.specs.Placement.{Placement};
+ghost use Rattle.b67_law_turns.specs.Turns.{part_of};
+ghost use Rattle.b67_task_tables.specs.Tables.{MachineRepresents};
+ghost use Rattle.b67_session_schedule.specs.Counted.{choice_of, CountsHaveRoom};
+ghost use Rattle.b67_session_ends.specs.Closing.{HasJobOf, StandsChosen, ChoseSome, Closes, KeepsNames};
+ghost use Rattle.b67_session_ends.specs.Ends.{StandsFor};
+
+use crate::closing::{goes_on, with_stuck};
+use crate::counts::count_one;
+use crate::deaths::end_job;
+use crate::limits::has_row;
+use crate::texts::put_endings;
+use b67_io::Sink;
+use b67_session_schedule::Chosen;
+use b67_task_deaths::end;
+use b67_task_end::endings;
+use b67_task_tables::Machine;
+use b67_word::{Ending, Failed};
+
+/// If no task of a job is ready, all of them end.
+fn end_stuck(machine: &mut Machine, job: u8)
+    requires { HasJobOf machine.old job }
+    ensures stands { (x : Storage) (told : Option (List (List ℕ))) (plan : Placement) (s : Session) (m : SessionJob) → IsInOrderButCounts s → MachineRepresents x told machine.old plan s
+        → Has s.jobs m → m.constants.number ≡ job → StandsFor told machine.new (with_job s m (deadlocked (unsettled m.progress.job)).job) }
+    ensures tasks { machine.new.tasks ≡ record machine.old.tasks { rows = machine.new.tasks.rows; running = machine.new.tasks.running } }
+    ensures len { length machine.new.cpu.core ≡ length machine.old.cpu.core }
+    ensures count { length machine.new.sectors.links ≡ length machine.old.sectors.links }
+{
+    if goes_on(&machine.tasks, job, &[]) {
+        return;
+    }
+    if !has_row(machine.tasks.rows.as_slice(), job) {
+        return;
+    }
+    end_job(machine, job);
+}
+
+/// The chosen task ends so by itself: what isn't printed yet of the lines of the endings is printed, but LIMIT's; then the
+/// tasks end, and the step is counted. If the printer fails, nothing changes but how much of them is printed.
+pub fn close<K: Sink>(
+    machine: &mut Machine,
+    chosen: Chosen,
+    ending: Ending,
+    paper: &mut K,
+) -> Result<(), Failed>
+    requires row { ChoseSome machine.old chosen }
+    requires room { CountsHaveRoom machine.old.tasks chosen }
+    ensures closes { (x : Storage) (told : Option (List (List ℕ))) (plan : Placement) (s : Session) (m : SessionJob) (t : Task) → StandsChosen x told machine.old plan s m t chosen
+        → Closes K.taken told (part_of s (choice_of chosen) m t (ends_with m.progress.job t.number ending)) result machine.old machine.new paper.old paper.new }
+    ensures cause { HasCause K.faults paper.old paper.new result }
+    ensures keeps { KeepsNames machine.old machine.new }
+{
+    let dead = endings(&machine.tasks, chosen.row, ending);
+    let all = with_stuck(&machine.tasks, chosen.job, dead.as_slice());
+    match put_endings(
+        paper,
+        chosen.job,
+        all.as_slice(),
+        &mut machine.tasks.printed,
+    ) {
+        Ok(()) => {}
+        Err(failed) => return Err(failed),
+    }
+    let _ended = end(machine, chosen.row, ending);
+    end_stuck(machine, chosen.job);
+    count_one(&mut machine.tasks, chosen);
+    Ok(())
+}

@@ -1,0 +1,113 @@
+//! Who is left once tasks have ended, and whether one of them is ready then.
+
+ghost use Rattle.std.specs.Prelude.{◌≡◌, ◌≤◌, ◌<◌, ◌+◌, ℕ, [], ◌∷◌, ◌++◌, length, map};
+ghost use Rattle.std.specs.List.{list_any};
+ghost use Rattle.b67_word.specs.declared.faults.Ending.TheVariants as endings;
+ghost use Rattle.b67_word.specs.declared.faults.Ending as ending_type;
+ghost use Rattle.b67_lemmas.specs.Lists.{Has};
+ghost use Rattle.b67_model.specs.Endings.{all_with, deadlocked, ends_task};
+ghost use Rattle.b67_model.specs.Schedule.{Session};
+ghost use Rattle.b67_model.specs.State.{SessionJob};
+ghost use Rattle.b67_layout.specs.Placement.{Placement};
+ghost use Rattle.b67_task_end.specs.Family.{TablesHold, HasSomeHead, pair_of};
+ghost use Rattle.b67_session_ends.specs.Closing.{is_dead_of, left_ready, others_of};
+
+use arrayvec::ArrayVec;
+use b67_task_end::{EndedTask, live_of};
+use b67_task_tables::{TaskRow, TaskState, Tasks};
+use b67_word::Ending;
+
+/// Whether the task of a number is among those that ended.
+fn is_dead(dead: &[EndedTask], number: u32) -> bool
+    ensures { result ≡ is_dead_of dead.now number }
+{
+    dead.iter().any(|one| one.number == number)
+}
+
+/// Whether a row's task is of a job, and is left and ready once these have ended.
+fn is_left_ready(row: TaskRow, job: u8, dead: &[EndedTask]) -> bool
+    ensures { result ≡ left_ready job dead.now row }
+{
+    if row.job != job {
+        return false;
+    }
+    if is_dead(dead, row.number) {
+        return false;
+    }
+    match row.state {
+        TaskState::Ready => true,
+        TaskState::Awaits(number) => is_dead(dead, number),
+        TaskState::WaitsAt { mark: _, offset: _ } => false,
+    }
+}
+
+/// Whether a task of a job is ready once these have ended.
+pub(crate) fn goes_on(tasks: &Tasks, job: u8, dead: &[EndedTask]) -> bool
+    ensures { result ≡ list_any (left_ready job dead.now) tasks.now.rows.items }
+{
+    for at in 0..tasks.rows.len() as u8 {
+        if is_left_ready(tasks.rows[at as usize], job, dead) {
+            return true;
+        }
+    }
+    false
+}
+
+/// The same tasks in a longer list.
+fn copied(list: &[EndedTask]) -> ArrayVec<EndedTask, 30>
+    requires { length list.now ≤ 15 }
+    ensures { result.items ≡ list.now }
+{
+    let mut copy = ArrayVec::new();
+    for at in 0..list.len() as u8 {
+        copy.push(list[at as usize]);
+    }
+    copy
+}
+
+/// DEADLOCK of a task, if it isn't among those that ended.
+fn add_one(list: &mut ArrayVec<EndedTask, 30>, dead: &[EndedTask], number: u32)
+    requires { length list.old.items < 30 }
+    ensures all { map pair_of list.new.items ≡ map pair_of list.old.items ++ all_with endings.Deadlock (others_of dead.now (number ∷ [])) }
+    ensures few { length list.new.items ≤ length list.old.items + 1 }
+{
+    if is_dead(dead, number) {
+        return;
+    }
+    list.push(EndedTask {
+        number,
+        ending: Ending::Deadlock,
+    });
+}
+
+/// DEADLOCK of all tasks that live but those that ended.
+fn add_stuck(list: &mut ArrayVec<EndedTask, 30>, dead: &[EndedTask], live: &[u32])
+    requires before { length list.old.items ≤ 15 }
+    requires few { length live.now ≤ 15 }
+    ensures { map pair_of list.new.items ≡ map pair_of list.old.items ++ all_with endings.Deadlock (others_of dead.now live.now) }
+{
+    for at in 0..live.len() as u8 {
+        add_one(list, dead, live[at as usize]);
+    }
+}
+
+/// All that end if these end by themselves or with their parent: if no task of the job is ready then, those that are left end
+/// by DEADLOCK.
+pub(crate) fn with_stuck(
+    tasks: &Tasks,
+    job: u8,
+    dead: &[EndedTask],
+) -> ArrayVec<EndedTask, 30>
+    requires head { HasSomeHead tasks.now job 255 }
+    requires few { length dead.now ≤ 15 }
+    ensures { (plan : Placement) (s : Session) (m : SessionJob) (number : ℕ) (ending : ending_type.Ending) → TablesHold plan s tasks.now → Has s.jobs m → m.constants.number ≡ job
+        → map pair_of dead.now ≡ (ends_task m.progress.job number ending).endings → map pair_of result.items ≡ (deadlocked (ends_task m.progress.job number ending)).endings }
+{
+    let mut list = copied(dead);
+    if goes_on(tasks, job, dead) {
+        return list;
+    }
+    let live = live_of(tasks, job);
+    add_stuck(&mut list, dead, live.as_slice());
+    list
+}

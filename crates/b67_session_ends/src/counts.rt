@@ -1,0 +1,17 @@
+//! One operator more is counted.
+
+ghost use Rattle.b67_session_schedule.specs.Counted.{CountsHaveRoom};
+ghost use Rattle.b67_session_ends.specs.Counts.{IsCounted};
+
+use b67_session_schedule::{Chosen, count};
+use b67_task_tables::Tasks;
+
+/// Counts one operator of the chosen task. Nothing is printed yet then of what comes next.
+#[inline(always)]
+pub fn count_one(tasks: &mut Tasks, chosen: Chosen)
+    requires { CountsHaveRoom tasks.old chosen }
+    ensures { IsCounted chosen tasks.old tasks.new }
+{
+    count(tasks, chosen);
+    tasks.printed = 0;
+}

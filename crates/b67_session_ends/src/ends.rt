@@ -1,0 +1,62 @@
+//! The last part of a step.
+
+ghost use Rattle.std.specs.Prelude.{◌≡◌, ℕ, List, Option, Some, length};
+ghost use Rattle.b67_io.specs.Causes.{HasCause};
+ghost use Rattle.b67_model.specs.Run.{StepResult};
+ghost use Rattle.b67_model.specs.Schedule.{Session};
+ghost use Rattle.b67_session_lines.specs.Moments.{last_part};
+ghost use Rattle.b67_stack.specs.Represents.{Storage};
+ghost use Rattle.b67_layout.specs.Placement.{Placement};
+ghost use Rattle.b67_task_tables.specs.Tables.{MachineRepresents};
+ghost use Rattle.b67_law_turns.specs.Orders.{IsInOrderButLimit};
+ghost use Rattle.b67_session_ends.specs.Ends.{StandsBetween, HasLimited, LimitEnds, Finishes, KeepsCounts};
+
+use crate::deaths::{all_ended, end_job};
+use crate::limits::is_at_limit;
+use crate::texts::put_endings;
+use b67_io::Sink;
+use b67_task_end::live_of;
+use b67_task_tables::Machine;
+use b67_word::{Ending, Failed};
+
+/// The job that made the last operator stands at its limit with live tasks: what isn't printed yet of the lines of LIMIT is
+/// printed, deepest first, and all its tasks end. If the printer fails, nothing changes but how much of them is printed.
+#[inline(always)]
+pub fn end_by_limit<K: Sink>(machine: &mut Machine, paper: &mut K) -> Result<(), Failed>
+    requires { HasLimited machine.old }
+    ensures ends { (x : Storage) (told : Option (List (List ℕ))) (plan : Placement) (h : Session) (part : StepResult) → IsInOrderButLimit h → last_part h ≡ Some part
+        → MachineRepresents x told machine.old plan h → LimitEnds K.taken told part result machine.old machine.new paper.old paper.new }
+    ensures cause { HasCause K.faults paper.old paper.new result }
+    ensures keeps { KeepsCounts machine.old machine.new }
+{
+    let job = machine.tasks.last_job;
+    let live = live_of(&machine.tasks, job);
+    let ended = all_ended(live.as_slice(), Ending::Limit);
+    match put_endings(
+        paper,
+        job,
+        ended.as_slice(),
+        &mut machine.tasks.printed,
+    ) {
+        Ok(()) => {}
+        Err(failed) => return Err(failed),
+    }
+    end_job(machine, job);
+    machine.tasks.printed = 0;
+    Ok(())
+}
+
+/// The last part of a step whose operator is counted: if its job stands at its limit with live tasks, these end by LIMIT.
+#[inline(always)]
+pub fn finish<K: Sink>(machine: &mut Machine, paper: &mut K) -> Result<(), Failed>
+    requires { StandsBetween machine.old }
+    ensures finishes { (x : Storage) (told : Option (List (List ℕ))) (plan : Placement) (h : Session) → IsInOrderButLimit h → MachineRepresents x told machine.old plan h
+        → Finishes K.taken told (last_part h) result machine.old machine.new paper.old paper.new }
+    ensures cause { HasCause K.faults paper.old paper.new result }
+    ensures keeps { KeepsCounts machine.old machine.new }
+{
+    if !is_at_limit(&machine.tasks) {
+        return Ok(());
+    }
+    end_by_limit(machine, paper)
+}

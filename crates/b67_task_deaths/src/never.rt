@@ -1,0 +1,6 @@
+//! A stand-in for what another proves.
+
+unsafe extern "C" {
+    pub safe fn never()
+        ensures { ⊥ };
+}
