@@ -1,14 +1,7 @@
-use Rattle.std.proofs.Common.{◌≡◌, ◌+◌, ◌++◌, List, ℕ, map, refl, sym, ap, ◌∙◌, subst}
-use Rattle.b67_model.specs.Endings.{ends_with}
-use Rattle.b67_model.specs.Lines.{run_text}
-use Rattle.b67_task_end.specs.declared.families.EndedTask.{EndedTask}
-use Rattle.b67_task_end.specs.Family.{pair_of, endings_of}
+use Rattle.std.proofs.Common.{◌+◌, List, ℕ, map, refl, ap, ◌∙◌, subst}
+use Rattle.b67_task_end.specs.Family.{pair_of}
 use Rattle.b67_task_tables.specs.declared.tables.Tasks.{Tasks}
 use Rattle.b67_session_lines.specs.Parts.{TookRest, TookMore}
-use Rattle.b67_law_turns.specs.Turns.{part_of}
-use Rattle.b67_session_schedule.specs.Counted.{choice_of}
-use Rattle.b67_session_ends.specs.Closing.{StandsChosen}
-use Rattle.b67_session_ends.specs.Texts.{endings_text}
 use Rattle.b67_session_ends.proofs.Families.{lent_list}
 use Rattle.b67_session_ends.proofs.Closed.{has_row, has_head, has_job, holds, is_family, ends_family, closed_by, same_tasks, room_still, all_text, keeps_close, keeps_cut}
 use Rattle.b67_session_ends.proofs.closes.close.Goals as goal
