@@ -1,5 +1,5 @@
 -- The tables once the row of a task shows that it waits.
-use Rattle.std.proofs.Common.{◌≡◌, ◌≢◌, ◌⊎◌, ℕ, ◌+◌, List, [], ◌∷◌, Option, Some, refl, sym, ◌∙◌, ap, true, false, inl, inr, ⊎_elim, subst, slice_set}
+use Rattle.std.proofs.Common.{◌≡◌, ◌≢◌, ◌⊎◌, ℕ, ◌+◌, List, [], ◌∷◌, Option, Some, None, refl, sym, ◌∙◌, ap, true, false, inl, inr, ⊎_elim, subst, slice_set}
 use Rattle.std.specs.Prelude.{◌==◌}
 use Rattle.std.specs.List.{slice_get}
 use Rattle.std.proofs.lemmas.Bool.{cases_Bool, cases_eq}
@@ -23,10 +23,16 @@ use Rattle.b67_layout.proofs.Fresh.{job_in_order}
 use Rattle.b67_layout.proofs.Sessions.{change-kept}
 use Rattle.b67_task_start_stack.specs.Likes.{SameStack, Like}
 use Rattle.b67_task_start_stack.proofs.Births.{changed_member, kept_member, moved_member}
-use Rattle.b67_task_start_stack.proofs.Twins.{like_same, like_frames, spots-twin}
+use Rattle.b67_task_start_stack.proofs.Twins.{like_same, spots-twin}
 use Rattle.b67_task_switch.proofs.Lists.{differ_at}
 use Rattle.b67_task_switch.proofs.Tables.{live_in_order}
 use Rattle.b67_session_waits.specs.Holds.{held}
+
+like_frames : (a b : Option Task) → Like a b → frames_of_task a ≡ frames_of_task b
+like_frames None None l = refl
+like_frames (Some u) (Some v) l = l.frames
+like_frames None (Some v) l = absurd l
+like_frames (Some u) None l = absurd l
 
 module _ (plan : Placement) (s : Session) (m : SessionJob) (t : Task) (condition : Condition) (o : IsInOrderButCounts s) (in_m : Has s.jobs m) (in_t : Has m.progress.job.tasks t) where
   abbrev j : ℕ
