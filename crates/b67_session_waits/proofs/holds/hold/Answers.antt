@@ -1,4 +1,8 @@
 use Rattle.std.proofs.Common.{◌≡◌, ◌+◌, ℕ, List, length, sym, ap, ◌∙◌, subst, refl}
+use Rattle.b67_model.specs.Lines.{run_text}
+use Rattle.b67_law_turns.specs.Turns.{part_of}
+use Rattle.b67_session_schedule.specs.Counted.{choice_of}
+use Rattle.b67_session_waits.specs.Holds.{holding}
 use Rattle.b67_session_lines.specs.Parts.{TookRest, TookMore}
 use Rattle.b67_task_tables.specs.declared.tables.Machine.{Machine}
 use Rattle.b67_task_tables.specs.declared.tables.Tasks.{Tasks}
@@ -43,8 +47,9 @@ returns-clause-holds g c = λ x told plan s m t condition w so.
     let printed = c.put_endings.new.printed in
     let same = same_tasks k.tasks (record tasks { printed = printed }) c.end_stuck.new.machine.tasks printed c.end_stuck.ensures.tasks (rest_set x told k plan s m t c.args.chosen c.args.state condition w so tasks is printed) in
     let text = text_is x told k plan s m t c.args.chosen c.args.state condition w so tasks is c.stuck-ended.result.items c.as_slice.result.now c.stuck-ended.ensures c.as_slice.ensures.value in
+    let lines = run_text (part_of s (choice_of c.args.chosen) m t (holding m.progress.job t condition)).lines in
     (
-      subst (λ (n : ℕ). TookRest g.K.Sink.taken c.args.paper.now c.put_endings.new.paper _ n) (printed_set x told k plan s m t c.args.chosen c.args.state condition w so tasks is)
+      subst (λ (n : ℕ). TookRest g.K.Sink.taken c.args.paper.now c.put_endings.new.paper lines n) (printed_set x told k plan s m t c.args.chosen c.args.state condition w so tasks is)
           (subst (λ (l : List ℕ). TookRest g.K.Sink.taken c.args.paper.now c.put_endings.new.paper l tasks.printed) text c.in-Ok.ensures.whole),
       c.count_one.ensures.printed,
       c.count_one.ensures.made ∙ ap (λ (z : Tasks). z.made + 1) same,
@@ -60,10 +65,11 @@ returns-in-Err-clause-holds g c = λ x told plan s m t condition w so.
     let back = c.set_state-held.new.tasks in
     let same = back_is x told k plan s m t c.args.chosen c.args.state condition w so tasks is printed c.set_state-before.result c.set_state-before.ensures.was back c.set_state-held.ensures.set in
     let text = text_is x told k plan s m t c.args.chosen c.args.state condition w so tasks is c.stuck-ended.result.items c.as_slice.result.now c.stuck-ended.ensures c.as_slice.ensures.value in
+    let lines = run_text (part_of s (choice_of c.args.chosen) m t (holding m.progress.job t condition)).lines in
     let part = subst (λ (l : List ℕ). TookMore g.K.Sink.taken c.args.paper.now c.put_endings.new.paper l tasks.printed printed) text c.in-Err.ensures.part in
     (
-      subst (λ (z : Tasks). TookMore g.K.Sink.taken c.args.paper.now c.put_endings.new.paper _ k.tasks.printed z.printed) (sym same)
-          (subst (λ (n : ℕ). TookMore g.K.Sink.taken c.args.paper.now c.put_endings.new.paper _ n printed) (printed_set x told k plan s m t c.args.chosen c.args.state condition w so tasks is) part),
+      subst (λ (z : Tasks). TookMore g.K.Sink.taken c.args.paper.now c.put_endings.new.paper lines k.tasks.printed z.printed) (sym same)
+          (subst (λ (n : ℕ). TookMore g.K.Sink.taken c.args.paper.now c.put_endings.new.paper lines n printed) (printed_set x told k plan s m t c.args.chosen c.args.state condition w so tasks is) part),
       subst (λ (z : Tasks). ◌≡◌ {A = Machine} (record k { tasks = z }) (record k { tasks = record k.tasks { printed = z.printed } })) (sym same) refl,
     ))
 
