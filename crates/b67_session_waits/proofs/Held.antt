@@ -1,6 +1,6 @@
 -- The machine once the row of the chosen task shows that it waits, once those that are stuck have ended, and once the step is
 -- counted.
-use Rattle.std.proofs.Common.{◌≡◌, ℕ, ◌+◌, ◌<◌, List, [], ◌∷◌, length, map, Option, Some, None, Ok, Err, refl, sym, ap, ◌∙◌, subst, inl, arith, slice_set, length-set}
+use Rattle.std.proofs.Common.{◌≡◌, ℕ, ◌+◌, ◌<◌, List, [], length, map, Option, Some, Ok, Err, refl, sym, ap, ◌∙◌, subst, inl, arith, slice_set, length-set}
 use Rattle.std.specs.List.{slice_get}
 use Rattle.std.proofs.lemmas.Option.{slice_get_within}
 use Rattle.b67_core.proofs.Writes.{slice_get-set_same}
@@ -34,7 +34,7 @@ use Rattle.b67_task_tables.specs.declared.tables.TaskRow.{TaskRow}
 use Rattle.b67_task_tables.specs.declared.tables.TaskState.{TaskState}
 use Rattle.b67_task_tables.specs.declared.tables.Tasks.{Tasks}
 use Rattle.b67_task_tables.specs.declared.tables.Machine.{Machine}
-use Rattle.b67_task_tables.specs.Tables.{state_of, task_row, job_row, counts_of, MachineRepresents, TasksShow}
+use Rattle.b67_task_tables.specs.Tables.{task_row, job_row, counts_of, MachineRepresents, TasksShow}
 use Rattle.b67_task_end.specs.declared.families.EndedTask.{EndedTask}
 use Rattle.b67_task_end.specs.Family.{TablesHold, HasSomeHead, pair_of}
 use Rattle.b67_session_schedule.specs.declared.counting.Chosen.{Chosen}
