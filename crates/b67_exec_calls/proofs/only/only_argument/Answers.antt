@@ -1,5 +1,5 @@
 use Rattle.std.proofs.Common.{◌∙◌, refl, sym}
-use Rattle.b67_exec_calls.proofs.Prints.{only_cell}
+use Rattle.b67_exec_calls.proofs.Ones.{only_cell}
 use Rattle.b67_exec_calls.proofs.only.only_argument.Goals as goal
 
 pub returns-then-count_cells-ne2 : goal.returns-then-count_cells-ne2
