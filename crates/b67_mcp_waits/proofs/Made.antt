@@ -49,7 +49,7 @@ lower : (fs : List Frame) → height (below_top fs) ≤ height fs
 lower [] = omega arith
 lower (f ∷ below) = omega arith
 
-marked_words : (f : Frame) → 1 ≤ Rattle.b67_model.specs.State.words_of f
+pub marked_words : (f : Frame) → 1 ≤ Rattle.b67_model.specs.State.words_of f
 marked_words f = by f.standing where
   by : (q : Rattle.b67_model.specs.State.Standing) → 1 ≤ Rattle.b67_model.specs.State.head_words q + length f.cells
   by Rattle.b67_model.specs.State.Marked = omega arith

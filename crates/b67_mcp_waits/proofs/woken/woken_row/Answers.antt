@@ -1,4 +1,4 @@
-use Rattle.b67_mcp_waits.proofs.Woken.{row_own, row_other}
+use Rattle.b67_mcp_waits.proofs.WokenRows.{row_own, row_other}
 use Rattle.b67_mcp_waits.proofs.woken.woken_row.Goals as goal
 
 pub returns-then-row-job : goal.returns-then-row-job
