@@ -153,6 +153,7 @@ module _ (x : Storage) (cpu : Cpu) (plan : Placement) (s : Session) (m : Session
         offset_is = (let there = c.address in omega (arith, e, there));
         at = (let there = c.address in omega (arith, e, there));
         there = c.there ∙ ap Some c.stands.0.0;
+        small = c.stands.1;
       })
 
   -- what was found, where it was

@@ -1,5 +1,5 @@
 -- The one argument of a call: a whole number, or a reference to the cell of an operand.
-use Rattle.std.specs.Prelude.{◌≡◌, ℕ, ◌+◌, ◌<◌, ℤ, List, [], ◌∷◌, Some, Result, Ok, Err, slice_get}
+use Rattle.std.specs.Prelude.{◌≡◌, ℕ, ◌+◌, ◌<◌, ◌^◌, ℤ, List, [], ◌∷◌, Some, Result, Ok, Err, slice_get}
 use Rattle.b67_word.specs.Tagged.{Tagged, word}
 use Rattle.b67_word.specs.declared.couples.Place.{Place}
 use Rattle.b67_word.specs.declared.faults.Fault.{Fault}
@@ -45,6 +45,7 @@ pub record IsFoundCell (plan : Placement) (m : SessionJob) (t : Task) (core : Li
   pub offset_is : found.offset ≡ offset
   pub at : found.at ≡ found.mark + found.offset
   pub there : slice_get core found.at ≡ Some (word 0 bits)
+  pub small : bits < 2 ^ 48
 
 -- the same by the argument's end
 abbrev pub FindsOperand : Placement → SessionJob → Task → List Tagged → Place → Result Found Fault → Answer End → Type 0

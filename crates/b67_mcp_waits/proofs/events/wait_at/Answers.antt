@@ -8,6 +8,7 @@ use Rattle.b67_model.specs.State as State
 use Rattle.b67_model.specs.State.{Task}
 use Rattle.b67_model.specs.Intrinsics.{waits_at, answered}
 use Rattle.b67_layout.specs.Rows.{WaitsAtCell}
+use Rattle.b67_layout.specs.Session.{frame_address}
 use Rattle.b67_layout.specs.Meets.{here}
 use Rattle.b67_layout.proofs.Fresh.{running_in_order}
 use Rattle.b67_exec_calls.specs.Calls.{job_cut}
@@ -50,7 +51,7 @@ returns-then-bits-eq0-clause-row c = λ x told plan s m t o h runs r arguments c
       record {
         condition = State.WaitsAt e.f e.offset;
         is = wait_is (here m t q) arguments ∙ ap (λ (y : Answer End). y >>= waits_at (here m t q)) e.is ∙ wait_zero x cpu plan s m t o h.session runs q e.f e.offset e.bits zero;
-        shows = ap (λ (i : ℕ). WaitsAtCell i c.in-Ok.found.offset) e.cell.mark ∙ ap (λ (i : ℕ). WaitsAtCell _ i) e.cell.offset_is;
+        shows = ap (λ (i : ℕ). WaitsAtCell i c.in-Ok.found.offset) e.cell.mark ∙ ap (λ (i : ℕ). WaitsAtCell (frame_address plan m t e.f) i) e.cell.offset_is;
       },
       refl,
     ))
