@@ -1,15 +1,14 @@
 -- The one argument of a call, and the rows of AWAIT, STATUS, WAIT and CAUSE by it.
-use Rattle.std.proofs.Common.{◌≡◌, ◌≢◌, ℕ, suc, ◌≤◌, ℤ, List, [], ◌∷◌, length, Result, Ok, Err, refl, sym, ◌∙◌, ap, true, false, subst}
+use Rattle.std.proofs.Common.{◌≡◌, ◌≢◌, ℕ, suc, ℤ, List, [], ◌∷◌, length, Ok, Err, refl, sym, ◌∙◌, ap, false, subst}
 use Rattle.std.specs.List.{AllByRecursion}
 use Rattle.b67_word.specs.Tagged.{Tagged}
-use Rattle.b67_word.specs.declared.faults.Fault.{Fault}
 use Rattle.b67_word.specs.declared.faults.Fault.TheVariants.{InvalidOperand}
 use Rattle.b67_model.specs.Answers.{Answer, ◌>>=◌}
 use Rattle.b67_model.specs.Chase.{End, follow_reference}
 use Rattle.b67_model.specs.Words as Words
 use Rattle.b67_model.specs.Words.{Word, Operand, Name, Ref, Row, Element, Original, Proc, Intrinsic, operand, number, whole}
 use Rattle.b67_model.specs.State.{Task, SessionJob, OperatorContext, top}
-use Rattle.b67_model.specs.Steps.{Done, is_critical}
+use Rattle.b67_model.specs.Steps.{is_critical}
 use Rattle.b67_model.specs.Intrinsics as rows
 use Rattle.b67_model.specs.Intrinsics.{is_original, awaits, answers, status_of, waits_at, causes}
 use Rattle.b67_stack.specs.declared.Cpu.{Cpu}

@@ -1,8 +1,7 @@
 -- The task of a number, which lives or doesn't.
-use Rattle.std.proofs.Common.{◌≡◌, ℕ, ◌<◌, ℤ, List, [], map, Option, None, Ok, true, false, refl, sym, ◌∙◌, ap, subst}
+use Rattle.std.proofs.Common.{◌≡◌, ℕ, ◌<◌, ℤ, List, [], map, None, Ok, true, false, refl, sym, ◌∙◌, ap, subst}
 use Rattle.std.specs.Prelude.{pos, negsuc}
 use Rattle.std.proofs.lemmas.Bool.{eqb-true}
-use Rattle.b67_word.specs.declared.couples.Place.{Place}
 use Rattle.b67_lemmas.proofs.Members.{any_has, falls_low, has_map}
 use Rattle.b67_model.specs.Answers.{Answer, ◌>>=◌}
 use Rattle.b67_model.specs.Words.{Word}

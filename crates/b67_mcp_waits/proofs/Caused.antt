@@ -1,18 +1,17 @@
 -- CAUSE over the whole machine: once the number is stored and its waiters' rows are ready, it stands for the session with both,
 -- and then for that without the call.
-use Rattle.std.proofs.Common.{◌≡◌, ◌≢◌, ℕ, ◌+◌, ◌-◌, ◌<◌, List, [], ◌∷◌, ◌++◌, map, length, Option, Some, None, Ok, Err, refl, sym, ◌∙◌, ap, arith, true, false, ◌==◌, inl, inr, subst, slice_set}
+use Rattle.std.proofs.Common.{◌≡◌, ◌≢◌, ℕ, ◌+◌, ◌-◌, ◌<◌, List, [], ◌∷◌, ◌++◌, map, length, Option, None, Ok, Err, refl, sym, ◌∙◌, ap, arith, true, false, inl, inr, subst, slice_set}
 use Rattle.std.specs.Prelude.{option_map}
-use Rattle.std.specs.List.{slice_get, AllByRecursion}
+use Rattle.std.specs.List.{AllByRecursion}
 use Rattle.std.proofs.Math.ListN.{length-set}
 use Rattle.std.proofs.lemmas.Bool.{ne_eqb}
 use Rattle.std.proofs.lemmas.List.{length-map}
-use Rattle.b67_word.specs.Tagged.{Tagged, word}
+use Rattle.b67_word.specs.Tagged.{word}
 use Rattle.b67_word.specs.declared.couples.Place.{Place}
 use Rattle.b67_word.specs.declared.faults.Fault.TheVariants.{CriticalBlock}
 use Rattle.b67_lemmas.specs.Lists.{Has, Falls}
 use Rattle.b67_lemmas.proofs.Keyed.{change_map}
 use Rattle.b67_lemmas.proofs.Members.{falls_low, has_map, length_change}
-use Rattle.b67_model.specs.Keyed.{change_keyed}
 use Rattle.b67_model.specs.Chase.{AtCell}
 use Rattle.b67_model.specs.Words.{Word, Operand}
 use Rattle.b67_model.specs.State.{Frame, Marked, Task, Job, SessionJob, top, below_top, with_task}
@@ -20,7 +19,7 @@ use Rattle.b67_model.specs.Cells.{with_cell}
 use Rattle.b67_model.specs.Steps.{Goes, is_critical}
 use Rattle.b67_model.specs.Intrinsics.{is_original, answered, woken_at, wakes, causes}
 use Rattle.b67_model.specs.Schedule.{Session}
-use Rattle.b67_model.specs.InOrder.{IsSegment, Known, known_of, known_numbers, outer_of, reach_of, IsEntered, NamesEntered, TasksInOrder}
+use Rattle.b67_model.specs.InOrder.{IsSegment, Known, known_of, known_numbers, outer_of, IsEntered, NamesEntered, TasksInOrder}
 use Rattle.b67_stack.specs.declared.Cpu.{Cpu}
 use Rattle.b67_stack.specs.Represents.{Storage}
 use Rattle.b67_layout.specs.Orders.{IsInOrderButCounts}

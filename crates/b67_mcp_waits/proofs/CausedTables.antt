@@ -1,5 +1,5 @@
 -- The tables once a cell is caused: they show the job with its number there, and its waiters ready.
-use Rattle.std.proofs.Common.{◌≡◌, ◌≢◌, ℕ, zero, suc, ◌-◌, ◌<◌, List, [], ◌∷◌, map, Option, Some, None, refl, sym, ◌∙◌, ap, Bool, true, false, ◌==◌, ◌&&◌, ◌⊎◌, inl, inr, ⊎_elim, subst}
+use Rattle.std.proofs.Common.{◌≡◌, ◌≢◌, ℕ, zero, suc, ◌-◌, ◌<◌, List, [], ◌∷◌, map, Option, Some, None, refl, sym, ◌∙◌, ap, Bool, true, false, ◌==◌, ◌&&◌, ◌⊎◌, inl, inr, subst}
 use Rattle.std.specs.Prelude.{if◌then◌else◌, option_map}
 use Rattle.std.specs.List.{slice_get}
 use Rattle.std.proofs.lemmas.Bool.{cases_eq, eq-eqb, ne_eqb}
@@ -8,7 +8,7 @@ use Rattle.b67_lemmas.specs.Lists.{Has}
 use Rattle.b67_lemmas.proofs.Members.{all_in, has_map, has_map_back, keyed_has}
 use Rattle.b67_law_order.proofs.Numbered.{keyed_member}
 use Rattle.b67_model.specs.Keyed.{keyed}
-use Rattle.b67_model.specs.Words.{Word, Operand}
+use Rattle.b67_model.specs.Words.{Word}
 use Rattle.b67_model.specs.State as State
 use Rattle.b67_model.specs.State.{Condition, Task, Job, SessionJob}
 use Rattle.b67_model.specs.Intrinsics.{woken_at}
@@ -203,8 +203,7 @@ module _ (x : Storage) (cpu : Cpu) (plan : Placement) (s : Session) (m : Session
                 let b = has_map_back (put_task f (offset - 2) w) m.progress.job.tasks c.item c.among in
                 let (row, i, shows) = k.each m b.item has_m b.among in
                 let a = has_map_back task_row tasks.rows.items row i in
-                let is : change b.item ≡ u = ap (wake_task (woken_at f offset)) b.is ∙ c.is in
-                (
+                let is : change b.item ≡ u = ap (wake_task (woken_at f offset)) b.is ∙ c.is in (
                   task_row (ρ a.item),
                   has_map task_row (map ρ tasks.rows.items) (ρ a.item) (has_map ρ tasks.rows.items a.item a.among),
                   subst (λ (v : Task). TaskShows plan after v (task_row (ρ a.item))) is (own_row b.item b.among a.item (subst (TaskShows plan m b.item) (sym a.is) shows)),

@@ -1,26 +1,22 @@
 -- A call that was made, over the whole machine, and one that changes nothing.
-use Rattle.std.proofs.Common.{◌≡◌, ℕ, ◌+◌, ◌≤◌, List, [], ◌∷◌, length, Option, None, Result, Ok, Err, refl, sym, ◌∙◌, ap, arith, true, false, subst}
+use Rattle.std.proofs.Common.{◌≡◌, ℕ, ◌+◌, ◌≤◌, List, [], ◌∷◌, length, Option, None, Ok, Err, refl, sym, arith, true, false}
 use Rattle.std.proofs.lemmas.Bool.{le-leb}
-use Rattle.b67_word.specs.Tagged.{Tagged}
 use Rattle.b67_word.specs.declared.couples.Place.{Place}
 use Rattle.b67_word.specs.declared.faults.Fault.TheVariants.{CriticalBlock}
-use Rattle.b67_lemmas.proofs.Members.{length_change}
-use Rattle.b67_model.specs.Words.{Word, Operand}
+use Rattle.b67_model.specs.Words.{Word}
 use Rattle.b67_model.specs.State.{Frame, Task, SessionJob, height, top, below_top, with_top_cells}
 use Rattle.b67_model.specs.Steps.{Goes, is_critical}
-use Rattle.b67_model.specs.Intrinsics.{answers, answered}
+use Rattle.b67_model.specs.Intrinsics.{answers}
 use Rattle.b67_model.specs.Schedule.{Session}
-use Rattle.b67_stack.specs.declared.Cpu.{Cpu}
 use Rattle.b67_stack.specs.Represents.{Storage}
 use Rattle.b67_layout.specs.Orders.{IsInOrderButCounts}
 use Rattle.b67_layout.specs.Placement.{Placement}
-use Rattle.b67_layout.specs.Session.{IsRunning, RepresentsSession}
-use Rattle.b67_layout.specs.Meets.{RunsSome, here, with_job}
-use Rattle.b67_layout.proofs.Fresh.{running_in_order}
+use Rattle.b67_layout.specs.Session.{IsRunning}
+use Rattle.b67_layout.specs.Meets.{RunsSome, here}
 use Rattle.b67_task_tables.specs.declared.tables.Machine.{Machine}
 use Rattle.b67_task_tables.specs.Runs.{RunsTask}
 use Rattle.b67_task_end.specs.Lives.{HasJob}
-use Rattle.b67_exec_calls.specs.Calls.{CallSome, MayCut, job_cut}
+use Rattle.b67_exec_calls.specs.Calls.{CallSome, job_cut}
 use Rattle.b67_exec_calls.specs.Answered.{job_answered}
 use Rattle.b67_mcp_waits.specs.Events.{StandsAtCall, KeepsSectors}
 use Rattle.b67_task_tables.specs.Tables.{MachineRepresents}

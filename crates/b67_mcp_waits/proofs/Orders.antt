@@ -1,15 +1,12 @@
 -- A session whose job has other tasks is in order but for its counts, if these are.
-use Rattle.std.proofs.Common.{◌≡◌, ℕ, ◌+◌, ◌-◌, ◌^◌, ◌<◌, List, [], ◌∷◌, ◌++◌, map, flat_map, reverse, length, Option, Some, None, Ok, refl, sym, ◌∙◌, ap, arith, inl, inr, unwrap_or, subst, ◌==◌, ◌&&◌, ◌⊎◌}
+use Rattle.std.proofs.Common.{◌≡◌, ℕ, ◌-◌, ◌^◌, ◌<◌, List, [], ◌∷◌, flat_map, reverse, length, Option, Some, None, Ok, refl, sym, ◌∙◌, ap, arith, inl, inr, unwrap_or, subst, ◌==◌, ◌&&◌, ◌⊎◌}
 use Rattle.std.specs.Prelude.{nat_lt}
 use Rattle.std.specs.List.{slice_get}
 use Rattle.std.specs.Option.{ok_or}
 use Rattle.std.proofs.lemmas.Bool.{cases_Bool}
 use Rattle.std.proofs.lemmas.Bool.Decides.{eqb_tells}
-use Rattle.std.proofs.lemmas.List.{length-map}
 use Rattle.b67_word.specs.declared.couples.Place.{Place}
-use Rattle.b67_word.specs.declared.faults.Fault.{Fault}
 use Rattle.b67_word.specs.declared.faults.Fault.TheVariants.{InvalidAddress}
-use Rattle.b67_lemmas.specs.Lists.{Has}
 use Rattle.b67_lemmas.proofs.Members.{all_in, keyed_has, keyed_left, length_change, total_change}
 use Rattle.b67_lemmas.proofs.Keyed.{change_is, all_change}
 use Rattle.b67_lemmas.proofs.Sums.{sum_total}
@@ -22,7 +19,7 @@ use Rattle.b67_model.specs.Intrinsics.{woken_at}
 use Rattle.b67_model.specs.Run.{number_of}
 use Rattle.b67_model.specs.Schedule.{Session}
 use Rattle.b67_model.specs.InOrder.{IsSegment, TasksInOrder, NumberedFrom}
-use Rattle.b67_law_order.proofs.Looks.{IsFrame, found_frame}
+use Rattle.b67_law_order.proofs.Looks.{found_frame}
 use Rattle.b67_law_order.proofs.Maps.{HoldsOperand, cell_stored, map_good, frames_refl}
 use Rattle.b67_law_order_rows.proofs.Stores.{operand_is}
 use Rattle.b67_layout.specs.Orders.{JobInOrderButCounts, IsInOrderButCounts}
@@ -66,8 +63,8 @@ module _ (m : SessionJob) (t : Task) (q : Place) (order : TasksInOrder (IsSegmen
   holds : HoldsOperand m.progress.job f offset
   holds u live g among is w k =
       let here_g : frame (here m t q) f ≡ g = subst (λ (i : ℕ). frame (here m t q) i ≡ g) is
-          (ap (λ (z : Option Frame). unwrap_or z no_frame) (keyed_left (λ (x : Frame). x.identity) g.identity (flat_map (λ (v : Task). v.frames) m.progress.job.tasks) (m.constants.dictionary ∷ mcp ∷ []) g
-          (found_frame (IsSegment m.constants) m.constants m.progress.job order g (record { task = u; live = live; among = among })))) in
+      (ap (λ (z : Option Frame). unwrap_or z no_frame) (keyed_left (λ (x : Frame). x.identity) g.identity (flat_map (λ (v : Task). v.frames) m.progress.job.tasks) (m.constants.dictionary ∷ mcp ∷ []) g
+      (found_frame (IsSegment m.constants) m.constants m.progress.job order g (record { task = u; live = live; among = among })))) in
       let some : cell_of g offset ≡ Some (Operand bits) = some_ok (cell_of g offset) (Operand bits) (subst (λ (z : Frame). ◌≡◌ {A = Answer Word} (ok_or (cell_of z offset) InvalidAddress) (Ok (Operand bits))) here_g found) in
       let two : first_offset g ≡ 2 = elim (eqb_tells g.identity 0) [ inl z ↦ absurd (omega (arith, z.1, is, own)) | inr z ↦ rw z.0 refl ] in
       let there : slice_get (reverse g.cells) (offset - 2) ≡ Some (Operand bits) = elim (cases_Bool (nat_lt offset (first_offset g))) [

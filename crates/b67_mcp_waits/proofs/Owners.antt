@@ -1,6 +1,6 @@
 -- Whose frame it is that a live task names, and where it lies in its task's stack.
-use Rattle.std.proofs.Common.{◌≡◌, ◌≢◌, ℕ, ◌<◌, List, [], ◌∷◌, ◌++◌, map, Option, Some, refl, sym, ◌∙◌, ap, arith, true, false, ◌==◌, ⊎_elim, inl, inr, subst}
-use Rattle.std.proofs.lemmas.Bool.{cases_Bool, eq-eqb, ne_eqb}
+use Rattle.std.proofs.Common.{◌≡◌, ℕ, ◌<◌, List, [], ◌∷◌, ◌++◌, map, Option, Some, refl, sym, ◌∙◌, ap, arith, true, false, ◌==◌, ⊎_elim, inl, inr, subst}
+use Rattle.std.proofs.lemmas.Bool.{cases_Bool, ne_eqb}
 use Rattle.b67_lemmas.specs.Lists.{Has, Falls}
 use Rattle.b67_lemmas.proofs.Members.{all_in, falls_low, has_append_cases, has_append_right, has_map, keyed_has}
 use Rattle.b67_model.specs.Keyed.{keyed}
@@ -114,4 +114,3 @@ module _ (plan : Placement) (constants : JobConstants) (job : Job) (ordered : Ta
       (λ m. (let o = owner_outer t in_t t.parents refl id n.standing high m in
       let p : OwnerAt (spots plan constants.number job t) id = record { task = o.task; there = o.there; has = o.has; spot = apart job.next_frame t.frames (outer_of job t) id falls (has_map (λ (z : Known). z.0) (outer_of job t) (id, n.standing) m) k outer ∙ o.spot } in p))
       (has_append_cases (map known_of t.frames) (outer_of job t) (id, n.standing) n.among)
-

@@ -1,5 +1,5 @@
 -- What the machine stands for doesn't depend on who waits for what.
-use Rattle.std.proofs.Common.{◌≡◌, ◌≢◌, ℕ, ◌+◌, List, [], ◌∷◌, ◌++◌, map, flat_map, length, Option, Some, None, refl, sym, ◌∙◌, ap, arith, Bool, true, false, ◌==◌, ⊎_elim, subst}
+use Rattle.std.proofs.Common.{◌≡◌, ℕ, ◌+◌, List, [], ◌∷◌, ◌++◌, map, flat_map, length, Option, Some, None, refl, sym, ◌∙◌, ap, Bool, true, false, ◌==◌, ⊎_elim, subst}
 use Rattle.std.specs.Prelude.{if◌then◌else◌, option_map, ◌||◌}
 use Rattle.std.specs.List.{slice_get, list_any}
 use Rattle.std.proofs.lemmas.Bool.{cases_Bool, cases_eq}
@@ -8,7 +8,7 @@ use Rattle.b67_lemmas.proofs.Members.{has_map, has_map_back, keyed_has}
 use Rattle.b67_model.specs.Keyed.{keyed}
 use Rattle.b67_model.specs.State as State
 use Rattle.b67_model.specs.State.{Frame, Condition, Task, Job, JobProgress, SessionJob, OperatorContext, height, all_frames}
-use Rattle.b67_model.specs.Environment.{level_of_standing, level_of_frame, running, frame_at}
+use Rattle.b67_model.specs.Environment.{frame_at}
 use Rattle.b67_model.specs.Steps.{is_critical}
 use Rattle.b67_model.specs.Run.{number_of}
 use Rattle.b67_model.specs.Schedule.{Session}

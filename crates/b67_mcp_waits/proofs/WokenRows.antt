@@ -1,5 +1,5 @@
 -- The rows of tasks once a cell is caused.
-use Rattle.std.proofs.Common.{◌≡◌, ◌≢◌, ℕ, Bool, true, false, ◌&&◌, ◌==◌, refl, sym, ◌∙◌, ap, inl, inr}
+use Rattle.std.proofs.Common.{◌≡◌, ◌≢◌, ℕ, Bool, true, false, ◌&&◌, ◌==◌, refl, ap, inl, inr}
 use Rattle.std.proofs.lemmas.Bool.{cases_Bool, eq-eqb, ne_eqb}
 use Rattle.b67_task_tables.specs.declared.tables.TaskRow.{TaskRow}
 use Rattle.b67_task_tables.specs.declared.tables.TaskState.{TaskState}

@@ -8,7 +8,7 @@ use Rattle.b67_ctl.specs.declared.registers.Regs.{Regs}
 use Rattle.b67_model.specs.Answers.{Answer}
 use Rattle.b67_model.specs.Words.{Word, Operand, whole}
 use Rattle.b67_model.specs.Cells.{cell}
-use Rattle.b67_model.specs.Chase.{End, AtCell, AtElement, AtArray, AtProc, AtIntrinsic, follow_reference}
+use Rattle.b67_model.specs.Chase.{End, AtCell, follow_reference}
 use Rattle.b67_model.specs.InOrder.{NamesEntered, reach_of}
 use Rattle.b67_model.specs.State.{Task, SessionJob, OperatorContext}
 use Rattle.b67_layout.specs.Placement.{Placement}

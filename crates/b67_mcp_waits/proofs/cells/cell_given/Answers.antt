@@ -1,5 +1,4 @@
-use Rattle.std.proofs.Common.{ℕ, ◌+◌, ◌-◌, Ok, Err, sym, ◌∙◌, ap, arith, subst}
-use Rattle.b67_word.specs.declared.faults.Fault.{Fault}
+use Rattle.std.proofs.Common.{◌-◌, Ok, Err, sym, arith, subst}
 use Rattle.b67_model.specs.Answers.{Answer}
 use Rattle.b67_model.specs.Chase.{End, follow_reference}
 use Rattle.b67_layout.specs.Meets.{here}
@@ -22,8 +21,7 @@ returns-in-Err c = λ x plan s m t o h runs r arguments call q.
 pub operand_cell-requires : goal.operand_cell-requires
 operand_cell-requires c =
     let g = c.requires.runs in
-    let k = top_followed g.storage c.args.cpu.now g.plan g.session g.member g.task c.in-Ok.w g.ordered g.running (c.in-Ok.ensures g.storage g.plan g.session g.member g.task g.ordered g.stands g.running).1 in
-    (
+    let k = top_followed g.storage c.args.cpu.now g.plan g.session g.member g.task c.in-Ok.w g.ordered g.running (c.in-Ok.ensures g.storage g.plan g.session g.member g.task g.ordered g.stands g.running).1 in (
       here_scene g.storage c.args.cpu.now g.plan g.session g.member g.task g.ordered g.stands g.running,
       here_shown g.storage c.args.cpu.now g.plan g.session g.member g.task g.ordered g.stands g.running,
       k.followed.at,

@@ -1,12 +1,10 @@
 use Rattle.std.proofs.Common.{Ok, Err, sym, ◌∙◌, subst, inl, inr}
 use Rattle.b67_word.specs.declared.faults.Fault.TheVariants.{InvalidOperand}
-use Rattle.b67_model.specs.Answers.{Answer}
-use Rattle.b67_model.specs.Chase.{End, follow}
+use Rattle.b67_model.specs.Chase.{follow}
 use Rattle.b67_layout.specs.Meets.{here}
 use Rattle.b67_refer.specs.RunningContext.{live_of}
 use Rattle.b67_mcp_waits.specs.Arguments.{CellAtEnd}
 use Rattle.b67_refer.specs.Ends.{EndMeets}
-use Rattle.b67_refer.specs.declared.ends.End.TheVariants as end
 use Rattle.b67_mcp_waits.proofs.EndCells.{IsOther, no_reference, same_follow, at_cell, at_fault, at_other}
 use Rattle.b67_mcp_waits.proofs.cells.operand_cell.Goals as goal
 

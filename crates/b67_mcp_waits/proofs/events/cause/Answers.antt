@@ -1,11 +1,9 @@
-use Rattle.std.proofs.Common.{◌≡◌, ℕ, List, map, length, false, Ok, refl, sym, ◌∙◌, ap, subst, slice_set}
-use Rattle.std.proofs.Math.ListN.{length-set}
+use Rattle.std.proofs.Common.{ℕ, List, map, length, refl, sym, ◌∙◌, ap, subst, slice_set}
 use Rattle.std.proofs.lemmas.Option.{slice_get_within}
 use Rattle.b67_word.specs.Tagged.{Tagged, word}
 use Rattle.b67_model.specs.Answers.{Answer, ◌>>=◌}
 use Rattle.b67_model.specs.Chase.{End, AtCell}
 use Rattle.b67_model.specs.Intrinsics.{causes}
-use Rattle.b67_stack.specs.declared.Cpu.{Cpu}
 use Rattle.b67_layout.specs.Session.{RepresentsSession}
 use Rattle.b67_layout.specs.Meets.{here}
 use Rattle.b67_task_tables.specs.declared.tables.TaskRow.{TaskRow}
@@ -37,8 +35,7 @@ pub returns-then-is_critical-clause-row : goal.returns-then-is_critical-clause-r
 returns-then-is_critical-clause-row c = λ x told plan s m t o h runs r arguments call.
     (let q = c.args.next in
     let cpu = c.args.machine.now.cpu in
-    let e = found_here x cpu plan s m t o h.session runs q c.in-Ok.found (end_given (here m t q) arguments) (c.in-Ok.ensures x plan s m t o h.session runs r arguments call q) in
-    (
+    let e = found_here x cpu plan s m t o h.session runs q c.in-Ok.found (end_given (here m t q) arguments) (c.in-Ok.ensures x plan s m t o h.session runs r arguments call q) in (
       cause_is (here m t q) arguments ∙ ap (λ (y : Answer End). y >>= causes (here m t q)) e.is
           ∙ row_critical m t q e.f e.offset e.bits (sym (c.is_critical.ensures x plan s m t o h.session runs) ∙ c.if-is_critical.true),
       refl,

@@ -1,4 +1,4 @@
-use Rattle.std.proofs.Common.{◌≡◌, ◌≢◌, ℕ, [], List, length, true, false, Ok, refl, sym, ◌∙◌, ap, arith, subst}
+use Rattle.std.proofs.Common.{◌≡◌, ◌≢◌, ℕ, [], List, length, refl, sym, ◌∙◌, ap}
 use Rattle.std.proofs.lemmas.Option.{same_Some, slice_get_within}
 use Rattle.b67_lemmas.proofs.Members.{length_change}
 use Rattle.b67_word.specs.Tagged.{Tagged, word}
@@ -46,8 +46,7 @@ returns-then-bits-eq0-clause-row c = λ x told plan s m t o h runs r arguments c
     let cpu = c.args.machine.now.cpu in
     let e = found_here x cpu plan s m t o h.session runs q c.in-Ok.found (end_given (here m t q) arguments) (c.in-Ok.ensures x plan s m t o h.session runs r arguments call q) in
     let same = same_Some c.get.result (word 0 e.bits) (sym c.get.ensures ∙ e.cell.there) in
-    let zero : e.bits ≡ 0 = ap (λ (w : Tagged). w.bits) (sym same) ∙ sym c.bits.ensures.value ∙ c.if-bits-eq0.true in
-    (
+    let zero : e.bits ≡ 0 = ap (λ (w : Tagged). w.bits) (sym same) ∙ sym c.bits.ensures.value ∙ c.if-bits-eq0.true in (
       record {
         condition = State.WaitsAt e.f e.offset;
         is = wait_is (here m t q) arguments ∙ ap (λ (y : Answer End). y >>= waits_at (here m t q)) e.is ∙ wait_zero x cpu plan s m t o h.session runs q e.f e.offset e.bits zero;
@@ -68,8 +67,7 @@ returns-then-is_critical-clause-row c = λ x told plan s m t o h runs r argument
     let cpu = c.args.machine.now.cpu in
     let e = found_here x cpu plan s m t o h.session runs q c.in-Ok.found (end_given (here m t q) arguments) (c.in-Ok.ensures x plan s m t o h.session runs r arguments call q) in
     let same = same_Some c.get.result (word 0 e.bits) (sym c.get.ensures ∙ e.cell.there) in
-    let some : e.bits ≢ 0 = λ z. c.if-bits-eq0.false (c.bits.ensures.value ∙ ap (λ (w : Tagged). w.bits) same ∙ z) in
-    (
+    let some : e.bits ≢ 0 = λ z. c.if-bits-eq0.false (c.bits.ensures.value ∙ ap (λ (w : Tagged). w.bits) same ∙ z) in (
       wait_is (here m t q) arguments ∙ ap (λ (y : Answer End). y >>= waits_at (here m t q)) e.is ∙ wait_other x cpu plan s m t o h.session runs q e.f e.offset e.bits some
           ∙ answers_critical m t q [] (sym (c.is_critical.ensures x plan s m t o h.session runs) ∙ c.if-is_critical.true),
       refl,

@@ -1,4 +1,4 @@
-use Rattle.std.proofs.Common.{◌≡◌, ℕ, ◌<◌, ℤ, [], List, length, true, false, SFits, rules, refl, sym, ◌∙◌, ap, arith, subst, w64, to_z, of_z}
+use Rattle.std.proofs.Common.{◌≡◌, ℕ, ◌<◌, ℤ, [], List, length, true, false, SFits, rules, refl, sym, ◌∙◌, ap, subst, w64, to_z, of_z}
 use Rattle.std.proofs.lemmas.Int.{to_z-of_z}
 use Rattle.b67_lemmas.proofs.Members.{length_change}
 use Rattle.b67_word.specs.Tagged.{Tagged}
@@ -55,8 +55,7 @@ returns-then-lives-clause-row c = λ x told plan s m t o h runs r arguments call
     let given = sym (c.in-Ok.ensures x plan s m t o h.session runs r arguments call) in
     let has = has_job x told k plan s m t o h runs c.running_job-job.result (c.running_job-job.ensures x told plan s m t o h runs) in
     let there : is_live m.progress.job (to_z w64 (of_z w64 c.in-Ok.number)) ≡ true = sym (c.lives.ensures plan s m has) ∙ c.if-lives.true in
-    let live = live_number plan s m t o runs (to_z w64 (of_z w64 c.in-Ok.number)) there in
-    (
+    let live = live_number plan s m t o runs (to_z w64 (of_z w64 c.in-Ok.number)) there in (
       record {
         condition = State.Awaits live.number;
         is = await_waits (here m t c.args.next) arguments c.in-Ok.number given live.number (sym e ∙ live.is) (ap (is_live m.progress.job) (sym e) ∙ there);

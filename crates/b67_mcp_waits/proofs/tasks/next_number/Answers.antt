@@ -1,1 +1,0 @@
-use Rattle.b67_mcp_waits.proofs.tasks.next_number.Goals as goal

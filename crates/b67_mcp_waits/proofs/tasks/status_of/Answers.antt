@@ -1,7 +1,7 @@
-use Rattle.std.proofs.Common.{◌≡◌, ℕ, ◌<◌, ◌^◌, ℤ, [], ◌∷◌, List, length, None, true, false, SFits, rules, refl, sym, ◌∙◌, ap, arith, subst, w64, to_z, of_z}
+use Rattle.std.proofs.Common.{◌≡◌, ◌<◌, ◌^◌, ℤ, [], ◌∷◌, None, SFits, rules, refl, sym, ◌∙◌, ap, arith, w64}
 use Rattle.std.proofs.lemmas.Int.{to_z-of_z}
 use Rattle.b67_lemmas.proofs.Members.{length_change}
-use Rattle.b67_word.specs.Tagged.{Tagged, word}
+use Rattle.b67_word.specs.Tagged.{word}
 use Rattle.b67_model.specs.Answers.{Answer, ◌>>=◌}
 use Rattle.b67_model.specs.Words.{Operand}
 use Rattle.b67_model.specs.State.{Task}
@@ -29,9 +29,11 @@ is_critical-requires c = runs_some c.args.machine.now c.requires.call.runs
 
 pub returns-then-is_critical-clause-row : goal.returns-then-is_critical-clause-row
 returns-then-is_critical-clause-row c = λ x told plan s m t o h runs r arguments call.
-    (let given = sym (c.in-Ok.ensures x plan s m t o h.session runs r arguments call) in
-    (status_is (here m t c.args.next) arguments ∙ ap (λ (a : Answer ℤ). a >>= λ n. answers (here m t c.args.next) m.progress.job (Operand (status_of m.progress.job n) ∷ []) [] None) given
-    ∙ answers_critical m t c.args.next (Operand (status_of m.progress.job c.in-Ok.number) ∷ []) (sym (c.is_critical.ensures x plan s m t o h.session runs) ∙ c.if-is_critical.true), refl))
+    (let given = sym (c.in-Ok.ensures x plan s m t o h.session runs r arguments call) in (
+      status_is (here m t c.args.next) arguments ∙ ap (λ (a : Answer ℤ). a >>= λ n. answers (here m t c.args.next) m.progress.job (Operand (status_of m.progress.job n) ∷ []) [] None) given
+          ∙ answers_critical m t c.args.next (Operand (status_of m.progress.job c.in-Ok.number) ∷ []) (sym (c.is_critical.ensures x plan s m t o h.session runs) ∙ c.if-is_critical.true),
+      refl,
+    ))
 
 pub returns-then-is_critical-clause-keeps : goal.returns-then-is_critical-clause-keeps
 returns-then-is_critical-clause-keeps c = kept_same c.args.machine.now
