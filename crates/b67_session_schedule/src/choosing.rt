@@ -10,7 +10,7 @@ ghost use Rattle.b67_session_schedule.specs.Counted.{choice_of, CountsHaveRoom};
 ghost use Rattle.b67_session_schedule.specs.Chosen.{who_is, turn_lasts, IsReadyAt, RowOf, GoesOnAt, Chooses};
 
 use crate::counting::Chosen;
-use crate::ready::{Who, next_row, ready_row};
+use crate::ready::{Who, next_row, ready_row, ready_row_near};
 use crate::switches::{is_left, switch_to};
 use b67_task_tables::Tasks;
 
@@ -51,7 +51,11 @@ fn last_row(tasks: &Tasks) -> Option<u8>
     ensures inside { IfSome result (λ row. row < length tasks.now.rows.items) }
 {
     if lasts(tasks) {
-        ready_row(tasks.rows.as_slice(), last_of(tasks))
+        ready_row_near(
+            tasks.rows.as_slice(),
+            tasks.running,
+            last_of(tasks),
+        )
     } else {
         None
     }

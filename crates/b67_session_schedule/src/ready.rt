@@ -72,6 +72,18 @@ pub(crate) fn ready_row(rows: &[TaskRow], who: Who) -> Option<u8>
     None
 }
 
+/// The same, looked for at one place first.
+#[inline(always)]
+pub(crate) fn ready_row_near(rows: &[TaskRow], near: u8, who: Who) -> Option<u8>
+    requires { length rows.now ≤ 255 }
+    ensures { ReadyRow rows.now (who_is who) result }
+{
+    if (near as usize) < rows.len() && is_row_of(rows[near as usize], who) {
+        return Some(near);
+    }
+    ready_row(rows, who)
+}
+
 /// The first of two rows in order, where the second is that of a ready task after the last one.
 #[inline(always)]
 fn nearer(rows: &[TaskRow], last: Who, best: Option<u8>, at: u8) -> Option<u8>
