@@ -104,7 +104,7 @@ class Crew:
         return call(8, f"LT8 {self.rng.choice(LENGTHS)}")
 
     def element(self, scope: Scope) -> list[str]:
-        index = self.rng.choice([0] * 8 + [4, 20])
+        index = self.rng.choice([0] * 20 + [4, 20])
         return [f"NAMC {self.rng.choice(scope.arrays)}", f"LT8 {index}", "INDX"]
 
     def print(self, scope: Scope) -> list[str]:
