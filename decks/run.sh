@@ -34,17 +34,11 @@ run() {
 
 passed=0
 failed=0
-unbuilt=0
 for name in "$@"; do
     wanted=0
     [ ! -f "$here/$name/status" ] || wanted=$(cat "$here/$name/status")
     run "$name"
     status=$?
-    if [ $status = 2 ] && grep -q '^DECK [0-9]* REASON 90$' lines; then
-        echo "not built: $name"
-        unbuilt=$((unbuilt + 1))
-        continue
-    fi
     if [ $status = "$wanted" ] && cmp -s lines "$here/$name/stdout" && [ $status != 5 ]; then
         run "$name" 1048575
         status=$?
@@ -61,5 +55,5 @@ for name in "$@"; do
         failed=$((failed + 1))
     fi
 done
-echo "$passed passed, $failed failed, $unbuilt not built"
+echo "$passed passed, $failed failed"
 [ $failed = 0 ]

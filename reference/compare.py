@@ -27,7 +27,6 @@ from small_decks import small_deck
 LEAST_CORE = 256
 GREATEST_CORE = 1_048_575
 TIME_LIMIT = 120
-NOT_BUILT = b"REASON 90\n"
 
 
 @dataclass
@@ -71,8 +70,6 @@ class Comparison:
 
     def judge(self, wanted: Outcome, status: int, printed: bytes) -> str:
         """How the program's answer compares."""
-        if status == 2 and printed.startswith(b"DECK") and printed.endswith(NOT_BUILT):
-            return "not built"
         if (status, printed) == (wanted.status, wanted.text().encode()):
             return "same"
         if status == 5 and printed in full_texts(wanted):

@@ -5,7 +5,8 @@
 prints the deck of a seed. The decks are written by running them: a program
 grows at the place where a task needs an operator that isn't written yet. Some
 operator is tried there. If it faults, nothing was changed, and mostly another
-one is tried. So programs run long, and now and then one ends by a fault.
+one is tried. So programs run long, and now and then one ends by a fault. Some
+decks are of a kind of their own (`closures.py`, `crews.py`).
 """
 
 from __future__ import annotations
@@ -18,6 +19,7 @@ from author import Author, Features, GrowingProgram, GrowingSegment
 from cards import Deck, Job, Switch
 from closures import deck_of_closures
 from codefile import Codefile, Segment
+from crews import deck_of_crews
 from deck_text import broken, text_of_deck
 from loader import BRANCHES, Listing
 from machine import NoCoreError, Task
@@ -30,6 +32,7 @@ from words import Ending, Fault, FaultError
 LONGEST_SEGMENT = 400
 TRIALS = 60
 GREATEST_SIZE = 1 << 24
+CREW_SHARE = 0.5
 
 
 class WritingSession(Session):
@@ -125,6 +128,8 @@ def random_deck(seed: int, features: Features) -> bytes:
     rng = random.Random(f"{seed} {features}")
     if rng.random() < 0.1:
         return deck_of_closures(rng)
+    if features.tasks and rng.random() < CREW_SHARE:
+        return deck_of_crews(rng, lengths=features.lengths, jobs=features.jobs)
     author = Author(rng, features)
     deck = Deck()
     deck.stack = rng.choice([64, 90, 128, 256, 256, 512, 512, 512, 1500])

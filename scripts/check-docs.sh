@@ -8,7 +8,7 @@
 # - a block that begins with ```console holds commands after `$ ` and, after each, exactly what it prints;
 # - a block that begins with ```sh holds commands without their output: each must end with status 0;
 # - a block that begins with a `?` card is the deck of a folder of decks/, and a block of lines that begin with `1.1 `
-#   after it is that deck's stdout;
+#   or `1.2 ` after it is that deck's stdout;
 # - cards in a sentence, as `ZERO / EXIT` gives `1.1 ENDED`, are the outer block of a deck that prints this first.
 # A block after a line <!-- check-docs: skip, WHY --> isn't run, and is listed as such. The program is found as `b67`
 # and as crates/b67/out/b67. The two lines with a status that `rt try` adds are left out of the comparison. Beside that,
@@ -82,7 +82,7 @@ for document in "$@"; do
                     if cmp -s "$folder/stdin" "$room/text"; then deck=$folder; fi
                 done
                 if [ -n "$deck" ]; then passed=$((passed + 1)); else wrong "$name: no deck of decks/"; fi
-            elif head -1 "$room/text" | grep -q '^1\.1 '; then
+            elif head -1 "$room/text" | grep -q '^1\.[12] '; then
                 if [ -n "$deck" ] && cmp -s "$deck/stdout" "$room/text"; then passed=$((passed + 1)); else wrong "$name: not what ${deck:-no deck} prints"; fi
             fi
             ;;
