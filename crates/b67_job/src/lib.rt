@@ -10,6 +10,8 @@ mod planning;
 mod ranges;
 mod runs;
 #[cfg(test)]
+mod tasks;
+#[cfg(test)]
 mod tests;
 mod top;
 #[cfg(test)]
