@@ -5,3 +5,4 @@ pub mod Limits
 pub mod First
 pub mod Deepest
 pub mod Halves
+pub mod Runs

@@ -1,10 +1,11 @@
 -- The task that makes the next step, and the laws of this crate.
-use Rattle.std.specs.Prelude.{◌≡◌, ℕ, List, Option, Some, None}
+use Rattle.std.specs.Prelude.{◌≡◌, ℕ, List, map, Option, Some, None}
 use Rattle.b67_model.specs.Alone.{JobMoment, moment_with}
 use Rattle.b67_model.specs.Endings.{Stepped}
 use Rattle.b67_model.specs.Keyed.{keyed}
 use Rattle.b67_model.specs.InOrder.{IsInOrderButPlaces}
-use Rattle.b67_model.specs.Run.{StepResult, with_moment, of_job, number_of}
+use Rattle.b67_model.specs.Steps.{Line}
+use Rattle.b67_model.specs.Run.{RunLine, StepResult, with_moment, of_job, number_of}
 use Rattle.b67_model.specs.Schedule.{Session, Choice, choice}
 use Rattle.b67_model.specs.State.{Ready, Task, SessionJob}
 use Rattle.b67_law_order_steps.specs.Weaker.{AllOtherNumbers}
@@ -23,6 +24,10 @@ abbrev pub part_of : Session → Choice → SessionJob → Task → Stepped → 
 part_of s c m t made =
     let moment : JobMoment = moment_with m.progress t made made.settled in
     record { session = with_moment s c m moment; lines = of_job c.who.job moment.lines }
+
+-- the lines of what a step of a task prints
+abbrev pub task_lines : SessionJob → Task → List Line → List RunLine
+task_lines m t printed = of_job m.constants.number (map (λ line. (t.number, line)) printed)
 
 -- ---- laws
 

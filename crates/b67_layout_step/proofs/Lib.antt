@@ -2,7 +2,6 @@ pub mod Alike
 pub mod Paged
 pub mod Renumbered
 pub mod Counted
-pub mod Stepped
 pub mod Words
 pub mod Rows
 pub mod Laws

@@ -16,9 +16,12 @@ use Rattle.b67_layout.specs.Meets.{here}
 use Rattle.b67_layout.proofs.Fresh.{running_in_order, critical-below, fresh}
 use Rattle.b67_layout.proofs.Replaces.{IsDependedOn}
 use Rattle.b67_layout_leave.proofs.Leaves.{depended_apart}
-use Rattle.b67_layout_step.proofs.Stepped.{CallsNone}
 use Rattle.b67_session_make.proofs.Places.{AllSame}
 use Rattle.b67_session_make.proofs.Keeps.{row_keeps}
+
+-- the operator at the task's place calls no intrinsic
+abbrev pub CallsNone : SessionJob → Task → Type 0
+CallsNone m t = (read : Op × Place) → reading_of m.constants t ≡ Ok read → called read.0 (here m t read.1) ≡ None
 
 -- the job afterwards, but for its arrays and its next frame and array
 pub record JobKept (m : SessionJob) (t : Task) (after : Job) : Type 0 where
