@@ -1,6 +1,6 @@
 //! The task that a call of PROCESS asks for.
 
-ghost use Rattle.std.specs.Prelude.{◌≡◌, ℕ, ◌+◌, ◌<◌, ◌^◌, List, ◌∷◌, ◌++◌, length, take};
+ghost use Rattle.std.specs.Prelude.{◌≡◌, ℕ, ◌+◌, ◌<◌, ◌≤◌, ◌^◌, List, ◌∷◌, ◌++◌, length, take};
 ghost use Rattle.std.specs.List.{list_any};
 ghost use Rattle.b67_word.specs.declared.couples.Place.{Place};
 ghost use Rattle.b67_model.specs.Words as words;
@@ -54,7 +54,7 @@ fn is_original(cpu: &Cpu, w: Word) -> bool
 /// Whether an original is among the `count` top cells.
 fn any_original(cpu: &Cpu, count: u32) -> bool
     requires { HasCells cpu.now count }
-    ensures { ForEach cpu.now (λ x plan s m t. result ≡ list_any original (take count (cells t))) }
+    ensures { ForEach cpu.now (λ x plan s m t. count ≤ length (cells t) → result ≡ list_any original (take count (cells t))) }
 {
     for above in 0..count {
         let w = cell_under(cpu, above);
