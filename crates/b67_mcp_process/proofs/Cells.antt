@@ -6,6 +6,7 @@ use Rattle.std.proofs.lemmas.List.{length-map}
 use Rattle.std.proofs.lemmas.Option.{same_Some}
 use Rattle.b67_word.specs.Tagged.{Tagged}
 use Rattle.b67_ctl.specs.Layout.{bit}
+use Rattle.b67_word.specs.declared.couples.Place.{Place}
 use Rattle.b67_ctl.specs.declared.descriptors.DataDesc.{DataDesc}
 use Rattle.b67_ctl.specs.Descriptors.{data_word, IsDataDesc}
 use Rattle.b67_lemmas.specs.Lists.{Has}
@@ -25,7 +26,8 @@ use Rattle.b67_layout.specs.Placement.{Placement}
 use Rattle.b67_layout.specs.Layout.{machine_view}
 use Rattle.b67_layout.specs.Session.{IsRunning, RepresentsSession}
 use Rattle.b67_layout.proofs.Fresh.{running_in_order}
-use Rattle.b67_refer.specs.RunningContext.{live_of}
+use Rattle.b67_refer.specs.RunningContext.{RunningContext, live_of}
+use Rattle.b67_entry_enter.specs.Procedures.{ReachesProc}
 use Rattle.b67_refer.proofs.Links.{Described, own, row, item, described}
 use Rattle.b67_exec_cells.specs.Tops.{IsWordOf, cells}
 use Rattle.b67_exec_cells.proofs.Put as Put
@@ -97,3 +99,7 @@ module _ (x : Storage) (cpu : Cpu) (plan : Placement) (s : Session) (m : Session
     -- by the descriptor that is read
     pub copy_tells : (five : w.tag ≡ 5) (d : DataDesc) → IsDataDesc d → w ≡ data_word d → ((e : DataDesc) → IsDataDesc e → w ≡ data_word e → Some d ≡ Some e) → not d.copy ≡ is_original v
     copy_tells five d fits is known = by_desc d (desc_is x cpu plan s m t ordered h runs w v i five d fits is known)
+
+-- a slot's size in the registers is that of a stack
+pub sizes : (cpu : Cpu) (a : RunningContext cpu.core cpu.regs) (q : Place) (at f segment level : ℕ) (place : Place) → ReachesProc cpu a q at f segment level place → cpu.regs.stack_size ≡ a.member.constants.stack_size
+sizes cpu a q at f segment level place e = e.stands.holds.memory.slots.regs.size ∙ sym (Put.size-is a.storage cpu a.plan a.session a.member a.task e.ordered e.stands a.running)

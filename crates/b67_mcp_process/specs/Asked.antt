@@ -40,9 +40,9 @@ abbrev pub admits : OperatorContext → ℕ → ℕ → ℕ → Answer (Unit {0}
 admits h environment level count = needs_level h environment level >> (needs (nat_le (3 + count) h.constants.stack_size) StackOverflow >> needs_free h)
 
 -- it may, or there is a fault
-abbrev pub AdmitMeets : Answer (Unit {0}) → Result (Unit {0}) Fault → Type 0
-AdmitMeets answer (Ok done) = answer ≡ Ok tt
-AdmitMeets answer (Err fault) = answer ≡ Err fault
+abbrev pub AdmitMeets : ℕ → ℕ → Answer (Unit {0}) → Result Asked Fault → Type 0
+AdmitMeets cell count answer (Ok asked) = (asked ≡ record { cell = cell; count = count }) × (answer ≡ Ok tt)
+AdmitMeets cell count answer (Err fault) = answer ≡ Err fault
 
 -- PROCESS asks for a task in the procedure of this cell, with copies of so many of the call's words; the call may be cut off
 pub record Asks (plan : Placement) (m : SessionJob) (t : Task) (arguments : List Word) (cell count : ℕ) : Type 0 where

@@ -65,12 +65,12 @@ fn any_original(cpu: &Cpu, count: u32) -> bool
     false
 }
 
-/// Whether a task may be started in the procedure of a cell, with so many words, and the call be cut off; or the fault.
-fn admit(cpu: &Cpu, cell: u32, count: u32) -> Result<(), Fault>
+/// The task in the procedure of a cell, with so many words, if it may be started and the call be cut off; or the fault.
+fn admit(cpu: &Cpu, cell: u32, count: u32) -> Result<Asked, Fault>
     requires procedure { (a : RunningContext cpu.now.core cpu.now.regs) × (q : Place) × (f : ℕ) × (segment : ℕ) × (level : ℕ) × (place : Place) × ReachesProc cpu.now a q cell f segment level place }
     requires count { count < 2 ^ 20 }
     ensures row { (a : RunningContext cpu.now.core cpu.now.regs) (q : Place) (f segment level : ℕ) (place : Place) → ReachesProc cpu.now a q cell f segment level place
-        → AdmitMeets (admits (here a.member a.task q) f level count) result }
+        → AdmitMeets cell count (admits (here a.member a.task q) f level count) result }
 {
     let env = activation_of(&cpu.core, &cpu.regs, cell);
     let procedure = procedure_at(&cpu.core, cell);
@@ -83,7 +83,7 @@ fn admit(cpu: &Cpu, cell: u32, count: u32) -> Result<(), Fault>
     if is_critical(cpu) {
         return Err(Fault::CriticalBlock);
     }
-    Ok(())
+    Ok(Asked { cell, count })
 }
 
 /// The task that a call of PROCESS on the running stack asks for, or the call's fault. Nothing is changed.
@@ -104,10 +104,7 @@ pub fn task_asked(cpu: &Cpu) -> Result<Asked, Fault>
         return Err(Fault::InvalidOperand);
     }
     match chase(&cpu.core, &cpu.regs, &cpu.display, first) {
-        Ok(End::Proc(cell)) => match admit(cpu, cell, count) {
-            Ok(()) => Ok(Asked { cell, count }),
-            Err(fault) => Err(fault),
-        },
+        Ok(End::Proc(cell)) => admit(cpu, cell, count),
         Ok(End::Cell(_)) => Err(Fault::InvalidOperand),
         Ok(End::Element { .. }) => Err(Fault::InvalidOperand),
         Ok(End::Array(_)) => Err(Fault::InvalidOperand),

@@ -6,7 +6,8 @@ use Rattle.b67_layout.specs.Meets.{here}
 use Rattle.b67_refer.specs.declared.activation.Activation.{Activation}
 use Rattle.b67_entry_enter.proofs.Unasked as Unasked
 use Rattle.b67_entry_enter.proofs.Unasked.{pcw_there, pcw_fits, level_small}
-use Rattle.b67_mcp_process.proofs.Rows.{not_level, no_room, is_depended_on, all_three, size_of}
+use Rattle.b67_mcp_process.proofs.Rows.{not_level, no_room, is_depended_on, all_three}
+use Rattle.b67_mcp_process.proofs.Cells.{sizes}
 use Rattle.b67_mcp_process.proofs.asking.admit.Goals as goal
 
 pub activation_of-env-requires : goal.activation_of-env-requires
@@ -45,15 +46,40 @@ returns-then-env-procedure c = record {
 
 pub returns-then-from : goal.returns-then-from
 returns-then-from c = record {
-  row = λ a q f segment level place e. ?;
+  row = λ a q f segment level place e.
+      let now = c.args.cpu.now in
+      let env = c.activation_of-env.ensures a q f segment level place e.procedure in
+      let pcw = c.procedure_at-procedure.ensures (Unasked.pcw now now.regs a q c.args.cell f segment level place e.procedure) (pcw_fits now now.regs a q c.args.cell f segment level place e.procedure) (pcw_there now now.regs a q c.args.cell f segment level place e.procedure) in
+      let one : c.activation_of-env.result.level ≡ level_of_frame (frame (here a.member a.task q) f) = ap (λ (z : Activation). z.level) env in
+      let two : c.procedure_at-procedure.result.level ≡ level = ap (λ (z : Pcw). z.level) pcw in
+      let test : level_of_frame (frame (here a.member a.task q) f) + 1 ≡ level = omega (arith, one, two, c.if-env-procedure.false) in
+      let size = sizes now a q c.args.cell f segment level place e in
+      no_room (here a.member a.task q) f level c.args.count test ?;
 }
 
 pub returns-then-is_critical : goal.returns-then-is_critical
 returns-then-is_critical c = record {
-  row = λ a q f segment level place e. ?;
+  row = λ a q f segment level place e.
+      let now = c.args.cpu.now in
+      let env = c.activation_of-env.ensures a q f segment level place e.procedure in
+      let pcw = c.procedure_at-procedure.ensures (Unasked.pcw now now.regs a q c.args.cell f segment level place e.procedure) (pcw_fits now now.regs a q c.args.cell f segment level place e.procedure) (pcw_there now now.regs a q c.args.cell f segment level place e.procedure) in
+      let one : c.activation_of-env.result.level ≡ level_of_frame (frame (here a.member a.task q) f) = ap (λ (z : Activation). z.level) env in
+      let two : c.procedure_at-procedure.result.level ≡ level = ap (λ (z : Pcw). z.level) pcw in
+      let test : level_of_frame (frame (here a.member a.task q) f) + 1 ≡ level = omega (arith, one, two, c.if-env-procedure.false) in
+      let size = sizes now a q c.args.cell f segment level place e in
+      is_depended_on (here a.member a.task q) f level c.args.count test ? ?;
 }
 
 pub returns : goal.returns
 returns c = record {
-  row = λ a q f segment level place e. ?;
+  row = λ a q f segment level place e.
+      let now = c.args.cpu.now in
+      let env = c.activation_of-env.ensures a q f segment level place e.procedure in
+      let pcw = c.procedure_at-procedure.ensures (Unasked.pcw now now.regs a q c.args.cell f segment level place e.procedure) (pcw_fits now now.regs a q c.args.cell f segment level place e.procedure) (pcw_there now now.regs a q c.args.cell f segment level place e.procedure) in
+      let one : c.activation_of-env.result.level ≡ level_of_frame (frame (here a.member a.task q) f) = ap (λ (z : Activation). z.level) env in
+      let two : c.procedure_at-procedure.result.level ≡ level = ap (λ (z : Pcw). z.level) pcw in
+      let test : level_of_frame (frame (here a.member a.task q) f) + 1 ≡ level = omega (arith, one, two, c.if-env-procedure.false) in
+      let size = sizes now a q c.args.cell f segment level place e in
+      (refl, all_three (here a.member a.task q) f level c.args.count test ? ?);
 }
+
