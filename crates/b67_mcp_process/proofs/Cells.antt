@@ -36,7 +36,7 @@ use Rattle.b67_fetch.specs.Fetches.{IsFollowed}
 use Rattle.b67_fetch.proofs.Values.{here_scene, followed_stands}
 use Rattle.b67_fetch.proofs.Found.{desc_is}
 
-cell_order : (P : Starts) (arrays : List Array) (outer : List Known) (fs : List Frame) (w : Word) → FramesInOrder P arrays outer fs → Has (top fs).cells w → WordInOrder P arrays (map known_of fs ++ outer) (top fs).identity w
+pub cell_order : (P : Starts) (arrays : List Array) (outer : List Known) (fs : List Frame) (w : Word) → FramesInOrder P arrays outer fs → Has (top fs).cells w → WordInOrder P arrays (map known_of fs ++ outer) (top fs).identity w
 cell_order P arrays outer [] w g h = absurd h
 cell_order P arrays outer (f ∷ below) w g h = all_in (WordInOrder P arrays (map known_of (f ∷ below) ++ outer) f.identity) f.cells w g.0.0 h
 

@@ -1,8 +1,8 @@
 -- What the row of PROCESS makes of its arguments.
-use Rattle.std.proofs.Common.{◌≡◌, ◌≢◌, ◌==◌, ℕ, suc, ◌+◌, ◌-◌, ◌<◌, ◌≤◌, List, [], ◌∷◌, ◌++◌, reverse, take, length, Bool, true, false, None, Ok, Err, refl, sym, ◌∙◌, ap, arith, inl, inr, subst}
+use Rattle.std.proofs.Common.{◌≡◌, ◌≢◌, ◌==◌, eqb, ℕ, suc, ◌+◌, ◌-◌, ◌<◌, ◌≤◌, List, [], ◌∷◌, ◌++◌, reverse, take, length, Bool, true, false, None, Ok, Err, refl, sym, ◌∙◌, ap, arith, inl, inr, subst}
 use Rattle.std.specs.Prelude.{nat_le, nat_lt, not, if◌then◌else◌}
 use Rattle.std.specs.List.{AllByRecursion, list_any}
-use Rattle.std.proofs.lemmas.Bool.{cases_Bool, cases_eq, le-leb, leb-true, eqb-true, ne_eqb, eq-eqb, cases_le, false≢true, true≢false}
+use Rattle.std.proofs.lemmas.Bool.{cases_Bool, cases_eq, le-leb, leb-true, eqb-true, ne_eqb, eq-eqb, not-true, false≢true, true≢false}
 use Rattle.std.proofs.lemmas.List.{length-reverse, reverse-reverse}
 use Rattle.b67_word.specs.declared.couples.Place.{Place}
 use Rattle.b67_word.specs.declared.faults.Fault.{Fault}
@@ -93,6 +93,21 @@ module _ (h : OperatorContext) (f level count : ℕ) where
 
       pub all_three : is_critical h.job (top h.task.frames).identity ≡ false → admits h f level count ≡ Ok tt
       all_three c = three_pass _ _ _ InvalidOperand StackOverflow CriticalBlock at_level room (ap not c)
+
+-- what passed tests say
+pub record Admitted (m : SessionJob) (t : Task) (f level count : ℕ) : Type 0 where
+  pub level_is : level_of_frame (frame (here m t t.place) f) + 1 ≡ level
+  pub room : 3 + count ≤ m.constants.stack_size
+  pub free : is_critical m.progress.job (top t.frames).identity ≡ false
+
+pub admitted : (m : SessionJob) (t : Task) (f level count : ℕ) → admits (here m t t.place) f level count ≡ Ok tt → Admitted m t f level count
+admitted m t f level count e =
+    let (one, two, last) = passed (eqb (level_of_frame (frame (here m t t.place) f) + 1) level) (nat_le (3 + count) m.constants.stack_size) (not (is_critical m.progress.job (top t.frames).identity)) InvalidOperand StackOverflow CriticalBlock e in
+    record {
+      level_is = eqb-true (level_of_frame (frame (here m t t.place) f) + 1) level one;
+      room = leb-true (3 + count) m.constants.stack_size two;
+      free = not-true (is_critical m.progress.job (top t.frames).identity) last;
+    }
 
 -- an end that is no procedure
 abbrev pub IsElsewhere : End → Type 0

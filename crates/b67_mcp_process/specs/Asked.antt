@@ -1,10 +1,9 @@
 -- The task that a call of PROCESS asks for.
-use Rattle.std.specs.Prelude.{◌≡◌, ℕ, ◌+◌, ◌<◌, ◌≤◌, nat_lt, nat_le, not, Bool, false, List, [], ◌∷◌, ◌++◌, length, None, Result, Ok, Err, if◌then◌else◌}
-use Rattle.std.specs.List.{list_any}
-use Rattle.b67_word.specs.Tagged.{Tagged}
+use Rattle.std.specs.Prelude.{◌≡◌, ℕ, ◌+◌, ◌<◌, ◌≤◌, nat_lt, nat_le, not, Bool, false, List, [], ◌∷◌, reverse, take, length, None, Result, Ok, Err, if◌then◌else◌}
 use Rattle.b67_word.specs.declared.couples.Place.{Place}
 use Rattle.b67_word.specs.declared.faults.Fault.{Fault}
 use Rattle.b67_word.specs.declared.faults.Fault.TheVariants.{StackOverflow}
+use Rattle.b67_lemmas.specs.Lists.{Has}
 use Rattle.b67_model.specs.Answers.{Answer, ◌>>◌, needs}
 use Rattle.b67_model.specs.Words.{Word, Operand}
 use Rattle.b67_model.specs.State.{Task, Job, SessionJob, OperatorContext, with_task}
@@ -54,7 +53,8 @@ pub record Asks (plan : Placement) (m : SessionJob) (t : Task) (arguments : List
   pub words : List Word
   pub are : arguments ≡ reference ∷ words
   pub count_is : count ≡ length words
-  pub plain : list_any is_original words ≡ false
+  pub copied : take count (cells t) ≡ reverse words
+  pub plain : (w : Word) → Has (take count (cells t)) w → is_original w ≡ false
   pub proc : IsProcCell plan m t cell f segment level place
   pub room : 3 + count ≤ m.constants.stack_size
   pub may : MayCut m t

@@ -89,7 +89,7 @@ fn admit(cpu: &Cpu, cell: u32, count: u32) -> Result<Asked, Fault>
 /// The task that a call of PROCESS on the running stack asks for, or the call's fault. Nothing is changed.
 pub fn task_asked(cpu: &Cpu) -> Result<Asked, Fault>
     requires { CallSome cpu.now }
-    ensures row { ForEach cpu.now (λ x plan s m t. (reference : words.Word) (arguments : List words.Word) → IsCall t reference arguments → AskMeets plan m t arguments result) }
+    ensures { ForEach cpu.now (λ x plan s m t. (reference : words.Word) (arguments : List words.Word) → IsCall t reference arguments → AskMeets plan m t arguments result) }
 {
     let all = count_cells(cpu);
     if all < 2 {

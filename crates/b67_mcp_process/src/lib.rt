@@ -2,6 +2,7 @@
 #![tactic(auto)]
 
 mod asking;
+mod starting;
 
 ghost use Rattle.std.specs.Prelude.{◌≡◌, ◌+◌, Err, length};
 ghost use Rattle.b67_io.specs.Causes.{Rose};
@@ -10,6 +11,8 @@ ghost use Rattle.b67_backing.specs.declared.SpaceFault.TheVariants.{BackingFault
 ghost use Rattle.b67_layout_storage.specs.Machine.{Says, DeviceAfterCalls, content_after};
 ghost use Rattle.b67_mcp_process.specs.Process.{CallsProcess, CanNumber, ForCall, ProcessMeets, ProcessWrites, ProcessFits, ProcessKeeps};
 
+use crate::asking::task_asked;
+use crate::starting::{answer, start_asked, tasks_of_job};
 use b67_backing::{Backing, SpaceFault};
 use b67_task_tables::Machine;
 use b67_word::{Fault, Place};
@@ -38,6 +41,13 @@ pub fn process<B: Backing>(
     ensures cause { result ≡ Err BackingFault → Rose B.faults backing.old backing.new }
     ensures device { DeviceAfterCalls B.holds B.size B.calls B.faults backing.old backing.new }
 {
-    let _ = (machine, next, backing);
-    Ok(Ok(()))
+    let asked = match task_asked(&machine.cpu) {
+        Ok(asked) => asked,
+        Err(fault) => return Ok(Err(fault)),
+    };
+    if tasks_of_job(machine) >= 15 {
+        answer(machine, 0, next);
+        return Ok(Ok(()));
+    }
+    start_asked(machine, asked, next, backing)
 }

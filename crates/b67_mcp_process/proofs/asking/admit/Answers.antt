@@ -1,4 +1,5 @@
 use Rattle.std.proofs.Common.{◌≡◌, ℕ, ◌+◌, ◌∙◌, refl, sym, ap, arith}
+use Rattle.std.proofs.lemmas.Bool.{le-leb, lt-leb}
 use Rattle.b67_ctl.specs.declared.programs.Pcw.{Pcw}
 use Rattle.b67_model.specs.State.{frame}
 use Rattle.b67_model.specs.Environment.{level_of_frame}
@@ -44,8 +45,8 @@ returns-then-env-procedure c = record {
       not_level (here a.member a.task q) f level c.args.count (λ z. c.if-env-procedure.true (omega (arith, one, two, z)));
 }
 
-pub returns-then-from : goal.returns-then-from
-returns-then-from c = record {
+pub returns-then-count-from : goal.returns-then-count-from
+returns-then-count-from c = record {
   row = λ a q f segment level place e.
       let now = c.args.cpu.now in
       let env = c.activation_of-env.ensures a q f segment level place e.procedure in
@@ -54,7 +55,7 @@ returns-then-from c = record {
       let two : c.procedure_at-procedure.result.level ≡ level = ap (λ (z : Pcw). z.level) pcw in
       let test : level_of_frame (frame (here a.member a.task q) f) + 1 ≡ level = omega (arith, one, two, c.if-env-procedure.false) in
       let size = sizes now a q c.args.cell f segment level place e in
-      no_room (here a.member a.task q) f level c.args.count test ?;
+      no_room (here a.member a.task q) f level c.args.count test (lt-leb (3 + c.args.count) a.member.constants.stack_size (omega (arith, c.if-count-from.true, c.from.ensures, size)));
 }
 
 pub returns-then-is_critical : goal.returns-then-is_critical
@@ -67,7 +68,7 @@ returns-then-is_critical c = record {
       let two : c.procedure_at-procedure.result.level ≡ level = ap (λ (z : Pcw). z.level) pcw in
       let test : level_of_frame (frame (here a.member a.task q) f) + 1 ≡ level = omega (arith, one, two, c.if-env-procedure.false) in
       let size = sizes now a q c.args.cell f segment level place e in
-      is_depended_on (here a.member a.task q) f level c.args.count test ? ?;
+      is_depended_on (here a.member a.task q) f level c.args.count test (le-leb (3 + c.args.count) a.member.constants.stack_size (omega (arith, c.if-count-from.false, c.from.ensures, size))) (sym (c.is_critical.ensures a.storage a.plan a.session a.member a.task e.ordered e.stands a.running) ∙ c.if-is_critical.true);
 }
 
 pub returns : goal.returns
@@ -80,6 +81,6 @@ returns c = record {
       let two : c.procedure_at-procedure.result.level ≡ level = ap (λ (z : Pcw). z.level) pcw in
       let test : level_of_frame (frame (here a.member a.task q) f) + 1 ≡ level = omega (arith, one, two, c.if-env-procedure.false) in
       let size = sizes now a q c.args.cell f segment level place e in
-      (refl, all_three (here a.member a.task q) f level c.args.count test ? ?);
+      (refl, all_three (here a.member a.task q) f level c.args.count test (le-leb (3 + c.args.count) a.member.constants.stack_size (omega (arith, c.if-count-from.false, c.from.ensures, size))) (sym (c.is_critical.ensures a.storage a.plan a.session a.member a.task e.ordered e.stands a.running) ∙ c.if-is_critical.false));
 }
 

@@ -29,9 +29,11 @@ loop-above-preserved c = λ x plan s m t o h runs enough.
     let p = split_at (cells t) c.loop-above.above (omega (arith, enough, low)) in
     let is = c.is_original.ensures x plan s m t o h runs p.item (c.cell_under-w.ensures x plan s m t o h runs p.before p.rest p.item p.is p.length_is) in
     let before = c.loop-above.invariant x plan s m t o h runs enough in
-    ap (λ (ws : List Word). list_any is_original ws) p.next ∙ none_more is_original (take c.loop-above.above (cells t)) p.item before (sym is ∙ c.if-is_original.false)
+    let next : c.loop-above.above + 1 ≡ suc c.loop-above.above = omega arith in
+    ap (λ (n : ℕ). list_any is_original (take n (cells t))) next ∙ ap (λ (ws : List Word). list_any is_original ws) p.next ∙ none_more is_original (take c.loop-above.above (cells t)) p.item before (sym is ∙ c.if-is_original.false)
 
 pub returns : goal.returns
 returns c = λ x plan s m t o h runs enough.
     let before = c.loop-above.invariant x plan s m t o h runs enough in
-    ?
+    let end : c.loop-above.above ≡ c.args.count = omega (arith, c.loop-above.auto.above-end, c.loop-above-test.false) in
+    sym (ap (λ (n : ℕ). list_any is_original (take n (cells t))) (sym end) ∙ before)

@@ -7,8 +7,8 @@ use Rattle.b67_mcp_process.proofs.asking.is_original.Goals as goal
 pub returns-then-tag-ne5 : goal.returns-then-tag-ne5
 returns-then-tag-ne5 c = λ x plan s m t o h runs v i. sym (plain_tag x c.args.cpu.now plan s m t o h runs c.args.w v i (λ z. c.if-tag-ne5.true (c.tag.ensures.value ∙ z)))
 
-pub returns-in-Some : goal.returns-in-Some
-returns-in-Some c = λ x plan s m t o h runs v i.
+pub returns : goal.returns
+returns c = λ x plan s m t o h runs v i.
     let told = c.in-Some.ensures.some in
     copy_tells x c.args.cpu.now plan s m t o h runs c.args.w v i (sym c.tag.ensures.value ∙ c.if-tag-ne5.false) c.in-Some.desc told.0 told.1 (λ e fits same. sym c.in-Some.is ∙ c.from_word.ensures.known e fits same)
 
