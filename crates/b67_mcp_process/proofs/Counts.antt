@@ -1,10 +1,11 @@
 -- As many rows are of tasks of a job as tasks of it live.
-use Rattle.std.proofs.Common.{◌≡◌, ◌≢◌, ◌==◌, ℕ, zero, suc, ◌+◌, ◌<◌, ◌≤◌, eqb, List, [], ◌∷◌, ◌++◌, map, flat_map, filter, drop, length, Bool, true, false, refl, sym, ◌∙◌, ap, arith, inl, inr, ⊎_elim, subst, length-append}
+use Rattle.std.proofs.Common.{◌≡◌, ◌≢◌, ◌==◌, ℕ, zero, suc, ◌+◌, ◌<◌, ◌≤◌, eqb, List, [], ◌∷◌, ◌++◌, map, flat_map, filter, drop, length, Bool, true, false, Some, refl, sym, ◌∙◌, ap, arith, inl, inr, ⊎_elim, subst, length-append}
 use Rattle.std.specs.Prelude.{if◌then◌else◌}
 use Rattle.std.proofs.lemmas.Bool.{cases_Bool, cases_eq, eq-eqb, ne_eqb, eqb-true, true≢false}
 use Rattle.std.proofs.lemmas.Bool.Decides.{eqb_tells}
 use Rattle.std.proofs.lemmas.List.{length-map}
-use Rattle.std.specs.List.{get_or}
+use Rattle.std.specs.Prelude.{get_or}
+use Rattle.std.specs.List.{slice_get}
 use Rattle.std.proofs.lemmas.Option.{get_or_from_slice_get}
 use Rattle.b67_lemmas.specs.Lists.{Has}
 use Rattle.b67_lemmas.proofs.Places.{drop-get, get_within}
@@ -25,7 +26,7 @@ use Rattle.b67_task_tables.specs.Tables.{task_row, TasksShow}
 use Rattle.b67_mcp_process.specs.Begins.{counts_for, rows_of_job}
 
 -- the slots of the rows of a job
-slots_in : List TaskRow → ℕ → List ℕ
+abbrev slots_in : List TaskRow → ℕ → List ℕ
 slots_in [] job = []
 slots_in (r ∷ rs) job = if r.job == job then r.slot ∷ slots_in rs job else slots_in rs job
 
@@ -130,3 +131,16 @@ rows_past [] zero job low = refl
 rows_past [] (suc at) job low = refl
 rows_past (r ∷ rs) zero job low = absurd (omega (arith, low))
 rows_past (r ∷ rs) (suc at) job low = rows_past rs at job (omega (arith, low))
+
+-- one row is counted
+pub rows_step : (rs : List TaskRow) (at job : ℕ) (d : TaskRow) (counted live : ℕ) → counted ≡ counts_for (get_or rs at d) job → at < length rs → live + rows_of_job (drop at rs) job ≡ rows_of_job rs job → live ≤ at
+    → (live + counted + rows_of_job (drop (at + 1) rs) job ≡ rows_of_job rs job) × (live + counted ≤ at + 1)
+rows_step rs at job d counted live is low before few =
+    let n = rows_next rs at job d low in
+    let one = counts_low (get_or rs at d) job in
+    (omega (arith, n, is, before), omega (arith, few, is, one))
+
+-- the rows are those of the machine, and the job is that of a row
+pub counted_tasks : (slice items others : List TaskRow) (running : ℕ) (row d : TaskRow) (result : ℕ) → result ≡ rows_of_job slice (get_or others running d).job → slice ≡ items → slice_get others running ≡ Some row → result ≡ rows_of_job items row.job
+counted_tasks slice items others running row d result is same there =
+    is ∙ ap (λ (l : List TaskRow). rows_of_job l (get_or others running d).job) same ∙ ap (λ (z : TaskRow). rows_of_job items z.job) (get_or_from_slice_get others running row d there)

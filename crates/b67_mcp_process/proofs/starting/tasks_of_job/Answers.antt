@@ -1,13 +1,13 @@
 use Rattle.std.proofs.Common.{◌≡◌, ◌+◌, ◌≤◌, List, length, refl, sym, ◌∙◌, ap, arith}
 use Rattle.std.specs.List.{slice_get}
-use Rattle.std.proofs.lemmas.Option.{get_or_from_slice_get, slice_get_within}
+use Rattle.std.proofs.lemmas.Option.{slice_get_within}
 use Rattle.b67_lemmas.proofs.Members.{keyed_has}
 use Rattle.b67_model.specs.Run.{number_of}
 use Rattle.b67_task_start.proofs.Rows.{rows_few}
 use Rattle.b67_task_tables.specs.declared.tables.TaskRow.{TaskRow}
 use Rattle.b67_exec_calls.proofs.Rows.{row_of}
 use Rattle.b67_mcp_process.specs.Begins.{rows_of_job}
-use Rattle.b67_mcp_process.proofs.Counts.{rows_are}
+use Rattle.b67_mcp_process.proofs.Counts.{counted_tasks, rows_are}
 use Rattle.b67_mcp_process.proofs.starting.tasks_of_job.Goals as goal
 
 pub bounds-deref-machine : goal.bounds-deref-machine
@@ -28,8 +28,6 @@ pub returns : goal.returns
 returns c = λ x told plan s m t o h runs.
     (let k = c.args.machine.now in
     let r = row_of x k.cpu k.tasks plan s m t o h.session h.tables runs in
-    let is = get_or_from_slice_get c.deref.result.now k.tasks.running r.row _ (ap (λ (l : List TaskRow). slice_get l k.tasks.running) c.deref.ensures.0 ∙ r.at) in
-    c.rows_of.ensures
-    ∙ ap (λ (l : List TaskRow). rows_of_job l _) c.as_slice.ensures.value
-    ∙ ap (rows_of_job k.tasks.rows.items) (ap (λ (z : TaskRow). z.job) is ∙ r.job)
+    counted_tasks c.as_slice.result.now k.tasks.rows.items c.deref.result.now k.tasks.running r.row _ c.rows_of.result c.rows_of.ensures c.as_slice.ensures.value (ap (λ (l : List TaskRow). slice_get l k.tasks.running) c.deref.ensures.0 ∙ r.at)
+    ∙ ap (rows_of_job k.tasks.rows.items) r.job
     ∙ rows_are k.tasks plan s m o h.session.holds.fits.rows (keyed_has number_of m.constants.number s.jobs m runs.member).0 h.tables)
