@@ -39,7 +39,7 @@ use Rattle.b67_task_tables.specs.Tables.{MachineRepresents}
 use Rattle.b67_mcp_process.specs.Asked.{job_started, job_full, answer_by, Asks}
 use Rattle.b67_mcp_process.specs.Begins.{StandsMoved}
 use Rattle.b67_mcp_process.specs.Process.{CanNumber, StartsOne, IsProcessed, IsStopped, IsStoppedShort, ProcessMeets, ProcessWrites, ProcessFits}
-use Rattle.b67_mcp_process.proofs.Begins.{taken_low, slot_inside}
+use Rattle.b67_mcp_process.proofs.Begins.{slot_inside}
 
 taken_within : {A : Type 0} (xs : List A) (n : ℕ) → length (take n xs) ≤ length xs
 taken_within xs zero = omega arith
@@ -128,3 +128,6 @@ pub fits_by : (core : ℕ) (s : Session) (m : SessionJob) (t : Task) (next : Pla
 fits_by core s m t next asked (NoCore need size) low = tt
 fits_by core s m t next asked (BackingFull wants free) low = low
 fits_by core s m t next asked BackingFault low = low
+
+pub same_fault : (f g : SpaceFault) → ◌≡◌ {A = Result (Result (Unit {0}) Fault) SpaceFault} (Err f) (Err g) → f ≡ g
+same_fault f g e = cc

@@ -1,4 +1,4 @@
-use Rattle.std.proofs.Common.{◌≡◌, ◌<◌, ◌≤◌, refl, sym, ◌∙◌, ap, arith}
+use Rattle.std.proofs.Common.{◌≡◌, ◌<◌, ◌≤◌, length, refl, sym, ◌∙◌, ap, arith}
 use Rattle.b67_layout_storage.proofs.Devices.{Served-none}
 use Rattle.b67_mcp_process.proofs.Moved.{content_same}
 use Rattle.b67_mcp_process.proofs.Starts.{starts_none, answered_none}
@@ -35,14 +35,14 @@ answer-requires-clause-call g c =
 pub returns-then-tasks_of_job-ge15-clause-row : goal.returns-then-tasks_of_job-ge15-clause-row
 returns-then-tasks_of_job-ge15-clause-row g c = λ x told plan s m t o h runs r arguments call says.
     (let a = c.in-Ok.ensures x plan s m t o h.session runs r arguments call in
-    let many = omega (arith, c.if-tasks_of_job-ge15.true, c.tasks_of_job.ensures x told plan s m t o h runs) in
+    let many : 15 ≤ length m.progress.job.tasks = omega (arith, c.if-tasks_of_job-ge15.true, c.tasks_of_job.ensures x told plan s m t o h runs) in
     answered_none plan m t arguments c.in-Ok.asked.cell c.in-Ok.asked.count a many c.args.next x told _ s o c.answer.new.machine (content_same told (g.B.Backing.holds c.args.backing.now) says)
     (c.answer.ensures.stands x told plan s m t o h runs a.may))
 
 pub returns-then-tasks_of_job-ge15-clause-fits : goal.returns-then-tasks_of_job-ge15-clause-fits
 returns-then-tasks_of_job-ge15-clause-fits g c = λ x told plan s m t o h runs r arguments call. λ w.
     (let a = c.in-Ok.ensures x plan s m t o h.session runs r arguments call in
-    let many = omega (arith, c.if-tasks_of_job-ge15.true, c.tasks_of_job.ensures x told plan s m t o h runs) in
+    let many : 15 ≤ length m.progress.job.tasks = omega (arith, c.if-tasks_of_job-ge15.true, c.tasks_of_job.ensures x told plan s m t o h runs) in
     absurd (starts_none plan m t arguments c.in-Ok.asked.cell c.in-Ok.asked.count a many c.args.next w))
 
 pub returns-then-tasks_of_job-ge15-clause-device : goal.returns-then-tasks_of_job-ge15-clause-device

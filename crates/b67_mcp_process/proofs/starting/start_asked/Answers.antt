@@ -1,5 +1,5 @@
 use Rattle.std.proofs.Common.{◌≡◌, ◌≢◌, ℕ, ◌+◌, ◌≤◌, ◌<◌, List, length, Option, None, Err, refl, sym, ◌∙◌, ap, arith, subst}
-use Rattle.b67_backing.specs.declared.SpaceFault.TheVariants.{NoCore}
+use Rattle.b67_backing.specs.declared.SpaceFault.TheVariants.{NoCore, BackingFault}
 use Rattle.b67_layout.specs.Layout.{machine_view}
 use Rattle.b67_layout_storage.specs.Machine.{content_after}
 use Rattle.b67_layout_storage.proofs.Devices.{Served-none}
@@ -7,7 +7,7 @@ use Rattle.b67_layout_storage.proofs.Untold.{untold}
 use Rattle.b67_presence.proofs.Shortage.{short_of}
 use Rattle.b67_task_start.specs.Opening.{slot_end}
 use Rattle.b67_mcp_process.proofs.Moved.{silent, seen_over, stands_moved}
-use Rattle.b67_mcp_process.proofs.Starts.{starts_one, processed, may_start, stopped, writes, fits_by}
+use Rattle.b67_mcp_process.proofs.Starts.{starts_one, processed, may_start, stopped, writes, fits_by, same_fault}
 use Rattle.b67_mcp_process.proofs.starting.start_asked.Goals as goal
 
 pub need-words-requires-clause-runs : goal.need-words-requires-clause-runs
@@ -136,4 +136,4 @@ returns-in-Err-clause-kept g c =
     record { keeps = record { core = a.len; sectors = a.count; halt = refl; names = refl }; countable = λ all. all; printed = refl }
 
 pub returns-in-Err-clause-cause : goal.returns-in-Err-clause-cause
-returns-in-Err-clause-cause g c = λ e. c.claim.ensures.cause (c.in-Err.is ∙ ?)
+returns-in-Err-clause-cause g c = λ e. c.claim.ensures.cause (c.in-Err.is ∙ ap Err (same_fault c.in-Err.fault BackingFault e))
