@@ -9,6 +9,7 @@ use Rattle.b67_area.specs.declared.kinds.Kind.TheVariants as kind
 use Rattle.b67_backing.specs.declared.refusals.SpaceFault.{SpaceFault}
 use Rattle.b67_backing.specs.declared.refusals.SpaceFault.TheVariants as space
 use Rattle.b67_model.specs.Answers.{Answer}
+use Rattle.b67_model.specs.Words.{Word}
 use Rattle.b67_model.specs.State.{Task, SessionJob}
 use Rattle.b67_model.specs.Steps.{Done, Goes}
 use Rattle.b67_model.specs.Need.{touched_of, started_by, need}
@@ -24,7 +25,7 @@ use Rattle.b67_layout.specs.Session.{IsRunning}
 use Rattle.b67_layout.specs.Meets.{here, area_held}
 use Rattle.b67_exec_cells.proofs.Replaced.{array_object-has}
 use Rattle.b67_exec_cells.specs.Running.{code_area}
-use Rattle.b67_task_need.specs.Needing.{need_with, touched_words, HasWords}
+use Rattle.b67_task_need.specs.Needing.{need_with, touched_words, HasWords, StandsInOrder}
 use Rattle.b67_task_need.proofs.Needs.{need_whole}
 use Rattle.b67_task_tables.specs.declared.tables.Machine.{Machine}
 use Rattle.b67_task_tables.specs.Tables.{MachineRepresents}
@@ -89,6 +90,12 @@ module _ (x : Storage) (told : Option (List (List ℕ))) (k : Machine) (plan : P
       ∙ ap C (le-ltb core base (base_fits code))
       ∙ ap (λ (n : ℕ). need_with s m t n (touched_words m.progress.job touched)) one
       ∙ ap (λ (q : Option ℕ). need_with s m t 1 (touched_words m.progress.job q)) none
+
+  -- the machine stands for some session where the task wasn't started
+  pub process_stands : (next : Place) (arguments : List Word) (after : Option (List (List ℕ))) (new : Machine) (fault : SpaceFault) → ProcessMeets after plan s m t next arguments (Err fault) k new → StandsInOrder new
+  process_stands next arguments after new (space.NoCore words size) g = subst StandsInOrder (sym g.1) (record { storage = x; told = told; plan = plan; session = s; ordered = o; stands = h })
+  process_stands next arguments after new (space.BackingFull wants free) g = record { storage = g.stopped.storage; told = after; plan = plan; session = s; ordered = o; stands = g.stopped.stands }
+  process_stands next arguments after new space.BackingFault g = record { storage = g.storage; told = after; plan = plan; session = s; ordered = o; stands = g.stands }
 
   -- the call of PROCESS, at the place behind it
   module _ (c : Calling m t 12) where

@@ -1,5 +1,5 @@
 -- A call of an intrinsic but 12 to 16 starts no task; and the session where none is started.
-use Rattle.std.proofs.Common.{◌≡◌, ℕ, ◌+◌, ◌-◌, ◌≤◌, List, [], ◌∷◌, replicate, length, Option, None, Ok, Err, refl, sym, ◌∙◌, ap, arith, subst}
+use Rattle.std.proofs.Common.{◌≡◌, ℕ, ◌+◌, ◌-◌, ◌≤◌, List, [], ◌∷◌, replicate, length, Option, None, Ok, Err, refl, sym, ◌∙◌, ap, arith, subst, true, Some}
 use Rattle.std.specs.Prelude.{max}
 use Rattle.b67_model.specs.Answers.{Answer}
 use Rattle.b67_model.specs.Words.{Word, Operand, Original, whole}
