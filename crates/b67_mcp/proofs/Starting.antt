@@ -111,7 +111,7 @@ module _ (x : Storage) (told : Option (List (List ℕ))) (k : Machine) (plan : P
     process_stops after count new (space.NoCore words size) stop code links is g =
         let S : Stop → Type 0 = λ z. SilentMeets after count plan s m t (Err z) k new in
         let need_is = need_started code (starts g.0.starts) in
-        subst S (sym is) (record { starts = starts g.0.starts; words_is = g.0.need_is ∙ sym need_is; size_is = g.0.core_is; exceeds = g.0.exceeds }, g.1)
+        subst S (sym is) (record { starts = starts g.0.starts; words_is = g.0.need_is ∙ sym need_is; size_is = g.0.core_is; exceeds = (let above = g.0.exceeds in let is = g.0.core_is in omega (arith, above, is)) }, g.1)
     process_stops after count new (space.BackingFull wants free) stop code links (sum, size, is, sums, size_is) g =
         let S : Stop → Type 0 = λ z. SilentMeets after count plan s m t (Err z) k new in
         let w = g.stopped in

@@ -95,27 +95,27 @@ returns-in-18-clause-causes g c = record { printer = record { later = omega arit
 
 pub returns-in-8-clause-fits : goal.returns-in-8-clause-fits
 returns-in-8-clause-fits g c = λ x told plan s m t o h runs code called.
-    fits_never (length c.args.machine.now.cpu.core) s m t (never_starts m t (call_starts m t 8 (calling m t 8 (called ∙ ap Some c.in-8.is)) (inl (omega arith)))) _
+    fits_never (length c.args.machine.now.cpu.core) s m t (never_starts m t (call_starts m t 8 (calling m t 8 (called ∙ ap Some c.in-8.is)) (inl (omega arith)))) (Ok c.silent.result)
 
 pub returns-in-9-clause-fits : goal.returns-in-9-clause-fits
 returns-in-9-clause-fits g c = λ x told plan s m t o h runs code called.
-    fits_never (length c.args.machine.now.cpu.core) s m t (never_starts m t (call_starts m t 9 (calling m t 9 (called ∙ ap Some c.in-9.is)) (inl (omega arith)))) _
+    fits_never (length c.args.machine.now.cpu.core) s m t (never_starts m t (call_starts m t 9 (calling m t 9 (called ∙ ap Some c.in-9.is)) (inl (omega arith)))) c.print.result
 
 pub returns-in-10-clause-fits : goal.returns-in-10-clause-fits
 returns-in-10-clause-fits g c = λ x told plan s m t o h runs code called.
-    fits_never (length c.args.machine.now.cpu.core) s m t (never_starts m t (call_starts m t 10 (calling m t 10 (called ∙ ap Some c.in-10.is)) (inl (omega arith)))) _
+    fits_never (length c.args.machine.now.cpu.core) s m t (never_starts m t (call_starts m t 10 (calling m t 10 (called ∙ ap Some c.in-10.is)) (inl (omega arith)))) c.print_row.result
 
 pub returns-in-11-clause-fits : goal.returns-in-11-clause-fits
 returns-in-11-clause-fits g c = λ x told plan s m t o h runs code called.
-    fits_never (length c.args.machine.now.cpu.core) s m t (never_starts m t (call_starts m t 11 (calling m t 11 (called ∙ ap Some c.in-11.is)) (inl (omega arith)))) _
+    fits_never (length c.args.machine.now.cpu.core) s m t (never_starts m t (call_starts m t 11 (calling m t 11 (called ∙ ap Some c.in-11.is)) (inl (omega arith)))) (Ok c.silent-in-11.result)
 
 pub returns-in-17-clause-fits : goal.returns-in-17-clause-fits
 returns-in-17-clause-fits g c = λ x told plan s m t o h runs code called.
-    fits_never (length c.args.machine.now.cpu.core) s m t (never_starts m t (call_starts m t 17 (calling m t 17 (called ∙ ap Some c.in-17.is)) (inr (omega arith)))) _
+    fits_never (length c.args.machine.now.cpu.core) s m t (never_starts m t (call_starts m t 17 (calling m t 17 (called ∙ ap Some c.in-17.is)) (inr (omega arith)))) (Ok c.silent-in-17.result)
 
 pub returns-in-18-clause-fits : goal.returns-in-18-clause-fits
 returns-in-18-clause-fits g c = λ x told plan s m t o h runs code called.
-    fits_never (length c.args.machine.now.cpu.core) s m t (never_starts m t (call_starts m t 18 (calling m t 18 (called ∙ ap Some c.in-18.is)) (inr (omega arith)))) _
+    fits_never (length c.args.machine.now.cpu.core) s m t (never_starts m t (call_starts m t 18 (calling m t 18 (called ∙ ap Some c.in-18.is)) (inr (omega arith)))) c.resize.result
 
 pub returns-in-12-clause-row : goal.returns-in-12-clause-row
 returns-in-12-clause-row g c = λ x told plan s m t o h runs code called says.
