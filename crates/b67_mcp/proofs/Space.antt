@@ -29,8 +29,8 @@ use Rattle.b67_exec_cells.specs.Running.{code_area}
 use Rattle.b67_exec_cells.proofs.Codes.{code_object}
 use Rattle.b67_task_need.specs.Needing.{array_area, need_with}
 use Rattle.b67_task_need.proofs.Needs.{follow_all}
-use Rattle.b67_session_attempt.specs.Fits.{HasSpace, PresentFits}
-use Rattle.b67_session_attempt.proofs.Areas.{one_fits, two_fit}
+use Rattle.b67_mcp.specs.Spaces.{HasSpace, PresentFits}
+use Rattle.b67_mcp.proofs.Areas.{one_fits, two_fit}
 
 -- an array is no segment
 not_code : (b : Bool) → kind.Code ≡ (if b then kind.Array else kind.Row) → ⊥
