@@ -32,7 +32,6 @@ module _ (known told : Option (List (List ℕ))) (k : Machine) (says : Says know
   by_answer exact core count n steps s is_due (Err stops.BackingFault) meets = lives s meets.0.member meets.0.task meets.0.stands meets.0.next
   by_answer exact core count n steps s is_due (Err stops.PrintFault) (proper, inl (b, room)) = lives s b.member b.task b.stands b.next
   by_answer exact core count n steps s is_due (Err stops.PrintFault) (proper, inr (part, h)) = limited s part h
-  by_answer exact core count n steps s is_due (Err stops.Unbuilt) meets = lives s meets.0.member meets.0.task meets.0.stands meets.0.next
 
 pub open_again : {K : Type 0} (taken : K → Option (List ℕ)) (known told : Option (List (List ℕ))) (exact : Type 0) (count n : ℕ) (first : Session) (answered : Result Progress Stop) (old new : Machine) (paper paper' : K)
     → Says known told → AreCountable new.tasks.jobs → Slices taken known exact count n first answered old new paper paper' → IsOpen told new
