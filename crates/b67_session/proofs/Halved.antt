@@ -1,5 +1,5 @@
 -- A step whose operator was made, or whose task has ended, once it is counted: its first part.
-use Rattle.std.proofs.Common.{◌≡◌, ◌≢◌, ℕ, ◌+◌, ◌<◌, ◌≤◌, List, [], ◌∷◌, ◌++◌, length, map, Option, Some, None, Result, Ok, Err, refl, sym, ap, ◌∙◌, subst, arith, inl, inr}
+use Rattle.std.proofs.Common.{◌≡◌, ◌≢◌, ℕ, ◌+◌, ◌-◌, ◌<◌, ◌≤◌, List, [], ◌∷◌, ◌++◌, length, map, Option, Some, None, Result, Ok, Err, refl, sym, ap, ◌∙◌, subst, arith, inl, inr}
 use Rattle.std.specs.Option.{option_or}
 use Rattle.b67_word.specs.declared.faults.Ending.{Ending}
 use Rattle.b67_word.specs.declared.faults.Ending.TheVariants.{Ended, Parent, Deadlock, Limit, Faulted}
@@ -48,7 +48,7 @@ use Rattle.b67_session_ends.specs.Closing.{StandsChosen, ChoseSome}
 use Rattle.b67_session_ends.specs.Counts.{IsCounted}
 use Rattle.b67_session_ends.specs.Ends.{StandsFor, StandsBetween}
 use Rattle.b67_session_waits.specs.Holds.{holding, HoldsSo, HoldsSome}
-use Rattle.b67_session_waits.proofs.Order.{waits_settle}
+use Rattle.b67_session_waits.proofs.Waits.{waits_settle}
 use Rattle.b67_session.specs.Slices.{Prints, NextFits}
 use Rattle.b67_session.proofs.Between.{IsHalfMade}
 use Rattle.b67_session.proofs.Lively.{Stays, rows_stay}
@@ -242,7 +242,7 @@ module _ {K : Type 0} (taken : K → Option (List ℕ)) (known known' : Option (
       still = h.meets.1;
       silent = h.meets.2;
       first = λ tells. first_by h.session h.member h.task h.next (Ok (Waits waits.condition)) waits.is;
-      settles = waits_settle h.member.constants h.member.progress h.task waits.condition (job_ordered h.session h.member h.task h.next h.ordered) (task_found h.session h.member h.task h.next) (next_is_ready h.session h.member h.task h.ordered h.next) waits.is;
+      settles = waits_settle h.session h.member h.task waits.condition h.ordered h.next waits.is;
       room = h.room;
     }
 
