@@ -1,5 +1,5 @@
 -- After each slice, another one may be called.
-use Rattle.std.proofs.Common.{ℕ, List, length, Option, Result, Ok, Err, subst, sym, inl, inr}
+use Rattle.std.proofs.Common.{ℕ, List, length, Option, Result, Ok, Err, inl, inr}
 use Rattle.b67_model.specs.State.{Task, SessionJob}
 use Rattle.b67_model.specs.Run.{StepResult}
 use Rattle.b67_model.specs.Schedule.{Session}

@@ -1,5 +1,5 @@
 -- What a step says of failures, and what it keeps, by what its parts do.
-use Rattle.std.proofs.Common.{◌≡◌, ◌≢◌, ◌≤◌, ℕ, length, Option, Result, Ok, Err, refl, sym, ap, ◌∙◌, arith}
+use Rattle.std.proofs.Common.{◌≡◌, ◌≢◌, ◌≤◌, ℕ, length, Result, Err, ap, ◌∙◌, arith}
 use Rattle.b67_backing.specs.Shelf.{Table}
 use Rattle.b67_io.specs.Causes.{Rose}
 use Rattle.b67_task_tables.specs.declared.tables.Tasks.{Tasks}

@@ -1,5 +1,5 @@
 -- A step whose operator was made, or whose task has ended, once it is counted: its first part.
-use Rattle.std.proofs.Common.{◌≡◌, ◌≢◌, ℕ, ◌+◌, ◌-◌, ◌<◌, ◌≤◌, List, [], ◌∷◌, ◌++◌, length, map, Option, Some, None, Result, Ok, Err, refl, sym, ap, ◌∙◌, subst, arith, inl, inr}
+use Rattle.std.proofs.Common.{◌≡◌, ◌≢◌, ℕ, ◌+◌, ◌-◌, ◌≤◌, List, length, map, Option, Some, None, Result, Ok, Err, refl, sym, ap, ◌∙◌, subst}
 use Rattle.std.specs.Option.{option_or}
 use Rattle.b67_word.specs.declared.faults.Ending.{Ending}
 use Rattle.b67_word.specs.declared.faults.Ending.TheVariants.{Ended, Parent, Deadlock, Limit, Faulted}
@@ -14,7 +14,7 @@ use Rattle.b67_model.specs.Need.{need}
 use Rattle.b67_model.specs.Operators.{Reading}
 use Rattle.b67_model.specs.Rows.{reading_of, step, step_by}
 use Rattle.b67_model.specs.Run.{StepResult, number_of, of_job}
-use Rattle.b67_model.specs.Schedule.{Session, Choice, Who}
+use Rattle.b67_model.specs.Schedule.{Session, Choice}
 use Rattle.b67_model.specs.Steps.{Line, Goes, Leaves, Waits}
 use Rattle.b67_law_order.proofs.Numbered.{numbered_change}
 use Rattle.b67_law_turns.specs.Orders.{IsInOrderButLimit, SettlesInOrder}
@@ -24,9 +24,8 @@ use Rattle.b67_law_turns.proofs.Halves.{first_by}
 use Rattle.b67_law_turns.proofs.Limits.{no_last}
 use Rattle.b67_law_turns.proofs.Parts.{first_parts_keep_order}
 use Rattle.b67_law_turns.proofs.Settled.{ends_settle}
-use Rattle.b67_session_lines.specs.Moments.{first_part, last_part, text_of, due}
+use Rattle.b67_session_lines.specs.Moments.{first_part, text_of, due}
 use Rattle.b67_session_lines.specs.Parts.{TookRest}
-use Rattle.b67_stack.specs.Represents.{Storage}
 use Rattle.b67_layout.specs.Placement.{Placement}
 use Rattle.b67_layout.specs.Meets.{with_job}
 use Rattle.b67_layout.proofs.Weaker.{but_counts}
@@ -34,7 +33,6 @@ use Rattle.b67_task_start.specs.Starts.{moved}
 use Rattle.b67_task_tables.specs.declared.tables.TaskState.{TaskState}
 use Rattle.b67_task_tables.specs.declared.tables.Tasks.{Tasks}
 use Rattle.b67_task_tables.specs.declared.tables.Machine.{Machine}
-use Rattle.b67_task_tables.specs.Tables.{MachineRepresents}
 use Rattle.b67_session_schedule.specs.declared.counting.Chosen.{Chosen}
 use Rattle.b67_session_schedule.specs.Counted.{choice_of, CountsHaveRoom}
 use Rattle.b67_session_schedule.proofs.Rooms.{made_few, all_few}
@@ -44,16 +42,16 @@ use Rattle.b67_session_attempt.specs.Stops.{Stop}
 use Rattle.b67_session_attempt.specs.declared.attempts.Attempt.{Attempt}
 use Rattle.b67_session_attempt.specs.declared.attempts.Attempt.TheVariants as attempts
 use Rattle.b67_session_attempt.specs.Attempts.{StillStands}
-use Rattle.b67_session_ends.specs.Closing.{StandsChosen, ChoseSome}
+use Rattle.b67_session_ends.specs.Closing.{StandsChosen}
 use Rattle.b67_session_ends.specs.Counts.{IsCounted}
 use Rattle.b67_session_ends.specs.Ends.{StandsFor, StandsBetween}
-use Rattle.b67_session_waits.specs.Holds.{holding, HoldsSo, HoldsSome}
+use Rattle.b67_session_waits.specs.Holds.{holding, HoldsSo}
 use Rattle.b67_session_waits.proofs.Waits.{waits_settle}
 use Rattle.b67_session.specs.Slices.{Prints, NextFits}
 use Rattle.b67_session.proofs.Between.{IsHalfMade}
 use Rattle.b67_session.proofs.Lively.{Stays, rows_stay}
 use Rattle.b67_session.proofs.Made.{half, half_ordered, half_lines, half_stands}
-use Rattle.b67_session.proofs.Next.{in_session, in_job, job_is, found, task_found, next_fits}
+use Rattle.b67_session.proofs.Next.{in_session, job_is, found, task_found, next_fits}
 use Rattle.b67_session.proofs.Printing.{prints_rest}
 use Rattle.b67_session.proofs.Rooms.{room_for, running_row}
 use Rattle.b67_session.proofs.Turned.{Attempted}

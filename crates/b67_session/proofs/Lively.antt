@@ -1,5 +1,5 @@
 -- After each operator of a ready task that goes on, as many tasks live as before, or one more, and a task is ready.
-use Rattle.std.proofs.Common.{◌≡◌, ℕ, ◌+◌, ◌≤◌, true, ℤ, pos, negsuc, List, [], ◌∷◌, length, map, reverse, replicate, Option, Some, None, Ok, Err, refl, sym, ap, ◌∙◌, subst, inl, inr, arith}
+use Rattle.std.proofs.Common.{◌≡◌, ℕ, ◌+◌, ◌≤◌, true, ℤ, pos, negsuc, List, [], ◌∷◌, length, map, reverse, replicate, Option, Some, None, Ok, Err, refl, ap, ◌∙◌, inl, inr, arith}
 use Rattle.std.specs.Prelude.{◌==◌}
 use Rattle.std.proofs.lemmas.Bool.Decides.{eqb_tells}
 use Rattle.std.proofs.lemmas.List.{length-map}
@@ -13,7 +13,7 @@ use Rattle.b67_model.specs.declared.operators.Op.TheVariants.{Plain}
 use Rattle.b67_model.specs.declared.operators.Code.TheVariants.{Entr}
 use Rattle.b67_model.specs.Answers.{Answer, ◌>>=◌}
 use Rattle.b67_model.specs.Words.{Word, Operand, Original, whole}
-use Rattle.b67_model.specs.State.{Array, Condition, Ready, Standing, Marked, Entered, Task, Job, SessionJob, OperatorContext, with_task, top, below_top}
+use Rattle.b67_model.specs.State.{Array, Ready, Standing, Marked, Entered, Task, Job, SessionJob, OperatorContext, with_task, top, below_top}
 use Rattle.b67_model.specs.Keyed.{keyed, change_keyed}
 use Rattle.b67_model.specs.Cells.{with_cell, with_cell_of}
 use Rattle.b67_model.specs.Arrays.{array, with_array, all_zero, resized}

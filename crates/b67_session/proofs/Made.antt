@@ -1,6 +1,5 @@
 -- An operator that was made and counted: a step whose first part was made.
-use Rattle.std.proofs.Common.{◌≡◌, ℕ, ◌+◌, ◌-◌, ◌≤◌, Bool, true, false, not, max, List, [], length, map, Option, Some, Ok, refl, sym, ap, ◌∙◌, subst, arith}
-use Rattle.std.specs.List.{list_all}
+use Rattle.std.proofs.Common.{◌≡◌, ℕ, ◌+◌, ◌-◌, ◌≤◌, Bool, false, not, max, List, length, map, Option, Some, Ok, refl, sym, ap, ◌∙◌, subst, arith}
 use Rattle.b67_lemmas.specs.Lists.{Has}
 use Rattle.b67_lemmas.proofs.Members.{all_in, total_has}
 use Rattle.b67_lemmas.proofs.Sums.{sum_total}

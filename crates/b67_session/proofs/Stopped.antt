@@ -1,15 +1,15 @@
 -- A step that wasn't made: what it answers, prints and leaves.
-use Rattle.std.proofs.Common.{◌≡◌, ◌≢◌, ℕ, ◌+◌, ◌<◌, ◌≤◌, List, [], ◌∷◌, ◌++◌, length, map, Option, Some, None, Result, Ok, Err, refl, sym, ap, ◌∙◌, subst, arith, inl, inr}
+use Rattle.std.proofs.Common.{◌≡◌, ◌≢◌, ℕ, ◌+◌, ◌<◌, ◌≤◌, List, [], ◌++◌, length, map, Option, Some, None, Result, Ok, Err, refl, sym, ap, ◌∙◌, subst, arith, inl}
 use Rattle.std.proofs.lemmas.List.{map-append}
 use Rattle.b67_word.specs.declared.faults.Ending.{Ending}
 use Rattle.b67_model.specs.State.{Task, Job, SessionJob}
-use Rattle.b67_model.specs.Endings.{Settled, Stepped, goes_on}
+use Rattle.b67_model.specs.Endings.{Stepped, goes_on}
 use Rattle.b67_model.specs.Steps.{Line, Ends, Goes}
 use Rattle.b67_model.specs.Lines.{run_text}
 use Rattle.b67_model.specs.Need.{need}
 use Rattle.b67_model.specs.Rows.{step}
 use Rattle.b67_model.specs.Run.{RunLine, StepResult, of_job}
-use Rattle.b67_model.specs.Schedule.{Session, Choice}
+use Rattle.b67_model.specs.Schedule.{Session}
 use Rattle.b67_single.specs.Single.{task_lines}
 use Rattle.b67_law_turns.specs.Turns.{IsNext, part_of}
 use Rattle.b67_law_turns.proofs.Halves.{first_by}
@@ -23,7 +23,7 @@ use Rattle.b67_session_attempt.specs.Stops.{Stop}
 use Rattle.b67_session_attempt.specs.Stops as stops
 use Rattle.b67_session_attempt.specs.declared.attempts.Attempt.{Attempt}
 use Rattle.b67_session_attempt.specs.Attempts.{StillStands, StandsLacking}
-use Rattle.b67_session.specs.Slices.{StandsAt, Prints, Lacks, StopsBefore, SliceMeets}
+use Rattle.b67_session.specs.Slices.{Prints, Lacks, StopsBefore, SliceMeets}
 use Rattle.b67_session.specs.Steps.{stays, Steps}
 use Rattle.b67_session.proofs.Halved.{due_first, ClosesSo, close_part, close_count, close_due}
 use Rattle.b67_session.proofs.Next.{job_is}

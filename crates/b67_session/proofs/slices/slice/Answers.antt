@@ -1,10 +1,10 @@
-use Rattle.std.proofs.Common.{◌≡◌, ◌≢◌, ◌+◌, ℕ, List, Option, None, Ok, Err, refl, sym, ap, ◌∙◌, subst, inl, inr, arith}
+use Rattle.std.proofs.Common.{◌≢◌, ℕ, List, Option, None, Ok, Err, sym, ap, ◌∙◌, subst, inl, inr, arith}
 use Rattle.b67_layout_storage.specs.Machine.{content_after}
 use Rattle.b67_layout_storage.proofs.Devices.{Served-none}
 use Rattle.b67_overlay.proofs.Chains.{retold-same}
 use Rattle.b67_task_tables.specs.declared.tables.Tasks.{Tasks}
 use Rattle.b67_session_attempt.specs.Passed.{AreCountable}
-use Rattle.b67_session.specs.Slices.{StandsSome, StandsLimited}
+use Rattle.b67_session.specs.Slices.{StandsLimited}
 use Rattle.b67_session.proofs.Going.{Going, going-begins, going-ended}
 use Rattle.b67_session.proofs.Pausing.{says_retold}
 use Rattle.b67_session.proofs.Rows.{empty_rows, some_rows}
