@@ -25,8 +25,8 @@ module _ (known told : Option (List (List ℕ))) (k : Machine) (says : Says know
 
   by_answer : (exact : Type 0) (core count n steps : ℕ) (s : Session) (is_due : List ℕ) (answered : Result Progress Stop) → SliceMeets known exact core count n steps s is_due answered k → IsOpen told k
   by_answer exact core count n steps s is_due (Ok progress.Ended) h = rests s h
-  by_answer exact core count n steps s is_due (Ok progress.Halted) (halt, (h, (m, t, n))) = lives s m t h n
-  by_answer exact core count n steps s is_due (Ok progress.More) (all, halt, (h, (m, t, n))) = lives s m t h n
+  by_answer exact core count n steps s is_due (Ok progress.Halted) (halt, (h, (m, t, next))) = lives s m t h next
+  by_answer exact core count n steps s is_due (Ok progress.More) (all, halt, (h, (m, t, next))) = lives s m t h next
   by_answer exact core count n steps s is_due (Err (stops.NoCore words size)) meets = lives s meets.0.member meets.0.task meets.0.stands meets.0.next
   by_answer exact core count n steps s is_due (Err (stops.BackingFull sum size)) meets = lives s meets.0.member meets.0.task meets.0.stands meets.0.next
   by_answer exact core count n steps s is_due (Err stops.BackingFault) meets = lives s meets.0.member meets.0.task meets.0.stands meets.0.next

@@ -1,6 +1,7 @@
 -- After each operator of a ready task that goes on, as many tasks live as before, or one more, and a task is ready.
 use Rattle.std.proofs.Common.{◌≡◌, ℕ, ◌+◌, ◌≤◌, true, ℤ, pos, negsuc, List, [], ◌∷◌, length, map, reverse, replicate, Option, Some, None, Ok, Err, refl, ap, ◌∙◌, inl, inr, arith}
-use Rattle.std.specs.Prelude.{◌==◌}
+use Rattle.std.specs.Prelude.{◌==◌, nat_lt, nat_le, not}
+use Rattle.std.specs.List.{list_any}
 use Rattle.std.proofs.lemmas.Bool.Decides.{eqb_tells}
 use Rattle.std.proofs.lemmas.List.{length-map}
 use Rattle.std.proofs.lemmas.Option.{same_Some, none-some}
@@ -8,10 +9,12 @@ use Rattle.b67_lemmas.specs.Lists.{Has}
 use Rattle.b67_lemmas.proofs.Keyed.{changed_there}
 use Rattle.b67_lemmas.proofs.Members.{has_map, keyed_has, length_change}
 use Rattle.b67_word.specs.declared.couples.Place.{Place}
+use Rattle.b67_word.specs.declared.faults.Fault.TheVariants.{StackOverflow, InvalidOperand}
 use Rattle.b67_model.specs.declared.operators.Op.{Op}
 use Rattle.b67_model.specs.declared.operators.Op.TheVariants.{Plain}
 use Rattle.b67_model.specs.declared.operators.Code.TheVariants.{Entr}
-use Rattle.b67_model.specs.Answers.{Answer, ◌>>=◌}
+use Rattle.b67_model.specs.Answers.{Answer, ◌>>=◌, needs}
+use Rattle.b67_model.specs.Entry.{needs_level}
 use Rattle.b67_model.specs.Words.{Word, Operand, Original, whole}
 use Rattle.b67_model.specs.State.{Array, Ready, Standing, Marked, Entered, Task, Job, SessionJob, OperatorContext, with_task, top, below_top}
 use Rattle.b67_model.specs.Keyed.{keyed, change_keyed}
@@ -19,7 +22,7 @@ use Rattle.b67_model.specs.Cells.{with_cell, with_cell_of}
 use Rattle.b67_model.specs.Arrays.{array, with_array, all_zero, resized}
 use Rattle.b67_model.specs.Chase.{End, AtCell, AtElement, AtArray, AtProc, AtIntrinsic, follow_reference}
 use Rattle.b67_model.specs.Steps.{Line, Value, Values, Done, Goes, Leaves, Waits, top_of, cells_of}
-use Rattle.b67_model.specs.Intrinsics.{answered, answers, array_length, arraydec, print, numbers_of, row_copy, printrow, read_from, read, child_of, starts, process, awaits, await, status_of, status, waits_at, wait, woken_at, wakes, causes, cause, needs_writable, deallocate, resize, intrinsic}
+use Rattle.b67_model.specs.Intrinsics.{answered, answers, array_length, arraydec, print, numbers_of, row_copy, printrow, read_from, read, is_original, child_of, starts, process, awaits, await, status_of, status, waits_at, wait, woken_at, wakes, causes, cause, needs_writable, deallocate, resize, intrinsic}
 use Rattle.b67_model.specs.Rows.{entr_at, entr_with, entr, row}
 use Rattle.b67_model.specs.Called.{called_at, called_by, called_on, called}
 use Rattle.b67_law_order.proofs.Posts.{Post, post_ok, post_err, post_any, post_then, post_if, post_at}
@@ -104,7 +107,9 @@ module _ (before : List Task) where
       let child : Task = child_of h words environment segment level place in
       let started : Job = record h.job { tasks = child ∷ h.job.tasks; next_task = h.job.next_task + 1; next_frame = h.job.next_frame + 1 } in
       let f = found_more h.task.number child s.live h.job.tasks s.found in
-      post_then Keeps _ _ (post_then Keeps _ _ (post_if Keeps _ _ _ (answers_good h started (Operand h.job.next_task ∷ []) [] None f.0 f.1 s.ready (omega (arith, s.few))) (same_good h h.job (Operand 0 ∷ []) [] None s refl)))
+      post_then Keeps (needs_level h environment level) _
+      (post_then Keeps (needs (nat_le (3 + length words) h.constants.stack_size) StackOverflow) _
+      (post_if Keeps (nat_lt (length h.job.tasks) 15) _ _ (answers_good h started (Operand h.job.next_task ∷ []) [] None f.0 f.1 s.ready (omega (arith, s.few))) (same_good h h.job (Operand 0 ∷ []) [] None s refl)))
   starts_good h words (AtCell f offset bits) s = post_err Keeps _
   starts_good h words (AtElement a index) s = post_err Keeps _
   starts_good h words (AtArray a) s = post_err Keeps _
@@ -112,7 +117,7 @@ module _ (before : List Task) where
 
   process_good : (h : OperatorContext) (arguments : List Word) → Source h → Good (process h arguments)
   process_good h [] s = post_err Keeps _
-  process_good h (r ∷ words) s = post_then Keeps _ _ (post_any Keeps (follow_reference h r) _ (λ end. starts_good h words end s))
+  process_good h (r ∷ words) s = post_then Keeps (needs (not (list_any is_original words)) InvalidOperand) _ (post_any Keeps (follow_reference h r) _ (λ end. starts_good h words end s))
 
   awaits_good : (h : OperatorContext) (n : ℤ) → Source h → Good (awaits h n)
   awaits_good h (pos n) s = post_if Keeps _ _ _ (post_ok Keeps _ tt) (same_good h h.job [] [] None s refl)

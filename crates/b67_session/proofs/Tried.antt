@@ -124,7 +124,7 @@ module _ {D K : Type 0} {taken : K → Option (List ℕ)} {told told' : Option (
     abbrev left : Attempted taken known (content_after known told') (length k.cpu.core) count k.tasks.printed s c (Ok outcome) new paper paper'
     left = attempted x known s says h
 
-    runs : new.tasks.running ≡ c.row
+    abbrev runs : new.tasks.running ≡ c.row
     runs = ap (λ (z : Tasks). z.running) stay ∙ ap (λ (z : Tasks). z.running) x.tables
 
     printed_still : new.tasks.printed ≡ k.tasks.printed
@@ -173,26 +173,26 @@ module _ {D K : Type 0} {taken : K → Option (List ℕ)} {told told' : Option (
 
   -- it ends its task
   module _ (ending : Ending) (x : Tries taken told told' count k c mid (Ok (attempts.Ends ending)) new device device' paper paper') (known : Option (List (List ℕ))) (s : Session) (says : Says known told) (h : StandsAt known k s) where
-    abbrev ended : Attempted taken known (content_after known told') (length k.cpu.core) count k.tasks.printed s c (Ok (attempts.Ends ending)) new paper paper'
-    ended = attempted x known s says h
+    abbrev ending_left : Attempted taken known (content_after known told') (length k.cpu.core) count k.tasks.printed s c (Ok (attempts.Ends ending)) new paper paper'
+    ending_left = attempted x known s says h
 
     abbrev pub ending_made : Stepped
-    ending_made = ends_with ended.member.progress.job ended.task.number ending
+    ending_made = ends_with ending_left.member.progress.job ending_left.task.number ending
 
-    abbrev pub ending_so : ClosesSo known (content_after known told') (length k.cpu.core) new paper paper' ended.plan ended.session ended.member ended.task ended.next.chosen ending_made
-    ending_so = ends_so taken known (content_after known told') (length k.cpu.core) count k.tasks.printed s c new paper paper' ending ended
+    abbrev pub ending_so : ClosesSo known (content_after known told') (length k.cpu.core) new paper paper' ending_left.plan ending_left.session ending_left.member ending_left.task ending_left.next.chosen ending_made
+    ending_so = ends_so taken known (content_after known told') (length k.cpu.core) count k.tasks.printed s c new paper paper' ending ending_left
 
     -- the chosen row is its
-    ending_stands : StandsChosen ending_so.still.0 (content_after known told') new ended.plan ended.session ended.member ended.task c
+    ending_stands : StandsChosen ending_so.still.0 (content_after known told') new ending_left.plan ending_left.session ending_left.member ending_left.task c
     ending_stands = stands_chosen (attempts.Ends ending) x x.stay known s says h ending_made ending_so
 
     pub ending_chose : ChoseSome new c
-    ending_chose = record { storage = ending_so.still.0; told = content_after known told'; plan = ended.plan; session = ended.session; member = ended.member; task = ended.task; stands = ending_stands }
+    ending_chose = record { storage = ending_so.still.0; told = content_after known told'; plan = ending_left.plan; session = ending_left.session; member = ending_left.member; task = ending_left.task; stands = ending_stands }
 
     -- what closing says of it
-    pub ending_closes : {result : Result (Unit {0}) Failed} {closed : Machine} {paper'' : K} → ClosesEach taken c ending result new closed paper' paper''
+    pub ending_closes : (result : Result (Unit {0}) Failed) (closed : Machine) (paper'' : K) → ClosesEach taken c ending result new closed paper' paper''
         → Closes taken (content_after known told') (the_part (attempts.Ends ending) x x.stay known s says h ending_made ending_so) result new closed paper' paper''
-    ending_closes closes = closes ending_so.still.0 (content_after known told') ended.plan ended.session ended.member ended.task ending_stands
+    ending_closes result closed paper'' closes = closes ending_so.still.0 (content_after known told') ending_left.plan ending_left.session ending_left.member ending_left.task ending_stands
 
   -- it makes its task wait
   module _ (state : TaskState) (x : Tries taken told told' count k c mid (Ok (attempts.Waits state)) new device device' paper paper') (known : Option (List (List ℕ))) (s : Session) (says : Says known told) (h : StandsAt known k s) where
@@ -224,9 +224,9 @@ module _ {D K : Type 0} {taken : K → Option (List ℕ)} {told told' : Option (
       so = waiting_holds;
     }
 
-    pub waiting_closes : {result : Result (Unit {0}) Failed} {closed : Machine} {paper'' : K} → HoldsEach taken c state result new closed paper' paper''
+    pub waiting_closes : (result : Result (Unit {0}) Failed) (closed : Machine) (paper'' : K) → HoldsEach taken c state result new closed paper' paper''
         → Closes taken (content_after known told') (the_part (attempts.Waits state) x x.stay known s says h waiting_made waiting_so) result new closed paper' paper''
-    waiting_closes holds =
+    waiting_closes result closed paper'' holds =
         holds waiting_so.still.0 (content_after known told') waiting.plan waiting.session waiting.member waiting.task
         (waits taken known (content_after known told') (length k.cpu.core) count k.tasks.printed s c new paper paper' state waiting).condition waiting_stands waiting_holds
 

@@ -70,7 +70,7 @@ step-init g c = record {
   begun = λ none. (refl, refl);
   none = λ none. refl;
   unprinted = λ none. refl;
-  quiet = λ known s m t h says few wants same. refl;
+  quiet = λ known s m t h says next few wants same. refl;
 }
 
 pub step-requires-clause-lives : goal.step-requires-clause-lives

@@ -1,5 +1,4 @@
 use Rattle.std.proofs.Common.{◌≡◌, Ok, Err, sym, ap, ◌∙◌, subst, arith}
-use Rattle.std.proofs.lemmas.Option.{none-some}
 use Rattle.b67_task_tables.specs.declared.tables.Tasks.{Tasks}
 use Rattle.b67_task_tables.specs.Runs.{Keeps}
 use Rattle.b67_session_attempt.specs.Passed.{AreCountable}
@@ -34,14 +33,6 @@ countable g c = c.attempt.ensures.kept.countable (subst (λ (z : Tasks). AreCoun
 
 kept : (g : Over) (c : After-attempt g) → Keeps c.args.machine.now c.attempt.new.machine
 kept g c = turn_keeps c.args.machine.now c.give_turn.new.machine c.attempt.new.machine c.in-Some.chosen.row c.give_turn.ensures.tables c.give_turn.ensures.len c.give_turn.ensures.sectors c.attempt.ensures.kept.keeps
-
-pub returns-in-None-clause-row : goal.returns-in-None-clause-row
-returns-in-None-clause-row g c = λ known s says h.
-    (let l = c.requires.lives in absurd (none-some l.next.chosen (sym (c.in-None.ensures.choice l.some.stands.plan l.some.session l.some.stands.ordered l.some.stands.stands.tables) ∙ l.next.is)))
-
-pub returns-in-None-clause-present : goal.returns-in-None-clause-present
-returns-in-None-clause-present g c = λ known s m t says h next.
-    (let l = c.requires.lives in absurd (none-some l.next.chosen (sym (c.in-None.ensures.choice l.some.stands.plan l.some.session l.some.stands.ordered l.some.stands.stands.tables) ∙ l.next.is)))
 
 pub give_turn-requires : goal.give_turn-requires
 give_turn-requires g c =
@@ -103,38 +94,38 @@ close-requires-clause-room g c =
     let x = (tries_as c.attempt.result (Ok (attempts.Ends c.in-Ok-Ends.ending)) (c.in-Ok-Ends.is ∙ ap (λ (z : Attempt). Ok z) c.in-Ok-Ends.field-0-is) (context g (goal.at.close-requires-clause-room g c).After-attempt)) in
     close_counts (attempts.Ends c.in-Ok-Ends.ending) x x.stay l.known l.session l.says l.stands (ending_made c.in-Ok-Ends.ending x l.known l.session l.says l.stands) (ending_so c.in-Ok-Ends.ending x l.known l.session l.says l.stands)
 
-pub end_step-2-requires : goal.end_step-2-requires
-end_step-2-requires g c =
+pub end_step-requires-in-Ok : goal.end_step-requires-in-Ok
+end_step-requires-in-Ok g c =
     let l = c.requires.lives.some in
-    let x = (tries_as c.attempt.result (Ok (attempts.Ends c.in-Ok-Ends.ending)) (c.in-Ok-Ends.is ∙ ap (λ (z : Attempt). Ok z) c.in-Ok-Ends.field-0-is) (context g (goal.at.end_step-2-requires g c).After-attempt)) in
-    closed_between (attempts.Ends c.in-Ok-Ends.ending) x x.stay l.known l.session l.says l.stands (ending_made c.in-Ok-Ends.ending x l.known l.session l.says l.stands) (ending_so c.in-Ok-Ends.ending x l.known l.session l.says l.stands) c.close.new.machine c.close.new.paper (ending_closes c.in-Ok-Ends.ending x l.known l.session l.says l.stands c.in-Ok.ensures.closes)
+    let x = (tries_as c.attempt.result (Ok (attempts.Ends c.in-Ok-Ends.ending)) (c.in-Ok-Ends.is ∙ ap (λ (z : Attempt). Ok z) c.in-Ok-Ends.field-0-is) (context g (goal.at.end_step-requires-in-Ok g c).After-attempt)) in
+    closed_between (attempts.Ends c.in-Ok-Ends.ending) x x.stay l.known l.session l.says l.stands (ending_made c.in-Ok-Ends.ending x l.known l.session l.says l.stands) (ending_so c.in-Ok-Ends.ending x l.known l.session l.says l.stands) c.close.new.machine c.close.new.paper (ending_closes c.in-Ok-Ends.ending x l.known l.session l.says l.stands (Ok tt) c.close.new.machine c.close.new.paper c.in-Ok.ensures.closes)
 
 pub returns-in-Ok-clause-row : goal.returns-in-Ok-clause-row
 returns-in-Ok-clause-row g c = λ known s says h.
     (let x = (tries_as c.attempt.result (Ok (attempts.Ends c.in-Ok-Ends.ending)) (c.in-Ok-Ends.is ∙ ap (λ (z : Attempt). Ok z) c.in-Ok-Ends.field-0-is) (context g (goal.at.returns-in-Ok-clause-row g c).After-attempt)) in
-    closed_row (attempts.Ends c.in-Ok-Ends.ending) x x.stay known s says h (ending_made c.in-Ok-Ends.ending x known s says h) (ending_so c.in-Ok-Ends.ending x known s says h) c.close.new.machine c.close.new.paper (ending_closes c.in-Ok-Ends.ending x known s says h c.in-Ok.ensures.closes) c.end_step-2.result c.end_step-2.new.machine c.end_step-2.new.paper c.end_step-2.ensures.finishes c.end_step-2.ensures.keeps)
+    closed_row (attempts.Ends c.in-Ok-Ends.ending) x x.stay known s says h (ending_made c.in-Ok-Ends.ending x known s says h) (ending_so c.in-Ok-Ends.ending x known s says h) c.close.new.machine c.close.new.paper (ending_closes c.in-Ok-Ends.ending x known s says h (Ok tt) c.close.new.machine c.close.new.paper c.in-Ok.ensures.closes) c.end_step-in-Ok.result c.end_step-in-Ok.new.machine c.end_step-in-Ok.new.paper c.end_step-in-Ok.ensures.finishes c.end_step-in-Ok.ensures.keeps)
 
 pub returns-in-Ok-clause-present : goal.returns-in-Ok-clause-present
 returns-in-Ok-clause-present g c = λ known s m t says h next.
     (let x = (tries_as c.attempt.result (Ok (attempts.Ends c.in-Ok-Ends.ending)) (c.in-Ok-Ends.is ∙ ap (λ (z : Attempt). Ok z) c.in-Ok-Ends.field-0-is) (context g (goal.at.returns-in-Ok-clause-present g c).After-attempt)) in
-    closed_present (attempts.Ends c.in-Ok-Ends.ending) x x.stay known s says h (ending_made c.in-Ok-Ends.ending x known s says h) (ending_so c.in-Ok-Ends.ending x known s says h) c.close.new.machine c.close.new.paper (ending_closes c.in-Ok-Ends.ending x known s says h c.in-Ok.ensures.closes) c.end_step-2.result c.end_step-2.new.machine c.end_step-2.new.paper c.end_step-2.ensures.finishes m t next)
+    closed_present (attempts.Ends c.in-Ok-Ends.ending) x x.stay known s says h (ending_made c.in-Ok-Ends.ending x known s says h) (ending_so c.in-Ok-Ends.ending x known s says h) c.close.new.machine c.close.new.paper (ending_closes c.in-Ok-Ends.ending x known s says h (Ok tt) c.close.new.machine c.close.new.paper c.in-Ok.ensures.closes) c.end_step-in-Ok.result c.end_step-in-Ok.new.machine c.end_step-in-Ok.new.paper c.end_step-in-Ok.ensures.finishes m t next)
 
 pub returns-in-Ok-clause-countable : goal.returns-in-Ok-clause-countable
 returns-in-Ok-clause-countable g c =
-    subst (λ (z : Tasks). AreCountable z.jobs) (sym c.end_step-2.ensures.keeps.tasks) (c.close.ensures.keeps.countable (countable g (goal.at.returns-in-Ok-clause-countable g c).After-attempt))
+    subst (λ (z : Tasks). AreCountable z.jobs) (sym c.end_step-in-Ok.ensures.keeps.tasks) (c.close.ensures.keeps.countable (countable g (goal.at.returns-in-Ok-clause-countable g c).After-attempt))
 
 pub returns-in-Ok-clause-causes : goal.returns-in-Ok-clause-causes
 returns-in-Ok-clause-causes g c =
-    step_causes g.B.Backing.faults g.K.Sink.faults c.args.backing.now c.attempt.new.backing c.args.paper.now c.close.new.paper c.end_step-2.new.paper c.end_step-2.result (omega (arith, c.attempt.ensures.causes.printer.later, c.close.ensures.cause.later)) c.end_step-2.ensures.later c.end_step-2.ensures.cause c.end_step-2.ensures.other
+    step_causes g.B.Backing.faults g.K.Sink.faults c.args.backing.now c.attempt.new.backing c.args.paper.now c.close.new.paper c.end_step-in-Ok.new.paper c.end_step-in-Ok.result (omega (arith, c.attempt.ensures.causes.printer.later, c.close.ensures.cause.later)) c.end_step-in-Ok.ensures.later c.end_step-in-Ok.ensures.cause c.end_step-in-Ok.ensures.other
 
 pub returns-in-Ok-clause-keeps : goal.returns-in-Ok-clause-keeps
 returns-in-Ok-clause-keeps g c =
-    keeps_then c.args.machine.now c.close.new.machine c.end_step-2.new.machine (close_keeps c.args.machine.now c.attempt.new.machine c.close.new.machine (kept g (goal.at.returns-in-Ok-clause-keeps g c).After-attempt) c.close.ensures.keeps) c.end_step-2.ensures.keeps
+    keeps_then c.args.machine.now c.close.new.machine c.end_step-in-Ok.new.machine (close_keeps c.args.machine.now c.attempt.new.machine c.close.new.machine (kept g (goal.at.returns-in-Ok-clause-keeps g c).After-attempt) c.close.ensures.keeps) c.end_step-in-Ok.ensures.keeps
 
 pub returns-in-Err-close-clause-row : goal.returns-in-Err-close-clause-row
 returns-in-Err-close-clause-row g c = λ known s says h.
     (let x = (tries_as c.attempt.result (Ok (attempts.Ends c.in-Ok-Ends.ending)) (c.in-Ok-Ends.is ∙ ap (λ (z : Attempt). Ok z) c.in-Ok-Ends.field-0-is) (context g (goal.at.returns-in-Err-close-clause-row g c).After-attempt)) in
-    cut_row (attempts.Ends c.in-Ok-Ends.ending) x x.stay known s says h (ending_made c.in-Ok-Ends.ending x known s says h) (ending_so c.in-Ok-Ends.ending x known s says h) c.in-Err-close._failed c.close.new.machine c.close.new.paper c.requires.due (halted g (goal.at.returns-in-Err-close-clause-row g c).After-attempt) (ending_closes c.in-Ok-Ends.ending x known s says h c.in-Err-close.ensures.closes))
+    cut_row (attempts.Ends c.in-Ok-Ends.ending) x x.stay known s says h (ending_made c.in-Ok-Ends.ending x known s says h) (ending_so c.in-Ok-Ends.ending x known s says h) c.in-Err-close._failed c.close.new.machine c.close.new.paper c.requires.due (halted g (goal.at.returns-in-Err-close-clause-row g c).After-attempt) (ending_closes c.in-Ok-Ends.ending x known s says h (Err c.in-Err-close._failed) c.close.new.machine c.close.new.paper c.in-Err-close.ensures.closes))
 
 pub returns-in-Err-close-clause-present : goal.returns-in-Err-close-clause-present
 returns-in-Err-close-clause-present g c = λ known s m t says h next.
@@ -164,38 +155,38 @@ hold-requires-clause-room g c =
     let x = (tries_as c.attempt.result (Ok (attempts.Waits c.in-Ok-Waits.state)) (c.in-Ok-Waits.is ∙ ap (λ (z : Attempt). Ok z) c.in-Ok-Waits.field-0-is) (context g (goal.at.hold-requires-clause-room g c).After-attempt)) in
     close_counts (attempts.Waits c.in-Ok-Waits.state) x x.stay l.known l.session l.says l.stands (waiting_made c.in-Ok-Waits.state x l.known l.session l.says l.stands) (waiting_so c.in-Ok-Waits.state x l.known l.session l.says l.stands)
 
-pub end_step-3-requires : goal.end_step-3-requires
-end_step-3-requires g c =
+pub end_step-requires-in-Ok-hold : goal.end_step-requires-in-Ok-hold
+end_step-requires-in-Ok-hold g c =
     let l = c.requires.lives.some in
-    let x = (tries_as c.attempt.result (Ok (attempts.Waits c.in-Ok-Waits.state)) (c.in-Ok-Waits.is ∙ ap (λ (z : Attempt). Ok z) c.in-Ok-Waits.field-0-is) (context g (goal.at.end_step-3-requires g c).After-attempt)) in
-    closed_between (attempts.Waits c.in-Ok-Waits.state) x x.stay l.known l.session l.says l.stands (waiting_made c.in-Ok-Waits.state x l.known l.session l.says l.stands) (waiting_so c.in-Ok-Waits.state x l.known l.session l.says l.stands) c.hold.new.machine c.hold.new.paper (waiting_closes c.in-Ok-Waits.state x l.known l.session l.says l.stands c.in-Ok-hold.ensures.holds)
+    let x = (tries_as c.attempt.result (Ok (attempts.Waits c.in-Ok-Waits.state)) (c.in-Ok-Waits.is ∙ ap (λ (z : Attempt). Ok z) c.in-Ok-Waits.field-0-is) (context g (goal.at.end_step-requires-in-Ok-hold g c).After-attempt)) in
+    closed_between (attempts.Waits c.in-Ok-Waits.state) x x.stay l.known l.session l.says l.stands (waiting_made c.in-Ok-Waits.state x l.known l.session l.says l.stands) (waiting_so c.in-Ok-Waits.state x l.known l.session l.says l.stands) c.hold.new.machine c.hold.new.paper (waiting_closes c.in-Ok-Waits.state x l.known l.session l.says l.stands (Ok tt) c.hold.new.machine c.hold.new.paper c.in-Ok-hold.ensures.holds)
 
 pub returns-in-Ok-hold-clause-row : goal.returns-in-Ok-hold-clause-row
 returns-in-Ok-hold-clause-row g c = λ known s says h.
     (let x = (tries_as c.attempt.result (Ok (attempts.Waits c.in-Ok-Waits.state)) (c.in-Ok-Waits.is ∙ ap (λ (z : Attempt). Ok z) c.in-Ok-Waits.field-0-is) (context g (goal.at.returns-in-Ok-hold-clause-row g c).After-attempt)) in
-    closed_row (attempts.Waits c.in-Ok-Waits.state) x x.stay known s says h (waiting_made c.in-Ok-Waits.state x known s says h) (waiting_so c.in-Ok-Waits.state x known s says h) c.hold.new.machine c.hold.new.paper (waiting_closes c.in-Ok-Waits.state x known s says h c.in-Ok-hold.ensures.holds) c.end_step-3.result c.end_step-3.new.machine c.end_step-3.new.paper c.end_step-3.ensures.finishes c.end_step-3.ensures.keeps)
+    closed_row (attempts.Waits c.in-Ok-Waits.state) x x.stay known s says h (waiting_made c.in-Ok-Waits.state x known s says h) (waiting_so c.in-Ok-Waits.state x known s says h) c.hold.new.machine c.hold.new.paper (waiting_closes c.in-Ok-Waits.state x known s says h (Ok tt) c.hold.new.machine c.hold.new.paper c.in-Ok-hold.ensures.holds) c.end_step-in-Ok-hold.result c.end_step-in-Ok-hold.new.machine c.end_step-in-Ok-hold.new.paper c.end_step-in-Ok-hold.ensures.finishes c.end_step-in-Ok-hold.ensures.keeps)
 
 pub returns-in-Ok-hold-clause-present : goal.returns-in-Ok-hold-clause-present
 returns-in-Ok-hold-clause-present g c = λ known s m t says h next.
     (let x = (tries_as c.attempt.result (Ok (attempts.Waits c.in-Ok-Waits.state)) (c.in-Ok-Waits.is ∙ ap (λ (z : Attempt). Ok z) c.in-Ok-Waits.field-0-is) (context g (goal.at.returns-in-Ok-hold-clause-present g c).After-attempt)) in
-    closed_present (attempts.Waits c.in-Ok-Waits.state) x x.stay known s says h (waiting_made c.in-Ok-Waits.state x known s says h) (waiting_so c.in-Ok-Waits.state x known s says h) c.hold.new.machine c.hold.new.paper (waiting_closes c.in-Ok-Waits.state x known s says h c.in-Ok-hold.ensures.holds) c.end_step-3.result c.end_step-3.new.machine c.end_step-3.new.paper c.end_step-3.ensures.finishes m t next)
+    closed_present (attempts.Waits c.in-Ok-Waits.state) x x.stay known s says h (waiting_made c.in-Ok-Waits.state x known s says h) (waiting_so c.in-Ok-Waits.state x known s says h) c.hold.new.machine c.hold.new.paper (waiting_closes c.in-Ok-Waits.state x known s says h (Ok tt) c.hold.new.machine c.hold.new.paper c.in-Ok-hold.ensures.holds) c.end_step-in-Ok-hold.result c.end_step-in-Ok-hold.new.machine c.end_step-in-Ok-hold.new.paper c.end_step-in-Ok-hold.ensures.finishes m t next)
 
 pub returns-in-Ok-hold-clause-countable : goal.returns-in-Ok-hold-clause-countable
 returns-in-Ok-hold-clause-countable g c =
-    subst (λ (z : Tasks). AreCountable z.jobs) (sym c.end_step-3.ensures.keeps.tasks) (c.hold.ensures.keeps.countable (countable g (goal.at.returns-in-Ok-hold-clause-countable g c).After-attempt))
+    subst (λ (z : Tasks). AreCountable z.jobs) (sym c.end_step-in-Ok-hold.ensures.keeps.tasks) (c.hold.ensures.keeps.countable (countable g (goal.at.returns-in-Ok-hold-clause-countable g c).After-attempt))
 
 pub returns-in-Ok-hold-clause-causes : goal.returns-in-Ok-hold-clause-causes
 returns-in-Ok-hold-clause-causes g c =
-    step_causes g.B.Backing.faults g.K.Sink.faults c.args.backing.now c.attempt.new.backing c.args.paper.now c.hold.new.paper c.end_step-3.new.paper c.end_step-3.result (omega (arith, c.attempt.ensures.causes.printer.later, c.hold.ensures.cause.later)) c.end_step-3.ensures.later c.end_step-3.ensures.cause c.end_step-3.ensures.other
+    step_causes g.B.Backing.faults g.K.Sink.faults c.args.backing.now c.attempt.new.backing c.args.paper.now c.hold.new.paper c.end_step-in-Ok-hold.new.paper c.end_step-in-Ok-hold.result (omega (arith, c.attempt.ensures.causes.printer.later, c.hold.ensures.cause.later)) c.end_step-in-Ok-hold.ensures.later c.end_step-in-Ok-hold.ensures.cause c.end_step-in-Ok-hold.ensures.other
 
 pub returns-in-Ok-hold-clause-keeps : goal.returns-in-Ok-hold-clause-keeps
 returns-in-Ok-hold-clause-keeps g c =
-    keeps_then c.args.machine.now c.hold.new.machine c.end_step-3.new.machine (close_keeps c.args.machine.now c.attempt.new.machine c.hold.new.machine (kept g (goal.at.returns-in-Ok-hold-clause-keeps g c).After-attempt) c.hold.ensures.keeps) c.end_step-3.ensures.keeps
+    keeps_then c.args.machine.now c.hold.new.machine c.end_step-in-Ok-hold.new.machine (close_keeps c.args.machine.now c.attempt.new.machine c.hold.new.machine (kept g (goal.at.returns-in-Ok-hold-clause-keeps g c).After-attempt) c.hold.ensures.keeps) c.end_step-in-Ok-hold.ensures.keeps
 
 pub returns-in-Err-hold-clause-row : goal.returns-in-Err-hold-clause-row
 returns-in-Err-hold-clause-row g c = λ known s says h.
     (let x = (tries_as c.attempt.result (Ok (attempts.Waits c.in-Ok-Waits.state)) (c.in-Ok-Waits.is ∙ ap (λ (z : Attempt). Ok z) c.in-Ok-Waits.field-0-is) (context g (goal.at.returns-in-Err-hold-clause-row g c).After-attempt)) in
-    cut_row (attempts.Waits c.in-Ok-Waits.state) x x.stay known s says h (waiting_made c.in-Ok-Waits.state x known s says h) (waiting_so c.in-Ok-Waits.state x known s says h) c.in-Err-hold._failed c.hold.new.machine c.hold.new.paper c.requires.due (halted g (goal.at.returns-in-Err-hold-clause-row g c).After-attempt) (waiting_closes c.in-Ok-Waits.state x known s says h c.in-Err-hold.ensures.holds))
+    cut_row (attempts.Waits c.in-Ok-Waits.state) x x.stay known s says h (waiting_made c.in-Ok-Waits.state x known s says h) (waiting_so c.in-Ok-Waits.state x known s says h) c.in-Err-hold._failed c.hold.new.machine c.hold.new.paper c.requires.due (halted g (goal.at.returns-in-Err-hold-clause-row g c).After-attempt) (waiting_closes c.in-Ok-Waits.state x known s says h (Err c.in-Err-hold._failed) c.hold.new.machine c.hold.new.paper c.in-Err-hold.ensures.holds))
 
 pub returns-in-Err-hold-clause-present : goal.returns-in-Err-hold-clause-present
 returns-in-Err-hold-clause-present g c = λ known s m t says h next.
