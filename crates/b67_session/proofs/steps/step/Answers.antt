@@ -1,11 +1,12 @@
-use Rattle.std.proofs.Common.{◌≡◌, Ok, Err, sym, ap, ◌∙◌, subst, arith}
+use Rattle.std.proofs.Common.{◌≡◌, ◌≤◌, ◌≢◌, Ok, Err, sym, ap, ◌∙◌, subst, arith}
 use Rattle.b67_task_tables.specs.declared.tables.Tasks.{Tasks}
 use Rattle.b67_task_tables.specs.Runs.{Keeps}
-use Rattle.b67_session_attempt.specs.Passed.{AreCountable}
+use Rattle.b67_session_attempt.specs.Passed.{AreCountable, CanNumber}
 use Rattle.b67_session_attempt.specs.declared.attempts.Attempt.{Attempt}
 use Rattle.b67_session_attempt.specs.declared.attempts.Attempt.TheVariants as attempts
 use Rattle.b67_session_attempt.proofs.Runs.{caused_stop}
 use Rattle.b67_session.proofs.Caused.{step_causes, keeps_then, close_keeps, turn_keeps}
+use Rattle.b67_session.proofs.Rooms.{can_number}
 use Rattle.b67_session.proofs.Turned.{Tries, who, has_row, turned, runs_over}
 use Rattle.b67_session.proofs.Tried.{tries_as, made_counts, made_between, made_row, made_present, close_counts, closed_between, closed_row, closed_present, cut_row, cut_present, ending_made, ending_so, ending_chose, ending_closes, waiting_made, waiting_so, waiting_some, waiting_closes, stop_row, stop_present}
 use Rattle.b67_session.proofs.steps.step.Given.{Over}
@@ -49,6 +50,11 @@ attempt-requires-clause-runs g c =
 
 pub attempt-requires-clause-countable : goal.attempt-requires-clause-countable
 attempt-requires-clause-countable g c = subst (λ (z : Tasks). AreCountable z.jobs) (sym c.give_turn.ensures.tables) c.requires.countable
+
+pub attempt-requires-clause-number : goal.attempt-requires-clause-number
+attempt-requires-clause-number g c =
+    let l = c.requires.lives.some in
+    subst (λ (z : Tasks). CanNumber z.jobs) (sym c.give_turn.ensures.tables) (can_number l.stands.plan l.session c.args.machine.now.tasks l.stands.ordered l.stands.stands.tables)
 
 
 pub count_one-requires : goal.count_one-requires
