@@ -17,7 +17,6 @@ use Rattle.b67_task_tables.specs.declared.tables.Tasks.{Tasks}
 use Rattle.b67_task_tables.specs.declared.tables.Machine.{Machine}
 use Rattle.b67_task_tables.specs.Tables.{MachineRepresents}
 use Rattle.b67_session_attempt.specs.Stops.{Stop}
-use Rattle.b67_session_attempt.specs.Stops as stops
 use Rattle.b67_session_ends.specs.Ends.{Finishes, KeepsCounts}
 use Rattle.b67_session_ends.specs.Machines.{StandsAt}
 use Rattle.b67_session.specs.Slices.{Prints, NextFits}
