@@ -56,7 +56,6 @@ attempt-requires-clause-number g c =
     let l = c.requires.lives.some in
     subst (λ (z : Tasks). CanNumber z.jobs) (sym c.give_turn.ensures.tables) (can_number l.stands.plan l.session c.args.machine.now.tasks l.stands.ordered l.stands.stands.tables)
 
-
 pub count_one-requires : goal.count_one-requires
 count_one-requires g c =
     let l = c.requires.lives.some in
