@@ -1,9 +1,10 @@
 -- The machine once the row of the chosen task shows that it waits, once those that are stuck have ended, and once the step is
 -- counted.
-use Rattle.std.proofs.Common.{◌≡◌, ℕ, ◌+◌, ◌<◌, List, [], ◌∷◌, length, map, Option, Some, None, refl, sym, ap, ◌∙◌, subst, inl, arith, slice_set, length-set}
+use Rattle.std.proofs.Common.{◌≡◌, ℕ, ◌+◌, ◌<◌, List, [], length, map, Option, Some, Ok, Err, refl, sym, ap, ◌∙◌, subst, inl, arith, slice_set, length-set}
 use Rattle.std.specs.List.{slice_get}
 use Rattle.std.proofs.lemmas.Option.{slice_get_within}
 use Rattle.b67_core.proofs.Writes.{slice_get-set_same}
+use Rattle.b67_word.specs.declared.faults.Failed.{Failed}
 use Rattle.b67_lemmas.specs.Lists.{Has}
 use Rattle.b67_lemmas.proofs.Keyed.{change_same}
 use Rattle.b67_lemmas.proofs.Members.{change_found, keyed_has}
@@ -16,6 +17,7 @@ use Rattle.b67_model.specs.Run.{StepResult, number_of}
 use Rattle.b67_model.specs.Schedule.{Session, Choice}
 use Rattle.b67_model.specs.State.{Condition, Task, Job, SessionJob, with_task}
 use Rattle.b67_law_turns.specs.Turns.{part_of}
+use Rattle.b67_session_lines.specs.Parts.{TookRest, TookMore}
 use Rattle.b67_stack.specs.Represents.{Storage}
 use Rattle.b67_layout.specs.Meets.{with_job}
 use Rattle.b67_layout.specs.Orders.{IsInOrderButCounts}
@@ -32,23 +34,50 @@ use Rattle.b67_task_tables.specs.declared.tables.TaskRow.{TaskRow}
 use Rattle.b67_task_tables.specs.declared.tables.TaskState.{TaskState}
 use Rattle.b67_task_tables.specs.declared.tables.Tasks.{Tasks}
 use Rattle.b67_task_tables.specs.declared.tables.Machine.{Machine}
-use Rattle.b67_task_tables.specs.Tables.{state_of, task_row, job_row, counts_of, MachineRepresents, TasksShow}
+use Rattle.b67_task_tables.specs.Tables.{task_row, job_row, counts_of, MachineRepresents, TasksShow}
 use Rattle.b67_task_end.specs.declared.families.EndedTask.{EndedTask}
 use Rattle.b67_task_end.specs.Family.{TablesHold, HasSomeHead, pair_of}
 use Rattle.b67_session_schedule.specs.declared.counting.Chosen.{Chosen}
 use Rattle.b67_session_schedule.specs.Counted.{choice_of}
-use Rattle.b67_session_ends.specs.Closing.{HasJobOf, StandsChosen}
+use Rattle.b67_session_ends.specs.Closing.{HasJobOf, StandsChosen, Closes}
 use Rattle.b67_session_ends.specs.Counts.{IsCounted}
 use Rattle.b67_session_ends.specs.Ends.{StandsFor}
 use Rattle.b67_session_ends.specs.Texts.{endings_text}
 use Rattle.b67_session_ends.proofs.ByLimit.{reprinted}
+use Rattle.b67_session_ends.proofs.Closed.{same_tasks}
 use Rattle.b67_session_ends.proofs.Counted.{counted_stands}
-use Rattle.b67_session_waits.specs.Holds.{held, holding, HoldsSo, with_state}
+use Rattle.b67_session_waits.specs.Holds.{held, holding, HoldsSo, HoldsSome, with_state}
 use Rattle.b67_session_waits.proofs.Shown.{moved, tables_held}
 use Rattle.b67_session_waits.proofs.Waits.{found, live, as_many, held_ordered}
 
-module _ (x : Storage) (told : Option (List (List ℕ))) (k : Machine) (plan : Placement) (s : Session) (m : SessionJob) (t : Task) (c : Chosen) (state : TaskState) (condition : Condition)
-    (w : StandsChosen x told k plan s m t c) (so : HoldsSo plan m t state condition) where
+module _ (k : Machine) (c : Chosen) (state : TaskState) (h : HoldsSome k c state) where
+  abbrev x : Storage
+  x = h.storage
+
+  abbrev told : Option (List (List ℕ))
+  told = h.told
+
+  abbrev plan : Placement
+  plan = h.plan
+
+  abbrev s : Session
+  s = h.session
+
+  abbrev m : SessionJob
+  m = h.member
+
+  abbrev t : Task
+  t = h.task
+
+  abbrev condition : Condition
+  condition = h.condition
+
+  abbrev w : StandsChosen x told k plan s m t c
+  w = h.stands
+
+  abbrev so : HoldsSo plan m t state condition
+  so = h.so
+
   abbrev job : Job
   job = m.progress.job
 
@@ -136,19 +165,20 @@ module _ (x : Storage) (told : Option (List (List ℕ))) (k : Machine) (plan : P
     pub inside_set : c.row < length tasks.rows.items
     inside_set = subst (λ (z : Tasks). c.row < length z.rows.items) (sym set_is) (omega (arith, inside, length-set k.tasks.rows.items c.row (record row { state = state })))
 
-    pub printed_set : tasks.printed ≡ k.tasks.printed
+    printed_set : tasks.printed ≡ k.tasks.printed
     printed_set = ap (λ (z : Tasks). z.printed) set_is
 
-    -- but for the rows and how much is printed the tables are as they were
-    pub rest_set : (printed : ℕ) → record tasks { printed = printed } ≡ record k.tasks { rows = tasks.rows; running = tasks.running; printed = printed }
-    rest_set printed = subst (λ (z : Tasks). record z { printed = printed } ≡ record k.tasks { rows = z.rows; running = z.running; printed = printed }) (sym set_is) refl
+    still : (printed : ℕ) → MachineRepresents x told (record k { tasks = record tasks { printed = printed } }) plan session
+    still printed = reprinted x told (record k { tasks = tasks }) plan session printed set_stands
 
-    -- the text that is printed
-    pub text_is : (items slice : List EndedTask)
-        → ((plan : Placement) (s : Session) (m : SessionJob) → TablesHold plan s tasks → Has s.jobs m → m.constants.number ≡ c.job → map pair_of items ≡ (deadlocked (unsettled m.progress.job)).endings) → slice ≡ items
-        → endings_text c.job (map pair_of slice) ≡ run_text (part_of s (choice_of c) m t (holding job t condition)).lines
-    text_is items slice stuck lent =
-        ap (λ (l : List EndedTask). endings_text c.job (map pair_of l)) lent ∙ ap (endings_text c.job) (stuck plan session member set_hold in_session own)
+    pub has_job : (printed : ℕ) → HasJobOf (record k { tasks = record tasks { printed = printed } }) c.job
+    has_job printed = record { storage = x; told = told; plan = plan; session = session; member = member; ordered = ordered; stands = still printed; among = in_session; number = own }
+
+    -- but for the rows, the one that runs and how much is printed the tables are as they were
+    pub rest_after : (printed : ℕ) (last : Machine) → last.tasks ≡ record tasks { printed = printed; rows = last.tasks.rows; running = last.tasks.running } → last.tasks ≡ record k.tasks { rows = last.tasks.rows; running = last.tasks.running; printed = printed }
+    rest_after printed last rest =
+        same_tasks k.tasks (record tasks { printed = printed }) last.tasks printed rest
+        (subst (λ (z : Tasks). record z { printed = printed } ≡ record k.tasks { rows = z.rows; running = z.running; printed = printed }) (sym set_is) refl)
 
     -- the row as it was
     pub back_is : (printed : ℕ) (before : TaskState) → ((r : TaskRow) → slice_get k.tasks.rows.items c.row ≡ Some r → before ≡ r.state) → (back : Tasks)
@@ -162,27 +192,48 @@ module _ (x : Storage) (told : Option (List (List ℕ))) (k : Machine) (plan : P
         ∙ ap (λ (b : TaskState). record k.tasks { rows = record { items = slice_set (slice_set items c.row new) c.row (record row { state = b }) }; printed = printed }) (was row w.row.there)
         ∙ ap (λ (l : List TaskRow). record k.tasks { rows = record { items = l }; printed = printed }) (set-back items c.row new row w.row.there)
 
+    abbrev made : Stepped
+    made = holding job t condition
+
+    abbrev part : StepResult
+    part = part_of s (choice_of c) m t made
+
+    -- what ends by itself
+    abbrev pub Stuck : List EndedTask → Type 0
+    Stuck items = (plan : Placement) (s : Session) (m : SessionJob) → TablesHold plan s tasks → Has s.jobs m → m.constants.number ≡ c.job → map pair_of items ≡ (deadlocked (unsettled m.progress.job)).endings
+
+    text_is : (items lent : List EndedTask) → Stuck items → lent ≡ items → endings_text c.job (map pair_of lent) ≡ run_text part.lines
+    text_is items lent stuck same = ap (λ (l : List EndedTask). endings_text c.job (map pair_of l)) same ∙ ap (endings_text c.job) (stuck plan session member set_hold in_session own)
+
     -- once the lines are printed
-    module _ (printed : ℕ) where
+    module _ {K : Type 0} (taken : K → Option (List ℕ)) (paper paper' : K) (items lent : List EndedTask) (stuck : Stuck items) (same : lent ≡ items) (printed : ℕ) where
       abbrev now : Machine
       now = record k { tasks = record tasks { printed = printed } }
 
-      still : MachineRepresents x told now plan session
-      still = reprinted x told (record k { tasks = tasks }) plan session printed set_stands
+      abbrev EndsStuck : Machine → Type 0
+      EndsStuck last = (x : Storage) (told : Option (List (List ℕ))) (plan : Placement) (s : Session) (m : SessionJob) → IsInOrderButCounts s → MachineRepresents x told now plan s → Has s.jobs m → m.constants.number ≡ c.job
+          → StandsFor told last (with_job s m (deadlocked (unsettled m.progress.job)).job)
 
-      pub has_job : HasJobOf now c.job
-      has_job = record { storage = x; told = told; plan = plan; session = session; member = member; ordered = ordered; stands = still; among = in_session; number = own }
-
-      abbrev made : Stepped
-      made = holding job t condition
-
-      pub held_closed : (last : Machine)
-          → ((x : Storage) (told : Option (List (List ℕ))) (plan : Placement) (s : Session) (m : SessionJob) → IsInOrderButCounts s → MachineRepresents x told now plan s → Has s.jobs m → m.constants.number ≡ c.job
-          → StandsFor told last (with_job s m (deadlocked (unsettled m.progress.job)).job))
-          → (counts : Tasks) → IsCounted c last.tasks counts → StandsFor told (record last { tasks = counts }) (part_of s (choice_of c) m t made).session
-      held_closed last ends counts counted =
-          let f : StandsFor told last (with_job session member made.settled.job) = ends x told plan session member ordered still in_session own in
-          let stuck : MachineRepresents f.storage told last f.plan (with_job s m made.settled.job) = subst (MachineRepresents f.storage told last f.plan) (with_job-twice s m after made.settled.job) f.stands in
+      held_stands : (last : Machine) → EndsStuck last → (counts : Tasks) → IsCounted c last.tasks counts → StandsFor told (record last { tasks = counts }) part.session
+      held_stands last ends counts counted =
+          let f : StandsFor told last (with_job session member made.settled.job) = ends x told plan session member ordered (still printed) in_session own in
+          let there : MachineRepresents f.storage told last f.plan (with_job s m made.settled.job) = subst (MachineRepresents f.storage told last f.plan) (with_job-twice s m after made.settled.job) f.stands in
           let moment : JobMoment = moment_with m.progress t made made.settled in
-          let there : keyed number_of c.job s.jobs ≡ Some m = ap (λ (z : Choice). keyed number_of z.who.job s.jobs) (sym w.chosen) ∙ w.next.member in
-          record { storage = f.storage; plan = f.plan; stands = counted_stands s c m moment w.ordered there (as_many s m t condition w.ordered w.next so.is) f.storage told last f.plan counts refl counted stuck }
+          let found_c : keyed number_of c.job s.jobs ≡ Some m = ap (λ (z : Choice). keyed number_of z.who.job s.jobs) (sym w.chosen) ∙ w.next.member in
+          record { storage = f.storage; plan = f.plan; stands = counted_stands s c m moment w.ordered found_c (as_many s m t condition w.ordered w.next so.is) f.storage told last f.plan counts refl counted there }
+
+      pub held_closed : TookRest taken paper paper' (endings_text c.job (map pair_of lent)) tasks.printed → (last : Machine) → EndsStuck last → last.tasks ≡ record now.tasks { rows = last.tasks.rows; running = last.tasks.running }
+          → (counts : Tasks) → IsCounted c last.tasks counts → Closes taken told part (Ok tt) k (record last { tasks = counts }) paper paper'
+      held_closed took last ends rest counts counted = (
+        subst (TookRest taken paper paper' (run_text part.lines)) printed_set (subst (λ (l : List ℕ). TookRest taken paper paper' l tasks.printed) (text_is items lent stuck same) took),
+        counted.printed,
+        counted.made ∙ ap (λ (z : Tasks). z.made + 1) (rest_after printed last rest),
+        held_stands last ends counts counted,
+      )
+
+      pub held_cut : (failed : Failed) (back : Tasks) → back ≡ record k.tasks { printed = printed } → TookMore taken paper paper' (endings_text c.job (map pair_of lent)) tasks.printed printed → Closes taken told part (Err failed) k (record k { tasks = back }) paper paper'
+      held_cut failed back is took =
+          let text : TookMore taken paper paper' (run_text part.lines) tasks.printed printed = subst (λ (l : List ℕ). TookMore taken paper paper' l tasks.printed printed) (text_is items lent stuck same) took in
+          let own : TookMore taken paper paper' (run_text part.lines) k.tasks.printed printed = subst (λ (n : ℕ). TookMore taken paper paper' (run_text part.lines) n printed) printed_set text in
+          let P : Tasks → Type 0 = λ z. Closes taken told part (Err failed) k (record k { tasks = z }) paper paper' in
+          subst P (sym is) (own, refl)

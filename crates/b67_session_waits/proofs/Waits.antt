@@ -1,5 +1,5 @@
 -- A step that makes its task wait keeps the order.
-use Rattle.std.proofs.Common.{◌≡◌, ◌≤◌, ℕ, List, [], map, length, None, Some, Ok, refl, sym, ap, ◌∙◌, subst, inl, arith}
+use Rattle.std.proofs.Common.{◌≡◌, ℕ, [], map, length, None, Some, Ok, refl, ap, ◌∙◌, subst, inl, arith}
 use Rattle.b67_lemmas.specs.Lists.{Has}
 use Rattle.b67_lemmas.proofs.Members.{all_in, keyed_has, length_change}
 use Rattle.b67_model.specs.Answers.{Answer}
