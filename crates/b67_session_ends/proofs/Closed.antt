@@ -28,14 +28,13 @@ use Rattle.b67_layout.proofs.Weaker.{but_counts}
 use Rattle.b67_task_tables.specs.declared.tables.Tasks.{Tasks}
 use Rattle.b67_task_tables.specs.declared.tables.Machine.{Machine}
 use Rattle.b67_task_tables.specs.Tables.{MachineRepresents, AreCountable, row_names}
-use Rattle.b67_task_deaths.specs.Deaths.{MayEnd, HasEnded, numbers_of, without_tasks}
 use Rattle.b67_task_end.specs.declared.families.EndedTask.{EndedTask}
 use Rattle.b67_task_end.specs.Family.{TablesHold, HasSomeRow, HasSomeHead, pair_of, endings_of}
 use Rattle.b67_session_schedule.specs.declared.counting.Chosen.{Chosen}
 use Rattle.b67_session_schedule.specs.Counted.{choice_of, CountsHaveRoom}
 use Rattle.b67_session_ends.specs.Closing.{HasJobOf, StandsChosen, KeepsNames}
 use Rattle.b67_session_ends.specs.Counts.{IsCounted}
-use Rattle.b67_session_ends.specs.Ends.{StandsFor}
+use Rattle.b67_session_ends.specs.Ends.{StandsFor, IsFamilyOf, EndsFamily}
 use Rattle.b67_session_ends.specs.Texts.{endings_text}
 use Rattle.b67_session_ends.proofs.ByLimit.{reprinted}
 use Rattle.b67_session_ends.proofs.Counted.{counted_stands}
@@ -104,24 +103,21 @@ module _ (x : Storage) (told : Option (List (List ℕ))) (k : Machine) (plan : P
     pub still : MachineRepresents x told now plan s
     still = reprinted x told k plan s printed w.stands
 
-    pub may_end : MayEnd now c.row
-    may_end = record { tables = now.tasks; same = record { rows = refl; running = refl }; storage = x; told = told; plan = plan; session = s; member = m; task = t; ordered = o; stands = still; at = w.row }
+    pub is_family : (ending : Ending) (endings : List (ℕ × Ending)) → endings ≡ endings_of m.progress.job t.number ending → IsFamilyOf x told now plan s m t c.row c.job ending endings
+    is_family ending endings listed = record { ordered = o; stands = still; at = w.row; number = own; listed = listed }
 
-    module _ (ending : Ending) (new : Machine) (e : HasEnded now.tasks told plan s m (endings_of m.progress.job t.number ending) new) (tasks : new.tasks ≡ record now.tasks { rows = new.tasks.rows; running = new.tasks.running }) where
+    pub ends_family : (ending : Ending) (endings : List (ℕ × Ending)) → endings ≡ endings_of m.progress.job t.number ending → EndsFamily now c.row c.job endings
+    ends_family ending endings listed = record { storage = x; told = told; plan = plan; session = s; member = m; task = t; ending = ending; family = is_family ending endings listed }
+
+    module _ (ending : Ending) (new : Machine) (e : StandsFor told new (with_job s m (ends_task m.progress.job t.number ending).job)) where
       abbrev gone : Settled
       gone = ends_task m.progress.job t.number ending
 
       abbrev left : SessionJob
       left = record m { progress = record m.progress { job = gone.job } }
 
-      abbrev after_plan : Placement
-      after_plan = without_tasks plan m.constants.number (numbers_of (endings_of m.progress.job t.number ending))
-
       order : TasksInOrder (IsSegment m.constants) m.constants m.progress.job
       order = (all_in (λ (y : SessionJob). JobInOrderButCounts (IsSegment y.constants) y.constants y.progress) s.jobs m o.jobs among).tasks
-
-      pub left_stands : MachineRepresents e.storage told new after_plan (with_job s m gone.job)
-      left_stands = subst (λ (z : Tasks). MachineRepresents e.storage told (record new { tasks = z }) after_plan (with_job s m gone.job)) (sym tasks) e.stands
 
       pub left_ordered : IsInOrderButCounts (with_job s m gone.job)
       left_ordered = ordered_with s m gone.job found o (ends_task_good (IsSegment m.constants) m.constants m.progress.job t.number ending order) refl (ends_fewer (unsettled m.progress.job) _)
@@ -130,7 +126,7 @@ module _ (x : Storage) (told : Option (List (List ℕ))) (k : Machine) (plan : P
       left_among = changed_there number_of m.constants.number (λ (y : SessionJob). record y { progress = record m.progress { job = gone.job } }) s.jobs m found
 
       pub has_job : HasJobOf new c.job
-      has_job = record { storage = e.storage; told = told; plan = after_plan; session = with_job s m gone.job; member = left; ordered = left_ordered; stands = left_stands; among = left_among; number = own }
+      has_job = record { storage = e.storage; told = told; plan = e.plan; session = with_job s m gone.job; member = left; ordered = left_ordered; stands = e.stands; among = left_among; number = own }
 
       -- and those that are deadlocked
       module _ (last : Machine) (f : StandsFor told last (with_job (with_job s m gone.job) left (deadlocked (unsettled gone.job)).job)) where
@@ -154,7 +150,7 @@ module _ (x : Storage) (told : Option (List (List ℕ))) (k : Machine) (plan : P
           → ((x : Storage) (told : Option (List (List ℕ))) (plan : Placement) (s : Session) (m : SessionJob) → IsInOrderButCounts s → MachineRepresents x told new plan s → Has s.jobs m → m.constants.number ≡ c.job
           → StandsFor told last (with_job s m (deadlocked (unsettled m.progress.job)).job))
           → (counts : Tasks) → IsCounted c last.tasks counts → StandsFor told (record last { tasks = counts }) (part_of s (choice_of c) m t (ends_with m.progress.job t.number ending)).session
-      closed_by last ends counts counted = closed last (ends e.storage told after_plan (with_job s m gone.job) left left_ordered left_stands left_among own) counts counted
+      closed_by last ends counts counted = closed last (ends e.storage told e.plan (with_job s m gone.job) left left_ordered e.stands left_among own) counts counted
 
 -- but for the rows, the one that runs and how much is printed the tables are as before the tasks' ends
 pub same_tasks : (old mid last : Tasks) (printed : ℕ) → last ≡ record mid { rows = last.rows; running = last.running } → mid ≡ record old { rows = mid.rows; running = mid.running; printed = printed }

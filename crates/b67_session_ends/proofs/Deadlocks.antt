@@ -27,7 +27,7 @@ use Rattle.b67_task_tables.specs.declared.tables.TaskRow.{TaskRow}
 use Rattle.b67_task_tables.specs.declared.tables.Tasks.{Tasks}
 use Rattle.b67_task_tables.specs.declared.tables.Machine.{Machine}
 use Rattle.b67_task_tables.specs.Tables.{MachineRepresents}
-use Rattle.b67_task_deaths.specs.Deaths.{numbers_of}
+use Rattle.b67_task_end_tables.specs.Deaths.{numbers_of}
 use Rattle.b67_task_end.specs.declared.families.EndedTask.{EndedTask}
 use Rattle.b67_task_end.specs.Family.{TablesHold, pair_of}
 use Rattle.b67_session_ends.specs.Closing.{is_dead_of, left_ready, others_of}

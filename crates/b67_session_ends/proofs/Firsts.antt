@@ -2,6 +2,7 @@
 use Rattle.std.proofs.Common.{◌≡◌, ◌≢◌, ◌<◌, ◌≤◌, ◌+◌, ◌⊎◌, ℕ, true, false, List, [], length, map, Option, Some, refl, sym, ap, ◌∙◌, subst, arith, get_or, inl, inr}
 use Rattle.std.specs.Prelude.{◌==◌}
 use Rattle.std.proofs.lemmas.Bool.Decides.{eqb_tells}
+use Rattle.b67_word.specs.declared.faults.Ending.{Ending}
 use Rattle.b67_word.specs.declared.faults.Ending.TheVariants.{Limit}
 use Rattle.b67_lemmas.specs.Lists.{Has}
 use Rattle.b67_lemmas.proofs.Members.{all_in, has_get, has_map_back}
@@ -26,9 +27,8 @@ use Rattle.b67_task_tables.specs.declared.tables.TaskRow.{TaskRow}
 use Rattle.b67_task_tables.specs.declared.tables.Tasks.{Tasks}
 use Rattle.b67_task_tables.specs.declared.tables.Machine.{Machine}
 use Rattle.b67_task_tables.specs.Tables.{task_row, MachineRepresents}
-use Rattle.b67_task_end.specs.Family.{IsRowOf, endings_of}
-use Rattle.b67_task_deaths.specs.Deaths.{MayEnd, HasEnded, numbers_of, without_tasks}
-use Rattle.b67_session_ends.specs.Ends.{StandsFor, IsFirstRow}
+use Rattle.b67_task_end.specs.Family.{TablesHold, IsRowOf, HasSomeRow, endings_of}
+use Rattle.b67_session_ends.specs.Ends.{StandsFor, IsFirstRow, IsFamilyOf, EndsFamily}
 
 module _ (x : Storage) (told : Option (List (List ℕ))) (k : Machine) (plan : Placement) (s : Session) (m : SessionJob) (o : IsInOrderButCounts s) (h : MachineRepresents x told k plan s) (among : Has s.jobs m) where
   order : TasksInOrder (IsSegment m.constants) m.constants m.progress.job
@@ -67,22 +67,32 @@ module _ (x : Storage) (told : Option (List (List ℕ))) (k : Machine) (plan : P
         };
       }
 
-  pub may_end : (at : ℕ) → IsFirstRow k.tasks.rows.items m.constants.number at → MayEnd k at
-  may_end at f =
-      let g = first_of at f in
-      record { tables = k.tasks; same = record { rows = refl; running = refl }; storage = x; told = told; plan = plan; session = s; member = m; task = g.task; ordered = o; stands = h; at = g.row }
+  pub holds : TablesHold plan s k.tasks
+  holds = record { ordered = o; fits = h.session.holds.fits.rows; few = h.session.holds.fits.few; shows = h.tables }
 
-  -- once it has ended, all have
-  pub all_ended : (new : Machine) (u : Task) → u.number ≡ 1 → HasEnded k.tasks told plan s m (endings_of m.progress.job u.number Limit) new
-      → new.tasks ≡ record k.tasks { rows = new.tasks.rows; running = new.tasks.running } → StandsFor told new (with_job s m (ends_each_if true Limit (unsettled m.progress.job)).job)
-  all_ended new u one e tasks =
-      let job : (ends_task m.progress.job u.number Limit).job ≡ (ends_each_if true Limit (unsettled m.progress.job)).job =
-      ap (λ (n : ℕ). (ends_task m.progress.job n Limit).job) one ∙ first_emptied (IsSegment m.constants) m.constants m.progress.job order Limit
-      ∙ sym (each_emptied (IsSegment m.constants) m.constants m.progress.job order Limit) in
-      let after : Placement = without_tasks plan m.constants.number (numbers_of (endings_of m.progress.job u.number Limit)) in
-      let J : Job → Type 0 = λ j. MachineRepresents e.storage told new after (with_job s m j) in
-      let T : Tasks → Type 0 = λ z. MachineRepresents e.storage told (record new { tasks = z }) after (with_job s m (ends_task m.progress.job u.number Limit).job) in
-      record { storage = e.storage; plan = after; stands = subst J job (subst T (sym tasks) e.stands) }
+  module _ (at : ℕ) (f : IsFirstRow k.tasks.rows.items m.constants.number at) where
+    pub has_row : HasSomeRow k.tasks at
+    has_row = let g = first_of at f in record { plan = plan; session = s; job_of = m; task = g.task; holds = holds; row = g.row }
+
+    -- by who is said to end with it
+    module _ (job : ℕ) (number : m.constants.number ≡ job) (endings : List (ℕ × Ending))
+        (listed : (plan : Placement) (s : Session) (m : SessionJob) (t : Task) → TablesHold plan s k.tasks → IsRowOf plan s k.tasks.rows.items at m t → endings ≡ endings_of m.progress.job t.number Limit) where
+      pub is_family : IsFamilyOf x told k plan s m (first_of at f).task at job Limit endings
+      is_family = let g = first_of at f in record { ordered = o; stands = h; at = g.row; number = number; listed = listed plan s m g.task holds g.row }
+
+      pub ends_family : EndsFamily k at job endings
+      ends_family = record { storage = x; told = told; plan = plan; session = s; member = m; task = (first_of at f).task; ending = Limit; family = is_family }
+
+      -- once it has ended, all have
+      pub all_ended : (new : Machine)
+          → ((x : Storage) (told : Option (List (List ℕ))) (plan : Placement) (s : Session) (m : SessionJob) (t : Task) (ending : Ending) → IsFamilyOf x told k plan s m t at job ending endings → StandsFor told new (with_job s m (ends_task m.progress.job t.number ending).job))
+          → StandsFor told new (with_job s m (ends_each_if true Limit (unsettled m.progress.job)).job)
+      all_ended new ends =
+          let g = first_of at f in
+          let same : (ends_task m.progress.job g.task.number Limit).job ≡ (ends_each_if true Limit (unsettled m.progress.job)).job =
+          ap (λ (n : ℕ). (ends_task m.progress.job n Limit).job) g.one ∙ first_emptied (IsSegment m.constants) m.constants m.progress.job order Limit
+          ∙ sym (each_emptied (IsSegment m.constants) m.constants m.progress.job order Limit) in
+          subst (λ (j : Job). StandsFor told new (with_job s m j)) same (ends x told plan s m g.task Limit is_family)
 
 -- a row that is read
 pub read_row : (rs : List TaskRow) (job at i : ℕ) (d : TaskRow) → at ≡ i → IsFirstRow rs job i → ((get_or rs at d).job ≡ job) × ((get_or rs at d).number ≡ 1)

@@ -22,7 +22,7 @@ use Rattle.b67_task_tables.specs.declared.tables.TaskRow.{TaskRow}
 use Rattle.b67_task_tables.specs.declared.tables.Tasks.{Tasks}
 use Rattle.b67_task_tables.specs.Tables.{state_of, task_row}
 use Rattle.b67_task_end.specs.declared.families.EndedTask.{EndedTask}
-use Rattle.b67_task_deaths.specs.Deaths.{numbers_of}
+use Rattle.b67_task_end_tables.specs.Deaths.{numbers_of}
 use Rattle.b67_task_end.specs.Family.{TablesHold, pair_of}
 use Rattle.b67_session_ends.specs.Closing.{is_dead_of, ready_after, left_ready}
 

@@ -18,18 +18,17 @@ ghost use Rattle.b67_session_ends.specs.Ends.{StandsFor};
 
 use crate::closing::{goes_on, with_stuck};
 use crate::counts::count_one;
-use crate::deaths::end_job;
+use crate::deaths::{end_family, end_job};
 use crate::limits::has_row;
 use crate::texts::put_endings;
 use b67_io::Sink;
 use b67_session_schedule::Chosen;
-use b67_task_deaths::end;
 use b67_task_end::endings;
 use b67_task_tables::Machine;
 use b67_word::{Ending, Failed};
 
 /// If no task of a job is ready, all of them end.
-fn end_stuck(machine: &mut Machine, job: u8)
+pub fn end_stuck(machine: &mut Machine, job: u8)
     requires { HasJobOf machine.old job }
     ensures stands { (x : Storage) (told : Option (List (List ℕ))) (plan : Placement) (s : Session) (m : SessionJob) → IsInOrderButCounts s → MachineRepresents x told machine.old plan s
         → Has s.jobs m → m.constants.number ≡ job → StandsFor told machine.new (with_job s m (deadlocked (unsettled m.progress.job)).job) }
@@ -72,7 +71,7 @@ pub fn close<K: Sink>(
         Ok(()) => {}
         Err(failed) => return Err(failed),
     }
-    let _ended = end(machine, chosen.row, ending);
+    end_family(machine, chosen.row, chosen.job, dead.as_slice());
     end_stuck(machine, chosen.job);
     count_one(&mut machine.tasks, chosen);
     Ok(())

@@ -9,7 +9,8 @@ use Rattle.b67_law_turns.specs.Turns.{part_of}
 use Rattle.b67_session_schedule.specs.Counted.{choice_of}
 use Rattle.b67_session_ends.specs.Closing.{StandsChosen}
 use Rattle.b67_session_ends.specs.Texts.{endings_text}
-use Rattle.b67_session_ends.proofs.Closed.{has_row, has_head, may_end, has_job, o, holds, among, own, still, closed_by, same_tasks, room_still, all_text, keeps_close, keeps_cut}
+use Rattle.b67_session_ends.proofs.Families.{lent_list}
+use Rattle.b67_session_ends.proofs.Closed.{has_row, has_head, has_job, holds, is_family, ends_family, closed_by, same_tasks, room_still, all_text, keeps_close, keeps_cut}
 use Rattle.b67_session_ends.proofs.closes.close.Goals as goal
 
 pub endings-dead-requires : goal.endings-dead-requires
@@ -18,30 +19,34 @@ endings-dead-requires g c = let r = c.requires.row in has_row r.storage r.told c
 pub with_stuck-all-requires-clause-head : goal.with_stuck-all-requires-clause-head
 with_stuck-all-requires-clause-head g c = let r = c.requires.row in has_head r.storage r.told c.args.machine.now r.plan r.session r.member r.task c.args.chosen r.stands
 
-pub end-ended-requires : goal.end-ended-requires
-end-ended-requires g c = let r = c.requires.row in may_end r.storage r.told c.args.machine.now r.plan r.session r.member r.task c.args.chosen r.stands c.put_endings.new.printed
+pub end_family-requires-clause-some : goal.end_family-requires-clause-some
+end_family-requires-clause-some g c =
+    let r = c.requires.row in
+    ends_family r.storage r.told c.args.machine.now r.plan r.session r.member r.task c.args.chosen r.stands c.put_endings.new.printed c.args.ending (map pair_of c.as_slice-3.result.now)
+    (lent_list c.args.machine.now.tasks c.args.chosen.row c.args.ending c.endings-dead.result.items c.as_slice-3.result.now c.endings-dead.ensures c.as_slice-3.ensures.value r.plan r.session r.member r.task
+    (holds r.storage r.told c.args.machine.now r.plan r.session r.member r.task c.args.chosen r.stands) r.stands.row)
 
 pub end_stuck-requires : goal.end_stuck-requires
 end_stuck-requires g c =
     let r = c.requires.row in
     let k = c.args.machine.now in
-    let now = record k { tasks = record k.tasks { printed = c.put_endings.new.printed } } in
-    has_job r.storage r.told k r.plan r.session r.member r.task c.args.chosen r.stands c.put_endings.new.printed c.args.ending c.end-ended.new.machine
-    (c.end-ended.ensures.stands now.tasks r.storage r.told r.plan r.session r.member r.task (record { rows = refl; running = refl })
-    (o r.storage r.told k r.plan r.session r.member r.task c.args.chosen r.stands)
-    (still r.storage r.told k r.plan r.session r.member r.task c.args.chosen r.stands c.put_endings.new.printed) r.stands.row)
-    c.end-ended.ensures.tasks
+    let list = map pair_of c.as_slice-3.result.now in
+    let listed = lent_list k.tasks c.args.chosen.row c.args.ending c.endings-dead.result.items c.as_slice-3.result.now c.endings-dead.ensures c.as_slice-3.ensures.value r.plan r.session r.member r.task
+    (holds r.storage r.told k r.plan r.session r.member r.task c.args.chosen r.stands) r.stands.row in
+    has_job r.storage r.told k r.plan r.session r.member r.task c.args.chosen r.stands c.put_endings.new.printed c.args.ending c.end_family.new.machine
+    (c.end_family.ensures.stands r.storage r.told r.plan r.session r.member r.task c.args.ending
+    (is_family r.storage r.told k r.plan r.session r.member r.task c.args.chosen r.stands c.put_endings.new.printed c.args.ending list listed))
 
 pub count_one-requires : goal.count_one-requires
 count_one-requires g c = room_still c.args.machine.now.tasks c.end_stuck.new.machine.tasks c.args.chosen c.put_endings.new.printed
-    (same_tasks c.args.machine.now.tasks c.end-ended.new.machine.tasks c.end_stuck.new.machine.tasks c.put_endings.new.printed c.end_stuck.ensures.tasks c.end-ended.ensures.tasks) c.requires.room
+    (same_tasks c.args.machine.now.tasks c.end_family.new.machine.tasks c.end_stuck.new.machine.tasks c.put_endings.new.printed c.end_stuck.ensures.tasks c.end_family.ensures.tasks) c.requires.room
 
 pub returns-clause-closes : goal.returns-clause-closes
 returns-clause-closes g c = λ x told plan s m t w.
     (let k = c.args.machine.now in
-    let now = record k { tasks = record k.tasks { printed = c.put_endings.new.printed } } in
-    let e = c.end-ended.ensures.stands now.tasks x told plan s m t (record { rows = refl; running = refl }) (o x told k plan s m t c.args.chosen w) (still x told k plan s m t c.args.chosen w c.put_endings.new.printed) w.row in
-    let same = same_tasks k.tasks c.end-ended.new.machine.tasks c.end_stuck.new.machine.tasks c.put_endings.new.printed c.end_stuck.ensures.tasks c.end-ended.ensures.tasks in
+    let listed = lent_list k.tasks c.args.chosen.row c.args.ending c.endings-dead.result.items c.as_slice-3.result.now c.endings-dead.ensures c.as_slice-3.ensures.value plan s m t (holds x told k plan s m t c.args.chosen w) w.row in
+    let e = c.end_family.ensures.stands x told plan s m t c.args.ending (is_family x told k plan s m t c.args.chosen w c.put_endings.new.printed c.args.ending (map pair_of c.as_slice-3.result.now) listed) in
+    let same = same_tasks k.tasks c.end_family.new.machine.tasks c.end_stuck.new.machine.tasks c.put_endings.new.printed c.end_stuck.ensures.tasks c.end_family.ensures.tasks in
     (
       subst (λ (l : List ℕ). TookRest g.K.Sink.taken c.args.paper.now c.put_endings.new.paper l k.tasks.printed)
           (all_text x told k plan s m t c.args.chosen w c.args.ending c.endings-dead.result.items c.as_slice.result.now c.with_stuck-all.result.items c.as_slice-2.result.now
@@ -49,7 +54,7 @@ returns-clause-closes g c = λ x told plan s m t w.
           c.in-Ok.ensures.whole,
       c.count_one.ensures.printed,
       c.count_one.ensures.made ∙ ap (λ (z : Tasks). z.made + 1) same,
-      closed_by x told k plan s m t c.args.chosen w c.put_endings.new.printed c.args.ending c.end-ended.new.machine e c.end-ended.ensures.tasks c.end_stuck.new.machine c.end_stuck.ensures.stands c.count_one.new.tasks c.count_one.ensures,
+      closed_by x told k plan s m t c.args.chosen w c.put_endings.new.printed c.args.ending c.end_family.new.machine e c.end_stuck.new.machine c.end_stuck.ensures.stands c.count_one.new.tasks c.count_one.ensures,
     ))
 
 pub returns-in-Err-clause-closes : goal.returns-in-Err-clause-closes
@@ -66,8 +71,8 @@ returns-in-Err-clause-closes g c = λ x told plan s m t w.
 pub returns-clause-keeps : goal.returns-clause-keeps
 returns-clause-keeps g c =
     keeps_close c.args.chosen c.args.machine.now c.end_stuck.new.machine c.count_one.new.tasks c.put_endings.new.printed
-    (same_tasks c.args.machine.now.tasks c.end-ended.new.machine.tasks c.end_stuck.new.machine.tasks c.put_endings.new.printed c.end_stuck.ensures.tasks c.end-ended.ensures.tasks)
-    c.count_one.ensures (c.end_stuck.ensures.len ∙ c.end-ended.ensures.len) (c.end_stuck.ensures.count ∙ c.end-ended.ensures.count)
+    (same_tasks c.args.machine.now.tasks c.end_family.new.machine.tasks c.end_stuck.new.machine.tasks c.put_endings.new.printed c.end_stuck.ensures.tasks c.end_family.ensures.tasks)
+    c.count_one.ensures (c.end_stuck.ensures.len ∙ c.end_family.ensures.len) (c.end_stuck.ensures.count ∙ c.end_family.ensures.count)
 
 pub returns-in-Err-clause-keeps : goal.returns-in-Err-clause-keeps
 returns-in-Err-clause-keeps g c = keeps_cut c.args.machine.now c.put_endings.new.printed
