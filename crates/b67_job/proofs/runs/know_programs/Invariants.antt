@@ -1,0 +1,7 @@
+use Rattle.std.proofs.Common.{drop}
+use Rattle.std.specs.List.{AllByRecursion}
+use Rattle.b67_session_open.specs.Decks.{IsLoaded}
+use Rattle.b67_job.proofs.runs.know_programs.Given as goal
+
+abbrev pub invariant-programs : goal.invariant-programs
+invariant-programs l = record { loaded : AllByRecursion IsLoaded l.rest → AllByRecursion IsLoaded l.fn.programs }
