@@ -20,7 +20,8 @@ use Rattle.b67_session_open.specs.Opens.{OpensAs}
 use Rattle.b67_session_open.proofs.Decks.{deck_within}
 use Rattle.b67_session.specs.Slices.{StandsAt, LivesOn, StandsLimited, HasNoTasks}
 use Rattle.b67_session.proofs.Going.{rests_now, next_now}
-use Rattle.b67_job.specs.States.{StatesInOrder}
+use Rattle.b67_law_jobs.proofs.ApartLemmas.{jobs_apart, states_apart}
+use Rattle.b67_job.specs.States.{StatesInOrder, JobsRunApart}
 
 pub ordered_opens : (d : Deck) (fs : List Codefile) → DeckInRange d → AllByRecursion IsLoaded fs → IsInOrderButPlaces (session_of d (map program_of fs))
 ordered_opens d fs range loaded =
@@ -32,6 +33,10 @@ states_in_order d fs n range loaded = record {
   ordered = λ j low. runs_stay_in_order j d.stack d.quantum (map switch_of d.switches) (openings_of d.jobs (map program_of fs)) (deck_within d fs range loaded);
   made = λ j low m t f. runs_make_their_words j d.stack d.quantum (map switch_of d.switches) (openings_of d.jobs (map program_of fs)) m t f;
 }
+
+-- and each job has run apart
+pub jobs_run_apart : (steps : ℕ) (first : Session) → JobsRunApart steps first
+jobs_run_apart steps first = record { prints = λ job m found. jobs_apart steps first job m found; stays = λ job m found. states_apart steps first job m found }
 
 not_empty : (row : TaskRow) (rows : List TaskRow) → row ∷ rows ≢ []
 not_empty row rows e = cc

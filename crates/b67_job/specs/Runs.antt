@@ -22,7 +22,7 @@ use Rattle.b67_session_lines.specs.Stops.{Run, halted_line}
 use Rattle.b67_job.specs.Device.{Device, Tells, Failed, IsUntouched, known_now}
 use Rattle.b67_job.specs.Lines.{no_core_line, backing_full_line, backing_fault_line, memory_text}
 use Rattle.b67_job.specs.Texts.{Text, whole_of, only, TookUpTo, Closes}
-use Rattle.b67_job.specs.States.{StatesInOrder}
+use Rattle.b67_job.specs.States.{StatesInOrder, JobsRunApart}
 
 -- the run that a deck with its programs asks for: the session that it opens, and its halt
 abbrev pub run_of : Prepared → Run
@@ -154,13 +154,14 @@ pub data StopsUnopened {B : Type 0} (d : Device B) (core : ℕ) (p : Prepared) (
       → status ≡ 5 → text ≡ only (ended (backing_full_line (sectors_of_all p.0 p.1) d.sectors)) → StopsUnopened d core p status text
   opening_fails : RoomSuffices d core p → Failed d → status ≡ 6 → text ≡ only (ended backing_fault_line) → StopsUnopened d core p status text
 
--- A session was opened, for which there is room. Each state up to the count of the machine is in order; and if the device
--- told what its sectors hold, none of the steps up to there needed more words than core has. The machine has that core, the
--- halt of the deck and the names of its jobs. A slice may be called on it again, and its table of sectors has one for each of
--- the device.
+-- A session was opened, for which there is room. Each state up to the count of the machine is in order, and each job has
+-- printed and become what its own steps give; and if the device told what its sectors hold, none of the steps up to there
+-- needed more words than core has. The machine has that core, the halt of the deck and the names of its jobs. A slice may be
+-- called on it again, and its table of sectors has one for each of the device.
 pub record WasOpened {B : Type 0} (d : Device B) (core : ℕ) (p : Prepared) (k : Machine) : Type 0 where
   pub room : RoomSuffices d core p
   pub in_order : StatesInOrder k.tasks.made (run_of p).session
+  pub apart : JobsRunApart k.tasks.made (run_of p).session
   pub fitted : Tells d → StepsFit core k.tasks.made (run_of p).session
   pub core_size : length k.cpu.core ≡ core
   pub halt : k.tasks.halt ≡ p.0.halt
