@@ -21,7 +21,7 @@ use Rattle.b67_layout.proofs.Whole.{spots-with}
 use Rattle.b67_layout.proofs.Replaces.{IsDependedOn, Replaces}
 use Rattle.b67_layout_leave.proofs.Leaves.{Leaver, Frames-below}
 use Rattle.b67_mcp_calls.specs.Calls.{MayCut}
-use Rattle.b67_mcp_calls.proofs.Cuts.{Cut, cut_of}
+use Rattle.b67_exec_calls.proofs.Cuts.{Cut, cut_of}
 use Rattle.b67_mcp.proofs.Tables.{WaitsThere}
 
 -- a marked frame on top isn't one whose cell is waited at

@@ -15,7 +15,7 @@ use Rattle.b67_exec_cells.specs.Tops.{cells}
 use Rattle.b67_fetch.proofs.Values.{TopFollowed}
 use Rattle.b67_fetch.specs.Indexes.{FindsArray}
 use Rattle.b67_mcp_calls.specs.Calls.{IsCall}
-use Rattle.b67_mcp_calls.proofs.Prints.{one}
+use Rattle.b67_exec_calls.proofs.Ones.{one}
 use Rattle.b67_mcp_calls.specs.RowCalls.{CopyMeets, MissesCopy}
 
 module _ (plan : Placement) (m : SessionJob) (t : Task) (r : Word) (arguments : List Word) (call : IsCall t r arguments) where

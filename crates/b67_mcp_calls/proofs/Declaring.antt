@@ -43,7 +43,7 @@ use Rattle.b67_layout_leave.proofs.Slots.{OthersSame, stack-after, slots-after}
 use Rattle.b67_exec_cells.specs.Tops.{cells}
 use Rattle.b67_exec_cells.proofs.Replaced.{cells-are}
 use Rattle.b67_mcp_calls.specs.Declaring.{without}
-use Rattle.b67_mcp_calls.proofs.Pushed.{stack, on_slot, registers, room}
+use Rattle.b67_exec_calls.proofs.Pushed.{stack, on_slot, registers, room}
 use Rattle.b67_mcp_calls.proofs.Avoiding.{Avoids, FramesAvoid, JobAvoids}
 use Rattle.b67_mcp_calls.proofs.Unheld.{Represents-unheld}
 use Rattle.b67_mcp_calls.proofs.Added.{Fresh, Added, each, Represents-added}

@@ -1,8 +1,4 @@
-pub mod Owned
-pub mod Cuts
 pub mod Prints
-pub mod Pushed
-pub mod Answering
 pub mod Reading
 pub mod Unheld
 pub mod Added

@@ -1,58 +1,13 @@
--- A call of an intrinsic: the marked activation record on top, with a reference and arguments in its cells.
-use Rattle.std.specs.Prelude.{◌≡◌, ◌≢◌, ℤ, false, List, [], ◌∷◌, length, reverse, None, Result, Ok, Err}
-use Rattle.std.specs.List.{AllByRecursion}
-use Rattle.b67_word.specs.Tagged.{Tagged}
+-- A call of an intrinsic, and what PRINT makes of it.
+use Rattle.std.specs.Prelude.{◌≡◌, ℤ, List, [], ◌∷◌, None, Result, Ok, Err}
 use Rattle.b67_word.specs.declared.couples.Place.{Place}
 use Rattle.b67_word.specs.declared.faults.Fault.{Fault}
-use Rattle.b67_word.specs.declared.faults.Fault.TheVariants.{InvalidOperand}
-use Rattle.b67_model.specs.Answers.{Answer, ◌>>=◌}
-use Rattle.b67_model.specs.Words.{Word, number}
-use Rattle.b67_model.specs.State.{Marked, Task, Job, SessionJob, top, with_task}
-use Rattle.b67_model.specs.Steps.{Value, Goes, is_critical}
-use Rattle.b67_model.specs.Intrinsics.{is_original, answered, print}
-use Rattle.b67_arith.specs.OnWords.{bits_in}
-use Rattle.b67_stack.specs.declared.Cpu.{Cpu}
-use Rattle.b67_stack.specs.Represents.{Storage}
-use Rattle.b67_layout.specs.Placement.{Placement}
-use Rattle.b67_layout.specs.Meets.{RunsSome, here}
-use Rattle.b67_exec_cells.specs.Tops.{GivesTop}
-
--- the cells of a call from the first one up: the reference and the arguments
-pub record IsCall (t : Task) (reference : Word) (arguments : List Word) : Type 0 where
-  pub marked : (top t.frames).standing ≡ Marked
-  pub plain : is_original reference ≡ false
-  pub cells : reverse (top t.frames).cells ≡ reference ∷ arguments
-
--- a call that may be cut off the stack: no live task depends on it, and it holds no original
-pub record MayCut (m : SessionJob) (t : Task) : Type 0 where
-  pub marked : (top t.frames).standing ≡ Marked
-  pub plain : AllByRecursion (λ (w : Word). is_original w ≡ false) (top t.frames).cells
-  pub free : is_critical m.progress.job (top t.frames).identity ≡ false
-
--- the job without the call, whose task goes on at a place
-abbrev pub job_cut : SessionJob → Task → Place → Job
-job_cut m t next = with_task m.progress.job (answered (here m t next) [])
-
--- a machine with such a call on its running stack
-pub record CutSome (cpu : Cpu) : Type 0 where
-  pub runs : RunsSome cpu
-  pub may : MayCut runs.member runs.task
-
--- a machine with a call on its running stack
-pub record CallSome (cpu : Cpu) : Type 0 where
-  pub runs : RunsSome cpu
-  pub reference : Word
-  pub arguments : List Word
-  pub call : IsCall runs.task reference arguments
-
--- two cells, the upper of which is the argument; or a call with another number of arguments
-abbrev pub OnlyCell : Storage → Placement → SessionJob → Task → Cpu → List Word → Result Tagged Fault → Type 0
-OnlyCell x plan m t cpu cs (Ok w) = (length cs ≡ 2) × GivesTop x plan m t cpu cs (Ok w)
-OnlyCell x plan m t cpu cs (Err fault) = (length cs ≢ 2) × (fault ≡ InvalidOperand)
-
--- the number of a word, if it is a whole operand
-abbrev pub number_in : Tagged → Answer ℤ
-number_in w = bits_in w >>= number
+use Rattle.b67_model.specs.Words.{Word}
+use Rattle.b67_model.specs.State.{Task, SessionJob}
+use Rattle.b67_model.specs.Steps.{Value, Goes}
+use Rattle.b67_model.specs.Intrinsics.{print}
+use Rattle.b67_layout.specs.Meets.{here}
+pub use Rattle.b67_exec_calls.specs.Calls.{IsCall, MayCut, job_cut, CutSome, CallSome, OnlyCell, number_in}
 
 -- what PRINT is to print is the value of its row's line, or the row's fault
 abbrev pub PrintMeets : SessionJob → Task → List Word → Result ℤ Fault → Type 0

@@ -9,10 +9,9 @@ ghost use Rattle.b67_model.specs.Words as words;
 ghost use Rattle.b67_mcp_calls.specs.Declaring as definition;
 ghost use Rattle.b67_mcp_calls.specs.Declaring.{job_declared, with_home, without, LengthMeets};
 
-use crate::calls::cut_call;
-use crate::only::only_argument;
 use b67_ctl::DataDesc;
 use b67_entry::is_critical;
+use b67_exec_calls::{cut_call, only_argument};
 use b67_stack::Cpu;
 use b67_word::{Fault, Place, Word};
 

@@ -2,10 +2,7 @@
 //! answered.
 #![tactic(auto)]
 
-mod answer;
-mod calls;
 mod declare;
-mod only;
 mod print;
 mod read;
 mod resize;
@@ -13,8 +10,7 @@ mod row;
 mod text;
 mod whole;
 
-pub use answer::answer_call;
-pub use calls::cut_call;
+pub use b67_exec_calls::{answer_call, cut_call};
 pub use declare::{answer_array, array_length};
 pub use print::print_value;
 pub use read::read_number;

@@ -5,20 +5,10 @@ ghost use Rattle.b67_model.specs.Words as words;
 ghost use Rattle.b67_layout.specs.Meets.{ForEach};
 ghost use Rattle.b67_mcp_calls.specs.Calls.{CallSome, IsCall, number_in, PrintMeets};
 
-use crate::only::only_argument;
+use b67_exec_calls::{only_argument, whole};
 use b67_entry::is_critical;
 use b67_stack::Cpu;
 use b67_word::{Fault, Word};
-
-/// The number of a whole operand. INVALID OPERAND where a word is none, EXPONENT where it isn't whole.
-fn whole(w: Word) -> Result<i64, Fault>
-    ensures { result ≡ number_in w }
-{
-    if w.tag() != 0 {
-        return Err(Fault::InvalidOperand);
-    }
-    w.value().ok_or(Fault::Exponent)
-}
 
 /// The value that a call of PRINT on the running stack prints, or the call's fault. Nothing is changed: the line is printed
 /// first, and then the call is cut.

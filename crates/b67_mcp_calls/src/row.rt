@@ -9,10 +9,10 @@ ghost use Rattle.b67_fetch.specs.Indexes.{FindsArray};
 ghost use Rattle.b67_mcp_calls.specs.Calls.{CallSome, IsCall};
 ghost use Rattle.b67_mcp_calls.specs.RowCalls.{CopyMeets, MissesCopy, RowMeets, RowTouches};
 
-use crate::only::only_argument;
 use crate::whole::are_whole;
 use b67_ctl::DataDesc;
 use b67_entry::is_critical;
+use b67_exec_calls::only_argument;
 use b67_exec_cells::array_descriptor;
 use b67_refer::owner;
 use b67_stack::Cpu;

@@ -34,8 +34,8 @@ use Rattle.b67_layout_leave.proofs.Objects.{others}
 use Rattle.b67_layout_leave.proofs.Nowhere.{activations-same}
 use Rattle.b67_layout_leave.proofs.Leaves.{Leaver, task_at, may_leave, below-same, Frames-below, runs_after, holds_after, for_running_after}
 use Rattle.b67_layout_leave.proofs.Orders.{left_ready}
-use Rattle.b67_mcp_calls.specs.Calls.{MayCut, job_cut}
-use Rattle.b67_mcp_calls.proofs.Owned.{arrays_stay}
+use Rattle.b67_exec_calls.specs.Calls.{MayCut, job_cut}
+use Rattle.b67_exec_calls.proofs.Owned.{arrays_stay}
 use Rattle.b67_lemmas.proofs.Members.{keyed_has}
 
 -- a marked frame without an original on top, on which no live task depends

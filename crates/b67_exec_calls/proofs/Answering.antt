@@ -26,10 +26,10 @@ use Rattle.b67_layout.proofs.Frames.{height-is}
 use Rattle.b67_layout.proofs.Fresh.{fresh}
 use Rattle.b67_layout.proofs.Steps.{IsFree}
 use Rattle.b67_layout_enter.proofs.Awaits.{with_job-twice}
-use Rattle.b67_mcp_calls.specs.Calls.{MayCut, job_cut}
-use Rattle.b67_mcp_calls.proofs.Cuts.{cut_of}
-use Rattle.b67_mcp_calls.specs.Answered.{job_answered}
-use Rattle.b67_mcp_calls.proofs.Pushed.{stack, shaped, on_slot, registers, stands_pushed}
+use Rattle.b67_exec_calls.specs.Calls.{MayCut, job_cut}
+use Rattle.b67_exec_calls.proofs.Cuts.{cut_of}
+use Rattle.b67_exec_calls.specs.Answered.{job_answered}
+use Rattle.b67_exec_calls.proofs.Pushed.{stack, shaped, on_slot, registers, stands_pushed}
 use Rattle.b67_lemmas.proofs.Members.{change_twice, change_found, keyed_has}
 
 -- the task and the job's member without the call

@@ -4,11 +4,11 @@ use Rattle.b67_model.specs.Words.{Operand}
 use Rattle.b67_stack.specs.declared.Cpu.{Cpu}
 use Rattle.b67_layout.specs.Meets.{with_job, IsInStack}
 use Rattle.b67_layout.specs.Session.{RepresentsSession}
-use Rattle.b67_mcp_calls.specs.Calls.{job_cut}
-use Rattle.b67_mcp_calls.specs.Answered.{job_answered}
-use Rattle.b67_mcp_calls.proofs.Pushed.{room}
-use Rattle.b67_mcp_calls.proofs.Answering.{task_cut, member_cut, runs_cut, higher, changed, stands_answered}
-use Rattle.b67_mcp_calls.proofs.answer.answer_call.Goals as goal
+use Rattle.b67_exec_calls.specs.Calls.{job_cut}
+use Rattle.b67_exec_calls.specs.Answered.{job_answered}
+use Rattle.b67_exec_calls.proofs.Pushed.{room}
+use Rattle.b67_exec_calls.proofs.Answering.{task_cut, member_cut, runs_cut, higher, changed, stands_answered}
+use Rattle.b67_exec_calls.proofs.answer.answer_call.Goals as goal
 
 pub put-requires : goal.put-requires
 put-requires c =

@@ -2,7 +2,7 @@
 
 ghost use Rattle.b67_exec_cells.specs.Tops.{cells};
 ghost use Rattle.b67_layout.specs.Meets.{RunsSome, ForEach};
-ghost use Rattle.b67_mcp_calls.specs.Calls.{OnlyCell};
+ghost use Rattle.b67_exec_calls.specs.Calls.{OnlyCell};
 
 use b67_exec_cells::{count_cells, top_cell};
 use b67_stack::Cpu;

@@ -5,9 +5,9 @@ use Rattle.b67_layout.specs.Layout.{machine_view}
 use Rattle.b67_layout.specs.Session.{RepresentsSession}
 use Rattle.b67_layout.specs.Meets.{with_job}
 use Rattle.b67_refer.specs.RunningContext.{RunningContext, IsShown}
-use Rattle.b67_mcp_calls.specs.Calls.{job_cut}
-use Rattle.b67_mcp_calls.proofs.Cuts.{cut_of, job_is, on_top, under, on_stack, regs_cut, scene_cut, stands_cut}
-use Rattle.b67_mcp_calls.proofs.calls.cut_call.Goals as goal
+use Rattle.b67_exec_calls.specs.Calls.{job_cut}
+use Rattle.b67_exec_calls.proofs.Cuts.{cut_of, job_is, on_top, under, on_stack, regs_cut, scene_cut, stands_cut}
+use Rattle.b67_exec_calls.proofs.calls.cut_call.Goals as goal
 
 pub cut-requires : goal.cut-requires
 cut-requires c =

@@ -1,6 +1,6 @@
 use Rattle.std.proofs.Common.{◌∙◌, refl, sym}
-use Rattle.b67_mcp_calls.proofs.Prints.{only_cell}
-use Rattle.b67_mcp_calls.proofs.only.only_argument.Goals as goal
+use Rattle.b67_exec_calls.proofs.Ones.{only_cell}
+use Rattle.b67_exec_calls.proofs.only.only_argument.Goals as goal
 
 pub returns-then-count_cells-ne2 : goal.returns-then-count_cells-ne2
 returns-then-count_cells-ne2 c = λ x plan s m t o h runs. (λ e. c.if-count_cells-ne2.true (c.count_cells.ensures.count x plan s m t o h runs ∙ e), refl)

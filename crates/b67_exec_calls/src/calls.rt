@@ -4,7 +4,7 @@ ghost use Rattle.std.specs.Prelude.{◌≡◌};
 ghost use Rattle.b67_ctl.specs.Layout.{IsPlace};
 ghost use Rattle.b67_layout.specs.Session.{RepresentsSession};
 ghost use Rattle.b67_layout.specs.Meets.{ForEach, with_job};
-ghost use Rattle.b67_mcp_calls.specs.Calls.{CutSome, MayCut, job_cut};
+ghost use Rattle.b67_exec_calls.specs.Calls.{CutSome, MayCut, job_cut};
 
 use b67_refer::rebuild;
 use b67_stack::Cpu;

@@ -6,8 +6,8 @@ ghost use Rattle.b67_ctl.specs.Layout.{IsPlace};
 ghost use Rattle.b67_model.specs.Words as words;
 ghost use Rattle.b67_layout.specs.Session.{RepresentsSession};
 ghost use Rattle.b67_layout.specs.Meets.{ForEach, with_job, IsInStack};
-ghost use Rattle.b67_mcp_calls.specs.Calls.{CutSome, MayCut};
-ghost use Rattle.b67_mcp_calls.specs.Answered.{job_answered};
+ghost use Rattle.b67_exec_calls.specs.Calls.{CutSome, MayCut};
+ghost use Rattle.b67_exec_calls.specs.Answered.{job_answered};
 
 use crate::calls::cut_call;
 use b67_stack::Cpu;
