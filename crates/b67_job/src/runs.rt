@@ -69,11 +69,7 @@ fn finish<K: Sink>(answered: Result<Progress, Stop>, made: u64, printer: &mut K)
 }
 
 // Makes the steps of a session, which are at most as many as eight jobs may make, and prints the last line.
-fn run_session<K: Sink, B: Backing>(
-    machine: &mut Machine,
-    printer: &mut K,
-    backing: &mut B,
-) -> u8
+fn run_session<K: Sink, B: Backing>(machine: &mut Machine, printer: &mut K, backing: &mut B) -> u8
     requires open { IsOpen (B.holds backing.old) machine.old }
     requires sized { B.size backing.old + 1 ≡ length machine.old.sectors.links }
     ensures ran { (known : Option (List (List ℕ))) (s : Session) → Says known (B.holds backing.old) → StandsAt known machine.old s
