@@ -12,7 +12,7 @@ use Rattle.b67_job.specs.Device.{Device, Failed, IsUntouched}
 use Rattle.b67_job.specs.Texts.{Text, whole_of, only, TookUpTo, all_taken, cut_short}
 use Rattle.b67_job.specs.Lines.{memory_text}
 use Rattle.b67_job.specs.Statuses.{StatusMeans}
-use Rattle.b67_job.specs.Runs.{RoomSuffices, WasOpened, memory_refused, opening_wants_core, opening_wants_sectors, opening_fails, all_end, halt_comes, step_wants_core, step_wants_sectors, step_fails, code_is_strange, RunStops, unopened, opened, IsPrinting}
+use Rattle.b67_job.specs.Runs.{RoomSuffices, WasOpened, memory_refused, opening_wants_core, opening_wants_sectors, opening_fails, all_end, halt_comes, step_wants_core, step_wants_sectors, step_fails, RunStops, unopened, opened, IsPrinting}
 use Rattle.b67_job.specs.Command.{command_of}
 use Rattle.b67_job.specs.declared.command.CommandLine.{CommandLine}
 use Rattle.b67_job.specs.declared.command.CommandLine.TheVariants as lines
@@ -33,7 +33,6 @@ module _ {B : Type 0} (d : Device B) (core : ℕ) (p : Prepared) (machine : Opti
   run_is_done e (opened k is opens none (step_wants_core s h)) = absurd (omega (arith, e, s))
   run_is_done e (opened k is opens none (step_wants_sectors s h)) = absurd (omega (arith, e, s))
   run_is_done e (opened k is opens none (step_fails s failed h)) = absurd (omega (arith, e, s))
-  run_is_done e (opened k is opens none (code_is_strange s h)) = absurd (omega (arith, e, s))
 
   run_halts : status ≡ 3 → RunStops d core p machine status text → Halts d p machine text
   run_halts e (unopened none (memory_refused same s t)) = absurd (omega (arith, e, s))
@@ -45,7 +44,6 @@ module _ {B : Type 0} (d : Device B) (core : ℕ) (p : Prepared) (machine : Opti
   run_halts e (opened k is opens none (step_wants_core s h)) = absurd (omega (arith, e, s))
   run_halts e (opened k is opens none (step_wants_sectors s h)) = absurd (omega (arith, e, s))
   run_halts e (opened k is opens none (step_fails s failed h)) = absurd (omega (arith, e, s))
-  run_halts e (opened k is opens none (code_is_strange s h)) = absurd (omega (arith, e, s))
 
   run_wants_core : status ≡ 4 → RunStops d core p machine status text → IsShortOfCore d core p machine text
   run_wants_core e (unopened none (memory_refused same s t)) = absurd (omega (arith, e, s))
@@ -57,7 +55,6 @@ module _ {B : Type 0} (d : Device B) (core : ℕ) (p : Prepared) (machine : Opti
   run_wants_core e (opened k is opens none (step_wants_core s h)) = inr (k, is, none, h)
   run_wants_core e (opened k is opens none (step_wants_sectors s h)) = absurd (omega (arith, e, s))
   run_wants_core e (opened k is opens none (step_fails s failed h)) = absurd (omega (arith, e, s))
-  run_wants_core e (opened k is opens none (code_is_strange s h)) = absurd (omega (arith, e, s))
 
   run_wants_sectors : status ≡ 5 → RunStops d core p machine status text → IsShortOfSectors d core p machine text
   run_wants_sectors e (unopened none (memory_refused same s t)) = absurd (omega (arith, e, s))
@@ -69,7 +66,6 @@ module _ {B : Type 0} (d : Device B) (core : ℕ) (p : Prepared) (machine : Opti
   run_wants_sectors e (opened k is opens none (step_wants_core s h)) = absurd (omega (arith, e, s))
   run_wants_sectors e (opened k is opens none (step_wants_sectors s h)) = inr (k, is, none, h)
   run_wants_sectors e (opened k is opens none (step_fails s failed h)) = absurd (omega (arith, e, s))
-  run_wants_sectors e (opened k is opens none (code_is_strange s h)) = absurd (omega (arith, e, s))
 
   run_fails : status ≡ 6 → RunStops d core p machine status text → Failed d × IsFailedBy d core p machine text
   run_fails e (unopened none (memory_refused same s t)) = absurd (omega (arith, e, s))
@@ -81,20 +77,17 @@ module _ {B : Type 0} (d : Device B) (core : ℕ) (p : Prepared) (machine : Opti
   run_fails e (opened k is opens none (step_wants_core s h)) = absurd (omega (arith, e, s))
   run_fails e (opened k is opens none (step_wants_sectors s h)) = absurd (omega (arith, e, s))
   run_fails e (opened k is opens none (step_fails s failed h)) = (failed, (opens.room, inr (k, is, none, h)))
-  run_fails e (opened k is opens none (code_is_strange s h)) = absurd (omega (arith, e, s))
 
-  run_refuses : {S : Type 0} {words : List (Bor (List ℕ))} {left : S → Option (List ℕ)} {deck deck' : S} → IsRun words left deck deck' core p → status ≡ 2 → RunStops d core p machine status text
-      → IsRefused words left deck deck' d machine text
-  run_refuses run e (unopened none (memory_refused same s t)) = absurd (omega (arith, e, s))
-  run_refuses run e (unopened none (opening_wants_core same more s t)) = absurd (omega (arith, e, s))
-  run_refuses run e (unopened none (opening_wants_sectors same fits more s t)) = absurd (omega (arith, e, s))
-  run_refuses run e (unopened none (opening_fails room failed s t)) = absurd (omega (arith, e, s))
-  run_refuses run e (opened k is opens none (all_end s h)) = absurd (omega (arith, e, s))
-  run_refuses run e (opened k is opens none (halt_comes s h)) = absurd (omega (arith, e, s))
-  run_refuses run e (opened k is opens none (step_wants_core s h)) = absurd (omega (arith, e, s))
-  run_refuses run e (opened k is opens none (step_wants_sectors s h)) = absurd (omega (arith, e, s))
-  run_refuses run e (opened k is opens none (step_fails s failed h)) = absurd (omega (arith, e, s))
-  run_refuses run e (opened k is opens none (code_is_strange s h)) = inr (core, p, run, (k, is, none, h))
+  run_not_2 : status ≡ 2 → RunStops d core p machine status text → ⊥
+  run_not_2 e (unopened none (memory_refused same s t)) = absurd (omega (arith, e, s))
+  run_not_2 e (unopened none (opening_wants_core same more s t)) = absurd (omega (arith, e, s))
+  run_not_2 e (unopened none (opening_wants_sectors same fits more s t)) = absurd (omega (arith, e, s))
+  run_not_2 e (unopened none (opening_fails room failed s t)) = absurd (omega (arith, e, s))
+  run_not_2 e (opened k is opens none (all_end s h)) = absurd (omega (arith, e, s))
+  run_not_2 e (opened k is opens none (halt_comes s h)) = absurd (omega (arith, e, s))
+  run_not_2 e (opened k is opens none (step_wants_core s h)) = absurd (omega (arith, e, s))
+  run_not_2 e (opened k is opens none (step_wants_sectors s h)) = absurd (omega (arith, e, s))
+  run_not_2 e (opened k is opens none (step_fails s failed h)) = absurd (omega (arith, e, s))
 
   run_is_9 : status ≡ 9 → RunStops d core p machine status text → (machine ≡ None) × IsUntouched d × (text ≡ only memory_text)
   run_is_9 e (unopened none (memory_refused same s t)) = (none, same, t)
@@ -106,7 +99,6 @@ module _ {B : Type 0} (d : Device B) (core : ℕ) (p : Prepared) (machine : Opti
   run_is_9 e (opened k is opens none (step_wants_core s h)) = absurd (omega (arith, e, s))
   run_is_9 e (opened k is opens none (step_wants_sectors s h)) = absurd (omega (arith, e, s))
   run_is_9 e (opened k is opens none (step_fails s failed h)) = absurd (omega (arith, e, s))
-  run_is_9 e (opened k is opens none (code_is_strange s h)) = absurd (omega (arith, e, s))
 
   run_not_8 : status ≡ 8 → RunStops d core p machine status text → ⊥
   run_not_8 e (unopened none (memory_refused same s t)) = absurd (omega (arith, e, s))
@@ -118,7 +110,6 @@ module _ {B : Type 0} (d : Device B) (core : ℕ) (p : Prepared) (machine : Opti
   run_not_8 e (opened k is opens none (step_wants_core s h)) = absurd (omega (arith, e, s))
   run_not_8 e (opened k is opens none (step_wants_sectors s h)) = absurd (omega (arith, e, s))
   run_not_8 e (opened k is opens none (step_fails s failed h)) = absurd (omega (arith, e, s))
-  run_not_8 e (opened k is opens none (code_is_strange s h)) = absurd (omega (arith, e, s))
 
   run_not_7 : status ≡ 7 → RunStops d core p machine status text → ⊥
   run_not_7 e (unopened none (memory_refused same s t)) = absurd (omega (arith, e, s))
@@ -130,7 +121,6 @@ module _ {B : Type 0} (d : Device B) (core : ℕ) (p : Prepared) (machine : Opti
   run_not_7 e (opened k is opens none (step_wants_core s h)) = absurd (omega (arith, e, s))
   run_not_7 e (opened k is opens none (step_wants_sectors s h)) = absurd (omega (arith, e, s))
   run_not_7 e (opened k is opens none (step_fails s failed h)) = absurd (omega (arith, e, s))
-  run_not_7 e (opened k is opens none (code_is_strange s h)) = absurd (omega (arith, e, s))
 
   run_not_1 : status ≡ 1 → RunStops d core p machine status text → ⊥
   run_not_1 e (unopened none (memory_refused same s t)) = absurd (omega (arith, e, s))
@@ -142,7 +132,6 @@ module _ {B : Type 0} (d : Device B) (core : ℕ) (p : Prepared) (machine : Opti
   run_not_1 e (opened k is opens none (step_wants_core s h)) = absurd (omega (arith, e, s))
   run_not_1 e (opened k is opens none (step_wants_sectors s h)) = absurd (omega (arith, e, s))
   run_not_1 e (opened k is opens none (step_fails s failed h)) = absurd (omega (arith, e, s))
-  run_not_1 e (opened k is opens none (code_is_strange s h)) = absurd (omega (arith, e, s))
 
   -- without a machine
   run_spares : {S : Type 0} {words : List (Bor (List ℕ))} {left : S → Option (List ℕ)} {deck deck' : S} → IsRun words left deck deck' core p → machine ≡ None → RunStops d core p machine status text
@@ -172,9 +161,9 @@ module _ {S B : Type 0} {words : List (Bor (List ℕ))} {left : S → Option (Li
 
   due_refused : {n : ℕ} {text : Text} → n ≡ 2 → IsDue words left source_faults deck deck' d machine n text → IsRefused words left deck deck' d machine text
   due_refused e (usage_due c g same m s t) = absurd (omega (arith, e, s))
-  due_refused e (refusal_due command b r c w same j m s t) = inl (command, b, r, c, w, same, j, m, t)
+  due_refused e (refusal_due command b r c w same j m s t) = (command, b, r, c, w, same, j, m, t)
   due_refused e (print_due command b printed c r same j m s t) = absurd (omega (arith, e, s))
-  due_refused {n = n} {text = text} e (run_due core p run stops) = run_refuses d core p machine n text run e stops
+  due_refused {n = n} {text = text} e (run_due core p run stops) = absurd (run_not_2 d core p machine n text e stops)
   due_refused e (reading_due c r same m s t) = absurd (omega (arith, e, s))
   due_refused e (memory_due c same m s t) = absurd (omega (arith, e, s))
 

@@ -1,36 +1,15 @@
 -- How far the steps of a slice came: whole steps, or all but the line of LIMIT.
-use Rattle.std.proofs.Common.{◌≡◌, ◌≢◌, ℕ, ◌+◌, ◌<◌, List, [], ◌∷◌, ◌++◌, length, refl, sym, ap, ◌∙◌, subst, arith, append_assoc, Option, Some, None, ◌≤◌}
-use Rattle.std.proofs.lemmas.Grind.{flat_map-append}
-use Rattle.std.specs.List.{AllByRecursion}
-use Rattle.b67_model.specs.State.{JobConstants, Task, SessionJob}
+use Rattle.std.proofs.Common.{◌≡◌, ◌≢◌, ℕ, ◌+◌, ◌<◌, List, ◌++◌, length, refl, sym, ap, ◌∙◌, subst, arith, append_assoc, Option, Some, None}
 use Rattle.b67_model.specs.Lines.{run_text}
 use Rattle.b67_model.specs.Schedule.{Session}
-use Rattle.b67_model.specs.InOrder.{Starts, JobInOrder, SessionInOrder}
+use Rattle.b67_model.specs.InOrder.{IsInOrderButPlaces}
 use Rattle.b67_model.specs.Run.{RunLine, StepResult, lines, after}
-use Rattle.b67_single.specs.Single.{IsSingle}
+use Rattle.b67_law_turns.proofs.Limits.{no_last}
 use Rattle.b67_single.proofs.Runs.{Came, came-more}
 use Rattle.b67_session.specs.Slices.{Reaches, whole, but_limit}
 use Rattle.b67_session.proofs.Texts.{run_text-append}
 use Rattle.b67_session_lines.specs.Moments.{first_part, last_part, due}
-use Rattle.b67_job.proofs.Parts.{no_last, below_is_not_at, is_at, parts}
-
-not_none : {A : Type 0} (x : A) → x ∷ [] ≢ []
-not_none x e = cc
-
--- a job whose one task lives has made fewer operators than its limit
-pub below : (P : JobConstants → Starts) (s : Session) (m : SessionJob) (t : Task) → SessionInOrder P s → IsSingle s m t → m.progress.made < m.constants.limit
-below P s m t order single =
-    let job = (subst (λ (ms : List SessionJob). AllByRecursion (λ (m : SessionJob). JobInOrder (P m.constants) m.constants m.progress) ms) single.jobs order.jobs).0 in
-    job.below_limit (λ none. not_none t (sym single.tasks ∙ none))
-
--- and the limit is one that a job may have
-pub limit_high : (P : JobConstants → Starts) (s : Session) (m : SessionJob) (t : Task) → SessionInOrder P s → IsSingle s m t → m.constants.limit ≤ 100000000
-limit_high P s m t order single =
-    let job = (subst (λ (ms : List SessionJob). AllByRecursion (λ (m : SessionJob). JobInOrder (P m.constants) m.constants m.progress) ms) single.jobs order.jobs).0 in
-    job.unchanging.limit
-
-pub single_below : (s : Session) (m : SessionJob) (t : Task) → IsSingle s m t → m.progress.made < m.constants.limit → last_part s ≡ None
-single_below s m t single low = no_last s (λ x has. is_at s m x single.jobs (below_is_not_at m low) has)
+use Rattle.b67_job.proofs.Parts.{parts}
 
 -- whole steps, where no last part is due
 pub came_whole : (first : Session) (steps : ℕ) (s : Session) (printed : List RunLine) → Reaches first steps s printed → last_part s ≡ None → Came first steps s printed
@@ -47,12 +26,9 @@ pub record Limited (first : Session) (steps : ℕ) (s : Session) (printed : List
   pub some : last_part s ≢ None
   pub lines_are : lines before first ++ part.lines ≡ printed
 
-pub came_limited : (P : JobConstants → Starts) (first : Session) (steps : ℕ) (s : Session) (printed : List RunLine) (m : SessionJob) (t : Task) → SessionInOrder P (after steps first) → IsSingle s m t
-    → m.progress.made ≡ m.constants.limit → Reaches first steps s printed → Limited first steps s printed
-came_limited P first steps s printed m t order single limit (whole a l) =
-    let low = below P s m t (subst (SessionInOrder P) a order) single in
-    absurd (omega (arith, limit, low))
-came_limited P first steps s printed m t order single limit (but_limit k part e f g some l) = record { before = k; part = part; one_more = e; is_first = f; session = g; some = some; lines_are = l }
+pub came_limited : (first : Session) (steps : ℕ) (s : Session) (printed : List RunLine) → IsInOrderButPlaces (after steps first) → last_part s ≢ None → Reaches first steps s printed → Limited first steps s printed
+came_limited first steps s printed order some (whole a l) = absurd (some (no_last s (subst IsInOrderButPlaces a order)))
+came_limited first steps s printed order some (but_limit k part e f g rest l) = record { before = k; part = part; one_more = e; is_first = f; session = g; some = rest; lines_are = l }
 
 -- ---- what is due begins the text of the next step, or ends that of the last one
 

@@ -26,24 +26,17 @@ use Rattle.b67_job.proofs.Prepared.{prepared_in_range}
 use Rattle.b67_job.specs.Device.{Device, IsUntouched}
 use Rattle.b67_job.specs.Lines.{memory_text}
 use Rattle.b67_job.specs.Texts.{only}
-use Rattle.b67_job.specs.Runs.{run_stops, step_is_cut}
+use Rattle.b67_job.specs.Runs.{DeckRunEnds, run_stops, step_is_cut}
 use Rattle.b67_job.proofs.Ran.{closes_only}
 use Rattle.b67_job.specs.Command.{command_of}
 use Rattle.b67_job.specs.declared.command.CommandLine.{CommandLine}
 use Rattle.b67_job.specs.declared.command.CommandLine.TheVariants as lines
-use Rattle.b67_job.specs.Judgement.{Judgement, Refused, Runs, Prints, missing, runs_unless, deck_judgement, judgement, printed, asked}
-use Rattle.b67_job.specs.Due.{WasRead, refusal_due, print_due, run_due, reading_due, memory_due, Answered, answered, cut_in_step, Serves, RefusalEnds, TextEnds, Writes, DeckEnds, reading_text}
+use Rattle.b67_job.specs.Judgement.{Refused, Runs, judgement, printed, asked}
+use Rattle.b67_job.specs.Due.{WasRead, refusal_due, print_due, run_due, reading_due, memory_due, Answered, answered, cut_in_step, Serves, RefusalEnds, TextEnds, Writes, reading_text}
 
 -- ---- decks
 
--- something isn't built
-pub missing_is : (p : Prepared) (card : ℕ) → missing p.0.jobs p.1 ≡ Some card → deck_judgement p ≡ Refused (refusals.Deck card 90)
-missing_is p card e = ap (λ (x : Option ℕ). runs_unless x p) e
-
-pub nothing_missing : (p : Prepared) → missing p.0.jobs p.1 ≡ None → deck_judgement p ≡ Runs p
-nothing_missing p e = ap (λ (x : Option ℕ). runs_unless x p) e
-
-prepared_is : (text : List ℕ) (p : Prepared) → deck_prepared text ≡ Ok p → judgement text ≡ deck_judgement p
+prepared_is : (text : List ℕ) (p : Prepared) → deck_prepared text ≡ Ok p → judgement text ≡ Runs p
 unfolding judgement
 prepared_is text p e = rw e refl
 
@@ -157,14 +150,12 @@ module _ {S B K : Type 0} {left : S → Option (List ℕ)} {source_faults : S �
 
   -- a deck that was loaded, or wasn't
   pub served_deck : (d : Device B) (core : ℕ) (loaded : Loaded) (machine : Option Machine) (answer : ℕ) → IsLoaded left source_faults deck deck' (Ok loaded)
-      → DeckEnds (deck_judgement (prepared_of loaded)) taken faults d core machine old new answer → Serves (lines.Run core) left source_faults deck deck' d machine taken faults old new answer
-  served_deck d core loaded machine answer h ends = by_judgement (deck_judgement (prepared_of loaded)) (prepared_is h.0 (prepared_of loaded) h.2) ends
+      → DeckRunEnds taken faults d core (prepared_of loaded) machine old new answer → Serves (lines.Run core) left source_faults deck deck' d machine taken faults old new answer
+  served_deck d core loaded machine answer h ends = by_end (prepared_is h.0 (prepared_of loaded) h.2) ends
     where
-      by_judgement : (j : Judgement) → judgement h.0 ≡ j → DeckEnds j taken faults d core machine old new answer → Serves (lines.Run core) left source_faults deck deck' d machine taken faults old new answer
-      by_judgement (Refused r) is ends = λ words e. answered 2 (only (refusal_text r)) (refusal_due (lines.Run core) h.0 r e (inl h.1) ends.1 is ends.0 refl refl) (closes_only ends.2)
-      by_judgement (Runs p) is (run_stops status text stops ends) = λ words e. answered status text (run_due core p (record { bytes = h.0; command = e; read = h.1; judged = is }) stops) ends
-      by_judgement (Runs p) is (step_is_cut text count printing a rose part) = λ words e. cut_in_step core p text count (record { bytes = h.0; command = e; read = h.1; judged = is }) printing a rose part
-      by_judgement (Prints text) is ends = absurd ends
+      by_end : judgement h.0 ≡ Runs (prepared_of loaded) → DeckRunEnds taken faults d core (prepared_of loaded) machine old new answer → Serves (lines.Run core) left source_faults deck deck' d machine taken faults old new answer
+      by_end is (run_stops status text stops ends) = λ words e. answered status text (run_due core (prepared_of loaded) (record { bytes = h.0; command = e; read = h.1; judged = is }) stops) ends
+      by_end is (step_is_cut text count printing a rose part) = λ words e. cut_in_step core (prepared_of loaded) text count (record { bytes = h.0; command = e; read = h.1; judged = is }) printing a rose part
 
   pub served_refusal : (d : Device B) (core : ℕ) (fault : AdmitFault) (answer : ℕ) → IsUntouched d → IsLoaded left source_faults deck deck' (Err fault) → RefusalEnds fault taken faults old new answer
       → Serves (lines.Run core) left source_faults deck deck' d None taken faults old new answer

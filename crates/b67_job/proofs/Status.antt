@@ -1,6 +1,6 @@
 -- The status of a call for which core, the device and the printer suffice.
-use Rattle.std.proofs.Common.{◌≡◌, ◌<◌, ◌≤◌, ◌⊎◌, inl, inr, true, ℕ, List, ◌++◌, length, append-nil, sym, ap, ◌∙◌, subst, arith, Option, Some}
-use Rattle.std.specs.Prelude.{is_some}
+use Rattle.std.proofs.Common.{◌≡◌, ◌<◌, ◌≤◌, ◌⊎◌, inl, inr, true, ℕ, zero, suc, List, ◌++◌, length, append-nil, sym, ap, ◌∙◌, subst, arith, refl, Option, Some}
+use Rattle.std.specs.Prelude.{is_some, option_map}
 use Rattle.std.proofs.lemmas.Bool.{false≢true}
 use Rattle.std.proofs.lemmas.List.{length-append}
 use denote.Ref.{Bor}
@@ -12,22 +12,38 @@ use Rattle.b67_job_admit.specs.Admitting.{Prepared}
 use Rattle.b67_job_admit.specs.Verdicts.{Verdict}
 use Rattle.b67_job_admit.proofs.Judged.{check_long, asm_long, convert_long}
 use Rattle.b67_model.specs.Lines.{run_text}
-use Rattle.b67_model.specs.Need.{need}
+use Rattle.b67_model.specs.Need.{need, need_of_job, need_by, need_next}
+use Rattle.b67_model.specs.State.{Task, SessionJob}
 use Rattle.b67_model.specs.Schedule.{Session}
-use Rattle.b67_model.specs.Run.{RunLine, live_tasks}
-use Rattle.b67_single.specs.Single.{IsSingle}
+use Rattle.b67_model.specs.Run.{RunLine, live_tasks, number_of}
+use Rattle.b67_law_turns.specs.Turns.{IsNext}
+use Rattle.b67_lemmas.proofs.Members.{keyed_has}
 use Rattle.b67_session.specs.Passed.{TakesSectors}
+use Rattle.b67_session.proofs.Rows.{none_of}
 use Rattle.b67_session_lines.specs.Stops.{IsFinished, IsHalted, halted_line}
 use Rattle.b67_session_lines.proofs.Statuses.{finished-status, halted-status}
 use Rattle.b67_job.specs.Device.{Device, Tells, Worked}
 use Rattle.b67_job.specs.Texts.{Text, whole_of, all_taken, cut_short}
-use Rattle.b67_job.specs.Runs.{run_of, IsDone, IsHaltedAt, memory_refused, opening_wants_core, opening_wants_sectors, opening_fails, all_end, halt_comes, step_wants_core, step_wants_sectors, step_fails, code_is_strange, RunStops, unopened, opened}
+use Rattle.b67_job.specs.Runs.{run_of, IsDone, IsHaltedAt, memory_refused, opening_wants_core, opening_wants_sectors, opening_fails, all_end, halt_comes, step_wants_core, step_wants_sectors, step_fails, RunStops, unopened, opened}
 use Rattle.b67_job.specs.Command.{command_of}
 use Rattle.b67_job.specs.declared.command.CommandLine.{CommandLine}
 use Rattle.b67_job.specs.declared.command.CommandLine.TheVariants as lines
 use Rattle.b67_job.specs.Judgement.{Judgement, Runs, printed, asked, judgement, judged_status}
 use Rattle.b67_job.specs.Due.{WasRead, IsDue, usage_due, refusal_due, print_due, run_due, reading_due, memory_due, Answered, answered, cut_in_step, Suffices, IsAmple}
 use Rattle.b67_job.proofs.Served.{judged_long}
+
+-- a session of which a task makes the next step has one
+some_live : (s : Session) (m : SessionJob) (t : Task) → IsNext s m t → 0 < live_tasks s.jobs
+some_live s m t n = by (live_tasks s.jobs) refl
+  where
+    by : (lives : ℕ) → live_tasks s.jobs ≡ lives → 0 < live_tasks s.jobs
+    by zero e = absurd (none_of s.jobs m t (keyed_has number_of n.chosen.who.job s.jobs m n.member).0 (keyed_has (λ (u : Task). u.number) n.chosen.who.task m.progress.job.tasks t n.task).0 e)
+    by (suc more) e = omega (arith, e)
+
+-- and its need is the session's
+next_need : (core : ℕ) (s : Session) (m : SessionJob) (t : Task) → IsNext s m t → need_next core s ≡ Some (need core s m t)
+next_need core s m t n =
+    ap (need_by core s) n.is ∙ ap (need_of_job core s n.chosen.who.task) n.member ∙ ap (λ (o : Option Task). option_map (need core s m) o) n.task
 
 -- the text of a run that is done or halts, as the run alone gives it
 pub is_finished : {B : Type 0} (d : Device B) (p : Prepared) (k : Machine) (text : Text) → IsDone d (run_of p) k text → Tells d → IsFinished (run_of p) (whole_of text)
@@ -42,7 +58,7 @@ pub is_halted : {B : Type 0} (d : Device B) (p : Prepared) (k : Machine) (text :
 is_halted d p k text h tells = record {
   count = k.tasks.made;
   halt = h.halt;
-  lives = subst (λ (z : Session). 0 < live_tasks z.jobs) (h.stop.comes.session tells) (rw (h.stop.lone.single.jobs, h.stop.lone.single.tasks) (omega arith));
+  lives = subst (λ (z : Session). 0 < live_tasks z.jobs) (h.stop.comes.session tells) (some_live h.stop.session h.stop.member h.stop.task h.stop.next);
   printed = ap whole_of h.text_is ∙ ap (λ (ls : List RunLine). run_text ls ++ ended (halted_line k.tasks.made)) (h.stop.comes.lines_are tells);
 }
 
@@ -85,17 +101,17 @@ run_status_is d core p machine status text tells ample worked (opened k is opens
 run_status_is d core p machine status text tells ample worked (opened k is opens none (halt_comes s h)) = inl (s ∙ sym (halted-status (run_of p) (whole_of text) (is_halted d p k text h tells)))
 run_status_is d core p machine status text tells ample worked (opened k is opens none (step_wants_core s w)) =
     let same = w.stop.comes.session tells in
-    let less = subst (λ (z : Session). IsSingle z w.stop.member w.stop.task → need core z w.stop.member w.stop.task ≤ core) (sym same) (ample.core_suffices k.tasks.made w.stop.member w.stop.task w.due) w.stop.lone.single in
+    let less = subst (λ (z : Session). need_next core z ≡ Some (need core w.stop.session w.stop.member w.stop.task) → need core w.stop.session w.stop.member w.stop.task ≤ core) (sym same)
+    (ample.core_suffices k.tasks.made (need core w.stop.session w.stop.member w.stop.task) w.due) (next_need core w.stop.session w.stop.member w.stop.task w.stop.next) in
     let more = w.exceeds in
     absurd (omega (arith, more, less))
 run_status_is d core p machine status text tells ample worked (opened k is opens none (step_wants_sectors s w)) =
     let same = w.stop.comes.session tells in
-    let less = subst (λ (z : Session). IsSingle z w.stop.member w.stop.task → TakesSectors z w.stop.member w.stop.task w.sum → w.sum ≤ d.sectors) (sym same)
-    (ample.sectors_suffice k.tasks.made w.sum w.stop.member w.stop.task w.due) w.stop.lone.single w.takes in
+    let less = subst (λ (z : Session). IsNext z w.stop.member w.stop.task → TakesSectors z w.stop.member w.stop.task w.sum → w.sum ≤ d.sectors) (sym same)
+    (ample.sectors_suffice k.tasks.made w.sum w.stop.member w.stop.task w.due) w.stop.next w.takes in
     let more = w.exceeds in
     absurd (omega (arith, more, less))
 run_status_is d core p machine status text tells ample worked (opened k is opens none (step_fails s failed h)) = absurd (omega (arith, failed, worked))
-run_status_is d core p machine status text tells ample worked (opened k is opens none (code_is_strange s h)) = absurd (tells h.untold)
 
 commanded : (words : List (Bor (List ℕ))) (command : CommandLine) → command_of words ≡ Some command → is_some (command_of words) ≡ true
 commanded words command e = ap is_some e

@@ -6,9 +6,9 @@ use Rattle.b67_io.specs.Told.{Gave, GaveAll}
 use Rattle.b67_io.specs.Causes.{Rose}
 use Rattle.b67_model_text.specs.Deck.{limit}
 use Rattle.b67_model.specs.State.{Task, SessionJob}
-use Rattle.b67_model.specs.Need.{need}
+use Rattle.b67_model.specs.Need.{need_next}
 use Rattle.b67_model.specs.Run.{after}
-use Rattle.b67_single.specs.Single.{IsSingle}
+use Rattle.b67_law_turns.specs.Turns.{IsNext}
 use Rattle.b67_task_tables.specs.declared.tables.Machine.{Machine}
 use Rattle.b67_job_admit.specs.declared.refusal.Refusal.{Refusal}
 use Rattle.b67_job_admit.specs.declared.fault.AdmitFault.{AdmitFault}
@@ -24,7 +24,7 @@ use Rattle.b67_session_open.specs.Opens.{need_of, sectors_of_all}
 use Rattle.b67_job.specs.Device.{Device, Tells, Failed, IsUntouched}
 use Rattle.b67_job.specs.Lines.{no_core_line, backing_full_line, backing_fault_line, memory_text}
 use Rattle.b67_job.specs.Texts.{Text, whole_of, only, TookUpTo, Closes}
-use Rattle.b67_job.specs.Runs.{run_of, IsBeforeHalt, IsDone, IsHaltedAt, WantsCore, WantsSectors, IsCutOff, IsStrange, RoomSuffices, RunStops, IsPrinting, DeckRunEnds}
+use Rattle.b67_job.specs.Runs.{run_of, IsBeforeHalt, IsDone, IsHaltedAt, WantsCore, WantsSectors, IsCutOff, RoomSuffices, RunStops, IsPrinting}
 use Rattle.b67_job.specs.Command.{command_of}
 use Rattle.b67_job.specs.declared.command.CommandLine.{CommandLine}
 use Rattle.b67_job.specs.declared.command.CommandLine.TheVariants as lines
@@ -108,12 +108,11 @@ abbrev pub IsFailedBy : {B : Type 0} → Device B → ℕ → Prepared → Optio
 IsFailedBy d core p machine text =
     RoomSuffices d core p × (((machine ≡ None) × (text ≡ only (ended backing_fault_line))) ⊎ Leaves machine (λ k. IsCutOff d core (run_of p) k text))
 
--- a refusal of a text that was read; or of code that a device which tells nothing has given back
+-- a refusal of a text that was read
 abbrev pub IsRefused : {S B : Type 0} → List (Bor (List ℕ)) → (S → Option (List ℕ)) → S → S → Device B → Option Machine → Text → Type 0
 IsRefused words left deck deck' d machine text =
-    ((command : CommandLine) × (bytes : List ℕ) × (refusal : Refusal) × (command_of words ≡ Some command) × WasRead left deck deck' bytes × IsUntouched d
-    × (asked command bytes ≡ Refused refusal) × (machine ≡ None) × (text ≡ only (refusal_text refusal)))
-    ⊎ ((core : ℕ) × (p : Prepared) × IsRun words left deck deck' core p × Leaves machine (λ k. IsStrange d p k text))
+    (command : CommandLine) × (bytes : List ℕ) × (refusal : Refusal) × (command_of words ≡ Some command) × WasRead left deck deck' bytes × IsUntouched d
+    × (asked command bytes ≡ Refused refusal) × (machine ≡ None) × (text ≡ only (refusal_text refusal))
 
 -- without a machine the device is as it was, or a session had room, and the device failed as it was opened
 abbrev pub IsSpared : {S B : Type 0} → List (Bor (List ℕ)) → (S → Option (List ℕ)) → S → S → Device B → Type 0
@@ -137,20 +136,14 @@ abbrev pub Writes : {S K : Type 0} → (List ℕ → Verdict) → (S → Option 
 Writes verdict left source_faults deck deck' taken faults old new answer =
     (made : Result (List ℕ) AdmitFault) × IsJudged left source_faults deck deck' verdict made × TextEnds made taken faults old new answer
 
--- how the answer to a deck ends that is judged so: it is refused, or it runs
-abbrev pub DeckEnds : {K B : Type 0} → Judgement → (K → Option (List ℕ)) → (K → ℕ) → Device B → ℕ → Option Machine → K → K → ℕ → Type 0
-DeckEnds (Refused refusal) taken faults d core machine old new answer = (machine ≡ None) × IsUntouched d × Ends taken faults old new 2 (refusal_text refusal) answer
-DeckEnds (Runs p) taken faults d core machine old new answer = DeckRunEnds taken faults d core p machine old new answer
-DeckEnds (Prints text) taken faults d core machine old new answer = ⊥
-
 -- ---- a run for which core and device are large enough
 
 -- the session opens, and no step of its run before the halt needs more words of core, or sectors for the arrays that there are
 -- before it, and after it where it makes one longer
 pub record Suffices {B : Type 0} (d : Device B) (core : ℕ) (p : Prepared) : Type 0 where
   pub room : RoomSuffices d core p
-  pub core_suffices : (steps : ℕ) (m : SessionJob) (t : Task) → IsBeforeHalt (run_of p) steps → IsSingle (after steps (run_of p).session) m t → need core (after steps (run_of p).session) m t ≤ core
-  pub sectors_suffice : (steps sum : ℕ) (m : SessionJob) (t : Task) → IsBeforeHalt (run_of p) steps → IsSingle (after steps (run_of p).session) m t → TakesSectors (after steps (run_of p).session) m t sum → sum ≤ d.sectors
+  pub core_suffices : (steps words : ℕ) → IsBeforeHalt (run_of p) steps → need_next core (after steps (run_of p).session) ≡ Some words → words ≤ core
+  pub sectors_suffice : (steps sum : ℕ) (m : SessionJob) (t : Task) → IsBeforeHalt (run_of p) steps → IsNext (after steps (run_of p).session) m t → TakesSectors (after steps (run_of p).session) m t sum → sum ≤ d.sectors
 
 -- a run is told and has room; the other commands need neither
 abbrev pub IsAmple : {B : Type 0} → Device B → CommandLine → List ℕ → Type 0

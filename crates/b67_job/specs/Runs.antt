@@ -1,6 +1,6 @@
 -- How the run of a deck over core stops: with which status and text, after how many steps of the session that the deck
 -- opens, and with which machine.
-use Rattle.std.specs.Prelude.{◌≡◌, ℕ, ◌+◌, ◌<◌, ◌≤◌, ◌⊎◌, List, [], ◌∷◌, ◌++◌, length, Option, Some, None, IfSome}
+use Rattle.std.specs.Prelude.{◌≡◌, ℕ, ◌+◌, ◌<◌, ◌≤◌, ◌⊎◌, List, [], ◌++◌, length, Option, Some, None, IfSome}
 use Rattle.b67_io.specs.Line.{ended}
 use Rattle.b67_io.specs.Causes.{Rose}
 use Rattle.b67_model.specs.State.{Task, SessionJob}
@@ -9,23 +9,20 @@ use Rattle.b67_model.specs.Lines.{run_text}
 use Rattle.b67_model.specs.Schedule.{Session}
 use Rattle.b67_model.specs.Run.{RunLine, StepResult, lines, after}
 use Rattle.b67_exec_cells.specs.Running.{code_area}
-use Rattle.b67_exec_cells.specs.Called.{called_in}
-use Rattle.b67_session.specs.Passed.{IsBuilt, IsLacking, IsShortAt, TakesSectors}
-use Rattle.b67_model_text.specs.declared.deck.Job.{Job}
-use Rattle.b67_job_admit.specs.declared.refusal.Refusal.TheVariants as refusals
+use Rattle.b67_law_turns.specs.Turns.{IsNext}
+use Rattle.b67_session.specs.Passed.{IsLacking, IsShortAt, TakesSectors}
 use Rattle.b67_job_admit.specs.Admitting.{Prepared}
-use Rattle.b67_job_admit.specs.Told.{refusal_line}
 use Rattle.b67_session_open.specs.Decks.{session_of, job_names, row_names}
 use Rattle.b67_session_open.specs.Opens.{need_of, sectors_of_all}
 use Rattle.b67_task_tables.specs.declared.tables.Machine.{Machine}
-use Rattle.b67_session.specs.Slices.{IsLone, IsLimited}
+use Rattle.b67_session.specs.Slices.{StandsAt, IsLimited}
 pub use Rattle.b67_session.specs.Slices.{IsOpen, RepresentsWithoutTasks, StepsFit}
 use Rattle.b67_session_lines.specs.Moments.{first_part, due as due_text}
 use Rattle.b67_session_lines.specs.Stops.{Run, halted_line}
 use Rattle.b67_job.specs.Device.{Device, Tells, Failed, IsUntouched, known_now}
 use Rattle.b67_job.specs.Lines.{no_core_line, backing_full_line, backing_fault_line, memory_text}
 use Rattle.b67_job.specs.Texts.{Text, whole_of, only, TookUpTo, Closes}
-use Rattle.b67_job.specs.States.{StatesInOrder}
+use Rattle.b67_job.specs.States.{StatesInOrder, JobsRunApart}
 
 -- the run that a deck with its programs asks for: the session that it opens, and its halt
 abbrev pub run_of : Prepared → Run
@@ -60,14 +57,15 @@ pub record IsDone {B : Type 0} (d : Device B) (r : Run) (k : Machine) (text : Te
   pub rests : RepresentsWithoutTasks (known_now d) k session
   pub text_is : text ≡ record { front = run_text printed; last = [] }
 
--- a task lives, and the machine represents the session to which the run came
+-- the machine represents the session to which the run came, of which this task makes the next step
 pub record StopsAt {B : Type 0} (d : Device B) (first : Session) (k : Machine) : Type 0 where
   pub session : Session
   pub printed : List RunLine
   pub comes : StandsAfter d first k session printed
+  pub stands : StandsAt (known_now d) k session
   pub member : SessionJob
   pub task : Task
-  pub lone : IsLone (known_now d) k session member task
+  pub next : IsNext session member task
 
 -- its count of steps is that of the halt
 pub record IsHaltedAt {B : Type 0} (d : Device B) (r : Run) (k : Machine) (text : Text) : Type 0 where
@@ -83,10 +81,10 @@ pub record WantsCore {B : Type 0} (d : Device B) (core : ℕ) (r : Run) (k : Mac
   pub text_is : text ≡ text_to stop.printed (no_core_line (need core stop.session stop.member stop.task) core)
 
 -- if the device told what its sectors hold, the machine lacks the segment or the array of the next step, or that step makes
--- an array longer; it needs no more words than core has, or its segment is absent
+-- an array longer or starts a task; it needs no more words than core has, or its segment is absent
 pub record LacksNext {B : Type 0} (d : Device B) (core : ℕ) (first : Session) (k : Machine) (stop : StopsAt d first k) : Type 0 where
-  pub lacks : Tells d → IsLacking stop.lone.storage stop.lone.plan stop.member stop.task
-  pub room : Tells d → (need core stop.session stop.member stop.task ≤ core) ⊎ (code_area stop.lone.storage stop.lone.plan stop.member stop.task ≡ None)
+  pub lacks : Tells d → IsLacking stop.stands.storage stop.stands.plan stop.member stop.task
+  pub room : Tells d → (need core stop.session stop.member stop.task ≤ core) ⊎ (code_area stop.stands.storage stop.stands.plan stop.member stop.task ≡ None)
 
 -- the next step is due, and the session, or the one that it makes if it makes an array longer, takes so many sectors, more
 -- than the device has; and more are wanted than are free
@@ -99,7 +97,7 @@ pub record WantsSectors {B : Type 0} (d : Device B) (core : ℕ) (r : Run) (k : 
   pub absent : LacksNext d core r.session k stop
   pub wants : ℕ
   pub free : ℕ
-  pub short : IsShortAt stop.lone.storage stop.lone.plan stop.session.jobs stop.member stop.task wants free
+  pub short : IsShortAt stop.stands.storage stop.stands.plan stop.session.jobs stop.member stop.task wants free
   pub text_is : text ≡ text_to stop.printed (backing_full_line sum d.sectors)
 
 -- the next step is due, and the device failed
@@ -108,19 +106,6 @@ pub record IsCutOff {B : Type 0} (d : Device B) (core : ℕ) (r : Run) (k : Mach
   pub due : IsBeforeHalt r k.tasks.made
   pub absent : LacksNext d core r.session k stop
   pub text_is : text ≡ text_to stop.printed backing_fault_line
-
--- The device told nothing and has given back code that calls an intrinsic that isn't built. The card of the job's body is
--- refused.
-pub record IsStrange {B : Type 0} (d : Device B) (p : Prepared) (k : Machine) (text : Text) : Type 0 where
-  pub untold : d.before ≡ None
-  pub job : Job
-  pub only_job : p.0.jobs ≡ job ∷ []
-  pub stop : StopsAt d (run_of p).session k
-  pub due : IsBeforeHalt (run_of p) k.tasks.made
-  pub called : ℕ
-  pub calls : called_in stop.member stop.task ≡ Some called
-  pub unbuilt : IsBuilt called → ⊥
-  pub text_is : text ≡ text_to stop.printed (refusal_line (refusals.Deck job.body_card 90))
 
 -- ---- the printer failed in the text of a step
 
@@ -133,8 +118,8 @@ pub record IsCutInStep {B : Type 0} (d : Device B) (core : ℕ) (r : Run) (k : M
   pub last : Tells d → text.last ≡ due_text stop.session
   pub begins : Tells d → (rest : List ℕ) × (whole_of text ++ rest ≡ run_text (lines (k.tasks.made + 1) r.session))
 
--- the line of LIMIT of the last step that the machine counts: these lines are printed up to the step's first part
-pub record IsLimitLine (first : Session) (k : Machine) (s : Session) (printed : List RunLine) (text : Text) : Type 0 where
+-- the lines of LIMIT of the last step that the machine counts: these lines are printed up to the step's first part
+pub record AreLimitLines (first : Session) (k : Machine) (s : Session) (printed : List RunLine) (text : Text) : Type 0 where
   pub before : ℕ
   pub counted : k.tasks.made ≡ before + 1
   pub part : StepResult
@@ -144,16 +129,15 @@ pub record IsLimitLine (first : Session) (k : Machine) (s : Session) (printed : 
   pub last : text.last ≡ due_text part.session
   pub all : whole_of text ≡ run_text (lines k.tasks.made first)
 
--- in that line: the step is counted, and the machine represents the session between the step's two parts
+-- in these lines: the step is counted, and the machine represents the session between the step's two parts
 pub record IsCutInLimit {B : Type 0} (d : Device B) (r : Run) (k : Machine) (text : Text) : Type 0 where
   pub session : Session
   pub printed : List RunLine
-  pub member : SessionJob
-  pub task : Task
-  pub limited : IsLimited (known_now d) k session member task
+  pub rest : StepResult
+  pub limited : IsLimited (known_now d) k session rest
   pub within : IsWithinHalt r k.tasks.made
   pub front : text.front ≡ run_text printed
-  pub exact : Tells d → IsLimitLine r.session k session printed text
+  pub exact : Tells d → AreLimitLines r.session k session printed text
 
 -- ---- the status and the text
 
@@ -170,13 +154,14 @@ pub data StopsUnopened {B : Type 0} (d : Device B) (core : ℕ) (p : Prepared) (
       → status ≡ 5 → text ≡ only (ended (backing_full_line (sectors_of_all p.0 p.1) d.sectors)) → StopsUnopened d core p status text
   opening_fails : RoomSuffices d core p → Failed d → status ≡ 6 → text ≡ only (ended backing_fault_line) → StopsUnopened d core p status text
 
--- A session was opened, for which there is room. Each state up to the count of the machine is in order; and if the device
--- told what its sectors hold, none of the steps up to there needed more words than core has. The machine has that core, the
--- halt of the deck and the names of its jobs. A slice may be called on it again, and its table of sectors has one for each of
--- the device.
+-- A session was opened, for which there is room. Each state up to the count of the machine is in order, and each job has
+-- printed and become what its own steps give; and if the device told what its sectors hold, none of the steps up to there
+-- needed more words than core has. The machine has that core, the halt of the deck and the names of its jobs. A slice may be
+-- called on it again, and its table of sectors has one for each of the device.
 pub record WasOpened {B : Type 0} (d : Device B) (core : ℕ) (p : Prepared) (k : Machine) : Type 0 where
   pub room : RoomSuffices d core p
   pub in_order : StatesInOrder k.tasks.made (run_of p).session
+  pub apart : JobsRunApart k.tasks.made (run_of p).session
   pub fitted : Tells d → StepsFit core k.tasks.made (run_of p).session
   pub core_size : length k.cpu.core ≡ core
   pub halt : k.tasks.halt ≡ p.0.halt
@@ -191,7 +176,6 @@ pub data StopsOpened {B : Type 0} (d : Device B) (core : ℕ) (p : Prepared) (k 
   step_wants_core : status ≡ 4 → WantsCore d core (run_of p) k text → StopsOpened d core p k status text
   step_wants_sectors : status ≡ 5 → WantsSectors d core (run_of p) k text → StopsOpened d core p k status text
   step_fails : status ≡ 6 → Failed d → IsCutOff d core (run_of p) k text → StopsOpened d core p k status text
-  code_is_strange : status ≡ 2 → IsStrange d p k text → StopsOpened d core p k status text
 
 -- a run stops, with a machine exactly if a session was opened, and nothing of the next step is printed
 pub data RunStops {B : Type 0} (d : Device B) (core : ℕ) (p : Prepared) (machine : Option Machine) (status : ℕ) (text : Text) : Type 0 where

@@ -24,7 +24,7 @@ pub record StatusMeans {S B K : Type 0} (words : List (Bor (List ℕ))) (left : 
   pub usage : status ≡ 1 → (is_some (command_of words) ≡ false) × (deck' ≡ deck) × Took taken old new usage_text
   pub no_command : is_some (command_of words) ≡ false → (status ≡ 1) ⊎ (status ≡ 8)
   -- A text that was read, up to the first byte past its limit, is refused by the command: the line of its first refusal is
-  -- printed. Or a backing that tells nothing gave back code that calls what isn't built.
+  -- printed.
   pub refused : status ≡ 2 → (text : Text) × IsRefused words left deck deck' d machine text × Took taken old new (whole_of text)
   -- The deck was read to its end, and the command's work is done: the whole text of its run is printed, at the halt at the
   -- latest, and the machine represents a session without tasks; or the text that it is to print.
@@ -34,14 +34,15 @@ pub record StatusMeans {S B K : Type 0} (words : List (Bor (List ℕ))) (left : 
   -- printed, with the line of the halt after it.
   pub halted : status ≡ 3 → Ran words left deck deck' taken old new (λ core p text. Halts d p machine text)
   -- Core is too small for the session that opens or for a step, or the device has too few sectors for it. The machine is
-  -- before that step, which lacks its segment or its array where sectors are wanted, or makes an array longer.
+  -- before that step, which lacks its segment or its array where sectors are wanted, makes an array longer or starts a task.
   pub core_wanted : status ≡ 4 → Ran words left deck deck' taken old new (λ core p text. IsShortOfCore d core p machine text)
   pub sectors_wanted : status ≡ 5 → Ran words left deck deck' taken old new (λ core p text. IsShortOfSectors d core p machine text)
-  -- A device failed. At a step the machine is before it, and lacks its segment or its array, or the step makes one longer.
+  -- A device failed. At a step the machine is before it, and lacks its segment or its array, or the step makes one longer or
+  -- starts a task.
   pub backing_fault : status ≡ 6 → Failed d × Ran words left deck deck' taken old new (λ core p text. IsFailedBy d core p machine text)
   pub reading_fault : status ≡ 7 → Rose source_faults deck deck' × Took taken old new reading_text
   -- The printer failed. It has taken all lines of the steps, and a part of what is due after them: of the last line; or, as
-  -- the machine counts, of the first part of the next step, or of the line of LIMIT of the last one.
+  -- the machine counts, of the first part of the next step, or of the lines of LIMIT of the last one.
   pub printing_fault : status ≡ 8 → Rose printer_faults old new × ((text : Text) × (count : ℕ)
       × (((due : ℕ) × IsDue words left source_faults deck deck' d machine due text)
       ⊎ ((core : ℕ) × (p : Prepared) × IsRun words left deck deck' core p × IsPrinting d core p machine text count))

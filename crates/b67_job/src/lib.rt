@@ -6,7 +6,6 @@ mod command;
 mod lengths;
 mod lines;
 mod outcome;
-mod planning;
 mod ranges;
 mod runs;
 #[cfg(test)]

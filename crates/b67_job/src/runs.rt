@@ -1,27 +1,24 @@
 //! The run of a deck over core.
 
-ghost use Rattle.std.specs.Prelude.{◌≡◌, ◌≢◌, ◌+◌, ◌<◌, ◌≤◌, ◌^◌, ℕ, List, length, map, true, Option, None};
+ghost use Rattle.std.specs.Prelude.{◌≡◌, ◌≢◌, ◌+◌, ◌<◌, ◌≤◌, ◌^◌, ℕ, List, length, map, Option, None};
 ghost use Rattle.std.specs.List.{AllByRecursion};
 ghost use Rattle.b67_io.specs.Line.{ended};
 ghost use Rattle.b67_io.specs.Causes.{Rose};
 ghost use Rattle.b67_codefile.specs.Meaning.{program_of};
 ghost use Rattle.b67_layout_storage.specs.Machine.{Says, DeviceAfterCalls, content_after};
-ghost use Rattle.b67_model.specs.State.{Task, SessionJob};
 ghost use Rattle.b67_model.specs.Schedule.{Session};
 ghost use Rattle.b67_session_lines.specs.Ends.{Ends};
 ghost use Rattle.b67_session_open.specs.Decks.{DeckInRange, IsLoaded};
-ghost use Rattle.b67_session.specs.Slices.{IsLone, IsOpen, Keeps};
-ghost use Rattle.b67_uncalled.specs.Uncalled.{uses_built};
+ghost use Rattle.b67_session.specs.Slices.{StandsAt, IsOpen, Keeps};
 ghost use Rattle.b67_job.specs.Device.{device_of};
-ghost use Rattle.b67_job.specs.Finishing.{refused_status, refused_line, Finishes, JobRan};
+ghost use Rattle.b67_job.specs.Finishing.{refused_status, refused_line, Finishes, SessionRan};
 ghost use Rattle.b67_job.specs.Lines.{backing_fault_line};
 ghost use Rattle.b67_job.specs.Runs.{DeckRunEnds};
 
-use crate::lines::{backing_full_line, no_core_line, refusal_line};
+use crate::lines::{backing_full_line, no_core_line};
 use crate::outcome::Outcome;
 use b67_backing::Backing;
 use b67_io::Sink;
-use b67_job_admit::Refusal;
 use b67_load_verify::Admitted;
 use b67_model_text::Deck;
 use b67_session::{Progress, Stop, slice};
@@ -53,8 +50,8 @@ fn refuse_opening<K: Sink>(fault: OpenFault, printer: &mut K) -> u8
 }
 
 // Prints the last line after the steps that were made.
-fn finish<K: Sink>(answered: Result<Progress, Stop>, card: u32, made: u64, printer: &mut K) -> u8
-    ensures { Finishes K.taken K.faults card made answered printer.old printer.new result }
+fn finish<K: Sink>(answered: Result<Progress, Stop>, made: u64, printer: &mut K) -> u8
+    ensures { Finishes K.taken K.faults made answered printer.old printer.new result }
 {
     match answered {
         Ok(Progress::Ended) => 0,
@@ -68,42 +65,41 @@ fn finish<K: Sink>(answered: Result<Progress, Stop>, card: u32, made: u64, print
         ),
         Err(Stop::BackingFault) => say_backing_fault(printer),
         Err(Stop::PrintFault) => 8,
-        Err(Stop::Unbuilt) => say(
-            printer,
-            2,
-            &refusal_line(Refusal::Deck { card, reason: 90 }),
-        ),
     }
 }
 
-// Makes the steps of a session of one job, which are at most as many as any job may make, and prints the last line.
-fn run_job<K: Sink, B: Backing>(
-    machine: &mut Machine,
-    card: u32,
-    printer: &mut K,
-    backing: &mut B,
-) -> u8
+// Makes the steps of a session, which are at most as many as eight jobs may make, and prints the last line.
+fn run_session<K: Sink, B: Backing>(machine: &mut Machine, printer: &mut K, backing: &mut B) -> u8
     requires open { IsOpen (B.holds backing.old) machine.old }
     requires sized { B.size backing.old + 1 ≡ length machine.old.sectors.links }
-    ensures ran { (known : Option (List (List ℕ))) (s : Session) (m : SessionJob) (t : Task) → Says known (B.holds backing.old) → IsLone known machine.old s m t
-        → JobRan K.taken K.faults (content_after known (B.holds backing.new)) (known ≢ None) (Rose B.faults backing.old backing.new) (B.size backing.old) 100000000 card
+    ensures ran { (known : Option (List (List ℕ))) (s : Session) → Says known (B.holds backing.old) → StandsAt known machine.old s
+        → SessionRan K.taken K.faults (content_after known (B.holds backing.new)) (known ≢ None) (Rose B.faults backing.old backing.new) (B.size backing.old) 800000000
         s machine.old machine.new printer.old printer.new result }
     ensures goes_on { IsOpen (B.holds backing.new) machine.new }
     ensures keeps { Keeps machine.old machine.new }
     ensures device { DeviceAfterCalls B.holds B.size B.calls B.faults backing.old backing.new }
 {
-    let answered = slice(machine, 100_000_000, backing, printer);
-    finish(answered, card, machine.tasks.made, printer)
+    let answered = slice(machine, 800_000_000, backing, printer);
+    finish(answered, machine.tasks.made, printer)
+}
+
+// What the type of admitted programs says of each.
+fn know_programs(programs: &[Admitted])
+    ensures { AllByRecursion IsLoaded programs.now }
+{
+    'programs: for program in programs {
+        let _file = program.file();
+    }
 }
 
 /// Opens a deck's session in a core of `core` words over a device, runs it to its end or to its halt, and prints its lines.
 ///
 /// Status 0 is that all tasks ended, 3 that the halt's count was reached while a task lives. Else the run stops before a
 /// step, or before the first one: 4 if core is too small, 5 if the device has too few sectors, 6 if it failed, 8 if the
-/// printer failed, 9 if memory was refused, and 2 if the step calls an intrinsic that isn't built. The machine is there if a
-/// session was opened; if the run stopped with a task alive it represents the session then, and if all tasks ended the
-/// session without a task. A printer that fails in the text of a step stops the run too, and the machine counts the bytes
-/// that it took of it. Without a machine the device is as it was, unless it failed as the session was opened.
+/// printer failed, and 9 if memory was refused. The machine is there if a session was opened; if the run stopped with a task
+/// alive it represents the session then, and if all tasks ended the session without a task. A printer that fails in the text
+/// of a step stops the run too, and the machine counts the bytes that it took of it. Without a machine the device is as it
+/// was, unless it failed as the session was opened.
 pub fn run_deck<K: Sink, B: Backing>(
     alloc: Global,
     deck: &Deck,
@@ -114,15 +110,13 @@ pub fn run_deck<K: Sink, B: Backing>(
 ) -> Outcome
     requires range { DeckInRange deck.now }
     requires each { length programs.now ≡ length deck.now.jobs }
-    requires few { length deck.now.jobs ≤ 1 }
-    requires loaded { AllByRecursion IsLoaded programs.now }
-    requires built { AllByRecursion (λ f. uses_built (program_of f) ≡ true) programs.now }
     requires core_low { 256 ≤ core }
     requires core_high { core < 2 ^ 20 }
     ensures ends { DeckRunEnds K.taken K.faults (device_of B.holds B.size B.faults backing.old backing.new) core (deck.now, map program_of programs.now)
         result.machine printer.old printer.new result.status }
     ensures device { DeviceAfterCalls B.holds B.size B.calls B.faults backing.old backing.new }
 {
+    know_programs(programs);
     let mut machine = match open(alloc, deck, programs, core, backing) {
         Ok(machine) => machine,
         Err(fault) => {
@@ -132,17 +126,9 @@ pub fn run_deck<K: Sink, B: Backing>(
             };
         }
     };
-    match deck.jobs.as_slice() {
-        [] => Outcome {
-            status: 0,
-            machine: Some(machine),
-        },
-        [job, ..] => {
-            let status = run_job(&mut machine, job.body_card, printer, backing);
-            Outcome {
-                status,
-                machine: Some(machine),
-            }
-        }
+    let status = run_session(&mut machine, printer, backing);
+    Outcome {
+        status,
+        machine: Some(machine),
     }
 }

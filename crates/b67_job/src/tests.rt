@@ -109,38 +109,6 @@ fn decks(rt: HostRuntime) -> Result<(), Fail> {
     Ok(())
 }
 
-// What the machine doesn't have yet, each at its card.
-#[test]
-fn not_built(rt: HostRuntime) -> Result<(), Fail> {
-    let table = [
-        // PROCESS and CAUSE, the second in a segment of level 3.
-        (
-            "?JOB A\n?LIMIT 5\n?ASM\nSEGMENT MAIN 2\nNAMC 0,12\nEXIT\n?END\n",
-            "DECK 3 REASON 90\n",
-        ),
-        (
-            "?JOB A\n?ASM\nSEGMENT MAIN 2\nEXIT\nSEGMENT P 3\nNAMC 0,16\nEXIT\n?END\n",
-            "DECK 2 REASON 90\n",
-        ),
-        // A second job.
-        (
-            "?JOB B\n?ASM\nSEGMENT MAIN 2\nEXIT\n?END\n?JOB A\n?ASM\nSEGMENT MAIN 2\nEXIT\n?END\n",
-            "DECK 6 REASON 90\n",
-        ),
-        // Both.
-        (
-            "?JOB B\n?ASM\nSEGMENT MAIN 2\nNAMC 0,15\nEXIT\n?END\n?JOB A\n?ASM\nSEGMENT MAIN 2\nEXIT\n?END\n",
-            "DECK 2 REASON 90\n",
-        ),
-    ];
-    for (deck, line) in table {
-        let (status, printed) = answer(rt.alloc(), &WORDS, deck.as_bytes(), 80, &[], &[])?;
-        assert_eq!(rt; status, 2, "{deck}");
-        assert_eq!(rt; printed.as_slice(), line.as_bytes(), "{deck}");
-    }
-    Ok(())
-}
-
 // The cards of a run and of a job, around SUM's seven operators, of which the sixth prints.
 #[test]
 fn cards(rt: HostRuntime) -> Result<(), Fail> {

@@ -1,14 +1,12 @@
 //! The top call.
 
-ghost use Rattle.std.specs.Prelude.{◌≡◌, ◌⊎◌, ◌≤◌, ◌<◌, ◌^◌, ℕ, List, length, Some, None};
+ghost use Rattle.std.specs.Prelude.{◌≡◌, ◌⊎◌, ◌≤◌, ◌<◌, ◌^◌, ℕ, List, Some, None};
 ghost use Rattle.b67_io.specs.Causes.{Stayed};
 ghost use Rattle.b67_task_tables.specs.declared.tables.Machine.{Machine};
 ghost use Rattle.b67_layout_storage.specs.Machine.{DeviceAfterCalls};
 ghost use Rattle.b67_job_admit.specs.Told.{refusal_text};
 ghost use Rattle.b67_job_admit.specs.Admitting.{Prepared};
-ghost use Rattle.b67_job_admit.specs.Meets.{prepared_of};
 ghost use Rattle.b67_job_admit.specs.Verdicts.{asm_verdict, check_verdict, convert_verdict};
-ghost use Rattle.b67_session_open.specs.Decks.{DeckInRange};
 ghost use Rattle.b67_session_lines.specs.Ends.{Ends};
 ghost use Rattle.b67_job.specs.Device.{device_of};
 ghost use Rattle.b67_job.specs.Lines.{memory_text};
@@ -16,17 +14,16 @@ ghost use Rattle.b67_job.specs.Runs.{WasOpened};
 ghost use Rattle.b67_job.specs.Statuses.{StatusMeans};
 ghost use Rattle.b67_job.specs.Command.{command_of};
 ghost use Rattle.b67_job.specs.declared.command.CommandLine.{CommandLine};
-ghost use Rattle.b67_job.specs.Judgement.{deck_judgement, asked, judged_status};
-ghost use Rattle.b67_job.specs.Due.{Answered, Serves, RefusalEnds, TextEnds, Writes, DeckEnds, IsRun, IsSpared, IsAmple, reading_text};
+ghost use Rattle.b67_job.specs.Judgement.{asked, judged_status};
+ghost use Rattle.b67_job.specs.Due.{Answered, Serves, RefusalEnds, TextEnds, Writes, IsRun, IsSpared, IsAmple, reading_text};
 
 use crate::command::{CommandLine, command_of};
 use crate::lines::{refusal_line, say_text};
 use crate::outcome::Outcome;
-use crate::planning::missing_card;
 use crate::runs::run_deck;
 use b67_backing::Backing;
 use b67_io::{Sink, Source};
-use b67_job_admit::{AdmitFault, Loaded, Refusal, admit, asm_text, check_text, convert_text};
+use b67_job_admit::{AdmitFault, Refusal, admit, asm_text, check_text, convert_text};
 use b67_session_lines::{line_of, say};
 use b67_word::Bytes;
 use std::alloc::Global;
@@ -105,7 +102,14 @@ fn answer_run<S: Source, K: Sink, B: Backing>(
     ensures device { DeviceAfterCalls B.holds B.size B.calls B.faults backing.old backing.new }
 {
     match admit(alloc, deck) {
-        Ok(loaded) => answer_deck(alloc, core, &loaded, printer, backing),
+        Ok(loaded) => run_deck(
+            alloc,
+            &loaded.deck,
+            loaded.programs.as_slice(),
+            core,
+            printer,
+            backing,
+        ),
         Err(fault) => without_machine(refuse_program(fault, printer)),
     }
 }
@@ -140,29 +144,6 @@ fn answer_text<K: Sink>(text: &Result<Bytes, AdmitFault>, printer: &mut K) -> u8
     }
 }
 
-fn answer_deck<K: Sink, B: Backing>(
-    alloc: Global,
-    core: u32,
-    loaded: &Loaded,
-    printer: &mut K,
-    backing: &mut B,
-) -> Outcome
-    requires range { DeckInRange loaded.now.deck }
-    requires each { length loaded.now.programs ≡ length loaded.now.deck.jobs }
-    requires low { 256 ≤ core }
-    requires high { core < 2 ^ 20 }
-    ensures ends { DeckEnds (deck_judgement (prepared_of loaded.now)) K.taken K.faults (device_of B.holds B.size B.faults backing.old backing.new) core
-        result.machine printer.old printer.new result.status }
-    ensures device { DeviceAfterCalls B.holds B.size B.calls B.faults backing.old backing.new }
-{
-    let deck = &loaded.deck;
-    let programs = loaded.programs.as_slice();
-    match missing_card(deck.jobs.as_slice(), programs) {
-        Some(card) => without_machine(refuse(printer, Refusal::Deck { card, reason: 90 })),
-        None => run_deck(alloc, deck, programs, core, printer, backing),
-    }
-}
-
 fn refuse_program<K: Sink>(fault: AdmitFault, printer: &mut K) -> u8
     ensures { RefusalEnds fault K.taken K.faults printer.old printer.new result }
 {
@@ -176,7 +157,7 @@ fn refuse_program<K: Sink>(fault: AdmitFault, printer: &mut K) -> u8
 /// Carries out the command that the words are, on the deck that is read, and prints what it asks for.
 ///
 /// - `run --core N --backing PATH` opens the deck's session in a core of N words over the backing, and prints the lines of
-///   its run, up to its halt. What the machine doesn't have is refused with reason 90, once all programs are admitted.
+///   its run, up to its halt.
 /// - `asm` prints the codefile of assembly cards as hexadecimal cards, 32 bytes to a card, in lower case.
 /// - `check` prints `name ADMITTED s r` for each job of the deck, with its numbers of segments and of data rows.
 /// - `convert` prints the codefile of hexadecimal cards in version 2, with the same segments and rows, as `asm` prints one. The

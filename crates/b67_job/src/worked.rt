@@ -209,6 +209,39 @@ fn procedures(rt: HostRuntime) -> Result<(), Fail> {
     check_rows(&rt, rt.alloc(), &rows)
 }
 
+// Two jobs; a task whose parent ends before it does, in the parent's critical block; and a task that waits for an event that
+// nobody causes.
+#[test]
+fn jobs_and_tasks(rt: HostRuntime) -> Result<(), Fail> {
+    let rows = [
+        (
+            "4096",
+            4096,
+            "",
+            "?JOB SUM\n?ASM\nSEGMENT MAIN 2\nMKST\nNAMC 0,9\nLT8 2\nLT8 3\nADD\nENTR\nEXIT\n?END\n?JOB B\n?ASM\nSEGMENT MAIN 2\nZERO\nLNOT\nONE\nADD\nEXIT\n?END\n",
+            0,
+            "1.1 5\n1.1 ENDED\n2.1 EXPONENT\n",
+        ),
+        (
+            "4096",
+            4096,
+            "",
+            "?JOB A\n?ASM\nSEGMENT MAIN 2\nMPCW C\nMKST\nNAMC 0,12\nNAMC 2,2\nENTR\nEXIT\nSEGMENT C 3\nL: BRUN L\n?END\n",
+            0,
+            "1.2 PARENT\n1.1 CRITICAL BLOCK\n",
+        ),
+        (
+            "4096",
+            4096,
+            "",
+            "?JOB A\n?ASM\nSEGMENT MAIN 2\nZERO\nMKST\nNAMC 0,15\nNAMC 2,2\nENTR\nEXIT\n?END\n",
+            0,
+            "1.1 DEADLOCK\n",
+        ),
+    ];
+    check_rows(&rt, rt.alloc(), &rows)
+}
+
 // Arrays, and segments that share little core.
 #[test]
 fn paging(rt: HostRuntime) -> Result<(), Fail> {

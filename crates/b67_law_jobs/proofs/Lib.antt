@@ -1,4 +1,4 @@
-mod ApartLemmas
+pub mod ApartLemmas
 mod ChaseLemmas
 mod GrownLemmas
 mod LookLemmas

@@ -4,16 +4,16 @@ use Rattle.b67_job.specs.Device.{device_of}
 use Rattle.b67_job.proofs.Served.{loaded_in_range, served_deck, served_refusal, without}
 use Rattle.b67_job.proofs.top.answer_run.Goals as goal
 
-pub answer_deck-requires-clause-range : goal.answer_deck-requires-clause-range
-answer_deck-requires-clause-range g c = (loaded_in_range g.S.Source.left g.S.Source.faults c.args.deck.now c.admit.new.source c.in-Ok.loaded c.in-Ok.ensures.answer).0
+pub run_deck-requires-clause-range : goal.run_deck-requires-clause-range
+run_deck-requires-clause-range g c = (loaded_in_range g.S.Source.left g.S.Source.faults c.args.deck.now c.admit.new.source c.in-Ok.loaded c.in-Ok.ensures.answer).0
 
-pub answer_deck-requires-clause-each : goal.answer_deck-requires-clause-each
-answer_deck-requires-clause-each g c = (loaded_in_range g.S.Source.left g.S.Source.faults c.args.deck.now c.admit.new.source c.in-Ok.loaded c.in-Ok.ensures.answer).1
+pub run_deck-requires-clause-each : goal.run_deck-requires-clause-each
+run_deck-requires-clause-each g c = rw c.as_slice.ensures (loaded_in_range g.S.Source.left g.S.Source.faults c.args.deck.now c.admit.new.source c.in-Ok.loaded c.in-Ok.ensures.answer).1
 
 pub returns-in-Ok-clause-serves : goal.returns-in-Ok-clause-serves
 returns-in-Ok-clause-serves g c =
-    served_deck (device_of g.B.Backing.holds g.B.Backing.size g.B.Backing.faults c.args.backing.now c.answer_deck.new.backing) c.args.core c.in-Ok.loaded c.answer_deck.result.machine c.answer_deck.result.status
-    c.in-Ok.ensures.answer c.answer_deck.ensures.ends
+    served_deck (device_of g.B.Backing.holds g.B.Backing.size g.B.Backing.faults c.args.backing.now c.run_deck.new.backing) c.args.core c.in-Ok.loaded c.run_deck.result.machine c.run_deck.result.status
+    c.in-Ok.ensures.answer (rw c.as_slice.ensures at c.run_deck.ensures.ends)
 
 pub returns-in-Err-clause-serves : goal.returns-in-Err-clause-serves
 returns-in-Err-clause-serves g c = λ words e.

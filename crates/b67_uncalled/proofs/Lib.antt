@@ -1,6 +1,0 @@
-pub mod Couples
-pub mod Safe
-pub mod Frames
-pub mod Chains
-pub mod Steps
-pub mod Runs
