@@ -5,7 +5,7 @@ use Rattle.b67_model.specs.Schedule.{Session}
 use Rattle.b67_model.specs.InOrder.{IsInOrderButPlaces}
 use Rattle.b67_model.specs.Run.{RunLine, StepResult, lines, after}
 use Rattle.b67_law_turns.proofs.Limits.{no_last}
-use Rattle.b67_single.proofs.Runs.{Came, came-more}
+use Rattle.b67_law_turns.proofs.Runs.{Came, came-more}
 use Rattle.b67_session.specs.Slices.{Reaches, whole, but_limit}
 use Rattle.b67_session.proofs.Texts.{run_text-append}
 use Rattle.b67_session_lines.specs.Moments.{first_part, last_part, due}

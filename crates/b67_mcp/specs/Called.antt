@@ -15,7 +15,7 @@ use Rattle.b67_layout.specs.Placement.{Placement}
 use Rattle.b67_layout.specs.Meets.{with_job, area_held, IsInStack}
 use Rattle.b67_exec_cells.specs.Running.{code_area}
 use Rattle.b67_exec_cells.specs.Called.{called_in}
-use Rattle.b67_single.specs.Single.{task_lines}
+use Rattle.b67_law_turns.specs.Turns.{task_lines}
 use Rattle.b67_session_lines.specs.Parts.{TookRest, TookMore}
 use Rattle.b67_layout.specs.Rows.{shown}
 use Rattle.b67_task_start.specs.Starts.{moved}

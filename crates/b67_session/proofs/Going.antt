@@ -14,7 +14,7 @@ use Rattle.b67_model.specs.Run.{RunLine, next, after, lines, live_tasks}
 use Rattle.b67_model.specs.Schedule.{Session, Choice, choice, ready_of, ready, Who}
 use Rattle.b67_session_lines.specs.Moments.{first_part, due}
 use Rattle.b67_layout_storage.specs.Machine.{Says}
-use Rattle.b67_single.proofs.Runs.{Came, came-none, came-more}
+use Rattle.b67_law_turns.proofs.Runs.{Came, came-none, came-more}
 use Rattle.b67_task_tables.specs.declared.tables.TaskRow.{TaskRow}
 use Rattle.b67_task_tables.specs.declared.tables.Machine.{Machine}
 use Rattle.b67_task_tables.specs.Tables.{task_row}

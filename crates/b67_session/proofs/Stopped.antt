@@ -10,7 +10,7 @@ use Rattle.b67_model.specs.Need.{need}
 use Rattle.b67_model.specs.Rows.{step}
 use Rattle.b67_model.specs.Run.{RunLine, StepResult, of_job}
 use Rattle.b67_model.specs.Schedule.{Session}
-use Rattle.b67_single.specs.Single.{task_lines}
+use Rattle.b67_law_turns.specs.Turns.{task_lines}
 use Rattle.b67_law_turns.specs.Turns.{IsNext, part_of}
 use Rattle.b67_law_turns.proofs.Halves.{first_by}
 use Rattle.b67_session_lines.specs.Parts.{TookMore}
