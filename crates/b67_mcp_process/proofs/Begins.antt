@@ -1,22 +1,20 @@
 -- A task was started, and its call is answered.
-use Rattle.std.proofs.Common.{◌≡◌, ◌≢◌, ℕ, zero, suc, ◌+◌, ◌*◌, ◌^◌, ◌<◌, ◌≤◌, List, [], ◌∷◌, ◌++◌, map, reverse, take, length, Option, Some, None, refl, sym, ◌∙◌, ap, arith, false, inl, inr, subst}
+use Rattle.std.proofs.Common.{◌≡◌, ℕ, zero, suc, ◌+◌, ◌*◌, ◌<◌, ◌≤◌, List, [], ◌∷◌, ◌++◌, map, reverse, take, length, Option, refl, sym, ◌∙◌, ap, arith, false, inl, inr, subst}
 use Rattle.std.specs.Prelude.{max}
 use Rattle.std.proofs.lemmas.Bool.{ne_eqb}
 use Rattle.std.proofs.lemmas.List.{length-reverse}
 use Rattle.std.proofs.Math.Nat.{mul-le-mul_right}
 use Rattle.b67_word.specs.declared.couples.Place.{Place}
-use Rattle.b67_lemmas.specs.Lists.{Has}
+use Rattle.b67_lemmas.specs.Lists.{Has, Falls}
 use Rattle.b67_lemmas.proofs.Members.{all_in, falls_low, has_map, has_reverse_back, keyed_has, length_change, total_change}
 use Rattle.b67_lemmas.proofs.Keyed.{change_is, all_change}
 use Rattle.b67_lemmas.proofs.Sums.{sum_total}
-use Rattle.b67_model.specs.Keyed.{keyed, change_keyed}
+use Rattle.b67_model.specs.Keyed.{change_keyed}
 use Rattle.b67_model.specs.Words.{Word, Operand, Proc}
-use Rattle.b67_model.specs.State.{Frame, Standing, Marked, Task, Job, SessionJob, frame, top, below_top}
-use Rattle.b67_model.specs.Environment.{level_of_frame, level_of_standing}
+use Rattle.b67_model.specs.State.{Frame, Standing, Task, Job, SessionJob, top, below_top}
 use Rattle.b67_model.specs.Steps.{is_critical}
 use Rattle.b67_model.specs.Run.{number_of, live_tasks}
-use Rattle.b67_model.specs.Need.{fixed}
-use Rattle.b67_model.specs.InOrder.{Starts, IsSegment, Known, known_of, outer_of, reach_of, known_numbers, IsEntered, EnvironmentInOrder, NumberedFrom, TasksInOrder}
+use Rattle.b67_model.specs.InOrder.{Starts, IsSegment, Known, known_of, outer_of, reach_of, known_numbers, IsEntered, EnvironmentInOrder, NumberedFrom}
 use Rattle.b67_model.specs.Intrinsics.{is_original}
 use Rattle.b67_model.specs.Schedule.{Session}
 use Rattle.b67_law_order.proofs.Looks.{below_marked}
@@ -25,9 +23,9 @@ use Rattle.b67_law_order_rows.proofs.Cells.{plain_word}
 use Rattle.b67_law_order_rows.proofs.Children.{word_any}
 use Rattle.b67_layout.specs.Orders.{JobInOrderButCounts, IsInOrderButCounts}
 use Rattle.b67_stack.specs.Represents.{Storage}
-use Rattle.b67_layout.specs.Placement.{Placement, slot_of}
+use Rattle.b67_layout.specs.Placement.{Placement}
 use Rattle.b67_layout.specs.Session.{IsRunning}
-use Rattle.b67_layout.specs.Meets.{here, with_job}
+use Rattle.b67_layout.specs.Meets.{with_job}
 use Rattle.b67_layout.proofs.Fresh.{running_in_order}
 use Rattle.b67_layout.proofs.MachineViews.{member-same}
 use Rattle.b67_layout_enter.proofs.Awaits.{with_job-twice}
@@ -41,7 +39,7 @@ use Rattle.b67_fetch.proofs.Values.{here_scene}
 use Rattle.b67_task_need.specs.Needing.{need_with}
 use Rattle.b67_task_need.proofs.Needs.{follow_all}
 use Rattle.b67_task_start.specs.Opening.{IsLowestFree, slot_end, peak_with}
-use Rattle.b67_task_start.specs.Starts.{MayStart, IsStarted, arguments, child, with_child, moved}
+use Rattle.b67_task_start.specs.Starts.{MayStart, arguments, child, with_child, moved}
 use Rattle.b67_task_start.proofs.Begins.{has_slot}
 use Rattle.b67_task_start.proofs.Opens.{lowest_low}
 use Rattle.b67_task_start.proofs.Starting.{found_cell}
@@ -132,9 +130,11 @@ module _ (x : Storage) (told : Option (List (List ℕ))) (k : Machine) (plan : P
     frames = refl;
     fit = λ w i.
         let there : Has (arguments t count) w = has_reverse_back (arguments t count) w (has_reverse_back (reverse (arguments t count)) w i) in
-        let plain = all_in (λ (v : Word). is_original v ≡ false) (arguments t count) w may.plain there in
-        (word_any (IsSegment m.constants) m.progress.job.arrays (reach_of m.progress.job t) under (top t.frames).identity m.progress.job.next_frame w wide plain
-            (cell_order (IsSegment m.constants) m.progress.job.arrays (outer_of m.progress.job t) t.frames w (running_in_order plan s m t o runs).1.frames (taken_has (cells t) count w there)), plain_word w plain);
+        let plain = all_in (λ (v : Word). is_original v ≡ false) (arguments t count) w may.plain there in (
+          word_any (IsSegment m.constants) m.progress.job.arrays (reach_of m.progress.job t) under (top t.frames).identity m.progress.job.next_frame w wide plain
+              (cell_order (IsSegment m.constants) m.progress.job.arrays (outer_of m.progress.job t) t.frames w (running_in_order plan s m t o runs).1.frames (taken_has (cells t) count w there)),
+          plain_word w plain,
+        );
     stands = environment_order;
     low = omega (arith, may.room, taken_low (cells t) count, length-reverse (arguments t count), length-reverse (reverse (arguments t count)));
     place = proc_order.1;
@@ -183,7 +183,7 @@ module _ (x : Storage) (told : Option (List (List ℕ))) (k : Machine) (plan : P
   free1 : is_critical job1 (top t.frames).identity ≡ false
   free1 =
       let falls = (running_in_order plan s m t o runs).1.falls in
-      let F : List Frame → Type 0 = λ fs. Rattle.b67_lemmas.specs.Lists.Falls m.progress.job.next_frame (known_numbers (map known_of fs ++ outer_of m.progress.job t)) in
+      let F : List Frame → Type 0 = λ fs. Falls m.progress.job.next_frame (known_numbers (map known_of fs ++ outer_of m.progress.job t)) in
       let low = (subst F off.frames falls).1.0 in
       let own_is : (top t.frames).identity ≡ off.f.identity = ap (λ (fs : List Frame). (top fs).identity) off.frames in
       let next_is : new.critical ≡ off.next.identity = ap (λ (fs : List Frame). (top (below_top fs)).identity) off.frames in

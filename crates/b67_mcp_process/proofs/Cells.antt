@@ -1,7 +1,7 @@
 -- Cells of the top activation record that are read, wherever they stand.
-use Rattle.std.proofs.Common.{◌≡◌, ◌≢◌, ℕ, ◌+◌, ◌-◌, ◌<◌, ◌≤◌, ◌^◌, List, [], ◌∷◌, ◌++◌, map, length, Some, refl, sym, ◌∙◌, ap, arith, Bool, true, false, inl, inr, subst}
+use Rattle.std.proofs.Common.{◌≡◌, ◌≢◌, ℕ, ◌+◌, ◌-◌, ◌<◌, ◌≤◌, ◌^◌, List, [], ◌∷◌, ◌++◌, map, length, Some, refl, sym, ◌∙◌, ap, arith, false, inl, subst}
 use Rattle.std.specs.Prelude.{not}
-use Rattle.std.specs.List.{AllByRecursion, slice_get}
+use Rattle.std.specs.List.{slice_get}
 use Rattle.std.proofs.lemmas.List.{length-map}
 use Rattle.std.proofs.lemmas.Option.{same_Some}
 use Rattle.b67_word.specs.Tagged.{Tagged}
@@ -28,12 +28,12 @@ use Rattle.b67_layout.specs.Session.{IsRunning, RepresentsSession}
 use Rattle.b67_layout.proofs.Fresh.{running_in_order}
 use Rattle.b67_refer.specs.RunningContext.{RunningContext, live_of}
 use Rattle.b67_entry_enter.specs.Procedures.{ReachesProc}
-use Rattle.b67_refer.proofs.Links.{Described, own, row, item, described}
+use Rattle.b67_refer.proofs.Links.{Described, own, row, item}
 use Rattle.b67_exec_cells.specs.Tops.{IsWordOf, cells}
 use Rattle.b67_exec_cells.proofs.Put as Put
 use Rattle.b67_exec_cells.proofs.Replaced.{word_under}
 use Rattle.b67_fetch.specs.Fetches.{IsFollowed}
-use Rattle.b67_fetch.proofs.Values.{here_scene, followed_stands}
+use Rattle.b67_fetch.proofs.Values.{here_scene}
 use Rattle.b67_fetch.proofs.Found.{desc_is}
 
 pub cell_order : (P : Starts) (arrays : List Array) (outer : List Known) (fs : List Frame) (w : Word) → FramesInOrder P arrays outer fs → Has (top fs).cells w → WordInOrder P arrays (map known_of fs ++ outer) (top fs).identity w

@@ -1,16 +1,17 @@
 -- As many rows are of tasks of a job as tasks of it live.
-use Rattle.std.proofs.Common.{◌≡◌, ◌≢◌, ◌==◌, ℕ, zero, suc, ◌+◌, ◌<◌, ◌≤◌, eqb, List, [], ◌∷◌, ◌++◌, map, flat_map, filter, drop, length, Bool, true, false, Some, refl, sym, ◌∙◌, ap, arith, inl, inr, ⊎_elim, subst, length-append}
+use Rattle.std.proofs.Common.{◌≡◌, ◌==◌, ℕ, zero, suc, ◌+◌, ◌<◌, ◌≤◌, List, [], ◌∷◌, map, flat_map, drop, length, Some, refl, sym, ◌∙◌, ap, arith, inl, inr, subst, length-append}
 use Rattle.std.specs.Prelude.{if◌then◌else◌}
-use Rattle.std.proofs.lemmas.Bool.{cases_Bool, cases_eq, eq-eqb, ne_eqb, eqb-true, true≢false}
-use Rattle.std.proofs.lemmas.Bool.Decides.{eqb_tells}
+use Rattle.std.proofs.lemmas.Bool.{cases_Bool, eq-eqb, eqb-true, true≢false}
 use Rattle.std.proofs.lemmas.List.{length-map}
 use Rattle.std.specs.Prelude.{get_or}
 use Rattle.std.specs.List.{slice_get}
-use Rattle.std.proofs.lemmas.Option.{get_or_from_slice_get}
+use Rattle.std.proofs.lemmas.Option.{get_or_from_slice_get, same_Some}
 use Rattle.b67_lemmas.specs.Lists.{Has}
 use Rattle.b67_lemmas.proofs.Places.{drop-get, get_within}
 use Rattle.b67_lemmas.proofs.Members.{has_flat, has_flat_back, has_map, has_map_back}
 use Rattle.b67_model.specs.State.{Task, SessionJob}
+use Rattle.b67_model.specs.Keyed.{keyed}
+use Rattle.b67_model.specs.Run.{number_of}
 use Rattle.b67_model.specs.Schedule.{Session}
 use Rattle.b67_law_order.proofs.Numbered.{keyed_member}
 use Rattle.b67_layout.specs.Orders.{IsInOrderButCounts}
@@ -82,6 +83,12 @@ mapped_slots : (rs : List TaskRow) → map (λ (r : rows.TaskRow). r.slot) (map 
 mapped_slots [] = refl
 mapped_slots (r ∷ rs) = ap (λ (ns : List ℕ). r.slot ∷ ns) (mapped_slots rs)
 
+same_job : (r : TaskRow) (q : rows.TaskRow) → task_row r ≡ q → r.job ≡ q.job
+same_job r q e = ap (λ (z : rows.TaskRow). z.job) e
+
+same_slot : (r : TaskRow) (q : rows.TaskRow) → task_row r ≡ q → r.slot ≡ q.slot
+same_slot r q e = ap (λ (z : rows.TaskRow). z.slot) e
+
 pub rows_are : (tasks : Tasks) (plan : Placement) (s : Session) (m : SessionJob) → IsInOrderButCounts s → RowsFit plan s.jobs → Has s.jobs m → TasksShow plan s tasks → rows_of_job tasks.rows.items m.constants.number ≡ length m.progress.job.tasks
 rows_are tasks plan s m o fit inm shows =
     let rs = tasks.rows.items in
@@ -89,30 +96,30 @@ rows_are tasks plan s m o fit inm shows =
     let live : List ℕ = flat_map (slots_of plan) (m ∷ []) in
     let once : Differ (map (λ (r : TaskRow). r.slot) rs) = subst Differ (mapped_slots rs) shows.once in
     let up = not_more (slots_in rs job) live (slots_differ rs job once) (λ n h.
-        (let r = slots_back rs job n h in
-        let (y, t, iny, int, w) = shows.tasks (task_row r.row) (has_map task_row rs r.row r.among) in
-        let same : y ≡ m = by_number y iny (sym w.job ∙ r.job_is) in
-        let int' : Has m.progress.job.tasks t = subst (λ (z : SessionJob). Has z.progress.job.tasks t) same int in
-        let slot : slot_of plan m.constants.number t.number ≡ n = ap (λ (z : SessionJob). slot_of plan z.constants.number t.number) (sym same) ∙ sym w.slot ∙ r.slot_is in
-        subst (Has live) slot (has_flat (slots_of plan) (m ∷ []) m (slot_of plan m.constants.number t.number) (inl refl) (has_map (λ (v : Task). slot_of plan m.constants.number v.number) m.progress.job.tasks t int')))) in
-    let down = not_more live (slots_in rs job) (jobs_differ plan s o fit m.constants.number (m ∷ []) (refl, tt) (λ y h. elim h [ inl e ↦ subst (Has s.jobs) e inm | inr nay ↦ absurd nay ])) (λ n h.
-        (let y = has_flat_back (slots_of plan) (m ∷ []) n h in
-        let one : m ≡ y.item = elim y.among [ inl e ↦ e | inr nay ↦ absurd nay ] in
-        let inside : Has (slots_of plan m) n = subst (λ (z : SessionJob). Has (slots_of plan z) n) (sym one) y.inside in
-        let u = has_map_back (λ (v : Task). slot_of plan m.constants.number v.number) m.progress.job.tasks n inside in
-        let (q, inq, w) = shows.each m u.item inm u.among in
-        let r = has_map_back task_row rs q inq in
-        let job_is : r.item.job ≡ job = ap (λ (z : rows.TaskRow). z.job) r.is ∙ w.job in
-        let slot_is : r.item.slot ≡ n = ap (λ (z : rows.TaskRow). z.slot) r.is ∙ w.slot ∙ u.is in
-        subst (Has (slots_in rs job)) slot_is (slots_has rs job r.item r.among job_is))) in
+    (let r = slots_back rs job n h in
+    let (y, t, iny, int, w) = shows.tasks (task_row r.row) (has_map task_row rs r.row r.among) in
+    let same : y ≡ m = by_number y iny (sym w.job ∙ r.job_is) in
+    let int' : Has m.progress.job.tasks t = subst (λ (z : SessionJob). Has z.progress.job.tasks t) same int in
+    let slot : slot_of plan m.constants.number t.number ≡ n = ap (λ (z : SessionJob). slot_of plan z.constants.number t.number) (sym same) ∙ sym w.slot ∙ r.slot_is in
+    subst (Has live) slot (has_flat (slots_of plan) (m ∷ []) m (slot_of plan m.constants.number t.number) (inl refl) (has_map (λ (v : Task). slot_of plan m.constants.number v.number) m.progress.job.tasks t int')))) in
+    let down = not_more live (slots_in rs job) (jobs_differ plan s o fit m.constants.number (m ∷ []) (refl, tt) (λ y h. elim h [ inl e ↦ subst (Has s.jobs) e inm | inr never ↦ absurd never ])) (λ n h.
+    (let y = has_flat_back (slots_of plan) (m ∷ []) n h in
+    let one : m ≡ y.item = elim y.among [ inl e ↦ e | inr never ↦ absurd never ] in
+    let inside : Has (slots_of plan m) n = subst (λ (z : SessionJob). Has (slots_of plan z) n) (sym one) y.inside in
+    let u = has_map_back (λ (v : Task). slot_of plan m.constants.number v.number) m.progress.job.tasks n inside in
+    let (q, inq, w) = shows.each m u.item inm u.among in
+    let r = has_map_back task_row rs q inq in
+    let job_is : r.item.job ≡ job = same_job r.item q r.is ∙ w.job in
+    let slot_is : r.item.slot ≡ n = same_slot r.item q r.is ∙ w.slot ∙ u.is in
+    subst (Has (slots_in rs job)) slot_is (slots_has rs job r.item r.among job_is))) in
     omega (arith, up, down, slots_count rs job, length-append (slots_of plan m) [], length-map m.progress.job.tasks (λ (v : Task). slot_of plan m.constants.number v.number))
   where
     by_number : (y : SessionJob) → Has s.jobs y → y.constants.number ≡ m.constants.number → y ≡ m
     by_number y iny e =
         let one = keyed_member 1 s.jobs y o.numbered iny in
         let two = keyed_member 1 s.jobs m o.numbered inm in
-        let P : ℕ → Type 0 = λ n. Rattle.b67_model.specs.Keyed.keyed Rattle.b67_model.specs.Run.number_of n s.jobs ≡ Rattle.std.proofs.Common.Some y in
-        Rattle.std.proofs.lemmas.Option.same_Some y m (sym (subst P e one) ∙ two)
+        let P : ℕ → Type 0 = λ n. keyed number_of n s.jobs ≡ Some y in
+        same_Some y m (sym (subst P e one) ∙ two)
 
 -- the rest after one row
 pub rows_next : (rs : List TaskRow) (at job : ℕ) (d : TaskRow) → at < length rs → rows_of_job (drop at rs) job ≡ counts_for (get_or rs at d) job + rows_of_job (drop (at + 1) rs) job

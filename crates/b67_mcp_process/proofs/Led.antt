@@ -1,16 +1,16 @@
 -- The first argument of a call of PROCESS, and where it leads.
-use Rattle.std.proofs.Common.{◌≡◌, ◌≢◌, ℕ, ◌+◌, ◌≤◌, List, [], ◌∷◌, ◌++◌, reverse, take, length, Result, Ok, Err, refl, sym, ◌∙◌, ap, arith, true, false, inl, inr, subst}
-use Rattle.std.specs.List.{AllByRecursion, list_any}
+use Rattle.std.proofs.Common.{◌≡◌, ◌≢◌, ℕ, List, [], ◌∷◌, reverse, take, Result, Ok, Err, refl, sym, ◌∙◌, ap, false, inl, inr, subst}
+use Rattle.std.specs.List.{list_any}
 use Rattle.b67_word.specs.Tagged.{Tagged}
 use Rattle.b67_word.specs.declared.couples.Place.{Place}
 use Rattle.b67_word.specs.declared.faults.Fault.{Fault}
 use Rattle.b67_word.specs.declared.faults.Fault.TheVariants.{InvalidOperand}
 use Rattle.b67_lemmas.specs.Lists.{Has}
-use Rattle.b67_lemmas.proofs.Members.{all_from, any_none, has_append_cases, has_reverse_back}
+use Rattle.b67_lemmas.proofs.Members.{all_from, any_none, has_append_cases}
 use Rattle.b67_model.specs.Answers.{Answer}
 use Rattle.b67_model.specs.Words as Words
 use Rattle.b67_model.specs.Words.{Word, Operand, Name, Ref, Row, Element, Original, Proc, Intrinsic}
-use Rattle.b67_model.specs.State.{Task, SessionJob, top}
+use Rattle.b67_model.specs.State.{Task, SessionJob}
 use Rattle.b67_model.specs.Chase as Chase
 use Rattle.b67_model.specs.Chase.{AtCell, AtElement, AtArray, AtProc, AtIntrinsic, follow}
 use Rattle.b67_model.specs.Intrinsics.{is_original}
@@ -32,10 +32,9 @@ use Rattle.b67_entry_enter.specs.Procedures.{ReachesProc}
 use Rattle.b67_entry_enter.proofs.Firsts.{refers, refers_not}
 use Rattle.b67_entry_enter.proofs.Leads.{ProcFound, proc_found, fault_found}
 use Rattle.b67_exec_cells.specs.Tops.{cells}
-use Rattle.b67_exec_calls.specs.Calls.{IsCall, MayCut}
+use Rattle.b67_exec_calls.specs.Calls.{IsCall}
 use Rattle.b67_fetch.specs.Fetches.{IsFollowed}
 use Rattle.b67_fetch.proofs.Values.{here_scene}
-use Rattle.b67_task_start.specs.Starts.{IsProcCell}
 use Rattle.b67_mcp_process.specs.declared.asking.Asked.{Asked}
 use Rattle.b67_mcp_process.specs.Asked.{admits, AdmitMeets, Asks, AskMeets}
 use Rattle.b67_mcp_process.proofs.Rows.{Parts, IsElsewhere, Admitted, admitted, not_led, faults, ends_elsewhere, refuses, answers_by}
@@ -68,35 +67,35 @@ module _ (x : Storage) (cpu : Cpu) (plan : Placement) (s : Session) (m : Session
       leads_fault fault is = λ next. faults t reference arguments call m count p none refers_first next fault (fault_found (here_scene x cpu plan s m t o h runs) next fault (follow (here m t next) p.first) (at_result next (Err fault) is))
 
       elsewhere : (q : Place) (found : End) (answer : Answer Chase.End) → IsNoProc found → EndMeets (here_scene x cpu plan s m t o h runs) q (Ok found) answer → (z : Chase.End) × (answer ≡ Ok z) × IsElsewhere z
-      elsewhere q (end.Proc at) answer nay k = absurd nay
-      elsewhere q (end.Cell at) (Ok (AtCell f offset bits)) nay k = (AtCell f offset bits, refl, tt)
-      elsewhere q (end.Cell at) (Ok (AtElement n j)) nay k = absurd k
-      elsewhere q (end.Cell at) (Ok (AtArray n)) nay k = absurd k
-      elsewhere q (end.Cell at) (Ok (AtProc f segment level place)) nay k = absurd k
-      elsewhere q (end.Cell at) (Ok (AtIntrinsic n)) nay k = absurd k
-      elsewhere q (end.Cell at) (Err fault) nay k = absurd k
-      elsewhere q (end.Element a b) (Ok (AtElement n j)) nay k = (AtElement n j, refl, tt)
-      elsewhere q (end.Element a b) (Ok (AtCell f offset bits)) nay k = absurd k
-      elsewhere q (end.Element a b) (Ok (AtArray n)) nay k = absurd k
-      elsewhere q (end.Element a b) (Ok (AtProc f segment level place)) nay k = absurd k
-      elsewhere q (end.Element a b) (Ok (AtIntrinsic n)) nay k = absurd k
-      elsewhere q (end.Element a b) (Err fault) nay k = absurd k
-      elsewhere q (end.Array a) (Ok (AtArray n)) nay k = (AtArray n, refl, tt)
-      elsewhere q (end.Array a) (Ok (AtCell f offset bits)) nay k = absurd k
-      elsewhere q (end.Array a) (Ok (AtElement n j)) nay k = absurd k
-      elsewhere q (end.Array a) (Ok (AtProc f segment level place)) nay k = absurd k
-      elsewhere q (end.Array a) (Ok (AtIntrinsic n)) nay k = absurd k
-      elsewhere q (end.Array a) (Err fault) nay k = absurd k
-      elsewhere q (end.Intrinsic a) (Ok (AtIntrinsic n)) nay k = (AtIntrinsic n, refl, tt)
-      elsewhere q (end.Intrinsic a) (Ok (AtCell f offset bits)) nay k = absurd k
-      elsewhere q (end.Intrinsic a) (Ok (AtElement n j)) nay k = absurd k
-      elsewhere q (end.Intrinsic a) (Ok (AtArray n)) nay k = absurd k
-      elsewhere q (end.Intrinsic a) (Ok (AtProc f segment level place)) nay k = absurd k
-      elsewhere q (end.Intrinsic a) (Err fault) nay k = absurd k
+      elsewhere q (end.Proc at) answer never k = absurd never
+      elsewhere q (end.Cell at) (Ok (AtCell f offset bits)) never k = (AtCell f offset bits, refl, tt)
+      elsewhere q (end.Cell at) (Ok (AtElement n j)) never k = absurd k
+      elsewhere q (end.Cell at) (Ok (AtArray n)) never k = absurd k
+      elsewhere q (end.Cell at) (Ok (AtProc f segment level place)) never k = absurd k
+      elsewhere q (end.Cell at) (Ok (AtIntrinsic n)) never k = absurd k
+      elsewhere q (end.Cell at) (Err fault) never k = absurd k
+      elsewhere q (end.Element a b) (Ok (AtElement n j)) never k = (AtElement n j, refl, tt)
+      elsewhere q (end.Element a b) (Ok (AtCell f offset bits)) never k = absurd k
+      elsewhere q (end.Element a b) (Ok (AtArray n)) never k = absurd k
+      elsewhere q (end.Element a b) (Ok (AtProc f segment level place)) never k = absurd k
+      elsewhere q (end.Element a b) (Ok (AtIntrinsic n)) never k = absurd k
+      elsewhere q (end.Element a b) (Err fault) never k = absurd k
+      elsewhere q (end.Array a) (Ok (AtArray n)) never k = (AtArray n, refl, tt)
+      elsewhere q (end.Array a) (Ok (AtCell f offset bits)) never k = absurd k
+      elsewhere q (end.Array a) (Ok (AtElement n j)) never k = absurd k
+      elsewhere q (end.Array a) (Ok (AtProc f segment level place)) never k = absurd k
+      elsewhere q (end.Array a) (Ok (AtIntrinsic n)) never k = absurd k
+      elsewhere q (end.Array a) (Err fault) never k = absurd k
+      elsewhere q (end.Intrinsic a) (Ok (AtIntrinsic n)) never k = (AtIntrinsic n, refl, tt)
+      elsewhere q (end.Intrinsic a) (Ok (AtCell f offset bits)) never k = absurd k
+      elsewhere q (end.Intrinsic a) (Ok (AtElement n j)) never k = absurd k
+      elsewhere q (end.Intrinsic a) (Ok (AtArray n)) never k = absurd k
+      elsewhere q (end.Intrinsic a) (Ok (AtProc f segment level place)) never k = absurd k
+      elsewhere q (end.Intrinsic a) (Err fault) never k = absurd k
 
       pub leads_elsewhere : (found : End) → IsNoProc found → result ≡ Ok found → AskMeets plan m t arguments (Err InvalidOperand)
-      leads_elsewhere found nay is = λ next.
-          (let (z, leads, away) = elsewhere next found (follow (here m t next) p.first) nay (at_result next (Ok found) is) in
+      leads_elsewhere found never is = λ next.
+          (let (z, leads, away) = elsewhere next found (follow (here m t next) p.first) never (at_result next (Ok found) is) in
           ends_elsewhere t reference arguments call m count p none refers_first next z leads away)
 
       module _ (cell : ℕ) (is : result ≡ Ok (end.Proc cell)) where
@@ -122,7 +121,7 @@ module _ (x : Storage) (cpu : Cpu) (plan : Placement) (s : Session) (m : Session
           | inl over ↦ any_none is_original (reverse p.words) w (ap (list_any is_original) (sym p.copied) ∙ none) over
           | inr (inl first) ↦ ap is_original (sym first) ∙ plain_first p.first refers_first
           | inr (inr (inl last)) ↦ ap is_original (sym last) ∙ call.plain
-          | inr (inr (inr nay)) ↦ absurd nay
+          | inr (inr (inr never)) ↦ absurd never
         ]
 
         asks : (f segment level : ℕ) (place : Place) → IsProcAt (here_scene x cpu plan s m t o h runs) t.place cell f segment level place → follow (here m t t.place) p.first ≡ Ok (AtProc f segment level place)

@@ -1,29 +1,27 @@
 -- What the row of PROCESS makes of its arguments.
-use Rattle.std.proofs.Common.{◌≡◌, ◌≢◌, ◌==◌, eqb, ℕ, suc, ◌+◌, ◌-◌, ◌<◌, ◌≤◌, List, [], ◌∷◌, ◌++◌, reverse, take, length, Bool, true, false, None, Ok, Err, refl, sym, ◌∙◌, ap, arith, inl, inr, subst}
+use Rattle.std.proofs.Common.{◌≡◌, ◌≢◌, ◌==◌, eqb, ℕ, suc, ◌+◌, ◌<◌, ◌≤◌, List, [], ◌∷◌, ◌++◌, reverse, take, length, Bool, true, false, Ok, Err, refl, sym, ◌∙◌, ap, arith}
 use Rattle.std.specs.Prelude.{nat_le, nat_lt, not, if◌then◌else◌}
-use Rattle.std.specs.List.{AllByRecursion, list_any}
-use Rattle.std.proofs.lemmas.Bool.{cases_Bool, cases_eq, le-leb, leb-true, eqb-true, ne_eqb, eq-eqb, not-true, false≢true, true≢false}
+use Rattle.std.specs.List.{list_any}
+use Rattle.std.proofs.lemmas.Bool.{le-leb, leb-true, eqb-true, ne_eqb, eq-eqb, not-true, false≢true, true≢false}
 use Rattle.std.proofs.lemmas.List.{length-reverse, reverse-reverse}
 use Rattle.b67_word.specs.declared.couples.Place.{Place}
 use Rattle.b67_word.specs.declared.faults.Fault.{Fault}
 use Rattle.b67_word.specs.declared.faults.Fault.TheVariants.{InvalidOperand, StackOverflow, CriticalBlock}
 use Rattle.b67_model.specs.Answers.{Answer, ◌>>=◌, ◌>>◌, needs}
 use Rattle.b67_model.specs.Words.{Word, Operand}
-use Rattle.b67_model.specs.State.{Task, Job, SessionJob, OperatorContext, top, below_top, frame, height, with_top_cells, with_task}
+use Rattle.b67_model.specs.State.{Task, SessionJob, OperatorContext, top, below_top, frame, height, with_top_cells}
 use Rattle.b67_model.specs.Environment.{level_of_frame}
 use Rattle.b67_model.specs.Chase.{End, AtCell, AtElement, AtArray, AtProc, AtIntrinsic, follow, follow_reference}
-use Rattle.b67_model.specs.Steps.{Done, Goes, is_critical}
-use Rattle.b67_model.specs.Entry.{needs_level}
-use Rattle.b67_model.specs.Intrinsics.{is_original, answered, needs_free, child_of, starts, process}
-use Rattle.b67_layout.specs.Placement.{Placement}
+use Rattle.b67_model.specs.Steps.{Done, is_critical}
+use Rattle.b67_model.specs.Intrinsics.{is_original, child_of, starts, process}
 use Rattle.b67_layout.specs.Meets.{here}
 use Rattle.b67_refer.specs.Ends.{IsReference}
 use Rattle.b67_exec_cells.specs.Tops.{cells}
 use Rattle.b67_exec_calls.specs.Calls.{IsCall}
 use Rattle.b67_exec_calls.proofs.Answering.{no_higher}
 use Rattle.b67_entry_enter.proofs.Firsts.{same_follow}
-use Rattle.b67_task_start.specs.Starts.{child, with_child}
-use Rattle.b67_mcp_process.specs.Asked.{job_started, job_full, answer_by, admits}
+use Rattle.b67_task_start.specs.Starts.{child}
+use Rattle.b67_mcp_process.specs.Asked.{answer_by, admits}
 use Rattle.b67_mcp_process.proofs.Words.{take_front, any_turned, turned_two}
 
 -- three tests after each other

@@ -1,18 +1,14 @@
 -- What a call of PROCESS answers where its task asks for another one.
-use Rattle.std.proofs.Common.{◌≡◌, ◌≢◌, ℕ, ◌+◌, ◌-◌, ◌^◌, ◌<◌, ◌≤◌, suc, zero, List, [], ◌∷◌, reverse, take, length, Option, Some, None, Result, Ok, Err, refl, sym, ◌∙◌, ap, arith, true, false, Bool, subst}
-use Rattle.std.specs.Prelude.{max, nat_lt}
-use Rattle.std.specs.List.{AllByRecursion, slice_get}
+use Rattle.std.proofs.Common.{◌≡◌, ◌≢◌, ℕ, ◌+◌, ◌-◌, ◌<◌, ◌≤◌, suc, zero, List, [], ◌∷◌, take, length, Option, Some, None, Result, Ok, Err, refl, sym, ◌∙◌, ap, arith, false, Bool, subst}
+use Rattle.std.specs.Prelude.{max}
 use Rattle.std.proofs.lemmas.Bool.{lt-ltb, le-ltb}
 use Rattle.std.proofs.lemmas.List.{length-reverse}
-use Rattle.b67_area.specs.declared.Areas.{Areas}
 use Rattle.b67_area.specs.declared.Info.{Info}
 use Rattle.b67_area.specs.Spans.{area_at}
 use Rattle.b67_word.specs.declared.couples.Place.{Place}
 use Rattle.b67_word.specs.declared.faults.Fault.{Fault}
-use Rattle.b67_backing.specs.Shelf.{Table}
 use Rattle.b67_backing.specs.declared.SpaceFault.{SpaceFault}
 use Rattle.b67_backing.specs.declared.SpaceFault.TheVariants.{NoCore, BackingFull, BackingFault}
-use Rattle.b67_lemmas.specs.Lists.{Has}
 use Rattle.b67_lemmas.proofs.Members.{all_from, has_get, keyed_has, length_change}
 use Rattle.b67_model.specs.Answers.{Answer}
 use Rattle.b67_model.specs.Words.{Word, Operand}
@@ -22,7 +18,6 @@ use Rattle.b67_model.specs.Run.{number_of, live_tasks}
 use Rattle.b67_model.specs.Intrinsics.{is_original, answered, process}
 use Rattle.b67_model.specs.Schedule.{Session}
 use Rattle.b67_layout.specs.Orders.{IsInOrderButCounts}
-use Rattle.b67_stack.specs.declared.Cpu.{Cpu}
 use Rattle.b67_stack.specs.Represents.{Storage}
 use Rattle.b67_layout.specs.Placement.{Placement}
 use Rattle.b67_layout.specs.Session.{IsRunning}
@@ -31,9 +26,8 @@ use Rattle.b67_exec_cells.specs.Tops.{cells}
 use Rattle.b67_exec_calls.specs.Answered.{job_answered}
 use Rattle.b67_task_need.specs.Needing.{need_with}
 use Rattle.b67_task_start.specs.Opening.{IsLowestFree, slot_end}
-use Rattle.b67_task_start.specs.Starts.{MayStart, arguments, child, with_child, moved}
+use Rattle.b67_task_start.specs.Starts.{MayStart, arguments, child, moved}
 use Rattle.b67_task_start.proofs.Rows.{job_row_of}
-use Rattle.b67_task_tables.specs.declared.tables.JobRow.{JobRow}
 use Rattle.b67_task_tables.specs.declared.tables.Machine.{Machine}
 use Rattle.b67_task_tables.specs.Tables.{MachineRepresents}
 use Rattle.b67_mcp_process.specs.Asked.{job_started, job_full, answer_by, Asks}
@@ -115,14 +109,14 @@ module _ (x : Storage) (told : Option (List (List ℕ))) (k : Machine) (plan : P
 module _ (told : Option (List (List ℕ))) (plan : Placement) (s : Session) (m : SessionJob) (t : Task) (next : Place) (asked : List Word) (old new : Machine) where
   pub stopped : (fault : SpaceFault) → ((need size : ℕ) → fault ≢ NoCore need size) → IsStopped told plan s m t next asked old new → ((wants free : ℕ) → fault ≡ BackingFull wants free → IsStoppedShort told plan s m t next asked wants free old new)
       → ProcessMeets told plan s m t next asked (Err fault) old new
-  stopped (NoCore need size) nay w full = absurd (nay need size refl)
-  stopped (BackingFull wants free) nay w full = full wants free refl
-  stopped BackingFault nay w full = w
+  stopped (NoCore need size) never w full = absurd (never need size refl)
+  stopped (BackingFull wants free) never w full = full wants free refl
+  stopped BackingFault never w full = w
 
 pub writes : (m : SessionJob) (t : Task) (next : Place) (asked : List Word) (fault : SpaceFault) → ((need size : ℕ) → fault ≢ NoCore need size) → StartsOne m t next asked → ProcessWrites m t next asked (Err fault)
-writes m t next asked (NoCore need size) nay w = absurd (nay need size refl)
-writes m t next asked (BackingFull wants free) nay w = w
-writes m t next asked BackingFault nay w = w
+writes m t next asked (NoCore need size) never w = absurd (never need size refl)
+writes m t next asked (BackingFull wants free) never w = w
+writes m t next asked BackingFault never w = w
 
 pub fits_by : (core : ℕ) (s : Session) (m : SessionJob) (t : Task) (next : Place) (asked : List Word) (fault : SpaceFault) → need_with s m t 1 0 ≤ core → ProcessFits core s m t next asked (Err fault)
 fits_by core s m t next asked (NoCore need size) low = tt

@@ -1,10 +1,9 @@
 -- Lists by their first words, and tests on all of them.
-use Rattle.std.proofs.Common.{◌≡◌, ◌⊎◌, ℕ, zero, suc, ◌<◌, List, [], ◌∷◌, ◌++◌, take, length, reverse, Bool, true, false, refl, sym, ◌∙◌, ap, arith, inl, inr, subst, append_assoc}
+use Rattle.std.proofs.Common.{◌≡◌, ◌⊎◌, ℕ, zero, suc, ◌<◌, List, [], ◌∷◌, ◌++◌, take, length, reverse, Bool, false, refl, sym, ◌∙◌, ap, arith, inl, inr, append_assoc}
 use Rattle.std.specs.List.{list_any}
 use Rattle.std.proofs.lemmas.Bool.{cases_Bool, true≢false}
-use Rattle.std.proofs.lemmas.List.{reverse-reverse}
 use Rattle.b67_lemmas.specs.Lists.{Has}
-use Rattle.b67_lemmas.proofs.Members.{any_has, any_some, any_none, has_append_left, has_append_right, has_reverse, has_reverse_back, reverse_cons}
+use Rattle.b67_lemmas.proofs.Members.{any_has, any_some, any_none, has_reverse, has_reverse_back, reverse_cons}
 
 -- a list by an item and those before it
 pub record Split {A : Type 0} (xs : List A) (n : ℕ) : Type 0 where

@@ -1,5 +1,5 @@
 -- The task that a call of PROCESS asks for.
-use Rattle.std.specs.Prelude.{◌≡◌, ℕ, ◌+◌, ◌<◌, ◌≤◌, nat_lt, nat_le, not, Bool, false, List, [], ◌∷◌, reverse, take, length, None, Result, Ok, Err, if◌then◌else◌}
+use Rattle.std.specs.Prelude.{◌≡◌, ℕ, ◌+◌, ◌≤◌, nat_lt, nat_le, Bool, false, List, [], ◌∷◌, reverse, take, length, None, Result, Ok, Err, if◌then◌else◌}
 use Rattle.b67_word.specs.declared.couples.Place.{Place}
 use Rattle.b67_word.specs.declared.faults.Fault.{Fault}
 use Rattle.b67_word.specs.declared.faults.Fault.TheVariants.{StackOverflow}
@@ -18,7 +18,7 @@ use Rattle.b67_exec_calls.specs.Calls.{MayCut}
 use Rattle.b67_task_start.specs.Starts.{IsProcCell, child, with_child}
 use Rattle.b67_mcp_process.specs.declared.asking.Asked.{Asked}
 
--- the running task's top activation record has more cells than that
+-- the running task's top activation record has so many cells
 pub record HasCells (cpu : Cpu) (count : ℕ) : Type 0 where
   pub runs : RunsSome cpu
   pub enough : count ≤ length (cells runs.task)

@@ -13,10 +13,10 @@ ghost use Rattle.b67_mcp_process.specs.Process.{CallsProcess, CanNumber, ForCall
 
 use crate::asking::task_asked;
 use crate::starting::{answer, start_asked, tasks_of_job};
+pub use asking::Asked;
 use b67_backing::{Backing, SpaceFault};
 use b67_task_tables::Machine;
 use b67_word::{Fault, Place};
-pub use asking::Asked;
 
 /// PROCESS: starts a child of the running task, with copies of the call's words, and answers its number; or 0 where 15 tasks
 /// of the job live. The call is cut, and its task goes on at a place of its segment. A fault changes nothing.

@@ -71,11 +71,7 @@ pub(crate) fn answer(machine: &mut Machine, number: u32, next: Place)
         → MachineRepresents x told machine.new plan (with_job s m (job_answered m t (words.Operand number) next m.progress.job.numbers))) }
     ensures kept { ProcessKeeps machine.old machine.new }
 {
-    answer_call(
-        &mut machine.cpu,
-        Word::of(0, u64::from(number)),
-        next,
-    );
+    answer_call(&mut machine.cpu, Word::of(0, u64::from(number)), next);
 }
 
 /// Starts the task that a call asks for, cuts the call, and answers the task's number. No area has a word under the slot

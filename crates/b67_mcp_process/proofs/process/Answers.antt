@@ -1,4 +1,4 @@
-use Rattle.std.proofs.Common.{◌≡◌, ◌<◌, ◌≤◌, length, refl, sym, ◌∙◌, ap, arith}
+use Rattle.std.proofs.Common.{◌≤◌, length, refl, arith}
 use Rattle.b67_layout_storage.proofs.Devices.{Served-none}
 use Rattle.b67_mcp_process.proofs.Moved.{content_same}
 use Rattle.b67_mcp_process.proofs.Starts.{starts_none, answered_none}
@@ -65,9 +65,9 @@ returns-clause-row g c = λ x told plan s m t o h runs r arguments call says.
     (omega (arith, c.if-tasks_of_job-ge15.false, c.tasks_of_job.ensures x told plan s m t o h runs)) says
 
 pub returns-clause-quiet : goal.returns-clause-quiet
-returns-clause-quiet g c = λ x told plan s m t o h runs r arguments call nay.
+returns-clause-quiet g c = λ x told plan s m t o h runs r arguments call never.
     c.start_asked.ensures.quiet x told plan s m t o h runs arguments (c.in-Ok.ensures x plan s m t o h.session runs r arguments call)
-    (omega (arith, c.if-tasks_of_job-ge15.false, c.tasks_of_job.ensures x told plan s m t o h runs)) nay
+    (omega (arith, c.if-tasks_of_job-ge15.false, c.tasks_of_job.ensures x told plan s m t o h runs)) never
 
 pub returns-clause-fits : goal.returns-clause-fits
 returns-clause-fits g c = λ x told plan s m t o h runs r arguments call. c.start_asked.ensures.fits x told plan s m t o h runs arguments

@@ -1,4 +1,4 @@
-use Rattle.std.proofs.Common.{◌≡◌, ℕ, ◌+◌, ◌∙◌, refl, sym, ap, arith}
+use Rattle.std.proofs.Common.{◌≡◌, ◌+◌, ◌∙◌, refl, sym, ap, arith}
 use Rattle.std.proofs.lemmas.Bool.{le-leb, lt-leb}
 use Rattle.b67_ctl.specs.declared.programs.Pcw.{Pcw}
 use Rattle.b67_model.specs.State.{frame}
@@ -83,4 +83,3 @@ returns c = record {
       let size = sizes now a q c.args.cell f segment level place e in
       (refl, all_three (here a.member a.task q) f level c.args.count test (le-leb (3 + c.args.count) a.member.constants.stack_size (omega (arith, c.if-count-from.false, c.from.ensures, size))) (sym (c.is_critical.ensures a.storage a.plan a.session a.member a.task e.ordered e.stands a.running) ∙ c.if-is_critical.false));
 }
-

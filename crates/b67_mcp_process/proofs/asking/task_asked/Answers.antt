@@ -1,10 +1,5 @@
-use Rattle.std.proofs.Common.{◌≡◌, ℕ, ◌+◌, ◌-◌, ◌<◌, ◌≤◌, ◌^◌, List, [], ◌∷◌, reverse, take, length, Ok, Err, refl, sym, ◌∙◌, ap, arith}
-use Rattle.b67_word.specs.declared.faults.Fault.TheVariants.{InvalidOperand}
-use Rattle.b67_model.specs.Chase.{follow}
-use Rattle.b67_layout.specs.Meets.{here}
-use Rattle.b67_refer.specs.declared.ends.End.TheVariants as end
+use Rattle.std.proofs.Common.{◌-◌, [], ◌∷◌, reverse, Ok, sym, ◌∙◌, ap, arith}
 use Rattle.b67_refer.specs.RunningContext.{live_of}
-use Rattle.b67_exec_cells.specs.Tops.{cells}
 use Rattle.b67_fetch.proofs.Values.{here_scene, here_shown, followed_stands}
 use Rattle.b67_mcp_process.proofs.Cells.{counts}
 use Rattle.b67_mcp_process.proofs.Rows.{parts, no_argument, some_original}
@@ -46,8 +41,7 @@ chase-requires c =
     let now = c.args.cpu.now in
     let n = c.count_cells-all.ensures.count q.storage q.plan q.session q.member q.task q.ordered q.stands q.running in
     let p = parts q.task c.requires.reference c.requires.arguments c.requires.call (c.count_cells-all.result - 2) (omega (arith, n, c.if-all-lt2.false)) in
-    let i = c.cell_under-first.ensures q.storage q.plan q.session q.member q.task q.ordered q.stands q.running (reverse p.words) (c.requires.reference ∷ []) p.first p.stand p.over in
-    (
+    let i = c.cell_under-first.ensures q.storage q.plan q.session q.member q.task q.ordered q.stands q.running (reverse p.words) (c.requires.reference ∷ []) p.first p.stand p.over in (
       live_of (here_scene q.storage now q.plan q.session q.member q.task q.ordered q.stands q.running),
       here_shown q.storage now q.plan q.session q.member q.task q.ordered q.stands q.running,
       i.at,
@@ -69,7 +63,7 @@ admit-requires-clause-procedure c =
     let tag = sym c.tag.ensures.value ∙ c.if-tag-ne1.false in
     let is = c.in-Ok-Proc.is ∙ ap Ok c.in-Ok-Proc.field-0-is in
     let b = found_at x now plan s m t o h runs r arguments call (c.count_cells-all.result - 2) p c.cell_under-first.result i none tag c.chase.result
-        (λ q. c.chase.ensures.running (here_scene x now plan s m t o h runs) q (here_shown x now plan s m t o h runs) i.at i.owner p.first (followed_stands x now plan s m t o h runs c.cell_under-first.result p.first i)) c.in-Ok-Proc.cell is t.place in
+    (λ q. c.chase.ensures.running (here_scene x now plan s m t o h runs) q (here_shown x now plan s m t o h runs) i.at i.owner p.first (followed_stands x now plan s m t o h runs c.cell_under-first.result p.first i)) c.in-Ok-Proc.cell is t.place in
     (here_scene x now plan s m t o h runs, t.place, b.f, b.segment, b.level, b.place, record { ordered = o; stands = h; procedure = b.procedure })
 
 pub admit-requires-clause-count : goal.admit-requires-clause-count
@@ -87,7 +81,7 @@ returns-in-Ok-Cell c = λ x plan s m t o h runs r arguments call.
     let i = c.cell_under-first.ensures x plan s m t o h runs (reverse p.words) (r ∷ []) p.first p.stand p.over in
     let tag = sym c.tag.ensures.value ∙ c.if-tag-ne1.false in
     leads_elsewhere x now plan s m t o h runs r arguments call (c.count_cells-all.result - 2) p c.cell_under-first.result i none tag c.chase.result
-        (λ q. c.chase.ensures.running (here_scene x now plan s m t o h runs) q (here_shown x now plan s m t o h runs) i.at i.owner p.first (followed_stands x now plan s m t o h runs c.cell_under-first.result p.first i)) _ tt (c.in-Ok-Cell.is ∙ ap Ok c.in-Ok-Cell.field-0-is)
+    (λ q. c.chase.ensures.running (here_scene x now plan s m t o h runs) q (here_shown x now plan s m t o h runs) i.at i.owner p.first (followed_stands x now plan s m t o h runs c.cell_under-first.result p.first i)) _ tt (c.in-Ok-Cell.is ∙ ap Ok c.in-Ok-Cell.field-0-is)
 
 pub returns-in-Ok-Element : goal.returns-in-Ok-Element
 returns-in-Ok-Element c = λ x plan s m t o h runs r arguments call.
@@ -98,7 +92,7 @@ returns-in-Ok-Element c = λ x plan s m t o h runs r arguments call.
     let i = c.cell_under-first.ensures x plan s m t o h runs (reverse p.words) (r ∷ []) p.first p.stand p.over in
     let tag = sym c.tag.ensures.value ∙ c.if-tag-ne1.false in
     leads_elsewhere x now plan s m t o h runs r arguments call (c.count_cells-all.result - 2) p c.cell_under-first.result i none tag c.chase.result
-        (λ q. c.chase.ensures.running (here_scene x now plan s m t o h runs) q (here_shown x now plan s m t o h runs) i.at i.owner p.first (followed_stands x now plan s m t o h runs c.cell_under-first.result p.first i)) _ tt (c.in-Ok-Element.is ∙ ap Ok c.in-Ok-Element.field-0-is)
+    (λ q. c.chase.ensures.running (here_scene x now plan s m t o h runs) q (here_shown x now plan s m t o h runs) i.at i.owner p.first (followed_stands x now plan s m t o h runs c.cell_under-first.result p.first i)) _ tt (c.in-Ok-Element.is ∙ ap Ok c.in-Ok-Element.field-0-is)
 
 pub returns-in-Ok-Array : goal.returns-in-Ok-Array
 returns-in-Ok-Array c = λ x plan s m t o h runs r arguments call.
@@ -109,7 +103,7 @@ returns-in-Ok-Array c = λ x plan s m t o h runs r arguments call.
     let i = c.cell_under-first.ensures x plan s m t o h runs (reverse p.words) (r ∷ []) p.first p.stand p.over in
     let tag = sym c.tag.ensures.value ∙ c.if-tag-ne1.false in
     leads_elsewhere x now plan s m t o h runs r arguments call (c.count_cells-all.result - 2) p c.cell_under-first.result i none tag c.chase.result
-        (λ q. c.chase.ensures.running (here_scene x now plan s m t o h runs) q (here_shown x now plan s m t o h runs) i.at i.owner p.first (followed_stands x now plan s m t o h runs c.cell_under-first.result p.first i)) _ tt (c.in-Ok-Array.is ∙ ap Ok c.in-Ok-Array.field-0-is)
+    (λ q. c.chase.ensures.running (here_scene x now plan s m t o h runs) q (here_shown x now plan s m t o h runs) i.at i.owner p.first (followed_stands x now plan s m t o h runs c.cell_under-first.result p.first i)) _ tt (c.in-Ok-Array.is ∙ ap Ok c.in-Ok-Array.field-0-is)
 
 pub returns-in-Ok-Intrinsic : goal.returns-in-Ok-Intrinsic
 returns-in-Ok-Intrinsic c = λ x plan s m t o h runs r arguments call.
@@ -120,7 +114,7 @@ returns-in-Ok-Intrinsic c = λ x plan s m t o h runs r arguments call.
     let i = c.cell_under-first.ensures x plan s m t o h runs (reverse p.words) (r ∷ []) p.first p.stand p.over in
     let tag = sym c.tag.ensures.value ∙ c.if-tag-ne1.false in
     leads_elsewhere x now plan s m t o h runs r arguments call (c.count_cells-all.result - 2) p c.cell_under-first.result i none tag c.chase.result
-        (λ q. c.chase.ensures.running (here_scene x now plan s m t o h runs) q (here_shown x now plan s m t o h runs) i.at i.owner p.first (followed_stands x now plan s m t o h runs c.cell_under-first.result p.first i)) _ tt (c.in-Ok-Intrinsic.is ∙ ap Ok c.in-Ok-Intrinsic.field-0-is)
+    (λ q. c.chase.ensures.running (here_scene x now plan s m t o h runs) q (here_shown x now plan s m t o h runs) i.at i.owner p.first (followed_stands x now plan s m t o h runs c.cell_under-first.result p.first i)) _ tt (c.in-Ok-Intrinsic.is ∙ ap Ok c.in-Ok-Intrinsic.field-0-is)
 
 pub returns-in-Err : goal.returns-in-Err
 returns-in-Err c = λ x plan s m t o h runs r arguments call.
@@ -131,7 +125,7 @@ returns-in-Err c = λ x plan s m t o h runs r arguments call.
     let i = c.cell_under-first.ensures x plan s m t o h runs (reverse p.words) (r ∷ []) p.first p.stand p.over in
     let tag = sym c.tag.ensures.value ∙ c.if-tag-ne1.false in
     leads_fault x now plan s m t o h runs r arguments call (c.count_cells-all.result - 2) p c.cell_under-first.result i none tag c.chase.result
-        (λ q. c.chase.ensures.running (here_scene x now plan s m t o h runs) q (here_shown x now plan s m t o h runs) i.at i.owner p.first (followed_stands x now plan s m t o h runs c.cell_under-first.result p.first i)) c.in-Err.fault c.in-Err.is
+    (λ q. c.chase.ensures.running (here_scene x now plan s m t o h runs) q (here_shown x now plan s m t o h runs) i.at i.owner p.first (followed_stands x now plan s m t o h runs c.cell_under-first.result p.first i)) c.in-Err.fault c.in-Err.is
 
 pub returns-in-Ok-Proc : goal.returns-in-Ok-Proc
 returns-in-Ok-Proc c = λ x plan s m t o h runs r arguments call.
@@ -143,8 +137,8 @@ returns-in-Ok-Proc c = λ x plan s m t o h runs r arguments call.
     let tag = sym c.tag.ensures.value ∙ c.if-tag-ne1.false in
     let is = c.in-Ok-Proc.is ∙ ap Ok c.in-Ok-Proc.field-0-is in
     leads_proc x now plan s m t o h runs r arguments call (c.count_cells-all.result - 2) p c.cell_under-first.result i none tag c.chase.result
-        (λ q. c.chase.ensures.running (here_scene x now plan s m t o h runs) q (here_shown x now plan s m t o h runs) i.at i.owner p.first (followed_stands x now plan s m t o h runs c.cell_under-first.result p.first i)) c.in-Ok-Proc.cell is c.admit.result
+    (λ q. c.chase.ensures.running (here_scene x now plan s m t o h runs) q (here_shown x now plan s m t o h runs) i.at i.owner p.first (followed_stands x now plan s m t o h runs c.cell_under-first.result p.first i)) c.in-Ok-Proc.cell is c.admit.result
     (λ q. let b = found_at x now plan s m t o h runs r arguments call (c.count_cells-all.result - 2) p c.cell_under-first.result i none tag c.chase.result
-        (λ q. c.chase.ensures.running (here_scene x now plan s m t o h runs) q (here_shown x now plan s m t o h runs) i.at i.owner p.first (followed_stands x now plan s m t o h runs c.cell_under-first.result p.first i)) c.in-Ok-Proc.cell is q in
+    (λ q. c.chase.ensures.running (here_scene x now plan s m t o h runs) q (here_shown x now plan s m t o h runs) i.at i.owner p.first (followed_stands x now plan s m t o h runs c.cell_under-first.result p.first i)) c.in-Ok-Proc.cell is q in
     c.admit.ensures.row (here_scene x now plan s m t o h runs) q b.f b.segment b.level b.place (reached x now plan s m t o h runs r arguments call (c.count_cells-all.result - 2) p c.cell_under-first.result i none tag c.chase.result
-        (λ q. c.chase.ensures.running (here_scene x now plan s m t o h runs) q (here_shown x now plan s m t o h runs) i.at i.owner p.first (followed_stands x now plan s m t o h runs c.cell_under-first.result p.first i)) c.in-Ok-Proc.cell is q))
+    (λ q. c.chase.ensures.running (here_scene x now plan s m t o h runs) q (here_shown x now plan s m t o h runs) i.at i.owner p.first (followed_stands x now plan s m t o h runs c.cell_under-first.result p.first i)) c.in-Ok-Proc.cell is q))

@@ -1,4 +1,4 @@
-use Rattle.std.proofs.Common.{◌≡◌, refl, sym, ◌∙◌, ap}
+use Rattle.std.proofs.Common.{refl, ◌∙◌, ap}
 use Rattle.b67_word.specs.Tagged.{word}
 use Rattle.b67_model.specs.Words.{Operand}
 use Rattle.b67_layout.specs.Meets.{with_job}

@@ -1,4 +1,4 @@
-use Rattle.std.proofs.Common.{◌≡◌, refl, sym, ◌∙◌, ap}
+use Rattle.std.proofs.Common.{◌∙◌, ap}
 use Rattle.b67_task_tables.specs.declared.tables.Tasks.{Tasks}
 use Rattle.b67_mcp_process.proofs.Begins.{order1, runs1, cut1, plan1, session1, member1, is_moved}
 use Rattle.b67_mcp_process.proofs.starting.begin.Goals as goal

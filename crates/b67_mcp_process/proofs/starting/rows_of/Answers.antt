@@ -1,5 +1,4 @@
-use Rattle.std.proofs.Common.{◌≡◌, ◌+◌, ◌≤◌, refl, sym, ◌∙◌, ap, arith}
-use Rattle.b67_mcp_process.specs.Begins.{rows_of_job}
+use Rattle.std.proofs.Common.{arith}
 use Rattle.b67_mcp_process.proofs.Counts.{rows_step, rows_past}
 use Rattle.b67_mcp_process.proofs.starting.rows_of.Goals as goal
 

@@ -1,11 +1,10 @@
-use Rattle.std.proofs.Common.{◌≡◌, ◌≢◌, ℕ, ◌+◌, ◌≤◌, ◌<◌, List, length, Option, None, Err, refl, sym, ◌∙◌, ap, arith, subst}
-use Rattle.b67_backing.specs.declared.SpaceFault.TheVariants.{NoCore, BackingFault}
+use Rattle.std.proofs.Common.{length, None, Err, refl, ◌∙◌, ap, arith}
+use Rattle.b67_backing.specs.declared.SpaceFault.TheVariants.{BackingFault}
 use Rattle.b67_layout.specs.Layout.{machine_view}
 use Rattle.b67_layout_storage.specs.Machine.{content_after}
 use Rattle.b67_layout_storage.proofs.Devices.{Served-none}
 use Rattle.b67_layout_storage.proofs.Untold.{untold}
 use Rattle.b67_presence.proofs.Shortage.{short_of}
-use Rattle.b67_task_start.specs.Opening.{slot_end}
 use Rattle.b67_mcp_process.proofs.Moved.{silent, seen_over, stands_moved}
 use Rattle.b67_mcp_process.proofs.Starts.{starts_one, processed, may_start, stopped, writes, fits_by, same_fault}
 use Rattle.b67_mcp_process.proofs.starting.start_asked.Goals as goal
@@ -82,13 +81,13 @@ returns-in-Ok-clause-row g c = λ x told plan s m t o h runs arguments a few say
     let (slot, lowest, end) = c.next_slot_end-upto.ensures x plan s h.session in
     let stands = stands_moved x told k plan s h y now new.cpu new.areas new.sectors keeps row.outside evicted.evicted view in
     let may = may_start x told k plan s m t o h runs arguments c.args.asked.cell c.args.asked.count a few c.requires.number y (length new.cpu.core) slot lowest
-        (omega (arith, keeps.len, c.if-words-core.false, c.size-core.ensures.value, c.need-words.ensures x told plan s m t o h runs))
-        (λ at i e. omega (arith, above at i e, end)) in
+    (omega (arith, keeps.len, c.if-words-core.false, c.size-core.ensures.value, c.need-words.ensures x told plan s m t o h runs))
+    (λ at i e. omega (arith, above at i e, end)) in
     processed plan m t arguments c.args.asked.cell c.args.asked.count a few c.args.next (content_after told now) s c.begin.new.machine
     (c.begin.ensures.stands y (content_after told now) plan s m t a.f a.segment a.level a.place slot o stands runs may a.may))
 
 pub returns-in-Ok-clause-quiet : goal.returns-in-Ok-clause-quiet
-returns-in-Ok-clause-quiet g c = λ x told plan s m t o h runs arguments a few nay. absurd (nay (starts_one plan m t arguments c.args.asked.cell c.args.asked.count a few c.args.next))
+returns-in-Ok-clause-quiet g c = λ x told plan s m t o h runs arguments a few never. absurd (never (starts_one plan m t arguments c.args.asked.cell c.args.asked.count a few c.args.next))
 
 pub returns-in-Ok-clause-fits : goal.returns-in-Ok-clause-fits
 returns-in-Ok-clause-fits g c = λ x told plan s m t o h runs arguments. λ w. omega (arith, c.if-words-core.false, c.size-core.ensures.value, c.need-words.ensures x told plan s m t o h runs)
@@ -123,8 +122,8 @@ returns-in-Err-clause-row g c = λ x told plan s m t o h runs arguments a few sa
     })))
 
 pub returns-in-Err-clause-quiet : goal.returns-in-Err-clause-quiet
-returns-in-Err-clause-quiet g c = λ x told plan s m t o h runs arguments a few nay.
-    absurd (nay (writes m t c.args.next arguments c.in-Err.fault (λ need size e. c.claim.ensures.no_core need size (c.in-Err.is ∙ ap Err e)) (starts_one plan m t arguments c.args.asked.cell c.args.asked.count a few c.args.next)))
+returns-in-Err-clause-quiet g c = λ x told plan s m t o h runs arguments a few never.
+    absurd (never (writes m t c.args.next arguments c.in-Err.fault (λ need size e. c.claim.ensures.no_core need size (c.in-Err.is ∙ ap Err e)) (starts_one plan m t arguments c.args.asked.cell c.args.asked.count a few c.args.next)))
 
 pub returns-in-Err-clause-fits : goal.returns-in-Err-clause-fits
 returns-in-Err-clause-fits g c = λ x told plan s m t o h runs arguments.

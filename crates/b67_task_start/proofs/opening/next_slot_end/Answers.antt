@@ -1,6 +1,4 @@
-use Rattle.std.proofs.Common.{◌≡◌, ◌+◌, ◌*◌, sym, ◌∙◌, ap, arith}
-use Rattle.b67_task_start.specs.Opening.{slot_end}
-use Rattle.b67_task_start.proofs.Opens.{few, end_is, slots_start}
+use Rattle.b67_task_start.proofs.Opens.{end_is, slots_start}
 use Rattle.b67_task_start.proofs.opening.next_slot_end.Goals as goal
 
 pub lowest_free-slot-requires : goal.lowest_free-slot-requires
