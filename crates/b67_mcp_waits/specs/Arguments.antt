@@ -1,5 +1,5 @@
 -- The one argument of a call: a whole number, or a reference to the cell of an operand.
-use Rattle.std.specs.Prelude.{◌≡◌, ℕ, ◌+◌, ◌<◌, ℤ, List, [], ◌∷◌, Some, Result, Ok, Err, slice_get}
+use Rattle.std.specs.Prelude.{◌≡◌, ℕ, ◌+◌, ◌<◌, ◌^◌, ℤ, List, [], ◌∷◌, Some, Result, Ok, Err, slice_get}
 use Rattle.b67_word.specs.Tagged.{Tagged, word}
 use Rattle.b67_word.specs.declared.couples.Place.{Place}
 use Rattle.b67_word.specs.declared.faults.Fault.{Fault}
@@ -8,7 +8,7 @@ use Rattle.b67_ctl.specs.declared.registers.Regs.{Regs}
 use Rattle.b67_model.specs.Answers.{Answer}
 use Rattle.b67_model.specs.Words.{Word, Operand, whole}
 use Rattle.b67_model.specs.Cells.{cell}
-use Rattle.b67_model.specs.Chase.{End, AtCell, AtElement, AtArray, AtProc, AtIntrinsic, follow_reference}
+use Rattle.b67_model.specs.Chase.{End, AtCell, follow_reference}
 use Rattle.b67_model.specs.InOrder.{NamesEntered, reach_of}
 use Rattle.b67_model.specs.State.{Task, SessionJob, OperatorContext}
 use Rattle.b67_layout.specs.Placement.{Placement}
@@ -45,6 +45,7 @@ pub record IsFoundCell (plan : Placement) (m : SessionJob) (t : Task) (core : Li
   pub offset_is : found.offset ≡ offset
   pub at : found.at ≡ found.mark + found.offset
   pub there : slice_get core found.at ≡ Some (word 0 bits)
+  pub small : bits < 2 ^ 48
 
 -- the same by the argument's end
 abbrev pub FindsOperand : Placement → SessionJob → Task → List Tagged → Place → Result Found Fault → Answer End → Type 0

@@ -54,12 +54,7 @@ pub fn cause(machine: &mut Machine, next: Place) -> Result<(), Fault>
     }
     let job = running_job(machine);
     machine.cpu.core.set(found.at, Word::of(0, 1));
-    machine.tasks.rows = woken_rows(
-        machine.tasks.rows.as_slice(),
-        job,
-        found.mark,
-        found.offset,
-    );
+    machine.tasks.rows = woken_rows(machine.tasks.rows.as_slice(), job, found.mark, found.offset);
     cut_call(&mut machine.cpu, next);
     Ok(())
 }

@@ -1,11 +1,13 @@
 //! AWAIT and STATUS.
 
-ghost use Rattle.std.specs.Prelude.{◌≡◌, List};
+ghost use Rattle.std.specs.Prelude.{◌≡◌, ◌<◌, ◌≤◌, ◌-◌, ℕ, List, Some, pos, slice_get};
 ghost use Rattle.b67_ctl.specs.Layout.{IsPlace};
 ghost use Rattle.b67_model.specs.Words as words;
 ghost use Rattle.b67_model.specs.Intrinsics as rows;
 ghost use Rattle.b67_layout.specs.Meets.{ForEach};
 ghost use Rattle.b67_task_tables.specs.Runs.{RunsTask, ForEachRun};
+ghost use Rattle.b67_task_tables.specs.declared.tables.JobRow.{JobRow};
+ghost use Rattle.b67_task_tables.specs.declared.tables.TaskState.TheVariants.{Awaits};
 ghost use Rattle.b67_exec_calls.specs.Calls.{CallSome, IsCall};
 ghost use Rattle.b67_mcp_waits.specs.Arguments.{number_given};
 ghost use Rattle.b67_mcp_waits.specs.Events.{StandsAtCall, ForCall, WaitMeets, DoneMeets, KeepsSectors};
@@ -14,7 +16,7 @@ use b67_entry::is_critical;
 use b67_exec_calls::{answer_call, cut_call, only_argument, whole};
 use b67_stack::Cpu;
 use b67_task_end::{lives, status};
-use b67_task_tables::{Machine, TaskState};
+use b67_task_tables::{Machine, TaskState, Tasks};
 use b67_word::{Fault, Place, Word};
 
 /// The number of the running task's job.
@@ -37,6 +39,22 @@ fn number_in(cpu: &Cpu) -> Result<i64, Fault>
     }
 }
 
+/// The number of a job's next task.
+fn next_number(tasks: &Tasks, job: u8) -> u32
+    requires { (r : JobRow) × (slice_get tasks.now.jobs (job - 1) ≡ Some r) × (1 ≤ job) }
+    ensures { (r : JobRow) → slice_get tasks.now.jobs (job - 1) ≡ Some r → result ≡ r.next_task }
+{
+    tasks.jobs.as_slice()[job as usize - 1].next_task
+}
+
+/// The state of one who waits for the end of the task of a number, which was started before the next one.
+fn awaiting(number: i64, next: u32) -> TaskState
+    requires { (n : ℕ) × (number ≡ pos n) × (n < next) }
+    ensures { (n : ℕ) → number ≡ pos n → result ≡ Awaits n }
+{
+    TaskState::Awaits(number as u32)
+}
+
 /// AWAIT: where the job's task of the number lives, the running task is to wait for its end, with nothing changed; else the
 /// call is cut. Its fault changes nothing.
 pub fn await_task(machine: &mut Machine, next: Place) -> Result<Option<TaskState>, Fault>
@@ -51,7 +69,7 @@ pub fn await_task(machine: &mut Machine, next: Place) -> Result<Option<TaskState
     };
     let job = running_job(machine);
     if lives(&machine.tasks, job, number) {
-        return Ok(Some(TaskState::Awaits(number as u32)));
+        return Ok(Some(awaiting(number, next_number(&machine.tasks, job))));
     }
     if is_critical(&machine.cpu) {
         return Err(Fault::CriticalBlock);

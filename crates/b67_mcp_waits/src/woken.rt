@@ -38,7 +38,12 @@ fn woken_row(row: TaskRow, job: u8, mark: u32, offset: u16) -> TaskRow
 }
 
 /// The rows once a cell of a job is caused, by the address of its activation record's mark and its offset.
-pub(crate) fn woken_rows(rows: &[TaskRow], job: u8, mark: u32, offset: u16) -> ArrayVec<TaskRow, 120>
+pub(crate) fn woken_rows(
+    rows: &[TaskRow],
+    job: u8,
+    mark: u32,
+    offset: u16,
+) -> ArrayVec<TaskRow, 120>
     requires { length rows.now ≤ 120 }
     ensures { result.items ≡ map (woken.woken_row job mark offset) rows.now }
 {

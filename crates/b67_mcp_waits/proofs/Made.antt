@@ -1,0 +1,76 @@
+-- A call that was made, over the whole machine, and one that changes nothing.
+use Rattle.std.proofs.Common.{◌≡◌, ℕ, ◌+◌, ◌≤◌, List, [], ◌∷◌, length, Option, None, Ok, Err, refl, sym, arith, true, false}
+use Rattle.std.proofs.lemmas.Bool.{le-leb}
+use Rattle.b67_word.specs.declared.couples.Place.{Place}
+use Rattle.b67_word.specs.declared.faults.Fault.TheVariants.{CriticalBlock}
+use Rattle.b67_model.specs.Words.{Word}
+use Rattle.b67_model.specs.State.{Frame, Task, SessionJob, height, top, below_top, with_top_cells}
+use Rattle.b67_model.specs.Steps.{Goes, is_critical}
+use Rattle.b67_model.specs.Intrinsics.{answers}
+use Rattle.b67_model.specs.Schedule.{Session}
+use Rattle.b67_stack.specs.Represents.{Storage}
+use Rattle.b67_layout.specs.Orders.{IsInOrderButCounts}
+use Rattle.b67_layout.specs.Placement.{Placement}
+use Rattle.b67_layout.specs.Session.{IsRunning}
+use Rattle.b67_layout.specs.Meets.{RunsSome, here}
+use Rattle.b67_task_tables.specs.declared.tables.Machine.{Machine}
+use Rattle.b67_task_tables.specs.Runs.{RunsTask}
+use Rattle.b67_task_end.specs.Lives.{HasJob}
+use Rattle.b67_exec_calls.specs.Calls.{CallSome, job_cut}
+use Rattle.b67_exec_calls.specs.Answered.{job_answered}
+use Rattle.b67_mcp_waits.specs.Events.{StandsAtCall, KeepsSectors}
+use Rattle.b67_task_tables.specs.Tables.{MachineRepresents}
+use Rattle.b67_lemmas.proofs.Members.{keyed_has}
+use Rattle.b67_model.specs.Run.{number_of}
+
+abbrev pub runs_some : (k : Machine) → RunsTask k → RunsSome k.cpu
+runs_some k r = record { storage = r.storage; plan = r.plan; session = r.session; member = r.member; task = r.task; ordered = r.ordered; stands = r.stands.session; running = r.running }
+
+abbrev pub call_some : (k : Machine) → StandsAtCall k → CallSome k.cpu
+call_some k r = record { runs = runs_some k r.runs; reference = r.reference; arguments = r.arguments; call = r.call }
+
+pub kept_same : (k : Machine) → KeepsSectors k k
+kept_same k = record { countable = λ few. few; keeps = record { core = refl; sectors = refl; halt = refl; names = refl }; sectors = refl }
+
+-- the tables show the job of the running task
+pub has_job : (x : Storage) (told : Option (List (List ℕ))) (k : Machine) (plan : Placement) (s : Session) (m : SessionJob) (t : Task) → IsInOrderButCounts s → MachineRepresents x told k plan s → IsRunning plan s.jobs m t
+    → (job : ℕ) → job ≡ m.constants.number → HasJob plan s m k.tasks job
+has_job x told k plan s m t o h runs job e = record {
+  holds = record { ordered = o; fits = h.session.holds.fits.rows; few = h.session.holds.fits.few; shows = h.tables };
+  member = (keyed_has number_of m.constants.number s.jobs m runs.member).0;
+  number = sym e;
+}
+
+lower : (fs : List Frame) → height (below_top fs) ≤ height fs
+lower [] = omega arith
+lower (f ∷ below) = omega arith
+
+pub marked_words : (f : Frame) → 1 ≤ Rattle.b67_model.specs.State.words_of f
+marked_words f = by f.standing where
+  by : (q : Rattle.b67_model.specs.State.Standing) → 1 ≤ Rattle.b67_model.specs.State.head_words q + length f.cells
+  by Rattle.b67_model.specs.State.Marked = omega arith
+  by (Rattle.b67_model.specs.State.Entered level environment back) = omega arith
+
+one_more : (fs : List Frame) (w : Word) → height (with_top_cells fs (w ∷ (top fs).cells)) ≤ height fs + 1
+one_more [] w = omega arith
+one_more (f ∷ below) w = omega arith
+
+lower_one : (fs : List Frame) (w : Word) → height (with_top_cells (below_top fs) (w ∷ (top (below_top fs)).cells)) ≤ height fs
+lower_one [] w = omega arith
+lower_one (f ∷ below) w = omega (arith, marked_words f, one_more below w)
+
+module _ (m : SessionJob) (t : Task) (next : Place) where
+  pub answers_critical : (words : List Word) → is_critical m.progress.job (top t.frames).identity ≡ true → answers (here m t next) m.progress.job words [] None ≡ Err CriticalBlock
+  answers_critical words c = rw c refl
+
+  pub answers_cut : is_critical m.progress.job (top t.frames).identity ≡ false → height t.frames ≤ m.constants.stack_size → answers (here m t next) m.progress.job [] [] None ≡ Ok (Goes (job_cut m t next) [] None)
+  answers_cut c fits =
+      let low : height (below_top t.frames) ≤ m.constants.stack_size = omega (arith, lower t.frames, fits) in
+      rw c (rw (le-leb (height (below_top t.frames)) m.constants.stack_size low) refl)
+
+  pub answers_one : (w : Word) → is_critical m.progress.job (top t.frames).identity ≡ false → height t.frames ≤ m.constants.stack_size
+      → answers (here m t next) m.progress.job (w ∷ []) [] None ≡ Ok (Goes (job_answered m t w next m.progress.job.numbers) [] None)
+  answers_one w c fits =
+      let fs : List Frame = with_top_cells (below_top t.frames) (w ∷ (top (below_top t.frames)).cells) in
+      let low : height fs ≤ m.constants.stack_size = omega (arith, lower_one t.frames w, fits) in
+      rw c (rw (le-leb (height fs) m.constants.stack_size low) refl)
