@@ -1,0 +1,9 @@
+pub mod Cells
+pub mod Words
+pub mod Rows
+pub mod Children
+pub mod Led
+pub mod Moved
+pub mod Counts
+pub mod Begins
+pub mod Starts

@@ -1,18 +1,27 @@
 -- The task that a call of PROCESS asks for.
-use Rattle.std.specs.Prelude.{◌≡◌, ◌≢◌, ℕ, ◌+◌, ◌*◌, ◌<◌, ◌≤◌, nat_lt, Bool, false, List, [], ◌∷◌, length, None, Result, Ok, Err, if◌then◌else◌}
-use Rattle.std.specs.List.{list_any}
+use Rattle.std.specs.Prelude.{◌≡◌, ℕ, ◌+◌, ◌≤◌, nat_lt, nat_le, Bool, false, List, [], ◌∷◌, reverse, take, length, None, Result, Ok, Err, if◌then◌else◌}
 use Rattle.b67_word.specs.declared.couples.Place.{Place}
 use Rattle.b67_word.specs.declared.faults.Fault.{Fault}
-use Rattle.b67_model.specs.Answers.{Answer}
+use Rattle.b67_word.specs.declared.faults.Fault.TheVariants.{StackOverflow}
+use Rattle.b67_lemmas.specs.Lists.{Has}
+use Rattle.b67_model.specs.Answers.{Answer, ◌>>◌, needs}
 use Rattle.b67_model.specs.Words.{Word, Operand}
-use Rattle.b67_model.specs.State.{Task, Job, SessionJob, with_task}
+use Rattle.b67_model.specs.State.{Task, Job, SessionJob, OperatorContext, with_task}
 use Rattle.b67_model.specs.Steps.{Done, Goes}
-use Rattle.b67_model.specs.Intrinsics.{is_original, answered, process}
+use Rattle.b67_model.specs.Entry.{needs_level}
+use Rattle.b67_model.specs.Intrinsics.{is_original, answered, needs_free, process}
+use Rattle.b67_stack.specs.declared.Cpu.{Cpu}
 use Rattle.b67_layout.specs.Placement.{Placement}
-use Rattle.b67_layout.specs.Meets.{here}
+use Rattle.b67_layout.specs.Meets.{RunsSome, here}
+use Rattle.b67_exec_cells.specs.Tops.{cells}
 use Rattle.b67_exec_calls.specs.Calls.{MayCut}
 use Rattle.b67_task_start.specs.Starts.{IsProcCell, child, with_child}
 use Rattle.b67_mcp_process.specs.declared.asking.Asked.{Asked}
+
+-- the running task's top activation record has so many cells
+pub record HasCells (cpu : Cpu) (count : ℕ) : Type 0 where
+  pub runs : RunsSome cpu
+  pub enough : count ≤ length (cells runs.task)
 
 -- the job in which the call has started a task, or has answered 0, and its task goes on at a place
 abbrev pub job_started : SessionJob → Task → Task → Place → Job
@@ -25,7 +34,16 @@ job_full m t next = with_task m.progress.job (answered (here m t next) (Operand 
 abbrev pub answer_by : Bool → SessionJob → Task → Task → Place → Answer Done
 answer_by few m t new next = if few then Ok (Goes (job_started m t new next) [] None) else Ok (Goes (job_full m t next) [] None)
 
--- PROCESS asks for a task in the procedure of this cell, with copies of so many of the call's words, which may be cut off then
+-- a task may be started in a procedure of this level in this activation record, with so many words, and the call be cut off
+abbrev pub admits : OperatorContext → ℕ → ℕ → ℕ → Answer (Unit {0})
+admits h environment level count = needs_level h environment level >> (needs (nat_le (3 + count) h.constants.stack_size) StackOverflow >> needs_free h)
+
+-- it may, or there is a fault
+abbrev pub AdmitMeets : ℕ → ℕ → Answer (Unit {0}) → Result Asked Fault → Type 0
+AdmitMeets cell count answer (Ok asked) = (asked ≡ record { cell = cell; count = count }) × (answer ≡ Ok tt)
+AdmitMeets cell count answer (Err fault) = answer ≡ Err fault
+
+-- PROCESS asks for a task in the procedure of this cell, with copies of so many of the call's words; the call may be cut off
 pub record Asks (plan : Placement) (m : SessionJob) (t : Task) (arguments : List Word) (cell count : ℕ) : Type 0 where
   pub f : ℕ
   pub segment : ℕ
@@ -35,7 +53,8 @@ pub record Asks (plan : Placement) (m : SessionJob) (t : Task) (arguments : List
   pub words : List Word
   pub are : arguments ≡ reference ∷ words
   pub count_is : count ≡ length words
-  pub plain : list_any is_original words ≡ false
+  pub copied : take count (cells t) ≡ reverse words
+  pub plain : (w : Word) → Has (take count (cells t)) w → is_original w ≡ false
   pub proc : IsProcCell plan m t cell f segment level place
   pub room : 3 + count ≤ m.constants.stack_size
   pub may : MayCut m t

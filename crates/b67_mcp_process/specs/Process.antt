@@ -33,7 +33,7 @@ pub record CallsProcess (k : Machine) : Type 0 where
 abbrev pub ForCall : Machine → (Storage → Option (List (List ℕ)) → Placement → Session → SessionJob → Task → List Word → Type 0) → Type 0
 ForCall k P = ForEachRun k (λ x told plan s m t. (reference : Word) (arguments : List Word) → IsCall t reference arguments → P x told plan s m t arguments)
 
--- each job's next task can be numbered, and the one after it
+-- each job's next task can be numbered, and then the one after it
 abbrev pub CanNumber : List JobRow → Type 0
 CanNumber rows = (r : JobRow) → Has rows r → r.next_task + 1 < 2 ^ 32
 

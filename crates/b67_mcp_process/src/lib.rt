@@ -2,6 +2,7 @@
 #![tactic(auto)]
 
 mod asking;
+mod starting;
 
 ghost use Rattle.std.specs.Prelude.{◌≡◌, ◌+◌, Err, length};
 ghost use Rattle.b67_io.specs.Causes.{Rose};
@@ -10,10 +11,12 @@ ghost use Rattle.b67_backing.specs.declared.SpaceFault.TheVariants.{BackingFault
 ghost use Rattle.b67_layout_storage.specs.Machine.{Says, DeviceAfterCalls, content_after};
 ghost use Rattle.b67_mcp_process.specs.Process.{CallsProcess, CanNumber, ForCall, ProcessMeets, ProcessWrites, ProcessFits, ProcessKeeps};
 
+use crate::asking::task_asked;
+use crate::starting::{answer, start_asked, tasks_of_job};
+pub use asking::Asked;
 use b67_backing::{Backing, SpaceFault};
 use b67_task_tables::Machine;
 use b67_word::{Fault, Place};
-pub use asking::Asked;
 
 /// PROCESS: starts a child of the running task, with copies of the call's words, and answers its number; or 0 where 15 tasks
 /// of the job live. The call is cut, and its task goes on at a place of its segment. A fault changes nothing.
@@ -38,5 +41,13 @@ pub fn process<B: Backing>(
     ensures cause { result ≡ Err BackingFault → Rose B.faults backing.old backing.new }
     ensures device { DeviceAfterCalls B.holds B.size B.calls B.faults backing.old backing.new }
 {
-    todo!()
+    let asked = match task_asked(&machine.cpu) {
+        Ok(asked) => asked,
+        Err(fault) => return Ok(Err(fault)),
+    };
+    if tasks_of_job(machine) >= 15 {
+        answer(machine, 0, next);
+        return Ok(Ok(()));
+    }
+    start_asked(machine, asked, next, backing)
 }

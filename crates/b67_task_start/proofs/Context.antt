@@ -1,10 +1,11 @@
 -- What the code that starts a task finds and makes, by the session that the machine stands for.
-use Rattle.std.proofs.Common.{◌≡◌, ◌≢◌, ℕ, ◌+◌, ◌-◌, ◌≤◌, List, [], ◌∷◌, ◌++◌, length, Option, Some, refl, sym, ◌∙◌, ap, arith, slice_set}
+use Rattle.std.proofs.Common.{◌≡◌, ◌≢◌, ℕ, zero, suc, inl, inr, ◌⊎◌, subst, ◌+◌, ◌-◌, ◌≤◌, List, [], ◌∷◌, ◌++◌, length, Option, Some, refl, sym, ◌∙◌, ap, arith, slice_set}
 use Rattle.std.specs.List.{slice_get}
 use Rattle.b67_area.specs.declared.Areas.{Areas}
 use Rattle.b67_ctl.specs.Layout.{IsPcw, pcw_word}
 use Rattle.b67_ctl.specs.declared.programs.Pcw.{Pcw}
-use Rattle.b67_lemmas.proofs.Members.{keyed_has}
+use Rattle.b67_lemmas.specs.Lists.{Has}
+use Rattle.b67_lemmas.proofs.Members.{has_get, keyed_has}
 use Rattle.b67_lemmas.proofs.Places.{map-slice_set, put_back, at_mapped}
 use Rattle.b67_model.specs.Run as Run
 use Rattle.b67_model.specs.Schedule.{Session}
@@ -26,7 +27,7 @@ use Rattle.b67_task_tables.specs.declared.tables.Machine.{Machine}
 use Rattle.b67_task_tables.specs.declared.tables.TaskRow.{TaskRow}
 use Rattle.b67_task_tables.specs.declared.tables.Tasks.{Tasks}
 use Rattle.b67_task_tables.specs.Runs.{Keeps}
-use Rattle.b67_task_tables.specs.Tables.{state_of, row_names, MachineRepresents}
+use Rattle.b67_task_tables.specs.Tables.{state_of, row_names, IsCountable, AreCountable, MachineRepresents}
 use Rattle.b67_layout.specs.Rows.{IsReady}
 use Rattle.b67_task_start_stack.specs.Born.{with_peak, with_task_at}
 use Rattle.b67_task_start_stack.specs.Joining.{BuildsSome, MayBuild, joined}
@@ -41,6 +42,20 @@ pub names_same : (rows new : List JobRow) (i : ℕ) (r : JobRow) → slice_get r
 names_same rows new i r at is =
     let name : JobRow → List ℕ = λ q. q.name in
     ap row_names is ∙ map-slice_set name rows i (with_next r) ∙ put_back (row_names rows) i r.name (at_mapped name rows i r at)
+
+has_set : (xs : List JobRow) (i : ℕ) (y q : JobRow) → Has (slice_set xs i y) q → (y ≡ q) ⊎ Has xs q
+has_set [] i y q h = absurd h
+has_set (x ∷ xs) zero y q (inl e) = inl e
+has_set (x ∷ xs) zero y q (inr h) = inr (inr h)
+has_set (x ∷ xs) (suc i) y q (inl e) = inr (inl e)
+has_set (x ∷ xs) (suc i) y q (inr h) = elim (has_set xs i y q h) [ inl e ↦ inl e | inr k ↦ inr (inr k) ]
+
+-- a job's numbers for READ stay there
+pub countable_next : (rows new : List JobRow) (i : ℕ) (r : JobRow) → slice_get rows i ≡ Some r → new ≡ slice_set rows i (with_next r) → AreCountable rows → AreCountable new
+countable_next rows new i r at is all q h = elim (has_set rows i (with_next r) q (subst (λ (xs : List JobRow). Has xs q) is h)) [
+  | inl e ↦ subst IsCountable e (all r (has_get rows i r at))
+  | inr k ↦ all q k
+]
 
 -- the number of the next task of the running task's job
 pub number_of : (k : Machine) (x : Storage) (told : Option (List (List ℕ))) (plan : Placement) (s : Session) (m : SessionJob) (t : Task) → IsInOrderButCounts s → MachineRepresents x told k plan s → IsRunning plan s.jobs m t

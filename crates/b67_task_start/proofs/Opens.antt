@@ -1,5 +1,5 @@
 -- The lowest slot in which no task lives, and the peak that a task more makes.
-use Rattle.std.proofs.Common.{◌≡◌, ◌≢◌, ℕ, zero, suc, ◌+◌, ◌*◌, ◌<◌, ◌≤◌, List, [], ◌∷◌, flat_map, length, Option, Some, None, refl, sym, ◌∙◌, ap, arith, inl, inr, ◌⊎◌, ⊎_elim, subst, true, false, ◌==◌}
+use Rattle.std.proofs.Common.{◌≡◌, ◌≢◌, ℕ, zero, suc, ◌+◌, ◌*◌, ◌^◌, ◌<◌, ◌≤◌, List, [], ◌∷◌, flat_map, length, Option, Some, None, refl, sym, ◌∙◌, ap, arith, inl, inr, ◌⊎◌, ⊎_elim, subst, true, false, ◌==◌}
 use Rattle.std.specs.Prelude.{max}
 use Rattle.std.specs.List.{slice_get, list_any}
 use Rattle.std.proofs.lemmas.Bool.{cases_Bool, cases_eq, cases_lt, eq-eqb, eqb-true}
@@ -27,7 +27,7 @@ use Rattle.b67_task_need.proofs.Counts.{jobs_differ}
 use Rattle.b67_layout.proofs.Counting.{not_more, slots_of, slots_length}
 use Rattle.b67_task_start_stack.specs.Born.{with_peak}
 use Rattle.b67_task_start_stack.specs.Slots.{grown, raised, HasRoom}
-use Rattle.b67_task_start.specs.Opening.{IsLowestFree, peak_with, HasSlot, IsOpened}
+use Rattle.b67_task_start.specs.Opening.{IsLowestFree, slot_end, peak_with, HasSlot, IsOpened}
 use Rattle.b67_task_start_stack.proofs.Wider.{RepresentsSession-wider}
 
 -- the word of a slot in the stack vector has tag 0 only if no task lives in the slot
@@ -51,6 +51,10 @@ row_or_none rows k = ⊎_elim
 module _ (x : Storage) (core : List Tagged) (r : Regs) (marks : List ℕ) (plan : Placement) (s : Session) (h : SessionHolds x core r marks plan s) where
   pub few : (r.peak ≡ plan.peak) × (plan.peak ≤ 120) × (160 ≤ length core)
   few = (h.memory.slots.regs.peak, h.fits.few, omega (arith, h.memory.slots.laid.first, h.memory.slots.laid.low, h.memory.inside))
+
+  -- slot 0 in the registers
+  pub slots_start : (r.stacks ≡ plan.stacks) × (r.stack_size ≡ plan.size) × (plan.stacks ≤ length core) × (length core < 2 ^ 20)
+  slots_start = (h.memory.slots.regs.stacks, h.memory.slots.regs.size, omega (arith, h.memory.slots.laid.low, h.memory.inside), h.memory.directory.small)
 
   -- a live task's word in the vector
   taken : (q : Slotted) → Has plan.rows q → IsTaken core q.slot
@@ -79,6 +83,10 @@ module _ (x : Storage) (core : List Tagged) (r : Regs) (marks : List ℕ) (plan 
         absurd (t.2 (ap (λ (w : Tagged). w.tag) same)))
         (row_or_none plan.rows i);
   }
+
+pub end_is : (stacks size slot wide k : ℕ) (plan : Placement) → stacks ≡ plan.stacks → size ≡ plan.size → slot ≡ k → wide ≡ size → stacks + (slot + 1) * wide ≡ slot_end plan k
+end_is stacks size slot wide k plan start width same is =
+    ap (λ (n : ℕ). n + (slot + 1) * wide) start ∙ ap (λ (n : ℕ). plan.stacks + (n + 1) * wide) same ∙ ap (λ (n : ℕ). plan.stacks + (k + 1) * n) (is ∙ width)
 
 -- there is one lowest free slot
 pub one_lowest : (plan : Placement) (a b : ℕ) → IsLowestFree plan a → IsLowestFree plan b → a ≡ b

@@ -36,6 +36,13 @@ pub record HoldsOne (core : List Tagged) (r : Regs) : Type 0 where
   pub session : Session
   pub holds : SessionHolds storage core r marks plan session
 
+-- the machine stands for some session
+pub record HasSome (cpu : Cpu) : Type 0 where
+  pub storage : Storage
+  pub plan : Placement
+  pub session : Session
+  pub stands : RepresentsSession storage cpu plan session
+
 -- slot k is the lowest free one, it lies inside core, and no area has a word below its end
 pub record HasSlot (x : Storage) (plan : Placement) (s : Session) (core k : ℕ) : Type 0 where
   pub few : live_tasks s.jobs < 120

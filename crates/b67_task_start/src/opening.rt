@@ -6,7 +6,7 @@ ghost use Rattle.b67_model.specs.Schedule.{Session};
 ghost use Rattle.b67_stack.specs.Represents.{Storage};
 ghost use Rattle.b67_layout.specs.Placement.{Placement};
 ghost use Rattle.b67_layout.specs.Session.{SessionHolds, RepresentsSession};
-ghost use Rattle.b67_task_start.specs.Opening.{IsLowestFree, HoldsOne, HasSlot, HasSomeSlot, IsOpened};
+ghost use Rattle.b67_task_start.specs.Opening.{IsLowestFree, slot_end, HoldsOne, HasSome, HasSlot, HasSomeSlot, IsOpened};
 
 use b67_area::Areas;
 use b67_core::Core;
@@ -26,6 +26,15 @@ fn lowest_free(core: &Core, regs: &Regs) -> u8
         }
     }
     regs.peak
+}
+
+/// The core address after the slot that a new task gets.
+pub fn next_slot_end(cpu: &Cpu) -> u32
+    requires { HasSome cpu.now }
+    ensures { (x : Storage) (plan : Placement) (s : Session) → RepresentsSession x cpu.now plan s → (k : ℕ) × IsLowestFree plan k × (result ≡ slot_end plan k) }
+{
+    let slot = lowest_free(&cpu.core, &cpu.regs);
+    cpu.regs.stacks + (u32::from(slot) + 1) * u32::from(cpu.regs.stack_size)
 }
 
 /// Opens the slot of a new task: the lowest in which no task lives. The session's peak counts that task from now on.

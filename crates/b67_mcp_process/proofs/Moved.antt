@@ -1,0 +1,66 @@
+-- The machine stands for the same session once areas were evicted.
+use Rattle.std.proofs.Common.{◌≡◌, ◌≢◌, ℕ, List, [], ◌∷◌, Option, Some, None, refl, sym, ◌∙◌, ap, subst}
+use Rattle.std.proofs.lemmas.Option.{none-some}
+use Rattle.b67_area.specs.declared.Areas.{Areas}
+use Rattle.b67_backing.specs.Shelf.{Table}
+use Rattle.b67_ctl.specs.declared.registers.Regs.{Regs}
+use Rattle.b67_model.specs.State.{SessionJob}
+use Rattle.b67_model.specs.Schedule.{Session}
+use Rattle.b67_stack.specs.declared.Cpu.{Cpu}
+use Rattle.b67_stack.specs.Represents.{Storage, Represents}
+use Rattle.b67_layout.specs.Placement.{Placement}
+use Rattle.b67_layout.specs.Layout.{machine_view}
+use Rattle.b67_layout_step.proofs.Alike.{AllAlike}
+use Rattle.b67_layout_step.proofs.Paged.{RepresentsSession-over}
+use Rattle.b67_layout_storage.specs.Machine.{MachineRepresentsView, PagingKeeps, Says, Stayed, content_after}
+use Rattle.b67_layout_storage.proofs.Untold.{untold, Represents-untold}
+use Rattle.b67_overlay.specs.AreasEvicted.{AreasEvicted}
+use Rattle.b67_task_tables.specs.declared.tables.Machine.{Machine}
+use Rattle.b67_task_tables.specs.Tables.{MachineRepresents}
+
+same_jobs : (ms : List SessionJob) → AllAlike ms ms
+same_jobs [] = tt
+same_jobs (m ∷ ms) = (record { number = refl; stack_size = refl; dictionary = refl; count = refl; tasks = refl }, same_jobs ms)
+
+-- what a storage says that said something, and nothing otherwise
+retelling : (d e now : Option (List (List ℕ))) → (d ≡ None → e ≡ None) → (d ≢ None → e ≢ None) → Says e now → content_after d now ≡ e
+retelling None e now none some says = sym (none refl)
+retelling (Some all) None now none some says = absurd (some (λ z. none-some all (sym z)) refl)
+retelling (Some all) (Some more) now none some says = says
+
+module _ (x : Storage) (told : Option (List (List ℕ))) (k : Machine) (plan : Placement) (s : Session) (h : MachineRepresents x told k plan s) where
+  -- it stands over a storage that says nothing of the device
+  pub silent : MachineRepresents (untold x) None k plan s
+  silent = record {
+    session = RepresentsSession-over [] [] x (untold x) k.cpu k.cpu plan s s h.session (same_jobs s.jobs) refl refl refl refl
+        (Represents-untold x k.cpu.core k.cpu.regs (machine_view plan s.jobs) h.session.holds.memory) h.session.holds.settled (λ i low out homes. refl);
+    storage = record { low = h.storage.low; size = h.storage.size; shelf = h.storage.shelf; device = refl };
+    tables = h.tables;
+  }
+
+  -- what its view says of it, over a device that tells what its storage says
+  pub seen_over : (now : Option (List (List ℕ))) → Says told now → MachineRepresentsView x k.cpu k.areas k.sectors now (machine_view plan s.jobs)
+  seen_over now says = record { stands = h.session.holds.memory; low = h.storage.low; shelf = h.storage.shelf; device = subst (λ (d : Option (List (List ℕ))). Says d now) h.storage.device says }
+
+  module _ (y : Storage) (now : Option (List (List ℕ))) (cpu : Cpu) (areas : Areas) (table : Table) (kept : PagingKeeps k.cpu cpu k.areas areas k.sectors table) (stayed : Stayed (machine_view plan s.jobs) k.cpu.core cpu.core)
+      (evicted : AreasEvicted x y 0) (view : MachineRepresentsView y cpu areas table now (machine_view plan s.jobs)) where
+    pub stands_moved : MachineRepresents y (content_after told now) (record k { cpu = cpu; areas = areas; sectors = table }) plan s
+    stands_moved =
+        let P : Regs → Type 0 = λ r. Represents y cpu.core r (machine_view plan s.jobs) in
+        let regs : cpu.regs ≡ k.cpu.regs = ap (λ (c : Cpu). c.regs) kept.rest in
+        record {
+          session = RepresentsSession-over [] [] x y k.cpu cpu plan s s h.session (same_jobs s.jobs) refl regs (ap (λ (c : Cpu). c.display) kept.rest) (ap (λ (c : Cpu). c.critical) kept.rest)
+              (subst P regs view.stands) h.session.holds.settled stayed;
+          storage = record {
+            low = view.low;
+            size = ap (λ (a : Areas). a.size) kept.areas ∙ h.storage.size ∙ sym kept.len;
+            shelf = view.shelf;
+            device = ap (λ (d : Option (List (List ℕ))). content_after d now) h.storage.device ∙ retelling x.device y.device now evicted.untold evicted.told view.device;
+          };
+          tables = h.tables;
+        }
+
+-- a device that hasn't changed tells what it told
+pub content_same : (told now : Option (List (List ℕ))) → Says told now → content_after told now ≡ told
+content_same None now says = refl
+content_same (Some all) now says = says
