@@ -67,12 +67,6 @@ below_put id i w (f ∷ fs) ne = let no = ne_eqb f.identity id ne in rw no refl
 
 module _ (x : Storage) (told : Option (List (List ℕ))) (k : Machine) (plan : Placement) (s : Session) (m : SessionJob) (t : Task) (o : IsInOrderButCounts s) (h : MachineRepresents x told k plan s) (runs : IsRunning plan s.jobs m t) (q : Place)
     (found : Found) (f offset bits : ℕ) (e : IsFoundCell plan m t k.cpu.core q found f offset bits) where
-  abbrev i : ℕ
-  i = offset - 2
-
-  abbrev one : Word
-  one = Operand 1
-
   abbrev job1 : Job
   job1 = put_job m.progress.job f (offset - 2) (Operand 1)
 
@@ -180,7 +174,6 @@ module _ (x : Storage) (told : Option (List (List ℕ))) (k : Machine) (plan : P
 
     pub made_count : length made.tasks ≡ length m.progress.job.tasks
     made_count =
-        let T : Task = answered (here m t q) [] in
         ap (λ (j : Job). length j.tasks) (sym made_is) ∙ length_change (λ (v : Task). v.number) t.number (answered (here m2 t2 q) []) job2.tasks ∙ count2
 
     -- and without the call

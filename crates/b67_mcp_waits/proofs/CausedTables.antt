@@ -115,9 +115,6 @@ module _ (x : Storage) (cpu : Cpu) (plan : Placement) (s : Session) (m : Session
         by true = refl
         by false = e ∙ ap (λ (z : ℕ → StackPlace). WaitsAtCell (address_of plan (z g)) other) (sym (spots_change u))
 
-  has_t : Has m.progress.job.tasks t
-  has_t = (keyed_has (λ (u : Task). u.number) t.number m.progress.job.tasks t runs.task).0
-
   has_m : Has s.jobs m
   has_m = (keyed_has number_of m.constants.number s.jobs m runs.member).0
 

@@ -17,7 +17,7 @@ use Rattle.b67_stack.specs.declared.Cpu.{Cpu}
 use Rattle.b67_stack.specs.Stacks.{StackPlace, Activation}
 use Rattle.b67_stack.specs.MachineView.{PagedObject, Slot, Running, Waiting, MachineView, NoOriginalAboveTop}
 use Rattle.b67_stack.specs.Represents.{Storage, Represents}
-use Rattle.b67_layout.specs.Placement.{Slotted, Placement, slot_of, outer_spots, spots, address_of}
+use Rattle.b67_layout.specs.Placement.{Slotted, Placement, slot_of, spots, address_of}
 use Rattle.b67_layout.specs.Layout.{stack_of_task, slot_with, slot_in, slot_by, slot_at, objects_of, machine_view}
 use Rattle.b67_layout.specs.Session.{RowsFit, DictionariesFollow, RowHomes, PlanFits, RepresentsDictionary, vector_word, critical_mark, RepresentsTask, IsRunning, ShowsDisplay, SessionHolds, RepresentsSession}
 use Rattle.b67_layout.specs.Meets.{with_job}
@@ -25,7 +25,7 @@ use Rattle.b67_layout.proofs.MachineViews.{with_course, member-same, member-othe
 use Rattle.b67_layout.proofs.Sessions.{change-has, change-kept, running_only}
 use Rattle.b67_layout.proofs.Displays.{same_frame_at}
 use Rattle.b67_task_start_stack.specs.Likes.{Like}
-use Rattle.b67_task_start_stack.proofs.Twins.{outer-twin, stack-twin, spots-twin, name_all}
+use Rattle.b67_task_start_stack.proofs.Twins.{stack-twin, spots-twin, name_all}
 
 -- each task with another condition
 abbrev pub wake_task : (Condition → Condition) → Task → Task
@@ -55,9 +55,6 @@ flat_wake g [] = refl
 flat_wake g (x ∷ xs) = ap (λ (fs : List Frame). x.frames ++ fs) (flat_wake g xs)
 
 module _ (plan : Placement) (j : ℕ) (job : Job) (g : Condition → Condition) where
-  pub outer_wake : (c : ℕ) (parents : List ℕ) → outer_spots plan j (wake_job g job) c parents ≡ outer_spots plan j job c parents
-  outer_wake c parents = λ z id. outer-twin plan plan j job (wake_job g job) (λ u. Unit {0}) (λ a. Unit {0}) (λ u w. refl) (λ u w. like_wake g job u) (λ a w. (refl, refl)) parents (λ u h. tt) c id z
-
   pub spots_wake : (t : Task) → spots plan j (wake_job g job) (wake_task g t) ≡ spots plan j job t
   spots_wake t = λ z id. spots-twin plan plan j job (wake_job g job) (λ u. Unit {0}) (λ a. Unit {0}) (λ u w. refl) (λ u w. like_wake g job u) (λ a w. (refl, refl)) (wake_task g t) t
       (record { number = refl; parents = refl; critical = refl; frames = refl }) (λ u h. tt) tt id z
@@ -210,6 +207,3 @@ module _ (x : Storage) (cpu : Cpu) (plan : Placement) (s : Session) (m : Session
     holds = holds;
     shows = λ y v q. running_only plan jobs' moved y (wake_task g t) v (ShowsDisplay cpu.display plan) rows still q shown;
   }
-
-  pub runs_wake : IsRunning plan (with_job s m (wake_job g m.progress.job)).jobs (record m { progress = record m.progress { job = wake_job g m.progress.job } }) (wake_task g t)
-  runs_wake = still

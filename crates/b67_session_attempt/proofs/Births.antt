@@ -76,7 +76,7 @@ module _ (n : ℕ) where
       let cut : Job = with_task h.job gone in
       let set : Job = with_cell cut f offset (Operand 1) in
       post_then (Born n) _ _ (post_ok (Born n) _ (inl (
-        length-map set.tasks (λ (u : Task). record u { condition = woken_at f offset u.condition }) ∙ length-map cut.tasks _ ∙ length_change (λ (u : Task). u.number) gone.number gone h.job.tasks ∙ e)))
+      length-map set.tasks (λ (u : Task). record u { condition = woken_at f offset u.condition }) ∙ length-map cut.tasks _ ∙ length_change (λ (u : Task). u.number) gone.number gone h.job.tasks ∙ e)))
   causes_born h (AtProc environment segment level place) e = post_err (Born n) _
   causes_born h (AtElement a i) e = post_err (Born n) _
   causes_born h (AtArray a) e = post_err (Born n) _
@@ -100,8 +100,28 @@ module _ (n : ℕ) where
     between : length h.job.tasks ≡ n → 12 ≤ i → i ≤ 16 → Post (Born n) (intrinsic i h arguments)
     between e low high = by_rows calls (
       λ q. absurd (omega (arith, q, low)),
-      (λ q. absurd (omega (arith, q, low)), (λ q. absurd (omega (arith, q, low)), (λ q. absurd (omega (arith, q, low)), (λ q. process_born h arguments e, (λ q. await_born h arguments e, (λ q. status_born h arguments e, (λ q. wait_born h arguments e,
-      (λ q. cause_born h arguments e, (λ q. absurd (omega (arith, q, high)), (λ q. absurd (omega (arith, q, high)), tt)))))))))),
+      (
+        λ q. absurd (omega (arith, q, low)),
+        (
+          λ q. absurd (omega (arith, q, low)),
+          (
+            λ q. absurd (omega (arith, q, low)),
+            (
+              λ q. process_born h arguments e,
+              (
+                λ q. await_born h arguments e,
+                (
+                  λ q. status_born h arguments e,
+                  (
+                    λ q. wait_born h arguments e,
+                    (λ q. cause_born h arguments e, (λ q. absurd (omega (arith, q, high)), (λ q. absurd (omega (arith, q, high)), tt))),
+                  ),
+                ),
+              ),
+            ),
+          ),
+        ),
+      ),
     )
 
     weaker : (done : Done) → Still n done → Born n done

@@ -1,4 +1,4 @@
-use Rattle.std.proofs.Common.{◌≢◌, ℕ, List, length, Option, Some, Ok, refl, sym, ◌∙◌, ap, arith, subst, inl, inr}
+use Rattle.std.proofs.Common.{ℕ, List, length, Option, Some, Ok, refl, sym, ◌∙◌, ap, arith, subst, inl, inr}
 use Rattle.b67_layout_storage.specs.Machine.{content_after}
 use Rattle.b67_mcp.specs.declared.ends.CallEnd.{CallEnd}
 use Rattle.b67_mcp.specs.Called.{CallMeets, CallTouches}
@@ -139,22 +139,13 @@ pub wait_for-requires-clause-from : goal.wait_for-requires-clause-from
 wait_for-requires-clause-from g c =
     let q = c.requires.calls in
     let between = numbered q.runs.plan q.runs.session q.runs.member q.runs.task c.args.n q.runs.ordered q.runs.running q.called in
-    let rest = c.in_default.in_default-own.rest in
-    let a : c.args.n ≢ 8 = λ e. rest.0.0.0.0.0.0.1 e in
-    let b : c.args.n ≢ 9 = λ e. rest.0.0.0.0.0.1 e in
-    let d : c.args.n ≢ 10 = λ e. rest.0.0.0.0.1 e in
-    let e : c.args.n ≢ 11 = λ e. rest.0.0.0.1 e in
-    let f : c.args.n ≢ 12 = λ e. rest.0.0.1 e in
-    omega (arith, a, b, d, e, f, between.0)
+    omega (arith, between.0)
 
 pub wait_for-requires-clause-upto : goal.wait_for-requires-clause-upto
 wait_for-requires-clause-upto g c =
     let q = c.requires.calls in
     let between = numbered q.runs.plan q.runs.session q.runs.member q.runs.task c.args.n q.runs.ordered q.runs.running q.called in
-    let rest = c.in_default.in_default-own.rest in
-    let a : c.args.n ≢ 17 = λ e. rest.0.1 e in
-    let b : c.args.n ≢ 18 = λ e. rest.1 e in
-    omega (arith, a, b, between.1)
+    omega (arith, between.1)
 
 pub returns-in_default-clause-row : goal.returns-in_default-clause-row
 returns-in_default-clause-row g c = λ x told plan s m t o h runs code called says.

@@ -1,4 +1,4 @@
-use Rattle.std.proofs.Common.{◌≡◌, ◌≢◌, ℕ, Some, length, ◌∙◌, ap, arith}
+use Rattle.std.proofs.Common.{◌≡◌, ℕ, Some, length, ◌∙◌, ap, arith}
 use Rattle.b67_model.specs.declared.operators.Op.TheVariants.{Plain}
 use Rattle.b67_model.specs.declared.operators.Code.TheVariants.{Entr}
 use Rattle.b67_model.specs.Intrinsics.{await, status, wait, cause}
@@ -16,12 +16,7 @@ stands_at k n q = let c = calling q.runs.member q.runs.task n q.called in record
 
 -- the last of the numbers
 last : (c : After-silent-in_default) → c.args.n ≡ 16
-last c =
-    let rest = c.in_default.in_default-own.rest in
-    let a : c.args.n ≢ 13 = λ e. rest.0.0.1 e in
-    let b : c.args.n ≢ 14 = λ e. rest.0.1 e in
-    let d : c.args.n ≢ 15 = λ e. rest.1 e in
-    omega (arith, a, b, d, c.requires.from, c.requires.upto)
+last c = omega (arith, c.requires.from, c.requires.upto)
 
 pub next_place-next-requires : goal.next_place-next-requires
 next_place-next-requires c = reads_of c.args.machine.now c.args.n c.requires.calls
