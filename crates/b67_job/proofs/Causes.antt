@@ -12,12 +12,12 @@ use Rattle.b67_job.specs.Device.{Device, Failed, IsUntouched}
 use Rattle.b67_job.specs.Texts.{Text, whole_of, only, TookUpTo, all_taken, cut_short}
 use Rattle.b67_job.specs.Lines.{memory_text}
 use Rattle.b67_job.specs.Statuses.{StatusMeans}
-use Rattle.b67_job.specs.Runs.{RoomSuffices, WasOpened, memory_refused, opening_wants_core, opening_wants_sectors, opening_fails, all_end, halt_comes, step_wants_core, step_wants_sectors, step_fails, RunStops, unopened, opened, IsPrinting}
+use Rattle.b67_job.specs.Runs.{WasOpened, memory_refused, opening_wants_core, opening_wants_sectors, opening_fails, all_end, halt_comes, step_wants_core, step_wants_sectors, step_fails, RunStops, unopened, opened, IsPrinting}
 use Rattle.b67_job.specs.Command.{command_of}
 use Rattle.b67_job.specs.declared.command.CommandLine.{CommandLine}
 use Rattle.b67_job.specs.declared.command.CommandLine.TheVariants as lines
 use Rattle.b67_job.specs.Judgement.{Judgement, Runs, asked}
-use Rattle.b67_job.specs.Due.{usage_text, reading_text, IsRun, IsDue, usage_due, refusal_due, print_due, run_due, reading_due, memory_due, Answered, answered, cut_in_step, Leaves, IsAllDone, Halts, IsShortOfCore, IsShortOfSectors, IsFailedBy, IsRefused, IsSpared}
+use Rattle.b67_job.specs.Due.{usage_text, reading_text, IsRun, IsDue, usage_due, refusal_due, print_due, run_due, reading_due, memory_due, Answered, answered, cut_in_step, IsAllDone, Halts, IsShortOfCore, IsShortOfSectors, IsFailedBy, IsRefused, IsSpared}
 use Rattle.b67_job.proofs.Status.{is_finished, is_halted}
 
 -- ---- runs
