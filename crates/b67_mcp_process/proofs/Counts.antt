@@ -89,6 +89,9 @@ same_job r q e = ap (λ (z : rows.TaskRow). z.job) e
 same_slot : (r : TaskRow) (q : rows.TaskRow) → task_row r ≡ q → r.slot ≡ q.slot
 same_slot r q e = ap (λ (z : rows.TaskRow). z.slot) e
 
+shown_slot : (rs : List TaskRow) (plan : Placement) (m : SessionJob) (u : Task) (row : TaskRow) (q : rows.TaskRow) (n : ℕ) → Has rs row → task_row row ≡ q → rows.TaskShows plan m u q → slot_of plan m.constants.number u.number ≡ n → Has (slots_in rs m.constants.number) n
+shown_slot rs plan m u row q n there is w slot = subst (Has (slots_in rs m.constants.number)) (same_slot row q is ∙ w.slot ∙ slot) (slots_has rs m.constants.number row there (same_job row q is ∙ w.job))
+
 pub rows_are : (tasks : Tasks) (plan : Placement) (s : Session) (m : SessionJob) → IsInOrderButCounts s → RowsFit plan s.jobs → Has s.jobs m → TasksShow plan s tasks → rows_of_job tasks.rows.items m.constants.number ≡ length m.progress.job.tasks
 rows_are tasks plan s m o fit inm shows =
     let rs = tasks.rows.items in
@@ -109,9 +112,7 @@ rows_are tasks plan s m o fit inm shows =
     let u = has_map_back (λ (v : Task). slot_of plan m.constants.number v.number) m.progress.job.tasks n inside in
     let (q, inq, w) = shows.each m u.item inm u.among in
     let r = has_map_back task_row rs q inq in
-    let job_is : r.item.job ≡ job = same_job r.item q r.is ∙ w.job in
-    let slot_is : r.item.slot ≡ n = same_slot r.item q r.is ∙ w.slot ∙ u.is in
-    subst (Has (slots_in rs job)) slot_is (slots_has rs job r.item r.among job_is))) in
+    shown_slot rs plan m u.item r.item q n r.among r.is w u.is)) in
     omega (arith, up, down, slots_count rs job, length-append (slots_of plan m) [], length-map m.progress.job.tasks (λ (v : Task). slot_of plan m.constants.number v.number))
   where
     by_number : (y : SessionJob) → Has s.jobs y → y.constants.number ≡ m.constants.number → y ≡ m

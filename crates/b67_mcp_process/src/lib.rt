@@ -45,7 +45,8 @@ pub fn process<B: Backing>(
         Ok(asked) => asked,
         Err(fault) => return Ok(Err(fault)),
     };
-    if tasks_of_job(machine) >= 15 {
+    let live = tasks_of_job(machine);
+    if live >= 15 {
         answer(machine, 0, next);
         return Ok(Ok(()));
     }

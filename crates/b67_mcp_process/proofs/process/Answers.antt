@@ -23,8 +23,8 @@ returns-in-Err-clause-kept g c = record { keeps = record { core = refl; sectors 
 pub returns-in-Err-clause-device : goal.returns-in-Err-clause-device
 returns-in-Err-clause-device g c = Served-none g.B.Backing.holds g.B.Backing.size g.B.Backing.calls g.B.Backing.faults c.args.backing.now
 
-pub tasks_of_job-requires : goal.tasks_of_job-requires
-tasks_of_job-requires g c = c.requires.calls.runs
+pub tasks_of_job-live-requires : goal.tasks_of_job-live-requires
+tasks_of_job-live-requires g c = c.requires.calls.runs
 
 pub answer-requires-clause-call : goal.answer-requires-clause-call
 answer-requires-clause-call g c =
@@ -32,21 +32,21 @@ answer-requires-clause-call g c =
     let q = k.runs in
     record { runs = q; may = (c.in-Ok.ensures q.storage q.plan q.session q.member q.task q.ordered q.stands.session q.running k.reference k.arguments k.call).may }
 
-pub returns-then-tasks_of_job-ge15-clause-row : goal.returns-then-tasks_of_job-ge15-clause-row
-returns-then-tasks_of_job-ge15-clause-row g c = λ x told plan s m t o h runs r arguments call says.
+pub returns-then-live-ge15-clause-row : goal.returns-then-live-ge15-clause-row
+returns-then-live-ge15-clause-row g c = λ x told plan s m t o h runs r arguments call says.
     (let a = c.in-Ok.ensures x plan s m t o h.session runs r arguments call in
-    let many : 15 ≤ length m.progress.job.tasks = omega (arith, c.if-tasks_of_job-ge15.true, c.tasks_of_job.ensures x told plan s m t o h runs) in
+    let many : 15 ≤ length m.progress.job.tasks = omega (arith, c.if-live-ge15.true, c.tasks_of_job-live.ensures x told plan s m t o h runs) in
     answered_none plan m t arguments c.in-Ok.asked.cell c.in-Ok.asked.count a many c.args.next x told _ s o c.answer.new.machine (content_same told (g.B.Backing.holds c.args.backing.now) says)
     (c.answer.ensures.stands x told plan s m t o h runs a.may))
 
-pub returns-then-tasks_of_job-ge15-clause-fits : goal.returns-then-tasks_of_job-ge15-clause-fits
-returns-then-tasks_of_job-ge15-clause-fits g c = λ x told plan s m t o h runs r arguments call. λ w.
+pub returns-then-live-ge15-clause-fits : goal.returns-then-live-ge15-clause-fits
+returns-then-live-ge15-clause-fits g c = λ x told plan s m t o h runs r arguments call. λ w.
     (let a = c.in-Ok.ensures x plan s m t o h.session runs r arguments call in
-    let many : 15 ≤ length m.progress.job.tasks = omega (arith, c.if-tasks_of_job-ge15.true, c.tasks_of_job.ensures x told plan s m t o h runs) in
+    let many : 15 ≤ length m.progress.job.tasks = omega (arith, c.if-live-ge15.true, c.tasks_of_job-live.ensures x told plan s m t o h runs) in
     absurd (starts_none plan m t arguments c.in-Ok.asked.cell c.in-Ok.asked.count a many c.args.next w))
 
-pub returns-then-tasks_of_job-ge15-clause-device : goal.returns-then-tasks_of_job-ge15-clause-device
-returns-then-tasks_of_job-ge15-clause-device g c = Served-none g.B.Backing.holds g.B.Backing.size g.B.Backing.calls g.B.Backing.faults c.args.backing.now
+pub returns-then-live-ge15-clause-device : goal.returns-then-live-ge15-clause-device
+returns-then-live-ge15-clause-device g c = Served-none g.B.Backing.holds g.B.Backing.size g.B.Backing.calls g.B.Backing.faults c.args.backing.now
 
 pub start_asked-requires-clause-call : goal.start_asked-requires-clause-call
 start_asked-requires-clause-call g c =
@@ -56,18 +56,18 @@ start_asked-requires-clause-call g c =
       runs = q;
       arguments = k.arguments;
       asks = c.in-Ok.ensures q.storage q.plan q.session q.member q.task q.ordered q.stands.session q.running k.reference k.arguments k.call;
-      few = omega (arith, c.if-tasks_of_job-ge15.false, c.tasks_of_job.ensures q.storage q.told q.plan q.session q.member q.task q.ordered q.stands q.running);
+      few = omega (arith, c.if-live-ge15.false, c.tasks_of_job-live.ensures q.storage q.told q.plan q.session q.member q.task q.ordered q.stands q.running);
     }
 
 pub returns-clause-row : goal.returns-clause-row
 returns-clause-row g c = λ x told plan s m t o h runs r arguments call says.
     c.start_asked.ensures.row x told plan s m t o h runs arguments (c.in-Ok.ensures x plan s m t o h.session runs r arguments call)
-    (omega (arith, c.if-tasks_of_job-ge15.false, c.tasks_of_job.ensures x told plan s m t o h runs)) says
+    (omega (arith, c.if-live-ge15.false, c.tasks_of_job-live.ensures x told plan s m t o h runs)) says
 
 pub returns-clause-quiet : goal.returns-clause-quiet
 returns-clause-quiet g c = λ x told plan s m t o h runs r arguments call never.
     c.start_asked.ensures.quiet x told plan s m t o h runs arguments (c.in-Ok.ensures x plan s m t o h.session runs r arguments call)
-    (omega (arith, c.if-tasks_of_job-ge15.false, c.tasks_of_job.ensures x told plan s m t o h runs)) never
+    (omega (arith, c.if-live-ge15.false, c.tasks_of_job-live.ensures x told plan s m t o h runs)) never
 
 pub returns-clause-fits : goal.returns-clause-fits
 returns-clause-fits g c = λ x told plan s m t o h runs r arguments call. c.start_asked.ensures.fits x told plan s m t o h runs arguments
