@@ -156,7 +156,6 @@ module _ {K : Type 0} (taken : K → Option (List ℕ)) (known known' : Option (
     }
 
   -- ---- the task has ended, or waits
-  -- what the attempt's answer says of the step: its outcome, and that nothing is printed yet
   module _ (answered : Result Attempt Stop) (made : Stepped) (h : Attempted taken known known' core count before s c answered k paper paper')
       (stays : ClosesSo known known' core k paper paper' h.plan h.session h.member h.task h.next.chosen made) where
     pub close_room : CountsHaveRoom k.tasks c

@@ -12,15 +12,6 @@ stop_printed (stops.BackingFull sum size) old new same other = ap (λ (z : Tasks
 stop_printed stops.BackingFault old new same other = ap (λ (z : Tasks). z.printed) same
 stop_printed stops.PrintFault old new same other = absurd (other refl)
 
-pub stop_made : (stop : Stop) (old new : Tasks) → TablesStay (Err stop) old new → new.made ≡ old.made
-stop_made (stops.NoCore words size) old new same = ap (λ (z : Tasks). z.made) same
-stop_made (stops.BackingFull sum size) old new same = ap (λ (z : Tasks). z.made) same
-stop_made stops.BackingFault old new same = ap (λ (z : Tasks). z.made) same
-stop_made stops.PrintFault old new same = ap (λ (z : Tasks). z.made) same
-
 -- another row runs, with the same counts
 pub turned_printed : (old new : Tasks) (row : ℕ) → new ≡ record old { rows = new.rows; running = row } → new.printed ≡ old.printed
 turned_printed old new row same = ap (λ (z : Tasks). z.printed) same
-
-pub turned_made : (old new : Tasks) (row : ℕ) → new ≡ record old { rows = new.rows; running = row } → new.made ≡ old.made
-turned_made old new row same = ap (λ (z : Tasks). z.made) same
