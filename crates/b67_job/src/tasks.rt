@@ -1,8 +1,8 @@
 //! Tasks and jobs, with the lines that the rules give.
 
+use crate::tests::numbers_of;
 use crate::worked::{check_rows, run_over};
 use b67_backing::{HonestBacking, MemoryBacking};
-use crate::tests::numbers_of;
 use std::alloc::{AllocError, Global};
 use std::test::Fail;
 
@@ -28,9 +28,11 @@ fn eight(alloc: Global) -> Result<String, AllocError> {
         deck.push_str(format!(in alloc; "NAMC 2,{}\nLT8 {}\nINDX\n", 3 + j, j)?.as_str())?;
     }
     for j in 0..8u32 {
-        deck.push_str(
-            format!(in alloc; "VALC 3,{}\nLT8 100\nADD\nNAMC 3,{}\nSTOD\n", 2 + j, 2 + j)?.as_str(),
-        )?;
+        deck.push_str(format!(in alloc;
+            "VALC 3,{}\nLT8 100\nADD\nNAMC 3,{}\nSTOD\n",
+            2 + j,
+            2 + j
+        )?.as_str())?;
     }
     deck.push_str("EXIT\n?END\n")?;
     Ok(deck)
@@ -233,13 +235,7 @@ fn shared_arrays_stop(rt: HostRuntime) -> Result<(), Fail> {
     let deck = eight(alloc)?;
     let none = numbers_of(alloc, &[])?;
     let mut failing = MemoryBacking::new(alloc, 4096, none, numbers_of(alloc, &[3])?)?;
-    let (printed, outcome) = run_over(
-        alloc,
-        "910",
-        "?STACK 256\n",
-        deck.as_str(),
-        &mut failing,
-    )?;
+    let (printed, outcome) = run_over(alloc, "910", "?STACK 256\n", deck.as_str(), &mut failing)?;
     assert_eq!(rt; printed.as_slice(), b"BACKING FAULT\n".as_slice());
     assert_eq!(rt; outcome.status, 6);
     assert!(rt; outcome.machine.is_some());
@@ -272,13 +268,7 @@ fn fifteen_tasks(rt: HostRuntime) -> Result<(), Fail> {
     }
     lines.push_str("1.1 CRITICAL BLOCK\n")?;
     let mut backing = HonestBacking::new(alloc, 4096)?;
-    let (printed, outcome) = run_over(
-        alloc,
-        "4096",
-        "?STACK 64\n",
-        deck.as_str(),
-        &mut backing,
-    )?;
+    let (printed, outcome) = run_over(alloc, "4096", "?STACK 64\n", deck.as_str(), &mut backing)?;
     assert_eq!(rt; printed.as_slice(), lines.as_bytes());
     assert_eq!(rt; outcome.status, 0);
     Ok(())

@@ -3,4 +3,7 @@
 
 mod turns;
 
-pub use turns::{choice_ignores_numbers, chosen_tasks_are_ready, first_parts_keep_order, last_parts_restore_order};
+pub use turns::{
+    choice_ignores_numbers, chosen_tasks_are_ready, first_parts_keep_order,
+    last_parts_restore_order,
+};

@@ -51,11 +51,7 @@ fn last_row(tasks: &Tasks) -> Option<u8>
     ensures inside { IfSome result (λ row. row < length tasks.now.rows.items) }
 {
     if lasts(tasks) {
-        ready_row_near(
-            tasks.rows.as_slice(),
-            tasks.running,
-            last_of(tasks),
-        )
+        ready_row_near(tasks.rows.as_slice(), tasks.running, last_of(tasks))
     } else {
         None
     }

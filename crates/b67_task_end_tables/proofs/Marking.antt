@@ -40,8 +40,7 @@ pub marks_more : (marks new : List ℕ) (rows : List TaskRow) (at : ℕ) (d : Ta
 marks_more marks new rows at d low so raised k small =
     let (n, here, e) = so k small in
     let r = get_or rows at d in
-    let next : at + 1 ≡ suc at = omega arith in
-    (
+    let next : at + 1 ≡ suc at = omega arith in (
       (if r.parent == k then max n r.critical else n),
       raised k n small here,
       ap (λ (i : ℕ). max (if r.parent == k then max n r.critical else n) (top_mark k (drop i rows))) next

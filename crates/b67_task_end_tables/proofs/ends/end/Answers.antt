@@ -9,8 +9,7 @@ use Rattle.b67_task_end_tables.proofs.ends.end.Goals as goal
 pub bury-requires : goal.bury-requires
 bury-requires c =
     let q = c.requires.some in
-    let k = c.args.machine.now in
-    (
+    let k = c.args.machine.now in (
       q.storage,
       q.told,
       q.plan,

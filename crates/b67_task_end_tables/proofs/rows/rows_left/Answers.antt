@@ -20,8 +20,7 @@ longer old new more n e one low = omega (arith, ap (λ (l : List TaskRow). lengt
 pub loop-at-preserved : goal.loop-at-preserved
 loop-at-preserved c =
     let F = freed c.args.job (numbers_in c.args.list.now) in
-    let p = stays c.args.job (numbers_in c.args.list.now) in
-    (
+    let p = stays c.args.job (numbers_in c.args.list.now) in (
       longer c.loop-at.kept.items c.keep.new.rows.items _ c.loop-at.at c.keep.ensures (keep_one F p _) c.loop-at.invariant.0,
       ap (λ (l : List TaskRow). l ++ rows_left c.args.job (numbers_in c.args.list.now) (drop (c.loop-at.at + 1) c.args.rows.now)) c.keep.ensures
           ∙ keeps_on F p c.args.rows.now c.loop-at.kept.items c.loop-at.at _ (omega (arith, c.loop-at-test.true)) c.loop-at.invariant.1,
