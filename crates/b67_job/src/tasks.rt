@@ -273,3 +273,62 @@ fn fifteen_tasks(rt: HostRuntime) -> Result<(), Fail> {
     assert_eq!(rt; outcome.status, 0);
     Ok(())
 }
+
+// Eight jobs of one name with fifteen tasks each live at once, in the least core: 160, four words for each dictionary, 120
+// stacks of 64, and 17 of code and 2. Each job's limit ends its tasks, the deepest first.
+#[test]
+fn eight_jobs_of_fifteen_tasks(rt: HostRuntime) -> Result<(), Fail> {
+    let alloc = rt.alloc();
+    let mut deck = String::new(alloc);
+    let mut lines = String::new(alloc);
+    for job in 1..9u32 {
+        deck.push_str("?JOB A\n?LIMIT 1000\n?ASM\nSEGMENT M 2\nMPCW C\n")?;
+        for _i in 0..14u32 {
+            deck.push_str("MKST\nNAMC 0,12\nNAMC 2,2\nENTR\n")?;
+        }
+        deck.push_str("L: BRUN L\nSEGMENT C 3\nL: BRUN L\n?END\n")?;
+        for task in 2..16u32 {
+            lines.push_str(format!(in alloc; "{}.{} LIMIT\n", job, task)?.as_str())?;
+        }
+        lines.push_str(format!(in alloc; "{}.1 LIMIT\n", job)?.as_str())?;
+    }
+    let rows = [
+        ("7891", 0, lines.as_str()),
+        ("7890", 4, "NO CORE 7891 7890\n"),
+    ];
+    for (core, status, wanted) in rows {
+        let mut backing = HonestBacking::new(alloc, 4096)?;
+        let (printed, outcome) = run_over(
+            alloc,
+            core,
+            "?STACK 64\n?QUANTUM 5\n",
+            deck.as_str(),
+            &mut backing,
+        )?;
+        assert_eq!(rt; printed.as_slice(), wanted.as_bytes(), "{core}");
+        assert_eq!(rt; outcome.status, status, "{core}");
+    }
+    Ok(())
+}
+
+// A switch at each of the first 100,000 operators, to the jobs in turn. The task of the last one goes on to its limit, since
+// its turn is a thousand operators, and it has 500 left; then the others, in turn.
+#[test]
+fn many_switches(rt: HostRuntime) -> Result<(), Fail> {
+    let alloc = rt.alloc();
+    let mut cards = String::new(alloc);
+    for count in 0..100_000u32 {
+        cards.push_str(format!(in alloc; "?SWITCH {} {}.1\n", count, count % 8 + 1)?.as_str())?;
+    }
+    let mut jobs = String::new(alloc);
+    for _job in 0..8u32 {
+        jobs.push_str("?JOB A\n?LIMIT 13000\n?ASM\nSEGMENT M 2\nL: BRUN L\n?END\n")?;
+    }
+    let mut backing = HonestBacking::new(alloc, 4096)?;
+    let (printed, outcome) = run_over(alloc, "16384", cards.as_str(), jobs.as_str(), &mut backing)?;
+    let lines =
+        "8.1 LIMIT\n1.1 LIMIT\n2.1 LIMIT\n3.1 LIMIT\n4.1 LIMIT\n5.1 LIMIT\n6.1 LIMIT\n7.1 LIMIT\n";
+    assert_eq!(rt; printed.as_slice(), lines.as_bytes());
+    assert_eq!(rt; outcome.status, 0);
+    Ok(())
+}
