@@ -21,8 +21,8 @@ use b67_word::{Fault, Place};
 /// PROCESS: starts a child of the running task, with copies of the call's words, and answers its number; or 0 where 15 tasks
 /// of the job live. The call is cut, and its task goes on at a place of its segment. A fault changes nothing.
 ///
-/// Areas under the child's stack are evicted first. `NoCore`, with nothing changed, exactly where the child's stack
-/// needs more words than core has (`need`). After `BackingFull` and `BackingFault` the machine stands for the same session.
+/// Areas under the child's stack are evicted first. `NoCore`, with nothing changed, exactly where a task is to be started
+/// and the step needs more words than core has (`need`). After `BackingFull` and `BackingFault` the machine stands for the same session.
 /// The backing is called only where a task is to be started.
 pub fn process<B: Backing>(
     machine: &mut Machine,
