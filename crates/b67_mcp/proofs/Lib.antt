@@ -1,6 +1,7 @@
 mod Behind
 pub mod Answered
-pub mod Built
+pub mod Apart
+pub mod Areas
 pub mod Callings
 pub mod Cut
 pub mod Cutting
@@ -16,7 +17,11 @@ pub mod Resizes
 pub mod Rows
 pub mod SectorSums
 pub mod Sizes
+pub mod Space
+pub mod Starting
+pub mod Still
 pub mod Tables
 pub mod Texts
 pub mod Told
 pub mod Touched
+pub mod Waitings

@@ -22,7 +22,7 @@ use Rattle.b67_task_tables.specs.Tables.{MachineRepresents}
 use Rattle.b67_mcp.specs.declared.ends.CallEnd.TheVariants as ends
 use Rattle.b67_mcp.specs.declared.ends.Stop.{Stop}
 use Rattle.b67_mcp.specs.declared.ends.Stop.TheVariants as stops
-use Rattle.b67_mcp.specs.Called.{CallsBuilt, IsThere, TouchesPresent, CallTouches, CallWrites, Lengthens}
+use Rattle.b67_mcp.specs.Called.{IsThere, TouchesPresent, CallTouches, CallWrites, Lengthens}
 use Rattle.b67_mcp.specs.Resizing.{LengthSet, ResizeAnswers}
 use Rattle.b67_mcp.proofs.Callings.{Calling}
 use Rattle.b67_mcp.proofs.Renumbered.{found}
@@ -69,14 +69,13 @@ module _ (x : Storage) (told : Option (List (List ℕ))) (old : Machine) (plan :
   touches_stopped (stops.BackingFull sum size) = touches
   touches_stopped stops.BackingFault = touches
   touches_stopped stops.PrintFault = touches
-  touches_stopped stops.Unbuilt = tt
 
   -- a stop
-  pub refused : (d : Option (List (List ℕ))) (count : ℕ) (new : Machine) (stop : Stop) → CallsBuilt m t → before < after → LengthSet d count x plan s m q.0.which.array after (Err stop) old new → ResizeAnswers d count x plan s m t (Err stop) old new
-  refused d count new (stops.BackingFull sum size) built up set =
+  pub refused : (d : Option (List (List ℕ))) (count : ℕ) (new : Machine) (stop : Stop) → before < after → LengthSet d count x plan s m q.0.which.array after (Err stop) old new → ResizeAnswers d count x plan s m t (Err stop) old new
+  refused d count new (stops.BackingFull sum size) up set =
       let long : sectors_for after ≡ sectors_for (length (take after q.0.which.array.numbers ++ replicate (after - length q.0.which.array.numbers) 0)) = ap sectors_for (sym (length_resized after q.0.which.array.numbers)) in
       record {
-        refused = record { built = built; longer = lengthens up; storage = set.left.storage; stands = set.left.stands; others = set.left.others; tables = set.left.tables };
+        refused = record { longer = lengthens up; storage = set.left.storage; stands = set.left.stands; others = set.left.others; tables = set.left.tables };
         wants = set.wants;
         free = set.free;
         short = ⊎_elim (λ l. inl l) (λ l. inr (record { longer = lengthens up; chain = l.chain; wants_is = l.wants_is ∙ long; free_is = l.free_is; fewer = l.fewer })) set.short;
@@ -84,18 +83,16 @@ module _ (x : Storage) (told : Option (List (List ℕ))) (old : Machine) (plan :
         size_is = set.size_is;
         exceeds = set.exceeds;
       }
-  refused d count new stops.BackingFault built up set = record { built = built; longer = lengthens up; storage = set.storage; stands = set.stands; others = set.others; tables = set.tables }
-  refused d count new (stops.NoCore need core) built up set = absurd set
-  refused d count new stops.PrintFault built up set = absurd set
-  refused d count new stops.Unbuilt built up set = absurd set
+  refused d count new stops.BackingFault up set = record { longer = lengthens up; storage = set.storage; stands = set.stands; others = set.others; tables = set.tables }
+  refused d count new (stops.NoCore need core) up set = absurd set
+  refused d count new stops.PrintFault up set = absurd set
 
   -- the device may have been written only then
   pub writes_done : before < after → CallWrites x plan m t (Ok ends.Done)
-  writes_done up = (lengthens up, touches)
+  writes_done up = inl (lengthens up, touches)
 
   pub writes_stopped : (y : Storage) (d : Option (List (List ℕ))) (count : ℕ) (new : Machine) (stop : Stop) → before < after → LengthSet d count y plan s m q.0.which.array after (Err stop) old new → CallWrites x plan m t (Err stop)
-  writes_stopped y d count new (stops.BackingFull sum size) up set = (lengthens up, touches)
-  writes_stopped y d count new stops.BackingFault up set = (lengthens up, touches)
+  writes_stopped y d count new (stops.BackingFull sum size) up set = inl (lengthens up, touches)
+  writes_stopped y d count new stops.BackingFault up set = inl (lengthens up, touches)
   writes_stopped y d count new (stops.NoCore need core) up set = absurd set
   writes_stopped y d count new stops.PrintFault up set = absurd set
-  writes_stopped y d count new stops.Unbuilt up set = absurd set

@@ -1,5 +1,5 @@
 -- Calls that print nothing: what one answers and leaves, and the number that READ takes.
-use Rattle.std.specs.Prelude.{◌≡◌, ℕ, List, [], Option, None, Result, Ok, Err, slice_set}
+use Rattle.std.specs.Prelude.{◌≡◌, ℕ, ◌-◌, List, [], length, Option, Some, None, Result, Ok, Err, slice_set}
 use Rattle.b67_word.specs.Tagged.{Tagged}
 use Rattle.b67_word.specs.declared.faults.Fault.{Fault}
 use Rattle.b67_model.specs.Words.{Word}
@@ -17,8 +17,13 @@ use Rattle.b67_mcp_calls.specs.Reads.{ReadMeets}
 use Rattle.b67_task_tables.specs.declared.tables.JobRow.{JobRow}
 use Rattle.b67_task_tables.specs.declared.tables.Machine.{Machine}
 use Rattle.b67_task_tables.specs.Tables.{job_row, MachineRepresents}
+use Rattle.b67_task_start.specs.Starts.{moved}
+use Rattle.b67_task_tables.specs.declared.tables.TaskState.{TaskState}
+use Rattle.b67_mcp.specs.Called.{WaitsSo, IsUnstarted, IsUnstartedFull, LacksCore}
 use Rattle.b67_mcp.specs.declared.ends.CallEnd.{CallEnd}
 use Rattle.b67_mcp.specs.declared.ends.CallEnd.TheVariants as ends
+use Rattle.b67_mcp.specs.declared.ends.Stop.{Stop}
+use Rattle.b67_mcp.specs.declared.ends.Stop.TheVariants as stops
 
 -- the call was made, and the machine stands for what its row makes; how much of the next text is printed stays
 pub record IsAnswered (told : Option (List (List ℕ))) (s : Session) (m : SessionJob) (t : Task) (old new : Machine) : Type 0 where
@@ -34,13 +39,39 @@ abbrev pub AnswerMeets : Option (List (List ℕ)) → Session → SessionJob →
 AnswerMeets told s m t (Ok done) old new = IsAnswered told s m t old new
 AnswerMeets told s m t (Err fault) old new = (step m.constants m.progress.job t ≡ Err fault) × (new ≡ old)
 
+-- the same of a call that may start a task, which counts for the peak then
+pub record IsMoved (told : Option (List (List ℕ))) (s : Session) (m : SessionJob) (t : Task) (old new : Machine) : Type 0 where
+  pub job : Job
+  pub is : step m.constants m.progress.job t ≡ Ok (Goes job [] None)
+  pub storage : Storage
+  pub plan : Placement
+  pub stands : MachineRepresents storage told new plan (moved s m job (length job.tasks - length m.progress.job.tasks))
+  pub printed : new.tasks.printed ≡ old.tasks.printed
+
+-- by what PROCESS, AWAIT, STATUS, WAIT or CAUSE answered, which print and touch nothing, over a device of so many sectors that
+-- tells this afterwards
+abbrev pub SilentMeets : Option (List (List ℕ)) → ℕ → Placement → Session → SessionJob → Task → Result CallEnd Stop → Machine → Machine → Type 0
+SilentMeets told count plan s m t (Ok ends.Done) old new = IsMoved told s m t old new
+SilentMeets told count plan s m t (Ok (ends.Fault fault)) old new = (step m.constants m.progress.job t ≡ Err fault) × (new ≡ old)
+SilentMeets told count plan s m t (Ok (ends.Waits state)) old new = WaitsSo plan m t state × (new ≡ old)
+SilentMeets told count plan s m t (Err (stops.NoCore words size)) old new = LacksCore (length old.cpu.core) s m t words size × (new ≡ old)
+SilentMeets told count plan s m t (Err (stops.BackingFull sum size)) old new = IsUnstartedFull told count plan s m t sum size old new
+SilentMeets told count plan s m t (Err stops.BackingFault) old new = IsUnstarted told plan s m t old new
+SilentMeets told count plan s m t answered old new = ⊥
+
 -- of the rows of jobs one was changed, as READ does
 pub record Takes (cpu : Cpu) (rows rows' : List JobRow) (at : ℕ) (row : JobRow) (answer : Result Tagged Fault) : Type 0 where
   pub new : JobRow
   pub is : rows' ≡ slice_set rows at new
   pub takes : ForEach cpu (λ x plan s m t. (reference : Word) (arguments : List Word) → IsCall t reference arguments → JobShows plan m (job_row row) → ReadMeets plan m t arguments row new answer)
 
--- the end of such a call
+-- the end of a call that makes its task go on
 abbrev pub end_of : Result (Unit {0}) Fault → CallEnd
 end_of (Ok done) = ends.Done
 end_of (Err fault) = ends.Fault fault
+
+-- and of one that may make it wait
+abbrev pub waiting_end : Result (Option TaskState) Fault → CallEnd
+waiting_end (Ok None) = ends.Done
+waiting_end (Ok (Some state)) = ends.Waits state
+waiting_end (Err fault) = ends.Fault fault

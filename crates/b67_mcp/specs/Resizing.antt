@@ -103,6 +103,7 @@ abbrev pub ResizeAnswers : Option (List (List ℕ)) → ℕ → Storage → Plac
 ResizeAnswers told count x plan s m t (Ok ends.Done) old new = IsResized told s m t old new
 ResizeAnswers told count x plan s m t (Ok (ends.Absent found)) old new = TouchesAbsent x plan m t found × (new ≡ old)
 ResizeAnswers told count x plan s m t (Ok (ends.Fault fault)) old new = (step m.constants m.progress.job t ≡ Err fault) × (new ≡ old)
+ResizeAnswers told count x plan s m t (Ok (ends.Waits state)) old new = ⊥
 ResizeAnswers told count x plan s m t (Err (stops.BackingFull sum size)) old new = IsFull x told count plan s m t sum size old new
 ResizeAnswers told count x plan s m t (Err stops.BackingFault) old new = IsRefused x told plan s m t old new
 ResizeAnswers told count x plan s m t (Err stop) old new = ⊥

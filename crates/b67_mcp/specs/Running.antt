@@ -8,7 +8,8 @@ use Rattle.b67_model.specs.Schedule.{Session}
 use Rattle.b67_stack.specs.Represents.{Storage}
 use Rattle.b67_layout.specs.Placement.{Placement}
 use Rattle.b67_exec_cells.specs.Running.{code_area}
-use Rattle.b67_mcp_calls.specs.Calls.{MayCut}
+use Rattle.b67_exec_calls.specs.Calls.{MayCut}
+pub use Rattle.b67_mcp_process.specs.Process.{CanNumber}
 use Rattle.b67_task_tables.specs.declared.tables.Machine.{Machine}
 use Rattle.b67_task_tables.specs.Runs.{RunsTask, ForEachRun, Keeps}
 use Rattle.b67_exec_cells.specs.Called.{called_in}

@@ -6,27 +6,33 @@ mod declare;
 mod ends;
 mod print;
 mod print_row;
+mod process;
 mod read;
 mod resize;
 mod running;
+mod stopping;
+mod waits;
 
 ghost use Rattle.std.specs.Prelude.{◌≡◌, ◌+◌, length};
 ghost use Rattle.b67_layout_storage.specs.Machine.{Says, DeviceAfterCalls, content_after};
-ghost use Rattle.b67_mcp.specs.Called.{CallsSome, CallMeets, CallTouches, CallWrites, AreCountable};
+ghost use Rattle.b67_mcp.specs.Called.{CallsSome, CallMeets, CallTouches, CallWrites, CallFits, AreCountable};
 ghost use Rattle.b67_mcp.specs.Answers.{end_of};
-ghost use Rattle.b67_mcp.specs.Running.{ForCalls, CallCauses, Kept};
+ghost use Rattle.b67_mcp.specs.Running.{CanNumber, ForCalls, CallCauses, Kept};
 
 use crate::deallocate::deallocate;
 use crate::declare::declare;
 use crate::print::print;
 use crate::print_row::print_row;
+use crate::process::start;
 use crate::read::read;
 use crate::resize::resize;
+use crate::waits::wait_for;
 use b67_backing::Backing;
 use b67_io::Sink;
 use b67_task_tables::Machine;
 use b67_word::Fault;
 pub use ends::{CallEnd, Stop};
+pub use stopping::stop_for;
 
 /// The end of a call that prints nothing.
 fn silent(done: Result<(), Fault>) -> CallEnd
@@ -38,17 +44,17 @@ fn silent(done: Result<(), Fault>) -> CallEnd
     }
 }
 
-/// Makes the call of an intrinsic at which the running task stands: ARRAYDEC, PRINT, PRINTROW, READ, DEALLOCATE or RESIZE
-/// by their rows; the others aren't built: `Unbuilt`, with nothing changed.
+/// Makes the call of an intrinsic at which the running task stands, by its row.
 ///
 /// Where its row prints, what isn't printed yet of its text (past the first `printed` bytes) is taken by the printer before
 /// anything is changed, and `printed` is then 0. `PrintFault`, with nothing changed but that `printed` is raised by the
 /// bytes that were taken, which aren't all, comes only where the printer failed. `Absent`, with nothing changed, comes
-/// exactly where the row touches an absent array. `Fault` changes nothing and prints nothing. `BackingFull`, only where
-/// the session that the call would make takes more sectors than the device has, with both, and `BackingFault`, only where
-/// the device failed, leave the machine for the same session. Where the call was made, faults, or is stopped, what its row
-/// touches is present. The backing is called only where the call makes a present array longer, and is made or stopped by the
-/// backing.
+/// exactly where the row touches an absent array. `Fault` and `Waits` change nothing and print nothing. `NoCore`, with nothing
+/// changed, comes only where the row starts a task and needs more words than core has, with both. `BackingFull`, only where
+/// the session, or the one that a RESIZE would make, takes more sectors than the device has, with both, and `BackingFault`,
+/// only where the device failed, leave the machine for the same session. Where the call was made, faults, or is stopped by the
+/// device or the printer, what its row touches is present. The backing is called only where the call makes a present array
+/// longer or starts a task, and is made or stopped by the backing.
 pub fn intrinsic<B: Backing, K: Sink>(
     machine: &mut Machine,
     n: u8,
@@ -57,10 +63,12 @@ pub fn intrinsic<B: Backing, K: Sink>(
 ) -> Result<CallEnd, Stop>
     requires calls { CallsSome machine.old n }
     requires countable { AreCountable machine.old.tasks.jobs }
+    requires number { CanNumber machine.old.tasks.jobs }
     requires same { B.size backing.old + 1 ≡ length machine.old.sectors.links }
     ensures row { ForCalls machine.old n (λ x told plan s m t. Says told (B.holds backing.old)
         → CallMeets K.taken (content_after told (B.holds backing.new)) (B.size backing.old) x plan s m t n result machine.old machine.new paper.old paper.new) }
     ensures present { ForCalls machine.old n (λ x told plan s m t. CallTouches x plan m t result) }
+    ensures fits { ForCalls machine.old n (λ x told plan s m t. CallFits (length machine.old.cpu.core) s m t result) }
     ensures quiet { ForCalls machine.old n (λ x told plan s m t. (CallWrites x plan m t result → ⊥) → backing.new ≡ backing.old) }
     ensures causes { CallCauses B.faults K.faults backing.old backing.new paper.old paper.new result }
     ensures kept { Kept machine.old machine.new }
@@ -71,8 +79,9 @@ pub fn intrinsic<B: Backing, K: Sink>(
         9 => print(machine, paper),
         10 => print_row(machine, paper),
         11 => Ok(silent(read(machine))),
+        12 => start(machine, backing),
         17 => Ok(silent(deallocate(machine))),
         18 => resize(machine, backing),
-        _ => Err(Stop::Unbuilt),
+        _ => Ok(wait_for(machine, n)),
     }
 }

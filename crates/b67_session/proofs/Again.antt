@@ -1,5 +1,5 @@
 -- After each slice, another one may be called.
-use Rattle.std.proofs.Common.{ℕ, List, length, Option, Result, Ok, Err, subst, sym, inl, inr}
+use Rattle.std.proofs.Common.{ℕ, List, length, Option, Result, Ok, Err, inl, inr}
 use Rattle.b67_model.specs.State.{Task, SessionJob}
 use Rattle.b67_model.specs.Run.{StepResult}
 use Rattle.b67_model.specs.Schedule.{Session}
@@ -25,14 +25,13 @@ module _ (known told : Option (List (List ℕ))) (k : Machine) (says : Says know
 
   by_answer : (exact : Type 0) (core count n steps : ℕ) (s : Session) (is_due : List ℕ) (answered : Result Progress Stop) → SliceMeets known exact core count n steps s is_due answered k → IsOpen told k
   by_answer exact core count n steps s is_due (Ok progress.Ended) h = rests s h
-  by_answer exact core count n steps s is_due (Ok progress.Halted) (halt, (h, (m, t, n))) = lives s m t h n
-  by_answer exact core count n steps s is_due (Ok progress.More) (all, halt, (h, (m, t, n))) = lives s m t h n
+  by_answer exact core count n steps s is_due (Ok progress.Halted) (halt, (h, (m, t, next))) = lives s m t h next
+  by_answer exact core count n steps s is_due (Ok progress.More) (all, halt, (h, (m, t, next))) = lives s m t h next
   by_answer exact core count n steps s is_due (Err (stops.NoCore words size)) meets = lives s meets.0.member meets.0.task meets.0.stands meets.0.next
   by_answer exact core count n steps s is_due (Err (stops.BackingFull sum size)) meets = lives s meets.0.member meets.0.task meets.0.stands meets.0.next
   by_answer exact core count n steps s is_due (Err stops.BackingFault) meets = lives s meets.0.member meets.0.task meets.0.stands meets.0.next
   by_answer exact core count n steps s is_due (Err stops.PrintFault) (proper, inl (b, room)) = lives s b.member b.task b.stands b.next
   by_answer exact core count n steps s is_due (Err stops.PrintFault) (proper, inr (part, h)) = limited s part h
-  by_answer exact core count n steps s is_due (Err stops.Unbuilt) meets = lives s meets.0.member meets.0.task meets.0.stands meets.0.next
 
 pub open_again : {K : Type 0} (taken : K → Option (List ℕ)) (known told : Option (List (List ℕ))) (exact : Type 0) (count n : ℕ) (first : Session) (answered : Result Progress Stop) (old new : Machine) (paper paper' : K)
     → Says known told → AreCountable new.tasks.jobs → Slices taken known exact count n first answered old new paper paper' → IsOpen told new

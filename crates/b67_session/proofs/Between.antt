@@ -1,10 +1,10 @@
 -- A step whose first part was made, by how its last part ended.
-use Rattle.std.proofs.Common.{◌≡◌, ◌≢◌, ℕ, ◌+◌, ◌<◌, ◌≤◌, List, [], ◌∷◌, ◌++◌, length, Option, Some, None, Result, Ok, Err, refl, sym, ap, ◌∙◌, subst, arith, inl, inr, append-nil}
+use Rattle.std.proofs.Common.{◌≡◌, ℕ, ◌+◌, ◌<◌, List, [], ◌++◌, length, Option, Some, None, Result, Ok, Err, refl, sym, ap, ◌∙◌, subst, arith, inr, append-nil}
 use Rattle.std.specs.Option.{option_or}
 use Rattle.std.proofs.lemmas.Option.{none-some}
 use Rattle.b67_word.specs.declared.faults.Failed.{Failed}
 use Rattle.b67_model.specs.Lines.{run_text}
-use Rattle.b67_model.specs.Run.{RunLine, StepResult, next}
+use Rattle.b67_model.specs.Run.{RunLine, StepResult}
 use Rattle.b67_model.specs.Schedule.{Session}
 use Rattle.b67_session_lines.specs.Moments.{first_part, last_part, text_of, joined, due}
 use Rattle.b67_session_lines.proofs.Joins.{steps-have-parts}
@@ -17,11 +17,10 @@ use Rattle.b67_task_tables.specs.declared.tables.Tasks.{Tasks}
 use Rattle.b67_task_tables.specs.declared.tables.Machine.{Machine}
 use Rattle.b67_task_tables.specs.Tables.{MachineRepresents}
 use Rattle.b67_session_attempt.specs.Stops.{Stop}
-use Rattle.b67_session_attempt.specs.Stops as stops
 use Rattle.b67_session_ends.specs.Ends.{Finishes, KeepsCounts}
-use Rattle.b67_session_ends.specs.Machines.{StandsAt, IsLimited}
-use Rattle.b67_session.specs.Slices.{Prints, PrintsWhole, NextFits}
-use Rattle.b67_session.specs.Steps.{StepGives, Leads, makes, halves, Steps, StopOf}
+use Rattle.b67_session_ends.specs.Machines.{StandsAt}
+use Rattle.b67_session.specs.Slices.{Prints, NextFits}
+use Rattle.b67_session.specs.Steps.{StepGives, makes, halves, Steps, StopOf}
 use Rattle.b67_session.proofs.Printing.{prints_rest, prints_more, prints_then}
 
 -- The first part of a step of a session was printed and made, and the step is counted. Where the device tells, it is that

@@ -1,5 +1,6 @@
 -- What a step says of failures, and what it keeps, by what its parts do.
-use Rattle.std.proofs.Common.{◌≡◌, ◌≢◌, ◌≤◌, ℕ, length, Option, Result, Ok, Err, refl, sym, ap, ◌∙◌, arith}
+use Rattle.std.proofs.Common.{◌≡◌, ◌≢◌, ◌≤◌, ℕ, length, Result, Err, ap, ◌∙◌, arith}
+use Rattle.b67_backing.specs.Shelf.{Table}
 use Rattle.b67_io.specs.Causes.{Rose}
 use Rattle.b67_task_tables.specs.declared.tables.Tasks.{Tasks}
 use Rattle.b67_task_tables.specs.declared.tables.Machine.{Machine}
@@ -7,6 +8,7 @@ use Rattle.b67_task_tables.specs.Tables.{row_names}
 use Rattle.b67_session_attempt.specs.Passed.{CallCauses}
 use Rattle.b67_session_attempt.specs.Stops.{Stop}
 use Rattle.b67_session_attempt.specs.Stops as stops
+use Rattle.b67_session_ends.specs.Closing.{KeepsNames}
 use Rattle.b67_session_ends.specs.Ends.{KeepsCounts}
 use Rattle.b67_session.specs.Slices.{Keeps}
 
@@ -26,3 +28,16 @@ keeps_then old mid last a b = record {
   halt = ap (λ (z : Tasks). z.halt) b.tasks ∙ a.halt;
   names = ap (λ (z : Tasks). row_names z.jobs) b.tasks ∙ a.names;
 }
+
+-- the tables with another running row, and then an attempt
+pub turn_keeps : (old mid new : Machine) (row : ℕ) → mid.tasks ≡ record old.tasks { rows = mid.tasks.rows; running = row } → length mid.cpu.core ≡ length old.cpu.core → mid.sectors ≡ old.sectors → Keeps mid new → Keeps old new
+turn_keeps old mid new row tables core sectors k = record {
+  core = k.core ∙ core;
+  sectors = k.sectors ∙ ap (λ (z : Table). length z.links) sectors;
+  halt = k.halt ∙ ap (λ (z : Tasks). z.halt) tables;
+  names = k.names ∙ ap (λ (z : Tasks). row_names z.jobs) tables;
+}
+
+-- and a task's end, or its wait
+pub close_keeps : (old mid new : Machine) → Keeps old mid → KeepsNames mid new → Keeps old new
+close_keeps old mid new a b = record { core = b.core ∙ a.core; sectors = b.sectors ∙ a.sectors; halt = b.halt ∙ a.halt; names = b.names ∙ a.names }

@@ -24,7 +24,7 @@ use Rattle.b67_session_attempt.specs.Stops as stops
 use Rattle.b67_session_attempt.proofs.Runs.{caused_stop, caused_later}
 use Rattle.b67_session.specs.declared.slices.Progress.{Progress}
 use Rattle.b67_session.specs.declared.slices.Progress.TheVariants as progress
-use Rattle.b67_session.specs.Slices.{StandsAt, LivesOn, GoesOn, RepresentsWithoutTasks, Keeps, Reaches, whole, but_limit, Prints, PrintsWhole, StepsFit, StopsWithRoom, IfPresent, StopsBefore, SliceMeets, Slices}
+use Rattle.b67_session.specs.Slices.{StandsAt, LivesOn, RepresentsWithoutTasks, Keeps, Reaches, whole, but_limit, Prints, PrintsWhole, StepsFit, StopsWithRoom, IfPresent, StopsBefore, SliceMeets, Slices}
 use Rattle.b67_session.specs.Steps.{StepGives, Leads, stays, makes, halves, Steps}
 use Rattle.b67_session.proofs.Printing.{prints_none, prints_then, prints_before}
 use Rattle.b67_session.proofs.Fitting.{fits_then, below_then, whole_then}
@@ -138,7 +138,6 @@ stop_meets known exact sure core count n steps more s is_due stops.BackingFault 
     (stops_later known n steps more s new few m.0, record { lacks = λ e. lacks.lacks (up e); room = λ e. lacks.room (up e) })
 stop_meets known exact sure core count n steps more s is_due stops.PrintFault new up few (proper, inl (b, room)) = (proper, inl (stops_later known n steps more s new few b, λ e. room (up e)))
 stop_meets known exact sure core count n steps more s is_due stops.PrintFault new up few (proper, inr limited) = (proper, inr limited)
-stop_meets known exact sure core count n steps more s is_due stops.Unbuilt new up few m = (stops_later known n steps more s new few m.0, m.1, m.2, m.3)
 
 module _ {K : Type 0} (taken : K → Option (List ℕ)) (exact : Type 0) (known : Option (List (List ℕ))) (count n steps : ℕ) (first : Session) (old now : Machine) (paper paper' : K) (g : Going taken exact known steps first old now paper paper') where
   pub going-lives : (told : Option (List (List ℕ))) → Says known told → now.tasks.rows.items ≢ [] → LivesOn told now
@@ -289,7 +288,6 @@ stop_rooms core s m t stop step is room = by stop (subst (λ (z : Result (Unit {
   by (stops.BackingFull sum size) r = r
   by stops.BackingFault r = r
   by stops.PrintFault r = tt
-  by stops.Unbuilt r = tt
 
 -- and what it says of a failure
 pub stop_causes : {D K : Type 0} (failed : D → ℕ) (refused : K → ℕ) (stop : Stop) (step : Result (Unit {0}) Stop) (a b c : D) (p q r : K) → step ≡ Err stop → failed a ≤ failed b → refused p ≤ refused q

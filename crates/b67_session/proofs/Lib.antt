@@ -1,4 +1,4 @@
-pub mod Built
+pub mod Lively
 pub mod Next
 pub mod Texts
 pub mod Printing

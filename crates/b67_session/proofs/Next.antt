@@ -1,5 +1,5 @@
 -- The task that makes the next step: its row, its need, and the same task over other numbers.
-use Rattle.std.proofs.Common.{◌≡◌, ℕ, ◌≤◌, List, map, Option, Some, None, refl, sym, ap, ◌∙◌, subst}
+use Rattle.std.proofs.Common.{◌≡◌, ℕ, ◌≤◌, List, map, Option, Some, refl, sym, ap, ◌∙◌, subst}
 use Rattle.std.specs.Prelude.{option_map}
 use Rattle.std.specs.List.{slice_get}
 use Rattle.std.proofs.lemmas.Option.{same_Some}
@@ -10,7 +10,7 @@ use Rattle.b67_model.specs.Keyed.{keyed}
 use Rattle.b67_model.specs.InOrder.{IsSegment, JobInOrder, IsInOrderButPlaces}
 use Rattle.b67_model.specs.Need.{need, need_of_job, need_by}
 use Rattle.b67_model.specs.Run.{number_of}
-use Rattle.b67_model.specs.Schedule.{Who, Session, Choice, choice}
+use Rattle.b67_model.specs.Schedule.{Who, Session, Choice}
 use Rattle.b67_model.specs.State.{Task, SessionJob}
 use Rattle.b67_law_order.proofs.Numbered.{keyed_member}
 use Rattle.b67_law_order_steps.specs.Weaker.{OtherNumbers, AllOtherNumbers}
@@ -21,7 +21,7 @@ use Rattle.b67_layout.specs.Rows.{TaskShows}
 use Rattle.b67_layout.specs.Session.{RowsFit, IsRunning}
 use Rattle.b67_layout.proofs.Sessions.{running_only}
 use Rattle.b67_layout_step.proofs.Alike.{rows_alike}
-use Rattle.b67_presence.proofs.Others.{others_alike, RunsOther, others_running}
+use Rattle.b67_presence.proofs.Others.{others_alike, others_running}
 use Rattle.b67_task_switch.specs.Turns.{with_running}
 use Rattle.b67_task_tables.specs.declared.tables.TaskRow.{TaskRow}
 use Rattle.b67_task_tables.specs.declared.tables.Tasks.{Tasks}

@@ -1,8 +1,7 @@
 -- Texts that are printed in parts, one after the other.
-use Rattle.std.proofs.Common.{◌≡◌, ℕ, ◌+◌, ◌<◌, ◌≤◌, List, [], ◌∷◌, ◌++◌, length, max, take, Option, sym, ap, ◌∙◌, subst, arith, append-nil, append_assoc, length-append}
-use Rattle.std.proofs.lemmas.List.{take_all, take-append-le}
-use Rattle.b67_io.specs.Line.{ended}
-use Rattle.b67_io.specs.Told.{Took, Continues}
+use Rattle.std.proofs.Common.{◌≡◌, ℕ, List, [], ◌++◌, take, Option, sym, ap, ◌∙◌, subst, arith, append-nil, append_assoc, length-append}
+use Rattle.std.proofs.lemmas.List.{take-append-le}
+use Rattle.b67_io.specs.Told.{Took}
 use Rattle.b67_io.proofs.Joined.{Took-none, Took-then}
 use Rattle.b67_session_lines.specs.Parts.{TookRest, TookMore}
 use Rattle.b67_model.specs.Lines.{run_text}
@@ -47,25 +46,6 @@ prints_then taken a b c x y z i j k one two p q = record {
 -- where nothing of what is due next is printed, that may be anything
 pub prints_before : {K : Type 0} (taken : K → Option (List ℕ)) (a b : K) (x y z : List ℕ) (i j : ℕ) (one : List RunLine) → j ≡ 0 → Prints taken a b x i one y j → Prints taken a b x i one z j
 prints_before taken a b x y z i j one none p = record { text = p.text; took = p.took; same = p.same ∙ ap (λ (n : ℕ). run_text one ++ take n y) none ∙ sym (ap (λ (n : ℕ). run_text one ++ take n z) none) }
-
--- a line and its end that were put from so many bytes on
-pub line_rest : {K : Type 0} (taken : K → Option (List ℕ)) (old new : K) (line : List ℕ) (before after : ℕ) → Continues taken old new ([] ++ ended line ++ []) before after → after ≡ max before (0 + (length line + 1)) → TookRest taken old new (ended line) before
-line_rest taken old new line before after c whole =
-    let text : [] ++ ended line ++ [] ≡ ended line = append-nil (ended line) in
-    let long : length (ended line) ≤ after = omega (arith, whole, length-append line (10 ∷ [])) in
-    record {
-      rest = c.printed;
-      took = c.took;
-      same = ap (λ (xs : List ℕ). take before xs ++ c.printed) (sym text) ∙ c.same ∙ ap (λ (xs : List ℕ). take after xs) text ∙ take_all after (ended line) long;
-    }
-
-pub line_more : {K : Type 0} (taken : K → Option (List ℕ)) (old new : K) (line : List ℕ) (before after : ℕ) → Continues taken old new ([] ++ ended line ++ []) before after → before ≤ after → after < 0 + (length line + 1)
-    → TookMore taken old new (ended line) before after
-line_more taken old new line before after c later proper = record {
-  continues = subst (λ (xs : List ℕ). Continues taken old new xs before after) (append-nil (ended line)) c;
-  later = later;
-  proper = omega (arith, proper, length-append line (10 ∷ []));
-}
 
 -- a part of a text is a part of one that goes on
 pub TookMore-more : {K : Type 0} {taken : K → Option (List ℕ)} {a b : K} (x y : List ℕ) (before after : ℕ) → TookMore taken a b x before after → TookMore taken a b (x ++ y) before after

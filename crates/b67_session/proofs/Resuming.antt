@@ -1,9 +1,8 @@
 -- A slice that begins with the lines of LIMIT.
-use Rattle.std.proofs.Common.{◌≡◌, ◌≢◌, ◌<◌, ℕ, Bool, true, false, List, [], ◌∷◌, length, map, Option, Some, None, Result, Ok, Err, refl, sym, ap, ◌∙◌, subst, inl, inr, ◌⊎◌}
+use Rattle.std.proofs.Common.{◌≡◌, ◌≢◌, ◌<◌, ℕ, Bool, true, false, List, [], ◌∷◌, length, map, Option, Ok, Err, refl, sym, ap, ◌∙◌, subst, inl, inr, ◌⊎◌}
 use Rattle.std.specs.Prelude.{is_some}
 use Rattle.std.specs.Option.{option_or}
 use Rattle.std.proofs.lemmas.Bool.{true≢false}
-use Rattle.std.proofs.lemmas.Option.{none-some}
 use Rattle.b67_word.specs.declared.faults.Failed.{Failed}
 use Rattle.b67_lemmas.specs.Lists.{Has}
 use Rattle.b67_lemmas.proofs.Members.{keyed_has}
@@ -13,7 +12,7 @@ use Rattle.b67_model.specs.Run.{StepResult, number_of}
 use Rattle.b67_model.specs.Schedule.{Session}
 use Rattle.b67_session_lines.specs.Moments.{first_part, last_part, text_of, due}
 use Rattle.b67_law_turns.specs.Turns.{IsNext, OrderAfter}
-use Rattle.b67_law_turns.proofs.Limits.{LimitOf, limit_of, no_last, last_parts_restore_order}
+use Rattle.b67_law_turns.proofs.Limits.{limit_of, no_last, last_parts_restore_order}
 use Rattle.b67_layout.specs.Placement.{Placement}
 use Rattle.b67_model.specs.InOrder.{NumberedFrom, IsInOrderButPlaces}
 use Rattle.b67_session_attempt.specs.Stops as stops

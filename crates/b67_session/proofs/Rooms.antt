@@ -1,25 +1,25 @@
 -- One operator more fits the counts after it was made, and which row is the running task's.
-use Rattle.std.proofs.Common.{◌≡◌, ℕ, ◌+◌, ◌-◌, ◌<◌, ◌≤◌, ◌^◌, List, length, map, Option, Some, None, refl, sym, ap, ◌∙◌, subst, arith}
-use Rattle.std.specs.List.{slice_get}
+use Rattle.std.proofs.Common.{◌≡◌, ℕ, ◌+◌, ◌-◌, ◌<◌, ◌≤◌, ◌^◌, List, [], ◌∷◌, inl, inr, map, Option, Some, None, refl, sym, ap, ◌∙◌, subst, arith}
+use Rattle.std.specs.List.{AllByRecursion, slice_get}
 use Rattle.std.proofs.lemmas.List.{length-map}
 use Rattle.b67_lemmas.specs.Lists.{Has}
-use Rattle.b67_lemmas.proofs.Members.{has_get, keyed_has}
+use Rattle.b67_lemmas.proofs.Members.{has_get, has_map, keyed_has}
 use Rattle.b67_lemmas.proofs.Places.{mapped_at}
 use Rattle.b67_model.specs.State.{Task, SessionJob}
 use Rattle.b67_model.specs.Schedule.{Session}
 use Rattle.b67_model.specs.Run.{number_of}
-use Rattle.b67_model.specs.InOrder.{NumberedFrom}
+use Rattle.b67_model.specs.InOrder.{IsSegment, JobInOrder, NumberedFrom, IsInOrderButPlaces}
 use Rattle.b67_law_order.proofs.Numbered.{keyed_member, numbered_low}
 use Rattle.b67_stack.specs.declared.Cpu.{Cpu}
 use Rattle.b67_stack.specs.Represents.{Storage}
 use Rattle.b67_layout.specs.Placement.{Placement}
 use Rattle.b67_layout.specs.Orders.{IsInOrderButCounts}
 use Rattle.b67_layout.specs.Rows as rows
-use Rattle.b67_layout.specs.Rows.{RunningRow, TaskShows}
+use Rattle.b67_layout.specs.Rows.{RunningRow, TaskShows, JobsShow}
 use Rattle.b67_layout.specs.Session.{IsRunning, RepresentsSession}
 use Rattle.b67_layout.proofs.Rows.{slot_below}
 use Rattle.b67_layout.proofs.Sessions.{running_only}
-use Rattle.b67_task_tables.specs.declared.tables.TaskRow.{TaskRow}
+use Rattle.b67_task_tables.specs.declared.tables.JobRow.{JobRow}
 use Rattle.b67_task_tables.specs.declared.tables.Tasks.{Tasks}
 use Rattle.b67_task_tables.specs.Tables.{task_row, job_row, switch_of, TasksShow}
 use Rattle.b67_task_switch.proofs.Tables.{job_at, live_in_order}
@@ -43,6 +43,20 @@ room_for plan shown y tasks c numbered shows among number few all turn =
       turn = turn;
       next = omega (arith, shows.counts.next, length-map tasks.switches switch_of);
     }
+
+-- each job's next task can be numbered
+numbers_by : (plan : Placement) (jobs : List SessionJob) (shown : List rows.JobRow) → JobsShow plan jobs shown → AllByRecursion (λ (y : SessionJob). JobInOrder (IsSegment y.constants) y.constants y.progress) jobs
+    → (r : rows.JobRow) → Has shown r → r.next_task + 1 < 2 ^ 32
+numbers_by plan [] [] shows all r h = absurd h
+numbers_by plan [] (q ∷ shown) shows all r h = absurd shows
+numbers_by plan (y ∷ jobs) [] shows all r h = absurd h
+numbers_by plan (y ∷ jobs) (q ∷ shown) shows all r (inl same) =
+    let j = all.0 in
+    omega (arith, ap (λ (z : rows.JobRow). z.next_task) same, shows.0.next_task, j.counts.next, j.counts.within, j.unchanging.limit)
+numbers_by plan (y ∷ jobs) (q ∷ shown) shows all r (inr later) = numbers_by plan jobs shown shows.1 all.1 r later
+
+pub can_number : (plan : Placement) (s : Session) (tasks : Tasks) → IsInOrderButPlaces s → TasksShow plan s tasks → (r : JobRow) → Has tasks.jobs r → r.next_task + 1 < 2 ^ 32
+can_number plan s tasks o shows r h = numbers_by plan s.jobs (map job_row tasks.jobs) shows.jobs o.jobs (job_row r) (has_map job_row tasks.jobs r h)
 
 -- the row of the running task
 pub running_row : (x : Storage) (cpu : Cpu) (tasks : Tasks) (plan : Placement) (s : Session) (m : SessionJob) (t : Task) (at : ℕ) → IsInOrderButCounts s → RepresentsSession x cpu plan s → TasksShow plan s tasks → IsRunning plan s.jobs m t → tasks.running ≡ at

@@ -1,15 +1,15 @@
 -- A step that wasn't made: what it answers, prints and leaves.
-use Rattle.std.proofs.Common.{◌≡◌, ◌≢◌, ℕ, ◌+◌, ◌<◌, ◌≤◌, List, [], ◌∷◌, ◌++◌, length, map, Option, Some, None, Result, Ok, Err, refl, sym, ap, ◌∙◌, subst, arith, inl, inr}
+use Rattle.std.proofs.Common.{◌≡◌, ◌≢◌, ℕ, ◌+◌, ◌<◌, ◌≤◌, List, [], ◌++◌, length, map, Option, Some, None, Result, Ok, Err, refl, sym, ap, ◌∙◌, subst, arith, inl}
 use Rattle.std.proofs.lemmas.List.{map-append}
 use Rattle.b67_word.specs.declared.faults.Ending.{Ending}
 use Rattle.b67_model.specs.State.{Task, Job, SessionJob}
-use Rattle.b67_model.specs.Endings.{Settled, goes_on}
+use Rattle.b67_model.specs.Endings.{Stepped, goes_on}
 use Rattle.b67_model.specs.Steps.{Line, Ends, Goes}
 use Rattle.b67_model.specs.Lines.{run_text}
 use Rattle.b67_model.specs.Need.{need}
 use Rattle.b67_model.specs.Rows.{step}
 use Rattle.b67_model.specs.Run.{RunLine, StepResult, of_job}
-use Rattle.b67_model.specs.Schedule.{Session, Choice}
+use Rattle.b67_model.specs.Schedule.{Session}
 use Rattle.b67_single.specs.Single.{task_lines}
 use Rattle.b67_law_turns.specs.Turns.{IsNext, part_of}
 use Rattle.b67_law_turns.proofs.Halves.{first_by}
@@ -21,11 +21,11 @@ use Rattle.b67_task_tables.specs.Tables.{MachineRepresents}
 use Rattle.b67_session_schedule.specs.declared.counting.Chosen.{Chosen}
 use Rattle.b67_session_attempt.specs.Stops.{Stop}
 use Rattle.b67_session_attempt.specs.Stops as stops
-use Rattle.b67_session_attempt.specs.declared.attempts.Attempt.TheVariants as attempts
+use Rattle.b67_session_attempt.specs.declared.attempts.Attempt.{Attempt}
 use Rattle.b67_session_attempt.specs.Attempts.{StillStands, StandsLacking}
-use Rattle.b67_session.specs.Slices.{StandsAt, Prints, Lacks, StopsBefore, SliceMeets}
+use Rattle.b67_session.specs.Slices.{Prints, Lacks, StopsBefore, SliceMeets}
 use Rattle.b67_session.specs.Steps.{stays, Steps}
-use Rattle.b67_session.proofs.Halved.{due_first, still, end_part, end_count, end_due}
+use Rattle.b67_session.proofs.Halved.{due_first, ClosesSo, close_part, close_count, close_due}
 use Rattle.b67_session.proofs.Next.{job_is}
 use Rattle.b67_session.proofs.Texts.{run_text-append}
 use Rattle.b67_session.proofs.Printing.{prints_none, prints_more, TookMore-more}
@@ -50,17 +50,18 @@ module _ (s : Session) (m : SessionJob) (t : Task) (n : IsNext s m t) where
 
 module _ {K : Type 0} (taken : K → Option (List ℕ)) (known known' : Option (List (List ℕ))) (core count before : ℕ) (s : Session) (c : Chosen) (k : Machine) (paper paper' : K) where
   -- ---- the printer failed in the lines of the endings
-  module _ (ending : Ending) (h : Attempted taken known known' core count before s c (Ok (attempts.Ends ending)) k paper paper') where
+  module _ (answered : Result Attempt Stop) (made : Stepped) (h : Attempted taken known known' core count before s c answered k paper paper')
+      (so : ClosesSo known known' core k paper paper' h.plan h.session h.member h.task h.next.chosen made) where
     pub cut_steps : (old new : Machine) (paper'' : K) → old.tasks.made ≡ s.made → old.tasks.printed ≡ before → k.tasks.printed ≡ before → length old.cpu.core ≡ core → old.tasks.halt ≢ Some old.tasks.made → k.tasks.halt ≡ old.tasks.halt
-        → TookMore taken paper' paper'' (run_text (end_part taken known known' core count before s c k paper paper' ending h).lines) k.tasks.printed new.tasks.printed → new ≡ record k { tasks = record k.tasks { printed = new.tasks.printed } }
+        → TookMore taken paper' paper'' (run_text (close_part taken known known' core count before s c k paper paper' answered made h so).lines) k.tasks.printed new.tasks.printed → new ≡ record k { tasks = record k.tasks { printed = new.tasks.printed } }
         → Steps taken known' (known ≢ None) count s (Err stops.PrintFault) old new paper paper''
     cut_steps old new paper'' om op kp size due_now halt more only =
-        let text = run_text (end_part taken known known' core count before s c k paper paper' ending h).lines in
-        let there = still taken known known' core count before s c k paper paper' ending h in
-        let counted : k.tasks.made ≡ s.made = end_count taken known known' core count before s c k paper paper' ending h in
-        let is : known ≢ None → text ≡ due h.session = end_due taken known known' core count before s c k paper paper' ending h in
+        let text = run_text (close_part taken known known' core count before s c k paper paper' answered made h so).lines in
+        let there = so.still in
+        let counted : k.tasks.made ≡ s.made = close_count taken known known' core count before s c k paper paper' answered made h so in
+        let is : known ≢ None → text ≡ due h.session = close_due taken known known' core count before s c k paper paper' answered made h so in
         let P : K → ℕ → Type 0 = λ z n. Prints taken z paper'' text n [] text new.tasks.printed in
-        let made : new.tasks.made ≡ k.tasks.made = ap (λ (z : Machine). z.tasks.made) only in
+        let made_is : new.tasks.made ≡ k.tasks.made = ap (λ (z : Machine). z.tasks.made) only in
         let halted : new.tasks.halt ≡ k.tasks.halt = ap (λ (z : Machine). z.tasks.halt) only in
         let stood : MachineRepresents there.0 known' new h.plan h.session =
         subst (λ (z : Machine). MachineRepresents there.0 known' z h.plan h.session) (sym only) (record { session = there.1.session; storage = there.1.storage; tables = there.1.tables }) in
@@ -74,24 +75,24 @@ module _ {K : Type 0} (taken : K → Option (List ℕ)) (known known' : Option (
           leads = λ tells. stays refl refl refl;
           fits = λ tells one. absurd (omega (arith, one));
           texts = λ fine. absurd (fine refl);
-          made = made ∙ counted ∙ sym om ∙ omega arith;
+          made = made_is ∙ counted ∙ sym om ∙ omega arith;
           was_due = text;
           is_due = text;
           was_is = is;
           next_is = is;
-          prints = subst (P paper) (kp ∙ sym op) (subst (λ z. P z k.tasks.printed) h.meets.2 (prints_more taken paper' paper'' text text k.tasks.printed new.tasks.printed refl more));
+          prints = subst (P paper) (kp ∙ sym op) (subst (λ z. P z k.tasks.printed) so.silent (prints_more taken paper' paper'' text text k.tasks.printed new.tasks.printed refl more));
           meets = (
             more.proper,
             inl (
               record {
                 left = omega arith;
-                halt = still_due old.tasks new.tasks due_now (halted ∙ halt) (made ∙ counted ∙ sym om);
+                halt = still_due old.tasks new.tasks due_now (halted ∙ halt) (made_is ∙ counted ∙ sym om);
                 stands = record { storage = there.0; plan = h.plan; ordered = h.ordered; stands = stood };
                 member = h.member;
                 task = h.task;
                 next = h.next;
               },
-              λ tells. subst (λ (n : ℕ). need n h.session h.member h.task ≤ n) (sym size) (h.room tells),
+              λ tells. subst (λ (n : ℕ). need n h.session h.member h.task ≤ n) (sym size) (so.room tells),
             ),
           );
         }
@@ -170,8 +171,3 @@ module _ {K : Type 0} (taken : K → Option (List ℕ)) (known known' : Option (
       stayed stops.PrintFault h old om size due_now halt still (λ other. absurd (other refl))
       (subst (λ (n : ℕ). Prints taken paper paper' (due h.session) n [] (due h.session) k.tasks.printed) (sym op) (prints_more taken paper paper' text (due h.session) before k.tasks.printed due_is more))
       (subst (λ (d : List ℕ). k.tasks.printed < length d) (sym due_is) more.proper, inl (before_next stops.PrintFault h old om size due_now halt still, h.room))
-  stop_steps stops.Unbuilt h old om op size due_now halt kp =
-      let (n, calls, high, still, printed) = h.meets in
-      let silent = kp (λ e. absurd cc) in
-      stayed stops.Unbuilt h old om size due_now halt still (λ other. (silent, printed)) (prints_none taken paper paper' (due h.session) old.tasks.printed k.tasks.printed printed silent)
-      (before_next stops.Unbuilt h old om size due_now halt still, n, calls, high)

@@ -1,10 +1,8 @@
 -- What a step leaves of the tables' counts.
-use Rattle.std.proofs.Common.{◌≡◌, ◌≢◌, ℕ, Ok, Err, refl, ap}
-use Rattle.b67_word.specs.declared.faults.Ending.{Ending}
+use Rattle.std.proofs.Common.{◌≡◌, ◌≢◌, ℕ, Err, refl, ap}
 use Rattle.b67_task_tables.specs.declared.tables.Tasks.{Tasks}
 use Rattle.b67_session_attempt.specs.Stops.{Stop}
 use Rattle.b67_session_attempt.specs.Stops as stops
-use Rattle.b67_session_attempt.specs.declared.attempts.Attempt.TheVariants as attempts
 use Rattle.b67_session_attempt.specs.Attempts.{TablesStay}
 
 -- a stop but a printer's leaves the tables
@@ -13,21 +11,7 @@ stop_printed (stops.NoCore words size) old new same other = ap (λ (z : Tasks). 
 stop_printed (stops.BackingFull sum size) old new same other = ap (λ (z : Tasks). z.printed) same
 stop_printed stops.BackingFault old new same other = ap (λ (z : Tasks). z.printed) same
 stop_printed stops.PrintFault old new same other = absurd (other refl)
-stop_printed stops.Unbuilt old new same other = ap (λ (z : Tasks). z.printed) same
-
-pub stop_made : (stop : Stop) (old new : Tasks) → TablesStay (Err stop) old new → new.made ≡ old.made
-stop_made (stops.NoCore words size) old new same = ap (λ (z : Tasks). z.made) same
-stop_made (stops.BackingFull sum size) old new same = ap (λ (z : Tasks). z.made) same
-stop_made stops.BackingFault old new same = ap (λ (z : Tasks). z.made) same
-stop_made stops.PrintFault old new same = ap (λ (z : Tasks). z.made) same
-stop_made stops.Unbuilt old new same = ap (λ (z : Tasks). z.made) same
-
-pub ended_printed : (ending : Ending) (old new : Tasks) → TablesStay (Ok (attempts.Ends ending)) old new → new.printed ≡ old.printed
-ended_printed ending old new same = ap (λ (z : Tasks). z.printed) same
 
 -- another row runs, with the same counts
 pub turned_printed : (old new : Tasks) (row : ℕ) → new ≡ record old { rows = new.rows; running = row } → new.printed ≡ old.printed
 turned_printed old new row same = ap (λ (z : Tasks). z.printed) same
-
-pub turned_made : (old new : Tasks) (row : ℕ) → new ≡ record old { rows = new.rows; running = row } → new.made ≡ old.made
-turned_made old new row same = ap (λ (z : Tasks). z.made) same

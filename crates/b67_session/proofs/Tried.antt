@@ -2,8 +2,9 @@
 use Rattle.std.proofs.Common.{◌≡◌, ◌≢◌, ℕ, List, length, Option, Some, None, Result, Ok, Err, refl, sym, ap, ◌∙◌, subst}
 use Rattle.b67_word.specs.declared.faults.Ending.{Ending}
 use Rattle.b67_word.specs.declared.faults.Failed.{Failed}
-use Rattle.b67_model.specs.Endings.{ends_with}
-use Rattle.b67_model.specs.State.{Task, SessionJob}
+use Rattle.b67_model.specs.Endings.{Stepped, ends_with}
+use Rattle.b67_model.specs.Run.{StepResult}
+use Rattle.b67_model.specs.State.{Condition, Task, SessionJob}
 use Rattle.b67_model.specs.Schedule.{Session}
 use Rattle.b67_law_turns.specs.Orders.{IsInOrderButLimit}
 use Rattle.b67_law_turns.specs.Turns.{IsNext, part_of}
@@ -11,6 +12,7 @@ use Rattle.b67_stack.specs.Represents.{Storage}
 use Rattle.b67_layout_storage.specs.Machine.{Says, content_after}
 use Rattle.b67_layout.specs.Placement.{Placement}
 use Rattle.b67_exec_cells.specs.Running.{code_area}
+use Rattle.b67_task_tables.specs.declared.tables.TaskState.{TaskState}
 use Rattle.b67_task_tables.specs.declared.tables.Tasks.{Tasks}
 use Rattle.b67_task_tables.specs.declared.tables.Machine.{Machine}
 use Rattle.b67_task_tables.specs.Tables.{MachineRepresents}
@@ -24,14 +26,15 @@ use Rattle.b67_session_attempt.specs.declared.attempts.Attempt.TheVariants as at
 use Rattle.b67_session_ends.specs.Closing.{StandsChosen, ChoseSome, Closes}
 use Rattle.b67_session_ends.specs.Counts.{IsCounted}
 use Rattle.b67_session_ends.specs.Ends.{StandsBetween, KeepsCounts}
+use Rattle.b67_session_waits.specs.Holds.{holding, HoldsSo, HoldsSome}
 use Rattle.b67_session.specs.Slices.{StandsAt, StopsWithRoom, IfPresent}
 use Rattle.b67_session.specs.Steps.{StopOf, EndsStep, Steps}
 use Rattle.b67_session.proofs.Between.{IsHalfMade, finished}
-use Rattle.b67_session.proofs.Halved.{made_room, made_half, ends_room, still, chosen_stands, chose_some, ends_half, between_of}
+use Rattle.b67_session.proofs.Halved.{ClosesSo, made_room, made_half, close_room, chosen_stands, close_half, ends_so, waits, wait_made, waits_so, holds_so, between_of}
 use Rattle.b67_session.proofs.Next.{as_next}
 use Rattle.b67_session.proofs.Stopped.{cut_steps, stop_steps}
 use Rattle.b67_session.proofs.Turned.{NextOf, Tries, Attempted, attempted, n, quiet_here, room_there}
-use Rattle.b67_session.proofs.Tabled.{stop_printed, ended_printed, turned_printed}
+use Rattle.b67_session.proofs.Tabled.{stop_printed, turned_printed}
 
 -- ---- stops with room
 
@@ -45,7 +48,6 @@ module _ (core : ℕ) (s : Session) (m : SessionJob) (t : Task) where
   stopped_room x plan (stops.BackingFull sum size) fits code = fits code
   stopped_room x plan stops.BackingFault fits code = fits code
   stopped_room x plan stops.PrintFault fits code = tt
-  stopped_room x plan stops.Unbuilt fits code = tt
 
 -- what the end of a step promises of each session between its parts
 abbrev pub EndsEach : {K : Type 0} → (K → Option (List ℕ)) → Result (Unit {0}) Stop → Machine → Machine → K → K → Type 0
@@ -57,6 +59,12 @@ abbrev pub ClosesEach : {K : Type 0} → (K → Option (List ℕ)) → Chosen �
 ClosesEach taken c ending result old new paper paper' =
     (x : Storage) (told : Option (List (List ℕ))) (plan : Placement) (s : Session) (m : SessionJob) (t : Task) → StandsChosen x told old plan s m t c
     → Closes taken told (part_of s (choice_of c) m t (ends_with m.progress.job t.number ending)) result old new paper paper'
+
+-- and `hold`
+abbrev pub HoldsEach : {K : Type 0} → (K → Option (List ℕ)) → Chosen → TaskState → Result (Unit {0}) Failed → Machine → Machine → K → K → Type 0
+HoldsEach taken c state result old new paper paper' =
+    (x : Storage) (told : Option (List (List ℕ))) (plan : Placement) (s : Session) (m : SessionJob) (t : Task) (condition : Condition) → StandsChosen x told old plan s m t c → HoldsSo plan m t state condition
+    → Closes taken told (part_of s (choice_of c) m t (holding m.progress.job t condition)) result old new paper paper'
 
 -- ---- the step
 
@@ -110,36 +118,33 @@ module _ {D K : Type 0} {taken : K → Option (List ℕ)} {told told' : Option (
             let z = n x known s says h in
             present_by (Ok attempts.Made) x known s says h m t next answered last (λ tells code none. ended_room (length k.cpu.core) s z.member z.task ended.result answered ended.answer)
 
-  -- the operator ends its task
-  module _ (ending : Ending) (x : Tries taken told told' count k c mid (Ok (attempts.Ends ending)) new device device' paper paper') (known : Option (List (List ℕ))) (s : Session) (says : Says known told) (h : StandsAt known k s) where
-    abbrev left : Attempted taken known (content_after known told') (length k.cpu.core) count k.tasks.printed s c (Ok (attempts.Ends ending)) new paper paper'
+  -- the operator ends its task, or makes it wait: the attempt has left the tables as they were
+  module _ (outcome : Attempt) (x : Tries taken told told' count k c mid (Ok outcome) new device device' paper paper') (stay : new.tasks ≡ mid.tasks) (known : Option (List (List ℕ))) (s : Session) (says : Says known told) (h : StandsAt known k s)
+      (made : Stepped) (so : ClosesSo known (content_after known told') (length k.cpu.core) new paper paper' (attempted x known s says h).plan (attempted x known s says h).session (attempted x known s says h).member (attempted x known s says h).task (attempted x known s says h).next.chosen made) where
+    abbrev left : Attempted taken known (content_after known told') (length k.cpu.core) count k.tasks.printed s c (Ok outcome) new paper paper'
     left = attempted x known s says h
 
-    runs : new.tasks.running ≡ c.row
-    runs = ap (λ (z : Tasks). z.running) x.stay ∙ ap (λ (z : Tasks). z.running) x.tables
+    abbrev runs : new.tasks.running ≡ c.row
+    runs = ap (λ (z : Tasks). z.running) stay ∙ ap (λ (z : Tasks). z.running) x.tables
 
     printed_still : new.tasks.printed ≡ k.tasks.printed
-    printed_still = ended_printed ending mid.tasks new.tasks x.stay ∙ printed_is (Ok (attempts.Ends ending)) x
+    printed_still = ap (λ (z : Tasks). z.printed) stay ∙ printed_is (Ok outcome) x
 
-    pub ends_counts : CountsHaveRoom new.tasks c
-    ends_counts = ends_room taken known (content_after known told') (length k.cpu.core) count k.tasks.printed s c new paper paper' ending left
+    pub close_counts : CountsHaveRoom new.tasks c
+    close_counts = close_room taken known (content_after known told') (length k.cpu.core) count k.tasks.printed s c new paper paper' (Ok outcome) made left so
 
-    pub ends_chose : ChoseSome new c
-    ends_chose = chose_some taken known (content_after known told') (length k.cpu.core) count k.tasks.printed s c new paper paper' ending left runs
+    abbrev pub stands_chosen : StandsChosen so.still.0 (content_after known told') new left.plan left.session left.member left.task c
+    stands_chosen = chosen_stands taken known (content_after known told') (length k.cpu.core) count k.tasks.printed s c new paper paper' (Ok outcome) made left so runs
 
-    abbrev stands_chosen : StandsChosen (still taken known (content_after known told') (length k.cpu.core) count k.tasks.printed s c new paper paper' ending left).0 (content_after known told') new left.plan left.session left.member left.task c
-    stands_chosen = chosen_stands taken known (content_after known told') (length k.cpu.core) count k.tasks.printed s c new paper paper' ending left runs
-
-    abbrev closes_here : {result : Result (Unit {0}) Failed} {closed : Machine} {paper'' : K} → ClosesEach taken c ending result new closed paper' paper''
-        → Closes taken (content_after known told') (part_of left.session (choice_of c) left.member left.task (ends_with left.member.progress.job left.task.number ending)) result new closed paper' paper''
-    closes_here closes = closes (still taken known (content_after known told') (length k.cpu.core) count k.tasks.printed s c new paper paper' ending left).0 (content_after known told') left.plan left.session left.member left.task stands_chosen
+    abbrev pub the_part : StepResult
+    the_part = part_of left.session (choice_of c) left.member left.task made
 
     -- the endings' lines were printed
-    module _ (closed : Machine) (paper'' : K) (closes : ClosesEach taken c ending (Ok tt) new closed paper' paper'') where
+    module _ (closed : Machine) (paper'' : K) (closes : Closes taken (content_after known told') the_part (Ok tt) new closed paper' paper'') where
       closed_half : IsHalfMade taken (content_after known told') (known ≢ None) s k closed paper paper''
       closed_half =
-          let (rest, none, made, stands) = closes_here closes in
-          ends_half taken known (content_after known told') (length k.cpu.core) count k.tasks.printed s c new paper paper' ending left k closed paper'' rest none made stands h.stands.tables.counts.made refl printed_still refl
+          let (rest, none, counted, stands) = closes in
+          close_half taken known (content_after known told') (length k.cpu.core) count k.tasks.printed s c new paper paper' (Ok outcome) made left so k closed paper'' rest none counted stands h.stands.tables.counts.made refl printed_still refl
 
       pub closed_between : StandsBetween closed
       closed_between = between_of taken (content_after known told') (known ≢ None) s k closed paper paper'' closed_half
@@ -148,23 +153,82 @@ module _ {D K : Type 0} {taken : K → Option (List ℕ)} {told told' : Option (
         abbrev over : EndsStep taken (content_after known told') closed_half.part.session answered closed last paper'' paper'''
         over = each closed_half.storage (content_after known told') closed_half.plan closed_half.part.session closed_half.ordered closed_half.stands
 
-        pub ends_row : KeepsCounts closed last → Steps taken (content_after known told') (known ≢ None) count s answered k last paper paper'''
-        ends_row keeps = finished taken (content_after known told') (known ≢ None) count s k closed last paper paper'' paper''' closed_half keeps over.result over.finishes answered over.answer
+        pub closed_row : KeepsCounts closed last → Steps taken (content_after known told') (known ≢ None) count s answered k last paper paper'''
+        closed_row keeps = finished taken (content_after known told') (known ≢ None) count s k closed last paper paper'' paper''' closed_half keeps over.result over.finishes answered over.answer
 
-        pub ends_present : (m : SessionJob) (t : Task) → IsNext s m t → IfPresent (known ≢ None) (length k.cpu.core) 1 h.storage h.plan s m t answered k last device device'
-        ends_present m t next =
+        pub closed_present : (m : SessionJob) (t : Task) → IsNext s m t → IfPresent (known ≢ None) (length k.cpu.core) 1 h.storage h.plan s m t answered k last device device'
+        closed_present m t next =
             let z = n x known s says h in
-            present_by (Ok (attempts.Ends ending)) x known s says h m t next answered last (λ tells code none. ended_room (length k.cpu.core) s z.member z.task over.result answered over.answer)
+            present_by (Ok outcome) x known s says h m t next answered last (λ tells code none. ended_room (length k.cpu.core) s z.member z.task over.result answered over.answer)
 
     -- the printer failed in them
     module _ (failed : Failed) (last : Machine) (paper'' : K) where
-      pub cut_row : k.tasks.halt ≢ Some k.tasks.made → new.tasks.halt ≡ k.tasks.halt → ClosesEach taken c ending (Err failed) new last paper' paper'' → Steps taken (content_after known told') (known ≢ None) count s (Err stops.PrintFault) k last paper paper''
+      pub cut_row : k.tasks.halt ≢ Some k.tasks.made → new.tasks.halt ≡ k.tasks.halt → Closes taken (content_after known told') the_part (Err failed) new last paper' paper'' → Steps taken (content_after known told') (known ≢ None) count s (Err stops.PrintFault) k last paper paper''
       cut_row due halt closes =
-          let (more, only) = closes_here closes in
-          cut_steps taken known (content_after known told') (length k.cpu.core) count k.tasks.printed s c new paper paper' ending left k last paper'' h.stands.tables.counts.made refl printed_still refl due halt more only
+          let (more, only) = closes in
+          cut_steps taken known (content_after known told') (length k.cpu.core) count k.tasks.printed s c new paper paper' (Ok outcome) made left so k last paper'' h.stands.tables.counts.made refl printed_still refl due halt more only
 
       pub cut_present : (m : SessionJob) (t : Task) → IsNext s m t → IfPresent {A = Unit {0}} (known ≢ None) (length k.cpu.core) 1 h.storage h.plan s m t (Err stops.PrintFault) k last device device'
-      cut_present m t next = present_by (Ok (attempts.Ends ending)) x known s says h m t next (Err stops.PrintFault) last (λ tells code none. tt)
+      cut_present m t next = present_by (Ok outcome) x known s says h m t next (Err stops.PrintFault) last (λ tells code none. tt)
+
+  -- it ends its task
+  module _ (ending : Ending) (x : Tries taken told told' count k c mid (Ok (attempts.Ends ending)) new device device' paper paper') (known : Option (List (List ℕ))) (s : Session) (says : Says known told) (h : StandsAt known k s) where
+    abbrev ending_left : Attempted taken known (content_after known told') (length k.cpu.core) count k.tasks.printed s c (Ok (attempts.Ends ending)) new paper paper'
+    ending_left = attempted x known s says h
+
+    abbrev pub ending_made : Stepped
+    ending_made = ends_with ending_left.member.progress.job ending_left.task.number ending
+
+    abbrev pub ending_so : ClosesSo known (content_after known told') (length k.cpu.core) new paper paper' ending_left.plan ending_left.session ending_left.member ending_left.task ending_left.next.chosen ending_made
+    ending_so = ends_so taken known (content_after known told') (length k.cpu.core) count k.tasks.printed s c new paper paper' ending ending_left
+
+    -- the chosen row is its
+    ending_stands : StandsChosen ending_so.still.0 (content_after known told') new ending_left.plan ending_left.session ending_left.member ending_left.task c
+    ending_stands = stands_chosen (attempts.Ends ending) x x.stay known s says h ending_made ending_so
+
+    pub ending_chose : ChoseSome new c
+    ending_chose = record { storage = ending_so.still.0; told = content_after known told'; plan = ending_left.plan; session = ending_left.session; member = ending_left.member; task = ending_left.task; stands = ending_stands }
+
+    -- what closing says of it
+    pub ending_closes : (result : Result (Unit {0}) Failed) (closed : Machine) (paper'' : K) → ClosesEach taken c ending result new closed paper' paper''
+        → Closes taken (content_after known told') (the_part (attempts.Ends ending) x x.stay known s says h ending_made ending_so) result new closed paper' paper''
+    ending_closes result closed paper'' closes = closes ending_so.still.0 (content_after known told') ending_left.plan ending_left.session ending_left.member ending_left.task ending_stands
+
+  -- it makes its task wait
+  module _ (state : TaskState) (x : Tries taken told told' count k c mid (Ok (attempts.Waits state)) new device device' paper paper') (known : Option (List (List ℕ))) (s : Session) (says : Says known told) (h : StandsAt known k s) where
+    abbrev waiting : Attempted taken known (content_after known told') (length k.cpu.core) count k.tasks.printed s c (Ok (attempts.Waits state)) new paper paper'
+    waiting = attempted x known s says h
+
+    abbrev pub waiting_made : Stepped
+    waiting_made = wait_made taken known (content_after known told') (length k.cpu.core) count k.tasks.printed s c new paper paper' state waiting
+
+    abbrev pub waiting_so : ClosesSo known (content_after known told') (length k.cpu.core) new paper paper' waiting.plan waiting.session waiting.member waiting.task waiting.next.chosen waiting_made
+    waiting_so = waits_so taken known (content_after known told') (length k.cpu.core) count k.tasks.printed s c new paper paper' state waiting
+
+    waiting_stands : StandsChosen waiting_so.still.0 (content_after known told') new waiting.plan waiting.session waiting.member waiting.task c
+    waiting_stands = stands_chosen (attempts.Waits state) x x.stay known s says h waiting_made waiting_so
+
+    waiting_holds : HoldsSo waiting.plan waiting.member waiting.task state (waits taken known (content_after known told') (length k.cpu.core) count k.tasks.printed s c new paper paper' state waiting).condition
+    waiting_holds = holds_so taken known (content_after known told') (length k.cpu.core) count k.tasks.printed s c new paper paper' state waiting
+
+    pub waiting_some : HoldsSome new c state
+    waiting_some = record {
+      storage = waiting_so.still.0;
+      told = content_after known told';
+      plan = waiting.plan;
+      session = waiting.session;
+      member = waiting.member;
+      task = waiting.task;
+      condition = (waits taken known (content_after known told') (length k.cpu.core) count k.tasks.printed s c new paper paper' state waiting).condition;
+      stands = waiting_stands;
+      so = waiting_holds;
+    }
+
+    pub waiting_closes : (result : Result (Unit {0}) Failed) (closed : Machine) (paper'' : K) → HoldsEach taken c state result new closed paper' paper''
+        → Closes taken (content_after known told') (the_part (attempts.Waits state) x x.stay known s says h waiting_made waiting_so) result new closed paper' paper''
+    waiting_closes result closed paper'' holds =
+        holds waiting_so.still.0 (content_after known told') waiting.plan waiting.session waiting.member waiting.task
+        (waits taken known (content_after known told') (length k.cpu.core) count k.tasks.printed s c new paper paper' state waiting).condition waiting_stands waiting_holds
 
   -- it isn't made
   module _ (stop : Stop) (x : Tries taken told told' count k c mid (Err stop) new device device' paper paper') (known : Option (List (List ℕ))) (s : Session) (says : Says known told) (h : StandsAt known k s) where

@@ -1,5 +1,5 @@
 -- The chosen task is the running one, and what the attempt at its operator then answers.
-use Rattle.std.proofs.Common.{◌≡◌, ◌≢◌, ℕ, ◌+◌, ◌<◌, ◌^◌, List, [], ◌∷◌, length, map, Option, Some, None, Result, Ok, Err, refl, sym, ap, ◌∙◌, subst}
+use Rattle.std.proofs.Common.{◌≡◌, ◌≢◌, ℕ, ◌+◌, ◌<◌, ◌^◌, List, length, map, Option, Some, None, Result, Ok, Err, refl, sym, ap, ◌∙◌, subst}
 use Rattle.std.specs.List.{slice_get}
 use Rattle.std.proofs.lemmas.Option.{same_Some, slice_get_within}
 use Rattle.b67_lemmas.proofs.Places.{at_mapped}
@@ -10,7 +10,7 @@ use Rattle.b67_model.specs.Schedule.{Session, Choice, choice}
 use Rattle.b67_model.specs.InOrder.{IsInOrderButPlaces}
 use Rattle.b67_law_order_steps.proofs.Sessions.{other_numbers_keep_order}
 use Rattle.b67_law_turns.specs.Turns.{IsNext}
-use Rattle.b67_law_turns.proofs.Choices.{chosen_tasks_are_ready, next_is_ready}
+use Rattle.b67_law_turns.proofs.Choices.{chosen_tasks_are_ready}
 use Rattle.b67_stack.specs.Represents.{Storage}
 use Rattle.b67_layout_storage.specs.Machine.{Says, content_after}
 use Rattle.b67_layout.specs.Orders.{IsInOrderButCounts}
@@ -28,7 +28,7 @@ use Rattle.b67_task_tables.specs.Tables.{task_row, TasksShow, MachineRepresents}
 use Rattle.b67_session_schedule.specs.declared.counting.Chosen.{Chosen}
 use Rattle.b67_session_schedule.specs.Counted.{choice_of, CountsHaveRoom}
 use Rattle.b67_session_schedule.specs.Chosen.{Chooses}
-use Rattle.b67_session_attempt.specs.Passed.{StandsOver, Lengthens}
+use Rattle.b67_session_attempt.specs.Passed.{StandsOver, CallsDevice}
 use Rattle.b67_session_attempt.specs.Stops.{Stop}
 use Rattle.b67_session_attempt.specs.Stops as stops
 use Rattle.b67_session_attempt.specs.declared.attempts.Attempt.{Attempt}
@@ -200,7 +200,6 @@ module _ {D K : Type 0} {taken : K → Option (List ℕ)} {told told' : Option (
     room_over (Err (stops.BackingFull sum size)) fits = fits
     room_over (Err stops.BackingFault) fits = fits
     room_over (Err stops.PrintFault) fits = fits
-    room_over (Err stops.Unbuilt) fits = tt
 
   pub attempted : Attempted taken known (content_after known told') (length k.cpu.core) count k.tasks.printed s c answered new paper paper'
   attempted =
@@ -224,5 +223,5 @@ module _ {D K : Type 0} {taken : K → Option (List ℕ)} {told told' : Option (
       }))
 
   -- where nothing is wanted
-  pub quiet_here : WantsNothing h.storage h.plan n.member n.task → (Lengthens n.member n.task → ⊥) → device' ≡ device
+  pub quiet_here : WantsNothing h.storage h.plan n.member n.task → (CallsDevice n.member n.task → ⊥) → device' ≡ device
   quiet_here wants same = promise.quiet (record { code = wants.code; array = wants.array }) same

@@ -99,8 +99,8 @@ pub record NextFits (core : ℕ) (s : Session) : Type 0 where
 abbrev pub StepsFit : ℕ → ℕ → Session → Type 0
 StepsFit core steps first = (k : ℕ) → k < steps → NextFits core (after k first)
 
--- the next step lacks its segment or its array, or makes it longer; it needs no more words than core has, or its segment is
--- absent
+-- the next step lacks its segment or its array, makes it longer, or starts a task; it needs no more words than core has, or its
+-- segment is absent
 pub record Lacks (exact : Type 0) (core : ℕ) (x : Storage) (plan : Placement) (s : Session) (m : SessionJob) (t : Task) : Type 0 where
   pub lacks : exact → IsLacking x plan m t
   pub room : exact → (need core s m t ≤ core) ⊎ (code_area x plan m t ≡ None)
@@ -112,8 +112,8 @@ StopsWithRoom core s m t (Err stops.BackingFault) = need core s m t ≤ core
 StopsWithRoom core s m t _ = Unit {0}
 
 -- The session's next step is looked at in a storage, where a slice of n steps sets out. Where its segment and its array are
--- present, and it makes no array longer, a slice of one step doesn't call the device. Where its segment is present, the device
--- stops it only if core has room for it
+-- present, and it makes no array longer and starts no task, a slice of one step doesn't call the device. Where its segment is
+-- present, the device stops it only if core has room for it
 pub record IfPresent {A D : Type 0} (exact : Type 0) (core n : ℕ) (x : Storage) (plan : Placement) (s : Session) (m : SessionJob) (t : Task) (answered : Result A Stop) (old new : Machine) (device device' : D) : Type 0 where
   pub quiet : n ≤ 1 → WantsNothing x plan m t → (CallsDevice m t → ⊥) → device' ≡ device
   pub room : exact → code_area x plan m t ≢ None → new.tasks.made ≡ old.tasks.made → StopsWithRoom core s m t answered

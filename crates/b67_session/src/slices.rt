@@ -90,10 +90,11 @@ fn go_on<B: Backing, K: Sink>(
 /// present when a call began that made no step, `BackingFull` and `BackingFault` come only with enough core. `PrintFault`
 /// before a step comes only with enough core too. `BackingFull` only if the session, or the one that a RESIZE to a greater
 /// length would make, takes more sectors than the device has, with both, the step's segment or array is absent, or it is
-/// such a RESIZE, and more sectors are wanted than are free; `BackingFault` and `PrintFault` only if that device failed. A
-/// single step whose segment and array are present doesn't call the backing, if it isn't such a RESIZE. If nothing is known
-/// of what the device's sectors hold, the words that it gives back may be others, and as many. After `Ended` the machine
-/// represents the session without a task; if it was known what the sectors hold, the one after the steps.
+/// such a RESIZE or starts a task, and more sectors are wanted than are free; `BackingFault` and `PrintFault` only if that
+/// device failed. A single step whose segment and array are present, and which is no such RESIZE and starts no task, doesn't
+/// call the backing. If nothing is known of what the device's sectors hold, the words that it gives back may be others, and
+/// as many. After `Ended` the machine represents the session without a task; if it was known what the sectors hold, the one
+/// after the steps.
 #[inline(always)]
 pub fn slice<B: Backing, K: Sink>(
     machine: &mut Machine,

@@ -1,5 +1,5 @@
 -- A step that was made, or ends its task, needs no more words than core has.
-use Rattle.std.proofs.Common.{◌≡◌, ◌≢◌, ℕ, ◌+◌, ◌<◌, ◌≤◌, List, [], ◌∷◌, reverse, length, Option, Some, None, Ok, Err, refl, sym, ◌∙◌, ap, arith, subst}
+use Rattle.std.proofs.Common.{◌≡◌, ◌≢◌, ℕ, ◌+◌, ◌<◌, ◌≤◌, List, [], ◌∷◌, reverse, length, Option, Some, None, Ok, Err, refl, sym, ◌∙◌, ap, arith, subst, ⊎_elim}
 use Rattle.std.proofs.lemmas.Option.{none-some}
 use Rattle.b67_word.specs.declared.faults.Fault.{Fault}
 use Rattle.b67_word.specs.declared.couples.Place.{Place}
@@ -11,7 +11,7 @@ use Rattle.b67_model.specs.Answers.{Answer}
 use Rattle.b67_model.specs.Words.{Word}
 use Rattle.b67_model.specs.Chase.{AtIntrinsic, follow_reference}
 use Rattle.b67_model.specs.Operators.{Reading}
-use Rattle.b67_model.specs.State.{Standing, Marked, Entered, Task, SessionJob, OperatorContext, top}
+use Rattle.b67_model.specs.State.{Standing, Marked, Entered, Task, Job, SessionJob, OperatorContext, top}
 use Rattle.b67_model.specs.Steps.{Line, Done, Goes, Leaves}
 use Rattle.b67_model.specs.Need.{touched_of, touched_at_mark, touched_before_fault, started_by, need}
 use Rattle.b67_model.specs.Rows.{reading_of, step}
@@ -29,6 +29,7 @@ use Rattle.b67_model.specs.Called.{called_at, called_by, called_on, called}
 use Rattle.b67_exec_cells.specs.Running.{code_area}
 use Rattle.b67_exec_cells.specs.Called as operators
 use Rattle.b67_exec_cells.specs.Called.{called_in}
+use Rattle.b67_task_tables.specs.declared.tables.TaskState.{TaskState}
 use Rattle.b67_task_tables.specs.declared.tables.Machine.{Machine}
 use Rattle.b67_task_tables.specs.Tables.{MachineRepresents}
 use Rattle.b67_layout_step.proofs.Laws.{touches_arrays}
@@ -37,13 +38,13 @@ use Rattle.b67_session_attempt.proofs.FittingMade.{made_fit}
 use Rattle.b67_session_make.specs.Makes.{OperatorMade, CallsOrMakes, MakesAt}
 use Rattle.b67_mcp.specs.declared.ends.Stop.{Stop}
 use Rattle.b67_mcp.specs.declared.ends.Stop.TheVariants as stops
-use Rattle.b67_mcp.specs.Called.{CallsBuilt, IsCut, CallMeets, CallTouches, printed_text, IsThere, TouchesPresent}
+use Rattle.b67_mcp.specs.Called.{IsCut, IsFull, IsRefused, IsUnstarted, IsUnstartedFull, StartsTask, WaitsSo, CallMeets, CallTouches, CallFits, printed_text, IsThere, TouchesPresent}
 use Rattle.b67_mcp.proofs.Callings.{calling}
 use Rattle.b67_mcp.proofs.Touched.{reference_same}
 use Rattle.b67_mcp.proofs.Present.{row_only}
 use Rattle.b67_session_attempt.specs.Tries.{TryFits}
-use Rattle.b67_session_attempt.proofs.Still.{operator_starts, call_starts}
-use Rattle.b67_session_attempt.proofs.Mute.{printing_built}
+use Rattle.b67_session_attempt.proofs.Still.{operator_starts}
+use Rattle.b67_session_attempt.proofs.Births.{one_more}
 use Rattle.b67_lemmas.proofs.Members.{keyed_has}
 
 -- before a fault an operator touches nothing that calls no intrinsic
@@ -127,28 +128,46 @@ module _ (x : Storage) (told : Option (List (List ℕ))) (plan : Placement) (s :
     pub operator_fits : (k : Machine) → MachineRepresents x told k plan s → (code_area x plan m t ≢ None) × (called_in m t ≡ None) → TouchesPresent x plan m t → need (length k.cpu.core) s m t ≤ length k.cpu.core
     operator_fits k h (code, none) touches = step_fits k o h runs code touches (operator_starts m t runs.task none)
 
-    -- and for the call of an intrinsic
-    pub call_fits : (k : Machine) (n : ℕ) → MachineRepresents x told k plan s → code_area x plan m t ≢ None → called_in m t ≡ Some n → CallsBuilt m t → TouchesPresent x plan m t → need (length k.cpu.core) s m t ≤ length k.cpu.core
-    call_fits k n h code called built touches = step_fits k o h runs code touches (call_starts m t n (calling m t n called) (built n called))
+    -- and for the call of an intrinsic, by what it makes
+    pub call_fits : (k : Machine) (n : ℕ) (job : Job) (printed : List Line) (touched : Option ℕ) → MachineRepresents x told k plan s → code_area x plan m t ≢ None → called_in m t ≡ Some n → step m.constants m.progress.job t ≡ Ok (Goes job printed touched)
+        → (StartsTask m t → need (length k.cpu.core) s m t ≤ length k.cpu.core) → TouchesPresent x plan m t → need (length k.cpu.core) s m t ≤ length k.cpu.core
+    call_fits k n job printed touched h code called is starts touches = ⊎_elim
+        (λ (same : length job.tasks ≡ length m.progress.job.tasks). (let none : started_by m.progress.job (step m.constants m.progress.job t) ≡ 0 = (let by = ap (started_by m.progress.job) is in omega (arith, by, same)) in step_fits k o h runs code touches none))
+        (λ (one : (printed ≡ []) × (touched ≡ None) × (length job.tasks ≡ length m.progress.job.tasks + 1)).
+        starts (record { job = job; is = is ∙ ap (λ (p : List Line). Ok (Goes job p touched)) one.0 ∙ ap (λ (q : Option ℕ). Ok (Goes job [] q)) one.1; more = one.2 }))
+        (one_more m t n job printed touched (calling m t n called) is)
 
     pub fault_fits : (k : Machine) (fault : Fault) → MachineRepresents x told k plan s → code_area x plan m t ≢ None → step m.constants m.progress.job t ≡ Err fault → TouchesPresent x plan m t → need (length k.cpu.core) s m t ≤ length k.cpu.core
     fault_fits k fault h code is touches = step_fits k o h runs code touches (ap (started_by m.progress.job) is)
 
-    -- what is cut prints something, so its call is built
-    cut_built : {K : Type 0} (taken : K → Option (List ℕ)) (paper paper' : K) (n before after : ℕ) → called_in m t ≡ Some n → IsCut taken paper paper' m t before after → CallsBuilt m t
-    cut_built taken paper paper' n before after called cut i e =
-        let none : cut.printed ≢ [] = λ nothing. by cut.printed nothing cut.text.proper in
-        printing_built m t i cut.job cut.printed cut.touched (calling m t i e) cut.is none
+    -- a step that waits touches nothing
+    pub waits_fit : (k : Machine) (state : TaskState) → MachineRepresents x told k plan s → code_area x plan m t ≢ None → WaitsSo plan m t state → need (length k.cpu.core) s m t ≤ length k.cpu.core
+    waits_fit k state h code w =
+        step_fits k o h runs code (λ a e. absurd (none-some a (sym (ap (touched_of m.constants m.progress.job t) w.is) ∙ e))) (ap (started_by m.progress.job) w.is)
+
+    -- what is cut prints something, so its call starts no task
+    cut_starts : {K : Type 0} (taken : K → Option (List ℕ)) (paper paper' : K) (n before after : ℕ) → called_in m t ≡ Some n → (c : IsCut taken paper paper' m t before after) → length c.job.tasks ≡ length m.progress.job.tasks
+    cut_starts taken paper paper' n before after called c = ⊎_elim
+        (λ (same : length c.job.tasks ≡ length m.progress.job.tasks). same)
+        (λ (one : (c.printed ≡ []) × (c.touched ≡ None) × (length c.job.tasks ≡ length m.progress.job.tasks + 1)). absurd (by c.printed one.0 c.text.proper))
+        (one_more m t n c.job c.printed c.touched (calling m t n called) c.is)
       where
         by : (printed : List Line) → printed ≡ [] → after < length (printed_text m t printed) → ⊥
         by [] e low = omega (arith, low)
         by (line ∷ more) e low = absurd cc
 
     pub stop_fits : {K : Type 0} (taken : K → Option (List ℕ)) (after : Option (List (List ℕ))) (count : ℕ) (k new : Machine) (paper paper' : K) (n : ℕ) (stop : Stop) → MachineRepresents x told k plan s → code_area x plan m t ≢ None → called_in m t ≡ Some n
-        → CallMeets taken after count x plan s m t n (Err stop) k new paper paper' → CallTouches x plan m t (Err stop) → TryFits (length k.cpu.core) s m t (Err stop)
-    stop_fits taken after count k new paper paper' n stops.PrintFault h code called meets touches =
-        call_fits k n h code called (cut_built taken paper paper' n k.tasks.printed new.tasks.printed called meets.0) touches
-    stop_fits taken after count k new paper paper' n stops.Unbuilt h code called meets touches = tt
-    stop_fits taken after count k new paper paper' n (stops.NoCore need core) h code called meets touches = tt
-    stop_fits taken after count k new paper paper' n (stops.BackingFull sum sectors) h code called meets touches = call_fits k n h code called meets.0.refused.built touches
-    stop_fits taken after count k new paper paper' n stops.BackingFault h code called meets touches = call_fits k n h code called meets.0.built touches
+        → CallMeets taken after count x plan s m t n (Err stop) k new paper paper' → CallTouches x plan m t (Err stop) → CallFits (length k.cpu.core) s m t (Err stop) → TryFits (length k.cpu.core) s m t (Err stop)
+    stop_fits taken after count k new paper paper' n stops.PrintFault h code called meets touches fits =
+        let c = meets.0 in
+        let same = cut_starts taken paper paper' n k.tasks.printed new.tasks.printed called c in
+        step_fits k o h runs code touches (let by = ap (started_by m.progress.job) c.is in omega (arith, by, same))
+    stop_fits taken after count k new paper paper' n (stops.NoCore need core) h code called meets touches fits = tt
+    stop_fits taken after count k new paper paper' n (stops.BackingFull sum sectors) h code called meets touches fits = ⊎_elim
+        (λ (f : IsFull x after count plan s m t sum sectors k new). call_fits k n f.refused.longer.job [] f.refused.longer.touched h code called f.refused.longer.is fits touches)
+        (λ (u : IsUnstartedFull after count plan s m t sum sectors k new). fits u.unstarted.starts)
+        meets.0
+    stop_fits taken after count k new paper paper' n stops.BackingFault h code called meets touches fits = ⊎_elim
+        (λ (f : IsRefused x after plan s m t k new). call_fits k n f.longer.job [] f.longer.touched h code called f.longer.is fits touches)
+        (λ (u : IsUnstarted after plan s m t k new). fits u.starts)
+        meets.0

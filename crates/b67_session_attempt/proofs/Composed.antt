@@ -1,5 +1,5 @@
 -- One attempt of several tries.
-use Rattle.std.proofs.Common.{◌≡◌, ◌≢◌, ℕ, ◌+◌, ◌≤◌, inl, inr, List, Option, Some, None, Result, Ok, Err, refl, sym, ◌∙◌, ap, subst}
+use Rattle.std.proofs.Common.{◌≡◌, ◌≢◌, ℕ, ◌+◌, ◌<◌, ◌≤◌, ◌⊎◌, ⊎_elim, arith, inl, inr, List, length, Option, Some, None, Result, Ok, Err, refl, sym, ◌∙◌, ap, subst}
 use Rattle.std.proofs.lemmas.Option.{same_Some}
 use Rattle.b67_word.specs.declared.faults.Ending.{Ending}
 use Rattle.b67_model.specs.State.{Ready, Task, SessionJob}
@@ -16,10 +16,11 @@ use Rattle.b67_layout.specs.Placement.{Placement}
 use Rattle.b67_layout.specs.Session.{IsRunning}
 use Rattle.b67_exec_cells.specs.Running.{code_area}
 use Rattle.b67_layout_step.proofs.OtherNumbers.{others_in_order}
+use Rattle.b67_task_tables.specs.declared.tables.TaskState.{TaskState}
 use Rattle.b67_task_tables.specs.declared.tables.Machine.{Machine}
 use Rattle.b67_task_tables.specs.declared.tables.Tasks.{Tasks}
 use Rattle.b67_task_tables.specs.Tables.{MachineRepresents}
-use Rattle.b67_mcp.specs.Called.{OnlyPrinted, IsRefused, Lengthens}
+use Rattle.b67_mcp.specs.Called.{OnlyPrinted, IsFull, IsRefused, IsUnstarted, IsUnstartedFull, CallsDevice, MayWrite}
 use Rattle.b67_mcp.proofs.Told.{told_is}
 use Rattle.b67_mcp.specs.declared.ends.Stop.{Stop}
 use Rattle.b67_mcp.specs.declared.ends.Stop.TheVariants as stops
@@ -30,7 +31,7 @@ use Rattle.b67_session_attempt.specs.declared.attempts.Attempt.TheVariants as at
 use Rattle.b67_session_attempt.specs.declared.tries.Tried.{Tried}
 use Rattle.b67_session_attempt.specs.declared.tries.Tried.TheVariants as tries
 use Rattle.b67_session_attempt.specs.Tries.{IsTouched, TryMeets, TryFits, TryWrites}
-use Rattle.b67_session_attempt.specs.Attempts.{RunsOver, ForEachOver, StillStands, StandsLacking, AttemptMeets, Attempts, AttemptFits, TablesStay, WantsNothing}
+use Rattle.b67_session_attempt.specs.Attempts.{RunsOver, ForEachOver, StillStands, StandsLacking, StandsShort, TakesSectors, AttemptMeets, Attempts, AttemptFits, TablesStay, WantsNothing}
 use Rattle.b67_session_attempt.specs.Brought.{StopMeets, Stopped, BroughtFits}
 
 abbrev Told : Type 0
@@ -79,7 +80,7 @@ never taken told count x plan s m t old new paper paper' (what.Array home) nothi
     nothing.array a.identity is (ap (λ (at : ℕ). (x.held at).area) (home_is ∙ sym w.home_is) ∙ w.absent)
 
 -- one try, in the session itself
-module _ {B K : Type 0} (holds : B → Told) (taken : K → Option (List ℕ)) (backing backing' : B) (x : Storage) (core count : ℕ) (plan : Placement) (s : Session) (m : SessionJob) (t : Task) (o : IsInOrderButCounts s) (runs : IsRunning plan s.jobs m t) (old new : Machine) (h : StandsOver x (holds backing) old plan s) (paper paper' : K) where
+module _ {B K : Type 0} (holds : B → Told) (taken : K → Option (List ℕ)) (backing backing' : B) (x : Storage) (count : ℕ) (plan : Placement) (s : Session) (m : SessionJob) (t : Task) (o : IsInOrderButCounts s) (runs : IsRunning plan s.jobs m t) (old new : Machine) (h : StandsOver x (holds backing) old plan s) (paper paper' : K) where
   abbrev known : Told
   known = content_after x.device (holds backing')
 
@@ -87,9 +88,9 @@ module _ {B K : Type 0} (holds : B → Told) (taken : K → Option (List ℕ)) (
   Try answered = TryMeets taken known count x plan s m t answered old new paper paper'
 
   abbrev Whole : Result Attempt Stop → Type 0
-  Whole answered = Attempts taken x known core count old.tasks.printed plan s t answered new paper paper'
+  Whole answered = Attempts taken x known (length old.cpu.core) count old.tasks.printed plan s t answered new paper paper'
 
-  at_once : (answered : Result Attempt Stop) → AttemptMeets taken known (x.device ≢ None) core count old.tasks.printed plan s m t answered new paper paper' → Whole answered
+  at_once : (answered : Result Attempt Stop) → AttemptMeets taken known (x.device ≢ None) (length old.cpu.core) count old.tasks.printed plan s m t answered new paper paper' → Whole answered
   at_once answered meets = record { jobs = s.jobs; others = others_same s o; same = λ e. refl; member = m; running = runs; meets = meets }
 
   -- the device wasn't called
@@ -104,20 +105,30 @@ module _ {B K : Type 0} (holds : B → Told) (taken : K → Option (List ℕ)) (
   pub ends_once : (ending : Ending) → backing' ≡ backing → Try (Ok (tries.Ends ending)) → Whole (Ok (attempts.Ends ending))
   ends_once ending quiet meets = at_once (Ok (attempts.Ends ending)) (λ e. meets.0, silent quiet (unchanged x x.device plan s old new meets.1 h.stands), meets.2)
 
-  abbrev refused : IsRefused x known plan s m t old new → need core s m t ≤ core → StandsLacking (x.device ≢ None) known core new plan s m t
-  refused r fits = record { storage = r.storage; stands = r.stands; lacks = λ e. inr (inr r.longer); room = λ e. inl fits }
+  abbrev refused : IsRefused x known plan s m t old new → need (length old.cpu.core) s m t ≤ length old.cpu.core → StandsLacking (x.device ≢ None) known (length old.cpu.core) new plan s m t
+  refused r fits = record { storage = r.storage; stands = r.stands; lacks = λ e. inr (inr (inl r.longer)); room = λ e. inl fits }
 
-  pub stops_once : (stop : Stop) → ((TryWrites x plan m t (Err stop) → ⊥) → backing' ≡ backing) → TryFits core s m t (Err stop) → Try (Err stop) → Whole (Err stop)
+  abbrev unstarted : IsUnstarted known plan s m t old new → need (length old.cpu.core) s m t ≤ length old.cpu.core → StandsLacking (x.device ≢ None) known (length old.cpu.core) new plan s m t
+  unstarted u fits = record { storage = u.storage; stands = u.stands; lacks = λ e. inr (inr (inr u.starts)); room = λ e. inl fits }
+
+  full : (sum size : ℕ) → need (length old.cpu.core) s m t ≤ length old.cpu.core → IsFull x known count plan s m t sum size old new ⊎ IsUnstartedFull known count plan s m t sum size old new
+      → TakesSectors s m t sum × (size ≡ count) × (count < sum) × StandsShort (x.device ≢ None) known (length old.cpu.core) new plan s m t
+  full sum size fits (inl f) = (inr (f.refused.longer, f.sum_is), f.size_is, f.exceeds, record { lacking = refused f.refused fits; wants = f.wants; free = f.free; short = f.short })
+  full sum size fits (inr u) = (inl u.sum_is, u.size_is, u.exceeds, record { lacking = unstarted u.unstarted fits; wants = u.wants; free = u.free; short = inl u.short })
+
+  pub waits_once : (state : TaskState) → backing' ≡ backing → Try (Ok (tries.Waits state)) → Whole (Ok (attempts.Waits state))
+  waits_once state quiet meets = at_once (Ok (attempts.Waits state)) (meets.0, silent quiet (unchanged x x.device plan s old new meets.1 h.stands), meets.2)
+
+  pub stops_once : (stop : Stop) → ((TryWrites x plan m t (Err stop) → ⊥) → backing' ≡ backing) → TryFits (length old.cpu.core) s m t (Err stop) → Try (Err stop) → Whole (Err stop)
   stops_once stop quiet fits meets = at_once (Err stop) (by stop quiet fits meets) where
-    by : (why : Stop) → ((TryWrites x plan m t (Err why) → ⊥) → backing' ≡ backing) → TryFits core s m t (Err why) → Try (Err why)
-        → AttemptMeets taken known (x.device ≢ None) core count old.tasks.printed plan s m t (Err why) new paper paper'
+    by : (why : Stop) → ((TryWrites x plan m t (Err why) → ⊥) → backing' ≡ backing) → TryFits (length old.cpu.core) s m t (Err why) → Try (Err why)
+        → AttemptMeets taken known (x.device ≢ None) (length old.cpu.core) count old.tasks.printed plan s m t (Err why) new paper paper'
     by stops.PrintFault quiet fits meets = (meets.0, silent (quiet (λ w. w)) (only_printed x x.device plan s old new meets.1 h.stands))
-    by stops.Unbuilt quiet fits meets = (meets.0, meets.1, meets.2, silent (quiet (λ w. w)) (unchanged x x.device plan s old new meets.3 h.stands), meets.4)
-    by (stops.NoCore words size) quiet fits meets = absurd meets
-    by (stops.BackingFull sum size) quiet fits meets =
-        let f = meets.0 in
-        (inr (f.refused.longer, f.sum_is), f.size_is, f.exceeds, record { lacking = refused f.refused fits; wants = f.wants; free = f.free; short = f.short }, meets.1)
-    by stops.BackingFault quiet fits meets = (refused meets.0 fits, meets.1)
+    by (stops.NoCore words size) quiet fits meets =
+        let w = meets.0 in
+        (w.words_is, w.size_is, (let above = w.exceeds in let is = w.words_is in omega (arith, above, is)), silent (quiet (λ w. w)) (unchanged x x.device plan s old new meets.1 h.stands), meets.2)
+    by (stops.BackingFull sum size) quiet fits meets = let f = full sum size fits meets.0 in (f.0, f.1, f.2, f.3, meets.1)
+    by stops.BackingFault quiet fits meets = (⊎_elim (λ (r : IsRefused x known plan s m t old new). refused r fits) (λ (u : IsUnstarted known plan s m t old new). unstarted u fits) meets.0, meets.1)
 
   -- nothing was wanted where the device tells
   pub gives_up_once : (ending : Ending) (found : What) → backing' ≡ backing → (x.device ≢ None → WantsNothing x plan m t) → Try (Ok (tries.Absent found)) → Whole (Ok (attempts.Ends ending))
@@ -129,15 +140,17 @@ module _ {K : Type 0} (taken : K → Option (List ℕ)) (told : Told) (count : �
   pub tables_after_end : (ending : Ending) → TryMeets taken told count x plan s m t (Ok (tries.Ends ending)) old new paper paper' → new.tasks ≡ old.tasks
   tables_after_end ending meets = ap (λ (k : Machine). k.tasks) meets.1
 
+  pub tables_after_wait : (state : TaskState) → TryMeets taken told count x plan s m t (Ok (tries.Waits state)) old new paper paper' → new.tasks ≡ old.tasks
+  tables_after_wait state meets = ap (λ (k : Machine). k.tasks) meets.1
+
   pub tables_after_want : (found : What) → TryMeets taken told count x plan s m t (Ok (tries.Absent found)) old new paper paper' → new.tasks ≡ old.tasks
   tables_after_want found meets = ap (λ (k : Machine). k.tasks) meets.3
 
   pub tables_after_stop : (stop : Stop) → TryMeets taken told count x plan s m t (Err stop) old new paper paper' → TablesStay (Err stop) old.tasks new.tasks
-  tables_after_stop (stops.NoCore words size) meets = absurd meets
-  tables_after_stop (stops.BackingFull sum size) meets = meets.0.refused.tables
-  tables_after_stop stops.BackingFault meets = meets.0.tables
+  tables_after_stop (stops.NoCore words size) meets = ap (λ (k : Machine). k.tasks) meets.1
+  tables_after_stop (stops.BackingFull sum size) meets = ⊎_elim (λ (f : IsFull x told count plan s m t sum size old new). f.refused.tables) (λ (u : IsUnstartedFull told count plan s m t sum size old new). u.unstarted.tables) meets.0
+  tables_after_stop stops.BackingFault meets = ⊎_elim (λ (r : IsRefused x told plan s m t old new). r.tables) (λ (u : IsUnstarted told plan s m t old new). u.tables) meets.0
   tables_after_stop stops.PrintFault meets = ap (λ (k : Machine). k.tasks) meets.1
-  tables_after_stop stops.Unbuilt meets = ap (λ (k : Machine). k.tasks) meets.3
 
 -- the tables after a stop that isn't the printer's, and after tries that went on from the same tables
 pub tables_stay : (stop : Stop) (old new : Tasks) → stop ≢ stops.PrintFault → new ≡ old → TablesStay (Err stop) old new
@@ -145,7 +158,6 @@ tables_stay (stops.NoCore words size) old new other same = same
 tables_stay (stops.BackingFull sum size) old new other same = same
 tables_stay stops.BackingFault old new other same = same
 tables_stay stops.PrintFault old new other same = absurd (other refl)
-tables_stay stops.Unbuilt old new other same = same
 
 pub tables_from : (answered : Result Attempt Stop) (old mid new : Tasks) → mid ≡ old → TablesStay answered mid new → TablesStay answered old new
 tables_from answered old mid new same stay = let P : Tasks → Type 0 = λ k. TablesStay answered k new in subst P same stay
@@ -156,15 +168,17 @@ room_after_stop core x plan s m t (stops.NoCore words size) fits = tt
 room_after_stop core x plan s m t (stops.BackingFull sum size) fits = λ code. fits
 room_after_stop core x plan s m t stops.BackingFault fits = λ code. fits
 room_after_stop core x plan s m t stops.PrintFault fits = fits
-room_after_stop core x plan s m t stops.Unbuilt fits = tt
 
 -- a stop after which the device may have been written
-pub stop_longer : (x : Storage) (plan : Placement) (m : SessionJob) (t : Task) (stop : Stop) → TryWrites x plan m t (Err stop) → Lengthens m t
-stop_longer x plan m t (stops.NoCore words size) w = absurd w
-stop_longer x plan m t (stops.BackingFull sum size) w = w.0
-stop_longer x plan m t stops.BackingFault w = w.0
-stop_longer x plan m t stops.PrintFault w = absurd w
-stop_longer x plan m t stops.Unbuilt w = absurd w
+pub may_call : (x : Storage) (plan : Placement) (m : SessionJob) (t : Task) → MayWrite x plan m t → CallsDevice m t
+may_call x plan m t (inl longer) = inl longer.0
+may_call x plan m t (inr starts) = inr starts
+
+pub stop_calls : (x : Storage) (plan : Placement) (m : SessionJob) (t : Task) (stop : Stop) → TryWrites x plan m t (Err stop) → CallsDevice m t
+stop_calls x plan m t (stops.NoCore words size) w = absurd w
+stop_calls x plan m t (stops.BackingFull sum size) w = may_call x plan m t w
+stop_calls x plan m t stops.BackingFault w = may_call x plan m t w
+stop_calls x plan m t stops.PrintFault w = absurd w
 
 -- and where what was wanted wasn't brought in
 pub room_after_want : (core size : ℕ) (x : Storage) (plan : Placement) (s : Session) (m : SessionJob) (t : Task) (stop : Stop) → size ≡ core → stop ≢ stops.PrintFault → BroughtFits size x plan s m t (Err stop) → AttemptFits core x plan s m t (Err stop)
@@ -172,7 +186,6 @@ room_after_want core size x plan s m t (stops.NoCore words size') e other fits =
 room_after_want core size x plan s m t (stops.BackingFull sum size') e other fits = λ code. subst (λ (n : ℕ). need n s m t ≤ n) e (fits code)
 room_after_want core size x plan s m t stops.BackingFault e other fits = λ code. subst (λ (n : ℕ). need n s m t ≤ n) e (fits code)
 room_after_want core size x plan s m t stops.PrintFault e other fits = absurd (other refl)
-room_after_want core size x plan s m t stops.Unbuilt e other fits = tt
 
 -- where the segment is present in one storage, it may be asked about another
 fits_from : (core : ℕ) (x y : Storage) (plan : Placement) (s : Session) (m : SessionJob) (t : Task) (answered : Result Attempt Stop) → code_area y plan m t ≢ None → AttemptFits core y plan s m t answered → AttemptFits core x plan s m t answered
@@ -181,13 +194,13 @@ fits_from core x y plan s m t (Err (stops.NoCore words size)) code fits = tt
 fits_from core x y plan s m t (Err (stops.BackingFull sum size)) code fits = λ here. fits code
 fits_from core x y plan s m t (Err stops.BackingFault) code fits = λ here. fits code
 fits_from core x y plan s m t (Err stops.PrintFault) code fits = fits
-fits_from core x y plan s m t (Err stops.Unbuilt) code fits = tt
 
 -- less is told of a device that tells nothing
 module _ {K : Type 0} (taken : K → Option (List ℕ)) (told : Told) (exact other : Type 0) (core count before : ℕ) (plan : Placement) (s : Session) (m : SessionJob) (t : Task) (new : Machine) (paper paper' : K) (f : other → exact) where
   weaker : (answered : Result Attempt Stop) → AttemptMeets taken told exact core count before plan s m t answered new paper paper' → AttemptMeets taken told other core count before plan s m t answered new paper paper'
   weaker (Ok attempts.Made) meets = meets
   weaker (Ok (attempts.Ends ending)) meets = (λ e. meets.0 (f e), meets.1, meets.2)
+  weaker (Ok (attempts.Waits state)) meets = meets
   weaker (Err (stops.NoCore words size)) meets = meets
   weaker (Err (stops.BackingFull sum size)) meets =
       let z = meets.3 in
@@ -197,7 +210,6 @@ module _ {K : Type 0} (taken : K → Option (List ℕ)) (told : Told) (exact oth
       let y = meets.0 in
       (record { storage = y.storage; stands = y.stands; lacks = λ e. y.lacks (f e); room = λ e. y.room (f e) }, meets.1)
   weaker (Err stops.PrintFault) meets = meets
-  weaker (Err stops.Unbuilt) meets = meets
 
 -- an attempt that goes on in the session that stands again
 module _ {K : Type 0} (taken : K → Option (List ℕ)) (x : Storage) (told told' : Told) (k : Machine) (core count before : ℕ) (plan : Placement) (s : Session) (t : Task) (again : StandsAgain x told k plan s) (tells : x.device ≢ None → told ≢ None) where
@@ -229,7 +241,6 @@ stopped_attempt taken x told core count before plan s t stop new paper a = recor
   by (stops.BackingFull sum size) meets = (inl meets.0, meets.1, meets.2, meets.3, refl)
   by stops.BackingFault meets = (meets, refl)
   by stops.PrintFault meets = absurd meets
-  by stops.Unbuilt meets = absurd meets
 
 -- the same member where there are the same jobs
 pub same_member : (plan : Placement) (s : Session) (jobs : List SessionJob) (m : SessionJob) (t : Task) → IsRunning plan s.jobs m t → (r : RunsOther plan jobs m t) → jobs ≡ s.jobs → r.member ≡ m

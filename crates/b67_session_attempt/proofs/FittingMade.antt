@@ -23,7 +23,7 @@ use Rattle.b67_exec_cells.specs.Running.{code_area}
 use Rattle.b67_task_need.specs.Needing.{need_with, touched_words, HasWords}
 use Rattle.b67_task_need.proofs.Needs.{need_whole}
 use Rattle.b67_session_attempt.specs.Fits.{HasSpace, IsOfJob, MadeFits}
-use Rattle.b67_session_attempt.proofs.Space.{has_space}
+use Rattle.b67_mcp.proofs.Space.{has_space}
 
 -- whichever of two it is, where both are at most that
 chosen : (core base full n : ℕ) → n ≡ (if nat_lt core base then base else full) → base ≤ core → full ≤ core → n ≤ core

@@ -1,12 +1,9 @@
-pub mod Areas
-pub mod Space
 pub mod FittingMade
 pub mod Untold
-pub mod Trying
 pub mod Started
-pub mod Calls
 pub mod Still
-pub mod Mute
+pub mod Trying
+pub mod Births
 pub mod AttemptFits
 pub mod Numbers
 pub mod Stops

@@ -25,7 +25,8 @@ use Rattle.b67_presence.specs.Bringing.{StandsOver, IsWanted, StandsAgain, Lacks
 use Rattle.b67_presence.proofs.Others.{others_same, others_running, others_sectors, RunsOther}
 use Rattle.b67_session_attempt.specs.Tries.{IsTouched}
 use Rattle.b67_session_attempt.specs.Attempts.{IsLacking}
-use Rattle.b67_session_attempt.specs.Brought.{StopsFor, Stopped, BroughtFits}
+use Rattle.b67_session_attempt.specs.Brought.{Stopped, BroughtFits}
+use Rattle.b67_mcp.specs.Stopping.{StopsFor}
 use Rattle.b67_session_attempt.proofs.Numbers.{need_of, need_fits}
 use Rattle.b67_mcp.proofs.Told.{told_is}
 use Rattle.b67_session_attempt.proofs.Composed.{unchanged, same_member}

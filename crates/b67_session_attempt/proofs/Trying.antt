@@ -26,9 +26,11 @@ use Rattle.b67_layout_step.proofs.Laws.{touches_arrays}
 use Rattle.b67_session_make.specs.Makes.{OperatorMade, CallsOrMakes, MakesAt}
 use Rattle.b67_mcp.specs.declared.ends.Stop.{Stop}
 use Rattle.b67_mcp.specs.declared.ends.Stop.TheVariants as stops
-use Rattle.b67_mcp.specs.Called.{CallsBuilt, IsCalled, TouchesAbsent, CallMeets, CallWrites}
+use Rattle.b67_mcp.specs.Called.{IsCalled, TouchesAbsent, CallMeets, CallWrites}
 use Rattle.b67_presence.specs.Bringing.{IsWanted}
 use Rattle.b67_session_attempt.specs.Tries.{IsTouched, TryMeets, TryWrites}
+use Rattle.b67_mcp.proofs.Still.{stands_peak}
+use Rattle.b67_session_attempt.proofs.Still.{operator_many}
 use Rattle.b67_lemmas.proofs.Members.{keyed_has}
 
 -- what is wanted, and that the step touches it, where nothing has changed
@@ -53,13 +55,6 @@ module _ (x : Storage) (told : Option (List (List ℕ))) (plan : Placement) (s :
     by : (called : Option ℕ) → CallsOrMakes x told plan s m t answers.Done old new called → OperatorMade x told plan s m t old new
     by (Some n) h = let e = h.0 in absurd cc
     by None h = h
-
-  pub was_built : (area : Option ℕ) → MakesAt x told plan s m t answers.Done old new area → CallsBuilt m t
-  was_built None h = let e = h.0 in absurd cc
-  was_built (Some at) h = by (called_in m t) refl h where
-    by : (called : Option ℕ) → called_in m t ≡ called → CallsOrMakes x told plan s m t answers.Done old new called → CallsBuilt m t
-    by (Some n) is h = let e = h.0 in absurd cc
-    by None is h = λ k e. absurd (none-some k (sym is ∙ e))
 
   pub was_fault : (fault : Fault) (area : Option ℕ) → MakesAt x told plan s m t (answers.Fault fault) old new area → (step m.constants m.progress.job t ≡ Err fault) × (new ≡ old)
   was_fault fault None h = let e = h.0 in absurd cc
@@ -112,17 +107,16 @@ nothing_left : (n : ℕ) → take {A = ℕ} n [] ++ [] ≡ []
 nothing_left zero = refl
 nothing_left (suc n) = refl
 
-pub called_made : {K : Type 0} (taken : K → Option (List ℕ)) (paper : K) (x : Storage) (told : Option (List (List ℕ))) (plan : Placement) (s : Session) (m : SessionJob) (t : Task) (old new : Machine) → CallsBuilt m t → new.tasks ≡ old.tasks → OperatorMade x told plan s m t old new
-    → IsCalled taken paper paper told s m t old.tasks.printed new
-called_made taken paper x told plan s m t old new built tables h = record {
+pub called_made : {K : Type 0} (taken : K → Option (List ℕ)) (paper : K) (x : Storage) (told : Option (List (List ℕ))) (plan : Placement) (s : Session) (m : SessionJob) (t : Task) (old new : Machine) → IsInOrderButCounts s → IsRunning plan s.jobs m t → called_in m t ≡ None → new.tasks ≡ old.tasks
+    → OperatorMade x told plan s m t old new → IsCalled taken paper paper told s m t old.tasks.printed new
+called_made taken paper x told plan s m t old new o runs none tables h = record {
   job = h.job;
   printed = [];
   touched = h.touched;
   is = h.is;
-  built = built;
   storage = h.storage;
   plan = plan;
-  stands = h.stands;
+  stands = stands_peak h.storage told new plan s m h.job o.peak_low (operator_many m t runs.task none h.job [] h.touched h.is) h.stands;
   text = record { rest = []; took = record { told = λ before e. e ∙ ap Some (sym (append-nil before)) }; same = nothing_left old.tasks.printed };
   reset = ap (λ (k : Tasks). k.printed) tables;
 }
@@ -139,14 +133,12 @@ stops_so taken told count x plan s m t n stop first old new paper paper' called 
   where
     by : (why : Stop) → CallMeets taken told count x plan s m t n (Err why) old new paper paper' → TryMeets taken told count x plan s m t (Err why) old new paper paper'
     by stops.PrintFault h = h
-    by stops.Unbuilt h = (n, called, h.0, h.1, h.2)
-    by (stops.NoCore need core) h = absurd h
+    by (stops.NoCore need core) h = h
     by (stops.BackingFull sum sectors) h = h
     by stops.BackingFault h = h
 
 pub writes_so : (x : Storage) (plan : Placement) (m : SessionJob) (t : Task) (stop : Stop) → CallWrites x plan m t (Err stop) → TryWrites x plan m t (Err stop)
 writes_so x plan m t stops.PrintFault w = absurd w
-writes_so x plan m t stops.Unbuilt w = absurd w
 writes_so x plan m t (stops.NoCore need core) w = absurd w
 writes_so x plan m t (stops.BackingFull sum sectors) w = w
 writes_so x plan m t stops.BackingFault w = w

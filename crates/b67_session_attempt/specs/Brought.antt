@@ -1,12 +1,9 @@
 -- What bringing in answers and leaves that the next operator wants, with the numbers that a stop says.
-use Rattle.std.specs.Prelude.{◌≡◌, ◌≢◌, ℕ, ◌+◌, ◌<◌, ◌≤◌, List, length, Option, None, Result, Ok, Err}
+use Rattle.std.specs.Prelude.{◌≡◌, ◌≢◌, ℕ, ◌<◌, ◌≤◌, List, Option, None, Result, Ok, Err}
 use Rattle.b67_model.specs.State.{Task, SessionJob}
 use Rattle.b67_model.specs.Sectors.{sectors}
 use Rattle.b67_model.specs.Need.{need}
 use Rattle.b67_model.specs.Schedule.{Session}
-use Rattle.b67_layout.specs.Orders.{IsInOrderButCounts}
-use Rattle.b67_backing.specs.declared.refusals.SpaceFault.{SpaceFault}
-use Rattle.b67_backing.specs.declared.refusals.SpaceFault.TheVariants as space
 use Rattle.b67_stack.specs.declared.What.{What}
 use Rattle.b67_stack.specs.Represents.{Storage}
 use Rattle.b67_layout_storage.specs.Machine.{content_after}
@@ -15,23 +12,10 @@ use Rattle.b67_layout.specs.Session.{IsRunning}
 use Rattle.b67_exec_cells.specs.Running.{code_area}
 use Rattle.b67_law_order_steps.specs.Weaker.{AllOtherNumbers}
 use Rattle.b67_task_tables.specs.declared.tables.Machine.{Machine}
-use Rattle.b67_task_tables.specs.Tables.{MachineRepresents}
 use Rattle.b67_presence.specs.Bringing.{Brings}
 use Rattle.b67_mcp.specs.declared.ends.Stop.{Stop}
 use Rattle.b67_mcp.specs.declared.ends.Stop.TheVariants as stops
 use Rattle.b67_session_attempt.specs.Attempts.{StillStands, StandsLacking, StandsShort}
-
--- the sectors of each session that the machine stands for are so many
-abbrev pub SumsTo : Machine → ℕ → Type 0
-SumsTo k sum =
-    (x : Storage) (told : Option (List (List ℕ))) (plan : Placement) (s : Session) → IsInOrderButCounts s → MachineRepresents x told k plan s → sum ≡ sectors s.jobs
-
--- the stop for a want of space: where sectors are missing, with the session's and the device's
-abbrev pub StopsFor : Machine → SpaceFault → Stop → Type 0
-StopsFor k (space.NoCore words size) stop = stop ≡ stops.NoCore words size
-StopsFor k (space.BackingFull wants free) stop =
-    (sum : ℕ) × (count : ℕ) × (stop ≡ stops.BackingFull sum count) × SumsTo k sum × (count + 1 ≡ length k.sectors.links)
-StopsFor k space.BackingFault stop = stop ≡ stops.BackingFault
 
 -- by the reason, as an attempt's: what was wanted is absent where sectors were missing or the device failed
 abbrev pub StopMeets : Option (List (List ℕ)) → Type 0 → ℕ → ℕ → Placement → Session → SessionJob → Task → Stop → Machine → Type 0

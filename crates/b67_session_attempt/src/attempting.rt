@@ -4,7 +4,7 @@ ghost use Rattle.std.specs.Prelude.{◌≡◌, ◌≢◌, ◌+◌, None, length}
 ghost use Rattle.b67_layout_storage.specs.Machine.{DeviceAfterCalls, content_after};
 ghost use Rattle.b67_exec_cells.specs.Running.{code_area};
 ghost use Rattle.b67_mcp.specs.Called.{AreCountable};
-ghost use Rattle.b67_mcp.specs.Running.{CallCauses, Kept};
+ghost use Rattle.b67_mcp.specs.Running.{CanNumber, CallCauses, Kept};
 ghost use Rattle.b67_session_attempt.specs.Attempts.{RunsOver, ForEachOver, WantsNothing, Attempts, AttemptFits, AttemptRow, TablesStay};
 
 use crate::attempts::Attempt;
@@ -26,6 +26,7 @@ fn last_try<B: Backing, K: Sink>(
 ) -> Result<Attempt, Stop>
     requires runs { RunsOver machine.old (B.holds backing.old) }
     requires countable { AreCountable machine.old.tasks.jobs }
+    requires number { CanNumber machine.old.tasks.jobs }
     requires same { B.size backing.old + 1 ≡ length machine.old.sectors.links }
     ensures row { ForEachOver machine.old (B.holds backing.old) (λ x plan s m t. (x.device ≢ None → WantsNothing x plan m t)
         → Attempts K.taken x (content_after x.device (B.holds backing.new)) (length machine.old.cpu.core) (B.size backing.old) machine.old.tasks.printed plan s t result machine.new paper.old paper.new) }
@@ -53,6 +54,7 @@ fn with_code<B: Backing, K: Sink>(
 ) -> Result<Attempt, Stop>
     requires runs { RunsOver machine.old (B.holds backing.old) }
     requires countable { AreCountable machine.old.tasks.jobs }
+    requires number { CanNumber machine.old.tasks.jobs }
     requires same { B.size backing.old + 1 ≡ length machine.old.sectors.links }
     ensures row { ForEachOver machine.old (B.holds backing.old) (λ x plan s m t. code_area x plan m t ≢ None
         → Attempts K.taken x (content_after x.device (B.holds backing.new)) (length machine.old.cpu.core) (B.size backing.old) machine.old.tasks.printed plan s t result machine.new paper.old paper.new) }
@@ -77,15 +79,14 @@ fn with_code<B: Backing, K: Sink>(
 /// Executes the next operator of the running task, including an intrinsic's call. The running segment and the array that it
 /// touches are brought into core first, and other areas are evicted if need be.
 ///
-/// `NoCore` exactly where the step's need exceeds core, with both, unless its call isn't built, or the running segment is
-/// absent and the device is full or fails as it is brought in. `BackingFull` only where the session, or the one that a RESIZE
-/// to a greater length would make, takes more sectors than the device has, with both, and more are wanted than are free: by a
-/// present array that keeps no chain, or by the chain of the array that becomes longer. `BackingFault` and `PrintFault` only
-/// where that device failed. After each of them, and when the operator ends its task, the machine represents the same
-/// session; after `BackingFull` and `BackingFault` its segment or its array is absent, or the step is such a
-/// RESIZE. Where both are present the backing isn't called but by such a RESIZE. After `PrintFault` `printed` is raised by the
-/// bytes that were taken. Over a device that doesn't tell what its sectors hold, the words that it gave back may be others, and
-/// as many.
+/// `NoCore` exactly where the step's need exceeds core, with both, unless the running segment is absent and the device is full
+/// or fails as it is brought in. `BackingFull` only where the session, or the one that a RESIZE to a greater length would make,
+/// takes more sectors than the device has, with both, and more are wanted than are free: by a present array that keeps no
+/// chain, or by the chain of the array that becomes longer. `BackingFault` and `PrintFault` only where that device failed.
+/// After each of them, and when the operator ends its task or makes it wait, the machine represents the same session; after
+/// `BackingFull` and `BackingFault` its segment or its array is absent, or the step is such a RESIZE or starts a task. Where
+/// both are present the backing isn't called but by such steps. After `PrintFault` `printed` is raised by the bytes that were
+/// taken. Over a device that doesn't tell what its sectors hold, the words that it gave back may be others, and as many.
 #[inline(always)]
 pub fn attempt<B: Backing, K: Sink>(
     machine: &mut Machine,
@@ -94,6 +95,7 @@ pub fn attempt<B: Backing, K: Sink>(
 ) -> Result<Attempt, Stop>
     requires runs { RunsOver machine.old (B.holds backing.old) }
     requires countable { AreCountable machine.old.tasks.jobs }
+    requires number { CanNumber machine.old.tasks.jobs }
     requires same { B.size backing.old + 1 ≡ length machine.old.sectors.links }
     ensures row { ForEachOver machine.old (B.holds backing.old) (λ x plan s m t.
         AttemptRow K.taken x (content_after x.device (B.holds backing.new)) (length machine.old.cpu.core) (B.size backing.old) machine.old.tasks.printed plan s m t result machine.new

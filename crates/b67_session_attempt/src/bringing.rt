@@ -9,34 +9,16 @@ ghost use Rattle.b67_stack.specs.Represents.{Storage};
 ghost use Rattle.b67_layout_storage.specs.Machine.{DeviceAfterCalls};
 ghost use Rattle.b67_layout.specs.Placement.{Placement};
 ghost use Rattle.b67_layout.specs.Session.{IsRunning};
-ghost use Rattle.b67_task_need.specs.Needing.{StandsInOrder};
 ghost use Rattle.b67_presence.specs.Bringing.{StandsOver, WantsSome, IsWanted};
 ghost use Rattle.b67_mcp.specs.declared.ends.Stop.TheVariants.{BackingFault, PrintFault};
 ghost use Rattle.b67_session_attempt.specs.Tries.{IsTouched};
-ghost use Rattle.b67_session_attempt.specs.Brought.{StopsFor, BroughtFits, BroughtMeets};
+ghost use Rattle.b67_session_attempt.specs.Brought.{BroughtFits, BroughtMeets};
 
-use b67_backing::{Backing, SpaceFault};
-use b67_mcp::Stop;
+use b67_backing::Backing;
+use b67_mcp::{Stop, stop_for};
 use b67_presence::bring;
 use b67_stack::What;
-use b67_task_need::sector_sum;
 use b67_task_tables::Machine;
-
-/// The stop for a want of space, with the sectors that the session takes and those of the device where too few are free.
-#[inline(always)]
-fn stopped(machine: &Machine, fault: SpaceFault) -> Stop
-    requires { StandsInOrder machine.now }
-    ensures { StopsFor machine.now fault result }
-{
-    match fault {
-        SpaceFault::NoCore { need, core } => Stop::NoCore { need, core },
-        SpaceFault::BackingFull { wants, free } => Stop::BackingFull {
-            sum: sector_sum(machine),
-            sectors: machine.sectors.count(),
-        },
-        SpaceFault::BackingFault => Stop::BackingFault,
-    }
-}
 
 /// Brings in what the next operator wants, and evicts other areas if need be; the running segment is then present too. After
 /// a stop the machine represents the same session.
@@ -63,6 +45,6 @@ pub fn bring_wanted<B: Backing>(
 {
     match bring(machine, backing, wanted) {
         Ok(()) => Ok(()),
-        Err(fault) => Err(stopped(machine, fault)),
+        Err(fault) => Err(stop_for(machine, fault)),
     }
 }

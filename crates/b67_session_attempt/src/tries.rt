@@ -4,7 +4,7 @@ ghost use Rattle.std.specs.Prelude.{◌≡◌, ◌+◌, length};
 ghost use Rattle.b67_layout_storage.specs.Machine.{Says, DeviceAfterCalls, content_after};
 ghost use Rattle.b67_task_tables.specs.Runs.{Keeps};
 ghost use Rattle.b67_mcp.specs.Called.{AreCountable};
-ghost use Rattle.b67_mcp.specs.Running.{CallCauses};
+ghost use Rattle.b67_mcp.specs.Running.{CanNumber, CallCauses};
 ghost use Rattle.b67_session_make.specs.Makes.{ForEachReady};
 ghost use Rattle.b67_session_attempt.specs.Tries.{ReadyRuns, TryMeets, TryFits, TryWrites};
 
@@ -28,10 +28,12 @@ pub enum Tried {
 
 /// Makes the next operator of the running task, an intrinsic's call included, unless what it wants is absent. Nothing has
 /// changed but where it was made. `PrintFault`, with nothing changed but that `printed` is raised by the bytes of its text
-/// that were taken, which aren't all, only where the printer failed. `BackingFull`, only where the session that the call would
-/// make takes more sectors than the device has, with both, and `BackingFault`, only where the device failed, leave the
-/// machine for the same session. A step that was made, ends its task, or was stopped by either of the two needs no more words
-/// than core has. The backing is called only where a call makes a present array longer, and is made or stopped by the backing.
+/// that were taken, which aren't all, only where the printer failed. `NoCore`, with nothing changed, only where the step starts
+/// a task and needs more words than core has, with both. `BackingFull`, only where the session, or the one that a RESIZE would
+/// make, takes more sectors than the device has, with both, and `BackingFault`, only where the device failed, leave the machine
+/// for the same session. A step that was made, ends its task, makes it wait, or was stopped by the printer or the device needs
+/// no more words than core has. The backing is called only where a call makes a present array longer or starts a task, and is
+/// made or stopped by the backing.
 #[inline(always)]
 pub fn try_once<B: Backing, K: Sink>(
     machine: &mut Machine,
@@ -40,6 +42,7 @@ pub fn try_once<B: Backing, K: Sink>(
 ) -> Result<Tried, Stop>
     requires runs { ReadyRuns machine.old }
     requires countable { AreCountable machine.old.tasks.jobs }
+    requires number { CanNumber machine.old.tasks.jobs }
     requires same { B.size backing.old + 1 ≡ length machine.old.sectors.links }
     ensures row { ForEachReady machine.old (λ x told plan s m t. Says told (B.holds backing.old)
         → TryMeets K.taken (content_after told (B.holds backing.new)) (B.size backing.old) x plan s m t result machine.old machine.new paper.old paper.new) }

@@ -1,5 +1,5 @@
 -- The tasks of a job that stands at its limit end: who they are, their lines, and the session afterwards.
-use Rattle.std.proofs.Common.{◌≡◌, ◌≢◌, ℕ, ◌+◌, true, false, List, [], ◌∷◌, ◌++◌, length, map, Option, Some, None, Ok, refl, sym, ap, ◌∙◌, subst, inl, arith}
+use Rattle.std.proofs.Common.{◌≡◌, ◌≢◌, ℕ, true, false, List, [], ◌∷◌, ◌++◌, map, Option, Some, None, Ok, refl, sym, ap, ◌∙◌, subst, inl, arith}
 use Rattle.std.specs.Prelude.{is_some}
 use Rattle.std.specs.List.{AllByRecursion}
 use Rattle.std.proofs.lemmas.Bool.{true≢false}
@@ -15,7 +15,7 @@ use Rattle.b67_model.specs.Keyed.{keyed, change_keyed}
 use Rattle.b67_model.specs.Lines.{run_text}
 use Rattle.b67_model.specs.Run.{StepResult, number_of, of_job}
 use Rattle.b67_model.specs.Schedule.{Session}
-use Rattle.b67_session_lines.specs.Moments.{last_part, last_part_if}
+use Rattle.b67_session_lines.specs.Moments.{last_part}
 use Rattle.b67_stack.specs.Represents.{Storage}
 use Rattle.b67_layout.specs.Meets.{with_job}
 use Rattle.b67_layout.specs.Orders.{JobInOrderButCounts, IsInOrderButCounts}

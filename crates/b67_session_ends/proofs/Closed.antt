@@ -1,5 +1,5 @@
 -- The machine once the chosen task has ended, with those under it, those that are deadlocked then, and the step is counted.
-use Rattle.std.proofs.Common.{◌≡◌, ℕ, ◌+◌, ◌^◌, ◌<◌, ◌≤◌, Bool, true, false, not, List, [], ◌∷◌, ◌++◌, length, map, Option, Some, refl, sym, ap, ◌∙◌, subst, inl, arith}
+use Rattle.std.proofs.Common.{◌≡◌, ℕ, ◌≤◌, Bool, true, false, not, List, length, map, Option, Some, refl, sym, ap, ◌∙◌, subst, inl, arith}
 use Rattle.std.specs.List.{list_all}
 use Rattle.b67_word.specs.declared.faults.Ending.{Ending}
 use Rattle.b67_word.specs.declared.faults.Ending.TheVariants.{Deadlock}
@@ -11,9 +11,9 @@ use Rattle.b67_model.specs.Alone.{JobMoment, moment_with}
 use Rattle.b67_model.specs.State.{Task, Job, SessionJob}
 use Rattle.b67_model.specs.Keyed.{keyed, change_keyed}
 use Rattle.b67_model.specs.Endings.{Settled, Stepped, is_ready, deadlocked, ends_each_if, ends_task, ends_with, unsettled}
-use Rattle.b67_model.specs.InOrder.{IsSegment, TasksInOrder, NumberedFrom}
+use Rattle.b67_model.specs.InOrder.{IsSegment, TasksInOrder}
 use Rattle.b67_model.specs.Lines.{run_text}
-use Rattle.b67_model.specs.Run.{StepResult, number_of}
+use Rattle.b67_model.specs.Run.{number_of}
 use Rattle.b67_model.specs.Schedule.{Session, Choice}
 use Rattle.b67_law_order.proofs.Numbered.{numbered_change}
 use Rattle.b67_law_order_steps.proofs.Deaths.{ends_task_good}

@@ -1,6 +1,5 @@
 -- The machine once an operator is counted.
-use Rattle.std.proofs.Common.{◌≡◌, ℕ, ◌+◌, ◌-◌, ◌≤◌, max, List, [], ◌∷◌, length, Option, Some, refl, sym, ap, ◌∙◌, subst, inl, inr, arith}
-use Rattle.std.specs.Prelude.{◌==◌, sum_by}
+use Rattle.std.proofs.Common.{◌≡◌, ℕ, ◌+◌, List, [], ◌∷◌, length, Option, Some, refl, sym, ap, subst, inl, inr, arith}
 use Rattle.std.proofs.lemmas.Bool.Decides.{eqb_tells}
 use Rattle.b67_lemmas.proofs.Members.{keyed_has, total_has}
 use Rattle.b67_lemmas.proofs.Sums.{sum_total}
@@ -8,7 +7,7 @@ use Rattle.b67_model.specs.State.{Job, JobProgress, SessionJob}
 use Rattle.b67_model.specs.Alone.{JobMoment}
 use Rattle.b67_model.specs.Keyed.{keyed, change_keyed}
 use Rattle.b67_model.specs.InOrder.{IsInOrderButPlaces}
-use Rattle.b67_model.specs.Run.{number_of, live_tasks, with_moment}
+use Rattle.b67_model.specs.Run.{number_of, with_moment}
 use Rattle.b67_model.specs.Schedule.{Session}
 use Rattle.b67_law_order.proofs.Numbered.{tasks_of}
 use Rattle.b67_stack.specs.declared.Cpu.{Cpu}

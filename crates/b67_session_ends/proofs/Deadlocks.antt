@@ -1,5 +1,5 @@
 -- Once tasks have ended: who is stuck, and the job after DEADLOCK.
-use Rattle.std.proofs.Common.{◌≡◌, ◌≢◌, ℕ, ◌+◌, ◌<◌, ◌≤◌, Bool, true, false, not, List, [], ◌∷◌, ◌++◌, length, map, filter, take, Option, Some, refl, sym, ap, ◌∙◌, subst, inl, inr, append-nil, append_assoc, get_or}
+use Rattle.std.proofs.Common.{◌≡◌, ◌≢◌, ℕ, ◌+◌, ◌<◌, ◌≤◌, Bool, true, false, not, List, [], ◌∷◌, ◌++◌, length, map, filter, take, Option, refl, sym, ap, ◌∙◌, subst, inl, inr, append-nil, append_assoc, get_or}
 use Rattle.std.specs.Prelude.{◌==◌}
 use Rattle.std.specs.List.{list_any, list_all}
 use Rattle.std.proofs.lemmas.Bool.{cases_Bool}
@@ -11,7 +11,6 @@ use Rattle.b67_lemmas.specs.Lists.{Has}
 use Rattle.b67_lemmas.proofs.Members.{all_in}
 use Rattle.b67_lemmas.proofs.Keyed.{change_same}
 use Rattle.b67_model.specs.State.{Condition, Ready, Awaits, WaitsAt, Array, Task, Job, SessionJob}
-use Rattle.b67_model.specs.Keyed.{keyed}
 use Rattle.b67_model.specs.Endings.{Settled, all_with, among, released, is_ready, is_owned_by, deadlocked, deepest_first, ends_each_if, ends_task, unsettled}
 use Rattle.b67_model.specs.InOrder.{IsSegment, TasksInOrder}
 use Rattle.b67_model.specs.Run.{number_of}

@@ -1,11 +1,10 @@
 -- Neither core nor the tables show which tasks of a job have ended.
-use Rattle.std.proofs.Common.{◌≡◌, ℕ, List, [], ◌∷◌, ◌++◌, length, map, Option, Some, refl, sym, ap, ◌∙◌, subst, inl, inr}
-use Rattle.std.specs.Prelude.{◌==◌}
+use Rattle.std.proofs.Common.{◌≡◌, ℕ, List, [], ◌∷◌, ◌++◌, length, Option, Some, refl, sym, ap, ◌∙◌, subst, inl, inr}
 use Rattle.std.proofs.lemmas.Bool.Decides.{eqb_tells}
 use Rattle.b67_word.specs.declared.faults.Ending.{Ending}
 use Rattle.b67_lemmas.specs.Lists.{Has}
 use Rattle.b67_lemmas.proofs.Keyed.{change_is}
-use Rattle.b67_model.specs.State.{Task, Job, JobProgress, SessionJob}
+use Rattle.b67_model.specs.State.{Task, Job, SessionJob}
 use Rattle.b67_model.specs.Keyed.{keyed, change_keyed}
 use Rattle.b67_model.specs.Run.{number_of}
 use Rattle.b67_model.specs.Schedule.{Session}
@@ -17,7 +16,6 @@ use Rattle.b67_layout.specs.Layout.{machine_view}
 use Rattle.b67_layout.specs.Rows as rows
 use Rattle.b67_layout.specs.Rows.{JobCounts, TaskShows, JobShows, JobsShow, TablesShow}
 use Rattle.b67_layout.specs.Session.{RepresentsSession, with_objects}
-use Rattle.b67_layout.specs.Meets.{with_job}
 use Rattle.b67_layout_step.proofs.Alike.{AllAlike}
 use Rattle.b67_layout_step.proofs.Counted.{SameJobs, same_machine_view}
 use Rattle.b67_layout_step.proofs.Paged.{RepresentsSession-over}

@@ -17,7 +17,6 @@ use Rattle.b67_task_tables.specs.declared.tables.Machine.{Machine}
 use Rattle.b67_task_tables.specs.Tables.{MachineRepresents}
 use Rattle.b67_task_switch.specs.Turns.{with_running}
 use Rattle.b67_task_switch.specs.Standing.{HasRow}
-use Rattle.b67_task_end_stack.specs.Ends.{gone_of}
 use Rattle.b67_task_end.specs.declared.families.EndedTask.{EndedTask}
 use Rattle.b67_task_end.specs.Family.{TablesHold, IsRowOf, pair_of, endings_of}
 use Rattle.b67_task_end.proofs.Under.{deepest}

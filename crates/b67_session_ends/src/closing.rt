@@ -18,14 +18,14 @@ use b67_task_tables::{TaskRow, TaskState, Tasks};
 use b67_word::Ending;
 
 /// Whether the task of a number is among those that ended.
-pub fn is_dead(dead: &[EndedTask], number: u32) -> bool
+fn is_dead(dead: &[EndedTask], number: u32) -> bool
     ensures { result ≡ is_dead_of dead.now number }
 {
     dead.iter().any(|one| one.number == number)
 }
 
 /// Whether a row's task is of a job, and is left and ready once these have ended.
-pub fn is_left_ready(row: TaskRow, job: u8, dead: &[EndedTask]) -> bool
+fn is_left_ready(row: TaskRow, job: u8, dead: &[EndedTask]) -> bool
     ensures { result ≡ left_ready job dead.now row }
 {
     if row.job != job {
@@ -81,7 +81,7 @@ fn add_one(list: &mut ArrayVec<EndedTask, 30>, dead: &[EndedTask], number: u32)
 }
 
 /// DEADLOCK of all tasks that live but those that ended.
-pub fn add_stuck(list: &mut ArrayVec<EndedTask, 30>, dead: &[EndedTask], live: &[u32])
+fn add_stuck(list: &mut ArrayVec<EndedTask, 30>, dead: &[EndedTask], live: &[u32])
     requires before { length list.old.items ≤ 15 }
     requires few { length live.now ≤ 15 }
     ensures { map pair_of list.new.items ≡ map pair_of list.old.items ++ all_with endings.Deadlock (others_of dead.now live.now) }
@@ -93,11 +93,7 @@ pub fn add_stuck(list: &mut ArrayVec<EndedTask, 30>, dead: &[EndedTask], live: &
 
 /// All that end if these end by themselves or with their parent: if no task of the job is ready then, those that are left end
 /// by DEADLOCK.
-pub fn with_stuck(
-    tasks: &Tasks,
-    job: u8,
-    dead: &[EndedTask],
-) -> ArrayVec<EndedTask, 30>
+pub(crate) fn with_stuck(tasks: &Tasks, job: u8, dead: &[EndedTask]) -> ArrayVec<EndedTask, 30>
     requires head { HasSomeHead tasks.now job 255 }
     requires few { length dead.now ≤ 15 }
     ensures { (plan : Placement) (s : Session) (m : SessionJob) (number : ℕ) (ending : ending_type.Ending) → TablesHold plan s tasks.now → Has s.jobs m → m.constants.number ≡ job

@@ -32,12 +32,7 @@ pub fn end_by_limit<K: Sink>(machine: &mut Machine, paper: &mut K) -> Result<(),
     let job = machine.tasks.last_job;
     let live = live_of(&machine.tasks, job);
     let ended = all_ended(live.as_slice(), Ending::Limit);
-    match put_endings(
-        paper,
-        job,
-        ended.as_slice(),
-        &mut machine.tasks.printed,
-    ) {
+    match put_endings(paper, job, ended.as_slice(), &mut machine.tasks.printed) {
         Ok(()) => {}
         Err(failed) => return Err(failed),
     }

@@ -10,9 +10,9 @@ mod limits;
 mod texts;
 
 pub use closes::{close, end_stuck};
-pub use closing::{add_stuck, goes_on, is_dead, is_left_ready, with_stuck};
+pub use closing::goes_on;
 pub use counts::count_one;
 pub use deaths::{all_ended, end_job};
 pub use ends::{end_by_limit, finish};
-pub use limits::{has_row, is_at_limit};
+pub use limits::is_at_limit;
 pub use texts::put_endings;

@@ -26,7 +26,7 @@ fn has_made_all(tasks: &Tasks) -> bool
 
 /// Whether a task of a job lives.
 #[inline(always)]
-pub fn has_row(rows: &[TaskRow], job: u8) -> bool
+pub(crate) fn has_row(rows: &[TaskRow], job: u8) -> bool
     ensures { result ≡ list_any (λ r. r.job == job) rows.now }
 {
     rows.iter().any(|row| row.job == job)

@@ -1,0 +1,4 @@
+pub mod Waits
+pub mod Shown
+pub mod Held
+pub mod Stuck

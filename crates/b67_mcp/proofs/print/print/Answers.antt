@@ -6,10 +6,10 @@ use Rattle.b67_model.specs.declared.operators.Op.TheVariants.{Plain}
 use Rattle.b67_model.specs.declared.operators.Code.TheVariants.{Entr}
 use Rattle.b67_model.specs.Steps.{Value}
 use Rattle.b67_mcp_calls.specs.Calls.{job_cut}
-use Rattle.b67_mcp.proofs.Built.{built_of}
 use Rattle.b67_mcp.proofs.Callings.{calling, reads_of, call_some}
 use Rattle.b67_mcp.proofs.Present.{faults_untouched, made_untouched}
 use Rattle.b67_mcp.proofs.Sizes.{kept_printed}
+use Rattle.b67_mcp.proofs.Still.{as_many, stands_peak}
 use Rattle.b67_mcp.proofs.print.print.Goals as goal
 
 pub print_value-requires : goal.print_value-requires
@@ -46,10 +46,10 @@ returns-in-Ok-say_value-clause-row g c = λ x told plan s m t o h runs code call
       printed = Value c.in-Ok.value ∷ [];
       touched = None;
       is = k.is ∙ r.0 k.next;
-      built = built_of m t 9 called (inl (omega arith));
       storage = x;
       plan = plan;
-      stands = c.cut.ensures.stands x told plan s m t o h runs code r.1 k.next (Plain Entr, k.reading);
+      stands = stands_peak x told c.cut.new.machine plan s m (job_cut m t k.next) o.peak_low (as_many m t 9 k (inl (omega arith)) (job_cut m t k.next) (Value c.in-Ok.value ∷ []) None (k.is ∙ r.0 k.next))
+          (c.cut.ensures.stands x told plan s m t o h runs code r.1 k.next (Plain Entr, k.reading));
       text = subst (λ (v : ℤ). TookRest g.K.Sink.taken c.args.paper.now c.say_value.new.paper (printed_text m t (Value v ∷ [])) c.args.machine.now.tasks.printed) (to_z-of_z w64 c.in-Ok.value f) (c.in-Ok-say_value.ensures.whole x told plan s m t o h runs code);
       reset = c.cut.ensures.printed;
     })

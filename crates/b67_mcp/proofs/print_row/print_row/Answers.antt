@@ -6,11 +6,11 @@ use Rattle.b67_stack.specs.declared.What.TheVariants as what
 use Rattle.b67_mcp_calls.specs.Calls.{job_cut}
 use Rattle.b67_mcp_calls.specs.declared.row.Found.{Found}
 use Rattle.b67_mcp_calls.specs.RowCalls.{RowMeets, RowTouches}
-use Rattle.b67_mcp.proofs.Built.{built_of}
 use Rattle.b67_mcp.proofs.Callings.{calling, reads_of, call_some}
 use Rattle.b67_mcp.proofs.Touched.{touched_by_row}
 use Rattle.b67_mcp.proofs.Present.{row_faults, row_made}
 use Rattle.b67_mcp.proofs.Sizes.{kept_printed}
+use Rattle.b67_mcp.proofs.Still.{as_many, stands_peak}
 use Rattle.b67_mcp.proofs.print_row.print_row.Goals as goal
 
 pub row_to_print-requires : goal.row_to_print-requires
@@ -64,10 +64,10 @@ returns-in-Ok-say_words-clause-row g c = λ x told plan s m t o h runs code call
       printed = Values row.values ∷ [];
       touched = Some row.array;
       is = k.is ∙ row.makes k.next;
-      built = built_of m t 10 called (inl (omega arith));
       storage = x;
       plan = plan;
-      stands = c.cut.ensures.stands x told plan s m t o h runs code row.may k.next (Plain Entr, k.reading);
+      stands = stands_peak x told c.cut.new.machine plan s m (job_cut m t k.next) o.peak_low (as_many m t 10 k (inl (omega arith)) (job_cut m t k.next) (Values row.values ∷ []) (Some row.array) (k.is ∙ row.makes k.next))
+          (c.cut.ensures.stands x told plan s m t o h runs code row.may k.next (Plain Entr, k.reading));
       text = c.in-Ok-say_words.ensures.whole x told plan s m t o h runs code row.values row.lies;
       reset = c.cut.ensures.printed;
     })

@@ -1,4 +1,4 @@
-use Rattle.std.proofs.Common.{◌<◌, List, length, Some, None, Ok, refl, ◌∙◌, ap, arith, subst, inr, ⊎_elim}
+use Rattle.std.proofs.Common.{◌<◌, List, length, Some, None, Ok, refl, ◌∙◌, ap, arith, subst, ⊎_elim}
 use Rattle.std.proofs.lemmas.Bool.{cases_lt}
 use Rattle.b67_word.specs.Tagged.{Tagged}
 use Rattle.b67_word.specs.declared.couples.Place.{Place}
@@ -18,7 +18,6 @@ use Rattle.b67_stack.specs.declared.What.TheVariants as what
 use Rattle.b67_task_tables.specs.declared.tables.Machine.{Machine}
 use Rattle.b67_task_tables.specs.declared.tables.Tasks.{Tasks}
 use Rattle.b67_task_tables.specs.Tables.{MachineRepresents}
-use Rattle.b67_mcp.proofs.Built.{built_of}
 use Rattle.b67_mcp.proofs.Callings.{calling, reads_of, call_some}
 use Rattle.b67_mcp.proofs.Cut.{one_behind}
 use Rattle.b67_mcp.proofs.Cutting.{resized_fit, order_changed, runs_changed, may_changed, cuts, stands_cut}
@@ -152,7 +151,7 @@ returns-in-Err-set_length-clause-row g c = λ x told plan s m t o h runs code ca
     let set = c.in-Err-set_length.ensures.row x told plan s m t o h runs a q.0.which.among q.0.which.home q.0.which.writable q.1 q.2 says in
     let up : c.in-Lengths.before < c.in-Lengths.after = ⊎_elim (λ up. up) (λ down. absurd (let z : ⊥ = (let e = (c.in-Err-set_length.ensures.quiet down).0 in cc) in z)) (cases_lt c.in-Lengths.before c.in-Lengths.after) in
     let d = content_after told (g.B.Backing.holds c.set_length.new.backing) in
-    refused x told old plan s m t o h runs k c.in-Lengths.original c.in-Lengths.before c.in-Lengths.after q d (g.B.Backing.size c.args.backing.now) c.set_length.new.machine c.in-Err-set_length.stop (built_of m t 18 called (inr (omega arith))) up set)
+    refused x told old plan s m t o h runs k c.in-Lengths.original c.in-Lengths.before c.in-Lengths.after q d (g.B.Backing.size c.args.backing.now) c.set_length.new.machine c.in-Err-set_length.stop up set)
 
 pub returns-in-Err-set_length-clause-present : goal.returns-in-Err-set_length-clause-present
 returns-in-Err-set_length-clause-present g c = λ x told plan s m t o h runs code called.

@@ -1,4 +1,4 @@
-use Rattle.std.proofs.Common.{◌≡◌, ◌≢◌, ◌≤◌, ℕ, ◌+◌, List, Option, None, Result, Ok, Err, length, refl, sym, ap, ◌∙◌, subst, arith}
+use Rattle.std.proofs.Common.{◌≡◌, ◌≢◌, ◌≤◌, ℕ, ◌+◌, List, Option, None, Result, Ok, Err, length, refl, sym, ◌∙◌, subst, arith}
 use Rattle.b67_model.specs.State.{Task, SessionJob}
 use Rattle.b67_model.specs.Schedule.{Session}
 use Rattle.b67_layout_storage.specs.Machine.{Says, content_after}
@@ -70,7 +70,7 @@ step-init g c = record {
   begun = λ none. (refl, refl);
   none = λ none. refl;
   unprinted = λ none. refl;
-  quiet = λ known s m t h says few wants same. refl;
+  quiet = λ known s m t h says next few wants same. refl;
 }
 
 pub step-requires-clause-lives : goal.step-requires-clause-lives

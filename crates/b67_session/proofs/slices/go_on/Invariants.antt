@@ -3,7 +3,7 @@ use Rattle.b67_model.specs.State.{Task, SessionJob}
 use Rattle.b67_model.specs.Schedule.{Session}
 use Rattle.b67_layout_storage.specs.Machine.{Says, DeviceAfterCalls, content_after}
 use Rattle.b67_law_turns.specs.Turns.{IsNext}
-use Rattle.b67_session_attempt.specs.Passed.{AreCountable, Lengthens}
+use Rattle.b67_session_attempt.specs.Passed.{AreCountable, CallsDevice}
 use Rattle.b67_session_attempt.specs.Attempts.{WantsNothing}
 use Rattle.b67_session.specs.Slices.{StandsAt, Keeps}
 use Rattle.b67_session.proofs.Going.{Going}
@@ -21,5 +21,5 @@ invariant-step g l = record {
   none : l.initial.machine.tasks.rows.items ≡ [] → l._made ≡ 0;
   unprinted : l._made ≡ 0 → l.paper ≡ l.initial.paper;
   quiet : (known : Option (List (List ℕ))) (s : Session) (m : SessionJob) (t : Task) (h : StandsAt known l.initial.machine s) → Says known (g.B.Backing.holds l.initial.backing) → IsNext s m t
-      → l.n ≤ 1 → WantsNothing h.storage h.plan m t → (Lengthens m t → ⊥) → l.backing ≡ l.initial.backing;
+      → l.n ≤ 1 → WantsNothing h.storage h.plan m t → (CallsDevice m t → ⊥) → l.backing ≡ l.initial.backing;
 }

@@ -1,10 +1,10 @@
-use Rattle.std.proofs.Common.{◌≡◌, ◌≢◌, ◌+◌, ℕ, List, Option, None, Ok, Err, refl, sym, ap, ◌∙◌, subst, inl, inr, arith}
+use Rattle.std.proofs.Common.{◌≢◌, ℕ, List, Option, None, sym, ap, ◌∙◌, subst, inl, inr, arith}
 use Rattle.b67_layout_storage.specs.Machine.{content_after}
 use Rattle.b67_layout_storage.proofs.Devices.{Served-none}
 use Rattle.b67_overlay.proofs.Chains.{retold-same}
 use Rattle.b67_task_tables.specs.declared.tables.Tasks.{Tasks}
 use Rattle.b67_session_attempt.specs.Passed.{AreCountable}
-use Rattle.b67_session.specs.Slices.{StandsSome, StandsLimited}
+use Rattle.b67_session.specs.Slices.{StandsLimited}
 use Rattle.b67_session.proofs.Going.{Going, going-begins, going-ended}
 use Rattle.b67_session.proofs.Pausing.{says_retold}
 use Rattle.b67_session.proofs.Rows.{empty_rows, some_rows}
@@ -61,9 +61,9 @@ context g c = open_limited (g.B.Backing.holds c.args.backing.now) c.args.machine
 pub end_by_limit-requires : goal.end_by_limit-requires
 end_by_limit-requires g c = has_limited (g.B.Backing.holds c.args.backing.now) c.args.machine.now (context g (goal.at.end_by_limit-requires g c).Else-not-is_at_limit)
 
-pub go_on-2-requires-clause-stands : goal.go_on-2-requires-clause-stands
-go_on-2-requires-clause-stands g c =
-    let l = context g (goal.at.go_on-2-requires-clause-stands g c).Else-not-is_at_limit in
+pub go_on-requires-in-Ok-clause-stands : goal.go_on-requires-in-Ok-clause-stands
+go_on-requires-in-Ok-clause-stands g c =
+    let l = context g (goal.at.go_on-requires-in-Ok-clause-stands g c).Else-not-is_at_limit in
     let q = l.limited in
     record {
       known = l.known;
@@ -73,11 +73,11 @@ go_on-2-requires-clause-stands g c =
           (c.in-Ok.ensures.ends q.storage l.known q.plan l.session l.part q.ordered q.is q.stands);
     }
 
-pub go_on-2-requires-clause-countable : goal.go_on-2-requires-clause-countable
-go_on-2-requires-clause-countable g c = subst (λ (z : Tasks). AreCountable z.jobs) (sym c.end_by_limit.ensures.keeps.tasks) c.requires.open.countable
+pub go_on-requires-in-Ok-clause-countable : goal.go_on-requires-in-Ok-clause-countable
+go_on-requires-in-Ok-clause-countable g c = subst (λ (z : Tasks). AreCountable z.jobs) (sym c.end_by_limit.ensures.keeps.tasks) c.requires.open.countable
 
-pub go_on-2-requires-clause-sized : goal.go_on-2-requires-clause-sized
-go_on-2-requires-clause-sized g c = omega (arith, c.end_by_limit.ensures.keeps.sectors, c.requires.sized)
+pub go_on-requires-in-Ok-clause-sized : goal.go_on-requires-in-Ok-clause-sized
+go_on-requires-in-Ok-clause-sized g c = omega (arith, c.end_by_limit.ensures.keeps.sectors, c.requires.sized)
 
 pub returns-in-Ok-clause-row : goal.returns-in-Ok-clause-row
 returns-in-Ok-clause-row g c = λ known s says h. absurd (stands_not known c.args.machine.now s h c.is_at_limit.ensures c.if-not-is_at_limit.false)
@@ -97,9 +97,9 @@ returns-in-Ok-clause-resumed g c = λ known h part says l.
       unprinted = ends.1;
       keeps = keeps_counts c.args.machine.now c.end_by_limit.new.machine c.end_by_limit.ensures.keeps;
       prints = over_prints known h part c.args.machine.now l g.K.Sink.taken c.end_by_limit.new.machine c.args.paper.now c.end_by_limit.new.paper ends;
-      slices = c.go_on-2.ensures.row known part.session says stands;
-      present = λ q m t n. c.go_on-2.ensures.present known part.session m t says q n;
-      rests = λ none. (c.go_on-2.ensures.ended known part.session (record { storage = stands.storage; plan = stands.plan; stands = stands.stands; none = none })).backing;
+      slices = c.go_on-in-Ok.ensures.row known part.session says stands;
+      present = λ q m t n. c.go_on-in-Ok.ensures.present known part.session m t says q n;
+      rests = λ none. (c.go_on-in-Ok.ensures.ended known part.session (record { storage = stands.storage; plan = stands.plan; stands = stands.stands; none = none })).backing;
     }))
 
 pub returns-in-Ok-clause-ended : goal.returns-in-Ok-clause-ended
@@ -110,13 +110,13 @@ returns-in-Ok-clause-open g c =
     let l = context g (goal.at.returns-in-Ok-clause-open g c).Else-not-is_at_limit in
     let q = l.limited in
     let stands = over_stands l.known l.session l.part c.args.machine.now q g.K.Sink.taken c.end_by_limit.new.machine c.args.paper.now c.end_by_limit.new.paper (c.in-Ok.ensures.ends q.storage l.known q.plan l.session l.part q.ordered q.is q.stands) in
-    open_again g.K.Sink.taken (content_after l.known (g.B.Backing.holds c.go_on-2.new.backing)) (g.B.Backing.holds c.go_on-2.new.backing) (l.known ≢ None) (g.B.Backing.size c.args.backing.now) c.args.n l.part.session c.go_on-2.result
-    c.end_by_limit.new.machine c.go_on-2.new.machine c.end_by_limit.new.paper c.go_on-2.new.paper (says_retold l.known (g.B.Backing.holds c.go_on-2.new.backing)) c.go_on-2.ensures.countable (c.go_on-2.ensures.row l.known l.part.session l.says stands)
+    open_again g.K.Sink.taken (content_after l.known (g.B.Backing.holds c.go_on-in-Ok.new.backing)) (g.B.Backing.holds c.go_on-in-Ok.new.backing) (l.known ≢ None) (g.B.Backing.size c.args.backing.now) c.args.n l.part.session c.go_on-in-Ok.result
+    c.end_by_limit.new.machine c.go_on-in-Ok.new.machine c.end_by_limit.new.paper c.go_on-in-Ok.new.paper (says_retold l.known (g.B.Backing.holds c.go_on-in-Ok.new.backing)) c.go_on-in-Ok.ensures.countable (c.go_on-in-Ok.ensures.row l.known l.part.session l.says stands)
 
 pub returns-in-Ok-clause-keeps : goal.returns-in-Ok-clause-keeps
 returns-in-Ok-clause-keeps g c =
     let first = keeps_counts c.args.machine.now c.end_by_limit.new.machine c.end_by_limit.ensures.keeps in
-    let rest = c.go_on-2.ensures.keeps in
+    let rest = c.go_on-in-Ok.ensures.keeps in
     record { core = rest.core ∙ first.core; sectors = rest.sectors ∙ first.sectors; halt = rest.halt ∙ first.halt; names = rest.names ∙ first.names }
 
 pub returns-in-Err-clause-row : goal.returns-in-Err-clause-row

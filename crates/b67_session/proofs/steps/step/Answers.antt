@@ -1,12 +1,14 @@
-use Rattle.std.proofs.Common.{◌≡◌, Ok, Err, sym, ap, ◌∙◌, subst}
-use Rattle.std.proofs.lemmas.Option.{none-some}
+use Rattle.std.proofs.Common.{◌≡◌, Ok, Err, sym, ap, ◌∙◌, subst, arith}
 use Rattle.b67_task_tables.specs.declared.tables.Tasks.{Tasks}
-use Rattle.b67_session_attempt.specs.Passed.{AreCountable}
+use Rattle.b67_task_tables.specs.Runs.{Keeps}
+use Rattle.b67_session_attempt.specs.Passed.{AreCountable, CanNumber}
 use Rattle.b67_session_attempt.specs.declared.attempts.Attempt.{Attempt}
 use Rattle.b67_session_attempt.specs.declared.attempts.Attempt.TheVariants as attempts
 use Rattle.b67_session_attempt.proofs.Runs.{caused_stop}
+use Rattle.b67_session.proofs.Caused.{step_causes, keeps_then, close_keeps, turn_keeps}
+use Rattle.b67_session.proofs.Rooms.{can_number}
 use Rattle.b67_session.proofs.Turned.{Tries, who, has_row, turned, runs_over}
-use Rattle.b67_session.proofs.Tried.{tries_as, made_counts, made_between, made_row, made_present, ends_counts, ends_chose, closed_between, ends_row, ends_present, cut_row, cut_present, stop_row, stop_present}
+use Rattle.b67_session.proofs.Tried.{tries_as, made_counts, made_between, made_row, made_present, close_counts, closed_between, closed_row, closed_present, cut_row, cut_present, ending_made, ending_so, ending_chose, ending_closes, waiting_made, waiting_so, waiting_some, waiting_closes, stop_row, stop_present}
 use Rattle.b67_session.proofs.steps.step.Given.{Over}
 use Rattle.b67_session.proofs.steps.step.Goals.{After-attempt}
 use Rattle.b67_session.proofs.steps.step.Goals as goal
@@ -30,21 +32,16 @@ halted g c = c.attempt.ensures.kept.keeps.halt ∙ ap (λ (z : Tasks). z.halt) c
 countable : (g : Over) (c : After-attempt g) → AreCountable c.attempt.new.machine.tasks.jobs
 countable g c = c.attempt.ensures.kept.countable (subst (λ (z : Tasks). AreCountable z.jobs) (sym c.give_turn.ensures.tables) c.requires.countable)
 
-pub returns-in-None-clause-row : goal.returns-in-None-clause-row
-returns-in-None-clause-row g c = λ known s says h.
-    (let l = c.requires.lives in absurd (none-some l.next.chosen (sym (c.in-None.ensures.choice l.some.stands.plan l.some.session l.some.stands.ordered l.some.stands.stands.tables) ∙ l.next.is)))
-
-pub returns-in-None-clause-present : goal.returns-in-None-clause-present
-returns-in-None-clause-present g c = λ known s m t says h next.
-    (let l = c.requires.lives in absurd (none-some l.next.chosen (sym (c.in-None.ensures.choice l.some.stands.plan l.some.session l.some.stands.ordered l.some.stands.stands.tables) ∙ l.next.is)))
+kept : (g : Over) (c : After-attempt g) → Keeps c.args.machine.now c.attempt.new.machine
+kept g c = turn_keeps c.args.machine.now c.give_turn.new.machine c.attempt.new.machine c.in-Some.chosen.row c.give_turn.ensures.tables c.give_turn.ensures.len c.give_turn.ensures.sectors c.attempt.ensures.kept.keeps
 
 pub give_turn-requires : goal.give_turn-requires
-give_turn-requires g c = 
+give_turn-requires g c =
     let l = c.requires.lives.some in
     has_row l.known c.args.machine.now l.session l.stands c.in-Some.chosen (c.in-Some.ensures.choice l.stands.plan l.session l.stands.ordered l.stands.stands.tables)
 
 pub attempt-requires-clause-runs : goal.attempt-requires-clause-runs
-attempt-requires-clause-runs g c = 
+attempt-requires-clause-runs g c =
     let l = c.requires.lives.some in
     let chooses = c.in-Some.ensures.choice l.stands.plan l.session l.stands.ordered l.stands.stands.tables in
     let w = who l.known c.args.machine.now l.session l.stands c.in-Some.chosen chooses in
@@ -54,11 +51,20 @@ attempt-requires-clause-runs g c =
 pub attempt-requires-clause-countable : goal.attempt-requires-clause-countable
 attempt-requires-clause-countable g c = subst (λ (z : Tasks). AreCountable z.jobs) (sym c.give_turn.ensures.tables) c.requires.countable
 
+pub attempt-requires-clause-number : goal.attempt-requires-clause-number
+attempt-requires-clause-number g c =
+    let l = c.requires.lives.some in
+    subst (λ (z : Tasks). CanNumber z.jobs) (sym c.give_turn.ensures.tables) (can_number l.stands.plan l.session c.args.machine.now.tasks l.stands.ordered l.stands.stands.tables)
+
 pub count_one-requires : goal.count_one-requires
-count_one-requires g c = let l = c.requires.lives.some in made_counts (tries_as c.attempt.result (Ok attempts.Made) (c.in-Ok-Made.is ∙ ap (λ (z : Attempt). Ok z) c.in-Ok-Made.field-0-is) (context g (goal.at.count_one-requires g c).After-attempt)) l.known l.session l.says l.stands
+count_one-requires g c =
+    let l = c.requires.lives.some in
+    made_counts (tries_as c.attempt.result (Ok attempts.Made) (c.in-Ok-Made.is ∙ ap (λ (z : Attempt). Ok z) c.in-Ok-Made.field-0-is) (context g (goal.at.count_one-requires g c).After-attempt)) l.known l.session l.says l.stands
 
 pub end_step-requires : goal.end_step-requires
-end_step-requires g c = let l = c.requires.lives.some in made_between (tries_as c.attempt.result (Ok attempts.Made) (c.in-Ok-Made.is ∙ ap (λ (z : Attempt). Ok z) c.in-Ok-Made.field-0-is) (context g (goal.at.end_step-requires g c).After-attempt)) l.known l.session l.says l.stands c.count_one.new.tasks c.count_one.ensures
+end_step-requires g c =
+    let l = c.requires.lives.some in
+    made_between (tries_as c.attempt.result (Ok attempts.Made) (c.in-Ok-Made.is ∙ ap (λ (z : Attempt). Ok z) c.in-Ok-Made.field-0-is) (context g (goal.at.end_step-requires g c).After-attempt)) l.known l.session l.says l.stands c.count_one.new.tasks c.count_one.ensures
 
 pub returns-in-Ok-Made-clause-row : goal.returns-in-Ok-Made-clause-row
 returns-in-Ok-Made-clause-row g c = λ known s says h.
@@ -69,40 +75,140 @@ returns-in-Ok-Made-clause-present g c = λ known s m t says h next.
     made_present (tries_as c.attempt.result (Ok attempts.Made) (c.in-Ok-Made.is ∙ ap (λ (z : Attempt). Ok z) c.in-Ok-Made.field-0-is) (context g (goal.at.returns-in-Ok-Made-clause-present g c).After-attempt)) known s says h c.count_one.new.tasks c.count_one.ensures c.end_step.result c.end_step.new.machine c.end_step.new.paper c.end_step.ensures.finishes m t next
 
 pub returns-in-Ok-Made-clause-countable : goal.returns-in-Ok-Made-clause-countable
-returns-in-Ok-Made-clause-countable g c = 
+returns-in-Ok-Made-clause-countable g c =
     subst (λ (z : Tasks). AreCountable z.jobs) (sym c.end_step.ensures.keeps.tasks) (c.count_one.ensures.countable (countable g (goal.at.returns-in-Ok-Made-clause-countable g c).After-attempt))
 
+pub returns-in-Ok-Made-clause-causes : goal.returns-in-Ok-Made-clause-causes
+returns-in-Ok-Made-clause-causes g c =
+    step_causes g.B.Backing.faults g.K.Sink.faults c.args.backing.now c.attempt.new.backing c.args.paper.now c.attempt.new.paper c.end_step.new.paper c.end_step.result c.attempt.ensures.causes.printer.later c.end_step.ensures.later c.end_step.ensures.cause c.end_step.ensures.other
+
+pub returns-in-Ok-Made-clause-keeps : goal.returns-in-Ok-Made-clause-keeps
+returns-in-Ok-Made-clause-keeps g c =
+    let k = kept g (goal.at.returns-in-Ok-Made-clause-keeps g c).After-attempt in
+    let mid = record c.attempt.new.machine { tasks = c.count_one.new.tasks } in
+    keeps_then c.args.machine.now mid c.end_step.new.machine (record { core = k.core; sectors = k.sectors; halt = c.count_one.ensures.halt ∙ k.halt; names = c.count_one.ensures.names ∙ k.names }) c.end_step.ensures.keeps
+
 pub close-requires-clause-row : goal.close-requires-clause-row
-close-requires-clause-row g c = let l = c.requires.lives.some in ends_chose c.in-Ok-Ends.ending (tries_as c.attempt.result (Ok (attempts.Ends c.in-Ok-Ends.ending)) (c.in-Ok-Ends.is ∙ ap (λ (z : Attempt). Ok z) c.in-Ok-Ends.field-0-is) (context g (goal.at.close-requires-clause-row g c).After-attempt)) l.known l.session l.says l.stands
+close-requires-clause-row g c =
+    let l = c.requires.lives.some in
+    ending_chose c.in-Ok-Ends.ending (tries_as c.attempt.result (Ok (attempts.Ends c.in-Ok-Ends.ending)) (c.in-Ok-Ends.is ∙ ap (λ (z : Attempt). Ok z) c.in-Ok-Ends.field-0-is) (context g (goal.at.close-requires-clause-row g c).After-attempt)) l.known l.session l.says l.stands
 
 pub close-requires-clause-room : goal.close-requires-clause-room
-close-requires-clause-room g c = let l = c.requires.lives.some in ends_counts c.in-Ok-Ends.ending (tries_as c.attempt.result (Ok (attempts.Ends c.in-Ok-Ends.ending)) (c.in-Ok-Ends.is ∙ ap (λ (z : Attempt). Ok z) c.in-Ok-Ends.field-0-is) (context g (goal.at.close-requires-clause-room g c).After-attempt)) l.known l.session l.says l.stands
+close-requires-clause-room g c =
+    let l = c.requires.lives.some in
+    let x = (tries_as c.attempt.result (Ok (attempts.Ends c.in-Ok-Ends.ending)) (c.in-Ok-Ends.is ∙ ap (λ (z : Attempt). Ok z) c.in-Ok-Ends.field-0-is) (context g (goal.at.close-requires-clause-room g c).After-attempt)) in
+    close_counts (attempts.Ends c.in-Ok-Ends.ending) x x.stay l.known l.session l.says l.stands (ending_made c.in-Ok-Ends.ending x l.known l.session l.says l.stands) (ending_so c.in-Ok-Ends.ending x l.known l.session l.says l.stands)
 
-pub end_step-2-requires : goal.end_step-2-requires
-end_step-2-requires g c = let l = c.requires.lives.some in closed_between c.in-Ok-Ends.ending (tries_as c.attempt.result (Ok (attempts.Ends c.in-Ok-Ends.ending)) (c.in-Ok-Ends.is ∙ ap (λ (z : Attempt). Ok z) c.in-Ok-Ends.field-0-is) (context g (goal.at.end_step-2-requires g c).After-attempt)) l.known l.session l.says l.stands c.close.new.machine c.close.new.paper c.in-Ok-2.ensures.closes
+pub end_step-requires-in-Ok : goal.end_step-requires-in-Ok
+end_step-requires-in-Ok g c =
+    let l = c.requires.lives.some in
+    let x = (tries_as c.attempt.result (Ok (attempts.Ends c.in-Ok-Ends.ending)) (c.in-Ok-Ends.is ∙ ap (λ (z : Attempt). Ok z) c.in-Ok-Ends.field-0-is) (context g (goal.at.end_step-requires-in-Ok g c).After-attempt)) in
+    closed_between (attempts.Ends c.in-Ok-Ends.ending) x x.stay l.known l.session l.says l.stands (ending_made c.in-Ok-Ends.ending x l.known l.session l.says l.stands) (ending_so c.in-Ok-Ends.ending x l.known l.session l.says l.stands) c.close.new.machine c.close.new.paper (ending_closes c.in-Ok-Ends.ending x l.known l.session l.says l.stands (Ok tt) c.close.new.machine c.close.new.paper c.in-Ok.ensures.closes)
 
-pub returns-in-Ok-Ends-in-Ok-clause-row : goal.returns-in-Ok-Ends-in-Ok-clause-row
-returns-in-Ok-Ends-in-Ok-clause-row g c = λ known s says h.
-    ends_row c.in-Ok-Ends.ending (tries_as c.attempt.result (Ok (attempts.Ends c.in-Ok-Ends.ending)) (c.in-Ok-Ends.is ∙ ap (λ (z : Attempt). Ok z) c.in-Ok-Ends.field-0-is) (context g (goal.at.returns-in-Ok-Ends-in-Ok-clause-row g c).After-attempt)) known s says h c.close.new.machine c.close.new.paper c.in-Ok-2.ensures.closes c.end_step-2.result c.end_step-2.new.machine c.end_step-2.new.paper c.end_step-2.ensures.finishes c.end_step-2.ensures.keeps
+pub returns-in-Ok-clause-row : goal.returns-in-Ok-clause-row
+returns-in-Ok-clause-row g c = λ known s says h.
+    (let x = (tries_as c.attempt.result (Ok (attempts.Ends c.in-Ok-Ends.ending)) (c.in-Ok-Ends.is ∙ ap (λ (z : Attempt). Ok z) c.in-Ok-Ends.field-0-is) (context g (goal.at.returns-in-Ok-clause-row g c).After-attempt)) in
+    closed_row (attempts.Ends c.in-Ok-Ends.ending) x x.stay known s says h (ending_made c.in-Ok-Ends.ending x known s says h) (ending_so c.in-Ok-Ends.ending x known s says h) c.close.new.machine c.close.new.paper (ending_closes c.in-Ok-Ends.ending x known s says h (Ok tt) c.close.new.machine c.close.new.paper c.in-Ok.ensures.closes) c.end_step-in-Ok.result c.end_step-in-Ok.new.machine c.end_step-in-Ok.new.paper c.end_step-in-Ok.ensures.finishes c.end_step-in-Ok.ensures.keeps)
 
-pub returns-in-Ok-Ends-in-Ok-clause-present : goal.returns-in-Ok-Ends-in-Ok-clause-present
-returns-in-Ok-Ends-in-Ok-clause-present g c = λ known s m t says h next.
-    ends_present c.in-Ok-Ends.ending (tries_as c.attempt.result (Ok (attempts.Ends c.in-Ok-Ends.ending)) (c.in-Ok-Ends.is ∙ ap (λ (z : Attempt). Ok z) c.in-Ok-Ends.field-0-is) (context g (goal.at.returns-in-Ok-Ends-in-Ok-clause-present g c).After-attempt)) known s says h c.close.new.machine c.close.new.paper c.in-Ok-2.ensures.closes c.end_step-2.result c.end_step-2.new.machine c.end_step-2.new.paper c.end_step-2.ensures.finishes m t next
+pub returns-in-Ok-clause-present : goal.returns-in-Ok-clause-present
+returns-in-Ok-clause-present g c = λ known s m t says h next.
+    (let x = (tries_as c.attempt.result (Ok (attempts.Ends c.in-Ok-Ends.ending)) (c.in-Ok-Ends.is ∙ ap (λ (z : Attempt). Ok z) c.in-Ok-Ends.field-0-is) (context g (goal.at.returns-in-Ok-clause-present g c).After-attempt)) in
+    closed_present (attempts.Ends c.in-Ok-Ends.ending) x x.stay known s says h (ending_made c.in-Ok-Ends.ending x known s says h) (ending_so c.in-Ok-Ends.ending x known s says h) c.close.new.machine c.close.new.paper (ending_closes c.in-Ok-Ends.ending x known s says h (Ok tt) c.close.new.machine c.close.new.paper c.in-Ok.ensures.closes) c.end_step-in-Ok.result c.end_step-in-Ok.new.machine c.end_step-in-Ok.new.paper c.end_step-in-Ok.ensures.finishes m t next)
 
-pub returns-in-Ok-Ends-in-Ok-clause-countable : goal.returns-in-Ok-Ends-in-Ok-clause-countable
-returns-in-Ok-Ends-in-Ok-clause-countable g c = 
-    subst (λ (z : Tasks). AreCountable z.jobs) (sym c.end_step-2.ensures.keeps.tasks) (c.close.ensures.keeps.countable (countable g (goal.at.returns-in-Ok-Ends-in-Ok-clause-countable g c).After-attempt))
+pub returns-in-Ok-clause-countable : goal.returns-in-Ok-clause-countable
+returns-in-Ok-clause-countable g c =
+    subst (λ (z : Tasks). AreCountable z.jobs) (sym c.end_step-in-Ok.ensures.keeps.tasks) (c.close.ensures.keeps.countable (countable g (goal.at.returns-in-Ok-clause-countable g c).After-attempt))
 
-pub returns-in-Ok-Ends-in-Err-clause-row : goal.returns-in-Ok-Ends-in-Err-clause-row
-returns-in-Ok-Ends-in-Err-clause-row g c = λ known s says h.
-    cut_row c.in-Ok-Ends.ending (tries_as c.attempt.result (Ok (attempts.Ends c.in-Ok-Ends.ending)) (c.in-Ok-Ends.is ∙ ap (λ (z : Attempt). Ok z) c.in-Ok-Ends.field-0-is) (context g (goal.at.returns-in-Ok-Ends-in-Err-clause-row g c).After-attempt)) known s says h c.in-Err-2._failed c.close.new.machine c.close.new.paper c.requires.due (halted g (goal.at.returns-in-Ok-Ends-in-Err-clause-row g c).After-attempt) c.in-Err-2.ensures.closes
+pub returns-in-Ok-clause-causes : goal.returns-in-Ok-clause-causes
+returns-in-Ok-clause-causes g c =
+    step_causes g.B.Backing.faults g.K.Sink.faults c.args.backing.now c.attempt.new.backing c.args.paper.now c.close.new.paper c.end_step-in-Ok.new.paper c.end_step-in-Ok.result (omega (arith, c.attempt.ensures.causes.printer.later, c.close.ensures.cause.later)) c.end_step-in-Ok.ensures.later c.end_step-in-Ok.ensures.cause c.end_step-in-Ok.ensures.other
 
-pub returns-in-Ok-Ends-in-Err-clause-present : goal.returns-in-Ok-Ends-in-Err-clause-present
-returns-in-Ok-Ends-in-Err-clause-present g c = λ known s m t says h next.
-    cut_present c.in-Ok-Ends.ending (tries_as c.attempt.result (Ok (attempts.Ends c.in-Ok-Ends.ending)) (c.in-Ok-Ends.is ∙ ap (λ (z : Attempt). Ok z) c.in-Ok-Ends.field-0-is) (context g (goal.at.returns-in-Ok-Ends-in-Err-clause-present g c).After-attempt)) known s says h c.in-Err-2._failed c.close.new.machine c.close.new.paper m t next
+pub returns-in-Ok-clause-keeps : goal.returns-in-Ok-clause-keeps
+returns-in-Ok-clause-keeps g c =
+    keeps_then c.args.machine.now c.close.new.machine c.end_step-in-Ok.new.machine (close_keeps c.args.machine.now c.attempt.new.machine c.close.new.machine (kept g (goal.at.returns-in-Ok-clause-keeps g c).After-attempt) c.close.ensures.keeps) c.end_step-in-Ok.ensures.keeps
 
-pub returns-in-Ok-Ends-in-Err-clause-countable : goal.returns-in-Ok-Ends-in-Err-clause-countable
-returns-in-Ok-Ends-in-Err-clause-countable g c = c.close.ensures.keeps.countable (countable g (goal.at.returns-in-Ok-Ends-in-Err-clause-countable g c).After-attempt)
+pub returns-in-Err-close-clause-row : goal.returns-in-Err-close-clause-row
+returns-in-Err-close-clause-row g c = λ known s says h.
+    (let x = (tries_as c.attempt.result (Ok (attempts.Ends c.in-Ok-Ends.ending)) (c.in-Ok-Ends.is ∙ ap (λ (z : Attempt). Ok z) c.in-Ok-Ends.field-0-is) (context g (goal.at.returns-in-Err-close-clause-row g c).After-attempt)) in
+    cut_row (attempts.Ends c.in-Ok-Ends.ending) x x.stay known s says h (ending_made c.in-Ok-Ends.ending x known s says h) (ending_so c.in-Ok-Ends.ending x known s says h) c.in-Err-close._failed c.close.new.machine c.close.new.paper c.requires.due (halted g (goal.at.returns-in-Err-close-clause-row g c).After-attempt) (ending_closes c.in-Ok-Ends.ending x known s says h (Err c.in-Err-close._failed) c.close.new.machine c.close.new.paper c.in-Err-close.ensures.closes))
+
+pub returns-in-Err-close-clause-present : goal.returns-in-Err-close-clause-present
+returns-in-Err-close-clause-present g c = λ known s m t says h next.
+    (let x = (tries_as c.attempt.result (Ok (attempts.Ends c.in-Ok-Ends.ending)) (c.in-Ok-Ends.is ∙ ap (λ (z : Attempt). Ok z) c.in-Ok-Ends.field-0-is) (context g (goal.at.returns-in-Err-close-clause-present g c).After-attempt)) in
+    cut_present (attempts.Ends c.in-Ok-Ends.ending) x x.stay known s says h (ending_made c.in-Ok-Ends.ending x known s says h) (ending_so c.in-Ok-Ends.ending x known s says h) c.in-Err-close._failed c.close.new.machine c.close.new.paper m t next)
+
+pub returns-in-Err-close-clause-countable : goal.returns-in-Err-close-clause-countable
+returns-in-Err-close-clause-countable g c =
+    c.close.ensures.keeps.countable (countable g (goal.at.returns-in-Err-close-clause-countable g c).After-attempt)
+
+pub returns-in-Err-close-clause-causes : goal.returns-in-Err-close-clause-causes
+returns-in-Err-close-clause-causes g c =
+    step_causes g.B.Backing.faults g.K.Sink.faults c.args.backing.now c.attempt.new.backing c.args.paper.now c.attempt.new.paper c.close.new.paper _ c.attempt.ensures.causes.printer.later c.close.ensures.cause.later (λ e. c.in-Err-close.ensures.cause.failed) (λ e. absurd cc)
+
+pub returns-in-Err-close-clause-keeps : goal.returns-in-Err-close-clause-keeps
+returns-in-Err-close-clause-keeps g c =
+    close_keeps c.args.machine.now c.attempt.new.machine c.close.new.machine (kept g (goal.at.returns-in-Err-close-clause-keeps g c).After-attempt) c.close.ensures.keeps
+
+pub hold-requires-clause-row : goal.hold-requires-clause-row
+hold-requires-clause-row g c =
+    let l = c.requires.lives.some in
+    waiting_some c.in-Ok-Waits.state (tries_as c.attempt.result (Ok (attempts.Waits c.in-Ok-Waits.state)) (c.in-Ok-Waits.is ∙ ap (λ (z : Attempt). Ok z) c.in-Ok-Waits.field-0-is) (context g (goal.at.hold-requires-clause-row g c).After-attempt)) l.known l.session l.says l.stands
+
+pub hold-requires-clause-room : goal.hold-requires-clause-room
+hold-requires-clause-room g c =
+    let l = c.requires.lives.some in
+    let x = (tries_as c.attempt.result (Ok (attempts.Waits c.in-Ok-Waits.state)) (c.in-Ok-Waits.is ∙ ap (λ (z : Attempt). Ok z) c.in-Ok-Waits.field-0-is) (context g (goal.at.hold-requires-clause-room g c).After-attempt)) in
+    close_counts (attempts.Waits c.in-Ok-Waits.state) x x.stay l.known l.session l.says l.stands (waiting_made c.in-Ok-Waits.state x l.known l.session l.says l.stands) (waiting_so c.in-Ok-Waits.state x l.known l.session l.says l.stands)
+
+pub end_step-requires-in-Ok-hold : goal.end_step-requires-in-Ok-hold
+end_step-requires-in-Ok-hold g c =
+    let l = c.requires.lives.some in
+    let x = (tries_as c.attempt.result (Ok (attempts.Waits c.in-Ok-Waits.state)) (c.in-Ok-Waits.is ∙ ap (λ (z : Attempt). Ok z) c.in-Ok-Waits.field-0-is) (context g (goal.at.end_step-requires-in-Ok-hold g c).After-attempt)) in
+    closed_between (attempts.Waits c.in-Ok-Waits.state) x x.stay l.known l.session l.says l.stands (waiting_made c.in-Ok-Waits.state x l.known l.session l.says l.stands) (waiting_so c.in-Ok-Waits.state x l.known l.session l.says l.stands) c.hold.new.machine c.hold.new.paper (waiting_closes c.in-Ok-Waits.state x l.known l.session l.says l.stands (Ok tt) c.hold.new.machine c.hold.new.paper c.in-Ok-hold.ensures.holds)
+
+pub returns-in-Ok-hold-clause-row : goal.returns-in-Ok-hold-clause-row
+returns-in-Ok-hold-clause-row g c = λ known s says h.
+    (let x = (tries_as c.attempt.result (Ok (attempts.Waits c.in-Ok-Waits.state)) (c.in-Ok-Waits.is ∙ ap (λ (z : Attempt). Ok z) c.in-Ok-Waits.field-0-is) (context g (goal.at.returns-in-Ok-hold-clause-row g c).After-attempt)) in
+    closed_row (attempts.Waits c.in-Ok-Waits.state) x x.stay known s says h (waiting_made c.in-Ok-Waits.state x known s says h) (waiting_so c.in-Ok-Waits.state x known s says h) c.hold.new.machine c.hold.new.paper (waiting_closes c.in-Ok-Waits.state x known s says h (Ok tt) c.hold.new.machine c.hold.new.paper c.in-Ok-hold.ensures.holds) c.end_step-in-Ok-hold.result c.end_step-in-Ok-hold.new.machine c.end_step-in-Ok-hold.new.paper c.end_step-in-Ok-hold.ensures.finishes c.end_step-in-Ok-hold.ensures.keeps)
+
+pub returns-in-Ok-hold-clause-present : goal.returns-in-Ok-hold-clause-present
+returns-in-Ok-hold-clause-present g c = λ known s m t says h next.
+    (let x = (tries_as c.attempt.result (Ok (attempts.Waits c.in-Ok-Waits.state)) (c.in-Ok-Waits.is ∙ ap (λ (z : Attempt). Ok z) c.in-Ok-Waits.field-0-is) (context g (goal.at.returns-in-Ok-hold-clause-present g c).After-attempt)) in
+    closed_present (attempts.Waits c.in-Ok-Waits.state) x x.stay known s says h (waiting_made c.in-Ok-Waits.state x known s says h) (waiting_so c.in-Ok-Waits.state x known s says h) c.hold.new.machine c.hold.new.paper (waiting_closes c.in-Ok-Waits.state x known s says h (Ok tt) c.hold.new.machine c.hold.new.paper c.in-Ok-hold.ensures.holds) c.end_step-in-Ok-hold.result c.end_step-in-Ok-hold.new.machine c.end_step-in-Ok-hold.new.paper c.end_step-in-Ok-hold.ensures.finishes m t next)
+
+pub returns-in-Ok-hold-clause-countable : goal.returns-in-Ok-hold-clause-countable
+returns-in-Ok-hold-clause-countable g c =
+    subst (λ (z : Tasks). AreCountable z.jobs) (sym c.end_step-in-Ok-hold.ensures.keeps.tasks) (c.hold.ensures.keeps.countable (countable g (goal.at.returns-in-Ok-hold-clause-countable g c).After-attempt))
+
+pub returns-in-Ok-hold-clause-causes : goal.returns-in-Ok-hold-clause-causes
+returns-in-Ok-hold-clause-causes g c =
+    step_causes g.B.Backing.faults g.K.Sink.faults c.args.backing.now c.attempt.new.backing c.args.paper.now c.hold.new.paper c.end_step-in-Ok-hold.new.paper c.end_step-in-Ok-hold.result (omega (arith, c.attempt.ensures.causes.printer.later, c.hold.ensures.cause.later)) c.end_step-in-Ok-hold.ensures.later c.end_step-in-Ok-hold.ensures.cause c.end_step-in-Ok-hold.ensures.other
+
+pub returns-in-Ok-hold-clause-keeps : goal.returns-in-Ok-hold-clause-keeps
+returns-in-Ok-hold-clause-keeps g c =
+    keeps_then c.args.machine.now c.hold.new.machine c.end_step-in-Ok-hold.new.machine (close_keeps c.args.machine.now c.attempt.new.machine c.hold.new.machine (kept g (goal.at.returns-in-Ok-hold-clause-keeps g c).After-attempt) c.hold.ensures.keeps) c.end_step-in-Ok-hold.ensures.keeps
+
+pub returns-in-Err-hold-clause-row : goal.returns-in-Err-hold-clause-row
+returns-in-Err-hold-clause-row g c = λ known s says h.
+    (let x = (tries_as c.attempt.result (Ok (attempts.Waits c.in-Ok-Waits.state)) (c.in-Ok-Waits.is ∙ ap (λ (z : Attempt). Ok z) c.in-Ok-Waits.field-0-is) (context g (goal.at.returns-in-Err-hold-clause-row g c).After-attempt)) in
+    cut_row (attempts.Waits c.in-Ok-Waits.state) x x.stay known s says h (waiting_made c.in-Ok-Waits.state x known s says h) (waiting_so c.in-Ok-Waits.state x known s says h) c.in-Err-hold._failed c.hold.new.machine c.hold.new.paper c.requires.due (halted g (goal.at.returns-in-Err-hold-clause-row g c).After-attempt) (waiting_closes c.in-Ok-Waits.state x known s says h (Err c.in-Err-hold._failed) c.hold.new.machine c.hold.new.paper c.in-Err-hold.ensures.holds))
+
+pub returns-in-Err-hold-clause-present : goal.returns-in-Err-hold-clause-present
+returns-in-Err-hold-clause-present g c = λ known s m t says h next.
+    (let x = (tries_as c.attempt.result (Ok (attempts.Waits c.in-Ok-Waits.state)) (c.in-Ok-Waits.is ∙ ap (λ (z : Attempt). Ok z) c.in-Ok-Waits.field-0-is) (context g (goal.at.returns-in-Err-hold-clause-present g c).After-attempt)) in
+    cut_present (attempts.Waits c.in-Ok-Waits.state) x x.stay known s says h (waiting_made c.in-Ok-Waits.state x known s says h) (waiting_so c.in-Ok-Waits.state x known s says h) c.in-Err-hold._failed c.hold.new.machine c.hold.new.paper m t next)
+
+pub returns-in-Err-hold-clause-countable : goal.returns-in-Err-hold-clause-countable
+returns-in-Err-hold-clause-countable g c =
+    c.hold.ensures.keeps.countable (countable g (goal.at.returns-in-Err-hold-clause-countable g c).After-attempt)
+
+pub returns-in-Err-hold-clause-causes : goal.returns-in-Err-hold-clause-causes
+returns-in-Err-hold-clause-causes g c =
+    step_causes g.B.Backing.faults g.K.Sink.faults c.args.backing.now c.attempt.new.backing c.args.paper.now c.attempt.new.paper c.hold.new.paper _ c.attempt.ensures.causes.printer.later c.hold.ensures.cause.later (λ e. c.in-Err-hold.ensures.cause.failed) (λ e. absurd cc)
+
+pub returns-in-Err-hold-clause-keeps : goal.returns-in-Err-hold-clause-keeps
+returns-in-Err-hold-clause-keeps g c =
+    close_keeps c.args.machine.now c.attempt.new.machine c.hold.new.machine (kept g (goal.at.returns-in-Err-hold-clause-keeps g c).After-attempt) c.hold.ensures.keeps
 
 pub returns-in-Err-clause-row : goal.returns-in-Err-clause-row
 returns-in-Err-clause-row g c = λ known s says h.
@@ -113,7 +219,13 @@ returns-in-Err-clause-present g c = λ known s m t says h next.
     stop_present c.in-Err.stop (tries_as c.attempt.result (Err c.in-Err.stop) c.in-Err.is (context g (goal.at.returns-in-Err-clause-present g c).After-attempt)) known s says h m t next
 
 pub returns-in-Err-clause-countable : goal.returns-in-Err-clause-countable
-returns-in-Err-clause-countable g c = countable g (goal.at.returns-in-Err-clause-countable g c).After-attempt
+returns-in-Err-clause-countable g c =
+    countable g (goal.at.returns-in-Err-clause-countable g c).After-attempt
 
 pub returns-in-Err-clause-causes : goal.returns-in-Err-clause-causes
-returns-in-Err-clause-causes g c = caused_stop g.B.Backing.faults g.K.Sink.faults c.args.backing.now c.attempt.new.backing c.args.paper.now c.attempt.new.paper c.in-Err.stop c.in-Err.ensures.causes
+returns-in-Err-clause-causes g c =
+    caused_stop g.B.Backing.faults g.K.Sink.faults c.args.backing.now c.attempt.new.backing c.args.paper.now c.attempt.new.paper c.in-Err.stop c.in-Err.ensures.causes
+
+pub returns-in-Err-clause-keeps : goal.returns-in-Err-clause-keeps
+returns-in-Err-clause-keeps g c =
+    kept g (goal.at.returns-in-Err-clause-keeps g c).After-attempt

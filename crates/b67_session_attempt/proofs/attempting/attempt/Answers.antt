@@ -1,11 +1,12 @@
-use Rattle.std.proofs.Common.{◌≢◌, ◌∙◌, None, Err, refl, ap, arith, length}
+use Rattle.std.proofs.Common.{◌≢◌, ◌∙◌, None, Err, refl, sym, ap, arith, length, subst}
 use Rattle.b67_layout_storage.specs.Machine.{content_after}
 use Rattle.b67_layout_storage.proofs.Devices.{still_tells, Served-then}
 use Rattle.b67_exec_cells.specs.Running.{code_area}
 use Rattle.b67_task_tables.specs.declared.tables.Machine.{Machine}
 use Rattle.b67_task_tables.specs.declared.tables.Tasks.{Tasks}
-use Rattle.b67_session_attempt.specs.declared.attempts.Attempt.TheVariants.{Made, Ends}
-use Rattle.b67_session_attempt.proofs.Composed.{made_once, ends_once, stops_once, never, unchanged_over, goes_on_telling, stopped_attempt, runs_over, wants_some, tables_after_end, tables_after_want, tables_after_stop, tables_stay, tables_from, room_after_stop, stop_longer, attempt_as, same_needs, still_told, other, in_order, then_on, room_after_want, code_there}
+use Rattle.b67_mcp.specs.Running.{CanNumber}
+use Rattle.b67_session_attempt.specs.declared.attempts.Attempt.TheVariants.{Made, Ends, Waits}
+use Rattle.b67_session_attempt.proofs.Composed.{made_once, ends_once, waits_once, stops_once, never, unchanged_over, goes_on_telling, stopped_attempt, runs_over, wants_some, tables_after_end, tables_after_wait, tables_after_want, tables_after_stop, tables_stay, tables_from, room_after_stop, may_call, stop_calls, attempt_as, same_needs, still_told, other, in_order, then_on, room_after_want, code_there}
 use Rattle.b67_session_attempt.proofs.Runs.{ready_over, caused_none, caused_stop, caused_want, caused_later, kept_then, kept_tasks}
 use Rattle.b67_session_attempt.proofs.attempting.attempt.Goals as goal
 
@@ -34,10 +35,10 @@ pub returns-in-Ok-Made-clause-row : goal.returns-in-Ok-Made-clause-row
 returns-in-Ok-Made-clause-row g c = λ x plan s m t o h runs ready.
     let B = g.B.Backing in
     record {
-      meets = made_once B.holds g.K.Sink.taken c.args.backing.now c.try_once.new.backing x (length c.args.machine.now.cpu.core) (B.size c.args.backing.now) plan s m t o runs c.args.machine.now c.try_once.new.machine h c.args.paper.now c.try_once.new.paper
+      meets = made_once B.holds g.K.Sink.taken c.args.backing.now c.try_once.new.backing x (B.size c.args.backing.now) plan s m t o runs c.args.machine.now c.try_once.new.machine h c.args.paper.now c.try_once.new.paper
           ((rw c.in-Ok-Made.field-0-is at c.in-Ok-Made.ensures.row) x x.device plan s m t o h.stands runs ready h.says);
       fits = λ tells. (rw c.in-Ok-Made.field-0-is at c.in-Ok-Made.ensures.fits) x x.device plan s m t o h.stands runs ready;
-      quiet = λ nothing same. (rw c.in-Ok-Made.field-0-is at c.in-Ok-Made.ensures.quiet) x x.device plan s m t o h.stands runs ready (λ w. same w.0);
+      quiet = λ nothing same. (rw c.in-Ok-Made.field-0-is at c.in-Ok-Made.ensures.quiet) x x.device plan s m t o h.stands runs ready (λ w. same (may_call x plan m t w));
     }
 
 pub returns-in-Ok-Ends-clause-row : goal.returns-in-Ok-Ends-clause-row
@@ -45,9 +46,20 @@ returns-in-Ok-Ends-clause-row g c = λ x plan s m t o h runs ready.
     let B = g.B.Backing in
     let quiet = (rw c.in-Ok-Ends.field-0-is at c.in-Ok-Ends.ensures.quiet) x x.device plan s m t o h.stands runs ready (λ w. w) in
     record {
-      meets = ends_once B.holds g.K.Sink.taken c.args.backing.now c.try_once.new.backing x (length c.args.machine.now.cpu.core) (B.size c.args.backing.now) plan s m t o runs c.args.machine.now c.try_once.new.machine h c.args.paper.now c.try_once.new.paper c.in-Ok-Ends.ending
+      meets = ends_once B.holds g.K.Sink.taken c.args.backing.now c.try_once.new.backing x (B.size c.args.backing.now) plan s m t o runs c.args.machine.now c.try_once.new.machine h c.args.paper.now c.try_once.new.paper c.in-Ok-Ends.ending
           quiet ((rw c.in-Ok-Ends.field-0-is at c.in-Ok-Ends.ensures.row) x x.device plan s m t o h.stands runs ready h.says);
       fits = λ tells. (rw c.in-Ok-Ends.field-0-is at c.in-Ok-Ends.ensures.fits) x x.device plan s m t o h.stands runs ready;
+      quiet = λ nothing same. quiet;
+    }
+
+pub returns-in-Ok-Waits-clause-row : goal.returns-in-Ok-Waits-clause-row
+returns-in-Ok-Waits-clause-row g c = λ x plan s m t o h runs ready.
+    let B = g.B.Backing in
+    let quiet = (rw c.in-Ok-Waits.field-0-is at c.in-Ok-Waits.ensures.quiet) x x.device plan s m t o h.stands runs ready (λ w. w) in
+    record {
+      meets = waits_once B.holds g.K.Sink.taken c.args.backing.now c.try_once.new.backing x (B.size c.args.backing.now) plan s m t o runs c.args.machine.now c.try_once.new.machine h c.args.paper.now c.try_once.new.paper c.in-Ok-Waits.state
+          quiet ((rw c.in-Ok-Waits.field-0-is at c.in-Ok-Waits.ensures.row) x x.device plan s m t o h.stands runs ready h.says);
+      fits = λ tells. (rw c.in-Ok-Waits.field-0-is at c.in-Ok-Waits.ensures.fits) x x.device plan s m t o h.stands runs ready;
       quiet = λ nothing same. quiet;
     }
 
@@ -57,10 +69,10 @@ returns-in-Err-clause-row g c = λ x plan s m t o h runs ready.
     let quiet = c.in-Err.ensures.quiet x x.device plan s m t o h.stands runs ready in
     let fits = c.in-Err.ensures.fits x x.device plan s m t o h.stands runs ready in
     record {
-      meets = stops_once B.holds g.K.Sink.taken c.args.backing.now c.try_once.new.backing x (length c.args.machine.now.cpu.core) (B.size c.args.backing.now) plan s m t o runs c.args.machine.now c.try_once.new.machine h c.args.paper.now c.try_once.new.paper c.in-Err.stop
+      meets = stops_once B.holds g.K.Sink.taken c.args.backing.now c.try_once.new.backing x (B.size c.args.backing.now) plan s m t o runs c.args.machine.now c.try_once.new.machine h c.args.paper.now c.try_once.new.paper c.in-Err.stop
           quiet fits (c.in-Err.ensures.row x x.device plan s m t o h.stands runs ready h.says);
       fits = λ tells. room_after_stop (length c.args.machine.now.cpu.core) x plan s m t c.in-Err.stop fits;
-      quiet = λ nothing same. quiet (λ w. same (stop_longer x plan m t c.in-Err.stop w));
+      quiet = λ nothing same. quiet (λ w. same (stop_calls x plan m t c.in-Err.stop w));
     }
 
 pub returns-in-Err-bring_wanted-clause-row : goal.returns-in-Err-bring_wanted-clause-row
@@ -116,6 +128,9 @@ returns-in-Ok-Made-clause-causes g c = caused_none g.B.Backing.faults g.K.Sink.f
 pub returns-in-Ok-Ends-clause-causes : goal.returns-in-Ok-Ends-clause-causes
 returns-in-Ok-Ends-clause-causes g c = caused_none g.B.Backing.faults g.K.Sink.faults c.args.backing.now c.try_once.new.backing c.args.paper.now c.try_once.new.paper (Ends c.in-Ok-Ends.ending) c.try_once.ensures.causes.printer.later
 
+pub returns-in-Ok-Waits-clause-causes : goal.returns-in-Ok-Waits-clause-causes
+returns-in-Ok-Waits-clause-causes g c = caused_none g.B.Backing.faults g.K.Sink.faults c.args.backing.now c.try_once.new.backing c.args.paper.now c.try_once.new.paper (Waits c.in-Ok-Waits.state) c.try_once.ensures.causes.printer.later
+
 pub returns-in-Err-clause-causes : goal.returns-in-Err-clause-causes
 returns-in-Err-clause-causes g c = caused_stop g.B.Backing.faults g.K.Sink.faults c.args.backing.now c.try_once.new.backing c.args.paper.now c.try_once.new.paper c.in-Err.stop c.in-Err.ensures.causes
 
@@ -136,6 +151,13 @@ returns-in-Ok-Ends-clause-tables g c =
     let r = c.requires.runs in
     tables_after_end g.K.Sink.taken (content_after r.storage.device (B.holds c.try_once.new.backing)) (B.size c.args.backing.now) r.storage r.plan r.session r.member r.task c.args.machine.now c.try_once.new.machine c.args.paper.now c.try_once.new.paper c.in-Ok-Ends.ending
     ((rw c.in-Ok-Ends.field-0-is at c.in-Ok-Ends.ensures.row) r.storage r.storage.device r.plan r.session r.member r.task r.ordered r.stands.stands r.running r.ready r.stands.says)
+
+pub returns-in-Ok-Waits-clause-tables : goal.returns-in-Ok-Waits-clause-tables
+returns-in-Ok-Waits-clause-tables g c =
+    let B = g.B.Backing in
+    let r = c.requires.runs in
+    tables_after_wait g.K.Sink.taken (content_after r.storage.device (B.holds c.try_once.new.backing)) (B.size c.args.backing.now) r.storage r.plan r.session r.member r.task c.args.machine.now c.try_once.new.machine c.args.paper.now c.try_once.new.paper c.in-Ok-Waits.state
+    ((rw c.in-Ok-Waits.field-0-is at c.in-Ok-Waits.ensures.row) r.storage r.storage.device r.plan r.session r.member r.task r.ordered r.stands.stands r.running r.ready r.stands.says)
 
 pub returns-in-Err-clause-tables : goal.returns-in-Err-clause-tables
 returns-in-Err-clause-tables g c =
@@ -178,3 +200,11 @@ returns-in-Ok-clause-device g c =
     let B = g.B.Backing in
     Served-then B.holds B.size B.calls B.faults c.args.backing.now c.try_once.new.backing c.with_code.new.backing c.try_once.ensures.device
     (Served-then B.holds B.size B.calls B.faults c.try_once.new.backing c.bring_wanted.new.backing c.with_code.new.backing c.bring_wanted.ensures.device c.with_code.ensures.device)
+
+pub with_code-requires-clause-number : goal.with_code-requires-clause-number
+with_code-requires-clause-number g c =
+    let B = g.B.Backing in
+    let r = c.requires.runs in
+    let same = tables_after_want g.K.Sink.taken (content_after r.storage.device (B.holds c.try_once.new.backing)) (B.size c.args.backing.now) r.storage r.plan r.session r.member r.task c.args.machine.now c.try_once.new.machine c.args.paper.now c.try_once.new.paper c.in-Ok-Absent.wanted
+    ((rw c.in-Ok-Absent.field-0-is at c.in-Ok-Absent.ensures.row) r.storage r.storage.device r.plan r.session r.member r.task r.ordered r.stands.stands r.running r.ready r.stands.says) in
+    subst (λ (z : Tasks). CanNumber z.jobs) (sym (c.bring_wanted.ensures.tasks ∙ same)) c.requires.number

@@ -2,8 +2,8 @@ use Rattle.std.proofs.Common.{length}
 use Rattle.b67_word.specs.declared.faults.Fault.TheVariants.{InvalidOperator}
 use Rattle.b67_word.specs.declared.faults.Ending.TheVariants.{Faulted}
 use Rattle.b67_layout_storage.specs.Machine.{content_after}
-use Rattle.b67_session_attempt.specs.declared.attempts.Attempt.TheVariants.{Made, Ends}
-use Rattle.b67_session_attempt.proofs.Composed.{made_once, ends_once, stops_once, gives_up_once, never, tables_after_end, tables_after_want, tables_after_stop, room_after_stop}
+use Rattle.b67_session_attempt.specs.declared.attempts.Attempt.TheVariants.{Made, Ends, Waits}
+use Rattle.b67_session_attempt.proofs.Composed.{made_once, ends_once, waits_once, stops_once, gives_up_once, never, tables_after_end, tables_after_wait, tables_after_want, tables_after_stop, room_after_stop}
 use Rattle.b67_session_attempt.proofs.Runs.{ready_over, caused_none, caused_stop}
 use Rattle.b67_session_attempt.proofs.attempting.last_try.Goals as goal
 
@@ -13,27 +13,34 @@ try_once-requires-clause-runs g c = ready_over c.args.machine.now (g.B.Backing.h
 pub returns-in-Ok-Made-clause-row : goal.returns-in-Ok-Made-clause-row
 returns-in-Ok-Made-clause-row g c = λ x plan s m t o h runs ready none.
     let B = g.B.Backing in
-    made_once B.holds g.K.Sink.taken c.args.backing.now c.try_once.new.backing x (length c.args.machine.now.cpu.core) (B.size c.args.backing.now) plan s m t o runs c.args.machine.now c.try_once.new.machine h c.args.paper.now c.try_once.new.paper
+    made_once B.holds g.K.Sink.taken c.args.backing.now c.try_once.new.backing x (B.size c.args.backing.now) plan s m t o runs c.args.machine.now c.try_once.new.machine h c.args.paper.now c.try_once.new.paper
     ((rw c.in-Ok-Made.field-0-is at c.in-Ok-Made.ensures.row) x x.device plan s m t o h.stands runs ready h.says)
 
 pub returns-in-Ok-Ends-clause-row : goal.returns-in-Ok-Ends-clause-row
 returns-in-Ok-Ends-clause-row g c = λ x plan s m t o h runs ready none.
     let B = g.B.Backing in
-    ends_once B.holds g.K.Sink.taken c.args.backing.now c.try_once.new.backing x (length c.args.machine.now.cpu.core) (B.size c.args.backing.now) plan s m t o runs c.args.machine.now c.try_once.new.machine h c.args.paper.now c.try_once.new.paper c.in-Ok-Ends.ending
+    ends_once B.holds g.K.Sink.taken c.args.backing.now c.try_once.new.backing x (B.size c.args.backing.now) plan s m t o runs c.args.machine.now c.try_once.new.machine h c.args.paper.now c.try_once.new.paper c.in-Ok-Ends.ending
     ((rw c.in-Ok-Ends.field-0-is at c.in-Ok-Ends.ensures.quiet) x x.device plan s m t o h.stands runs ready (λ w. w))
     ((rw c.in-Ok-Ends.field-0-is at c.in-Ok-Ends.ensures.row) x x.device plan s m t o h.stands runs ready h.says)
+
+pub returns-in-Ok-Waits-clause-row : goal.returns-in-Ok-Waits-clause-row
+returns-in-Ok-Waits-clause-row g c = λ x plan s m t o h runs ready none.
+    let B = g.B.Backing in
+    waits_once B.holds g.K.Sink.taken c.args.backing.now c.try_once.new.backing x (B.size c.args.backing.now) plan s m t o runs c.args.machine.now c.try_once.new.machine h c.args.paper.now c.try_once.new.paper c.in-Ok-Waits.state
+    ((rw c.in-Ok-Waits.field-0-is at c.in-Ok-Waits.ensures.quiet) x x.device plan s m t o h.stands runs ready (λ w. w))
+    ((rw c.in-Ok-Waits.field-0-is at c.in-Ok-Waits.ensures.row) x x.device plan s m t o h.stands runs ready h.says)
 
 pub returns-in-Ok-Absent-clause-row : goal.returns-in-Ok-Absent-clause-row
 returns-in-Ok-Absent-clause-row g c = λ x plan s m t o h runs ready none.
     let B = g.B.Backing in
-    gives_up_once B.holds g.K.Sink.taken c.args.backing.now c.try_once.new.backing x (length c.args.machine.now.cpu.core) (B.size c.args.backing.now) plan s m t o runs c.args.machine.now c.try_once.new.machine h c.args.paper.now c.try_once.new.paper (Faulted InvalidOperator) c.in-Ok-Absent.field-0-0
+    gives_up_once B.holds g.K.Sink.taken c.args.backing.now c.try_once.new.backing x (B.size c.args.backing.now) plan s m t o runs c.args.machine.now c.try_once.new.machine h c.args.paper.now c.try_once.new.paper (Faulted InvalidOperator) c.in-Ok-Absent.field-0-0
     ((rw c.in-Ok-Absent.field-0-is at c.in-Ok-Absent.ensures.quiet) x x.device plan s m t o h.stands runs ready (λ w. w)) none
     ((rw c.in-Ok-Absent.field-0-is at c.in-Ok-Absent.ensures.row) x x.device plan s m t o h.stands runs ready h.says)
 
 pub returns-in-Err-clause-row : goal.returns-in-Err-clause-row
 returns-in-Err-clause-row g c = λ x plan s m t o h runs ready none.
     let B = g.B.Backing in
-    stops_once B.holds g.K.Sink.taken c.args.backing.now c.try_once.new.backing x (length c.args.machine.now.cpu.core) (B.size c.args.backing.now) plan s m t o runs c.args.machine.now c.try_once.new.machine h c.args.paper.now c.try_once.new.paper c.in-Err.stop
+    stops_once B.holds g.K.Sink.taken c.args.backing.now c.try_once.new.backing x (B.size c.args.backing.now) plan s m t o runs c.args.machine.now c.try_once.new.machine h c.args.paper.now c.try_once.new.paper c.in-Err.stop
     (c.in-Err.ensures.quiet x x.device plan s m t o h.stands runs ready) (c.in-Err.ensures.fits x x.device plan s m t o h.stands runs ready) (c.in-Err.ensures.row x x.device plan s m t o h.stands runs ready h.says)
 
 pub returns-in-Ok-Made-clause-fits : goal.returns-in-Ok-Made-clause-fits
@@ -41,6 +48,9 @@ returns-in-Ok-Made-clause-fits g c = λ x plan s m t o h runs ready none. (rw c.
 
 pub returns-in-Ok-Ends-clause-fits : goal.returns-in-Ok-Ends-clause-fits
 returns-in-Ok-Ends-clause-fits g c = λ x plan s m t o h runs ready none. (rw c.in-Ok-Ends.field-0-is at c.in-Ok-Ends.ensures.fits) x x.device plan s m t o h.stands runs ready
+
+pub returns-in-Ok-Waits-clause-fits : goal.returns-in-Ok-Waits-clause-fits
+returns-in-Ok-Waits-clause-fits g c = λ x plan s m t o h runs ready none. (rw c.in-Ok-Waits.field-0-is at c.in-Ok-Waits.ensures.fits) x x.device plan s m t o h.stands runs ready
 
 pub returns-in-Ok-Absent-clause-fits : goal.returns-in-Ok-Absent-clause-fits
 returns-in-Ok-Absent-clause-fits g c = λ x plan s m t o h runs ready none.
@@ -58,6 +68,9 @@ returns-in-Ok-Made-clause-causes g c = caused_none g.B.Backing.faults g.K.Sink.f
 pub returns-in-Ok-Ends-clause-causes : goal.returns-in-Ok-Ends-clause-causes
 returns-in-Ok-Ends-clause-causes g c = caused_none g.B.Backing.faults g.K.Sink.faults c.args.backing.now c.try_once.new.backing c.args.paper.now c.try_once.new.paper (Ends c.in-Ok-Ends.ending) c.try_once.ensures.causes.printer.later
 
+pub returns-in-Ok-Waits-clause-causes : goal.returns-in-Ok-Waits-clause-causes
+returns-in-Ok-Waits-clause-causes g c = caused_none g.B.Backing.faults g.K.Sink.faults c.args.backing.now c.try_once.new.backing c.args.paper.now c.try_once.new.paper (Waits c.in-Ok-Waits.state) c.try_once.ensures.causes.printer.later
+
 pub returns-in-Ok-Absent-clause-causes : goal.returns-in-Ok-Absent-clause-causes
 returns-in-Ok-Absent-clause-causes g c = caused_none g.B.Backing.faults g.K.Sink.faults c.args.backing.now c.try_once.new.backing c.args.paper.now c.try_once.new.paper (Ends (Faulted InvalidOperator)) c.try_once.ensures.causes.printer.later
 
@@ -70,6 +83,13 @@ returns-in-Ok-Ends-clause-tables g c =
     let r = c.requires.runs in
     tables_after_end g.K.Sink.taken (content_after r.storage.device (B.holds c.try_once.new.backing)) (B.size c.args.backing.now) r.storage r.plan r.session r.member r.task c.args.machine.now c.try_once.new.machine c.args.paper.now c.try_once.new.paper c.in-Ok-Ends.ending
     ((rw c.in-Ok-Ends.field-0-is at c.in-Ok-Ends.ensures.row) r.storage r.storage.device r.plan r.session r.member r.task r.ordered r.stands.stands r.running r.ready r.stands.says)
+
+pub returns-in-Ok-Waits-clause-tables : goal.returns-in-Ok-Waits-clause-tables
+returns-in-Ok-Waits-clause-tables g c =
+    let B = g.B.Backing in
+    let r = c.requires.runs in
+    tables_after_wait g.K.Sink.taken (content_after r.storage.device (B.holds c.try_once.new.backing)) (B.size c.args.backing.now) r.storage r.plan r.session r.member r.task c.args.machine.now c.try_once.new.machine c.args.paper.now c.try_once.new.paper c.in-Ok-Waits.state
+    ((rw c.in-Ok-Waits.field-0-is at c.in-Ok-Waits.ensures.row) r.storage r.storage.device r.plan r.session r.member r.task r.ordered r.stands.stands r.running r.ready r.stands.says)
 
 pub returns-in-Ok-Absent-clause-tables : goal.returns-in-Ok-Absent-clause-tables
 returns-in-Ok-Absent-clause-tables g c =

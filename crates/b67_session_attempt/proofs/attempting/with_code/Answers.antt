@@ -1,11 +1,12 @@
-use Rattle.std.proofs.Common.{◌≢◌, ◌∙◌, None, Err, refl, ap, arith, length}
+use Rattle.std.proofs.Common.{◌≢◌, ◌∙◌, None, Err, refl, sym, ap, arith, length, subst}
 use Rattle.b67_layout_storage.specs.Machine.{content_after}
 use Rattle.b67_layout_storage.proofs.Devices.{still_tells, Served-then}
 use Rattle.b67_task_tables.specs.declared.tables.Machine.{Machine}
 use Rattle.b67_task_tables.specs.declared.tables.Tasks.{Tasks}
-use Rattle.b67_session_attempt.specs.declared.attempts.Attempt.TheVariants.{Made, Ends}
+use Rattle.b67_mcp.specs.Running.{CanNumber}
+use Rattle.b67_session_attempt.specs.declared.attempts.Attempt.TheVariants.{Made, Ends, Waits}
 use Rattle.b67_session_attempt.specs.Attempts.{WantsNothing}
-use Rattle.b67_session_attempt.proofs.Composed.{made_once, ends_once, stops_once, unchanged_over, goes_on_telling, stopped_attempt, runs_over, wants_some, tables_after_end, tables_after_want, tables_after_stop, tables_stay, tables_from, room_after_stop, attempt_as, same_needs, still_told, other, in_order, then_on, room_after_want, wants_nothing}
+use Rattle.b67_session_attempt.proofs.Composed.{made_once, ends_once, waits_once, stops_once, unchanged_over, goes_on_telling, stopped_attempt, runs_over, wants_some, tables_after_end, tables_after_wait, tables_after_want, tables_after_stop, tables_stay, tables_from, room_after_stop, attempt_as, same_needs, still_told, other, in_order, then_on, room_after_want, wants_nothing}
 use Rattle.b67_session_attempt.proofs.Runs.{ready_over, caused_none, caused_stop, caused_want, caused_later, kept_then, kept_tasks}
 use Rattle.b67_session_attempt.proofs.attempting.with_code.Goals as goal
 
@@ -33,20 +34,27 @@ last_try-requires-clause-runs g c =
 pub returns-in-Ok-Made-clause-row : goal.returns-in-Ok-Made-clause-row
 returns-in-Ok-Made-clause-row g c = λ x plan s m t o h runs ready code.
     let B = g.B.Backing in
-    made_once B.holds g.K.Sink.taken c.args.backing.now c.try_once.new.backing x (length c.args.machine.now.cpu.core) (B.size c.args.backing.now) plan s m t o runs c.args.machine.now c.try_once.new.machine h c.args.paper.now c.try_once.new.paper
+    made_once B.holds g.K.Sink.taken c.args.backing.now c.try_once.new.backing x (B.size c.args.backing.now) plan s m t o runs c.args.machine.now c.try_once.new.machine h c.args.paper.now c.try_once.new.paper
     ((rw c.in-Ok-Made.field-0-is at c.in-Ok-Made.ensures.row) x x.device plan s m t o h.stands runs ready h.says)
 
 pub returns-in-Ok-Ends-clause-row : goal.returns-in-Ok-Ends-clause-row
 returns-in-Ok-Ends-clause-row g c = λ x plan s m t o h runs ready code.
     let B = g.B.Backing in
-    ends_once B.holds g.K.Sink.taken c.args.backing.now c.try_once.new.backing x (length c.args.machine.now.cpu.core) (B.size c.args.backing.now) plan s m t o runs c.args.machine.now c.try_once.new.machine h c.args.paper.now c.try_once.new.paper c.in-Ok-Ends.ending
+    ends_once B.holds g.K.Sink.taken c.args.backing.now c.try_once.new.backing x (B.size c.args.backing.now) plan s m t o runs c.args.machine.now c.try_once.new.machine h c.args.paper.now c.try_once.new.paper c.in-Ok-Ends.ending
     ((rw c.in-Ok-Ends.field-0-is at c.in-Ok-Ends.ensures.quiet) x x.device plan s m t o h.stands runs ready (λ w. w))
     ((rw c.in-Ok-Ends.field-0-is at c.in-Ok-Ends.ensures.row) x x.device plan s m t o h.stands runs ready h.says)
+
+pub returns-in-Ok-Waits-clause-row : goal.returns-in-Ok-Waits-clause-row
+returns-in-Ok-Waits-clause-row g c = λ x plan s m t o h runs ready code.
+    let B = g.B.Backing in
+    waits_once B.holds g.K.Sink.taken c.args.backing.now c.try_once.new.backing x (B.size c.args.backing.now) plan s m t o runs c.args.machine.now c.try_once.new.machine h c.args.paper.now c.try_once.new.paper c.in-Ok-Waits.state
+    ((rw c.in-Ok-Waits.field-0-is at c.in-Ok-Waits.ensures.quiet) x x.device plan s m t o h.stands runs ready (λ w. w))
+    ((rw c.in-Ok-Waits.field-0-is at c.in-Ok-Waits.ensures.row) x x.device plan s m t o h.stands runs ready h.says)
 
 pub returns-in-Err-clause-row : goal.returns-in-Err-clause-row
 returns-in-Err-clause-row g c = λ x plan s m t o h runs ready code.
     let B = g.B.Backing in
-    stops_once B.holds g.K.Sink.taken c.args.backing.now c.try_once.new.backing x (length c.args.machine.now.cpu.core) (B.size c.args.backing.now) plan s m t o runs c.args.machine.now c.try_once.new.machine h c.args.paper.now c.try_once.new.paper c.in-Err.stop
+    stops_once B.holds g.K.Sink.taken c.args.backing.now c.try_once.new.backing x (B.size c.args.backing.now) plan s m t o runs c.args.machine.now c.try_once.new.machine h c.args.paper.now c.try_once.new.paper c.in-Err.stop
     (c.in-Err.ensures.quiet x x.device plan s m t o h.stands runs ready) (c.in-Err.ensures.fits x x.device plan s m t o h.stands runs ready) (c.in-Err.ensures.row x x.device plan s m t o h.stands runs ready h.says)
 
 pub returns-in-Err-bring_wanted-clause-row : goal.returns-in-Err-bring_wanted-clause-row
@@ -88,6 +96,9 @@ returns-in-Ok-Made-clause-fits g c = λ x plan s m t o h runs ready code tells. 
 pub returns-in-Ok-Ends-clause-fits : goal.returns-in-Ok-Ends-clause-fits
 returns-in-Ok-Ends-clause-fits g c = λ x plan s m t o h runs ready code tells. (rw c.in-Ok-Ends.field-0-is at c.in-Ok-Ends.ensures.fits) x x.device plan s m t o h.stands runs ready
 
+pub returns-in-Ok-Waits-clause-fits : goal.returns-in-Ok-Waits-clause-fits
+returns-in-Ok-Waits-clause-fits g c = λ x plan s m t o h runs ready code tells. (rw c.in-Ok-Waits.field-0-is at c.in-Ok-Waits.ensures.fits) x x.device plan s m t o h.stands runs ready
+
 pub returns-in-Err-clause-fits : goal.returns-in-Err-clause-fits
 returns-in-Err-clause-fits g c = λ x plan s m t o h runs ready code tells.
     room_after_stop (length c.args.machine.now.cpu.core) x plan s m t c.in-Err.stop (c.in-Err.ensures.fits x x.device plan s m t o h.stands runs ready)
@@ -126,6 +137,9 @@ returns-in-Ok-Made-clause-causes g c = caused_none g.B.Backing.faults g.K.Sink.f
 pub returns-in-Ok-Ends-clause-causes : goal.returns-in-Ok-Ends-clause-causes
 returns-in-Ok-Ends-clause-causes g c = caused_none g.B.Backing.faults g.K.Sink.faults c.args.backing.now c.try_once.new.backing c.args.paper.now c.try_once.new.paper (Ends c.in-Ok-Ends.ending) c.try_once.ensures.causes.printer.later
 
+pub returns-in-Ok-Waits-clause-causes : goal.returns-in-Ok-Waits-clause-causes
+returns-in-Ok-Waits-clause-causes g c = caused_none g.B.Backing.faults g.K.Sink.faults c.args.backing.now c.try_once.new.backing c.args.paper.now c.try_once.new.paper (Waits c.in-Ok-Waits.state) c.try_once.ensures.causes.printer.later
+
 pub returns-in-Err-clause-causes : goal.returns-in-Err-clause-causes
 returns-in-Err-clause-causes g c = caused_stop g.B.Backing.faults g.K.Sink.faults c.args.backing.now c.try_once.new.backing c.args.paper.now c.try_once.new.paper c.in-Err.stop c.in-Err.ensures.causes
 
@@ -146,6 +160,13 @@ returns-in-Ok-Ends-clause-tables g c =
     let r = c.requires.runs in
     tables_after_end g.K.Sink.taken (content_after r.storage.device (B.holds c.try_once.new.backing)) (B.size c.args.backing.now) r.storage r.plan r.session r.member r.task c.args.machine.now c.try_once.new.machine c.args.paper.now c.try_once.new.paper c.in-Ok-Ends.ending
     ((rw c.in-Ok-Ends.field-0-is at c.in-Ok-Ends.ensures.row) r.storage r.storage.device r.plan r.session r.member r.task r.ordered r.stands.stands r.running r.ready r.stands.says)
+
+pub returns-in-Ok-Waits-clause-tables : goal.returns-in-Ok-Waits-clause-tables
+returns-in-Ok-Waits-clause-tables g c =
+    let B = g.B.Backing in
+    let r = c.requires.runs in
+    tables_after_wait g.K.Sink.taken (content_after r.storage.device (B.holds c.try_once.new.backing)) (B.size c.args.backing.now) r.storage r.plan r.session r.member r.task c.args.machine.now c.try_once.new.machine c.args.paper.now c.try_once.new.paper c.in-Ok-Waits.state
+    ((rw c.in-Ok-Waits.field-0-is at c.in-Ok-Waits.ensures.row) r.storage r.storage.device r.plan r.session r.member r.task r.ordered r.stands.stands r.running r.ready r.stands.says)
 
 pub returns-in-Err-clause-tables : goal.returns-in-Err-clause-tables
 returns-in-Err-clause-tables g c =
@@ -188,3 +209,11 @@ returns-in-Ok-clause-device g c =
     let B = g.B.Backing in
     Served-then B.holds B.size B.calls B.faults c.args.backing.now c.try_once.new.backing c.last_try.new.backing c.try_once.ensures.device
     (Served-then B.holds B.size B.calls B.faults c.try_once.new.backing c.bring_wanted.new.backing c.last_try.new.backing c.bring_wanted.ensures.device c.last_try.ensures.device)
+
+pub last_try-requires-clause-number : goal.last_try-requires-clause-number
+last_try-requires-clause-number g c =
+    let B = g.B.Backing in
+    let r = c.requires.runs in
+    let same = tables_after_want g.K.Sink.taken (content_after r.storage.device (B.holds c.try_once.new.backing)) (B.size c.args.backing.now) r.storage r.plan r.session r.member r.task c.args.machine.now c.try_once.new.machine c.args.paper.now c.try_once.new.paper c.in-Ok-Absent.wanted
+    ((rw c.in-Ok-Absent.field-0-is at c.in-Ok-Absent.ensures.row) r.storage r.storage.device r.plan r.session r.member r.task r.ordered r.stands.stands r.running r.ready r.stands.says) in
+    subst (λ (z : Tasks). CanNumber z.jobs) (sym (c.bring_wanted.ensures.tasks ∙ same)) c.requires.number

@@ -5,8 +5,8 @@ use Rattle.b67_task_need.specs.Needing.{need_with}
 use Rattle.b67_session_attempt.proofs.Stops.{stopped_so, stopped_fits}
 use Rattle.b67_session_attempt.proofs.bringing.bring_wanted.Goals as goal
 
-pub stopped-requires : goal.stopped-requires
-stopped-requires g c =
+pub stop_for-requires : goal.stop_for-requires
+stop_for-requires g c =
     let q = c.requires.wants in
     let a = (c.in-Err.ensures.row q.storage q.plan q.session q.member q.task q.words q.ordered q.stands q.running q.wanted).refused.again in
     record {
@@ -27,7 +27,7 @@ returns-in-Err-clause-row g c = λ x plan s m t words o h runs wanted touched.
     let k = c.args.machine.now in
     let row = c.in-Err.ensures.row x plan s m t words o h runs wanted in
     stopped_so x (holds c.args.backing.now) (holds c.bring.new.backing) k c.bring.new.machine plan s m t (g.B.Backing.size c.args.backing.now) words c.args.wanted o h runs wanted touched
-    row.refused c.in-Err.fault c.stopped.result c.stopped.ensures
+    row.refused c.in-Err.fault c.stop_for.result c.stop_for.ensures
     (omega (arith, c.requires.same, c.bring.ensures.keeps.count))
     (λ need size e. (row.no_core need size).0 (ap Err e))
     (λ above. let is = (row.no_core (need_with s m t 0 words) (length k.cpu.core)).1 (above, refl, refl) in
@@ -40,6 +40,6 @@ returns-in-Err-clause-fits g c = λ x plan s m t words o h runs wanted touched.
     let k = c.args.machine.now in
     let row = c.in-Err.ensures.row x plan s m t words o h runs wanted in
     stopped_fits x (g.B.Backing.holds c.args.backing.now) (g.B.Backing.holds c.bring.new.backing) k c.bring.new.machine plan s m t (g.B.Backing.size c.args.backing.now) words c.args.wanted o h runs wanted touched
-    c.in-Err.fault c.stopped.result c.stopped.ensures
+    c.in-Err.fault c.stop_for.result c.stop_for.ensures
     (λ above. let is = (row.no_core (need_with s m t 0 words) (length k.cpu.core)).1 (above, refl, refl) in
     let z : c.in-Err.fault ≡ NoCore (need_with s m t 0 words) (length k.cpu.core) = cc in z)

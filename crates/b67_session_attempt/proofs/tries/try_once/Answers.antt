@@ -1,4 +1,4 @@
-use Rattle.std.proofs.Common.{◌∙◌, ◌≡◌, ℕ, List, length, Option, None, Err, sym, subst, refl}
+use Rattle.std.proofs.Common.{◌∙◌, ◌≡◌, ℕ, List, length, Option, None, Ok, Err, sym, subst, refl}
 use Rattle.b67_model.specs.Schedule.{Session}
 use Rattle.b67_stack.specs.declared.Step.TheVariants as answers
 use Rattle.b67_stack.specs.Represents.{Storage}
@@ -8,13 +8,14 @@ use Rattle.b67_layout.specs.Placement.{Placement}
 use Rattle.b67_exec_cells.specs.Running.{code_area}
 use Rattle.b67_task_tables.specs.declared.tables.Machine.{Machine}
 use Rattle.b67_task_tables.specs.Tables.{MachineRepresents}
+use Rattle.b67_session_attempt.specs.declared.tries.Tried.TheVariants.{Made}
 use Rattle.b67_session_attempt.specs.Tries.{TryFits}
 use Rattle.b67_mcp.specs.Called.{IsCalled}
 use Rattle.b67_mcp.proofs.Told.{told_is}
 use Rattle.b67_session_attempt.proofs.Runs.{caused_stop}
 use Rattle.b67_session_attempt.proofs.Untold.{machine_untold}
-use Rattle.b67_session_attempt.proofs.Trying.{wants_array, was_made, was_built, was_fault, was_ended, was_call, was_absent, called_made, called_so, stops_so, writes_so}
-use Rattle.b67_session_attempt.proofs.AttemptFits.{was_operator, fault_touches, leaves_touches, made_touches, operator_fits, call_fits, fault_fits, stop_fits}
+use Rattle.b67_session_attempt.proofs.Trying.{wants_array, was_made, was_fault, was_ended, was_call, was_absent, called_made, called_so, stops_so, writes_so}
+use Rattle.b67_session_attempt.proofs.AttemptFits.{was_operator, fault_touches, leaves_touches, made_touches, operator_fits, call_fits, fault_fits, waits_fit, stop_fits}
 use Rattle.b67_session_attempt.proofs.tries.try_once.Goals as goal
 
 -- the machine after an operator that calls an intrinsic
@@ -48,7 +49,7 @@ returns-in-Done-clause-row g c = λ x told plan s m t o h runs ready says.
     let new = c.make.new.machine in
     let P : Option (List (List ℕ)) → Type 0 = λ d. IsCalled g.K.Sink.taken c.args.paper.now c.args.paper.now d s m t old.tasks.printed new in
     subst P (sym (told_is told (g.B.Backing.holds c.args.backing.now) says))
-    (called_made g.K.Sink.taken c.args.paper.now x told plan s m t old new (was_built x told plan s m t old new (code_area x plan m t) row) c.make.ensures.tasks (was_made x told plan s m t old new (code_area x plan m t) row))
+    (called_made g.K.Sink.taken c.args.paper.now x told plan s m t old new o runs (was_operator x told plan s m t answers.Done old new (code_area x plan m t) refl (λ e. absurd cc) (λ n e. absurd cc) row).1 c.make.ensures.tasks (was_made x told plan s m t old new (code_area x plan m t) row))
 
 pub returns-in-Absent-clause-row : goal.returns-in-Absent-clause-row
 returns-in-Absent-clause-row g c = λ x told plan s m t o h runs ready says.
@@ -85,6 +86,13 @@ returns-in-Ok-Fault-clause-row g c = λ x told plan s m t o h runs ready says.
     let it = was_call x told plan s m t c.args.machine.now c.make.new.machine c.in-Call.n (code_area x plan m t) refl (c.in-Call.ensures.row x told plan s m t o h runs ready) in
     let k = stays x told plan s c.args.machine.now c.make.new.machine it.2 h in
     let r = (rw c.in-Ok-Fault.field-0-is at c.in-Ok-Fault.ensures.row) x told plan s m t o k runs it.0 it.1 says in
+    (r.0, r.1 ∙ it.2, r.2)
+
+pub returns-in-Ok-Waits-clause-row : goal.returns-in-Ok-Waits-clause-row
+returns-in-Ok-Waits-clause-row g c = λ x told plan s m t o h runs ready says.
+    let it = was_call x told plan s m t c.args.machine.now c.make.new.machine c.in-Call.n (code_area x plan m t) refl (c.in-Call.ensures.row x told plan s m t o h runs ready) in
+    let k = stays x told plan s c.args.machine.now c.make.new.machine it.2 h in
+    let r = (rw c.in-Ok-Waits.field-0-is at c.in-Ok-Waits.ensures.row) x told plan s m t o k runs it.0 it.1 says in
     (r.0, r.1 ∙ it.2, r.2)
 
 pub returns-in-Err-clause-row : goal.returns-in-Err-clause-row
@@ -124,7 +132,9 @@ returns-in-Ok-Done-clause-fits g c = λ x told plan s m t o h runs ready.
     let k = stays x told plan s old c.make.new.machine it.2 h in
     let row = (rw c.in-Ok-Done.field-0-is at c.in-Ok-Done.ensures.row) (untold x) None plan s m t o (machine_untold x told c.make.new.machine plan s k) runs it.0 it.1 tt in
     let present = (rw c.in-Ok-Done.field-0-is at c.in-Ok-Done.ensures.present) x told plan s m t o k runs it.0 it.1 in
-    call_fits x told plan s m t o runs old c.in-Call.n h it.0 it.1 row.built present
+    let fits = (rw c.in-Ok-Done.field-0-is at c.in-Ok-Done.ensures.fits) x told plan s m t o k runs it.0 it.1 in
+    let F : Machine → Type 0 = λ z. TryFits (length z.cpu.core) s m t (Ok Made) in
+    subst F it.2 (call_fits x told plan s m t o runs c.make.new.machine c.in-Call.n row.job row.printed row.touched k it.0 it.1 row.is fits present)
 
 pub returns-in-Ok-Fault-clause-fits : goal.returns-in-Ok-Fault-clause-fits
 returns-in-Ok-Fault-clause-fits g c = λ x told plan s m t o h runs ready.
@@ -135,6 +145,14 @@ returns-in-Ok-Fault-clause-fits g c = λ x told plan s m t o h runs ready.
     let present = (rw c.in-Ok-Fault.field-0-is at c.in-Ok-Fault.ensures.present) x told plan s m t o k runs it.0 it.1 in
     fault_fits x told plan s m t o runs old c.in-Ok-Fault.fault h it.0 row.0 present
 
+pub returns-in-Ok-Waits-clause-fits : goal.returns-in-Ok-Waits-clause-fits
+returns-in-Ok-Waits-clause-fits g c = λ x told plan s m t o h runs ready.
+    let old = c.args.machine.now in
+    let it = was_call x told plan s m t old c.make.new.machine c.in-Call.n (code_area x plan m t) refl (c.in-Call.ensures.row x told plan s m t o h runs ready) in
+    let k = stays x told plan s old c.make.new.machine it.2 h in
+    let row = (rw c.in-Ok-Waits.field-0-is at c.in-Ok-Waits.ensures.row) (untold x) None plan s m t o (machine_untold x told c.make.new.machine plan s k) runs it.0 it.1 tt in
+    waits_fit x told plan s m t o runs old c.in-Ok-Waits.state h it.0 row.0
+
 pub returns-in-Err-clause-fits : goal.returns-in-Err-clause-fits
 returns-in-Err-clause-fits g c = λ x told plan s m t o h runs ready.
     let old = c.args.machine.now in
@@ -144,7 +162,7 @@ returns-in-Err-clause-fits g c = λ x told plan s m t o h runs ready.
     let k = machine_untold x told new plan s (stays x told plan s old new it.2 h) in
     let F : Machine → Type 0 = λ z. TryFits (length z.cpu.core) s m t (Err c.in-Err.stop) in
     subst F it.2 (stop_fits y None plan s m t o runs g.K.Sink.taken None (g.B.Backing.size c.args.backing.now) new c.intrinsic.new.machine c.args.paper.now c.intrinsic.new.paper c.in-Call.n c.in-Err.stop k it.0 it.1
-    (c.in-Err.ensures.row y None plan s m t o k runs it.0 it.1 tt) (c.in-Err.ensures.present y None plan s m t o k runs it.0 it.1))
+    (c.in-Err.ensures.row y None plan s m t o k runs it.0 it.1 tt) (c.in-Err.ensures.present y None plan s m t o k runs it.0 it.1) (c.in-Err.ensures.fits y None plan s m t o k runs it.0 it.1))
 
 pub returns-in-Ok-Done-clause-quiet : goal.returns-in-Ok-Done-clause-quiet
 returns-in-Ok-Done-clause-quiet g c = λ x told plan s m t o h runs ready none.
@@ -163,6 +181,12 @@ returns-in-Ok-Fault-clause-quiet g c = λ x told plan s m t o h runs ready none.
     let it = was_call x told plan s m t c.args.machine.now c.make.new.machine c.in-Call.n (code_area x plan m t) refl (c.in-Call.ensures.row x told plan s m t o h runs ready) in
     let k = stays x told plan s c.args.machine.now c.make.new.machine it.2 h in
     (rw c.in-Ok-Fault.field-0-is at c.in-Ok-Fault.ensures.quiet) x told plan s m t o k runs it.0 it.1 none
+
+pub returns-in-Ok-Waits-clause-quiet : goal.returns-in-Ok-Waits-clause-quiet
+returns-in-Ok-Waits-clause-quiet g c = λ x told plan s m t o h runs ready none.
+    let it = was_call x told plan s m t c.args.machine.now c.make.new.machine c.in-Call.n (code_area x plan m t) refl (c.in-Call.ensures.row x told plan s m t o h runs ready) in
+    let k = stays x told plan s c.args.machine.now c.make.new.machine it.2 h in
+    (rw c.in-Ok-Waits.field-0-is at c.in-Ok-Waits.ensures.quiet) x told plan s m t o k runs it.0 it.1 none
 
 pub returns-in-Err-clause-quiet : goal.returns-in-Err-clause-quiet
 returns-in-Err-clause-quiet g c = λ x told plan s m t o h runs ready none.

@@ -1,14 +1,7 @@
-use Rattle.std.proofs.Common.{◌≡◌, ◌+◌, ◌++◌, List, ℕ, map, refl, sym, ap, ◌∙◌, subst}
-use Rattle.b67_model.specs.Endings.{ends_with}
-use Rattle.b67_model.specs.Lines.{run_text}
-use Rattle.b67_task_end.specs.declared.families.EndedTask.{EndedTask}
-use Rattle.b67_task_end.specs.Family.{pair_of, endings_of}
+use Rattle.std.proofs.Common.{◌+◌, List, ℕ, map, refl, ap, ◌∙◌, subst}
+use Rattle.b67_task_end.specs.Family.{pair_of}
 use Rattle.b67_task_tables.specs.declared.tables.Tasks.{Tasks}
 use Rattle.b67_session_lines.specs.Parts.{TookRest, TookMore}
-use Rattle.b67_law_turns.specs.Turns.{part_of}
-use Rattle.b67_session_schedule.specs.Counted.{choice_of}
-use Rattle.b67_session_ends.specs.Closing.{StandsChosen}
-use Rattle.b67_session_ends.specs.Texts.{endings_text}
 use Rattle.b67_session_ends.proofs.Families.{lent_list}
 use Rattle.b67_session_ends.proofs.Closed.{has_row, has_head, has_job, holds, is_family, ends_family, closed_by, same_tasks, room_still, all_text, keeps_close, keeps_cut}
 use Rattle.b67_session_ends.proofs.closes.close.Goals as goal
@@ -46,8 +39,7 @@ returns-clause-closes g c = λ x told plan s m t w.
     (let k = c.args.machine.now in
     let listed = lent_list k.tasks c.args.chosen.row c.args.ending c.endings-dead.result.items c.as_slice-3.result.now c.endings-dead.ensures c.as_slice-3.ensures.value plan s m t (holds x told k plan s m t c.args.chosen w) w.row in
     let e = c.end_family.ensures.stands x told plan s m t c.args.ending (is_family x told k plan s m t c.args.chosen w c.put_endings.new.printed c.args.ending (map pair_of c.as_slice-3.result.now) listed) in
-    let same = same_tasks k.tasks c.end_family.new.machine.tasks c.end_stuck.new.machine.tasks c.put_endings.new.printed c.end_stuck.ensures.tasks c.end_family.ensures.tasks in
-    (
+    let same = same_tasks k.tasks c.end_family.new.machine.tasks c.end_stuck.new.machine.tasks c.put_endings.new.printed c.end_stuck.ensures.tasks c.end_family.ensures.tasks in (
       subst (λ (l : List ℕ). TookRest g.K.Sink.taken c.args.paper.now c.put_endings.new.paper l k.tasks.printed)
           (all_text x told k plan s m t c.args.chosen w c.args.ending c.endings-dead.result.items c.as_slice.result.now c.with_stuck-all.result.items c.as_slice-2.result.now
           (c.endings-dead.ensures plan s m t (holds x told k plan s m t c.args.chosen w) w.row) c.as_slice.ensures.value c.with_stuck-all.ensures c.as_slice-2.ensures.value)
@@ -59,8 +51,7 @@ returns-clause-closes g c = λ x told plan s m t w.
 
 pub returns-in-Err-clause-closes : goal.returns-in-Err-clause-closes
 returns-in-Err-clause-closes g c = λ x told plan s m t w.
-    (let k = c.args.machine.now in
-    (
+    (let k = c.args.machine.now in (
       subst (λ (l : List ℕ). TookMore g.K.Sink.taken c.args.paper.now c.put_endings.new.paper l k.tasks.printed c.put_endings.new.printed)
           (all_text x told k plan s m t c.args.chosen w c.args.ending c.endings-dead.result.items c.as_slice.result.now c.with_stuck-all.result.items c.as_slice-2.result.now
           (c.endings-dead.ensures plan s m t (holds x told k plan s m t c.args.chosen w) w.row) c.as_slice.ensures.value c.with_stuck-all.ensures c.as_slice-2.ensures.value)

@@ -1,4 +1,3 @@
-use Rattle.std.proofs.Common.{◌≡◌}
 use Rattle.b67_session_ends.proofs.Deadlocks.{joined_none, joined_one}
 use Rattle.b67_session_ends.proofs.closing.add_one.Goals as goal
 

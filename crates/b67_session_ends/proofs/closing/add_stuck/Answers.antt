@@ -1,4 +1,4 @@
-use Rattle.std.proofs.Common.{◌≡◌, arith, sym, append-nil}
+use Rattle.std.proofs.Common.{arith}
 use Rattle.b67_session_ends.proofs.Deadlocks.{stuck_more, stuck_all}
 use Rattle.b67_session_ends.proofs.closing.add_stuck.Goals as goal
 

@@ -1,4 +1,4 @@
-use Rattle.std.proofs.Common.{◌≡◌, ◌∙◌}
+use Rattle.std.proofs.Common.{◌∙◌}
 use Rattle.std.proofs.lemmas.List.{take_all}
 use Rattle.b67_session_ends.proofs.Deadlocks.{copied_more}
 use Rattle.b67_session_ends.proofs.closing.copied.Goals as goal

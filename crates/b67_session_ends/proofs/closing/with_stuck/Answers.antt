@@ -1,4 +1,4 @@
-use Rattle.std.proofs.Common.{◌≡◌, ◌∙◌, sym, ap}
+use Rattle.std.proofs.Common.{◌∙◌}
 use Rattle.b67_session_ends.proofs.Deadlocks.{none_stuck, all_stuck}
 use Rattle.b67_session_ends.proofs.closing.with_stuck.Goals as goal
 

@@ -1,4 +1,4 @@
-use Rattle.std.proofs.Common.{List, map, sym}
+use Rattle.std.proofs.Common.{map, sym}
 use Rattle.b67_word.specs.declared.faults.Ending.TheVariants.{Limit}
 use Rattle.b67_task_end.specs.Family.{pair_of}
 use Rattle.b67_session_ends.proofs.Families.{lent_list}

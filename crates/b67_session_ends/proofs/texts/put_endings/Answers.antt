@@ -1,4 +1,4 @@
-use Rattle.std.proofs.Common.{◌≡◌, ◌+◌, ◌++◌, List, ℕ, map, drop, subst, arith}
+use Rattle.std.proofs.Common.{◌+◌, ◌++◌, List, ℕ, map, drop, subst, arith}
 use Rattle.b67_io.specs.Line.{ended}
 use Rattle.b67_task_end.specs.Family.{pair_of}
 use Rattle.b67_session_ends.specs.Texts.{endings_text}

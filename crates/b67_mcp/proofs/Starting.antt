@@ -1,0 +1,172 @@
+-- What the step of a task that starts another needs of core, and the stops of such a step.
+use Rattle.std.proofs.Common.{◌≡◌, ◌≢◌, ℕ, ◌+◌, ◌≤◌, ◌<◌, inr, List, [], length, Option, Some, None, Result, Ok, Err, refl, sym, ◌∙◌, ap, arith, subst}
+use Rattle.std.specs.Prelude.{nat_lt, if◌then◌else◌}
+use Rattle.std.proofs.lemmas.Bool.{le-ltb, ne_eqb}
+use Rattle.b67_word.specs.declared.couples.Place.{Place}
+use Rattle.b67_word.specs.declared.faults.Fault.{Fault}
+use Rattle.b67_area.specs.declared.kinds.Kind.{Kind}
+use Rattle.b67_area.specs.declared.kinds.Kind.TheVariants as kind
+use Rattle.b67_backing.specs.declared.refusals.SpaceFault.{SpaceFault}
+use Rattle.b67_backing.specs.declared.refusals.SpaceFault.TheVariants as space
+use Rattle.b67_model.specs.Answers.{Answer}
+use Rattle.b67_model.specs.State.{Task, SessionJob}
+use Rattle.b67_model.specs.Steps.{Done, Goes}
+use Rattle.b67_model.specs.Need.{touched_of, started_by, need}
+use Rattle.b67_model.specs.Rows.{step}
+use Rattle.b67_model.specs.Sectors.{sectors}
+use Rattle.b67_model.specs.Schedule.{Session}
+use Rattle.b67_layout.specs.Orders.{IsInOrderButCounts}
+use Rattle.b67_stack.specs.MachineView.{PagedObject}
+use Rattle.b67_stack.specs.Represents.{Storage, Content, KeptChain}
+use Rattle.b67_layout.specs.Layout.{array_object}
+use Rattle.b67_layout.specs.Placement.{Placement}
+use Rattle.b67_layout.specs.Session.{IsRunning}
+use Rattle.b67_layout.specs.Meets.{here, area_held}
+use Rattle.b67_exec_cells.proofs.Replaced.{array_object-has}
+use Rattle.b67_exec_cells.specs.Running.{code_area}
+use Rattle.b67_task_need.specs.Needing.{need_with, touched_words, HasWords}
+use Rattle.b67_task_need.proofs.Needs.{need_whole}
+use Rattle.b67_task_tables.specs.declared.tables.Machine.{Machine}
+use Rattle.b67_task_tables.specs.Tables.{MachineRepresents}
+use Rattle.b67_task_tables.specs.Shortage.{IsShortOf}
+use Rattle.b67_presence.proofs.FullDevice.{short_full}
+use Rattle.b67_mcp_process.specs.Process.{StartsOne, ProcessMeets, ProcessWrites, ProcessFits}
+use Rattle.b67_mcp.specs.Called.{StartsTask, CallTouches, CallWrites, CallFits}
+use Rattle.b67_mcp.specs.Answers.{SilentMeets, end_of}
+use Rattle.b67_mcp.specs.Stopping.{StopsFor}
+use Rattle.b67_mcp.specs.declared.ends.Stop.{Stop}
+use Rattle.b67_mcp.specs.declared.ends.Stop.TheVariants as stops
+use Rattle.b67_mcp.proofs.Callings.{Calling}
+use Rattle.b67_mcp.proofs.Lengthened.{area_of}
+use Rattle.b67_mcp.proofs.Renumbered.{seen}
+use Rattle.b67_mcp.proofs.Present.{faults_untouched, made_untouched}
+use Rattle.b67_mcp.proofs.Space.{has_space}
+
+-- a present object without a chain is an array that may be written
+unkept_kind : (y : Storage) (t : PagedObject) (k : Kind) (first : ℕ) → KeptChain y t k first → first ≡ 0 → k ≡ kind.Array
+unkept_kind y t kind.Array first c e = refl
+unkept_kind y t kind.Row first c e = absurd (omega (arith, c.chain.some, e))
+unkept_kind y t kind.Code first c e = absurd (omega (arith, c.chain.some, e))
+
+-- a machine that is short of sectors for such an array stands for a session that takes more than the device has
+short_of : (y : Storage) (told : Option (List (List ℕ))) (k : Machine) (plan : Placement) (s : Session) (wants free count : ℕ) → MachineRepresents y told k plan s → IsShortOf y plan s.jobs wants free → count + 1 ≡ length k.sectors.links → count < sectors s.jobs
+short_of y told k plan s wants free count h w links =
+    let object : PagedObject = array_object plan w.member.constants.number w.array in
+    let there = array_object-has plan s.jobs w.member w.array w.in_session w.among in
+    let area = area_of (area_held y plan w.member.constants.number w.array.identity) w.present in
+    let view = seen y told k plan s h in
+    let C : Option ℕ → Type 0 = λ a. Content y k.cpu.core object a (y.held object.home).chain in
+    let content = subst C area.1 (view.stands.objects object there).content in
+    short_full y k.cpu k.areas k.sectors told plan s wants free count view (record {
+      object = object;
+      at = area.0;
+      present = record { there = there; present = area.1 };
+      short = record { kind = unkept_kind y object object.kind (y.held object.home).chain content.1 w.unkept; none = w.unkept; few = omega (arith, w.free_is, w.fewer, w.wants_is) };
+      wants_is = w.wants_is;
+      free_is = w.free_is;
+    }) links
+
+-- a step that starts a task: it needs room for one stack more, and touches nothing
+module _ (x : Storage) (told : Option (List (List ℕ))) (k : Machine) (plan : Placement) (s : Session) (m : SessionJob) (t : Task) (o : IsInOrderButCounts s) (h : MachineRepresents x told k plan s) (runs : IsRunning plan s.jobs m t) where
+  base_fits : code_area x plan m t ≢ None → need_with s m t 0 0 ≤ length k.cpu.core
+  base_fits code = by (code_area x plan m t) refl code where
+    by : (area : Option ℕ) → code_area x plan m t ≡ area → area ≢ None → need_with s m t 0 0 ≤ length k.cpu.core
+    by None is some = absurd (some refl)
+    by (Some at) is some = (has_space x k.cpu plan s m t o h.session runs at is).code
+
+  pub need_started : code_area x plan m t ≢ None → StartsTask m t → need (length k.cpu.core) s m t ≡ need_with s m t 1 0
+  need_started code a =
+      let core = length k.cpu.core in
+      let made : Answer Done = step m.constants m.progress.job t in
+      let touched : Option ℕ = touched_of m.constants m.progress.job t made in
+      let none : touched ≡ None = ap (touched_of m.constants m.progress.job t) a.is in
+      let one : started_by m.progress.job made ≡ 1 = (let is = ap (started_by m.progress.job) a.is in omega (arith, is, a.more)) in
+      let some : HasWords m.progress.job touched = subst (HasWords m.progress.job) (sym none) tt in
+      let base = need_with s m t 0 0 in
+      let full = need_with s m t (started_by m.progress.job made) (touched_words m.progress.job touched) in
+      let C : _ → ℕ = λ b. if b then base else full in
+      need_whole core s m t o.peak_low made refl some
+      ∙ ap C (le-ltb core base (base_fits code))
+      ∙ ap (λ (n : ℕ). need_with s m t n (touched_words m.progress.job touched)) one
+      ∙ ap (λ (q : Option ℕ). need_with s m t 1 (touched_words m.progress.job q)) none
+
+  -- the call of PROCESS, at the place behind it
+  module _ (c : Calling m t 12) where
+    starts : StartsOne m t c.next c.arguments → StartsTask m t
+    starts a = record { job = a.job; is = c.is ∙ a.is; more = a.more }
+
+    pub process_meets : (after : Option (List (List ℕ))) (count : ℕ) (new : Machine) (done : Result (Unit {0}) Fault) → (new.tasks.printed ≡ k.tasks.printed) → ProcessMeets after plan s m t c.next c.arguments (Ok done) k new → SilentMeets after count plan s m t (Ok (end_of done)) k new
+    process_meets after count new (Ok done) printed g = record { job = g.job; is = c.is ∙ g.is; storage = g.storage; plan = g.plan; stands = g.stands; printed = printed }
+    process_meets after count new (Err fault) printed g = (c.is ∙ g.0, g.1)
+
+    pub process_stops : (after : Option (List (List ℕ))) (count : ℕ) (new : Machine) (fault : SpaceFault) (stop : Stop) → code_area x plan m t ≢ None → count + 1 ≡ length new.sectors.links → StopsFor new fault stop
+        → ProcessMeets after plan s m t c.next c.arguments (Err fault) k new → SilentMeets after count plan s m t (Err stop) k new
+    process_stops after count new (space.NoCore words size) stop code links is g =
+        let S : Stop → Type 0 = λ z. SilentMeets after count plan s m t (Err z) k new in
+        let need_is = need_started code (starts g.0.starts) in
+        subst S (sym is) (record { starts = starts g.0.starts; words_is = g.0.need_is ∙ sym need_is; size_is = g.0.core_is; exceeds = g.0.exceeds }, g.1)
+    process_stops after count new (space.BackingFull wants free) stop code links (sum, size, is, sums, size_is) g =
+        let S : Stop → Type 0 = λ z. SilentMeets after count plan s m t (Err z) k new in
+        let w = g.stopped in
+        let total = sums w.storage after plan s o w.stands in
+        subst S (sym is) (record {
+          unstarted = record { starts = starts w.starts; storage = w.storage; stands = w.stands; tables = w.tables };
+          wants = wants;
+          free = free;
+          short = g.short;
+          sum_is = total;
+          size_is = omega (arith, size_is, links);
+          exceeds = (let above = short_of w.storage after new plan s wants free count w.stands g.short links in omega (arith, above, total));
+        })
+    process_stops after count new space.BackingFault stop code links is g =
+        let S : Stop → Type 0 = λ z. SilentMeets after count plan s m t (Err z) k new in
+        subst S (sym is) (record { starts = starts g.starts; storage = g.storage; stands = g.stands; tables = g.tables })
+
+    pub process_touches : (after : Option (List (List ℕ))) (new : Machine) (done : Result (Unit {0}) Fault) → ProcessMeets after plan s m t c.next c.arguments (Ok done) k new → CallTouches x plan m t (Ok (end_of done))
+    process_touches after new (Ok done) g = made_untouched m t x plan g.job [] (c.is ∙ g.is)
+    process_touches after new (Err fault) g = faults_untouched m t x plan 12 (λ e. absurd cc) c fault (c.is ∙ g.0)
+
+    pub stops_touch : (after : Option (List (List ℕ))) (new : Machine) (fault : SpaceFault) (stop : Stop) → StopsFor new fault stop → ProcessMeets after plan s m t c.next c.arguments (Err fault) k new → CallTouches x plan m t (Err stop)
+    stops_touch after new (space.NoCore words size) stop is g = let S : Stop → Type 0 = λ z. CallTouches x plan m t (Err z) in subst S (sym is) tt
+    stops_touch after new (space.BackingFull wants free) stop (sum, size, is, sums, size_is) g =
+        let S : Stop → Type 0 = λ z. CallTouches x plan m t (Err z) in
+        subst S (sym is) (made_untouched m t x plan g.stopped.starts.job [] (c.is ∙ g.stopped.starts.is))
+    stops_touch after new space.BackingFault stop is g = let S : Stop → Type 0 = λ z. CallTouches x plan m t (Err z) in subst S (sym is) (made_untouched m t x plan g.starts.job [] (c.is ∙ g.starts.is))
+
+    -- where a task is started, core has room
+    pub process_fits : (done : Result (Unit {0}) Fault) → code_area x plan m t ≢ None → ProcessFits (length k.cpu.core) s m t c.next c.arguments (Ok done) → CallFits (length k.cpu.core) s m t (Ok (end_of done))
+    process_fits (Ok done) code fits = λ a.
+        (let one : StartsOne m t c.next c.arguments = record { job = a.job; is = sym c.is ∙ a.is; more = a.more } in
+        let need_is = need_started code a in
+        omega (arith, need_is, fits one))
+    process_fits (Err fault) code fits = tt
+
+    pub stops_fit : (new : Machine) (fault : SpaceFault) (stop : Stop) → code_area x plan m t ≢ None → StopsFor new fault stop → ProcessFits (length k.cpu.core) s m t c.next c.arguments (Err fault) → CallFits (length k.cpu.core) s m t (Err stop)
+    stops_fit new (space.NoCore words size) stop code is fits = let S : Stop → Type 0 = λ z. CallFits (length k.cpu.core) s m t (Err z) in subst S (sym is) tt
+    stops_fit new (space.BackingFull wants free) stop code (sum, size, is, sums, size_is) fits =
+        let S : Stop → Type 0 = λ z. CallFits (length k.cpu.core) s m t (Err z) in
+        subst S (sym is) (λ a. (let need_is = need_started code a in omega (arith, need_is, fits)))
+    stops_fit new space.BackingFault stop code is fits =
+        let S : Stop → Type 0 = λ z. CallFits (length k.cpu.core) s m t (Err z) in
+        subst S (sym is) (λ a. (let need_is = need_started code a in omega (arith, need_is, fits)))
+
+    -- the device may have been written only then
+    pub process_writes : (done : Result (Unit {0}) Fault) → ProcessWrites m t c.next c.arguments (Ok done) → CallWrites x plan m t (Ok (end_of done))
+    process_writes (Ok done) w = inr (starts w)
+    process_writes (Err fault) w = absurd w
+
+    pub stops_write : (new : Machine) (fault : SpaceFault) (stop : Stop) → StopsFor new fault stop → ProcessWrites m t c.next c.arguments (Err fault) → CallWrites x plan m t (Err stop)
+    stops_write new (space.NoCore words size) stop is w = absurd w
+    stops_write new (space.BackingFull wants free) stop (sum, size, is, sums, size_is) w = let S : Stop → Type 0 = λ z. CallWrites x plan m t (Err z) in subst S (sym is) (inr (starts w))
+    stops_write new space.BackingFault stop is w = let S : Stop → Type 0 = λ z. CallWrites x plan m t (Err z) in subst S (sym is) (inr (starts w))
+
+-- no stop is the printer's, and the device's is its own
+pub stop_kind : (k : Machine) (fault : SpaceFault) (stop : Stop) → StopsFor k fault stop → stop ≢ stops.PrintFault
+stop_kind k (space.NoCore words size) stop is e = let z : stops.NoCore words size ≡ stops.PrintFault = sym is ∙ e in absurd cc
+stop_kind k (space.BackingFull wants free) stop (sum, size, is, sums, size_is) e = let z : stops.BackingFull sum size ≡ stops.PrintFault = sym is ∙ e in absurd cc
+stop_kind k space.BackingFault stop is e = let z : stops.BackingFault ≡ stops.PrintFault = sym is ∙ e in absurd cc
+
+pub stop_faults : (k : Machine) (fault : SpaceFault) (stop : Stop) → StopsFor k fault stop → stop ≡ stops.BackingFault → fault ≡ space.BackingFault
+stop_faults k (space.NoCore words size) stop is e = let z : stops.NoCore words size ≡ stops.BackingFault = sym is ∙ e in absurd cc
+stop_faults k (space.BackingFull wants free) stop (sum, size, is, sums, size_is) e = let z : stops.BackingFull sum size ≡ stops.BackingFault = sym is ∙ e in absurd cc
+stop_faults k space.BackingFault stop is e = refl

@@ -1,0 +1,39 @@
+//! PROCESS.
+
+ghost use Rattle.std.specs.Prelude.{◌≡◌, ◌≢◌, ◌+◌, Err, length};
+ghost use Rattle.b67_io.specs.Causes.{Rose};
+ghost use Rattle.b67_layout_storage.specs.Machine.{Says, DeviceAfterCalls, content_after};
+ghost use Rattle.b67_mcp.specs.Answers.{SilentMeets};
+ghost use Rattle.b67_mcp.specs.Called.{CallsSome, CallTouches, CallWrites, CallFits};
+ghost use Rattle.b67_mcp.specs.Running.{CanNumber, ForCalls, Kept};
+ghost use Rattle.b67_mcp.specs.declared.ends.Stop.TheVariants.{BackingFault, PrintFault};
+
+use crate::running::next_place;
+use crate::stopping::stop_for;
+use crate::{CallEnd, Stop, silent};
+use b67_backing::Backing;
+use b67_mcp_process::process;
+use b67_task_tables::Machine;
+
+/// PROCESS: a task is started, or none where 15 of its job live, and the call is cut and answers. Its fault changes nothing.
+/// Where the new stack has no room in core nothing is changed; where too few sectors are free or the device fails, the machine
+/// stands for the same session.
+pub(crate) fn start<B: Backing>(machine: &mut Machine, backing: &mut B) -> Result<CallEnd, Stop>
+    requires calls { CallsSome machine.old 12 }
+    requires number { CanNumber machine.old.tasks.jobs }
+    requires same { B.size backing.old + 1 ≡ length machine.old.sectors.links }
+    ensures row { ForCalls machine.old 12 (λ x told plan s m t. Says told (B.holds backing.old)
+        → SilentMeets (content_after told (B.holds backing.new)) (B.size backing.old) plan s m t result machine.old machine.new) }
+    ensures present { ForCalls machine.old 12 (λ x told plan s m t. CallTouches x plan m t result × CallFits (length machine.old.cpu.core) s m t result) }
+    ensures quiet { ForCalls machine.old 12 (λ x told plan s m t. (CallWrites x plan m t result → ⊥) → backing.new ≡ backing.old) }
+    ensures cause { result ≡ Err BackingFault → Rose B.faults backing.old backing.new }
+    ensures silent { result ≢ Err PrintFault }
+    ensures kept { Kept machine.old machine.new }
+    ensures device { DeviceAfterCalls B.holds B.size B.calls B.faults backing.old backing.new }
+{
+    let next = next_place(machine);
+    match process(machine, next, backing) {
+        Ok(done) => Ok(silent(done)),
+        Err(fault) => Err(stop_for(machine, fault)),
+    }
+}

@@ -1,0 +1,24 @@
+//! The stop for a want of space.
+
+ghost use Rattle.b67_task_need.specs.Needing.{StandsInOrder};
+ghost use Rattle.b67_mcp.specs.Stopping.{StopsFor};
+
+use crate::Stop;
+use b67_backing::SpaceFault;
+use b67_task_need::sector_sum;
+use b67_task_tables::Machine;
+
+/// The stop for a want of space, with the sectors that the session takes and those of the device where too few are free.
+pub fn stop_for(machine: &Machine, fault: SpaceFault) -> Stop
+    requires { StandsInOrder machine.now }
+    ensures { StopsFor machine.now fault result }
+{
+    match fault {
+        SpaceFault::NoCore { need, core } => Stop::NoCore { need, core },
+        SpaceFault::BackingFull { wants, free } => Stop::BackingFull {
+            sum: sector_sum(machine),
+            sectors: machine.sectors.count(),
+        },
+        SpaceFault::BackingFault => Stop::BackingFault,
+    }
+}

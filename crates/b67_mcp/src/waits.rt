@@ -1,0 +1,44 @@
+//! AWAIT, STATUS, WAIT and CAUSE.
+
+ghost use Rattle.std.specs.Prelude.{◌≡◌, ◌≤◌, ℕ, Ok, length};
+ghost use Rattle.b67_mcp.specs.Answers.{SilentMeets, waiting_end};
+ghost use Rattle.b67_mcp.specs.Called.{CallsSome, CallTouches, CallFits};
+ghost use Rattle.b67_mcp.specs.Running.{ForCalls, Kept};
+
+use crate::running::next_place;
+use crate::{CallEnd, silent};
+use b67_mcp_waits::{await_task, cause, status_of, wait_at};
+use b67_task_tables::{Machine, TaskState};
+use b67_word::Fault;
+
+/// The end of a call that may make its task wait.
+fn waiting(done: Result<Option<TaskState>, Fault>) -> CallEnd
+    ensures { result ≡ waiting_end done }
+{
+    match done {
+        Ok(waits) => match waits {
+            Some(state) => CallEnd::Waits(state),
+            None => CallEnd::Done,
+        },
+        Err(fault) => CallEnd::Fault(fault),
+    }
+}
+
+/// AWAIT, STATUS, WAIT and CAUSE by their rows: the call is cut, its task is to wait, or it faults. Only where it is cut is
+/// anything changed.
+pub(crate) fn wait_for(machine: &mut Machine, n: u8) -> CallEnd
+    requires calls { CallsSome machine.old n }
+    requires from { 13 ≤ n }
+    requires upto { n ≤ 16 }
+    ensures row { ForCalls machine.old n (λ x told plan s m t. (count : ℕ) → SilentMeets told count plan s m t (Ok result) machine.old machine.new) }
+    ensures present { ForCalls machine.old n (λ x told plan s m t. CallTouches x plan m t (Ok result) × CallFits (length machine.old.cpu.core) s m t (Ok result)) }
+    ensures kept { Kept machine.old machine.new }
+{
+    let next = next_place(machine);
+    match n {
+        13 => waiting(await_task(machine, next)),
+        14 => silent(status_of(machine, next)),
+        15 => waiting(wait_at(machine, next)),
+        _ => silent(cause(machine, next)),
+    }
+}

@@ -1,0 +1,102 @@
+-- What a call of PROCESS answers and leaves, over the whole machine.
+use Rattle.std.specs.Prelude.{◌≡◌, ℕ, ◌+◌, ◌-◌, ◌^◌, ◌<◌, ◌≤◌, List, [], length, Option, None, Result, Ok, Err}
+use Rattle.b67_lemmas.specs.Lists.{Has}
+use Rattle.b67_word.specs.declared.couples.Place.{Place}
+use Rattle.b67_word.specs.declared.faults.Fault.{Fault}
+use Rattle.b67_backing.specs.declared.SpaceFault.{SpaceFault}
+use Rattle.b67_backing.specs.declared.SpaceFault.TheVariants.{NoCore, BackingFull, BackingFault}
+use Rattle.b67_model.specs.Words.{Word}
+use Rattle.b67_model.specs.State.{Task, Job, SessionJob}
+use Rattle.b67_model.specs.Steps.{Goes}
+use Rattle.b67_model.specs.Intrinsics.{process}
+use Rattle.b67_model.specs.Schedule.{Session}
+use Rattle.b67_stack.specs.Represents.{Storage}
+use Rattle.b67_layout.specs.Placement.{Placement}
+use Rattle.b67_layout.specs.Meets.{here}
+use Rattle.b67_exec_calls.specs.Calls.{IsCall}
+use Rattle.b67_task_need.specs.Needing.{need_with}
+use Rattle.b67_task_start.specs.Starts.{moved}
+use Rattle.b67_task_tables.specs.declared.tables.JobRow.{JobRow}
+use Rattle.b67_task_tables.specs.declared.tables.Machine.{Machine}
+use Rattle.b67_task_tables.specs.Tables.{MachineRepresents, AreCountable}
+use Rattle.b67_task_tables.specs.Shortage.{IsShortOf}
+use Rattle.b67_task_tables.specs.Runs.{RunsTask, ForEachRun, Keeps}
+
+-- the machine stands for some session in order, whose running task calls an intrinsic
+pub record CallsProcess (k : Machine) : Type 0 where
+  pub runs : RunsTask k
+  pub reference : Word
+  pub arguments : List Word
+  pub call : IsCall runs.task reference arguments
+
+-- for each such session, with the call's arguments
+abbrev pub ForCall : Machine → (Storage → Option (List (List ℕ)) → Placement → Session → SessionJob → Task → List Word → Type 0) → Type 0
+ForCall k P = ForEachRun k (λ x told plan s m t. (reference : Word) (arguments : List Word) → IsCall t reference arguments → P x told plan s m t arguments)
+
+-- each job's next task can be numbered, and the one after it
+abbrev pub CanNumber : List JobRow → Type 0
+CanNumber rows = (r : JobRow) → Has rows r → r.next_task + 1 < 2 ^ 32
+
+-- the row starts a task
+pub record StartsOne (m : SessionJob) (t : Task) (next : Place) (arguments : List Word) : Type 0 where
+  pub job : Job
+  pub is : process (here m t next) arguments ≡ Ok (Goes job [] None)
+  pub more : length job.tasks ≡ length m.progress.job.tasks + 1
+
+-- the call was made: the machine stands for the job that its row makes, whose tasks count for the peak
+pub record IsProcessed (told : Option (List (List ℕ))) (s : Session) (m : SessionJob) (t : Task) (next : Place) (arguments : List Word) (new : Machine) : Type 0 where
+  pub job : Job
+  pub is : process (here m t next) arguments ≡ Ok (Goes job [] None)
+  pub storage : Storage
+  pub plan : Placement
+  pub stands : MachineRepresents storage told new plan (moved s m job (length job.tasks - length m.progress.job.tasks))
+
+-- the row starts a task, which isn't started: the machine stands for the same session, of which areas may have been evicted
+pub record IsStopped (told : Option (List (List ℕ))) (plan : Placement) (s : Session) (m : SessionJob) (t : Task) (next : Place) (arguments : List Word) (old new : Machine) : Type 0 where
+  pub starts : StartsOne m t next arguments
+  pub storage : Storage
+  pub stands : MachineRepresents storage told new plan s
+  pub tables : new.tasks ≡ old.tasks
+
+-- and the machine is short of sectors
+pub record IsStoppedShort (told : Option (List (List ℕ))) (plan : Placement) (s : Session) (m : SessionJob) (t : Task) (next : Place) (arguments : List Word) (wants free : ℕ) (old new : Machine) : Type 0 where
+  pub stopped : IsStopped told plan s m t next arguments old new
+  pub short : IsShortOf stopped.storage plan s.jobs wants free
+
+-- the row starts a task, for which core is too small
+pub record LacksWords (words : ℕ) (s : Session) (m : SessionJob) (t : Task) (next : Place) (arguments : List Word) (need core : ℕ) : Type 0 where
+  pub starts : StartsOne m t next arguments
+  pub need_is : need ≡ need_with s m t 1 0
+  pub core_is : core ≡ words
+  pub exceeds : core < need
+
+-- by what was answered, over a device that tells this afterwards
+abbrev pub ProcessMeets : Option (List (List ℕ)) → Placement → Session → SessionJob → Task → Place → List Word → Result (Result (Unit {0}) Fault) SpaceFault → Machine → Machine → Type 0
+ProcessMeets told plan s m t next arguments (Ok (Ok done)) old new = IsProcessed told s m t next arguments new
+ProcessMeets told plan s m t next arguments (Ok (Err fault)) old new = (process (here m t next) arguments ≡ Err fault) × (new ≡ old)
+ProcessMeets told plan s m t next arguments (Err (NoCore need core)) old new = LacksWords (length old.cpu.core) s m t next arguments need core × (new ≡ old)
+ProcessMeets told plan s m t next arguments (Err (BackingFull wants free)) old new = IsStoppedShort told plan s m t next arguments wants free old new
+ProcessMeets told plan s m t next arguments (Err BackingFault) old new = IsStopped told plan s m t next arguments old new
+
+-- after every other answer the device is as it was
+abbrev pub ProcessWrites : SessionJob → Task → Place → List Word → Result (Result (Unit {0}) Fault) SpaceFault → Type 0
+ProcessWrites m t next arguments (Ok (Ok done)) = StartsOne m t next arguments
+ProcessWrites m t next arguments (Ok (Err fault)) = ⊥
+ProcessWrites m t next arguments (Err (NoCore need core)) = ⊥
+ProcessWrites m t next arguments (Err (BackingFull wants free)) = StartsOne m t next arguments
+ProcessWrites m t next arguments (Err BackingFault) = StartsOne m t next arguments
+
+-- a call that starts a task, was made or was stopped by the device, needs no more words than core has
+abbrev pub ProcessFits : ℕ → Session → SessionJob → Task → Place → List Word → Result (Result (Unit {0}) Fault) SpaceFault → Type 0
+ProcessFits core s m t next arguments (Ok (Ok done)) = StartsOne m t next arguments → need_with s m t 1 0 ≤ core
+ProcessFits core s m t next arguments (Ok (Err fault)) = Unit {0}
+ProcessFits core s m t next arguments (Err (NoCore need size)) = Unit {0}
+ProcessFits core s m t next arguments (Err (BackingFull wants free)) = need_with s m t 1 0 ≤ core
+ProcessFits core s m t next arguments (Err BackingFault) = need_with s m t 1 0 ≤ core
+
+-- what the call keeps: the size of core, the number of sectors, the halt, the jobs' names, that numbers for READ are few, and
+-- how much is printed
+pub record ProcessKeeps (old new : Machine) : Type 0 where
+  pub keeps : Keeps old new
+  pub countable : AreCountable old.tasks.jobs → AreCountable new.tasks.jobs
+  pub printed : new.tasks.printed ≡ old.tasks.printed

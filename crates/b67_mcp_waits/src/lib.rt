@@ -1,0 +1,10 @@
+//! The intrinsics by which tasks wait for each other: AWAIT, STATUS, WAIT and CAUSE.
+#![tactic(auto)]
+
+mod cells;
+mod events;
+mod tasks;
+mod woken;
+
+pub use events::{cause, wait_at};
+pub use tasks::{await_task, status_of};

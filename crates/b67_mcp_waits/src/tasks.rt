@@ -1,0 +1,82 @@
+//! AWAIT and STATUS.
+
+ghost use Rattle.std.specs.Prelude.{◌≡◌, List};
+ghost use Rattle.b67_ctl.specs.Layout.{IsPlace};
+ghost use Rattle.b67_model.specs.Words as words;
+ghost use Rattle.b67_model.specs.Intrinsics as rows;
+ghost use Rattle.b67_layout.specs.Meets.{ForEach};
+ghost use Rattle.b67_task_tables.specs.Runs.{RunsTask, ForEachRun};
+ghost use Rattle.b67_exec_calls.specs.Calls.{CallSome, IsCall};
+ghost use Rattle.b67_mcp_waits.specs.Arguments.{number_given};
+ghost use Rattle.b67_mcp_waits.specs.Events.{StandsAtCall, ForCall, WaitMeets, DoneMeets, KeepsSectors};
+
+use b67_entry::is_critical;
+use b67_exec_calls::{answer_call, cut_call, only_argument, whole};
+use b67_stack::Cpu;
+use b67_task_end::{lives, status};
+use b67_task_tables::{Machine, TaskState};
+use b67_word::{Fault, Place, Word};
+
+/// The number of the running task's job.
+pub(crate) fn running_job(machine: &Machine) -> u8
+    requires { RunsTask machine.now }
+    ensures { ForEachRun machine.now (λ x told plan s m t. result ≡ m.constants.number) }
+{
+    machine.tasks.rows[machine.tasks.running as usize].job
+}
+
+/// The number that is a call's one argument. INVALID OPERAND if the call has another number of arguments, or that is no
+/// operand; EXPONENT if it isn't whole.
+fn number_in(cpu: &Cpu) -> Result<i64, Fault>
+    requires { CallSome cpu.now }
+    ensures { ForEach cpu.now (λ x plan s m t. (reference : words.Word) (arguments : List words.Word) → IsCall t reference arguments → result ≡ number_given arguments) }
+{
+    match only_argument(cpu) {
+        Ok(w) => whole(w),
+        Err(fault) => Err(fault),
+    }
+}
+
+/// AWAIT: where the job's task of the number lives, the running task is to wait for its end, with nothing changed; else the
+/// call is cut. Its fault changes nothing.
+pub fn await_task(machine: &mut Machine, next: Place) -> Result<Option<TaskState>, Fault>
+    requires call { StandsAtCall machine.old }
+    requires place { IsPlace next }
+    ensures row { ForCall machine.old (λ x told plan s m t arguments. WaitMeets rows.await x told plan s m t next arguments result machine.old machine.new) }
+    ensures keeps { KeepsSectors machine.old machine.new }
+{
+    let number = match number_in(&machine.cpu) {
+        Ok(number) => number,
+        Err(fault) => return Err(fault),
+    };
+    let job = running_job(machine);
+    if lives(&machine.tasks, job, number) {
+        return Ok(Some(TaskState::Awaits(number as u32)));
+    }
+    if is_critical(&machine.cpu) {
+        return Err(Fault::CriticalBlock);
+    }
+    cut_call(&mut machine.cpu, next);
+    Ok(None)
+}
+
+/// STATUS: the call is cut and answers how it stands with the job's task of the number: 0 it was never started, 1 it is ready,
+/// 2 it waits, 3 it has ended. Its fault changes nothing.
+pub fn status_of(machine: &mut Machine, next: Place) -> Result<(), Fault>
+    requires call { StandsAtCall machine.old }
+    requires place { IsPlace next }
+    ensures row { ForCall machine.old (λ x told plan s m t arguments. DoneMeets rows.status x told plan s m t next arguments result machine.old machine.new) }
+    ensures keeps { KeepsSectors machine.old machine.new }
+{
+    let number = match number_in(&machine.cpu) {
+        Ok(number) => number,
+        Err(fault) => return Err(fault),
+    };
+    if is_critical(&machine.cpu) {
+        return Err(Fault::CriticalBlock);
+    }
+    let job = running_job(machine);
+    let told = status(&machine.tasks, job, number);
+    answer_call(&mut machine.cpu, Word::of(0, u64::from(told)), next);
+    Ok(())
+}

@@ -1,0 +1,50 @@
+//! The rows of tasks once a cell is caused.
+
+ghost use Rattle.std.specs.Prelude.{◌≡◌, ◌≤◌, length, map};
+ghost use Rattle.b67_mcp_waits.specs.Woken as woken;
+
+use arrayvec::ArrayVec;
+use b67_task_tables::{TaskRow, TaskState};
+
+/// The state once a cell is caused: who waited at it is ready.
+fn woken_state(state: TaskState, mark: u32, offset: u16) -> TaskState
+    ensures { result ≡ woken.woken_state mark offset state }
+{
+    match state {
+        TaskState::Ready => TaskState::Ready,
+        TaskState::Awaits(number) => TaskState::Awaits(number),
+        TaskState::WaitsAt {
+            mark: at,
+            offset: other,
+        } => {
+            if at == mark && other == offset {
+                return TaskState::Ready;
+            }
+            state
+        }
+    }
+}
+
+/// The row once a cell of a job is caused.
+fn woken_row(row: TaskRow, job: u8, mark: u32, offset: u16) -> TaskRow
+    ensures { result ≡ woken.woken_row job mark offset row }
+{
+    if row.job != job {
+        return row;
+    }
+    let mut after = row;
+    after.state = woken_state(row.state, mark, offset);
+    after
+}
+
+/// The rows once a cell of a job is caused, by the address of its activation record's mark and its offset.
+pub(crate) fn woken_rows(rows: &[TaskRow], job: u8, mark: u32, offset: u16) -> ArrayVec<TaskRow, 120>
+    requires { length rows.now ≤ 120 }
+    ensures { result.items ≡ map (woken.woken_row job mark offset) rows.now }
+{
+    let mut after = ArrayVec::new();
+    for at in 0..rows.len() as u8 {
+        after.push(woken_row(rows[at as usize], job, mark, offset));
+    }
+    after
+}
