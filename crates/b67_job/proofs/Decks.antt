@@ -23,7 +23,7 @@ use Rattle.b67_job.specs.Lines.{no_core_line, backing_full_line}
 use Rattle.b67_job.specs.Texts.{only}
 use Rattle.b67_job.specs.Finishing.{refused_status, refused_line, SessionRan}
 use Rattle.b67_job.specs.Runs.{memory_refused, opening_wants_core, opening_wants_sectors, opening_fails, unopened, DeckRunEnds, run_stops}
-use Rattle.b67_job.proofs.Opened.{states_in_order, jobs_run_apart, says_after, stands_opened, stage_of, known_after, known_later}
+use Rattle.b67_job.proofs.Opened.{states_in_order, says_after, stands_opened, stage_of, known_after, known_later}
 use Rattle.b67_job.proofs.Ran.{closes_only, ran}
 
 -- ---- the run of a deck
@@ -105,7 +105,6 @@ module _ {K B : Type 0} (taken : K → Option (List ℕ)) (failures : K → ℕ)
       (record {
         room = (o.0, o.1);
         in_order = states_in_order d fs k.tasks.made range loaded;
-        apart = jobs_run_apart k.tasks.made first;
         fitted = λ told. subst (λ n. StepsFit n k.tasks.made first) o.2.core_size (subst (λ n. StepsFit (length k0.cpu.core) n first) (sym made) (r.slices.fits (exact told)));
         core_size = keeps.core ∙ o.2.core_size;
         halt = keeps.halt ∙ o.2.halt;

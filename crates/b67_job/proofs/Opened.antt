@@ -1,10 +1,11 @@
 -- The session that a deck opens.
-use Rattle.std.proofs.Common.{◌≡◌, ◌≢◌, ◌⊎◌, inl, inr, ℕ, List, [], ◌∷◌, map, refl, sym, ◌∙◌, Option, Some, None}
+use Rattle.std.proofs.Common.{◌≡◌, ◌≢◌, ◌⊎◌, inl, inr, ℕ, List, [], ◌∷◌, map, refl, sym, ◌∙◌, subst, Option, Some, None}
 use Rattle.std.specs.List.{AllByRecursion}
 use Rattle.b67_codefile.specs.declared.file.Codefile.{Codefile}
 use Rattle.b67_codefile.specs.Meaning.{program_of}
 use Rattle.b67_model_text.specs.declared.deck.Deck.{Deck}
 use Rattle.b67_model.specs.Schedule.{Session}
+use Rattle.b67_model.specs.Run.{RunLine, after, lines}
 use Rattle.b67_model.specs.InOrder.{IsInOrderButPlaces}
 use Rattle.b67_law_order_runs.proofs.Opens.{opens_in_order}
 use Rattle.b67_law_order_runs.proofs.Sessions.{runs_stay_in_order}
@@ -35,8 +36,14 @@ states_in_order d fs n range loaded = record {
 }
 
 -- and each job has run apart
-pub jobs_run_apart : (steps : ℕ) (first : Session) → JobsRunApart steps first
+jobs_run_apart : (steps : ℕ) (first : Session) → JobsRunApart steps first (after steps first) (lines steps first)
 jobs_run_apart steps first = record { prints = λ job m found. jobs_apart steps first job m found; stays = λ job m found. states_apart steps first job m found }
+
+-- so it is with these lines and this session
+pub run_apart_to : (steps : ℕ) (first s : Session) (printed : List RunLine) → s ≡ after steps first → printed ≡ lines steps first → JobsRunApart steps first s printed
+run_apart_to steps first s printed e f =
+    let at : JobsRunApart steps first (after steps first) printed = subst (λ (ls : List RunLine). JobsRunApart steps first (after steps first) ls) (sym f) (jobs_run_apart steps first) in
+    subst (λ (z : Session). JobsRunApart steps first z printed) (sym e) at
 
 not_empty : (row : TaskRow) (rows : List TaskRow) → row ∷ rows ≢ []
 not_empty row rows e = cc

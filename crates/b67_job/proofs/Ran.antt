@@ -35,6 +35,7 @@ use Rattle.b67_session_lines.specs.Ends.{Ends, whole, cut}
 use Rattle.b67_job.specs.Device.{Device, Tells, Failed, known_now}
 use Rattle.b67_job.specs.Lines.{no_core_line, backing_full_line, backing_fault_line}
 use Rattle.b67_job.specs.Texts.{Text, only, Closes, all_taken, cut_short}
+use Rattle.b67_job.proofs.Opened.{run_apart_to}
 use Rattle.b67_job.specs.Runs.{run_of, text_to, StandsAfter, IsBeforeHalt, IsWithinHalt, StopsAt, IsCutInStep, IsCutInLimit, WasOpened, StopsOpened, all_end, halt_comes, step_wants_core, step_wants_sectors, step_fails, opened, DeckRunEnds, run_stops, step_is_cut}
 use Rattle.b67_job.specs.Finishing.{Finishes}
 use Rattle.b67_job.proofs.Parts.{over_has_no_last}
@@ -131,6 +132,7 @@ module _ {K B : Type 0} (taken : K → Option (List ℕ)) (faults : K → ℕ) (
   comes_to none = record {
     session = λ tells. sym (ap (λ n. after n first) made ∙ (came tells none).session);
     lines_are = λ tells. same_lines (came tells none);
+    apart = λ tells. let c = came tells none in run_apart_to k.tasks.made first s printed (sym (ap (λ n. after n first) made ∙ c.session)) (same_lines c);
   }
 
   abbrev stops_at : (m : SessionJob) (t : Task) → StandsAt known k s → IsNext s m t → StopsAt d first k

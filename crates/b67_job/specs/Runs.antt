@@ -35,11 +35,12 @@ text_to printed line = record { front = run_text printed; last = ended line }
 -- ---- the run stops after as many steps as the machine counts
 
 -- A run that set out from a session has come to another and has printed these lines. If its device told what the sectors
--- hold, that is the session after as many steps as the machine counts, and these are their lines. One that tells nothing
--- may give back other code and other numbers than were written.
+-- hold, that is the session after as many steps as the machine counts, these are their lines, and each job has run as it
+-- does alone. One that tells nothing may give back other code and other numbers than were written.
 pub record StandsAfter {B : Type 0} (d : Device B) (first : Session) (k : Machine) (s : Session) (printed : List RunLine) : Type 0 where
   pub session : Tells d → s ≡ after k.tasks.made first
   pub lines_are : Tells d → printed ≡ lines k.tasks.made first
+  pub apart : Tells d → JobsRunApart k.tasks.made first s printed
 
 -- so many steps are fewer than the halt's count, or not more
 abbrev pub IsBeforeHalt : Run → ℕ → Type 0
@@ -154,14 +155,13 @@ pub data StopsUnopened {B : Type 0} (d : Device B) (core : ℕ) (p : Prepared) (
       → status ≡ 5 → text ≡ only (ended (backing_full_line (sectors_of_all p.0 p.1) d.sectors)) → StopsUnopened d core p status text
   opening_fails : RoomSuffices d core p → Failed d → status ≡ 6 → text ≡ only (ended backing_fault_line) → StopsUnopened d core p status text
 
--- A session was opened, for which there is room. Each state up to the count of the machine is in order, and each job has
--- printed and become what its own steps give; and if the device told what its sectors hold, none of the steps up to there
--- needed more words than core has. The machine has that core, the halt of the deck and the names of its jobs. A slice may be
--- called on it again, and its table of sectors has one for each of the device.
+-- A session was opened, for which there is room. Each state up to the count of the machine is in order; and if the device
+-- told what its sectors hold, none of the steps up to there needed more words than core has. The machine has that core, the
+-- halt of the deck and the names of its jobs. A slice may be called on it again, and its table of sectors has one for each of
+-- the device.
 pub record WasOpened {B : Type 0} (d : Device B) (core : ℕ) (p : Prepared) (k : Machine) : Type 0 where
   pub room : RoomSuffices d core p
   pub in_order : StatesInOrder k.tasks.made (run_of p).session
-  pub apart : JobsRunApart k.tasks.made (run_of p).session
   pub fitted : Tells d → StepsFit core k.tasks.made (run_of p).session
   pub core_size : length k.cpu.core ≡ core
   pub halt : k.tasks.halt ≡ p.0.halt

@@ -1,5 +1,5 @@
 -- The states of a run: in order, with what made their words, and each job apart.
-use Rattle.std.specs.Prelude.{◌≡◌, ℕ, ◌≤◌, Some}
+use Rattle.std.specs.Prelude.{◌≡◌, ℕ, ◌≤◌, List, Some}
 use Rattle.b67_lemmas.specs.Lists.{Has}
 use Rattle.b67_model.specs.Alone.{alone_lines}
 use Rattle.b67_model.specs.Apart.{lines_of_job, makers_from, tasks_of_job}
@@ -7,7 +7,7 @@ use Rattle.b67_model.specs.Keyed.{keyed}
 use Rattle.b67_model.specs.State.{Frame, Task, SessionJob}
 use Rattle.b67_model.specs.Schedule.{Session}
 use Rattle.b67_model.specs.InOrder.{IsInOrder}
-use Rattle.b67_model.specs.Run.{number_of, after, lines, next}
+use Rattle.b67_model.specs.Run.{RunLine, number_of, after, next}
 use Rattle.b67_law_jobs.specs.JobsApart.{alone_after}
 use Rattle.b67_law_made.specs.RunMade.{FrameMadeInRun}
 
@@ -22,10 +22,11 @@ pub record StatesInOrder (steps : ℕ) (first : Session) : Type 0 where
   pub ordered : (j : ℕ) → j ≤ steps → IsInOrder (after j first)
   pub made : (j : ℕ) → j ≤ steps → IsMadeByOperators j first
 
--- After so many steps each job has printed the lines, and has come to the state with the endings of its tasks, that its own
--- steps alone give, in their order: whatever the other jobs did.
-pub record JobsRunApart (steps : ℕ) (first : Session) : Type 0 where
+-- After so many steps, of which these lines were printed and which led to this session: each job has printed the lines, and
+-- has come to the state with the endings of its tasks, that its own steps alone give, in their order, whatever the other jobs
+-- did.
+pub record JobsRunApart (steps : ℕ) (first s : Session) (printed : List RunLine) : Type 0 where
   pub prints : (job : ℕ) (m : SessionJob) → keyed number_of job first.jobs ≡ Some m
-      → lines_of_job job (lines steps first) ≡ alone_lines m.constants (tasks_of_job job (makers_from steps (next first))) m.progress
+      → lines_of_job job printed ≡ alone_lines m.constants (tasks_of_job job (makers_from steps (next first))) m.progress
   pub stays : (job : ℕ) (m : SessionJob) → keyed number_of job first.jobs ≡ Some m
-      → keyed number_of job (after steps first).jobs ≡ Some (record m { progress = alone_after m.constants (tasks_of_job job (makers_from steps (next first))) m.progress })
+      → keyed number_of job s.jobs ≡ Some (record m { progress = alone_after m.constants (tasks_of_job job (makers_from steps (next first))) m.progress })
