@@ -46,7 +46,7 @@ pub(crate) fn run_over<B: Backing>(
     let mut deck = bytes_of(alloc, cards.as_bytes())?;
     deck.extend(job.as_bytes())?;
     let mut tape = Tape::new(deck, 4096, numbers_of(alloc, &[])?);
-    let mut paper = Paper::new(alloc, 1000, numbers_of(alloc, &[])?)?;
+    let mut paper = Paper::new(alloc, 2000, numbers_of(alloc, &[])?)?;
     let words = ["run", "--core", core, "--backing", "b"];
     let outcome = run(alloc, &words, &mut tape, &mut paper, backing);
     Ok((Vec::from_slice(alloc, paper.bytes())?, outcome))
