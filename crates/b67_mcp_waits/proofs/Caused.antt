@@ -160,12 +160,12 @@ module _ (x : Storage) (told : Option (List (List ℕ))) (k : Machine) (plan : P
     pub made_is : job_cut m2 t2 q ≡ made
     made_is =
         let T : Task = answered (here m t q) [] in
-        let T2 : Task = answered (here m2 t2 q) [] in
+        let TT : Task = answered (here m2 t2 q) [] in
         let W : Task → Task = wake_task (woken_at f offset) in
         let U : Task → Task = put_task f (offset - 2) (Operand 1) in
         let J : List Task → Job = λ ts. record m.progress.job { tasks = ts } in
-        let same : W (U T) ≡ T2 = ap (λ (fs : List Frame). let z : Task = record t { frames = fs; place = q; condition = woken_at f offset t.condition } in z) (sym (below_put f (offset - 2) (Operand 1) t.frames apart)) in
-        ap J (change_map (λ (v : Task). v.number) W t.number (U T) T2 (map U m.progress.job.tasks) (λ v. refl) same
+        let same : W (U T) ≡ TT = ap (λ (fs : List Frame). let z : Task = record t { frames = fs; place = q; condition = woken_at f offset t.condition } in z) (sym (below_put f (offset - 2) (Operand 1) t.frames apart)) in
+        ap J (change_map (λ (v : Task). v.number) W t.number (U T) TT (map U m.progress.job.tasks) (λ v. refl) same
         ∙ ap (map W) (change_map (λ (v : Task). v.number) U t.number T (U T) m.progress.job.tasks (λ v. refl) refl))
         ∙ ap (wake_job (woken_at f offset)) (sym (with_cell_is (with_task m.progress.job T) f offset (Operand 1)))
 
