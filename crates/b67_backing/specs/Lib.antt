@@ -3,3 +3,4 @@ pub mod Held
 pub mod Extending
 pub mod File
 pub mod Memory
+pub mod Crooked

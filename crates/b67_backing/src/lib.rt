@@ -3,6 +3,7 @@
 
 mod access;
 mod copies;
+mod crooked;
 mod device;
 mod file;
 #[cfg(test)]
@@ -15,6 +16,7 @@ mod sectors;
 mod tests;
 
 pub use access::RandomAccess;
+pub use crooked::CrookedBacking;
 pub use device::Backing;
 pub use file::FileBacking;
 pub use honest::HonestBacking;

@@ -114,3 +114,16 @@ fn an_honest_device_keeps_sectors(rt: HostRuntime) -> Result<(), Fail> {
     assert_eq!(rt; sector, [7; 30]);
     Ok(())
 }
+
+#[test]
+fn a_crooked_device_keeps_nothing(rt: HostRuntime) -> Result<(), Fail> {
+    for gives in [0u64, 0xffff_ffff_ffff_ffff] {
+        let mut backing = CrookedBacking::new(1_048_575, gives);
+        assert_eq!(rt; backing.sectors(), 1_048_575);
+        assert!(rt; backing.write(1_048_575, &[7; 30]).is_ok());
+        let mut sector = [8; 30];
+        assert!(rt; backing.read(1_048_575, &mut sector).is_ok());
+        assert_eq!(rt; sector, [gives; 30]);
+    }
+    Ok(())
+}

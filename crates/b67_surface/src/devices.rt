@@ -10,7 +10,8 @@ ghost use Rattle.std.specs.Prelude.{List, Some, length, ℕ, ◌+◌, ◌<◌, �
 
 use b67_area::{Areas, Info, Kind};
 use b67_backing::{
-    Backing, FileBacking, HonestBacking, MemoryBacking, RandomAccess, Sectors, SpaceFault,
+    Backing, CrookedBacking, FileBacking, HonestBacking, MemoryBacking, RandomAccess, Sectors,
+    SpaceFault,
 };
 use b67_core::Core;
 use b67_io::{FreeTape, Line, Paper, Sink, StdSink, StdSource, Tally, Tape};
@@ -136,6 +137,13 @@ pub fn honest_backing_new(alloc: Global, sectors: u32) -> Result<HonestBacking, 
     requires high { sectors < 2 ^ 20 }
 {
     HonestBacking::new(alloc, sectors)
+}
+
+pub fn crooked_backing_new(sectors: u32, gives: u64) -> CrookedBacking
+    requires low { 1 ≤ sectors }
+    requires high { sectors < 2 ^ 20 }
+{
+    CrookedBacking::new(sectors, gives)
 }
 
 pub fn memory_backing_calls(it: &MemoryBacking) -> u64 {
