@@ -16,4 +16,5 @@ pub mod Going
 pub mod Fitting
 pub mod Pausing
 pub mod Resuming
+pub mod Shaping
 mod Again

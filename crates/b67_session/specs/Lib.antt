@@ -1,4 +1,5 @@
 pub mod Slices
+pub mod Shaped
 pub mod Steps
 pub mod Stops
 pub mod Passed

@@ -8,6 +8,7 @@ ghost use Rattle.b67_law_turns.specs.Turns.{IsNext};
 ghost use Rattle.b67_layout_storage.specs.Machine.{Says, DeviceAfterCalls, content_after};
 ghost use Rattle.b67_session_attempt.specs.Passed.{CallCauses};
 ghost use Rattle.b67_session.specs.Slices.{IsOpen, StandsAt, IsLimited, RepresentsWithoutTasks, Keeps, Slices, IfPresent, Resumes, StaysEnded};
+ghost use Rattle.b67_session.specs.Shaped.{IsShaped};
 
 use crate::slices::{Progress, slice};
 use b67_backing::Backing;
@@ -73,6 +74,7 @@ impl Session {
         ensures ended { (known : Option (List (List ℕ))) (s : schedule.Session) → RepresentsWithoutTasks known self.old s
             → StaysEnded result self.old self.new backing.old backing.new paper.old paper.new }
         ensures open { IsOpen (B.holds backing.new) self.new }
+        ensures shaped { IsShaped self.new }
         ensures causes { CallCauses B.faults K.faults backing.old backing.new paper.old paper.new result }
         ensures keeps { Keeps self.old self.new }
         ensures device { DeviceAfterCalls B.holds B.size B.calls B.faults backing.old backing.new }

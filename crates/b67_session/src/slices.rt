@@ -8,6 +8,7 @@ ghost use Rattle.b67_session_attempt.specs.Passed.{AreCountable, CallCauses};
 ghost use Rattle.b67_model.specs.Run.{StepResult};
 ghost use Rattle.b67_law_turns.specs.Turns.{IsNext};
 ghost use Rattle.b67_session.specs.Slices.{IsOpen, StandsSome, StandsAt, IsLimited, RepresentsWithoutTasks, Keeps, Slices, IfPresent, Resumes, StaysEnded, Pauses};
+ghost use Rattle.b67_session.specs.Shaped.{IsShaped};
 
 use crate::steps::step;
 use b67_backing::Backing;
@@ -94,7 +95,7 @@ fn go_on<B: Backing, K: Sink>(
 /// device failed. A single step whose segment and array are present, and which is no such RESIZE and starts no task, doesn't
 /// call the backing. If nothing is known of what the device's sectors hold, the words that it gives back may be others, and
 /// as many. After `Ended` the machine represents the session without a task; if it was known what the sectors hold, the one
-/// after the steps.
+/// after the steps. Whatever the device gives back, the machine represents some session in order afterwards.
 #[inline(always)]
 pub fn slice<B: Backing, K: Sink>(
     machine: &mut Machine,
@@ -113,6 +114,7 @@ pub fn slice<B: Backing, K: Sink>(
     ensures ended { (known : Option (List (List ℕ))) (s : Session) → RepresentsWithoutTasks known machine.old s
         → StaysEnded result machine.old machine.new backing.old backing.new paper.old paper.new }
     ensures open { IsOpen (B.holds backing.new) machine.new }
+    ensures shaped { IsShaped machine.new }
     ensures causes { CallCauses B.faults K.faults backing.old backing.new paper.old paper.new result }
     ensures keeps { Keeps machine.old machine.new }
     ensures device { DeviceAfterCalls B.holds B.size B.calls B.faults backing.old backing.new }

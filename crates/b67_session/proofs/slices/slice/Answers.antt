@@ -10,6 +10,7 @@ use Rattle.b67_session.proofs.Pausing.{says_retold}
 use Rattle.b67_session.proofs.Rows.{empty_rows, some_rows}
 use Rattle.b67_session.proofs.Resuming.{stands_not, limited_not, rests_not, next_row, limited_row, open_stands, open_limited, has_limited, keeps_counts, over_stands, over_prints, cut_again, cut_limited}
 use Rattle.b67_session.proofs.Again.{open_again, limited}
+use Rattle.b67_session.proofs.Shaping.{shaped}
 use Rattle.b67_session.proofs.slices.slice.Given.{Over}
 use Rattle.b67_session.proofs.slices.slice.Goals.{Else-not-is_at_limit}
 use Rattle.b67_session.proofs.slices.slice.Goals as goal
@@ -33,6 +34,9 @@ returns-then-is_empty-clause-resumed g c = λ known h part says l. absurd (limit
 pub returns-then-is_empty-clause-open : goal.returns-then-is_empty-clause-open
 returns-then-is_empty-clause-open g c = c.requires.open
 
+pub returns-then-is_empty-clause-shaped : goal.returns-then-is_empty-clause-shaped
+returns-then-is_empty-clause-shaped g c = shaped _ _ (returns-then-is_empty-clause-open g c)
+
 pub returns-then-is_empty-clause-device : goal.returns-then-is_empty-clause-device
 returns-then-is_empty-clause-device g c = Served-none g.B.Backing.holds g.B.Backing.size g.B.Backing.calls g.B.Backing.faults c.args.backing.now
 
@@ -52,6 +56,9 @@ returns-then-not-is_at_limit-clause-open g c =
     let l = open_stands (g.B.Backing.holds c.args.backing.now) c.args.machine.now c.requires.open (some_rows c.args.machine.now.tasks c.if-is_empty.ensures) c.is_at_limit.ensures c.if-not-is_at_limit.true in
     open_again g.K.Sink.taken (content_after l.known (g.B.Backing.holds c.go_on.new.backing)) (g.B.Backing.holds c.go_on.new.backing) (l.known ≢ None) (g.B.Backing.size c.args.backing.now) c.args.n l.session c.go_on.result
     c.args.machine.now c.go_on.new.machine c.args.paper.now c.go_on.new.paper (says_retold l.known (g.B.Backing.holds c.go_on.new.backing)) c.go_on.ensures.countable (c.go_on.ensures.row l.known l.session l.says l.stands)
+
+pub returns-then-not-is_at_limit-clause-shaped : goal.returns-then-not-is_at_limit-clause-shaped
+returns-then-not-is_at_limit-clause-shaped g c = shaped _ _ (returns-then-not-is_at_limit-clause-open g c)
 
 -- ---- the lines of LIMIT
 
@@ -113,6 +120,9 @@ returns-in-Ok-clause-open g c =
     open_again g.K.Sink.taken (content_after l.known (g.B.Backing.holds c.go_on-in-Ok.new.backing)) (g.B.Backing.holds c.go_on-in-Ok.new.backing) (l.known ≢ None) (g.B.Backing.size c.args.backing.now) c.args.n l.part.session c.go_on-in-Ok.result
     c.end_by_limit.new.machine c.go_on-in-Ok.new.machine c.end_by_limit.new.paper c.go_on-in-Ok.new.paper (says_retold l.known (g.B.Backing.holds c.go_on-in-Ok.new.backing)) c.go_on-in-Ok.ensures.countable (c.go_on-in-Ok.ensures.row l.known l.part.session l.says stands)
 
+pub returns-in-Ok-clause-shaped : goal.returns-in-Ok-clause-shaped
+returns-in-Ok-clause-shaped g c = shaped _ _ (returns-in-Ok-clause-open g c)
+
 pub returns-in-Ok-clause-keeps : goal.returns-in-Ok-clause-keeps
 returns-in-Ok-clause-keeps g c =
     let first = keeps_counts c.args.machine.now c.end_by_limit.new.machine c.end_by_limit.ensures.keeps in
@@ -141,6 +151,9 @@ returns-in-Err-clause-open g c =
     (subst (λ (z : Tasks). AreCountable z.jobs) (sym c.end_by_limit.ensures.keeps.tasks) c.requires.open.countable) l.session l.part
     (cut_limited l.known l.session l.part c.args.machine.now q g.K.Sink.taken c.end_by_limit.new.machine c.args.paper.now c.end_by_limit.new.paper c.in-Err._failed
     (c.in-Err.ensures.ends q.storage l.known q.plan l.session l.part q.ordered q.is q.stands))
+
+pub returns-in-Err-clause-shaped : goal.returns-in-Err-clause-shaped
+returns-in-Err-clause-shaped g c = shaped _ _ (returns-in-Err-clause-open g c)
 
 pub returns-in-Err-clause-keeps : goal.returns-in-Err-clause-keeps
 returns-in-Err-clause-keeps g c = keeps_counts c.args.machine.now c.end_by_limit.new.machine c.end_by_limit.ensures.keeps

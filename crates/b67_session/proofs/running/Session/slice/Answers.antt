@@ -15,5 +15,8 @@ returns-clause-ended g c = rw (← c.self.view_is) c.slice.ensures.ended
 pub returns-clause-open : goal.returns-clause-open
 returns-clause-open g c = c.slice.ensures.open
 
+pub returns-clause-shaped : goal.returns-clause-shaped
+returns-clause-shaped g c = c.slice.ensures.shaped
+
 pub returns-clause-keeps : goal.returns-clause-keeps
 returns-clause-keeps g c = rw (← c.self.view_is) c.slice.ensures.keeps

@@ -1,0 +1,41 @@
+-- What was known of the device is forgotten.
+use Rattle.std.proofs.Common.{ℕ, List, Option, None, ◌⊎◌, inl, inr}
+use Rattle.b67_model.specs.Schedule.{Session}
+use Rattle.b67_model.specs.Run.{StepResult}
+use Rattle.b67_layout_storage.specs.Machine.{Says}
+use Rattle.b67_layout_storage.proofs.Untold.{untold}
+use Rattle.b67_task_tables.specs.declared.tables.Machine.{Machine}
+use Rattle.b67_session_attempt.proofs.Untold.{machine_untold}
+use Rattle.b67_session.specs.Slices.{StandsAt, LivesOn, StandsLimited, HasNoTasks, IsLimited, RepresentsWithoutTasks, IsOpen}
+use Rattle.b67_session.specs.Shaped.{IsShaped}
+
+stands_untold : (known : Option (List (List ℕ))) (k : Machine) (s : Session) → StandsAt known k s → StandsAt None k s
+stands_untold known k s h = record { storage = untold h.storage; plan = h.plan; ordered = h.ordered; stands = machine_untold h.storage known k h.plan s h.stands }
+
+limited_untold : (known : Option (List (List ℕ))) (k : Machine) (s : Session) (part : StepResult) → IsLimited known k s part → IsLimited None k s part
+limited_untold known k s part h = record { storage = untold h.storage; plan = h.plan; ordered = h.ordered; is = h.is; stands = machine_untold h.storage known k h.plan s h.stands }
+
+rests_untold : (known : Option (List (List ℕ))) (k : Machine) (s : Session) → RepresentsWithoutTasks known k s → RepresentsWithoutTasks None k s
+rests_untold known k s h = record { storage = untold h.storage; plan = h.plan; stands = machine_untold h.storage known k h.plan s h.stands; none = h.none }
+
+stage_untold : (told now : Option (List (List ℕ))) (k : Machine) → LivesOn told k ⊎ (StandsLimited told k ⊎ HasNoTasks told k) → LivesOn now k ⊎ (StandsLimited now k ⊎ HasNoTasks now k)
+stage_untold told now k (inl h) =
+    inl (record {
+      some = record { known = None; says = tt; session = h.some.session; stands = stands_untold h.some.known k h.some.session h.some.stands };
+      member = h.member;
+      task = h.task;
+      next = h.next;
+    })
+stage_untold told now k (inr (inl h)) = inr (inl (record { known = None; says = tt; session = h.session; part = h.part; limited = limited_untold h.known k h.session h.part h.limited }))
+stage_untold told now k (inr (inr h)) = inr (inr (record { known = None; says = tt; session = h.session; rests = rests_untold h.known k h.session h.rests }))
+
+-- a machine that may make steps over a device that tells this may make them over one that tells that, of which nothing is known
+pub over_any : (told now : Option (List (List ℕ))) (k : Machine) → IsOpen told k → IsOpen now k
+over_any told now k h = record { stage = stage_untold told now k h.stage; countable = h.countable }
+
+pub shaped : (told : Option (List (List ℕ))) (k : Machine) → IsOpen told k → IsShaped k
+shaped told k h = over_any told None k h
+
+-- so each device may be handed in
+pub open_over : (told : Option (List (List ℕ))) (k : Machine) → IsShaped k → IsOpen told k
+open_over told k h = over_any None told k h
