@@ -5,12 +5,12 @@ use Rattle.b67_overlay.proofs.Chains.{retold-same}
 use Rattle.b67_task_tables.specs.declared.tables.Tasks.{Tasks}
 use Rattle.b67_session_attempt.specs.Passed.{AreCountable}
 use Rattle.b67_session.specs.Slices.{StandsLimited}
+use Rattle.b67_session.proofs.Shaping.{shaped}
 use Rattle.b67_session.proofs.Going.{Going, going-begins, going-ended}
 use Rattle.b67_session.proofs.Pausing.{says_retold}
 use Rattle.b67_session.proofs.Rows.{empty_rows, some_rows}
 use Rattle.b67_session.proofs.Resuming.{stands_not, limited_not, rests_not, next_row, limited_row, open_stands, open_limited, has_limited, keeps_counts, over_stands, over_prints, cut_again, cut_limited}
 use Rattle.b67_session.proofs.Again.{open_again, limited}
-use Rattle.b67_session.proofs.Shaping.{shaped}
 use Rattle.b67_session.proofs.slices.slice.Given.{Over}
 use Rattle.b67_session.proofs.slices.slice.Goals.{Else-not-is_at_limit}
 use Rattle.b67_session.proofs.slices.slice.Goals as goal
