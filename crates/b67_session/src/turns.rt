@@ -10,6 +10,9 @@ ghost use Rattle.b67_task_tables.specs.declared.tables.TaskRow.{TaskRow};
 ghost use Rattle.b67_task_tables.specs.Tables.{MachineRepresents};
 ghost use Rattle.b67_task_switch.specs.Standing.{HasRow};
 
+use b67_session_make::make;
+use b67_session_schedule::{count_in_turn, turn_room};
+use b67_stack::Step;
 use b67_task_switch::switch_to;
 use b67_task_tables::Machine;
 
@@ -27,4 +30,22 @@ pub(crate) fn give_turn(machine: &mut Machine, row: u8)
     if machine.tasks.running != row {
         switch_to(machine, row);
     }
+}
+
+/// Goes on with the turn of the last task: makes operators of it, each a whole step, up to `most`, and answers how many. It
+/// ends before another task is chosen, before the halt and before an operator by which the job reaches its limit; before an
+/// operator that prints, ends its task or wants something that is absent; and where no task has the turn.
+pub(crate) fn go_on_with_turn(machine: &mut Machine, most: u64) -> u64
+{
+    let room = turn_room(&machine.tasks, most);
+    let mut made = 0;
+    'operator: while made < room {
+        match make(machine) {
+            Step::Done => {}
+            _ => return made,
+        }
+        count_in_turn(&mut machine.tasks);
+        made += 1;
+    }
+    made
 }
