@@ -3,10 +3,10 @@
 
 mod choosing;
 mod counting;
-mod lasting;
 mod ready;
 mod switches;
+mod turns;
 
 pub use choosing::{choose, schedule};
 pub use counting::{Chosen, count, count_in_turn};
-pub use lasting::turn_room;
+pub use turns::turn_room;
