@@ -1,9 +1,9 @@
 -- The last task goes on with its turn.
-use Rattle.std.proofs.Common.{◌≡◌, ◌≢◌, ℕ, ◌+◌, ◌-◌, ◌<◌, ◌≤◌, Bool, true, false, List, length, map, Option, Some, None, refl, sym, ◌∙◌, ap, arith, inl, inr, subst, get_or}
-use Rattle.std.specs.Prelude.{◌⊎◌, ◌&&◌, ◌||◌, nat_lt}
+use Rattle.std.proofs.Common.{◌≡◌, ℕ, ◌+◌, ◌-◌, ◌<◌, ◌≤◌, Bool, true, false, List, length, map, Option, Some, None, refl, sym, ◌∙◌, ap, arith, inl, inr, subst, get_or}
+use Rattle.std.specs.Prelude.{◌&&◌, ◌||◌, nat_lt}
 use Rattle.std.specs.List.{slice_get, list_any}
 use Rattle.std.proofs.lemmas.Option.{same_Some, slice_get_within}
-use Rattle.std.proofs.lemmas.Bool.{cases_lt, cases_Bool, lt-ltb}
+use Rattle.std.proofs.lemmas.Bool.{cases_lt, lt-ltb}
 use Rattle.b67_model_text.specs.declared.deck.Switch as text
 use Rattle.b67_lemmas.specs.Lists.{Has}
 use Rattle.b67_lemmas.proofs.Members.{all_in, any_some, find_none, has_flat, has_get, keyed_has, keyed_falls}
@@ -11,11 +11,11 @@ use Rattle.b67_lemmas.proofs.Places.{at_mapped, has_at, mapped_at}
 use Rattle.b67_model.specs.Keyed.{keyed}
 use Rattle.b67_model.specs.Run.{number_of}
 use Rattle.b67_model.specs.State.{Condition, Ready, Awaits, WaitsAt, Task, Job, SessionJob}
-use Rattle.b67_model.specs.Schedule.{Who, Switch, Session, Choice, is_same, ready, ready_of, switched, goes_on, choice}
+use Rattle.b67_model.specs.Schedule.{Who, Switch, Session, is_same, ready, ready_of, switched, goes_on, choice}
 use Rattle.b67_model.specs.Endings as model
 use Rattle.b67_model.specs.InOrder.{IsSegment, JobInOrder, SwitchesRise, IsInOrderButPlaces}
 use Rattle.b67_law_order.proofs.Numbered.{keyed_member, numbered_low}
-use Rattle.b67_layout.specs.Placement.{Placement, slot_of}
+use Rattle.b67_layout.specs.Placement.{Placement}
 use Rattle.b67_layout.specs.Rows as rows
 use Rattle.b67_layout.specs.Rows.{RunningRow, shown}
 use Rattle.b67_task_switch.proofs.Tables.{job_at}

@@ -12,7 +12,7 @@ ghost use Rattle.b67_session_schedule.specs.Lasting.{RulesLeave, TurnLasts, Befo
 use crate::ready::{Who, is_row_of};
 use b67_task_tables::{JobRow, TaskRow, Tasks};
 
-/// Whether a row is that of a task which is ready.
+/// Whether a row is there, and is that of a task which is ready.
 #[inline(always)]
 fn runs_on(rows: &[TaskRow], at: u8, who: Who) -> bool
     ensures { result ≡ true → IsReadyAt rows.now at (who_is who) }

@@ -1,4 +1,4 @@
-use Rattle.std.proofs.Common.{length, map, arith, ap}
+use Rattle.std.proofs.Common.{length, arith, ap}
 use Rattle.std.proofs.lemmas.List.{length-map}
 use Rattle.b67_task_tables.specs.Tables.{switch_of}
 use Rattle.b67_session_schedule.proofs.Lasting.{leave_switch, leave_quantum}
