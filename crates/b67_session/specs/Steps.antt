@@ -72,12 +72,12 @@ pub record IsInOrderFor (k : Machine) : Type 0 where
   pub session : Session
   pub stands : StandsAt known k session
 
--- so many steps lead from a session to another and print nothing; core had the words that they need, and the halt wasn't reached
--- before them
+-- so many steps lead from a session to another, and a run that comes to the first one prints no more in them; core had the words
+-- that they need, and the halt wasn't reached before them
 pub record GoesOnInTurn (known : Option (List (List ℕ))) (steps : ℕ) (first : Session) (old new : Machine) : Type 0 where
   pub session : Session
   pub leads : after steps first ≡ session
-  pub silent : lines steps first ≡ []
+  pub silent : (start : Session) (n : ℕ) → after n start ≡ first → lines (n + steps) start ≡ lines n start
   pub stands : StandsAt known new session
   pub made : new.tasks.made ≡ old.tasks.made + steps
   pub unprinted : new.tasks.printed ≡ 0
