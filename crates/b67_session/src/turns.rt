@@ -37,7 +37,8 @@ pub(crate) fn give_turn(machine: &mut Machine, row: u8)
 
 /// Goes on with the turn of the last task: makes operators of it, each a whole step, up to `most`, and answers how many. It
 /// ends before another task is chosen, before the halt and before an operator by which the job reaches its limit; before an
-/// operator that prints, ends its task or wants something that is absent; and where no task has the turn.
+/// operator that prints, ends its task or wants something that is absent; and if no task has the turn.
+#[inline(never)]
 pub(crate) fn go_on_with_turn(machine: &mut Machine, most: u64) -> u64
     requires stands { IsInOrderFor machine.old }
     requires unprinted { machine.old.tasks.printed ≡ 0 }
