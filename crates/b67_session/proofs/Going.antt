@@ -1,5 +1,6 @@
 -- A slice that has made so many steps, and how it ends.
-use Rattle.std.proofs.Common.{◌≡◌, ◌≢◌, ℕ, ◌+◌, ◌<◌, ◌≤◌, IsTrue, List, [], ◌∷◌, ◌++◌, length, map, Option, Some, None, Result, Ok, Err, inl, inr, refl, sym, ap, ◌∙◌, subst, arith, append-nil}
+use Rattle.std.proofs.Common.{◌≡◌, ◌≢◌, ℕ, ◌+◌, ◌-◌, ◌<◌, ◌≤◌, IsTrue, List, [], ◌∷◌, ◌++◌, length, map, Option, Some, None, Result, Ok, Err, inl, inr, refl, sym, ap, ◌∙◌, subst, arith, append-nil}
+use Rattle.std.proofs.lemmas.Bool.{cases_lt}
 use Rattle.std.proofs.lemmas.List.Sums.{sum_by-cons}
 use Rattle.b67_lemmas.specs.Lists.{Has}
 use Rattle.b67_lemmas.proofs.Members.{all_in, has_flat}
@@ -13,6 +14,7 @@ use Rattle.b67_model.specs.State.{Task, SessionJob}
 use Rattle.b67_model.specs.Run.{RunLine, next, after, lines, live_tasks}
 use Rattle.b67_model.specs.Schedule.{Session, Choice, choice, ready_of, ready, Who}
 use Rattle.b67_session_lines.specs.Moments.{first_part, due}
+use Rattle.b67_session_lines.proofs.Statuses.{after-add}
 use Rattle.b67_layout_storage.specs.Machine.{Says}
 use Rattle.b67_law_turns.proofs.Runs.{Came, came-none, came-more}
 use Rattle.b67_task_tables.specs.declared.tables.TaskRow.{TaskRow}
@@ -24,8 +26,8 @@ use Rattle.b67_session_attempt.specs.Stops as stops
 use Rattle.b67_session_attempt.proofs.Runs.{caused_stop, caused_later}
 use Rattle.b67_session.specs.declared.slices.Progress.{Progress}
 use Rattle.b67_session.specs.declared.slices.Progress.TheVariants as progress
-use Rattle.b67_session.specs.Slices.{StandsAt, LivesOn, RepresentsWithoutTasks, Keeps, Reaches, whole, but_limit, Prints, PrintsWhole, StepsFit, StopsWithRoom, IfPresent, StopsBefore, SliceMeets, Slices}
-use Rattle.b67_session.specs.Steps.{StepGives, Leads, stays, makes, halves, Steps}
+use Rattle.b67_session.specs.Slices.{StandsAt, LivesOn, RepresentsWithoutTasks, Keeps, Reaches, whole, but_limit, Prints, PrintsWhole, NextFits, StepsFit, StopsWithRoom, IfPresent, StopsBefore, SliceMeets, Slices}
+use Rattle.b67_session.specs.Steps.{StepGives, Leads, stays, makes, halves, Steps, GoesOnInTurn}
 use Rattle.b67_session.proofs.Printing.{prints_none, prints_then, prints_before}
 use Rattle.b67_session.proofs.Fitting.{fits_then, below_then, whole_then}
 
@@ -261,6 +263,51 @@ module _ {K : Type 0} (taken : K → Option (List ℕ)) (exact : Type 0) (known 
           meets = stop_meets known' exact (known ≢ None) (length old.cpu.core) count n steps s.steps s.session s.is_due stop new up few
               (subst (λ (size : ℕ). SliceMeets known' (known ≢ None) size count 1 s.steps s.session s.is_due (Err stop) new) keeps.core s.meets);
         }
+
+-- two parts keep what each does
+pub keeps_on : (old mid new : Machine) → Keeps old mid → Keeps mid new → Keeps old new
+keeps_on old mid new a b = record { core = b.core ∙ a.core; sectors = b.sectors ∙ a.sectors; halt = b.halt ∙ a.halt; names = b.names ∙ a.names }
+
+-- so many steps of a turn follow, which print nothing
+pub going-turn : {K : Type 0} (taken : K → Option (List ℕ)) (exact : Type 0) (known : Option (List (List ℕ))) (steps more total : ℕ) (first : Session) (old now new : Machine) (paper paper' : K) (g : Going taken exact known steps first old now paper paper')
+    → Keeps old now → 1 ≤ steps → GoesOnInTurn known more g.session now new → total ≡ steps + more → Going taken exact known total first old new paper paper'
+going-turn {K} taken exact known steps more total first old now new paper paper' g keeps some t total_is =
+    subst (λ (k : ℕ). Going taken exact known k first old new paper paper') (sym total_is) (record {
+      session = t.session;
+      printed = g.printed;
+      came = λ tells. came_on (g.came tells);
+      made = omega (arith, t.made, g.made);
+      stands = t.stands;
+      below = λ j low. elim (cases_lt j steps) [
+        | inl before ↦ g.below j before
+        | inr up ↦ λ at.
+            t.below (j - steps) (omega (arith, low, up)) (keeps.halt ∙ at ∙ ap (λ (n : ℕ). Some n) (omega (arith, g.made, up)))
+      ];
+      fits = λ tells k low. elim (cases_lt k steps) [
+        | inl before ↦ g.fits tells k before
+        | inr up ↦
+            let there : after (k - steps) g.session ≡ after k first = sym (reached (g.came tells) k (omega (arith, up))) in
+            subst (λ (s : Session). NextFits (length old.cpu.core) s) there (subst (λ (n : ℕ). NextFits n (after (k - steps) g.session)) keeps.core (t.fits (k - steps) (omega (arith, low, up))))
+      ];
+      texts = record { some = λ one. t.unprinted; none = λ none. absurd (omega (arith, none, some)) };
+      prints = λ is_due same.
+          let p = g.prints (due g.session) (λ tells. refl) in
+          let none : now.tasks.printed ≡ 0 = g.texts.some some in
+          record {
+            was_due = p.was_due;
+            was = p.was;
+            prints = subst (λ (n : ℕ). Prints taken paper paper' p.was_due old.tasks.printed g.printed is_due n) (none ∙ sym t.unprinted)
+                (prints_before taken paper paper' p.was_due (due g.session) is_due old.tasks.printed now.tasks.printed g.printed none p.prints);
+          };
+    })
+  where
+    reached : Came first steps g.session g.printed → (k : ℕ) → steps ≤ k → after k first ≡ after (k - steps) g.session
+    reached c k up =
+        let same : k ≡ steps + (k - steps) = omega (arith, up) in
+        ap (λ (i : ℕ). after i first) same ∙ after-add steps (k - steps) first ∙ ap (after (k - steps)) c.session
+
+    came_on : Came first steps g.session g.printed → Came first (steps + more) t.session g.printed
+    came_on c = record { session = after-add steps more first ∙ ap (after more) c.session ∙ t.leads; lines_are = t.silent first steps c.session ∙ c.lines_are }
 
 -- at the beginning of a slice nothing has changed: what a step says of the machine before it, a slice says
 pub begun_present : {A B D : Type 0} (known : Option (List (List ℕ))) (core' core n made : ℕ) (k k' new : Machine) (s : Session) (m : SessionJob) (t : Task) (d d' e : D) (step : Result A Stop) (answered : Result B Stop) → (made ≡ 0 → (k' ≡ k) × (d' ≡ d)) → core' ≡ core

@@ -5,6 +5,7 @@ pub mod Printing
 pub mod Rooms
 pub mod Rows
 pub mod Turned
+pub mod Turning
 pub mod Made
 pub mod Between
 pub mod Halved

@@ -1,14 +1,15 @@
 -- What a step of a session answers, prints and leaves.
 use Rattle.std.specs.Prelude.{◌≡◌, ◌≢◌, ℕ, ◌+◌, ◌≤◌, List, [], length, Option, Some, None, Result, Ok, Err}
 use Rattle.b67_session_lines.specs.Moments.{first_part, last_part, due}
-use Rattle.b67_model.specs.Run.{RunLine, StepResult, next}
+use Rattle.b67_model.specs.Run.{RunLine, StepResult, next, after, lines}
 use Rattle.b67_model.specs.Schedule.{Session}
 use Rattle.b67_task_tables.specs.declared.tables.Machine.{Machine}
 use Rattle.b67_session_attempt.specs.Stops.{Stop}
 use Rattle.b67_session_attempt.specs.Stops as stops
 use Rattle.b67_word.specs.declared.faults.Failed.{Failed}
 use Rattle.b67_session_ends.specs.Ends.{Finishes}
-use Rattle.b67_session.specs.Slices.{StandsAt, Prints, PrintsWhole, NextFits, SliceMeets}
+use Rattle.b67_session_schedule.specs.Lasting.{BeforeHalt}
+use Rattle.b67_session.specs.Slices.{StandsAt, Prints, PrintsWhole, NextFits, StepsFit, SliceMeets}
 
 -- a whole step leads from a session to another, and these are its lines
 pub record StepGives (s after : Session) (printed : List RunLine) : Type 0 where
@@ -62,3 +63,23 @@ pub record EndsStep {K : Type 0} (taken : K → Option (List ℕ)) (told : Optio
   pub result : Result (Unit {0}) Failed
   pub finishes : Finishes taken told (last_part h) result old new paper paper'
   pub answer : StopOf result answered
+
+-- ---- a turn that goes on
+
+-- the machine represents some session in order
+pub record IsInOrderFor (k : Machine) : Type 0 where
+  pub known : Option (List (List ℕ))
+  pub session : Session
+  pub stands : StandsAt known k session
+
+-- so many steps lead from a session to another, and a run that comes to the first one prints no more in them; core had the words
+-- that they need, and the halt wasn't reached before them
+pub record GoesOnInTurn (known : Option (List (List ℕ))) (steps : ℕ) (first : Session) (old new : Machine) : Type 0 where
+  pub session : Session
+  pub leads : after steps first ≡ session
+  pub silent : (start : Session) (n : ℕ) → after n start ≡ first → lines (n + steps) start ≡ lines n start
+  pub stands : StandsAt known new session
+  pub made : new.tasks.made ≡ old.tasks.made + steps
+  pub unprinted : new.tasks.printed ≡ 0
+  pub fits : StepsFit (length old.cpu.core) steps first
+  pub below : BeforeHalt old.tasks.halt old.tasks.made steps

@@ -11,6 +11,7 @@ ghost use Rattle.b67_session.specs.Slices.{IsOpen, StandsSome, StandsAt, IsLimit
 ghost use Rattle.b67_session.specs.Shaped.{IsShaped};
 
 use crate::steps::step;
+use crate::turns::go_on_with_turn;
 use b67_backing::Backing;
 use b67_io::Sink;
 use b67_session_attempt::Stop;
@@ -61,7 +62,8 @@ fn go_on<B: Backing, K: Sink>(
     ensures keeps { Keeps machine.old machine.new }
     ensures device { DeviceAfterCalls B.holds B.size B.calls B.faults backing.old backing.new }
 {
-    'step: for _made in 0..n {
+    let mut made = 0;
+    'turn: while made < n {
         if let Some(progress) = pause(&machine.tasks, machine.tasks.halt) {
             return Ok(progress);
         }
@@ -69,6 +71,8 @@ fn go_on<B: Backing, K: Sink>(
             Ok(()) => {}
             Err(stop) => return Err(stop),
         }
+        let more = go_on_with_turn(machine, n - made - 1);
+        made += 1 + more;
     }
     match pause(&machine.tasks, machine.tasks.halt) {
         Some(progress) => Ok(progress),

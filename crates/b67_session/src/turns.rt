@@ -1,6 +1,6 @@
 //! The chosen task is the running one.
 
-ghost use Rattle.std.specs.Prelude.{◌≡◌, ℕ, List, length, Option, Some, slice_get};
+ghost use Rattle.std.specs.Prelude.{◌≡◌, ℕ, ◌≤◌, List, length, Option, Some, slice_get};
 ghost use Rattle.b67_model.specs.Schedule.{Session};
 ghost use Rattle.b67_layout.specs.Orders.{IsInOrderButCounts};
 ghost use Rattle.b67_stack.specs.Represents.{Storage};
@@ -9,7 +9,13 @@ ghost use Rattle.b67_task_switch.specs.Turns.{with_running};
 ghost use Rattle.b67_task_tables.specs.declared.tables.TaskRow.{TaskRow};
 ghost use Rattle.b67_task_tables.specs.Tables.{MachineRepresents};
 ghost use Rattle.b67_task_switch.specs.Standing.{HasRow};
+ghost use Rattle.b67_session_attempt.specs.Passed.{AreCountable};
+ghost use Rattle.b67_session.specs.Slices.{StandsAt, Keeps};
+ghost use Rattle.b67_session.specs.Steps.{IsInOrderFor, GoesOnInTurn};
 
+use b67_session_make::make;
+use b67_session_schedule::{count_in_turn, turn_room};
+use b67_stack::Step;
 use b67_task_switch::switch_to;
 use b67_task_tables::Machine;
 
@@ -27,4 +33,29 @@ pub(crate) fn give_turn(machine: &mut Machine, row: u8)
     if machine.tasks.running != row {
         switch_to(machine, row);
     }
+}
+
+/// Goes on with the turn of the last task: makes operators of it, each a whole step, up to `most`, and answers how many. It
+/// ends before another task is chosen, before the halt and before an operator by which the job reaches its limit; before an
+/// operator that prints, ends its task or wants something that is absent; and if no task has the turn.
+#[inline(never)]
+pub(crate) fn go_on_with_turn(machine: &mut Machine, most: u64) -> u64
+    requires stands { IsInOrderFor machine.old }
+    requires unprinted { machine.old.tasks.printed ≡ 0 }
+    ensures few { result ≤ most }
+    ensures row { (known : Option (List (List ℕ))) (s : Session) → StandsAt known machine.old s → GoesOnInTurn known result s machine.old machine.new }
+    ensures countable { AreCountable machine.old.tasks.jobs → AreCountable machine.new.tasks.jobs }
+    ensures keeps { Keeps machine.old machine.new }
+{
+    let room = turn_room(&machine.tasks, most);
+    let mut made = 0;
+    'operator: while made < room {
+        match make(machine) {
+            Step::Done => {}
+            _ => return made,
+        }
+        count_in_turn(&mut machine.tasks);
+        made += 1;
+    }
+    made
 }

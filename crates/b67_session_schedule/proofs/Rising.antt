@@ -27,7 +27,7 @@ rise_low a (b ∷ more) w h (inl e) = omega (arith, h.0, ap (λ (v : Switch). v.
 rise_low a (b ∷ more) w h (inr k) = omega (arith, h.0, rise_low b more w h.1 k)
 
 -- a later switch has a higher count
-rise_at : (xs : List Switch) (i j : ℕ) (a b : Switch) → SwitchesRise xs → i < j → slice_get xs i ≡ Some a → slice_get xs j ≡ Some b → a.count < b.count
+pub rise_at : (xs : List Switch) (i j : ℕ) (a b : Switch) → SwitchesRise xs → i < j → slice_get xs i ≡ Some a → slice_get xs j ≡ Some b → a.count < b.count
 rise_at [] i j a b h lt ea eb = absurd (none-some a ea)
 rise_at (x ∷ xs) i zero a b h lt ea eb = absurd (omega (arith, lt))
 rise_at (x ∷ xs) zero (suc j) a b h lt ea eb = omega (arith, rise_low x xs b h (has_get xs j b eb), ap (λ (v : Switch). v.count) (same_Some x a ea))

@@ -11,6 +11,10 @@ use Rattle.b67_session_schedule.specs.declared.counting.Chosen.{Chosen}
 abbrev pub choice_of : Chosen → Choice
 choice_of c = record { who = record { job = c.job; task = c.number }; turn = c.turn }
 
+-- the last task, which goes on with its turn
+abbrev pub last_chosen : Tasks → Chosen
+last_chosen tasks = record { row = tasks.running; job = tasks.last_job; number = tasks.last_number; turn = tasks.turn }
+
 abbrev pub counted_member : SessionJob → SessionJob
 counted_member m = record m { progress = record m.progress { made = m.progress.made + 1 } }
 

@@ -5,6 +5,8 @@ mod choosing;
 mod counting;
 mod ready;
 mod switches;
+mod turns;
 
 pub use choosing::{choose, schedule};
-pub use counting::{Chosen, count};
+pub use counting::{Chosen, count, count_in_turn};
+pub use turns::turn_room;

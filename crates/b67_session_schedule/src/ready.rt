@@ -51,7 +51,7 @@ fn comes(row: TaskRow, last: Who) -> bool
 
 /// Whether a row is that of a task which is ready.
 #[inline(always)]
-fn is_row_of(row: TaskRow, who: Who) -> bool
+pub(crate) fn is_row_of(row: TaskRow, who: Who) -> bool
     ensures { result ≡ rows.is_row_of (who_is who) row }
 {
     is_ready(row.state) && row.job == who.job && row.number == who.task

@@ -1,4 +1,4 @@
-use Rattle.std.proofs.Common.{◌≡◌, ◌≢◌, ◌≤◌, ℕ, ◌+◌, List, Option, None, Result, Ok, Err, length, refl, sym, ◌∙◌, subst, arith}
+use Rattle.std.proofs.Common.{◌≡◌, ◌≢◌, ◌≤◌, ℕ, ◌+◌, List, Option, Some, None, Result, Ok, Err, length, refl, sym, ◌∙◌, subst, arith}
 use Rattle.b67_model.specs.State.{Task, SessionJob}
 use Rattle.b67_model.specs.Schedule.{Session}
 use Rattle.b67_layout_storage.specs.Machine.{Says, content_after}
@@ -10,56 +10,57 @@ use Rattle.b67_session.specs.declared.slices.Progress.{Progress}
 use Rattle.b67_session.specs.declared.slices.Progress.TheVariants as progress
 use Rattle.b67_session.specs.Slices.{StandsAt, Keeps, StopsWithRoom, IfPresent}
 use Rattle.b67_session.specs.Steps.{Steps}
-use Rattle.b67_session.proofs.Going.{Going, going-begins, going-lives, going-more, going-steps, going-stops, begun_present, made_no_fewer, stop_rooms, stop_causes}
+use Rattle.b67_session.proofs.Going.{Going, going-begins, going-lives, going-more, going-steps, going-stops, going-turn, keeps_on, begun_present, made_no_fewer, stop_rooms, stop_causes}
 use Rattle.b67_session.proofs.Pausing.{says_retold, still_told, known_still, retold_twice, pause_slices}
 use Rattle.b67_session.proofs.Rows.{stays_ended, went_on, none_made}
 use Rattle.b67_session.proofs.slices.go_on.Given.{Over}
-use Rattle.b67_session.proofs.slices.go_on.Goals.{After-step-in-step}
+use Rattle.b67_session.proofs.slices.go_on.Goals.{After-step}
 use Rattle.b67_session.proofs.slices.go_on.Goals as goal
 
 -- ---- the step that was tried, from the session to which the slice came
 
-module _ (g : Over) (c : After-step-in-step g) where
-  keeps : Keeps c.args.machine.now c.step-in-step.new.machine
+module _ (g : Over) (c : After-step g) where
+  keeps : Keeps c.args.machine.now c.step.new.machine
   keeps = record {
-    core = c.step-in-step.ensures.keeps.core ∙ c.step.invariant.keeps.core;
-    sectors = c.step-in-step.ensures.keeps.sectors ∙ c.step.invariant.keeps.sectors;
-    halt = c.step-in-step.ensures.keeps.halt ∙ c.step.invariant.keeps.halt;
-    names = c.step-in-step.ensures.keeps.names ∙ c.step.invariant.keeps.names;
+    core = c.step.ensures.keeps.core ∙ c.turn.invariant.keeps.core;
+    sectors = c.step.ensures.keeps.sectors ∙ c.turn.invariant.keeps.sectors;
+    halt = c.step.ensures.keeps.halt ∙ c.turn.invariant.keeps.halt;
+    names = c.step.ensures.keeps.names ∙ c.turn.invariant.keeps.names;
   }
 
   module _ (known : Option (List (List ℕ))) (s : Session) (says : Says known (g.B.Backing.holds c.args.backing.now)) (h : StandsAt known c.args.machine.now s) where
-    abbrev going : Going g.K.Sink.taken (known ≢ None) (content_after known (g.B.Backing.holds c.step.backing)) c.step._made s c.args.machine.now c.step.machine c.args.paper.now c.step.paper
-    going = c.step.invariant.going known s says h
+    abbrev going : Going g.K.Sink.taken (known ≢ None) (content_after known (g.B.Backing.holds c.turn.backing)) c.turn.made s c.args.machine.now c.turn.machine c.args.paper.now c.turn.paper
+    going = c.turn.invariant.going known s says h
 
     abbrev now : Option (List (List ℕ))
-    now = content_after known (g.B.Backing.holds c.step.backing)
+    now = content_after known (g.B.Backing.holds c.turn.backing)
 
-    tells : known ≢ None → g.B.Backing.holds c.step.backing ≢ None
-    tells = still_told g.B.Backing.holds g.B.Backing.size g.B.Backing.calls g.B.Backing.faults c.args.backing.now c.step.backing known says c.step.invariant.device
+    tells : known ≢ None → g.B.Backing.holds c.turn.backing ≢ None
+    tells = still_told g.B.Backing.holds g.B.Backing.size g.B.Backing.calls g.B.Backing.faults c.args.backing.now c.turn.backing known says c.turn.invariant.device
 
-    stepped : (answered : Result (Unit {0}) Stop) → c.step-in-step.result ≡ answered
-        → Steps g.K.Sink.taken (content_after known (g.B.Backing.holds c.step-in-step.new.backing)) (now ≢ None) (g.B.Backing.size c.args.backing.now) going.session answered c.step.machine c.step-in-step.new.machine c.step.paper c.step-in-step.new.paper
+    stepped : (answered : Result (Unit {0}) Stop) → c.step.result ≡ answered
+        → Steps g.K.Sink.taken (content_after known (g.B.Backing.holds c.step.new.backing)) (now ≢ None) (g.B.Backing.size c.args.backing.now) going.session answered c.turn.machine c.step.new.machine c.turn.paper c.step.new.paper
     stepped answered is =
-        let P : Option (List (List ℕ)) → ℕ → Result (Unit {0}) Stop → Type 0 = λ d n a. Steps g.K.Sink.taken d (now ≢ None) n going.session a c.step.machine c.step-in-step.new.machine c.step.paper c.step-in-step.new.paper in
-        let told = g.B.Backing.holds c.step-in-step.new.backing in
-        let row = c.step-in-step.ensures.row now going.session (says_retold known (g.B.Backing.holds c.step.backing)) going.stands in
+        let P : Option (List (List ℕ)) → ℕ → Result (Unit {0}) Stop → Type 0 = λ d n a. Steps g.K.Sink.taken d (now ≢ None) n going.session a c.turn.machine c.step.new.machine c.turn.paper c.step.new.paper in
+        let told = g.B.Backing.holds c.step.new.backing in
+        let row = c.step.ensures.row now going.session (says_retold known (g.B.Backing.holds c.turn.backing)) going.stands in
         subst (P (content_after known told) (g.B.Backing.size c.args.backing.now)) is
-        (subst (λ (d : Option (List (List ℕ))). P d (g.B.Backing.size c.args.backing.now) c.step-in-step.result) (retold_twice known (g.B.Backing.holds c.step.backing) told tells)
-        (subst (λ (n : ℕ). P (content_after now told) n c.step-in-step.result) c.step.invariant.device.size row))
+        (subst (λ (d : Option (List (List ℕ))). P d (g.B.Backing.size c.args.backing.now) c.step.result) (retold_twice known (g.B.Backing.holds c.turn.backing) told tells)
+        (subst (λ (n : ℕ). P (content_after now told) n c.step.result) c.turn.invariant.device.size row))
 
-    present : (m : SessionJob) (t : Task) → IsNext s m t → (answered : Result Progress Stop) → c.step.machine.tasks.made ≤ c.step-in-step.new.machine.tasks.made → c.step._made + 1 ≤ c.args.n
-        → (StopsWithRoom (length c.args.machine.now.cpu.core) s m t c.step-in-step.result → StopsWithRoom (length c.args.machine.now.cpu.core) s m t answered)
-        → IfPresent (known ≢ None) (length c.args.machine.now.cpu.core) c.args.n h.storage h.plan s m t answered c.args.machine.now c.step-in-step.new.machine c.args.backing.now c.step-in-step.new.backing
+    present : (m : SessionJob) (t : Task) → IsNext s m t → (answered : Result Progress Stop) → c.turn.machine.tasks.made ≤ c.step.new.machine.tasks.made → c.turn.made + 1 ≤ c.args.n
+        → (StopsWithRoom (length c.args.machine.now.cpu.core) s m t c.step.result → StopsWithRoom (length c.args.machine.now.cpu.core) s m t answered)
+        → IfPresent (known ≢ None) (length c.args.machine.now.cpu.core) c.args.n h.storage h.plan s m t answered c.args.machine.now c.step.new.machine c.args.backing.now c.step.new.backing
     present m t next answered later few same =
-        begun_present known (length c.step.machine.cpu.core) (length c.args.machine.now.cpu.core) c.args.n c.step._made c.args.machine.now c.step.machine c.step-in-step.new.machine s m t
-        c.args.backing.now c.step.backing c.step-in-step.new.backing c.step-in-step.result answered c.step.invariant.begun c.step.invariant.keeps.core going.made later few same
-        (λ none l. c.step-in-step.ensures.present known s m t (subst (λ d. Says known (g.B.Backing.holds d)) (sym (c.step.invariant.begun none).1) says) l next) h
+        begun_present known (length c.turn.machine.cpu.core) (length c.args.machine.now.cpu.core) c.args.n c.turn.made c.args.machine.now c.turn.machine c.step.new.machine s m t
+        c.args.backing.now c.turn.backing c.step.new.backing c.step.result answered c.turn.invariant.begun c.turn.invariant.keeps.core going.made later few same
+        (λ none l. c.step.ensures.present known s m t (subst (λ d. Says known (g.B.Backing.holds d)) (sym (c.turn.invariant.begun none).1) says) l next) h
 
 -- ---- the loop
 
-pub step-init : goal.step-init
-step-init g c = record {
+pub turn-init : goal.turn-init
+turn-init g c = record {
+  few = omega arith;
   countable = c.requires.countable;
   later = omega arith;
   device = Served-none g.B.Backing.holds g.B.Backing.size g.B.Backing.calls g.B.Backing.faults c.args.backing.now;
@@ -76,30 +77,54 @@ step-init g c = record {
 pub step-requires-clause-lives : goal.step-requires-clause-lives
 step-requires-clause-lives g c =
     let l = c.requires.stands in
-    going-lives g.K.Sink.taken (l.known ≢ None) (content_after l.known (g.B.Backing.holds c.step.backing)) 0 c.args.n c.step._made l.session c.args.machine.now c.step.machine c.args.paper.now c.step.paper
-    (c.step.invariant.going l.known l.session l.says l.stands) (g.B.Backing.holds c.step.backing) (says_retold l.known (g.B.Backing.holds c.step.backing)) c.in_default.ensures.0
+    going-lives g.K.Sink.taken (l.known ≢ None) (content_after l.known (g.B.Backing.holds c.turn.backing)) 0 c.args.n c.turn.made l.session c.args.machine.now c.turn.machine c.args.paper.now c.turn.paper
+    (c.turn.invariant.going l.known l.session l.says l.stands) (g.B.Backing.holds c.turn.backing) (says_retold l.known (g.B.Backing.holds c.turn.backing)) c.in_default.ensures.0
 
 pub step-requires-clause-due : goal.step-requires-clause-due
 step-requires-clause-due g c = c.in_default.ensures.1
 
 pub step-requires-clause-sized : goal.step-requires-clause-sized
-step-requires-clause-sized g c = omega (arith, c.step.invariant.device.size, c.step.invariant.keeps.sectors, c.requires.sized)
+step-requires-clause-sized g c = omega (arith, c.turn.invariant.device.size, c.turn.invariant.keeps.sectors, c.requires.sized)
 
-pub step-preserved : goal.step-preserved
-step-preserved g c =
-    let a = (goal.at.step-preserved g c).After-step-in-step in
-    let is : c.step-in-step.result ≡ Ok tt = c.in-Ok.is in
+-- the step was made
+module _ (g : Over) (c : After-step g) (is : c.step.result ≡ Ok tt) (due : c.turn.machine.tasks.halt ≢ Some c.turn.machine.tasks.made) (known : Option (List (List ℕ))) (s : Session) (says : Says known (g.B.Backing.holds c.args.backing.now)) (h : StandsAt known c.args.machine.now s) where
+  abbrev one_more : Going g.K.Sink.taken (known ≢ None) (content_after known (g.B.Backing.holds c.step.new.backing)) (c.turn.made + 1) s c.args.machine.now c.step.new.machine c.args.paper.now c.step.new.paper
+  one_more =
+      going-steps g.K.Sink.taken (known ≢ None) (now g c known s says h) (g.B.Backing.size c.args.backing.now) c.args.n c.turn.made s c.args.machine.now c.turn.machine c.args.paper.now c.turn.paper (going g c known s says h)
+      (content_after known (g.B.Backing.holds c.step.new.backing)) (known_still known (g.B.Backing.holds c.turn.backing) (tells g c known s says h)) c.step.new.machine c.step.new.paper
+      c.turn.invariant.keeps due (stepped g c known s says h (Ok tt) is)
+
+pub go_on_with_turn-more-requires-clause-stands : goal.go_on_with_turn-more-requires-clause-stands
+go_on_with_turn-more-requires-clause-stands g c =
+    let a = (goal.at.go_on_with_turn-more-requires-clause-stands g c).After-step in
+    let l = c.requires.stands in
+    let one = one_more g a c.in-Ok.is c.in_default.ensures.1 l.known l.session l.says l.stands in
+    record { known = content_after l.known (g.B.Backing.holds c.step.new.backing); session = one.session; stands = one.stands }
+
+pub go_on_with_turn-more-requires-clause-unprinted : goal.go_on_with_turn-more-requires-clause-unprinted
+go_on_with_turn-more-requires-clause-unprinted g c =
+    let a = (goal.at.go_on_with_turn-more-requires-clause-unprinted g c).After-step in
+    let l = c.requires.stands in
+    (one_more g a c.in-Ok.is c.in_default.ensures.1 l.known l.session l.says l.stands).texts.some (omega arith)
+
+pub turn-preserved : goal.turn-preserved
+turn-preserved g c =
+    let a = (goal.at.turn-preserved g c).After-step in
+    let is : c.step.result ≡ Ok tt = c.in-Ok.is in
+    let more = c.go_on_with_turn-more.result in
+    let total : c.turn.made + (1 + more) ≡ c.turn.made + 1 + more = omega arith in
     record {
-      countable = c.step-in-step.ensures.countable;
-      later = omega (arith, c.step.invariant.later, c.step-in-step.ensures.causes.printer.later);
-      device = Served-then g.B.Backing.holds g.B.Backing.size g.B.Backing.calls g.B.Backing.faults c.args.backing.now c.step.backing c.step-in-step.new.backing c.step.invariant.device c.step-in-step.ensures.device;
-      keeps = keeps g a;
+      few = omega (arith, c.go_on_with_turn-more.ensures.few);
+      countable = c.go_on_with_turn-more.ensures.countable c.step.ensures.countable;
+      later = omega (arith, c.turn.invariant.later, c.step.ensures.causes.printer.later);
+      device = Served-then g.B.Backing.holds g.B.Backing.size g.B.Backing.calls g.B.Backing.faults c.args.backing.now c.turn.backing c.step.new.backing c.turn.invariant.device c.step.ensures.device;
+      keeps = keeps_on c.args.machine.now c.step.new.machine c.go_on_with_turn-more.new.machine (keeps g a) c.go_on_with_turn-more.ensures.keeps;
       going = λ known s says h.
-          going-steps g.K.Sink.taken (known ≢ None) (now g a known s says h) (g.B.Backing.size c.args.backing.now) c.args.n c.step._made s c.args.machine.now c.step.machine c.args.paper.now c.step.paper (going g a known s says h)
-          (content_after known (g.B.Backing.holds c.step-in-step.new.backing)) (known_still known (g.B.Backing.holds c.step.backing) (tells g a known s says h)) c.step-in-step.new.machine c.step-in-step.new.paper
-          c.step.invariant.keeps c.in_default.ensures.1 (stepped g a known s says h (Ok tt) is);
+          let one = one_more g a is c.in_default.ensures.1 known s says h in
+          going-turn g.K.Sink.taken (known ≢ None) (content_after known (g.B.Backing.holds c.step.new.backing)) (c.turn.made + 1) more (c.turn.made + (1 + more)) s c.args.machine.now c.step.new.machine c.go_on_with_turn-more.new.machine c.args.paper.now c.step.new.paper
+          one (keeps g a) (omega arith) (c.go_on_with_turn-more.ensures.row (content_after known (g.B.Backing.holds c.step.new.backing)) one.session one.stands) total;
       begun = λ none. absurd (omega (arith, none));
-      none = λ none. absurd (none_made c.args.machine.now c.step.machine c.step._made c.step.invariant.none (λ zero. (c.step.invariant.begun zero).0) c.in_default.ensures.0 none);
+      none = λ none. absurd (none_made c.args.machine.now c.turn.machine c.turn.made c.turn.invariant.none (λ zero. (c.turn.invariant.begun zero).0) c.in_default.ensures.0 none);
       unprinted = λ none. absurd (omega (arith, none));
       quiet = λ known s m t h says next few wants.
           let later = made_no_fewer (stepped g a known s says h (Ok tt) is) in
@@ -110,63 +135,63 @@ step-preserved g c =
 
 pub returns-in-Some-clause-row : goal.returns-in-Some-clause-row
 returns-in-Some-clause-row g c = λ known s says h.
-    pause_slices g.K.Sink.taken (known ≢ None) (content_after known (g.B.Backing.holds c.step.backing)) (g.B.Backing.size c.args.backing.now) c.args.n c.step._made s c.args.machine.now c.step.machine c.args.paper.now c.step.paper
-    (c.step.invariant.going known s says h) (omega arith) c.in-Some.progress c.in-Some.ensures
+    pause_slices g.K.Sink.taken (known ≢ None) (content_after known (g.B.Backing.holds c.turn.backing)) (g.B.Backing.size c.args.backing.now) c.args.n c.turn.made s c.args.machine.now c.turn.machine c.args.paper.now c.turn.paper
+    (c.turn.invariant.going known s says h) (omega arith) c.in-Some.progress c.in-Some.ensures
 
 pub returns-in-Some-clause-present : goal.returns-in-Some-clause-present
-returns-in-Some-clause-present g c = λ known s m t says h next. record { quiet = λ few wants. c.step.invariant.quiet known s m t h says next few wants; room = λ tells code none. tt }
+returns-in-Some-clause-present g c = λ known s m t says h next. record { quiet = λ few wants. c.turn.invariant.quiet known s m t h says next few wants; room = λ tells code none. tt }
 
 pub returns-in-Some-pause-clause-row : goal.returns-in-Some-pause-clause-row
 returns-in-Some-pause-clause-row g c = λ known s says h.
-    pause_slices g.K.Sink.taken (known ≢ None) (content_after known (g.B.Backing.holds c.step.backing)) (g.B.Backing.size c.args.backing.now) c.args.n c.step._made s c.args.machine.now c.step.machine c.args.paper.now c.step.paper
-    (c.step.invariant.going known s says h) (omega arith) c.in-Some-pause.progress c.in-Some-pause.ensures
+    pause_slices g.K.Sink.taken (known ≢ None) (content_after known (g.B.Backing.holds c.turn.backing)) (g.B.Backing.size c.args.backing.now) c.args.n c.turn.made s c.args.machine.now c.turn.machine c.args.paper.now c.turn.paper
+    (c.turn.invariant.going known s says h) (omega arith) c.in-Some-pause.progress c.in-Some-pause.ensures
 
 pub returns-in-Some-pause-clause-present : goal.returns-in-Some-pause-clause-present
-returns-in-Some-pause-clause-present g c = λ known s m t says h next. record { quiet = λ few wants. c.step.invariant.quiet known s m t h says next few wants; room = λ tells code none. tt }
+returns-in-Some-pause-clause-present g c = λ known s m t says h next. record { quiet = λ few wants. c.turn.invariant.quiet known s m t h says next few wants; room = λ tells code none. tt }
 
 pub returns-in-None-clause-row : goal.returns-in-None-clause-row
 returns-in-None-clause-row g c = λ known s says h.
-    going-more g.K.Sink.taken (known ≢ None) (content_after known (g.B.Backing.holds c.step.backing)) (g.B.Backing.size c.args.backing.now) c.args.n c.step._made s c.args.machine.now c.step.machine c.args.paper.now c.step.paper
-    (c.step.invariant.going known s says h) (omega arith) c.in-None.ensures.0 c.in-None.ensures.1
+    going-more g.K.Sink.taken (known ≢ None) (content_after known (g.B.Backing.holds c.turn.backing)) (g.B.Backing.size c.args.backing.now) c.args.n c.turn.made s c.args.machine.now c.turn.machine c.args.paper.now c.turn.paper
+    (c.turn.invariant.going known s says h) (omega arith) c.in-None.ensures.0 c.in-None.ensures.1
 
 pub returns-in-None-clause-present : goal.returns-in-None-clause-present
-returns-in-None-clause-present g c = λ known s m t says h next. record { quiet = λ few wants. c.step.invariant.quiet known s m t h says next few wants; room = λ tells code none. tt }
+returns-in-None-clause-present g c = λ known s m t says h next. record { quiet = λ few wants. c.turn.invariant.quiet known s m t h says next few wants; room = λ tells code none. tt }
 
 pub returns-in-Err-clause-row : goal.returns-in-Err-clause-row
 returns-in-Err-clause-row g c = λ known s says h.
-    let a = (goal.at.returns-in-Err-clause-row g c).After-step-in-step in
-    going-stops g.K.Sink.taken (known ≢ None) (now g a known s says h) (g.B.Backing.size c.args.backing.now) c.args.n c.step._made s c.args.machine.now c.step.machine c.args.paper.now c.step.paper (going g a known s says h)
-    (content_after known (g.B.Backing.holds c.step-in-step.new.backing)) (known_still known (g.B.Backing.holds c.step.backing) (tells g a known s says h)) c.step-in-step.new.machine c.step-in-step.new.paper
-    c.step.invariant.keeps c.in_default.ensures.1 c.in-Err.stop (omega arith) (stepped g a known s says h (Err c.in-Err.stop) c.in-Err.is)
+    let a = (goal.at.returns-in-Err-clause-row g c).After-step in
+    going-stops g.K.Sink.taken (known ≢ None) (now g a known s says h) (g.B.Backing.size c.args.backing.now) c.args.n c.turn.made s c.args.machine.now c.turn.machine c.args.paper.now c.turn.paper (going g a known s says h)
+    (content_after known (g.B.Backing.holds c.step.new.backing)) (known_still known (g.B.Backing.holds c.turn.backing) (tells g a known s says h)) c.step.new.machine c.step.new.paper
+    c.turn.invariant.keeps c.in_default.ensures.1 c.in-Err.stop (omega arith) (stepped g a known s says h (Err c.in-Err.stop) c.in-Err.is)
 
 pub returns-in-Err-clause-present : goal.returns-in-Err-clause-present
 returns-in-Err-clause-present g c = λ known s m t says h next.
-    let a = (goal.at.returns-in-Err-clause-present g c).After-step-in-step in
-    present g a known s says h m t next (Err c.in-Err.stop) (made_no_fewer (stepped g a known s says h c.step-in-step.result refl)) (omega arith)
-    (stop_rooms (length c.args.machine.now.cpu.core) s m t c.in-Err.stop c.step-in-step.result c.in-Err.is)
+    let a = (goal.at.returns-in-Err-clause-present g c).After-step in
+    present g a known s says h m t next (Err c.in-Err.stop) (made_no_fewer (stepped g a known s says h c.step.result refl)) (omega arith)
+    (stop_rooms (length c.args.machine.now.cpu.core) s m t c.in-Err.stop c.step.result c.in-Err.is)
 
 pub returns-in-Err-clause-keeps : goal.returns-in-Err-clause-keeps
-returns-in-Err-clause-keeps g c = keeps g (goal.at.returns-in-Err-clause-keeps g c).After-step-in-step
+returns-in-Err-clause-keeps g c = keeps g (goal.at.returns-in-Err-clause-keeps g c).After-step
 
 pub returns-in-Err-clause-causes : goal.returns-in-Err-clause-causes
 returns-in-Err-clause-causes g c =
-    stop_causes g.B.Backing.faults g.K.Sink.faults c.in-Err.stop c.step-in-step.result c.args.backing.now c.step.backing c.step-in-step.new.backing c.args.paper.now c.step.paper c.step-in-step.new.paper c.in-Err.is
-    c.step.invariant.device.faults c.step.invariant.later c.step-in-step.ensures.causes
+    stop_causes g.B.Backing.faults g.K.Sink.faults c.in-Err.stop c.step.result c.args.backing.now c.turn.backing c.step.new.backing c.args.paper.now c.turn.paper c.step.new.paper c.in-Err.is
+    c.turn.invariant.device.faults c.turn.invariant.later c.step.ensures.causes
 
 pub returns-in-Err-clause-device : goal.returns-in-Err-clause-device
 returns-in-Err-clause-device g c =
-    Served-then g.B.Backing.holds g.B.Backing.size g.B.Backing.calls g.B.Backing.faults c.args.backing.now c.step.backing c.step-in-step.new.backing c.step.invariant.device c.step-in-step.ensures.device
+    Served-then g.B.Backing.holds g.B.Backing.size g.B.Backing.calls g.B.Backing.faults c.args.backing.now c.turn.backing c.step.new.backing c.turn.invariant.device c.step.ensures.device
 
 -- ---- no task from the beginning
 
 pub returns-in-Some-clause-ended : goal.returns-in-Some-clause-ended
-returns-in-Some-clause-ended g c = λ known s r. stays_ended known c.args.machine.now c.step.machine s c.step._made c.args.backing.now c.step.backing c.args.paper.now c.step.paper r c.step.invariant.none c.step.invariant.begun c.step.invariant.unprinted c.in-Some.progress c.in-Some.ensures
+returns-in-Some-clause-ended g c = λ known s r. stays_ended known c.args.machine.now c.turn.machine s c.turn.made c.args.backing.now c.turn.backing c.args.paper.now c.turn.paper r c.turn.invariant.none c.turn.invariant.begun c.turn.invariant.unprinted c.in-Some.progress c.in-Some.ensures
 
 pub returns-in-Some-pause-clause-ended : goal.returns-in-Some-pause-clause-ended
-returns-in-Some-pause-clause-ended g c = λ known s r. stays_ended known c.args.machine.now c.step.machine s c.step._made c.args.backing.now c.step.backing c.args.paper.now c.step.paper r c.step.invariant.none c.step.invariant.begun c.step.invariant.unprinted c.in-Some-pause.progress c.in-Some-pause.ensures
+returns-in-Some-pause-clause-ended g c = λ known s r. stays_ended known c.args.machine.now c.turn.machine s c.turn.made c.args.backing.now c.turn.backing c.args.paper.now c.turn.paper r c.turn.invariant.none c.turn.invariant.begun c.turn.invariant.unprinted c.in-Some-pause.progress c.in-Some-pause.ensures
 
 pub returns-in-None-clause-ended : goal.returns-in-None-clause-ended
-returns-in-None-clause-ended g c = λ known s r. absurd (went_on known c.args.machine.now c.step.machine s c.step._made c.args.backing.now c.step.backing c.args.paper.now c.step.paper r c.step.invariant.none c.step.invariant.begun c.step.invariant.unprinted c.in-None.ensures.0)
+returns-in-None-clause-ended g c = λ known s r. absurd (went_on known c.args.machine.now c.turn.machine s c.turn.made c.args.backing.now c.turn.backing c.args.paper.now c.turn.paper r c.turn.invariant.none c.turn.invariant.begun c.turn.invariant.unprinted c.in-None.ensures.0)
 
 pub returns-in-Err-clause-ended : goal.returns-in-Err-clause-ended
-returns-in-Err-clause-ended g c = λ known s r. absurd (went_on known c.args.machine.now c.step.machine s c.step._made c.args.backing.now c.step.backing c.args.paper.now c.step.paper r c.step.invariant.none c.step.invariant.begun c.step.invariant.unprinted c.in_default.ensures.0)
+returns-in-Err-clause-ended g c = λ known s r. absurd (went_on known c.args.machine.now c.turn.machine s c.turn.made c.args.backing.now c.turn.backing c.args.paper.now c.turn.paper r c.turn.invariant.none c.turn.invariant.begun c.turn.invariant.unprinted c.in_default.ensures.0)

@@ -1,4 +1,4 @@
-use Rattle.std.proofs.Common.{◌≡◌, ◌≢◌, ◌≤◌, ℕ, List, [], Option, None}
+use Rattle.std.proofs.Common.{◌≡◌, ◌≢◌, ◌≤◌, ◌-◌, ℕ, List, [], Option, None}
 use Rattle.b67_model.specs.State.{Task, SessionJob}
 use Rattle.b67_model.specs.Schedule.{Session}
 use Rattle.b67_layout_storage.specs.Machine.{Says, DeviceAfterCalls, content_after}
@@ -9,17 +9,21 @@ use Rattle.b67_session.specs.Slices.{StandsAt, Keeps}
 use Rattle.b67_session.proofs.Going.{Going}
 use Rattle.b67_session.proofs.slices.go_on.Given as goal
 
-abbrev pub invariant-step : goal.invariant-step
-invariant-step g l = record {
+abbrev pub invariant-turn : goal.invariant-turn
+invariant-turn g l = record {
+  few : l.made ≤ l.n;
   countable : AreCountable l.machine.tasks.jobs;
   later : g.K.Sink.faults l.initial.paper ≤ g.K.Sink.faults l.paper;
   device : DeviceAfterCalls g.B.Backing.holds g.B.Backing.size g.B.Backing.calls g.B.Backing.faults l.initial.backing l.backing;
   keeps : Keeps l.initial.machine l.machine;
   going : (known : Option (List (List ℕ))) (s : Session) → Says known (g.B.Backing.holds l.initial.backing) → StandsAt known l.initial.machine s
-      → Going g.K.Sink.taken (known ≢ None) (content_after known (g.B.Backing.holds l.backing)) l._made s l.initial.machine l.machine l.initial.paper l.paper;
-  begun : l._made ≡ 0 → (l.machine ≡ l.initial.machine) × (l.backing ≡ l.initial.backing);
-  none : l.initial.machine.tasks.rows.items ≡ [] → l._made ≡ 0;
-  unprinted : l._made ≡ 0 → l.paper ≡ l.initial.paper;
+      → Going g.K.Sink.taken (known ≢ None) (content_after known (g.B.Backing.holds l.backing)) l.made s l.initial.machine l.machine l.initial.paper l.paper;
+  begun : l.made ≡ 0 → (l.machine ≡ l.initial.machine) × (l.backing ≡ l.initial.backing);
+  none : l.initial.machine.tasks.rows.items ≡ [] → l.made ≡ 0;
+  unprinted : l.made ≡ 0 → l.paper ≡ l.initial.paper;
   quiet : (known : Option (List (List ℕ))) (s : Session) (m : SessionJob) (t : Task) (h : StandsAt known l.initial.machine s) → Says known (g.B.Backing.holds l.initial.backing) → IsNext s m t
       → l.n ≤ 1 → WantsNothing h.storage h.plan m t → (CallsDevice m t → ⊥) → l.backing ≡ l.initial.backing;
 }
+
+abbrev pub decreases-turn : goal.decreases-turn
+decreases-turn g l = l.n - l.made
