@@ -17,3 +17,4 @@ pub mod Fitting
 pub mod Pausing
 pub mod Resuming
 mod Again
+pub mod Completing

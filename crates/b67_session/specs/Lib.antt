@@ -1,4 +1,5 @@
 pub mod Slices
 pub mod Steps
+pub mod Complete
 pub mod Stops
 pub mod Passed
