@@ -19,3 +19,4 @@ pub mod Pausing
 pub mod Resuming
 pub mod Shaping
 mod Again
+pub mod Completing

@@ -8,7 +8,7 @@ use Rattle.b67_lemmas.proofs.Members.{all_in, has_get, keyed_has, keyed_falls}
 use Rattle.b67_lemmas.proofs.Places.{at_mapped}
 use Rattle.b67_model.specs.Keyed.{keyed}
 use Rattle.b67_model.specs.InOrder.{IsSegment, JobInOrder, IsInOrderButPlaces}
-use Rattle.b67_model.specs.Need.{need, need_of_job, need_by}
+use Rattle.b67_model.specs.Need.{need, need_of_job, need_by, need_next}
 use Rattle.b67_model.specs.Run.{number_of}
 use Rattle.b67_model.specs.Schedule.{Who, Session, Choice}
 use Rattle.b67_model.specs.State.{Task, SessionJob}
@@ -55,12 +55,11 @@ module _ (s : Session) (m : SessionJob) (t : Task) (n : IsNext s m t) where
   runs_then plan k e = record { member = found; task = task_found; slot = e }
 
   -- what the step needs is the session's need
+  pub next_needs : (core : ℕ) → need_next core s ≡ Some (need core s m t)
+  next_needs core = ap (need_by core s) n.is ∙ ap (need_of_job core s n.chosen.who.task) n.member ∙ ap (λ (o : Option Task). option_map (need core s m) o) n.task
+
   pub next_fits : (core : ℕ) → need core s m t ≤ core → NextFits core s
-  next_fits core fits = record {
-    words = need core s m t;
-    needs = ap (need_by core s) n.is ∙ ap (need_of_job core s n.chosen.who.task) n.member ∙ ap (λ (o : Option Task). option_map (need core s m) o) n.task;
-    fits = fits;
-  }
+  next_fits core fits = record { words = need core s m t; needs = next_needs core; fits = fits }
 
   -- the row that was chosen is its row
   pub record Chose (plan : Placement) (tasks : Tasks) (c : Chosen) : Type 0 where

@@ -1,12 +1,15 @@
 //! A session that runs.
 
 ghost use Rattle.std.specs.Prelude.{◌≡◌, ◌≢◌, ℕ, ◌+◌, List, Option, None, length};
+ghost use Rattle.std.specs.Result.{IsOk};
 ghost use Rattle.b67_model.specs.State.{Task, SessionJob};
 ghost use Rattle.b67_model.specs.Run.{StepResult};
 ghost use Rattle.b67_model.specs.Schedule as schedule;
+ghost use Rattle.b67_io.specs.Causes.{Stayed};
 ghost use Rattle.b67_law_turns.specs.Turns.{IsNext};
 ghost use Rattle.b67_layout_storage.specs.Machine.{Says, DeviceAfterCalls, content_after};
 ghost use Rattle.b67_session_attempt.specs.Passed.{CallCauses};
+ghost use Rattle.b67_session.specs.Complete.{SetsOut, Suffices};
 ghost use Rattle.b67_session.specs.Slices.{IsOpen, StandsAt, IsLimited, RepresentsWithoutTasks, Keeps, Slices, IfPresent, Resumes, StaysEnded};
 ghost use Rattle.b67_session.specs.Shaped.{IsShaped};
 
@@ -73,6 +76,9 @@ impl Session {
             → Resumes K.taken known (content_after known (B.holds backing.new)) (B.size backing.old) n h part result self.old self.new backing.old backing.new paper.old paper.new }
         ensures ended { (known : Option (List (List ℕ))) (s : schedule.Session) → RepresentsWithoutTasks known self.old s
             → StaysEnded result self.old self.new backing.old backing.new paper.old paper.new }
+        ensures complete { (known : Option (List (List ℕ))) (s : schedule.Session) → known ≢ None → Says known (B.holds backing.old) → SetsOut known self.old s
+            → Suffices (length self.old.cpu.core) (B.size backing.old) n self.old.tasks s → Stayed B.faults backing.old backing.new → Stayed K.faults paper.old paper.new
+            → IsOk result }
         ensures open { IsOpen (B.holds backing.new) self.new }
         ensures shaped { IsShaped self.new }
         ensures causes { CallCauses B.faults K.faults backing.old backing.new paper.old paper.new result }

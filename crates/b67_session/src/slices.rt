@@ -1,12 +1,15 @@
 //! A slice of a run: steps one after the other.
 
 ghost use Rattle.std.specs.Prelude.{◌≡◌, ◌≢◌, ℕ, ◌+◌, List, Option, None, length};
+ghost use Rattle.std.specs.Result.{IsOk};
 ghost use Rattle.b67_model.specs.State.{Task, SessionJob};
 ghost use Rattle.b67_model.specs.Schedule.{Session};
+ghost use Rattle.b67_io.specs.Causes.{Stayed};
 ghost use Rattle.b67_layout_storage.specs.Machine.{Says, DeviceAfterCalls, content_after};
 ghost use Rattle.b67_session_attempt.specs.Passed.{AreCountable, CallCauses};
 ghost use Rattle.b67_model.specs.Run.{StepResult};
 ghost use Rattle.b67_law_turns.specs.Turns.{IsNext};
+ghost use Rattle.b67_session.specs.Complete.{SetsOut, Suffices};
 ghost use Rattle.b67_session.specs.Slices.{IsOpen, StandsSome, StandsAt, IsLimited, RepresentsWithoutTasks, Keeps, Slices, IfPresent, Resumes, StaysEnded, Pauses};
 ghost use Rattle.b67_session.specs.Shaped.{IsShaped};
 
@@ -117,6 +120,9 @@ pub fn slice<B: Backing, K: Sink>(
         → Resumes K.taken known (content_after known (B.holds backing.new)) (B.size backing.old) n h part result machine.old machine.new backing.old backing.new paper.old paper.new }
     ensures ended { (known : Option (List (List ℕ))) (s : Session) → RepresentsWithoutTasks known machine.old s
         → StaysEnded result machine.old machine.new backing.old backing.new paper.old paper.new }
+    ensures complete { (known : Option (List (List ℕ))) (s : Session) → known ≢ None → Says known (B.holds backing.old) → SetsOut known machine.old s
+        → Suffices (length machine.old.cpu.core) (B.size backing.old) n machine.old.tasks s → Stayed B.faults backing.old backing.new → Stayed K.faults paper.old paper.new
+        → IsOk result }
     ensures open { IsOpen (B.holds backing.new) machine.new }
     ensures shaped { IsShaped machine.new }
     ensures causes { CallCauses B.faults K.faults backing.old backing.new paper.old paper.new result }

@@ -11,6 +11,7 @@ use Rattle.b67_session.proofs.Pausing.{says_retold}
 use Rattle.b67_session.proofs.Rows.{empty_rows, some_rows}
 use Rattle.b67_session.proofs.Resuming.{stands_not, limited_not, rests_not, next_row, limited_row, open_stands, open_limited, has_limited, keeps_counts, over_stands, over_prints, cut_again, cut_limited}
 use Rattle.b67_session.proofs.Again.{open_again, limited}
+use Rattle.b67_session.proofs.Completing.{no_fault, completes}
 use Rattle.b67_session.proofs.slices.slice.Given.{Over}
 use Rattle.b67_session.proofs.slices.slice.Goals.{Else-not-is_at_limit}
 use Rattle.b67_session.proofs.slices.slice.Goals as goal
@@ -50,6 +51,13 @@ go_on-requires-clause-countable g c = c.requires.open.countable
 
 pub returns-then-not-is_at_limit-clause-resumed : goal.returns-then-not-is_at_limit-clause-resumed
 returns-then-not-is_at_limit-clause-resumed g c = λ known h part says l. absurd (limited_not known c.args.machine.now h part l c.is_at_limit.ensures c.if-not-is_at_limit.true)
+
+pub returns-then-not-is_at_limit-clause-complete : goal.returns-then-not-is_at_limit-clause-complete
+returns-then-not-is_at_limit-clause-complete g c = λ known s tells says sets ample calm quiet.
+    completes g.K.Sink.taken known (content_after known (g.B.Backing.holds c.go_on.new.backing)) (g.B.Backing.size c.args.backing.now) c.args.n c.go_on.result c.args.machine.now c.go_on.new.machine
+    c.args.backing.now c.go_on.new.backing c.args.paper.now c.go_on.new.paper
+    (λ s h. c.go_on.ensures.row known s says h) (λ h part l. returns-then-not-is_at_limit-clause-resumed g c known h part says l) c.go_on.ensures.keeps tells s sets ample
+    (no_fault g.B.Backing.faults g.K.Sink.faults c.args.backing.now c.go_on.new.backing c.args.paper.now c.go_on.new.paper c.go_on.result c.go_on.ensures.causes calm quiet)
 
 pub returns-then-not-is_at_limit-clause-open : goal.returns-then-not-is_at_limit-clause-open
 returns-then-not-is_at_limit-clause-open g c =
@@ -129,6 +137,15 @@ returns-in-Ok-clause-keeps g c =
     let rest = c.go_on-in-Ok.ensures.keeps in
     record { core = rest.core ∙ first.core; sectors = rest.sectors ∙ first.sectors; halt = rest.halt ∙ first.halt; names = rest.names ∙ first.names }
 
+pub returns-in-Ok-clause-complete : goal.returns-in-Ok-clause-complete
+returns-in-Ok-clause-complete g c = λ known s tells says sets ample calm quiet.
+    (let causes = c.go_on-in-Ok.ensures.causes in
+    let later = c.in-Ok.ensures.cause.later in
+    completes g.K.Sink.taken known (content_after known (g.B.Backing.holds c.go_on-in-Ok.new.backing)) (g.B.Backing.size c.args.backing.now) c.args.n c.go_on-in-Ok.result c.args.machine.now c.go_on-in-Ok.new.machine
+    c.args.backing.now c.go_on-in-Ok.new.backing c.args.paper.now c.go_on-in-Ok.new.paper
+    (λ s h. absurd (stands_not known c.args.machine.now s h c.is_at_limit.ensures c.if-not-is_at_limit.false)) (λ h part l. returns-in-Ok-clause-resumed g c known h part says l) (returns-in-Ok-clause-keeps g c) tells s sets ample
+    (λ e. (let rose = causes.device e in omega (arith, rose, calm)), λ e. (let rose = causes.printer.failed e in omega (arith, later, rose, quiet))))
+
 pub returns-in-Err-clause-row : goal.returns-in-Err-clause-row
 returns-in-Err-clause-row g c = λ known s says h. absurd (stands_not known c.args.machine.now s h c.is_at_limit.ensures c.if-not-is_at_limit.false)
 
@@ -142,6 +159,9 @@ returns-in-Err-clause-resumed g c = λ known h part says l.
 
 pub returns-in-Err-clause-ended : goal.returns-in-Err-clause-ended
 returns-in-Err-clause-ended g c = λ known s r. absurd (rests_not known c.args.machine.now s r (some_rows c.args.machine.now.tasks c.if-is_empty.ensures))
+
+pub returns-in-Err-clause-complete : goal.returns-in-Err-clause-complete
+returns-in-Err-clause-complete g c = λ known s tells says sets ample calm quiet. (let rose = c.in-Err.ensures.cause.failed in absurd (omega (arith, rose, quiet)))
 
 pub returns-in-Err-clause-open : goal.returns-in-Err-clause-open
 returns-in-Err-clause-open g c =

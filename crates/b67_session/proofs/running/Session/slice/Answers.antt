@@ -12,6 +12,9 @@ returns-clause-resumed g c = rw (← c.self.view_is) c.slice.ensures.resumed
 pub returns-clause-ended : goal.returns-clause-ended
 returns-clause-ended g c = rw (← c.self.view_is) c.slice.ensures.ended
 
+pub returns-clause-complete : goal.returns-clause-complete
+returns-clause-complete g c = rw (← c.self.view_is) c.slice.ensures.complete
+
 pub returns-clause-open : goal.returns-clause-open
 returns-clause-open g c = c.slice.ensures.open
 

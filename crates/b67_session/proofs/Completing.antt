@@ -1,0 +1,89 @@
+-- A slice for whose steps core and device suffice isn't stopped.
+use Rattle.std.proofs.Common.{◌≡◌, ◌≢◌, ℕ, ◌+◌, ◌<◌, ◌≤◌, List, length, Option, Some, None, Result, Ok, Err, inl, inr, ◌⊎◌, refl, sym, ap, ◌∙◌, subst, arith}
+use Rattle.std.specs.Result.{IsOk}
+use Rattle.b67_io.specs.Causes.{Stayed}
+use Rattle.b67_model.specs.Need.{need, need_next}
+use Rattle.b67_model.specs.Run.{StepResult, after}
+use Rattle.b67_model.specs.Schedule.{Session}
+use Rattle.b67_law_turns.specs.Turns.{IsNext}
+use Rattle.b67_law_turns.proofs.Limits.{no_last}
+use Rattle.b67_task_tables.specs.declared.tables.Machine.{Machine}
+use Rattle.b67_session_attempt.specs.Attempts.{TakesSectors}
+use Rattle.b67_session_attempt.specs.Passed.{CallCauses}
+use Rattle.b67_session_attempt.specs.Stops.{Stop}
+use Rattle.b67_session_attempt.specs.Stops as stops
+use Rattle.b67_session.specs.declared.slices.Progress.{Progress}
+use Rattle.b67_session.specs.Slices.{StandsAt, IsLimited, Keeps, Reaches, whole, but_limit, StopsBefore, SliceMeets, Slices, Resumes}
+use Rattle.b67_session.specs.Complete.{SetsOut, at_once, after_limit, IsToMake, Suffices}
+use Rattle.b67_session.proofs.Fitting.{below}
+use Rattle.b67_session.proofs.Next.{next_needs}
+
+-- no device failed, by its count
+abbrev pub NoFault : Result Progress Stop → Type 0
+NoFault answered = (answered ≡ Err stops.BackingFault → ⊥) × (answered ≡ Err stops.PrintFault → ⊥)
+
+pub no_fault : {D K : Type 0} (failed : D → ℕ) (unprinted : K → ℕ) (d d' : D) (p p' : K) (answered : Result Progress Stop) → CallCauses failed unprinted d d' p p' answered → Stayed failed d d' → Stayed unprinted p p' → NoFault answered
+no_fault failed unprinted d d' p p' answered causes calm quiet =
+    (λ e. (let rose = causes.device e in omega (arith, rose, calm)), λ e. (let rose = causes.printer.failed e in omega (arith, rose, quiet)))
+
+-- a slice from a session in order
+module _ {K : Type 0} (taken : K → Option (List ℕ)) (known : Option (List (List ℕ))) (exact : Type 0) (count n : ℕ) (first : Session) (answered : Result Progress Stop) (old new : Machine) (paper paper' : K)
+    (x : Slices taken known exact count n first answered old new paper paper') (tells : exact) (halt : new.tasks.halt ≡ old.tasks.halt) (ample : Suffices (length old.cpu.core) count n old.tasks first) where
+  -- no part of a step is made, where a whole one is due
+  came : (b : StopsBefore known n x.steps x.session new) → after x.steps first ≡ x.session
+  came b = by (x.leads tells) where
+    by : Reaches first x.steps x.session x.printed → after x.steps first ≡ x.session
+    by (whole a l) = a
+    by (but_limit k part e f g some l) = absurd (some (no_last x.session b.stands.ordered))
+
+  to_make : (b : StopsBefore known n x.steps x.session new) → IsToMake n old.tasks x.steps
+  to_make b = record { few = b.left; before_halt = λ j low e. by j e (below j x.steps (omega (arith, low))) } where
+    by : (j : ℕ) → old.tasks.halt ≡ Some (old.tasks.made + j) → (j < x.steps) ⊎ (j ≡ x.steps) → ⊥
+    by j e (inl less) = x.below j less e
+    by j e (inr at) = b.halt (halt ∙ e ∙ ap Some (omega (arith, at, x.made)))
+
+  has_core : (b : StopsBefore known n x.steps x.session new) → need (length old.cpu.core) x.session b.member b.task ≤ length old.cpu.core
+  has_core b = ample.core_suffices x.steps (need (length old.cpu.core) x.session b.member b.task) (to_make b)
+      (ap (need_next (length old.cpu.core)) (came b) ∙ next_needs x.session b.member b.task b.next (length old.cpu.core))
+
+  has_sectors : (b : StopsBefore known n x.steps x.session new) (sum : ℕ) → TakesSectors x.session b.member b.task sum → sum ≤ count
+  has_sectors b sum =
+      subst (λ (z : Session). IsNext z b.member b.task → TakesSectors z b.member b.task sum → sum ≤ count) (came b)
+      (ample.sectors_suffice x.steps sum b.member b.task (to_make b)) b.next
+
+  pub goes_through : NoFault answered → IsOk answered
+  goes_through (device, printer) = by answered refl x.meets where
+    by : (a : Result Progress Stop) → answered ≡ a → SliceMeets known exact (length old.cpu.core) count n x.steps x.session x.is_due a new → IsOk a
+    by (Ok progress) e meets = refl
+    by (Err (stops.NoCore words size)) e (b, words_is, size_is, more) = (let fits = has_core b in absurd (omega (arith, words_is, more, fits)))
+    by (Err (stops.BackingFull sum size)) e (b, lacks, short, takes, size_is, more) = (let fits = has_sectors b sum takes in absurd (omega (arith, more, fits)))
+    by (Err stops.BackingFault) e meets = absurd (device e)
+    by (Err stops.PrintFault) e meets = absurd (printer e)
+
+-- or from one whose lines of LIMIT are due
+module _ {D K : Type 0} (taken : K → Option (List ℕ)) (known known' : Option (List (List ℕ))) (count n : ℕ) (h : Session) (part : StepResult) (answered : Result Progress Stop) (old new : Machine) (device device' : D) (paper paper' : K) where
+  pub goes_through_limit : Resumes taken known known' count n h part answered old new device device' paper paper' → known ≢ None → Keeps old new → Suffices (length old.cpu.core) count n old.tasks part.session → NoFault answered → IsOk answered
+  goes_through_limit (inl cut) tells keeps ample calm = absurd (calm.1 cut.answer)
+  goes_through_limit (inr g) tells keeps ample calm =
+      goes_through taken known' (known ≢ None) count n part.session answered g.middle new g.printer paper' g.slices tells (keeps.halt ∙ sym g.keeps.halt) still calm
+    where
+      due : (steps : ℕ) → IsToMake n g.middle.tasks steps → IsToMake n old.tasks steps
+      due steps d = record { few = d.few; before_halt = λ j low e. d.before_halt j low (g.keeps.halt ∙ e ∙ ap (λ (made : ℕ). Some (made + j)) (sym g.made)) }
+
+      still : Suffices (length g.middle.cpu.core) count n g.middle.tasks part.session
+      still = record {
+        core_suffices = λ steps words d.
+            subst (λ (core : ℕ). need_next core (after steps part.session) ≡ Some words → words ≤ core) (sym g.keeps.core) (ample.core_suffices steps words (due steps d));
+        sectors_suffice = λ steps sum m t d. ample.sectors_suffice steps sum m t (due steps d);
+      }
+
+-- from each session that the machine represents
+pub completes : {D K : Type 0} (taken : K → Option (List ℕ)) (known known' : Option (List (List ℕ))) (count n : ℕ) (answered : Result Progress Stop) (old new : Machine) (device device' : D) (paper paper' : K)
+    → ((s : Session) → StandsAt known old s → Slices taken known' (known ≢ None) count n s answered old new paper paper')
+    → ((h : Session) (part : StepResult) → IsLimited known old h part → Resumes taken known known' count n h part answered old new device device' paper paper')
+    → Keeps old new → known ≢ None → (s : Session) → SetsOut known old s → Suffices (length old.cpu.core) count n old.tasks s → NoFault answered → IsOk answered
+completes taken known known' count n answered old new device device' paper paper' row resumed keeps tells s (at_once stands) ample calm =
+    goes_through taken known' (known ≢ None) count n s answered old new paper paper' (row s stands) tells keeps.halt ample calm
+completes taken known known' count n answered old new device device' paper paper' row resumed keeps tells s (after_limit h part l e) ample calm =
+    goes_through_limit taken known known' count n h part answered old new device device' paper paper' (resumed h part l) tells keeps
+    (subst (Suffices (length old.cpu.core) count n old.tasks) (sym e) ample) calm

@@ -1,0 +1,27 @@
+-- When core and device suffice for the steps of a slice.
+use Rattle.std.specs.Prelude.{◌≡◌, ◌≢◌, ℕ, ◌+◌, ◌<◌, ◌≤◌, List, Option, Some}
+use Rattle.b67_model.specs.State.{Task, SessionJob}
+use Rattle.b67_model.specs.Need.{need_next}
+use Rattle.b67_model.specs.Run.{StepResult, after}
+use Rattle.b67_model.specs.Schedule.{Session}
+use Rattle.b67_law_turns.specs.Turns.{IsNext}
+use Rattle.b67_task_tables.specs.declared.tables.Tasks.{Tasks}
+use Rattle.b67_task_tables.specs.declared.tables.Machine.{Machine}
+use Rattle.b67_session_attempt.specs.Attempts.{TakesSectors}
+use Rattle.b67_session_ends.specs.Machines.{StandsAt, IsLimited}
+
+-- the machine represents the session whose steps a slice makes: at once, or when the lines of LIMIT that are due are printed
+pub data SetsOut (known : Option (List (List ℕ))) (k : Machine) (s : Session) : Type 0 where
+  at_once : StandsAt known k s → SetsOut known k s
+  after_limit : (h : Session) (part : StepResult) → IsLimited known k h part → part.session ≡ s → SetsOut known k s
+
+-- a slice of n steps is to make one more after so many: they are fewer than n, and no count up to there is the halt's
+pub record IsToMake (n : ℕ) (tasks : Tasks) (steps : ℕ) : Type 0 where
+  pub few : steps < n
+  pub before_halt : (j : ℕ) → j ≤ steps → tasks.halt ≢ Some (tasks.made + j)
+
+-- Core has the words that each step needs which a slice of n steps is to make. The device has the sectors that the session
+-- before it takes, and if it makes an array longer those that the session takes then.
+pub record Suffices (core sectors n : ℕ) (tasks : Tasks) (first : Session) : Type 0 where
+  pub core_suffices : (steps words : ℕ) → IsToMake n tasks steps → need_next core (after steps first) ≡ Some words → words ≤ core
+  pub sectors_suffice : (steps sum : ℕ) (m : SessionJob) (t : Task) → IsToMake n tasks steps → IsNext (after steps first) m t → TakesSectors (after steps first) m t sum → sum ≤ sectors
