@@ -10,6 +10,7 @@ use Rattle.b67_stack.specs.MachineView.{MachineView, NoOriginalAboveTop}
 use Rattle.b67_stack.specs.Represents.{Storage, Represents}
 use Rattle.b67_layout_storage.specs.Machine as storage
 use Rattle.b67_layout_storage.specs.Machine.{Says, content_after, Stayed}
+use Rattle.b67_overlay.specs.Spans.{MachineCanPage}
 use Rattle.b67_layout_storage.proofs.Devices.{says_of}
 use Rattle.b67_layout.specs.Placement.{Placement}
 use Rattle.b67_layout.specs.Layout.{machine_view}
@@ -43,7 +44,7 @@ not_silent x told k plan s n h = record {
 
 -- what its view says of it
 pub view_stands : (x : Storage) (told : Option (List (List ℕ))) (k : Machine) (plan : Placement) (s : Session) → StandsOver x told k plan s
-    → storage.MachineRepresentsView x k.cpu k.areas k.sectors told (machine_view plan s.jobs)
+    → MachineCanPage x k.cpu k.areas k.sectors told (machine_view plan s.jobs)
 view_stands x told k plan s h = record { stands = h.stands.session.holds.memory; low = h.stands.storage.low; shelf = h.stands.storage.shelf; device = h.says }
 
 -- what a storage says that said something, and nothing otherwise
@@ -58,7 +59,7 @@ machine_of cpu areas table tasks = record { cpu = cpu; areas = areas; sectors = 
 
 module _ (x y : Storage) (told now : Option (List (List ℕ))) (k : Machine) (plan : Placement) (s : Session) (h : StandsOver x told k plan s) (cpu : Cpu) (areas : Areas) (table : Table)
     (rest : cpu ≡ record k.cpu { core = cpu.core }) (len : length cpu.core ≡ length k.cpu.core) (same_areas : areas ≡ k.areas) (stayed : Stayed (machine_view plan s.jobs) k.cpu.core cpu.core)
-    (q : MachineView) (sees : Sees x plan s.jobs q) (m : storage.MachineRepresentsView y cpu areas table now q) (untold : x.device ≡ None → y.device ≡ None) (tells : x.device ≢ None → y.device ≢ None) where
+    (q : MachineView) (sees : Sees x plan s.jobs q) (m : MachineCanPage y cpu areas table now q) (untold : x.device ≡ None → y.device ≡ None) (tells : x.device ≢ None → y.device ≢ None) where
   regs : cpu.regs ≡ k.cpu.regs
   regs = ap (λ (c : Cpu). c.regs) rest
 

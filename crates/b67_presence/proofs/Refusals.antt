@@ -15,6 +15,7 @@ use Rattle.b67_stack.specs.MachineView.{PagedObject}
 use Rattle.b67_stack.specs.Represents.{Storage}
 use Rattle.b67_layout_storage.specs.Machine as storage
 use Rattle.b67_layout_storage.specs.Machine.{IsAbsent, HasHole, Stayed}
+use Rattle.b67_overlay.specs.Spans.{MachineCanPage}
 use Rattle.b67_layout_storage.proofs.Helds.{held-other}
 use Rattle.b67_layout_storage.proofs.Below.{Stayed-none}
 use Rattle.b67_overlay.specs.AreasEvicted.{AreasEvicted, IsShortBy}
@@ -80,7 +81,7 @@ module _ (x : Storage) (told now : Option (List (List ℕ))) (k : Machine) (plan
 
   -- where a hole had room
   pub stays_in : (home : ℕ) (t : PagedObject) → IsAbsent x (machine_view plan s.jobs) home t → (r : Result (Unit {0}) SpaceFault) → OnOk r (IsReadable x (machine_view plan s.jobs) → ReadIn x (machine_view plan s.jobs) t cpu areas table now)
-      → OnErr r (storage.MachineRepresentsView x cpu areas table now (machine_view plan s.jobs)) → StaysIn x now (machine_of cpu areas table k.tasks) plan s
+      → OnErr r (MachineCanPage x cpu areas table now (machine_view plan s.jobs)) → StaysIn x now (machine_of cpu areas table k.tasks) plan s
   stays_in home t b (Ok u) ok err =
       let w = ok (readable x plan s o) in
       let a = read_again x told now k plan s o h cpu areas table rest len same_areas stayed t b.there w in
