@@ -1,15 +1,15 @@
 -- Who lives in each slot of a session, with the slots of the parents, and where its dictionaries lie.
-use Rattle.std.proofs.Common.{◌≡◌, ◌≢◌, ℕ, ◌+◌, ◌*◌, ◌<◌, ◌≤◌, ◌^◌, Bool, true, false, List, [], ◌∷◌, map, length, Option, Some, None, refl, sym, ◌∙◌, ap, arith, inl, inr, ◌⊎◌, ⊎_elim, subst}
+use Rattle.std.proofs.Common.{◌≡◌, ◌≢◌, ℕ, ◌+◌, ◌<◌, ◌≤◌, List, [], ◌∷◌, map, length, Option, Some, None, refl, sym, ◌∙◌, ap, arith, inl, inr, ◌⊎◌, subst}
 use Rattle.std.specs.Prelude.{nat_lt, ◌==◌}
 use Rattle.std.specs.List.{slice_get}
-use Rattle.std.proofs.lemmas.Bool.{cases_eq, cases_lt, cond-true, cond-false, lt-ltb, le-ltb, eq-eqb, eqb-true, true≢false}
+use Rattle.std.proofs.lemmas.Bool.{cond-true, cond-false, lt-ltb, le-ltb, eq-eqb, eqb-true}
 use Rattle.std.proofs.lemmas.List.{length-map}
 use Rattle.std.proofs.lemmas.Option.{same_Some, none-some}
-use Rattle.b67_word.specs.Tagged.{Tagged, word}
+use Rattle.b67_word.specs.Tagged.{Tagged}
 use Rattle.b67_lemmas.specs.Lists.{Has, Falls}
-use Rattle.b67_lemmas.proofs.Members.{all_in, falls_low, falls_same, falls_short, has_map, keyed_falls, keyed_has, found-has}
+use Rattle.b67_lemmas.proofs.Members.{all_in, falls_short, has_map, keyed_falls, keyed_has}
 use Rattle.b67_model.specs.Keyed.{keyed}
-use Rattle.b67_model.specs.State.{Task, Job, SessionJob}
+use Rattle.b67_model.specs.State.{Task, SessionJob}
 use Rattle.b67_model.specs.Run.{number_of}
 use Rattle.b67_model.specs.Schedule.{Session}
 use Rattle.b67_model.specs.InOrder.{IsSegment, NumberedFrom, BirthInOrder, TaskInOrder, TasksInOrder}
@@ -20,8 +20,8 @@ use Rattle.b67_layout.specs.Layout.{machine_view}
 use Rattle.b67_layout.specs.Session.{RowsFit, DictionariesFollow, PlanFits, RepresentsDictionary, RepresentsVector, vector_word}
 use Rattle.b67_layout.proofs.Fresh.{job_in_order}
 use Rattle.b67_layout.proofs.Rows.{task_row, slot_below, finds}
-use Rattle.b67_layout.proofs.Sessions.{dictionary_above, follow-up}
-use Rattle.b67_overlay.specs.Spans.{Kin, Families, parent_field, kin_word, LineStands, KinFits, DictionariesLie, ShowsFamilies, job_at}
+use Rattle.b67_layout.proofs.Sessions.{dictionary_above}
+use Rattle.b67_overlay.specs.Spans.{Kin, Families, kin_word, LineStands, KinFits, DictionariesLie, ShowsFamilies, job_at}
 
 -- a task's job and the slots of its parents
 abbrev pub kin_of : Placement → ℕ → Task → Kin

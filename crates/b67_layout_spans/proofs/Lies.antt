@@ -1,24 +1,23 @@
 -- Where copies lie: each copy on a task's stack is in the span of its array.
-use Rattle.std.proofs.Common.{◌≡◌, ◌≢◌, ℕ, suc, ◌+◌, ◌<◌, ◌≤◌, Bool, true, false, List, [], ◌∷◌, ◌++◌, map, length, reverse, Option, Some, None, refl, sym, ◌∙◌, ap, arith, length-append, inl, inr, ◌⊎◌, ⊎_elim, subst}
-use Rattle.std.specs.Prelude.{nat_lt, ◌==◌}
+use Rattle.std.proofs.Common.{◌≡◌, ◌≢◌, ℕ, suc, ◌+◌, ◌<◌, ◌≤◌, true, false, List, [], ◌∷◌, ◌++◌, map, length, reverse, Option, Some, refl, sym, ◌∙◌, ap, arith, length-append, inl, inr, ◌⊎◌, ⊎_elim, subst}
 use Rattle.std.specs.List.{list_any, AllByRecursion}
-use Rattle.std.proofs.lemmas.Bool.{cases_eq, cases_lt, eq-eqb, lt-ltb, le-ltb}
-use Rattle.std.proofs.lemmas.List.{length-map, length-reverse}
+use Rattle.std.proofs.lemmas.Bool.{cases_eq, cases_lt, eq-eqb}
+use Rattle.std.proofs.lemmas.List.{length-reverse}
 use Rattle.b67_word.specs.Tagged.{Tagged}
 use Rattle.b67_ctl.specs.declared.registers.Regs.{Regs}
 use Rattle.b67_lemmas.specs.Lists.{Has, how_many}
-use Rattle.b67_lemmas.proofs.Members.{all_in, any_some, falls_low, falls_same, has_append_cases, has_append_left, has_map, has_map_back, has_reverse, keyed_falls}
+use Rattle.b67_lemmas.proofs.Members.{any_some, falls_low, falls_same, has_append_cases, has_append_left, has_map, has_map_back, has_reverse, keyed_falls}
 use Rattle.b67_model.specs.Words as Words
 use Rattle.b67_model.specs.Words.{Word, Operand, Name, Ref, Row, Element, Original, Proc, Intrinsic}
-use Rattle.b67_model.specs.State.{Frame, Standing, Array, Task, Job, SessionJob}
+use Rattle.b67_model.specs.State.{Frame, Task, Job, SessionJob}
 use Rattle.b67_model.specs.Schedule.{Session}
-use Rattle.b67_model.specs.InOrder.{Starts, IsSegment, Known, known_of, outer_of, identities, NamesArray, WordInOrder, CopiesAbove, NoCopyUnder, is_copy_of, FramesInOrder, TaskInOrder, TasksInOrder}
+use Rattle.b67_model.specs.InOrder.{IsSegment, Known, known_of, outer_of, identities, NamesArray, WordInOrder, CopiesAbove, NoCopyUnder, is_copy_of, FramesInOrder, TasksInOrder}
 use Rattle.b67_law_order.proofs.Looks.{above_one}
 use Rattle.b67_law_order.proofs.Numbered.{keyed_member}
 use Rattle.b67_stack.specs.Shapes as Shapes
 use Rattle.b67_stack.specs.Shapes.{Shape, Copied, Fits, LieDownward}
 use Rattle.b67_stack.specs.Stacks.{StackPlace, Head, Marked, Entered, Activation, stack_words, headed, words}
-use Rattle.b67_stack.specs.MachineView.{MachineView, Slot, Free, Running, Waiting, stack_of, slot_base, SlotFits}
+use Rattle.b67_stack.specs.MachineView.{MachineView, stack_of, slot_base}
 use Rattle.b67_stack.specs.Represents.{Storage, Represents}
 use Rattle.b67_stack.proofs.Bases.{base-apart}
 use Rattle.b67_stack.proofs.Heights.{words-length}
@@ -34,10 +33,10 @@ use Rattle.b67_layout.proofs.Sessions.{follow-up}
 use Rattle.b67_layout_leave.proofs.Originals.{lies_at, original_word, InFrame, original_of, entry_number}
 use Rattle.b67_layout_leave.proofs.Settles.{stack_in_slot}
 use Rattle.b67_overlay.specs.declared.spans.Span.{Span}
-use Rattle.b67_overlay.specs.Spans.{Kin, Families, job_at, holds, span_of, up_from, whole, InSpan, ShapeInSpan, CopiesInSpans}
+use Rattle.b67_overlay.specs.Spans.{Families, holds, span_of, up_from, whole, InSpan, ShapeInSpan, CopiesInSpans}
 use Rattle.b67_overlay.proofs.Families.{is_held, not_held_under, not_held_over, span_in_job, span_in_own, span_in_parent}
-use Rattle.b67_layout_spans.proofs.Kins.{kin_of, families, kin_there, parents_fall, task_order, job_found, Lives, lives_or}
-use Rattle.b67_layout_spans.proofs.Lines.{Above, outer_owned, one_task, frame_is, frame_named}
+use Rattle.b67_layout_spans.proofs.Kins.{kin_of, families, kin_there, parents_fall, task_order, job_found, lives_or}
+use Rattle.b67_layout_spans.proofs.Lines.{outer_owned, one_task, frame_is, frame_named}
 
 dictionary_under : (plan : Placement) (at : ℕ) (ms : List SessionJob) (y : SessionJob) → DictionariesFollow plan at ms → Has ms y → plan.dictionary y.constants.number + (2 + length y.constants.dictionary.cells) ≤ plan.stacks
 dictionary_under plan at [] y d h = absurd h
@@ -143,7 +142,7 @@ module _ (x : Storage) (core : List Tagged) (r : Regs) (plan : Placement) (s : S
         any_some (holds p (plan.home j a)) (map (slot_of plan j) t.parents) l (has_map (slot_of plan j) t.parents u.number above) (is_held p (plan.home j a) l (omega (arith, h.0)) h.1) in
         rw in_place (span_in_parent f p (plan.home j a) k (kin_of plan j t) (omega (arith, h.0)) not_own some)
 
-    top : ℕ
+    abbrev top : ℕ
     top = slot_base p k + stack_words (stack_of (p.slots k)) + 1
 
     -- a copy of a named array, of which the original lies under the copy if it is in one of these frames

@@ -1,12 +1,12 @@
 -- Whose array a word may name: one of a dictionary, of a frame of its own task at or under its own, or of a task above.
-use Rattle.std.proofs.Common.{◌≡◌, ◌≢◌, ℕ, ◌+◌, ◌<◌, ◌≤◌, Bool, true, false, List, [], ◌∷◌, ◌++◌, map, Option, Some, None, refl, sym, ◌∙◌, ap, arith, inl, inr, ◌⊎◌, ⊎_elim, subst}
+use Rattle.std.proofs.Common.{◌≡◌, ◌≢◌, ℕ, ◌+◌, ◌≤◌, List, [], ◌∷◌, map, Option, Some, None, refl, sym, ◌∙◌, ap, arith, inl, inr, ◌⊎◌, subst}
 use Rattle.std.proofs.lemmas.Bool.{eq-eqb}
 use Rattle.std.proofs.lemmas.Bool.Decides.{eqb_tells}
-use Rattle.b67_lemmas.specs.Lists.{Has, total, how_many}
+use Rattle.b67_lemmas.specs.Lists.{Has, total}
 use Rattle.b67_lemmas.proofs.Members.{has_append_cases, has_map, has_map_back, keyed_has, total_has}
 use Rattle.b67_model.specs.Keyed.{keyed}
 use Rattle.b67_model.specs.State.{Frame, Standing, Task, JobConstants, Job}
-use Rattle.b67_model.specs.InOrder.{Starts, Known, known_of, from_frame, frames_of_task, critical_of, base, outer_reach, outer_of, identities, TasksInOrder, frames_named, frames_in_job}
+use Rattle.b67_model.specs.InOrder.{Starts, Known, known_of, from_frame, frames_of_task, critical_of, outer_reach, identities, TasksInOrder, frames_named}
 
 from_has : (c : ℕ) (fs : List Frame) (f : Frame) → Has (from_frame c fs) f → Has fs f
 from_has c [] f h = h
@@ -69,18 +69,18 @@ module _ (P : Starts) (constants : JobConstants) (job : Job) (o : TasksInOrder P
   one_frame : (t : Task) → Has job.tasks t → (id : ℕ) → frames_named id t.frames ≤ 1
   one_frame t h id = omega (arith, total_has (λ (v : Task). frames_named id v.frames) job.tasks t h, o.apart id)
 
-  pub same_frame : (t : Task) → Has job.tasks t → (fs : List Frame) (f g : Frame) → (id : ℕ) → frames_named id fs ≤ 1 → Has fs f → Has fs g → f.identity ≡ id → g.identity ≡ id → f ≡ g
-  same_frame t h [] f g id one hf hg ef eg = absurd hf
-  same_frame t h (e ∷ more) f g id one (inl a) (inl b) ef eg = sym a ∙ b
-  same_frame t h (e ∷ more) f g id one (inl a) (inr b) ef eg =
-      absurd (twice e more g (ap (λ (z : Frame). z.identity) a ∙ ef) one b eg) where
-        twice : (e : Frame) (more : List Frame) (g : Frame) → e.identity ≡ id → frames_named id (e ∷ more) ≤ 1 → Has more g → g.identity ≡ id → ⊥
-        twice e more g is one b eg =
-            let under = counted id more (subst (Has (identities more)) eg (frame_named more g b)) in
-            let here : frames_named id (e ∷ more) ≡ 1 + frames_named id more = rw (eq-eqb e.identity id is) refl in
-            omega (arith, under, here, one)
-  same_frame t h (e ∷ more) f g id one (inr a) (inl b) ef eg = sym (same_frame t h (e ∷ more) g f id one (inl b) (inr a) eg ef)
-  same_frame t h (e ∷ more) f g id one (inr a) (inr b) ef eg = same_frame t h more f g id (omega arith) a b ef eg
+  twice : (id : ℕ) (e : Frame) (more : List Frame) (g : Frame) → e.identity ≡ id → frames_named id (e ∷ more) ≤ 1 → Has more g → g.identity ≡ id → ⊥
+  twice id e more g is one b eg =
+      let under = counted id more (subst (Has (identities more)) eg (frame_named more g b)) in
+      let here : frames_named id (e ∷ more) ≡ 1 + frames_named id more = rw (eq-eqb e.identity id is) refl in
+      omega (arith, under, here, one)
+
+  same_frame : (fs : List Frame) (f g : Frame) (id : ℕ) → frames_named id fs ≤ 1 → Has fs f → Has fs g → f.identity ≡ id → g.identity ≡ id → f ≡ g
+  same_frame [] f g id one hf hg ef eg = absurd hf
+  same_frame (e ∷ more) f g id one (inl a) (inl b) ef eg = sym a ∙ b
+  same_frame (e ∷ more) f g id one (inl a) (inr b) ef eg = absurd (twice id e more g (ap (λ (z : Frame). z.identity) a ∙ ef) one b eg)
+  same_frame (e ∷ more) f g id one (inr a) (inl b) ef eg = absurd (twice id e more f (ap (λ (z : Frame). z.identity) b ∙ eg) one a ef)
+  same_frame (e ∷ more) f g id one (inr a) (inr b) ef eg = same_frame more f g id (omega arith) a b ef eg
 
   pub frame_is : (t : Task) → Has job.tasks t → (f g : Frame) → Has t.frames f → Has t.frames g → f.identity ≡ g.identity → f ≡ g
-  frame_is t h f g hf hg e = same_frame t h t.frames f g g.identity (one_frame t h g.identity) hf hg e refl
+  frame_is t h f g hf hg e = same_frame t.frames f g g.identity (one_frame t h g.identity) hf hg e refl

@@ -16,7 +16,7 @@ use Rattle.b67_model.specs.Schedule.{Session}
 use Rattle.b67_stack.specs.declared.Cpu.{Cpu}
 use Rattle.b67_stack.specs.MachineView.{PagedObject, MachineView}
 use Rattle.b67_stack.specs.Represents.{Storage, KeptChain, Content}
-use Rattle.b67_overlay.specs.Spans.{MachineCanPage}
+use Rattle.b67_layout_storage.specs.Machine.{MachineRepresentsView}
 use Rattle.b67_overlay.specs.AreasEvicted.{IsShortBy}
 use Rattle.b67_layout.specs.Placement.{Placement}
 use Rattle.b67_layout.specs.Layout.{array_object, code_objects, objects_of, machine_view}
@@ -41,7 +41,7 @@ content_few x core t None f z (inr e) = rw (e.0, z) (omega arith)
 
 -- the objects of a view take more sectors than there are
 pub short : (x : Storage) (cpu : Cpu) (areas : Areas) (table : Table) (told : Option (List (List ℕ))) (p : MachineView) (wants free : ℕ)
-    → MachineCanPage x cpu areas table told p → IsShortBy x p wants free → length table.links ≤ total sectors_of_object p.objects
+    → MachineRepresentsView x cpu areas table told p → IsShortBy x p wants free → length table.links ≤ total sectors_of_object p.objects
 short x cpu areas table told p wants free m w =
     let o = m.stands.owned in
     let c : PagedObject → ℕ = λ u. (x.held u.home).chain in
@@ -76,7 +76,7 @@ session_total plan jobs =
     ∙ sym (sum_total sectors_of jobs)
 
 -- and never more than those that are free and the session's
-pub within : (x : Storage) (cpu : Cpu) (areas : Areas) (table : Table) (told : Option (List (List ℕ))) (plan : Placement) (s : Session) → MachineCanPage x cpu areas table told (machine_view plan s.jobs)
+pub within : (x : Storage) (cpu : Cpu) (areas : Areas) (table : Table) (told : Option (List (List ℕ))) (plan : Placement) (s : Session) → MachineRepresentsView x cpu areas table told (machine_view plan s.jobs)
     → length table.links ≤ length x.shelf.free + sectors s.jobs + 1
 within x cpu areas table told plan s m =
     let p : MachineView = machine_view plan s.jobs in

@@ -6,7 +6,7 @@ use Rattle.b67_model.specs.Sectors.{sectors}
 use Rattle.b67_model.specs.Schedule.{Session}
 use Rattle.b67_stack.specs.declared.Cpu.{Cpu}
 use Rattle.b67_stack.specs.Represents.{Storage}
-use Rattle.b67_overlay.specs.Spans.{MachineCanPage}
+use Rattle.b67_layout_storage.specs.Machine.{MachineRepresentsView}
 use Rattle.b67_overlay.specs.AreasEvicted.{IsShortBy}
 use Rattle.b67_layout.specs.Placement.{Placement}
 use Rattle.b67_layout.specs.Layout.{machine_view}
@@ -16,5 +16,5 @@ use Rattle.b67_layout.specs.Layout.{machine_view}
 abbrev pub ShortIsFull : Type 0
 ShortIsFull =
     (x : Storage) (cpu : Cpu) (areas : Areas) (table : Table) (told : Option (List (List ℕ))) (plan : Placement) (s : Session) (wants free size : ℕ)
-    → MachineCanPage x cpu areas table told (machine_view plan s.jobs) → IsShortBy x (machine_view plan s.jobs) wants free
+    → MachineRepresentsView x cpu areas table told (machine_view plan s.jobs) → IsShortBy x (machine_view plan s.jobs) wants free
     → size + 1 ≡ length table.links → size < sectors s.jobs
