@@ -16,6 +16,7 @@ use Rattle.b67_stack.specs.Shapes.{Location}
 use Rattle.b67_stack.specs.MachineView.{PagedObject, MachineView}
 use Rattle.b67_stack.specs.Represents.{Storage, Represents, info_of}
 use Rattle.b67_layout_storage.specs.Machine.{IsAbsent, IsPresent, HasHole, AreBits, Stayed}
+use Rattle.b67_layout_storage.proofs.Untold.{untold, Represents-untold}
 use Rattle.b67_overlay.specs.Spans.{MachineCanPage}
 use Rattle.b67_layout_storage.proofs.Helds.{held-same, held-other}
 use Rattle.b67_layout_storage.proofs.Renumbered.{renumbered-same, kept_there, Stayed-renumbered}
@@ -48,6 +49,10 @@ readable_on x y p q t r none k = ⊎_elim
 -- the same words stay, whichever numbers were read
 pub Stayed-read : (x : Storage) (p q : MachineView) (t : PagedObject) → ReadBack x p q t → (core new : List Tagged) → Stayed q core new → Stayed p core new
 Stayed-read x p q t r core new s = let P : MachineView → Type 0 = λ z. Stayed z core new in Stayed-renumbered p t.home r.numbers core new (subst P r.is s)
+
+-- paging over a storage that says nothing of the device
+pub paging_untold : (x : Storage) (cpu : Cpu) (areas : Areas) (table : Table) (told : Option (List (List ℕ))) (p : MachineView) → MachineCanPage x cpu areas table told p → MachineCanPage (untold x) cpu areas table told p
+paging_untold x cpu areas table told p m = record { stands = Represents-untold x cpu.core cpu.regs p m.stands; low = m.low; shelf = m.shelf; device = tt; copies = m.copies }
 
 module _ (x : Storage) (cpu : Cpu) (areas : Areas) (table : Table) (told : Option (List (List ℕ))) (p : MachineView) (home code spare : ℕ) (t c : PagedObject) (m : MachineCanPage x cpu areas table told p) (a : IsAbsent x p home t) (k : IsCode x p code spare c) where
   pub differ : c.home ≢ t.home

@@ -132,6 +132,23 @@ freed c x told p t m a b k is =
     let F : List Tagged → ℕ → Type 0 = λ core n. Freed n area x.spans core c.free.new.core in
     subst (λ (core : List Tagged). F core x.low) is (subst (F c.set.new.self) m.low fr)
 
+pub set-requires : goal.set-requires
+set-requires c =
+    let (x, told, p, t, m, a) = c.requires in
+    let hd = hidden (goal.at.set-requires c).Then-original x told p t c.search_copies.new.cpu.core m a (λ x p t s k i e. c.search_copies.ensures.searched x p t s k i e) in
+    omega (arith, hd.size, (m.stands.slots.laid.homes t a.there).1, a.is, m.stands.inside)
+
+pub returns-then-original-clause-keeps : goal.returns-then-original-clause-keeps
+returns-then-original-clause-keeps c =
+    let (x, told, p, t, m, a) = c.requires in
+    let hd = hidden (goal.at.returns-then-original-clause-keeps c).Then-original x told p t c.search_copies.new.cpu.core m a (λ x p t s k i e. c.search_copies.ensures.searched x p t s k i e) in
+    record {
+      rest = ap (λ (z : Cpu). record z { core = c.free.new.core }) c.search_copies.ensures.rest;
+      len = c.free.ensures.len ∙ c.set.ensures.len ∙ hd.size;
+      areas = c.free.ensures.same;
+      count = c.give_kept.ensures.count;
+    }
+
 pub returns-then-original-clause-row : goal.returns-then-original-clause-row
 returns-then-original-clause-row c = λ x told p t objects m a re.
     let b = (goal.at.returns-then-original-clause-row c).Then-original in

@@ -4,12 +4,12 @@ use Rattle.b67_ctl.specs.declared.registers.Regs.{Regs}
 use Rattle.b67_stack.specs.declared.Cpu.{Cpu}
 use Rattle.b67_stack.specs.Represents.{Storage, Represents}
 use Rattle.b67_layout_storage.specs.Machine.{IsAbsent}
-use Rattle.b67_layout_storage.proofs.Untold.{untold, Machine-untold}
+use Rattle.b67_layout_storage.proofs.Untold.{untold}
 use Rattle.b67_layout_storage.proofs.Below.{Stayed-then}
 use Rattle.b67_overlay.specs.Overlaid.{overlaid}
 use Rattle.b67_presence_page.specs.Brought.{brought}
 use Rattle.b67_presence_page.specs.Brings.{IsReadable, IsCode}
-use Rattle.b67_presence_page.proofs.Resort.{present_code, no_array, absent_t, readable_y, room_t, room_c, absent_z, readable_z, waits_first, waits_second, both_in, reads_x, Stayed-read}
+use Rattle.b67_presence_page.proofs.Resort.{paging_untold, present_code, no_array, absent_t, readable_y, room_t, room_c, absent_z, readable_z, waits_first, waits_second, both_in, reads_x, Stayed-read}
 use Rattle.b67_presence_page.proofs.bringing.last_resort.Goals as goal
 
 pub discard-requires : goal.discard-requires
@@ -32,7 +32,7 @@ pub page_in_room-requires-in-Ok-clause-machine : goal.page_in_room-requires-in-O
 page_in_room-requires-in-Ok-clause-machine g c =
     let (x', p, t, d, m', a', k', alone, fits) = c.requires.machine in
     let x : Storage = untold x' in
-    let m = Machine-untold x' c.args.cpu.now c.args.areas.now c.args.sectors.now (g.B.Backing.holds c.args.backing.now) p m' in
+    let m = paging_untold x' c.args.cpu.now c.args.areas.now c.args.sectors.now (g.B.Backing.holds c.args.backing.now) p m' in
     let a : IsAbsent x p c.args.home t = record { there = a'.there; is = a'.is; absent = a'.absent } in
     let k : IsCode x p c.args.code c.args.spare d = record { there = k'.there; is = k'.is; kind = k'.kind; present = k'.present } in
     let r : IsReadable x p = inl refl in
@@ -92,7 +92,7 @@ returns-in-Err-clause-outside g c = λ x p t d m a k alone.
 pub returns-in-Ok-clause-outside : goal.returns-in-Ok-clause-outside
 returns-in-Ok-clause-outside g c = λ x' p t d m' a' k' alone.
     let x : Storage = untold x' in
-    let m = Machine-untold x' c.args.cpu.now c.args.areas.now c.args.sectors.now (g.B.Backing.holds c.args.backing.now) p m' in
+    let m = paging_untold x' c.args.cpu.now c.args.areas.now c.args.sectors.now (g.B.Backing.holds c.args.backing.now) p m' in
     let a : IsAbsent x p c.args.home t = record { there = a'.there; is = a'.is; absent = a'.absent } in
     let k : IsCode x p c.args.code c.args.spare d = record { there = k'.there; is = k'.is; kind = k'.kind; present = k'.present } in
     let r : IsReadable x p = inl refl in
