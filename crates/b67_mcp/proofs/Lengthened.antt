@@ -24,7 +24,9 @@ use Rattle.b67_layout.specs.Placement.{Placement}
 use Rattle.b67_layout.specs.Layout.{array_object, objects_of, machine_view}
 use Rattle.b67_layout.specs.Session.{IsRunning}
 use Rattle.b67_layout.specs.Meets.{with_job, area_held}
-use Rattle.b67_layout_storage.specs.Machine.{MachineRepresentsView, IsPresent, PagingKeeps, Says, Stayed, TakesPlace, content_after}
+use Rattle.b67_layout_storage.specs.Machine.{IsPresent, PagingKeeps, Says, Stayed, TakesPlace, content_after}
+use Rattle.b67_overlay.specs.Spans.{MachineCanPage}
+use Rattle.b67_layout_spans.proofs.Sessions.{copies_of, view_of}
 use Rattle.b67_layout_store.proofs.Arrays.{Renumbers}
 use Rattle.b67_exec_cells.proofs.Replaced.{array_object-has}
 use Rattle.b67_presence.proofs.FullDevice.{short_full, within}
@@ -83,8 +85,8 @@ module _ (x : Storage) (told : Option (List (List ℕ))) (k : Machine) (plan : P
   is_present at e = record { there = there; present = e }
 
   -- over what the device tells
-  pub seen_over : (now : Option (List (List ℕ))) → Says told now → MachineRepresentsView x k.cpu k.areas k.sectors now (machine_view plan s.jobs)
-  seen_over now says = record { stands = h.session.holds.memory; low = h.storage.low; shelf = h.storage.shelf; device = subst (λ (d : Option (List (List ℕ))). Says d now) h.storage.device says }
+  pub seen_over : (now : Option (List (List ℕ))) → Says told now → MachineCanPage x k.cpu k.areas k.sectors now (machine_view plan s.jobs)
+  seen_over now says = record { stands = h.session.holds.memory; low = h.storage.low; shelf = h.storage.shelf; device = subst (λ (d : Option (List (List ℕ))). Says d now) h.storage.device says; copies = copies_of x k.cpu plan s o h.session }
 
   few_numbers : (0 < length a.numbers) × (length a.numbers < 2 ^ 16)
   few_numbers = h.session.holds.memory.slots.laid.lengths (array_object plan m.constants.number a) there
@@ -100,7 +102,7 @@ module _ (x : Storage) (told : Option (List (List ℕ))) (k : Machine) (plan : P
   zero_place = takes x told k plan s h m t o runs a among all_zero zeros_renumber (omega (arith, zeros_long, few_numbers.0)) (omega (arith, zeros_long, few_numbers.1))
 
   pub stands_emptied : (cpu : Cpu) (areas : Areas) (table : Table) → PagingKeeps k.cpu cpu k.areas areas k.sectors table → Stayed (machine_view plan s.jobs) k.cpu.core cpu.core
-      → MachineRepresentsView (emptied x (array_object plan m.constants.number a)) cpu areas table told (record (machine_view plan s.jobs) { objects = objects_zeroed })
+      → MachineCanPage (emptied x (array_object plan m.constants.number a)) cpu areas table told (record (machine_view plan s.jobs) { objects = objects_zeroed })
       → MachineRepresents (emptied x (array_object plan m.constants.number a)) told (record { cpu = cpu; areas = areas; sectors = table; tasks = k.tasks }) plan (with_job s m (with_array m.progress.job a.identity all_zero))
   stands_emptied cpu areas table kept stayed view =
       let y : Storage = emptied x (array_object plan m.constants.number a) in
@@ -131,14 +133,14 @@ module _ (x : Storage) (told : Option (List (List ℕ))) (k : Machine) (plan : P
 
     -- the machine with such an array
     stands_by : (y : Storage) (now : Option (List (List ℕ))) (cpu : Cpu) (areas : Areas) (table : Table) → PagingKeeps k.cpu cpu k.areas areas k.sectors table → Stayed (machine_view plan s.jobs) k.cpu.core cpu.core
-        → MachineRepresentsView y cpu areas table now (record (machine_view plan s.jobs) { objects = objects_resized })
+        → MachineCanPage y cpu areas table now (record (machine_view plan s.jobs) { objects = objects_resized })
         → MachineRepresents y y.device (record { cpu = cpu; areas = areas; sectors = table; tasks = k.tasks }) plan (session_resized s m a words)
     stands_by y now cpu areas table kept stayed view =
         stands_renumbered x told k plan s h m t o runs a among (resized words) (resized_renumbers words) y now cpu areas table kept stayed (omega (arith, long, some)) (omega (arith, long, few)) view
 
     -- where it is shorter, or as long
     pub set_shorter : (at count : ℕ) (now : Option (List (List ℕ))) (cpu : Cpu) (areas : Areas) (table : Table) → PagingKeeps k.cpu cpu k.areas areas k.sectors table → Stayed (machine_view plan s.jobs) k.cpu.core cpu.core → Says told now
-        → MachineRepresentsView (shorter x (array_object plan m.constants.number a) at words) cpu areas table told (record (machine_view plan s.jobs) { objects = objects_resized })
+        → MachineCanPage (shorter x (array_object plan m.constants.number a) at words) cpu areas table told (record (machine_view plan s.jobs) { objects = objects_resized })
         → LengthSet (content_after told now) count x plan s m a words (Ok tt) k (record { cpu = cpu; areas = areas; sectors = table; tasks = k.tasks })
     set_shorter at count now cpu areas table kept stayed says view =
         let y : Storage = shorter x (array_object plan m.constants.number a) at words in
@@ -171,7 +173,7 @@ module _ (x : Storage) (told : Option (List (List ℕ))) (k : Machine) (plan : P
       set_longer up (y, others, gone, stands) =
           ((y, subst (λ (d : Option (List (List ℕ))). MachineRepresents y d new plan (session_resized s m a words)) (told_by y others) (stands_by y now cpu areas table kept stayed (stands objects_resized (grown_place up)))), refl)
 
-      left : (y : Storage) → OthersStay x y (plan.home m.constants.number a.identity) now → MachineRepresentsView y cpu areas table now (machine_view plan s.jobs)
+      left : (y : Storage) → OthersStay x y (plan.home m.constants.number a.identity) now → MachineCanPage y cpu areas table now (machine_view plan s.jobs)
           → MachineRepresents y (content_after told now) (record { cpu = cpu; areas = areas; sectors = table; tasks = k.tasks }) plan s
       left y others view = subst (λ (d : Option (List (List ℕ))). MachineRepresents y d new plan s) (told_by y others) (stands_moved x told k plan s h y now cpu areas table kept stayed view)
 
@@ -193,12 +195,13 @@ module _ (x : Storage) (told : Option (List (List ℕ))) (k : Machine) (plan : P
           let S : Stop → Type 0 = λ z. LengthSet (content_after told now) count x plan s m a words (Err z) k new in
           let stands = left y others view in
           let is_sum = sum_of sum before e y (content_after told now) stands sums in
-          let all = within y cpu areas table now plan s view in
+          let plain = view_of y cpu areas table now (machine_view plan s.jobs) view in
+          let all = within y cpu areas table now plan s plain in
           let of_before : sectors_for (length a.numbers) ≡ sectors_for before = ap sectors_for e in
           let of_sum = sums y (content_after told now) plan s o stands in
           let more : sectors_for before ≤ sectors_for words = omega (arith, up) in
           let above : count < sum = ⊎_elim
-          (λ l. (let low = short_full y cpu areas table now plan s wants free count view
+          (λ l. (let low = short_full y cpu areas table now plan s wants free count plain
           (let there' = area_of (area_held y plan m.constants.number a.identity) l.1 in
           record {
             object = array_object plan m.constants.number a;

@@ -25,7 +25,9 @@ use Rattle.b67_layout.proofs.Fresh.{running_in_order}
 use Rattle.b67_layout.proofs.MachineViews.{member-same}
 use Rattle.b67_layout_step.proofs.Alike.{AllAlike}
 use Rattle.b67_layout_step.proofs.Paged.{RepresentsSession-over}
-use Rattle.b67_layout_storage.specs.Machine.{MachineRepresentsView, PagingKeeps, Stayed, TakesPlace}
+use Rattle.b67_layout_storage.specs.Machine.{PagingKeeps, Stayed, TakesPlace}
+use Rattle.b67_overlay.specs.Spans.{MachineCanPage}
+use Rattle.b67_layout_spans.proofs.Sessions.{copies_of}
 use Rattle.b67_layout_storage.proofs.Devices.{says_of}
 use Rattle.b67_layout_storage.proofs.Untold.{untold, Represents-untold}
 use Rattle.b67_layout_store.proofs.Arrays.{Renumbers, slots_same}
@@ -35,8 +37,8 @@ use Rattle.b67_task_tables.specs.Tables.{task_row, job_row, counts_of, TasksShow
 use Rattle.b67_mcp.proofs.Tables.{WaitsThere, jobs_kept, tables_after}
 
 -- what its view says of a machine
-pub seen : (x : Storage) (told : Option (List (List ℕ))) (k : Machine) (plan : Placement) (s : Session) → MachineRepresents x told k plan s → MachineRepresentsView x k.cpu k.areas k.sectors told (machine_view plan s.jobs)
-seen x told k plan s h = record { stands = h.session.holds.memory; low = h.storage.low; shelf = h.storage.shelf; device = says_of x.device told h.storage.device }
+pub seen : (x : Storage) (told : Option (List (List ℕ))) (k : Machine) (plan : Placement) (s : Session) → IsInOrderButCounts s → MachineRepresents x told k plan s → MachineCanPage x k.cpu k.areas k.sectors told (machine_view plan s.jobs)
+seen x told k plan s o h = record { stands = h.session.holds.memory; low = h.storage.low; shelf = h.storage.shelf; device = says_of x.device told h.storage.device; copies = copies_of x k.cpu plan s o h.session }
 
 same_jobs : (ms : List SessionJob) → AllAlike ms ms
 same_jobs [] = tt
@@ -103,7 +105,7 @@ module _ (x : Storage) (told : Option (List (List ℕ))) (k : Machine) (plan : P
   module _ (y : Storage) (now : Option (List (List ℕ))) (cpu : Cpu) (areas : Areas) (table : Table) (kept : PagingKeeps k.cpu cpu k.areas areas k.sectors table) (stayed : Stayed (machine_view plan s.jobs) k.cpu.core cpu.core) where
     -- the machine over what its storage says
     pub stands_renumbered : 0 < length (f a).numbers → length (f a).numbers < 2 ^ 16
-        → MachineRepresentsView y cpu areas table now (record (machine_view plan s.jobs) { objects = flat_map (objects_of plan) (with_job s m (with_array m.progress.job a.identity f)).jobs })
+        → MachineCanPage y cpu areas table now (record (machine_view plan s.jobs) { objects = flat_map (objects_of plan) (with_job s m (with_array m.progress.job a.identity f)).jobs })
         → MachineRepresents y y.device (record { cpu = cpu; areas = areas; sectors = table; tasks = k.tasks }) plan (with_job s m (with_array m.progress.job a.identity f))
     stands_renumbered some few view =
         let P : Regs → MachineView → Type 0 = λ r p. Represents y cpu.core r p in
@@ -120,7 +122,7 @@ module _ (x : Storage) (told : Option (List (List ℕ))) (k : Machine) (plan : P
 -- the same session, where pages alone have moved
 pub stands_moved : (x : Storage) (told : Option (List (List ℕ))) (k : Machine) (plan : Placement) (s : Session) → MachineRepresents x told k plan s
     → (y : Storage) (now : Option (List (List ℕ))) (cpu : Cpu) (areas : Areas) (table : Table) → PagingKeeps k.cpu cpu k.areas areas k.sectors table → Stayed (machine_view plan s.jobs) k.cpu.core cpu.core
-    → MachineRepresentsView y cpu areas table now (machine_view plan s.jobs) → MachineRepresents y y.device (record { cpu = cpu; areas = areas; sectors = table; tasks = k.tasks }) plan s
+    → MachineCanPage y cpu areas table now (machine_view plan s.jobs) → MachineRepresents y y.device (record { cpu = cpu; areas = areas; sectors = table; tasks = k.tasks }) plan s
 stands_moved x told k plan s h y now cpu areas table kept stayed view =
     let P : Regs → Type 0 = λ r. Represents y cpu.core r (machine_view plan s.jobs) in
     let regs : cpu.regs ≡ k.cpu.regs = ap (λ (c : Cpu). c.regs) kept.rest in

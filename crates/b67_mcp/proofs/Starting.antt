@@ -16,10 +16,12 @@ use Rattle.b67_model.specs.Need.{touched_of, started_by, need}
 use Rattle.b67_model.specs.Rows.{step}
 use Rattle.b67_model.specs.Sectors.{sectors}
 use Rattle.b67_model.specs.Schedule.{Session}
+use Rattle.b67_layout_storage.specs.Machine.{MachineRepresentsView}
+use Rattle.b67_layout_storage.proofs.Devices.{says_of}
 use Rattle.b67_layout.specs.Orders.{IsInOrderButCounts}
 use Rattle.b67_stack.specs.MachineView.{PagedObject}
 use Rattle.b67_stack.specs.Represents.{Storage, Content, KeptChain}
-use Rattle.b67_layout.specs.Layout.{array_object}
+use Rattle.b67_layout.specs.Layout.{array_object, machine_view}
 use Rattle.b67_layout.specs.Placement.{Placement}
 use Rattle.b67_layout.specs.Session.{IsRunning}
 use Rattle.b67_layout.specs.Meets.{here, area_held}
@@ -39,7 +41,6 @@ use Rattle.b67_mcp.specs.declared.ends.Stop.{Stop}
 use Rattle.b67_mcp.specs.declared.ends.Stop.TheVariants as stops
 use Rattle.b67_mcp.proofs.Callings.{Calling}
 use Rattle.b67_mcp.proofs.Lengthened.{area_of}
-use Rattle.b67_mcp.proofs.Renumbered.{seen}
 use Rattle.b67_mcp.proofs.Present.{faults_untouched, made_untouched}
 use Rattle.b67_mcp.proofs.Space.{has_space}
 
@@ -55,7 +56,7 @@ short_of y told k plan s wants free count h w links =
     let object : PagedObject = array_object plan w.member.constants.number w.array in
     let there = array_object-has plan s.jobs w.member w.array w.in_session w.among in
     let area = area_of (area_held y plan w.member.constants.number w.array.identity) w.present in
-    let view = seen y told k plan s h in
+    let view : MachineRepresentsView y k.cpu k.areas k.sectors told (machine_view plan s.jobs) = record { stands = h.session.holds.memory; low = h.storage.low; shelf = h.storage.shelf; device = says_of y.device told h.storage.device } in
     let C : Option ℕ → Type 0 = λ a. Content y k.cpu.core object a (y.held object.home).chain in
     let content = subst C area.1 (view.stands.objects object there).content in
     short_full y k.cpu k.areas k.sectors told plan s wants free count view (record {

@@ -19,7 +19,8 @@ use Rattle.b67_ctl.specs.declared.registers.Regs.{Regs}
 use Rattle.b67_stack.specs.Shapes.{Location}
 use Rattle.b67_stack.specs.MachineView.{PagedObject, MachineView, slot_base, home_word_of, words_of, tag_of}
 use Rattle.b67_stack.specs.Represents.{Storage, Represents, HoldsIn, Content, Told, info_of}
-use Rattle.b67_layout_storage.specs.Machine.{MachineRepresentsView, IsPresent, DeviceAfterCalls, TakesPlace, Says, content_after, with_held}
+use Rattle.b67_layout_storage.specs.Machine.{IsPresent, DeviceAfterCalls, TakesPlace, Says, content_after, with_held}
+use Rattle.b67_overlay.specs.Spans.{MachineCanPage}
 use Rattle.b67_layout_storage.proofs.Unchanged.{area_of_object, home_below}
 use Rattle.b67_layout_storage.proofs.Words.{StacksLie-home, original_word}
 use Rattle.b67_layout_storage.proofs.Helds.{held-other, held-same}
@@ -212,12 +213,12 @@ module _ {D : Type 0} (tell : D → Option (List (List ℕ))) (x : Storage) (p :
 
   -- the chain is as before
   pub refused_extend : (fault : SpaceFault) (told : Option (List (List ℕ))) (cpu : Cpu) (t1 t2 : Table) (b1 b2 : D) → Says x.device told → ((all : List (List ℕ)) → told ≡ Some all → (y : List (List ℕ)) × (tell b1 ≡ Some y))
-      → MachineRepresentsView (overlaid x t at (tell b1)) cpu areas t1 (tell b1) p → IsOut (overlaid x t at (tell b1)) t → length t.numbers < words
+      → MachineCanPage (overlaid x t at (tell b1)) cpu areas t1 (tell b1) p → IsOut (overlaid x t at (tell b1)) t → length t.numbers < words
       → ExtendMeets tell b1 b2 t1 t2 (overlaid x t at (tell b1)).shelf ((overlaid x t at (tell b1)).held t.home).chain (length t.numbers) words (Err fault)
       → LengthenMeets x p t words (Err fault) cpu areas t2 (tell b2)
   refused_extend (spaces.BackingFull wants free) told cpu t1 t2 b1 b2 says f m out longer (w, e, less, same, still) =
       let y = overlaid x t at (tell b1) in
-      let M : Table → D → Type 0 = λ z b. MachineRepresentsView y cpu areas z (tell b) p in
+      let M : Table → D → Type 0 = λ z b. MachineCanPage y cpu areas z (tell b) p in
       let O : D → Type 0 = λ b. OthersStay x y t.home (tell b) in
       (y, subst O (sym still) (others_out x t at (tell b1)), subst (λ (z : Table). M z b2) (sym same) (subst (M t1) (sym still) m), (e, less, inr (λ z. omega (arith, out.some, z), omega (arith, w, longer))))
   refused_extend spaces.BackingFault told cpu t1 t2 b1 b2 says f m out longer (room, shelf, same) =
@@ -229,6 +230,7 @@ module _ {D : Type 0} (tell : D → Option (List (List ℕ))) (x : Storage) (p :
           low = m.low;
           shelf = shelf;
           device = Says-retold y.device (tell b1) (tell b2) m.device (λ all is. let k = same.told all is in (k.0, k.1));
+          copies = m.copies;
         },
       )
   refused_extend (spaces.NoCore need size) told cpu t1 t2 b1 b2 says f m out longer e = e

@@ -12,7 +12,8 @@ use Rattle.b67_stack.specs.declared.Cpu.{Cpu}
 use Rattle.b67_stack.specs.Shapes.{nowhere}
 use Rattle.b67_stack.specs.MachineView.{PagedObject, MachineView}
 use Rattle.b67_stack.specs.Represents.{Storage}
-use Rattle.b67_layout_storage.specs.Machine.{MachineRepresentsView, TakesPlace, with_held, content_after}
+use Rattle.b67_layout_storage.specs.Machine.{TakesPlace, with_held, content_after}
+use Rattle.b67_overlay.specs.Spans.{MachineCanPage}
 
 -- an array of a view, by the address of its original
 pub record IsArray (p : MachineView) (home : ℕ) (t : PagedObject) : Type 0 where
@@ -75,9 +76,9 @@ IsLackingFor y t words wants free =
 abbrev pub LengthenMeets : Storage → MachineView → PagedObject → ℕ → Result (Unit {0}) SpaceFault → Cpu → Areas → Table → Option (List (List ℕ)) → Type 0
 LengthenMeets x p t words (Ok done) cpu areas table told =
     (y : Storage) × OthersStay x y t.home told × ((y.held t.home).area ≡ None)
-    × ((objects : List PagedObject) → TakesPlace p.objects objects t (grown_to words t) → MachineRepresentsView y cpu areas table told (record p { objects = objects }))
+    × ((objects : List PagedObject) → TakesPlace p.objects objects t (grown_to words t) → MachineCanPage y cpu areas table told (record p { objects = objects }))
 LengthenMeets x p t words (Err (spaces.BackingFull wants free)) cpu areas table told =
-    (y : Storage) × OthersStay x y t.home told × MachineRepresentsView y cpu areas table told p × IsLackingFor y t words wants free
+    (y : Storage) × OthersStay x y t.home told × MachineCanPage y cpu areas table told p × IsLackingFor y t words wants free
 LengthenMeets x p t words (Err spaces.BackingFault) cpu areas table told =
-    (y : Storage) × OthersStay x y t.home told × MachineRepresentsView y cpu areas table told p
+    (y : Storage) × OthersStay x y t.home told × MachineCanPage y cpu areas table told p
 LengthenMeets x p t words (Err (spaces.NoCore need core)) cpu areas table told = ⊥

@@ -3,7 +3,8 @@
 ghost use Rattle.std.specs.Prelude.{◌≡◌, ℕ, List, Option};
 ghost use Rattle.b67_stack.specs.MachineView.{PagedObject, MachineView};
 ghost use Rattle.b67_stack.specs.Represents.{Storage};
-ghost use Rattle.b67_layout_storage.specs.Machine.{MachineRepresentsView, PagingKeeps, Stayed, TakesPlace};
+ghost use Rattle.b67_layout_storage.specs.Machine.{PagingKeeps, Stayed, TakesPlace};
+ghost use Rattle.b67_overlay.specs.Spans.{MachineCanPage};
 ghost use Rattle.b67_mcp_lengths.specs.Lengths.{IsArray, zeroed, emptied};
 
 use crate::originals::{give_kept, original_at};
@@ -16,11 +17,11 @@ use b67_stack::Cpu;
 /// Makes an array one of zeros that was never touched: its area and its sectors are free, and its copies are absent. The
 /// original at this address stays where it is. No device is called, and only the stacks are searched.
 pub fn empty_array(cpu: &mut Cpu, areas: &mut Areas, sectors: &mut Sectors, home: u32)
-    requires { (x : Storage) × (told : Option (List (List ℕ))) × (p : MachineView) × (t : PagedObject) × MachineRepresentsView x cpu.old areas.old sectors.old told p × IsArray p home t }
+    requires { (x : Storage) × (told : Option (List (List ℕ))) × (p : MachineView) × (t : PagedObject) × MachineCanPage x cpu.old areas.old sectors.old told p × IsArray p home t }
     ensures keeps { PagingKeeps cpu.old cpu.new areas.old areas.new sectors.old sectors.new }
-    ensures row { (x : Storage) (told : Option (List (List ℕ))) (p : MachineView) (t : PagedObject) (objects : List PagedObject) → MachineRepresentsView x cpu.old areas.old sectors.old told p → IsArray p home t
-        → TakesPlace p.objects objects t (zeroed t) → MachineRepresentsView (emptied x t) cpu.new areas.new sectors.new told (record p { objects = objects }) }
-    ensures outside { (x : Storage) (told : Option (List (List ℕ))) (p : MachineView) (t : PagedObject) → MachineRepresentsView x cpu.old areas.old sectors.old told p → IsArray p home t
+    ensures row { (x : Storage) (told : Option (List (List ℕ))) (p : MachineView) (t : PagedObject) (objects : List PagedObject) → MachineCanPage x cpu.old areas.old sectors.old told p → IsArray p home t
+        → TakesPlace p.objects objects t (zeroed t) → MachineCanPage (emptied x t) cpu.new areas.new sectors.new told (record p { objects = objects }) }
+    ensures outside { (x : Storage) (told : Option (List (List ℕ))) (p : MachineView) (t : PagedObject) → MachineCanPage x cpu.old areas.old sectors.old told p → IsArray p home t
         → Stayed p cpu.old.core cpu.new.core }
 {
     let original = original_at(&cpu.core, home);

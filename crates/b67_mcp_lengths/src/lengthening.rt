@@ -5,7 +5,8 @@ ghost use Rattle.b67_io.specs.Causes.{Rose};
 ghost use Rattle.b67_backing.specs.declared.SpaceFault.TheVariants.{BackingFault};
 ghost use Rattle.b67_stack.specs.MachineView.{PagedObject, MachineView};
 ghost use Rattle.b67_stack.specs.Represents.{Storage};
-ghost use Rattle.b67_layout_storage.specs.Machine.{MachineRepresentsView, IsPresent, DeviceAfterCalls, PagingKeeps, Stayed};
+ghost use Rattle.b67_layout_storage.specs.Machine.{IsPresent, DeviceAfterCalls, PagingKeeps, Stayed};
+ghost use Rattle.b67_overlay.specs.Spans.{MachineCanPage};
 ghost use Rattle.b67_mcp_lengths.specs.Lengths.{IsArray, LengthenMeets};
 
 use crate::originals::original_at;
@@ -27,12 +28,12 @@ pub fn lengthen_array<B: Backing>(
     words: u32,
 ) -> Result<(), SpaceFault>
     requires few { words < 2 ^ 16 }
-    requires machine { (x : Storage) × (p : MachineView) × (t : PagedObject) × (at : ℕ) × MachineRepresentsView x cpu.old areas.old sectors.old (B.holds backing.old) p × IsArray p home t × IsPresent x p at t × (length t.numbers < words) }
+    requires machine { (x : Storage) × (p : MachineView) × (t : PagedObject) × (at : ℕ) × MachineCanPage x cpu.old areas.old sectors.old (B.holds backing.old) p × IsArray p home t × IsPresent x p at t × (length t.numbers < words) }
     requires same { B.size backing.old + 1 ≡ length sectors.old.links }
     ensures keeps { PagingKeeps cpu.old cpu.new areas.old areas.new sectors.old sectors.new }
-    ensures row { (x : Storage) (p : MachineView) (t : PagedObject) (at : ℕ) → MachineRepresentsView x cpu.old areas.old sectors.old (B.holds backing.old) p → IsArray p home t → IsPresent x p at t
+    ensures row { (x : Storage) (p : MachineView) (t : PagedObject) (at : ℕ) → MachineCanPage x cpu.old areas.old sectors.old (B.holds backing.old) p → IsArray p home t → IsPresent x p at t
         → LengthenMeets x p t words result cpu.new areas.new sectors.new (B.holds backing.new) }
-    ensures outside { (x : Storage) (p : MachineView) (t : PagedObject) (at : ℕ) → MachineRepresentsView x cpu.old areas.old sectors.old (B.holds backing.old) p → IsArray p home t → IsPresent x p at t
+    ensures outside { (x : Storage) (p : MachineView) (t : PagedObject) (at : ℕ) → MachineCanPage x cpu.old areas.old sectors.old (B.holds backing.old) p → IsArray p home t → IsPresent x p at t
         → Stayed p cpu.old.core cpu.new.core }
     ensures device { DeviceAfterCalls B.holds B.size B.calls B.faults backing.old backing.new }
     ensures cause { result ≡ Err BackingFault → Rose B.faults backing.old backing.new }

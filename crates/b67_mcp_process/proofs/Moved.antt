@@ -8,13 +8,16 @@ use Rattle.b67_model.specs.State.{SessionJob}
 use Rattle.b67_model.specs.Schedule.{Session}
 use Rattle.b67_stack.specs.declared.Cpu.{Cpu}
 use Rattle.b67_stack.specs.Represents.{Storage, Represents}
+use Rattle.b67_layout.specs.Orders.{IsInOrderButCounts}
 use Rattle.b67_layout.specs.Placement.{Placement}
 use Rattle.b67_layout.specs.Layout.{machine_view}
 use Rattle.b67_layout_step.proofs.Alike.{AllAlike}
 use Rattle.b67_layout_step.proofs.Paged.{RepresentsSession-over}
-use Rattle.b67_layout_storage.specs.Machine.{MachineRepresentsView, PagingKeeps, Says, Stayed, content_after}
+use Rattle.b67_layout_storage.specs.Machine.{PagingKeeps, Says, Stayed, content_after}
+use Rattle.b67_overlay.specs.Spans.{MachineCanPage}
 use Rattle.b67_layout_storage.proofs.Untold.{untold, Represents-untold}
 use Rattle.b67_overlay.specs.AreasEvicted.{AreasEvicted}
+use Rattle.b67_layout_spans.proofs.Sessions.{copies_of}
 use Rattle.b67_task_tables.specs.declared.tables.Machine.{Machine}
 use Rattle.b67_task_tables.specs.Tables.{MachineRepresents}
 
@@ -39,11 +42,11 @@ module _ (x : Storage) (told : Option (List (List ℕ))) (k : Machine) (plan : P
   }
 
   -- what its view says of it, over a device that tells what its storage says
-  pub seen_over : (now : Option (List (List ℕ))) → Says told now → MachineRepresentsView x k.cpu k.areas k.sectors now (machine_view plan s.jobs)
-  seen_over now says = record { stands = h.session.holds.memory; low = h.storage.low; shelf = h.storage.shelf; device = subst (λ (d : Option (List (List ℕ))). Says d now) h.storage.device says }
+  pub seen_over : IsInOrderButCounts s → (now : Option (List (List ℕ))) → Says told now → MachineCanPage x k.cpu k.areas k.sectors now (machine_view plan s.jobs)
+  seen_over o now says = record { stands = h.session.holds.memory; low = h.storage.low; shelf = h.storage.shelf; device = subst (λ (d : Option (List (List ℕ))). Says d now) h.storage.device says; copies = copies_of x k.cpu plan s o h.session }
 
   module _ (y : Storage) (now : Option (List (List ℕ))) (cpu : Cpu) (areas : Areas) (table : Table) (kept : PagingKeeps k.cpu cpu k.areas areas k.sectors table) (stayed : Stayed (machine_view plan s.jobs) k.cpu.core cpu.core)
-      (evicted : AreasEvicted x y 0) (view : MachineRepresentsView y cpu areas table now (machine_view plan s.jobs)) where
+      (evicted : AreasEvicted x y 0) (view : MachineCanPage y cpu areas table now (machine_view plan s.jobs)) where
     pub stands_moved : MachineRepresents y (content_after told now) (record k { cpu = cpu; areas = areas; sectors = table }) plan s
     stands_moved =
         let P : Regs → Type 0 = λ r. Represents y cpu.core r (machine_view plan s.jobs) in

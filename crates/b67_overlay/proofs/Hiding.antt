@@ -102,7 +102,7 @@ module _ (held : Locations) (area home : ℕ) (h : Location) (has : (held home).
   fits_turned v w t (Copy c q) i f = copy_turned v w t c q f
 
 module _ (x : Storage) (core : List Tagged) (r : Regs) (p : MachineView) (s : Represents x core r p) (area : ℕ) (t : PagedObject) (at : IsPresent x p area t) (h : Location) where
-  alone : (q : ℕ) → (x.held q).area ≡ Some area → q ≡ t.home
+  pub alone : (q : ℕ) → (x.held q).area ≡ Some area → q ≡ t.home
   alone q e =
       let o = s.owned.of_held q area e in
       let i : info_of x o.0 ≡ info_of x t = same_Some _ _ (sym o.3 ∙ area_of_object x core r p s t at.there area at.present) in

@@ -1,5 +1,8 @@
+pub mod Families
 pub mod Turning
 pub mod Hiding
+pub mod Copies
+pub mod Searching
 pub mod Chains
 pub mod Dropping
 pub mod Sectors

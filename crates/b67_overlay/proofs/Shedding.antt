@@ -12,7 +12,8 @@ use Rattle.b67_stack.specs.declared.Cpu.{Cpu}
 use Rattle.b67_stack.specs.Shapes.{Location}
 use Rattle.b67_stack.specs.MachineView.{PagedObject, MachineView}
 use Rattle.b67_stack.specs.Represents.{Storage}
-use Rattle.b67_layout_storage.specs.Machine.{MachineRepresentsView, IsPresent, Says, content_after}
+use Rattle.b67_layout_storage.specs.Machine.{IsPresent, Says, content_after}
+use Rattle.b67_overlay.specs.Spans.{MachineCanPage}
 use Rattle.b67_layout_storage.proofs.Helds.{held-other}
 use Rattle.b67_overlay.specs.Overlaid.{overlaid, retelling, chain_out, IsShort}
 use Rattle.b67_backing.specs.Held.{sectors_for}
@@ -84,11 +85,11 @@ EvictedBelow-overlaid upto x told new says tells t at here n within = record {
 }
 
 -- the object of an area
-pub at_area : (x : Storage) (cpu : Cpu) (areas : Areas) (table : Table) (told : Option (List (List ℕ))) (p : MachineView) → MachineRepresentsView x cpu areas table told p → (at : ℕ) (a : Info) → area_at x.low x.spans at ≡ Some a → (t : PagedObject) × IsPresent x p at t
+pub at_area : (x : Storage) (cpu : Cpu) (areas : Areas) (table : Table) (told : Option (List (List ℕ))) (p : MachineView) → MachineCanPage x cpu areas table told p → (at : ℕ) (a : Info) → area_at x.low x.spans at ≡ Some a → (t : PagedObject) × IsPresent x p at t
 at_area x cpu areas table told p m at a e = let o = m.stands.owned.of_area at a e in (o.0, record { there = o.1; present = o.2 })
 
 -- a turn of a walk that gives areas back
-module _ (y : Storage) (cpu : Cpu) (areas : Areas) (table : Table) (told : Option (List (List ℕ))) (p : MachineView) (m : MachineRepresentsView y cpu areas table told p) (spare at : ℕ) (next : Option ℕ) (is : next ≡ Some at) (re : Remains y.low y.spans spare next) where
+module _ (y : Storage) (cpu : Cpu) (areas : Areas) (table : Table) (told : Option (List (List ℕ))) (p : MachineView) (m : MachineCanPage y cpu areas table told p) (spare at : ℕ) (next : Option ℕ) (is : next ≡ Some at) (re : Remains y.low y.spans spare next) where
   pub here : Remains y.low y.spans spare (Some at)
   here = let P : Option ℕ → Type 0 = λ o. Remains y.low y.spans spare o in subst P is re
 
@@ -120,7 +121,7 @@ module _ (y : Storage) (cpu : Cpu) (areas : Areas) (table : Table) (told : Optio
   past_here result e q = let P : Option ℕ → Type 0 = λ o. Remains y.low y.spans spare o in subst P (sym e) (Remains-past y.low y.spans spare at q here)
 
 -- the walk begins
-pub first_here : (y : Storage) (cpu : Cpu) (areas : Areas) (table : Table) (told : Option (List (List ℕ))) (p : MachineView) (spare : ℕ) (result : Option ℕ) → MachineRepresentsView y cpu areas table told p
+pub first_here : (y : Storage) (cpu : Cpu) (areas : Areas) (table : Table) (told : Option (List (List ℕ))) (p : MachineView) (spare : ℕ) (result : Option ℕ) → MachineCanPage y cpu areas table told p
     → ((ss : List Span) → IsDirectory cpu.core areas.low ss → result ≡ first_area areas.low ss) → Remains y.low y.spans spare result
 first_here y cpu areas table told p spare result m f =
     let e : result ≡ first_area y.low y.spans = f y.spans (subst (λ (n : ℕ). IsDirectory cpu.core n y.spans) (sym m.low) m.stands.directory) ∙ ap (λ (n : ℕ). first_area n y.spans) m.low in

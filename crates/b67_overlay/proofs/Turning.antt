@@ -15,7 +15,7 @@ use Rattle.b67_stack.proofs.Bases.{base-apart}
 use Rattle.b67_stack.proofs.Tops.{level-small, mark_high}
 use Rattle.b67_layout_storage.proofs.Reheld.{RepresentsSlots-same}
 use Rattle.b67_layout_storage.proofs.Unchanged.{base_low}
-use Rattle.b67_overlay.specs.Turns.{Turns, TurnsAt, InStack, Searched, Lies}
+use Rattle.b67_overlay.specs.Turns.{Turns, TurnsAt, InStack, Lies}
 
 pub lies_of : (x : Storage) (core : List Tagged) (r : Regs) (p : MachineView) → Represents x core r p → Lies core r x.low p
 lies_of x core r p s = record { slots = s.slots; inside = s.inside; small = s.directory.small; base = base_low x core r p s }
@@ -58,35 +58,6 @@ module _ (area original : ℕ) where
       slice_get-set_other core i j w (λ e. ⊎_elim (λ (a : j < from). let z : ⊥ = omega arith in z) (λ (a : i + 1 ≤ j). let z : ⊥ = omega arith in z) out)
       ∙ rest j (⊎_elim (λ (a : j < from). inl a) (λ (a : i + 1 ≤ j). inr (omega arith)) out)
 
-  -- one more stack is turned
-  pub Searched-more : (core : List Tagged) (r : Regs) (low : ℕ) (p : MachineView) (k : ℕ) (old mid new : List Tagged) → Lies core r low p → k < p.peak → length new ≡ length mid
-      → ((i : ℕ) → slot_base p k + 1 ≤ i → i < slot_base p k + stack_words (stack_of (p.slots k)) + 1 → TurnsAt area original mid new i)
-      → ((i : ℕ) → (i < slot_base p k + 1) ⊎ (slot_base p k + stack_words (stack_of (p.slots k)) + 1 ≤ i) → slice_get new i ≡ slice_get mid i)
-      → Searched p k area original old mid → Searched p (k + 1) area original old new
-  Searched-more core r low p k old mid new l hk size turned rest s = record {
-    size = size ∙ s.size;
-    turned = λ j below i at. ⊎_elim
-        (λ (e : j ≡ k).
-        let at' : InStack p k i = rw (← e) at in
-        let t = turned i (omega (arith, at'.0)) (omega (arith, at'.1)) in
-        let before : slice_get mid i ≡ slice_get old i = s.others i (λ m under there. let z : ⊥ = omega (arith, stack_before core r low p m k l (omega arith) under i there, at'.0) in z) in
-        (t.0, t.1, sym before ∙ t.2, t.3, t.4))
-        (λ (n : j ≡ k → ⊥).
-        let under : j < k = omega arith in
-        let t = s.turned j under i at in
-        (t.0, t.1, t.2, rest i (inl (omega (arith, stack_before core r low p j k l (omega arith) under i at))) ∙ t.3, t.4))
-        (cases_eq j k);
-    others = λ i out.
-        let there : (i < slot_base p k + 1) ⊎ (slot_base p k + stack_words (stack_of (p.slots k)) + 1 ≤ i) = ⊎_elim
-        (λ (a : i < slot_base p k + 1). inl a)
-        (λ (a : slot_base p k + 1 ≤ i). ⊎_elim
-        (λ (b : i < slot_base p k + stack_words (stack_of (p.slots k)) + 1). absurd (out k (omega arith) (omega arith, omega arith)))
-        (λ (b : slot_base p k + stack_words (stack_of (p.slots k)) + 1 ≤ i). inr b)
-        (cases_lt i (slot_base p k + stack_words (stack_of (p.slots k)) + 1)))
-        (cases_lt i (slot_base p k + 1)) in
-        rest i there ∙ s.others i (λ j below. out j (omega arith));
-  }
-
 pub Lies-same : (old new : List Tagged) (r : Regs) (low : ℕ) (p : MachineView) → length new ≡ length old → ((k : ℕ) → k < p.peak → slice_get new (slot_base p k) ≡ slice_get old (slot_base p k)) → Lies old r low p → Lies new r low p
 Lies-same old new r low p size same l = record { slots = RepresentsSlots-same old new r low p same l.slots; inside = rw size l.inside; small = rw size l.small; base = l.base }
 
@@ -105,9 +76,6 @@ Lies-turned old new r low p k hk size rest l = Lies-same old new r low p size sa
       (λ (a : k < j). rest (slot_base p j) (above j a))
       (λ (a : j ≤ k). rest (slot_base p j) (inl (⊎_elim (λ (e : j ≡ k). rw e (omega arith)) (λ (n : j ≡ k → ⊥). omega (arith, base-apart p j k (omega arith))) (cases_eq j k))))
       (cases_lt k j)
-
-pub Searched-none : (p : MachineView) (area original : ℕ) (core : List Tagged) → Searched p 0 area original core core
-Searched-none p area original core = record { size = refl; turned = λ k h. absurd (omega arith); others = λ i out. refl }
 
 -- the top of a stack that doesn't run, by its base word
 module _ (core : List Tagged) (r : Regs) (p : MachineView) (k : ℕ) (w : Tagged) (get : slice_get core (slot_base p k) ≡ Some w) (not : r.slot ≡ k → ⊥) (room : p.size < 2 ^ 14) where

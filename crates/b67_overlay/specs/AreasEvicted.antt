@@ -11,7 +11,8 @@ use Rattle.b67_backing.specs.declared.SpaceFault.TheVariants.{BackingFull}
 use Rattle.b67_stack.specs.declared.Cpu.{Cpu}
 use Rattle.b67_stack.specs.MachineView.{PagedObject, MachineView}
 use Rattle.b67_stack.specs.Represents.{Storage}
-use Rattle.b67_layout_storage.specs.Machine.{MachineRepresentsView, IsPresent, Stayed}
+use Rattle.b67_layout_storage.specs.Machine.{IsPresent, Stayed}
+use Rattle.b67_overlay.specs.Spans.{MachineCanPage}
 use Rattle.b67_overlay.specs.Overlaid.{overlaid, retelling, IsShort}
 
 -- areas were given back, but not the one at `spare`: what was not in core is where it was
@@ -51,8 +52,8 @@ pub record IsShortBy (x : Storage) (p : MachineView) (wants free : ℕ) : Type 0
 -- are free; code and data rows go without a call of the device
 pub record Overlays {D : Type 0} (tell : D → Option (List (List ℕ))) (x : Storage) (p : MachineView) (area : ℕ) (t : PagedObject)
     (result : Result (Unit {0}) SpaceFault) (old cpu : Cpu) (areas : Areas) (table table_new : Table) (before after : D) : Type 0 where
-  pub stands : OnOk result (MachineRepresentsView (overlaid x t area (tell after)) cpu areas table_new (tell after) p)
-  pub refused : OnErr result (MachineRepresentsView (retelling x (tell after)) cpu areas table_new (tell after) p)
+  pub stands : OnOk result (MachineCanPage (overlaid x t area (tell after)) cpu areas table_new (tell after) p)
+  pub refused : OnErr result (MachineCanPage (retelling x (tell after)) cpu areas table_new (tell after) p)
   pub outside : Stayed p old.core cpu.core
   pub full : (wants free : ℕ) → (result ≡ Err (BackingFull wants free)) ↔ (IsShort x t × (wants ≡ sectors_for (length t.numbers)) × (free ≡ length x.shelf.free))
   pub clean : t.kind ≢ Array → IsOk result × (table_new ≡ table) × (after ≡ before)
@@ -63,7 +64,7 @@ pub record Claims (x : Storage) (p : MachineView) (upto : ℕ)
     (result : Result (Unit {0}) SpaceFault) (old cpu : Cpu) (areas : Areas) (table : Table) (told : Option (List (List ℕ))) : Type 0 where
   pub outside : Stayed p old.core cpu.core
   pub clear : OnOk result ((y : Storage) × EvictedBelow upto x y × ((at : ℕ) (a : Info) → area_at y.low y.spans at ≡ Some a → upto < at)
-      × MachineRepresentsView y cpu areas table told p)
-  pub refused : OnErr result ((y : Storage) × EvictedBelow upto x y × MachineRepresentsView y cpu areas table told p)
+      × MachineCanPage y cpu areas table told p)
+  pub refused : OnErr result ((y : Storage) × EvictedBelow upto x y × MachineCanPage y cpu areas table told p)
   pub full : (wants free : ℕ) → result ≡ Err (BackingFull wants free)
-      → (y : Storage) × (short : IsShortBy y p wants free) × (short.at ≤ upto) × EvictedBelow upto x y × MachineRepresentsView y cpu areas table told p
+      → (y : Storage) × (short : IsShortBy y p wants free) × (short.at ≤ upto) × EvictedBelow upto x y × MachineCanPage y cpu areas table told p

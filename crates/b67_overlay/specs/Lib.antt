@@ -1,3 +1,4 @@
+pub mod Spans
 pub mod Turns
 pub mod Overlaid
 pub mod AreasEvicted

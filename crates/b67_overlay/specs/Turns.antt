@@ -10,6 +10,7 @@ use Rattle.b67_stack.specs.Stacks.{stack_words, words}
 use Rattle.b67_stack.specs.MachineView.{PagedObject, MachineView, slot_base, stack_of}
 use Rattle.b67_stack.specs.Represents.{Storage, RepresentsSlots}
 use Rattle.b67_layout_storage.specs.Machine.{with_held, Stayed}
+use Rattle.b67_overlay.specs.Spans.{Families, span_of, InSpan}
 
 abbrev pub IsCopyOf : ℕ → DataDesc → Type 0
 IsCopyOf area d = (d.present ≡ true) × (d.copy ≡ true) × (d.address ≡ area)
@@ -31,6 +32,12 @@ pub record Searched (p : MachineView) (n area original : ℕ) (old new : List Ta
   pub size : length new ≡ length old
   pub turned : (k : ℕ) → k < n → (i : ℕ) → InStack p k i → TurnsAt area original old new i
   pub others : (i : ℕ) → ((k : ℕ) → k < n → InStack p k i → ⊥) → slice_get new i ≡ slice_get old i
+
+-- the copies in the spans of the slots below n are turned, and nothing else is changed
+pub record SpansTurned (p : MachineView) (f : Families) (n area original : ℕ) (old new : List Tagged) : Type 0 where
+  pub size : length new ≡ length old
+  pub turned : (k : ℕ) → k < n → (i : ℕ) → InSpan (span_of f p original k) i → TurnsAt area original old new i
+  pub others : (i : ℕ) → ((k : ℕ) → k < n → InSpan (span_of f p original k) i → ⊥) → slice_get new i ≡ slice_get old i
 
 -- the slots of a view lie in core, below `low`
 pub record Lies (core : List Tagged) (r : Regs) (low : ℕ) (p : MachineView) : Type 0 where

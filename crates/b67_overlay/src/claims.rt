@@ -5,8 +5,9 @@ ghost use Rattle.b67_backing.specs.declared.SpaceFault.TheVariants.{NoCore, Back
 ghost use Rattle.b67_io.specs.Causes.{Rose};
 ghost use Rattle.b67_stack.specs.MachineView.{MachineView};
 ghost use Rattle.b67_stack.specs.Represents.{Storage};
-ghost use Rattle.b67_layout_storage.specs.Machine.{MachineRepresentsView, DeviceAfterCalls, PagingKeeps};
+ghost use Rattle.b67_layout_storage.specs.Machine.{DeviceAfterCalls, PagingKeeps};
 ghost use Rattle.b67_overlay.specs.AreasEvicted.{Claims};
+ghost use Rattle.b67_overlay.specs.Spans.{MachineCanPage};
 
 use crate::overlays::overlay;
 use b67_area::Areas;
@@ -23,10 +24,10 @@ pub fn claim<B: Backing>(
     backing: &mut B,
     upto: u32,
 ) -> Result<(), SpaceFault>
-    requires machine { (x : Storage) × (p : MachineView) × MachineRepresentsView x cpu.old areas.old sectors.old (B.holds backing.old) p }
+    requires machine { (x : Storage) × (p : MachineView) × MachineCanPage x cpu.old areas.old sectors.old (B.holds backing.old) p }
     requires same { B.size backing.old + 1 ≡ length sectors.old.links }
     ensures keeps { PagingKeeps cpu.old cpu.new areas.old areas.new sectors.old sectors.new }
-    ensures row { (x : Storage) (p : MachineView) → MachineRepresentsView x cpu.old areas.old sectors.old (B.holds backing.old) p
+    ensures row { (x : Storage) (p : MachineView) → MachineCanPage x cpu.old areas.old sectors.old (B.holds backing.old) p
         → Claims x p upto result cpu.old cpu.new areas.new sectors.new (B.holds backing.new) }
     ensures no_core { (need size : ℕ) → result ≢ Err (NoCore need size) }
     ensures device { DeviceAfterCalls B.holds B.size B.calls B.faults backing.old backing.new }

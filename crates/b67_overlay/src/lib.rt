@@ -4,8 +4,10 @@
 mod claims;
 mod overlays;
 mod search;
+mod spans;
 mod writing;
 
 pub use claims::claim;
 pub use overlays::{discard, overlay};
 pub use search::{search_copies, stack_top};
+pub use spans::{Span, search_span};

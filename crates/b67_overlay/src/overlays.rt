@@ -9,10 +9,11 @@ ghost use Rattle.b67_io.specs.Causes.{Rose};
 ghost use Rattle.b67_stack.specs.Shapes.{Location};
 ghost use Rattle.b67_stack.specs.MachineView.{PagedObject, MachineView, home_desc, home_word_of};
 ghost use Rattle.b67_stack.specs.Represents.{Storage, Represents, info_of};
-ghost use Rattle.b67_layout_storage.specs.Machine.{MachineRepresentsView, IsPresent, DeviceAfterCalls, PagingKeeps, Stayed};
+ghost use Rattle.b67_layout_storage.specs.Machine.{IsPresent, DeviceAfterCalls, PagingKeeps, Stayed};
 ghost use Rattle.b67_overlay.specs.Turns.{Hides};
 ghost use Rattle.b67_overlay.specs.Overlaid.{overlaid, dropped, IsOut};
 ghost use Rattle.b67_overlay.specs.AreasEvicted.{Overlays};
+ghost use Rattle.b67_overlay.specs.Spans.{CopiesLie, MachineCanPage};
 
 use crate::search::search_copies;
 use crate::writing::write_out;
@@ -42,9 +43,9 @@ fn absent_word(info: Info, first: u32) -> Word
 
 /// Makes the copies absent that have the address of an area. No copy has that of a segment's.
 fn hide_copies(cpu: &mut Cpu, area: u32, info: Info)
-    requires { (x : Storage) × (p : MachineView) × (t : PagedObject) × Represents x cpu.old.core cpu.old.regs p × IsPresent x p area t × (info ≡ info_of x t) }
+    requires { (x : Storage) × (p : MachineView) × (t : PagedObject) × Represents x cpu.old.core cpu.old.regs p × CopiesLie cpu.old.core p × IsPresent x p area t × (info ≡ info_of x t) }
     ensures rest { cpu.new ≡ record cpu.old { core = cpu.new.core } }
-    ensures hides { (x : Storage) (p : MachineView) (t : PagedObject) (h : Location) → Represents x cpu.old.core cpu.old.regs p → IsPresent x p area t → info ≡ info_of x t
+    ensures hides { (x : Storage) (p : MachineView) (t : PagedObject) (h : Location) → Represents x cpu.old.core cpu.old.regs p → CopiesLie cpu.old.core p → IsPresent x p area t → info ≡ info_of x t
         → Hides x cpu.old.core cpu.new.core p t h }
 {
     match info.kind {
@@ -55,14 +56,14 @@ fn hide_copies(cpu: &mut Cpu, area: u32, info: Info)
 
 /// Gives an area back whose words are in the chain of this first sector.
 fn give_back(cpu: &mut Cpu, areas: &mut Areas, area: u32, info: Info, first: u32)
-    requires machine { (x : Storage) × (p : MachineView) × (t : PagedObject) × Represents x cpu.old.core cpu.old.regs p × (areas.old.low ≡ x.low) × IsPresent x p area t × (info ≡ info_of x t) }
+    requires machine { (x : Storage) × (p : MachineView) × (t : PagedObject) × Represents x cpu.old.core cpu.old.regs p × CopiesLie cpu.old.core p × (areas.old.low ≡ x.low) × IsPresent x p area t × (info ≡ info_of x t) }
     requires first { first < 2 ^ 20 }
     ensures rest { cpu.new ≡ record cpu.old { core = cpu.new.core } }
     ensures areas { areas.new ≡ areas.old }
     ensures len { length cpu.new.core ≡ length cpu.old.core }
-    ensures stands { (x y : Storage) (p : MachineView) (t : PagedObject) → Represents x cpu.old.core cpu.old.regs p → areas.old.low ≡ x.low → IsPresent x p area t → info ≡ info_of x t
+    ensures stands { (x y : Storage) (p : MachineView) (t : PagedObject) → Represents x cpu.old.core cpu.old.regs p → CopiesLie cpu.old.core p → areas.old.low ≡ x.low → IsPresent x p area t → info ≡ info_of x t
         → IsOut x y p t first → Represents (dropped x y t area first) cpu.new.core cpu.new.regs p }
-    ensures outside { (x : Storage) (p : MachineView) (t : PagedObject) → Represents x cpu.old.core cpu.old.regs p → areas.old.low ≡ x.low → IsPresent x p area t → info ≡ info_of x t
+    ensures outside { (x : Storage) (p : MachineView) (t : PagedObject) → Represents x cpu.old.core cpu.old.regs p → CopiesLie cpu.old.core p → areas.old.low ≡ x.low → IsPresent x p area t → info ≡ info_of x t
         → Stayed p cpu.old.core cpu.new.core }
 {
     hide_copies(cpu, area, info);
@@ -72,13 +73,13 @@ fn give_back(cpu: &mut Cpu, areas: &mut Areas, area: u32, info: Info, first: u32
 
 /// Gives back the area of code or of a data row, whose words are in sectors already. No device is called.
 pub fn discard(cpu: &mut Cpu, areas: &mut Areas, area: u32)
-    requires { (x : Storage) × (p : MachineView) × (t : PagedObject) × Represents x cpu.old.core cpu.old.regs p × (areas.old.low ≡ x.low) × IsPresent x p area t × (t.kind ≢ Array) }
+    requires { (x : Storage) × (p : MachineView) × (t : PagedObject) × Represents x cpu.old.core cpu.old.regs p × CopiesLie cpu.old.core p × (areas.old.low ≡ x.low) × IsPresent x p area t × (t.kind ≢ Array) }
     ensures rest { cpu.new ≡ record cpu.old { core = cpu.new.core } }
     ensures len { length cpu.new.core ≡ length cpu.old.core }
     ensures areas { areas.new ≡ areas.old }
-    ensures stands { (x : Storage) (table : Table) (told : Option (List (List ℕ))) (p : MachineView) (t : PagedObject) → MachineRepresentsView x cpu.old areas.old table told p
-        → IsPresent x p area t → t.kind ≢ Array → MachineRepresentsView (overlaid x t area told) cpu.new areas.new table told p }
-    ensures outside { (x : Storage) (p : MachineView) (t : PagedObject) → Represents x cpu.old.core cpu.old.regs p → areas.old.low ≡ x.low → IsPresent x p area t
+    ensures stands { (x : Storage) (table : Table) (told : Option (List (List ℕ))) (p : MachineView) (t : PagedObject) → MachineCanPage x cpu.old areas.old table told p
+        → IsPresent x p area t → t.kind ≢ Array → MachineCanPage (overlaid x t area told) cpu.new areas.new table told p }
+    ensures outside { (x : Storage) (p : MachineView) (t : PagedObject) → Represents x cpu.old.core cpu.old.regs p → CopiesLie cpu.old.core p → areas.old.low ≡ x.low → IsPresent x p area t
         → Stayed p cpu.old.core cpu.new.core }
 {
     let info = areas.info(&cpu.core, area);
@@ -95,10 +96,10 @@ pub fn overlay<B: Backing>(
     backing: &mut B,
     area: u32,
 ) -> Result<(), SpaceFault>
-    requires machine { (x : Storage) × (p : MachineView) × (t : PagedObject) × MachineRepresentsView x cpu.old areas.old sectors.old (B.holds backing.old) p × IsPresent x p area t }
+    requires machine { (x : Storage) × (p : MachineView) × (t : PagedObject) × MachineCanPage x cpu.old areas.old sectors.old (B.holds backing.old) p × IsPresent x p area t }
     requires same { B.size backing.old + 1 ≡ length sectors.old.links }
     ensures keeps { PagingKeeps cpu.old cpu.new areas.old areas.new sectors.old sectors.new }
-    ensures row { (x : Storage) (p : MachineView) (t : PagedObject) → MachineRepresentsView x cpu.old areas.old sectors.old (B.holds backing.old) p → IsPresent x p area t
+    ensures row { (x : Storage) (p : MachineView) (t : PagedObject) → MachineCanPage x cpu.old areas.old sectors.old (B.holds backing.old) p → IsPresent x p area t
         → Overlays B.holds x p area t result cpu.old cpu.new areas.new sectors.old sectors.new backing.old backing.new }
     ensures unchanged { OnErr result (cpu.new ≡ cpu.old) }
     ensures no_core { (need size : ℕ) → result ≢ Err (NoCore need size) }

@@ -8,12 +8,14 @@ use Rattle.b67_model.specs.Schedule.{Session}
 use Rattle.b67_stack.specs.declared.Cpu.{Cpu}
 use Rattle.b67_stack.specs.MachineView.{MachineView, NoOriginalAboveTop}
 use Rattle.b67_stack.specs.Represents.{Storage, Represents}
-use Rattle.b67_layout_storage.specs.Machine as storage
 use Rattle.b67_layout_storage.specs.Machine.{Says, content_after, Stayed}
+use Rattle.b67_overlay.specs.Spans.{MachineCanPage}
 use Rattle.b67_layout_storage.proofs.Devices.{says_of}
+use Rattle.b67_layout.specs.Orders.{IsInOrderButCounts}
 use Rattle.b67_layout.specs.Placement.{Placement}
 use Rattle.b67_layout.specs.Layout.{machine_view}
 use Rattle.b67_layout.specs.Session.{RepresentsSession}
+use Rattle.b67_layout_spans.proofs.Sessions.{copies_of}
 use Rattle.b67_layout_step.proofs.Paged.{RepresentsSession-over}
 use Rattle.b67_task_tables.specs.declared.tables.Tasks.{Tasks}
 use Rattle.b67_task_tables.specs.declared.tables.Machine.{Machine}
@@ -42,9 +44,9 @@ not_silent x told k plan s n h = record {
 }
 
 -- what its view says of it
-pub view_stands : (x : Storage) (told : Option (List (List ℕ))) (k : Machine) (plan : Placement) (s : Session) → StandsOver x told k plan s
-    → storage.MachineRepresentsView x k.cpu k.areas k.sectors told (machine_view plan s.jobs)
-view_stands x told k plan s h = record { stands = h.stands.session.holds.memory; low = h.stands.storage.low; shelf = h.stands.storage.shelf; device = h.says }
+pub view_stands : (x : Storage) (told : Option (List (List ℕ))) (k : Machine) (plan : Placement) (s : Session) → IsInOrderButCounts s → StandsOver x told k plan s
+    → MachineCanPage x k.cpu k.areas k.sectors told (machine_view plan s.jobs)
+view_stands x told k plan s o h = record { stands = h.stands.session.holds.memory; low = h.stands.storage.low; shelf = h.stands.storage.shelf; device = h.says; copies = copies_of x k.cpu plan s o h.stands.session }
 
 -- what a storage says that said something, and nothing otherwise
 retelling : (d e now : Option (List (List ℕ))) → (d ≡ None → e ≡ None) → (d ≢ None → e ≢ None) → Says e now → e ≡ content_after d now
@@ -58,7 +60,7 @@ machine_of cpu areas table tasks = record { cpu = cpu; areas = areas; sectors = 
 
 module _ (x y : Storage) (told now : Option (List (List ℕ))) (k : Machine) (plan : Placement) (s : Session) (h : StandsOver x told k plan s) (cpu : Cpu) (areas : Areas) (table : Table)
     (rest : cpu ≡ record k.cpu { core = cpu.core }) (len : length cpu.core ≡ length k.cpu.core) (same_areas : areas ≡ k.areas) (stayed : Stayed (machine_view plan s.jobs) k.cpu.core cpu.core)
-    (q : MachineView) (sees : Sees x plan s.jobs q) (m : storage.MachineRepresentsView y cpu areas table now q) (untold : x.device ≡ None → y.device ≡ None) (tells : x.device ≢ None → y.device ≢ None) where
+    (q : MachineView) (sees : Sees x plan s.jobs q) (m : MachineCanPage y cpu areas table now q) (untold : x.device ≡ None → y.device ≡ None) (tells : x.device ≢ None → y.device ≢ None) where
   regs : cpu.regs ≡ k.cpu.regs
   regs = ap (λ (c : Cpu). c.regs) rest
 

@@ -12,8 +12,8 @@ use Rattle.b67_stack.specs.declared.What.TheVariants as what
 use Rattle.b67_stack.specs.Shapes.{Location}
 use Rattle.b67_stack.specs.MachineView.{PagedObject}
 use Rattle.b67_stack.specs.Represents.{Storage}
-use Rattle.b67_layout_storage.specs.Machine as storage
 use Rattle.b67_layout_storage.specs.Machine.{Stayed}
+use Rattle.b67_overlay.specs.Spans.{MachineCanPage}
 use Rattle.b67_layout_storage.proofs.Helds.{held-same}
 use Rattle.b67_layout.specs.Placement.{Placement}
 use Rattle.b67_layout.specs.Layout.{objects_of, array_object, machine_view}
@@ -31,7 +31,7 @@ module _ (x : Storage) (told now : Option (List (List ℕ))) (k : Machine) (plan
   pub waits_again : (spare : ℕ) (w : Waits x (machine_view plan s.jobs) spare cpu areas table now) → (a : StandsAgain x now (machine_of cpu areas table k.tasks) plan s) × (a.storage ≡ w.storage) × (a.jobs ≡ s.jobs)
   waits_again spare w = again x w.storage told now k plan s h cpu areas table rest len same_areas stayed (machine_view plan s.jobs) (sees_none x plan s o) w.stands w.sheds.untold w.sheds.told
 
-  pub stays_again : storage.MachineRepresentsView x cpu areas table now (machine_view plan s.jobs) → (a : StandsAgain x now (machine_of cpu areas table k.tasks) plan s) × (a.storage ≡ x)
+  pub stays_again : MachineCanPage x cpu areas table now (machine_view plan s.jobs) → (a : StandsAgain x now (machine_of cpu areas table k.tasks) plan s) × (a.storage ≡ x)
   stays_again m =
       let a = again x x told now k plan s h cpu areas table rest len same_areas stayed (machine_view plan s.jobs) (sees_none x plan s o) m (λ e. e) (λ n. n) in
       (a.0, a.1)

@@ -13,8 +13,8 @@ use Rattle.b67_stack.specs.declared.What.TheVariants as what
 use Rattle.b67_stack.specs.Shapes.{Location}
 use Rattle.b67_stack.specs.MachineView.{PagedObject}
 use Rattle.b67_stack.specs.Represents.{Storage}
-use Rattle.b67_layout_storage.specs.Machine as storage
 use Rattle.b67_layout_storage.specs.Machine.{IsAbsent, HasHole, Stayed}
+use Rattle.b67_overlay.specs.Spans.{MachineCanPage}
 use Rattle.b67_layout_storage.proofs.Helds.{held-other}
 use Rattle.b67_layout_storage.proofs.Below.{Stayed-none}
 use Rattle.b67_overlay.specs.AreasEvicted.{AreasEvicted, IsShortBy}
@@ -80,7 +80,7 @@ module _ (x : Storage) (told now : Option (List (List ℕ))) (k : Machine) (plan
 
   -- where a hole had room
   pub stays_in : (home : ℕ) (t : PagedObject) → IsAbsent x (machine_view plan s.jobs) home t → (r : Result (Unit {0}) SpaceFault) → OnOk r (IsReadable x (machine_view plan s.jobs) → ReadIn x (machine_view plan s.jobs) t cpu areas table now)
-      → OnErr r (storage.MachineRepresentsView x cpu areas table now (machine_view plan s.jobs)) → StaysIn x now (machine_of cpu areas table k.tasks) plan s
+      → OnErr r (MachineCanPage x cpu areas table now (machine_view plan s.jobs)) → StaysIn x now (machine_of cpu areas table k.tasks) plan s
   stays_in home t b (Ok u) ok err =
       let w = ok (readable x plan s o) in
       let a = read_again x told now k plan s o h cpu areas table rest len same_areas stayed t b.there w in
@@ -104,11 +104,11 @@ module _ (x : Storage) (told : Option (List (List ℕ))) (k : Machine) (plan : P
   pub refused_still : (m : SessionJob) (t : Task) (absent : What) (words : ℕ) → IsWanted x plan m t absent words → Refused x told k plan s m t absent
   refused_still m t absent words wanted =
       refused_waits x told told k plan s o h k.cpu k.areas k.sectors refl refl refl (Stayed-none (machine_view plan s.jobs) k.cpu.core) m t absent 0
-      (record { storage = x; sheds = AreasEvicted-none x 0; stands = view_stands x told k plan s h }) (λ y sheds. wanted_lacks x y plan m t absent words wanted sheds)
+      (record { storage = x; sheds = AreasEvicted-none x 0; stands = view_stands x told k plan s o h }) (λ y sheds. wanted_lacks x y plan m t absent words wanted sheds)
 
   pub stays_put : StaysIn x told k plan s
   stays_put =
-      let a = stays_again x told told k plan s o h k.cpu k.areas k.sectors refl refl refl (Stayed-none (machine_view plan s.jobs) k.cpu.core) (view_stands x told k plan s h) in
+      let a = stays_again x told told k plan s o h k.cpu k.areas k.sectors refl refl refl (Stayed-none (machine_view plan s.jobs) k.cpu.core) (view_stands x told k plan s o h) in
       let A : Storage → Type 0 = λ y. AreasStay x y in
       let all : AreasStay x x = λ q some. refl in
       record { again = a.0; areas = subst A (sym a.1) all }

@@ -15,7 +15,8 @@ use Rattle.b67_stack.specs.declared.Cpu.{Cpu}
 use Rattle.b67_stack.specs.Shapes.{LieUpward}
 use Rattle.b67_stack.specs.MachineView.{PagedObject, MachineView, words_of, tag_of, AreZero}
 use Rattle.b67_stack.specs.Represents.{Storage, Content, AbsentContent, HoldsIn, Told}
-use Rattle.b67_layout_storage.specs.Machine.{MachineRepresentsView, Says, IsAbsent, AreBits}
+use Rattle.b67_layout_storage.specs.Machine.{Says, IsAbsent, AreBits}
+use Rattle.b67_overlay.specs.Spans.{MachineCanPage}
 use Rattle.b67_presence_page.specs.declared.paging.Resting.{Resting}
 use Rattle.b67_presence_page.specs.Brought.{resting, IsKnown, ReadFromChain}
 
@@ -65,7 +66,7 @@ what_is_told : (d told : Option (List (List ℕ))) (chain ns : List ℕ) → Say
 what_is_told None told chain ns s n h = absurd (n refl)
 what_is_told (Some all) told chain ns s n h = (all, s, Fills-holds all chain 0 ns h)
 
-module _ (x : Storage) (cpu : Cpu) (areas : Areas) (table : Table) (told : Option (List (List ℕ))) (p : MachineView) (home : ℕ) (t : PagedObject) (m : MachineRepresentsView x cpu areas table told p) (a : IsAbsent x p home t) where
+module _ (x : Storage) (cpu : Cpu) (areas : Areas) (table : Table) (told : Option (List (List ℕ))) (p : MachineView) (home : ℕ) (t : PagedObject) (m : MachineCanPage x cpu areas table told p) (a : IsAbsent x p home t) where
   abbrev first : ℕ
   first = (x.held t.home).chain
 

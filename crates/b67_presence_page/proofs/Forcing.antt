@@ -10,7 +10,8 @@ use Rattle.b67_stack.specs.declared.Cpu.{Cpu}
 use Rattle.b67_stack.specs.Shapes.{Location}
 use Rattle.b67_stack.specs.MachineView.{PagedObject, MachineView}
 use Rattle.b67_stack.specs.Represents.{Storage}
-use Rattle.b67_layout_storage.specs.Machine.{MachineRepresentsView, IsAbsent, HasHole}
+use Rattle.b67_layout_storage.specs.Machine.{IsAbsent, HasHole}
+use Rattle.b67_overlay.specs.Spans.{MachineCanPage}
 use Rattle.b67_layout_storage.proofs.Helds.{held-same, held-other}
 use Rattle.b67_overlay.specs.AreasEvicted.{AreasEvicted}
 use Rattle.b67_presence_page.specs.Brought.{brought}
@@ -19,7 +20,7 @@ use Rattle.b67_presence_page.proofs.Rooms.{one_hole, first_room}
 use Rattle.b67_presence_page.proofs.Resort.{Reads-none, there_after, differ}
 
 -- with no area left there is room for what core has room for
-pub room_alone : (y : Storage) (cpu : Cpu) (areas : Areas) (table : Table) (told : Option (List (List ℕ))) (p : MachineView) (n : ℕ) → MachineRepresentsView y cpu areas table told p → IsAlone y 0 → y.low + (n + 2) ≤ length cpu.core → HasHole (n + 2) y.spans
+pub room_alone : (y : Storage) (cpu : Cpu) (areas : Areas) (table : Table) (told : Option (List (List ℕ))) (p : MachineView) (n : ℕ) → MachineCanPage y cpu areas table told p → IsAlone y 0 → y.low + (n + 2) ≤ length cpu.core → HasHole (n + 2) y.spans
 room_alone y cpu areas table told p n m alone fits =
     let (h, is, e) = one_hole cpu.core y.low y.spans m.stands.directory (λ b i f. let z : ⊥ = omega (arith, alone b i f, (area_inside cpu.core y.low y.spans b i m.stands.directory f).0) in z) (omega arith) in
     first_room (n + 2) h y.spans is (omega arith)
@@ -28,7 +29,7 @@ pub code_after : (x y : Storage) (p : MachineView) (code spare : ℕ) (c : Paged
 code_after x y p code spare c s k = record { there = k.there; is = k.is; kind = k.kind; present = ap (λ (h : Location). h.area) (s.spared code k.present) ∙ k.present }
 
 -- the object came in and the code stayed
-pub both_came : (x : Storage) (cpu : Cpu) (areas : Areas) (table : Table) (told : Option (List (List ℕ))) (p : MachineView) (home code spare : ℕ) (t c : PagedObject) → MachineRepresentsView x cpu areas table told p → IsAbsent x p home t → IsCode x p code spare c
+pub both_came : (x : Storage) (cpu : Cpu) (areas : Areas) (table : Table) (told : Option (List (List ℕ))) (p : MachineView) (home code spare : ℕ) (t c : PagedObject) → MachineCanPage x cpu areas table told p → IsAbsent x p home t → IsCode x p code spare c
     → (new : Cpu) (after : Areas) (table' : Table) (now : Option (List (List ℕ))) → PlacedAfterEviction x p t spare new after table' now → BothIn x p t c new after table' now
 both_came x cpu areas table told p home code spare t c m a k new after table' now came =
     let d = differ x cpu areas table told p home code spare t c m a k in

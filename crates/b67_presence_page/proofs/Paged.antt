@@ -11,7 +11,9 @@ use Rattle.b67_stack.specs.declared.Cpu.{Cpu}
 use Rattle.b67_stack.specs.Shapes.{LieUpward}
 use Rattle.b67_stack.specs.MachineView.{PagedObject, MachineView, home_word_of, words_of}
 use Rattle.b67_stack.specs.Represents.{Storage, Represents}
-use Rattle.b67_layout_storage.specs.Machine.{Stayed, MachineRepresentsView, Says, IsAbsent, AreBits, with_held, renumbered}
+use Rattle.b67_layout_storage.specs.Machine.{Stayed, Says, IsAbsent, AreBits, with_held, renumbered}
+use Rattle.b67_overlay.specs.Spans.{CopiesLie, MachineCanPage}
+use Rattle.b67_overlay.proofs.Copies.{copies_stay, copies_objects}
 use Rattle.b67_layout_storage.proofs.Renumbered.{Represents-renumbered, there_renumbered, renumbered-same}
 use Rattle.b67_presence_page.specs.declared.paging.Resting.{Resting}
 use Rattle.b67_presence_page.specs.Brought.{brought, resting, IsKnown, IsPlace}
@@ -60,13 +62,14 @@ placed_in x core c1 c2 c3 r p home at t n e s a st up =
     let Q : ℕ → Type 0 = λ m. Represents (place_of x t.kind m t.home (x.held t.home).chain at) (slice_set c3 home (home_word_of t.kind m (record { area = Some at; chain = (x.held t.home).chain }))) r p in
     subst Q e (brought_in x core r p home t s a at c1 st'.placed c2 st'.filled c3 st'.kept up)
 
-module _ (x : Storage) (cpu : Cpu) (areas after : Areas) (table : Table) (told new : Option (List (List ℕ))) (p : MachineView) (home : ℕ) (t : PagedObject) (m : MachineRepresentsView x cpu areas table told p) (a : IsAbsent x p home t) (low : after.low ≡ areas.low) (says : (all : List (List ℕ)) → told ≡ Some all → new ≡ Some all) where
-  with_core : (y : Storage) (q : MachineView) (core : List Tagged) → y.low ≡ x.low → y.shelf ≡ x.shelf → y.device ≡ x.device → Represents y core cpu.regs q → MachineRepresentsView y (record cpu { core = core }) after table new q
-  with_core y q core el es ed s = record {
+module _ (x : Storage) (cpu : Cpu) (areas after : Areas) (table : Table) (told new : Option (List (List ℕ))) (p : MachineView) (home : ℕ) (t : PagedObject) (m : MachineCanPage x cpu areas table told p) (a : IsAbsent x p home t) (low : after.low ≡ areas.low) (says : (all : List (List ℕ)) → told ≡ Some all → new ≡ Some all) where
+  with_core : (y : Storage) (q : MachineView) (core : List Tagged) → y.low ≡ x.low → y.shelf ≡ x.shelf → y.device ≡ x.device → Represents y core cpu.regs q → CopiesLie core q → MachineCanPage y (record cpu { core = core }) after table new q
+  with_core y q core el es ed s k = record {
     stands = s;
     low = low ∙ m.low ∙ sym el;
     shelf = rw es m.shelf;
     device = rw ed (Says-on x.device told new says m.device);
+    copies = k;
   }
 
   module _ (at : ℕ) (c1 c2 c3 : List Tagged) (object : Resting) (is : object ≡ resting x t) (st : Steps areas.low x.spans cpu.core c1 c2 c3 home at object) (l : Loaded told table at object c2) where
@@ -87,14 +90,17 @@ module _ (x : Storage) (cpu : Cpu) (areas after : Areas) (table : Table) (told n
     pub paged_below : (v : Tagged) → Stayed p cpu.core (slice_set c3 home v)
     paged_below v = below_in x cpu.core cpu.regs p home t m.stands a at c1 st'.placed c2 st'.filled c3 st'.kept v
 
+    lie_below : (v : Tagged) → CopiesLie (slice_set c3 home v) p
+    lie_below v = copies_stay x cpu.core cpu.regs p m.stands (slice_set c3 home v) (paged_below v) m.copies
+
     pub in_place : IsPlace x t at
     in_place = sym st'.placed.row.0
 
-    pub paged_known : IsKnown x t → MachineRepresentsView (brought x t at) (record cpu { core = slice_set c3 home (word_at object) }) after table new p
+    pub paged_known : IsKnown x t → MachineCanPage (brought x t at) (record cpu { core = slice_set c3 home (word_at object) }) after table new p
     paged_known k = with_core (brought x t at) p (slice_set c3 home (word_at object)) refl refl refl
-        (back (brought x t at) p (placed_in x cpu.core c1 c2 c3 cpu.regs p home at t (length t.numbers) refl m.stands a st' (known_words x cpu areas table told p home t m a at c2 l' k)))
+        (back (brought x t at) p (placed_in x cpu.core c1 c2 c3 cpu.regs p home at t (length t.numbers) refl m.stands a st' (known_words x cpu areas table told p home t m a at c2 l' k))) (lie_below (word_at object))
 
-    pub paged_untold : x.device ≡ None → (ns : List ℕ) × (length ns ≡ length t.numbers) × AreBits ns × MachineRepresentsView (brought x t at) (record cpu { core = slice_set c3 home (word_at object) }) after table new (renumbered p home ns)
+    pub paged_untold : x.device ≡ None → (ns : List ℕ) × (length ns ≡ length t.numbers) × AreBits ns × MachineCanPage (brought x t at) (record cpu { core = slice_set c3 home (word_at object) }) after table new (renumbered p home ns)
     paged_untold untold =
         let (ns, count, bits, up, way) = some_words x cpu areas table told p home t m a at c2 l' in
         let none : (x.held t.home).area ≡ None = ap (λ q. (x.held q).area) a.is ∙ a.absent in
@@ -107,8 +113,8 @@ module _ (x : Storage) (cpu : Cpu) (areas after : Areas) (table : Table) (told n
         let there = there_renumbered x cpu.core cpu.regs p m.stands t a.there ns count in
         let a' : IsAbsent x p' home t' = record { there = there; is = a.is; absent = a.absent } in
         let d = placed_in x cpu.core c1 c2 c3 cpu.regs p' home at t' (length t.numbers) count s' a' st' up in
-        let P : ℕ → Type 0 = λ q. MachineRepresentsView (brought x t at) (record cpu { core = slice_set c3 home (word_at object) }) after table new (renumbered p q ns) in
-        (ns, count, bits, subst P a.is (with_core (brought x t at) p' (slice_set c3 home (word_at object)) refl refl refl (back (brought x t at) p' d)))
+        let P : ℕ → Type 0 = λ q. MachineCanPage (brought x t at) (record cpu { core = slice_set c3 home (word_at object) }) after table new (renumbered p q ns) in
+        (ns, count, bits, subst P a.is (with_core (brought x t at) p' (slice_set c3 home (word_at object)) refl refl refl (back (brought x t at) p' d) (copies_objects (slice_set c3 home (word_at object)) p p'.objects (lie_below (word_at object)))))
 
   pub back_below : (at : ℕ) (c1 c2 c3 : List Tagged) (object : Resting) → object ≡ resting x t → Placed areas.low x.spans cpu.core c1 home at object → Filled c1 c2 at object.words → Freed areas.low (without areas.low at (fill (fresh object.kind object.words home) x.spans)) c2 c3 → Stayed p cpu.core c3
   back_below at c1 c2 c3 object is pl fl fr =
@@ -117,9 +123,10 @@ module _ (x : Storage) (cpu : Cpu) (areas after : Areas) (table : Table) (told n
       let Q : List Span → Type 0 = λ ss. Freed x.low ss c2 c3 in
       below_back x cpu.core cpu.regs p home t m.stands a at c1 pl' c2 fl' c3 (subst Q (without_here x cpu.core cpu.regs p home t m.stands a at c1 pl' c2 fl') fr')
 
-  pub paged_back : (at : ℕ) (c1 c2 c3 : List Tagged) (object : Resting) → object ≡ resting x t → Placed areas.low x.spans cpu.core c1 home at object → Filled c1 c2 at object.words → Freed areas.low (without areas.low at (fill (fresh object.kind object.words home) x.spans)) c2 c3 → MachineRepresentsView x (record cpu { core = c3 }) after table new p
+  pub paged_back : (at : ℕ) (c1 c2 c3 : List Tagged) (object : Resting) → object ≡ resting x t → Placed areas.low x.spans cpu.core c1 home at object → Filled c1 c2 at object.words → Freed areas.low (without areas.low at (fill (fresh object.kind object.words home) x.spans)) c2 c3 → MachineCanPage x (record cpu { core = c3 }) after table new p
   paged_back at c1 c2 c3 object is pl fl fr =
       let P : ℕ → Resting → Type 0 = λ n z. Placed n x.spans cpu.core c1 home at z × Filled c1 c2 at z.words × Freed n (without n at (fill (fresh z.kind z.words home) x.spans)) c2 c3 in
       let (pl', fl', fr') = subst (λ (z : Resting). P x.low z) is (subst (λ (n : ℕ). P n object) m.low (pl, fl, fr)) in
       let Q : List Span → Type 0 = λ ss. Freed x.low ss c2 c3 in
       with_core x p c3 refl refl refl (given_back x cpu.core cpu.regs p home t m.stands a at c1 pl' c2 fl' c3 (subst Q (without_here x cpu.core cpu.regs p home t m.stands a at c1 pl' c2 fl') fr'))
+      (copies_stay x cpu.core cpu.regs p m.stands c3 (back_below at c1 c2 c3 object is pl fl fr) m.copies)

@@ -15,7 +15,9 @@ use Rattle.b67_stack.specs.declared.Cpu.{Cpu}
 use Rattle.b67_stack.specs.Shapes.{Location}
 use Rattle.b67_stack.specs.MachineView.{PagedObject, MachineView}
 use Rattle.b67_stack.specs.Represents.{Storage, Represents, info_of}
-use Rattle.b67_layout_storage.specs.Machine.{MachineRepresentsView, IsAbsent, IsPresent, HasHole, AreBits, Stayed}
+use Rattle.b67_layout_storage.specs.Machine.{IsAbsent, IsPresent, HasHole, AreBits, Stayed}
+use Rattle.b67_layout_storage.proofs.Untold.{untold, Represents-untold}
+use Rattle.b67_overlay.specs.Spans.{MachineCanPage}
 use Rattle.b67_layout_storage.proofs.Helds.{held-same, held-other}
 use Rattle.b67_layout_storage.proofs.Renumbered.{renumbered-same, kept_there, Stayed-renumbered}
 use Rattle.b67_overlay.specs.Overlaid.{overlaid, chain_out}
@@ -48,7 +50,11 @@ readable_on x y p q t r none k = ⊎_elim
 pub Stayed-read : (x : Storage) (p q : MachineView) (t : PagedObject) → ReadBack x p q t → (core new : List Tagged) → Stayed q core new → Stayed p core new
 Stayed-read x p q t r core new s = let P : MachineView → Type 0 = λ z. Stayed z core new in Stayed-renumbered p t.home r.numbers core new (subst P r.is s)
 
-module _ (x : Storage) (cpu : Cpu) (areas : Areas) (table : Table) (told : Option (List (List ℕ))) (p : MachineView) (home code spare : ℕ) (t c : PagedObject) (m : MachineRepresentsView x cpu areas table told p) (a : IsAbsent x p home t) (k : IsCode x p code spare c) where
+-- paging over a storage that says nothing of the device
+pub paging_untold : (x : Storage) (cpu : Cpu) (areas : Areas) (table : Table) (told : Option (List (List ℕ))) (p : MachineView) → MachineCanPage x cpu areas table told p → MachineCanPage (untold x) cpu areas table told p
+paging_untold x cpu areas table told p m = record { stands = Represents-untold x cpu.core cpu.regs p m.stands; low = m.low; shelf = m.shelf; device = tt; copies = m.copies }
+
+module _ (x : Storage) (cpu : Cpu) (areas : Areas) (table : Table) (told : Option (List (List ℕ))) (p : MachineView) (home code spare : ℕ) (t c : PagedObject) (m : MachineCanPage x cpu areas table told p) (a : IsAbsent x p home t) (k : IsCode x p code spare c) where
   pub differ : c.home ≢ t.home
   differ e = none-some spare (sym a.absent ∙ ap (λ q. (x.held q).area) (sym a.is ∙ sym e ∙ k.is) ∙ k.present)
 
@@ -107,7 +113,7 @@ module _ (x : Storage) (cpu : Cpu) (areas : Areas) (table : Table) (told : Optio
     pub readable_z : IsReadable x p → IsReadable (brought (overlaid x c spare told) t rd.at) rd.machine_view
     readable_z r = readable_on x (brought (overlaid x c spare told) t rd.at) p rd.machine_view t reads_x (λ e. device_same ∙ e) r
 
-    pub waits_second : (last : Cpu) (done : Areas) (end : Option (List (List ℕ))) → MachineRepresentsView (brought (overlaid x c spare told) t rd.at) last done table end rd.machine_view → MayWait x p t c last done table end
+    pub waits_second : (last : Cpu) (done : Areas) (end : Option (List (List ℕ))) → MachineCanPage (brought (overlaid x c spare told) t rd.at) last done table end rd.machine_view → MayWait x p t c last done table end
     waits_second last done end ms = record {
       storage = brought (overlaid x c spare told) t rd.at;
       machine_view = rd.machine_view;
@@ -155,7 +161,7 @@ module _ (x : Storage) (cpu : Cpu) (areas : Areas) (table : Table) (told : Optio
     pub room_c : (at : ℕ) → HasHole (length c.numbers + 2) (brought (overlaid x c spare told) t at).spans
     room_c at = let (h, is, e) = hole in second_room (length c.numbers + 2) x.low at ((overlaid x c spare told).held t.home).chain h (fresh t.kind (length t.numbers) t.home) (without x.low spare x.spans) is (omega arith) (omega (arith, size))
 
-  pub waits_first : (last : Cpu) (done : Areas) (end : Option (List (List ℕ))) → MachineRepresentsView (overlaid x c spare told) last done table end p → MayWait x p t c last done table end
+  pub waits_first : (last : Cpu) (done : Areas) (end : Option (List (List ℕ))) → MachineCanPage (overlaid x c spare told) last done table end p → MayWait x p t c last done table end
   waits_first last done end ms = record {
     storage = overlaid x c spare told;
     machine_view = p;

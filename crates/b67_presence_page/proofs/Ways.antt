@@ -10,7 +10,8 @@ use Rattle.b67_word.specs.Tagged.{Tagged}
 use Rattle.b67_stack.specs.Shapes.{Location}
 use Rattle.b67_stack.specs.MachineView.{PagedObject, MachineView}
 use Rattle.b67_stack.specs.Represents.{Storage, Represents}
-use Rattle.b67_layout_storage.specs.Machine.{MachineRepresentsView, IsAbsent, AreBits, renumbered}
+use Rattle.b67_layout_storage.specs.Machine.{IsAbsent, AreBits, renumbered}
+use Rattle.b67_overlay.specs.Spans.{MachineCanPage}
 use Rattle.b67_layout_storage.proofs.Renumbered.{renumbered-same}
 use Rattle.b67_overlay.specs.AreasEvicted.{AreasEvicted}
 use Rattle.b67_overlay.proofs.Shedding.{AreasEvicted-then}
@@ -32,8 +33,8 @@ none_or None = inl refl
 none_or (Some all) = inr (λ e. none-some all (sym e))
 
 pub read_in : (y : Storage) (core : List Tagged) (r : Regs) (p : MachineView) (home : ℕ) (t : PagedObject) (cpu : Cpu) (areas : Areas) (table : Table) (told : Option (List (List ℕ))) → Represents y core r p → IsAbsent y p home t → IsReadable y p
-    → (IsKnown y t → (at : ℕ) × IsPlace y t at × MachineRepresentsView (brought y t at) cpu areas table told p)
-    → (y.device ≡ None → (at : ℕ) × (ns : List ℕ) × IsPlace y t at × (length ns ≡ length t.numbers) × AreBits ns × MachineRepresentsView (brought y t at) cpu areas table told (renumbered p home ns))
+    → (IsKnown y t → (at : ℕ) × IsPlace y t at × MachineCanPage (brought y t at) cpu areas table told p)
+    → (y.device ≡ None → (at : ℕ) × (ns : List ℕ) × IsPlace y t at × (length ns ≡ length t.numbers) × AreBits ns × MachineCanPage (brought y t at) cpu areas table told (renumbered p home ns))
     → ReadIn y p t cpu areas table told
 read_in y core r p home t cpu areas table told s a readable known untold = ⊎_elim
     (λ (e : y.device ≡ None).

@@ -12,7 +12,8 @@ use Rattle.b67_lemmas.specs.Lists.{Has}
 use Rattle.b67_stack.specs.declared.Cpu.{Cpu}
 use Rattle.b67_stack.specs.MachineView.{PagedObject, MachineView}
 use Rattle.b67_stack.specs.Represents.{Storage}
-use Rattle.b67_layout_storage.specs.Machine.{MachineRepresentsView, AreBits, HasHole, Stayed, renumbered}
+use Rattle.b67_layout_storage.specs.Machine.{AreBits, HasHole, Stayed, renumbered}
+use Rattle.b67_overlay.specs.Spans.{MachineCanPage}
 use Rattle.b67_overlay.specs.AreasEvicted.{AreasEvicted, IsShortBy}
 use Rattle.b67_presence_page.specs.declared.paging.Refusal.{Refusal}
 use Rattle.b67_presence_page.specs.declared.paging.Refusal.TheVariants.{NoHole, BackingFault}
@@ -36,7 +37,7 @@ pub record ReadIn (x : Storage) (p : MachineView) (t : PagedObject) (cpu : Cpu) 
   pub machine_view : MachineView
   pub place : IsPlace x t at
   pub reads : ReadBack x p machine_view t
-  pub stands : MachineRepresentsView (brought x t at) cpu areas table told machine_view
+  pub stands : MachineCanPage (brought x t at) cpu areas table told machine_view
 
 -- the machine stands, where areas but the one at `spare` were given back, and then the object was placed
 pub record PlacedAfterEviction (x : Storage) (p : MachineView) (t : PagedObject) (spare : ℕ) (cpu : Cpu) (areas : Areas) (table : Table) (told : Option (List (List ℕ))) : Type 0 where
@@ -46,13 +47,13 @@ pub record PlacedAfterEviction (x : Storage) (p : MachineView) (t : PagedObject)
   pub sheds : AreasEvicted x storage spare
   pub place : IsPlace storage t at
   pub reads : ReadBack x p machine_view t
-  pub stands : MachineRepresentsView (brought storage t at) cpu areas table told machine_view
+  pub stands : MachineCanPage (brought storage t at) cpu areas table told machine_view
 
 -- the machine stands, where areas but the one at `spare` were given back
 pub record Waits (x : Storage) (p : MachineView) (spare : ℕ) (cpu : Cpu) (areas : Areas) (table : Table) (told : Option (List (List ℕ))) : Type 0 where
   pub storage : Storage
   pub sheds : AreasEvicted x storage spare
-  pub stands : MachineRepresentsView storage cpu areas table told p
+  pub stands : MachineCanPage storage cpu areas table told p
 
 -- the code of a home is in the area at `at`
 pub record IsCode (x : Storage) (p : MachineView) (home at : ℕ) (c : PagedObject) : Type 0 where
@@ -73,7 +74,7 @@ pub record BothIn (x : Storage) (p : MachineView) (t c : PagedObject) (cpu : Cpu
   pub code : (storage.held c.home).area ≢ None
   pub reads : ReadBack x p read t
   pub reads_code : ReadBack x read machine_view c
-  pub stands : MachineRepresentsView storage cpu areas table told machine_view
+  pub stands : MachineCanPage storage cpu areas table told machine_view
 
 -- the object may be in core, and the running code may not: one of them isn't
 pub record MayWait (x : Storage) (p : MachineView) (t c : PagedObject) (cpu : Cpu) (areas : Areas) (table : Table) (told : Option (List (List ℕ))) : Type 0 where
@@ -84,7 +85,7 @@ pub record MayWait (x : Storage) (p : MachineView) (t c : PagedObject) (cpu : Cp
   pub told_still : x.device ≢ None → storage.device ≢ None
   pub lacks : ((storage.held t.home).area ≡ None) ⊎ ((storage.held c.home).area ≡ None)
   pub reads : ReadBack x p machine_view t
-  pub stands : MachineRepresentsView storage cpu areas table told machine_view
+  pub stands : MachineCanPage storage cpu areas table told machine_view
 
 -- the words that core must have for an object beside the stacks, and for the running code with it
 abbrev pub need_one : Storage → PagedObject → ℕ
@@ -102,11 +103,11 @@ IsAlone x spare = (at : ℕ) (a : Info) → area_at x.low x.spans at ≡ Some a 
 pub record PagesIn {D : Type 0} (tell : D → Option (List (List ℕ))) (x : Storage) (p : MachineView) (home : ℕ) (t : PagedObject)
     (result : Result (Unit {0}) Refusal) (old cpu : Cpu) (areas : Areas) (table : Table) (before after : D) : Type 0 where
   pub outside : Stayed p old.core cpu.core
-  pub known : OnOk result (IsKnown x t → (at : ℕ) × IsPlace x t at × MachineRepresentsView (brought x t at) cpu areas table (tell after) p)
+  pub known : OnOk result (IsKnown x t → (at : ℕ) × IsPlace x t at × MachineCanPage (brought x t at) cpu areas table (tell after) p)
   pub untold : OnOk result (x.device ≡ None
       → (at : ℕ) × (ns : List ℕ) × IsPlace x t at × (length ns ≡ length t.numbers) × AreBits ns
-      × MachineRepresentsView (brought x t at) cpu areas table (tell after) (renumbered p home ns))
-  pub refused : OnErr result (MachineRepresentsView x cpu areas table (tell after) p)
+      × MachineCanPage (brought x t at) cpu areas table (tell after) (renumbered p home ns))
+  pub refused : OnErr result (MachineCanPage x cpu areas table (tell after) p)
   pub full : (result ≡ Err NoHole) ↔ (HasHole (length t.numbers + 2) x.spans → ⊥)
   pub untouched : (x.held home).chain ≡ 0 → after ≡ before
   pub zeros : (x.held home).chain ≡ 0 → result ≢ Err BackingFault
@@ -126,7 +127,7 @@ pub record FoundHole {D : Type 0} (tell : D → Option (List (List ℕ))) (x : S
   pub sectors : table_new ≡ table
   pub device : Becomes tell before after (λ all. all)
   pub read : OnOk result (IsReadable x p → ReadIn x p t cpu areas table_new (tell after))
-  pub stays : OnErr result (MachineRepresentsView x cpu areas table_new (tell after) p)
+  pub stays : OnErr result (MachineCanPage x cpu areas table_new (tell after) p)
 
 -- the code of an absent descriptor is brought in; too few free sectors refuse it only if there was no hole for it
 pub record BringsCode (x : Storage) (p : MachineView) (t : PagedObject)

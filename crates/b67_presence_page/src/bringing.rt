@@ -6,7 +6,8 @@ ghost use Rattle.b67_ctl.specs.declared.registers.Regs.{Regs};
 ghost use Rattle.b67_io.specs.Causes.{Rose};
 ghost use Rattle.b67_stack.specs.MachineView.{PagedObject, MachineView};
 ghost use Rattle.b67_stack.specs.Represents.{Storage, Represents};
-ghost use Rattle.b67_layout_storage.specs.Machine.{MachineRepresentsView, IsAbsent, DeviceAfterCalls, PagingKeeps, HasHole, Stayed};
+ghost use Rattle.b67_layout_storage.specs.Machine.{IsAbsent, DeviceAfterCalls, PagingKeeps, HasHole, Stayed};
+ghost use Rattle.b67_overlay.specs.Spans.{MachineCanPage};
 ghost use Rattle.b67_overlay.specs.AreasEvicted.{IsShortBy};
 ghost use Rattle.b67_presence_page.specs.Brings.{IsReadable, ReadIn, PlacedAfterEviction, Waits, IsCode, BothIn, MayWait, need_one, need_both, IsAlone, FoundHole, BringsCode, BringsData};
 
@@ -39,15 +40,15 @@ fn page_in_room<B: Backing>(
     backing: &mut B,
     home: u32,
 ) -> Result<(), SpaceFault>
-    requires machine { (x : Storage) × (p : MachineView) × (t : PagedObject) × MachineRepresentsView x cpu.old areas.old sectors.now (B.holds backing.old) p × IsAbsent x p home t × HasHole (length t.numbers + 2) x.spans }
+    requires machine { (x : Storage) × (p : MachineView) × (t : PagedObject) × MachineCanPage x cpu.old areas.old sectors.now (B.holds backing.old) p × IsAbsent x p home t × HasHole (length t.numbers + 2) x.spans }
     requires same { B.size backing.old + 1 ≡ length sectors.now.links }
     ensures keeps { PagingKeeps cpu.old cpu.new areas.old areas.new sectors.now sectors.now }
-    ensures outside { (x : Storage) (p : MachineView) (t : PagedObject) → MachineRepresentsView x cpu.old areas.old sectors.now (B.holds backing.old) p → IsAbsent x p home t
+    ensures outside { (x : Storage) (p : MachineView) (t : PagedObject) → MachineCanPage x cpu.old areas.old sectors.now (B.holds backing.old) p → IsAbsent x p home t
         → Stayed p cpu.old.core cpu.new.core }
-    ensures came { OnOk result ((x : Storage) (p : MachineView) (t : PagedObject) → MachineRepresentsView x cpu.old areas.old sectors.now (B.holds backing.old) p
+    ensures came { OnOk result ((x : Storage) (p : MachineView) (t : PagedObject) → MachineCanPage x cpu.old areas.old sectors.now (B.holds backing.old) p
         → IsAbsent x p home t → IsReadable x p → ReadIn x p t cpu.new areas.new sectors.now (B.holds backing.new)) }
-    ensures refused { OnErr result ((x : Storage) (p : MachineView) (t : PagedObject) → MachineRepresentsView x cpu.old areas.old sectors.now (B.holds backing.old) p
-        → IsAbsent x p home t → MachineRepresentsView x cpu.new areas.new sectors.now (B.holds backing.new) p) }
+    ensures refused { OnErr result ((x : Storage) (p : MachineView) (t : PagedObject) → MachineCanPage x cpu.old areas.old sectors.now (B.holds backing.old) p
+        → IsAbsent x p home t → MachineCanPage x cpu.new areas.new sectors.now (B.holds backing.new) p) }
     ensures no_core { (need size : ℕ) → result ≢ Err (NoCore need size) }
     ensures not_full { (wants free : ℕ) → result ≢ Err (BackingFull wants free) }
     ensures device { DeviceAfterCalls B.holds B.size B.calls B.faults backing.old backing.new }
@@ -70,15 +71,15 @@ fn last_resort<B: Backing>(
     code: u32,
     spare: u32,
 ) -> Result<(), SpaceFault>
-    requires machine { (x : Storage) × (p : MachineView) × (t : PagedObject) × (c : PagedObject) × MachineRepresentsView x cpu.old areas.old sectors.now (B.holds backing.old) p × IsAbsent x p home t × IsCode x p code spare c
+    requires machine { (x : Storage) × (p : MachineView) × (t : PagedObject) × (c : PagedObject) × MachineCanPage x cpu.old areas.old sectors.now (B.holds backing.old) p × IsAbsent x p home t × IsCode x p code spare c
         × IsAlone x spare × (need_both x c t ≤ length cpu.old.core) }
     requires same { B.size backing.old + 1 ≡ length sectors.now.links }
     ensures keeps { PagingKeeps cpu.old cpu.new areas.old areas.new sectors.now sectors.now }
-    ensures outside { (x : Storage) (p : MachineView) (t c : PagedObject) → MachineRepresentsView x cpu.old areas.old sectors.now (B.holds backing.old) p → IsAbsent x p home t → IsCode x p code spare c
+    ensures outside { (x : Storage) (p : MachineView) (t c : PagedObject) → MachineCanPage x cpu.old areas.old sectors.now (B.holds backing.old) p → IsAbsent x p home t → IsCode x p code spare c
         → IsAlone x spare → Stayed p cpu.old.core cpu.new.core }
-    ensures both { OnOk result ((x : Storage) (p : MachineView) (t c : PagedObject) → MachineRepresentsView x cpu.old areas.old sectors.now (B.holds backing.old) p → IsAbsent x p home t
+    ensures both { OnOk result ((x : Storage) (p : MachineView) (t c : PagedObject) → MachineCanPage x cpu.old areas.old sectors.now (B.holds backing.old) p → IsAbsent x p home t
         → IsCode x p code spare c → IsAlone x spare → IsReadable x p → BothIn x p t c cpu.new areas.new sectors.now (B.holds backing.new)) }
-    ensures waits { OnErr result ((x : Storage) (p : MachineView) (t c : PagedObject) → MachineRepresentsView x cpu.old areas.old sectors.now (B.holds backing.old) p → IsAbsent x p home t
+    ensures waits { OnErr result ((x : Storage) (p : MachineView) (t c : PagedObject) → MachineCanPage x cpu.old areas.old sectors.now (B.holds backing.old) p → IsAbsent x p home t
         → IsCode x p code spare c → IsAlone x spare → IsReadable x p → MayWait x p t c cpu.new areas.new sectors.now (B.holds backing.new)) }
     ensures no_core { (need size : ℕ) → result ≢ Err (NoCore need size) }
     ensures not_full { (wants free : ℕ) → result ≢ Err (BackingFull wants free) }
@@ -100,15 +101,15 @@ fn force_code<B: Backing>(
     backing: &mut B,
     code: u32,
 ) -> Result<(), SpaceFault>
-    requires machine { (x : Storage) × (p : MachineView) × (t : PagedObject) × MachineRepresentsView x cpu.old areas.old sectors.old (B.holds backing.old) p × IsAbsent x p code t × (need_one x t ≤ length cpu.old.core) }
+    requires machine { (x : Storage) × (p : MachineView) × (t : PagedObject) × MachineCanPage x cpu.old areas.old sectors.old (B.holds backing.old) p × IsAbsent x p code t × (need_one x t ≤ length cpu.old.core) }
     requires same { B.size backing.old + 1 ≡ length sectors.old.links }
     ensures keeps { PagingKeeps cpu.old cpu.new areas.old areas.new sectors.old sectors.new }
-    ensures outside { (x : Storage) (p : MachineView) (t : PagedObject) → MachineRepresentsView x cpu.old areas.old sectors.old (B.holds backing.old) p → IsAbsent x p code t → Stayed p cpu.old.core cpu.new.core }
-    ensures came { OnOk result ((x : Storage) (p : MachineView) (t : PagedObject) → MachineRepresentsView x cpu.old areas.old sectors.old (B.holds backing.old) p → IsAbsent x p code t
+    ensures outside { (x : Storage) (p : MachineView) (t : PagedObject) → MachineCanPage x cpu.old areas.old sectors.old (B.holds backing.old) p → IsAbsent x p code t → Stayed p cpu.old.core cpu.new.core }
+    ensures came { OnOk result ((x : Storage) (p : MachineView) (t : PagedObject) → MachineCanPage x cpu.old areas.old sectors.old (B.holds backing.old) p → IsAbsent x p code t
         → IsReadable x p → PlacedAfterEviction x p t 0 cpu.new areas.new sectors.new (B.holds backing.new)) }
-    ensures refused { OnErr result ((x : Storage) (p : MachineView) (t : PagedObject) → MachineRepresentsView x cpu.old areas.old sectors.old (B.holds backing.old) p → IsAbsent x p code t
+    ensures refused { OnErr result ((x : Storage) (p : MachineView) (t : PagedObject) → MachineCanPage x cpu.old areas.old sectors.old (B.holds backing.old) p → IsAbsent x p code t
         → Waits x p 0 cpu.new areas.new sectors.new (B.holds backing.new)) }
-    ensures full { (x : Storage) (p : MachineView) (t : PagedObject) (wants free : ℕ) → MachineRepresentsView x cpu.old areas.old sectors.old (B.holds backing.old) p → IsAbsent x p code t
+    ensures full { (x : Storage) (p : MachineView) (t : PagedObject) (wants free : ℕ) → MachineCanPage x cpu.old areas.old sectors.old (B.holds backing.old) p → IsAbsent x p code t
         → result ≡ Err (BackingFull wants free) → (w : Waits x p 0 cpu.new areas.new sectors.new (B.holds backing.new)) × IsShortBy w.storage p wants free }
     ensures no_core { (need size : ℕ) → result ≢ Err (NoCore need size) }
     ensures device { DeviceAfterCalls B.holds B.size B.calls B.faults backing.old backing.new }
@@ -132,17 +133,17 @@ fn force_data<B: Backing>(
     code: u32,
     spare: u32,
 ) -> Result<(), SpaceFault>
-    requires machine { (x : Storage) × (p : MachineView) × (t : PagedObject) × (c : PagedObject) × MachineRepresentsView x cpu.old areas.old sectors.old (B.holds backing.old) p × IsAbsent x p home t × IsCode x p code spare c
+    requires machine { (x : Storage) × (p : MachineView) × (t : PagedObject) × (c : PagedObject) × MachineCanPage x cpu.old areas.old sectors.old (B.holds backing.old) p × IsAbsent x p home t × IsCode x p code spare c
         × (need_both x c t ≤ length cpu.old.core) }
     requires same { B.size backing.old + 1 ≡ length sectors.old.links }
     ensures keeps { PagingKeeps cpu.old cpu.new areas.old areas.new sectors.old sectors.new }
-    ensures outside { (x : Storage) (p : MachineView) (t c : PagedObject) → MachineRepresentsView x cpu.old areas.old sectors.old (B.holds backing.old) p → IsAbsent x p home t → IsCode x p code spare c
+    ensures outside { (x : Storage) (p : MachineView) (t c : PagedObject) → MachineCanPage x cpu.old areas.old sectors.old (B.holds backing.old) p → IsAbsent x p home t → IsCode x p code spare c
         → Stayed p cpu.old.core cpu.new.core }
-    ensures both { OnOk result ((x : Storage) (p : MachineView) (t c : PagedObject) → MachineRepresentsView x cpu.old areas.old sectors.old (B.holds backing.old) p → IsAbsent x p home t
+    ensures both { OnOk result ((x : Storage) (p : MachineView) (t c : PagedObject) → MachineCanPage x cpu.old areas.old sectors.old (B.holds backing.old) p → IsAbsent x p home t
         → IsCode x p code spare c → IsReadable x p → BothIn x p t c cpu.new areas.new sectors.new (B.holds backing.new)) }
-    ensures refused { OnErr result ((x : Storage) (p : MachineView) (t c : PagedObject) → MachineRepresentsView x cpu.old areas.old sectors.old (B.holds backing.old) p → IsAbsent x p home t
+    ensures refused { OnErr result ((x : Storage) (p : MachineView) (t c : PagedObject) → MachineCanPage x cpu.old areas.old sectors.old (B.holds backing.old) p → IsAbsent x p home t
         → IsCode x p code spare c → IsReadable x p → MayWait x p t c cpu.new areas.new sectors.new (B.holds backing.new)) }
-    ensures full { (x : Storage) (p : MachineView) (t : PagedObject) (wants free : ℕ) → MachineRepresentsView x cpu.old areas.old sectors.old (B.holds backing.old) p → IsAbsent x p home t
+    ensures full { (x : Storage) (p : MachineView) (t : PagedObject) (wants free : ℕ) → MachineCanPage x cpu.old areas.old sectors.old (B.holds backing.old) p → IsAbsent x p home t
         → result ≡ Err (BackingFull wants free) → (w : Waits x p spare cpu.new areas.new sectors.new (B.holds backing.new)) × IsShortBy w.storage p wants free }
     ensures no_core { (need size : ℕ) → result ≢ Err (NoCore need size) }
     ensures device { DeviceAfterCalls B.holds B.size B.calls B.faults backing.old backing.new }
@@ -166,13 +167,13 @@ pub fn bring_code<B: Backing>(
     backing: &mut B,
     code: u32,
 ) -> Result<(), SpaceFault>
-    requires machine { (x : Storage) × (p : MachineView) × (t : PagedObject) × MachineRepresentsView x cpu.old areas.old sectors.old (B.holds backing.old) p × IsAbsent x p code t
+    requires machine { (x : Storage) × (p : MachineView) × (t : PagedObject) × MachineCanPage x cpu.old areas.old sectors.old (B.holds backing.old) p × IsAbsent x p code t
         × (need_one x t ≤ length cpu.old.core) }
     requires same { B.size backing.old + 1 ≡ length sectors.old.links }
     ensures keeps { PagingKeeps cpu.old cpu.new areas.old areas.new sectors.old sectors.new }
-    ensures row { (x : Storage) (p : MachineView) (t : PagedObject) → MachineRepresentsView x cpu.old areas.old sectors.old (B.holds backing.old) p → IsAbsent x p code t
+    ensures row { (x : Storage) (p : MachineView) (t : PagedObject) → MachineCanPage x cpu.old areas.old sectors.old (B.holds backing.old) p → IsAbsent x p code t
         → BringsCode x p t result cpu.old cpu.new areas.new sectors.new (B.holds backing.new) }
-    ensures hole { (x : Storage) (p : MachineView) (t : PagedObject) → MachineRepresentsView x cpu.old areas.old sectors.old (B.holds backing.old) p → IsAbsent x p code t
+    ensures hole { (x : Storage) (p : MachineView) (t : PagedObject) → MachineCanPage x cpu.old areas.old sectors.old (B.holds backing.old) p → IsAbsent x p code t
         → HasHole (length t.numbers + 2) x.spans → FoundHole B.holds x p t result cpu.new areas.new sectors.old sectors.new backing.old backing.new }
     ensures no_core { (need size : ℕ) → result ≢ Err (NoCore need size) }
     ensures device { DeviceAfterCalls B.holds B.size B.calls B.faults backing.old backing.new }
@@ -199,13 +200,13 @@ pub fn bring_data<B: Backing>(
     home: u32,
     code: u32,
 ) -> Result<(), SpaceFault>
-    requires machine { (x : Storage) × (p : MachineView) × (t : PagedObject) × (c : PagedObject) × (at : ℕ) × MachineRepresentsView x cpu.old areas.old sectors.old (B.holds backing.old) p × IsAbsent x p home t × IsCode x p code at c
+    requires machine { (x : Storage) × (p : MachineView) × (t : PagedObject) × (c : PagedObject) × (at : ℕ) × MachineCanPage x cpu.old areas.old sectors.old (B.holds backing.old) p × IsAbsent x p home t × IsCode x p code at c
         × (need_both x c t ≤ length cpu.old.core) }
     requires same { B.size backing.old + 1 ≡ length sectors.old.links }
     ensures keeps { PagingKeeps cpu.old cpu.new areas.old areas.new sectors.old sectors.new }
-    ensures row { (x : Storage) (p : MachineView) (t c : PagedObject) (at : ℕ) → MachineRepresentsView x cpu.old areas.old sectors.old (B.holds backing.old) p → IsAbsent x p home t → IsCode x p code at c
+    ensures row { (x : Storage) (p : MachineView) (t c : PagedObject) (at : ℕ) → MachineCanPage x cpu.old areas.old sectors.old (B.holds backing.old) p → IsAbsent x p home t → IsCode x p code at c
         → BringsData B.holds x p home t c at result cpu.old cpu.new areas.new sectors.new backing.old backing.new }
-    ensures hole { (x : Storage) (p : MachineView) (t : PagedObject) → MachineRepresentsView x cpu.old areas.old sectors.old (B.holds backing.old) p → IsAbsent x p home t
+    ensures hole { (x : Storage) (p : MachineView) (t : PagedObject) → MachineCanPage x cpu.old areas.old sectors.old (B.holds backing.old) p → IsAbsent x p home t
         → HasHole (length t.numbers + 2) x.spans → FoundHole B.holds x p t result cpu.new areas.new sectors.old sectors.new backing.old backing.new }
     ensures no_core { (need size : ℕ) → result ≢ Err (NoCore need size) }
     ensures device { DeviceAfterCalls B.holds B.size B.calls B.faults backing.old backing.new }

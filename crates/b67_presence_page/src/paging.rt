@@ -10,7 +10,8 @@ ghost use Rattle.b67_ctl.specs.declared.registers.Regs.{Regs};
 ghost use Rattle.b67_stack.specs.MachineView.{PagedObject, MachineView, home_word_of, home_desc, tag_of};
 ghost use Rattle.b67_ctl.specs.Descriptors.{data_word};
 ghost use Rattle.b67_stack.specs.Represents.{Storage, Represents};
-ghost use Rattle.b67_layout_storage.specs.Machine.{MachineRepresentsView, IsAbsent, DeviceAfterReads, PagingKeeps};
+ghost use Rattle.b67_layout_storage.specs.Machine.{IsAbsent, DeviceAfterReads, PagingKeeps};
+ghost use Rattle.b67_overlay.specs.Spans.{MachineCanPage};
 ghost use Rattle.b67_presence_page.specs.declared.paging.Refusal.TheVariants.{NoHole, BackingFault};
 ghost use Rattle.b67_presence_page.specs.Brought.{resting, ReadFromChain};
 ghost use Rattle.b67_presence_page.specs.Brings.{PagesIn};
@@ -138,10 +139,10 @@ pub fn page_in<B: Backing>(
     backing: &mut B,
     home: u32,
 ) -> Result<(), Refusal>
-    requires machine { (x : Storage) × (p : MachineView) × (t : PagedObject) × MachineRepresentsView x cpu.old areas.old sectors.now (B.holds backing.old) p × IsAbsent x p home t }
+    requires machine { (x : Storage) × (p : MachineView) × (t : PagedObject) × MachineCanPage x cpu.old areas.old sectors.now (B.holds backing.old) p × IsAbsent x p home t }
     requires same { B.size backing.old + 1 ≡ length sectors.now.links }
     ensures keeps { PagingKeeps cpu.old cpu.new areas.old areas.new sectors.now sectors.now }
-    ensures row { (x : Storage) (p : MachineView) (t : PagedObject) → MachineRepresentsView x cpu.old areas.old sectors.now (B.holds backing.old) p → IsAbsent x p home t
+    ensures row { (x : Storage) (p : MachineView) (t : PagedObject) → MachineCanPage x cpu.old areas.old sectors.now (B.holds backing.old) p → IsAbsent x p home t
         → PagesIn B.holds x p home t result cpu.old cpu.new areas.new sectors.now backing.old backing.new }
     ensures unchanged { result ≡ Err NoHole → (cpu.new ≡ cpu.old) × (backing.new ≡ backing.old) }
     ensures device { DeviceAfterReads B.holds B.size B.calls B.faults backing.old backing.new }

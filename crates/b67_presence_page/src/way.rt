@@ -5,7 +5,8 @@ ghost use Rattle.b67_backing.specs.declared.SpaceFault.TheVariants.{NoCore, Back
 ghost use Rattle.b67_io.specs.Causes.{Rose};
 ghost use Rattle.b67_stack.specs.MachineView.{PagedObject, MachineView};
 ghost use Rattle.b67_stack.specs.Represents.{Storage};
-ghost use Rattle.b67_layout_storage.specs.Machine.{MachineRepresentsView, IsAbsent, IsPresent, DeviceAfterCalls, PagingKeeps, Stayed};
+ghost use Rattle.b67_layout_storage.specs.Machine.{IsAbsent, IsPresent, DeviceAfterCalls, PagingKeeps, Stayed};
+ghost use Rattle.b67_overlay.specs.Spans.{MachineCanPage};
 ghost use Rattle.b67_overlay.specs.Overlaid.{overlaid};
 ghost use Rattle.b67_overlay.specs.AreasEvicted.{IsShortBy};
 ghost use Rattle.b67_presence_page.specs.Brings.{IsReadable, PlacedAfterEviction, Waits, MakesWay};
@@ -27,20 +28,20 @@ fn give_way<B: Backing>(
     at: u32,
     spare: u32,
 ) -> Result<bool, SpaceFault>
-    requires machine { (x : Storage) × (p : MachineView) × (t : PagedObject) × (u : PagedObject) × MachineRepresentsView x cpu.old areas.old sectors.old (B.holds backing.old) p × IsAbsent x p home t × IsPresent x p at u }
+    requires machine { (x : Storage) × (p : MachineView) × (t : PagedObject) × (u : PagedObject) × MachineCanPage x cpu.old areas.old sectors.old (B.holds backing.old) p × IsAbsent x p home t × IsPresent x p at u }
     requires same { B.size backing.old + 1 ≡ length sectors.old.links }
     ensures keeps { PagingKeeps cpu.old cpu.new areas.old areas.new sectors.old sectors.new }
-    ensures outside { (x : Storage) (p : MachineView) (t u : PagedObject) → MachineRepresentsView x cpu.old areas.old sectors.old (B.holds backing.old) p → IsAbsent x p home t → IsPresent x p at u
+    ensures outside { (x : Storage) (p : MachineView) (t u : PagedObject) → MachineCanPage x cpu.old areas.old sectors.old (B.holds backing.old) p → IsAbsent x p home t → IsPresent x p at u
         → Stayed p cpu.old.core cpu.new.core }
-    ensures came { result ≡ Ok true → (x : Storage) (p : MachineView) (t u : PagedObject) → MachineRepresentsView x cpu.old areas.old sectors.old (B.holds backing.old) p
+    ensures came { result ≡ Ok true → (x : Storage) (p : MachineView) (t u : PagedObject) → MachineCanPage x cpu.old areas.old sectors.old (B.holds backing.old) p
         → IsAbsent x p home t → IsPresent x p at u → IsReadable x p → PlacedAfterEviction x p t spare cpu.new areas.new sectors.new (B.holds backing.new) }
-    ensures gone { result ≡ Ok false → (x : Storage) (p : MachineView) (t u : PagedObject) → MachineRepresentsView x cpu.old areas.old sectors.old (B.holds backing.old) p
+    ensures gone { result ≡ Ok false → (x : Storage) (p : MachineView) (t u : PagedObject) → MachineCanPage x cpu.old areas.old sectors.old (B.holds backing.old) p
         → IsAbsent x p home t → IsPresent x p at u
-        → (at ≡ spare → MachineRepresentsView x cpu.new areas.new sectors.new (B.holds backing.new) p)
-        × (at ≢ spare → MachineRepresentsView (overlaid x u at (B.holds backing.new)) cpu.new areas.new sectors.new (B.holds backing.new) p) }
-    ensures refused { OnErr result ((x : Storage) (p : MachineView) (t u : PagedObject) → MachineRepresentsView x cpu.old areas.old sectors.old (B.holds backing.old) p
+        → (at ≡ spare → MachineCanPage x cpu.new areas.new sectors.new (B.holds backing.new) p)
+        × (at ≢ spare → MachineCanPage (overlaid x u at (B.holds backing.new)) cpu.new areas.new sectors.new (B.holds backing.new) p) }
+    ensures refused { OnErr result ((x : Storage) (p : MachineView) (t u : PagedObject) → MachineCanPage x cpu.old areas.old sectors.old (B.holds backing.old) p
         → IsAbsent x p home t → IsPresent x p at u → Waits x p spare cpu.new areas.new sectors.new (B.holds backing.new)) }
-    ensures full { (x : Storage) (p : MachineView) (t u : PagedObject) (wants free : ℕ) → MachineRepresentsView x cpu.old areas.old sectors.old (B.holds backing.old) p → IsAbsent x p home t → IsPresent x p at u
+    ensures full { (x : Storage) (p : MachineView) (t u : PagedObject) (wants free : ℕ) → MachineCanPage x cpu.old areas.old sectors.old (B.holds backing.old) p → IsAbsent x p home t → IsPresent x p at u
         → result ≡ Err (BackingFull wants free) → (w : Waits x p spare cpu.new areas.new sectors.new (B.holds backing.new)) × IsShortBy w.storage p wants free }
     ensures no_core { (need size : ℕ) → result ≢ Err (NoCore need size) }
     ensures device { DeviceAfterCalls B.holds B.size B.calls B.faults backing.old backing.new }
@@ -69,10 +70,10 @@ pub fn make_way<B: Backing>(
     home: u32,
     spare: u32,
 ) -> Result<bool, SpaceFault>
-    requires machine { (x : Storage) × (p : MachineView) × (t : PagedObject) × MachineRepresentsView x cpu.old areas.old sectors.old (B.holds backing.old) p × IsAbsent x p home t }
+    requires machine { (x : Storage) × (p : MachineView) × (t : PagedObject) × MachineCanPage x cpu.old areas.old sectors.old (B.holds backing.old) p × IsAbsent x p home t }
     requires same { B.size backing.old + 1 ≡ length sectors.old.links }
     ensures keeps { PagingKeeps cpu.old cpu.new areas.old areas.new sectors.old sectors.new }
-    ensures row { (x : Storage) (p : MachineView) (t : PagedObject) → MachineRepresentsView x cpu.old areas.old sectors.old (B.holds backing.old) p → IsAbsent x p home t
+    ensures row { (x : Storage) (p : MachineView) (t : PagedObject) → MachineCanPage x cpu.old areas.old sectors.old (B.holds backing.old) p → IsAbsent x p home t
         → MakesWay x p t spare result cpu.old cpu.new areas.new sectors.new (B.holds backing.new) }
     ensures no_core { (need size : ℕ) → result ≢ Err (NoCore need size) }
     ensures device { DeviceAfterCalls B.holds B.size B.calls B.faults backing.old backing.new }

@@ -4,10 +4,12 @@ ghost use Rattle.b67_codefile.specs.Meaning.{program_of};
 ghost use Rattle.b67_codefile.specs.Spelling.{IsWithin};
 ghost use Rattle.b67_layout.specs.Placement.{Placement};
 ghost use Rattle.b67_layout.specs.Session.{RepresentsStorage};
-ghost use Rattle.b67_layout_storage.specs.Machine.{IsPresent, MachineRepresentsView};
+ghost use Rattle.b67_layout_storage.specs.Machine.{IsPresent};
 ghost use Rattle.b67_load.specs.Objects.{entries_of, sectors_of_program};
 ghost use Rattle.b67_load.specs.Writing.{HasSectors};
 ghost use Rattle.b67_model.specs.Schedule.{Session};
+ghost use Rattle.b67_overlay.specs.Spans.{CopiesLie, Families, MachineCanPage, ShowsFamilies};
+ghost use Rattle.b67_overlay.specs.Turns.{Lies};
 ghost use Rattle.b67_presence.specs.Bringing.{WantsSome};
 ghost use Rattle.b67_stack.specs.MachineView.{MachineView, PagedObject};
 ghost use Rattle.b67_stack.specs.Represents.{Represents, Storage};
@@ -25,6 +27,7 @@ use b67_area::Areas;
 use b67_backing::{Backing, Sectors, SpaceFault};
 use b67_codefile::Codefile;
 use b67_load::{Admitted, LoadFault};
+use b67_overlay::Span;
 use b67_stack::{Cpu, What};
 use b67_task::EndedTask;
 use b67_task_tables::{Machine, Tasks};
@@ -33,9 +36,15 @@ use std::alloc::Global;
 
 // b67_overlay
 pub fn search_copies(cpu: &mut Cpu, area: u32, original: u32)
-    requires { (x : Storage) × (p : MachineView) × (t : PagedObject) × Represents x cpu.old.core cpu.old.regs p × IsPresent x p area t × (t.home ≡ original) }
+    requires { (x : Storage) × (p : MachineView) × (t : PagedObject) × Represents x cpu.old.core cpu.old.regs p × CopiesLie cpu.old.core p × IsPresent x p area t × (t.home ≡ original) }
 {
     b67_overlay::search_copies(cpu, area, original)
+}
+
+pub fn search_span(cpu: &Cpu, original: u32, slot: u8) -> Option<Span>
+    requires { (low : ℕ) × (p : MachineView) × (f : Families) × Lies cpu.now.core cpu.now.regs low p × ShowsFamilies cpu.now.core p f × (original < low) × (slot < 120) }
+{
+    b67_overlay::search_span(cpu, original, slot)
 }
 
 pub fn overlay<B: Backing>(
@@ -45,7 +54,7 @@ pub fn overlay<B: Backing>(
     backing: &mut B,
     area: u32,
 ) -> Result<(), SpaceFault>
-    requires machine { (x : Storage) × (p : MachineView) × (t : PagedObject) × MachineRepresentsView x cpu.old areas.old sectors.old (B.holds backing.old) p × IsPresent x p area t }
+    requires machine { (x : Storage) × (p : MachineView) × (t : PagedObject) × MachineCanPage x cpu.old areas.old sectors.old (B.holds backing.old) p × IsPresent x p area t }
     requires same { B.size backing.old + 1 ≡ length sectors.old.links }
 {
     b67_overlay::overlay(cpu, areas, sectors, backing, area)
@@ -58,7 +67,7 @@ pub fn claim<B: Backing>(
     backing: &mut B,
     upto: u32,
 ) -> Result<(), SpaceFault>
-    requires machine { (x : Storage) × (p : MachineView) × MachineRepresentsView x cpu.old areas.old sectors.old (B.holds backing.old) p }
+    requires machine { (x : Storage) × (p : MachineView) × MachineCanPage x cpu.old areas.old sectors.old (B.holds backing.old) p }
     requires same { B.size backing.old + 1 ≡ length sectors.old.links }
 {
     b67_overlay::claim(cpu, areas, sectors, backing, upto)

@@ -37,7 +37,7 @@ empty_array-requires c =
       q.told,
       machine_view q.plan q.session.jobs,
       array_object q.plan q.member.constants.number r.which.array,
-      seen q.storage q.told c.args.machine.now q.plan q.session q.stands,
+      seen q.storage q.told c.args.machine.now q.plan q.session q.ordered q.stands,
       is_array q.storage q.told c.args.machine.now q.plan q.session q.member q.task q.ordered q.stands q.running r.which.array r.which.among c.in-Ok.original r.which.home r.which.writable,
     )
 
@@ -51,7 +51,7 @@ cut_call-requires-clause-call c =
     let object = array_object q.plan q.member.constants.number a in
     let p = machine_view q.plan q.session.jobs in
     let e = c.empty_array.ensures in
-    let view = seen q.storage q.told old q.plan q.session q.stands in
+    let view = seen q.storage q.told old q.plan q.session q.ordered q.stands in
     let array = is_array q.storage q.told old q.plan q.session q.member q.task q.ordered q.stands q.running a r.which.among c.in-Ok.original r.which.home r.which.writable in
     let mid : Machine = record old { cpu = c.empty_array.new.cpu; areas = c.empty_array.new.areas; sectors = c.empty_array.new.sectors } in
     let stands = stands_emptied q.storage q.told old q.plan q.session q.member q.task q.ordered q.stands q.running a r.which.among c.empty_array.new.cpu c.empty_array.new.areas c.empty_array.new.sectors e.keeps
@@ -68,7 +68,7 @@ returns-clause-row c = λ x told plan s m t o h runs code called.
     let object = array_object plan m.constants.number a in
     let p = machine_view plan s.jobs in
     let e = c.empty_array.ensures in
-    let view = seen x told old plan s h in
+    let view = seen x told old plan s o h in
     let array = is_array x told old plan s m t o h runs a r.which.among c.in-Ok.original r.which.home r.which.writable in
     let mid : Machine = record old { cpu = c.empty_array.new.cpu; areas = c.empty_array.new.areas; sectors = c.empty_array.new.sectors } in
     let stands = stands_emptied x told old plan s m t o h runs a r.which.among c.empty_array.new.cpu c.empty_array.new.areas c.empty_array.new.sectors e.keeps

@@ -20,7 +20,7 @@ shorten_array-requires-clause-machine g c =
       machine_view r.plan r.session.jobs,
       array_object r.plan r.member.constants.number q.array,
       there.0,
-      seen r.storage r.told c.args.machine.now r.plan r.session r.stands,
+      seen r.storage r.told c.args.machine.now r.plan r.session r.ordered r.stands,
       is_array r.storage r.told c.args.machine.now r.plan r.session r.member r.task r.ordered r.stands r.running q.array q.among c.args.original q.home q.writable,
       is_present r.storage r.told c.args.machine.now r.plan r.session r.member r.task r.ordered r.stands r.running q.array q.among there.0 there.1,
       omega (arith, q.long, c.if-after-before.true),
@@ -31,7 +31,7 @@ returns-then-after-before-clause-row g c = λ x told plan s m t o h runs a among
     (let k = c.args.machine.now in
     let e = c.shorten_array.ensures in
     let there = area_of (area_held x plan m.constants.number a.identity) present in
-    let view = seen x told k plan s h in
+    let view = seen x told k plan s o h in
     let array = is_array x told k plan s m t o h runs a among c.args.original home writable in
     let here = is_present x told k plan s m t o h runs a among there.0 there.1 in
     let p = machine_view plan s.jobs in

@@ -12,7 +12,9 @@ use Rattle.b67_stack.specs.declared.Cpu.{Cpu}
 use Rattle.b67_stack.specs.Shapes.{nowhere}
 use Rattle.b67_stack.specs.MachineView.{PagedObject, MachineView, home_desc, home_word_of}
 use Rattle.b67_stack.specs.Represents.{Storage, Represents, info_of}
-use Rattle.b67_layout_storage.specs.Machine.{MachineRepresentsView, IsPresent, Stayed}
+use Rattle.b67_layout_storage.specs.Machine.{IsPresent, Stayed}
+use Rattle.b67_overlay.specs.Spans.{CopiesLie, MachineCanPage}
+use Rattle.b67_overlay.proofs.Copies.{copies_stay, copies_objects}
 use Rattle.b67_layout_storage.proofs.Unchanged.{area_of_object}
 use Rattle.b67_overlay.specs.Turns.{Searched, Hides}
 use Rattle.b67_overlay.proofs.Hiding.{hidden_data}
@@ -36,13 +38,13 @@ original-untouched-requires-clause-words c =
     omega (arith, ap (λ (z : DataDesc). z.length) d, (m.stands.slots.laid.lengths t a.there).1)
 
 -- the array is in an area
-there : (c : Then-original) (x : Storage) (told : Option (List (List ℕ))) (p : MachineView) (t : PagedObject) → MachineRepresentsView x c.args.cpu.now c.args.areas.now c.args.sectors.now told p → IsArray p c.args.home t → IsPresent x p c.original_at-original.result.address t
+there : (c : Then-original) (x : Storage) (told : Option (List (List ℕ))) (p : MachineView) (t : PagedObject) → MachineCanPage x c.args.cpu.now c.args.areas.now c.args.sectors.now told p → IsArray p c.args.home t → IsPresent x p c.original_at-original.result.address t
 there c x told p t m a =
     let d = original_read x c.args.cpu.now.core c.args.cpu.now.regs p m.stands t c.args.home a c.original_at-original.result c.original_at-original.ensures in
     record { there = a.there; present = read_present (x.held t.home) (length t.numbers) c.original_at-original.result d c.if-original.true }
 
 -- in the directory
-in_area : (x : Storage) (cpu : Cpu) (areas : Areas) (table : Table) (told : Option (List (List ℕ))) (p : MachineView) (t : PagedObject) (area : ℕ) → MachineRepresentsView x cpu areas table told p → IsPresent x p area t
+in_area : (x : Storage) (cpu : Cpu) (areas : Areas) (table : Table) (told : Option (List (List ℕ))) (p : MachineView) (t : PagedObject) (area : ℕ) → MachineCanPage x cpu areas table told p → IsPresent x p area t
     → IsDirectory cpu.core areas.low x.spans × (area_at areas.low x.spans area ≡ Some (info_of x t))
 in_area x cpu areas table told p t area m at =
     let D : ℕ → Type 0 = λ low. IsDirectory cpu.core low x.spans × (area_at low x.spans area ≡ Some (info_of x t)) in
@@ -57,18 +59,18 @@ info-kept-requires c =
 pub search_copies-requires : goal.search_copies-requires
 search_copies-requires c =
     let (x, told, p, t, m, a) = c.requires in
-    (x, p, t, m.stands, there (goal.at.search_copies-requires c).Then-original x told p t m a, a.is)
+    (x, p, t, m.stands, m.copies, there (goal.at.search_copies-requires c).Then-original x told p t m a, a.is)
 
 -- what the search for copies leaves of core
-hidden : (c : Then-original) (x : Storage) (told : Option (List (List ℕ))) (p : MachineView) (t : PagedObject) (mid : List Tagged) → (m : MachineRepresentsView x c.args.cpu.now c.args.areas.now c.args.sectors.now told p) → IsArray p c.args.home t
-    → ((x : Storage) (p : MachineView) → Represents x c.args.cpu.now.core c.args.cpu.now.regs p → Searched p p.peak c.original_at-original.result.address c.args.home c.args.cpu.now.core mid) → Hides x c.args.cpu.now.core mid p t nowhere
+hidden : (c : Then-original) (x : Storage) (told : Option (List (List ℕ))) (p : MachineView) (t : PagedObject) (mid : List Tagged) → (m : MachineCanPage x c.args.cpu.now c.args.areas.now c.args.sectors.now told p) → IsArray p c.args.home t
+    → ((x : Storage) (p : MachineView) (t : PagedObject) → Represents x c.args.cpu.now.core c.args.cpu.now.regs p → CopiesLie c.args.cpu.now.core p → IsPresent x p c.original_at-original.result.address t → t.home ≡ c.args.home → Searched p p.peak c.original_at-original.result.address c.args.home c.args.cpu.now.core mid) → Hides x c.args.cpu.now.core mid p t nowhere
 hidden c x told p t mid m a searched =
     let area = c.original_at-original.result.address in
     let P : ℕ → Type 0 = λ n. Searched p p.peak area n c.args.cpu.now.core mid in
-    hidden_data x c.args.cpu.now.core c.args.cpu.now.regs p m.stands area t (there c x told p t m a) nowhere mid (subst P (sym a.is) (searched x p m.stands))
+    hidden_data x c.args.cpu.now.core c.args.cpu.now.regs p m.stands area t (there c x told p t m a) nowhere mid (subst P (sym a.is) (searched x p t m.stands m.copies (there c x told p t m a) a.is))
 
 -- the original's new word
-untouched : (c : Start) (x : Storage) (told : Option (List (List ℕ))) (p : MachineView) (t : PagedObject) (mid new : List Tagged) (d : DataDesc) (w : Tagged) → (m : MachineRepresentsView x c.args.cpu.now c.args.areas.now c.args.sectors.now told p) → IsArray p c.args.home t
+untouched : (c : Start) (x : Storage) (told : Option (List (List ℕ))) (p : MachineView) (t : PagedObject) (mid new : List Tagged) (d : DataDesc) (w : Tagged) → (m : MachineCanPage x c.args.cpu.now c.args.areas.now c.args.sectors.now told p) → IsArray p c.args.home t
     → d ≡ home_desc false (length t.numbers) (x.held t.home) → w ≡ data_word (record { present = false; copy = false; indexed = false; read_only = false; length = d.length; address = 0 }) → new ≡ slice_set mid c.args.home w
     → new ≡ slice_set mid t.home (home_word_of t.kind (length t.numbers) nowhere)
 untouched c x told p t mid new d w m a is word_is set =
@@ -76,7 +78,7 @@ untouched c x told p t mid new d w m a is word_is set =
     set_original mid new c.args.home (length t.numbers) nowhere t (D d.length) w a.is a.kind (ap D (ap (λ (z : DataDesc). z.length) is)) word_is set
 
 -- the directory before the area is free
-ready : (x : Storage) (cpu : Cpu) (areas : Areas) (table : Table) (told : Option (List (List ℕ))) (p : MachineView) (t : PagedObject) (area : ℕ) (mid new : List Tagged) → (m : MachineRepresentsView x cpu areas table told p) → (at : IsPresent x p area t) → Hides x cpu.core mid p t nowhere
+ready : (x : Storage) (cpu : Cpu) (areas : Areas) (table : Table) (told : Option (List (List ℕ))) (p : MachineView) (t : PagedObject) (area : ℕ) (mid new : List Tagged) → (m : MachineCanPage x cpu areas table told p) → (at : IsPresent x p area t) → Hides x cpu.core mid p t nowhere
     → new ≡ slice_set mid t.home (home_word_of t.kind (length t.numbers) nowhere) → IsDirectory new areas.low x.spans × (area_at areas.low x.spans area ≡ Some (info_of x t))
 ready x cpu areas table told p t area mid new m at hd is =
     let D : ℕ → Type 0 = λ low. IsDirectory new low x.spans × (area_at low x.spans area ≡ Some (info_of x t)) in
@@ -89,13 +91,13 @@ free-requires c =
     let b = (goal.at.free-requires c).Then-original in
     let at = there b x told p t m a in
     let d = original_read x c.args.cpu.now.core c.args.cpu.now.regs p m.stands t c.args.home a c.original_at-original.result c.original_at-original.ensures in
-    let hd = hidden b x told p t c.search_copies.new.cpu.core m a (λ x p s. c.search_copies.ensures.searched x p s) in
+    let hd = hidden b x told p t c.search_copies.new.cpu.core m a (λ x p t s k i e. c.search_copies.ensures.searched x p t s k i e) in
     let is = untouched (goal.at.free-requires c).Start x told p t c.search_copies.new.cpu.core c.set.new.self c.original_at-original.result c.original-untouched.result m a d c.original-untouched.ensures c.set.ensures.value in
     let k = ready x c.args.cpu.now c.args.areas.now c.args.sectors.now told p t c.original_at-original.result.address c.search_copies.new.cpu.core c.set.new.self m at hd is in
     (x.spans, info_of x t, k.0, k.1)
 
 -- the chain that is given back
-kept_is : (c : Then-original) (x : Storage) (told : Option (List (List ℕ))) (p : MachineView) (t : PagedObject) (i : Info) → (m : MachineRepresentsView x c.args.cpu.now c.args.areas.now c.args.sectors.now told p) → (a : IsArray p c.args.home t)
+kept_is : (c : Then-original) (x : Storage) (told : Option (List (List ℕ))) (p : MachineView) (t : PagedObject) (i : Info) → (m : MachineCanPage x c.args.cpu.now c.args.areas.now c.args.sectors.now told p) → (a : IsArray p c.args.home t)
     → ((ss : List Span) (j : Info) → IsDirectory c.args.cpu.now.core c.args.areas.now.low ss → area_at c.args.areas.now.low ss c.original_at-original.result.address ≡ Some j → i ≡ j) → i.kept ≡ (x.held t.home).chain
 kept_is c x told p t i m a known =
     let k = in_area x c.args.cpu.now c.args.areas.now c.args.sectors.now told p t c.original_at-original.result.address m (there c x told p t m a) in
@@ -115,7 +117,7 @@ give_kept-requires-else-original c =
     (x.shelf, m.shelf, subst (IsChain x.shelf) (sym k) (is_chain x c.args.cpu.now.core c.args.cpu.now.regs p m.stands t a.there))
 
 -- the area is free
-freed : (c : After-free) (x : Storage) (told : Option (List (List ℕ))) (p : MachineView) (t : PagedObject) → (m : MachineRepresentsView x c.args.cpu.now c.args.areas.now c.args.sectors.now told p) → (a : IsArray p c.args.home t) → (b : Then-original)
+freed : (c : After-free) (x : Storage) (told : Option (List (List ℕ))) (p : MachineView) (t : PagedObject) → (m : MachineCanPage x c.args.cpu.now c.args.areas.now c.args.sectors.now told p) → (a : IsArray p c.args.home t) → (b : Then-original)
     → IsDirectory c.set.new.self c.args.areas.now.low x.spans × (area_at c.args.areas.now.low x.spans c.original_at-original.result.address ≡ Some (info_of x t))
     → c.set.new.self ≡ slice_set c.search_copies.new.cpu.core t.home (home_word_of t.kind (length t.numbers) nowhere)
     → Freed x.low c.original_at-original.result.address x.spans (slice_set c.search_copies.new.cpu.core t.home (home_word_of t.kind (length t.numbers) nowhere)) c.free.new.core
@@ -130,6 +132,23 @@ freed c x told p t m a b k is =
     let F : List Tagged → ℕ → Type 0 = λ core n. Freed n area x.spans core c.free.new.core in
     subst (λ (core : List Tagged). F core x.low) is (subst (F c.set.new.self) m.low fr)
 
+pub set-requires : goal.set-requires
+set-requires c =
+    let (x, told, p, t, m, a) = c.requires in
+    let hd = hidden (goal.at.set-requires c).Then-original x told p t c.search_copies.new.cpu.core m a (λ x p t s k i e. c.search_copies.ensures.searched x p t s k i e) in
+    omega (arith, hd.size, (m.stands.slots.laid.homes t a.there).1, a.is, m.stands.inside)
+
+pub returns-then-original-clause-keeps : goal.returns-then-original-clause-keeps
+returns-then-original-clause-keeps c =
+    let (x, told, p, t, m, a) = c.requires in
+    let hd = hidden (goal.at.returns-then-original-clause-keeps c).Then-original x told p t c.search_copies.new.cpu.core m a (λ x p t s k i e. c.search_copies.ensures.searched x p t s k i e) in
+    record {
+      rest = ap (λ (z : Cpu). record z { core = c.free.new.core }) c.search_copies.ensures.rest;
+      len = c.free.ensures.len ∙ c.set.ensures.len ∙ hd.size;
+      areas = c.free.ensures.same;
+      count = c.give_kept.ensures.count;
+    }
+
 pub returns-then-original-clause-row : goal.returns-then-original-clause-row
 returns-then-original-clause-row c = λ x told p t objects m a re.
     let b = (goal.at.returns-then-original-clause-row c).Then-original in
@@ -137,7 +156,7 @@ returns-then-original-clause-row c = λ x told p t objects m a re.
     let mid = c.search_copies.new.cpu.core in
     let at = there b x told p t m a in
     let d = original_read x c.args.cpu.now.core c.args.cpu.now.regs p m.stands t c.args.home a c.original_at-original.result c.original_at-original.ensures in
-    let hd = hidden b x told p t mid m a (λ x p s. c.search_copies.ensures.searched x p s) in
+    let hd = hidden b x told p t mid m a (λ x p t s k i e. c.search_copies.ensures.searched x p t s k i e) in
     let is = untouched (goal.at.returns-then-original-clause-row c).Start x told p t mid c.set.new.self c.original_at-original.result c.original-untouched.result m a d c.original-untouched.ensures c.set.ensures.value in
     let k = ready x c.args.cpu.now c.args.areas.now c.args.sectors.now told p t area mid c.set.new.self m at hd is in
     let f = freed (goal.at.returns-then-original-clause-row c).After-free x told p t m a b k is in
@@ -152,6 +171,7 @@ returns-then-original-clause-row c = λ x told p t objects m a re.
       low = ap (λ (z : Areas). z.low) c.free.ensures.same ∙ m.low;
       shelf = shelf;
       device = m.device;
+      copies = copies_objects c.free.new.core p objects (copies_stay x c.args.cpu.now.core c.args.cpu.now.regs p m.stands c.free.new.core (below_dropped x x c.args.cpu.now.core c.args.cpu.now.regs p m.stands area t at 0 mid hd c.free.new.core f) m.copies);
     }
 
 pub returns-then-original-clause-outside : goal.returns-then-original-clause-outside
@@ -161,7 +181,7 @@ returns-then-original-clause-outside c = λ x told p t m a.
     let mid = c.search_copies.new.cpu.core in
     let at = there b x told p t m a in
     let d = original_read x c.args.cpu.now.core c.args.cpu.now.regs p m.stands t c.args.home a c.original_at-original.result c.original_at-original.ensures in
-    let hd = hidden b x told p t mid m a (λ x p s. c.search_copies.ensures.searched x p s) in
+    let hd = hidden b x told p t mid m a (λ x p t s k i e. c.search_copies.ensures.searched x p t s k i e) in
     let is = untouched (goal.at.returns-then-original-clause-outside c).Start x told p t mid c.set.new.self c.original_at-original.result c.original-untouched.result m a d c.original-untouched.ensures c.set.ensures.value in
     let k = ready x c.args.cpu.now c.args.areas.now c.args.sectors.now told p t area mid c.set.new.self m at hd is in
     below_dropped x x c.args.cpu.now.core c.args.cpu.now.regs p m.stands area t at 0 mid hd c.free.new.core (freed (goal.at.returns-then-original-clause-outside c).After-free x told p t m a b k is)
@@ -180,6 +200,10 @@ returns-else-original-clause-row c = λ x told p t objects m a re.
       low = m.low;
       shelf = subst S k.1 (λ h. c.give_kept-else-original.ensures.row x.shelf m.shelf h) chain;
       device = m.device;
+      copies =
+          let Y : List Tagged → Type 0 = λ core. Stayed p c.args.cpu.now.core core in
+          let stayed = subst Y (sym c.set-else-original.ensures.value) (stayed_absent p t a.there c.args.cpu.now.core c.args.home c.original-untouched.result a.is) in
+          copies_objects c.set-else-original.new.self p objects (copies_stay x c.args.cpu.now.core c.args.cpu.now.regs p m.stands c.set-else-original.new.self stayed m.copies);
     }
 
 pub returns-else-original-clause-outside : goal.returns-else-original-clause-outside

@@ -6,7 +6,9 @@ use Rattle.b67_ctl.specs.declared.descriptors.DataDesc.{DataDesc}
 use Rattle.b67_stack.specs.MachineView.{PagedObject, MachineView, home_desc, address_or}
 use Rattle.b67_stack.specs.Shapes.{Location}
 use Rattle.b67_stack.specs.Represents.{Storage, Represents}
-use Rattle.b67_layout_storage.specs.Machine.{MachineRepresentsView, IsPresent, Stayed, content_after}
+use Rattle.b67_layout_storage.specs.Machine.{IsPresent, Stayed, content_after}
+use Rattle.b67_overlay.specs.Spans.{MachineCanPage}
+use Rattle.b67_overlay.proofs.Copies.{copies_stay, copies_objects}
 use Rattle.b67_overlay.specs.Overlaid.{overlaid}
 use Rattle.b67_mcp_lengths.specs.Lengths.{IsArray}
 use Rattle.b67_mcp_lengths.proofs.Freeing.{original_is, original_read, set_original}
@@ -37,7 +39,7 @@ record Known (g : Over) (c : After-original_at-original g) (x : Storage) (p : Ma
   some : 0 < length t.numbers
   here : IsPresent x p c.original_at-original.result.address t
 
-context : (g : Over) (c : After-original_at-original g) (x : Storage) (p : MachineView) (t : PagedObject) (at : ℕ) → MachineRepresentsView x c.args.cpu.now c.args.areas.now c.args.sectors.now (g.B.Backing.holds c.args.backing.now) p → IsArray p c.args.home t → IsPresent x p at t → Known g c x p t at
+context : (g : Over) (c : After-original_at-original g) (x : Storage) (p : MachineView) (t : PagedObject) (at : ℕ) → MachineCanPage x c.args.cpu.now c.args.areas.now c.args.sectors.now (g.B.Backing.holds c.args.backing.now) p → IsArray p c.args.home t → IsPresent x p at t → Known g c x p t at
 context g c x p t at m a h =
     let (x0, p0, t0, at0, m0, a0, h0, longer) = c.requires.machine in
     let d0 = original_read x0 c.args.cpu.now.core c.args.cpu.now.regs p0 m0.stands t0 c.args.home a0 c.original_at-original.result c.original_at-original.ensures in
@@ -71,10 +73,10 @@ extend-requires-clause-order g c =
 
 -- the array after it was written out
 record Written (g : Over) (c : In-Ok g) (x : Storage) (p : MachineView) (t : PagedObject) (at : ℕ) : Type 0 where
-  machine : MachineRepresentsView (overlaid x t c.original_at-original.result.address (g.B.Backing.holds c.overlay.new.backing)) c.overlay.new.cpu c.overlay.new.areas c.overlay.new.sectors (g.B.Backing.holds c.overlay.new.backing) p
+  machine : MachineCanPage (overlaid x t c.original_at-original.result.address (g.B.Backing.holds c.overlay.new.backing)) c.overlay.new.cpu c.overlay.new.areas c.overlay.new.sectors (g.B.Backing.holds c.overlay.new.backing) p
   out : IsOut (overlaid x t c.original_at-original.result.address (g.B.Backing.holds c.overlay.new.backing)) t
 
-written : (g : Over) (c : In-Ok g) (x : Storage) (p : MachineView) (t : PagedObject) (at : ℕ) → (m : MachineRepresentsView x c.args.cpu.now c.args.areas.now c.args.sectors.now (g.B.Backing.holds c.args.backing.now) p) → IsArray p c.args.home t → IsPresent x p c.original_at-original.result.address t → Written g c x p t at
+written : (g : Over) (c : In-Ok g) (x : Storage) (p : MachineView) (t : PagedObject) (at : ℕ) → (m : MachineCanPage x c.args.cpu.now c.args.areas.now c.args.sectors.now (g.B.Backing.holds c.args.backing.now) p) → IsArray p c.args.home t → IsPresent x p c.original_at-original.result.address t → Written g c x p t at
 written g c x p t at m a h =
     let row = c.in-Ok.ensures.row x p t m h in
     record {
@@ -99,7 +101,7 @@ record Chained (g : Over) (c : After-original_at-first g) (x : Storage) (t : Pag
   chain : HasChain c.overlay.new.sectors (overlaid x t c.original_at-original.result.address (g.B.Backing.holds c.overlay.new.backing)).shelf c.original_at-first.result.address (sectors_for c.original_at-original.result.length)
 
 chained : (g : Over) (c : After-original_at-first g) (x : Storage) (p : MachineView) (t : PagedObject) → IsArray p c.args.home t → c.original_at-original.result.length ≡ length t.numbers
-    → (m : MachineRepresentsView (overlaid x t c.original_at-original.result.address (g.B.Backing.holds c.overlay.new.backing)) c.overlay.new.cpu c.overlay.new.areas c.overlay.new.sectors (g.B.Backing.holds c.overlay.new.backing) p)
+    → (m : MachineCanPage (overlaid x t c.original_at-original.result.address (g.B.Backing.holds c.overlay.new.backing)) c.overlay.new.cpu c.overlay.new.areas c.overlay.new.sectors (g.B.Backing.holds c.overlay.new.backing) p)
     → IsOut (overlaid x t c.original_at-original.result.address (g.B.Backing.holds c.overlay.new.backing)) t → Chained g c x t
 chained g c x p t a count m out =
     let y = overlaid x t c.original_at-original.result.address (g.B.Backing.holds c.overlay.new.backing) in
@@ -206,5 +208,9 @@ returns-in-Ok-extend-clause-row g c = λ x p t at m a h.
             low = q.machine.low;
             shelf = ext.chain.shelf;
             device = Says-retold y.device told1 told2 q.machine.device (λ all e. let z = ext.same.told all e in (z.0, z.1));
+            copies =
+                let S : List Tagged → Type 0 = λ core. Stayed p c.overlay.new.cpu.core core in
+                let stayed = subst S (sym c.set.ensures.value) (stayed_absent p t a.there c.overlay.new.cpu.core c.args.home c.original.result a.is) in
+                copies_objects c.set.new.self p objects (copies_stay y c.overlay.new.cpu.core c.overlay.new.cpu.regs p q.machine.stands c.set.new.self stayed q.machine.copies);
           },
     )

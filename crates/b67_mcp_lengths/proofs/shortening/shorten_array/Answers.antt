@@ -1,4 +1,4 @@
-use Rattle.std.proofs.Common.{◌≡◌, ℕ, ◌<◌, ◌==◌, List, Option, Some, length, sym, ◌∙◌, ap, arith, subst, slice_set, true, false, refl}
+use Rattle.std.proofs.Common.{◌≡◌, ℕ, ◌<◌, ◌≤◌, ◌==◌, List, Option, Some, length, sym, ◌∙◌, ap, arith, subst, slice_set, true, false, refl}
 use Rattle.std.proofs.lemmas.Bool.{cond-true, eq-eqb}
 use Rattle.b67_word.specs.Tagged.{Tagged}
 use Rattle.b67_area.specs.declared.Areas.{Areas}
@@ -9,7 +9,9 @@ use Rattle.b67_backing.specs.Shelf.{IsShelf}
 use Rattle.b67_ctl.specs.declared.descriptors.DataDesc.{DataDesc}
 use Rattle.b67_stack.specs.MachineView.{PagedObject, MachineView, home_desc, home_word_of, address_or}
 use Rattle.b67_stack.specs.Represents.{Storage, Represents, info_of}
-use Rattle.b67_layout_storage.specs.Machine.{MachineRepresentsView, IsPresent, Stayed}
+use Rattle.b67_layout_storage.specs.Machine.{IsPresent, Stayed}
+use Rattle.b67_overlay.specs.Spans.{MachineCanPage}
+use Rattle.b67_overlay.proofs.Copies.{copies_stay, copies_objects}
 use Rattle.b67_layout_storage.proofs.Unchanged.{area_of_object, area_bounds}
 use Rattle.b67_mcp_lengths.specs.Lengths.{IsArray, IsChain, shorter, freed_chain}
 use Rattle.b67_mcp_lengths.proofs.Freeing.{is_chain, original_is, original_read, set_original}
@@ -30,7 +32,7 @@ record Known (c : After-original_at-at) (x : Storage) (t : PagedObject) (at : �
   directory : IsDirectory c.args.cpu.now.core c.args.areas.now.low x.spans
   here : area_at c.args.areas.now.low x.spans c.original_at-at.result.address ≡ Some (info_of x t)
 
-context : (c : After-original_at-at) (x : Storage) (told : Option (List (List ℕ))) (p : MachineView) (t : PagedObject) (at : ℕ) → MachineRepresentsView x c.args.cpu.now c.args.areas.now c.args.sectors.now told p → IsArray p c.args.home t → IsPresent x p at t → Known c x t at
+context : (c : After-original_at-at) (x : Storage) (told : Option (List (List ℕ))) (p : MachineView) (t : PagedObject) (at : ℕ) → MachineCanPage x c.args.cpu.now c.args.areas.now c.args.sectors.now told p → IsArray p c.args.home t → IsPresent x p at t → Known c x t at
 context c x told p t at m a h =
     let (x0, told0, p0, t0, at0, m0, a0, h0, fewer) = c.requires.machine in
     let d0 = original_read x0 c.args.cpu.now.core c.args.cpu.now.regs p0 m0.stands t0 c.args.home a0 c.original_at-at.result c.original_at-at.ensures in
@@ -89,7 +91,7 @@ give_kept-requires c =
     (x.shelf, m.shelf, subst (IsChain x.shelf) (sym e) (is_chain x c.args.cpu.now.core c.args.cpu.now.regs p m.stands t a.there))
 
 -- the directory after both calls
-shrunk : (c : After-keep) (x : Storage) (told : Option (List (List ℕ))) (p : MachineView) (t : PagedObject) (at : ℕ) → (m : MachineRepresentsView x c.args.cpu.now c.args.areas.now c.args.sectors.now told p) → c.original_at-at.result.address ≡ at
+shrunk : (c : After-keep) (x : Storage) (told : Option (List (List ℕ))) (p : MachineView) (t : PagedObject) (at : ℕ) → (m : MachineCanPage x c.args.cpu.now c.args.areas.now c.args.sectors.now told p) → c.original_at-at.result.address ≡ at
     → IsDirectory c.args.cpu.now.core c.args.areas.now.low x.spans → area_at c.args.areas.now.low x.spans c.original_at-at.result.address ≡ Some (info_of x t)
     → Shrunk x.low at c.args.words x.spans c.args.cpu.now.core c.keep.new.core
 unfolding short_info
@@ -124,6 +126,13 @@ left_core c x p t at a address =
     let D : ℕ → DataDesc = λ n. record { present = true; copy = false; indexed = false; read_only = false; length = c.args.words; address = n } in
     set_original c.keep.new.core c.set.new.self c.args.home c.args.words (record { area = Some at; chain = 0 }) t (D c.original_at-at.result.address) c.original.result a.is a.kind (ap D address) c.original.ensures c.set.ensures.value
 
+-- the words below the slots
+stays : (c : After-set) (x : Storage) (told : Option (List (List ℕ))) (p : MachineView) (t : PagedObject) (at : ℕ) → (m : MachineCanPage x c.args.cpu.now c.args.areas.now c.args.sectors.now told p) → IsArray p c.args.home t → IsPresent x p at t
+    → c.original_at-at.result.address ≡ at → 1 ≤ c.args.words → c.args.words < length t.numbers → Shrunk x.low at c.args.words x.spans c.args.cpu.now.core c.keep.new.core → Stayed p c.args.cpu.now.core c.set.new.self
+stays c x told p t at m a h address some fewer f =
+    let P : List Tagged → Type 0 = λ core. Stayed p c.args.cpu.now.core core in
+    subst P (sym (left_core c x p t at a address)) (below_short x c.args.cpu.now.core c.args.cpu.now.regs p m.stands t a.kind at h c.args.words some fewer c.keep.new.core f)
+
 pub returns-clause-row : goal.returns-clause-row
 returns-clause-row c = λ x told p t at objects m a h re.
     let k = context (goal.at.returns-clause-row c).After-original_at-at x told p t at m a h in
@@ -139,12 +148,11 @@ returns-clause-row c = λ x told p t at objects m a h re.
       low = ap (λ (z : Areas). z.low) (c.keep.ensures.same ∙ c.shrink.ensures.same) ∙ m.low;
       shelf = subst S e (λ q. c.give_kept.ensures.row x.shelf m.shelf q) chain;
       device = m.device;
+      copies = copies_objects c.set.new.self p objects (copies_stay x c.args.cpu.now.core c.args.cpu.now.regs p m.stands c.set.new.self (stays (goal.at.returns-clause-row c).After-set x told p t at m a h k.address c.requires.some k.fewer f) m.copies);
     }
 
 pub returns-clause-outside : goal.returns-clause-outside
 returns-clause-outside c = λ x told p t at m a h.
     let k = context (goal.at.returns-clause-outside c).After-original_at-at x told p t at m a h in
     let f = shrunk (goal.at.returns-clause-outside c).After-keep x told p t at m k.address k.directory k.here in
-    let is = left_core (goal.at.returns-clause-outside c).After-set x p t at a k.address in
-    let P : List Tagged → Type 0 = λ core. Stayed p c.args.cpu.now.core core in
-    subst P (sym is) (below_short x c.args.cpu.now.core c.args.cpu.now.regs p m.stands t a.kind at h c.args.words c.requires.some k.fewer c.keep.new.core f)
+    stays (goal.at.returns-clause-outside c).After-set x told p t at m a h k.address c.requires.some k.fewer f

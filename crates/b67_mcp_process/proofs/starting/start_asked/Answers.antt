@@ -31,7 +31,7 @@ pub claim-requires-clause-machine : goal.claim-requires-clause-machine
 claim-requires-clause-machine g c =
     let q = c.requires.call.runs in
     let k = c.args.machine.now in
-    (untold q.storage, machine_view q.plan q.session.jobs, seen_over (untold q.storage) None k q.plan q.session (silent q.storage q.told k q.plan q.session q.stands) (g.B.Backing.holds c.args.backing.now) tt)
+    (untold q.storage, machine_view q.plan q.session.jobs, seen_over (untold q.storage) None k q.plan q.session (silent q.storage q.told k q.plan q.session q.stands) q.ordered (g.B.Backing.holds c.args.backing.now) tt)
 
 pub begin-requires-clause-call : goal.begin-requires-clause-call
 begin-requires-clause-call g c =
@@ -43,7 +43,7 @@ begin-requires-clause-call g c =
     let x = untold q.storage in
     let h = silent q.storage q.told k q.plan q.session q.stands in
     let now = g.B.Backing.holds new.backing in
-    let row = c.in-Ok.ensures.row x (machine_view q.plan q.session.jobs) (seen_over x None k q.plan q.session h (g.B.Backing.holds c.args.backing.now) tt) in
+    let row = c.in-Ok.ensures.row x (machine_view q.plan q.session.jobs) (seen_over x None k q.plan q.session h q.ordered (g.B.Backing.holds c.args.backing.now) tt) in
     let (y, evicted, above, view) = row.clear in
     let (slot, lowest, end) = c.next_slot_end-upto.ensures x q.plan q.session h.session in
     let stands = stands_moved x None k q.plan q.session h y now new.cpu new.areas new.sectors keeps row.outside evicted.evicted view in
@@ -76,7 +76,7 @@ returns-in-Ok-clause-row g c = λ x told plan s m t o h runs arguments a few say
     let new = c.claim.new in
     let keeps = c.claim.ensures.keeps in
     let now = g.B.Backing.holds new.backing in
-    let row = c.in-Ok.ensures.row x (machine_view plan s.jobs) (seen_over x told k plan s h (g.B.Backing.holds c.args.backing.now) says) in
+    let row = c.in-Ok.ensures.row x (machine_view plan s.jobs) (seen_over x told k plan s h o (g.B.Backing.holds c.args.backing.now) says) in
     let (y, evicted, above, view) = row.clear in
     let (slot, lowest, end) = c.next_slot_end-upto.ensures x plan s h.session in
     let stands = stands_moved x told k plan s h y now new.cpu new.areas new.sectors keeps row.outside evicted.evicted view in
@@ -108,7 +108,7 @@ returns-in-Err-clause-row g c = λ x told plan s m t o h runs arguments a few sa
     let new = c.claim.new in
     let keeps = c.claim.ensures.keeps in
     let now = g.B.Backing.holds new.backing in
-    let row = c.in-Err.ensures.row x (machine_view plan s.jobs) (seen_over x told k plan s h (g.B.Backing.holds c.args.backing.now) says) in
+    let row = c.in-Err.ensures.row x (machine_view plan s.jobs) (seen_over x told k plan s h o (g.B.Backing.holds c.args.backing.now) says) in
     let starts = starts_one plan m t arguments c.args.asked.cell c.args.asked.count a few c.args.next in
     let after = record k { cpu = new.cpu; areas = new.areas; sectors = new.sectors } in
     stopped (content_after told now) plan s m t c.args.next arguments k after c.in-Err.fault

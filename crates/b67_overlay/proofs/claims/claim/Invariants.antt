@@ -1,6 +1,7 @@
 use Rattle.b67_stack.specs.MachineView.{MachineView}
 use Rattle.b67_stack.specs.Represents.{Storage}
-use Rattle.b67_layout_storage.specs.Machine.{MachineRepresentsView, DeviceAfterCalls, PagingKeeps, Stayed}
+use Rattle.b67_layout_storage.specs.Machine.{DeviceAfterCalls, PagingKeeps, Stayed}
+use Rattle.b67_overlay.specs.Spans.{MachineCanPage}
 use Rattle.b67_overlay.specs.AreasEvicted.{EvictedBelow, Remains}
 use Rattle.b67_overlay.proofs.Visits.{left_of}
 use Rattle.b67_overlay.proofs.claims.claim.Given as goal
@@ -11,8 +12,8 @@ invariant-areas g l =
     record {
       keeps : PagingKeeps l.initial.cpu l.cpu l.initial.areas l.areas l.initial.sectors l.sectors;
       device : DeviceAfterCalls holds g.B.Backing.size g.B.Backing.calls g.B.Backing.faults l.initial.backing l.backing;
-      stands : (x : Storage) (p : MachineView) → MachineRepresentsView x l.initial.cpu l.initial.areas l.initial.sectors (holds l.initial.backing) p
-          → (y : Storage) × EvictedBelow l.fn.upto x y × Remains y.low y.spans 0 l.next × MachineRepresentsView y l.cpu l.areas l.sectors (holds l.backing) p
+      stands : (x : Storage) (p : MachineView) → MachineCanPage x l.initial.cpu l.initial.areas l.initial.sectors (holds l.initial.backing) p
+          → (y : Storage) × EvictedBelow l.fn.upto x y × Remains y.low y.spans 0 l.next × MachineCanPage y l.cpu l.areas l.sectors (holds l.backing) p
           × Stayed p l.initial.cpu.core l.cpu.core;
     }
 

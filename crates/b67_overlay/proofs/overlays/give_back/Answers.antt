@@ -16,21 +16,21 @@ use Rattle.b67_overlay.proofs.overlays.give_back.Goals as goal
 
 pub set-requires : goal.set-requires
 set-requires c =
-    let (x, p, t, s, low, at, is) = c.requires.machine in
+    let (x, p, t, s, k, low, at, is) = c.requires.machine in
     let h : Location = record { area = None; chain = c.args.first } in
-    let hd = c.hide_copies.ensures.hides x p t h s at is in
+    let hd = c.hide_copies.ensures.hides x p t h s k at is in
     omega (arith, (home_below x c.args.cpu.now.core c.args.cpu.now.regs p s t at.there).1, s.inside, hd.size, ap (λ (i : Info). i.owner) is)
 
 pub absent_word-requires-clause-words : goal.absent_word-requires-clause-words
 absent_word-requires-clause-words c =
-    let (x, p, t, s, low, at, is) = c.requires.machine in
+    let (x, p, t, s, k, low, at, is) = c.requires.machine in
     omega (arith, (about x c.args.cpu.now.core c.args.cpu.now.regs p s c.args.area t at).few, ap (λ (i : Info). i.words) is)
 
 pub free-requires : goal.free-requires
 free-requires c =
-    let (x, p, t, s, low, at, is) = c.requires.machine in
+    let (x, p, t, s, k, low, at, is) = c.requires.machine in
     let h : Location = record { area = None; chain = c.args.first } in
-    let hd = c.hide_copies.ensures.hides x p t h s at is in
+    let hd = c.hide_copies.ensures.hides x p t h s k at is in
     let mid = c.hide_copies.new.cpu.core in
     let W : Info → Tagged → Type 0 = λ i w. c.set.new.self ≡ slice_set mid i.owner w in
     let V : Info → Type 0 = λ i. c.set.new.self ≡ slice_set mid i.owner (home_word_of i.kind i.words h) in
@@ -38,21 +38,21 @@ free-requires c =
     let D : List Tagged → ℕ → Type 0 = λ core n. IsDirectory core n x.spans in
     let ab = about x c.args.cpu.now.core c.args.cpu.now.regs p s c.args.area t at in
     let dir2 = directory2 x x c.args.cpu.now.core c.args.cpu.now.regs p s c.args.area t at c.args.first mid hd in
-    let dir : IsDirectory c.set.new.self c.args.areas.now.low x.spans = subst (D c.set.new.self) (sym low) (subst (λ (k : List Tagged). D k x.low) (sym new_is) dir2) in
+    let dir : IsDirectory c.set.new.self c.args.areas.now.low x.spans = subst (D c.set.new.self) (sym low) (subst (λ (z : List Tagged). D z x.low) (sym new_is) dir2) in
     let here : area_at c.args.areas.now.low x.spans c.args.area ≡ Some (info_of x t) = ap (λ (n : ℕ). area_at n x.spans c.args.area) low ∙ ab.here in
     (x.spans, info_of x t, dir, here)
 
 pub returns-clause-len : goal.returns-clause-len
 returns-clause-len c =
-    let (x, p, t, s, low, at, is) = c.requires.machine in
+    let (x, p, t, s, k, low, at, is) = c.requires.machine in
     let h : Location = record { area = None; chain = c.args.first } in
-    let hd = c.hide_copies.ensures.hides x p t h s at is in
+    let hd = c.hide_copies.ensures.hides x p t h s k at is in
     c.free.ensures.len ∙ c.set.ensures.len ∙ hd.size
 
 pub returns-clause-stands : goal.returns-clause-stands
-returns-clause-stands c = λ x y p t s low at is o.
+returns-clause-stands c = λ x y p t s k low at is o.
     let h : Location = record { area = None; chain = c.args.first } in
-    let hd = c.hide_copies.ensures.hides x p t h s at is in
+    let hd = c.hide_copies.ensures.hides x p t h s k at is in
     let mid = c.hide_copies.new.cpu.core in
     let W : Info → Tagged → Type 0 = λ i w. c.set.new.self ≡ slice_set mid i.owner w in
     let V : Info → Type 0 = λ i. c.set.new.self ≡ slice_set mid i.owner (home_word_of i.kind i.words h) in
@@ -60,7 +60,7 @@ returns-clause-stands c = λ x y p t s low at is o.
     let D : List Tagged → ℕ → Type 0 = λ core n. IsDirectory core n x.spans in
     let ab = about x c.args.cpu.now.core c.args.cpu.now.regs p s c.args.area t at in
     let dir2 = directory2 x x c.args.cpu.now.core c.args.cpu.now.regs p s c.args.area t at c.args.first mid hd in
-    let dir : IsDirectory c.set.new.self c.args.areas.now.low x.spans = subst (D c.set.new.self) (sym low) (subst (λ (k : List Tagged). D k x.low) (sym new_is) dir2) in
+    let dir : IsDirectory c.set.new.self c.args.areas.now.low x.spans = subst (D c.set.new.self) (sym low) (subst (λ (z : List Tagged). D z x.low) (sym new_is) dir2) in
     let here : area_at c.args.areas.now.low x.spans c.args.area ≡ Some (info_of x t) = ap (λ (n : ℕ). area_at n x.spans c.args.area) low ∙ ab.here in
     let fr : Freed c.args.areas.now.low c.args.area x.spans c.set.new.self c.free.new.core = record {
       directory = c.free.ensures.row x.spans (info_of x t) dir here;
@@ -70,12 +70,12 @@ returns-clause-stands c = λ x y p t s low at is o.
     } in
     let F : List Tagged → ℕ → Type 0 = λ core n. Freed n c.args.area x.spans core c.free.new.core in
     let R : Regs → Type 0 = λ r. Represents (dropped x y t c.args.area c.args.first) c.free.new.core r p in
-    subst R (ap (λ (z : Cpu). z.regs) (sym c.hide_copies.ensures.rest)) (Represents-dropped x y c.args.cpu.now.core c.args.cpu.now.regs p s c.args.area t at c.args.first mid hd o c.free.new.core (subst (λ (k : List Tagged). F k x.low) new_is (subst (F c.set.new.self) low fr)))
+    subst R (ap (λ (z : Cpu). z.regs) (sym c.hide_copies.ensures.rest)) (Represents-dropped x y c.args.cpu.now.core c.args.cpu.now.regs p s c.args.area t at c.args.first mid hd o c.free.new.core (subst (λ (z : List Tagged). F z x.low) new_is (subst (F c.set.new.self) low fr)))
 
 pub returns-clause-outside : goal.returns-clause-outside
-returns-clause-outside c = λ x p t s low at is.
+returns-clause-outside c = λ x p t s k low at is.
     let h : Location = record { area = None; chain = c.args.first } in
-    let hd = c.hide_copies.ensures.hides x p t h s at is in
+    let hd = c.hide_copies.ensures.hides x p t h s k at is in
     let mid = c.hide_copies.new.cpu.core in
     let W : Info → Tagged → Type 0 = λ i w. c.set.new.self ≡ slice_set mid i.owner w in
     let V : Info → Type 0 = λ i. c.set.new.self ≡ slice_set mid i.owner (home_word_of i.kind i.words h) in
@@ -83,7 +83,7 @@ returns-clause-outside c = λ x p t s low at is.
     let D : List Tagged → ℕ → Type 0 = λ core n. IsDirectory core n x.spans in
     let ab = about x c.args.cpu.now.core c.args.cpu.now.regs p s c.args.area t at in
     let dir2 = directory2 x x c.args.cpu.now.core c.args.cpu.now.regs p s c.args.area t at c.args.first mid hd in
-    let dir : IsDirectory c.set.new.self c.args.areas.now.low x.spans = subst (D c.set.new.self) (sym low) (subst (λ (k : List Tagged). D k x.low) (sym new_is) dir2) in
+    let dir : IsDirectory c.set.new.self c.args.areas.now.low x.spans = subst (D c.set.new.self) (sym low) (subst (λ (z : List Tagged). D z x.low) (sym new_is) dir2) in
     let here : area_at c.args.areas.now.low x.spans c.args.area ≡ Some (info_of x t) = ap (λ (n : ℕ). area_at n x.spans c.args.area) low ∙ ab.here in
     let fr : Freed c.args.areas.now.low c.args.area x.spans c.set.new.self c.free.new.core = record {
       directory = c.free.ensures.row x.spans (info_of x t) dir here;
@@ -92,4 +92,4 @@ returns-clause-outside c = λ x p t s low at is.
       size = c.free.ensures.len;
     } in
     let F : List Tagged → ℕ → Type 0 = λ core n. Freed n c.args.area x.spans core c.free.new.core in
-    below_dropped x x c.args.cpu.now.core c.args.cpu.now.regs p s c.args.area t at c.args.first mid hd c.free.new.core (subst (λ (k : List Tagged). F k x.low) new_is (subst (F c.set.new.self) low fr))
+    below_dropped x x c.args.cpu.now.core c.args.cpu.now.regs p s c.args.area t at c.args.first mid hd c.free.new.core (subst (λ (z : List Tagged). F z x.low) new_is (subst (F c.set.new.self) low fr))

@@ -11,7 +11,8 @@ use Rattle.b67_backing.specs.Shelf.{IsShelf, HasChain as ChainIs}
 use Rattle.b67_backing.specs.Held.{sectors_for, Stores, SameBut, Changes}
 use Rattle.b67_stack.specs.MachineView.{words_of, tag_of}
 use Rattle.b67_stack.specs.Represents.{Storage, Represents, ObjectHasChain, info_of}
-use Rattle.b67_layout_storage.specs.Machine.{MachineRepresentsView, content_after}
+use Rattle.b67_layout_storage.specs.Machine.{content_after}
+use Rattle.b67_overlay.specs.Spans.{MachineCanPage}
 use Rattle.std.proofs.lemmas.List.{length-map}
 use Rattle.b67_layout_storage.proofs.Below.{Stayed-none}
 use Rattle.b67_overlay.specs.Overlaid.{chain_out, shelf_out, sectors_out, overlaid, dropped, IsOut}
@@ -66,7 +67,7 @@ give_back-requires-clause-machine g c =
     let dir : IsDirectory c.args.cpu.now.core c.args.areas.now.low x.spans = subst (λ (n : ℕ). IsDirectory c.args.cpu.now.core n x.spans) (sym m.low) m.stands.directory in
     let here : area_at c.args.areas.now.low x.spans c.args.area ≡ Some (info_of x t) = ap (λ (n : ℕ). area_at n x.spans c.args.area) m.low ∙ ab.here in
     let is : c.info-info.result ≡ info_of x t = c.info-info.ensures x.spans (info_of x t) dir here in
-    (x, p, t, m.stands, m.low, at, is)
+    (x, p, t, m.stands, m.copies, m.low, at, is)
 
 pub give_back-requires-clause-first : goal.give_back-requires-clause-first
 give_back-requires-clause-first g c =
@@ -104,7 +105,7 @@ returns-in-Row-clause-row g c = λ x p t m at.
     record {
       stands = c.discard.ensures.stands x c.args.sectors.now (g.B.Backing.holds c.args.backing.now) p t m at no_array;
       refused = tt;
-      outside = c.discard.ensures.outside x p t m.stands m.low at;
+      outside = c.discard.ensures.outside x p t m.stands m.copies m.low at;
       full = λ wants free. (λ e. absurd (let b : ⊥ = cc in b), λ h. absurd (no_array h.0.kind));
       clean = λ _. (refl, refl, refl);
     }
@@ -135,16 +136,16 @@ returns-in-Ok-clause-row g c = λ x p t m at.
           let I : ℕ → Type 0 = λ n. IsOut x y p t n in
           let J : ℕ → Regs → Type 0 = λ n r. Represents (dropped x y t c.args.area n) c.give_back.new.cpu.core r p in
           let regs : c.give_back.new.cpu.regs ≡ c.args.cpu.now.regs = ap (λ (z : Cpu). z.regs) c.give_back.ensures.rest in
-          let M : Cpu → Type 0 = λ z. MachineRepresentsView (overlaid x t c.args.area (g.B.Backing.holds c.write_out.new.backing)) z c.give_back.new.areas c.write_out.new.sectors (g.B.Backing.holds c.write_out.new.backing) p in
-          let d = subst (J (chain_out x.shelf (x.held t.home).chain)) regs (subst (λ (n : ℕ). J n c.give_back.new.cpu.regs) wr.0 (c.give_back.ensures.stands x y p t m.stands m.low at is (subst I (sym wr.0) o))) in
+          let M : Cpu → Type 0 = λ z. MachineCanPage (overlaid x t c.args.area (g.B.Backing.holds c.write_out.new.backing)) z c.give_back.new.areas c.write_out.new.sectors (g.B.Backing.holds c.write_out.new.backing) p in
+          let d = subst (J (chain_out x.shelf (x.held t.home).chain)) regs (subst (λ (n : ℕ). J n c.give_back.new.cpu.regs) wr.0 (c.give_back.ensures.stands x y p t m.stands m.copies m.low at is (subst I (sym wr.0) o))) in
           subst M (sym c.give_back.ensures.rest) (overlaid_machine x c.args.cpu.now c.args.areas.now c.give_back.new.areas c.args.sectors.now c.write_out.new.sectors (g.B.Backing.holds c.args.backing.now) (g.B.Backing.holds c.write_out.new.backing) p c.args.area t m
-          (ap (λ (z : Areas). z.low) c.give_back.ensures.areas) wr.1 (λ all e. let (q, i, st) = stores.told all e in (q, i)) c.give_back.new.cpu.core d);
+          (ap (λ (z : Areas). z.low) c.give_back.ensures.areas) wr.1 (λ all e. let (q, i, st) = stores.told all e in (q, i)) c.give_back.new.cpu.core (c.give_back.ensures.outside x p t m.stands m.copies m.low at is) d);
       refused = tt;
       outside =
           let ab = about x c.args.cpu.now.core c.args.cpu.now.regs p m.stands c.args.area t at in
           let here : area_at c.args.areas.now.low x.spans c.args.area ≡ Some (info_of x t) = ap (λ (n : ℕ). area_at n x.spans c.args.area) m.low ∙ ab.here in
           let is : c.info-info.result ≡ info_of x t = c.info-info.ensures x.spans (info_of x t) dir here in
-          c.give_back.ensures.outside x p t m.stands m.low at is;
+          c.give_back.ensures.outside x p t m.stands m.copies m.low at is;
       full = λ wants free.
           let ab = about x c.args.cpu.now.core c.args.cpu.now.regs p m.stands c.args.area t at in
           let here : area_at c.args.areas.now.low x.spans c.args.area ≡ Some (info_of x t) = ap (λ (n : ℕ). area_at n x.spans c.args.area) m.low ∙ ab.here in
@@ -201,4 +202,4 @@ discard-requires g c =
     (λ (q : c.info-info.result.kind ≡ Row). let b : ⊥ = cc (z, q, ap (λ (i : Info). i.kind) is) in b)
     (λ (q : c.info-info.result.kind ≡ Code). let b : ⊥ = cc (z, q, ap (λ (i : Info). i.kind) is) in b)
     c.in-Row.is in
-    (x, p, t, m.stands, m.low, at, no_array)
+    (x, p, t, m.stands, m.copies, m.low, at, no_array)

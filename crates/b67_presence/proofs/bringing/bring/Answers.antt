@@ -4,6 +4,7 @@ use Rattle.b67_layout.specs.Layout.{array_object, machine_view}
 use Rattle.b67_stack.specs.declared.What.TheVariants as what
 use Rattle.b67_task_need.specs.Needing.{need_with}
 use Rattle.b67_presence_page.proofs.Forcing.{same_need, need_is}
+use Rattle.b67_layout_spans.proofs.Sessions.{view_of}
 use Rattle.b67_presence.proofs.Again.{machine_of, view_stands}
 use Rattle.b67_presence.proofs.Ends.{brings_code, brings_array}
 use Rattle.b67_presence.proofs.Refusals.{code_lacks, array_lacks, refused_waits, refused_full, refused_array, refused_still, stays_in, stays_put, refused_as, full_as, room_code, room_array, untouched_code, untouched_array}
@@ -63,7 +64,7 @@ bring_code-requires-clause-machine g c =
       q.storage,
       machine_view q.plan q.session.jobs,
       (code_found q.plan q.session q.member q.task q.ordered q.running).object,
-      view_stands q.storage told k q.plan q.session q.stands,
+      view_stands q.storage told k q.plan q.session q.ordered q.stands,
       code_absent q.storage told k q.plan q.session q.member q.task q.ordered q.stands q.running c.from.result (c.from.ensures ∙ w.0) w.1,
       core_has c.need-needed.result c.size-core.result (length k.cpu.core) (need_with q.session q.member q.task 0 q.words) _ (omega (arith, c.if-needed-core.false)) c.size-core.ensures.value
           (needed_is q.storage told k q.plan q.session q.member q.task q.ordered q.stands q.running q.words c.words_of-words.result c.need-needed.result
@@ -91,7 +92,7 @@ bring_data-requires-clause-machine g c =
       array_object q.plan q.member.constants.number w.array,
       (code_found q.plan q.session q.member q.task q.ordered q.running).object,
       at,
-      view_stands q.storage told k q.plan q.session q.stands,
+      view_stands q.storage told k q.plan q.session q.ordered q.stands,
       array_absent q.storage told k q.plan q.session q.member q.task q.ordered q.stands q.running c.in-Array.original q.words w,
       code,
       core_has c.need-needed.result c.size-core.result (length k.cpu.core) (need_with q.session q.member q.task 0 q.words) _ (omega (arith, c.if-needed-core.false)) c.size-core.ensures.value
@@ -108,7 +109,7 @@ returns-in-Code-clause-row g c = λ x plan s m t words o h runs wanted.
     let d = c.in-Code.displacement in
     let w = wanted_code x plan m t c.args.absent words d c.in-Code.is wanted in
     let p = machine_view plan s.jobs in
-    let mx = view_stands x told k plan s h in
+    let mx = view_stands x told k plan s o h in
     let a = code_absent x told k plan s m t o h runs c.from.result (c.from.ensures ∙ w.0) w.1 in
     let found = code_found plan s m t o runs in
     let code = found.object in
@@ -135,7 +136,7 @@ returns-in-Code-clause-row g c = λ x plan s m t words o h runs wanted.
       );
       full = λ wants free e.
           let (none, waits, short) = row.full wants free e in (
-            short_full waits.storage new.cpu new.areas new.sectors now plan s wants free (g.B.Backing.size c.args.backing.now) waits.stands short (c.requires.same ∙ sym keeps.count),
+            short_full waits.storage new.cpu new.areas new.sectors now plan s wants free (g.B.Backing.size c.args.backing.now) (view_of waits.storage new.cpu new.areas new.sectors now p waits.stands) short (c.requires.same ∙ sym keeps.count),
             λ room. none (room_code x plan s m t c.args.absent words d found c.in-Code.is room),
             full_as x now (machine_of new.cpu new.areas new.sectors k.tasks) plan s m t c.args.absent (what.Code d) wants free c.in-Code.is
                 (refused_full x told now k plan s o h new.cpu new.areas new.sectors keeps.rest keeps.len keeps.areas row.outside m t (what.Code d) 0 waits (λ y sheds. code_lacks x y plan m t d 0 w.1 sheds) wants free short),
@@ -151,7 +152,7 @@ returns-in-Array-clause-row g c = λ x plan s m t words o h runs wanted.
     let w = wanted_array x plan m t c.args.absent words home c.in-Array.is wanted in
     let (at, present) = code_present x told k plan s m t o h runs c.from-in-Array.result c.from-in-Array.ensures w.code in
     let p = machine_view plan s.jobs in
-    let mx = view_stands x told k plan s h in
+    let mx = view_stands x told k plan s o h in
     let a = array_absent x told k plan s m t o h runs home words w in
     let object = array_object plan m.constants.number w.array in
     let code = (code_found plan s m t o runs).object in
@@ -178,7 +179,7 @@ returns-in-Array-clause-row g c = λ x plan s m t words o h runs wanted.
       );
       full = λ wants free e.
           let (none, waits, short) = row.full wants free e in (
-            short_full waits.storage new.cpu new.areas new.sectors now plan s wants free (g.B.Backing.size c.args.backing.now) waits.stands short (c.requires.same ∙ sym keeps.count),
+            short_full waits.storage new.cpu new.areas new.sectors now plan s wants free (g.B.Backing.size c.args.backing.now) (view_of waits.storage new.cpu new.areas new.sectors now p waits.stands) short (c.requires.same ∙ sym keeps.count),
             λ room. none (room_array x m t c.args.absent words home (length w.array.numbers) c.in-Array.is w.words_are room),
             full_as x now (machine_of new.cpu new.areas new.sectors k.tasks) plan s m t c.args.absent (what.Array home) wants free c.in-Array.is
                 (refused_full x told now k plan s o h new.cpu new.areas new.sectors keeps.rest keeps.len keeps.areas row.outside m t (what.Array home) at waits (λ y sheds. array_lacks x y plan m t home words at w sheds) wants free short),

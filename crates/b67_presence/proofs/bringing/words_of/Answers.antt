@@ -1,4 +1,4 @@
-use Rattle.std.proofs.Common.{length, sym, ◌∙◌, ap, arith}
+use Rattle.std.proofs.Common.{sym, ◌∙◌, ap, arith}
 use Rattle.b67_layout.specs.Layout.{array_object, machine_view}
 use Rattle.b67_presence_page.specs.declared.paging.Resting.{Resting}
 use Rattle.b67_presence_page.proofs.Descriptors.{rest_here}
@@ -18,7 +18,7 @@ at-requires c =
       k.cpu.regs,
       machine_view q.plan q.session.jobs,
       array_object q.plan q.member.constants.number w.array,
-      (view_stands q.storage told k q.plan q.session q.stands).stands,
+      (view_stands q.storage told k q.plan q.session q.ordered q.stands).stands,
       array_absent q.storage told k q.plan q.session q.member q.task q.ordered q.stands q.running c.in-Array.original q.words w,
     )
 
@@ -30,7 +30,7 @@ returns-in-Array-clause-small c =
     let w = wanted_array q.storage q.plan q.member q.task c.args.absent q.words home c.in-Array.is q.wanted in
     let p = machine_view q.plan q.session.jobs in
     let object = array_object q.plan q.member.constants.number w.array in
-    let mx = (view_stands q.storage told k q.plan q.session q.stands).stands in
+    let mx = (view_stands q.storage told k q.plan q.session q.ordered q.stands).stands in
     let a = array_absent q.storage told k q.plan q.session q.member q.task q.ordered q.stands q.running home q.words w in
     let few = (rest_here q.storage k.cpu.core k.cpu.regs p home object mx a).few in
     omega (arith, ap (λ (z : Resting). z.words) (c.at.ensures q.storage k.cpu.regs p object mx a), few)
@@ -40,6 +40,6 @@ returns-in-Array-clause-words c = λ x told plan s m t words o h runs wanted.
     let k = c.args.machine.now in
     let home = c.in-Array.original in
     let w = wanted_array x plan m t c.args.absent words home c.in-Array.is wanted in
-    let mx = (view_stands x told k plan s h).stands in
+    let mx = (view_stands x told k plan s o h).stands in
     let a = array_absent x told k plan s m t o h runs home words w in
     ap (λ (z : Resting). z.words) (c.at.ensures x k.cpu.regs (machine_view plan s.jobs) (array_object plan m.constants.number w.array) mx a) ∙ sym w.words_are

@@ -4,18 +4,18 @@ use Rattle.b67_ctl.specs.declared.registers.Regs.{Regs}
 use Rattle.b67_stack.specs.declared.Cpu.{Cpu}
 use Rattle.b67_stack.specs.Represents.{Storage, Represents}
 use Rattle.b67_layout_storage.specs.Machine.{IsAbsent}
-use Rattle.b67_layout_storage.proofs.Untold.{untold, Machine-untold}
+use Rattle.b67_layout_storage.proofs.Untold.{untold}
 use Rattle.b67_layout_storage.proofs.Below.{Stayed-then}
 use Rattle.b67_overlay.specs.Overlaid.{overlaid}
 use Rattle.b67_presence_page.specs.Brought.{brought}
 use Rattle.b67_presence_page.specs.Brings.{IsReadable, IsCode}
-use Rattle.b67_presence_page.proofs.Resort.{present_code, no_array, absent_t, readable_y, room_t, room_c, absent_z, readable_z, waits_first, waits_second, both_in, reads_x, Stayed-read}
+use Rattle.b67_presence_page.proofs.Resort.{paging_untold, present_code, no_array, absent_t, readable_y, room_t, room_c, absent_z, readable_z, waits_first, waits_second, both_in, reads_x, Stayed-read}
 use Rattle.b67_presence_page.proofs.bringing.last_resort.Goals as goal
 
 pub discard-requires : goal.discard-requires
 discard-requires g c =
     let (x, p, t, d, m, a, k, alone, fits) = c.requires.machine in
-    (x, p, d, m.stands, m.low, present_code x c.args.cpu.now c.args.areas.now c.args.sectors.now (g.B.Backing.holds c.args.backing.now) p c.args.home c.args.code c.args.spare t d m a k, no_array x c.args.cpu.now c.args.areas.now c.args.sectors.now (g.B.Backing.holds c.args.backing.now) p c.args.home c.args.code c.args.spare t d m a k)
+    (x, p, d, m.stands, m.copies, m.low, present_code x c.args.cpu.now c.args.areas.now c.args.sectors.now (g.B.Backing.holds c.args.backing.now) p c.args.home c.args.code c.args.spare t d m a k, no_array x c.args.cpu.now c.args.areas.now c.args.sectors.now (g.B.Backing.holds c.args.backing.now) p c.args.home c.args.code c.args.spare t d m a k)
 
 pub page_in_room-requires-clause-machine : goal.page_in_room-requires-clause-machine
 page_in_room-requires-clause-machine g c =
@@ -32,7 +32,7 @@ pub page_in_room-requires-in-Ok-clause-machine : goal.page_in_room-requires-in-O
 page_in_room-requires-in-Ok-clause-machine g c =
     let (x', p, t, d, m', a', k', alone, fits) = c.requires.machine in
     let x : Storage = untold x' in
-    let m = Machine-untold x' c.args.cpu.now c.args.areas.now c.args.sectors.now (g.B.Backing.holds c.args.backing.now) p m' in
+    let m = paging_untold x' c.args.cpu.now c.args.areas.now c.args.sectors.now (g.B.Backing.holds c.args.backing.now) p m' in
     let a : IsAbsent x p c.args.home t = record { there = a'.there; is = a'.is; absent = a'.absent } in
     let k : IsCode x p c.args.code c.args.spare d = record { there = k'.there; is = k'.is; kind = k'.kind; present = k'.present } in
     let r : IsReadable x p = inl refl in
@@ -87,12 +87,12 @@ returns-in-Err-clause-outside g c = λ x p t d m a k alone.
     let R : Regs → Type 0 = λ q. Represents (overlaid x d c.args.spare (g.B.Backing.holds c.args.backing.now)) c.discard.new.cpu.core q p in
     let sy = subst R (ap (λ (z : Cpu). z.regs) c.discard.ensures.rest) my.stands in
     let at = absent_t x c.args.cpu.now c.args.areas.now c.args.sectors.now (g.B.Backing.holds c.args.backing.now) p c.args.home c.args.code c.args.spare t d m a k in
-    Stayed-then p c.args.cpu.now.core c.discard.new.cpu.core c.page_in_room.new.cpu.core (c.discard.ensures.outside x p d m.stands m.low pc) (c.page_in_room.ensures.outside (overlaid x d c.args.spare (g.B.Backing.holds c.args.backing.now)) p t my at)
+    Stayed-then p c.args.cpu.now.core c.discard.new.cpu.core c.page_in_room.new.cpu.core (c.discard.ensures.outside x p d m.stands m.copies m.low pc) (c.page_in_room.ensures.outside (overlaid x d c.args.spare (g.B.Backing.holds c.args.backing.now)) p t my at)
 
 pub returns-in-Ok-clause-outside : goal.returns-in-Ok-clause-outside
 returns-in-Ok-clause-outside g c = λ x' p t d m' a' k' alone.
     let x : Storage = untold x' in
-    let m = Machine-untold x' c.args.cpu.now c.args.areas.now c.args.sectors.now (g.B.Backing.holds c.args.backing.now) p m' in
+    let m = paging_untold x' c.args.cpu.now c.args.areas.now c.args.sectors.now (g.B.Backing.holds c.args.backing.now) p m' in
     let a : IsAbsent x p c.args.home t = record { there = a'.there; is = a'.is; absent = a'.absent } in
     let k : IsCode x p c.args.code c.args.spare d = record { there = k'.there; is = k'.is; kind = k'.kind; present = k'.present } in
     let r : IsReadable x p = inl refl in
@@ -103,6 +103,6 @@ returns-in-Ok-clause-outside g c = λ x' p t d m' a' k' alone.
     let sy = subst R (ap (λ (z : Cpu). z.regs) c.discard.ensures.rest) my.stands in
     let at = absent_t x c.args.cpu.now c.args.areas.now c.args.sectors.now (g.B.Backing.holds c.args.backing.now) p c.args.home c.args.code c.args.spare t d m a k in
     let rd = c.in-Ok.ensures.came (overlaid x d c.args.spare (g.B.Backing.holds c.args.backing.now)) p t my at (readable_y x c.args.cpu.now c.args.areas.now c.args.sectors.now (g.B.Backing.holds c.args.backing.now) p c.args.home c.args.code c.args.spare t d m a k r) in
-    let one = Stayed-then p c.args.cpu.now.core c.discard.new.cpu.core c.page_in_room.new.cpu.core (c.discard.ensures.outside x p d m.stands m.low pc) (c.page_in_room.ensures.outside (overlaid x d c.args.spare (g.B.Backing.holds c.args.backing.now)) p t my at) in
+    let one = Stayed-then p c.args.cpu.now.core c.discard.new.cpu.core c.page_in_room.new.cpu.core (c.discard.ensures.outside x p d m.stands m.copies m.low pc) (c.page_in_room.ensures.outside (overlaid x d c.args.spare (g.B.Backing.holds c.args.backing.now)) p t my at) in
     let two = c.page_in_room-in-Ok.ensures.outside (brought (overlaid x d c.args.spare (g.B.Backing.holds c.args.backing.now)) t rd.at) rd.machine_view d rd.stands (absent_z x c.args.cpu.now c.args.areas.now c.args.sectors.now (g.B.Backing.holds c.args.backing.now) p c.args.home c.args.code c.args.spare t d m a k c.page_in_room.new.cpu c.page_in_room.new.areas (g.B.Backing.holds c.page_in_room.new.backing) rd) in
     Stayed-then p c.args.cpu.now.core c.page_in_room.new.cpu.core c.page_in_room-in-Ok.new.cpu.core one (Stayed-read x p rd.machine_view t (reads_x x c.args.cpu.now c.args.areas.now c.args.sectors.now (g.B.Backing.holds c.args.backing.now) p c.args.home c.args.code c.args.spare t d m a k c.page_in_room.new.cpu c.page_in_room.new.areas (g.B.Backing.holds c.page_in_room.new.backing) rd) c.page_in_room.new.cpu.core c.page_in_room-in-Ok.new.cpu.core two)

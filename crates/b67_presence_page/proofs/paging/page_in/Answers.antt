@@ -10,7 +10,8 @@ use Rattle.b67_presence_page.proofs.Contents.{Loaded, chain_at}
 use Rattle.b67_presence_page.proofs.Placing.{Placed, Filled, Kept, Freed}
 use Rattle.b67_presence_page.proofs.Paged.{ready, Steps, in_place, paged_known, paged_untold, paged_back, paged_below, back_below}
 use Rattle.b67_stack.specs.MachineView.{home_word_of}
-use Rattle.b67_layout_storage.specs.Machine.{Stayed, MachineRepresentsView, HasHole, renumbered}
+use Rattle.b67_layout_storage.specs.Machine.{Stayed, HasHole, renumbered}
+use Rattle.b67_overlay.specs.Spans.{MachineCanPage}
 use Rattle.b67_layout_storage.proofs.Below.{Stayed-none}
 use Rattle.b67_layout_storage.proofs.Holes.{no_place, place_room}
 use Rattle.b67_presence_page.proofs.paging.page_in.Goals as goal
@@ -131,7 +132,7 @@ returns-in-None-clause-row g c = λ x p t m a.
     let words : c.at-object.result.words ≡ length t.numbers = ap (λ (z : Resting). z.words) is in
     let none = (c.in-None.ensures.row x.spans dir).0 in
     let S : List Tagged → Type 0 = λ core. Stayed p c.args.cpu.now.core core in
-    let M : List Tagged → Areas → Type 0 = λ core areas. MachineRepresentsView x (record c.args.cpu.now { core = core }) areas c.args.sectors.now (g.B.Backing.holds c.args.backing.now) p in
+    let M : List Tagged → Areas → Type 0 = λ core areas. MachineCanPage x (record c.args.cpu.now { core = core }) areas c.args.sectors.now (g.B.Backing.holds c.args.backing.now) p in
     record {
       outside = subst S (sym c.in-None.ensures.unchanged) (Stayed-none p c.args.cpu.now.core);
       known = tt;
@@ -179,11 +180,11 @@ returns-in-Ok-clause-row g c = λ x p t m a.
       outside = subst S (sym c.set.ensures.value) (paged_below x c.args.cpu.now c.args.areas.now c.keep.new.self c.args.sectors.now (g.B.Backing.holds c.args.backing.now) (g.B.Backing.holds c.load.new.backing) p c.args.home t m a low says c.in-Some.at c.place.new.core c.load.new.core c.keep.new.core c.at-object.result is st ld c.present.result);
       known = λ k.
           let d = paged_known x c.args.cpu.now c.args.areas.now c.keep.new.self c.args.sectors.now (g.B.Backing.holds c.args.backing.now) (g.B.Backing.holds c.load.new.backing) p c.args.home t m a low says c.in-Some.at c.place.new.core c.load.new.core c.keep.new.core c.at-object.result is st ld k in
-          let M : List Tagged → Type 0 = λ core. MachineRepresentsView (brought x t c.in-Some.at) (record c.args.cpu.now { core = core }) c.keep.new.self c.args.sectors.now (g.B.Backing.holds c.load.new.backing) p in
+          let M : List Tagged → Type 0 = λ core. MachineCanPage (brought x t c.in-Some.at) (record c.args.cpu.now { core = core }) c.keep.new.self c.args.sectors.now (g.B.Backing.holds c.load.new.backing) p in
           (c.in-Some.at, place, subst M (sym new_is) d);
       untold = λ k.
           let d = paged_untold x c.args.cpu.now c.args.areas.now c.keep.new.self c.args.sectors.now (g.B.Backing.holds c.args.backing.now) (g.B.Backing.holds c.load.new.backing) p c.args.home t m a low says c.in-Some.at c.place.new.core c.load.new.core c.keep.new.core c.at-object.result is st ld k in
-          let M : List Tagged → Type 0 = λ core. MachineRepresentsView (brought x t c.in-Some.at) (record c.args.cpu.now { core = core }) c.keep.new.self c.args.sectors.now (g.B.Backing.holds c.load.new.backing) (renumbered p c.args.home d.0) in
+          let M : List Tagged → Type 0 = λ core. MachineCanPage (brought x t c.in-Some.at) (record c.args.cpu.now { core = core }) c.keep.new.self c.args.sectors.now (g.B.Backing.holds c.load.new.backing) (renumbered p c.args.home d.0) in
           (c.in-Some.at, d.0, place, d.1, d.2, subst M (sym new_is) d.3);
       refused = tt;
       full = (λ e _. absurd (let b : ⊥ = cc in b), λ no. absurd (no room));

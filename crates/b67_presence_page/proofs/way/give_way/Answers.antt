@@ -1,7 +1,7 @@
 use Rattle.std.proofs.Common.{◌≡◌, ◌≢◌, ℕ, List, Option, Some, None, sym, ◌∙◌, ap, subst, Result, Err}
 use Rattle.std.proofs.lemmas.Option.{none-some}
 use Rattle.b67_stack.specs.Represents.{Storage}
-use Rattle.b67_layout_storage.specs.Machine.{MachineRepresentsView}
+use Rattle.b67_overlay.specs.Spans.{MachineCanPage}
 use Rattle.b67_layout_storage.proofs.Below.{Stayed-then}
 use Rattle.b67_layout_storage.proofs.Devices.{still_tells}
 use Rattle.b67_overlay.specs.Overlaid.{overlaid, retelling}
@@ -66,7 +66,7 @@ returns-in-Err-NoHole-clause-gone g c = λ _ x p t u m a pr.
     let my = (c.in-Ok.ensures.row x p u m pr).stands in
     let sh : AreasEvicted x y spare = AreasEvicted-overlaid x (g.B.Backing.holds c.args.backing.now) (g.B.Backing.holds c.overlay.new.backing) m.device tells u c.args.at spare pr.present n in
     let ay = absent_after x y p c.args.home spare t sh a in
-    let P : Option (List (List ℕ)) → Type 0 = λ d. MachineRepresentsView (overlaid x u c.args.at d) c.page_in.new.cpu c.page_in.new.areas c.overlay.new.sectors (g.B.Backing.holds c.page_in.new.backing) p in
+    let P : Option (List (List ℕ)) → Type 0 = λ d. MachineCanPage (overlaid x u c.args.at d) c.page_in.new.cpu c.page_in.new.areas c.overlay.new.sectors (g.B.Backing.holds c.page_in.new.backing) p in
     (λ e. absurd (n e), λ _. subst P (ap g.B.Backing.holds (sym (c.page_in.ensures.unchanged (let z : c.page_in.result ≡ Err NoHole = cc in z)).1)) ((c.in-Err-NoHole.ensures.row y p t my ay).refused))
 
 pub returns-in-Err-BackingFault-clause-refused : goal.returns-in-Err-BackingFault-clause-refused

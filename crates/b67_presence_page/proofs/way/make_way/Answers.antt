@@ -4,7 +4,8 @@ use Rattle.std.proofs.lemmas.Bool.{cases_eq}
 use Rattle.b67_backing.specs.declared.SpaceFault.{SpaceFault}
 use Rattle.b67_backing.specs.declared.SpaceFault.TheVariants.{BackingFull}
 use Rattle.b67_stack.specs.Represents.{Storage}
-use Rattle.b67_layout_storage.specs.Machine.{MachineRepresentsView, Stayed}
+use Rattle.b67_layout_storage.specs.Machine.{Stayed}
+use Rattle.b67_overlay.specs.Spans.{MachineCanPage}
 use Rattle.b67_layout_storage.proofs.Below.{Stayed-none, Stayed-then}
 use Rattle.b67_layout_storage.proofs.Devices.{Served-none, Served-then, Keeps-none, Keeps-then, still_tells}
 use Rattle.b67_overlay.specs.Overlaid.{overlaid}
@@ -105,9 +106,9 @@ areas-preserved g c =
           let e = (after_here y c.areas.cpu c.areas.areas c.areas.sectors (g.B.Backing.holds c.areas.backing) p my c.args.spare c.in-Some.at c.areas.next c.in-Some.is re c.after-next.result c.after-next.ensures) in
           ⊎_elim
           (λ (q : c.in-Some.at ≡ c.args.spare).
-          let done : (s : Storage) × AreasEvicted x s c.args.spare × Remains s.low s.spans c.args.spare c.after-next.result × MachineRepresentsView s c.give_way.new.cpu c.give_way.new.areas c.give_way.new.sectors (g.B.Backing.holds c.give_way.new.backing) p × Stayed p c.args.cpu.now.core c.give_way.new.cpu.core = (y, sh, past_here y c.areas.cpu c.areas.areas c.areas.sectors (g.B.Backing.holds c.areas.backing) p my c.args.spare c.in-Some.at c.areas.next c.in-Some.is re c.after-next.result e q, r.0 q, sw) in done)
+          let done : (s : Storage) × AreasEvicted x s c.args.spare × Remains s.low s.spans c.args.spare c.after-next.result × MachineCanPage s c.give_way.new.cpu c.give_way.new.areas c.give_way.new.sectors (g.B.Backing.holds c.give_way.new.backing) p × Stayed p c.args.cpu.now.core c.give_way.new.cpu.core = (y, sh, past_here y c.areas.cpu c.areas.areas c.areas.sectors (g.B.Backing.holds c.areas.backing) p my c.args.spare c.in-Some.at c.areas.next c.in-Some.is re c.after-next.result e q, r.0 q, sw) in done)
           (λ (n : c.in-Some.at ≡ c.args.spare → ⊥).
-          let done : (s : Storage) × AreasEvicted x s c.args.spare × Remains s.low s.spans c.args.spare c.after-next.result × MachineRepresentsView s c.give_way.new.cpu c.give_way.new.areas c.give_way.new.sectors (g.B.Backing.holds c.give_way.new.backing) p × Stayed p c.args.cpu.now.core c.give_way.new.cpu.core = (
+          let done : (s : Storage) × AreasEvicted x s c.args.spare × Remains s.low s.spans c.args.spare c.after-next.result × MachineCanPage s c.give_way.new.cpu c.give_way.new.areas c.give_way.new.sectors (g.B.Backing.holds c.give_way.new.backing) p × Stayed p c.args.cpu.now.core c.give_way.new.cpu.core = (
             z,
             AreasEvicted-then x y z c.args.spare sh (AreasEvicted-overlaid y (g.B.Backing.holds c.areas.backing) (g.B.Backing.holds c.give_way.new.backing) my.device tells u c.in-Some.at c.args.spare pr.present n),
             gone_here y c.areas.cpu c.areas.areas c.areas.sectors (g.B.Backing.holds c.areas.backing) p my c.args.spare c.in-Some.at c.areas.next c.in-Some.is re c.after-next.result e n,

@@ -1,6 +1,7 @@
 use Rattle.b67_stack.specs.MachineView.{PagedObject, MachineView}
 use Rattle.b67_stack.specs.Represents.{Storage}
-use Rattle.b67_layout_storage.specs.Machine.{MachineRepresentsView, IsAbsent, DeviceAfterCalls, PagingKeeps, Stayed}
+use Rattle.b67_layout_storage.specs.Machine.{IsAbsent, DeviceAfterCalls, PagingKeeps, Stayed}
+use Rattle.b67_overlay.specs.Spans.{MachineCanPage}
 use Rattle.b67_overlay.specs.AreasEvicted.{AreasEvicted, Remains}
 use Rattle.b67_overlay.proofs.Visits.{left_of}
 use Rattle.b67_presence_page.proofs.way.make_way.Given as goal
@@ -11,8 +12,8 @@ invariant-areas g l =
     record {
       keeps : PagingKeeps l.initial.cpu l.cpu l.initial.areas l.areas l.initial.sectors l.sectors;
       device : DeviceAfterCalls holds g.B.Backing.size g.B.Backing.calls g.B.Backing.faults l.initial.backing l.backing;
-      stands : (x : Storage) (p : MachineView) (t : PagedObject) → MachineRepresentsView x l.initial.cpu l.initial.areas l.initial.sectors (holds l.initial.backing) p → IsAbsent x p l.home t
-          → (y : Storage) × AreasEvicted x y l.spare × Remains y.low y.spans l.spare l.next × MachineRepresentsView y l.cpu l.areas l.sectors (holds l.backing) p
+      stands : (x : Storage) (p : MachineView) (t : PagedObject) → MachineCanPage x l.initial.cpu l.initial.areas l.initial.sectors (holds l.initial.backing) p → IsAbsent x p l.home t
+          → (y : Storage) × AreasEvicted x y l.spare × Remains y.low y.spans l.spare l.next × MachineCanPage y l.cpu l.areas l.sectors (holds l.backing) p
           × Stayed p l.initial.cpu.core l.cpu.core;
     }
 

@@ -1,0 +1,4 @@
+pub mod Kins
+pub mod Lines
+pub mod Lies
+pub mod Sessions
