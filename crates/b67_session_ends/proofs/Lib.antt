@@ -3,7 +3,6 @@ pub mod AtLimits
 pub mod Counting
 pub mod Counted
 pub mod Ended
-pub mod Families
 pub mod Firsts
 pub mod ByLimit
 pub mod Stuck

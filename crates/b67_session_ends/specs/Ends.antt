@@ -1,11 +1,10 @@
 -- The end of a step over the whole machine: what is printed, and for which session the machine stands then.
 use Rattle.std.specs.Prelude.{◌≡◌, ◌≢◌, ℕ, List, [], length, Option, Some, None, Result, Ok, Err, slice_get}
-use Rattle.b67_word.specs.declared.faults.Ending.{Ending}
 use Rattle.b67_word.specs.declared.faults.Failed.{Failed}
 use Rattle.b67_model.specs.Lines.{run_text}
 use Rattle.b67_model.specs.Run.{StepResult}
 use Rattle.b67_model.specs.Schedule.{Session}
-use Rattle.b67_model.specs.State.{Task, SessionJob}
+use Rattle.b67_model.specs.State.{SessionJob}
 use Rattle.b67_lemmas.specs.Lists.{Has}
 use Rattle.b67_session_lines.specs.Moments.{last_part}
 use Rattle.b67_session_lines.specs.Parts.{TookRest, TookMore}
@@ -15,14 +14,8 @@ use Rattle.b67_layout.specs.Orders.{IsInOrderButCounts}
 use Rattle.b67_task_tables.specs.declared.tables.TaskRow.{TaskRow}
 use Rattle.b67_task_tables.specs.declared.tables.Machine.{Machine}
 use Rattle.b67_task_tables.specs.Tables.{MachineRepresents}
-use Rattle.b67_task_end.specs.Family.{IsRowOf, endings_of}
+pub use Rattle.b67_task_end_tables.specs.Families.{StandsFor, IsFamilyOf, EndsFamily}
 use Rattle.b67_law_turns.specs.Orders.{IsInOrderButLimit}
-
--- the machine stands for the session, in some storage and placement
-pub record StandsFor (told : Option (List (List ℕ))) (k : Machine) (s : Session) : Type 0 where
-  pub storage : Storage
-  pub plan : Placement
-  pub stands : MachineRepresents storage told k plan s
 
 -- the row of a job's first task
 pub record IsFirstRow (rows : List TaskRow) (job at : ℕ) : Type 0 where
@@ -43,25 +36,6 @@ pub record JobLives (k : Machine) (job : ℕ) : Type 0 where
   pub among : Has session.jobs member
   pub number : member.constants.number ≡ job
   pub lives : member.progress.job.tasks ≢ []
-
--- the machine stands for a session in order but for counts, and these are the endings if the task of a row ends so by itself
-pub record IsFamilyOf (x : Storage) (told : Option (List (List ℕ))) (k : Machine) (plan : Placement) (s : Session) (m : SessionJob) (t : Task) (row job : ℕ) (ending : Ending) (endings : List (ℕ × Ending)) : Type 0 where
-  pub ordered : IsInOrderButCounts s
-  pub stands : MachineRepresents x told k plan s
-  pub at : IsRowOf plan s k.tasks.rows.items row m t
-  pub number : m.constants.number ≡ job
-  pub listed : endings ≡ endings_of m.progress.job t.number ending
-
--- it does for some session
-pub record EndsFamily (k : Machine) (row job : ℕ) (endings : List (ℕ × Ending)) : Type 0 where
-  pub storage : Storage
-  pub told : Option (List (List ℕ))
-  pub plan : Placement
-  pub session : Session
-  pub member : SessionJob
-  pub task : Task
-  pub ending : Ending
-  pub family : IsFamilyOf storage told k plan session member task row job ending endings
 
 -- the machine stands for some session between the parts of a step
 pub record StandsBetween (k : Machine) : Type 0 where

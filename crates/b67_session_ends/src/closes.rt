@@ -18,12 +18,13 @@ ghost use Rattle.b67_session_ends.specs.Ends.{StandsFor};
 
 use crate::closing::{goes_on, with_stuck};
 use crate::counts::count_one;
-use crate::deaths::{end_family, end_job};
+use crate::deaths::end_job;
 use crate::limits::has_row;
 use crate::texts::put_endings;
 use b67_io::Sink;
 use b67_session_schedule::Chosen;
 use b67_task_end::endings;
+use b67_task_end_tables::end_family;
 use b67_task_tables::Machine;
 use b67_word::{Ending, Failed};
 

@@ -2,23 +2,21 @@
 
 ghost use Rattle.std.specs.Prelude.{◌≡◌, ◌≢◌, ◌≤◌, ℕ, true, List, [], Option, Some, length, map, slice_get};
 ghost use Rattle.b67_word.specs.declared.faults.Ending.TheVariants as variants;
-ghost use Rattle.b67_word.specs.declared.faults.Ending as ending_type;
 ghost use Rattle.b67_lemmas.specs.Lists.{Has};
-ghost use Rattle.b67_model.specs.Endings.{all_with, ends_each_if, ends_task, unsettled};
+ghost use Rattle.b67_model.specs.Endings.{all_with, ends_each_if, unsettled};
 ghost use Rattle.b67_model.specs.Schedule.{Session};
-ghost use Rattle.b67_model.specs.State.{Task, SessionJob};
+ghost use Rattle.b67_model.specs.State.{SessionJob};
 ghost use Rattle.b67_stack.specs.Represents.{Storage};
 ghost use Rattle.b67_layout.specs.Meets.{with_job};
 ghost use Rattle.b67_layout.specs.Orders.{IsInOrderButCounts};
 ghost use Rattle.b67_layout.specs.Placement.{Placement};
 ghost use Rattle.b67_task_tables.specs.Tables.{MachineRepresents};
 ghost use Rattle.b67_task_end.specs.Family.{pair_of};
-ghost use Rattle.b67_session_ends.specs.Ends.{StandsFor, IsFirstRow, JobLives, IsFamilyOf, EndsFamily};
+ghost use Rattle.b67_session_ends.specs.Ends.{StandsFor, IsFirstRow, JobLives};
 
 use arrayvec::ArrayVec;
 use b67_task_end::{EndedTask, endings};
-use b67_task_end_tables::end;
-use b67_task_switch::switch_to;
+use b67_task_end_tables::end_family;
 use b67_task_tables::{Machine, TaskRow};
 use b67_word::Ending;
 
@@ -50,21 +48,6 @@ fn first_row(rows: &[TaskRow], job: u8) -> u8
         }
     }
     0
-}
-
-/// The task of a row ends, with those under it, in the ways that `endings` lists. Whoever's registers were in use, none are
-/// then.
-pub(crate) fn end_family(machine: &mut Machine, row: u8, job: u8, list: &[EndedTask])
-    requires some { EndsFamily machine.old row job (map pair_of list.now) }
-    requires few { length list.now ≤ 15 }
-    ensures stands { (x : Storage) (told : Option (List (List ℕ))) (plan : Placement) (s : Session) (m : SessionJob) (t : Task) (ending : ending_type.Ending)
-        → IsFamilyOf x told machine.old plan s m t row job ending (map pair_of list.now) → StandsFor told machine.new (with_job s m (ends_task m.progress.job t.number ending).job) }
-    ensures tasks { machine.new.tasks ≡ record machine.old.tasks { rows = machine.new.tasks.rows; running = machine.new.tasks.running } }
-    ensures len { length machine.new.cpu.core ≡ length machine.old.cpu.core }
-    ensures count { length machine.new.sectors.links ≡ length machine.old.sectors.links }
-{
-    switch_to(machine, row);
-    end(machine, job, list);
 }
 
 /// All tasks of a job end: its first one, with those under it.

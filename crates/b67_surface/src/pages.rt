@@ -13,14 +13,13 @@ ghost use Rattle.b67_overlay.specs.Turns.{Lies};
 ghost use Rattle.b67_presence.specs.Bringing.{WantsSome};
 ghost use Rattle.b67_stack.specs.MachineView.{MachineView, PagedObject};
 ghost use Rattle.b67_stack.specs.Represents.{Represents, Storage};
-ghost use Rattle.b67_task_end.specs.Family.{HasSomeHead, HasSomeRow, pair_of};
-ghost use Rattle.b67_task_end_tables.specs.Deaths.{EndsSome, numbers_of};
+ghost use Rattle.b67_task_end.specs.Family.{HasSomeHead, HasSomeRow};
 ghost use Rattle.b67_task_need.specs.Needing.{StandsInOrder};
 ghost use Rattle.b67_task_release.specs.Left.{IsLeft};
 ghost use Rattle.b67_task_start.specs.Starts.{StartsSome};
 ghost use Rattle.b67_task_switch.specs.Standing.{HasRow};
 ghost use Rattle.b67_task_tables.specs.Runs.{RunsTask};
-ghost use Rattle.std.specs.Prelude.{List, Option, length, map, ℕ, ◌+◌, ◌<◌, ◌^◌, ◌≡◌, ◌≤◌};
+ghost use Rattle.std.specs.Prelude.{List, Option, length, ℕ, ◌+◌, ◌<◌, ◌^◌, ◌≡◌, ◌≤◌};
 
 use arrayvec::ArrayVec;
 use b67_area::Areas;
@@ -135,11 +134,14 @@ pub fn live_of(tasks: &Tasks, job: u8) -> ArrayVec<u32, 15>
     b67_task::live_of(tasks, job)
 }
 
-pub fn end(machine: &mut Machine, job: u8, list: &[EndedTask])
-    requires some { EndsSome machine.old job (numbers_of (map pair_of list.now)) }
-    requires few { length list.now ≤ 15 }
+pub fn end(machine: &mut Machine, row: u8, ending: Ending) -> ArrayVec<EndedTask, 15>
+    requires { HasRow machine.old row }
 {
-    b67_task::end(machine, job, list)
+    b67_task::end(machine, row, ending)
+}
+
+pub fn critical(machine: &Machine, slot: u8, mark: u16) -> bool {
+    b67_task::critical(machine, slot, mark)
 }
 
 pub fn switch_to(machine: &mut Machine, row: u8)

@@ -1,10 +1,15 @@
-//! Tasks: their start and their end, who ends with one, and the calls below that concern them.
+//! Tasks: their start and their end, who ends with one, the records that they depend on, and the calls below that concern
+//! them.
 #![tactic(auto)]
 
+mod deaths;
+mod marks;
+
 pub use b67_task_end::{EndedTask, endings, live_of, lives, status};
-pub use b67_task_end_tables::end;
 pub use b67_task_need::{need, sector_sum};
 pub use b67_task_release::release;
 pub use b67_task_start::start;
 pub use b67_task_switch::switch_to;
 pub use b67_task_tables::{JobRow, JobRows, Machine, TaskRow, TaskState, Tasks};
+pub use deaths::end;
+pub use marks::critical;

@@ -1,7 +1,7 @@
 -- Lists whose items are kept or left out, each then changed but for its key.
-use Rattle.std.proofs.Common.{◌≡◌, ◌≢◌, ℕ, zero, suc, ◌+◌, ◌<◌, ◌≤◌, List, [], ◌∷◌, ◌++◌, map, filter, find, length, drop, get_or, Option, Some, None, Bool, true, false, not, refl, sym, ◌∙◌, ap, arith, inl, inr, ⊎_elim, subst, ◌==◌}
+use Rattle.std.proofs.Common.{◌≡◌, ℕ, zero, suc, ◌+◌, ◌<◌, ◌≤◌, List, [], ◌∷◌, ◌++◌, map, filter, find, length, drop, get_or, Some, None, Bool, true, false, refl, sym, ◌∙◌, ap, arith, inl, inr, ⊎_elim, subst}
 use Rattle.std.specs.Prelude.{◌||◌}
-use Rattle.std.specs.List.{slice_get, list_any}
+use Rattle.std.specs.List.{list_any}
 use Rattle.std.proofs.lemmas.Bool.{cases_Bool}
 use Rattle.std.proofs.lemmas.List.{length-map, append-nil, append_assoc}
 use Rattle.std.proofs.lemmas.Option.{slice_get-get_or}

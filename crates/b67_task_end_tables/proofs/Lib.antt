@@ -5,3 +5,4 @@ pub mod Family
 pub mod Machines
 pub mod Marking
 pub mod Freed
+pub mod Families

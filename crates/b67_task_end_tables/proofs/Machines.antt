@@ -1,23 +1,19 @@
 -- The machine stands for the session without the tasks that ended, once their slots are free, their rows are gone and the
 -- marks are those of the rows.
-use Rattle.std.proofs.Common.{◌≡◌, ◌≢◌, ℕ, ◌+◌, ◌<◌, ◌≤◌, List, [], ◌∷◌, map, find, length, Option, Some, None, Bool, true, false, refl, sym, ◌∙◌, ap, arith, inl, inr, ◌⊎◌, ⊎_elim, subst, ◌==◌}
+use Rattle.std.proofs.Common.{◌≡◌, ◌≢◌, ℕ, ◌+◌, ◌≤◌, List, [], ◌∷◌, map, length, Option, true, false, refl, sym, ◌∙◌, ap, arith, inl, inr, ◌⊎◌, ⊎_elim, subst, ◌==◌}
 use Rattle.std.specs.Prelude.{◌&&◌, if◌then◌else◌, unwrap_or, option_map}
 use Rattle.std.specs.List.{list_any}
 use Rattle.std.proofs.lemmas.Bool.{cases_Bool, eq-eqb, eqb-true}
 use Rattle.b67_word.specs.declared.faults.Ending.{Ending}
-use Rattle.b67_word.specs.Tagged.{Tagged}
-use Rattle.b67_ctl.specs.declared.registers.Regs.{Regs}
 use Rattle.b67_area.specs.declared.Areas.{Areas}
 use Rattle.b67_backing.specs.Shelf.{Table}
 use Rattle.b67_lemmas.specs.Lists.{Has}
 use Rattle.b67_lemmas.proofs.Members.{any_some, has_filter, has_map, has_map_back, keyed_has}
-use Rattle.b67_model.specs.State.{Task, Job, JobProgress, SessionJob}
+use Rattle.b67_model.specs.State.{Task, JobProgress, SessionJob}
 use Rattle.b67_model.specs.Endings.{among, unsettled}
 use Rattle.b67_model.specs.Run.{number_of}
-use Rattle.b67_model.specs.Keyed.{keyed}
 use Rattle.b67_model.specs.Schedule.{Session}
 use Rattle.b67_model.specs.InOrder.{IsSegment, NumberedFrom, TasksInOrder}
-use Rattle.b67_law_order.proofs.Numbered.{keyed_member}
 use Rattle.b67_law_order_steps.proofs.Deaths.{IsClosed, ends_good}
 use Rattle.b67_stack.specs.declared.Cpu.{Cpu}
 use Rattle.b67_stack.specs.MachineView.{MachineView}
@@ -29,7 +25,7 @@ use Rattle.b67_layout.specs.Layout.{machine_view}
 use Rattle.b67_layout.specs.Orders.{IsInOrderButCounts}
 use Rattle.b67_layout.specs.Rows as rows
 use Rattle.b67_layout.specs.Rows.{TaskShows, TablesShow}
-use Rattle.b67_layout.specs.Session.{RowsFit, RepresentsCritical, RepresentsSession, RepresentsStorage, SessionHolds}
+use Rattle.b67_layout.specs.Session.{RowsFit, RepresentsCritical, RepresentsSession, RepresentsStorage}
 use Rattle.b67_layout.proofs.Fresh.{job_in_order}
 use Rattle.b67_layout.proofs.MachineViews.{with_course}
 use Rattle.b67_layout.proofs.Rows.{finds, slot_below, task_row}
@@ -39,8 +35,6 @@ use Rattle.b67_task_tables.specs.declared.tables.Machine.{Machine}
 use Rattle.b67_task_tables.specs.Tables as tables
 use Rattle.b67_task_tables.specs.Tables.{MachineRepresents, counts_of, job_row}
 use Rattle.b67_task_end_stack.specs.Bury.{MayBury, IsBuried, GaveBack, plan_without, session_without, slots_gone}
-use Rattle.b67_task_end_stack.specs.Ends.{gone_of}
-use Rattle.b67_task_end_stack.specs.Leaves.{Lost}
 use Rattle.b67_task_end_stack.specs.Turns.{InTurn}
 use Rattle.b67_task_end.specs.declared.families.EndedTask.{EndedTask}
 use Rattle.b67_task_end.specs.Family.{pair_of, endings_of}

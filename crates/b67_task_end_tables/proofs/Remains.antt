@@ -1,16 +1,15 @@
 -- The tables show the session without the tasks that ended, once their rows are out and who awaited one of them is ready.
-use Rattle.std.proofs.Common.{◌≡◌, ◌≢◌, ℕ, zero, suc, ◌+◌, ◌<◌, ◌≤◌, List, [], ◌∷◌, map, filter, length, not, Option, Some, None, Bool, true, false, refl, sym, ◌∙◌, ap, arith, inl, inr, ◌⊎◌, ⊎_elim, subst, ◌==◌}
-use Rattle.std.specs.Prelude.{◌&&◌, if◌then◌else◌}
+use Rattle.std.proofs.Common.{◌≡◌, ◌≢◌, ℕ, ◌≤◌, List, [], ◌∷◌, map, filter, length, not, Option, Some, None, true, false, refl, sym, ◌∙◌, ap, arith, inl, inr, ◌⊎◌, ⊎_elim, subst, ◌==◌}
 use Rattle.std.specs.List.{slice_get}
-use Rattle.std.proofs.lemmas.Bool.{cases_Bool, cases_eq, eq-eqb, ne_eqb, eqb-true, true≢false}
+use Rattle.std.proofs.lemmas.Bool.{cases_Bool, cases_eq, eq-eqb, ne_eqb, true≢false}
 use Rattle.std.proofs.lemmas.List.{length-map}
 use Rattle.std.proofs.lemmas.Option.{same_Some, slice_get_past}
 use Rattle.std.proofs.lemmas.Simd.{map-map}
 use Rattle.b67_word.specs.Tagged.{Tagged}
 use Rattle.b67_ctl.specs.declared.registers.Regs.{Regs}
 use Rattle.b67_lemmas.specs.Lists.{Has}
-use Rattle.b67_lemmas.proofs.Members.{has_filter, has_filter_in, has_map, has_map_back, keyed_has}
-use Rattle.b67_model.specs.State.{Condition, Ready, Awaits, WaitsAt, Frame, Task, Job, JobProgress, SessionJob}
+use Rattle.b67_lemmas.proofs.Members.{has_filter, has_filter_in, has_map, has_map_back}
+use Rattle.b67_model.specs.State.{Condition, Ready, Awaits, WaitsAt, Frame, Task, Job, SessionJob}
 use Rattle.b67_model.specs.Endings.{among, released}
 use Rattle.b67_model.specs.Keyed.{keyed}
 use Rattle.b67_model.specs.Run.{number_of}
@@ -19,7 +18,7 @@ use Rattle.b67_model.specs.InOrder.{frames_of_task}
 use Rattle.b67_law_order_steps.proofs.Deaths.{IsClosed}
 use Rattle.b67_stack.specs.Represents.{Storage}
 use Rattle.b67_stack.specs.Stacks.{StackPlace}
-use Rattle.b67_layout.specs.Placement.{Placement, Slotted, slot_of, spot_in, base_spot, spots, address_of}
+use Rattle.b67_layout.specs.Placement.{Placement, slot_of, spot_in, base_spot, spots, address_of}
 use Rattle.b67_layout.specs.Rows as rows
 use Rattle.b67_layout.specs.Rows.{AwaitsTask, WaitsAtCell, JobRow, JobCounts, shown, parent_slot, critical_disp, TaskShows, JobShows, JobsShow, RunningRow, Differ, TablesShow}
 use Rattle.b67_layout.specs.Session.{RowsFit, SessionHolds}
@@ -30,7 +29,7 @@ use Rattle.b67_task_tables.specs.declared.tables.TaskRow.{TaskRow}
 use Rattle.b67_task_tables.specs.declared.tables.TaskState.{TaskState}
 use Rattle.b67_task_tables.specs.declared.tables.TaskState.TheVariants as states
 use Rattle.b67_task_tables.specs.Tables.{state_of, task_row}
-use Rattle.b67_task_start_stack.specs.Likes.{SameStack, Like}
+use Rattle.b67_task_start_stack.specs.Likes.{Like}
 use Rattle.b67_task_start_stack.proofs.Twins.{like_same, spots-twin}
 use Rattle.b67_task_start_stack.proofs.Births.{changed_member, kept_member, moved_member}
 use Rattle.b67_task_end_stack.specs.Bury.{plan_without, session_without}

@@ -1,12 +1,10 @@
 -- The marks of the tables' rows are those on which live tasks depend.
-use Rattle.std.proofs.Common.{◌≡◌, ◌≢◌, ℕ, ◌+◌, ◌<◌, ◌≤◌, max, List, [], ◌∷◌, map, length, Some, None, Option, Bool, true, false, refl, sym, ◌∙◌, ap, arith, inl, inr, ◌⊎◌, ⊎_elim, subst, ◌==◌}
-use Rattle.std.specs.Prelude.{if◌then◌else◌}
-use Rattle.std.specs.List.{slice_get, list_any}
+use Rattle.std.proofs.Common.{◌≡◌, ◌≢◌, ℕ, ◌<◌, ◌≤◌, max, List, [], ◌∷◌, map, Some, Option, true, refl, sym, ◌∙◌, ap, arith, inl, inr, ◌⊎◌, ⊎_elim, subst, ◌==◌}
 use Rattle.std.proofs.lemmas.Bool.{cases_Bool, cases_eq, eq-eqb, ne_eqb, eqb-true, true≢false}
 use Rattle.std.proofs.lemmas.Option.{same_Some}
 use Rattle.b67_lemmas.specs.Lists.{Has}
 use Rattle.b67_lemmas.proofs.Members.{all_in, any_has, any_some, falls_same, has_map, has_map_back, keyed_has}
-use Rattle.b67_model.specs.State.{Frame, Task, Job, SessionJob, height, words_of}
+use Rattle.b67_model.specs.State.{Frame, Task, Job, SessionJob, height}
 use Rattle.b67_model.specs.Steps.{is_critical}
 use Rattle.b67_model.specs.Keyed.{keyed}
 use Rattle.b67_model.specs.Run.{number_of}
@@ -89,10 +87,10 @@ mark_from job k outer (f ∷ below) = elim (cases_Bool (is_critical job f.identi
 module _ (plan : Placement) (s : Session) (numbered : NumberedFrom 1 s.jobs) (fits : RowsFit plan s.jobs) (few : plan.peak ≤ 120)
     (good : (y : SessionJob) → Has s.jobs y → TasksInOrder (IsSegment y.constants) y.constants y.progress.job)
     (rs : List TaskRow) (job_rows : List JobRow) (c : JobCounts) (shows : TablesShow plan s (map tables.task_row rs) job_rows c) where
-  one_task : (y : SessionJob) → Has s.jobs y → (u v : Task) → Has y.progress.job.tasks u → Has y.progress.job.tasks v → u.number ≡ v.number → u ≡ v
+  pub one_task : (y : SessionJob) → Has s.jobs y → (u v : Task) → Has y.progress.job.tasks u → Has y.progress.job.tasks v → u.number ≡ v.number → u ≡ v
   one_task y in_y u v iu iv e = falls_same (λ (t : Task). t.number) y.progress.job.next_task y.progress.job.tasks u v (good y in_y).numbers iu iv e
 
-  one_slot : (y z : SessionJob) (u v : Task) → Has s.jobs y → Has s.jobs z → Has y.progress.job.tasks u → Has z.progress.job.tasks v → slot_of plan y.constants.number u.number ≡ slot_of plan z.constants.number v.number → (y ≡ z) × (u.number ≡ v.number)
+  pub one_slot : (y z : SessionJob) (u v : Task) → Has s.jobs y → Has s.jobs z → Has y.progress.job.tasks u → Has z.progress.job.tasks v → slot_of plan y.constants.number u.number ≡ slot_of plan z.constants.number v.number → (y ≡ z) × (u.number ≡ v.number)
   one_slot y z u v in_y in_z in_u in_v e =
       let a = task_row plan s.jobs y u fits in_y in_u in
       let b = task_row plan s.jobs z v fits in_z in_v in
@@ -102,7 +100,7 @@ module _ (plan : Placement) (s : Session) (numbered : NumberedFrom 1 s.jobs) (fi
         sym a.number ∙ ap (λ (q : Slotted). q.task) same ∙ b.number,
       )
 
-  one_frame : (y : SessionJob) → Has s.jobs y → (u v : Task) → Has y.progress.job.tasks u → Has y.progress.job.tasks v → (id : ℕ) → Has (identities u.frames) id → Has (identities v.frames) id → u ≡ v
+  pub one_frame : (y : SessionJob) → Has s.jobs y → (u v : Task) → Has y.progress.job.tasks u → Has y.progress.job.tasks v → (id : ℕ) → Has (identities u.frames) id → Has (identities v.frames) id → u ≡ v
   one_frame y in_y u v iu iv id a b = elim (cases_eq u.number v.number) [
     | inl e ↦ one_task y in_y u v iu iv e
     | inr ne ↦
@@ -118,7 +116,7 @@ module _ (plan : Placement) (s : Session) (numbered : NumberedFrom 1 s.jobs) (fi
     pub slot : parent_slot plan y.constants.number u.parents ≡ slot_of plan y.constants.number parent.number
     pub disp : critical_disp plan y.constants.number y.progress.job u.critical u.parents ≡ (spot_in (slot_of plan y.constants.number parent.number) (base_spot y.constants.number) parent.frames u.critical).disp
 
-  under_of : (y : SessionJob) (u : Task) → Has s.jobs y → Has y.progress.job.tasks u → (ps : List ℕ) → u.parents ≡ ps → ((ps ≡ []) × (u.critical ≡ 0)) ⊎ Under y u
+  pub under_of : (y : SessionJob) (u : Task) → Has s.jobs y → Has y.progress.job.tasks u → (ps : List ℕ) → u.parents ≡ ps → ((ps ≡ []) × (u.critical ≡ 0)) ⊎ Under y u
   under_of y u in_y in_u [] e =
       let birth = subst (BirthInOrder y.progress.job u) e (all_in (TaskInOrder (IsSegment y.constants) y.constants y.progress.job) y.progress.job.tasks u (good y in_y).tasks in_u).birth in
       inl (refl, birth.1)
@@ -137,7 +135,7 @@ module _ (plan : Placement) (s : Session) (numbered : NumberedFrom 1 s.jobs) (fi
       })
 
   -- a row with a slot for its parent's is that of a task under the slot's
-  under_row : (k : ℕ) → k < 120 → (q : TaskRow) → Has rs q → q.parent ≡ k → (y : SessionJob) × (u : Task) × Has s.jobs y × Has y.progress.job.tasks u × TaskShows plan y u (tables.task_row q) × Under y u
+  pub under_row : (k : ℕ) → k < 120 → (q : TaskRow) → Has rs q → q.parent ≡ k → (y : SessionJob) × (u : Task) × Has s.jobs y × Has y.progress.job.tasks u × TaskShows plan y u (tables.task_row q) × Under y u
   under_row k low q i e =
       let (y, u, in_y, in_u, w) = shows.tasks (tables.task_row q) (has_map tables.task_row rs q i) in
       ⊎_elim

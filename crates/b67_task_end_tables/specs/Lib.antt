@@ -1,3 +1,4 @@
 pub mod Left
 pub mod Marks
 pub mod Deaths
+pub mod Families

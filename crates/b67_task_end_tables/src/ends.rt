@@ -1,24 +1,29 @@
 //! A task ends, and its descendants with it.
 
 ghost use Rattle.std.specs.Prelude.{◌≡◌, ◌≤◌, ℕ, List, Option, length, map};
-ghost use Rattle.b67_model.specs.State.{SessionJob};
+ghost use Rattle.b67_word.specs.declared.faults.Ending.{Ending};
+ghost use Rattle.b67_model.specs.State.{Task, SessionJob};
+ghost use Rattle.b67_model.specs.Endings.{ends_task};
 ghost use Rattle.b67_model.specs.Schedule.{Session};
 ghost use Rattle.b67_stack.specs.Represents.{Storage};
+ghost use Rattle.b67_layout.specs.Meets.{with_job};
 ghost use Rattle.b67_layout.specs.Placement.{Placement};
 ghost use Rattle.b67_task_tables.specs.declared.tables.Tasks.{Tasks};
 ghost use Rattle.b67_task_end.specs.Family.{pair_of};
 ghost use Rattle.b67_task_end_tables.specs.Deaths.{numbers_of, StandsWith, MayEnd, EndsSome, HasEnded};
+ghost use Rattle.b67_task_end_tables.specs.Families.{StandsFor, IsFamilyOf, EndsFamily};
 
 use crate::marks::marks_of;
 use crate::rows::{rows_left, slots_of};
 use b67_task_end::EndedTask;
 use b67_task_end_stack::bury;
+use b67_task_switch::switch_to;
 use b67_task_tables::Machine;
 
 /// These tasks of a job end, each after those under it, as `endings` lists them. Their rows are gone, their slots are free,
 /// and the areas and sectors of their arrays are given back; who awaited one is ready. The registers of no other task may be
 /// in use, and none are then. The tables' counts needn't be those of the session.
-pub fn end(machine: &mut Machine, job: u8, list: &[EndedTask])
+fn end(machine: &mut Machine, job: u8, list: &[EndedTask])
     requires some { EndsSome machine.old job (numbers_of (map pair_of list.now)) }
     requires few { length list.now ≤ 15 }
     ensures stands { (u : Tasks) (x : Storage) (told : Option (List (List ℕ))) (plan : Placement) (s : Session) (m : SessionJob) → StandsWith machine.old u x told plan s
@@ -39,4 +44,19 @@ pub fn end(machine: &mut Machine, job: u8, list: &[EndedTask])
     machine.cpu.critical = marks_of(rows.as_slice());
     machine.tasks.rows = rows;
     machine.tasks.running = 255;
+}
+
+/// The task of a row ends, with those under it, in the ways that `endings` lists. Whoever's registers were in use, none are
+/// then.
+pub fn end_family(machine: &mut Machine, row: u8, job: u8, list: &[EndedTask])
+    requires some { EndsFamily machine.old row job (map pair_of list.now) }
+    requires few { length list.now ≤ 15 }
+    ensures stands { (x : Storage) (told : Option (List (List ℕ))) (plan : Placement) (s : Session) (m : SessionJob) (t : Task) (ending : Ending)
+        → IsFamilyOf x told machine.old plan s m t row job ending (map pair_of list.now) → StandsFor told machine.new (with_job s m (ends_task m.progress.job t.number ending).job) }
+    ensures tasks { machine.new.tasks ≡ record machine.old.tasks { rows = machine.new.tasks.rows; running = machine.new.tasks.running } }
+    ensures len { length machine.new.cpu.core ≡ length machine.old.cpu.core }
+    ensures count { length machine.new.sectors.links ≡ length machine.old.sectors.links }
+{
+    switch_to(machine, row);
+    end(machine, job, list);
 }

@@ -5,4 +5,4 @@ mod ends;
 mod marks;
 mod rows;
 
-pub use ends::end;
+pub use ends::end_family;

@@ -1,4 +1,4 @@
-use Rattle.std.proofs.Common.{◌≤◌, ℕ, List, map, length, refl, sym, ◌∙◌, ap, subst}
+use Rattle.std.proofs.Common.{◌≤◌, List, map, length, refl, ◌∙◌, subst}
 use Rattle.b67_task_tables.specs.declared.tables.TaskRow.{TaskRow}
 use Rattle.b67_task_end.specs.Family.{pair_of}
 use Rattle.b67_task_end_tables.specs.Marks.{ShowsMarks}

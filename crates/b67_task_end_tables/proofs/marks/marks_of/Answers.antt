@@ -1,4 +1,4 @@
-use Rattle.std.proofs.Common.{ℕ, ◌<◌, ◌≤◌, length, refl, arith}
+use Rattle.std.proofs.Common.{refl, arith}
 use Rattle.b67_task_end_tables.proofs.Marking.{marks_first, marks_more, marks_all}
 use Rattle.b67_task_end_tables.proofs.marks.marks_of.Goals as goal
 

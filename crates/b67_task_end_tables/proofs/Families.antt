@@ -22,7 +22,7 @@ use Rattle.b67_task_end.specs.Family.{TablesHold, IsRowOf, pair_of, endings_of}
 use Rattle.b67_task_end.proofs.Under.{deepest}
 use Rattle.b67_task_end_tables.specs.Deaths.{numbers_of, without_tasks, job_without, StandsWith, MayEnd, EndsSome, HasEnded}
 use Rattle.b67_task_end_tables.proofs.Family.{among_has, family, family_numbers, family_turn}
-use Rattle.b67_session_ends.specs.Ends.{StandsFor, IsFamilyOf}
+use Rattle.b67_task_end_tables.specs.Families.{StandsFor, IsFamilyOf}
 
 -- the same tables, but for the rows and the one that runs
 same_running : (old new : Tasks) (k : ℕ) → new ≡ record old { rows = new.rows; running = k } → new ≡ record old { rows = new.rows; running = new.running }

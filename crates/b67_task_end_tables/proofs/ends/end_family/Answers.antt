@@ -2,8 +2,8 @@ use Rattle.std.proofs.Common.{sym, ap, ◌∙◌, length, map}
 use Rattle.b67_area.specs.declared.Areas.{Areas}
 use Rattle.b67_backing.specs.Shelf.{Table}
 use Rattle.b67_task_end.specs.Family.{pair_of}
-use Rattle.b67_session_ends.proofs.Families.{has_row, with_tables, may, ends_some, ended_stands, both_running}
-use Rattle.b67_session_ends.proofs.deaths.end_family.Goals as goal
+use Rattle.b67_task_end_tables.proofs.Families.{has_row, with_tables, may, ends_some, ended_stands, both_running}
+use Rattle.b67_task_end_tables.proofs.ends.end_family.Goals as goal
 
 pub switch_to-requires : goal.switch_to-requires
 switch_to-requires c =
