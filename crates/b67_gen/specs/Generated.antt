@@ -51,15 +51,19 @@ storing s = literal s.value ∷ cell s.array ∷ literal s.index ∷ codes "INDX
 abbrev pub adding : Store → List (List ℕ)
 adding s = cell s.array ∷ literal s.index ∷ codes "NXLV" ∷ codes "ADD" ∷ []
 
--- the operators over these arrays and stores
-abbrev pub operators : List ℕ → List Store → List (List ℕ)
-operators arrays all =
-    flat_map making arrays ++ flat_map storing all ++ codes "MKST" ∷ codes "NAMC 0,9" ∷ codes "ZERO" ∷ [] ++ flat_map adding all ++ codes "ENTR" ∷ codes "EXIT" ∷ []
+-- the cards before the operators, the operators that begin to print, and the cards after the sum
+abbrev pub front : List (List ℕ)
+front = codes "?STACK 1024" ∷ codes "?JOB EXERCISE" ∷ codes "?ASM" ∷ codes "SEGMENT MAIN 2" ∷ []
 
--- the cards of an exercise
+abbrev pub printing : List (List ℕ)
+printing = codes "MKST" ∷ codes "NAMC 0,9" ∷ codes "ZERO" ∷ []
+
+abbrev pub end : List (List ℕ)
+end = codes "ENTR" ∷ codes "EXIT" ∷ codes "?END" ∷ []
+
+-- the cards of an exercise over these arrays and stores
 abbrev pub cards_over : List ℕ → List Store → List (List ℕ)
-cards_over arrays all =
-    codes "?STACK 1024" ∷ codes "?JOB EXERCISE" ∷ codes "?ASM" ∷ codes "SEGMENT MAIN 2" ∷ operators arrays all ++ codes "?END" ∷ []
+cards_over arrays all = front ++ flat_map making arrays ++ flat_map storing all ++ printing ++ flat_map adding all ++ end
 
 -- each on a line
 abbrev pub on_lines : List (List ℕ) → List ℕ

@@ -2,6 +2,7 @@
 
 ghost use Rattle.std.specs.Prelude.{◌≡◌, ◌++◌, OnOk, IfOk, decimal};
 ghost use Rattle.b67_io.specs.Line.{ended};
+ghost use Rattle.std.specs.List.{flat_map};
 ghost use Rattle.b67_gen.specs.Generated.{literal, cell, making, storing, adding, on_lines, cards_over};
 
 use crate::stores::Store;
@@ -9,11 +10,10 @@ use b67_word::Bytes;
 use itoa::Buffer;
 use std::alloc::{AllocError, Global};
 
-fn put_card(card: &str, into: &mut Bytes) -> Result<(), AllocError>
-    ensures { OnOk result (into.new ≡ into.old ++ ended card.now) }
+fn put_text(text: &str, into: &mut Bytes) -> Result<(), AllocError>
+    ensures { OnOk result (into.new ≡ into.old ++ text.now) }
 {
-    into.extend(card.as_bytes())?;
-    into.push(b'\n')?;
+    into.extend(text.as_bytes())?;
     Ok(())
 }
 
@@ -39,14 +39,13 @@ fn put_cell(array: u32, into: &mut Bytes) -> Result<(), AllocError>
     put_numbered("NAMC 2,", u64::from(array) + 2, into)
 }
 
-/// An array of so many words.
+// An array of so many words.
 fn put_making(words: u32, into: &mut Bytes) -> Result<(), AllocError>
     ensures { OnOk result (into.new ≡ into.old ++ on_lines (making words)) }
 {
-    put_card("MKST", into)?;
-    put_card("NAMC 0,8", into)?;
+    put_text("MKST\nNAMC 0,8\n", into)?;
     put_literal(words, into)?;
-    put_card("ENTR", into)?;
+    put_text("ENTR\n", into)?;
     Ok(())
 }
 
@@ -56,19 +55,44 @@ fn put_storing(store: Store, into: &mut Bytes) -> Result<(), AllocError>
     put_literal(store.value, into)?;
     put_cell(store.array, into)?;
     put_literal(store.index, into)?;
-    put_card("INDX", into)?;
-    put_card("STOD", into)?;
+    put_text("INDX\nSTOD\n", into)?;
     Ok(())
 }
 
-/// The stored element is added to the sum.
+// The stored element is added to the sum.
 fn put_adding(store: Store, into: &mut Bytes) -> Result<(), AllocError>
     ensures { OnOk result (into.new ≡ into.old ++ on_lines (adding store)) }
 {
     put_cell(store.array, into)?;
     put_literal(store.index, into)?;
-    put_card("NXLV", into)?;
-    put_card("ADD", into)?;
+    put_text("NXLV\nADD\n", into)?;
+    Ok(())
+}
+
+fn put_makings(arrays: &[u32], into: &mut Bytes) -> Result<(), AllocError>
+    ensures { OnOk result (into.new ≡ into.old ++ on_lines (flat_map making arrays.now)) }
+{
+    'arrays: for words in arrays {
+        put_making(*words, into)?;
+    }
+    Ok(())
+}
+
+fn put_storings(stores: &[Store], into: &mut Bytes) -> Result<(), AllocError>
+    ensures { OnOk result (into.new ≡ into.old ++ on_lines (flat_map storing stores.now)) }
+{
+    'stores: for store in stores {
+        put_storing(*store, into)?;
+    }
+    Ok(())
+}
+
+fn put_addings(stores: &[Store], into: &mut Bytes) -> Result<(), AllocError>
+    ensures { OnOk result (into.new ≡ into.old ++ on_lines (flat_map adding stores.now)) }
+{
+    'stores: for store in stores {
+        put_adding(*store, into)?;
+    }
     Ok(())
 }
 
@@ -77,24 +101,14 @@ pub fn text_over(alloc: Global, arrays: &[u32], stores: &[Store]) -> Result<Byte
     ensures { IfOk result (λ text. text ≡ on_lines (cards_over arrays.now stores.now)) }
 {
     let mut text = Bytes::new(alloc);
-    put_card("?STACK 1024", &mut text)?;
-    put_card("?JOB EXERCISE", &mut text)?;
-    put_card("?ASM", &mut text)?;
-    put_card("SEGMENT MAIN 2", &mut text)?;
-    'making: for words in arrays {
-        put_making(*words, &mut text)?;
-    }
-    'storing: for store in stores {
-        put_storing(*store, &mut text)?;
-    }
-    put_card("MKST", &mut text)?;
-    put_card("NAMC 0,9", &mut text)?;
-    put_card("ZERO", &mut text)?;
-    'adding: for store in stores {
-        put_adding(*store, &mut text)?;
-    }
-    put_card("ENTR", &mut text)?;
-    put_card("EXIT", &mut text)?;
-    put_card("?END", &mut text)?;
+    put_text(
+        "?STACK 1024\n?JOB EXERCISE\n?ASM\nSEGMENT MAIN 2\n",
+        &mut text,
+    )?;
+    put_makings(arrays, &mut text)?;
+    put_storings(stores, &mut text)?;
+    put_text("MKST\nNAMC 0,9\nZERO\n", &mut text)?;
+    put_addings(stores, &mut text)?;
+    put_text("ENTR\nEXIT\n?END\n", &mut text)?;
     Ok(text)
 }

@@ -43,10 +43,14 @@ abbrev pub ReadAll : {S : Type 0} → CommandLine → (S → Option (List ℕ)) 
 ReadAll (lines.Exercise seed size core) left deck deck' bytes = deck' ≡ deck
 ReadAll _ left deck deck' bytes = GaveAll left deck deck' bytes
 
--- it read these: all that there were, or one more than a deck may have
+-- these bytes were given: all that there were, or one more than a deck may have
+abbrev pub WasGiven : {S : Type 0} → (S → Option (List ℕ)) → S → S → List ℕ → Type 0
+WasGiven left deck deck' bytes = GaveAll left deck deck' bytes ⊎ (Gave left deck deck' bytes × (length bytes ≡ limit + 1))
+
+-- the command read them; an exercise reads nothing
 abbrev pub WasRead : {S : Type 0} → CommandLine → (S → Option (List ℕ)) → S → S → List ℕ → Type 0
 WasRead (lines.Exercise seed size core) left deck deck' bytes = deck' ≡ deck
-WasRead _ left deck deck' bytes = GaveAll left deck deck' bytes ⊎ (Gave left deck deck' bytes × (length bytes ≡ limit + 1))
+WasRead _ left deck deck' bytes = WasGiven left deck deck' bytes
 
 -- the words ask for a run over so much core, of a deck that was read to its end or of an exercise, and the deck is this one
 -- with these programs
