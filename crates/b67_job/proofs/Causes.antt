@@ -1,10 +1,10 @@
 -- The causes of a status.
-use Rattle.std.proofs.Common.{◌≡◌, ◌≢◌, ◌⊎◌, inl, inr, ℕ, false, List, sym, ap, ◌∙◌, subst, arith, Option, Some, None}
+use Rattle.std.proofs.Common.{◌≡◌, ◌≢◌, ◌⊎◌, inl, inr, ℕ, true, false, List, sym, ap, ◌∙◌, subst, arith, Option, Some, None}
 use Rattle.std.specs.Prelude.{is_some}
 use Rattle.std.proofs.lemmas.Bool.{false≢true}
 use Rattle.std.proofs.lemmas.Option.{none-some, same_Some}
 use denote.Ref.{Bor}
-use Rattle.b67_io.specs.Told.{Took, GaveAll}
+use Rattle.b67_io.specs.Told.{Took}
 use Rattle.b67_io.specs.Causes.{Rose}
 use Rattle.b67_task_tables.specs.declared.tables.Machine.{Machine}
 use Rattle.b67_job_admit.specs.Admitting.{Prepared}
@@ -15,26 +15,26 @@ use Rattle.b67_job.specs.Statuses.{StatusMeans}
 use Rattle.b67_job.specs.Runs.{WasOpened, memory_refused, opening_wants_core, opening_wants_sectors, opening_fails, all_end, halt_comes, step_wants_core, step_wants_sectors, step_fails, RunStops, unopened, opened, IsPrinting}
 use Rattle.b67_job.specs.Command.{command_of}
 use Rattle.b67_job.specs.declared.command.CommandLine.{CommandLine}
-use Rattle.b67_job.specs.declared.command.CommandLine.TheVariants as lines
-use Rattle.b67_job.specs.Judgement.{Judgement, Runs, asked}
-use Rattle.b67_job.specs.Due.{usage_text, reading_text, IsRun, IsDue, usage_due, refusal_due, print_due, run_due, reading_due, memory_due, Answered, answered, cut_in_step, IsAllDone, Halts, IsShortOfCore, IsShortOfSectors, IsFailedBy, IsRefused, IsSpared}
+use Rattle.b67_job.specs.declared.summaries.Exercise.{Exercise}
+use Rattle.b67_job.specs.Judgement.{Judgement, Runs, asked, exercise_of, reads}
+use Rattle.b67_job.specs.Due.{usage_text, reading_text, ReadAll, IsRun, IsDue, usage_due, refusal_due, print_due, run_due, reading_due, memory_due, Answered, answered, cut_in_step, IsAllDone, Halts, IsShortOfCore, IsShortOfSectors, IsFailedBy, IsRefused, IsSpared}
 use Rattle.b67_job.proofs.Status.{is_finished, is_halted}
 
 -- ---- runs
 
-module _ {B : Type 0} (d : Device B) (core : ℕ) (p : Prepared) (machine : Option Machine) (status : ℕ) (text : Text) where
-  run_is_done : status ≡ 0 → RunStops d core p machine status text → IsAllDone d (Runs p) machine text
+module _ {B : Type 0} (d : Device B) (core : ℕ) (p : Prepared) (exercise : Option Exercise) (machine : Option Machine) (status : ℕ) (text : Text) where
+  run_is_done : status ≡ 0 → RunStops d core p exercise machine status text → IsAllDone d exercise (Runs p) machine text
   run_is_done e (unopened none (memory_refused same s t)) = absurd (omega (arith, e, s))
   run_is_done e (unopened none (opening_wants_core same more s t)) = absurd (omega (arith, e, s))
   run_is_done e (unopened none (opening_wants_sectors same fits more s t)) = absurd (omega (arith, e, s))
   run_is_done e (unopened none (opening_fails room failed s t)) = absurd (omega (arith, e, s))
-  run_is_done e (opened k is opens none (all_end s h)) = ((k, is, none, h), λ tells. is_finished d p k text h tells)
+  run_is_done e (opened k is opens none (all_end s h)) = ((k, is, none, h), λ tells. is_finished d p exercise k text h tells)
   run_is_done e (opened k is opens none (halt_comes s h)) = absurd (omega (arith, e, s))
   run_is_done e (opened k is opens none (step_wants_core s h)) = absurd (omega (arith, e, s))
   run_is_done e (opened k is opens none (step_wants_sectors s h)) = absurd (omega (arith, e, s))
   run_is_done e (opened k is opens none (step_fails s failed h)) = absurd (omega (arith, e, s))
 
-  run_halts : status ≡ 3 → RunStops d core p machine status text → Halts d p machine text
+  run_halts : status ≡ 3 → RunStops d core p exercise machine status text → Halts d p machine text
   run_halts e (unopened none (memory_refused same s t)) = absurd (omega (arith, e, s))
   run_halts e (unopened none (opening_wants_core same more s t)) = absurd (omega (arith, e, s))
   run_halts e (unopened none (opening_wants_sectors same fits more s t)) = absurd (omega (arith, e, s))
@@ -45,7 +45,7 @@ module _ {B : Type 0} (d : Device B) (core : ℕ) (p : Prepared) (machine : Opti
   run_halts e (opened k is opens none (step_wants_sectors s h)) = absurd (omega (arith, e, s))
   run_halts e (opened k is opens none (step_fails s failed h)) = absurd (omega (arith, e, s))
 
-  run_wants_core : status ≡ 4 → RunStops d core p machine status text → IsShortOfCore d core p machine text
+  run_wants_core : status ≡ 4 → RunStops d core p exercise machine status text → IsShortOfCore d core p machine text
   run_wants_core e (unopened none (memory_refused same s t)) = absurd (omega (arith, e, s))
   run_wants_core e (unopened none (opening_wants_core same more s t)) = inl (none, same, more, t)
   run_wants_core e (unopened none (opening_wants_sectors same fits more s t)) = absurd (omega (arith, e, s))
@@ -56,7 +56,7 @@ module _ {B : Type 0} (d : Device B) (core : ℕ) (p : Prepared) (machine : Opti
   run_wants_core e (opened k is opens none (step_wants_sectors s h)) = absurd (omega (arith, e, s))
   run_wants_core e (opened k is opens none (step_fails s failed h)) = absurd (omega (arith, e, s))
 
-  run_wants_sectors : status ≡ 5 → RunStops d core p machine status text → IsShortOfSectors d core p machine text
+  run_wants_sectors : status ≡ 5 → RunStops d core p exercise machine status text → IsShortOfSectors d core p machine text
   run_wants_sectors e (unopened none (memory_refused same s t)) = absurd (omega (arith, e, s))
   run_wants_sectors e (unopened none (opening_wants_core same more s t)) = absurd (omega (arith, e, s))
   run_wants_sectors e (unopened none (opening_wants_sectors same fits more s t)) = inl (none, same, fits, more, t)
@@ -67,7 +67,7 @@ module _ {B : Type 0} (d : Device B) (core : ℕ) (p : Prepared) (machine : Opti
   run_wants_sectors e (opened k is opens none (step_wants_sectors s h)) = inr (k, is, none, h)
   run_wants_sectors e (opened k is opens none (step_fails s failed h)) = absurd (omega (arith, e, s))
 
-  run_fails : status ≡ 6 → RunStops d core p machine status text → Failed d × IsFailedBy d core p machine text
+  run_fails : status ≡ 6 → RunStops d core p exercise machine status text → Failed d × IsFailedBy d core p machine text
   run_fails e (unopened none (memory_refused same s t)) = absurd (omega (arith, e, s))
   run_fails e (unopened none (opening_wants_core same more s t)) = absurd (omega (arith, e, s))
   run_fails e (unopened none (opening_wants_sectors same fits more s t)) = absurd (omega (arith, e, s))
@@ -78,7 +78,7 @@ module _ {B : Type 0} (d : Device B) (core : ℕ) (p : Prepared) (machine : Opti
   run_fails e (opened k is opens none (step_wants_sectors s h)) = absurd (omega (arith, e, s))
   run_fails e (opened k is opens none (step_fails s failed h)) = (failed, (opens.room, inr (k, is, none, h)))
 
-  run_not_2 : status ≡ 2 → RunStops d core p machine status text → ⊥
+  run_not_2 : status ≡ 2 → RunStops d core p exercise machine status text → ⊥
   run_not_2 e (unopened none (memory_refused same s t)) = absurd (omega (arith, e, s))
   run_not_2 e (unopened none (opening_wants_core same more s t)) = absurd (omega (arith, e, s))
   run_not_2 e (unopened none (opening_wants_sectors same fits more s t)) = absurd (omega (arith, e, s))
@@ -89,7 +89,7 @@ module _ {B : Type 0} (d : Device B) (core : ℕ) (p : Prepared) (machine : Opti
   run_not_2 e (opened k is opens none (step_wants_sectors s h)) = absurd (omega (arith, e, s))
   run_not_2 e (opened k is opens none (step_fails s failed h)) = absurd (omega (arith, e, s))
 
-  run_is_9 : status ≡ 9 → RunStops d core p machine status text → (machine ≡ None) × IsUntouched d × (text ≡ only memory_text)
+  run_is_9 : status ≡ 9 → RunStops d core p exercise machine status text → (machine ≡ None) × IsUntouched d × (text ≡ only memory_text)
   run_is_9 e (unopened none (memory_refused same s t)) = (none, same, t)
   run_is_9 e (unopened none (opening_wants_core same more s t)) = absurd (omega (arith, e, s))
   run_is_9 e (unopened none (opening_wants_sectors same fits more s t)) = absurd (omega (arith, e, s))
@@ -100,7 +100,7 @@ module _ {B : Type 0} (d : Device B) (core : ℕ) (p : Prepared) (machine : Opti
   run_is_9 e (opened k is opens none (step_wants_sectors s h)) = absurd (omega (arith, e, s))
   run_is_9 e (opened k is opens none (step_fails s failed h)) = absurd (omega (arith, e, s))
 
-  run_not_8 : status ≡ 8 → RunStops d core p machine status text → ⊥
+  run_not_8 : status ≡ 8 → RunStops d core p exercise machine status text → ⊥
   run_not_8 e (unopened none (memory_refused same s t)) = absurd (omega (arith, e, s))
   run_not_8 e (unopened none (opening_wants_core same more s t)) = absurd (omega (arith, e, s))
   run_not_8 e (unopened none (opening_wants_sectors same fits more s t)) = absurd (omega (arith, e, s))
@@ -111,7 +111,7 @@ module _ {B : Type 0} (d : Device B) (core : ℕ) (p : Prepared) (machine : Opti
   run_not_8 e (opened k is opens none (step_wants_sectors s h)) = absurd (omega (arith, e, s))
   run_not_8 e (opened k is opens none (step_fails s failed h)) = absurd (omega (arith, e, s))
 
-  run_not_7 : status ≡ 7 → RunStops d core p machine status text → ⊥
+  run_not_7 : status ≡ 7 → RunStops d core p exercise machine status text → ⊥
   run_not_7 e (unopened none (memory_refused same s t)) = absurd (omega (arith, e, s))
   run_not_7 e (unopened none (opening_wants_core same more s t)) = absurd (omega (arith, e, s))
   run_not_7 e (unopened none (opening_wants_sectors same fits more s t)) = absurd (omega (arith, e, s))
@@ -122,7 +122,7 @@ module _ {B : Type 0} (d : Device B) (core : ℕ) (p : Prepared) (machine : Opti
   run_not_7 e (opened k is opens none (step_wants_sectors s h)) = absurd (omega (arith, e, s))
   run_not_7 e (opened k is opens none (step_fails s failed h)) = absurd (omega (arith, e, s))
 
-  run_not_1 : status ≡ 1 → RunStops d core p machine status text → ⊥
+  run_not_1 : status ≡ 1 → RunStops d core p exercise machine status text → ⊥
   run_not_1 e (unopened none (memory_refused same s t)) = absurd (omega (arith, e, s))
   run_not_1 e (unopened none (opening_wants_core same more s t)) = absurd (omega (arith, e, s))
   run_not_1 e (unopened none (opening_wants_sectors same fits more s t)) = absurd (omega (arith, e, s))
@@ -134,7 +134,7 @@ module _ {B : Type 0} (d : Device B) (core : ℕ) (p : Prepared) (machine : Opti
   run_not_1 e (opened k is opens none (step_fails s failed h)) = absurd (omega (arith, e, s))
 
   -- without a machine
-  run_spares : {S : Type 0} {words : List (Bor (List ℕ))} {left : S → Option (List ℕ)} {deck deck' : S} → IsRun words left deck deck' core p → machine ≡ None → RunStops d core p machine status text
+  run_spares : {S : Type 0} {words : List (Bor (List ℕ))} {left : S → Option (List ℕ)} {deck deck' : S} → IsRun words left deck deck' core p → machine ≡ None → RunStops d core p exercise machine status text
       → IsSpared words left deck deck' d
   run_spares run none (unopened _ (memory_refused same s t)) = inl same
   run_spares run none (unopened _ (opening_wants_core same more s t)) = inl same
@@ -143,19 +143,25 @@ module _ {B : Type 0} (d : Device B) (core : ℕ) (p : Prepared) (machine : Opti
   run_spares run none (opened k is opens zero stops) = absurd (none-some k (sym none ∙ is))
 
   -- with one, of a session that was opened
-  run_opened : (k : Machine) → machine ≡ Some k → RunStops d core p machine status text → WasOpened d core p k
+  run_opened : (k : Machine) → machine ≡ Some k → RunStops d core p exercise machine status text → WasOpened d core p k
   run_opened k e (unopened none stops) = absurd (none-some k (sym none ∙ e))
   run_opened k e (opened k' is opens none stops) = subst (WasOpened d core p) (same_Some k' k (sym is ∙ e)) opens
 
 -- ---- calls
 
+-- words that are no command ask for none that reads
+unread_unknown : (o : Option CommandLine) → is_some o ≡ false → reads o ≡ true → ⊥
+unread_unknown None none c = false≢true c
+unread_unknown (Some command) none c = false≢true (sym none)
+
 module _ {S B : Type 0} {words : List (Bor (List ℕ))} {left : S → Option (List ℕ)} {source_faults : S → ℕ} {deck deck' : S} {d : Device B} {machine : Option Machine} where
   due_done : {n : ℕ} {text : Text} → n ≡ 0 → IsDue words left source_faults deck deck' d machine n text
-      → (command : CommandLine) × (bytes : List ℕ) × (command_of words ≡ Some command) × GaveAll left deck deck' bytes × IsAllDone d (asked command bytes) machine text
+      → (command : CommandLine) × (bytes : List ℕ) × (command_of words ≡ Some command) × ReadAll command left deck deck' bytes × IsAllDone d (exercise_of (Some command)) (asked command bytes) machine text
   due_done e (usage_due c g same m s t) = absurd (omega (arith, e, s))
   due_done e (refusal_due command b r c w same j m s t) = absurd (omega (arith, e, s))
-  due_done {n = n} {text = text} e (print_due command b printed c r same j m s t) = (command, b, c, r, subst (λ (x : Judgement). IsAllDone d x machine text) (sym j) (m, same, t))
-  due_done {n = n} {text = text} e (run_due core p run stops) = (lines.Run core, run.bytes, run.command, run.read, subst (λ (x : Judgement). IsAllDone d x machine text) (sym run.judged) (run_is_done d core p machine n text e stops))
+  due_done {n = n} {text = text} e (print_due command b printed c r same j m s t) = (command, b, c, r, subst (λ (x : Judgement). IsAllDone d (exercise_of (Some command)) x machine text) (sym j) (m, same, t))
+  due_done {n = n} {text = text} e (run_due core p run stops) = (run.command, run.bytes, run.is, run.read, subst (λ (x : Judgement). IsAllDone d (exercise_of (Some run.command)) x machine text) (sym run.judged)
+      (subst (λ (x : Option Exercise). IsAllDone d x (Runs p) machine text) (ap exercise_of run.is) (run_is_done d core p (exercise_of (command_of words)) machine n text e stops)))
   due_done e (reading_due c r same m s t) = absurd (omega (arith, e, s))
   due_done e (memory_due c same m s t) = absurd (omega (arith, e, s))
 
@@ -163,7 +169,7 @@ module _ {S B : Type 0} {words : List (Bor (List ℕ))} {left : S → Option (Li
   due_refused e (usage_due c g same m s t) = absurd (omega (arith, e, s))
   due_refused e (refusal_due command b r c w same j m s t) = (command, b, r, c, w, same, j, m, t)
   due_refused e (print_due command b printed c r same j m s t) = absurd (omega (arith, e, s))
-  due_refused {n = n} {text = text} e (run_due core p run stops) = absurd (run_not_2 d core p machine n text e stops)
+  due_refused {n = n} {text = text} e (run_due core p run stops) = absurd (run_not_2 d core p (exercise_of (command_of words)) machine n text e stops)
   due_refused e (reading_due c r same m s t) = absurd (omega (arith, e, s))
   due_refused e (memory_due c same m s t) = absurd (omega (arith, e, s))
 
@@ -171,7 +177,7 @@ module _ {S B : Type 0} {words : List (Bor (List ℕ))} {left : S → Option (Li
   due_halts e (usage_due c g same m s t) = absurd (omega (arith, e, s))
   due_halts e (refusal_due command b r c w same j m s t) = absurd (omega (arith, e, s))
   due_halts e (print_due command b printed c r same j m s t) = absurd (omega (arith, e, s))
-  due_halts {n = n} {text = text} e (run_due core p run stops) = (core, p, run, run_halts d core p machine n text e stops)
+  due_halts {n = n} {text = text} e (run_due core p run stops) = (core, p, run, run_halts d core p (exercise_of (command_of words)) machine n text e stops)
   due_halts e (reading_due c r same m s t) = absurd (omega (arith, e, s))
   due_halts e (memory_due c same m s t) = absurd (omega (arith, e, s))
 
@@ -179,7 +185,7 @@ module _ {S B : Type 0} {words : List (Bor (List ℕ))} {left : S → Option (Li
   due_core e (usage_due c g same m s t) = absurd (omega (arith, e, s))
   due_core e (refusal_due command b r c w same j m s t) = absurd (omega (arith, e, s))
   due_core e (print_due command b printed c r same j m s t) = absurd (omega (arith, e, s))
-  due_core {n = n} {text = text} e (run_due core p run stops) = (core, p, run, run_wants_core d core p machine n text e stops)
+  due_core {n = n} {text = text} e (run_due core p run stops) = (core, p, run, run_wants_core d core p (exercise_of (command_of words)) machine n text e stops)
   due_core e (reading_due c r same m s t) = absurd (omega (arith, e, s))
   due_core e (memory_due c same m s t) = absurd (omega (arith, e, s))
 
@@ -187,7 +193,7 @@ module _ {S B : Type 0} {words : List (Bor (List ℕ))} {left : S → Option (Li
   due_sectors e (usage_due c g same m s t) = absurd (omega (arith, e, s))
   due_sectors e (refusal_due command b r c w same j m s t) = absurd (omega (arith, e, s))
   due_sectors e (print_due command b printed c r same j m s t) = absurd (omega (arith, e, s))
-  due_sectors {n = n} {text = text} e (run_due core p run stops) = (core, p, run, run_wants_sectors d core p machine n text e stops)
+  due_sectors {n = n} {text = text} e (run_due core p run stops) = (core, p, run, run_wants_sectors d core p (exercise_of (command_of words)) machine n text e stops)
   due_sectors e (reading_due c r same m s t) = absurd (omega (arith, e, s))
   due_sectors e (memory_due c same m s t) = absurd (omega (arith, e, s))
 
@@ -195,7 +201,7 @@ module _ {S B : Type 0} {words : List (Bor (List ℕ))} {left : S → Option (Li
   due_fails e (usage_due c g same m s t) = absurd (omega (arith, e, s))
   due_fails e (refusal_due command b r c w same j m s t) = absurd (omega (arith, e, s))
   due_fails e (print_due command b printed c r same j m s t) = absurd (omega (arith, e, s))
-  due_fails {n = n} {text = text} e (run_due core p run stops) = (let z = run_fails d core p machine n text e stops in (core, p, run, z.0, z.1))
+  due_fails {n = n} {text = text} e (run_due core p run stops) = (let z = run_fails d core p (exercise_of (command_of words)) machine n text e stops in (core, p, run, z.0, z.1))
   due_fails e (reading_due c r same m s t) = absurd (omega (arith, e, s))
   due_fails e (memory_due c same m s t) = absurd (omega (arith, e, s))
 
@@ -203,23 +209,23 @@ module _ {S B : Type 0} {words : List (Bor (List ℕ))} {left : S → Option (Li
   due_9 e (usage_due c g same m s t) = absurd (omega (arith, e, s))
   due_9 e (refusal_due command b r c w same j m s t) = absurd (omega (arith, e, s))
   due_9 e (print_due command b printed c r same j m s t) = absurd (omega (arith, e, s))
-  due_9 {n = n} {text = text} e (run_due core p run stops) = run_is_9 d core p machine n text e stops
+  due_9 {n = n} {text = text} e (run_due core p run stops) = run_is_9 d core p (exercise_of (command_of words)) machine n text e stops
   due_9 e (reading_due c r same m s t) = absurd (omega (arith, e, s))
   due_9 e (memory_due c same m s t) = (m, same, t)
 
-  due_7 : {n : ℕ} {text : Text} → n ≡ 7 → IsDue words left source_faults deck deck' d machine n text → Rose source_faults deck deck' × (text ≡ only reading_text)
+  due_7 : {n : ℕ} {text : Text} → n ≡ 7 → IsDue words left source_faults deck deck' d machine n text → (reads (command_of words) ≡ true) × Rose source_faults deck deck' × (text ≡ only reading_text)
   due_7 e (usage_due c g same m s t) = absurd (omega (arith, e, s))
   due_7 e (refusal_due command b r c w same j m s t) = absurd (omega (arith, e, s))
   due_7 e (print_due command b printed c r same j m s t) = absurd (omega (arith, e, s))
-  due_7 {n = n} {text = text} e (run_due core p run stops) = absurd (run_not_7 d core p machine n text e stops)
-  due_7 e (reading_due c r same m s t) = (r, t)
+  due_7 {n = n} {text = text} e (run_due core p run stops) = absurd (run_not_7 d core p (exercise_of (command_of words)) machine n text e stops)
+  due_7 e (reading_due c r same m s t) = (c, r, t)
   due_7 e (memory_due c same m s t) = absurd (omega (arith, e, s))
 
   due_1 : {n : ℕ} {text : Text} → n ≡ 1 → IsDue words left source_faults deck deck' d machine n text → (is_some (command_of words) ≡ false) × (deck' ≡ deck) × (text ≡ only usage_text)
   due_1 e (usage_due c g same m s t) = (c, g, t)
   due_1 e (refusal_due command b r c w same j m s t) = absurd (omega (arith, e, s))
   due_1 e (print_due command b printed c r same j m s t) = absurd (omega (arith, e, s))
-  due_1 {n = n} {text = text} e (run_due core p run stops) = absurd (run_not_1 d core p machine n text e stops)
+  due_1 {n = n} {text = text} e (run_due core p run stops) = absurd (run_not_1 d core p (exercise_of (command_of words)) machine n text e stops)
   due_1 e (reading_due c r same m s t) = absurd (omega (arith, e, s))
   due_1 e (memory_due c same m s t) = absurd (omega (arith, e, s))
 
@@ -228,15 +234,15 @@ module _ {S B : Type 0} {words : List (Bor (List ℕ))} {left : S → Option (Li
   due_unknown none (usage_due c g same m s t) = s
   due_unknown none (refusal_due command b r c w same j m s t) = absurd (false≢true (sym none ∙ ap is_some c))
   due_unknown none (print_due command b printed c r same j m s t) = absurd (false≢true (sym none ∙ ap is_some c))
-  due_unknown none (run_due core p run stops) = absurd (false≢true (sym none ∙ ap is_some run.command))
-  due_unknown none (reading_due c r same m s t) = absurd (false≢true (sym none ∙ c))
+  due_unknown none (run_due core p run stops) = absurd (false≢true (sym none ∙ ap is_some run.is))
+  due_unknown none (reading_due c r same m s t) = absurd (unread_unknown (command_of words) none c)
   due_unknown none (memory_due c same m s t) = absurd (false≢true (sym none ∙ c))
 
   due_not_8 : {n : ℕ} {text : Text} → IsDue words left source_faults deck deck' d machine n text → n ≢ 8
   due_not_8 (usage_due c g same m s t) e = absurd (omega (arith, e, s))
   due_not_8 (refusal_due command b r c w same j m s t) e = absurd (omega (arith, e, s))
   due_not_8 (print_due command b printed c r same j m s t) e = absurd (omega (arith, e, s))
-  due_not_8 {n = n} {text = text} (run_due core p run stops) e = run_not_8 d core p machine n text e stops
+  due_not_8 {n = n} {text = text} (run_due core p run stops) e = run_not_8 d core p (exercise_of (command_of words)) machine n text e stops
   due_not_8 (reading_due c r same m s t) e = absurd (omega (arith, e, s))
   due_not_8 (memory_due c same m s t) e = absurd (omega (arith, e, s))
 
@@ -244,7 +250,7 @@ module _ {S B : Type 0} {words : List (Bor (List ℕ))} {left : S → Option (Li
   due_spares none (usage_due c g same m s t) = inl same
   due_spares none (refusal_due command b r c w same j m s t) = inl same
   due_spares none (print_due command b printed c r same j m s t) = inl same
-  due_spares {n = n} {text = text} none (run_due core p run stops) = run_spares d core p machine n text run none stops
+  due_spares {n = n} {text = text} none (run_due core p run stops) = run_spares d core p (exercise_of (command_of words)) machine n text run none stops
   due_spares none (reading_due c r same m s t) = inl same
   due_spares none (memory_due c same m s t) = inl same
 
@@ -252,7 +258,7 @@ module _ {S B : Type 0} {words : List (Bor (List ℕ))} {left : S → Option (Li
   due_opened k e (usage_due c g same m s t) = absurd (none-some k (sym m ∙ e))
   due_opened k e (refusal_due command b r c w same j m s t) = absurd (none-some k (sym m ∙ e))
   due_opened k e (print_due command b printed c r same j m s t) = absurd (none-some k (sym m ∙ e))
-  due_opened {n = n} {text = text} k e (run_due core p run stops) = (core, p, run, run_opened d core p machine n text k e stops)
+  due_opened {n = n} {text = text} k e (run_due core p run stops) = (core, p, run, run_opened d core p (exercise_of (command_of words)) machine n text k e stops)
   due_opened k e (reading_due c r same m s t) = absurd (none-some k (sym m ∙ e))
   due_opened k e (memory_due c same m s t) = absurd (none-some k (sym m ∙ e))
 
@@ -268,8 +274,8 @@ module _ {S B : Type 0} {words : List (Bor (List ℕ))} {left : S → Option (Li
     is_refused : answer ≡ 2 → (text : Text) × IsRefused words left deck deck' d machine text × Took taken old new (whole_of text)
     is_refused e = let u = due_at (λ z. omega (arith, e, z)) in (u.0, due_refused e u.1, u.2)
 
-    is_done : answer ≡ 0 → (command : CommandLine) × (bytes : List ℕ) × (text : Text) × (command_of words ≡ Some command) × GaveAll left deck deck' bytes
-        × IsAllDone d (asked command bytes) machine text × Took taken old new (whole_of text)
+    is_done : answer ≡ 0 → (command : CommandLine) × (bytes : List ℕ) × (text : Text) × (command_of words ≡ Some command) × ReadAll command left deck deck' bytes
+        × IsAllDone d (exercise_of (Some command)) (asked command bytes) machine text × Took taken old new (whole_of text)
     is_done e =
         let u = due_at (λ z. omega (arith, e, z)) in
         let v = due_done e u.1 in
@@ -315,11 +321,11 @@ module _ {S B : Type 0} {words : List (Bor (List ℕ))} {left : S → Option (Li
         let v = due_9 e u.1 in
         (v.0, v.1, subst (λ (x : Text). Took taken old new (whole_of x)) v.2 u.2)
 
-    is_reading : answer ≡ 7 → Rose source_faults deck deck' × Took taken old new reading_text
+    is_reading : answer ≡ 7 → (reads (command_of words) ≡ true) × Rose source_faults deck deck' × Took taken old new reading_text
     is_reading e =
         let u = due_at (λ z. omega (arith, e, z)) in
         let v = due_7 e u.1 in
-        (v.0, subst (λ (x : Text). Took taken old new (whole_of x)) v.1 u.2)
+        (v.0, v.1, subst (λ (x : Text). Took taken old new (whole_of x)) v.2 u.2)
 
     is_usage : answer ≡ 1 → (is_some (command_of words) ≡ false) × (deck' ≡ deck) × Took taken old new usage_text
     is_usage e =

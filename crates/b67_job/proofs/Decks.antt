@@ -20,6 +20,7 @@ use Rattle.b67_session.specs.Slices.{StandsAt, IsOpen, Keeps, PrintsWhole, Slice
 use Rattle.b67_session_lines.specs.Ends.{Ends}
 use Rattle.b67_job.specs.Device.{device_of}
 use Rattle.b67_job.specs.Lines.{no_core_line, backing_full_line}
+use Rattle.b67_job.specs.declared.summaries.Exercise.{Exercise}
 use Rattle.b67_job.specs.Texts.{only}
 use Rattle.b67_job.specs.Finishing.{refused_status, refused_line, SessionRan}
 use Rattle.b67_job.specs.Runs.{memory_refused, opening_wants_core, opening_wants_sectors, opening_fails, unopened, DeckRunEnds, run_stops}
@@ -28,10 +29,10 @@ use Rattle.b67_job.proofs.Ran.{closes_only, ran}
 
 -- ---- the run of a deck
 
-module _ {K B : Type 0} (taken : K → Option (List ℕ)) (failures : K → ℕ) (holds : B → Option (List (List ℕ))) (size broken : B → ℕ) (d : Deck) (ps : List Program) (core : ℕ) where
+module _ {K B : Type 0} (taken : K → Option (List ℕ)) (failures : K → ℕ) (holds : B → Option (List (List ℕ))) (size broken : B → ℕ) (d : Deck) (ps : List Program) (core : ℕ) (exercise : Option Exercise) where
   -- no session was opened
   pub refused : (b b' : B) (fault : OpenFault) (old new : K) (answer : ℕ) → IsOpened holds size broken d ps core b b' (Err fault)
-      → Ends taken failures old new (refused_status fault) (ended (refused_line fault)) answer → DeckRunEnds taken failures (device_of holds size broken b b') core (d, ps) None old new answer
+      → Ends taken failures old new (refused_status fault) (ended (refused_line fault)) answer → DeckRunEnds taken failures (device_of holds size broken b b') core (d, ps) exercise None old new answer
   refused b b' faults.Memory old new answer o ends = run_stops 9 _ (unopened refl (memory_refused o refl refl)) (closes_only ends)
   refused b b' (faults.NoCore need words) old new answer o ends =
       let line : no_core_line need words ≡ no_core_line (need_of d ps) core = ap (λ n. no_core_line n words) o.0 ∙ ap (λ n. no_core_line (need_of d ps) n) o.1 in
@@ -69,7 +70,7 @@ after_more f g =
 
 -- ---- the run of a deck, after its steps and the last line
 
-module _ {K B : Type 0} (taken : K → Option (List ℕ)) (failures : K → ℕ) (holds : B → Option (List (List ℕ))) (size calls broken : B → ℕ) (d : Deck) (fs : List Codefile) (core : ℕ)
+module _ {K B : Type 0} (taken : K → Option (List ℕ)) (failures : K → ℕ) (holds : B → Option (List (List ℕ))) (size calls broken : B → ℕ) (d : Deck) (fs : List Codefile) (core : ℕ) (exercise : Option Exercise)
     (range : DeckInRange d) (loaded : AllByRecursion IsLoaded fs) (b b' b'' : B) (k0 k : Machine) (o : IsOpened holds size broken d (map program_of fs) core b b' (Ok k0)) where
   abbrev known : Option (List (List ℕ))
   known = content_after (holds b) (holds b')
@@ -86,11 +87,11 @@ module _ {K B : Type 0} (taken : K → Option (List ℕ)) (failures : K → ℕ)
   pub deck_run : (old new : K) (answer : ℕ) → DeviceAfterCalls holds size calls broken b b' → DeviceAfterCalls holds size calls broken b' b''
       → IsOpen (holds b'') k → Keeps k0 k
       → ((x : Option (List (List ℕ))) (s : Session) → Says x (holds b') → StandsAt x k0 s
-      → SessionRan taken failures (content_after x (holds b'')) (x ≢ None) (Rose broken b' b'') (size b') 800000000 s k0 k old new answer)
-      → DeckRunEnds taken failures (device_of holds size broken b b'') core (d, map program_of fs) (Some k) old new answer
+      → SessionRan taken failures exercise (content_after x (holds b'')) (x ≢ None) (Rose broken b' b'') (size b') 800000000 s k0 k old new answer)
+      → DeckRunEnds taken failures (device_of holds size broken b b'') core (d, map program_of fs) exercise (Some k) old new answer
   deck_run old new answer first_calls more_calls may_go_on keeps rans =
       let still = still_told holds b b' first_calls.tells in
-      let r = subst (λ (x : Option (List (List ℕ))). SessionRan taken failures x (known ≢ None) (Rose broken b' b'') (size b') 800000000 first k0 k old new answer) (known_later (holds b) (holds b') (holds b'') still)
+      let r = subst (λ (x : Option (List (List ℕ))). SessionRan taken failures exercise x (known ≢ None) (Rose broken b' b'') (size b') 800000000 first k0 k old new answer) (known_later (holds b) (holds b') (holds b'') still)
       (rans known first (says_after (holds b) (holds b')) stands) in
       let now = content_after (holds b) (holds b'') in
       let begun : k0.tasks.made ≡ 0 = o.2.stands.tables.counts.made in
@@ -101,7 +102,7 @@ module _ {K B : Type 0} (taken : K → Option (List ℕ)) (failures : K → ℕ)
       let same = first_calls.size in
       let again = more_calls.size in
       let later = first_calls.faults in
-      ran taken failures (device_of holds size broken b b'') core (d, map program_of fs) k
+      ran taken failures (device_of holds size broken b b'') core (d, map program_of fs) exercise k
       (record {
         room = (o.0, o.1);
         in_order = states_in_order d fs k.tasks.made range loaded;

@@ -1,7 +1,7 @@
 -- How a text and a deck are judged, and how a judgement is answered.
-use Rattle.std.proofs.Common.{◌≡◌, ◌≤◌, ◌<◌, ◌+◌, inl, inr, true, false, ℕ, List, length, map, take, drop, min, ◌++◌, Bool, Result, refl, sym, ap, ◌∙◌, subst, arith, Option, Some, None, Ok, Err}
+use Rattle.std.proofs.Common.{◌≡◌, ◌≤◌, ◌<◌, ◌+◌, inl, inr, true, false, ℕ, List, [], length, map, take, drop, min, ◌++◌, Bool, Result, refl, sym, ap, ◌∙◌, subst, arith, Option, Some, None, Ok, Err}
 use Rattle.std.specs.Prelude.{nat_lt, is_some, count_by, ◌==◌}
-use Rattle.std.proofs.lemmas.Bool.{lt-ltb}
+use Rattle.std.proofs.lemmas.Bool.{lt-ltb, false≢true}
 use Rattle.std.proofs.lemmas.Bool.Decides.{nat_tests}
 use Rattle.std.proofs.lemmas.List.{length-take, length-map, take_all, drop_all, take-append-drop, take-take}
 use denote.Ref.{Bor}
@@ -15,8 +15,12 @@ use Rattle.b67_job_admit.specs.declared.refusal.Refusal.TheVariants as refusals
 use Rattle.b67_job_admit.specs.declared.fault.AdmitFault.{AdmitFault}
 use Rattle.b67_job_admit.specs.declared.fault.AdmitFault.TheVariants as admits
 use Rattle.b67_job_admit.specs.declared.programs.Loaded.{Loaded}
-use Rattle.b67_job_admit.specs.Admitting.{Prepared, deck_prepared}
-use Rattle.b67_job_admit.specs.Meets.{IsLoaded, prepared_of}
+use Rattle.b67_model_text.specs.declared.deck.Deck.{Deck}
+use Rattle.b67_model_text.specs.Deck.{deck_of}
+use Rattle.b67_gen.specs.Generated.{generated_text}
+use Rattle.b67_job_admit.specs.Admitting.{Prepared, with_programs, deck_prepared}
+use Rattle.b67_job_admit.specs.Meets.{Meets, IsLoaded, prepared_of}
+use Rattle.b67_job_admit.proofs.Loads.{loaded, refused_program}
 use Rattle.b67_job_admit.specs.Told.{refusal_text}
 use Rattle.b67_job_admit.specs.Verdicts.{Verdict}
 use Rattle.b67_job_admit.specs.CommandMeets.{IsJudged}
@@ -26,13 +30,14 @@ use Rattle.b67_job.proofs.Prepared.{prepared_in_range}
 use Rattle.b67_job.specs.Device.{Device, IsUntouched}
 use Rattle.b67_job.specs.Lines.{memory_text}
 use Rattle.b67_job.specs.Texts.{only}
-use Rattle.b67_job.specs.Runs.{DeckRunEnds, run_stops, step_is_cut}
+use Rattle.b67_job.specs.Runs.{RunStops, DeckRunEnds, run_stops, step_is_cut}
 use Rattle.b67_job.proofs.Ran.{closes_only}
 use Rattle.b67_job.specs.Command.{command_of}
 use Rattle.b67_job.specs.declared.command.CommandLine.{CommandLine}
 use Rattle.b67_job.specs.declared.command.CommandLine.TheVariants as lines
-use Rattle.b67_job.specs.Judgement.{Refused, Runs, judgement, printed, asked}
-use Rattle.b67_job.specs.Due.{WasRead, refusal_due, print_due, run_due, reading_due, memory_due, Answered, answered, cut_in_step, Serves, RefusalEnds, TextEnds, Writes, reading_text}
+use Rattle.b67_job.specs.Judgement.{Refused, Runs, judgement, printed, asked, exercise_of, reads}
+use Rattle.b67_job.specs.declared.summaries.Exercise.{Exercise}
+use Rattle.b67_job.specs.Due.{WasGiven, WasRead, ReadAll, ExerciseEnds, exercise_wants_memory, exercise_is_refused, exercise_runs, refusal_due, print_due, run_due, reading_due, memory_due, Answered, answered, cut_in_step, Serves, RefusalEnds, TextEnds, Writes, reading_text}
 
 -- ---- decks
 
@@ -60,29 +65,45 @@ loaded_in_range left faults deck deck' loaded h =
 take_first : (n : ℕ) (text : List ℕ) → take n (take (n + 1) text) ≡ take n text
 take_first n text = take-take n (n + 1) text (omega arith)
 
--- a text past the limit is refused as its first bytes are
-asked_long : (command : CommandLine) (text : List ℕ) → limit < length text → asked command text ≡ Refused (too_long text)
-asked_long (lines.Run core) text long = judged_long text long
-asked_long lines.Asm text long = ap printed (asm_long text long)
-asked_long lines.Check text long = ap printed (check_long text long)
-asked_long lines.Convert text long = ap printed (convert_long text long)
+-- a text past the limit is refused as its first bytes are, by a command that reads it
+pub asked_long : (command : CommandLine) (text : List ℕ) → reads (Some command) ≡ true → limit < length text → asked command text ≡ Refused (too_long text)
+asked_long (lines.Run core) text r long = judged_long text long
+asked_long lines.Asm text r long = ap printed (asm_long text long)
+asked_long lines.Check text r long = ap printed (check_long text long)
+asked_long lines.Convert text r long = ap printed (convert_long text long)
+asked_long (lines.Exercise seed size core) text r long = absurd (false≢true r)
 
-asked_alike : (command : CommandLine) (text : List ℕ) → limit < length text → asked command (take (limit + 1) text) ≡ asked command text
-asked_alike command text long =
+asked_alike : (command : CommandLine) (text : List ℕ) → reads (Some command) ≡ true → limit < length text → asked command (take (limit + 1) text) ≡ asked command text
+asked_alike command text r long =
     let l : length (take (limit + 1) text) ≡ min (limit + 1) (length text) = length-take (limit + 1) text in
     let longer : limit < length (take (limit + 1) text) = omega (arith, l, long) in
-    asked_long command (take (limit + 1) text) longer
+    asked_long command (take (limit + 1) text) r longer
     ∙ ap (λ (xs : List ℕ). Refused (refusals.Deck (count_by (λ b. b == 10) xs + 1) 14)) (take_first limit text)
-    ∙ sym (asked_long command text long)
+    ∙ sym (asked_long command text r long)
+
+-- a command that reads has read what was given
+given_read : {S : Type 0} {left : S → Option (List ℕ)} {deck deck' : S} {bytes : List ℕ} (command : CommandLine) → reads (Some command) ≡ true → WasGiven left deck deck' bytes → WasRead command left deck deck' bytes
+given_read (lines.Run core) r given = given
+given_read lines.Asm r given = given
+given_read lines.Check r given = given
+given_read lines.Convert r given = given
+given_read (lines.Exercise seed size core) r given = absurd (false≢true r)
+
+given_all : {S : Type 0} {left : S → Option (List ℕ)} {deck deck' : S} {bytes : List ℕ} (command : CommandLine) → reads (Some command) ≡ true → GaveAll left deck deck' bytes → ReadAll command left deck deck' bytes
+given_all (lines.Run core) r given = given
+given_all lines.Asm r given = given
+given_all lines.Check r given = given
+given_all lines.Convert r given = given
+given_all (lines.Exercise seed size core) r given = absurd (false≢true r)
 
 -- what was read, and is refused
 abbrev ReadAndRefused : {S : Type 0} → (S → Option (List ℕ)) → S → S → CommandLine → Refusal → Type 0
-ReadAndRefused left deck deck' command r = (bytes : List ℕ) × WasRead left deck deck' bytes × (asked command bytes ≡ Refused r)
+ReadAndRefused left deck deck' command r = (bytes : List ℕ) × WasRead command left deck deck' bytes × (asked command bytes ≡ Refused r)
 
 -- first bytes of a source are all that it had, or one more than a deck may have
-was_read : {S : Type 0} {left : S → Option (List ℕ)} {deck deck' : S} {bytes : List ℕ} (command : CommandLine) (r : Refusal) → GaveFirst left (limit + 1) deck deck' bytes → asked command bytes ≡ Refused r
+was_read : {S : Type 0} {left : S → Option (List ℕ)} {deck deck' : S} {bytes : List ℕ} (command : CommandLine) (r : Refusal) → reads (Some command) ≡ true → GaveFirst left (limit + 1) deck deck' bytes → asked command bytes ≡ Refused r
     → ReadAndRefused left deck deck' command r
-was_read {left = left} {deck = deck} {deck' = deck'} {bytes = bytes} command r first refused = by_test (nat_lt limit (length bytes)) refl
+was_read {left = left} {deck = deck} {deck' = deck'} {bytes = bytes} command r is first refused = by_test (nat_lt limit (length bytes)) refl
   where
     all_of : (before : List ℕ) → length bytes ≤ limit → bytes ≡ take (limit + 1) before → length before ≤ limit + 1
     all_of before short e =
@@ -98,25 +119,25 @@ was_read {left = left} {deck = deck} {deck' = deck'} {bytes = bytes} command r f
         let l : length (take (limit + 1) bytes) ≡ min (limit + 1) (length bytes) = length-take (limit + 1) bytes in
         let exactly : length (take (limit + 1) bytes) ≡ limit + 1 = omega (arith, l, long) in (
           take (limit + 1) bytes,
-          inr (
+          given_read command is (inr (
             record {
               told = λ before e.
                   let h = first.told before e in
                   (drop (limit + 1) before, sym (take-append-drop (limit + 1) before) ∙ ap (λ (xs : List ℕ). xs ++ drop (limit + 1) before) (sym (front before h.0)), h.1);
             },
             exactly,
-          ),
-          asked_alike command bytes long ∙ refused,
+          )),
+          asked_alike command bytes is long ∙ refused,
         )
     by_test false t =
         let short : length bytes ≤ limit = grind (arith, nat_tests) in (
           bytes,
-          inl (record {
+          given_read command is (inl (record {
             told = λ before e.
                 let h = first.told before e in
                 let few = all_of before short h.0 in
                 (sym (h.0 ∙ take_all (limit + 1) before few), h.1 ∙ ap Some (drop_all (limit + 1) before few));
-          }),
+          })),
           refused,
         )
 
@@ -140,26 +161,28 @@ IsUnserved left source_faults deck deck' command admits.SourceFault = Rose sourc
 IsUnserved left source_faults deck deck' command admits.Memory = Unit {0}
 
 module _ {S B K : Type 0} {left : S → Option (List ℕ)} {source_faults : S → ℕ} {deck deck' : S} {taken : K → Option (List ℕ)} {faults : K → ℕ} {old new : K} where
-  unserved : (d : Device B) (command : CommandLine) (fault : AdmitFault) (answer : ℕ) → IsUntouched d → IsUnserved left source_faults deck deck' command fault → RefusalEnds fault taken faults old new answer
+  unserved : (d : Device B) (command : CommandLine) (fault : AdmitFault) (answer : ℕ) → reads (Some command) ≡ true → IsUntouched d → IsUnserved left source_faults deck deck' command fault → RefusalEnds fault taken faults old new answer
       → Serves command left source_faults deck deck' d None taken faults old new answer
-  unserved d command (admits.Refused r) answer same h ends = λ words e.
-      let read = was_read command r h.1 h.2 in
+  unserved d command (admits.Refused r) answer is same h ends = λ words e.
+      let read = was_read command r is h.1 h.2 in
       answered 2 (only (refusal_text r)) (refusal_due command read.0 r e read.1 same read.2 refl refl refl) (closes_only ends)
-  unserved d command admits.SourceFault answer same rose ends = λ words e. answered 7 (only reading_text) (reading_due (commanded words command e) rose same refl refl refl) (closes_only ends)
-  unserved d command admits.Memory answer same free ends = λ words e. answered 9 (only memory_text) (memory_due (commanded words command e) same refl refl refl) (closes_only ends)
+  unserved d command admits.SourceFault answer is same rose ends = λ words e. answered 7 (only reading_text) (reading_due (ap reads e ∙ is) rose same refl refl refl) (closes_only ends)
+  unserved d command admits.Memory answer is same free ends = λ words e. answered 9 (only memory_text) (memory_due (commanded words command e) same refl refl refl) (closes_only ends)
 
   -- a deck that was loaded, or wasn't
   pub served_deck : (d : Device B) (core : ℕ) (loaded : Loaded) (machine : Option Machine) (answer : ℕ) → IsLoaded left source_faults deck deck' (Ok loaded)
-      → DeckRunEnds taken faults d core (prepared_of loaded) machine old new answer → Serves (lines.Run core) left source_faults deck deck' d machine taken faults old new answer
+      → DeckRunEnds taken faults d core (prepared_of loaded) None machine old new answer → Serves (lines.Run core) left source_faults deck deck' d machine taken faults old new answer
   served_deck d core loaded machine answer h ends = by_end (prepared_is h.0 (prepared_of loaded) h.2) ends
     where
-      by_end : judgement h.0 ≡ Runs (prepared_of loaded) → DeckRunEnds taken faults d core (prepared_of loaded) machine old new answer → Serves (lines.Run core) left source_faults deck deck' d machine taken faults old new answer
-      by_end is (run_stops status text stops ends) = λ words e. answered status text (run_due core (prepared_of loaded) (record { bytes = h.0; command = e; read = h.1; judged = is }) stops) ends
-      by_end is (step_is_cut text count printing a rose part) = λ words e. cut_in_step core (prepared_of loaded) text count (record { bytes = h.0; command = e; read = h.1; judged = is }) printing a rose part
+      by_end : judgement h.0 ≡ Runs (prepared_of loaded) → DeckRunEnds taken faults d core (prepared_of loaded) None machine old new answer → Serves (lines.Run core) left source_faults deck deck' d machine taken faults old new answer
+      by_end is (run_stops status text stops ends) = λ words e.
+          answered status text (run_due core (prepared_of loaded) (record { command = lines.Run core; bytes = h.0; is = e; opens = refl; read = h.1; judged = is })
+          (subst (λ (x : Option Exercise). RunStops d core (prepared_of loaded) x machine status text) (sym (ap exercise_of e)) stops)) ends
+      by_end is (step_is_cut text count printing a rose part) = λ words e. cut_in_step core (prepared_of loaded) text count (record { command = lines.Run core; bytes = h.0; is = e; opens = refl; read = h.1; judged = is }) printing a rose part
 
   pub served_refusal : (d : Device B) (core : ℕ) (fault : AdmitFault) (answer : ℕ) → IsUntouched d → IsLoaded left source_faults deck deck' (Err fault) → RefusalEnds fault taken faults old new answer
       → Serves (lines.Run core) left source_faults deck deck' d None taken faults old new answer
-  served_refusal d core fault answer same h ends = unserved d (lines.Run core) fault answer same (by_fault fault h) ends
+  served_refusal d core fault answer same h ends = unserved d (lines.Run core) fault answer refl same (by_fault fault h) ends
     where
       by_fault : (fault : AdmitFault) → IsLoaded left source_faults deck deck' (Err fault) → IsUnserved left source_faults deck deck' (lines.Run core) fault
       by_fault (admits.Refused r) h = (h.0, h.1, refused_is h.0 r h.2)
@@ -167,9 +190,9 @@ module _ {S B K : Type 0} {left : S → Option (List ℕ)} {source_faults : S �
       by_fault admits.Memory h = h
 
   -- a text that was made, or wasn't
-  pub served_text : (d : Device B) (command : CommandLine) (verdict : List ℕ → Verdict) (answer : ℕ) → IsUntouched d → ((bytes : List ℕ) → asked command bytes ≡ printed (verdict bytes))
+  pub served_text : (d : Device B) (command : CommandLine) (verdict : List ℕ → Verdict) (answer : ℕ) → reads (Some command) ≡ true → IsUntouched d → ((bytes : List ℕ) → asked command bytes ≡ printed (verdict bytes))
       → Writes verdict left source_faults deck deck' taken faults old new answer → Serves command left source_faults deck deck' d None taken faults old new answer
-  served_text d command verdict answer untouched same h = by_made h.0 h.1 h.2
+  served_text d command verdict answer is untouched same h = by_made h.0 h.1 h.2
     where
       by_fault : (fault : AdmitFault) → IsJudged left source_faults deck deck' verdict (Err fault) → IsUnserved left source_faults deck deck' command fault
       by_fault (admits.Refused r) j = (j.0, j.1, same j.0 ∙ ap printed j.2)
@@ -177,5 +200,43 @@ module _ {S B K : Type 0} {left : S → Option (List ℕ)} {source_faults : S �
       by_fault admits.Memory j = j
 
       by_made : (made : Result (List ℕ) AdmitFault) → IsJudged left source_faults deck deck' verdict made → TextEnds made taken faults old new answer → Serves command left source_faults deck deck' d None taken faults old new answer
-      by_made (Ok text) j ends = λ words e. answered 0 (only text) (print_due command j.0 text e j.1 untouched (same j.0 ∙ ap printed j.2) refl refl refl) (closes_only ends)
-      by_made (Err fault) j ends = unserved d command fault answer untouched (by_fault fault j) ends
+      by_made (Ok text) j ends = λ words e. answered 0 (only text) (print_due command j.0 text e (given_all command is j.1) untouched (same j.0 ∙ ap printed j.2) refl refl refl) (closes_only ends)
+      by_made (Err fault) j ends = unserved d command fault answer is untouched (by_fault fault j) ends
+
+-- ---- an exercise
+
+-- its deck and programs are in range
+pub exercise_in_range : (text : List ℕ) (d : Deck) (l : Loaded) → deck_of text ≡ Ok d → with_programs d ≡ Ok (prepared_of l) → DeckInRange l.deck × (length l.programs ≡ length l.deck.jobs)
+exercise_in_range text d l e f =
+    let range = prepared_in_range text l.deck (map program_of l.programs) (loaded text d (prepared_of l) e f) in
+    (range.0, sym (length-map l.programs program_of) ∙ range.1)
+
+module _ {B K : Type 0} (seed size core : ℕ) (d : Device B) {taken : K → Option (List ℕ)} {faults : K → ℕ} {old new : K} (deck : Deck) (is : deck_of (generated_text seed size) ≡ Ok deck) where
+  -- it runs
+  pub exercise_ran : (l : Loaded) (machine : Option Machine) (answer : ℕ) → with_programs deck ≡ Ok (prepared_of l)
+      → DeckRunEnds taken faults d core (prepared_of l) (Some (record { seed = seed; size = size })) machine old new answer → ExerciseEnds seed size core d machine taken faults old new answer
+  exercise_ran l machine answer e ends = exercise_runs (prepared_of l) (prepared_is (generated_text seed size) (prepared_of l) (loaded (generated_text seed size) deck (prepared_of l) is e)) ends
+
+  -- or is refused
+  pub exercise_unprepared : (fault : AdmitFault) (machine : Option Machine) (answer status : ℕ) → Meets prepared_of (Err fault) (with_programs deck) → IsUntouched d → machine ≡ None → status ≡ answer
+      → RefusalEnds fault taken faults old new answer → ExerciseEnds seed size core d machine taken faults old new status
+  exercise_unprepared fault machine answer status m same none e ends = subst (λ (n : ℕ). ExerciseEnds seed size core d machine taken faults old new n) (sym e) (by_fault fault m ends)
+    where
+      by_fault : (fault : AdmitFault) → Meets prepared_of (Err fault) (with_programs deck) → RefusalEnds fault taken faults old new answer → ExerciseEnds seed size core d machine taken faults old new answer
+      by_fault (admits.Refused r) m ends = exercise_is_refused r (refused_is (generated_text seed size) r (refused_program (generated_text seed size) deck r is m)) same none ends
+      by_fault admits.SourceFault m ends = absurd m
+      by_fault admits.Memory m ends = exercise_wants_memory same none ends
+
+-- an exercise that ended so is what is due
+pub exercised : {S B K : Type 0} (words : List (Bor (List ℕ))) (left : S → Option (List ℕ)) (source_faults : S → ℕ) (deck : S) (seed size core : ℕ) (d : Device B) (machine : Option Machine)
+    (taken : K → Option (List ℕ)) (faults : K → ℕ) (old new : K) (answer : ℕ) → command_of words ≡ Some (lines.Exercise seed size core) → ExerciseEnds seed size core d machine taken faults old new answer
+    → Answered words left source_faults deck deck d machine taken faults old new answer
+exercised words left source_faults deck seed size core d machine taken faults old new answer e (exercise_wants_memory same none ends) =
+    answered 9 (only memory_text) (memory_due (commanded words (lines.Exercise seed size core) e) same none refl refl) (closes_only ends)
+exercised words left source_faults deck seed size core d machine taken faults old new answer e (exercise_is_refused r j same none ends) =
+    answered 2 (only (refusal_text r)) (refusal_due (lines.Exercise seed size core) [] r e refl same j none refl refl) (closes_only ends)
+exercised words left source_faults deck seed size core d machine taken faults old new answer e (exercise_runs p j (run_stops status text stops ends)) =
+    answered status text (run_due core p (record { command = lines.Exercise seed size core; bytes = []; is = e; opens = refl; read = refl; judged = j })
+    (subst (λ (x : Option Exercise). RunStops d core p x machine status text) (sym (ap exercise_of e)) stops)) ends
+exercised words left source_faults deck seed size core d machine taken faults old new answer e (exercise_runs p j (step_is_cut text count printing a rose part)) =
+    cut_in_step core p text count (record { command = lines.Exercise seed size core; bytes = []; is = e; opens = refl; read = refl; judged = j }) printing a rose part

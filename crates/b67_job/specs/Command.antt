@@ -37,6 +37,14 @@ request (run ∷ first ∷ a ∷ second ∷ b ∷ []) =
     if bytes_eq run.now (codes "run") then option_and_then requested (options first.now a.now second.now b.now) else None
 request _ = None
 
+-- an exercise: its seed, its size, and the option for its words of core
+abbrev pub exercise : List (Bor (List ℕ)) → Option CommandLine
+exercise (word ∷ seed ∷ size ∷ option ∷ core ∷ []) =
+    if bytes_eq word.now (codes "exercise") && bytes_eq option.now (codes "--core")
+    then option_and_then (λ s. option_and_then (λ n. option_map (lines.Exercise s n) (number_in 256 1048575 core.now)) (number_in 1 500 size.now)) (number_in 0 2147483647 seed.now)
+    else None
+exercise _ = None
+
 -- the commands of one word
 abbrev pub one_word : List (Bor (List ℕ)) → Option CommandLine
 one_word (word ∷ []) =
@@ -47,7 +55,7 @@ one_word _ = None
 
 -- the command that the words are
 abbrev pub command_of : List (Bor (List ℕ)) → Option CommandLine
-command_of words = option_or (one_word words) (option_map (λ r. lines.Run r.core) (request words))
+command_of words = option_or (one_word words) (option_or (option_map (λ r. lines.Run r.core) (request words)) (exercise words))
 
 -- the path that the words name
 abbrev pub backing_path : List (Bor (List ℕ)) → Option (List ℕ)

@@ -3,7 +3,7 @@ use Rattle.std.specs.Prelude.{ℕ, ◌≡◌, ◌+◌, ◌<◌, ◌≤◌, ◌�
 use denote.Ref.{Bor}
 use Rattle.b67_io.specs.Line.{ended}
 use Rattle.b67_io.specs.Told.{Gave, GaveAll}
-use Rattle.b67_io.specs.Causes.{Rose}
+use Rattle.b67_io.specs.Causes.{Rose, Stayed}
 use Rattle.b67_model_text.specs.Deck.{limit}
 use Rattle.b67_model.specs.State.{Task, SessionJob}
 use Rattle.b67_model.specs.Need.{need_next}
@@ -23,12 +23,14 @@ use Rattle.b67_session_lines.specs.Stops.{IsFinished, IsHalted}
 use Rattle.b67_session_open.specs.Opens.{need_of, sectors_of_all}
 use Rattle.b67_job.specs.Device.{Device, Tells, Failed, IsUntouched}
 use Rattle.b67_job.specs.Lines.{no_core_line, backing_full_line, backing_fault_line, memory_text}
+use Rattle.b67_job.specs.declared.summaries.Exercise.{Exercise}
 use Rattle.b67_job.specs.Texts.{Text, whole_of, only, TookUpTo, Closes}
-use Rattle.b67_job.specs.Runs.{run_of, IsBeforeHalt, IsDone, IsHaltedAt, WantsCore, WantsSectors, IsCutOff, RoomSuffices, RunStops, IsPrinting}
+use Rattle.b67_job.specs.Runs.{run_of, IsBeforeHalt, IsDone, IsHaltedAt, WantsCore, WantsSectors, IsCutOff, RoomSuffices, RunStops, DeckRunEnds, IsPrinting}
 use Rattle.b67_job.specs.Command.{command_of}
 use Rattle.b67_job.specs.declared.command.CommandLine.{CommandLine}
 use Rattle.b67_job.specs.declared.command.CommandLine.TheVariants as lines
-use Rattle.b67_job.specs.Judgement.{Judgement, Refused, Runs, Prints, judgement, asked}
+use Rattle.b67_job.specs.Judgement.{Judgement, Refused, Runs, Prints, judgement, asked, core_asked, exercise_of, reads}
+use Rattle.b67_gen.specs.Generated.{generated_text}
 
 abbrev pub usage_text : List ℕ
 usage_text = ended (codes "USAGE: b67 run --core N --backing PATH")
@@ -36,28 +38,41 @@ usage_text = ended (codes "USAGE: b67 run --core N --backing PATH")
 abbrev pub reading_text : List ℕ
 reading_text = ended (codes "READING FAULT")
 
--- these bytes were read: all that there were, or one more than a deck may have
-abbrev pub WasRead : {S : Type 0} → (S → Option (List ℕ)) → S → S → List ℕ → Type 0
-WasRead left deck deck' bytes = GaveAll left deck deck' bytes ⊎ (Gave left deck deck' bytes × (length bytes ≡ limit + 1))
+-- the command read these bytes of its source, which are all; an exercise reads nothing
+abbrev pub ReadAll : {S : Type 0} → CommandLine → (S → Option (List ℕ)) → S → S → List ℕ → Type 0
+ReadAll (lines.Exercise seed size core) left deck deck' bytes = deck' ≡ deck
+ReadAll _ left deck deck' bytes = GaveAll left deck deck' bytes
 
--- the words ask for a run over so much core, and the deck, read to its end, is this one with these programs
+-- these bytes were given: all that there were, or one more than a deck may have
+abbrev pub WasGiven : {S : Type 0} → (S → Option (List ℕ)) → S → S → List ℕ → Type 0
+WasGiven left deck deck' bytes = GaveAll left deck deck' bytes ⊎ (Gave left deck deck' bytes × (length bytes ≡ limit + 1))
+
+-- the command read them; an exercise reads nothing
+abbrev pub WasRead : {S : Type 0} → CommandLine → (S → Option (List ℕ)) → S → S → List ℕ → Type 0
+WasRead (lines.Exercise seed size core) left deck deck' bytes = deck' ≡ deck
+WasRead _ left deck deck' bytes = WasGiven left deck deck' bytes
+
+-- the words ask for a run over so much core, of a deck that was read to its end or of an exercise, and the deck is this one
+-- with these programs
 pub record IsRun {S : Type 0} (words : List (Bor (List ℕ))) (left : S → Option (List ℕ)) (deck deck' : S) (core : ℕ) (p : Prepared) : Type 0 where
+  pub command : CommandLine
   pub bytes : List ℕ
-  pub command : command_of words ≡ Some (lines.Run core)
-  pub read : GaveAll left deck deck' bytes
-  pub judged : judgement bytes ≡ Runs p
+  pub is : command_of words ≡ Some command
+  pub opens : core_asked command ≡ Some core
+  pub read : ReadAll command left deck deck' bytes
+  pub judged : asked command bytes ≡ Runs p
 
 -- The status, the text and the machine that are due, by their cause. The device is as it was unless a session was opened or
 -- its opening failed.
 pub data IsDue {S B : Type 0} (words : List (Bor (List ℕ))) (left : S → Option (List ℕ)) (faults : S → ℕ) (deck deck' : S) (d : Device B) (machine : Option Machine) (status : ℕ) (text : Text) : Type 0 where
   usage_due : is_some (command_of words) ≡ false → deck' ≡ deck → IsUntouched d → machine ≡ None
       → status ≡ 1 → text ≡ only usage_text → IsDue words left faults deck deck' d machine status text
-  refusal_due : (command : CommandLine) (bytes : List ℕ) (refusal : Refusal) → command_of words ≡ Some command → WasRead left deck deck' bytes → IsUntouched d
+  refusal_due : (command : CommandLine) (bytes : List ℕ) (refusal : Refusal) → command_of words ≡ Some command → WasRead command left deck deck' bytes → IsUntouched d
       → asked command bytes ≡ Refused refusal → machine ≡ None → status ≡ 2 → text ≡ only (refusal_text refusal) → IsDue words left faults deck deck' d machine status text
-  print_due : (command : CommandLine) (bytes printed : List ℕ) → command_of words ≡ Some command → GaveAll left deck deck' bytes → IsUntouched d
+  print_due : (command : CommandLine) (bytes printed : List ℕ) → command_of words ≡ Some command → ReadAll command left deck deck' bytes → IsUntouched d
       → asked command bytes ≡ Prints printed → machine ≡ None → status ≡ 0 → text ≡ only printed → IsDue words left faults deck deck' d machine status text
-  run_due : (core : ℕ) (p : Prepared) → IsRun words left deck deck' core p → RunStops d core p machine status text → IsDue words left faults deck deck' d machine status text
-  reading_due : is_some (command_of words) ≡ true → Rose faults deck deck' → IsUntouched d → machine ≡ None
+  run_due : (core : ℕ) (p : Prepared) → IsRun words left deck deck' core p → RunStops d core p (exercise_of (command_of words)) machine status text → IsDue words left faults deck deck' d machine status text
+  reading_due : reads (command_of words) ≡ true → Rose faults deck deck' → IsUntouched d → machine ≡ None
       → status ≡ 7 → text ≡ only reading_text → IsDue words left faults deck deck' d machine status text
   memory_due : is_some (command_of words) ≡ true → IsUntouched d → machine ≡ None → status ≡ 9 → text ≡ only memory_text → IsDue words left faults deck deck' d machine status text
 
@@ -74,17 +89,25 @@ abbrev pub Serves : {S B K : Type 0} → CommandLine → (S → Option (List ℕ
 Serves command left source_faults deck deck' d machine taken printer_faults old new answer =
     (words : List (Bor (List ℕ))) → command_of words ≡ Some command → Answered words left source_faults deck deck' d machine taken printer_faults old new answer
 
+-- how an exercise ends: its deck is refused, or runs, unless memory is refused for it
+pub data ExerciseEnds {B K : Type 0} (seed size core : ℕ) (d : Device B) (machine : Option Machine) (taken : K → Option (List ℕ)) (faults : K → ℕ) (old new : K) (answer : ℕ) : Type 0 where
+  exercise_wants_memory : IsUntouched d → machine ≡ None → Ends taken faults old new 9 memory_text answer → ExerciseEnds seed size core d machine taken faults old new answer
+  exercise_is_refused : (refusal : Refusal) → judgement (generated_text seed size) ≡ Refused refusal → IsUntouched d → machine ≡ None → Ends taken faults old new 2 (refusal_text refusal) answer
+      → ExerciseEnds seed size core d machine taken faults old new answer
+  exercise_runs : (p : Prepared) → judgement (generated_text seed size) ≡ Runs p → DeckRunEnds taken faults d core p (Some (record { seed = seed; size = size })) machine old new answer
+      → ExerciseEnds seed size core d machine taken faults old new answer
+
 -- ---- the causes of a status
 
 -- this machine is left, of whose next step nothing is printed
 abbrev pub Leaves : Option Machine → (Machine → Type 0) → Type 0
 Leaves machine P = (k : Machine) × (machine ≡ Some k) × (k.tasks.printed ≡ 0) × P k
 
--- the text of what is done: that of a whole run, or the one to print
-abbrev pub IsAllDone : {B : Type 0} → Device B → Judgement → Option Machine → Text → Type 0
-IsAllDone d (Refused refusal) machine text = ⊥
-IsAllDone d (Runs p) machine text = Leaves machine (λ k. IsDone d (run_of p) k text) × (Tells d → IsFinished (run_of p) (whole_of text))
-IsAllDone d (Prints whole) machine text = (machine ≡ None) × IsUntouched d × (text ≡ only whole)
+-- the text of what is done: that of a whole run, with an exercise's line, or the one to print
+abbrev pub IsAllDone : {B : Type 0} → Device B → Option Exercise → Judgement → Option Machine → Text → Type 0
+IsAllDone d exercise (Refused refusal) machine text = ⊥
+IsAllDone d exercise (Runs p) machine text = Leaves machine (λ k. IsDone d (run_of p) exercise k text) × (Tells d → IsFinished (run_of p) text.front)
+IsAllDone d exercise (Prints whole) machine text = (machine ≡ None) × IsUntouched d × (text ≡ only whole)
 
 -- a run halts
 abbrev pub Halts : {B : Type 0} → Device B → Prepared → Option Machine → Text → Type 0
@@ -111,7 +134,7 @@ IsFailedBy d core p machine text =
 -- a refusal of a text that was read
 abbrev pub IsRefused : {S B : Type 0} → List (Bor (List ℕ)) → (S → Option (List ℕ)) → S → S → Device B → Option Machine → Text → Type 0
 IsRefused words left deck deck' d machine text =
-    (command : CommandLine) × (bytes : List ℕ) × (refusal : Refusal) × (command_of words ≡ Some command) × WasRead left deck deck' bytes × IsUntouched d
+    (command : CommandLine) × (bytes : List ℕ) × (refusal : Refusal) × (command_of words ≡ Some command) × WasRead command left deck deck' bytes × IsUntouched d
     × (asked command bytes ≡ Refused refusal) × (machine ≡ None) × (text ≡ only (refusal_text refusal))
 
 -- without a machine the device is as it was, or a session had room, and the device failed as it was opened
@@ -145,9 +168,15 @@ pub record Suffices {B : Type 0} (d : Device B) (core : ℕ) (p : Prepared) : Ty
   pub core_suffices : (steps words : ℕ) → IsBeforeHalt (run_of p) steps → need_next core (after steps (run_of p).session) ≡ Some words → words ≤ core
   pub sectors_suffice : (steps sum : ℕ) (m : SessionJob) (t : Task) → IsBeforeHalt (run_of p) steps → IsNext (after steps (run_of p).session) m t → TakesSectors (after steps (run_of p).session) m t sum → sum ≤ d.sectors
 
--- a run is told and has room; the other commands need neither
+-- a run is told and has room, and so is an exercise; the other commands need neither
 abbrev pub IsAmple : {B : Type 0} → Device B → CommandLine → List ℕ → Type 0
 IsAmple d (lines.Run core) text = Tells d × ((p : Prepared) → judgement text ≡ Runs p → Suffices d core p)
 IsAmple d lines.Asm text = Unit {0}
 IsAmple d lines.Check text = Unit {0}
 IsAmple d lines.Convert text = Unit {0}
+IsAmple d (lines.Exercise seed size core) text = Tells d × ((p : Prepared) → judgement (generated_text seed size) ≡ Runs p → Suffices d core p)
+
+-- the source tells these bytes and doesn't fail; an exercise doesn't ask it
+abbrev pub Supplies : {S : Type 0} → CommandLine → (S → Option (List ℕ)) → (S → ℕ) → S → S → List ℕ → Type 0
+Supplies (lines.Exercise seed size core) left faults deck deck' bytes = Unit {0}
+Supplies _ left faults deck deck' bytes = (left deck ≡ Some bytes) × Stayed faults deck deck'

@@ -13,7 +13,8 @@ use Rattle.b67_session.specs.declared.slices.Progress.TheVariants as progress
 use Rattle.b67_session.specs.Slices.{Slices}
 use Rattle.b67_session_lines.specs.Stops.{halted_line}
 use Rattle.b67_session_lines.specs.Ends.{Ends}
-use Rattle.b67_job.specs.Lines.{no_core_line, backing_full_line, backing_fault_line, memory_line}
+use Rattle.b67_job.specs.Lines.{no_core_line, backing_full_line, backing_fault_line, memory_line, summary}
+use Rattle.b67_job.specs.declared.summaries.Exercise.{Exercise}
 
 -- where no session is opened
 abbrev pub refused_status : OpenFault → ℕ
@@ -28,23 +29,23 @@ refused_line (faults.NoCore need core) = no_core_line need core
 refused_line (faults.BackingFull sum sectors) = backing_full_line sum sectors
 refused_line faults.BackingFault = backing_fault_line
 
--- after the steps that were made: nothing where all tasks ended or the printer failed, else a line
-abbrev pub Finishes : {K : Type 0} → (K → Option (List ℕ)) → (K → ℕ) → ℕ → Result Progress Stop → K → K → ℕ → Type 0
-Finishes taken faults made (Ok progress.Ended) old new answer = (answer ≡ 0) × (new ≡ old)
-Finishes taken faults made (Ok progress.More) old new answer = (answer ≡ 0) × (new ≡ old)
-Finishes taken faults made (Ok progress.Halted) old new answer = Ends taken faults old new 3 (ended (halted_line made)) answer
-Finishes taken faults made (Err (stops.NoCore need core)) old new answer = Ends taken faults old new 4 (ended (no_core_line need core)) answer
-Finishes taken faults made (Err (stops.BackingFull sum sectors)) old new answer = Ends taken faults old new 5 (ended (backing_full_line sum sectors)) answer
-Finishes taken faults made (Err stops.BackingFault) old new answer = Ends taken faults old new 6 (ended backing_fault_line) answer
-Finishes taken faults made (Err stops.PrintFault) old new answer = (answer ≡ 8) × (new ≡ old)
+-- after the steps that were made: an exercise's line where all tasks ended, nothing where the printer failed, else a line
+abbrev pub Finishes : {K : Type 0} → (K → Option (List ℕ)) → (K → ℕ) → Option Exercise → ℕ → Result Progress Stop → K → K → ℕ → Type 0
+Finishes taken faults exercise made (Ok progress.Ended) old new answer = Ends taken faults old new 0 (summary exercise made) answer
+Finishes taken faults exercise made (Ok progress.More) old new answer = (answer ≡ 0) × (new ≡ old)
+Finishes taken faults exercise made (Ok progress.Halted) old new answer = Ends taken faults old new 3 (ended (halted_line made)) answer
+Finishes taken faults exercise made (Err (stops.NoCore need core)) old new answer = Ends taken faults old new 4 (ended (no_core_line need core)) answer
+Finishes taken faults exercise made (Err (stops.BackingFull sum sectors)) old new answer = Ends taken faults old new 5 (ended (backing_full_line sum sectors)) answer
+Finishes taken faults exercise made (Err stops.BackingFault) old new answer = Ends taken faults old new 6 (ended backing_fault_line) answer
+Finishes taken faults exercise made (Err stops.PrintFault) old new answer = (answer ≡ 8) × (new ≡ old)
 
 -- the steps of a session, and then the last line. `exact` is whether it was known what the device's sectors hold, of which this
 -- is known now; `failed` is whether the device did
-pub record SessionRan {K : Type 0} (taken : K → Option (List ℕ)) (faults : K → ℕ) (known : Option (List (List ℕ))) (exact failed : Type 0) (count steps : ℕ) (first : Session) (old new : Machine) (paper paper' : K) (answer : ℕ) : Type 0 where
+pub record SessionRan {K : Type 0} (taken : K → Option (List ℕ)) (faults : K → ℕ) (exercise : Option Exercise) (known : Option (List (List ℕ))) (exact failed : Type 0) (count steps : ℕ) (first : Session) (old new : Machine) (paper paper' : K) (answer : ℕ) : Type 0 where
   pub answered : Result Progress Stop
   pub between : K
   pub slices : Slices taken known exact count steps first answered old new paper between
-  pub finishes : Finishes taken faults new.tasks.made answered between paper' answer
+  pub finishes : Finishes taken faults exercise new.tasks.made answered between paper' answer
   pub device_failed : answered ≡ Err stops.BackingFault → failed
   pub printer_failed : answered ≡ Err stops.PrintFault → Rose faults paper between
   pub later : faults paper ≤ faults between

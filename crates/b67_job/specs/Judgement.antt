@@ -1,10 +1,12 @@
 -- What a command and a text ask for.
-use Rattle.std.specs.Prelude.{ℕ, List, Ok, Err}
+use Rattle.std.specs.Prelude.{ℕ, List, Ok, Err, Option, Some, None, Bool, true, false}
 use Rattle.b67_job_admit.specs.declared.refusal.Refusal.{Refusal}
 use Rattle.b67_job_admit.specs.Admitting.{Answer, Prepared, deck_prepared}
 use Rattle.b67_job_admit.specs.Verdicts.{Verdict, check_verdict, asm_verdict, convert_verdict}
 use Rattle.b67_session_lines.specs.Stops.{run_status}
+use Rattle.b67_gen.specs.Generated.{generated_text}
 use Rattle.b67_job.specs.Runs.{run_of}
+use Rattle.b67_job.specs.declared.summaries.Exercise.{Exercise}
 use Rattle.b67_job.specs.declared.command.CommandLine.{CommandLine}
 use Rattle.b67_job.specs.declared.command.CommandLine.TheVariants as lines
 
@@ -26,12 +28,30 @@ abbrev pub printed : Verdict → Judgement
 printed (Ok text) = Prints text
 printed (Err refusal) = Refused refusal
 
--- by a command and a whole text
+-- by a command and a whole text; an exercise brings its own text
 abbrev pub asked : CommandLine → List ℕ → Judgement
 asked (lines.Run core) text = judgement text
 asked lines.Asm text = printed (asm_verdict text)
 asked lines.Check text = printed (check_verdict text)
 asked lines.Convert text = printed (convert_verdict text)
+asked (lines.Exercise seed size core) text = judgement (generated_text seed size)
+
+-- the words of core that a command opens a session in
+abbrev pub core_asked : CommandLine → Option ℕ
+core_asked (lines.Run core) = Some core
+core_asked (lines.Exercise seed size core) = Some core
+core_asked _ = None
+
+-- the exercise that words ask for
+abbrev pub exercise_of : Option CommandLine → Option Exercise
+exercise_of (Some (lines.Exercise seed size core)) = Some (record { seed = seed; size = size })
+exercise_of _ = None
+
+-- these words ask for a command that reads a text: each does but an exercise
+abbrev pub reads : Option CommandLine → Bool
+reads None = false
+reads (Some (lines.Exercise seed size core)) = false
+reads (Some _) = true
 
 abbrev pub judged_status : Judgement → ℕ
 judged_status (Refused refusal) = 2

@@ -1,6 +1,7 @@
--- The last lines of runs that stop short.
-use Rattle.std.specs.Prelude.{ℕ, List, ◌++◌, codes, decimal}
+-- The last lines of runs.
+use Rattle.std.specs.Prelude.{ℕ, List, [], ◌++◌, codes, decimal, Option, Some, None}
 use Rattle.b67_io.specs.Line.{ended}
+use Rattle.b67_job.specs.declared.summaries.Exercise.{Exercise}
 
 abbrev pub no_core_line : ℕ → ℕ → List ℕ
 no_core_line need core = codes "NO CORE " ++ decimal need ++ codes " " ++ decimal core
@@ -16,3 +17,13 @@ memory_line = codes "NO MEMORY"
 
 abbrev pub memory_text : List ℕ
 memory_text = ended memory_line
+
+-- an exercise, and the operators that it made
+abbrev pub exercise_line : Exercise → ℕ → List ℕ
+exercise_line e operators = codes "EXERCISE " ++ decimal e.seed ++ codes " " ++ decimal e.size ++ codes " " ++ decimal operators
+
+-- what is printed after the lines of a run whose tasks have all ended, by the operators that it made: the line of an exercise, or
+-- nothing
+abbrev pub summary : Option Exercise → ℕ → List ℕ
+summary None operators = []
+summary (Some e) operators = ended (exercise_line e operators)

@@ -20,7 +20,8 @@ pub use Rattle.b67_session.specs.Slices.{IsOpen, RepresentsWithoutTasks, StepsFi
 use Rattle.b67_session_lines.specs.Moments.{first_part, due as due_text}
 use Rattle.b67_session_lines.specs.Stops.{Run, halted_line}
 use Rattle.b67_job.specs.Device.{Device, Tells, Failed, IsUntouched, known_now}
-use Rattle.b67_job.specs.Lines.{no_core_line, backing_full_line, backing_fault_line, memory_text}
+use Rattle.b67_job.specs.Lines.{no_core_line, backing_full_line, backing_fault_line, memory_text, summary}
+use Rattle.b67_job.specs.declared.summaries.Exercise.{Exercise}
 use Rattle.b67_job.specs.Texts.{Text, whole_of, only, TookUpTo, Closes}
 use Rattle.b67_job.specs.States.{StatesInOrder, JobsRunApart}
 
@@ -49,14 +50,15 @@ IsBeforeHalt r steps = IfSome r.halt (λ count. steps < count)
 abbrev pub IsWithinHalt : Run → ℕ → Type 0
 IsWithinHalt r steps = IfSome r.halt (λ count. steps ≤ count)
 
--- no task lives any more, and the halt isn't passed; the machine represents the session without a task
-pub record IsDone {B : Type 0} (d : Device B) (r : Run) (k : Machine) (text : Text) : Type 0 where
+-- no task lives any more, and the halt isn't passed; the machine represents the session without a task. An exercise has its
+-- line after the lines of the steps
+pub record IsDone {B : Type 0} (d : Device B) (r : Run) (exercise : Option Exercise) (k : Machine) (text : Text) : Type 0 where
   pub session : Session
   pub printed : List RunLine
   pub comes : StandsAfter d r.session k session printed
   pub within : IsWithinHalt r k.tasks.made
   pub rests : RepresentsWithoutTasks (known_now d) k session
-  pub text_is : text ≡ record { front = run_text printed; last = [] }
+  pub text_is : text ≡ record { front = run_text printed; last = summary exercise k.tasks.made }
 
 -- the machine represents the session to which the run came, of which this task makes the next step
 pub record StopsAt {B : Type 0} (d : Device B) (first : Session) (k : Machine) : Type 0 where
@@ -170,17 +172,17 @@ pub record WasOpened {B : Type 0} (d : Device B) (core : ℕ) (p : Prepared) (k 
   pub sized : d.sectors_now + 1 ≡ length k.sectors.links
 
 -- then it stopped so
-pub data StopsOpened {B : Type 0} (d : Device B) (core : ℕ) (p : Prepared) (k : Machine) (status : ℕ) (text : Text) : Type 0 where
-  all_end : status ≡ 0 → IsDone d (run_of p) k text → StopsOpened d core p k status text
-  halt_comes : status ≡ 3 → IsHaltedAt d (run_of p) k text → StopsOpened d core p k status text
-  step_wants_core : status ≡ 4 → WantsCore d core (run_of p) k text → StopsOpened d core p k status text
-  step_wants_sectors : status ≡ 5 → WantsSectors d core (run_of p) k text → StopsOpened d core p k status text
-  step_fails : status ≡ 6 → Failed d → IsCutOff d core (run_of p) k text → StopsOpened d core p k status text
+pub data StopsOpened {B : Type 0} (d : Device B) (core : ℕ) (p : Prepared) (exercise : Option Exercise) (k : Machine) (status : ℕ) (text : Text) : Type 0 where
+  all_end : status ≡ 0 → IsDone d (run_of p) exercise k text → StopsOpened d core p exercise k status text
+  halt_comes : status ≡ 3 → IsHaltedAt d (run_of p) k text → StopsOpened d core p exercise k status text
+  step_wants_core : status ≡ 4 → WantsCore d core (run_of p) k text → StopsOpened d core p exercise k status text
+  step_wants_sectors : status ≡ 5 → WantsSectors d core (run_of p) k text → StopsOpened d core p exercise k status text
+  step_fails : status ≡ 6 → Failed d → IsCutOff d core (run_of p) k text → StopsOpened d core p exercise k status text
 
 -- a run stops, with a machine exactly if a session was opened, and nothing of the next step is printed
-pub data RunStops {B : Type 0} (d : Device B) (core : ℕ) (p : Prepared) (machine : Option Machine) (status : ℕ) (text : Text) : Type 0 where
-  unopened : machine ≡ None → StopsUnopened d core p status text → RunStops d core p machine status text
-  opened : (k : Machine) → machine ≡ Some k → WasOpened d core p k → k.tasks.printed ≡ 0 → StopsOpened d core p k status text → RunStops d core p machine status text
+pub data RunStops {B : Type 0} (d : Device B) (core : ℕ) (p : Prepared) (exercise : Option Exercise) (machine : Option Machine) (status : ℕ) (text : Text) : Type 0 where
+  unopened : machine ≡ None → StopsUnopened d core p status text → RunStops d core p exercise machine status text
+  opened : (k : Machine) → machine ≡ Some k → WasOpened d core p k → k.tasks.printed ≡ 0 → StopsOpened d core p exercise k status text → RunStops d core p exercise machine status text
 
 -- the printer was due to take the text of a step, and has taken so many bytes of it, as the machine counts
 pub record IsPrinting {B : Type 0} (d : Device B) (core : ℕ) (p : Prepared) (machine : Option Machine) (text : Text) (count : ℕ) : Type 0 where
@@ -191,8 +193,8 @@ pub record IsPrinting {B : Type 0} (d : Device B) (core : ℕ) (p : Prepared) (m
   pub cut : IsCutInStep d core (run_of p) left text ⊎ IsCutInLimit d (run_of p) left text
 
 -- a run stops and its text is printed, unless the printer fails, in its last line or in the text of a step
-pub data DeckRunEnds {K B : Type 0} (taken : K → Option (List ℕ)) (faults : K → ℕ) (d : Device B) (core : ℕ) (p : Prepared) (machine : Option Machine) (old new : K) (answer : ℕ) : Type 0 where
-  run_stops : (status : ℕ) (text : Text) → RunStops d core p machine status text → Closes taken faults old new status text answer
-      → DeckRunEnds taken faults d core p machine old new answer
+pub data DeckRunEnds {K B : Type 0} (taken : K → Option (List ℕ)) (faults : K → ℕ) (d : Device B) (core : ℕ) (p : Prepared) (exercise : Option Exercise) (machine : Option Machine) (old new : K) (answer : ℕ) : Type 0 where
+  run_stops : (status : ℕ) (text : Text) → RunStops d core p exercise machine status text → Closes taken faults old new status text answer
+      → DeckRunEnds taken faults d core p exercise machine old new answer
   step_is_cut : (text : Text) (count : ℕ) → IsPrinting d core p machine text count → answer ≡ 8 → Rose faults old new → TookUpTo taken old new text count
-      → DeckRunEnds taken faults d core p machine old new answer
+      → DeckRunEnds taken faults d core p exercise machine old new answer

@@ -1,4 +1,4 @@
--- Options and requests without where their texts lie in memory; the core that a command asks for.
+-- Options and requests without where their texts lie in memory; the numbers that a command names.
 use Rattle.std.specs.Prelude.{◌≤◌, ◌<◌, ◌^◌}
 use Rattle.b67_job.specs.declared.command.CommandLine.{CommandLine}
 use Rattle.b67_job.specs.declared.command.CommandLine.TheVariants as lines
@@ -12,9 +12,10 @@ seen_options o = record { core = o.core.now; path = o.path.now }
 abbrev pub seen_request : request.Request → Request
 seen_request r = record { core = r.core; path = r.path.now }
 
--- a run's words of core are within their range
-abbrev pub HasCore : CommandLine → Type 0
-HasCore (lines.Run core) = (256 ≤ core) × (core < 2 ^ 20)
-HasCore lines.Asm = Unit {0}
-HasCore lines.Check = Unit {0}
-HasCore lines.Convert = Unit {0}
+-- the numbers of a command are within their ranges
+abbrev pub AreInRange : CommandLine → Type 0
+AreInRange (lines.Run core) = (256 ≤ core) × (core < 2 ^ 20)
+AreInRange lines.Asm = Unit {0}
+AreInRange lines.Check = Unit {0}
+AreInRange lines.Convert = Unit {0}
+AreInRange (lines.Exercise seed size core) = (seed ≤ 2147483647) × (1 ≤ size) × (size ≤ 500) × (256 ≤ core) × (core < 2 ^ 20)

@@ -1,20 +1,20 @@
 -- What each status says of a call.
-use Rattle.std.specs.Prelude.{ℕ, ◌≡◌, ◌⊎◌, false, List, Option, Some, None, is_some}
+use Rattle.std.specs.Prelude.{ℕ, ◌≡◌, ◌⊎◌, true, false, List, Option, Some, None, is_some}
 use denote.Ref.{Bor}
-use Rattle.b67_io.specs.Told.{Took, GaveAll}
+use Rattle.b67_io.specs.Told.{Took}
 use Rattle.b67_io.specs.Causes.{Rose}
 use Rattle.b67_task_tables.specs.declared.tables.Machine.{Machine}
 use Rattle.b67_job_admit.specs.Admitting.{Prepared}
 use Rattle.b67_job.specs.Command.{command_of}
 use Rattle.b67_job.specs.declared.command.CommandLine.{CommandLine}
 use Rattle.b67_job.specs.Device.{Device, Failed, IsUntouched}
-use Rattle.b67_job.specs.Due.{usage_text, reading_text, IsRun, IsDue, IsAllDone, Halts, IsShortOfCore, IsShortOfSectors, IsFailedBy, IsRefused}
-use Rattle.b67_job.specs.Judgement.{asked}
+use Rattle.b67_job.specs.Due.{usage_text, reading_text, ReadAll, IsRun, IsDue, IsAllDone, Halts, IsShortOfCore, IsShortOfSectors, IsFailedBy, IsRefused}
+use Rattle.b67_job.specs.Judgement.{asked, exercise_of, reads}
 use Rattle.b67_job.specs.Lines.{memory_text}
 use Rattle.b67_job.specs.Runs.{IsPrinting}
 use Rattle.b67_job.specs.Texts.{Text, whole_of, TookUpTo}
 
--- a deck was read to its end and ran; this holds of it, its programs and the text that was printed
+-- a deck was read to its end, or is that of an exercise, and ran; this holds of it, its programs and the text that was printed
 abbrev pub Ran : {S K : Type 0} → List (Bor (List ℕ)) → (S → Option (List ℕ)) → S → S → (K → Option (List ℕ)) → K → K → (ℕ → Prepared → Text → Type 0) → Type 0
 Ran words left deck deck' taken old new P = (core : ℕ) × (p : Prepared) × (text : Text) × IsRun words left deck deck' core p × P core p text × Took taken old new (whole_of text)
 
@@ -26,10 +26,11 @@ pub record StatusMeans {S B K : Type 0} (words : List (Bor (List ℕ))) (left : 
   -- A text that was read, up to the first byte past its limit, is refused by the command: the line of its first refusal is
   -- printed.
   pub refused : status ≡ 2 → (text : Text) × IsRefused words left deck deck' d machine text × Took taken old new (whole_of text)
-  -- The deck was read to its end, and the command's work is done: the whole text of its run is printed, at the halt at the
-  -- latest, and the machine represents a session without tasks; or the text that it is to print.
-  pub done : status ≡ 0 → (command : CommandLine) × (bytes : List ℕ) × (text : Text) × (command_of words ≡ Some command) × GaveAll left deck deck' bytes
-      × IsAllDone d (asked command bytes) machine text × Took taken old new (whole_of text)
+  -- The deck was read to its end, or is that of an exercise, and the command's work is done: the whole text of its run is
+  -- printed, at the halt at the latest, with an exercise's line after it, and the machine represents a session without tasks; or
+  -- the text that it is to print.
+  pub done : status ≡ 0 → (command : CommandLine) × (bytes : List ℕ) × (text : Text) × (command_of words ≡ Some command) × ReadAll command left deck deck' bytes
+      × IsAllDone d (exercise_of (Some command)) (asked command bytes) machine text × Took taken old new (whole_of text)
   -- The run halted: the machine represents a session with a task at the count of its halt, and the text up to there is
   -- printed, with the line of the halt after it.
   pub halted : status ≡ 3 → Ran words left deck deck' taken old new (λ core p text. Halts d p machine text)
@@ -40,7 +41,8 @@ pub record StatusMeans {S B K : Type 0} (words : List (Bor (List ℕ))) (left : 
   -- A device failed. At a step the machine is before it, and lacks its segment or its array, or the step makes one longer or
   -- starts a task.
   pub backing_fault : status ≡ 6 → Failed d × Ran words left deck deck' taken old new (λ core p text. IsFailedBy d core p machine text)
-  pub reading_fault : status ≡ 7 → Rose source_faults deck deck' × Took taken old new reading_text
+  -- The source failed, of a command that reads it.
+  pub reading_fault : status ≡ 7 → (reads (command_of words) ≡ true) × Rose source_faults deck deck' × Took taken old new reading_text
   -- The printer failed. It has taken all lines of the steps, and a part of what is due after them: of the last line; or, as
   -- the machine counts, of the first part of the next step, or of the lines of LIMIT of the last one.
   pub printing_fault : status ≡ 8 → Rose printer_faults old new × ((text : Text) × (count : ℕ)

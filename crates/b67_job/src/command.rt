@@ -2,8 +2,8 @@
 
 ghost use Rattle.std.specs.Prelude.{◌≡◌, ◌≤◌, ◌<◌, ◌^◌, ℕ, IfSome, Some};
 ghost use Rattle.std.specs.Option.{option_map};
-ghost use Rattle.b67_job.specs.Command.{options, is_path, requested, request, one_word, command_of, backing_path};
-ghost use Rattle.b67_job.specs.Seen.{seen_options, seen_request, HasCore};
+ghost use Rattle.b67_job.specs.Command.{options, is_path, requested, request, exercise, one_word, command_of, backing_path};
+ghost use Rattle.b67_job.specs.Seen.{seen_options, seen_request, AreInRange};
 
 use b67_card::number_in;
 
@@ -18,6 +18,8 @@ pub enum CommandLine {
     Check,
     /// Reads hexadecimal cards, and prints their codefile in version 2.
     Convert,
+    /// Runs the deck that is drawn from a seed for so many arrays, over so many words of core.
+    Exercise { seed: u32, size: u32, core: u32 },
 }
 
 // The texts behind the two options.
@@ -89,6 +91,28 @@ fn read_request<'a>(words: &[&'a str]) -> Option<Request<'a>>
     }
 }
 
+fn read_exercise(words: &[&str]) -> Option<CommandLine>
+    ensures command { result ≡ exercise words.now }
+    ensures range { IfSome result AreInRange }
+{
+    match words {
+        [word, seed, size, option, core] => {
+            if *word != "exercise" || *option != "--core" {
+                return None;
+            }
+            let seed = number_in(seed.as_bytes(), 0, 2_147_483_647)?;
+            let size = number_in(size.as_bytes(), 1, 500)?;
+            let core = number_in(core.as_bytes(), 256, 1_048_575)?;
+            Some(CommandLine::Exercise {
+                seed: seed as u32,
+                size: size as u32,
+                core: core as u32,
+            })
+        }
+        _ => None,
+    }
+}
+
 fn one_word(words: &[&str]) -> Option<CommandLine>
     ensures { result ≡ one_word words.now }
 {
@@ -108,17 +132,18 @@ fn one_word(words: &[&str]) -> Option<CommandLine>
     }
 }
 
-/// The command that the words are: `run --core N --backing PATH`, the two options in either order, `asm`, `check` or
-/// `convert`. N is 256 to 1,048,575 in decimal without sign or leading zero; PATH isn't empty and doesn't begin with `-`.
+/// The command that the words are: `run --core N --backing PATH`, the two options in either order, `asm`, `check`, `convert` or
+/// `exercise SEED SIZE --core N`. N is 256 to 1,048,575, SEED at most 2,147,483,647 and SIZE 1 to 500, each in decimal without
+/// sign or leading zero; PATH isn't empty and doesn't begin with `-`.
 pub fn command_of(words: &[&str]) -> Option<CommandLine>
     ensures command { result ≡ command_of words.now }
-    ensures core { IfSome result HasCore }
+    ensures range { IfSome result AreInRange }
 {
     match one_word(words) {
         Some(command) => Some(command),
         None => match read_request(words) {
             Some(request) => Some(CommandLine::Run { core: request.core }),
-            None => None,
+            None => read_exercise(words),
         },
     }
 }

@@ -8,6 +8,7 @@ mod lines;
 mod outcome;
 mod ranges;
 mod runs;
+mod summaries;
 #[cfg(test)]
 mod tasks;
 #[cfg(test)]
@@ -22,4 +23,5 @@ pub use lines::{backing_full_line, no_core_line, refusal_line, say_text};
 pub use outcome::Outcome;
 pub use ranges::{decks_are_in_range, prepared_decks_are_in_range};
 pub use runs::run_deck;
+pub use summaries::{Exercise, say_summary};
 pub use top::{refuse_memory, run};

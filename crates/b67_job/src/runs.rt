@@ -17,6 +17,7 @@ ghost use Rattle.b67_job.specs.Runs.{DeckRunEnds};
 
 use crate::lines::{backing_full_line, no_core_line};
 use crate::outcome::Outcome;
+use crate::summaries::{Exercise, say_summary};
 use b67_backing::Backing;
 use b67_io::Sink;
 use b67_load_verify::Admitted;
@@ -50,11 +51,16 @@ fn refuse_opening<K: Sink>(fault: OpenFault, printer: &mut K) -> u8
 }
 
 // Prints the last line after the steps that were made.
-fn finish<K: Sink>(answered: Result<Progress, Stop>, made: u64, printer: &mut K) -> u8
-    ensures { Finishes K.taken K.faults made answered printer.old printer.new result }
+fn finish<K: Sink>(
+    answered: Result<Progress, Stop>,
+    exercise: Option<Exercise>,
+    made: u64,
+    printer: &mut K,
+) -> u8
+    ensures { Finishes K.taken K.faults exercise made answered printer.old printer.new result }
 {
     match answered {
-        Ok(Progress::Ended) => 0,
+        Ok(Progress::Ended) => say_summary(exercise, made, printer),
         Ok(Progress::More) => 0,
         Ok(Progress::Halted) => say(printer, 3, &halted_line(made)),
         Err(Stop::NoCore { need, core }) => say(printer, 4, &no_core_line(need, core)),
@@ -69,18 +75,23 @@ fn finish<K: Sink>(answered: Result<Progress, Stop>, made: u64, printer: &mut K)
 }
 
 // Makes the steps of a session, which are at most as many as eight jobs may make, and prints the last line.
-fn run_session<K: Sink, B: Backing>(machine: &mut Machine, printer: &mut K, backing: &mut B) -> u8
+fn run_session<K: Sink, B: Backing>(
+    machine: &mut Machine,
+    exercise: Option<Exercise>,
+    printer: &mut K,
+    backing: &mut B,
+) -> u8
     requires open { IsOpen (B.holds backing.old) machine.old }
     requires sized { B.size backing.old + 1 ≡ length machine.old.sectors.links }
     ensures ran { (known : Option (List (List ℕ))) (s : Session) → Says known (B.holds backing.old) → StandsAt known machine.old s
-        → SessionRan K.taken K.faults (content_after known (B.holds backing.new)) (known ≢ None) (Rose B.faults backing.old backing.new) (B.size backing.old) 800000000
+        → SessionRan K.taken K.faults exercise (content_after known (B.holds backing.new)) (known ≢ None) (Rose B.faults backing.old backing.new) (B.size backing.old) 800000000
         s machine.old machine.new printer.old printer.new result }
     ensures goes_on { IsOpen (B.holds backing.new) machine.new }
     ensures keeps { Keeps machine.old machine.new }
     ensures device { DeviceAfterCalls B.holds B.size B.calls B.faults backing.old backing.new }
 {
     let answered = slice(machine, 800_000_000, backing, printer);
-    finish(answered, machine.tasks.made, printer)
+    finish(answered, exercise, machine.tasks.made, printer)
 }
 
 // What the type of admitted programs says of each.
@@ -92,7 +103,8 @@ fn know_programs(programs: &[Admitted])
     }
 }
 
-/// Opens a deck's session in a core of `core` words over a device, runs it to its end or to its halt, and prints its lines.
+/// Opens a deck's session in a core of `core` words over a device, runs it to its end or to its halt, and prints its lines, and
+/// after all tasks of an exercise have ended its line.
 ///
 /// Status 0 is that all tasks ended, 3 that the halt's count was reached while a task lives. Else the run stops before a
 /// step, or before the first one: 4 if core is too small, 5 if the device has too few sectors, 6 if it failed, 8 if the
@@ -105,6 +117,7 @@ pub fn run_deck<K: Sink, B: Backing>(
     deck: &Deck,
     programs: &[Admitted],
     core: u32,
+    exercise: Option<Exercise>,
     printer: &mut K,
     backing: &mut B,
 ) -> Outcome
@@ -113,7 +126,7 @@ pub fn run_deck<K: Sink, B: Backing>(
     requires core_low { 256 ≤ core }
     requires core_high { core < 2 ^ 20 }
     ensures ends { DeckRunEnds K.taken K.faults (device_of B.holds B.size B.faults backing.old backing.new) core (deck.now, map program_of programs.now)
-        result.machine printer.old printer.new result.status }
+        exercise result.machine printer.old printer.new result.status }
     ensures device { DeviceAfterCalls B.holds B.size B.calls B.faults backing.old backing.new }
 {
     know_programs(programs);
@@ -126,7 +139,7 @@ pub fn run_deck<K: Sink, B: Backing>(
             };
         }
     };
-    let status = run_session(&mut machine, printer, backing);
+    let status = run_session(&mut machine, exercise, printer, backing);
     Outcome {
         status,
         machine: Some(machine),

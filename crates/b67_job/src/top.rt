@@ -1,6 +1,6 @@
 //! The top call.
 
-ghost use Rattle.std.specs.Prelude.{◌≡◌, ◌⊎◌, ◌≤◌, ◌<◌, ◌^◌, ℕ, List, Some, None};
+ghost use Rattle.std.specs.Prelude.{◌≡◌, ◌⊎◌, ◌≤◌, ◌<◌, ◌^◌, ℕ, List, Some, None, false};
 ghost use Rattle.b67_io.specs.Causes.{Stayed};
 ghost use Rattle.b67_task_tables.specs.declared.tables.Machine.{Machine};
 ghost use Rattle.b67_layout_storage.specs.Machine.{DeviceAfterCalls};
@@ -14,16 +14,18 @@ ghost use Rattle.b67_job.specs.Runs.{WasOpened};
 ghost use Rattle.b67_job.specs.Statuses.{StatusMeans};
 ghost use Rattle.b67_job.specs.Command.{command_of};
 ghost use Rattle.b67_job.specs.declared.command.CommandLine.{CommandLine};
-ghost use Rattle.b67_job.specs.Judgement.{asked, judged_status};
-ghost use Rattle.b67_job.specs.Due.{Answered, Serves, RefusalEnds, TextEnds, Writes, IsRun, IsSpared, IsAmple, reading_text};
+ghost use Rattle.b67_job.specs.Judgement.{asked, judged_status, reads};
+ghost use Rattle.b67_job.specs.Due.{Answered, Serves, RefusalEnds, TextEnds, Writes, IsRun, IsSpared, IsAmple, Supplies, ExerciseEnds, reading_text};
 
 use crate::command::{CommandLine, command_of};
 use crate::lines::{refusal_line, say_text};
 use crate::outcome::Outcome;
 use crate::runs::run_deck;
+use crate::summaries::Exercise;
 use b67_backing::Backing;
+use b67_gen::deck_of;
 use b67_io::{Sink, Source};
-use b67_job_admit::{AdmitFault, Refusal, admit, asm_text, check_text, convert_text};
+use b67_job_admit::{AdmitFault, Refusal, admit, asm_text, check_text, convert_text, prepare};
 use b67_session_lines::{line_of, say};
 use b67_word::Bytes;
 use std::alloc::Global;
@@ -73,6 +75,7 @@ fn answer<S: Source, K: Sink, B: Backing>(
 ) -> Outcome
     ensures answered { Answered words.now S.left S.faults deck.old deck.new (device_of B.holds B.size B.faults backing.old backing.new)
         result.machine K.taken K.faults printer.old printer.new result.status }
+    ensures unread { reads (command_of words.now) ≡ false → deck.new ≡ deck.old }
     ensures device { DeviceAfterCalls B.holds B.size B.calls B.faults backing.old backing.new }
 {
     match command_of(words) {
@@ -80,6 +83,9 @@ fn answer<S: Source, K: Sink, B: Backing>(
         Some(CommandLine::Asm) => without_machine(answer_asm(alloc, deck, printer)),
         Some(CommandLine::Check) => without_machine(answer_check(alloc, deck, printer)),
         Some(CommandLine::Convert) => without_machine(answer_convert(alloc, deck, printer)),
+        Some(CommandLine::Exercise { seed, size, core }) => {
+            answer_exercise(alloc, seed, size, core, printer, backing)
+        }
         None => without_machine(say(
             printer,
             1,
@@ -107,6 +113,42 @@ fn answer_run<S: Source, K: Sink, B: Backing>(
             &loaded.deck,
             loaded.programs.as_slice(),
             core,
+            None,
+            printer,
+            backing,
+        ),
+        Err(fault) => without_machine(refuse_program(fault, printer)),
+    }
+}
+
+fn answer_exercise<K: Sink, B: Backing>(
+    alloc: Global,
+    seed: u32,
+    size: u32,
+    core: u32,
+    printer: &mut K,
+    backing: &mut B,
+) -> Outcome
+    requires seed { seed ≤ 2147483647 }
+    requires few { 1 ≤ size }
+    requires many { size ≤ 500 }
+    requires low { 256 ≤ core }
+    requires high { core < 2 ^ 20 }
+    ensures ends { ExerciseEnds seed size core (device_of B.holds B.size B.faults backing.old backing.new)
+        result.machine K.taken K.faults printer.old printer.new result.status }
+    ensures device { DeviceAfterCalls B.holds B.size B.calls B.faults backing.old backing.new }
+{
+    let deck = match deck_of(alloc, seed, size) {
+        Ok(deck) => deck,
+        Err(_) => return refuse_memory(printer),
+    };
+    match prepare(alloc, deck) {
+        Ok(loaded) => run_deck(
+            alloc,
+            &loaded.deck,
+            loaded.programs.as_slice(),
+            core,
+            Some(Exercise { seed, size }),
             printer,
             backing,
         ),
@@ -162,6 +204,8 @@ fn refuse_program<K: Sink>(fault: AdmitFault, printer: &mut K) -> u8
 /// - `check` prints `name ADMITTED s r` for each job of the deck, with its numbers of segments and of data rows.
 /// - `convert` prints the codefile of hexadecimal cards in version 2, with the same segments and rows, as `asm` prints one. The
 ///   file isn't verified.
+/// - `exercise SEED SIZE --core N` reads nothing: it runs the deck that is drawn from SEED for SIZE arrays, and after all its
+///   tasks have ended prints `EXERCISE seed size operators`.
 ///
 /// Status 0 is that all is done, 1 the usage, 2 a refused deck, 3 a run that halted, 4 a core that is too small, 5 a backing
 /// that is full, 6 a backing that failed, 7 a source that failed, 8 a printer that failed, 9 out of memory. The machine is
@@ -194,11 +238,14 @@ pub fn run<S: Source, K: Sink, B: Backing>(
     ensures opened { (k : Machine) → result.machine ≡ Some k → (core : ℕ) × (p : Prepared) × IsRun words.now S.left deck.old deck.new core p
         × WasOpened (device_of B.holds B.size B.faults backing.old backing.new) core p k }
 
+    // A command that reads no text, and words that are no command, leave the source as it was.
+    ensures unread { reads (command_of words.now) ≡ false → deck.new ≡ deck.old }
+
     // If no count rises, core and device suffice and the device tells what its sectors hold, the command and the deck decide,
     // or memory was refused.
-    ensures complete { (command : CommandLine) → (bytes : List ℕ) → S.left deck.old ≡ Some bytes → command_of words.now ≡ Some command
-        → IsAmple (device_of B.holds B.size B.faults backing.old backing.new) command bytes
-        → Stayed S.faults deck.old deck.new → Stayed K.faults printer.old printer.new → Stayed B.faults backing.old backing.new
+    ensures complete { (command : CommandLine) → (bytes : List ℕ) → command_of words.now ≡ Some command
+        → Supplies command S.left S.faults deck.old deck.new bytes → IsAmple (device_of B.holds B.size B.faults backing.old backing.new) command bytes
+        → Stayed K.faults printer.old printer.new → Stayed B.faults backing.old backing.new
         → (result.status ≡ judged_status (asked command bytes)) ⊎ (result.status ≡ 9) }
 {
     answer(alloc, words, deck, printer, backing)

@@ -96,9 +96,14 @@ prepared jobs = do
 abbrev pub Prepared : Type 0
 Prepared = Deck × List Program
 
+-- a deck with its programs, or the first refusal of these
+abbrev pub with_programs : Deck → Answer Prepared
+with_programs d = do
+  ps ← prepared d.jobs
+  Ok (d, ps)
+
 -- the deck of a text, with its programs, or the first refusal of all
 unfoldable pub deck_prepared : List ℕ → Answer Prepared
 deck_prepared text = do
   d ← of_deck (deck_of text)
-  ps ← prepared d.jobs
-  Ok (d, ps)
+  with_programs d

@@ -5,8 +5,8 @@ ghost use Rattle.std.specs.List.{AllByRecursion};
 ghost use Rattle.b67_codefile.specs.Spelling.{IsWithin};
 ghost use Rattle.b67_codefile.specs.Meaning as meaning;
 ghost use Rattle.b67_codefile.specs.Reading.{file_of};
-ghost use Rattle.b67_job_admit.specs.Admitting.{codefile_in, program_in, programs, by_rules, first_refusal, admitted, prepared};
-ghost use Rattle.b67_job_admit.specs.Meets.{Meets, IsLoaded, of_deck_fault};
+ghost use Rattle.b67_job_admit.specs.Admitting.{codefile_in, program_in, programs, by_rules, first_refusal, admitted, prepared, with_programs};
+ghost use Rattle.b67_job_admit.specs.Meets.{Meets, IsLoaded, prepared_of, of_deck_fault};
 
 use crate::fault::AdmitFault;
 use crate::programs::{Loaded, Programs};
@@ -16,7 +16,7 @@ use b67_card::{DeckFault, read_deck};
 use b67_codefile::{BadFile, Codefile, read};
 use b67_io::Source;
 use b67_load_verify::{Admitted, LoadFault, verify};
-use b67_model_text::{Body, Cards, Job};
+use b67_model_text::{Body, Cards, Deck, Job};
 use std::alloc::Global;
 use std::collections::VecDeque;
 
@@ -168,6 +168,17 @@ pub fn deck_fault(fault: DeckFault) -> AdmitFault
     }
 }
 
+/// Loads the programs of a deck: each job's cards are assembled or its bytes read, in job order, and then each program is
+/// admitted, in job order. The answer is the first refusal of all.
+pub fn prepare(alloc: Global, deck: Deck) -> Result<Loaded, AdmitFault>
+    ensures { Meets prepared_of result (with_programs deck) }
+{
+    match programs_of(alloc, deck.jobs.as_slice()) {
+        Ok(programs) => Ok(Loaded { deck, programs }),
+        Err(fault) => Err(fault),
+    }
+}
+
 /// Reads a deck to its end, and loads its programs: each job's cards are assembled or its bytes read, in job order, and
 /// then each program is admitted, in job order. The answer is the first refusal of all.
 pub fn admit<S: Source>(alloc: Global, source: &mut S) -> Result<Loaded, AdmitFault>
@@ -175,11 +186,7 @@ pub fn admit<S: Source>(alloc: Global, source: &mut S) -> Result<Loaded, AdmitFa
     ensures later { S.faults source.old ≤ S.faults source.new }
 {
     match read_deck(alloc, source) {
-        Ok(deck) => match programs_of(alloc, deck.jobs.as_slice()) {
-            Ok(programs) => Ok(Loaded { deck, programs }),
-            Err(AdmitFault::Refused(refusal)) => Err(AdmitFault::Refused(refusal)),
-            Err(_) => Err(AdmitFault::Memory),
-        },
+        Ok(deck) => prepare(alloc, deck),
         Err(fault) => Err(deck_fault(fault)),
     }
 }

@@ -11,7 +11,7 @@ mod programs;
 mod put;
 mod refusal;
 
-pub use admission::{admit, file_of};
+pub use admission::{admit, file_of, prepare};
 pub use asm::asm_text;
 pub use check::check_text;
 pub use convert::convert_text;

@@ -12,5 +12,5 @@ pub returns-clause-opened : goal.returns-clause-opened
 returns-clause-opened g c = is_opened g.K.Sink.taken g.K.Sink.faults c.args.printer.now c.answer.new.printer c.answer.result.status c.answer.ensures.answered
 
 pub returns-clause-complete : goal.returns-clause-complete
-returns-clause-complete g c = λ command bytes e is ample stayed calm worked.
-    completed g.K.Sink.taken g.K.Sink.faults c.args.printer.now c.answer.new.printer c.answer.result.status command bytes e is ample stayed calm worked c.answer.ensures.answered
+returns-clause-complete g c = λ command bytes is supplies ample calm worked.
+    completed g.K.Sink.taken g.K.Sink.faults c.args.printer.now c.answer.new.printer c.answer.result.status command bytes is supplies ample calm worked c.answer.ensures.answered

@@ -1,0 +1,12 @@
+//! The deck of an exercise, drawn from a seed.
+#![tactic(auto)]
+
+mod deck;
+mod draws;
+mod laws;
+mod stores;
+mod text;
+
+pub use deck::deck_of;
+pub use laws::seed_one;
+pub use stores::Store;
