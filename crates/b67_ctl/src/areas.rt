@@ -49,6 +49,18 @@ impl AreaHead {
         }
     }
 
+    /// What the word of a head holds. The word is one: nothing is tested.
+    #[inline(always)]
+    pub fn read(w: Word) -> AreaHead
+        ensures { (h : AreaHead) → IsAreaHead h → w ≡ area_head_word h → result ≡ h }
+    {
+        AreaHead {
+            kind: w.part(46, 2) as u8,
+            words: w.part(20, 20) as u32,
+            owner: w.part(0, 20) as u32,
+        }
+    }
+
     /// What a head holds. None if the word is off its layout.
     pub fn from_word(w: Word) -> Option<AreaHead>
         ensures some { IfSome result (λ h. IsAreaHead h × (w ≡ area_head_word h)) }

@@ -1,6 +1,6 @@
 //! Descriptors of arrays and of segments.
 
-ghost use Rattle.std.specs.Prelude.{◌≡◌, ◌↔◌, ◌+◌, ◌*◌, ◌^◌, ◌<◌, IsSome, IfSome, IsTrue, false};
+ghost use Rattle.std.specs.Prelude.{◌≡◌, ◌≢◌, ◌↔◌, ◌+◌, ◌*◌, ◌^◌, ◌<◌, IsSome, IfSome, IsTrue, not, false};
 ghost use Rattle.b67_ctl.specs.Descriptors.{data_word, IsDataDesc, seg_word, IsSegDesc};
 ghost use Rattle.b67_ctl.specs.declared.descriptors.DataDesc.{DataDesc};
 ghost use Rattle.b67_ctl.specs.declared.descriptors.SegDesc.{SegDesc};
@@ -73,6 +73,30 @@ impl DataDesc {
         }
     }
 
+    /// What the word of a descriptor holds. The word is one: nothing is tested.
+    #[inline(always)]
+    pub fn read(w: Word) -> DataDesc
+        ensures { (d : DataDesc) → IsDataDesc d → w ≡ data_word d → result ≡ d }
+    {
+        DataDesc {
+            present: w.part(47, 1) == 1,
+            copy: w.part(46, 1) == 1,
+            indexed: w.part(45, 1) == 1,
+            read_only: w.part(43, 1) == 1,
+            length: w.part(20, 20) as u32,
+            address: w.part(0, 20) as u32,
+        }
+    }
+
+    /// Whether a word is that of an original, which is never moved or copied.
+    #[inline(always)]
+    pub fn is_original(w: Word) -> bool
+        ensures known { (d : DataDesc) → IsDataDesc d → w ≡ data_word d → result ≡ not d.copy }
+        ensures other { w.tag ≢ 5 → result ≡ false }
+    {
+        w.tag() == 5 && w.part(46, 1) == 0
+    }
+
     /// What a descriptor holds. None if the word is off its layout.
     pub fn from_word(w: Word) -> Option<DataDesc>
         ensures some { IfSome result (λ d. IsDataDesc d × (w ≡ data_word d)) }
@@ -117,6 +141,18 @@ impl SegDesc {
             Some(self.word())
         } else {
             None
+        }
+    }
+
+    /// What the word of a descriptor holds. The word is one: nothing is tested.
+    #[inline(always)]
+    pub fn read(w: Word) -> SegDesc
+        ensures { (d : SegDesc) → IsSegDesc d → w ≡ seg_word d → result ≡ d }
+    {
+        SegDesc {
+            present: w.part(47, 1) == 1,
+            words: w.part(20, 20) as u32,
+            address: w.part(0, 20) as u32,
         }
     }
 

@@ -73,6 +73,22 @@ impl Mscw {
         }
     }
 
+    /// What the word of a mark holds. The word is one: nothing is tested.
+    #[inline(always)]
+    pub fn read(w: Word) -> Mscw
+        ensures { (m : Mscw) → IsMscw m → w ≡ mscw_word m → result ≡ m }
+    {
+        Mscw {
+            far: w.part(47, 1) == 1,
+            entered: w.part(46, 1) == 1,
+            env_stack: w.part(36, 10) as u16,
+            env_disp: w.part(20, 16) as u16,
+            value: w.part(19, 1) == 1,
+            level: w.part(14, 5) as u8,
+            back: w.part(0, 14) as u16,
+        }
+    }
+
     /// What a mark holds. None if the word is off its layout.
     pub fn from_word(w: Word) -> Option<Mscw>
         ensures some { IfSome result (λ m. IsMscw m × (w ≡ mscw_word m)) }
@@ -123,6 +139,21 @@ impl Rcw {
             Some(self.word())
         } else {
             None
+        }
+    }
+
+    /// What the word of a return holds. The word is one: nothing is tested.
+    #[inline(always)]
+    pub fn read(w: Word) -> Rcw
+        ensures { (r : Rcw) → IsRcw r → w ≡ rcw_word r → result ≡ r }
+    {
+        Rcw {
+            place: Place {
+                word: w.part(20, 13) as u16,
+                syllable: w.part(33, 3) as u8,
+            },
+            level: w.part(14, 5) as u8,
+            segment: w.part(0, 14) as u16,
         }
     }
 

@@ -62,6 +62,21 @@ impl Pcw {
         }
     }
 
+    /// What the word of a procedure holds. The word is one: nothing is tested.
+    #[inline(always)]
+    pub fn read(w: Word) -> Pcw
+        ensures { (p : Pcw) → IsPcw p → w ≡ pcw_word p → result ≡ p }
+    {
+        Pcw {
+            place: Place {
+                word: w.part(20, 13) as u16,
+                syllable: w.part(33, 3) as u8,
+            },
+            level: w.part(14, 5) as u8,
+            segment: w.part(0, 14) as u16,
+        }
+    }
+
     /// What a procedure holds. None if the word is off its layout.
     pub fn from_word(w: Word) -> Option<Pcw>
         ensures some { IfSome result (λ p. IsPcw p × (w ≡ pcw_word p)) }

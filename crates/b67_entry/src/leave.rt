@@ -30,16 +30,14 @@ pub fn caller(cpu: &Cpu, mark: Mscw) -> Regs
     ensures { (a : MayReturn cpu.now) → mark ≡ top_mark_of cpu.now.regs.slot (a.top ∷ a.below)
         → result ≡ caller_regs cpu.now.regs a.below a.back }
 {
-    match Rcw::from_word(cpu.core.get(cpu.regs.f + 1)) {
-        Some(word) => Regs {
-            s: cpu.regs.f - 1,
-            f: cpu.regs.f - u32::from(mark.back),
-            level: word.level,
-            segment: word.segment,
-            place: word.place,
-            ..cpu.regs
-        },
-        None => unreachable!(),
+    let word = Rcw::read(cpu.core.get(cpu.regs.f + 1));
+    Regs {
+        s: cpu.regs.f - 1,
+        f: cpu.regs.f - u32::from(mark.back),
+        level: word.level,
+        segment: word.segment,
+        place: word.place,
+        ..cpu.regs
     }
 }
 

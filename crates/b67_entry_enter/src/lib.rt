@@ -43,10 +43,7 @@ fn procedure_at(core: &Core, at: u32) -> Pcw
     requires { (p : Pcw) × IsPcw p × (slice_get core.now at ≡ Some (pcw_word p)) }
     ensures { (p : Pcw) → IsPcw p → slice_get core.now at ≡ Some (pcw_word p) → result ≡ p }
 {
-    match Pcw::from_word(core.get(at)) {
-        Some(p) => p,
-        None => unreachable!(),
-    }
+    Pcw::read(core.get(at))
 }
 
 /// The mark of an activation record that is entered at a level in an environment.

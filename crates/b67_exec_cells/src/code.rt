@@ -17,10 +17,7 @@ pub fn descriptor(cpu: &Cpu) -> SegDesc
     ensures { ForEach cpu.now (λ x plan s m t. result ≡ code_desc x plan m t) }
 {
     let at = cpu.regs.dict + u32::from(cpu.regs.segment);
-    match SegDesc::from_word(cpu.core.get(at)) {
-        Some(desc) => desc,
-        None => unreachable!(),
-    }
+    SegDesc::read(cpu.core.get(at))
 }
 
 /// The operator at the running place and the place after it, or why there is none. None exactly if the running

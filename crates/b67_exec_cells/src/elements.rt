@@ -11,17 +11,16 @@ use b67_stack::Cpu;
 use b67_word::Word;
 
 /// The descriptor in the original of an array of the running job.
+#[inline(always)]
 pub fn array_descriptor(cpu: &Cpu, original: u32) -> DataDesc
     requires { (index : ℕ) × HoldsElement cpu.now original index }
     ensures { ForEach cpu.now (λ x plan s m t. (n index : ℕ) → original ≡ plan.home m.constants.number n → HasElement m.progress.job n index → result ≡ original_desc x plan m n) }
 {
-    match DataDesc::from_word(cpu.core.get(original)) {
-        Some(desc) => desc,
-        None => unreachable!(),
-    }
+    DataDesc::read(cpu.core.get(original))
 }
 
 /// The word of an element of an array of the running job. None exactly if the array is absent.
+#[inline(always)]
 pub fn element(cpu: &Cpu, original: u32, index: u32) -> Option<Word>
     requires { HoldsElement cpu.now original index }
     ensures { ForEach cpu.now (λ x plan s m t. (n : ℕ) → original ≡ plan.home m.constants.number n → HasElement m.progress.job n index → GivesElement x plan m n index result) }

@@ -20,10 +20,7 @@ use b67_word::{Fault, Place, Word};
 fn is_original(w: Word) -> bool
     ensures { (x : Storage) (plan : Placement) (m : SessionJob) (t : Task) (v : words.Word) (at : ℕ) → IsWordOf x plan m t v at w → result ≡ is_original_word v }
 {
-    match DataDesc::from_word(w) {
-        Some(desc) => !desc.copy,
-        None => false,
-    }
+    DataDesc::is_original(w)
 }
 
 /// Takes the top cell off, and goes on at `next`. STACK UNDERFLOW, INVALID OPERAND at an original.

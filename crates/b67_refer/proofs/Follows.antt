@@ -83,8 +83,8 @@ module _ (core : List Tagged) (r : Regs) (a : LiveContext core r) where
   item_named at owner v d original (row b e c i h o) fits z is = absurd (false≢true (sym i ∙ z))
   item_named at owner v d original (item b x e c i k h o) fits z is = (b, is (a.plan.home a.member.constants.number b) h, o)
 
-  pub word_described : (at owner : ℕ) (w : Tagged) (v : Word) (o : Option DataDesc) (d : DataDesc) → StandsFor a at owner w v → w.tag ≡ 5 → ((x : DataDesc) → IsDataDesc x → w ≡ data_word x → o ≡ Some x) → o ≡ Some d → Described core r a at owner v d × IsDataDesc d
-  word_described at owner w v o d s t known e =
+  pub word_described : (at owner : ℕ) (w : Tagged) (v : Word) (d : DataDesc) → StandsFor a at owner w v → w.tag ≡ 5 → ((x : DataDesc) → IsDataDesc x → w ≡ data_word x → d ≡ x) → Described core r a at owner v d × IsDataDesc d
+  word_described at owner w v d s t known =
       let k = described core r a at owner w v s t in
-      let same : k.0 ≡ d = same_Some _ _ (sym (known k.0 k.1 k.2) ∙ e) in
+      let same : k.0 ≡ d = sym (known k.0 k.1 k.2) in
       (subst (Described core r a at owner v) same k.3, subst IsDataDesc same k.1)

@@ -115,8 +115,8 @@ module _ (core : List Tagged) (r : Regs) (a : LiveContext core r) where
       let P : Tagged → Type 0 = λ x. StandsFor a at f x w in
       described at f v w (subst P is c.stands) tag
 
-  pub read_described : (q : Place) (at f offset : ℕ) (w : Word) (v : Tagged) (o : Option DataDesc) (d : DataDesc) → IsCellAt a q at f offset w → HasTag core at 5 → slice_get core at ≡ Some v
-      → ((x : DataDesc) → IsDataDesc x → v ≡ data_word x → o ≡ Some x) → o ≡ Some d → Described at f w d
-  read_described q at f offset w v o d c t there known e =
+  pub read_described : (q : Place) (at f offset : ℕ) (w : Word) (v : Tagged) (d : DataDesc) → IsCellAt a q at f offset w → HasTag core at 5 → slice_get core at ≡ Some v
+      → ((x : DataDesc) → IsDataDesc x → v ≡ data_word x → d ≡ x) → Described at f w d
+  read_described q at f offset w v d c t there known =
       let k = cell_described q at f offset w v c t there in
-      subst (Described at f w) (same_Some _ _ (sym (known k.0 k.1 k.2) ∙ e)) k.3
+      subst (Described at f w) (sym (known k.0 k.1 k.2)) k.3

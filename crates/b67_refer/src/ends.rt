@@ -36,10 +36,7 @@ pub fn owner(core: &Core, copy: DataDesc) -> u32
     if !copy.present {
         return copy.address;
     }
-    match AreaHead::from_word(core.get(copy.address - 1)) {
-        Some(head) => head.owner,
-        None => unreachable!(),
-    }
+    AreaHead::read(core.get(copy.address - 1)).owner
 }
 
 /// The element of an array at an index. INVALID INDEX if the array, as it is now, is no longer than the index.
@@ -48,10 +45,7 @@ fn element_at(core: &Core, regs: &Regs, original: u32, index: u32) -> Result<End
     ensures { (a : LiveContext core.now regs.now) (q : Place) (n : ℕ) → original ≡ a.plan.home a.member.constants.number n
         → NamesArray a.member.progress.job.arrays (reach a) n → EndMeets a q result (element_end (here a.member a.runner q) n index) }
 {
-    let d = match DataDesc::from_word(core.get(original)) {
-        Some(d) => d,
-        None => unreachable!(),
-    };
+    let d = DataDesc::read(core.get(original));
     if index >= d.length {
         return Err(Fault::InvalidIndex);
     }
@@ -64,10 +58,7 @@ fn array_end(core: &Core, regs: &Regs, at: u32) -> Result<Option<End>, Fault>
     ensures { (a : LiveContext core.now regs.now) (q : Place) (f offset : ℕ) (w : Words.Word) → IsCellAt a q at f offset w → HasTag core.now at 5
         → LinkMeets a q result (link_at (here a.member a.runner q) f offset w) }
 {
-    let d = match DataDesc::from_word(core.get(at)) {
-        Some(d) => d,
-        None => unreachable!(),
-    };
+    let d = DataDesc::read(core.get(at));
     if !d.copy {
         return Ok(Some(End::Array(at)));
     }
@@ -163,10 +154,7 @@ pub fn chase(core: &Core, regs: &Regs, display: &[u32; 32], w: Word) -> Result<E
     if w.tag() != 5 {
         return Err(Fault::InvalidOperand);
     }
-    let d = match DataDesc::from_word(w) {
-        Some(d) => d,
-        None => unreachable!(),
-    };
+    let d = DataDesc::read(w);
     if !d.indexed {
         return Err(Fault::InvalidOperand);
     }

@@ -13,14 +13,12 @@ use b67_core::Core;
 use b67_ctl::{Mscw, Regs};
 
 /// The mark at an address.
+#[inline(always)]
 pub(crate) fn mark_at(core: &Core, at: u32) -> Mscw
     requires { (m : Mscw) × IsMscw m × (slice_get core.now at ≡ Some (mscw_word m)) }
     ensures { (m : Mscw) → IsMscw m → slice_get core.now at ≡ Some (mscw_word m) → result ≡ m }
 {
-    match Mscw::from_word(core.get(at)) {
-        Some(m) => m,
-        None => unreachable!(),
-    }
+    Mscw::read(core.get(at))
 }
 
 /// The core address of a stack's base word: a slot's, the running job's dictionary's or the MCP's.

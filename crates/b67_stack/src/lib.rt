@@ -51,18 +51,17 @@ pub struct StackUnderflow {}
 
 impl Cpu {
     /// The mark of the top activation record.
+    #[inline(always)]
     pub fn top_mark(&self) -> Mscw
         requires { Runs self.now }
         ensures { (x : Storage) (p : MachineView) (stack : List Activation) → Represents x self.now.core self.now.regs p
             → RunsOn p self.now.regs.slot stack → result ≡ top_mark_of self.now.regs.slot stack }
     {
-        match Mscw::from_word(self.core.get(self.regs.f)) {
-            Some(m) => m,
-            None => unreachable!(),
-        }
+        Mscw::read(self.core.get(self.regs.f))
     }
 
     /// Whether the top activation record is entered.
+    #[inline(always)]
     pub fn is_top_entered(&self) -> bool
         requires { Runs self.now }
         ensures { (x : Storage) (p : MachineView) (stack : List Activation) → Represents x self.now.core self.now.regs p
@@ -80,10 +79,7 @@ impl Cpu {
         if !self.top_mark().entered {
             return self.regs.level;
         }
-        match Rcw::from_word(self.core.get(self.regs.f + 1)) {
-            Some(r) => r.level,
-            None => unreachable!(),
-        }
+        Rcw::read(self.core.get(self.regs.f + 1)).level
     }
 
     /// Puts a word on the stack, where there is room.

@@ -38,6 +38,13 @@ first_is code at w in_word inside is =
     let bits : get_or (contents code) at.word 0 ≡ w.bits = get_or-map (λ (v : Tagged). v.bits) code at.word w 0 inside ∙ ap (λ (v : Tagged). v.bits) (sym is) in
     rw (word, rest, bits, weight (5 - at.syllable)) refl
 
+-- the word after that in which a place is
+pub next_is : (code : List Tagged) (at : Place) (w : Tagged) → at.syllable < 6 → at.word + 1 < length code → w ≡ get_or code (at.word + 1) w → w.bits ≡ slice_index (contents code) (count_at at / 6 + 1)
+next_is code at w in_word inside is =
+    let word : (6 * at.word + at.syllable) / 6 + 1 ≡ at.word + 1 = omega arith in
+    let bits : get_or (contents code) (at.word + 1) 0 ≡ w.bits = get_or-map (λ (v : Tagged). v.bits) code (at.word + 1) w 0 inside ∙ ap (λ (v : Tagged). v.bits) (sym is) in
+    rw word (sym bits)
+
 reads_is : (code : List ℕ) (n : ℕ) (f : Form) → reads code n (Some f) ≡ ends_at code (end_of n f) (operator_of code n f)
 reads_is code n (Alone op) = refl
 reads_is code n (OneMore op) = refl
@@ -58,6 +65,10 @@ pub record Begins (code : List Tagged) (at : Place) (n : ℕ) (kind : Kind) : Ty
   pub first : ℕ
   pub first_is : first ≡ syllable (contents code) n
   pub form_is : form_of first ≡ Some (form kind)
+
+pub begins : (code : List Tagged) (at : Place) (n : ℕ) (kind : Kind) → at.syllable < 6 → at.word < length code → n ≡ count_at at
+    → form_of (syllable (contents code) (count_at at)) ≡ Some (form kind) → Begins code at n kind
+begins code at n kind in_word word is first = record { in_word = in_word; inside = omega arith; count = is; first = _; first_is = refl; form_is = rw is first }
 
 found : (code : List Tagged) (at : Place) (n : ℕ) (kind : Kind) → Begins code at n kind → operator_at (contents code) at ≡ ends_at (contents code) (end_of n (form kind)) (operator_of (contents code) n (form kind))
 found code at n kind b =
@@ -81,12 +92,39 @@ ends code at n kind b end op place end_is op_is place_is within below =
     let test : nat_le end (6 * length (contents code)) ≡ true = rw (length-map code (λ (v : Tagged). v.bits)) (grind (arith, nat_tests)) in
     rw (found code at n kind b, ← end_is, test, before_last (operator_of (contents code) n (form kind)) end below, place_is, op_is) refl
 
+-- the same with the place after it, for an operator after which there is one
+pub near_ends : (code : List Tagged) (at : Place) (kind : Kind) → Begins code at (count_at at) kind → (op : Op) (place : Place) →
+    op ≡ operator_of (contents code) (count_at at) (form kind) → place ≡ place_at (end_of (count_at at) (form kind)) → place.word < 2 ^ 16 → count_at place ≤ 6 * length code →
+    ◌≡◌ {A = Reading} (Ok (op, place)) (placed (operator_at (contents code) at))
+near_ends code at kind b op place op_is place_is small within =
+    let end = end_of (count_at at) (form kind) in
+    let word : place.word ≡ end / 6 = ap (λ (p : Place). p.word) place_is in
+    let syllable : place.syllable ≡ end % 6 = ap (λ (p : Place). p.syllable) place_is in
+    ends code at (count_at at) kind b end op place refl op_is place_is (omega (arith, word, syllable, within)) (omega (arith, word, syllable, small))
+
+-- how many syllables lie before the place after an operator
+pub near_count : (at : Place) (kind : Kind) (place : Place) → place ≡ place_at (end_of (count_at at) (form kind)) → count_at place ≡ end_of (count_at at) (form kind)
+near_count at kind place place_is =
+    let end = end_of (count_at at) (form kind) in
+    let word : place.word ≡ end / 6 = ap (λ (p : Place). p.word) place_is in
+    let syllable : place.syllable ≡ end % 6 = ap (λ (p : Place). p.syllable) place_is in
+    omega (arith, word, syllable)
+
 pub past_end : (code : List Tagged) (at : Place) (n : ℕ) (kind : Kind) → Begins code at n kind → (end : ℕ) →
     end ≡ end_of n (form kind) → 6 * length code < end →
     ◌≡◌ {A = Reading} (Err PastEnd) (placed (operator_at (contents code) at))
 past_end code at n kind b end end_is past =
     let test : nat_le end (6 * length (contents code)) ≡ false = rw (length-map code (λ (v : Tagged). v.bits)) (grind (arith, nat_tests)) in
     rw (found code at n kind b, ← end_is, test) refl
+
+pub near_past : (code : List Tagged) (at : Place) (kind : Kind) → Begins code at (count_at at) kind → (place : Place) →
+    place ≡ place_at (end_of (count_at at) (form kind)) → 6 * length code < count_at place →
+    ◌≡◌ {A = Reading} (Err PastEnd) (placed (operator_at (contents code) at))
+near_past code at kind b place place_is past =
+    let end = end_of (count_at at) (form kind) in
+    let word : place.word ≡ end / 6 = ap (λ (p : Place). p.word) place_is in
+    let syllable : place.syllable ≡ end % 6 = ap (λ (p : Place). p.syllable) place_is in
+    past_end code at (count_at at) kind b end refl (omega (arith, word, syllable, past))
 
 pub past_places : (code : List Tagged) (at : Place) (n : ℕ) (kind : Kind) → Begins code at n kind → (end : ℕ) →
     end ≡ end_of n (form kind) → end ≤ 6 * length code → 6 * 2 ^ 16 ≤ end →

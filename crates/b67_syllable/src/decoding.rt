@@ -1,6 +1,6 @@
 //! The operator at a place of code.
 
-ghost use Rattle.std.specs.Prelude.{◌≡◌, ◌+◌, ◌*◌, ◌/◌, ◌<◌, ◌≤◌, ◌^◌, length, Some};
+ghost use Rattle.std.specs.Prelude.{◌≡◌, ◌+◌, ◌*◌, ◌/◌, ◌<◌, ◌≤◌, ◌^◌, ℕ, length, Some};
 ghost use Rattle.b67_word.specs.Tagged.{contents};
 ghost use Rattle.b67_model.specs.Operators.{syllable, form_of, operator_at, place_at, count_at};
 ghost use Rattle.b67_syllable.specs.Kinds.{form, end_of, operator_of, target_of};
@@ -136,6 +136,102 @@ fn place_of(n: usize) -> Place
     }
 }
 
+/// How many syllables an operator of this kind has, 0 if its literal fills the next word.
+#[inline(always)]
+fn syllables_of(kind: Kind) -> u8
+    ensures few { result ≤ 3 }
+    ensures literal { (n : ℕ) → result ≡ 0 → end_of n (form kind) ≡ 6 * (n / 6 + 2) }
+    ensures plain { (n : ℕ) → 0 < result → end_of n (form kind) ≡ n + result }
+{
+    match kind {
+        Kind::Lone(_) => 1,
+        Kind::ValueCall(_) | Kind::NameCall(_) | Kind::Literal8 | Kind::SetBit | Kind::ResetBit => {
+            2
+        }
+        Kind::Literal16
+        | Kind::Isolate
+        | Kind::Insert
+        | Kind::BranchFalse
+        | Kind::BranchTrue
+        | Kind::Branch => 3,
+        Kind::Literal48 | Kind::MakePcw => 0,
+    }
+}
+
+/// The place after an operator of this kind at a place.
+#[inline(always)]
+fn end_behind(at: Place, kind: Kind) -> Place
+    requires in_word { at.syllable < 6 }
+    requires word { at.word + 2 < 2 ^ 16 }
+    ensures value { result ≡ place_at (end_of (count_at at) (form kind)) }
+    ensures small { result.word < 2 ^ 16 }
+{
+    let more = syllables_of(kind);
+    if more == 0 {
+        return Place {
+            word: at.word + 2,
+            syllable: 0,
+        };
+    }
+    let syllable = at.syllable + more;
+    if syllable < 6 {
+        Place {
+            word: at.word,
+            syllable,
+        }
+    } else {
+        Place {
+            word: at.word + 1,
+            syllable: syllable - 6,
+        }
+    }
+}
+
+/// The operator of this kind at a place of code, which ends within it.
+#[inline(always)]
+fn operator_behind(code: &[Word], at: Place, kind: Kind) -> Op
+    requires in_word { at.syllable < 6 }
+    requires word { at.word + 2 < 2 ^ 16 }
+    requires within { end_of (count_at at) (form kind) ≤ 6 * length code.now }
+    ensures { result ≡ operator_of (contents code.now) (count_at at) (form kind) }
+{
+    let second = place_behind(at);
+    let third = place_behind(second);
+    match kind {
+        Kind::Lone(operator) => Op::Plain(operator),
+        Kind::ValueCall(high) => Op::Valc(both(high, first_at(code, second))),
+        Kind::NameCall(high) => Op::Namc(both(high, first_at(code, second))),
+        Kind::Literal8 => Op::Lt8(first_at(code, second)),
+        Kind::SetBit => Op::Bset(first_at(code, second)),
+        Kind::ResetBit => Op::Brst(first_at(code, second)),
+        Kind::Literal16 => Op::Lt16(both(first_at(code, second), first_at(code, third))),
+        Kind::Isolate => Op::Isol(first_at(code, second), first_at(code, third)),
+        Kind::Insert => Op::Insr(first_at(code, second), first_at(code, third)),
+        Kind::BranchFalse => Op::Brfl(target(first_at(code, second), first_at(code, third))),
+        Kind::BranchTrue => Op::Brtr(target(first_at(code, second), first_at(code, third))),
+        Kind::Branch => Op::Brun(target(first_at(code, second), first_at(code, third))),
+        Kind::Literal48 => Op::Lt48(code[at.word as usize + 1].bits()),
+        Kind::MakePcw => Op::Mpcw(code[at.word as usize + 1].bits()),
+    }
+}
+
+/// As `operator_of_kind`, but by words and syllables: after each operator that may begin here there is a place.
+#[inline(always)]
+fn operator_near(code: &[Word], at: Place, kind: Kind) -> Result<(Op, Place), Undecodable>
+    requires in_word { at.syllable < 6 }
+    requires word { at.word < length code.now }
+    requires small { at.word + 2 < 2 ^ 16 }
+    requires begins { form_of (syllable (contents code.now) (count_at at)) ≡ Some (form kind) }
+    ensures { result ≡ placed (operator_at (contents code.now) at) }
+{
+    let end = end_behind(at, kind);
+    if count_of(end) <= 6 * code.len() {
+        Ok((operator_behind(code, at, kind), end))
+    } else {
+        Err(Undecodable::PastEnd)
+    }
+}
+
 /// The operator at a place inside code where one of this kind begins.
 #[inline(always)]
 fn operator_of_kind(code: &[Word], at: Place, kind: Kind) -> Result<(Op, Place), Undecodable>
@@ -169,6 +265,7 @@ pub fn decode(code: &[Word], at: Place) -> Result<(Op, Place), Undecodable>
     };
     match kind {
         Kind::Lone(operator) if at.word < 0xffff => Ok((Op::Plain(operator), place_behind(at))),
+        _ if at.word < 0xfffe => operator_near(code, at, kind),
         _ => operator_of_kind(code, at, kind),
     }
 }

@@ -64,6 +64,10 @@ copy_none w d fits is copy o =
     let same = same_desc d o.desc fits o.fits (sym is ∙ o.is) in
     false≢true (sym copy ∙ ap not (same.copy ∙ o.own))
 
+-- nor is one with another tag
+pub tag_none : (w : Tagged) → w.tag ≢ 5 → IsOriginal w → ⊥
+tag_none w off o = off (ap (λ (z : Tagged). z.tag) o.is)
+
 -- nor is a word off a descriptor's layout
 pub other_none : (w : Tagged) (r : Option DataDesc) → ((d : DataDesc) → IsDataDesc d → w ≡ data_word d → r ≡ Some d) → r ≡ None → IsOriginal w → ⊥
 other_none w r known none o = none-some o.desc (sym none ∙ known o.desc o.fits o.is)

@@ -14,6 +14,7 @@ use b67_ctl::DataDesc;
 use b67_stack::Cpu;
 
 /// Gives back the array whose original is the word at an address, if that word is an original.
+#[inline(always)]
 fn release_word(cpu: &mut Cpu, areas: &mut Areas, sectors: &mut Sectors, at: u32)
     requires left { (x : Storage) × (told : Option (List (List ℕ))) × (p : MachineView) × (left : List PagedObject) × (upto : ℕ)
         × MachineRepresentsView x cpu.old areas.old sectors.old told (with_objects left p) × AreLeft p cpu.old.core at upto left × (at < upto) }
@@ -27,7 +28,11 @@ fn release_word(cpu: &mut Cpu, areas: &mut Areas, sectors: &mut Sectors, at: u32
         → (y : Storage) × (rest : List PagedObject) × MachineRepresentsView y cpu.new areas.new sectors.new told (with_objects rest p)
         × Remains (λ home. (home ≡ at) × HasHome left home) x y p cpu.old.core cpu.new.core (at + 1) upto left rest }
 {
-    match DataDesc::from_word(cpu.core.get(at)) {
+    let word = cpu.core.get(at);
+    if word.tag() != 5 {
+        return;
+    }
+    match DataDesc::from_word(word) {
         Some(original) => {
             if !original.copy {
                 release_original(cpu, areas, sectors, original);

@@ -1,6 +1,6 @@
 use Rattle.std.proofs.Common.{◌+◌, ap, arith, sym, ◌∙◌}
 use Rattle.std.specs.List.{slice_get}
-use Rattle.std.proofs.lemmas.Option.{same_Some, none-some}
+use Rattle.std.proofs.lemmas.Option.{same_Some}
 use Rattle.b67_exec_cells.specs.Running.{code_desc}
 use Rattle.b67_exec_cells.proofs.Codes.{word-is, at-small, bound, desc-fits}
 use Rattle.b67_exec_cells.proofs.code.descriptor.Goals as goal
@@ -18,15 +18,8 @@ get-requires c =
     let i = at-small q.storage c.args.cpu.now q.plan q.session q.member q.task q.ordered q.stands q.running in
     omega (arith, i, c.from.ensures)
 
-pub unreachable-requires : goal.unreachable-requires
-unreachable-requires c =
-    let q = c.requires in
-    let cpu = c.args.cpu.now in
-    let w = word-is q.storage cpu q.plan q.session q.member q.task q.ordered q.stands q.running in
-    none-some (code_desc q.storage q.plan q.member q.task) (sym c.in-None.is ∙ c.from_word.ensures.known (code_desc q.storage q.plan q.member q.task) (desc-fits q.storage cpu q.plan q.session q.member q.task q.ordered q.stands q.running) (same_Some _ _ (sym c.get.ensures ∙ ap (λ n. slice_get cpu.core (cpu.regs.dict + n)) c.from.ensures ∙ w)))
-
 pub returns : goal.returns
 returns c = λ x plan s m t ordered h runs.
     let cpu = c.args.cpu.now in
     let w = word-is x cpu plan s m t ordered h runs in
-    same_Some _ _ (sym c.in-Some.is ∙ c.from_word.ensures.known (code_desc x plan m t) (desc-fits x cpu plan s m t ordered h runs) (same_Some _ _ (sym c.get.ensures ∙ ap (λ n. slice_get cpu.core (cpu.regs.dict + n)) c.from.ensures ∙ w)))
+    c.read.ensures (code_desc x plan m t) (desc-fits x cpu plan s m t ordered h runs) (same_Some _ _ (sym c.get.ensures ∙ ap (λ n. slice_get cpu.core (cpu.regs.dict + n)) c.from.ensures ∙ w))

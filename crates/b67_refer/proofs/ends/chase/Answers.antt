@@ -1,6 +1,5 @@
 use Rattle.std.proofs.Common.{◌∙◌, sym, subst, inl, Err}
 use Rattle.std.proofs.lemmas.Bool.{not-false, not-true}
-use Rattle.std.proofs.lemmas.Option.{none-some}
 use Rattle.b67_word.specs.declared.faults.Fault.TheVariants.{InvalidOperand}
 use Rattle.b67_model.specs.Answers.{Answer}
 use Rattle.b67_model.specs.Chase as Chase
@@ -9,7 +8,6 @@ use Rattle.b67_layout.specs.Meets.{here}
 use Rattle.b67_refer.specs.RunningContext.{LiveContext, live_of, FromEither}
 use Rattle.b67_refer.specs.LiveEnds.{EndMeets}
 use Rattle.b67_refer.proofs.Eyes.{from_running}
-use Rattle.b67_refer.proofs.Links.{described}
 use Rattle.b67_refer.proofs.Follows.{is_reference, follows_reference, follows_none, follows_whole, follows_item, item_copied, item_named, word_described}
 use Rattle.b67_refer.proofs.ends.chase.Goals as goal
 
@@ -37,22 +35,16 @@ returns-then-tag-ne5-clause-running c = λ a q shown at owner v stands.
     from_running a (λ (b : LiveContext c.args.core.now c.args.regs.now). EndMeets b q (Err InvalidOperand) (follow (here a.member a.task q) v))
     (returns-then-tag-ne5-clause-alive c (live_of a) q shown at owner v stands)
 
-pub unreachable-requires : goal.unreachable-requires
-unreachable-requires c =
-    let (a, shown, at, owner, v, stands) = c.requires in
-    let k = described c.args.core.now c.args.regs.now a at owner c.args.w v stands (sym c.tag-2.ensures.value ∙ c.if-tag-ne5.false) in
-    none-some k.0 (sym c.in-None.is ∙ c.from_word.ensures.known k.0 k.1 k.2)
-
 pub owner-original-requires : goal.owner-original-requires
 owner-original-requires c =
     let (a, shown, at, owner, v, stands) = c.requires in
-    let d = word_described c.args.core.now c.args.regs.now a at owner c.args.w v c.from_word.result c.in-Some.d stands (sym c.tag-2.ensures.value ∙ c.if-tag-ne5.false) c.from_word.ensures.known c.in-Some.is in
-    item_copied c.args.core.now c.args.regs.now a at owner v c.in-Some.d d.0 d.1 (not-false _ c.if-not-d.false)
+    let d = word_described c.args.core.now c.args.regs.now a at owner c.args.w v c.read-d.result stands (sym c.tag-2.ensures.value ∙ c.if-tag-ne5.false) c.read-d.ensures in
+    item_copied c.args.core.now c.args.regs.now a at owner v c.read-d.result d.0 d.1 (not-false _ c.if-not-d.false)
 
 pub returns-then-not-d-clause-alive : goal.returns-then-not-d-clause-alive
 returns-then-not-d-clause-alive c = λ a q shown at owner v stands.
-    let d = word_described c.args.core.now c.args.regs.now a at owner c.args.w v c.from_word.result c.in-Some.d stands (sym c.tag-2.ensures.value ∙ c.if-tag-ne5.false) c.from_word.ensures.known c.in-Some.is in
-    inl (follows_whole c.args.core.now c.args.regs.now a q at owner v c.in-Some.d d.0 (not-true _ c.if-not-d.true))
+    let d = word_described c.args.core.now c.args.regs.now a at owner c.args.w v c.read-d.result stands (sym c.tag-2.ensures.value ∙ c.if-tag-ne5.false) c.read-d.ensures in
+    inl (follows_whole c.args.core.now c.args.regs.now a q at owner v c.read-d.result d.0 (not-true _ c.if-not-d.true))
 
 pub returns-then-not-d-clause-running : goal.returns-then-not-d-clause-running
 returns-then-not-d-clause-running c = λ a q shown at owner v stands.
@@ -62,14 +54,14 @@ returns-then-not-d-clause-running c = λ a q shown at owner v stands.
 pub element_at-requires : goal.element_at-requires
 element_at-requires c =
     let (a, shown, at, owner, v, stands) = c.requires in
-    let d = word_described c.args.core.now c.args.regs.now a at owner c.args.w v c.from_word.result c.in-Some.d stands (sym c.tag-2.ensures.value ∙ c.if-tag-ne5.false) c.from_word.ensures.known c.in-Some.is in
-    let n = item_named c.args.core.now c.args.regs.now a at owner v c.in-Some.d c.owner-original.result d.0 d.1 (not-false _ c.if-not-d.false) c.owner-original.ensures in
+    let d = word_described c.args.core.now c.args.regs.now a at owner c.args.w v c.read-d.result stands (sym c.tag-2.ensures.value ∙ c.if-tag-ne5.false) c.read-d.ensures in
+    let n = item_named c.args.core.now c.args.regs.now a at owner v c.read-d.result c.owner-original.result d.0 d.1 (not-false _ c.if-not-d.false) c.owner-original.ensures in
     (a, n.0, n.1, n.2)
 
 pub returns-clause-alive : goal.returns-clause-alive
 returns-clause-alive c = λ a q shown at owner v stands.
-    let d = word_described c.args.core.now c.args.regs.now a at owner c.args.w v c.from_word.result c.in-Some.d stands (sym c.tag-2.ensures.value ∙ c.if-tag-ne5.false) c.from_word.ensures.known c.in-Some.is in
-    inl (follows_item c.args.core.now c.args.regs.now a q at owner v c.in-Some.d c.owner-original.result c.element_at.result d.0 d.1 (not-false _ c.if-not-d.false) c.owner-original.ensures (λ n home names. c.element_at.ensures a q n home names))
+    let d = word_described c.args.core.now c.args.regs.now a at owner c.args.w v c.read-d.result stands (sym c.tag-2.ensures.value ∙ c.if-tag-ne5.false) c.read-d.ensures in
+    inl (follows_item c.args.core.now c.args.regs.now a q at owner v c.read-d.result c.owner-original.result c.element_at.result d.0 d.1 (not-false _ c.if-not-d.false) c.owner-original.ensures (λ n home names. c.element_at.ensures a q n home names))
 
 pub returns-clause-running : goal.returns-clause-running
 returns-clause-running c = λ a q shown at owner v stands.

@@ -1,6 +1,6 @@
 use Rattle.std.proofs.Common.{◌∙◌, sym, ap, subst, arith, ℕ, ◌<◌, length}
 use Rattle.std.specs.List.{slice_get}
-use Rattle.std.proofs.lemmas.Option.{same_Some, none-some, slice_get_within}
+use Rattle.std.proofs.lemmas.Option.{same_Some, slice_get_within}
 use Rattle.b67_ctl.specs.Descriptors.{data_word}
 use Rattle.b67_refer.proofs.Items.{desc, word_is, desc_is, past, within}
 use Rattle.b67_refer.proofs.ends.element_at.Goals as goal
@@ -12,23 +12,16 @@ get-requires c =
     let P : ℕ → Type 0 = λ i. i < length core in
     subst P (sym home) (slice_get_within core _ (data_word (desc core c.args.regs.now a n names)) (word_is core c.args.regs.now a n names))
 
-pub unreachable-requires : goal.unreachable-requires
-unreachable-requires c =
-    let (a, n, home, names) = c.requires in
-    let core = c.args.core.now in
-    let r = c.args.regs.now in
-    none-some (desc core r a n names) (sym c.in-None.is ∙ c.from_word.ensures.known (desc core r a n names) (desc_is core r a n names) (same_Some _ _ (sym c.get.ensures ∙ ap (slice_get core) home ∙ word_is core r a n names)))
-
 pub returns-then-index-d : goal.returns-then-index-d
 returns-then-index-d c = λ a q n home names.
     let core = c.args.core.now in
     let r = c.args.regs.now in
-    let is = same_Some _ _ (sym c.in-Some.is ∙ c.from_word.ensures.known (desc core r a n names) (desc_is core r a n names) (same_Some _ _ (sym c.get.ensures ∙ ap (slice_get core) home ∙ word_is core r a n names))) in
-    past core r a n names q c.in-Some.d is c.args.original c.args.index home (omega (arith, c.if-index-d.true))
+    let is = c.read-d.ensures (desc core r a n names) (desc_is core r a n names) (same_Some _ _ (sym c.get.ensures ∙ ap (slice_get core) home ∙ word_is core r a n names)) in
+    past core r a n names q c.read-d.result is c.args.original c.args.index home (omega (arith, c.if-index-d.true))
 
 pub returns : goal.returns
 returns c = λ a q n home names.
     let core = c.args.core.now in
     let r = c.args.regs.now in
-    let is = same_Some _ _ (sym c.in-Some.is ∙ c.from_word.ensures.known (desc core r a n names) (desc_is core r a n names) (same_Some _ _ (sym c.get.ensures ∙ ap (slice_get core) home ∙ word_is core r a n names))) in
-    within core r a n names q c.in-Some.d is c.args.original c.args.index home (omega (arith, c.if-index-d.false))
+    let is = c.read-d.ensures (desc core r a n names) (desc_is core r a n names) (same_Some _ _ (sym c.get.ensures ∙ ap (slice_get core) home ∙ word_is core r a n names)) in
+    within core r a n names q c.read-d.result is c.args.original c.args.index home (omega (arith, c.if-index-d.false))

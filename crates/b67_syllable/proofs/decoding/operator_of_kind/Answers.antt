@@ -1,16 +1,6 @@
-use Rattle.std.proofs.Common.{arith, refl, ℕ, ◌≡◌, ◌<◌, length, List, Some}
-use Rattle.b67_word.specs.declared.couples.Place.{Place}
-use Rattle.b67_word.specs.Tagged.{Tagged, contents}
-use Rattle.b67_model.specs.Operators.{form_of, syllable, count_at}
-use Rattle.b67_syllable.specs.declared.kinds.Kind.{Kind}
-use Rattle.b67_syllable.specs.Kinds.{form}
-use Rattle.b67_syllable.proofs.CodeLemmas.{Begins, ends, past_end, past_places}
+use Rattle.b67_syllable.proofs.CodeLemmas.{begins, ends, past_end, past_places}
 use Rattle.b67_syllable.proofs.decoding.operator_of_kind.Goals as goal
 use Rattle.b67_syllable.proofs.decoding.operator_of_kind.Goals.{else-end-code-via-then-end-code+else-end, else-end-code-via-else-end-code}
-
-begins : (code : List Tagged) (at : Place) (n : ℕ) (kind : Kind) → at.syllable < 6 → at.word < length code → n ≡ count_at at
-    → form_of (syllable (contents code) (count_at at)) ≡ Some (form kind) → Begins code at n kind
-begins code at n kind in_word word is first = record { in_word = in_word; inside = omega arith; count = is; first = _; first_is = refl; form_is = rw is first }
 
 pub returns-then-end : goal.returns-then-end
 returns-then-end c =
