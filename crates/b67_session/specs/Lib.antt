@@ -1,4 +1,5 @@
 pub mod Slices
 pub mod Steps
+pub mod InTurn
 pub mod Stops
 pub mod Passed
