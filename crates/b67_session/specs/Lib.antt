@@ -1,5 +1,5 @@
+pub mod InTurn
 pub mod Slices
 pub mod Steps
-pub mod InTurn
 pub mod Stops
 pub mod Passed
