@@ -1,24 +1,32 @@
 -- An operator more of a turn that goes on.
-use Rattle.std.proofs.Common.{◌≡◌, ◌≢◌, ℕ, ◌+◌, ◌-◌, ◌<◌, ◌≤◌, Bool, true, false, List, [], ◌∷◌, ◌++◌, length, Option, Some, None, Ok, Err, refl, sym, ap, ◌∙◌, subst, arith, inl, inr, eqb, slice_get, slice_set, append-nil}
+use Rattle.std.proofs.Common.{◌≡◌, ◌≢◌, ℕ, suc, ◌+◌, ◌-◌, ◌<◌, ◌≤◌, Bool, true, false, List, [], ◌∷◌, ◌++◌, length, map, Option, Some, None, Ok, Err, refl, sym, ap, ◌∙◌, subst, arith, inl, inr, eqb, slice_get, append-nil}
 use Rattle.std.specs.Prelude.{◌&&◌}
+use Rattle.std.specs.List.{AllByRecursion}
 use Rattle.std.proofs.lemmas.Bool.{cases_Bool, ne_eqb}
+use Rattle.std.proofs.lemmas.Bool.Decides.{eqb_tells}
+use Rattle.std.proofs.lemmas.List.Sums.{sum_by-cons}
 use Rattle.std.proofs.lemmas.Option.{none-some}
 use Rattle.b67_lemmas.specs.Lists.{Has}
-use Rattle.b67_lemmas.proofs.Keyed.{keyed-change_same}
-use Rattle.b67_lemmas.proofs.Members.{keyed_has}
+use Rattle.b67_lemmas.proofs.Keyed.{change_is, keyed-change_same}
+use Rattle.b67_lemmas.proofs.Members.{all_in, change_found, change_twice, keyed_has, total_has}
+use Rattle.b67_lemmas.proofs.Places.{mapped_at}
+use Rattle.b67_lemmas.proofs.Sums.{sum_total}
+use Rattle.b67_word.specs.declared.faults.Ending.{Ending}
 use Rattle.b67_model.specs.Alone.{JobMoment, moment_with}
-use Rattle.b67_model.specs.Endings.{Settled, goes_on}
-use Rattle.b67_model.specs.InOrder.{NumberedFrom, IsInOrderButPlaces}
-use Rattle.b67_model.specs.Keyed.{keyed}
+use Rattle.b67_model.specs.Endings.{Settled, deadlocked, goes_on, unsettled}
+use Rattle.b67_model.specs.InOrder.{IsSegment, JobInOrder, NumberedFrom, IsInOrderButPlaces}
+use Rattle.b67_model.specs.Keyed.{keyed, change_keyed}
+use Rattle.b67_model.specs.Need.{need, touched_of}
 use Rattle.b67_model.specs.Operators.{Reading}
 use Rattle.b67_model.specs.Rows.{reading_of, step, step_by}
-use Rattle.b67_model.specs.Run.{RunLine, StepResult, next, after, lines, number_of, with_moment}
-use Rattle.b67_model.specs.Schedule.{Switch, Session, Choice}
+use Rattle.b67_model.specs.Run.{RunLine, StepResult, next, after, lines, live_tasks, number_of}
+use Rattle.b67_model.specs.Schedule.{Switch, Session}
 use Rattle.b67_model.specs.State.{Task, Job, JobProgress, SessionJob}
 use Rattle.b67_model.specs.Steps.{Line, Goes}
 use Rattle.b67_session_lines.specs.Moments.{has_tasks, is_at_limit, last_part, last_part_by, last_part_if, joined}
 use Rattle.b67_session_lines.proofs.Joins.{steps-have-parts}
 use Rattle.b67_session_lines.proofs.Statuses.{after-add}
+use Rattle.b67_law_order.proofs.Numbered.{numbered_low, tasks_of}
 use Rattle.b67_law_order_steps.specs.Profiles.{Profile, profile, profiles}
 use Rattle.b67_law_order_steps.proofs.Lemmas.{rows_keep}
 use Rattle.b67_law_turns.specs.Orders.{IsInOrderButLimit}
@@ -26,34 +34,43 @@ use Rattle.b67_law_turns.specs.Turns.{IsNext, OrderAfter}
 use Rattle.b67_law_turns.proofs.Halves.{first_by}
 use Rattle.b67_law_turns.proofs.Limits.{last_parts_restore_order}
 use Rattle.b67_law_turns.proofs.Runs.{Came, came-more}
+use Rattle.b67_stack.specs.declared.Cpu.{Cpu}
 use Rattle.b67_stack.specs.declared.Step.{Step}
 use Rattle.b67_stack.specs.declared.Step.TheVariants as answers
-use Rattle.b67_stack.specs.Represents.{Storage}
+use Rattle.b67_stack.specs.MachineView.{MachineView, NoOriginalAboveTop as Calm}
+use Rattle.b67_stack.specs.Represents.{Storage, Represents}
+use Rattle.b67_layout.specs.Layout.{machine_view}
 use Rattle.b67_layout.specs.Meets.{here, with_job}
+use Rattle.b67_layout.specs.Orders.{JobInOrderButCounts, IsInOrderButCounts}
 use Rattle.b67_layout.specs.Placement.{Placement, slot_of}
-use Rattle.b67_layout.specs.Session.{IsRunning}
+use Rattle.b67_layout.specs.Rows as rows
+use Rattle.b67_layout.specs.Session.{IsRunning, RepresentsSession, with_objects}
 use Rattle.b67_layout.proofs.Weaker.{but_counts}
+use Rattle.b67_layout_step.proofs.Alike.{AllAlike}
+use Rattle.b67_layout_step.proofs.Counted.{SameJobs, same_machine_view}
+use Rattle.b67_layout_step.proofs.Paged.{RepresentsSession-over}
 use Rattle.b67_exec_cells.specs.Called as operators
 use Rattle.b67_exec_cells.specs.Called.{called_in}
 use Rattle.b67_exec_cells.specs.Running.{code_area}
-use Rattle.b67_task_tables.specs.declared.tables.JobRow.{JobRow}
+use Rattle.b67_task_switch.proofs.Tables.{job_at}
 use Rattle.b67_task_tables.specs.declared.tables.Tasks.{Tasks}
 use Rattle.b67_task_tables.specs.declared.tables.Machine.{Machine}
 use Rattle.b67_task_tables.specs.Runs.{RunsTask}
-use Rattle.b67_task_tables.specs.Tables.{TasksShow, MachineRepresents, AreCountable, row_names}
+use Rattle.b67_task_tables.specs.Tables.{job_row, TasksShow, MachineRepresents}
 use Rattle.b67_session_make.specs.Makes.{OperatorMade, StepMakes, CallsOrMakes, MakesAt, MakesOperator, ForEachReady}
 use Rattle.b67_session_schedule.specs.declared.counting.Chosen.{Chosen}
-use Rattle.b67_session_schedule.specs.Counted.{choice_of, counted_row, last_chosen, CountsHaveRoom}
-use Rattle.b67_session_schedule.specs.Lasting.{RulesLeave, TurnLasts, BeforeHalt}
+use Rattle.b67_session_schedule.specs.Counted.{counted_more, counted_by, TurnHasRoom}
+use Rattle.b67_session_schedule.specs.Lasting.{RulesLeave, Lasts, TurnLasts, BeforeHalt}
 use Rattle.b67_session_schedule.proofs.Lasting.{lasts_choice}
 use Rattle.b67_session_schedule.proofs.Rooms.{made_few, all_few}
-use Rattle.b67_session_attempt.proofs.AttemptFits.{was_operator, made_touches, operator_fits}
+use Rattle.b67_session_attempt.specs.Fits.{IsOfJob}
+use Rattle.b67_session_attempt.proofs.AttemptFits.{was_operator, made_touches}
+use Rattle.b67_session_attempt.proofs.FittingMade.{made_fit}
 use Rattle.b67_session_attempt.proofs.Started.{known_in}
-use Rattle.b67_session_attempt.proofs.Still.{operator_many}
+use Rattle.b67_session_attempt.proofs.Still.{operator_many, operator_starts}
 use Rattle.b67_session_attempt.proofs.Trying.{was_made}
-use Rattle.b67_session_ends.specs.Counts.{IsCounted}
-use Rattle.b67_session_ends.proofs.Counted.{counted_stands}
-use Rattle.b67_session_ends.proofs.Counting.{countable_counted, names_counted}
+use Rattle.b67_session_ends.proofs.Counted.{alike_refl, same_refl}
+use Rattle.b67_session.specs.InTurn.{MadeInTurn}
 use Rattle.b67_session.specs.Slices.{StandsAt, NextFits, StepsFit}
 use Rattle.b67_session.specs.Steps.{GoesOnInTurn}
 use Rattle.b67_session.proofs.Fitting.{fits_more}
@@ -61,7 +78,6 @@ use Rattle.b67_session.proofs.Halved.{kept}
 use Rattle.b67_session.proofs.Lively.{Stays}
 use Rattle.b67_session.proofs.Made.{half, half_ordered, half_lines, open_job}
 use Rattle.b67_session.proofs.Next.{in_session, found, task_found, next_fits}
-use Rattle.b67_session.proofs.Rooms.{room_for}
 
 abbrev number : Task → ℕ
 number t = t.number
@@ -121,172 +137,98 @@ not_at_limit s m there low =
     let test : is_at_limit m ≡ false = ap (λ (b : Bool). b && has_tasks m.progress.job.tasks) (ne_eqb m.progress.made m.constants.limit (λ e. omega (arith, low, e))) in
     ap (last_part_by s) there ∙ ap (λ (b : Bool). last_part_if b s m) test
 
+-- ---- sessions that differ by counts of operators
+
+-- a change of a member and another of the same one
+twice : (j : ℕ) (f g : SessionJob → SessionJob) (m : SessionJob) (jobs : List SessionJob) → number_of (f m) ≡ j → keyed number_of j jobs ≡ Some m → change_keyed number_of j g (change_keyed number_of j f jobs) ≡ change_keyed number_of j (λ y. g (f m)) jobs
+twice j f g m jobs number found =
+    ap (change_keyed number_of j g) (change_is number_of j f m jobs found)
+    ∙ change_is number_of j g (f m) (change_keyed number_of j (λ y. f m) jobs) (change_found number_of j m (f m) jobs number found)
+    ∙ change_twice number_of j (f m) (g (f m)) jobs number
+
+module _ (n j : ℕ) where
+  abbrev more : List SessionJob → List SessionJob
+  more jobs = change_keyed number_of j (counted_more n) jobs
+
+  bare_all : (P : SessionJob → Type 0) → ((m : SessionJob) → P (counted_more n m) → P m) → (jobs : List SessionJob) → AllByRecursion P (more jobs) → AllByRecursion P jobs
+  bare_all P back [] all = tt
+  bare_all P back (m ∷ jobs) all = elim (eqb_tells (number_of m) j) [
+    | inl t ↦ let both : AllByRecursion P (counted_more n m ∷ jobs) = rw t.0 at all in (back m both.0, both.1)
+    | inr t ↦ let both : AllByRecursion P (m ∷ more jobs) = rw t.0 at all in (both.0, bare_all P back jobs both.1)
+  ]
+
+  bare_length : (jobs : List SessionJob) → length (more jobs) ≡ length jobs
+  bare_length [] = refl
+  bare_length (m ∷ jobs) = elim (eqb_tells (number_of m) j) [ inl t ↦ rw t.0 refl | inr t ↦ rw t.0 (ap suc (bare_length jobs)) ]
+
+  bare_numbered : (k : ℕ) (jobs : List SessionJob) → NumberedFrom k (more jobs) → NumberedFrom k jobs
+  bare_numbered k [] d = tt
+  bare_numbered k (m ∷ jobs) d = elim (eqb_tells (number_of m) j) [
+    | inl t ↦ let both : NumberedFrom k (counted_more n m ∷ jobs) = rw t.0 at d in both
+    | inr t ↦ let both : NumberedFrom k (m ∷ more jobs) = rw t.0 at d in (both.0, bare_numbered (k + 1) jobs both.1)
+  ]
+
+  bare_live : (jobs : List SessionJob) → live_tasks (more jobs) ≡ live_tasks jobs
+  bare_live [] = refl
+  bare_live (m ∷ jobs) = elim (eqb_tells (number_of m) j) [
+    | inl t ↦ rw t.0 (sum_by-cons (λ (y : SessionJob). length y.progress.job.tasks) (counted_more n m) jobs ∙ sym (sum_by-cons (λ (y : SessionJob). length y.progress.job.tasks) m jobs))
+    | inr t ↦ rw t.0 (sum_by-cons (λ (y : SessionJob). length y.progress.job.tasks) m (more jobs) ∙ ap (λ (i : ℕ). length m.progress.job.tasks + i) (bare_live jobs) ∙ sym (sum_by-cons (λ (y : SessionJob). length y.progress.job.tasks) m jobs))
+  ]
+
+  more_alike : (jobs : List SessionJob) → AllAlike jobs (more jobs)
+  more_alike [] = tt
+  more_alike (m ∷ jobs) = elim (eqb_tells (number_of m) j) [
+    | inl t ↦ rw t.0 (record { number = refl; stack_size = refl; dictionary = refl; count = refl; tasks = refl }, alike_refl jobs)
+    | inr t ↦ rw t.0 (record { number = refl; stack_size = refl; dictionary = refl; count = refl; tasks = refl }, more_alike jobs)
+  ]
+
+  more_same : (jobs : List SessionJob) → SameJobs jobs (more jobs)
+  more_same [] = tt
+  more_same (m ∷ jobs) = elim (eqb_tells (number_of m) j) [
+    | inl t ↦ rw t.0 (record { constants = refl; job = refl }, same_refl jobs)
+    | inr t ↦ rw t.0 (record { constants = refl; job = refl }, more_same jobs)
+  ]
+
+-- the order but for counts
+bare_ordered : (n : ℕ) (u : Session) → IsInOrderButCounts (counted_by n u) → IsInOrderButCounts u
+bare_ordered n u o = record {
+  few = omega (arith, o.few, bare_length n u.last.job u.jobs);
+  numbered = bare_numbered n u.last.job 1 u.jobs o.numbered;
+  one_size = (o.one_size.0, bare_all n u.last.job (λ (m : SessionJob). m.constants.stack_size ≡ o.one_size.0) (λ m e. e) u.jobs o.one_size.1);
+  jobs = bare_all n u.last.job (λ (m : SessionJob). JobInOrderButCounts (IsSegment m.constants) m.constants m.progress) (λ m k. record { unchanging = k.unchanging; tasks = k.tasks; few_born = k.few_born }) u.jobs o.jobs;
+  peak_low = omega (arith, o.peak_low, bare_live n u.last.job u.jobs);
+  peak_high = o.peak_high;
+}
+
+-- what core shows
+more_stands : (n : ℕ) (u : Session) (x : Storage) (cpu : Cpu) (plan : Placement) → RepresentsSession x cpu plan u → RepresentsSession x cpu plan (counted_by n u)
+more_stands n u x cpu plan h =
+    let s = counted_by n u in
+    let view : machine_view plan s.jobs ≡ machine_view plan u.jobs = same_machine_view plan u.jobs s.jobs (more_same n u.last.job u.jobs) in
+    RepresentsSession-over [] [] x x cpu cpu plan u s h (more_alike n u.last.job u.jobs) refl refl refl refl
+    (subst (λ (p : MachineView). Represents x cpu.core cpu.regs (with_objects [] p)) (sym view) h.holds.memory)
+    (subst Calm (sym view) h.holds.settled)
+    (λ i low other homes. refl)
+
+-- none more
+more_none : (j : ℕ) (jobs : List SessionJob) → change_keyed number_of j (counted_more 0) jobs ≡ jobs
+more_none j [] = refl
+more_none j (m ∷ jobs) = elim (eqb_tells (number_of m) j) [
+  | inl t ↦ rw t.0 (let same : m.progress.made + 0 ≡ m.progress.made = omega arith in ap (λ (i : ℕ). record m { progress = record m.progress { made = i } } ∷ jobs) same)
+  | inr t ↦ rw t.0 (ap (λ (js : List SessionJob). m ∷ js) (more_none j jobs))
+]
+
+counted_none : (s : Session) → counted_by 0 s ≡ s
+counted_none s =
+    let made : s.made + 0 ≡ s.made = omega arith in
+    let turn : s.turn + 0 ≡ s.turn = omega arith in
+    ap (λ (js : List SessionJob). record s { jobs = js; made = s.made + 0; turn = s.turn + 0 }) (more_none s.last.job s.jobs)
+    ∙ ap (λ (i : ℕ). record s { made = i; turn = s.turn + 0 }) made ∙ ap (λ (i : ℕ). record s { turn = i }) turn
+
 -- ---- one operator
 
--- so many steps without a line lead from a session to one of which the last task has so many operators left
-pub record HasTurn (known : Option (List (List ℕ))) (steps left : ℕ) (first : Session) (old now : Machine) : Type 0 where
-  pub session : Session
-  pub leads : after steps first ≡ session
-  pub silent : (start : Session) (n : ℕ) → after n start ≡ first → lines (n + steps) start ≡ lines n start
-  pub made : now.tasks.made ≡ old.tasks.made + steps
-  pub fits : StepsFit (length old.cpu.core) steps first
-  pub storage : Storage
-  pub plan : Placement
-  pub ordered : IsInOrderButPlaces session
-  pub stands : MachineRepresents storage known now plan session
-  pub lasts : 1 ≤ left → TurnLasts plan session left
-
-module _ (known : Option (List (List ℕ))) (x : Storage) (plan : Placement) (s : Session) (o : IsInOrderButPlaces s) (k : Machine) (h : MachineRepresents x known k plan s) (left : ℕ) (some : 1 ≤ left) (turn : TurnLasts plan s left) where
-  abbrev pub m : SessionJob
-  m = turn.who
-
-  abbrev pub t : Task
-  t = turn.task
-
-  abbrev pub n : IsNext s m t
-  n = record { chosen = record { who = s.last; turn = s.turn }; is = lasts_choice s m t left turn.lasts some; member = turn.lasts.member; task = turn.lasts.task }
-
-  abbrev pub runs : IsRunning plan s.jobs m t
-  runs = record { member = found s m t n; task = task_found s m t n; slot = turn.runs }
-
-  abbrev pub c : Chosen
-  c = last_chosen k.tasks
-
-  chosen : n.chosen ≡ choice_of c
-  chosen =
-      ap (λ (j : ℕ). record { who = record { job = j; task = s.last.task }; turn = s.turn }) (sym h.tables.counts.last_job)
-      ∙ ap (λ (i : ℕ). record { who = record { job = k.tasks.last_job; task = i }; turn = s.turn }) (sym h.tables.counts.last_number)
-      ∙ ap (λ (i : ℕ). record { who = record { job = k.tasks.last_job; task = k.tasks.last_number }; turn = i }) (sym h.tables.counts.turn)
-
-  -- one more fits the counts
-  pub turn_room : CountsHaveRoom k.tasks c
-  turn_room =
-      let inm = in_session s m t n in
-      room_for plan s m k.tasks c o.numbered h.tables inm ((keyed_has number_of s.last.job s.jobs m turn.lasts.member).1 ∙ sym h.tables.counts.last_job) (made_few s o m inm) (all_few s o)
-      (omega (arith, h.tables.counts.turn, o.turn, all_few s o))
-
-  module _ (new : Machine) (row : MakesOperator x known plan s m t answers.Done k new) (tables : new.tasks ≡ k.tasks) (tasks : Tasks) (counted : IsCounted c new.tasks tasks) where
-    abbrev made : OperatorMade x known plan s m t k new
-    made = was_made x known plan s m t k new (code_area x plan m t) row
-
-    called : (code_area x plan m t ≢ None) × (called_in m t ≡ None)
-    called = was_operator x known plan s m t answers.Done k new (code_area x plan m t) refl (λ e. absurd cc) (λ i e. absurd cc) row
-
-    abbrev stays : Stays m.progress.job.tasks made.job.tasks × (made.job.next_task ≤ m.progress.job.next_task + 1)
-    stays = kept s m t n o made.job [] made.touched made.is
-
-    abbrev part : StepResult
-    part = half s m t c o n chosen turn.lasts.ready made.job [] made.touched made.is stays.0 stays.1
-
-    between : IsInOrderButLimit part.session
-    between = half_ordered s m t c o n chosen turn.lasts.ready made.job [] made.touched made.is stays.0 stays.1
-
-    abbrev moment : JobMoment
-    moment = moment_with m.progress t (goes_on made.job [] made.touched) (goes_on made.job [] made.touched).settled
-
-    abbrev progress : JobProgress
-    progress = moment.progress
-
-    abbrev later : SessionJob
-    later = record m { progress = progress }
-
-    there : keyed number_of s.last.job part.session.jobs ≡ Some later
-    there = keyed-change_same number_of s.last.job (λ (y : SessionJob). record y { progress = progress }) (λ y. refl) s.jobs m turn.lasts.member
-
-    none_last : last_part part.session ≡ None
-    none_last = not_at_limit part.session later there (omega (arith, turn.lasts.below, some))
-
-    job_is : progress.job ≡ made.job
-    job_is = ap (λ (z : Settled). z.job) (open_job s m t c o n chosen turn.lasts.ready made.job [] made.touched made.is stays.0 stays.1)
-
-    lasts : TurnLasts plan part.session (left - 1)
-    lasts =
-        let (u, at, like) = twin s.last.task m.progress.job.tasks made.job.tasks t (profiles_stay m t runs.task called.1 made.job [] made.touched made.is) turn.lasts.task in
-        record {
-          who = later;
-          task = u;
-          lasts = record {
-            member = there;
-            task = subst (λ (j : Job). keyed number s.last.task j.tasks ≡ Some u) (sym job_is) at;
-            ready = ap (λ (p : Profile). p.condition) like ∙ turn.lasts.ready;
-            rules = rules_after s part.session left some refl refl refl refl turn.lasts.rules;
-            below = omega (arith, turn.lasts.below, some);
-          };
-          runs = turn.runs ∙ ap (λ (p : Profile). slot_of plan m.constants.number p.number) (sym like);
-        }
-
-    steps_on : next s ≡ Some (joined part None)
-    steps_on = steps-have-parts s part (first_by s m t n (Ok (Goes made.job [] made.touched)) made.is) ∙ ap (λ (r : Option StepResult). Some (joined part r)) none_last
-
-    needs : NextFits (length k.cpu.core) s
-    needs = next_fits s m t n (length k.cpu.core) (operator_fits x known plan s m t (but_counts s o) runs k h called (made_touches x known plan s m t (but_counts s o) runs k new made))
-
-    stands : MachineRepresents made.storage known (record new { tasks = tasks }) plan part.session
-    stands =
-        let alive : length made.job.tasks ≡ length m.progress.job.tasks = operator_many m t runs.task called.1 made.job [] made.touched made.is in
-        let own : keyed number_of c.job s.jobs ≡ Some m = ap (λ (z : Choice). keyed number_of z.who.job s.jobs) (sym chosen) ∙ turn.lasts.member in
-        let after : MachineRepresents made.storage known new plan (with_job s m progress.job) = subst (λ (j : Job). MachineRepresents made.storage known new plan (with_job s m j)) (sym job_is) made.stands in
-        subst (λ (z : Choice). MachineRepresents made.storage known (record new { tasks = tasks }) plan (with_moment s z m moment)) (sym chosen)
-        (counted_stands s c m moment o own alive made.storage known new plan tasks refl counted after)
-
-    -- a run that comes to the session goes one step further, and prints no more
-    one_more : (start : Session) (i : ℕ) → after i start ≡ s → Came start (i + 1) part.session (lines i start)
-    one_more start i to =
-        let none : part.lines ≡ [] = half_lines s m t c o n chosen turn.lasts.ready made.job [] made.touched made.is stays.0 stays.1 in
-        subst (Came start (i + 1) part.session) (ap (λ (ls : List RunLine). lines i start ++ ls) none ∙ append-nil (lines i start))
-        (came-more start i s (lines i start) (joined part None) (record { session = to; lines_are = refl }) steps_on)
-
-    -- after it the last task goes on
-    pub turn_more : (steps : ℕ) (first : Session) (old : Machine) → after steps first ≡ s → ((start : Session) (n : ℕ) → after n start ≡ first → lines (n + steps) start ≡ lines n start) → k.tasks.made ≡ old.tasks.made + steps → StepsFit (length old.cpu.core) steps first
-        → length k.cpu.core ≡ length old.cpu.core → HasTurn known (steps + 1) (left - 1) first old (record new { tasks = tasks })
-    turn_more steps first old leads silent all fits core = record {
-      session = part.session;
-      leads = (one_more first steps leads).session;
-      silent = λ start i to.
-          let before : after (i + steps) start ≡ s = after-add i steps start ∙ ap (after steps) to ∙ leads in
-          let same : i + (steps + 1) ≡ i + steps + 1 = omega arith in
-          ap (λ (q : ℕ). lines q start) same ∙ (one_more start (i + steps) before).lines_are ∙ silent start i to;
-      made = counted.made ∙ omega (arith, all, ap (λ (z : Tasks). z.made) tables);
-      fits = fits_more (length old.cpu.core) (length k.cpu.core) steps first s core leads fits needs;
-      storage = made.storage;
-      plan = plan;
-      ordered = subst (OrderAfter part.session) none_last (last_parts_restore_order part.session between);
-      stands = stands;
-      lasts = λ more. lasts;
-    }
-
--- the turn at its beginning
-pub has_begun : (known : Option (List (List ℕ))) (room : ℕ) (s : Session) (k : Machine) (h : StandsAt known k s) → (1 ≤ room → TurnLasts h.plan s room) → HasTurn known 0 (room - 0) s k k
-has_begun known room s k h lasts = record {
-  session = s;
-  leads = refl;
-  silent = λ start n to. let same : n + 0 ≡ n = omega arith in ap (λ (i : ℕ). lines i start) same;
-  made = omega arith;
-  fits = λ i low. absurd (omega (arith, low));
-  storage = h.storage;
-  plan = h.plan;
-  ordered = h.ordered;
-  stands = h.stands;
-  lasts = λ some. let same : room - 0 ≡ room = omega arith in subst (TurnLasts h.plan s) (sym same) (lasts (omega (arith, some)));
-}
-
--- and where it is left
-pub goes_on_in_turn : (known : Option (List (List ℕ))) (steps left : ℕ) (first : Session) (old new : Machine) → HasTurn known steps left first old new → new.tasks.printed ≡ 0 → BeforeHalt old.tasks.halt old.tasks.made steps → GoesOnInTurn known steps first old new
-goes_on_in_turn known steps left first old new t none below = record {
-  session = t.session;
-  leads = t.leads;
-  silent = t.silent;
-  stands = record { storage = t.storage; plan = t.plan; ordered = t.ordered; stands = t.stands };
-  made = t.made;
-  unprinted = none;
-  fits = t.fits;
-  below = below;
-}
-
--- ---- the loop
-
 -- after every answer but Done nothing has changed
-pub unmade : (x : Storage) (told : Option (List (List ℕ))) (plan : Placement) (s : Session) (m : SessionJob) (t : Task) (answered : Step) (old new : Machine) → answered ≢ answers.Done → MakesOperator x told plan s m t answered old new → new ≡ old
+unmade : (x : Storage) (told : Option (List (List ℕ))) (plan : Placement) (s : Session) (m : SessionJob) (t : Task) (answered : Step) (old new : Machine) → answered ≢ answers.Done → MakesOperator x told plan s m t answered old new → new ≡ old
 unmade x told plan s m t answered old new other row = by_area (code_area x plan m t) row where
   by_answer : (a : Step) → a ≢ answers.Done → StepMakes x told plan s m t a old new → new ≡ old
   by_answer answers.Done no_step h = absurd (no_step refl)
@@ -303,48 +245,273 @@ unmade x told plan s m t answered old new other row = by_area (code_area x plan 
   by_area None h = h.1
   by_area (Some at) h = by_call (called_in m t) h
 
--- the tables once an operator is counted in its turn
-pub counted_in_turn : (old new : Tasks) → CountsHaveRoom old (last_chosen old)
-    → ((plan : Placement) (s : Session) (m : SessionJob) (made : JobMoment) → NumberedFrom 1 s.jobs → keyed number_of old.last_job s.jobs ≡ Some m → made.progress.made ≡ m.progress.made + 1
-    → TasksShow plan (with_job s m made.progress.job) old → TasksShow plan (with_moment s (choice_of (last_chosen old)) m made) new)
-    → ((r : JobRow) → slice_get old.jobs (old.last_job - 1) ≡ Some r → new.jobs ≡ slice_set old.jobs (old.last_job - 1) (counted_row r))
-    → new ≡ record old { jobs = new.jobs; made = old.made + 1; turn = old.turn + 1 } → old.printed ≡ 0 → IsCounted (last_chosen old) old new
-counted_in_turn old new room shows jobs rest none = record {
-  shows = shows;
-  made = ap (λ (z : Tasks). z.made) rest;
-  halt = ap (λ (z : Tasks). z.halt) rest;
-  rows = ap (λ (z : Tasks). z.rows) rest;
-  running = ap (λ (z : Tasks). z.running) rest;
-  last_job = ap (λ (z : Tasks). z.last_job) rest;
-  last_number = ap (λ (z : Tasks). z.last_number) rest;
-  printed = ap (λ (z : Tasks). z.printed) rest ∙ none;
-  countable = λ all. subst AreCountable (sym (jobs room.job room.at)) (countable_counted old.jobs (old.last_job - 1) room.job room.at all);
-  names = ap row_names (jobs room.job room.at) ∙ names_counted old.jobs (old.last_job - 1) room.job room.at;
+-- so many steps without a line lead from a session to one of which the last task has so many operators left; the machine
+-- represents that but for the counts of these steps
+pub record HasTurn (known : Option (List (List ℕ))) (steps left : ℕ) (first : Session) (core : ℕ) (now : Machine) : Type 0 where
+  pub bare : Session
+  pub member : SessionJob
+  pub task : Task
+  pub ordered : IsInOrderButPlaces (counted_by steps bare)
+  pub leads : after steps first ≡ counted_by steps bare
+  pub silent : (start : Session) (n : ℕ) → after n start ≡ first → lines (n + steps) start ≡ lines n start
+  pub fits : StepsFit core steps first
+  pub storage : Storage
+  pub plan : Placement
+  pub stands : MachineRepresents storage known now plan bare
+  pub found : keyed number_of bare.last.job bare.jobs ≡ Some member
+  pub lasts : Lasts (counted_by steps bare) (counted_more steps member) task left
+  pub slot : plan.running ≡ slot_of plan member.constants.number task.number
+
+module _ (known : Option (List (List ℕ))) (steps left : ℕ) (first : Session) (core : ℕ) (k : Machine) (h : HasTurn known steps left first core k) (some : 1 ≤ left) where
+  abbrev u : Session
+  u = h.bare
+
+  abbrev s : Session
+  s = counted_by steps u
+
+  abbrev m : SessionJob
+  m = counted_more steps h.member
+
+  abbrev t : Task
+  t = h.task
+
+  abbrev n : IsNext s m t
+  n = record { chosen = record { who = s.last; turn = s.turn }; is = lasts_choice s m t left h.lasts some; member = h.lasts.member; task = h.lasts.task }
+
+  abbrev c : Chosen
+  c = record { row = 0; job = s.last.job; number = s.last.task; turn = s.turn }
+
+  of_number : h.member.constants.number ≡ u.last.job
+  of_number = (keyed_has number_of u.last.job u.jobs h.member h.found).1
+
+  abbrev runs : IsRunning h.plan u.jobs h.member t
+  runs = record { member = ap (λ (i : ℕ). keyed number_of i u.jobs) of_number ∙ h.found; task = task_found s m t n; slot = h.slot }
+
+  order : IsInOrderButCounts u
+  order = bare_ordered steps u (but_counts s h.ordered)
+
+  pub turn_runs : RunsTask k
+  turn_runs = record { storage = h.storage; told = known; plan = h.plan; session = u; member = h.member; task = t; ordered = order; stands = h.stands; running = runs }
+
+  -- where an operator wasn't made nothing has changed
+  pub turn_stays : (answered : Step) (new : Machine) → answered ≢ answers.Done → ForEachReady k (λ x told plan s m t. MakesOperator x told plan s m t answered k new) → new ≡ k
+  turn_stays answered new other row = unmade h.storage known h.plan u h.member t answered k new other (row h.storage known h.plan u h.member t order h.stands runs h.lasts.ready)
+
+  module _ (new : Machine) (each : ForEachReady k (λ x told plan s m t. MakesOperator x told plan s m t answers.Done k new)) where
+    abbrev row : MakesOperator h.storage known h.plan u h.member t answers.Done k new
+    row = each h.storage known h.plan u h.member t order h.stands runs h.lasts.ready
+
+    abbrev made : OperatorMade h.storage known h.plan u h.member t k new
+    made = was_made h.storage known h.plan u h.member t k new (code_area h.storage h.plan h.member t) row
+
+    called : (code_area h.storage h.plan h.member t ≢ None) × (called_in h.member t ≡ None)
+    called = was_operator h.storage known h.plan u h.member t answers.Done k new (code_area h.storage h.plan h.member t) refl (λ e. absurd cc) (λ i e. absurd cc) row
+
+    abbrev stays : Stays m.progress.job.tasks made.job.tasks × (made.job.next_task ≤ m.progress.job.next_task + 1)
+    stays = kept s m t n h.ordered made.job [] made.touched made.is
+
+    abbrev part : StepResult
+    part = half s m t c h.ordered n refl h.lasts.ready made.job [] made.touched made.is stays.0 stays.1
+
+    between : IsInOrderButLimit part.session
+    between = half_ordered s m t c h.ordered n refl h.lasts.ready made.job [] made.touched made.is stays.0 stays.1
+
+    abbrev moment : JobMoment
+    moment = moment_with m.progress t (goes_on made.job [] made.touched) (goes_on made.job [] made.touched).settled
+
+    -- the member that isn't counted, and the session
+    abbrev bare_progress : JobProgress
+    bare_progress = record h.member.progress { job = made.job }
+
+    abbrev bare_member : SessionJob
+    bare_member = record h.member { progress = bare_progress }
+
+    abbrev later : Session
+    later = with_job u h.member made.job
+
+    open_is : deadlocked (unsettled made.job) ≡ unsettled made.job
+    open_is = open_job s m t c h.ordered n refl h.lasts.ready made.job [] made.touched made.is stays.0 stays.1
+
+    progress_is : moment.progress ≡ (counted_more (steps + 1) bare_member).progress
+    progress_is =
+        let number : h.member.progress.made + steps + 1 ≡ h.member.progress.made + (steps + 1) = omega arith in
+        ap (λ (z : Settled). (moment_with m.progress t (goes_on made.job [] made.touched) z).progress) open_is
+        ∙ ap (λ (ended : List (ℕ × Ending)). record m.progress { job = made.job; made = h.member.progress.made + steps + 1; ended = ended }) (append-nil m.progress.ended)
+        ∙ ap (λ (i : ℕ). record m.progress { job = made.job; made = i }) number
+
+    jobs_are : part.session.jobs ≡ (counted_by (steps + 1) later).jobs
+    jobs_are =
+        let j = u.last.job in
+        let put : JobProgress → SessionJob → SessionJob = λ p y. record y { progress = p } in
+        twice j (counted_more steps) (put moment.progress) h.member u.jobs of_number h.found
+        ∙ ap (λ (p : JobProgress). change_keyed number_of j (λ y. record h.member { progress = p }) u.jobs) progress_is
+        ∙ sym (twice j (put bare_progress) (counted_more (steps + 1)) h.member u.jobs of_number h.found)
+        ∙ ap (λ (i : ℕ). change_keyed number_of j (counted_more (steps + 1)) (change_keyed number_of i (put bare_progress) u.jobs)) (sym of_number)
+
+    alive : length made.job.tasks ≡ length m.progress.job.tasks
+    alive = operator_many h.member t runs.task called.1 made.job [] made.touched made.is
+
+    peak_is : part.session.peak ≡ u.peak
+    peak_is = omega (arith, alive, total_has tasks_of s.jobs m (in_session s m t n), sum_total tasks_of s.jobs, h.ordered.peak_low)
+
+    session_is : part.session ≡ counted_by (steps + 1) later
+    session_is =
+        let all : u.made + steps + 1 ≡ u.made + (steps + 1) = omega arith in
+        let turn : u.turn + steps + 1 ≡ u.turn + (steps + 1) = omega arith in
+        ap (λ (js : List SessionJob). record part.session { jobs = js }) jobs_are
+        ∙ ap (λ (i : ℕ). record u { jobs = (counted_by (steps + 1) later).jobs; made = u.made + steps + 1; turn = u.turn + steps + 1; peak = i }) peak_is
+        ∙ ap (λ (i : ℕ). record u { jobs = (counted_by (steps + 1) later).jobs; made = i; turn = u.turn + steps + 1 }) all
+        ∙ ap (λ (i : ℕ). record u { jobs = (counted_by (steps + 1) later).jobs; made = u.made + (steps + 1); turn = i }) turn
+
+    found_later : keyed number_of u.last.job later.jobs ≡ Some bare_member
+    found_later =
+        ap (keyed number_of u.last.job) (ap (λ (i : ℕ). change_keyed number_of i (λ (y : SessionJob). record y { progress = bare_progress }) u.jobs) of_number)
+        ∙ keyed-change_same number_of u.last.job (λ (y : SessionJob). record y { progress = bare_progress }) (λ y. refl) u.jobs h.member h.found
+
+    found_more : keyed number_of u.last.job (counted_by (steps + 1) later).jobs ≡ Some (counted_more (steps + 1) bare_member)
+    found_more = keyed-change_same number_of u.last.job (counted_more (steps + 1)) (λ y. refl) later.jobs bare_member found_later
+
+    none_last : last_part part.session ≡ None
+    none_last = subst (λ (z : Session). last_part z ≡ None) (sym session_is) (not_at_limit (counted_by (steps + 1) later) (counted_more (steps + 1) bare_member) found_more (omega (arith, h.lasts.below, some)))
+
+    steps_on : next s ≡ Some (joined part None)
+    steps_on = steps-have-parts s part (first_by s m t n (Ok (Goes made.job [] made.touched)) made.is) ∙ ap (λ (r : Option StepResult). Some (joined part r)) none_last
+
+    -- a run that comes to the session goes one step further, and prints no more
+    one_more : (start : Session) (i : ℕ) → after i start ≡ s → Came start (i + 1) part.session (lines i start)
+    one_more start i to =
+        let none : part.lines ≡ [] = half_lines s m t c h.ordered n refl h.lasts.ready made.job [] made.touched made.is stays.0 stays.1 in
+        subst (Came start (i + 1) part.session) (ap (λ (ls : List RunLine). lines i start ++ ls) none ∙ append-nil (lines i start))
+        (came-more start i s (lines i start) (joined part None) (record { session = to; lines_are = refl }) steps_on)
+
+    -- core has the words that it needs
+    touches : touched_of m.constants m.progress.job t (step m.constants m.progress.job t) ≡ made.touched
+    touches = ap (touched_of m.constants m.progress.job t) made.is
+
+    of_job : (o : Option ℕ) → made.touched ≡ o → IsOfJob m.progress.job o
+    of_job None e = tt
+    of_job (Some a) e = let p = made_touches h.storage known h.plan u h.member t order runs k new made a (touches ∙ e) in (p.array, p.among, p.named)
+
+    need_fits : (area : Option ℕ) → code_area h.storage h.plan m t ≡ area → area ≢ None → need (length k.cpu.core) s m t ≤ length k.cpu.core
+    need_fits None is there = absurd (there refl)
+    need_fits (Some at) is there =
+        made_fit k.cpu h.storage h.plan s m t (but_counts s h.ordered) (more_stands steps u h.storage k.cpu h.plan h.stands.session)
+        (record { member = found s m t n; task = runs.task; slot = h.slot }) at made.touched is touches made.present (of_job made.touched refl) (operator_starts h.member t runs.task called.1)
+
+    needs : NextFits (length k.cpu.core) s
+    needs = next_fits s m t n (length k.cpu.core) (need_fits (code_area h.storage h.plan m t) refl called.0)
+
+    -- after it the last task goes on
+    pub turn_made : length k.cpu.core ≡ core → (fewer : ℕ) → fewer ≡ left - 1 → HasTurn known (steps + 1) fewer first core new
+    turn_made size fewer same =
+        let (v, at, like) = twin s.last.task m.progress.job.tasks made.job.tasks t (profiles_stay h.member t runs.task called.1 made.job [] made.touched made.is) h.lasts.task in
+        record {
+          bare = later;
+          member = bare_member;
+          task = v;
+          ordered = subst IsInOrderButPlaces session_is (subst (OrderAfter part.session) none_last (last_parts_restore_order part.session between));
+          leads = (one_more first steps h.leads).session ∙ session_is;
+          silent = λ start i to.
+              let before : after (i + steps) start ≡ s = after-add i steps start ∙ ap (after steps) to ∙ h.leads in
+              let one : i + (steps + 1) ≡ i + steps + 1 = omega arith in
+              ap (λ (q : ℕ). lines q start) one ∙ (one_more start (i + steps) before).lines_are ∙ h.silent start i to;
+          fits = fits_more core (length k.cpu.core) steps first s size h.leads h.fits needs;
+          storage = made.storage;
+          plan = h.plan;
+          stands = made.stands;
+          found = found_later;
+          lasts = record {
+            member = found_more;
+            task = at;
+            ready = ap (λ (p : Profile). p.condition) like ∙ h.lasts.ready;
+            rules = subst (RulesLeave (counted_by (steps + 1) later)) (sym same) (rules_after s (counted_by (steps + 1) later) left some refl (omega arith) (omega arith) refl h.lasts.rules);
+            below = omega (arith, h.lasts.below, some, same);
+          };
+          slot = h.slot ∙ ap (λ (p : Profile). slot_of h.plan h.member.constants.number p.number) (sym like);
+        }
+
+-- ---- the loop
+
+-- the turn at its beginning
+pub turn_begins : (known : Option (List (List ℕ))) (room : ℕ) (x : Storage) (plan : Placement) (s : Session) (k : Machine) → IsInOrderButPlaces s → MachineRepresents x known k plan s → TurnLasts plan s room → (left : ℕ) → left ≡ room → HasTurn known 0 left s (length k.cpu.core) k
+turn_begins known room x plan s k o h w left same =
+    subst (λ (i : ℕ). HasTurn known 0 i s (length k.cpu.core) k) (sym same) (record {
+      bare = s;
+      member = w.who;
+      task = w.task;
+      ordered = subst IsInOrderButPlaces (sym (counted_none s)) o;
+      leads = sym (counted_none s);
+      silent = λ start n to. let one : n + 0 ≡ n = omega arith in ap (λ (i : ℕ). lines i start) one;
+      fits = λ i low. absurd (omega (arith, low));
+      storage = x;
+      plan = plan;
+      stands = h;
+      found = w.lasts.member;
+      lasts = subst (λ (z : SessionJob). Lasts (counted_by 0 s) z w.task room) (sym none) (subst (λ (z : Session). Lasts z w.who w.task room) (sym (counted_none s)) w.lasts);
+      slot = w.runs;
+    })
+  where
+    none : counted_more 0 w.who ≡ w.who
+    none = let one : w.who.progress.made + 0 ≡ w.who.progress.made = omega arith in ap (λ (i : ℕ). record w.who { progress = record w.who.progress { made = i } }) one
+
+pub made_in_turn : (known : Option (List (List ℕ))) (steps left : ℕ) (first : Session) (core : ℕ) (k : Machine) → HasTurn known steps left first core k → MadeInTurn known steps first core k
+made_in_turn known steps left first core k h = record { bare = h.bare; ordered = h.ordered; leads = h.leads; silent = h.silent; fits = h.fits; storage = h.storage; plan = h.plan; stands = h.stands }
+
+-- ---- the turn
+
+-- the operators fit the counts of the tables before them
+pub turn_fits : (plan : Placement) (s : Session) (tasks : Tasks) (room made : ℕ) → IsInOrderButPlaces s → TasksShow plan s tasks → TurnLasts plan s room → made ≤ room → TurnHasRoom tasks made
+turn_fits plan s tasks room made o shows w few =
+    let m = w.who in
+    let (inm, named) = keyed_has number_of s.last.job s.jobs m w.lasts.member in
+    let number : m.constants.number ≡ tasks.last_job = named ∙ sym shows.counts.last_job in
+    let b = job_at plan 1 s.jobs (map job_row tasks.jobs) m o.numbered shows.jobs inm in
+    let (r, at, same) = mapped_at job_row tasks.jobs (m.constants.number - 1) b.row b.at in
+    let limit : m.constants.limit ≤ 100000000 = (all_in (λ (y : SessionJob). JobInOrder (IsSegment y.constants) y.constants y.progress) s.jobs m o.jobs inm).unchanging.limit in
+    let low : made < 100000000 = omega (arith, few, w.lasts.below, limit) in
+    record {
+      job = r;
+      from_one = omega (arith, number, numbered_low 1 s.jobs m o.numbered inm);
+      at = ap (λ (n : ℕ). slice_get tasks.jobs (n - 1)) (sym number) ∙ at;
+      of_job = omega (arith, low, ap (λ (y : rows.JobRow). y.made) same, b.shows.made, made_few s o m inm);
+      made = omega (arith, low, shows.counts.made, all_few s o);
+      turn = omega (arith, low, shows.counts.turn, o.turn, all_few s o);
+    }
+
+-- the steps of the turn, once they are counted
+pub turn_goes_on : (known : Option (List (List ℕ))) (steps : ℕ) (first : Session) (old : Machine) (k : Machine) (tasks : Tasks) → MadeInTurn known steps first (length old.cpu.core) k → k.tasks ≡ old.tasks
+    → ((plan : Placement) (s : Session) → NumberedFrom 1 s.jobs → TasksShow plan s k.tasks → TasksShow plan (counted_by steps s) tasks)
+    → tasks ≡ record k.tasks { jobs = tasks.jobs; made = k.tasks.made + steps; turn = k.tasks.turn + steps } → old.tasks.printed ≡ 0 → BeforeHalt old.tasks.halt old.tasks.made steps
+    → GoesOnInTurn known steps first old (record k { tasks = tasks })
+turn_goes_on known steps first old k tasks a stay shows rest none below = record {
+  session = counted_by steps a.bare;
+  leads = a.leads;
+  silent = a.silent;
+  stands = record {
+    storage = a.storage;
+    plan = a.plan;
+    ordered = a.ordered;
+    stands = record {
+      session = more_stands steps a.bare a.storage k.cpu a.plan a.stands.session;
+      storage = a.stands.storage;
+      tables = shows a.plan a.bare (bare_numbered steps a.bare.last.job 1 a.bare.jobs a.ordered.numbered) a.stands.tables;
+    };
+  };
+  made = ap (λ (z : Tasks). z.made) rest ∙ ap (λ (z : Tasks). z.made + steps) stay;
+  unprinted = ap (λ (z : Tasks). z.printed) rest ∙ ap (λ (z : Tasks). z.printed) stay ∙ none;
+  fits = a.fits;
+  below = below;
 }
 
-module _ (known : Option (List (List ℕ))) (steps left : ℕ) (first : Session) (old k : Machine) (h : HasTurn known steps left first old k) (some : 1 ≤ left) where
-  abbrev w : TurnLasts h.plan h.session left
-  w = h.lasts some
-
-  abbrev now_runs : IsRunning h.plan h.session.jobs w.who w.task
-  now_runs = runs known h.storage h.plan h.session h.ordered k h.stands left some w
-
-  -- the last task is the running one
-  pub turn_runs : RunsTask k
-  turn_runs = record { storage = h.storage; told = known; plan = h.plan; session = h.session; member = w.who; task = w.task; ordered = but_counts h.session h.ordered; stands = h.stands; running = now_runs }
-
-  -- an operator more of it fits the counts
-  pub turn_counts : (tasks : Tasks) → tasks ≡ k.tasks → CountsHaveRoom tasks (last_chosen tasks)
-  turn_counts tasks same = subst (λ (z : Tasks). CountsHaveRoom z (last_chosen z)) (sym same) (turn_room known h.storage h.plan h.session h.ordered k h.stands left some w)
-
-  pub turn_made : (new : Machine) → ForEachReady k (λ x told plan s m t. MakesOperator x told plan s m t answers.Done k new) → new.tasks ≡ k.tasks → (tasks : Tasks) → IsCounted (last_chosen new.tasks) new.tasks tasks → length k.cpu.core ≡ length old.cpu.core
-      → (fewer : ℕ) → fewer ≡ left - 1 → HasTurn known (steps + 1) fewer first old (record new { tasks = tasks })
-  turn_made new row tables tasks counted core fewer same =
-      let made = row h.storage known h.plan h.session w.who w.task (but_counts h.session h.ordered) h.stands now_runs w.lasts.ready in
-      subst (λ (i : ℕ). HasTurn known (steps + 1) i first old (record new { tasks = tasks })) (sym same)
-      (turn_more known h.storage h.plan h.session h.ordered k h.stands left some w new made tables tasks (subst (λ (z : Tasks). IsCounted (last_chosen z) new.tasks tasks) tables counted) steps first old h.leads h.silent h.made h.fits core)
-
-  -- where it wasn't made nothing has changed
-  pub turn_stays : (answered : Step) (new : Machine) → answered ≢ answers.Done → ForEachReady k (λ x told plan s m t. MakesOperator x told plan s m t answered k new) → new ≡ k
-  turn_stays answered new other row =
-      unmade h.storage known h.plan h.session w.who w.task answered k new other (row h.storage known h.plan h.session w.who w.task (but_counts h.session h.ordered) h.stands now_runs w.lasts.ready)
+-- no step of it was made
+pub turn_rests : (known : Option (List (List ℕ))) (s : Session) (k : Machine) → StandsAt known k s → k.tasks.printed ≡ 0 → GoesOnInTurn known 0 s k k
+turn_rests known s k h none = record {
+  session = s;
+  leads = refl;
+  silent = λ start n to. let one : n + 0 ≡ n = omega arith in ap (λ (i : ℕ). lines i start) one;
+  stands = h;
+  made = omega arith;
+  unprinted = none;
+  fits = λ i low. absurd (omega (arith, low));
+  below = λ j low. absurd (omega (arith, low));
+}

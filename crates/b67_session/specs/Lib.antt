@@ -1,3 +1,4 @@
+pub mod InTurn
 pub mod Slices
 pub mod Shaped
 pub mod Steps

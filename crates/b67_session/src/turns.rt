@@ -1,6 +1,7 @@
 //! The chosen task is the running one.
 
 ghost use Rattle.std.specs.Prelude.{◌≡◌, ℕ, ◌≤◌, List, length, Option, Some, slice_get};
+ghost use Rattle.b67_model.specs.InOrder.{IsInOrderButPlaces};
 ghost use Rattle.b67_model.specs.Schedule.{Session};
 ghost use Rattle.b67_layout.specs.Orders.{IsInOrderButCounts};
 ghost use Rattle.b67_stack.specs.Represents.{Storage};
@@ -9,12 +10,14 @@ ghost use Rattle.b67_task_switch.specs.Turns.{with_running};
 ghost use Rattle.b67_task_tables.specs.declared.tables.TaskRow.{TaskRow};
 ghost use Rattle.b67_task_tables.specs.Tables.{MachineRepresents};
 ghost use Rattle.b67_task_switch.specs.Standing.{HasRow};
+ghost use Rattle.b67_session_schedule.specs.Lasting.{TurnLasts};
 ghost use Rattle.b67_session_attempt.specs.Passed.{AreCountable};
 ghost use Rattle.b67_session.specs.Slices.{StandsAt, Keeps};
 ghost use Rattle.b67_session.specs.Steps.{IsInOrderFor, GoesOnInTurn};
+ghost use Rattle.b67_session.specs.InTurn.{TurnBegins, MadeInTurn};
 
 use b67_session_make::make;
-use b67_session_schedule::{count_in_turn, turn_room};
+use b67_session_schedule::{count_turn, turn_room};
 use b67_stack::Step;
 use b67_task_switch::switch_to;
 use b67_task_tables::Machine;
@@ -35,10 +38,31 @@ pub(crate) fn give_turn(machine: &mut Machine, row: u8)
     }
 }
 
-/// Goes on with the turn of the last task: makes operators of it, each a whole step, up to `most`, and answers how many. It
-/// ends before another task is chosen, before the halt and before an operator by which the job reaches its limit; before an
-/// operator that prints, ends its task or wants something that is absent; and if no task has the turn.
+/// Makes operators of the running task, up to `room`, and answers how many. It stops before one that prints, ends its task or
+/// wants something that is absent. None is counted yet.
 #[inline(never)]
+fn make_in_turn(machine: &mut Machine, room: u64) -> u64
+    requires { TurnBegins machine.old room }
+    ensures few { result ≤ room }
+    ensures row { (x : Storage) (known : Option (List (List ℕ))) (plan : Placement) (s : Session) → IsInOrderButPlaces s → MachineRepresents x known machine.old plan s → TurnLasts plan s room
+        → MadeInTurn known result s (length machine.old.cpu.core) machine.new }
+    ensures tables { machine.new.tasks ≡ machine.old.tasks }
+    ensures keeps { Keeps machine.old machine.new }
+{
+    let mut made = 0;
+    'operator: while made < room {
+        match make(machine) {
+            Step::Done => {}
+            _ => return made,
+        }
+        made += 1;
+    }
+    made
+}
+
+/// Goes on with the turn of the last task: makes operators of it, each a whole step, up to `most`, and answers how many. It
+/// stops before another task is chosen, before the halt and before an operator by which the job reaches its limit; before an
+/// operator that prints, ends its task or wants something that is absent; and if no task has the turn.
 pub(crate) fn go_on_with_turn(machine: &mut Machine, most: u64) -> u64
     requires stands { IsInOrderFor machine.old }
     requires unprinted { machine.old.tasks.printed ≡ 0 }
@@ -48,14 +72,10 @@ pub(crate) fn go_on_with_turn(machine: &mut Machine, most: u64) -> u64
     ensures keeps { Keeps machine.old machine.new }
 {
     let room = turn_room(&machine.tasks, most);
-    let mut made = 0;
-    'operator: while made < room {
-        match make(machine) {
-            Step::Done => {}
-            _ => return made,
-        }
-        count_in_turn(&mut machine.tasks);
-        made += 1;
+    if room == 0 {
+        return 0;
     }
+    let made = make_in_turn(machine, room);
+    count_turn(&mut machine.tasks, made);
     made
 }

@@ -27,11 +27,11 @@ use Rattle.b67_session_schedule.specs.declared.counting.Chosen.{Chosen}
 use Rattle.b67_session_schedule.specs.Counted.{choice_of}
 use Rattle.b67_session_ends.specs.Counts.{IsCounted}
 
-alike_refl : (ms : List SessionJob) → AllAlike ms ms
+pub alike_refl : (ms : List SessionJob) → AllAlike ms ms
 alike_refl [] = tt
 alike_refl (m ∷ ms) = (record { number = refl; stack_size = refl; dictionary = refl; count = refl; tasks = refl }, alike_refl ms)
 
-same_refl : (ms : List SessionJob) → SameJobs ms ms
+pub same_refl : (ms : List SessionJob) → SameJobs ms ms
 same_refl [] = tt
 same_refl (m ∷ ms) = (record { constants = refl; job = refl }, same_refl ms)
 

@@ -11,7 +11,7 @@ ghost use Rattle.b67_layout.specs.Meets.{with_job};
 ghost use Rattle.b67_layout.specs.Placement.{Placement};
 ghost use Rattle.b67_task_tables.specs.declared.tables.JobRow.{JobRow};
 ghost use Rattle.b67_task_tables.specs.Tables.{switch_of, TasksShow};
-ghost use Rattle.b67_session_schedule.specs.Counted.{choice_of, counted, counted_row, CountsHaveRoom, Past, IsLeft, last_chosen};
+ghost use Rattle.b67_session_schedule.specs.Counted.{choice_of, counted, counted_row, row_more, counted_by, CountsHaveRoom, TurnHasRoom, Past, IsLeft};
 
 use b67_model_text::Switch;
 use b67_task_tables::{JobRow, Tasks};
@@ -83,19 +83,25 @@ pub fn count(tasks: &mut Tasks, chosen: Chosen)
     tasks.next_switch = first_left(tasks.switches.as_slice(), tasks.next_switch, tasks.made);
 }
 
-/// Counts one operator more of the turn of the last task, in the session, in its job and in its turn. No switch that is left
-/// is for a lower count then.
+/// A job has made so many operators more.
 #[inline(always)]
-pub fn count_in_turn(tasks: &mut Tasks)
-    requires { CountsHaveRoom tasks.old (last_chosen tasks.old) }
-    // Of the tables once the operator has changed its job, it makes those of the session's step.
-    ensures moment { (plan : Placement) (s : Session) (m : SessionJob) (made : JobMoment) → NumberedFrom 1 s.jobs
-        → keyed number_of tasks.old.last_job s.jobs ≡ Some m → made.progress.made ≡ m.progress.made + 1
-        → TasksShow plan (with_job s m made.progress.job) tasks.old → TasksShow plan (with_moment s (choice_of (last_chosen tasks.old)) m made) tasks.new }
-    ensures jobs { (r : JobRow) → slice_get tasks.old.jobs (tasks.old.last_job - 1) ≡ Some r → tasks.new.jobs ≡ slice_set tasks.old.jobs (tasks.old.last_job - 1) (counted_row r) }
-    ensures rest { tasks.new ≡ record tasks.old { jobs = tasks.new.jobs; made = tasks.old.made + 1; turn = tasks.old.turn + 1 } }
+fn add_to_job(rows: &mut [JobRow], at: usize, more: u64)
+    requires { (r : JobRow) × (slice_get rows.old at ≡ Some r) × (r.made + more < 2 ^ 64) }
+    ensures { (r : JobRow) → slice_get rows.old at ≡ Some r → rows.new ≡ slice_set rows.old at (row_more more r) }
 {
-    tasks.made += 1;
-    tasks.turn += 1;
-    count_of_job(tasks.jobs.as_mut_slice(), tasks.last_job as usize - 1);
+    let row = &mut rows[at];
+    row.made += more;
+}
+
+/// Counts so many operators more of the last task, in the session, in its job and in its turn. All else of the tables stays.
+#[inline(always)]
+pub fn count_turn(tasks: &mut Tasks, more: u64)
+    requires { TurnHasRoom tasks.old more }
+    ensures shows { (plan : Placement) (s : Session) → NumberedFrom 1 s.jobs → TasksShow plan s tasks.old → TasksShow plan (counted_by more s) tasks.new }
+    ensures jobs { (r : JobRow) → slice_get tasks.old.jobs (tasks.old.last_job - 1) ≡ Some r → tasks.new.jobs ≡ slice_set tasks.old.jobs (tasks.old.last_job - 1) (row_more more r) }
+    ensures rest { tasks.new ≡ record tasks.old { jobs = tasks.new.jobs; made = tasks.old.made + more; turn = tasks.old.turn + more } }
+{
+    tasks.made += more;
+    tasks.turn += more as u32;
+    add_to_job(tasks.jobs.as_mut_slice(), tasks.last_job as usize - 1, more);
 }

@@ -8,5 +8,5 @@ mod switches;
 mod turns;
 
 pub use choosing::{choose, schedule};
-pub use counting::{Chosen, count, count_in_turn};
+pub use counting::{Chosen, count, count_turn};
 pub use turns::turn_room;

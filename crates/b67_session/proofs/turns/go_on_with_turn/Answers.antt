@@ -1,74 +1,63 @@
-use Rattle.std.proofs.Common.{◌≡◌, ◌+◌, ◌-◌, refl, sym, ap, ◌∙◌, subst, arith}
+use Rattle.std.proofs.Common.{◌-◌, sym, ap, ◌∙◌, subst, arith}
 use Rattle.b67_task_tables.specs.declared.tables.Tasks.{Tasks}
-use Rattle.b67_task_tables.specs.declared.tables.Machine.{Machine}
-use Rattle.b67_session_ends.specs.Counts.{IsCounted}
-use Rattle.b67_session_schedule.specs.Counted.{last_chosen}
-use Rattle.b67_session_attempt.specs.Passed.{AreCountable}
-use Rattle.b67_session.specs.Slices.{Keeps}
-use Rattle.b67_session.specs.Steps.{GoesOnInTurn}
-use Rattle.b67_session.proofs.Turning.{has_begun, goes_on_in_turn, counted_in_turn, turn_runs, turn_counts, turn_made, turn_stays}
+use Rattle.b67_task_tables.specs.Tables.{AreCountable, row_names}
+use Rattle.b67_session_schedule.specs.Counted.{TurnHasRoom}
+use Rattle.b67_session_ends.proofs.Counting.{countable_counted, names_counted}
+use Rattle.b67_session.proofs.Turning.{turn_fits, turn_goes_on, turn_rests}
 use Rattle.b67_session.proofs.turns.go_on_with_turn.Goals as goal
 
-pub operator-init : goal.operator-init
-operator-init c = record {
-  few = omega arith;
-  unprinted = c.requires.unprinted;
-  countable = λ all. all;
-  keeps = record { core = refl; sectors = refl; halt = refl; names = refl };
-  turn = λ known s h. has_begun known c.turn_room-room.result s c.args.machine.now h (c.turn_room-room.ensures.lasts h.plan s h.ordered h.stands.tables);
-}
+pub returns-then-room-eq0-clause-row : goal.returns-then-room-eq0-clause-row
+returns-then-room-eq0-clause-row c = λ known s h. turn_rests known s c.args.machine.now h c.requires.unprinted
 
-pub make-requires : goal.make-requires
-make-requires c =
+pub make_in_turn-made-requires : goal.make_in_turn-made-requires
+make_in_turn-made-requires c =
     let i = c.requires.stands in
-    record { runs = turn_runs i.known c.operator.made (c.turn_room-room.result - c.operator.made) i.session c.args.machine.now c.operator.machine (c.operator.invariant.turn i.known i.session i.stands) (omega arith) }
-
-pub count_in_turn-requires : goal.count_in_turn-requires
-count_in_turn-requires c =
-    let i = c.requires.stands in
-    turn_counts i.known c.operator.made (c.turn_room-room.result - c.operator.made) i.session c.args.machine.now c.operator.machine (c.operator.invariant.turn i.known i.session i.stands) (omega arith)
-    c.make.new.machine.tasks c.make.ensures.tasks
-
-counted : (c : goal.After-count_in_turn) → IsCounted (last_chosen c.make.new.machine.tasks) c.make.new.machine.tasks c.count_in_turn.new.tasks
-counted c =
-    let i = c.requires.stands in
-    counted_in_turn c.make.new.machine.tasks c.count_in_turn.new.tasks
-    (turn_counts i.known c.operator.made (c.turn_room-room.result - c.operator.made) i.session c.args.machine.now c.operator.machine (c.operator.invariant.turn i.known i.session i.stands) (omega arith)
-    c.make.new.machine.tasks c.make.ensures.tasks)
-    c.count_in_turn.ensures.moment c.count_in_turn.ensures.jobs c.count_in_turn.ensures.rest (ap (λ (z : Tasks). z.printed) c.make.ensures.tasks ∙ c.operator.invariant.unprinted)
-
-pub operator-preserved : goal.operator-preserved
-operator-preserved c = record {
-  few = omega arith;
-  unprinted = (counted c).printed;
-  countable = λ all. (counted c).countable (subst (λ (z : Tasks). AreCountable z.jobs) (sym c.make.ensures.tasks) (c.operator.invariant.countable all));
-  keeps = record {
-    core = c.make.ensures.keeps.core ∙ c.operator.invariant.keeps.core;
-    sectors = c.make.ensures.keeps.sectors ∙ c.operator.invariant.keeps.sectors;
-    halt = (counted c).halt ∙ c.make.ensures.keeps.halt ∙ c.operator.invariant.keeps.halt;
-    names = (counted c).names ∙ c.make.ensures.keeps.names ∙ c.operator.invariant.keeps.names;
-  };
-  turn = λ known s h.
-      turn_made known c.operator.made (c.turn_room-room.result - c.operator.made) s c.args.machine.now c.operator.machine (c.operator.invariant.turn known s h) (omega arith)
-      c.make.new.machine c.in-Done.ensures.row c.make.ensures.tasks c.count_in_turn.new.tasks (counted c) c.operator.invariant.keeps.core (c.turn_room-room.result - (c.operator.made + 1)) (omega arith);
-}
-
-pub returns-in_default : goal.returns-in_default
-returns-in_default c =
-    let i = c.requires.stands in
-    let same : c.make.new.machine ≡ c.operator.machine =
-    turn_stays i.known c.operator.made (c.turn_room-room.result - c.operator.made) i.session c.args.machine.now c.operator.machine (c.operator.invariant.turn i.known i.session i.stands) (omega arith)
-    c.make.result c.make.new.machine c.in_default.not-Done c.make.ensures.row in
     record {
-      few = omega (arith, c.operator.invariant.few, c.turn_room-room.ensures.few);
-      row = λ known s h.
-          subst (λ (z : Machine). GoesOnInTurn known c.operator.made s c.args.machine.now z) (sym same)
-          (goes_on_in_turn known c.operator.made (c.turn_room-room.result - c.operator.made) s c.args.machine.now c.operator.machine (c.operator.invariant.turn known s h) c.operator.invariant.unprinted
-          (λ j low. c.turn_room-room.ensures.halt j (omega (arith, low, c.operator.invariant.few))));
-      countable = λ all. subst (λ (z : Machine). AreCountable z.tasks.jobs) (sym same) (c.operator.invariant.countable all);
-      keeps = subst (λ (z : Machine). Keeps c.args.machine.now z) (sym same) c.operator.invariant.keeps;
+      storage = i.stands.storage;
+      known = i.known;
+      plan = i.stands.plan;
+      session = i.session;
+      ordered = i.stands.ordered;
+      stands = i.stands.stands;
+      lasts = c.turn_room-room.ensures.lasts i.stands.plan i.session i.stands.ordered i.stands.stands.tables (omega arith);
     }
 
+pub count_turn-requires : goal.count_turn-requires
+count_turn-requires c =
+    let i = c.requires.stands in
+    subst (λ (z : Tasks). TurnHasRoom z c.make_in_turn-made.result) (sym c.make_in_turn-made.ensures.tables)
+    (turn_fits i.stands.plan i.session c.args.machine.now.tasks c.turn_room-room.result c.make_in_turn-made.result i.stands.ordered i.stands.stands.tables
+    (c.turn_room-room.ensures.lasts i.stands.plan i.session i.stands.ordered i.stands.stands.tables (omega arith)) c.make_in_turn-made.ensures.few)
+
+room : (c : goal.After-count_turn) → TurnHasRoom c.make_in_turn-made.new.machine.tasks c.make_in_turn-made.result
+room c =
+    let i = c.requires.stands in
+    subst (λ (z : Tasks). TurnHasRoom z c.make_in_turn-made.result) (sym c.make_in_turn-made.ensures.tables)
+    (turn_fits i.stands.plan i.session c.args.machine.now.tasks c.turn_room-room.result c.make_in_turn-made.result i.stands.ordered i.stands.stands.tables
+    (c.turn_room-room.ensures.lasts i.stands.plan i.session i.stands.ordered i.stands.stands.tables (omega arith)) c.make_in_turn-made.ensures.few)
+
 pub returns-clause-row : goal.returns-clause-row
-returns-clause-row c = λ known s h. goes_on_in_turn known c.operator.made (c.turn_room-room.result - c.operator.made) s c.args.machine.now c.operator.machine (c.operator.invariant.turn known s h) c.operator.invariant.unprinted
-    (λ j low. c.turn_room-room.ensures.halt j (omega (arith, low, c.operator.invariant.few)))
+returns-clause-row c = λ known s h.
+    turn_goes_on known c.make_in_turn-made.result s c.args.machine.now c.make_in_turn-made.new.machine c.count_turn.new.tasks
+    (c.make_in_turn-made.ensures.row h.storage known h.plan s h.ordered h.stands (c.turn_room-room.ensures.lasts h.plan s h.ordered h.stands.tables (omega arith)))
+    c.make_in_turn-made.ensures.tables c.count_turn.ensures.shows c.count_turn.ensures.rest c.requires.unprinted
+    (λ j low. c.turn_room-room.ensures.halt j (omega (arith, low, c.make_in_turn-made.ensures.few)))
+
+pub returns-clause-countable : goal.returns-clause-countable
+returns-clause-countable c = λ all.
+    let r = room c in
+    let before : AreCountable c.make_in_turn-made.new.machine.tasks.jobs = subst (λ (z : Tasks). AreCountable z.jobs) (sym c.make_in_turn-made.ensures.tables) all in
+    subst AreCountable (sym (c.count_turn.ensures.jobs r.job r.at))
+    (countable_counted c.make_in_turn-made.result c.make_in_turn-made.new.machine.tasks.jobs (c.make_in_turn-made.new.machine.tasks.last_job - 1) r.job r.at before)
+
+pub returns-clause-keeps : goal.returns-clause-keeps
+returns-clause-keeps c =
+    let r = room c in
+    let k = c.make_in_turn-made.ensures.keeps in
+    record {
+      core = k.core;
+      sectors = k.sectors;
+      halt = ap (λ (z : Tasks). z.halt) c.count_turn.ensures.rest ∙ k.halt;
+      names = ap row_names (c.count_turn.ensures.jobs r.job r.at)
+          ∙ names_counted c.make_in_turn-made.result c.make_in_turn-made.new.machine.tasks.jobs (c.make_in_turn-made.new.machine.tasks.last_job - 1) r.job r.at ∙ k.names;
+    }

@@ -12,6 +12,6 @@ returns c = record {
   last_job = cc;
   last_number = cc;
   printed = cc;
-  countable = λ all. rw (c.count.ensures.jobs c.requires.job c.requires.at) (countable_counted c.args.tasks.now.jobs (c.args.chosen.job - 1) c.requires.job c.requires.at all);
-  names = rw (c.count.ensures.jobs c.requires.job c.requires.at) (names_counted c.args.tasks.now.jobs (c.args.chosen.job - 1) c.requires.job c.requires.at);
+  countable = λ all. rw (c.count.ensures.jobs c.requires.job c.requires.at) (countable_counted 1 c.args.tasks.now.jobs (c.args.chosen.job - 1) c.requires.job c.requires.at all);
+  names = rw (c.count.ensures.jobs c.requires.job c.requires.at) (names_counted 1 c.args.tasks.now.jobs (c.args.chosen.job - 1) c.requires.job c.requires.at);
 }

@@ -25,4 +25,4 @@ returns-clause-left c = λ short rise left.
 
 pub returns-clause-jobs : goal.returns-clause-jobs
 returns-clause-jobs c = λ r at.
-    jobs_after c.args.tasks.now.jobs c.as_mut_slice.result.now c.count_of_job.new.rows (c.args.chosen.job - 1) r c.as_mut_slice.ensures.value (c.count_of_job.ensures r) c.count_of_job.auto.rows at
+    jobs_after 1 c.args.tasks.now.jobs c.as_mut_slice.result.now c.count_of_job.new.rows (c.args.chosen.job - 1) r c.as_mut_slice.ensures.value (c.count_of_job.ensures r) c.count_of_job.auto.rows at

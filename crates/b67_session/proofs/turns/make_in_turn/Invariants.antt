@@ -1,0 +1,22 @@
+use Rattle.std.proofs.Common.{◌≡◌, ◌≤◌, ◌-◌, ℕ, List, length, Option}
+use Rattle.b67_model.specs.InOrder.{IsInOrderButPlaces}
+use Rattle.b67_model.specs.Schedule.{Session}
+use Rattle.b67_stack.specs.Represents.{Storage}
+use Rattle.b67_layout.specs.Placement.{Placement}
+use Rattle.b67_task_tables.specs.Tables.{MachineRepresents}
+use Rattle.b67_session_schedule.specs.Lasting.{TurnLasts}
+use Rattle.b67_session.specs.Slices.{Keeps}
+use Rattle.b67_session.proofs.Turning.{HasTurn}
+use Rattle.b67_session.proofs.turns.make_in_turn.Given as goal
+
+abbrev pub invariant-operator : goal.invariant-operator
+invariant-operator l = record {
+  few : l.made ≤ l.room;
+  tables : l.machine.tasks ≡ l.initial.machine.tasks;
+  keeps : Keeps l.initial.machine l.machine;
+  turn : (x : Storage) (known : Option (List (List ℕ))) (plan : Placement) (s : Session) → IsInOrderButPlaces s → MachineRepresents x known l.initial.machine plan s → TurnLasts plan s l.room
+      → HasTurn known l.made (l.room - l.made) s (length l.initial.machine.cpu.core) l.machine;
+}
+
+abbrev pub decreases-operator : goal.decreases-operator
+decreases-operator l = l.room - l.made

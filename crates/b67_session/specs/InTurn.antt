@@ -1,0 +1,34 @@
+-- Operators of a turn that were made and aren't counted yet.
+use Rattle.std.specs.Prelude.{◌≡◌, ℕ, ◌+◌, List, Option}
+use Rattle.b67_model.specs.InOrder.{IsInOrderButPlaces}
+use Rattle.b67_model.specs.Run.{after, lines}
+use Rattle.b67_model.specs.Schedule.{Session}
+use Rattle.b67_stack.specs.Represents.{Storage}
+use Rattle.b67_layout.specs.Placement.{Placement}
+use Rattle.b67_task_tables.specs.declared.tables.Machine.{Machine}
+use Rattle.b67_task_tables.specs.Tables.{MachineRepresents}
+use Rattle.b67_session_schedule.specs.Counted.{counted_by}
+use Rattle.b67_session_schedule.specs.Lasting.{TurnLasts}
+use Rattle.b67_session.specs.Slices.{StepsFit}
+
+-- the machine represents some session in order, of which the last task has so many operators of its turn left
+pub record TurnBegins (k : Machine) (room : ℕ) : Type 0 where
+  pub storage : Storage
+  pub known : Option (List (List ℕ))
+  pub plan : Placement
+  pub session : Session
+  pub ordered : IsInOrderButPlaces session
+  pub stands : MachineRepresents storage known k plan session
+  pub lasts : TurnLasts plan session room
+
+-- So many steps lead from a session to another, which is in order, and print nothing; core of so many words had those that they
+-- need. The machine represents that session but for the counts of these steps
+pub record MadeInTurn (known : Option (List (List ℕ))) (steps : ℕ) (first : Session) (core : ℕ) (k : Machine) : Type 0 where
+  pub bare : Session
+  pub ordered : IsInOrderButPlaces (counted_by steps bare)
+  pub leads : after steps first ≡ counted_by steps bare
+  pub silent : (start : Session) (n : ℕ) → after n start ≡ first → lines (n + steps) start ≡ lines n start
+  pub fits : StepsFit core steps first
+  pub storage : Storage
+  pub plan : Placement
+  pub stands : MachineRepresents storage known k plan bare
