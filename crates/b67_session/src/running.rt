@@ -58,7 +58,8 @@ impl Session {
     }
 
     /// Makes steps until no task lives, the count of the halt is reached, or `n` were made, looked at in this order; as `slice`
-    /// does. It may be called again after every answer, and prints nothing twice.
+    /// does. It may be called again after every answer, and prints nothing twice. It isn't stopped if core, sectors and devices
+    /// suffice for these steps.
     #[inline(always)]
     pub fn slice<B: Backing, K: Sink>(
         &mut self,

@@ -103,6 +103,9 @@ fn go_on<B: Backing, K: Sink>(
 /// call the backing. If nothing is known of what the device's sectors hold, the words that it gives back may be others, and
 /// as many. After `Ended` the machine represents the session without a task; if it was known what the sectors hold, the one
 /// after the steps. Whatever the device gives back, the machine represents some session in order afterwards.
+///
+/// There is no `Stop` if it is known what the device's sectors hold, no count of failures rises, and core and sectors suffice
+/// for the steps that are to be made, up to the halt.
 #[inline(always)]
 pub fn slice<B: Backing, K: Sink>(
     machine: &mut Machine,

@@ -23,6 +23,8 @@ mod job_admit_rows;
 #[cfg(test)]
 mod job_texts_rows;
 #[cfg(test)]
+mod limits_rows;
+#[cfg(test)]
 mod load_verify_rows;
 mod pages;
 mod session;
