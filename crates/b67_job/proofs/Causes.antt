@@ -160,8 +160,14 @@ module _ {S B : Type 0} {words : List (Bor (List ℕ))} {left : S → Option (Li
   due_done e (usage_due c g same m s t) = absurd (omega (arith, e, s))
   due_done e (refusal_due command b r c w same j m s t) = absurd (omega (arith, e, s))
   due_done {n = n} {text = text} e (print_due command b printed c r same j m s t) = (command, b, c, r, subst (λ (x : Judgement). IsAllDone d (exercise_of (Some command)) x machine text) (sym j) (m, same, t))
-  due_done {n = n} {text = text} e (run_due core p run stops) = (run.command, run.bytes, run.is, run.read, subst (λ (x : Judgement). IsAllDone d (exercise_of (Some run.command)) x machine text) (sym run.judged)
-      (subst (λ (x : Option Exercise). IsAllDone d x (Runs p) machine text) (ap exercise_of run.is) (run_is_done d core p (exercise_of (command_of words)) machine n text e stops)))
+  due_done {n = n} {text = text} e (run_due core p run stops) = (
+    run.command,
+    run.bytes,
+    run.is,
+    run.read,
+    subst (λ (x : Judgement). IsAllDone d (exercise_of (Some run.command)) x machine text) (sym run.judged)
+        (subst (λ (x : Option Exercise). IsAllDone d x (Runs p) machine text) (ap exercise_of run.is) (run_is_done d core p (exercise_of (command_of words)) machine n text e stops)),
+  )
   due_done e (reading_due c r same m s t) = absurd (omega (arith, e, s))
   due_done e (memory_due c same m s t) = absurd (omega (arith, e, s))
 

@@ -6,6 +6,7 @@ use Rattle.std.proofs.lemmas.Bool.Decides.{nat_tests}
 use Rattle.std.proofs.lemmas.List.{length-take, length-map, take_all, drop_all, take-append-drop, take-take}
 use denote.Ref.{Bor}
 use Rattle.b67_io.specs.Causes.{Rose}
+use Rattle.b67_io.specs.Told.{GaveAll}
 use Rattle.b67_codefile.specs.Meaning.{program_of}
 use Rattle.b67_model_text.specs.Deck.{limit}
 use Rattle.b67_card.specs.Reading.{GaveFirst}

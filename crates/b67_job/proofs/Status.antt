@@ -74,30 +74,30 @@ given_status command bytes told r e (inr front) =
     let longer : limit < length told = rw f.1 (omega (arith, length-append bytes f.0)) in
     ap judged_status (asked_long command told r longer) ∙ sym (ap judged_status (asked_long command bytes r long))
 
-read_status : {S : Type 0} {left : S → Option (List ℕ)} {faults : S → ℕ} {deck deck' : S} (command : CommandLine) (bytes told : List ℕ) → Supplies command left faults deck deck' told → WasRead command left deck deck' bytes
+read_status : {S : Type 0} (left : S → Option (List ℕ)) (faults : S → ℕ) (deck deck' : S) (command : CommandLine) (bytes told : List ℕ) → Supplies command left faults deck deck' told → WasRead command left deck deck' bytes
     → judged_status (asked command told) ≡ judged_status (asked command bytes)
-read_status (lines.Run core) bytes told h given = given_status (lines.Run core) bytes told refl h.0 given
-read_status lines.Asm bytes told h given = given_status lines.Asm bytes told refl h.0 given
-read_status lines.Check bytes told h given = given_status lines.Check bytes told refl h.0 given
-read_status lines.Convert bytes told h given = given_status lines.Convert bytes told refl h.0 given
-read_status (lines.Exercise seed size core) bytes told h same = refl
+read_status left faults deck deck' (lines.Run core) bytes told h given = given_status (lines.Run core) bytes told refl h.0 given
+read_status left faults deck deck' lines.Asm bytes told h given = given_status lines.Asm bytes told refl h.0 given
+read_status left faults deck deck' lines.Check bytes told h given = given_status lines.Check bytes told refl h.0 given
+read_status left faults deck deck' lines.Convert bytes told h given = given_status lines.Convert bytes told refl h.0 given
+read_status left faults deck deck' (lines.Exercise seed size core) bytes told h same = refl
 
 -- a text that was read to its end is judged as the one that the source tells
-same_judgement : {S : Type 0} {left : S → Option (List ℕ)} {faults : S → ℕ} {deck deck' : S} (command : CommandLine) (bytes told : List ℕ) → Supplies command left faults deck deck' told → ReadAll command left deck deck' bytes
+same_judgement : {S : Type 0} (left : S → Option (List ℕ)) (faults : S → ℕ) (deck deck' : S) (command : CommandLine) (bytes told : List ℕ) → Supplies command left faults deck deck' told → ReadAll command left deck deck' bytes
     → asked command told ≡ asked command bytes
-same_judgement (lines.Run core) bytes told h all = ap (asked (lines.Run core)) (all.told told h.0).0
-same_judgement lines.Asm bytes told h all = ap (asked lines.Asm) (all.told told h.0).0
-same_judgement lines.Check bytes told h all = ap (asked lines.Check) (all.told told h.0).0
-same_judgement lines.Convert bytes told h all = ap (asked lines.Convert) (all.told told h.0).0
-same_judgement (lines.Exercise seed size core) bytes told h same = refl
+same_judgement left faults deck deck' (lines.Run core) bytes told h all = ap (asked (lines.Run core)) (all.told told h.0).0
+same_judgement left faults deck deck' lines.Asm bytes told h all = ap (asked lines.Asm) (all.told told h.0).0
+same_judgement left faults deck deck' lines.Check bytes told h all = ap (asked lines.Check) (all.told told h.0).0
+same_judgement left faults deck deck' lines.Convert bytes told h all = ap (asked lines.Convert) (all.told told h.0).0
+same_judgement left faults deck deck' (lines.Exercise seed size core) bytes told h same = refl
 
 -- a source that supplies a command that reads it hasn't failed
-stays : {S : Type 0} {left : S → Option (List ℕ)} {faults : S → ℕ} {deck deck' : S} {told : List ℕ} (command : CommandLine) → reads (Some command) ≡ true → Supplies command left faults deck deck' told → Stayed faults deck deck'
-stays (lines.Run core) r h = h.1
-stays lines.Asm r h = h.1
-stays lines.Check r h = h.1
-stays lines.Convert r h = h.1
-stays (lines.Exercise seed size core) r h = absurd (false≢true r)
+stays : {S : Type 0} (left : S → Option (List ℕ)) (faults : S → ℕ) (deck deck' : S) (told : List ℕ) (command : CommandLine) → reads (Some command) ≡ true → Supplies command left faults deck deck' told → Stayed faults deck deck'
+stays left faults deck deck' told (lines.Run core) r h = h.1
+stays left faults deck deck' told lines.Asm r h = h.1
+stays left faults deck deck' told lines.Check r h = h.1
+stays left faults deck deck' told lines.Convert r h = h.1
+stays left faults deck deck' told (lines.Exercise seed size core) r h = absurd (false≢true r)
 
 -- what is ample for a command is so for the session that it opens
 ample_run : {B : Type 0} {d : Device B} {core : ℕ} {p : Prepared} (command : CommandLine) (told : List ℕ) → core_asked command ≡ Some core → asked command told ≡ Runs p → IsAmple d command told → Tells d × Suffices d core p
@@ -145,22 +145,22 @@ module _ {S B : Type 0} {words : List (Bor (List ℕ))} {left : S → Option (Li
       let same : other ≡ command = same_command (command_of words) other command c is in
       let read = subst (λ (x : CommandLine). WasRead x left deck deck' b) same r in
       let judged = subst (λ (x : CommandLine). asked x b ≡ Refused refusal) same j in
-      inl (s ∙ sym (read_status command b told supplies read ∙ ap judged_status judged))
+      inl (s ∙ sym (read_status left source_faults deck deck' command b told supplies read ∙ ap judged_status judged))
   due_status command told is supplies ample worked (print_due other b printed c r untouched j m s t) =
       let same : other ≡ command = same_command (command_of words) other command c is in
       let read = subst (λ (x : CommandLine). ReadAll x left deck deck' b) same r in
       let judged = subst (λ (x : CommandLine). asked x b ≡ Prints printed) same j in
-      inl (s ∙ sym (ap judged_status (same_judgement command b told supplies read ∙ judged)))
+      inl (s ∙ sym (ap judged_status (same_judgement left source_faults deck deck' command b told supplies read ∙ judged)))
   due_status {status = status} {text = text} command told is supplies ample worked (run_due core p run stops) =
       let same : run.command ≡ command = same_command (command_of words) run.command command run.is is in
       let read = subst (λ (x : CommandLine). ReadAll x left deck deck' run.bytes) same run.read in
       let opens = subst (λ (x : CommandLine). core_asked x ≡ Some core) same run.opens in
-      let judged : asked command told ≡ Runs p = same_judgement command run.bytes told supplies read ∙ subst (λ (x : CommandLine). asked x run.bytes ≡ Runs p) same run.judged in
+      let judged : asked command told ≡ Runs p = same_judgement left source_faults deck deck' command run.bytes told supplies read ∙ subst (λ (x : CommandLine). asked x run.bytes ≡ Runs p) same run.judged in
       let room = ample_run command told opens judged ample in
       subst (λ (j : Judgement). (status ≡ judged_status j) ⊎ (status ≡ 9)) (sym judged)
       (run_status_is d core p (exercise_of (command_of words)) machine status text room.0 room.1 worked stops)
   due_status command told is supplies ample worked (reading_due c r same m s t) =
-      let calm = stays command (sym (ap reads is) ∙ c) supplies in
+      let calm = stays left source_faults deck deck' told command (sym (ap reads is) ∙ c) supplies in
       absurd (omega (arith, r, calm))
   due_status command told is supplies ample worked (memory_due c same m s t) = inr s
 

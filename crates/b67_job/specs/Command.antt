@@ -37,12 +37,15 @@ request (run ∷ first ∷ a ∷ second ∷ b ∷ []) =
     if bytes_eq run.now (codes "run") then option_and_then requested (options first.now a.now second.now b.now) else None
 request _ = None
 
--- an exercise: its seed, its size, and the option for its words of core
+-- an exercise of this seed and size, over these words of core
+abbrev pub exercise_by : List ℕ → List ℕ → List ℕ → Option CommandLine
+exercise_by seed size core =
+    option_and_then (λ s. option_and_then (λ n. option_map (lines.Exercise s n) (number_in 256 1048575 core)) (number_in 1 500 size)) (number_in 0 2147483647 seed)
+
+-- what the words ask for, where they are `exercise`, a seed and a size, and the option
 abbrev pub exercise : List (Bor (List ℕ)) → Option CommandLine
 exercise (word ∷ seed ∷ size ∷ option ∷ core ∷ []) =
-    if bytes_eq word.now (codes "exercise") && bytes_eq option.now (codes "--core")
-    then option_and_then (λ s. option_and_then (λ n. option_map (lines.Exercise s n) (number_in 256 1048575 core.now)) (number_in 1 500 size.now)) (number_in 0 2147483647 seed.now)
-    else None
+    if bytes_eq word.now (codes "exercise") && bytes_eq option.now (codes "--core") then exercise_by seed.now size.now core.now else None
 exercise _ = None
 
 -- the commands of one word

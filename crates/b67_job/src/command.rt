@@ -2,7 +2,7 @@
 
 ghost use Rattle.std.specs.Prelude.{◌≡◌, ◌≤◌, ◌<◌, ◌^◌, ℕ, IfSome, Some};
 ghost use Rattle.std.specs.Option.{option_map};
-ghost use Rattle.b67_job.specs.Command.{options, is_path, requested, request, exercise, one_word, command_of, backing_path};
+ghost use Rattle.b67_job.specs.Command.{options, is_path, requested, request, exercise_by, exercise, one_word, command_of, backing_path};
 ghost use Rattle.b67_job.specs.Seen.{seen_options, seen_request, AreInRange};
 
 use b67_card::number_in;
@@ -91,6 +91,20 @@ fn read_request<'a>(words: &[&'a str]) -> Option<Request<'a>>
     }
 }
 
+fn read_numbers(seed: &str, size: &str, core: &str) -> Option<CommandLine>
+    ensures command { result ≡ exercise_by seed.now size.now core.now }
+    ensures range { IfSome result AreInRange }
+{
+    let seed = number_in(seed.as_bytes(), 0, 2_147_483_647)?;
+    let size = number_in(size.as_bytes(), 1, 500)?;
+    let core = number_in(core.as_bytes(), 256, 1_048_575)?;
+    Some(CommandLine::Exercise {
+        seed: seed as u32,
+        size: size as u32,
+        core: core as u32,
+    })
+}
+
 fn read_exercise(words: &[&str]) -> Option<CommandLine>
     ensures command { result ≡ exercise words.now }
     ensures range { IfSome result AreInRange }
@@ -100,14 +114,7 @@ fn read_exercise(words: &[&str]) -> Option<CommandLine>
             if *word != "exercise" || *option != "--core" {
                 return None;
             }
-            let seed = number_in(seed.as_bytes(), 0, 2_147_483_647)?;
-            let size = number_in(size.as_bytes(), 1, 500)?;
-            let core = number_in(core.as_bytes(), 256, 1_048_575)?;
-            Some(CommandLine::Exercise {
-                seed: seed as u32,
-                size: size as u32,
-                core: core as u32,
-            })
+            read_numbers(seed, size, core)
         }
         _ => None,
     }

@@ -3,6 +3,8 @@
 
 mod command;
 #[cfg(test)]
+mod exercises;
+#[cfg(test)]
 mod lengths;
 mod lines;
 mod outcome;

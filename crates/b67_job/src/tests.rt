@@ -31,7 +31,7 @@ pub(crate) fn numbers_of(alloc: Global, numbers: &[i64]) -> Result<Numbers, Allo
 }
 
 /// The status of a deck that is read in pieces of one size, and what is printed.
-fn answer(
+pub(crate) fn answer(
     alloc: Global,
     words: &[&str],
     deck: &[u8],

@@ -142,18 +142,19 @@ fn answer_exercise<K: Sink, B: Backing>(
         Ok(deck) => deck,
         Err(_) => return refuse_memory(printer),
     };
-    match prepare(alloc, deck) {
-        Ok(loaded) => run_deck(
-            alloc,
-            &loaded.deck,
-            loaded.programs.as_slice(),
-            core,
-            Some(Exercise { seed, size }),
-            printer,
-            backing,
-        ),
-        Err(fault) => without_machine(refuse_program(fault, printer)),
-    }
+    let loaded = match prepare(alloc, deck) {
+        Ok(loaded) => loaded,
+        Err(fault) => return without_machine(refuse_program(fault, printer)),
+    };
+    run_deck(
+        alloc,
+        &loaded.deck,
+        loaded.programs.as_slice(),
+        core,
+        Some(Exercise { seed, size }),
+        printer,
+        backing,
+    )
 }
 
 fn answer_asm<S: Source, K: Sink>(alloc: Global, deck: &mut S, printer: &mut K) -> u8

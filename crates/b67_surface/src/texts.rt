@@ -1,6 +1,7 @@
-//! Codefiles, decks, the assembler.
+//! Codefiles, decks, exercises, the assembler.
 
 ghost use Rattle.b67_codefile.specs.Spelling.{IsWithin};
+ghost use Rattle.std.specs.Prelude.{◌≤◌};
 
 use b67_asm::AsmFault;
 use b67_card::DeckFault;
@@ -36,6 +37,15 @@ pub fn read_deck<S: Source>(alloc: Global, source: &mut S) -> Result<Deck, DeckF
 
 pub fn read_cards<S: Source>(alloc: Global, source: &mut S) -> Result<Cards, DeckFault> {
     b67_card::read_cards(alloc, source)
+}
+
+// b67_gen
+pub fn deck_of(alloc: Global, seed: u32, size: u32) -> Result<Deck, AllocError>
+    requires seed { seed ≤ 2147483647 }
+    requires low { 1 ≤ size }
+    requires high { size ≤ 500 }
+{
+    b67_gen::deck_of(alloc, seed, size)
 }
 
 // b67_asm
