@@ -1,7 +1,9 @@
 -- What making the operator at the running place answers and leaves.
-use Rattle.std.specs.Prelude.{◌≡◌, ℕ, ◌+◌, ◌^◌, ◌<◌, ◌≤◌, Bool, false, Option, Some, None, Ok, Err, slice_get}
+use Rattle.std.specs.Prelude.{◌≡◌, ℕ, ◌+◌, ◌^◌, ◌<◌, ◌≤◌, Bool, true, false, Option, Some, None, Ok, Err, slice_get}
 use Rattle.b67_model.specs.declared.operators.Op.{Op}
-use Rattle.b67_model.specs.declared.operators.Op.TheVariants.{Valc, Namc, Lt48}
+use Rattle.b67_model.specs.declared.operators.Op.TheVariants.{Valc, Namc, Lt48, Plain}
+use Rattle.b67_model.specs.declared.operators.Code.{Code}
+use Rattle.b67_model.specs.declared.operators.Code.TheVariants.{Indx, Entr, Nxlv, Mkst, Stff, Stod, Ston, Load, Exit, Retn}
 use Rattle.b67_model.specs.Operators.{Reading}
 use Rattle.b67_model.specs.Rows.{step}
 use Rattle.b67_model.specs.State.{Task, SessionJob}
@@ -23,6 +25,26 @@ ParametersFit (Valc couple) = couple < 2 ^ 14
 ParametersFit (Namc couple) = couple < 2 ^ 14
 ParametersFit (Lt48 bits) = bits < 2 ^ 48
 ParametersFit _ = Unit {0}
+
+-- operators without parameters that follow references, or mark, enter or leave activation records
+abbrev pub goes_far : Code → Bool
+goes_far Indx = true
+goes_far Entr = true
+goes_far Nxlv = true
+goes_far Mkst = true
+goes_far Stff = true
+goes_far Stod = true
+goes_far Ston = true
+goes_far Load = true
+goes_far Exit = true
+goes_far Retn = true
+goes_far _ = false
+
+-- all such operators; the others are on the top cells alone
+abbrev pub is_far : Op → Bool
+is_far (Valc couple) = true
+is_far (Plain code) = goes_far code
+is_far _ = false
 
 -- where the running segment is absent, nothing has changed; where it calls an intrinsic, neither; else its row was made
 abbrev pub OperatorAt : Storage → Placement → Session → SessionJob → Task → Step → Cpu → Cpu → Option ℕ → Type 0

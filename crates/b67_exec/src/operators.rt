@@ -10,7 +10,7 @@ ghost use Rattle.b67_layout.specs.Meets.{here, RunsSome, ForEach};
 ghost use Rattle.b67_layout_step.specs.Keeping.{is_leaving};
 ghost use Rattle.b67_exec_cells.specs.Running.{code_area};
 ghost use Rattle.b67_entry_enter.specs.Procedures.{CallsOrMeets};
-ghost use Rattle.b67_exec.specs.Operators.{ParametersFit, OperatorMeets, leaves_record, CutsRecord};
+ghost use Rattle.b67_exec.specs.Operators.{ParametersFit, goes_far, is_far, OperatorMeets, leaves_record, CutsRecord};
 
 use crate::assigning::{stod, ston};
 use crate::evaluating::{evaluate, load};
@@ -33,12 +33,69 @@ pub struct Outcome {
     pub left: bool,
 }
 
-/// An operator without parameters that leaves no activation record, after which the task goes on at `next`.
+/// Whether an operator without parameters follows references, or marks, enters or leaves activation records.
+#[inline(always)]
+fn goes_far(code: Code) -> bool
+    ensures { result ≡ goes_far code }
+{
+    match code {
+        Code::Indx
+        | Code::Entr
+        | Code::Nxlv
+        | Code::Mkst
+        | Code::Stff
+        | Code::Stod
+        | Code::Ston
+        | Code::Load
+        | Code::Exit
+        | Code::Retn => true,
+        Code::Add
+        | Code::Subt
+        | Code::Mult
+        | Code::Idiv
+        | Code::Rdiv
+        | Code::Less
+        | Code::Greq
+        | Code::Grtr
+        | Code::Lseq
+        | Code::Equl
+        | Code::Neql
+        | Code::Chsn
+        | Code::Land
+        | Code::Lor
+        | Code::Leqv
+        | Code::Lnot
+        | Code::Same
+        | Code::Zero
+        | Code::One
+        | Code::Push
+        | Code::Noop
+        | Code::Dlet
+        | Code::Exch
+        | Code::Dupl
+        | Code::Nvld => false,
+    }
+}
+
+/// Whether an operator follows references, or marks, enters or leaves activation records.
+#[inline(always)]
+fn is_far(op: Op) -> bool
+    ensures { result ≡ is_far op }
+{
+    match op {
+        Op::Valc(_) => true,
+        Op::Plain(code) => goes_far(code),
+        Op::Namc(_) | Op::Lt8(_) | Op::Lt16(_) | Op::Lt48(_) | Op::Mpcw(_) => false,
+        Op::Brun(_) | Op::Brtr(_) | Op::Brfl(_) => false,
+        Op::Bset(_) | Op::Brst(_) | Op::Isol(_, _) | Op::Insr(_, _) => false,
+    }
+}
+
+/// An operator without parameters on the top cells alone, after which the task goes on at `next`.
 #[inline(always)]
 fn plain(cpu: &mut Cpu, code: Code, next: Place) -> Step
     requires runs { RunsSome cpu.old }
-    requires stays { is_leaving (Plain code) ≡ false }
-    requires next { IsPlace next }
+    requires near { goes_far code ≡ false }
     ensures row { ForEach cpu.old (λ x plan s m t. CallsOrMeets x plan s m result cpu.old cpu.new (called (Plain code) (here m t next)) (plain_row code (here m t next))) }
 {
     match code {
@@ -59,36 +116,28 @@ fn plain(cpu: &mut Cpu, code: Code, next: Place) -> Step
         Code::Leqv => on_two(cpu, Binary::Leqv, next),
         Code::Lnot => on_one(cpu, Unary::Lnot, next),
         Code::Same => on_two(cpu, Binary::Same, next),
-        Code::Indx => indx(cpu, next),
-        Code::Entr => entr(cpu, next),
-        Code::Nxlv => nxlv(cpu, next),
-        Code::Mkst => mkst(cpu, next),
-        Code::Stff => stff(cpu, next),
         Code::Zero => literal(cpu, 0, next),
         Code::One => literal(cpu, 1, next),
         Code::Push | Code::Noop => go_on(cpu, next),
         Code::Dlet => dlet(cpu, next),
         Code::Exch => exch(cpu, next),
         Code::Dupl => dupl(cpu, next),
-        Code::Stod => stod(cpu, next),
-        Code::Ston => ston(cpu, next),
-        Code::Load => load(cpu, next),
         Code::Nvld => Step::Fault(Fault::InvalidOperator),
-        Code::Exit | Code::Retn => unreachable!(),
+        Code::Indx | Code::Entr | Code::Nxlv | Code::Mkst | Code::Stff => unreachable!(),
+        Code::Stod | Code::Ston | Code::Load | Code::Exit | Code::Retn => unreachable!(),
     }
 }
 
-/// An operator that leaves no activation record, after which the task goes on at `next`.
+/// An operator on the top cells alone, after which the task goes on at `next`.
 #[inline(always)]
 fn stay(cpu: &mut Cpu, op: Op, next: Place) -> Step
     requires runs { RunsSome cpu.old }
-    requires stays { is_leaving op ≡ false }
+    requires near { is_far op ≡ false }
     requires parameters { ParametersFit op }
-    requires next { IsPlace next }
     ensures row { ForEach cpu.old (λ x plan s m t. CallsOrMeets x plan s m result cpu.old cpu.new (called op (here m t next)) (row op (here m t next))) }
 {
     match op {
-        Op::Valc(couple) => evaluate(cpu, couple, next),
+        Op::Valc(_) => unreachable!(),
         Op::Namc(couple) => namc(cpu, couple, next),
         Op::Lt8(n) => literal(cpu, u64::from(n), next),
         Op::Lt16(n) => literal(cpu, u64::from(n), next),
@@ -105,10 +154,34 @@ fn stay(cpu: &mut Cpu, op: Op, next: Place) -> Step
     }
 }
 
-/// An operator, after which the task goes on at `next`.
-#[inline(always)]
-fn perform(cpu: &mut Cpu, op: Op, next: Place) -> Outcome
+/// An operator without parameters that follows references, or marks or enters an activation record. The task goes on at
+/// `next`, but for an entry.
+fn refer(cpu: &mut Cpu, code: Code, next: Place) -> Step
     requires runs { RunsSome cpu.old }
+    requires far { goes_far code ≡ true }
+    requires stays { is_leaving (Plain code) ≡ false }
+    requires next { IsPlace next }
+    ensures row { ForEach cpu.old (λ x plan s m t. CallsOrMeets x plan s m result cpu.old cpu.new (called (Plain code) (here m t next)) (plain_row code (here m t next))) }
+{
+    match code {
+        Code::Indx => indx(cpu, next),
+        Code::Entr => entr(cpu, next),
+        Code::Nxlv => nxlv(cpu, next),
+        Code::Mkst => mkst(cpu, next),
+        Code::Stff => stff(cpu, next),
+        Code::Stod => stod(cpu, next),
+        Code::Ston => ston(cpu, next),
+        Code::Load => load(cpu, next),
+        _ => unreachable!(),
+    }
+}
+
+/// An operator that follows references, or marks, enters or leaves activation records. It isn't inlined, so that the
+/// operators on the top cells alone keep their answers in registers.
+#[inline(never)]
+fn far(cpu: &mut Cpu, op: Op, next: Place) -> Outcome
+    requires runs { RunsSome cpu.old }
+    requires far { is_far op ≡ true }
     requires parameters { ParametersFit op }
     requires next { IsPlace next }
     ensures row { ForEach cpu.old (λ x plan s m t. CallsOrMeets x plan s m result.step cpu.old cpu.new (called op (here m t next)) (row op (here m t next))) }
@@ -124,10 +197,34 @@ fn perform(cpu: &mut Cpu, op: Op, next: Place) -> Outcome
             step: retn(cpu),
             left: true,
         },
-        _ => Outcome {
-            step: stay(cpu, op, next),
+        Op::Plain(code) => Outcome {
+            step: refer(cpu, code, next),
             left: false,
         },
+        Op::Valc(couple) => Outcome {
+            step: evaluate(cpu, couple, next),
+            left: false,
+        },
+        _ => unreachable!(),
+    }
+}
+
+/// An operator, after which the task goes on at `next`.
+#[inline(always)]
+fn perform(cpu: &mut Cpu, op: Op, next: Place) -> Outcome
+    requires runs { RunsSome cpu.old }
+    requires parameters { ParametersFit op }
+    requires next { IsPlace next }
+    ensures row { ForEach cpu.old (λ x plan s m t. CallsOrMeets x plan s m result.step cpu.old cpu.new (called op (here m t next)) (row op (here m t next))) }
+    ensures left { result.left ≡ is_leaving op }
+    ensures cuts { result.left ≡ true → result.step ≡ Done → CutsRecord cpu.old cpu.new }
+{
+    if is_far(op) {
+        return far(cpu, op, next);
+    }
+    Outcome {
+        step: stay(cpu, op, next),
+        left: false,
     }
 }
 

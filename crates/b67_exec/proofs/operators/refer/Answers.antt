@@ -1,11 +1,11 @@
 use Rattle.std.proofs.Common.{sym, subst}
 use Rattle.b67_model.specs.declared.operators.Code.{Code}
 use Rattle.b67_model.specs.declared.operators.Op.TheVariants.{Plain}
-use Rattle.b67_model.specs.Rows.{plain, entr}
+use Rattle.b67_model.specs.Rows.{plain}
 use Rattle.b67_layout.specs.Meets.{here}
 use Rattle.b67_model.specs.Called.{called}
 use Rattle.b67_entry_enter.specs.Procedures.{CallsOrMeets}
-use Rattle.b67_exec.proofs.operators.plain.Goals as goal
+use Rattle.b67_exec.proofs.operators.refer.Goals as goal
 
 pub returns-in-Entr : goal.returns-in-Entr
 returns-in-Entr c = record {
