@@ -7,11 +7,10 @@ ghost use Rattle.b67_model.specs.Run.{StepResult};
 ghost use Rattle.b67_model.specs.Schedule as schedule;
 ghost use Rattle.b67_io.specs.Causes.{Stayed};
 ghost use Rattle.b67_law_turns.specs.Turns.{IsNext};
-ghost use Rattle.b67_layout_storage.specs.Machine.{Says, DeviceAfterCalls, content_after};
-ghost use Rattle.b67_session_attempt.specs.Passed.{CallCauses};
+ghost use Rattle.b67_layout_storage.specs.Machine.{Says, content_after};
 ghost use Rattle.b67_session.specs.Complete.{SetsOut, Suffices};
-ghost use Rattle.b67_session.specs.Slices.{IsOpen, StandsAt, IsLimited, RepresentsWithoutTasks, Keeps, Slices, IfPresent, Resumes, StaysEnded};
-ghost use Rattle.b67_session.specs.Shaped.{IsShaped};
+ghost use Rattle.b67_session.specs.Slices.{IsOpen, StandsAt, IsLimited, RepresentsWithoutTasks, Slices, IfPresent, Resumes, StaysEnded};
+ghost use Rattle.b67_session.specs.Shaped.{SliceLeaves};
 
 use crate::slices::{Progress, slice};
 use b67_backing::Backing;
@@ -80,11 +79,7 @@ impl Session {
         ensures complete { (known : Option (List (List ℕ))) (s : schedule.Session) → known ≢ None → Says known (B.holds backing.old) → SetsOut known self.old s
             → Suffices (length self.old.cpu.core) (B.size backing.old) n self.old.tasks s → Stayed B.faults backing.old backing.new → Stayed K.faults paper.old paper.new
             → IsOk result }
-        ensures open { IsOpen (B.holds backing.new) self.new }
-        ensures shaped { IsShaped self.new }
-        ensures causes { CallCauses B.faults K.faults backing.old backing.new paper.old paper.new result }
-        ensures keeps { Keeps self.old self.new }
-        ensures device { DeviceAfterCalls B.holds B.size B.calls B.faults backing.old backing.new }
+        ensures leaves { SliceLeaves B.holds B.size B.calls B.faults K.faults result self.old self.new backing.old backing.new paper.old paper.new }
     {
         slice(&mut self.machine, n, backing, paper)
     }

@@ -6,7 +6,7 @@ returns-clause-ran g c = λ known s says stands. record {
   between = c.slice-answered.new.paper;
   slices = c.slice-answered.ensures.row known s says stands;
   finishes = c.finish.ensures;
-  device_failed = c.slice-answered.ensures.causes.device;
-  printer_failed = c.slice-answered.ensures.causes.printer.failed;
-  later = c.slice-answered.ensures.causes.printer.later;
+  device_failed = c.slice-answered.ensures.leaves.causes.device;
+  printer_failed = c.slice-answered.ensures.leaves.causes.printer.failed;
+  later = c.slice-answered.ensures.leaves.causes.printer.later;
 }

@@ -15,11 +15,5 @@ returns-clause-ended g c = rw (← c.self.view_is) c.slice.ensures.ended
 pub returns-clause-complete : goal.returns-clause-complete
 returns-clause-complete g c = rw (← c.self.view_is) c.slice.ensures.complete
 
-pub returns-clause-open : goal.returns-clause-open
-returns-clause-open g c = c.slice.ensures.open
-
-pub returns-clause-shaped : goal.returns-clause-shaped
-returns-clause-shaped g c = c.slice.ensures.shaped
-
-pub returns-clause-keeps : goal.returns-clause-keeps
-returns-clause-keeps g c = rw (← c.self.view_is) c.slice.ensures.keeps
+pub returns-clause-leaves : goal.returns-clause-leaves
+returns-clause-leaves g c = rw (← c.self.view_is) c.slice.ensures.leaves
