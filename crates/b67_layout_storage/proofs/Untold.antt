@@ -1,13 +1,9 @@
 -- A storage that says nothing of the device.
-use Rattle.std.proofs.Common.{ℕ, List, Option, None, refl}
+use Rattle.std.proofs.Common.{List, None, refl}
 use Rattle.b67_word.specs.Tagged.{Tagged}
-use Rattle.b67_area.specs.declared.Areas.{Areas}
-use Rattle.b67_backing.specs.Shelf.{Table}
 use Rattle.b67_ctl.specs.declared.registers.Regs.{Regs}
-use Rattle.b67_stack.specs.declared.Cpu.{Cpu}
 use Rattle.b67_stack.specs.MachineView.{MachineView}
 use Rattle.b67_stack.specs.Represents.{Storage, Represents}
-use Rattle.b67_layout_storage.specs.Machine.{MachineRepresentsView}
 use Rattle.b67_layout_storage.proofs.Reheld.{Content-stays}
 
 abbrev pub untold : Storage → Storage
@@ -25,6 +21,3 @@ Represents-untold x core r p s = record {
   directory = s.directory;
   inside = s.inside;
 }
-
-pub Machine-untold : (x : Storage) (cpu : Cpu) (areas : Areas) (table : Table) (told : Option (List (List ℕ))) (p : MachineView) → MachineRepresentsView x cpu areas table told p → MachineRepresentsView (untold x) cpu areas table told p
-Machine-untold x cpu areas table told p m = record { stands = Represents-untold x cpu.core cpu.regs p m.stands; low = m.low; shelf = m.shelf; device = tt }

@@ -1,7 +1,7 @@
 -- What the step of a task that starts another needs of core, and the stops of such a step.
 use Rattle.std.proofs.Common.{◌≡◌, ◌≢◌, ℕ, ◌+◌, ◌≤◌, ◌<◌, inr, List, [], length, Option, Some, None, Result, Ok, Err, refl, sym, ◌∙◌, ap, arith, subst}
-use Rattle.std.specs.Prelude.{nat_lt, if◌then◌else◌}
-use Rattle.std.proofs.lemmas.Bool.{le-ltb, ne_eqb}
+use Rattle.std.specs.Prelude.{if◌then◌else◌}
+use Rattle.std.proofs.lemmas.Bool.{le-ltb}
 use Rattle.b67_word.specs.declared.couples.Place.{Place}
 use Rattle.b67_word.specs.declared.faults.Fault.{Fault}
 use Rattle.b67_area.specs.declared.kinds.Kind.{Kind}
@@ -11,7 +11,7 @@ use Rattle.b67_backing.specs.declared.refusals.SpaceFault.TheVariants as space
 use Rattle.b67_model.specs.Answers.{Answer}
 use Rattle.b67_model.specs.Words.{Word}
 use Rattle.b67_model.specs.State.{Task, SessionJob}
-use Rattle.b67_model.specs.Steps.{Done, Goes}
+use Rattle.b67_model.specs.Steps.{Done}
 use Rattle.b67_model.specs.Need.{touched_of, started_by, need}
 use Rattle.b67_model.specs.Rows.{step}
 use Rattle.b67_model.specs.Sectors.{sectors}
@@ -24,7 +24,7 @@ use Rattle.b67_stack.specs.Represents.{Storage, Content, KeptChain}
 use Rattle.b67_layout.specs.Layout.{array_object, machine_view}
 use Rattle.b67_layout.specs.Placement.{Placement}
 use Rattle.b67_layout.specs.Session.{IsRunning}
-use Rattle.b67_layout.specs.Meets.{here, area_held}
+use Rattle.b67_layout.specs.Meets.{area_held}
 use Rattle.b67_exec_cells.proofs.Replaced.{array_object-has}
 use Rattle.b67_exec_cells.specs.Running.{code_area}
 use Rattle.b67_task_need.specs.Needing.{need_with, touched_words, HasWords, StandsInOrder}

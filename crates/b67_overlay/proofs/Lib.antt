@@ -9,3 +9,4 @@ pub mod Sectors
 pub mod Finish
 pub mod Visits
 pub mod Shedding
+pub mod Example

@@ -3,3 +3,4 @@ pub mod Turns
 pub mod Overlaid
 pub mod AreasEvicted
 pub mod Written
+pub mod Examples

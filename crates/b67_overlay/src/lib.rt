@@ -5,6 +5,8 @@ mod claims;
 mod overlays;
 mod search;
 mod spans;
+#[cfg(test)]
+mod tests;
 mod writing;
 
 pub use claims::claim;

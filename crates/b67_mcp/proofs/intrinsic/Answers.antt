@@ -1,4 +1,4 @@
-use Rattle.std.proofs.Common.{ℕ, List, length, Option, Some, Ok, refl, sym, ◌∙◌, ap, arith, subst, inl, inr}
+use Rattle.std.proofs.Common.{ℕ, List, length, Option, Some, Ok, sym, ◌∙◌, ap, arith, subst, inl, inr}
 use Rattle.b67_layout_storage.specs.Machine.{content_after}
 use Rattle.b67_mcp.specs.declared.ends.CallEnd.{CallEnd}
 use Rattle.b67_mcp.specs.Called.{CallMeets, CallTouches}

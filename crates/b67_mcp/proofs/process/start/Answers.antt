@@ -1,4 +1,4 @@
-use Rattle.std.proofs.Common.{◌≡◌, ◌≢◌, List, Option, None, Result, Ok, Err, length, sym, ◌∙◌, ap, subst}
+use Rattle.std.proofs.Common.{None, Ok, Err, length, sym, ◌∙◌, subst}
 use Rattle.b67_word.specs.declared.couples.Place.{Place}
 use Rattle.b67_model.specs.declared.operators.Op.TheVariants.{Plain}
 use Rattle.b67_model.specs.declared.operators.Code.TheVariants.{Entr}
@@ -8,7 +8,7 @@ use Rattle.b67_mcp_process.specs.Process.{ProcessMeets, ProcessWrites, ProcessFi
 use Rattle.b67_mcp.specs.declared.ends.CallEnd.{CallEnd}
 use Rattle.b67_mcp.specs.Called.{CallTouches, CallWrites, CallFits}
 use Rattle.b67_mcp.specs.Answers.{SilentMeets}
-use Rattle.b67_mcp.proofs.Callings.{calling, reads_of, call_some}
+use Rattle.b67_mcp.proofs.Callings.{calling, reads_of}
 use Rattle.b67_mcp.proofs.Cut.{one_behind}
 use Rattle.b67_mcp.proofs.Renumbered.{stands_silent}
 use Rattle.b67_mcp.proofs.Starting.{process_meets, process_stops, process_stands, process_touches, stops_touch, process_fits, stops_fit, process_writes, stops_write}

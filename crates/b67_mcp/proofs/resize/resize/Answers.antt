@@ -1,4 +1,4 @@
-use Rattle.std.proofs.Common.{◌<◌, List, length, Some, None, Ok, refl, ◌∙◌, ap, arith, subst, ⊎_elim}
+use Rattle.std.proofs.Common.{◌<◌, List, length, Some, None, Ok, refl, ◌∙◌, ap, subst, ⊎_elim}
 use Rattle.std.proofs.lemmas.Bool.{cases_lt}
 use Rattle.b67_word.specs.Tagged.{Tagged}
 use Rattle.b67_word.specs.declared.couples.Place.{Place}

@@ -1,14 +1,10 @@
-use Rattle.std.proofs.Common.{◌≡◌, ◌+◌, length, Err, refl, sym, ◌∙◌, ap, arith}
+use Rattle.std.proofs.Common.{◌≡◌, Err, refl, arith}
 use Rattle.std.proofs.lemmas.Result.{on_ok_weaker, on_err_weaker}
 use Rattle.b67_layout_storage.proofs.Below.{Stayed-then}
 use Rattle.b67_layout_storage.proofs.Devices.{Served-then, Served-same}
 use Rattle.b67_overlay.proofs.Shedding.{AreasEvicted-none}
 use Rattle.b67_presence_page.specs.declared.paging.Refusal.TheVariants.{NoHole}
-use Rattle.b67_presence_page.specs.declared.paging.Resting.{Resting}
-use Rattle.b67_presence_page.specs.Brings.{need_one}
-use Rattle.b67_presence_page.proofs.Descriptors.{rest_here}
 use Rattle.b67_presence_page.proofs.Ways.{read_in, came_of}
-use Rattle.b67_presence_page.proofs.Forcing.{same_need, need_is}
 use Rattle.b67_presence_page.proofs.bringing.bring_code.Goals as goal
 
 pub force_code-requires-clause-machine : goal.force_code-requires-clause-machine

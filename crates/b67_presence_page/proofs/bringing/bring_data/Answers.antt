@@ -1,16 +1,13 @@
-use Rattle.std.proofs.Common.{◌≡◌, ℕ, ◌+◌, length, Err, refl, sym, ◌∙◌, ap, arith, subst}
+use Rattle.std.proofs.Common.{◌≡◌, ℕ, Err, refl, sym, arith, subst}
 use Rattle.std.proofs.lemmas.Result.{on_ok_weaker, on_err_weaker}
 use Rattle.b67_layout_storage.proofs.Below.{Stayed-then}
 use Rattle.b67_layout_storage.proofs.Devices.{Served-then, Served-same}
 use Rattle.b67_overlay.specs.AreasEvicted.{IsShortBy}
 use Rattle.b67_overlay.proofs.Shedding.{AreasEvicted-none}
 use Rattle.b67_presence_page.specs.declared.paging.Refusal.TheVariants.{NoHole, BackingFault}
-use Rattle.b67_presence_page.specs.declared.paging.Resting.{Resting}
-use Rattle.b67_presence_page.specs.Brings.{Waits, IsCode, need_both}
-use Rattle.b67_presence_page.proofs.Descriptors.{rest_here}
+use Rattle.b67_presence_page.specs.Brings.{Waits, IsCode}
 use Rattle.b67_presence_page.proofs.Ways.{read_in, came_of}
-use Rattle.b67_presence_page.proofs.Resort.{room_beside}
-use Rattle.b67_presence_page.proofs.Forcing.{both_came, may_wait, same_need, need_is}
+use Rattle.b67_presence_page.proofs.Forcing.{both_came, may_wait}
 use Rattle.b67_presence_page.proofs.bringing.bring_data.Goals as goal
 
 pub force_data-requires-clause-machine : goal.force_data-requires-clause-machine

@@ -1,6 +1,5 @@
 use Rattle.std.proofs.Common.{◌∙◌}
 use Rattle.std.proofs.lemmas.Result.{on_ok_weaker}
-use Rattle.b67_backing.specs.Held.{AreTagged}
 use Rattle.b67_presence_page.proofs.paging.Resting.load.Goals as goal
 
 pub returns-clause-tags : goal.returns-clause-tags
