@@ -41,6 +41,7 @@ pub fn deck_of(alloc: Global, seed: u32, size: u32) -> Result<Deck, AllocError>
     let mut tape = FreeTape::new(text, 512);
     match read_deck(alloc, &mut tape) {
         Ok(deck) => Ok(deck),
+        // No card of the text is refused, as `texts_have_decks` says, and the tape never fails.
         Err(_) => Err(AllocError),
     }
 }

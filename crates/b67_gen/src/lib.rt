@@ -8,5 +8,5 @@ mod stores;
 mod text;
 
 pub use deck::deck_of;
-pub use laws::seed_one;
+pub use laws::{seed_one, texts_have_decks};
 pub use stores::Store;
