@@ -8,6 +8,7 @@ use crate::operands::{numbers, truth_of};
 use b67_word::{Fault, Word};
 
 /// 1 if a < b, else 0. INVALID OPERAND, EXPONENT, in this order.
+#[inline(always)]
 pub fn less(a: Word, b: Word) -> Result<Word, Fault>
     ensures { result ≡ on_words rows.less a b }
 {
@@ -16,6 +17,7 @@ pub fn less(a: Word, b: Word) -> Result<Word, Fault>
 }
 
 /// 1 if a >= b, else 0. INVALID OPERAND, EXPONENT, in this order.
+#[inline(always)]
 pub fn greq(a: Word, b: Word) -> Result<Word, Fault>
     ensures { result ≡ on_words rows.greq a b }
 {
@@ -24,6 +26,7 @@ pub fn greq(a: Word, b: Word) -> Result<Word, Fault>
 }
 
 /// 1 if a > b, else 0. INVALID OPERAND, EXPONENT, in this order.
+#[inline(always)]
 pub fn grtr(a: Word, b: Word) -> Result<Word, Fault>
     ensures { result ≡ on_words rows.grtr a b }
 {
@@ -32,6 +35,7 @@ pub fn grtr(a: Word, b: Word) -> Result<Word, Fault>
 }
 
 /// 1 if a <= b, else 0. INVALID OPERAND, EXPONENT, in this order.
+#[inline(always)]
 pub fn lseq(a: Word, b: Word) -> Result<Word, Fault>
     ensures { result ≡ on_words rows.lseq a b }
 {
@@ -40,6 +44,7 @@ pub fn lseq(a: Word, b: Word) -> Result<Word, Fault>
 }
 
 /// 1 if a = b, where minus zero is 0, else 0. INVALID OPERAND, EXPONENT, in this order.
+#[inline(always)]
 pub fn equl(a: Word, b: Word) -> Result<Word, Fault>
     ensures { result ≡ on_words rows.equl a b }
 {
@@ -48,6 +53,7 @@ pub fn equl(a: Word, b: Word) -> Result<Word, Fault>
 }
 
 /// 1 if a and b differ, where minus zero is 0, else 0. INVALID OPERAND, EXPONENT, in this order.
+#[inline(always)]
 pub fn neql(a: Word, b: Word) -> Result<Word, Fault>
     ensures { result ≡ on_words rows.neql a b }
 {

@@ -8,6 +8,7 @@ use crate::operands::{numbers, operand};
 use b67_word::{Fault, Word};
 
 /// a + b. INVALID OPERAND, EXPONENT, INTEGER OVERFLOW, in this order.
+#[inline(always)]
 pub fn add(a: Word, b: Word) -> Result<Word, Fault>
     ensures { result ≡ on_words rows.add a b }
 {
@@ -16,6 +17,7 @@ pub fn add(a: Word, b: Word) -> Result<Word, Fault>
 }
 
 /// a - b. INVALID OPERAND, EXPONENT, INTEGER OVERFLOW, in this order.
+#[inline(always)]
 pub fn subt(a: Word, b: Word) -> Result<Word, Fault>
     ensures { result ≡ on_words rows.subt a b }
 {

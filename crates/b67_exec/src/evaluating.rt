@@ -36,6 +36,7 @@ pub fn procedure_cell(cpu: &Cpu, w: Word) -> u32
 /// Pushes the value to which a couple of 14 bits leads, and goes on at `next`; a procedure there is entered, and its
 /// value pushed when it returns. The faults of references, INVALID OPERAND if it ends at an array or an intrinsic or
 /// if the procedure's level doesn't fit, STACK OVERFLOW. If an array is absent, nothing is changed.
+#[inline(never)]
 pub fn evaluate(cpu: &mut Cpu, couple: u16, next: Place) -> Step
     requires runs { RunsSome cpu.old }
     requires couple { couple < 2 ^ 14 }

@@ -154,14 +154,27 @@ fn stay(cpu: &mut Cpu, op: Op, next: Place) -> Step
     }
 }
 
-/// An operator without parameters that follows references, or marks or enters an activation record. The task goes on at
-/// `next`, but for an entry.
+/// Whether an operator leaves an activation record.
+#[inline(always)]
+fn leaves(op: Op) -> bool
+    ensures { result ≡ is_leaving op }
+{
+    match op {
+        Op::Plain(Code::Exit) | Op::Plain(Code::Retn) => true,
+        _ => false,
+    }
+}
+
+/// An operator without parameters that follows references, or marks, enters or leaves activation records. The task goes on
+/// at `next`, or where the entered procedure begins or the caller goes on. It isn't inlined, so that the operators on the
+/// top cells alone keep their answers in registers.
+#[inline(never)]
 fn refer(cpu: &mut Cpu, code: Code, next: Place) -> Step
     requires runs { RunsSome cpu.old }
     requires far { goes_far code ≡ true }
-    requires stays { is_leaving (Plain code) ≡ false }
     requires next { IsPlace next }
     ensures row { ForEach cpu.old (λ x plan s m t. CallsOrMeets x plan s m result cpu.old cpu.new (called (Plain code) (here m t next)) (plain_row code (here m t next))) }
+    ensures cuts { is_leaving (Plain code) ≡ true → result ≡ Done → CutsRecord cpu.old cpu.new }
 {
     match code {
         Code::Indx => indx(cpu, next),
@@ -172,39 +185,25 @@ fn refer(cpu: &mut Cpu, code: Code, next: Place) -> Step
         Code::Stod => stod(cpu, next),
         Code::Ston => ston(cpu, next),
         Code::Load => load(cpu, next),
+        Code::Exit => exit(cpu),
+        Code::Retn => retn(cpu),
         _ => unreachable!(),
     }
 }
 
-/// An operator that follows references, or marks, enters or leaves activation records. It isn't inlined, so that the
-/// operators on the top cells alone keep their answers in registers.
-#[inline(never)]
-fn far(cpu: &mut Cpu, op: Op, next: Place) -> Outcome
+/// An operator that follows references, or marks, enters or leaves activation records.
+#[inline(always)]
+fn far(cpu: &mut Cpu, op: Op, next: Place) -> Step
     requires runs { RunsSome cpu.old }
     requires far { is_far op ≡ true }
     requires parameters { ParametersFit op }
     requires next { IsPlace next }
-    ensures row { ForEach cpu.old (λ x plan s m t. CallsOrMeets x plan s m result.step cpu.old cpu.new (called op (here m t next)) (row op (here m t next))) }
-    ensures left { result.left ≡ is_leaving op }
-    ensures cuts { result.left ≡ true → result.step ≡ Done → CutsRecord cpu.old cpu.new }
+    ensures row { ForEach cpu.old (λ x plan s m t. CallsOrMeets x plan s m result cpu.old cpu.new (called op (here m t next)) (row op (here m t next))) }
+    ensures cuts { is_leaving op ≡ true → result ≡ Done → CutsRecord cpu.old cpu.new }
 {
     match op {
-        Op::Plain(Code::Exit) => Outcome {
-            step: exit(cpu),
-            left: true,
-        },
-        Op::Plain(Code::Retn) => Outcome {
-            step: retn(cpu),
-            left: true,
-        },
-        Op::Plain(code) => Outcome {
-            step: refer(cpu, code, next),
-            left: false,
-        },
-        Op::Valc(couple) => Outcome {
-            step: evaluate(cpu, couple, next),
-            left: false,
-        },
+        Op::Plain(code) => refer(cpu, code, next),
+        Op::Valc(couple) => evaluate(cpu, couple, next),
         _ => unreachable!(),
     }
 }
@@ -220,7 +219,11 @@ fn perform(cpu: &mut Cpu, op: Op, next: Place) -> Outcome
     ensures cuts { result.left ≡ true → result.step ≡ Done → CutsRecord cpu.old cpu.new }
 {
     if is_far(op) {
-        return far(cpu, op, next);
+        let step = far(cpu, op, next);
+        return Outcome {
+            step,
+            left: leaves(op),
+        };
     }
     Outcome {
         step: stay(cpu, op, next),

@@ -7,10 +7,8 @@ use Rattle.b67_model.specs.Called.{called}
 use Rattle.b67_entry_enter.specs.Procedures.{CallsOrMeets}
 use Rattle.b67_exec.proofs.operators.refer.Goals as goal
 
-pub returns-in-Entr : goal.returns-in-Entr
-returns-in-Entr c = record {
-  row = λ x plan s m t ordered h runs.
-      let hh = here m t c.args.next in
-      let Q : Code → Type 0 = λ k. CallsOrMeets x plan s m c.entr.result c.args.cpu.now c.entr.new.cpu (called (Plain k) hh) (plain k hh) in
-      subst Q (sym c.in-Entr.is) (c.entr.ensures.row x plan s m t ordered h runs);
-}
+pub returns-in-Entr-clause-row : goal.returns-in-Entr-clause-row
+returns-in-Entr-clause-row c = λ x plan s m t ordered h runs.
+    let hh = here m t c.args.next in
+    let Q : Code → Type 0 = λ k. CallsOrMeets x plan s m c.entr.result c.args.cpu.now c.entr.new.cpu (called (Plain k) hh) (plain k hh) in
+    subst Q (sym c.in-Entr.is) (c.entr.ensures.row x plan s m t ordered h runs)
