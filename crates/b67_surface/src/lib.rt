@@ -1,5 +1,5 @@
 //! The public surface: each call once, at the crate where it is promised, with its signature and what it asks for; and the
-//! rows of the crates whose calls need no machine.
+//! rows of the crates whose calls need no machine, or one that a run leaves.
 #![tactic(auto)]
 
 #[cfg(test)]
@@ -33,6 +33,8 @@ mod session_lines_rows;
 #[cfg(test)]
 mod session_schedule_rows;
 mod stacks;
+#[cfg(test)]
+mod task_rows;
 mod texts;
 #[cfg(test)]
 mod word_rows;
