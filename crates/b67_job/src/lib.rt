@@ -4,6 +4,8 @@
 mod command;
 #[cfg(test)]
 mod lengths;
+#[cfg(test)]
+mod limits;
 mod lines;
 mod outcome;
 mod ranges;
