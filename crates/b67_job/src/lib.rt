@@ -6,6 +6,8 @@ mod command;
 mod exercises;
 #[cfg(test)]
 mod lengths;
+#[cfg(test)]
+mod limits;
 mod lines;
 mod outcome;
 mod ranges;

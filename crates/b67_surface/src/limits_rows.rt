@@ -135,18 +135,18 @@ fn refusal_of(
 
 const FIFTEEN: &str = "NUM 0 0 0 0 0 0 0 0 0 0 0 0 0 0 0\n";
 
-// 8,191 words of a segment are 49,146 operators of a syllable; 65,535 words of a row are 4,369 cards of fifteen.
+/// Operators of a syllable: a whole word of them, and one more.
+const SIX: &str = "EXIT\nNOOP\nNOOP\nNOOP\nNOOP\nNOOP\n";
+
+const SEVEN: &str = "EXIT\nNOOP\nNOOP\nNOOP\nNOOP\nNOOP\nNOOP\n";
+
+// Each LT48 takes two words of a segment, so 4,095 of them and six operators more are 8,191 words; 65,535 words of a row are
+// 4,369 cards of fifteen.
 #[test]
 fn assembly_at_its_edges(rt: HostRuntime) -> Result<(), Fail> {
     let rows = [
-        ("SEGMENT A 2\n", "NOOP\n", 49_145, "EXIT\n", None),
-        (
-            "SEGMENT A 2\n",
-            "NOOP\n",
-            49_146,
-            "EXIT\n",
-            Some((49_148, 7)),
-        ),
+        ("SEGMENT A 2\n", "LT48 0\n", 4_095, SIX, None),
+        ("SEGMENT A 2\n", "LT48 0\n", 4_095, SEVEN, Some((4_103, 7))),
         ("ROW R\n", FIFTEEN, 4_369, "", None),
         ("ROW R\n", FIFTEEN, 4_369, "NUM 0\n", Some((4_371, 7))),
         ("SEGMENT A 255\n", "LT8 255\n", 1, "LT16 65535\n", None),
