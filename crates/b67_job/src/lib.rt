@@ -3,6 +3,8 @@
 
 mod command;
 #[cfg(test)]
+mod failing;
+#[cfg(test)]
 mod lengths;
 mod lines;
 mod outcome;
