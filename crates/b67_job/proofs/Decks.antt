@@ -16,6 +16,7 @@ use Rattle.b67_session_open.specs.declared.fault.OpenFault.TheVariants as faults
 use Rattle.b67_session_open.specs.Decks.{session_of, DeckInRange, IsLoaded}
 use Rattle.b67_session_open.specs.Opens.{need_of, sectors_of_all, IsOpened}
 use Rattle.b67_layout_storage.specs.Machine.{Says, DeviceAfterCalls, content_after}
+use Rattle.b67_session.proofs.Shaping.{shaped}
 use Rattle.b67_session.specs.Slices.{StandsAt, IsOpen, Keeps, PrintsWhole, SliceMeets, StepsFit}
 use Rattle.b67_session_lines.specs.Ends.{Ends}
 use Rattle.b67_job.specs.Device.{device_of}
@@ -110,6 +111,7 @@ module _ {K B : Type 0} (taken : K → Option (List ℕ)) (failures : K → ℕ)
         core_size = keeps.core ∙ o.2.core_size;
         halt = keeps.halt ∙ o.2.halt;
         names = keeps.names ∙ o.2.names;
+        shaped = shaped (holds b'') k may_go_on;
         goes_on = may_go_on;
         sized = omega (arith, begun_links, links, again, same);
       })

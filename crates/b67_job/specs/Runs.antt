@@ -17,6 +17,7 @@ use Rattle.b67_session_open.specs.Opens.{need_of, sectors_of_all}
 use Rattle.b67_task_tables.specs.declared.tables.Machine.{Machine}
 use Rattle.b67_session.specs.Slices.{StandsAt, IsLimited}
 pub use Rattle.b67_session.specs.Slices.{IsOpen, RepresentsWithoutTasks, StepsFit}
+pub use Rattle.b67_session.specs.Shaped.{IsShaped}
 use Rattle.b67_session_lines.specs.Moments.{first_part, due as due_text}
 use Rattle.b67_session_lines.specs.Stops.{Run, halted_line}
 use Rattle.b67_job.specs.Device.{Device, Tells, Failed, IsUntouched, known_now}
@@ -159,8 +160,8 @@ pub data StopsUnopened {B : Type 0} (d : Device B) (core : ℕ) (p : Prepared) (
 
 -- A session was opened, for which there is room. Each state up to the count of the machine is in order; and if the device
 -- told what its sectors hold, none of the steps up to there needed more words than core has. The machine has that core, the
--- halt of the deck and the names of its jobs. A slice may be called on it again, and its table of sectors has one for each of
--- the device.
+-- halt of the deck and the names of its jobs. Whatever the device gave back, the machine represents some session in order. A
+-- slice may be called on it again, and its table of sectors has one for each of the device.
 pub record WasOpened {B : Type 0} (d : Device B) (core : ℕ) (p : Prepared) (k : Machine) : Type 0 where
   pub room : RoomSuffices d core p
   pub in_order : StatesInOrder k.tasks.made (run_of p).session
@@ -168,6 +169,7 @@ pub record WasOpened {B : Type 0} (d : Device B) (core : ℕ) (p : Prepared) (k 
   pub core_size : length k.cpu.core ≡ core
   pub halt : k.tasks.halt ≡ p.0.halt
   pub names : row_names k.tasks.jobs ≡ job_names p.0.jobs
+  pub shaped : IsShaped k
   pub goes_on : IsOpen d.now k
   pub sized : d.sectors_now + 1 ≡ length k.sectors.links
 

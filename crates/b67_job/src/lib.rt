@@ -5,6 +5,8 @@ mod command;
 #[cfg(test)]
 mod exercises;
 #[cfg(test)]
+mod failing;
+#[cfg(test)]
 mod lengths;
 #[cfg(test)]
 mod limits;

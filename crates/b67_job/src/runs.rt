@@ -95,7 +95,7 @@ fn run_session<K: Sink, B: Backing>(
 }
 
 // What the type of admitted programs says of each.
-fn know_programs(programs: &[Admitted])
+pub(crate) fn know_programs(programs: &[Admitted])
     ensures { AllByRecursion IsLoaded programs.now }
 {
     'programs: for program in programs {

@@ -8,13 +8,13 @@ use b67_word::{Bytes, Numbers};
 use std::alloc::{AllocError, Global};
 use std::test::Fail;
 
-const WORDS: [&str; 5] = ["run", "--core", "4096", "--backing", "b"];
+pub(crate) const WORDS: [&str; 5] = ["run", "--core", "4096", "--backing", "b"];
 
 /// MKST / NAMC 0,9 / LT8 2 / LT8 3 / ADD / ENTR / EXIT.
-const SUM: &str =
+pub(crate) const SUM: &str =
     "?JOB SUM\n?HEX\n423637434f44453100010000020002\n0003ae4009b202b200030380aba3ffff\n?END\n";
 
-const SUM_LINES: &str = "1.1 5\n1.1 ENDED\n";
+pub(crate) const SUM_LINES: &str = "1.1 5\n1.1 ENDED\n";
 
 pub(crate) fn bytes_of(alloc: Global, text: &[u8]) -> Result<Bytes, AllocError> {
     let mut bytes = Bytes::new(alloc);
