@@ -21,7 +21,7 @@ pub slice-first-requires-clause-sized : goal.slice-first-requires-clause-sized
 slice-first-requires-clause-sized g c = let links = c.in-Ok-open.ensures.opens.2.sized in omega (arith, links, c.open.ensures.device.size)
 
 pub slice-second-requires-clause-open : goal.slice-second-requires-clause-open
-slice-second-requires-clause-open g c = c.slice-first.ensures.open
+slice-second-requires-clause-open g c = c.slice-first.ensures.leaves.goes_on
 
 pub slice-second-requires-clause-sized : goal.slice-second-requires-clause-sized
-slice-second-requires-clause-sized g c = let links = c.in-Ok-open.ensures.opens.2.sized in omega (arith, links, c.open.ensures.device.size, c.slice-first.ensures.device.size, c.slice-first.ensures.keeps.sectors)
+slice-second-requires-clause-sized g c = let links = c.in-Ok-open.ensures.opens.2.sized in omega (arith, links, c.open.ensures.device.size, c.slice-first.ensures.leaves.served.size, c.slice-first.ensures.leaves.keeps.sectors)
