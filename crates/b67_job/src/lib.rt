@@ -9,6 +9,8 @@ mod outcome;
 mod ranges;
 mod runs;
 #[cfg(test)]
+mod stepwise;
+#[cfg(test)]
 mod tasks;
 #[cfg(test)]
 mod tests;

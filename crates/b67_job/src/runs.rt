@@ -84,7 +84,7 @@ fn run_session<K: Sink, B: Backing>(machine: &mut Machine, printer: &mut K, back
 }
 
 // What the type of admitted programs says of each.
-fn know_programs(programs: &[Admitted])
+pub(crate) fn know_programs(programs: &[Admitted])
     ensures { AllByRecursion IsLoaded programs.now }
 {
     'programs: for program in programs {

@@ -7,7 +7,7 @@ use std::alloc::{AllocError, Global};
 use std::test::Fail;
 
 /// The deck of EIGHT: a task and its child share eight arrays of 200 words. 58 sectors; 174 operators.
-fn eight(alloc: Global) -> Result<String, AllocError> {
+pub(crate) fn eight(alloc: Global) -> Result<String, AllocError> {
     let mut deck = String::from_str(alloc, "?JOB EIGHT\n?ASM\nSEGMENT MAIN 2\nMPCW CH\n")?;
     for _j in 0..8u32 {
         deck.push_str("MKST\nNAMC 0,8\nLT8 200\nENTR\n")?;
@@ -204,7 +204,7 @@ fn shared_arrays(rt: HostRuntime) -> Result<(), Fail> {
     let alloc = rt.alloc();
     let deck = eight(alloc)?;
     let rows = [
-        ("65535", 4096, 0, "1.2 ENDED\n1.1 916\n1.1 ENDED\n"),
+        ("65536", 4096, 0, "1.2 ENDED\n1.1 916\n1.1 ENDED\n"),
         ("912", 4096, 0, "1.2 ENDED\n1.1 916\n1.1 ENDED\n"),
         ("911", 58, 0, "1.2 ENDED\n1.1 916\n1.1 ENDED\n"),
         ("910", 59, 0, "1.2 ENDED\n1.1 916\n1.1 ENDED\n"),
