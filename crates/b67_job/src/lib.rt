@@ -16,6 +16,8 @@ mod ranges;
 mod runs;
 mod summaries;
 #[cfg(test)]
+mod stepwise;
+#[cfg(test)]
 mod tasks;
 #[cfg(test)]
 mod tests;

@@ -204,7 +204,7 @@ fn shared_arrays(rt: HostRuntime) -> Result<(), Fail> {
     let alloc = rt.alloc();
     let deck = eight(alloc)?;
     let rows = [
-        ("65535", 4096, 0, "1.2 ENDED\n1.1 916\n1.1 ENDED\n"),
+        ("65536", 4096, 0, "1.2 ENDED\n1.1 916\n1.1 ENDED\n"),
         ("912", 4096, 0, "1.2 ENDED\n1.1 916\n1.1 ENDED\n"),
         ("911", 58, 0, "1.2 ENDED\n1.1 916\n1.1 ENDED\n"),
         ("910", 59, 0, "1.2 ENDED\n1.1 916\n1.1 ENDED\n"),

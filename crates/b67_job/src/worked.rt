@@ -4,6 +4,7 @@ ghost use Rattle.std.specs.Prelude.{◌≡◌, ◌≢◌, ◌+◌, length, None,
 ghost use Rattle.b67_job.specs.Runs.{IsOpen};
 
 use crate::outcome::Outcome;
+use crate::tasks::eight;
 use crate::tests::{bytes_of, numbers_of};
 use crate::top::run;
 use b67_backing::{Backing, FileBacking, HonestBacking, MemoryBacking};
@@ -388,16 +389,21 @@ fn paging_over_a_file(rt: HostRuntime) -> Result<(), Fail> {
     Ok(())
 }
 
-/// Runs TWO in the least core over a backing of which a write fails: the machine that is left.
-fn stopped_two<B: Backing>(alloc: Global, backing: &mut B) -> Result<Option<Machine>, AllocError>
+/// Runs a job in so much core over a backing of which a write fails: the machine that is left.
+fn stopped<B: Backing>(
+    alloc: Global,
+    core: &str,
+    job: &str,
+    backing: &mut B,
+) -> Result<Option<Machine>, AllocError>
     ensures open { IfOk result (λ found. IfSome found (λ k. IsOpen (B.holds backing.new) k)) }
     ensures same { IfOk result (λ found. IfSome found (λ k. B.size backing.new + 1 ≡ length k.sectors.links)) }
 {
     let mut deck = bytes_of(alloc, b"?STACK 256\n")?;
-    deck.extend(TWO.as_bytes())?;
+    deck.extend(job.as_bytes())?;
     let mut tape = Tape::new(deck, 4096, numbers_of(alloc, &[])?);
     let mut paper = Paper::new(alloc, 1000, numbers_of(alloc, &[])?)?;
-    let words = ["run", "--core", "630", "--backing", "b"];
+    let words = ["run", "--core", core, "--backing", "b"];
     let outcome = run(alloc, &words, &mut tape, &mut paper, backing);
     if outcome.status != 6 {
         return Ok(None);
@@ -405,19 +411,32 @@ fn stopped_two<B: Backing>(alloc: Global, backing: &mut B) -> Result<Option<Mach
     Ok(outcome.machine)
 }
 
-// After a write that failed the session goes on, where it stopped.
+// After its third write has failed a session goes on where it stopped: that of two arrays, and that of a task and its child
+// which share eight.
 #[test]
 fn a_stopped_session_goes_on(rt: HostRuntime) -> Result<(), Fail> {
     let alloc = rt.alloc();
-    let none = numbers_of(alloc, &[])?;
-    let mut backing = MemoryBacking::new(alloc, 4096, none, numbers_of(alloc, &[3])?)?;
-    let machine = stopped_two(alloc, &mut backing)?.expect(&rt, "a session was opened");
-    let mut session = Session::of(machine);
-    let mut paper = Paper::new(alloc, 1000, numbers_of(alloc, &[])?)?;
-    let progress = session.slice(1000, &mut backing, &mut paper);
-    assert!(rt; matches!(progress, Ok(Progress::Ended)));
-    assert_eq!(rt; paper.bytes(), b"1.1 23\n1.1 ENDED\n".as_slice());
-    assert_eq!(rt; session.machine().tasks.made, 27);
-    assert!(rt; session.into_machine().tasks.rows.is_empty());
+    let shared = eight(alloc)?;
+    let rows = [
+        ("630", TWO, 27, "1.1 23\n1.1 ENDED\n"),
+        (
+            "910",
+            shared.as_str(),
+            174,
+            "1.2 ENDED\n1.1 916\n1.1 ENDED\n",
+        ),
+    ];
+    for (core, job, made, lines) in rows {
+        let none = numbers_of(alloc, &[])?;
+        let mut backing = MemoryBacking::new(alloc, 4096, none, numbers_of(alloc, &[3])?)?;
+        let machine = stopped(alloc, core, job, &mut backing)?.expect(&rt, "a session was opened");
+        let mut session = Session::of(machine);
+        let mut paper = Paper::new(alloc, 1000, numbers_of(alloc, &[])?)?;
+        let progress = session.slice(1000, &mut backing, &mut paper);
+        assert!(rt; matches!(progress, Ok(Progress::Ended)), "{core}");
+        assert_eq!(rt; paper.bytes(), lines.as_bytes(), "{core}");
+        assert_eq!(rt; session.machine().tasks.made, made, "{core}");
+        assert!(rt; session.into_machine().tasks.rows.is_empty(), "{core}");
+    }
     Ok(())
 }
