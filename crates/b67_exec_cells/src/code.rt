@@ -52,10 +52,8 @@ pub fn reading(cpu: &Cpu) -> Option<Result<(Op, Place), Undecodable>>
     requires { RunsSome cpu.now }
     ensures { ForEach cpu.now (λ x plan s m t. GivesReading x plan m t result) }
 {
-    let desc = descriptor(cpu);
-    if !desc.present {
-        return None;
+    match present_segment(cpu) {
+        Some(desc) => Some(read_in(cpu, desc)),
+        None => None,
     }
-    let code = cpu.core.words(desc.address, desc.words);
-    Some(decode(code, cpu.regs.place))
 }
