@@ -16,7 +16,7 @@ use crate::assigning::{stod, ston};
 use crate::evaluating::{evaluate, load};
 use b67_entry::{exit, retn};
 use b67_entry_enter::{entr, mkst};
-use b67_exec_cells::reading;
+use b67_exec_cells::{present_segment, read_in};
 use b67_exec_operands::{
     Binary, Unary, branch_if, dlet, dupl, exch, go_on, literal, mpcw, namc, on_one, on_two,
 };
@@ -243,8 +243,8 @@ pub fn operate(cpu: &mut Cpu) -> Outcome
     ensures left { ForEach cpu.old (λ x plan s m t. code_area x plan m t ≢ None → result.left ≡ leaves_record (reading_of m.constants t)) }
     ensures cuts { result.left ≡ true → result.step ≡ Done → CutsRecord cpu.old cpu.new }
 {
-    let read = match reading(cpu) {
-        Some(read) => read,
+    let desc = match present_segment(cpu) {
+        Some(desc) => desc,
         None => {
             return Outcome {
                 step: Step::Absent(What::Code(cpu.regs.segment)),
@@ -252,7 +252,7 @@ pub fn operate(cpu: &mut Cpu) -> Outcome
             };
         }
     };
-    match read {
+    match read_in(cpu, desc) {
         Ok((op, next)) => perform(cpu, op, next),
         Err(_) => Outcome {
             step: Step::Fault(Fault::InvalidOperator),

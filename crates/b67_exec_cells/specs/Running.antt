@@ -1,5 +1,5 @@
 -- The code of the running segment, and the operator at the running place.
-use Rattle.std.specs.Prelude.{◌≡◌, ℕ, ◌+◌, length, Option, Some, None}
+use Rattle.std.specs.Prelude.{◌≡◌, ℕ, ◌+◌, length, true, Option, Some, None}
 use Rattle.b67_ctl.specs.declared.descriptors.SegDesc.{SegDesc}
 use Rattle.b67_model.specs.Operators.{Reading}
 use Rattle.b67_model.specs.State.{Task, SessionJob}
@@ -27,3 +27,8 @@ code_desc x plan m t =
 abbrev pub GivesReading : Storage → Placement → SessionJob → Task → Option Reading → Type 0
 GivesReading x plan m t None = code_area x plan m t ≡ None
 GivesReading x plan m t (Some reading) = (at : ℕ) × (code_area x plan m t ≡ Some at) × (reading ≡ reading_of m.constants t)
+
+-- the descriptor of the running segment, or that it is absent
+abbrev pub GivesSegment : Storage → Placement → SessionJob → Task → Option SegDesc → Type 0
+GivesSegment x plan m t None = code_area x plan m t ≡ None
+GivesSegment x plan m t (Some desc) = (desc ≡ code_desc x plan m t) × (desc.present ≡ true)
