@@ -3,6 +3,6 @@ use Rattle.b67_job.proofs.stepwise.make_slices.Goals as goal
 
 pub turns-preserved : goal.turns-preserved
 turns-preserved g c = record {
-  goes_on = c.slice.ensures.open;
-  sized = omega (arith, c.turns.invariant.sized, c.slice.ensures.device.size, c.slice.ensures.keeps.sectors);
+  goes_on = c.slice.ensures.leaves.goes_on;
+  sized = omega (arith, c.turns.invariant.sized, c.slice.ensures.leaves.served.size, c.slice.ensures.leaves.keeps.sectors);
 }
