@@ -1,4 +1,4 @@
-use Rattle.std.proofs.Common.{◌∙◌, sym, subst, Ok, Err, Result}
+use Rattle.std.proofs.Common.{subst, Ok, Err, Result}
 use Rattle.std.proofs.lemmas.Bool.{not-false, not-true}
 use Rattle.b67_refer.proofs.Links.{read_described, copied, item_of, end_own, end_row, end_item}
 use Rattle.b67_word.specs.declared.faults.Fault.{Fault}
