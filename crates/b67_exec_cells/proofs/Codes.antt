@@ -138,10 +138,18 @@ module _ (x : Storage) (cpu : Cpu) (plan : Placement) (s : Session) (m : Session
   pub desc-inside : (d : SegDesc) → d ≡ code_desc x plan m t → d.present ≡ true → d.address + d.words < length cpu.core
   desc-inside d e on = let i = area-inside d.address (present d e on) in omega (arith, i, ap (λ (z : SegDesc). z.words) e)
 
-  pub read-is : (d : SegDesc) (words : List Tagged) (r : Reading) → d ≡ code_desc x plan m t → d.present ≡ true → words ≡ slice_range cpu.core d.address (d.address + d.words) → (length words < 2 ^ 16 → r ≡ operator_at (contents words) cpu.regs.place)
+  code-length : (d : SegDesc) (words : List Tagged) → d ≡ code_desc x plan m t → d.present ≡ true → words ≡ slice_range cpu.core d.address (d.address + d.words) → length words ≡ length (code_of m.constants t.segment)
+  code-length d words e on is =
+      let w : d.words ≡ length (code_of m.constants t.segment) = ap (λ (z : SegDesc). z.words) e in
+      let c = code-read d.address words (present d e on) (is ∙ ap (λ (n : ℕ). slice_range cpu.core d.address (d.address + n)) w) in
+      sym (length-map words (λ (v : Tagged). v.bits)) ∙ ap length c
+
+  pub words-short : (d : SegDesc) (words : List Tagged) → d ≡ code_desc x plan m t → d.present ≡ true → words ≡ slice_range cpu.core d.address (d.address + d.words) → length words < 2 ^ 13
+  words-short d words e on is = let n = code-length d words e on is in omega (arith, n, short)
+
+  pub read-is : (d : SegDesc) (words : List Tagged) (r : Reading) → d ≡ code_desc x plan m t → d.present ≡ true → words ≡ slice_range cpu.core d.address (d.address + d.words) → r ≡ operator_at (contents words) cpu.regs.place
       → r ≡ reading_of m.constants t
   read-is d words r e on is decoded =
       let w : d.words ≡ length (code_of m.constants t.segment) = ap (λ (z : SegDesc). z.words) e in
       let c = code-read d.address words (present d e on) (is ∙ ap (λ (n : ℕ). slice_range cpu.core d.address (d.address + n)) w) in
-      let n : length words ≡ length (code_of m.constants t.segment) = sym (length-map words (λ (v : Tagged). v.bits)) ∙ ap length c in
-      decoded (omega (arith, n, short)) ∙ ap (λ (ns : List ℕ). operator_at ns cpu.regs.place) c ∙ ap (operator_at (code_of m.constants t.segment)) (h.holds.running m t runs).place
+      decoded ∙ ap (λ (ns : List ℕ). operator_at ns cpu.regs.place) c ∙ ap (operator_at (code_of m.constants t.segment)) (h.holds.running m t runs).place

@@ -7,7 +7,7 @@ ghost use Rattle.b67_exec_cells.specs.Running.{code_desc, GivesReading, GivesSeg
 use b67_ctl::SegDesc;
 use b67_model::{Op, Undecodable};
 use b67_stack::Cpu;
-use b67_syllable::decode;
+use b67_syllable::decode_in_segment;
 use b67_word::Place;
 
 /// The descriptor of the running segment.
@@ -42,7 +42,7 @@ pub fn read_in(cpu: &Cpu, desc: SegDesc) -> Result<(Op, Place), Undecodable>
     ensures { ForEach cpu.now (λ x plan s m t. GivesReading x plan m t (Some result)) }
 {
     let code = cpu.core.words(desc.address, desc.words);
-    decode(code, cpu.regs.place)
+    decode_in_segment(code, cpu.regs.place)
 }
 
 /// The operator at the running place and the place after it, or why there is none. None exactly if the running

@@ -269,3 +269,21 @@ pub fn decode(code: &[Word], at: Place) -> Result<(Op, Place), Undecodable>
         _ => operator_of_kind(code, at, kind),
     }
 }
+
+/// As `decode`, of the code of a segment, which has at most 8,191 words: there is a place after each of its operators.
+#[inline(always)]
+pub fn decode_in_segment(code: &[Word], at: Place) -> Result<(Op, Place), Undecodable>
+    requires { length code.now < 2 ^ 13 }
+    ensures { result ≡ operator_at (contents code.now) at }
+{
+    if at.word as usize >= code.len() || at.syllable >= 6 {
+        return Err(Undecodable::BadPlace);
+    }
+    let Some(kind) = kind_of(first_at(code, at)) else {
+        return Err(Undecodable::NotAdmitted);
+    };
+    match kind {
+        Kind::Lone(operator) => Ok((Op::Plain(operator), place_behind(at))),
+        _ => operator_near(code, at, kind),
+    }
+}

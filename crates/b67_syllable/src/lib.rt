@@ -6,7 +6,7 @@ mod encoding;
 mod kinds;
 
 pub use b67_model::{Code, Op, Undecodable};
-pub use decoding::decode;
+pub use decoding::{decode, decode_in_segment};
 pub use encoding::encode;
 
 #[cfg(test)]
