@@ -14,9 +14,9 @@ mod lines;
 mod outcome;
 mod ranges;
 mod runs;
-mod summaries;
 #[cfg(test)]
 mod stepwise;
+mod summaries;
 #[cfg(test)]
 mod tasks;
 #[cfg(test)]
