@@ -160,7 +160,7 @@ pub data StopsUnopened {B : Type 0} (d : Device B) (core : ℕ) (p : Prepared) (
 
 -- A session was opened, for which there is room. Each state up to the count of the machine is in order; and if the device
 -- told what its sectors hold, none of the steps up to there needed more words than core has. The machine has that core, the
--- halt of the deck and the names of its jobs. Whatever the device gave back, the machine represents some session in order. A
+-- halt of the deck and the names of its jobs. Whatever the device gave back, the machine represents some session. A
 -- slice may be called on it again, and its table of sectors has one for each of the device.
 pub record WasOpened {B : Type 0} (d : Device B) (core : ℕ) (p : Prepared) (k : Machine) : Type 0 where
   pub room : RoomSuffices d core p

@@ -235,7 +235,7 @@ pub fn run<S: Source, K: Sink, B: Backing>(
         result.machine K.taken K.faults printer.old printer.new result.status }
 
     // The machine is that of a session that was opened: its states are in order and fit core. Whatever the device gave back, it
-    // represents some session in order, and a slice of more steps may be asked of it.
+    // represents some session, and a slice of more steps may be asked of it.
     ensures opened { (k : Machine) → result.machine ≡ Some k → (core : ℕ) × (p : Prepared) × IsRun words.now S.left deck.old deck.new core p
         × WasOpened (device_of B.holds B.size B.faults backing.old backing.new) core p k }
 

@@ -141,7 +141,8 @@ fn make_slice<B: Backing, K: Sink>(
 /// device failed. A single step whose segment and array are present, and which is no such RESIZE and starts no task, doesn't
 /// call the backing. If nothing is known of what the device's sectors hold, the words that it gives back may be others, and
 /// as many. After `Ended` the machine represents the session without a task; if it was known what the sectors hold, the one
-/// after the steps. Whatever the device gives back, the machine represents some session in order afterwards.
+/// after the steps. Whatever the device gives back, the machine then represents some session, in order but for places
+/// if a task lives.
 ///
 /// There is no `Stop` if it is known what the device's sectors hold, no count of failures rises, and core and sectors suffice
 /// for the steps that are to be made, up to the halt.

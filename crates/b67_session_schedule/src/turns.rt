@@ -64,8 +64,8 @@ fn before_choice(tasks: &Tasks) -> u64
     u64::from(tasks.quantum.saturating_sub(tasks.turn))
 }
 
-/// How many operators more the last task makes if each goes on, up to `most`: it is ready, its registers are in use, and no
-/// other task is chosen, the halt isn't reached and its job isn't at its limit before them or after them.
+/// At most how many operators the last task may make in a row, up to `most`: before each of them it is the one that is chosen
+/// and the halt isn't reached, and after them its job is below its limit. 0 if it isn't ready or its registers aren't in use.
 pub fn turn_room(tasks: &Tasks, most: u64) -> u64
     ensures few { result ≤ most }
     ensures halt { BeforeHalt tasks.now.halt tasks.now.made result }

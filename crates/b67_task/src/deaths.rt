@@ -21,8 +21,8 @@ use b67_task_tables::Machine;
 use b67_word::Ending;
 
 /// The task of a row ends so by itself, and those under it by PARENT: the answer lists them, the deepest first and the task
-/// itself last. Their slots, the areas and the sectors of their arrays are free then, who awaited one is ready, and no task's
-/// registers are in use. The machine represents the session without them; nothing is printed or counted.
+/// itself last. Their slots, the areas and the sectors of their arrays are free then, and who awaited one is ready. The machine
+/// represents the session without them; nothing is printed or counted.
 pub fn end(machine: &mut Machine, row: u8, ending: Ending) -> ArrayVec<EndedTask, 15>
     requires { HasRow machine.old row }
     ensures list { (x : Storage) (told : Option (List (List ℕ))) (plan : Placement) (s : Session) (m : SessionJob) (t : Task) → IsInOrderButCounts s → MachineRepresents x told machine.old plan s
