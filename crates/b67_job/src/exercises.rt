@@ -2,6 +2,7 @@
 
 use crate::command::{CommandLine, backing_path, command_of};
 use crate::tests::answer;
+use std::process::Abort;
 use std::test::Fail;
 
 // One array of 88 words and 81 syllables of code, which are 14 words: the greatest need is 160, 3 of the dictionary, the stack,
@@ -24,26 +25,34 @@ fn exercises(rt: HostRuntime) -> Result<(), Fail> {
     Ok(())
 }
 
+/// Whether these words are a command, as it should be. None of them names a backing.
+fn check_words(rt: &impl Abort, words: &[&str], is_command: bool) {
+    assert_eq!(rt; command_of(words).is_some(), is_command, "{words:?}");
+    assert_eq!(rt; backing_path(words), None, "{words:?}");
+}
+
 #[test]
 fn exercise_words(rt: HostRuntime) -> Result<(), Fail> {
-    let table = [
-        (["exercise", "0", "1", "--core", "256"], true),
-        (["exercise", "2147483647", "500", "--core", "1048575"], true),
-        (["exercise", "2147483648", "1", "--core", "256"], false),
-        (["exercise", "01", "1", "--core", "256"], false),
-        (["exercise", "-1", "1", "--core", "256"], false),
-        (["exercise", "1", "0", "--core", "256"], false),
-        (["exercise", "1", "501", "--core", "256"], false),
-        (["exercise", "1", "1", "--core", "255"], false),
-        (["exercise", "1", "1", "--core", "1048576"], false),
-        (["exercise", "1", "1", "--backing", "b"], false),
-        (["exercise", "--core", "256", "1", "1"], false),
-        (["run", "1", "1", "--core", "256"], false),
-    ];
-    for (words, is_command) in table {
-        assert_eq!(rt; command_of(&words).is_some(), is_command, "{words:?}");
-        assert_eq!(rt; backing_path(&words), None, "{words:?}");
-    }
+    check_words(&rt, &["exercise", "0", "1", "--core", "256"], true);
+    check_words(
+        &rt,
+        &["exercise", "2147483647", "500", "--core", "1048575"],
+        true,
+    );
+    check_words(
+        &rt,
+        &["exercise", "2147483648", "1", "--core", "256"],
+        false,
+    );
+    check_words(&rt, &["exercise", "01", "1", "--core", "256"], false);
+    check_words(&rt, &["exercise", "-1", "1", "--core", "256"], false);
+    check_words(&rt, &["exercise", "1", "0", "--core", "256"], false);
+    check_words(&rt, &["exercise", "1", "501", "--core", "256"], false);
+    check_words(&rt, &["exercise", "1", "1", "--core", "255"], false);
+    check_words(&rt, &["exercise", "1", "1", "--core", "1048576"], false);
+    check_words(&rt, &["exercise", "1", "1", "--backing", "b"], false);
+    check_words(&rt, &["exercise", "--core", "256", "1", "1"], false);
+    check_words(&rt, &["run", "1", "1", "--core", "256"], false);
     let words = ["exercise", "7", "9", "--core", "2048"];
     let command = CommandLine::Exercise {
         seed: 7,
