@@ -4,7 +4,10 @@ use Rattle.b67_model.specs.declared.operators.Op.{Op}
 use Rattle.b67_model.specs.declared.operators.Op.TheVariants.{Valc, Namc, Lt48, Plain}
 use Rattle.b67_model.specs.declared.operators.Code.{Code}
 use Rattle.b67_model.specs.declared.operators.Code.TheVariants.{Indx, Entr, Nxlv, Mkst, Stff, Stod, Ston, Load, Exit, Retn}
+use Rattle.b67_model.specs.declared.operators.Code.TheVariants as code
 use Rattle.b67_model.specs.Operators.{Reading}
+use Rattle.b67_exec_operands.specs.declared.numbers.Binary.{Binary}
+use Rattle.b67_exec_operands.specs.declared.numbers.Binary.TheVariants as binary
 use Rattle.b67_model.specs.Rows.{step}
 use Rattle.b67_model.specs.State.{Task, SessionJob}
 use Rattle.b67_model.specs.Schedule.{Session}
@@ -39,6 +42,25 @@ goes_far Load = true
 goes_far Exit = true
 goes_far Retn = true
 goes_far _ = false
+
+-- the operator of two operands that a code names
+abbrev pub two_of : Code → Option Binary
+two_of code.Add = Some binary.Add
+two_of code.Subt = Some binary.Subt
+two_of code.Mult = Some binary.Mult
+two_of code.Idiv = Some binary.Idiv
+two_of code.Rdiv = Some binary.Rdiv
+two_of code.Less = Some binary.Less
+two_of code.Greq = Some binary.Greq
+two_of code.Grtr = Some binary.Grtr
+two_of code.Lseq = Some binary.Lseq
+two_of code.Equl = Some binary.Equl
+two_of code.Neql = Some binary.Neql
+two_of code.Land = Some binary.Land
+two_of code.Lor = Some binary.Lor
+two_of code.Leqv = Some binary.Leqv
+two_of code.Same = Some binary.Same
+two_of _ = None
 
 -- all such operators; the others are on the top cells alone
 abbrev pub is_far : Op → Bool

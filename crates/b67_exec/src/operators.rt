@@ -10,7 +10,7 @@ ghost use Rattle.b67_layout.specs.Meets.{here, RunsSome, ForEach};
 ghost use Rattle.b67_layout_step.specs.Keeping.{is_leaving};
 ghost use Rattle.b67_exec_cells.specs.Running.{code_area};
 ghost use Rattle.b67_entry_enter.specs.Procedures.{CallsOrMeets};
-ghost use Rattle.b67_exec.specs.Operators.{ParametersFit, goes_far, is_far, OperatorMeets, leaves_record, CutsRecord};
+ghost use Rattle.b67_exec.specs.Operators.{ParametersFit, goes_far, is_far, two_of, OperatorMeets, leaves_record, CutsRecord};
 
 use crate::assigning::{stod, ston};
 use crate::evaluating::{evaluate, load};
@@ -91,31 +91,61 @@ fn is_far(op: Op) -> bool
     }
 }
 
-/// An operator without parameters on the top cells alone, after which the task goes on at `next`.
+/// The operator of two operands that a code names, if it names one.
 #[inline(always)]
-fn plain(cpu: &mut Cpu, code: Code, next: Place) -> Step
+fn two_of(code: Code) -> Option<Binary>
+    ensures { result ≡ two_of code }
+{
+    match code {
+        Code::Add => Some(Binary::Add),
+        Code::Subt => Some(Binary::Subt),
+        Code::Mult => Some(Binary::Mult),
+        Code::Idiv => Some(Binary::Idiv),
+        Code::Rdiv => Some(Binary::Rdiv),
+        Code::Less => Some(Binary::Less),
+        Code::Greq => Some(Binary::Greq),
+        Code::Grtr => Some(Binary::Grtr),
+        Code::Lseq => Some(Binary::Lseq),
+        Code::Equl => Some(Binary::Equl),
+        Code::Neql => Some(Binary::Neql),
+        Code::Land => Some(Binary::Land),
+        Code::Lor => Some(Binary::Lor),
+        Code::Leqv => Some(Binary::Leqv),
+        Code::Same => Some(Binary::Same),
+        Code::Chsn
+        | Code::Lnot
+        | Code::Exit
+        | Code::Indx
+        | Code::Retn
+        | Code::Entr
+        | Code::Nxlv
+        | Code::Mkst
+        | Code::Stff
+        | Code::Zero
+        | Code::One
+        | Code::Push
+        | Code::Dlet
+        | Code::Exch
+        | Code::Dupl
+        | Code::Stod
+        | Code::Ston
+        | Code::Load
+        | Code::Noop
+        | Code::Nvld => None,
+    }
+}
+
+/// An operator without parameters on the top cells alone that has not two operands, after which the task goes on at `next`.
+#[inline(always)]
+fn lone(cpu: &mut Cpu, code: Code, next: Place) -> Step
     requires runs { RunsSome cpu.old }
     requires near { goes_far code ≡ false }
+    requires other { two_of code ≡ None }
     ensures row { ForEach cpu.old (λ x plan s m t. CallsOrMeets x plan s m result cpu.old cpu.new (called (Plain code) (here m t next)) (plain_row code (here m t next))) }
 {
     match code {
-        Code::Add => on_two(cpu, Binary::Add, next),
-        Code::Subt => on_two(cpu, Binary::Subt, next),
-        Code::Mult => on_two(cpu, Binary::Mult, next),
-        Code::Idiv => on_two(cpu, Binary::Idiv, next),
-        Code::Rdiv => on_two(cpu, Binary::Rdiv, next),
-        Code::Less => on_two(cpu, Binary::Less, next),
-        Code::Greq => on_two(cpu, Binary::Greq, next),
-        Code::Grtr => on_two(cpu, Binary::Grtr, next),
-        Code::Lseq => on_two(cpu, Binary::Lseq, next),
-        Code::Equl => on_two(cpu, Binary::Equl, next),
-        Code::Neql => on_two(cpu, Binary::Neql, next),
         Code::Chsn => on_one(cpu, Unary::Chsn, next),
-        Code::Land => on_two(cpu, Binary::Land, next),
-        Code::Lor => on_two(cpu, Binary::Lor, next),
-        Code::Leqv => on_two(cpu, Binary::Leqv, next),
         Code::Lnot => on_one(cpu, Unary::Lnot, next),
-        Code::Same => on_two(cpu, Binary::Same, next),
         Code::Zero => literal(cpu, 0, next),
         Code::One => literal(cpu, 1, next),
         Code::Push | Code::Noop => go_on(cpu, next),
@@ -125,6 +155,35 @@ fn plain(cpu: &mut Cpu, code: Code, next: Place) -> Step
         Code::Nvld => Step::Fault(Fault::InvalidOperator),
         Code::Indx | Code::Entr | Code::Nxlv | Code::Mkst | Code::Stff => unreachable!(),
         Code::Stod | Code::Ston | Code::Load | Code::Exit | Code::Retn => unreachable!(),
+        Code::Add
+        | Code::Subt
+        | Code::Mult
+        | Code::Idiv
+        | Code::Rdiv
+        | Code::Less
+        | Code::Greq
+        | Code::Grtr
+        | Code::Lseq
+        | Code::Equl
+        | Code::Neql
+        | Code::Land
+        | Code::Lor
+        | Code::Leqv
+        | Code::Same => unreachable!(),
+    }
+}
+
+/// An operator without parameters on the top cells alone, after which the task goes on at `next`. Those of two operands are one
+/// call, so that all of them are inlined once.
+#[inline(always)]
+fn plain(cpu: &mut Cpu, code: Code, next: Place) -> Step
+    requires runs { RunsSome cpu.old }
+    requires near { goes_far code ≡ false }
+    ensures row { ForEach cpu.old (λ x plan s m t. CallsOrMeets x plan s m result cpu.old cpu.new (called (Plain code) (here m t next)) (plain_row code (here m t next))) }
+{
+    match two_of(code) {
+        Some(op) => on_two(cpu, op, next),
+        None => lone(cpu, code, next),
     }
 }
 
