@@ -1,13 +1,15 @@
 -- What making the operator at the running place answers and leaves.
 use Rattle.std.specs.Prelude.{◌≡◌, ℕ, ◌+◌, ◌^◌, ◌<◌, ◌≤◌, Bool, true, false, Option, Some, None, Ok, Err, slice_get}
 use Rattle.b67_model.specs.declared.operators.Op.{Op}
-use Rattle.b67_model.specs.declared.operators.Op.TheVariants.{Valc, Namc, Lt48, Plain}
+use Rattle.b67_model.specs.declared.operators.Op.TheVariants.{Valc, Namc, Lt8, Lt16, Lt48, Bset, Brst, Isol, Insr, Plain}
 use Rattle.b67_model.specs.declared.operators.Code.{Code}
 use Rattle.b67_model.specs.declared.operators.Code.TheVariants.{Indx, Entr, Nxlv, Mkst, Stff, Stod, Ston, Load, Exit, Retn}
 use Rattle.b67_model.specs.declared.operators.Code.TheVariants as code
 use Rattle.b67_model.specs.Operators.{Reading}
 use Rattle.b67_exec_operands.specs.declared.numbers.Binary.{Binary}
 use Rattle.b67_exec_operands.specs.declared.numbers.Binary.TheVariants as binary
+use Rattle.b67_exec_operands.specs.declared.numbers.Unary.{Unary}
+use Rattle.b67_exec_operands.specs.declared.numbers.Unary.TheVariants as unary
 use Rattle.b67_model.specs.Rows.{step}
 use Rattle.b67_model.specs.State.{Task, SessionJob}
 use Rattle.b67_model.specs.Schedule.{Session}
@@ -43,30 +45,49 @@ goes_far Exit = true
 goes_far Retn = true
 goes_far _ = false
 
--- the operator of two operands that a code names
-abbrev pub two_of : Code → Option Binary
-two_of code.Add = Some binary.Add
-two_of code.Subt = Some binary.Subt
-two_of code.Mult = Some binary.Mult
-two_of code.Idiv = Some binary.Idiv
-two_of code.Rdiv = Some binary.Rdiv
-two_of code.Less = Some binary.Less
-two_of code.Greq = Some binary.Greq
-two_of code.Grtr = Some binary.Grtr
-two_of code.Lseq = Some binary.Lseq
-two_of code.Equl = Some binary.Equl
-two_of code.Neql = Some binary.Neql
-two_of code.Land = Some binary.Land
-two_of code.Lor = Some binary.Lor
-two_of code.Leqv = Some binary.Leqv
-two_of code.Same = Some binary.Same
-two_of _ = None
-
 -- all such operators; the others are on the top cells alone
 abbrev pub is_far : Op → Bool
 is_far (Valc couple) = true
 is_far (Plain code) = goes_far code
 is_far _ = false
+
+-- the operator of two operands that an operator is
+abbrev pub two_of : Op → Option Binary
+two_of (Insr high width) = Some (binary.Insr high width)
+two_of (Plain code.Add) = Some binary.Add
+two_of (Plain code.Subt) = Some binary.Subt
+two_of (Plain code.Mult) = Some binary.Mult
+two_of (Plain code.Idiv) = Some binary.Idiv
+two_of (Plain code.Rdiv) = Some binary.Rdiv
+two_of (Plain code.Less) = Some binary.Less
+two_of (Plain code.Greq) = Some binary.Greq
+two_of (Plain code.Grtr) = Some binary.Grtr
+two_of (Plain code.Lseq) = Some binary.Lseq
+two_of (Plain code.Equl) = Some binary.Equl
+two_of (Plain code.Neql) = Some binary.Neql
+two_of (Plain code.Land) = Some binary.Land
+two_of (Plain code.Lor) = Some binary.Lor
+two_of (Plain code.Leqv) = Some binary.Leqv
+two_of (Plain code.Same) = Some binary.Same
+two_of _ = None
+
+-- the operator of one operand that it is
+abbrev pub one_of : Op → Option Unary
+one_of (Bset n) = Some (unary.Bset n)
+one_of (Brst n) = Some (unary.Brst n)
+one_of (Isol high width) = Some (unary.Isol high width)
+one_of (Plain code.Chsn) = Some unary.Chsn
+one_of (Plain code.Lnot) = Some unary.Lnot
+one_of _ = None
+
+-- the bits of the literal that it pushes
+abbrev pub literal_of : Op → Option ℕ
+literal_of (Lt8 n) = Some n
+literal_of (Lt16 n) = Some n
+literal_of (Lt48 bits) = Some bits
+literal_of (Plain code.Zero) = Some 0
+literal_of (Plain code.One) = Some 1
+literal_of _ = None
 
 -- where the running segment is absent, nothing has changed; where it calls an intrinsic, neither; else its row was made
 abbrev pub OperatorAt : Storage → Placement → Session → SessionJob → Task → Step → Cpu → Cpu → Option ℕ → Type 0

@@ -10,7 +10,7 @@ ghost use Rattle.b67_layout.specs.Meets.{here, RunsSome, ForEach};
 ghost use Rattle.b67_layout_step.specs.Keeping.{is_leaving};
 ghost use Rattle.b67_exec_cells.specs.Running.{code_area};
 ghost use Rattle.b67_entry_enter.specs.Procedures.{CallsOrMeets};
-ghost use Rattle.b67_exec.specs.Operators.{ParametersFit, goes_far, is_far, two_of, OperatorMeets, leaves_record, CutsRecord};
+ghost use Rattle.b67_exec.specs.Operators.{ParametersFit, goes_far, is_far, two_of, one_of, literal_of, OperatorMeets, leaves_record, CutsRecord};
 
 use crate::assigning::{stod, ston};
 use crate::evaluating::{evaluate, load};
@@ -91,103 +91,90 @@ fn is_far(op: Op) -> bool
     }
 }
 
-/// The operator of two operands that a code names, if it names one.
+/// The operator of two operands that an operator is, if it is one.
 #[inline(always)]
-fn two_of(code: Code) -> Option<Binary>
-    ensures { result ≡ two_of code }
+fn two_of(op: Op) -> Option<Binary>
+    ensures { result ≡ two_of op }
 {
-    match code {
-        Code::Add => Some(Binary::Add),
-        Code::Subt => Some(Binary::Subt),
-        Code::Mult => Some(Binary::Mult),
-        Code::Idiv => Some(Binary::Idiv),
-        Code::Rdiv => Some(Binary::Rdiv),
-        Code::Less => Some(Binary::Less),
-        Code::Greq => Some(Binary::Greq),
-        Code::Grtr => Some(Binary::Grtr),
-        Code::Lseq => Some(Binary::Lseq),
-        Code::Equl => Some(Binary::Equl),
-        Code::Neql => Some(Binary::Neql),
-        Code::Land => Some(Binary::Land),
-        Code::Lor => Some(Binary::Lor),
-        Code::Leqv => Some(Binary::Leqv),
-        Code::Same => Some(Binary::Same),
-        Code::Chsn
-        | Code::Lnot
-        | Code::Exit
-        | Code::Indx
-        | Code::Retn
-        | Code::Entr
-        | Code::Nxlv
-        | Code::Mkst
-        | Code::Stff
-        | Code::Zero
-        | Code::One
-        | Code::Push
-        | Code::Dlet
-        | Code::Exch
-        | Code::Dupl
-        | Code::Stod
-        | Code::Ston
-        | Code::Load
-        | Code::Noop
-        | Code::Nvld => None,
+    match op {
+        Op::Insr(high, width) => Some(Binary::Insr(high, width)),
+        Op::Plain(Code::Add) => Some(Binary::Add),
+        Op::Plain(Code::Subt) => Some(Binary::Subt),
+        Op::Plain(Code::Mult) => Some(Binary::Mult),
+        Op::Plain(Code::Idiv) => Some(Binary::Idiv),
+        Op::Plain(Code::Rdiv) => Some(Binary::Rdiv),
+        Op::Plain(Code::Less) => Some(Binary::Less),
+        Op::Plain(Code::Greq) => Some(Binary::Greq),
+        Op::Plain(Code::Grtr) => Some(Binary::Grtr),
+        Op::Plain(Code::Lseq) => Some(Binary::Lseq),
+        Op::Plain(Code::Equl) => Some(Binary::Equl),
+        Op::Plain(Code::Neql) => Some(Binary::Neql),
+        Op::Plain(Code::Land) => Some(Binary::Land),
+        Op::Plain(Code::Lor) => Some(Binary::Lor),
+        Op::Plain(Code::Leqv) => Some(Binary::Leqv),
+        Op::Plain(Code::Same) => Some(Binary::Same),
+        _ => None,
     }
 }
 
-/// An operator without parameters on the top cells alone that has not two operands, after which the task goes on at `next`.
+/// The operator of one operand that an operator is, if it is one.
 #[inline(always)]
-fn lone(cpu: &mut Cpu, code: Code, next: Place) -> Step
+fn one_of(op: Op) -> Option<Unary>
+    ensures { result ≡ one_of op }
+{
+    match op {
+        Op::Bset(n) => Some(Unary::Bset(n)),
+        Op::Brst(n) => Some(Unary::Brst(n)),
+        Op::Isol(high, width) => Some(Unary::Isol(high, width)),
+        Op::Plain(Code::Chsn) => Some(Unary::Chsn),
+        Op::Plain(Code::Lnot) => Some(Unary::Lnot),
+        _ => None,
+    }
+}
+
+/// The bits of the literal that an operator pushes, if it pushes one.
+#[inline(always)]
+fn literal_of(op: Op) -> Option<u64>
+    ensures { result ≡ literal_of op }
+{
+    match op {
+        Op::Lt8(n) => Some(u64::from(n)),
+        Op::Lt16(n) => Some(u64::from(n)),
+        Op::Lt48(bits) => Some(bits),
+        Op::Plain(Code::Zero) => Some(0),
+        Op::Plain(Code::One) => Some(1),
+        _ => None,
+    }
+}
+
+/// An operator on the top cells alone that neither computes nor pushes a literal, after which the task goes on at `next`.
+#[inline(always)]
+fn rest(cpu: &mut Cpu, op: Op, next: Place) -> Step
     requires runs { RunsSome cpu.old }
-    requires near { goes_far code ≡ false }
-    requires other { two_of code ≡ None }
-    ensures row { ForEach cpu.old (λ x plan s m t. CallsOrMeets x plan s m result cpu.old cpu.new (called (Plain code) (here m t next)) (plain_row code (here m t next))) }
+    requires near { is_far op ≡ false }
+    requires parameters { ParametersFit op }
+    requires two { two_of op ≡ None }
+    requires one { one_of op ≡ None }
+    requires literal { literal_of op ≡ None }
+    ensures row { ForEach cpu.old (λ x plan s m t. CallsOrMeets x plan s m result cpu.old cpu.new (called op (here m t next)) (row op (here m t next))) }
 {
-    match code {
-        Code::Chsn => on_one(cpu, Unary::Chsn, next),
-        Code::Lnot => on_one(cpu, Unary::Lnot, next),
-        Code::Zero => literal(cpu, 0, next),
-        Code::One => literal(cpu, 1, next),
-        Code::Push | Code::Noop => go_on(cpu, next),
-        Code::Dlet => dlet(cpu, next),
-        Code::Exch => exch(cpu, next),
-        Code::Dupl => dupl(cpu, next),
-        Code::Nvld => Step::Fault(Fault::InvalidOperator),
-        Code::Indx | Code::Entr | Code::Nxlv | Code::Mkst | Code::Stff => unreachable!(),
-        Code::Stod | Code::Ston | Code::Load | Code::Exit | Code::Retn => unreachable!(),
-        Code::Add
-        | Code::Subt
-        | Code::Mult
-        | Code::Idiv
-        | Code::Rdiv
-        | Code::Less
-        | Code::Greq
-        | Code::Grtr
-        | Code::Lseq
-        | Code::Equl
-        | Code::Neql
-        | Code::Land
-        | Code::Lor
-        | Code::Leqv
-        | Code::Same => unreachable!(),
+    match op {
+        Op::Namc(couple) => namc(cpu, couple, next),
+        Op::Mpcw(bits) => mpcw(cpu, bits, next),
+        Op::Brun(target) => go_on(cpu, target),
+        Op::Brtr(target) => branch_if(cpu, true, target, next),
+        Op::Brfl(target) => branch_if(cpu, false, target, next),
+        Op::Plain(Code::Push) | Op::Plain(Code::Noop) => go_on(cpu, next),
+        Op::Plain(Code::Dlet) => dlet(cpu, next),
+        Op::Plain(Code::Exch) => exch(cpu, next),
+        Op::Plain(Code::Dupl) => dupl(cpu, next),
+        Op::Plain(Code::Nvld) => Step::Fault(Fault::InvalidOperator),
+        _ => unreachable!(),
     }
 }
 
-/// An operator without parameters on the top cells alone, after which the task goes on at `next`. Those of two operands are one
-/// call, so that all of them are inlined once.
-#[inline(always)]
-fn plain(cpu: &mut Cpu, code: Code, next: Place) -> Step
-    requires runs { RunsSome cpu.old }
-    requires near { goes_far code ≡ false }
-    ensures row { ForEach cpu.old (λ x plan s m t. CallsOrMeets x plan s m result cpu.old cpu.new (called (Plain code) (here m t next)) (plain_row code (here m t next))) }
-{
-    match two_of(code) {
-        Some(op) => on_two(cpu, op, next),
-        None => lone(cpu, code, next),
-    }
-}
-
-/// An operator on the top cells alone, after which the task goes on at `next`.
+/// An operator on the top cells alone, after which the task goes on at `next`. Those of two operands are one call, and so are
+/// those of one and the literals: each is inlined once.
 #[inline(always)]
 fn stay(cpu: &mut Cpu, op: Op, next: Place) -> Step
     requires runs { RunsSome cpu.old }
@@ -195,21 +182,15 @@ fn stay(cpu: &mut Cpu, op: Op, next: Place) -> Step
     requires parameters { ParametersFit op }
     ensures row { ForEach cpu.old (λ x plan s m t. CallsOrMeets x plan s m result cpu.old cpu.new (called op (here m t next)) (row op (here m t next))) }
 {
-    match op {
-        Op::Valc(_) => unreachable!(),
-        Op::Namc(couple) => namc(cpu, couple, next),
-        Op::Lt8(n) => literal(cpu, u64::from(n), next),
-        Op::Lt16(n) => literal(cpu, u64::from(n), next),
-        Op::Lt48(bits) => literal(cpu, bits, next),
-        Op::Mpcw(bits) => mpcw(cpu, bits, next),
-        Op::Brun(target) => go_on(cpu, target),
-        Op::Brtr(target) => branch_if(cpu, true, target, next),
-        Op::Brfl(target) => branch_if(cpu, false, target, next),
-        Op::Bset(n) => on_one(cpu, Unary::Bset(n), next),
-        Op::Brst(n) => on_one(cpu, Unary::Brst(n), next),
-        Op::Isol(high, width) => on_one(cpu, Unary::Isol(high, width), next),
-        Op::Insr(high, width) => on_two(cpu, Binary::Insr(high, width), next),
-        Op::Plain(code) => plain(cpu, code, next),
+    if let Some(two) = two_of(op) {
+        return on_two(cpu, two, next);
+    }
+    if let Some(one) = one_of(op) {
+        return on_one(cpu, one, next);
+    }
+    match literal_of(op) {
+        Some(bits) => literal(cpu, bits, next),
+        None => rest(cpu, op, next),
     }
 }
 
