@@ -4,10 +4,10 @@
 #![tactic(auto)]
 
 mod bits;
-mod compared;
 mod numbers;
+mod numerics;
 mod operands;
 
 pub use bits::{brst, bset, insr, isol, land, leqv, lnot, lor, same};
-pub use compared::{equl, greq, grtr, less, lseq, neql};
-pub use numbers::{add, chsn, idiv, mult, rdiv, subt};
+pub use numbers::{chsn, idiv, mult, rdiv};
+pub use numerics::{Numeric, add, combine, equl, greq, grtr, less, lseq, neql, subt};

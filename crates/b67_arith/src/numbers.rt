@@ -1,4 +1,4 @@
-//! Sums, products, quotients and the change of sign.
+//! Products, quotients and the change of sign.
 
 ghost use Rattle.std.specs.Prelude.{◌≡◌, ◌<◌, ◌^◌, nat_abs, int_div, int_rem};
 ghost use Rattle.b67_model.specs.Arithmetic as rows;
@@ -6,24 +6,6 @@ ghost use Rattle.b67_arith.specs.OnWords.{on_word, on_words};
 
 use crate::operands::{numbers, operand};
 use b67_word::{Fault, Word};
-
-/// a + b. INVALID OPERAND, EXPONENT, INTEGER OVERFLOW, in this order.
-#[inline(always)]
-pub fn add(a: Word, b: Word) -> Result<Word, Fault>
-    ensures { result ≡ on_words rows.add a b }
-{
-    let (x, y) = numbers(a, b)?;
-    operand(x + y)
-}
-
-/// a - b. INVALID OPERAND, EXPONENT, INTEGER OVERFLOW, in this order.
-#[inline(always)]
-pub fn subt(a: Word, b: Word) -> Result<Word, Fault>
-    ensures { result ≡ on_words rows.subt a b }
-{
-    let (x, y) = numbers(a, b)?;
-    operand(x - y)
-}
 
 /// a × b. INVALID OPERAND, EXPONENT, INTEGER OVERFLOW, in this order.
 pub fn mult(a: Word, b: Word) -> Result<Word, Fault>

@@ -1,9 +1,9 @@
 -- What making the operator at the running place answers and leaves.
 use Rattle.std.specs.Prelude.{◌≡◌, ℕ, ◌+◌, ◌^◌, ◌<◌, ◌≤◌, Bool, true, false, Option, Some, None, Ok, Err, slice_get}
 use Rattle.b67_model.specs.declared.operators.Op.{Op}
-use Rattle.b67_model.specs.declared.operators.Op.TheVariants.{Valc, Namc, Lt48, Plain}
+use Rattle.b67_model.specs.declared.operators.Op.TheVariants.{Valc, Namc, Lt8, Lt16, Lt48, Brun, Brtr, Brfl, Plain}
 use Rattle.b67_model.specs.declared.operators.Code.{Code}
-use Rattle.b67_model.specs.declared.operators.Code.TheVariants.{Indx, Entr, Nxlv, Mkst, Stff, Stod, Ston, Load, Exit, Retn}
+use Rattle.b67_model.specs.declared.operators.Code.TheVariants.{Add, Subt, Less, Greq, Grtr, Lseq, Equl, Neql, Zero, One, Push, Noop, Dlet, Exch, Dupl}
 use Rattle.b67_model.specs.Operators.{Reading}
 use Rattle.b67_model.specs.Rows.{step}
 use Rattle.b67_model.specs.State.{Task, SessionJob}
@@ -26,25 +26,36 @@ ParametersFit (Namc couple) = couple < 2 ^ 14
 ParametersFit (Lt48 bits) = bits < 2 ^ 48
 ParametersFit _ = Unit {0}
 
--- operators without parameters that follow references, or mark, enter or leave activation records
+-- operators without parameters that are near: sums, differences, comparisons, and those that push, move or take off cells
 abbrev pub goes_far : Code → Bool
-goes_far Indx = true
-goes_far Entr = true
-goes_far Nxlv = true
-goes_far Mkst = true
-goes_far Stff = true
-goes_far Stod = true
-goes_far Ston = true
-goes_far Load = true
-goes_far Exit = true
-goes_far Retn = true
-goes_far _ = false
+goes_far Add = false
+goes_far Subt = false
+goes_far Less = false
+goes_far Greq = false
+goes_far Grtr = false
+goes_far Lseq = false
+goes_far Equl = false
+goes_far Neql = false
+goes_far Zero = false
+goes_far One = false
+goes_far Push = false
+goes_far Noop = false
+goes_far Dlet = false
+goes_far Exch = false
+goes_far Dupl = false
+goes_far _ = true
 
--- all such operators; the others are on the top cells alone
+-- the others that are near push a literal or a reference, or branch
 abbrev pub is_far : Op → Bool
-is_far (Valc couple) = true
 is_far (Plain code) = goes_far code
-is_far _ = false
+is_far (Namc couple) = false
+is_far (Lt8 n) = false
+is_far (Lt16 n) = false
+is_far (Lt48 bits) = false
+is_far (Brun target) = false
+is_far (Brtr target) = false
+is_far (Brfl target) = false
+is_far _ = true
 
 -- where the running segment is absent, nothing has changed; where it calls an intrinsic, neither; else its row was made
 abbrev pub OperatorAt : Storage → Placement → Session → SessionJob → Task → Step → Cpu → Cpu → Option ℕ → Type 0

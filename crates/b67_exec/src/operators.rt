@@ -14,11 +14,13 @@ ghost use Rattle.b67_exec.specs.Operators.{ParametersFit, goes_far, is_far, Oper
 
 use crate::assigning::{stod, ston};
 use crate::evaluating::{evaluate, load};
+use b67_arith::Numeric;
 use b67_entry::{exit, retn};
 use b67_entry_enter::{entr, mkst};
 use b67_exec_cells::{present_segment, read_in};
 use b67_exec_operands::{
-    Binary, Unary, branch_if, dlet, dupl, exch, go_on, literal, mpcw, namc, on_one, on_two,
+    Binary, Unary, branch_if, dlet, dupl, exch, go_on, literal, mpcw, namc, on_numbers, on_one,
+    on_two,
 };
 use b67_fetch::{indx, nxlv, stff};
 use b67_model::{Code, Op};
@@ -33,7 +35,8 @@ pub struct Outcome {
     pub left: bool,
 }
 
-/// Whether an operator without parameters follows references, or marks, enters or leaves activation records.
+/// Whether an operator without parameters is far: it stands behind a call, so that the loop of a turn holds the others
+/// alone.
 #[inline(always)]
 fn goes_far(code: Code) -> bool
     ensures { result ≡ goes_far code }
@@ -48,87 +51,77 @@ fn goes_far(code: Code) -> bool
         | Code::Ston
         | Code::Load
         | Code::Exit
-        | Code::Retn => true,
-        Code::Add
-        | Code::Subt
+        | Code::Retn
         | Code::Mult
         | Code::Idiv
         | Code::Rdiv
-        | Code::Less
-        | Code::Greq
-        | Code::Grtr
-        | Code::Lseq
-        | Code::Equl
-        | Code::Neql
         | Code::Chsn
         | Code::Land
         | Code::Lor
         | Code::Leqv
         | Code::Lnot
         | Code::Same
+        | Code::Nvld => true,
+        Code::Add
+        | Code::Subt
+        | Code::Less
+        | Code::Greq
+        | Code::Grtr
+        | Code::Lseq
+        | Code::Equl
+        | Code::Neql
         | Code::Zero
         | Code::One
         | Code::Push
         | Code::Noop
         | Code::Dlet
         | Code::Exch
-        | Code::Dupl
-        | Code::Nvld => false,
+        | Code::Dupl => false,
     }
 }
 
-/// Whether an operator follows references, or marks, enters or leaves activation records.
+/// Whether an operator is far.
 #[inline(always)]
 fn is_far(op: Op) -> bool
     ensures { result ≡ is_far op }
 {
     match op {
-        Op::Valc(_) => true,
         Op::Plain(code) => goes_far(code),
-        Op::Namc(_) | Op::Lt8(_) | Op::Lt16(_) | Op::Lt48(_) | Op::Mpcw(_) => false,
+        Op::Valc(_) | Op::Mpcw(_) => true,
+        Op::Bset(_) | Op::Brst(_) | Op::Isol(_, _) | Op::Insr(_, _) => true,
+        Op::Namc(_) | Op::Lt8(_) | Op::Lt16(_) | Op::Lt48(_) => false,
         Op::Brun(_) | Op::Brtr(_) | Op::Brfl(_) => false,
-        Op::Bset(_) | Op::Brst(_) | Op::Isol(_, _) | Op::Insr(_, _) => false,
     }
 }
 
-/// An operator without parameters on the top cells alone, after which the task goes on at `next`.
+/// A near operator without parameters, after which the task goes on at `next`.
 #[inline(always)]
 fn plain(cpu: &mut Cpu, code: Code, next: Place) -> Step
     requires runs { RunsSome cpu.old }
     requires near { goes_far code ≡ false }
     ensures row { ForEach cpu.old (λ x plan s m t. CallsOrMeets x plan s m result cpu.old cpu.new (called (Plain code) (here m t next)) (plain_row code (here m t next))) }
 {
-    match code {
-        Code::Add => on_two(cpu, Binary::Add, next),
-        Code::Subt => on_two(cpu, Binary::Subt, next),
-        Code::Mult => on_two(cpu, Binary::Mult, next),
-        Code::Idiv => on_two(cpu, Binary::Idiv, next),
-        Code::Rdiv => on_two(cpu, Binary::Rdiv, next),
-        Code::Less => on_two(cpu, Binary::Less, next),
-        Code::Greq => on_two(cpu, Binary::Greq, next),
-        Code::Grtr => on_two(cpu, Binary::Grtr, next),
-        Code::Lseq => on_two(cpu, Binary::Lseq, next),
-        Code::Equl => on_two(cpu, Binary::Equl, next),
-        Code::Neql => on_two(cpu, Binary::Neql, next),
-        Code::Chsn => on_one(cpu, Unary::Chsn, next),
-        Code::Land => on_two(cpu, Binary::Land, next),
-        Code::Lor => on_two(cpu, Binary::Lor, next),
-        Code::Leqv => on_two(cpu, Binary::Leqv, next),
-        Code::Lnot => on_one(cpu, Unary::Lnot, next),
-        Code::Same => on_two(cpu, Binary::Same, next),
-        Code::Zero => literal(cpu, 0, next),
-        Code::One => literal(cpu, 1, next),
-        Code::Push | Code::Noop => go_on(cpu, next),
-        Code::Dlet => dlet(cpu, next),
-        Code::Exch => exch(cpu, next),
-        Code::Dupl => dupl(cpu, next),
-        Code::Nvld => Step::Fault(Fault::InvalidOperator),
-        Code::Indx | Code::Entr | Code::Nxlv | Code::Mkst | Code::Stff => unreachable!(),
-        Code::Stod | Code::Ston | Code::Load | Code::Exit | Code::Retn => unreachable!(),
-    }
+    let op = match code {
+        Code::Add => Numeric::Add,
+        Code::Subt => Numeric::Subt,
+        Code::Less => Numeric::Less,
+        Code::Greq => Numeric::Greq,
+        Code::Grtr => Numeric::Grtr,
+        Code::Lseq => Numeric::Lseq,
+        Code::Equl => Numeric::Equl,
+        Code::Neql => Numeric::Neql,
+        Code::Zero => return literal(cpu, 0, next),
+        Code::One => return literal(cpu, 1, next),
+        Code::Push | Code::Noop => return go_on(cpu, next),
+        Code::Dlet => return dlet(cpu, next),
+        Code::Exch => return exch(cpu, next),
+        Code::Dupl => return dupl(cpu, next),
+        _ => unreachable!(),
+    };
+    on_numbers(cpu, op, next)
 }
 
-/// An operator on the top cells alone, after which the task goes on at `next`.
+/// A near operator, after which the task goes on at `next`: it is on the top cells alone.
 #[inline(always)]
 fn stay(cpu: &mut Cpu, op: Op, next: Place) -> Step
     requires runs { RunsSome cpu.old }
@@ -137,20 +130,15 @@ fn stay(cpu: &mut Cpu, op: Op, next: Place) -> Step
     ensures row { ForEach cpu.old (λ x plan s m t. CallsOrMeets x plan s m result cpu.old cpu.new (called op (here m t next)) (row op (here m t next))) }
 {
     match op {
-        Op::Valc(_) => unreachable!(),
         Op::Namc(couple) => namc(cpu, couple, next),
         Op::Lt8(n) => literal(cpu, u64::from(n), next),
         Op::Lt16(n) => literal(cpu, u64::from(n), next),
         Op::Lt48(bits) => literal(cpu, bits, next),
-        Op::Mpcw(bits) => mpcw(cpu, bits, next),
         Op::Brun(target) => go_on(cpu, target),
         Op::Brtr(target) => branch_if(cpu, true, target, next),
         Op::Brfl(target) => branch_if(cpu, false, target, next),
-        Op::Bset(n) => on_one(cpu, Unary::Bset(n), next),
-        Op::Brst(n) => on_one(cpu, Unary::Brst(n), next),
-        Op::Isol(high, width) => on_one(cpu, Unary::Isol(high, width), next),
-        Op::Insr(high, width) => on_two(cpu, Binary::Insr(high, width), next),
         Op::Plain(code) => plain(cpu, code, next),
+        _ => unreachable!(),
     }
 }
 
@@ -165,9 +153,8 @@ fn leaves(op: Op) -> bool
     }
 }
 
-/// An operator without parameters that follows references, or marks, enters or leaves activation records. The task goes on
-/// at `next`, or where the entered procedure begins or the caller goes on. It isn't inlined, so that the operators on the
-/// top cells alone keep their answers in registers.
+/// A far operator without parameters. The task goes on at `next`, or where the entered procedure begins or the caller goes
+/// on. It isn't inlined, so that near operators keep their answers in registers.
 #[inline(never)]
 fn refer(cpu: &mut Cpu, code: Code, next: Place) -> Step
     requires runs { RunsSome cpu.old }
@@ -187,11 +174,21 @@ fn refer(cpu: &mut Cpu, code: Code, next: Place) -> Step
         Code::Load => load(cpu, next),
         Code::Exit => exit(cpu),
         Code::Retn => retn(cpu),
+        Code::Mult => on_two(cpu, Binary::Mult, next),
+        Code::Idiv => on_two(cpu, Binary::Idiv, next),
+        Code::Rdiv => on_two(cpu, Binary::Rdiv, next),
+        Code::Chsn => on_one(cpu, Unary::Chsn, next),
+        Code::Land => on_two(cpu, Binary::Land, next),
+        Code::Lor => on_two(cpu, Binary::Lor, next),
+        Code::Leqv => on_two(cpu, Binary::Leqv, next),
+        Code::Lnot => on_one(cpu, Unary::Lnot, next),
+        Code::Same => on_two(cpu, Binary::Same, next),
+        Code::Nvld => Step::Fault(Fault::InvalidOperator),
         _ => unreachable!(),
     }
 }
 
-/// An operator that follows references, or marks, enters or leaves activation records.
+/// A far operator.
 #[inline(always)]
 fn far(cpu: &mut Cpu, op: Op, next: Place) -> Step
     requires runs { RunsSome cpu.old }
@@ -204,6 +201,11 @@ fn far(cpu: &mut Cpu, op: Op, next: Place) -> Step
     match op {
         Op::Plain(code) => refer(cpu, code, next),
         Op::Valc(couple) => evaluate(cpu, couple, next),
+        Op::Mpcw(bits) => mpcw(cpu, bits, next),
+        Op::Bset(n) => on_one(cpu, Unary::Bset(n), next),
+        Op::Brst(n) => on_one(cpu, Unary::Brst(n), next),
+        Op::Isol(high, width) => on_one(cpu, Unary::Isol(high, width), next),
+        Op::Insr(high, width) => on_two(cpu, Binary::Insr(high, width), next),
         _ => unreachable!(),
     }
 }

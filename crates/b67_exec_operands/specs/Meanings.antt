@@ -8,17 +8,9 @@ use Rattle.b67_exec_operands.specs.declared.numbers.Unary.TheVariants as unary
 use Rattle.b67_exec_operands.specs.declared.numbers.Unary.{Unary}
 
 abbrev pub of_two : Binary → rows.Binary
-of_two binary.Add = rows.add
-of_two binary.Subt = rows.subt
 of_two binary.Mult = rows.mult
 of_two binary.Idiv = rows.idiv
 of_two binary.Rdiv = rows.rdiv
-of_two binary.Less = rows.less
-of_two binary.Greq = rows.greq
-of_two binary.Grtr = rows.grtr
-of_two binary.Lseq = rows.lseq
-of_two binary.Equl = rows.equl
-of_two binary.Neql = rows.neql
 of_two binary.Land = rows.land
 of_two binary.Lor = rows.lor
 of_two binary.Leqv = rows.leqv

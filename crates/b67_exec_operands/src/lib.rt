@@ -11,6 +11,6 @@ mod pushes;
 
 pub use branches::{branch_if, go_on};
 pub use moves::{dlet, dupl, exch};
-pub use numbers::{Binary, Unary, on_one, on_two};
+pub use numbers::{Binary, Unary, on_numbers, on_one, on_two};
 pub use procedures::mpcw;
 pub use pushes::{literal, namc};

@@ -2,32 +2,25 @@
 
 ghost use Rattle.std.specs.Prelude.{◌≡◌};
 ghost use Rattle.b67_model.specs.Rows as rows;
+ghost use Rattle.b67_arith.specs.Numerics.{of_numbers};
 ghost use Rattle.b67_arith.specs.OnWords.{on_word, on_words};
 ghost use Rattle.b67_layout.specs.Meets.{here, Meets, RunsSome, ForEach};
 ghost use Rattle.b67_exec_operands.specs.Meanings.{of_one, of_two};
 
 use b67_arith::{
-    add, brst, bset, chsn, equl, greq, grtr, idiv, insr, isol, land, leqv, less, lnot, lor, lseq,
-    mult, neql, rdiv, same, subt,
+    Numeric, brst, bset, chsn, combine, idiv, insr, isol, land, leqv, lnot, lor, mult, rdiv, same,
 };
 use b67_exec_cells::{replace_cells, top_cell, two_cells};
 use b67_stack::{Cpu, Step};
 use b67_word::{Fault, Place, Word};
 
-/// An operator of two operands. Of INSR the highest bit and the width of its field.
+/// An operator of two operands that isn't `Numeric`: a product, a quotient, a remainder, or one on bits. Of INSR the highest
+/// bit and the width of its field.
 #[derive(Clone, Copy, Debug, PartialEq, Eq)]
 pub enum Binary {
-    Add,
-    Subt,
     Mult,
     Idiv,
     Rdiv,
-    Less,
-    Greq,
-    Grtr,
-    Lseq,
-    Equl,
-    Neql,
     Land,
     Lor,
     Leqv,
@@ -50,17 +43,9 @@ fn compute(op: Binary, a: Word, b: Word) -> Result<Word, Fault>
     ensures { result ≡ on_words (of_two op) a b }
 {
     match op {
-        Binary::Add => add(a, b),
-        Binary::Subt => subt(a, b),
         Binary::Mult => mult(a, b),
         Binary::Idiv => idiv(a, b),
         Binary::Rdiv => rdiv(a, b),
-        Binary::Less => less(a, b),
-        Binary::Greq => greq(a, b),
-        Binary::Grtr => grtr(a, b),
-        Binary::Lseq => lseq(a, b),
-        Binary::Equl => equl(a, b),
-        Binary::Neql => neql(a, b),
         Binary::Land => land(a, b),
         Binary::Lor => lor(a, b),
         Binary::Leqv => leqv(a, b),
@@ -82,9 +67,26 @@ fn change(op: Unary, a: Word) -> Result<Word, Fault>
     }
 }
 
-/// Puts what an operator makes of the two top cells in their place, and goes on at `next`. STACK UNDERFLOW if there
-/// are fewer, then the operator's faults.
+/// Puts what an operator makes of the numbers of the two top cells in their place, and goes on at `next`. STACK UNDERFLOW if
+/// there are fewer, then the operator's faults.
 #[inline(always)]
+pub fn on_numbers(cpu: &mut Cpu, op: Numeric, next: Place) -> Step
+    requires { RunsSome cpu.old }
+    ensures row { ForEach cpu.old (λ x plan s m t. Meets x plan s m result cpu.old cpu.new (rows.on_cells (rows.on_two (of_numbers op)) (here m t next))) }
+{
+    let (a, b) = match two_cells(cpu) {
+        Ok(words) => words,
+        Err(fault) => return Step::Fault(fault),
+    };
+    match combine(op, a, b) {
+        Ok(number) => replace_cells(cpu, 2, number, next),
+        Err(fault) => Step::Fault(fault),
+    }
+}
+
+/// Puts what another operator makes of the two top cells in their place, and goes on at `next`. STACK UNDERFLOW if there
+/// are fewer, then the operator's faults.
+#[inline(never)]
 pub fn on_two(cpu: &mut Cpu, op: Binary, next: Place) -> Step
     requires { RunsSome cpu.old }
     ensures row { ForEach cpu.old (λ x plan s m t. Meets x plan s m result cpu.old cpu.new (rows.on_cells (rows.on_two (of_two op)) (here m t next))) }
@@ -101,7 +103,7 @@ pub fn on_two(cpu: &mut Cpu, op: Binary, next: Place) -> Step
 
 /// Puts what an operator makes of the top cell in its place, and goes on at `next`. STACK UNDERFLOW if there is
 /// none, then the operator's faults.
-#[inline(always)]
+#[inline(never)]
 pub fn on_one(cpu: &mut Cpu, op: Unary, next: Place) -> Step
     requires { RunsSome cpu.old }
     ensures row { ForEach cpu.old (λ x plan s m t. Meets x plan s m result cpu.old cpu.new (rows.on_cells (rows.on_one (of_one op)) (here m t next))) }

@@ -11,7 +11,7 @@ use b67_stack::{Cpu, Step};
 use b67_word::{Place, Word};
 
 /// Pushes the operand of these 48 bits, and goes on at `next`. STACK OVERFLOW.
-#[inline(always)]
+#[inline]
 pub fn literal(cpu: &mut Cpu, bits: u64, next: Place) -> Step
     requires runs { RunsSome cpu.old }
     requires bits { bits < 2 ^ 48 }
@@ -21,7 +21,7 @@ pub fn literal(cpu: &mut Cpu, bits: u64, next: Place) -> Step
 }
 
 /// Pushes the reference of a couple of 14 bits, and goes on at `next`. STACK OVERFLOW.
-#[inline(always)]
+#[inline]
 pub fn namc(cpu: &mut Cpu, couple: u16, next: Place) -> Step
     requires runs { RunsSome cpu.old }
     requires couple { couple < 2 ^ 14 }
