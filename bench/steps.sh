@@ -29,8 +29,14 @@ for core in 4096 1048575; do
     row elements "$here/elements.deck" $core
     row thunks "$here/thunks.deck" $core
 done
-sed -e 's/^LT8 8$/LT8 12/' -e 's/^?ASM/?LIMIT 1\n?ASM/' "$here/../decks/manboy/stdin" >"$room/manboy"
+# the outer block calls its procedure again and again
+sed -e '0,/^MKST$/s//L: MKST/' -e '0,/^EXIT$/s//BRUN L/' -e 's/^?ASM/?LIMIT 1\n?ASM/' "$here/../decks/manboy/stdin" >"$room/manboy"
 row man-or-boy "$room/manboy" 32768
+for children in 0 14; do
+    few=$(sh "$here/tasks.sh" $children 200000 | count 16384)
+    many=$(sh "$here/tasks.sh" $children 400000 | count 16384)
+    echo "counting-while-$((8 + 8 * children))-tasks-live 16384 $(((many - few) / 200000))"
+done
 sh "$here/arrays.sh" | sed 's/^LT8 100 .*/LT8 20/' >"$room/arrays"
 echo "paging-total 1910 $(($(count 1910 <"$room/arrays") / 1000000))"
 echo "present-total 65536 $(($(count 65536 <"$room/arrays") / 1000000))"
