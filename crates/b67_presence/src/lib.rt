@@ -3,6 +3,8 @@
 
 mod bringing;
 mod full;
+mod paging;
 
 pub use bringing::bring;
 pub use full::short_is_full;
+pub use paging::sessions_can_page;
