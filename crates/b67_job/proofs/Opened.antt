@@ -9,7 +9,7 @@ use Rattle.b67_model.specs.Run.{RunLine, after, lines}
 use Rattle.b67_model.specs.InOrder.{IsInOrderButPlaces}
 use Rattle.b67_law_order_runs.proofs.Opens.{opens_in_order}
 use Rattle.b67_law_order_runs.proofs.Sessions.{runs_stay_in_order}
-use Rattle.b67_law_made.proofs.Makers.{runs_make_their_words}
+use Rattle.b67_law_sessions.proofs.Makers.{runs_make_their_words}
 use Rattle.b67_law_order_steps.proofs.Sessions.{starts_are_segments}
 use Rattle.b67_layout_storage.specs.Machine.{content_after, Says}
 use Rattle.b67_session_open.specs.Opened.{opening_plan}
@@ -21,7 +21,7 @@ use Rattle.b67_session_open.specs.Opens.{OpensAs}
 use Rattle.b67_session_open.proofs.Decks.{deck_within}
 use Rattle.b67_session.specs.Slices.{StandsAt, LivesOn, StandsLimited, HasNoTasks}
 use Rattle.b67_session.proofs.Going.{rests_now, next_now}
-use Rattle.b67_law_jobs.proofs.ApartLemmas.{jobs_apart, states_apart}
+use Rattle.b67_law_sessions.proofs.ApartLemmas.{jobs_apart, states_apart}
 use Rattle.b67_job.specs.States.{StatesInOrder, JobsRunApart}
 
 pub ordered_opens : (d : Deck) (fs : List Codefile) → DeckInRange d → AllByRecursion IsLoaded fs → IsInOrderButPlaces (session_of d (map program_of fs))

@@ -8,8 +8,8 @@ use Rattle.b67_model.specs.State.{Frame, Task, SessionJob}
 use Rattle.b67_model.specs.Schedule.{Session}
 use Rattle.b67_model.specs.InOrder.{IsInOrder}
 use Rattle.b67_model.specs.Run.{RunLine, number_of, after, next}
-use Rattle.b67_law_jobs.specs.JobsApart.{alone_after}
-use Rattle.b67_law_made.specs.RunMade.{FrameMadeInRun}
+use Rattle.b67_law_sessions.specs.JobsApart.{alone_after}
+use Rattle.b67_law_sessions.specs.RunMade.{FrameMadeInRun}
 
 -- After so many steps each word, mark and return of a live frame was made by the operator of an earlier step of its job, but
 -- for the mark of the outer block's frame, which the loader made.

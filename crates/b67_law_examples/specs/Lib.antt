@@ -1,5 +1,7 @@
+pub mod Cards
+pub mod CardTexts
+pub mod LongPrograms
 pub mod Mnemonics
 pub mod Programs
-pub mod LongPrograms
 pub mod Sessions
 pub mod TaskPrograms

@@ -1,8 +1,11 @@
-//! Worked runs of the machine, as laws whose clauses the checker computes: what decks print, the core and the sectors that
-//! they need, and which programs the loader refuses.
+//! Worked examples, as laws whose clauses the checker computes. Of runs of the machine: what decks print, the core and the
+//! sectors that they need, and which programs the loader refuses. Of cards: the jobs and the parameters of decks, the
+//! programs of assemblies, and which card is refused for which reason.
 #![tactic(auto, unfolding(b67_model::specs::Rows::step, b67_model::specs::Endings::stepped, b67_model::specs::Alone::step_of, b67_model::specs::Run::next))]
 
+pub mod assembly;
 pub mod choices;
+pub mod decks;
 pub mod lengths;
 pub mod long;
 pub mod refusals;

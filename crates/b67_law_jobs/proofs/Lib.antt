@@ -1,5 +1,0 @@
-pub mod ApartLemmas
-mod ChaseLemmas
-mod GrownLemmas
-mod LookLemmas
-mod PlaceLemmas

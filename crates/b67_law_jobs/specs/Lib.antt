@@ -1,4 +1,0 @@
-pub mod Grown
-pub mod JobsApart
-pub mod Looks
-pub mod Places

@@ -1,6 +1,0 @@
-pub mod Made
-pub mod Faults
-pub mod RunFaults
-pub mod Opened
-pub mod RunMade
-pub mod Ended

@@ -1,0 +1,16 @@
+pub mod ApartLemmas
+mod ChaseLemmas
+pub mod Ended
+pub mod Endings
+pub mod FaultRows
+mod GrownLemmas
+pub mod Keeping
+pub mod Literals
+mod LookLemmas
+pub mod Makers
+pub mod Nvld
+pub mod Opened
+mod PlaceLemmas
+pub mod Rows
+pub mod States
+pub mod Steps

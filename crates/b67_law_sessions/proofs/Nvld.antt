@@ -1,0 +1,70 @@
+-- A step over an admitted program faults INVALID OPERATOR exactly at NVLD.
+use Rattle.std.proofs.Common.{◌≡◌, ◌↔◌, ℕ, ◌-◌, true, Some, Ok, Err, refl, sym, ◌∙◌, subst, inl, inr}
+use Rattle.std.specs.List.{slice_get}
+use Rattle.std.proofs.lemmas.Bool.{true≢false}
+use Rattle.b67_word.specs.declared.couples.Place.{Place}
+use Rattle.b67_word.specs.declared.faults.Fault.TheVariants.{InvalidOperator}
+use Rattle.b67_model.specs.declared.operators.Op.{Op}
+use Rattle.b67_model.specs.declared.operators.Op.TheVariants.{Mpcw, Plain}
+use Rattle.b67_model.specs.declared.operators.Code.TheVariants.{Nvld}
+use Rattle.b67_lemmas.specs.Lists.{Has}
+use Rattle.b67_lemmas.proofs.Members.{all_in, keyed_has}
+use Rattle.b67_model.specs.State.{Task, JobConstants, Job}
+use Rattle.b67_model.specs.Operators.{Reading, operator_at}
+use Rattle.b67_model.specs.Program.{Program}
+use Rattle.b67_model.specs.Loader.{At, origin, listing, has_stray_bits, IsAdmitted}
+use Rattle.b67_model.specs.Rows.{is_proc, row, reading_of, step_by, step}
+use Rattle.b67_model.specs.InOrder.{IsStart, TaskInOrder, TasksInOrder}
+use Rattle.b67_law_order_rows.proofs.Kept.{here}
+use Rattle.b67_law_order_steps.proofs.Admitted.{listed, Sound, admitted_sound, Entered, entered}
+use Rattle.b67_law_sessions.proofs.FaultRows.{invalid_operator_is_nvld}
+use Rattle.b67_law_sessions.specs.RunFaults.{FaultsAtNvld, InvalidOperatorExactlyAtNvld}
+use Rattle.b67_law_sessions.proofs.Literals.{literal_passes}
+
+-- the row of an operator whose literal passes
+row_faults : (constants : JobConstants) (job : Job) (task : Task) (op : Op) (next : Place) → ((bits : ℕ) → op ≡ Mpcw bits → is_proc (here constants job task next) bits ≡ true) →
+    (row op (here constants job task next) ≡ Err InvalidOperator) ↔ (op ≡ Plain Nvld)
+row_faults constants job task op next passes = (only, λ is. subst (λ (o : Op). row o (here constants job task next) ≡ Err InvalidOperator) (sym is) refl)
+  where
+    only : row op (here constants job task next) ≡ Err InvalidOperator → op ≡ Plain Nvld
+    only e = elim (invalid_operator_is_nvld op (here constants job task next) e) [
+      | inl is ↦ is
+      | inr literal ↦ absurd (true≢false (sym (passes literal.0 literal.1) ∙ literal.2))
+    ]
+
+step_faults : (constants : JobConstants) (job : Job) (task : Task) (op : Op) (next : Place) → reading_of constants task ≡ Ok (op, next) → ((bits : ℕ) → op ≡ Mpcw bits → is_proc (here constants job task next) bits ≡ true) →
+    (step constants job task ≡ Err InvalidOperator) ↔ (op ≡ Plain Nvld)
+unfolding step
+step_faults constants job task op next reads passes =
+    subst (λ (r : Reading). (step_by constants job task r ≡ Err InvalidOperator) ↔ (op ≡ Plain Nvld)) (sym reads) (row_faults constants job task op next passes)
+
+-- a task at a start
+pub start_faults : (p : Program) (constants : JobConstants) (job : Job) (task : Task) (level : ℕ) → IsAdmitted p → constants.segments ≡ p.segments → IsStart constants task.segment level task.place → FaultsAtNvld constants job task
+start_faults p constants job task level admitted same at = record {
+  op = at.op;
+  next = entry.next;
+  stands = reads;
+  faults = step_faults constants job task at.op entry.next reads passes;
+}
+  where
+    entry : Entered at.code.code (listing at.code.code) task.place at.op
+    entry = entered _ at.code.code origin (operator_at at.code.code origin) task.place at.op refl at.stands
+
+    reads : reading_of constants task ≡ Ok (at.op, entry.next)
+    reads = rw at.found entry.reads
+
+    sound : (m : ℕ) × Sound (listed p m at.code)
+    sound = admitted_sound p (task.segment - 1) at.code admitted (subst (λ ss. slice_get ss (task.segment - 1) ≡ Some at.code) same at.found)
+
+    passes : (bits : ℕ) → at.op ≡ Mpcw bits → is_proc (here constants job task entry.next) bits ≡ true
+    passes bits is =
+        let stands : Has (listing at.code.code) (At task.place (Mpcw bits)) = subst (λ o. Has (listing at.code.code) (At task.place o)) is at.stands in
+        literal_passes p (here constants job task entry.next) bits same (sound.1.rules (At task.place (Mpcw bits)) stands (7, has_stray_bits p bits) (inr (inr (inr (inr (inl refl))))))
+
+pub task_faults : (p : Program) (constants : JobConstants) (job : Job) (task : Task) → IsAdmitted p → constants.segments ≡ p.segments → TasksInOrder (IsStart constants) constants job → Has job.tasks task → FaultsAtNvld constants job task
+task_faults p constants job task admitted same order live =
+    start_faults p constants job task _ admitted same (all_in (TaskInOrder (IsStart constants) constants job) job.tasks task order.tasks live).place
+
+pub invalid_operator_exactly_at_nvld : InvalidOperatorExactlyAtNvld
+invalid_operator_exactly_at_nvld p constants job task admitted same order live =
+    task_faults p constants job task admitted same order (keyed_has (λ t. t.number) task.number job.tasks task live).0
