@@ -43,14 +43,14 @@ outer_owned job c (n ∷ above) id s h =
     ]
 
 -- two items of different numbers weigh no more than all
-total_two : {A : Type 0} (key weight : A → ℕ) (xs : List A) (x y : A) → Has xs x → Has xs y → key x ≢ key y → weight x + weight y ≤ total weight xs
+pub total_two : {A : Type 0} (key weight : A → ℕ) (xs : List A) (x y : A) → Has xs x → Has xs y → key x ≢ key y → weight x + weight y ≤ total weight xs
 total_two key weight [] x y hx hy ne = absurd hx
 total_two key weight (z ∷ zs) x y (inl ex) (inl ey) ne = absurd (ne (ap key (sym ex) ∙ ap key ey))
 total_two key weight (z ∷ zs) x y (inl ex) (inr hy) ne = omega (arith, ap weight ex, total_has weight zs y hy)
 total_two key weight (z ∷ zs) x y (inr hx) (inl ey) ne = omega (arith, ap weight ey, total_has weight zs x hx)
 total_two key weight (z ∷ zs) x y (inr hx) (inr hy) ne = omega (arith, total_two key weight zs x y hx hy ne)
 
-counted : (id : ℕ) (fs : List Frame) → Has (identities fs) id → 1 ≤ frames_named id fs
+pub counted : (id : ℕ) (fs : List Frame) → Has (identities fs) id → 1 ≤ frames_named id fs
 counted id [] h = absurd h
 counted id (f ∷ fs) (inl e) = rw (eq-eqb f.identity id e) (omega arith)
 counted id (f ∷ fs) (inr h) = omega (arith, counted id fs h)

@@ -1,5 +1,5 @@
 -- The machine stands for the session without the tasks that died.
-use Rattle.std.proofs.Common.{◌≡◌, ◌≢◌, ℕ, ◌+◌, ◌*◌, ◌^◌, ◌<◌, ◌≤◌, List, [], ◌∷◌, length, Option, Some, None, refl, sym, ◌∙◌, ap, arith, Bool, true, false, ◌==◌, inl, inr, ◌⊎◌, ⊎_elim, subst}
+use Rattle.std.proofs.Common.{◌≡◌, ◌≢◌, ℕ, ◌+◌, ◌*◌, ◌^◌, ◌<◌, ◌≤◌, List, [], ◌∷◌, length, Some, refl, sym, ◌∙◌, ap, arith, true, false, ◌==◌, inl, inr, ◌⊎◌, ⊎_elim, subst}
 use Rattle.std.specs.List.{slice_get}
 use Rattle.std.proofs.lemmas.Bool.{cases_eq, cases_Bool}
 use Rattle.std.proofs.lemmas.Option.{same_Some}
@@ -11,18 +11,17 @@ use Rattle.b67_model.specs.Keyed.{keyed}
 use Rattle.b67_model.specs.Run.{number_of}
 use Rattle.b67_model.specs.Schedule.{Session}
 use Rattle.b67_stack.specs.Stacks.{stack_words}
-use Rattle.b67_stack.specs.MachineView.{PagedObject, Slot, Free, stack_of, MachineView, NoOriginalAboveTop, slot_base}
+use Rattle.b67_stack.specs.MachineView.{PagedObject, Slot, stack_of, NoOriginalAboveTop, slot_base}
 use Rattle.b67_stack.specs.Represents.{Storage, Represents}
-use Rattle.b67_stack.proofs.Bases.{base-apart}
 use Rattle.b67_layout.specs.Placement.{Placement, Slotted, slot_of}
 use Rattle.b67_layout.specs.Layout.{slot_at, machine_view}
-use Rattle.b67_layout.specs.Session.{RowsFit, DictionariesFollow, RowHomes, PlanFits, RepresentsDictionary, RepresentsVector, RepresentsCritical, vector_word, critical_mark, IsRunning, RepresentsTask, SessionHolds}
+use Rattle.b67_layout.specs.Session.{RowsFit, DictionariesFollow, RowHomes, PlanFits, RepresentsDictionary, RepresentsVector, RepresentsCritical, vector_word, critical_mark, SessionHolds}
 use Rattle.b67_layout.proofs.MachineViews.{with_course}
 use Rattle.b67_layout.proofs.Rows.{task_row, slot_below}
 use Rattle.b67_layout.proofs.Sessions.{dictionary_below}
 use Rattle.b67_task_start_stack.proofs.Births.{changed_member, kept_member, moved_member}
 use Rattle.b67_layout.specs.Orders.{IsInOrderButCounts}
-use Rattle.b67_task_end_stack.specs.Leaves.{Lost, Stays, Leaves, Lists, Cleared, Marked}
+use Rattle.b67_task_end_stack.specs.Leaves.{Stays, Leaves, Lists, Cleared, Marked}
 use Rattle.b67_task_end_stack.proofs.Slotwise.{In, one_each, found_member}
 use Rattle.b67_task_end_stack.proofs.Turns.{SomeDied, pic}
 use Rattle.b67_lemmas.proofs.Members.{keyed_has}

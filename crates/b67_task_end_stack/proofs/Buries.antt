@@ -1,24 +1,21 @@
 -- Several tasks of a session die: before, their slots may be emptied in turn; afterwards, the machine stands for the session
 -- that the endings leave.
-use Rattle.std.proofs.Common.{◌≡◌, ◌≢◌, ℕ, ◌+◌, ◌*◌, ◌<◌, ◌≤◌, List, [], ◌∷◌, map, Some, refl, sym, ◌∙◌, ap, arith, inl, inr, ◌⊎◌, ⊎_elim, subst}
-use Rattle.std.specs.Prelude.{if◌then◌else◌, ◌==◌, filter}
-use Rattle.std.specs.List.{slice_get}
+use Rattle.std.proofs.Common.{◌≡◌, ◌≢◌, ℕ, ◌<◌, List, [], ◌∷◌, map, refl, sym, ◌∙◌, ap, arith, inl, inr, ◌⊎◌, ⊎_elim, subst}
+use Rattle.std.specs.Prelude.{◌==◌, filter}
 use Rattle.std.proofs.lemmas.Bool.{cases_eq, eq-eqb, eqb-true, ne_eqb}
 use Rattle.std.proofs.lemmas.Simd.{map-map}
-use Rattle.b67_word.specs.Tagged.{Tagged, word}
+use Rattle.b67_word.specs.Tagged.{Tagged}
 use Rattle.b67_ctl.specs.declared.registers.Regs.{Regs}
 use Rattle.b67_lemmas.specs.Lists.{Has}
-use Rattle.b67_model.specs.State.{Task, Job, SessionJob}
-use Rattle.b67_model.specs.Run.{number_of}
+use Rattle.b67_model.specs.State.{Task, SessionJob}
 use Rattle.b67_model.specs.Schedule.{Session}
 use Rattle.b67_model.specs.Endings.{among}
-use Rattle.b67_lemmas.proofs.Members.{any_has, any_some, falls_same, has_filter, has_filter_in, has_map, has_map_back, keyed_has}
-use Rattle.b67_stack.specs.MachineView.{PagedObject, Slot, MachineView, slot_base}
+use Rattle.b67_lemmas.proofs.Members.{any_has, any_some, falls_same, has_filter, has_filter_in, has_map, has_map_back}
+use Rattle.b67_stack.specs.MachineView.{PagedObject, MachineView}
 use Rattle.b67_stack.specs.Represents.{Storage, Represents}
-use Rattle.b67_stack.proofs.Bases.{base-apart}
 use Rattle.b67_layout.specs.Placement.{Placement, slot_of}
 use Rattle.b67_layout.specs.Layout.{slot_at, machine_view}
-use Rattle.b67_layout.specs.Session.{RepresentsCritical, SessionHolds, ShowsDisplay, IsRunning}
+use Rattle.b67_layout.specs.Session.{RepresentsCritical, SessionHolds}
 use Rattle.b67_layout.proofs.MachineViews.{with_course}
 use Rattle.b67_layout.proofs.Rows.{slot_below}
 use Rattle.b67_layout.specs.Orders.{IsInOrderButCounts}
@@ -29,7 +26,7 @@ use Rattle.b67_task_end_stack.specs.Leaves.{Lost, Cleared}
 use Rattle.b67_task_end_stack.specs.Ends.{gone_of, job_without, rows_without}
 use Rattle.b67_task_end_stack.specs.Bury.{MayBury, IsBuried, slots_gone, plan_without, session_without}
 use Rattle.b67_task_end_stack.proofs.Slotwise.{order_of}
-use Rattle.b67_task_end_stack.proofs.Turns.{SomeDied, none_died, AllDied, deaths_may, deaths_done, pic}
+use Rattle.b67_task_end_stack.proofs.Turns.{SomeDied, none_died, AllDied, deaths_may, deaths_done}
 use Rattle.b67_task_end_stack.proofs.After.{SessionHolds-left}
 use Rattle.b67_task_end_stack.proofs.Ends.{lists, leaves}
 

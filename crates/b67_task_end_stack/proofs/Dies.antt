@@ -1,6 +1,5 @@
 -- What is left of a task that dies are its arrays, and these are given back.
-use Rattle.std.proofs.Common.{◌≡◌, ◌≢◌, ℕ, ◌+◌, ◌*◌, ◌<◌, ◌≤◌, List, [], ◌∷◌, ◌++◌, length, Option, Some, refl, sym, ◌∙◌, ap, arith, inl, inr, ◌⊎◌, ⊎_elim, subst, Bool, true, false, ◌==◌, slice_set, length-set}
-use Rattle.std.specs.Prelude.{if◌then◌else◌}
+use Rattle.std.proofs.Common.{◌≡◌, ◌≢◌, ℕ, ◌+◌, ◌*◌, ◌<◌, ◌≤◌, List, ◌++◌, length, Option, Some, refl, sym, ◌∙◌, ap, arith, inl, inr, ◌⊎◌, ⊎_elim, slice_set, length-set}
 use Rattle.std.specs.List.{slice_get}
 use Rattle.std.proofs.lemmas.Bool.{cases_eq, eq-eqb, ne_eqb}
 use Rattle.b67_word.specs.Tagged.{Tagged, word}
@@ -8,9 +7,7 @@ use Rattle.b67_core.proofs.Writes.{slice_get-set_same, slice_get-set_other}
 use Rattle.b67_area.specs.declared.Areas.{Areas}
 use Rattle.b67_backing.specs.Shelf.{Table}
 use Rattle.b67_ctl.specs.declared.registers.Regs.{Regs}
-use Rattle.b67_lemmas.specs.Lists.{Has}
 use Rattle.b67_stack.specs.declared.Cpu.{Cpu}
-use Rattle.b67_stack.specs.Shapes.{IsOriginal}
 use Rattle.b67_stack.specs.Stacks.{stack_words}
 use Rattle.b67_stack.specs.MachineView.{PagedObject, Slot, Free, Running, Waiting, stack_of, MachineView, slot_base, SlotFits, with_slot}
 use Rattle.b67_stack.specs.Represents.{Storage, Represents}
@@ -19,7 +16,7 @@ use Rattle.b67_stack.proofs.Slots.{by_slot}
 use Rattle.b67_layout_storage.specs.Machine.{MachineRepresentsView}
 use Rattle.b67_layout.specs.Session.{with_objects}
 use Rattle.b67_layout_leave.proofs.Objects.{SameObjects, Represents-objects}
-use Rattle.b67_task_release.specs.Released.{HasHome, of_objects, AreLeft}
+use Rattle.b67_task_release.specs.Released.{of_objects, AreLeft}
 use Rattle.b67_task_end_stack.specs.Vacated.{put_out, vacated, Vacated, died, MayDie}
 use Rattle.b67_task_end_stack.proofs.Vacates.{Represents-vacated}
 

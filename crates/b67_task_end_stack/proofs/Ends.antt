@@ -1,5 +1,5 @@
 -- Endings take tasks, slots and arrays away, and nothing else.
-use Rattle.std.proofs.Common.{◌≡◌, ◌≢◌, ℕ, ◌+◌, ◌<◌, ◌≤◌, List, [], ◌∷◌, map, Option, Some, None, refl, sym, ◌∙◌, ap, arith, inl, inr, ◌⊎◌, ⊎_elim, Bool, true, false, not, subst}
+use Rattle.std.proofs.Common.{◌≡◌, ℕ, List, [], ◌∷◌, map, Option, None, refl, sym, ◌∙◌, ap, arith, inl, inr, ◌⊎◌, ⊎_elim, Bool, true, false, not, subst}
 use Rattle.std.specs.Prelude.{if◌then◌else◌, ◌==◌, ◌&&◌, filter, find, unwrap_or}
 use Rattle.std.specs.List.{list_any}
 use Rattle.std.proofs.lemmas.Bool.{cases_Bool, cases_eq, eq-eqb, ne_eqb, eqb-true, true≢false}
@@ -19,9 +19,9 @@ use Rattle.b67_stack.specs.Represents.{Storage}
 use Rattle.b67_layout.specs.Placement.{Placement, Slotted, slot_of, is_row_of}
 use Rattle.b67_layout.specs.Session.{SessionHolds}
 use Rattle.b67_layout.proofs.Rows.{task_row}
-use Rattle.b67_task_start_stack.specs.Likes.{Like, SameStack}
+use Rattle.b67_task_start_stack.specs.Likes.{Like}
 use Rattle.b67_layout.specs.Orders.{IsInOrderButCounts}
-use Rattle.b67_task_end_stack.specs.Leaves.{Lost, Stays, NotTheirs, Kept, Leaves, Lists}
+use Rattle.b67_task_end_stack.specs.Leaves.{Lost, Stays, NotTheirs, Leaves, Lists}
 use Rattle.b67_task_end_stack.specs.Ends.{gone_of, job_without, row_stays, rows_without}
 use Rattle.b67_task_end_stack.proofs.Slotwise.{order_of, found_member}
 

@@ -1,6 +1,6 @@
 -- The view of the session without some of its tasks.
-use Rattle.std.proofs.Common.{◌≡◌, ◌≢◌, ℕ, ◌+◌, ◌<◌, ◌≤◌, List, [], ◌∷◌, ◌++◌, map, Option, Some, None, refl, sym, ◌∙◌, ap, arith, inl, inr, ◌⊎◌, ⊎_elim, Bool, true, false, ◌==◌, subst}
-use Rattle.std.specs.Prelude.{if◌then◌else◌, flat_map}
+use Rattle.std.proofs.Common.{◌≡◌, ◌≢◌, ℕ, ◌+◌, ◌<◌, List, [], ◌∷◌, ◌++◌, map, Option, Some, None, refl, sym, ◌∙◌, ap, arith, inl, inr, ◌⊎◌, ⊎_elim, subst}
+use Rattle.std.specs.Prelude.{flat_map}
 use Rattle.std.specs.List.{AllByRecursion}
 use Rattle.std.proofs.lemmas.Bool.{cases_eq}
 use Rattle.std.proofs.lemmas.Option.{same_Some}
@@ -17,7 +17,7 @@ use Rattle.b67_model.specs.Schedule.{Session}
 use Rattle.b67_model.specs.InOrder.{Starts, IsSegment, Known, known_of, WordInOrder, FramesInOrder, outer_of}
 use Rattle.b67_lemmas.proofs.Members.{has_append_left, has_append_right, has_append_cases, has_flat, has_map, has_map_back, keyed_has, falls_same, has_flat_back}
 use Rattle.b67_area.specs.declared.Kind.TheVariants as kind
-use Rattle.b67_stack.specs.MachineView.{PagedObject, Slot, Free, MachineView}
+use Rattle.b67_stack.specs.MachineView.{PagedObject, Slot}
 use Rattle.b67_stack.specs.Represents.{Storage, Represents}
 use Rattle.b67_layout.specs.Placement.{Placement, Slotted, slot_of}
 use Rattle.b67_layout.specs.Layout.{slot_with, slot_in, slot_by, slot_at, code_objects, array_object, objects_of, machine_view}
@@ -26,7 +26,7 @@ use Rattle.b67_layout.proofs.MachineViews.{with_course, member-same, member-othe
 use Rattle.b67_layout.proofs.Rows.{task_row}
 use Rattle.b67_layout.proofs.Sessions.{change-has, change-kept}
 use Rattle.b67_layout_leave.proofs.Settles.{numbered_course}
-use Rattle.b67_layout_leave.proofs.Objects.{SameObjects, Represents-objects}
+use Rattle.b67_layout_leave.proofs.Objects.{Represents-objects}
 use Rattle.b67_task_start_stack.proofs.Twins.{NamesOnly, FramesName, like_same, slot_with-twin, name_all}
 use Rattle.b67_layout.specs.Orders.{IsInOrderButCounts}
 use Rattle.b67_task_end_stack.specs.Leaves.{Lost, Stays, NotTheirs, Kept, Leaves}

@@ -1,5 +1,5 @@
 -- The tasks of several slots die, one after another: what may die still may after the first deaths.
-use Rattle.std.proofs.Common.{◌≡◌, ◌≢◌, ℕ, ◌+◌, ◌*◌, ◌<◌, ◌≤◌, List, [], ◌∷◌, ◌++◌, length, drop, Option, Some, refl, sym, ◌∙◌, ap, arith, inl, inr, ◌⊎◌, ⊎_elim, subst, suc, ◌-◌, slice_index_or}
+use Rattle.std.proofs.Common.{◌≡◌, ◌≢◌, ℕ, ◌+◌, ◌*◌, ◌<◌, ◌≤◌, List, [], ◌∷◌, ◌++◌, length, drop, Some, refl, sym, ◌∙◌, ap, arith, inl, inr, ◌⊎◌, ⊎_elim, subst, suc, ◌-◌, slice_index_or}
 use Rattle.std.specs.List.{slice_get}
 use Rattle.std.proofs.Math.ListN.{drop_of_length-le}
 use Rattle.std.proofs.lemmas.List.{append_assoc, append-nil, drop_more, length-drop}
@@ -8,12 +8,11 @@ use Rattle.b67_word.specs.Tagged.{Tagged, word}
 use Rattle.b67_ctl.specs.declared.registers.Regs.{Regs}
 use Rattle.b67_lemmas.specs.Lists.{Has}
 use Rattle.b67_lemmas.proofs.Members.{has_append_left, has_append_right, has_append_cases, has_map, has_map_back}
-use Rattle.b67_stack.specs.Stacks.{stack_words}
-use Rattle.b67_stack.specs.MachineView.{PagedObject, MachineView, stack_of, slot_base}
-use Rattle.b67_stack.specs.Represents.{Storage, Represents}
+use Rattle.b67_stack.specs.MachineView.{PagedObject, MachineView, slot_base}
+use Rattle.b67_stack.specs.Represents.{Storage}
 use Rattle.b67_stack.proofs.Bases.{base-apart}
 use Rattle.b67_task_release.specs.Released.{HasHome, Released}
-use Rattle.b67_task_release.proofs.Remaining.{Released-none, Released-then, Released-same}
+use Rattle.b67_task_release.proofs.Remaining.{Released-none, Released-then}
 use Rattle.b67_task_end_stack.specs.Vacated.{put_out, died, MayDie}
 use Rattle.b67_task_end_stack.specs.Graves.{Death, MayAllDie, all_died, slots_of, HasGone, SameInside, SameButSlot, SameButSlots, ZeroVector, all_put_out, Buried}
 

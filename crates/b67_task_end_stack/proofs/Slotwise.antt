@@ -1,8 +1,8 @@
 -- In a session in order no word of a slot is a copy of an array whose original lies in the slot of a task that isn't above.
-use Rattle.std.proofs.Common.{◌≡◌, ◌≢◌, ℕ, suc, ◌+◌, ◌<◌, ◌≤◌, List, [], ◌∷◌, map, length, reverse, Option, Some, None, refl, sym, ◌∙◌, ap, arith, inl, inr, ◌⊎◌, ⊎_elim, Bool, true, false, subst}
+use Rattle.std.proofs.Common.{◌≡◌, ◌≢◌, ℕ, suc, ◌+◌, ◌<◌, ◌≤◌, List, [], ◌∷◌, length, reverse, Option, Some, None, refl, sym, ◌∙◌, ap, arith, inl, inr, ◌⊎◌, ⊎_elim, Bool, true, false, subst}
 use Rattle.std.specs.Prelude.{if◌then◌else◌, ◌==◌}
-use Rattle.std.specs.List.{AllByRecursion, slice_get}
-use Rattle.std.proofs.lemmas.Bool.{cases_eq, cases_lt, eq-eqb}
+use Rattle.std.specs.List.{slice_get}
+use Rattle.std.proofs.lemmas.Bool.{cases_eq, cases_lt}
 use Rattle.std.proofs.lemmas.Bool.Decides.{eqb_tells}
 use Rattle.std.proofs.lemmas.Option.{same_Some}
 use Rattle.std.proofs.lemmas.List.{length-reverse}
@@ -21,12 +21,12 @@ use Rattle.b67_lemmas.proofs.Members.{has_reverse, has_map, has_map_back, keyed_
 use Rattle.b67_stack.specs.Shapes as Shapes
 use Rattle.b67_stack.specs.Shapes.{Shape, Is, Copy, Copied, Fits, LieDownward, IsOriginal}
 use Rattle.b67_stack.specs.Stacks.{StackPlace, Activation, stack_words, words}
-use Rattle.b67_stack.specs.MachineView.{Slot, Free, Running, Waiting, stack_of, MachineView, SlotFits, slot_base}
+use Rattle.b67_stack.specs.MachineView.{Running, Waiting, stack_of, MachineView, slot_base}
 use Rattle.b67_stack.specs.Represents.{Storage}
 use Rattle.b67_stack.proofs.Bases.{base-apart}
 use Rattle.b67_stack.proofs.Heights.{words-length}
 use Rattle.b67_layout.specs.Placement.{Slotted, Placement, slot_of, outer_spots}
-use Rattle.b67_layout.specs.Layout.{shape, activations, stack_of_task, slot_with, slot_in, slot_by, slot_at, machine_view}
+use Rattle.b67_layout.specs.Layout.{shape, stack_of_task, slot_with, slot_in, slot_by, slot_at, machine_view}
 use Rattle.b67_layout.specs.Session.{DictionariesFollow, SessionHolds}
 use Rattle.b67_layout.proofs.Rows.{task_row, slot_below}
 use Rattle.b67_layout_leave.proofs.Originals.{lies_at, original_word, InFrame, original_of, entry_number}

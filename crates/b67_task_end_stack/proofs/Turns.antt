@@ -1,18 +1,17 @@
 -- The tasks of a job that die in turn may die, one after another.
-use Rattle.std.proofs.Common.{◌≡◌, ◌≢◌, ℕ, ◌+◌, ◌*◌, ◌<◌, ◌≤◌, List, [], ◌∷◌, ◌++◌, map, Option, Some, refl, sym, ◌∙◌, ap, arith, inl, inr, ◌⊎◌, ⊎_elim, Bool, true, false, not, nat_lt, subst}
+use Rattle.std.proofs.Common.{◌≡◌, ◌≢◌, ℕ, ◌+◌, ◌<◌, ◌≤◌, List, [], ◌∷◌, map, Some, refl, sym, ◌∙◌, ap, arith, inl, inr, ◌⊎◌, ⊎_elim, true, false, not, nat_lt, subst}
 use Rattle.std.specs.Prelude.{if◌then◌else◌, ◌==◌, ◌&&◌, filter}
 use Rattle.std.specs.List.{slice_get}
 use Rattle.std.proofs.lemmas.Bool.{cases_Bool, cases_eq, eq-eqb, ne_eqb, lt-ltb, ltb-true, true≢false}
 use Rattle.b67_word.specs.Tagged.{Tagged}
-use Rattle.b67_area.specs.declared.Kind.TheVariants.{Code}
 use Rattle.b67_ctl.specs.declared.registers.Regs.{Regs}
 use Rattle.b67_lemmas.specs.Lists.{Has}
-use Rattle.b67_model.specs.State.{Array, Task, SessionJob}
+use Rattle.b67_model.specs.State.{Task, SessionJob}
 use Rattle.b67_model.specs.Schedule.{Session}
 use Rattle.b67_lemmas.proofs.Members.{has_append_left, has_append_right, has_append_cases, has_flat, has_map, has_filter, has_filter_in}
 use Rattle.b67_stack.specs.Shapes.{Copy, Copied, IsOriginal}
 use Rattle.b67_stack.specs.Stacks.{stack_words, words}
-use Rattle.b67_stack.specs.MachineView.{PagedObject, Slot, Free, Running, Waiting, stack_of, MachineView, SlotFits, CopiesName, slot_base}
+use Rattle.b67_stack.specs.MachineView.{PagedObject, Slot, Free, Running, Waiting, stack_of, MachineView, SlotFits, slot_base}
 use Rattle.b67_stack.specs.Represents.{Storage}
 use Rattle.b67_stack.proofs.Slots.{by_slot}
 use Rattle.b67_layout.specs.Placement.{Placement, slot_of}
@@ -22,7 +21,7 @@ use Rattle.b67_layout.proofs.Rows.{slot_below}
 use Rattle.b67_task_release.specs.Released.{HasHome, of_objects}
 use Rattle.b67_layout.specs.Orders.{IsInOrderButCounts}
 use Rattle.b67_task_end_stack.specs.Vacated.{died, MayDie}
-use Rattle.b67_task_end_stack.specs.Graves.{Death, MayAllDie, all_died}
+use Rattle.b67_task_end_stack.specs.Graves.{MayAllDie, all_died}
 use Rattle.b67_task_end_stack.specs.Turns.{InTurn, lies_in, lies_out, deaths}
 use Rattle.b67_task_end_stack.proofs.Vacates.{slot_room}
 use Rattle.b67_task_end_stack.proofs.Slotwise.{In, In_one, one_each, of_slot, each_original}

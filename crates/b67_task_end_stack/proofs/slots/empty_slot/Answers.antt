@@ -1,8 +1,7 @@
-use Rattle.std.proofs.Common.{◌+◌, sym, ◌∙◌, ap, arith}
-use Rattle.b67_stack.specs.MachineView.{slot_base}
+use Rattle.std.proofs.Common.{◌+◌, ◌∙◌, arith}
 use Rattle.b67_overlay.proofs.Turning.{lies_of}
 use Rattle.b67_task_end_stack.specs.Vacated.{died}
-use Rattle.b67_task_end_stack.proofs.Dies.{room, inside, low, core_long, base_is, top_at, machine_left, are_left, outside, vector_zero}
+use Rattle.b67_task_end_stack.proofs.Dies.{room, core_long, base_is, top_at, machine_left, are_left, outside, vector_zero}
 use Rattle.b67_task_end_stack.proofs.slots.empty_slot.Goals as goal
 
 pub stack_top-top-requires : goal.stack_top-top-requires
