@@ -11,6 +11,7 @@ use Rattle.b67_model.specs.Schedule.{Session}
 use Rattle.b67_stack.specs.declared.What.{What}
 use Rattle.b67_stack.specs.declared.What.TheVariants as what
 use Rattle.b67_stack.specs.Represents.{Storage}
+use Rattle.b67_layout_storage.specs.Machine.{Says, content_after}
 use Rattle.b67_layout.specs.Placement.{Placement}
 use Rattle.b67_layout.specs.Meets.{with_job, area_held, IsInStack}
 use Rattle.b67_exec_cells.specs.Running.{code_area}
@@ -190,6 +191,17 @@ CallTouches x plan m t (Err stops.PrintFault) = TouchesPresent x plan m t
 CallTouches x plan m t (Err (stops.BackingFull sum size)) = TouchesPresent x plan m t
 CallTouches x plan m t (Err stops.BackingFault) = TouchesPresent x plan m t
 CallTouches x plan m t (Err stop) = Unit {0}
+
+-- What a call answers and leaves, over a device of so many sectors; `holds` is what it tells of them
+pub record CallRow {D K : Type 0} (holds : D → Option (List (List ℕ))) (taken : K → Option (List ℕ)) (count : ℕ) (x : Storage) (told : Option (List (List ℕ))) (plan : Placement) (s : Session) (m : SessionJob) (t : Task) (n : ℕ) (answered : Result CallEnd Stop) (old new : Machine) (device device' : D) (paper paper' : K) : Type 0 where
+  -- the answer is its row's, where the device tells what the storage says of it
+  pub row : Says told (holds device) → CallMeets taken (content_after told (holds device')) count x plan s m t n answered old new paper paper'
+  -- what the call touches is present, where it was made, faults, or was stopped by the printer or the device
+  pub present : CallTouches x plan m t answered
+  -- core has room for a task that the call started, or was stopped at by the device
+  pub fits : CallFits (length old.cpu.core) s m t answered
+  -- the device is as it was, unless the call may have written to it
+  pub quiet : (CallWrites x plan m t answered → ⊥) → device' ≡ device
 
 -- the core words that have changed lie in the running stack
 abbrev pub ChangesStack : Machine → Machine → Type 0

@@ -10,6 +10,7 @@ use Rattle.b67_layout.specs.Placement.{Placement}
 use Rattle.b67_exec_cells.specs.Running.{code_area}
 use Rattle.b67_exec_calls.specs.Calls.{MayCut}
 pub use Rattle.b67_mcp_process.specs.Process.{CanNumber}
+use Rattle.b67_task_tables.specs.declared.tables.JobRow.{JobRow}
 use Rattle.b67_task_tables.specs.declared.tables.Machine.{Machine}
 use Rattle.b67_task_tables.specs.Runs.{RunsTask, ForEachRun, Keeps}
 use Rattle.b67_exec_cells.specs.Called.{called_in}
@@ -41,6 +42,11 @@ pub record ReadsOperator (k : Machine) : Type 0 where
 pub record CutsSome (k : Machine) : Type 0 where
   pub reads : ReadsOperator k
   pub may : MayCut reads.runs.member reads.runs.task
+
+-- the jobs' rows have room: numbers that are told stay within their types, and each job's next task can be numbered
+pub record JobsHaveRoom (rows : List JobRow) : Type 0 where
+  pub countable : AreCountable rows
+  pub number : CanNumber rows
 
 -- what a call keeps: the size of core, the number of sectors, the halt, and that the numbers for READ are few
 pub record Kept (old new : Machine) : Type 0 where

@@ -14,10 +14,10 @@ mod stopping;
 mod waits;
 
 ghost use Rattle.std.specs.Prelude.{◌≡◌, ◌+◌, length};
-ghost use Rattle.b67_layout_storage.specs.Machine.{Says, DeviceAfterCalls, content_after};
-ghost use Rattle.b67_mcp.specs.Called.{CallsSome, CallMeets, CallTouches, CallWrites, CallFits, AreCountable};
+ghost use Rattle.b67_layout_storage.specs.Machine.{DeviceAfterCalls};
+ghost use Rattle.b67_mcp.specs.Called.{CallsSome, CallRow};
 ghost use Rattle.b67_mcp.specs.Answers.{end_of};
-ghost use Rattle.b67_mcp.specs.Running.{CanNumber, ForCalls, CallCauses, Kept};
+ghost use Rattle.b67_mcp.specs.Running.{JobsHaveRoom, ForCalls, CallCauses, Kept};
 
 use crate::deallocate::deallocate;
 use crate::declare::declare;
@@ -62,14 +62,10 @@ pub fn intrinsic<B: Backing, K: Sink>(
     paper: &mut K,
 ) -> Result<CallEnd, Stop>
     requires calls { CallsSome machine.old n }
-    requires countable { AreCountable machine.old.tasks.jobs }
-    requires number { CanNumber machine.old.tasks.jobs }
+    requires jobs { JobsHaveRoom machine.old.tasks.jobs }
     requires same { B.size backing.old + 1 ≡ length machine.old.sectors.links }
-    ensures row { ForCalls machine.old n (λ x told plan s m t. Says told (B.holds backing.old)
-        → CallMeets K.taken (content_after told (B.holds backing.new)) (B.size backing.old) x plan s m t n result machine.old machine.new paper.old paper.new) }
-    ensures present { ForCalls machine.old n (λ x told plan s m t. CallTouches x plan m t result) }
-    ensures fits { ForCalls machine.old n (λ x told plan s m t. CallFits (length machine.old.cpu.core) s m t result) }
-    ensures quiet { ForCalls machine.old n (λ x told plan s m t. (CallWrites x plan m t result → ⊥) → backing.new ≡ backing.old) }
+    ensures call { ForCalls machine.old n (λ x told plan s m t.
+        CallRow B.holds K.taken (B.size backing.old) x told plan s m t n result machine.old machine.new backing.old backing.new paper.old paper.new) }
     ensures causes { CallCauses B.faults K.faults backing.old backing.new paper.old paper.new result }
     ensures kept { Kept machine.old machine.new }
     ensures device { DeviceAfterCalls B.holds B.size B.calls B.faults backing.old backing.new }

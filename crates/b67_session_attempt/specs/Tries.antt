@@ -11,6 +11,7 @@ use Rattle.b67_model.specs.Schedule.{Session}
 use Rattle.b67_stack.specs.declared.What.{What}
 use Rattle.b67_stack.specs.declared.What.TheVariants as what
 use Rattle.b67_stack.specs.Represents.{Storage}
+use Rattle.b67_layout_storage.specs.Machine.{Says, content_after}
 use Rattle.b67_layout.specs.Placement.{Placement}
 use Rattle.b67_presence.specs.Bringing.{IsWanted}
 use Rattle.b67_task_tables.specs.declared.tables.Machine.{Machine}
@@ -71,3 +72,12 @@ TryFits core s m t (Err stops.PrintFault) = need core s m t ≤ core
 TryFits core s m t (Err (stops.BackingFull sum size)) = need core s m t ≤ core
 TryFits core s m t (Err stops.BackingFault) = need core s m t ≤ core
 TryFits core s m t (Err stop) = Unit {0}
+
+-- What a try answers and leaves, over a device of so many sectors; `holds` is what it tells of them
+pub record TryRow {D K : Type 0} (holds : D → Option (List (List ℕ))) (taken : K → Option (List ℕ)) (count : ℕ) (x : Storage) (told : Option (List (List ℕ))) (plan : Placement) (s : Session) (m : SessionJob) (t : Task) (answered : Result Tried Stop) (old new : Machine) (device device' : D) (paper paper' : K) : Type 0 where
+  -- the answer is its row's, where the device tells what the storage says of it
+  pub row : Says told (holds device) → TryMeets taken (content_after told (holds device')) count x plan s m t answered old new paper paper'
+  -- core has room for the step, unless it wants something absent, or core is too small for it
+  pub fits : TryFits (length old.cpu.core) s m t answered
+  -- the device is as it was, unless the step may have written to it
+  pub quiet : (TryWrites x plan m t answered → ⊥) → device' ≡ device

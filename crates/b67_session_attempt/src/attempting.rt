@@ -4,7 +4,7 @@ ghost use Rattle.std.specs.Prelude.{◌≡◌, ◌≢◌, ◌+◌, None, length}
 ghost use Rattle.b67_layout_storage.specs.Machine.{DeviceAfterCalls, content_after};
 ghost use Rattle.b67_exec_cells.specs.Running.{code_area};
 ghost use Rattle.b67_mcp.specs.Called.{AreCountable};
-ghost use Rattle.b67_mcp.specs.Running.{CanNumber, CallCauses, Kept};
+ghost use Rattle.b67_mcp.specs.Running.{CanNumber, JobsHaveRoom, CallCauses, Kept};
 ghost use Rattle.b67_session_attempt.specs.Attempts.{RunsOver, ForEachOver, WantsNothing, Attempts, AttemptFits, AttemptRow, TablesStay};
 
 use crate::attempts::Attempt;
@@ -25,8 +25,7 @@ fn last_try<B: Backing, K: Sink>(
     paper: &mut K,
 ) -> Result<Attempt, Stop>
     requires runs { RunsOver machine.old (B.holds backing.old) }
-    requires countable { AreCountable machine.old.tasks.jobs }
-    requires number { CanNumber machine.old.tasks.jobs }
+    requires jobs { JobsHaveRoom machine.old.tasks.jobs }
     requires same { B.size backing.old + 1 ≡ length machine.old.sectors.links }
     ensures row { ForEachOver machine.old (B.holds backing.old) (λ x plan s m t. (x.device ≢ None → WantsNothing x plan m t)
         → Attempts K.taken x (content_after x.device (B.holds backing.new)) (length machine.old.cpu.core) (B.size backing.old) machine.old.tasks.printed plan s t result machine.new paper.old paper.new) }
@@ -53,8 +52,7 @@ fn with_code<B: Backing, K: Sink>(
     paper: &mut K,
 ) -> Result<Attempt, Stop>
     requires runs { RunsOver machine.old (B.holds backing.old) }
-    requires countable { AreCountable machine.old.tasks.jobs }
-    requires number { CanNumber machine.old.tasks.jobs }
+    requires jobs { JobsHaveRoom machine.old.tasks.jobs }
     requires same { B.size backing.old + 1 ≡ length machine.old.sectors.links }
     ensures row { ForEachOver machine.old (B.holds backing.old) (λ x plan s m t. code_area x plan m t ≢ None
         → Attempts K.taken x (content_after x.device (B.holds backing.new)) (length machine.old.cpu.core) (B.size backing.old) machine.old.tasks.printed plan s t result machine.new paper.old paper.new) }

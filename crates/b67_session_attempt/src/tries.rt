@@ -1,12 +1,12 @@
 //! One try at the next operator.
 
 ghost use Rattle.std.specs.Prelude.{◌≡◌, ◌+◌, length};
-ghost use Rattle.b67_layout_storage.specs.Machine.{Says, DeviceAfterCalls, content_after};
+ghost use Rattle.b67_layout_storage.specs.Machine.{DeviceAfterCalls};
 ghost use Rattle.b67_task_tables.specs.Runs.{Keeps};
 ghost use Rattle.b67_mcp.specs.Called.{AreCountable};
-ghost use Rattle.b67_mcp.specs.Running.{CanNumber, CallCauses};
+ghost use Rattle.b67_mcp.specs.Running.{JobsHaveRoom, CallCauses};
 ghost use Rattle.b67_session_make.specs.Makes.{ForEachReady};
-ghost use Rattle.b67_session_attempt.specs.Tries.{ReadyRuns, TryMeets, TryFits, TryWrites};
+ghost use Rattle.b67_session_attempt.specs.Tries.{ReadyRuns, TryRow};
 
 use b67_backing::Backing;
 use b67_io::Sink;
@@ -41,13 +41,10 @@ pub fn try_once<B: Backing, K: Sink>(
     paper: &mut K,
 ) -> Result<Tried, Stop>
     requires runs { ReadyRuns machine.old }
-    requires countable { AreCountable machine.old.tasks.jobs }
-    requires number { CanNumber machine.old.tasks.jobs }
+    requires jobs { JobsHaveRoom machine.old.tasks.jobs }
     requires same { B.size backing.old + 1 ≡ length machine.old.sectors.links }
-    ensures row { ForEachReady machine.old (λ x told plan s m t. Says told (B.holds backing.old)
-        → TryMeets K.taken (content_after told (B.holds backing.new)) (B.size backing.old) x plan s m t result machine.old machine.new paper.old paper.new) }
-    ensures fits { ForEachReady machine.old (λ x told plan s m t. TryFits (length machine.old.cpu.core) s m t result) }
-    ensures quiet { ForEachReady machine.old (λ x told plan s m t. (TryWrites x plan m t result → ⊥) → backing.new ≡ backing.old) }
+    ensures tried { ForEachReady machine.old (λ x told plan s m t.
+        TryRow B.holds K.taken (B.size backing.old) x told plan s m t result machine.old machine.new backing.old backing.new paper.old paper.new) }
     ensures causes { CallCauses B.faults K.faults backing.old backing.new paper.old paper.new result }
     ensures countable { AreCountable machine.new.tasks.jobs }
     ensures keeps { Keeps machine.old machine.new }

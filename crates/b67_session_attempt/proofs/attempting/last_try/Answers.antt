@@ -14,53 +14,57 @@ pub returns-in-Ok-Made-clause-row : goal.returns-in-Ok-Made-clause-row
 returns-in-Ok-Made-clause-row g c = λ x plan s m t o h runs ready none.
     let B = g.B.Backing in
     made_once B.holds g.K.Sink.taken c.args.backing.now c.try_once.new.backing x (B.size c.args.backing.now) plan s m t o runs c.args.machine.now c.try_once.new.machine h c.args.paper.now c.try_once.new.paper
-    ((rw c.in-Ok-Made.field-0-is at c.in-Ok-Made.ensures.row) x x.device plan s m t o h.stands runs ready h.says)
+    (((rw c.in-Ok-Made.field-0-is at c.in-Ok-Made.ensures.tried) x x.device plan s m t o h.stands runs ready).row h.says)
 
 pub returns-in-Ok-Ends-clause-row : goal.returns-in-Ok-Ends-clause-row
 returns-in-Ok-Ends-clause-row g c = λ x plan s m t o h runs ready none.
     let B = g.B.Backing in
+    let tried = (rw c.in-Ok-Ends.field-0-is at c.in-Ok-Ends.ensures.tried) x x.device plan s m t o h.stands runs ready in
     ends_once B.holds g.K.Sink.taken c.args.backing.now c.try_once.new.backing x (B.size c.args.backing.now) plan s m t o runs c.args.machine.now c.try_once.new.machine h c.args.paper.now c.try_once.new.paper c.in-Ok-Ends.ending
-    ((rw c.in-Ok-Ends.field-0-is at c.in-Ok-Ends.ensures.quiet) x x.device plan s m t o h.stands runs ready (λ w. w))
-    ((rw c.in-Ok-Ends.field-0-is at c.in-Ok-Ends.ensures.row) x x.device plan s m t o h.stands runs ready h.says)
+    (tried.quiet (λ w. w))
+    (tried.row h.says)
 
 pub returns-in-Ok-Waits-clause-row : goal.returns-in-Ok-Waits-clause-row
 returns-in-Ok-Waits-clause-row g c = λ x plan s m t o h runs ready none.
     let B = g.B.Backing in
+    let tried = (rw c.in-Ok-Waits.field-0-is at c.in-Ok-Waits.ensures.tried) x x.device plan s m t o h.stands runs ready in
     waits_once B.holds g.K.Sink.taken c.args.backing.now c.try_once.new.backing x (B.size c.args.backing.now) plan s m t o runs c.args.machine.now c.try_once.new.machine h c.args.paper.now c.try_once.new.paper c.in-Ok-Waits.state
-    ((rw c.in-Ok-Waits.field-0-is at c.in-Ok-Waits.ensures.quiet) x x.device plan s m t o h.stands runs ready (λ w. w))
-    ((rw c.in-Ok-Waits.field-0-is at c.in-Ok-Waits.ensures.row) x x.device plan s m t o h.stands runs ready h.says)
+    (tried.quiet (λ w. w))
+    (tried.row h.says)
 
 pub returns-in-Ok-Absent-clause-row : goal.returns-in-Ok-Absent-clause-row
 returns-in-Ok-Absent-clause-row g c = λ x plan s m t o h runs ready none.
     let B = g.B.Backing in
+    let tried = (rw c.in-Ok-Absent.field-0-is at c.in-Ok-Absent.ensures.tried) x x.device plan s m t o h.stands runs ready in
     gives_up_once B.holds g.K.Sink.taken c.args.backing.now c.try_once.new.backing x (B.size c.args.backing.now) plan s m t o runs c.args.machine.now c.try_once.new.machine h c.args.paper.now c.try_once.new.paper (Faulted InvalidOperator) c.in-Ok-Absent.field-0-0
-    ((rw c.in-Ok-Absent.field-0-is at c.in-Ok-Absent.ensures.quiet) x x.device plan s m t o h.stands runs ready (λ w. w)) none
-    ((rw c.in-Ok-Absent.field-0-is at c.in-Ok-Absent.ensures.row) x x.device plan s m t o h.stands runs ready h.says)
+    (tried.quiet (λ w. w)) none
+    (tried.row h.says)
 
 pub returns-in-Err-clause-row : goal.returns-in-Err-clause-row
 returns-in-Err-clause-row g c = λ x plan s m t o h runs ready none.
     let B = g.B.Backing in
+    let tried = c.in-Err.ensures.tried x x.device plan s m t o h.stands runs ready in
     stops_once B.holds g.K.Sink.taken c.args.backing.now c.try_once.new.backing x (B.size c.args.backing.now) plan s m t o runs c.args.machine.now c.try_once.new.machine h c.args.paper.now c.try_once.new.paper c.in-Err.stop
-    (c.in-Err.ensures.quiet x x.device plan s m t o h.stands runs ready) (c.in-Err.ensures.fits x x.device plan s m t o h.stands runs ready) (c.in-Err.ensures.row x x.device plan s m t o h.stands runs ready h.says)
+    tried.quiet tried.fits (tried.row h.says)
 
 pub returns-in-Ok-Made-clause-fits : goal.returns-in-Ok-Made-clause-fits
-returns-in-Ok-Made-clause-fits g c = λ x plan s m t o h runs ready none. (rw c.in-Ok-Made.field-0-is at c.in-Ok-Made.ensures.fits) x x.device plan s m t o h.stands runs ready
+returns-in-Ok-Made-clause-fits g c = λ x plan s m t o h runs ready none. ((rw c.in-Ok-Made.field-0-is at c.in-Ok-Made.ensures.tried) x x.device plan s m t o h.stands runs ready).fits
 
 pub returns-in-Ok-Ends-clause-fits : goal.returns-in-Ok-Ends-clause-fits
-returns-in-Ok-Ends-clause-fits g c = λ x plan s m t o h runs ready none. (rw c.in-Ok-Ends.field-0-is at c.in-Ok-Ends.ensures.fits) x x.device plan s m t o h.stands runs ready
+returns-in-Ok-Ends-clause-fits g c = λ x plan s m t o h runs ready none. ((rw c.in-Ok-Ends.field-0-is at c.in-Ok-Ends.ensures.tried) x x.device plan s m t o h.stands runs ready).fits
 
 pub returns-in-Ok-Waits-clause-fits : goal.returns-in-Ok-Waits-clause-fits
-returns-in-Ok-Waits-clause-fits g c = λ x plan s m t o h runs ready none. (rw c.in-Ok-Waits.field-0-is at c.in-Ok-Waits.ensures.fits) x x.device plan s m t o h.stands runs ready
+returns-in-Ok-Waits-clause-fits g c = λ x plan s m t o h runs ready none. ((rw c.in-Ok-Waits.field-0-is at c.in-Ok-Waits.ensures.tried) x x.device plan s m t o h.stands runs ready).fits
 
 pub returns-in-Ok-Absent-clause-fits : goal.returns-in-Ok-Absent-clause-fits
 returns-in-Ok-Absent-clause-fits g c = λ x plan s m t o h runs ready none.
     let B = g.B.Backing in
     absurd (never g.K.Sink.taken (content_after x.device (B.holds c.try_once.new.backing)) (B.size c.args.backing.now) x plan s m t c.args.machine.now c.try_once.new.machine c.args.paper.now c.try_once.new.paper c.in-Ok-Absent.field-0-0 none
-    ((rw c.in-Ok-Absent.field-0-is at c.in-Ok-Absent.ensures.row) x x.device plan s m t o h.stands runs ready h.says))
+    (((rw c.in-Ok-Absent.field-0-is at c.in-Ok-Absent.ensures.tried) x x.device plan s m t o h.stands runs ready).row h.says))
 
 pub returns-in-Err-clause-fits : goal.returns-in-Err-clause-fits
 returns-in-Err-clause-fits g c = λ x plan s m t o h runs ready none.
-    room_after_stop (length c.args.machine.now.cpu.core) x plan s m t c.in-Err.stop (c.in-Err.ensures.fits x x.device plan s m t o h.stands runs ready)
+    room_after_stop (length c.args.machine.now.cpu.core) x plan s m t c.in-Err.stop (c.in-Err.ensures.tried x x.device plan s m t o h.stands runs ready).fits
 
 pub returns-in-Ok-Made-clause-causes : goal.returns-in-Ok-Made-clause-causes
 returns-in-Ok-Made-clause-causes g c = caused_none g.B.Backing.faults g.K.Sink.faults c.args.backing.now c.try_once.new.backing c.args.paper.now c.try_once.new.paper Made c.try_once.ensures.causes.printer.later
@@ -82,25 +86,25 @@ returns-in-Ok-Ends-clause-tables g c =
     let B = g.B.Backing in
     let r = c.requires.runs in
     tables_after_end g.K.Sink.taken (content_after r.storage.device (B.holds c.try_once.new.backing)) (B.size c.args.backing.now) r.storage r.plan r.session r.member r.task c.args.machine.now c.try_once.new.machine c.args.paper.now c.try_once.new.paper c.in-Ok-Ends.ending
-    ((rw c.in-Ok-Ends.field-0-is at c.in-Ok-Ends.ensures.row) r.storage r.storage.device r.plan r.session r.member r.task r.ordered r.stands.stands r.running r.ready r.stands.says)
+    (((rw c.in-Ok-Ends.field-0-is at c.in-Ok-Ends.ensures.tried) r.storage r.storage.device r.plan r.session r.member r.task r.ordered r.stands.stands r.running r.ready).row r.stands.says)
 
 pub returns-in-Ok-Waits-clause-tables : goal.returns-in-Ok-Waits-clause-tables
 returns-in-Ok-Waits-clause-tables g c =
     let B = g.B.Backing in
     let r = c.requires.runs in
     tables_after_wait g.K.Sink.taken (content_after r.storage.device (B.holds c.try_once.new.backing)) (B.size c.args.backing.now) r.storage r.plan r.session r.member r.task c.args.machine.now c.try_once.new.machine c.args.paper.now c.try_once.new.paper c.in-Ok-Waits.state
-    ((rw c.in-Ok-Waits.field-0-is at c.in-Ok-Waits.ensures.row) r.storage r.storage.device r.plan r.session r.member r.task r.ordered r.stands.stands r.running r.ready r.stands.says)
+    (((rw c.in-Ok-Waits.field-0-is at c.in-Ok-Waits.ensures.tried) r.storage r.storage.device r.plan r.session r.member r.task r.ordered r.stands.stands r.running r.ready).row r.stands.says)
 
 pub returns-in-Ok-Absent-clause-tables : goal.returns-in-Ok-Absent-clause-tables
 returns-in-Ok-Absent-clause-tables g c =
     let B = g.B.Backing in
     let r = c.requires.runs in
     tables_after_want g.K.Sink.taken (content_after r.storage.device (B.holds c.try_once.new.backing)) (B.size c.args.backing.now) r.storage r.plan r.session r.member r.task c.args.machine.now c.try_once.new.machine c.args.paper.now c.try_once.new.paper c.in-Ok-Absent.field-0-0
-    ((rw c.in-Ok-Absent.field-0-is at c.in-Ok-Absent.ensures.row) r.storage r.storage.device r.plan r.session r.member r.task r.ordered r.stands.stands r.running r.ready r.stands.says)
+    (((rw c.in-Ok-Absent.field-0-is at c.in-Ok-Absent.ensures.tried) r.storage r.storage.device r.plan r.session r.member r.task r.ordered r.stands.stands r.running r.ready).row r.stands.says)
 
 pub returns-in-Err-clause-tables : goal.returns-in-Err-clause-tables
 returns-in-Err-clause-tables g c =
     let B = g.B.Backing in
     let r = c.requires.runs in
     tables_after_stop g.K.Sink.taken (content_after r.storage.device (B.holds c.try_once.new.backing)) (B.size c.args.backing.now) r.storage r.plan r.session r.member r.task c.args.machine.now c.try_once.new.machine c.args.paper.now c.try_once.new.paper c.in-Err.stop
-    (c.in-Err.ensures.row r.storage r.storage.device r.plan r.session r.member r.task r.ordered r.stands.stands r.running r.ready r.stands.says)
+    ((c.in-Err.ensures.tried r.storage r.storage.device r.plan r.session r.member r.task r.ordered r.stands.stands r.running r.ready).row r.stands.says)

@@ -3,7 +3,7 @@ use Rattle.b67_layout_storage.specs.Machine.{content_after}
 use Rattle.b67_layout_storage.proofs.Devices.{still_tells, Served-then}
 use Rattle.b67_task_tables.specs.declared.tables.Machine.{Machine}
 use Rattle.b67_task_tables.specs.declared.tables.Tasks.{Tasks}
-use Rattle.b67_mcp.specs.Running.{CanNumber}
+use Rattle.b67_mcp.specs.Running.{JobsHaveRoom}
 use Rattle.b67_session_attempt.specs.declared.attempts.Attempt.TheVariants.{Made, Ends, Waits}
 use Rattle.b67_session_attempt.specs.Attempts.{WantsNothing}
 use Rattle.b67_session_attempt.proofs.Composed.{made_once, ends_once, waits_once, stops_once, unchanged_over, goes_on_telling, stopped_attempt, runs_over, wants_some, tables_after_end, tables_after_wait, tables_after_want, tables_after_stop, tables_stay, tables_from, room_after_stop, attempt_as, same_needs, still_told, other, in_order, then_on, room_after_want, wants_nothing}
@@ -17,16 +17,18 @@ pub bring_wanted-requires-clause-wants : goal.bring_wanted-requires-clause-wants
 bring_wanted-requires-clause-wants g c =
     let B = g.B.Backing in
     let r = c.requires.runs in
+    let tried = (rw c.in-Ok-Absent.field-0-is at c.in-Ok-Absent.ensures.tried) r.storage r.storage.device r.plan r.session r.member r.task r.ordered r.stands.stands r.running r.ready in
     wants_some g.K.Sink.taken (B.holds c.args.backing.now) (B.holds c.try_once.new.backing) (content_after r.storage.device (B.holds c.try_once.new.backing)) (B.size c.args.backing.now) c.args.machine.now c.try_once.new.machine c.args.paper.now c.try_once.new.paper c.in-Ok-Absent.wanted r
-    (ap B.holds ((rw c.in-Ok-Absent.field-0-is at c.in-Ok-Absent.ensures.quiet) r.storage r.storage.device r.plan r.session r.member r.task r.ordered r.stands.stands r.running r.ready (λ w. w)))
-    ((rw c.in-Ok-Absent.field-0-is at c.in-Ok-Absent.ensures.row) r.storage r.storage.device r.plan r.session r.member r.task r.ordered r.stands.stands r.running r.ready r.stands.says)
+    (ap B.holds (tried.quiet (λ w. w)))
+    (tried.row r.stands.says)
 
 pub last_try-requires-clause-runs : goal.last_try-requires-clause-runs
 last_try-requires-clause-runs g c =
     let B = g.B.Backing in
     let r = c.requires.runs in
-    let same = (rw c.in-Ok-Absent.field-0-is at c.in-Ok-Absent.ensures.quiet) r.storage r.storage.device r.plan r.session r.member r.task r.ordered r.stands.stands r.running r.ready (λ w. w) in
-    let w = (rw c.in-Ok-Absent.field-0-is at c.in-Ok-Absent.ensures.row) r.storage r.storage.device r.plan r.session r.member r.task r.ordered r.stands.stands r.running r.ready r.stands.says in
+    let tried = (rw c.in-Ok-Absent.field-0-is at c.in-Ok-Absent.ensures.tried) r.storage r.storage.device r.plan r.session r.member r.task r.ordered r.stands.stands r.running r.ready in
+    let same = tried.quiet (λ w. w) in
+    let w = tried.row r.stands.says in
     let k = unchanged_over r.storage (B.holds c.args.backing.now) (B.holds c.try_once.new.backing) r.plan r.session c.args.machine.now c.try_once.new.machine w.3 (ap B.holds same) r.stands in
     let b = c.in-Ok.ensures.row r.storage r.plan r.session r.member r.task w.0 r.ordered k r.running w.1 w.2 in
     runs_over r.storage (B.holds c.bring_wanted.new.backing) c.bring_wanted.new.machine r.plan r.session r.member r.task r.ordered r.running c.in-Ok-Absent.wanted b r.ready
@@ -35,34 +37,38 @@ pub returns-in-Ok-Made-clause-row : goal.returns-in-Ok-Made-clause-row
 returns-in-Ok-Made-clause-row g c = λ x plan s m t o h runs ready code.
     let B = g.B.Backing in
     made_once B.holds g.K.Sink.taken c.args.backing.now c.try_once.new.backing x (B.size c.args.backing.now) plan s m t o runs c.args.machine.now c.try_once.new.machine h c.args.paper.now c.try_once.new.paper
-    ((rw c.in-Ok-Made.field-0-is at c.in-Ok-Made.ensures.row) x x.device plan s m t o h.stands runs ready h.says)
+    (((rw c.in-Ok-Made.field-0-is at c.in-Ok-Made.ensures.tried) x x.device plan s m t o h.stands runs ready).row h.says)
 
 pub returns-in-Ok-Ends-clause-row : goal.returns-in-Ok-Ends-clause-row
 returns-in-Ok-Ends-clause-row g c = λ x plan s m t o h runs ready code.
     let B = g.B.Backing in
+    let tried = (rw c.in-Ok-Ends.field-0-is at c.in-Ok-Ends.ensures.tried) x x.device plan s m t o h.stands runs ready in
     ends_once B.holds g.K.Sink.taken c.args.backing.now c.try_once.new.backing x (B.size c.args.backing.now) plan s m t o runs c.args.machine.now c.try_once.new.machine h c.args.paper.now c.try_once.new.paper c.in-Ok-Ends.ending
-    ((rw c.in-Ok-Ends.field-0-is at c.in-Ok-Ends.ensures.quiet) x x.device plan s m t o h.stands runs ready (λ w. w))
-    ((rw c.in-Ok-Ends.field-0-is at c.in-Ok-Ends.ensures.row) x x.device plan s m t o h.stands runs ready h.says)
+    (tried.quiet (λ w. w))
+    (tried.row h.says)
 
 pub returns-in-Ok-Waits-clause-row : goal.returns-in-Ok-Waits-clause-row
 returns-in-Ok-Waits-clause-row g c = λ x plan s m t o h runs ready code.
     let B = g.B.Backing in
+    let tried = (rw c.in-Ok-Waits.field-0-is at c.in-Ok-Waits.ensures.tried) x x.device plan s m t o h.stands runs ready in
     waits_once B.holds g.K.Sink.taken c.args.backing.now c.try_once.new.backing x (B.size c.args.backing.now) plan s m t o runs c.args.machine.now c.try_once.new.machine h c.args.paper.now c.try_once.new.paper c.in-Ok-Waits.state
-    ((rw c.in-Ok-Waits.field-0-is at c.in-Ok-Waits.ensures.quiet) x x.device plan s m t o h.stands runs ready (λ w. w))
-    ((rw c.in-Ok-Waits.field-0-is at c.in-Ok-Waits.ensures.row) x x.device plan s m t o h.stands runs ready h.says)
+    (tried.quiet (λ w. w))
+    (tried.row h.says)
 
 pub returns-in-Err-clause-row : goal.returns-in-Err-clause-row
 returns-in-Err-clause-row g c = λ x plan s m t o h runs ready code.
     let B = g.B.Backing in
+    let tried = c.in-Err.ensures.tried x x.device plan s m t o h.stands runs ready in
     stops_once B.holds g.K.Sink.taken c.args.backing.now c.try_once.new.backing x (B.size c.args.backing.now) plan s m t o runs c.args.machine.now c.try_once.new.machine h c.args.paper.now c.try_once.new.paper c.in-Err.stop
-    (c.in-Err.ensures.quiet x x.device plan s m t o h.stands runs ready) (c.in-Err.ensures.fits x x.device plan s m t o h.stands runs ready) (c.in-Err.ensures.row x x.device plan s m t o h.stands runs ready h.says)
+    tried.quiet tried.fits (tried.row h.says)
 
 pub returns-in-Err-bring_wanted-clause-row : goal.returns-in-Err-bring_wanted-clause-row
 returns-in-Err-bring_wanted-clause-row g c = λ x plan s m t o h runs ready code.
     let B = g.B.Backing in
+    let tried = (rw c.in-Ok-Absent.field-0-is at c.in-Ok-Absent.ensures.tried) x x.device plan s m t o h.stands runs ready in
     let after = content_after x.device (B.holds c.bring_wanted.new.backing) in
-    let same = (rw c.in-Ok-Absent.field-0-is at c.in-Ok-Absent.ensures.quiet) x x.device plan s m t o h.stands runs ready (λ w. w) in
-    let w = (rw c.in-Ok-Absent.field-0-is at c.in-Ok-Absent.ensures.row) x x.device plan s m t o h.stands runs ready h.says in
+    let same = tried.quiet (λ w. w) in
+    let w = tried.row h.says in
     let k = unchanged_over x (B.holds c.args.backing.now) (B.holds c.try_once.new.backing) plan s c.args.machine.now c.try_once.new.machine w.3 (ap B.holds same) h in
     let printed = c.args.machine.now.tasks.printed in
     let size = length c.try_once.new.machine.cpu.core in
@@ -74,13 +80,14 @@ returns-in-Err-bring_wanted-clause-row g c = λ x plan s m t o h runs ready code
 pub returns-in-Ok-clause-row : goal.returns-in-Ok-clause-row
 returns-in-Ok-clause-row g c = λ x plan s m t o h runs ready code.
     let B = g.B.Backing in
+    let tried = (rw c.in-Ok-Absent.field-0-is at c.in-Ok-Absent.ensures.tried) x x.device plan s m t o h.stands runs ready in
     let told = B.holds c.args.backing.now in
     let mid = B.holds c.try_once.new.backing in
     let told' = B.holds c.bring_wanted.new.backing in
     let new = c.bring_wanted.new.machine in
     let found = c.in-Ok-Absent.wanted in
-    let same = (rw c.in-Ok-Absent.field-0-is at c.in-Ok-Absent.ensures.quiet) x x.device plan s m t o h.stands runs ready (λ w. w) in
-    let w = (rw c.in-Ok-Absent.field-0-is at c.in-Ok-Absent.ensures.row) x x.device plan s m t o h.stands runs ready h.says in
+    let same = tried.quiet (λ w. w) in
+    let w = tried.row h.says in
     let k = unchanged_over x told mid plan s c.args.machine.now c.try_once.new.machine w.3 (ap B.holds same) h in
     let b = c.in-Ok.ensures.row x plan s m t w.0 o k runs w.1 w.2 in
     let printed = ap (λ (z : Tasks). z.printed) c.bring_wanted.ensures.tasks ∙ ap (λ (z : Machine). z.tasks.printed) w.3 in
@@ -91,23 +98,24 @@ returns-in-Ok-clause-row g c = λ x plan s m t o h runs ready code.
     (λ y p n u. y.device ≢ None → WantsNothing y p n u) (wants_nothing x told' new plan s m t o runs found b w.0 code w.1 w.2) c.last_try.ensures.row
 
 pub returns-in-Ok-Made-clause-fits : goal.returns-in-Ok-Made-clause-fits
-returns-in-Ok-Made-clause-fits g c = λ x plan s m t o h runs ready code tells. (rw c.in-Ok-Made.field-0-is at c.in-Ok-Made.ensures.fits) x x.device plan s m t o h.stands runs ready
+returns-in-Ok-Made-clause-fits g c = λ x plan s m t o h runs ready code tells. ((rw c.in-Ok-Made.field-0-is at c.in-Ok-Made.ensures.tried) x x.device plan s m t o h.stands runs ready).fits
 
 pub returns-in-Ok-Ends-clause-fits : goal.returns-in-Ok-Ends-clause-fits
-returns-in-Ok-Ends-clause-fits g c = λ x plan s m t o h runs ready code tells. (rw c.in-Ok-Ends.field-0-is at c.in-Ok-Ends.ensures.fits) x x.device plan s m t o h.stands runs ready
+returns-in-Ok-Ends-clause-fits g c = λ x plan s m t o h runs ready code tells. ((rw c.in-Ok-Ends.field-0-is at c.in-Ok-Ends.ensures.tried) x x.device plan s m t o h.stands runs ready).fits
 
 pub returns-in-Ok-Waits-clause-fits : goal.returns-in-Ok-Waits-clause-fits
-returns-in-Ok-Waits-clause-fits g c = λ x plan s m t o h runs ready code tells. (rw c.in-Ok-Waits.field-0-is at c.in-Ok-Waits.ensures.fits) x x.device plan s m t o h.stands runs ready
+returns-in-Ok-Waits-clause-fits g c = λ x plan s m t o h runs ready code tells. ((rw c.in-Ok-Waits.field-0-is at c.in-Ok-Waits.ensures.tried) x x.device plan s m t o h.stands runs ready).fits
 
 pub returns-in-Err-clause-fits : goal.returns-in-Err-clause-fits
 returns-in-Err-clause-fits g c = λ x plan s m t o h runs ready code tells.
-    room_after_stop (length c.args.machine.now.cpu.core) x plan s m t c.in-Err.stop (c.in-Err.ensures.fits x x.device plan s m t o h.stands runs ready)
+    room_after_stop (length c.args.machine.now.cpu.core) x plan s m t c.in-Err.stop (c.in-Err.ensures.tried x x.device plan s m t o h.stands runs ready).fits
 
 pub returns-in-Err-bring_wanted-clause-fits : goal.returns-in-Err-bring_wanted-clause-fits
 returns-in-Err-bring_wanted-clause-fits g c = λ x plan s m t o h runs ready code tells.
     let B = g.B.Backing in
-    let same = (rw c.in-Ok-Absent.field-0-is at c.in-Ok-Absent.ensures.quiet) x x.device plan s m t o h.stands runs ready (λ w. w) in
-    let w = (rw c.in-Ok-Absent.field-0-is at c.in-Ok-Absent.ensures.row) x x.device plan s m t o h.stands runs ready h.says in
+    let tried = (rw c.in-Ok-Absent.field-0-is at c.in-Ok-Absent.ensures.tried) x x.device plan s m t o h.stands runs ready in
+    let same = tried.quiet (λ w. w) in
+    let w = tried.row h.says in
     let k = unchanged_over x (B.holds c.args.backing.now) (B.holds c.try_once.new.backing) plan s c.args.machine.now c.try_once.new.machine w.3 (ap B.holds same) h in
     room_after_want (length c.args.machine.now.cpu.core) (length c.try_once.new.machine.cpu.core) x plan s m t c.in-Err-bring_wanted.stop (ap (λ (z : Machine). length z.cpu.core) w.3)
     (λ e. c.in-Err-bring_wanted.ensures.silent (ap Err e)) (c.in-Err-bring_wanted.ensures.fits x plan s m t w.0 o k runs w.1 w.2)
@@ -115,12 +123,13 @@ returns-in-Err-bring_wanted-clause-fits g c = λ x plan s m t o h runs ready cod
 pub returns-in-Ok-clause-fits : goal.returns-in-Ok-clause-fits
 returns-in-Ok-clause-fits g c = λ x plan s m t o h runs ready code exact.
     let B = g.B.Backing in
+    let tried = (rw c.in-Ok-Absent.field-0-is at c.in-Ok-Absent.ensures.tried) x x.device plan s m t o h.stands runs ready in
     let mid = B.holds c.try_once.new.backing in
     let told' = B.holds c.bring_wanted.new.backing in
     let new = c.bring_wanted.new.machine in
     let found = c.in-Ok-Absent.wanted in
-    let same = (rw c.in-Ok-Absent.field-0-is at c.in-Ok-Absent.ensures.quiet) x x.device plan s m t o h.stands runs ready (λ w. w) in
-    let w = (rw c.in-Ok-Absent.field-0-is at c.in-Ok-Absent.ensures.row) x x.device plan s m t o h.stands runs ready h.says in
+    let same = tried.quiet (λ w. w) in
+    let w = tried.row h.says in
     let k = unchanged_over x (B.holds c.args.backing.now) mid plan s c.args.machine.now c.try_once.new.machine w.3 (ap B.holds same) h in
     let b = c.in-Ok.ensures.row x plan s m t w.0 o k runs w.1 w.2 in
     let tells = goes_on_telling x.device mid told' k.says (still_tells B.holds B.size B.calls B.faults c.try_once.new.backing c.bring_wanted.new.backing c.bring_wanted.ensures.device) in
@@ -159,28 +168,28 @@ returns-in-Ok-Ends-clause-tables g c =
     let B = g.B.Backing in
     let r = c.requires.runs in
     tables_after_end g.K.Sink.taken (content_after r.storage.device (B.holds c.try_once.new.backing)) (B.size c.args.backing.now) r.storage r.plan r.session r.member r.task c.args.machine.now c.try_once.new.machine c.args.paper.now c.try_once.new.paper c.in-Ok-Ends.ending
-    ((rw c.in-Ok-Ends.field-0-is at c.in-Ok-Ends.ensures.row) r.storage r.storage.device r.plan r.session r.member r.task r.ordered r.stands.stands r.running r.ready r.stands.says)
+    (((rw c.in-Ok-Ends.field-0-is at c.in-Ok-Ends.ensures.tried) r.storage r.storage.device r.plan r.session r.member r.task r.ordered r.stands.stands r.running r.ready).row r.stands.says)
 
 pub returns-in-Ok-Waits-clause-tables : goal.returns-in-Ok-Waits-clause-tables
 returns-in-Ok-Waits-clause-tables g c =
     let B = g.B.Backing in
     let r = c.requires.runs in
     tables_after_wait g.K.Sink.taken (content_after r.storage.device (B.holds c.try_once.new.backing)) (B.size c.args.backing.now) r.storage r.plan r.session r.member r.task c.args.machine.now c.try_once.new.machine c.args.paper.now c.try_once.new.paper c.in-Ok-Waits.state
-    ((rw c.in-Ok-Waits.field-0-is at c.in-Ok-Waits.ensures.row) r.storage r.storage.device r.plan r.session r.member r.task r.ordered r.stands.stands r.running r.ready r.stands.says)
+    (((rw c.in-Ok-Waits.field-0-is at c.in-Ok-Waits.ensures.tried) r.storage r.storage.device r.plan r.session r.member r.task r.ordered r.stands.stands r.running r.ready).row r.stands.says)
 
 pub returns-in-Err-clause-tables : goal.returns-in-Err-clause-tables
 returns-in-Err-clause-tables g c =
     let B = g.B.Backing in
     let r = c.requires.runs in
     tables_after_stop g.K.Sink.taken (content_after r.storage.device (B.holds c.try_once.new.backing)) (B.size c.args.backing.now) r.storage r.plan r.session r.member r.task c.args.machine.now c.try_once.new.machine c.args.paper.now c.try_once.new.paper c.in-Err.stop
-    (c.in-Err.ensures.row r.storage r.storage.device r.plan r.session r.member r.task r.ordered r.stands.stands r.running r.ready r.stands.says)
+    ((c.in-Err.ensures.tried r.storage r.storage.device r.plan r.session r.member r.task r.ordered r.stands.stands r.running r.ready).row r.stands.says)
 
 pub returns-in-Err-bring_wanted-clause-tables : goal.returns-in-Err-bring_wanted-clause-tables
 returns-in-Err-bring_wanted-clause-tables g c =
     let B = g.B.Backing in
     let r = c.requires.runs in
     let same = tables_after_want g.K.Sink.taken (content_after r.storage.device (B.holds c.try_once.new.backing)) (B.size c.args.backing.now) r.storage r.plan r.session r.member r.task c.args.machine.now c.try_once.new.machine c.args.paper.now c.try_once.new.paper c.in-Ok-Absent.wanted
-    ((rw c.in-Ok-Absent.field-0-is at c.in-Ok-Absent.ensures.row) r.storage r.storage.device r.plan r.session r.member r.task r.ordered r.stands.stands r.running r.ready r.stands.says) in
+    (((rw c.in-Ok-Absent.field-0-is at c.in-Ok-Absent.ensures.tried) r.storage r.storage.device r.plan r.session r.member r.task r.ordered r.stands.stands r.running r.ready).row r.stands.says) in
     tables_stay c.in-Err-bring_wanted.stop c.args.machine.now.tasks c.bring_wanted.new.machine.tasks (λ e. c.in-Err-bring_wanted.ensures.silent (ap Err e)) (c.bring_wanted.ensures.tasks ∙ same)
 
 pub returns-in-Ok-clause-tables : goal.returns-in-Ok-clause-tables
@@ -188,7 +197,7 @@ returns-in-Ok-clause-tables g c =
     let B = g.B.Backing in
     let r = c.requires.runs in
     let same = tables_after_want g.K.Sink.taken (content_after r.storage.device (B.holds c.try_once.new.backing)) (B.size c.args.backing.now) r.storage r.plan r.session r.member r.task c.args.machine.now c.try_once.new.machine c.args.paper.now c.try_once.new.paper c.in-Ok-Absent.wanted
-    ((rw c.in-Ok-Absent.field-0-is at c.in-Ok-Absent.ensures.row) r.storage r.storage.device r.plan r.session r.member r.task r.ordered r.stands.stands r.running r.ready r.stands.says) in
+    (((rw c.in-Ok-Absent.field-0-is at c.in-Ok-Absent.ensures.tried) r.storage r.storage.device r.plan r.session r.member r.task r.ordered r.stands.stands r.running r.ready).row r.stands.says) in
     tables_from c.last_try.result c.args.machine.now.tasks c.bring_wanted.new.machine.tasks c.last_try.new.machine.tasks (c.bring_wanted.ensures.tasks ∙ same) c.last_try.ensures.tables
 
 pub returns-in-Err-bring_wanted-clause-kept : goal.returns-in-Err-bring_wanted-clause-kept
@@ -210,10 +219,10 @@ returns-in-Ok-clause-device g c =
     Served-then B.holds B.size B.calls B.faults c.args.backing.now c.try_once.new.backing c.last_try.new.backing c.try_once.ensures.device
     (Served-then B.holds B.size B.calls B.faults c.try_once.new.backing c.bring_wanted.new.backing c.last_try.new.backing c.bring_wanted.ensures.device c.last_try.ensures.device)
 
-pub last_try-requires-clause-number : goal.last_try-requires-clause-number
-last_try-requires-clause-number g c =
+pub last_try-requires-clause-jobs : goal.last_try-requires-clause-jobs
+last_try-requires-clause-jobs g c =
     let B = g.B.Backing in
     let r = c.requires.runs in
     let same = tables_after_want g.K.Sink.taken (content_after r.storage.device (B.holds c.try_once.new.backing)) (B.size c.args.backing.now) r.storage r.plan r.session r.member r.task c.args.machine.now c.try_once.new.machine c.args.paper.now c.try_once.new.paper c.in-Ok-Absent.wanted
-    ((rw c.in-Ok-Absent.field-0-is at c.in-Ok-Absent.ensures.row) r.storage r.storage.device r.plan r.session r.member r.task r.ordered r.stands.stands r.running r.ready r.stands.says) in
-    subst (λ (z : Tasks). CanNumber z.jobs) (sym (c.bring_wanted.ensures.tasks ∙ same)) c.requires.number
+    (((rw c.in-Ok-Absent.field-0-is at c.in-Ok-Absent.ensures.tried) r.storage r.storage.device r.plan r.session r.member r.task r.ordered r.stands.stands r.running r.ready).row r.stands.says) in
+    subst (λ (z : Tasks). JobsHaveRoom z.jobs) (sym (c.bring_wanted.ensures.tasks ∙ same)) c.requires.jobs
