@@ -34,7 +34,7 @@ pub enum Tried {
 /// for the same session. A step that was made, ends its task, makes it wait, or was stopped by the printer or the device needs
 /// no more words than core has. The backing is called only where a call makes a present array longer or starts a task, and is
 /// made or stopped by the backing.
-#[inline(always)]
+#[inline(never)]
 pub fn try_once<B: Backing, K: Sink>(
     machine: &mut Machine,
     backing: &mut B,

@@ -1,7 +1,7 @@
 //! Intrinsics, sessions, the whole run.
 
-ghost use Rattle.b67_mcp.specs.Called.{AreCountable, CallsSome};
-ghost use Rattle.b67_mcp.specs.Running.{CanNumber};
+ghost use Rattle.b67_mcp.specs.Called.{CallsSome};
+ghost use Rattle.b67_mcp.specs.Running.{JobsHaveRoom};
 ghost use Rattle.b67_session.specs.Slices.{IsOpen};
 ghost use Rattle.b67_session_attempt.specs.Passed.{AreCountable};
 ghost use Rattle.b67_session_open.specs.Decks.{DeckInRange};
@@ -26,8 +26,7 @@ pub fn intrinsic<B: Backing, K: Sink>(
     paper: &mut K,
 ) -> Result<CallEnd, Stop>
     requires calls { CallsSome machine.old n }
-    requires countable { AreCountable machine.old.tasks.jobs }
-    requires number { CanNumber machine.old.tasks.jobs }
+    requires jobs { JobsHaveRoom machine.old.tasks.jobs }
     requires same { B.size backing.old + 1 ≡ length machine.old.sectors.links }
 {
     b67_mcp::intrinsic(machine, n, backing, paper)
