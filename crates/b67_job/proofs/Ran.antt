@@ -202,10 +202,10 @@ module _ {K B : Type 0} (taken : K → Option (List ℕ)) (faults : K → ℕ) (
       → Prints taken old between was before printed is k.tasks.printed → (answered ≢ Err stops.PrintFault → k.tasks.printed ≡ 0)
       → (answered ≡ Err stops.BackingFault → Failed d) → (answered ≡ Err stops.PrintFault → Rose faults old between) → faults old ≤ faults between
       → DeckRunEnds taken faults d core p exercise (Some k) old new answer
-  ran (Ok progress.Ended) old between new answer rests end prints unprinted failed rose later =
+  ran (Ok progress.Ended) old between new answer meets end prints unprinted failed rose later =
       let none = unprinted (λ e. cc) in
       stopped (record { front = run_text printed; last = summary exercise k.tasks.made }) none
-      (all_end refl (record { session = s; printed = printed; comes = comes_to (over_has_no_last s rests.none); within = within_halt; rests = rests; text_is = refl }))
+      (all_end refl (record { session = s; printed = printed; comes = comes_to (over_has_no_last s meets.0.none); within = within_halt; rests = meets.0; ordered = meets.1; text_is = refl }))
       (closes_then (lines_took prints begun none) later end)
   ran (Ok progress.More) old between new answer meets end prints unprinted failed rose later =
       absurd (most_is_no_end known k s meets.2.1.0 meets.2.1.1 steps made meets.0 meets.2.0 meets.2.1.2)

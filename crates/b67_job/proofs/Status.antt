@@ -1,5 +1,5 @@
 -- The status of a call for which core, the device and the printer suffice.
-use Rattle.std.proofs.Common.{◌≡◌, ◌<◌, ◌≤◌, ◌⊎◌, inl, inr, true, ℕ, zero, suc, List, ◌++◌, length, append-nil, sym, ap, ◌∙◌, subst, arith, refl, Option, Some}
+use Rattle.std.proofs.Common.{◌≡◌, ◌<◌, ◌≤◌, ◌⊎◌, inl, inr, true, ℕ, zero, suc, List, ◌++◌, length, sym, ap, ◌∙◌, subst, arith, refl, Option, Some}
 use Rattle.std.specs.Prelude.{is_some, option_map}
 use Rattle.std.proofs.lemmas.Bool.{false≢true}
 use Rattle.std.proofs.lemmas.Option.{none-some, same_Some}

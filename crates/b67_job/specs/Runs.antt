@@ -1,11 +1,12 @@
 -- How the run of a deck over core stops: with which status and text, after how many steps of the session that the deck
 -- opens, and with which machine.
-use Rattle.std.specs.Prelude.{◌≡◌, ℕ, ◌+◌, ◌<◌, ◌≤◌, ◌⊎◌, List, [], ◌++◌, length, Option, Some, None, IfSome}
+use Rattle.std.specs.Prelude.{◌≡◌, ℕ, ◌+◌, ◌<◌, ◌≤◌, ◌⊎◌, List, ◌++◌, length, Option, Some, None, IfSome}
 use Rattle.b67_io.specs.Line.{ended}
 use Rattle.b67_io.specs.Causes.{Rose}
 use Rattle.b67_model.specs.State.{Task, SessionJob}
 use Rattle.b67_model.specs.Need.{need}
 use Rattle.b67_model.specs.Lines.{run_text}
+use Rattle.b67_model.specs.InOrder.{IsInOrderButPlaces}
 use Rattle.b67_model.specs.Schedule.{Session}
 use Rattle.b67_model.specs.Run.{RunLine, StepResult, lines, after}
 use Rattle.b67_exec_cells.specs.Running.{code_area}
@@ -51,14 +52,15 @@ IsBeforeHalt r steps = IfSome r.halt (λ count. steps < count)
 abbrev pub IsWithinHalt : Run → ℕ → Type 0
 IsWithinHalt r steps = IfSome r.halt (λ count. steps ≤ count)
 
--- no task lives any more, and the halt isn't passed; the machine represents the session without a task. An exercise has its
--- line after the lines of the steps
+-- no task lives any more, and the halt isn't passed; the machine represents the session without a task, in order but for
+-- places. An exercise has its line after the lines of the steps
 pub record IsDone {B : Type 0} (d : Device B) (r : Run) (exercise : Option Exercise) (k : Machine) (text : Text) : Type 0 where
   pub session : Session
   pub printed : List RunLine
   pub comes : StandsAfter d r.session k session printed
   pub within : IsWithinHalt r k.tasks.made
   pub rests : RepresentsWithoutTasks (known_now d) k session
+  pub ordered : IsInOrderButPlaces session
   pub text_is : text ≡ record { front = run_text printed; last = summary exercise k.tasks.made }
 
 -- the machine represents the session to which the run came, of which this task makes the next step

@@ -24,7 +24,7 @@ module _ (known told : Option (List (List ℕ))) (k : Machine) (says : Says know
   rests s h = record { stage = inr (inr (record { known = known; says = says; session = s; rests = h })); countable = countable }
 
   by_answer : (exact : Type 0) (core count n steps : ℕ) (s : Session) (is_due : List ℕ) (answered : Result Progress Stop) → SliceMeets known exact core count n steps s is_due answered k → IsOpen told k
-  by_answer exact core count n steps s is_due (Ok progress.Ended) h = rests s h
+  by_answer exact core count n steps s is_due (Ok progress.Ended) h = rests s h.0
   by_answer exact core count n steps s is_due (Ok progress.Halted) (halt, (h, (m, t, next))) = lives s m t h next
   by_answer exact core count n steps s is_due (Ok progress.More) (all, halt, (h, (m, t, next))) = lives s m t h next
   by_answer exact core count n steps s is_due (Err (stops.NoCore words size)) meets = lives s meets.0.member meets.0.task meets.0.stands meets.0.next

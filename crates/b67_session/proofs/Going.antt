@@ -211,7 +211,7 @@ module _ {K : Type 0} (taken : K → Option (List ℕ)) (exact : Type 0) (known 
         was = p.was;
         next = λ tells. refl;
         prints = p.prints;
-        meets = rests_now known now g.session g.stands none;
+        meets = (rests_now known now g.session g.stands none, g.stands.ordered);
       }
 
   -- one step more was tried: the halt wasn't reached

@@ -4,6 +4,7 @@ use Rattle.b67_io.specs.Told.{Took}
 use Rattle.b67_model.specs.State.{Task, SessionJob}
 use Rattle.b67_model.specs.Need.{need, need_next}
 use Rattle.b67_model.specs.Lines.{run_text}
+use Rattle.b67_model.specs.InOrder.{IsInOrderButPlaces}
 use Rattle.b67_model.specs.Schedule.{Session}
 use Rattle.b67_model.specs.Run.{RunLine, StepResult, after, lines, live_tasks}
 use Rattle.b67_session_lines.specs.Moments.{first_part, last_part, due}
@@ -137,7 +138,7 @@ GoesOn known s new = StandsAt known new s × ((m : SessionJob) × (t : Task) × 
 -- how a slice of n steps ended after so many that led to a session, over a core of so many words and a device of so many
 -- sectors, of which this is known. `exact` is whether anything was known of them at the start
 abbrev pub SliceMeets : Option (List (List ℕ)) → Type 0 → ℕ → ℕ → ℕ → ℕ → Session → List ℕ → Result Progress Stop → Machine → Type 0
-SliceMeets known exact core count n steps s is_due (Ok progress.Ended) new = RepresentsWithoutTasks known new s
+SliceMeets known exact core count n steps s is_due (Ok progress.Ended) new = RepresentsWithoutTasks known new s × IsInOrderButPlaces s
 SliceMeets known exact core count n steps s is_due (Ok progress.Halted) new =
     (new.tasks.halt ≡ Some new.tasks.made) × GoesOn known s new
 SliceMeets known exact core count n steps s is_due (Ok progress.More) new =

@@ -84,7 +84,6 @@ fn go_on<B: Backing, K: Sink>(
 }
 
 /// The steps of a slice, after the lines of LIMIT that are due, if there are any.
-#[inline(always)]
 fn make_slice<B: Backing, K: Sink>(
     machine: &mut Machine,
     n: u64,
@@ -142,7 +141,7 @@ fn make_slice<B: Backing, K: Sink>(
 /// call the backing. If nothing is known of what the device's sectors hold, the words that it gives back may be others, and
 /// as many. After `Ended` the machine represents the session without a task; if it was known what the sectors hold, the one
 /// after the steps. Whatever the device gives back, the machine then represents some session, in order but for places
-/// if a task lives.
+/// if a task lives or the slice set out from such a session.
 ///
 /// There is no `Stop` if it is known what the device's sectors hold, no count of failures rises, and core and sectors suffice
 /// for the steps that are to be made, up to the halt.
