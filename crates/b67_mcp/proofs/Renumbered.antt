@@ -34,15 +34,12 @@ use Rattle.b67_layout_store.proofs.Arrays.{Renumbers, slots_same}
 use Rattle.b67_layout_store.proofs.Objects.{old_object, replaces}
 use Rattle.b67_task_tables.specs.declared.tables.Machine.{Machine}
 use Rattle.b67_task_tables.specs.Tables.{task_row, job_row, counts_of, TasksShow, MachineRepresents}
+use Rattle.b67_mcp_process.proofs.Moved.{same_jobs}
 use Rattle.b67_mcp.proofs.Tables.{WaitsThere, jobs_kept, tables_after}
 
 -- what its view says of a machine
 pub seen : (x : Storage) (told : Option (List (List ℕ))) (k : Machine) (plan : Placement) (s : Session) → IsInOrderButCounts s → MachineRepresents x told k plan s → MachineCanPage x k.cpu k.areas k.sectors told (machine_view plan s.jobs)
 seen x told k plan s o h = record { stands = h.session.holds.memory; low = h.storage.low; shelf = h.storage.shelf; device = says_of x.device told h.storage.device; copies = copies_of x k.cpu plan s o h.session }
-
-same_jobs : (ms : List SessionJob) → AllAlike ms ms
-same_jobs [] = tt
-same_jobs (m ∷ ms) = (record { number = refl; stack_size = refl; dictionary = refl; count = refl; tasks = refl }, same_jobs ms)
 
 -- a job with the same tasks
 alike_changed : (n : ℕ) (m : SessionJob) (job : Job) (ms : List SessionJob) → keyed number_of n ms ≡ Some m → job.tasks ≡ m.progress.job.tasks

@@ -21,7 +21,7 @@ use Rattle.b67_layout_spans.proofs.Sessions.{copies_of}
 use Rattle.b67_task_tables.specs.declared.tables.Machine.{Machine}
 use Rattle.b67_task_tables.specs.Tables.{MachineRepresents}
 
-same_jobs : (ms : List SessionJob) → AllAlike ms ms
+pub same_jobs : (ms : List SessionJob) → AllAlike ms ms
 same_jobs [] = tt
 same_jobs (m ∷ ms) = (record { number = refl; stack_size = refl; dictionary = refl; count = refl; tasks = refl }, same_jobs ms)
 

@@ -83,44 +83,6 @@ fn go_on<B: Backing, K: Sink>(
     }
 }
 
-/// The steps of a slice, after the lines of LIMIT that are due, if there are any.
-fn make_slice<B: Backing, K: Sink>(
-    machine: &mut Machine,
-    n: u64,
-    backing: &mut B,
-    paper: &mut K,
-) -> Result<Progress, Stop>
-    requires open { IsOpen (B.holds backing.old) machine.old }
-    requires sized { B.size backing.old + 1 ≡ length machine.old.sectors.links }
-    ensures row { (known : Option (List (List ℕ))) (s : Session) → Says known (B.holds backing.old) → StandsAt known machine.old s
-        → Slices K.taken (content_after known (B.holds backing.new)) (known ≢ None) (B.size backing.old) n s result machine.old machine.new paper.old paper.new }
-    ensures present { (known : Option (List (List ℕ))) (s : Session) (m : SessionJob) (t : Task) → Says known (B.holds backing.old) → (h : StandsAt known machine.old s) → IsNext s m t
-        → IfPresent (known ≢ None) (length machine.old.cpu.core) n h.storage h.plan s m t result machine.old machine.new backing.old backing.new }
-    ensures resumed { (known : Option (List (List ℕ))) (h : Session) (part : StepResult) → Says known (B.holds backing.old) → IsLimited known machine.old h part
-        → Resumes K.taken known (content_after known (B.holds backing.new)) (B.size backing.old) n h part result machine.old machine.new backing.old backing.new paper.old paper.new }
-    ensures ended { (known : Option (List (List ℕ))) (s : Session) → RepresentsWithoutTasks known machine.old s
-        → StaysEnded result machine.old machine.new backing.old backing.new paper.old paper.new }
-    ensures complete { (known : Option (List (List ℕ))) (s : Session) → known ≢ None → Says known (B.holds backing.old) → SetsOut known machine.old s
-        → Suffices (length machine.old.cpu.core) (B.size backing.old) n machine.old.tasks s → Stayed B.faults backing.old backing.new → Stayed K.faults paper.old paper.new
-        → IsOk result }
-    ensures open { IsOpen (B.holds backing.new) machine.new }
-    ensures shaped { IsShaped machine.new }
-    ensures causes { CallCauses B.faults K.faults backing.old backing.new paper.old paper.new result }
-    ensures keeps { Keeps machine.old machine.new }
-    ensures device { DeviceAfterCalls B.holds B.size B.calls B.faults backing.old backing.new }
-{
-    if machine.tasks.rows.is_empty() {
-        return Ok(Progress::Ended);
-    }
-    if !is_at_limit(&machine.tasks) {
-        return go_on(machine, n, backing, paper);
-    }
-    match end_by_limit(machine, paper) {
-        Ok(()) => go_on(machine, n, backing, paper),
-        Err(_failed) => Err(Stop::PrintFault),
-    }
-}
-
 /// Makes steps of a session of any jobs and tasks until no task lives, the count of the halt is reached, or `n` were made,
 /// looked at in this order. Each step's text is printed as the step is made. Without a task it answers `Ended`, and nothing is
 /// printed or changed.
@@ -167,5 +129,14 @@ pub fn slice<B: Backing, K: Sink>(
         → IsOk result }
     ensures leaves { SliceLeaves B.holds B.size B.calls B.faults K.faults result machine.old machine.new backing.old backing.new paper.old paper.new }
 {
-    make_slice(machine, n, backing, paper)
+    if machine.tasks.rows.is_empty() {
+        return Ok(Progress::Ended);
+    }
+    if !is_at_limit(&machine.tasks) {
+        return go_on(machine, n, backing, paper);
+    }
+    match end_by_limit(machine, paper) {
+        Ok(()) => go_on(machine, n, backing, paper),
+        Err(_failed) => Err(Stop::PrintFault),
+    }
 }

@@ -1,5 +1,5 @@
 -- A call that starts a task starts one alone, prints nothing and touches nothing.
-use Rattle.std.proofs.Common.{◌≡◌, ◌≢◌, ℕ, ◌+◌, ◌<◌, ◌≤◌, ltb, eqb, ℤ, pos, negsuc, List, [], ◌∷◌, length, Option, None, Ok, refl, sym, ◌∙◌, arith, inl, inr, ◌⊎◌, ⊎_elim}
+use Rattle.std.proofs.Common.{◌≡◌, ℕ, ◌+◌, ◌<◌, ◌≤◌, ltb, eqb, ℤ, pos, negsuc, List, [], ◌∷◌, length, Option, None, Ok, refl, sym, ◌∙◌, arith, inl, inr, ◌⊎◌, ⊎_elim}
 use Rattle.std.proofs.lemmas.Bool.{eqb-true, cases_lt}
 use Rattle.std.proofs.lemmas.List.{length-map}
 use Rattle.b67_lemmas.proofs.Members.{length_change}

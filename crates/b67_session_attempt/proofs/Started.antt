@@ -11,7 +11,7 @@ use Rattle.b67_model.specs.Words.{Word, Operand, Original, whole}
 use Rattle.b67_model.specs.Operators.{Reading}
 use Rattle.b67_model.specs.State.{Frame, Array, Standing, Marked, Entered, Task, JobConstants, Job, SessionJob, OperatorContext, top, below_top}
 use Rattle.b67_model.specs.Keyed.{keyed}
-use Rattle.b67_model.specs.Arrays.{array, with_array, all_zero, resized}
+use Rattle.b67_model.specs.Arrays.{array, with_array, all_zero}
 use Rattle.b67_model.specs.Chase.{End, AtCell, AtElement, AtArray, AtProc, AtIntrinsic, follow_reference}
 use Rattle.b67_model.specs.Steps.{Line, Done, Goes, Leaves, Waits, top_of, cells_of, result}
 use Rattle.b67_model.specs.Entry.{needs_level, back_to}

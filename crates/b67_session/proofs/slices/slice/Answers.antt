@@ -1,10 +1,190 @@
+use Rattle.std.proofs.Common.{rules, ◌≢◌, ℕ, List, Option, None, sym, ap, ◌∙◌, subst, inl, inr, arith}
+use Rattle.b67_layout_storage.specs.Machine.{content_after}
+use Rattle.b67_layout_storage.proofs.Devices.{Served-none}
+use Rattle.b67_overlay.proofs.Chains.{retold-same}
+use Rattle.b67_task_tables.specs.declared.tables.Tasks.{Tasks}
+use Rattle.b67_session_attempt.specs.Passed.{AreCountable}
+use Rattle.b67_session.specs.Slices.{StandsLimited}
+use Rattle.b67_session.proofs.Shaping.{shaped}
+use Rattle.b67_session.proofs.Going.{Going, going-begins, going-ended}
+use Rattle.b67_session.proofs.Pausing.{says_retold}
+use Rattle.b67_session.proofs.Rows.{empty_rows, some_rows}
+use Rattle.b67_session.proofs.Resuming.{stands_not, limited_not, rests_not, next_row, limited_row, open_stands, open_limited, has_limited, keeps_counts, over_stands, over_prints, cut_again, cut_limited}
+use Rattle.b67_session.proofs.Again.{open_again, limited}
+use Rattle.b67_session.proofs.Completing.{no_fault, completes}
+use Rattle.b67_session.proofs.slices.slice.Given.{Over}
+use Rattle.b67_session.proofs.slices.slice.Goals.{Else-not-is_at_limit}
 use Rattle.b67_session.proofs.slices.slice.Goals as goal
 
-pub returns-clause-leaves : goal.returns-clause-leaves
-returns-clause-leaves g c = record {
-  goes_on = c.make_slice.ensures.open;
-  shaped = c.make_slice.ensures.shaped;
-  causes = c.make_slice.ensures.causes;
-  keeps = c.make_slice.ensures.keeps;
-  served = c.make_slice.ensures.device;
-}
+-- ---- no task
+
+pub returns-then-is_empty-clause-row : goal.returns-then-is_empty-clause-row
+returns-then-is_empty-clause-row g c = λ known s says h.
+    (let k = c.args.machine.now in
+    let told = g.B.Backing.holds c.args.backing.now in
+    let P : Option (List (List ℕ)) → Type 0 = λ d. Going g.K.Sink.taken (known ≢ None) d 0 s k k c.args.paper.now c.args.paper.now in
+    going-ended g.K.Sink.taken (known ≢ None) (content_after known told) (g.B.Backing.size c.args.backing.now) c.args.n 0 s k k c.args.paper.now c.args.paper.now
+    (subst P (sym (retold-same known told says)) (going-begins g.K.Sink.taken (known ≢ None) known s k c.args.paper.now h)) (omega arith) (empty_rows k.tasks c.if-is_empty.ensures))
+
+pub returns-then-is_empty-clause-present : goal.returns-then-is_empty-clause-present
+returns-then-is_empty-clause-present g c = λ known s m t says h n. absurd (next_row known c.args.machine.now s m t h n (empty_rows c.args.machine.now.tasks c.if-is_empty.ensures))
+
+pub returns-then-is_empty-clause-resumed : goal.returns-then-is_empty-clause-resumed
+returns-then-is_empty-clause-resumed g c = λ known h part says l. absurd (limited_row known c.args.machine.now h part l (empty_rows c.args.machine.now.tasks c.if-is_empty.ensures))
+
+-- ---- a step, if any
+
+pub go_on-requires-clause-stands : goal.go_on-requires-clause-stands
+go_on-requires-clause-stands g c = open_stands (g.B.Backing.holds c.args.backing.now) c.args.machine.now c.requires.open (some_rows c.args.machine.now.tasks c.if-is_empty.ensures) c.is_at_limit.ensures c.if-not-is_at_limit.true
+
+pub go_on-requires-clause-countable : goal.go_on-requires-clause-countable
+go_on-requires-clause-countable g c = c.requires.open.countable
+
+pub returns-then-not-is_at_limit-clause-resumed : goal.returns-then-not-is_at_limit-clause-resumed
+returns-then-not-is_at_limit-clause-resumed g c = λ known h part says l. absurd (limited_not known c.args.machine.now h part l c.is_at_limit.ensures c.if-not-is_at_limit.true)
+
+pub returns-then-not-is_at_limit-clause-complete : goal.returns-then-not-is_at_limit-clause-complete
+returns-then-not-is_at_limit-clause-complete g c = λ known s tells says sets ample calm quiet.
+    completes g.K.Sink.taken known (content_after known (g.B.Backing.holds c.go_on.new.backing)) (g.B.Backing.size c.args.backing.now) c.args.n c.go_on.result c.args.machine.now c.go_on.new.machine
+    c.args.backing.now c.go_on.new.backing c.args.paper.now c.go_on.new.paper
+    (λ s h. c.go_on.ensures.row known s says h) (λ h part l. returns-then-not-is_at_limit-clause-resumed g c known h part says l) c.go_on.ensures.keeps tells s sets ample
+    (no_fault g.B.Backing.faults g.K.Sink.faults c.args.backing.now c.go_on.new.backing c.args.paper.now c.go_on.new.paper c.go_on.result c.go_on.ensures.causes calm quiet)
+
+-- ---- the lines of LIMIT
+
+context : (g : Over) (c : Else-not-is_at_limit g) → StandsLimited (g.B.Backing.holds c.args.backing.now) c.args.machine.now
+context g c = open_limited (g.B.Backing.holds c.args.backing.now) c.args.machine.now c.requires.open (some_rows c.args.machine.now.tasks c.if-is_empty.ensures) c.is_at_limit.ensures c.if-not-is_at_limit.false
+
+pub end_by_limit-requires : goal.end_by_limit-requires
+end_by_limit-requires g c = has_limited (g.B.Backing.holds c.args.backing.now) c.args.machine.now (context g (goal.at.end_by_limit-requires g c).Else-not-is_at_limit)
+
+pub go_on-requires-in-Ok-clause-stands : goal.go_on-requires-in-Ok-clause-stands
+go_on-requires-in-Ok-clause-stands g c =
+    let l = context g (goal.at.go_on-requires-in-Ok-clause-stands g c).Else-not-is_at_limit in
+    let q = l.limited in
+    record {
+      known = l.known;
+      says = l.says;
+      session = l.part.session;
+      stands = over_stands l.known l.session l.part c.args.machine.now q g.K.Sink.taken c.end_by_limit.new.machine c.args.paper.now c.end_by_limit.new.paper
+          (c.in-Ok.ensures.ends q.storage l.known q.plan l.session l.part q.ordered q.is q.stands);
+    }
+
+pub go_on-requires-in-Ok-clause-countable : goal.go_on-requires-in-Ok-clause-countable
+go_on-requires-in-Ok-clause-countable g c = subst (λ (z : Tasks). AreCountable z.jobs) (sym c.end_by_limit.ensures.keeps.tasks) c.requires.open.countable
+
+pub go_on-requires-in-Ok-clause-sized : goal.go_on-requires-in-Ok-clause-sized
+go_on-requires-in-Ok-clause-sized g c = omega (arith, c.end_by_limit.ensures.keeps.sectors, c.requires.sized)
+
+pub returns-in-Ok-clause-row : goal.returns-in-Ok-clause-row
+returns-in-Ok-clause-row g c = λ known s says h. absurd (stands_not known c.args.machine.now s h c.is_at_limit.ensures c.if-not-is_at_limit.false)
+
+pub returns-in-Ok-clause-present : goal.returns-in-Ok-clause-present
+returns-in-Ok-clause-present g c = λ known s m t says h n. absurd (stands_not known c.args.machine.now s h c.is_at_limit.ensures c.if-not-is_at_limit.false)
+
+pub returns-in-Ok-clause-resumed : goal.returns-in-Ok-clause-resumed
+returns-in-Ok-clause-resumed g c = λ known h part says l.
+    (let ends = c.in-Ok.ensures.ends l.storage known l.plan h part l.ordered l.is l.stands in
+    let stands = over_stands known h part c.args.machine.now l g.K.Sink.taken c.end_by_limit.new.machine c.args.paper.now c.end_by_limit.new.paper ends in
+    inr (record {
+      middle = c.end_by_limit.new.machine;
+      printer = c.end_by_limit.new.paper;
+      stands = stands;
+      made = ap (λ (z : Tasks). z.made) c.end_by_limit.ensures.keeps.tasks;
+      unprinted = ends.1;
+      keeps = keeps_counts c.args.machine.now c.end_by_limit.new.machine c.end_by_limit.ensures.keeps;
+      prints = over_prints known h part c.args.machine.now l g.K.Sink.taken c.end_by_limit.new.machine c.args.paper.now c.end_by_limit.new.paper ends;
+      slices = c.go_on-in-Ok.ensures.row known part.session says stands;
+      present = λ q m t n. c.go_on-in-Ok.ensures.present known part.session m t says q n;
+      rests = λ none. (c.go_on-in-Ok.ensures.ended known part.session (record { storage = stands.storage; plan = stands.plan; stands = stands.stands; none = none })).backing;
+    }))
+
+pub returns-in-Ok-clause-ended : goal.returns-in-Ok-clause-ended
+returns-in-Ok-clause-ended g c = λ known s r. absurd (rests_not known c.args.machine.now s r (some_rows c.args.machine.now.tasks c.if-is_empty.ensures))
+
+pub returns-in-Ok-clause-complete : goal.returns-in-Ok-clause-complete
+returns-in-Ok-clause-complete g c = λ known s tells says sets ample calm quiet.
+    (let causes = c.go_on-in-Ok.ensures.causes in
+    let later = c.in-Ok.ensures.cause.later in
+    completes g.K.Sink.taken known (content_after known (g.B.Backing.holds c.go_on-in-Ok.new.backing)) (g.B.Backing.size c.args.backing.now) c.args.n c.go_on-in-Ok.result c.args.machine.now c.go_on-in-Ok.new.machine
+    c.args.backing.now c.go_on-in-Ok.new.backing c.args.paper.now c.go_on-in-Ok.new.paper
+    (λ s h. absurd (stands_not known c.args.machine.now s h c.is_at_limit.ensures c.if-not-is_at_limit.false)) (λ h part l. returns-in-Ok-clause-resumed g c known h part says l) (let first = keeps_counts c.args.machine.now c.end_by_limit.new.machine c.end_by_limit.ensures.keeps in
+    let rest = c.go_on-in-Ok.ensures.keeps in
+    record { core = rest.core ∙ first.core; sectors = rest.sectors ∙ first.sectors; halt = rest.halt ∙ first.halt; names = rest.names ∙ first.names }) tells s sets ample
+    (λ e. (let rose = causes.device e in omega (arith, rose, calm)), λ e. (let rose = causes.printer.failed e in omega (arith, later, rose, quiet))))
+
+pub returns-in-Err-clause-row : goal.returns-in-Err-clause-row
+returns-in-Err-clause-row g c = λ known s says h. absurd (stands_not known c.args.machine.now s h c.is_at_limit.ensures c.if-not-is_at_limit.false)
+
+pub returns-in-Err-clause-present : goal.returns-in-Err-clause-present
+returns-in-Err-clause-present g c = λ known s m t says h n. absurd (stands_not known c.args.machine.now s h c.is_at_limit.ensures c.if-not-is_at_limit.false)
+
+pub returns-in-Err-clause-resumed : goal.returns-in-Err-clause-resumed
+returns-in-Err-clause-resumed g c = λ known h part says l.
+    (let ends = c.in-Err.ensures.ends l.storage known l.plan h part l.ordered l.is l.stands in
+    inl (cut_again known h part c.args.machine.now l g.K.Sink.taken c.end_by_limit.new.machine c.args.paper.now c.end_by_limit.new.paper c.in-Err._failed c.args.backing.now ends))
+
+pub returns-in-Err-clause-ended : goal.returns-in-Err-clause-ended
+returns-in-Err-clause-ended g c = λ known s r. absurd (rests_not known c.args.machine.now s r (some_rows c.args.machine.now.tasks c.if-is_empty.ensures))
+
+pub returns-in-Err-clause-complete : goal.returns-in-Err-clause-complete
+returns-in-Err-clause-complete g c = λ known s tells says sets ample calm quiet. (let rose = c.in-Err.ensures.cause.failed in absurd (omega (arith, rose, quiet)))
+
+-- ---- what each leaves
+
+pub returns-then-is_empty-clause-leaves : goal.returns-then-is_empty-clause-leaves
+returns-then-is_empty-clause-leaves g c =
+    let goes_on = c.requires.open in
+    record {
+      goes_on = goes_on;
+      shaped = shaped _ _ goes_on;
+      causes = search rules;
+      keeps = search rules;
+      served = Served-none g.B.Backing.holds g.B.Backing.size g.B.Backing.calls g.B.Backing.faults c.args.backing.now;
+    }
+
+pub returns-then-not-is_at_limit-clause-leaves : goal.returns-then-not-is_at_limit-clause-leaves
+returns-then-not-is_at_limit-clause-leaves g c =
+    let goes_on = (let l = open_stands (g.B.Backing.holds c.args.backing.now) c.args.machine.now c.requires.open (some_rows c.args.machine.now.tasks c.if-is_empty.ensures) c.is_at_limit.ensures c.if-not-is_at_limit.true in
+    open_again g.K.Sink.taken (content_after l.known (g.B.Backing.holds c.go_on.new.backing)) (g.B.Backing.holds c.go_on.new.backing) (l.known ≢ None) (g.B.Backing.size c.args.backing.now) c.args.n l.session c.go_on.result
+    c.args.machine.now c.go_on.new.machine c.args.paper.now c.go_on.new.paper (says_retold l.known (g.B.Backing.holds c.go_on.new.backing)) c.go_on.ensures.countable (c.go_on.ensures.row l.known l.session l.says l.stands)) in
+    record {
+      goes_on = goes_on;
+      shaped = shaped _ _ goes_on;
+      causes = c.go_on.ensures.causes;
+      keeps = c.go_on.ensures.keeps;
+      served = c.go_on.ensures.device;
+    }
+
+pub returns-in-Ok-clause-leaves : goal.returns-in-Ok-clause-leaves
+returns-in-Ok-clause-leaves g c =
+    let goes_on = (let l = context g (goal.at.returns-in-Ok-clause-leaves g c).Else-not-is_at_limit in
+    let q = l.limited in
+    let stands = over_stands l.known l.session l.part c.args.machine.now q g.K.Sink.taken c.end_by_limit.new.machine c.args.paper.now c.end_by_limit.new.paper (c.in-Ok.ensures.ends q.storage l.known q.plan l.session l.part q.ordered q.is q.stands) in
+    open_again g.K.Sink.taken (content_after l.known (g.B.Backing.holds c.go_on-in-Ok.new.backing)) (g.B.Backing.holds c.go_on-in-Ok.new.backing) (l.known ≢ None) (g.B.Backing.size c.args.backing.now) c.args.n l.part.session c.go_on-in-Ok.result
+    c.end_by_limit.new.machine c.go_on-in-Ok.new.machine c.end_by_limit.new.paper c.go_on-in-Ok.new.paper (says_retold l.known (g.B.Backing.holds c.go_on-in-Ok.new.backing)) c.go_on-in-Ok.ensures.countable (c.go_on-in-Ok.ensures.row l.known l.part.session l.says stands)) in
+    record {
+      goes_on = goes_on;
+      shaped = shaped _ _ goes_on;
+      causes = search rules;
+      keeps = (let first = keeps_counts c.args.machine.now c.end_by_limit.new.machine c.end_by_limit.ensures.keeps in
+          let rest = c.go_on-in-Ok.ensures.keeps in
+          record { core = rest.core ∙ first.core; sectors = rest.sectors ∙ first.sectors; halt = rest.halt ∙ first.halt; names = rest.names ∙ first.names });
+      served = c.go_on-in-Ok.ensures.device;
+    }
+
+pub returns-in-Err-clause-leaves : goal.returns-in-Err-clause-leaves
+returns-in-Err-clause-leaves g c =
+    let goes_on = (let l = context g (goal.at.returns-in-Err-clause-leaves g c).Else-not-is_at_limit in
+    let q = l.limited in
+    limited l.known (g.B.Backing.holds c.args.backing.now) c.end_by_limit.new.machine l.says
+    (subst (λ (z : Tasks). AreCountable z.jobs) (sym c.end_by_limit.ensures.keeps.tasks) c.requires.open.countable) l.session l.part
+    (cut_limited l.known l.session l.part c.args.machine.now q g.K.Sink.taken c.end_by_limit.new.machine c.args.paper.now c.end_by_limit.new.paper c.in-Err._failed
+    (c.in-Err.ensures.ends q.storage l.known q.plan l.session l.part q.ordered q.is q.stands))) in
+    record {
+      goes_on = goes_on;
+      shaped = shaped _ _ goes_on;
+      causes = search rules;
+      keeps = keeps_counts c.args.machine.now c.end_by_limit.new.machine c.end_by_limit.ensures.keeps;
+      served = Served-none g.B.Backing.holds g.B.Backing.size g.B.Backing.calls g.B.Backing.faults c.args.backing.now;
+    }
