@@ -25,6 +25,7 @@ use b67_stack::{Cpu, Step};
 use b67_word::{Fault, Place};
 
 /// MKST: puts a mark on the stack, or faults if the stack is as high as its slot. The task goes on at `next`.
+#[inline(never)]
 pub fn mkst(cpu: &mut Cpu, next: Place) -> Step
     requires { RunsSome cpu.old }
     ensures row { ForEach cpu.old (λ x plan s m t. Meets x plan s m result cpu.old cpu.new (rows.mkst (here m t next))) }
@@ -106,6 +107,7 @@ fn enter(cpu: &mut Cpu, cell: u32, next: Place) -> Step
 
 /// ENTR: enters the procedure that the first cell of the marked activation record on top refers to. Its caller goes on
 /// at `next`. If the reference ends at an intrinsic, the answer is its number, with nothing changed.
+#[inline(never)]
 pub fn entr(cpu: &mut Cpu, next: Place) -> Step
     requires runs { RunsSome cpu.old }
     requires next { IsPlace next }

@@ -59,6 +59,7 @@ fn enter(cpu: &mut Cpu) -> Step
 /// INVALID OPERAND if none of the two is an operand or the procedure's level doesn't fit, the faults of references,
 /// MEMORY PROTECT if it ends at a read-only element, an array or an intrinsic, STACK OVERFLOW. If an element's array
 /// is absent, nothing is changed.
+#[inline(never)]
 pub fn stod(cpu: &mut Cpu, next: Place) -> Step
     requires { RunsSome cpu.old }
     ensures row { ForEach cpu.old (λ x plan s m t. let h = here m t next in Meets x plan s m result cpu.old cpu.new (rows.store false h (cells_of h))) }
@@ -70,6 +71,7 @@ pub fn stod(cpu: &mut Cpu, next: Place) -> Step
 }
 
 /// The same, but the operand stays on the stack.
+#[inline(never)]
 pub fn ston(cpu: &mut Cpu, next: Place) -> Step
     requires { RunsSome cpu.old }
     ensures row { ForEach cpu.old (λ x plan s m t. let h = here m t next in Meets x plan s m result cpu.old cpu.new (rows.store true h (cells_of h))) }

@@ -70,6 +70,7 @@ pub fn enter_in_place(cpu: &mut Cpu) -> Step
 /// entered in its place, and the operator is executed again with what it returns. STACK UNDERFLOW, the faults of references,
 /// INVALID OPERAND if it ends at an intrinsic or if the procedure's level doesn't fit, STACK OVERFLOW. If an
 /// element's array is absent, nothing is changed.
+#[inline(never)]
 pub fn load(cpu: &mut Cpu, next: Place) -> Step
     requires { RunsSome cpu.old }
     ensures row { ForEach cpu.old (λ x plan s m t. let h = here m t next in Meets x plan s m result cpu.old cpu.new (rows.load h (cells_of h))) }

@@ -75,6 +75,7 @@ fn index_below(index: Word, length: u32) -> Result<u32, Fault>
 
 /// The original and the index of the element that a word's array and an operand give. INVALID OPERAND if the index is
 /// none, the faults of `array_of`, those of `index_below`.
+#[inline(always)]
 fn item_at(cpu: &Cpu, reference: Word, index: Word) -> Result<(u32, u32), Fault>
     requires { MayFollow cpu.now reference }
     ensures { ForEach cpu.now (λ x plan s m t. (q : Place) (v i : words.Word) → IsFollowed x plan m t reference v → bits_in index ≡ operand i
@@ -137,6 +138,7 @@ fn item_copy(cpu: &Cpu, original: u32, index: u32) -> Word
 }
 
 /// INDX: an element's copy of its array's descriptor, in the place of the two top cells, goes on at `next`.
+#[inline(never)]
 pub fn indx(cpu: &mut Cpu, next: Place) -> Step
     requires { RunsSome cpu.old }
     ensures row { ForEach cpu.old (λ x plan s m t. let h = here m t next in Meets x plan s m result cpu.old cpu.new (rows.indx h (cells_of h))) }
@@ -151,6 +153,7 @@ pub fn indx(cpu: &mut Cpu, next: Place) -> Step
 }
 
 /// NXLV: an element in the place of the two top cells, goes on at `next`. If its array is absent, nothing is changed.
+#[inline(never)]
 pub fn nxlv(cpu: &mut Cpu, next: Place) -> Step
     requires { RunsSome cpu.old }
     ensures row { ForEach cpu.old (λ x plan s m t. let h = here m t next in Meets x plan s m result cpu.old cpu.new (rows.nxlv h (cells_of h))) }

@@ -50,6 +50,7 @@ fn put(cpu: &mut Cpu, at: u32, w: Word, keeps: bool, next: Place)
 
 /// Stores the operand of the two top cells where the other one leads, and takes both off, or the other one where the
 /// operand is kept.
+#[inline(always)]
 fn store(cpu: &mut Cpu, keeps: bool, next: Place) -> Step
     requires { RunsSome cpu.old }
     ensures row { ForEach cpu.old (λ x plan s m t. let h = here m t next in EntersOrMeets x plan s m result cpu.old cpu.new (enters_at (store_end h (cells_of h))) (rows.store keeps h (cells_of h))) }

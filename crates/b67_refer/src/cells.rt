@@ -74,6 +74,7 @@ fn cell_in(core: &Core, regs: &Regs, base: u32, offset: u16) -> Result<u32, Faul
 /// The core address of the cell that a couple names in the running environment. INVALID ADDRESS exactly if the level
 /// is above the running one, or the activation record at that level has no such cell: displacements 2 and up, and 8 to
 /// 18 of the MCP.
+#[inline(always)]
 pub fn cell_of(core: &Core, regs: &Regs, display: &[u32; 32], c: Couple) -> Result<u32, Fault>
     requires { (a : RunningContext core.now regs.now) × IsShown a display.now }
     ensures { (a : RunningContext core.now regs.now) (q : Place) → IsShown a display.now
