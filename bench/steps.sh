@@ -32,6 +32,10 @@ done
 # the outer block calls its procedure again and again
 sed -e '0,/^MKST$/s//L: MKST/' -e '0,/^EXIT$/s//BRUN L/' -e 's/^?ASM/?LIMIT 1\n?ASM/' "$here/../decks/manboy/stdin" >"$room/manboy"
 row man-or-boy "$room/manboy" 32768
+# the same loop by one task alone, and while others live
+few=$(sh "$here/tasks.sh" 0 200000 | sed '/^?SWITCH/d; /^?END/q' | count 16384)
+many=$(sh "$here/tasks.sh" 0 400000 | sed '/^?SWITCH/d; /^?END/q' | count 16384)
+echo "counting-alone 16384 $(((many - few) / 200000))"
 for children in 0 14; do
     few=$(sh "$here/tasks.sh" $children 200000 | count 16384)
     many=$(sh "$here/tasks.sh" $children 400000 | count 16384)
