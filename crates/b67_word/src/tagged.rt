@@ -1,6 +1,6 @@
 //! The machine's words.
 
-ghost use Rattle.std.specs.Prelude.{◌≡◌, ◌↔◌, ◌+◌, ◌<◌, ◌≤◌, ◌^◌, IsSome, IfSome};
+ghost use Rattle.std.specs.Prelude.{◌≡◌, ◌↔◌, ◌+◌, ◌<◌, ◌≤◌, ◌^◌, IsSome, IfSome, true};
 ghost use Rattle.b67_word.specs.Tagged.{word, bits_at, field_of, IsWord};
 ghost use Rattle.b67_word.specs.Operands.{operand_of, number_of};
 
@@ -59,6 +59,14 @@ impl Word {
         ensures small { result < 2 ^ 48 }
     {
         self.0 % 0x1_0000_0000_0000
+    }
+
+    /// Whether it is the operand of a natural number: the tag is 0, and of the bits only 38 to 0 are set.
+    #[inline(always)]
+    pub fn is_natural(self) -> bool
+        ensures { result ≡ true → (self.tag ≡ 0) × (self.bits < 2 ^ 39) }
+    {
+        self.0 < 0x80_0000_0000
     }
 
     /// The number in `width` bits from bit `low` up.
