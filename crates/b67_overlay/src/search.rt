@@ -19,6 +19,9 @@ fn turned(w: Word, area: u32, original: u32) -> Word
     requires { original < 2 ^ 20 }
     ensures { Turns area original w result }
 {
+    if w.tag() != 5 || DataDesc::is_original(w) {
+        return w;
+    }
     match DataDesc::from_word(w) {
         Some(d) => {
             if d.present && d.copy && d.address == area {
