@@ -1,5 +1,5 @@
 -- What the search for a cell finds, by the address of the frame's mark.
-use Rattle.std.proofs.Common.{◌≡◌, ℕ, ◌+◌, ◌<◌, ◌≤◌, ◌^◌, List, Some, Ok, Err, refl, sym, ◌∙◌, ap, arith, ◌⊎◌, ⊎_elim, inl, inr, subst, length}
+use Rattle.std.proofs.Common.{◌≡◌, ℕ, ◌+◌, ◌<◌, ◌≤◌, ◌^◌, List, ◌∷◌, Some, Ok, Err, refl, sym, ◌∙◌, ap, arith, ◌⊎◌, ⊎_elim, inl, inr, subst, length}
 use Rattle.std.specs.List.{slice_get}
 use Rattle.b67_word.specs.Tagged.{Tagged}
 use Rattle.b67_word.specs.declared.couples.Place.{Place}
@@ -15,8 +15,12 @@ use Rattle.b67_refer.specs.RunningContext.{LiveContext}
 use Rattle.b67_refer.specs.LiveCells.{CellMeets}
 use Rattle.b67_refer.proofs.Bases.{slot_inside, dictionary_is, dictionary_low, slot_zero}
 use Rattle.b67_refer.proofs.Seats.{seat}
-use Rattle.b67_refer.proofs.Rule.{misses, marks, lands}
-use Rattle.b67_refer.proofs.Unders.{is_mcp, is_dictionary, entries_is, high_address}
+use Rattle.b67_refer.proofs.Rule.{misses, marks, lands, lands_last, seat_address}
+use Rattle.b67_refer.proofs.Unders.{is_mcp, is_dictionary, entries_is, high_address, last_slot, one_word}
+use Rattle.b67_refer.proofs.Slots.{base, acts}
+use Rattle.b67_stack.specs.Stacks.{stack_words}
+use Rattle.b67_layout.specs.Placement.{spot_in}
+use Rattle.b67_layout.proofs.Frames.{height-is}
 use Rattle.b67_refer.proofs.Fixed.{mcp_misses, mcp_lands, dictionary_misses, dictionary_lands}
 
 module _ (core : List Tagged) (r : Regs) (a : LiveContext core r) (q : Place) (f from offset : ℕ) (n : NamesEntered (reach_of a.member.progress.job a.task) f) (e : from ≡ frame_address a.plan a.member a.task f) where
@@ -37,6 +41,19 @@ module _ (core : List Tagged) (r : Regs) (a : LiveContext core r) (q : Place) (f
         → CellMeets a q f offset (Ok (from + offset)) (cell (here a.member a.task q) f offset)
     task_lands low up plain =
         let l = lands core r a q f n.standing (seat core r a f n.standing n.among own) n.entered own offset low (omega (arith, up, e)) (λ k w d u there tag. plain k w (omega (arith, d, e)) (omega (arith, u, e)) there tag) in
+        let F : ℕ → Type 0 = λ x. CellMeets a q f offset (Ok (x + offset)) (cell (here a.member a.task q) f offset) in
+        subst F (sym e) l
+
+    -- in the running stack's last frame
+    pub task_tops : from ≡ r.f → 2 ≤ offset → from + offset ≤ top → CellMeets a q f offset (Ok (from + offset)) (cell (here a.member a.task q) f offset)
+    task_tops last low up =
+        let b = seat core r a f n.standing n.among own in
+        let h = height-is a.plan a.member.constants.number a.member.progress.job b.slot b.outer b.below in
+        let at = seat_address core r a q f n.standing b n.entered own in
+        let w = one_word (spot_in b.slot b.outer b.below) b.frame.standing in
+        let full : base core r a b.slot + stack_words (acts core r a b.slot b.outer (b.frame ∷ b.below)) ≡ b.top =
+        ⊎_elim (λ z. z.0) (λ z. absurd (omega (arith, z, h, at, w, last, e))) (b.part.last (last_slot core r a f n own (sym e ∙ last))) in
+        let l = lands_last core r a q f n.standing b n.entered own offset low (omega (arith, up, e)) full in
         let F : ℕ → Type 0 = λ x. CellMeets a q f offset (Ok (x + offset)) (cell (here a.member a.task q) f offset) in
         subst F (sym e) l
 

@@ -237,12 +237,9 @@ module _ (core : List Tagged) (r : Regs) (a : LiveContext core r) where
         (cases_lt k (frame_address a.plan a.member a.task f + 2 + length b.frame.cells))))
 
     -- else the cell is there
-    pub lands : (offset : ℕ) → 2 ≤ offset → frame_address a.plan a.member a.task f + offset ≤ b.top
-        → ((k : ℕ) (w : Tagged) → frame_address a.plan a.member a.task f + 2 ≤ k → k ≤ frame_address a.plan a.member a.task f + offset → slice_get core k ≡ Some w → w.tag ≡ 3 → ⊥)
-        → CellMeets a q f offset (Ok (frame_address a.plan a.member a.task f + offset)) (cell (here a.member a.task q) f offset)
-    lands offset low up plain = ⊎_elim
-        (λ (inside : offset < 2 + length b.frame.cells).
-        (let x = end_some b.frame.cells (offset - 2) (omega (arith, low, inside)) in
+    lands_inside : (offset : ℕ) → 2 ≤ offset → offset < 2 + length b.frame.cells → CellMeets a q f offset (Ok (frame_address a.plan a.member a.task f + offset)) (cell (here a.member a.task q) f offset)
+    lands_inside offset low inside =
+        let x = end_some b.frame.cells (offset - 2) (omega (arith, low, inside)) in
         let c = cell_in (offset - 2) x.0 x.1 in
         let at : 2 + (offset - 2) ≡ offset = omega (arith, low) in
         let t : nat_lt offset 2 ≡ false = le-ltb offset 2 low in
@@ -257,7 +254,18 @@ module _ (core : List Tagged) (r : Regs) (a : LiveContext core r) where
           stands = d.stands;
         } in
         let F : Answer Word → Type 0 = λ y. CellMeets a q f offset (Ok (frame_address a.plan a.member a.task f + offset)) y in
-        subst F (sym found) is))
+        subst F (sym found) is
+
+    -- in a stack's last frame all words up to the top are cells
+    pub lands_last : (offset : ℕ) → 2 ≤ offset → frame_address a.plan a.member a.task f + offset ≤ b.top → base core r a b.slot + stack_words (acts core r a b.slot b.outer (b.frame ∷ b.below)) ≡ b.top
+        → CellMeets a q f offset (Ok (frame_address a.plan a.member a.task f + offset)) (cell (here a.member a.task q) f offset)
+    lands_last offset low up full = lands_inside offset low (let y = cells_end in omega (arith, full, y, up))
+
+    pub lands : (offset : ℕ) → 2 ≤ offset → frame_address a.plan a.member a.task f + offset ≤ b.top
+        → ((k : ℕ) (w : Tagged) → frame_address a.plan a.member a.task f + 2 ≤ k → k ≤ frame_address a.plan a.member a.task f + offset → slice_get core k ≡ Some w → w.tag ≡ 3 → ⊥)
+        → CellMeets a q f offset (Ok (frame_address a.plan a.member a.task f + offset)) (cell (here a.member a.task q) f offset)
+    lands offset low up plain = ⊎_elim
+        (λ (inside : offset < 2 + length b.frame.cells). lands_inside offset low inside)
         (λ (past : 2 + length b.frame.cells ≤ offset). absurd (⊎_elim
         (λ (z : base core r a b.slot + stack_words (acts core r a b.slot b.outer (b.frame ∷ b.below)) ≡ b.top). (let y = cells_end in omega (arith, z, y, past, up)))
         (λ z. (let y = cells_end in let at : suc (base core r a b.slot) + stack_words (acts core r a b.slot b.outer (b.frame ∷ b.below)) ≡ frame_address a.plan a.member a.task f + 2 + length b.frame.cells = omega (arith, y) in

@@ -12,7 +12,7 @@ use Rattle.b67_model.specs.State.{Frame, Task, SessionJob, height}
 use Rattle.b67_model.specs.Run.{number_of}
 use Rattle.b67_model.specs.InOrder.{from_frame}
 use Rattle.b67_stack.specs.Shapes.{Locations, Fits, LieDownward}
-use Rattle.b67_stack.specs.Stacks.{StackPlace, Head, Marked, Entered, Activation, IsStack, HeadsFit, stack_words, mark_of, headed, words, toscw_of}
+use Rattle.b67_stack.specs.Stacks.{StackPlace, Head, Marked, Entered, Activation, IsStack, HeadsFit, stack_words, mark_place, mark_of, headed, words, toscw_of}
 use Rattle.b67_stack.specs.MachineView.{Slot, Running, Waiting, stack_of, SlotFits, MachineView}
 use Rattle.b67_stack.specs.Represents.{RepresentsSlot, RepresentsRunning}
 use Rattle.b67_stack.proofs.Lies.{Lie-under}
@@ -66,6 +66,7 @@ module _ (core : List Tagged) (r : Regs) (a : LiveContext core r) where
     pub low : base k + stack_words (acts k outer fs) ≤ top
     pub room : top < base k + a.plan.size
     pub above : (base k + stack_words (acts k outer fs) ≡ top) ⊎ ((w : Tagged) × (slice_get core (suc (base k) + stack_words (acts k outer fs)) ≡ Some w) × (w.tag ≡ 3))
+    pub last : r.slot ≡ k → ((base k + stack_words (acts k outer fs) ≡ top) × (r.f ≡ base k + mark_place (acts k outer fs))) ⊎ (base k + stack_words (acts k outer fs) < r.f)
 
   -- the frames below
   pub drop : (k : ℕ) (outer : ℕ → StackPlace) (top : ℕ) (f : Frame) (fs : List Frame) → Part k outer top (f ∷ fs) → Part k outer top fs
@@ -77,6 +78,7 @@ module _ (core : List Tagged) (r : Regs) (a : LiveContext core r) where
         low = omega (arith, p.low);
         room = p.room;
         above = inr (mscw_word (mark_of k (head (spot_in k outer fs) f.standing) (acts k outer fs)), l.1, refl);
+        last = λ e. inr (⊎_elim (λ z. (let m = z.1 in omega (arith, m))) (λ z. omega (arith, z)) (p.last e));
       }
 
   pub part_from : (k : ℕ) (outer : ℕ → StackPlace) (top c : ℕ) (fs : List Frame) → Part k outer top fs → Part k outer top (from_frame c fs)
@@ -111,9 +113,9 @@ module _ (core : List Tagged) (r : Regs) (a : LiveContext core r) where
   by_slot : (k : ℕ) (stack : List Activation) (b : Bool) → k < a.plan.peak → (let y = if b then Running stack else Waiting stack in
       RepresentsSlot core r (with_objects a.left (machine_view a.plan a.session.jobs)) k y → SlotFits (with_objects a.left (machine_view a.plan a.session.jobs)) k y
       → LieDownward (Fits a.storage.held) core (suc (base k)) (words k (stack_of y))
-      → IsStack a.plan.size stack × LieDownward (Fits a.storage.held) core (suc (base k)) (words k stack) × IsTop a k (base k + stack_words stack))
-  by_slot k stack true used s f l = (f.0, l, record { used = used; by = inl (s.slot, s.top) })
-  by_slot k stack false used s f l = (f.0, l, record { used = used; by = inr (s.0, (toscw_of stack, toscw_fits, s.1, refl)) }) where
+      → IsStack a.plan.size stack × LieDownward (Fits a.storage.held) core (suc (base k)) (words k stack) × IsTop a k (base k + stack_words stack) × (r.slot ≡ k → r.f ≡ base k + mark_place stack))
+  by_slot k stack true used s f l = (f.0, l, record { used = used; by = inl (s.slot, s.top) }, λ e. s.mark)
+  by_slot k stack false used s f l = (f.0, l, record { used = used; by = inr (s.0, (toscw_of stack, toscw_fits, s.1, refl)) }, λ e. absurd (s.0 e)) where
     toscw_fits : IsToscw (toscw_of stack)
     toscw_fits =
         let small = a.holds.memory.slots.laid.room in
@@ -132,7 +134,7 @@ module _ (core : List Tagged) (r : Regs) (a : LiveContext core r) where
       record {
         top = base k + stack_words stack;
         top_is = b.2;
-        part = record { lies = b.1; heads = b.0.heads; low = omega arith; room = omega (arith, b.0.fits); above = inl refl };
+        part = record { lies = b.1; heads = b.0.heads; low = omega arith; room = omega (arith, b.0.fits); above = inl refl; last = λ e. inl (refl, b.3 e) };
       }
 
   -- the registers of the running task

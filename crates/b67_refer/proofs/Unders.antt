@@ -17,9 +17,10 @@ use Rattle.b67_model.specs.State.{Frame, Standing, height}
 use Rattle.b67_model.specs.InOrder.{reach_of, NamesEntered}
 use Rattle.b67_model.specs.Environment.{frame_at}
 use Rattle.b67_model.specs.Cells.{named}
-use Rattle.b67_stack.specs.Stacks.{StackPlace, head_size, stack_words}
-use Rattle.b67_layout.specs.Placement.{spot_in}
-use Rattle.b67_layout.specs.Layout.{head}
+use Rattle.b67_stack.specs.Stacks.{StackPlace, head_size, stack_words, mark_place}
+use Rattle.b67_stack.proofs.Tops.{mark_high}
+use Rattle.b67_layout.specs.Placement.{slot_of, spot_in}
+use Rattle.b67_layout.specs.Layout.{head, stack_of_task}
 use Rattle.b67_layout.specs.Session.{frame_address}
 use Rattle.b67_layout.specs.Meets.{here}
 use Rattle.b67_layout.proofs.Frames.{height-is}
@@ -27,11 +28,12 @@ use Rattle.b67_refer.specs.RunningContext.{RunningContext, LiveContext, IsShown}
 use Rattle.b67_refer.specs.LiveCells.{IsUnder}
 use Rattle.b67_refer.proofs.Bases.{stacks_is, size_is, slot_inside, dictionary_is, dictionary_low}
 use Rattle.b67_refer.proofs.Seats.{seat}
+use Rattle.b67_refer.proofs.Slots.{registers, whole}
 use Rattle.b67_refer.proofs.Rule.{seat_address}
 use Rattle.b67_refer.proofs.Fixed.{mcp_address, dictionary_home, dictionary_high}
 use Rattle.b67_refer.proofs.Chains.{level, level_is, level_at, frame_at_same}
 
-one_word : (spot : ℕ → StackPlace) (s : Standing) → 1 ≤ head_size (head spot s)
+pub one_word : (spot : ℕ → StackPlace) (s : Standing) → 1 ≤ head_size (head spot s)
 one_word spot State.Marked = omega arith
 one_word spot (State.Entered l environment back) = omega arith
 
@@ -70,6 +72,20 @@ module _ (core : List Tagged) (r : Regs) (a : LiveContext core r) where
         at = seat_address core r a a.task.place f n.standing b n.entered own;
         is = b.top_is;
       }
+
+  -- where the frame's mark is the last one of the running stack, it lies in that stack
+  pub last_slot : (f : ℕ) (n : NamesEntered (reach_of a.member.progress.job a.task) f) (own : 1 < f) → frame_address a.plan a.member a.task f ≡ r.f → r.slot ≡ (seat core r a f n.standing n.among own).slot
+  unfolding under
+  last_slot f n own e =
+      let g = registers core r a in
+      let k = slot_of a.plan a.member.constants.number a.runner.number in
+      let stack = stack_of_task a.plan a.member.constants.number a.member.progress.job k a.runner in
+      let w = whole core r a a.runner a.running.task in
+      let h = mark_high stack in
+      let u : IsUnder a r.f w.top = record { slot = k; disp = mark_place stack; low = omega (arith, h, w.part.low, w.part.room); at = g.mark; is = w.top_is } in
+      let mine : (r.f - r.stacks) / r.stack_size ≡ k = slot_found r.f w.top r.stack_size u refl in
+      let its = slot_found (frame_address a.plan a.member a.task f) (seat core r a f n.standing n.among own).top r.stack_size (under f n own) refl in
+      g.slot ∙ sym mine ∙ ap (λ x. (x - r.stacks) / r.stack_size) (sym e) ∙ its
 
   pub seat_low : (f : ℕ) (n : NamesEntered (reach_of a.member.progress.job a.task) f) (own : 1 < f) → height (seat core r a f n.standing n.among own).below < a.plan.size
   seat_low f n own =

@@ -32,7 +32,8 @@ fn top_of(core: &Core, regs: &Regs, base: u32) -> u32
     }
 }
 
-/// The cell at an offset of an activation record whose mark is at an address of a slot: no mark lies between.
+/// The cell at an offset of an activation record whose mark is at an address of a slot: no mark lies between. Over the running
+/// stack's last mark there is none.
 fn slot_cell(core: &Core, regs: &Regs, base: u32, offset: u16) -> Result<u32, Fault>
     requires { (a : LiveContext core.now regs.now) × (f : ℕ) × NamesEntered (live.reach a) f × (1 < f) × (base ≡ live.frame_at_core a f) }
     ensures { (a : LiveContext core.now regs.now) (q : Place) (f : ℕ) → NamesEntered (live.reach a) f → 1 < f → base ≡ live.frame_at_core a f
@@ -41,6 +42,9 @@ fn slot_cell(core: &Core, regs: &Regs, base: u32, offset: u16) -> Result<u32, Fa
     let at = base + u32::from(offset);
     if offset < 2 || at > top_of(core, regs, base) {
         return Err(Fault::InvalidAddress);
+    }
+    if base == regs.f {
+        return Ok(at);
     }
     for k in base + 2..at + 1 {
         if core.get(k).tag() == 3 {

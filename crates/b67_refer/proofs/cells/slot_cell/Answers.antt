@@ -3,7 +3,7 @@ use Rattle.b67_model.specs.Cells.{cell}
 use Rattle.b67_layout.specs.Meets.{here}
 use Rattle.b67_refer.specs.LiveCells.{CellMeets, IsUnder}
 use Rattle.b67_refer.proofs.Unders.{under}
-use Rattle.b67_refer.proofs.Founds.{top, task_misses, task_marks, task_lands, top_inside, address_small}
+use Rattle.b67_refer.proofs.Founds.{top, task_misses, task_marks, task_lands, task_tops, top_inside, address_small}
 use Rattle.b67_refer.proofs.cells.slot_cell.Goals as goal
 use Rattle.b67_refer.proofs.cells.slot_cell.Goals.{then-offset-lt2-via-then-offset-lt2, then-offset-lt2-via-else-offset-lt2+then-at-top_of}
 
@@ -25,6 +25,12 @@ returns-then-offset-lt2 c = λ a q f n own e.
           let t = w.top_of.ensures a (top c.args.core.now c.args.regs.now a q f c.args.base c.args.offset n e own) (subst (λ (x : ℕ). IsUnder a x (top c.args.core.now c.args.regs.now a q f c.args.base c.args.offset n e own)) (sym e) (under c.args.core.now c.args.regs.now a f n own)) in
           omega (arith, t, w.if-at-top_of.true, c.from.ensures))
     ])
+
+pub returns-then-base-regs : goal.returns-then-base-regs
+returns-then-base-regs c = λ a q f n own e.
+    let t = c.top_of.ensures a (top c.args.core.now c.args.regs.now a q f c.args.base c.args.offset n e own) (subst (λ (x : ℕ). IsUnder a x (top c.args.core.now c.args.regs.now a q f c.args.base c.args.offset n e own)) (sym e) (under c.args.core.now c.args.regs.now a f n own)) in
+    let found = task_tops c.args.core.now c.args.regs.now a q f c.args.base c.args.offset n e own c.if-base-regs.true (omega (arith, c.if-offset-lt2.false)) (omega (arith, t, c.if-at-top_of.false, c.from.ensures)) in
+    subst (λ (i : ℕ). CellMeets a q f c.args.offset (Ok (c.args.base + i)) (cell (here a.member a.task q) f c.args.offset)) (sym c.from.ensures) found
 
 pub overflow_add-k-end : goal.overflow_add-k-end
 overflow_add-k-end c =
