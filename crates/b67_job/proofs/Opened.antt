@@ -69,7 +69,7 @@ pub stage_of : (known told : Option (List (List ℕ))) (k : Machine) (s : Sessio
 stage_of known told k s says stands = by k.tasks.rows.items refl
   where
     by : (rows : List TaskRow) → k.tasks.rows.items ≡ rows → LivesOn told k ⊎ (StandsLimited told k ⊎ HasNoTasks told k)
-    by [] e = inr (inr (record { known = known; says = says; session = s; rests = rests_now known k s stands e }))
+    by [] e = inr (inr (record { known = known; says = says; session = s; ordered = stands.ordered; rests = rests_now known k s stands e }))
     by (row ∷ rows) e =
         let n = next_now known k s stands (λ none. not_empty row rows (sym e ∙ none)) in
         inl (record { some = record { known = known; says = says; session = s; stands = stands }; member = n.0; task = n.1; next = n.2 })

@@ -2,6 +2,7 @@
 use Rattle.std.proofs.Common.{ℕ, List, length, Option, Result, Ok, Err, inl, inr}
 use Rattle.b67_model.specs.State.{Task, SessionJob}
 use Rattle.b67_model.specs.Run.{StepResult}
+use Rattle.b67_model.specs.InOrder.{IsInOrderButPlaces}
 use Rattle.b67_model.specs.Schedule.{Session}
 use Rattle.b67_law_turns.specs.Turns.{IsNext}
 use Rattle.b67_layout_storage.specs.Machine.{Says}
@@ -20,11 +21,11 @@ module _ (known told : Option (List (List ℕ))) (k : Machine) (says : Says know
   pub limited : (s : Session) (part : StepResult) → IsLimited known k s part → IsOpen told k
   limited s part h = record { stage = inr (inl (record { known = known; says = says; session = s; part = part; limited = h })); countable = countable }
 
-  rests : (s : Session) → RepresentsWithoutTasks known k s → IsOpen told k
-  rests s h = record { stage = inr (inr (record { known = known; says = says; session = s; rests = h })); countable = countable }
+  rests : (s : Session) → IsInOrderButPlaces s → RepresentsWithoutTasks known k s → IsOpen told k
+  rests s o h = record { stage = inr (inr (record { known = known; says = says; session = s; ordered = o; rests = h })); countable = countable }
 
   by_answer : (exact : Type 0) (core count n steps : ℕ) (s : Session) (is_due : List ℕ) (answered : Result Progress Stop) → SliceMeets known exact core count n steps s is_due answered k → IsOpen told k
-  by_answer exact core count n steps s is_due (Ok progress.Ended) h = rests s h.0
+  by_answer exact core count n steps s is_due (Ok progress.Ended) h = rests s h.1 h.0
   by_answer exact core count n steps s is_due (Ok progress.Halted) (halt, (h, (m, t, next))) = lives s m t h next
   by_answer exact core count n steps s is_due (Ok progress.More) (all, halt, (h, (m, t, next))) = lives s m t h next
   by_answer exact core count n steps s is_due (Err (stops.NoCore words size)) meets = lives s meets.0.member meets.0.task meets.0.stands meets.0.next

@@ -8,7 +8,7 @@ use Rattle.b67_session_attempt.proofs.Untold.{machine_untold}
 use Rattle.b67_session.specs.Slices.{StandsAt, LivesOn, StandsLimited, HasNoTasks, IsLimited, RepresentsWithoutTasks, IsOpen}
 use Rattle.b67_session.specs.Shaped.{IsShaped}
 
-stands_untold : (known : Option (List (List ℕ))) (k : Machine) (s : Session) → StandsAt known k s → StandsAt None k s
+pub stands_untold : (known : Option (List (List ℕ))) (k : Machine) (s : Session) → StandsAt known k s → StandsAt None k s
 stands_untold known k s h = record { storage = untold h.storage; plan = h.plan; ordered = h.ordered; stands = machine_untold h.storage known k h.plan s h.stands }
 
 limited_untold : (known : Option (List (List ℕ))) (k : Machine) (s : Session) (part : StepResult) → IsLimited known k s part → IsLimited None k s part
@@ -26,7 +26,7 @@ stage_untold told now k (inl h) =
       next = h.next;
     })
 stage_untold told now k (inr (inl h)) = inr (inl (record { known = None; says = tt; session = h.session; part = h.part; limited = limited_untold h.known k h.session h.part h.limited }))
-stage_untold told now k (inr (inr h)) = inr (inr (record { known = None; says = tt; session = h.session; rests = rests_untold h.known k h.session h.rests }))
+stage_untold told now k (inr (inr h)) = inr (inr (record { known = None; says = tt; session = h.session; ordered = h.ordered; rests = rests_untold h.known k h.session h.rests }))
 
 -- a machine that may make steps over a device that tells this may make them over one that tells that, of which nothing is known
 pub over_any : (told now : Option (List (List ℕ))) (k : Machine) → IsOpen told k → IsOpen now k

@@ -48,11 +48,12 @@ pub record StandsLimited (told : Option (List (List ℕ))) (k : Machine) : Type 
   pub part : StepResult
   pub limited : IsLimited known k session part
 
--- for some session that no task is left of
+-- for some session in order that no task is left of
 pub record HasNoTasks (told : Option (List (List ℕ))) (k : Machine) : Type 0 where
   pub known : Option (List (List ℕ))
   pub says : Says known told
   pub session : Session
+  pub ordered : IsInOrderButPlaces session
   pub rests : RepresentsWithoutTasks known k session
 
 -- a slice may be called: a task makes the next step, or some are to end by LIMIT, or none is left; and each job's numbers can be
