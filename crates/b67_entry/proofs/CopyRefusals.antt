@@ -31,7 +31,7 @@ use Rattle.b67_layout.specs.Session.{IsRunning, RepresentsSession}
 use Rattle.b67_layout.proofs.Fresh.{running_in_order}
 use Rattle.b67_layout.proofs.Starts.{slot_is, runs_here}
 use Rattle.b67_refer.specs.Ends.{IsCopyOf}
-use Rattle.b67_layout_leave.proofs.Settles.{under, all, homes_low, homes_high}
+use Rattle.b67_layout.proofs.LeftSettles.{under, all, homes_low, homes_high}
 use Rattle.b67_entry.specs.Words.{IsTopWord, Refuses}
 
 -- the array that a word names is found

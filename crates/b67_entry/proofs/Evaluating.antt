@@ -36,9 +36,9 @@ use Rattle.b67_refer.proofs.Items.{array_is}
 use Rattle.b67_exec_cells.specs.Elements.{HasElement}
 use Rattle.b67_layout_leave.proofs.Nowhere.{array_stays}
 use Rattle.b67_entry.specs.Left.{Returns, here_left}
-use Rattle.b67_entry.specs.Returned.{with_word}
-use Rattle.b67_entry.specs.Returned.{ReturnsWord}
-use Rattle.b67_entry.proofs.Heres.{flat_same, follow_same}
+use Rattle.b67_entry.specs.Returned.{with_word, ReturnsWord}
+use Rattle.b67_law_order.proofs.Follows.{follow_same}
+use Rattle.b67_entry.proofs.Heres.{flat_same}
 use Rattle.b67_entry.proofs.Leaving.{member_at, task_left, regs_left, scene_left}
 use Rattle.b67_entry.proofs.Putting.{height_left}
 use Rattle.b67_entry.proofs.Replacing.{frames_with, job_with, Puts, puts_operand, stands_with, changed_with}

@@ -22,7 +22,7 @@ use Rattle.b67_layout.proofs.Fresh.{fresh, running_in_order}
 use Rattle.b67_layout.proofs.Starts.{slot_is, runs_here}
 use Rattle.b67_refer.specs.RunningContext.{RunningContext, IsShown}
 use Rattle.b67_refer.proofs.Scenes.{member_in_order}
-use Rattle.b67_layout_enter.proofs.Conditions.{Shows-condition}
+use Rattle.b67_layout.proofs.Conditions.{Shows-condition}
 use Rattle.b67_layout_leave.proofs.Nowhere.{activations-same}
 use Rattle.b67_layout_leave.proofs.Leaves.{Leaver, task_at, may_leave, below-same, Frames-below, runs_after, holds_after, for_running_after}
 use Rattle.b67_layout_leave.proofs.Orders.{left_ready}

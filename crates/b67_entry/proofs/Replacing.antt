@@ -33,7 +33,7 @@ use Rattle.b67_layout.proofs.Fresh.{fresh, running_in_order}
 use Rattle.b67_layout.proofs.Starts.{slot_is}
 use Rattle.b67_layout_leave.proofs.Nowhere.{SameArray, SameArrays, activations-same}
 use Rattle.b67_entry.proofs.Returned.{Represents-returned, size_entered, fits_anywhere}
-use Rattle.b67_layout_leave.proofs.Objects.{others}
+use Rattle.b67_layout.proofs.Objects.{others}
 use Rattle.b67_layout_leave.proofs.Leaves.{task_at, below-same, Frames, Frames-below, holds_after, for_running_after}
 use Rattle.b67_entry.specs.Left.{Returns}
 use Rattle.b67_entry.specs.Returned.{ReturnsWord}

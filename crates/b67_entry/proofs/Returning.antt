@@ -19,7 +19,7 @@ use Rattle.b67_stack.specs.Changes.{MayPush}
 use Rattle.b67_layout.specs.Placement.{Placement, spot_in}
 use Rattle.b67_layout.specs.Layout.{shape}
 use Rattle.b67_layout_leave.proofs.Nowhere.{SameArray, array_stays}
-use Rattle.b67_layout_leave.proofs.Objects.{others}
+use Rattle.b67_layout.proofs.Objects.{others}
 use Rattle.b67_entry.proofs.CopyRefusals.{found_array}
 
 -- a word that may be returned from a frame

@@ -32,7 +32,7 @@ use Rattle.b67_layout_enter.proofs.Orders.{start, push, ready_with}
 use Rattle.b67_layout_enter.proofs.Rooms.{height_room}
 use Rattle.b67_layout_enter.proofs.Accidents as Accidents
 use Rattle.b67_layout_enter.proofs.Accidents.{new_frame, IsRunning-accident, SessionHolds-accident, RepresentsSession-accident}
-use Rattle.b67_layout_enter.proofs.Heads.{IsClear}
+use Rattle.b67_stack.proofs.ClearHeads.{IsClear}
 use Rattle.b67_layout.proofs.Steps.{IsFree}
 use Rattle.b67_core.proofs.Writes.{slice_get-set_other}
 use Rattle.b67_lemmas.specs.Lists.{Has}

@@ -17,7 +17,7 @@ use Rattle.b67_layout.proofs.Gone.{no_objects_gone}
 use Rattle.b67_layout.proofs.Starts.{runs_here}
 use Rattle.b67_refer.specs.RunningContext.{RunningContext}
 use Rattle.b67_refer.proofs.Scenes.{scene}
-use Rattle.b67_layout_enter.proofs.Heads.{clear_settled}
+use Rattle.b67_stack.proofs.ClearHeads.{clear_settled}
 use Rattle.b67_entry_enter.specs.Procedures.{ReachesProc, CanEnter, IsEntered, EntersOrFaults}
 
 module _ (cpu : Cpu) (a : RunningContext cpu.core cpu.regs) where

@@ -22,7 +22,7 @@ use Rattle.b67_layout.specs.Layout.{machine_view, stack_of_task}
 use Rattle.b67_stack.proofs.Pushes.{Room, room_of}
 use Rattle.b67_layout.specs.Session.{with_objects}
 use Rattle.b67_stack.specs.MachineView.{RunsOn}
-use Rattle.b67_layout_enter.proofs.Heads.{IsClear}
+use Rattle.b67_stack.proofs.ClearHeads.{IsClear}
 use Rattle.b67_layout_enter.proofs.Accidents as Accidents
 use Rattle.b67_refer.specs.Ends.{IsProcAt}
 use Rattle.b67_refer.specs.RunningContext.{RunningContext, IsShown}

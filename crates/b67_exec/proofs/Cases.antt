@@ -17,7 +17,8 @@ use Rattle.b67_stack.specs.declared.Cpu.{Cpu}
 use Rattle.b67_stack.specs.Represents.{Storage}
 use Rattle.b67_layout.specs.Placement.{Placement}
 use Rattle.b67_layout.specs.Meets.{here}
-use Rattle.b67_exec_cells.specs.Tops.{IsWordOf, IsAt, cells, GivesTwo}
+use Rattle.b67_layout.specs.Tops.{IsWordOf, IsAt, cells}
+use Rattle.b67_exec_cells.specs.Tops.{GivesTwo}
 use Rattle.b67_fetch.specs.Fetches.{enters_at, top_end}
 use Rattle.b67_fetch.specs.Stores.{store_end}
 use Rattle.b67_exec.proofs.Entered.{AtProcedure, at_procedure}

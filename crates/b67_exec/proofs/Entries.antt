@@ -37,7 +37,7 @@ use Rattle.b67_layout.proofs.Gone.{no_objects_gone}
 use Rattle.b67_refer.specs.RunningContext.{RunningContext}
 use Rattle.b67_refer.specs.Ends.{IsProcAt}
 use Rattle.b67_refer.proofs.Scenes.{scene}
-use Rattle.b67_layout_enter.proofs.Heads.{clear_settled}
+use Rattle.b67_stack.proofs.ClearHeads.{clear_settled}
 use Rattle.b67_entry_enter.specs.Procedures.{CanEnter, IsEntered, EntersOrFaults}
 use Rattle.b67_exec.proofs.Looks.{spots-same, reach-same, level-same, cell-same}
 

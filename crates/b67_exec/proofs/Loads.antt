@@ -27,7 +27,7 @@ use Rattle.b67_layout.specs.Session.{IsRunning, SessionHoldsBut, RepresentsSessi
 use Rattle.b67_layout.specs.Meets.{here, with_job, Meets}
 use Rattle.b67_layout.proofs.Whole.{task_with}
 use Rattle.b67_layout.proofs.Fresh.{running_in_order}
-use Rattle.b67_exec_cells.specs.Tops.{cells}
+use Rattle.b67_layout.specs.Tops.{cells}
 use Rattle.b67_exec_cells.proofs.Put.{room, top_given, dropped_stands, dropped-fits}
 use Rattle.b67_layout.proofs.Cells.{cells_in_order}
 use Rattle.b67_refer.specs.RunningContext.{RunningContext}

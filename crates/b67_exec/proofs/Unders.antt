@@ -34,7 +34,7 @@ use Rattle.b67_layout.specs.Session.{IsRunning, SessionHoldsBut, RepresentsSessi
 use Rattle.b67_layout.specs.Meets.{here, with_job, Meets}
 use Rattle.b67_layout.proofs.Whole.{task_with}
 use Rattle.b67_layout.proofs.Fresh.{running_in_order}
-use Rattle.b67_exec_cells.specs.Tops.{IsWordOf, IsAt, cells}
+use Rattle.b67_layout.specs.Tops.{IsWordOf, IsAt, cells}
 use Rattle.b67_exec_cells.proofs.Replaced.{height-with}
 use Rattle.b67_exec_cells.proofs.Put.{room, replaced_stands}
 use Rattle.b67_layout.proofs.Cells.{cells_in_order}

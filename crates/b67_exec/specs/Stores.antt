@@ -9,7 +9,7 @@ use Rattle.b67_stack.specs.declared.Cpu.{Cpu}
 use Rattle.b67_stack.specs.Represents.{Storage}
 use Rattle.b67_layout.specs.Placement.{Placement}
 use Rattle.b67_layout.specs.Meets.{here, RunsSome}
-use Rattle.b67_exec_cells.specs.Tops.{cells, IsAt}
+use Rattle.b67_layout.specs.Tops.{cells, IsAt}
 use Rattle.b67_fetch.specs.Fetches.{enters_at}
 use Rattle.b67_fetch.specs.Stores.{store_end}
 

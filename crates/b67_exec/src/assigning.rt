@@ -5,7 +5,7 @@ ghost use Rattle.b67_word.specs.declared.couples.Place.{Place};
 ghost use Rattle.b67_model.specs.Rows as rows;
 ghost use Rattle.b67_model.specs.Steps.{cells_of};
 ghost use Rattle.b67_layout.specs.Meets.{here, Meets, RunsSome, ForEach};
-ghost use Rattle.b67_exec_cells.specs.Tops.{cells};
+ghost use Rattle.b67_layout.specs.Tops.{cells};
 ghost use Rattle.b67_fetch.specs.Fetches.{enters_at};
 ghost use Rattle.b67_fetch.specs.Stores.{store_end};
 ghost use Rattle.b67_refer.specs.Ends.{IsProcAt};

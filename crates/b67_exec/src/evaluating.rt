@@ -8,7 +8,7 @@ ghost use Rattle.b67_model.specs.Steps.{cells_of};
 ghost use Rattle.b67_layout.specs.Meets.{here, Meets, RunsSome, ForEach};
 ghost use Rattle.b67_refer.specs.RunningContext.{RunningContext};
 ghost use Rattle.b67_refer.specs.Ends.{IsProcAt};
-ghost use Rattle.b67_exec_cells.specs.Tops.{cells};
+ghost use Rattle.b67_layout.specs.Tops.{cells};
 ghost use Rattle.b67_fetch.specs.Fetches.{enters_at, top_end};
 ghost use Rattle.b67_exec.specs.Procedures.{Leads, EntersTop};
 

@@ -25,7 +25,7 @@ use Rattle.b67_layout.proofs.MachineViews.{member-same}
 use Rattle.b67_layout.proofs.Frames.{height-is}
 use Rattle.b67_layout.proofs.Fresh.{fresh}
 use Rattle.b67_layout.proofs.Steps.{IsFree}
-use Rattle.b67_layout_enter.proofs.Awaits.{with_job-twice}
+use Rattle.b67_layout.proofs.Awaits.{with_job-twice}
 use Rattle.b67_exec_calls.specs.Calls.{MayCut, job_cut}
 use Rattle.b67_exec_calls.proofs.Cuts.{cut_of}
 use Rattle.b67_exec_calls.specs.Answered.{job_answered}

@@ -9,7 +9,7 @@ use Rattle.b67_model.specs.State.{Task, SessionJob}
 use Rattle.b67_stack.specs.declared.Cpu.{Cpu}
 use Rattle.b67_stack.specs.Represents.{Storage}
 use Rattle.b67_layout.specs.Placement.{Placement}
-use Rattle.b67_exec_cells.specs.Tops.{cells, GivesTop}
+use Rattle.b67_layout.specs.Tops.{cells, GivesTop}
 use Rattle.b67_exec_operands.proofs.Rows.{operand_seen}
 use Rattle.b67_exec_calls.specs.Calls.{IsCall, OnlyCell, number_in}
 

@@ -9,9 +9,9 @@ use Rattle.b67_model.specs.Words.{Word, Original}
 use Rattle.b67_model.specs.State.{Frame, Array, Task, JobConstants, Job}
 use Rattle.b67_model.specs.Intrinsics.{is_original}
 use Rattle.b67_model.specs.InOrder.{EntryInOrder, frames_named}
-use Rattle.b67_layout_leave.proofs.Objects.{others}
-use Rattle.b67_layout_leave.proofs.Nowhere.{IsOnTop, high, live, under, elsewhere}
-use Rattle.b67_layout_leave.proofs.Originals.{original_of}
+use Rattle.b67_layout.proofs.Objects.{others}
+use Rattle.b67_layout.proofs.NamedFirst.{IsOnTop, high, live, under, elsewhere}
+use Rattle.b67_layout.proofs.Originals.{original_of}
 
 named_has : (n : ℕ) (fs : List Frame) (g : Frame) → Has fs g → g.identity ≡ n → frames_named n fs ≢ 0
 named_has n [] g h e z = h

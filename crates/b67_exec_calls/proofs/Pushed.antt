@@ -24,8 +24,8 @@ use Rattle.b67_layout.proofs.Displays.{Shows-same}
 use Rattle.b67_layout.proofs.Sessions.{running_only}
 use Rattle.b67_layout.proofs.Starts.{slot_is, runs_here}
 use Rattle.b67_layout.proofs.Steps.{IsFree, activations-with, seen-with}
-use Rattle.b67_layout_enter.proofs.Tops.{SessionHolds-top, still_running, outer-same}
-use Rattle.b67_exec_cells.specs.Tops.{cells}
+use Rattle.b67_layout.proofs.Tops.{SessionHolds-top, still_running, outer-same}
+use Rattle.b67_layout.specs.Tops.{cells}
 use Rattle.b67_exec_cells.proofs.Replaced.{cells-are, Represents-put}
 
 module _ (x : Storage) (cpu : Cpu) (plan : Placement) (s : Session) (m : SessionJob) (t : Task) (h : RepresentsSession x cpu plan s) (runs : IsRunning plan s.jobs m t) where

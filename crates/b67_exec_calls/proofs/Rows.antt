@@ -16,7 +16,7 @@ use Rattle.b67_layout.proofs.Sessions.{running_only}
 use Rattle.b67_task_tables.specs.declared.tables.TaskRow.{TaskRow}
 use Rattle.b67_task_tables.specs.declared.tables.Tasks.{Tasks}
 use Rattle.b67_task_tables.specs.Tables.{task_row, TasksShow}
-use Rattle.b67_task_switch.proofs.Tables.{live_in_order}
+use Rattle.b67_layout.proofs.LiveTasks.{live_in_order}
 use Rattle.b67_lemmas.proofs.Members.{has_get, keyed_has}
 use Rattle.b67_lemmas.proofs.Places.{mapped_at}
 use Rattle.b67_law_order.proofs.Numbered.{keyed_member}

@@ -21,7 +21,7 @@ use Rattle.b67_layout.proofs.Fresh.{running_in_order}
 use Rattle.b67_layout.proofs.MachineViews.{member-same}
 use Rattle.b67_layout.proofs.Sessions.{change-has, change-kept}
 use Rattle.b67_layout.proofs.Replaces.{IsDependedOn, Replaces, task-same, task-other, outer_spots-after}
-use Rattle.b67_task_switch.proofs.Tables.{live_in_order}
+use Rattle.b67_layout.proofs.LiveTasks.{live_in_order}
 use Rattle.b67_law_order.proofs.Numbered.{keyed_member}
 
 -- a frame stands among those from it down where it stands among all

@@ -15,7 +15,7 @@ use Rattle.b67_stack.specs.declared.Cpu.{Cpu}
 use Rattle.b67_stack.specs.Represents.{Storage}
 use Rattle.b67_layout.specs.Placement.{Placement}
 use Rattle.b67_layout.specs.Meets.{RunsSome, here}
-use Rattle.b67_exec_cells.specs.Tops.{GivesTop}
+use Rattle.b67_layout.specs.Tops.{GivesTop}
 
 -- the cells of a call from the first one up: the reference and the arguments
 pub record IsCall (t : Task) (reference : Word) (arguments : List Word) : Type 0 where

@@ -1,6 +1,6 @@
 //! The one argument of a call.
 
-ghost use Rattle.b67_exec_cells.specs.Tops.{cells};
+ghost use Rattle.b67_layout.specs.Tops.{cells};
 ghost use Rattle.b67_layout.specs.Meets.{RunsSome, ForEach};
 ghost use Rattle.b67_exec_calls.specs.Calls.{OnlyCell};
 

@@ -28,7 +28,7 @@ use Rattle.b67_layout.specs.Layout.{array_object, objects_of}
 use Rattle.b67_layout.specs.Session.{IsRunning, RepresentsSession}
 use Rattle.b67_layout.specs.Meets.{area_held}
 use Rattle.b67_layout.proofs.Fresh.{running_in_order}
-use Rattle.b67_exec_cells.specs.Tops.{IsWordOf}
+use Rattle.b67_layout.specs.Tops.{IsWordOf}
 use Rattle.b67_exec_cells.proofs.Replaced.{array_object-has}
 use Rattle.b67_exec_cells.specs.Elements.{HasElement, original_desc}
 

@@ -38,7 +38,8 @@ use Rattle.b67_layout.proofs.Starts as Starts
 use Rattle.b67_layout.proofs.Whole.{task_with, RepresentsSession-cells}
 use Rattle.b67_layout.proofs.Fresh.{fresh, running_in_order}
 use Rattle.b67_layout.proofs.Gone.{no_objects_gone}
-use Rattle.b67_exec_cells.specs.Tops.{IsWordOf, IsAt, cells, GivesTop, GivesTwo, MayStand, NoOriginals}
+use Rattle.b67_layout.specs.Tops.{IsWordOf, IsAt, cells, GivesTop}
+use Rattle.b67_exec_cells.specs.Tops.{GivesTwo, MayStand, NoOriginals}
 use Rattle.b67_exec_cells.proofs.Replaced.{cells-are, height-with, shapes_plain, may_push, Represents-less, Represents-put, word_under}
 use Rattle.b67_lemmas.proofs.Members.{keyed_has}
 

@@ -5,7 +5,8 @@ ghost use Rattle.std.specs.Prelude.{◌≡◌, ℕ, ◌+◌, ◌-◌, ◌<◌, �
 ghost use Rattle.b67_model.specs.Words as words;
 ghost use Rattle.b67_model.specs.Steps.{leaves_cells};
 ghost use Rattle.b67_layout.specs.Meets.{here, Meets, IsMade, RunsSome, ForEach};
-ghost use Rattle.b67_exec_cells.specs.Tops.{IsWordOf, cells as cells_of, GivesTop, GivesTwo, MayStand, NoOriginals};
+ghost use Rattle.b67_layout.specs.Tops.{IsWordOf, cells as cells_of, GivesTop};
+ghost use Rattle.b67_exec_cells.specs.Tops.{GivesTwo, MayStand, NoOriginals};
 
 use b67_stack::{Cpu, Step};
 use b67_word::{Fault, Place, Word};

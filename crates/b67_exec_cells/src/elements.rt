@@ -3,7 +3,7 @@
 ghost use Rattle.std.specs.Prelude.{◌≡◌, ℕ};
 ghost use Rattle.b67_model.specs.Words.{Row};
 ghost use Rattle.b67_layout.specs.Meets.{ForEach};
-ghost use Rattle.b67_exec_cells.specs.Tops.{IsWordOf};
+ghost use Rattle.b67_layout.specs.Tops.{IsWordOf};
 ghost use Rattle.b67_exec_cells.specs.Elements.{HasElement, HoldsElement, original_desc, GivesElement};
 
 use b67_ctl::DataDesc;

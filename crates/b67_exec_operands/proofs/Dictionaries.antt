@@ -32,7 +32,7 @@ use Rattle.b67_layout.specs.Session.{IsRunning, RepresentsSession}
 use Rattle.b67_layout.specs.Meets.{here}
 use Rattle.b67_layout.proofs.Fresh.{running_in_order}
 use Rattle.b67_layout.proofs.Sessions.{code_object, entry_row, words_enough}
-use Rattle.b67_exec_cells.specs.Tops.{IsWordOf, cells}
+use Rattle.b67_layout.specs.Tops.{IsWordOf, cells}
 use Rattle.b67_exec_cells.proofs.Replaced.{member_objects, before, array_object-has}
 
 -- the words after the segments are originals

@@ -29,7 +29,8 @@ use Rattle.b67_layout.specs.Layout.{machine_view}
 use Rattle.b67_layout.specs.Session.{IsRunning, RepresentsSession}
 use Rattle.b67_layout.specs.Meets.{here, IsMade}
 use Rattle.b67_layout.proofs.Settles as Settles
-use Rattle.b67_exec_cells.specs.Tops.{IsWordOf, cells, GivesTwo, MayStand}
+use Rattle.b67_layout.specs.Tops.{IsWordOf, cells}
+use Rattle.b67_exec_cells.specs.Tops.{GivesTwo, MayStand}
 use Rattle.b67_exec_cells.proofs.Replaced.{Represents-put, shapes_plain, may_push, height-with}
 use Rattle.b67_exec_cells.proofs.Put.{stack, shaped, runs_here, room, tops, seen, made_cells}
 use Rattle.b67_layout.proofs.Fresh.{running_in_order}

@@ -10,7 +10,7 @@ use Rattle.b67_model.specs.State.{Task, SessionJob}
 use Rattle.b67_model.specs.Intrinsics.{is_original}
 use Rattle.b67_stack.specs.Represents.{Storage}
 use Rattle.b67_layout.specs.Placement.{Placement}
-use Rattle.b67_exec_cells.specs.Tops.{IsWordOf}
+use Rattle.b67_layout.specs.Tops.{IsWordOf}
 
 module _ (w : Tagged) (r : Bool) (known : (d : DataDesc) → IsDataDesc d → w ≡ data_word d → r ≡ not d.copy) (other : w.tag ≢ 5 → r ≡ false) where
   plain : (v : Tagged) → w ≡ v → v.tag ≢ 5 → r ≡ false

@@ -25,8 +25,10 @@ use Rattle.b67_layout.specs.Placement.{Placement}
 use Rattle.b67_layout.specs.Session.{IsRunning}
 use Rattle.b67_layout.specs.Meets.{here, IsMade, Meets, RunsSome}
 use Rattle.b67_layout.proofs.Fresh.{running_in_order}
-use Rattle.b67_exec_cells.specs.Tops.{IsWordOf, cells, GivesTop, GivesTwo, MayStand, NoOriginals}
+use Rattle.b67_layout.specs.Tops.{IsWordOf, cells, GivesTop}
+use Rattle.b67_exec_cells.specs.Tops.{GivesTwo, MayStand, NoOriginals}
 use Rattle.b67_exec_cells.proofs.Put.{room}
+use Rattle.b67_layout.proofs.PlainOperands.{plain_operand}
 
 -- the bits of a word are those of the cell, if that is an operand
 module _ (x : Storage) (plan : Placement) (m : SessionJob) (t : Task) (at : ℕ) (v : Tagged) where
@@ -40,18 +42,6 @@ module _ (x : Storage) (plan : Placement) (m : SessionJob) (t : Task) (at : ℕ)
   operand_seen (Proc g l p) f = ap bits_in f.0
   operand_seen (Intrinsic n) f = ap bits_in f.0
   operand_seen (Words.Segment n) f = ap bits_in f.0
-
--- an operand is no original
-pub plain_operand : (w : Word) (n : ℕ) → operand w ≡ Ok n → is_original w ≡ false
-plain_operand (Operand bits) n e = refl
-plain_operand (Name c) n e = refl
-plain_operand (Ref g o) n e = refl
-plain_operand (Row a) n e = refl
-plain_operand (Element a i) n e = refl
-plain_operand (Original a) n e = cc
-plain_operand (Proc g l p) n e = refl
-plain_operand (Intrinsic k) n e = refl
-plain_operand (Words.Segment k) n e = refl
 
 -- what an answer on words says of the row
 abbrev pub SaysOne : (ℕ → Answer ℕ) → Word → Result Tagged Fault → Type 0

@@ -16,8 +16,9 @@ use Rattle.b67_stack.specs.declared.Cpu.{Cpu}
 use Rattle.b67_stack.specs.Represents.{Storage}
 use Rattle.b67_layout.specs.Placement.{Placement}
 use Rattle.b67_layout.specs.Meets.{here, IsMade}
-use Rattle.b67_exec_cells.specs.Tops.{IsWordOf, cells, GivesTop}
-use Rattle.b67_exec_operands.proofs.Rows.{Drops, an_operand, no_operand, plain_operand}
+use Rattle.b67_layout.specs.Tops.{IsWordOf, cells, GivesTop}
+use Rattle.b67_layout.proofs.PlainOperands.{plain_operand}
+use Rattle.b67_exec_operands.proofs.Rows.{Drops, an_operand, no_operand}
 
 first_bit : (bits : ℕ) → bit 0 bits ≡ bits % 2
 first_bit bits = omega arith

@@ -8,7 +8,7 @@ ghost use Rattle.b67_model.specs.Rows as rows;
 ghost use Rattle.b67_stack.specs.Represents.{Storage};
 ghost use Rattle.b67_layout.specs.Placement.{Placement};
 ghost use Rattle.b67_layout.specs.Meets.{here, Meets, RunsSome, ForEach};
-ghost use Rattle.b67_exec_cells.specs.Tops.{IsWordOf};
+ghost use Rattle.b67_layout.specs.Tops.{IsWordOf};
 
 use b67_ctl::DataDesc;
 use b67_exec_cells::{drop_cells, replace_cells, top_cell, two_cells};

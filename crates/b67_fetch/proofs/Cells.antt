@@ -29,7 +29,8 @@ use Rattle.b67_layout.proofs.Sessions.{course_twice}
 use Rattle.b67_refer.specs.RunningContext.{RunningContext}
 use Rattle.b67_refer.specs.Cells.{IsCellAt}
 use Rattle.b67_refer.proofs.Scenes as Scenes
-use Rattle.b67_exec_cells.specs.Tops.{cells, NoOriginals}
+use Rattle.b67_layout.specs.Tops.{cells}
+use Rattle.b67_exec_cells.specs.Tops.{NoOriginals}
 use Rattle.b67_exec_cells.proofs.Put.{room, registers}
 use Rattle.b67_layout_store.proofs.Puts.{put}
 use Rattle.b67_layout_store.proofs.Frames.{put_frames, put_job, with_cell_is, frame_found}

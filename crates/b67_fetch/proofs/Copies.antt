@@ -11,7 +11,7 @@ use Rattle.b67_stack.specs.declared.Cpu.{Cpu}
 use Rattle.b67_stack.specs.Represents.{Storage}
 use Rattle.b67_layout.specs.Placement.{Placement}
 use Rattle.b67_layout.specs.Session.{IsRunning, RepresentsSession}
-use Rattle.b67_exec_cells.specs.Tops.{IsWordOf}
+use Rattle.b67_layout.specs.Tops.{IsWordOf}
 use Rattle.b67_exec_cells.specs.Elements.{HasElement, original_desc}
 use Rattle.b67_exec_cells.proofs.Arrays as arrays
 

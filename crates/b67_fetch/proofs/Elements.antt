@@ -25,7 +25,8 @@ use Rattle.b67_layout.proofs.MachineViews.{with_course}
 use Rattle.b67_layout.proofs.Steps.{IsFree}
 use Rattle.b67_layout.proofs.Whole.{task_with}
 use Rattle.b67_layout.proofs.Sessions.{course_twice}
-use Rattle.b67_exec_cells.specs.Tops.{cells, NoOriginals}
+use Rattle.b67_layout.specs.Tops.{cells}
+use Rattle.b67_exec_cells.specs.Tops.{NoOriginals}
 use Rattle.b67_exec_cells.proofs.Put.{room, registers}
 use Rattle.b67_layout_store.proofs.Arrays.{number_renumbers}
 use Rattle.b67_layout_store.proofs.Objects.{identities_kept}

@@ -21,7 +21,8 @@ use Rattle.b67_layout.specs.Session.{IsRunning, RepresentsSession}
 use Rattle.b67_layout.proofs.Rows.{runs_on}
 use Rattle.b67_layout.proofs.Steps.{IsFree}
 use Rattle.b67_layout.proofs.Whole.{session_with, RepresentsSession-cells}
-use Rattle.b67_exec_cells.specs.Tops.{cells, NoOriginals}
+use Rattle.b67_layout.specs.Tops.{cells}
+use Rattle.b67_exec_cells.specs.Tops.{NoOriginals}
 use Rattle.b67_exec_cells.proofs.Replaced.{cells-are, shapes_plain, Represents-less, Represents-put}
 use Rattle.b67_lemmas.proofs.Members.{keyed_has}
 

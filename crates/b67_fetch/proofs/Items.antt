@@ -27,8 +27,9 @@ use Rattle.b67_layout.specs.Placement.{Placement}
 use Rattle.b67_layout.specs.Session.{IsRunning, RepresentsSession}
 use Rattle.b67_layout.specs.Meets.{here, Meets, RunsSome}
 use Rattle.b67_layout.proofs.Fresh.{running_in_order}
-use Rattle.b67_exec_cells.specs.Tops.{IsWordOf, cells, GivesTwo, NoOriginals}
-use Rattle.b67_exec_operands.proofs.Rows.{plain_operand}
+use Rattle.b67_layout.specs.Tops.{IsWordOf, cells}
+use Rattle.b67_exec_cells.specs.Tops.{GivesTwo, NoOriginals}
+use Rattle.b67_layout.proofs.PlainOperands.{plain_operand}
 use Rattle.b67_exec_cells.specs.Elements.{HasElement, HoldsElement, original_desc}
 use Rattle.b67_exec_cells.proofs.Arrays.{array_is}
 use Rattle.b67_fetch.specs.Fetches.{IsFollowed}

@@ -19,7 +19,8 @@ use Rattle.b67_refer.specs.RunningContext.{RunningContext, IsShown}
 use Rattle.b67_refer.specs.Cells.{StandsFor}
 use Rattle.b67_refer.specs.Ends.{EndMeets}
 use Rattle.b67_refer.specs.declared.ends.End.{End}
-use Rattle.b67_exec_cells.specs.Tops.{cells, GivesTwo}
+use Rattle.b67_layout.specs.Tops.{cells}
+use Rattle.b67_exec_cells.specs.Tops.{GivesTwo}
 use Rattle.b67_exec_cells.specs.Elements.{HasElement}
 use Rattle.b67_fetch.specs.Stores.{ElementAt}
 use Rattle.b67_fetch.proofs.Values.{here_scene, here_shown, followed_stands}

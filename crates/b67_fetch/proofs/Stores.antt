@@ -34,7 +34,8 @@ use Rattle.b67_refer.specs.RunningContext.{RunningContext, live_of}
 use Rattle.b67_refer.specs.Cells.{IsCellAt}
 use Rattle.b67_refer.specs.Ends.{EndMeets, IsElementOf}
 use Rattle.b67_refer.proofs.Items.{array_is as item_is}
-use Rattle.b67_exec_cells.specs.Tops.{cells, GivesTwo, NoOriginals}
+use Rattle.b67_layout.specs.Tops.{cells}
+use Rattle.b67_exec_cells.specs.Tops.{GivesTwo, NoOriginals}
 use Rattle.b67_exec_cells.proofs.Put.{fitting, room}
 use Rattle.b67_exec_cells.specs.Elements.{HasElement, HoldsElement}
 use Rattle.b67_exec_cells.proofs.Arrays.{area-inside}

@@ -29,7 +29,7 @@ use Rattle.b67_stack.specs.Represents.{Storage}
 use Rattle.b67_layout.specs.Placement.{Placement}
 use Rattle.b67_layout.specs.Session.{IsRunning, RepresentsSession, frame_address}
 use Rattle.b67_layout.specs.Meets.{here, Meets}
-use Rattle.b67_exec_cells.specs.Tops.{cells}
+use Rattle.b67_layout.specs.Tops.{cells}
 use Rattle.b67_refer.specs.Cells.{StandsFor, FindsCell, CellMeets, view}
 use Rattle.b67_refer.specs.Ends.{IsReference}
 use Rattle.b67_refer.proofs.Chains.{level_is}

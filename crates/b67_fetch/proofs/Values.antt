@@ -37,7 +37,7 @@ use Rattle.b67_layout.specs.Meets.{here, IsPresent, IsTouched, IsMade, FindsAbse
 use Rattle.b67_layout.proofs.Whole.{task_with}
 use Rattle.b67_layout.proofs.Fresh.{running_in_order}
 use Rattle.b67_refer.proofs.Items.{array_is, not_empty}
-use Rattle.b67_exec_cells.specs.Tops.{IsWordOf, cells, GivesTop}
+use Rattle.b67_layout.specs.Tops.{IsWordOf, cells, GivesTop}
 use Rattle.b67_exec_cells.specs.Elements.{HasElement, HoldsElement}
 use Rattle.b67_exec_cells.proofs.Put.{fitting}
 use Rattle.b67_fetch.specs.Fetches.{IsFollowed, IsEnd, SomeEnd, FindsEnd, value_of, enters, enters_at, EntersOrMeets, top_end}

@@ -18,7 +18,8 @@ use Rattle.b67_stack.specs.Represents.{Storage}
 use Rattle.b67_layout.specs.Placement.{Placement}
 use Rattle.b67_layout.specs.Session.{IsRunning}
 use Rattle.b67_layout.proofs.Fresh.{running_in_order}
-use Rattle.b67_exec_cells.specs.Tops.{IsWordOf, IsAt, cells, GivesTwo, NoOriginals}
+use Rattle.b67_layout.specs.Tops.{IsWordOf, IsAt, cells}
+use Rattle.b67_exec_cells.specs.Tops.{GivesTwo, NoOriginals}
 use Rattle.b67_fetch.specs.Fetches.{IsFollowed}
 
 -- which of two words is followed, and which one is stored: the upper one is stored where it is an operand's

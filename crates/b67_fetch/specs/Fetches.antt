@@ -21,7 +21,7 @@ use Rattle.b67_stack.specs.declared.Step.TheVariants as step
 use Rattle.b67_stack.specs.Represents.{Storage}
 use Rattle.b67_layout.specs.Placement.{Placement}
 use Rattle.b67_layout.specs.Meets.{Meets, RunsSome}
-use Rattle.b67_exec_cells.specs.Tops.{IsWordOf}
+use Rattle.b67_layout.specs.Tops.{IsWordOf}
 use Rattle.b67_exec_cells.specs.Elements.{HasElement}
 
 -- a word that the running task may follow: it is that of a state's word in order

@@ -9,7 +9,7 @@ ghost use Rattle.b67_model.specs.Rows as rows;
 ghost use Rattle.b67_model.specs.Steps.{cells_of};
 ghost use Rattle.b67_arith.specs.OnWords.{bits_in};
 ghost use Rattle.b67_layout.specs.Meets.{here, Meets, RunsSome, ForEach};
-ghost use Rattle.b67_exec_cells.specs.Tops.{IsWordOf};
+ghost use Rattle.b67_layout.specs.Tops.{IsWordOf};
 ghost use Rattle.b67_exec_cells.specs.Elements.{HasElement, HoldsElement};
 ghost use Rattle.b67_fetch.specs.Fetches.{IsFollowed, MayFollow};
 ghost use Rattle.b67_fetch.specs.Indexes.{array_in, FindsArray, index_in, FindsItem, FindsTopItem};

@@ -11,7 +11,8 @@ ghost use Rattle.b67_model.specs.Chase.{End as ModelEnd, chase as chase_of, foll
 ghost use Rattle.b67_model.specs.Steps.{leaves_cells, cells_of};
 ghost use Rattle.b67_model.specs.Rows as rows;
 ghost use Rattle.b67_layout.specs.Meets.{here, Meets, RunsSome, ForEach};
-ghost use Rattle.b67_exec_cells.specs.Tops.{cells, NoOriginals};
+ghost use Rattle.b67_layout.specs.Tops.{cells};
+ghost use Rattle.b67_exec_cells.specs.Tops.{NoOriginals};
 ghost use Rattle.b67_exec_cells.specs.Elements.{HasElement, HoldsElement};
 ghost use Rattle.b67_fetch.specs.Fetches.{IsFollowed, MayFollow, IsEnd, FindsEnd, SomeEnd, value_of, enters, enters_at, EntersOrMeets, top_end};
 

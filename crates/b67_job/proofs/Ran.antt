@@ -26,7 +26,7 @@ use Rattle.b67_law_turns.proofs.Runs.{Came}
 use Rattle.b67_task_tables.specs.declared.tables.Machine.{Machine}
 use Rattle.b67_session.specs.declared.slices.Progress.{Progress}
 use Rattle.b67_session.specs.declared.slices.Progress.TheVariants as progress
-use Rattle.b67_session_schedule.proofs.Rooms.{made_few}
+use Rattle.b67_law_order.proofs.FewMade.{made_few}
 use Rattle.b67_session.specs.Slices.{StandsAt, IsLimited, Reaches, Prints, SliceMeets, StopsBefore}
 use Rattle.b67_session.proofs.Texts.{run_text-append}
 use Rattle.b67_session_lines.specs.Moments.{last_part, due}

@@ -7,3 +7,7 @@ pub mod Chases
 pub mod Maps
 pub mod Couples
 pub mod Numbered
+pub mod LowNames
+pub mod Follows
+pub mod Lines
+pub mod FewMade

@@ -5,3 +5,6 @@ pub mod Session
 pub mod Orders
 pub mod Families
 pub mod Meets
+pub mod Peaks
+pub mod Moved
+pub mod Tops

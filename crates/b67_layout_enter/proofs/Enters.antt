@@ -29,8 +29,8 @@ use Rattle.b67_layout.proofs.Steps.{IsFree}
 use Rattle.b67_layout.proofs.Rows.{runs_on}
 use Rattle.b67_layout.proofs.Settles.{Settled-more}
 use Rattle.b67_layout_enter.proofs.Heads.{Represents-entered}
-use Rattle.b67_layout_enter.proofs.Tops.{task_on, SessionHolds-top, still_running}
-use Rattle.b67_layout_enter.proofs.Conditions.{Shows-condition}
+use Rattle.b67_layout.proofs.Tops.{task_on, SessionHolds-top, still_running}
+use Rattle.b67_layout.proofs.Conditions.{Shows-condition}
 use Rattle.b67_layout.proofs.Sessions.{running_only}
 use Rattle.b67_stack.specs.declared.Cpu.{Cpu}
 use Rattle.b67_lemmas.proofs.Members.{keyed_has}

@@ -1,5 +1,5 @@
 -- A marked record on top that is entered, and one that is entered at once.
-use Rattle.std.proofs.Common.{◌≡◌, ◌≢◌, ℕ, suc, ◌+◌, ◌-◌, ◌^◌, ◌<◌, ◌≤◌, List, [], ◌∷◌, ◌++◌, length, Option, Some, refl, sym, ◌∙◌, ap, arith, inl, inr, ⊎_elim, slice_set, subst, append_assoc, length-append}
+use Rattle.std.proofs.Common.{◌≡◌, ◌≢◌, ℕ, suc, ◌+◌, ◌-◌, ◌^◌, ◌<◌, ◌≤◌, List, [], ◌∷◌, ◌++◌, length, Option, Some, refl, sym, ◌∙◌, arith, inl, inr, ⊎_elim, slice_set, subst, append_assoc, length-append}
 use Rattle.std.specs.List.{slice_get}
 use Rattle.std.proofs.Math.ListN.{length-set}
 use Rattle.b67_word.specs.Tagged.{Tagged}
@@ -10,8 +10,8 @@ use Rattle.b67_core.proofs.Writes.{slice_get-set_other}
 use Rattle.b67_lemmas.specs.Lists.{Has}
 use Rattle.b67_model.specs.State.{Return}
 use Rattle.b67_stack.specs.Shapes.{Shape, Is, Original, Copy, Fits, LieDownward}
-use Rattle.b67_stack.specs.Stacks.{StackPlace, Marked, Entered, Activation, IsStack, HeadFits, top_size, stack_words, mark_of, return_of, words}
-use Rattle.b67_stack.specs.MachineView.{PagedObject, MachineView, RunsOn, slot_base, stack_of, CopiesName, NoOriginalAboveTop}
+use Rattle.b67_stack.specs.Stacks.{StackPlace, Marked, Entered, Activation, IsStack, HeadFits, top_size, mark_of, return_of, words}
+use Rattle.b67_stack.specs.MachineView.{PagedObject, MachineView, RunsOn, slot_base, CopiesName}
 use Rattle.b67_stack.specs.Represents.{Storage, RepresentsRunning, Represents}
 use Rattle.b67_stack.specs.Changes.{with_stack}
 use Rattle.b67_stack.proofs.Lies.{Lie-push}
@@ -21,6 +21,7 @@ use Rattle.b67_stack.proofs.Slots.{Represents-slot, running_slot, running_fits, 
 use Rattle.b67_stack.proofs.Pushes.{Room, room_of}
 use Rattle.b67_stack.proofs.Cells.{cell_word}
 use Rattle.b67_stack.proofs.Tops.{mark_at_f}
+use Rattle.b67_stack.proofs.ClearHeads.{IsClear}
 
 -- a word in the middle gives way to another one
 pub Lie-put : (R : Shape → ℕ → Tagged → Type 0) (core : List Tagged) (from i : ℕ) (above : List Shape) (a b : Shape) (w : Tagged) (under : List Shape) → i ≡ from + length under → i < length core → R b i w
@@ -43,17 +44,6 @@ copies_stay [] first mark under v w z (inr (inl e)) n o = absurd (o e)
 copies_stay [] first mark under v w z (inr (inr k)) n o = inr (inr k)
 copies_stay (c ∷ cells) first mark under v w z (inl e) n o = inl e
 copies_stay (c ∷ cells) first mark under v w z (inr k) n o = inr (copies_stay cells first mark under v w z k n o)
-
--- no original stands on the two words over the top
-abbrev pub IsClear : Regs → MachineView → Type 0
-IsClear r p = (t : PagedObject) → Has p.objects t → (t.home ≢ r.s + 1) × (t.home ≢ r.s + 2)
-
--- as none does where all of them stand at or under the top
-pub clear_settled : (x : Storage) (core : List Tagged) (r : Regs) (p : MachineView) (k : ℕ) (stack : List Activation) → Represents x core r p → RunsOn p k stack → r.s + 2 ≤ r.losr → NoOriginalAboveTop p → IsClear r p
-clear_settled x core r p k stack s u room settled t int =
-    let g = running_slot x core r p k stack s u in
-    let high_is : stack_words (stack_of (p.slots k)) ≡ stack_words stack = ap (λ y. stack_words (stack_of y)) u.is in
-    (λ z. omega (arith, z, settled t int k u.used (omega (arith, z, g.top)) (omega (arith, z, g.last, room)), high_is, g.top), λ z. omega (arith, z, settled t int k u.used (omega (arith, z, g.top)) (omega (arith, z, g.last, room)), high_is, g.top))
 
 module _ (x : Storage) (core : List Tagged) (r : Regs) (p : MachineView) (k : ℕ) (level : ℕ) (environment : StackPlace) (back : Return) (segment : ℕ) (q : Place) where
   -- the marked record on top is entered: the first cell gives way to the return word

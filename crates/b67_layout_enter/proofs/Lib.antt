@@ -1,10 +1,7 @@
 pub mod Heads
-pub mod Awaits
-pub mod Conditions
 pub mod Rooms
 pub mod Accidents
 pub mod Marks
 pub mod Enters
 pub mod Orders
 pub mod Names
-pub mod Tops

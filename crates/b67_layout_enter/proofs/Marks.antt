@@ -23,8 +23,9 @@ use Rattle.b67_layout.proofs.Others.{OnTop, seen-mark}
 use Rattle.b67_layout.proofs.Sessions.{running_only}
 use Rattle.b67_layout.proofs.Steps.{IsFree, GoesOn, SessionHolds-mark}
 use Rattle.b67_layout.proofs.Fresh.{next_is_free, free-uncritical}
-use Rattle.b67_layout_enter.proofs.Names.{frame_at_same, frame_past}
-use Rattle.b67_layout_enter.proofs.Tops.{still_running, outer-same}
+use Rattle.b67_law_order.proofs.LowNames.{frame_at_same}
+use Rattle.b67_layout_enter.proofs.Names.{frame_past}
+use Rattle.b67_layout.proofs.Tops.{still_running, outer-same}
 
 -- the mark of the next identity
 abbrev pub next_mark : Job → Frame

@@ -16,7 +16,7 @@ use Rattle.b67_law_order.proofs.Reaches.{alike_same, known_number}
 use Rattle.b67_law_order.proofs.Replaced.{replaced}
 use Rattle.b67_law_order.proofs.Changes.{Change, fresh_frame, change_cells, change_enter, change_replaces}
 use Rattle.b67_layout.proofs.Fresh.{critical-below}
-use Rattle.b67_layout_enter.proofs.Tops.{task_on}
+use Rattle.b67_layout.proofs.Tops.{task_on}
 
 -- its identity isn't that of what lies in its reach
 pub top_apart : (bound : ℕ) (fs : List Frame) (outer : List Known) (n : ℕ) (s : Standing) → fs ≢ [] → Falls bound (known_numbers (map known_of fs ++ outer)) → Has (map known_of (below_top fs) ++ outer) (n, s) → (top fs).identity ≢ n

@@ -24,8 +24,9 @@ use Rattle.b67_layout.specs.Meets.{objects_gone, with_job}
 use Rattle.b67_layout.proofs.Fresh.{running_in_order}
 use Rattle.b67_layout.proofs.MachineViews.{member-same}
 use Rattle.b67_layout.proofs.Rows.{row_of}
-use Rattle.b67_layout_leave.proofs.Objects.{others}
-use Rattle.b67_layout_leave.proofs.Nowhere.{MayLeave, high as identity_high, uncritical, under as once_only, elsewhere, not_in_reach, SameArrays, frames_stay}
+use Rattle.b67_layout.proofs.Objects.{others}
+use Rattle.b67_layout.proofs.NamedFirst.{high as identity_high, under as once_only, elsewhere}
+use Rattle.b67_layout_leave.proofs.Nowhere.{MayLeave, uncritical, not_in_reach, SameArrays, frames_stay}
 use Rattle.b67_layout.proofs.Replaces.{IsDependedOn, Replaces, task-same}
 use Rattle.b67_layout.proofs.Sessions.{SessionHoldsBut-after, for_running}
 use Rattle.b67_layout_leave.proofs.Slots.{OthersSame, stack-after, memory-after}

@@ -2,8 +2,5 @@ pub mod Apart
 pub mod Orders
 pub mod Leaves
 pub mod Settled
-pub mod Settles
-pub mod Originals
 pub mod Slots
 pub mod Nowhere
-pub mod Objects

@@ -1,64 +1,31 @@
 -- A frame that no live task depends on is in nobody's reach but its own, so nobody else names its arrays.
-use Rattle.std.proofs.Common.{◌≡◌, ◌≢◌, ℕ, ◌+◌, ◌<◌, List, [], ◌∷◌, ◌++◌, map, Option, Some, None, refl, sym, ◌∙◌, ap, arith, true, false, not, inl, inr, subst, unwrap_or}
+use Rattle.std.proofs.Common.{◌≡◌, ◌≢◌, ℕ, List, [], ◌∷◌, ◌++◌, map, Option, Some, None, refl, sym, ◌∙◌, ap, arith, true, false, not, inl, inr, subst, unwrap_or}
 use Rattle.std.specs.Prelude.{◌==◌}
 use Rattle.std.specs.List.{AllByRecursion}
 use Rattle.std.proofs.lemmas.Bool.{true≢false}
 use Rattle.std.proofs.lemmas.Bool.Decides.{eqb_tells}
 use Rattle.std.proofs.lemmas.Option.{same_Some}
 use Rattle.b67_lemmas.specs.Lists.{Has, Falls}
-use Rattle.b67_lemmas.proofs.Members.{any_none, falls_filter, has_append_cases, has_filter_in, has_map, keyed_falls, keyed_has, total_change, total_has}
+use Rattle.b67_lemmas.proofs.Members.{any_none, falls_filter, has_append_cases, has_filter_in, has_map, keyed_falls, keyed_has}
 use Rattle.b67_model.specs.Words as Words
 use Rattle.b67_model.specs.Words.{Word, Operand, Name, Ref, Row, Element, Original, Proc, Intrinsic}
 use Rattle.b67_model.specs.State.{Frame, Array, Task, JobConstants, Job}
-use Rattle.b67_model.specs.Keyed.{keyed, change_keyed}
+use Rattle.b67_model.specs.Keyed.{keyed}
 use Rattle.b67_model.specs.Arrays.{array, no_array}
 use Rattle.b67_model.specs.Steps.{is_critical}
-use Rattle.b67_model.specs.InOrder.{Starts, Known, known_of, from_frame, frames_of_task, critical_of, outer_reach, known_numbers, NamesArray, WordInOrder, FramesInOrder, frames_named, IsSegment, TasksInOrder}
+use Rattle.b67_model.specs.InOrder.{Starts, Known, known_of, from_frame, frames_of_task, critical_of, outer_reach, known_numbers, NamesArray, WordInOrder, FramesInOrder, frames_named}
 use Rattle.b67_law_order.proofs.Replaced.{numbers_append, has_counts, from_counts}
-use Rattle.b67_law_order.proofs.Looks.{above_one}
 use Rattle.b67_stack.specs.Shapes.{Shape}
 use Rattle.b67_stack.specs.Stacks.{StackPlace, Activation}
 use Rattle.b67_layout.specs.Placement.{Placement, spot_in}
 use Rattle.b67_layout.specs.Layout.{shape, head, activations}
-use Rattle.b67_layout.proofs.Sessions.{change-kept}
-use Rattle.b67_layout_leave.proofs.Objects.{others}
-
--- the top frame of a live task
-pub record IsOnTop (constants : JobConstants) (job : Job) (t : Task) (f : Frame) (below : List Frame) : Type 0 where
-  pub order : TasksInOrder (IsSegment constants) constants job
-  pub there : keyed (λ (u : Task). u.number) t.number job.tasks ≡ Some t
-  pub frames : t.frames ≡ f ∷ below
+use Rattle.b67_layout.proofs.Objects.{others}
+use Rattle.b67_layout.proofs.NamedFirst.{IsOnTop, high, under, elsewhere}
 
 -- on which no live task depends
 pub record MayLeave (constants : JobConstants) (job : Job) (t : Task) (f : Frame) (below : List Frame) : Type 0 where
   pub top : IsOnTop constants job t f below
   pub free : is_critical job f.identity ≡ false
-
-named_first : (f : Frame) (below : List Frame) → frames_named f.identity (f ∷ below) ≡ 1 + frames_named f.identity below
-named_first f below = elim (eqb_tells f.identity f.identity) [ inl e ↦ rw e.0 refl | inr e ↦ absurd (e.1 refl) ]
-
-module _ (constants : JobConstants) (job : Job) (t : Task) (f : Frame) (below : List Frame) (top : IsOnTop constants job t f below) where
-  pub live : Has job.tasks t
-  live = (keyed_has (λ (u : Task). u.number) t.number job.tasks t top.there).0
-
-  pub high : 1 < f.identity
-  high = above_one (IsSegment constants) constants job top.order t live f (subst (λ (fs : List Frame). Has fs f) (sym top.frames) (inl refl))
-
-  own_named : frames_named f.identity t.frames ≡ 1 + frames_named f.identity below
-  own_named = ap (frames_named f.identity) top.frames ∙ named_first f below
-
-  -- it stands once
-  pub under : frames_named f.identity below ≡ 0
-  under = omega (arith, own_named, total_has (λ (u : Task). frames_named f.identity u.frames) job.tasks t live, top.order.apart f.identity)
-
-  pub elsewhere : (u : Task) → Has job.tasks u → u.number ≢ t.number → frames_named f.identity u.frames ≡ 0
-  elsewhere u h ne = elim (change-kept (λ (v : Task). v.number) t.number (λ (v : Task). record t { frames = [] }) job.tasks t top.there u h) [
-    | inl k ↦
-        let e = total_change (λ (v : Task). v.number) (λ (v : Task). frames_named f.identity v.frames) t.number t (record t { frames = [] }) job.tasks top.there in
-        let l = total_has (λ (v : Task). frames_named f.identity v.frames) (change_keyed (λ (v : Task). v.number) t.number (λ (v : Task). record t { frames = [] }) job.tasks) u k in
-        omega (arith, e, l, own_named, top.order.apart f.identity)
-    | inr k ↦ absurd (ne (ap (λ (v : Task). v.number) k.0))
-  ]
 
 module _ (constants : JobConstants) (job : Job) (t : Task) (f : Frame) (below : List Frame) (may : MayLeave constants job t f below) where
   pub uncritical : (u : Task) → Has job.tasks u → u.critical ≢ f.identity

@@ -14,8 +14,9 @@ use Rattle.b67_law_order.proofs.Replaced.{Replaced, replaced, outer_kept}
 use Rattle.b67_law_order.proofs.Changes.{Change, change_drop, change_arrays}
 use Rattle.b67_law_order_rows.proofs.Entries.{none_original}
 use Rattle.b67_law_order_rows.proofs.Steps.{originals}
-use Rattle.b67_layout_leave.proofs.Objects.{others}
-use Rattle.b67_layout_leave.proofs.Nowhere.{MayLeave, high, uncritical, live}
+use Rattle.b67_layout.proofs.Objects.{others}
+use Rattle.b67_layout.proofs.NamedFirst.{high, live}
+use Rattle.b67_layout_leave.proofs.Nowhere.{MayLeave, uncritical}
 use Rattle.b67_layout_leave.proofs.Leaves.{task_at}
 
 module _ (constants : JobConstants) (job : Job) (t : Task) (f : Frame) (below : List Frame) (may : MayLeave constants job t f below) where

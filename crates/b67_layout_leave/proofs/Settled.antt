@@ -1,15 +1,14 @@
 -- The view after a frame was left is settled.
-use Rattle.std.proofs.Common.{◌≡◌, ◌≢◌, ℕ, ◌+◌, ◌≤◌, List, [], ◌∷◌, map, flat_map, sym, ◌∙◌, ap, arith, not, inl, inr, ◌⊎◌, subst}
+use Rattle.std.proofs.Common.{◌≡◌, ◌≢◌, ℕ, ◌+◌, ◌≤◌, List, ◌∷◌, map, flat_map, sym, ◌∙◌, ap, arith, not, inl, inr, ◌⊎◌, subst}
 use Rattle.std.specs.Prelude.{◌==◌}
 use Rattle.std.proofs.lemmas.Bool.{cases_eq, true≢false}
 use Rattle.std.proofs.lemmas.Bool.Decides.{eqb_tells}
 use Rattle.std.proofs.lemmas.Option.{same_Some}
 use Rattle.b67_word.specs.Tagged.{Tagged}
-use Rattle.b67_area.specs.declared.Kind.TheVariants as kind
 use Rattle.b67_ctl.specs.declared.registers.Regs.{Regs}
 use Rattle.b67_lemmas.specs.Lists.{Has, Falls}
 use Rattle.b67_lemmas.proofs.Members.{has_append_cases, has_append_right, has_filter, has_flat_back, has_map_back, keyed_has}
-use Rattle.b67_model.specs.State.{Frame, Array, Segment, Task, JobProgress, SessionJob}
+use Rattle.b67_model.specs.State.{Frame, Array, Task, JobProgress, SessionJob}
 use Rattle.b67_model.specs.Keyed.{keyed}
 use Rattle.b67_model.specs.Run.{number_of}
 use Rattle.b67_model.specs.Schedule.{Session}
@@ -24,16 +23,12 @@ use Rattle.b67_layout.specs.Session.{IsRunning, SessionHolds}
 use Rattle.b67_layout.specs.Meets.{objects_gone}
 use Rattle.b67_layout.proofs.MachineViews.{with_course, member-same, RowOf}
 use Rattle.b67_layout.proofs.Sessions.{change-has}
-use Rattle.b67_layout_leave.proofs.Objects.{others, objects-after}
+use Rattle.b67_layout.proofs.Objects.{others, objects-after}
 use Rattle.b67_layout.proofs.Replaces.{Replaces}
 use Rattle.b67_layout_leave.proofs.Slots.{OthersSame, slots-after}
-use Rattle.b67_layout_leave.proofs.Settles.{numbered_course, under, homes_low}
+use Rattle.b67_layout.proofs.LeftSettles.{numbered_course, under, homes_low}
 use Rattle.b67_law_order.proofs.Numbered.{keyed_member}
-
-pub code_kind : (plan : Placement) (j n : ℕ) (segments : List Segment) (t : PagedObject) → Has (code_objects plan j n segments) t → t.kind ≡ kind.Code
-code_kind plan j n [] t h = absurd h
-code_kind plan j n (s ∷ more) t (inl e) = ap (λ (z : PagedObject). z.kind) (sym e)
-code_kind plan j n (s ∷ more) t (inr h) = code_kind plan j (n + 1) more t h
+use Rattle.b67_layout.proofs.CodeKinds.{code_kind}
 
 module _ (x : Storage) (core : List Tagged) (r : Regs) (marks : List ℕ) (plan : Placement) (s : Session) (m : SessionJob) (t : Task) (f : Frame) (below : List Frame)
     (o : IsInOrderButCounts s) (h : SessionHolds x core r marks plan s) (runs : IsRunning plan s.jobs m t) (frames : t.frames ≡ f ∷ below)

@@ -21,7 +21,7 @@ use Rattle.b67_layout.specs.Session.{with_objects}
 use Rattle.b67_layout.specs.Meets.{objects_gone}
 use Rattle.b67_layout.proofs.MachineViews.{with_course, member-same, member-other, RowOf}
 use Rattle.b67_layout.proofs.Replaces.{Replaces, task-same, task-other, outer_spots-after}
-use Rattle.b67_layout_leave.proofs.Objects.{Represents-objects, others, objects-after}
+use Rattle.b67_layout.proofs.Objects.{Represents-objects, others, objects-after}
 use Rattle.b67_layout_leave.proofs.Nowhere.{SameArrays, activations-same}
 
 module _ (plan : Placement) (j : ℕ) (job job' : Job) (t t' : Task) (by : Replaces job job' t t') where

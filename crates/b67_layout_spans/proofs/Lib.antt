@@ -1,4 +1,5 @@
 pub mod Kins
-pub mod Lines
 pub mod Lies
 pub mod Sessions
+pub mod Covers
+pub mod FullDevice

@@ -30,13 +30,13 @@ use Rattle.b67_layout.specs.Session.{PlanFits, DictionariesFollow}
 use Rattle.b67_layout.proofs.Fresh.{job_in_order}
 use Rattle.b67_layout.proofs.Rows.{task_row, slot_below}
 use Rattle.b67_layout.proofs.Sessions.{follow-up}
-use Rattle.b67_layout_leave.proofs.Originals.{lies_at, original_word, InFrame, original_of, entry_number}
-use Rattle.b67_layout_leave.proofs.Settles.{stack_in_slot}
+use Rattle.b67_layout.proofs.Originals.{lies_at, original_word, InFrame, original_of, entry_number}
+use Rattle.b67_layout.proofs.LeftSettles.{stack_in_slot}
 use Rattle.b67_overlay.specs.declared.spans.Span.{Span}
 use Rattle.b67_overlay.specs.Spans.{Families, holds, span_of, up_from, whole, InSpan, ShapeInSpan, CopiesInSpans}
 use Rattle.b67_overlay.proofs.Families.{is_held, not_held_under, not_held_over, span_in_job, span_in_own, span_in_parent}
 use Rattle.b67_layout_spans.proofs.Kins.{kin_of, families, kin_there, parents_fall, task_order, job_found, lives_or}
-use Rattle.b67_layout_spans.proofs.Lines.{outer_owned, one_task, frame_is, frame_named}
+use Rattle.b67_law_order.proofs.Lines.{outer_owned, one_task, frame_is, frame_named}
 
 dictionary_under : (plan : Placement) (at : ℕ) (ms : List SessionJob) (y : SessionJob) → DictionariesFollow plan at ms → Has ms y → plan.dictionary y.constants.number + (2 + length y.constants.dictionary.cells) ≤ plan.stacks
 dictionary_under plan at [] y d h = absurd h

@@ -1,1 +1,2 @@
 pub mod SpansHold
+pub mod Full

@@ -19,10 +19,10 @@ use Rattle.b67_model.specs.Arrays.{array, no_array}
 use Rattle.b67_model.specs.Run.{number_of}
 use Rattle.b67_stack.specs.Shapes.{Shape, Copy}
 use Rattle.b67_stack.specs.Stacks.{StackPlace, Activation, stack_words}
-use Rattle.b67_layout_step.proofs.Alike.{AllAlike, outer_same}
+use Rattle.b67_layout.proofs.Alike.{AllAlike, outer_same}
 use Rattle.b67_area.specs.declared.kinds.Kind.TheVariants as kind
 use Rattle.b67_stack.specs.MachineView.{PagedObject, Slot, Running, Waiting, MachineView, slot_base, stack_of, NoOriginalAboveTop}
-use Rattle.b67_layout_storage.specs.Machine.{renumber, renumbered}
+use Rattle.b67_stack.specs.HeldOtherwise.{renumber, renumbered}
 use Rattle.b67_layout.specs.Placement.{Slotted, Placement, spot_in, outer_spots}
 use Rattle.b67_layout.specs.Layout.{shape, head, activations, slot_with, slot_in, slot_by, slot_at, array_object, code_objects, objects_of, machine_view}
 

@@ -4,7 +4,7 @@ use Rattle.b67_word.specs.Tagged.{Tagged}
 use Rattle.b67_ctl.specs.declared.registers.Regs.{Regs}
 use Rattle.b67_stack.specs.MachineView.{MachineView}
 use Rattle.b67_stack.specs.Represents.{Storage, Represents}
-use Rattle.b67_layout_storage.specs.Machine.{Stayed}
+use Rattle.b67_stack.specs.HeldOtherwise.{Stayed}
 
 pub Stayed-none : (p : MachineView) (core : List Tagged) → Stayed p core core
 Stayed-none p core = λ i low out apart. refl

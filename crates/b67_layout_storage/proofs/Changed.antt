@@ -14,9 +14,9 @@ use Rattle.b67_ctl.specs.declared.registers.Regs.{Regs}
 use Rattle.b67_stack.specs.Shapes.{Location}
 use Rattle.b67_stack.specs.MachineView.{PagedObject, MachineView, Slot, Free, Running, Waiting, SlotFits, IsArrayAt, Laid, slot_base, home_word}
 use Rattle.b67_stack.specs.Represents.{Storage, RepresentsSlot, RepresentsSlots, StacksLie, RepresentsObjects, RepresentsObject, Content, Owned, info_of, Represents}
-use Rattle.b67_layout_storage.specs.Machine.{with_held, TakesPlace}
-use Rattle.b67_layout_storage.proofs.Helds.{held-other, held-same}
-use Rattle.b67_layout_storage.proofs.Reheld.{slot_same, ObjectStays, Content-stays, storage_with, info_with}
+use Rattle.b67_stack.specs.HeldOtherwise.{with_held, TakesPlace}
+use Rattle.b67_stack.proofs.Helds.{held-other, held-same}
+use Rattle.b67_stack.proofs.Reheld.{slot_same, ObjectStays, Content-stays, storage_with, info_with}
 
 -- what is to be shown
 pub record Changed (x : Storage) (core new : List Tagged) (p : MachineView) (t t' : PagedObject) (h : Location) (spans : List Span) (shelf : Shelf) (device : Option (List (List ℕ))) : Type 0 where

@@ -1,7 +1,5 @@
 pub mod Helds
-pub mod Reheld
 pub mod Changed
-pub mod Unchanged
 pub mod Renumbered
 pub mod Words
 pub mod Holes
@@ -9,3 +7,4 @@ pub mod Devices
 pub mod Below
 pub mod Untold
 pub mod Chained
+pub mod Retold

@@ -4,7 +4,7 @@ use Rattle.b67_word.specs.Tagged.{Tagged}
 use Rattle.b67_ctl.specs.declared.registers.Regs.{Regs}
 use Rattle.b67_stack.specs.MachineView.{MachineView}
 use Rattle.b67_stack.specs.Represents.{Storage, Represents}
-use Rattle.b67_layout_storage.proofs.Reheld.{Content-stays}
+use Rattle.b67_stack.proofs.Reheld.{Content-stays}
 
 abbrev pub untold : Storage → Storage
 untold x = record x { device = None }

@@ -15,9 +15,9 @@ use Rattle.b67_stack.specs.MachineView.{PagedObject, MachineView, stack_of, slot
 use Rattle.b67_stack.specs.Represents.{Storage, StacksLie, Represents}
 use Rattle.b67_stack.proofs.Homes.{not_home, chain_small}
 use Rattle.b67_stack.proofs.Lies.{Lie-each}
-use Rattle.b67_layout_storage.specs.Machine.{with_held}
-use Rattle.b67_layout_storage.proofs.Helds.{held-other}
-use Rattle.b67_layout_storage.proofs.Unchanged.{slot_below, area_bounds}
+use Rattle.b67_stack.specs.HeldOtherwise.{with_held}
+use Rattle.b67_stack.proofs.Helds.{held-other}
+use Rattle.b67_stack.proofs.Unchanged.{slot_below, area_bounds}
 
 -- the word of an array's or data row's original
 pub original_word : (k : Kind) (n : ℕ) (h : Location) → k ≢ Code → n < 2 ^ 20 → h.chain < 2 ^ 20 → ((b : ℕ) → h.area ≡ Some b → b < 2 ^ 20) → IsOriginal (home_word_of k n h)

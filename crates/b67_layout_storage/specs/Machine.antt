@@ -1,16 +1,16 @@
 -- The machine with its areas, sectors and device, and views in which one object is held otherwise.
-use Rattle.std.specs.Prelude.{◌≡◌, ◌≢◌, ℕ, slice_get, ◌^◌, ◌<◌, ◌≤◌, ◌==◌, ◌⊎◌, List, [], ◌∷◌, length, map, Option, Some, None, if◌then◌else◌}
+use Rattle.std.specs.Prelude.{◌≡◌, ℕ, ◌^◌, ◌<◌, ◌≤◌, ◌⊎◌, List, [], ◌∷◌, length, Option, Some, None}
 use Rattle.std.specs.List.{AllByRecursion}
-use Rattle.b67_word.specs.Tagged.{Tagged}
 use Rattle.b67_area.specs.declared.Areas.{Areas}
 use Rattle.b67_area.specs.Spans.{Span, Area, Hole}
-use Rattle.b67_backing.specs.Shelf.{Table, IsShelf, chain_of}
+use Rattle.b67_backing.specs.Shelf.{Table, IsShelf}
 use Rattle.b67_backing.specs.Held.{Changes, Becomes}
 use Rattle.b67_lemmas.specs.Lists.{Has}
 use Rattle.b67_stack.specs.declared.Cpu.{Cpu}
-use Rattle.b67_stack.specs.Shapes.{Location, Locations}
+use Rattle.b67_stack.specs.Shapes.{Location}
 use Rattle.b67_stack.specs.MachineView.{PagedObject, MachineView}
-use Rattle.b67_stack.specs.Represents.{Storage, Told, Represents}
+use Rattle.b67_stack.specs.Represents.{Storage, Represents}
+use Rattle.b67_stack.specs.HeldOtherwise.{with_held}
 
 -- what a storage says of the sectors, if anything, is what the device tells
 abbrev pub Says : Option (List (List ℕ)) → Option (List (List ℕ)) → Type 0
@@ -28,10 +28,6 @@ pub record MachineRepresentsView (x : Storage) (cpu : Cpu) (areas : Areas) (tabl
   pub low : areas.low ≡ x.low
   pub shelf : IsShelf table x.shelf
   pub device : Says x.device told
-
--- how all objects are held where that at a home is held so
-abbrev pub with_held : Locations → ℕ → Location → Locations
-with_held held home h = λ q. if q == home then h else held q
 
 -- what the storage then is
 abbrev pub holding : Storage → ℕ → Location → Storage
@@ -52,33 +48,11 @@ pub record IsPresent (x : Storage) (p : MachineView) (at : ℕ) (t : PagedObject
 abbrev pub AreBits : List ℕ → Type 0
 AreBits ns = AllByRecursion (λ n. n < 2 ^ 48) ns
 
--- the view with other numbers in the object of a home
-abbrev pub renumber : ℕ → List ℕ → PagedObject → PagedObject
-renumber home ns t = if t.home == home then record t { numbers = ns } else t
-
-abbrev pub renumbered : MachineView → ℕ → List ℕ → MachineView
-renumbered p home ns = record p { objects = map (renumber home ns) p.objects }
-
--- of the objects one was replaced by another one of the same home and kind
-pub record TakesPlace (objects objects' : List PagedObject) (t t' : PagedObject) : Type 0 where
-  pub home : t'.home ≡ t.home
-  pub kind : t'.kind ≡ t.kind
-  pub some : 0 < length t'.numbers
-  pub few : length t'.numbers < 2 ^ 16
-  pub new : Has objects' t'
-  pub each : (u : PagedObject) → Has objects' u → (u ≡ t') ⊎ (Has objects u × (u.home ≢ t.home))
-  pub kept : (u : PagedObject) → Has objects u → u.home ≢ t.home → Has objects' u
-
 -- a hole of n words or more
 abbrev pub HasHole : ℕ → List Span → Type 0
 HasHole n [] = ⊥
 HasHole n (Area a ∷ ss) = HasHole n ss
 HasHole n (Hole m ∷ ss) = (n ≤ m) ⊎ HasHole n ss
-
--- the chain of a first sector is the same in another storage, and holds what it held, as far as that is told
-pub record ChainStays (x y : Storage) (first : ℕ) : Type 0 where
-  pub chain : chain_of first y.shelf.chains ≡ chain_of first x.shelf.chains
-  pub told : (ns : List ℕ) → Told x.device (chain_of first x.shelf.chains) ns → Told y.device (chain_of first x.shelf.chains) ns
 
 -- a device after calls: it has as many sectors, no count has fallen, and where it told its sectors it still does
 pub record DeviceAfterCalls {D : Type 0} (holds : D → Option (List (List ℕ))) (many counted failed : D → ℕ) (old new : D) : Type 0 where
@@ -86,11 +60,6 @@ pub record DeviceAfterCalls {D : Type 0} (holds : D → Option (List (List ℕ))
   pub calls : counted old ≤ counted new
   pub faults : failed old ≤ failed new
   pub tells : Changes holds old new (λ before after. length after ≡ length before)
-
--- the words below the slots that are neither the directory's nor descriptors are as they were
-abbrev pub Stayed : MachineView → List Tagged → List Tagged → Type 0
-Stayed p core new =
-    (i : ℕ) → i < p.stacks → (i < 152) ⊎ (160 ≤ i) → ((t : PagedObject) → Has p.objects t → t.home ≢ i) → slice_get new i ≡ slice_get core i
 
 -- a device that was read at most: its sectors hold what they held, and no count has fallen
 pub record DeviceAfterReads {D : Type 0} (holds : D → Option (List (List ℕ))) (many counted failed : D → ℕ) (old new : D) : Type 0 where

@@ -28,8 +28,8 @@ use Rattle.b67_layout.specs.Session.{DictionariesFollow, PlanFits}
 use Rattle.b67_layout.proofs.Fresh.{job_in_order}
 use Rattle.b67_layout.proofs.Rows.{task_row, slot_below}
 use Rattle.b67_layout.proofs.Sessions.{dictionary_above, follow-up}
-use Rattle.b67_layout_leave.proofs.Originals.{lies_at, lies_over, original_word, InFrame, original_of, entry_number}
-use Rattle.b67_layout_leave.proofs.Settles.{stack_in_slot}
+use Rattle.b67_layout.proofs.Originals.{lies_at, lies_over, original_word, InFrame, original_of, entry_number}
+use Rattle.b67_layout.proofs.LeftSettles.{stack_in_slot}
 use Rattle.b67_law_order.proofs.Numbered.{keyed_member}
 
 -- two words of one address are one word

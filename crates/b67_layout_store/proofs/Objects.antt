@@ -22,10 +22,10 @@ use Rattle.b67_layout.specs.Session.{PlanFits}
 use Rattle.b67_layout.proofs.Fresh.{job_in_order}
 use Rattle.b67_layout.proofs.MachineViews.{with_course, member-same}
 use Rattle.b67_layout.proofs.Sessions.{change-has, change-kept}
-use Rattle.b67_layout_leave.proofs.Settles.{numbered_course}
-use Rattle.b67_layout_leave.proofs.Settled.{code_kind}
+use Rattle.b67_layout.proofs.LeftSettles.{numbered_course}
+use Rattle.b67_layout.proofs.CodeKinds.{code_kind}
 use Rattle.b67_layout_store.proofs.Arrays.{Renumbers}
-use Rattle.b67_layout_storage.specs.Machine.{TakesPlace}
+use Rattle.b67_stack.specs.HeldOtherwise.{TakesPlace}
 use Rattle.b67_layout_store.proofs.Homes.{one_home}
 use Rattle.b67_law_order.proofs.Numbered.{keyed_member}
 

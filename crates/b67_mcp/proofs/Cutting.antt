@@ -13,7 +13,7 @@ use Rattle.b67_layout.specs.Orders.{IsInOrderButCounts}
 use Rattle.b67_layout.specs.Placement.{Placement}
 use Rattle.b67_layout.specs.Session.{IsRunning, RepresentsSession}
 use Rattle.b67_layout.specs.Meets.{here, with_job}
-use Rattle.b67_layout_enter.proofs.Awaits.{with_job-twice}
+use Rattle.b67_layout.proofs.Awaits.{with_job-twice}
 use Rattle.b67_layout_store.proofs.Arrays.{Renumbers}
 use Rattle.b67_law_order_rows.proofs.Calls.{length_replicate, zeros_low}
 use Rattle.b67_mcp_calls.specs.Calls.{MayCut, CutSome, job_cut}

@@ -24,12 +24,13 @@ use Rattle.b67_layout.specs.Placement.{Placement}
 use Rattle.b67_layout.specs.Layout.{array_object, objects_of, machine_view}
 use Rattle.b67_layout.specs.Session.{IsRunning}
 use Rattle.b67_layout.specs.Meets.{with_job, area_held}
-use Rattle.b67_layout_storage.specs.Machine.{IsPresent, PagingKeeps, Says, Stayed, TakesPlace, content_after}
+use Rattle.b67_stack.specs.HeldOtherwise.{Stayed, TakesPlace}
+use Rattle.b67_layout_storage.specs.Machine.{IsPresent, PagingKeeps, Says, content_after}
 use Rattle.b67_overlay.specs.Spans.{MachineCanPage}
 use Rattle.b67_layout_spans.proofs.Sessions.{copies_of, view_of}
 use Rattle.b67_layout_store.proofs.Arrays.{Renumbers}
 use Rattle.b67_exec_cells.proofs.Replaced.{array_object-has}
-use Rattle.b67_presence.proofs.FullDevice.{short_full, within}
+use Rattle.b67_layout_spans.proofs.FullDevice.{short_full, within}
 use Rattle.b67_task_tables.specs.declared.tables.Machine.{Machine}
 use Rattle.b67_task_tables.specs.Tables.{MachineRepresents}
 use Rattle.b67_task_need.specs.Needing.{StandsInOrder}

@@ -16,7 +16,7 @@ use Rattle.b67_law_order_rows.proofs.Stores.{change_has, arrays_changed, names_c
 use Rattle.b67_law_order_steps.proofs.Maps.{task_up}
 use Rattle.b67_layout.specs.Orders.{JobInOrderButCounts, IsInOrderButCounts}
 use Rattle.b67_layout.specs.Meets.{with_job}
-use Rattle.b67_layout_leave.proofs.Settles.{numbered_course}
+use Rattle.b67_layout.proofs.LeftSettles.{numbered_course}
 use Rattle.b67_layout_store.proofs.Arrays.{Renumbers}
 
 module _ (m : SessionJob) (id : ℕ) (f : Array → Array) (keeps : Renumbers f) (fits : (x : Array) → ArrayInOrder x → ArrayInOrder (f x)) where

@@ -23,9 +23,10 @@ use Rattle.b67_layout.specs.Session.{IsRunning}
 use Rattle.b67_layout.specs.Meets.{with_job}
 use Rattle.b67_layout.proofs.Fresh.{running_in_order}
 use Rattle.b67_layout.proofs.MachineViews.{member-same}
-use Rattle.b67_layout_step.proofs.Alike.{AllAlike}
-use Rattle.b67_layout_step.proofs.Paged.{RepresentsSession-over}
-use Rattle.b67_layout_storage.specs.Machine.{PagingKeeps, Stayed, TakesPlace}
+use Rattle.b67_layout.proofs.Alike.{AllAlike}
+use Rattle.b67_layout.proofs.Paged.{RepresentsSession-over}
+use Rattle.b67_stack.specs.HeldOtherwise.{Stayed, TakesPlace}
+use Rattle.b67_layout_storage.specs.Machine.{PagingKeeps}
 use Rattle.b67_overlay.specs.Spans.{MachineCanPage}
 use Rattle.b67_layout_spans.proofs.Sessions.{copies_of}
 use Rattle.b67_layout_storage.proofs.Devices.{says_of}

@@ -15,8 +15,8 @@ use Rattle.b67_law_order.proofs.Posts.{Post, post_ok, post_err, post_any, post_t
 use Rattle.b67_layout.specs.Placement.{Placement}
 use Rattle.b67_layout.specs.Meets.{here, with_job}
 use Rattle.b67_stack.specs.Represents.{Storage}
-use Rattle.b67_task_start.specs.Opening.{peak_with}
-use Rattle.b67_task_start.specs.Starts.{moved}
+use Rattle.b67_layout.specs.Peaks.{peak_with}
+use Rattle.b67_layout.specs.Moved.{moved}
 use Rattle.b67_task_tables.specs.declared.tables.Machine.{Machine}
 use Rattle.b67_task_tables.specs.Tables.{MachineRepresents}
 use Rattle.b67_mcp.specs.Called.{StartsTask}

@@ -14,7 +14,7 @@ use Rattle.b67_model.specs.Steps.{Line, Values, Done, Goes, is_critical}
 use Rattle.b67_model.specs.Words as Words
 use Rattle.b67_model.specs.Words.{Word, Operand, Name, Ref, Row, Element, Original, Proc, Intrinsic}
 use Rattle.b67_layout.specs.Meets.{here}
-use Rattle.b67_entry.proofs.Heres.{follow_same}
+use Rattle.b67_law_order.proofs.Follows.{follow_same}
 use Rattle.b67_mcp.proofs.Callings.{Calling}
 
 pub reference_same : (h k : OperatorContext) → all_frames h ≡ all_frames k → h.task.frames ≡ k.task.frames → h.job.arrays ≡ k.job.arrays → (w : Word) → follow_reference h w ≡ follow_reference k w

@@ -17,7 +17,7 @@ use Rattle.b67_mcp_calls.specs.Reads.{ReadMeets}
 use Rattle.b67_task_tables.specs.declared.tables.JobRow.{JobRow}
 use Rattle.b67_task_tables.specs.declared.tables.Machine.{Machine}
 use Rattle.b67_task_tables.specs.Tables.{job_row, MachineRepresents}
-use Rattle.b67_task_start.specs.Starts.{moved}
+use Rattle.b67_layout.specs.Moved.{moved}
 use Rattle.b67_task_tables.specs.declared.tables.TaskState.{TaskState}
 use Rattle.b67_mcp.specs.Called.{WaitsSo, IsUnstarted, IsUnstartedFull, LacksCore}
 use Rattle.b67_mcp.specs.declared.ends.CallEnd.{CallEnd}

@@ -19,7 +19,7 @@ use Rattle.b67_exec_cells.specs.Called.{called_in}
 use Rattle.b67_law_turns.specs.Turns.{task_lines}
 use Rattle.b67_session_lines.specs.Parts.{TookRest, TookMore}
 use Rattle.b67_layout.specs.Rows.{shown}
-use Rattle.b67_task_start.specs.Starts.{moved}
+use Rattle.b67_layout.specs.Moved.{moved}
 use Rattle.b67_task_tables.specs.declared.tables.TaskState.{TaskState}
 use Rattle.b67_task_tables.specs.declared.tables.Machine.{Machine}
 use Rattle.b67_task_tables.specs.Tables.{MachineRepresents, state_of}

@@ -8,7 +8,7 @@ use Rattle.b67_lemmas.specs.Lists.{Has}
 use Rattle.b67_stack.specs.Shapes.{Location, nowhere}
 use Rattle.b67_stack.specs.MachineView.{PagedObject, MachineView, Slot, Free, Running, Waiting, SlotFits, AreZero, home_word, slot_base}
 use Rattle.b67_stack.specs.Represents.{Storage, RepresentsSlot, Content, RepresentsObject, Represents}
-use Rattle.b67_layout_leave.proofs.Objects.{of_objects}
+use Rattle.b67_layout.proofs.Objects.{of_objects}
 
 -- an array of zeros that was never touched, at an address where no object is known
 pub record Fresh (x : Storage) (core : List Tagged) (p : MachineView) (new : PagedObject) : Type 0 where

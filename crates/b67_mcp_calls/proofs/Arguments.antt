@@ -11,7 +11,7 @@ use Rattle.b67_model.specs.Intrinsics.{row_copy, printrow}
 use Rattle.b67_stack.specs.Represents.{Storage}
 use Rattle.b67_layout.specs.Placement.{Placement}
 use Rattle.b67_layout.specs.Meets.{here}
-use Rattle.b67_exec_cells.specs.Tops.{cells}
+use Rattle.b67_layout.specs.Tops.{cells}
 use Rattle.b67_fetch.proofs.Values.{TopFollowed}
 use Rattle.b67_fetch.specs.Indexes.{FindsArray}
 use Rattle.b67_mcp_calls.specs.Calls.{IsCall}

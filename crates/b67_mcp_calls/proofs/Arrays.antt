@@ -27,7 +27,7 @@ use Rattle.b67_layout.specs.Session.{IsRunning, RepresentsSession}
 use Rattle.b67_layout.specs.Meets.{here, with_job}
 use Rattle.b67_layout.proofs.Fresh.{running_in_order}
 use Rattle.b67_layout.proofs.Sessions.{change-has}
-use Rattle.b67_layout_enter.proofs.Awaits.{with_job-twice}
+use Rattle.b67_layout.proofs.Awaits.{with_job-twice}
 use Rattle.b67_mcp_calls.specs.Calls.{MayCut, job_cut}
 use Rattle.b67_mcp_calls.specs.Declaring.{without, with_home, new_array, job_declared}
 use Rattle.b67_exec_calls.proofs.Answering.{task_cut, member_cut, runs_cut, higher}

@@ -25,7 +25,7 @@ use Rattle.b67_stack.specs.Represents.{Storage, RepresentsRunning, Represents}
 use Rattle.b67_stack.specs.Changes.{pushed, with_stack, with_cells, top_cells}
 use Rattle.b67_stack.proofs.Bases.{base-apart}
 use Rattle.b67_stack.proofs.Slots.{by_slot, running_fits}
-use Rattle.b67_layout_storage.proofs.Helds.{held-same}
+use Rattle.b67_stack.proofs.Helds.{held-same}
 use Rattle.b67_layout.specs.Placement.{Placement, slot_of, spot_in, outer_spots, spots}
 use Rattle.b67_layout.specs.Layout.{shape, stack_of_task, slot_at, code_objects, array_object, objects_of, machine_view}
 use Rattle.b67_layout.specs.Session.{RepresentsTask, IsRunning, ShowsDisplay, SessionHolds, RepresentsSession}
@@ -37,10 +37,10 @@ use Rattle.b67_layout.proofs.Sessions.{change-has, change-kept, SessionHoldsBut-
 use Rattle.b67_layout.proofs.Steps.{activations-with, seen-with, critical-with}
 use Rattle.b67_layout.proofs.Displays.{Shows-same}
 use Rattle.b67_layout.proofs.Whole.{spots-with}
-use Rattle.b67_layout_leave.proofs.Objects.{of_objects}
+use Rattle.b67_layout.proofs.Objects.{of_objects}
 use Rattle.b67_layout_leave.proofs.Nowhere.{SameArray, SameArrays, activations-same}
 use Rattle.b67_layout_leave.proofs.Slots.{OthersSame, stack-after, slots-after}
-use Rattle.b67_exec_cells.specs.Tops.{cells}
+use Rattle.b67_layout.specs.Tops.{cells}
 use Rattle.b67_exec_cells.proofs.Replaced.{cells-are}
 use Rattle.b67_mcp_calls.specs.Declaring.{without}
 use Rattle.b67_exec_calls.proofs.Pushed.{stack, on_slot, registers, room}

@@ -17,7 +17,7 @@ use Rattle.b67_stack.specs.Represents.{Storage}
 use Rattle.b67_layout.specs.Placement.{Placement}
 use Rattle.b67_layout.specs.Meets.{here, area_held}
 use Rattle.b67_exec_cells.specs.Elements.{HasElement}
-use Rattle.b67_exec_cells.specs.Tops.{cells}
+use Rattle.b67_layout.specs.Tops.{cells}
 use Rattle.b67_mcp_calls.specs.Calls.{IsCall}
 use Rattle.b67_exec_calls.proofs.Ones.{one}
 use Rattle.b67_mcp_calls.specs.Texts.{values_of, is_some}

@@ -16,8 +16,9 @@ use Rattle.b67_stack.specs.declared.Cpu.{Cpu}
 use Rattle.b67_stack.specs.Represents.{Storage}
 use Rattle.b67_layout.specs.Placement.{Placement}
 use Rattle.b67_layout.specs.Meets.{here}
-use Rattle.b67_exec_cells.specs.Tops.{cells, GivesTop, NoOriginals}
-use Rattle.b67_exec_operands.proofs.Rows.{plain_operand}
+use Rattle.b67_layout.specs.Tops.{cells, GivesTop}
+use Rattle.b67_exec_cells.specs.Tops.{NoOriginals}
+use Rattle.b67_layout.proofs.PlainOperands.{plain_operand}
 use Rattle.b67_mcp_calls.specs.Calls.{IsCall}
 use Rattle.b67_exec_calls.proofs.Ones.{one, value_is}
 use Rattle.b67_mcp_calls.specs.Declaring.{new_array, length_in, LengthMeets}

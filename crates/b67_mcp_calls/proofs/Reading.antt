@@ -14,7 +14,8 @@ use Rattle.b67_layout.specs.Rows.{JobShows}
 use Rattle.b67_layout.specs.Meets.{here}
 use Rattle.b67_task_tables.specs.declared.tables.JobRow.{JobRow}
 use Rattle.b67_task_tables.specs.Tables.{job_row}
-use Rattle.b67_exec_cells.specs.Tops.{cells, NoOriginals}
+use Rattle.b67_layout.specs.Tops.{cells}
+use Rattle.b67_exec_cells.specs.Tops.{NoOriginals}
 use Rattle.b67_mcp_calls.specs.Calls.{IsCall}
 use Rattle.b67_exec_calls.proofs.Answering.{no_higher}
 use Rattle.b67_mcp_calls.specs.Reads.{left_in, ReadMeets}

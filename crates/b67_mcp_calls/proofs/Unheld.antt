@@ -11,9 +11,9 @@ use Rattle.b67_stack.specs.Stacks.{words}
 use Rattle.b67_stack.specs.MachineView.{PagedObject, MachineView, home_word, slot_base, stack_of}
 use Rattle.b67_stack.specs.Represents.{Storage, Content, StacksLie, RepresentsObject, Owned, Represents, info_of}
 use Rattle.b67_stack.proofs.Lies.{Lie-each}
-use Rattle.b67_layout_storage.proofs.Helds.{held-other, held-same}
+use Rattle.b67_stack.proofs.Helds.{held-other, held-same}
 use Rattle.b67_layout_storage.proofs.Words.{copy_other}
-use Rattle.b67_layout_storage.proofs.Reheld.{Content-stays}
+use Rattle.b67_stack.proofs.Reheld.{Content-stays}
 use Rattle.b67_mcp_calls.specs.Declaring.{without}
 
 module _ (x : Storage) (core : List Tagged) (r : Regs) (p : MachineView) (at : ℕ) (s : Represents x core r p) (apart : (t : PagedObject) → Has p.objects t → t.home ≢ at) where

@@ -25,7 +25,8 @@ use Rattle.b67_layout.specs.Placement.{Placement}
 use Rattle.b67_layout.specs.Session.{IsRunning, RepresentsSession}
 use Rattle.b67_layout.specs.Meets.{here}
 use Rattle.b67_exec_cells.specs.Elements.{HasElement, original_desc}
-use Rattle.b67_exec_cells.specs.Tops.{cells, GivesTwo}
+use Rattle.b67_layout.specs.Tops.{cells}
+use Rattle.b67_exec_cells.specs.Tops.{GivesTwo}
 use Rattle.b67_exec_cells.proofs.Arrays.{array_is, absent, present}
 use Rattle.b67_exec_operands.proofs.Rows.{operand_seen}
 use Rattle.b67_fetch.specs.Fetches.{IsFollowed}

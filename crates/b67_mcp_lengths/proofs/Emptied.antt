@@ -16,10 +16,11 @@ use Rattle.b67_ctl.specs.declared.registers.Regs.{Regs}
 use Rattle.b67_stack.specs.Shapes.{nowhere}
 use Rattle.b67_stack.specs.MachineView.{PagedObject, MachineView, slot_base, home_word_of, AreZero}
 use Rattle.b67_stack.specs.Represents.{Storage, Represents, info_of}
-use Rattle.b67_layout_storage.specs.Machine.{IsPresent, TakesPlace, Stayed}
-use Rattle.b67_layout_storage.proofs.Unchanged.{area_of_object, home_below}
+use Rattle.b67_stack.specs.HeldOtherwise.{Stayed, TakesPlace}
+use Rattle.b67_layout_storage.specs.Machine.{IsPresent}
+use Rattle.b67_stack.proofs.Unchanged.{area_of_object, home_below}
 use Rattle.b67_layout_storage.proofs.Words.{StacksLie-home, original_word}
-use Rattle.b67_layout_storage.proofs.Reheld.{storage_with}
+use Rattle.b67_stack.proofs.Reheld.{storage_with}
 use Rattle.b67_layout_storage.proofs.Changed.{Changed, Represents-changed}
 use Rattle.b67_overlay.specs.Turns.{Hides}
 use Rattle.b67_overlay.proofs.Dropping.{Freed, size2, here3, stays3, body3, other_area, stacks3, area_of3, bases3, word3}

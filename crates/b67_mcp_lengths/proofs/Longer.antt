@@ -19,12 +19,13 @@ use Rattle.b67_ctl.specs.declared.registers.Regs.{Regs}
 use Rattle.b67_stack.specs.Shapes.{Location}
 use Rattle.b67_stack.specs.MachineView.{PagedObject, MachineView, slot_base, home_word_of, words_of, tag_of}
 use Rattle.b67_stack.specs.Represents.{Storage, Represents, HoldsIn, Content, Told, info_of}
-use Rattle.b67_layout_storage.specs.Machine.{IsPresent, DeviceAfterCalls, TakesPlace, Says, content_after, with_held}
+use Rattle.b67_stack.specs.HeldOtherwise.{with_held, TakesPlace}
+use Rattle.b67_layout_storage.specs.Machine.{IsPresent, DeviceAfterCalls, Says, content_after}
 use Rattle.b67_overlay.specs.Spans.{MachineCanPage}
-use Rattle.b67_layout_storage.proofs.Unchanged.{area_of_object, home_below}
+use Rattle.b67_stack.proofs.Unchanged.{area_of_object, home_below}
 use Rattle.b67_layout_storage.proofs.Words.{StacksLie-home, original_word}
-use Rattle.b67_layout_storage.proofs.Helds.{held-other, held-same}
-use Rattle.b67_layout_storage.proofs.Reheld.{storage_with, Content-stays}
+use Rattle.b67_stack.proofs.Helds.{held-other, held-same}
+use Rattle.b67_stack.proofs.Reheld.{storage_with, Content-stays}
 use Rattle.b67_layout_storage.proofs.Changed.{Changed, Represents-changed}
 use Rattle.std.specs.Prelude.{Result, Ok, Err}
 use Rattle.b67_area.specs.declared.Areas.{Areas}

@@ -23,12 +23,13 @@ use Rattle.b67_stack.specs.Stacks.{words}
 use Rattle.b67_stack.specs.MachineView.{PagedObject, MachineView, slot_base, stack_of, home_word_of, words_of, tag_of}
 use Rattle.b67_stack.specs.Represents.{Storage, Represents, StacksLie, Content, KeptChain, info_of}
 use Rattle.b67_stack.proofs.Lies.{Lie-each, Upward-same}
-use Rattle.b67_layout_storage.specs.Machine.{IsPresent, TakesPlace, Stayed, with_held}
+use Rattle.b67_stack.specs.HeldOtherwise.{Stayed, with_held, TakesPlace}
+use Rattle.b67_layout_storage.specs.Machine.{IsPresent}
 use Rattle.b67_layout_storage.proofs.Below.{stacks_low, not_heads}
-use Rattle.b67_layout_storage.proofs.Helds.{held-other, held-same}
-use Rattle.b67_layout_storage.proofs.Unchanged.{area_of_object, area_bounds, home_below, base_low, slot_below}
+use Rattle.b67_stack.proofs.Helds.{held-other, held-same}
+use Rattle.b67_stack.proofs.Unchanged.{area_of_object, area_bounds, home_below, base_low, slot_below}
 use Rattle.b67_layout_storage.proofs.Words.{shape_home, no_code_above, original_word}
-use Rattle.b67_layout_storage.proofs.Reheld.{storage_with, info_with}
+use Rattle.b67_stack.proofs.Reheld.{storage_with, info_with}
 use Rattle.b67_layout_storage.proofs.Changed.{Changed, Represents-changed}
 use Rattle.b67_mcp_lengths.specs.Lengths.{cut_to, shorter, freed_chain}
 use Rattle.b67_mcp_lengths.proofs.Freeing.{of_left, no_zero_left, other_left}

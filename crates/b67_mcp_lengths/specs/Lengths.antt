@@ -12,7 +12,8 @@ use Rattle.b67_stack.specs.declared.Cpu.{Cpu}
 use Rattle.b67_stack.specs.Shapes.{nowhere}
 use Rattle.b67_stack.specs.MachineView.{PagedObject, MachineView}
 use Rattle.b67_stack.specs.Represents.{Storage}
-use Rattle.b67_layout_storage.specs.Machine.{TakesPlace, with_held, content_after}
+use Rattle.b67_stack.specs.HeldOtherwise.{with_held, TakesPlace}
+use Rattle.b67_layout_storage.specs.Machine.{content_after}
 use Rattle.b67_overlay.specs.Spans.{MachineCanPage}
 
 -- an array of a view, by the address of its original

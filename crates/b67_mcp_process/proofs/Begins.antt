@@ -28,18 +28,20 @@ use Rattle.b67_layout.specs.Session.{IsRunning}
 use Rattle.b67_layout.specs.Meets.{with_job}
 use Rattle.b67_layout.proofs.Fresh.{running_in_order}
 use Rattle.b67_layout.proofs.MachineViews.{member-same}
-use Rattle.b67_layout_enter.proofs.Awaits.{with_job-twice}
-use Rattle.b67_layout_leave.proofs.Settles.{numbered_course}
+use Rattle.b67_layout.proofs.Awaits.{with_job-twice}
+use Rattle.b67_layout.proofs.LeftSettles.{numbered_course}
 use Rattle.b67_entry_enter.proofs.Sites.{Site, site}
-use Rattle.b67_exec_cells.specs.Tops.{cells}
+use Rattle.b67_layout.specs.Tops.{cells}
 use Rattle.b67_exec_calls.specs.Calls.{MayCut}
 use Rattle.b67_exec_calls.specs.Answered.{job_answered}
 use Rattle.b67_exec_calls.proofs.Cuts.{Cut, cut_of}
 use Rattle.b67_fetch.proofs.Values.{here_scene}
 use Rattle.b67_task_need.specs.Needing.{need_with}
 use Rattle.b67_task_need.proofs.Needs.{follow_all}
-use Rattle.b67_task_start.specs.Opening.{IsLowestFree, slot_end, peak_with}
-use Rattle.b67_task_start.specs.Starts.{MayStart, arguments, child, with_child, moved}
+use Rattle.b67_layout.specs.Peaks.{peak_with}
+use Rattle.b67_task_start.specs.Opening.{IsLowestFree, slot_end}
+use Rattle.b67_layout.specs.Moved.{moved}
+use Rattle.b67_task_start.specs.Starts.{MayStart, arguments, child, with_child}
 use Rattle.b67_task_start.proofs.Begins.{has_slot}
 use Rattle.b67_task_start.proofs.Opens.{lowest_low}
 use Rattle.b67_task_start.proofs.Starting.{found_cell}

@@ -29,7 +29,7 @@ use Rattle.b67_layout.proofs.Fresh.{running_in_order}
 use Rattle.b67_refer.specs.RunningContext.{RunningContext, live_of}
 use Rattle.b67_entry_enter.specs.Procedures.{ReachesProc}
 use Rattle.b67_refer.proofs.Links.{Described, own, row, item}
-use Rattle.b67_exec_cells.specs.Tops.{IsWordOf, cells}
+use Rattle.b67_layout.specs.Tops.{IsWordOf, cells}
 use Rattle.b67_exec_cells.proofs.Put as Put
 use Rattle.b67_exec_cells.proofs.Replaced.{word_under}
 use Rattle.b67_fetch.specs.Fetches.{IsFollowed}

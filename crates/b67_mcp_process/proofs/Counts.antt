@@ -1,9 +1,8 @@
 -- As many rows are of tasks of a job as tasks of it live.
 use Rattle.std.proofs.Common.{◌≡◌, ◌==◌, ℕ, zero, suc, ◌+◌, ◌<◌, ◌≤◌, List, [], ◌∷◌, map, flat_map, drop, length, Some, refl, sym, ◌∙◌, ap, arith, inl, inr, subst, length-append}
-use Rattle.std.specs.Prelude.{if◌then◌else◌}
+use Rattle.std.specs.Prelude.{if◌then◌else◌, get_or}
 use Rattle.std.proofs.lemmas.Bool.{cases_Bool, eq-eqb, eqb-true, true≢false}
 use Rattle.std.proofs.lemmas.List.{length-map}
-use Rattle.std.specs.Prelude.{get_or}
 use Rattle.std.specs.List.{slice_get}
 use Rattle.std.proofs.lemmas.Option.{get_or_from_slice_get, same_Some}
 use Rattle.b67_lemmas.specs.Lists.{Has}
@@ -20,7 +19,7 @@ use Rattle.b67_layout.specs.Rows as rows
 use Rattle.b67_layout.specs.Rows.{Differ, TablesShow}
 use Rattle.b67_layout.specs.Session.{RowsFit}
 use Rattle.b67_layout.proofs.Counting.{not_more, slots_of}
-use Rattle.b67_task_need.proofs.Counts.{jobs_differ}
+use Rattle.b67_layout.proofs.LiveRows.{jobs_differ}
 use Rattle.b67_task_tables.specs.declared.tables.TaskRow.{TaskRow}
 use Rattle.b67_task_tables.specs.declared.tables.Tasks.{Tasks}
 use Rattle.b67_task_tables.specs.Tables.{task_row, TasksShow}

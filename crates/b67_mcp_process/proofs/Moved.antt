@@ -11,9 +11,10 @@ use Rattle.b67_stack.specs.Represents.{Storage, Represents}
 use Rattle.b67_layout.specs.Orders.{IsInOrderButCounts}
 use Rattle.b67_layout.specs.Placement.{Placement}
 use Rattle.b67_layout.specs.Layout.{machine_view}
-use Rattle.b67_layout_step.proofs.Alike.{AllAlike}
-use Rattle.b67_layout_step.proofs.Paged.{RepresentsSession-over}
-use Rattle.b67_layout_storage.specs.Machine.{PagingKeeps, Says, Stayed, content_after}
+use Rattle.b67_layout.proofs.Alike.{AllAlike}
+use Rattle.b67_layout.proofs.Paged.{RepresentsSession-over}
+use Rattle.b67_stack.specs.HeldOtherwise.{Stayed}
+use Rattle.b67_layout_storage.specs.Machine.{PagingKeeps, Says, content_after}
 use Rattle.b67_overlay.specs.Spans.{MachineCanPage}
 use Rattle.b67_layout_storage.proofs.Untold.{untold, Represents-untold}
 use Rattle.b67_overlay.specs.AreasEvicted.{AreasEvicted}

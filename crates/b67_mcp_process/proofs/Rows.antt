@@ -16,7 +16,7 @@ use Rattle.b67_model.specs.Steps.{Done, is_critical}
 use Rattle.b67_model.specs.Intrinsics.{is_original, child_of, starts, process}
 use Rattle.b67_layout.specs.Meets.{here}
 use Rattle.b67_refer.specs.Ends.{IsReference}
-use Rattle.b67_exec_cells.specs.Tops.{cells}
+use Rattle.b67_layout.specs.Tops.{cells}
 use Rattle.b67_exec_calls.specs.Calls.{IsCall}
 use Rattle.b67_exec_calls.proofs.Answering.{no_higher}
 use Rattle.b67_entry_enter.proofs.Firsts.{same_follow}

@@ -22,11 +22,12 @@ use Rattle.b67_stack.specs.Represents.{Storage}
 use Rattle.b67_layout.specs.Placement.{Placement}
 use Rattle.b67_layout.specs.Session.{IsRunning}
 use Rattle.b67_layout.specs.Meets.{here, with_job}
-use Rattle.b67_exec_cells.specs.Tops.{cells}
+use Rattle.b67_layout.specs.Tops.{cells}
 use Rattle.b67_exec_calls.specs.Answered.{job_answered}
 use Rattle.b67_task_need.specs.Needing.{need_with}
 use Rattle.b67_task_start.specs.Opening.{IsLowestFree, slot_end}
-use Rattle.b67_task_start.specs.Starts.{MayStart, arguments, child, moved}
+use Rattle.b67_layout.specs.Moved.{moved}
+use Rattle.b67_task_start.specs.Starts.{MayStart, arguments, child}
 use Rattle.b67_task_start.proofs.Rows.{job_row_of}
 use Rattle.b67_task_tables.specs.declared.tables.Machine.{Machine}
 use Rattle.b67_task_tables.specs.Tables.{MachineRepresents}

@@ -13,7 +13,7 @@ use Rattle.b67_model.specs.Intrinsics.{is_original, answered, needs_free, proces
 use Rattle.b67_stack.specs.declared.Cpu.{Cpu}
 use Rattle.b67_layout.specs.Placement.{Placement}
 use Rattle.b67_layout.specs.Meets.{RunsSome, here}
-use Rattle.b67_exec_cells.specs.Tops.{cells}
+use Rattle.b67_layout.specs.Tops.{cells}
 use Rattle.b67_exec_calls.specs.Calls.{MayCut}
 use Rattle.b67_task_start.specs.Starts.{IsProcCell, child, with_child}
 use Rattle.b67_mcp_process.specs.declared.asking.Asked.{Asked}

@@ -7,7 +7,8 @@ use Rattle.b67_model.specs.Schedule.{Session}
 use Rattle.b67_stack.specs.Represents.{Storage}
 use Rattle.b67_layout.specs.Placement.{Placement}
 use Rattle.b67_exec_calls.specs.Calls.{MayCut}
-use Rattle.b67_task_start.specs.Starts.{StartsSome, moved}
+use Rattle.b67_layout.specs.Moved.{moved}
+use Rattle.b67_task_start.specs.Starts.{StartsSome}
 use Rattle.b67_task_tables.specs.declared.tables.TaskRow.{TaskRow}
 use Rattle.b67_task_tables.specs.declared.tables.Machine.{Machine}
 use Rattle.b67_task_tables.specs.Tables.{MachineRepresents}

@@ -15,7 +15,7 @@ use Rattle.b67_layout.specs.Placement.{Placement}
 use Rattle.b67_layout.specs.Meets.{here}
 use Rattle.b67_exec_calls.specs.Calls.{IsCall}
 use Rattle.b67_task_need.specs.Needing.{need_with}
-use Rattle.b67_task_start.specs.Starts.{moved}
+use Rattle.b67_layout.specs.Moved.{moved}
 use Rattle.b67_task_tables.specs.declared.tables.JobRow.{JobRow}
 use Rattle.b67_task_tables.specs.declared.tables.Machine.{Machine}
 use Rattle.b67_task_tables.specs.Tables.{MachineRepresents, AreCountable}

@@ -14,8 +14,8 @@ use Rattle.b67_model.specs.Intrinsics.{is_original, awaits, answers, status_of, 
 use Rattle.b67_stack.specs.declared.Cpu.{Cpu}
 use Rattle.b67_stack.specs.Represents.{Storage}
 use Rattle.b67_layout.specs.Placement.{Placement}
-use Rattle.b67_exec_cells.specs.Tops.{cells, GivesTop}
-use Rattle.b67_exec_operands.proofs.Rows.{plain_operand}
+use Rattle.b67_layout.specs.Tops.{cells, GivesTop}
+use Rattle.b67_layout.proofs.PlainOperands.{plain_operand}
 use Rattle.b67_exec_calls.specs.Calls.{IsCall, MayCut, number_in}
 use Rattle.b67_exec_calls.proofs.Ones.{count, one, value_is}
 use Rattle.b67_mcp_waits.specs.Arguments.{number_given, end_given}

@@ -28,7 +28,7 @@ use Rattle.b67_layout.specs.Session.{IsRunning, frame_address, RepresentsSession
 use Rattle.b67_layout.specs.Meets.{here, with_job}
 use Rattle.b67_layout.proofs.Fresh.{running_in_order}
 use Rattle.b67_layout.proofs.MachineViews.{member-same}
-use Rattle.b67_layout_enter.proofs.Awaits.{with_job-twice}
+use Rattle.b67_layout.proofs.Awaits.{with_job-twice}
 use Rattle.b67_layout_store.proofs.Frames.{put_frames, put_job, with_cell_is}
 use Rattle.b67_layout_store.proofs.Mapped.{put_task, keyed_put, critical_put}
 use Rattle.b67_layout_store.proofs.Stored.{RepresentsSession-store, still_runs}

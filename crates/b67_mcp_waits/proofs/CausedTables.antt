@@ -29,7 +29,7 @@ use Rattle.b67_layout.proofs.MachineViews.{member-same}
 use Rattle.b67_layout.proofs.Sessions.{change-has, change-kept}
 use Rattle.b67_layout_store.proofs.Frames.{put_job, put_spot}
 use Rattle.b67_layout_store.proofs.Mapped.{put_task, keyed_put, spots_put}
-use Rattle.b67_task_switch.proofs.Tables.{live_in_order}
+use Rattle.b67_layout.proofs.LiveTasks.{live_in_order}
 use Rattle.b67_task_tables.specs.declared.tables.TaskRow.{TaskRow}
 use Rattle.b67_task_tables.specs.declared.tables.TaskState.{TaskState}
 use Rattle.b67_task_tables.specs.declared.tables.TaskState.TheVariants.{Ready, Awaits, WaitsAt}

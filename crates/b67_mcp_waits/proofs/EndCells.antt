@@ -26,7 +26,7 @@ use Rattle.b67_refer.specs.declared.ends.End.TheVariants as end
 use Rattle.b67_refer.specs.RunningContext.{RunningContext}
 use Rattle.b67_refer.specs.Cells.{StandsFor, IsCellAt}
 use Rattle.b67_refer.specs.Ends.{EndMeets}
-use Rattle.b67_exec_cells.specs.Tops.{cells}
+use Rattle.b67_layout.specs.Tops.{cells}
 use Rattle.b67_fetch.proofs.Values.{TopFollowed, here_scene}
 use Rattle.b67_exec_calls.specs.Calls.{IsCall}
 use Rattle.b67_exec_calls.proofs.Ones.{one}

@@ -24,7 +24,7 @@ use Rattle.b67_law_order.proofs.Maps.{HoldsOperand, cell_stored, map_good, frame
 use Rattle.b67_law_order_rows.proofs.Stores.{operand_is}
 use Rattle.b67_layout.specs.Orders.{JobInOrderButCounts, IsInOrderButCounts}
 use Rattle.b67_layout.specs.Meets.{here, with_job}
-use Rattle.b67_layout_leave.proofs.Settles.{numbered_course}
+use Rattle.b67_layout.proofs.LeftSettles.{numbered_course}
 use Rattle.b67_mcp_waits.proofs.Waking.{wake_job}
 
 pub order_with : (s : Session) (m : SessionJob) (job : Job) → keyed number_of m.constants.number s.jobs ≡ Some m → IsInOrderButCounts s → TasksInOrder (IsSegment m.constants) m.constants job

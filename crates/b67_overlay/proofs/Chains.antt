@@ -120,7 +120,3 @@ Says-retold (Some all) told new s f =
     let r = f all s in
     let P : Option (List (List ℕ)) → Type 0 = λ z. Says z z in
     subst P (sym r.1) refl
-
-pub retold-same : (d told : Option (List (List ℕ))) → Says d told → content_after d told ≡ d
-retold-same None told s = refl
-retold-same (Some all) told s = s

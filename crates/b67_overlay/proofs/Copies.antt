@@ -18,7 +18,8 @@ use Rattle.b67_stack.specs.MachineView.{PagedObject, MachineView, stack_of, slot
 use Rattle.b67_stack.specs.Represents.{Storage, Represents}
 use Rattle.b67_stack.proofs.Heights.{words-length}
 use Rattle.b67_stack.proofs.Homes.{same_desc}
-use Rattle.b67_layout_storage.specs.Machine.{IsPresent, Stayed}
+use Rattle.b67_stack.specs.HeldOtherwise.{Stayed}
+use Rattle.b67_layout_storage.specs.Machine.{IsPresent}
 use Rattle.b67_overlay.specs.Turns.{IsCopyOf, InStack, Searched, SpansTurned, Lies}
 use Rattle.b67_overlay.specs.declared.spans.Span.{Span}
 use Rattle.b67_overlay.specs.Spans.{Kin, Families, DictionariesLie, ShowsFamilies, job_at, holds, span_of, span_of_kin, up_from, whole, InSpan, ShapeInSpan, CopiesInSpans, CopiesLie}

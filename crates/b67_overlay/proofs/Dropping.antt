@@ -20,10 +20,11 @@ use Rattle.b67_stack.specs.MachineView.{PagedObject, MachineView, stack_of, slot
 use Rattle.b67_stack.specs.Represents.{Storage, StacksLie, HoldsIn, info_of, Represents}
 use Rattle.b67_stack.proofs.Heights.{words-length}
 use Rattle.b67_stack.proofs.Lies.{Lie-each}
-use Rattle.b67_layout_storage.specs.Machine.{IsPresent, with_held, Stayed}
+use Rattle.b67_stack.specs.HeldOtherwise.{Stayed, with_held}
+use Rattle.b67_layout_storage.specs.Machine.{IsPresent}
 use Rattle.b67_layout_storage.proofs.Below.{stacks_low, not_heads}
-use Rattle.b67_layout_storage.proofs.Unchanged.{area_of_object, home_below, slot_below, base_low}
-use Rattle.b67_layout_storage.proofs.Reheld.{Reheld, HoldsIn-stays, storage_with, Represents-reheld}
+use Rattle.b67_stack.proofs.Unchanged.{area_of_object, home_below, slot_below, base_low}
+use Rattle.b67_stack.proofs.Reheld.{Reheld, HoldsIn-stays, storage_with, Represents-reheld}
 use Rattle.b67_layout_storage.proofs.Words.{shape_home, no_code_above, original_word}
 use Rattle.b67_overlay.specs.Turns.{Hides}
 use Rattle.b67_overlay.specs.Overlaid.{IsOut, dropped}

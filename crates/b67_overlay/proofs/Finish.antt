@@ -7,7 +7,8 @@ use Rattle.b67_backing.specs.Shelf.{Table, IsShelf}
 use Rattle.b67_stack.specs.declared.Cpu.{Cpu}
 use Rattle.b67_stack.specs.MachineView.{PagedObject, MachineView}
 use Rattle.b67_stack.specs.Represents.{Storage, Represents}
-use Rattle.b67_layout_storage.specs.Machine.{IsPresent, Stayed}
+use Rattle.b67_stack.specs.HeldOtherwise.{Stayed}
+use Rattle.b67_layout_storage.specs.Machine.{IsPresent}
 use Rattle.b67_overlay.specs.Spans.{MachineCanPage}
 use Rattle.b67_overlay.specs.Overlaid.{shelf_out, overlaid, dropped, retelling}
 use Rattle.b67_overlay.proofs.Chains.{Says-retold}

@@ -18,10 +18,11 @@ use Rattle.b67_stack.specs.MachineView.{PagedObject, MachineView, Slot, Free, Ru
 use Rattle.b67_stack.specs.Represents.{Storage, Represents, info_of}
 use Rattle.b67_stack.proofs.Homes.{same_desc}
 use Rattle.b67_stack.proofs.Bases.{base-apart}
-use Rattle.b67_layout_storage.specs.Machine.{with_held, IsPresent}
-use Rattle.b67_layout_storage.proofs.Helds.{held-other}
+use Rattle.b67_stack.specs.HeldOtherwise.{with_held}
+use Rattle.b67_layout_storage.specs.Machine.{IsPresent}
+use Rattle.b67_stack.proofs.Helds.{held-other}
 use Rattle.b67_layout_storage.proofs.Words.{original_of_home}
-use Rattle.b67_layout_storage.proofs.Unchanged.{area_of_object, home_below}
+use Rattle.b67_stack.proofs.Unchanged.{area_of_object, home_below}
 use Rattle.b67_overlay.specs.Turns.{Turns, InStack, Searched, Lies, Hides}
 use Rattle.b67_overlay.proofs.Turning.{lies_of, stack_low, stack_before}
 

@@ -14,7 +14,7 @@ use Rattle.b67_stack.specs.MachineView.{PagedObject, MachineView}
 use Rattle.b67_stack.specs.Represents.{Storage}
 use Rattle.b67_layout_storage.specs.Machine.{IsPresent, Says, content_after}
 use Rattle.b67_overlay.specs.Spans.{MachineCanPage}
-use Rattle.b67_layout_storage.proofs.Helds.{held-other}
+use Rattle.b67_stack.proofs.Helds.{held-other}
 use Rattle.b67_overlay.specs.Overlaid.{overlaid, retelling, chain_out, IsShort}
 use Rattle.b67_backing.specs.Held.{sectors_for}
 use Rattle.b67_overlay.specs.AreasEvicted.{AreasEvicted, EvictedBelow, Remains, IsShortBy}

@@ -13,8 +13,8 @@ use Rattle.b67_stack.specs.MachineView.{MachineView, Slot, Free, Running, Waitin
 use Rattle.b67_stack.specs.Represents.{Storage, RepresentsSlot, Represents}
 use Rattle.b67_stack.proofs.Bases.{base-apart}
 use Rattle.b67_stack.proofs.Tops.{level-small, mark_high}
-use Rattle.b67_layout_storage.proofs.Reheld.{RepresentsSlots-same}
-use Rattle.b67_layout_storage.proofs.Unchanged.{base_low}
+use Rattle.b67_stack.proofs.Reheld.{RepresentsSlots-same}
+use Rattle.b67_stack.proofs.Unchanged.{base_low}
 use Rattle.b67_overlay.specs.Turns.{Turns, TurnsAt, InStack, Lies}
 
 pub lies_of : (x : Storage) (core : List Tagged) (r : Regs) (p : MachineView) → Represents x core r p → Lies core r x.low p

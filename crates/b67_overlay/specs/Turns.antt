@@ -9,7 +9,7 @@ use Rattle.b67_stack.specs.Shapes.{Location, Shape, Fits}
 use Rattle.b67_stack.specs.Stacks.{stack_words, words}
 use Rattle.b67_stack.specs.MachineView.{PagedObject, MachineView, slot_base, stack_of}
 use Rattle.b67_stack.specs.Represents.{Storage, RepresentsSlots}
-use Rattle.b67_layout_storage.specs.Machine.{with_held, Stayed}
+use Rattle.b67_stack.specs.HeldOtherwise.{Stayed, with_held}
 use Rattle.b67_overlay.specs.Spans.{Families, span_of, InSpan}
 
 abbrev pub IsCopyOf : ℕ → DataDesc → Type 0

@@ -8,7 +8,8 @@ use Rattle.b67_model.specs.Schedule.{Session}
 use Rattle.b67_stack.specs.declared.Cpu.{Cpu}
 use Rattle.b67_stack.specs.MachineView.{MachineView, NoOriginalAboveTop}
 use Rattle.b67_stack.specs.Represents.{Storage, Represents}
-use Rattle.b67_layout_storage.specs.Machine.{Says, content_after, Stayed}
+use Rattle.b67_stack.specs.HeldOtherwise.{Stayed}
+use Rattle.b67_layout_storage.specs.Machine.{Says, content_after}
 use Rattle.b67_overlay.specs.Spans.{MachineCanPage}
 use Rattle.b67_layout_storage.proofs.Devices.{says_of}
 use Rattle.b67_layout.specs.Orders.{IsInOrderButCounts}
@@ -16,12 +17,13 @@ use Rattle.b67_layout.specs.Placement.{Placement}
 use Rattle.b67_layout.specs.Layout.{machine_view}
 use Rattle.b67_layout.specs.Session.{RepresentsSession}
 use Rattle.b67_layout_spans.proofs.Sessions.{copies_of}
-use Rattle.b67_layout_step.proofs.Paged.{RepresentsSession-over}
+use Rattle.b67_layout.proofs.Paged.{RepresentsSession-over}
 use Rattle.b67_task_tables.specs.declared.tables.Tasks.{Tasks}
 use Rattle.b67_task_tables.specs.declared.tables.Machine.{Machine}
 use Rattle.b67_task_tables.specs.Tables.{MachineRepresents}
 use Rattle.b67_presence.specs.Bringing.{StandsOver, StandsAgain}
-use Rattle.b67_presence.proofs.Others.{others_alike, others_show}
+use Rattle.b67_layout_step.proofs.MoreOtherNumbers.{others_alike}
+use Rattle.b67_presence.proofs.Others.{others_show}
 use Rattle.b67_presence.proofs.Seen.{Sees}
 
 -- a machine over a device that tells what its storage says

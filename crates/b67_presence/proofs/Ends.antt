@@ -12,9 +12,9 @@ use Rattle.b67_stack.specs.declared.What.TheVariants as what
 use Rattle.b67_stack.specs.Shapes.{Location}
 use Rattle.b67_stack.specs.MachineView.{PagedObject}
 use Rattle.b67_stack.specs.Represents.{Storage}
-use Rattle.b67_layout_storage.specs.Machine.{Stayed}
+use Rattle.b67_stack.specs.HeldOtherwise.{Stayed}
 use Rattle.b67_overlay.specs.Spans.{MachineCanPage}
-use Rattle.b67_layout_storage.proofs.Helds.{held-same}
+use Rattle.b67_stack.proofs.Helds.{held-same}
 use Rattle.b67_layout.specs.Placement.{Placement}
 use Rattle.b67_layout.specs.Layout.{objects_of, array_object, machine_view}
 use Rattle.b67_layout.specs.Session.{IsRunning}

@@ -3,7 +3,4 @@ pub mod Seen
 pub mod Again
 pub mod Wants
 pub mod Ends
-pub mod Shortage
 pub mod Refusals
-pub mod Covers
-pub mod FullDevice

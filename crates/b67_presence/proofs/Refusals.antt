@@ -13,9 +13,10 @@ use Rattle.b67_stack.specs.declared.What.TheVariants as what
 use Rattle.b67_stack.specs.Shapes.{Location}
 use Rattle.b67_stack.specs.MachineView.{PagedObject}
 use Rattle.b67_stack.specs.Represents.{Storage}
-use Rattle.b67_layout_storage.specs.Machine.{IsAbsent, HasHole, Stayed}
+use Rattle.b67_stack.specs.HeldOtherwise.{Stayed}
+use Rattle.b67_layout_storage.specs.Machine.{IsAbsent, HasHole}
 use Rattle.b67_overlay.specs.Spans.{MachineCanPage}
-use Rattle.b67_layout_storage.proofs.Helds.{held-other}
+use Rattle.b67_stack.proofs.Helds.{held-other}
 use Rattle.b67_layout_storage.proofs.Below.{Stayed-none}
 use Rattle.b67_overlay.specs.AreasEvicted.{AreasEvicted, IsShortBy}
 use Rattle.b67_overlay.proofs.Shedding.{AreasEvicted-none}
@@ -29,7 +30,7 @@ use Rattle.b67_task_tables.specs.declared.tables.Machine.{Machine}
 use Rattle.b67_presence.specs.Bringing.{StandsOver, IsArrayWanted, IsWanted, Lacks, Refused, RefusedFull, IsShortOf, AreasStay, StaysIn, IsUntouched, words_wanted}
 use Rattle.b67_presence.proofs.Again.{machine_of, view_stands}
 use Rattle.b67_presence.proofs.Ends.{waits_again, may_again, read_again, stays_again}
-use Rattle.b67_presence.proofs.Shortage.{short_of}
+use Rattle.b67_task_need.proofs.Shortage.{short_of}
 use Rattle.b67_presence.proofs.Seen.{readable}
 use Rattle.b67_presence.proofs.Wants.{CodeObject, code_found, array_absent}
 

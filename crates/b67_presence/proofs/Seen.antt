@@ -15,7 +15,8 @@ use Rattle.b67_law_order_steps.specs.Weaker.{AllOtherNumbers}
 use Rattle.b67_layout_step.proofs.OtherNumbers.{others_in_order}
 use Rattle.b67_stack.specs.MachineView.{PagedObject, MachineView, NoOriginalAboveTop}
 use Rattle.b67_stack.specs.Represents.{Storage, Represents}
-use Rattle.b67_layout_storage.specs.Machine.{AreBits, renumber, renumbered}
+use Rattle.b67_stack.specs.HeldOtherwise.{renumber, renumbered}
+use Rattle.b67_layout_storage.specs.Machine.{AreBits}
 use Rattle.b67_layout.specs.Placement.{Placement}
 use Rattle.b67_layout.specs.Layout.{array_object, code_objects, objects_of, machine_view}
 use Rattle.b67_layout_step.proofs.Renumbered.{member_with, others_from, Fitting, machine_view_renumbered, settled_renumbered}

@@ -1,3 +1,2 @@
 pub mod Bringing
-pub mod Full
 pub mod Paging

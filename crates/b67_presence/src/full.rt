@@ -1,6 +1,6 @@
 //! When the sectors of a device are too few for a session.
 
-ghost use Rattle.b67_presence.specs.Full.{ShortIsFull};
+ghost use Rattle.b67_layout_spans.specs.Full.{ShortIsFull};
 
 /// Where a present array keeps no chain and needs more sectors than are free, the session takes more sectors than the
 /// device has.

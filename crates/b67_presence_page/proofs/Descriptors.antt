@@ -15,7 +15,7 @@ use Rattle.b67_stack.specs.MachineView.{PagedObject, MachineView, home_desc, hom
 use Rattle.b67_stack.specs.Represents.{Storage, Represents}
 use Rattle.b67_stack.proofs.Homes.{chain_small}
 use Rattle.b67_layout_storage.specs.Machine.{IsAbsent}
-use Rattle.b67_layout_storage.proofs.Unchanged.{area_bounds}
+use Rattle.b67_stack.proofs.Unchanged.{area_bounds}
 use Rattle.b67_presence_page.specs.Brings.{IsCode}
 
 abbrev pub rest_desc : Bool → ℕ → ℕ → DataDesc

@@ -12,7 +12,7 @@ use Rattle.b67_stack.specs.MachineView.{PagedObject, MachineView}
 use Rattle.b67_stack.specs.Represents.{Storage}
 use Rattle.b67_layout_storage.specs.Machine.{IsAbsent, HasHole}
 use Rattle.b67_overlay.specs.Spans.{MachineCanPage}
-use Rattle.b67_layout_storage.proofs.Helds.{held-same, held-other}
+use Rattle.b67_stack.proofs.Helds.{held-same, held-other}
 use Rattle.b67_overlay.specs.AreasEvicted.{AreasEvicted}
 use Rattle.b67_presence_page.specs.Brought.{brought}
 use Rattle.b67_presence_page.specs.Brings.{PlacedAfterEviction, Waits, IsCode, BothIn, MayWait, IsAlone}

@@ -11,7 +11,8 @@ use Rattle.b67_stack.specs.declared.Cpu.{Cpu}
 use Rattle.b67_stack.specs.Shapes.{LieUpward}
 use Rattle.b67_stack.specs.MachineView.{PagedObject, MachineView, home_word_of, words_of}
 use Rattle.b67_stack.specs.Represents.{Storage, Represents}
-use Rattle.b67_layout_storage.specs.Machine.{Stayed, Says, IsAbsent, AreBits, with_held, renumbered}
+use Rattle.b67_stack.specs.HeldOtherwise.{Stayed, renumbered, with_held}
+use Rattle.b67_layout_storage.specs.Machine.{Says, IsAbsent, AreBits}
 use Rattle.b67_overlay.specs.Spans.{CopiesLie, MachineCanPage}
 use Rattle.b67_overlay.proofs.Copies.{copies_stay, copies_objects}
 use Rattle.b67_layout_storage.proofs.Renumbered.{Represents-renumbered, there_renumbered, renumbered-same}

@@ -19,10 +19,11 @@ use Rattle.b67_stack.specs.Shapes.{Location, LieUpward}
 use Rattle.b67_stack.specs.MachineView.{PagedObject, MachineView, slot_base, home_word_of, words_of, tag_of, AreZero}
 use Rattle.b67_stack.specs.Represents.{Storage, Content, KeptChain, AbsentContent, HoldsIn, info_of, Represents}
 use Rattle.b67_stack.proofs.Lies.{Upward-same}
-use Rattle.b67_layout_storage.specs.Machine.{IsAbsent, with_held, ChainStays, Stayed}
+use Rattle.b67_stack.specs.HeldOtherwise.{Stayed, with_held, ChainStays}
+use Rattle.b67_layout_storage.specs.Machine.{IsAbsent}
 use Rattle.b67_layout_storage.proofs.Below.{stacks_low, not_heads}
-use Rattle.b67_layout_storage.proofs.Unchanged.{area_of_object, home_below, slot_below, base_low, Represents-core}
-use Rattle.b67_layout_storage.proofs.Reheld.{Reheld, Keeps-stays, storage_with, info_with, Represents-reheld}
+use Rattle.b67_stack.proofs.Unchanged.{area_of_object, home_below, slot_below, base_low, Represents-core}
+use Rattle.b67_stack.proofs.Reheld.{Reheld, Keeps-stays, storage_with, info_with, Represents-reheld}
 use Rattle.b67_layout_storage.proofs.Words.{StacksLie-home, original_word}
 use Rattle.b67_layout_storage.proofs.Holes.{without_fill, place_spot}
 use Rattle.b67_presence_page.specs.declared.paging.Resting.{Resting}

@@ -15,13 +15,14 @@ use Rattle.b67_stack.specs.declared.Cpu.{Cpu}
 use Rattle.b67_stack.specs.Shapes.{Location}
 use Rattle.b67_stack.specs.MachineView.{PagedObject, MachineView}
 use Rattle.b67_stack.specs.Represents.{Storage, Represents, info_of}
-use Rattle.b67_layout_storage.specs.Machine.{IsAbsent, IsPresent, HasHole, AreBits, Stayed}
+use Rattle.b67_stack.specs.HeldOtherwise.{Stayed}
+use Rattle.b67_layout_storage.specs.Machine.{IsAbsent, IsPresent, HasHole, AreBits}
 use Rattle.b67_layout_storage.proofs.Untold.{untold, Represents-untold}
 use Rattle.b67_overlay.specs.Spans.{MachineCanPage}
-use Rattle.b67_layout_storage.proofs.Helds.{held-same, held-other}
+use Rattle.b67_stack.proofs.Helds.{held-same, held-other}
 use Rattle.b67_layout_storage.proofs.Renumbered.{renumbered-same, kept_there, Stayed-renumbered}
 use Rattle.b67_overlay.specs.Overlaid.{overlaid, chain_out}
-use Rattle.b67_overlay.proofs.Chains.{retold-same}
+use Rattle.b67_layout_storage.proofs.Retold.{retold-same}
 use Rattle.b67_presence_page.specs.Brought.{brought}
 use Rattle.b67_presence_page.specs.Brings.{IsReadable, ReadBack, ReadIn, IsCode, BothIn, MayWait, need_both, IsAlone}
 use Rattle.b67_presence_page.proofs.Beside.{both_fit}

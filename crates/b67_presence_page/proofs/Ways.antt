@@ -10,7 +10,8 @@ use Rattle.b67_word.specs.Tagged.{Tagged}
 use Rattle.b67_stack.specs.Shapes.{Location}
 use Rattle.b67_stack.specs.MachineView.{PagedObject, MachineView}
 use Rattle.b67_stack.specs.Represents.{Storage, Represents}
-use Rattle.b67_layout_storage.specs.Machine.{IsAbsent, AreBits, renumbered}
+use Rattle.b67_stack.specs.HeldOtherwise.{renumbered}
+use Rattle.b67_layout_storage.specs.Machine.{IsAbsent, AreBits}
 use Rattle.b67_overlay.specs.Spans.{MachineCanPage}
 use Rattle.b67_layout_storage.proofs.Renumbered.{renumbered-same}
 use Rattle.b67_overlay.specs.AreasEvicted.{AreasEvicted}

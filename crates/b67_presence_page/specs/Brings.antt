@@ -12,7 +12,8 @@ use Rattle.b67_lemmas.specs.Lists.{Has}
 use Rattle.b67_stack.specs.declared.Cpu.{Cpu}
 use Rattle.b67_stack.specs.MachineView.{PagedObject, MachineView}
 use Rattle.b67_stack.specs.Represents.{Storage}
-use Rattle.b67_layout_storage.specs.Machine.{AreBits, HasHole, Stayed, renumbered}
+use Rattle.b67_stack.specs.HeldOtherwise.{Stayed, renumbered}
+use Rattle.b67_layout_storage.specs.Machine.{AreBits, HasHole}
 use Rattle.b67_overlay.specs.Spans.{MachineCanPage}
 use Rattle.b67_overlay.specs.AreasEvicted.{AreasEvicted, IsShortBy}
 use Rattle.b67_presence_page.specs.declared.paging.Refusal.{Refusal}

@@ -2,12 +2,12 @@
 use Rattle.std.specs.Prelude.{◌≡◌, ◌≢◌, ℕ, ◌+◌, ◌<◌, ◌⊎◌, List, length, Option, Some, None, slice_get, option_map}
 use Rattle.b67_word.specs.Tagged.{Tagged}
 use Rattle.b67_area.specs.Spans.{address, spot, fill, fresh, keeping}
-use Rattle.b67_backing.specs.Shelf.{Table, Shelf, HasChain}
+use Rattle.b67_backing.specs.Shelf.{Table, Shelf, HasChain, chain_of}
 use Rattle.b67_backing.specs.Held.{Holds, sectors_for, under}
-use Rattle.b67_backing.specs.Shelf.{chain_of}
 use Rattle.b67_stack.specs.MachineView.{PagedObject}
 use Rattle.b67_stack.specs.Represents.{Storage}
-use Rattle.b67_layout_storage.specs.Machine.{with_held, AreBits}
+use Rattle.b67_stack.specs.HeldOtherwise.{with_held}
+use Rattle.b67_layout_storage.specs.Machine.{AreBits}
 use Rattle.b67_presence_page.specs.declared.paging.Resting.{Resting}
 
 -- the storage with an absent object in an area at that address: the front of the lowest hole with room for it

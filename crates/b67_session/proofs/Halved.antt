@@ -29,13 +29,13 @@ use Rattle.b67_session_lines.specs.Parts.{TookRest}
 use Rattle.b67_layout.specs.Placement.{Placement}
 use Rattle.b67_layout.specs.Meets.{with_job}
 use Rattle.b67_layout.proofs.Weaker.{but_counts}
-use Rattle.b67_task_start.specs.Starts.{moved}
+use Rattle.b67_layout.specs.Moved.{moved}
 use Rattle.b67_task_tables.specs.declared.tables.TaskState.{TaskState}
 use Rattle.b67_task_tables.specs.declared.tables.Tasks.{Tasks}
 use Rattle.b67_task_tables.specs.declared.tables.Machine.{Machine}
 use Rattle.b67_session_schedule.specs.declared.counting.Chosen.{Chosen}
 use Rattle.b67_session_schedule.specs.Counted.{choice_of, CountsHaveRoom}
-use Rattle.b67_session_schedule.proofs.Rooms.{made_few, all_few}
+use Rattle.b67_law_order.proofs.FewMade.{made_few, all_few}
 use Rattle.b67_session_attempt.specs.Passed.{IsCalled, WaitsSo, printed_text}
 use Rattle.b67_session_attempt.specs.Tries.{EndsSo}
 use Rattle.b67_session_attempt.specs.Stops.{Stop}

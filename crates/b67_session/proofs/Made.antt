@@ -25,7 +25,7 @@ use Rattle.b67_law_turns.proofs.Settled.{made_settles}
 use Rattle.b67_law_turns.proofs.Halves.{open_lines}
 use Rattle.b67_stack.specs.Represents.{Storage}
 use Rattle.b67_layout.specs.Placement.{Placement}
-use Rattle.b67_task_start.specs.Starts.{moved}
+use Rattle.b67_layout.specs.Moved.{moved}
 use Rattle.b67_task_tables.specs.declared.tables.Tasks.{Tasks}
 use Rattle.b67_task_tables.specs.declared.tables.Machine.{Machine}
 use Rattle.b67_task_tables.specs.Tables.{MachineRepresents}

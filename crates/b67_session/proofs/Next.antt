@@ -20,8 +20,8 @@ use Rattle.b67_layout.specs.Placement.{Placement, slot_of}
 use Rattle.b67_layout.specs.Rows.{TaskShows}
 use Rattle.b67_layout.specs.Session.{RowsFit, IsRunning}
 use Rattle.b67_layout.proofs.Sessions.{running_only}
-use Rattle.b67_layout_step.proofs.Alike.{rows_alike}
-use Rattle.b67_presence.proofs.Others.{others_alike, others_running}
+use Rattle.b67_layout.proofs.Alike.{rows_alike}
+use Rattle.b67_layout_step.proofs.MoreOtherNumbers.{others_alike, others_running}
 use Rattle.b67_task_switch.specs.Turns.{with_running}
 use Rattle.b67_task_tables.specs.declared.tables.TaskRow.{TaskRow}
 use Rattle.b67_task_tables.specs.declared.tables.Tasks.{Tasks}

@@ -22,8 +22,8 @@ use Rattle.b67_layout.proofs.Sessions.{running_only}
 use Rattle.b67_task_tables.specs.declared.tables.JobRow.{JobRow}
 use Rattle.b67_task_tables.specs.declared.tables.Tasks.{Tasks}
 use Rattle.b67_task_tables.specs.Tables.{task_row, job_row, switch_of, TasksShow}
-use Rattle.b67_task_switch.proofs.Tables.{job_at, live_in_order}
-use Rattle.b67_task_end.specs.Family.{IsRowOf}
+use Rattle.b67_layout.proofs.LiveTasks.{job_at, live_in_order}
+use Rattle.b67_task_tables.specs.RowOf.{IsRowOf}
 use Rattle.b67_session_schedule.specs.declared.counting.Chosen.{Chosen}
 use Rattle.b67_session_schedule.specs.Counted.{CountsHaveRoom}
 

@@ -46,13 +46,13 @@ use Rattle.b67_layout.specs.Placement.{Placement, slot_of}
 use Rattle.b67_layout.specs.Rows as rows
 use Rattle.b67_layout.specs.Session.{IsRunning, RepresentsSession, with_objects}
 use Rattle.b67_layout.proofs.Weaker.{but_counts}
-use Rattle.b67_layout_step.proofs.Alike.{AllAlike}
-use Rattle.b67_layout_step.proofs.Counted.{SameJobs, same_machine_view}
-use Rattle.b67_layout_step.proofs.Paged.{RepresentsSession-over}
+use Rattle.b67_layout.proofs.Alike.{AllAlike}
+use Rattle.b67_layout.proofs.Counted.{SameJobs, same_machine_view}
+use Rattle.b67_layout.proofs.Paged.{RepresentsSession-over}
 use Rattle.b67_exec_cells.specs.Called as operators
 use Rattle.b67_exec_cells.specs.Called.{called_in}
 use Rattle.b67_exec_cells.specs.Running.{code_area}
-use Rattle.b67_task_switch.proofs.Tables.{job_at}
+use Rattle.b67_layout.proofs.LiveTasks.{job_at}
 use Rattle.b67_task_tables.specs.declared.tables.Tasks.{Tasks}
 use Rattle.b67_task_tables.specs.declared.tables.Machine.{Machine}
 use Rattle.b67_task_tables.specs.Runs.{RunsTask}
@@ -62,7 +62,7 @@ use Rattle.b67_session_schedule.specs.declared.counting.Chosen.{Chosen}
 use Rattle.b67_session_schedule.specs.Counted.{counted_more, counted_by, TurnHasRoom}
 use Rattle.b67_session_schedule.specs.Lasting.{RulesLeave, Lasts, TurnLasts, BeforeHalt}
 use Rattle.b67_session_schedule.proofs.Lasting.{lasts_choice}
-use Rattle.b67_session_schedule.proofs.Rooms.{made_few, all_few}
+use Rattle.b67_law_order.proofs.FewMade.{made_few, all_few}
 use Rattle.b67_session_attempt.specs.Fits.{IsOfJob}
 use Rattle.b67_session_attempt.proofs.AttemptFits.{was_operator, made_touches}
 use Rattle.b67_session_attempt.proofs.FittingMade.{made_fit}

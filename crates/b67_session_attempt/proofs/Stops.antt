@@ -22,7 +22,8 @@ use Rattle.b67_task_tables.specs.Tables.{MachineRepresents}
 use Rattle.b67_mcp.specs.declared.ends.Stop.{Stop}
 use Rattle.b67_mcp.specs.declared.ends.Stop.TheVariants as stops
 use Rattle.b67_presence.specs.Bringing.{StandsOver, IsWanted, StandsAgain, Lacks, Refused, RefusedFull}
-use Rattle.b67_presence.proofs.Others.{others_same, others_running, others_sectors, RunsOther}
+use Rattle.b67_layout_step.proofs.MoreOtherNumbers.{others_running, RunsOther}
+use Rattle.b67_presence.proofs.Others.{others_same, others_sectors}
 use Rattle.b67_session_attempt.specs.Tries.{IsTouched}
 use Rattle.b67_session_attempt.specs.Attempts.{IsLacking}
 use Rattle.b67_session_attempt.specs.Brought.{Stopped, BroughtFits}

@@ -17,7 +17,7 @@ use Rattle.b67_session_lines.specs.Moments.{has_tasks, is_at_limit, last_part, l
 use Rattle.b67_layout.specs.Placement.{Placement}
 use Rattle.b67_layout.specs.Rows as rows
 use Rattle.b67_layout.specs.Rows.{TaskShows, JobShows, JobsShow}
-use Rattle.b67_task_switch.proofs.Tables.{job_at}
+use Rattle.b67_layout.proofs.LiveTasks.{job_at}
 use Rattle.b67_task_tables.specs.declared.tables.TaskRow.{TaskRow}
 use Rattle.b67_task_tables.specs.declared.tables.Tasks.{Tasks}
 use Rattle.b67_task_tables.specs.Tables.{task_row, job_row, TasksShow}

@@ -17,9 +17,9 @@ use Rattle.b67_layout.specs.Placement.{Placement}
 use Rattle.b67_layout.specs.Layout.{machine_view}
 use Rattle.b67_layout.specs.Session.{RepresentsSession, with_objects}
 use Rattle.b67_layout.specs.Meets.{with_job}
-use Rattle.b67_layout_step.proofs.Alike.{AllAlike}
-use Rattle.b67_layout_step.proofs.Counted.{SameJobs, same_machine_view}
-use Rattle.b67_layout_step.proofs.Paged.{RepresentsSession-over}
+use Rattle.b67_layout.proofs.Alike.{AllAlike}
+use Rattle.b67_layout.proofs.Counted.{SameJobs, same_machine_view}
+use Rattle.b67_layout.proofs.Paged.{RepresentsSession-over}
 use Rattle.b67_task_tables.specs.declared.tables.Tasks.{Tasks}
 use Rattle.b67_task_tables.specs.declared.tables.Machine.{Machine}
 use Rattle.b67_task_tables.specs.Tables.{MachineRepresents}

@@ -26,7 +26,8 @@ use Rattle.b67_layout.specs.Rows.{TaskShows}
 use Rattle.b67_task_tables.specs.declared.tables.TaskRow.{TaskRow}
 use Rattle.b67_task_tables.specs.declared.tables.Machine.{Machine}
 use Rattle.b67_task_tables.specs.Tables.{task_row, MachineRepresents}
-use Rattle.b67_task_end.specs.Family.{TablesHold, IsRowOf, HasSomeRow, endings_of}
+use Rattle.b67_task_tables.specs.RowOf.{IsRowOf}
+use Rattle.b67_task_end.specs.Family.{TablesHold, HasSomeRow, endings_of}
 use Rattle.b67_session_ends.specs.Ends.{StandsFor, IsFirstRow, IsFamilyOf, EndsFamily}
 
 module _ (x : Storage) (told : Option (List (List ℕ))) (k : Machine) (plan : Placement) (s : Session) (m : SessionJob) (o : IsInOrderButCounts s) (h : MachineRepresents x told k plan s) (among : Has s.jobs m) where

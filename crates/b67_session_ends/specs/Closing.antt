@@ -11,7 +11,7 @@ use Rattle.b67_task_tables.specs.declared.tables.TaskState.{TaskState}
 use Rattle.b67_task_tables.specs.declared.tables.TaskState.TheVariants as states
 use Rattle.b67_task_tables.specs.declared.tables.TaskRow.{TaskRow}
 use Rattle.b67_task_tables.specs.declared.tables.Machine.{Machine}
-use Rattle.b67_task_tables.specs.Tables.{AreCountable, row_names}
+use Rattle.b67_task_tables.specs.Tables.{AreCountable, row_names, MachineRepresents}
 use Rattle.b67_session_ends.specs.Ends.{StandsFor}
 use Rattle.b67_lemmas.specs.Lists.{Has}
 use Rattle.b67_model.specs.InOrder.{IsInOrderButPlaces}
@@ -20,8 +20,7 @@ use Rattle.b67_stack.specs.Represents.{Storage}
 use Rattle.b67_layout.specs.Orders.{IsInOrderButCounts}
 use Rattle.b67_layout.specs.Placement.{Placement}
 use Rattle.b67_law_turns.specs.Turns.{IsNext}
-use Rattle.b67_task_tables.specs.Tables.{MachineRepresents}
-use Rattle.b67_task_end.specs.Family.{IsRowOf}
+use Rattle.b67_task_tables.specs.RowOf.{IsRowOf}
 use Rattle.b67_session_schedule.specs.declared.counting.Chosen.{Chosen}
 use Rattle.b67_session_schedule.specs.Counted.{choice_of}
 

@@ -19,7 +19,7 @@ use Rattle.b67_stack.specs.declared.Cpu.{Cpu}
 use Rattle.b67_stack.specs.Shapes.{Location, LieUpward}
 use Rattle.b67_stack.specs.MachineView.{PagedObject, MachineView, words_of}
 use Rattle.b67_stack.specs.Represents.{Storage, Represents, Content, info_of}
-use Rattle.b67_layout_storage.proofs.Unchanged.{area_of_object}
+use Rattle.b67_stack.proofs.Unchanged.{area_of_object}
 use Rattle.b67_layout.specs.Placement.{Placement}
 use Rattle.b67_layout.specs.Layout.{machine_view}
 use Rattle.b67_layout.specs.Session.{with_objects, RepresentsStorage}

@@ -10,7 +10,7 @@ use Rattle.b67_model.specs.Steps.{Line, Done, Goes, Leaves, Waits, top_of, cells
 use Rattle.b67_model.specs.Entry.{accident, evaluates, left, leaves, exit, returnable, returned, retn_word, retn}
 use Rattle.b67_law_order.proofs.Posts.{Post, post_ok, post_err, post_any, post_then, post_at}
 use Rattle.b67_layout.specs.Meets.{here}
-use Rattle.b67_layout_leave.proofs.Objects.{others}
+use Rattle.b67_layout.proofs.Objects.{others}
 
 pub record IsEntered (standing : Standing) : Type 0 where
   pub level : ℕ

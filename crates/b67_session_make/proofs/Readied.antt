@@ -20,7 +20,7 @@ use Rattle.b67_layout.specs.Meets.{with_job}
 use Rattle.b67_layout.proofs.Fresh.{running_in_order, fresh}
 use Rattle.b67_layout.proofs.MachineViews.{member-same}
 use Rattle.b67_layout.proofs.Steps.{IsFree}
-use Rattle.b67_layout_enter.proofs.Awaits.{RepresentsSession-condition}
+use Rattle.b67_layout.proofs.Awaits.{RepresentsSession-condition}
 
 module _ (plan : Placement) (s : Session) (m : SessionJob) (t : Task) (o : IsInOrderButCounts s) (runs : IsRunning plan s.jobs m t) where
   abbrev pub task : Task

@@ -18,7 +18,7 @@ use Rattle.b67_law_order.proofs.Numbered.{keyed_member, numbered_low}
 use Rattle.b67_layout.specs.Placement.{Placement}
 use Rattle.b67_layout.specs.Rows as rows
 use Rattle.b67_layout.specs.Rows.{RunningRow, shown}
-use Rattle.b67_task_switch.proofs.Tables.{job_at}
+use Rattle.b67_layout.proofs.LiveTasks.{job_at}
 use Rattle.b67_task_tables.specs.declared.tables.TaskState.{TaskState}
 use Rattle.b67_task_tables.specs.declared.tables.TaskState.TheVariants as code
 use Rattle.b67_task_tables.specs.declared.tables.JobRow.{JobRow}

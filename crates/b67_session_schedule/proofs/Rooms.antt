@@ -1,16 +1,13 @@
 -- When no task is chosen, and that one operator more of a chosen task fits the counts.
-use Rattle.std.proofs.Common.{◌≡◌, ℕ, ◌*◌, ◌-◌, ◌≤◌, ◌↔◌, Bool, true, false, not, List, [], ◌∷◌, ◌++◌, map, filter, length, Option, Some, None, refl, sym, ◌∙◌, ap, arith, inl, inr, subst}
-use Rattle.std.specs.Prelude.{sum_by, IfSome}
+use Rattle.std.proofs.Common.{◌≡◌, ℕ, ◌-◌, ◌≤◌, ◌↔◌, Bool, true, false, not, List, [], ◌∷◌, ◌++◌, map, filter, Option, Some, None, refl, sym, ◌∙◌, ap, arith, inl, inr, subst}
+use Rattle.std.specs.Prelude.{IfSome}
 use Rattle.std.specs.List.{slice_get}
 use Rattle.std.proofs.lemmas.List.{length-map}
-use Rattle.std.proofs.lemmas.List.Sums.{sum_by-cons}
 use Rattle.std.proofs.lemmas.Option.{none-some}
 use Rattle.std.proofs.lemmas.Bool.{cases_Bool}
 use Rattle.b67_lemmas.specs.Lists.{Has}
-use Rattle.b67_lemmas.proofs.Members.{all_in}
 use Rattle.b67_lemmas.proofs.Places.{mapped_at}
-use Rattle.b67_model.specs.State.{SessionJob}
-use Rattle.b67_model.specs.InOrder.{JobInOrder, IsSegment, IsInOrderButPlaces}
+use Rattle.b67_model.specs.InOrder.{IsInOrderButPlaces}
 use Rattle.b67_model.specs.Schedule.{Who, Session, Choice, is_before, ready, switched, goes_on, first, next_after, afresh, choice_by, choice}
 use Rattle.b67_layout.specs.Placement.{Placement}
 use Rattle.b67_layout.specs.Rows as rows
@@ -21,8 +18,9 @@ use Rattle.b67_session_schedule.specs.Counted.{choice_of, CountsHaveRoom}
 use Rattle.b67_session_schedule.specs.Chosen.{IsReadyAt, Chooses}
 use Rattle.b67_session_schedule.proofs.ReadyTasks.{among_members, among_tasks, row_ready}
 use Rattle.b67_session_schedule.proofs.Choices.{cyclic}
-use Rattle.b67_task_switch.proofs.Tables.{job_at}
+use Rattle.b67_layout.proofs.LiveTasks.{job_at}
 use Rattle.b67_law_order.proofs.Numbered.{numbered_low}
+use Rattle.b67_law_order.proofs.FewMade.{made_few, all_few}
 
 -- a list in which none comes next is empty
 first_cons : (xs ys : List Who) (w : Who) → first (xs ++ (w ∷ ys)) ≡ None → ⊥
@@ -57,20 +55,6 @@ turn_by : (s : Session) (o : Option Who) (b : Bool) (c : Choice) → choice_by s
 turn_by s (Some w) b c e = omega (arith, afresh_turn (Some w) c e)
 turn_by s None true c e = let same : record { who = s.last; turn = s.turn } ≡ c = cc in omega (arith, ap (λ (d : Choice). d.turn) same)
 turn_by s None false c e = omega (arith, afresh_turn (next_after s) c e)
-
--- the operators of a session are few
-sum_few : (bound : ℕ) (jobs : List SessionJob) → ((m : SessionJob) → Has jobs m → m.progress.made ≤ bound) → length jobs ≤ 8 → sum_by (λ (m : SessionJob). m.progress.made) jobs ≤ length jobs * bound
-sum_few bound [] few short = omega arith
-sum_few bound (m ∷ more) few short = omega (arith, sum_by-cons (λ (y : SessionJob). y.progress.made) m more, few m (inl refl), sum_few bound more (λ y k. few y (inr k)) (omega (arith, short)))
-
-module _ (s : Session) (o : IsInOrderButPlaces s) where
-  pub made_few : (m : SessionJob) → Has s.jobs m → m.progress.made ≤ 100000000
-  made_few m inm =
-      let j = all_in (λ (y : SessionJob). JobInOrder (IsSegment y.constants) y.constants y.progress) s.jobs m o.jobs inm in
-      omega (arith, j.counts.within, j.unchanging.limit)
-
-  pub all_few : s.made ≤ 800000000
-  all_few = omega (arith, o.counted, sum_few 100000000 s.jobs made_few o.few, o.few)
 
 module _ (plan : Placement) (s : Session) (o : IsInOrderButPlaces s) (tasks : Tasks) (shows : TasksShow plan s tasks) where
   pub room_of : (c : Chosen) → IsReadyAt tasks.rows.items c.row (choice_of c).who → choice s ≡ Some (choice_of c) → CountsHaveRoom tasks c

@@ -29,7 +29,7 @@ use Rattle.b67_layout.proofs.Fresh.{fresh}
 use Rattle.b67_layout.proofs.MachineViews.{member-same}
 use Rattle.b67_layout.proofs.Steps.{IsFree}
 use Rattle.b67_layout.proofs.Weaker.{but_counts}
-use Rattle.b67_layout_enter.proofs.Awaits.{with_job-twice, RepresentsSession-condition}
+use Rattle.b67_layout.proofs.Awaits.{with_job-twice, RepresentsSession-condition}
 use Rattle.b67_task_tables.specs.declared.tables.TaskRow.{TaskRow}
 use Rattle.b67_task_tables.specs.declared.tables.TaskState.{TaskState}
 use Rattle.b67_task_tables.specs.declared.tables.Tasks.{Tasks}

@@ -24,8 +24,8 @@ use Rattle.b67_layout.proofs.Sessions.{change-kept}
 use Rattle.b67_task_start_stack.specs.Likes.{SameStack, Like}
 use Rattle.b67_task_start_stack.proofs.Births.{changed_member, kept_member, moved_member}
 use Rattle.b67_task_start_stack.proofs.Twins.{like_same, spots-twin}
-use Rattle.b67_task_switch.proofs.Lists.{differ_at}
-use Rattle.b67_task_switch.proofs.Tables.{live_in_order}
+use Rattle.b67_layout.proofs.Differs.{differ_at}
+use Rattle.b67_layout.proofs.LiveTasks.{live_in_order}
 use Rattle.b67_session_waits.specs.Holds.{held}
 
 like_frames : (a b : Option Task) → Like a b → frames_of_task a ≡ frames_of_task b

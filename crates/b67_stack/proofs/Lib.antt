@@ -6,3 +6,7 @@ pub mod Pushes
 pub mod Tops
 pub mod Cells
 pub mod Homes
+pub mod Helds
+pub mod Reheld
+pub mod ClearHeads
+pub mod Unchanged

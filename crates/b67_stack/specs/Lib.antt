@@ -3,3 +3,4 @@ pub mod Stacks
 pub mod MachineView
 pub mod Represents
 pub mod Changes
+pub mod HeldOtherwise

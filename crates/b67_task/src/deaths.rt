@@ -11,7 +11,8 @@ ghost use Rattle.b67_layout.specs.Orders.{IsInOrderButCounts};
 ghost use Rattle.b67_layout.specs.Placement.{Placement};
 ghost use Rattle.b67_task_switch.specs.Standing.{HasRow};
 ghost use Rattle.b67_task_tables.specs.Tables.{MachineRepresents};
-ghost use Rattle.b67_task_end.specs.Family.{IsRowOf, endings_of, pair_of};
+ghost use Rattle.b67_task_tables.specs.RowOf.{IsRowOf};
+ghost use Rattle.b67_task_end.specs.Family.{endings_of, pair_of};
 ghost use Rattle.b67_task_end_tables.specs.Families.{StandsFor};
 
 use arrayvec::ArrayVec;

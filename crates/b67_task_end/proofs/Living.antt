@@ -16,7 +16,7 @@ use Rattle.b67_model.specs.State.{Condition, Ready, Awaits, WaitsAt, Task, Job, 
 use Rattle.b67_layout.specs.Placement.{Placement}
 use Rattle.b67_layout.specs.Rows as rows
 use Rattle.b67_layout.specs.Rows.{TaskShows, shown}
-use Rattle.b67_task_switch.proofs.Tables.{job_at, live_in_order}
+use Rattle.b67_layout.proofs.LiveTasks.{job_at, live_in_order}
 use Rattle.b67_task_tables.specs.declared.tables.JobRow.{JobRow}
 use Rattle.b67_task_tables.specs.declared.tables.TaskRow.{TaskRow}
 use Rattle.b67_task_tables.specs.declared.tables.TaskState.{TaskState}

@@ -20,7 +20,8 @@ use Rattle.b67_layout.proofs.Counting.{not_more}
 use Rattle.b67_task_tables.specs.declared.tables.TaskRow.{TaskRow}
 use Rattle.b67_task_tables.specs.declared.tables.Tasks.{Tasks}
 use Rattle.b67_task_end.specs.declared.families.Deep.{Deep}
-use Rattle.b67_task_end.specs.Family.{TablesHold, IsRowOf, IsUnder, ComesBefore, AreSorted, AreUnder}
+use Rattle.b67_task_tables.specs.RowOf.{IsRowOf}
+use Rattle.b67_task_end.specs.Family.{TablesHold, IsUnder, ComesBefore, AreSorted, AreUnder}
 use Rattle.b67_task_end.proofs.Sorted.{before_self, sorted_append, sorted_one, sorted_put}
 use Rattle.b67_task_end.proofs.Depths.{Parent, order, depth_low, parent_of, slot_small}
 

@@ -15,7 +15,7 @@ use Rattle.b67_stack.proofs.Bases.{base-apart}
 use Rattle.b67_stack.proofs.Slots.{by_slot}
 use Rattle.b67_layout_storage.specs.Machine.{MachineRepresentsView}
 use Rattle.b67_layout.specs.Session.{with_objects}
-use Rattle.b67_layout_leave.proofs.Objects.{SameObjects, Represents-objects}
+use Rattle.b67_layout.proofs.Objects.{SameObjects, Represents-objects}
 use Rattle.b67_task_release.specs.Released.{of_objects, AreLeft}
 use Rattle.b67_task_end_stack.specs.Vacated.{put_out, vacated, Vacated, died, MayDie}
 use Rattle.b67_task_end_stack.proofs.Vacates.{Represents-vacated}

@@ -25,8 +25,8 @@ use Rattle.b67_layout.specs.Session.{SessionHolds}
 use Rattle.b67_layout.proofs.MachineViews.{with_course, member-same, member-other}
 use Rattle.b67_layout.proofs.Rows.{task_row}
 use Rattle.b67_layout.proofs.Sessions.{change-has, change-kept}
-use Rattle.b67_layout_leave.proofs.Settles.{numbered_course}
-use Rattle.b67_layout_leave.proofs.Objects.{Represents-objects}
+use Rattle.b67_layout.proofs.LeftSettles.{numbered_course}
+use Rattle.b67_layout.proofs.Objects.{Represents-objects}
 use Rattle.b67_task_start_stack.proofs.Twins.{NamesOnly, FramesName, like_same, slot_with-twin, name_all}
 use Rattle.b67_layout.specs.Orders.{IsInOrderButCounts}
 use Rattle.b67_task_end_stack.specs.Leaves.{Lost, Stays, NotTheirs, Kept, Leaves}

@@ -29,8 +29,8 @@ use Rattle.b67_layout.specs.Placement.{Slotted, Placement, slot_of, outer_spots}
 use Rattle.b67_layout.specs.Layout.{shape, stack_of_task, slot_with, slot_in, slot_by, slot_at, machine_view}
 use Rattle.b67_layout.specs.Session.{DictionariesFollow, SessionHolds}
 use Rattle.b67_layout.proofs.Rows.{task_row, slot_below}
-use Rattle.b67_layout_leave.proofs.Originals.{lies_at, original_word, InFrame, original_of, entry_number}
-use Rattle.b67_layout_leave.proofs.Settles.{stack_in_slot}
+use Rattle.b67_layout.proofs.Originals.{lies_at, original_word, InFrame, original_of, entry_number}
+use Rattle.b67_layout.proofs.LeftSettles.{stack_in_slot}
 use Rattle.b67_task_release.proofs.Copies.{words_descriptor, cell_word, frame_words, home_of}
 use Rattle.b67_task_release.proofs.Leavings.{here_lies, original_shape, original_named}
 use Rattle.b67_layout.specs.Orders.{JobInOrderButCounts, IsInOrderButCounts}

@@ -18,7 +18,8 @@ use Rattle.b67_task_tables.specs.Tables.{MachineRepresents}
 use Rattle.b67_task_switch.specs.Turns.{with_running}
 use Rattle.b67_task_switch.specs.Standing.{HasRow}
 use Rattle.b67_task_end.specs.declared.families.EndedTask.{EndedTask}
-use Rattle.b67_task_end.specs.Family.{TablesHold, IsRowOf, pair_of, endings_of}
+use Rattle.b67_task_tables.specs.RowOf.{IsRowOf}
+use Rattle.b67_task_end.specs.Family.{TablesHold, pair_of, endings_of}
 use Rattle.b67_task_end.proofs.Under.{deepest}
 use Rattle.b67_task_end_tables.specs.Deaths.{numbers_of, without_tasks, job_without, StandsWith, MayEnd, EndsSome, HasEnded}
 use Rattle.b67_task_end_tables.proofs.Family.{among_has, family, family_numbers, family_turn}

@@ -8,7 +8,8 @@ use Rattle.b67_layout.specs.Placement.{Placement}
 use Rattle.b67_layout.specs.Orders.{IsInOrderButCounts}
 use Rattle.b67_task_tables.specs.declared.tables.Machine.{Machine}
 use Rattle.b67_task_tables.specs.Tables.{MachineRepresents}
-use Rattle.b67_task_end.specs.Family.{IsRowOf, endings_of}
+use Rattle.b67_task_tables.specs.RowOf.{IsRowOf}
+use Rattle.b67_task_end.specs.Family.{endings_of}
 
 -- the machine represents the session, in some storage and placement
 pub record StandsFor (told : Option (List (List ℕ))) (k : Machine) (s : Session) : Type 0 where

@@ -1,5 +1,5 @@
-pub mod Counts
 pub mod Needs
 pub mod Totals
 pub mod Words
 pub mod Sessions
+pub mod Shortage

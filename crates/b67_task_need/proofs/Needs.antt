@@ -21,7 +21,7 @@ use Rattle.b67_task_tables.specs.declared.tables.Machine.{Machine}
 use Rattle.b67_task_tables.specs.Tables.{MachineRepresents, task_row, job_row, counts_of}
 use Rattle.b67_exec_cells.proofs.Codes.{short}
 use Rattle.b67_task_need.specs.Needing.{array_area, need_with, touched_words, HasWords}
-use Rattle.b67_task_need.proofs.Counts.{rows_live}
+use Rattle.b67_layout.proofs.LiveRows.{rows_live}
 use Rattle.b67_lemmas.proofs.Members.{keyed_has}
 
 pub follow_all : (plan : Placement) (at : ℕ) (jobs : List SessionJob) → DictionariesFollow plan at jobs → at + sum_by (λ (m : SessionJob). 2 + length m.constants.dictionary.cells) jobs ≡ plan.stacks

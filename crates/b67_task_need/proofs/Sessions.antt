@@ -33,12 +33,12 @@ use Rattle.b67_layout.proofs.Rows.{task_row, slot_below}
 use Rattle.b67_layout.proofs.Fresh.{job_in_order}
 use Rattle.b67_layout.proofs.Sessions.{follow-up}
 use Rattle.b67_exec_cells.proofs.Replaced.{array_object-has, member_objects, before}
-use Rattle.b67_layout_leave.proofs.Settles.{stack_in_slot}
-use Rattle.b67_layout_leave.proofs.Originals.{entry_number}
+use Rattle.b67_layout.proofs.LeftSettles.{stack_in_slot}
+use Rattle.b67_layout.proofs.Originals.{entry_number}
 use Rattle.b67_exec_cells.proofs.Codes.{code_object}
 use Rattle.b67_task_need.specs.Sums.{sectors_at, sectors_from, sectors_of_slot, sectors_of_slots}
 use Rattle.b67_layout.proofs.Counting.{slots_of}
-use Rattle.b67_task_need.proofs.Counts.{jobs_differ}
+use Rattle.b67_layout.proofs.LiveRows.{jobs_differ}
 use Rattle.b67_task_need.proofs.Totals.{upto, slots_total, range_split, range_first, kept, kept_once, kept_original}
 use Rattle.b67_task_need.proofs.Words.{home_array, home_code, of_shape, lies_total, headed_total}
 use Rattle.b67_law_order.proofs.Numbered.{keyed_member}

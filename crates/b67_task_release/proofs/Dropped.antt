@@ -16,10 +16,10 @@ use Rattle.b67_stack.specs.Stacks.{words}
 use Rattle.b67_stack.specs.MachineView.{PagedObject, MachineView, Slot, Free, Running, Waiting, stack_of, slot_base, SlotFits, CopiesName, home_word}
 use Rattle.b67_stack.specs.Represents.{Storage, RepresentsSlot, StacksLie, RepresentsObject, Content, ObjectHasChain, Owned, Represents, info_of}
 use Rattle.b67_stack.proofs.Lies.{Lie-each}
-use Rattle.b67_layout_storage.specs.Machine.{with_held, ChainStays}
-use Rattle.b67_layout_storage.proofs.Helds.{held-other, held-same}
-use Rattle.b67_layout_storage.proofs.Reheld.{Content-stays}
-use Rattle.b67_layout_storage.proofs.Unchanged.{area_of_object, home_below, slot_below, base_low}
+use Rattle.b67_stack.specs.HeldOtherwise.{with_held, ChainStays}
+use Rattle.b67_stack.proofs.Helds.{held-other, held-same}
+use Rattle.b67_stack.proofs.Reheld.{Content-stays}
+use Rattle.b67_stack.proofs.Unchanged.{area_of_object, home_below, slot_below, base_low}
 use Rattle.b67_layout_storage.proofs.Chained.{Content-chain}
 use Rattle.b67_task_release.specs.Released.{without_chain, released, of_objects, Drops, Vacated}
 

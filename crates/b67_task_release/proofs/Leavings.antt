@@ -31,8 +31,8 @@ use Rattle.b67_layout.specs.Layout.{shape, head, activations, stack_of_task, arr
 use Rattle.b67_layout.specs.Meets.{gone, objects_gone, with_job}
 use Rattle.b67_layout.specs.Session.{IsRunning, RepresentsSession, RepresentsSessionBut}
 use Rattle.b67_layout.proofs.Rows.{runs_on, slot_below}
-use Rattle.b67_layout_leave.proofs.Settles.{under, base, all, homes_low, homes_high}
-use Rattle.b67_layout_leave.proofs.Objects.{others}
+use Rattle.b67_layout.proofs.LeftSettles.{under, base, all, homes_low, homes_high}
+use Rattle.b67_layout.proofs.Objects.{others}
 use Rattle.b67_task_release.specs.Released.{HasHome}
 use Rattle.b67_task_release.specs.Left.{IsLeft}
 use Rattle.b67_task_release.proofs.Remaining.{is_original}

@@ -19,8 +19,8 @@ use Rattle.b67_stack.specs.MachineView.{PagedObject, MachineView, Slot, Free, Ru
 use Rattle.b67_stack.specs.Represents.{Storage, Represents, info_of}
 use Rattle.b67_stack.proofs.Homes.{same_desc, chain_small}
 use Rattle.b67_layout_storage.specs.Machine.{MachineRepresentsView}
-use Rattle.b67_layout_storage.proofs.Helds.{held-other, held-same}
-use Rattle.b67_layout_storage.proofs.Unchanged.{area_of_object, area_bounds}
+use Rattle.b67_stack.proofs.Helds.{held-other, held-same}
+use Rattle.b67_stack.proofs.Unchanged.{area_of_object, area_bounds}
 use Rattle.b67_layout_storage.proofs.Words.{original_of_home}
 use Rattle.b67_layout.specs.Session.{with_objects}
 use Rattle.b67_task_release.specs.Released.{released, of_objects, Drops, Finds, SameBelow, HasHome, Released, AreLeft, Remains}

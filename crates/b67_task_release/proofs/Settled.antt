@@ -20,8 +20,8 @@ use Rattle.b67_layout.specs.Placement.{Placement}
 use Rattle.b67_layout.specs.Layout.{machine_view, stack_of_task}
 use Rattle.b67_layout.specs.Session.{with_objects, RepresentsStorage}
 use Rattle.b67_layout.proofs.Rows.{runs_on}
-use Rattle.b67_layout_step.proofs.Alike.{AllAlike}
-use Rattle.b67_layout_step.proofs.Paged.{RepresentsSession-over}
+use Rattle.b67_layout.proofs.Alike.{AllAlike}
+use Rattle.b67_layout.proofs.Paged.{RepresentsSession-over}
 use Rattle.b67_task_release.specs.Released.{HasHome, Released, SameBelow, AreLeft}
 use Rattle.b67_task_release.specs.Left.{IsLeft, AreReleased}
 use Rattle.b67_task_release.proofs.Copies.{slots_fit}

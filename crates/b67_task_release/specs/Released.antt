@@ -11,7 +11,7 @@ use Rattle.b67_lemmas.specs.Lists.{Has}
 use Rattle.b67_stack.specs.Shapes.{Location, IsOriginal, nowhere}
 use Rattle.b67_stack.specs.MachineView.{PagedObject, MachineView, SlotFits, slot_base, is_present, address_or}
 use Rattle.b67_stack.specs.Represents.{Storage}
-use Rattle.b67_layout_storage.specs.Machine.{with_held}
+use Rattle.b67_stack.specs.HeldOtherwise.{with_held}
 
 -- the spans without an area, if there is one, and a shelf where a chain is free, if there is one
 abbrev pub without_area : ℕ → Option ℕ → List Span → List Span

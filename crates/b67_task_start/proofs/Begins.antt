@@ -34,8 +34,10 @@ use Rattle.b67_task_tables.specs.declared.tables.Machine.{Machine}
 use Rattle.b67_task_tables.specs.Tables.{state_of, task_row, MachineRepresents}
 use Rattle.b67_task_start_stack.specs.Born.{with_peak, with_task_at}
 use Rattle.b67_task_start_stack.specs.Joining.{MayBuild, joined}
-use Rattle.b67_task_start.specs.Opening.{peak_with, HasSlot, IsOpened}
-use Rattle.b67_task_start.specs.Starts.{IsProcCell, MayStart, IsStarted, child, with_child, with_next, moved}
+use Rattle.b67_layout.specs.Peaks.{peak_with}
+use Rattle.b67_task_start.specs.Opening.{HasSlot, IsOpened}
+use Rattle.b67_layout.specs.Moved.{moved}
+use Rattle.b67_task_start.specs.Starts.{IsProcCell, MayStart, IsStarted, child, with_child, with_next}
 use Rattle.b67_task_start.proofs.Opens.{not_past, peak_stays, peak_rises}
 use Rattle.b67_task_start.proofs.Rows.{JobRowOf, job_row_of, rows_few, tables_started}
 use Rattle.b67_task_start.proofs.Starting.{Two, IsPcwAt, found_cell, frames, joins, may_build, pcw, row_shows}

@@ -32,7 +32,8 @@ use Rattle.b67_layout.specs.Rows.{IsReady}
 use Rattle.b67_task_start_stack.specs.Born.{with_peak, with_task_at}
 use Rattle.b67_task_start_stack.specs.Joining.{BuildsSome, MayBuild, joined}
 use Rattle.b67_task_start_stack.proofs.Building.{on_stack, two_marks}
-use Rattle.b67_task_start.specs.Opening.{HasSlot, HasSomeSlot, IsOpened, peak_with}
+use Rattle.b67_layout.specs.Peaks.{peak_with}
+use Rattle.b67_task_start.specs.Opening.{HasSlot, HasSomeSlot, IsOpened}
 use Rattle.b67_task_start.specs.Starts.{StartsSome, IsStarted, HasRowRoom, child, with_child, with_next}
 use Rattle.b67_task_start.proofs.Rows.{job_row_of}
 use Rattle.b67_task_start.proofs.Begins.{may_open, job_row, first_job, row_room, seen, seen_procedure, seen_pcw, may_child, critical_is, started}

@@ -23,11 +23,12 @@ use Rattle.b67_layout.specs.Layout.{slot_at, slot_by, machine_view}
 use Rattle.b67_layout.specs.Rows.{Differ}
 use Rattle.b67_layout.specs.Session.{RowsFit, SessionHolds, RepresentsSession, vector_word}
 use Rattle.b67_layout.proofs.Rows.{task_row}
-use Rattle.b67_task_need.proofs.Counts.{jobs_differ}
+use Rattle.b67_layout.proofs.LiveRows.{jobs_differ}
 use Rattle.b67_layout.proofs.Counting.{not_more, slots_of, slots_length}
 use Rattle.b67_task_start_stack.specs.Born.{with_peak}
 use Rattle.b67_task_start_stack.specs.Slots.{grown, raised, HasRoom}
-use Rattle.b67_task_start.specs.Opening.{IsLowestFree, slot_end, peak_with, HasSlot, IsOpened}
+use Rattle.b67_layout.specs.Peaks.{peak_with}
+use Rattle.b67_task_start.specs.Opening.{IsLowestFree, slot_end, HasSlot, IsOpened}
 use Rattle.b67_task_start_stack.proofs.Wider.{RepresentsSession-wider}
 
 -- the word of a slot in the stack vector has tag 0 only if no task lives in the slot

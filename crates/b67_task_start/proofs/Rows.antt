@@ -23,16 +23,17 @@ use Rattle.b67_layout.proofs.MachineViews.{with_course}
 use Rattle.b67_layout.proofs.Rows.{slot_below}
 use Rattle.b67_layout.proofs.Sessions.{running_only}
 use Rattle.b67_stack.specs.declared.Cpu.{Cpu}
-use Rattle.b67_task_need.proofs.Counts.{rows_live}
-use Rattle.b67_task_switch.proofs.Tables.{job_at, live_in_order}
+use Rattle.b67_layout.proofs.LiveRows.{rows_live}
+use Rattle.b67_layout.proofs.LiveTasks.{job_at, live_in_order}
 use Rattle.b67_task_tables.specs.declared.tables.JobRow.{JobRow}
 use Rattle.b67_task_tables.specs.declared.tables.TaskRow.{TaskRow}
 use Rattle.b67_task_tables.specs.declared.tables.Tasks.{Tasks}
 use Rattle.b67_task_tables.specs.Tables.{task_row, job_row, counts_of, TasksShow}
 use Rattle.b67_task_start_stack.specs.Born.{with_task_at}
 use Rattle.b67_task_start_stack.specs.Joining.{Joins}
-use Rattle.b67_task_start.specs.Opening.{peak_with}
-use Rattle.b67_task_start.specs.Starts.{with_child, with_next, moved}
+use Rattle.b67_layout.specs.Peaks.{peak_with}
+use Rattle.b67_layout.specs.Moved.{moved}
+use Rattle.b67_task_start.specs.Starts.{with_child, with_next}
 use Rattle.b67_task_start_stack.proofs.Tabled.{tables_born}
 
 -- the row of the running task

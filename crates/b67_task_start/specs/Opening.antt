@@ -1,5 +1,5 @@
 -- The slot that a new task gets, and the peak that it raises.
-use Rattle.std.specs.Prelude.{◌≡◌, ◌≢◌, ℕ, ◌+◌, ◌*◌, ◌<◌, ◌≤◌, max, List, length, Some}
+use Rattle.std.specs.Prelude.{◌≡◌, ◌≢◌, ℕ, ◌+◌, ◌*◌, ◌<◌, ◌≤◌, List, length, Some}
 use Rattle.b67_word.specs.Tagged.{Tagged}
 use Rattle.b67_area.specs.declared.Areas.{Areas}
 use Rattle.b67_area.specs.declared.Info.{Info}
@@ -14,6 +14,7 @@ use Rattle.b67_stack.specs.Represents.{Storage}
 use Rattle.b67_layout.specs.Placement.{Slotted, Placement}
 use Rattle.b67_layout.specs.Session.{SessionHolds, RepresentsSession}
 use Rattle.b67_task_start_stack.specs.Born.{with_peak}
+use Rattle.b67_layout.specs.Peaks.{peak_with}
 
 -- slot k is the lowest in which no task lives
 pub record IsLowestFree (plan : Placement) (k : ℕ) : Type 0 where
@@ -23,10 +24,6 @@ pub record IsLowestFree (plan : Placement) (k : ℕ) : Type 0 where
 -- the address after a slot
 abbrev pub slot_end : Placement → ℕ → ℕ
 slot_end plan k = plan.stacks + (k + 1) * plan.size
-
--- the peak once so many tasks more live
-abbrev pub peak_with : Session → ℕ → ℕ
-peak_with s more = max s.peak (live_tasks s.jobs + more)
 
 -- core and registers stand for some session
 pub record HoldsOne (core : List Tagged) (r : Regs) : Type 0 where

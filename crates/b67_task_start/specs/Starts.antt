@@ -15,14 +15,16 @@ use Rattle.b67_model.specs.Schedule.{Session}
 use Rattle.b67_stack.specs.Represents.{Storage}
 use Rattle.b67_layout.specs.Placement.{Placement}
 use Rattle.b67_layout.specs.Session.{IsRunning, frame_address}
-use Rattle.b67_layout.specs.Meets.{here, with_job}
+use Rattle.b67_layout.specs.Meets.{here}
 use Rattle.b67_task_tables.specs.declared.tables.JobRow.{JobRow}
 use Rattle.b67_task_tables.specs.declared.tables.TaskRow.{TaskRow}
 use Rattle.b67_task_tables.specs.declared.tables.Tasks.{Tasks}
 use Rattle.b67_task_tables.specs.declared.tables.Machine.{Machine}
 use Rattle.b67_task_tables.specs.Tables.{MachineRepresents}
 use Rattle.b67_task_start_stack.specs.Born.{with_task_at}
-use Rattle.b67_task_start.specs.Opening.{IsLowestFree, slot_end, peak_with}
+use Rattle.b67_layout.specs.Peaks.{peak_with}
+use Rattle.b67_task_start.specs.Opening.{IsLowestFree, slot_end}
+use Rattle.b67_layout.specs.Moved.{moved}
 
 -- the cell of a procedure in an entered frame that a task may name, by its core address; the procedure's level is one above
 -- that frame's
@@ -57,10 +59,6 @@ child m t count f segment level place = child_of (here m t t.place) (reverse (ar
 
 abbrev pub with_child : Job → Task → Job
 with_child job t = record job { tasks = t ∷ job.tasks; next_task = job.next_task + 1; next_frame = job.next_frame + 1 }
-
--- the session with another job of a member, whose tasks count for the peak
-abbrev pub moved : Session → SessionJob → Job → ℕ → Session
-moved s m job more = record (with_job s m job) { peak = peak_with s more }
 
 -- the machine stands for some session in order, whose running task may start one so
 pub record StartsSome (k : Machine) (at count : ℕ) : Type 0 where

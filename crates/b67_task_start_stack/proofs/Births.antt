@@ -24,7 +24,7 @@ use Rattle.b67_layout.specs.Session.{RowsFit, DictionariesFollow, RowHomes, Plan
 use Rattle.b67_layout.proofs.MachineViews.{with_course, member-same}
 use Rattle.b67_layout.proofs.Rows.{task_row, slot_below}
 use Rattle.b67_layout.proofs.Sessions.{dictionary_below, running_only}
-use Rattle.b67_layout_enter.proofs.Names.{frame_at_same}
+use Rattle.b67_law_order.proofs.LowNames.{frame_at_same}
 use Rattle.b67_task_start_stack.specs.Born.{with_task_at}
 use Rattle.b67_task_start_stack.specs.Joining.{Joins}
 use Rattle.b67_lemmas.proofs.Members.{keyed_has}

@@ -15,7 +15,7 @@ use Rattle.b67_stack.specs.Represents.{Storage, RepresentsRunning, RepresentsSlo
 use Rattle.b67_stack.proofs.Bases.{base-step, base-apart}
 use Rattle.b67_stack.proofs.Heights.{words-length}
 use Rattle.b67_stack.proofs.Lies.{Lie-same}
-use Rattle.b67_layout_storage.proofs.Reheld.{Content-stays}
+use Rattle.b67_stack.proofs.Reheld.{Content-stays}
 use Rattle.b67_task_start_stack.specs.Slots.{grown, HasRoom}
 
 slot_room : (p : MachineView) (k : ℕ) (s : Slot) → SlotFits p k s → 0 < p.size → stack_words (stack_of s) < p.size

@@ -30,15 +30,14 @@ use Rattle.b67_stack.proofs.Bases.{base-apart}
 use Rattle.b67_stack.proofs.Slots.{running_slot, running_fits, running_lies}
 use Rattle.b67_layout.specs.Placement.{Placement, Slotted, slot_of, spot_in, outer_spots}
 use Rattle.b67_layout.specs.Layout.{shape, head, activations, stack_of_task, slot_by, slot_at, machine_view}
-use Rattle.b67_layout.specs.Session.{IsRunning, ShowsDisplay, vector_word, critical_mark, SessionHolds, RepresentsSession}
+use Rattle.b67_layout.specs.Session.{IsRunning, ShowsDisplay, vector_word, critical_mark, SessionHolds, RepresentsSession, RowsFit}
 use Rattle.b67_layout.proofs.Fresh.{running_in_order, next_is_free, free-uncritical, job_in_order}
 use Rattle.b67_layout.proofs.Frames.{height-is}
 use Rattle.b67_stack.specs.Changes.{below_top}
 use Rattle.b67_layout.proofs.MachineViews.{with_course}
 use Rattle.b67_layout.proofs.Sessions.{running_only}
 use Rattle.b67_layout.proofs.Rows.{runs_on}
-use Rattle.b67_layout.specs.Session.{RowsFit}
-use Rattle.b67_layout_enter.proofs.Names.{frames_low}
+use Rattle.b67_law_order.proofs.LowNames.{frames_low}
 use Rattle.b67_task_start_stack.specs.Born.{with_task_at}
 use Rattle.b67_task_start_stack.specs.Slots.{Filled}
 use Rattle.b67_task_start_stack.proofs.Apart.{frames_apart}

@@ -3,6 +3,5 @@ pub mod StackTurns
 pub mod Words
 pub mod Saving
 pub mod Loading
-pub mod Lists
 pub mod Tables
 pub mod Turns

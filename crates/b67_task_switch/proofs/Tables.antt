@@ -1,5 +1,5 @@
 -- The tables of a session, as its registers are put away and come into use.
-use Rattle.std.proofs.Common.{◌≡◌, ◌≢◌, ℕ, zero, suc, ◌+◌, ◌-◌, ◌≤◌, List, [], ◌∷◌, length, Option, Some, None, refl, sym, ◌∙◌, ap, arith, inl, inr, ⊎_elim, slice_set, subst, length-set}
+use Rattle.std.proofs.Common.{◌≡◌, ◌≢◌, ℕ, ◌+◌, ◌≤◌, List, [], ◌∷◌, length, Option, Some, None, refl, sym, ◌∙◌, ap, arith, ⊎_elim, slice_set, subst, length-set}
 use Rattle.std.specs.List.{slice_get}
 use Rattle.std.proofs.lemmas.Option.{same_Some, slice_get_within, slice_get_past}
 use Rattle.std.proofs.lemmas.Bool.{cases_eq, eq-eqb}
@@ -7,31 +7,26 @@ use Rattle.b67_core.proofs.Writes.{slice_get-set_same, slice_get-set_other}
 use Rattle.b67_word.specs.Tagged.{Tagged}
 use Rattle.b67_ctl.specs.declared.registers.Regs.{Regs}
 use Rattle.b67_lemmas.specs.Lists.{Has}
-use Rattle.b67_lemmas.proofs.Members.{all_in, has_get, keyed_falls}
+use Rattle.b67_lemmas.proofs.Members.{has_get}
 use Rattle.b67_lemmas.proofs.Places.{has_at, same_mapped}
 use Rattle.b67_model.specs.State.{Condition, Ready, Awaits, WaitsAt, Task, Job, SessionJob}
 use Rattle.b67_model.specs.Keyed.{keyed}
 use Rattle.b67_model.specs.Schedule.{Session}
-use Rattle.b67_model.specs.InOrder.{IsSegment, NumberedFrom}
-use Rattle.b67_layout.specs.Orders.{JobInOrderButCounts, IsInOrderButCounts}
+use Rattle.b67_layout.specs.Orders.{IsInOrderButCounts}
 use Rattle.b67_stack.specs.Represents.{Storage}
 use Rattle.b67_stack.specs.Stacks.{StackPlace}
 use Rattle.b67_layout.specs.Placement.{Placement, slot_of, address_of}
-use Rattle.b67_layout.specs.Rows.{WaitsAtCell, TaskRow, JobRow, JobCounts, shown, parent_slot, critical_disp, TaskShows, JobShows, JobsShow, RunningRow, Differ, TablesShow}
+use Rattle.b67_layout.specs.Rows.{WaitsAtCell, TaskRow, JobRow, JobCounts, shown, parent_slot, critical_disp, TaskShows, JobsShow, RunningRow, Differ, TablesShow}
 use Rattle.b67_layout.specs.Session.{RowsFit, IsRunning, SessionHolds}
 use Rattle.b67_layout.proofs.Rows.{slot_below}
 use Rattle.b67_task_switch.specs.Turns.{with_running}
 use Rattle.b67_task_switch.proofs.Replans.{spots-replan}
-use Rattle.b67_task_switch.proofs.Lists.{differ_at}
-use Rattle.b67_law_order.proofs.Numbered.{keyed_member, numbered_low}
+use Rattle.b67_layout.proofs.Differs.{differ_at}
+use Rattle.b67_law_order.proofs.Numbered.{keyed_member}
+use Rattle.b67_layout.proofs.LiveTasks.{live_in_order}
 
 keyed-head : {A : Type 0} (key : A → ℕ) (y : A) (more : List A) → keyed key (key y) (y ∷ more) ≡ Some y
 keyed-head key y more = rw (eq-eqb (key y) (key y) refl) refl
-
-pub live_in_order : (s : Session) (m : SessionJob) (t : Task) → IsInOrderButCounts s → Has s.jobs m → Has m.progress.job.tasks t → keyed (λ (u : Task). u.number) t.number m.progress.job.tasks ≡ Some t
-live_in_order s m t o inm int =
-    let j = all_in (λ (y : SessionJob). JobInOrderButCounts (IsSegment y.constants) y.constants y.progress) s.jobs m o.jobs inm in
-    keyed_falls (λ (u : Task). u.number) m.progress.job.next_task m.progress.job.tasks t j.tasks.numbers int
 
 -- a row of a task, whatever registers are in use
 module _ (plan : Placement) (k : ℕ) where
@@ -157,22 +152,3 @@ module _ (plan : Placement) (s : Session) (fit : RowsFit plan s.jobs) (small : p
     jobs = JobsShow-replan plan row.slot s.jobs job_rows shows.jobs;
     counts = record { quantum = shows.counts.quantum; made = shows.counts.made; turn = shows.counts.turn; last_job = shows.counts.last_job; last_number = shows.counts.last_number; switches = shows.counts.switches; next = shows.counts.next; past = shows.counts.past; running = subst (λ (y : Option TaskRow). RunningRow (with_running plan row.slot) y i) (sym at) (ne, refl) };
   }
-
--- a job's row
-pub record JobAt (plan : Placement) (rows : List JobRow) (i : ℕ) (m : SessionJob) : Type 0 where
-  pub row : JobRow
-  pub at : slice_get rows i ≡ Some row
-  pub shows : JobShows plan m row
-
-pub job_at : (plan : Placement) (n : ℕ) (jobs : List SessionJob) (rows : List JobRow) (m : SessionJob) → NumberedFrom n jobs → JobsShow plan jobs rows → Has jobs m → JobAt plan rows (m.constants.number - n) m
-job_at plan n [] rows m d h inm = absurd inm
-job_at plan n (y ∷ more) [] m d h inm = absurd h
-job_at plan n (y ∷ more) (r ∷ rows) m d h (inl e) =
-    let P : SessionJob → Type 0 = λ z. JobAt plan (r ∷ rows) (z.constants.number - n) z in
-    let first : y.constants.number - n ≡ zero = omega (arith, d.0) in
-    subst P e (record { row = r; at = ap (slice_get (r ∷ rows)) first; shows = h.0 })
-job_at plan n (y ∷ more) (r ∷ rows) m d h (inr k) =
-    let b = job_at plan (n + 1) more rows m d.1 h.1 k in
-    let low = numbered_low (n + 1) more m d.1 k in
-    let next : m.constants.number - n ≡ suc (m.constants.number - (n + 1)) = omega (arith, low) in
-    record { row = b.row; at = ap (slice_get (r ∷ rows)) next ∙ b.at; shows = b.shows }

@@ -22,7 +22,8 @@ use Rattle.b67_task_tables.specs.declared.tables.JobRow.{JobRow}
 use Rattle.b67_task_tables.specs.declared.tables.Tasks.{Tasks}
 use Rattle.b67_task_tables.specs.Tables.{task_row, job_row, counts_of, TasksShow}
 use Rattle.b67_task_switch.specs.Standing.{Rests}
-use Rattle.b67_task_switch.proofs.Tables.{live_in_order, paused, resumed, goes_on, job_at}
+use Rattle.b67_layout.proofs.LiveTasks.{live_in_order, job_at}
+use Rattle.b67_task_switch.proofs.Tables.{paused, resumed, goes_on}
 use Rattle.b67_lemmas.proofs.Members.{all_in, has_get}
 use Rattle.b67_lemmas.proofs.Places.{at_mapped, map-slice_set, mapped_at, refill_whole, same_mapped}
 use Rattle.b67_law_order.proofs.Numbered.{keyed_member, numbered_low}

@@ -1,5 +1,5 @@
 use Rattle.std.proofs.Common.{arith}
-use Rattle.b67_exec_cells.specs.Tops.{cells}
+use Rattle.b67_layout.specs.Tops.{cells}
 use Rattle.b67_exec_cells.proofs.Put.{room, top_given, none_given}
 use Rattle.b67_exec_cells.proofs.cells.top_cell.Goals as goal
 

@@ -1,5 +1,5 @@
 use Rattle.std.proofs.Common.{arith}
-use Rattle.b67_exec_cells.specs.Tops.{cells}
+use Rattle.b67_layout.specs.Tops.{cells}
 use Rattle.b67_exec_cells.proofs.Put.{room, two_given, one_given}
 use Rattle.b67_exec_cells.proofs.cells.two_cells.Goals as goal
 

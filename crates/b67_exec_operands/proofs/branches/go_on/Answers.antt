@@ -1,5 +1,5 @@
 use Rattle.std.proofs.Common.{[], refl}
-use Rattle.b67_exec_cells.specs.Tops.{cells}
+use Rattle.b67_layout.specs.Tops.{cells}
 use Rattle.b67_exec_operands.proofs.Rows.{marked}
 use Rattle.b67_exec_operands.proofs.branches.go_on.Goals as goal
 

@@ -1,6 +1,6 @@
 use Rattle.std.proofs.Common.{[], refl, arith}
 use Rattle.b67_model.specs.Words.{Operand}
-use Rattle.b67_exec_cells.specs.Tops.{cells}
+use Rattle.b67_layout.specs.Tops.{cells}
 use Rattle.b67_exec_operands.proofs.Rows.{marked}
 use Rattle.b67_exec_operands.proofs.pushes.literal.Goals as goal
 

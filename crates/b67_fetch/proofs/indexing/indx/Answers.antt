@@ -3,7 +3,7 @@ use Rattle.b67_model.specs.Words.{Word, Element}
 use Rattle.b67_model.specs.Rows as rows
 use Rattle.b67_model.specs.Steps.{leaves_cells}
 use Rattle.b67_layout.specs.Meets.{here}
-use Rattle.b67_exec_cells.specs.Tops.{IsWordOf}
+use Rattle.b67_layout.specs.Tops.{IsWordOf}
 use Rattle.b67_exec_cells.specs.Elements.{HasElement}
 use Rattle.b67_fetch.proofs.Items.{item_on_top, holds_item, no_item, row_at_item}
 use Rattle.b67_fetch.proofs.indexing.indx.Goals as goal

@@ -3,7 +3,7 @@ use Rattle.b67_model.specs.Words.{Name}
 use Rattle.b67_model.specs.Chase.{follow}
 use Rattle.b67_model.specs.Entry.{evaluates}
 use Rattle.b67_layout.specs.Meets.{here}
-use Rattle.b67_exec_cells.specs.Tops.{cells}
+use Rattle.b67_layout.specs.Tops.{cells}
 use Rattle.b67_exec_cells.proofs.Put.{room}
 use Rattle.b67_fetch.proofs.Values.{couple_followed, some_end, refused, valc_row}
 use Rattle.b67_fetch.proofs.loading.valc.Goals as goal

@@ -14,7 +14,8 @@ use Rattle.b67_layout.specs.Meets.{here}
 use Rattle.b67_exec_cells.proofs.Put.{room}
 use Rattle.b67_refer.specs.RunningContext.{live_of}
 use Rattle.b67_fetch.proofs.Values.{here_scene, here_shown, followed_stands}
-use Rattle.b67_exec_cells.specs.Tops.{cells, GivesTwo}
+use Rattle.b67_layout.specs.Tops.{cells}
+use Rattle.b67_exec_cells.specs.Tops.{GivesTwo}
 use Rattle.b67_fetch.specs.Fetches.{enters_at, EntersOrMeets}
 use Rattle.b67_fetch.specs.Stores.{stored}
 use Rattle.b67_fetch.proofs.Words.{Choice, given, no_operand, followed}

@@ -12,10 +12,11 @@ use Rattle.b67_stack.specs.declared.Cpu.{Cpu}
 use Rattle.b67_stack.specs.Shapes.{nowhere}
 use Rattle.b67_stack.specs.MachineView.{PagedObject, MachineView, home_desc, home_word_of}
 use Rattle.b67_stack.specs.Represents.{Storage, Represents, info_of}
-use Rattle.b67_layout_storage.specs.Machine.{IsPresent, Stayed}
+use Rattle.b67_stack.specs.HeldOtherwise.{Stayed}
+use Rattle.b67_layout_storage.specs.Machine.{IsPresent}
 use Rattle.b67_overlay.specs.Spans.{CopiesLie, MachineCanPage}
 use Rattle.b67_overlay.proofs.Copies.{copies_stay, copies_objects}
-use Rattle.b67_layout_storage.proofs.Unchanged.{area_of_object}
+use Rattle.b67_stack.proofs.Unchanged.{area_of_object}
 use Rattle.b67_overlay.specs.Turns.{Searched, Hides}
 use Rattle.b67_overlay.proofs.Hiding.{hidden_data}
 use Rattle.b67_overlay.proofs.Dropping.{Freed, directory2, below_dropped}

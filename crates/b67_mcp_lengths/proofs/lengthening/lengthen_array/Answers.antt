@@ -6,7 +6,8 @@ use Rattle.b67_ctl.specs.declared.descriptors.DataDesc.{DataDesc}
 use Rattle.b67_stack.specs.MachineView.{PagedObject, MachineView, home_desc, address_or}
 use Rattle.b67_stack.specs.Shapes.{Location}
 use Rattle.b67_stack.specs.Represents.{Storage, Represents}
-use Rattle.b67_layout_storage.specs.Machine.{IsPresent, Stayed, content_after}
+use Rattle.b67_stack.specs.HeldOtherwise.{Stayed}
+use Rattle.b67_layout_storage.specs.Machine.{IsPresent, content_after}
 use Rattle.b67_overlay.specs.Spans.{MachineCanPage}
 use Rattle.b67_overlay.proofs.Copies.{copies_stay, copies_objects}
 use Rattle.b67_overlay.specs.Overlaid.{overlaid}
@@ -16,8 +17,8 @@ use Rattle.std.specs.Prelude.{Err}
 use Rattle.b67_backing.specs.Extending.{extended, sectors_more, IsExtended, ExtendMeets}
 use Rattle.b67_layout_storage.proofs.Below.{Stayed-then}
 use Rattle.b67_layout_storage.proofs.Devices.{Served-then, still_tells}
-use Rattle.b67_layout_storage.proofs.Helds.{held-other, held-same}
-use Rattle.b67_layout_storage.proofs.Reheld.{storage_with}
+use Rattle.b67_stack.proofs.Helds.{held-other, held-same}
+use Rattle.b67_stack.proofs.Reheld.{storage_with}
 use Rattle.b67_overlay.proofs.Chains.{Says-retold}
 use Rattle.b67_mcp_lengths.proofs.Emptied.{stayed_absent}
 use Rattle.b67_mcp_lengths.proofs.Longer.{IsOut, is_out, others_out, rests, made_longer, retold_twice, refused_overlay, refused_extend, device_extended}

@@ -9,10 +9,11 @@ use Rattle.b67_backing.specs.Shelf.{IsShelf}
 use Rattle.b67_ctl.specs.declared.descriptors.DataDesc.{DataDesc}
 use Rattle.b67_stack.specs.MachineView.{PagedObject, MachineView, home_desc, home_word_of, address_or}
 use Rattle.b67_stack.specs.Represents.{Storage, Represents, info_of}
-use Rattle.b67_layout_storage.specs.Machine.{IsPresent, Stayed}
+use Rattle.b67_stack.specs.HeldOtherwise.{Stayed}
+use Rattle.b67_layout_storage.specs.Machine.{IsPresent}
 use Rattle.b67_overlay.specs.Spans.{MachineCanPage}
 use Rattle.b67_overlay.proofs.Copies.{copies_stay, copies_objects}
-use Rattle.b67_layout_storage.proofs.Unchanged.{area_of_object, area_bounds}
+use Rattle.b67_stack.proofs.Unchanged.{area_of_object, area_bounds}
 use Rattle.b67_mcp_lengths.specs.Lengths.{IsArray, IsChain, shorter, freed_chain}
 use Rattle.b67_mcp_lengths.proofs.Freeing.{is_chain, original_is, original_read, set_original}
 use Rattle.b67_mcp_lengths.proofs.Shorter.{Shrunk, made_shorter, below_short}

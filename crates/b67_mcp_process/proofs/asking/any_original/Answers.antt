@@ -3,7 +3,7 @@ use Rattle.std.specs.List.{list_any}
 use Rattle.b67_model.specs.Words.{Word}
 use Rattle.b67_model.specs.Intrinsics.{is_original}
 use Rattle.b67_lemmas.proofs.Members.{any_some}
-use Rattle.b67_exec_cells.specs.Tops.{cells}
+use Rattle.b67_layout.specs.Tops.{cells}
 use Rattle.b67_mcp_process.proofs.Words.{split_at, none_more}
 use Rattle.b67_mcp_process.proofs.asking.any_original.Goals as goal
 

@@ -2,7 +2,7 @@ use Rattle.std.specs.Prelude.{◌≡◌, ◌≤◌, false, take, length}
 use Rattle.std.specs.List.{list_any}
 use Rattle.b67_model.specs.Intrinsics.{is_original}
 use Rattle.b67_layout.specs.Meets.{ForEach}
-use Rattle.b67_exec_cells.specs.Tops.{cells}
+use Rattle.b67_layout.specs.Tops.{cells}
 use Rattle.b67_mcp_process.proofs.asking.any_original.Given as goal
 
 abbrev pub invariant-loop-above : goal.invariant-loop-above

@@ -4,7 +4,7 @@ use Rattle.b67_layout.specs.Layout.{machine_view}
 use Rattle.b67_layout_storage.specs.Machine.{content_after}
 use Rattle.b67_layout_storage.proofs.Devices.{Served-none}
 use Rattle.b67_layout_storage.proofs.Untold.{untold}
-use Rattle.b67_presence.proofs.Shortage.{short_of}
+use Rattle.b67_task_need.proofs.Shortage.{short_of}
 use Rattle.b67_mcp_process.proofs.Moved.{silent, seen_over, stands_moved}
 use Rattle.b67_mcp_process.proofs.Starts.{starts_one, processed, may_start, stopped, writes, fits_by, same_fault}
 use Rattle.b67_mcp_process.proofs.starting.start_asked.Goals as goal

@@ -9,7 +9,7 @@ use Rattle.b67_stack.specs.Represents.{Represents, info_of}
 use Rattle.b67_ctl.specs.declared.registers.Regs.{Regs}
 use Rattle.b67_stack.specs.declared.Cpu.{Cpu}
 use Rattle.b67_overlay.specs.Overlaid.{dropped}
-use Rattle.b67_layout_storage.proofs.Unchanged.{home_below}
+use Rattle.b67_stack.proofs.Unchanged.{home_below}
 use Rattle.b67_overlay.proofs.Sectors.{about}
 use Rattle.b67_overlay.proofs.Dropping.{Freed, directory2, below_dropped, Represents-dropped}
 use Rattle.b67_overlay.proofs.overlays.give_back.Goals as goal

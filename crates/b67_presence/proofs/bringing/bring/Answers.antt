@@ -8,7 +8,7 @@ use Rattle.b67_layout_spans.proofs.Sessions.{view_of}
 use Rattle.b67_presence.proofs.Again.{machine_of, view_stands}
 use Rattle.b67_presence.proofs.Ends.{brings_code, brings_array}
 use Rattle.b67_presence.proofs.Refusals.{code_lacks, array_lacks, refused_waits, refused_full, refused_array, refused_still, stays_in, stays_put, refused_as, full_as, room_code, room_array, untouched_code, untouched_array}
-use Rattle.b67_presence.proofs.FullDevice.{short_full}
+use Rattle.b67_layout_spans.proofs.FullDevice.{short_full}
 use Rattle.b67_presence.proofs.Seen.{readable}
 use Rattle.b67_presence.proofs.Wants.{code_found, address, address_small, displaced, code_absent, code_present, array_absent, need_code, need_array, needed_is, fits_not, core_has, room_fits, wanted_code, wanted_array, brings_as}
 use Rattle.b67_presence.proofs.bringing.bring.Goals as goal

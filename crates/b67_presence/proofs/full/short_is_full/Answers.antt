@@ -1,4 +1,4 @@
-use Rattle.b67_presence.proofs.FullDevice.{short_full}
+use Rattle.b67_layout_spans.proofs.FullDevice.{short_full}
 use Rattle.b67_presence.proofs.full.short_is_full.Goals as goal
 
 pub returns : goal.returns

@@ -4,7 +4,7 @@ use Rattle.std.proofs.lemmas.Bool.{cases_eq}
 use Rattle.b67_backing.specs.declared.SpaceFault.{SpaceFault}
 use Rattle.b67_backing.specs.declared.SpaceFault.TheVariants.{BackingFull}
 use Rattle.b67_stack.specs.Represents.{Storage}
-use Rattle.b67_layout_storage.specs.Machine.{Stayed}
+use Rattle.b67_stack.specs.HeldOtherwise.{Stayed}
 use Rattle.b67_overlay.specs.Spans.{MachineCanPage}
 use Rattle.b67_layout_storage.proofs.Below.{Stayed-none, Stayed-then}
 use Rattle.b67_layout_storage.proofs.Devices.{Served-none, Served-then, Keeps-none, Keeps-then, still_tells}

@@ -1,7 +1,7 @@
 use Rattle.std.proofs.Common.{rules, ◌≢◌, ℕ, List, Option, None, sym, ap, ◌∙◌, subst, inl, inr, arith}
 use Rattle.b67_layout_storage.specs.Machine.{content_after}
 use Rattle.b67_layout_storage.proofs.Devices.{Served-none}
-use Rattle.b67_overlay.proofs.Chains.{retold-same}
+use Rattle.b67_layout_storage.proofs.Retold.{retold-same}
 use Rattle.b67_task_tables.specs.declared.tables.Tasks.{Tasks}
 use Rattle.b67_session_attempt.specs.Passed.{AreCountable}
 use Rattle.b67_session.specs.Slices.{StandsLimited}

@@ -2,7 +2,7 @@ use Rattle.std.proofs.Common.{◌+◌, ◌-◌, refl, ◌∙◌, ap}
 use Rattle.b67_layout.specs.Layout.{machine_view}
 use Rattle.b67_refer.specs.declared.activation.Activation.{Activation}
 use Rattle.b67_task_start_stack.specs.Born.{with_peak}
-use Rattle.b67_task_start.specs.Opening.{peak_with}
+use Rattle.b67_layout.specs.Peaks.{peak_with}
 use Rattle.b67_task_start.specs.Starts.{StartsSome}
 use Rattle.b67_task_start.proofs.Context.{countable_next, has, some_slot, next_row, number_of, room_for, context, procedure, program, stack_now, marked, builds, is_started, keeps}
 use Rattle.b67_task_start.proofs.starts.start.Goals as goal

@@ -20,8 +20,8 @@ use Rattle.b67_layout_storage.specs.Machine.{MachineRepresentsView}
 use Rattle.b67_overlay.specs.AreasEvicted.{IsShortBy}
 use Rattle.b67_layout.specs.Placement.{Placement}
 use Rattle.b67_layout.specs.Layout.{array_object, code_objects, objects_of, machine_view}
-use Rattle.b67_presence.specs.Full.{ShortIsFull}
-use Rattle.b67_presence.proofs.Covers.{covers}
+use Rattle.b67_layout_spans.specs.Full.{ShortIsFull}
+use Rattle.b67_layout_spans.proofs.Covers.{covers}
 
 -- the sectors that an object takes
 abbrev pub sectors_of_object : PagedObject → ℕ

@@ -34,8 +34,8 @@ use Rattle.b67_layout.specs.Session.{RowsFit, DictionariesFollow, IsRunning, Ses
 use Rattle.b67_layout.proofs.MachineViews.{with_course}
 use Rattle.b67_layout.proofs.Rows.{task_row, slot_below, finds, runs_on}
 use Rattle.b67_layout.proofs.Sessions.{running_only, follow-up}
-use Rattle.b67_layout_leave.proofs.Nowhere.{IsOnTop, high as identity_high, under as once_only, elsewhere}
-use Rattle.b67_layout_leave.proofs.Originals.{lies_over, lies_at, original_word, InFrame, original_of, entry_number}
+use Rattle.b67_layout.proofs.NamedFirst.{IsOnTop, high as identity_high, under as once_only, elsewhere}
+use Rattle.b67_layout.proofs.Originals.{lies_over, lies_at, original_word, InFrame, original_of, entry_number}
 
 pub numbered_course : (n j : ℕ) (c : JobProgress) (xs : List SessionJob) → NumberedFrom n xs → NumberedFrom n (with_course xs j c)
 numbered_course n j c [] o = tt

@@ -21,8 +21,8 @@ use Rattle.b67_layout.specs.Layout.{machine_view}
 use Rattle.b67_layout.proofs.Rows.{slot_below}
 use Rattle.b67_layout.proofs.Sessions.{dictionary_below, dictionary_above}
 use Rattle.b67_layout.specs.Session.{RepresentsDictionary, vector_word, with_objects, ShowsDisplay, SessionHoldsBut, RepresentsSessionBut}
-use Rattle.b67_layout_step.proofs.Alike.{AllAlike, backs, twin, has_task, dictionary_alike, row_homes_alike, task_stands_alike, shows_alike, critical_same, rows_alike, dictionaries_alike, running_twin}
-use Rattle.b67_layout_storage.specs.Machine.{Stayed}
+use Rattle.b67_layout.proofs.Alike.{AllAlike, backs, twin, has_task, dictionary_alike, row_homes_alike, task_stands_alike, shows_alike, critical_same, rows_alike, dictionaries_alike, running_twin}
+use Rattle.b67_stack.specs.HeldOtherwise.{Stayed}
 
 -- the mark of a dictionary, and its number of entries, are no originals and no segment descriptors
 abbrev mark_bits : ℕ

@@ -11,7 +11,7 @@ use Rattle.b67_stack.specs.Represents.{Storage}
 use Rattle.b67_overlay.specs.AreasEvicted.{IsShortBy}
 use Rattle.b67_layout.specs.Placement.{Placement}
 use Rattle.b67_layout.specs.Layout.{array_object, code_objects, objects_of, machine_view}
-use Rattle.b67_presence.specs.Bringing.{IsShortOf}
+use Rattle.b67_task_tables.specs.Shortage.{IsShortOf}
 
 -- an array of a job
 pub record Owner (plan : Placement) (jobs : List SessionJob) (t : PagedObject) : Type 0 where

@@ -19,8 +19,8 @@ use Rattle.b67_layout.proofs.Others.{OnTop}
 use Rattle.b67_layout.proofs.Rows.{runs_on}
 use Rattle.b67_layout.proofs.Sessions.{running_only, course_twice}
 use Rattle.b67_layout.proofs.Steps.{IsFree}
-use Rattle.b67_layout_enter.proofs.Conditions.{waiting}
-use Rattle.b67_layout_enter.proofs.Tops.{SessionHolds-top, still_running, outer-same}
+use Rattle.b67_layout.proofs.Conditions.{waiting}
+use Rattle.b67_layout.proofs.Tops.{SessionHolds-top, still_running, outer-same}
 use Rattle.b67_lemmas.proofs.Members.{change_twice, keyed_has}
 
 pub with_job-twice : (s : Session) (m : SessionJob) (one two : Job) → with_job (with_job s m one) (record m { progress = record m.progress { job = one } }) two ≡ with_job s m two

@@ -19,7 +19,7 @@ use Rattle.b67_stack.specs.Represents.{Storage, RepresentsSlot, info_of, Represe
 use Rattle.b67_stack.proofs.Bases.{base-apart}
 use Rattle.b67_stack.proofs.Heights.{words-length}
 use Rattle.b67_stack.proofs.Lies.{Lie-same}
-use Rattle.b67_layout_storage.proofs.Reheld.{RepresentsSlots-same, Content-stays}
+use Rattle.b67_stack.proofs.Reheld.{RepresentsSlots-same, Content-stays}
 
 module _ (x : Storage) (core : List Tagged) (r : Regs) (p : MachineView) (s : Represents x core r p) where
   -- an object's area

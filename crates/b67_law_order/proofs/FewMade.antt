@@ -1,0 +1,23 @@
+-- One operator more of a job fits the counts.
+use Rattle.std.proofs.Common.{ℕ, ◌*◌, ◌≤◌, List, [], ◌∷◌, length, refl, arith, inl, inr}
+use Rattle.std.specs.Prelude.{sum_by}
+use Rattle.std.proofs.lemmas.List.Sums.{sum_by-cons}
+use Rattle.b67_lemmas.specs.Lists.{Has}
+use Rattle.b67_lemmas.proofs.Members.{all_in}
+use Rattle.b67_model.specs.State.{SessionJob}
+use Rattle.b67_model.specs.InOrder.{JobInOrder, IsSegment, IsInOrderButPlaces}
+use Rattle.b67_model.specs.Schedule.{Session}
+
+-- the operators of a session are few
+sum_few : (bound : ℕ) (jobs : List SessionJob) → ((m : SessionJob) → Has jobs m → m.progress.made ≤ bound) → length jobs ≤ 8 → sum_by (λ (m : SessionJob). m.progress.made) jobs ≤ length jobs * bound
+sum_few bound [] few short = omega arith
+sum_few bound (m ∷ more) few short = omega (arith, sum_by-cons (λ (y : SessionJob). y.progress.made) m more, few m (inl refl), sum_few bound more (λ y k. few y (inr k)) (omega (arith, short)))
+
+module _ (s : Session) (o : IsInOrderButPlaces s) where
+  pub made_few : (m : SessionJob) → Has s.jobs m → m.progress.made ≤ 100000000
+  made_few m inm =
+      let j = all_in (λ (y : SessionJob). JobInOrder (IsSegment y.constants) y.constants y.progress) s.jobs m o.jobs inm in
+      omega (arith, j.counts.within, j.unchanging.limit)
+
+  pub all_few : s.made ≤ 800000000
+  all_few = omega (arith, o.counted, sum_few 100000000 s.jobs made_few o.few, o.few)

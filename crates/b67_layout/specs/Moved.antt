@@ -1,0 +1,10 @@
+-- A task that goes on at another place, and the peak that a slot raises.
+use Rattle.std.specs.Prelude.{ℕ}
+use Rattle.b67_model.specs.State.{Job, SessionJob}
+use Rattle.b67_model.specs.Schedule.{Session}
+use Rattle.b67_layout.specs.Meets.{with_job}
+use Rattle.b67_layout.specs.Peaks.{peak_with}
+
+-- the session with another job of a member, whose tasks count for the peak
+abbrev pub moved : Session → SessionJob → Job → ℕ → Session
+moved s m job more = record (with_job s m job) { peak = peak_with s more }
