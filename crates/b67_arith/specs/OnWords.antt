@@ -2,9 +2,7 @@
 use Rattle.std.specs.Prelude.{ℕ, ◌==◌, ℤ, if◌then◌else◌, Ok, Err}
 use Rattle.b67_word.specs.Tagged.{Tagged, word}
 use Rattle.b67_word.specs.declared.faults.Fault.TheVariants.{InvalidOperand}
-use Rattle.b67_model.specs.Answers.{Answer, ◌>>=◌}
-use Rattle.b67_model.specs.Words.{number, to_operand}
-use Rattle.b67_model.specs.Arithmetic.{Binary}
+use Rattle.b67_model.specs.Common.{Answer, ◌>>=◌, number, to_operand, Binary}
 
 -- the bits of an operand
 abbrev pub bits_in : Tagged → Answer ℕ

@@ -5,9 +5,7 @@ use Rattle.b67_ctl.specs.declared.registers.Regs.{Regs}
 use Rattle.b67_ctl.specs.declared.marks.Rcw.{Rcw}
 use Rattle.b67_ctl.specs.Layout.{rcw_word, IsRcw}
 use Rattle.b67_stack.specs.declared.Cpu.{Cpu}
-use Rattle.b67_stack.specs.Shapes.{Fits, LieDownward}
-use Rattle.b67_stack.specs.Stacks.{Head, Entered, HeadFits, stack_words, mark_place, top_mark, return_of, headed, words}
-use Rattle.b67_stack.specs.MachineView.{slot_base}
+use Rattle.b67_stack.specs.Common.{Fits, LieDownward, Head, Entered, HeadFits, stack_words, mark_place, top_mark, return_of, headed, words, slot_base}
 use Rattle.b67_stack.proofs.Heights.{words-length}
 use Rattle.b67_stack.proofs.Lies.{Lie-under}
 use Rattle.b67_stack.proofs.Slots.{running_slot, running_fits, running_lies}

@@ -5,35 +5,19 @@ use Rattle.std.proofs.lemmas.Bool.{cases_eq, le-leb}
 use Rattle.b67_word.specs.declared.couples.Place.{Place}
 use Rattle.b67_word.specs.declared.faults.Fault.{Fault}
 use Rattle.b67_word.specs.declared.faults.Fault.TheVariants.{InvalidOperand}
-use Rattle.b67_model.specs.Answers.{Answer, ◌>>=◌}
+use Rattle.b67_model.specs.Common.{Answer, ◌>>=◌, Word, Standing, Return, Ready, Frame, Array, Condition, Task, Job, OperatorContext, SessionJob, frame, head_words, height, with_top_cells, with_task, level_of_frame, AtProc, follow, accident, back_to, evaluates, returned, Done, Goes, cells_of, without_arrays_of, Session}
 use Rattle.b67_lemmas.specs.Lists.{Has}
 use Rattle.b67_lemmas.proofs.Members.{change_twice, change_found, keyed_has}
-use Rattle.b67_model.specs.Words.{Word}
 use Rattle.b67_model.specs.State as State
-use Rattle.b67_model.specs.State.{Standing, Return, Ready, Frame, Array, Condition, Task, Job, OperatorContext, SessionJob, frame, head_words, height, with_top_cells, with_task}
-use Rattle.b67_model.specs.Environment.{level_of_frame}
 use Rattle.b67_model.specs.Chase as Chase
-use Rattle.b67_model.specs.Chase.{AtProc, follow}
-use Rattle.b67_model.specs.Entry.{accident, back_to, evaluates, returned}
-use Rattle.b67_model.specs.Steps.{Done, Goes, cells_of, without_arrays_of}
-use Rattle.b67_model.specs.Schedule.{Session}
-use Rattle.b67_layout.specs.Orders.{IsInOrderButCounts}
+use Rattle.b67_layout.specs.Common.{IsInOrderButCounts, Placement, machine_view, IsRunning, RepresentsSession, RepresentsSessionBut, IsMade, Meets, with_job}
 use Rattle.b67_stack.specs.declared.Cpu.{Cpu}
 use Rattle.b67_stack.specs.declared.Step.{Step}
 use Rattle.b67_stack.specs.declared.Step.TheVariants as step
-use Rattle.b67_stack.specs.MachineView.{PagedObject}
-use Rattle.b67_stack.specs.Represents.{Storage, RepresentsRunning}
+use Rattle.b67_stack.specs.Common.{PagedObject, Storage, RepresentsRunning}
 use Rattle.b67_stack.proofs.Slots.{running_slot}
-use Rattle.b67_layout.specs.Placement.{Placement}
-use Rattle.b67_layout.specs.Layout.{machine_view}
-use Rattle.b67_layout.specs.Session.{IsRunning, RepresentsSession, RepresentsSessionBut}
-use Rattle.b67_layout.specs.Meets.{IsMade, Meets, with_job}
-use Rattle.b67_layout.proofs.MachineViews.{member-same}
-use Rattle.b67_layout.proofs.Steps.{IsFree}
-use Rattle.b67_layout.proofs.Sessions.{change-has}
-use Rattle.b67_layout.proofs.Fresh.{fresh, running_in_order}
+use Rattle.b67_layout.proofs.Common.{member-same, IsFree, change-has, fresh, running_in_order, with_job-twice, RepresentsSession-condition}
 use Rattle.b67_refer.specs.Ends.{IsProcAt}
-use Rattle.b67_layout.proofs.Awaits.{with_job-twice, RepresentsSession-condition}
 use Rattle.b67_entry_enter.specs.Procedures.{CanEnter, IsEntered, EntersOrFaults}
 use Rattle.b67_layout.proofs.Objects.{objects-after}
 use Rattle.b67_entry.proofs.Returned.{clear_mark, clear_return}

@@ -4,20 +4,11 @@ use Rattle.b67_word.specs.Tagged.{Tagged}
 use Rattle.b67_word.specs.declared.couples.Place.{Place}
 use Rattle.b67_word.specs.declared.faults.Fault.{Fault}
 use Rattle.b67_ctl.specs.declared.registers.Regs.{Regs}
-use Rattle.b67_model.specs.Answers.{Answer}
-use Rattle.b67_model.specs.Words.{Word}
-use Rattle.b67_model.specs.State.{Task, SessionJob}
-use Rattle.b67_model.specs.Chase.{AtProc, follow}
-use Rattle.b67_model.specs.Entry.{accident, back_to}
-use Rattle.b67_model.specs.Steps.{Done, cells_of}
-use Rattle.b67_model.specs.Schedule.{Session}
-use Rattle.b67_layout.specs.Orders.{IsInOrderButCounts}
+use Rattle.b67_model.specs.Common.{Answer, Word, Task, SessionJob, AtProc, follow, accident, back_to, Done, cells_of, Session}
+use Rattle.b67_layout.specs.Common.{IsInOrderButCounts, Placement, IsRunning, RepresentsSession, IsMade, here}
 use Rattle.b67_stack.specs.declared.Cpu.{Cpu}
 use Rattle.b67_stack.specs.declared.Step.{Step}
 use Rattle.b67_stack.specs.Represents.{Storage}
-use Rattle.b67_layout.specs.Placement.{Placement}
-use Rattle.b67_layout.specs.Session.{IsRunning, RepresentsSession}
-use Rattle.b67_layout.specs.Meets.{IsMade, here}
 use Rattle.b67_refer.specs.declared.ends.End.{End}
 use Rattle.b67_refer.specs.RunningContext.{RunningContext, IsShown}
 use Rattle.b67_refer.specs.Cells.{StandsFor}

@@ -9,29 +9,16 @@ use Rattle.b67_ctl.specs.declared.descriptors.DataDesc.{DataDesc}
 use Rattle.b67_lemmas.specs.Lists.{Has, Falls}
 use Rattle.b67_lemmas.proofs.Members.{keyed_falls, keyed_has}
 use Rattle.b67_model.specs.Words as Words
-use Rattle.b67_model.specs.Words.{Word, Operand, Name, Ref, Row, Element, Original, Proc, Intrinsic}
-use Rattle.b67_model.specs.State.{Frame, Array, Task, Job, SessionJob, top}
-use Rattle.b67_model.specs.Arrays.{array, no_array, owner_of}
+use Rattle.b67_model.specs.Common.{Word, Operand, Name, Ref, Row, Element, Original, Proc, Intrinsic, Frame, Array, Task, Job, SessionJob, top, array, no_array, owner_of, returnable, number_of, Session, IsSegment, Known, NamesArray, WordInOrder, reach_of}
 use Rattle.b67_model.specs.Keyed.{keyed}
-use Rattle.b67_model.specs.Entry.{returnable}
-use Rattle.b67_model.specs.Run.{number_of}
-use Rattle.b67_model.specs.Schedule.{Session}
-use Rattle.b67_model.specs.InOrder.{IsSegment, Known, NamesArray, WordInOrder, reach_of}
-use Rattle.b67_layout.specs.Orders.{IsInOrderButCounts}
+use Rattle.b67_layout.specs.Common.{IsInOrderButCounts, Placement, spot_in, outer_spots, shape, activations, machine_view, IsRunning, RepresentsSession}
 use Rattle.b67_stack.specs.declared.Cpu.{Cpu}
-use Rattle.b67_stack.specs.Shapes.{Fits, IsCopy, Copied, copy_desc}
-use Rattle.b67_stack.specs.Stacks.{StackPlace, stack_words}
-use Rattle.b67_stack.specs.MachineView.{RunsOn, slot_base}
-use Rattle.b67_stack.specs.Represents.{Storage}
+use Rattle.b67_stack.specs.Common.{Fits, IsCopy, Copied, copy_desc, StackPlace, stack_words, RunsOn, slot_base, Storage}
 use Rattle.b67_stack.proofs.Homes.{same_desc}
 use Rattle.b67_stack.proofs.Slots.{running_slot, running_fits}
-use Rattle.b67_layout.specs.Placement.{Placement, spot_in, outer_spots}
-use Rattle.b67_layout.specs.Layout.{shape, activations, machine_view}
-use Rattle.b67_layout.specs.Session.{IsRunning, RepresentsSession}
-use Rattle.b67_layout.proofs.Fresh.{running_in_order}
-use Rattle.b67_layout.proofs.Starts.{slot_is, runs_here}
+use Rattle.b67_layout.proofs.Common.{running_in_order, slot_is, runs_here, all, homes_low, homes_high}
 use Rattle.b67_refer.specs.Ends.{IsCopyOf}
-use Rattle.b67_layout.proofs.LeftSettles.{under, all, homes_low, homes_high}
+use Rattle.b67_layout.proofs.LeftSettles.{under}
 use Rattle.b67_entry.specs.Words.{IsTopWord, Refuses}
 
 -- the array that a word names is found

@@ -4,22 +4,12 @@ use Rattle.std.specs.Prelude.{if◌then◌else◌}
 use Rattle.std.specs.List.{slice_get}
 use Rattle.std.proofs.lemmas.Bool.{eq-eqb, ne_eqb}
 use Rattle.std.proofs.lemmas.Option.{get_or_from_slice_get}
-use Rattle.b67_model.specs.State.{Frame, Task, Job, SessionJob, words_of, height, top}
-use Rattle.b67_model.specs.Run.{number_of}
-use Rattle.b67_model.specs.Steps.{is_critical}
-use Rattle.b67_model.specs.Schedule.{Session}
-use Rattle.b67_layout.specs.Orders.{IsInOrderButCounts}
+use Rattle.b67_model.specs.Common.{Frame, Task, Job, SessionJob, words_of, height, top, number_of, is_critical, Session}
+use Rattle.b67_layout.specs.Common.{IsInOrderButCounts, Placement, outer_spots, activations, stack_of_task, machine_view, IsRunning, RepresentsSession, critical_mark}
 use Rattle.b67_stack.specs.declared.Cpu.{Cpu}
-use Rattle.b67_stack.specs.Stacks.{stack_words, mark_place}
-use Rattle.b67_stack.specs.Represents.{Storage, RepresentsRunning}
+use Rattle.b67_stack.specs.Common.{stack_words, mark_place, Storage, RepresentsRunning}
 use Rattle.b67_stack.proofs.Slots.{running_slot}
-use Rattle.b67_layout.specs.Placement.{Placement, outer_spots}
-use Rattle.b67_layout.specs.Layout.{activations, stack_of_task, machine_view}
-use Rattle.b67_layout.specs.Session.{IsRunning, RepresentsSession, critical_mark}
-use Rattle.b67_layout.proofs.Frames.{height-is}
-use Rattle.b67_layout.proofs.Fresh.{running_in_order}
-use Rattle.b67_layout.proofs.Rows.{slot_below}
-use Rattle.b67_layout.proofs.Starts.{runs_here}
+use Rattle.b67_layout.proofs.Common.{height-is, running_in_order, slot_below, runs_here}
 use Rattle.b67_lemmas.proofs.Members.{keyed_has}
 use Rattle.b67_layout_leave.proofs.Apart.{some_words}
 

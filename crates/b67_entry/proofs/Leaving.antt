@@ -2,27 +2,14 @@
 use Rattle.std.proofs.Common.{◌≡◌, ◌≢◌, ℕ, ◌+◌, ◌≤◌, List, [], ◌∷◌, map, None, refl, sym, ◌∙◌, ap, arith, inl, subst}
 use Rattle.b67_word.specs.declared.couples.Place.{Place}
 use Rattle.b67_ctl.specs.declared.registers.Regs.{Regs}
-use Rattle.b67_model.specs.State.{Frame, Condition, Ready, Task, Job, SessionJob, height, top, with_task}
-use Rattle.b67_model.specs.Entry.{exit}
-use Rattle.b67_model.specs.Run.{number_of}
-use Rattle.b67_model.specs.Steps.{is_critical, without_arrays_of}
-use Rattle.b67_model.specs.Schedule.{Session}
-use Rattle.b67_layout.specs.Orders.{IsInOrderButCounts}
+use Rattle.b67_model.specs.Common.{Frame, Condition, Ready, Task, Job, SessionJob, height, top, with_task, exit, number_of, is_critical, without_arrays_of, Session}
+use Rattle.b67_layout.specs.Common.{IsInOrderButCounts, Placement, spot_in, outer_spots, shape, head, activations, machine_view, RepresentsTask, IsRunning, ShowsDisplay, RepresentsSession, SessionHoldsBut, objects_gone, with_job, IsMade, here}
 use Rattle.b67_stack.specs.declared.Cpu.{Cpu}
-use Rattle.b67_stack.specs.Stacks.{StackPlace, Activation, stack_words}
-use Rattle.b67_stack.specs.MachineView.{RunsOn}
-use Rattle.b67_stack.specs.Represents.{Storage, Represents}
-use Rattle.b67_stack.specs.Changes.{with_stack}
+use Rattle.b67_stack.specs.Common.{StackPlace, Activation, stack_words, RunsOn, Storage, Represents, with_stack}
 use Rattle.b67_stack.proofs.Pushes.{Represents-cut}
-use Rattle.b67_layout.specs.Placement.{Placement, spot_in, outer_spots}
-use Rattle.b67_layout.specs.Layout.{shape, head, activations, machine_view}
-use Rattle.b67_layout.specs.Session.{RepresentsTask, IsRunning, ShowsDisplay, RepresentsSession, SessionHoldsBut}
-use Rattle.b67_layout.specs.Meets.{objects_gone, with_job, IsMade, here}
-use Rattle.b67_layout.proofs.Fresh.{fresh, running_in_order}
-use Rattle.b67_layout.proofs.Starts.{slot_is, runs_here}
+use Rattle.b67_layout.proofs.Common.{fresh, running_in_order, slot_is, runs_here, Shows-condition}
 use Rattle.b67_refer.specs.RunningContext.{RunningContext, IsShown}
 use Rattle.b67_refer.proofs.Scenes.{member_in_order}
-use Rattle.b67_layout.proofs.Conditions.{Shows-condition}
 use Rattle.b67_layout_leave.proofs.Nowhere.{activations-same}
 use Rattle.b67_layout_leave.proofs.Leaves.{Leaver, task_at, may_leave, below-same, Frames-below, runs_after, holds_after, for_running_after}
 use Rattle.b67_layout_leave.proofs.Orders.{left_ready}

@@ -6,21 +6,11 @@ use Rattle.b67_word.specs.Tagged.{Tagged}
 use Rattle.b67_lemmas.specs.Lists.{Has}
 use Rattle.b67_lemmas.proofs.Members.{has_filter_in, keyed_has}
 use Rattle.b67_model.specs.Words as Words
-use Rattle.b67_model.specs.Words.{Word, Operand, Name, Ref, Row, Element, Original, Proc, Intrinsic}
-use Rattle.b67_model.specs.State.{Ready, Frame, Standing, Array, Task, Job, SessionJob}
-use Rattle.b67_model.specs.Arrays.{owner_of}
-use Rattle.b67_model.specs.Entry.{returnable}
-use Rattle.b67_model.specs.Schedule.{Session}
-use Rattle.b67_model.specs.InOrder.{IsSegment, IsEntered, Known, known_of, outer_of, reach_of, NamesEntered, NamesArray, WordInOrder}
-use Rattle.b67_layout.specs.Orders.{IsInOrderButCounts}
+use Rattle.b67_model.specs.Common.{Word, Operand, Name, Ref, Row, Element, Original, Proc, Intrinsic, Ready, Frame, Standing, Array, Task, Job, SessionJob, owner_of, returnable, Session, IsSegment, IsEntered, Known, known_of, outer_of, reach_of, NamesEntered, NamesArray, WordInOrder}
+use Rattle.b67_layout.specs.Common.{IsInOrderButCounts, Placement, spot_in, outer_spots, spots, shape, IsRunning, RepresentsSession}
 use Rattle.b67_law_order.proofs.Reaches.{Alike, alike_has, alike_under}
 use Rattle.b67_stack.specs.declared.Cpu.{Cpu}
-use Rattle.b67_stack.specs.Shapes.{Shape, Fits}
-use Rattle.b67_stack.specs.Stacks.{StackPlace}
-use Rattle.b67_stack.specs.Represents.{Storage}
-use Rattle.b67_layout.specs.Placement.{Placement, spot_in, outer_spots, spots}
-use Rattle.b67_layout.specs.Layout.{shape}
-use Rattle.b67_layout.specs.Session.{IsRunning, RepresentsSession}
+use Rattle.b67_stack.specs.Common.{Shape, Fits, StackPlace, Storage}
 use Rattle.b67_layout.proofs.Fresh.{running_in_order}
 use Rattle.b67_refer.specs.Cells.{StandsFor}
 use Rattle.b67_layout_leave.proofs.Nowhere.{shape-same}

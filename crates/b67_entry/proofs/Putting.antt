@@ -5,21 +5,12 @@ use Rattle.b67_word.specs.Tagged.{Tagged}
 use Rattle.b67_word.specs.declared.couples.Place.{Place}
 use Rattle.b67_core.proofs.Writes.{slice_get-set_other}
 use Rattle.b67_ctl.specs.declared.registers.Regs.{Regs}
-use Rattle.b67_model.specs.Answers.{Answer}
-use Rattle.b67_model.specs.Words.{Word}
-use Rattle.b67_model.specs.State.{Frame, Task, SessionJob, height, top}
-use Rattle.b67_model.specs.Entry.{returnable, returned, retn}
-use Rattle.b67_model.specs.Steps.{Done, is_critical}
-use Rattle.b67_model.specs.Schedule.{Session}
-use Rattle.b67_layout.specs.Orders.{IsInOrderButCounts}
+use Rattle.b67_model.specs.Common.{Answer, Word, Frame, Task, SessionJob, height, top, returnable, returned, retn, Done, is_critical, Session}
+use Rattle.b67_layout.specs.Common.{IsInOrderButCounts, Placement, stack_of_task, machine_view, IsRunning, RepresentsSession, Meets, IsMade, here}
 use Rattle.b67_stack.specs.declared.Cpu.{Cpu}
 use Rattle.b67_stack.specs.declared.Step.{Step}
 use Rattle.b67_stack.specs.Represents.{Storage}
 use Rattle.b67_stack.proofs.Pushes.{room_of}
-use Rattle.b67_layout.specs.Placement.{Placement}
-use Rattle.b67_layout.specs.Layout.{stack_of_task, machine_view}
-use Rattle.b67_layout.specs.Session.{IsRunning, RepresentsSession}
-use Rattle.b67_layout.specs.Meets.{Meets, IsMade, here}
 use Rattle.b67_layout.proofs.Fresh.{running_in_order}
 use Rattle.b67_layout.proofs.Starts.{runs_here}
 use Rattle.b67_refer.specs.RunningContext.{RunningContext, IsShown}

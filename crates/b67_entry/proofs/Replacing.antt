@@ -7,33 +7,16 @@ use Rattle.b67_ctl.specs.declared.registers.Regs.{Regs}
 use Rattle.b67_core.proofs.Writes.{slice_get-set_other}
 use Rattle.b67_lemmas.specs.Lists.{Has}
 use Rattle.b67_lemmas.proofs.Members.{change_twice, has_append_left, has_map, change_found, keyed_has}
-use Rattle.b67_model.specs.Words.{Word, Operand}
-use Rattle.b67_model.specs.State.{Frame, Condition, Ready, Task, Job, SessionJob, with_top_cells, with_task}
-use Rattle.b67_model.specs.Steps.{without_arrays_of}
-use Rattle.b67_model.specs.Schedule.{Session}
-use Rattle.b67_model.specs.InOrder.{IsSegment, WordInOrder, reach_of}
-use Rattle.b67_layout.specs.Orders.{IsInOrderButCounts}
+use Rattle.b67_model.specs.Common.{Word, Operand, Frame, Condition, Ready, Task, Job, SessionJob, with_top_cells, with_task, without_arrays_of, Session, IsSegment, WordInOrder, reach_of}
+use Rattle.b67_layout.specs.Common.{IsInOrderButCounts, Placement, spot_in, outer_spots, slot_of, shape, head, activations, machine_view, RepresentsTask, IsRunning, ShowsDisplay, RepresentsSession, SessionHoldsBut, RepresentsSessionBut, objects_gone, with_job, IsInStack}
 use Rattle.b67_stack.specs.declared.Cpu.{Cpu}
-use Rattle.b67_stack.specs.Shapes.{Shape, Fits}
-use Rattle.b67_stack.specs.Stacks.{StackPlace, Activation, stack_words, IsStack, headed, words}
-use Rattle.b67_stack.specs.MachineView.{CopiesName}
-use Rattle.b67_stack.specs.Represents.{Storage, RepresentsRunning, Represents}
-use Rattle.b67_stack.specs.Changes.{with_stack, MayPush}
+use Rattle.b67_stack.specs.Common.{Shape, Fits, StackPlace, Activation, stack_words, IsStack, headed, words, CopiesName, Storage, RepresentsRunning, Represents, with_stack, MayPush}
 use Rattle.b67_stack.proofs.Slots.{running_slot, running_fits}
-use Rattle.b67_layout.specs.Placement.{Placement, spot_in, outer_spots, slot_of}
-use Rattle.b67_layout.specs.Layout.{shape, head, activations, machine_view}
-use Rattle.b67_layout.specs.Session.{RepresentsTask, IsRunning, ShowsDisplay, RepresentsSession, SessionHoldsBut, RepresentsSessionBut}
-use Rattle.b67_layout.specs.Meets.{objects_gone, with_job, IsInStack}
-use Rattle.b67_layout.proofs.Others.{OnTop, outer_spots-after}
-use Rattle.b67_layout.proofs.Steps.{IsFree, seen-with}
+use Rattle.b67_layout.proofs.Common.{OnTop, IsFree, seen-with, change-has, Shows-same, fresh, running_in_order, slot_is, others}
+use Rattle.b67_layout.proofs.Others.{outer_spots-after}
 use Rattle.b67_model.specs.Keyed.{keyed, change_keyed}
-use Rattle.b67_layout.proofs.Sessions.{change-has}
-use Rattle.b67_layout.proofs.Displays.{Shows-same}
-use Rattle.b67_layout.proofs.Fresh.{fresh, running_in_order}
-use Rattle.b67_layout.proofs.Starts.{slot_is}
 use Rattle.b67_layout_leave.proofs.Nowhere.{SameArray, SameArrays, activations-same}
 use Rattle.b67_entry.proofs.Returned.{Represents-returned, size_entered, fits_anywhere}
-use Rattle.b67_layout.proofs.Objects.{others}
 use Rattle.b67_layout_leave.proofs.Leaves.{task_at, below-same, Frames, Frames-below, holds_after, for_running_after}
 use Rattle.b67_entry.specs.Left.{Returns}
 use Rattle.b67_entry.specs.Returned.{ReturnsWord}

@@ -8,16 +8,10 @@ use Rattle.b67_word.specs.declared.faults.Fault.{Fault}
 use Rattle.b67_word.specs.declared.faults.Fault.TheVariants.{MarkPending, StackUnderflow, CriticalBlock}
 use Rattle.b67_ctl.specs.declared.marks.Mscw.{Mscw}
 use Rattle.b67_ctl.specs.declared.registers.Regs.{Regs}
-use Rattle.b67_model.specs.Words.{Word}
-use Rattle.b67_model.specs.State.{top}
-use Rattle.b67_model.specs.Entry.{returnable, retn}
-use Rattle.b67_model.specs.Steps.{Leaves, is_critical}
+use Rattle.b67_model.specs.Common.{Word, top, returnable, retn, Leaves, is_critical}
 use Rattle.b67_stack.specs.declared.Cpu.{Cpu}
-use Rattle.b67_stack.specs.Stacks.{Activation, top_mark}
-use Rattle.b67_stack.specs.MachineView.{MachineView, RunsOn}
-use Rattle.b67_stack.specs.Represents.{Storage, Represents}
-use Rattle.b67_layout.specs.Layout.{machine_view, stack_of_task}
-use Rattle.b67_layout.specs.Meets.{RunsSome, ForEach, here}
+use Rattle.b67_stack.specs.Common.{Activation, top_mark, MachineView, RunsOn, Storage, Represents}
+use Rattle.b67_layout.specs.Common.{machine_view, stack_of_task, RunsSome, ForEach, here}
 use Rattle.b67_layout.proofs.Starts.{runs_here}
 use Rattle.b67_refer.specs.RunningContext.{RunningContext}
 use Rattle.b67_entry.specs.Left.{MayReturn, Returns, caller_regs, caller_stack}

@@ -8,28 +8,14 @@ use Rattle.b67_word.specs.declared.faults.Fault.{Fault}
 use Rattle.b67_word.specs.declared.faults.Fault.TheVariants.{MarkPending, StackUnderflow, CriticalBlock}
 use Rattle.b67_ctl.specs.Layout.{bit}
 use Rattle.b67_ctl.specs.declared.marks.Mscw.{Mscw}
-use Rattle.b67_model.specs.Answers.{Answer}
+use Rattle.b67_model.specs.Common.{Answer, Word, Operand, Name, Ref, Row, Element, Original, Proc, Intrinsic, Standing, Frame, Task, SessionJob, top, returnable, returned, retn, Leaves, is_critical, Session, IsSegment, known_of, outer_of, FramesInOrder, WordInOrder, reach_of}
 use Rattle.b67_model.specs.Words as Words
-use Rattle.b67_model.specs.Words.{Word, Operand, Name, Ref, Row, Element, Original, Proc, Intrinsic}
-use Rattle.b67_model.specs.State.{Standing, Frame, Task, SessionJob, top}
-use Rattle.b67_model.specs.Entry.{returnable, returned, retn}
-use Rattle.b67_model.specs.Steps.{Leaves, is_critical}
-use Rattle.b67_model.specs.Schedule.{Session}
-use Rattle.b67_model.specs.InOrder.{IsSegment, known_of, outer_of, FramesInOrder, WordInOrder, reach_of}
-use Rattle.b67_layout.specs.Orders.{IsInOrderButCounts}
+use Rattle.b67_layout.specs.Common.{IsInOrderButCounts, Placement, spot_in, outer_spots, shape, head, activations, stack_of_task, machine_view, IsRunning, RepresentsSession, here}
 use Rattle.b67_stack.specs.declared.Cpu.{Cpu}
-use Rattle.b67_stack.specs.Shapes.{Fits}
-use Rattle.b67_stack.specs.Stacks.{StackPlace, Activation, mark_of, top_mark}
-use Rattle.b67_stack.specs.MachineView.{RunsOn}
-use Rattle.b67_stack.specs.Represents.{Storage}
-use Rattle.b67_stack.specs.Changes.{top_cells}
+use Rattle.b67_stack.specs.Common.{Fits, StackPlace, Activation, mark_of, top_mark, RunsOn, Storage, top_cells}
 use Rattle.b67_stack.proofs.Cells.{cell_word}
 use Rattle.b67_stack.proofs.Tops.{empty_at}
 use Rattle.b67_stack.proofs.Pushes.{Room, room_of}
-use Rattle.b67_layout.specs.Placement.{Placement, spot_in, outer_spots}
-use Rattle.b67_layout.specs.Layout.{shape, head, activations, stack_of_task, machine_view}
-use Rattle.b67_layout.specs.Session.{IsRunning, RepresentsSession}
-use Rattle.b67_layout.specs.Meets.{here}
 use Rattle.b67_layout.proofs.Fresh.{running_in_order}
 use Rattle.b67_layout.proofs.Starts.{runs_here}
 use Rattle.b67_entry.specs.Left.{Returns}

@@ -4,13 +4,9 @@ use Rattle.std.proofs.lemmas.Bool.{le-leb}
 use Rattle.b67_word.specs.declared.couples.Place.{Place}
 use Rattle.b67_word.specs.declared.faults.Fault.{Fault}
 use Rattle.b67_word.specs.declared.faults.Fault.TheVariants.{MarkPending, StackUnderflow}
-use Rattle.b67_model.specs.Answers.{Answer, ◌>>=◌}
+use Rattle.b67_model.specs.Common.{Answer, ◌>>=◌, Word, Operand, Name, Ref, Row, Element, Original, Proc, Intrinsic, Standing, Return, Frame, Condition, Task, Job, OperatorContext, SessionJob, height, top, with_top_cells, with_task, Goes, top_of, is_critical, without_arrays_of, pushes, returnable, returned, leaves, retn_word, retn}
 use Rattle.b67_model.specs.Words as Words
-use Rattle.b67_model.specs.Words.{Word, Operand, Name, Ref, Row, Element, Original, Proc, Intrinsic}
 use Rattle.b67_model.specs.State as State
-use Rattle.b67_model.specs.State.{Standing, Return, Frame, Condition, Task, Job, OperatorContext, SessionJob, height, top, with_top_cells, with_task}
-use Rattle.b67_model.specs.Steps.{Goes, top_of, is_critical, without_arrays_of, pushes}
-use Rattle.b67_model.specs.Entry.{returnable, returned, leaves, retn_word, retn}
 use Rattle.b67_layout.specs.Meets.{here}
 use Rattle.b67_layout_leave.proofs.Leaves.{task_at}
 use Rattle.b67_entry.proofs.Exits.{job_left, leaves_inner}

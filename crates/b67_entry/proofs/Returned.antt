@@ -8,11 +8,7 @@ use Rattle.b67_ctl.specs.Layout.{mscw_word, rcw_word}
 use Rattle.b67_core.proofs.Writes.{slice_get-set_other}
 use Rattle.b67_lemmas.specs.Lists.{Has}
 use Rattle.b67_model.specs.State.{Return}
-use Rattle.b67_stack.specs.Shapes.{Shape, Is, Original, Copy, Fits, LieDownward}
-use Rattle.b67_stack.specs.Stacks.{StackPlace, Head, Entered, Activation, IsStack, stack_words, mark_place, running_level, mark_of, return_of, headed, words}
-use Rattle.b67_stack.specs.MachineView.{PagedObject, MachineView, RunsOn, slot_base, CopiesName}
-use Rattle.b67_stack.specs.Represents.{Storage, RepresentsRunning, Represents}
-use Rattle.b67_stack.specs.Changes.{with_stack, MayPush}
+use Rattle.b67_stack.specs.Common.{Shape, Is, Original, Copy, Fits, LieDownward, StackPlace, Head, Entered, Activation, IsStack, stack_words, mark_place, running_level, mark_of, return_of, headed, words, PagedObject, MachineView, RunsOn, slot_base, CopiesName, Storage, RepresentsRunning, Represents, with_stack, MayPush}
 use Rattle.b67_stack.proofs.Lies.{Lie-push, Lie-under}
 use Rattle.b67_stack.proofs.Heights.{words-length}
 use Rattle.b67_stack.proofs.Homes.{not_home}

@@ -5,19 +5,10 @@ use Rattle.std.proofs.lemmas.Bool.{true≢false}
 use Rattle.std.proofs.lemmas.Bool.Decides.{eqb_tells}
 use Rattle.b67_word.specs.declared.faults.Fault.TheVariants.{Uplevel}
 use Rattle.b67_lemmas.specs.Lists.{Has, Falls}
-use Rattle.b67_model.specs.Answers.{◌>>◌, needs}
+use Rattle.b67_model.specs.Common.{◌>>◌, needs, Word, Operand, Name, Ref, Row, Element, Original, Proc, Intrinsic, Frame, Array, JobConstants, Job, array, owner_of, returnable, IsSegment, Known, NamesArray, WordInOrder}
 use Rattle.b67_model.specs.Words as Words
-use Rattle.b67_model.specs.Words.{Word, Operand, Name, Ref, Row, Element, Original, Proc, Intrinsic}
-use Rattle.b67_model.specs.State.{Frame, Array, JobConstants, Job}
-use Rattle.b67_model.specs.Arrays.{array, owner_of}
-use Rattle.b67_model.specs.Entry.{returnable}
-use Rattle.b67_model.specs.InOrder.{IsSegment, Known, NamesArray, WordInOrder}
-use Rattle.b67_stack.specs.Shapes.{Shape}
-use Rattle.b67_stack.specs.Stacks.{StackPlace}
-use Rattle.b67_stack.specs.MachineView.{PagedObject, CopiesName}
-use Rattle.b67_stack.specs.Changes.{MayPush}
-use Rattle.b67_layout.specs.Placement.{Placement, spot_in}
-use Rattle.b67_layout.specs.Layout.{shape}
+use Rattle.b67_stack.specs.Common.{Shape, StackPlace, PagedObject, CopiesName, MayPush}
+use Rattle.b67_layout.specs.Common.{Placement, spot_in, shape}
 use Rattle.b67_layout_leave.proofs.Nowhere.{SameArray, array_stays}
 use Rattle.b67_layout.proofs.Objects.{others}
 use Rattle.b67_entry.proofs.CopyRefusals.{found_array}

@@ -3,12 +3,10 @@ use Rattle.std.proofs.Common.{◌≡◌, ◌≢◌, ℕ, List, [], ◌∷◌, Op
 use Rattle.std.proofs.lemmas.Bool.{true≢false}
 use Rattle.b67_ctl.specs.declared.marks.Mscw.{Mscw}
 use Rattle.b67_model.specs.State as State
-use Rattle.b67_model.specs.State.{Frame, Return, Task, SessionJob, top}
-use Rattle.b67_model.specs.Steps.{is_critical}
+use Rattle.b67_model.specs.Common.{Frame, Return, Task, SessionJob, top, is_critical, IsSegment, TaskInOrder}
 use Rattle.b67_stack.specs.Stacks.{StackPlace, top_mark}
 use Rattle.b67_layout.specs.Placement.{Placement}
 use Rattle.b67_layout.specs.Layout.{activations}
-use Rattle.b67_model.specs.InOrder.{IsSegment, TaskInOrder}
 use Rattle.b67_entry.proofs.Tops.{TopCase, pending, last, inner, top_case, mark_pending, mark_last, mark_inner}
 use Rattle.b67_entry.specs.Left.{Returns}
 

@@ -2,13 +2,9 @@
 use Rattle.std.proofs.Common.{◌≡◌, ◌≢◌, ℕ, ◌+◌, List, [], ◌∷◌, map, length, Option, Some, None, refl, sym, ◌∙◌, ap, arith, true, false, subst}
 use Rattle.b67_ctl.specs.declared.marks.Mscw.{Mscw}
 use Rattle.b67_model.specs.State as State
-use Rattle.b67_model.specs.State.{Standing, Return, Frame, Task, JobConstants, Job}
-use Rattle.b67_model.specs.Environment.{level_of_frame, running}
-use Rattle.b67_model.specs.InOrder.{IsSegment, ReturnsInOrder, StackInOrder, TaskInOrder}
-use Rattle.b67_stack.specs.Shapes.{Shape}
-use Rattle.b67_stack.specs.Stacks.{StackPlace, Head, Marked, Entered, Activation, head_size, top_size, mark_of, top_mark}
-use Rattle.b67_layout.specs.Placement.{Placement, spot_in}
-use Rattle.b67_layout.specs.Layout.{shape, head, activations}
+use Rattle.b67_model.specs.Common.{Standing, Return, Frame, Task, JobConstants, Job, level_of_frame, running, IsSegment, ReturnsInOrder, StackInOrder, TaskInOrder}
+use Rattle.b67_stack.specs.Common.{Shape, StackPlace, Head, Marked, Entered, Activation, head_size, top_size, mark_of, top_mark}
+use Rattle.b67_layout.specs.Common.{Placement, spot_in, shape, head, activations}
 
 -- marked, or entered as the bottom one, or entered over others with a return to these
 pub data TopCase (constants : JobConstants) (t : Task) : Type 0 where

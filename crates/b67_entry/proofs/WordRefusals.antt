@@ -9,25 +9,12 @@ use Rattle.b67_ctl.specs.declared.references.Sirw.{Sirw}
 use Rattle.b67_lemmas.specs.Lists.{Has}
 use Rattle.b67_lemmas.proofs.Members.{keyed_has}
 use Rattle.b67_model.specs.Words as Words
-use Rattle.b67_model.specs.Words.{Word, Operand, Name, Ref, Row, Element, Original, Proc, Intrinsic}
-use Rattle.b67_model.specs.State.{Frame, Task, SessionJob, height, top}
-use Rattle.b67_model.specs.Entry.{returnable}
-use Rattle.b67_model.specs.Run.{number_of}
-use Rattle.b67_model.specs.Schedule.{Session}
-use Rattle.b67_model.specs.InOrder.{IsSegment, WordInOrder, reach_of}
-use Rattle.b67_layout.specs.Orders.{IsInOrderButCounts}
+use Rattle.b67_model.specs.Common.{Word, Operand, Name, Ref, Row, Element, Original, Proc, Intrinsic, Frame, Task, SessionJob, height, top, returnable, number_of, Session, IsSegment, WordInOrder, reach_of}
+use Rattle.b67_layout.specs.Common.{IsInOrderButCounts, Placement, spot_in, outer_spots, shape, activations, stack_of_task, machine_view, IsRunning, RepresentsSession}
 use Rattle.b67_stack.specs.declared.Cpu.{Cpu}
-use Rattle.b67_stack.specs.Shapes.{Fits}
-use Rattle.b67_stack.specs.Stacks.{StackPlace}
-use Rattle.b67_stack.specs.MachineView.{RunsOn}
-use Rattle.b67_stack.specs.Represents.{Storage}
+use Rattle.b67_stack.specs.Common.{Fits, StackPlace, RunsOn, Storage}
 use Rattle.b67_stack.proofs.Slots.{running_slot}
-use Rattle.b67_layout.specs.Placement.{Placement, spot_in, outer_spots}
-use Rattle.b67_layout.specs.Layout.{shape, activations, stack_of_task, machine_view}
-use Rattle.b67_layout.specs.Session.{IsRunning, RepresentsSession}
-use Rattle.b67_layout.proofs.Frames.{height-is}
-use Rattle.b67_layout.proofs.Fresh.{running_in_order}
-use Rattle.b67_layout.proofs.Starts.{slot_is, runs_here}
+use Rattle.b67_layout.proofs.Common.{height-is, running_in_order, slot_is, runs_here}
 use Rattle.b67_refer.proofs.Scenes.{member_in_order}
 use Rattle.b67_layout_leave.proofs.Apart.{spot_apart, spot_top, spot_fits}
 use Rattle.b67_entry.specs.Words.{IsTopWord, Refuses}

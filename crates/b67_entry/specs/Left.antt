@@ -2,17 +2,11 @@
 use Rattle.std.specs.Prelude.{◌≡◌, ◌≢◌, ℕ, ◌+◌, List, [], ◌∷◌, Some, false}
 use Rattle.b67_ctl.specs.declared.registers.Regs.{Regs}
 use Rattle.b67_model.specs.State as State
-use Rattle.b67_model.specs.State.{Return, Frame, Task, OperatorContext, SessionJob, with_task}
+use Rattle.b67_model.specs.Common.{Return, Frame, Task, OperatorContext, SessionJob, with_task, level_of_frame, is_critical, without_arrays_of, IsSegment}
 use Rattle.b67_model.specs.Environment as Environment
-use Rattle.b67_model.specs.Environment.{level_of_frame}
-use Rattle.b67_model.specs.Steps.{is_critical, without_arrays_of}
-use Rattle.b67_model.specs.InOrder.{IsSegment}
 use Rattle.b67_stack.specs.declared.Cpu.{Cpu}
-use Rattle.b67_stack.specs.Stacks.{StackPlace, Activation, Entered, stack_words, mark_place, running_level}
-use Rattle.b67_stack.specs.MachineView.{MachineView, RunsOn}
-use Rattle.b67_stack.specs.Represents.{Storage, Represents}
-use Rattle.b67_layout.specs.Placement.{Placement, outer_spots}
-use Rattle.b67_layout.specs.Layout.{activations}
+use Rattle.b67_stack.specs.Common.{StackPlace, Activation, Entered, stack_words, mark_place, running_level, MachineView, RunsOn, Storage, Represents}
+use Rattle.b67_layout.specs.Common.{Placement, outer_spots, activations}
 
 -- the running stack's top activation record is entered, with a return to one below
 pub record MayReturn (cpu : Cpu) : Type 0 where

@@ -2,15 +2,11 @@
 use Rattle.std.specs.Prelude.{◌≡◌, List, ◌∷◌, Option, Some, None, Ok, Err, slice_get}
 use Rattle.b67_word.specs.Tagged.{Tagged}
 use Rattle.b67_word.specs.declared.faults.Fault.{Fault}
-use Rattle.b67_model.specs.Answers.{Answer}
-use Rattle.b67_model.specs.Words.{Word}
-use Rattle.b67_model.specs.State.{Frame, Task, SessionJob}
-use Rattle.b67_model.specs.InOrder.{IsSegment, WordInOrder, reach_of}
+use Rattle.b67_model.specs.Common.{Answer, Word, Frame, Task, SessionJob, IsSegment, WordInOrder, reach_of}
 use Rattle.b67_stack.specs.declared.Cpu.{Cpu}
 use Rattle.b67_stack.specs.Shapes.{Fits}
 use Rattle.b67_stack.specs.Represents.{Storage}
-use Rattle.b67_layout.specs.Placement.{Placement, spot_in, outer_spots}
-use Rattle.b67_layout.specs.Layout.{shape}
+use Rattle.b67_layout.specs.Common.{Placement, spot_in, outer_spots, shape}
 
 -- the top word of the running task's stack, and what it stands for in the top frame
 pub record IsTopWord (x : Storage) (plan : Placement) (m : SessionJob) (t : Task) (cpu : Cpu) (v : Word) (w : Tagged) : Type 0 where

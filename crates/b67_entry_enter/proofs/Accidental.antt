@@ -9,22 +9,12 @@ use Rattle.b67_ctl.specs.declared.marks.Mscw.{Mscw}
 use Rattle.b67_ctl.specs.declared.marks.Rcw.{Rcw}
 use Rattle.b67_ctl.specs.Layout.{IsPlace, IsMscw, mscw_word, IsRcw, rcw_word}
 use Rattle.b67_model.specs.State as State
-use Rattle.b67_model.specs.State.{Frame, Return, Ready, Segment, Task, JobConstants, Job, SessionJob, OperatorContext, top, height, with_top_cells, frame}
-use Rattle.b67_model.specs.Environment.{level_of_frame}
-use Rattle.b67_model.specs.Chase.{AtProc}
-use Rattle.b67_model.specs.Steps.{cells_of}
-use Rattle.b67_model.specs.Entry.{accident, back_to}
-use Rattle.b67_model.specs.InOrder.{IsSegment, NamesEntered, TasksInOrder, TaskInOrder, EnvironmentInOrder, outer_of, reach_of, known_of}
+use Rattle.b67_model.specs.Common.{Frame, Return, Ready, Segment, Task, JobConstants, Job, SessionJob, OperatorContext, top, height, with_top_cells, frame, level_of_frame, AtProc, cells_of, accident, back_to, IsSegment, NamesEntered, TasksInOrder, TaskInOrder, EnvironmentInOrder, outer_of, reach_of, known_of}
 use Rattle.b67_stack.specs.declared.Cpu.{Cpu}
-use Rattle.b67_stack.specs.Stacks.{StackPlace, Activation, Entered, HeadFits, IsStack, mark_of, return_of, running_level, words}
-use Rattle.b67_stack.specs.MachineView.{CopiesName}
-use Rattle.b67_stack.specs.Represents.{RepresentsRunning}
+use Rattle.b67_stack.specs.Common.{StackPlace, Activation, Entered, HeadFits, IsStack, mark_of, return_of, running_level, words, CopiesName, RepresentsRunning}
 use Rattle.b67_stack.proofs.Slots.{running_slot, running_fits}
 use Rattle.b67_stack.proofs.Tops.{level-small, top_size-high}
-use Rattle.b67_layout.specs.Placement.{spot_in, outer_spots, spots}
-use Rattle.b67_layout.specs.Layout.{machine_view, stack_of_task}
-use Rattle.b67_layout.specs.Meets.{here, with_job}
-use Rattle.b67_layout.specs.Session.{ShowsDisplay, with_objects, SessionHoldsBut}
+use Rattle.b67_layout.specs.Common.{spot_in, outer_spots, spots, machine_view, stack_of_task, here, with_job, ShowsDisplay, with_objects, SessionHoldsBut}
 use Rattle.b67_layout.proofs.Fresh.{next_is_free}
 use Rattle.b67_refer.specs.RunningContext.{RunningContext}
 use Rattle.b67_layout_enter.proofs.Heads.{entered_mark_fits}

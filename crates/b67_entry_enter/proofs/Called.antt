@@ -9,18 +9,11 @@ use Rattle.b67_ctl.specs.declared.marks.Rcw.{Rcw}
 use Rattle.b67_ctl.specs.declared.programs.Pcw.{Pcw}
 use Rattle.b67_ctl.specs.Layout.{IsPlace, IsMscw, mscw_word, IsRcw, rcw_word}
 use Rattle.b67_model.specs.Words as Words
-use Rattle.b67_model.specs.Words.{Word, Operand, Name, Ref, Row, Element, Proc, Intrinsic}
-use Rattle.b67_model.specs.State.{Job, frame}
-use Rattle.b67_model.specs.Environment.{level_of_frame}
-use Rattle.b67_model.specs.Chase.{AtProc}
-use Rattle.b67_model.specs.Entry.{enters}
-use Rattle.b67_model.specs.InOrder.{is_original_of}
+use Rattle.b67_model.specs.Common.{Word, Operand, Name, Ref, Row, Element, Proc, Intrinsic, Job, frame, level_of_frame, AtProc, enters, is_original_of}
 use Rattle.b67_stack.specs.declared.Cpu.{Cpu}
 use Rattle.b67_stack.specs.Shapes as Shapes
 use Rattle.b67_stack.specs.Stacks.{StackPlace, top_mark}
-use Rattle.b67_layout.specs.Placement.{Placement}
-use Rattle.b67_layout.specs.Layout.{shape, stack_of_task}
-use Rattle.b67_layout.specs.Meets.{IsMade, here}
+use Rattle.b67_layout.specs.Common.{Placement, shape, stack_of_task, IsMade, here}
 use Rattle.b67_refer.specs.RunningContext.{RunningContext, IsShown}
 use Rattle.b67_layout_enter.proofs.Enters.{IsMarkedWith}
 use Rattle.b67_refer.specs.declared.activation.Activation.{Activation}

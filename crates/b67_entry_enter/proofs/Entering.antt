@@ -10,31 +10,15 @@ use Rattle.b67_ctl.specs.declared.marks.Rcw.{Rcw}
 use Rattle.b67_ctl.specs.Layout.{IsPlace, IsMscw, mscw_word, IsRcw, rcw_word}
 use Rattle.b67_lemmas.specs.Lists.{Has}
 use Rattle.b67_lemmas.proofs.Members.{keyed_has}
-use Rattle.b67_model.specs.Words.{Word}
+use Rattle.b67_model.specs.Common.{Word, Frame, Return, Ready, Task, Job, SessionJob, top, below_top, height, frame, level_of_frame, AtProc, enters, back_to, number_of, Session, IsSegment, NamesEntered, TasksInOrder, TaskInOrder, EnvironmentInOrder, CellsInOrder, FramesInOrder, outer_of, reach_of, known_of, is_original_of}
 use Rattle.b67_model.specs.State as State
-use Rattle.b67_model.specs.State.{Frame, Return, Ready, Task, Job, SessionJob, top, below_top, height, frame}
-use Rattle.b67_model.specs.Environment.{level_of_frame}
-use Rattle.b67_model.specs.Chase.{AtProc}
-use Rattle.b67_model.specs.Entry.{enters, back_to}
-use Rattle.b67_model.specs.Run.{number_of}
-use Rattle.b67_model.specs.Schedule.{Session}
-use Rattle.b67_model.specs.InOrder.{IsSegment, NamesEntered, TasksInOrder, TaskInOrder, EnvironmentInOrder, CellsInOrder, FramesInOrder, outer_of, reach_of, known_of, is_original_of}
-use Rattle.b67_layout.specs.Orders.{IsInOrderButCounts}
+use Rattle.b67_layout.specs.Common.{IsInOrderButCounts, Placement, spot_in, outer_spots, spots, shape, machine_view, stack_of_task, IsMade, here, with_job, IsRunning, ShowsDisplay, SessionHolds, RepresentsSession, RepresentsSessionBut}
 use Rattle.b67_stack.specs.declared.Cpu.{Cpu}
-use Rattle.b67_stack.specs.Shapes.{Original}
-use Rattle.b67_stack.specs.Stacks.{StackPlace, Activation, Entered, HeadFits, IsStack, mark_of, top_mark, return_of, running_level, top_size, words}
-use Rattle.b67_stack.specs.MachineView.{PagedObject, CopiesName}
-use Rattle.b67_stack.specs.Represents.{Storage, RepresentsRunning}
+use Rattle.b67_stack.specs.Common.{Original, StackPlace, Activation, Entered, HeadFits, IsStack, mark_of, top_mark, return_of, running_level, top_size, words, PagedObject, CopiesName, Storage, RepresentsRunning}
 use Rattle.b67_stack.proofs.Slots.{running_slot, running_fits}
 use Rattle.b67_stack.proofs.Tops.{level-small, top_size-high}
 use Rattle.b67_stack.proofs.Pushes.{Room, room_of}
-use Rattle.b67_layout.specs.Placement.{Placement, spot_in, outer_spots, spots}
-use Rattle.b67_layout.specs.Layout.{shape, machine_view, stack_of_task}
-use Rattle.b67_layout.specs.Meets.{IsMade, here, with_job}
-use Rattle.b67_layout.specs.Session.{IsRunning, ShowsDisplay, SessionHolds, RepresentsSession, RepresentsSessionBut}
-use Rattle.b67_layout.proofs.Starts.{slot_is}
-use Rattle.b67_layout.proofs.Gone.{no_objects_gone}
-use Rattle.b67_layout.proofs.Fresh.{running_in_order, fresh}
+use Rattle.b67_layout.proofs.Common.{slot_is, no_objects_gone, running_in_order, fresh}
 use Rattle.b67_refer.specs.RunningContext.{RunningContext}
 use Rattle.b67_refer.proofs.Scenes.{scene, member_in_order}
 use Rattle.b67_layout_enter.proofs.Heads.{entered_mark_fits}

@@ -8,36 +8,19 @@ use Rattle.b67_word.specs.declared.couples.Place.{Place}
 use Rattle.b67_word.specs.declared.faults.Fault.TheVariants.{InvalidOperand, StackUnderflow}
 use Rattle.b67_ctl.specs.Layout.{bit}
 use Rattle.b67_ctl.specs.declared.marks.Mscw.{Mscw}
-use Rattle.b67_model.specs.Answers.{Answer, ◌>>=◌}
+use Rattle.b67_model.specs.Common.{Answer, ◌>>=◌, Word, Operand, Name, Ref, Row, Element, Proc, Intrinsic, Frame, Standing, Array, Task, Job, SessionJob, OperatorContext, top, below_top, End, follow, follow_reference, cells_of, top_of, entr, entr_at, entr_with, Session, Starts, Known, IsSegment, WordInOrder, FramesInOrder, known_of, outer_of, reach_of, called_at, called_by, called_on}
 use Rattle.b67_ctl.specs.declared.registers.Regs.{Regs}
 use Rattle.b67_lemmas.specs.Lists.{Has}
 use Rattle.b67_lemmas.proofs.Members.{all_in, reverse_cons}
 use Rattle.b67_model.specs.Words as Words
-use Rattle.b67_model.specs.Words.{Word, Operand, Name, Ref, Row, Element, Proc, Intrinsic}
 use Rattle.b67_model.specs.State as State
-use Rattle.b67_model.specs.State.{Frame, Standing, Array, Task, Job, SessionJob, OperatorContext, top, below_top}
-use Rattle.b67_model.specs.Chase.{End, follow, follow_reference}
-use Rattle.b67_model.specs.Steps.{cells_of, top_of}
-use Rattle.b67_model.specs.Rows.{entr, entr_at, entr_with}
-use Rattle.b67_model.specs.Schedule.{Session}
-use Rattle.b67_model.specs.InOrder.{Starts, Known, IsSegment, WordInOrder, FramesInOrder, known_of, outer_of, reach_of}
-use Rattle.b67_layout.specs.Orders.{IsInOrderButCounts}
-use Rattle.b67_model.specs.Called.{called_at, called_by, called_on}
+use Rattle.b67_layout.specs.Common.{IsInOrderButCounts, Placement, spot_in, outer_spots, spots, shape, head, activations, machine_view, stack_of_task, here, IsRunning, RepresentsSession}
 use Rattle.b67_stack.specs.declared.Cpu.{Cpu}
-use Rattle.b67_stack.specs.Shapes.{Shape, Fits}
-use Rattle.b67_stack.specs.Stacks.{StackPlace, Marked, Activation, mark_of, top_mark}
-use Rattle.b67_stack.specs.MachineView.{RunsOn}
+use Rattle.b67_stack.specs.Common.{Shape, Fits, StackPlace, Marked, Activation, mark_of, top_mark, RunsOn, top_cells, Storage}
 use Rattle.b67_stack.proofs.Slots.{running_slot}
-use Rattle.b67_stack.specs.Changes.{top_cells}
-use Rattle.b67_stack.specs.Represents.{Storage}
 use Rattle.b67_stack.proofs.Tops.{empty_at}
 use Rattle.b67_stack.proofs.Cells.{cell_word}
-use Rattle.b67_layout.specs.Placement.{Placement, spot_in, outer_spots, spots}
-use Rattle.b67_layout.specs.Layout.{shape, head, activations, machine_view, stack_of_task}
-use Rattle.b67_layout.specs.Meets.{here}
-use Rattle.b67_layout.specs.Session.{IsRunning, RepresentsSession}
-use Rattle.b67_layout.proofs.Starts.{slot_is, runs_here}
-use Rattle.b67_layout.proofs.Fresh.{running_in_order}
+use Rattle.b67_layout.proofs.Common.{slot_is, runs_here, running_in_order}
 use Rattle.b67_refer.specs.RunningContext.{RunningContext}
 use Rattle.b67_refer.specs.Cells.{StandsFor}
 use Rattle.b67_refer.proofs.Scenes.{scene}

@@ -5,15 +5,8 @@ use Rattle.b67_word.specs.declared.couples.Place.{Place}
 use Rattle.b67_word.specs.declared.faults.Fault.{Fault}
 use Rattle.b67_word.specs.declared.faults.Fault.TheVariants.{InvalidOperand}
 use Rattle.b67_ctl.specs.declared.registers.Regs.{Regs}
-use Rattle.b67_model.specs.Answers.{Answer, ◌>>=◌}
-use Rattle.b67_model.specs.Words.{Word}
-use Rattle.b67_model.specs.State.{SessionJob, OperatorContext}
+use Rattle.b67_model.specs.Common.{Answer, ◌>>=◌, Word, SessionJob, OperatorContext, AtCell, AtElement, AtArray, AtProc, AtIntrinsic, Done, entr_at, Session, called_at}
 use Rattle.b67_model.specs.Chase as Chase
-use Rattle.b67_model.specs.Chase.{AtCell, AtElement, AtArray, AtProc, AtIntrinsic}
-use Rattle.b67_model.specs.Steps.{Done}
-use Rattle.b67_model.specs.Rows.{entr_at}
-use Rattle.b67_model.specs.Schedule.{Session}
-use Rattle.b67_model.specs.Called.{called_at}
 use Rattle.b67_stack.specs.declared.Cpu.{Cpu}
 use Rattle.b67_stack.specs.declared.Step.{Step}
 use Rattle.b67_stack.specs.declared.Step.TheVariants as step

@@ -5,25 +5,13 @@ use Rattle.b67_word.specs.declared.couples.Place.{Place}
 use Rattle.b67_word.specs.declared.faults.Fault.TheVariants.{StackOverflow}
 use Rattle.b67_ctl.specs.Layout.{mscw_word}
 use Rattle.b67_core.proofs.Writes.{slice_get-set_other}
-use Rattle.b67_model.specs.State.{Task, SessionJob, height}
-use Rattle.b67_model.specs.Entry.{mkst}
-use Rattle.b67_model.specs.Run.{number_of}
-use Rattle.b67_model.specs.Schedule.{Session}
-use Rattle.b67_layout.specs.Orders.{IsInOrderButCounts}
+use Rattle.b67_model.specs.Common.{Task, SessionJob, height, mkst, number_of, Session}
+use Rattle.b67_layout.specs.Common.{IsInOrderButCounts, Placement, machine_view, stack_of_task, IsMade, here, with_job, IsRunning, RepresentsSession, RepresentsSessionBut}
 use Rattle.b67_stack.specs.declared.Cpu.{Cpu}
-use Rattle.b67_stack.specs.MachineView.{PagedObject, RunsOn, NoOriginalAboveTop}
-use Rattle.b67_stack.specs.Represents.{Storage, Represents}
-use Rattle.b67_stack.specs.Changes.{marked, new_mark, with_stack}
+use Rattle.b67_stack.specs.Common.{PagedObject, RunsOn, NoOriginalAboveTop, Storage, Represents, marked, new_mark, with_stack}
 use Rattle.b67_stack.proofs.Slots.{running_slot}
 use Rattle.b67_stack.proofs.Pushes.{Room, room_of, Represents-marked}
-use Rattle.b67_layout.specs.Placement.{Placement}
-use Rattle.b67_layout.specs.Layout.{machine_view, stack_of_task}
-use Rattle.b67_layout.specs.Meets.{IsMade, here, with_job}
-use Rattle.b67_layout.specs.Session.{IsRunning, RepresentsSession, RepresentsSessionBut}
-use Rattle.b67_layout.proofs.Starts.{slot_is, runs_here}
-use Rattle.b67_layout.proofs.Settles.{Settled-more}
-use Rattle.b67_layout.proofs.Gone.{no_objects_gone}
-use Rattle.b67_layout.proofs.Fresh.{job_in_order}
+use Rattle.b67_layout.proofs.Common.{slot_is, runs_here, Settled-more, no_objects_gone, job_in_order}
 use Rattle.b67_layout_enter.proofs.Marks.{job_marked, RepresentsSession-mark}
 use Rattle.b67_layout_enter.proofs.Rooms.{height_room, written}
 use Rattle.b67_lemmas.proofs.Members.{keyed_has}

@@ -2,17 +2,12 @@
 use Rattle.std.proofs.Common.{◌≡◌, ℕ, ◌+◌, List, [], map, None, refl, sym, ap, arith, inl, inr, ⊎_elim, subst}
 use Rattle.std.proofs.lemmas.Bool.{cases_eq}
 use Rattle.b67_word.specs.declared.couples.Place.{Place}
-use Rattle.b67_model.specs.State.{Array}
-use Rattle.b67_model.specs.Answers.{Answer}
-use Rattle.b67_model.specs.Steps.{Done}
-use Rattle.b67_layout.specs.Orders.{IsInOrderButCounts}
+use Rattle.b67_model.specs.Common.{Array, Answer, Done}
+use Rattle.b67_layout.specs.Common.{IsInOrderButCounts, machine_view, stack_of_task, IsMade, Meets, with_job, RepresentsSession, RepresentsSessionBut}
 use Rattle.b67_stack.specs.declared.Cpu.{Cpu}
 use Rattle.b67_stack.specs.declared.Step.{Step}
 use Rattle.b67_stack.specs.declared.Step.TheVariants as step
 use Rattle.b67_stack.specs.MachineView.{PagedObject}
-use Rattle.b67_layout.specs.Layout.{machine_view, stack_of_task}
-use Rattle.b67_layout.specs.Meets.{IsMade, Meets, with_job}
-use Rattle.b67_layout.specs.Session.{RepresentsSession, RepresentsSessionBut}
 use Rattle.b67_layout.proofs.Gone.{no_objects_gone}
 use Rattle.b67_layout.proofs.Starts.{runs_here}
 use Rattle.b67_refer.specs.RunningContext.{RunningContext}

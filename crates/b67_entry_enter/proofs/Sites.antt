@@ -5,9 +5,7 @@ use Rattle.b67_word.specs.declared.couples.Place.{Place}
 use Rattle.b67_ctl.specs.declared.registers.Regs.{Regs}
 use Rattle.b67_lemmas.specs.Lists.{Has}
 use Rattle.b67_model.specs.State as State
-use Rattle.b67_model.specs.State.{Standing, frame, height}
-use Rattle.b67_model.specs.Environment.{level_of_standing, level_of_frame}
-use Rattle.b67_model.specs.InOrder.{Known, known_of, reach_of, IsEntered, NamesEntered, StandsInOrder}
+use Rattle.b67_model.specs.Common.{Standing, frame, height, level_of_standing, level_of_frame, Known, known_of, reach_of, IsEntered, NamesEntered, StandsInOrder}
 use Rattle.b67_stack.specs.Stacks.{StackPlace}
 use Rattle.b67_layout.specs.Placement.{spots}
 use Rattle.b67_layout.specs.Meets.{here}

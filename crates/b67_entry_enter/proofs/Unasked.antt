@@ -9,18 +9,10 @@ use Rattle.b67_ctl.specs.declared.marks.Mscw.{Mscw}
 use Rattle.b67_ctl.specs.declared.marks.Rcw.{Rcw}
 use Rattle.b67_ctl.specs.declared.programs.Pcw.{Pcw}
 use Rattle.b67_ctl.specs.Layout.{IsPlace, IsMscw, mscw_word, IsRcw, rcw_word, IsPcw, pcw_word}
-use Rattle.b67_model.specs.State.{frame}
-use Rattle.b67_model.specs.Environment.{level_of_frame}
-use Rattle.b67_model.specs.Chase.{AtProc}
-use Rattle.b67_model.specs.Steps.{cells_of}
-use Rattle.b67_model.specs.Entry.{accident, back_to}
-use Rattle.b67_model.specs.InOrder.{IsSegment}
+use Rattle.b67_model.specs.Common.{frame, level_of_frame, AtProc, cells_of, accident, back_to, IsSegment}
 use Rattle.b67_stack.specs.declared.Cpu.{Cpu}
-use Rattle.b67_layout.specs.Placement.{spots}
-use Rattle.b67_layout.specs.Meets.{here}
-use Rattle.b67_layout.specs.Layout.{machine_view, stack_of_task}
+use Rattle.b67_layout.specs.Common.{spots, here, machine_view, stack_of_task, with_objects}
 use Rattle.b67_stack.proofs.Pushes.{Room, room_of}
-use Rattle.b67_layout.specs.Session.{with_objects}
 use Rattle.b67_stack.specs.MachineView.{RunsOn}
 use Rattle.b67_stack.proofs.ClearHeads.{IsClear}
 use Rattle.b67_layout_enter.proofs.Accidents as Accidents

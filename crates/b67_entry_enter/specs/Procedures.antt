@@ -3,22 +3,14 @@ use Rattle.std.specs.Prelude.{◌≡◌, ◌≢◌, ℕ, ◌+◌, ◌<◌, ◌�
 use Rattle.b67_word.specs.declared.couples.Place.{Place}
 use Rattle.b67_word.specs.Tagged.{Tagged}
 use Rattle.b67_ctl.specs.declared.registers.Regs.{Regs}
-use Rattle.b67_model.specs.Answers.{Answer}
+use Rattle.b67_model.specs.Common.{Answer, Word, Marked, Task, Job, SessionJob, top, Done, Goes, Session}
 use Rattle.b67_lemmas.specs.Lists.{Has}
-use Rattle.b67_model.specs.Words.{Word}
-use Rattle.b67_model.specs.State.{Marked, Task, Job, SessionJob, top}
-use Rattle.b67_model.specs.Steps.{Done, Goes}
-use Rattle.b67_layout.specs.Orders.{IsInOrderButCounts}
-use Rattle.b67_model.specs.Schedule.{Session}
+use Rattle.b67_layout.specs.Common.{IsInOrderButCounts, Placement, machine_view, Meets, with_job, RepresentsSession, RepresentsSessionBut}
 use Rattle.b67_stack.specs.declared.Cpu.{Cpu}
 use Rattle.b67_stack.specs.declared.Step.{Step}
 use Rattle.b67_stack.specs.declared.Step.TheVariants as step
 use Rattle.b67_stack.specs.MachineView.{PagedObject}
 use Rattle.b67_stack.specs.Represents.{Storage}
-use Rattle.b67_layout.specs.Placement.{Placement}
-use Rattle.b67_layout.specs.Layout.{machine_view}
-use Rattle.b67_layout.specs.Meets.{Meets, with_job}
-use Rattle.b67_layout.specs.Session.{RepresentsSession, RepresentsSessionBut}
 use Rattle.b67_refer.specs.RunningContext.{RunningContext}
 use Rattle.b67_refer.specs.Ends.{IsProcAt, IsReference}
 

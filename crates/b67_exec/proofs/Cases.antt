@@ -4,20 +4,13 @@ use Rattle.std.specs.Prelude.{if◌then◌else◌}
 use Rattle.b67_word.specs.Tagged.{Tagged}
 use Rattle.b67_word.specs.declared.couples.Place.{Place}
 use Rattle.b67_word.specs.declared.faults.Fault.{Fault}
-use Rattle.b67_model.specs.Answers.{Answer, ◌>>=◌}
-use Rattle.b67_model.specs.Indexing.{in_order}
+use Rattle.b67_model.specs.Common.{Answer, ◌>>=◌, in_order, AtProc, follow, Task, SessionJob, OperatorContext, Done, Word, Operand, Name, Ref, Row, Element, Original, Proc, Intrinsic, operand}
 use Rattle.b67_model.specs.Chase as Chase
-use Rattle.b67_model.specs.Chase.{AtProc, follow}
 use Rattle.b67_model.specs.Rows as rows
-use Rattle.b67_model.specs.State.{Task, SessionJob, OperatorContext}
-use Rattle.b67_model.specs.Steps.{Done}
 use Rattle.b67_model.specs.Words as Words
-use Rattle.b67_model.specs.Words.{Word, Operand, Name, Ref, Row, Element, Original, Proc, Intrinsic, operand}
 use Rattle.b67_stack.specs.declared.Cpu.{Cpu}
 use Rattle.b67_stack.specs.Represents.{Storage}
-use Rattle.b67_layout.specs.Placement.{Placement}
-use Rattle.b67_layout.specs.Meets.{here}
-use Rattle.b67_layout.specs.Tops.{IsWordOf, IsAt, cells}
+use Rattle.b67_layout.specs.Common.{Placement, here, IsWordOf, IsAt, cells}
 use Rattle.b67_exec_cells.specs.Tops.{GivesTwo}
 use Rattle.b67_fetch.specs.Fetches.{enters_at, top_end}
 use Rattle.b67_fetch.specs.Stores.{store_end}

@@ -7,33 +7,17 @@ use Rattle.std.proofs.lemmas.Bool.Decides.{eqb_tells}
 use Rattle.b67_word.specs.Tagged.{Tagged}
 use Rattle.b67_word.specs.declared.couples.Place.{Place}
 use Rattle.b67_word.specs.declared.faults.Fault.TheVariants.{InvalidOperand, StackOverflow}
-use Rattle.b67_model.specs.Answers.{Answer, ◌>>◌, needs}
-use Rattle.b67_model.specs.Chase.{AtProc}
-use Rattle.b67_model.specs.Entry.{accident, back_to}
-use Rattle.b67_model.specs.Environment.{level_of_frame}
-use Rattle.b67_model.specs.InOrder.{NamesEntered}
-use Rattle.b67_layout.specs.Orders.{IsInOrderButCounts}
+use Rattle.b67_model.specs.Common.{Answer, ◌>>◌, needs, AtProc, accident, back_to, level_of_frame, NamesEntered, number_of, Session, Frame, Entered, Array, Task, Job, JobProgress, SessionJob, top, with_top_cells, with_task, height, frame, Done, Goes, cells_of, Word, Proc}
+use Rattle.b67_layout.specs.Common.{IsInOrderButCounts, Placement, address_of, machine_view, stack_of_task, IsRunning, SessionHoldsBut, RepresentsSession, RepresentsSessionBut, here, with_job, IsMade}
 use Rattle.b67_model.specs.Keyed.{change_keyed}
 use Rattle.b67_lemmas.specs.Lists.{Has}
 use Rattle.b67_lemmas.proofs.Members.{change_twice, change_found, keyed_has}
-use Rattle.b67_model.specs.Run.{number_of}
-use Rattle.b67_model.specs.Schedule.{Session}
-use Rattle.b67_model.specs.State.{Frame, Entered, Array, Task, Job, JobProgress, SessionJob, top, with_top_cells, with_task, height, frame}
-use Rattle.b67_model.specs.Steps.{Done, Goes, cells_of}
-use Rattle.b67_model.specs.Words.{Word, Proc}
 use Rattle.b67_stack.specs.declared.Cpu.{Cpu}
 use Rattle.b67_stack.specs.declared.Step.{Step}
 use Rattle.b67_stack.specs.declared.Step.TheVariants as step
 use Rattle.b67_stack.specs.MachineView.{PagedObject}
 use Rattle.b67_stack.specs.Represents.{Storage}
-use Rattle.b67_layout.specs.Placement.{Placement, address_of}
-use Rattle.b67_layout.specs.Layout.{machine_view, stack_of_task}
-use Rattle.b67_layout.specs.Session.{IsRunning, SessionHoldsBut, RepresentsSession, RepresentsSessionBut}
-use Rattle.b67_layout.specs.Meets.{here, with_job, IsMade}
-use Rattle.b67_layout.proofs.MachineViews.{member-same}
-use Rattle.b67_layout.proofs.Rows.{runs_on}
-use Rattle.b67_layout.proofs.Whole.{task_with}
-use Rattle.b67_layout.proofs.Gone.{no_objects_gone}
+use Rattle.b67_layout.proofs.Common.{member-same, runs_on, task_with, no_objects_gone}
 use Rattle.b67_refer.specs.RunningContext.{RunningContext}
 use Rattle.b67_refer.specs.Ends.{IsProcAt}
 use Rattle.b67_refer.proofs.Scenes.{scene}

@@ -9,26 +9,15 @@ use Rattle.std.proofs.lemmas.Option.{same_Some, none-some}
 use Rattle.std.proofs.lemmas.List.{reverse-append}
 use Rattle.b67_word.specs.declared.couples.Place.{Place}
 use Rattle.b67_word.specs.declared.faults.Fault.TheVariants.{InvalidAddress}
-use Rattle.b67_model.specs.Answers.{Answer}
+use Rattle.b67_model.specs.Common.{Answer, Word, Frame, Task, Job, SessionJob, OperatorContext, top, with_top_cells, with_task, all_frames, frame, no_frame, level_of_frame, cell, cell_of, first_offset, Known, known_of, from_frame, frames_of_task, critical_of, outer_reach, reach_of, Session}
 use Rattle.b67_model.specs.Keyed.{keyed, change_keyed}
 use Rattle.b67_lemmas.specs.Lists.{Has}
 use Rattle.b67_lemmas.proofs.Members.{has_get, has_reverse_back, change_found, change_other, keyed_has}
-use Rattle.b67_model.specs.Words.{Word}
 use Rattle.b67_model.specs.State as State
-use Rattle.b67_model.specs.State.{Frame, Task, Job, SessionJob, OperatorContext, top, with_top_cells, with_task, all_frames, frame, no_frame}
-use Rattle.b67_model.specs.Environment.{level_of_frame}
-use Rattle.b67_model.specs.Cells.{cell, cell_of, first_offset}
-use Rattle.b67_model.specs.InOrder.{Known, known_of, from_frame, frames_of_task, critical_of, outer_reach, reach_of}
-use Rattle.b67_layout.specs.Orders.{IsInOrderButCounts}
-use Rattle.b67_model.specs.Schedule.{Session}
+use Rattle.b67_layout.specs.Common.{IsInOrderButCounts, Placement, slot_of, spot_in, outer_spots, spots, IsRunning, here}
 use Rattle.b67_stack.specs.Stacks.{StackPlace}
-use Rattle.b67_layout.specs.Placement.{Placement, slot_of, spot_in, outer_spots, spots}
-use Rattle.b67_layout.specs.Session.{IsRunning}
-use Rattle.b67_layout.specs.Meets.{here}
-use Rattle.b67_layout.proofs.Others.{OnTop, outer_spots-after}
-use Rattle.b67_layout.proofs.Steps.{seen-with}
-use Rattle.b67_layout.proofs.Whole.{task_with, spots-with}
-use Rattle.b67_layout.proofs.Fresh.{fresh}
+use Rattle.b67_layout.proofs.Common.{OnTop, seen-with, task_with, spots-with, fresh}
+use Rattle.b67_layout.proofs.Others.{outer_spots-after}
 use Rattle.b67_law_order.proofs.Chases.{ok_some}
 use Rattle.b67_law_order.proofs.Looks.{known_cells}
 

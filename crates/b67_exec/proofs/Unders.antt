@@ -9,35 +9,20 @@ use Rattle.b67_word.specs.declared.couples.Place.{Place}
 use Rattle.b67_word.specs.declared.faults.Fault.{Fault}
 use Rattle.b67_word.specs.declared.faults.Fault.TheVariants.{InvalidIndex}
 use Rattle.b67_core.proofs.Writes.{slice_get-set_other}
-use Rattle.b67_model.specs.Answers.{Answer, ◌>>=◌}
-use Rattle.b67_model.specs.Arrays.{array}
+use Rattle.b67_model.specs.Common.{Answer, ◌>>=◌, array, AtElement, AtProc, follow, accident, back_to, Starts, Known, known_of, outer_of, is_original_of, IsSegment, CellsInOrder, FramesInOrder, is_original, Session, Frame, Array, Task, SessionJob, OperatorContext, top, with_task, Done, cells_of, Word, Operand, Name, Ref, Row, Element, Original, Proc, Intrinsic, operand}
 use Rattle.b67_model.specs.Chase as Chase
-use Rattle.b67_model.specs.Chase.{AtElement, AtProc, follow}
-use Rattle.b67_model.specs.Entry.{accident, back_to}
-use Rattle.b67_model.specs.InOrder.{Starts, Known, known_of, outer_of, is_original_of, IsSegment, CellsInOrder, FramesInOrder}
-use Rattle.b67_layout.specs.Orders.{IsInOrderButCounts}
-use Rattle.b67_model.specs.Intrinsics.{is_original}
+use Rattle.b67_layout.specs.Common.{IsInOrderButCounts, Placement, IsRunning, SessionHoldsBut, RepresentsSession, here, with_job, Meets, IsWordOf, IsAt, cells}
 use Rattle.b67_lemmas.specs.Lists.{Has, how_many}
 use Rattle.b67_lemmas.proofs.Places.{set-back}
 use Rattle.b67_model.specs.Rows as rows
-use Rattle.b67_model.specs.Schedule.{Session}
-use Rattle.b67_model.specs.State.{Frame, Array, Task, SessionJob, OperatorContext, top, with_task}
-use Rattle.b67_model.specs.Steps.{Done, cells_of}
 use Rattle.b67_model.specs.Words as Words
-use Rattle.b67_model.specs.Words.{Word, Operand, Name, Ref, Row, Element, Original, Proc, Intrinsic, operand}
 use Rattle.b67_stack.specs.declared.Cpu.{Cpu}
 use Rattle.b67_stack.specs.declared.Step.{Step}
 use Rattle.b67_stack.specs.declared.Step.TheVariants as step
 use Rattle.b67_stack.specs.Represents.{Storage}
-use Rattle.b67_layout.specs.Placement.{Placement}
-use Rattle.b67_layout.specs.Session.{IsRunning, SessionHoldsBut, RepresentsSession}
-use Rattle.b67_layout.specs.Meets.{here, with_job, Meets}
-use Rattle.b67_layout.proofs.Whole.{task_with}
-use Rattle.b67_layout.proofs.Fresh.{running_in_order}
-use Rattle.b67_layout.specs.Tops.{IsWordOf, IsAt, cells}
+use Rattle.b67_layout.proofs.Common.{task_with, running_in_order, cells_in_order}
 use Rattle.b67_exec_cells.proofs.Replaced.{height-with}
 use Rattle.b67_exec_cells.proofs.Put.{room, replaced_stands}
-use Rattle.b67_layout.proofs.Cells.{cells_in_order}
 use Rattle.b67_refer.specs.RunningContext.{RunningContext}
 use Rattle.b67_refer.specs.Ends.{IsProcAt}
 use Rattle.b67_entry_enter.specs.Procedures.{CanEnter, EntersOrFaults}

@@ -2,11 +2,9 @@
 use Rattle.std.specs.Prelude.{◌≡◌, ℕ, true, Ok}
 use Rattle.b67_word.specs.Tagged.{Tagged}
 use Rattle.b67_word.specs.declared.couples.Place.{Place}
-use Rattle.b67_model.specs.Words.{Word}
-use Rattle.b67_model.specs.Chase.{AtProc, follow}
+use Rattle.b67_model.specs.Common.{Word, AtProc, follow}
 use Rattle.b67_stack.specs.declared.Cpu.{Cpu}
-use Rattle.b67_layout.specs.Meets.{here, RunsSome}
-use Rattle.b67_layout.specs.Tops.{cells}
+use Rattle.b67_layout.specs.Common.{here, RunsSome, cells}
 use Rattle.b67_fetch.specs.Fetches.{enters_at, top_end}
 use Rattle.b67_refer.specs.RunningContext.{RunningContext, IsShown}
 use Rattle.b67_refer.specs.Cells.{StandsFor}

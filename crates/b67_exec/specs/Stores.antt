@@ -2,14 +2,10 @@
 use Rattle.std.specs.Prelude.{◌≡◌, ℕ, ◌+◌, ◌-◌, ◌≤◌, true, List, ◌∷◌, Ok}
 use Rattle.b67_word.specs.Tagged.{Tagged}
 use Rattle.b67_word.specs.declared.couples.Place.{Place}
-use Rattle.b67_model.specs.Chase.{AtProc, follow}
-use Rattle.b67_model.specs.State.{Task, SessionJob}
-use Rattle.b67_model.specs.Words.{Word, Operand}
+use Rattle.b67_model.specs.Common.{AtProc, follow, Task, SessionJob, Word, Operand}
 use Rattle.b67_stack.specs.declared.Cpu.{Cpu}
 use Rattle.b67_stack.specs.Represents.{Storage}
-use Rattle.b67_layout.specs.Placement.{Placement}
-use Rattle.b67_layout.specs.Meets.{here, RunsSome}
-use Rattle.b67_layout.specs.Tops.{cells, IsAt}
+use Rattle.b67_layout.specs.Common.{Placement, here, RunsSome, cells, IsAt}
 use Rattle.b67_fetch.specs.Fetches.{enters_at}
 use Rattle.b67_fetch.specs.Stores.{store_end}
 

@@ -5,27 +5,13 @@ use Rattle.std.proofs.lemmas.Bool.{cases_eq}
 use Rattle.b67_core.proofs.Writes.{slice_get-set_other}
 use Rattle.b67_word.specs.Tagged.{Tagged}
 use Rattle.b67_word.specs.declared.couples.Place.{Place}
-use Rattle.b67_model.specs.Words.{Word}
+use Rattle.b67_model.specs.Common.{Word, Frame, Task, Job, SessionJob, height, top, below_top, with_top_cells, answered, Session}
 use Rattle.b67_model.specs.State as State
-use Rattle.b67_model.specs.State.{Frame, Task, Job, SessionJob, height, top, below_top, with_top_cells}
-use Rattle.b67_model.specs.Intrinsics.{answered}
-use Rattle.b67_model.specs.Schedule.{Session}
-use Rattle.b67_layout.specs.Orders.{IsInOrderButCounts}
+use Rattle.b67_layout.specs.Common.{IsInOrderButCounts, Placement, outer_spots, machine_view, IsRunning, RepresentsSession, here, with_job, IsInStack}
 use Rattle.b67_stack.specs.declared.Cpu.{Cpu}
-use Rattle.b67_stack.specs.Shapes.{Fits}
-use Rattle.b67_stack.specs.Represents.{Storage}
-use Rattle.b67_stack.specs.Changes.{pushed, MayPush}
+use Rattle.b67_stack.specs.Common.{Fits, Storage, pushed, MayPush}
 use Rattle.b67_stack.proofs.Slots.{running_fits}
-use Rattle.b67_layout.specs.Placement.{Placement, outer_spots}
-use Rattle.b67_layout.specs.Layout.{machine_view}
-use Rattle.b67_layout.specs.Session.{IsRunning, RepresentsSession}
-use Rattle.b67_layout.specs.Meets.{here, with_job, IsInStack}
-use Rattle.b67_layout.proofs.Sessions.{change-has}
-use Rattle.b67_layout.proofs.MachineViews.{member-same}
-use Rattle.b67_layout.proofs.Frames.{height-is}
-use Rattle.b67_layout.proofs.Fresh.{fresh}
-use Rattle.b67_layout.proofs.Steps.{IsFree}
-use Rattle.b67_layout.proofs.Awaits.{with_job-twice}
+use Rattle.b67_layout.proofs.Common.{change-has, member-same, height-is, fresh, IsFree, with_job-twice}
 use Rattle.b67_exec_calls.specs.Calls.{MayCut, job_cut}
 use Rattle.b67_exec_calls.proofs.Cuts.{cut_of}
 use Rattle.b67_exec_calls.specs.Answered.{job_answered}

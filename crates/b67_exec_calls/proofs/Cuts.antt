@@ -4,33 +4,15 @@ use Rattle.std.specs.List.{AllByRecursion}
 use Rattle.b67_word.specs.declared.couples.Place.{Place}
 use Rattle.b67_ctl.specs.Layout.{IsPlace}
 use Rattle.b67_ctl.specs.declared.registers.Regs.{Regs}
-use Rattle.b67_model.specs.Words.{Word}
+use Rattle.b67_model.specs.Common.{Word, Frame, Array, Condition, Ready, Task, Job, SessionJob, height, top, below_top, with_task, level_of_frame, running, is_original, number_of, is_critical, Session, IsSegment, ReturnsInOrder, StackInOrder, TaskInOrder, TasksInOrder}
 use Rattle.b67_model.specs.State as State
-use Rattle.b67_model.specs.State.{Frame, Array, Condition, Ready, Task, Job, SessionJob, height, top, below_top, with_task}
-use Rattle.b67_model.specs.Environment.{level_of_frame, running}
-use Rattle.b67_model.specs.Intrinsics.{is_original}
-use Rattle.b67_model.specs.Run.{number_of}
-use Rattle.b67_model.specs.Steps.{is_critical}
-use Rattle.b67_model.specs.Schedule.{Session}
-use Rattle.b67_model.specs.InOrder.{IsSegment, ReturnsInOrder, StackInOrder, TaskInOrder, TasksInOrder}
-use Rattle.b67_layout.specs.Orders.{IsInOrderButCounts}
+use Rattle.b67_layout.specs.Common.{IsInOrderButCounts, Placement, spot_in, outer_spots, shape, head, activations, machine_view, RepresentsTask, IsRunning, ShowsDisplay, RepresentsSession, SessionHoldsBut, RepresentsSessionBut, objects_gone, with_job}
 use Rattle.b67_stack.specs.declared.Cpu.{Cpu}
-use Rattle.b67_stack.specs.Stacks.{StackPlace, Activation, stack_words, mark_place, running_level}
-use Rattle.b67_stack.specs.MachineView.{RunsOn}
-use Rattle.b67_stack.specs.Represents.{Storage, Represents}
-use Rattle.b67_stack.specs.Changes.{with_stack}
+use Rattle.b67_stack.specs.Common.{StackPlace, Activation, stack_words, mark_place, running_level, RunsOn, Storage, Represents, with_stack}
 use Rattle.b67_stack.proofs.Pushes.{Represents-cut}
-use Rattle.b67_layout.specs.Placement.{Placement, spot_in, outer_spots}
-use Rattle.b67_layout.specs.Layout.{shape, head, activations, machine_view}
-use Rattle.b67_layout.specs.Session.{RepresentsTask, IsRunning, ShowsDisplay, RepresentsSession, SessionHoldsBut, RepresentsSessionBut}
-use Rattle.b67_layout.specs.Meets.{objects_gone, with_job}
-use Rattle.b67_layout.proofs.Fresh.{fresh, running_in_order}
-use Rattle.b67_layout.proofs.Gone.{no_objects_gone}
-use Rattle.b67_layout.proofs.Starts.{slot_is, runs_here}
+use Rattle.b67_layout.proofs.Common.{fresh, running_in_order, no_objects_gone, slot_is, runs_here, Shows-condition, others}
 use Rattle.b67_refer.specs.RunningContext.{RunningContext}
 use Rattle.b67_refer.proofs.Scenes.{member_in_order}
-use Rattle.b67_layout.proofs.Conditions.{Shows-condition}
-use Rattle.b67_layout.proofs.Objects.{others}
 use Rattle.b67_layout_leave.proofs.Nowhere.{activations-same}
 use Rattle.b67_layout_leave.proofs.Leaves.{Leaver, task_at, may_leave, below-same, Frames-below, runs_after, holds_after, for_running_after}
 use Rattle.b67_layout_leave.proofs.Orders.{left_ready}

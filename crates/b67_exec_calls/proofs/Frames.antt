@@ -4,21 +4,11 @@ use Rattle.std.proofs.lemmas.Bool.{ne_eqb}
 use Rattle.b67_word.specs.declared.couples.Place.{Place}
 use Rattle.b67_lemmas.specs.Lists.{Has, Falls}
 use Rattle.b67_lemmas.proofs.Members.{falls_low, has_map}
-use Rattle.b67_model.specs.Words.{Word}
-use Rattle.b67_model.specs.State.{Frame, Marked, Condition, Ready, Awaits, WaitsAt, Task, Job, SessionJob, top, below_top, with_top_cells}
+use Rattle.b67_model.specs.Common.{Word, Frame, Marked, Condition, Ready, Awaits, WaitsAt, Task, Job, SessionJob, top, below_top, with_top_cells, answered, Session, Known, known_of, known_numbers, from_frame, outer_of, reach_of, IsEntered, NamesEntered, ConditionInOrder}
 use Rattle.b67_model.specs.Keyed.{change_keyed}
-use Rattle.b67_model.specs.Intrinsics.{answered}
-use Rattle.b67_model.specs.Schedule.{Session}
-use Rattle.b67_model.specs.InOrder.{Known, known_of, known_numbers, from_frame, outer_of, reach_of, IsEntered, NamesEntered, ConditionInOrder}
-use Rattle.b67_layout.specs.Orders.{IsInOrderButCounts}
+use Rattle.b67_layout.specs.Common.{IsInOrderButCounts, Placement, spot_in, IsRunning, here}
 use Rattle.b67_stack.specs.Stacks.{StackPlace}
-use Rattle.b67_layout.specs.Placement.{Placement, spot_in}
-use Rattle.b67_layout.specs.Session.{IsRunning}
-use Rattle.b67_layout.specs.Meets.{here}
-use Rattle.b67_layout.proofs.Fresh.{running_in_order}
-use Rattle.b67_layout.proofs.Steps.{seen-with}
-use Rattle.b67_layout.proofs.Whole.{spots-with}
-use Rattle.b67_layout.proofs.Replaces.{IsDependedOn, Replaces}
+use Rattle.b67_layout.proofs.Common.{running_in_order, seen-with, spots-with, IsDependedOn, Replaces}
 use Rattle.b67_layout_leave.proofs.Leaves.{Leaver, Frames-below}
 use Rattle.b67_exec_calls.specs.Calls.{MayCut}
 use Rattle.b67_exec_calls.proofs.Cuts.{Cut, cut_of}

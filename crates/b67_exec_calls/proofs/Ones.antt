@@ -3,13 +3,11 @@ use Rattle.std.proofs.Common.{◌≡◌, ◌≢◌, ℕ, suc, List, [], ◌∷�
 use Rattle.std.proofs.lemmas.List.{length-reverse}
 use Rattle.b67_word.specs.Tagged.{Tagged}
 use Rattle.b67_word.specs.declared.faults.Fault.{Fault}
-use Rattle.b67_model.specs.Answers.{Answer, ◌>>=◌}
-use Rattle.b67_model.specs.Words.{Word, number, whole}
-use Rattle.b67_model.specs.State.{Task, SessionJob}
+use Rattle.b67_model.specs.Common.{Answer, ◌>>=◌, Word, number, Task, SessionJob}
+use Rattle.b67_model.specs.Words.{whole}
 use Rattle.b67_stack.specs.declared.Cpu.{Cpu}
 use Rattle.b67_stack.specs.Represents.{Storage}
-use Rattle.b67_layout.specs.Placement.{Placement}
-use Rattle.b67_layout.specs.Tops.{cells, GivesTop}
+use Rattle.b67_layout.specs.Common.{Placement, cells, GivesTop}
 use Rattle.b67_exec_operands.proofs.Rows.{operand_seen}
 use Rattle.b67_exec_calls.specs.Calls.{IsCall, OnlyCell, number_in}
 

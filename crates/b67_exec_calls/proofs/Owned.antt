@@ -5,13 +5,9 @@ use Rattle.std.proofs.lemmas.Bool.{cases_eq}
 use Rattle.std.proofs.lemmas.Bool.Decides.{eqb_tells}
 use Rattle.b67_lemmas.specs.Lists.{Has}
 use Rattle.b67_lemmas.proofs.Members.{all_in, falls_same}
-use Rattle.b67_model.specs.Words.{Word, Original}
-use Rattle.b67_model.specs.State.{Frame, Array, Task, JobConstants, Job}
-use Rattle.b67_model.specs.Intrinsics.{is_original}
-use Rattle.b67_model.specs.InOrder.{EntryInOrder, frames_named}
-use Rattle.b67_layout.proofs.Objects.{others}
-use Rattle.b67_layout.proofs.NamedFirst.{IsOnTop, high, live, under, elsewhere}
-use Rattle.b67_layout.proofs.Originals.{original_of}
+use Rattle.b67_model.specs.Common.{Word, Original, Frame, Array, Task, JobConstants, Job, is_original, EntryInOrder, frames_named}
+use Rattle.b67_layout.proofs.Common.{others, IsOnTop, high, live, elsewhere, original_of}
+use Rattle.b67_layout.proofs.NamedFirst.{under}
 
 named_has : (n : ℕ) (fs : List Frame) (g : Frame) → Has fs g → g.identity ≡ n → frames_named n fs ≢ 0
 named_has n [] g h e z = h

@@ -2,30 +2,14 @@
 use Rattle.std.proofs.Common.{◌≡◌, ℕ, ◌+◌, ◌<◌, List, [], ◌∷◌, map, refl, ◌∙◌, ap, arith, subst}
 use Rattle.b67_word.specs.Tagged.{Tagged}
 use Rattle.b67_core.proofs.Writes.{slice_get-set_other}
-use Rattle.b67_model.specs.Words.{Word}
-use Rattle.b67_model.specs.State.{Frame, Task, Job, SessionJob, with_top_cells}
+use Rattle.b67_model.specs.Common.{Word, Frame, Task, Job, SessionJob, with_top_cells, known_of, Session}
 use Rattle.b67_model.specs.Keyed.{change_keyed}
-use Rattle.b67_model.specs.InOrder.{known_of}
-use Rattle.b67_model.specs.Schedule.{Session}
 use Rattle.b67_stack.specs.declared.Cpu.{Cpu}
-use Rattle.b67_stack.specs.Shapes.{Shape, Fits}
-use Rattle.b67_stack.specs.Stacks.{StackPlace, Activation}
-use Rattle.b67_stack.specs.MachineView.{RunsOn}
-use Rattle.b67_stack.specs.Represents.{Storage, RepresentsRunning}
-use Rattle.b67_stack.specs.Changes.{pushed, top_cells, with_cells, MayPush}
+use Rattle.b67_stack.specs.Common.{Shape, Fits, StackPlace, Activation, RunsOn, Storage, RepresentsRunning, pushed, top_cells, with_cells, MayPush}
 use Rattle.b67_stack.proofs.Slots.{running_slot}
 use Rattle.b67_stack.proofs.Pushes.{Room, room_of}
-use Rattle.b67_layout.specs.Placement.{Placement, slot_of, spot_in, outer_spots, spots}
-use Rattle.b67_layout.specs.Layout.{shape, stack_of_task, machine_view}
-use Rattle.b67_layout.specs.Session.{IsRunning, ShowsDisplay, critical_mark, RepresentsSession}
-use Rattle.b67_layout.specs.Meets.{with_job}
-use Rattle.b67_layout.proofs.Others.{OnTop}
-use Rattle.b67_layout.proofs.Displays.{Shows-same}
-use Rattle.b67_layout.proofs.Sessions.{running_only}
-use Rattle.b67_layout.proofs.Starts.{slot_is, runs_here}
-use Rattle.b67_layout.proofs.Steps.{IsFree, activations-with, seen-with}
-use Rattle.b67_layout.proofs.Tops.{SessionHolds-top, still_running, outer-same}
-use Rattle.b67_layout.specs.Tops.{cells}
+use Rattle.b67_layout.specs.Common.{Placement, slot_of, spot_in, outer_spots, spots, shape, stack_of_task, machine_view, IsRunning, ShowsDisplay, critical_mark, RepresentsSession, with_job, cells}
+use Rattle.b67_layout.proofs.Common.{OnTop, Shows-same, running_only, slot_is, runs_here, IsFree, activations-with, seen-with, SessionHolds-top, still_running, outer-same}
 use Rattle.b67_exec_cells.proofs.Replaced.{cells-are, Represents-put}
 
 module _ (x : Storage) (cpu : Cpu) (plan : Placement) (s : Session) (m : SessionJob) (t : Task) (h : RepresentsSession x cpu plan s) (runs : IsRunning plan s.jobs m t) where

@@ -6,22 +6,12 @@ use Rattle.std.proofs.lemmas.Bool.{cases_eq}
 use Rattle.std.proofs.lemmas.Bool.Decides.{eqb_tells}
 use Rattle.b67_lemmas.specs.Lists.{Has}
 use Rattle.b67_lemmas.proofs.Members.{has_change, keyed_has}
-use Rattle.b67_model.specs.State.{Frame, Condition, Ready, Awaits, WaitsAt, Task, Job, JobProgress, SessionJob}
+use Rattle.b67_model.specs.Common.{Frame, Condition, Ready, Awaits, WaitsAt, Task, Job, JobProgress, SessionJob, number_of, Session, from_frame, frames_of_task, NumberedFrom}
 use Rattle.b67_model.specs.Keyed.{keyed, change_keyed}
-use Rattle.b67_model.specs.Run.{number_of}
-use Rattle.b67_model.specs.Schedule.{Session}
-use Rattle.b67_model.specs.InOrder.{from_frame, frames_of_task, NumberedFrom}
-use Rattle.b67_layout.specs.Orders.{IsInOrderButCounts}
+use Rattle.b67_layout.specs.Common.{IsInOrderButCounts, Placement, slot_of, spot_in, base_spot, outer_spots, address_of, RowState, WaitsAtCell, TaskRow, JobRow, JobCounts, shown, critical_disp, TaskShows, JobShows, JobsShow, TablesShow, IsRunning, with_job}
 use Rattle.b67_stack.specs.Stacks.{StackPlace}
-use Rattle.b67_layout.specs.Placement.{Placement, slot_of, spot_in, base_spot, outer_spots, address_of}
-use Rattle.b67_layout.specs.Rows.{RowState, WaitsAtCell, TaskRow, JobRow, JobCounts, shown, critical_disp, TaskShows, JobShows, JobsShow, TablesShow}
-use Rattle.b67_layout.specs.Session.{IsRunning}
-use Rattle.b67_layout.specs.Meets.{with_job}
-use Rattle.b67_layout.proofs.Fresh.{running_in_order}
-use Rattle.b67_layout.proofs.MachineViews.{member-same}
-use Rattle.b67_layout.proofs.Sessions.{change-has, change-kept}
-use Rattle.b67_layout.proofs.Replaces.{IsDependedOn, Replaces, task-same, task-other, outer_spots-after}
-use Rattle.b67_layout.proofs.LiveTasks.{live_in_order}
+use Rattle.b67_layout.proofs.Common.{running_in_order, member-same, change-has, change-kept, IsDependedOn, Replaces, task-same, task-other, live_in_order}
+use Rattle.b67_layout.proofs.Replaces.{outer_spots-after}
 use Rattle.b67_law_order.proofs.Numbered.{keyed_member}
 
 -- a frame stands among those from it down where it stands among all

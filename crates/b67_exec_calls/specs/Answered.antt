@@ -1,9 +1,7 @@
 -- A call of an intrinsic that answers with a word.
 use Rattle.std.specs.Prelude.{ℤ, List, [], ◌∷◌}
 use Rattle.b67_word.specs.declared.couples.Place.{Place}
-use Rattle.b67_model.specs.Words.{Word}
-use Rattle.b67_model.specs.State.{Task, Job, SessionJob, with_task}
-use Rattle.b67_model.specs.Intrinsics.{answered}
+use Rattle.b67_model.specs.Common.{Word, Task, Job, SessionJob, with_task, answered}
 use Rattle.b67_layout.specs.Meets.{here}
 
 -- the job without the call, whose task goes on at a place with a word on the frame below, and which has these numbers

@@ -5,17 +5,11 @@ use Rattle.b67_word.specs.Tagged.{Tagged}
 use Rattle.b67_word.specs.declared.couples.Place.{Place}
 use Rattle.b67_word.specs.declared.faults.Fault.{Fault}
 use Rattle.b67_word.specs.declared.faults.Fault.TheVariants.{InvalidOperand}
-use Rattle.b67_model.specs.Answers.{Answer, ◌>>=◌}
-use Rattle.b67_model.specs.Words.{Word, number}
-use Rattle.b67_model.specs.State.{Marked, Task, Job, SessionJob, top, with_task}
-use Rattle.b67_model.specs.Steps.{is_critical}
-use Rattle.b67_model.specs.Intrinsics.{is_original, answered}
+use Rattle.b67_model.specs.Common.{Answer, ◌>>=◌, Word, number, Marked, Task, Job, SessionJob, top, with_task, is_critical, is_original, answered}
 use Rattle.b67_arith.specs.OnWords.{bits_in}
 use Rattle.b67_stack.specs.declared.Cpu.{Cpu}
 use Rattle.b67_stack.specs.Represents.{Storage}
-use Rattle.b67_layout.specs.Placement.{Placement}
-use Rattle.b67_layout.specs.Meets.{RunsSome, here}
-use Rattle.b67_layout.specs.Tops.{GivesTop}
+use Rattle.b67_layout.specs.Common.{Placement, RunsSome, here, GivesTop}
 
 -- the cells of a call from the first one up: the reference and the arguments
 pub record IsCall (t : Task) (reference : Word) (arguments : List Word) : Type 0 where

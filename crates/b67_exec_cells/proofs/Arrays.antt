@@ -11,24 +11,13 @@ use Rattle.b67_ctl.specs.declared.descriptors.DataDesc.{DataDesc}
 use Rattle.b67_ctl.specs.Descriptors.{data_word, IsDataDesc}
 use Rattle.b67_lemmas.specs.Lists.{Has}
 use Rattle.b67_lemmas.proofs.Members.{keyed_falls, keyed_has}
-use Rattle.b67_model.specs.Words.{Row}
-use Rattle.b67_model.specs.Arrays.{array, element, no_array}
+use Rattle.b67_model.specs.Common.{Row, array, element, no_array, Array, Task, SessionJob, number_of, Session}
 use Rattle.b67_model.specs.Keyed.{keyed}
-use Rattle.b67_model.specs.State.{Array, Task, SessionJob}
-use Rattle.b67_model.specs.Run.{number_of}
-use Rattle.b67_model.specs.Schedule.{Session}
-use Rattle.b67_layout.specs.Orders.{IsInOrderButCounts}
+use Rattle.b67_layout.specs.Common.{IsInOrderButCounts, Placement, array_object, objects_of, IsRunning, RepresentsSession, area_held, IsWordOf}
 use Rattle.b67_stack.specs.declared.Cpu.{Cpu}
-use Rattle.b67_stack.specs.Shapes.{Location, LieUpward}
-use Rattle.b67_stack.specs.MachineView.{PagedObject, is_present, address_or, home_desc, home_word, tag_of}
-use Rattle.b67_stack.specs.Represents.{Storage, Content, RepresentsObject, info_of}
+use Rattle.b67_stack.specs.Common.{Location, LieUpward, PagedObject, is_present, address_or, home_desc, home_word, tag_of, Storage, Content, RepresentsObject, info_of}
 use Rattle.b67_stack.proofs.Homes.{chain_small}
-use Rattle.b67_layout.specs.Placement.{Placement}
-use Rattle.b67_layout.specs.Layout.{array_object, objects_of}
-use Rattle.b67_layout.specs.Session.{IsRunning, RepresentsSession}
-use Rattle.b67_layout.specs.Meets.{area_held}
 use Rattle.b67_layout.proofs.Fresh.{running_in_order}
-use Rattle.b67_layout.specs.Tops.{IsWordOf}
 use Rattle.b67_exec_cells.proofs.Replaced.{array_object-has}
 use Rattle.b67_exec_cells.specs.Elements.{HasElement, original_desc}
 

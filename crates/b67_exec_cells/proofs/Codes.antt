@@ -11,21 +11,12 @@ use Rattle.b67_ctl.specs.Descriptors.{seg_word, IsSegDesc}
 use Rattle.b67_lemmas.specs.Lists.{Has}
 use Rattle.b67_lemmas.proofs.Members.{all_in, has_get, keyed_has}
 use Rattle.b67_lemmas.proofs.Places.{get_within}
-use Rattle.b67_model.specs.State.{Segment, Task, SessionJob}
-use Rattle.b67_model.specs.Operators.{Reading, operator_at}
-use Rattle.b67_model.specs.Rows.{code_of, reading_of}
-use Rattle.b67_model.specs.Run.{number_of}
-use Rattle.b67_model.specs.Schedule.{Session}
-use Rattle.b67_model.specs.InOrder.{SegmentInOrder}
-use Rattle.b67_layout.specs.Orders.{IsInOrderButCounts}
+use Rattle.b67_model.specs.Common.{Segment, Task, SessionJob, Reading, operator_at, code_of, reading_of, number_of, Session, SegmentInOrder}
+use Rattle.b67_layout.specs.Common.{IsInOrderButCounts, Placement, code_objects, objects_of, array_object, IsRunning, RepresentsSession}
 use Rattle.b67_stack.specs.declared.Cpu.{Cpu}
-use Rattle.b67_stack.specs.MachineView.{PagedObject, is_present, address_or}
-use Rattle.b67_stack.specs.Represents.{Storage, Content, RepresentsObject, info_of}
+use Rattle.b67_stack.specs.Common.{PagedObject, is_present, address_or, Storage, Content, RepresentsObject, info_of}
 use Rattle.b67_stack.proofs.Homes.{chain_small}
 use Rattle.b67_stack.proofs.Lies.{upward-range}
-use Rattle.b67_layout.specs.Placement.{Placement}
-use Rattle.b67_layout.specs.Layout.{code_objects, objects_of, array_object}
-use Rattle.b67_layout.specs.Session.{IsRunning, RepresentsSession}
 use Rattle.b67_layout.proofs.Fresh.{running_in_order}
 use Rattle.b67_exec_cells.proofs.Replaced.{member_objects, before}
 use Rattle.b67_exec_cells.specs.Running.{code_held, code_area, code_desc}

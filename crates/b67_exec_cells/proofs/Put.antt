@@ -12,33 +12,15 @@ use Rattle.b67_word.specs.declared.faults.Fault.TheVariants.{StackUnderflow, Sta
 use Rattle.b67_ctl.specs.declared.marks.Mscw.{Mscw}
 use Rattle.b67_ctl.specs.Layout.{bit}
 use Rattle.b67_core.proofs.Writes.{slice_get-set_other}
-use Rattle.b67_model.specs.Words.{Word}
-use Rattle.b67_model.specs.State.{Task, Job, SessionJob, with_top_cells, height, with_task}
-use Rattle.b67_model.specs.Steps.{leaves_cells}
-use Rattle.b67_model.specs.Run.{number_of}
-use Rattle.b67_model.specs.Schedule.{Session}
-use Rattle.b67_layout.specs.Orders.{IsInOrderButCounts}
+use Rattle.b67_model.specs.Common.{Word, Task, Job, SessionJob, with_top_cells, height, with_task, leaves_cells, number_of, Session}
+use Rattle.b67_layout.specs.Common.{IsInOrderButCounts, Placement, spot_in, outer_spots, shape, stack_of_task, machine_view, IsRunning, RepresentsSession, RepresentsSessionBut, here, with_job, IsMade, IsWordOf, IsAt, cells, GivesTop}
 use Rattle.b67_stack.specs.declared.Cpu.{Cpu}
-use Rattle.b67_stack.specs.Shapes.{Shape, Fits}
-use Rattle.b67_stack.specs.Stacks.{StackPlace, Activation, stack_words, top_mark}
-use Rattle.b67_stack.specs.MachineView.{PagedObject, RunsOn, NoOriginalAboveTop}
-use Rattle.b67_stack.specs.Represents.{Storage, RepresentsRunning, Represents}
-use Rattle.b67_stack.specs.Changes.{with_stack, with_cells, top_cells}
+use Rattle.b67_stack.specs.Common.{Shape, Fits, StackPlace, Activation, stack_words, top_mark, PagedObject, RunsOn, NoOriginalAboveTop, Storage, RepresentsRunning, Represents, with_stack, with_cells, top_cells}
 use Rattle.b67_stack.proofs.Tops.{cells_above}
 use Rattle.b67_stack.proofs.Slots.{running_slot, running_fits}
 use Rattle.b67_stack.proofs.Pushes.{Room, room_of}
-use Rattle.b67_layout.specs.Placement.{Placement, spot_in, outer_spots}
-use Rattle.b67_layout.specs.Layout.{shape, stack_of_task, machine_view}
-use Rattle.b67_layout.specs.Session.{IsRunning, RepresentsSession, RepresentsSessionBut}
-use Rattle.b67_layout.specs.Meets.{here, with_job, IsMade}
-use Rattle.b67_layout.proofs.Frames.{height-is}
-use Rattle.b67_layout.proofs.Rows.{runs_on}
-use Rattle.b67_layout.proofs.Steps.{GoesOn}
+use Rattle.b67_layout.proofs.Common.{height-is, runs_on, GoesOn, task_with, RepresentsSession-cells, fresh, running_in_order, no_objects_gone}
 use Rattle.b67_layout.proofs.Starts as Starts
-use Rattle.b67_layout.proofs.Whole.{task_with, RepresentsSession-cells}
-use Rattle.b67_layout.proofs.Fresh.{fresh, running_in_order}
-use Rattle.b67_layout.proofs.Gone.{no_objects_gone}
-use Rattle.b67_layout.specs.Tops.{IsWordOf, IsAt, cells, GivesTop}
 use Rattle.b67_exec_cells.specs.Tops.{GivesTwo, MayStand, NoOriginals}
 use Rattle.b67_exec_cells.proofs.Replaced.{cells-are, height-with, shapes_plain, may_push, Represents-less, Represents-put, word_under}
 use Rattle.b67_lemmas.proofs.Members.{keyed_has}

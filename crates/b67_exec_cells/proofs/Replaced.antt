@@ -8,21 +8,14 @@ use Rattle.b67_area.specs.declared.Kind.TheVariants.{Code}
 use Rattle.b67_ctl.specs.declared.registers.Regs.{Regs}
 use Rattle.b67_lemmas.specs.Lists.{Has}
 use Rattle.b67_model.specs.Words as Words
-use Rattle.b67_model.specs.Words.{Word, Operand, Name, Ref, Element, Original, Proc, Intrinsic}
+use Rattle.b67_model.specs.Common.{Word, Operand, Name, Ref, Element, Original, Proc, Intrinsic, Frame, Task, Job, SessionJob, top, with_top_cells, height, is_original}
 use Rattle.b67_model.specs.State as State
-use Rattle.b67_model.specs.State.{Frame, Task, Job, SessionJob, top, with_top_cells, height}
-use Rattle.b67_model.specs.Intrinsics.{is_original}
 use Rattle.b67_stack.specs.Shapes as Shapes
-use Rattle.b67_stack.specs.Shapes.{Shape, Fits}
-use Rattle.b67_stack.specs.Stacks.{StackPlace, Activation}
-use Rattle.b67_stack.specs.MachineView.{PagedObject, MachineView, NoOriginalAboveTop, RunsOn, IsArrayAt}
-use Rattle.b67_stack.specs.Represents.{Storage, Represents}
-use Rattle.b67_stack.specs.Changes.{with_stack, with_cells, top_cells, MayPush}
+use Rattle.b67_stack.specs.Common.{Shape, Fits, StackPlace, Activation, PagedObject, MachineView, NoOriginalAboveTop, RunsOn, IsArrayAt, Storage, Represents, with_stack, with_cells, top_cells, MayPush}
 use Rattle.b67_stack.proofs.Cells.{cell_word, Represents-drop, Represents-cells, with_stack-twice}
 use Rattle.b67_stack.proofs.Pushes.{RunsOn-with}
 use Rattle.b67_stack.proofs.Slots.{running_fits}
-use Rattle.b67_layout.specs.Placement.{Placement, spot_in}
-use Rattle.b67_layout.specs.Layout.{shape, activations, array_object, code_objects, objects_of}
+use Rattle.b67_layout.specs.Common.{Placement, spot_in, shape, activations, array_object, code_objects, objects_of}
 use Rattle.b67_layout.proofs.Settles as Settles
 use Rattle.b67_layout.proofs.Settles.{Settled-drop, Settled-more}
 use Rattle.b67_exec_cells.specs.Tops.{IsLive, MayStand, NoOriginals}

@@ -1,9 +1,6 @@
 -- The intrinsic that the operator at a task's place calls.
 use Rattle.std.specs.Prelude.{ℕ, Option, None, Ok, Err}
-use Rattle.b67_model.specs.State.{Task, SessionJob}
-use Rattle.b67_model.specs.Operators.{Reading}
-use Rattle.b67_model.specs.Rows.{reading_of}
-use Rattle.b67_model.specs.Called.{called}
+use Rattle.b67_model.specs.Common.{Task, SessionJob, Reading, reading_of, called}
 use Rattle.b67_layout.specs.Meets.{here}
 
 -- the intrinsic that an operator calls that was read, if it calls one; and the operator at the running place

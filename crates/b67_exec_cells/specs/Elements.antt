@@ -3,13 +3,11 @@ use Rattle.std.specs.Prelude.{◌≡◌, ℕ, ◌<◌, not, length, Option, Some
 use Rattle.b67_word.specs.Tagged.{Tagged, word}
 use Rattle.b67_ctl.specs.declared.descriptors.DataDesc.{DataDesc}
 use Rattle.b67_lemmas.specs.Lists.{Has}
-use Rattle.b67_model.specs.Arrays.{array, element}
-use Rattle.b67_model.specs.State.{Array, Job, SessionJob}
+use Rattle.b67_model.specs.Common.{array, element, Array, Job, SessionJob}
 use Rattle.b67_stack.specs.declared.Cpu.{Cpu}
 use Rattle.b67_stack.specs.MachineView.{home_desc}
 use Rattle.b67_stack.specs.Represents.{Storage}
-use Rattle.b67_layout.specs.Placement.{Placement}
-use Rattle.b67_layout.specs.Meets.{RunsSome, area_held}
+use Rattle.b67_layout.specs.Common.{Placement, RunsSome, area_held}
 
 -- an array of a job, with an element
 pub record HasElement (job : Job) (n index : ℕ) : Type 0 where

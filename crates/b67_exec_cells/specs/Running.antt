@@ -1,12 +1,8 @@
 -- The code of the running segment, and the operator at the running place.
 use Rattle.std.specs.Prelude.{◌≡◌, ℕ, ◌+◌, length, true, Option, Some, None}
 use Rattle.b67_ctl.specs.declared.descriptors.SegDesc.{SegDesc}
-use Rattle.b67_model.specs.Operators.{Reading}
-use Rattle.b67_model.specs.State.{Task, SessionJob}
-use Rattle.b67_model.specs.Rows.{code_of, reading_of}
-use Rattle.b67_stack.specs.Shapes.{Location}
-use Rattle.b67_stack.specs.MachineView.{is_present, address_or}
-use Rattle.b67_stack.specs.Represents.{Storage}
+use Rattle.b67_model.specs.Common.{Reading, Task, SessionJob, code_of, reading_of}
+use Rattle.b67_stack.specs.Common.{Location, is_present, address_or, Storage}
 use Rattle.b67_layout.specs.Placement.{Placement}
 
 -- how the running segment is held

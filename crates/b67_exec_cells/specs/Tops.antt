@@ -6,9 +6,7 @@ use Rattle.b67_word.specs.declared.faults.Fault.{Fault}
 use Rattle.b67_word.specs.declared.faults.Fault.TheVariants.{StackUnderflow}
 use Rattle.b67_lemmas.specs.Lists.{Has}
 use Rattle.b67_model.specs.Words as Words
-use Rattle.b67_model.specs.Words.{Word, Operand, Name, Ref, Row, Element, Original, Proc, Intrinsic}
-use Rattle.b67_model.specs.State.{Array, Task, Job, SessionJob}
-use Rattle.b67_model.specs.Intrinsics.{is_original}
+use Rattle.b67_model.specs.Common.{Word, Operand, Name, Ref, Row, Element, Original, Proc, Intrinsic, Array, Task, Job, SessionJob, is_original}
 use Rattle.b67_stack.specs.declared.Cpu.{Cpu}
 use Rattle.b67_stack.specs.Represents.{Storage}
 use Rattle.b67_layout.specs.Placement.{Placement}

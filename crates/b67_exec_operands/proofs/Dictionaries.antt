@@ -13,26 +13,12 @@ use Rattle.b67_ctl.specs.Layout.{pcw_word}
 use Rattle.b67_lemmas.specs.Lists.{Has}
 use Rattle.b67_lemmas.proofs.Members.{all_in, has_get, has_reverse_back, keyed_has}
 use Rattle.b67_lemmas.proofs.Places.{get_within}
-use Rattle.b67_model.specs.Words.{Word, Original}
-use Rattle.b67_model.specs.State.{Array, Segment, Task, SessionJob}
-use Rattle.b67_model.specs.Run.{number_of}
+use Rattle.b67_model.specs.Common.{Word, Original, Array, Segment, Task, SessionJob, number_of, leaves_cells, is_proc, proc_of, mpcw, Session, OwnsArray, EntryInOrder, DictionaryWords}
 use Rattle.b67_word.specs.declared.faults.Fault.TheVariants.{InvalidOperator}
-use Rattle.b67_model.specs.Steps.{leaves_cells}
-use Rattle.b67_model.specs.Rows.{is_proc, proc_of, mpcw}
-use Rattle.b67_model.specs.Schedule.{Session}
-use Rattle.b67_model.specs.InOrder.{OwnsArray, EntryInOrder, DictionaryWords}
-use Rattle.b67_layout.specs.Orders.{IsInOrderButCounts}
+use Rattle.b67_layout.specs.Common.{IsInOrderButCounts, Placement, code_objects, array_object, IsRunning, RepresentsSession, here, IsWordOf, cells}
 use Rattle.b67_stack.specs.declared.Cpu.{Cpu}
-use Rattle.b67_stack.specs.Shapes.{Location}
-use Rattle.b67_stack.specs.MachineView.{home_word_of, home_word}
-use Rattle.b67_stack.specs.Represents.{Storage}
-use Rattle.b67_layout.specs.Placement.{Placement}
-use Rattle.b67_layout.specs.Layout.{code_objects, array_object}
-use Rattle.b67_layout.specs.Session.{IsRunning, RepresentsSession}
-use Rattle.b67_layout.specs.Meets.{here}
-use Rattle.b67_layout.proofs.Fresh.{running_in_order}
-use Rattle.b67_layout.proofs.Sessions.{code_object, entry_row, words_enough}
-use Rattle.b67_layout.specs.Tops.{IsWordOf, cells}
+use Rattle.b67_stack.specs.Common.{Location, home_word_of, home_word, Storage}
+use Rattle.b67_layout.proofs.Common.{running_in_order, code_object, entry_row, words_enough}
 use Rattle.b67_exec_cells.proofs.Replaced.{member_objects, before, array_object-has}
 
 -- the words after the segments are originals

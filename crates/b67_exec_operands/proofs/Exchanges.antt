@@ -6,30 +6,14 @@ use Rattle.b67_word.specs.declared.couples.Place.{Place}
 use Rattle.b67_word.specs.declared.faults.Fault.TheVariants.{InvalidOperand}
 use Rattle.b67_core.proofs.Writes.{slice_get-set_other}
 use Rattle.b67_ctl.specs.declared.registers.Regs.{Regs}
-use Rattle.b67_model.specs.Answers.{Answer, ◌>>=◌}
-use Rattle.b67_model.specs.Words.{Word}
-use Rattle.b67_model.specs.State.{Task, SessionJob}
-use Rattle.b67_model.specs.Run.{number_of}
-use Rattle.b67_model.specs.Schedule.{Session}
-use Rattle.b67_layout.specs.Orders.{IsInOrderButCounts}
-use Rattle.b67_model.specs.Steps.{Done, leaves_cells}
-use Rattle.b67_model.specs.Rows.{on_cells, exch}
-use Rattle.b67_model.specs.Intrinsics.{is_original}
+use Rattle.b67_model.specs.Common.{Answer, ◌>>=◌, Word, Task, SessionJob, number_of, Session, Done, leaves_cells, on_cells, exch, is_original}
+use Rattle.b67_layout.specs.Common.{IsInOrderButCounts, Placement, spot_in, outer_spots, machine_view, IsRunning, RepresentsSession, here, IsMade, IsWordOf, cells}
 use Rattle.b67_stack.specs.declared.Cpu.{Cpu}
-use Rattle.b67_stack.specs.Shapes.{Shape, Fits}
-use Rattle.b67_stack.specs.Stacks.{Activation}
-use Rattle.b67_stack.specs.MachineView.{MachineView, RunsOn, NoOriginalAboveTop}
-use Rattle.b67_stack.specs.Represents.{Storage, Represents}
-use Rattle.b67_stack.specs.Changes.{with_stack, with_cells, top_cells, MayPush}
+use Rattle.b67_stack.specs.Common.{Shape, Fits, Activation, MachineView, RunsOn, NoOriginalAboveTop, Storage, Represents, with_stack, with_cells, top_cells, MayPush}
 use Rattle.b67_stack.proofs.Cells.{with_stack-twice}
 use Rattle.b67_stack.proofs.Pushes.{RunsOn-with}
 use Rattle.b67_stack.proofs.Slots.{running_fits}
-use Rattle.b67_layout.specs.Placement.{Placement, spot_in, outer_spots}
-use Rattle.b67_layout.specs.Layout.{machine_view}
-use Rattle.b67_layout.specs.Session.{IsRunning, RepresentsSession}
-use Rattle.b67_layout.specs.Meets.{here, IsMade}
 use Rattle.b67_layout.proofs.Settles as Settles
-use Rattle.b67_layout.specs.Tops.{IsWordOf, cells}
 use Rattle.b67_exec_cells.specs.Tops.{GivesTwo, MayStand}
 use Rattle.b67_exec_cells.proofs.Replaced.{Represents-put, shapes_plain, may_push, height-with}
 use Rattle.b67_exec_cells.proofs.Put.{stack, shaped, runs_here, room, tops, seen, made_cells}

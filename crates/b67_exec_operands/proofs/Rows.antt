@@ -6,26 +6,14 @@ use Rattle.b67_word.specs.Tagged.{Tagged, word}
 use Rattle.b67_word.specs.declared.couples.Place.{Place}
 use Rattle.b67_word.specs.declared.faults.Fault.{Fault}
 use Rattle.b67_word.specs.declared.faults.Fault.TheVariants.{StackUnderflow, InvalidOperand}
-use Rattle.b67_model.specs.Answers.{Answer, ◌>>=◌}
+use Rattle.b67_model.specs.Common.{Answer, ◌>>=◌, Word, Operand, Name, Ref, Row, Element, Original, Proc, Intrinsic, operand, Frame, Array, Task, Job, SessionJob, top, Starts, IsSegment, Known, known_of, outer_of, FramesInOrder, WordInOrder, Binary, Done, leaves_cells, is_original, Session, CellRow, on_one, on_two, on_cells, dlet, dupl}
 use Rattle.b67_model.specs.Words as Words
-use Rattle.b67_model.specs.Words.{Word, Operand, Name, Ref, Row, Element, Original, Proc, Intrinsic, operand}
-use Rattle.b67_model.specs.State.{Frame, Array, Task, Job, SessionJob, top}
-use Rattle.b67_model.specs.InOrder.{Starts, IsSegment, Known, known_of, outer_of, FramesInOrder, WordInOrder}
-use Rattle.b67_layout.specs.Orders.{IsInOrderButCounts}
-use Rattle.b67_model.specs.Arithmetic.{Binary}
-use Rattle.b67_model.specs.Steps.{Done, leaves_cells}
-use Rattle.b67_model.specs.Intrinsics.{is_original}
-use Rattle.b67_model.specs.Schedule.{Session}
-use Rattle.b67_model.specs.Rows.{CellRow, on_one, on_two, on_cells, dlet, dupl}
+use Rattle.b67_layout.specs.Common.{IsInOrderButCounts, Placement, IsRunning, here, IsMade, Meets, RunsSome, IsWordOf, cells, GivesTop}
 use Rattle.b67_arith.specs.OnWords.{bits_in, on_word, on_words}
 use Rattle.b67_stack.specs.declared.Cpu.{Cpu}
 use Rattle.b67_stack.specs.declared.Step.{Step}
 use Rattle.b67_stack.specs.Represents.{Storage}
-use Rattle.b67_layout.specs.Placement.{Placement}
-use Rattle.b67_layout.specs.Session.{IsRunning}
-use Rattle.b67_layout.specs.Meets.{here, IsMade, Meets, RunsSome}
 use Rattle.b67_layout.proofs.Fresh.{running_in_order}
-use Rattle.b67_layout.specs.Tops.{IsWordOf, cells, GivesTop}
 use Rattle.b67_exec_cells.specs.Tops.{GivesTwo, MayStand, NoOriginals}
 use Rattle.b67_exec_cells.proofs.Put.{room}
 use Rattle.b67_layout.proofs.PlainOperands.{plain_operand}

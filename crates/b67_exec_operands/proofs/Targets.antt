@@ -6,17 +6,10 @@ use Rattle.b67_word.specs.Operands.{bit}
 use Rattle.b67_word.specs.declared.couples.Place.{Place}
 use Rattle.b67_word.specs.declared.faults.Fault.{Fault}
 use Rattle.b67_word.specs.declared.faults.Fault.TheVariants.{StackUnderflow, InvalidOperand}
-use Rattle.b67_model.specs.Answers.{Answer}
-use Rattle.b67_model.specs.Words.{Word, operand}
-use Rattle.b67_model.specs.State.{Task, SessionJob, OperatorContext}
-use Rattle.b67_model.specs.Schedule.{Session}
-use Rattle.b67_model.specs.Steps.{Done, leaves_cells}
-use Rattle.b67_model.specs.Rows.{branches, branch_if}
+use Rattle.b67_model.specs.Common.{Answer, Word, operand, Task, SessionJob, OperatorContext, Session, Done, leaves_cells, branches, branch_if}
 use Rattle.b67_stack.specs.declared.Cpu.{Cpu}
 use Rattle.b67_stack.specs.Represents.{Storage}
-use Rattle.b67_layout.specs.Placement.{Placement}
-use Rattle.b67_layout.specs.Meets.{here, IsMade}
-use Rattle.b67_layout.specs.Tops.{IsWordOf, cells, GivesTop}
+use Rattle.b67_layout.specs.Common.{Placement, here, IsMade, IsWordOf, cells, GivesTop}
 use Rattle.b67_layout.proofs.PlainOperands.{plain_operand}
 use Rattle.b67_exec_operands.proofs.Rows.{Drops, an_operand, no_operand}
 

@@ -7,25 +7,12 @@ use Rattle.b67_core.proofs.Writes.{slice_get-set_other}
 use Rattle.b67_word.specs.Tagged.{word}
 use Rattle.b67_word.specs.declared.couples.Place.{Place}
 use Rattle.b67_model.specs.Keyed.{keyed}
-use Rattle.b67_model.specs.Words.{Word, Operand}
-use Rattle.b67_model.specs.State.{Array, Task, Job, SessionJob, with_task}
-use Rattle.b67_model.specs.Arrays.{array, no_array, with_element, with_number}
-use Rattle.b67_model.specs.Schedule.{Session}
-use Rattle.b67_model.specs.Steps.{Goes, with_cells}
-use Rattle.b67_layout.specs.Orders.{IsInOrderButCounts}
+use Rattle.b67_model.specs.Common.{Word, Operand, Array, Task, Job, SessionJob, with_task, array, no_array, with_element, with_number, Session, Goes, with_cells}
+use Rattle.b67_layout.specs.Common.{IsInOrderButCounts, Placement, IsRunning, RepresentsSession, RepresentsSessionBut, here, with_job, IsMade, cells}
 use Rattle.b67_stack.specs.declared.Cpu.{Cpu}
 use Rattle.b67_stack.specs.MachineView.{PagedObject}
 use Rattle.b67_stack.specs.Represents.{Storage}
-use Rattle.b67_layout.specs.Placement.{Placement}
-use Rattle.b67_layout.specs.Session.{IsRunning, RepresentsSession, RepresentsSessionBut}
-use Rattle.b67_layout.specs.Meets.{here, with_job, IsMade}
-use Rattle.b67_layout.proofs.Fresh.{fresh}
-use Rattle.b67_layout.proofs.Gone.{no_objects_gone}
-use Rattle.b67_layout.proofs.MachineViews.{with_course}
-use Rattle.b67_layout.proofs.Steps.{IsFree}
-use Rattle.b67_layout.proofs.Whole.{task_with}
-use Rattle.b67_layout.proofs.Sessions.{course_twice}
-use Rattle.b67_layout.specs.Tops.{cells}
+use Rattle.b67_layout.proofs.Common.{fresh, no_objects_gone, with_course, IsFree, task_with, course_twice}
 use Rattle.b67_exec_cells.specs.Tops.{NoOriginals}
 use Rattle.b67_exec_cells.proofs.Put.{room, registers}
 use Rattle.b67_layout_store.proofs.Arrays.{number_renumbers}

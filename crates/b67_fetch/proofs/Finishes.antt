@@ -4,24 +4,12 @@ use Rattle.std.proofs.lemmas.List.{map-append, length-map}
 use Rattle.b67_core.proofs.Writes.{slice_get-set_other}
 use Rattle.b67_word.specs.Tagged.{word}
 use Rattle.b67_word.specs.declared.couples.Place.{Place}
-use Rattle.b67_model.specs.Words.{Word, Operand}
-use Rattle.b67_model.specs.State.{Task, SessionJob}
-use Rattle.b67_model.specs.Run.{number_of}
-use Rattle.b67_model.specs.Schedule.{Session}
+use Rattle.b67_model.specs.Common.{Word, Operand, Task, SessionJob, number_of, Session}
 use Rattle.b67_stack.specs.declared.Cpu.{Cpu}
-use Rattle.b67_stack.specs.Shapes.{Shape, Is}
-use Rattle.b67_stack.specs.Stacks.{Activation}
-use Rattle.b67_stack.specs.MachineView.{RunsOn}
-use Rattle.b67_stack.specs.Represents.{Storage, RepresentsRunning, Represents}
-use Rattle.b67_stack.specs.Changes.{with_stack, with_cells, top_cells}
+use Rattle.b67_stack.specs.Common.{Shape, Is, Activation, RunsOn, Storage, RepresentsRunning, Represents, with_stack, with_cells, top_cells}
 use Rattle.b67_stack.proofs.Slots.{running_slot}
-use Rattle.b67_layout.specs.Placement.{Placement, spot_in, outer_spots}
-use Rattle.b67_layout.specs.Layout.{shape, stack_of_task, machine_view}
-use Rattle.b67_layout.specs.Session.{IsRunning, RepresentsSession}
-use Rattle.b67_layout.proofs.Rows.{runs_on}
-use Rattle.b67_layout.proofs.Steps.{IsFree}
-use Rattle.b67_layout.proofs.Whole.{session_with, RepresentsSession-cells}
-use Rattle.b67_layout.specs.Tops.{cells}
+use Rattle.b67_layout.specs.Common.{Placement, spot_in, outer_spots, shape, stack_of_task, machine_view, IsRunning, RepresentsSession, cells}
+use Rattle.b67_layout.proofs.Common.{runs_on, IsFree, session_with, RepresentsSession-cells}
 use Rattle.b67_exec_cells.specs.Tops.{NoOriginals}
 use Rattle.b67_exec_cells.proofs.Replaced.{cells-are, shapes_plain, Represents-less, Represents-put}
 use Rattle.b67_lemmas.proofs.Members.{keyed_has}

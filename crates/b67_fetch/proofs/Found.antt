@@ -8,15 +8,10 @@ use Rattle.b67_word.specs.declared.faults.Fault.{Fault}
 use Rattle.b67_word.specs.declared.faults.Fault.TheVariants.{InvalidOperand}
 use Rattle.b67_ctl.specs.declared.descriptors.DataDesc.{DataDesc}
 use Rattle.b67_ctl.specs.Descriptors.{data_word, IsDataDesc}
-use Rattle.b67_model.specs.Answers.{Answer, ◌>>=◌}
+use Rattle.b67_model.specs.Common.{Answer, ◌>>=◌, Word, Operand, Name, Ref, Row, Element, Original, Proc, Intrinsic, Task, SessionJob, AtCell, AtElement, AtArray, AtProc, AtIntrinsic, follow, array_of, array_at, Session}
 use Rattle.b67_model.specs.Words as Words
-use Rattle.b67_model.specs.Words.{Word, Operand, Name, Ref, Row, Element, Original, Proc, Intrinsic}
-use Rattle.b67_model.specs.State.{Task, SessionJob}
 use Rattle.b67_model.specs.Chase as Chase
-use Rattle.b67_model.specs.Chase.{AtCell, AtElement, AtArray, AtProc, AtIntrinsic, follow}
-use Rattle.b67_model.specs.Indexing.{array_of, array_at}
-use Rattle.b67_model.specs.Schedule.{Session}
-use Rattle.b67_layout.specs.Orders.{IsInOrderButCounts}
+use Rattle.b67_layout.specs.Common.{IsInOrderButCounts, Placement, IsRunning, RepresentsSession, here}
 use Rattle.b67_refer.specs.declared.ends.End.{End}
 use Rattle.b67_refer.specs.declared.ends.End.TheVariants as end
 use Rattle.b67_refer.specs.Ends.{IsCopyOf}
@@ -24,9 +19,6 @@ use Rattle.b67_refer.proofs.Items.{not_empty}
 use Rattle.b67_refer.proofs.Links.{Described, own, row, item, described}
 use Rattle.b67_stack.specs.declared.Cpu.{Cpu}
 use Rattle.b67_stack.specs.Represents.{Storage}
-use Rattle.b67_layout.specs.Placement.{Placement}
-use Rattle.b67_layout.specs.Session.{IsRunning, RepresentsSession}
-use Rattle.b67_layout.specs.Meets.{here}
 use Rattle.b67_refer.specs.RunningContext.{live_of}
 use Rattle.b67_fetch.specs.Fetches.{IsFollowed, FindsEnd}
 use Rattle.b67_fetch.proofs.Values.{here_scene, followed_stands}

@@ -8,26 +8,14 @@ use Rattle.b67_word.specs.declared.couples.Place.{Place}
 use Rattle.b67_word.specs.declared.faults.Fault.{Fault}
 use Rattle.b67_word.specs.declared.faults.Fault.TheVariants.{StackUnderflow, InvalidIndex}
 use Rattle.b67_arith.specs.OnWords.{bits_in}
-use Rattle.b67_model.specs.Answers.{Answer, ◌>>=◌}
+use Rattle.b67_model.specs.Common.{Answer, ◌>>=◌, Word, Operand, Name, Ref, Row, Element, Original, Proc, Intrinsic, operand, number, array, array_of, index_below, indexed, in_order, is_original, Array, Frame, Task, SessionJob, top, Session, Done, Starts, IsSegment, Known, known_of, outer_of, FramesInOrder, WordInOrder}
 use Rattle.b67_model.specs.Words as Words
-use Rattle.b67_model.specs.Words.{Word, Operand, Name, Ref, Row, Element, Original, Proc, Intrinsic, operand, number}
-use Rattle.b67_model.specs.Arrays.{array}
-use Rattle.b67_model.specs.Indexing.{array_of, index_below, indexed, in_order}
-use Rattle.b67_model.specs.Intrinsics.{is_original}
-use Rattle.b67_model.specs.State.{Array, Frame, Task, SessionJob, top}
-use Rattle.b67_model.specs.Schedule.{Session}
-use Rattle.b67_model.specs.Steps.{Done}
-use Rattle.b67_model.specs.InOrder.{Starts, IsSegment, Known, known_of, outer_of, FramesInOrder, WordInOrder}
-use Rattle.b67_layout.specs.Orders.{IsInOrderButCounts}
+use Rattle.b67_layout.specs.Common.{IsInOrderButCounts, Placement, IsRunning, RepresentsSession, here, Meets, RunsSome, IsWordOf, cells}
 use Rattle.b67_ctl.specs.declared.descriptors.DataDesc.{DataDesc}
 use Rattle.b67_stack.specs.declared.Cpu.{Cpu}
 use Rattle.b67_stack.specs.declared.Step.{Step}
 use Rattle.b67_stack.specs.Represents.{Storage}
-use Rattle.b67_layout.specs.Placement.{Placement}
-use Rattle.b67_layout.specs.Session.{IsRunning, RepresentsSession}
-use Rattle.b67_layout.specs.Meets.{here, Meets, RunsSome}
 use Rattle.b67_layout.proofs.Fresh.{running_in_order}
-use Rattle.b67_layout.specs.Tops.{IsWordOf, cells}
 use Rattle.b67_exec_cells.specs.Tops.{GivesTwo, NoOriginals}
 use Rattle.b67_layout.proofs.PlainOperands.{plain_operand}
 use Rattle.b67_exec_cells.specs.Elements.{HasElement, HoldsElement, original_desc}

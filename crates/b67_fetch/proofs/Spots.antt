@@ -6,9 +6,7 @@ use Rattle.std.proofs.lemmas.Option.{same_Some, slice_get_within}
 use Rattle.b67_word.specs.Tagged.{Tagged, bits_at}
 use Rattle.b67_ctl.specs.declared.registers.Regs.{Regs}
 use Rattle.b67_ctl.specs.declared.references.Sirw.{Sirw}
-use Rattle.b67_model.specs.InOrder.{NamesEntered, reach_of}
-use Rattle.b67_model.specs.State.{height}
-use Rattle.b67_model.specs.Run.{number_of}
+use Rattle.b67_model.specs.Common.{NamesEntered, reach_of, height, number_of}
 use Rattle.b67_stack.specs.Stacks.{StackPlace}
 use Rattle.b67_layout.specs.Placement.{Placement}
 use Rattle.b67_layout.specs.Session.{vector_word}

@@ -3,23 +3,15 @@ use Rattle.std.proofs.Common.{◌≡◌, ℕ, Result, Ok, subst}
 use Rattle.b67_word.specs.Tagged.{Tagged, word}
 use Rattle.b67_word.specs.declared.couples.Place.{Place}
 use Rattle.b67_word.specs.declared.faults.Fault.{Fault}
-use Rattle.b67_model.specs.Indexing.{in_order}
-use Rattle.b67_model.specs.Chase.{follow}
-use Rattle.b67_layout.specs.Orders.{IsInOrderButCounts}
-use Rattle.b67_model.specs.Schedule.{Session}
-use Rattle.b67_model.specs.State.{Task, SessionJob}
-use Rattle.b67_model.specs.Words.{Word, Operand}
+use Rattle.b67_model.specs.Common.{in_order, follow, Session, Task, SessionJob, Word, Operand}
+use Rattle.b67_layout.specs.Common.{IsInOrderButCounts, Placement, IsRunning, RepresentsSession, here, cells}
 use Rattle.b67_stack.specs.declared.Cpu.{Cpu}
 use Rattle.b67_stack.specs.declared.Step.{Step}
 use Rattle.b67_stack.specs.Represents.{Storage}
-use Rattle.b67_layout.specs.Placement.{Placement}
-use Rattle.b67_layout.specs.Session.{IsRunning, RepresentsSession}
-use Rattle.b67_layout.specs.Meets.{here}
 use Rattle.b67_refer.specs.RunningContext.{RunningContext, IsShown}
 use Rattle.b67_refer.specs.Cells.{StandsFor}
 use Rattle.b67_refer.specs.Ends.{EndMeets}
 use Rattle.b67_refer.specs.declared.ends.End.{End}
-use Rattle.b67_layout.specs.Tops.{cells}
 use Rattle.b67_exec_cells.specs.Tops.{GivesTwo}
 use Rattle.b67_exec_cells.specs.Elements.{HasElement}
 use Rattle.b67_fetch.specs.Stores.{ElementAt}

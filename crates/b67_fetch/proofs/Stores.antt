@@ -7,34 +7,22 @@ use Rattle.b67_word.specs.Tagged.{Tagged, word}
 use Rattle.b67_word.specs.declared.couples.Place.{Place}
 use Rattle.b67_word.specs.declared.faults.Fault.{Fault}
 use Rattle.b67_word.specs.declared.faults.Fault.TheVariants.{InvalidOperand, MemoryProtect, StackOverflow}
-use Rattle.b67_model.specs.Answers.{Answer, ◌>>=◌}
-use Rattle.b67_model.specs.Arrays.{array, no_array, with_element}
-use Rattle.b67_model.specs.Indexing.{in_order}
+use Rattle.b67_model.specs.Common.{Answer, ◌>>=◌, array, no_array, with_element, in_order, AtCell, AtElement, AtArray, AtProc, AtIntrinsic, follow, Word, Operand, operand, Frame, Array, Task, SessionJob, height, with_top_cells, with_task, Session, Done, Goes, cells_of, with_cells, store_at}
 use Rattle.b67_model.specs.Keyed.{keyed}
 use Rattle.b67_model.specs.Chase as Chase
-use Rattle.b67_model.specs.Chase.{AtCell, AtElement, AtArray, AtProc, AtIntrinsic, follow}
-use Rattle.b67_layout.specs.Orders.{IsInOrderButCounts}
-use Rattle.b67_model.specs.Words.{Word, Operand, operand}
-use Rattle.b67_model.specs.State.{Frame, Array, Task, SessionJob, height, with_top_cells, with_task}
-use Rattle.b67_model.specs.Schedule.{Session}
-use Rattle.b67_model.specs.Steps.{Done, Goes, cells_of, with_cells}
+use Rattle.b67_layout.specs.Common.{IsInOrderButCounts, Placement, IsRunning, RepresentsSession, here, IsMade, Meets, cells}
 use Rattle.b67_model.specs.Rows as rows
-use Rattle.b67_model.specs.Rows.{store_at}
 use Rattle.b67_stack.specs.declared.Cpu.{Cpu}
 use Rattle.b67_stack.specs.declared.Step.{Step}
 use Rattle.b67_stack.specs.declared.Step.TheVariants as step
 use Rattle.b67_stack.specs.declared.What.TheVariants as what
 use Rattle.b67_stack.specs.Represents.{Storage}
-use Rattle.b67_layout.specs.Placement.{Placement}
-use Rattle.b67_layout.specs.Session.{IsRunning, RepresentsSession}
-use Rattle.b67_layout.specs.Meets.{here, IsMade, Meets}
 use Rattle.b67_layout.proofs.Fresh.{running_in_order}
 use Rattle.b67_refer.specs.declared.ends.End.TheVariants as end
 use Rattle.b67_refer.specs.RunningContext.{RunningContext, live_of}
 use Rattle.b67_refer.specs.Cells.{IsCellAt}
 use Rattle.b67_refer.specs.Ends.{EndMeets, IsElementOf}
 use Rattle.b67_refer.proofs.Items.{array_is as item_is}
-use Rattle.b67_layout.specs.Tops.{cells}
 use Rattle.b67_exec_cells.specs.Tops.{GivesTwo, NoOriginals}
 use Rattle.b67_exec_cells.proofs.Put.{fitting, room}
 use Rattle.b67_exec_cells.specs.Elements.{HasElement, HoldsElement}

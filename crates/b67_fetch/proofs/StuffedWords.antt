@@ -10,26 +10,13 @@ use Rattle.b67_word.specs.declared.faults.Fault.TheVariants.{InvalidOperand}
 use Rattle.b67_ctl.specs.declared.references.Irw.{Irw}
 use Rattle.b67_ctl.specs.declared.references.Sirw.{Sirw}
 use Rattle.b67_ctl.specs.Layout.{irw_word, IsIrw, sirw_word}
-use Rattle.b67_model.specs.Answers.{Answer, ◌>>=◌}
-use Rattle.b67_model.specs.Cells.{cell, named, place_of}
-use Rattle.b67_model.specs.Environment.{frame_at}
-use Rattle.b67_model.specs.InOrder.{NamesEntered, reach_of}
-use Rattle.b67_layout.specs.Orders.{IsInOrderButCounts}
-use Rattle.b67_model.specs.Intrinsics.{is_original}
-use Rattle.b67_model.specs.Rows.{on_cells, stff, stff_word}
-use Rattle.b67_model.specs.Schedule.{Session}
-use Rattle.b67_model.specs.State.{Task, SessionJob}
-use Rattle.b67_model.specs.Steps.{leaves_cells}
+use Rattle.b67_model.specs.Common.{Answer, ◌>>=◌, cell, named, place_of, frame_at, NamesEntered, reach_of, is_original, on_cells, stff, stff_word, Session, Task, SessionJob, leaves_cells, Word, Operand, Name, Ref, Row, Element, Original, Proc, Intrinsic}
+use Rattle.b67_layout.specs.Common.{IsInOrderButCounts, Placement, IsRunning, RepresentsSession, frame_address, here, Meets, cells}
 use Rattle.b67_model.specs.Words as Words
-use Rattle.b67_model.specs.Words.{Word, Operand, Name, Ref, Row, Element, Original, Proc, Intrinsic}
 use Rattle.b67_stack.specs.declared.Cpu.{Cpu}
 use Rattle.b67_stack.specs.declared.Step.{Step}
 use Rattle.b67_stack.specs.declared.Step.TheVariants as step
 use Rattle.b67_stack.specs.Represents.{Storage}
-use Rattle.b67_layout.specs.Placement.{Placement}
-use Rattle.b67_layout.specs.Session.{IsRunning, RepresentsSession, frame_address}
-use Rattle.b67_layout.specs.Meets.{here, Meets}
-use Rattle.b67_layout.specs.Tops.{cells}
 use Rattle.b67_refer.specs.Cells.{StandsFor, FindsCell, CellMeets, view}
 use Rattle.b67_refer.specs.Ends.{IsReference}
 use Rattle.b67_refer.proofs.Chains.{level_is}

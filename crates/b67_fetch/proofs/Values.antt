@@ -7,18 +7,10 @@ use Rattle.b67_word.specs.Tagged.{Tagged}
 use Rattle.b67_word.specs.declared.couples.Place.{Place}
 use Rattle.b67_word.specs.declared.faults.Fault.{Fault}
 use Rattle.b67_word.specs.declared.faults.Fault.TheVariants.{StackUnderflow, StackOverflow}
-use Rattle.b67_model.specs.Answers.{Answer, ◌>>=◌, ◌>>◌, needs}
-use Rattle.b67_model.specs.Entry.{evaluates}
-use Rattle.b67_model.specs.Intrinsics.{is_original}
+use Rattle.b67_model.specs.Common.{Answer, ◌>>=◌, ◌>>◌, needs, evaluates, is_original, AtCell, AtElement, AtArray, AtProc, AtIntrinsic, chase, follow, Word, Operand, Name, Ref, Row, Element, Original, Proc, Intrinsic, Frame, Array, Task, Job, SessionJob, top, with_top_cells, height, with_task, Starts, IsSegment, Known, known_of, outer_of, reach_of, FramesInOrder, WordInOrder, Session, Done, Goes, leaves_cells}
 use Rattle.b67_model.specs.Chase as Chase
-use Rattle.b67_model.specs.Chase.{AtCell, AtElement, AtArray, AtProc, AtIntrinsic, chase, follow}
 use Rattle.b67_model.specs.Words as Words
-use Rattle.b67_model.specs.Words.{Word, Operand, Name, Ref, Row, Element, Original, Proc, Intrinsic}
-use Rattle.b67_model.specs.State.{Frame, Array, Task, Job, SessionJob, top, with_top_cells, height, with_task}
-use Rattle.b67_model.specs.InOrder.{Starts, IsSegment, Known, known_of, outer_of, reach_of, FramesInOrder, WordInOrder}
-use Rattle.b67_layout.specs.Orders.{IsInOrderButCounts}
-use Rattle.b67_model.specs.Schedule.{Session}
-use Rattle.b67_model.specs.Steps.{Done, Goes, leaves_cells}
+use Rattle.b67_layout.specs.Common.{IsInOrderButCounts, Placement, IsRunning, RepresentsSession, here, IsPresent, IsTouched, IsMade, FindsAbsent, Meets, RunsSome, area_held, IsWordOf, cells, GivesTop}
 use Rattle.b67_model.specs.Rows as rows
 use Rattle.b67_refer.specs.declared.ends.End.{End}
 use Rattle.b67_refer.specs.declared.ends.End.TheVariants as end
@@ -31,13 +23,9 @@ use Rattle.b67_stack.specs.declared.Step.{Step}
 use Rattle.b67_stack.specs.declared.Step.TheVariants as step
 use Rattle.b67_stack.specs.declared.What.TheVariants as what
 use Rattle.b67_stack.specs.Represents.{Storage}
-use Rattle.b67_layout.specs.Placement.{Placement}
-use Rattle.b67_layout.specs.Session.{IsRunning, RepresentsSession}
-use Rattle.b67_layout.specs.Meets.{here, IsPresent, IsTouched, IsMade, FindsAbsent, Meets, RunsSome, area_held}
 use Rattle.b67_layout.proofs.Whole.{task_with}
 use Rattle.b67_layout.proofs.Fresh.{running_in_order}
 use Rattle.b67_refer.proofs.Items.{array_is, not_empty}
-use Rattle.b67_layout.specs.Tops.{IsWordOf, cells, GivesTop}
 use Rattle.b67_exec_cells.specs.Elements.{HasElement, HoldsElement}
 use Rattle.b67_exec_cells.proofs.Put.{fitting}
 use Rattle.b67_fetch.specs.Fetches.{IsFollowed, IsEnd, SomeEnd, FindsEnd, value_of, enters, enters_at, EntersOrMeets, top_end}

@@ -2,23 +2,14 @@
 use Rattle.std.proofs.Common.{◌≡◌, ◌≢◌, ℕ, ◌-◌, List, [], ◌∷◌, ◌++◌, map, Ok, Err, refl, sym, ◌∙◌, ap, arith, false, inl, inr, ◌⊎◌, subst}
 use Rattle.b67_word.specs.Tagged.{Tagged, word}
 use Rattle.b67_word.specs.declared.faults.Fault.TheVariants.{InvalidOperand}
-use Rattle.b67_model.specs.Indexing.{in_order}
-use Rattle.b67_model.specs.Chase.{End, follow}
-use Rattle.b67_model.specs.InOrder.{IsSegment, known_of, outer_of, FramesInOrder, WordInOrder}
-use Rattle.b67_layout.specs.Orders.{IsInOrderButCounts}
-use Rattle.b67_model.specs.Intrinsics.{is_original}
+use Rattle.b67_model.specs.Common.{in_order, End, follow, IsSegment, known_of, outer_of, FramesInOrder, WordInOrder, is_original, Word, Operand, Name, Ref, Row, Element, Original, Proc, Intrinsic, operand, Session, Frame, Task, SessionJob, OperatorContext, top}
+use Rattle.b67_layout.specs.Common.{IsInOrderButCounts, Placement, IsRunning, IsWordOf, IsAt, cells}
 use Rattle.b67_lemmas.specs.Lists.{Has}
 use Rattle.b67_lemmas.proofs.Members.{all_in}
 use Rattle.b67_model.specs.Words as Words
-use Rattle.b67_model.specs.Words.{Word, Operand, Name, Ref, Row, Element, Original, Proc, Intrinsic, operand}
-use Rattle.b67_model.specs.Schedule.{Session}
-use Rattle.b67_model.specs.State.{Frame, Task, SessionJob, OperatorContext, top}
 use Rattle.b67_stack.specs.declared.Cpu.{Cpu}
 use Rattle.b67_stack.specs.Represents.{Storage}
-use Rattle.b67_layout.specs.Placement.{Placement}
-use Rattle.b67_layout.specs.Session.{IsRunning}
 use Rattle.b67_layout.proofs.Fresh.{running_in_order}
-use Rattle.b67_layout.specs.Tops.{IsWordOf, IsAt, cells}
 use Rattle.b67_exec_cells.specs.Tops.{GivesTwo, NoOriginals}
 use Rattle.b67_fetch.specs.Fetches.{IsFollowed}
 

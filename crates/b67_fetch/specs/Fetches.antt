@@ -3,25 +3,15 @@ use Rattle.std.specs.Prelude.{◌≡◌, ℕ, Bool, true, false, List, [], ◌�
 use Rattle.b67_word.specs.Tagged.{Tagged, word}
 use Rattle.b67_word.specs.declared.faults.Fault.{Fault}
 use Rattle.b67_word.specs.declared.faults.Fault.TheVariants.{StackUnderflow, InvalidOperand}
-use Rattle.b67_model.specs.Answers.{Answer, ◌>>=◌}
-use Rattle.b67_model.specs.Arrays.{element}
-use Rattle.b67_model.specs.Indexing.{in_order}
+use Rattle.b67_model.specs.Common.{Answer, ◌>>=◌, element, in_order, AtCell, AtElement, AtArray, AtProc, AtIntrinsic, follow, IsSegment, WordInOrder, reach_of, Word, Operand, operand, Session, Task, SessionJob, OperatorContext, Done, leaves_cells}
 use Rattle.b67_model.specs.Chase as Chase
-use Rattle.b67_model.specs.Chase.{AtCell, AtElement, AtArray, AtProc, AtIntrinsic, follow}
-use Rattle.b67_model.specs.InOrder.{IsSegment, WordInOrder, reach_of}
-use Rattle.b67_model.specs.Words.{Word, Operand, operand}
-use Rattle.b67_model.specs.Schedule.{Session}
-use Rattle.b67_model.specs.State.{Task, SessionJob, OperatorContext}
-use Rattle.b67_model.specs.Steps.{Done, leaves_cells}
 use Rattle.b67_refer.specs.declared.ends.End.{End}
 use Rattle.b67_refer.specs.declared.ends.End.TheVariants as end
 use Rattle.b67_stack.specs.declared.Cpu.{Cpu}
 use Rattle.b67_stack.specs.declared.Step.{Step}
 use Rattle.b67_stack.specs.declared.Step.TheVariants as step
 use Rattle.b67_stack.specs.Represents.{Storage}
-use Rattle.b67_layout.specs.Placement.{Placement}
-use Rattle.b67_layout.specs.Meets.{Meets, RunsSome}
-use Rattle.b67_layout.specs.Tops.{IsWordOf}
+use Rattle.b67_layout.specs.Common.{Placement, Meets, RunsSome, IsWordOf}
 use Rattle.b67_exec_cells.specs.Elements.{HasElement}
 
 -- a word that the running task may follow: it is that of a state's word in order

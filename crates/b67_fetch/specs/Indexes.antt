@@ -2,10 +2,7 @@
 use Rattle.std.specs.Prelude.{◌≡◌, ℕ, List, [], ◌∷◌, Result, Ok, Err}
 use Rattle.b67_word.specs.declared.faults.Fault.{Fault}
 use Rattle.b67_word.specs.declared.faults.Fault.TheVariants.{StackUnderflow, InvalidOperand}
-use Rattle.b67_model.specs.Answers.{Answer, ◌>>=◌}
-use Rattle.b67_model.specs.Words.{Word, number}
-use Rattle.b67_model.specs.State.{SessionJob, OperatorContext}
-use Rattle.b67_model.specs.Indexing.{index_below, indexed, in_order}
+use Rattle.b67_model.specs.Common.{Answer, ◌>>=◌, Word, number, SessionJob, OperatorContext, index_below, indexed, in_order}
 use Rattle.b67_refer.specs.declared.ends.End.{End}
 use Rattle.b67_refer.specs.declared.ends.End.TheVariants as end
 use Rattle.b67_layout.specs.Placement.{Placement}

@@ -3,12 +3,7 @@ use Rattle.std.specs.Prelude.{◌≡◌, ℕ, ◌+◌, ◌-◌, Bool, true, fals
 use Rattle.b67_word.specs.Tagged.{Tagged}
 use Rattle.b67_word.specs.declared.couples.Place.{Place}
 use Rattle.b67_word.specs.declared.faults.Fault.TheVariants.{StackUnderflow, MemoryProtect}
-use Rattle.b67_model.specs.Answers.{Answer, ◌>>=◌}
-use Rattle.b67_model.specs.Arrays.{array}
-use Rattle.b67_model.specs.Indexing.{in_order}
-use Rattle.b67_model.specs.Chase.{End, follow}
-use Rattle.b67_model.specs.Words.{Word, operand}
-use Rattle.b67_model.specs.State.{SessionJob, OperatorContext}
+use Rattle.b67_model.specs.Common.{Answer, ◌>>=◌, array, in_order, End, follow, Word, operand, SessionJob, OperatorContext}
 use Rattle.b67_stack.specs.declared.Cpu.{Cpu}
 use Rattle.b67_stack.specs.declared.Step.{Step}
 use Rattle.b67_stack.specs.declared.Step.TheVariants as step

@@ -4,9 +4,7 @@ use Rattle.std.specs.List.{AllByRecursion}
 use Rattle.b67_codefile.specs.declared.file.Codefile.{Codefile}
 use Rattle.b67_codefile.specs.Meaning.{program_of}
 use Rattle.b67_model_text.specs.declared.deck.Deck.{Deck}
-use Rattle.b67_model.specs.Schedule.{Session}
-use Rattle.b67_model.specs.Run.{RunLine, after, lines}
-use Rattle.b67_model.specs.InOrder.{IsInOrderButPlaces}
+use Rattle.b67_model.specs.Common.{Session, RunLine, after, lines, IsInOrderButPlaces}
 use Rattle.b67_law_order_runs.proofs.Opens.{opens_in_order}
 use Rattle.b67_law_order_runs.proofs.Sessions.{runs_stay_in_order}
 use Rattle.b67_law_sessions.proofs.Makers.{runs_make_their_words}

@@ -6,9 +6,7 @@ use Rattle.std.proofs.lemmas.List.Sums.{sum_by-cons}
 use Rattle.b67_model.specs.Keyed.{keyed}
 use Rattle.b67_lemmas.specs.Lists.{Has}
 use Rattle.b67_lemmas.proofs.Members.{keyed_has}
-use Rattle.b67_model.specs.State.{Task, SessionJob}
-use Rattle.b67_model.specs.Schedule.{Session}
-use Rattle.b67_model.specs.Run.{RunLine, StepResult, next, number_of, live_tasks}
+use Rattle.b67_model.specs.Common.{Task, SessionJob, Session, RunLine, StepResult, next, number_of, live_tasks}
 use Rattle.b67_session_lines.specs.Moments.{first_part, last_part, last_part_if, last_part_by, is_at_limit, has_tasks, joined}
 use Rattle.b67_session_lines.proofs.Joins.{steps-have-parts}
 

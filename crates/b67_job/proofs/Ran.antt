@@ -10,12 +10,7 @@ use Rattle.b67_io.specs.Causes.{Rose}
 use Rattle.b67_io.proofs.Joined.{Took-then}
 use Rattle.b67_lemmas.specs.Lists.{Has}
 use Rattle.b67_lemmas.proofs.Members.{all_in, keyed_has}
-use Rattle.b67_model.specs.State.{Task, SessionJob}
-use Rattle.b67_model.specs.Need.{need}
-use Rattle.b67_model.specs.Lines.{run_text}
-use Rattle.b67_model.specs.Schedule.{Session}
-use Rattle.b67_model.specs.InOrder.{IsSegment, JobInOrder}
-use Rattle.b67_model.specs.Run.{RunLine, StepResult, lines, after, number_of}
+use Rattle.b67_model.specs.Common.{Task, SessionJob, need, run_text, Session, IsSegment, JobInOrder, RunLine, StepResult, lines, after, number_of}
 use Rattle.b67_job_admit.specs.Admitting.{Prepared}
 use Rattle.b67_session.specs.Stops.{Stop}
 use Rattle.b67_session.specs.Stops as stops

@@ -1,9 +1,6 @@
 -- How far the steps of a slice came: whole steps, or all but the line of LIMIT.
 use Rattle.std.proofs.Common.{◌≡◌, ◌≢◌, ℕ, ◌+◌, ◌<◌, List, ◌++◌, length, refl, sym, ap, ◌∙◌, subst, arith, append_assoc, Option, Some, None}
-use Rattle.b67_model.specs.Lines.{run_text}
-use Rattle.b67_model.specs.Schedule.{Session}
-use Rattle.b67_model.specs.InOrder.{IsInOrderButPlaces}
-use Rattle.b67_model.specs.Run.{RunLine, StepResult, lines, after}
+use Rattle.b67_model.specs.Common.{run_text, Session, IsInOrderButPlaces, RunLine, StepResult, lines, after}
 use Rattle.b67_law_turns.proofs.Limits.{no_last}
 use Rattle.b67_law_turns.proofs.Runs.{Came, came-more}
 use Rattle.b67_session.specs.Slices.{Reaches, whole, but_limit}

@@ -3,12 +3,7 @@
 use Rattle.std.specs.Prelude.{◌≡◌, ℕ, ◌+◌, ◌<◌, ◌≤◌, ◌⊎◌, List, ◌++◌, length, Option, Some, None, IfSome}
 use Rattle.b67_io.specs.Line.{ended}
 use Rattle.b67_io.specs.Causes.{Rose}
-use Rattle.b67_model.specs.State.{Task, SessionJob}
-use Rattle.b67_model.specs.Need.{need}
-use Rattle.b67_model.specs.Lines.{run_text}
-use Rattle.b67_model.specs.InOrder.{IsInOrderButPlaces}
-use Rattle.b67_model.specs.Schedule.{Session}
-use Rattle.b67_model.specs.Run.{RunLine, StepResult, lines, after}
+use Rattle.b67_model.specs.Common.{Task, SessionJob, need, run_text, IsInOrderButPlaces, Session, RunLine, StepResult, lines, after}
 use Rattle.b67_exec_cells.specs.Running.{code_area}
 use Rattle.b67_law_turns.specs.Turns.{IsNext}
 use Rattle.b67_session.specs.Passed.{IsLacking, IsShortAt, TakesSectors}

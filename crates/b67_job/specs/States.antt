@@ -1,13 +1,8 @@
 -- The states of a run: in order, with what made their words, and each job apart.
 use Rattle.std.specs.Prelude.{◌≡◌, ℕ, ◌≤◌, List, Some}
 use Rattle.b67_lemmas.specs.Lists.{Has}
-use Rattle.b67_model.specs.Alone.{alone_lines}
-use Rattle.b67_model.specs.Apart.{lines_of_job, makers_from, tasks_of_job}
+use Rattle.b67_model.specs.Common.{alone_lines, lines_of_job, makers_from, tasks_of_job, Frame, Task, SessionJob, Session, IsInOrder, RunLine, number_of, after, next}
 use Rattle.b67_model.specs.Keyed.{keyed}
-use Rattle.b67_model.specs.State.{Frame, Task, SessionJob}
-use Rattle.b67_model.specs.Schedule.{Session}
-use Rattle.b67_model.specs.InOrder.{IsInOrder}
-use Rattle.b67_model.specs.Run.{RunLine, number_of, after, next}
 use Rattle.b67_law_sessions.specs.JobsApart.{alone_after}
 use Rattle.b67_law_sessions.specs.RunMade.{FrameMadeInRun}
 

@@ -5,9 +5,8 @@ use Rattle.b67_codefile.specs.declared.fault.BadFile.TheVariants as bad
 use Rattle.b67_codefile.specs.declared.file.Codefile.{Codefile}
 use Rattle.b67_codefile.specs.Reading.{file_of}
 use Rattle.b67_codefile.specs.Meaning.{program_of}
-use Rattle.b67_model.specs.Program.{Program}
+use Rattle.b67_model.specs.Common.{Program, refusals, first_of}
 use Rattle.b67_model.specs.Loader as loader
-use Rattle.b67_model.specs.Loader.{refusals, first_of}
 use Rattle.b67_model_text.specs.declared.deck.Body.{Body}
 use Rattle.b67_model_text.specs.declared.deck.Body.TheVariants.{Cards, Bytes}
 use Rattle.b67_model_text.specs.declared.deck.Job.{Job}

@@ -3,15 +3,7 @@ use Rattle.std.specs.Prelude.{ℕ, zero, suc, max, ℤ, List, [], ◌∷◌, Opt
 use Rattle.b67_word.specs.declared.faults.Fault.{Fault}
 use Rattle.b67_word.specs.declared.faults.Ending.{Ending}
 use Rattle.b67_word.specs.declared.faults.Ending.TheVariants.{Faulted}
-use Rattle.b67_model.specs.State.{Segment}
-use Rattle.b67_model.specs.Program.{Program, opened}
-use Rattle.b67_model.specs.Steps.{Value, Values, Ends}
-use Rattle.b67_model.specs.Schedule.{Switch, Session}
-use Rattle.b67_model.specs.Run.{RunLine, StepResult, start, next}
-use Rattle.b67_model.specs.Need.{need_next}
-use Rattle.b67_model.specs.Sectors.{sectors}
-use Rattle.b67_model.specs.Loader.{Refusal}
-use Rattle.b67_model.specs.Apart.{makers_from}
+use Rattle.b67_model.specs.Common.{Segment, Program, opened, Value, Values, Ends, Switch, Session, RunLine, StepResult, start, next, need_next, sectors, Refusal, makers_from}
 use Rattle.b67_law_examples.specs.Programs.{sum, endless, not_whole, refused_row, row_with_bits, branches_to}
 
 -- one job, by its program, stack size, limit, numbers for READ and the session's switches, with turns of a thousand

@@ -1,9 +1,6 @@
 -- The programs of worked runs with several tasks.
 use Rattle.std.specs.Prelude.{ℕ, List, [], ◌∷◌, ◌++◌}
-use Rattle.b67_model.specs.State.{Segment}
-use Rattle.b67_model.specs.Program.{opened}
-use Rattle.b67_model.specs.Schedule.{Session}
-use Rattle.b67_model.specs.Run.{start}
+use Rattle.b67_model.specs.Common.{Segment, opened, Session, start}
 use Rattle.b67_law_examples.specs.Mnemonics.{Operator, segment, times, BRUN, ENTR, EXIT, LOAD, LT8, MKST, MPCW, NAMC, NOOP, NVLD, RETN, VALC, ZERO}
 use Rattle.b67_law_examples.specs.Sessions.{one_job, without_rows}
 

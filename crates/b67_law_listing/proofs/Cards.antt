@@ -10,8 +10,7 @@ use Rattle.b67_word.specs.declared.couples.Place.{Place}
 use Rattle.b67_model.specs.declared.operators.Op.{Op}
 use Rattle.b67_model.specs.declared.operators.Op.TheVariants.{Mpcw, Plain}
 use Rattle.b67_model.specs.declared.operators.Code.TheVariants.{Nvld}
-use Rattle.b67_model.specs.Operators.{place_at, place_of_bits}
-use Rattle.b67_model.specs.Loader.{Entry, origin, listing, target_of}
+use Rattle.b67_model.specs.Common.{place_at, place_of_bits, Entry, origin, listing, target_of}
 use Rattle.b67_model_text.specs.declared.assembly.Branch as branch
 use Rattle.b67_model_text.specs.declared.assembly.Branch.TheVariants as branches
 use Rattle.b67_model_text.specs.declared.assembly.Sketch as sketch

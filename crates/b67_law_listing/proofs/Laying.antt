@@ -9,9 +9,7 @@ use Rattle.b67_model.specs.declared.operators.Op.TheVariants.{Valc, Namc, Lt8, L
 use Rattle.b67_model.specs.declared.operators.Code.{Code}
 use Rattle.b67_model.specs.declared.operators.Code.TheVariants.{Add, Nvld}
 use Rattle.b67_model.specs.declared.operators.Undecodable.TheVariants.{BadPlace}
-use Rattle.b67_model.specs.Operators.{Reading, syllable, place_at, count_at, operator_at}
-use Rattle.b67_model.specs.Encoding.{syllable_of, syllables, literal, after_literal, syllable_after, IsLaid}
-use Rattle.b67_model.specs.Loader.{At, entries_from, listing}
+use Rattle.b67_model.specs.Common.{Reading, syllable, place_at, count_at, operator_at, syllable_of, syllables, literal, after_literal, syllable_after, IsLaid, At, entries_from, listing}
 use Rattle.b67_model_text.specs.Encoding.{filling, six_syllables, literal_part, laid_one, laid, packed, code_of}
 use Rattle.b67_syllable.proofs.EncodingLemmas.{reads_back}
 use Rattle.b67_law_listing.specs.Operators.{HasBits, AllHaveBits, filled, entries_of}

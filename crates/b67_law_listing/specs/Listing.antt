@@ -7,10 +7,7 @@ use Rattle.b67_lemmas.specs.Lists.{Has}
 use Rattle.b67_model.specs.declared.operators.Op.{Op}
 use Rattle.b67_model.specs.declared.operators.Op.TheVariants.{Plain}
 use Rattle.b67_model.specs.declared.operators.Code.TheVariants.{Nvld}
-use Rattle.b67_model.specs.Operators.{place_at, place_of_bits}
-use Rattle.b67_model.specs.Loader.{Entry, At, Break, origin, listing, place_of_entry, target_of, proc_bits}
-use Rattle.b67_model.specs.State.{Segment}
-use Rattle.b67_model.specs.Program.{Program}
+use Rattle.b67_model.specs.Common.{place_at, place_of_bits, Entry, At, Break, origin, listing, place_of_entry, target_of, proc_bits, Segment, Program}
 use Rattle.b67_model_text.specs.declared.card.Card.{Card}
 use Rattle.b67_model_text.specs.declared.assembly.Line.{Line}
 use Rattle.b67_model_text.specs.declared.assembly.Sketch.{Sketch}

@@ -4,9 +4,7 @@ use Rattle.std.specs.List.{AllByRecursion}
 use Rattle.b67_model.specs.declared.operators.Op.{Op}
 use Rattle.b67_model.specs.declared.operators.Op.TheVariants.{Plain}
 use Rattle.b67_model.specs.declared.operators.Code.TheVariants.{Nvld}
-use Rattle.b67_model.specs.Operators.{place_at}
-use Rattle.b67_model.specs.Encoding.{has_bits}
-use Rattle.b67_model.specs.Loader.{Entry, At, listing}
+use Rattle.b67_model.specs.Common.{place_at, has_bits, Entry, At, listing}
 use Rattle.b67_model_text.specs.Encoding.{code_of}
 use Rattle.b67_model_text.specs.Asm.{next}
 

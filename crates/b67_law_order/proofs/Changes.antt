@@ -6,10 +6,7 @@ use Rattle.b67_word.specs.declared.couples.Place.{Place}
 use Rattle.b67_model.specs.Keyed.{keyed}
 use Rattle.b67_lemmas.specs.Lists.{Has, Falls}
 use Rattle.b67_lemmas.proofs.Members.{all_in, falls_low, falls_more, has_append_left, has_map, has_map_back, keyed_has}
-use Rattle.b67_model.specs.Words.{Word}
-use Rattle.b67_model.specs.State.{Frame, Standing, Marked, Entered, Return, Array, Condition, Task, Job, OperatorContext, top, with_top_cells, height, with_task}
-use Rattle.b67_model.specs.Environment.{level_of_frame, running}
-use Rattle.b67_model.specs.InOrder.{Starts, Known, known_of, from_frame, outer_of, reach_of, known_numbers, identities, IsEntered, EnvironmentInOrder, StandsInOrder, CellsInOrder, FramesInOrder, StackInOrder, ReturnsInOrder, BirthInOrder, ConditionInOrder, TaskInOrder, originals_in, originals_of, frames_named, TasksInOrder}
+use Rattle.b67_model.specs.Common.{Word, Frame, Standing, Marked, Entered, Return, Array, Condition, Task, Job, OperatorContext, top, with_top_cells, height, with_task, level_of_frame, running, Starts, Known, known_of, from_frame, outer_of, reach_of, known_numbers, identities, IsEntered, EnvironmentInOrder, StandsInOrder, CellsInOrder, FramesInOrder, StackInOrder, ReturnsInOrder, BirthInOrder, ConditionInOrder, TaskInOrder, originals_in, originals_of, frames_named, TasksInOrder}
 use Rattle.b67_law_order.proofs.Reaches.{Alike, alike_same, Stays, Wider, words_wider, known_number, frames_alike}
 use Rattle.b67_law_order.proofs.Replaced.{Replaced, replaced, outer_kept}
 use Rattle.b67_law_order.proofs.Looks.{Run, own_order}

@@ -6,19 +6,11 @@ use Rattle.b67_word.specs.declared.couples.Couple.{Couple}
 use Rattle.b67_word.specs.declared.faults.Fault.{Fault}
 use Rattle.b67_word.specs.declared.faults.Fault.TheVariants.{InvalidAddress}
 use Rattle.b67_word.specs.Couples.{couple}
-use Rattle.b67_model.specs.Answers.{Answer}
+use Rattle.b67_model.specs.Common.{Answer, no_array, array, array_at, array_of, index_below, indexed, Word, Operand, Name, Ref, Row, Element, Original, Proc, Intrinsic, operand, number, Frame, Standing, Marked, Entered, Array, OperatorContext, frame, level_of_standing, level_of_frame, environment_of, running, running_from, outward, running_level, first_offset, cell_of, cell, named, place_of, End, AtCell, AtElement, AtArray, AtProc, AtIntrinsic, Link, Stops, Leads, element_end, link_at, link_in, link_from, link, chase_on, chase, follow, follow_reference, Starts, Known, known_of, IsEntered, NamesEntered, NamesArray, OwnsArray, WordInOrder, StackInOrder, ReturnsInOrder}
 use Rattle.b67_model.specs.Keyed.{keyed}
 use Rattle.b67_lemmas.specs.Lists.{Has}
 use Rattle.b67_lemmas.proofs.Members.{has_append_left, has_get, has_map, has_reverse_back, keyed_falls}
-use Rattle.b67_model.specs.Arrays.{no_array, array}
-use Rattle.b67_model.specs.Indexing.{array_at, array_of, index_below, indexed}
 use Rattle.b67_model.specs.Words as Words
-use Rattle.b67_model.specs.Words.{Word, Operand, Name, Ref, Row, Element, Original, Proc, Intrinsic, operand, number}
-use Rattle.b67_model.specs.State.{Frame, Standing, Marked, Entered, Array, OperatorContext, frame}
-use Rattle.b67_model.specs.Environment.{level_of_standing, level_of_frame, environment_of, running, running_from, outward, running_level}
-use Rattle.b67_model.specs.Cells.{first_offset, cell_of, cell, named, place_of}
-use Rattle.b67_model.specs.Chase.{End, AtCell, AtElement, AtArray, AtProc, AtIntrinsic, Link, Stops, Leads, element_end, link_at, link_in, link_from, link, chase_on, chase, follow, follow_reference}
-use Rattle.b67_model.specs.InOrder.{Starts, Known, known_of, IsEntered, NamesEntered, NamesArray, OwnsArray, WordInOrder, StackInOrder, ReturnsInOrder}
 use Rattle.b67_law_order.specs.Ends.{IsElement, EndInOrder}
 use Rattle.b67_law_order.proofs.Looks.{SeenWord, Run, reach, own_order, see, closed, level_low, own_high}
 use Rattle.b67_law_order.proofs.Posts.{Post, post_ok, post_err, post_bind, post_any, post_if_is}

@@ -1,10 +1,6 @@
 -- Where the couples of a running task lead.
 use Rattle.std.proofs.Common.{ℕ, ◌<◌, ◌^◌, Ok, Err, refl}
-use Rattle.b67_model.specs.Answers.{Answer}
-use Rattle.b67_model.specs.Words.{Name}
-use Rattle.b67_model.specs.State.{Task, JobConstants, Job, OperatorContext}
-use Rattle.b67_model.specs.Chase.{End, chase}
-use Rattle.b67_model.specs.InOrder.{Starts, IsSegment, IsStart, TaskInOrder}
+use Rattle.b67_model.specs.Common.{Answer, Name, Task, JobConstants, Job, OperatorContext, End, chase, Starts, IsSegment, IsStart, TaskInOrder}
 use Rattle.b67_law_order.specs.Ends.{EndInOrder, StepsFrom, EndsInOrder, CouplesEndInOrder}
 use Rattle.b67_law_order.proofs.Posts.{Post}
 use Rattle.b67_law_order.proofs.Looks.{Run}

@@ -4,9 +4,7 @@ use Rattle.std.specs.Prelude.{sum_by}
 use Rattle.std.proofs.lemmas.List.Sums.{sum_by-cons}
 use Rattle.b67_lemmas.specs.Lists.{Has}
 use Rattle.b67_lemmas.proofs.Members.{all_in}
-use Rattle.b67_model.specs.State.{SessionJob}
-use Rattle.b67_model.specs.InOrder.{JobInOrder, IsSegment, IsInOrderButPlaces}
-use Rattle.b67_model.specs.Schedule.{Session}
+use Rattle.b67_model.specs.Common.{SessionJob, JobInOrder, IsSegment, IsInOrderButPlaces, Session}
 
 -- the operators of a session are few
 sum_few : (bound : ℕ) (jobs : List SessionJob) → ((m : SessionJob) → Has jobs m → m.progress.made ≤ bound) → length jobs ≤ 8 → sum_by (λ (m : SessionJob). m.progress.made) jobs ≤ length jobs * bound

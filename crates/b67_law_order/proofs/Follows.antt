@@ -4,15 +4,9 @@ use Rattle.std.specs.Prelude.{if◌then◌else◌, nat_le, nat_lt, ok_or}
 use Rattle.b67_word.specs.Couples.{couple}
 use Rattle.b67_word.specs.declared.couples.Couple.{Couple}
 use Rattle.b67_word.specs.declared.faults.Fault.TheVariants.{InvalidAddress, InvalidIndex}
-use Rattle.b67_model.specs.Answers.{Answer}
+use Rattle.b67_model.specs.Common.{Answer, Word, Operand, Name, Ref, Row, Element, Original, Proc, Intrinsic, Frame, Array, OperatorContext, no_frame, all_frames, frame, no_array, environment_of, level_of_frame, running, outward, running_level, frame_at, cell_of, cell, named, place_of, End, AtElement, Link, Stops, Leads, element_end, link_at, link_in, link_from, link, chase_on, follow}
 use Rattle.b67_model.specs.Keyed.{keyed}
 use Rattle.b67_model.specs.Words as Words
-use Rattle.b67_model.specs.Words.{Word, Operand, Name, Ref, Row, Element, Original, Proc, Intrinsic}
-use Rattle.b67_model.specs.State.{Frame, Array, OperatorContext, no_frame, all_frames, frame}
-use Rattle.b67_model.specs.Arrays.{no_array}
-use Rattle.b67_model.specs.Environment.{environment_of, level_of_frame, running, outward, running_level, frame_at}
-use Rattle.b67_model.specs.Cells.{cell_of, cell, named, place_of}
-use Rattle.b67_model.specs.Chase.{End, AtElement, Link, Stops, Leads, element_end, link_at, link_in, link_from, link, chase_on, follow}
 
 module _ (h k : OperatorContext) (frames : all_frames h ≡ all_frames k) (own : h.task.frames ≡ k.task.frames) where
   pub frame_same : (id : ℕ) → frame h id ≡ frame k id

@@ -5,8 +5,7 @@ use Rattle.std.proofs.lemmas.Bool.Decides.{eqb_tells}
 use Rattle.b67_lemmas.specs.Lists.{Has, total}
 use Rattle.b67_lemmas.proofs.Members.{has_append_cases, has_map, has_map_back, keyed_has, total_has}
 use Rattle.b67_model.specs.Keyed.{keyed}
-use Rattle.b67_model.specs.State.{Frame, Standing, Task, JobConstants, Job}
-use Rattle.b67_model.specs.InOrder.{Starts, Known, known_of, from_frame, frames_of_task, critical_of, outer_reach, identities, TasksInOrder, frames_named}
+use Rattle.b67_model.specs.Common.{Frame, Standing, Task, JobConstants, Job, Starts, Known, known_of, from_frame, frames_of_task, critical_of, outer_reach, identities, TasksInOrder, frames_named}
 
 from_has : (c : ℕ) (fs : List Frame) (f : Frame) → Has (from_frame c fs) f → Has fs f
 from_has c [] f h = h

@@ -4,9 +4,7 @@ use Rattle.b67_lemmas.specs.Lists.{Has}
 use Rattle.b67_lemmas.proofs.Members.{all_in, falls_low, has_append_cases, has_append_right, keyed_has, has_flat_back}
 use Rattle.b67_model.specs.Keyed.{keyed}
 use Rattle.b67_model.specs.State as State
-use Rattle.b67_model.specs.State.{Frame, Standing, Array, Task, JobConstants, Job, OperatorContext, mcp, no_frame, all_frames, frame}
-use Rattle.b67_model.specs.Environment.{environment_of, level_of_frame, running_from, running, outward, running_level, frame_at}
-use Rattle.b67_model.specs.InOrder.{Starts, Known, known_of, base, outer_of, reach_of, known_numbers, FramesInOrder, StandsInOrder, TaskInOrder, SettingInOrder, TasksInOrder}
+use Rattle.b67_model.specs.Common.{Frame, Standing, Array, Task, JobConstants, Job, OperatorContext, mcp, no_frame, all_frames, frame, environment_of, level_of_frame, running_from, running, outward, running_level, frame_at, Starts, Known, known_of, base, outer_of, reach_of, known_numbers, FramesInOrder, StandsInOrder, TaskInOrder, SettingInOrder, TasksInOrder}
 use Rattle.b67_law_order.proofs.Reaches.{known_number}
 use Rattle.b67_law_order.proofs.Looks.{Line, line_of}
 

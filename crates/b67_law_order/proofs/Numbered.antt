@@ -2,9 +2,7 @@
 use Rattle.std.proofs.Common.{◌≡◌, ℕ, ◌+◌, List, [], ◌∷◌, sym, ◌∙◌, inl, inr, ◌≤◌, arith, subst, Some, ap, length}
 use Rattle.std.proofs.lemmas.Bool.Decides.{eqb_tells}
 use Rattle.b67_model.specs.Keyed.{change_keyed, keyed}
-use Rattle.b67_model.specs.State.{SessionJob}
-use Rattle.b67_model.specs.Run.{number_of}
-use Rattle.b67_model.specs.InOrder.{NumberedFrom}
+use Rattle.b67_model.specs.Common.{SessionJob, number_of, NumberedFrom}
 use Rattle.b67_lemmas.specs.Lists.{Has}
 
 pub numbered_change : (k n : ℕ) (new : SessionJob) (jobs : List SessionJob) → NumberedFrom k jobs → number_of new ≡ n → NumberedFrom k (change_keyed number_of n (λ y. new) jobs)

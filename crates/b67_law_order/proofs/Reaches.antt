@@ -5,9 +5,7 @@ use Rattle.b67_model.specs.Keyed.{keyed}
 use Rattle.b67_lemmas.specs.Lists.{Has}
 use Rattle.b67_lemmas.proofs.Members.{has_map, keyed_has}
 use Rattle.b67_model.specs.Words as Words
-use Rattle.b67_model.specs.Words.{Word, Operand, Name, Ref, Row, Element, Original, Proc, Intrinsic}
-use Rattle.b67_model.specs.State.{Frame, Standing, Marked, Entered, Array, Task, Job}
-use Rattle.b67_model.specs.InOrder.{Starts, Known, known_of, from_frame, base, outer_reach, known_numbers, identities, IsEntered, NamesEntered, NamesArray, WordInOrder, StandsInOrder, FramesInOrder, ParentInOrder, BirthInOrder}
+use Rattle.b67_model.specs.Common.{Word, Operand, Name, Ref, Row, Element, Original, Proc, Intrinsic, Frame, Standing, Marked, Entered, Array, Task, Job, Starts, Known, known_of, from_frame, base, outer_reach, known_numbers, identities, IsEntered, NamesEntered, NamesArray, WordInOrder, StandsInOrder, FramesInOrder, ParentInOrder, BirthInOrder}
 
 -- one after the other: the same identities, and what was entered stands as before
 abbrev pub Alike : List Known → List Known → Type 0

@@ -7,10 +7,7 @@ use Rattle.b67_model.specs.Keyed.{keyed, change_keyed}
 use Rattle.b67_lemmas.specs.Lists.{Has, Falls}
 use Rattle.b67_lemmas.proofs.Members.{all_from, all_in, change_found, change_other, falls_low, falls_more, falls_once, has_append_cases, has_append_left, has_change, has_map, keyed_has, length_change, map_change, none_pass, total_change, total_has, total_zero}
 use Rattle.b67_model.specs.Words as Words
-use Rattle.b67_model.specs.Words.{Word, Operand, Name, Ref, Row, Element, Original, Proc, Intrinsic}
-use Rattle.b67_model.specs.State.{Frame, Array, Condition, Ready, Awaits, WaitsAt, Task, JobConstants, Job, height}
-use Rattle.b67_model.specs.Environment.{level_of_frame, running}
-use Rattle.b67_model.specs.InOrder.{Starts, Known, known_of, from_frame, frames_of_task, critical_of, outer_reach, outer_of, reach_of, known_numbers, identities, FramesInOrder, StackInOrder, BirthInOrder, ConditionInOrder, TaskInOrder, ArrayInOrder, EntryInOrder, originals_in, originals_of, frames_named, frames_in_job, TasksInOrder}
+use Rattle.b67_model.specs.Common.{Word, Operand, Name, Ref, Row, Element, Original, Proc, Intrinsic, Frame, Array, Condition, Ready, Awaits, WaitsAt, Task, JobConstants, Job, height, level_of_frame, running, Starts, Known, known_of, from_frame, frames_of_task, critical_of, outer_reach, outer_of, reach_of, known_numbers, identities, FramesInOrder, StackInOrder, BirthInOrder, ConditionInOrder, TaskInOrder, ArrayInOrder, EntryInOrder, originals_in, originals_of, frames_named, frames_in_job, TasksInOrder}
 use Rattle.b67_law_order.proofs.Reaches.{Alike, alike_same, alike_under, alike_numbers, alike_has, Stays, frames_alike, Follower, Follows, Births, outer_alike, birth_follows}
 
 condition_alike : (reach reach' : List Known) (c : Condition) → Alike reach reach' → ConditionInOrder reach c → ConditionInOrder reach' c

@@ -1,14 +1,8 @@
 -- Where references lead in a state in order.
 use Rattle.std.specs.Prelude.{◌≡◌, ℕ, ◌^◌, ◌<◌, ◌≤◌, List, length, Some, Ok, Err}
 use Rattle.b67_word.specs.declared.couples.Place.{Place}
-use Rattle.b67_model.specs.Answers.{Answer}
+use Rattle.b67_model.specs.Common.{Answer, Operand, Name, Ready, Task, JobConstants, Job, OperatorContext, cell, array, End, AtCell, AtElement, AtArray, AtProc, AtIntrinsic, chase, Starts, IsSegment, IsStart, Known, NamesEntered, NamesArray, SettingInOrder, TasksInOrder, reach_of}
 use Rattle.b67_model.specs.Keyed.{keyed}
-use Rattle.b67_model.specs.Words.{Operand, Name}
-use Rattle.b67_model.specs.State.{Ready, Task, JobConstants, Job, OperatorContext}
-use Rattle.b67_model.specs.Cells.{cell}
-use Rattle.b67_model.specs.Arrays.{array}
-use Rattle.b67_model.specs.Chase.{End, AtCell, AtElement, AtArray, AtProc, AtIntrinsic, chase}
-use Rattle.b67_model.specs.InOrder.{Starts, IsSegment, IsStart, Known, NamesEntered, NamesArray, SettingInOrder, TasksInOrder, reach_of}
 
 -- an entered frame, and not the MCP's or a dictionary's
 pub record IsProcOf (P : Starts) (reach : List Known) (f segment level : ℕ) (place : Place) : Type 0 where

@@ -6,32 +6,23 @@ use Rattle.std.proofs.lemmas.Bool.{true≢false}
 use Rattle.b67_lemmas.specs.Lists.{Has, how_many}
 use Rattle.b67_lemmas.proofs.Members.{all_in, falls_low, has_change, has_map, none_pass, total_zero}
 use Rattle.b67_model.specs.Words as Words
-use Rattle.b67_model.specs.Words.{Word, Operand, Name, Ref, Row, Element, Original, Proc, Intrinsic}
-use Rattle.b67_model.specs.State.{Frame, Array, Condition, Ready, Awaits, WaitsAt, Task, JobConstants, Job, OperatorContext, top, below_top, with_top_cells, height, with_task}
-use Rattle.b67_model.specs.Arrays.{array}
-use Rattle.b67_model.specs.Chase.{End, AtCell, AtElement, AtArray, AtProc, AtIntrinsic, follow_reference}
-use Rattle.b67_model.specs.Steps.{Waits, top_of, is_critical}
-use Rattle.b67_model.specs.InOrder.{Starts, Known, known_of, outer_of, OwnsArray, WordInOrder, FramesInOrder, ConditionInOrder, TaskInOrder, is_original_of, originals_in, originals_of, TasksInOrder}
+use Rattle.b67_model.specs.Common.{Word, Operand, Name, Ref, Row, Element, Original, Proc, Intrinsic, Frame, Array, Condition, Ready, Awaits, WaitsAt, Task, JobConstants, Job, OperatorContext, top, below_top, with_top_cells, height, with_task, array, End, AtCell, AtElement, AtArray, AtProc, AtIntrinsic, follow_reference, Waits, top_of, is_critical, Starts, Known, known_of, outer_of, OwnsArray, WordInOrder, FramesInOrder, ConditionInOrder, TaskInOrder, is_original_of, originals_in, originals_of, TasksInOrder, operand, cell, with_cell, answered, answers, array_length, arraydec, read_from, read, waits_at, wait, woken_at, causes, cause, number, is_copy_of, EntryInOrder}
 use Rattle.b67_law_order.proofs.Reaches.{Stays}
 use Rattle.b67_law_order.proofs.Looks.{reach, own_order, own_high, running_cells}
 use Rattle.b67_law_order.proofs.Changes.{Change, outside, change_arrays, change_cells, run_replaced}
 use Rattle.b67_law_order.specs.Ends.{EndInOrder}
 use Rattle.b67_law_order.proofs.Posts.{Post, post_ok, post_err, post_bind, post_any, post_needs, post_if, post_if_is}
-use Rattle.b67_model.specs.Words.{operand}
-use Rattle.b67_model.specs.Cells.{cell, with_cell}
 use Rattle.b67_law_order_rows.proofs.Steps.{Keeps, Good, top_words, AllFit, originals, result_good}
 use Rattle.std.proofs.Common.{ℤ, pos, negsuc, nat_abs, replicate, ltb, ◌&&◌}
 use Rattle.std.proofs.lemmas.Bool.{ltb-true}
 use Rattle.b67_word.specs.Operands.{bits_of}
-use Rattle.b67_model.specs.Intrinsics.{answered, answers, array_length, arraydec, read_from, read, waits_at, wait, woken_at, causes, cause}
-use Rattle.b67_model.specs.Words.{number, whole}
+use Rattle.b67_model.specs.Words.{whole}
 use Rattle.b67_law_order_rows.proofs.Entries.{running_marked}
 use Rattle.b67_law_order_rows.proofs.Cuts.{Cut, below_of, cut_change, cut_low, answers_none, answers_operand}
 use Rattle.b67_law_order_rows.proofs.Bounds.{bits_low}
 use Rattle.b67_law_order.proofs.Chases.{follow_reference_in}
 use Rattle.b67_law_order.proofs.Maps.{HoldsOperand, cell_stored, map_good, frames_refl}
 use Rattle.b67_law_order_rows.proofs.Stores.{holds_operand, same_item, operand_is, own_frame}
-use Rattle.b67_model.specs.InOrder.{is_copy_of, EntryInOrder}
 
 pub length_replicate : (n : ℕ) → length {A = ℕ} (replicate n 0) ≡ n
 length_replicate zero = refl

@@ -2,26 +2,12 @@
 use Rattle.std.proofs.Common.{◌≡◌, ℕ, ◌^◌, ◌<◌, Bool, true, false, cond, List, [], ◌∷◌, Some, None, refl, sym, ap, ◌∙◌, subst, arith}
 use Rattle.std.proofs.lemmas.Bool.{true≢false}
 use Rattle.b67_word.specs.declared.couples.Place.{Place}
-use Rattle.b67_model.specs.Answers.{Answer}
+use Rattle.b67_model.specs.Common.{Answer, Word, Operand, Name, Ref, Row, Element, Original, Proc, Intrinsic, Task, OperatorContext, level_of_frame, running, array, element, End, AtCell, AtElement, AtArray, AtProc, AtIntrinsic, follow, top_of, cells_of, leaves_cells, back_to, is_original, Starts, CopiesAbove, is_original_of, operand, place_of, cell, Binary, array_of, indexed, in_order, CellRow, on_one, on_two, movable, dlet, exch, dupl, on_cells, branches, branch_if, valc, stff_word, stff, load_at, load, indx, nxlv}
 use Rattle.b67_model.specs.Words as Words
-use Rattle.b67_model.specs.Words.{Word, Operand, Name, Ref, Row, Element, Original, Proc, Intrinsic}
-use Rattle.b67_model.specs.State.{Task, OperatorContext}
-use Rattle.b67_model.specs.Environment.{level_of_frame, running}
-use Rattle.b67_model.specs.Arrays.{array, element}
-use Rattle.b67_model.specs.Chase.{End, AtCell, AtElement, AtArray, AtProc, AtIntrinsic, follow}
-use Rattle.b67_model.specs.Steps.{top_of, cells_of, leaves_cells}
-use Rattle.b67_model.specs.Entry.{back_to}
-use Rattle.b67_model.specs.Intrinsics.{is_original}
-use Rattle.b67_model.specs.InOrder.{Starts, CopiesAbove, is_original_of}
 use Rattle.b67_law_order.proofs.Looks.{Run, reach}
 use Rattle.b67_law_order.specs.Ends.{IsElement, EndInOrder}
 use Rattle.b67_law_order.proofs.Chases.{follow_in}
 use Rattle.b67_law_order.proofs.Posts.{Post, post_ok, post_err, post_bind, post_any, post_if_is, post_more, post_both, post_any_at}
-use Rattle.b67_model.specs.Words.{operand}
-use Rattle.b67_model.specs.Cells.{place_of, cell}
-use Rattle.b67_model.specs.Arithmetic.{Binary}
-use Rattle.b67_model.specs.Indexing.{array_of, indexed, in_order}
-use Rattle.b67_model.specs.Rows.{CellRow, on_one, on_two, movable, dlet, exch, dupl, on_cells, branches, branch_if, valc, stff_word, stff, load_at, load, indx, nxlv}
 use Rattle.b67_law_order_rows.proofs.Steps.{Keeps, Good, Fit, AllFit, originals, SameOriginals, own_fit, own_copies, plain_above, cells_good, accident_good, element_low, evaluates_good}
 use Rattle.b67_law_order.proofs.Chases.{chase_in, place_in, indexed_in}
 

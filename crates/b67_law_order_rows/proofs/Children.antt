@@ -8,21 +8,13 @@ use Rattle.b67_model.specs.Keyed.{keyed}
 use Rattle.b67_lemmas.specs.Lists.{Has, Falls}
 use Rattle.b67_lemmas.proofs.Members.{all_from, all_in, any_none, change_found, falls_low, has_map, has_reverse_back, keyed_has, length_change, none_pass}
 use Rattle.b67_model.specs.Words as Words
-use Rattle.b67_model.specs.Words.{Word, Operand, Name, Ref, Row, Element, Original, Proc, Intrinsic}
-use Rattle.b67_model.specs.State.{Frame, Standing, Marked, Entered, Array, Ready, Task, JobConstants, Job, OperatorContext, frame, top, below_top, with_top_cells, height, with_task}
-use Rattle.b67_model.specs.Environment.{level_of_frame}
-use Rattle.b67_model.specs.Arrays.{array}
-use Rattle.b67_model.specs.Steps.{top_of, cells_of, is_critical}
-use Rattle.b67_model.specs.Intrinsics.{is_original}
-use Rattle.b67_model.specs.InOrder.{Starts, Known, known_of, from_frame, outer_reach, outer_of, reach_of, known_numbers, identities, IsEntered, WordInOrder, EnvironmentInOrder, CopiesAbove, FramesInOrder, TaskInOrder, is_original_of, originals_in, originals_of, TasksInOrder}
+use Rattle.b67_model.specs.Common.{Word, Operand, Name, Ref, Row, Element, Original, Proc, Intrinsic, Frame, Standing, Marked, Entered, Array, Ready, Task, JobConstants, Job, OperatorContext, frame, top, below_top, with_top_cells, height, with_task, level_of_frame, array, top_of, cells_of, is_critical, is_original, Starts, Known, known_of, from_frame, outer_reach, outer_of, reach_of, known_numbers, identities, IsEntered, WordInOrder, EnvironmentInOrder, CopiesAbove, FramesInOrder, TaskInOrder, is_original_of, originals_in, originals_of, TasksInOrder, operand, answered, child_of, number, BirthInOrder}
 use Rattle.b67_law_order.proofs.Reaches.{Alike, alike_has, alike_same, Wider, word_wider, names_entered, names_array}
 use Rattle.b67_law_order.proofs.Looks.{Run, reach, below_marked, known_cells, some_cells}
 use Rattle.b67_law_order.proofs.Changes.{outside}
 use Rattle.b67_law_order.specs.Ends.{IsProcOf}
-use Rattle.b67_model.specs.Words.{operand}
 use Rattle.b67_law_order_rows.proofs.Steps.{Fit, AllFit, originals, plain_above, environment_of_proc}
-use Rattle.b67_model.specs.Intrinsics.{answered, child_of}
-use Rattle.b67_model.specs.Words.{number, whole}
+use Rattle.b67_model.specs.Words.{whole}
 use Rattle.b67_law_order_rows.proofs.Cuts.{Cut, cut_change}
 use Rattle.std.specs.List.{list_any}
 use Rattle.b67_law_order_rows.proofs.Cuts.{answer_job, answer_outer}
@@ -30,7 +22,6 @@ use Rattle.b67_law_order_rows.proofs.Cells.{plain_word}
 use Rattle.std.proofs.lemmas.List.{length-reverse}
 use Rattle.b67_law_order.proofs.Replaced.{task_kept, job_fresh}
 use Rattle.b67_law_order.proofs.Reaches.{alike_under, alike_numbers, Follows, Births, outer_alike}
-use Rattle.b67_model.specs.InOrder.{BirthInOrder}
 
 -- a new task of a job in order
 pub record ChildInOrder (P : Starts) (constants : JobConstants) (job : Job) (parent child : Task) : Type 0 where

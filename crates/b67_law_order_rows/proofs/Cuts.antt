@@ -2,22 +2,14 @@
 use Rattle.std.proofs.Common.{◌≡◌, ◌≢◌, ℕ, ◌+◌, ◌^◌, ◌<◌, ◌≤◌, Bool, true, false, not, cond, List, [], ◌∷◌, ◌++◌, map, Option, Some, None, refl, sym, ◌∙◌, subst, arith}
 use Rattle.std.specs.List.{AllByRecursion}
 use Rattle.b67_model.specs.Keyed.{keyed}
-use Rattle.b67_model.specs.Words.{Word, Operand}
-use Rattle.b67_model.specs.State.{Frame, Marked, Condition, Ready, Awaits, WaitsAt, Task, OperatorContext, top, below_top, with_top_cells, height, with_task}
-use Rattle.b67_model.specs.Environment.{level_of_frame, running}
-use Rattle.b67_model.specs.Arrays.{array}
-use Rattle.b67_model.specs.Steps.{Line, Waits, top_of, cells_of, with_frames, is_critical}
+use Rattle.b67_model.specs.Common.{Word, Operand, Frame, Marked, Condition, Ready, Awaits, WaitsAt, Task, OperatorContext, top, below_top, with_top_cells, height, with_task, level_of_frame, running, array, Line, Waits, top_of, cells_of, with_frames, is_critical, is_original, Starts, known_of, outer_of, ConditionInOrder, originals_in, TasksInOrder, Value, Values, answered, needs_free, answers, array_length, arraydec, print, printrow, row_copy, numbers_of, read_from, read, child_of, starts, process, awaits, await, status_of, status, waits_at, wait, woken_at, wakes, causes, cause}
 use Rattle.b67_model.specs.Intrinsics as Intrinsics
-use Rattle.b67_model.specs.Intrinsics.{is_original}
-use Rattle.b67_model.specs.InOrder.{Starts, known_of, outer_of, ConditionInOrder, originals_in, TasksInOrder}
 use Rattle.b67_law_order.proofs.Reaches.{Alike}
 use Rattle.b67_law_order.proofs.Looks.{Run, own_order, below_some, running_cells}
 use Rattle.b67_law_order.proofs.Changes.{Change, TopWords, outside, change_cells, change_drop, change_replaces, run_replaced}
 use Rattle.b67_law_order.proofs.Posts.{post_ok, post_err, post_any, post_needs, post_if}
 use Rattle.b67_law_order_rows.proofs.Steps.{Keeps, Good, top_words, originals, originals_cells, result_good}
 use Rattle.std.proofs.Common.{ℤ, pos, negsuc, nat_abs, ltb, ◌&&◌}
-use Rattle.b67_model.specs.Steps.{Value, Values}
-use Rattle.b67_model.specs.Intrinsics.{answered, needs_free, answers, array_length, arraydec, print, printrow, row_copy, numbers_of, read_from, read, child_of, starts, process, awaits, await, status_of, status, waits_at, wait, woken_at, wakes, causes, cause}
 use Rattle.b67_model.specs.Words.{whole}
 use Rattle.b67_law_order_rows.proofs.Entries.{taken_apart, parted, below_is, top_is, free_by, running_marked}
 

@@ -6,14 +6,7 @@ use Rattle.b67_model.specs.Keyed.{keyed}
 use Rattle.b67_lemmas.specs.Lists.{Has, Falls}
 use Rattle.b67_lemmas.proofs.Members.{all_from, all_in, any_none, change_found, falls_filter, falls_low, falls_same, has_filter, has_filter_in, none_pass}
 use Rattle.b67_model.specs.Words as Words
-use Rattle.b67_model.specs.Words.{Word, Operand, Name, Ref, Row, Element, Original, Proc, Intrinsic}
-use Rattle.b67_model.specs.State.{Frame, Standing, Marked, Entered, Return, Array, Task, Job, OperatorContext, frame, top, below_top, height, with_task}
-use Rattle.b67_model.specs.Environment.{level_of_frame, running}
-use Rattle.b67_model.specs.Arrays.{array}
-use Rattle.b67_model.specs.Chase.{End, AtCell, AtElement, AtArray, AtProc, AtIntrinsic}
-use Rattle.b67_model.specs.Steps.{top_of, cells_of, is_critical}
-use Rattle.b67_model.specs.Entry.{back_to, enters, left}
-use Rattle.b67_model.specs.InOrder.{Starts, Known, known_of, known_numbers, WordInOrder, EnvironmentInOrder, CopiesAbove, ReturnsInOrder, ConditionInOrder, ArrayInOrder, is_original_of, originals_in, originals_of, frames_named}
+use Rattle.b67_model.specs.Common.{Word, Operand, Name, Ref, Row, Element, Original, Proc, Intrinsic, Frame, Standing, Marked, Entered, Return, Array, Task, Job, OperatorContext, frame, top, below_top, height, with_task, level_of_frame, running, array, End, AtCell, AtElement, AtArray, AtProc, AtIntrinsic, top_of, cells_of, is_critical, back_to, enters, left, Starts, Known, known_of, known_numbers, WordInOrder, EnvironmentInOrder, CopiesAbove, ReturnsInOrder, ConditionInOrder, ArrayInOrder, is_original_of, originals_in, originals_of, frames_named}
 use Rattle.b67_law_order.proofs.Reaches.{Alike, Stays}
 use Rattle.b67_law_order.proofs.Replaced.{Replaced}
 use Rattle.b67_law_order.proofs.Looks.{Run, reach, own_order, own_high, below_marked, below_some}

@@ -1,11 +1,7 @@
 -- The row of an operator whose parameters fit.
 use Rattle.std.proofs.Common.{Ok, Err, refl}
 use Rattle.b67_word.specs.declared.couples.Place.{Place}
-use Rattle.b67_model.specs.Answers.{Answer}
-use Rattle.b67_model.specs.State.{Task, JobConstants, Job, OperatorContext}
-use Rattle.b67_model.specs.Steps.{Done, Goes, Leaves, Waits}
-use Rattle.b67_model.specs.Rows.{branches, row}
-use Rattle.b67_model.specs.InOrder.{Starts, IsSegment, IsStart, TaskInOrder}
+use Rattle.b67_model.specs.Common.{Answer, Task, JobConstants, Job, OperatorContext, Done, Goes, Leaves, Waits, branches, row, Starts, IsSegment, IsStart, TaskInOrder}
 use Rattle.b67_law_order.specs.Ends.{StepsFrom}
 use Rattle.b67_law_order.proofs.Posts.{Post}
 use Rattle.b67_law_order.proofs.Looks.{Run}

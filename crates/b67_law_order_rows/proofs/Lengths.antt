@@ -3,12 +3,7 @@ use Rattle.std.proofs.Common.{◌≡◌, ℕ, ℤ, zero, suc, ◌-◌, ◌^◌, 
 use Rattle.std.specs.List.{AllByRecursion}
 use Rattle.b67_model.specs.Keyed.{change_keyed}
 use Rattle.b67_lemmas.specs.Lists.{Has}
-use Rattle.b67_model.specs.Words.{Word}
-use Rattle.b67_model.specs.State.{Array, Task, OperatorContext, below_top, with_task}
-use Rattle.b67_model.specs.Arrays.{array, with_array, all_zero, resized}
-use Rattle.b67_model.specs.Steps.{top_of, is_critical}
-use Rattle.b67_model.specs.Intrinsics.{answered, answers, array_length, row_copy, deallocate, resizes}
-use Rattle.b67_model.specs.InOrder.{Starts, known_of, ConditionInOrder, ArrayInOrder, originals_of}
+use Rattle.b67_model.specs.Common.{Word, Array, Task, OperatorContext, below_top, with_task, array, with_array, all_zero, resized, top_of, is_critical, answered, answers, array_length, row_copy, deallocate, resizes, Starts, known_of, ConditionInOrder, ArrayInOrder, originals_of}
 use Rattle.b67_law_order.proofs.Reaches.{Stays}
 use Rattle.b67_law_order.proofs.Changes.{Change, outside, change_arrays, run_replaced}
 use Rattle.b67_law_order.proofs.Posts.{post_err, post_bind, post_any, post_needs}

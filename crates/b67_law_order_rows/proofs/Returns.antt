@@ -2,18 +2,10 @@
 use Rattle.std.proofs.Common.{◌≡◌, ◌≢◌, ℕ, Bool, true, false, not, eqb, List, [], ◌∷◌, ◌++◌, map, Option, Some, None, Ok, refl, sym, ap, ◌∙◌, subst, inl, inr}
 use Rattle.std.proofs.lemmas.Bool.Decides.{eqb_tells}
 use Rattle.std.proofs.lemmas.Bool.{true≢false}
-use Rattle.b67_model.specs.Answers.{Answer}
+use Rattle.b67_model.specs.Common.{Answer, Word, Operand, Name, Ref, Row, Element, Original, Proc, Intrinsic, Frame, Standing, Marked, Entered, Return, Array, Task, Job, OperatorContext, with_task, level_of_frame, running, array, element, owner_of, End, AtCell, AtElement, AtArray, AtProc, AtIntrinsic, follow, Line, Done, Goes, Leaves, Waits, top_of, cells_of, result, with_cells, is_critical, accident, evaluates, left, leaves, exit, returnable, returned, retn_word, retn, Starts, Known, known_of, IsEntered, NamesEntered, NamesArray, ReturnsInOrder, is_original_of, TasksInOrder}
 use Rattle.b67_lemmas.specs.Lists.{Has}
 use Rattle.b67_lemmas.proofs.Members.{change_twice, has_filter_in}
 use Rattle.b67_model.specs.Words as Words
-use Rattle.b67_model.specs.Words.{Word, Operand, Name, Ref, Row, Element, Original, Proc, Intrinsic}
-use Rattle.b67_model.specs.State.{Frame, Standing, Marked, Entered, Return, Array, Task, Job, OperatorContext, with_task}
-use Rattle.b67_model.specs.Environment.{level_of_frame, running}
-use Rattle.b67_model.specs.Arrays.{array, element, owner_of}
-use Rattle.b67_model.specs.Chase.{End, AtCell, AtElement, AtArray, AtProc, AtIntrinsic, follow}
-use Rattle.b67_model.specs.Steps.{Line, Done, Goes, Leaves, Waits, top_of, cells_of, result, with_cells, is_critical}
-use Rattle.b67_model.specs.Entry.{accident, evaluates, left, leaves, exit, returnable, returned, retn_word, retn}
-use Rattle.b67_model.specs.InOrder.{Starts, Known, known_of, IsEntered, NamesEntered, NamesArray, ReturnsInOrder, is_original_of, TasksInOrder}
 use Rattle.b67_law_order.proofs.Reaches.{alike_has}
 use Rattle.b67_law_order.proofs.Looks.{Run, reach}
 use Rattle.b67_law_order.proofs.Changes.{outside}

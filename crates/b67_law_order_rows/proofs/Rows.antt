@@ -5,29 +5,17 @@ use Rattle.std.proofs.lemmas.Bool.{leb-true, not-true}
 use Rattle.b67_lemmas.specs.Lists.{Has}
 use Rattle.b67_lemmas.proofs.Members.{all_from, all_in, any_none, has_reverse_back, none_pass, reverse_cons, total_append, total_reverse}
 use Rattle.b67_model.specs.Words as Words
-use Rattle.b67_model.specs.Words.{Word, Operand, Name, Ref, Row, Element, Original, Proc, Intrinsic}
-use Rattle.b67_model.specs.State.{Standing, Marked, Entered, OperatorContext, frame}
-use Rattle.b67_model.specs.Environment.{level_of_frame, running}
-use Rattle.b67_model.specs.Arrays.{array}
-use Rattle.b67_model.specs.Chase.{End, AtCell, AtElement, AtArray, AtProc, AtIntrinsic, follow_reference}
-use Rattle.b67_model.specs.Steps.{top_of, cells_of, leaves_cells, pushes, is_critical}
-use Rattle.b67_model.specs.Intrinsics.{is_original}
-use Rattle.b67_model.specs.InOrder.{Starts, WordInOrder, CopiesAbove, NoCopyUnder, is_original_of}
+use Rattle.b67_model.specs.Common.{Word, Operand, Name, Ref, Row, Element, Original, Proc, Intrinsic, Standing, Marked, Entered, OperatorContext, frame, level_of_frame, running, array, End, AtCell, AtElement, AtArray, AtProc, AtIntrinsic, follow_reference, top_of, cells_of, leaves_cells, pushes, is_critical, is_original, Starts, WordInOrder, CopiesAbove, NoCopyUnder, is_original_of, operand, Binary, on_two, dlet, exch, dupl, on_cells, branches, stff, answered, arraydec, print, printrow, read, child_of, starts, row_copy, process, await, status, wait, cause, deallocate, resize, number, is_copy_of, intrinsic, entr_at, entr_with, entr, is_proc, proc_of, plain, row, on_numbers, divided, chsn, lnot, bset, brst, isol, insr, may_be_last}
 use Rattle.b67_law_order.proofs.Looks.{Run, reach}
 use Rattle.b67_law_order.specs.Ends.{EndInOrder}
 use Rattle.b67_law_order.proofs.Posts.{Post, post_ok, post_err, post_bind, post_needs, post_if, post_if_is, post_more, post_both, post_any_at}
-use Rattle.b67_model.specs.Words.{operand}
-use Rattle.b67_model.specs.Arithmetic.{Binary}
-use Rattle.b67_model.specs.Rows.{on_two, dlet, exch, dupl, on_cells, branches, stff}
 use Rattle.b67_law_order_rows.proofs.Steps.{Keeps, Good, Fit, AllFit, originals, own_fit, own_copies, result_good, cells_good, push_good}
 use Rattle.std.proofs.Common.{ltb}
 use Rattle.std.proofs.lemmas.Bool.{ltb-true}
-use Rattle.b67_model.specs.Intrinsics.{answered, arraydec, print, printrow, read, child_of, starts, row_copy, process, await, status, wait, cause, deallocate, resize}
-use Rattle.b67_model.specs.Words.{number, whole}
+use Rattle.b67_model.specs.Words.{whole}
 use Rattle.b67_law_order_rows.proofs.Cuts.{Cut, answers_operand}
 use Rattle.b67_law_order_rows.proofs.Bounds.{bits_low}
 use Rattle.b67_law_order.proofs.Chases.{follow_reference_in}
-use Rattle.b67_model.specs.InOrder.{is_copy_of}
 use Rattle.std.specs.List.{list_any}
 use Rattle.b67_law_order_rows.proofs.Cells.{plain_word, operand_plain, two_plain}
 use Rattle.std.proofs.lemmas.List.{reverse-reverse}
@@ -36,12 +24,8 @@ use Rattle.b67_model.specs.declared.operators.Op.{Op}
 use Rattle.b67_model.specs.declared.operators.Op.TheVariants.{Valc, Namc, Lt8, Lt16, Lt48, Mpcw, Brun, Brtr, Brfl, Bset, Brst, Isol, Insr, Plain}
 use Rattle.b67_model.specs.declared.operators.Code.{Code}
 use Rattle.b67_model.specs.declared.operators.Code.TheVariants.{Add, Subt, Mult, Idiv, Rdiv, Less, Greq, Grtr, Lseq, Equl, Neql, Chsn, Land, Lor, Leqv, Lnot, Same, Exit, Indx, Retn, Entr, Nxlv, Mkst, Stff, Zero, One, Push, Dlet, Exch, Dupl, Stod, Ston, Load, Noop, Nvld}
-use Rattle.b67_model.specs.Intrinsics.{intrinsic}
-use Rattle.b67_model.specs.Rows.{entr_at, entr_with, entr, is_proc, proc_of, plain, row}
 use Rattle.std.proofs.Common.{◌/◌, ◌%◌, ◌+ℤ◌, ◌*ℤ◌, neg_ℤ}
 use Rattle.std.specs.Prelude.{int_div, int_rem}
-use Rattle.b67_model.specs.Arithmetic.{on_numbers, divided, chsn, lnot, bset, brst, isol, insr}
-use Rattle.b67_model.specs.Loader.{may_be_last}
 use Rattle.b67_law_order_rows.specs.Parameters.{ParametersFit}
 use Rattle.b67_law_order_rows.specs.Keeping.{AfterFits}
 use Rattle.b67_law_order_rows.proofs.Cells.{Fits2, run_at}

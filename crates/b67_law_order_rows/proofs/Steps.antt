@@ -5,18 +5,10 @@ use Rattle.std.proofs.lemmas.Bool.Decides.{eqb_tells}
 use Rattle.std.proofs.lemmas.Bool.{true≢false, leb-true, eqb-true}
 use Rattle.b67_word.specs.declared.couples.Place.{Place}
 use Rattle.b67_word.specs.declared.faults.Fault.TheVariants.{StackOverflow}
-use Rattle.b67_model.specs.Answers.{Answer}
+use Rattle.b67_model.specs.Common.{Answer, Word, Operand, Name, Ref, Row, Element, Original, Proc, Intrinsic, Frame, Standing, Marked, Entered, Return, Array, Task, Job, OperatorContext, frame, top, with_top_cells, height, with_task, level_of_standing, level_of_frame, running, array, element, End, AtCell, AtElement, AtArray, AtProc, AtIntrinsic, Line, Done, Goes, Leaves, Waits, top_of, cells_of, result, with_cells, leaves_cells, pushes, mkst, accident, back_to, evaluates, Starts, Known, known_of, IsEntered, NamesArray, WordInOrder, EnvironmentInOrder, CellsInOrder, CopiesAbove, NoCopyUnder, FramesInOrder, ConditionInOrder, ArrayInOrder, is_original_of, originals_in, TasksInOrder}
 use Rattle.b67_lemmas.specs.Lists.{Has, how_many}
 use Rattle.b67_lemmas.proofs.Members.{all_in}
 use Rattle.b67_model.specs.Words as Words
-use Rattle.b67_model.specs.Words.{Word, Operand, Name, Ref, Row, Element, Original, Proc, Intrinsic}
-use Rattle.b67_model.specs.State.{Frame, Standing, Marked, Entered, Return, Array, Task, Job, OperatorContext, frame, top, with_top_cells, height, with_task}
-use Rattle.b67_model.specs.Environment.{level_of_standing, level_of_frame, running}
-use Rattle.b67_model.specs.Arrays.{array, element}
-use Rattle.b67_model.specs.Chase.{End, AtCell, AtElement, AtArray, AtProc, AtIntrinsic}
-use Rattle.b67_model.specs.Steps.{Line, Done, Goes, Leaves, Waits, top_of, cells_of, result, with_cells, leaves_cells, pushes}
-use Rattle.b67_model.specs.Entry.{mkst, accident, back_to, evaluates}
-use Rattle.b67_model.specs.InOrder.{Starts, Known, known_of, IsEntered, NamesArray, WordInOrder, EnvironmentInOrder, CellsInOrder, CopiesAbove, NoCopyUnder, FramesInOrder, ConditionInOrder, ArrayInOrder, is_original_of, originals_in, TasksInOrder}
 use Rattle.b67_law_order.proofs.Looks.{Run, reach, own_order, see, level_low, known_cells, running_cells, some_cells}
 use Rattle.b67_law_order.proofs.Changes.{outside, no_change, change_cells, change_push, changed, fresh_frame}
 use Rattle.b67_law_order.specs.Ends.{EndInOrder, IsProcOf}

@@ -6,26 +6,13 @@ use Rattle.std.proofs.lemmas.Bool.{cases_Bool}
 use Rattle.b67_model.specs.Keyed.{change_keyed}
 use Rattle.b67_lemmas.specs.Lists.{Has}
 use Rattle.b67_lemmas.proofs.Members.{all_in, has_change, has_get, has_map, has_map_back, keyed_has, keyed_left}
-use Rattle.b67_model.specs.Words.{Word, Operand}
-use Rattle.b67_model.specs.State.{Frame, Array, Task, OperatorContext, frame, top, with_top_cells, height, with_task}
-use Rattle.b67_model.specs.Environment.{level_of_frame, running}
-use Rattle.b67_model.specs.Arrays.{array}
-use Rattle.b67_model.specs.Chase.{End, AtCell, AtElement, AtArray, AtProc, AtIntrinsic, follow}
-use Rattle.b67_model.specs.Steps.{top_of, cells_of, result, with_cells}
-use Rattle.b67_model.specs.Entry.{back_to}
-use Rattle.b67_model.specs.InOrder.{Starts, known_of, CopiesAbove, ConditionInOrder, ArrayInOrder, is_original_of, originals_of, TasksInOrder}
+use Rattle.b67_model.specs.Common.{Word, Operand, Frame, Array, Task, OperatorContext, frame, top, with_top_cells, height, with_task, level_of_frame, running, array, End, AtCell, AtElement, AtArray, AtProc, AtIntrinsic, follow, top_of, cells_of, result, with_cells, back_to, Starts, known_of, CopiesAbove, ConditionInOrder, ArrayInOrder, is_original_of, originals_of, TasksInOrder, operand, cell, in_order, first_offset, cell_of, with_number, with_element, store_at, store, no_frame, mcp}
 use Rattle.b67_law_order.proofs.Reaches.{Stays}
 use Rattle.b67_law_order.proofs.Looks.{Run, own_order, running_cells}
 use Rattle.b67_law_order.proofs.Changes.{Change, outside, no_change, change_arrays, change_cells, changed, run_replaced}
 use Rattle.b67_law_order.specs.Ends.{EndInOrder}
 use Rattle.b67_law_order.proofs.Posts.{Post, post_ok, post_err, post_bind, post_needs}
-use Rattle.b67_model.specs.Words.{operand}
-use Rattle.b67_model.specs.Cells.{cell}
-use Rattle.b67_model.specs.Indexing.{in_order}
 use Rattle.b67_law_order_rows.proofs.Steps.{Keeps, Good, Fit, AllFit, originals, SameOriginals, own_fit, own_copies, plain_above, originals_cells, result_good, accident_good}
-use Rattle.b67_model.specs.Cells.{first_offset, cell_of}
-use Rattle.b67_model.specs.Arrays.{with_number, with_element}
-use Rattle.b67_model.specs.Rows.{store_at, store}
 use Rattle.b67_law_order.proofs.Maps.{IsOperand, HoldsOperand, cell_stored}
 use Rattle.b67_law_order_rows.proofs.Cells.{followed, Followed, pair, two_plain}
 use Rattle.b67_law_order.proofs.Chases.{some_ok}
@@ -34,7 +21,6 @@ use Rattle.std.specs.List.{slice_get}
 use Rattle.std.specs.Option.{ok_or}
 use Rattle.std.proofs.lemmas.List.{reverse-append}
 use Rattle.std.proofs.Common.{flat_map, unwrap_or, ltb, ◌-◌, append-nil}
-use Rattle.b67_model.specs.State.{no_frame, mcp}
 use Rattle.b67_word.specs.declared.faults.Fault.TheVariants.{InvalidAddress}
 
 -- fewer cells are no higher

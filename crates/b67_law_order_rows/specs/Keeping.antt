@@ -2,13 +2,7 @@
 use Rattle.std.specs.Prelude.{◌≡◌, false, Ok, Err}
 use Rattle.b67_word.specs.declared.couples.Place.{Place}
 use Rattle.b67_model.specs.declared.operators.Op.{Op}
-use Rattle.b67_model.specs.Answers.{Answer}
-use Rattle.b67_model.specs.State.{Task, JobConstants, Job, OperatorContext}
-use Rattle.b67_model.specs.Environment.{running_level}
-use Rattle.b67_model.specs.Steps.{Done, Goes, Leaves, Waits}
-use Rattle.b67_model.specs.Loader.{may_be_last}
-use Rattle.b67_model.specs.Rows.{row}
-use Rattle.b67_model.specs.InOrder.{Starts, IsSegment, IsStart, TasksInOrder, ConditionInOrder, reach_of}
+use Rattle.b67_model.specs.Common.{Answer, Task, JobConstants, Job, OperatorContext, running_level, Done, Goes, Leaves, Waits, may_be_last, row, Starts, IsSegment, IsStart, TasksInOrder, ConditionInOrder, reach_of}
 use Rattle.b67_law_order.specs.Ends.{StepsFrom}
 use Rattle.b67_law_order_rows.specs.Parameters.{ParametersFit}
 

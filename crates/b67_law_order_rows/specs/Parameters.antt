@@ -2,11 +2,7 @@
 use Rattle.std.specs.Prelude.{◌^◌, ◌<◌, IsTrue}
 use Rattle.b67_model.specs.declared.operators.Op.{Op}
 use Rattle.b67_model.specs.declared.operators.Op.TheVariants.{Valc, Namc, Lt8, Lt16, Lt48, Mpcw, Brun, Brtr, Brfl}
-use Rattle.b67_model.specs.Words.{Word, Proc}
-use Rattle.b67_model.specs.State.{OperatorContext}
-use Rattle.b67_model.specs.Environment.{running_level}
-use Rattle.b67_model.specs.Rows.{is_proc, proc_of}
-use Rattle.b67_model.specs.InOrder.{Starts}
+use Rattle.b67_model.specs.Common.{Word, Proc, OperatorContext, running_level, is_proc, proc_of, Starts}
 
 -- a Proc's place is one where its segment may be entered
 abbrev pub StartsAt : Starts → Word → Type 0

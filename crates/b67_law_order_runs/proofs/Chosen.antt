@@ -6,11 +6,8 @@ use Rattle.std.proofs.lemmas.Bool.Decides.{eqb_tells}
 use Rattle.b67_model.specs.Keyed.{keyed}
 use Rattle.b67_lemmas.specs.Lists.{Has}
 use Rattle.b67_lemmas.proofs.Members.{any_has, has_append_cases, has_filter, has_flat_back, has_map_back, has_reverse_back}
-use Rattle.b67_model.specs.State.{Condition, Ready, Awaits, WaitsAt, Task, SessionJob}
-use Rattle.b67_model.specs.Endings.{is_ready}
-use Rattle.b67_model.specs.Schedule.{Who, Session, Choice, is_same, is_before, ready_of, ready, afresh, switched, goes_on, first, next_after, choice_by, choice}
-use Rattle.b67_model.specs.Run.{number_of}
-use Rattle.b67_model.specs.InOrder.{NumberedFrom}
+use Rattle.b67_model.specs.Common.{Condition, Ready, Awaits, WaitsAt, Task, SessionJob, is_ready, Who, Session, Choice, is_same, is_before, ready_of, ready, afresh, switched, first, next_after, choice_by, choice, number_of, NumberedFrom}
+use Rattle.b67_model.specs.Schedule.{goes_on}
 
 find_has : {A : Type 0} (test : A → Bool) (xs : List A) (x : A) → find test xs ≡ Some x → Has xs x
 find_has test [] x e = cc

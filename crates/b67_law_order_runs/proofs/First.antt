@@ -7,10 +7,7 @@ use Rattle.b67_word.specs.declared.couples.Place.{Place}
 use Rattle.b67_model.specs.declared.operators.Op.{Op}
 use Rattle.b67_model.specs.declared.operators.Undecodable.TheVariants.{BadPlace, NotAdmitted, PastEnd}
 use Rattle.b67_lemmas.specs.Lists.{Has}
-use Rattle.b67_model.specs.State.{Segment}
-use Rattle.b67_model.specs.Operators.{Reading, operator_at, form_of, syllable, count_at}
-use Rattle.b67_model.specs.Program.{Program}
-use Rattle.b67_model.specs.Loader.{At, Listed, origin, listing, entries_from, refused, broken_at, broken_in, refusals_of, wrong_entries, refusals_from, IsAdmitted}
+use Rattle.b67_model.specs.Common.{Segment, Reading, operator_at, form_of, syllable, count_at, Program, At, Listed, origin, listing, entries_from, refused, broken_at, broken_in, refusals_of, wrong_entries, refusals_from, IsAdmitted}
 use Rattle.b67_law_order_steps.proofs.Admitted.{reads_good}
 
 -- where there is no refusal no test holds

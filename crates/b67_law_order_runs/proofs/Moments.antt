@@ -4,14 +4,9 @@ use Rattle.std.specs.List.{list_all}
 use Rattle.std.proofs.lemmas.List.{length-map}
 use Rattle.b67_word.specs.declared.faults.Ending.{Ending}
 use Rattle.b67_word.specs.declared.faults.Ending.TheVariants.{Ended, Deadlock, Limit, Faulted}
-use Rattle.b67_model.specs.Answers.{Answer}
+use Rattle.b67_model.specs.Common.{Answer, Ready, Task, JobConstants, Job, JobProgress, with_task, Done, Goes, Leaves, Waits, step, Settled, among, released, is_ready, ends_all, ends_task, ends_each_if, unsettled, settles, stepped, JobMoment, by_task, step_of, Starts, TasksInOrder, JobInOrder}
 use Rattle.b67_model.specs.Keyed.{keyed}
-use Rattle.b67_model.specs.State.{Ready, Task, JobConstants, Job, JobProgress, with_task}
-use Rattle.b67_model.specs.Steps.{Done, Goes, Leaves, Waits}
-use Rattle.b67_model.specs.Rows.{step}
-use Rattle.b67_model.specs.Endings.{Settled, among, released, is_ready, ends_all, ends_task, ends_each_if, unsettled, settles, stepped}
-use Rattle.b67_model.specs.Alone.{JobMoment, whole, by_task, step_of}
-use Rattle.b67_model.specs.InOrder.{Starts, TasksInOrder, JobInOrder}
+use Rattle.b67_model.specs.Alone.{whole}
 use Rattle.b67_law_order.specs.Ends.{StepsFrom}
 use Rattle.b67_law_order_rows.specs.Keeping.{KeepsOrder}
 use Rattle.b67_law_order_steps.specs.Laws.{KeptBySteps}

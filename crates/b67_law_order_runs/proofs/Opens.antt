@@ -3,10 +3,7 @@ use Rattle.std.proofs.Common.{◌≡◌, ℕ, ◌+◌, ◌^◌, ◌<◌, ◌≤�
 use Rattle.std.specs.List.{AllByRecursion, sum_by}
 use Rattle.std.proofs.lemmas.List.Sums.{sum_by-cons}
 use Rattle.std.proofs.lemmas.Bool.{cases_Bool}
-use Rattle.b67_model.specs.State.{Entered, Array, Task, Ready, Segment, SessionJob}
-use Rattle.b67_model.specs.Program.{opened}
-use Rattle.b67_model.specs.Loader.{IsAdmitted, origin}
-use Rattle.b67_model.specs.InOrder.{SegmentInOrder, SettingInOrder, IsStart, TaskInOrder, TasksInOrder, CountsInOrder, JobInOrder, NumberedFrom, originals_of, frames_in_job}
+use Rattle.b67_model.specs.Common.{Entered, Array, Task, Ready, Segment, SessionJob, opened, IsAdmitted, origin, SegmentInOrder, SettingInOrder, IsStart, TaskInOrder, TasksInOrder, CountsInOrder, JobInOrder, NumberedFrom, originals_of, frames_in_job}
 use Rattle.b67_law_order_runs.specs.Opening.{Opening, OpeningWithin, opened_from, OpensInOrder}
 use Rattle.b67_law_order_runs.proofs.Rows.{dictionary_words, entries_count, arrays_good, names_fall, one_original, each_once, entries_good}
 use Rattle.b67_law_order_runs.proofs.First.{first_stands}

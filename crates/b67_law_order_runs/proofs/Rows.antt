@@ -6,10 +6,7 @@ use Rattle.std.proofs.lemmas.Bool.Decides.{eqb_tells}
 use Rattle.b67_lemmas.specs.Lists.{Has, how_many, Falls}
 use Rattle.b67_lemmas.proofs.Members.{falls_more, has_reverse, total_append, total_reverse}
 use Rattle.b67_lemmas.proofs.Joins.{all_append, all_by, all_reverse, falls_turned}
-use Rattle.b67_model.specs.Words.{Word}
-use Rattle.b67_model.specs.State.{Array, Segment}
-use Rattle.b67_model.specs.Program.{segment_words, originals, row_arrays}
-use Rattle.b67_model.specs.InOrder.{EntryInOrder, ArrayInOrder, DictionaryWords, rows_after, is_original_of}
+use Rattle.b67_model.specs.Common.{Word, Array, Segment, segment_words, originals, row_arrays, EntryInOrder, ArrayInOrder, DictionaryWords, rows_after, is_original_of}
 use Rattle.b67_law_order_runs.specs.Opening.{RowWithin}
 
 -- the dictionary's words

@@ -7,11 +7,7 @@ use Rattle.b67_lemmas.specs.Lists.{Has}
 use Rattle.b67_lemmas.proofs.Members.{all_in, keyed_falls, keyed_has, length_change, total_change, total_has}
 use Rattle.b67_lemmas.proofs.Keyed.{all_change, change_is}
 use Rattle.b67_lemmas.proofs.Sums.{sum_total}
-use Rattle.b67_model.specs.State.{Task, JobConstants, JobProgress, SessionJob}
-use Rattle.b67_model.specs.Alone.{JobMoment, step_of}
-use Rattle.b67_model.specs.Schedule.{Session, Choice, choice}
-use Rattle.b67_model.specs.Run.{StepResult, number_of, of_job, with_moment, moment_by, moment_for, next, after_from, after}
-use Rattle.b67_model.specs.InOrder.{Starts, IsSegment, IsStart, JobInOrder, SessionInOrder, IsInOrder}
+use Rattle.b67_model.specs.Common.{Task, JobConstants, JobProgress, SessionJob, JobMoment, step_of, Session, Choice, choice, StepResult, number_of, of_job, with_moment, moment_by, moment_for, next, after_from, after, Starts, IsSegment, IsStart, JobInOrder, SessionInOrder, IsInOrder}
 use Rattle.b67_law_order_runs.specs.Opening.{Opening, OpeningWithin, opened_from, opening}
 use Rattle.b67_law_order_runs.proofs.Opens.{opens_in_order}
 use Rattle.b67_law_order_steps.proofs.Settles.{steps_keep_order, steps_keep_order_but_places}

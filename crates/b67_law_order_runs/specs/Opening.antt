@@ -1,12 +1,7 @@
 -- The opening of a session, within the limits of a deck.
 use Rattle.std.specs.Prelude.{ℕ, ◌+◌, ◌^◌, ◌<◌, ◌≤◌, ℤ, nat_abs, List, [], ◌∷◌, length}
 use Rattle.std.specs.List.{AllByRecursion}
-use Rattle.b67_model.specs.State.{SessionJob}
-use Rattle.b67_model.specs.Program.{Program, opened}
-use Rattle.b67_model.specs.Loader.{IsAdmitted}
-use Rattle.b67_model.specs.Schedule.{Switch, Session}
-use Rattle.b67_model.specs.Run.{start}
-use Rattle.b67_model.specs.InOrder.{SegmentInOrder, SwitchesRise, IsInOrder}
+use Rattle.b67_model.specs.Common.{SessionJob, Program, opened, IsAdmitted, Switch, Session, start, SegmentInOrder, SwitchesRise, IsInOrder}
 
 -- the words of a data row
 pub record RowWithin (row : List ℕ) : Type 0 where

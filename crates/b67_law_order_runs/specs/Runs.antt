@@ -1,12 +1,7 @@
 -- What each step of a session, and so each run, keeps.
 use Rattle.std.specs.Prelude.{◌≡◌, ℕ, List, Some}
 use Rattle.std.specs.List.{AllByRecursion}
-use Rattle.b67_model.specs.State.{SessionJob}
-use Rattle.b67_model.specs.Program.{Program}
-use Rattle.b67_model.specs.Loader.{IsAdmitted}
-use Rattle.b67_model.specs.Schedule.{Switch, Session}
-use Rattle.b67_model.specs.Run.{StepResult, next, after}
-use Rattle.b67_model.specs.InOrder.{IsInOrder, IsInOrderButPlaces}
+use Rattle.b67_model.specs.Common.{SessionJob, Program, IsAdmitted, Switch, Session, StepResult, next, after, IsInOrder, IsInOrderButPlaces}
 use Rattle.b67_law_order_runs.specs.Opening.{Opening, DeckWithin, opening}
 
 -- the job runs an admitted program

@@ -9,10 +9,7 @@ use Rattle.b67_model.specs.declared.operators.Op.TheVariants.{Plain}
 use Rattle.b67_model.specs.declared.operators.Undecodable.TheVariants.{BadPlace, NotAdmitted, PastEnd}
 use Rattle.b67_lemmas.specs.Lists.{Has}
 use Rattle.b67_lemmas.proofs.Members.{has_append_left}
-use Rattle.b67_model.specs.State.{Segment}
-use Rattle.b67_model.specs.Operators.{Form, Alone, OneMore, TwoMore, Literal, form_of, syllable, Reading, ends_at, reads, operator_at, place_of_bits}
-use Rattle.b67_model.specs.Program.{Program}
-use Rattle.b67_model.specs.Loader.{Entry, At, Break, entries_from, origin, listing, place_of_entry, same_place, is_start, Listed, is_last, broken_at, broken_in, Refusal, refused, refusals_of, wrong_entries, refusals_from, IsAdmitted}
+use Rattle.b67_model.specs.Common.{Segment, Form, Alone, OneMore, TwoMore, Literal, form_of, syllable, Reading, ends_at, reads, operator_at, place_of_bits, Program, Entry, At, Break, entries_from, origin, listing, place_of_entry, same_place, is_start, Listed, is_last, broken_at, broken_in, Refusal, refused, refusals_of, wrong_entries, refusals_from, IsAdmitted}
 
 -- nothing is refused of two lists where nothing is of their whole
 none_left : {A : Type 0} (xs ys : List A) → (xs ++ ys) ≡ [] → xs ≡ []

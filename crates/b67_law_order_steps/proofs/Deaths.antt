@@ -7,11 +7,9 @@ use Rattle.std.proofs.lemmas.List.{length-map, map-append}
 use Rattle.b67_model.specs.Keyed.{keyed}
 use Rattle.b67_lemmas.specs.Lists.{Has, total, Falls}
 use Rattle.b67_lemmas.proofs.Members.{all_from, all_in, any_has, any_none, any_some, falls_filter, falls_short, has_append_cases, has_append_left, has_append_right, has_filter, has_filter_in, has_map, has_map_back, has_reverse, has_reverse_back, keyed_falls, keyed_filter, keyed_has, length_filter, none_pass, total_has, total_split, total_zero}
-use Rattle.b67_model.specs.State.{Frame, Array, Condition, Ready, Awaits, WaitsAt, Task, JobConstants, Job}
+use Rattle.b67_model.specs.Common.{Frame, Array, Condition, Ready, Awaits, WaitsAt, Task, JobConstants, Job, among, is_owned_by, released, at_depth, deepest_below, deepest_first, descendants, all_with, Settled, ends_all, ends_task, unsettled, Starts, Known, known_of, from_frame, outer_of, known_numbers, WordInOrder, FramesInOrder, BirthInOrder, ParentInOrder, TaskInOrder, ArrayInOrder, EntryInOrder, is_original_of, originals_in, originals_of, frames_named, frames_in_job, TasksInOrder}
 use Rattle.b67_word.specs.declared.faults.Ending.{Ending}
 use Rattle.b67_word.specs.declared.faults.Ending.TheVariants.{Parent}
-use Rattle.b67_model.specs.Endings.{among, is_owned_by, released, at_depth, deepest_below, deepest_first, descendants, all_with, Settled, ends_all, ends_task, unsettled}
-use Rattle.b67_model.specs.InOrder.{Starts, Known, known_of, from_frame, outer_of, known_numbers, WordInOrder, FramesInOrder, BirthInOrder, ParentInOrder, TaskInOrder, ArrayInOrder, EntryInOrder, is_original_of, originals_in, originals_of, frames_named, frames_in_job, TasksInOrder}
 use Rattle.b67_law_order.proofs.Reaches.{alike_same, Stays, Follows}
 use Rattle.b67_law_order.proofs.Replaced.{task_kept, entry_kept, IsLive, reach_live, has_counts}
 use Rattle.b67_law_order.proofs.Looks.{above_one}

@@ -8,21 +8,10 @@ use Rattle.b67_model.specs.declared.operators.Op.{Op}
 use Rattle.b67_model.specs.declared.operators.Op.TheVariants.{Valc, Namc, Lt8, Lt16, Lt48, Mpcw, Brun, Brtr, Brfl, Bset, Brst, Isol, Insr, Plain}
 use Rattle.b67_model.specs.declared.operators.Code.{Code}
 use Rattle.b67_model.specs.declared.operators.Code.TheVariants.{Add, Subt, Mult, Idiv, Rdiv, Less, Greq, Grtr, Lseq, Equl, Neql, Chsn, Land, Lor, Leqv, Lnot, Same, Exit, Indx, Retn, Entr, Nxlv, Mkst, Stff, Zero, One, Push, Dlet, Exch, Dupl, Stod, Ston, Load, Noop, Nvld}
-use Rattle.b67_model.specs.Answers.{Answer, ◌>>=◌}
-use Rattle.b67_model.specs.Arithmetic.{add, subt, mult, idiv, rdiv, less, greq, grtr, lseq, equl, neql, land, lor, leqv, same, chsn, lnot, bset, brst, isol, insr}
-use Rattle.b67_model.specs.Words.{Word, Operand, Name, operand, whole}
-use Rattle.b67_model.specs.State.{Array, Frame, Standing, Marked, Entered, Return, Task, Job, OperatorContext, with_task, below_top, with_top_cells}
+use Rattle.b67_model.specs.Common.{Answer, ◌>>=◌, add, subt, mult, idiv, rdiv, less, greq, grtr, lseq, equl, neql, land, lor, leqv, same, chsn, lnot, bset, brst, isol, insr, Word, Operand, Name, operand, Array, Frame, Standing, Marked, Entered, Return, Task, Job, OperatorContext, with_task, below_top, with_top_cells, with_cell_of, End, AtCell, AtElement, AtArray, AtProc, AtIntrinsic, chase, follow, follow_reference, with_number, with_element, indexed, in_order, Line, Value, Done, Goes, Leaves, Waits, top_of, cells_of, result, with_cells, leaves_cells, pushes, without_arrays_of, accident, needs_level, back_to, evaluates, enters, left, leaves, returnable, returned, retn_word, answered, print, CellRow, on_one, on_two, dlet, exch, dupl, on_cells, branches, branch_if, stff, load_at, load, indx, nxlv, store_at, store, entr_at, entr_with, entr, plain, row, called_at, called_by, called_on, called}
+use Rattle.b67_model.specs.Words.{whole}
 use Rattle.b67_model.specs.Keyed.{keyed, change_keyed}
-use Rattle.b67_model.specs.Cells.{with_cell_of}
-use Rattle.b67_model.specs.Chase.{End, AtCell, AtElement, AtArray, AtProc, AtIntrinsic, chase, follow, follow_reference}
-use Rattle.b67_model.specs.Arrays.{with_number, with_element}
-use Rattle.b67_model.specs.Indexing.{indexed, in_order}
-use Rattle.b67_model.specs.Steps.{Line, Value, Done, Goes, Leaves, Waits, top_of, cells_of, result, with_cells, leaves_cells, pushes, without_arrays_of}
-use Rattle.b67_model.specs.Entry.{accident, needs_level, back_to, evaluates, enters, left, leaves, returnable, returned, retn_word}
-use Rattle.b67_model.specs.Intrinsics.{answered, print}
-use Rattle.b67_model.specs.Rows.{CellRow, on_one, on_two, dlet, exch, dupl, on_cells, branches, branch_if, stff, load_at, load, indx, nxlv, store_at, store, entr_at, entr_with, entr, plain, row}
 use Rattle.b67_law_order.proofs.Posts.{Post, post_ok, post_err, post_any, post_then, post_at}
-use Rattle.b67_model.specs.Called.{called_at, called_by, called_on, called}
 use Rattle.b67_law_order_steps.specs.Profiles.{Profile, profile, profiles, RowsKeepProfiles, PrintKeepsProfiles}
 
 -- another task of the same profile in a task's place

@@ -5,9 +5,7 @@ use Rattle.b67_word.specs.declared.couples.Place.{Place}
 use Rattle.b67_model.specs.Keyed.{keyed}
 use Rattle.b67_lemmas.specs.Lists.{Falls}
 use Rattle.b67_model.specs.Words as Words
-use Rattle.b67_model.specs.Words.{Word, Operand, Name, Ref, Row, Element, Original, Proc, Intrinsic}
-use Rattle.b67_model.specs.State.{Frame, Standing, Marked, Entered, Array, Task, JobConstants, Job, height}
-use Rattle.b67_model.specs.InOrder.{Starts, Known, known_of, known_numbers, from_frame, frames_of_task, critical_of, outer_reach, outer_of, reach_of, NamesArray, OwnsArray, WordInOrder, FramesInOrder, ReturnsInOrder, StackInOrder, BirthInOrder, ConditionInOrder, TaskInOrder}
+use Rattle.b67_model.specs.Common.{Word, Operand, Name, Ref, Row, Element, Original, Proc, Intrinsic, Frame, Standing, Marked, Entered, Array, Task, JobConstants, Job, height, Starts, Known, known_of, known_numbers, from_frame, frames_of_task, critical_of, outer_reach, outer_of, reach_of, NamesArray, OwnsArray, WordInOrder, FramesInOrder, ReturnsInOrder, StackInOrder, BirthInOrder, ConditionInOrder, TaskInOrder}
 
 module _ (P Q : Starts) (up : (segment level : ℕ) (place : Place) → P segment level place → Q segment level place) where
   returns_up : (s : Standing) (below : List Frame) → ReturnsInOrder P s below → ReturnsInOrder Q s below

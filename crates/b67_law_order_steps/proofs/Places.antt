@@ -9,13 +9,7 @@ use Rattle.b67_model.specs.declared.operators.Op.{Op}
 use Rattle.b67_model.specs.declared.operators.Op.TheVariants.{Valc, Namc, Lt8, Lt16, Lt48, Mpcw, Brun, Brtr, Brfl, Bset, Brst, Isol, Insr, Plain}
 use Rattle.b67_lemmas.specs.Lists.{Has}
 use Rattle.b67_lemmas.proofs.Members.{all_in, any_has, has_get, keyed_has}
-use Rattle.b67_model.specs.State.{Segment, Task, JobConstants, OperatorContext}
-use Rattle.b67_model.specs.Environment.{level_of_frame, running}
-use Rattle.b67_model.specs.Operators.{operator_at, place_of_bits}
-use Rattle.b67_model.specs.Program.{Program}
-use Rattle.b67_model.specs.Loader.{At, origin, listing, is_start, target_of, may_be_last, holds_of, holds_at, is_outside, is_last, named_segment, named_level, may_begin_at, has_stray_bits, breaks_rule_8, IsAdmitted}
-use Rattle.b67_model.specs.Rows.{reading_of, proc_of}
-use Rattle.b67_model.specs.InOrder.{IsStart, SegmentInOrder, SettingInOrder, TaskInOrder}
+use Rattle.b67_model.specs.Common.{Segment, Task, JobConstants, OperatorContext, level_of_frame, running, operator_at, place_of_bits, Program, At, origin, listing, is_start, target_of, may_be_last, holds_of, holds_at, is_outside, is_last, named_segment, named_level, may_begin_at, has_stray_bits, breaks_rule_8, IsAdmitted, reading_of, proc_of, IsStart, SegmentInOrder, SettingInOrder, TaskInOrder}
 use Rattle.b67_law_order_rows.specs.Parameters.{StartsAt, ParametersFit}
 use Rattle.b67_law_order_steps.specs.Laws.{RowsKeepOrder, PlacesHaveOperators}
 use Rattle.b67_law_order_steps.proofs.Readings.{OpBits, ReadFits}

@@ -9,11 +9,8 @@ use Rattle.b67_word.specs.declared.couples.Place.{Place}
 use Rattle.b67_model.specs.declared.operators.Op.{Op}
 use Rattle.b67_lemmas.specs.Lists.{Has, Falls}
 use Rattle.b67_model.specs.Words as Words
-use Rattle.b67_model.specs.Words.{Word, Operand, Name, Ref, Row, Element, Original, Proc, Intrinsic}
-use Rattle.b67_model.specs.State.{Array, Task, Segment, JobConstants, Job, SessionJob}
-use Rattle.b67_model.specs.Operators.{operator_at, reads, count_at, form_of, syllable}
+use Rattle.b67_model.specs.Common.{Word, Operand, Name, Ref, Row, Element, Original, Proc, Intrinsic, Array, Task, Segment, JobConstants, Job, SessionJob, operator_at, reads, count_at, form_of, syllable, Known, IsSegment, IsStart, NamesArray, OwnsArray, NamesEntered, ArrayInOrder, EntryInOrder, TaskInOrder, TasksInOrder, SettingInOrder, SegmentInOrder, DictionaryWords, JobInOrder, NumberedFrom, originals_of}
 use Rattle.b67_model.specs.declared.operators.Undecodable.TheVariants.{BadPlace}
-use Rattle.b67_model.specs.InOrder.{Known, IsSegment, IsStart, NamesArray, OwnsArray, NamesEntered, ArrayInOrder, EntryInOrder, TaskInOrder, TasksInOrder, SettingInOrder, SegmentInOrder, DictionaryWords, JobInOrder, NumberedFrom, originals_of}
 use Rattle.b67_law_order_steps.proofs.Admitted.{entered}
 use Rattle.b67_law_order_steps.specs.Weaker.{Recoded, RefilledArray, Refilled, AllOtherNumbers, StartsAreSegments, OtherNumbersKeepOrder}
 use Rattle.b67_law_order_steps.proofs.Maps.{task_up}

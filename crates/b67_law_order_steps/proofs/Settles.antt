@@ -5,18 +5,12 @@ use Rattle.std.proofs.lemmas.Bool.Decides.{eqb_tells}
 use Rattle.std.proofs.lemmas.Bool.{cases_Bool, true≢false}
 use Rattle.b67_word.specs.declared.faults.Ending.{Ending}
 use Rattle.b67_word.specs.declared.faults.Ending.TheVariants.{Ended, Deadlock, Limit, Faulted}
-use Rattle.b67_model.specs.Answers.{Answer}
+use Rattle.b67_model.specs.Common.{Answer, Array, Condition, Ready, Task, JobConstants, Job, JobProgress, with_task, Done, Goes, Leaves, Waits, Reading, step, step_by, reading_of, among, all_with, deepest_first, Settled, ends_all, ends_task, ends_each_if, deadlocked, limited, unsettled, is_ready, settles, stepped, Starts, IsSegment, IsStart, known_of, from_frame, reach_of, originals_of, ConditionInOrder, TaskInOrder, TasksInOrder, JobInOrder}
 use Rattle.b67_model.specs.Keyed.{keyed}
 use Rattle.b67_lemmas.specs.Lists.{Has}
 use Rattle.b67_lemmas.proofs.Members.{all_in, keyed_has, filter_none}
-use Rattle.b67_model.specs.State.{Array, Condition, Ready, Task, JobConstants, Job, JobProgress, with_task}
-use Rattle.b67_model.specs.Steps.{Done, Goes, Leaves, Waits}
-use Rattle.b67_model.specs.Operators.{Reading}
-use Rattle.b67_model.specs.Rows.{step, step_by, reading_of}
 use Rattle.b67_model.specs.Endings as Endings
-use Rattle.b67_model.specs.Endings.{among, all_with, deepest_first, Settled, ends_all, ends_task, ends_each_if, deadlocked, limited, unsettled, is_ready, settles, stepped}
 use Rattle.b67_model.specs.Alone.{whole}
-use Rattle.b67_model.specs.InOrder.{Starts, IsSegment, IsStart, known_of, from_frame, reach_of, originals_of, ConditionInOrder, TaskInOrder, TasksInOrder, JobInOrder}
 use Rattle.b67_law_order.specs.Ends.{StepsFrom}
 use Rattle.b67_law_order_rows.specs.Keeping.{KeepsOrder}
 use Rattle.b67_law_order_steps.specs.Laws.{StepsKeepOrderButPlaces, StepsKeepOrder}

@@ -2,10 +2,7 @@
 use Rattle.std.proofs.Common.{◌≡◌, Ok, Err, refl}
 use Rattle.b67_word.specs.declared.couples.Place.{Place}
 use Rattle.b67_model.specs.declared.operators.Op.{Op}
-use Rattle.b67_model.specs.State.{Task, JobConstants, Job, OperatorContext}
-use Rattle.b67_model.specs.Operators.{Reading}
-use Rattle.b67_model.specs.Rows.{row, reading_of, step_by, step}
-use Rattle.b67_model.specs.InOrder.{Starts}
+use Rattle.b67_model.specs.Common.{Task, JobConstants, Job, OperatorContext, Reading, row, reading_of, step_by, step, Starts}
 use Rattle.b67_law_order_rows.specs.Parameters.{ParametersFit}
 use Rattle.b67_law_order.specs.Ends.{StepsFrom}
 use Rattle.b67_law_order_rows.specs.Keeping.{KeepsOrder}

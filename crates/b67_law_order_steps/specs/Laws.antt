@@ -5,11 +5,7 @@ use Rattle.b67_model.specs.declared.operators.Op.{Op}
 use Rattle.b67_law_order.specs.Ends.{StepsFrom}
 use Rattle.b67_law_order_rows.specs.Keeping.{KeepsOrder}
 use Rattle.b67_model.specs.Keyed.{keyed}
-use Rattle.b67_model.specs.State.{Ready, Task, JobConstants, Job, JobProgress}
-use Rattle.b67_model.specs.Program.{Program}
-use Rattle.b67_model.specs.Loader.{IsAdmitted}
-use Rattle.b67_model.specs.Rows.{reading_of, step}
-use Rattle.b67_model.specs.InOrder.{Starts, IsSegment, IsStart, TasksInOrder, JobInOrder}
+use Rattle.b67_model.specs.Common.{Ready, Task, JobConstants, Job, JobProgress, Program, IsAdmitted, reading_of, step, Starts, IsSegment, IsStart, TasksInOrder, JobInOrder}
 use Rattle.b67_model.specs.Alone.{whole}
 
 -- each operator and each intrinsic keeps all items but those on counts and on places, over any code words

@@ -1,13 +1,8 @@
 -- What a step leaves of all tasks: their numbers, parents, critical frames and conditions; and that it makes no array.
 use Rattle.std.specs.Prelude.{◌≡◌, ℕ, List, [], map, Option, Some, None, Ok}
 use Rattle.b67_model.specs.declared.operators.Op.{Op}
-use Rattle.b67_model.specs.Words.{Word}
-use Rattle.b67_model.specs.State.{Condition, Task, Job, OperatorContext}
+use Rattle.b67_model.specs.Common.{Word, Condition, Task, Job, OperatorContext, Line, Goes, print, row, called}
 use Rattle.b67_model.specs.Keyed.{keyed}
-use Rattle.b67_model.specs.Steps.{Line, Goes}
-use Rattle.b67_model.specs.Intrinsics.{print}
-use Rattle.b67_model.specs.Rows.{row}
-use Rattle.b67_model.specs.Called.{called}
 
 pub record Profile : Type 0 where
   pub number : ℕ

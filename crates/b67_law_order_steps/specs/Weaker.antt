@@ -1,9 +1,7 @@
 -- The order of a session without its places, and with other numbers in its segments and arrays.
 use Rattle.std.specs.Prelude.{◌≡◌, ℕ, ◌<◌, ◌^◌, List, [], ◌∷◌, length}
 use Rattle.std.specs.List.{AllByRecursion}
-use Rattle.b67_model.specs.State.{Array, Segment, SessionJob}
-use Rattle.b67_model.specs.Schedule.{Session}
-use Rattle.b67_model.specs.InOrder.{IsInOrder, IsInOrderButPlaces}
+use Rattle.b67_model.specs.Common.{Array, Segment, SessionJob, Session, IsInOrder, IsInOrderButPlaces}
 
 abbrev pub StartsAreSegments : Type 0
 StartsAreSegments = (s : Session) → IsInOrder s → IsInOrderButPlaces s

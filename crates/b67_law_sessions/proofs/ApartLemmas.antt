@@ -4,12 +4,7 @@ use Rattle.std.proofs.lemmas.Bool.Decides.{eqb_tells}
 use Rattle.std.proofs.lemmas.List.Elements.{filter-append}
 use Rattle.std.proofs.lemmas.List.{map-append}
 use Rattle.b67_model.specs.Keyed.{keyed}
-use Rattle.b67_model.specs.Steps.{Line}
-use Rattle.b67_model.specs.State.{SessionJob}
-use Rattle.b67_model.specs.Schedule.{Session, Choice, choice}
-use Rattle.b67_model.specs.Run.{RunLine, StepResult, of_job, number_of, with_moment, moment_by, moment_for, lines_from, after_from, next}
-use Rattle.b67_model.specs.Alone.{step_of, alone_lines}
-use Rattle.b67_model.specs.Apart.{lines_of_job, makers_from, tasks_of_job, JobsApart}
+use Rattle.b67_model.specs.Common.{Line, SessionJob, Session, Choice, choice, RunLine, StepResult, of_job, number_of, with_moment, moment_by, moment_for, lines_from, after_from, next, step_of, alone_lines, lines_of_job, makers_from, tasks_of_job, JobsApart}
 use Rattle.b67_law_sessions.specs.JobsApart.{alone_after, JobStatesApart}
 use Rattle.b67_lemmas.proofs.Keyed.{keyed-change_other, keyed-change_same}
 

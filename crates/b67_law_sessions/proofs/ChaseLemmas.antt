@@ -1,10 +1,7 @@
 -- The relation on chains and the function say the same.
 use Rattle.std.proofs.Common.{◌≡◌, ℕ, zero, suc, ◌≤◌, refl, sym, ◌∙◌, ap, subst, arith, ◌⊎◌, inl, inr, Err}
 use Rattle.b67_word.specs.declared.faults.Fault.TheVariants.{Loop}
-use Rattle.b67_model.specs.Answers.{Answer}
-use Rattle.b67_model.specs.Words.{Word}
-use Rattle.b67_model.specs.State.{OperatorContext}
-use Rattle.b67_model.specs.Chase.{End, Link, Stops, Leads, link, Chain, last, onward, Path, here, further, ComesTo, ends, loops, chase_on, chase, ChaseIsRelation}
+use Rattle.b67_model.specs.Common.{Answer, Word, OperatorContext, End, Link, Stops, Leads, link, Chain, last, onward, Path, here, further, ComesTo, ends, loops, chase_on, chase, ChaseIsRelation}
 
 -- a chain that isn't too long gives its end
 chain_gives : (h : OperatorContext) {w : Word} {end : Answer End} {n : ℕ} → Chain h w end n → (k : ℕ) → n ≤ k → chase_on h k (Leads w) ≡ end

@@ -10,13 +10,7 @@ use Rattle.b67_model.specs.Keyed.{keyed, change_keyed}
 use Rattle.b67_lemmas.specs.Lists.{Has}
 use Rattle.b67_lemmas.proofs.Members.{change_found, change_other, keyed_has}
 use Rattle.b67_lemmas.proofs.Keyed.{change_is}
-use Rattle.b67_model.specs.State.{Task, SessionJob}
-use Rattle.b67_model.specs.Operators.{Reading}
-use Rattle.b67_model.specs.Rows.{reading_of}
-use Rattle.b67_model.specs.Alone.{JobMoment, step_of}
-use Rattle.b67_model.specs.Schedule.{Session, Choice, choice}
-use Rattle.b67_model.specs.Run.{StepResult, number_of, of_job, with_moment, moment_by, moment_for, next, after_from, after}
-use Rattle.b67_model.specs.InOrder.{IsInOrder}
+use Rattle.b67_model.specs.Common.{Task, SessionJob, Reading, reading_of, JobMoment, step_of, Session, Choice, choice, StepResult, number_of, of_job, with_moment, moment_by, moment_for, next, after_from, after, IsInOrder}
 use Rattle.b67_law_order_runs.specs.Opening.{Opening, opened_from, opening}
 use Rattle.b67_law_order_runs.proofs.Opens.{opens_in_order}
 use Rattle.b67_law_order_runs.specs.Runs.{RunsAdmitted}

@@ -5,15 +5,10 @@ use Rattle.b67_word.specs.declared.faults.Fault.{Fault}
 use Rattle.b67_word.specs.declared.faults.Fault.TheVariants.{InvalidOperator}
 use Rattle.b67_word.specs.declared.faults.Ending.{Ending}
 use Rattle.b67_word.specs.declared.faults.Ending.TheVariants.{Ended, Parent, Deadlock, Limit, Faulted}
-use Rattle.b67_model.specs.Answers.{Answer}
+use Rattle.b67_model.specs.Common.{Answer, Task, JobConstants, Job, JobProgress, with_task, Done, Goes, Leaves, Waits, step, Settled, is_ready, all_with, deepest_first, descendants, ends_task, ends_each_if, unsettled, settles, stepped, by_task, step_of}
 use Rattle.b67_model.specs.Keyed.{keyed}
 use Rattle.b67_lemmas.specs.Lists.{Has}
 use Rattle.b67_lemmas.proofs.Members.{has_append_cases, has_append_left, has_append_right, has_map_back}
-use Rattle.b67_model.specs.State.{Task, JobConstants, Job, JobProgress, with_task}
-use Rattle.b67_model.specs.Steps.{Done, Goes, Leaves, Waits}
-use Rattle.b67_model.specs.Rows.{step}
-use Rattle.b67_model.specs.Endings.{Settled, is_ready, all_with, deepest_first, descendants, ends_task, ends_each_if, unsettled, settles, stepped}
-use Rattle.b67_model.specs.Alone.{by_task, step_of}
 
 abbrev pub FaultIn : List (ℕ × Ending) → ℕ → Type 0
 FaultIn endings x = Has endings (x, Faulted InvalidOperator)

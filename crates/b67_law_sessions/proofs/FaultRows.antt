@@ -9,19 +9,9 @@ use Rattle.b67_word.specs.declared.faults.Fault.TheVariants.{InvalidOperator, In
 use Rattle.b67_model.specs.declared.operators.Op.TheVariants.{Valc, Namc, Lt8, Lt16, Lt48, Mpcw, Brun, Brtr, Brfl, Bset, Brst, Isol, Insr, Plain}
 use Rattle.b67_model.specs.declared.operators.Code.{Code}
 use Rattle.b67_model.specs.declared.operators.Code.TheVariants.{Add, Subt, Mult, Idiv, Rdiv, Less, Greq, Grtr, Lseq, Equl, Neql, Chsn, Land, Lor, Leqv, Lnot, Same, Exit, Indx, Retn, Entr, Nxlv, Mkst, Stff, Zero, One, Push, Dlet, Exch, Dupl, Stod, Ston, Load, Noop, Nvld}
-use Rattle.b67_model.specs.Answers.{Answer, ◌>>=◌, ◌>>◌, needs}
+use Rattle.b67_model.specs.Common.{Answer, ◌>>=◌, ◌>>◌, needs, Word, Operand, Name, Ref, Row, Element, Original, Proc, Intrinsic, operand, number, to_operand, Standing, Marked, Entered, Return, Task, Job, OperatorContext, place_of, cell, End, AtCell, AtElement, AtArray, AtProc, AtIntrinsic, Link, Stops, Leads, element_end, link_at, link_in, link_from, link, chase_on, chase, follow, follow_reference, array, array_at, array_of, index_below, indexed, in_order, Binary, on_numbers, compared, divided, add, subt, mult, idiv, rdiv, less, greq, grtr, lseq, equl, neql, land, lor, leqv, same, chsn, lnot, bset, brst, isol, insr, Line, Done, top_of, cells_of, result, with_cells, leaves_cells, pushes, accident, evaluates, enters, leaves, exit, returnable, returned, retn_word, answers, array_length, arraydec, print, row_copy, numbers_of, printrow, read, starts, process, awaits, await, status, waits_at, wait, causes, cause, deallocate, resize, intrinsic, CellRow, on_one, on_two, movable, dlet, exch, dupl, on_cells, branches, branch_if, valc, stff_word, stff, load_at, load, indx, nxlv, store_at, store, entr_at, entr_with, entr, is_proc, proc_of, plain}
 use Rattle.b67_model.specs.Words as Words
-use Rattle.b67_model.specs.Words.{Word, Operand, Name, Ref, Row, Element, Original, Proc, Intrinsic, operand, number, whole, to_operand}
-use Rattle.b67_model.specs.State.{Standing, Marked, Entered, Return, Task, Job, OperatorContext}
-use Rattle.b67_model.specs.Cells.{place_of, cell}
-use Rattle.b67_model.specs.Chase.{End, AtCell, AtElement, AtArray, AtProc, AtIntrinsic, Link, Stops, Leads, element_end, link_at, link_in, link_from, link, chase_on, chase, follow, follow_reference}
-use Rattle.b67_model.specs.Arrays.{array}
-use Rattle.b67_model.specs.Indexing.{array_at, array_of, index_below, indexed, in_order}
-use Rattle.b67_model.specs.Arithmetic.{Binary, on_numbers, compared, divided, add, subt, mult, idiv, rdiv, less, greq, grtr, lseq, equl, neql, land, lor, leqv, same, chsn, lnot, bset, brst, isol, insr}
-use Rattle.b67_model.specs.Steps.{Line, Done, top_of, cells_of, result, with_cells, leaves_cells, pushes}
-use Rattle.b67_model.specs.Entry.{accident, evaluates, enters, leaves, exit, returnable, returned, retn_word}
-use Rattle.b67_model.specs.Intrinsics.{answers, array_length, arraydec, print, row_copy, numbers_of, printrow, read, starts, process, awaits, await, status, waits_at, wait, causes, cause, deallocate, resize, intrinsic}
-use Rattle.b67_model.specs.Rows.{CellRow, on_one, on_two, movable, dlet, exch, dupl, on_cells, branches, branch_if, valc, stff_word, stff, load_at, load, indx, nxlv, store_at, store, entr_at, entr_with, entr, is_proc, proc_of, plain}
+use Rattle.b67_model.specs.Words.{whole}
 use Rattle.b67_law_sessions.specs.Faults.{InvalidOperatorIsNvld}
 
 -- any answer but that fault

@@ -2,15 +2,9 @@
 use Rattle.std.proofs.Common.{subst, ℕ, Bool, true, false, List, Option, Some, None, Ok, Err, arith}
 use Rattle.b67_word.specs.declared.faults.Ending.{Ending}
 use Rattle.b67_word.specs.declared.faults.Ending.TheVariants.{Ended, Faulted}
-use Rattle.b67_model.specs.Answers.{Answer}
-use Rattle.b67_model.specs.State.{Task, JobConstants, Job, JobProgress, with_task}
-use Rattle.b67_model.specs.Steps.{Done, Goes, Leaves, Waits}
-use Rattle.b67_model.specs.Intrinsics.{read}
-use Rattle.b67_model.specs.Rows.{reading_of, step_by, step}
-use Rattle.b67_model.specs.Operators.{Reading}
+use Rattle.b67_model.specs.Common.{Answer, Task, JobConstants, Job, JobProgress, with_task, Done, Goes, Leaves, Waits, read, reading_of, step_by, step, Reading, Settled, ends_all, ends_task, ends_each_if, unsettled, settles, stepped, by_task, step_of}
 use Rattle.b67_model.specs.Keyed.{keyed}
-use Rattle.b67_model.specs.Endings.{Settled, ends_all, ends_task, ends_each_if, unsettled, settles, stepped}
-use Rattle.b67_model.specs.Alone.{whole, by_task, step_of}
+use Rattle.b67_model.specs.Alone.{whole}
 use Rattle.b67_law_sessions.specs.Grown.{Grown, RowsGrow, StepsGrow}
 use Rattle.b67_law_order.proofs.Posts.{Post, post_err}
 use Rattle.b67_law_order_steps.proofs.Identities.{Grown as RowGrown, Keeps, Good, row_good}

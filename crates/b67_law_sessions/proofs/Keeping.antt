@@ -5,18 +5,10 @@ use Rattle.b67_word.specs.declared.couples.Place.{Place}
 use Rattle.b67_word.specs.declared.faults.Ending.{Ending}
 use Rattle.b67_word.specs.declared.faults.Ending.TheVariants.{Ended, Deadlock, Limit, Faulted}
 use Rattle.b67_model.specs.declared.operators.Op.{Op}
-use Rattle.b67_model.specs.Answers.{Answer}
+use Rattle.b67_model.specs.Common.{Answer, Word, Frame, Standing, Task, JobConstants, Job, JobProgress, with_task, called, Line, Done, Goes, Leaves, Waits, Reading, row, reading_of, step_by, step, Settled, among, released, ends_all, ends_task, ends_each_if, unsettled, settles, stepped, by_task, step_of}
 use Rattle.b67_model.specs.Keyed.{keyed, change_keyed}
 use Rattle.b67_lemmas.specs.Lists.{Has}
 use Rattle.b67_lemmas.proofs.Members.{has_filter, has_map_back, keyed_has}
-use Rattle.b67_model.specs.Words.{Word}
-use Rattle.b67_model.specs.State.{Frame, Standing, Task, JobConstants, Job, JobProgress, with_task}
-use Rattle.b67_model.specs.Called.{called}
-use Rattle.b67_model.specs.Steps.{Line, Done, Goes, Leaves, Waits}
-use Rattle.b67_model.specs.Operators.{Reading}
-use Rattle.b67_model.specs.Rows.{row, reading_of, step_by, step}
-use Rattle.b67_model.specs.Endings.{Settled, among, released, ends_all, ends_task, ends_each_if, unsettled, settles, stepped}
-use Rattle.b67_model.specs.Alone.{by_task, step_of}
 use Rattle.b67_law_order_rows.proofs.Kept.{here}
 use Rattle.b67_law_sessions.specs.Made.{OperatorMakes, MakesMark, StandsIn}
 use Rattle.b67_law_sessions.proofs.Rows.{each_row_makes_its_words}

@@ -3,9 +3,7 @@ use Rattle.std.proofs.Common.{◌≡◌, ◌≢◌, ℕ, List, [], ◌∷◌, fl
 use Rattle.std.specs.Option.{option_or}
 use Rattle.std.proofs.lemmas.Bool.Decides.{eqb_tells}
 use Rattle.b67_model.specs.Keyed.{keyed, change_keyed}
-use Rattle.b67_model.specs.Words.{Word}
-use Rattle.b67_model.specs.State.{Frame, Task, mcp, no_frame, top, with_top_cells}
-use Rattle.b67_model.specs.Steps.{with_cells}
+use Rattle.b67_model.specs.Common.{Word, Frame, Task, mcp, no_frame, top, with_top_cells, with_cells}
 use Rattle.b67_law_sessions.specs.Looks.{OthersLookTheSame}
 use Rattle.b67_lemmas.proofs.Keyed.{keyed-append, keyed-flat_map-change}
 

@@ -5,13 +5,7 @@ use Rattle.b67_model.specs.declared.operators.Op.{Op}
 use Rattle.b67_model.specs.Keyed.{keyed}
 use Rattle.b67_lemmas.specs.Lists.{Has}
 use Rattle.b67_lemmas.proofs.Members.{keyed_has}
-use Rattle.b67_model.specs.Words.{Word}
-use Rattle.b67_model.specs.State.{Standing, Entered, Task, SessionJob}
-use Rattle.b67_model.specs.Called.{called}
-use Rattle.b67_model.specs.Rows.{reading_of}
-use Rattle.b67_model.specs.Alone.{step_of}
-use Rattle.b67_model.specs.Schedule.{Session, Choice, choice}
-use Rattle.b67_model.specs.Run.{StepResult, number_of, of_job, with_moment, moment_by, moment_for, next, after_from, after}
+use Rattle.b67_model.specs.Common.{Word, Standing, Entered, Task, SessionJob, called, reading_of, step_of, Session, Choice, choice, StepResult, number_of, of_job, with_moment, moment_by, moment_for, next, after_from, after}
 use Rattle.b67_law_order_runs.specs.Opening.{opening}
 use Rattle.b67_law_order_rows.proofs.Kept.{here}
 use Rattle.b67_law_sessions.specs.Made.{OperatorMakes, MakesMark}

@@ -5,23 +5,12 @@ use Rattle.b67_model.specs.declared.operators.Op.{Op}
 use Rattle.b67_model.specs.declared.operators.Op.TheVariants.{Valc, Namc, Lt8, Lt16, Lt48, Mpcw, Brun, Brtr, Brfl, Bset, Brst, Isol, Insr, Plain}
 use Rattle.b67_model.specs.declared.operators.Code.{Code}
 use Rattle.b67_model.specs.declared.operators.Code.TheVariants.{Add, Subt, Mult, Idiv, Rdiv, Less, Greq, Grtr, Lseq, Equl, Neql, Chsn, Land, Lor, Leqv, Lnot, Same, Exit, Indx, Retn, Entr, Nxlv, Mkst, Stff, Zero, One, Push, Dlet, Exch, Dupl, Stod, Ston, Load, Noop, Nvld}
-use Rattle.b67_model.specs.Answers.{Answer, needs}
+use Rattle.b67_model.specs.Common.{Answer, needs, Binary, add, subt, mult, idiv, rdiv, less, greq, grtr, lseq, equl, neql, land, lor, leqv, same, chsn, lnot, bset, brst, isol, insr, Word, Operand, Name, Ref, Row, Element, Original, operand, Return, Frame, Standing, Marked, Entered, Task, OperatorContext, top, below_top, with_task, called, called_on, called_by, called_at, place_of, cell, with_cell, array, element, with_element, with_array, all_zero, resized, indexed, in_order, End, AtCell, AtElement, AtArray, AtProc, AtIntrinsic, chase, follow, follow_reference, Line, Value, Values, Done, Goes, top_of, cells_of, with_cells, leaves_cells, pushes, back_to, needs_level, answered, answers, array_length, arraydec, print, row_copy, numbers_of, printrow, read_from, read, child_of, starts, process, awaits, await, status_of, status, waits_at, wait, causes, cause, needs_writable, deallocate, resize, intrinsic, on_one, on_two, dlet, exch, dupl, on_cells, branches, branch_if, stff_word, stff, load_at, load, indx, nxlv, store_at, store, entr_at, entr_with, entr, proc_of, plain, row}
 use Rattle.b67_lemmas.specs.Lists.{Has}
 use Rattle.b67_lemmas.proofs.Members.{has_reverse_back}
-use Rattle.b67_model.specs.Arithmetic.{Binary, add, subt, mult, idiv, rdiv, less, greq, grtr, lseq, equl, neql, land, lor, leqv, same, chsn, lnot, bset, brst, isol, insr}
-use Rattle.b67_model.specs.Words.{Word, Operand, Name, Ref, Row, Element, Original, operand, whole}
-use Rattle.b67_model.specs.State.{Return, Frame, Standing, Marked, Entered, Task, OperatorContext, top, below_top, with_task}
-use Rattle.b67_model.specs.Called.{called, called_on, called_by, called_at}
+use Rattle.b67_model.specs.Words.{whole}
 use Rattle.std.proofs.lemmas.Bool.{eqb-true}
-use Rattle.b67_model.specs.Cells.{place_of, cell, with_cell}
-use Rattle.b67_model.specs.Arrays.{array, element, with_element, with_array, all_zero, resized}
-use Rattle.b67_model.specs.Indexing.{indexed, in_order}
-use Rattle.b67_model.specs.Chase.{End, AtCell, AtElement, AtArray, AtProc, AtIntrinsic, chase, follow, follow_reference}
-use Rattle.b67_model.specs.Steps.{Line, Value, Values, Done, Goes, top_of, cells_of, with_cells, leaves_cells, pushes}
-use Rattle.b67_model.specs.Entry.{back_to, needs_level}
 use Rattle.b67_word.specs.declared.faults.Fault.TheVariants.{StackOverflow}
-use Rattle.b67_model.specs.Intrinsics.{answered, answers, array_length, arraydec, print, row_copy, numbers_of, printrow, read_from, read, child_of, starts, process, awaits, await, status_of, status, waits_at, wait, causes, cause, needs_writable, deallocate, resize, intrinsic}
-use Rattle.b67_model.specs.Rows.{on_one, on_two, dlet, exch, dupl, on_cells, branches, branch_if, stff_word, stff, load_at, load, indx, nxlv, store_at, store, entr_at, entr_with, entr, proc_of, plain, row}
 use Rattle.b67_law_order.proofs.Posts.{Post, post_ok, post_err, post_bind, post_any, post_then, post_if, post_at, post_if_is, post_is}
 use Rattle.b67_law_sessions.specs.Made.{OperatorMakes, MakesMark, by_mkst, by_entr, by_retn, by_load, by_stod, by_ston, by_valc, StandsIn, HasWord, HasMark, EachRowMakesItsWords, by_process}
 use Rattle.b67_law_sessions.proofs.Steps as S

@@ -4,10 +4,7 @@ use Rattle.std.specs.List.{AllByRecursion}
 use Rattle.b67_model.specs.Keyed.{keyed}
 use Rattle.b67_lemmas.specs.Lists.{Has}
 use Rattle.b67_lemmas.proofs.Members.{all_in, keyed_falls}
-use Rattle.b67_model.specs.State.{Task, SessionJob}
-use Rattle.b67_model.specs.Schedule.{Session}
-use Rattle.b67_model.specs.Run.{StepResult, number_of, next, after_from, after}
-use Rattle.b67_model.specs.InOrder.{IsStart, JobInOrder, IsInOrder}
+use Rattle.b67_model.specs.Common.{Task, SessionJob, Session, StepResult, number_of, next, after_from, after, IsStart, JobInOrder, IsInOrder}
 use Rattle.b67_law_order_runs.specs.Opening.{opening}
 use Rattle.b67_law_order_runs.proofs.Opens.{opens_in_order}
 use Rattle.b67_law_order_runs.specs.Runs.{RunsAdmitted}

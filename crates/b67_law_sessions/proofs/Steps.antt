@@ -1,21 +1,12 @@
 -- What rows may put into frames: words of one kind, and marks of one kind.
 use Rattle.std.proofs.Common.{◌≡◌, ℕ, zero, suc, ◌+◌, ◌-◌, Bool, true, false, eqb, List, [], ◌∷◌, reverse, Option, Some, None, slice_set, refl, subst, inl, inr, ◌⊎◌}
 use Rattle.std.proofs.lemmas.Bool.{cases_Bool}
-use Rattle.b67_model.specs.Answers.{Answer}
+use Rattle.b67_model.specs.Common.{Answer, Word, Operand, Name, Ref, Row, Element, Original, Proc, Intrinsic, operand, Frame, Standing, Marked, Entered, Return, Task, Job, OperatorContext, top, below_top, with_top_cells, with_task, with_cell_of, with_cell, Binary, element, End, AtCell, AtElement, AtArray, AtProc, AtIntrinsic, follow, Line, Done, Goes, Leaves, Waits, top_of, cells_of, result, with_frames, with_cells, leaves_cells, pushes, mkst, accident, back_to, evaluates, enters, left, leaves, exit, returnable, returned, retn_word, answered, answers, woken_at, wakes, CellRow, on_one, on_two, movable, dlet, exch, dupl, on_cells}
 use Rattle.b67_model.specs.Keyed.{change_keyed}
 use Rattle.b67_lemmas.specs.Lists.{Has}
 use Rattle.b67_lemmas.proofs.Members.{has_map_back, has_reverse_back}
 use Rattle.b67_model.specs.Words as Words
-use Rattle.b67_model.specs.Words.{Word, Operand, Name, Ref, Row, Element, Original, Proc, Intrinsic, operand, whole}
-use Rattle.b67_model.specs.State.{Frame, Standing, Marked, Entered, Return, Task, Job, OperatorContext, top, below_top, with_top_cells, with_task}
-use Rattle.b67_model.specs.Cells.{with_cell_of, with_cell}
-use Rattle.b67_model.specs.Arithmetic.{Binary}
-use Rattle.b67_model.specs.Arrays.{element}
-use Rattle.b67_model.specs.Chase.{End, AtCell, AtElement, AtArray, AtProc, AtIntrinsic, follow}
-use Rattle.b67_model.specs.Steps.{Line, Done, Goes, Leaves, Waits, top_of, cells_of, result, with_frames, with_cells, leaves_cells, pushes}
-use Rattle.b67_model.specs.Entry.{mkst, accident, back_to, evaluates, enters, left, leaves, exit, returnable, returned, retn_word}
-use Rattle.b67_model.specs.Intrinsics.{answered, answers, woken_at, wakes}
-use Rattle.b67_model.specs.Rows.{CellRow, on_one, on_two, movable, dlet, exch, dupl, on_cells}
+use Rattle.b67_model.specs.Words.{whole}
 use Rattle.b67_law_order.proofs.Posts.{Post, post_ok, post_err, post_bind, post_any, post_then}
 
 has_changed : {A : Type 0} (key : A → ℕ) (n : ℕ) (change : A → A) (xs : List A) (x : A) → Has (change_keyed key n change xs) x → ((y : A) × Has xs y × (change y ≡ x)) ⊎ Has xs x

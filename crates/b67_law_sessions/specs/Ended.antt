@@ -6,9 +6,7 @@ use Rattle.b67_model.specs.declared.operators.Op.TheVariants.{Plain}
 use Rattle.b67_model.specs.declared.operators.Code.TheVariants.{Nvld}
 use Rattle.b67_model.specs.Keyed.{keyed}
 use Rattle.b67_lemmas.specs.Lists.{Has}
-use Rattle.b67_model.specs.State.{SessionJob}
-use Rattle.b67_model.specs.Schedule.{Switch, Session}
-use Rattle.b67_model.specs.Run.{number_of, after}
+use Rattle.b67_model.specs.Common.{SessionJob, Switch, Session, number_of, after}
 use Rattle.b67_law_order_runs.specs.Opening.{Opening, DeckWithin, opening}
 use Rattle.b67_law_sessions.specs.RunMade.{MakesOperator}
 

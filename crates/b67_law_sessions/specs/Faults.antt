@@ -4,8 +4,7 @@ use Rattle.b67_word.specs.declared.faults.Fault.TheVariants.{InvalidOperator}
 use Rattle.b67_model.specs.declared.operators.Op.{Op}
 use Rattle.b67_model.specs.declared.operators.Op.TheVariants.{Mpcw, Plain}
 use Rattle.b67_model.specs.declared.operators.Code.TheVariants.{Nvld}
-use Rattle.b67_model.specs.State.{OperatorContext}
-use Rattle.b67_model.specs.Rows.{is_proc, row}
+use Rattle.b67_model.specs.Common.{OperatorContext, is_proc, row}
 
 -- the row of an operator faults INVALID OPERATOR only at NVLD, or at an MPCW whose literal the loader refuses
 abbrev pub InvalidOperatorIsNvld : Type 0

@@ -1,10 +1,7 @@
 -- Identities are counted up and never used again.
 use Rattle.std.specs.Prelude.{◌≡◌, ℕ, ◌≤◌, List, Option, Ok}
 use Rattle.b67_model.specs.declared.operators.Op.{Op}
-use Rattle.b67_model.specs.State.{JobConstants, Job, JobProgress, OperatorContext}
-use Rattle.b67_model.specs.Steps.{Line, Goes}
-use Rattle.b67_model.specs.Rows.{row}
-use Rattle.b67_model.specs.Alone.{step_of}
+use Rattle.b67_model.specs.Common.{JobConstants, Job, JobProgress, OperatorContext, Line, Goes, row, step_of}
 
 -- the next identities of frames and arrays, and the next number of a task, are the same or higher
 pub record Grown (before after : Job) : Type 0 where

@@ -1,11 +1,7 @@
 -- A job's part of a run: its state, beside its lines.
 use Rattle.std.specs.Prelude.{◌≡◌, ℕ, List, [], ◌∷◌, Some}
 use Rattle.b67_model.specs.Keyed.{keyed}
-use Rattle.b67_model.specs.State.{JobConstants, JobProgress, SessionJob}
-use Rattle.b67_model.specs.Schedule.{Session}
-use Rattle.b67_model.specs.Run.{number_of, after, next}
-use Rattle.b67_model.specs.Alone.{step_of}
-use Rattle.b67_model.specs.Apart.{makers_from, tasks_of_job}
+use Rattle.b67_model.specs.Common.{JobConstants, JobProgress, SessionJob, Session, number_of, after, next, step_of, makers_from, tasks_of_job}
 
 -- a job after its tasks made one step each in this order
 abbrev pub alone_after : JobConstants → List ℕ → JobProgress → JobProgress

@@ -1,9 +1,7 @@
 -- What a change of the top frame's cells leaves as it looked.
 use Rattle.std.specs.Prelude.{◌≡◌, ◌≢◌, ℕ, List, Some}
 use Rattle.b67_model.specs.Keyed.{keyed}
-use Rattle.b67_model.specs.Words.{Word}
-use Rattle.b67_model.specs.State.{OperatorContext, frame, top, with_task}
-use Rattle.b67_model.specs.Steps.{with_cells}
+use Rattle.b67_model.specs.Common.{Word, OperatorContext, frame, top, with_task, with_cells}
 
 -- with other cells in the running task's top frame
 abbrev pub with_other_cells : OperatorContext → List Word → OperatorContext

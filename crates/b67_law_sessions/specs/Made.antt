@@ -5,11 +5,7 @@ use Rattle.b67_model.specs.declared.operators.Op.TheVariants.{Valc, Namc, Mpcw, 
 use Rattle.b67_model.specs.declared.operators.Code.TheVariants.{Mkst, Entr, Retn, Stff, Load, Indx, Stod, Ston}
 use Rattle.b67_lemmas.specs.Lists.{Has}
 use Rattle.b67_model.specs.Words as Words
-use Rattle.b67_model.specs.Words.{Word, Operand, Name, Ref, Row, Element, Original, Proc, Intrinsic}
-use Rattle.b67_model.specs.State.{Return, Frame, Standing, Marked, Entered, Task, Job, OperatorContext}
-use Rattle.b67_model.specs.Called.{called}
-use Rattle.b67_model.specs.Steps.{Line, Goes}
-use Rattle.b67_model.specs.Rows.{proc_of, row}
+use Rattle.b67_model.specs.Common.{Word, Operand, Name, Ref, Row, Element, Original, Proc, Intrinsic, Return, Frame, Standing, Marked, Entered, Task, Job, OperatorContext, called, Line, Goes, proc_of, row}
 
 -- the operators that make a word, by its kind, with the intrinsic that they call, if any. An Original is made by the call
 -- of ARRAYDEC, intrinsic 8; the loader alone makes an Intrinsic and a Segment

@@ -2,10 +2,7 @@
 use Rattle.std.specs.Prelude.{◌≡◌, ◌↔◌, ℕ, ◌<◌, ◌≤◌, List, [], length, None}
 use Rattle.b67_lemmas.specs.Lists.{Has}
 use Rattle.b67_model.specs.Words as Words
-use Rattle.b67_model.specs.Words.{Word, Operand, Name, Ref, Row, Element, Original, Proc, Intrinsic}
-use Rattle.b67_model.specs.State.{Frame, Entered, Task, SessionJob}
-use Rattle.b67_model.specs.Program.{Program}
-use Rattle.b67_model.specs.Schedule.{Switch}
+use Rattle.b67_model.specs.Common.{Word, Operand, Name, Ref, Row, Element, Original, Proc, Intrinsic, Frame, Entered, Task, SessionJob, Program, Switch}
 use Rattle.b67_law_order_runs.specs.Opening.{Opening, opening}
 
 -- the words that the loader makes of a program: one for each segment, and an original for each data row

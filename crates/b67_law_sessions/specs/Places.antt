@@ -2,9 +2,7 @@
 use Rattle.std.specs.Prelude.{◌≡◌, ◌≢◌, ℕ, ◌+◌, ◌==◌, List, [], ◌∷◌, Option, Some, None, if◌then◌else◌}
 use Rattle.std.specs.Option.{option_or}
 use Rattle.b67_model.specs.Keyed.{keyed}
-use Rattle.b67_model.specs.Words.{Word}
-use Rattle.b67_model.specs.State.{Frame, Standing, Task, OperatorContext, height, with_task}
-use Rattle.b67_model.specs.Steps.{with_frames, with_cells}
+use Rattle.b67_model.specs.Common.{Word, Frame, Standing, Task, OperatorContext, height, with_task, with_frames, with_cells}
 
 -- where a frame's mark stands in a stack from this address up: as many words up as stand under it
 abbrev pub place_in : ℕ → List Frame → ℕ → Option ℕ

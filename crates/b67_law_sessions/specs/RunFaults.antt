@@ -8,13 +8,7 @@ use Rattle.b67_model.specs.declared.operators.Op.TheVariants.{Plain}
 use Rattle.b67_model.specs.declared.operators.Code.TheVariants.{Nvld}
 use Rattle.b67_model.specs.Keyed.{keyed}
 use Rattle.b67_lemmas.specs.Lists.{Has}
-use Rattle.b67_model.specs.State.{Ready, Task, JobConstants, Job, SessionJob}
-use Rattle.b67_model.specs.Program.{Program}
-use Rattle.b67_model.specs.Loader.{IsAdmitted}
-use Rattle.b67_model.specs.Rows.{reading_of, step}
-use Rattle.b67_model.specs.Schedule.{Switch, Session, Choice, choice}
-use Rattle.b67_model.specs.Run.{number_of, after}
-use Rattle.b67_model.specs.InOrder.{IsStart, TasksInOrder, IsInOrder}
+use Rattle.b67_model.specs.Common.{Ready, Task, JobConstants, Job, SessionJob, Program, IsAdmitted, reading_of, step, Switch, Session, Choice, choice, number_of, after, IsStart, TasksInOrder, IsInOrder}
 use Rattle.b67_law_order_runs.specs.Opening.{Opening, DeckWithin, opening}
 use Rattle.b67_law_order_runs.specs.Runs.{RunsAdmitted}
 

@@ -4,12 +4,7 @@ use Rattle.b67_word.specs.declared.couples.Place.{Place}
 use Rattle.b67_model.specs.declared.operators.Op.{Op}
 use Rattle.b67_model.specs.Keyed.{keyed}
 use Rattle.b67_lemmas.specs.Lists.{Has}
-use Rattle.b67_model.specs.Words.{Word}
-use Rattle.b67_model.specs.State.{Frame, Entered, Task, SessionJob, OperatorContext}
-use Rattle.b67_model.specs.Called.{called}
-use Rattle.b67_model.specs.Rows.{reading_of}
-use Rattle.b67_model.specs.Schedule.{Switch, Session, Choice, choice}
-use Rattle.b67_model.specs.Run.{number_of, after}
+use Rattle.b67_model.specs.Common.{Word, Frame, Entered, Task, SessionJob, OperatorContext, called, reading_of, Switch, Session, Choice, choice, number_of, after}
 use Rattle.b67_law_order_runs.specs.Opening.{Opening, opening}
 use Rattle.b67_law_sessions.specs.Made.{OperatorMakes, MakesMark}
 

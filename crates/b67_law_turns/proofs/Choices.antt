@@ -5,11 +5,9 @@ use Rattle.std.specs.List.{list_any}
 use Rattle.std.proofs.lemmas.Option.{same_Some}
 use Rattle.b67_lemmas.specs.Lists.{Has}
 use Rattle.b67_lemmas.proofs.Members.{all_in, keyed_falls}
-use Rattle.b67_model.specs.State.{Ready, Task, SessionJob}
+use Rattle.b67_model.specs.Common.{Ready, Task, SessionJob, Who, Session, Choice, is_same, is_before, ready_of, ready, afresh, switched, first, choice_by, choice, number_of, IsSegment, JobInOrder, IsInOrderButPlaces}
 use Rattle.b67_model.specs.Keyed.{keyed}
-use Rattle.b67_model.specs.Schedule.{Who, Session, Choice, is_same, is_before, ready_of, ready, afresh, switched, goes_on, first, choice_by, choice}
-use Rattle.b67_model.specs.Run.{number_of}
-use Rattle.b67_model.specs.InOrder.{IsSegment, JobInOrder, IsInOrderButPlaces}
+use Rattle.b67_model.specs.Schedule.{goes_on}
 use Rattle.b67_law_order_steps.specs.Weaker.{AllOtherNumbers}
 use Rattle.b67_law_order_runs.proofs.Chosen.{chosen, keyed_numbered}
 use Rattle.b67_law_turns.specs.Turns.{IsNext, ChoiceIgnoresNumbers, ChosenTasksAreReady}

@@ -8,8 +8,7 @@ use Rattle.std.proofs.lemmas.List.Elements.{filter-append}
 use Rattle.b67_word.specs.declared.faults.Ending.{Ending}
 use Rattle.b67_word.specs.declared.faults.Ending.TheVariants.{Deadlock}
 use Rattle.b67_lemmas.proofs.Members.{reverse_cons}
-use Rattle.b67_model.specs.State.{Task, Job}
-use Rattle.b67_model.specs.Endings.{among, released, at_depth, deepest_below, deepest_first, all_with, is_ready, Settled, ends_each_if, ends_task, deadlocked}
+use Rattle.b67_model.specs.Common.{Task, Job, among, released, at_depth, deepest_below, deepest_first, all_with, is_ready, Settled, ends_each_if, ends_task, deadlocked}
 
 -- numbers without some
 abbrev pub others : List ℕ → List ℕ → List ℕ

@@ -1,15 +1,8 @@
 -- What the attempt at an operator leaves, once it is counted: a step whose first part was made.
 use Rattle.std.proofs.Common.{◌≡◌, ◌≢◌, ℕ, ◌+◌, ◌≤◌, List, [], ◌∷◌, ◌++◌, length, map, Option, Some, None, Ok, Err, refl, sym, ap, ◌∙◌, subst, append-nil}
-use Rattle.b67_model.specs.Answers.{Answer}
-use Rattle.b67_model.specs.Alone.{JobMoment, moment_with}
-use Rattle.b67_model.specs.Endings.{Settled, Stepped, stepped, settles, goes_on, deadlocked, unsettled}
+use Rattle.b67_model.specs.Common.{Answer, JobMoment, moment_with, Settled, Stepped, stepped, settles, deadlocked, unsettled, run_text, step, RunLine, StepResult, number_of, of_job, Session, Choice, choice, Task, Job, SessionJob, Line, Done, Goes}
+use Rattle.b67_model.specs.Endings.{goes_on}
 use Rattle.b67_model.specs.Keyed.{keyed}
-use Rattle.b67_model.specs.Lines.{run_text}
-use Rattle.b67_model.specs.Rows.{step}
-use Rattle.b67_model.specs.Run.{RunLine, StepResult, number_of, of_job}
-use Rattle.b67_model.specs.Schedule.{Session, Choice, choice}
-use Rattle.b67_model.specs.State.{Task, Job, SessionJob}
-use Rattle.b67_model.specs.Steps.{Line, Done, Goes}
 use Rattle.b67_session_lines.specs.Moments.{first_part, first_part_by, first_part_in, first_part_of}
 use Rattle.b67_law_turns.specs.Turns.{IsNext, part_of}
 

@@ -11,11 +11,7 @@ use Rattle.b67_lemmas.specs.Lists.{Has}
 use Rattle.b67_lemmas.proofs.Members.{all_in, all_from, keyed_has, length_change, total_change}
 use Rattle.b67_lemmas.proofs.Keyed.{all_change, change_is}
 use Rattle.b67_lemmas.proofs.Sums.{sum_total}
-use Rattle.b67_model.specs.State.{Task, JobProgress, SessionJob}
-use Rattle.b67_model.specs.Endings.{Settled, ends_each_if, unsettled}
-use Rattle.b67_model.specs.Schedule.{Session}
-use Rattle.b67_model.specs.Run.{StepResult, number_of}
-use Rattle.b67_model.specs.InOrder.{IsSegment, JobInOrder, BelowLimit, NumberedFrom, IsInOrderButPlaces}
+use Rattle.b67_model.specs.Common.{Task, JobProgress, SessionJob, Settled, ends_each_if, unsettled, Session, StepResult, number_of, IsSegment, JobInOrder, BelowLimit, NumberedFrom, IsInOrderButPlaces}
 use Rattle.b67_law_order.proofs.Numbered.{numbered_change, numbered_low, keyed_member, made_of, tasks_of}
 use Rattle.b67_session_lines.specs.Moments.{has_tasks, is_at_limit, last_part, last_part_by, last_part_if}
 use Rattle.b67_law_turns.specs.Orders.{JobInOrderButLimit, IsInOrderButLimit}

@@ -6,12 +6,7 @@ use Rattle.b67_lemmas.specs.Lists.{Has}
 use Rattle.b67_lemmas.proofs.Members.{all_in, keyed_has, length_change, total_change, total_has}
 use Rattle.b67_lemmas.proofs.Keyed.{all_change, change_is}
 use Rattle.b67_lemmas.proofs.Sums.{sum_total}
-use Rattle.b67_model.specs.State.{Task, JobProgress, SessionJob}
-use Rattle.b67_model.specs.Endings.{Stepped}
-use Rattle.b67_model.specs.Alone.{JobMoment, moment_with}
-use Rattle.b67_model.specs.Schedule.{Session, Choice}
-use Rattle.b67_model.specs.Run.{number_of}
-use Rattle.b67_model.specs.InOrder.{IsSegment, JobInOrder, IsInOrderButPlaces}
+use Rattle.b67_model.specs.Common.{Task, JobProgress, SessionJob, Stepped, JobMoment, moment_with, Session, Choice, number_of, IsSegment, JobInOrder, IsInOrderButPlaces}
 use Rattle.b67_law_order_runs.proofs.Chosen.{chosen}
 use Rattle.b67_law_order_runs.proofs.Totals.{others_fifteen, peak_low_of, peak_high_of}
 use Rattle.b67_law_order.proofs.Numbered.{numbered_change, made_of, tasks_of}

@@ -1,8 +1,7 @@
 -- A run that has come so far goes one step further.
 use Rattle.std.proofs.Common.{◌≡◌, ℕ, zero, suc, ◌+◌, List, [], ◌++◌, refl, sym, ap, ◌∙◌, subst, None, Option, Some, append_assoc, append-nil, arith}
 use Rattle.std.proofs.lemmas.Option.{none-some}
-use Rattle.b67_model.specs.Schedule.{Session}
-use Rattle.b67_model.specs.Run.{RunLine, StepResult, next, lines_from, lines, after_from, after}
+use Rattle.b67_model.specs.Common.{Session, RunLine, StepResult, next, lines_from, lines, after_from, after}
 
 -- a run of so many steps that leads to a session, and what it prints
 pub record Came (first : Session) (steps : ℕ) (s : Session) (printed : List RunLine) : Type 0 where

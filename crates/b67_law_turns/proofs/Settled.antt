@@ -7,10 +7,8 @@ use Rattle.b67_word.specs.declared.faults.Ending.{Ending}
 use Rattle.b67_word.specs.declared.faults.Ending.TheVariants.{Deadlock, Limit}
 use Rattle.b67_lemmas.specs.Lists.{Has}
 use Rattle.b67_lemmas.proofs.Members.{filter_none, length_filter}
-use Rattle.b67_model.specs.State.{Task, JobConstants, Job, JobProgress}
-use Rattle.b67_model.specs.Steps.{Line, Goes}
-use Rattle.b67_model.specs.Endings.{Settled, Stepped, among, released, all_with, deepest_first, is_ready, ends_all, ends_each_if, ends_task, ends_with, deadlocked, unsettled, goes_on}
-use Rattle.b67_model.specs.InOrder.{Starts, IsSegment, TasksInOrder, JobInOrder}
+use Rattle.b67_model.specs.Common.{Task, JobConstants, Job, JobProgress, Line, Goes, Settled, Stepped, among, released, all_with, deepest_first, is_ready, ends_all, ends_each_if, ends_task, ends_with, deadlocked, unsettled, Starts, IsSegment, TasksInOrder, JobInOrder}
+use Rattle.b67_model.specs.Endings.{goes_on}
 use Rattle.b67_law_order_steps.proofs.Deaths.{ends_good, ends_task_good, all_closed, all_among}
 use Rattle.b67_law_turns.specs.Orders.{SettlesInOrder}
 

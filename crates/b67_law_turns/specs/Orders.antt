@@ -2,11 +2,7 @@
 use Rattle.std.specs.Prelude.{◌≡◌, ◌≢◌, ℕ, ◌+◌, ◌≤◌, List, [], length, sum_by, IsTrue}
 use Rattle.std.specs.List.{AllByRecursion}
 use Rattle.b67_lemmas.specs.Lists.{Has}
-use Rattle.b67_model.specs.State.{Task, JobConstants, JobProgress, SessionJob}
-use Rattle.b67_model.specs.Endings.{Settled, is_ready}
-use Rattle.b67_model.specs.Schedule.{Session}
-use Rattle.b67_model.specs.Run.{live_tasks}
-use Rattle.b67_model.specs.InOrder.{IsSegment, SettingInOrder, TasksInOrder, CountsInOrder, BelowLimit, NumberedFrom, SwitchesRise}
+use Rattle.b67_model.specs.Common.{Task, JobConstants, JobProgress, SessionJob, Settled, is_ready, Session, live_tasks, IsSegment, SettingInOrder, TasksInOrder, CountsInOrder, BelowLimit, NumberedFrom, SwitchesRise}
 
 -- a job in order but for places, which is below its limit unless it made the last operator
 pub record JobInOrderButLimit (last : ℕ) (m : SessionJob) : Type 0 where

@@ -1,13 +1,7 @@
 -- The task that makes the next step, and the laws of this crate.
 use Rattle.std.specs.Prelude.{◌≡◌, ℕ, List, map, Option, Some, None}
-use Rattle.b67_model.specs.Alone.{JobMoment, moment_with}
-use Rattle.b67_model.specs.Endings.{Stepped}
+use Rattle.b67_model.specs.Common.{JobMoment, moment_with, Stepped, IsInOrderButPlaces, Line, RunLine, StepResult, with_moment, of_job, number_of, Session, Choice, choice, Ready, Task, SessionJob}
 use Rattle.b67_model.specs.Keyed.{keyed}
-use Rattle.b67_model.specs.InOrder.{IsInOrderButPlaces}
-use Rattle.b67_model.specs.Steps.{Line}
-use Rattle.b67_model.specs.Run.{RunLine, StepResult, with_moment, of_job, number_of}
-use Rattle.b67_model.specs.Schedule.{Session, Choice, choice}
-use Rattle.b67_model.specs.State.{Ready, Task, SessionJob}
 use Rattle.b67_law_order_steps.specs.Weaker.{AllOtherNumbers}
 use Rattle.b67_session_lines.specs.Moments.{last_part}
 use Rattle.b67_law_turns.specs.Orders.{IsInOrderButLimit, SettlesInOrder}

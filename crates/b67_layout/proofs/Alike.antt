@@ -7,14 +7,10 @@ use Rattle.b67_word.specs.Tagged.{Tagged, word}
 use Rattle.b67_ctl.specs.declared.registers.Regs.{Regs}
 use Rattle.b67_lemmas.specs.Lists.{Has}
 use Rattle.b67_model.specs.State as State
-use Rattle.b67_model.specs.State.{Frame, JobConstants, Task, Job, JobProgress, SessionJob, OperatorContext, all_frames, frame}
-use Rattle.b67_model.specs.Environment.{environment_of, outward, running_level, running, frame_at}
-use Rattle.b67_model.specs.InOrder.{from_frame, frames_of_task, critical_of}
+use Rattle.b67_model.specs.Common.{Frame, JobConstants, Task, Job, JobProgress, SessionJob, OperatorContext, all_frames, frame, environment_of, outward, running_level, running, frame_at, from_frame, frames_of_task, critical_of, number_of}
 use Rattle.b67_model.specs.Keyed.{keyed}
-use Rattle.b67_model.specs.Run.{number_of}
 use Rattle.b67_stack.specs.Stacks.{StackPlace}
-use Rattle.b67_layout.specs.Placement.{Placement, slot_of, spot_in, outer_spots, spots, address_of}
-use Rattle.b67_layout.specs.Session.{RowsFit, DictionariesFollow, RowHomes, RepresentsDictionary, RepresentsTask, IsRunning, ShowsDisplay, critical_mark}
+use Rattle.b67_layout.specs.Common.{Placement, slot_of, spot_in, outer_spots, spots, address_of, RowsFit, DictionariesFollow, RowHomes, RepresentsDictionary, RepresentsTask, IsRunning, ShowsDisplay, critical_mark}
 
 -- the same number, stack size and dictionary, as many segments, and the same tasks
 pub record Alike (m n : SessionJob) : Type 0 where

@@ -2,18 +2,10 @@
 use Rattle.std.proofs.Common.{◌≡◌, ℕ, List, refl, sym, ◌∙◌, ap, subst, true, false, ◌==◌, ⊎_elim}
 use Rattle.std.proofs.lemmas.Bool.{cases_Bool, eqb-true}
 use Rattle.b67_model.specs.Keyed.{change_keyed}
-use Rattle.b67_model.specs.State.{Condition, Task, Job, SessionJob, with_task}
-use Rattle.b67_model.specs.Run.{number_of}
-use Rattle.b67_model.specs.Schedule.{Session}
+use Rattle.b67_model.specs.Common.{Condition, Task, Job, SessionJob, with_task, number_of, Session}
 use Rattle.b67_stack.specs.declared.Cpu.{Cpu}
-use Rattle.b67_stack.specs.Stacks.{StackPlace, Activation}
-use Rattle.b67_stack.specs.MachineView.{PagedObject, Slot, Running, MachineView, NoOriginalAboveTop}
-use Rattle.b67_stack.specs.Represents.{Storage, Represents}
-use Rattle.b67_stack.specs.Changes.{with_stack}
-use Rattle.b67_layout.specs.Placement.{Placement, slot_of, spot_in, spots}
-use Rattle.b67_layout.specs.Layout.{machine_view, stack_of_task}
-use Rattle.b67_layout.specs.Meets.{with_job}
-use Rattle.b67_layout.specs.Session.{IsRunning, ShowsDisplay, with_objects, SessionHoldsBut, RepresentsSessionBut}
+use Rattle.b67_stack.specs.Common.{StackPlace, Activation, PagedObject, Slot, Running, MachineView, NoOriginalAboveTop, Storage, Represents, with_stack}
+use Rattle.b67_layout.specs.Common.{Placement, slot_of, spot_in, spots, machine_view, stack_of_task, with_job, IsRunning, ShowsDisplay, with_objects, SessionHoldsBut, RepresentsSessionBut}
 use Rattle.b67_layout.proofs.Displays.{Shows-same}
 use Rattle.b67_layout.proofs.Others.{OnTop}
 use Rattle.b67_layout.proofs.Rows.{runs_on}

@@ -3,8 +3,7 @@ use Rattle.std.proofs.Common.{◌≡◌, ◌≢◌, ℕ, List, Some, refl, sym, 
 use Rattle.b67_model.specs.Keyed.{keyed, change_keyed}
 use Rattle.b67_model.specs.State.{Condition, Task, Job, SessionJob, with_task}
 use Rattle.b67_stack.specs.Stacks.{StackPlace}
-use Rattle.b67_layout.specs.Placement.{Placement, slot_of, spot_in, outer_spots}
-use Rattle.b67_layout.specs.Session.{ShowsDisplay}
+use Rattle.b67_layout.specs.Common.{Placement, slot_of, spot_in, outer_spots, ShowsDisplay}
 use Rattle.b67_layout.proofs.Displays.{Shows-same}
 use Rattle.b67_layout.proofs.Others.{OnTop, outer_spots-after}
 use Rattle.b67_layout.proofs.Sessions.{change-has}

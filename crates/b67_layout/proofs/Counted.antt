@@ -2,12 +2,10 @@
 use Rattle.std.proofs.Common.{◌≡◌, ℕ, List, [], ◌∷◌, ◌++◌, Option, Some, None, refl, ◌∙◌, ap, true, false, ⊎_elim}
 use Rattle.std.specs.Prelude.{◌==◌, flat_map}
 use Rattle.std.proofs.lemmas.Bool.{cases_Bool}
-use Rattle.b67_model.specs.State.{JobConstants, Task, Job, SessionJob}
+use Rattle.b67_model.specs.Common.{JobConstants, Task, Job, SessionJob, number_of}
 use Rattle.b67_model.specs.Keyed.{keyed}
-use Rattle.b67_model.specs.Run.{number_of}
 use Rattle.b67_stack.specs.MachineView.{PagedObject, Slot, MachineView}
-use Rattle.b67_layout.specs.Placement.{Slotted, Placement}
-use Rattle.b67_layout.specs.Layout.{slot_with, slot_in, slot_by, slot_at, objects_of, machine_view}
+use Rattle.b67_layout.specs.Common.{Slotted, Placement, slot_with, slot_in, slot_by, slot_at, objects_of, machine_view}
 
 -- the same setting and the same job
 pub record SameJob (m n : SessionJob) : Type 0 where

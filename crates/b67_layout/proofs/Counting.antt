@@ -3,10 +3,8 @@ use Rattle.std.proofs.Common.{◌≡◌, ◌≢◌, ℕ, ◌+◌, ◌≤◌, Lis
 use Rattle.std.proofs.lemmas.List.{length-map}
 use Rattle.std.proofs.lemmas.List.Sums.{sum_by-cons}
 use Rattle.b67_lemmas.specs.Lists.{Has}
-use Rattle.b67_model.specs.State.{Task, SessionJob}
-use Rattle.b67_model.specs.Run.{live_tasks}
-use Rattle.b67_layout.specs.Placement.{Placement, slot_of}
-use Rattle.b67_layout.specs.Rows.{Differ}
+use Rattle.b67_model.specs.Common.{Task, SessionJob, live_tasks}
+use Rattle.b67_layout.specs.Common.{Placement, slot_of, Differ}
 
 -- the slots of a job's live tasks
 abbrev pub slots_of : Placement → SessionJob → List ℕ

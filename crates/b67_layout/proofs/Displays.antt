@@ -5,13 +5,10 @@ use Rattle.std.proofs.lemmas.Bool.{cases_Bool}
 use Rattle.std.proofs.lemmas.List.{map-append}
 use Rattle.std.proofs.lemmas.Option.{same_Some}
 use Rattle.b67_model.specs.State as State
-use Rattle.b67_model.specs.State.{Frame, Standing, Task, Job, JobProgress, SessionJob, OperatorContext, all_frames, frame, no_frame, with_top_cells}
-use Rattle.b67_model.specs.Environment.{level_of_standing, environment_of, level_of_frame, running_from, running, outward, running_level, frame_at}
-use Rattle.b67_model.specs.InOrder.{Known, known_of}
+use Rattle.b67_model.specs.Common.{Frame, Standing, Task, Job, JobProgress, SessionJob, OperatorContext, all_frames, frame, no_frame, with_top_cells, level_of_standing, environment_of, level_of_frame, running_from, running, outward, running_level, frame_at, Known, known_of}
 use Rattle.b67_model.specs.Keyed.{keyed, change_keyed}
 use Rattle.b67_stack.specs.Stacks.{StackPlace}
-use Rattle.b67_layout.specs.Placement.{Placement, spots, address_of}
-use Rattle.b67_layout.specs.Session.{ShowsDisplay}
+use Rattle.b67_layout.specs.Common.{Placement, spots, address_of, ShowsDisplay}
 
 -- looking up by identity reads identities and standings alone
 known_look : ℕ → Known → List Known → Known

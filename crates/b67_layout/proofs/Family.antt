@@ -16,22 +16,11 @@ use Rattle.b67_backing.specs.Held.{number_at}
 use Rattle.b67_ctl.specs.declared.registers.Regs.{Regs}
 use Rattle.b67_lemmas.specs.Lists.{Has}
 use Rattle.b67_core.specs.Numbers.{number}
-use Rattle.b67_model.specs.State.{Entered, Ready, Task, Job, SessionJob}
-use Rattle.b67_model.specs.Environment.{frame_at}
-use Rattle.b67_model.specs.Program.{Program, opened}
-use Rattle.b67_model.specs.Run.{number_of}
-use Rattle.b67_model.specs.Schedule.{Session}
-use Rattle.b67_model.specs.InOrder.{IsSegment, SettingInOrder, TaskInOrder, TasksInOrder, frames_in_job}
+use Rattle.b67_model.specs.Common.{Entered, Ready, Task, Job, SessionJob, frame_at, Program, opened, number_of, Session, IsSegment, SettingInOrder, TaskInOrder, TasksInOrder, frames_in_job}
 use Rattle.b67_stack.specs.declared.Cpu.{Cpu}
-use Rattle.b67_stack.specs.Shapes.{Location, nowhere, Fits, LieDownward}
-use Rattle.b67_stack.specs.Stacks.{stack_words, words}
-use Rattle.b67_stack.specs.MachineView.{PagedObject, words_of, MachineView, stack_of, Laid, SlotFits, slot_base, CopiesName}
-use Rattle.b67_stack.specs.Represents.{Storage, RepresentsSlots, RepresentsSlot, StacksLie, RepresentsObjects, RepresentsObject, Owned, Represents, HoldsIn, info_of}
+use Rattle.b67_stack.specs.Common.{Location, nowhere, Fits, LieDownward, stack_words, words, PagedObject, words_of, MachineView, stack_of, Laid, SlotFits, slot_base, CopiesName, Storage, RepresentsSlots, RepresentsSlot, StacksLie, RepresentsObjects, RepresentsObject, Owned, Represents, HoldsIn, info_of}
 use Rattle.b67_lemmas.proofs.Members.{keyed_has}
-use Rattle.b67_layout.specs.Placement.{Placement, Slotted, slot_of}
-use Rattle.b67_layout.specs.Layout.{machine_view}
-use Rattle.b67_layout.specs.Session.{PlanFits, RowsFit, IsRunning, RepresentsDictionary, RepresentsVector, RepresentsCritical, RepresentsTask, vector_word, critical_mark, frame_address, ShowsDisplay, SessionHolds, RepresentsSession}
-use Rattle.b67_layout.specs.Orders.{IsInOrderButCounts}
+use Rattle.b67_layout.specs.Common.{Placement, Slotted, slot_of, machine_view, PlanFits, RowsFit, IsRunning, RepresentsDictionary, RepresentsVector, RepresentsCritical, RepresentsTask, vector_word, critical_mark, frame_address, ShowsDisplay, SessionHolds, RepresentsSession, IsInOrderButCounts}
 use Rattle.b67_layout.specs.Families.{RunsChild}
 
 -- ---- the session

@@ -1,14 +1,10 @@
 -- A task's frames as activation records: what a change of the top frame makes of them. All of it computes.
 use Rattle.std.proofs.Common.{◌≡◌, ℕ, suc, List, [], ◌∷◌, map, refl, sym, ap, arith}
 use Rattle.std.proofs.lemmas.List.{length-map}
-use Rattle.b67_model.specs.Words.{Word}
+use Rattle.b67_model.specs.Common.{Word, Standing, Frame, Job, head_words, words_of, height, level_of_standing, level_of_frame, running_from, running}
 use Rattle.b67_model.specs.State as State
-use Rattle.b67_model.specs.State.{Standing, Frame, Job, head_words, words_of, height}
-use Rattle.b67_model.specs.Environment.{level_of_standing, level_of_frame, running_from, running}
-use Rattle.b67_stack.specs.Stacks.{StackPlace, head_size, top_size, stack_words, running_level, level_from}
-use Rattle.b67_stack.specs.Changes.{with_cells, top_cells, below_top, new_mark}
-use Rattle.b67_layout.specs.Placement.{Placement, spot_in}
-use Rattle.b67_layout.specs.Layout.{shape, head, activations}
+use Rattle.b67_stack.specs.Common.{StackPlace, head_size, top_size, stack_words, running_level, level_from, with_cells, top_cells, below_top, new_mark}
+use Rattle.b67_layout.specs.Common.{Placement, spot_in, shape, head, activations}
 
 module _ (plan : Placement) (j : ℕ) (job : Job) (k : ℕ) (outer : ℕ → StackPlace) where
   -- other cells on the top frame

@@ -4,14 +4,8 @@ use Rattle.std.specs.List.{list_any}
 use Rattle.std.proofs.lemmas.Bool.{ne_eqb}
 use Rattle.b67_lemmas.specs.Lists.{Has, Falls}
 use Rattle.b67_lemmas.proofs.Members.{all_in, falls_low, keyed_has}
-use Rattle.b67_model.specs.State.{Frame, Task, JobConstants, Job, SessionJob}
-use Rattle.b67_model.specs.Steps.{is_critical}
-use Rattle.b67_model.specs.Run.{number_of}
-use Rattle.b67_model.specs.Schedule.{Session}
-use Rattle.b67_model.specs.InOrder.{Starts, IsSegment, Known, known_of, known_numbers, identities, outer_of, reach_of, BirthInOrder, TaskInOrder, TasksInOrder}
-use Rattle.b67_layout.specs.Orders.{JobInOrderButCounts, IsInOrderButCounts}
-use Rattle.b67_layout.specs.Placement.{Placement}
-use Rattle.b67_layout.specs.Session.{IsRunning}
+use Rattle.b67_model.specs.Common.{Frame, Task, JobConstants, Job, SessionJob, is_critical, number_of, Session, Starts, IsSegment, Known, known_of, known_numbers, identities, outer_of, reach_of, BirthInOrder, TaskInOrder, TasksInOrder}
+use Rattle.b67_layout.specs.Common.{JobInOrderButCounts, IsInOrderButCounts, Placement, IsRunning}
 use Rattle.b67_layout.proofs.Steps.{IsFree}
 
 pub has-number : (fs : List Frame) (outer : List Known) (n : ℕ) → Has (identities fs) n → Has (known_numbers (map known_of fs ++ outer)) n

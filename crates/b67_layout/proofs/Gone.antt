@@ -5,9 +5,7 @@ use Rattle.std.specs.List.{list_any}
 use Rattle.std.proofs.lemmas.Bool.{cases_Bool, eq-eqb}
 use Rattle.b67_lemmas.specs.Lists.{Has}
 use Rattle.b67_model.specs.State.{Array, Job, SessionJob}
-use Rattle.b67_layout.specs.Placement.{Placement}
-use Rattle.b67_layout.specs.Layout.{array_object}
-use Rattle.b67_layout.specs.Meets.{gone, objects_gone}
+use Rattle.b67_layout.specs.Common.{Placement, array_object, gone, objects_gone}
 
 named : (n : ℕ) (xs : List Array) → Has (map (λ (b : Array). b.identity) xs) n → list_any (λ (b : Array). b.identity == n) xs ≡ true
 named n [] h = absurd h

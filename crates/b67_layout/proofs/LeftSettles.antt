@@ -9,28 +9,18 @@ use Rattle.b67_word.specs.Tagged.{Tagged}
 use Rattle.b67_ctl.specs.declared.registers.Regs.{Regs}
 use Rattle.b67_lemmas.specs.Lists.{Has}
 use Rattle.b67_lemmas.proofs.Members.{all_in, falls_same, has_map, has_reverse, keyed_falls, keyed_has}
-use Rattle.b67_model.specs.Words.{Original}
-use Rattle.b67_model.specs.State.{Frame, Array, Task, Job, JobProgress, SessionJob}
+use Rattle.b67_model.specs.Common.{Original, Frame, Array, Task, Job, JobProgress, SessionJob, number_of, Session, Known, known_of, OwnsArray, EntryInOrder, frames_named, IsSegment, NumberedFrom}
 use Rattle.b67_model.specs.Keyed.{keyed}
-use Rattle.b67_model.specs.Run.{number_of}
-use Rattle.b67_model.specs.Schedule.{Session}
-use Rattle.b67_model.specs.InOrder.{Known, known_of, OwnsArray, EntryInOrder, frames_named, IsSegment, NumberedFrom}
-use Rattle.b67_layout.specs.Orders.{JobInOrderButCounts, IsInOrderButCounts}
+use Rattle.b67_layout.specs.Common.{JobInOrderButCounts, IsInOrderButCounts, Slotted, Placement, slot_of, spot_in, outer_spots, shape, head, activations, stack_of_task, slot_with, slot_in, slot_by, slot_at, machine_view, RowsFit, DictionariesFollow, IsRunning, SessionHolds}
 use Rattle.b67_law_order.proofs.Replaced.{has_counts}
 use Rattle.b67_law_order.proofs.Numbered.{keyed_member}
 use Rattle.b67_stack.specs.Shapes as Shapes
-use Rattle.b67_stack.specs.Shapes.{Fits, LieDownward}
+use Rattle.b67_stack.specs.Common.{Fits, LieDownward, StackPlace, Head, Activation, stack_words, headed, words, Slot, Running, Waiting, stack_of, slot_base, RunsOn, Storage}
 use Rattle.b67_stack.specs.Stacks as Stacks
-use Rattle.b67_stack.specs.Stacks.{StackPlace, Head, Activation, stack_words, headed, words}
-use Rattle.b67_stack.specs.MachineView.{Slot, Running, Waiting, stack_of, slot_base, RunsOn}
-use Rattle.b67_stack.specs.Represents.{Storage}
 use Rattle.b67_stack.proofs.Bases.{base-apart}
 use Rattle.b67_stack.proofs.Heights.{words-length}
 use Rattle.b67_stack.proofs.Lies.{Lie-under}
 use Rattle.b67_stack.proofs.Slots.{running_fits, running_lies, slot_room}
-use Rattle.b67_layout.specs.Placement.{Slotted, Placement, slot_of, spot_in, outer_spots}
-use Rattle.b67_layout.specs.Layout.{shape, head, activations, stack_of_task, slot_with, slot_in, slot_by, slot_at, machine_view}
-use Rattle.b67_layout.specs.Session.{RowsFit, DictionariesFollow, IsRunning, SessionHolds}
 use Rattle.b67_layout.proofs.MachineViews.{with_course}
 use Rattle.b67_layout.proofs.Rows.{task_row, slot_below, finds, runs_on}
 use Rattle.b67_layout.proofs.Sessions.{running_only, follow-up}

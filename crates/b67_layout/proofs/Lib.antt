@@ -31,3 +31,4 @@ pub mod Differs
 pub mod Alike
 pub mod Paged
 pub mod Counted
+pub mod Common

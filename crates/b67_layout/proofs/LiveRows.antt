@@ -4,14 +4,8 @@ use Rattle.std.proofs.lemmas.List.{length-map}
 use Rattle.std.proofs.lemmas.List.Sums.{sum_by-cons}
 use Rattle.b67_lemmas.specs.Lists.{Has, Falls}
 use Rattle.b67_lemmas.proofs.Members.{falls_low, has_append_cases, has_flat, has_flat_back, has_map, has_map_back}
-use Rattle.b67_model.specs.State.{Task, SessionJob}
-use Rattle.b67_model.specs.Run.{live_tasks}
-use Rattle.b67_model.specs.Schedule.{Session}
-use Rattle.b67_model.specs.InOrder.{NumberedFrom}
-use Rattle.b67_layout.specs.Orders.{IsInOrderButCounts}
-use Rattle.b67_layout.specs.Placement.{Slotted, Placement, slot_of}
-use Rattle.b67_layout.specs.Rows.{TaskRow, JobRow, JobCounts, Differ, TablesShow}
-use Rattle.b67_layout.specs.Session.{RowsFit}
+use Rattle.b67_model.specs.Common.{Task, SessionJob, live_tasks, Session, NumberedFrom}
+use Rattle.b67_layout.specs.Common.{IsInOrderButCounts, Slotted, Placement, slot_of, TaskRow, JobRow, JobCounts, Differ, TablesShow, RowsFit}
 use Rattle.b67_layout.proofs.Rows.{task_row}
 use Rattle.b67_layout.proofs.Counting.{not_more, slots_of, slots_length}
 use Rattle.b67_layout.proofs.Fresh.{job_in_order}

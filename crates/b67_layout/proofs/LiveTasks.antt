@@ -3,13 +3,9 @@ use Rattle.std.proofs.Common.{◌≡◌, ℕ, zero, suc, ◌+◌, ◌-◌, List,
 use Rattle.std.specs.List.{slice_get}
 use Rattle.b67_lemmas.specs.Lists.{Has}
 use Rattle.b67_lemmas.proofs.Members.{all_in, keyed_falls}
-use Rattle.b67_model.specs.State.{Task, SessionJob}
+use Rattle.b67_model.specs.Common.{Task, SessionJob, Session, IsSegment, NumberedFrom}
 use Rattle.b67_model.specs.Keyed.{keyed}
-use Rattle.b67_model.specs.Schedule.{Session}
-use Rattle.b67_model.specs.InOrder.{IsSegment, NumberedFrom}
-use Rattle.b67_layout.specs.Orders.{JobInOrderButCounts, IsInOrderButCounts}
-use Rattle.b67_layout.specs.Placement.{Placement}
-use Rattle.b67_layout.specs.Rows.{JobRow, JobShows, JobsShow}
+use Rattle.b67_layout.specs.Common.{JobInOrderButCounts, IsInOrderButCounts, Placement, JobRow, JobShows, JobsShow}
 use Rattle.b67_law_order.proofs.Numbered.{numbered_low}
 
 pub live_in_order : (s : Session) (m : SessionJob) (t : Task) → IsInOrderButCounts s → Has s.jobs m → Has m.progress.job.tasks t → keyed (λ (u : Task). u.number) t.number m.progress.job.tasks ≡ Some t

@@ -3,15 +3,11 @@ use Rattle.std.proofs.Common.{◌≡◌, ◌≢◌, ℕ, List, [], ◌∷◌, �
 use Rattle.std.specs.Prelude.{if◌then◌else◌, flat_map}
 use Rattle.std.proofs.lemmas.Option.{same_Some}
 use Rattle.std.proofs.lemmas.Bool.{cases_eq, cases_Bool, eq-eqb, ne_eqb, eqb-true}
-use Rattle.b67_model.specs.State.{Array, Task, JobProgress, SessionJob}
+use Rattle.b67_model.specs.Common.{Array, Task, JobProgress, SessionJob, number_of}
 use Rattle.b67_model.specs.Keyed.{keyed, change_keyed}
-use Rattle.b67_model.specs.Run.{number_of}
-use Rattle.b67_stack.specs.Stacks.{StackPlace, Activation}
-use Rattle.b67_stack.specs.MachineView.{PagedObject, Slot, Running, Waiting, MachineView}
-use Rattle.b67_stack.specs.Changes.{with_stack}
+use Rattle.b67_stack.specs.Common.{StackPlace, Activation, PagedObject, Slot, Running, Waiting, MachineView, with_stack}
 use Rattle.b67_stack.proofs.Slots.{slot-same, slot-other}
-use Rattle.b67_layout.specs.Placement.{Slotted, Placement, outer_spots}
-use Rattle.b67_layout.specs.Layout.{activations, stack_of_task, slot_with, slot_in, slot_by, slot_at, objects_of, array_object, code_objects, machine_view}
+use Rattle.b67_layout.specs.Common.{Slotted, Placement, outer_spots, activations, stack_of_task, slot_with, slot_in, slot_by, slot_at, objects_of, array_object, code_objects, machine_view}
 use Rattle.b67_layout.proofs.Others.{OnTop, task-same, task-other, slot_with-after, outer_spots-after, activations-job}
 use Rattle.b67_lemmas.proofs.Members.{keyed_has}
 

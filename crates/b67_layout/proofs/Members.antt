@@ -4,12 +4,8 @@ use Rattle.b67_model.specs.Keyed.{keyed, change_keyed}
 use Rattle.b67_lemmas.proofs.Members.{all_in, keyed_has, length_change, total_change}
 use Rattle.b67_lemmas.proofs.Keyed.{all_change, change_is}
 use Rattle.b67_lemmas.proofs.Sums.{sum_total}
-use Rattle.b67_model.specs.State.{Job, SessionJob}
-use Rattle.b67_model.specs.Run.{number_of}
-use Rattle.b67_model.specs.Schedule.{Session}
-use Rattle.b67_model.specs.InOrder.{IsSegment}
-use Rattle.b67_layout.specs.Orders.{JobInOrderButCounts, IsInOrderButCounts}
-use Rattle.b67_layout.specs.Meets.{with_job}
+use Rattle.b67_model.specs.Common.{Job, SessionJob, number_of, Session, IsSegment}
+use Rattle.b67_layout.specs.Common.{JobInOrderButCounts, IsInOrderButCounts, with_job}
 use Rattle.b67_law_order.proofs.Numbered.{numbered_change, tasks_of}
 
 -- with another job of the member

@@ -8,14 +8,10 @@ use Rattle.b67_word.specs.Tagged.{Tagged}
 use Rattle.b67_ctl.specs.declared.registers.Regs.{Regs}
 use Rattle.b67_lemmas.specs.Lists.{Has, Falls}
 use Rattle.b67_lemmas.proofs.Members.{any_has, falls_same, has_append_cases, has_append_left, has_append_right, has_filter, has_filter_in, has_flat, has_flat_back, has_map, has_map_back, keyed_has}
-use Rattle.b67_model.specs.State.{Array, Job, JobProgress, SessionJob}
+use Rattle.b67_model.specs.Common.{Array, Job, JobProgress, SessionJob, number_of}
 use Rattle.b67_model.specs.Keyed.{keyed}
-use Rattle.b67_model.specs.Run.{number_of}
-use Rattle.b67_stack.specs.MachineView.{PagedObject, MachineView, Slot, Free, Running, Waiting, SlotFits}
-use Rattle.b67_stack.specs.Represents.{Storage, RepresentsSlot, Represents}
-use Rattle.b67_layout.specs.Placement.{Placement}
-use Rattle.b67_layout.specs.Layout.{objects_of, array_object, code_objects}
-use Rattle.b67_layout.specs.Meets.{gone, objects_gone}
+use Rattle.b67_stack.specs.Common.{PagedObject, MachineView, Slot, Free, Running, Waiting, SlotFits, Storage, RepresentsSlot, Represents}
+use Rattle.b67_layout.specs.Common.{Placement, objects_of, array_object, code_objects, gone, objects_gone}
 use Rattle.b67_layout.proofs.MachineViews.{with_course, member-same}
 use Rattle.b67_layout.proofs.Sessions.{change-has, change-kept}
 

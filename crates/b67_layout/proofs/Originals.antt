@@ -7,14 +7,10 @@ use Rattle.b67_word.specs.Tagged.{Tagged}
 use Rattle.b67_lemmas.specs.Lists.{Has, total, how_many}
 use Rattle.b67_lemmas.proofs.Members.{all_in, falls_same, has_append_left, has_append_right, has_map}
 use Rattle.b67_model.specs.Words as Words
-use Rattle.b67_model.specs.Words.{Word, Operand, Name, Ref, Row, Element, Original, Proc, Intrinsic}
-use Rattle.b67_model.specs.State.{Frame, Array, Segment, Task, JobConstants, Job}
-use Rattle.b67_model.specs.InOrder.{Starts, Known, known_of, OwnsArray, WordInOrder, FramesInOrder, is_original_of, originals_in, originals_of, IsSegment, outer_of, rows_after, DictionaryWords, TaskInOrder, TasksInOrder}
+use Rattle.b67_model.specs.Common.{Word, Operand, Name, Ref, Row, Element, Original, Proc, Intrinsic, Frame, Array, Segment, Task, JobConstants, Job, Starts, Known, known_of, OwnsArray, WordInOrder, FramesInOrder, is_original_of, originals_in, originals_of, IsSegment, outer_of, rows_after, DictionaryWords, TaskInOrder, TasksInOrder}
 use Rattle.b67_stack.specs.Shapes as Shapes
-use Rattle.b67_stack.specs.Shapes.{Shape, LieDownward}
-use Rattle.b67_stack.specs.Stacks.{StackPlace, Head, Marked, Entered, Activation, headed, words}
-use Rattle.b67_layout.specs.Placement.{Placement, spot_in}
-use Rattle.b67_layout.specs.Layout.{shape, head, activations}
+use Rattle.b67_stack.specs.Common.{Shape, LieDownward, StackPlace, Head, Marked, Entered, Activation, headed, words}
+use Rattle.b67_layout.specs.Common.{Placement, spot_in, shape, head, activations}
 
 -- a word of a shape lies at a place
 pub record LiesAt (R : Shape → ℕ → Tagged → Type 0) (core : List Tagged) (from : ℕ) (xs : List Shape) (c : Shape) : Type 0 where

@@ -5,15 +5,10 @@ use Rattle.std.proofs.lemmas.Bool.{cases_eq, cases_Bool, ne_eqb}
 use Rattle.b67_lemmas.specs.Lists.{Has}
 use Rattle.b67_lemmas.proofs.Members.{change_found, change_other, keyed_has}
 use Rattle.b67_model.specs.Words as Words
-use Rattle.b67_model.specs.Words.{Word, Operand, Name, Ref, Row, Element, Original, Proc, Intrinsic}
-use Rattle.b67_model.specs.State.{Frame, Array, Task, Job, height}
+use Rattle.b67_model.specs.Common.{Word, Operand, Name, Ref, Row, Element, Original, Proc, Intrinsic, Frame, Array, Task, Job, height, from_frame, frames_of_task, critical_of}
 use Rattle.b67_model.specs.Keyed.{keyed, change_keyed}
-use Rattle.b67_model.specs.InOrder.{from_frame, frames_of_task, critical_of}
-use Rattle.b67_stack.specs.Shapes.{Shape}
-use Rattle.b67_stack.specs.Stacks.{StackPlace, Activation}
-use Rattle.b67_stack.specs.MachineView.{Slot, Running, Waiting}
-use Rattle.b67_layout.specs.Placement.{Placement, slot_of, spot_in, outer_spots}
-use Rattle.b67_layout.specs.Layout.{shape, head, activations, slot_with}
+use Rattle.b67_stack.specs.Common.{Shape, StackPlace, Activation, Slot, Running, Waiting}
+use Rattle.b67_layout.specs.Common.{Placement, slot_of, spot_in, outer_spots, shape, head, activations, slot_with}
 
 pub spot_in-outer : (s : ℕ) (o o' : ℕ → StackPlace) → ((id : ℕ) → o' id ≡ o id) → (fs : List Frame) (id : ℕ) → spot_in s o' fs id ≡ spot_in s o fs id
 spot_in-outer s o o' e [] id = e id

@@ -12,17 +12,12 @@ use Rattle.b67_lemmas.specs.Lists.{Has}
 use Rattle.b67_model.specs.State.{SessionJob}
 use Rattle.b67_model.specs.Schedule.{Session}
 use Rattle.b67_stack.specs.declared.Cpu.{Cpu}
-use Rattle.b67_stack.specs.Shapes.{Location}
-use Rattle.b67_stack.specs.MachineView.{PagedObject, MachineView, NoOriginalAboveTop, home_word_of, is_present, address_or}
-use Rattle.b67_stack.specs.Represents.{Storage, Represents, info_of}
+use Rattle.b67_stack.specs.Common.{Location, PagedObject, MachineView, NoOriginalAboveTop, home_word_of, is_present, address_or, Storage, Represents, info_of, Stayed}
 use Rattle.b67_stack.proofs.Homes.{chain_small}
-use Rattle.b67_layout.specs.Placement.{Placement, slot_of}
-use Rattle.b67_layout.specs.Layout.{machine_view}
+use Rattle.b67_layout.specs.Common.{Placement, slot_of, machine_view, RepresentsDictionary, vector_word, with_objects, ShowsDisplay, SessionHoldsBut, RepresentsSessionBut}
 use Rattle.b67_layout.proofs.Rows.{slot_below}
 use Rattle.b67_layout.proofs.Sessions.{dictionary_below, dictionary_above}
-use Rattle.b67_layout.specs.Session.{RepresentsDictionary, vector_word, with_objects, ShowsDisplay, SessionHoldsBut, RepresentsSessionBut}
 use Rattle.b67_layout.proofs.Alike.{AllAlike, backs, twin, has_task, dictionary_alike, row_homes_alike, task_stands_alike, shows_alike, critical_same, rows_alike, dictionaries_alike, running_twin}
-use Rattle.b67_stack.specs.HeldOtherwise.{Stayed}
 
 -- the mark of a dictionary, and its number of entries, are no originals and no segment descriptors
 abbrev mark_bits : ℕ

@@ -4,13 +4,10 @@ use Rattle.std.specs.Prelude.{if◌then◌else◌, option_map, unwrap_or}
 use Rattle.std.proofs.lemmas.Bool.{cases_Bool, eq-eqb, eqb-true}
 use Rattle.b67_lemmas.specs.Lists.{Has}
 use Rattle.b67_lemmas.proofs.Members.{found-has}
-use Rattle.b67_model.specs.State.{Task, SessionJob}
+use Rattle.b67_model.specs.Common.{Task, SessionJob, number_of}
 use Rattle.b67_model.specs.Keyed.{keyed}
-use Rattle.b67_model.specs.Run.{number_of}
 use Rattle.b67_stack.specs.MachineView.{Running, Waiting, RunsOn}
-use Rattle.b67_layout.specs.Placement.{Slotted, Placement, is_row_of, slot_of}
-use Rattle.b67_layout.specs.Layout.{stack_of_task, slot_with, slot_in, slot_by, machine_view}
-use Rattle.b67_layout.specs.Session.{RowsFit}
+use Rattle.b67_layout.specs.Common.{Slotted, Placement, is_row_of, slot_of, stack_of_task, slot_with, slot_in, slot_by, machine_view, RowsFit}
 use Rattle.b67_layout.proofs.MachineViews.{RowOf}
 
 -- an item that passes a test is found, or another one before it

@@ -8,18 +8,10 @@ use Rattle.b67_word.specs.Tagged.{Tagged}
 use Rattle.b67_ctl.specs.declared.registers.Regs.{Regs}
 use Rattle.b67_lemmas.specs.Lists.{Has}
 use Rattle.b67_lemmas.proofs.Members.{keyed_has}
-use Rattle.b67_model.specs.State.{Frame, Task, Job, JobProgress, SessionJob, height, Segment}
+use Rattle.b67_model.specs.Common.{Frame, Task, Job, JobProgress, SessionJob, height, Segment, number_of, is_critical, Session, Word, Original, rows_after, DictionaryWords}
 use Rattle.b67_model.specs.Keyed.{keyed, change_keyed}
-use Rattle.b67_model.specs.Run.{number_of}
-use Rattle.b67_model.specs.Steps.{is_critical}
-use Rattle.b67_model.specs.Schedule.{Session}
-use Rattle.b67_model.specs.Words.{Word, Original}
-use Rattle.b67_model.specs.InOrder.{rows_after, DictionaryWords}
-use Rattle.b67_stack.specs.MachineView.{NoOriginalAboveTop, PagedObject}
-use Rattle.b67_stack.specs.Represents.{Storage, Represents}
-use Rattle.b67_layout.specs.Placement.{Placement, Slotted, slot_of}
-use Rattle.b67_layout.specs.Layout.{machine_view, code_objects}
-use Rattle.b67_layout.specs.Session.{RowsFit, DictionariesFollow, RowHomes, PlanFits, RepresentsDictionary, vector_word, critical_mark, RepresentsTask, IsRunning, with_objects, SessionHoldsBut}
+use Rattle.b67_stack.specs.Common.{NoOriginalAboveTop, PagedObject, Storage, Represents}
+use Rattle.b67_layout.specs.Common.{Placement, Slotted, slot_of, machine_view, code_objects, RowsFit, DictionariesFollow, RowHomes, PlanFits, RepresentsDictionary, vector_word, critical_mark, RepresentsTask, IsRunning, with_objects, SessionHoldsBut}
 use Rattle.b67_layout.proofs.Replaces.{Replaces, task-same}
 use Rattle.b67_layout.proofs.MachineViews.{with_course, member-same}
 use Rattle.b67_layout.proofs.Rows.{task_row, slot_below}

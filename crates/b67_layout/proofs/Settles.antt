@@ -3,11 +3,7 @@ use Rattle.std.proofs.Common.{◌≡◌, ◌≢◌, ℕ, suc, ◌+◌, ◌-◌, 
 use Rattle.b67_word.specs.Tagged.{Tagged}
 use Rattle.b67_ctl.specs.declared.registers.Regs.{Regs}
 use Rattle.b67_lemmas.specs.Lists.{Has}
-use Rattle.b67_stack.specs.Shapes.{Shape, Original}
-use Rattle.b67_stack.specs.Stacks.{Activation, stack_words}
-use Rattle.b67_stack.specs.MachineView.{PagedObject, MachineView, RunsOn, NoOriginalAboveTop}
-use Rattle.b67_stack.specs.Represents.{Storage, Represents}
-use Rattle.b67_stack.specs.Changes.{with_stack}
+use Rattle.b67_stack.specs.Common.{Shape, Original, Activation, stack_words, PagedObject, MachineView, RunsOn, NoOriginalAboveTop, Storage, Represents, with_stack}
 use Rattle.b67_stack.proofs.Slots.{running_slot}
 use Rattle.b67_stack.proofs.Pushes.{Settled-with}
 use Rattle.b67_stack.proofs.Cells.{cell_word}

@@ -1,15 +1,9 @@
 -- A machine that stands for a session with a running task meets what push, pop, mark and cut ask for.
 use Rattle.std.proofs.Common.{◌≡◌, ℕ, sym, ◌∙◌, subst}
-use Rattle.b67_model.specs.State.{Task, SessionJob}
-use Rattle.b67_model.specs.Run.{number_of}
-use Rattle.b67_model.specs.Schedule.{Session}
+use Rattle.b67_model.specs.Common.{Task, SessionJob, number_of, Session}
 use Rattle.b67_stack.specs.declared.Cpu.{Cpu}
-use Rattle.b67_stack.specs.MachineView.{RunsOn}
-use Rattle.b67_stack.specs.Represents.{Storage}
-use Rattle.b67_stack.specs.Changes.{Runs}
-use Rattle.b67_layout.specs.Placement.{Placement}
-use Rattle.b67_layout.specs.Layout.{machine_view, stack_of_task}
-use Rattle.b67_layout.specs.Session.{IsRunning, RepresentsSession}
+use Rattle.b67_stack.specs.Common.{RunsOn, Storage, Runs}
+use Rattle.b67_layout.specs.Common.{Placement, machine_view, stack_of_task, IsRunning, RepresentsSession}
 use Rattle.b67_layout.proofs.Rows.{runs_on}
 use Rattle.b67_lemmas.proofs.Members.{keyed_has}
 

@@ -7,26 +7,16 @@ use Rattle.b67_word.specs.declared.couples.Place.{Place}
 use Rattle.b67_ctl.specs.declared.registers.Regs.{Regs}
 use Rattle.b67_lemmas.specs.Lists.{Has}
 use Rattle.b67_lemmas.proofs.Members.{keyed_has}
-use Rattle.b67_model.specs.Words.{Word}
+use Rattle.b67_model.specs.Common.{Word, Frame, Task, Job, JobProgress, SessionJob, height, with_top_cells, with_task, from_frame, is_critical, Session, number_of}
 use Rattle.b67_model.specs.State as State
-use Rattle.b67_model.specs.State.{Frame, Task, Job, JobProgress, SessionJob, height, with_top_cells, with_task}
-use Rattle.b67_model.specs.InOrder.{from_frame}
-use Rattle.b67_model.specs.Steps.{is_critical}
-use Rattle.b67_model.specs.Schedule.{Session}
-use Rattle.b67_stack.specs.Stacks.{StackPlace, Activation}
-use Rattle.b67_stack.specs.MachineView.{MachineView, NoOriginalAboveTop}
-use Rattle.b67_stack.specs.Represents.{Storage, Represents}
-use Rattle.b67_stack.specs.Changes.{with_stack, with_cells, new_mark}
-use Rattle.b67_layout.specs.Placement.{Placement, spot_in, outer_spots}
-use Rattle.b67_layout.specs.Layout.{shape, activations, stack_of_task, machine_view}
-use Rattle.b67_layout.specs.Session.{RepresentsTask, IsRunning, critical_mark, SessionHolds}
+use Rattle.b67_stack.specs.Common.{StackPlace, Activation, MachineView, NoOriginalAboveTop, Storage, Represents, with_stack, with_cells, new_mark}
+use Rattle.b67_layout.specs.Common.{Placement, spot_in, outer_spots, shape, activations, stack_of_task, machine_view, RepresentsTask, IsRunning, critical_mark, SessionHolds}
 use Rattle.b67_layout.proofs.Others.{OnTop, seen-cells, seen-mark}
 use Rattle.b67_layout.proofs.MachineViews.{with_course, machine_view-after, stack-after}
 use Rattle.b67_layout.proofs.Rows.{row_of}
 use Rattle.b67_layout.proofs.Replaces.{on_top_replaces}
 use Rattle.b67_layout.proofs.Sessions.{SessionHoldsBut-after}
 use Rattle.b67_model.specs.Keyed.{change_keyed}
-use Rattle.b67_model.specs.Run.{number_of}
 
 pub activations-with : (plan : Placement) (j : ℕ) (job : Job) (k : ℕ) (outer : ℕ → StackPlace) (fs : List Frame) (cells : List Word)
     → activations plan j job k outer (with_top_cells fs cells) ≡ with_cells (activations plan j job k outer fs) (map (shape plan j job (spot_in k outer fs)) cells)

@@ -6,17 +6,9 @@ use Rattle.b67_word.specs.declared.couples.Place.{Place}
 use Rattle.b67_ctl.specs.declared.registers.Regs.{Regs}
 use Rattle.b67_lemmas.specs.Lists.{Has}
 use Rattle.b67_lemmas.proofs.Members.{keyed_has}
-use Rattle.b67_model.specs.State.{Frame, Condition, Task, Job, JobProgress, SessionJob}
-use Rattle.b67_model.specs.Run.{number_of}
-use Rattle.b67_model.specs.Schedule.{Session}
-use Rattle.b67_stack.specs.Stacks.{StackPlace, Activation}
-use Rattle.b67_stack.specs.MachineView.{PagedObject, MachineView, NoOriginalAboveTop}
-use Rattle.b67_stack.specs.Represents.{Storage, Represents}
-use Rattle.b67_stack.specs.Changes.{with_stack}
-use Rattle.b67_layout.specs.Placement.{Placement, outer_spots}
-use Rattle.b67_layout.specs.Layout.{activations, machine_view}
-use Rattle.b67_layout.specs.Meets.{with_job}
-use Rattle.b67_layout.specs.Session.{RepresentsTask, IsRunning, critical_mark, with_objects, SessionHoldsBut}
+use Rattle.b67_model.specs.Common.{Frame, Condition, Task, Job, JobProgress, SessionJob, number_of, Session}
+use Rattle.b67_stack.specs.Common.{StackPlace, Activation, PagedObject, MachineView, NoOriginalAboveTop, Storage, Represents, with_stack}
+use Rattle.b67_layout.specs.Common.{Placement, outer_spots, activations, machine_view, with_job, RepresentsTask, IsRunning, critical_mark, with_objects, SessionHoldsBut}
 use Rattle.b67_layout.proofs.Others.{OnTop, task-same, outer_spots-after}
 use Rattle.b67_layout.proofs.Replaces.{on_top_replaces}
 use Rattle.b67_layout.proofs.Sessions.{SessionHoldsBut-after}

@@ -1,9 +1,7 @@
 -- A session in order is so without its counts.
 use Rattle.std.proofs.Common.{List, [], ◌∷◌, arith}
 use Rattle.std.specs.List.{AllByRecursion}
-use Rattle.b67_model.specs.State.{JobConstants, JobProgress, SessionJob}
-use Rattle.b67_model.specs.Schedule.{Session}
-use Rattle.b67_model.specs.InOrder.{Starts, IsSegment, JobInOrder, SessionInOrder, IsInOrderButPlaces}
+use Rattle.b67_model.specs.Common.{JobConstants, JobProgress, SessionJob, Session, Starts, IsSegment, JobInOrder, SessionInOrder, IsInOrderButPlaces}
 use Rattle.b67_layout.specs.Orders.{JobInOrderButCounts, SessionInOrderButCounts, IsInOrderButCounts}
 
 pub job_but_counts : (P : Starts) (constants : JobConstants) (c : JobProgress) → JobInOrder P constants c → JobInOrderButCounts P constants c

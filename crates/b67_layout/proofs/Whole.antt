@@ -2,17 +2,10 @@
 use Rattle.std.proofs.Common.{◌≡◌, ◌≢◌, ℕ, ◌<◌, List, [], ◌∷◌, map, refl, sym, ◌∙◌, ap, subst}
 use Rattle.std.specs.List.{slice_get}
 use Rattle.b67_word.specs.declared.couples.Place.{Place}
-use Rattle.b67_model.specs.Words.{Word}
-use Rattle.b67_model.specs.State.{Frame, Task, JobProgress, SessionJob, with_top_cells, with_task}
-use Rattle.b67_model.specs.Schedule.{Session}
+use Rattle.b67_model.specs.Common.{Word, Frame, Task, JobProgress, SessionJob, with_top_cells, with_task, Session}
 use Rattle.b67_stack.specs.declared.Cpu.{Cpu}
-use Rattle.b67_stack.specs.Stacks.{StackPlace}
-use Rattle.b67_stack.specs.MachineView.{NoOriginalAboveTop}
-use Rattle.b67_stack.specs.Represents.{Storage, Represents}
-use Rattle.b67_stack.specs.Changes.{with_stack, with_cells}
-use Rattle.b67_layout.specs.Placement.{Placement, slot_of, spot_in, outer_spots, spots}
-use Rattle.b67_layout.specs.Layout.{shape, stack_of_task, machine_view}
-use Rattle.b67_layout.specs.Session.{IsRunning, ShowsDisplay, SessionHolds, RepresentsSession}
+use Rattle.b67_stack.specs.Common.{StackPlace, NoOriginalAboveTop, Storage, Represents, with_stack, with_cells}
+use Rattle.b67_layout.specs.Common.{Placement, slot_of, spot_in, outer_spots, spots, shape, stack_of_task, machine_view, IsRunning, ShowsDisplay, SessionHolds, RepresentsSession}
 use Rattle.b67_layout.proofs.Others.{OnTop, outer_spots-after, task-same}
 use Rattle.b67_layout.proofs.MachineViews.{with_course, member-same}
 use Rattle.b67_layout.proofs.Sessions.{running_only}

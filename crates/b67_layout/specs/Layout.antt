@@ -4,15 +4,11 @@ use Rattle.b67_word.specs.Tagged.{word}
 use Rattle.b67_ctl.specs.Layout.{pcw_word, intrinsic_word, irw_word, sirw_word}
 use Rattle.b67_area.specs.declared.Kind.TheVariants as kind
 use Rattle.b67_model.specs.Words as Words
-use Rattle.b67_model.specs.Words.{Word, Operand, Name, Ref, Row, Element, Original, Proc, Intrinsic}
+use Rattle.b67_model.specs.Common.{Word, Operand, Name, Ref, Row, Element, Original, Proc, Intrinsic, Standing, Frame, Array, Segment, Task, Job, SessionJob, array}
 use Rattle.b67_model.specs.State as State
-use Rattle.b67_model.specs.State.{Standing, Frame, Array, Segment, Task, Job, SessionJob}
 use Rattle.b67_model.specs.Keyed.{keyed}
-use Rattle.b67_model.specs.Arrays.{array}
 use Rattle.b67_stack.specs.Shapes as Shapes
-use Rattle.b67_stack.specs.Shapes.{Shape, Is, Copy}
-use Rattle.b67_stack.specs.Stacks.{StackPlace, Head, Marked, Entered, Activation}
-use Rattle.b67_stack.specs.MachineView.{PagedObject, Slot, Free, Running, Waiting, MachineView}
+use Rattle.b67_stack.specs.Common.{Shape, Is, Copy, StackPlace, Head, Marked, Entered, Activation, PagedObject, Slot, Free, Running, Waiting, MachineView}
 use Rattle.b67_layout.specs.Placement.{Slotted, Placement, spot_in, outer_spots}
 
 -- the shape of a cell's word, where the spots of frames are known

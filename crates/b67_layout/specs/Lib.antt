@@ -8,3 +8,4 @@ pub mod Meets
 pub mod Peaks
 pub mod Moved
 pub mod Tops
+pub mod Common

@@ -4,13 +4,8 @@ use Rattle.std.specs.List.{list_any}
 use Rattle.b67_word.specs.declared.couples.Place.{Place}
 use Rattle.b67_ctl.specs.declared.registers.Regs.{Regs}
 use Rattle.b67_lemmas.specs.Lists.{Has}
-use Rattle.b67_model.specs.Answers.{Answer}
-use Rattle.b67_model.specs.State.{Frame, Array, Task, Job, SessionJob, OperatorContext, head_words}
+use Rattle.b67_model.specs.Common.{Answer, Frame, Array, Task, Job, SessionJob, OperatorContext, head_words, array, Done, Goes, Leaves, number_of, Session}
 use Rattle.b67_model.specs.Keyed.{change_keyed}
-use Rattle.b67_model.specs.Arrays.{array}
-use Rattle.b67_model.specs.Steps.{Done, Goes, Leaves}
-use Rattle.b67_model.specs.Run.{number_of}
-use Rattle.b67_model.specs.Schedule.{Session}
 use Rattle.b67_layout.specs.Orders.{IsInOrderButCounts}
 use Rattle.b67_stack.specs.declared.Cpu.{Cpu}
 use Rattle.b67_stack.specs.declared.What.{What}

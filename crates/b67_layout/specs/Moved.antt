@@ -1,7 +1,6 @@
 -- A task that goes on at another place, and the peak that a slot raises.
 use Rattle.std.specs.Prelude.{ℕ}
-use Rattle.b67_model.specs.State.{Job, SessionJob}
-use Rattle.b67_model.specs.Schedule.{Session}
+use Rattle.b67_model.specs.Common.{Job, SessionJob, Session}
 use Rattle.b67_layout.specs.Meets.{with_job}
 use Rattle.b67_layout.specs.Peaks.{peak_with}
 

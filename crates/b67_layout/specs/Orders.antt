@@ -2,10 +2,7 @@
 -- it, and so has one in which no task is ready.
 use Rattle.std.specs.Prelude.{◌≡◌, ℕ, ◌^◌, ◌<◌, ◌≤◌, length}
 use Rattle.std.specs.List.{AllByRecursion}
-use Rattle.b67_model.specs.State.{JobConstants, JobProgress, SessionJob}
-use Rattle.b67_model.specs.Schedule.{Session}
-use Rattle.b67_model.specs.Run.{live_tasks}
-use Rattle.b67_model.specs.InOrder.{Starts, IsSegment, SettingInOrder, TasksInOrder, NumberedFrom}
+use Rattle.b67_model.specs.Common.{JobConstants, JobProgress, SessionJob, Session, live_tasks, Starts, IsSegment, SettingInOrder, TasksInOrder, NumberedFrom}
 
 -- a job's constants, tasks and arrays are in order, whatever its counts of operators are. An operand can number its tasks
 pub record JobInOrderButCounts (P : Starts) (constants : JobConstants) (c : JobProgress) : Type 0 where

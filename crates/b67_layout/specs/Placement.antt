@@ -1,8 +1,7 @@
 -- Where a machine keeps the objects of a session: what the session's state doesn't say.
 use Rattle.std.specs.Prelude.{ℕ, ◌+◌, ◌-◌, ◌*◌, ◌==◌, ◌&&◌, nat_lt, List, [], ◌∷◌, find, option_map, unwrap_or, if◌then◌else◌, Bool}
-use Rattle.b67_model.specs.State.{Frame, Task, Job, height}
+use Rattle.b67_model.specs.Common.{Frame, Task, Job, height, from_frame, frames_of_task, critical_of}
 use Rattle.b67_model.specs.Keyed.{keyed}
-use Rattle.b67_model.specs.InOrder.{from_frame, frames_of_task, critical_of}
 use Rattle.b67_stack.specs.Stacks.{StackPlace}
 
 -- a live task's slot

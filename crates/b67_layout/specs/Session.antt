@@ -5,15 +5,10 @@ use Rattle.b67_area.specs.declared.Areas.{Areas}
 use Rattle.b67_backing.specs.Shelf.{Table, IsShelf}
 use Rattle.b67_ctl.specs.declared.registers.Regs.{Regs}
 use Rattle.b67_lemmas.specs.Lists.{Has}
-use Rattle.b67_model.specs.State.{Frame, Task, Job, SessionJob, height}
+use Rattle.b67_model.specs.Common.{Frame, Task, Job, SessionJob, height, level_of_frame, running, frame_at, is_critical, number_of, Session}
 use Rattle.b67_model.specs.Keyed.{keyed}
-use Rattle.b67_model.specs.Environment.{level_of_frame, running, frame_at}
-use Rattle.b67_model.specs.Steps.{is_critical}
-use Rattle.b67_model.specs.Run.{number_of}
-use Rattle.b67_model.specs.Schedule.{Session}
 use Rattle.b67_stack.specs.declared.Cpu.{Cpu}
-use Rattle.b67_stack.specs.MachineView.{PagedObject, MachineView, NoOriginalAboveTop}
-use Rattle.b67_stack.specs.Represents.{Storage, Represents}
+use Rattle.b67_stack.specs.Common.{PagedObject, MachineView, NoOriginalAboveTop, Storage, Represents}
 use Rattle.b67_layout.specs.Placement.{Slotted, Placement, slot_of, spots, address_of}
 use Rattle.b67_layout.specs.Layout.{machine_view}
 

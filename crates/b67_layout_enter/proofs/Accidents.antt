@@ -7,30 +7,15 @@ use Rattle.b67_ctl.specs.declared.registers.Regs.{Regs}
 use Rattle.b67_ctl.specs.Layout.{mscw_word, rcw_word}
 use Rattle.b67_core.proofs.Writes.{slice_get-set_other}
 use Rattle.b67_model.specs.State as State
-use Rattle.b67_model.specs.State.{Frame, Return, Condition, Ready, Task, Job, SessionJob, height, with_task}
-use Rattle.b67_model.specs.Run.{number_of}
+use Rattle.b67_model.specs.Common.{Frame, Return, Condition, Ready, Task, Job, SessionJob, height, with_task, number_of, Session}
 use Rattle.b67_model.specs.Keyed.{keyed, change_keyed}
-use Rattle.b67_model.specs.Schedule.{Session}
-use Rattle.b67_stack.specs.Stacks.{StackPlace, Entered, Activation, HeadFits, stack_words, top_size, mark_place, mark_of, return_of}
-use Rattle.b67_stack.specs.MachineView.{PagedObject, MachineView, RunsOn}
-use Rattle.b67_stack.specs.Represents.{Storage, RepresentsRunning, Represents}
-use Rattle.b67_stack.specs.Changes.{with_stack}
+use Rattle.b67_stack.specs.Common.{StackPlace, Entered, Activation, HeadFits, stack_words, top_size, mark_place, mark_of, return_of, PagedObject, MachineView, RunsOn, Storage, RepresentsRunning, Represents, with_stack}
 use Rattle.b67_stack.proofs.Slots.{running_slot, running_fits}
 use Rattle.b67_stack.proofs.Pushes.{Room, room_of}
-use Rattle.b67_layout.specs.Placement.{Placement, spot_in, outer_spots}
-use Rattle.b67_layout.specs.Layout.{activations, stack_of_task, machine_view}
-use Rattle.b67_layout.specs.Meets.{with_job}
-use Rattle.b67_layout.specs.Session.{IsRunning, ShowsDisplay, critical_mark, with_objects, SessionHoldsBut, RepresentsSessionBut}
-use Rattle.b67_layout.proofs.Others.{OnTop, seen-mark}
-use Rattle.b67_layout.proofs.Steps.{IsFree}
-use Rattle.b67_layout.proofs.Fresh.{free-uncritical}
-use Rattle.b67_layout.proofs.Rows.{runs_on}
-use Rattle.b67_layout.proofs.Settles.{Settled-more}
+use Rattle.b67_layout.specs.Common.{Placement, spot_in, outer_spots, activations, stack_of_task, machine_view, with_job, IsRunning, ShowsDisplay, critical_mark, with_objects, SessionHoldsBut, RepresentsSessionBut}
+use Rattle.b67_layout.proofs.Common.{OnTop, seen-mark, IsFree, free-uncritical, runs_on, Settled-more, task_on, SessionHolds-top, still_running, Shows-condition, running_only}
 use Rattle.b67_stack.proofs.ClearHeads.{IsClear}
 use Rattle.b67_layout_enter.proofs.Heads.{Represents-accident}
-use Rattle.b67_layout.proofs.Tops.{task_on, SessionHolds-top, still_running}
-use Rattle.b67_layout.proofs.Conditions.{Shows-condition}
-use Rattle.b67_layout.proofs.Sessions.{running_only}
 use Rattle.b67_stack.specs.declared.Cpu.{Cpu}
 use Rattle.b67_lemmas.specs.Lists.{Has}
 use Rattle.b67_lemmas.proofs.Members.{keyed_has}

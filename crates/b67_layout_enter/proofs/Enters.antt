@@ -7,31 +7,14 @@ use Rattle.b67_word.specs.declared.couples.Place.{Place}
 use Rattle.b67_ctl.specs.declared.registers.Regs.{Regs}
 use Rattle.b67_ctl.specs.Layout.{mscw_word, rcw_word}
 use Rattle.b67_core.proofs.Writes.{slice_get-set_other}
-use Rattle.b67_model.specs.Words.{Word}
+use Rattle.b67_model.specs.Common.{Word, Frame, Return, Condition, Ready, Task, Job, SessionJob, top, below_top, height, with_task, from_frame, Session, number_of}
 use Rattle.b67_model.specs.State as State
-use Rattle.b67_model.specs.State.{Frame, Return, Condition, Ready, Task, Job, SessionJob, top, below_top, height, with_task}
-use Rattle.b67_model.specs.InOrder.{from_frame}
-use Rattle.b67_model.specs.Schedule.{Session}
-use Rattle.b67_stack.specs.Shapes.{Shape, Original}
-use Rattle.b67_stack.specs.Stacks.{StackPlace, Head, Marked, Entered, Activation, HeadFits, running_level, mark_of, return_of}
-use Rattle.b67_stack.specs.MachineView.{RunsOn}
-use Rattle.b67_stack.specs.Represents.{Storage, RepresentsRunning, Represents}
-use Rattle.b67_model.specs.Run.{number_of}
-use Rattle.b67_stack.specs.Changes.{with_stack}
+use Rattle.b67_stack.specs.Common.{Shape, Original, StackPlace, Head, Marked, Entered, Activation, HeadFits, running_level, mark_of, return_of, RunsOn, Storage, RepresentsRunning, Represents, with_stack}
 use Rattle.b67_stack.proofs.Slots.{running_slot}
 use Rattle.b67_stack.proofs.Pushes.{Room, room_of}
-use Rattle.b67_layout.specs.Placement.{Placement, spot_in, outer_spots}
-use Rattle.b67_layout.specs.Layout.{shape, head, activations, stack_of_task, machine_view}
-use Rattle.b67_layout.specs.Meets.{with_job}
-use Rattle.b67_layout.specs.Session.{IsRunning, ShowsDisplay, critical_mark, SessionHolds, RepresentsSession}
-use Rattle.b67_layout.proofs.Others.{OnTop}
-use Rattle.b67_layout.proofs.Steps.{IsFree}
-use Rattle.b67_layout.proofs.Rows.{runs_on}
-use Rattle.b67_layout.proofs.Settles.{Settled-more}
+use Rattle.b67_layout.specs.Common.{Placement, spot_in, outer_spots, shape, head, activations, stack_of_task, machine_view, with_job, IsRunning, ShowsDisplay, critical_mark, SessionHolds, RepresentsSession}
+use Rattle.b67_layout.proofs.Common.{OnTop, IsFree, runs_on, Settled-more, task_on, SessionHolds-top, still_running, Shows-condition, running_only}
 use Rattle.b67_layout_enter.proofs.Heads.{Represents-entered}
-use Rattle.b67_layout.proofs.Tops.{task_on, SessionHolds-top, still_running}
-use Rattle.b67_layout.proofs.Conditions.{Shows-condition}
-use Rattle.b67_layout.proofs.Sessions.{running_only}
 use Rattle.b67_stack.specs.declared.Cpu.{Cpu}
 use Rattle.b67_lemmas.proofs.Members.{keyed_has}
 

@@ -9,11 +9,7 @@ use Rattle.b67_ctl.specs.Layout.{mscw_word, IsMscw, rcw_word}
 use Rattle.b67_core.proofs.Writes.{slice_get-set_other}
 use Rattle.b67_lemmas.specs.Lists.{Has}
 use Rattle.b67_model.specs.State.{Return}
-use Rattle.b67_stack.specs.Shapes.{Shape, Is, Original, Copy, Fits, LieDownward}
-use Rattle.b67_stack.specs.Stacks.{StackPlace, Marked, Entered, Activation, IsStack, HeadFits, top_size, mark_of, return_of, words}
-use Rattle.b67_stack.specs.MachineView.{PagedObject, MachineView, RunsOn, slot_base, CopiesName}
-use Rattle.b67_stack.specs.Represents.{Storage, RepresentsRunning, Represents}
-use Rattle.b67_stack.specs.Changes.{with_stack}
+use Rattle.b67_stack.specs.Common.{Shape, Is, Original, Copy, Fits, LieDownward, StackPlace, Marked, Entered, Activation, IsStack, HeadFits, top_size, mark_of, return_of, words, PagedObject, MachineView, RunsOn, slot_base, CopiesName, Storage, RepresentsRunning, Represents, with_stack}
 use Rattle.b67_stack.proofs.Lies.{Lie-push}
 use Rattle.b67_stack.proofs.Heights.{words-length}
 use Rattle.b67_stack.proofs.Homes.{not_home}

@@ -6,26 +6,13 @@ use Rattle.b67_word.specs.declared.couples.Place.{Place}
 use Rattle.b67_lemmas.specs.Lists.{Has}
 use Rattle.b67_lemmas.proofs.Members.{keyed_has}
 use Rattle.b67_model.specs.State as State
-use Rattle.b67_model.specs.State.{Frame, Task, JobConstants, Job, SessionJob, OperatorContext, mcp, no_frame, all_frames, frame, with_task}
-use Rattle.b67_model.specs.Environment.{frame_at}
-use Rattle.b67_model.specs.InOrder.{IsSegment, SettingInOrder, TasksInOrder}
-use Rattle.b67_model.specs.Schedule.{Session}
+use Rattle.b67_model.specs.Common.{Frame, Task, JobConstants, Job, SessionJob, OperatorContext, mcp, no_frame, all_frames, frame, with_task, frame_at, IsSegment, SettingInOrder, TasksInOrder, Session}
 use Rattle.b67_stack.specs.declared.Cpu.{Cpu}
-use Rattle.b67_stack.specs.Stacks.{StackPlace}
-use Rattle.b67_stack.specs.MachineView.{NoOriginalAboveTop}
-use Rattle.b67_stack.specs.Represents.{Storage, Represents}
-use Rattle.b67_stack.specs.Changes.{with_stack, new_mark}
-use Rattle.b67_layout.specs.Placement.{Placement, slot_of, spot_in, outer_spots, spots, address_of}
-use Rattle.b67_layout.specs.Layout.{stack_of_task, machine_view}
-use Rattle.b67_layout.specs.Meets.{with_job}
-use Rattle.b67_layout.specs.Session.{IsRunning, ShowsDisplay, SessionHolds, RepresentsSession}
-use Rattle.b67_layout.proofs.Others.{OnTop, seen-mark}
-use Rattle.b67_layout.proofs.Sessions.{running_only}
-use Rattle.b67_layout.proofs.Steps.{IsFree, GoesOn, SessionHolds-mark}
-use Rattle.b67_layout.proofs.Fresh.{next_is_free, free-uncritical}
+use Rattle.b67_stack.specs.Common.{StackPlace, NoOriginalAboveTop, Storage, Represents, with_stack, new_mark}
+use Rattle.b67_layout.specs.Common.{Placement, slot_of, spot_in, outer_spots, spots, address_of, stack_of_task, machine_view, with_job, IsRunning, ShowsDisplay, SessionHolds, RepresentsSession}
+use Rattle.b67_layout.proofs.Common.{OnTop, seen-mark, running_only, IsFree, GoesOn, SessionHolds-mark, next_is_free, free-uncritical, still_running, outer-same}
 use Rattle.b67_law_order.proofs.LowNames.{frame_at_same}
 use Rattle.b67_layout_enter.proofs.Names.{frame_past}
-use Rattle.b67_layout.proofs.Tops.{still_running, outer-same}
 
 -- the mark of the next identity
 abbrev pub next_mark : Job → Frame

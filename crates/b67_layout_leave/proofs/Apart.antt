@@ -4,12 +4,10 @@ use Rattle.std.specs.Prelude.{option_map}
 use Rattle.std.proofs.lemmas.Bool.Decides.{eqb_tells}
 use Rattle.b67_lemmas.specs.Lists.{Has}
 use Rattle.b67_lemmas.proofs.Members.{all_in, keyed_has, found-has}
-use Rattle.b67_model.specs.State.{Frame, Standing, Marked, Entered, Task, JobConstants, Job, SessionJob, head_words, height}
+use Rattle.b67_model.specs.Common.{Frame, Standing, Marked, Entered, Task, JobConstants, Job, SessionJob, head_words, height, IsSegment, from_frame, frames_of_task, critical_of, BirthInOrder, TaskInOrder, TasksInOrder}
 use Rattle.b67_model.specs.Keyed.{keyed}
-use Rattle.b67_model.specs.InOrder.{IsSegment, from_frame, frames_of_task, critical_of, BirthInOrder, TaskInOrder, TasksInOrder}
 use Rattle.b67_stack.specs.Stacks.{StackPlace}
-use Rattle.b67_layout.specs.Placement.{Slotted, Placement, is_row_of, slot_of, spot_in, base_spot, outer_spots}
-use Rattle.b67_layout.specs.Session.{RowsFit}
+use Rattle.b67_layout.specs.Common.{Slotted, Placement, is_row_of, slot_of, spot_in, base_spot, outer_spots, RowsFit}
 use Rattle.b67_layout.proofs.Rows.{TaskRow, task_row}
 
 pub some_words : (s : Standing) → 1 ≤ head_words s

@@ -8,27 +8,13 @@ use Rattle.b67_word.specs.declared.couples.Place.{Place}
 use Rattle.b67_ctl.specs.declared.registers.Regs.{Regs}
 use Rattle.b67_lemmas.specs.Lists.{Falls}
 use Rattle.b67_lemmas.proofs.Members.{all_in, keyed_has}
-use Rattle.b67_model.specs.State.{Frame, Array, Condition, Task, Job, JobProgress, SessionJob, height}
+use Rattle.b67_model.specs.Common.{Frame, Array, Condition, Task, Job, JobProgress, SessionJob, height, is_critical, Session, IsSegment, from_frame, FramesInOrder, outer_of, TaskInOrder}
 use Rattle.b67_model.specs.Keyed.{change_keyed}
-use Rattle.b67_model.specs.Steps.{is_critical}
-use Rattle.b67_model.specs.Schedule.{Session}
-use Rattle.b67_model.specs.InOrder.{IsSegment, from_frame, FramesInOrder, outer_of, TaskInOrder}
-use Rattle.b67_layout.specs.Orders.{JobInOrderButCounts, IsInOrderButCounts}
-use Rattle.b67_stack.specs.Stacks.{StackPlace, Activation, stack_words}
-use Rattle.b67_stack.specs.Represents.{Storage, Represents}
-use Rattle.b67_stack.specs.Changes.{with_stack}
-use Rattle.b67_layout.specs.Placement.{Placement, spot_in, outer_spots}
-use Rattle.b67_layout.specs.Layout.{activations, machine_view}
-use Rattle.b67_layout.specs.Session.{critical_mark, RepresentsTask, IsRunning, SessionHolds, SessionHoldsBut}
-use Rattle.b67_layout.specs.Meets.{objects_gone, with_job}
-use Rattle.b67_layout.proofs.Fresh.{running_in_order}
-use Rattle.b67_layout.proofs.MachineViews.{member-same}
-use Rattle.b67_layout.proofs.Rows.{row_of}
-use Rattle.b67_layout.proofs.Objects.{others}
-use Rattle.b67_layout.proofs.NamedFirst.{high as identity_high, under as once_only, elsewhere}
+use Rattle.b67_layout.specs.Common.{JobInOrderButCounts, IsInOrderButCounts, Placement, spot_in, outer_spots, activations, machine_view, critical_mark, RepresentsTask, IsRunning, SessionHolds, SessionHoldsBut, objects_gone, with_job}
+use Rattle.b67_stack.specs.Common.{StackPlace, Activation, stack_words, Storage, Represents, with_stack}
+use Rattle.b67_layout.proofs.Common.{running_in_order, member-same, row_of, others, high as identity_high, elsewhere, IsDependedOn, Replaces, task-same, SessionHoldsBut-after, for_running}
+use Rattle.b67_layout.proofs.NamedFirst.{under as once_only}
 use Rattle.b67_layout_leave.proofs.Nowhere.{MayLeave, uncritical, not_in_reach, SameArrays, frames_stay}
-use Rattle.b67_layout.proofs.Replaces.{IsDependedOn, Replaces, task-same}
-use Rattle.b67_layout.proofs.Sessions.{SessionHoldsBut-after, for_running}
 use Rattle.b67_layout_leave.proofs.Slots.{OthersSame, stack-after, memory-after}
 use Rattle.b67_layout_leave.proofs.Settled.{settled-after}
 

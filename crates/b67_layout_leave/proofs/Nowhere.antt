@@ -8,19 +8,13 @@ use Rattle.std.proofs.lemmas.Option.{same_Some}
 use Rattle.b67_lemmas.specs.Lists.{Has, Falls}
 use Rattle.b67_lemmas.proofs.Members.{any_none, falls_filter, has_append_cases, has_filter_in, has_map, keyed_falls, keyed_has}
 use Rattle.b67_model.specs.Words as Words
-use Rattle.b67_model.specs.Words.{Word, Operand, Name, Ref, Row, Element, Original, Proc, Intrinsic}
-use Rattle.b67_model.specs.State.{Frame, Array, Task, JobConstants, Job}
+use Rattle.b67_model.specs.Common.{Word, Operand, Name, Ref, Row, Element, Original, Proc, Intrinsic, Frame, Array, Task, JobConstants, Job, array, no_array, is_critical, Starts, Known, known_of, from_frame, frames_of_task, critical_of, outer_reach, known_numbers, NamesArray, WordInOrder, FramesInOrder, frames_named}
 use Rattle.b67_model.specs.Keyed.{keyed}
-use Rattle.b67_model.specs.Arrays.{array, no_array}
-use Rattle.b67_model.specs.Steps.{is_critical}
-use Rattle.b67_model.specs.InOrder.{Starts, Known, known_of, from_frame, frames_of_task, critical_of, outer_reach, known_numbers, NamesArray, WordInOrder, FramesInOrder, frames_named}
 use Rattle.b67_law_order.proofs.Replaced.{numbers_append, has_counts, from_counts}
-use Rattle.b67_stack.specs.Shapes.{Shape}
-use Rattle.b67_stack.specs.Stacks.{StackPlace, Activation}
-use Rattle.b67_layout.specs.Placement.{Placement, spot_in}
-use Rattle.b67_layout.specs.Layout.{shape, head, activations}
-use Rattle.b67_layout.proofs.Objects.{others}
-use Rattle.b67_layout.proofs.NamedFirst.{IsOnTop, high, under, elsewhere}
+use Rattle.b67_stack.specs.Common.{Shape, StackPlace, Activation}
+use Rattle.b67_layout.specs.Common.{Placement, spot_in, shape, head, activations}
+use Rattle.b67_layout.proofs.Common.{others, IsOnTop, high, elsewhere}
+use Rattle.b67_layout.proofs.NamedFirst.{under}
 
 -- on which no live task depends
 pub record MayLeave (constants : JobConstants) (job : Job) (t : Task) (f : Frame) (below : List Frame) : Type 0 where

@@ -8,27 +8,16 @@ use Rattle.b67_word.specs.Tagged.{Tagged}
 use Rattle.b67_ctl.specs.declared.registers.Regs.{Regs}
 use Rattle.b67_lemmas.specs.Lists.{Has, Falls}
 use Rattle.b67_lemmas.proofs.Members.{has_append_cases, has_append_right, has_filter, has_flat_back, has_map_back, keyed_has}
-use Rattle.b67_model.specs.State.{Frame, Array, Task, JobProgress, SessionJob}
+use Rattle.b67_model.specs.Common.{Frame, Array, Task, JobProgress, SessionJob, number_of, Session}
 use Rattle.b67_model.specs.Keyed.{keyed}
-use Rattle.b67_model.specs.Run.{number_of}
-use Rattle.b67_model.specs.Schedule.{Session}
-use Rattle.b67_layout.specs.Orders.{IsInOrderButCounts}
-use Rattle.b67_stack.specs.Stacks.{stack_words}
-use Rattle.b67_stack.specs.MachineView.{PagedObject, Slot, Running, stack_of, slot_base, NoOriginalAboveTop}
-use Rattle.b67_stack.specs.Represents.{Storage}
+use Rattle.b67_layout.specs.Common.{IsInOrderButCounts, Placement, stack_of_task, slot_at, objects_of, array_object, code_objects, machine_view, IsRunning, SessionHolds, objects_gone}
+use Rattle.b67_stack.specs.Common.{stack_words, PagedObject, Slot, Running, stack_of, slot_base, NoOriginalAboveTop, Storage}
 use Rattle.b67_stack.proofs.Slots.{slot-same, slot-other}
-use Rattle.b67_layout.specs.Placement.{Placement}
-use Rattle.b67_layout.specs.Layout.{stack_of_task, slot_at, objects_of, array_object, code_objects, machine_view}
-use Rattle.b67_layout.specs.Session.{IsRunning, SessionHolds}
-use Rattle.b67_layout.specs.Meets.{objects_gone}
-use Rattle.b67_layout.proofs.MachineViews.{with_course, member-same, RowOf}
-use Rattle.b67_layout.proofs.Sessions.{change-has}
-use Rattle.b67_layout.proofs.Objects.{others, objects-after}
-use Rattle.b67_layout.proofs.Replaces.{Replaces}
+use Rattle.b67_layout.proofs.Common.{with_course, member-same, RowOf, change-has, others, Replaces, numbered_course, homes_low, code_kind}
+use Rattle.b67_layout.proofs.Objects.{objects-after}
 use Rattle.b67_layout_leave.proofs.Slots.{OthersSame, slots-after}
-use Rattle.b67_layout.proofs.LeftSettles.{numbered_course, under, homes_low}
+use Rattle.b67_layout.proofs.LeftSettles.{under}
 use Rattle.b67_law_order.proofs.Numbered.{keyed_member}
-use Rattle.b67_layout.proofs.CodeKinds.{code_kind}
 
 module _ (x : Storage) (core : List Tagged) (r : Regs) (marks : List ℕ) (plan : Placement) (s : Session) (m : SessionJob) (t : Task) (f : Frame) (below : List Frame)
     (o : IsInOrderButCounts s) (h : SessionHolds x core r marks plan s) (runs : IsRunning plan s.jobs m t) (frames : t.frames ≡ f ∷ below)

@@ -7,21 +7,14 @@ use Rattle.b67_word.specs.Tagged.{Tagged}
 use Rattle.b67_ctl.specs.declared.registers.Regs.{Regs}
 use Rattle.b67_lemmas.specs.Lists.{Has, Falls}
 use Rattle.b67_lemmas.proofs.Members.{keyed_has}
-use Rattle.b67_model.specs.State.{Array, Task, Job, JobProgress, SessionJob}
+use Rattle.b67_model.specs.Common.{Array, Task, Job, JobProgress, SessionJob, number_of}
 use Rattle.b67_model.specs.Keyed.{keyed}
-use Rattle.b67_model.specs.Run.{number_of}
-use Rattle.b67_stack.specs.Stacks.{StackPlace, Activation}
-use Rattle.b67_stack.specs.MachineView.{PagedObject, Slot, Running, Waiting, MachineView}
-use Rattle.b67_stack.specs.Represents.{Storage, Represents}
-use Rattle.b67_stack.specs.Changes.{with_stack}
+use Rattle.b67_stack.specs.Common.{StackPlace, Activation, PagedObject, Slot, Running, Waiting, MachineView, Storage, Represents, with_stack}
 use Rattle.b67_stack.proofs.Slots.{slot-same, slot-other}
-use Rattle.b67_layout.specs.Placement.{Slotted, Placement, outer_spots}
-use Rattle.b67_layout.specs.Layout.{activations, stack_of_task, slot_with, slot_in, slot_by, slot_at, objects_of, machine_view}
-use Rattle.b67_layout.specs.Session.{with_objects}
-use Rattle.b67_layout.specs.Meets.{objects_gone}
-use Rattle.b67_layout.proofs.MachineViews.{with_course, member-same, member-other, RowOf}
-use Rattle.b67_layout.proofs.Replaces.{Replaces, task-same, task-other, outer_spots-after}
-use Rattle.b67_layout.proofs.Objects.{Represents-objects, others, objects-after}
+use Rattle.b67_layout.specs.Common.{Slotted, Placement, outer_spots, activations, stack_of_task, slot_with, slot_in, slot_by, slot_at, objects_of, machine_view, with_objects, objects_gone}
+use Rattle.b67_layout.proofs.Common.{with_course, member-same, member-other, RowOf, Replaces, task-same, task-other, Represents-objects, others}
+use Rattle.b67_layout.proofs.Replaces.{outer_spots-after}
+use Rattle.b67_layout.proofs.Objects.{objects-after}
 use Rattle.b67_layout_leave.proofs.Nowhere.{SameArrays, activations-same}
 
 module _ (plan : Placement) (j : ℕ) (job job' : Job) (t t' : Task) (by : Replaces job job' t t') where

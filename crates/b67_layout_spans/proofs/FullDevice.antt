@@ -10,16 +10,12 @@ use Rattle.b67_lemmas.specs.Lists.{Has, total}
 use Rattle.b67_lemmas.proofs.Members.{has_map, total_append, total_flat, total_map, total_same}
 use Rattle.b67_lemmas.proofs.Sums.{sum_total, total_gap, total_le}
 use Rattle.b67_model.specs.State as State
-use Rattle.b67_model.specs.State.{Segment, SessionJob}
-use Rattle.b67_model.specs.Sectors.{sectors_of, sectors}
-use Rattle.b67_model.specs.Schedule.{Session}
+use Rattle.b67_model.specs.Common.{Segment, SessionJob, sectors_of, sectors, Session}
 use Rattle.b67_stack.specs.declared.Cpu.{Cpu}
-use Rattle.b67_stack.specs.MachineView.{PagedObject, MachineView}
-use Rattle.b67_stack.specs.Represents.{Storage, KeptChain, Content}
+use Rattle.b67_stack.specs.Common.{PagedObject, MachineView, Storage, KeptChain, Content}
 use Rattle.b67_layout_storage.specs.Machine.{MachineRepresentsView}
 use Rattle.b67_overlay.specs.AreasEvicted.{IsShortBy}
-use Rattle.b67_layout.specs.Placement.{Placement}
-use Rattle.b67_layout.specs.Layout.{array_object, code_objects, objects_of, machine_view}
+use Rattle.b67_layout.specs.Common.{Placement, array_object, code_objects, objects_of, machine_view}
 use Rattle.b67_layout_spans.specs.Full.{ShortIsFull}
 use Rattle.b67_layout_spans.proofs.Covers.{covers}
 

@@ -9,18 +9,10 @@ use Rattle.b67_word.specs.Tagged.{Tagged}
 use Rattle.b67_lemmas.specs.Lists.{Has, Falls}
 use Rattle.b67_lemmas.proofs.Members.{all_in, falls_short, has_map, keyed_falls, keyed_has}
 use Rattle.b67_model.specs.Keyed.{keyed}
-use Rattle.b67_model.specs.State.{Task, SessionJob}
-use Rattle.b67_model.specs.Run.{number_of}
-use Rattle.b67_model.specs.Schedule.{Session}
-use Rattle.b67_model.specs.InOrder.{IsSegment, NumberedFrom, BirthInOrder, TaskInOrder, TasksInOrder}
+use Rattle.b67_model.specs.Common.{Task, SessionJob, number_of, Session, IsSegment, NumberedFrom, BirthInOrder, TaskInOrder, TasksInOrder}
 use Rattle.b67_law_order.proofs.Numbered.{keyed_member}
-use Rattle.b67_layout.specs.Orders.{JobInOrderButCounts, IsInOrderButCounts}
-use Rattle.b67_layout.specs.Placement.{Slotted, Placement, slot_of}
-use Rattle.b67_layout.specs.Layout.{machine_view}
-use Rattle.b67_layout.specs.Session.{RowsFit, DictionariesFollow, PlanFits, RepresentsDictionary, RepresentsVector, vector_word}
-use Rattle.b67_layout.proofs.Fresh.{job_in_order}
-use Rattle.b67_layout.proofs.Rows.{task_row, slot_below, finds}
-use Rattle.b67_layout.proofs.Sessions.{dictionary_above}
+use Rattle.b67_layout.specs.Common.{JobInOrderButCounts, IsInOrderButCounts, Slotted, Placement, slot_of, machine_view, RowsFit, DictionariesFollow, PlanFits, RepresentsDictionary, RepresentsVector, vector_word}
+use Rattle.b67_layout.proofs.Common.{job_in_order, task_row, slot_below, finds, dictionary_above}
 use Rattle.b67_overlay.specs.Spans.{Kin, Families, kin_word, LineStands, KinFits, DictionariesLie, ShowsFamilies, job_at}
 
 -- a task's job and the slots of its parents

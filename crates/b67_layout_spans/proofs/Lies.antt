@@ -8,30 +8,17 @@ use Rattle.b67_ctl.specs.declared.registers.Regs.{Regs}
 use Rattle.b67_lemmas.specs.Lists.{Has, how_many}
 use Rattle.b67_lemmas.proofs.Members.{any_some, falls_low, falls_same, has_append_cases, has_append_left, has_map, has_map_back, has_reverse, keyed_falls}
 use Rattle.b67_model.specs.Words as Words
-use Rattle.b67_model.specs.Words.{Word, Operand, Name, Ref, Row, Element, Original, Proc, Intrinsic}
-use Rattle.b67_model.specs.State.{Frame, Task, Job, SessionJob}
-use Rattle.b67_model.specs.Schedule.{Session}
-use Rattle.b67_model.specs.InOrder.{IsSegment, Known, known_of, outer_of, identities, NamesArray, WordInOrder, CopiesAbove, NoCopyUnder, is_copy_of, FramesInOrder, TasksInOrder}
+use Rattle.b67_model.specs.Common.{Word, Operand, Name, Ref, Row, Element, Original, Proc, Intrinsic, Frame, Task, Job, SessionJob, Session, IsSegment, Known, known_of, outer_of, identities, NamesArray, WordInOrder, CopiesAbove, NoCopyUnder, is_copy_of, FramesInOrder, TasksInOrder}
 use Rattle.b67_law_order.proofs.Looks.{above_one}
 use Rattle.b67_law_order.proofs.Numbered.{keyed_member}
 use Rattle.b67_stack.specs.Shapes as Shapes
-use Rattle.b67_stack.specs.Shapes.{Shape, Copied, Fits, LieDownward}
-use Rattle.b67_stack.specs.Stacks.{StackPlace, Head, Marked, Entered, Activation, stack_words, headed, words}
-use Rattle.b67_stack.specs.MachineView.{MachineView, stack_of, slot_base}
-use Rattle.b67_stack.specs.Represents.{Storage, Represents}
+use Rattle.b67_stack.specs.Common.{Shape, Copied, Fits, LieDownward, StackPlace, Head, Marked, Entered, Activation, stack_words, headed, words, MachineView, stack_of, slot_base, Storage, Represents}
 use Rattle.b67_stack.proofs.Bases.{base-apart}
 use Rattle.b67_stack.proofs.Heights.{words-length}
 use Rattle.b67_stack.proofs.Lies.{Lie-under}
 use Rattle.b67_stack.proofs.Slots.{slot_room}
-use Rattle.b67_layout.specs.Orders.{JobInOrderButCounts, IsInOrderButCounts}
-use Rattle.b67_layout.specs.Placement.{Slotted, Placement, slot_of, spot_in, outer_spots}
-use Rattle.b67_layout.specs.Layout.{shape, head, activations, stack_of_task, slot_by, slot_at, machine_view}
-use Rattle.b67_layout.specs.Session.{PlanFits, DictionariesFollow}
-use Rattle.b67_layout.proofs.Fresh.{job_in_order}
-use Rattle.b67_layout.proofs.Rows.{task_row, slot_below}
-use Rattle.b67_layout.proofs.Sessions.{follow-up}
-use Rattle.b67_layout.proofs.Originals.{lies_at, original_word, InFrame, original_of, entry_number}
-use Rattle.b67_layout.proofs.LeftSettles.{stack_in_slot}
+use Rattle.b67_layout.specs.Common.{JobInOrderButCounts, IsInOrderButCounts, Slotted, Placement, slot_of, spot_in, outer_spots, shape, head, activations, stack_of_task, slot_by, slot_at, machine_view, PlanFits, DictionariesFollow}
+use Rattle.b67_layout.proofs.Common.{job_in_order, task_row, slot_below, follow-up, lies_at, original_word, InFrame, original_of, entry_number, stack_in_slot}
 use Rattle.b67_overlay.specs.declared.spans.Span.{Span}
 use Rattle.b67_overlay.specs.Spans.{Families, holds, span_of, up_from, whole, InSpan, ShapeInSpan, CopiesInSpans}
 use Rattle.b67_overlay.proofs.Families.{is_held, not_held_under, not_held_over, span_in_job, span_in_own, span_in_parent}

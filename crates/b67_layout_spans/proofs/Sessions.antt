@@ -8,10 +8,7 @@ use Rattle.b67_stack.specs.declared.Cpu.{Cpu}
 use Rattle.b67_stack.specs.MachineView.{MachineView}
 use Rattle.b67_stack.specs.Represents.{Storage}
 use Rattle.b67_layout_storage.specs.Machine.{MachineRepresentsView}
-use Rattle.b67_layout.specs.Orders.{IsInOrderButCounts}
-use Rattle.b67_layout.specs.Placement.{Placement}
-use Rattle.b67_layout.specs.Layout.{machine_view}
-use Rattle.b67_layout.specs.Session.{RepresentsSession}
+use Rattle.b67_layout.specs.Common.{IsInOrderButCounts, Placement, machine_view, RepresentsSession}
 use Rattle.b67_overlay.specs.Spans.{CopiesLie, MachineCanPage, span_of, InSpan}
 use Rattle.b67_overlay.proofs.Copies.{in_or_out, no_copy_outside}
 use Rattle.b67_layout_spans.specs.SpansHold.{SpansHoldCopies}

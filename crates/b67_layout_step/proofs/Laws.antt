@@ -5,12 +5,7 @@ use Rattle.b67_word.specs.declared.couples.Place.{Place}
 use Rattle.b67_lemmas.specs.Lists.{Has}
 use Rattle.b67_lemmas.proofs.Members.{all_in}
 use Rattle.b67_model.specs.Words as Words
-use Rattle.b67_model.specs.Words.{Word, Operand, Name, Ref, Row, Element, Original, Proc, Intrinsic}
-use Rattle.b67_model.specs.State.{Frame, Array, Task, JobConstants, Job, SessionJob, OperatorContext}
-use Rattle.b67_model.specs.Operators.{Reading}
-use Rattle.b67_model.specs.Steps.{Line, Goes}
-use Rattle.b67_model.specs.Rows.{row, reading_of, step_by, step}
-use Rattle.b67_model.specs.InOrder.{Starts, IsSegment, Known, known_of, WordInOrder, EntryInOrder, FramesInOrder, TaskInOrder, TasksInOrder, outer_of}
+use Rattle.b67_model.specs.Common.{Word, Operand, Name, Ref, Row, Element, Original, Proc, Intrinsic, Frame, Array, Task, JobConstants, Job, SessionJob, OperatorContext, Reading, Line, Goes, row, reading_of, step_by, step, Starts, IsSegment, Known, known_of, WordInOrder, EntryInOrder, FramesInOrder, TaskInOrder, TasksInOrder, outer_of}
 use Rattle.b67_layout.specs.Orders.{JobInOrderButCounts}
 use Rattle.b67_law_order.proofs.Posts.{Post, post_err, post_at}
 use Rattle.b67_law_order_rows.proofs.Kept.{here}

@@ -1,13 +1,11 @@
 -- Sessions with other numbers: what they share.
 use Rattle.std.proofs.Common.{◌≡◌, ℕ, ◌==◌, List, [], ◌∷◌, Option, Some, None, refl, sym, ◌∙◌, ap, true, false, ⊎_elim, subst}
 use Rattle.std.proofs.lemmas.Bool.{cases_Bool}
-use Rattle.b67_model.specs.State.{Task, SessionJob}
+use Rattle.b67_model.specs.Common.{Task, SessionJob, number_of}
 use Rattle.b67_model.specs.Keyed.{keyed}
-use Rattle.b67_model.specs.Run.{number_of}
 use Rattle.b67_law_order_steps.specs.Weaker.{OtherNumbers, AllOtherNumbers}
 use Rattle.b67_law_order_steps.proofs.Sessions.{recoded_count}
-use Rattle.b67_layout.specs.Placement.{Placement, slot_of}
-use Rattle.b67_layout.specs.Session.{IsRunning}
+use Rattle.b67_layout.specs.Common.{Placement, slot_of, IsRunning}
 use Rattle.b67_layout.proofs.Alike.{Alike, AllAlike}
 
 pub other_alike : (m n : SessionJob) → OtherNumbers m n → Alike m n

@@ -6,25 +6,15 @@ use Rattle.std.proofs.lemmas.List.{map-append}
 use Rattle.std.specs.List.{AllByRecursion}
 use Rattle.b67_lemmas.specs.Lists.{Has}
 use Rattle.b67_lemmas.proofs.Members.{has_append_left, has_append_right, keyed_has}
-use Rattle.b67_model.specs.Schedule.{Session}
-use Rattle.b67_model.specs.InOrder.{IsSegment, SegmentInOrder, ArrayInOrder}
-use Rattle.b67_layout.specs.Orders.{JobInOrderButCounts, IsInOrderButCounts}
+use Rattle.b67_model.specs.Common.{Session, IsSegment, SegmentInOrder, ArrayInOrder, Word, Operand, Name, Ref, Row, Element, Original, Proc, Intrinsic, Frame, Array, Task, Segment, JobConstants, Job, SessionJob, array, no_array, number_of}
+use Rattle.b67_layout.specs.Common.{JobInOrderButCounts, IsInOrderButCounts, Slotted, Placement, spot_in, outer_spots, shape, head, activations, slot_with, slot_in, slot_by, slot_at, array_object, code_objects, objects_of, machine_view}
 use Rattle.b67_law_order_steps.specs.Weaker.{Renumbers, Recoded, RefilledArray, Refilled, AllOtherNumbers}
 use Rattle.b67_layout_step.proofs.OtherNumbers.{others_in_order}
 use Rattle.b67_model.specs.Words as Words
-use Rattle.b67_model.specs.Words.{Word, Operand, Name, Ref, Row, Element, Original, Proc, Intrinsic}
-use Rattle.b67_model.specs.State.{Frame, Array, Task, Segment, JobConstants, Job, SessionJob}
 use Rattle.b67_model.specs.Keyed.{keyed}
-use Rattle.b67_model.specs.Arrays.{array, no_array}
-use Rattle.b67_model.specs.Run.{number_of}
-use Rattle.b67_stack.specs.Shapes.{Shape, Copy}
-use Rattle.b67_stack.specs.Stacks.{StackPlace, Activation, stack_words}
+use Rattle.b67_stack.specs.Common.{Shape, Copy, StackPlace, Activation, stack_words, PagedObject, Slot, Running, Waiting, MachineView, slot_base, stack_of, NoOriginalAboveTop, renumber, renumbered}
 use Rattle.b67_layout.proofs.Alike.{AllAlike, outer_same}
 use Rattle.b67_area.specs.declared.kinds.Kind.TheVariants as kind
-use Rattle.b67_stack.specs.MachineView.{PagedObject, Slot, Running, Waiting, MachineView, slot_base, stack_of, NoOriginalAboveTop}
-use Rattle.b67_stack.specs.HeldOtherwise.{renumber, renumbered}
-use Rattle.b67_layout.specs.Placement.{Slotted, Placement, spot_in, outer_spots}
-use Rattle.b67_layout.specs.Layout.{shape, head, activations, slot_with, slot_in, slot_by, slot_at, array_object, code_objects, objects_of, machine_view}
 
 -- the segments of a dictionary, from number n on, with other code in that of a home
 abbrev pub recoded : Placement → ℕ → ℕ → List ℕ → ℕ → List Segment → List Segment

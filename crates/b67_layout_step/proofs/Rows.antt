@@ -8,21 +8,12 @@ use Rattle.b67_model.specs.declared.operators.Op.{Op}
 use Rattle.b67_model.specs.declared.operators.Op.TheVariants.{Valc, Namc, Lt8, Lt16, Lt48, Mpcw, Brun, Brtr, Brfl, Bset, Brst, Isol, Insr, Plain}
 use Rattle.b67_model.specs.declared.operators.Code.{Code}
 use Rattle.b67_model.specs.declared.operators.Code.TheVariants.{Add, Subt, Mult, Idiv, Rdiv, Less, Greq, Grtr, Lseq, Equl, Neql, Chsn, Land, Lor, Leqv, Lnot, Same, Exit, Indx, Retn, Entr, Nxlv, Mkst, Stff, Zero, One, Push, Dlet, Exch, Dupl, Stod, Ston, Load, Noop, Nvld}
-use Rattle.b67_model.specs.Answers.{Answer, needs}
+use Rattle.b67_model.specs.Common.{Answer, needs, add, subt, mult, idiv, rdiv, less, greq, grtr, lseq, equl, neql, land, lor, leqv, same, chsn, lnot, bset, brst, isol, insr, Word, Operand, Name, Ref, Row, Element, Original, Proc, Intrinsic, operand, Frame, Standing, Marked, Entered, Return, Array, Task, Job, OperatorContext, below_top, with_top_cells, top, array, element, with_number, with_element, with_array, all_zero, resized, indexed, in_order, End, AtCell, AtElement, AtArray, AtProc, AtIntrinsic, chase, follow, follow_reference, Line, Value, Values, Done, Goes, Leaves, Waits, top_of, cells_of, result, with_cells, leaves_cells, pushes, accident, needs_level, back_to, evaluates, enters, left, leaves, returnable, returned, retn_word, answered, needs_free, answers, array_length, arraydec, print, row_copy, numbers_of, printrow, read_from, read, child_of, starts, process, awaits, await, status_of, status, waits_at, wait, causes, cause, needs_writable, deallocate, resize, intrinsic, CellRow, on_one, on_two, dlet, exch, dupl, on_cells, branches, branch_if, stff, load_at, load, indx, nxlv, store_at, store, entr_at, entr_with, entr, proc_of, plain, row}
 use Rattle.b67_model.specs.Keyed.{change_keyed}
 use Rattle.b67_lemmas.specs.Lists.{Has}
 use Rattle.b67_lemmas.proofs.Members.{any_some, has_reverse_back}
-use Rattle.b67_model.specs.Arithmetic.{add, subt, mult, idiv, rdiv, less, greq, grtr, lseq, equl, neql, land, lor, leqv, same, chsn, lnot, bset, brst, isol, insr}
 use Rattle.b67_model.specs.Words as Words
-use Rattle.b67_model.specs.Words.{Word, Operand, Name, Ref, Row, Element, Original, Proc, Intrinsic, operand, whole}
-use Rattle.b67_model.specs.State.{Frame, Standing, Marked, Entered, Return, Array, Task, Job, OperatorContext, below_top, with_top_cells, top}
-use Rattle.b67_model.specs.Arrays.{array, element, with_number, with_element, with_array, all_zero, resized}
-use Rattle.b67_model.specs.Indexing.{indexed, in_order}
-use Rattle.b67_model.specs.Chase.{End, AtCell, AtElement, AtArray, AtProc, AtIntrinsic, chase, follow, follow_reference}
-use Rattle.b67_model.specs.Steps.{Line, Value, Values, Done, Goes, Leaves, Waits, top_of, cells_of, result, with_cells, leaves_cells, pushes}
-use Rattle.b67_model.specs.Entry.{accident, needs_level, back_to, evaluates, enters, left, leaves, returnable, returned, retn_word}
-use Rattle.b67_model.specs.Intrinsics.{answered, needs_free, answers, array_length, arraydec, print, row_copy, numbers_of, printrow, read_from, read, child_of, starts, process, awaits, await, status_of, status, waits_at, wait, causes, cause, needs_writable, deallocate, resize, intrinsic}
-use Rattle.b67_model.specs.Rows.{CellRow, on_one, on_two, dlet, exch, dupl, on_cells, branches, branch_if, stff, load_at, load, indx, nxlv, store_at, store, entr_at, entr_with, entr, proc_of, plain, row}
+use Rattle.b67_model.specs.Words.{whole}
 use Rattle.b67_law_order.proofs.Posts.{Post, post_ok, post_err, post_bind, post_any, post_then, post_if}
 use Rattle.b67_layout_step.specs.Keeping.{is_leaving}
 use Rattle.b67_layout_step.proofs.Words as W

@@ -1,17 +1,11 @@
 -- The array that a word names, a reference leads to, or an end is in.
 use Rattle.std.proofs.Common.{ltb, ◌≡◌, ℕ, zero, suc, List, [], ◌∷◌, flat_map, length, Option, Some, None, unwrap_or, Ok, Err, refl, subst, inl, inr, ◌⊎◌, ◌==◌}
 use Rattle.std.proofs.lemmas.Bool.{cases_Bool}
-use Rattle.b67_model.specs.Answers.{Answer}
+use Rattle.b67_model.specs.Common.{Answer, array, array_at, array_of, index_below, indexed, Word, Operand, Name, Ref, Row, Element, Original, Proc, Intrinsic, operand, number, Frame, Task, OperatorContext, mcp, no_frame, all_frames, frame, top, below_top, cell, place_of, End, AtCell, AtElement, AtArray, AtProc, AtIntrinsic, Link, Stops, Leads, element_end, link_at, link_in, link_from, link, chase_on, chase, follow}
 use Rattle.b67_model.specs.Keyed.{keyed, change_keyed}
 use Rattle.b67_lemmas.specs.Lists.{Has}
 use Rattle.b67_lemmas.proofs.Members.{all_in, has_append_cases, keyed_has, has_flat_back}
-use Rattle.b67_model.specs.Arrays.{array}
-use Rattle.b67_model.specs.Indexing.{array_at, array_of, index_below, indexed}
 use Rattle.b67_model.specs.Words as Words
-use Rattle.b67_model.specs.Words.{Word, Operand, Name, Ref, Row, Element, Original, Proc, Intrinsic, operand, number}
-use Rattle.b67_model.specs.State.{Frame, Task, OperatorContext, mcp, no_frame, all_frames, frame, top, below_top}
-use Rattle.b67_model.specs.Cells.{cell, place_of}
-use Rattle.b67_model.specs.Chase.{End, AtCell, AtElement, AtArray, AtProc, AtIntrinsic, Link, Stops, Leads, element_end, link_at, link_in, link_from, link, chase_on, chase, follow}
 use Rattle.b67_law_order.proofs.Posts.{Post, post_ok, post_err, post_bind, post_any, post_if}
 use Rattle.b67_law_order.proofs.Chases.{cell_has}
 

@@ -2,9 +2,7 @@
 use Rattle.std.proofs.Common.{◌≢◌, ℕ, ◌<◌, ◌≤◌, ◌⊎◌, ⊎_elim, List, refl, ◌∙◌, arith}
 use Rattle.b67_word.specs.Tagged.{Tagged}
 use Rattle.b67_ctl.specs.declared.registers.Regs.{Regs}
-use Rattle.b67_stack.specs.MachineView.{MachineView}
-use Rattle.b67_stack.specs.Represents.{Storage, Represents}
-use Rattle.b67_stack.specs.HeldOtherwise.{Stayed}
+use Rattle.b67_stack.specs.Common.{MachineView, Storage, Represents, Stayed}
 
 pub Stayed-none : (p : MachineView) (core : List Tagged) → Stayed p core core
 Stayed-none p core = λ i low out apart. refl

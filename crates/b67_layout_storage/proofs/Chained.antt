@@ -2,8 +2,7 @@
 use Rattle.std.proofs.Common.{◌≡◌, ℕ, inr, ◌⊎◌, List, Option, Some, None, inl}
 use Rattle.b67_area.specs.declared.Kind.{Kind}
 use Rattle.b67_area.specs.declared.Kind.TheVariants.{Array, Row, Code}
-use Rattle.b67_stack.specs.MachineView.{PagedObject}
-use Rattle.b67_stack.specs.Represents.{Storage, KeptChain, ObjectHasChain, Content}
+use Rattle.b67_stack.specs.Common.{PagedObject, Storage, KeptChain, ObjectHasChain, Content}
 use Rattle.b67_word.specs.Tagged.{Tagged}
 
 -- an object's chain, if it has one

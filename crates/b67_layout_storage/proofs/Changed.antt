@@ -11,10 +11,7 @@ use Rattle.b67_area.specs.Directory.{IsDirectory}
 use Rattle.b67_backing.specs.Shelf.{Shelf, chain_of}
 use Rattle.b67_lemmas.specs.Lists.{Has}
 use Rattle.b67_ctl.specs.declared.registers.Regs.{Regs}
-use Rattle.b67_stack.specs.Shapes.{Location}
-use Rattle.b67_stack.specs.MachineView.{PagedObject, MachineView, Slot, Free, Running, Waiting, SlotFits, IsArrayAt, Laid, slot_base, home_word}
-use Rattle.b67_stack.specs.Represents.{Storage, RepresentsSlot, RepresentsSlots, StacksLie, RepresentsObjects, RepresentsObject, Content, Owned, info_of, Represents}
-use Rattle.b67_stack.specs.HeldOtherwise.{with_held, TakesPlace}
+use Rattle.b67_stack.specs.Common.{Location, PagedObject, MachineView, Slot, Free, Running, Waiting, SlotFits, IsArrayAt, Laid, slot_base, home_word, Storage, RepresentsSlot, RepresentsSlots, StacksLie, RepresentsObjects, RepresentsObject, Content, Owned, info_of, Represents, with_held, TakesPlace}
 use Rattle.b67_stack.proofs.Helds.{held-other, held-same}
 use Rattle.b67_stack.proofs.Reheld.{slot_same, ObjectStays, Content-stays, storage_with, info_with}
 

@@ -2,8 +2,7 @@
 use Rattle.std.proofs.Common.{◌≡◌, ℕ, ◌==◌, Bool, true, false, refl, sym, ap}
 use Rattle.std.specs.Prelude.{if◌then◌else◌}
 use Rattle.std.proofs.lemmas.Bool.{eqb-true}
-use Rattle.b67_stack.specs.Shapes.{Location, Locations}
-use Rattle.b67_stack.specs.HeldOtherwise.{with_held}
+use Rattle.b67_stack.specs.Common.{Location, Locations, with_held}
 
 -- what is held as before
 pub held-back : (held : Locations) (home : ℕ) → with_held held home (held home) ≡ held

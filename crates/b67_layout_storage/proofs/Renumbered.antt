@@ -9,9 +9,7 @@ use Rattle.b67_backing.specs.Held.{sectors_for}
 use Rattle.b67_lemmas.specs.Lists.{Has}
 use Rattle.b67_lemmas.proofs.Members.{has_map}
 use Rattle.b67_ctl.specs.declared.registers.Regs.{Regs}
-use Rattle.b67_stack.specs.MachineView.{PagedObject, MachineView, Slot, Free, Running, Waiting, SlotFits, IsArrayAt, Laid, slot_base, home_word_of}
-use Rattle.b67_stack.specs.Represents.{Storage, RepresentsSlot, RepresentsObjects, RepresentsObject, Content, AbsentContent, Told, Owned, info_of, Represents}
-use Rattle.b67_stack.specs.HeldOtherwise.{renumber, renumbered, Stayed}
+use Rattle.b67_stack.specs.Common.{PagedObject, MachineView, Slot, Free, Running, Waiting, SlotFits, IsArrayAt, Laid, slot_base, home_word_of, Storage, RepresentsSlot, RepresentsObjects, RepresentsObject, Content, AbsentContent, Told, Owned, info_of, Represents, renumber, renumbered, Stayed}
 
 -- an object of other numbers, as many
 pub record Alike (u v : PagedObject) : Type 0 where

@@ -2,8 +2,7 @@
 use Rattle.std.proofs.Common.{List, None, refl}
 use Rattle.b67_word.specs.Tagged.{Tagged}
 use Rattle.b67_ctl.specs.declared.registers.Regs.{Regs}
-use Rattle.b67_stack.specs.MachineView.{MachineView}
-use Rattle.b67_stack.specs.Represents.{Storage, Represents}
+use Rattle.b67_stack.specs.Common.{MachineView, Storage, Represents}
 use Rattle.b67_stack.proofs.Reheld.{Content-stays}
 
 abbrev pub untold : Storage → Storage

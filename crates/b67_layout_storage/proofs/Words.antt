@@ -9,13 +9,9 @@ use Rattle.b67_area.specs.declared.Kind.{Kind}
 use Rattle.b67_area.specs.declared.Kind.TheVariants.{Array, Row, Code}
 use Rattle.b67_ctl.specs.declared.registers.Regs.{Regs}
 use Rattle.b67_lemmas.specs.Lists.{Has}
-use Rattle.b67_stack.specs.Shapes.{Location, Locations, Shape, Is, Original, Copy, IsOriginal, Fits}
-use Rattle.b67_stack.specs.Stacks.{words}
-use Rattle.b67_stack.specs.MachineView.{PagedObject, MachineView, stack_of, slot_base, home_desc, home_word, home_word_of}
-use Rattle.b67_stack.specs.Represents.{Storage, StacksLie, Represents}
+use Rattle.b67_stack.specs.Common.{Location, Locations, Shape, Is, Original, Copy, IsOriginal, Fits, words, PagedObject, MachineView, stack_of, slot_base, home_desc, home_word, home_word_of, Storage, StacksLie, Represents, with_held}
 use Rattle.b67_stack.proofs.Homes.{not_home, chain_small}
 use Rattle.b67_stack.proofs.Lies.{Lie-each}
-use Rattle.b67_stack.specs.HeldOtherwise.{with_held}
 use Rattle.b67_stack.proofs.Helds.{held-other}
 use Rattle.b67_stack.proofs.Unchanged.{slot_below, area_bounds}
 

@@ -7,10 +7,7 @@ use Rattle.b67_backing.specs.Shelf.{Table, IsShelf}
 use Rattle.b67_backing.specs.Held.{Changes, Becomes}
 use Rattle.b67_lemmas.specs.Lists.{Has}
 use Rattle.b67_stack.specs.declared.Cpu.{Cpu}
-use Rattle.b67_stack.specs.Shapes.{Location}
-use Rattle.b67_stack.specs.MachineView.{PagedObject, MachineView}
-use Rattle.b67_stack.specs.Represents.{Storage, Represents}
-use Rattle.b67_stack.specs.HeldOtherwise.{with_held}
+use Rattle.b67_stack.specs.Common.{Location, PagedObject, MachineView, Storage, Represents, with_held}
 
 -- what a storage says of the sectors, if anything, is what the device tells
 abbrev pub Says : Option (List (List ℕ)) → Option (List (List ℕ)) → Type 0

@@ -4,18 +4,9 @@ use Rattle.std.specs.Prelude.{if◌then◌else◌, unwrap_or}
 use Rattle.std.proofs.lemmas.Bool.{cases_Bool, cases_eq}
 use Rattle.b67_model.specs.Keyed.{keyed, change_keyed}
 use Rattle.b67_model.specs.Words as Words
-use Rattle.b67_model.specs.Words.{Word, Operand, Name, Ref, Row, Element, Original, Proc, Intrinsic}
-use Rattle.b67_model.specs.State.{Frame, Array, Task, Job, JobProgress, SessionJob, height}
-use Rattle.b67_model.specs.Arrays.{array, no_array, with_number, with_array}
-use Rattle.b67_model.specs.Run.{number_of}
-use Rattle.b67_model.specs.InOrder.{from_frame, frames_of_task, critical_of}
-use Rattle.b67_model.specs.Steps.{is_critical}
-use Rattle.b67_stack.specs.Shapes.{Shape, Copy}
-use Rattle.b67_stack.specs.Stacks.{StackPlace, Activation}
-use Rattle.b67_stack.specs.MachineView.{Slot, Running, Waiting}
-use Rattle.b67_layout.specs.Placement.{Slotted, Placement, slot_of, spot_in, outer_spots, spots}
-use Rattle.b67_layout.specs.Layout.{shape, head, activations, slot_with, slot_in, slot_by, slot_at}
-use Rattle.b67_layout.specs.Session.{critical_mark}
+use Rattle.b67_model.specs.Common.{Word, Operand, Name, Ref, Row, Element, Original, Proc, Intrinsic, Frame, Array, Task, Job, JobProgress, SessionJob, height, array, no_array, with_number, with_array, number_of, from_frame, frames_of_task, critical_of, is_critical}
+use Rattle.b67_stack.specs.Common.{Shape, Copy, StackPlace, Activation, Slot, Running, Waiting}
+use Rattle.b67_layout.specs.Common.{Slotted, Placement, slot_of, spot_in, outer_spots, spots, shape, head, activations, slot_with, slot_in, slot_by, slot_at, critical_mark}
 use Rattle.b67_layout.proofs.MachineViews.{with_course, member-same, member-other}
 
 -- a change of an array's numbers

@@ -8,15 +8,10 @@ use Rattle.b67_model.specs.Keyed.{change_keyed}
 use Rattle.b67_lemmas.specs.Lists.{Has}
 use Rattle.b67_lemmas.proofs.Members.{reverse_cons}
 use Rattle.b67_lemmas.proofs.Places.{same_test}
-use Rattle.b67_model.specs.Words.{Word, Operand}
+use Rattle.b67_model.specs.Common.{Word, Operand, Frame, Standing, Task, Job, no_frame, height, with_cell_of, with_cell, known_of, identities, from_frame, IsEntered, frames_named}
 use Rattle.b67_model.specs.State as State
-use Rattle.b67_model.specs.State.{Frame, Standing, Task, Job, no_frame, height}
-use Rattle.b67_model.specs.Cells.{with_cell_of, with_cell}
-use Rattle.b67_model.specs.InOrder.{known_of, identities, from_frame, IsEntered, frames_named}
-use Rattle.b67_stack.specs.Shapes.{Shape, Is}
-use Rattle.b67_stack.specs.Stacks.{StackPlace, Activation, head_size, stack_words}
-use Rattle.b67_layout.specs.Placement.{Placement, spot_in}
-use Rattle.b67_layout.specs.Layout.{shape, head, activations}
+use Rattle.b67_stack.specs.Common.{Shape, Is, StackPlace, Activation, head_size, stack_words}
+use Rattle.b67_layout.specs.Common.{Placement, spot_in, shape, head, activations}
 use Rattle.b67_layout_store.proofs.Puts.{put, put_length, put_map, Puts, within, lower}
 
 set_last : {A : Type 0} (ys : List A) (x w : A) (i : ℕ) → slice_set (ys ++ x ∷ []) i w ≡ slice_set ys i w ++ (if i == length ys then w else x) ∷ []

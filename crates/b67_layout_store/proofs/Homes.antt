@@ -8,28 +8,14 @@ use Rattle.b67_ctl.specs.declared.registers.Regs.{Regs}
 use Rattle.b67_lemmas.specs.Lists.{Has}
 use Rattle.b67_lemmas.proofs.Members.{falls_same, has_append_left, has_map, has_reverse, keyed_falls}
 use Rattle.b67_model.specs.Keyed.{keyed}
-use Rattle.b67_model.specs.Words.{Word, Original}
-use Rattle.b67_model.specs.State.{Frame, Array, Task, Job, SessionJob}
-use Rattle.b67_model.specs.Run.{number_of}
-use Rattle.b67_model.specs.Schedule.{Session}
-use Rattle.b67_model.specs.InOrder.{IsSegment}
-use Rattle.b67_layout.specs.Orders.{JobInOrderButCounts, IsInOrderButCounts}
+use Rattle.b67_model.specs.Common.{Word, Original, Frame, Array, Task, Job, SessionJob, number_of, Session, IsSegment}
+use Rattle.b67_layout.specs.Common.{JobInOrderButCounts, IsInOrderButCounts, Slotted, Placement, slot_of, spot_in, outer_spots, shape, head, activations, stack_of_task, slot_at, machine_view, DictionariesFollow, PlanFits}
 use Rattle.b67_stack.specs.Shapes as Shapes
-use Rattle.b67_stack.specs.Shapes.{Shape, Fits, LieDownward}
-use Rattle.b67_stack.specs.Stacks.{StackPlace, Head, Marked, Entered, Activation, stack_words, headed, words}
-use Rattle.b67_stack.specs.MachineView.{MachineView, Slot, Free, Running, Waiting, stack_of, slot_base, SlotFits}
-use Rattle.b67_stack.specs.Represents.{Storage, Represents}
+use Rattle.b67_stack.specs.Common.{Shape, Fits, LieDownward, StackPlace, Head, Marked, Entered, Activation, stack_words, headed, words, MachineView, Slot, Free, Running, Waiting, stack_of, slot_base, SlotFits, Storage, Represents}
 use Rattle.b67_stack.proofs.Bases.{base-apart}
 use Rattle.b67_stack.proofs.Heights.{words-length}
 use Rattle.b67_stack.proofs.Lies.{Lie-under}
-use Rattle.b67_layout.specs.Placement.{Slotted, Placement, slot_of, spot_in, outer_spots}
-use Rattle.b67_layout.specs.Layout.{shape, head, activations, stack_of_task, slot_at, machine_view}
-use Rattle.b67_layout.specs.Session.{DictionariesFollow, PlanFits}
-use Rattle.b67_layout.proofs.Fresh.{job_in_order}
-use Rattle.b67_layout.proofs.Rows.{task_row, slot_below}
-use Rattle.b67_layout.proofs.Sessions.{dictionary_above, follow-up}
-use Rattle.b67_layout.proofs.Originals.{lies_at, lies_over, original_word, InFrame, original_of, entry_number}
-use Rattle.b67_layout.proofs.LeftSettles.{stack_in_slot}
+use Rattle.b67_layout.proofs.Common.{job_in_order, task_row, slot_below, dictionary_above, follow-up, lies_at, lies_over, original_word, InFrame, original_of, entry_number, stack_in_slot}
 use Rattle.b67_law_order.proofs.Numbered.{keyed_member}
 
 -- two words of one address are one word

@@ -10,24 +10,12 @@ use Rattle.b67_area.proofs.Laws.{area_inside}
 use Rattle.b67_lemmas.specs.Lists.{Has}
 use Rattle.b67_lemmas.proofs.Members.{keyed_has}
 use Rattle.b67_model.specs.Keyed.{keyed}
-use Rattle.b67_model.specs.State.{Array, Task, Job, JobProgress, SessionJob, OperatorContext}
-use Rattle.b67_model.specs.Environment.{frame_at}
-use Rattle.b67_model.specs.Arrays.{with_element}
+use Rattle.b67_model.specs.Common.{Array, Task, Job, JobProgress, SessionJob, OperatorContext, frame_at, with_element, number_of, Session, Known}
 use Rattle.b67_model.specs.Arrays as Arrays
-use Rattle.b67_model.specs.Run.{number_of}
-use Rattle.b67_model.specs.Schedule.{Session}
-use Rattle.b67_model.specs.InOrder.{Known}
-use Rattle.b67_layout.specs.Orders.{IsInOrderButCounts}
+use Rattle.b67_layout.specs.Common.{IsInOrderButCounts, Placement, slot_of, spots, address_of, array_object, objects_of, machine_view, RowsFit, DictionariesFollow, RowHomes, PlanFits, RepresentsDictionary, vector_word, critical_mark, RepresentsTask, IsRunning, ShowsDisplay, SessionHolds, RepresentsSession}
 use Rattle.b67_stack.specs.declared.Cpu.{Cpu}
-use Rattle.b67_stack.specs.MachineView.{PagedObject, Slot, MachineView, NoOriginalAboveTop}
-use Rattle.b67_stack.specs.Represents.{Storage, Represents, info_of}
-use Rattle.b67_layout.specs.Placement.{Placement, slot_of, spots, address_of}
-use Rattle.b67_layout.specs.Layout.{array_object, objects_of, machine_view}
-use Rattle.b67_layout.specs.Session.{RowsFit, DictionariesFollow, RowHomes, PlanFits, RepresentsDictionary, vector_word, critical_mark, RepresentsTask, IsRunning, ShowsDisplay, SessionHolds, RepresentsSession}
-use Rattle.b67_layout.proofs.Displays.{same_frame_at}
-use Rattle.b67_layout.proofs.MachineViews.{with_course, member-same}
-use Rattle.b67_layout.proofs.Rows.{slot_below}
-use Rattle.b67_layout.proofs.Sessions.{change-has, change-kept, dictionary_below, running_only}
+use Rattle.b67_stack.specs.Common.{PagedObject, Slot, MachineView, NoOriginalAboveTop, Storage, Represents, info_of}
+use Rattle.b67_layout.proofs.Common.{same_frame_at, with_course, member-same, slot_below, change-has, change-kept, dictionary_below, running_only}
 use Rattle.b67_layout_store.proofs.Elements.{with_number, Replaces, Represents-element}
 use Rattle.b67_layout_store.proofs.Arrays.{number_renumbers, spots_same, mark_same, slots_same}
 use Rattle.b67_layout_store.proofs.Objects.{old_object, replaces}

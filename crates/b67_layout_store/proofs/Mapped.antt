@@ -7,24 +7,13 @@ use Rattle.std.proofs.lemmas.List.{map-append}
 use Rattle.b67_lemmas.specs.Lists.{Has}
 use Rattle.b67_lemmas.proofs.Members.{has_map, has_map_back, found-has, keyed_has}
 use Rattle.b67_model.specs.Keyed.{keyed}
-use Rattle.b67_model.specs.Words.{Word}
+use Rattle.b67_model.specs.Common.{Word, Frame, Standing, Array, Task, Job, JobProgress, SessionJob, OperatorContext, height, all_frames, level_of_standing, level_of_frame, running, frame_at, is_critical, number_of, Known, known_of, identities, from_frame, frames_of_task, critical_of, frames_named, frames_in_job}
 use Rattle.b67_model.specs.State as State
-use Rattle.b67_model.specs.State.{Frame, Standing, Array, Task, Job, JobProgress, SessionJob, OperatorContext, height, all_frames}
-use Rattle.b67_model.specs.Environment.{level_of_standing, level_of_frame, running, frame_at}
-use Rattle.b67_model.specs.Steps.{is_critical}
-use Rattle.b67_model.specs.Run.{number_of}
-use Rattle.b67_model.specs.InOrder.{Known, known_of, identities, from_frame, frames_of_task, critical_of, frames_named, frames_in_job}
-use Rattle.b67_stack.specs.Stacks.{StackPlace, Activation}
-use Rattle.b67_stack.specs.MachineView.{PagedObject, Slot, Running, Waiting, MachineView, with_slot}
+use Rattle.b67_stack.specs.Common.{StackPlace, Activation, PagedObject, Slot, Running, Waiting, MachineView, with_slot}
 use Rattle.b67_stack.proofs.Slots.{slot-same, slot-other}
-use Rattle.b67_layout.specs.Placement.{Slotted, Placement, slot_of, spot_in, outer_spots, spots, address_of}
-use Rattle.b67_layout.specs.Layout.{activations, stack_of_task, slot_with, slot_in, slot_by, slot_at, objects_of, machine_view}
-use Rattle.b67_layout.specs.Session.{RowsFit, critical_mark, ShowsDisplay}
-use Rattle.b67_layout.proofs.Others.{activations-job}
-use Rattle.b67_layout.proofs.MachineViews.{with_course, member-same, member-other, objects-after}
-use Rattle.b67_layout.proofs.Rows.{task_row}
-use Rattle.b67_layout.proofs.Sessions.{change-has, change-kept}
-use Rattle.b67_layout.proofs.Displays.{same_running, same_frame_at}
+use Rattle.b67_layout.specs.Common.{Slotted, Placement, slot_of, spot_in, outer_spots, spots, address_of, activations, stack_of_task, slot_with, slot_in, slot_by, slot_at, objects_of, machine_view, RowsFit, critical_mark, ShowsDisplay}
+use Rattle.b67_layout.proofs.Common.{activations-job, with_course, member-same, member-other, task_row, change-has, change-kept, same_running, same_frame_at}
+use Rattle.b67_layout.proofs.MachineViews.{objects-after}
 use Rattle.b67_refer.proofs.Slots.{live_slot}
 use Rattle.b67_layout_store.proofs.Frames.{put_frames, put_job, put_known, put_height, put_spot, put_from, put_none}
 use Rattle.b67_layout_store.proofs.Owners.{others_none}

@@ -9,23 +9,11 @@ use Rattle.b67_lemmas.specs.Lists.{Has, Falls}
 use Rattle.b67_lemmas.proofs.Members.{falls_same, has_append_cases, has_append_left, has_append_right, has_flat, has_flat_back, has_map, has_map_back, keyed_has}
 use Rattle.b67_lemmas.proofs.Keyed.{changed_there}
 use Rattle.b67_model.specs.Keyed.{keyed, change_keyed}
-use Rattle.b67_model.specs.State.{Array, Job, JobProgress, SessionJob}
-use Rattle.b67_model.specs.Arrays.{with_array}
-use Rattle.b67_model.specs.Run.{number_of}
-use Rattle.b67_model.specs.Schedule.{Session}
-use Rattle.b67_layout.specs.Orders.{IsInOrderButCounts}
-use Rattle.b67_stack.specs.MachineView.{PagedObject}
-use Rattle.b67_stack.specs.Represents.{Storage, Represents}
-use Rattle.b67_layout.specs.Placement.{Placement}
-use Rattle.b67_layout.specs.Layout.{array_object, code_objects, objects_of, machine_view}
-use Rattle.b67_layout.specs.Session.{PlanFits}
-use Rattle.b67_layout.proofs.Fresh.{job_in_order}
-use Rattle.b67_layout.proofs.MachineViews.{with_course, member-same}
-use Rattle.b67_layout.proofs.Sessions.{change-has, change-kept}
-use Rattle.b67_layout.proofs.LeftSettles.{numbered_course}
-use Rattle.b67_layout.proofs.CodeKinds.{code_kind}
+use Rattle.b67_model.specs.Common.{Array, Job, JobProgress, SessionJob, with_array, number_of, Session}
+use Rattle.b67_layout.specs.Common.{IsInOrderButCounts, Placement, array_object, code_objects, objects_of, machine_view, PlanFits}
+use Rattle.b67_stack.specs.Common.{PagedObject, Storage, Represents, TakesPlace}
+use Rattle.b67_layout.proofs.Common.{job_in_order, with_course, member-same, change-has, change-kept, numbered_course, code_kind}
 use Rattle.b67_layout_store.proofs.Arrays.{Renumbers}
-use Rattle.b67_stack.specs.HeldOtherwise.{TakesPlace}
 use Rattle.b67_layout_store.proofs.Homes.{one_home}
 use Rattle.b67_law_order.proofs.Numbered.{keyed_member}
 

@@ -9,8 +9,7 @@ use Rattle.b67_lemmas.specs.Lists.{Has}
 use Rattle.b67_model.specs.State.{Return}
 use Rattle.std.proofs.lemmas.List.{length-map}
 use Rattle.b67_ctl.specs.Layout.{mscw_word, rcw_word}
-use Rattle.b67_stack.specs.Shapes.{Copied, Shape, Is, Copy, LieDownward}
-use Rattle.b67_stack.specs.Stacks.{Head, Marked, Entered, Activation, head_size, top_size, stack_words, mark_place, level_from, running_level, mark_of, return_of, headed, words, ReturnFits, HeadFits, HeadsFit}
+use Rattle.b67_stack.specs.Common.{Copied, Shape, Is, Copy, LieDownward, Head, Marked, Entered, Activation, head_size, top_size, stack_words, mark_place, level_from, running_level, mark_of, return_of, headed, words, ReturnFits, HeadFits, HeadsFit}
 use Rattle.b67_stack.proofs.Lies.{Lie-same, Lie-under}
 use Rattle.b67_stack.proofs.Heights.{words-length, headed-length}
 

@@ -12,29 +12,14 @@ use Rattle.b67_ctl.specs.declared.registers.Regs.{Regs}
 use Rattle.b67_lemmas.specs.Lists.{Has}
 use Rattle.b67_lemmas.proofs.Members.{all_in, has_map_back, keyed_has, keyed_left}
 use Rattle.b67_model.specs.Keyed.{keyed}
-use Rattle.b67_model.specs.Words.{Word, Operand}
-use Rattle.b67_model.specs.State.{Frame, Task, Job, JobProgress, SessionJob, mcp, no_frame, frame, height}
-use Rattle.b67_model.specs.Cells.{cell_of}
-use Rattle.b67_model.specs.Run.{number_of}
-use Rattle.b67_model.specs.Schedule.{Session}
-use Rattle.b67_model.specs.InOrder.{Known, known_of, identities, IsEntered, IsSegment, NamesEntered, EntryInOrder}
-use Rattle.b67_layout.specs.Orders.{IsInOrderButCounts}
+use Rattle.b67_model.specs.Common.{Word, Operand, Frame, Task, Job, JobProgress, SessionJob, mcp, no_frame, frame, height, cell_of, number_of, Session, Known, known_of, identities, IsEntered, IsSegment, NamesEntered, EntryInOrder}
+use Rattle.b67_layout.specs.Common.{IsInOrderButCounts, Placement, slot_of, outer_spots, spots, address_of, activations, stack_of_task, slot_with, machine_view, RepresentsDictionary, RowHomes, PlanFits, vector_word, critical_mark, RepresentsTask, IsRunning, frame_address, ShowsDisplay, SessionHolds, RepresentsSession, here}
 use Rattle.b67_law_order.proofs.Chases.{cell_has}
 use Rattle.b67_law_order.proofs.Looks.{IsFrame, found_frame}
 use Rattle.b67_stack.specs.declared.Cpu.{Cpu}
-use Rattle.b67_stack.specs.Shapes.{Shape, Is}
-use Rattle.b67_stack.specs.Stacks.{StackPlace, Activation, stack_words}
-use Rattle.b67_stack.specs.MachineView.{PagedObject, MachineView, Running, Waiting, NoOriginalAboveTop, with_slot, slot_base}
-use Rattle.b67_stack.specs.Represents.{Storage, Represents}
+use Rattle.b67_stack.specs.Common.{Shape, Is, StackPlace, Activation, stack_words, PagedObject, MachineView, Running, Waiting, NoOriginalAboveTop, with_slot, slot_base, Storage, Represents}
 use Rattle.b67_stack.proofs.Homes.{not_home}
-use Rattle.b67_layout.specs.Placement.{Placement, slot_of, outer_spots, spots, address_of}
-use Rattle.b67_layout.specs.Layout.{activations, stack_of_task, slot_with, machine_view}
-use Rattle.b67_layout.specs.Session.{RepresentsDictionary, RowHomes, PlanFits, vector_word, critical_mark, RepresentsTask, IsRunning, frame_address, ShowsDisplay, SessionHolds, RepresentsSession}
-use Rattle.b67_layout.specs.Meets.{here}
-use Rattle.b67_layout.proofs.Frames.{height-is}
-use Rattle.b67_layout.proofs.MachineViews.{with_course, member-same}
-use Rattle.b67_layout.proofs.Rows.{slot_below}
-use Rattle.b67_layout.proofs.Sessions.{change-has, dictionary_below, running_only}
+use Rattle.b67_layout.proofs.Common.{height-is, with_course, member-same, slot_below, change-has, dictionary_below, running_only}
 use Rattle.b67_refer.specs.RunningContext.{RunningContext, live_of}
 use Rattle.b67_refer.specs.Cells.{IsCellAt}
 use Rattle.b67_refer.proofs.Scenes as Scenes

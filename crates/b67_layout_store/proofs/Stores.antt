@@ -10,10 +10,7 @@ use Rattle.b67_area.proofs.Climbs.{area_at-low}
 use Rattle.b67_area.proofs.Separation.{IsDirectory-same, controls_above}
 use Rattle.b67_lemmas.specs.Lists.{Has}
 use Rattle.b67_ctl.specs.declared.registers.Regs.{Regs}
-use Rattle.b67_stack.specs.Shapes.{Copied, Shape, Copy, Fits, LieDownward}
-use Rattle.b67_stack.specs.Stacks.{Activation, IsStack, stack_words, words}
-use Rattle.b67_stack.specs.MachineView.{PagedObject, MachineView, Slot, Free, Running, Waiting, stack_of, slot_base, SlotFits, CopiesName, Laid, NoOriginalAboveTop, with_slot}
-use Rattle.b67_stack.specs.Represents.{Storage, RepresentsSlot, Represents, info_of}
+use Rattle.b67_stack.specs.Common.{Copied, Shape, Copy, Fits, LieDownward, Activation, IsStack, stack_words, words, PagedObject, MachineView, Slot, Free, Running, Waiting, stack_of, slot_base, SlotFits, CopiesName, Laid, NoOriginalAboveTop, with_slot, Storage, RepresentsSlot, Represents, info_of}
 use Rattle.b67_stack.proofs.Bases.{base-apart}
 use Rattle.b67_stack.proofs.Lies.{Lie-same}
 use Rattle.b67_stack.proofs.Heights.{words-length}

@@ -10,8 +10,7 @@ use Rattle.b67_backing.specs.Held.{Changes, SameBut, Stores, Fills, sectors_for}
 use Rattle.b67_backing.proofs.News.{first_take}
 use Rattle.b67_lemmas.specs.Lists.{Has}
 use Rattle.b67_lemmas.proofs.Members.{has_append_cases, total_append}
-use Rattle.b67_stack.specs.MachineView.{PagedObject, words_of, home_word}
-use Rattle.b67_stack.specs.Shapes.{at_rest}
+use Rattle.b67_stack.specs.Common.{PagedObject, words_of, home_word, at_rest}
 use Rattle.b67_load.specs.Objects.{sectors_of, sectors_of_objects}
 use Rattle.b67_load.specs.Resting.{Resting, placed, stocked, descriptor, DescriptorsStand, WordsRest, WritesFreeSectors, SameOutside}
 use Rattle.b67_load.specs.Writing.{Parts, Spares, Writes}

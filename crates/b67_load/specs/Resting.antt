@@ -6,8 +6,7 @@ use Rattle.b67_backing.specs.Shelf.{Shelf, first, chain_of, taken}
 use Rattle.b67_backing.specs.Held.{Fills, SameBut}
 use Rattle.b67_lemmas.specs.Lists.{Has}
 use Rattle.b67_model.specs.Program.{Program}
-use Rattle.b67_stack.specs.Shapes.{at_rest}
-use Rattle.b67_stack.specs.MachineView.{PagedObject, home_word, words_of}
+use Rattle.b67_stack.specs.Common.{at_rest, PagedObject, home_word, words_of}
 use Rattle.b67_load.specs.Objects.{sectors_of, objects_of, entries_of}
 
 -- an object and its sectors

@@ -7,10 +7,8 @@ use Rattle.b67_word.specs.declared.couples.Place.{Place}
 use Rattle.b67_word.specs.Tagged.{contents}
 use Rattle.b67_lemmas.proofs.Joins.{all_by}
 use Rattle.b67_model.specs.State as state
-use Rattle.b67_model.specs.Operators.{place_of_bits}
+use Rattle.b67_model.specs.Common.{place_of_bits, Listed, Refusal, place_of_entry, same_place, origin, is_start, broken_at, broken_in, refused, refusals_of, wrong_entries, refusals_from, refusals, listing, Program}
 use Rattle.b67_model.specs.Loader as loader
-use Rattle.b67_model.specs.Loader.{Listed, Refusal, place_of_entry, same_place, origin, is_start, broken_at, broken_in, refused, refusals_of, wrong_entries, refusals_from, refusals, listing}
-use Rattle.b67_model.specs.Program.{Program}
 use Rattle.b67_codefile.specs.declared.file.Segment.{Segment}
 use Rattle.b67_codefile.specs.declared.file.Codefile.{Codefile}
 use Rattle.b67_codefile.specs.Meaning.{segment_of, program_of}

@@ -5,10 +5,7 @@ use Rattle.std.proofs.Math.Nat.{le_refl}
 use Rattle.std.proofs.lemmas.Bool.{cases_lt}
 use Rattle.b67_word.specs.declared.couples.Place.{Place}
 use Rattle.b67_model.specs.declared.operators.Undecodable.TheVariants.{BadPlace, NotAdmitted, PastEnd}
-use Rattle.b67_model.specs.Operators.{Reading, count_at, operator_at, place_of_bits}
-use Rattle.b67_model.specs.State.{Segment}
-use Rattle.b67_model.specs.Program.{Program}
-use Rattle.b67_model.specs.Loader.{Entry, At, Break, entries_from, origin, listing, place_of_entry, same_place, is_start, Listed, Refusal, refused, refusals_of, wrong_entries, refusals_from}
+use Rattle.b67_model.specs.Common.{Reading, count_at, operator_at, place_of_bits, Segment, Program, Entry, At, Break, entries_from, origin, listing, place_of_entry, same_place, is_start, Listed, Refusal, refused, refusals_of, wrong_entries, refusals_from}
 use Rattle.b67_codefile.specs.Spelling.{entry_count, EntriesRise}
 use Rattle.b67_load_verify.specs.Broken.{rules_at}
 use Rattle.b67_load_verify.specs.Order.{StandsBefore, ComesBefore}

@@ -7,8 +7,7 @@ use Rattle.b67_word.specs.Tagged.{Tagged, contents}
 use Rattle.b67_model.specs.declared.operators.Op.{Op}
 use Rattle.b67_model.specs.declared.operators.Undecodable.{Undecodable}
 use Rattle.b67_model.specs.declared.operators.Undecodable.TheVariants.{BadPlace, NotAdmitted, PastEnd}
-use Rattle.b67_model.specs.Operators.{Reading, count_at, operator_at}
-use Rattle.b67_model.specs.Loader.{Entry, At, Break, entries_from, origin, listing}
+use Rattle.b67_model.specs.Common.{Reading, count_at, operator_at, Entry, At, Break, entries_from, origin, listing}
 use Rattle.b67_load_verify.specs.Listing.{entry_at, CouplesFit, IsInside}
 use Rattle.b67_load_verify.proofs.Operator.{IsPlaceIn, operator_at-inside, operator_at-is, operator_at-reads, operator_at-outside}
 use Rattle.b67_lemmas.proofs.Joins.{all_by}

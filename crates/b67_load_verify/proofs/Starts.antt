@@ -9,9 +9,8 @@ use Rattle.std.proofs.lemmas.List.Folds.{list_any-append}
 use Rattle.b67_word.specs.declared.couples.Place.{Place}
 use Rattle.b67_model.specs.declared.operators.Op.{Op}
 use Rattle.b67_model.specs.declared.operators.Undecodable.{Undecodable}
-use Rattle.b67_model.specs.Operators.{count_at}
+use Rattle.b67_model.specs.Common.{count_at, place_of_entry, same_place, is_start, is_last}
 use Rattle.b67_model.specs.Loader as loader
-use Rattle.b67_model.specs.Loader.{place_of_entry, same_place, is_start, is_last}
 use Rattle.b67_load_verify.specs.declared.entry.Entry.{Entry}
 use Rattle.b67_load_verify.specs.Listing.{entry_at, seen, IsInside, Marks}
 

@@ -4,9 +4,8 @@ use Rattle.std.specs.List.{AllByRecursion}
 use Rattle.b67_word.specs.declared.couples.Place.{Place}
 use Rattle.b67_model.specs.declared.operators.Op.{Op}
 use Rattle.b67_model.specs.declared.operators.Undecodable.{Undecodable}
-use Rattle.b67_model.specs.Operators.{count_at}
+use Rattle.b67_model.specs.Common.{count_at, At, Break, place_of_entry, couple_bits, is_start}
 use Rattle.b67_model.specs.Loader as loader
-use Rattle.b67_model.specs.Loader.{At, Break, place_of_entry, couple_bits, is_start}
 use Rattle.b67_load_verify.specs.declared.entry.Entry.{Entry}
 
 -- what is read at a place

@@ -1,15 +1,8 @@
 -- The tables where ARRAYDEC has made an array.
 use Rattle.std.proofs.Common.{ℕ, [], ◌∷◌, map, refl}
 use Rattle.b67_word.specs.declared.couples.Place.{Place}
-use Rattle.b67_model.specs.Words.{Word, Original}
-use Rattle.b67_model.specs.State.{Task, SessionJob, top, below_top}
-use Rattle.b67_model.specs.Intrinsics.{answered}
-use Rattle.b67_model.specs.Schedule.{Session}
-use Rattle.b67_layout.specs.Orders.{IsInOrderButCounts}
-use Rattle.b67_layout.specs.Placement.{Placement}
-use Rattle.b67_layout.specs.Rows.{TablesShow}
-use Rattle.b67_layout.specs.Session.{IsRunning}
-use Rattle.b67_layout.specs.Meets.{here, with_job}
+use Rattle.b67_model.specs.Common.{Word, Original, Task, SessionJob, top, below_top, answered, Session}
+use Rattle.b67_layout.specs.Common.{IsInOrderButCounts, Placement, TablesShow, IsRunning, here, with_job}
 use Rattle.b67_mcp_calls.specs.Calls.{MayCut}
 use Rattle.b67_mcp_calls.specs.Declaring.{job_declared, with_home}
 use Rattle.b67_mcp_calls.proofs.Tables.{tables-there}

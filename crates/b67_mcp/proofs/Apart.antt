@@ -3,11 +3,7 @@ use Rattle.std.proofs.Common.{◌≡◌, ℕ, ◌<◌, ◌≤◌, ◌⊎◌, ⊎
 use Rattle.std.specs.Prelude.{◌==◌}
 use Rattle.std.proofs.lemmas.Bool.{eqb-true}
 use Rattle.b67_word.specs.declared.faults.Fault.TheVariants.{InvalidOperand}
-use Rattle.b67_model.specs.Answers.{Answer}
-use Rattle.b67_model.specs.Words.{Word}
-use Rattle.b67_model.specs.State.{OperatorContext}
-use Rattle.b67_model.specs.Steps.{Done}
-use Rattle.b67_model.specs.Intrinsics.{arraydec, print, printrow, read, process, await, status, wait, cause, deallocate, resize, intrinsic}
+use Rattle.b67_model.specs.Common.{Answer, Word, OperatorContext, Done, arraydec, print, printrow, read, process, await, status, wait, cause, deallocate, resize, intrinsic}
 use Rattle.b67_law_order.proofs.Posts.{Post, post_err, post_if, post_if_is}
 
 -- not from 12 to 16

@@ -3,10 +3,7 @@ use Rattle.std.proofs.Common.{◌≡◌, Ok, sym, subst}
 use Rattle.b67_word.specs.declared.couples.Place.{Place}
 use Rattle.b67_ctl.specs.Layout.{IsPlace}
 use Rattle.b67_model.specs.declared.operators.Op.{Op}
-use Rattle.b67_model.specs.Operators.{Reading}
-use Rattle.b67_model.specs.Rows.{reading_of}
-use Rattle.b67_model.specs.State.{Task, JobConstants}
-use Rattle.b67_model.specs.InOrder.{SettingInOrder}
+use Rattle.b67_model.specs.Common.{Reading, reading_of, Task, JobConstants, SettingInOrder}
 use Rattle.b67_law_order_steps.proofs.Readings.{ReadFits}
 use Rattle.b67_law_order_steps.proofs.Segments.{reading_fits}
 

@@ -5,16 +5,8 @@ use Rattle.b67_model.specs.declared.operators.Op.{Op}
 use Rattle.b67_model.specs.declared.operators.Op.TheVariants.{Plain}
 use Rattle.b67_model.specs.declared.operators.Code.{Code}
 use Rattle.b67_model.specs.declared.operators.Code.TheVariants.{Entr}
-use Rattle.b67_model.specs.Answers.{Answer, ◌>>=◌}
-use Rattle.b67_model.specs.Operators.{Reading}
+use Rattle.b67_model.specs.Common.{Answer, ◌>>=◌, Reading, Word, Operand, Name, Ref, Row, Element, Original, Proc, Intrinsic, Standing, Marked, Entered, Task, SessionJob, OperatorContext, top, End, AtCell, AtElement, AtArray, AtProc, AtIntrinsic, follow_reference, is_original, intrinsic, entr_at, entr_with, entr, step_by, reading_of, step, Done, called_at, called_by, called_on, called}
 use Rattle.b67_model.specs.Words as Words
-use Rattle.b67_model.specs.Words.{Word, Operand, Name, Ref, Row, Element, Original, Proc, Intrinsic}
-use Rattle.b67_model.specs.State.{Standing, Marked, Entered, Task, SessionJob, OperatorContext, top}
-use Rattle.b67_model.specs.Chase.{End, AtCell, AtElement, AtArray, AtProc, AtIntrinsic, follow_reference}
-use Rattle.b67_model.specs.Intrinsics.{is_original, intrinsic}
-use Rattle.b67_model.specs.Rows.{entr_at, entr_with, entr, step_by, reading_of, step}
-use Rattle.b67_model.specs.Steps.{Done}
-use Rattle.b67_model.specs.Called.{called_at, called_by, called_on, called}
 use Rattle.b67_exec_cells.specs.Called as operators
 use Rattle.b67_exec_cells.specs.Called.{called_in}
 use Rattle.b67_layout.specs.Meets.{here}

@@ -2,17 +2,10 @@
 use Rattle.std.proofs.Common.{◌≡◌, ℕ, zero, suc, ◌^◌, ◌<◌, ◌-◌, List, [], ◌∷◌, ◌++◌, length, take, replicate, Option, refl, subst}
 use Rattle.std.specs.List.{AllByRecursion}
 use Rattle.b67_word.specs.declared.couples.Place.{Place}
-use Rattle.b67_model.specs.State.{Array, Task, SessionJob, with_task}
-use Rattle.b67_model.specs.Arrays.{with_array, all_zero, resized}
-use Rattle.b67_model.specs.Intrinsics.{answered}
-use Rattle.b67_model.specs.InOrder.{ArrayInOrder}
-use Rattle.b67_model.specs.Schedule.{Session}
+use Rattle.b67_model.specs.Common.{Array, Task, SessionJob, with_task, with_array, all_zero, resized, answered, ArrayInOrder, Session}
 use Rattle.b67_stack.specs.declared.Cpu.{Cpu}
 use Rattle.b67_stack.specs.Represents.{Storage}
-use Rattle.b67_layout.specs.Orders.{IsInOrderButCounts}
-use Rattle.b67_layout.specs.Placement.{Placement}
-use Rattle.b67_layout.specs.Session.{IsRunning, RepresentsSession}
-use Rattle.b67_layout.specs.Meets.{here, with_job}
+use Rattle.b67_layout.specs.Common.{IsInOrderButCounts, Placement, IsRunning, RepresentsSession, here, with_job}
 use Rattle.b67_layout.proofs.Awaits.{with_job-twice}
 use Rattle.b67_layout_store.proofs.Arrays.{Renumbers}
 use Rattle.b67_law_order_rows.proofs.Calls.{length_replicate, zeros_low}

@@ -11,20 +11,10 @@ use Rattle.b67_backing.specs.declared.refusals.SpaceFault.TheVariants as space
 use Rattle.b67_lemmas.specs.Lists.{Has}
 use Rattle.b67_lemmas.proofs.Keyed.{change_same}
 use Rattle.b67_lemmas.proofs.Members.{keyed_has}
-use Rattle.b67_model.specs.State.{Array, Task, Job, SessionJob}
-use Rattle.b67_model.specs.Arrays.{with_array, all_zero, resized}
-use Rattle.b67_model.specs.Run.{number_of}
-use Rattle.b67_model.specs.Sectors.{sectors}
-use Rattle.b67_model.specs.Schedule.{Session}
+use Rattle.b67_model.specs.Common.{Array, Task, Job, SessionJob, with_array, all_zero, resized, number_of, sectors, Session}
 use Rattle.b67_stack.specs.declared.Cpu.{Cpu}
-use Rattle.b67_stack.specs.MachineView.{PagedObject}
-use Rattle.b67_stack.specs.Represents.{Storage}
-use Rattle.b67_layout.specs.Orders.{IsInOrderButCounts}
-use Rattle.b67_layout.specs.Placement.{Placement}
-use Rattle.b67_layout.specs.Layout.{array_object, objects_of, machine_view}
-use Rattle.b67_layout.specs.Session.{IsRunning}
-use Rattle.b67_layout.specs.Meets.{with_job, area_held}
-use Rattle.b67_stack.specs.HeldOtherwise.{Stayed, TakesPlace}
+use Rattle.b67_stack.specs.Common.{PagedObject, Storage, Stayed, TakesPlace}
+use Rattle.b67_layout.specs.Common.{IsInOrderButCounts, Placement, array_object, objects_of, machine_view, IsRunning, with_job, area_held}
 use Rattle.b67_layout_storage.specs.Machine.{IsPresent, PagingKeeps, Says, content_after}
 use Rattle.b67_overlay.specs.Spans.{MachineCanPage}
 use Rattle.b67_layout_spans.proofs.Sessions.{copies_of, view_of}

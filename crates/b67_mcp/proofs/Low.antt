@@ -1,22 +1,12 @@
 -- The intrinsics that the MCP's cells hold have numbers from 8 to 18.
 use Rattle.std.proofs.Common.{◌≡◌, ℕ, zero, suc, ◌≤◌, ltb, cond, Bool, true, false, length, List, [], ◌∷◌, flat_map, Option, Some, None, unwrap_or, Ok, Err, refl, sym, ◌∙◌, ap, subst, inl, inr, arith}
 use Rattle.b67_word.specs.declared.faults.Fault.TheVariants.{InvalidIndex}
-use Rattle.b67_model.specs.Answers.{Answer}
-use Rattle.b67_model.specs.Arrays.{array}
+use Rattle.b67_model.specs.Common.{Answer, array, Word, Operand, Name, Ref, Row, Element, Original, Proc, Intrinsic, Frame, Array, Task, JobConstants, SessionJob, OperatorContext, mcp, no_frame, all_frames, frame, cell, place_of, End, AtElement, AtIntrinsic, Link, Stops, Leads, link_at, link_in, link_from, link, chase_on, follow_reference, Session, Starts, IsSegment, Known, outer_of, WordInOrder, EntryInOrder, FramesInOrder, TaskInOrder, TasksInOrder}
 use Rattle.b67_model.specs.Keyed.{keyed}
 use Rattle.b67_lemmas.specs.Lists.{Has}
 use Rattle.b67_lemmas.proofs.Members.{all_in, has_append_cases, has_flat_back, keyed_has}
 use Rattle.b67_model.specs.Words as Words
-use Rattle.b67_model.specs.Words.{Word, Operand, Name, Ref, Row, Element, Original, Proc, Intrinsic}
-use Rattle.b67_model.specs.State.{Frame, Array, Task, JobConstants, SessionJob, OperatorContext, mcp, no_frame, all_frames, frame}
-use Rattle.b67_model.specs.Cells.{cell, place_of}
-use Rattle.b67_model.specs.Chase.{End, AtElement, AtIntrinsic, Link, Stops, Leads, link_at, link_in, link_from, link, chase_on, follow_reference}
-use Rattle.b67_model.specs.Schedule.{Session}
-use Rattle.b67_model.specs.InOrder.{Starts, IsSegment, Known, outer_of, WordInOrder, EntryInOrder, FramesInOrder, TaskInOrder, TasksInOrder}
-use Rattle.b67_layout.specs.Orders.{IsInOrderButCounts}
-use Rattle.b67_layout.specs.Placement.{Placement}
-use Rattle.b67_layout.specs.Session.{IsRunning}
-use Rattle.b67_layout.specs.Meets.{here}
+use Rattle.b67_layout.specs.Common.{IsInOrderButCounts, Placement, IsRunning, here}
 use Rattle.b67_layout.proofs.Fresh.{running_in_order}
 use Rattle.b67_exec_cells.specs.Called.{called_in}
 use Rattle.b67_mcp.proofs.Callings.{calling}

@@ -7,17 +7,9 @@ use Rattle.b67_word.specs.declared.couples.Place.{Place}
 use Rattle.b67_lemmas.specs.Lists.{Has}
 use Rattle.b67_lemmas.proofs.Members.{has_get, keyed_has}
 use Rattle.b67_lemmas.proofs.Places.{at_mapped, map-slice_set, mapped_at, put_back}
-use Rattle.b67_model.specs.Words.{Word, Operand}
-use Rattle.b67_model.specs.State.{Task, SessionJob, top, below_top}
-use Rattle.b67_model.specs.Intrinsics.{answered, read_from}
-use Rattle.b67_model.specs.Run.{number_of}
-use Rattle.b67_model.specs.Schedule.{Session}
-use Rattle.b67_layout.specs.Orders.{IsInOrderButCounts}
-use Rattle.b67_layout.specs.Placement.{Placement}
+use Rattle.b67_model.specs.Common.{Word, Operand, Task, SessionJob, top, below_top, answered, read_from, number_of, Session}
+use Rattle.b67_layout.specs.Common.{IsInOrderButCounts, Placement, JobShows, TablesShow, IsRunning, here, with_job}
 use Rattle.b67_layout.specs.Rows as rows
-use Rattle.b67_layout.specs.Rows.{JobShows, TablesShow}
-use Rattle.b67_layout.specs.Session.{IsRunning}
-use Rattle.b67_layout.specs.Meets.{here, with_job}
 use Rattle.b67_mcp_calls.specs.Reads.{job_read, IsRead, ReadMeets}
 use Rattle.b67_task_tables.specs.declared.tables.JobRow.{JobRow}
 use Rattle.b67_task_tables.specs.declared.tables.Tasks.{Tasks}

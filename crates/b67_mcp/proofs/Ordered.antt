@@ -5,17 +5,12 @@ use Rattle.b67_lemmas.proofs.Members.{all_in, all_from, keyed_has, length_change
 use Rattle.b67_lemmas.proofs.Keyed.{change_is, all_change}
 use Rattle.b67_lemmas.proofs.Sums.{sum_total}
 use Rattle.b67_model.specs.Keyed.{keyed, change_keyed}
-use Rattle.b67_model.specs.State.{Array, SessionJob}
-use Rattle.b67_model.specs.Arrays.{with_array}
-use Rattle.b67_model.specs.Run.{number_of}
-use Rattle.b67_model.specs.Schedule.{Session}
-use Rattle.b67_model.specs.InOrder.{Starts, IsSegment, Known, NamesArray, OwnsArray, NamesEntered, ArrayInOrder, EntryInOrder, TaskInOrder, TasksInOrder, NumberedFrom, originals_of}
+use Rattle.b67_model.specs.Common.{Array, SessionJob, with_array, number_of, Session, Starts, IsSegment, Known, NamesArray, OwnsArray, NamesEntered, ArrayInOrder, EntryInOrder, TaskInOrder, TasksInOrder, NumberedFrom, originals_of}
 use Rattle.b67_law_order.proofs.Reaches.{Stays}
 use Rattle.b67_law_order.proofs.Replaced.{entry_kept}
 use Rattle.b67_law_order_rows.proofs.Stores.{change_has, arrays_changed, names_changed, by_names}
 use Rattle.b67_law_order_steps.proofs.Maps.{task_up}
-use Rattle.b67_layout.specs.Orders.{JobInOrderButCounts, IsInOrderButCounts}
-use Rattle.b67_layout.specs.Meets.{with_job}
+use Rattle.b67_layout.specs.Common.{JobInOrderButCounts, IsInOrderButCounts, with_job}
 use Rattle.b67_layout.proofs.LeftSettles.{numbered_course}
 use Rattle.b67_layout_store.proofs.Arrays.{Renumbers}
 

@@ -3,17 +3,8 @@ use Rattle.std.proofs.Common.{◌≡◌, ◌≢◌, ℕ, ◌==◌, List, [], ◌
 use Rattle.std.proofs.lemmas.Bool.{cases_Bool, eqb-true}
 use Rattle.std.proofs.lemmas.Option.{same_Some, none-some}
 use Rattle.b67_word.specs.declared.faults.Fault.{Fault}
-use Rattle.b67_model.specs.Answers.{Answer}
-use Rattle.b67_model.specs.Chase.{End, AtCell, AtElement, AtArray, AtProc, AtIntrinsic}
-use Rattle.b67_model.specs.Intrinsics.{printrow}
-use Rattle.b67_model.specs.Need.{touched_of, touched_by_call, touched_at_mark, touched_before_fault}
-use Rattle.b67_model.specs.Operators.{Reading}
-use Rattle.b67_model.specs.Rows.{reading_of, step}
-use Rattle.b67_model.specs.State.{Standing, Marked, Task, Job, SessionJob, OperatorContext, top}
-use Rattle.b67_model.specs.Steps.{Line, Done, Goes}
+use Rattle.b67_model.specs.Common.{Answer, End, AtCell, AtElement, AtArray, AtProc, AtIntrinsic, printrow, touched_of, touched_by_call, touched_at_mark, touched_before_fault, Reading, reading_of, step, Standing, Marked, Task, Job, SessionJob, OperatorContext, top, Line, Done, Goes, Word, Operand, Name, Ref, Row, Element, Original, Proc, Intrinsic, Session}
 use Rattle.b67_model.specs.Words as Words
-use Rattle.b67_model.specs.Words.{Word, Operand, Name, Ref, Row, Element, Original, Proc, Intrinsic}
-use Rattle.b67_model.specs.Schedule.{Session}
 use Rattle.b67_stack.specs.Represents.{Storage}
 use Rattle.b67_layout.specs.Placement.{Placement}
 use Rattle.b67_layout.specs.Meets.{here}

@@ -3,11 +3,7 @@ use Rattle.std.proofs.Common.{◌≡◌, ℕ, zero, suc, ◌≤◌, inl, inr, Li
 use Rattle.b67_io.proofs.Joined.{Took-none}
 use Rattle.b67_session_lines.specs.Parts.{TookRest}
 use Rattle.b67_word.specs.declared.faults.Fault.{Fault}
-use Rattle.b67_model.specs.State.{Task, Job, SessionJob}
-use Rattle.b67_model.specs.Steps.{Line, Goes}
-use Rattle.b67_model.specs.Rows.{step}
-use Rattle.b67_model.specs.Run.{live_tasks}
-use Rattle.b67_model.specs.Schedule.{Session}
+use Rattle.b67_model.specs.Common.{Task, Job, SessionJob, Line, Goes, step, live_tasks, Session}
 use Rattle.b67_stack.specs.Represents.{Storage}
 use Rattle.b67_layout.specs.Placement.{Placement}
 use Rattle.b67_task_tables.specs.declared.tables.Machine.{Machine}

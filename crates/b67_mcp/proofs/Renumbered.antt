@@ -9,23 +9,11 @@ use Rattle.b67_lemmas.specs.Lists.{Has}
 use Rattle.b67_lemmas.proofs.Keyed.{change_same}
 use Rattle.b67_lemmas.proofs.Members.{keyed_falls}
 use Rattle.b67_model.specs.Keyed.{keyed, change_keyed}
-use Rattle.b67_model.specs.State.{Frame, Array, Condition, Ready, Awaits, WaitsAt, Task, Job, SessionJob}
-use Rattle.b67_model.specs.Arrays.{with_array}
-use Rattle.b67_model.specs.Run.{number_of}
-use Rattle.b67_model.specs.Schedule.{Session}
+use Rattle.b67_model.specs.Common.{Frame, Array, Condition, Ready, Awaits, WaitsAt, Task, Job, SessionJob, with_array, number_of, Session}
 use Rattle.b67_stack.specs.declared.Cpu.{Cpu}
-use Rattle.b67_stack.specs.MachineView.{PagedObject, Slot, MachineView, NoOriginalAboveTop}
-use Rattle.b67_stack.specs.Represents.{Storage, Represents}
-use Rattle.b67_layout.specs.Orders.{IsInOrderButCounts}
-use Rattle.b67_layout.specs.Placement.{Placement}
-use Rattle.b67_layout.specs.Layout.{array_object, objects_of, machine_view}
-use Rattle.b67_layout.specs.Session.{IsRunning}
-use Rattle.b67_layout.specs.Meets.{with_job}
-use Rattle.b67_layout.proofs.Fresh.{running_in_order}
-use Rattle.b67_layout.proofs.MachineViews.{member-same}
-use Rattle.b67_layout.proofs.Alike.{AllAlike}
-use Rattle.b67_layout.proofs.Paged.{RepresentsSession-over}
-use Rattle.b67_stack.specs.HeldOtherwise.{Stayed, TakesPlace}
+use Rattle.b67_stack.specs.Common.{PagedObject, Slot, MachineView, NoOriginalAboveTop, Storage, Represents, Stayed, TakesPlace}
+use Rattle.b67_layout.specs.Common.{IsInOrderButCounts, Placement, array_object, objects_of, machine_view, IsRunning, with_job}
+use Rattle.b67_layout.proofs.Common.{running_in_order, member-same, AllAlike, RepresentsSession-over}
 use Rattle.b67_layout_storage.specs.Machine.{PagingKeeps}
 use Rattle.b67_overlay.specs.Spans.{MachineCanPage}
 use Rattle.b67_layout_spans.proofs.Sessions.{copies_of}

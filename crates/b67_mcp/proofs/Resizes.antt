@@ -4,17 +4,9 @@ use Rattle.std.proofs.lemmas.Option.{same_Some}
 use Rattle.b67_backing.specs.Held.{sectors_for}
 use Rattle.b67_lemmas.specs.Lists.{Has}
 use Rattle.b67_lemmas.proofs.Keyed.{changed_there}
-use Rattle.b67_model.specs.Answers.{Answer}
-use Rattle.b67_model.specs.State.{Array, Task, SessionJob}
-use Rattle.b67_model.specs.Arrays.{with_array, resized}
-use Rattle.b67_model.specs.Steps.{Done, Goes}
-use Rattle.b67_model.specs.Rows.{step}
-use Rattle.b67_model.specs.Need.{touched_of}
-use Rattle.b67_model.specs.Schedule.{Session}
+use Rattle.b67_model.specs.Common.{Answer, Array, Task, SessionJob, with_array, resized, Done, Goes, step, touched_of, Session}
 use Rattle.b67_stack.specs.Represents.{Storage}
-use Rattle.b67_layout.specs.Orders.{IsInOrderButCounts}
-use Rattle.b67_layout.specs.Placement.{Placement}
-use Rattle.b67_layout.specs.Session.{IsRunning}
+use Rattle.b67_layout.specs.Common.{IsInOrderButCounts, Placement, IsRunning}
 use Rattle.b67_mcp_calls.specs.Lengthening.{ResizeMeets, job_resized}
 use Rattle.b67_mcp_calls.specs.declared.resize.Resizing.TheVariants as resizing
 use Rattle.b67_task_tables.specs.declared.tables.Machine.{Machine}

@@ -9,21 +9,11 @@ use Rattle.b67_lemmas.proofs.Keyed.{change_is}
 use Rattle.b67_lemmas.proofs.Members.{total_change}
 use Rattle.b67_lemmas.proofs.Sums.{sum_total}
 use Rattle.b67_model.specs.Keyed.{keyed, change_keyed}
-use Rattle.b67_model.specs.State.{Array, Segment, Job, SessionJob}
-use Rattle.b67_model.specs.Arrays.{with_array}
-use Rattle.b67_model.specs.Run.{number_of}
-use Rattle.b67_model.specs.Sectors.{sectors_for, sectors_of, sectors}
-use Rattle.b67_model.specs.Schedule.{Session}
+use Rattle.b67_model.specs.Common.{Array, Segment, Job, SessionJob, with_array, number_of, sectors_for, sectors_of, sectors, Session}
 use Rattle.b67_stack.specs.declared.Cpu.{Cpu}
-use Rattle.b67_stack.specs.Stacks.{stack_words}
-use Rattle.b67_stack.specs.MachineView.{MachineView, slot_base, stack_of}
-use Rattle.b67_stack.specs.Represents.{Storage}
+use Rattle.b67_stack.specs.Common.{stack_words, MachineView, slot_base, stack_of, Storage}
 use Rattle.b67_stack.proofs.Bases.{base-step}
-use Rattle.b67_layout.specs.Orders.{IsInOrderButCounts}
-use Rattle.b67_layout.specs.Placement.{Placement}
-use Rattle.b67_layout.specs.Layout.{machine_view}
-use Rattle.b67_layout.specs.Session.{RepresentsSession}
-use Rattle.b67_layout.specs.Meets.{with_job}
+use Rattle.b67_layout.specs.Common.{IsInOrderButCounts, Placement, machine_view, RepresentsSession, with_job}
 use Rattle.b67_overlay.proofs.Turning.{slot_high}
 use Rattle.b67_task_need.specs.Sums.{is_home, sectors_of_word, sectors_at, sectors_from, sectors_of_slots}
 use Rattle.b67_task_need.proofs.Sessions.{session_kept}

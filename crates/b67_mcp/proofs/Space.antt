@@ -9,20 +9,10 @@ use Rattle.b67_area.specs.Spans.{area_at}
 use Rattle.b67_lemmas.specs.Lists.{Has}
 use Rattle.b67_lemmas.proofs.Members.{all_in, keyed_has}
 use Rattle.b67_lemmas.proofs.Places.{get_within}
-use Rattle.b67_model.specs.State.{Array, Task, SessionJob}
-use Rattle.b67_model.specs.Rows.{code_of}
-use Rattle.b67_model.specs.Need.{fixed}
-use Rattle.b67_model.specs.Run.{live_tasks, number_of}
-use Rattle.b67_model.specs.Schedule.{Session}
-use Rattle.b67_model.specs.InOrder.{ArrayInOrder}
-use Rattle.b67_layout.specs.Orders.{IsInOrderButCounts}
+use Rattle.b67_model.specs.Common.{Array, Task, SessionJob, code_of, fixed, live_tasks, number_of, Session, ArrayInOrder}
+use Rattle.b67_layout.specs.Common.{IsInOrderButCounts, Placement, code_objects, objects_of, array_object, IsRunning, RepresentsSession, area_held}
 use Rattle.b67_stack.specs.declared.Cpu.{Cpu}
-use Rattle.b67_stack.specs.MachineView.{PagedObject}
-use Rattle.b67_stack.specs.Represents.{Storage, info_of}
-use Rattle.b67_layout.specs.Placement.{Placement}
-use Rattle.b67_layout.specs.Layout.{code_objects, objects_of, array_object}
-use Rattle.b67_layout.specs.Session.{IsRunning, RepresentsSession}
-use Rattle.b67_layout.specs.Meets.{area_held}
+use Rattle.b67_stack.specs.Common.{PagedObject, Storage, info_of}
 use Rattle.b67_layout.proofs.Fresh.{running_in_order}
 use Rattle.b67_exec_cells.proofs.Replaced.{array_object-has, member_objects, before}
 use Rattle.b67_exec_cells.specs.Running.{code_area}

@@ -8,23 +8,11 @@ use Rattle.b67_area.specs.declared.kinds.Kind.{Kind}
 use Rattle.b67_area.specs.declared.kinds.Kind.TheVariants as kind
 use Rattle.b67_backing.specs.declared.refusals.SpaceFault.{SpaceFault}
 use Rattle.b67_backing.specs.declared.refusals.SpaceFault.TheVariants as space
-use Rattle.b67_model.specs.Answers.{Answer}
-use Rattle.b67_model.specs.Words.{Word}
-use Rattle.b67_model.specs.State.{Task, SessionJob}
-use Rattle.b67_model.specs.Steps.{Done}
-use Rattle.b67_model.specs.Need.{touched_of, started_by, need}
-use Rattle.b67_model.specs.Rows.{step}
-use Rattle.b67_model.specs.Sectors.{sectors}
-use Rattle.b67_model.specs.Schedule.{Session}
+use Rattle.b67_model.specs.Common.{Answer, Word, Task, SessionJob, Done, touched_of, started_by, need, step, sectors, Session}
 use Rattle.b67_layout_storage.specs.Machine.{MachineRepresentsView}
 use Rattle.b67_layout_storage.proofs.Devices.{says_of}
-use Rattle.b67_layout.specs.Orders.{IsInOrderButCounts}
-use Rattle.b67_stack.specs.MachineView.{PagedObject}
-use Rattle.b67_stack.specs.Represents.{Storage, Content, KeptChain}
-use Rattle.b67_layout.specs.Layout.{array_object, machine_view}
-use Rattle.b67_layout.specs.Placement.{Placement}
-use Rattle.b67_layout.specs.Session.{IsRunning}
-use Rattle.b67_layout.specs.Meets.{area_held}
+use Rattle.b67_layout.specs.Common.{IsInOrderButCounts, array_object, machine_view, Placement, IsRunning, area_held}
+use Rattle.b67_stack.specs.Common.{PagedObject, Storage, Content, KeptChain}
 use Rattle.b67_exec_cells.proofs.Replaced.{array_object-has}
 use Rattle.b67_exec_cells.specs.Running.{code_area}
 use Rattle.b67_task_need.specs.Needing.{need_with, touched_words, HasWords, StandsInOrder}

@@ -1,22 +1,11 @@
 -- A call of an intrinsic but 12 to 16 starts no task; and the session where none is started.
 use Rattle.std.proofs.Common.{◌≡◌, ℕ, ◌+◌, ◌-◌, ◌≤◌, List, [], ◌∷◌, replicate, length, Option, None, Ok, Err, refl, sym, ◌∙◌, ap, arith, subst, true, Some}
 use Rattle.std.specs.Prelude.{max}
-use Rattle.b67_model.specs.Answers.{Answer}
-use Rattle.b67_model.specs.Words.{Word, Operand, Original, whole}
-use Rattle.b67_model.specs.State.{Array, Task, Job, SessionJob, OperatorContext, top, below_top}
-use Rattle.b67_model.specs.Arrays.{array, with_array, all_zero, resized}
-use Rattle.b67_model.specs.Steps.{Line, Value, Values, Done, Goes, Leaves, Waits}
-use Rattle.b67_model.specs.Intrinsics.{answered, answers, array_length, arraydec, print, numbers_of, row_copy, printrow, read_from, read, needs_writable, deallocate, resize, intrinsic}
-use Rattle.b67_model.specs.Need.{started_by}
-use Rattle.b67_model.specs.Rows.{step}
-use Rattle.b67_model.specs.Run.{live_tasks}
-use Rattle.b67_model.specs.Schedule.{Session}
+use Rattle.b67_model.specs.Common.{Answer, Word, Operand, Original, Array, Task, Job, SessionJob, OperatorContext, top, below_top, array, with_array, all_zero, resized, Line, Value, Values, Done, Goes, Leaves, Waits, answered, answers, array_length, arraydec, print, numbers_of, row_copy, printrow, read_from, read, needs_writable, deallocate, resize, intrinsic, started_by, step, live_tasks, Session}
+use Rattle.b67_model.specs.Words.{whole}
 use Rattle.b67_law_order.proofs.Posts.{Post, post_ok, post_err, post_any, post_then, post_at}
-use Rattle.b67_layout.specs.Placement.{Placement}
-use Rattle.b67_layout.specs.Meets.{here, with_job}
+use Rattle.b67_layout.specs.Common.{Placement, here, with_job, peak_with, moved}
 use Rattle.b67_stack.specs.Represents.{Storage}
-use Rattle.b67_layout.specs.Peaks.{peak_with}
-use Rattle.b67_layout.specs.Moved.{moved}
 use Rattle.b67_task_tables.specs.declared.tables.Machine.{Machine}
 use Rattle.b67_task_tables.specs.Tables.{MachineRepresents}
 use Rattle.b67_mcp.specs.Called.{StartsTask}

@@ -2,17 +2,8 @@
 use Rattle.std.proofs.Common.{◌≡◌, ℕ, ℤ, List, [], ◌∷◌, reverse, Bool, true, false, not, Option, Some, Ok, Err, refl, sym, ◌∙◌, ap, subst}
 use Rattle.std.specs.Prelude.{nat_le}
 use Rattle.b67_word.specs.declared.faults.Fault.TheVariants.{StackOverflow, CriticalBlock}
-use Rattle.b67_model.specs.Answers.{Answer, ◌>>=◌, ◌>>◌, needs}
-use Rattle.b67_model.specs.Arrays.{array}
-use Rattle.b67_model.specs.Chase.{End, follow_reference}
-use Rattle.b67_model.specs.Intrinsics.{numbers_of, answered, answers, printrow}
-use Rattle.b67_model.specs.Need.{touched_of, touched_by_call, touched_at_mark, touched_before_fault}
-use Rattle.b67_model.specs.Operators.{Reading}
-use Rattle.b67_model.specs.Rows.{reading_of, step}
-use Rattle.b67_model.specs.State.{Standing, Marked, Task, Job, SessionJob, OperatorContext, all_frames, height, top, with_task}
-use Rattle.b67_model.specs.Steps.{Line, Values, Done, Goes, is_critical}
+use Rattle.b67_model.specs.Common.{Answer, ◌>>=◌, ◌>>◌, needs, array, End, follow_reference, numbers_of, answered, answers, printrow, touched_of, touched_by_call, touched_at_mark, touched_before_fault, Reading, reading_of, step, Standing, Marked, Task, Job, SessionJob, OperatorContext, all_frames, height, top, with_task, Line, Values, Done, Goes, is_critical, Word, Operand, Name, Ref, Row, Element, Original, Proc, Intrinsic}
 use Rattle.b67_model.specs.Words as Words
-use Rattle.b67_model.specs.Words.{Word, Operand, Name, Ref, Row, Element, Original, Proc, Intrinsic}
 use Rattle.b67_layout.specs.Meets.{here}
 use Rattle.b67_law_order.proofs.Follows.{follow_same}
 use Rattle.b67_mcp.proofs.Callings.{Calling}

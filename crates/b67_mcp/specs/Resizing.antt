@@ -4,16 +4,9 @@ use Rattle.b67_lemmas.specs.Lists.{Has}
 use Rattle.b67_backing.specs.Held.{sectors_for}
 use Rattle.b67_backing.specs.declared.refusals.SpaceFault.{SpaceFault}
 use Rattle.b67_backing.specs.declared.refusals.SpaceFault.TheVariants as space
-use Rattle.b67_model.specs.State.{Array, Task, Job, SessionJob}
-use Rattle.b67_model.specs.Steps.{Goes}
-use Rattle.b67_model.specs.Arrays.{with_array, resized}
-use Rattle.b67_model.specs.Sectors.{sectors}
-use Rattle.b67_model.specs.Rows.{step}
-use Rattle.b67_model.specs.Schedule.{Session}
+use Rattle.b67_model.specs.Common.{Array, Task, Job, SessionJob, Goes, with_array, resized, sectors, step, Session}
 use Rattle.b67_stack.specs.Represents.{Storage}
-use Rattle.b67_layout.specs.Orders.{IsInOrderButCounts}
-use Rattle.b67_layout.specs.Placement.{Placement}
-use Rattle.b67_layout.specs.Meets.{with_job, area_held}
+use Rattle.b67_layout.specs.Common.{IsInOrderButCounts, Placement, with_job, area_held}
 use Rattle.b67_task_tables.specs.declared.tables.Machine.{Machine}
 use Rattle.b67_task_tables.specs.Tables.{MachineRepresents}
 use Rattle.b67_task_tables.specs.Runs.{RunsTask, ForEachRun}

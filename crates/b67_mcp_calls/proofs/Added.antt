@@ -5,9 +5,7 @@ use Rattle.b67_word.specs.Tagged.{Tagged}
 use Rattle.b67_area.specs.declared.Kind.TheVariants.{Array, Code}
 use Rattle.b67_ctl.specs.declared.registers.Regs.{Regs}
 use Rattle.b67_lemmas.specs.Lists.{Has}
-use Rattle.b67_stack.specs.Shapes.{Location, nowhere}
-use Rattle.b67_stack.specs.MachineView.{PagedObject, MachineView, Slot, Free, Running, Waiting, SlotFits, AreZero, home_word, slot_base}
-use Rattle.b67_stack.specs.Represents.{Storage, RepresentsSlot, Content, RepresentsObject, Represents}
+use Rattle.b67_stack.specs.Common.{Location, nowhere, PagedObject, MachineView, Slot, Free, Running, Waiting, SlotFits, AreZero, home_word, slot_base, Storage, RepresentsSlot, Content, RepresentsObject, Represents}
 use Rattle.b67_layout.proofs.Objects.{of_objects}
 
 -- an array of zeros that was never touched, at an address where no object is known

@@ -5,13 +5,9 @@ use Rattle.b67_word.specs.Tagged.{Tagged}
 use Rattle.b67_word.specs.declared.faults.Fault.{Fault}
 use Rattle.b67_word.specs.declared.faults.Fault.TheVariants.{InvalidOperand}
 use Rattle.b67_model.specs.Words as Words
-use Rattle.b67_model.specs.Words.{Word, Operand, Name, Ref, Row, Element, Original, Proc, Intrinsic}
-use Rattle.b67_model.specs.State.{Task, SessionJob}
-use Rattle.b67_model.specs.Intrinsics.{row_copy, printrow}
+use Rattle.b67_model.specs.Common.{Word, Operand, Name, Ref, Row, Element, Original, Proc, Intrinsic, Task, SessionJob, row_copy, printrow}
 use Rattle.b67_stack.specs.Represents.{Storage}
-use Rattle.b67_layout.specs.Placement.{Placement}
-use Rattle.b67_layout.specs.Meets.{here}
-use Rattle.b67_layout.specs.Tops.{cells}
+use Rattle.b67_layout.specs.Common.{Placement, here, cells}
 use Rattle.b67_fetch.proofs.Values.{TopFollowed}
 use Rattle.b67_fetch.specs.Indexes.{FindsArray}
 use Rattle.b67_mcp_calls.specs.Calls.{IsCall}

@@ -9,25 +9,12 @@ use Rattle.b67_area.specs.declared.Kind.TheVariants.{Array}
 use Rattle.b67_ctl.specs.Descriptors.{data_word}
 use Rattle.b67_lemmas.specs.Lists.{Has}
 use Rattle.b67_lemmas.proofs.Members.{change_twice, keyed_has}
-use Rattle.b67_model.specs.Words.{Original}
-use Rattle.b67_model.specs.State.{Frame, Task, SessionJob, below_top}
+use Rattle.b67_model.specs.Common.{Original, Frame, Task, SessionJob, below_top, number_of, Session, answered, IsSegment}
 use Rattle.b67_model.specs.Keyed.{keyed}
-use Rattle.b67_model.specs.Run.{number_of}
-use Rattle.b67_model.specs.Schedule.{Session}
-use Rattle.b67_model.specs.Intrinsics.{answered}
-use Rattle.b67_model.specs.InOrder.{IsSegment}
-use Rattle.b67_layout.specs.Orders.{JobInOrderButCounts, IsInOrderButCounts}
+use Rattle.b67_layout.specs.Common.{JobInOrderButCounts, IsInOrderButCounts, Placement, IsRunning, RepresentsSession, here, with_job}
 use Rattle.b67_stack.specs.declared.Cpu.{Cpu}
-use Rattle.b67_stack.specs.Shapes.{IsOriginal, nowhere}
-use Rattle.b67_stack.specs.MachineView.{AreZero, home_desc, home_word_of}
-use Rattle.b67_stack.specs.Represents.{Storage}
-use Rattle.b67_stack.specs.Changes.{pushed}
-use Rattle.b67_layout.specs.Placement.{Placement}
-use Rattle.b67_layout.specs.Session.{IsRunning, RepresentsSession}
-use Rattle.b67_layout.specs.Meets.{here, with_job}
-use Rattle.b67_layout.proofs.Fresh.{running_in_order}
-use Rattle.b67_layout.proofs.Sessions.{change-has}
-use Rattle.b67_layout.proofs.Awaits.{with_job-twice}
+use Rattle.b67_stack.specs.Common.{IsOriginal, nowhere, AreZero, home_desc, home_word_of, Storage, pushed}
+use Rattle.b67_layout.proofs.Common.{running_in_order, change-has, with_job-twice}
 use Rattle.b67_mcp_calls.specs.Calls.{MayCut, job_cut}
 use Rattle.b67_mcp_calls.specs.Declaring.{without, with_home, new_array, job_declared}
 use Rattle.b67_exec_calls.proofs.Answering.{task_cut, member_cut, runs_cut, higher}

@@ -6,9 +6,7 @@ use Rattle.std.proofs.lemmas.List.{length-reverse}
 use Rattle.b67_lemmas.specs.Lists.{Has, Falls}
 use Rattle.b67_lemmas.proofs.Members.{all_from, all_in, falls_low, has_map, has_reverse_back}
 use Rattle.b67_model.specs.Words as Words
-use Rattle.b67_model.specs.Words.{Word, Operand, Name, Ref, Row, Element, Original, Proc, Intrinsic}
-use Rattle.b67_model.specs.State.{Frame, Array, Segment, Task, JobConstants, Job, JobProgress}
-use Rattle.b67_model.specs.InOrder.{Starts, Known, known_of, outer_of, WordInOrder, FramesInOrder, EntryInOrder, DictionaryWords, rows_after, TaskInOrder}
+use Rattle.b67_model.specs.Common.{Word, Operand, Name, Ref, Row, Element, Original, Proc, Intrinsic, Frame, Array, Segment, Task, JobConstants, Job, JobProgress, Starts, Known, known_of, outer_of, WordInOrder, FramesInOrder, EntryInOrder, DictionaryWords, rows_after, TaskInOrder}
 use Rattle.b67_layout.specs.Orders.{JobInOrderButCounts}
 
 -- a word that names no array of an identity

@@ -10,37 +10,19 @@ use Rattle.b67_core.proofs.Writes.{slice_get-set_same, slice_get-set_other}
 use Rattle.b67_lemmas.specs.Lists.{Has}
 use Rattle.b67_lemmas.proofs.Members.{has_append_cases, has_append_left, has_append_right, has_flat, has_flat_back, keyed_has}
 use Rattle.b67_model.specs.Words as Words
-use Rattle.b67_model.specs.Words.{Word, Operand, Name, Ref, Row, Element, Original, Proc, Intrinsic}
-use Rattle.b67_model.specs.State.{Frame, Array, Task, Job, JobProgress, SessionJob, top, with_top_cells}
-use Rattle.b67_model.specs.Arrays.{array, no_array}
+use Rattle.b67_model.specs.Common.{Word, Operand, Name, Ref, Row, Element, Original, Proc, Intrinsic, Frame, Array, Task, Job, JobProgress, SessionJob, top, with_top_cells, array, no_array, number_of, Session}
 use Rattle.b67_model.specs.Keyed.{keyed, change_keyed}
-use Rattle.b67_model.specs.Run.{number_of}
-use Rattle.b67_model.specs.Schedule.{Session}
 use Rattle.b67_stack.specs.declared.Cpu.{Cpu}
 use Rattle.b67_stack.specs.Shapes as Shapes
-use Rattle.b67_stack.specs.Shapes.{Shape, IsOriginal, nowhere}
-use Rattle.b67_stack.specs.Stacks.{StackPlace, Activation, stack_words}
-use Rattle.b67_stack.specs.MachineView.{PagedObject, Slot, Running, stack_of, MachineView, NoOriginalAboveTop, AreZero, slot_base, home_word_of}
-use Rattle.b67_stack.specs.Represents.{Storage, RepresentsRunning, Represents}
-use Rattle.b67_stack.specs.Changes.{pushed, with_stack, with_cells, top_cells}
+use Rattle.b67_stack.specs.Common.{Shape, IsOriginal, nowhere, StackPlace, Activation, stack_words, PagedObject, Slot, Running, stack_of, MachineView, NoOriginalAboveTop, AreZero, slot_base, home_word_of, Storage, RepresentsRunning, Represents, pushed, with_stack, with_cells, top_cells}
 use Rattle.b67_stack.proofs.Bases.{base-apart}
 use Rattle.b67_stack.proofs.Slots.{by_slot, running_fits}
 use Rattle.b67_stack.proofs.Helds.{held-same}
-use Rattle.b67_layout.specs.Placement.{Placement, slot_of, spot_in, outer_spots, spots}
-use Rattle.b67_layout.specs.Layout.{shape, stack_of_task, slot_at, code_objects, array_object, objects_of, machine_view}
-use Rattle.b67_layout.specs.Session.{RepresentsTask, IsRunning, ShowsDisplay, SessionHolds, RepresentsSession}
-use Rattle.b67_layout.specs.Meets.{with_job}
-use Rattle.b67_layout.proofs.MachineViews.{with_course, member-same}
-use Rattle.b67_layout.proofs.Rows.{row_of}
-use Rattle.b67_layout.proofs.Replaces.{Replaces, outer_spots-after}
-use Rattle.b67_layout.proofs.Sessions.{change-has, change-kept, SessionHoldsBut-after, for_running}
-use Rattle.b67_layout.proofs.Steps.{activations-with, seen-with, critical-with}
-use Rattle.b67_layout.proofs.Displays.{Shows-same}
-use Rattle.b67_layout.proofs.Whole.{spots-with}
-use Rattle.b67_layout.proofs.Objects.{of_objects}
+use Rattle.b67_layout.specs.Common.{Placement, slot_of, spot_in, outer_spots, spots, shape, stack_of_task, slot_at, code_objects, array_object, objects_of, machine_view, RepresentsTask, IsRunning, ShowsDisplay, SessionHolds, RepresentsSession, with_job, cells}
+use Rattle.b67_layout.proofs.Common.{with_course, member-same, row_of, Replaces, change-has, change-kept, SessionHoldsBut-after, for_running, activations-with, seen-with, critical-with, Shows-same, spots-with, of_objects}
+use Rattle.b67_layout.proofs.Replaces.{outer_spots-after}
 use Rattle.b67_layout_leave.proofs.Nowhere.{SameArray, SameArrays, activations-same}
 use Rattle.b67_layout_leave.proofs.Slots.{OthersSame, stack-after, slots-after}
-use Rattle.b67_layout.specs.Tops.{cells}
 use Rattle.b67_exec_cells.proofs.Replaced.{cells-are}
 use Rattle.b67_mcp_calls.specs.Declaring.{without}
 use Rattle.b67_exec_calls.proofs.Pushed.{stack, on_slot, registers, room}

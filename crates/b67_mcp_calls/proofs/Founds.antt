@@ -7,17 +7,10 @@ use Rattle.std.proofs.lemmas.List.{length-reverse}
 use Rattle.b67_word.specs.Tagged.{Tagged, word}
 use Rattle.b67_word.specs.declared.couples.Place.{Place}
 use Rattle.b67_word.specs.declared.faults.Fault.TheVariants.{Exponent, CriticalBlock}
-use Rattle.b67_model.specs.Answers.{Answer, ◌>>=◌}
-use Rattle.b67_model.specs.Words.{Word, Row}
-use Rattle.b67_model.specs.Arrays.{array}
-use Rattle.b67_model.specs.State.{Frame, Task, SessionJob, OperatorContext, height, top, below_top}
-use Rattle.b67_model.specs.Steps.{Values, Done, is_critical}
-use Rattle.b67_model.specs.Intrinsics.{is_original, answers, printrow}
+use Rattle.b67_model.specs.Common.{Answer, ◌>>=◌, Word, Row, array, Frame, Task, SessionJob, OperatorContext, height, top, below_top, Values, Done, is_critical, is_original, answers, printrow}
 use Rattle.b67_stack.specs.Represents.{Storage}
-use Rattle.b67_layout.specs.Placement.{Placement}
-use Rattle.b67_layout.specs.Meets.{here, area_held}
+use Rattle.b67_layout.specs.Common.{Placement, here, area_held, cells}
 use Rattle.b67_exec_cells.specs.Elements.{HasElement}
-use Rattle.b67_layout.specs.Tops.{cells}
 use Rattle.b67_mcp_calls.specs.Calls.{IsCall}
 use Rattle.b67_exec_calls.proofs.Ones.{one}
 use Rattle.b67_mcp_calls.specs.Texts.{values_of, is_some}

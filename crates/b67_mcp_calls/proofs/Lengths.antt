@@ -7,16 +7,11 @@ use Rattle.b67_word.specs.Tagged.{Tagged}
 use Rattle.b67_word.specs.declared.couples.Place.{Place}
 use Rattle.b67_word.specs.declared.faults.Fault.{Fault}
 use Rattle.b67_word.specs.declared.faults.Fault.TheVariants.{InvalidOperand, CriticalBlock}
-use Rattle.b67_model.specs.Answers.{Answer, ◌>>=◌}
-use Rattle.b67_model.specs.Words.{Word, Original, operand, number, whole}
-use Rattle.b67_model.specs.State.{Task, SessionJob, height, top, below_top, with_top_cells}
-use Rattle.b67_model.specs.Steps.{Done, is_critical}
-use Rattle.b67_model.specs.Intrinsics.{is_original, array_length, arraydec, answers}
+use Rattle.b67_model.specs.Common.{Answer, ◌>>=◌, Word, Original, operand, number, Task, SessionJob, height, top, below_top, with_top_cells, Done, is_critical, is_original, array_length, arraydec, answers}
+use Rattle.b67_model.specs.Words.{whole}
 use Rattle.b67_stack.specs.declared.Cpu.{Cpu}
 use Rattle.b67_stack.specs.Represents.{Storage}
-use Rattle.b67_layout.specs.Placement.{Placement}
-use Rattle.b67_layout.specs.Meets.{here}
-use Rattle.b67_layout.specs.Tops.{cells, GivesTop}
+use Rattle.b67_layout.specs.Common.{Placement, here, cells, GivesTop}
 use Rattle.b67_exec_cells.specs.Tops.{NoOriginals}
 use Rattle.b67_layout.proofs.PlainOperands.{plain_operand}
 use Rattle.b67_mcp_calls.specs.Calls.{IsCall}

@@ -5,11 +5,7 @@ use Rattle.b67_word.specs.Tagged.{Tagged}
 use Rattle.b67_ctl.specs.declared.registers.Regs.{Regs}
 use Rattle.b67_core.proofs.Writes.{slice_get-set_other}
 use Rattle.b67_lemmas.specs.Lists.{Has}
-use Rattle.b67_stack.specs.Shapes.{Original, Copy, IsOriginal, Fits}
-use Rattle.b67_stack.specs.Stacks.{Activation, IsStack, stack_words, words}
-use Rattle.b67_stack.specs.MachineView.{PagedObject, Slot, MachineView, stack_of, RunsOn, NoOriginalAboveTop, slot_base, CopiesName}
-use Rattle.b67_stack.specs.Represents.{Storage, RepresentsRunning, Represents}
-use Rattle.b67_stack.specs.Changes.{with_stack, with_cells, top_cells}
+use Rattle.b67_stack.specs.Common.{Original, Copy, IsOriginal, Fits, Activation, IsStack, stack_words, words, PagedObject, Slot, MachineView, stack_of, RunsOn, NoOriginalAboveTop, slot_base, CopiesName, Storage, RepresentsRunning, Represents, with_stack, with_cells, top_cells}
 use Rattle.b67_stack.proofs.Lies.{Lie-push}
 use Rattle.b67_stack.proofs.Heights.{words-length}
 use Rattle.b67_stack.proofs.Slots.{Represents-slot, running_slot, running_fits, running_lies}

@@ -7,16 +7,11 @@ use Rattle.std.proofs.lemmas.List.{length-reverse}
 use Rattle.b67_word.specs.Tagged.{Tagged}
 use Rattle.b67_word.specs.declared.faults.Fault.{Fault}
 use Rattle.b67_word.specs.declared.faults.Fault.TheVariants.{InvalidOperand, CriticalBlock}
-use Rattle.b67_model.specs.Answers.{Answer, ◌>>=◌}
-use Rattle.b67_model.specs.Words.{Word, operand, number, whole}
-use Rattle.b67_model.specs.State.{Frame, Task, SessionJob, height, top, below_top}
-use Rattle.b67_model.specs.Steps.{is_critical}
-use Rattle.b67_model.specs.Intrinsics.{is_original, print}
+use Rattle.b67_model.specs.Common.{Answer, ◌>>=◌, Word, operand, number, Frame, Task, SessionJob, height, top, below_top, is_critical, is_original, print}
+use Rattle.b67_model.specs.Words.{whole}
 use Rattle.b67_stack.specs.declared.Cpu.{Cpu}
 use Rattle.b67_stack.specs.Represents.{Storage}
-use Rattle.b67_layout.specs.Placement.{Placement}
-use Rattle.b67_layout.specs.Meets.{here}
-use Rattle.b67_layout.specs.Tops.{cells, GivesTop}
+use Rattle.b67_layout.specs.Common.{Placement, here, cells, GivesTop}
 use Rattle.b67_layout.proofs.PlainOperands.{plain_operand}
 use Rattle.b67_exec_operands.proofs.Rows.{operand_seen}
 use Rattle.b67_exec_calls.proofs.Ones.{count, one}

@@ -5,16 +5,10 @@ use Rattle.std.proofs.lemmas.List.{length-reverse}
 use Rattle.b67_word.specs.Tagged.{Tagged, word}
 use Rattle.b67_word.specs.declared.couples.Place.{Place}
 use Rattle.b67_word.specs.declared.faults.Fault.TheVariants.{InvalidOperand, CriticalBlock}
-use Rattle.b67_model.specs.Words.{Word, Operand}
-use Rattle.b67_model.specs.State.{Task, SessionJob, height, top, below_top, with_top_cells}
-use Rattle.b67_model.specs.Steps.{is_critical}
-use Rattle.b67_model.specs.Intrinsics.{is_original, read_from, read}
-use Rattle.b67_layout.specs.Placement.{Placement}
-use Rattle.b67_layout.specs.Rows.{JobShows}
-use Rattle.b67_layout.specs.Meets.{here}
+use Rattle.b67_model.specs.Common.{Word, Operand, Task, SessionJob, height, top, below_top, with_top_cells, is_critical, is_original, read_from, read}
+use Rattle.b67_layout.specs.Common.{Placement, JobShows, here, cells}
 use Rattle.b67_task_tables.specs.declared.tables.JobRow.{JobRow}
 use Rattle.b67_task_tables.specs.Tables.{job_row}
-use Rattle.b67_layout.specs.Tops.{cells}
 use Rattle.b67_exec_cells.specs.Tops.{NoOriginals}
 use Rattle.b67_mcp_calls.specs.Calls.{IsCall}
 use Rattle.b67_exec_calls.proofs.Answering.{no_higher}

@@ -1,11 +1,9 @@
 -- The tables of tasks and jobs don't show where an array's original stands.
 use Rattle.std.proofs.Common.{◌≡◌, ℕ, List, [], ◌∷◌, Option, Some, None, refl, sym, ◌∙◌, ap}
 use Rattle.std.specs.List.{slice_get}
-use Rattle.b67_model.specs.State.{Condition, Ready, Awaits, WaitsAt, Task, Job, SessionJob}
-use Rattle.b67_model.specs.Schedule.{Session}
+use Rattle.b67_model.specs.Common.{Condition, Ready, Awaits, WaitsAt, Task, Job, SessionJob, Session}
 use Rattle.b67_stack.specs.Stacks.{StackPlace}
-use Rattle.b67_layout.specs.Placement.{Placement, slot_of, spot_in, outer_spots, address_of}
-use Rattle.b67_layout.specs.Rows.{WaitsAtCell, TaskRow, JobRow, JobCounts, shown, parent_slot, critical_disp, TaskShows, JobShows, JobsShow, RunningRow, TablesShow}
+use Rattle.b67_layout.specs.Common.{Placement, slot_of, spot_in, outer_spots, address_of, WaitsAtCell, TaskRow, JobRow, JobCounts, shown, parent_slot, critical_disp, TaskShows, JobShows, JobsShow, RunningRow, TablesShow}
 use Rattle.b67_mcp_calls.specs.Declaring.{with_home}
 use Rattle.b67_mcp_calls.proofs.Replanned.{outer_spots-there}
 

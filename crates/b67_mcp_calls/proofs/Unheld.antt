@@ -6,10 +6,7 @@ use Rattle.b67_word.specs.Tagged.{Tagged}
 use Rattle.b67_area.specs.declared.Info.{Info}
 use Rattle.b67_ctl.specs.declared.registers.Regs.{Regs}
 use Rattle.b67_lemmas.specs.Lists.{Has}
-use Rattle.b67_stack.specs.Shapes.{Location, Fits, nowhere}
-use Rattle.b67_stack.specs.Stacks.{words}
-use Rattle.b67_stack.specs.MachineView.{PagedObject, MachineView, home_word, slot_base, stack_of}
-use Rattle.b67_stack.specs.Represents.{Storage, Content, StacksLie, RepresentsObject, Owned, Represents, info_of}
+use Rattle.b67_stack.specs.Common.{Location, Fits, nowhere, words, PagedObject, MachineView, home_word, slot_base, stack_of, Storage, Content, StacksLie, RepresentsObject, Owned, Represents, info_of}
 use Rattle.b67_stack.proofs.Lies.{Lie-each}
 use Rattle.b67_stack.proofs.Helds.{held-other, held-same}
 use Rattle.b67_layout_storage.proofs.Words.{copy_other}

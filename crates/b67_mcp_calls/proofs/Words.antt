@@ -7,22 +7,11 @@ use Rattle.b67_word.specs.Tagged.{word}
 use Rattle.b67_word.specs.Operands.{is_whole, number_of}
 use Rattle.b67_word.specs.declared.faults.Fault.TheVariants.{Exponent}
 use Rattle.b67_area.specs.declared.Kind.TheVariants as kind
-use Rattle.b67_model.specs.Answers.{Answer, ◌>>=◌}
-use Rattle.b67_model.specs.Words.{number}
-use Rattle.b67_model.specs.Arrays.{array}
-use Rattle.b67_model.specs.State.{Array, Task, SessionJob}
-use Rattle.b67_model.specs.Intrinsics.{numbers_of}
-use Rattle.b67_model.specs.Run.{number_of as number_of_member}
-use Rattle.b67_model.specs.Schedule.{Session}
-use Rattle.b67_layout.specs.Orders.{IsInOrderButCounts}
+use Rattle.b67_model.specs.Common.{Answer, ◌>>=◌, number, array, Array, Task, SessionJob, numbers_of, number_of as number_of_member, Session}
+use Rattle.b67_layout.specs.Common.{IsInOrderButCounts, Placement, array_object, IsRunning, RepresentsSession, area_held}
 use Rattle.b67_stack.specs.declared.Cpu.{Cpu}
-use Rattle.b67_stack.specs.Shapes.{LieUpward}
-use Rattle.b67_stack.specs.Represents.{Storage, Content}
+use Rattle.b67_stack.specs.Common.{LieUpward, Storage, Content}
 use Rattle.b67_stack.proofs.Lies.{upward-range}
-use Rattle.b67_layout.specs.Placement.{Placement}
-use Rattle.b67_layout.specs.Layout.{array_object}
-use Rattle.b67_layout.specs.Session.{IsRunning, RepresentsSession}
-use Rattle.b67_layout.specs.Meets.{area_held}
 use Rattle.b67_exec_cells.proofs.Replaced.{array_object-has}
 use Rattle.b67_exec_cells.specs.Elements.{HasElement}
 use Rattle.b67_exec_cells.proofs.Arrays.{array_is, tag_by}

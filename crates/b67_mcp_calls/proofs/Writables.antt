@@ -10,22 +10,13 @@ use Rattle.b67_word.specs.declared.faults.Fault.{Fault}
 use Rattle.b67_word.specs.declared.faults.Fault.TheVariants.{InvalidOperand, MemoryProtect, CriticalBlock}
 use Rattle.b67_ctl.specs.declared.descriptors.DataDesc.{DataDesc}
 use Rattle.b67_lemmas.specs.Lists.{Has}
-use Rattle.b67_model.specs.Answers.{Answer, ◌>>=◌, ◌>>◌}
+use Rattle.b67_model.specs.Common.{Answer, ◌>>=◌, ◌>>◌, Word, Operand, Name, Ref, Row, Element, Original, Proc, Intrinsic, number, array, with_array, resized, Array, Task, SessionJob, height, top, below_top, Done, is_critical, is_original, row_copy, array_length, needs_writable, answers, deallocate, resize, Session}
 use Rattle.b67_model.specs.Words as Words
-use Rattle.b67_model.specs.Words.{Word, Operand, Name, Ref, Row, Element, Original, Proc, Intrinsic, number, whole}
-use Rattle.b67_model.specs.Arrays.{array, with_array, resized}
-use Rattle.b67_model.specs.State.{Array, Task, SessionJob, height, top, below_top}
-use Rattle.b67_model.specs.Steps.{Done, is_critical}
-use Rattle.b67_model.specs.Intrinsics.{is_original, row_copy, array_length, needs_writable, answers, deallocate, resize}
-use Rattle.b67_model.specs.Schedule.{Session}
+use Rattle.b67_model.specs.Words.{whole}
 use Rattle.b67_stack.specs.declared.Cpu.{Cpu}
 use Rattle.b67_stack.specs.Represents.{Storage}
-use Rattle.b67_layout.specs.Orders.{IsInOrderButCounts}
-use Rattle.b67_layout.specs.Placement.{Placement}
-use Rattle.b67_layout.specs.Session.{IsRunning, RepresentsSession}
-use Rattle.b67_layout.specs.Meets.{here}
+use Rattle.b67_layout.specs.Common.{IsInOrderButCounts, Placement, IsRunning, RepresentsSession, here, cells}
 use Rattle.b67_exec_cells.specs.Elements.{HasElement, original_desc}
-use Rattle.b67_layout.specs.Tops.{cells}
 use Rattle.b67_exec_cells.specs.Tops.{GivesTwo}
 use Rattle.b67_exec_cells.proofs.Arrays.{array_is, absent, present}
 use Rattle.b67_exec_operands.proofs.Rows.{operand_seen}

@@ -2,10 +2,7 @@
 use Rattle.std.specs.Prelude.{◌≡◌, ℤ, List, [], ◌∷◌, None, Result, Ok, Err}
 use Rattle.b67_word.specs.declared.couples.Place.{Place}
 use Rattle.b67_word.specs.declared.faults.Fault.{Fault}
-use Rattle.b67_model.specs.Words.{Word}
-use Rattle.b67_model.specs.State.{Task, SessionJob}
-use Rattle.b67_model.specs.Steps.{Value, Goes}
-use Rattle.b67_model.specs.Intrinsics.{print}
+use Rattle.b67_model.specs.Common.{Word, Task, SessionJob, Value, Goes, print}
 use Rattle.b67_layout.specs.Meets.{here}
 pub use Rattle.b67_exec_calls.specs.Calls.{IsCall, MayCut, job_cut, CutSome, CallSome, OnlyCell, number_in}
 

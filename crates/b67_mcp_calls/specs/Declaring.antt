@@ -3,11 +3,7 @@ use Rattle.std.specs.Prelude.{◌≡◌, ℕ, ◌+◌, ◌<◌, ◌^◌, ◌==�
 use Rattle.b67_word.specs.Tagged.{Tagged}
 use Rattle.b67_word.specs.declared.faults.Fault.{Fault}
 use Rattle.b67_word.specs.declared.couples.Place.{Place}
-use Rattle.b67_model.specs.Answers.{Answer, ◌>>=◌}
-use Rattle.b67_model.specs.Words.{Word, Original}
-use Rattle.b67_model.specs.State.{Array, Task, Job, SessionJob, top, below_top, with_task}
-use Rattle.b67_model.specs.Steps.{Goes}
-use Rattle.b67_model.specs.Intrinsics.{answered, array_length, arraydec}
+use Rattle.b67_model.specs.Common.{Answer, ◌>>=◌, Word, Original, Array, Task, Job, SessionJob, top, below_top, with_task, Goes, answered, array_length, arraydec}
 use Rattle.b67_stack.specs.Shapes.{nowhere}
 use Rattle.b67_stack.specs.Represents.{Storage}
 use Rattle.b67_layout_storage.specs.Machine.{holding}

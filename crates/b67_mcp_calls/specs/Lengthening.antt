@@ -3,14 +3,9 @@ use Rattle.std.specs.Prelude.{◌≡◌, ◌≢◌, ℕ, ◌<◌, ◌^◌, true,
 use Rattle.b67_word.specs.declared.couples.Place.{Place}
 use Rattle.b67_word.specs.declared.faults.Fault.{Fault}
 use Rattle.b67_lemmas.specs.Lists.{Has}
-use Rattle.b67_model.specs.Words.{Word}
-use Rattle.b67_model.specs.State.{Array, Task, Job, SessionJob, with_task}
-use Rattle.b67_model.specs.Arrays.{with_array, all_zero, resized}
-use Rattle.b67_model.specs.Steps.{Goes}
-use Rattle.b67_model.specs.Intrinsics.{answered, deallocate, resize}
+use Rattle.b67_model.specs.Common.{Word, Array, Task, Job, SessionJob, with_task, with_array, all_zero, resized, Goes, answered, deallocate, resize}
 use Rattle.b67_stack.specs.Represents.{Storage}
-use Rattle.b67_layout.specs.Placement.{Placement}
-use Rattle.b67_layout.specs.Meets.{here, area_held}
+use Rattle.b67_layout.specs.Common.{Placement, here, area_held}
 use Rattle.b67_mcp_calls.specs.Calls.{MayCut}
 use Rattle.b67_mcp_calls.specs.declared.resize.Resizing.{Resizing}
 use Rattle.b67_mcp_calls.specs.declared.resize.Resizing.TheVariants as resizing

@@ -4,14 +4,9 @@ use Rattle.std.specs.List.{AllByRecursion}
 use Rattle.b67_word.specs.Tagged.{Tagged, word}
 use Rattle.b67_word.specs.declared.couples.Place.{Place}
 use Rattle.b67_word.specs.declared.faults.Fault.{Fault}
-use Rattle.b67_model.specs.Words.{Word, Operand}
-use Rattle.b67_model.specs.State.{Task, Job, SessionJob}
-use Rattle.b67_model.specs.Steps.{Goes}
-use Rattle.b67_model.specs.Intrinsics.{read_from, read}
+use Rattle.b67_model.specs.Common.{Word, Operand, Task, Job, SessionJob, Goes, read_from, read}
 use Rattle.b67_stack.specs.declared.Cpu.{Cpu}
-use Rattle.b67_layout.specs.Placement.{Placement}
-use Rattle.b67_layout.specs.Rows.{JobShows}
-use Rattle.b67_layout.specs.Meets.{here}
+use Rattle.b67_layout.specs.Common.{Placement, JobShows, here}
 use Rattle.b67_task_tables.specs.declared.tables.JobRow.{JobRow}
 use Rattle.b67_task_tables.specs.Tables.{job_row}
 use Rattle.b67_mcp_calls.specs.Calls.{CallSome, MayCut}

@@ -4,13 +4,9 @@ use Rattle.b67_word.specs.Tagged.{Tagged}
 use Rattle.b67_word.specs.declared.couples.Place.{Place}
 use Rattle.b67_word.specs.declared.faults.Fault.{Fault}
 use Rattle.b67_lemmas.specs.Lists.{Has}
-use Rattle.b67_model.specs.Words.{Word, Row}
-use Rattle.b67_model.specs.State.{Array, Task, SessionJob}
-use Rattle.b67_model.specs.Steps.{Values, Goes}
-use Rattle.b67_model.specs.Intrinsics.{printrow}
+use Rattle.b67_model.specs.Common.{Word, Row, Array, Task, SessionJob, Values, Goes, printrow}
 use Rattle.b67_stack.specs.Represents.{Storage}
-use Rattle.b67_layout.specs.Placement.{Placement}
-use Rattle.b67_layout.specs.Meets.{here, area_held}
+use Rattle.b67_layout.specs.Common.{Placement, here, area_held}
 use Rattle.b67_exec_cells.specs.Elements.{HasElement}
 use Rattle.b67_mcp_calls.specs.Calls.{MayCut, job_cut}
 use Rattle.b67_mcp_calls.specs.Texts.{values_of}

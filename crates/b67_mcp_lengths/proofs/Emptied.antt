@@ -13,10 +13,7 @@ use Rattle.b67_area.proofs.Separation.{IsDirectory-set_below}
 use Rattle.b67_backing.specs.Shelf.{Table, IsShelf}
 use Rattle.b67_lemmas.specs.Lists.{Has}
 use Rattle.b67_ctl.specs.declared.registers.Regs.{Regs}
-use Rattle.b67_stack.specs.Shapes.{nowhere}
-use Rattle.b67_stack.specs.MachineView.{PagedObject, MachineView, slot_base, home_word_of, AreZero}
-use Rattle.b67_stack.specs.Represents.{Storage, Represents, info_of}
-use Rattle.b67_stack.specs.HeldOtherwise.{Stayed, TakesPlace}
+use Rattle.b67_stack.specs.Common.{nowhere, PagedObject, MachineView, slot_base, home_word_of, AreZero, Storage, Represents, info_of, Stayed, TakesPlace}
 use Rattle.b67_layout_storage.specs.Machine.{IsPresent}
 use Rattle.b67_stack.proofs.Unchanged.{area_of_object, home_below}
 use Rattle.b67_layout_storage.proofs.Words.{StacksLie-home, original_word}

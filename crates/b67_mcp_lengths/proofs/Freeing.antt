@@ -12,11 +12,8 @@ use Rattle.b67_ctl.specs.declared.descriptors.DataDesc.{DataDesc}
 use Rattle.b67_ctl.specs.Descriptors.{data_word, IsDataDesc}
 use Rattle.b67_area.specs.declared.Kind.{Kind}
 use Rattle.b67_area.specs.declared.Kind.TheVariants.{Array}
-use Rattle.b67_stack.specs.Shapes.{Location}
-use Rattle.b67_stack.specs.MachineView.{PagedObject, MachineView, home_desc, home_word_of}
-use Rattle.b67_stack.specs.Represents.{Storage, Represents, ObjectHasChain}
+use Rattle.b67_stack.specs.Common.{Location, PagedObject, MachineView, home_desc, home_word_of, Storage, Represents, ObjectHasChain, ChainStays}
 use Rattle.b67_stack.proofs.Homes.{chain_small}
-use Rattle.b67_stack.specs.HeldOtherwise.{ChainStays}
 use Rattle.b67_stack.proofs.Unchanged.{area_bounds}
 use Rattle.b67_layout_storage.proofs.Chained.{Content-chain}
 use Rattle.b67_mcp_lengths.specs.Lengths.{IsArray, IsChain, freed_chain}

@@ -16,10 +16,7 @@ use Rattle.b67_backing.specs.Held.{SameBut, sectors_for}
 use Rattle.b67_backing.specs.Extending.{extended, sectors_more, Prolongs, ExtendMeets, KeepsDevice}
 use Rattle.b67_lemmas.specs.Lists.{Has}
 use Rattle.b67_ctl.specs.declared.registers.Regs.{Regs}
-use Rattle.b67_stack.specs.Shapes.{Location}
-use Rattle.b67_stack.specs.MachineView.{PagedObject, MachineView, slot_base, home_word_of, words_of, tag_of}
-use Rattle.b67_stack.specs.Represents.{Storage, Represents, HoldsIn, Content, Told, info_of}
-use Rattle.b67_stack.specs.HeldOtherwise.{with_held, TakesPlace}
+use Rattle.b67_stack.specs.Common.{Location, PagedObject, MachineView, slot_base, home_word_of, words_of, tag_of, Storage, Represents, HoldsIn, Content, Told, info_of, with_held, TakesPlace}
 use Rattle.b67_layout_storage.specs.Machine.{IsPresent, DeviceAfterCalls, Says, content_after}
 use Rattle.b67_overlay.specs.Spans.{MachineCanPage}
 use Rattle.b67_stack.proofs.Unchanged.{area_of_object, home_below}

@@ -18,12 +18,8 @@ use Rattle.b67_area.proofs.Separation.{IsDirectory-set_below}
 use Rattle.b67_backing.specs.Shelf.{Table, IsShelf}
 use Rattle.b67_lemmas.specs.Lists.{Has}
 use Rattle.b67_ctl.specs.declared.registers.Regs.{Regs}
-use Rattle.b67_stack.specs.Shapes.{Location, Locations, Shape, Is, Original, Copy, IsOriginal, Fits, LieUpward}
-use Rattle.b67_stack.specs.Stacks.{words}
-use Rattle.b67_stack.specs.MachineView.{PagedObject, MachineView, slot_base, stack_of, home_word_of, words_of, tag_of}
-use Rattle.b67_stack.specs.Represents.{Storage, Represents, StacksLie, Content, KeptChain, info_of}
+use Rattle.b67_stack.specs.Common.{Location, Locations, Shape, Is, Original, Copy, IsOriginal, Fits, LieUpward, words, PagedObject, MachineView, slot_base, stack_of, home_word_of, words_of, tag_of, Storage, Represents, StacksLie, Content, KeptChain, info_of, Stayed, with_held, TakesPlace}
 use Rattle.b67_stack.proofs.Lies.{Lie-each, Upward-same}
-use Rattle.b67_stack.specs.HeldOtherwise.{Stayed, with_held, TakesPlace}
 use Rattle.b67_layout_storage.specs.Machine.{IsPresent}
 use Rattle.b67_layout_storage.proofs.Below.{stacks_low, not_heads}
 use Rattle.b67_stack.proofs.Helds.{held-other, held-same}

@@ -9,10 +9,7 @@ use Rattle.b67_backing.specs.declared.SpaceFault.{SpaceFault}
 use Rattle.b67_backing.specs.declared.SpaceFault.TheVariants as spaces
 use Rattle.b67_lemmas.specs.Lists.{Has}
 use Rattle.b67_stack.specs.declared.Cpu.{Cpu}
-use Rattle.b67_stack.specs.Shapes.{nowhere}
-use Rattle.b67_stack.specs.MachineView.{PagedObject, MachineView}
-use Rattle.b67_stack.specs.Represents.{Storage}
-use Rattle.b67_stack.specs.HeldOtherwise.{with_held, TakesPlace}
+use Rattle.b67_stack.specs.Common.{nowhere, PagedObject, MachineView, Storage, with_held, TakesPlace}
 use Rattle.b67_layout_storage.specs.Machine.{content_after}
 use Rattle.b67_overlay.specs.Spans.{MachineCanPage}
 

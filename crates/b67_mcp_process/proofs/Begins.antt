@@ -10,37 +10,22 @@ use Rattle.b67_lemmas.proofs.Members.{all_in, falls_low, has_map, has_reverse_ba
 use Rattle.b67_lemmas.proofs.Keyed.{change_is, all_change}
 use Rattle.b67_lemmas.proofs.Sums.{sum_total}
 use Rattle.b67_model.specs.Keyed.{change_keyed}
-use Rattle.b67_model.specs.Words.{Word, Operand, Proc}
-use Rattle.b67_model.specs.State.{Frame, Standing, Task, Job, SessionJob, top, below_top}
-use Rattle.b67_model.specs.Steps.{is_critical}
-use Rattle.b67_model.specs.Run.{number_of, live_tasks}
-use Rattle.b67_model.specs.InOrder.{Starts, IsSegment, Known, known_of, outer_of, reach_of, known_numbers, IsEntered, EnvironmentInOrder, NumberedFrom}
-use Rattle.b67_model.specs.Intrinsics.{is_original}
-use Rattle.b67_model.specs.Schedule.{Session}
+use Rattle.b67_model.specs.Common.{Word, Operand, Proc, Frame, Standing, Task, Job, SessionJob, top, below_top, is_critical, number_of, live_tasks, Starts, IsSegment, Known, known_of, outer_of, reach_of, known_numbers, IsEntered, EnvironmentInOrder, NumberedFrom, is_original, Session}
 use Rattle.b67_law_order.proofs.Looks.{below_marked}
 use Rattle.b67_law_order.proofs.Reaches.{Wider}
 use Rattle.b67_law_order_rows.proofs.Cells.{plain_word}
 use Rattle.b67_law_order_rows.proofs.Children.{word_any}
-use Rattle.b67_layout.specs.Orders.{JobInOrderButCounts, IsInOrderButCounts}
+use Rattle.b67_layout.specs.Common.{JobInOrderButCounts, IsInOrderButCounts, Placement, IsRunning, with_job, cells, peak_with, moved}
 use Rattle.b67_stack.specs.Represents.{Storage}
-use Rattle.b67_layout.specs.Placement.{Placement}
-use Rattle.b67_layout.specs.Session.{IsRunning}
-use Rattle.b67_layout.specs.Meets.{with_job}
-use Rattle.b67_layout.proofs.Fresh.{running_in_order}
-use Rattle.b67_layout.proofs.MachineViews.{member-same}
-use Rattle.b67_layout.proofs.Awaits.{with_job-twice}
-use Rattle.b67_layout.proofs.LeftSettles.{numbered_course}
+use Rattle.b67_layout.proofs.Common.{running_in_order, member-same, with_job-twice, numbered_course}
 use Rattle.b67_entry_enter.proofs.Sites.{Site, site}
-use Rattle.b67_layout.specs.Tops.{cells}
 use Rattle.b67_exec_calls.specs.Calls.{MayCut}
 use Rattle.b67_exec_calls.specs.Answered.{job_answered}
 use Rattle.b67_exec_calls.proofs.Cuts.{Cut, cut_of}
 use Rattle.b67_fetch.proofs.Values.{here_scene}
 use Rattle.b67_task_need.specs.Needing.{need_with}
 use Rattle.b67_task_need.proofs.Needs.{follow_all}
-use Rattle.b67_layout.specs.Peaks.{peak_with}
 use Rattle.b67_task_start.specs.Opening.{IsLowestFree, slot_end}
-use Rattle.b67_layout.specs.Moved.{moved}
 use Rattle.b67_task_start.specs.Starts.{MayStart, arguments, child, with_child}
 use Rattle.b67_task_start.proofs.Begins.{has_slot}
 use Rattle.b67_task_start.proofs.Opens.{lowest_low}

@@ -12,24 +12,14 @@ use Rattle.b67_ctl.specs.Descriptors.{data_word, IsDataDesc}
 use Rattle.b67_lemmas.specs.Lists.{Has}
 use Rattle.b67_lemmas.proofs.Members.{all_in, has_append_right}
 use Rattle.b67_model.specs.Words as Words
-use Rattle.b67_model.specs.Words.{Word, Operand, Name, Ref, Row, Element, Original, Proc, Intrinsic}
-use Rattle.b67_model.specs.State.{Frame, Array, Task, SessionJob, top}
-use Rattle.b67_model.specs.Intrinsics.{is_original}
-use Rattle.b67_model.specs.InOrder.{Starts, IsSegment, Known, known_of, outer_of, WordInOrder, FramesInOrder}
-use Rattle.b67_model.specs.Schedule.{Session}
-use Rattle.b67_layout.specs.Orders.{IsInOrderButCounts}
+use Rattle.b67_model.specs.Common.{Word, Operand, Name, Ref, Row, Element, Original, Proc, Intrinsic, Frame, Array, Task, SessionJob, top, is_original, Starts, IsSegment, Known, known_of, outer_of, WordInOrder, FramesInOrder, Session}
+use Rattle.b67_layout.specs.Common.{IsInOrderButCounts, Placement, machine_view, IsRunning, RepresentsSession, IsWordOf, cells}
 use Rattle.b67_stack.specs.declared.Cpu.{Cpu}
-use Rattle.b67_stack.specs.Shapes.{Fits}
-use Rattle.b67_stack.specs.Stacks.{top_mark}
-use Rattle.b67_stack.specs.Represents.{Storage}
-use Rattle.b67_layout.specs.Placement.{Placement}
-use Rattle.b67_layout.specs.Layout.{machine_view}
-use Rattle.b67_layout.specs.Session.{IsRunning, RepresentsSession}
+use Rattle.b67_stack.specs.Common.{Fits, top_mark, Storage}
 use Rattle.b67_layout.proofs.Fresh.{running_in_order}
 use Rattle.b67_refer.specs.RunningContext.{RunningContext, live_of}
 use Rattle.b67_entry_enter.specs.Procedures.{ReachesProc}
 use Rattle.b67_refer.proofs.Links.{Described, own, row, item}
-use Rattle.b67_layout.specs.Tops.{IsWordOf, cells}
 use Rattle.b67_exec_cells.proofs.Put as Put
 use Rattle.b67_exec_cells.proofs.Replaced.{word_under}
 use Rattle.b67_fetch.specs.Fetches.{IsFollowed}

@@ -8,18 +8,12 @@ use Rattle.std.proofs.lemmas.Option.{get_or_from_slice_get, same_Some}
 use Rattle.b67_lemmas.specs.Lists.{Has}
 use Rattle.b67_lemmas.proofs.Places.{drop-get, get_within}
 use Rattle.b67_lemmas.proofs.Members.{has_flat, has_flat_back, has_map, has_map_back}
-use Rattle.b67_model.specs.State.{Task, SessionJob}
+use Rattle.b67_model.specs.Common.{Task, SessionJob, number_of, Session}
 use Rattle.b67_model.specs.Keyed.{keyed}
-use Rattle.b67_model.specs.Run.{number_of}
-use Rattle.b67_model.specs.Schedule.{Session}
 use Rattle.b67_law_order.proofs.Numbered.{keyed_member}
-use Rattle.b67_layout.specs.Orders.{IsInOrderButCounts}
-use Rattle.b67_layout.specs.Placement.{Placement, slot_of}
+use Rattle.b67_layout.specs.Common.{IsInOrderButCounts, Placement, slot_of, Differ, TablesShow, RowsFit}
 use Rattle.b67_layout.specs.Rows as rows
-use Rattle.b67_layout.specs.Rows.{Differ, TablesShow}
-use Rattle.b67_layout.specs.Session.{RowsFit}
-use Rattle.b67_layout.proofs.Counting.{not_more, slots_of}
-use Rattle.b67_layout.proofs.LiveRows.{jobs_differ}
+use Rattle.b67_layout.proofs.Common.{not_more, slots_of, jobs_differ}
 use Rattle.b67_task_tables.specs.declared.tables.TaskRow.{TaskRow}
 use Rattle.b67_task_tables.specs.declared.tables.Tasks.{Tasks}
 use Rattle.b67_task_tables.specs.Tables.{task_row, TasksShow}

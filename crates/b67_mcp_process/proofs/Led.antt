@@ -7,21 +7,12 @@ use Rattle.b67_word.specs.declared.faults.Fault.{Fault}
 use Rattle.b67_word.specs.declared.faults.Fault.TheVariants.{InvalidOperand}
 use Rattle.b67_lemmas.specs.Lists.{Has}
 use Rattle.b67_lemmas.proofs.Members.{all_from, any_none, has_append_cases}
-use Rattle.b67_model.specs.Answers.{Answer}
+use Rattle.b67_model.specs.Common.{Answer, Word, Operand, Name, Ref, Row, Element, Original, Proc, Intrinsic, Task, SessionJob, AtCell, AtElement, AtArray, AtProc, AtIntrinsic, follow, is_original, IsSegment, reach_of, Session}
 use Rattle.b67_model.specs.Words as Words
-use Rattle.b67_model.specs.Words.{Word, Operand, Name, Ref, Row, Element, Original, Proc, Intrinsic}
-use Rattle.b67_model.specs.State.{Task, SessionJob}
 use Rattle.b67_model.specs.Chase as Chase
-use Rattle.b67_model.specs.Chase.{AtCell, AtElement, AtArray, AtProc, AtIntrinsic, follow}
-use Rattle.b67_model.specs.Intrinsics.{is_original}
-use Rattle.b67_model.specs.InOrder.{IsSegment, reach_of}
-use Rattle.b67_model.specs.Schedule.{Session}
-use Rattle.b67_layout.specs.Orders.{IsInOrderButCounts}
+use Rattle.b67_layout.specs.Common.{IsInOrderButCounts, Placement, spots, IsRunning, RepresentsSession, here, cells}
 use Rattle.b67_stack.specs.declared.Cpu.{Cpu}
 use Rattle.b67_stack.specs.Represents.{Storage}
-use Rattle.b67_layout.specs.Placement.{Placement, spots}
-use Rattle.b67_layout.specs.Session.{IsRunning, RepresentsSession}
-use Rattle.b67_layout.specs.Meets.{here}
 use Rattle.b67_layout.proofs.Fresh.{running_in_order}
 use Rattle.b67_refer.specs.declared.ends.End.{End}
 use Rattle.b67_refer.specs.declared.ends.End.TheVariants as end
@@ -31,7 +22,6 @@ use Rattle.b67_law_order.proofs.Follows.{follow_same}
 use Rattle.b67_entry_enter.specs.Procedures.{ReachesProc}
 use Rattle.b67_entry_enter.proofs.Firsts.{refers, refers_not}
 use Rattle.b67_entry_enter.proofs.Leads.{ProcFound, proc_found, fault_found}
-use Rattle.b67_layout.specs.Tops.{cells}
 use Rattle.b67_exec_calls.specs.Calls.{IsCall}
 use Rattle.b67_fetch.specs.Fetches.{IsFollowed}
 use Rattle.b67_fetch.proofs.Values.{here_scene}

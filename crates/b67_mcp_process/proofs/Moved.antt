@@ -7,13 +7,10 @@ use Rattle.b67_ctl.specs.declared.registers.Regs.{Regs}
 use Rattle.b67_model.specs.State.{SessionJob}
 use Rattle.b67_model.specs.Schedule.{Session}
 use Rattle.b67_stack.specs.declared.Cpu.{Cpu}
-use Rattle.b67_stack.specs.Represents.{Storage, Represents}
-use Rattle.b67_layout.specs.Orders.{IsInOrderButCounts}
-use Rattle.b67_layout.specs.Placement.{Placement}
-use Rattle.b67_layout.specs.Layout.{machine_view}
+use Rattle.b67_stack.specs.Common.{Storage, Represents, Stayed}
+use Rattle.b67_layout.specs.Common.{IsInOrderButCounts, Placement, machine_view}
 use Rattle.b67_layout.proofs.Alike.{AllAlike}
 use Rattle.b67_layout.proofs.Paged.{RepresentsSession-over}
-use Rattle.b67_stack.specs.HeldOtherwise.{Stayed}
 use Rattle.b67_layout_storage.specs.Machine.{PagingKeeps, Says, content_after}
 use Rattle.b67_overlay.specs.Spans.{MachineCanPage}
 use Rattle.b67_layout_storage.proofs.Untold.{untold, Represents-untold}

@@ -7,13 +7,7 @@ use Rattle.std.proofs.lemmas.List.{length-reverse, reverse-reverse}
 use Rattle.b67_word.specs.declared.couples.Place.{Place}
 use Rattle.b67_word.specs.declared.faults.Fault.{Fault}
 use Rattle.b67_word.specs.declared.faults.Fault.TheVariants.{InvalidOperand, StackOverflow, CriticalBlock}
-use Rattle.b67_model.specs.Answers.{Answer, ◌>>=◌, ◌>>◌, needs}
-use Rattle.b67_model.specs.Words.{Word, Operand}
-use Rattle.b67_model.specs.State.{Task, SessionJob, OperatorContext, top, below_top, frame, height, with_top_cells}
-use Rattle.b67_model.specs.Environment.{level_of_frame}
-use Rattle.b67_model.specs.Chase.{End, AtCell, AtElement, AtArray, AtProc, AtIntrinsic, follow, follow_reference}
-use Rattle.b67_model.specs.Steps.{Done, is_critical}
-use Rattle.b67_model.specs.Intrinsics.{is_original, child_of, starts, process}
+use Rattle.b67_model.specs.Common.{Answer, ◌>>=◌, ◌>>◌, needs, Word, Operand, Task, SessionJob, OperatorContext, top, below_top, frame, height, with_top_cells, level_of_frame, End, AtCell, AtElement, AtArray, AtProc, AtIntrinsic, follow, follow_reference, Done, is_critical, is_original, child_of, starts, process}
 use Rattle.b67_layout.specs.Meets.{here}
 use Rattle.b67_refer.specs.Ends.{IsReference}
 use Rattle.b67_layout.specs.Tops.{cells}

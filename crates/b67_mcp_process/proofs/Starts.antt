@@ -10,23 +10,12 @@ use Rattle.b67_word.specs.declared.faults.Fault.{Fault}
 use Rattle.b67_backing.specs.declared.SpaceFault.{SpaceFault}
 use Rattle.b67_backing.specs.declared.SpaceFault.TheVariants.{NoCore, BackingFull, BackingFault}
 use Rattle.b67_lemmas.proofs.Members.{all_from, has_get, keyed_has, length_change}
-use Rattle.b67_model.specs.Answers.{Answer}
-use Rattle.b67_model.specs.Words.{Word, Operand}
-use Rattle.b67_model.specs.State.{Task, Job, SessionJob}
-use Rattle.b67_model.specs.Steps.{Done, Goes}
-use Rattle.b67_model.specs.Run.{number_of, live_tasks}
-use Rattle.b67_model.specs.Intrinsics.{is_original, answered, process}
-use Rattle.b67_model.specs.Schedule.{Session}
-use Rattle.b67_layout.specs.Orders.{IsInOrderButCounts}
+use Rattle.b67_model.specs.Common.{Answer, Word, Operand, Task, Job, SessionJob, Done, Goes, number_of, live_tasks, is_original, answered, process, Session}
+use Rattle.b67_layout.specs.Common.{IsInOrderButCounts, Placement, IsRunning, here, with_job, cells, moved}
 use Rattle.b67_stack.specs.Represents.{Storage}
-use Rattle.b67_layout.specs.Placement.{Placement}
-use Rattle.b67_layout.specs.Session.{IsRunning}
-use Rattle.b67_layout.specs.Meets.{here, with_job}
-use Rattle.b67_layout.specs.Tops.{cells}
 use Rattle.b67_exec_calls.specs.Answered.{job_answered}
 use Rattle.b67_task_need.specs.Needing.{need_with}
 use Rattle.b67_task_start.specs.Opening.{IsLowestFree, slot_end}
-use Rattle.b67_layout.specs.Moved.{moved}
 use Rattle.b67_task_start.specs.Starts.{MayStart, arguments, child}
 use Rattle.b67_task_start.proofs.Rows.{job_row_of}
 use Rattle.b67_task_tables.specs.declared.tables.Machine.{Machine}

@@ -4,16 +4,9 @@ use Rattle.b67_word.specs.declared.couples.Place.{Place}
 use Rattle.b67_word.specs.declared.faults.Fault.{Fault}
 use Rattle.b67_word.specs.declared.faults.Fault.TheVariants.{StackOverflow}
 use Rattle.b67_lemmas.specs.Lists.{Has}
-use Rattle.b67_model.specs.Answers.{Answer, ◌>>◌, needs}
-use Rattle.b67_model.specs.Words.{Word, Operand}
-use Rattle.b67_model.specs.State.{Task, Job, SessionJob, OperatorContext, with_task}
-use Rattle.b67_model.specs.Steps.{Done, Goes}
-use Rattle.b67_model.specs.Entry.{needs_level}
-use Rattle.b67_model.specs.Intrinsics.{is_original, answered, needs_free, process}
+use Rattle.b67_model.specs.Common.{Answer, ◌>>◌, needs, Word, Operand, Task, Job, SessionJob, OperatorContext, with_task, Done, Goes, needs_level, is_original, answered, needs_free, process}
 use Rattle.b67_stack.specs.declared.Cpu.{Cpu}
-use Rattle.b67_layout.specs.Placement.{Placement}
-use Rattle.b67_layout.specs.Meets.{RunsSome, here}
-use Rattle.b67_layout.specs.Tops.{cells}
+use Rattle.b67_layout.specs.Common.{Placement, RunsSome, here, cells}
 use Rattle.b67_exec_calls.specs.Calls.{MayCut}
 use Rattle.b67_task_start.specs.Starts.{IsProcCell, child, with_child}
 use Rattle.b67_mcp_process.specs.declared.asking.Asked.{Asked}

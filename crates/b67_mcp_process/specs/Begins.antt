@@ -1,9 +1,7 @@
 -- The parts of PROCESS: the tasks of the running job, the call that is answered, the task that is started.
 use Rattle.std.specs.Prelude.{◌==◌, ℕ, ◌<◌, List, length, Option, if◌then◌else◌}
 use Rattle.b67_lemmas.specs.Lists.{total}
-use Rattle.b67_model.specs.Words.{Word}
-use Rattle.b67_model.specs.State.{Job, SessionJob}
-use Rattle.b67_model.specs.Schedule.{Session}
+use Rattle.b67_model.specs.Common.{Word, Job, SessionJob, Session}
 use Rattle.b67_stack.specs.Represents.{Storage}
 use Rattle.b67_layout.specs.Placement.{Placement}
 use Rattle.b67_exec_calls.specs.Calls.{MayCut}

@@ -5,17 +5,11 @@ use Rattle.b67_word.specs.declared.couples.Place.{Place}
 use Rattle.b67_word.specs.declared.faults.Fault.{Fault}
 use Rattle.b67_backing.specs.declared.SpaceFault.{SpaceFault}
 use Rattle.b67_backing.specs.declared.SpaceFault.TheVariants.{NoCore, BackingFull, BackingFault}
-use Rattle.b67_model.specs.Words.{Word}
-use Rattle.b67_model.specs.State.{Task, Job, SessionJob}
-use Rattle.b67_model.specs.Steps.{Goes}
-use Rattle.b67_model.specs.Intrinsics.{process}
-use Rattle.b67_model.specs.Schedule.{Session}
+use Rattle.b67_model.specs.Common.{Word, Task, Job, SessionJob, Goes, process, Session}
 use Rattle.b67_stack.specs.Represents.{Storage}
-use Rattle.b67_layout.specs.Placement.{Placement}
-use Rattle.b67_layout.specs.Meets.{here}
+use Rattle.b67_layout.specs.Common.{Placement, here, moved}
 use Rattle.b67_exec_calls.specs.Calls.{IsCall}
 use Rattle.b67_task_need.specs.Needing.{need_with}
-use Rattle.b67_layout.specs.Moved.{moved}
 use Rattle.b67_task_tables.specs.declared.tables.JobRow.{JobRow}
 use Rattle.b67_task_tables.specs.declared.tables.Machine.{Machine}
 use Rattle.b67_task_tables.specs.Tables.{MachineRepresents, AreCountable}

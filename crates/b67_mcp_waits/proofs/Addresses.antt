@@ -6,15 +6,10 @@ use Rattle.std.proofs.lemmas.Option.{same_Some}
 use Rattle.b67_lemmas.specs.Lists.{Has}
 use Rattle.b67_lemmas.proofs.Members.{all_in, keyed_has}
 use Rattle.b67_model.specs.Keyed.{keyed}
-use Rattle.b67_model.specs.State.{Frame, Task, SessionJob, height}
-use Rattle.b67_model.specs.Run.{number_of}
-use Rattle.b67_model.specs.Schedule.{Session}
-use Rattle.b67_model.specs.InOrder.{IsSegment, identities, frames_named, reach_of, NamesEntered, TaskInOrder}
+use Rattle.b67_model.specs.Common.{Frame, Task, SessionJob, height, number_of, Session, IsSegment, identities, frames_named, reach_of, NamesEntered, TaskInOrder}
 use Rattle.b67_stack.specs.declared.Cpu.{Cpu}
 use Rattle.b67_stack.specs.Represents.{Storage}
-use Rattle.b67_layout.specs.Orders.{IsInOrderButCounts}
-use Rattle.b67_layout.specs.Placement.{Placement, slot_of, spots, address_of}
-use Rattle.b67_layout.specs.Session.{IsRunning, frame_address, RepresentsSession}
+use Rattle.b67_layout.specs.Common.{IsInOrderButCounts, Placement, slot_of, spots, address_of, IsRunning, frame_address, RepresentsSession}
 use Rattle.b67_layout.proofs.Rows.{task_row}
 use Rattle.b67_layout_store.proofs.Frames.{frames_under}
 use Rattle.b67_layout_store.proofs.Owners.{others_none}

@@ -3,18 +3,13 @@ use Rattle.std.proofs.Common.{◌≡◌, ◌≢◌, ℕ, suc, ℤ, List, [], ◌
 use Rattle.std.specs.List.{AllByRecursion}
 use Rattle.b67_word.specs.Tagged.{Tagged}
 use Rattle.b67_word.specs.declared.faults.Fault.TheVariants.{InvalidOperand}
-use Rattle.b67_model.specs.Answers.{Answer, ◌>>=◌}
-use Rattle.b67_model.specs.Chase.{End, follow_reference}
+use Rattle.b67_model.specs.Common.{Answer, ◌>>=◌, End, follow_reference, Word, Operand, Name, Ref, Row, Element, Original, Proc, Intrinsic, operand, number, Task, SessionJob, OperatorContext, top, is_critical, is_original, awaits, answers, status_of, waits_at, causes}
 use Rattle.b67_model.specs.Words as Words
-use Rattle.b67_model.specs.Words.{Word, Operand, Name, Ref, Row, Element, Original, Proc, Intrinsic, operand, number, whole}
-use Rattle.b67_model.specs.State.{Task, SessionJob, OperatorContext, top}
-use Rattle.b67_model.specs.Steps.{is_critical}
+use Rattle.b67_model.specs.Words.{whole}
 use Rattle.b67_model.specs.Intrinsics as rows
-use Rattle.b67_model.specs.Intrinsics.{is_original, awaits, answers, status_of, waits_at, causes}
 use Rattle.b67_stack.specs.declared.Cpu.{Cpu}
 use Rattle.b67_stack.specs.Represents.{Storage}
-use Rattle.b67_layout.specs.Placement.{Placement}
-use Rattle.b67_layout.specs.Tops.{cells, GivesTop}
+use Rattle.b67_layout.specs.Common.{Placement, cells, GivesTop}
 use Rattle.b67_layout.proofs.PlainOperands.{plain_operand}
 use Rattle.b67_exec_calls.specs.Calls.{IsCall, MayCut, number_in}
 use Rattle.b67_exec_calls.proofs.Ones.{count, one, value_is}

@@ -3,16 +3,9 @@ use Rattle.std.proofs.Common.{◌≡◌, ℕ, ◌<◌, ℤ, List, [], map, None,
 use Rattle.std.specs.Prelude.{pos, negsuc}
 use Rattle.std.proofs.lemmas.Bool.{eqb-true}
 use Rattle.b67_lemmas.proofs.Members.{any_has, falls_low, has_map}
-use Rattle.b67_model.specs.Answers.{Answer, ◌>>=◌}
-use Rattle.b67_model.specs.Words.{Word}
-use Rattle.b67_model.specs.State.{Awaits, Task, SessionJob, OperatorContext}
-use Rattle.b67_model.specs.Steps.{Waits}
-use Rattle.b67_model.specs.Schedule.{Session}
+use Rattle.b67_model.specs.Common.{Answer, ◌>>=◌, Word, Awaits, Task, SessionJob, OperatorContext, Waits, Session, is_live, names_task, awaits, answers}
 use Rattle.b67_model.specs.Intrinsics as rows
-use Rattle.b67_model.specs.Intrinsics.{is_live, names_task, awaits, answers}
-use Rattle.b67_layout.specs.Orders.{IsInOrderButCounts}
-use Rattle.b67_layout.specs.Placement.{Placement}
-use Rattle.b67_layout.specs.Session.{IsRunning}
+use Rattle.b67_layout.specs.Common.{IsInOrderButCounts, Placement, IsRunning}
 use Rattle.b67_layout.proofs.Fresh.{running_in_order}
 use Rattle.b67_mcp_waits.specs.Arguments.{number_given}
 use Rattle.b67_mcp_waits.proofs.Arguments.{await_is}

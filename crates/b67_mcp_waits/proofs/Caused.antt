@@ -12,23 +12,11 @@ use Rattle.b67_word.specs.declared.faults.Fault.TheVariants.{CriticalBlock}
 use Rattle.b67_lemmas.specs.Lists.{Has, Falls}
 use Rattle.b67_lemmas.proofs.Keyed.{change_map}
 use Rattle.b67_lemmas.proofs.Members.{falls_low, has_map, length_change}
-use Rattle.b67_model.specs.Chase.{AtCell}
-use Rattle.b67_model.specs.Words.{Word, Operand}
-use Rattle.b67_model.specs.State.{Frame, Marked, Task, Job, SessionJob, top, below_top, with_task}
-use Rattle.b67_model.specs.Cells.{with_cell}
-use Rattle.b67_model.specs.Steps.{Goes, is_critical}
-use Rattle.b67_model.specs.Intrinsics.{is_original, answered, woken_at, wakes, causes}
-use Rattle.b67_model.specs.Schedule.{Session}
-use Rattle.b67_model.specs.InOrder.{IsSegment, Known, known_of, known_numbers, outer_of, IsEntered, NamesEntered, TasksInOrder}
+use Rattle.b67_model.specs.Common.{AtCell, Word, Operand, Frame, Marked, Task, Job, SessionJob, top, below_top, with_task, with_cell, Goes, is_critical, is_original, answered, woken_at, wakes, causes, Session, IsSegment, Known, known_of, known_numbers, outer_of, IsEntered, NamesEntered, TasksInOrder}
 use Rattle.b67_stack.specs.declared.Cpu.{Cpu}
 use Rattle.b67_stack.specs.Represents.{Storage}
-use Rattle.b67_layout.specs.Orders.{IsInOrderButCounts}
-use Rattle.b67_layout.specs.Placement.{Placement}
-use Rattle.b67_layout.specs.Session.{IsRunning, frame_address, RepresentsSession}
-use Rattle.b67_layout.specs.Meets.{here, with_job}
-use Rattle.b67_layout.proofs.Fresh.{running_in_order}
-use Rattle.b67_layout.proofs.MachineViews.{member-same}
-use Rattle.b67_layout.proofs.Awaits.{with_job-twice}
+use Rattle.b67_layout.specs.Common.{IsInOrderButCounts, Placement, IsRunning, frame_address, RepresentsSession, here, with_job}
+use Rattle.b67_layout.proofs.Common.{running_in_order, member-same, with_job-twice}
 use Rattle.b67_layout_store.proofs.Frames.{put_frames, put_job, with_cell_is}
 use Rattle.b67_layout_store.proofs.Mapped.{put_task, keyed_put, critical_put}
 use Rattle.b67_layout_store.proofs.Stored.{RepresentsSession-store, still_runs}

@@ -8,28 +8,16 @@ use Rattle.b67_lemmas.specs.Lists.{Has}
 use Rattle.b67_lemmas.proofs.Members.{all_in, has_map, has_map_back, keyed_has}
 use Rattle.b67_law_order.proofs.Numbered.{keyed_member}
 use Rattle.b67_model.specs.Keyed.{keyed}
-use Rattle.b67_model.specs.Words.{Word}
+use Rattle.b67_model.specs.Common.{Word, Condition, Task, Job, SessionJob, woken_at, number_of, Session, IsSegment, frames_of_task, reach_of, NamesEntered, ConditionInOrder, TaskInOrder}
 use Rattle.b67_model.specs.State as State
-use Rattle.b67_model.specs.State.{Condition, Task, Job, SessionJob}
-use Rattle.b67_model.specs.Intrinsics.{woken_at}
-use Rattle.b67_model.specs.Run.{number_of}
-use Rattle.b67_model.specs.Schedule.{Session}
-use Rattle.b67_model.specs.InOrder.{IsSegment, frames_of_task, reach_of, NamesEntered, ConditionInOrder, TaskInOrder}
 use Rattle.b67_stack.specs.declared.Cpu.{Cpu}
 use Rattle.b67_stack.specs.Represents.{Storage}
 use Rattle.b67_stack.specs.Stacks.{StackPlace}
-use Rattle.b67_layout.specs.Orders.{IsInOrderButCounts}
-use Rattle.b67_layout.specs.Placement.{Placement, slot_of, spot_in, base_spot, spots, address_of}
+use Rattle.b67_layout.specs.Common.{IsInOrderButCounts, Placement, slot_of, spot_in, base_spot, spots, address_of, RowState, WaitsAtCell, RunningRow, shown, critical_disp, TaskShows, Differ, IsRunning, frame_address, RepresentsSession, with_job}
 use Rattle.b67_layout.specs.Rows as rows
-use Rattle.b67_layout.specs.Rows.{RowState, WaitsAtCell, RunningRow, shown, critical_disp, TaskShows, Differ}
-use Rattle.b67_layout.specs.Session.{IsRunning, frame_address, RepresentsSession}
-use Rattle.b67_layout.specs.Meets.{with_job}
-use Rattle.b67_layout.proofs.Fresh.{running_in_order}
-use Rattle.b67_layout.proofs.MachineViews.{member-same}
-use Rattle.b67_layout.proofs.Sessions.{change-has, change-kept}
+use Rattle.b67_layout.proofs.Common.{running_in_order, member-same, change-has, change-kept, live_in_order}
 use Rattle.b67_layout_store.proofs.Frames.{put_job, put_spot}
 use Rattle.b67_layout_store.proofs.Mapped.{put_task, keyed_put, spots_put}
-use Rattle.b67_layout.proofs.LiveTasks.{live_in_order}
 use Rattle.b67_task_tables.specs.declared.tables.TaskRow.{TaskRow}
 use Rattle.b67_task_tables.specs.declared.tables.TaskState.{TaskState}
 use Rattle.b67_task_tables.specs.declared.tables.TaskState.TheVariants.{Ready, Awaits, WaitsAt}

@@ -6,27 +6,17 @@ use Rattle.b67_word.specs.declared.faults.Fault.{Fault}
 use Rattle.b67_word.specs.declared.faults.Fault.TheVariants.{InvalidOperand}
 use Rattle.b67_ctl.specs.declared.registers.Regs.{Regs}
 use Rattle.std.proofs.lemmas.Bool.{eq-eqb, ne_eqb}
-use Rattle.b67_model.specs.Answers.{Answer, ◌>>=◌}
-use Rattle.b67_model.specs.Steps.{Waits}
-use Rattle.b67_model.specs.Intrinsics.{waits_at, causes, answers}
-use Rattle.b67_model.specs.Chase.{End, AtCell, AtElement, AtArray, AtProc, AtIntrinsic, follow, follow_reference}
+use Rattle.b67_model.specs.Common.{Answer, ◌>>=◌, Waits, waits_at, causes, answers, End, AtCell, AtElement, AtArray, AtProc, AtIntrinsic, follow, follow_reference, Word, Operand, Name, Ref, Row, Element, Original, Proc, Intrinsic, WaitsAt, Task, SessionJob, Session}
 use Rattle.b67_model.specs.Words as Words
-use Rattle.b67_model.specs.Words.{Word, Operand, Name, Ref, Row, Element, Original, Proc, Intrinsic}
-use Rattle.b67_model.specs.State.{WaitsAt, Task, SessionJob}
-use Rattle.b67_model.specs.Schedule.{Session}
 use Rattle.b67_stack.specs.declared.Cpu.{Cpu}
 use Rattle.b67_stack.specs.Represents.{Storage}
-use Rattle.b67_layout.specs.Orders.{IsInOrderButCounts}
-use Rattle.b67_layout.specs.Placement.{Placement}
-use Rattle.b67_layout.specs.Session.{IsRunning, frame_address, RepresentsSession}
-use Rattle.b67_layout.specs.Meets.{here}
+use Rattle.b67_layout.specs.Common.{IsInOrderButCounts, Placement, IsRunning, frame_address, RepresentsSession, here, cells}
 use Rattle.b67_layout_store.proofs.Stored.{operand_own}
 use Rattle.b67_refer.specs.declared.ends.End as ends
 use Rattle.b67_refer.specs.declared.ends.End.TheVariants as end
 use Rattle.b67_refer.specs.RunningContext.{RunningContext}
 use Rattle.b67_refer.specs.Cells.{StandsFor, IsCellAt}
 use Rattle.b67_refer.specs.Ends.{EndMeets}
-use Rattle.b67_layout.specs.Tops.{cells}
 use Rattle.b67_fetch.proofs.Values.{TopFollowed, here_scene}
 use Rattle.b67_exec_calls.specs.Calls.{IsCall}
 use Rattle.b67_exec_calls.proofs.Ones.{one}

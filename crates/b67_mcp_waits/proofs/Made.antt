@@ -3,16 +3,9 @@ use Rattle.std.proofs.Common.{◌≡◌, ℕ, ◌+◌, ◌≤◌, List, [], ◌�
 use Rattle.std.proofs.lemmas.Bool.{le-leb}
 use Rattle.b67_word.specs.declared.couples.Place.{Place}
 use Rattle.b67_word.specs.declared.faults.Fault.TheVariants.{CriticalBlock}
-use Rattle.b67_model.specs.Words.{Word}
-use Rattle.b67_model.specs.State.{Frame, Task, SessionJob, height, top, below_top, with_top_cells}
-use Rattle.b67_model.specs.Steps.{Goes, is_critical}
-use Rattle.b67_model.specs.Intrinsics.{answers}
-use Rattle.b67_model.specs.Schedule.{Session}
+use Rattle.b67_model.specs.Common.{Word, Frame, Task, SessionJob, height, top, below_top, with_top_cells, Goes, is_critical, answers, Session, number_of}
 use Rattle.b67_stack.specs.Represents.{Storage}
-use Rattle.b67_layout.specs.Orders.{IsInOrderButCounts}
-use Rattle.b67_layout.specs.Placement.{Placement}
-use Rattle.b67_layout.specs.Session.{IsRunning}
-use Rattle.b67_layout.specs.Meets.{RunsSome, here}
+use Rattle.b67_layout.specs.Common.{IsInOrderButCounts, Placement, IsRunning, RunsSome, here}
 use Rattle.b67_task_tables.specs.declared.tables.Machine.{Machine}
 use Rattle.b67_task_tables.specs.Runs.{RunsTask}
 use Rattle.b67_task_end.specs.Lives.{HasJob}
@@ -21,7 +14,6 @@ use Rattle.b67_exec_calls.specs.Answered.{job_answered}
 use Rattle.b67_mcp_waits.specs.Events.{StandsAtCall, KeepsSectors}
 use Rattle.b67_task_tables.specs.Tables.{MachineRepresents}
 use Rattle.b67_lemmas.proofs.Members.{keyed_has}
-use Rattle.b67_model.specs.Run.{number_of}
 
 abbrev pub runs_some : (k : Machine) → RunsTask k → RunsSome k.cpu
 runs_some k r = record { storage = r.storage; plan = r.plan; session = r.session; member = r.member; task = r.task; ordered = r.ordered; stands = r.stands.session; running = r.running }

@@ -10,20 +10,12 @@ use Rattle.b67_word.specs.declared.faults.Fault.TheVariants.{InvalidAddress}
 use Rattle.b67_lemmas.proofs.Members.{all_in, keyed_has, keyed_left, length_change, total_change}
 use Rattle.b67_lemmas.proofs.Keyed.{change_is, all_change}
 use Rattle.b67_lemmas.proofs.Sums.{sum_total}
-use Rattle.b67_model.specs.Answers.{Answer}
+use Rattle.b67_model.specs.Common.{Answer, Word, Operand, Frame, Condition, Ready, Awaits, WaitsAt, Task, Job, SessionJob, mcp, no_frame, frame, cell, cell_of, first_offset, with_cell, woken_at, number_of, Session, IsSegment, TasksInOrder, NumberedFrom}
 use Rattle.b67_model.specs.Keyed.{keyed, change_keyed}
-use Rattle.b67_model.specs.Words.{Word, Operand}
-use Rattle.b67_model.specs.State.{Frame, Condition, Ready, Awaits, WaitsAt, Task, Job, SessionJob, mcp, no_frame, frame}
-use Rattle.b67_model.specs.Cells.{cell, cell_of, first_offset, with_cell}
-use Rattle.b67_model.specs.Intrinsics.{woken_at}
-use Rattle.b67_model.specs.Run.{number_of}
-use Rattle.b67_model.specs.Schedule.{Session}
-use Rattle.b67_model.specs.InOrder.{IsSegment, TasksInOrder, NumberedFrom}
 use Rattle.b67_law_order.proofs.Looks.{found_frame}
 use Rattle.b67_law_order.proofs.Maps.{HoldsOperand, cell_stored, map_good, frames_refl}
 use Rattle.b67_law_order_rows.proofs.Stores.{operand_is}
-use Rattle.b67_layout.specs.Orders.{JobInOrderButCounts, IsInOrderButCounts}
-use Rattle.b67_layout.specs.Meets.{here, with_job}
+use Rattle.b67_layout.specs.Common.{JobInOrderButCounts, IsInOrderButCounts, here, with_job}
 use Rattle.b67_layout.proofs.LeftSettles.{numbered_course}
 use Rattle.b67_mcp_waits.proofs.Waking.{wake_job}
 

@@ -8,9 +8,7 @@ use Rattle.b67_word.specs.declared.couples.Place.{Place}
 use Rattle.b67_ctl.specs.declared.registers.Regs.{Regs}
 use Rattle.b67_lemmas.specs.Lists.{Has}
 use Rattle.b67_lemmas.proofs.Members.{all_in}
-use Rattle.b67_model.specs.Words.{Operand}
-use Rattle.b67_model.specs.State.{Frame, words_of, height}
-use Rattle.b67_model.specs.InOrder.{IsSegment, TaskInOrder}
+use Rattle.b67_model.specs.Common.{Operand, Frame, words_of, height, IsSegment, TaskInOrder}
 use Rattle.b67_refer.specs.RunningContext.{RunningContext, live_of}
 use Rattle.b67_refer.specs.Cells.{IsCellAt, frame_at_core}
 use Rattle.b67_refer.proofs.Seats.{seat}

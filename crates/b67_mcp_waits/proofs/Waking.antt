@@ -7,23 +7,12 @@ use Rattle.b67_lemmas.specs.Lists.{Has}
 use Rattle.b67_lemmas.proofs.Members.{has_map, has_map_back, keyed_has}
 use Rattle.b67_model.specs.Keyed.{keyed}
 use Rattle.b67_model.specs.State as State
-use Rattle.b67_model.specs.State.{Frame, Condition, Task, Job, JobProgress, SessionJob, OperatorContext, height, all_frames}
-use Rattle.b67_model.specs.Environment.{frame_at}
-use Rattle.b67_model.specs.Steps.{is_critical}
-use Rattle.b67_model.specs.Run.{number_of}
-use Rattle.b67_model.specs.Schedule.{Session}
-use Rattle.b67_model.specs.InOrder.{Known, known_of}
+use Rattle.b67_model.specs.Common.{Frame, Condition, Task, Job, JobProgress, SessionJob, OperatorContext, height, all_frames, frame_at, is_critical, number_of, Session, Known, known_of}
 use Rattle.b67_stack.specs.declared.Cpu.{Cpu}
-use Rattle.b67_stack.specs.Stacks.{StackPlace, Activation}
-use Rattle.b67_stack.specs.MachineView.{PagedObject, Slot, Running, Waiting, MachineView, NoOriginalAboveTop}
-use Rattle.b67_stack.specs.Represents.{Storage, Represents}
-use Rattle.b67_layout.specs.Placement.{Slotted, Placement, slot_of, spots, address_of}
-use Rattle.b67_layout.specs.Layout.{stack_of_task, slot_with, slot_in, slot_by, slot_at, objects_of, machine_view}
-use Rattle.b67_layout.specs.Session.{RowsFit, DictionariesFollow, RowHomes, PlanFits, RepresentsDictionary, vector_word, critical_mark, RepresentsTask, IsRunning, ShowsDisplay, SessionHolds, RepresentsSession}
-use Rattle.b67_layout.specs.Meets.{with_job}
-use Rattle.b67_layout.proofs.MachineViews.{with_course, member-same, member-other, objects-after}
-use Rattle.b67_layout.proofs.Sessions.{change-has, change-kept, running_only}
-use Rattle.b67_layout.proofs.Displays.{same_frame_at}
+use Rattle.b67_stack.specs.Common.{StackPlace, Activation, PagedObject, Slot, Running, Waiting, MachineView, NoOriginalAboveTop, Storage, Represents}
+use Rattle.b67_layout.specs.Common.{Slotted, Placement, slot_of, spots, address_of, stack_of_task, slot_with, slot_in, slot_by, slot_at, objects_of, machine_view, RowsFit, DictionariesFollow, RowHomes, PlanFits, RepresentsDictionary, vector_word, critical_mark, RepresentsTask, IsRunning, ShowsDisplay, SessionHolds, RepresentsSession, with_job}
+use Rattle.b67_layout.proofs.Common.{with_course, member-same, member-other, change-has, change-kept, running_only, same_frame_at}
+use Rattle.b67_layout.proofs.MachineViews.{objects-after}
 use Rattle.b67_task_start_stack.specs.Likes.{Like}
 use Rattle.b67_task_start_stack.proofs.Twins.{stack-twin, spots-twin, name_all}
 

@@ -5,15 +5,9 @@ use Rattle.b67_word.specs.declared.couples.Place.{Place}
 use Rattle.b67_word.specs.declared.faults.Fault.{Fault}
 use Rattle.b67_word.specs.declared.faults.Fault.TheVariants.{InvalidOperand}
 use Rattle.b67_ctl.specs.declared.registers.Regs.{Regs}
-use Rattle.b67_model.specs.Answers.{Answer}
-use Rattle.b67_model.specs.Words.{Word, Operand, whole}
-use Rattle.b67_model.specs.Cells.{cell}
-use Rattle.b67_model.specs.Chase.{End, AtCell, follow_reference}
-use Rattle.b67_model.specs.InOrder.{NamesEntered, reach_of}
-use Rattle.b67_model.specs.State.{Task, SessionJob, OperatorContext}
-use Rattle.b67_layout.specs.Placement.{Placement}
-use Rattle.b67_layout.specs.Session.{frame_address}
-use Rattle.b67_layout.specs.Meets.{here}
+use Rattle.b67_model.specs.Common.{Answer, Word, Operand, cell, End, AtCell, follow_reference, NamesEntered, reach_of, Task, SessionJob, OperatorContext}
+use Rattle.b67_model.specs.Words.{whole}
+use Rattle.b67_layout.specs.Common.{Placement, frame_address, here}
 use Rattle.b67_refer.specs.RunningContext.{RunningContext}
 use Rattle.b67_refer.specs.Cells.{IsCellAt}
 use Rattle.b67_mcp_waits.specs.declared.cells.Found.{Found}

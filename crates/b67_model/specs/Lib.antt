@@ -26,3 +26,4 @@ pub mod Sectors
 pub mod Apart
 pub mod InOrder
 pub mod Called
+pub mod Common

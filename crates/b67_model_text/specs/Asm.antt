@@ -9,10 +9,8 @@ use Rattle.b67_word.specs.declared.couples.Place.{Place}
 use Rattle.b67_word.specs.Couples.{couple_bits}
 use Rattle.b67_model.specs.declared.operators.Op.{Op}
 use Rattle.b67_model.specs.declared.operators.Op.TheVariants.{Valc, Namc, Mpcw, Brun, Brtr, Brfl}
-use Rattle.b67_model.specs.Operators.{place_at}
-use Rattle.b67_model.specs.Encoding.{has_bits, syllable_after, target_bits}
+use Rattle.b67_model.specs.Common.{place_at, has_bits, syllable_after, target_bits, Program}
 use Rattle.b67_model.specs.State as state
-use Rattle.b67_model.specs.Program.{Program}
 use Rattle.b67_model_text.specs.declared.card.Card.{Card}
 use Rattle.b67_model_text.specs.declared.assembly.Call as call
 use Rattle.b67_model_text.specs.declared.assembly.Call.TheVariants as calls

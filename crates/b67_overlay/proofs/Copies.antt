@@ -12,13 +12,9 @@ use Rattle.b67_ctl.specs.declared.registers.Regs.{Regs}
 use Rattle.b67_ctl.specs.Descriptors.{data_word, IsDataDesc}
 use Rattle.b67_lemmas.specs.Lists.{Has}
 use Rattle.b67_lemmas.proofs.Places.{get_within}
-use Rattle.b67_stack.specs.Shapes.{Shape, Is, Original, Copy, Fits, LieDownward, copy_desc, nowhere}
-use Rattle.b67_stack.specs.Stacks.{words}
-use Rattle.b67_stack.specs.MachineView.{PagedObject, MachineView, stack_of, slot_base, home_word_of}
-use Rattle.b67_stack.specs.Represents.{Storage, Represents}
+use Rattle.b67_stack.specs.Common.{Shape, Is, Original, Copy, Fits, LieDownward, copy_desc, nowhere, words, PagedObject, MachineView, stack_of, slot_base, home_word_of, Storage, Represents, Stayed}
 use Rattle.b67_stack.proofs.Heights.{words-length}
 use Rattle.b67_stack.proofs.Homes.{same_desc}
-use Rattle.b67_stack.specs.HeldOtherwise.{Stayed}
 use Rattle.b67_layout_storage.specs.Machine.{IsPresent}
 use Rattle.b67_overlay.specs.Turns.{IsCopyOf, InStack, Searched, SpansTurned, Lies}
 use Rattle.b67_overlay.specs.declared.spans.Span.{Span}

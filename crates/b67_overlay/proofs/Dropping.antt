@@ -14,13 +14,9 @@ use Rattle.b67_area.proofs.Laws.{OnlyHoles-area, OnlyHoles-below}
 use Rattle.b67_area.proofs.Separation.{IsDirectory-below_words, IsDirectory-set_below}
 use Rattle.b67_ctl.specs.declared.registers.Regs.{Regs}
 use Rattle.b67_lemmas.specs.Lists.{Has}
-use Rattle.b67_stack.specs.Shapes.{Location, Shape, Original, IsOriginal, Fits}
-use Rattle.b67_stack.specs.Stacks.{words}
-use Rattle.b67_stack.specs.MachineView.{PagedObject, MachineView, stack_of, slot_base, home_word_of}
-use Rattle.b67_stack.specs.Represents.{Storage, StacksLie, HoldsIn, info_of, Represents}
+use Rattle.b67_stack.specs.Common.{Location, Shape, Original, IsOriginal, Fits, words, PagedObject, MachineView, stack_of, slot_base, home_word_of, Storage, StacksLie, HoldsIn, info_of, Represents, Stayed, with_held}
 use Rattle.b67_stack.proofs.Heights.{words-length}
 use Rattle.b67_stack.proofs.Lies.{Lie-each}
-use Rattle.b67_stack.specs.HeldOtherwise.{Stayed, with_held}
 use Rattle.b67_layout_storage.specs.Machine.{IsPresent}
 use Rattle.b67_layout_storage.proofs.Below.{stacks_low, not_heads}
 use Rattle.b67_stack.proofs.Unchanged.{area_of_object, home_below, slot_below, base_low}

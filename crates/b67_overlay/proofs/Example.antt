@@ -9,10 +9,7 @@ use Rattle.b67_core.proofs.Writes.{slice_get-set_other}
 use Rattle.b67_ctl.specs.declared.registers.Regs.{Regs}
 use Rattle.b67_ctl.specs.Layout.{toscw_word}
 use Rattle.b67_lemmas.proofs.Members.{all_in}
-use Rattle.b67_stack.specs.Shapes.{Shape, Is, Original, Copy}
-use Rattle.b67_stack.specs.Stacks.{Activation, Entered, IsStack, stack_words, words, toscw_of}
-use Rattle.b67_stack.specs.MachineView.{MachineView, Slot, Free, Running, Waiting, SlotFits, CopiesName}
-use Rattle.b67_stack.specs.Represents.{RepresentsSlot}
+use Rattle.b67_stack.specs.Common.{Shape, Is, Original, Copy, Activation, Entered, IsStack, stack_words, words, toscw_of, MachineView, Slot, Free, Running, Waiting, SlotFits, CopiesName, RepresentsSlot}
 use Rattle.b67_overlay.specs.Turns.{Lies}
 use Rattle.b67_overlay.specs.Spans.{Kin, Families, KinFits, kin_word, ShowsFamilies}
 

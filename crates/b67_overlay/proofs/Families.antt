@@ -6,8 +6,7 @@ use Rattle.std.proofs.lemmas.Bool.{cond-true, cond-false, lt-ltb, le-ltb, eq-eqb
 use Rattle.std.proofs.lemmas.Option.{same_Some}
 use Rattle.b67_word.specs.Tagged.{Tagged, word, bits_at}
 use Rattle.b67_ctl.specs.declared.registers.Regs.{Regs}
-use Rattle.b67_stack.specs.Stacks.{stack_words}
-use Rattle.b67_stack.specs.MachineView.{MachineView, slot_base, stack_of}
+use Rattle.b67_stack.specs.Common.{stack_words, MachineView, slot_base, stack_of}
 use Rattle.b67_stack.proofs.Bases.{base-apart}
 use Rattle.b67_overlay.specs.Turns.{Lies}
 use Rattle.b67_overlay.specs.declared.spans.Span.{Span}

@@ -12,13 +12,9 @@ use Rattle.b67_ctl.specs.declared.descriptors.DataDesc.{DataDesc}
 use Rattle.b67_ctl.specs.declared.registers.Regs.{Regs}
 use Rattle.b67_ctl.specs.Descriptors.{data_word, IsDataDesc}
 use Rattle.b67_lemmas.specs.Lists.{Has}
-use Rattle.b67_stack.specs.Shapes.{Location, Locations, Copied, Shape, Is, Original, Copy, IsOriginal, IsCopy, Fits, copy_desc}
-use Rattle.b67_stack.specs.Stacks.{stack_words, words}
-use Rattle.b67_stack.specs.MachineView.{PagedObject, MachineView, Slot, Free, Running, Waiting, SlotFits, stack_of, slot_base, home_word, IsArrayAt}
-use Rattle.b67_stack.specs.Represents.{Storage, Represents, info_of}
+use Rattle.b67_stack.specs.Common.{Location, Locations, Copied, Shape, Is, Original, Copy, IsOriginal, IsCopy, Fits, copy_desc, stack_words, words, PagedObject, MachineView, Slot, Free, Running, Waiting, SlotFits, stack_of, slot_base, home_word, IsArrayAt, Storage, Represents, info_of, with_held}
 use Rattle.b67_stack.proofs.Homes.{same_desc}
 use Rattle.b67_stack.proofs.Bases.{base-apart}
-use Rattle.b67_stack.specs.HeldOtherwise.{with_held}
 use Rattle.b67_layout_storage.specs.Machine.{IsPresent}
 use Rattle.b67_stack.proofs.Helds.{held-other}
 use Rattle.b67_layout_storage.proofs.Words.{original_of_home}

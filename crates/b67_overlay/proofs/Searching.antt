@@ -6,8 +6,7 @@ use Rattle.std.proofs.lemmas.Bool.{cases_eq}
 use Rattle.std.proofs.lemmas.Option.{same_Some, none-some}
 use Rattle.b67_word.specs.Tagged.{Tagged}
 use Rattle.b67_ctl.specs.declared.registers.Regs.{Regs}
-use Rattle.b67_stack.specs.Stacks.{stack_words}
-use Rattle.b67_stack.specs.MachineView.{MachineView, stack_of, slot_base}
+use Rattle.b67_stack.specs.Common.{stack_words, MachineView, stack_of, slot_base}
 use Rattle.b67_overlay.specs.declared.spans.Span.{Span}
 use Rattle.b67_overlay.specs.Turns.{TurnsAt, InStack, SpansTurned, Lies}
 use Rattle.b67_overlay.specs.Spans.{Kin, Families, DictionariesLie, ShowsFamilies, job_at, holds, span_of_kin, span_of, up_from, whole, InSpan}

@@ -13,9 +13,7 @@ use Rattle.b67_backing.specs.Held.{sectors_for, SameBut, Stores}
 use Rattle.b67_backing.proofs.News.{chain_of-taken}
 use Rattle.b67_ctl.specs.declared.registers.Regs.{Regs}
 use Rattle.b67_lemmas.specs.Lists.{Has}
-use Rattle.b67_stack.specs.Shapes.{Locations, LieUpward}
-use Rattle.b67_stack.specs.MachineView.{PagedObject, MachineView, words_of}
-use Rattle.b67_stack.specs.Represents.{Storage, Represents, Content, KeptChain, ObjectHasChain, HoldsIn, Told, StacksLie, info_of}
+use Rattle.b67_stack.specs.Common.{Locations, LieUpward, PagedObject, MachineView, words_of, Storage, Represents, Content, KeptChain, ObjectHasChain, HoldsIn, Told, StacksLie, info_of}
 use Rattle.b67_stack.proofs.Homes.{chain_small}
 use Rattle.b67_stack.proofs.Lies.{upward-take}
 use Rattle.b67_layout_storage.specs.Machine.{IsPresent, Says, content_after}

@@ -9,9 +9,7 @@ use Rattle.b67_area.specs.Directory.{IsDirectory}
 use Rattle.b67_area.proofs.Laws.{area_inside, area_at-without}
 use Rattle.b67_backing.specs.Shelf.{Table}
 use Rattle.b67_stack.specs.declared.Cpu.{Cpu}
-use Rattle.b67_stack.specs.Shapes.{Location}
-use Rattle.b67_stack.specs.MachineView.{PagedObject, MachineView}
-use Rattle.b67_stack.specs.Represents.{Storage}
+use Rattle.b67_stack.specs.Common.{Location, PagedObject, MachineView, Storage}
 use Rattle.b67_layout_storage.specs.Machine.{IsPresent, Says, content_after}
 use Rattle.b67_overlay.specs.Spans.{MachineCanPage}
 use Rattle.b67_stack.proofs.Helds.{held-other}

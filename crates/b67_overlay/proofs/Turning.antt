@@ -8,9 +8,7 @@ use Rattle.b67_core.proofs.Writes.{slice_get-set_same, slice_get-set_other}
 use Rattle.b67_ctl.specs.declared.marks.Toscw.{Toscw}
 use Rattle.b67_ctl.specs.declared.registers.Regs.{Regs}
 use Rattle.b67_ctl.specs.Layout.{toscw_word, IsToscw}
-use Rattle.b67_stack.specs.Stacks.{Activation, stack_words, toscw_of}
-use Rattle.b67_stack.specs.MachineView.{MachineView, Slot, Free, Running, Waiting, SlotFits, stack_of, slot_base}
-use Rattle.b67_stack.specs.Represents.{Storage, RepresentsSlot, Represents}
+use Rattle.b67_stack.specs.Common.{Activation, stack_words, toscw_of, MachineView, Slot, Free, Running, Waiting, SlotFits, stack_of, slot_base, Storage, RepresentsSlot, Represents}
 use Rattle.b67_stack.proofs.Bases.{base-apart}
 use Rattle.b67_stack.proofs.Tops.{level-small, mark_high}
 use Rattle.b67_stack.proofs.Reheld.{RepresentsSlots-same}

@@ -5,10 +5,7 @@ use Rattle.b67_word.specs.Tagged.{Tagged, word}
 use Rattle.b67_area.specs.declared.Areas.{Areas}
 use Rattle.b67_backing.specs.Shelf.{Table, IsShelf}
 use Rattle.b67_stack.specs.declared.Cpu.{Cpu}
-use Rattle.b67_stack.specs.Shapes.{Shape, Is, Original, Copy}
-use Rattle.b67_stack.specs.Stacks.{stack_words, words}
-use Rattle.b67_stack.specs.MachineView.{MachineView, slot_base, stack_of}
-use Rattle.b67_stack.specs.Represents.{Storage, Represents}
+use Rattle.b67_stack.specs.Common.{Shape, Is, Original, Copy, stack_words, words, MachineView, slot_base, stack_of, Storage, Represents}
 use Rattle.b67_layout_storage.specs.Machine.{Says}
 use Rattle.b67_overlay.specs.declared.spans.Span.{Span}
 

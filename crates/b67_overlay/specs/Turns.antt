@@ -5,11 +5,7 @@ use Rattle.b67_ctl.specs.declared.descriptors.DataDesc.{DataDesc}
 use Rattle.b67_ctl.specs.Descriptors.{data_word, IsDataDesc}
 use Rattle.b67_ctl.specs.declared.registers.Regs.{Regs}
 use Rattle.b67_lemmas.specs.Lists.{Has}
-use Rattle.b67_stack.specs.Shapes.{Location, Shape, Fits}
-use Rattle.b67_stack.specs.Stacks.{stack_words, words}
-use Rattle.b67_stack.specs.MachineView.{PagedObject, MachineView, slot_base, stack_of}
-use Rattle.b67_stack.specs.Represents.{Storage, RepresentsSlots}
-use Rattle.b67_stack.specs.HeldOtherwise.{Stayed, with_held}
+use Rattle.b67_stack.specs.Common.{Location, Shape, Fits, stack_words, words, PagedObject, MachineView, slot_base, stack_of, Storage, RepresentsSlots, Stayed, with_held}
 use Rattle.b67_overlay.specs.Spans.{Families, span_of, InSpan}
 
 abbrev pub IsCopyOf : ℕ → DataDesc → Type 0

@@ -6,16 +6,11 @@ use Rattle.b67_backing.specs.Shelf.{Table}
 use Rattle.b67_ctl.specs.declared.registers.Regs.{Regs}
 use Rattle.b67_model.specs.Schedule.{Session}
 use Rattle.b67_stack.specs.declared.Cpu.{Cpu}
-use Rattle.b67_stack.specs.MachineView.{MachineView, NoOriginalAboveTop}
-use Rattle.b67_stack.specs.Represents.{Storage, Represents}
-use Rattle.b67_stack.specs.HeldOtherwise.{Stayed}
+use Rattle.b67_stack.specs.Common.{MachineView, NoOriginalAboveTop, Storage, Represents, Stayed}
 use Rattle.b67_layout_storage.specs.Machine.{Says, content_after}
 use Rattle.b67_overlay.specs.Spans.{MachineCanPage}
 use Rattle.b67_layout_storage.proofs.Devices.{says_of}
-use Rattle.b67_layout.specs.Orders.{IsInOrderButCounts}
-use Rattle.b67_layout.specs.Placement.{Placement}
-use Rattle.b67_layout.specs.Layout.{machine_view}
-use Rattle.b67_layout.specs.Session.{RepresentsSession}
+use Rattle.b67_layout.specs.Common.{IsInOrderButCounts, Placement, machine_view, RepresentsSession}
 use Rattle.b67_layout_spans.proofs.Sessions.{copies_of}
 use Rattle.b67_layout.proofs.Paged.{RepresentsSession-over}
 use Rattle.b67_task_tables.specs.declared.tables.Tasks.{Tasks}

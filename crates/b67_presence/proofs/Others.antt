@@ -4,19 +4,11 @@ use Rattle.std.specs.Prelude.{sum_by, max}
 use Rattle.std.specs.List.{AllByRecursion, slice_get}
 use Rattle.std.proofs.lemmas.List.Sums.{sum_by-cons}
 use Rattle.b67_lemmas.specs.Lists.{Has}
-use Rattle.b67_model.specs.State.{Array, Segment, Condition, Ready, Awaits, WaitsAt, Task, SessionJob}
-use Rattle.b67_model.specs.Need.{fixed}
-use Rattle.b67_model.specs.Rows.{code_of}
-use Rattle.b67_model.specs.Run.{live_tasks}
-use Rattle.b67_model.specs.Schedule.{Session}
-use Rattle.b67_model.specs.Sectors.{sectors_for, sectors_of, sectors}
-use Rattle.b67_model.specs.InOrder.{IsSegment, SegmentInOrder, ArrayInOrder}
-use Rattle.b67_layout.specs.Orders.{JobInOrderButCounts, IsInOrderButCounts}
+use Rattle.b67_model.specs.Common.{Array, Segment, Condition, Ready, Awaits, WaitsAt, Task, SessionJob, fixed, code_of, live_tasks, Session, sectors_for, sectors_of, sectors, IsSegment, SegmentInOrder, ArrayInOrder}
+use Rattle.b67_layout.specs.Common.{JobInOrderButCounts, IsInOrderButCounts, Placement, slot_of, spot_in, address_of, WaitsAtCell, TaskRow, JobRow, shown, critical_disp, TaskShows, JobShows, JobsShow}
 use Rattle.b67_law_order_steps.specs.Weaker.{Renumbers, Recoded, Refilled, OtherNumbers, AllOtherNumbers}
 use Rattle.b67_law_order_steps.proofs.Sessions.{recoded_count}
 use Rattle.b67_stack.specs.Stacks.{StackPlace}
-use Rattle.b67_layout.specs.Placement.{Placement, slot_of, spot_in, address_of}
-use Rattle.b67_layout.specs.Rows.{WaitsAtCell, TaskRow, JobRow, shown, critical_disp, TaskShows, JobShows, JobsShow}
 use Rattle.b67_task_need.specs.Needing.{array_area, need_with}
 use Rattle.b67_layout.proofs.Alike.{outer_same}
 use Rattle.b67_task_tables.specs.declared.tables.Tasks.{Tasks}

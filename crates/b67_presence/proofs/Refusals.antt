@@ -3,26 +3,18 @@ use Rattle.std.proofs.Common.{◌≡◌, ℕ, ◌+◌, List, length, Option, Som
 use Rattle.b67_area.specs.declared.Areas.{Areas}
 use Rattle.b67_backing.specs.Shelf.{Table}
 use Rattle.b67_backing.specs.declared.SpaceFault.{SpaceFault}
-use Rattle.b67_model.specs.State.{Task, SessionJob}
-use Rattle.b67_model.specs.Rows.{code_of}
-use Rattle.b67_model.specs.Schedule.{Session}
-use Rattle.b67_layout.specs.Orders.{IsInOrderButCounts}
+use Rattle.b67_model.specs.Common.{Task, SessionJob, code_of, Session}
+use Rattle.b67_layout.specs.Common.{IsInOrderButCounts, Placement, array_object, machine_view, IsRunning}
 use Rattle.b67_stack.specs.declared.Cpu.{Cpu}
 use Rattle.b67_stack.specs.declared.What.{What}
 use Rattle.b67_stack.specs.declared.What.TheVariants as what
-use Rattle.b67_stack.specs.Shapes.{Location}
-use Rattle.b67_stack.specs.MachineView.{PagedObject}
-use Rattle.b67_stack.specs.Represents.{Storage}
-use Rattle.b67_stack.specs.HeldOtherwise.{Stayed}
+use Rattle.b67_stack.specs.Common.{Location, PagedObject, Storage, Stayed}
 use Rattle.b67_layout_storage.specs.Machine.{IsAbsent, HasHole}
 use Rattle.b67_overlay.specs.Spans.{MachineCanPage}
 use Rattle.b67_stack.proofs.Helds.{held-other}
 use Rattle.b67_layout_storage.proofs.Below.{Stayed-none}
 use Rattle.b67_overlay.specs.AreasEvicted.{AreasEvicted, IsShortBy}
 use Rattle.b67_overlay.proofs.Shedding.{AreasEvicted-none}
-use Rattle.b67_layout.specs.Placement.{Placement}
-use Rattle.b67_layout.specs.Layout.{array_object, machine_view}
-use Rattle.b67_layout.specs.Session.{IsRunning}
 use Rattle.b67_exec_cells.specs.Running.{code_area}
 use Rattle.b67_presence_page.specs.Brought.{brought}
 use Rattle.b67_presence_page.specs.Brings.{IsReadable, ReadIn, Waits, MayWait}

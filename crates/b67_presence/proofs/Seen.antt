@@ -7,18 +7,12 @@ use Rattle.b67_word.specs.Tagged.{Tagged}
 use Rattle.b67_ctl.specs.declared.registers.Regs.{Regs}
 use Rattle.b67_lemmas.specs.Lists.{Has}
 use Rattle.b67_lemmas.proofs.Members.{has_append_cases, has_map_back}
-use Rattle.b67_model.specs.State.{Array, Segment, SessionJob}
-use Rattle.b67_model.specs.Schedule.{Session}
-use Rattle.b67_model.specs.InOrder.{IsSegment, SegmentInOrder, ArrayInOrder}
-use Rattle.b67_layout.specs.Orders.{JobInOrderButCounts, IsInOrderButCounts}
+use Rattle.b67_model.specs.Common.{Array, Segment, SessionJob, Session, IsSegment, SegmentInOrder, ArrayInOrder}
+use Rattle.b67_layout.specs.Common.{JobInOrderButCounts, IsInOrderButCounts, Placement, array_object, code_objects, objects_of, machine_view}
 use Rattle.b67_law_order_steps.specs.Weaker.{AllOtherNumbers}
 use Rattle.b67_layout_step.proofs.OtherNumbers.{others_in_order}
-use Rattle.b67_stack.specs.MachineView.{PagedObject, MachineView, NoOriginalAboveTop}
-use Rattle.b67_stack.specs.Represents.{Storage, Represents}
-use Rattle.b67_stack.specs.HeldOtherwise.{renumber, renumbered}
+use Rattle.b67_stack.specs.Common.{PagedObject, MachineView, NoOriginalAboveTop, Storage, Represents, renumber, renumbered}
 use Rattle.b67_layout_storage.specs.Machine.{AreBits}
-use Rattle.b67_layout.specs.Placement.{Placement}
-use Rattle.b67_layout.specs.Layout.{array_object, code_objects, objects_of, machine_view}
 use Rattle.b67_layout_step.proofs.Renumbered.{member_with, others_from, Fitting, machine_view_renumbered, settled_renumbered}
 use Rattle.b67_presence_page.specs.Brings.{IsReadable, ReadBack}
 use Rattle.b67_presence_page.proofs.Ways.{none_or}

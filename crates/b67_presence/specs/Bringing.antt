@@ -1,15 +1,11 @@
 -- What is wanted in core, and the machine once it was brought in or refused.
 use Rattle.std.specs.Prelude.{◌≡◌, ◌≢◌, ◌↔◌, ℕ, ◌+◌, ◌<◌, ◌⊎◌, List, length, Option, None, Result, Err, OnOk, OnErr, IsOk}
 use Rattle.b67_lemmas.specs.Lists.{Has}
-use Rattle.b67_model.specs.State.{Array, Task, SessionJob}
-use Rattle.b67_model.specs.Schedule.{Session}
-use Rattle.b67_layout.specs.Orders.{IsInOrderButCounts}
+use Rattle.b67_model.specs.Common.{Array, Task, SessionJob, Session, sectors, code_of}
+use Rattle.b67_layout.specs.Common.{IsInOrderButCounts, Placement, IsRunning, area_held}
 use Rattle.b67_stack.specs.declared.What.{What}
 use Rattle.b67_stack.specs.declared.What.TheVariants as what
 use Rattle.b67_stack.specs.Represents.{Storage}
-use Rattle.b67_layout.specs.Placement.{Placement}
-use Rattle.b67_layout.specs.Session.{IsRunning}
-use Rattle.b67_layout.specs.Meets.{area_held}
 use Rattle.b67_exec_cells.specs.Running.{code_area}
 use Rattle.b67_law_order_steps.specs.Weaker.{AllOtherNumbers}
 use Rattle.b67_task_tables.specs.declared.tables.Machine.{Machine}
@@ -19,9 +15,7 @@ use Rattle.b67_layout_storage.specs.Machine.{Says, HasHole, content_after}
 use Rattle.b67_backing.specs.Held.{Becomes}
 use Rattle.b67_backing.specs.declared.SpaceFault.{SpaceFault}
 use Rattle.b67_backing.specs.declared.SpaceFault.TheVariants.{NoCore, BackingFull}
-use Rattle.b67_model.specs.Sectors.{sectors}
 use Rattle.b67_task_need.specs.Needing.{need_with}
-use Rattle.b67_model.specs.Rows.{code_of}
 
 -- the whole machine over a device that tells this: what the storage says of the sectors, if anything, is what the device
 -- tells

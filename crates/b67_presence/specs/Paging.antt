@@ -3,9 +3,7 @@ use Rattle.std.specs.Prelude.{ℕ, List, Option}
 use Rattle.b67_model.specs.Schedule.{Session}
 use Rattle.b67_stack.specs.Represents.{Storage}
 use Rattle.b67_overlay.specs.Spans.{MachineCanPage}
-use Rattle.b67_layout.specs.Orders.{IsInOrderButCounts}
-use Rattle.b67_layout.specs.Placement.{Placement}
-use Rattle.b67_layout.specs.Layout.{machine_view}
+use Rattle.b67_layout.specs.Common.{IsInOrderButCounts, Placement, machine_view}
 use Rattle.b67_task_tables.specs.declared.tables.Machine.{Machine}
 use Rattle.b67_presence.specs.Bringing.{StandsOver}
 

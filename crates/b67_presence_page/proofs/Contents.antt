@@ -12,9 +12,7 @@ use Rattle.b67_backing.proofs.Fills.{Fills-holds}
 use Rattle.b67_backing.specs.Shelf.{Shelf, Table, HasChain, chain_of}
 use Rattle.b67_backing.specs.Held.{sectors_for, under, Holds}
 use Rattle.b67_stack.specs.declared.Cpu.{Cpu}
-use Rattle.b67_stack.specs.Shapes.{LieUpward}
-use Rattle.b67_stack.specs.MachineView.{PagedObject, MachineView, words_of, tag_of, AreZero}
-use Rattle.b67_stack.specs.Represents.{Storage, Content, AbsentContent, HoldsIn, Told}
+use Rattle.b67_stack.specs.Common.{LieUpward, PagedObject, MachineView, words_of, tag_of, AreZero, Storage, Content, AbsentContent, HoldsIn, Told}
 use Rattle.b67_layout_storage.specs.Machine.{Says, IsAbsent, AreBits}
 use Rattle.b67_overlay.specs.Spans.{MachineCanPage}
 use Rattle.b67_presence_page.specs.declared.paging.Resting.{Resting}

@@ -10,9 +10,7 @@ use Rattle.b67_ctl.specs.declared.registers.Regs.{Regs}
 use Rattle.b67_ctl.specs.Descriptors.{data_word, seg_word, IsDataDesc, IsSegDesc}
 use Rattle.b67_area.specs.declared.Kind.{Kind}
 use Rattle.b67_area.specs.declared.Kind.TheVariants.{Array, Row, Code}
-use Rattle.b67_stack.specs.Shapes.{at_rest}
-use Rattle.b67_stack.specs.MachineView.{PagedObject, MachineView, home_desc, home_word_of}
-use Rattle.b67_stack.specs.Represents.{Storage, Represents}
+use Rattle.b67_stack.specs.Common.{at_rest, PagedObject, MachineView, home_desc, home_word_of, Storage, Represents}
 use Rattle.b67_stack.proofs.Homes.{chain_small}
 use Rattle.b67_layout_storage.specs.Machine.{IsAbsent}
 use Rattle.b67_stack.proofs.Unchanged.{area_bounds}

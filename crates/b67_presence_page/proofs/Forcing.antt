@@ -7,9 +7,7 @@ use Rattle.b67_area.specs.declared.Areas.{Areas}
 use Rattle.b67_area.proofs.Laws.{area_inside}
 use Rattle.b67_backing.specs.Shelf.{Table}
 use Rattle.b67_stack.specs.declared.Cpu.{Cpu}
-use Rattle.b67_stack.specs.Shapes.{Location}
-use Rattle.b67_stack.specs.MachineView.{PagedObject, MachineView}
-use Rattle.b67_stack.specs.Represents.{Storage}
+use Rattle.b67_stack.specs.Common.{Location, PagedObject, MachineView, Storage}
 use Rattle.b67_layout_storage.specs.Machine.{IsAbsent, HasHole}
 use Rattle.b67_overlay.specs.Spans.{MachineCanPage}
 use Rattle.b67_stack.proofs.Helds.{held-same, held-other}

@@ -8,10 +8,7 @@ use Rattle.b67_area.specs.Directory.{IsDirectory}
 use Rattle.b67_backing.specs.Shelf.{Table}
 use Rattle.b67_ctl.specs.declared.registers.Regs.{Regs}
 use Rattle.b67_stack.specs.declared.Cpu.{Cpu}
-use Rattle.b67_stack.specs.Shapes.{LieUpward}
-use Rattle.b67_stack.specs.MachineView.{PagedObject, MachineView, home_word_of, words_of}
-use Rattle.b67_stack.specs.Represents.{Storage, Represents}
-use Rattle.b67_stack.specs.HeldOtherwise.{Stayed, renumbered, with_held}
+use Rattle.b67_stack.specs.Common.{LieUpward, PagedObject, MachineView, home_word_of, words_of, Storage, Represents, Stayed, renumbered, with_held}
 use Rattle.b67_layout_storage.specs.Machine.{Says, IsAbsent, AreBits}
 use Rattle.b67_overlay.specs.Spans.{CopiesLie, MachineCanPage}
 use Rattle.b67_overlay.proofs.Copies.{copies_stay, copies_objects}

@@ -15,11 +15,8 @@ use Rattle.b67_area.proofs.Climbs.{area_at-low}
 use Rattle.b67_area.proofs.Laws.{area_inside, hole-area, OnlyHoles-area, OnlyHoles-below}
 use Rattle.b67_area.proofs.Separation.{IsDirectory-area_words, IsDirectory-set_below}
 use Rattle.b67_ctl.specs.declared.registers.Regs.{Regs}
-use Rattle.b67_stack.specs.Shapes.{Location, LieUpward}
-use Rattle.b67_stack.specs.MachineView.{PagedObject, MachineView, slot_base, home_word_of, words_of, tag_of, AreZero}
-use Rattle.b67_stack.specs.Represents.{Storage, Content, KeptChain, AbsentContent, HoldsIn, info_of, Represents}
+use Rattle.b67_stack.specs.Common.{Location, LieUpward, PagedObject, MachineView, slot_base, home_word_of, words_of, tag_of, AreZero, Storage, Content, KeptChain, AbsentContent, HoldsIn, info_of, Represents, Stayed, with_held, ChainStays}
 use Rattle.b67_stack.proofs.Lies.{Upward-same}
-use Rattle.b67_stack.specs.HeldOtherwise.{Stayed, with_held, ChainStays}
 use Rattle.b67_layout_storage.specs.Machine.{IsAbsent}
 use Rattle.b67_layout_storage.proofs.Below.{stacks_low, not_heads}
 use Rattle.b67_stack.proofs.Unchanged.{area_of_object, home_below, slot_below, base_low, Represents-core}

@@ -12,10 +12,7 @@ use Rattle.b67_backing.specs.Shelf.{Table}
 use Rattle.b67_ctl.specs.declared.registers.Regs.{Regs}
 use Rattle.b67_lemmas.specs.Lists.{Has}
 use Rattle.b67_stack.specs.declared.Cpu.{Cpu}
-use Rattle.b67_stack.specs.Shapes.{Location}
-use Rattle.b67_stack.specs.MachineView.{PagedObject, MachineView}
-use Rattle.b67_stack.specs.Represents.{Storage, Represents, info_of}
-use Rattle.b67_stack.specs.HeldOtherwise.{Stayed}
+use Rattle.b67_stack.specs.Common.{Location, PagedObject, MachineView, Storage, Represents, info_of, Stayed}
 use Rattle.b67_layout_storage.specs.Machine.{IsAbsent, IsPresent, HasHole, AreBits}
 use Rattle.b67_layout_storage.proofs.Untold.{untold, Represents-untold}
 use Rattle.b67_overlay.specs.Spans.{MachineCanPage}

@@ -7,10 +7,7 @@ use Rattle.b67_lemmas.specs.Lists.{Has}
 use Rattle.b67_stack.specs.declared.Cpu.{Cpu}
 use Rattle.b67_ctl.specs.declared.registers.Regs.{Regs}
 use Rattle.b67_word.specs.Tagged.{Tagged}
-use Rattle.b67_stack.specs.Shapes.{Location}
-use Rattle.b67_stack.specs.MachineView.{PagedObject, MachineView}
-use Rattle.b67_stack.specs.Represents.{Storage, Represents}
-use Rattle.b67_stack.specs.HeldOtherwise.{renumbered}
+use Rattle.b67_stack.specs.Common.{Location, PagedObject, MachineView, Storage, Represents, renumbered}
 use Rattle.b67_layout_storage.specs.Machine.{IsAbsent, AreBits}
 use Rattle.b67_overlay.specs.Spans.{MachineCanPage}
 use Rattle.b67_layout_storage.proofs.Renumbered.{renumbered-same}

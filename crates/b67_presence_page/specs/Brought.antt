@@ -4,9 +4,7 @@ use Rattle.b67_word.specs.Tagged.{Tagged}
 use Rattle.b67_area.specs.Spans.{address, spot, fill, fresh, keeping}
 use Rattle.b67_backing.specs.Shelf.{Table, Shelf, HasChain, chain_of}
 use Rattle.b67_backing.specs.Held.{Holds, sectors_for, under}
-use Rattle.b67_stack.specs.MachineView.{PagedObject}
-use Rattle.b67_stack.specs.Represents.{Storage}
-use Rattle.b67_stack.specs.HeldOtherwise.{with_held}
+use Rattle.b67_stack.specs.Common.{PagedObject, Storage, with_held}
 use Rattle.b67_layout_storage.specs.Machine.{AreBits}
 use Rattle.b67_presence_page.specs.declared.paging.Resting.{Resting}
 

@@ -6,9 +6,7 @@ use Rattle.b67_word.specs.Tagged.{Tagged}
 use Rattle.b67_ctl.specs.declared.registers.Regs.{Regs}
 use Rattle.b67_stack.specs.MachineView.{MachineView}
 use Rattle.b67_stack.proofs.Bases.{base-apart}
-use Rattle.b67_layout.specs.Placement.{base_of}
-use Rattle.b67_layout.specs.Layout.{machine_view}
-use Rattle.b67_layout.specs.Session.{with_objects}
+use Rattle.b67_layout.specs.Common.{base_of, machine_view, with_objects}
 use Rattle.b67_layout.proofs.Sessions.{dictionary_below}
 use Rattle.b67_refer.specs.RunningContext.{LiveContext, IsStackOf}
 use Rattle.b67_lemmas.proofs.Members.{keyed_has}

@@ -10,14 +10,10 @@ use Rattle.b67_ctl.specs.declared.marks.Mscw.{Mscw}
 use Rattle.b67_ctl.specs.Layout.{mscw_word, IsMscw}
 use Rattle.b67_lemmas.specs.Lists.{Has}
 use Rattle.b67_lemmas.proofs.Members.{has_append_left, has_map}
-use Rattle.b67_model.specs.State.{Frame, OperatorContext, frame}
-use Rattle.b67_model.specs.Environment.{level_of_standing, level_of_frame, environment_of, running, running_level, outward, frame_at}
-use Rattle.b67_model.specs.InOrder.{Known, known_of, outer_of, reach_of, IsEntered, IsSegment}
+use Rattle.b67_model.specs.Common.{Frame, OperatorContext, frame, level_of_standing, level_of_frame, environment_of, running, running_level, outward, frame_at, Known, known_of, outer_of, reach_of, IsEntered, IsSegment}
 use Rattle.b67_stack.specs.Stacks as Stacks
 use Rattle.b67_stack.proofs.Tops.{level-small}
-use Rattle.b67_layout.specs.Placement.{slot_of, outer_spots, address_of}
-use Rattle.b67_layout.specs.Session.{frame_address}
-use Rattle.b67_layout.specs.Meets.{here}
+use Rattle.b67_layout.specs.Common.{slot_of, outer_spots, address_of, frame_address, here}
 use Rattle.b67_layout.proofs.Frames.{level-is}
 use Rattle.b67_refer.specs.RunningContext.{RunningContext, IsShown, IsStackOf, live_of}
 use Rattle.b67_refer.proofs.Slots.{whole, registers}

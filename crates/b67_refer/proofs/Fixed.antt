@@ -14,23 +14,14 @@ use Rattle.b67_ctl.specs.Descriptors.{IsDataDesc}
 use Rattle.b67_area.specs.declared.Kind.{Kind}
 use Rattle.b67_area.specs.declared.Kind.TheVariants as kind
 use Rattle.b67_area.proofs.Laws.{area_inside}
-use Rattle.b67_model.specs.Answers.{Answer}
+use Rattle.b67_model.specs.Common.{Answer, Word, Operand, Name, Ref, Row, Element, Original, Proc, Intrinsic, Frame, Entered, Segment, mcp, first_offset, cell_of, cell, OwnsArray, EntryInOrder, DictionaryWords}
 use Rattle.b67_lemmas.specs.Lists.{Has}
 use Rattle.b67_lemmas.proofs.Members.{all_in, has_append_left, has_append_right, has_flat, has_get, has_map, has_reverse_back, keyed_has}
 use Rattle.b67_lemmas.proofs.Places.{get_within}
 use Rattle.b67_model.specs.Words as Words
-use Rattle.b67_model.specs.Words.{Word, Operand, Name, Ref, Row, Element, Original, Proc, Intrinsic}
-use Rattle.b67_model.specs.State.{Frame, Entered, Segment, mcp}
-use Rattle.b67_model.specs.Cells.{first_offset, cell_of, cell}
-use Rattle.b67_model.specs.InOrder.{OwnsArray, EntryInOrder, DictionaryWords}
-use Rattle.b67_stack.specs.Shapes.{Location, IsOriginal}
-use Rattle.b67_stack.specs.MachineView.{PagedObject, MachineView, home_desc, home_word_of}
-use Rattle.b67_stack.specs.Represents.{Storage, Represents, info_of}
+use Rattle.b67_stack.specs.Common.{Location, IsOriginal, PagedObject, MachineView, home_desc, home_word_of, Storage, Represents, info_of}
 use Rattle.b67_stack.proofs.Homes.{chain_small}
-use Rattle.b67_layout.specs.Placement.{address_of}
-use Rattle.b67_layout.specs.Layout.{array_object, code_objects, objects_of}
-use Rattle.b67_layout.specs.Session.{frame_address}
-use Rattle.b67_layout.specs.Meets.{here}
+use Rattle.b67_layout.specs.Common.{address_of, array_object, code_objects, objects_of, frame_address, here}
 use Rattle.b67_layout.proofs.Sessions.{code_object, dictionary_above, entry_row}
 use Rattle.b67_refer.specs.RunningContext.{LiveContext}
 use Rattle.b67_refer.specs.LiveCells.{StandsFor, IsCellAt, CellMeets}

@@ -5,12 +5,8 @@ use Rattle.b67_word.specs.Tagged.{Tagged}
 use Rattle.b67_word.specs.declared.couples.Place.{Place}
 use Rattle.b67_word.specs.declared.faults.Fault.TheVariants.{InvalidAddress}
 use Rattle.b67_ctl.specs.declared.registers.Regs.{Regs}
-use Rattle.b67_model.specs.Answers.{Answer}
-use Rattle.b67_model.specs.Words.{Word}
-use Rattle.b67_model.specs.Cells.{cell}
-use Rattle.b67_model.specs.InOrder.{reach_of, NamesEntered}
-use Rattle.b67_layout.specs.Session.{frame_address}
-use Rattle.b67_layout.specs.Meets.{here}
+use Rattle.b67_model.specs.Common.{Answer, Word, cell, reach_of, NamesEntered}
+use Rattle.b67_layout.specs.Common.{frame_address, here, spot_in}
 use Rattle.b67_refer.specs.RunningContext.{LiveContext}
 use Rattle.b67_refer.specs.LiveCells.{CellMeets}
 use Rattle.b67_refer.proofs.Bases.{slot_inside, dictionary_is, dictionary_low, slot_zero}
@@ -19,7 +15,6 @@ use Rattle.b67_refer.proofs.Rule.{misses, marks, lands, lands_last, seat_address
 use Rattle.b67_refer.proofs.Unders.{is_mcp, is_dictionary, entries_is, high_address, last_slot, one_word}
 use Rattle.b67_refer.proofs.Slots.{base, acts}
 use Rattle.b67_stack.specs.Stacks.{stack_words}
-use Rattle.b67_layout.specs.Placement.{spot_in}
 use Rattle.b67_layout.proofs.Frames.{height-is}
 use Rattle.b67_refer.proofs.Fixed.{mcp_misses, mcp_lands, dictionary_misses, dictionary_lands}
 

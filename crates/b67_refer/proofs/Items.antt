@@ -11,18 +11,11 @@ use Rattle.b67_ctl.specs.declared.descriptors.DataDesc.{DataDesc}
 use Rattle.b67_ctl.specs.Descriptors.{data_word, IsDataDesc}
 use Rattle.b67_lemmas.specs.Lists.{Has}
 use Rattle.b67_model.specs.Keyed.{keyed}
-use Rattle.b67_model.specs.State.{Array}
-use Rattle.b67_model.specs.Arrays.{array, no_array}
-use Rattle.b67_model.specs.Chase.{element_end}
-use Rattle.b67_model.specs.InOrder.{NamesArray, ArrayInOrder}
+use Rattle.b67_model.specs.Common.{Array, array, no_array, element_end, NamesArray, ArrayInOrder}
 use Rattle.b67_lemmas.proofs.Members.{has_append_right, has_map, all_in, keyed_falls}
-use Rattle.b67_stack.specs.Shapes.{Location}
-use Rattle.b67_stack.specs.MachineView.{PagedObject, home_desc, home_word}
-use Rattle.b67_stack.specs.Represents.{RepresentsObject}
+use Rattle.b67_stack.specs.Common.{Location, PagedObject, home_desc, home_word, RepresentsObject}
 use Rattle.b67_stack.proofs.Homes.{chain_small}
-use Rattle.b67_layout.specs.Placement.{Placement}
-use Rattle.b67_layout.specs.Layout.{array_object, code_objects}
-use Rattle.b67_layout.specs.Meets.{here}
+use Rattle.b67_layout.specs.Common.{Placement, array_object, code_objects, here}
 use Rattle.b67_refer.specs.declared.ends.End.TheVariants as end
 use Rattle.b67_refer.specs.RunningContext.{LiveContext}
 use Rattle.b67_refer.specs.LiveCells.{reach}

@@ -9,12 +9,9 @@ use Rattle.b67_ctl.specs.declared.registers.Regs.{Regs}
 use Rattle.b67_ctl.specs.declared.descriptors.DataDesc.{DataDesc}
 use Rattle.b67_ctl.specs.Descriptors.{data_word, IsDataDesc}
 use Rattle.b67_model.specs.Words as Words
-use Rattle.b67_model.specs.Words.{Word, Operand, Name, Ref, Row, Element, Original, Proc, Intrinsic}
-use Rattle.b67_model.specs.Answers.{Answer}
+use Rattle.b67_model.specs.Common.{Word, Operand, Name, Ref, Row, Element, Original, Proc, Intrinsic, Answer, Stops, element_end, link_at, NamesEntered, NamesArray, OwnsArray}
 use Rattle.b67_model.specs.Chase as Chase
-use Rattle.b67_model.specs.Chase.{Stops, element_end, link_at}
 use Rattle.b67_layout.specs.Meets.{here}
-use Rattle.b67_model.specs.InOrder.{NamesEntered, NamesArray, OwnsArray}
 use Rattle.b67_stack.specs.Shapes.{Copied, copy_desc, IsCopy}
 use Rattle.b67_refer.specs.declared.ends.End.{End}
 use Rattle.b67_refer.specs.declared.ends.End.TheVariants as end

@@ -11,17 +11,12 @@ use Rattle.b67_ctl.specs.Layout.{mscw_word, IsMscw}
 use Rattle.b67_lemmas.specs.Lists.{Has, how_many}
 use Rattle.b67_lemmas.proofs.Members.{has_append_cases, has_append_right, has_map, has_map_back, keyed_has, keyed_left, keyed_right, none_pass, total_flat, total_zero}
 use Rattle.b67_model.specs.Keyed.{keyed}
-use Rattle.b67_model.specs.State.{Frame, Standing, Marked, Entered, Task, OperatorContext, height, mcp, no_frame, frame}
-use Rattle.b67_model.specs.Environment.{level_of_standing, environment_of}
-use Rattle.b67_model.specs.InOrder.{Known, known_of, known_numbers, from_frame, frames_of_task, critical_of, base as base_known, reach_of, IsEntered, ParentInOrder, BirthInOrder, StandsInOrder, EnvironmentInOrder, IsSegment, frames_named}
+use Rattle.b67_model.specs.Common.{Frame, Standing, Marked, Entered, Task, OperatorContext, height, mcp, no_frame, frame, level_of_standing, environment_of, Known, known_of, known_numbers, from_frame, frames_of_task, critical_of, base as base_known, reach_of, IsEntered, ParentInOrder, BirthInOrder, StandsInOrder, EnvironmentInOrder, IsSegment, frames_named}
 use Rattle.b67_stack.specs.Stacks.{StackPlace}
 use Rattle.b67_law_order.proofs.Looks.{Line, line_of, above_one, found_frame, from_has}
-use Rattle.b67_layout.specs.Placement.{slot_of, spot_in, base_spot, outer_spots, spots, address_of}
-use Rattle.b67_layout.specs.Session.{frame_address}
-use Rattle.b67_layout.specs.Meets.{here}
+use Rattle.b67_layout.specs.Common.{slot_of, spot_in, base_spot, outer_spots, spots, address_of, frame_address, here, head}
 use Rattle.b67_word.specs.declared.couples.Place.{Place}
 use Rattle.b67_stack.specs.Stacks as Stacks
-use Rattle.b67_layout.specs.Layout.{head}
 use Rattle.b67_refer.specs.RunningContext.{LiveContext, IsStackOf}
 use Rattle.b67_refer.proofs.Slots.{mark_in, part_mark, base, acts}
 use Rattle.b67_refer.proofs.Seats.{spot_low, Seat, seat, has_task, order_of}

@@ -12,13 +12,8 @@ use Rattle.b67_word.specs.declared.faults.Fault.TheVariants.{Loop}
 use Rattle.b67_ctl.specs.declared.registers.Regs.{Regs}
 use Rattle.b67_ctl.specs.declared.references.Irw.{Irw}
 use Rattle.b67_ctl.specs.Layout.{irw_word, IsIrw, sirw_word, IsSirw}
-use Rattle.b67_model.specs.Answers.{Answer}
+use Rattle.b67_model.specs.Common.{Answer, Word, Operand, Name, Ref, Row, Element, Original, Proc, Intrinsic, height, cell, named, place_of, Link, Stops, Leads, link_at, link_in, link_from, link, chase_on, chase, NamesEntered}
 use Rattle.b67_model.specs.Words as Words
-use Rattle.b67_model.specs.Words.{Word, Operand, Name, Ref, Row, Element, Original, Proc, Intrinsic}
-use Rattle.b67_model.specs.State.{height}
-use Rattle.b67_model.specs.Cells.{cell, named, place_of}
-use Rattle.b67_model.specs.Chase.{Link, Stops, Leads, link_at, link_in, link_from, link, chase_on, chase}
-use Rattle.b67_model.specs.InOrder.{NamesEntered}
 use Rattle.b67_stack.specs.Stacks.{StackPlace}
 use Rattle.b67_layout.specs.Placement.{base_spot}
 use Rattle.b67_layout.specs.Meets.{here}

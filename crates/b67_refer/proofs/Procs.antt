@@ -11,11 +11,7 @@ use Rattle.b67_ctl.specs.declared.programs.IntrinsicPcw.{IntrinsicPcw}
 use Rattle.b67_ctl.specs.Layout.{intrinsic_word, IsIntrinsicPcw}
 use Rattle.b67_lemmas.proofs.Members.{all_in}
 use Rattle.b67_model.specs.Words as Words
-use Rattle.b67_model.specs.Words.{Word, Operand, Name, Ref, Row, Element, Original, Proc, Intrinsic}
-use Rattle.b67_model.specs.State.{Frame, mcp, frame}
-use Rattle.b67_model.specs.Cells.{cell_of}
-use Rattle.b67_model.specs.InOrder.{EntryInOrder, IsSegment}
-use Rattle.b67_model.specs.Chase.{link_at}
+use Rattle.b67_model.specs.Common.{Word, Operand, Name, Ref, Row, Element, Original, Proc, Intrinsic, Frame, mcp, frame, cell_of, EntryInOrder, IsSegment, link_at}
 use Rattle.b67_law_order.proofs.Chases.{cell_has}
 use Rattle.b67_layout.specs.Meets.{here}
 use Rattle.b67_layout.proofs.Sessions.{words_enough}

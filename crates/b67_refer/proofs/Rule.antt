@@ -14,23 +14,15 @@ use Rattle.b67_ctl.specs.Layout.{sirw_word}
 use Rattle.b67_lemmas.specs.Lists.{Has}
 use Rattle.b67_lemmas.proofs.Members.{all_in, has_get, has_map, has_reverse_back, reverse_cons}
 use Rattle.b67_lemmas.proofs.Places.{same_test}
-use Rattle.b67_model.specs.Answers.{Answer}
+use Rattle.b67_model.specs.Common.{Answer, Word, Operand, Name, Ref, Row, Element, Original, Proc, Intrinsic, Frame, Standing, Array, Job, height, frame, first_offset, cell_of, cell, Starts, Known, known_of, known_numbers, reach_of, IsEntered, IsSegment, WordInOrder}
 use Rattle.b67_model.specs.Words as Words
-use Rattle.b67_model.specs.Words.{Word, Operand, Name, Ref, Row, Element, Original, Proc, Intrinsic}
 use Rattle.b67_model.specs.State as State
-use Rattle.b67_model.specs.State.{Frame, Standing, Array, Job, height, frame}
-use Rattle.b67_model.specs.Cells.{first_offset, cell_of, cell}
-use Rattle.b67_model.specs.InOrder.{Starts, Known, known_of, known_numbers, reach_of, IsEntered, IsSegment, WordInOrder}
 use Rattle.b67_law_order.proofs.Reaches.{Wider, word_wider}
-use Rattle.b67_stack.specs.Shapes.{Locations, Shape, Is, Fits, LieDownward}
+use Rattle.b67_stack.specs.Common.{Locations, Shape, Is, Fits, LieDownward, StackPlace, Head, Activation, head_size, stack_words, headed, words}
 use Rattle.b67_stack.specs.Stacks as Stacks
-use Rattle.b67_stack.specs.Stacks.{StackPlace, Head, Activation, head_size, stack_words, headed, words}
 use Rattle.b67_stack.proofs.Lies.{Lie-under}
 use Rattle.b67_stack.proofs.Heights.{words-length}
-use Rattle.b67_layout.specs.Placement.{Placement, spot_in, spots, address_of}
-use Rattle.b67_layout.specs.Layout.{shape, head}
-use Rattle.b67_layout.specs.Session.{frame_address}
-use Rattle.b67_layout.specs.Meets.{here}
+use Rattle.b67_layout.specs.Common.{Placement, spot_in, spots, address_of, shape, head, frame_address, here}
 use Rattle.b67_layout.proofs.Frames.{height-is}
 use Rattle.b67_refer.specs.RunningContext.{LiveContext}
 use Rattle.b67_refer.specs.LiveCells.{StandsFor, IsCellAt, CellMeets}

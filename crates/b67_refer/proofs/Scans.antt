@@ -9,10 +9,7 @@ use Rattle.b67_word.specs.declared.couples.Place.{Place}
 use Rattle.b67_ctl.specs.declared.registers.Regs.{Regs}
 use Rattle.b67_ctl.specs.declared.marks.Mscw.{Mscw}
 use Rattle.b67_ctl.specs.Layout.{mscw_word, IsMscw}
-use Rattle.b67_model.specs.Words.{Proc}
-use Rattle.b67_model.specs.State.{frame, height}
-use Rattle.b67_model.specs.Environment.{level_of_standing, level_of_frame}
-use Rattle.b67_model.specs.InOrder.{Known}
+use Rattle.b67_model.specs.Common.{Proc, frame, height, level_of_standing, level_of_frame, Known}
 use Rattle.b67_stack.specs.Stacks.{StackPlace}
 use Rattle.b67_layout.specs.Meets.{here}
 use Rattle.b67_refer.specs.declared.activation.Activation.{Activation}

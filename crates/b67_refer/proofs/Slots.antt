@@ -8,21 +8,13 @@ use Rattle.b67_ctl.specs.declared.registers.Regs.{Regs}
 use Rattle.b67_ctl.specs.declared.marks.Mscw.{Mscw}
 use Rattle.b67_ctl.specs.Layout.{mscw_word, IsMscw, IsToscw}
 use Rattle.b67_model.specs.Keyed.{keyed}
-use Rattle.b67_model.specs.State.{Frame, Task, SessionJob, height}
-use Rattle.b67_model.specs.Run.{number_of}
-use Rattle.b67_model.specs.InOrder.{from_frame}
-use Rattle.b67_stack.specs.Shapes.{Locations, Fits, LieDownward}
-use Rattle.b67_stack.specs.Stacks.{StackPlace, Head, Marked, Entered, Activation, IsStack, HeadsFit, stack_words, mark_place, mark_of, headed, words, toscw_of}
-use Rattle.b67_stack.specs.MachineView.{Slot, Running, Waiting, stack_of, SlotFits, MachineView}
-use Rattle.b67_stack.specs.Represents.{RepresentsSlot, RepresentsRunning}
+use Rattle.b67_model.specs.Common.{Frame, Task, SessionJob, height, number_of, from_frame}
+use Rattle.b67_stack.specs.Common.{Locations, Fits, LieDownward, StackPlace, Head, Marked, Entered, Activation, IsStack, HeadsFit, stack_words, mark_place, mark_of, headed, words, toscw_of, Slot, Running, Waiting, stack_of, SlotFits, MachineView, RepresentsSlot, RepresentsRunning}
 use Rattle.b67_stack.proofs.Lies.{Lie-under}
 use Rattle.b67_stack.proofs.Heights.{words-length}
 use Rattle.b67_stack.proofs.Tops.{level-small, mark-fits, mark_high, top_size-high}
-use Rattle.b67_layout.specs.Placement.{Placement, Slotted, slot_of, spot_in, outer_spots}
-use Rattle.b67_layout.specs.Layout.{shape, head, activations, stack_of_task, slot_with, slot_in, slot_by, slot_at, machine_view}
-use Rattle.b67_layout.specs.Session.{RowsFit, with_objects}
-use Rattle.b67_layout.proofs.Rows.{finds, task_row}
-use Rattle.b67_layout.proofs.Frames.{height-is}
+use Rattle.b67_layout.specs.Common.{Placement, Slotted, slot_of, spot_in, outer_spots, shape, head, activations, stack_of_task, slot_with, slot_in, slot_by, slot_at, machine_view, RowsFit, with_objects}
+use Rattle.b67_layout.proofs.Common.{finds, task_row, height-is}
 use Rattle.b67_refer.specs.RunningContext.{LiveContext}
 use Rattle.b67_refer.specs.LiveCells.{IsTop}
 use Rattle.b67_lemmas.proofs.Members.{keyed_has}

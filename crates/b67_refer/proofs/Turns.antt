@@ -9,13 +9,9 @@ use Rattle.b67_ctl.specs.Layout.{mscw_word, IsMscw}
 use Rattle.b67_lemmas.specs.Lists.{Has, Falls}
 use Rattle.b67_lemmas.proofs.Members.{falls_low}
 use Rattle.b67_model.specs.State as State
-use Rattle.b67_model.specs.State.{Frame, Standing, Task, height}
-use Rattle.b67_model.specs.Environment.{running, running_from}
-use Rattle.b67_model.specs.InOrder.{known_of, known_numbers, outer_of, IsSegment, TaskInOrder, StackInOrder, ReturnsInOrder}
+use Rattle.b67_model.specs.Common.{Frame, Standing, Task, height, running, running_from, known_of, known_numbers, outer_of, IsSegment, TaskInOrder, StackInOrder, ReturnsInOrder}
 use Rattle.b67_stack.specs.Stacks.{StackPlace, Activation, mark_of, top_size, mark_place}
-use Rattle.b67_layout.specs.Placement.{slot_of, spot_in, outer_spots, spots, address_of}
-use Rattle.b67_layout.specs.Layout.{head}
-use Rattle.b67_layout.specs.Session.{frame_address}
+use Rattle.b67_layout.specs.Common.{slot_of, spot_in, outer_spots, spots, address_of, head, frame_address}
 use Rattle.b67_layout.proofs.Frames.{height-is, size-is}
 use Rattle.b67_refer.specs.RunningContext.{RunningContext, live_of}
 use Rattle.b67_refer.specs.Cells.{IsTop}

@@ -13,16 +13,10 @@ use Rattle.b67_ctl.specs.declared.marks.Toscw.{Toscw}
 use Rattle.b67_ctl.specs.Layout.{toscw_word, IsToscw}
 use Rattle.b67_word.specs.declared.faults.Fault.TheVariants.{InvalidAddress}
 use Rattle.b67_model.specs.State as State
-use Rattle.b67_model.specs.State.{Frame, Standing, height}
-use Rattle.b67_model.specs.InOrder.{reach_of, NamesEntered}
-use Rattle.b67_model.specs.Environment.{frame_at}
-use Rattle.b67_model.specs.Cells.{named}
+use Rattle.b67_model.specs.Common.{Frame, Standing, height, reach_of, NamesEntered, frame_at, named}
 use Rattle.b67_stack.specs.Stacks.{StackPlace, head_size, stack_words, mark_place}
 use Rattle.b67_stack.proofs.Tops.{mark_high}
-use Rattle.b67_layout.specs.Placement.{slot_of, spot_in}
-use Rattle.b67_layout.specs.Layout.{head, stack_of_task}
-use Rattle.b67_layout.specs.Session.{frame_address}
-use Rattle.b67_layout.specs.Meets.{here}
+use Rattle.b67_layout.specs.Common.{slot_of, spot_in, head, stack_of_task, frame_address, here}
 use Rattle.b67_layout.proofs.Frames.{height-is}
 use Rattle.b67_refer.specs.RunningContext.{RunningContext, LiveContext, IsShown}
 use Rattle.b67_refer.specs.LiveCells.{IsUnder}

@@ -4,9 +4,7 @@ use Rattle.b67_word.specs.Tagged.{Tagged}
 use Rattle.b67_word.specs.declared.couples.Place.{Place}
 use Rattle.b67_word.specs.declared.faults.Fault.{Fault}
 use Rattle.b67_ctl.specs.declared.registers.Regs.{Regs}
-use Rattle.b67_model.specs.Answers.{Answer}
-use Rattle.b67_model.specs.Words.{Word}
-use Rattle.b67_model.specs.InOrder.{Known}
+use Rattle.b67_model.specs.Common.{Answer, Word, Known}
 use Rattle.b67_stack.specs.Stacks.{StackPlace}
 use Rattle.b67_refer.specs.RunningContext.{RunningContext, live_of}
 use Rattle.b67_refer.specs.LiveCells as live

@@ -8,9 +8,7 @@ use Rattle.b67_ctl.specs.declared.descriptors.DataDesc.{DataDesc}
 use Rattle.b67_ctl.specs.Descriptors.{data_word, IsDataDesc}
 use Rattle.b67_model.specs.Answers.{Answer}
 use Rattle.b67_model.specs.Chase as Chase
-use Rattle.b67_stack.specs.Shapes.{Copied, IsCopy}
-use Rattle.b67_stack.specs.MachineView.{MachineView}
-use Rattle.b67_stack.specs.Represents.{Storage, Represents}
+use Rattle.b67_stack.specs.Common.{Copied, IsCopy, MachineView, Storage, Represents}
 use Rattle.b67_refer.specs.declared.ends.End.{End}
 use Rattle.b67_refer.specs.RunningContext.{RunningContext, live_of}
 use Rattle.b67_refer.specs.LiveEnds as live

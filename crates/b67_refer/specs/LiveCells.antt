@@ -6,17 +6,11 @@ use Rattle.b67_word.specs.declared.faults.Fault.{Fault}
 use Rattle.b67_ctl.specs.declared.registers.Regs.{Regs}
 use Rattle.b67_ctl.specs.declared.marks.Toscw.{Toscw}
 use Rattle.b67_ctl.specs.Layout.{intrinsic_word, toscw_word, IsToscw}
-use Rattle.b67_model.specs.Answers.{Answer}
+use Rattle.b67_model.specs.Common.{Answer, Word, Operand, Name, Ref, Row, Element, Original, Proc, Intrinsic, Known, reach_of, IsSegment, NamesEntered, WordInOrder, cell}
 use Rattle.b67_model.specs.Words as Words
-use Rattle.b67_model.specs.Words.{Word, Operand, Name, Ref, Row, Element, Original, Proc, Intrinsic}
-use Rattle.b67_model.specs.InOrder.{Known, reach_of, IsSegment, NamesEntered, WordInOrder}
-use Rattle.b67_model.specs.Cells.{cell}
 use Rattle.b67_stack.specs.Stacks.{StackPlace}
 use Rattle.b67_stack.specs.Shapes.{Fits}
-use Rattle.b67_layout.specs.Placement.{spots}
-use Rattle.b67_layout.specs.Layout.{shape}
-use Rattle.b67_layout.specs.Session.{frame_address}
-use Rattle.b67_layout.specs.Meets.{here}
+use Rattle.b67_layout.specs.Common.{spots, shape, frame_address, here}
 use Rattle.b67_refer.specs.RunningContext.{LiveContext}
 
 module _ {core : List Tagged} {r : Regs} (a : LiveContext core r) where

@@ -4,12 +4,8 @@ use Rattle.b67_word.specs.Tagged.{Tagged}
 use Rattle.b67_word.specs.declared.couples.Place.{Place}
 use Rattle.b67_word.specs.declared.faults.Fault.{Fault}
 use Rattle.b67_ctl.specs.declared.registers.Regs.{Regs}
-use Rattle.b67_model.specs.Answers.{Answer}
-use Rattle.b67_model.specs.Words.{Word, Operand, Name, Ref, Proc}
-use Rattle.b67_model.specs.InOrder.{NamesArray}
-use Rattle.b67_model.specs.Arrays.{array}
+use Rattle.b67_model.specs.Common.{Answer, Word, Operand, Name, Ref, Proc, NamesArray, array, AtCell, AtElement, AtArray, AtProc, AtIntrinsic, Link, Stops, Leads}
 use Rattle.b67_model.specs.Chase as Chase
-use Rattle.b67_model.specs.Chase.{AtCell, AtElement, AtArray, AtProc, AtIntrinsic, Link, Stops, Leads}
 use Rattle.b67_refer.specs.declared.ends.End.{End}
 use Rattle.b67_refer.specs.declared.ends.End.TheVariants as end
 use Rattle.b67_refer.specs.RunningContext.{LiveContext}

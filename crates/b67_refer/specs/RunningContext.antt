@@ -3,13 +3,10 @@ use Rattle.std.specs.Prelude.{◌≡◌, ℕ, ◌+◌, ◌<◌, ◌≤◌, ◌�
 use Rattle.b67_word.specs.Tagged.{Tagged}
 use Rattle.b67_ctl.specs.declared.registers.Regs.{Regs}
 use Rattle.b67_model.specs.Keyed.{keyed}
-use Rattle.b67_model.specs.State.{Task, Job, SessionJob}
-use Rattle.b67_model.specs.Schedule.{Session}
-use Rattle.b67_model.specs.InOrder.{IsSegment, SettingInOrder, TasksInOrder}
+use Rattle.b67_model.specs.Common.{Task, Job, SessionJob, Session, IsSegment, SettingInOrder, TasksInOrder}
 use Rattle.b67_stack.specs.MachineView.{PagedObject}
 use Rattle.b67_stack.specs.Represents.{Storage}
-use Rattle.b67_layout.specs.Placement.{Placement}
-use Rattle.b67_layout.specs.Session.{IsRunning, SessionHoldsBut, ShowsDisplay}
+use Rattle.b67_layout.specs.Common.{Placement, IsRunning, SessionHoldsBut, ShowsDisplay}
 
 -- what references rest on in a job's order
 pub record MemberInOrder (m : SessionJob) : Type 0 where

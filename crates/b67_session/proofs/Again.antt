@@ -1,9 +1,6 @@
 -- After each slice, another one may be called.
 use Rattle.std.proofs.Common.{ℕ, List, length, Option, Result, Ok, Err, inl, inr}
-use Rattle.b67_model.specs.State.{Task, SessionJob}
-use Rattle.b67_model.specs.Run.{StepResult}
-use Rattle.b67_model.specs.InOrder.{IsInOrderButPlaces}
-use Rattle.b67_model.specs.Schedule.{Session}
+use Rattle.b67_model.specs.Common.{Task, SessionJob, StepResult, IsInOrderButPlaces, Session}
 use Rattle.b67_law_turns.specs.Turns.{IsNext}
 use Rattle.b67_layout_storage.specs.Machine.{Says}
 use Rattle.b67_task_tables.specs.declared.tables.Machine.{Machine}

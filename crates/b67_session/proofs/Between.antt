@@ -3,9 +3,7 @@ use Rattle.std.proofs.Common.{◌≡◌, ℕ, ◌+◌, ◌<◌, List, [], ◌++�
 use Rattle.std.specs.Option.{option_or}
 use Rattle.std.proofs.lemmas.Option.{none-some}
 use Rattle.b67_word.specs.declared.faults.Failed.{Failed}
-use Rattle.b67_model.specs.Lines.{run_text}
-use Rattle.b67_model.specs.Run.{RunLine, StepResult}
-use Rattle.b67_model.specs.Schedule.{Session}
+use Rattle.b67_model.specs.Common.{run_text, RunLine, StepResult, Session}
 use Rattle.b67_session_lines.specs.Moments.{first_part, last_part, text_of, joined, due}
 use Rattle.b67_session_lines.proofs.Joins.{steps-have-parts}
 use Rattle.b67_stack.specs.Represents.{Storage}

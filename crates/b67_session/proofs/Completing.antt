@@ -2,9 +2,7 @@
 use Rattle.std.proofs.Common.{◌≡◌, ◌≢◌, ℕ, ◌+◌, ◌<◌, ◌≤◌, List, length, Option, Some, None, Result, Ok, Err, inl, inr, ◌⊎◌, refl, sym, ap, ◌∙◌, subst, arith}
 use Rattle.std.specs.Result.{IsOk}
 use Rattle.b67_io.specs.Causes.{Stayed}
-use Rattle.b67_model.specs.Need.{need, need_next}
-use Rattle.b67_model.specs.Run.{StepResult, after}
-use Rattle.b67_model.specs.Schedule.{Session}
+use Rattle.b67_model.specs.Common.{need, need_next, StepResult, after, Session}
 use Rattle.b67_law_turns.specs.Turns.{IsNext}
 use Rattle.b67_law_turns.proofs.Limits.{no_last}
 use Rattle.b67_task_tables.specs.declared.tables.Machine.{Machine}

@@ -5,17 +5,8 @@ use Rattle.b67_word.specs.declared.faults.Ending.{Ending}
 use Rattle.b67_word.specs.declared.faults.Ending.TheVariants.{Ended, Parent, Deadlock, Limit, Faulted}
 use Rattle.b67_lemmas.proofs.Members.{all_in}
 use Rattle.b67_lemmas.proofs.Keyed.{change_is, changed_there}
-use Rattle.b67_model.specs.State.{Ready, Task, Job, SessionJob}
-use Rattle.b67_model.specs.Endings.{Stepped, ends_with}
-use Rattle.b67_model.specs.InOrder.{IsSegment, JobInOrder, NumberedFrom, IsInOrderButPlaces}
+use Rattle.b67_model.specs.Common.{Ready, Task, Job, SessionJob, Stepped, ends_with, IsSegment, JobInOrder, NumberedFrom, IsInOrderButPlaces, run_text, need, Reading, reading_of, step, step_by, StepResult, number_of, of_job, Session, Choice, Line, Goes, Leaves, Waits}
 use Rattle.b67_model.specs.Keyed.{keyed}
-use Rattle.b67_model.specs.Lines.{run_text}
-use Rattle.b67_model.specs.Need.{need}
-use Rattle.b67_model.specs.Operators.{Reading}
-use Rattle.b67_model.specs.Rows.{reading_of, step, step_by}
-use Rattle.b67_model.specs.Run.{StepResult, number_of, of_job}
-use Rattle.b67_model.specs.Schedule.{Session, Choice}
-use Rattle.b67_model.specs.Steps.{Line, Goes, Leaves, Waits}
 use Rattle.b67_law_order.proofs.Numbered.{numbered_change}
 use Rattle.b67_law_turns.specs.Orders.{IsInOrderButLimit, SettlesInOrder}
 use Rattle.b67_law_turns.specs.Turns.{IsNext, part_of}
@@ -26,10 +17,8 @@ use Rattle.b67_law_turns.proofs.Parts.{first_parts_keep_order}
 use Rattle.b67_law_turns.proofs.Settled.{ends_settle}
 use Rattle.b67_session_lines.specs.Moments.{first_part, text_of, due}
 use Rattle.b67_session_lines.specs.Parts.{TookRest}
-use Rattle.b67_layout.specs.Placement.{Placement}
-use Rattle.b67_layout.specs.Meets.{with_job}
+use Rattle.b67_layout.specs.Common.{Placement, with_job, moved}
 use Rattle.b67_layout.proofs.Weaker.{but_counts}
-use Rattle.b67_layout.specs.Moved.{moved}
 use Rattle.b67_task_tables.specs.declared.tables.TaskState.{TaskState}
 use Rattle.b67_task_tables.specs.declared.tables.Tasks.{Tasks}
 use Rattle.b67_task_tables.specs.declared.tables.Machine.{Machine}

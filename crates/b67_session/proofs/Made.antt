@@ -3,17 +3,10 @@ use Rattle.std.proofs.Common.{◌≡◌, ℕ, ◌+◌, ◌-◌, ◌≤◌, Bool,
 use Rattle.b67_lemmas.specs.Lists.{Has}
 use Rattle.b67_lemmas.proofs.Members.{all_in, total_has}
 use Rattle.b67_lemmas.proofs.Sums.{sum_total}
-use Rattle.b67_model.specs.Answers.{Answer}
-use Rattle.b67_model.specs.Alone.{JobMoment, moment_with}
-use Rattle.b67_model.specs.Endings.{Settled, Stepped, is_ready, deadlocked, unsettled, goes_on, ends_each_if}
+use Rattle.b67_model.specs.Common.{Answer, JobMoment, moment_with, Settled, Stepped, is_ready, deadlocked, unsettled, ends_each_if, IsSegment, JobInOrder, TasksInOrder, IsInOrderButPlaces, step, StepResult, number_of, of_job, live_tasks, with_moment, Session, Choice, Condition, Ready, Task, Job, SessionJob, Line, Done, Goes}
+use Rattle.b67_model.specs.Endings.{goes_on}
 use Rattle.b67_word.specs.declared.faults.Ending.TheVariants.{Deadlock}
-use Rattle.b67_model.specs.InOrder.{IsSegment, JobInOrder, TasksInOrder, IsInOrderButPlaces}
 use Rattle.b67_model.specs.Keyed.{keyed}
-use Rattle.b67_model.specs.Rows.{step}
-use Rattle.b67_model.specs.Run.{StepResult, number_of, of_job, live_tasks, with_moment}
-use Rattle.b67_model.specs.Schedule.{Session, Choice}
-use Rattle.b67_model.specs.State.{Condition, Ready, Task, Job, SessionJob}
-use Rattle.b67_model.specs.Steps.{Line, Done, Goes}
 use Rattle.b67_law_order.specs.Ends.{StepsFrom}
 use Rattle.b67_law_order.proofs.Numbered.{tasks_of}
 use Rattle.b67_law_order_rows.specs.Keeping.{KeepsOrder}

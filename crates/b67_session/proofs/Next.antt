@@ -7,18 +7,12 @@ use Rattle.b67_lemmas.specs.Lists.{Has}
 use Rattle.b67_lemmas.proofs.Members.{all_in, has_get, keyed_has, keyed_falls}
 use Rattle.b67_lemmas.proofs.Places.{at_mapped}
 use Rattle.b67_model.specs.Keyed.{keyed}
-use Rattle.b67_model.specs.InOrder.{IsSegment, JobInOrder, IsInOrderButPlaces}
-use Rattle.b67_model.specs.Need.{need, need_of_job, need_by, need_next}
-use Rattle.b67_model.specs.Run.{number_of}
-use Rattle.b67_model.specs.Schedule.{Who, Session, Choice}
-use Rattle.b67_model.specs.State.{Task, SessionJob}
+use Rattle.b67_model.specs.Common.{IsSegment, JobInOrder, IsInOrderButPlaces, need, need_of_job, need_by, need_next, number_of, Who, Session, Choice, Task, SessionJob}
 use Rattle.b67_law_order.proofs.Numbered.{keyed_member}
 use Rattle.b67_law_order_steps.specs.Weaker.{OtherNumbers, AllOtherNumbers}
 use Rattle.b67_law_turns.specs.Turns.{IsNext}
 use Rattle.b67_law_turns.proofs.Choices.{choice_ignores_numbers}
-use Rattle.b67_layout.specs.Placement.{Placement, slot_of}
-use Rattle.b67_layout.specs.Rows.{TaskShows}
-use Rattle.b67_layout.specs.Session.{RowsFit, IsRunning}
+use Rattle.b67_layout.specs.Common.{Placement, slot_of, TaskShows, RowsFit, IsRunning}
 use Rattle.b67_layout.proofs.Sessions.{running_only}
 use Rattle.b67_layout.proofs.Alike.{rows_alike}
 use Rattle.b67_layout_step.proofs.MoreOtherNumbers.{others_alike, others_running}

@@ -6,15 +6,11 @@ use Rattle.std.proofs.lemmas.Bool.{true≢false}
 use Rattle.b67_word.specs.declared.faults.Failed.{Failed}
 use Rattle.b67_lemmas.specs.Lists.{Has}
 use Rattle.b67_lemmas.proofs.Members.{keyed_has}
-use Rattle.b67_model.specs.State.{Task, SessionJob}
-use Rattle.b67_model.specs.Lines.{run_text}
-use Rattle.b67_model.specs.Run.{StepResult, number_of}
-use Rattle.b67_model.specs.Schedule.{Session}
+use Rattle.b67_model.specs.Common.{Task, SessionJob, run_text, StepResult, number_of, Session, NumberedFrom, IsInOrderButPlaces}
 use Rattle.b67_session_lines.specs.Moments.{first_part, last_part, text_of, due}
 use Rattle.b67_law_turns.specs.Turns.{IsNext, OrderAfter}
 use Rattle.b67_law_turns.proofs.Limits.{limit_of, no_last, last_parts_restore_order}
 use Rattle.b67_layout.specs.Placement.{Placement}
-use Rattle.b67_model.specs.InOrder.{NumberedFrom, IsInOrderButPlaces}
 use Rattle.b67_session_attempt.specs.Stops as stops
 use Rattle.b67_task_tables.specs.declared.tables.TaskRow.{TaskRow}
 use Rattle.b67_task_tables.specs.declared.tables.Tasks.{Tasks}

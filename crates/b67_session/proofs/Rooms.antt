@@ -5,24 +5,16 @@ use Rattle.std.proofs.lemmas.List.{length-map}
 use Rattle.b67_lemmas.specs.Lists.{Has}
 use Rattle.b67_lemmas.proofs.Members.{has_get, has_map, keyed_has}
 use Rattle.b67_lemmas.proofs.Places.{mapped_at}
-use Rattle.b67_model.specs.State.{Task, SessionJob}
-use Rattle.b67_model.specs.Schedule.{Session}
-use Rattle.b67_model.specs.Run.{number_of}
-use Rattle.b67_model.specs.InOrder.{IsSegment, JobInOrder, NumberedFrom, IsInOrderButPlaces}
+use Rattle.b67_model.specs.Common.{Task, SessionJob, Session, number_of, IsSegment, JobInOrder, NumberedFrom, IsInOrderButPlaces}
 use Rattle.b67_law_order.proofs.Numbered.{keyed_member, numbered_low}
 use Rattle.b67_stack.specs.declared.Cpu.{Cpu}
 use Rattle.b67_stack.specs.Represents.{Storage}
-use Rattle.b67_layout.specs.Placement.{Placement}
-use Rattle.b67_layout.specs.Orders.{IsInOrderButCounts}
+use Rattle.b67_layout.specs.Common.{Placement, IsInOrderButCounts, RunningRow, TaskShows, JobsShow, IsRunning, RepresentsSession}
 use Rattle.b67_layout.specs.Rows as rows
-use Rattle.b67_layout.specs.Rows.{RunningRow, TaskShows, JobsShow}
-use Rattle.b67_layout.specs.Session.{IsRunning, RepresentsSession}
-use Rattle.b67_layout.proofs.Rows.{slot_below}
-use Rattle.b67_layout.proofs.Sessions.{running_only}
+use Rattle.b67_layout.proofs.Common.{slot_below, running_only, job_at, live_in_order}
 use Rattle.b67_task_tables.specs.declared.tables.JobRow.{JobRow}
 use Rattle.b67_task_tables.specs.declared.tables.Tasks.{Tasks}
 use Rattle.b67_task_tables.specs.Tables.{task_row, job_row, switch_of, TasksShow}
-use Rattle.b67_layout.proofs.LiveTasks.{job_at, live_in_order}
 use Rattle.b67_task_tables.specs.RowOf.{IsRowOf}
 use Rattle.b67_session_schedule.specs.declared.counting.Chosen.{Chosen}
 use Rattle.b67_session_schedule.specs.Counted.{CountsHaveRoom}

@@ -4,9 +4,7 @@ use Rattle.std.specs.Prelude.{◌==◌}
 use Rattle.std.proofs.lemmas.Bool.{eqb-true}
 use Rattle.std.proofs.lemmas.List.Sums.{sum_by-cons}
 use Rattle.b67_lemmas.specs.Lists.{Has}
-use Rattle.b67_model.specs.State.{Task, SessionJob}
-use Rattle.b67_model.specs.Run.{live_tasks}
-use Rattle.b67_model.specs.Schedule.{Session}
+use Rattle.b67_model.specs.Common.{Task, SessionJob, live_tasks, Session}
 use Rattle.b67_task_tables.specs.declared.tables.TaskRow.{TaskRow}
 use Rattle.b67_task_tables.specs.declared.tables.Tasks.{Tasks}
 use Rattle.b67_task_tables.specs.declared.tables.Machine.{Machine}

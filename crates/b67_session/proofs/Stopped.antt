@@ -2,14 +2,8 @@
 use Rattle.std.proofs.Common.{◌≡◌, ◌≢◌, ℕ, ◌+◌, ◌<◌, ◌≤◌, List, [], ◌++◌, length, map, Option, Some, None, Result, Ok, Err, refl, sym, ap, ◌∙◌, subst, arith, inl}
 use Rattle.std.proofs.lemmas.List.{map-append}
 use Rattle.b67_word.specs.declared.faults.Ending.{Ending}
-use Rattle.b67_model.specs.State.{Task, Job, SessionJob}
-use Rattle.b67_model.specs.Endings.{Stepped, goes_on}
-use Rattle.b67_model.specs.Steps.{Line, Ends, Goes}
-use Rattle.b67_model.specs.Lines.{run_text}
-use Rattle.b67_model.specs.Need.{need}
-use Rattle.b67_model.specs.Rows.{step}
-use Rattle.b67_model.specs.Run.{RunLine, StepResult, of_job}
-use Rattle.b67_model.specs.Schedule.{Session}
+use Rattle.b67_model.specs.Common.{Task, Job, SessionJob, Stepped, Line, Ends, Goes, run_text, need, step, RunLine, StepResult, of_job, Session}
+use Rattle.b67_model.specs.Endings.{goes_on}
 use Rattle.b67_law_turns.specs.Turns.{task_lines}
 use Rattle.b67_law_turns.specs.Turns.{IsNext, part_of}
 use Rattle.b67_law_turns.proofs.Halves.{first_by}

@@ -2,10 +2,7 @@
 use Rattle.std.proofs.Common.{◌≡◌, ◌≢◌, ℕ, List, length, Option, Some, None, Result, Ok, Err, refl, sym, ap, ◌∙◌, subst}
 use Rattle.b67_word.specs.declared.faults.Ending.{Ending}
 use Rattle.b67_word.specs.declared.faults.Failed.{Failed}
-use Rattle.b67_model.specs.Endings.{Stepped, ends_with}
-use Rattle.b67_model.specs.Run.{StepResult}
-use Rattle.b67_model.specs.State.{Condition, Task, SessionJob}
-use Rattle.b67_model.specs.Schedule.{Session}
+use Rattle.b67_model.specs.Common.{Stepped, ends_with, StepResult, Condition, Task, SessionJob, Session}
 use Rattle.b67_law_turns.specs.Orders.{IsInOrderButLimit}
 use Rattle.b67_law_turns.specs.Turns.{IsNext, part_of}
 use Rattle.b67_stack.specs.Represents.{Storage}

@@ -12,17 +12,9 @@ use Rattle.b67_lemmas.proofs.Members.{all_in, change_found, change_twice, keyed_
 use Rattle.b67_lemmas.proofs.Places.{mapped_at}
 use Rattle.b67_lemmas.proofs.Sums.{sum_total}
 use Rattle.b67_word.specs.declared.faults.Ending.{Ending}
-use Rattle.b67_model.specs.Alone.{JobMoment, moment_with}
-use Rattle.b67_model.specs.Endings.{Settled, deadlocked, goes_on, unsettled}
-use Rattle.b67_model.specs.InOrder.{IsSegment, JobInOrder, NumberedFrom, IsInOrderButPlaces}
+use Rattle.b67_model.specs.Common.{JobMoment, moment_with, Settled, deadlocked, unsettled, IsSegment, JobInOrder, NumberedFrom, IsInOrderButPlaces, need, touched_of, Reading, reading_of, step, step_by, RunLine, StepResult, next, after, lines, live_tasks, number_of, Switch, Session, Task, Job, JobProgress, SessionJob, Line, Goes}
+use Rattle.b67_model.specs.Endings.{goes_on}
 use Rattle.b67_model.specs.Keyed.{keyed, change_keyed}
-use Rattle.b67_model.specs.Need.{need, touched_of}
-use Rattle.b67_model.specs.Operators.{Reading}
-use Rattle.b67_model.specs.Rows.{reading_of, step, step_by}
-use Rattle.b67_model.specs.Run.{RunLine, StepResult, next, after, lines, live_tasks, number_of}
-use Rattle.b67_model.specs.Schedule.{Switch, Session}
-use Rattle.b67_model.specs.State.{Task, Job, JobProgress, SessionJob}
-use Rattle.b67_model.specs.Steps.{Line, Goes}
 use Rattle.b67_session_lines.specs.Moments.{has_tasks, is_at_limit, last_part, last_part_by, last_part_if, joined}
 use Rattle.b67_session_lines.proofs.Joins.{steps-have-parts}
 use Rattle.b67_session_lines.proofs.Statuses.{after-add}
@@ -37,22 +29,13 @@ use Rattle.b67_law_turns.proofs.Runs.{Came, came-more}
 use Rattle.b67_stack.specs.declared.Cpu.{Cpu}
 use Rattle.b67_stack.specs.declared.Step.{Step}
 use Rattle.b67_stack.specs.declared.Step.TheVariants as answers
-use Rattle.b67_stack.specs.MachineView.{MachineView, NoOriginalAboveTop as Calm}
-use Rattle.b67_stack.specs.Represents.{Storage, Represents}
-use Rattle.b67_layout.specs.Layout.{machine_view}
-use Rattle.b67_layout.specs.Meets.{here, with_job}
-use Rattle.b67_layout.specs.Orders.{JobInOrderButCounts, IsInOrderButCounts}
-use Rattle.b67_layout.specs.Placement.{Placement, slot_of}
+use Rattle.b67_stack.specs.Common.{MachineView, NoOriginalAboveTop as Calm, Storage, Represents}
+use Rattle.b67_layout.specs.Common.{machine_view, here, with_job, JobInOrderButCounts, IsInOrderButCounts, Placement, slot_of, IsRunning, RepresentsSession, with_objects}
 use Rattle.b67_layout.specs.Rows as rows
-use Rattle.b67_layout.specs.Session.{IsRunning, RepresentsSession, with_objects}
-use Rattle.b67_layout.proofs.Weaker.{but_counts}
-use Rattle.b67_layout.proofs.Alike.{AllAlike}
-use Rattle.b67_layout.proofs.Counted.{SameJobs, same_machine_view}
-use Rattle.b67_layout.proofs.Paged.{RepresentsSession-over}
+use Rattle.b67_layout.proofs.Common.{but_counts, AllAlike, SameJobs, same_machine_view, RepresentsSession-over, job_at}
 use Rattle.b67_exec_cells.specs.Called as operators
 use Rattle.b67_exec_cells.specs.Called.{called_in}
 use Rattle.b67_exec_cells.specs.Running.{code_area}
-use Rattle.b67_layout.proofs.LiveTasks.{job_at}
 use Rattle.b67_task_tables.specs.declared.tables.Tasks.{Tasks}
 use Rattle.b67_task_tables.specs.declared.tables.Machine.{Machine}
 use Rattle.b67_task_tables.specs.Runs.{RunsTask}

@@ -1,9 +1,6 @@
 -- When core and device suffice for the steps of a slice.
 use Rattle.std.specs.Prelude.{◌≡◌, ◌≢◌, ℕ, ◌+◌, ◌<◌, ◌≤◌, List, Option, Some}
-use Rattle.b67_model.specs.State.{Task, SessionJob}
-use Rattle.b67_model.specs.Need.{need_next}
-use Rattle.b67_model.specs.Run.{StepResult, after}
-use Rattle.b67_model.specs.Schedule.{Session}
+use Rattle.b67_model.specs.Common.{Task, SessionJob, need_next, StepResult, after, Session}
 use Rattle.b67_law_turns.specs.Turns.{IsNext}
 use Rattle.b67_task_tables.specs.declared.tables.Tasks.{Tasks}
 use Rattle.b67_task_tables.specs.declared.tables.Machine.{Machine}

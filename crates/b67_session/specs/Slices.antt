@@ -1,12 +1,7 @@
 -- What a slice of a run answers, prints and leaves: a session of any jobs and tasks.
 use Rattle.std.specs.Prelude.{◌≡◌, ◌≢◌, ℕ, ◌+◌, ◌<◌, ◌≤◌, ◌⊎◌, List, [], ◌++◌, length, take, Option, Some, None, Result, Ok, Err}
 use Rattle.b67_io.specs.Told.{Took}
-use Rattle.b67_model.specs.State.{Task, SessionJob}
-use Rattle.b67_model.specs.Need.{need, need_next}
-use Rattle.b67_model.specs.Lines.{run_text}
-use Rattle.b67_model.specs.InOrder.{IsInOrderButPlaces}
-use Rattle.b67_model.specs.Schedule.{Session}
-use Rattle.b67_model.specs.Run.{RunLine, StepResult, after, lines, live_tasks}
+use Rattle.b67_model.specs.Common.{Task, SessionJob, need, need_next, run_text, IsInOrderButPlaces, Session, RunLine, StepResult, after, lines, live_tasks}
 use Rattle.b67_session_lines.specs.Moments.{first_part, last_part, due}
 use Rattle.b67_stack.specs.Represents.{Storage}
 use Rattle.b67_layout_storage.specs.Machine.{Says}

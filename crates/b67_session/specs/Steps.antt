@@ -1,8 +1,7 @@
 -- What a step of a session answers, prints and leaves.
 use Rattle.std.specs.Prelude.{◌≡◌, ◌≢◌, ℕ, ◌+◌, ◌≤◌, List, [], length, Option, Some, None, Result, Ok, Err}
 use Rattle.b67_session_lines.specs.Moments.{first_part, last_part, due}
-use Rattle.b67_model.specs.Run.{RunLine, StepResult, next, after, lines}
-use Rattle.b67_model.specs.Schedule.{Session}
+use Rattle.b67_model.specs.Common.{RunLine, StepResult, next, after, lines, Session}
 use Rattle.b67_task_tables.specs.declared.tables.Machine.{Machine}
 use Rattle.b67_session_attempt.specs.Stops.{Stop}
 use Rattle.b67_session_attempt.specs.Stops as stops

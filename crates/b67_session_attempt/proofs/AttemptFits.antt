@@ -7,25 +7,12 @@ use Rattle.b67_model.specs.declared.operators.Op.{Op}
 use Rattle.b67_model.specs.declared.operators.Op.TheVariants.{Plain}
 use Rattle.b67_model.specs.declared.operators.Code.{Code}
 use Rattle.b67_model.specs.declared.operators.Code.TheVariants.{Entr}
-use Rattle.b67_model.specs.Answers.{Answer}
-use Rattle.b67_model.specs.Words.{Word}
-use Rattle.b67_model.specs.Chase.{AtIntrinsic, follow_reference}
-use Rattle.b67_model.specs.Operators.{Reading}
-use Rattle.b67_model.specs.State.{Standing, Marked, Entered, Task, Job, SessionJob, OperatorContext, top}
-use Rattle.b67_model.specs.Steps.{Line, Done, Goes, Leaves}
-use Rattle.b67_model.specs.Need.{touched_of, touched_at_mark, touched_before_fault, started_by, need}
-use Rattle.b67_model.specs.Rows.{reading_of, step}
-use Rattle.b67_model.specs.Run.{number_of}
-use Rattle.b67_model.specs.Schedule.{Session}
-use Rattle.b67_layout.specs.Orders.{IsInOrderButCounts}
+use Rattle.b67_model.specs.Common.{Answer, Word, AtIntrinsic, follow_reference, Reading, Standing, Marked, Entered, Task, Job, SessionJob, OperatorContext, top, Line, Done, Goes, Leaves, touched_of, touched_at_mark, touched_before_fault, started_by, need, reading_of, step, number_of, Session, called_at, called_by, called_on, called}
+use Rattle.b67_layout.specs.Common.{IsInOrderButCounts, Placement, IsRunning, here, area_held, IsPresent}
 use Rattle.b67_stack.specs.declared.What.TheVariants as what
 use Rattle.b67_stack.specs.declared.Step.{Step}
 use Rattle.b67_stack.specs.declared.Step.TheVariants as answers
 use Rattle.b67_stack.specs.Represents.{Storage}
-use Rattle.b67_layout.specs.Placement.{Placement}
-use Rattle.b67_layout.specs.Session.{IsRunning}
-use Rattle.b67_layout.specs.Meets.{here, area_held, IsPresent}
-use Rattle.b67_model.specs.Called.{called_at, called_by, called_on, called}
 use Rattle.b67_exec_cells.specs.Running.{code_area}
 use Rattle.b67_exec_cells.specs.Called as operators
 use Rattle.b67_exec_cells.specs.Called.{called_in}

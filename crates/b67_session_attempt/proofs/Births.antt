@@ -3,13 +3,8 @@ use Rattle.std.proofs.Common.{◌≡◌, ℕ, ◌+◌, ◌<◌, ◌≤◌, ltb, 
 use Rattle.std.proofs.lemmas.Bool.{eqb-true, cases_lt}
 use Rattle.std.proofs.lemmas.List.{length-map}
 use Rattle.b67_lemmas.proofs.Members.{length_change}
-use Rattle.b67_model.specs.Words.{Word, Operand, whole}
-use Rattle.b67_model.specs.State.{Task, Job, SessionJob, OperatorContext, with_task}
-use Rattle.b67_model.specs.Cells.{with_cell}
-use Rattle.b67_model.specs.Chase.{End, AtCell, AtElement, AtArray, AtProc, AtIntrinsic, follow_reference}
-use Rattle.b67_model.specs.Steps.{Line, Done, Goes, Leaves, Waits}
-use Rattle.b67_model.specs.Intrinsics.{answered, answers, child_of, starts, process, is_live, awaits, await, status_of, status, waits_at, wait, woken_at, causes, cause, Call, call_in, calls, intrinsic}
-use Rattle.b67_model.specs.Rows.{step}
+use Rattle.b67_model.specs.Common.{Word, Operand, Task, Job, SessionJob, OperatorContext, with_task, with_cell, End, AtCell, AtElement, AtArray, AtProc, AtIntrinsic, follow_reference, Line, Done, Goes, Leaves, Waits, answered, answers, child_of, starts, process, is_live, awaits, await, status_of, status, waits_at, wait, woken_at, causes, cause, Call, call_in, calls, intrinsic, step}
+use Rattle.b67_model.specs.Words.{whole}
 use Rattle.b67_law_order.proofs.Posts.{Post, post_ok, post_err, post_any, post_then, post_if, post_if_is, post_more, post_at}
 use Rattle.b67_layout.specs.Meets.{here}
 use Rattle.b67_mcp.proofs.Callings.{Calling}

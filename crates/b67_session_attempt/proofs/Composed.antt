@@ -2,18 +2,13 @@
 use Rattle.std.proofs.Common.{◌≡◌, ◌≢◌, ℕ, ◌+◌, ◌<◌, ◌≤◌, ◌⊎◌, ⊎_elim, arith, inl, inr, List, length, Option, Some, None, Result, Ok, Err, refl, sym, ◌∙◌, ap, subst}
 use Rattle.std.proofs.lemmas.Option.{same_Some}
 use Rattle.b67_word.specs.declared.faults.Ending.{Ending}
-use Rattle.b67_model.specs.State.{Ready, Task, SessionJob}
+use Rattle.b67_model.specs.Common.{Ready, Task, SessionJob, need, number_of, Session}
 use Rattle.b67_model.specs.Keyed.{keyed}
-use Rattle.b67_model.specs.Need.{need}
-use Rattle.b67_model.specs.Run.{number_of}
-use Rattle.b67_model.specs.Schedule.{Session}
-use Rattle.b67_layout.specs.Orders.{IsInOrderButCounts}
+use Rattle.b67_layout.specs.Common.{IsInOrderButCounts, Placement, IsRunning}
 use Rattle.b67_stack.specs.declared.What.{What}
 use Rattle.b67_stack.specs.declared.What.TheVariants as what
 use Rattle.b67_stack.specs.Represents.{Storage}
 use Rattle.b67_layout_storage.specs.Machine.{Says, content_after}
-use Rattle.b67_layout.specs.Placement.{Placement}
-use Rattle.b67_layout.specs.Session.{IsRunning}
 use Rattle.b67_exec_cells.specs.Running.{code_area}
 use Rattle.b67_layout_step.proofs.OtherNumbers.{others_in_order}
 use Rattle.b67_task_tables.specs.declared.tables.TaskState.{TaskState}

@@ -4,19 +4,11 @@ use Rattle.std.specs.Prelude.{max}
 use Rattle.std.proofs.lemmas.Bool.{lt-ltb, le-ltb}
 use Rattle.b67_area.proofs.Laws.{area_inside}
 use Rattle.b67_model.specs.Keyed.{keyed}
-use Rattle.b67_model.specs.State.{Array, Task, Job, SessionJob}
-use Rattle.b67_model.specs.Arrays.{no_array, array}
-use Rattle.b67_model.specs.Need.{fixed, touched_of, started_by, area_of, need}
-use Rattle.b67_model.specs.Rows.{code_of, step}
-use Rattle.b67_model.specs.Run.{live_tasks}
-use Rattle.b67_model.specs.Schedule.{Session}
-use Rattle.b67_model.specs.InOrder.{ArrayInOrder}
-use Rattle.b67_layout.specs.Orders.{IsInOrderButCounts}
+use Rattle.b67_model.specs.Common.{Array, Task, Job, SessionJob, no_array, array, fixed, touched_of, started_by, area_of, need, code_of, step, live_tasks, Session, ArrayInOrder}
+use Rattle.b67_layout.specs.Common.{IsInOrderButCounts, Placement, IsRunning}
 use Rattle.b67_stack.specs.declared.What.{What}
 use Rattle.b67_stack.specs.declared.What.TheVariants as what
 use Rattle.b67_stack.specs.Represents.{Storage, info_of}
-use Rattle.b67_layout.specs.Placement.{Placement}
-use Rattle.b67_layout.specs.Session.{IsRunning}
 use Rattle.b67_layout.proofs.Fresh.{running_in_order}
 use Rattle.b67_exec_cells.specs.Running.{code_area}
 use Rattle.b67_exec_cells.proofs.Codes.{area-inside}

@@ -6,22 +6,12 @@ use Rattle.b67_word.specs.declared.faults.Fault.TheVariants.{StackOverflow}
 use Rattle.b67_model.specs.declared.operators.Op.{Op}
 use Rattle.b67_model.specs.declared.operators.Op.TheVariants.{Plain}
 use Rattle.b67_model.specs.declared.operators.Code.TheVariants.{Entr}
-use Rattle.b67_model.specs.Answers.{Answer, needs}
-use Rattle.b67_model.specs.Words.{Word, Operand, Original, whole}
-use Rattle.b67_model.specs.Operators.{Reading}
-use Rattle.b67_model.specs.State.{Frame, Array, Standing, Marked, Entered, Task, JobConstants, Job, SessionJob, OperatorContext, top, below_top}
+use Rattle.b67_model.specs.Common.{Answer, needs, Word, Operand, Original, Reading, Frame, Array, Standing, Marked, Entered, Task, JobConstants, Job, SessionJob, OperatorContext, top, below_top, array, with_array, all_zero, End, AtCell, AtElement, AtArray, AtProc, AtIntrinsic, follow_reference, Line, Done, Goes, Leaves, Waits, top_of, cells_of, result, needs_level, back_to, answered, answers, array_length, arraydec, print, numbers_of, row_copy, printrow, read_from, read, child_of, starts, process, awaits, await, status_of, status, waits_at, wait, causes, cause, needs_writable, deallocate, resize, intrinsic, touched_of, started_by, entr_at, entr_with, entr, row, reading_of, step_by, step, called}
+use Rattle.b67_model.specs.Words.{whole}
 use Rattle.b67_model.specs.Keyed.{keyed}
-use Rattle.b67_model.specs.Arrays.{array, with_array, all_zero}
-use Rattle.b67_model.specs.Chase.{End, AtCell, AtElement, AtArray, AtProc, AtIntrinsic, follow_reference}
-use Rattle.b67_model.specs.Steps.{Line, Done, Goes, Leaves, Waits, top_of, cells_of, result}
-use Rattle.b67_model.specs.Entry.{needs_level, back_to}
-use Rattle.b67_model.specs.Intrinsics.{answered, answers, array_length, arraydec, print, numbers_of, row_copy, printrow, read_from, read, child_of, starts, process, awaits, await, status_of, status, waits_at, wait, causes, cause, needs_writable, deallocate, resize, intrinsic}
-use Rattle.b67_model.specs.Need.{touched_of, started_by}
-use Rattle.b67_model.specs.Rows.{entr_at, entr_with, entr, row, reading_of, step_by, step}
 use Rattle.b67_law_order.proofs.Posts.{Post, post_ok, post_err, post_any, post_then, post_if, post_more, post_is}
 use Rattle.b67_layout.specs.Placement.{Placement}
 use Rattle.b67_layout.specs.Session.{IsRunning}
-use Rattle.b67_model.specs.Called.{called}
 use Rattle.b67_law_order_steps.specs.Profiles.{Profile, profile, profiles, IsKnown}
 use Rattle.b67_law_order_steps.proofs.Lemmas.{rows_keep}
 use Rattle.b67_lemmas.proofs.Members.{length_change}

@@ -2,14 +2,9 @@
 use Rattle.std.proofs.Common.{◌≡◌, ℕ, length, List, Option, Some, None, Ok, Err, sym, ◌∙◌, ap}
 use Rattle.std.proofs.lemmas.List.{length-map}
 use Rattle.b67_model.specs.declared.operators.Op.{Op}
-use Rattle.b67_model.specs.Operators.{Reading}
-use Rattle.b67_model.specs.State.{Task, Job, SessionJob, OperatorContext}
+use Rattle.b67_model.specs.Common.{Reading, Task, Job, SessionJob, OperatorContext, Line, Done, Goes, Leaves, Waits, started_by, row, reading_of, step_by, step, called}
 use Rattle.b67_model.specs.Keyed.{keyed}
-use Rattle.b67_model.specs.Steps.{Line, Done, Goes, Leaves, Waits}
-use Rattle.b67_model.specs.Need.{started_by}
-use Rattle.b67_model.specs.Rows.{row, reading_of, step_by, step}
 use Rattle.b67_law_order.proofs.Posts.{Post, post_err, post_more, post_is, post_at}
-use Rattle.b67_model.specs.Called.{called}
 use Rattle.b67_law_order_steps.specs.Profiles.{profile, IsKnown}
 use Rattle.b67_law_order_steps.proofs.Lemmas.{rows_keep}
 use Rattle.b67_exec_cells.specs.Called as operators

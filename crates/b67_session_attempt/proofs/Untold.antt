@@ -3,9 +3,7 @@ use Rattle.std.proofs.Common.{ℕ, List, [], Option, None, refl}
 use Rattle.b67_model.specs.Schedule.{Session}
 use Rattle.b67_stack.specs.Represents.{Storage}
 use Rattle.b67_layout_storage.proofs.Untold.{untold, Represents-untold}
-use Rattle.b67_layout.specs.Placement.{Placement}
-use Rattle.b67_layout.specs.Layout.{machine_view}
-use Rattle.b67_layout.specs.Session.{with_objects}
+use Rattle.b67_layout.specs.Common.{Placement, machine_view, with_objects}
 use Rattle.b67_task_tables.specs.declared.tables.Machine.{Machine}
 use Rattle.b67_task_tables.specs.Tables.{MachineRepresents}
 

@@ -1,17 +1,10 @@
 -- What the next operator of the running task answers and leaves, with what it wants brought into core.
 use Rattle.std.specs.Prelude.{◌≡◌, ◌≢◌, ℕ, ◌<◌, ◌≤◌, ◌⊎◌, List, Option, Some, None, Result, Ok, Err}
-use Rattle.b67_model.specs.State.{Ready, Task, SessionJob}
-use Rattle.b67_model.specs.Sectors.{sectors}
-use Rattle.b67_model.specs.Need.{touched_of, need}
-use Rattle.b67_model.specs.Rows.{step}
-use Rattle.b67_model.specs.Schedule.{Session}
-use Rattle.b67_layout.specs.Orders.{IsInOrderButCounts}
+use Rattle.b67_model.specs.Common.{Ready, Task, SessionJob, sectors, touched_of, need, step, Session}
+use Rattle.b67_layout.specs.Common.{IsInOrderButCounts, Placement, IsRunning, area_held, with_job}
 use Rattle.b67_stack.specs.Represents.{Storage}
-use Rattle.b67_layout.specs.Placement.{Placement}
-use Rattle.b67_layout.specs.Session.{IsRunning}
 use Rattle.b67_law_order_steps.specs.Weaker.{AllOtherNumbers}
 use Rattle.b67_presence.specs.Bringing.{StandsOver}
-use Rattle.b67_layout.specs.Meets.{area_held, with_job}
 use Rattle.b67_exec_cells.specs.Running.{code_area}
 use Rattle.b67_task_tables.specs.declared.tables.Machine.{Machine}
 use Rattle.b67_task_tables.specs.declared.tables.Tasks.{Tasks}

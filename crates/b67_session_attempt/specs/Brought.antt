@@ -1,9 +1,6 @@
 -- What bringing in answers and leaves that the next operator wants, with the numbers that a stop says.
 use Rattle.std.specs.Prelude.{◌≡◌, ◌≢◌, ℕ, ◌<◌, ◌≤◌, List, Option, None, Result, Ok, Err}
-use Rattle.b67_model.specs.State.{Task, SessionJob}
-use Rattle.b67_model.specs.Sectors.{sectors}
-use Rattle.b67_model.specs.Need.{need}
-use Rattle.b67_model.specs.Schedule.{Session}
+use Rattle.b67_model.specs.Common.{Task, SessionJob, sectors, need, Session}
 use Rattle.b67_stack.specs.declared.What.{What}
 use Rattle.b67_stack.specs.Represents.{Storage}
 use Rattle.b67_layout_storage.specs.Machine.{content_after}

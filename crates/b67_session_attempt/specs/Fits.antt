@@ -1,9 +1,7 @@
 -- Core has room for what is present beside the stacks, and for a step whose segment and array are.
 use Rattle.std.specs.Prelude.{◌≡◌, ℕ, ◌≤◌, length, Option, Some, None}
 use Rattle.b67_lemmas.specs.Lists.{Has}
-use Rattle.b67_model.specs.State.{Array, Job}
-use Rattle.b67_model.specs.Rows.{step}
-use Rattle.b67_model.specs.Need.{touched_of, started_by, need}
+use Rattle.b67_model.specs.Common.{Array, Job, step, touched_of, started_by, need}
 use Rattle.b67_stack.specs.declared.Cpu.{Cpu}
 use Rattle.b67_layout.specs.Meets.{IsPresent, ForEach}
 use Rattle.b67_exec_cells.specs.Running.{code_area}

@@ -8,19 +8,11 @@ use Rattle.b67_word.specs.declared.faults.Ending.{Ending}
 use Rattle.b67_word.specs.declared.faults.Ending.TheVariants.{Limit}
 use Rattle.b67_lemmas.specs.Lists.{Has}
 use Rattle.b67_lemmas.proofs.Members.{keyed_has}
-use Rattle.b67_model.specs.State.{SessionJob}
-use Rattle.b67_model.specs.Steps.{Ends}
-use Rattle.b67_model.specs.Endings.{Settled, all_with, deepest_first, ends_each_if, unsettled}
+use Rattle.b67_model.specs.Common.{SessionJob, Ends, Settled, all_with, deepest_first, ends_each_if, unsettled, run_text, StepResult, number_of, of_job, Session, IsSegment}
 use Rattle.b67_model.specs.Keyed.{keyed, change_keyed}
-use Rattle.b67_model.specs.Lines.{run_text}
-use Rattle.b67_model.specs.Run.{StepResult, number_of, of_job}
-use Rattle.b67_model.specs.Schedule.{Session}
 use Rattle.b67_session_lines.specs.Moments.{last_part}
 use Rattle.b67_stack.specs.Represents.{Storage}
-use Rattle.b67_layout.specs.Meets.{with_job}
-use Rattle.b67_layout.specs.Orders.{JobInOrderButCounts, IsInOrderButCounts}
-use Rattle.b67_model.specs.InOrder.{IsSegment}
-use Rattle.b67_layout.specs.Placement.{Placement}
+use Rattle.b67_layout.specs.Common.{with_job, JobInOrderButCounts, IsInOrderButCounts, Placement}
 use Rattle.b67_law_turns.specs.Orders.{JobInOrderButLimit, IsInOrderButLimit}
 use Rattle.b67_law_turns.proofs.Limits.{LimitOf, limit_of}
 use Rattle.b67_task_tables.specs.declared.tables.Machine.{Machine}

@@ -7,22 +7,14 @@ use Rattle.b67_lemmas.specs.Lists.{Has}
 use Rattle.b67_lemmas.proofs.Members.{all_in, keyed_has, length_change, total_change}
 use Rattle.b67_lemmas.proofs.Keyed.{change_is, all_change, changed_there}
 use Rattle.b67_lemmas.proofs.Sums.{sum_total}
-use Rattle.b67_model.specs.Alone.{JobMoment, moment_with}
-use Rattle.b67_model.specs.State.{Task, Job, SessionJob}
+use Rattle.b67_model.specs.Common.{JobMoment, moment_with, Task, Job, SessionJob, Settled, Stepped, is_ready, deadlocked, ends_each_if, ends_task, ends_with, unsettled, IsSegment, TasksInOrder, run_text, number_of, Session, Choice}
 use Rattle.b67_model.specs.Keyed.{keyed, change_keyed}
-use Rattle.b67_model.specs.Endings.{Settled, Stepped, is_ready, deadlocked, ends_each_if, ends_task, ends_with, unsettled}
-use Rattle.b67_model.specs.InOrder.{IsSegment, TasksInOrder}
-use Rattle.b67_model.specs.Lines.{run_text}
-use Rattle.b67_model.specs.Run.{number_of}
-use Rattle.b67_model.specs.Schedule.{Session, Choice}
 use Rattle.b67_law_order.proofs.Numbered.{numbered_change}
 use Rattle.b67_law_order_steps.proofs.Deaths.{ends_task_good}
 use Rattle.b67_law_turns.specs.Turns.{part_of}
 use Rattle.b67_law_turns.proofs.Settled.{ends_fewer}
 use Rattle.b67_stack.specs.Represents.{Storage}
-use Rattle.b67_layout.specs.Meets.{with_job}
-use Rattle.b67_layout.specs.Orders.{JobInOrderButCounts, IsInOrderButCounts}
-use Rattle.b67_layout.specs.Placement.{Placement}
+use Rattle.b67_layout.specs.Common.{with_job, JobInOrderButCounts, IsInOrderButCounts, Placement}
 use Rattle.b67_layout.proofs.Sessions.{course_twice}
 use Rattle.b67_layout.proofs.Weaker.{but_counts}
 use Rattle.b67_task_tables.specs.declared.tables.Tasks.{Tasks}

@@ -3,23 +3,13 @@ use Rattle.std.proofs.Common.{◌≡◌, ℕ, ◌+◌, List, [], ◌∷◌, leng
 use Rattle.std.proofs.lemmas.Bool.Decides.{eqb_tells}
 use Rattle.b67_lemmas.proofs.Members.{keyed_has, total_has}
 use Rattle.b67_lemmas.proofs.Sums.{sum_total}
-use Rattle.b67_model.specs.State.{Job, JobProgress, SessionJob}
-use Rattle.b67_model.specs.Alone.{JobMoment}
+use Rattle.b67_model.specs.Common.{Job, JobProgress, SessionJob, JobMoment, IsInOrderButPlaces, number_of, with_moment, Session}
 use Rattle.b67_model.specs.Keyed.{keyed, change_keyed}
-use Rattle.b67_model.specs.InOrder.{IsInOrderButPlaces}
-use Rattle.b67_model.specs.Run.{number_of, with_moment}
-use Rattle.b67_model.specs.Schedule.{Session}
 use Rattle.b67_law_order.proofs.Numbered.{tasks_of}
 use Rattle.b67_stack.specs.declared.Cpu.{Cpu}
-use Rattle.b67_stack.specs.MachineView.{MachineView, NoOriginalAboveTop as Calm}
-use Rattle.b67_stack.specs.Represents.{Storage, Represents}
-use Rattle.b67_layout.specs.Placement.{Placement}
-use Rattle.b67_layout.specs.Layout.{machine_view}
-use Rattle.b67_layout.specs.Session.{RepresentsSession, with_objects}
-use Rattle.b67_layout.specs.Meets.{with_job}
-use Rattle.b67_layout.proofs.Alike.{AllAlike}
-use Rattle.b67_layout.proofs.Counted.{SameJobs, same_machine_view}
-use Rattle.b67_layout.proofs.Paged.{RepresentsSession-over}
+use Rattle.b67_stack.specs.Common.{MachineView, NoOriginalAboveTop as Calm, Storage, Represents}
+use Rattle.b67_layout.specs.Common.{Placement, machine_view, RepresentsSession, with_objects, with_job}
+use Rattle.b67_layout.proofs.Common.{AllAlike, SameJobs, same_machine_view, RepresentsSession-over}
 use Rattle.b67_task_tables.specs.declared.tables.Tasks.{Tasks}
 use Rattle.b67_task_tables.specs.declared.tables.Machine.{Machine}
 use Rattle.b67_task_tables.specs.Tables.{MachineRepresents}

@@ -10,18 +10,12 @@ use Rattle.b67_word.specs.declared.faults.Ending.TheVariants.{Deadlock, Limit}
 use Rattle.b67_lemmas.specs.Lists.{Has}
 use Rattle.b67_lemmas.proofs.Members.{all_in}
 use Rattle.b67_lemmas.proofs.Keyed.{change_same}
-use Rattle.b67_model.specs.State.{Condition, Ready, Awaits, WaitsAt, Array, Task, Job, SessionJob}
-use Rattle.b67_model.specs.Endings.{Settled, all_with, among, released, is_ready, is_owned_by, deadlocked, deepest_first, ends_each_if, ends_task, unsettled}
-use Rattle.b67_model.specs.InOrder.{IsSegment, TasksInOrder}
-use Rattle.b67_model.specs.Run.{number_of}
-use Rattle.b67_model.specs.Schedule.{Session}
+use Rattle.b67_model.specs.Common.{Condition, Ready, Awaits, WaitsAt, Array, Task, Job, SessionJob, Settled, all_with, among, released, is_ready, is_owned_by, deadlocked, deepest_first, ends_each_if, ends_task, unsettled, IsSegment, TasksInOrder, number_of, Session}
 use Rattle.b67_law_order.proofs.Numbered.{keyed_member}
 use Rattle.b67_law_turns.proofs.Deepest.{others, with_stuck, is_stuck, first_endings}
 use Rattle.b67_law_turns.proofs.First.{emptied, each_emptied}
 use Rattle.b67_stack.specs.Represents.{Storage}
-use Rattle.b67_layout.specs.Meets.{with_job}
-use Rattle.b67_layout.specs.Orders.{JobInOrderButCounts, IsInOrderButCounts}
-use Rattle.b67_layout.specs.Placement.{Placement}
+use Rattle.b67_layout.specs.Common.{with_job, JobInOrderButCounts, IsInOrderButCounts, Placement}
 use Rattle.b67_task_tables.specs.declared.tables.TaskRow.{TaskRow}
 use Rattle.b67_task_tables.specs.declared.tables.Tasks.{Tasks}
 use Rattle.b67_task_tables.specs.declared.tables.Machine.{Machine}

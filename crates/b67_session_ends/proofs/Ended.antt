@@ -4,21 +4,13 @@ use Rattle.std.proofs.lemmas.Bool.Decides.{eqb_tells}
 use Rattle.b67_word.specs.declared.faults.Ending.{Ending}
 use Rattle.b67_lemmas.specs.Lists.{Has}
 use Rattle.b67_lemmas.proofs.Keyed.{change_is}
-use Rattle.b67_model.specs.State.{Task, Job, SessionJob}
+use Rattle.b67_model.specs.Common.{Task, Job, SessionJob, number_of, Session}
 use Rattle.b67_model.specs.Keyed.{keyed, change_keyed}
-use Rattle.b67_model.specs.Run.{number_of}
-use Rattle.b67_model.specs.Schedule.{Session}
 use Rattle.b67_stack.specs.declared.Cpu.{Cpu}
-use Rattle.b67_stack.specs.MachineView.{MachineView, NoOriginalAboveTop as Calm}
-use Rattle.b67_stack.specs.Represents.{Storage, Represents}
-use Rattle.b67_layout.specs.Placement.{Placement}
-use Rattle.b67_layout.specs.Layout.{machine_view}
+use Rattle.b67_stack.specs.Common.{MachineView, NoOriginalAboveTop as Calm, Storage, Represents}
+use Rattle.b67_layout.specs.Common.{Placement, machine_view, JobCounts, TaskShows, JobShows, JobsShow, TablesShow, RepresentsSession, with_objects}
 use Rattle.b67_layout.specs.Rows as rows
-use Rattle.b67_layout.specs.Rows.{JobCounts, TaskShows, JobShows, JobsShow, TablesShow}
-use Rattle.b67_layout.specs.Session.{RepresentsSession, with_objects}
-use Rattle.b67_layout.proofs.Alike.{AllAlike}
-use Rattle.b67_layout.proofs.Counted.{SameJobs, same_machine_view}
-use Rattle.b67_layout.proofs.Paged.{RepresentsSession-over}
+use Rattle.b67_layout.proofs.Common.{AllAlike, SameJobs, same_machine_view, RepresentsSession-over}
 use Rattle.b67_task_tables.specs.declared.tables.Machine.{Machine}
 use Rattle.b67_task_tables.specs.Tables.{MachineRepresents}
 

@@ -7,8 +7,7 @@ use Rattle.b67_word.specs.declared.faults.Ending.{Ending}
 use Rattle.b67_io.specs.Line.{ended}
 use Rattle.b67_io.specs.Told.{Continues}
 use Rattle.b67_io.proofs.Joined.{Continues-none, Continues-then}
-use Rattle.b67_model.specs.Endings.{all_with}
-use Rattle.b67_model.specs.Lines.{task_name, ending_name}
+use Rattle.b67_model.specs.Common.{all_with, task_name, ending_name}
 use Rattle.b67_session_lines.specs.Parts.{TookRest, TookMore}
 use Rattle.b67_lemmas.proofs.Places.{drop-get}
 use Rattle.b67_task_end.specs.declared.families.EndedTask.{EndedTask}

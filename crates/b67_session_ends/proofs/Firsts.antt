@@ -9,20 +9,13 @@ use Rattle.b67_lemmas.proofs.Members.{all_in, has_get, has_map_back}
 use Rattle.b67_lemmas.proofs.Places.{at_mapped, has_at}
 use Rattle.std.specs.List.{slice_get}
 use Rattle.std.proofs.lemmas.Option.{same_Some, get_or_from_slice_get, slice_get-get_or, slice_get_within}
-use Rattle.b67_model.specs.State.{Task, Job, SessionJob}
+use Rattle.b67_model.specs.Common.{Task, Job, SessionJob, ends_each_if, ends_task, unsettled, IsSegment, TasksInOrder, number_of, Session}
 use Rattle.b67_model.specs.Keyed.{keyed}
-use Rattle.b67_model.specs.Endings.{ends_each_if, ends_task, unsettled}
-use Rattle.b67_model.specs.InOrder.{IsSegment, TasksInOrder}
-use Rattle.b67_model.specs.Run.{number_of}
-use Rattle.b67_model.specs.Schedule.{Session}
 use Rattle.b67_law_order.proofs.Numbered.{keyed_member}
 use Rattle.b67_law_turns.proofs.First.{first_lives, first_emptied, each_emptied}
 use Rattle.b67_stack.specs.Represents.{Storage}
-use Rattle.b67_layout.specs.Meets.{with_job}
-use Rattle.b67_layout.specs.Orders.{JobInOrderButCounts, IsInOrderButCounts}
-use Rattle.b67_layout.specs.Placement.{Placement}
+use Rattle.b67_layout.specs.Common.{with_job, JobInOrderButCounts, IsInOrderButCounts, Placement, TaskShows}
 use Rattle.b67_layout.specs.Rows as rows
-use Rattle.b67_layout.specs.Rows.{TaskShows}
 use Rattle.b67_task_tables.specs.declared.tables.TaskRow.{TaskRow}
 use Rattle.b67_task_tables.specs.declared.tables.Machine.{Machine}
 use Rattle.b67_task_tables.specs.Tables.{task_row, MachineRepresents}

@@ -6,15 +6,11 @@ use Rattle.std.proofs.lemmas.Bool.{cases_Bool, and_parts, eqb-true, eq-eqb}
 use Rattle.std.proofs.lemmas.Option.{same_Some}
 use Rattle.b67_lemmas.specs.Lists.{Has}
 use Rattle.b67_lemmas.proofs.Members.{any_has, any_none, has_filter, has_filter_in, has_map, has_map_back}
-use Rattle.b67_model.specs.State.{Condition, Ready, Awaits, WaitsAt, Task, SessionJob}
+use Rattle.b67_model.specs.Common.{Condition, Ready, Awaits, WaitsAt, Task, SessionJob, among, released, is_ready, number_of, Session}
 use Rattle.b67_model.specs.Keyed.{keyed}
-use Rattle.b67_model.specs.Endings.{among, released, is_ready}
-use Rattle.b67_model.specs.Run.{number_of}
-use Rattle.b67_model.specs.Schedule.{Session}
 use Rattle.b67_law_order.proofs.Numbered.{keyed_member}
-use Rattle.b67_layout.specs.Placement.{Placement}
+use Rattle.b67_layout.specs.Common.{Placement, TaskShows, shown}
 use Rattle.b67_layout.specs.Rows as rows
-use Rattle.b67_layout.specs.Rows.{TaskShows, shown}
 use Rattle.b67_task_tables.specs.declared.tables.TaskState.{TaskState}
 use Rattle.b67_task_tables.specs.declared.tables.TaskState.TheVariants as states
 use Rattle.b67_task_tables.specs.declared.tables.TaskRow.{TaskRow}

@@ -1,11 +1,7 @@
 -- What one operator more makes of the tables.
 use Rattle.std.specs.Prelude.{◌≡◌, ◌+◌, Some}
-use Rattle.b67_model.specs.Alone.{JobMoment}
-use Rattle.b67_model.specs.InOrder.{NumberedFrom}
+use Rattle.b67_model.specs.Common.{JobMoment, NumberedFrom, number_of, with_moment, Session, SessionJob}
 use Rattle.b67_model.specs.Keyed.{keyed}
-use Rattle.b67_model.specs.Run.{number_of, with_moment}
-use Rattle.b67_model.specs.Schedule.{Session}
-use Rattle.b67_model.specs.State.{SessionJob}
 use Rattle.b67_layout.specs.Meets.{with_job}
 use Rattle.b67_layout.specs.Placement.{Placement}
 use Rattle.b67_task_tables.specs.declared.tables.Tasks.{Tasks}

@@ -1,10 +1,7 @@
 -- The end of a step over the whole machine: what is printed, and for which session the machine stands then.
 use Rattle.std.specs.Prelude.{◌≡◌, ◌≢◌, ℕ, List, [], length, Option, Some, None, Result, Ok, Err, slice_get}
 use Rattle.b67_word.specs.declared.faults.Failed.{Failed}
-use Rattle.b67_model.specs.Lines.{run_text}
-use Rattle.b67_model.specs.Run.{StepResult}
-use Rattle.b67_model.specs.Schedule.{Session}
-use Rattle.b67_model.specs.State.{SessionJob}
+use Rattle.b67_model.specs.Common.{run_text, StepResult, Session, SessionJob}
 use Rattle.b67_lemmas.specs.Lists.{Has}
 use Rattle.b67_session_lines.specs.Moments.{last_part}
 use Rattle.b67_session_lines.specs.Parts.{TookRest, TookMore}

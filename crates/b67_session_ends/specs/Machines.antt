@@ -1,8 +1,6 @@
 -- Which machines stand for a session before a step, between its parts, and once no task is left.
 use Rattle.std.specs.Prelude.{◌≡◌, ℕ, List, Option, Some}
-use Rattle.b67_model.specs.InOrder.{IsInOrderButPlaces}
-use Rattle.b67_model.specs.Run.{StepResult, live_tasks}
-use Rattle.b67_model.specs.Schedule.{Session}
+use Rattle.b67_model.specs.Common.{IsInOrderButPlaces, StepResult, live_tasks, Session}
 use Rattle.b67_session_lines.specs.Moments.{last_part}
 use Rattle.b67_stack.specs.Represents.{Storage}
 use Rattle.b67_layout.specs.Placement.{Placement}

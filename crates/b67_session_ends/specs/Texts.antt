@@ -1,9 +1,7 @@
 -- The text of the lines of endings.
 use Rattle.std.specs.Prelude.{ℕ, List, map}
 use Rattle.b67_word.specs.declared.faults.Ending.{Ending}
-use Rattle.b67_model.specs.Lines.{run_text}
-use Rattle.b67_model.specs.Run.{RunLine, of_job}
-use Rattle.b67_model.specs.Steps.{Ends}
+use Rattle.b67_model.specs.Common.{run_text, RunLine, of_job, Ends}
 
 -- the lines of how tasks of a job ended, by their numbers
 abbrev pub ending_lines : ℕ → List (ℕ × Ending) → List RunLine

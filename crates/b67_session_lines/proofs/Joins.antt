@@ -7,12 +7,8 @@ use Rattle.std.proofs.lemmas.List.{map-append}
 use Rattle.b67_word.specs.declared.faults.Ending.{Ending}
 use Rattle.b67_word.specs.declared.faults.Ending.TheVariants.{Limit}
 use Rattle.b67_model.specs.Keyed.{keyed, change_keyed}
-use Rattle.b67_model.specs.State.{Array, Task, JobProgress, SessionJob}
-use Rattle.b67_model.specs.Steps.{Line, Ends}
-use Rattle.b67_model.specs.Endings.{Settled, Stepped, ends_each_if, is_owned_by, unsettled, stepped, step_lines}
-use Rattle.b67_model.specs.Alone.{JobMoment, moment_with, up_to_deadlock, whole, by_task, step_of}
-use Rattle.b67_model.specs.Schedule.{Session, Choice, choice}
-use Rattle.b67_model.specs.Run.{RunLine, StepResult, number_of, of_job, with_moment, moment_by, moment_for, next}
+use Rattle.b67_model.specs.Common.{Array, Task, JobProgress, SessionJob, Line, Ends, Settled, Stepped, ends_each_if, is_owned_by, unsettled, stepped, step_lines, JobMoment, moment_with, up_to_deadlock, by_task, step_of, Session, Choice, choice, RunLine, StepResult, number_of, of_job, with_moment, moment_by, moment_for, next}
+use Rattle.b67_model.specs.Alone.{whole}
 use Rattle.b67_session_lines.specs.Moments.{first_part, first_part_by, first_part_in, first_part_of, has_tasks, is_at_limit, last_part, last_part_by, last_part_if, joined, StepsHaveParts}
 
 -- ---- a member that is found and changed

@@ -4,12 +4,9 @@ use Rattle.std.specs.Prelude.{◌&&◌, ◌||◌, ◌==◌, ◌++◌, not, nat_l
 use Rattle.std.specs.List.{list_any}
 use Rattle.std.proofs.lemmas.List.Sums.{sum_by-cons}
 use Rattle.std.proofs.lemmas.Bool.Decides.{nat_tests}
-use Rattle.b67_model.specs.State.{Task, SessionJob}
-use Rattle.b67_model.specs.Endings.{is_ready}
-use Rattle.b67_model.specs.Schedule.{Who, Session, is_same, is_before, ready_of, ready, afresh, switched, goes_on, first, next_after, choice_by, choice}
-use Rattle.b67_model.specs.Run.{StepResult, next, moment_for, live_tasks, lines, lines_from, after, after_from}
+use Rattle.b67_model.specs.Common.{Task, SessionJob, is_ready, Who, Session, is_same, is_before, ready_of, ready, afresh, switched, first, next_after, choice_by, choice, StepResult, next, moment_for, live_tasks, lines, lines_from, after, after_from, run_text}
+use Rattle.b67_model.specs.Schedule.{goes_on}
 use Rattle.b67_io.specs.Line.{ended}
-use Rattle.b67_model.specs.Lines.{run_text}
 use Rattle.b67_session_lines.specs.Stops.{Run, halted_line, StopsOnce, live_after, IsFinished, IsHalted, Stops, finished, halted, run_status}
 
 -- ---- a session without tasks makes no step

@@ -3,9 +3,7 @@ use Rattle.std.proofs.Common.{◌≡◌, ◌≤◌, ◌<◌, ◌+◌, ◌-◌, �
 use Rattle.std.specs.Prelude.{IfSome}
 use Rattle.std.proofs.lemmas.Grind.{flat_map-append}
 use Rattle.b67_io.specs.Line.{ended}
-use Rattle.b67_model.specs.Schedule.{Session}
-use Rattle.b67_model.specs.Lines.{run_text}
-use Rattle.b67_model.specs.Run.{StepResult, next, live_tasks, lines, lines_from, after, after_from}
+use Rattle.b67_model.specs.Common.{Session, run_text, StepResult, next, live_tasks, lines, lines_from, after, after_from}
 use Rattle.b67_session_lines.specs.Stops.{Run, live_after, halted_line, IsFinished, IsHalted, Stops, finished, halted}
 
 -- so many steps lead from the first session to this one, and print this text

@@ -4,13 +4,7 @@ use Rattle.std.specs.Prelude.{◌≡◌, ℕ, ◌==◌, ◌&&◌, Bool, true, fa
 use Rattle.std.specs.Option.{option_or}
 use Rattle.b67_word.specs.declared.faults.Ending.TheVariants.{Limit}
 use Rattle.b67_model.specs.Keyed.{keyed, change_keyed}
-use Rattle.b67_model.specs.State.{Task, SessionJob}
-use Rattle.b67_model.specs.Steps.{Ends}
-use Rattle.b67_model.specs.Endings.{ends_each_if, unsettled}
-use Rattle.b67_model.specs.Alone.{up_to_deadlock}
-use Rattle.b67_model.specs.Schedule.{Session, Choice, choice}
-use Rattle.b67_model.specs.Run.{StepResult, number_of, of_job, with_moment, next}
-use Rattle.b67_model.specs.Lines.{run_text}
+use Rattle.b67_model.specs.Common.{Task, SessionJob, Ends, ends_each_if, unsettled, up_to_deadlock, Session, Choice, choice, StepResult, number_of, of_job, with_moment, next, run_text}
 
 -- ---- the first part
 

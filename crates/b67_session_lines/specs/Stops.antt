@@ -1,9 +1,7 @@
 -- How a run stops, and what it prints.
 use Rattle.std.specs.Prelude.{ℕ, ◌≡◌, ◌<◌, ◌≤◌, ◌==◌, List, ◌++◌, codes, decimal, Option, Some, None, IfSome, if◌then◌else◌}
 use Rattle.b67_io.specs.Line.{ended}
-use Rattle.b67_model.specs.Schedule.{Session}
-use Rattle.b67_model.specs.Lines.{run_text}
-use Rattle.b67_model.specs.Run.{live_tasks, lines, after}
+use Rattle.b67_model.specs.Common.{Session, run_text, live_tasks, lines, after}
 use Rattle.b67_session_lines.specs.Ends.{Ends}
 
 -- a run that is asked for: the session at its opening, and the count of operators at which it halts, where there is one

@@ -2,19 +2,13 @@
 use Rattle.std.proofs.Common.{◌≡◌, ◌≢◌, ℕ, ◌+◌, ◌^◌, ◌<◌, ◌≤◌, List, [], map, Option, None, length, Bool, true, false, not, refl, sym, ◌∙◌, ap, arith, inl, inr, ⊎_elim, subst}
 use Rattle.std.proofs.lemmas.Bool.{true≢false}
 use Rattle.b67_area.specs.declared.Areas.{Areas}
-use Rattle.b67_model.specs.State.{Ready, Task, SessionJob}
-use Rattle.b67_model.specs.Rows.{reading_of, row}
-use Rattle.b67_model.specs.Schedule.{Session}
-use Rattle.b67_model.specs.InOrder.{IsSegment, TasksInOrder}
-use Rattle.b67_layout.specs.Orders.{IsInOrderButCounts}
+use Rattle.b67_model.specs.Common.{Ready, Task, SessionJob, reading_of, row, Session, IsSegment, TasksInOrder}
+use Rattle.b67_layout.specs.Common.{IsInOrderButCounts, Placement, here, objects_gone, with_job, ForEach, IsMade, IsRunning, RepresentsSession, RepresentsStorage}
 use Rattle.b67_stack.specs.declared.Cpu.{Cpu}
 use Rattle.b67_stack.specs.declared.Step.{Step}
 use Rattle.b67_stack.specs.declared.Step.TheVariants.{Done}
 use Rattle.b67_stack.specs.MachineView.{PagedObject}
 use Rattle.b67_stack.specs.Represents.{Storage}
-use Rattle.b67_layout.specs.Placement.{Placement}
-use Rattle.b67_layout.specs.Meets.{here, objects_gone, with_job, ForEach, IsMade}
-use Rattle.b67_layout.specs.Session.{IsRunning, RepresentsSession, RepresentsStorage}
 use Rattle.b67_layout.proofs.Fresh.{running_in_order}
 use Rattle.b67_task_tables.specs.declared.tables.Machine.{Machine}
 use Rattle.b67_task_tables.specs.declared.tables.Tasks.{Tasks}

@@ -16,13 +16,9 @@ use Rattle.b67_lemmas.specs.Lists.{Has}
 use Rattle.b67_lemmas.proofs.Members.{has_append_right}
 use Rattle.b67_model.specs.Schedule.{Session}
 use Rattle.b67_stack.specs.declared.Cpu.{Cpu}
-use Rattle.b67_stack.specs.Shapes.{Location, LieUpward}
-use Rattle.b67_stack.specs.MachineView.{PagedObject, MachineView, words_of}
-use Rattle.b67_stack.specs.Represents.{Storage, Represents, Content, info_of}
+use Rattle.b67_stack.specs.Common.{Location, LieUpward, PagedObject, MachineView, words_of, Storage, Represents, Content, info_of}
 use Rattle.b67_stack.proofs.Unchanged.{area_of_object}
-use Rattle.b67_layout.specs.Placement.{Placement}
-use Rattle.b67_layout.specs.Layout.{machine_view}
-use Rattle.b67_layout.specs.Session.{with_objects, RepresentsStorage}
+use Rattle.b67_layout.specs.Common.{Placement, machine_view, with_objects, RepresentsStorage}
 use Rattle.b67_task_release.specs.Left.{IsLeft, AreReleased}
 use Rattle.b67_task_release.proofs.Settled.{are_left}
 use Rattle.b67_session_make.specs.Makes.{MayFree}

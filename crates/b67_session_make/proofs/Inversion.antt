@@ -1,13 +1,8 @@
 -- A row that left a frame: the task's top frame was entered, and the job has all arrays but that frame's.
 use Rattle.std.proofs.Common.{◌≡◌, ◌≢◌, ℕ, List, [], ◌∷◌, Bool, true, false, Option, Some, None, Ok, refl, subst}
 use Rattle.b67_word.specs.declared.couples.Place.{Place}
-use Rattle.b67_model.specs.Answers.{Answer}
-use Rattle.b67_model.specs.Words.{Word, Operand, Name, Ref, Row, Element, Original, Proc, Intrinsic}
+use Rattle.b67_model.specs.Common.{Answer, Word, Operand, Name, Ref, Row, Element, Original, Proc, Intrinsic, Array, Frame, Standing, Marked, Entered, Return, Task, Job, SessionJob, OperatorContext, top, End, AtCell, AtElement, AtArray, AtProc, AtIntrinsic, follow, Line, Done, Goes, Leaves, Waits, top_of, cells_of, leaves_cells, without_arrays_of, accident, evaluates, left, leaves, exit, returnable, returned, retn_word, retn}
 use Rattle.b67_model.specs.Words as Words
-use Rattle.b67_model.specs.State.{Array, Frame, Standing, Marked, Entered, Return, Task, Job, SessionJob, OperatorContext, top}
-use Rattle.b67_model.specs.Chase.{End, AtCell, AtElement, AtArray, AtProc, AtIntrinsic, follow}
-use Rattle.b67_model.specs.Steps.{Line, Done, Goes, Leaves, Waits, top_of, cells_of, leaves_cells, without_arrays_of}
-use Rattle.b67_model.specs.Entry.{accident, evaluates, left, leaves, exit, returnable, returned, retn_word, retn}
 use Rattle.b67_law_order.proofs.Posts.{Post, post_ok, post_err, post_any, post_then, post_at}
 use Rattle.b67_layout.specs.Meets.{here}
 use Rattle.b67_layout.proofs.Objects.{others}

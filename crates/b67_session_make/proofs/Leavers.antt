@@ -4,21 +4,12 @@ use Rattle.b67_word.specs.declared.couples.Place.{Place}
 use Rattle.b67_model.specs.declared.operators.Op.{Op}
 use Rattle.b67_model.specs.declared.operators.Op.TheVariants.{Plain}
 use Rattle.b67_model.specs.declared.operators.Code.TheVariants.{Exit, Retn}
-use Rattle.b67_model.specs.State.{Task, Job, SessionJob, OperatorContext}
-use Rattle.b67_model.specs.Steps.{Line, Goes, Done}
-use Rattle.b67_model.specs.Loader.{may_be_last}
-use Rattle.b67_model.specs.Answers.{Answer}
-use Rattle.b67_model.specs.Operators.{Reading}
-use Rattle.b67_model.specs.Rows.{reading_of, row, step}
-use Rattle.b67_model.specs.Schedule.{Session}
-use Rattle.b67_model.specs.InOrder.{IsSegment}
+use Rattle.b67_model.specs.Common.{Task, Job, SessionJob, OperatorContext, Line, Goes, Done, may_be_last, Answer, Reading, reading_of, row, step, Session, IsSegment, called}
 use Rattle.b67_law_order_rows.specs.Parameters.{ParametersFit}
-use Rattle.b67_model.specs.Called.{called}
 use Rattle.b67_stack.specs.declared.Cpu.{Cpu}
 use Rattle.b67_stack.specs.declared.Step.TheVariants as answers
 use Rattle.b67_stack.specs.Represents.{Storage}
-use Rattle.b67_layout.specs.Placement.{Placement}
-use Rattle.b67_layout.specs.Meets.{here, IsMade}
+use Rattle.b67_layout.specs.Common.{Placement, here, IsMade}
 use Rattle.b67_layout_step.specs.Keeping.{is_leaving}
 use Rattle.b67_exec_cells.specs.Running.{code_area}
 use Rattle.b67_exec_cells.specs.Called.{called_in, called_by}

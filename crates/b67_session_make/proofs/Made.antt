@@ -3,23 +3,13 @@ use Rattle.std.proofs.Common.{◌≡◌, ◌≢◌, ℕ, List, [], map, length, 
 use Rattle.std.proofs.lemmas.Option.{none-some}
 use Rattle.b67_word.specs.declared.couples.Place.{Place}
 use Rattle.b67_model.specs.declared.operators.Op.{Op}
-use Rattle.b67_model.specs.Answers.{Answer}
-use Rattle.b67_model.specs.State.{Ready, Task, SessionJob}
-use Rattle.b67_model.specs.Steps.{Done as Result}
-use Rattle.b67_model.specs.Operators.{Reading}
-use Rattle.b67_model.specs.Rows.{reading_of, row, step}
-use Rattle.b67_model.specs.Schedule.{Session}
-use Rattle.b67_layout.specs.Orders.{IsInOrderButCounts}
+use Rattle.b67_model.specs.Common.{Answer, Ready, Task, SessionJob, Done as Result, Reading, reading_of, row, step, Session, called}
+use Rattle.b67_layout.specs.Common.{IsInOrderButCounts, Placement, array_object, here, objects_gone, with_job, FindsAbsent, IsMade, Meets, IsRunning, RepresentsSession, RepresentsSessionBut}
 use Rattle.b67_stack.specs.declared.Cpu.{Cpu}
 use Rattle.b67_stack.specs.declared.Step.{Step}
 use Rattle.b67_stack.specs.declared.Step.TheVariants as answers
 use Rattle.b67_stack.specs.MachineView.{PagedObject}
 use Rattle.b67_stack.specs.Represents.{Storage}
-use Rattle.b67_layout.specs.Placement.{Placement}
-use Rattle.b67_layout.specs.Layout.{array_object}
-use Rattle.b67_layout.specs.Meets.{here, objects_gone, with_job, FindsAbsent, IsMade, Meets}
-use Rattle.b67_layout.specs.Session.{IsRunning, RepresentsSession, RepresentsSessionBut}
-use Rattle.b67_model.specs.Called.{called}
 use Rattle.b67_exec_cells.specs.Running.{code_area}
 use Rattle.b67_exec_cells.specs.Called.{called_in, called_by}
 use Rattle.b67_exec.specs.Operators.{CallsOrMeets, OperatorAt, OperatorMeets, leaves_record}

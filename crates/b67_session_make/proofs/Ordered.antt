@@ -3,26 +3,15 @@ use Rattle.std.proofs.Common.{◌≡◌, ℕ, List, Option, Ok, sym, ◌∙◌, 
 use Rattle.std.proofs.lemmas.Bool.{true≢false}
 use Rattle.b67_word.specs.declared.couples.Place.{Place}
 use Rattle.b67_model.specs.declared.operators.Op.{Op}
-use Rattle.b67_model.specs.Answers.{Answer}
+use Rattle.b67_model.specs.Common.{Answer, Ready, Task, Job, SessionJob, Line, Done, Goes, may_be_last, row, number_of, Session, IsSegment, FramesInOrder, outer_of, TaskInOrder, TasksInOrder}
 use Rattle.b67_lemmas.specs.Lists.{Has}
 use Rattle.b67_lemmas.proofs.Members.{all_in}
-use Rattle.b67_model.specs.State.{Ready, Task, Job, SessionJob}
-use Rattle.b67_model.specs.Steps.{Line, Done, Goes}
-use Rattle.b67_model.specs.Loader.{may_be_last}
-use Rattle.b67_model.specs.Rows.{row}
-use Rattle.b67_model.specs.Run.{number_of}
-use Rattle.b67_model.specs.Schedule.{Session}
-use Rattle.b67_model.specs.InOrder.{IsSegment, FramesInOrder, outer_of, TaskInOrder, TasksInOrder}
-use Rattle.b67_layout.specs.Orders.{IsInOrderButCounts}
+use Rattle.b67_layout.specs.Common.{IsInOrderButCounts, Placement, IsRunning, here, with_job}
 use Rattle.b67_law_order.specs.Ends.{StepsFrom}
 use Rattle.b67_law_order_rows.specs.Keeping.{KeepsOrder}
 use Rattle.b67_law_order_rows.specs.Parameters.{ParametersFit}
 use Rattle.b67_law_order_rows.proofs.Kept.{each_row_keeps_order}
-use Rattle.b67_layout.specs.Placement.{Placement}
-use Rattle.b67_layout.specs.Session.{IsRunning}
-use Rattle.b67_layout.specs.Meets.{here, with_job}
-use Rattle.b67_layout.proofs.Fresh.{job_in_order, running_in_order}
-use Rattle.b67_layout.proofs.Sessions.{change-has}
+use Rattle.b67_layout.proofs.Common.{job_in_order, running_in_order, change-has}
 
 module _ (plan : Placement) (s : Session) (m : SessionJob) (t : Task) (o : IsInOrderButCounts s) (runs : IsRunning plan s.jobs m t) (ready : t.condition ≡ Ready) where
   steps_from : StepsFrom (IsSegment m.constants) m.constants m.progress.job t

@@ -6,11 +6,8 @@ use Rattle.std.proofs.lemmas.Bool.Decides.{eqb_tells}
 use Rattle.std.proofs.lemmas.List.{length-reverse}
 use Rattle.std.proofs.lemmas.Option.{same_Some}
 use Rattle.std.proofs.Math.ListN.{length-set}
-use Rattle.b67_model.specs.Words.{Word}
-use Rattle.b67_model.specs.State.{Standing, Frame, Task, height, words_of, with_top_cells, below_top, top}
-use Rattle.b67_model.specs.Cells.{with_cell_of}
+use Rattle.b67_model.specs.Common.{Word, Standing, Frame, Task, height, words_of, with_top_cells, below_top, top, with_cell_of, from_frame}
 use Rattle.b67_model.specs.Keyed.{keyed, change_keyed}
-use Rattle.b67_model.specs.InOrder.{from_frame}
 use Rattle.b67_law_order_steps.specs.Profiles.{Profile, profile}
 
 -- the identity of each frame, and how high its mark stands

@@ -3,22 +3,12 @@ use Rattle.std.proofs.Common.{◌≡◌, ◌≢◌, ℕ, ◌+◌, ◌*◌, ◌<�
 use Rattle.std.specs.List.{slice_get}
 use Rattle.b67_area.specs.declared.Areas.{Areas}
 use Rattle.b67_backing.specs.Shelf.{Table}
-use Rattle.b67_model.specs.State.{Standing, Frame, Ready, Task, Job, SessionJob}
-use Rattle.b67_model.specs.Run.{number_of}
-use Rattle.b67_model.specs.Schedule.{Session}
-use Rattle.b67_model.specs.InOrder.{IsSegment, TasksInOrder}
-use Rattle.b67_layout.specs.Orders.{IsInOrderButCounts}
+use Rattle.b67_model.specs.Common.{Standing, Frame, Ready, Task, Job, SessionJob, number_of, Session, IsSegment, TasksInOrder}
+use Rattle.b67_layout.specs.Common.{IsInOrderButCounts, Placement, spot_in, outer_spots, shape, head, activations, stack_of_task, machine_view, objects_gone, with_job, IsRunning, RepresentsSession, RepresentsSessionBut, RepresentsStorage, with_objects}
 use Rattle.b67_stack.specs.declared.Cpu.{Cpu}
-use Rattle.b67_stack.specs.Shapes.{Shape}
-use Rattle.b67_stack.specs.Stacks.{StackPlace, Activation, size}
-use Rattle.b67_stack.specs.MachineView.{PagedObject, RunsOn}
-use Rattle.b67_stack.specs.Represents.{Storage, RepresentsRunning}
+use Rattle.b67_stack.specs.Common.{Shape, StackPlace, Activation, size, PagedObject, RunsOn, Storage, RepresentsRunning}
 use Rattle.b67_stack.proofs.Pushes.{Room, room_of}
 use Rattle.b67_stack.proofs.Slots.{running_slot}
-use Rattle.b67_layout.specs.Placement.{Placement, spot_in, outer_spots}
-use Rattle.b67_layout.specs.Layout.{shape, head, activations, stack_of_task, machine_view}
-use Rattle.b67_layout.specs.Meets.{objects_gone, with_job}
-use Rattle.b67_layout.specs.Session.{IsRunning, RepresentsSession, RepresentsSessionBut, RepresentsStorage, with_objects}
 use Rattle.b67_layout.proofs.Rows.{runs_on, slot_below}
 use Rattle.b67_task_release.specs.Left.{IsLeft}
 use Rattle.b67_task_release.proofs.Leavings.{new_top, left_after}

@@ -2,19 +2,9 @@
 use Rattle.std.proofs.Common.{◌≡◌, ◌≢◌, ℕ, ◌<◌, List, [], ◌∷◌, Option, None, Ok, Err, refl, arith, false, inl, inr}
 use Rattle.b67_word.specs.declared.couples.Place.{Place}
 use Rattle.b67_model.specs.declared.operators.Op.{Op}
-use Rattle.b67_model.specs.State.{Frame, Task, Job, SessionJob, top}
-use Rattle.b67_model.specs.Operators.{Reading}
-use Rattle.b67_model.specs.Steps.{Line, Goes, is_critical}
-use Rattle.b67_model.specs.Rows.{row, reading_of, step, step_by}
-use Rattle.b67_model.specs.Schedule.{Session}
-use Rattle.b67_model.specs.InOrder.{IsSegment}
-use Rattle.b67_layout.specs.Orders.{IsInOrderButCounts}
-use Rattle.b67_model.specs.Called.{called}
-use Rattle.b67_layout.specs.Placement.{Placement}
-use Rattle.b67_layout.specs.Session.{IsRunning}
-use Rattle.b67_layout.specs.Meets.{here}
-use Rattle.b67_layout.proofs.Fresh.{running_in_order, critical-below, fresh}
-use Rattle.b67_layout.proofs.Replaces.{IsDependedOn}
+use Rattle.b67_model.specs.Common.{Frame, Task, Job, SessionJob, top, Reading, Line, Goes, is_critical, row, reading_of, step, step_by, Session, IsSegment, called}
+use Rattle.b67_layout.specs.Common.{IsInOrderButCounts, Placement, IsRunning, here}
+use Rattle.b67_layout.proofs.Common.{running_in_order, critical-below, fresh, IsDependedOn}
 use Rattle.b67_layout_leave.proofs.Leaves.{depended_apart}
 use Rattle.b67_session_make.proofs.Places.{AllSame}
 use Rattle.b67_session_make.proofs.Keeps.{row_keeps}

@@ -5,21 +5,12 @@ use Rattle.std.proofs.lemmas.Bool.{cases_Bool, cases_eq}
 use Rattle.std.proofs.lemmas.Option.{same_Some}
 use Rattle.b67_lemmas.specs.Lists.{Has}
 use Rattle.b67_lemmas.proofs.Members.{falls_same, keyed_has}
-use Rattle.b67_model.specs.State.{Frame, Condition, Ready, Awaits, WaitsAt, Task, Job, SessionJob}
+use Rattle.b67_model.specs.Common.{Frame, Condition, Ready, Awaits, WaitsAt, Task, Job, SessionJob, number_of, Session, from_frame, frames_of_task, critical_of}
 use Rattle.b67_model.specs.Keyed.{keyed, change_keyed}
-use Rattle.b67_model.specs.Run.{number_of}
-use Rattle.b67_model.specs.Schedule.{Session}
-use Rattle.b67_model.specs.InOrder.{from_frame, frames_of_task, critical_of}
-use Rattle.b67_layout.specs.Orders.{IsInOrderButCounts}
+use Rattle.b67_layout.specs.Common.{IsInOrderButCounts, Placement, slot_of, spot_in, base_spot, outer_spots, spots, address_of, WaitsAtCell, TaskRow, JobRow, JobCounts, shown, parent_slot, critical_disp, TaskShows, JobShows, JobsShow, TablesShow, IsRunning, with_job}
 use Rattle.b67_law_order_steps.specs.Profiles.{Profile, profile}
 use Rattle.b67_stack.specs.Stacks.{StackPlace}
-use Rattle.b67_layout.specs.Placement.{Placement, slot_of, spot_in, base_spot, outer_spots, spots, address_of}
-use Rattle.b67_layout.specs.Rows.{WaitsAtCell, TaskRow, JobRow, JobCounts, shown, parent_slot, critical_disp, TaskShows, JobShows, JobsShow, TablesShow}
-use Rattle.b67_layout.specs.Session.{IsRunning}
-use Rattle.b67_layout.specs.Meets.{with_job}
-use Rattle.b67_layout.proofs.Fresh.{running_in_order}
-use Rattle.b67_layout.proofs.Sessions.{change-has, change-kept}
-use Rattle.b67_layout.proofs.Replaces.{IsDependedOn}
+use Rattle.b67_layout.proofs.Common.{running_in_order, change-has, change-kept, IsDependedOn}
 use Rattle.b67_session_make.proofs.Places.{At, places, IsAlike, Same, AllSame}
 use Rattle.b67_session_make.proofs.Steps.{JobKept}
 

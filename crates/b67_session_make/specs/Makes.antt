@@ -2,16 +2,12 @@
 -- arrays were given back.
 use Rattle.std.specs.Prelude.{◌≡◌, ℕ, ◌+◌, ◌⊎◌, true, List, [], Option, Some, None, Ok, Err, slice_get}
 use Rattle.b67_area.specs.Spans.{InHole}
-use Rattle.b67_model.specs.State.{Ready, Task, Job, SessionJob}
-use Rattle.b67_model.specs.Steps.{Goes, Leaves}
-use Rattle.b67_model.specs.Rows.{reading_of, step}
-use Rattle.b67_model.specs.Schedule.{Session}
+use Rattle.b67_model.specs.Common.{Ready, Task, Job, SessionJob, Goes, Leaves, reading_of, step, Session}
 use Rattle.b67_stack.specs.declared.What.TheVariants as what
 use Rattle.b67_stack.specs.declared.Step.{Step}
 use Rattle.b67_stack.specs.declared.Step.TheVariants as answers
 use Rattle.b67_stack.specs.Represents.{Storage}
-use Rattle.b67_layout.specs.Placement.{Placement}
-use Rattle.b67_layout.specs.Meets.{with_job, objects_gone, FindsAbsent, IsPresent, MayChange}
+use Rattle.b67_layout.specs.Common.{Placement, with_job, objects_gone, FindsAbsent, IsPresent, MayChange}
 use Rattle.b67_exec_cells.specs.Running.{code_area}
 use Rattle.b67_exec_cells.specs.Called.{called_in}
 use Rattle.b67_exec.specs.Operators.{leaves_record}

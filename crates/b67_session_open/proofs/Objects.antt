@@ -9,13 +9,10 @@ use Rattle.b67_lemmas.specs.Lists.{Has}
 use Rattle.b67_lemmas.proofs.Members.{has_append_cases, has_append_left, has_append_right, has_flat as has_flat_map, has_map, has_reverse, has_reverse_back}
 use Rattle.b67_lemmas.proofs.Places.{at_mapped, mapped_at}
 use Rattle.b67_lemmas.proofs.Sums.{total_before, total_within}
-use Rattle.b67_model.specs.State.{Segment, SessionJob}
-use Rattle.b67_model.specs.Program.{Program, row_arrays}
-use Rattle.b67_model.specs.InOrder.{SegmentInOrder}
+use Rattle.b67_model.specs.Common.{Segment, SessionJob, Program, row_arrays, SegmentInOrder}
 use Rattle.b67_law_order_runs.specs.Opening.{Opening, RowWithin, OpeningWithin, opened_from}
 use Rattle.b67_stack.specs.MachineView.{PagedObject}
-use Rattle.b67_layout.specs.Placement.{Placement}
-use Rattle.b67_layout.specs.Layout.{array_object, code_objects, objects_of}
+use Rattle.b67_layout.specs.Common.{Placement, array_object, code_objects, objects_of}
 use Rattle.b67_load.specs.Objects.{code_from, rows_from, objects_of as objects_at}
 use Rattle.b67_session_open.specs.Opened.{dictionary_words, dictionaries, segments_in, opening_plan, objects_from, programs_of}
 use Rattle.b67_session_open.proofs.Lists.{has_mapped, has_flat}

@@ -9,9 +9,7 @@ use Rattle.b67_area.specs.declared.Kind.{Kind}
 use Rattle.b67_area.specs.declared.Kind.TheVariants.{Array, Row, Code}
 use Rattle.b67_backing.specs.Shelf.{Table, Shelf, IsShelf, first, chain_of}
 use Rattle.b67_lemmas.specs.Lists.{Has}
-use Rattle.b67_stack.specs.MachineView.{PagedObject, home_word_of, home_word, words_of}
-use Rattle.b67_stack.specs.Represents.{Storage, Told, HoldsIn, RepresentsObject, Owned}
-use Rattle.b67_stack.specs.Shapes.{at_rest}
+use Rattle.b67_stack.specs.Common.{PagedObject, home_word_of, home_word, words_of, Storage, Told, HoldsIn, RepresentsObject, Owned, at_rest}
 use Rattle.b67_load.specs.Objects.{sectors_of, sectors_of_objects}
 use Rattle.b67_load.specs.Resting.{Resting, placed, stocked, DescriptorsStand, WritesFreeSectors}
 use Rattle.b67_load.proofs.Shelves.{Apart, placed_chain, placed_object}

@@ -6,12 +6,8 @@ use Rattle.std.proofs.lemmas.Bool.{ne_eqb}
 use Rattle.b67_word.specs.Tagged.{Tagged, word}
 use Rattle.b67_law_order_runs.specs.Opening.{Opening, opened_from}
 use Rattle.b67_ctl.specs.declared.registers.Regs.{Regs}
-use Rattle.b67_stack.specs.Shapes.{Locations, Fits, LieDownward}
-use Rattle.b67_stack.specs.Stacks.{words}
-use Rattle.b67_stack.specs.MachineView.{Waiting, MachineView, slot_base, CopiesName, SlotFits}
-use Rattle.b67_stack.specs.Represents.{RepresentsSlot}
-use Rattle.b67_layout.specs.Placement.{Slotted, slot_of}
-use Rattle.b67_layout.specs.Layout.{slot_in, slot_by, slot_at}
+use Rattle.b67_stack.specs.Common.{Locations, Fits, LieDownward, words, Waiting, MachineView, slot_base, CopiesName, SlotFits, RepresentsSlot}
+use Rattle.b67_layout.specs.Common.{Slotted, slot_of, slot_in, slot_by, slot_at}
 use Rattle.b67_session_open.specs.Opened.{first_stack, opening_plan, programs_of}
 use Rattle.b67_session_open.specs.Words.{SlotLies}
 use Rattle.b67_session_open.proofs.Members.{member_at, slot_at_place, slot_of_job}

@@ -5,10 +5,7 @@ use Rattle.b67_backing.specs.Held.{sectors_for}
 use Rattle.b67_lemmas.specs.Lists.{total}
 use Rattle.b67_lemmas.proofs.Members.{total_reverse}
 use Rattle.b67_lemmas.proofs.Sums.{sum_total}
-use Rattle.b67_model.specs.State.{Array, Segment, SessionJob}
-use Rattle.b67_model.specs.Program.{Program, row_arrays}
-use Rattle.b67_model.specs.Need.{need_at_opening}
-use Rattle.b67_model.specs.Sectors.{sectors_of, sectors}
+use Rattle.b67_model.specs.Common.{Array, Segment, SessionJob, Program, row_arrays, need_at_opening, sectors_of, sectors}
 use Rattle.b67_law_order_runs.specs.Opening.{Opening, opened_from}
 use Rattle.b67_law_order_runs.proofs.Rows.{entries_count}
 use Rattle.b67_law_order_runs.proofs.Opens.{jobs_count}

@@ -8,20 +8,12 @@ use Rattle.b67_area.specs.Directory.{IsDirectory}
 use Rattle.b67_lemmas.specs.Lists.{Has}
 use Rattle.b67_lemmas.proofs.Members.{keyed_has}
 use Rattle.b67_lemmas.proofs.Places.{at_mapped, get_within}
-use Rattle.b67_model.specs.State.{Task, SessionJob}
-use Rattle.b67_model.specs.Program.{Program}
-use Rattle.b67_model.specs.Schedule.{Switch}
+use Rattle.b67_model.specs.Common.{Task, SessionJob, Program, Switch, number_of}
 use Rattle.b67_law_order_runs.specs.Opening.{Opening, opened_from, opening, DeckWithin}
 use Rattle.b67_law_order_runs.proofs.Rows.{entries_count}
 use Rattle.b67_stack.specs.declared.Cpu.{Cpu}
-use Rattle.b67_stack.specs.Shapes.{Fits, LieDownward}
-use Rattle.b67_stack.specs.Stacks.{words}
-use Rattle.b67_stack.specs.MachineView.{PagedObject, Slot, Waiting, stack_of, MachineView, slot_base, SlotFits, Laid, NoOriginalAboveTop}
-use Rattle.b67_stack.specs.Represents.{Storage, RepresentsSlot, RepresentsObject, Owned, Represents}
-use Rattle.b67_layout.specs.Placement.{Placement, slot_of}
-use Rattle.b67_layout.specs.Layout.{machine_view}
-use Rattle.b67_layout.specs.Session.{RepresentsDictionary, RepresentsMcp, vector_word, RepresentsVector, RepresentsCritical, critical_mark, IsRunning, RepresentsSession}
-use Rattle.b67_model.specs.Run.{number_of}
+use Rattle.b67_stack.specs.Common.{Fits, LieDownward, words, PagedObject, Slot, Waiting, stack_of, MachineView, slot_base, SlotFits, Laid, NoOriginalAboveTop, Storage, RepresentsSlot, RepresentsObject, Owned, Represents}
+use Rattle.b67_layout.specs.Common.{Placement, slot_of, machine_view, RepresentsDictionary, RepresentsMcp, vector_word, RepresentsVector, RepresentsCritical, critical_mark, IsRunning, RepresentsSession}
 use Rattle.b67_session_open.specs.Opened.{dictionaries, opening_plan, objects_from, first_stack, programs_of}
 use Rattle.b67_session_open.specs.Words.{SlotLies, SlotsLie, HeadsLie}
 use Rattle.b67_session_open.proofs.Members.{member, for_members, slotted, has_slot}

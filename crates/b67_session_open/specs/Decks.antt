@@ -7,10 +7,7 @@ use Rattle.b67_model_text.specs.declared.deck.Job.{Job}
 use Rattle.b67_codefile.specs.declared.file.Codefile.{Codefile}
 use Rattle.b67_codefile.specs.Spelling.{IsWithin}
 use Rattle.b67_codefile.specs.Meaning.{program_of}
-use Rattle.b67_model.specs.Loader.{IsAdmitted}
-use Rattle.b67_model.specs.Program.{Program}
-use Rattle.b67_model.specs.Schedule.{Session}
-use Rattle.b67_model.specs.InOrder.{SwitchesRise}
+use Rattle.b67_model.specs.Common.{IsAdmitted, Program, Session, SwitchesRise}
 use Rattle.b67_law_order_runs.specs.Opening.{Opening, opening}
 use Rattle.b67_task_tables.specs.declared.tables.JobRow.{JobRow}
 use Rattle.b67_task_tables.specs.Tables.{switch_of}

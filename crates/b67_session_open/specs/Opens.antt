@@ -3,9 +3,7 @@ use Rattle.std.specs.Prelude.{◌≡◌, ℕ, ◌+◌, ◌<◌, ◌≤◌, List,
 use Rattle.b67_io.specs.Causes.{Rose}
 use Rattle.b67_lemmas.specs.Lists.{Has}
 use Rattle.b67_model_text.specs.declared.deck.Deck.{Deck}
-use Rattle.b67_model.specs.Program.{Program}
-use Rattle.b67_model.specs.Need.{need_at_opening}
-use Rattle.b67_model.specs.Sectors.{sectors}
+use Rattle.b67_model.specs.Common.{Program, need_at_opening, sectors}
 use Rattle.b67_stack.specs.Represents.{Storage}
 use Rattle.b67_session_open.specs.Opened.{opening_plan}
 use Rattle.b67_layout_storage.specs.Machine.{content_after}

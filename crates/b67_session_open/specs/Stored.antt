@@ -4,8 +4,7 @@ use Rattle.b67_word.specs.Tagged.{Tagged}
 use Rattle.b67_area.specs.Spans.{left}
 use Rattle.b67_backing.specs.Shelf.{Shelf}
 use Rattle.std.specs.List.{slice_get}
-use Rattle.b67_stack.specs.Shapes.{Locations, at_rest}
-use Rattle.b67_stack.specs.Represents.{Storage}
+use Rattle.b67_stack.specs.Common.{Locations, at_rest, Storage}
 
 -- the sector that an absent descriptor names
 abbrev pub sector_named : Option Tagged → ℕ

@@ -6,8 +6,8 @@ use Rattle.std.specs.List.{list_any}
 use Rattle.std.proofs.lemmas.Bool.{cases_Bool, true≢false}
 use Rattle.b67_lemmas.specs.Lists.{Has}
 use Rattle.b67_lemmas.proofs.Members.{any_has, any_some, find_none, find_one}
-use Rattle.b67_model.specs.Schedule.{Who, Switch, Session, Choice, is_same, is_before, ready, switched, goes_on, first, next_after, afresh, choice_by, choice}
-use Rattle.b67_model.specs.InOrder.{SwitchesRise, IsInOrderButPlaces}
+use Rattle.b67_model.specs.Common.{Who, Switch, Session, Choice, is_same, is_before, ready, switched, first, next_after, afresh, choice_by, choice, SwitchesRise, IsInOrderButPlaces}
+use Rattle.b67_model.specs.Schedule.{goes_on}
 use Rattle.b67_layout.specs.Placement.{Placement}
 use Rattle.b67_layout.specs.Rows as rows
 use Rattle.b67_layout.specs.Rows.{TablesShow}

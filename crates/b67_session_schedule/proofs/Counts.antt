@@ -8,14 +8,10 @@ use Rattle.std.proofs.lemmas.Bool.Decides.{eqb_tells}
 use Rattle.b67_model_text.specs.declared.deck.Switch as text
 use Rattle.b67_lemmas.specs.Lists.{Has}
 use Rattle.b67_lemmas.proofs.Places.{at_mapped, came_back, map-slice_set, mapped_at}
-use Rattle.b67_model.specs.State.{Task, SessionJob}
+use Rattle.b67_model.specs.Common.{Task, SessionJob, number_of, Who, Switch, Session, NumberedFrom}
 use Rattle.b67_model.specs.Keyed.{change_keyed}
-use Rattle.b67_model.specs.Run.{number_of}
-use Rattle.b67_model.specs.Schedule.{Who, Switch, Session}
-use Rattle.b67_model.specs.InOrder.{NumberedFrom}
-use Rattle.b67_layout.specs.Placement.{Placement}
+use Rattle.b67_layout.specs.Common.{Placement, TaskRow, JobCounts, TaskShows, JobShows, JobsShow, TablesShow}
 use Rattle.b67_layout.specs.Rows as rows
-use Rattle.b67_layout.specs.Rows.{TaskRow, JobCounts, TaskShows, JobShows, JobsShow, TablesShow}
 use Rattle.b67_task_tables.specs.declared.tables.JobRow.{JobRow}
 use Rattle.b67_task_tables.specs.declared.tables.Tasks.{Tasks}
 use Rattle.b67_task_tables.specs.Tables.{task_row, job_row, switch_of, counts_of, TasksShow}

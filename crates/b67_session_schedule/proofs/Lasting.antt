@@ -9,15 +9,12 @@ use Rattle.b67_lemmas.specs.Lists.{Has}
 use Rattle.b67_lemmas.proofs.Members.{all_in, any_some, find_none, has_flat, has_get, keyed_has, keyed_falls}
 use Rattle.b67_lemmas.proofs.Places.{at_mapped, has_at, mapped_at}
 use Rattle.b67_model.specs.Keyed.{keyed}
-use Rattle.b67_model.specs.Run.{number_of}
-use Rattle.b67_model.specs.State.{Condition, Ready, Awaits, WaitsAt, Task, Job, SessionJob}
-use Rattle.b67_model.specs.Schedule.{Who, Switch, Session, is_same, ready, ready_of, switched, goes_on, choice}
+use Rattle.b67_model.specs.Common.{number_of, Condition, Ready, Awaits, WaitsAt, Task, Job, SessionJob, Who, Switch, Session, is_same, ready, ready_of, switched, choice, IsSegment, JobInOrder, SwitchesRise, IsInOrderButPlaces}
+use Rattle.b67_model.specs.Schedule.{goes_on}
 use Rattle.b67_model.specs.Endings as model
-use Rattle.b67_model.specs.InOrder.{IsSegment, JobInOrder, SwitchesRise, IsInOrderButPlaces}
 use Rattle.b67_law_order.proofs.Numbered.{keyed_member, numbered_low}
-use Rattle.b67_layout.specs.Placement.{Placement}
+use Rattle.b67_layout.specs.Common.{Placement, RunningRow, shown}
 use Rattle.b67_layout.specs.Rows as rows
-use Rattle.b67_layout.specs.Rows.{RunningRow, shown}
 use Rattle.b67_layout.proofs.LiveTasks.{job_at}
 use Rattle.b67_task_tables.specs.declared.tables.TaskState.{TaskState}
 use Rattle.b67_task_tables.specs.declared.tables.TaskState.TheVariants as code

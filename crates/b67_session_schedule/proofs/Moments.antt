@@ -4,14 +4,8 @@ use Rattle.std.proofs.lemmas.Bool.Decides.{eqb_tells}
 use Rattle.b67_lemmas.specs.Lists.{Has}
 use Rattle.b67_lemmas.proofs.Members.{keyed_has}
 use Rattle.b67_model.specs.Keyed.{keyed, change_keyed}
-use Rattle.b67_model.specs.State.{Task, JobConstants, Job, JobProgress, SessionJob}
-use Rattle.b67_model.specs.Alone.{JobMoment}
-use Rattle.b67_model.specs.Run.{number_of, with_moment}
-use Rattle.b67_model.specs.Schedule.{Session, Choice}
-use Rattle.b67_model.specs.InOrder.{NumberedFrom}
-use Rattle.b67_layout.specs.Placement.{Placement, slot_of}
-use Rattle.b67_layout.specs.Rows.{TaskRow, JobRow, JobCounts, shown, parent_slot, critical_disp, TaskShows, JobShows, JobsShow, TablesShow}
-use Rattle.b67_layout.specs.Meets.{with_job}
+use Rattle.b67_model.specs.Common.{Task, JobConstants, Job, JobProgress, SessionJob, JobMoment, number_of, with_moment, Session, Choice, NumberedFrom}
+use Rattle.b67_layout.specs.Common.{Placement, slot_of, TaskRow, JobRow, JobCounts, shown, parent_slot, critical_disp, TaskShows, JobShows, JobsShow, TablesShow, with_job}
 use Rattle.b67_session_schedule.specs.Counted.{counted_member, counted}
 
 -- members of which tables show the same

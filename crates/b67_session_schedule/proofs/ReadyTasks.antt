@@ -6,13 +6,10 @@ use Rattle.std.proofs.lemmas.Bool.{cases_Bool, true≢false}
 use Rattle.b67_lemmas.specs.Lists.{Has, Falls}
 use Rattle.b67_lemmas.proofs.Members.{all_in, falls_low, has_append_cases, has_filter, has_filter_in, has_flat, has_get, has_map, has_map_back, has_reverse, has_reverse_back, reverse_cons}
 use Rattle.b67_lemmas.proofs.Places.{at_mapped, has_at, mapped_at}
-use Rattle.b67_model.specs.State.{Condition, Ready, Awaits, WaitsAt, Task, Job, SessionJob}
+use Rattle.b67_model.specs.Common.{Condition, Ready, Awaits, WaitsAt, Task, Job, SessionJob, Who, Session, is_before, ready_of, ready, JobInOrder, IsSegment, NumberedFrom, IsInOrderButPlaces}
 use Rattle.b67_model.specs.Endings as model
-use Rattle.b67_model.specs.Schedule.{Who, Session, is_before, ready_of, ready}
-use Rattle.b67_model.specs.InOrder.{JobInOrder, IsSegment, NumberedFrom, IsInOrderButPlaces}
-use Rattle.b67_layout.specs.Placement.{Placement}
+use Rattle.b67_layout.specs.Common.{Placement, IsReady, AwaitsTask, WaitsAtCell, shown, TaskShows, TablesShow}
 use Rattle.b67_layout.specs.Rows as rows
-use Rattle.b67_layout.specs.Rows.{IsReady, AwaitsTask, WaitsAtCell, shown, TaskShows, TablesShow}
 use Rattle.b67_task_tables.specs.declared.tables.TaskState.{TaskState}
 use Rattle.b67_task_tables.specs.declared.tables.TaskState.TheVariants as code
 use Rattle.b67_task_tables.specs.declared.tables.TaskRow.{TaskRow}

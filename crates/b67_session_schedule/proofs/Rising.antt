@@ -9,8 +9,7 @@ use Rattle.b67_model_text.specs.declared.deck.Switch as text
 use Rattle.b67_lemmas.specs.Lists.{Has}
 use Rattle.b67_lemmas.proofs.Members.{any_has, any_some, has_get}
 use Rattle.b67_lemmas.proofs.Places.{at_mapped, get_within, has_at, mapped_at}
-use Rattle.b67_model.specs.InOrder.{SwitchesRise}
-use Rattle.b67_model.specs.Schedule.{Who, Switch, is_same}
+use Rattle.b67_model.specs.Common.{SwitchesRise, Who, Switch, is_same}
 use Rattle.b67_session_schedule.specs.Counted.{Past, IsLeft}
 use Rattle.b67_session_schedule.specs.Chosen.{SwitchesTo}
 use Rattle.b67_task_tables.specs.Tables.{switch_of}

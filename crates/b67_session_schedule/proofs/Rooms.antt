@@ -7,8 +7,8 @@ use Rattle.std.proofs.lemmas.Option.{none-some}
 use Rattle.std.proofs.lemmas.Bool.{cases_Bool}
 use Rattle.b67_lemmas.specs.Lists.{Has}
 use Rattle.b67_lemmas.proofs.Places.{mapped_at}
-use Rattle.b67_model.specs.InOrder.{IsInOrderButPlaces}
-use Rattle.b67_model.specs.Schedule.{Who, Session, Choice, is_before, ready, switched, goes_on, first, next_after, afresh, choice_by, choice}
+use Rattle.b67_model.specs.Common.{IsInOrderButPlaces, Who, Session, Choice, is_before, ready, switched, first, next_after, afresh, choice_by, choice}
+use Rattle.b67_model.specs.Schedule.{goes_on}
 use Rattle.b67_layout.specs.Placement.{Placement}
 use Rattle.b67_layout.specs.Rows as rows
 use Rattle.b67_task_tables.specs.declared.tables.Tasks.{Tasks}

@@ -9,27 +9,14 @@ use Rattle.b67_lemmas.specs.Lists.{Has}
 use Rattle.b67_lemmas.proofs.Keyed.{change_same}
 use Rattle.b67_lemmas.proofs.Members.{change_found, keyed_has}
 use Rattle.b67_lemmas.proofs.Places.{at_mapped, map-slice_set, set-back}
-use Rattle.b67_model.specs.Alone.{JobMoment, moment_with}
-use Rattle.b67_model.specs.Endings.{Stepped, deadlocked, unsettled}
+use Rattle.b67_model.specs.Common.{JobMoment, moment_with, Stepped, deadlocked, unsettled, run_text, StepResult, number_of, Session, Choice, Condition, Task, Job, SessionJob, with_task}
 use Rattle.b67_model.specs.Keyed.{keyed}
-use Rattle.b67_model.specs.Lines.{run_text}
-use Rattle.b67_model.specs.Run.{StepResult, number_of}
-use Rattle.b67_model.specs.Schedule.{Session, Choice}
-use Rattle.b67_model.specs.State.{Condition, Task, Job, SessionJob, with_task}
 use Rattle.b67_law_turns.specs.Turns.{part_of}
 use Rattle.b67_session_lines.specs.Parts.{TookRest, TookMore}
 use Rattle.b67_stack.specs.Represents.{Storage}
-use Rattle.b67_layout.specs.Meets.{with_job}
-use Rattle.b67_layout.specs.Orders.{IsInOrderButCounts}
-use Rattle.b67_layout.specs.Placement.{Placement}
+use Rattle.b67_layout.specs.Common.{with_job, IsInOrderButCounts, Placement, RowState, TablesShow, IsRunning, RepresentsSession}
 use Rattle.b67_layout.specs.Rows as rows
-use Rattle.b67_layout.specs.Rows.{RowState, TablesShow}
-use Rattle.b67_layout.specs.Session.{IsRunning, RepresentsSession}
-use Rattle.b67_layout.proofs.Fresh.{fresh}
-use Rattle.b67_layout.proofs.MachineViews.{member-same}
-use Rattle.b67_layout.proofs.Steps.{IsFree}
-use Rattle.b67_layout.proofs.Weaker.{but_counts}
-use Rattle.b67_layout.proofs.Awaits.{with_job-twice, RepresentsSession-condition}
+use Rattle.b67_layout.proofs.Common.{fresh, member-same, IsFree, but_counts, with_job-twice, RepresentsSession-condition}
 use Rattle.b67_task_tables.specs.declared.tables.TaskRow.{TaskRow}
 use Rattle.b67_task_tables.specs.declared.tables.TaskState.{TaskState}
 use Rattle.b67_task_tables.specs.declared.tables.Tasks.{Tasks}

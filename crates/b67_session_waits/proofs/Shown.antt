@@ -8,24 +8,15 @@ use Rattle.b67_core.proofs.Writes.{slice_get-set_same, slice_get-set_other}
 use Rattle.b67_lemmas.specs.Lists.{Has}
 use Rattle.b67_lemmas.proofs.Members.{change_found, change_other, has_change, has_get, keyed_has}
 use Rattle.b67_lemmas.proofs.Places.{has_at, same_mapped}
-use Rattle.b67_model.specs.State.{Frame, Condition, Ready, Awaits, WaitsAt, Task, Job, SessionJob}
+use Rattle.b67_model.specs.Common.{Frame, Condition, Ready, Awaits, WaitsAt, Task, Job, SessionJob, frames_of_task, number_of, Session}
 use Rattle.b67_model.specs.Keyed.{keyed, change_keyed}
-use Rattle.b67_model.specs.InOrder.{frames_of_task}
-use Rattle.b67_model.specs.Run.{number_of}
-use Rattle.b67_model.specs.Schedule.{Session}
 use Rattle.b67_law_order.proofs.Numbered.{keyed_member}
 use Rattle.b67_stack.specs.Stacks.{StackPlace}
-use Rattle.b67_layout.specs.Meets.{with_job}
-use Rattle.b67_layout.specs.Orders.{IsInOrderButCounts}
-use Rattle.b67_layout.specs.Placement.{Placement, slot_of, spot_in, base_spot, spots, address_of}
-use Rattle.b67_layout.specs.Rows.{WaitsAtCell, TaskRow, JobRow, JobCounts, shown, critical_disp, TaskShows, JobShows, JobsShow, RunningRow, Differ, TablesShow}
-use Rattle.b67_layout.proofs.Fresh.{job_in_order}
-use Rattle.b67_layout.proofs.Sessions.{change-kept}
+use Rattle.b67_layout.specs.Common.{with_job, IsInOrderButCounts, Placement, slot_of, spot_in, base_spot, spots, address_of, WaitsAtCell, TaskRow, JobRow, JobCounts, shown, critical_disp, TaskShows, JobShows, JobsShow, RunningRow, Differ, TablesShow}
+use Rattle.b67_layout.proofs.Common.{job_in_order, change-kept, differ_at, live_in_order}
 use Rattle.b67_task_start_stack.specs.Likes.{SameStack, Like}
 use Rattle.b67_task_start_stack.proofs.Births.{changed_member, kept_member, moved_member}
 use Rattle.b67_task_start_stack.proofs.Twins.{like_same, spots-twin}
-use Rattle.b67_layout.proofs.Differs.{differ_at}
-use Rattle.b67_layout.proofs.LiveTasks.{live_in_order}
 use Rattle.b67_session_waits.specs.Holds.{held}
 
 like_frames : (a b : Option Task) → Like a b → frames_of_task a ≡ frames_of_task b

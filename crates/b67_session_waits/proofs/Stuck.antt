@@ -6,9 +6,7 @@ use Rattle.arrayvec.specs.ArrayVec.{with_items}
 use Rattle.b67_word.specs.declared.faults.Ending.TheVariants.{Deadlock}
 use Rattle.b67_lemmas.specs.Lists.{Has}
 use Rattle.b67_lemmas.proofs.Places.{refill_whole}
-use Rattle.b67_model.specs.Endings.{all_with, among, released, is_ready, deadlocked, deepest_first, ends_each_if, unsettled}
-use Rattle.b67_model.specs.Schedule.{Session}
-use Rattle.b67_model.specs.State.{Condition, Ready, Awaits, WaitsAt, Task, SessionJob}
+use Rattle.b67_model.specs.Common.{all_with, among, released, is_ready, deadlocked, deepest_first, ends_each_if, unsettled, Session, Condition, Ready, Awaits, WaitsAt, Task, SessionJob}
 use Rattle.b67_layout.specs.Placement.{Placement}
 use Rattle.b67_task_tables.specs.declared.tables.TaskRow.{TaskRow}
 use Rattle.b67_task_tables.specs.declared.tables.TaskState.{TaskState}

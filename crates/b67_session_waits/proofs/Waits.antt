@@ -2,14 +2,8 @@
 use Rattle.std.proofs.Common.{◌≡◌, ℕ, [], map, length, None, Some, Ok, refl, ap, ◌∙◌, subst, inl, arith}
 use Rattle.b67_lemmas.specs.Lists.{Has}
 use Rattle.b67_lemmas.proofs.Members.{all_in, keyed_has, length_change}
-use Rattle.b67_model.specs.Answers.{Answer}
-use Rattle.b67_model.specs.InOrder.{IsSegment, known_of, from_frame, reach_of, originals_of, ConditionInOrder, TaskInOrder, TasksInOrder, JobInOrder, IsInOrderButPlaces}
+use Rattle.b67_model.specs.Common.{Answer, IsSegment, known_of, from_frame, reach_of, originals_of, ConditionInOrder, TaskInOrder, TasksInOrder, JobInOrder, IsInOrderButPlaces, step, number_of, Session, Array, Condition, Task, Job, SessionJob, Done, Waits}
 use Rattle.b67_model.specs.Keyed.{keyed}
-use Rattle.b67_model.specs.Rows.{step}
-use Rattle.b67_model.specs.Run.{number_of}
-use Rattle.b67_model.specs.Schedule.{Session}
-use Rattle.b67_model.specs.State.{Array, Condition, Task, Job, SessionJob}
-use Rattle.b67_model.specs.Steps.{Done, Waits}
 use Rattle.b67_law_order.specs.Ends.{StepsFrom}
 use Rattle.b67_law_order.proofs.Reaches.{alike_same}
 use Rattle.b67_law_order.proofs.Replaced.{Replaced, replaced}

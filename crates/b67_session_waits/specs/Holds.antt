@@ -1,14 +1,10 @@
 -- A step that makes its task wait.
 use Rattle.std.specs.Prelude.{◌≡◌, ℕ, List, [], Option, None, Ok}
 use Rattle.arrayvec.specs.ArrayVec.{with_item}
-use Rattle.b67_model.specs.Endings.{Stepped, goes_on}
-use Rattle.b67_model.specs.Rows.{step}
-use Rattle.b67_model.specs.Schedule.{Session}
-use Rattle.b67_model.specs.State.{Condition, Task, Job, SessionJob, with_task}
-use Rattle.b67_model.specs.Steps.{Waits}
+use Rattle.b67_model.specs.Common.{Stepped, step, Session, Condition, Task, Job, SessionJob, with_task, Waits}
+use Rattle.b67_model.specs.Endings.{goes_on}
 use Rattle.b67_stack.specs.Represents.{Storage}
-use Rattle.b67_layout.specs.Placement.{Placement, slot_of}
-use Rattle.b67_layout.specs.Rows.{shown}
+use Rattle.b67_layout.specs.Common.{Placement, slot_of, shown}
 use Rattle.b67_task_tables.specs.declared.tables.TaskState.{TaskState}
 use Rattle.b67_task_tables.specs.declared.tables.TaskRow.{TaskRow}
 use Rattle.b67_task_tables.specs.declared.tables.Tasks.{Tasks}

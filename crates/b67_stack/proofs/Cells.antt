@@ -6,11 +6,7 @@ use Rattle.b67_word.specs.Tagged.{Tagged}
 use Rattle.b67_word.specs.declared.couples.Place.{Place}
 use Rattle.b67_ctl.specs.declared.registers.Regs.{Regs}
 use Rattle.b67_lemmas.specs.Lists.{Has}
-use Rattle.b67_stack.specs.Shapes.{Shape, Copy, Fits, LieDownward}
-use Rattle.b67_stack.specs.Stacks.{Activation, IsStack, headed, words}
-use Rattle.b67_stack.specs.MachineView.{MachineView, Slot, Running, RunsOn, slot_base, CopiesName, NoOriginalAboveTop}
-use Rattle.b67_stack.specs.Represents.{Storage, RepresentsRunning, Represents}
-use Rattle.b67_stack.specs.Changes.{with_stack, MayPush}
+use Rattle.b67_stack.specs.Common.{Shape, Copy, Fits, LieDownward, Activation, IsStack, headed, words, MachineView, Slot, Running, RunsOn, slot_base, CopiesName, NoOriginalAboveTop, Storage, RepresentsRunning, Represents, with_stack, MayPush}
 use Rattle.b67_stack.proofs.Lies.{Lie-under}
 use Rattle.b67_stack.proofs.Heights.{words-length}
 use Rattle.b67_stack.proofs.Slots.{Represents-slot, running_slot, running_fits, running_lies}

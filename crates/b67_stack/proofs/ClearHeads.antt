@@ -3,9 +3,7 @@ use Rattle.std.proofs.Common.{◌≡◌, ◌≢◌, ℕ, ◌+◌, ◌≤◌, Lis
 use Rattle.b67_word.specs.Tagged.{Tagged}
 use Rattle.b67_ctl.specs.declared.registers.Regs.{Regs}
 use Rattle.b67_lemmas.specs.Lists.{Has}
-use Rattle.b67_stack.specs.Stacks.{Activation, stack_words}
-use Rattle.b67_stack.specs.MachineView.{PagedObject, MachineView, RunsOn, stack_of, NoOriginalAboveTop}
-use Rattle.b67_stack.specs.Represents.{Storage, Represents}
+use Rattle.b67_stack.specs.Common.{Activation, stack_words, PagedObject, MachineView, RunsOn, stack_of, NoOriginalAboveTop, Storage, Represents}
 use Rattle.b67_stack.proofs.Slots.{running_slot}
 
 -- no original stands on the two words over the top

@@ -1,7 +1,6 @@
 -- How many words stacks have.
 use Rattle.std.proofs.Common.{◌≡◌, ℕ, ◌+◌, List, [], ◌∷◌, length, refl, arith, length-append}
-use Rattle.b67_stack.specs.Shapes.{Shape}
-use Rattle.b67_stack.specs.Stacks.{Head, Marked, Entered, Activation, head_size, stack_words, headed, words}
+use Rattle.b67_stack.specs.Common.{Shape, Head, Marked, Entered, Activation, head_size, stack_words, headed, words}
 
 pub headed-length : (k : ℕ) (h : Head) (below : List Activation) (under : List Shape) → length (headed k h below under) ≡ head_size h + length under
 headed-length k Marked below under = omega arith

@@ -12,9 +12,7 @@ use Rattle.b67_area.specs.declared.Kind.{Kind}
 use Rattle.b67_area.specs.declared.Kind.TheVariants.{Array, Row, Code}
 use Rattle.b67_area.proofs.Laws.{area_inside}
 use Rattle.b67_lemmas.specs.Lists.{Has}
-use Rattle.b67_stack.specs.Shapes.{Location, Shape, Is, Original, Copy, copy_desc, Fits}
-use Rattle.b67_stack.specs.MachineView.{PagedObject, MachineView, home_desc, home_word_of}
-use Rattle.b67_stack.specs.Represents.{Storage, Content, KeptChain, Represents, info_of}
+use Rattle.b67_stack.specs.Common.{Location, Shape, Is, Original, Copy, copy_desc, Fits, PagedObject, MachineView, home_desc, home_word_of, Storage, Content, KeptChain, Represents, info_of}
 
 same_bit : (a b : Bool) → bit a ≡ bit b → a ≡ b
 same_bit true true e = refl

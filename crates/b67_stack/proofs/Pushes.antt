@@ -7,11 +7,8 @@ use Rattle.b67_ctl.specs.Layout.{mscw_word}
 use Rattle.b67_core.proofs.Writes.{slice_get-set_other}
 use Rattle.b67_lemmas.specs.Lists.{Has}
 use Rattle.b67_ctl.specs.declared.registers.Regs.{Regs}
-use Rattle.b67_stack.specs.Shapes.{Shape, Is, Copy, Fits, LieDownward}
-use Rattle.b67_stack.specs.Stacks.{Activation, Head, Marked, Entered, IsStack, top_size, stack_words, mark_place, running_level, mark_of, headed, words}
-use Rattle.b67_stack.specs.MachineView.{PagedObject, MachineView, Running, stack_of, RunsOn, slot_base, CopiesName, NoOriginalAboveTop}
-use Rattle.b67_stack.specs.Represents.{Storage, RepresentsRunning, Represents}
-use Rattle.b67_stack.specs.Changes.{with_stack, with_cells, top_cells, without_first, below_top, new_mark, MayPush}
+use Rattle.b67_stack.specs.Common.{Shape, Is, Copy, Fits, LieDownward, Activation, Head, Marked, Entered, IsStack, top_size, stack_words, mark_place, running_level, mark_of, headed, words, PagedObject, MachineView, Running, stack_of, RunsOn, slot_base, CopiesName, NoOriginalAboveTop, Storage, RepresentsRunning, Represents, with_stack, with_cells, top_cells, below_top, new_mark, MayPush}
+use Rattle.b67_stack.specs.Changes.{without_first}
 use Rattle.b67_stack.proofs.Lies.{Lie-push, Lie-under}
 use Rattle.b67_stack.proofs.Heights.{words-length}
 use Rattle.b67_stack.proofs.Slots.{Represents-slot, slot-same, by_slot, running_slot, running_fits, running_lies}

@@ -14,11 +14,8 @@ use Rattle.b67_area.specs.Directory.{IsDirectory}
 use Rattle.b67_backing.specs.Shelf.{Shelf, chain_of}
 use Rattle.b67_lemmas.specs.Lists.{Has}
 use Rattle.b67_ctl.specs.declared.registers.Regs.{Regs}
-use Rattle.b67_stack.specs.Shapes.{Location}
-use Rattle.b67_stack.specs.MachineView.{PagedObject, MachineView, Slot, Free, Running, Waiting, slot_base, home_word, words_of, tag_of}
-use Rattle.b67_stack.specs.Represents.{Storage, RepresentsSlot, RepresentsSlots, StacksLie, RepresentsObjects, RepresentsObject, Content, KeptChain, AbsentContent, ObjectHasChain, HoldsIn, Told, Owned, info_of, Represents}
+use Rattle.b67_stack.specs.Common.{Location, PagedObject, MachineView, Slot, Free, Running, Waiting, slot_base, home_word, words_of, tag_of, Storage, RepresentsSlot, RepresentsSlots, StacksLie, RepresentsObjects, RepresentsObject, Content, KeptChain, AbsentContent, ObjectHasChain, HoldsIn, Told, Owned, info_of, Represents, with_held, ChainStays}
 use Rattle.b67_stack.proofs.Lies.{Upward-same}
-use Rattle.b67_stack.specs.HeldOtherwise.{with_held, ChainStays}
 use Rattle.b67_stack.proofs.Helds.{held-other, held-same}
 
 pub slot_same : (core new : List Tagged) (r : Regs) (p : MachineView) (k : ℕ) (y : Slot) → slice_get new (slot_base p k) ≡ slice_get core (slot_base p k) → RepresentsSlot core r p k y → RepresentsSlot new r p k y

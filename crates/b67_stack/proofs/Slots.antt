@@ -7,11 +7,7 @@ use Rattle.b67_area.proofs.Climbs.{area_at-low}
 use Rattle.b67_area.proofs.Separation.{IsDirectory-same, controls_above}
 use Rattle.b67_lemmas.specs.Lists.{Has}
 use Rattle.b67_ctl.specs.declared.registers.Regs.{Regs}
-use Rattle.b67_stack.specs.Shapes.{Fits, LieDownward}
-use Rattle.b67_stack.specs.Stacks.{Activation, IsStack, stack_words, words}
-use Rattle.b67_stack.specs.MachineView.{PagedObject, MachineView, Slot, Free, Running, Waiting, stack_of, slot_base, RunsOn, SlotFits, CopiesName, Laid, with_slot, words_of}
-use Rattle.b67_stack.specs.Represents.{Storage, RepresentsSlot, RepresentsRunning, StacksLie, RepresentsObjects, Content, RepresentsRegs, Represents, info_of}
-use Rattle.b67_stack.specs.Changes.{with_stack}
+use Rattle.b67_stack.specs.Common.{Fits, LieDownward, Activation, IsStack, stack_words, words, PagedObject, MachineView, Slot, Free, Running, Waiting, stack_of, slot_base, RunsOn, SlotFits, CopiesName, Laid, with_slot, words_of, Storage, RepresentsSlot, RepresentsRunning, StacksLie, RepresentsObjects, Content, RepresentsRegs, Represents, info_of, with_stack}
 use Rattle.b67_stack.proofs.Bases.{base-apart}
 use Rattle.b67_stack.proofs.Lies.{Lie-same, Upward-same}
 use Rattle.b67_stack.proofs.Heights.{words-length}

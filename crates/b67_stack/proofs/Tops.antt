@@ -7,12 +7,9 @@ use Rattle.b67_ctl.specs.declared.marks.Mscw.{Mscw}
 use Rattle.b67_ctl.specs.declared.marks.Rcw.{Rcw}
 use Rattle.b67_ctl.specs.Layout.{bit, mscw_word, IsMscw, rcw_word, IsRcw}
 use Rattle.b67_model.specs.State.{Return}
-use Rattle.b67_stack.specs.Shapes.{Locations, Fits, LieDownward}
-use Rattle.b67_stack.specs.Stacks.{Activation, Head, Marked, Entered, ReturnFits, HeadFits, HeadsFit, head_size, size, top_size, stack_words, mark_place, running_level, level_from, mark_of, top_mark, return_of, headed, words}
-use Rattle.b67_stack.specs.MachineView.{MachineView, RunsOn, slot_base}
-use Rattle.b67_stack.specs.Represents.{Storage, Represents}
+use Rattle.b67_stack.specs.Common.{Locations, Fits, LieDownward, Activation, Head, Marked, Entered, ReturnFits, HeadFits, HeadsFit, head_size, size, top_size, stack_words, mark_place, running_level, level_from, mark_of, top_mark, return_of, headed, words, MachineView, RunsOn, slot_base, Storage, Represents, top_cells, below_top}
 use Rattle.b67_stack.specs.declared.Cpu.{Cpu}
-use Rattle.b67_stack.specs.Changes.{top_cells, below_top, topped}
+use Rattle.b67_stack.specs.Changes.{topped}
 use Rattle.b67_stack.proofs.Lies.{Lie-under}
 use Rattle.b67_stack.proofs.Heights.{words-length}
 use Rattle.b67_stack.proofs.Slots.{running_slot, running_fits, running_lies}

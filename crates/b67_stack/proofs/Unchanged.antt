@@ -12,10 +12,7 @@ use Rattle.b67_area.proofs.Cuts.{pending}
 use Rattle.b67_area.proofs.Laws.{area_inside, areas_apart}
 use Rattle.b67_lemmas.specs.Lists.{Has}
 use Rattle.b67_ctl.specs.declared.registers.Regs.{Regs}
-use Rattle.b67_stack.specs.Shapes.{Fits}
-use Rattle.b67_stack.specs.Stacks.{Activation, stack_words, words}
-use Rattle.b67_stack.specs.MachineView.{PagedObject, MachineView, Slot, Free, Running, Waiting, stack_of, slot_base, SlotFits}
-use Rattle.b67_stack.specs.Represents.{Storage, RepresentsSlot, info_of, Represents}
+use Rattle.b67_stack.specs.Common.{Fits, Activation, stack_words, words, PagedObject, MachineView, Slot, Free, Running, Waiting, stack_of, slot_base, SlotFits, Storage, RepresentsSlot, info_of, Represents}
 use Rattle.b67_stack.proofs.Bases.{base-apart}
 use Rattle.b67_stack.proofs.Heights.{words-length}
 use Rattle.b67_stack.proofs.Lies.{Lie-same}

@@ -4,3 +4,4 @@ pub mod MachineView
 pub mod Represents
 pub mod Changes
 pub mod HeldOtherwise
+pub mod Common

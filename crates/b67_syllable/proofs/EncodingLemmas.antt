@@ -8,8 +8,7 @@ use Rattle.b67_model.specs.declared.operators.Op.{Op}
 use Rattle.b67_model.specs.declared.operators.Op.TheVariants.{Valc, Namc, Lt8, Lt16, Lt48, Mpcw, Brun, Brtr, Brfl, Bset, Brst, Isol, Insr, Plain}
 use Rattle.b67_model.specs.declared.operators.Code.{Code}
 use Rattle.b67_model.specs.declared.operators.Code.TheVariants.{Add}
-use Rattle.b67_model.specs.Operators.{Form, Alone, OneMore, TwoMore, Literal, form_of, syllable, count_at, place_at, ends_at, reads, operator_at, branch}
-use Rattle.b67_model.specs.Encoding.{syllable_of, syllables, literal, with_16, target_bits, has_bits, IsLaid, ReadsBack}
+use Rattle.b67_model.specs.Common.{Form, Alone, OneMore, TwoMore, Literal, form_of, syllable, count_at, place_at, ends_at, reads, operator_at, branch, syllable_of, syllables, literal, with_16, target_bits, has_bits, IsLaid, ReadsBack}
 use Rattle.b67_syllable.proofs.KindLemmas.{value_kind, name_kind}
 
 -- the first syllable is looked at

@@ -5,15 +5,11 @@ use Rattle.std.specs.List.{list_any}
 use Rattle.std.proofs.lemmas.Bool.{cases_Bool, cases_eq, eq-eqb, ne_eqb, eqb-true, true≢false}
 use Rattle.b67_lemmas.specs.Lists.{Has}
 use Rattle.b67_lemmas.proofs.Members.{any_has, any_some, has_map, has_map_back, total_has}
-use Rattle.b67_model.specs.State.{Standing, Marked, Entered, Frame, Task, SessionJob, head_words, height}
-use Rattle.b67_model.specs.Steps.{is_critical}
-use Rattle.b67_model.specs.Schedule.{Session}
-use Rattle.b67_model.specs.InOrder.{IsSegment, TasksInOrder, identities, frames_named}
+use Rattle.b67_model.specs.Common.{Standing, Marked, Entered, Frame, Task, SessionJob, head_words, height, is_critical, Session, IsSegment, TasksInOrder, identities, frames_named}
 use Rattle.b67_law_order.proofs.Looks.{above_one}
 use Rattle.b67_stack.specs.Stacks.{StackPlace}
 use Rattle.b67_stack.specs.Represents.{Storage}
-use Rattle.b67_layout.specs.Orders.{IsInOrderButCounts}
-use Rattle.b67_layout.specs.Placement.{Placement, slot_of, spot_in, base_spot}
+use Rattle.b67_layout.specs.Common.{IsInOrderButCounts, Placement, slot_of, spot_in, base_spot}
 use Rattle.b67_layout.specs.Rows as rows
 use Rattle.b67_layout.proofs.Fresh.{job_in_order}
 use Rattle.b67_layout.proofs.Rows.{slot_below}

@@ -1,8 +1,7 @@
 -- The marks in the stack of a slot, and the rows whose tasks depend on them.
 use Rattle.std.specs.Prelude.{◌≡◌, ℕ, ◌==◌, ◌&&◌, ◌⊎◌, Bool, List, [], ◌∷◌}
 use Rattle.b67_lemmas.specs.Lists.{Has}
-use Rattle.b67_model.specs.State.{Frame, Task, SessionJob, height}
-use Rattle.b67_model.specs.Schedule.{Session}
+use Rattle.b67_model.specs.Common.{Frame, Task, SessionJob, height, Session}
 use Rattle.b67_layout.specs.Placement.{Placement, slot_of}
 use Rattle.b67_task_tables.specs.declared.tables.TaskRow.{TaskRow}
 

@@ -8,14 +8,10 @@ use Rattle.b67_lemmas.specs.Lists.{Has}
 use Rattle.b67_lemmas.proofs.Members.{any_has, any_some, find_none, has_get, has_map}
 use Rattle.b67_lemmas.proofs.Places.{has_at, mapped_at}
 use Rattle.b67_law_order.proofs.Numbered.{keyed_member, numbered_low}
-use Rattle.b67_model.specs.Intrinsics.{is_live, names_task, status_in, status_of}
+use Rattle.b67_model.specs.Common.{is_live, names_task, status_in, status_of, number_of, Session, Condition, Ready, Awaits, WaitsAt, Task, Job, SessionJob}
 use Rattle.b67_model.specs.Keyed.{keyed}
-use Rattle.b67_model.specs.Run.{number_of}
-use Rattle.b67_model.specs.Schedule.{Session}
-use Rattle.b67_model.specs.State.{Condition, Ready, Awaits, WaitsAt, Task, Job, SessionJob}
-use Rattle.b67_layout.specs.Placement.{Placement}
+use Rattle.b67_layout.specs.Common.{Placement, TaskShows, shown}
 use Rattle.b67_layout.specs.Rows as rows
-use Rattle.b67_layout.specs.Rows.{TaskShows, shown}
 use Rattle.b67_layout.proofs.LiveTasks.{job_at, live_in_order}
 use Rattle.b67_task_tables.specs.declared.tables.JobRow.{JobRow}
 use Rattle.b67_task_tables.specs.declared.tables.TaskRow.{TaskRow}

@@ -1,10 +1,8 @@
 -- Which tasks of a job live, by their numbers.
 use Rattle.std.specs.Prelude.{◌≡◌, ◌≢◌, ℕ, ℤ, pos, negsuc, ◌&&◌, Bool, false, nat_lt, List, Option, Some, None}
 use Rattle.b67_lemmas.specs.Lists.{Has}
-use Rattle.b67_model.specs.State.{Task, SessionJob}
-use Rattle.b67_model.specs.Schedule.{Session}
-use Rattle.b67_layout.specs.Placement.{Placement}
-use Rattle.b67_layout.specs.Rows.{RowState, IsReady, AwaitsTask, WaitsAtCell, shown}
+use Rattle.b67_model.specs.Common.{Task, SessionJob, Session}
+use Rattle.b67_layout.specs.Common.{Placement, RowState, IsReady, AwaitsTask, WaitsAtCell, shown}
 use Rattle.b67_task_tables.specs.declared.tables.TaskRow.{TaskRow}
 use Rattle.b67_task_tables.specs.declared.tables.TaskState.{TaskState}
 use Rattle.b67_task_tables.specs.declared.tables.Tasks.{Tasks}

@@ -6,21 +6,12 @@ use Rattle.std.proofs.lemmas.Option.{same_Some}
 use Rattle.b67_word.specs.Tagged.{Tagged, word}
 use Rattle.b67_ctl.specs.declared.registers.Regs.{Regs}
 use Rattle.b67_lemmas.specs.Lists.{Has}
-use Rattle.b67_model.specs.State.{Frame, Task, Job, JobProgress, SessionJob}
+use Rattle.b67_model.specs.Common.{Frame, Task, Job, JobProgress, SessionJob, number_of, Session}
 use Rattle.b67_model.specs.Keyed.{keyed}
-use Rattle.b67_model.specs.Run.{number_of}
-use Rattle.b67_model.specs.Schedule.{Session}
-use Rattle.b67_stack.specs.Stacks.{stack_words}
-use Rattle.b67_stack.specs.MachineView.{PagedObject, Slot, stack_of, NoOriginalAboveTop, slot_base}
-use Rattle.b67_stack.specs.Represents.{Storage, Represents}
-use Rattle.b67_layout.specs.Placement.{Placement, Slotted, slot_of}
-use Rattle.b67_layout.specs.Layout.{slot_at, machine_view}
-use Rattle.b67_layout.specs.Session.{RowsFit, DictionariesFollow, RowHomes, PlanFits, RepresentsDictionary, RepresentsVector, RepresentsCritical, vector_word, critical_mark, SessionHolds}
-use Rattle.b67_layout.proofs.MachineViews.{with_course}
-use Rattle.b67_layout.proofs.Rows.{task_row, slot_below}
-use Rattle.b67_layout.proofs.Sessions.{dictionary_below}
+use Rattle.b67_stack.specs.Common.{stack_words, PagedObject, Slot, stack_of, NoOriginalAboveTop, slot_base, Storage, Represents}
+use Rattle.b67_layout.specs.Common.{Placement, Slotted, slot_of, slot_at, machine_view, RowsFit, DictionariesFollow, RowHomes, PlanFits, RepresentsDictionary, RepresentsVector, RepresentsCritical, vector_word, critical_mark, SessionHolds, IsInOrderButCounts}
+use Rattle.b67_layout.proofs.Common.{with_course, task_row, slot_below, dictionary_below}
 use Rattle.b67_task_start_stack.proofs.Births.{changed_member, kept_member, moved_member}
-use Rattle.b67_layout.specs.Orders.{IsInOrderButCounts}
 use Rattle.b67_task_end_stack.specs.Leaves.{Stays, Leaves, Lists, Cleared, Marked}
 use Rattle.b67_task_end_stack.proofs.Slotwise.{In, one_each, found_member}
 use Rattle.b67_task_end_stack.proofs.Turns.{SomeDied, pic}

@@ -7,18 +7,12 @@ use Rattle.std.proofs.lemmas.Simd.{map-map}
 use Rattle.b67_word.specs.Tagged.{Tagged}
 use Rattle.b67_ctl.specs.declared.registers.Regs.{Regs}
 use Rattle.b67_lemmas.specs.Lists.{Has}
-use Rattle.b67_model.specs.State.{Task, SessionJob}
-use Rattle.b67_model.specs.Schedule.{Session}
-use Rattle.b67_model.specs.Endings.{among}
+use Rattle.b67_model.specs.Common.{Task, SessionJob, Session, among}
 use Rattle.b67_lemmas.proofs.Members.{any_has, any_some, falls_same, has_filter, has_filter_in, has_map, has_map_back}
-use Rattle.b67_stack.specs.MachineView.{PagedObject, MachineView}
-use Rattle.b67_stack.specs.Represents.{Storage, Represents}
-use Rattle.b67_layout.specs.Placement.{Placement, slot_of}
-use Rattle.b67_layout.specs.Layout.{slot_at, machine_view}
-use Rattle.b67_layout.specs.Session.{RepresentsCritical, SessionHolds}
+use Rattle.b67_stack.specs.Common.{PagedObject, MachineView, Storage, Represents}
+use Rattle.b67_layout.specs.Common.{Placement, slot_of, slot_at, machine_view, RepresentsCritical, SessionHolds, IsInOrderButCounts}
 use Rattle.b67_layout.proofs.MachineViews.{with_course}
 use Rattle.b67_layout.proofs.Rows.{slot_below}
-use Rattle.b67_layout.specs.Orders.{IsInOrderButCounts}
 use Rattle.b67_task_end_stack.specs.Vacated.{put_out}
 use Rattle.b67_task_end_stack.specs.Graves.{Death, MayAllDie, all_died, slots_of, SameButSlots, ZeroVector, all_put_out}
 use Rattle.b67_task_end_stack.specs.Turns.{InTurn, lies_out, deaths}

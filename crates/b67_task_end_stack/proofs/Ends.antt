@@ -8,19 +8,13 @@ use Rattle.b67_word.specs.Tagged.{Tagged}
 use Rattle.b67_word.specs.declared.faults.Ending.{Ending}
 use Rattle.b67_ctl.specs.declared.registers.Regs.{Regs}
 use Rattle.b67_lemmas.specs.Lists.{Has}
-use Rattle.b67_model.specs.State.{Frame, Array, Task, Job, SessionJob}
-use Rattle.b67_model.specs.Arrays.{array}
+use Rattle.b67_model.specs.Common.{Frame, Array, Task, Job, SessionJob, array, among, released, is_owned_by, ends_all, Session, identities}
 use Rattle.b67_model.specs.Keyed.{keyed}
-use Rattle.b67_model.specs.Endings.{among, released, is_owned_by, ends_all}
-use Rattle.b67_model.specs.Schedule.{Session}
-use Rattle.b67_model.specs.InOrder.{identities}
 use Rattle.b67_lemmas.proofs.Members.{has_map, has_map_back, has_filter, has_filter_in, any_some, any_has, falls_same}
 use Rattle.b67_stack.specs.Represents.{Storage}
-use Rattle.b67_layout.specs.Placement.{Placement, Slotted, slot_of, is_row_of}
-use Rattle.b67_layout.specs.Session.{SessionHolds}
+use Rattle.b67_layout.specs.Common.{Placement, Slotted, slot_of, is_row_of, SessionHolds, IsInOrderButCounts}
 use Rattle.b67_layout.proofs.Rows.{task_row}
 use Rattle.b67_task_start_stack.specs.Likes.{Like}
-use Rattle.b67_layout.specs.Orders.{IsInOrderButCounts}
 use Rattle.b67_task_end_stack.specs.Leaves.{Lost, Stays, NotTheirs, Leaves, Lists}
 use Rattle.b67_task_end_stack.specs.Ends.{gone_of, job_without, row_stays, rows_without}
 use Rattle.b67_task_end_stack.proofs.Slotwise.{order_of, found_member}

@@ -8,27 +8,14 @@ use Rattle.b67_word.specs.Tagged.{Tagged}
 use Rattle.b67_ctl.specs.declared.registers.Regs.{Regs}
 use Rattle.b67_lemmas.specs.Lists.{Has, Falls}
 use Rattle.b67_model.specs.Words as Words
-use Rattle.b67_model.specs.Words.{Word, Operand, Name, Ref, Row, Element, Original, Proc, Intrinsic}
-use Rattle.b67_model.specs.State.{Frame, Array, Segment, Task, Job, JobProgress, SessionJob}
+use Rattle.b67_model.specs.Common.{Word, Operand, Name, Ref, Row, Element, Original, Proc, Intrinsic, Frame, Array, Segment, Task, Job, JobProgress, SessionJob, array, number_of, Session, Starts, IsSegment, Known, known_of, WordInOrder, FramesInOrder, outer_of}
 use Rattle.b67_model.specs.Keyed.{keyed}
-use Rattle.b67_model.specs.Arrays.{array}
-use Rattle.b67_model.specs.Run.{number_of}
-use Rattle.b67_model.specs.Schedule.{Session}
-use Rattle.b67_model.specs.InOrder.{Starts, IsSegment, Known, known_of, WordInOrder, FramesInOrder, outer_of}
 use Rattle.b67_lemmas.proofs.Members.{has_append_left, has_append_right, has_append_cases, has_flat, has_map, has_map_back, keyed_has, falls_same, has_flat_back}
 use Rattle.b67_area.specs.declared.Kind.TheVariants as kind
-use Rattle.b67_stack.specs.MachineView.{PagedObject, Slot}
-use Rattle.b67_stack.specs.Represents.{Storage, Represents}
-use Rattle.b67_layout.specs.Placement.{Placement, Slotted, slot_of}
-use Rattle.b67_layout.specs.Layout.{slot_with, slot_in, slot_by, slot_at, code_objects, array_object, objects_of, machine_view}
-use Rattle.b67_layout.specs.Session.{SessionHolds}
-use Rattle.b67_layout.proofs.MachineViews.{with_course, member-same, member-other}
-use Rattle.b67_layout.proofs.Rows.{task_row}
-use Rattle.b67_layout.proofs.Sessions.{change-has, change-kept}
-use Rattle.b67_layout.proofs.LeftSettles.{numbered_course}
-use Rattle.b67_layout.proofs.Objects.{Represents-objects}
+use Rattle.b67_stack.specs.Common.{PagedObject, Slot, Storage, Represents}
+use Rattle.b67_layout.specs.Common.{Placement, Slotted, slot_of, slot_with, slot_in, slot_by, slot_at, code_objects, array_object, objects_of, machine_view, SessionHolds, IsInOrderButCounts}
+use Rattle.b67_layout.proofs.Common.{with_course, member-same, member-other, task_row, change-has, change-kept, numbered_course, Represents-objects}
 use Rattle.b67_task_start_stack.proofs.Twins.{NamesOnly, FramesName, like_same, slot_with-twin, name_all}
-use Rattle.b67_layout.specs.Orders.{IsInOrderButCounts}
 use Rattle.b67_task_end_stack.specs.Leaves.{Lost, Stays, NotTheirs, Kept, Leaves}
 use Rattle.b67_task_end_stack.proofs.Owners.{NamesForeign, words_foreign}
 use Rattle.b67_task_end_stack.proofs.Slotwise.{In, frames_in_order, order_of, found_member, not_there, owned_lies}

@@ -8,8 +8,7 @@ use Rattle.b67_word.specs.Tagged.{Tagged, word}
 use Rattle.b67_ctl.specs.declared.registers.Regs.{Regs}
 use Rattle.b67_lemmas.specs.Lists.{Has}
 use Rattle.b67_lemmas.proofs.Members.{has_append_left, has_append_right, has_append_cases, has_map, has_map_back}
-use Rattle.b67_stack.specs.MachineView.{PagedObject, MachineView, slot_base}
-use Rattle.b67_stack.specs.Represents.{Storage}
+use Rattle.b67_stack.specs.Common.{PagedObject, MachineView, slot_base, Storage}
 use Rattle.b67_stack.proofs.Bases.{base-apart}
 use Rattle.b67_task_release.specs.Released.{HasHome, Released}
 use Rattle.b67_task_release.proofs.Remaining.{Released-none, Released-then}

@@ -3,9 +3,7 @@
 use Rattle.std.proofs.Common.{◌≡◌, ◌≢◌, ℕ, ◌<◌, List, [], ◌∷◌, ◌++◌, map, refl, sym, ap, arith, inl, inr, subst}
 use Rattle.b67_lemmas.specs.Lists.{Has}
 use Rattle.b67_model.specs.Words as Words
-use Rattle.b67_model.specs.Words.{Word, Operand, Name, Ref, Row, Element, Original, Proc, Intrinsic}
-use Rattle.b67_model.specs.State.{Frame, Standing, Array, Task, JobConstants, Job}
-use Rattle.b67_model.specs.InOrder.{Starts, Known, known_of, outer_of, reach_of, identities, WordInOrder, FramesInOrder, TaskInOrder, TasksInOrder}
+use Rattle.b67_model.specs.Common.{Word, Operand, Name, Ref, Row, Element, Original, Proc, Intrinsic, Frame, Standing, Array, Task, JobConstants, Job, Starts, Known, known_of, outer_of, reach_of, identities, WordInOrder, FramesInOrder, TaskInOrder, TasksInOrder}
 use Rattle.b67_lemmas.proofs.Members.{has_append_cases, has_map, has_map_back, all_in}
 use Rattle.b67_law_order.proofs.Looks.{above_one}
 use Rattle.b67_law_order.proofs.Lines.{Above, outer_owned, one_task}

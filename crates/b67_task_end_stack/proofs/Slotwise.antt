@@ -10,30 +10,18 @@ use Rattle.b67_word.specs.Tagged.{Tagged}
 use Rattle.b67_ctl.specs.declared.registers.Regs.{Regs}
 use Rattle.b67_lemmas.specs.Lists.{Has}
 use Rattle.b67_model.specs.Words as Words
-use Rattle.b67_model.specs.Words.{Word, Operand, Name, Ref, Row, Element, Original, Proc, Intrinsic}
-use Rattle.b67_model.specs.State.{Frame, Array, Task, Job, SessionJob}
+use Rattle.b67_model.specs.Common.{Word, Operand, Name, Ref, Row, Element, Original, Proc, Intrinsic, Frame, Array, Task, Job, SessionJob, number_of, Session, Starts, IsSegment, Known, identities, frames_named, OwnsArray, EntryInOrder, WordInOrder, FramesInOrder, TaskInOrder, outer_of}
 use Rattle.b67_model.specs.Keyed.{keyed}
-use Rattle.b67_model.specs.Run.{number_of}
-use Rattle.b67_model.specs.Schedule.{Session}
-use Rattle.b67_model.specs.InOrder.{Starts, IsSegment, Known, identities, frames_named, OwnsArray, EntryInOrder, WordInOrder, FramesInOrder, TaskInOrder, outer_of}
 use Rattle.b67_law_order.proofs.Looks.{above_one}
 use Rattle.b67_lemmas.proofs.Members.{has_reverse, has_map, has_map_back, keyed_has, keyed_falls, falls_same, all_in}
 use Rattle.b67_stack.specs.Shapes as Shapes
-use Rattle.b67_stack.specs.Shapes.{Shape, Is, Copy, Copied, Fits, LieDownward, IsOriginal}
-use Rattle.b67_stack.specs.Stacks.{StackPlace, Activation, stack_words, words}
-use Rattle.b67_stack.specs.MachineView.{Running, Waiting, stack_of, MachineView, slot_base}
-use Rattle.b67_stack.specs.Represents.{Storage}
+use Rattle.b67_stack.specs.Common.{Shape, Is, Copy, Copied, Fits, LieDownward, IsOriginal, StackPlace, Activation, stack_words, words, Running, Waiting, stack_of, MachineView, slot_base, Storage}
 use Rattle.b67_stack.proofs.Bases.{base-apart}
 use Rattle.b67_stack.proofs.Heights.{words-length}
-use Rattle.b67_layout.specs.Placement.{Slotted, Placement, slot_of, outer_spots}
-use Rattle.b67_layout.specs.Layout.{shape, stack_of_task, slot_with, slot_in, slot_by, slot_at, machine_view}
-use Rattle.b67_layout.specs.Session.{DictionariesFollow, SessionHolds}
-use Rattle.b67_layout.proofs.Rows.{task_row, slot_below}
-use Rattle.b67_layout.proofs.Originals.{lies_at, original_word, InFrame, original_of, entry_number}
-use Rattle.b67_layout.proofs.LeftSettles.{stack_in_slot}
+use Rattle.b67_layout.specs.Common.{Slotted, Placement, slot_of, outer_spots, shape, stack_of_task, slot_with, slot_in, slot_by, slot_at, machine_view, DictionariesFollow, SessionHolds, JobInOrderButCounts, IsInOrderButCounts}
+use Rattle.b67_layout.proofs.Common.{task_row, slot_below, lies_at, original_word, InFrame, original_of, entry_number, stack_in_slot}
 use Rattle.b67_task_release.proofs.Copies.{words_descriptor, cell_word, frame_words, home_of}
 use Rattle.b67_task_release.proofs.Leavings.{here_lies, original_shape, original_named}
-use Rattle.b67_layout.specs.Orders.{JobInOrderButCounts, IsInOrderButCounts}
 use Rattle.b67_task_end_stack.proofs.Owners.{NamesForeign, words_foreign, total_two, counted}
 use Rattle.b67_law_order.proofs.Numbered.{keyed_member}
 use Rattle.b67_task_end_stack.proofs.Vacates.{slot_room}

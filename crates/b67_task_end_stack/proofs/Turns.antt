@@ -6,20 +6,13 @@ use Rattle.std.proofs.lemmas.Bool.{cases_Bool, cases_eq, eq-eqb, ne_eqb, lt-ltb,
 use Rattle.b67_word.specs.Tagged.{Tagged}
 use Rattle.b67_ctl.specs.declared.registers.Regs.{Regs}
 use Rattle.b67_lemmas.specs.Lists.{Has}
-use Rattle.b67_model.specs.State.{Task, SessionJob}
-use Rattle.b67_model.specs.Schedule.{Session}
+use Rattle.b67_model.specs.Common.{Task, SessionJob, Session}
 use Rattle.b67_lemmas.proofs.Members.{has_append_left, has_append_right, has_append_cases, has_flat, has_map, has_filter, has_filter_in}
-use Rattle.b67_stack.specs.Shapes.{Copy, Copied, IsOriginal}
-use Rattle.b67_stack.specs.Stacks.{stack_words, words}
-use Rattle.b67_stack.specs.MachineView.{PagedObject, Slot, Free, Running, Waiting, stack_of, MachineView, SlotFits, slot_base}
-use Rattle.b67_stack.specs.Represents.{Storage}
+use Rattle.b67_stack.specs.Common.{Copy, Copied, IsOriginal, stack_words, words, PagedObject, Slot, Free, Running, Waiting, stack_of, MachineView, SlotFits, slot_base, Storage}
 use Rattle.b67_stack.proofs.Slots.{by_slot}
-use Rattle.b67_layout.specs.Placement.{Placement, slot_of}
-use Rattle.b67_layout.specs.Layout.{slot_at, array_object, code_objects, objects_of, machine_view}
-use Rattle.b67_layout.specs.Session.{SessionHolds}
+use Rattle.b67_layout.specs.Common.{Placement, slot_of, slot_at, array_object, code_objects, objects_of, machine_view, SessionHolds, IsInOrderButCounts}
 use Rattle.b67_layout.proofs.Rows.{slot_below}
 use Rattle.b67_task_release.specs.Released.{HasHome, of_objects}
-use Rattle.b67_layout.specs.Orders.{IsInOrderButCounts}
 use Rattle.b67_task_end_stack.specs.Vacated.{died, MayDie}
 use Rattle.b67_task_end_stack.specs.Graves.{MayAllDie, all_died}
 use Rattle.b67_task_end_stack.specs.Turns.{InTurn, lies_in, lies_out, deaths}

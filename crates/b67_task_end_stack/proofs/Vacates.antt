@@ -7,10 +7,7 @@ use Rattle.b67_area.specs.Spans.{Span, Area, Hole}
 use Rattle.b67_area.proofs.Climbs.{area_at-low}
 use Rattle.b67_area.proofs.Separation.{Controls, IsDirectory-same}
 use Rattle.b67_ctl.specs.declared.registers.Regs.{Regs}
-use Rattle.b67_stack.specs.Shapes.{Fits, LieDownward}
-use Rattle.b67_stack.specs.Stacks.{stack_words, words}
-use Rattle.b67_stack.specs.MachineView.{Slot, Free, Running, Waiting, stack_of, MachineView, slot_base, SlotFits, Laid, with_slot}
-use Rattle.b67_stack.specs.Represents.{Storage, RepresentsSlot, RepresentsRegs, StacksLie, RepresentsObjects, Represents, info_of}
+use Rattle.b67_stack.specs.Common.{Fits, LieDownward, stack_words, words, Slot, Free, Running, Waiting, stack_of, MachineView, slot_base, SlotFits, Laid, with_slot, Storage, RepresentsSlot, RepresentsRegs, StacksLie, RepresentsObjects, Represents, info_of}
 use Rattle.b67_stack.proofs.Bases.{base-apart}
 use Rattle.b67_stack.proofs.Heights.{words-length}
 use Rattle.b67_stack.proofs.Lies.{Lie-same}

@@ -1,7 +1,6 @@
 -- What endings make of a job, and of the plan.
 use Rattle.std.specs.Prelude.{ℕ, ◌==◌, ◌&&◌, not, List, map, filter, Bool}
-use Rattle.b67_model.specs.State.{Task, Job}
-use Rattle.b67_model.specs.Endings.{among, released, is_owned_by}
+use Rattle.b67_model.specs.Common.{Task, Job, among, released, is_owned_by}
 use Rattle.b67_layout.specs.Placement.{Placement, Slotted}
 
 abbrev pub gone_of : Job → List ℕ → List Task

@@ -3,8 +3,7 @@ use Rattle.std.specs.Prelude.{◌≡◌, ◌≢◌, ℕ, ◌+◌, ◌<◌, List,
 use Rattle.b67_word.specs.Tagged.{Tagged, word}
 use Rattle.b67_ctl.specs.declared.registers.Regs.{Regs}
 use Rattle.b67_lemmas.specs.Lists.{Has}
-use Rattle.b67_stack.specs.MachineView.{PagedObject, MachineView, slot_base}
-use Rattle.b67_stack.specs.Represents.{Storage}
+use Rattle.b67_stack.specs.Common.{PagedObject, MachineView, slot_base, Storage}
 use Rattle.b67_task_release.specs.Released.{HasHome, Released}
 use Rattle.b67_task_end_stack.specs.Vacated.{put_out, died, MayDie}
 

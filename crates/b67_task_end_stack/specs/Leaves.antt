@@ -2,12 +2,9 @@
 use Rattle.std.specs.Prelude.{◌≡◌, ◌≢◌, ℕ, ◌+◌, ◌<◌, ◌==◌, List, Some, None, slice_get}
 use Rattle.b67_word.specs.Tagged.{Tagged, word}
 use Rattle.b67_lemmas.specs.Lists.{Has}
-use Rattle.b67_model.specs.State.{Array, Task, Job, SessionJob}
-use Rattle.b67_model.specs.Arrays.{array}
+use Rattle.b67_model.specs.Common.{Array, Task, Job, SessionJob, array, identities}
 use Rattle.b67_model.specs.Keyed.{keyed}
-use Rattle.b67_model.specs.InOrder.{identities}
-use Rattle.b67_layout.specs.Placement.{Placement, Slotted, slot_of}
-use Rattle.b67_layout.specs.Session.{critical_mark}
+use Rattle.b67_layout.specs.Common.{Placement, Slotted, slot_of, critical_mark}
 use Rattle.b67_task_start_stack.specs.Likes.{Like, SameStack}
 
 abbrev pub Lost : Placement → ℕ → List Task → ℕ → Type 0

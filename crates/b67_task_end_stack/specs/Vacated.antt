@@ -5,9 +5,7 @@ use Rattle.b67_area.specs.declared.Kind.TheVariants.{Code}
 use Rattle.b67_ctl.specs.declared.registers.Regs.{Regs}
 use Rattle.b67_lemmas.specs.Lists.{Has}
 use Rattle.b67_stack.specs.declared.Cpu.{Cpu}
-use Rattle.b67_stack.specs.Shapes.{IsOriginal}
-use Rattle.b67_stack.specs.Stacks.{stack_words}
-use Rattle.b67_stack.specs.MachineView.{PagedObject, MachineView, Free, SlotFits, stack_of, slot_base, with_slot}
+use Rattle.b67_stack.specs.Common.{IsOriginal, stack_words, PagedObject, MachineView, Free, SlotFits, stack_of, slot_base, with_slot}
 use Rattle.b67_task_release.specs.Released.{HasHome, of_objects}
 
 -- no registers are in use if they were those of slot k

@@ -9,26 +9,16 @@ use Rattle.b67_area.specs.declared.Areas.{Areas}
 use Rattle.b67_backing.specs.Shelf.{Table}
 use Rattle.b67_lemmas.specs.Lists.{Has}
 use Rattle.b67_lemmas.proofs.Members.{any_some, has_filter, has_map, has_map_back, keyed_has}
-use Rattle.b67_model.specs.State.{Task, JobProgress, SessionJob}
-use Rattle.b67_model.specs.Endings.{among, unsettled}
-use Rattle.b67_model.specs.Run.{number_of}
-use Rattle.b67_model.specs.Schedule.{Session}
-use Rattle.b67_model.specs.InOrder.{IsSegment, NumberedFrom, TasksInOrder}
+use Rattle.b67_model.specs.Common.{Task, JobProgress, SessionJob, among, unsettled, number_of, Session, IsSegment, NumberedFrom, TasksInOrder}
 use Rattle.b67_law_order_steps.proofs.Deaths.{IsClosed, ends_good}
 use Rattle.b67_stack.specs.declared.Cpu.{Cpu}
 use Rattle.b67_stack.specs.MachineView.{MachineView}
 use Rattle.b67_stack.specs.Represents.{Storage}
 use Rattle.b67_layout_storage.specs.Machine.{MachineRepresentsView}
 use Rattle.b67_layout_storage.proofs.Devices.{says_of}
-use Rattle.b67_layout.specs.Placement.{Placement, Slotted, slot_of}
-use Rattle.b67_layout.specs.Layout.{machine_view}
-use Rattle.b67_layout.specs.Orders.{IsInOrderButCounts}
+use Rattle.b67_layout.specs.Common.{Placement, Slotted, slot_of, machine_view, IsInOrderButCounts, TaskShows, TablesShow, RowsFit, RepresentsCritical, RepresentsSession, RepresentsStorage}
 use Rattle.b67_layout.specs.Rows as rows
-use Rattle.b67_layout.specs.Rows.{TaskShows, TablesShow}
-use Rattle.b67_layout.specs.Session.{RowsFit, RepresentsCritical, RepresentsSession, RepresentsStorage}
-use Rattle.b67_layout.proofs.Fresh.{job_in_order}
-use Rattle.b67_layout.proofs.MachineViews.{with_course}
-use Rattle.b67_layout.proofs.Rows.{finds, slot_below, task_row}
+use Rattle.b67_layout.proofs.Common.{job_in_order, with_course, finds, slot_below, task_row}
 use Rattle.b67_task_tables.specs.declared.tables.TaskRow.{TaskRow}
 use Rattle.b67_task_tables.specs.declared.tables.Tasks.{Tasks}
 use Rattle.b67_task_tables.specs.declared.tables.Machine.{Machine}

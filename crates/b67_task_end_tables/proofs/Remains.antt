@@ -9,20 +9,13 @@ use Rattle.b67_word.specs.Tagged.{Tagged}
 use Rattle.b67_ctl.specs.declared.registers.Regs.{Regs}
 use Rattle.b67_lemmas.specs.Lists.{Has}
 use Rattle.b67_lemmas.proofs.Members.{has_filter, has_filter_in, has_map, has_map_back}
-use Rattle.b67_model.specs.State.{Condition, Ready, Awaits, WaitsAt, Frame, Task, Job, SessionJob}
-use Rattle.b67_model.specs.Endings.{among, released}
+use Rattle.b67_model.specs.Common.{Condition, Ready, Awaits, WaitsAt, Frame, Task, Job, SessionJob, among, released, number_of, Session, frames_of_task}
 use Rattle.b67_model.specs.Keyed.{keyed}
-use Rattle.b67_model.specs.Run.{number_of}
-use Rattle.b67_model.specs.Schedule.{Session}
-use Rattle.b67_model.specs.InOrder.{frames_of_task}
 use Rattle.b67_law_order_steps.proofs.Deaths.{IsClosed}
 use Rattle.b67_stack.specs.Represents.{Storage}
 use Rattle.b67_stack.specs.Stacks.{StackPlace}
-use Rattle.b67_layout.specs.Placement.{Placement, slot_of, spot_in, base_spot, spots, address_of}
+use Rattle.b67_layout.specs.Common.{Placement, slot_of, spot_in, base_spot, spots, address_of, AwaitsTask, WaitsAtCell, JobRow, JobCounts, shown, parent_slot, critical_disp, TaskShows, JobShows, JobsShow, RunningRow, Differ, TablesShow, RowsFit, SessionHolds, IsInOrderButCounts}
 use Rattle.b67_layout.specs.Rows as rows
-use Rattle.b67_layout.specs.Rows.{AwaitsTask, WaitsAtCell, JobRow, JobCounts, shown, parent_slot, critical_disp, TaskShows, JobShows, JobsShow, RunningRow, Differ, TablesShow}
-use Rattle.b67_layout.specs.Session.{RowsFit, SessionHolds}
-use Rattle.b67_layout.specs.Orders.{IsInOrderButCounts}
 use Rattle.b67_layout.proofs.MachineViews.{with_course}
 use Rattle.b67_layout.proofs.Rows.{slot_below}
 use Rattle.b67_task_tables.specs.declared.tables.TaskRow.{TaskRow}

@@ -4,19 +4,13 @@ use Rattle.std.proofs.lemmas.Bool.{cases_Bool, cases_eq, eq-eqb, ne_eqb, eqb-tru
 use Rattle.std.proofs.lemmas.Option.{same_Some}
 use Rattle.b67_lemmas.specs.Lists.{Has}
 use Rattle.b67_lemmas.proofs.Members.{all_in, any_has, any_some, falls_same, has_map, has_map_back, keyed_has}
-use Rattle.b67_model.specs.State.{Frame, Task, Job, SessionJob, height}
-use Rattle.b67_model.specs.Steps.{is_critical}
+use Rattle.b67_model.specs.Common.{Frame, Task, Job, SessionJob, height, is_critical, number_of, Session, IsSegment, NumberedFrom, BirthInOrder, ParentInOrder, TaskInOrder, TasksInOrder, identities, frames_named, frames_of_task}
 use Rattle.b67_model.specs.Keyed.{keyed}
-use Rattle.b67_model.specs.Run.{number_of}
-use Rattle.b67_model.specs.Schedule.{Session}
-use Rattle.b67_model.specs.InOrder.{IsSegment, NumberedFrom, BirthInOrder, ParentInOrder, TaskInOrder, TasksInOrder, identities, frames_named, frames_of_task}
 use Rattle.b67_law_order.proofs.Looks.{above_one}
 use Rattle.b67_law_order.proofs.Numbered.{keyed_member}
 use Rattle.b67_stack.specs.Stacks.{StackPlace}
-use Rattle.b67_layout.specs.Placement.{Placement, Slotted, slot_of, spot_in, base_spot}
+use Rattle.b67_layout.specs.Common.{Placement, Slotted, slot_of, spot_in, base_spot, JobRow, JobCounts, parent_slot, critical_disp, TaskShows, TablesShow, RowsFit, RepresentsCritical, critical_mark}
 use Rattle.b67_layout.specs.Rows as rows
-use Rattle.b67_layout.specs.Rows.{JobRow, JobCounts, parent_slot, critical_disp, TaskShows, TablesShow}
-use Rattle.b67_layout.specs.Session.{RowsFit, RepresentsCritical, critical_mark}
 use Rattle.b67_layout.proofs.Rows.{task_row, slot_below}
 use Rattle.b67_task_end_stack.proofs.Owners.{counted, total_two}
 use Rattle.b67_task_tables.specs.declared.tables.TaskRow.{TaskRow}

@@ -3,13 +3,9 @@ use Rattle.std.specs.Prelude.{◌≡◌, ℕ, ◌==◌, ◌&&◌, ◌⊎◌, not
 use Rattle.std.specs.List.{list_any}
 use Rattle.b67_word.specs.declared.faults.Ending.{Ending}
 use Rattle.b67_lemmas.specs.Lists.{Has}
-use Rattle.b67_model.specs.State.{Task, Job, SessionJob}
-use Rattle.b67_model.specs.Endings.{among, ends_all, unsettled}
-use Rattle.b67_model.specs.Schedule.{Session}
+use Rattle.b67_model.specs.Common.{Task, Job, SessionJob, among, ends_all, unsettled, Session}
 use Rattle.b67_stack.specs.Represents.{Storage}
-use Rattle.b67_layout.specs.Placement.{Slotted, Placement}
-use Rattle.b67_layout.specs.Meets.{with_job}
-use Rattle.b67_layout.specs.Orders.{IsInOrderButCounts}
+use Rattle.b67_layout.specs.Common.{Slotted, Placement, with_job, IsInOrderButCounts}
 use Rattle.b67_task_tables.specs.declared.tables.Tasks.{Tasks}
 use Rattle.b67_task_tables.specs.declared.tables.Machine.{Machine}
 use Rattle.b67_task_tables.specs.Tables.{MachineRepresents}

@@ -1,8 +1,7 @@
 -- The tasks that end with one, and the session without them.
 use Rattle.std.specs.Prelude.{◌≡◌, ℕ, List, Option}
 use Rattle.b67_word.specs.declared.faults.Ending.{Ending}
-use Rattle.b67_model.specs.Schedule.{Session}
-use Rattle.b67_model.specs.State.{Task, SessionJob}
+use Rattle.b67_model.specs.Common.{Session, Task, SessionJob}
 use Rattle.b67_stack.specs.Represents.{Storage}
 use Rattle.b67_layout.specs.Placement.{Placement}
 use Rattle.b67_layout.specs.Orders.{IsInOrderButCounts}

@@ -5,18 +5,9 @@ use Rattle.std.proofs.lemmas.List.{length-map}
 use Rattle.std.proofs.lemmas.Bool.{cases_eq, eq-eqb, ne_eqb}
 use Rattle.std.proofs.lemmas.Nat.{mul-le}
 use Rattle.std.proofs.lemmas.List.Sums.{sum_by-cons}
-use Rattle.b67_model.specs.State.{Task, Job, SessionJob}
-use Rattle.b67_model.specs.Arrays.{array}
-use Rattle.b67_model.specs.Answers.{Answer}
-use Rattle.b67_model.specs.Steps.{Done}
-use Rattle.b67_model.specs.Need.{fixed, touched_of, started_by, area_of, need}
-use Rattle.b67_model.specs.Rows.{code_of, step}
-use Rattle.b67_model.specs.Run.{live_tasks, number_of}
-use Rattle.b67_model.specs.Schedule.{Session}
-use Rattle.b67_layout.specs.Orders.{IsInOrderButCounts}
+use Rattle.b67_model.specs.Common.{Task, Job, SessionJob, array, Answer, Done, fixed, touched_of, started_by, area_of, need, code_of, step, live_tasks, number_of, Session}
+use Rattle.b67_layout.specs.Common.{IsInOrderButCounts, Placement, DictionariesFollow, IsRunning}
 use Rattle.b67_stack.specs.Represents.{Storage}
-use Rattle.b67_layout.specs.Placement.{Placement}
-use Rattle.b67_layout.specs.Session.{DictionariesFollow, IsRunning}
 use Rattle.b67_task_tables.specs.declared.tables.Machine.{Machine}
 use Rattle.b67_task_tables.specs.Tables.{MachineRepresents, task_row, job_row, counts_of}
 use Rattle.b67_exec_cells.proofs.Codes.{short}

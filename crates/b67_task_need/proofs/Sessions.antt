@@ -11,34 +11,18 @@ use Rattle.b67_lemmas.specs.Lists.{Has, total, how_many}
 use Rattle.b67_lemmas.proofs.Members.{all_in, has_flat, has_flat_back, has_map, has_map_back, has_reverse_back, keyed_falls, total_append, total_flat, total_map, total_reverse, total_same, total_zero, found-has}
 use Rattle.b67_lemmas.proofs.Sums.{sum_total, total_plus}
 use Rattle.b67_model.specs.Words as Words
-use Rattle.b67_model.specs.Words.{Word, Operand, Name, Ref, Row, Element, Original, Proc, Intrinsic}
-use Rattle.b67_model.specs.State.{Frame, Array, Segment, JobConstants, Task, Job, SessionJob}
+use Rattle.b67_model.specs.Common.{Word, Operand, Name, Ref, Row, Element, Original, Proc, Intrinsic, Frame, Array, Segment, JobConstants, Task, Job, SessionJob, sectors_for, sectors_of, sectors, Session, Starts, IsSegment, Known, known_of, OwnsArray, FramesInOrder, WordInOrder, EntryInOrder, is_original_of, originals_of, outer_of, rows_after, DictionaryWords, TaskInOrder, TasksInOrder}
 use Rattle.b67_model.specs.Keyed.{keyed}
-use Rattle.b67_model.specs.Sectors.{sectors_for, sectors_of, sectors}
-use Rattle.b67_model.specs.Schedule.{Session}
-use Rattle.b67_model.specs.InOrder.{Starts, IsSegment, Known, known_of, OwnsArray, FramesInOrder, WordInOrder, EntryInOrder, is_original_of, originals_of, outer_of, rows_after, DictionaryWords, TaskInOrder, TasksInOrder}
-use Rattle.b67_layout.specs.Orders.{IsInOrderButCounts}
+use Rattle.b67_layout.specs.Common.{IsInOrderButCounts, Slotted, Placement, slot_of, spot_in, outer_spots, shape, head, activations, stack_of_task, slot_by, slot_at, array_object, code_objects, objects_of, machine_view, DictionariesFollow, RepresentsSession}
 use Rattle.b67_stack.specs.declared.Cpu.{Cpu}
 use Rattle.b67_stack.specs.Shapes as Shapes
-use Rattle.b67_stack.specs.Shapes.{Location}
-use Rattle.b67_stack.specs.Stacks.{StackPlace, Activation, Head, headed, stack_words, words}
-use Rattle.b67_stack.specs.MachineView.{PagedObject, stack_of, slot_base, address_or}
-use Rattle.b67_stack.specs.Represents.{Storage, info_of}
+use Rattle.b67_stack.specs.Common.{Location, StackPlace, Activation, Head, headed, stack_words, words, PagedObject, stack_of, slot_base, address_or, Storage, info_of}
 use Rattle.b67_stack.proofs.Heights.{words-length}
 use Rattle.b67_stack.proofs.Homes.{chain_small}
-use Rattle.b67_layout.specs.Placement.{Slotted, Placement, slot_of, spot_in, outer_spots}
-use Rattle.b67_layout.specs.Layout.{shape, head, activations, stack_of_task, slot_by, slot_at, array_object, code_objects, objects_of, machine_view}
-use Rattle.b67_layout.specs.Session.{DictionariesFollow, RepresentsSession}
-use Rattle.b67_layout.proofs.Rows.{task_row, slot_below}
-use Rattle.b67_layout.proofs.Fresh.{job_in_order}
-use Rattle.b67_layout.proofs.Sessions.{follow-up}
+use Rattle.b67_layout.proofs.Common.{task_row, slot_below, job_in_order, follow-up, stack_in_slot, entry_number, slots_of, jobs_differ}
 use Rattle.b67_exec_cells.proofs.Replaced.{array_object-has, member_objects, before}
-use Rattle.b67_layout.proofs.LeftSettles.{stack_in_slot}
-use Rattle.b67_layout.proofs.Originals.{entry_number}
 use Rattle.b67_exec_cells.proofs.Codes.{code_object}
 use Rattle.b67_task_need.specs.Sums.{sectors_at, sectors_from, sectors_of_slot, sectors_of_slots}
-use Rattle.b67_layout.proofs.Counting.{slots_of}
-use Rattle.b67_layout.proofs.LiveRows.{jobs_differ}
 use Rattle.b67_task_need.proofs.Totals.{upto, slots_total, range_split, range_first, kept, kept_once, kept_original}
 use Rattle.b67_task_need.proofs.Words.{home_array, home_code, of_shape, lies_total, headed_total}
 use Rattle.b67_law_order.proofs.Numbered.{keyed_member}

@@ -9,8 +9,7 @@ use Rattle.b67_model.specs.State.{Array, Segment, SessionJob}
 use Rattle.b67_stack.specs.MachineView.{PagedObject}
 use Rattle.b67_stack.specs.Represents.{Storage}
 use Rattle.b67_overlay.specs.AreasEvicted.{IsShortBy}
-use Rattle.b67_layout.specs.Placement.{Placement}
-use Rattle.b67_layout.specs.Layout.{array_object, code_objects, objects_of, machine_view}
+use Rattle.b67_layout.specs.Common.{Placement, array_object, code_objects, objects_of, machine_view}
 use Rattle.b67_task_tables.specs.Shortage.{IsShortOf}
 
 -- an array of a job

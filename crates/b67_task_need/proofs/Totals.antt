@@ -7,10 +7,7 @@ use Rattle.b67_word.specs.Tagged.{Tagged}
 use Rattle.b67_lemmas.specs.Lists.{Has, Falls, total, how_many}
 use Rattle.b67_lemmas.proofs.Members.{falls_low, has_map, total_same, total_zero}
 use Rattle.b67_lemmas.proofs.Sums.{total_plus}
-use Rattle.b67_model.specs.Words.{Word}
-use Rattle.b67_model.specs.State.{Array}
-use Rattle.b67_model.specs.Sectors.{sectors_for}
-use Rattle.b67_model.specs.InOrder.{is_original_of}
+use Rattle.b67_model.specs.Common.{Word, Array, sectors_for, is_original_of}
 use Rattle.b67_layout.specs.Rows.{Differ}
 use Rattle.b67_task_need.specs.Sums.{sectors_at, sectors_from}
 

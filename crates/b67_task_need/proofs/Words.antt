@@ -9,9 +9,7 @@ use Rattle.b67_ctl.specs.Layout.{bit}
 use Rattle.b67_lemmas.specs.Lists.{total}
 use Rattle.b67_model.specs.Sectors.{sectors_for}
 use Rattle.b67_stack.specs.Shapes as Shapes
-use Rattle.b67_stack.specs.Shapes.{Location, Locations, Shape, Is, Copy, Fits, LieDownward, is_indexed}
-use Rattle.b67_stack.specs.Stacks.{Head, Marked, Entered, Activation, headed}
-use Rattle.b67_stack.specs.MachineView.{is_present, address_or, home_word_of}
+use Rattle.b67_stack.specs.Common.{Location, Locations, Shape, Is, Copy, Fits, LieDownward, is_indexed, Head, Marked, Entered, Activation, headed, is_present, address_or, home_word_of}
 use Rattle.b67_stack.proofs.Homes.{bit-lt}
 use Rattle.b67_task_need.specs.Sums.{sectors_of_word, sectors_at, sectors_from}
 

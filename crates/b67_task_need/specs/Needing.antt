@@ -1,11 +1,6 @@
 -- The core that an operator of the running task needs.
 use Rattle.std.specs.Prelude.{◌≢◌, ℕ, ◌+◌, ◌*◌, max, ◌==◌, List, length, Option, Some, None, if◌then◌else◌}
-use Rattle.b67_model.specs.State.{Task, Job, SessionJob}
-use Rattle.b67_model.specs.Arrays.{array}
-use Rattle.b67_model.specs.Rows.{code_of}
-use Rattle.b67_model.specs.Run.{live_tasks}
-use Rattle.b67_model.specs.Schedule.{Session}
-use Rattle.b67_model.specs.Need.{fixed}
+use Rattle.b67_model.specs.Common.{Task, Job, SessionJob, array, code_of, live_tasks, Session, fixed}
 use Rattle.b67_layout.specs.Orders.{IsInOrderButCounts}
 use Rattle.b67_stack.specs.Represents.{Storage}
 use Rattle.b67_layout.specs.Placement.{Placement}

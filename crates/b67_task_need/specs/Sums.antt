@@ -3,8 +3,7 @@ use Rattle.std.specs.Prelude.{ℕ, zero, suc, ◌+◌, Bool, false, ◌==◌, �
 use Rattle.b67_word.specs.Tagged.{Tagged, bits_at}
 use Rattle.b67_ctl.specs.declared.registers.Regs.{Regs}
 use Rattle.b67_model.specs.Sectors.{sectors_for}
-use Rattle.b67_stack.specs.Stacks.{stack_words}
-use Rattle.b67_stack.specs.MachineView.{MachineView, stack_of, slot_base}
+use Rattle.b67_stack.specs.Common.{stack_words, MachineView, stack_of, slot_base}
 use Rattle.b67_overlay.specs.Turns.{Lies}
 
 -- an original or, among code, a segment's descriptor too. A copy has bit 46, and so has a dictionary's mark

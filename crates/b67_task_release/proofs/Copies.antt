@@ -8,19 +8,10 @@ use Rattle.b67_lemmas.specs.Lists.{Has}
 use Rattle.b67_lemmas.proofs.Members.{all_in, has_append_cases, has_append_right, has_flat, has_map, has_map_back, keyed_has}
 use Rattle.b67_model.specs.Keyed.{keyed}
 use Rattle.b67_model.specs.Words as Words
-use Rattle.b67_model.specs.Words.{Word, Operand, Name, Ref, Row, Element, Original, Proc, Intrinsic}
-use Rattle.b67_model.specs.State.{Frame, Array, Task, Job, SessionJob}
-use Rattle.b67_model.specs.Run.{number_of}
-use Rattle.b67_model.specs.Schedule.{Session}
-use Rattle.b67_model.specs.InOrder.{Starts, IsSegment, Known, WordInOrder, FramesInOrder, TaskInOrder, outer_of}
-use Rattle.b67_layout.specs.Orders.{JobInOrderButCounts, IsInOrderButCounts}
+use Rattle.b67_model.specs.Common.{Word, Operand, Name, Ref, Row, Element, Original, Proc, Intrinsic, Frame, Array, Task, Job, SessionJob, number_of, Session, Starts, IsSegment, Known, WordInOrder, FramesInOrder, TaskInOrder, outer_of}
+use Rattle.b67_layout.specs.Common.{JobInOrderButCounts, IsInOrderButCounts, Slotted, Placement, spot_in, outer_spots, shape, activations, stack_of_task, slot_with, slot_in, slot_by, slot_at, array_object, code_objects, objects_of, machine_view, with_objects}
 use Rattle.b67_stack.specs.Shapes as Shapes
-use Rattle.b67_stack.specs.Shapes.{Shape, Is, Copy, Copied}
-use Rattle.b67_stack.specs.Stacks.{StackPlace, Head, Marked, Entered, Activation, headed, words}
-use Rattle.b67_stack.specs.MachineView.{PagedObject, Slot, Free, Running, Waiting, stack_of, SlotFits, CopiesName}
-use Rattle.b67_layout.specs.Placement.{Slotted, Placement, spot_in, outer_spots}
-use Rattle.b67_layout.specs.Layout.{shape, activations, stack_of_task, slot_with, slot_in, slot_by, slot_at, array_object, code_objects, objects_of, machine_view}
-use Rattle.b67_layout.specs.Session.{with_objects}
+use Rattle.b67_stack.specs.Common.{Shape, Is, Copy, Copied, StackPlace, Head, Marked, Entered, Activation, headed, words, PagedObject, Slot, Free, Running, Waiting, stack_of, SlotFits, CopiesName}
 
 -- a descriptor's shape
 abbrev pub IsDescriptor : Shape → Type 0

@@ -11,12 +11,8 @@ use Rattle.b67_backing.specs.Shelf.{Shelf, Table, IsShelf, chain_of}
 use Rattle.b67_backing.proofs.News.{chain_of-others, chain_of-given}
 use Rattle.b67_ctl.specs.declared.registers.Regs.{Regs}
 use Rattle.b67_lemmas.specs.Lists.{Has}
-use Rattle.b67_stack.specs.Shapes.{Location, Locations, Shape, Is, Original, Copy, Copied, Fits, nowhere}
-use Rattle.b67_stack.specs.Stacks.{words}
-use Rattle.b67_stack.specs.MachineView.{PagedObject, MachineView, Slot, Free, Running, Waiting, stack_of, slot_base, SlotFits, CopiesName, home_word}
-use Rattle.b67_stack.specs.Represents.{Storage, RepresentsSlot, StacksLie, RepresentsObject, Content, ObjectHasChain, Owned, Represents, info_of}
+use Rattle.b67_stack.specs.Common.{Location, Locations, Shape, Is, Original, Copy, Copied, Fits, nowhere, words, PagedObject, MachineView, Slot, Free, Running, Waiting, stack_of, slot_base, SlotFits, CopiesName, home_word, Storage, RepresentsSlot, StacksLie, RepresentsObject, Content, ObjectHasChain, Owned, Represents, info_of, with_held, ChainStays}
 use Rattle.b67_stack.proofs.Lies.{Lie-each}
-use Rattle.b67_stack.specs.HeldOtherwise.{with_held, ChainStays}
 use Rattle.b67_stack.proofs.Helds.{held-other, held-same}
 use Rattle.b67_stack.proofs.Reheld.{Content-stays}
 use Rattle.b67_stack.proofs.Unchanged.{area_of_object, home_below, slot_below, base_low}

@@ -6,8 +6,7 @@ use Rattle.b67_word.specs.Tagged.{Tagged}
 use Rattle.b67_area.specs.Spans.{Span, area_at, without, but}
 use Rattle.b67_area.specs.Directory.{IsDirectory, OnlyHoles}
 use Rattle.b67_area.proofs.Laws.{OnlyHoles-area, OnlyHoles-below}
-use Rattle.b67_stack.specs.Shapes.{Location}
-use Rattle.b67_stack.specs.MachineView.{is_present, address_or}
+use Rattle.b67_stack.specs.Common.{Location, is_present, address_or}
 use Rattle.b67_task_release.specs.Released.{Vacated}
 
 -- a present one's area

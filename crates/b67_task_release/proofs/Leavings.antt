@@ -9,30 +9,18 @@ use Rattle.b67_area.specs.declared.Kind.TheVariants.{Code}
 use Rattle.b67_lemmas.specs.Lists.{Has, Falls}
 use Rattle.b67_lemmas.proofs.Members.{all_in, any_has, any_some, falls_same, has_append_right, has_filter, has_filter_in, has_flat, has_map, has_map_back, keyed_has}
 use Rattle.b67_model.specs.Words as Words
-use Rattle.b67_model.specs.Words.{Word, Operand, Name, Ref, Row, Element, Original, Proc, Intrinsic}
-use Rattle.b67_model.specs.State.{Standing, Entered, Return, Frame, Array, Task, Job, SessionJob}
-use Rattle.b67_model.specs.Run.{number_of}
-use Rattle.b67_model.specs.Schedule.{Session}
-use Rattle.b67_model.specs.InOrder.{Starts, IsSegment, Known, WordInOrder, FramesInOrder, outer_of}
-use Rattle.b67_layout.specs.Orders.{JobInOrderButCounts, IsInOrderButCounts}
+use Rattle.b67_model.specs.Common.{Word, Operand, Name, Ref, Row, Element, Original, Proc, Intrinsic, Standing, Entered, Return, Frame, Array, Task, Job, SessionJob, number_of, Session, Starts, IsSegment, Known, WordInOrder, FramesInOrder, outer_of}
+use Rattle.b67_layout.specs.Common.{JobInOrderButCounts, IsInOrderButCounts, Placement, spot_in, outer_spots, shape, head, activations, stack_of_task, array_object, code_objects, objects_of, machine_view, gone, objects_gone, with_job, IsRunning, RepresentsSession, RepresentsSessionBut}
 use Rattle.b67_stack.specs.declared.Cpu.{Cpu}
 use Rattle.b67_stack.specs.Shapes as Shapes
-use Rattle.b67_stack.specs.Shapes.{Locations, Shape, Is, Copy, IsOriginal, Fits, LieDownward, copy_desc}
+use Rattle.b67_stack.specs.Common.{Locations, Shape, Is, Copy, IsOriginal, Fits, LieDownward, copy_desc, StackPlace, Activation, headed, stack_words, words, PagedObject, MachineView, RunsOn, slot_base, Storage}
 use Rattle.b67_stack.specs.Stacks as Stacks
-use Rattle.b67_stack.specs.Stacks.{StackPlace, Activation, headed, stack_words, words}
-use Rattle.b67_stack.specs.MachineView.{PagedObject, MachineView, RunsOn, slot_base}
-use Rattle.b67_stack.specs.Represents.{Storage}
 use Rattle.b67_stack.proofs.Heights.{words-length}
 use Rattle.b67_stack.proofs.Homes.{same_desc}
 use Rattle.b67_stack.proofs.Lies.{Lie-under}
 use Rattle.b67_stack.proofs.Slots.{running_fits, running_lies, running_slot}
-use Rattle.b67_layout.specs.Placement.{Placement, spot_in, outer_spots}
-use Rattle.b67_layout.specs.Layout.{shape, head, activations, stack_of_task, array_object, code_objects, objects_of, machine_view}
-use Rattle.b67_layout.specs.Meets.{gone, objects_gone, with_job}
-use Rattle.b67_layout.specs.Session.{IsRunning, RepresentsSession, RepresentsSessionBut}
-use Rattle.b67_layout.proofs.Rows.{runs_on, slot_below}
-use Rattle.b67_layout.proofs.LeftSettles.{under, base, all, homes_low, homes_high}
-use Rattle.b67_layout.proofs.Objects.{others}
+use Rattle.b67_layout.proofs.Common.{runs_on, slot_below, base, all, homes_low, homes_high, others}
+use Rattle.b67_layout.proofs.LeftSettles.{under}
 use Rattle.b67_task_release.specs.Released.{HasHome}
 use Rattle.b67_task_release.specs.Left.{IsLeft}
 use Rattle.b67_task_release.proofs.Remaining.{is_original}

@@ -14,9 +14,7 @@ use Rattle.b67_ctl.specs.Descriptors.{data_word, IsDataDesc}
 use Rattle.b67_lemmas.specs.Lists.{Has}
 use Rattle.b67_lemmas.proofs.Members.{has_append_cases, has_append_left, has_append_right}
 use Rattle.b67_stack.specs.declared.Cpu.{Cpu}
-use Rattle.b67_stack.specs.Shapes.{Location, IsOriginal, nowhere}
-use Rattle.b67_stack.specs.MachineView.{PagedObject, MachineView, Slot, Free, Running, Waiting, SlotFits, is_present, address_or, home_desc, home_word_of}
-use Rattle.b67_stack.specs.Represents.{Storage, Represents, info_of}
+use Rattle.b67_stack.specs.Common.{Location, IsOriginal, nowhere, PagedObject, MachineView, Slot, Free, Running, Waiting, SlotFits, is_present, address_or, home_desc, home_word_of, Storage, Represents, info_of}
 use Rattle.b67_stack.proofs.Homes.{same_desc, chain_small}
 use Rattle.b67_layout_storage.specs.Machine.{MachineRepresentsView}
 use Rattle.b67_stack.proofs.Helds.{held-other, held-same}

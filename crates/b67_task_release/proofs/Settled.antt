@@ -5,23 +5,15 @@ use Rattle.b67_backing.specs.Shelf.{Table}
 use Rattle.b67_ctl.specs.declared.registers.Regs.{Regs}
 use Rattle.b67_lemmas.specs.Lists.{Has}
 use Rattle.b67_lemmas.proofs.Members.{keyed_has}
-use Rattle.b67_model.specs.State.{Task, SessionJob}
-use Rattle.b67_model.specs.Run.{number_of}
-use Rattle.b67_model.specs.Schedule.{Session}
+use Rattle.b67_model.specs.Common.{Task, SessionJob, number_of, Session}
 use Rattle.b67_stack.specs.declared.Cpu.{Cpu}
-use Rattle.b67_stack.specs.Stacks.{stack_words}
-use Rattle.b67_stack.specs.MachineView.{PagedObject, MachineView, Slot, stack_of, slot_base}
-use Rattle.b67_stack.specs.Represents.{Storage, Represents}
+use Rattle.b67_stack.specs.Common.{stack_words, PagedObject, MachineView, Slot, stack_of, slot_base, Storage, Represents}
 use Rattle.b67_stack.proofs.Bases.{base-apart}
 use Rattle.b67_stack.proofs.Slots.{running_slot}
 use Rattle.b67_layout_storage.specs.Machine.{MachineRepresentsView, Says}
 use Rattle.b67_layout_storage.proofs.Below.{not_heads}
-use Rattle.b67_layout.specs.Placement.{Placement}
-use Rattle.b67_layout.specs.Layout.{machine_view, stack_of_task}
-use Rattle.b67_layout.specs.Session.{with_objects, RepresentsStorage}
-use Rattle.b67_layout.proofs.Rows.{runs_on}
-use Rattle.b67_layout.proofs.Alike.{AllAlike}
-use Rattle.b67_layout.proofs.Paged.{RepresentsSession-over}
+use Rattle.b67_layout.specs.Common.{Placement, machine_view, stack_of_task, with_objects, RepresentsStorage}
+use Rattle.b67_layout.proofs.Common.{runs_on, AllAlike, RepresentsSession-over}
 use Rattle.b67_task_release.specs.Released.{HasHome, Released, SameBelow, AreLeft}
 use Rattle.b67_task_release.specs.Left.{IsLeft, AreReleased}
 use Rattle.b67_task_release.proofs.Copies.{slots_fit}

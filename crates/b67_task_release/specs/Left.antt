@@ -4,16 +4,11 @@ use Rattle.b67_word.specs.Tagged.{Tagged}
 use Rattle.b67_area.specs.declared.Areas.{Areas}
 use Rattle.b67_area.specs.declared.Kind.TheVariants.{Code}
 use Rattle.b67_backing.specs.Shelf.{Table}
-use Rattle.b67_model.specs.InOrder.{IsSegment, FramesInOrder, outer_of}
+use Rattle.b67_model.specs.Common.{IsSegment, FramesInOrder, outer_of, Task, SessionJob, Session}
 use Rattle.b67_lemmas.specs.Lists.{Has}
-use Rattle.b67_model.specs.State.{Task, SessionJob}
-use Rattle.b67_model.specs.Schedule.{Session}
 use Rattle.b67_stack.specs.declared.Cpu.{Cpu}
-use Rattle.b67_stack.specs.Shapes.{IsOriginal}
-use Rattle.b67_stack.specs.MachineView.{PagedObject}
-use Rattle.b67_stack.specs.Represents.{Storage}
-use Rattle.b67_layout.specs.Placement.{Placement}
-use Rattle.b67_layout.specs.Session.{RepresentsSession, RepresentsSessionBut, RepresentsStorage}
+use Rattle.b67_stack.specs.Common.{IsOriginal, PagedObject, Storage}
+use Rattle.b67_layout.specs.Common.{Placement, RepresentsSession, RepresentsSessionBut, RepresentsStorage}
 use Rattle.b67_task_release.specs.Released.{HasHome, Released, SameBelow}
 
 -- the machine stands for a session but for arrays whose originals lie in a part of the running slot above the stack's top,

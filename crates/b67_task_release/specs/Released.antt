@@ -8,10 +8,7 @@ use Rattle.b67_area.specs.declared.Kind.TheVariants.{Code}
 use Rattle.b67_backing.specs.Shelf.{Shelf, given, chain_of}
 use Rattle.b67_ctl.specs.declared.descriptors.DataDesc.{DataDesc}
 use Rattle.b67_lemmas.specs.Lists.{Has}
-use Rattle.b67_stack.specs.Shapes.{Location, IsOriginal, nowhere}
-use Rattle.b67_stack.specs.MachineView.{PagedObject, MachineView, SlotFits, slot_base, is_present, address_or}
-use Rattle.b67_stack.specs.Represents.{Storage}
-use Rattle.b67_stack.specs.HeldOtherwise.{with_held}
+use Rattle.b67_stack.specs.Common.{Location, IsOriginal, nowhere, PagedObject, MachineView, SlotFits, slot_base, is_present, address_or, Storage, with_held}
 
 -- the spans without an area, if there is one, and a shelf where a chain is free, if there is one
 abbrev pub without_area : ℕ → Option ℕ → List Span → List Span

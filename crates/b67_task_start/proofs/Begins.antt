@@ -8,20 +8,12 @@ use Rattle.b67_backing.specs.Shelf.{Table, IsShelf}
 use Rattle.b67_lemmas.specs.Lists.{Has, total}
 use Rattle.b67_lemmas.proofs.Members.{keyed_has}
 use Rattle.b67_lemmas.proofs.Sums.{sum_total, total_gap}
-use Rattle.b67_model.specs.State.{Frame, Task, SessionJob, height}
-use Rattle.b67_model.specs.Words.{Proc}
+use Rattle.b67_model.specs.Common.{Frame, Task, SessionJob, height, Proc, live_tasks, number_of, Session}
 use Rattle.b67_law_order.proofs.Numbered.{numbered_low}
-use Rattle.b67_layout.specs.Orders.{IsInOrderButCounts}
-use Rattle.b67_model.specs.Run.{live_tasks, number_of}
-use Rattle.b67_model.specs.Schedule.{Session}
+use Rattle.b67_layout.specs.Common.{IsInOrderButCounts, Placement, address_of, spots, IsRunning, RepresentsSession, RepresentsStorage, stack_of_task, IsReady, peak_with, moved}
 use Rattle.b67_stack.specs.declared.Cpu.{Cpu}
-use Rattle.b67_stack.specs.Stacks.{StackPlace, mark_place}
+use Rattle.b67_stack.specs.Common.{StackPlace, mark_place, Storage}
 use Rattle.b67_stack.specs.Changes as Changes
-use Rattle.b67_stack.specs.Represents.{Storage}
-use Rattle.b67_layout.specs.Placement.{Placement, address_of, spots}
-use Rattle.b67_layout.specs.Session.{IsRunning, RepresentsSession, RepresentsStorage}
-use Rattle.b67_layout.specs.Layout.{stack_of_task}
-use Rattle.b67_layout.specs.Rows.{IsReady}
 use Rattle.b67_layout.proofs.Fresh.{job_in_order}
 use Rattle.b67_refer.specs.Cells.{IsCellAt}
 use Rattle.b67_refer.specs.Ends.{IsProcAt}
@@ -34,9 +26,7 @@ use Rattle.b67_task_tables.specs.declared.tables.Machine.{Machine}
 use Rattle.b67_task_tables.specs.Tables.{state_of, task_row, MachineRepresents}
 use Rattle.b67_task_start_stack.specs.Born.{with_peak, with_task_at}
 use Rattle.b67_task_start_stack.specs.Joining.{MayBuild, joined}
-use Rattle.b67_layout.specs.Peaks.{peak_with}
 use Rattle.b67_task_start.specs.Opening.{HasSlot, IsOpened}
-use Rattle.b67_layout.specs.Moved.{moved}
 use Rattle.b67_task_start.specs.Starts.{IsProcCell, MayStart, IsStarted, child, with_child, with_next}
 use Rattle.b67_task_start.proofs.Opens.{not_past, peak_stays, peak_rises}
 use Rattle.b67_task_start.proofs.Rows.{JobRowOf, job_row_of, rows_few, tables_started}

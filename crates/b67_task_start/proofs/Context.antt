@@ -8,17 +8,10 @@ use Rattle.b67_lemmas.specs.Lists.{Has}
 use Rattle.b67_lemmas.proofs.Members.{has_get, keyed_has}
 use Rattle.b67_lemmas.proofs.Places.{map-slice_set, put_back, at_mapped}
 use Rattle.b67_model.specs.Run as Run
-use Rattle.b67_model.specs.Schedule.{Session}
-use Rattle.b67_model.specs.State.{Task, Job, SessionJob}
+use Rattle.b67_model.specs.Common.{Session, Task, Job, SessionJob}
 use Rattle.b67_stack.specs.declared.Cpu.{Cpu}
-use Rattle.b67_stack.specs.Changes.{below_top}
-use Rattle.b67_stack.specs.MachineView.{RunsOn}
-use Rattle.b67_stack.specs.Stacks.{StackPlace, Activation, mark_place}
-use Rattle.b67_stack.specs.Represents.{Storage}
-use Rattle.b67_layout.specs.Layout.{machine_view, stack_of_task}
-use Rattle.b67_layout.specs.Orders.{IsInOrderButCounts}
-use Rattle.b67_layout.specs.Placement.{Placement}
-use Rattle.b67_layout.specs.Session.{IsRunning, RepresentsSession}
+use Rattle.b67_stack.specs.Common.{below_top, RunsOn, StackPlace, Activation, mark_place, Storage}
+use Rattle.b67_layout.specs.Common.{machine_view, stack_of_task, IsInOrderButCounts, Placement, IsRunning, RepresentsSession, IsReady, peak_with}
 use Rattle.b67_refer.specs.Cells.{view}
 use Rattle.b67_refer.specs.Ends.{IsProcAt}
 use Rattle.b67_refer.specs.RunningContext.{RunningContext}
@@ -28,11 +21,9 @@ use Rattle.b67_task_tables.specs.declared.tables.TaskRow.{TaskRow}
 use Rattle.b67_task_tables.specs.declared.tables.Tasks.{Tasks}
 use Rattle.b67_task_tables.specs.Runs.{Keeps}
 use Rattle.b67_task_tables.specs.Tables.{state_of, row_names, IsCountable, AreCountable, MachineRepresents}
-use Rattle.b67_layout.specs.Rows.{IsReady}
 use Rattle.b67_task_start_stack.specs.Born.{with_peak, with_task_at}
 use Rattle.b67_task_start_stack.specs.Joining.{BuildsSome, MayBuild, joined}
 use Rattle.b67_task_start_stack.proofs.Building.{on_stack, two_marks}
-use Rattle.b67_layout.specs.Peaks.{peak_with}
 use Rattle.b67_task_start.specs.Opening.{HasSlot, HasSomeSlot, IsOpened}
 use Rattle.b67_task_start.specs.Starts.{StartsSome, IsStarted, HasRowRoom, child, with_child, with_next}
 use Rattle.b67_task_start.proofs.Rows.{job_row_of}

@@ -9,25 +9,15 @@ use Rattle.b67_area.specs.declared.Areas.{Areas}
 use Rattle.b67_ctl.specs.declared.registers.Regs.{Regs}
 use Rattle.b67_lemmas.specs.Lists.{Has}
 use Rattle.b67_lemmas.proofs.Members.{any_has, any_none, found-has, has_flat, has_flat_back, has_map, has_map_back}
-use Rattle.b67_model.specs.State.{Task, SessionJob}
+use Rattle.b67_model.specs.Common.{Task, SessionJob, live_tasks, Session}
 use Rattle.b67_model.specs.Keyed.{keyed}
-use Rattle.b67_model.specs.Run.{live_tasks}
-use Rattle.b67_model.specs.Schedule.{Session}
-use Rattle.b67_layout.specs.Orders.{IsInOrderButCounts}
+use Rattle.b67_layout.specs.Common.{IsInOrderButCounts, Slotted, Placement, slot_of, slot_at, slot_by, machine_view, Differ, RowsFit, SessionHolds, RepresentsSession, vector_word, peak_with}
 use Rattle.b67_stack.specs.declared.Cpu.{Cpu}
-use Rattle.b67_stack.specs.MachineView.{Free, NoOriginalAboveTop, slot_base}
-use Rattle.b67_stack.specs.Represents.{Storage, Represents}
+use Rattle.b67_stack.specs.Common.{Free, NoOriginalAboveTop, slot_base, Storage, Represents}
 use Rattle.b67_stack.proofs.Bases.{base-step}
-use Rattle.b67_layout.specs.Placement.{Slotted, Placement, slot_of}
-use Rattle.b67_layout.specs.Layout.{slot_at, slot_by, machine_view}
-use Rattle.b67_layout.specs.Rows.{Differ}
-use Rattle.b67_layout.specs.Session.{RowsFit, SessionHolds, RepresentsSession, vector_word}
-use Rattle.b67_layout.proofs.Rows.{task_row}
-use Rattle.b67_layout.proofs.LiveRows.{jobs_differ}
-use Rattle.b67_layout.proofs.Counting.{not_more, slots_of, slots_length}
+use Rattle.b67_layout.proofs.Common.{task_row, jobs_differ, not_more, slots_of, slots_length}
 use Rattle.b67_task_start_stack.specs.Born.{with_peak}
 use Rattle.b67_task_start_stack.specs.Slots.{grown, raised, HasRoom}
-use Rattle.b67_layout.specs.Peaks.{peak_with}
 use Rattle.b67_task_start.specs.Opening.{IsLowestFree, slot_end, HasSlot, IsOpened}
 use Rattle.b67_task_start_stack.proofs.Wider.{RepresentsSession-wider}
 

@@ -11,26 +11,15 @@ use Rattle.b67_ctl.specs.Layout.{IsPcw, pcw_word}
 use Rattle.b67_ctl.specs.declared.registers.Regs.{Regs}
 use Rattle.b67_lemmas.specs.Lists.{Has, Falls}
 use Rattle.b67_lemmas.proofs.Members.{all_in, falls_low, has_append_left, has_map, keyed_has}
-use Rattle.b67_model.specs.Answers.{Answer}
-use Rattle.b67_model.specs.Cells.{cell}
-use Rattle.b67_model.specs.Intrinsics.{is_original}
+use Rattle.b67_model.specs.Common.{Answer, cell, is_original, number_of, Session, Word, Proc, Standing, Frame, Task, Job, SessionJob, top, below_top, height, Starts, Known, known_of, known_numbers, from_frame, frames_of_task, critical_of, outer_of, IsEntered, IsSegment, NamesEntered, WordInOrder, FramesInOrder, StackInOrder, ReturnsInOrder, BirthInOrder, ParentInOrder, TaskInOrder, TasksInOrder}
 use Rattle.b67_model.specs.Keyed.{keyed}
-use Rattle.b67_model.specs.Run.{number_of}
-use Rattle.b67_model.specs.Schedule.{Session}
 use Rattle.b67_model.specs.Words as Words
-use Rattle.b67_model.specs.Words.{Word, Proc}
 use Rattle.b67_model.specs.State as State
-use Rattle.b67_model.specs.State.{Standing, Frame, Task, Job, SessionJob, top, below_top, height}
-use Rattle.b67_model.specs.InOrder.{Starts, Known, known_of, known_numbers, from_frame, frames_of_task, critical_of, outer_of, IsEntered, IsSegment, NamesEntered, WordInOrder, FramesInOrder, StackInOrder, ReturnsInOrder, BirthInOrder, ParentInOrder, TaskInOrder, TasksInOrder}
-use Rattle.b67_layout.specs.Orders.{IsInOrderButCounts, JobInOrderButCounts}
+use Rattle.b67_layout.specs.Common.{IsInOrderButCounts, JobInOrderButCounts, Slotted, Placement, slot_of, spot_in, outer_spots, base_spot, spots, TaskRow, IsReady, critical_disp, TaskShows, IsRunning, RepresentsSession, frame_address, here}
 use Rattle.b67_law_order.proofs.Numbered.{keyed_member}
 use Rattle.b67_stack.specs.declared.Cpu.{Cpu}
 use Rattle.b67_stack.specs.Stacks.{StackPlace}
 use Rattle.b67_stack.specs.Represents.{Storage}
-use Rattle.b67_layout.specs.Placement.{Slotted, Placement, slot_of, spot_in, outer_spots, base_spot, spots}
-use Rattle.b67_layout.specs.Rows.{TaskRow, IsReady, critical_disp, TaskShows}
-use Rattle.b67_layout.specs.Session.{IsRunning, RepresentsSession, frame_address}
-use Rattle.b67_layout.specs.Meets.{here}
 use Rattle.b67_layout.proofs.Fresh.{running_in_order}
 use Rattle.b67_layout.proofs.Rows.{task_row}
 use Rattle.b67_refer.specs.RunningContext.{RunningContext, live_of}

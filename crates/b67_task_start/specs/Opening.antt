@@ -6,15 +6,12 @@ use Rattle.b67_area.specs.declared.Info.{Info}
 use Rattle.b67_area.specs.Spans.{area_at}
 use Rattle.b67_ctl.specs.declared.registers.Regs.{Regs}
 use Rattle.b67_lemmas.specs.Lists.{Has}
-use Rattle.b67_layout.specs.Orders.{IsInOrderButCounts}
+use Rattle.b67_layout.specs.Common.{IsInOrderButCounts, Slotted, Placement, SessionHolds, RepresentsSession, peak_with}
 use Rattle.b67_model.specs.Run.{live_tasks}
 use Rattle.b67_model.specs.Schedule.{Session}
 use Rattle.b67_stack.specs.declared.Cpu.{Cpu}
 use Rattle.b67_stack.specs.Represents.{Storage}
-use Rattle.b67_layout.specs.Placement.{Slotted, Placement}
-use Rattle.b67_layout.specs.Session.{SessionHolds, RepresentsSession}
 use Rattle.b67_task_start_stack.specs.Born.{with_peak}
-use Rattle.b67_layout.specs.Peaks.{peak_with}
 
 -- slot k is the lowest in which no task lives
 pub record IsLowestFree (plan : Placement) (k : ℕ) : Type 0 where

@@ -4,27 +4,16 @@ use Rattle.std.specs.List.{AllByRecursion}
 use Rattle.b67_word.specs.declared.couples.Place.{Place}
 use Rattle.b67_area.specs.declared.Info.{Info}
 use Rattle.b67_area.specs.Spans.{area_at}
-use Rattle.b67_model.specs.Words.{Word, Proc}
-use Rattle.b67_model.specs.State.{Marked, Task, Job, SessionJob, frame, top}
-use Rattle.b67_model.specs.Cells.{cell}
-use Rattle.b67_model.specs.Environment.{level_of_frame}
-use Rattle.b67_model.specs.InOrder.{NamesEntered, reach_of}
-use Rattle.b67_layout.specs.Orders.{IsInOrderButCounts}
-use Rattle.b67_model.specs.Intrinsics.{child_of, is_original}
-use Rattle.b67_model.specs.Schedule.{Session}
+use Rattle.b67_model.specs.Common.{Word, Proc, Marked, Task, Job, SessionJob, frame, top, cell, level_of_frame, NamesEntered, reach_of, child_of, is_original, Session}
+use Rattle.b67_layout.specs.Common.{IsInOrderButCounts, Placement, IsRunning, frame_address, here, peak_with, moved}
 use Rattle.b67_stack.specs.Represents.{Storage}
-use Rattle.b67_layout.specs.Placement.{Placement}
-use Rattle.b67_layout.specs.Session.{IsRunning, frame_address}
-use Rattle.b67_layout.specs.Meets.{here}
 use Rattle.b67_task_tables.specs.declared.tables.JobRow.{JobRow}
 use Rattle.b67_task_tables.specs.declared.tables.TaskRow.{TaskRow}
 use Rattle.b67_task_tables.specs.declared.tables.Tasks.{Tasks}
 use Rattle.b67_task_tables.specs.declared.tables.Machine.{Machine}
 use Rattle.b67_task_tables.specs.Tables.{MachineRepresents}
 use Rattle.b67_task_start_stack.specs.Born.{with_task_at}
-use Rattle.b67_layout.specs.Peaks.{peak_with}
 use Rattle.b67_task_start.specs.Opening.{IsLowestFree, slot_end}
-use Rattle.b67_layout.specs.Moved.{moved}
 
 -- the cell of a procedure in an entered frame that a task may name, by its core address; the procedure's level is one above
 -- that frame's

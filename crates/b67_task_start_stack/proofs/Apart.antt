@@ -2,8 +2,7 @@
 use Rattle.std.proofs.Common.{◌≡◌, ◌≢◌, ℕ, ◌+◌, ◌<◌, ◌≤◌, List, [], ◌∷◌, refl, sym, ◌∙◌, ap, arith, inl, inr}
 use Rattle.std.proofs.lemmas.Bool.{eq-eqb}
 use Rattle.b67_lemmas.specs.Lists.{Has, total}
-use Rattle.b67_model.specs.State.{Frame, Task, JobConstants, Job}
-use Rattle.b67_model.specs.InOrder.{Starts, TasksInOrder, frames_named}
+use Rattle.b67_model.specs.Common.{Frame, Task, JobConstants, Job, Starts, TasksInOrder, frames_named}
 use Rattle.b67_lemmas.proofs.Members.{total_has}
 
 -- two items of different numbers weigh no more than all

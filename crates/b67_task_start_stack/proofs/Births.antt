@@ -8,22 +8,11 @@ use Rattle.b67_word.specs.Tagged.{Tagged, word}
 use Rattle.b67_ctl.specs.declared.registers.Regs.{Regs}
 use Rattle.b67_lemmas.specs.Lists.{Has}
 use Rattle.b67_model.specs.State as State
-use Rattle.b67_model.specs.State.{Frame, Task, Job, JobProgress, SessionJob, OperatorContext, all_frames, frame, no_frame, height}
+use Rattle.b67_model.specs.Common.{Frame, Task, Job, JobProgress, SessionJob, OperatorContext, all_frames, frame, no_frame, height, number_of, is_critical, Session, frame_at, running, level_of_frame, IsSegment, NumberedFrom, SettingInOrder, TasksInOrder}
 use Rattle.b67_model.specs.Keyed.{keyed}
-use Rattle.b67_model.specs.Run.{number_of}
-use Rattle.b67_model.specs.Steps.{is_critical}
-use Rattle.b67_model.specs.Schedule.{Session}
-use Rattle.b67_model.specs.Environment.{frame_at, running, level_of_frame}
-use Rattle.b67_model.specs.InOrder.{IsSegment, NumberedFrom, SettingInOrder, TasksInOrder}
-use Rattle.b67_stack.specs.Stacks.{StackPlace}
-use Rattle.b67_stack.specs.MachineView.{MachineView, NoOriginalAboveTop}
-use Rattle.b67_stack.specs.Represents.{Storage, Represents}
-use Rattle.b67_layout.specs.Placement.{Placement, Slotted, slot_of, spots, address_of}
-use Rattle.b67_layout.specs.Layout.{machine_view}
-use Rattle.b67_layout.specs.Session.{RowsFit, DictionariesFollow, RowHomes, PlanFits, RepresentsDictionary, vector_word, critical_mark, RepresentsTask, IsRunning, ShowsDisplay, SessionHolds, RepresentsSession}
-use Rattle.b67_layout.proofs.MachineViews.{with_course, member-same}
-use Rattle.b67_layout.proofs.Rows.{task_row, slot_below}
-use Rattle.b67_layout.proofs.Sessions.{dictionary_below, running_only}
+use Rattle.b67_stack.specs.Common.{StackPlace, MachineView, NoOriginalAboveTop, Storage, Represents}
+use Rattle.b67_layout.specs.Common.{Placement, Slotted, slot_of, spots, address_of, machine_view, RowsFit, DictionariesFollow, RowHomes, PlanFits, RepresentsDictionary, vector_word, critical_mark, RepresentsTask, IsRunning, ShowsDisplay, SessionHolds, RepresentsSession}
+use Rattle.b67_layout.proofs.Common.{with_course, member-same, task_row, slot_below, dictionary_below, running_only}
 use Rattle.b67_law_order.proofs.LowNames.{frame_at_same}
 use Rattle.b67_task_start_stack.specs.Born.{with_task_at}
 use Rattle.b67_task_start_stack.specs.Joining.{Joins}

@@ -9,19 +9,12 @@ use Rattle.b67_ctl.specs.declared.marks.Toscw.{Toscw}
 use Rattle.b67_ctl.specs.declared.registers.Regs.{Regs}
 use Rattle.b67_ctl.specs.Layout.{mscw_word, rcw_word, toscw_word}
 use Rattle.b67_lemmas.specs.Lists.{Has}
-use Rattle.b67_model.specs.State.{Task, Job, SessionJob}
+use Rattle.b67_model.specs.Common.{Task, Job, SessionJob, Session, NumberedFrom}
 use Rattle.b67_model.specs.Keyed.{keyed}
-use Rattle.b67_model.specs.Schedule.{Session}
-use Rattle.b67_model.specs.InOrder.{NumberedFrom}
 use Rattle.b67_stack.specs.declared.Cpu.{Cpu}
-use Rattle.b67_stack.specs.Stacks.{StackPlace, Activation, Entered, mark_of, mark_place}
-use Rattle.b67_stack.specs.Changes.{below_top}
-use Rattle.b67_stack.specs.MachineView.{RunsOn, slot_base}
-use Rattle.b67_stack.specs.Represents.{Storage, Represents}
+use Rattle.b67_stack.specs.Common.{StackPlace, Activation, Entered, mark_of, mark_place, below_top, RunsOn, slot_base, Storage, Represents}
 use Rattle.b67_stack.proofs.Pushes.{room_of}
-use Rattle.b67_layout.specs.Placement.{Placement, slot_of}
-use Rattle.b67_layout.specs.Layout.{machine_view, stack_of_task}
-use Rattle.b67_layout.specs.Session.{vector_word, critical_mark, RepresentsSession}
+use Rattle.b67_layout.specs.Common.{Placement, slot_of, machine_view, stack_of_task, vector_word, critical_mark, RepresentsSession}
 use Rattle.b67_layout.proofs.Starts.{runs_here}
 use Rattle.b67_task_start_stack.specs.Born.{with_task_at}
 use Rattle.b67_task_start_stack.specs.Joining.{Joins, Calls, MayBuild, joined}

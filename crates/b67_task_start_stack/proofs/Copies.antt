@@ -8,16 +8,11 @@ use Rattle.b67_word.specs.Tagged.{Tagged, word}
 use Rattle.b67_ctl.specs.Layout.{mscw_word, rcw_word}
 use Rattle.b67_lemmas.specs.Lists.{Has, Falls}
 use Rattle.b67_model.specs.Words as Words
-use Rattle.b67_model.specs.Words.{Word, Operand, Name, Ref, Row, Element, Original, Proc, Intrinsic}
-use Rattle.b67_model.specs.State.{Frame, Task, Job, top, below_top}
-use Rattle.b67_model.specs.Intrinsics.{is_original}
-use Rattle.b67_model.specs.InOrder.{from_frame}
+use Rattle.b67_model.specs.Common.{Word, Operand, Name, Ref, Row, Element, Original, Proc, Intrinsic, Frame, Task, Job, top, below_top, is_original, from_frame}
 use Rattle.b67_stack.specs.Shapes as Shapes
-use Rattle.b67_stack.specs.Shapes.{Locations, Shape, Is, Copy, Fits, LieDownward}
-use Rattle.b67_stack.specs.Stacks.{StackPlace, Head, Entered, Activation, mark_of, return_of, headed, words}
+use Rattle.b67_stack.specs.Common.{Locations, Shape, Is, Copy, Fits, LieDownward, StackPlace, Head, Entered, Activation, mark_of, return_of, headed, words}
 use Rattle.b67_task_start_stack.specs.Joining.{Sees}
-use Rattle.b67_layout.specs.Placement.{Placement, slot_of, spot_in, outer_spots}
-use Rattle.b67_layout.specs.Layout.{shape, activations}
+use Rattle.b67_layout.specs.Common.{Placement, slot_of, spot_in, outer_spots, shape, activations}
 
 -- words that were copied lie elsewhere with other shapes that they fit too
 pub LieDownward-copied : (R : Shape → ℕ → Tagged → Type 0) (core new : List Tagged) (from to : ℕ) (sh sh' : Word → Shape) (xs : List Word) (ys zs : List Shape)

@@ -8,10 +8,7 @@ use Rattle.b67_area.proofs.Climbs.{area_at-low}
 use Rattle.b67_area.proofs.Separation.{Controls, IsDirectory-same}
 use Rattle.b67_ctl.specs.declared.registers.Regs.{Regs}
 use Rattle.b67_lemmas.specs.Lists.{Has}
-use Rattle.b67_stack.specs.Shapes.{Fits, LieDownward}
-use Rattle.b67_stack.specs.Stacks.{Activation, stack_words, words}
-use Rattle.b67_stack.specs.MachineView.{PagedObject, Slot, Free, Running, Waiting, stack_of, MachineView, slot_base, SlotFits, Laid, with_slot, NoOriginalAboveTop}
-use Rattle.b67_stack.specs.Represents.{Storage, RepresentsRunning, RepresentsSlot, StacksLie, RepresentsObjects, Represents, info_of}
+use Rattle.b67_stack.specs.Common.{Fits, LieDownward, Activation, stack_words, words, PagedObject, Slot, Free, Running, Waiting, stack_of, MachineView, slot_base, SlotFits, Laid, with_slot, NoOriginalAboveTop, Storage, RepresentsRunning, RepresentsSlot, StacksLie, RepresentsObjects, Represents, info_of}
 use Rattle.b67_stack.proofs.Bases.{base-apart}
 use Rattle.b67_stack.proofs.Heights.{words-length}
 use Rattle.b67_stack.proofs.Lies.{Lie-same}

@@ -7,21 +7,13 @@ use Rattle.std.proofs.lemmas.Bool.Decides.{eqb_tells}
 use Rattle.b67_area.specs.declared.Kind.TheVariants as kind
 use Rattle.b67_lemmas.specs.Lists.{Has}
 use Rattle.b67_model.specs.Words as Words
-use Rattle.b67_model.specs.Words.{Word, Operand, Name, Ref, Row, Element, Original, Proc, Intrinsic}
-use Rattle.b67_model.specs.State.{Frame, Array, Segment, Task, Job, JobProgress, SessionJob}
-use Rattle.b67_model.specs.Arrays.{array}
+use Rattle.b67_model.specs.Common.{Word, Operand, Name, Ref, Row, Element, Original, Proc, Intrinsic, Frame, Array, Segment, Task, Job, JobProgress, SessionJob, array, number_of, from_frame, frames_of_task, critical_of}
 use Rattle.b67_model.specs.Keyed.{keyed}
-use Rattle.b67_model.specs.Run.{number_of}
-use Rattle.b67_model.specs.InOrder.{from_frame, frames_of_task, critical_of}
-use Rattle.b67_stack.specs.Shapes.{Shape}
-use Rattle.b67_stack.specs.Stacks.{StackPlace, Activation}
-use Rattle.b67_stack.specs.MachineView.{PagedObject, Slot, Free, Running, Waiting, MachineView, with_slot}
+use Rattle.b67_stack.specs.Common.{Shape, StackPlace, Activation, PagedObject, Slot, Free, Running, Waiting, MachineView, with_slot}
 use Rattle.b67_stack.proofs.Slots.{slot-same, slot-other}
-use Rattle.b67_layout.specs.Placement.{Placement, Slotted, slot_of, spot_in, outer_spots, spots}
-use Rattle.b67_layout.specs.Layout.{shape, head, activations, stack_of_task, slot_with, slot_in, slot_by, slot_at, code_objects, array_object, objects_of, machine_view}
-use Rattle.b67_layout.specs.Session.{RowsFit}
-use Rattle.b67_layout.proofs.Others.{shape-job}
-use Rattle.b67_layout.proofs.MachineViews.{with_course, member-same, member-other, objects-after}
+use Rattle.b67_layout.specs.Common.{Placement, Slotted, slot_of, spot_in, outer_spots, spots, shape, head, activations, stack_of_task, slot_with, slot_in, slot_by, slot_at, code_objects, array_object, objects_of, machine_view, RowsFit}
+use Rattle.b67_layout.proofs.Common.{shape-job, with_course, member-same, member-other}
+use Rattle.b67_layout.proofs.MachineViews.{objects-after}
 use Rattle.b67_task_start_stack.specs.Born.{with_task_at}
 use Rattle.b67_task_start_stack.specs.Joining.{Joins}
 use Rattle.b67_lemmas.proofs.Members.{keyed_has}

@@ -10,8 +10,7 @@ use Rattle.b67_area.specs.Directory.{IsDirectory, OnlyHoles}
 use Rattle.b67_area.proofs.Laws.{OnlyHoles-area, OnlyHoles-below, area_inside}
 use Rattle.b67_area.proofs.Separation.{IsDirectory-set_below}
 use Rattle.b67_ctl.specs.declared.registers.Regs.{Regs}
-use Rattle.b67_stack.specs.MachineView.{MachineView, slot_base}
-use Rattle.b67_stack.specs.Represents.{Storage, Represents}
+use Rattle.b67_stack.specs.Common.{MachineView, slot_base, Storage, Represents}
 use Rattle.b67_task_start_stack.specs.Slots.{grown, raised, HasRoom}
 use Rattle.b67_task_start_stack.proofs.Grown.{Represents-grown}
 

@@ -9,34 +9,18 @@ use Rattle.b67_ctl.specs.declared.registers.Regs.{Regs}
 use Rattle.b67_ctl.specs.Layout.{mscw_word, rcw_word, toscw_word}
 use Rattle.b67_lemmas.specs.Lists.{Has, Falls}
 use Rattle.b67_model.specs.Words as Words
-use Rattle.b67_model.specs.Words.{Word}
+use Rattle.b67_model.specs.Common.{Word, Frame, Task, Job, SessionJob, height, is_original, is_critical, Session, IsSegment, from_frame, frames_of_task, critical_of}
 use Rattle.b67_model.specs.InOrder as InOrder
 use Rattle.b67_model.specs.State as State
-use Rattle.b67_model.specs.State.{Frame, Task, Job, SessionJob, height}
 use Rattle.b67_model.specs.Keyed.{keyed}
-use Rattle.b67_model.specs.Intrinsics.{is_original}
-use Rattle.b67_model.specs.Steps.{is_critical}
-use Rattle.b67_model.specs.Schedule.{Session}
-use Rattle.b67_model.specs.InOrder.{IsSegment, from_frame, frames_of_task, critical_of}
-use Rattle.b67_layout.specs.Orders.{IsInOrderButCounts, JobInOrderButCounts}
+use Rattle.b67_layout.specs.Common.{IsInOrderButCounts, JobInOrderButCounts, Placement, Slotted, slot_of, spot_in, outer_spots, shape, head, activations, stack_of_task, slot_by, slot_at, machine_view, IsRunning, ShowsDisplay, vector_word, critical_mark, SessionHolds, RepresentsSession, RowsFit}
 use Rattle.b67_lemmas.proofs.Members.{has_append_left, has_append_cases, has_map, has_map_back, keyed_falls, keyed_has, found-has}
 use Rattle.b67_stack.specs.declared.Cpu.{Cpu}
-use Rattle.b67_stack.specs.Shapes.{Locations, Shape, Copy, Copied, Is, Fits, LieDownward}
-use Rattle.b67_stack.specs.Stacks.{StackPlace, Head, Marked, Entered, Activation, HeadFits, IsStack, stack_words, mark_of, return_of, headed, mark_place, words, toscw_of}
-use Rattle.b67_stack.specs.MachineView.{MachineView, Free, Waiting, RunsOn, IsArrayAt, CopiesName, slot_base, with_slot, NoOriginalAboveTop}
-use Rattle.b67_stack.specs.Represents.{Storage, Represents}
+use Rattle.b67_stack.specs.Common.{Locations, Shape, Copy, Copied, Is, Fits, LieDownward, StackPlace, Head, Marked, Entered, Activation, HeadFits, IsStack, stack_words, mark_of, return_of, headed, mark_place, words, toscw_of, MachineView, Free, Waiting, RunsOn, IsArrayAt, CopiesName, slot_base, with_slot, NoOriginalAboveTop, Storage, Represents, below_top}
 use Rattle.b67_stack.proofs.Heights.{words-length}
 use Rattle.b67_stack.proofs.Bases.{base-apart}
 use Rattle.b67_stack.proofs.Slots.{running_slot, running_fits, running_lies}
-use Rattle.b67_layout.specs.Placement.{Placement, Slotted, slot_of, spot_in, outer_spots}
-use Rattle.b67_layout.specs.Layout.{shape, head, activations, stack_of_task, slot_by, slot_at, machine_view}
-use Rattle.b67_layout.specs.Session.{IsRunning, ShowsDisplay, vector_word, critical_mark, SessionHolds, RepresentsSession, RowsFit}
-use Rattle.b67_layout.proofs.Fresh.{running_in_order, next_is_free, free-uncritical, job_in_order}
-use Rattle.b67_layout.proofs.Frames.{height-is}
-use Rattle.b67_stack.specs.Changes.{below_top}
-use Rattle.b67_layout.proofs.MachineViews.{with_course}
-use Rattle.b67_layout.proofs.Sessions.{running_only}
-use Rattle.b67_layout.proofs.Rows.{runs_on}
+use Rattle.b67_layout.proofs.Common.{running_in_order, next_is_free, free-uncritical, job_in_order, height-is, with_course, running_only, runs_on}
 use Rattle.b67_law_order.proofs.LowNames.{frames_low}
 use Rattle.b67_task_start_stack.specs.Born.{with_task_at}
 use Rattle.b67_task_start_stack.specs.Slots.{Filled}

@@ -5,17 +5,12 @@ use Rattle.std.proofs.lemmas.Bool.{cases_eq}
 use Rattle.std.proofs.lemmas.Option.{same_Some, none-some}
 use Rattle.std.proofs.lemmas.List.{map-append}
 use Rattle.b67_lemmas.specs.Lists.{Has}
-use Rattle.b67_model.specs.State.{Condition, Ready, Awaits, WaitsAt, Task, Job, JobProgress, SessionJob}
+use Rattle.b67_model.specs.Common.{Condition, Ready, Awaits, WaitsAt, Task, Job, JobProgress, SessionJob, number_of, Session, NumberedFrom, frames_of_task}
 use Rattle.b67_model.specs.Keyed.{keyed}
-use Rattle.b67_model.specs.Run.{number_of}
-use Rattle.b67_model.specs.Schedule.{Session}
-use Rattle.b67_model.specs.InOrder.{NumberedFrom, frames_of_task}
 use Rattle.b67_lemmas.proofs.Members.{has_append_left, has_append_right, has_append_cases, keyed_has}
 use Rattle.b67_stack.specs.Stacks.{StackPlace}
-use Rattle.b67_layout.specs.Placement.{Placement, slot_of, spot_in, base_spot, spots, address_of}
-use Rattle.b67_layout.specs.Rows.{RowState, WaitsAtCell, TaskRow, JobRow, JobCounts, shown, parent_slot, critical_disp, TaskShows, JobsShow, RunningRow, CountsShow, Differ, TablesShow}
+use Rattle.b67_layout.specs.Common.{Placement, slot_of, spot_in, base_spot, spots, address_of, RowState, WaitsAtCell, TaskRow, JobRow, JobCounts, shown, parent_slot, critical_disp, TaskShows, JobsShow, RunningRow, CountsShow, Differ, TablesShow, RowsFit}
 use Rattle.b67_layout.proofs.MachineViews.{with_course}
-use Rattle.b67_layout.specs.Session.{RowsFit}
 use Rattle.b67_layout.proofs.Rows.{task_row}
 use Rattle.b67_task_start_stack.specs.Born.{with_task_at}
 use Rattle.b67_task_start_stack.specs.Joining.{Joins}

@@ -5,17 +5,11 @@ use Rattle.std.specs.Prelude.{if◌then◌else◌}
 use Rattle.std.specs.List.{AllByRecursion}
 use Rattle.b67_lemmas.specs.Lists.{Has}
 use Rattle.b67_model.specs.Words as Words
-use Rattle.b67_model.specs.Words.{Word, Operand, Name, Ref, Row, Element, Original, Proc, Intrinsic}
-use Rattle.b67_model.specs.State.{Frame, Array, Task, Job}
-use Rattle.b67_model.specs.Arrays.{array}
+use Rattle.b67_model.specs.Common.{Word, Operand, Name, Ref, Row, Element, Original, Proc, Intrinsic, Frame, Array, Task, Job, array, from_frame, frames_of_task, critical_of}
 use Rattle.b67_model.specs.Keyed.{keyed}
-use Rattle.b67_model.specs.InOrder.{from_frame, frames_of_task, critical_of}
 use Rattle.b67_stack.specs.Shapes as Shapes
-use Rattle.b67_stack.specs.Shapes.{Shape, Copied, Copy}
-use Rattle.b67_stack.specs.Stacks.{StackPlace, Activation}
-use Rattle.b67_stack.specs.MachineView.{Slot, Free, Running, Waiting}
-use Rattle.b67_layout.specs.Placement.{Placement, slot_of, spot_in, outer_spots, spots}
-use Rattle.b67_layout.specs.Layout.{shape, head, activations, stack_of_task, slot_with}
+use Rattle.b67_stack.specs.Common.{Shape, Copied, Copy, StackPlace, Activation, Slot, Free, Running, Waiting}
+use Rattle.b67_layout.specs.Common.{Placement, slot_of, spot_in, outer_spots, spots, shape, head, activations, stack_of_task, slot_with}
 use Rattle.b67_task_start_stack.specs.Likes.{SameStack, Like}
 
 -- a word names no array but such ones

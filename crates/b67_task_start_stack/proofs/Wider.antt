@@ -6,18 +6,11 @@ use Rattle.b67_word.specs.Tagged.{Tagged}
 use Rattle.b67_area.specs.declared.Kind.TheVariants as kind
 use Rattle.b67_ctl.specs.declared.registers.Regs.{Regs}
 use Rattle.b67_lemmas.specs.Lists.{Has}
-use Rattle.b67_model.specs.State.{Segment, Task, Job, SessionJob}
-use Rattle.b67_model.specs.Environment.{frame_at}
+use Rattle.b67_model.specs.Common.{Segment, Task, Job, SessionJob, frame_at, number_of, Session}
 use Rattle.b67_model.specs.Keyed.{keyed}
-use Rattle.b67_model.specs.Run.{number_of}
-use Rattle.b67_model.specs.Schedule.{Session}
 use Rattle.b67_stack.specs.declared.Cpu.{Cpu}
-use Rattle.b67_stack.specs.Stacks.{StackPlace}
-use Rattle.b67_stack.specs.MachineView.{PagedObject, Slot, MachineView, NoOriginalAboveTop}
-use Rattle.b67_stack.specs.Represents.{Storage, Represents}
-use Rattle.b67_layout.specs.Placement.{Placement, Slotted, slot_of, spots, address_of}
-use Rattle.b67_layout.specs.Layout.{slot_in, slot_by, slot_at, code_objects, array_object, objects_of, machine_view}
-use Rattle.b67_layout.specs.Session.{RowsFit, DictionariesFollow, PlanFits, RepresentsDictionary, vector_word, IsRunning, SessionHolds, RepresentsSession}
+use Rattle.b67_stack.specs.Common.{StackPlace, PagedObject, Slot, MachineView, NoOriginalAboveTop, Storage, Represents}
+use Rattle.b67_layout.specs.Common.{Placement, Slotted, slot_of, spots, address_of, slot_in, slot_by, slot_at, code_objects, array_object, objects_of, machine_view, RowsFit, DictionariesFollow, PlanFits, RepresentsDictionary, vector_word, IsRunning, SessionHolds, RepresentsSession}
 use Rattle.b67_layout.proofs.Rows.{slot_below}
 use Rattle.b67_layout.proofs.Sessions.{dictionary_below}
 use Rattle.b67_task_start_stack.specs.Slots.{grown}

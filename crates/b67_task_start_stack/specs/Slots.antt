@@ -5,10 +5,7 @@ use Rattle.b67_area.specs.declared.Info.{Info}
 use Rattle.b67_area.specs.Spans.{area_at, cut}
 use Rattle.b67_ctl.specs.declared.registers.Regs.{Regs}
 use Rattle.b67_ctl.specs.Layout.{toscw_word}
-use Rattle.b67_stack.specs.Shapes.{Fits, LieDownward}
-use Rattle.b67_stack.specs.Stacks.{Activation, IsStack, words, toscw_of}
-use Rattle.b67_stack.specs.MachineView.{MachineView, Free, Waiting, CopiesName, slot_base, with_slot}
-use Rattle.b67_stack.specs.Represents.{Storage}
+use Rattle.b67_stack.specs.Common.{Fits, LieDownward, Activation, IsStack, words, toscw_of, MachineView, Free, Waiting, CopiesName, slot_base, with_slot, Storage}
 
 -- the view with one slot more, which no task has yet
 abbrev pub grown : MachineView → MachineView

@@ -6,15 +6,9 @@ use Rattle.b67_word.specs.Tagged.{Tagged}
 use Rattle.b67_ctl.specs.declared.registers.Regs.{Regs}
 use Rattle.b67_lemmas.specs.Lists.{Has}
 use Rattle.b67_lemmas.proofs.Members.{keyed_has}
-use Rattle.b67_model.specs.State.{Task, SessionJob}
-use Rattle.b67_model.specs.Run.{number_of}
-use Rattle.b67_model.specs.Schedule.{Session}
-use Rattle.b67_stack.specs.Stacks.{Activation, stack_words, mark_place, running_level}
-use Rattle.b67_stack.specs.MachineView.{MachineView, Running, Waiting, slot_base, with_slot, NoOriginalAboveTop, stack_of}
-use Rattle.b67_stack.specs.Represents.{Storage, RepresentsRegs, Represents}
-use Rattle.b67_layout.specs.Placement.{Placement}
-use Rattle.b67_layout.specs.Layout.{stack_of_task, slot_at, machine_view}
-use Rattle.b67_layout.specs.Session.{IsRunning, RepresentsTask, SessionHolds}
+use Rattle.b67_model.specs.Common.{Task, SessionJob, number_of, Session}
+use Rattle.b67_stack.specs.Common.{Activation, stack_words, mark_place, running_level, MachineView, Running, Waiting, slot_base, with_slot, NoOriginalAboveTop, stack_of, Storage, RepresentsRegs, Represents}
+use Rattle.b67_layout.specs.Common.{Placement, stack_of_task, slot_at, machine_view, IsRunning, RepresentsTask, SessionHolds}
 use Rattle.b67_layout.proofs.Rows.{slot_below}
 use Rattle.b67_layout.proofs.Sessions.{running_only}
 use Rattle.b67_task_switch.specs.declared.switching.Turn.{Turn}

@@ -9,16 +9,10 @@ use Rattle.b67_ctl.specs.declared.registers.Regs.{Regs}
 use Rattle.b67_ctl.specs.Layout.{toscw_word}
 use Rattle.b67_lemmas.specs.Lists.{Has}
 use Rattle.b67_lemmas.proofs.Members.{keyed_has}
-use Rattle.b67_model.specs.State.{Task, SessionJob}
-use Rattle.b67_model.specs.Run.{number_of}
-use Rattle.b67_model.specs.Schedule.{Session}
-use Rattle.b67_stack.specs.Stacks.{Activation, toscw_of}
-use Rattle.b67_stack.specs.MachineView.{MachineView, Running, Waiting, slot_base, RunsOn, with_slot, NoOriginalAboveTop, stack_of}
-use Rattle.b67_stack.specs.Represents.{Storage, Represents}
+use Rattle.b67_model.specs.Common.{Task, SessionJob, number_of, Session}
+use Rattle.b67_stack.specs.Common.{Activation, toscw_of, MachineView, Running, Waiting, slot_base, RunsOn, with_slot, NoOriginalAboveTop, stack_of, Storage, Represents}
 use Rattle.b67_stack.proofs.Slots.{running_slot, running_fits}
-use Rattle.b67_layout.specs.Placement.{Placement, slot_of}
-use Rattle.b67_layout.specs.Layout.{stack_of_task, slot_at, machine_view}
-use Rattle.b67_layout.specs.Session.{IsRunning, SessionHolds}
+use Rattle.b67_layout.specs.Common.{Placement, slot_of, stack_of_task, slot_at, machine_view, IsRunning, SessionHolds}
 use Rattle.b67_layout.proofs.Rows.{runs_on, slot_below}
 use Rattle.b67_task_switch.specs.Turns.{with_running}
 use Rattle.b67_task_switch.proofs.Replans.{fit_replan, stack-replan, slot_here, machine_view-turned}

@@ -6,19 +6,13 @@ use Rattle.b67_word.specs.Tagged.{Tagged}
 use Rattle.b67_area.proofs.Climbs.{area_at-low}
 use Rattle.b67_area.proofs.Separation.{IsDirectory-same, controls_above}
 use Rattle.b67_ctl.specs.declared.registers.Regs.{Regs}
-use Rattle.b67_model.specs.State.{Task, SessionJob}
-use Rattle.b67_model.specs.Schedule.{Session}
-use Rattle.b67_stack.specs.Shapes.{Fits, LieDownward}
-use Rattle.b67_stack.specs.Stacks.{Activation, stack_words, words}
-use Rattle.b67_stack.specs.MachineView.{MachineView, Slot, Free, Running, Waiting, stack_of, slot_base, SlotFits, Laid, with_slot, NoOriginalAboveTop}
-use Rattle.b67_stack.specs.Represents.{Storage, RepresentsSlot, StacksLie, RepresentsObjects, RepresentsRegs, Represents, info_of}
+use Rattle.b67_model.specs.Common.{Task, SessionJob, Session}
+use Rattle.b67_stack.specs.Common.{Fits, LieDownward, Activation, stack_words, words, MachineView, Slot, Free, Running, Waiting, stack_of, slot_base, SlotFits, Laid, with_slot, NoOriginalAboveTop, Storage, RepresentsSlot, StacksLie, RepresentsObjects, RepresentsRegs, Represents, info_of}
 use Rattle.b67_stack.proofs.Bases.{base-apart}
 use Rattle.b67_stack.proofs.Heights.{words-length}
 use Rattle.b67_stack.proofs.Lies.{Lie-same}
 use Rattle.b67_stack.proofs.Slots.{by_slot, Content-areas, slot_room}
-use Rattle.b67_layout.specs.Placement.{Placement, slot_of}
-use Rattle.b67_layout.specs.Layout.{machine_view}
-use Rattle.b67_layout.specs.Session.{DictionariesFollow, PlanFits, vector_word, IsRunning, RepresentsTask, SessionHolds}
+use Rattle.b67_layout.specs.Common.{Placement, slot_of, machine_view, DictionariesFollow, PlanFits, vector_word, IsRunning, RepresentsTask, SessionHolds}
 use Rattle.b67_layout.proofs.Rows.{slot_below}
 use Rattle.b67_layout.proofs.Sessions.{dictionary_below}
 use Rattle.b67_task_switch.specs.Turns.{with_running}

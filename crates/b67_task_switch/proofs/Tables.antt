@@ -9,21 +9,15 @@ use Rattle.b67_ctl.specs.declared.registers.Regs.{Regs}
 use Rattle.b67_lemmas.specs.Lists.{Has}
 use Rattle.b67_lemmas.proofs.Members.{has_get}
 use Rattle.b67_lemmas.proofs.Places.{has_at, same_mapped}
-use Rattle.b67_model.specs.State.{Condition, Ready, Awaits, WaitsAt, Task, Job, SessionJob}
+use Rattle.b67_model.specs.Common.{Condition, Ready, Awaits, WaitsAt, Task, Job, SessionJob, Session}
 use Rattle.b67_model.specs.Keyed.{keyed}
-use Rattle.b67_model.specs.Schedule.{Session}
-use Rattle.b67_layout.specs.Orders.{IsInOrderButCounts}
+use Rattle.b67_layout.specs.Common.{IsInOrderButCounts, Placement, slot_of, address_of, WaitsAtCell, TaskRow, JobRow, JobCounts, shown, parent_slot, critical_disp, TaskShows, JobsShow, RunningRow, Differ, TablesShow, RowsFit, IsRunning, SessionHolds}
 use Rattle.b67_stack.specs.Represents.{Storage}
 use Rattle.b67_stack.specs.Stacks.{StackPlace}
-use Rattle.b67_layout.specs.Placement.{Placement, slot_of, address_of}
-use Rattle.b67_layout.specs.Rows.{WaitsAtCell, TaskRow, JobRow, JobCounts, shown, parent_slot, critical_disp, TaskShows, JobsShow, RunningRow, Differ, TablesShow}
-use Rattle.b67_layout.specs.Session.{RowsFit, IsRunning, SessionHolds}
-use Rattle.b67_layout.proofs.Rows.{slot_below}
+use Rattle.b67_layout.proofs.Common.{slot_below, differ_at, live_in_order}
 use Rattle.b67_task_switch.specs.Turns.{with_running}
 use Rattle.b67_task_switch.proofs.Replans.{spots-replan}
-use Rattle.b67_layout.proofs.Differs.{differ_at}
 use Rattle.b67_law_order.proofs.Numbered.{keyed_member}
-use Rattle.b67_layout.proofs.LiveTasks.{live_in_order}
 
 keyed-head : {A : Type 0} (key : A → ℕ) (y : A) (more : List A) → keyed key (key y) (y ∷ more) ≡ Some y
 keyed-head key y more = rw (eq-eqb (key y) (key y) refl) refl

@@ -5,15 +5,10 @@ use Rattle.std.proofs.lemmas.List.{length-map}
 use Rattle.std.proofs.lemmas.Option.{same_Some, get_or_from_slice_get, slice_get_within}
 use Rattle.b67_word.specs.Tagged.{Tagged}
 use Rattle.b67_ctl.specs.declared.registers.Regs.{Regs}
-use Rattle.b67_model.specs.State.{Task, SessionJob}
-use Rattle.b67_model.specs.Schedule.{Session}
-use Rattle.b67_model.specs.InOrder.{IsSegment}
-use Rattle.b67_layout.specs.Orders.{JobInOrderButCounts, IsInOrderButCounts}
+use Rattle.b67_model.specs.Common.{Task, SessionJob, Session, IsSegment}
+use Rattle.b67_layout.specs.Common.{JobInOrderButCounts, IsInOrderButCounts, Placement, RunningRow, TablesShow, SessionHolds}
 use Rattle.b67_stack.specs.Represents.{Storage}
-use Rattle.b67_layout.specs.Placement.{Placement}
 use Rattle.b67_layout.specs.Rows as rows
-use Rattle.b67_layout.specs.Rows.{RunningRow, TablesShow}
-use Rattle.b67_layout.specs.Session.{SessionHolds}
 use Rattle.b67_task_switch.proofs.Replans.{fit_replan}
 use Rattle.b67_task_switch.specs.Turns.{with_running, IsTurnOf}
 use Rattle.b67_task_switch.specs.declared.switching.Turn.{Turn}

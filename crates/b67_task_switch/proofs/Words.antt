@@ -4,9 +4,7 @@ use Rattle.std.specs.List.{slice_get}
 use Rattle.b67_word.specs.Tagged.{Tagged}
 use Rattle.b67_ctl.specs.declared.registers.Regs.{Regs}
 use Rattle.b67_ctl.specs.Layout.{toscw_word, IsToscw}
-use Rattle.b67_stack.specs.Stacks.{Activation, Head, Marked, Entered, IsStack, head_size, stack_words, mark_place, words, toscw_of}
-use Rattle.b67_stack.specs.MachineView.{MachineView, Slot, slot_base, RunsOn, SlotFits, CopiesName}
-use Rattle.b67_stack.specs.Represents.{Storage, RepresentsSlot, Represents}
+use Rattle.b67_stack.specs.Common.{Activation, Head, Marked, Entered, IsStack, head_size, stack_words, mark_place, words, toscw_of, MachineView, Slot, slot_base, RunsOn, SlotFits, CopiesName, Storage, RepresentsSlot, Represents}
 use Rattle.b67_stack.proofs.Bases.{base-apart}
 use Rattle.b67_stack.proofs.Tops.{level-small, mark_high}
 use Rattle.b67_stack.proofs.Slots.{running_slot, running_fits}

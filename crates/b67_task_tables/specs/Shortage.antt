@@ -1,9 +1,7 @@
 -- A machine that is short of sectors: for an array that is present, or for one that the running step makes longer.
 use Rattle.std.specs.Prelude.{◌≡◌, ◌≢◌, ℕ, ◌+◌, ◌<◌, ◌⊎◌, List, [], length, Option, None, Ok}
 use Rattle.b67_lemmas.specs.Lists.{Has}
-use Rattle.b67_model.specs.State.{Array, Task, Job, SessionJob}
-use Rattle.b67_model.specs.Steps.{Goes}
-use Rattle.b67_model.specs.Rows.{step}
+use Rattle.b67_model.specs.Common.{Array, Task, Job, SessionJob, Goes, step}
 use Rattle.b67_backing.specs.Held.{sectors_for}
 use Rattle.b67_stack.specs.Represents.{Storage}
 use Rattle.b67_layout.specs.Placement.{Placement}

@@ -4,10 +4,8 @@ use Rattle.b67_lemmas.specs.Lists.{Has}
 use Rattle.b67_model_text.specs.declared.deck.Switch as text
 use Rattle.b67_model.specs.Schedule.{Switch, Session}
 use Rattle.b67_stack.specs.Represents.{Storage}
-use Rattle.b67_layout.specs.Placement.{Placement}
+use Rattle.b67_layout.specs.Common.{Placement, RowState, IsReady, AwaitsTask, WaitsAtCell, JobCounts, TablesShow, RepresentsSession, RepresentsStorage}
 use Rattle.b67_layout.specs.Rows as rows
-use Rattle.b67_layout.specs.Rows.{RowState, IsReady, AwaitsTask, WaitsAtCell, JobCounts, TablesShow}
-use Rattle.b67_layout.specs.Session.{RepresentsSession, RepresentsStorage}
 use Rattle.b67_task_tables.specs.declared.tables.TaskState.{TaskState}
 use Rattle.b67_task_tables.specs.declared.tables.TaskState.TheVariants.{Ready, Awaits, WaitsAt}
 use Rattle.b67_task_tables.specs.declared.tables.TaskRow.{TaskRow}

@@ -3,8 +3,7 @@ use Rattle.b67_ctl.specs.declared.programs.Pcw.{Pcw}
 use Rattle.b67_ctl.specs.Layout.{IsMscw}
 use Rattle.b67_model.specs.State.{frame}
 use Rattle.b67_model.specs.Environment.{level_of_frame}
-use Rattle.b67_layout.specs.Layout.{machine_view, stack_of_task}
-use Rattle.b67_layout.specs.Meets.{here}
+use Rattle.b67_layout.specs.Common.{machine_view, stack_of_task, here}
 use Rattle.b67_layout.proofs.Starts.{meets_runs, runs_here}
 use Rattle.b67_refer.specs.declared.activation.Activation.{Activation}
 use Rattle.b67_entry_enter.proofs.Unasked as Unasked

@@ -1,14 +1,10 @@
 use Rattle.std.proofs.Common.{◌≡◌, [], ◌+◌, ◌<◌, length, Ok, Err, refl, sym, ◌∙◌, ap, arith, subst}
 use Rattle.std.proofs.lemmas.Option.{same_Some, slice_get_within}
 use Rattle.b67_word.specs.Tagged.{Tagged}
-use Rattle.b67_model.specs.Chase.{follow, AtIntrinsic}
+use Rattle.b67_model.specs.Common.{follow, AtIntrinsic, entr, top_of, top}
 use Rattle.b67_model.specs.Chase as Chase
-use Rattle.b67_model.specs.Rows.{entr}
-use Rattle.b67_model.specs.Steps.{top_of}
-use Rattle.b67_model.specs.State.{top}
 use Rattle.b67_stack.specs.declared.Step.TheVariants as step
-use Rattle.b67_layout.specs.Layout.{machine_view, stack_of_task}
-use Rattle.b67_layout.specs.Meets.{here}
+use Rattle.b67_layout.specs.Common.{machine_view, stack_of_task, here}
 use Rattle.b67_layout.proofs.Starts.{meets_runs, runs_here}
 use Rattle.b67_refer.proofs.Scenes.{scene}
 use Rattle.b67_refer.specs.Cells.{StandsFor}

@@ -1,10 +1,8 @@
 use Rattle.std.proofs.Common.{◌∷◌, sym, ◌∙◌, ap, arith, refl, subst}
 use Rattle.std.proofs.lemmas.Bool.{not-false, not-true}
 use Rattle.b67_ctl.specs.declared.registers.Regs.{Regs}
-use Rattle.b67_layout.specs.Placement.{outer_spots}
-use Rattle.b67_layout.specs.Layout.{machine_view, stack_of_task}
-use Rattle.b67_layout.proofs.Fresh.{running_in_order}
-use Rattle.b67_layout.proofs.Starts.{meets_runs, runs_here}
+use Rattle.b67_layout.specs.Common.{outer_spots, machine_view, stack_of_task}
+use Rattle.b67_layout.proofs.Common.{running_in_order, meets_runs, runs_here}
 use Rattle.b67_refer.specs.RunningContext.{RunningContext}
 use Rattle.b67_entry.proofs.Callers.{below_mark}
 use Rattle.b67_entry.proofs.Exits.{leaves_pending, leaves_critical, leaves_last}

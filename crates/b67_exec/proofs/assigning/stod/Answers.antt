@@ -2,8 +2,7 @@ use Rattle.std.proofs.Common.{sym, subst, false}
 use Rattle.b67_model.specs.Rows as rows
 use Rattle.b67_model.specs.Steps.{cells_of}
 use Rattle.b67_stack.specs.declared.Cpu.{Cpu}
-use Rattle.b67_layout.specs.Session.{RepresentsSession}
-use Rattle.b67_layout.specs.Meets.{here, Meets}
+use Rattle.b67_layout.specs.Common.{RepresentsSession, here, Meets}
 use Rattle.b67_fetch.specs.Fetches.{enters_at}
 use Rattle.b67_fetch.specs.Stores.{store_end}
 use Rattle.b67_exec.proofs.Entered.{met_by, called_by}

@@ -1,12 +1,8 @@
 use Rattle.std.proofs.Common.{sym, subst, true}
-use Rattle.b67_model.specs.Words.{Name}
-use Rattle.b67_model.specs.Chase.{chase, AtProc}
-use Rattle.b67_model.specs.Entry.{accident, back_to}
+use Rattle.b67_model.specs.Common.{Name, chase, AtProc, accident, back_to, cells_of}
 use Rattle.b67_model.specs.Rows as rows
-use Rattle.b67_model.specs.Steps.{cells_of}
 use Rattle.b67_stack.specs.declared.Cpu.{Cpu}
-use Rattle.b67_layout.specs.Session.{RepresentsSession}
-use Rattle.b67_layout.specs.Meets.{here, Meets}
+use Rattle.b67_layout.specs.Common.{RepresentsSession, here, Meets}
 use Rattle.b67_fetch.specs.Fetches.{enters_at}
 use Rattle.b67_fetch.proofs.Values.{here_scene}
 use Rattle.b67_exec.proofs.Entered.{at_procedure, met_by, called_by, couple_leads, reaches, valc_enters}

@@ -1,9 +1,7 @@
 use Rattle.std.proofs.Common.{◌∷◌, sym, ap, subst}
 use Rattle.b67_model.specs.State.{Job}
 use Rattle.b67_stack.specs.declared.Cpu.{Cpu}
-use Rattle.b67_layout.specs.Layout.{machine_view}
-use Rattle.b67_layout.specs.Session.{RepresentsSession}
-use Rattle.b67_layout.specs.Meets.{with_job}
+use Rattle.b67_layout.specs.Common.{machine_view, RepresentsSession, with_job}
 use Rattle.b67_refer.specs.RunningContext.{RunningContext, IsShown}
 use Rattle.b67_exec_calls.specs.Calls.{job_cut}
 use Rattle.b67_exec_calls.proofs.Cuts.{cut_of, job_is, on_top, under, on_stack, regs_cut, scene_cut, stands_cut}

@@ -1,10 +1,7 @@
 use Rattle.std.proofs.Common.{[], refl, ◌+◌, ◌-◌, arith, sym, ◌∙◌, subst}
 use Rattle.b67_word.specs.Tagged.{Tagged}
-use Rattle.b67_model.specs.Answers.{Answer}
-use Rattle.b67_model.specs.Rows.{proc_of}
-use Rattle.b67_model.specs.Steps.{Done}
-use Rattle.b67_layout.specs.Meets.{Meets}
-use Rattle.b67_layout.specs.Tops.{IsWordOf, cells}
+use Rattle.b67_model.specs.Common.{Answer, proc_of, Done}
+use Rattle.b67_layout.specs.Common.{Meets, IsWordOf, cells}
 use Rattle.b67_exec_operands.proofs.Rows.{marked}
 use Rattle.b67_exec_operands.proofs.Dictionaries.{procedure_fits, procedure_row, no_procedure}
 use Rattle.b67_exec_operands.proofs.procedures.mpcw.Goals as goal

@@ -1,7 +1,6 @@
 use Rattle.std.proofs.Common.{ℕ, ◌+◌, ◌-◌, List, [], ◌∷◌, None, sym, subst, refl}
-use Rattle.b67_model.specs.Words.{Word, Element}
+use Rattle.b67_model.specs.Common.{Word, Element, leaves_cells}
 use Rattle.b67_model.specs.Rows as rows
-use Rattle.b67_model.specs.Steps.{leaves_cells}
 use Rattle.b67_layout.specs.Meets.{here}
 use Rattle.b67_layout.specs.Tops.{IsWordOf}
 use Rattle.b67_exec_cells.specs.Elements.{HasElement}

@@ -1,8 +1,6 @@
 use Rattle.std.proofs.Common.{ℕ, List, [], ◌∷◌, Some, sym, subst, refl}
-use Rattle.b67_model.specs.Words.{Word, Operand}
-use Rattle.b67_model.specs.Arrays.{element}
+use Rattle.b67_model.specs.Common.{Word, Operand, element, leaves_cells}
 use Rattle.b67_model.specs.Rows as rows
-use Rattle.b67_model.specs.Steps.{leaves_cells}
 use Rattle.b67_layout.specs.Meets.{here, Meets}
 use Rattle.b67_exec_cells.specs.Elements.{HasElement}
 use Rattle.b67_fetch.proofs.Items.{item_on_top, holds_item, no_item, row_at_item}

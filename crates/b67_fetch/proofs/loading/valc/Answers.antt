@@ -1,7 +1,5 @@
 use Rattle.std.proofs.Common.{[], refl, arith}
-use Rattle.b67_model.specs.Words.{Name}
-use Rattle.b67_model.specs.Chase.{follow}
-use Rattle.b67_model.specs.Entry.{evaluates}
+use Rattle.b67_model.specs.Common.{Name, follow, evaluates}
 use Rattle.b67_layout.specs.Meets.{here}
 use Rattle.b67_layout.specs.Tops.{cells}
 use Rattle.b67_exec_cells.proofs.Put.{room}

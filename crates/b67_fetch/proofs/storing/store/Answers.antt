@@ -3,11 +3,7 @@ use Rattle.b67_word.specs.Tagged.{Tagged, word}
 use Rattle.b67_word.specs.declared.faults.Fault.{Fault}
 use Rattle.b67_word.specs.declared.faults.Fault.TheVariants.{MemoryProtect}
 use Rattle.std.specs.Prelude.{if◌then◌else◌}
-use Rattle.b67_model.specs.Answers.{◌>>=◌}
-use Rattle.b67_model.specs.Words.{Operand}
-use Rattle.b67_model.specs.Rows.{store_at}
-use Rattle.b67_model.specs.Indexing.{in_order}
-use Rattle.b67_model.specs.Chase.{follow}
+use Rattle.b67_model.specs.Common.{◌>>=◌, Operand, store_at, in_order, follow}
 use Rattle.b67_stack.specs.declared.Cpu.{Cpu}
 use Rattle.b67_stack.specs.declared.Step.TheVariants as step
 use Rattle.b67_layout.specs.Meets.{here}

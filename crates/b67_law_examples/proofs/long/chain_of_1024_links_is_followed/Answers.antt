@@ -1,9 +1,6 @@
 -- The run is computed.
 use Rattle.std.proofs.Common.{refl}
-use Rattle.b67_model.specs.Rows.{step}
-use Rattle.b67_model.specs.Endings.{stepped}
-use Rattle.b67_model.specs.Alone.{step_of}
-use Rattle.b67_model.specs.Run.{next}
+use Rattle.b67_model.specs.Common.{step, stepped, step_of, next}
 use Rattle.b67_law_examples.proofs.long.chain_of_1024_links_is_followed.Goals as goal
 
 pub returns : goal.returns

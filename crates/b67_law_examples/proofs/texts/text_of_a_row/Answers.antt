@@ -1,10 +1,7 @@
 -- The text is computed.
 use Rattle.std.proofs.Common.{refl}
 use Rattle.std.specs.Fmt.{digits}
-use Rattle.b67_model.specs.Rows.{step}
-use Rattle.b67_model.specs.Endings.{stepped}
-use Rattle.b67_model.specs.Alone.{step_of}
-use Rattle.b67_model.specs.Run.{next}
+use Rattle.b67_model.specs.Common.{step, stepped, step_of, next}
 use Rattle.b67_law_examples.proofs.texts.text_of_a_row.Goals as goal
 
 pub returns : goal.returns

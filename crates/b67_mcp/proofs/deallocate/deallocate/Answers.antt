@@ -3,10 +3,8 @@ use Rattle.b67_word.specs.Tagged.{Tagged}
 use Rattle.b67_word.specs.declared.couples.Place.{Place}
 use Rattle.b67_model.specs.declared.operators.Op.TheVariants.{Plain}
 use Rattle.b67_model.specs.declared.operators.Code.TheVariants.{Entr}
-use Rattle.b67_model.specs.Arrays.{with_array, all_zero}
-use Rattle.b67_model.specs.State.{SessionJob}
-use Rattle.b67_layout.specs.Layout.{array_object, machine_view}
-use Rattle.b67_layout.specs.Meets.{with_job}
+use Rattle.b67_model.specs.Common.{with_array, all_zero, SessionJob}
+use Rattle.b67_layout.specs.Common.{array_object, machine_view, with_job}
 use Rattle.b67_mcp_calls.specs.Lengthening.{job_emptied}
 use Rattle.b67_mcp_lengths.specs.Lengths.{emptied}
 use Rattle.b67_task_tables.specs.declared.tables.Machine.{Machine}

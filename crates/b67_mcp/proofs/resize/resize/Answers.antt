@@ -4,11 +4,7 @@ use Rattle.b67_word.specs.Tagged.{Tagged}
 use Rattle.b67_word.specs.declared.couples.Place.{Place}
 use Rattle.b67_model.specs.declared.operators.Op.TheVariants.{Plain}
 use Rattle.b67_model.specs.declared.operators.Code.TheVariants.{Entr}
-use Rattle.b67_model.specs.Answers.{Answer}
-use Rattle.b67_model.specs.Steps.{Done}
-use Rattle.b67_model.specs.Need.{touched_of}
-use Rattle.b67_model.specs.State.{SessionJob}
-use Rattle.b67_model.specs.Arrays.{with_array, resized}
+use Rattle.b67_model.specs.Common.{Answer, Done, touched_of, SessionJob, with_array, resized}
 use Rattle.b67_layout.specs.Meets.{with_job}
 use Rattle.b67_layout_storage.specs.Machine.{content_after}
 use Rattle.b67_layout_storage.proofs.Untold.{untold}

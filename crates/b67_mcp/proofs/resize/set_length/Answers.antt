@@ -1,7 +1,6 @@
 use Rattle.std.proofs.Common.{◌≡◌, ◌<◌, length, None, Err, ◌∙◌, ap, arith, subst}
 use Rattle.b67_backing.specs.declared.refusals.SpaceFault.{SpaceFault}
-use Rattle.b67_layout.specs.Layout.{array_object, machine_view}
-use Rattle.b67_layout.specs.Meets.{area_held}
+use Rattle.b67_layout.specs.Common.{array_object, machine_view, area_held}
 use Rattle.b67_layout_storage.proofs.Untold.{untold}
 use Rattle.b67_mcp_lengths.specs.Lengths.{LengthenMeets}
 use Rattle.b67_task_tables.specs.declared.tables.Machine.{Machine}

@@ -1,8 +1,7 @@
 use Rattle.std.proofs.Common.{◌≡◌, arith, sym, subst, ◌⊎◌}
 use Rattle.std.specs.List.{slice_get}
 use Rattle.b67_stack.specs.declared.Cpu.{Cpu}
-use Rattle.b67_layout.specs.Meets.{with_job, IsInStack}
-use Rattle.b67_layout.specs.Session.{RepresentsSession}
+use Rattle.b67_layout.specs.Common.{with_job, IsInStack, RepresentsSession}
 use Rattle.b67_mcp_calls.specs.Calls.{job_cut}
 use Rattle.b67_mcp_calls.specs.Declaring.{job_declared, with_home, without}
 use Rattle.b67_exec_calls.proofs.Pushed.{room}

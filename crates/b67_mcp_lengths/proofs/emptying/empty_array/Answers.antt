@@ -9,10 +9,7 @@ use Rattle.b67_ctl.specs.declared.descriptors.DataDesc.{DataDesc}
 use Rattle.b67_ctl.specs.declared.registers.Regs.{Regs}
 use Rattle.b67_ctl.specs.Descriptors.{data_word}
 use Rattle.b67_stack.specs.declared.Cpu.{Cpu}
-use Rattle.b67_stack.specs.Shapes.{nowhere}
-use Rattle.b67_stack.specs.MachineView.{PagedObject, MachineView, home_desc, home_word_of}
-use Rattle.b67_stack.specs.Represents.{Storage, Represents, info_of}
-use Rattle.b67_stack.specs.HeldOtherwise.{Stayed}
+use Rattle.b67_stack.specs.Common.{nowhere, PagedObject, MachineView, home_desc, home_word_of, Storage, Represents, info_of, Stayed}
 use Rattle.b67_layout_storage.specs.Machine.{IsPresent}
 use Rattle.b67_overlay.specs.Spans.{CopiesLie, MachineCanPage}
 use Rattle.b67_overlay.proofs.Copies.{copies_stay, copies_objects}

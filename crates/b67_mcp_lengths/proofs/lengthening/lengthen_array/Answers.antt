@@ -3,10 +3,7 @@ use Rattle.b67_word.specs.Tagged.{Tagged}
 use Rattle.b67_backing.specs.Shelf.{HasChain}
 use Rattle.b67_backing.specs.Held.{sectors_for}
 use Rattle.b67_ctl.specs.declared.descriptors.DataDesc.{DataDesc}
-use Rattle.b67_stack.specs.MachineView.{PagedObject, MachineView, home_desc, address_or}
-use Rattle.b67_stack.specs.Shapes.{Location}
-use Rattle.b67_stack.specs.Represents.{Storage, Represents}
-use Rattle.b67_stack.specs.HeldOtherwise.{Stayed}
+use Rattle.b67_stack.specs.Common.{PagedObject, MachineView, home_desc, address_or, Location, Storage, Represents, Stayed}
 use Rattle.b67_layout_storage.specs.Machine.{IsPresent, content_after}
 use Rattle.b67_overlay.specs.Spans.{MachineCanPage}
 use Rattle.b67_overlay.proofs.Copies.{copies_stay, copies_objects}

@@ -7,9 +7,7 @@ use Rattle.b67_area.specs.Spans.{Span, area_at, shortened, keeping, with_words}
 use Rattle.b67_area.specs.Directory.{IsDirectory}
 use Rattle.b67_backing.specs.Shelf.{IsShelf}
 use Rattle.b67_ctl.specs.declared.descriptors.DataDesc.{DataDesc}
-use Rattle.b67_stack.specs.MachineView.{PagedObject, MachineView, home_desc, home_word_of, address_or}
-use Rattle.b67_stack.specs.Represents.{Storage, Represents, info_of}
-use Rattle.b67_stack.specs.HeldOtherwise.{Stayed}
+use Rattle.b67_stack.specs.Common.{PagedObject, MachineView, home_desc, home_word_of, address_or, Storage, Represents, info_of, Stayed}
 use Rattle.b67_layout_storage.specs.Machine.{IsPresent}
 use Rattle.b67_overlay.specs.Spans.{MachineCanPage}
 use Rattle.b67_overlay.proofs.Copies.{copies_stay, copies_objects}

@@ -1,6 +1,5 @@
 use Rattle.std.proofs.Common.{◌-◌, Ok, Err, sym, arith, subst}
-use Rattle.b67_model.specs.Answers.{Answer}
-use Rattle.b67_model.specs.Chase.{End, follow_reference}
+use Rattle.b67_model.specs.Common.{Answer, End, follow_reference}
 use Rattle.b67_layout.specs.Meets.{here}
 use Rattle.b67_fetch.proofs.Values.{top_followed, here_scene, here_shown, followed_stands}
 use Rattle.b67_mcp_waits.specs.declared.cells.Found.{Found}

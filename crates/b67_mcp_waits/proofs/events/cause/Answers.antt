@@ -1,9 +1,7 @@
 use Rattle.std.proofs.Common.{ℕ, List, map, length, refl, sym, ◌∙◌, ap, subst, slice_set}
 use Rattle.std.proofs.lemmas.Option.{slice_get_within}
 use Rattle.b67_word.specs.Tagged.{Tagged, word}
-use Rattle.b67_model.specs.Answers.{Answer, ◌>>=◌}
-use Rattle.b67_model.specs.Chase.{End, AtCell}
-use Rattle.b67_model.specs.Intrinsics.{causes}
+use Rattle.b67_model.specs.Common.{Answer, ◌>>=◌, End, AtCell, causes}
 use Rattle.b67_layout.specs.Session.{RepresentsSession}
 use Rattle.b67_layout.specs.Meets.{here}
 use Rattle.b67_task_tables.specs.declared.tables.TaskRow.{TaskRow}

@@ -2,14 +2,9 @@ use Rattle.std.proofs.Common.{◌≡◌, ◌≢◌, ℕ, [], List, length, refl,
 use Rattle.std.proofs.lemmas.Option.{same_Some, slice_get_within}
 use Rattle.b67_lemmas.proofs.Members.{length_change}
 use Rattle.b67_word.specs.Tagged.{Tagged, word}
-use Rattle.b67_model.specs.Answers.{Answer, ◌>>=◌}
-use Rattle.b67_model.specs.Chase.{End, AtCell}
+use Rattle.b67_model.specs.Common.{Answer, ◌>>=◌, End, AtCell, Task, waits_at, answered}
 use Rattle.b67_model.specs.State as State
-use Rattle.b67_model.specs.State.{Task}
-use Rattle.b67_model.specs.Intrinsics.{waits_at, answered}
-use Rattle.b67_layout.specs.Rows.{WaitsAtCell}
-use Rattle.b67_layout.specs.Session.{frame_address}
-use Rattle.b67_layout.specs.Meets.{here}
+use Rattle.b67_layout.specs.Common.{WaitsAtCell, frame_address, here}
 use Rattle.b67_layout.proofs.Fresh.{running_in_order}
 use Rattle.b67_exec_calls.specs.Calls.{job_cut}
 use Rattle.b67_exec_calls.proofs.Standing.{machine_cut}

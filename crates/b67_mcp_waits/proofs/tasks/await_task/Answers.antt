@@ -2,10 +2,8 @@ use Rattle.std.proofs.Common.{◌≡◌, ℕ, ◌<◌, ℤ, [], List, length, tr
 use Rattle.std.proofs.lemmas.Int.{to_z-of_z}
 use Rattle.b67_lemmas.proofs.Members.{length_change}
 use Rattle.b67_word.specs.Tagged.{Tagged}
-use Rattle.b67_model.specs.Answers.{Answer, ◌>>=◌}
+use Rattle.b67_model.specs.Common.{Answer, ◌>>=◌, Task, awaits, answered, is_live}
 use Rattle.b67_model.specs.State as State
-use Rattle.b67_model.specs.State.{Task}
-use Rattle.b67_model.specs.Intrinsics.{awaits, answered, is_live}
 use Rattle.b67_layout.specs.Meets.{here}
 use Rattle.b67_layout.proofs.Fresh.{running_in_order}
 use Rattle.b67_task_tables.specs.Tables.{state_of}

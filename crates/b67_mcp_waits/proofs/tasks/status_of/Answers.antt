@@ -2,10 +2,7 @@ use Rattle.std.proofs.Common.{◌≡◌, ◌<◌, ◌^◌, ℤ, [], ◌∷◌, N
 use Rattle.std.proofs.lemmas.Int.{to_z-of_z}
 use Rattle.b67_lemmas.proofs.Members.{length_change}
 use Rattle.b67_word.specs.Tagged.{word}
-use Rattle.b67_model.specs.Answers.{Answer, ◌>>=◌}
-use Rattle.b67_model.specs.Words.{Operand}
-use Rattle.b67_model.specs.State.{Task}
-use Rattle.b67_model.specs.Intrinsics.{answers, answered, status_of}
+use Rattle.b67_model.specs.Common.{Answer, ◌>>=◌, Operand, Task, answers, answered, status_of}
 use Rattle.b67_layout.specs.Meets.{here, with_job}
 use Rattle.b67_layout.proofs.Fresh.{running_in_order}
 use Rattle.b67_exec_calls.specs.Answered.{job_answered}

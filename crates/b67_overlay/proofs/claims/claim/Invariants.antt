@@ -1,6 +1,4 @@
-use Rattle.b67_stack.specs.MachineView.{MachineView}
-use Rattle.b67_stack.specs.Represents.{Storage}
-use Rattle.b67_stack.specs.HeldOtherwise.{Stayed}
+use Rattle.b67_stack.specs.Common.{MachineView, Storage, Stayed}
 use Rattle.b67_layout_storage.specs.Machine.{DeviceAfterCalls, PagingKeeps}
 use Rattle.b67_overlay.specs.Spans.{MachineCanPage}
 use Rattle.b67_overlay.specs.AreasEvicted.{EvictedBelow, Remains}

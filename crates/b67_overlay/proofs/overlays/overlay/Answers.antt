@@ -9,8 +9,7 @@ use Rattle.b67_area.specs.Spans.{area_at}
 use Rattle.b67_area.specs.Directory.{IsDirectory}
 use Rattle.b67_backing.specs.Shelf.{IsShelf, HasChain as ChainIs}
 use Rattle.b67_backing.specs.Held.{sectors_for, Stores, SameBut, Changes}
-use Rattle.b67_stack.specs.MachineView.{words_of, tag_of}
-use Rattle.b67_stack.specs.Represents.{Storage, Represents, ObjectHasChain, info_of}
+use Rattle.b67_stack.specs.Common.{words_of, tag_of, Storage, Represents, ObjectHasChain, info_of}
 use Rattle.b67_layout_storage.specs.Machine.{content_after}
 use Rattle.b67_overlay.specs.Spans.{MachineCanPage}
 use Rattle.std.proofs.lemmas.List.{length-map}

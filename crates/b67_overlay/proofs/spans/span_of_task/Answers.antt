@@ -1,7 +1,6 @@
 use Rattle.std.proofs.Common.{◌≡◌, ℕ, ◌+◌, ◌*◌, ◌<◌, Some, ap, arith, sym, ◌∙◌}
 use Rattle.std.specs.List.{slice_get}
-use Rattle.b67_stack.specs.Stacks.{stack_words}
-use Rattle.b67_stack.specs.MachineView.{MachineView, slot_base, stack_of}
+use Rattle.b67_stack.specs.Common.{stack_words, MachineView, slot_base, stack_of}
 use Rattle.b67_overlay.specs.Turns.{Lies}
 use Rattle.b67_overlay.specs.Spans.{Kin, Families, ShowsFamilies, kin_word, holds}
 use Rattle.b67_overlay.proofs.Families.{job_is, parent_low, base_here, whole_here, over_here, span_in_job, span_of_others, span_in_own, span_in_parent, span_nowhere}

@@ -9,8 +9,7 @@ use Rattle.b67_presence_page.proofs.Descriptors.{rest_here}
 use Rattle.b67_presence_page.proofs.Contents.{Loaded, chain_at}
 use Rattle.b67_presence_page.proofs.Placing.{Placed, Filled, Kept, Freed}
 use Rattle.b67_presence_page.proofs.Paged.{ready, Steps, in_place, paged_known, paged_untold, paged_back, paged_below, back_below}
-use Rattle.b67_stack.specs.MachineView.{home_word_of}
-use Rattle.b67_stack.specs.HeldOtherwise.{Stayed, renumbered}
+use Rattle.b67_stack.specs.Common.{home_word_of, Stayed, renumbered}
 use Rattle.b67_layout_storage.specs.Machine.{HasHole}
 use Rattle.b67_overlay.specs.Spans.{MachineCanPage}
 use Rattle.b67_layout_storage.proofs.Below.{Stayed-none}

@@ -1,6 +1,5 @@
 use Rattle.std.proofs.Common.{◌≡◌, ◌≢◌, ◌≤◌, ℕ, ◌+◌, List, Option, Some, None, Result, Ok, Err, length, refl, sym, ◌∙◌, subst, arith}
-use Rattle.b67_model.specs.State.{Task, SessionJob}
-use Rattle.b67_model.specs.Schedule.{Session}
+use Rattle.b67_model.specs.Common.{Task, SessionJob, Session}
 use Rattle.b67_layout_storage.specs.Machine.{Says, content_after}
 use Rattle.b67_layout_storage.proofs.Devices.{Served-none, Served-then}
 use Rattle.b67_layout_storage.proofs.Retold.{retold-same}

@@ -1,6 +1,5 @@
 use Rattle.std.proofs.Common.{◌≡◌, ◌≢◌, ◌≤◌, ◌-◌, ℕ, List, [], Option, None}
-use Rattle.b67_model.specs.State.{Task, SessionJob}
-use Rattle.b67_model.specs.Schedule.{Session}
+use Rattle.b67_model.specs.Common.{Task, SessionJob, Session}
 use Rattle.b67_layout_storage.specs.Machine.{Says, DeviceAfterCalls, content_after}
 use Rattle.b67_law_turns.specs.Turns.{IsNext}
 use Rattle.b67_session_attempt.specs.Passed.{AreCountable, CallsDevice}

@@ -1,8 +1,7 @@
 use Rattle.std.proofs.Common.{◌∷◌, sym, subst}
 use Rattle.std.proofs.lemmas.Bool.{false≢true}
 use Rattle.b67_stack.specs.declared.Cpu.{Cpu}
-use Rattle.b67_stack.specs.Represents.{Represents}
-use Rattle.b67_stack.specs.Changes.{new_mark, with_stack}
+use Rattle.b67_stack.specs.Common.{Represents, new_mark, with_stack}
 use Rattle.b67_stack.proofs.Pushes.{Represents-marked}
 use Rattle.b67_stack.proofs.Cpu.mark.Goals as goal
 

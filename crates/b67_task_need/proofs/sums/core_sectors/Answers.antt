@@ -1,6 +1,5 @@
 use Rattle.std.proofs.Common.{◌≡◌, ℕ, suc, false, ◌+◌, ◌-◌, ◌<◌, arith, ◌∙◌, ap, ⊎_elim}
-use Rattle.b67_stack.specs.Stacks.{stack_words}
-use Rattle.b67_stack.specs.MachineView.{slot_base, stack_of}
+use Rattle.b67_stack.specs.Common.{stack_words, slot_base, stack_of}
 use Rattle.b67_stack.proofs.Bases.{base-step}
 use Rattle.b67_overlay.proofs.Turning.{stack_low, slot_high}
 use Rattle.b67_task_need.specs.Sums.{sectors_from, sectors_of_slots}
