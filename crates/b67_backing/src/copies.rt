@@ -2,7 +2,7 @@
 
 ghost use Rattle.std.specs.Prelude.{◌≡◌, ◌⊎◌, ℕ, ◌+◌, ◌<◌, ◌≤◌, ◌^◌, length, map, slice_get, Some, option_map, IfOk};
 ghost use Rattle.b67_word.specs.Tagged.{Tagged};
-ghost use Rattle.b67_core.specs.Numbers.{number};
+ghost use Rattle.b67_word.specs.Numbers.{number};
 ghost use Rattle.b67_backing.specs.Held.{under, blank, number_at};
 
 use b67_core::{Core, to_number};

@@ -2,7 +2,7 @@
 
 ghost use Rattle.std.specs.Prelude.{◌≡◌, ◌≢◌, ◌⊎◌, ℕ, ◌+◌, ◌*◌, ◌<◌, ◌≤◌, ◌^◌, List, [], IfOk, IfSome, IfNone, MatchOption, Some, OnOk, length, map, option_map, slice_get, slice_range, take, if◌then◌else◌, ◌==◌};
 ghost use Rattle.b67_word.specs.Tagged.{Tagged};
-ghost use Rattle.b67_core.specs.Numbers.{number};
+ghost use Rattle.b67_word.specs.Numbers.{number};
 ghost use Rattle.b67_io.specs.Causes.{HasCause};
 ghost use Rattle.b67_backing.specs.Shelf.{Table, Shelf, IsShelf, HasChain, chain_of, taken, given, joined, first, last, all_free};
 ghost use Rattle.b67_backing.specs.Held.{Tells, Changes, SameBut, Stores, Holds, AreTagged, OnlyWords, WasCalled, WasRead, sectors_for, under};

@@ -1,10 +1,6 @@
 -- Words as numbers: tag × 2^48 + bits.
-use Rattle.std.specs.Prelude.{ℕ, ◌+◌, ◌*◌, ◌/◌, ◌%◌, ◌^◌, ◌<◌, List, slice_get, Some, ◌≡◌}
+use Rattle.std.specs.Prelude.{ℕ, ◌/◌, ◌%◌, ◌^◌, ◌<◌, List, slice_get, Some, ◌≡◌}
 use Rattle.b67_word.specs.Tagged.{Tagged, word}
-
--- the number of a word, and the word of a number
-abbrev pub number : Tagged → ℕ
-number w = w.tag * 2 ^ 48 + w.bits
 
 abbrev pub word_of : ℕ → Tagged
 word_of n = word (n / 2 ^ 48) (n % 2 ^ 48)

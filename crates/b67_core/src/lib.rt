@@ -3,7 +3,8 @@
 
 ghost use Rattle.std.specs.Prelude.{◌≡◌, ◌⊎◌, ℕ, ◌+◌, ◌<◌, ◌≤◌, ◌^◌, length, slice_get, slice_set, slice_range, Some, IfOk, replicate, option_map};
 ghost use Rattle.b67_word.specs.Tagged.{word};
-ghost use Rattle.b67_core.specs.Numbers.{number, word_of, AreWords};
+ghost use Rattle.b67_word.specs.Numbers.{number};
+ghost use Rattle.b67_core.specs.Numbers.{word_of, AreWords};
 
 mod numbers;
 

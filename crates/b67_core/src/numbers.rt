@@ -1,7 +1,8 @@
 //! Words as numbers: tag × 2^48 + bits.
 
 ghost use Rattle.std.specs.Prelude.{◌≡◌, ◌<◌, ◌^◌};
-ghost use Rattle.b67_core.specs.Numbers.{number, word_of};
+ghost use Rattle.b67_word.specs.Numbers.{number};
+ghost use Rattle.b67_core.specs.Numbers.{word_of};
 
 use b67_word::Word;
 

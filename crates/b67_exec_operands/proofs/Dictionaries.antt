@@ -5,8 +5,7 @@ use Rattle.std.specs.List.{slice_get}
 use Rattle.std.proofs.lemmas.Option.{same_Some, slice_get_within}
 use Rattle.std.proofs.lemmas.Bool.{cases_lt, lt-ltb, le-ltb, eq-eqb, ne_eqb, eqb-true, and_parts, leb-false, leb-true, ltb-true}
 use Rattle.std.proofs.lemmas.List.{length-reverse}
-use Rattle.b67_word.specs.Tagged.{Tagged, word}
-use Rattle.b67_word.specs.Operands.{bit}
+use Rattle.b67_word.specs.Common.{Tagged, word, bit}
 use Rattle.b67_word.specs.declared.couples.Place.{Place}
 use Rattle.b67_area.specs.declared.Kind.{Kind}
 use Rattle.b67_ctl.specs.Layout.{pcw_word}

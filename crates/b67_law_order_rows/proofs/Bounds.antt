@@ -8,8 +8,7 @@ use Rattle.std.proofs.lemmas.Nat.{or_lt, pow-add}
 use Rattle.std.proofs.lemmas.Bool.{cases_Bool, leb-true, ltb-true, eqb-true, and_parts}
 use Rattle.std.proofs.Math.Pow.{ones_sub-lt, pow_mono}
 use Rattle.std.proofs.Math.Nat.{mul-le-mul_right, div-lt_iff_lt-mul, mod-lt, div-add-mod}
-use Rattle.b67_word.specs.Operands.{bit, is_whole, value_of, bits_of}
-use Rattle.b67_word.specs.Tagged.{is_field}
+use Rattle.b67_word.specs.Common.{bit, is_whole, value_of, bits_of, is_field}
 use Rattle.b67_model.specs.Common.{Answer, ◌>>=◌, to_operand, number, truth, ones, on_numbers, compared, land, lor, leqv, same, chsn, lnot, bset, brst, isol, insr}
 use Rattle.b67_law_order.proofs.Posts.{Post, post_ok, post_err, post_any, post_needs, post_if_is}
 use Rattle.b67_law_order_rows.proofs.Cells.{Fits1, Fits2}

@@ -5,7 +5,7 @@ use Rattle.std.specs.Prelude.{if◌then◌else◌, map}
 use Rattle.std.specs.List.{slice_get}
 use Rattle.std.proofs.lemmas.Option.{none-some, same_Some}
 use Rattle.std.proofs.lemmas.Bool.{cases_eq, eq-eqb, ne_eqb}
-use Rattle.b67_word.specs.Tagged.{Tagged, word}
+use Rattle.b67_word.specs.Common.{Tagged, word, number}
 use Rattle.b67_area.specs.declared.Info.{Info}
 use Rattle.b67_area.specs.declared.Kind.TheVariants as kind
 use Rattle.b67_area.specs.Spans.{Span, Area, Hole, area_at}
@@ -15,7 +15,6 @@ use Rattle.b67_backing.specs.Shelf.{chain_of}
 use Rattle.b67_backing.specs.Held.{number_at}
 use Rattle.b67_ctl.specs.declared.registers.Regs.{Regs}
 use Rattle.b67_lemmas.specs.Lists.{Has}
-use Rattle.b67_core.specs.Numbers.{number}
 use Rattle.b67_model.specs.Common.{Entered, Ready, Task, Job, SessionJob, frame_at, Program, opened, number_of, Session, IsSegment, SettingInOrder, TaskInOrder, TasksInOrder, frames_in_job}
 use Rattle.b67_stack.specs.declared.Cpu.{Cpu}
 use Rattle.b67_stack.specs.Common.{Location, nowhere, Fits, LieDownward, stack_words, words, PagedObject, words_of, MachineView, stack_of, Laid, SlotFits, slot_base, CopiesName, Storage, RepresentsSlots, RepresentsSlot, StacksLie, RepresentsObjects, RepresentsObject, Owned, Represents, HoldsIn, info_of}

@@ -1,8 +1,7 @@
 -- Objects written one after the other.
 use Rattle.std.proofs.Common.{◌≡◌, ℕ, ◌+◌, ◌<◌, ◌≤◌, ◌⊎◌, List, [], ◌∷◌, ◌++◌, length, take, map, Option, Some, refl, sym, ◌∙◌, ap, subst, arith, inl, inr, ⊎_elim, slice_set, length-drop}
 use Rattle.std.specs.List.{slice_get, AllByRecursion}
-use Rattle.b67_word.specs.Tagged.{Tagged, word, contents}
-use Rattle.b67_core.specs.Numbers.{number}
+use Rattle.b67_word.specs.Common.{Tagged, word, contents, number}
 use Rattle.b67_core.proofs.Writes.{slice_get-set_same, slice_get-set_other}
 use Rattle.b67_codefile.specs.Spelling.{HasTag}
 use Rattle.b67_backing.specs.Shelf.{Shelf, IsShelf, first, taken}

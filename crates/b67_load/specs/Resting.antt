@@ -1,7 +1,6 @@
 -- Objects that are in sectors alone.
 use Rattle.std.specs.Prelude.{◌≡◌, ℕ, ◌+◌, ◌*◌, ◌^◌, ◌<◌, ◌≤◌, ◌⊎◌, List, [], ◌∷◌, length, map, take, drop, Some, slice_get}
-use Rattle.b67_word.specs.Tagged.{Tagged, word}
-use Rattle.b67_core.specs.Numbers.{number}
+use Rattle.b67_word.specs.Common.{Tagged, word, number}
 use Rattle.b67_backing.specs.Shelf.{Shelf, first, chain_of, taken}
 use Rattle.b67_backing.specs.Held.{Fills, SameBut}
 use Rattle.b67_lemmas.specs.Lists.{Has}

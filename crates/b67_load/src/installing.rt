@@ -3,7 +3,7 @@
 ghost use Rattle.std.specs.Prelude.{◌≡◌, ℕ, ◌+◌, ◌<◌, ◌≤◌, ◌^◌, ◌∷◌, [], length, map, take, OnOk, OnErr, IfErr, IfOk};
 ghost use Rattle.std.specs.List.{AllByRecursion};
 ghost use Rattle.b67_word.specs.Tagged.{contents};
-ghost use Rattle.b67_core.specs.Numbers.{number};
+ghost use Rattle.b67_word.specs.Numbers.{number};
 ghost use Rattle.b67_area.specs.declared.Kind.TheVariants.{Code, Row};
 ghost use Rattle.b67_backing.specs.Shelf.{Shelf, IsShelf, first as first_of, taken};
 ghost use Rattle.b67_backing.specs.Held.{Changes, SameBut, Stores, KeepsCounts, sectors_for};

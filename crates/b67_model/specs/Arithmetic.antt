@@ -2,8 +2,7 @@
 use Rattle.std.specs.Prelude.{ℕ, ◌+◌, ◌-◌, ◌*◌, ◌/◌, ◌%◌, ◌^◌, ℤ, pos, ◌+ℤ◌, ◌*ℤ◌, neg_ℤ, int_lt, int_div, int_rem, bit_and, bit_or, bit_xor, nat_le, ◌==◌, Bool, not, ◌&&◌, if◌then◌else◌, Ok}
 use Rattle.b67_word.specs.declared.faults.Fault.TheVariants.{InvalidOperand, DivideByZero}
 use Rattle.b67_model.specs.Answers.{Answer, ◌>>=◌, ◌>>◌, needs}
-use Rattle.b67_word.specs.Operands.{bit, bits_of}
-use Rattle.b67_word.specs.Tagged.{is_field}
+use Rattle.b67_word.specs.Common.{bit, bits_of, is_field}
 use Rattle.b67_model.specs.Words.{to_operand, number, truth}
 
 -- an operator of two operands' bits

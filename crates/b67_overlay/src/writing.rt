@@ -1,7 +1,7 @@
 //! The words of an area that go to sectors.
 
 ghost use Rattle.std.specs.Prelude.{◌≡◌, ◌≢◌, ◌⊎◌, ℕ, ◌+◌, Err, length, map, slice_range};
-ghost use Rattle.b67_core.specs.Numbers.{number};
+ghost use Rattle.b67_word.specs.Numbers.{number};
 ghost use Rattle.b67_backing.specs.Shelf.{Shelf, IsShelf, HasChain};
 ghost use Rattle.b67_backing.specs.Held.{sectors_for};
 ghost use Rattle.b67_backing.specs.declared.SpaceFault.TheVariants.{NoCore, BackingFull, BackingFault};

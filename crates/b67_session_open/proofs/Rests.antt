@@ -3,7 +3,7 @@ use Rattle.std.proofs.Common.{◌≡◌, ℕ, zero, suc, ◌-◌, ◌%◌, ◌<�
 use Rattle.std.specs.List.{slice_get}
 use Rattle.std.proofs.lemmas.Option.{none-some}
 use Rattle.b67_word.specs.Tagged.{Tagged}
-use Rattle.b67_core.specs.Numbers.{number}
+use Rattle.b67_word.specs.Numbers.{number}
 use Rattle.b67_area.specs.Spans.{area_at, left}
 use Rattle.b67_area.specs.declared.Kind.{Kind}
 use Rattle.b67_area.specs.declared.Kind.TheVariants.{Array, Row, Code}

@@ -2,3 +2,5 @@ pub mod Tagged
 pub mod Packed
 pub mod Operands
 pub mod Couples
+pub mod Numbers
+pub mod Common

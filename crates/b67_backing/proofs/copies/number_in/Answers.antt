@@ -1,6 +1,6 @@
 use Rattle.std.proofs.Common.{map, sym, ◌∙◌, arith, ap}
 use Rattle.std.proofs.lemmas.List.{length-map}
-use Rattle.b67_core.specs.Numbers.{number}
+use Rattle.b67_word.specs.Numbers.{number}
 use Rattle.b67_backing.proofs.Fills.{number_at-past, number_at-index}
 use Rattle.b67_backing.proofs.copies.number_in.Goals as goal
 

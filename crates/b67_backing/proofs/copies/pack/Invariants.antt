@@ -1,6 +1,6 @@
 use Rattle.std.proofs.Common.{◌≡◌, ℕ, ◌<◌, ◌+◌, length, map, Some}
 use Rattle.std.specs.List.{slice_get}
-use Rattle.b67_core.specs.Numbers.{number}
+use Rattle.b67_word.specs.Numbers.{number}
 use Rattle.b67_backing.specs.Held.{number_at}
 use Rattle.b67_backing.proofs.copies.pack.Given as goal
 

@@ -1,6 +1,6 @@
 use Rattle.std.proofs.Common.{◌≡◌, ℕ, ◌+◌, ◌<◌, option_map}
 use Rattle.std.specs.List.{slice_get}
-use Rattle.b67_core.specs.Numbers.{number}
+use Rattle.b67_word.specs.Numbers.{number}
 use Rattle.b67_core.proofs.Core.copy_out.Given as goal
 
 abbrev pub invariant-loop-i : goal.invariant-loop-i

@@ -1,5 +1,5 @@
 use Rattle.std.proofs.Common.{ℕ, List, length, map, arith, subst}
-use Rattle.b67_core.specs.Numbers.{number}
+use Rattle.b67_word.specs.Numbers.{number}
 use Rattle.b67_backing.specs.Shelf.{taken}
 use Rattle.b67_backing.specs.Held.{Changes, SameBut, Stores, sectors_for}
 use Rattle.b67_load.proofs.Shelves.{first_small, last_taken}

@@ -1,5 +1,5 @@
 use Rattle.std.proofs.Common.{◌∙◌, arith, map, refl}
-use Rattle.b67_core.specs.Numbers.{number}
+use Rattle.b67_word.specs.Numbers.{number}
 use Rattle.b67_backing.specs.Shelf.{chain_of}
 use Rattle.b67_backing.proofs.Stores.{ahead_pos, counts_next, storing_first, storing_next}
 use Rattle.b67_backing.proofs.Walks.{room}

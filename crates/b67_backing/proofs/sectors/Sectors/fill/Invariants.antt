@@ -1,6 +1,6 @@
 use Rattle.std.proofs.Common.{◌≡◌, ◌≤◌, map}
 use Rattle.b67_io.specs.Causes.{Rose}
-use Rattle.b67_core.specs.Numbers.{number}
+use Rattle.b67_word.specs.Numbers.{number}
 use Rattle.b67_backing.specs.Shelf.{Shelf, HasChain, chain_of}
 use Rattle.b67_backing.proofs.Stores.{Storing}
 use Rattle.b67_backing.proofs.sectors.Sectors.fill.Given as goal
