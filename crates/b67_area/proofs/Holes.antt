@@ -1,5 +1,4 @@
-use Rattle.std.proofs.Common.{◌≡◌, ◌≢◌, ℕ, zero, suc, ◌+◌, ◌-◌, ◌<◌, ◌≤◌, ◌^◌, List, [], ◌∷◌, length, Some, None, Option, refl, sym, ◌∙◌, ap, arith, inl, inr, ⊎_elim, ◌⊎◌, ◌==◌, nat_le, leb, cond, subst, Bool, true, false}
-use Rattle.std.proofs.Common.{slice_set}
+use Rattle.std.proofs.Common.{◌≡◌, ◌≢◌, ℕ, zero, suc, ◌+◌, ◌-◌, ◌<◌, ◌≤◌, ◌^◌, List, [], ◌∷◌, length, Some, None, Option, refl, sym, ◌∙◌, ap, arith, inl, inr, ⊎_elim, ◌⊎◌, ◌==◌, nat_le, leb, cond, subst, Bool, true, false, slice_set}
 use Rattle.std.specs.List.{slice_get}
 use Rattle.std.proofs.lemmas.Bool.{cond-true, cond-false, eq-eqb, ne_eqb, eqb-true, cases_lt, cases_Bool, le-leb, lt-leb}
 use Rattle.std.proofs.Math.ListN.{length-set}

@@ -1,6 +1,6 @@
 -- A segment or a data row, from its card and the cards behind it.
 use Rattle.std.proofs.Common.{◌≡◌, ◌≤◌, ◌<◌, ◌+◌, ◌^◌, ℕ, Bool, true, false, not, nat_lt, ◌||◌, cond, List, [], ◌∷◌, ◌++◌, map, length, Option, Some, None, Result, Ok, Err, refl, sym, ap, subst, ◌∙◌, arith}
-use Rattle.std.specs.List.{list_any}
+use Rattle.std.specs.List.{list_any, AllByRecursion}
 use Rattle.b67_word.specs.Tagged.{Tagged, contents}
 use Rattle.b67_codefile.specs.Meaning.{segment_of}
 use Rattle.b67_model.specs.State as state
@@ -17,7 +17,6 @@ use Rattle.b67_asm.proofs.Entries.{entries_fit, no_entries}
 use Rattle.b67_codefile.specs.Spelling.{IsSegment, AreWords, HasTag, HasNoEntries}
 use Rattle.b67_codefile.specs.declared.file.Segment.{Segment}
 use Rattle.b67_codefile.specs.declared.file.Codefile.{Codefile}
-use Rattle.std.specs.List.{AllByRecursion}
 use Rattle.std.specs.Prelude.{⊤}
 
 abbrev segment_rest : asm.Names → ℕ → List Line → ℕ → Result asm.Part Refusal

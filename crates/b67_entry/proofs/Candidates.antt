@@ -15,8 +15,7 @@ use Rattle.b67_refer.specs.Cells.{StandsFor}
 use Rattle.b67_refer.specs.Ends.{IsProcAt, EndMeets}
 use Rattle.b67_entry_enter.specs.Procedures.{CanEnter, EntersOrFaults}
 use Rattle.b67_entry.specs.Left.{Returns, caller_regs, caller_stack}
-use Rattle.b67_entry.specs.Returned.{with_word}
-use Rattle.b67_entry.specs.Returned.{ReturnsWord}
+use Rattle.b67_entry.specs.Returned.{with_word, ReturnsWord}
 use Rattle.b67_entry.proofs.Leaving.{regs_left}
 use Rattle.b67_entry.proofs.Moved.{stands_for}
 use Rattle.b67_entry.proofs.Evaluating.{scene, seen}

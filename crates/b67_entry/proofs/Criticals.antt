@@ -11,7 +11,7 @@ use Rattle.b67_stack.specs.Common.{stack_words, mark_place, Storage, RepresentsR
 use Rattle.b67_stack.proofs.Slots.{running_slot}
 use Rattle.b67_layout.proofs.Common.{height-is, running_in_order, slot_below, runs_here}
 use Rattle.b67_lemmas.proofs.Members.{keyed_has}
-use Rattle.b67_layout_leave.proofs.Apart.{some_words}
+use Rattle.b67_layout_records.proofs.Apart.{some_words}
 
 mark_under : (job : Job) (fs : List Frame) → critical_mark job fs < height fs
 mark_under job [] = omega arith

@@ -6,7 +6,7 @@ use Rattle.b67_word.specs.declared.faults.Fault.TheVariants.{MarkPending, Critic
 use Rattle.b67_model.specs.Common.{Answer, Standing, Return, Frame, Condition, Task, Job, OperatorContext, SessionJob, height, top, with_task, Done, Goes, Leaves, top_of, result, is_critical, without_arrays_of, left, leaves, exit}
 use Rattle.b67_model.specs.State as State
 use Rattle.b67_layout.specs.Meets.{here}
-use Rattle.b67_layout_leave.proofs.Leaves.{task_at}
+use Rattle.b67_layout_records.proofs.Leaves.{task_at}
 use Rattle.b67_lemmas.proofs.Members.{change_twice}
 
 -- the job without the frame and its arrays

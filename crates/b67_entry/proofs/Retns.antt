@@ -8,7 +8,7 @@ use Rattle.b67_model.specs.Common.{Answer, ◌>>=◌, Word, Operand, Name, Ref, 
 use Rattle.b67_model.specs.Words as Words
 use Rattle.b67_model.specs.State as State
 use Rattle.b67_layout.specs.Meets.{here}
-use Rattle.b67_layout_leave.proofs.Leaves.{task_at}
+use Rattle.b67_layout_records.proofs.Leaves.{task_at}
 use Rattle.b67_entry.proofs.Exits.{job_left, leaves_inner}
 use Rattle.b67_lemmas.proofs.Members.{change_twice}
 use Rattle.b67_law_order.proofs.Maps.{IsOperand}

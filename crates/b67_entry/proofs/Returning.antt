@@ -9,7 +9,7 @@ use Rattle.b67_model.specs.Common.{◌>>◌, needs, Word, Operand, Name, Ref, Ro
 use Rattle.b67_model.specs.Words as Words
 use Rattle.b67_stack.specs.Common.{Shape, StackPlace, PagedObject, CopiesName, MayPush}
 use Rattle.b67_layout.specs.Common.{Placement, spot_in, shape}
-use Rattle.b67_layout_leave.proofs.Nowhere.{SameArray, array_stays}
+use Rattle.b67_layout_records.proofs.Nowhere.{SameArray, array_stays}
 use Rattle.b67_layout.proofs.Objects.{others}
 use Rattle.b67_entry.proofs.CopyRefusals.{found_array}
 

@@ -21,11 +21,11 @@ use Rattle.b67_stack.proofs.Pushes.{Room, room_of}
 use Rattle.b67_layout.proofs.Common.{slot_is, no_objects_gone, running_in_order, fresh}
 use Rattle.b67_refer.specs.RunningContext.{RunningContext}
 use Rattle.b67_refer.proofs.Scenes.{scene, member_in_order}
-use Rattle.b67_layout_enter.proofs.Heads.{entered_mark_fits}
-use Rattle.b67_layout_enter.proofs.Orders.{start, enter, ready_with, top_apart, cells_front, originals_entered, height_entered}
-use Rattle.b67_layout_enter.proofs.Rooms.{written_twice}
-use Rattle.b67_layout_enter.proofs.Enters as Enters
-use Rattle.b67_layout_enter.proofs.Enters.{IsMarkedWith, entered_frames, marked_stack, IsRunning-entered, SessionHolds-entered, RepresentsSession-entered}
+use Rattle.b67_layout_records.proofs.Heads.{entered_mark_fits}
+use Rattle.b67_layout_records.proofs.Orders.{start, enter, ready_with, top_apart, cells_front, originals_entered, height_entered}
+use Rattle.b67_layout_records.proofs.Rooms.{written_twice}
+use Rattle.b67_layout_records.proofs.Enters as Enters
+use Rattle.b67_layout_records.proofs.Enters.{IsMarkedWith, entered_frames, marked_stack, IsRunning-entered, SessionHolds-entered, RepresentsSession-entered}
 use Rattle.b67_entry_enter.proofs.Sites.{Site, site}
 use Rattle.b67_entry_enter.proofs.Segments.{few_segments}
 use Rattle.b67_law_order.proofs.Looks.{below_marked, below_some}

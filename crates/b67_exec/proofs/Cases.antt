@@ -17,7 +17,7 @@ use Rattle.b67_fetch.specs.Stores.{store_end}
 use Rattle.b67_exec.proofs.Entered.{AtProcedure, at_procedure}
 use Rattle.b67_exec.specs.Stores.{ValueOver}
 use Rattle.b67_exec.proofs.Unders.{is_operand}
-use Rattle.b67_exec_operands.proofs.Rows.{an_operand}
+use Rattle.b67_exec_cells.proofs.Rows.{an_operand}
 
 other_by : (x : Storage) (plan : Placement) (m : SessionJob) (t : Task) (w lower : Word) (at : ℕ) (v : Tagged) → IsWordOf x plan m t w at v → v.tag ≢ 0 → in_order w lower ≡ (w, lower)
 other_by x plan m t (Operand n) lower at v i ne = absurd (ne (ap (λ (z : Tagged). z.tag) i.0))

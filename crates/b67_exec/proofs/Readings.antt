@@ -5,8 +5,8 @@ use Rattle.b67_ctl.specs.Layout.{IsPlace}
 use Rattle.b67_model.specs.declared.operators.Op.{Op}
 use Rattle.b67_model.specs.declared.operators.Op.TheVariants.{Valc, Namc, Lt8, Lt16, Lt48, Mpcw, Brun, Brtr, Brfl, Bset, Brst, Isol, Insr, Plain}
 use Rattle.b67_model.specs.Common.{Reading, reading_of, step_by, step, Task, JobConstants, SessionJob, Session, SettingInOrder}
-use Rattle.b67_law_order_steps.proofs.Readings.{OpBits, ReadFits}
-use Rattle.b67_law_order_steps.proofs.Segments.{reading_fits}
+use Rattle.b67_law_order.proofs.Readings.{OpBits, ReadFits}
+use Rattle.b67_law_order.proofs.Segments.{reading_fits}
 use Rattle.b67_stack.specs.declared.Cpu.{Cpu}
 use Rattle.b67_stack.specs.declared.Step.{Step}
 use Rattle.b67_stack.specs.Represents.{Storage}

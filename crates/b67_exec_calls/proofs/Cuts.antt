@@ -13,9 +13,9 @@ use Rattle.b67_stack.proofs.Pushes.{Represents-cut}
 use Rattle.b67_layout.proofs.Common.{fresh, running_in_order, no_objects_gone, slot_is, runs_here, Shows-condition, others}
 use Rattle.b67_refer.specs.RunningContext.{RunningContext}
 use Rattle.b67_refer.proofs.Scenes.{member_in_order}
-use Rattle.b67_layout_leave.proofs.Nowhere.{activations-same}
-use Rattle.b67_layout_leave.proofs.Leaves.{Leaver, task_at, may_leave, below-same, Frames-below, runs_after, holds_after, for_running_after}
-use Rattle.b67_layout_leave.proofs.Orders.{left_ready}
+use Rattle.b67_layout_records.proofs.Nowhere.{activations-same}
+use Rattle.b67_layout_records.proofs.Leaves.{Leaver, task_at, may_leave, below-same, Frames-below, runs_after, holds_after, for_running_after}
+use Rattle.b67_layout_records.proofs.LeftOrders.{left_ready}
 use Rattle.b67_exec_calls.specs.Calls.{MayCut, job_cut}
 use Rattle.b67_exec_calls.proofs.Owned.{arrays_stay}
 use Rattle.b67_lemmas.proofs.Members.{keyed_has}

@@ -8,7 +8,7 @@ use Rattle.b67_model.specs.Words.{whole}
 use Rattle.b67_stack.specs.declared.Cpu.{Cpu}
 use Rattle.b67_stack.specs.Represents.{Storage}
 use Rattle.b67_layout.specs.Common.{Placement, cells, GivesTop}
-use Rattle.b67_exec_operands.proofs.Rows.{operand_seen}
+use Rattle.b67_exec_cells.proofs.Rows.{operand_seen}
 use Rattle.b67_exec_calls.specs.Calls.{IsCall, OnlyCell, number_in}
 
 -- the top one of two cells

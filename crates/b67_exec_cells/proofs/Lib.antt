@@ -2,3 +2,8 @@ pub mod Replaced
 pub mod Put
 pub mod Arrays
 pub mod Codes
+pub mod Originals
+pub mod Rows
+pub mod Targets
+pub mod Exchanges
+pub mod Dictionaries

@@ -23,7 +23,7 @@ use Rattle.b67_refer.proofs.Chains.{level_is}
 use Rattle.b67_refer.proofs.Follows.{is_reference}
 use Rattle.b67_refer.proofs.Names.{irw_is, stuffed}
 use Rattle.b67_refer.proofs.Unders.{named_above, named_at, names_level, display_at}
-use Rattle.b67_exec_operands.proofs.Rows.{Replaces}
+use Rattle.b67_exec_cells.proofs.Rows.{Replaces}
 use Rattle.b67_refer.specs.RunningContext.{live_of}
 use Rattle.b67_fetch.proofs.Values.{TopFollowed, here_scene, here_shown, followed_stands}
 

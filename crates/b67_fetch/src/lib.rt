@@ -6,7 +6,7 @@ mod loading;
 mod storing;
 mod stuffing;
 
-pub use b67_exec_operands::namc;
+pub use b67_exec_cells::namc;
 pub use indexing::{indx, nxlv};
 pub use loading::{load, put_element, valc};
 pub use storing::{stod, ston};

@@ -10,8 +10,7 @@ ghost use Rattle.b67_refer.specs.Cells.{reach, view, frame_at_core};
 
 use b67_core::Core;
 use b67_ctl::{Irw, Regs, Sirw};
-use b67_exec_cells::{replace_cells, top_cell};
-use b67_exec_operands::go_on;
+use b67_exec_cells::{go_on, replace_cells, top_cell};
 use b67_refer::cell_of;
 use b67_stack::{Cpu, Step};
 use b67_word::{Fault, Place, couple_of};

@@ -5,10 +5,10 @@ use Rattle.b67_codefile.specs.declared.file.Codefile.{Codefile}
 use Rattle.b67_codefile.specs.Meaning.{program_of}
 use Rattle.b67_model_text.specs.declared.deck.Deck.{Deck}
 use Rattle.b67_model.specs.Common.{Session, RunLine, after, lines, IsInOrderButPlaces}
-use Rattle.b67_law_order_runs.proofs.Opens.{opens_in_order}
-use Rattle.b67_law_order_runs.proofs.Sessions.{runs_stay_in_order}
+use Rattle.b67_law_order.proofs.Opens.{opens_in_order}
+use Rattle.b67_law_order.proofs.RunSessions.{runs_stay_in_order}
 use Rattle.b67_law_sessions.proofs.Makers.{runs_make_their_words}
-use Rattle.b67_law_order_steps.proofs.Sessions.{starts_are_segments}
+use Rattle.b67_law_order.proofs.Sessions.{starts_are_segments}
 use Rattle.b67_layout_storage.specs.Machine.{content_after, Says}
 use Rattle.b67_session_open.specs.Opened.{opening_plan}
 use Rattle.b67_task_tables.specs.declared.tables.TaskRow.{TaskRow}

@@ -14,7 +14,7 @@ use Rattle.b67_model.specs.Common.{Task, SessionJob, need, run_text, Session, Is
 use Rattle.b67_job_admit.specs.Admitting.{Prepared}
 use Rattle.b67_session.specs.Stops.{Stop}
 use Rattle.b67_session.specs.Stops as stops
-use Rattle.b67_law_order_steps.proofs.Sessions.{starts_are_segments}
+use Rattle.b67_law_order.proofs.Sessions.{starts_are_segments}
 use Rattle.b67_law_turns.specs.Turns.{IsNext}
 use Rattle.b67_law_turns.proofs.Limits.{no_last}
 use Rattle.b67_law_turns.proofs.Runs.{Came}

@@ -8,7 +8,7 @@ use denote.Ref.{Bor}
 use Rattle.b67_io.specs.Causes.{Rose}
 use Rattle.b67_io.specs.Told.{GaveAll}
 use Rattle.b67_codefile.specs.Meaning.{program_of}
-use Rattle.b67_model_text.specs.Deck.{limit}
+use Rattle.b67_model_text.specs.Deck.{limit, deck_of}
 use Rattle.b67_card.specs.Reading.{GaveFirst}
 use Rattle.b67_task_tables.specs.declared.tables.Machine.{Machine}
 use Rattle.b67_job_admit.specs.declared.refusal.Refusal.{Refusal}
@@ -17,7 +17,6 @@ use Rattle.b67_job_admit.specs.declared.fault.AdmitFault.{AdmitFault}
 use Rattle.b67_job_admit.specs.declared.fault.AdmitFault.TheVariants as admits
 use Rattle.b67_job_admit.specs.declared.programs.Loaded.{Loaded}
 use Rattle.b67_model_text.specs.declared.deck.Deck.{Deck}
-use Rattle.b67_model_text.specs.Deck.{deck_of}
 use Rattle.b67_gen.specs.Generated.{generated_text}
 use Rattle.b67_job_admit.specs.Admitting.{Prepared, with_programs, deck_prepared}
 use Rattle.b67_job_admit.specs.Meets.{Meets, IsLoaded, prepared_of}

@@ -1,10 +1,18 @@
-//! States in order: what a step of one task leaves of the others, and where references lead.
+//! States in order: every row, every whole step and every run keeps them, and so the opening of an admitted deck is in order with all that follows.
 #![tactic(auto)]
 
-ghost use Rattle.b67_law_order.specs.Ends.{CouplesEndInOrder};
+mod couples_end;
+mod keeping;
+mod opening;
+mod profiles;
+mod runs;
+mod steps;
+mod weaker;
 
-/// A couple of the running task leads to a fault, or to a cell, element, array or procedure that is
-/// in reach and in order.
-pub fn couples_end_in_order()
-    ensures { CouplesEndInOrder }
-{}
+pub use couples_end::couples_end_in_order;
+pub use keeping::each_row_keeps_order;
+pub use opening::opening_is_in_order;
+pub use profiles::{print_keeps_profiles, rows_keep_profiles};
+pub use runs::{runs_stay_in_order, sessions_stay_in_order, sessions_stay_in_order_but_places};
+pub use steps::{places_have_operators, rows_keep_order, rows_keep_order_but_places, steps_keep_order, steps_keep_order_but_places};
+pub use weaker::{other_numbers_keep_order, starts_are_segments};

@@ -11,10 +11,10 @@ use Rattle.b67_lemmas.specs.Lists.{Has}
 use Rattle.b67_lemmas.proofs.Members.{change_found, change_other, keyed_has}
 use Rattle.b67_lemmas.proofs.Keyed.{change_is}
 use Rattle.b67_model.specs.Common.{Task, SessionJob, Reading, reading_of, JobMoment, step_of, Session, Choice, choice, StepResult, number_of, of_job, with_moment, moment_by, moment_for, next, after_from, after, IsInOrder}
-use Rattle.b67_law_order_runs.specs.Opening.{Opening, opened_from, opening}
-use Rattle.b67_law_order_runs.proofs.Opens.{opens_in_order}
-use Rattle.b67_law_order_runs.specs.Runs.{RunsAdmitted}
-use Rattle.b67_law_order_runs.proofs.Sessions.{sessions_stay_in_order, opened_admitted}
+use Rattle.b67_law_order.specs.Opening.{Opening, opened_from, opening}
+use Rattle.b67_law_order.proofs.Opens.{opens_in_order}
+use Rattle.b67_law_order.specs.Runs.{RunsAdmitted}
+use Rattle.b67_law_order.proofs.RunSessions.{sessions_stay_in_order, opened_admitted}
 use Rattle.b67_law_sessions.specs.RunFaults.{ChosenFaultsAtNvld}
 use Rattle.b67_law_sessions.specs.RunMade.{MakesOperator}
 use Rattle.b67_law_sessions.specs.Ended.{SteppedAtNvld, RunsEndExactlyAtNvld}

@@ -7,7 +7,7 @@ use Rattle.b67_model.specs.Keyed.{keyed}
 use Rattle.b67_model.specs.Alone.{whole}
 use Rattle.b67_law_sessions.specs.Grown.{Grown, RowsGrow, StepsGrow}
 use Rattle.b67_law_order.proofs.Posts.{Post, post_err}
-use Rattle.b67_law_order_steps.proofs.Identities.{Grown as RowGrown, Keeps, Good, row_good}
+use Rattle.b67_law_order.proofs.Identities.{Grown as RowGrown, Keeps, Good, row_good}
 
 -- a row's law, as what a job's law says
 of_row : {a b : Job} → RowGrown a b → Grown a b

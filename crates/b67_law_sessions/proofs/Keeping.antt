@@ -9,7 +9,7 @@ use Rattle.b67_model.specs.Common.{Answer, Word, Frame, Standing, Task, JobConst
 use Rattle.b67_model.specs.Keyed.{keyed, change_keyed}
 use Rattle.b67_lemmas.specs.Lists.{Has}
 use Rattle.b67_lemmas.proofs.Members.{has_filter, has_map_back, keyed_has}
-use Rattle.b67_law_order_rows.proofs.Kept.{here}
+use Rattle.b67_law_order.proofs.Kept.{here}
 use Rattle.b67_law_sessions.specs.Made.{OperatorMakes, MakesMark, StandsIn}
 use Rattle.b67_law_sessions.proofs.Rows.{each_row_makes_its_words}
 

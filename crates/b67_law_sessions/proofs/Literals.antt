@@ -4,7 +4,7 @@ use Rattle.std.specs.List.{slice_get}
 use Rattle.std.proofs.lemmas.Bool.{cases_Bool, lt-ltb, ltb-false, true≢false, and_from, not-false, or_parts}
 use Rattle.std.proofs.lemmas.Option.{slice_get_within}
 use Rattle.b67_model.specs.Common.{Segment, OperatorContext, Program, holds_of, named_level, has_stray_bits, is_proc}
-use Rattle.b67_law_order_steps.proofs.Places.{level_of_segment}
+use Rattle.b67_law_order.proofs.Places.{level_of_segment}
 
 some_within : (p : Program) (disp : ℕ) → 2 ≤ disp → (o : Option Segment) → slice_get p.segments (disp - 2) ≡ o → holds_of (level_of_segment o) (λ level. true) ≡ true → disp < length p.segments + 2
 some_within p disp low None is e = absurd (true≢false (sym e))

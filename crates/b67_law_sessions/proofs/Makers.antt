@@ -6,8 +6,8 @@ use Rattle.b67_model.specs.Keyed.{keyed}
 use Rattle.b67_lemmas.specs.Lists.{Has}
 use Rattle.b67_lemmas.proofs.Members.{keyed_has}
 use Rattle.b67_model.specs.Common.{Word, Standing, Entered, Task, SessionJob, called, reading_of, step_of, Session, Choice, choice, StepResult, number_of, of_job, with_moment, moment_by, moment_for, next, after_from, after}
-use Rattle.b67_law_order_runs.specs.Opening.{opening}
-use Rattle.b67_law_order_rows.proofs.Kept.{here}
+use Rattle.b67_law_order.specs.Opening.{opening}
+use Rattle.b67_law_order.proofs.Kept.{here}
 use Rattle.b67_law_sessions.specs.Made.{OperatorMakes, MakesMark}
 use Rattle.b67_law_sessions.specs.RunMade.{MakesOperator, context, EarlierStep, RunsMakeTheirWords}
 use Rattle.b67_law_sessions.proofs.Opened.{openings_are_made_by_the_loader}

@@ -10,8 +10,8 @@ use Rattle.b67_model.specs.declared.operators.Code.TheVariants.{Nvld}
 use Rattle.b67_lemmas.specs.Lists.{Has}
 use Rattle.b67_lemmas.proofs.Members.{all_in, keyed_has}
 use Rattle.b67_model.specs.Common.{Task, JobConstants, Job, Reading, operator_at, Program, At, origin, listing, has_stray_bits, IsAdmitted, is_proc, row, reading_of, step_by, step, IsStart, TaskInOrder, TasksInOrder}
-use Rattle.b67_law_order_rows.proofs.Kept.{here}
-use Rattle.b67_law_order_steps.proofs.Admitted.{listed, Sound, admitted_sound, Entered, entered}
+use Rattle.b67_law_order.proofs.Kept.{here}
+use Rattle.b67_law_order.proofs.Admitted.{listed, Sound, admitted_sound, Entered, entered}
 use Rattle.b67_law_sessions.proofs.FaultRows.{invalid_operator_is_nvld}
 use Rattle.b67_law_sessions.specs.RunFaults.{FaultsAtNvld, InvalidOperatorExactlyAtNvld}
 use Rattle.b67_law_sessions.proofs.Literals.{literal_passes}

@@ -4,7 +4,7 @@ use Rattle.b67_lemmas.specs.Lists.{Has}
 use Rattle.b67_lemmas.proofs.Members.{has_append_cases, has_append_left, has_append_right, has_reverse, has_reverse_back}
 use Rattle.b67_model.specs.Words as Words
 use Rattle.b67_model.specs.Common.{Word, Operand, Name, Ref, Row, Element, Original, Proc, Intrinsic, Frame, Task, Segment, SessionJob, Program, segment_words, originals, opened}
-use Rattle.b67_law_order_runs.specs.Opening.{Opening, opened_from}
+use Rattle.b67_law_order.specs.Opening.{Opening, opened_from}
 use Rattle.b67_law_sessions.specs.Opened.{LoaderMakes, MadeByLoader, OpenedByLoader, OpeningsMadeByLoader}
 
 -- a number of these

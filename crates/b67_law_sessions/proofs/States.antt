@@ -5,11 +5,11 @@ use Rattle.b67_model.specs.Keyed.{keyed}
 use Rattle.b67_lemmas.specs.Lists.{Has}
 use Rattle.b67_lemmas.proofs.Members.{all_in, keyed_falls}
 use Rattle.b67_model.specs.Common.{Task, SessionJob, Session, StepResult, number_of, next, after_from, after, IsStart, JobInOrder, IsInOrder}
-use Rattle.b67_law_order_runs.specs.Opening.{opening}
-use Rattle.b67_law_order_runs.proofs.Opens.{opens_in_order}
-use Rattle.b67_law_order_runs.specs.Runs.{RunsAdmitted}
-use Rattle.b67_law_order_runs.proofs.Chosen.{chosen, keyed_numbered}
-use Rattle.b67_law_order_runs.proofs.Sessions.{sessions_stay_in_order, opened_admitted}
+use Rattle.b67_law_order.specs.Opening.{opening}
+use Rattle.b67_law_order.proofs.Opens.{opens_in_order}
+use Rattle.b67_law_order.specs.Runs.{RunsAdmitted}
+use Rattle.b67_law_order.proofs.Chosen.{chosen, keyed_numbered}
+use Rattle.b67_law_order.proofs.RunSessions.{sessions_stay_in_order, opened_admitted}
 use Rattle.b67_law_sessions.specs.RunFaults.{FaultsAtNvld, StateFaultsAtNvld, SessionsFaultExactlyAtNvld, RunsFaultExactlyAtNvld}
 use Rattle.b67_law_sessions.proofs.Nvld.{task_faults}
 

@@ -7,7 +7,7 @@ use Rattle.b67_model.specs.declared.operators.Code.TheVariants.{Nvld}
 use Rattle.b67_model.specs.Keyed.{keyed}
 use Rattle.b67_lemmas.specs.Lists.{Has}
 use Rattle.b67_model.specs.Common.{SessionJob, Switch, Session, number_of, after}
-use Rattle.b67_law_order_runs.specs.Opening.{Opening, DeckWithin, opening}
+use Rattle.b67_law_order.specs.Opening.{Opening, DeckWithin, opening}
 use Rattle.b67_law_sessions.specs.RunMade.{MakesOperator}
 
 -- one of the first n steps of a run was that of the task, at NVLD

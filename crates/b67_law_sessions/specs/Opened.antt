@@ -3,7 +3,7 @@ use Rattle.std.specs.Prelude.{◌≡◌, ◌↔◌, ℕ, ◌<◌, ◌≤◌, Lis
 use Rattle.b67_lemmas.specs.Lists.{Has}
 use Rattle.b67_model.specs.Words as Words
 use Rattle.b67_model.specs.Common.{Word, Operand, Name, Ref, Row, Element, Original, Proc, Intrinsic, Frame, Entered, Task, SessionJob, Program, Switch}
-use Rattle.b67_law_order_runs.specs.Opening.{Opening, opening}
+use Rattle.b67_law_order.specs.Opening.{Opening, opening}
 
 -- the words that the loader makes of a program: one for each segment, and an original for each data row
 abbrev pub LoaderMakes : Program → Word → Type 0

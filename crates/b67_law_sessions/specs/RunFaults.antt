@@ -9,8 +9,8 @@ use Rattle.b67_model.specs.declared.operators.Code.TheVariants.{Nvld}
 use Rattle.b67_model.specs.Keyed.{keyed}
 use Rattle.b67_lemmas.specs.Lists.{Has}
 use Rattle.b67_model.specs.Common.{Ready, Task, JobConstants, Job, SessionJob, Program, IsAdmitted, reading_of, step, Switch, Session, Choice, choice, number_of, after, IsStart, TasksInOrder, IsInOrder}
-use Rattle.b67_law_order_runs.specs.Opening.{Opening, DeckWithin, opening}
-use Rattle.b67_law_order_runs.specs.Runs.{RunsAdmitted}
+use Rattle.b67_law_order.specs.Opening.{Opening, DeckWithin, opening}
+use Rattle.b67_law_order.specs.Runs.{RunsAdmitted}
 
 -- an operator stands at the task's place, and the task's step faults INVALID OPERATOR exactly where it is NVLD
 pub record FaultsAtNvld (constants : JobConstants) (job : Job) (task : Task) : Type 0 where

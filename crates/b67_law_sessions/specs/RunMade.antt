@@ -5,7 +5,7 @@ use Rattle.b67_model.specs.declared.operators.Op.{Op}
 use Rattle.b67_model.specs.Keyed.{keyed}
 use Rattle.b67_lemmas.specs.Lists.{Has}
 use Rattle.b67_model.specs.Common.{Word, Frame, Entered, Task, SessionJob, OperatorContext, called, reading_of, Switch, Session, Choice, choice, number_of, after}
-use Rattle.b67_law_order_runs.specs.Opening.{Opening, opening}
+use Rattle.b67_law_order.specs.Opening.{Opening, opening}
 use Rattle.b67_law_sessions.specs.Made.{OperatorMakes, MakesMark}
 
 -- a task of a job makes the next step of a session, and stands at this operator

@@ -8,8 +8,8 @@ use Rattle.b67_lemmas.proofs.Members.{all_in, keyed_falls}
 use Rattle.b67_model.specs.Common.{Ready, Task, SessionJob, Who, Session, Choice, is_same, is_before, ready_of, ready, afresh, switched, first, choice_by, choice, number_of, IsSegment, JobInOrder, IsInOrderButPlaces}
 use Rattle.b67_model.specs.Keyed.{keyed}
 use Rattle.b67_model.specs.Schedule.{goes_on}
-use Rattle.b67_law_order_steps.specs.Weaker.{AllOtherNumbers}
-use Rattle.b67_law_order_runs.proofs.Chosen.{chosen, keyed_numbered}
+use Rattle.b67_law_order.specs.Weaker.{AllOtherNumbers}
+use Rattle.b67_law_order.proofs.Chosen.{chosen, keyed_numbered}
 use Rattle.b67_law_turns.specs.Turns.{IsNext, ChoiceIgnoresNumbers, ChosenTasksAreReady}
 
 -- ---- by who is ready

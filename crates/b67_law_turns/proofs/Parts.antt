@@ -7,8 +7,8 @@ use Rattle.b67_lemmas.proofs.Members.{all_in, keyed_has, length_change, total_ch
 use Rattle.b67_lemmas.proofs.Keyed.{all_change, change_is}
 use Rattle.b67_lemmas.proofs.Sums.{sum_total}
 use Rattle.b67_model.specs.Common.{Task, JobProgress, SessionJob, Stepped, JobMoment, moment_with, Session, Choice, number_of, IsSegment, JobInOrder, IsInOrderButPlaces}
-use Rattle.b67_law_order_runs.proofs.Chosen.{chosen}
-use Rattle.b67_law_order_runs.proofs.Totals.{others_fifteen, peak_low_of, peak_high_of}
+use Rattle.b67_law_order.proofs.Chosen.{chosen}
+use Rattle.b67_law_order.proofs.Totals.{others_fifteen, peak_low_of, peak_high_of}
 use Rattle.b67_law_order.proofs.Numbered.{numbered_change, made_of, tasks_of}
 use Rattle.b67_law_turns.specs.Orders.{JobInOrderButLimit, IsInOrderButLimit, SettlesInOrder}
 use Rattle.b67_law_turns.specs.Turns.{part_of, IsNext, FirstPartsKeepOrder}

@@ -9,7 +9,7 @@ use Rattle.b67_lemmas.specs.Lists.{Has}
 use Rattle.b67_lemmas.proofs.Members.{filter_none, length_filter}
 use Rattle.b67_model.specs.Common.{Task, JobConstants, Job, JobProgress, Line, Goes, Settled, Stepped, among, released, all_with, deepest_first, is_ready, ends_all, ends_each_if, ends_task, ends_with, deadlocked, unsettled, Starts, IsSegment, TasksInOrder, JobInOrder}
 use Rattle.b67_model.specs.Endings.{goes_on}
-use Rattle.b67_law_order_steps.proofs.Deaths.{ends_good, ends_task_good, all_closed, all_among}
+use Rattle.b67_law_order.proofs.Deaths.{ends_good, ends_task_good, all_closed, all_among}
 use Rattle.b67_law_turns.specs.Orders.{SettlesInOrder}
 
 pub each_good : (P : Starts) (constants : JobConstants) (test : Bool) (ending : Ending) (z : Settled) → TasksInOrder P constants z.job → TasksInOrder P constants (ends_each_if test ending z).job

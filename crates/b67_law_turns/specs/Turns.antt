@@ -2,7 +2,7 @@
 use Rattle.std.specs.Prelude.{◌≡◌, ℕ, List, map, Option, Some, None}
 use Rattle.b67_model.specs.Common.{JobMoment, moment_with, Stepped, IsInOrderButPlaces, Line, RunLine, StepResult, with_moment, of_job, number_of, Session, Choice, choice, Ready, Task, SessionJob}
 use Rattle.b67_model.specs.Keyed.{keyed}
-use Rattle.b67_law_order_steps.specs.Weaker.{AllOtherNumbers}
+use Rattle.b67_law_order.specs.Weaker.{AllOtherNumbers}
 use Rattle.b67_session_lines.specs.Moments.{last_part}
 use Rattle.b67_law_turns.specs.Orders.{IsInOrderButLimit, SettlesInOrder}
 

@@ -8,7 +8,7 @@ use Rattle.b67_model.specs.Words as Words
 use Rattle.b67_model.specs.Common.{Word, Operand, Name, Ref, Row, Element, Original, Proc, Intrinsic, Frame, Array, Task, JobConstants, Job, SessionJob, OperatorContext, Reading, Line, Goes, row, reading_of, step_by, step, Starts, IsSegment, Known, known_of, WordInOrder, EntryInOrder, FramesInOrder, TaskInOrder, TasksInOrder, outer_of}
 use Rattle.b67_layout.specs.Orders.{JobInOrderButCounts}
 use Rattle.b67_law_order.proofs.Posts.{Post, post_err, post_at}
-use Rattle.b67_law_order_rows.proofs.Kept.{here}
+use Rattle.b67_law_order.proofs.Kept.{here}
 use Rattle.b67_layout_step.specs.Keeping.{RowsKeepArrays, StepsTouchArrays}
 use Rattle.b67_layout_step.proofs.Words.{Names, AllName, FramesName, Holds}
 use Rattle.b67_layout_step.proofs.Rows.{Stands, stands_in, Keeps, Source, row_good}

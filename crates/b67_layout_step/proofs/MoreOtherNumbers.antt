@@ -3,8 +3,8 @@ use Rattle.std.proofs.Common.{◌≡◌, ℕ, ◌==◌, List, [], ◌∷◌, Opt
 use Rattle.std.proofs.lemmas.Bool.{cases_Bool}
 use Rattle.b67_model.specs.Common.{Task, SessionJob, number_of}
 use Rattle.b67_model.specs.Keyed.{keyed}
-use Rattle.b67_law_order_steps.specs.Weaker.{OtherNumbers, AllOtherNumbers}
-use Rattle.b67_law_order_steps.proofs.Sessions.{recoded_count}
+use Rattle.b67_law_order.specs.Weaker.{OtherNumbers, AllOtherNumbers}
+use Rattle.b67_law_order.proofs.Sessions.{recoded_count}
 use Rattle.b67_layout.specs.Common.{Placement, slot_of, IsRunning}
 use Rattle.b67_layout.proofs.Alike.{Alike, AllAlike}
 

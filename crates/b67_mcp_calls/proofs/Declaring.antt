@@ -21,8 +21,8 @@ use Rattle.b67_stack.proofs.Helds.{held-same}
 use Rattle.b67_layout.specs.Common.{Placement, slot_of, spot_in, outer_spots, spots, shape, stack_of_task, slot_at, code_objects, array_object, objects_of, machine_view, RepresentsTask, IsRunning, ShowsDisplay, SessionHolds, RepresentsSession, with_job, cells}
 use Rattle.b67_layout.proofs.Common.{with_course, member-same, row_of, Replaces, change-has, change-kept, SessionHoldsBut-after, for_running, activations-with, seen-with, critical-with, Shows-same, spots-with, of_objects}
 use Rattle.b67_layout.proofs.Replaces.{outer_spots-after}
-use Rattle.b67_layout_leave.proofs.Nowhere.{SameArray, SameArrays, activations-same}
-use Rattle.b67_layout_leave.proofs.Slots.{OthersSame, stack-after, slots-after}
+use Rattle.b67_layout_records.proofs.Nowhere.{SameArray, SameArrays, activations-same}
+use Rattle.b67_layout_records.proofs.Slots.{OthersSame, stack-after, slots-after}
 use Rattle.b67_exec_cells.proofs.Replaced.{cells-are}
 use Rattle.b67_mcp_calls.specs.Declaring.{without}
 use Rattle.b67_exec_calls.proofs.Pushed.{stack, on_slot, registers, room}

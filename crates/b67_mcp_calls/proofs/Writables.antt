@@ -19,7 +19,7 @@ use Rattle.b67_layout.specs.Common.{IsInOrderButCounts, Placement, IsRunning, Re
 use Rattle.b67_exec_cells.specs.Elements.{HasElement, original_desc}
 use Rattle.b67_exec_cells.specs.Tops.{GivesTwo}
 use Rattle.b67_exec_cells.proofs.Arrays.{array_is, absent, present}
-use Rattle.b67_exec_operands.proofs.Rows.{operand_seen}
+use Rattle.b67_exec_cells.proofs.Rows.{operand_seen}
 use Rattle.b67_fetch.specs.Fetches.{IsFollowed}
 use Rattle.b67_fetch.specs.Indexes.{FindsArray}
 use Rattle.b67_fetch.proofs.Values.{TopFollowed}

@@ -14,7 +14,7 @@ use Rattle.b67_model.specs.Common.{Answer, Word, Operand, Frame, Condition, Read
 use Rattle.b67_model.specs.Keyed.{keyed, change_keyed}
 use Rattle.b67_law_order.proofs.Looks.{found_frame}
 use Rattle.b67_law_order.proofs.Maps.{HoldsOperand, cell_stored, map_good, frames_refl}
-use Rattle.b67_law_order_rows.proofs.Stores.{operand_is}
+use Rattle.b67_law_order.proofs.Stores.{operand_is}
 use Rattle.b67_layout.specs.Common.{JobInOrderButCounts, IsInOrderButCounts, here, with_job}
 use Rattle.b67_layout.proofs.LeftSettles.{numbered_course}
 use Rattle.b67_mcp_waits.proofs.Waking.{wake_job}

@@ -1,9 +1,8 @@
 -- The core of the test of spans, by its words.
 use Rattle.std.proofs.Common.{◌≡◌, ◌≢◌, ℕ, zero, suc, ◌+◌, ◌<◌, ◌≤◌, List, [], ◌∷◌, length, replicate, Option, Some, None, refl, sym, ◌∙◌, ap, arith, slice_set, subst}
 use Rattle.std.specs.List.{slice_get, AllByRecursion}
-use Rattle.std.proofs.lemmas.Option.{same_Some, none-some}
+use Rattle.std.proofs.lemmas.Option.{same_Some, none-some, slice_get-get_or}
 use Rattle.std.proofs.lemmas.List.{get_or-replicate}
-use Rattle.std.proofs.lemmas.Option.{slice_get-get_or}
 use Rattle.b67_word.specs.Tagged.{Tagged, word}
 use Rattle.b67_core.proofs.Writes.{slice_get-set_other}
 use Rattle.b67_ctl.specs.declared.registers.Regs.{Regs}

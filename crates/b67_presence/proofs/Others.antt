@@ -6,8 +6,8 @@ use Rattle.std.proofs.lemmas.List.Sums.{sum_by-cons}
 use Rattle.b67_lemmas.specs.Lists.{Has}
 use Rattle.b67_model.specs.Common.{Array, Segment, Condition, Ready, Awaits, WaitsAt, Task, SessionJob, fixed, code_of, live_tasks, Session, sectors_for, sectors_of, sectors, IsSegment, SegmentInOrder, ArrayInOrder}
 use Rattle.b67_layout.specs.Common.{JobInOrderButCounts, IsInOrderButCounts, Placement, slot_of, spot_in, address_of, WaitsAtCell, TaskRow, JobRow, shown, critical_disp, TaskShows, JobShows, JobsShow}
-use Rattle.b67_law_order_steps.specs.Weaker.{Renumbers, Recoded, Refilled, OtherNumbers, AllOtherNumbers}
-use Rattle.b67_law_order_steps.proofs.Sessions.{recoded_count}
+use Rattle.b67_law_order.specs.Weaker.{Renumbers, Recoded, Refilled, OtherNumbers, AllOtherNumbers}
+use Rattle.b67_law_order.proofs.Sessions.{recoded_count}
 use Rattle.b67_stack.specs.Stacks.{StackPlace}
 use Rattle.b67_task_need.specs.Needing.{array_area, need_with}
 use Rattle.b67_layout.proofs.Alike.{outer_same}

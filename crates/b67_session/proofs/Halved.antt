@@ -34,8 +34,8 @@ use Rattle.b67_session_attempt.specs.Attempts.{StillStands}
 use Rattle.b67_session_ends.specs.Closing.{StandsChosen}
 use Rattle.b67_session_ends.specs.Counts.{IsCounted}
 use Rattle.b67_session_ends.specs.Ends.{StandsFor, StandsBetween}
-use Rattle.b67_session_waits.specs.Holds.{holding, HoldsSo}
-use Rattle.b67_session_waits.proofs.Waits.{waits_settle}
+use Rattle.b67_session_ends.specs.Holds.{holding, HoldsSo}
+use Rattle.b67_session_ends.proofs.Waits.{waits_settle}
 use Rattle.b67_session.specs.Slices.{Prints, NextFits}
 use Rattle.b67_session.proofs.Between.{IsHalfMade}
 use Rattle.b67_session.proofs.Lively.{Stays, rows_stay}

@@ -17,9 +17,9 @@ use Rattle.b67_model.specs.Common.{Answer, ◌>>=◌, needs, needs_level, Word, 
 use Rattle.b67_model.specs.Words.{whole}
 use Rattle.b67_model.specs.Keyed.{keyed, change_keyed}
 use Rattle.b67_law_order.proofs.Posts.{Post, post_ok, post_err, post_any, post_then, post_if, post_at}
-use Rattle.b67_law_order_steps.specs.Profiles.{Profile, profile, profiles, IsKnown}
-use Rattle.b67_law_order_steps.proofs.Identities as Identities
-use Rattle.b67_law_order_steps.proofs.Lemmas.{rows_keep}
+use Rattle.b67_law_order.specs.Profiles.{Profile, profile, profiles, IsKnown}
+use Rattle.b67_law_order.proofs.Identities as Identities
+use Rattle.b67_law_order.proofs.Lemmas.{rows_keep}
 use Rattle.b67_layout.specs.Meets.{here}
 
 -- no fewer tasks live, and one is ready

@@ -9,8 +9,8 @@ use Rattle.b67_word.specs.declared.faults.Ending.TheVariants.{Deadlock}
 use Rattle.b67_model.specs.Keyed.{keyed}
 use Rattle.b67_law_order.specs.Ends.{StepsFrom}
 use Rattle.b67_law_order.proofs.Numbered.{tasks_of}
-use Rattle.b67_law_order_rows.specs.Keeping.{KeepsOrder}
-use Rattle.b67_law_order_steps.proofs.Segments.{rows_keep_order_but_places}
+use Rattle.b67_law_order.specs.Keeping.{KeepsOrder}
+use Rattle.b67_law_order.proofs.Segments.{rows_keep_order_but_places}
 use Rattle.b67_law_turns.specs.Orders.{IsInOrderButLimit}
 use Rattle.b67_law_turns.specs.Turns.{IsNext, part_of}
 use Rattle.b67_law_turns.proofs.Parts.{first_parts_keep_order}

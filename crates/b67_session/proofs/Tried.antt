@@ -23,7 +23,7 @@ use Rattle.b67_session_attempt.specs.declared.attempts.Attempt.TheVariants as at
 use Rattle.b67_session_ends.specs.Closing.{StandsChosen, ChoseSome, Closes}
 use Rattle.b67_session_ends.specs.Counts.{IsCounted}
 use Rattle.b67_session_ends.specs.Ends.{StandsBetween, KeepsCounts}
-use Rattle.b67_session_waits.specs.Holds.{holding, HoldsSo, HoldsSome}
+use Rattle.b67_session_ends.specs.Holds.{holding, HoldsSo, HoldsSome}
 use Rattle.b67_session.specs.Slices.{StandsAt, StopsWithRoom, IfPresent}
 use Rattle.b67_session.specs.Steps.{StopOf, EndsStep, Steps}
 use Rattle.b67_session.proofs.Between.{IsHalfMade, finished}

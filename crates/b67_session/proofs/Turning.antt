@@ -19,8 +19,8 @@ use Rattle.b67_session_lines.specs.Moments.{has_tasks, is_at_limit, last_part, l
 use Rattle.b67_session_lines.proofs.Joins.{steps-have-parts}
 use Rattle.b67_session_lines.proofs.Statuses.{after-add}
 use Rattle.b67_law_order.proofs.Numbered.{numbered_low, tasks_of}
-use Rattle.b67_law_order_steps.specs.Profiles.{Profile, profile, profiles}
-use Rattle.b67_law_order_steps.proofs.Lemmas.{rows_keep}
+use Rattle.b67_law_order.specs.Profiles.{Profile, profile, profiles}
+use Rattle.b67_law_order.proofs.Lemmas.{rows_keep}
 use Rattle.b67_law_turns.specs.Orders.{IsInOrderButLimit}
 use Rattle.b67_law_turns.specs.Turns.{IsNext, OrderAfter}
 use Rattle.b67_law_turns.proofs.Halves.{first_by}

@@ -20,9 +20,8 @@ use crate::turns::give_turn;
 use b67_backing::Backing;
 use b67_io::Sink;
 use b67_session_attempt::{Attempt, Stop, attempt};
-use b67_session_ends::{close, count_one, finish};
+use b67_session_ends::{close, count_one, finish, hold};
 use b67_session_schedule::choose;
-use b67_session_waits::hold;
 use b67_task_tables::Machine;
 
 /// The last part of a step whose operator is counted: the lines of LIMIT, if its job stands at its limit.

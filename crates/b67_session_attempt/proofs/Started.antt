@@ -12,8 +12,8 @@ use Rattle.b67_model.specs.Keyed.{keyed}
 use Rattle.b67_law_order.proofs.Posts.{Post, post_ok, post_err, post_any, post_then, post_if, post_more, post_is}
 use Rattle.b67_layout.specs.Placement.{Placement}
 use Rattle.b67_layout.specs.Session.{IsRunning}
-use Rattle.b67_law_order_steps.specs.Profiles.{Profile, profile, profiles, IsKnown}
-use Rattle.b67_law_order_steps.proofs.Lemmas.{rows_keep}
+use Rattle.b67_law_order.specs.Profiles.{Profile, profile, profiles, IsKnown}
+use Rattle.b67_law_order.proofs.Lemmas.{rows_keep}
 use Rattle.b67_lemmas.proofs.Members.{length_change}
 
 -- where an array is touched there are as many tasks

@@ -3,7 +3,7 @@ use Rattle.std.specs.Prelude.{◌≡◌, ◌≢◌, ℕ, ◌<◌, ◌≤◌, ◌
 use Rattle.b67_model.specs.Common.{Ready, Task, SessionJob, sectors, touched_of, need, step, Session}
 use Rattle.b67_layout.specs.Common.{IsInOrderButCounts, Placement, IsRunning, area_held, with_job}
 use Rattle.b67_stack.specs.Represents.{Storage}
-use Rattle.b67_law_order_steps.specs.Weaker.{AllOtherNumbers}
+use Rattle.b67_law_order.specs.Weaker.{AllOtherNumbers}
 use Rattle.b67_presence.specs.Bringing.{StandsOver}
 use Rattle.b67_exec_cells.specs.Running.{code_area}
 use Rattle.b67_task_tables.specs.declared.tables.Machine.{Machine}

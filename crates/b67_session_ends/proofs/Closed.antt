@@ -10,7 +10,7 @@ use Rattle.b67_lemmas.proofs.Sums.{sum_total}
 use Rattle.b67_model.specs.Common.{JobMoment, moment_with, Task, Job, SessionJob, Settled, Stepped, is_ready, deadlocked, ends_each_if, ends_task, ends_with, unsettled, IsSegment, TasksInOrder, run_text, number_of, Session, Choice}
 use Rattle.b67_model.specs.Keyed.{keyed, change_keyed}
 use Rattle.b67_law_order.proofs.Numbered.{numbered_change}
-use Rattle.b67_law_order_steps.proofs.Deaths.{ends_task_good}
+use Rattle.b67_law_order.proofs.Deaths.{ends_task_good}
 use Rattle.b67_law_turns.specs.Turns.{part_of}
 use Rattle.b67_law_turns.proofs.Settled.{ends_fewer}
 use Rattle.b67_stack.specs.Represents.{Storage}

@@ -9,3 +9,7 @@ pub mod Stuck
 pub mod Searches
 pub mod Deadlocks
 pub mod Closed
+pub mod Waits
+pub mod Shown
+pub mod Held
+pub mod HeldStuck

@@ -4,3 +4,4 @@ pub mod Counts
 pub mod Ends
 pub mod Machines
 pub mod Closing
+pub mod Holds

@@ -1,4 +1,4 @@
-//! The end of a step: its operator is counted, the lines of endings are printed, and tasks end.
+//! The end of a step: its operator is counted, the lines of endings are printed, and tasks wait or end.
 #![tactic(auto)]
 
 mod closes;
@@ -6,7 +6,9 @@ mod closing;
 mod counts;
 mod deaths;
 mod ends;
+mod holds;
 mod limits;
+mod states;
 mod texts;
 
 pub use closes::{close, end_stuck};
@@ -14,5 +16,6 @@ pub use closing::goes_on;
 pub use counts::count_one;
 pub use deaths::{all_ended, end_job};
 pub use ends::{end_by_limit, finish};
+pub use holds::hold;
 pub use limits::is_at_limit;
 pub use texts::put_endings;

@@ -8,7 +8,7 @@ use Rattle.std.proofs.lemmas.Option.{same_Some}
 use Rattle.std.proofs.Math.ListN.{length-set}
 use Rattle.b67_model.specs.Common.{Word, Standing, Frame, Task, height, words_of, with_top_cells, below_top, top, with_cell_of, from_frame}
 use Rattle.b67_model.specs.Keyed.{keyed, change_keyed}
-use Rattle.b67_law_order_steps.specs.Profiles.{Profile, profile}
+use Rattle.b67_law_order.specs.Profiles.{Profile, profile}
 
 -- the identity of each frame, and how high its mark stands
 abbrev pub At : Type 0

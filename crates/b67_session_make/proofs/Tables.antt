@@ -8,7 +8,7 @@ use Rattle.b67_lemmas.proofs.Members.{falls_same, keyed_has}
 use Rattle.b67_model.specs.Common.{Frame, Condition, Ready, Awaits, WaitsAt, Task, Job, SessionJob, number_of, Session, from_frame, frames_of_task, critical_of}
 use Rattle.b67_model.specs.Keyed.{keyed, change_keyed}
 use Rattle.b67_layout.specs.Common.{IsInOrderButCounts, Placement, slot_of, spot_in, base_spot, outer_spots, spots, address_of, WaitsAtCell, TaskRow, JobRow, JobCounts, shown, parent_slot, critical_disp, TaskShows, JobShows, JobsShow, TablesShow, IsRunning, with_job}
-use Rattle.b67_law_order_steps.specs.Profiles.{Profile, profile}
+use Rattle.b67_law_order.specs.Profiles.{Profile, profile}
 use Rattle.b67_stack.specs.Stacks.{StackPlace}
 use Rattle.b67_layout.proofs.Common.{running_in_order, change-has, change-kept, IsDependedOn}
 use Rattle.b67_session_make.proofs.Places.{At, places, IsAlike, Same, AllSame}

@@ -8,7 +8,7 @@ use Rattle.b67_codefile.specs.declared.file.Codefile.{Codefile}
 use Rattle.b67_codefile.specs.Spelling.{IsWithin}
 use Rattle.b67_codefile.specs.Meaning.{program_of}
 use Rattle.b67_model.specs.Common.{IsAdmitted, Program, Session, SwitchesRise}
-use Rattle.b67_law_order_runs.specs.Opening.{Opening, opening}
+use Rattle.b67_law_order.specs.Opening.{Opening, opening}
 use Rattle.b67_task_tables.specs.declared.tables.JobRow.{JobRow}
 use Rattle.b67_task_tables.specs.Tables.{switch_of}
 pub use Rattle.b67_task_tables.specs.Tables.{IsCountable, row_names}

@@ -3,7 +3,7 @@
 use Rattle.std.specs.Prelude.{ℕ, ◌+◌, ◌-◌, List, [], ◌∷◌, ◌++◌, length, map, take, Option, Some, None, slice_get}
 use Rattle.b67_lemmas.specs.Lists.{total}
 use Rattle.b67_model.specs.Program.{Program}
-use Rattle.b67_law_order_runs.specs.Opening.{Opening}
+use Rattle.b67_law_order.specs.Opening.{Opening}
 use Rattle.b67_stack.specs.Common.{Entered, Activation, PagedObject}
 use Rattle.b67_layout.specs.Placement.{Slotted, Placement}
 use Rattle.b67_load.specs.Objects.{entries_of, objects_of}

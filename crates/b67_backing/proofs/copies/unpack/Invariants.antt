@@ -1,5 +1,4 @@
-use Rattle.std.proofs.Common.{◌≡◌, ℕ, ◌<◌, ◌≤◌, ◌+◌, ◌⊎◌, length}
-use Rattle.std.proofs.Common.{option_map}
+use Rattle.std.proofs.Common.{◌≡◌, ℕ, ◌<◌, ◌≤◌, ◌+◌, ◌⊎◌, length, option_map}
 use Rattle.std.specs.List.{slice_get}
 use Rattle.b67_backing.specs.Held.{under}
 use Rattle.b67_backing.proofs.copies.unpack.Given as goal

@@ -1,8 +1,7 @@
-use Rattle.std.proofs.Common.{◌+◌, ◌-◌, arith, refl, sym, subst, List}
+use Rattle.std.proofs.Common.{◌+◌, ◌-◌, arith, refl, sym, subst, List, ◌∷◌, None}
 use Rattle.b67_word.specs.Tagged.{Tagged}
 use Rattle.b67_model.specs.Steps.{leaves_cells}
 use Rattle.b67_layout.specs.Meets.{here, IsMade}
-use Rattle.std.proofs.Common.{◌∷◌, None}
 use Rattle.b67_exec_cells.proofs.Put.{room, replaced, overflows}
 use Rattle.b67_exec_cells.proofs.cells.replace_cells.Goals as goal
 

@@ -1,5 +1,5 @@
 use Rattle.std.proofs.Common.{sym, ◌∙◌}
-use Rattle.b67_exec_operands.proofs.Rows.{operand_seen}
+use Rattle.b67_exec_cells.proofs.Rows.{operand_seen}
 use Rattle.b67_fetch.proofs.Items.{two_followed, above, below, fewer}
 use Rattle.b67_fetch.proofs.indexing.top_item.Goals as goal
 

@@ -4,7 +4,7 @@ use Rattle.b67_model.specs.Environment.{frame_at}
 use Rattle.b67_model.specs.Rows as rows
 use Rattle.b67_layout.specs.Meets.{here}
 use Rattle.b67_refer.proofs.Chains.{level_is, level_small}
-use Rattle.b67_exec_operands.proofs.Rows.{top_missing}
+use Rattle.b67_exec_cells.proofs.Rows.{top_missing}
 use Rattle.b67_fetch.proofs.Values.{here_scene, here_shown, top_followed}
 use Rattle.b67_fetch.proofs.StuffedWords.{stff_refused, stff_stays, stff_fault, level_low, frame_named, stff_done}
 use Rattle.b67_fetch.proofs.stuffing.stff.Goals as goal

@@ -1,0 +1,14 @@
+use Rattle.std.proofs.Common.{[], refl, arith}
+use Rattle.b67_model.specs.Words.{Operand}
+use Rattle.b67_layout.specs.Tops.{cells}
+use Rattle.b67_exec_cells.proofs.Rows.{marked}
+use Rattle.b67_exec_cells.proofs.pushes.literal.Goals as goal
+
+pub replace_cells-requires-clause-cells : goal.replace_cells-requires-clause-cells
+replace_cells-requires-clause-cells c = marked c.args.cpu.now c.requires.runs
+
+pub returns : goal.returns
+returns c = record {
+  row = λ x plan s m t ordered h runs.
+      c.replace_cells.ensures.row x plan s m t ordered h runs [] (cells t) (Operand c.args.bits) refl refl tt tt (c.of.ensures, λ z. omega (arith, z));
+}

@@ -1,0 +1,59 @@
+-- What any code words keep.
+use Rattle.std.proofs.Common.{◌≡◌, ℕ, ◌+◌, ◌-◌, ◌/◌, ◌%◌, ◌^◌, ◌<◌, true, eqb, ltb, ◌&&◌, length, Option, Some, None, Ok, refl, subst, arith}
+use Rattle.std.specs.List.{AllByRecursion, slice_get}
+use Rattle.std.proofs.lemmas.Bool.{ltb-true, and_parts}
+use Rattle.b67_model.specs.declared.operators.Op.{Op}
+use Rattle.b67_model.specs.declared.operators.Op.TheVariants.{Valc, Namc, Lt8, Lt16, Lt48, Mpcw, Brun, Brtr, Brfl, Bset, Brst, Isol, Insr, Plain}
+use Rattle.b67_model.specs.State as State
+use Rattle.b67_model.specs.Common.{Task, JobConstants, Job, OperatorContext, code_of, reading_of, is_proc, proc_of, IsSegment, SegmentInOrder, SettingInOrder, TaskInOrder}
+use Rattle.b67_law_order.specs.Parameters.{StartsAt, ParametersFit}
+use Rattle.b67_law_order.specs.Laws.{RowsKeepOrderButPlaces}
+use Rattle.b67_law_order.proofs.Readings.{OpBits, ReadFits, operator_fits}
+use Rattle.b67_law_order.proofs.Kept.{here}
+use Rattle.b67_law_order.proofs.Whole.{step_good}
+use Rattle.b67_lemmas.proofs.Members.{all_in, has_get, keyed_has}
+
+-- the code of a segment has its bits
+code_fits : (constants : JobConstants) (segment : ℕ) → SettingInOrder constants → (length (code_of constants segment) < 2 ^ 13) × AllByRecursion (λ (w : ℕ). w < 2 ^ 48) (code_of constants segment)
+code_fits constants segment g = by (slice_get constants.segments (segment - 1)) refl where
+  by : (o : Option State.Segment) → slice_get constants.segments (segment - 1) ≡ o → (length (code_of constants segment) < 2 ^ 13) × AllByRecursion (λ (w : ℕ). w < 2 ^ 48) (code_of constants segment)
+  by None e = rw e (omega arith, tt)
+  by (Some s) e = let fits = all_in SegmentInOrder constants.segments s g.segments (has_get constants.segments (segment - 1) s e) in rw e (fits.length_high, fits.words)
+
+pub reading_fits : (constants : JobConstants) (task : Task) → SettingInOrder constants → ReadFits (reading_of constants task)
+reading_fits constants task g = let code = code_fits constants task.segment g in operator_fits (code_of constants task.segment) task.place code.0 code.1
+
+-- a literal's fields
+pub proc_fits : (h : OperatorContext) (bits : ℕ) → is_proc h bits ≡ true → StartsAt (IsSegment h.constants) (proc_of bits)
+proc_fits h bits test =
+    let one = and_parts (ltb bits (2 ^ 36) && (eqb ((bits / 2 ^ 19) % 2) 0) && ltb 1 (bits % 2 ^ 14)) (ltb (bits % 2 ^ 14) (length h.constants.segments + 2)) test in
+    let two = and_parts (ltb bits (2 ^ 36) && (eqb ((bits / 2 ^ 19) % 2) 0)) (ltb 1 (bits % 2 ^ 14)) one.0 in
+    let low = ltb-true 1 (bits % 2 ^ 14) two.1 in
+    let high = ltb-true (bits % 2 ^ 14) (length h.constants.segments + 2) one.1 in
+    record { from_one = omega (arith, low); within = omega (arith, high, low); word_fits = omega arith; syllable_fits = omega arith }
+
+pub parameters_fit : (h : OperatorContext) (level : ℕ) (op : Op) → IsSegment h.constants h.task.segment level h.at → OpBits op → ParametersFit (IsSegment h.constants) h op
+parameters_fit h level (Valc couple) at bits = bits
+parameters_fit h level (Namc couple) at bits = bits
+parameters_fit h level (Lt8 n) at bits = bits
+parameters_fit h level (Lt16 n) at bits = bits
+parameters_fit h level (Lt48 n) at bits = bits
+parameters_fit h level (Mpcw n) at bits = proc_fits h n
+parameters_fit h level (Brun target) at bits = record { from_one = at.from_one; within = at.within; word_fits = bits.0; syllable_fits = bits.1 }
+parameters_fit h level (Brtr target) at bits = record { from_one = at.from_one; within = at.within; word_fits = bits.0; syllable_fits = bits.1 }
+parameters_fit h level (Brfl target) at bits = record { from_one = at.from_one; within = at.within; word_fits = bits.0; syllable_fits = bits.1 }
+parameters_fit h level (Bset n) at bits = tt
+parameters_fit h level (Brst n) at bits = tt
+parameters_fit h level (Isol high width) at bits = tt
+parameters_fit h level (Insr high width) at bits = tt
+parameters_fit h level (Plain code) at bits = tt
+
+pub rows_keep_order_but_places : RowsKeepOrderButPlaces
+rows_keep_order_but_places constants job task s =
+    let own = all_in (TaskInOrder (IsSegment constants) constants job) job.tasks task s.order.tasks (keyed_has (λ t. t.number) task.number job.tasks task s.live).0 in
+    step_good (IsSegment constants) constants job task s (λ op next e.
+    let read : ReadFits (Ok (op, next)) = subst ReadFits e (reading_fits constants task s.unchanging) in
+    record {
+      after = λ goes. record { from_one = own.place.from_one; within = own.place.within; word_fits = read.1.0; syllable_fits = read.1.1 };
+      parameters = parameters_fit (here constants job task next) _ op own.place read.0;
+    })

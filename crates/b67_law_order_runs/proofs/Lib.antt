@@ -1,7 +1,0 @@
-pub mod Rows
-pub mod First
-pub mod Opens
-pub mod Chosen
-pub mod Totals
-pub mod Moments
-pub mod Sessions

@@ -1,0 +1,13 @@
+pub mod Heads
+pub mod Rooms
+pub mod Accidents
+pub mod Marks
+pub mod Enters
+pub mod Orders
+pub mod Names
+pub mod Apart
+pub mod LeftOrders
+pub mod Leaves
+pub mod Settled
+pub mod Slots
+pub mod Nowhere

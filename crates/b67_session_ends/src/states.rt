@@ -1,0 +1,43 @@
+//! The state of a task in its row, and who is stuck.
+
+ghost use Rattle.std.specs.Prelude.{◌≡◌, ◌<◌, Some, length, map, slice_get};
+ghost use Rattle.b67_lemmas.specs.Lists.{Has};
+ghost use Rattle.b67_model.specs.Endings.{deadlocked, unsettled};
+ghost use Rattle.b67_model.specs.Schedule.{Session};
+ghost use Rattle.b67_model.specs.State.{SessionJob};
+ghost use Rattle.b67_layout.specs.Placement.{Placement};
+ghost use Rattle.b67_task_tables.specs.declared.tables.TaskRow as table;
+ghost use Rattle.b67_task_end.specs.Family.{TablesHold, HasSomeHead, pair_of};
+ghost use Rattle.b67_session_ends.specs.Holds.{with_state};
+
+use arrayvec::ArrayVec;
+use crate::deaths::all_ended;
+use crate::closing::goes_on;
+use b67_task_end::{EndedTask, live_of};
+use b67_task_tables::{TaskState, Tasks};
+use b67_word::Ending;
+
+/// Sets the state in a row, and gives the one that stood there.
+pub(crate) fn set_state(tasks: &mut Tasks, at: u8, state: TaskState) -> TaskState
+    requires { at < length tasks.old.rows.items }
+    ensures set { (r : table.TaskRow) → slice_get tasks.old.rows.items at ≡ Some r → tasks.new ≡ with_state tasks.old at r state }
+    ensures was { (r : table.TaskRow) → slice_get tasks.old.rows.items at ≡ Some r → result ≡ r.state }
+{
+    let mut row = tasks.rows[at as usize];
+    let before = row.state;
+    row.state = state;
+    tasks.rows[at as usize] = row;
+    before
+}
+
+/// The tasks of a job that end by DEADLOCK, deepest first: all that live, if none of them is ready.
+pub(crate) fn stuck(tasks: &Tasks, job: u8) -> ArrayVec<EndedTask, 15>
+    requires { HasSomeHead tasks.now job 255 }
+    ensures { (plan : Placement) (s : Session) (m : SessionJob) → TablesHold plan s tasks.now → Has s.jobs m → m.constants.number ≡ job
+        → map pair_of result.items ≡ (deadlocked (unsettled m.progress.job)).endings }
+{
+    if goes_on(tasks, job, &[]) {
+        return ArrayVec::new();
+    }
+    all_ended(live_of(tasks, job).as_slice(), Ending::Deadlock)
+}

@@ -1,4 +1,0 @@
-pub mod Waits
-pub mod Shown
-pub mod Held
-pub mod Stuck
