@@ -17,7 +17,7 @@ use crate::evaluating::{evaluate, load};
 use b67_arith::Numeric;
 use b67_entry::{exit, retn};
 use b67_entry_enter::{entr, mkst};
-use b67_exec_cells::{Binary, Unary, branch_if, dlet, dupl, exch, go_on, literal, mpcw, namc, on_numbers, on_one, on_two, present_segment, read_in};
+use b67_exec_cells::{Binary, Unary, branch_if, dlet, dupl, exch, branch_to, literal, mpcw, namc, on_numbers, on_one, on_two, present_segment, read_in};
 use b67_fetch::{indx, nxlv, stff};
 use b67_model::{Code, Op};
 use b67_stack::{Cpu, Step, What};
@@ -108,7 +108,7 @@ fn plain(cpu: &mut Cpu, code: Code, next: Place) -> Step
         Code::Neql => Numeric::Neql,
         Code::Zero => return literal(cpu, 0, next),
         Code::One => return literal(cpu, 1, next),
-        Code::Push | Code::Noop => return go_on(cpu, next),
+        Code::Push | Code::Noop => return branch_to(cpu, next),
         Code::Dlet => return dlet(cpu, next),
         Code::Exch => return exch(cpu, next),
         Code::Dupl => return dupl(cpu, next),
@@ -130,7 +130,7 @@ fn stay(cpu: &mut Cpu, op: Op, next: Place) -> Step
         Op::Lt8(n) => literal(cpu, u64::from(n), next),
         Op::Lt16(n) => literal(cpu, u64::from(n), next),
         Op::Lt48(bits) => literal(cpu, bits, next),
-        Op::Brun(target) => go_on(cpu, target),
+        Op::Brun(target) => branch_to(cpu, target),
         Op::Brtr(target) => branch_if(cpu, true, target, next),
         Op::Brfl(target) => branch_if(cpu, false, target, next),
         Op::Plain(code) => plain(cpu, code, next),
@@ -152,7 +152,7 @@ fn leaves(op: Op) -> bool
 /// A far operator without parameters. The task goes on at `next`, or where the entered procedure begins or the caller goes
 /// on. It isn't inlined, so that near operators keep their answers in registers.
 #[inline(never)]
-fn refer(cpu: &mut Cpu, code: Code, next: Place) -> Step
+fn far_plain(cpu: &mut Cpu, code: Code, next: Place) -> Step
     requires runs { RunsSome cpu.old }
     requires far { goes_far code ≡ true }
     requires next { IsPlace next }
@@ -195,7 +195,7 @@ fn far(cpu: &mut Cpu, op: Op, next: Place) -> Step
     ensures cuts { is_leaving op ≡ true → result ≡ Done → CutsRecord cpu.old cpu.new }
 {
     match op {
-        Op::Plain(code) => refer(cpu, code, next),
+        Op::Plain(code) => far_plain(cpu, code, next),
         Op::Valc(couple) => evaluate(cpu, couple, next),
         Op::Mpcw(bits) => mpcw(cpu, bits, next),
         Op::Bset(n) => on_one(cpu, Unary::Bset(n), next),

@@ -11,7 +11,7 @@ use b67_word::{Fault, Place};
 
 /// Goes on at `next`, and changes nothing else.
 #[inline]
-pub fn go_on(cpu: &mut Cpu, next: Place) -> Step
+pub fn branch_to(cpu: &mut Cpu, next: Place) -> Step
     requires { RunsSome cpu.old }
     ensures row { ForEach cpu.old (λ x plan s m t. let h = here m t next in Meets x plan s m result cpu.old cpu.new (leaves_cells h (cells_of h) None)) }
 {

@@ -10,7 +10,7 @@ ghost use Rattle.b67_refer.specs.Cells.{reach, view, frame_at_core};
 
 use b67_core::Core;
 use b67_ctl::{Irw, Regs, Sirw};
-use b67_exec_cells::{go_on, replace_cells, top_cell};
+use b67_exec_cells::{branch_to, replace_cells, top_cell};
 use b67_refer::cell_of;
 use b67_stack::{Cpu, Step};
 use b67_word::{Fault, Place, couple_of};
@@ -64,7 +64,7 @@ pub fn stff(cpu: &mut Cpu, next: Place) -> Step
     }
     let couple = match Irw::from_word(w) {
         Some(name) => couple_of(name.couple, cpu.regs.level),
-        None => return go_on(cpu, next),
+        None => return branch_to(cpu, next),
     };
     match cell_of(&cpu.core, &cpu.regs, &cpu.display, couple) {
         Ok(_) => {

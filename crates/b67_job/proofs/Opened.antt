@@ -53,9 +53,9 @@ says_after (Some all) None = tt
 says_after (Some all) (Some other) = refl
 
 -- the machine that opens stands for the deck's session
-pub stands_opened : (d : Deck) (fs : List Codefile) (known : Option (List (List ℕ))) (core sectors : ℕ) (k : Machine) → DeckInRange d → AllByRecursion IsLoaded fs → OpensAs known d (map program_of fs) core sectors k
-    → StandsAt known k (session_of d (map program_of fs))
-stands_opened d fs known core sectors k range loaded o = record {
+pub stands_opened : (d : Deck) (fs : List Codefile) (told : Option (List (List ℕ))) (core sectors : ℕ) (k : Machine) → DeckInRange d → AllByRecursion IsLoaded fs → OpensAs told d (map program_of fs) core sectors k
+    → StandsAt told k (session_of d (map program_of fs))
+stands_opened d fs told core sectors k range loaded o = record {
   storage = o.storage;
   plan = opening_plan d.stack (map program_of fs);
   ordered = ordered_opens d fs range loaded;

@@ -73,8 +73,8 @@ sum_below (x ∷ more) m (inr has) low each =
     omega (arith, sum_by-cons (λ (y : SessionJob). y.progress.made) x more, each x (inl refl), sum_below more m has low (λ y k. each y (inr k)))
 
 -- a session of which a task makes the next step has made fewer operators than eight jobs may make
-fewer : (known : Option (List (List ℕ))) (k : Machine) (s : Session) (m : SessionJob) (t : Task) → StandsAt known k s → IsNext s m t → k.tasks.made < 800000000
-fewer known k s m t stands n =
+fewer : (told : Option (List (List ℕ))) (k : Machine) (s : Session) (m : SessionJob) (t : Task) → StandsAt told k s → IsNext s m t → k.tasks.made < 800000000
+fewer told k s m t stands n =
     let inm : Has s.jobs m = (keyed_has number_of n.chosen.who.job s.jobs m n.member).0 in
     let int : Has m.progress.job.tasks t = (keyed_has (λ (u : Task). u.number) n.chosen.who.task m.progress.job.tasks t n.task).0 in
     let j = all_in (λ (y : SessionJob). JobInOrder (IsSegment y.constants) y.constants y.progress) s.jobs m stands.ordered.jobs inm in
@@ -87,9 +87,9 @@ fewer known k s m t stands n =
     omega (arith, counted, shown, sum, few)
 
 -- as many steps as eight jobs may make are no slice of a run
-most_is_no_end : (known : Option (List (List ℕ))) (k : Machine) (s : Session) (m : SessionJob) (t : Task) (steps : ℕ) → k.tasks.made ≡ steps → steps ≡ 800000000 → StandsAt known k s → IsNext s m t → ⊥
-most_is_no_end known k s m t steps made all stands n =
-    let less = fewer known k s m t stands n in
+most_is_no_end : (told : Option (List (List ℕ))) (k : Machine) (s : Session) (m : SessionJob) (t : Task) (steps : ℕ) → k.tasks.made ≡ steps → steps ≡ 800000000 → StandsAt told k s → IsNext s m t → ⊥
+most_is_no_end told k s m t steps made all stands n =
+    let less = fewer told k s m t stands n in
     omega (arith, less, made, all)
 
 -- no step is made at the halt

@@ -41,10 +41,10 @@ Finishes taken faults exercise made (Err stops.PrintFault) old new answer = (ans
 
 -- the steps of a session, and then the last line. `exact` is whether it was known what the device's sectors hold, of which this
 -- is known now; `failed` is whether the device did
-pub record SessionRan {K : Type 0} (taken : K → Option (List ℕ)) (faults : K → ℕ) (exercise : Option Exercise) (known : Option (List (List ℕ))) (exact failed : Type 0) (count steps : ℕ) (first : Session) (old new : Machine) (paper paper' : K) (answer : ℕ) : Type 0 where
+pub record SessionRan {K : Type 0} (taken : K → Option (List ℕ)) (faults : K → ℕ) (exercise : Option Exercise) (told : Option (List (List ℕ))) (exact failed : Type 0) (count steps : ℕ) (first : Session) (old new : Machine) (paper paper' : K) (answer : ℕ) : Type 0 where
   pub answered : Result Progress Stop
   pub between : K
-  pub slices : Slices taken known exact count steps first answered old new paper between
+  pub slices : Slices taken told exact count steps first answered old new paper between
   pub finishes : Finishes taken faults exercise new.tasks.made answered between paper' answer
   pub device_failed : answered ≡ Err stops.BackingFault → failed
   pub printer_failed : answered ≡ Err stops.PrintFault → Rose faults paper between

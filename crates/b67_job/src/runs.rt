@@ -83,8 +83,8 @@ fn run_session<K: Sink, B: Backing>(
 ) -> u8
     requires open { IsOpen (B.holds backing.old) machine.old }
     requires sized { B.size backing.old + 1 ≡ length machine.old.sectors.links }
-    ensures ran { (known : Option (List (List ℕ))) (s : Session) → Says known (B.holds backing.old) → StandsAt known machine.old s
-        → SessionRan K.taken K.faults exercise (content_after known (B.holds backing.new)) (known ≢ None) (Rose B.faults backing.old backing.new) (B.size backing.old) 800000000
+    ensures ran { (told : Option (List (List ℕ))) (s : Session) → Says told (B.holds backing.old) → StandsAt told machine.old s
+        → SessionRan K.taken K.faults exercise (content_after told (B.holds backing.new)) (told ≢ None) (Rose B.faults backing.old backing.new) (B.size backing.old) 800000000
         s machine.old machine.new printer.old printer.new result }
     ensures goes_on { IsOpen (B.holds backing.new) machine.new }
     ensures keeps { Keeps machine.old machine.new }

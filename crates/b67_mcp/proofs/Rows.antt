@@ -1,2 +1,2 @@
 -- The row of the running task.
-pub use Rattle.b67_exec_calls.proofs.Rows.{RowOf, row_of}
+pub use Rattle.b67_mcp_call.proofs.Rows.{RowOf, row_of}

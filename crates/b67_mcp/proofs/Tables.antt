@@ -1,2 +1,2 @@
 -- The tables of a session whose running task was replaced.
-pub use Rattle.b67_exec_calls.proofs.Tables.{WaitsThere, jobs_kept, jobs_put, tables_after}
+pub use Rattle.b67_mcp_call.proofs.Tables.{WaitsThere, jobs_kept, jobs_put, tables_after}

@@ -11,7 +11,7 @@ use Rattle.b67_layout.specs.Common.{Placement, here, cells}
 use Rattle.b67_fetch.proofs.Values.{TopFollowed}
 use Rattle.b67_fetch.specs.Indexes.{FindsArray}
 use Rattle.b67_mcp_calls.specs.Calls.{IsCall}
-use Rattle.b67_exec_calls.proofs.Ones.{one}
+use Rattle.b67_mcp_call.proofs.Ones.{one}
 use Rattle.b67_mcp_calls.specs.RowCalls.{CopyMeets, MissesCopy}
 
 module _ (plan : Placement) (m : SessionJob) (t : Task) (r : Word) (arguments : List Word) (call : IsCall t r arguments) where

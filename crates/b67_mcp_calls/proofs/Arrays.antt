@@ -17,7 +17,7 @@ use Rattle.b67_stack.specs.Common.{IsOriginal, nowhere, AreZero, home_desc, home
 use Rattle.b67_layout.proofs.Common.{running_in_order, change-has, with_job-twice}
 use Rattle.b67_mcp_calls.specs.Calls.{MayCut, job_cut}
 use Rattle.b67_mcp_calls.specs.Declaring.{without, with_home, new_array, job_declared}
-use Rattle.b67_exec_calls.proofs.Answering.{task_cut, member_cut, runs_cut, higher}
+use Rattle.b67_mcp_call.proofs.Answering.{task_cut, member_cut, runs_cut, higher}
 use Rattle.b67_mcp_calls.proofs.Avoiding.{FramesAvoid, JobAvoids, job_avoids, row_avoids}
 use Rattle.b67_mcp_calls.proofs.Replanned.{stands-there}
 use Rattle.b67_mcp_calls.proofs.Declaring.{Declares, stands_declared}

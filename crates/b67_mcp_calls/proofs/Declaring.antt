@@ -25,7 +25,7 @@ use Rattle.b67_layout_records.proofs.Nowhere.{SameArray, SameArrays, activations
 use Rattle.b67_layout_records.proofs.Slots.{OthersSame, stack-after, slots-after}
 use Rattle.b67_exec_cells.proofs.Replaced.{cells-are}
 use Rattle.b67_mcp_calls.specs.Declaring.{without}
-use Rattle.b67_exec_calls.proofs.Pushed.{stack, on_slot, registers, room}
+use Rattle.b67_mcp_call.proofs.Pushed.{stack, on_slot, registers, room}
 use Rattle.b67_mcp_calls.proofs.Avoiding.{Avoids, FramesAvoid, JobAvoids}
 use Rattle.b67_mcp_calls.proofs.Unheld.{Represents-unheld}
 use Rattle.b67_mcp_calls.proofs.Added.{Fresh, Added, each, Represents-added}

@@ -12,7 +12,7 @@ use Rattle.b67_stack.specs.Represents.{Storage}
 use Rattle.b67_layout.specs.Common.{Placement, here, area_held, cells}
 use Rattle.b67_exec_cells.specs.Elements.{HasElement}
 use Rattle.b67_mcp_calls.specs.Calls.{IsCall}
-use Rattle.b67_exec_calls.proofs.Ones.{one}
+use Rattle.b67_mcp_call.proofs.Ones.{one}
 use Rattle.b67_mcp_calls.specs.Texts.{values_of, is_some}
 use Rattle.b67_mcp_calls.specs.RowCalls.{Copies, CopiesPresent, IsRow}
 use Rattle.b67_mcp_calls.proofs.Words.{answer_of, numbers_are}

@@ -15,9 +15,9 @@ use Rattle.b67_layout.specs.Common.{Placement, here, cells, GivesTop}
 use Rattle.b67_exec_cells.specs.Tops.{NoOriginals}
 use Rattle.b67_layout.proofs.PlainOperands.{plain_operand}
 use Rattle.b67_mcp_calls.specs.Calls.{IsCall}
-use Rattle.b67_exec_calls.proofs.Ones.{one, value_is}
+use Rattle.b67_mcp_call.proofs.Ones.{one, value_is}
 use Rattle.b67_mcp_calls.specs.Declaring.{new_array, length_in, LengthMeets}
-use Rattle.b67_exec_calls.proofs.Answering.{no_higher}
+use Rattle.b67_mcp_call.proofs.Answering.{no_higher}
 
 -- the length that a word of the state says
 abbrev pub wanted : Word → Answer ℕ

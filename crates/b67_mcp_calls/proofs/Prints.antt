@@ -14,7 +14,7 @@ use Rattle.b67_stack.specs.Represents.{Storage}
 use Rattle.b67_layout.specs.Common.{Placement, here, cells, GivesTop}
 use Rattle.b67_layout.proofs.PlainOperands.{plain_operand}
 use Rattle.b67_exec_cells.proofs.Rows.{operand_seen}
-use Rattle.b67_exec_calls.proofs.Ones.{count, one}
+use Rattle.b67_mcp_call.proofs.Ones.{count, one}
 use Rattle.b67_mcp_calls.specs.Calls.{IsCall, PrintMeets, number_in}
 
 module _ (m : SessionJob) (t : Task) (r : Word) (arguments : List Word) (call : IsCall t r arguments) where

@@ -11,7 +11,7 @@ use Rattle.b67_task_tables.specs.declared.tables.JobRow.{JobRow}
 use Rattle.b67_task_tables.specs.Tables.{job_row}
 use Rattle.b67_exec_cells.specs.Tops.{NoOriginals}
 use Rattle.b67_mcp_calls.specs.Calls.{IsCall}
-use Rattle.b67_exec_calls.proofs.Answering.{no_higher}
+use Rattle.b67_mcp_call.proofs.Answering.{no_higher}
 use Rattle.b67_mcp_calls.specs.Reads.{left_in, ReadMeets}
 
 module _ (plan : Placement) (m : SessionJob) (t : Task) (r : Word) (arguments : List Word) (call : IsCall t r arguments) (old : JobRow) where

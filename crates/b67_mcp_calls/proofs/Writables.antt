@@ -28,7 +28,7 @@ use Rattle.b67_mcp_calls.specs.Calls.{IsCall}
 use Rattle.b67_mcp_calls.specs.Declaring.{length_in}
 use Rattle.b67_mcp_calls.specs.Lengthening.{EmptyMeets, Resizes, ResizeMeets}
 use Rattle.b67_mcp_calls.specs.declared.resize.Resizing.TheVariants as resizing
-use Rattle.b67_exec_calls.proofs.Ones.{one}
+use Rattle.b67_mcp_call.proofs.Ones.{one}
 use Rattle.b67_mcp_calls.proofs.Founds.{lower}
 use Rattle.b67_mcp_calls.proofs.Lengths.{wanted, chain, plain_word}
 

@@ -11,7 +11,7 @@ ghost use Rattle.b67_mcp_calls.specs.Declaring.{job_declared, with_home, without
 
 use b67_ctl::DataDesc;
 use b67_entry::is_critical;
-use b67_exec_calls::{cut_call, only_argument};
+use b67_mcp_call::{cut_call, only_argument};
 use b67_stack::Cpu;
 use b67_word::{Fault, Place, Word};
 

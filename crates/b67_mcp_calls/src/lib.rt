@@ -10,7 +10,7 @@ mod row;
 mod text;
 mod whole;
 
-pub use b67_exec_calls::{answer_call, cut_call};
+pub use b67_mcp_call::{answer_call, cut_call};
 pub use declare::{answer_array, array_length};
 pub use print::print_value;
 pub use read::read_number;

@@ -6,7 +6,7 @@ ghost use Rattle.b67_layout.specs.Meets.{ForEach};
 ghost use Rattle.b67_mcp_calls.specs.Calls.{CallSome, IsCall, number_in, PrintMeets};
 
 use b67_entry::is_critical;
-use b67_exec_calls::{only_argument, whole};
+use b67_mcp_call::{only_argument, whole};
 use b67_stack::Cpu;
 use b67_word::{Fault, Word};
 

@@ -19,9 +19,9 @@ use Rattle.b67_layout.specs.Common.{JobInOrderButCounts, IsInOrderButCounts, Pla
 use Rattle.b67_stack.specs.Represents.{Storage}
 use Rattle.b67_layout.proofs.Common.{running_in_order, member-same, with_job-twice, numbered_course}
 use Rattle.b67_entry_enter.proofs.Sites.{Site, site}
-use Rattle.b67_exec_calls.specs.Calls.{MayCut}
-use Rattle.b67_exec_calls.specs.Answered.{job_answered}
-use Rattle.b67_exec_calls.proofs.Cuts.{Cut, cut_of}
+use Rattle.b67_mcp_call.specs.Calls.{MayCut}
+use Rattle.b67_mcp_call.specs.Answered.{job_answered}
+use Rattle.b67_mcp_call.proofs.Cuts.{Cut, cut_of}
 use Rattle.b67_fetch.proofs.Values.{here_scene}
 use Rattle.b67_task_need.specs.Needing.{need_with}
 use Rattle.b67_task_need.proofs.Needs.{follow_all}

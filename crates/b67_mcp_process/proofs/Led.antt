@@ -22,7 +22,7 @@ use Rattle.b67_law_order.proofs.Follows.{follow_same}
 use Rattle.b67_entry_enter.specs.Procedures.{ReachesProc}
 use Rattle.b67_entry_enter.proofs.Firsts.{refers, refers_not}
 use Rattle.b67_entry_enter.proofs.Leads.{ProcFound, proc_found, fault_found}
-use Rattle.b67_exec_calls.specs.Calls.{IsCall}
+use Rattle.b67_mcp_call.specs.Calls.{IsCall}
 use Rattle.b67_fetch.specs.Fetches.{IsFollowed}
 use Rattle.b67_fetch.proofs.Values.{here_scene}
 use Rattle.b67_mcp_process.specs.declared.asking.Asked.{Asked}

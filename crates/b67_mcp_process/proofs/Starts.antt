@@ -13,7 +13,7 @@ use Rattle.b67_lemmas.proofs.Members.{all_from, has_get, keyed_has, length_chang
 use Rattle.b67_model.specs.Common.{Answer, Word, Operand, Task, Job, SessionJob, Done, Goes, number_of, live_tasks, is_original, answered, process, Session}
 use Rattle.b67_layout.specs.Common.{IsInOrderButCounts, Placement, IsRunning, here, with_job, cells, moved}
 use Rattle.b67_stack.specs.Represents.{Storage}
-use Rattle.b67_exec_calls.specs.Answered.{job_answered}
+use Rattle.b67_mcp_call.specs.Answered.{job_answered}
 use Rattle.b67_task_need.specs.Needing.{need_with}
 use Rattle.b67_task_start.specs.Opening.{IsLowestFree, slot_end}
 use Rattle.b67_task_start.specs.Starts.{MayStart, arguments, child}

@@ -7,7 +7,7 @@ use Rattle.b67_lemmas.specs.Lists.{Has}
 use Rattle.b67_model.specs.Common.{Answer, ◌>>◌, needs, Word, Operand, Task, Job, SessionJob, OperatorContext, with_task, Done, Goes, needs_level, is_original, answered, needs_free, process}
 use Rattle.b67_stack.specs.declared.Cpu.{Cpu}
 use Rattle.b67_layout.specs.Common.{Placement, RunsSome, here, cells}
-use Rattle.b67_exec_calls.specs.Calls.{MayCut}
+use Rattle.b67_mcp_call.specs.Calls.{MayCut}
 use Rattle.b67_task_start.specs.Starts.{IsProcCell, child, with_child}
 use Rattle.b67_mcp_process.specs.declared.asking.Asked.{Asked}
 

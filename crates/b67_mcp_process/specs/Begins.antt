@@ -4,7 +4,7 @@ use Rattle.b67_lemmas.specs.Lists.{total}
 use Rattle.b67_model.specs.Common.{Word, Job, SessionJob, Session}
 use Rattle.b67_stack.specs.Represents.{Storage}
 use Rattle.b67_layout.specs.Placement.{Placement}
-use Rattle.b67_exec_calls.specs.Calls.{MayCut}
+use Rattle.b67_mcp_call.specs.Calls.{MayCut}
 use Rattle.b67_layout.specs.Moved.{moved}
 use Rattle.b67_task_start.specs.Starts.{StartsSome}
 use Rattle.b67_task_tables.specs.declared.tables.TaskRow.{TaskRow}

@@ -8,7 +8,7 @@ use Rattle.b67_backing.specs.declared.SpaceFault.TheVariants.{NoCore, BackingFul
 use Rattle.b67_model.specs.Common.{Word, Task, Job, SessionJob, Goes, process, Session}
 use Rattle.b67_stack.specs.Represents.{Storage}
 use Rattle.b67_layout.specs.Common.{Placement, here, moved}
-use Rattle.b67_exec_calls.specs.Calls.{IsCall}
+use Rattle.b67_mcp_call.specs.Calls.{IsCall}
 use Rattle.b67_task_need.specs.Needing.{need_with}
 use Rattle.b67_task_tables.specs.declared.tables.JobRow.{JobRow}
 use Rattle.b67_task_tables.specs.declared.tables.Machine.{Machine}

@@ -10,7 +10,7 @@ ghost use Rattle.b67_refer.specs.RunningContext.{RunningContext};
 ghost use Rattle.b67_entry_enter.specs.Procedures.{ReachesProc};
 ghost use Rattle.b67_layout.specs.Tops.{cells};
 ghost use Rattle.b67_fetch.specs.Fetches.{IsFollowed, MayFollow};
-ghost use Rattle.b67_exec_calls.specs.Calls.{CallSome, IsCall};
+ghost use Rattle.b67_mcp_call.specs.Calls.{CallSome, IsCall};
 ghost use Rattle.b67_mcp_process.specs.Asked.{HasCells, admits, AdmitMeets, AskMeets};
 
 use b67_ctl::DataDesc;

@@ -14,8 +14,8 @@ ghost use Rattle.b67_stack.specs.Represents.{Storage};
 ghost use Rattle.b67_layout.specs.Placement.{Placement};
 ghost use Rattle.b67_layout.specs.Session.{IsRunning};
 ghost use Rattle.b67_layout.specs.Meets.{with_job};
-ghost use Rattle.b67_exec_calls.specs.Calls.{MayCut};
-ghost use Rattle.b67_exec_calls.specs.Answered.{job_answered};
+ghost use Rattle.b67_mcp_call.specs.Calls.{MayCut};
+ghost use Rattle.b67_mcp_call.specs.Answered.{job_answered};
 ghost use Rattle.b67_task_start.specs.Starts.{MayStart, child};
 ghost use Rattle.b67_task_tables.specs.Runs.{ForEachRun, RunsTask};
 ghost use Rattle.b67_task_tables.specs.Tables.{MachineRepresents};
@@ -25,7 +25,7 @@ ghost use Rattle.b67_mcp_process.specs.Process.{CanNumber, ProcessMeets, Process
 
 use crate::asking::Asked;
 use b67_backing::{Backing, SpaceFault};
-use b67_exec_calls::answer_call;
+use b67_mcp_call::answer_call;
 use b67_overlay::claim;
 use b67_task_need::need;
 use b67_task_start::{next_slot_end, start};

@@ -11,8 +11,8 @@ use Rattle.b67_stack.specs.declared.Cpu.{Cpu}
 use Rattle.b67_stack.specs.Represents.{Storage}
 use Rattle.b67_layout.specs.Common.{Placement, cells, GivesTop}
 use Rattle.b67_layout.proofs.PlainOperands.{plain_operand}
-use Rattle.b67_exec_calls.specs.Calls.{IsCall, MayCut, number_in}
-use Rattle.b67_exec_calls.proofs.Ones.{count, one, value_is}
+use Rattle.b67_mcp_call.specs.Calls.{IsCall, MayCut, number_in}
+use Rattle.b67_mcp_call.proofs.Ones.{count, one, value_is}
 use Rattle.b67_mcp_waits.specs.Arguments.{number_given, end_given}
 
 -- the rows, by what the argument gives

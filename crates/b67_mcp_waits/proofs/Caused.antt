@@ -25,8 +25,8 @@ use Rattle.b67_refer.proofs.Scenes as Scenes
 use Rattle.b67_task_tables.specs.declared.tables.Machine.{Machine}
 use Rattle.b67_task_tables.specs.declared.tables.Tasks.{Tasks}
 use Rattle.b67_task_tables.specs.Tables.{MachineRepresents}
-use Rattle.b67_exec_calls.specs.Calls.{MayCut, job_cut}
-use Rattle.b67_exec_calls.proofs.Standing.{machine_cut}
+use Rattle.b67_mcp_call.specs.Calls.{MayCut, job_cut}
+use Rattle.b67_mcp_call.proofs.Standing.{machine_cut}
 use Rattle.b67_mcp_waits.specs.declared.cells.Found.{Found}
 use Rattle.b67_mcp_waits.specs.Arguments.{IsFoundCell}
 use Rattle.b67_mcp_waits.specs.Woken.{woken_row}

@@ -23,7 +23,7 @@ use Rattle.b67_task_tables.specs.declared.tables.TaskState.{TaskState}
 use Rattle.b67_task_tables.specs.declared.tables.TaskState.TheVariants.{Ready, Awaits, WaitsAt}
 use Rattle.b67_task_tables.specs.declared.tables.Tasks.{Tasks}
 use Rattle.b67_task_tables.specs.Tables.{state_of, task_row, job_row, TasksShow}
-use Rattle.b67_exec_calls.proofs.Tables.{jobs_kept}
+use Rattle.b67_mcp_call.proofs.Tables.{jobs_kept}
 use Rattle.b67_mcp_waits.specs.Woken.{woken_state, woken_row}
 use Rattle.b67_mcp_waits.proofs.Addresses.{tells_frames}
 use Rattle.b67_mcp_waits.proofs.Waking.{wake_task, wake_job, keyed_wake, spots_wake}

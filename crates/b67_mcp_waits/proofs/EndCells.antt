@@ -18,8 +18,8 @@ use Rattle.b67_refer.specs.RunningContext.{RunningContext}
 use Rattle.b67_refer.specs.Cells.{StandsFor, IsCellAt}
 use Rattle.b67_refer.specs.Ends.{EndMeets}
 use Rattle.b67_fetch.proofs.Values.{TopFollowed, here_scene}
-use Rattle.b67_exec_calls.specs.Calls.{IsCall}
-use Rattle.b67_exec_calls.proofs.Ones.{one}
+use Rattle.b67_mcp_call.specs.Calls.{IsCall}
+use Rattle.b67_mcp_call.proofs.Ones.{one}
 use Rattle.b67_mcp_waits.specs.declared.cells.Found.{Found}
 use Rattle.b67_mcp_waits.specs.Arguments.{end_given, CellAtEnd, IsFoundCell, FindsOperand}
 

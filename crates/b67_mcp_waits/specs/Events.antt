@@ -5,7 +5,7 @@ use Rattle.b67_word.specs.declared.faults.Fault.{Fault}
 use Rattle.b67_model.specs.Common.{Word, Condition, Task, Job, SessionJob, Goes, Waits, Call, Session}
 use Rattle.b67_stack.specs.Represents.{Storage}
 use Rattle.b67_layout.specs.Common.{Placement, shown, here, with_job}
-use Rattle.b67_exec_calls.specs.Calls.{IsCall}
+use Rattle.b67_mcp_call.specs.Calls.{IsCall}
 use Rattle.b67_task_tables.specs.declared.tables.TaskState.{TaskState}
 use Rattle.b67_task_tables.specs.declared.tables.Machine.{Machine}
 use Rattle.b67_task_tables.specs.Tables.{MachineRepresents, AreCountable, state_of}

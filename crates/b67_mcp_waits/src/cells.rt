@@ -8,12 +8,12 @@ ghost use Rattle.b67_model.specs.Chase.{follow_reference};
 ghost use Rattle.b67_layout.specs.Meets.{here, ForEach};
 ghost use Rattle.b67_refer.specs.RunningContext.{RunningContext, IsShown};
 ghost use Rattle.b67_refer.specs.Cells.{StandsFor, IsCellAt, frame_at_core};
-ghost use Rattle.b67_exec_calls.specs.Calls.{CallSome, IsCall};
+ghost use Rattle.b67_mcp_call.specs.Calls.{CallSome, IsCall};
 ghost use Rattle.b67_mcp_waits.specs.Arguments.{end_given, CellAtEnd, FindsOperand};
 
 use b67_core::Core;
 use b67_ctl::Regs;
-use b67_exec_calls::only_argument;
+use b67_mcp_call::only_argument;
 use b67_refer::{End, chase};
 use b67_stack::Cpu;
 use b67_word::{Fault, Word};

@@ -9,7 +9,7 @@ use crate::cells::cell_given;
 use crate::tasks::running_job;
 use crate::woken::woken_rows;
 use b67_entry::is_critical;
-use b67_exec_calls::cut_call;
+use b67_mcp_call::cut_call;
 use b67_task_tables::{Machine, TaskState};
 use b67_word::{Fault, Place, Word};
 

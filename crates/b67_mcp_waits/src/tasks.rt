@@ -8,12 +8,12 @@ ghost use Rattle.b67_layout.specs.Meets.{ForEach};
 ghost use Rattle.b67_task_tables.specs.Runs.{RunsTask, ForEachRun};
 ghost use Rattle.b67_task_tables.specs.declared.tables.JobRow.{JobRow};
 ghost use Rattle.b67_task_tables.specs.declared.tables.TaskState.TheVariants.{Awaits};
-ghost use Rattle.b67_exec_calls.specs.Calls.{CallSome, IsCall};
+ghost use Rattle.b67_mcp_call.specs.Calls.{CallSome, IsCall};
 ghost use Rattle.b67_mcp_waits.specs.Arguments.{number_given};
 ghost use Rattle.b67_mcp_waits.specs.Events.{StandsAtCall, ForCall, WaitMeets, DoneMeets, KeepsSectors};
 
 use b67_entry::is_critical;
-use b67_exec_calls::{answer_call, cut_call, only_argument, whole};
+use b67_mcp_call::{answer_call, cut_call, only_argument, whole};
 use b67_stack::Cpu;
 use b67_task_end::{lives, status};
 use b67_task_tables::{Machine, TaskState, Tasks};

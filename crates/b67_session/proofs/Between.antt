@@ -23,7 +23,7 @@ use Rattle.b67_session.proofs.Printing.{prints_rest, prints_more, prints_then}
 
 -- The first part of a step of a session was printed and made, and the step is counted. Where the device tells, it is that
 -- session's.
-pub record IsHalfMade {K : Type 0} (taken : K → Option (List ℕ)) (known : Option (List (List ℕ))) (exact : Type 0) (s : Session) (old mid : Machine) (paper paper' : K) : Type 0 where
+pub record IsHalfMade {K : Type 0} (taken : K → Option (List ℕ)) (told : Option (List (List ℕ))) (exact : Type 0) (s : Session) (old mid : Machine) (paper paper' : K) : Type 0 where
   pub was : Session
   pub same : exact → was ≡ s
   pub part : StepResult
@@ -31,7 +31,7 @@ pub record IsHalfMade {K : Type 0} (taken : K → Option (List ℕ)) (known : Op
   pub ordered : IsInOrderButLimit part.session
   pub storage : Storage
   pub plan : Placement
-  pub stands : MachineRepresents storage known mid plan part.session
+  pub stands : MachineRepresents storage told mid plan part.session
   pub made : mid.tasks.made ≡ old.tasks.made + 1
   pub unprinted : mid.tasks.printed ≡ 0
   pub fits : exact → NextFits (length old.cpu.core) s
@@ -39,8 +39,8 @@ pub record IsHalfMade {K : Type 0} (taken : K → Option (List ℕ)) (known : Op
   pub was_is : exact → was_due ≡ due was
   pub prints : (is_due : List ℕ) → Prints taken paper paper' was_due old.tasks.printed part.lines is_due 0
 
-module _ {K : Type 0} (taken : K → Option (List ℕ)) (known : Option (List (List ℕ))) (exact : Type 0) (count : ℕ) (s : Session) (old mid new : Machine) (paper paper' paper'' : K)
-    (x : IsHalfMade taken known exact s old mid paper paper') (keeps : KeepsCounts mid new) where
+module _ {K : Type 0} (taken : K → Option (List ℕ)) (told : Option (List (List ℕ))) (exact : Type 0) (count : ℕ) (s : Session) (old mid new : Machine) (paper paper' paper'' : K)
+    (x : IsHalfMade taken told exact s old mid paper paper') (keeps : KeepsCounts mid new) where
   abbrev h : Session
   h = x.part.session
 
@@ -62,11 +62,11 @@ module _ {K : Type 0} (taken : K → Option (List ℕ)) (known : Option (List (L
   due_rest : (rest : StepResult) → last_part h ≡ Some rest → due h ≡ run_text rest.lines
   due_rest rest e = ap (λ (o : Option StepResult). text_of (option_or o (first_part h))) e
 
-  whole_made : (o : Option StepResult) (e : last_part h ≡ o) (ends : StandsAt known new (joined x.part o).session) → new.tasks.printed ≡ 0
-      → ((is_due : List ℕ) → Prints taken paper paper'' x.was_due old.tasks.printed (joined x.part o).lines is_due 0) → (answered : Result (Unit {0}) Stop) → answered ≡ Ok tt → Steps taken known exact count s answered old new paper paper''
+  whole_made : (o : Option StepResult) (e : last_part h ≡ o) (ends : StandsAt told new (joined x.part o).session) → new.tasks.printed ≡ 0
+      → ((is_due : List ℕ) → Prints taken paper paper'' x.was_due old.tasks.printed (joined x.part o).lines is_due 0) → (answered : Result (Unit {0}) Stop) → answered ≡ Ok tt → Steps taken told exact count s answered old new paper paper''
   whole_made o e ends none prints answered is =
       let session = (joined x.part o).session in
-      let P : Result (Unit {0}) Stop → Type 0 = λ r. Steps taken known exact count s r old new paper paper'' in
+      let P : Result (Unit {0}) Stop → Type 0 = λ r. Steps taken told exact count s r old new paper paper'' in
       subst P (sym is) (record {
         was = x.was;
         same = x.same;
@@ -86,10 +86,10 @@ module _ {K : Type 0} (taken : K → Option (List ℕ)) (known : Option (List (L
         meets = (refl, gives o e, ends);
       })
 
-  by_part : (o : Option StepResult) → last_part h ≡ o → (result : Result (Unit {0}) Failed) → Finishes taken known o result mid new paper' paper'' → (answered : Result (Unit {0}) Stop) → StopOf result answered
-      → Steps taken known exact count s answered old new paper paper''
+  by_part : (o : Option StepResult) → last_part h ≡ o → (result : Result (Unit {0}) Failed) → Finishes taken told o result mid new paper' paper'' → (answered : Result (Unit {0}) Stop) → StopOf result answered
+      → Steps taken told exact count s answered old new paper paper''
   by_part None e (Ok done) (same, printer) answered is =
-      let stands : StandsAt known new h = record { storage = x.storage; plan = x.plan; ordered = order_by None e; stands = subst (λ (k : Machine). MachineRepresents x.storage known k x.plan h) (sym same) x.stands } in
+      let stands : StandsAt told new h = record { storage = x.storage; plan = x.plan; ordered = order_by None e; stands = subst (λ (k : Machine). MachineRepresents x.storage told k x.plan h) (sym same) x.stands } in
       whole_made None e stands (ap (λ (k : Machine). k.tasks.printed) same ∙ x.unprinted)
       (λ is_due. subst (λ (q : K). Prints taken paper q x.was_due old.tasks.printed x.part.lines is_due 0) (sym printer) (x.prints is_due)) answered is
   by_part None e (Err failed) f answered is = absurd f
@@ -107,9 +107,9 @@ module _ {K : Type 0} (taken : K → Option (List ℕ)) (known : Option (List (L
       subst (λ (n : ℕ). Prints taken paper paper' x.was_due old.tasks.printed x.part.lines (due h) n) (sym x.unprinted) (x.prints (due h)) in
       let both : Prints taken paper paper'' x.was_due old.tasks.printed (x.part.lines ++ []) (due h) new.tasks.printed =
       prints_then taken paper paper' paper'' x.was_due (due h) (due h) old.tasks.printed mid.tasks.printed new.tasks.printed x.part.lines [] middle (prints_more taken paper' paper'' d (due h) mid.tasks.printed new.tasks.printed is_due text) in
-      let P : Result (Unit {0}) Stop → Type 0 = λ r. Steps taken known exact count s r old new paper paper'' in
-      let stood : MachineRepresents x.storage known new x.plan h =
-      subst (λ (k : Machine). MachineRepresents x.storage known k x.plan h) (sym only) (record { session = x.stands.session; storage = x.stands.storage; tables = x.stands.tables }) in
+      let P : Result (Unit {0}) Stop → Type 0 = λ r. Steps taken told exact count s r old new paper paper'' in
+      let stood : MachineRepresents x.storage told new x.plan h =
+      subst (λ (k : Machine). MachineRepresents x.storage told k x.plan h) (sym only) (record { session = x.stands.session; storage = x.stands.storage; tables = x.stands.tables }) in
       subst P (sym is) (record {
         was = x.was;
         same = x.same;
@@ -133,5 +133,5 @@ module _ {K : Type 0} (taken : K → Option (List ℕ)) (known : Option (List (L
       })
 
   -- whatever the last part is
-  pub finished : (result : Result (Unit {0}) Failed) → Finishes taken known (last_part h) result mid new paper' paper'' → (answered : Result (Unit {0}) Stop) → StopOf result answered → Steps taken known exact count s answered old new paper paper''
+  pub finished : (result : Result (Unit {0}) Failed) → Finishes taken told (last_part h) result mid new paper' paper'' → (answered : Result (Unit {0}) Stop) → StopOf result answered → Steps taken told exact count s answered old new paper paper''
   finished result f answered is = by_part (last_part h) refl result f answered is

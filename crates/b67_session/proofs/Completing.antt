@@ -25,33 +25,33 @@ no_fault failed unprinted d d' p p' answered causes calm quiet =
     (λ e. (let rose = causes.device e in omega (arith, rose, calm)), λ e. (let rose = causes.printer.failed e in omega (arith, rose, quiet)))
 
 -- a slice from a session in order
-module _ {K : Type 0} (taken : K → Option (List ℕ)) (known : Option (List (List ℕ))) (exact : Type 0) (count n : ℕ) (first : Session) (answered : Result Progress Stop) (old new : Machine) (paper paper' : K)
-    (x : Slices taken known exact count n first answered old new paper paper') (tells : exact) (halt : new.tasks.halt ≡ old.tasks.halt) (ample : Suffices (length old.cpu.core) count n old.tasks first) where
+module _ {K : Type 0} (taken : K → Option (List ℕ)) (told : Option (List (List ℕ))) (exact : Type 0) (count n : ℕ) (first : Session) (answered : Result Progress Stop) (old new : Machine) (paper paper' : K)
+    (x : Slices taken told exact count n first answered old new paper paper') (tells : exact) (halt : new.tasks.halt ≡ old.tasks.halt) (ample : Suffices (length old.cpu.core) count n old.tasks first) where
   -- no part of a step is made, where a whole one is due
-  came : (b : StopsBefore known n x.steps x.session new) → after x.steps first ≡ x.session
+  came : (b : StopsBefore told n x.steps x.session new) → after x.steps first ≡ x.session
   came b = by (x.leads tells) where
     by : Reaches first x.steps x.session x.printed → after x.steps first ≡ x.session
     by (whole a l) = a
     by (but_limit k part e f g some l) = absurd (some (no_last x.session b.stands.ordered))
 
-  to_make : (b : StopsBefore known n x.steps x.session new) → IsToMake n old.tasks x.steps
+  to_make : (b : StopsBefore told n x.steps x.session new) → IsToMake n old.tasks x.steps
   to_make b = record { few = b.left; before_halt = λ j low e. by j e (below j x.steps (omega (arith, low))) } where
     by : (j : ℕ) → old.tasks.halt ≡ Some (old.tasks.made + j) → (j < x.steps) ⊎ (j ≡ x.steps) → ⊥
     by j e (inl less) = x.below j less e
     by j e (inr at) = b.halt (halt ∙ e ∙ ap Some (omega (arith, at, x.made)))
 
-  has_core : (b : StopsBefore known n x.steps x.session new) → need (length old.cpu.core) x.session b.member b.task ≤ length old.cpu.core
+  has_core : (b : StopsBefore told n x.steps x.session new) → need (length old.cpu.core) x.session b.member b.task ≤ length old.cpu.core
   has_core b = ample.core_suffices x.steps (need (length old.cpu.core) x.session b.member b.task) (to_make b)
       (ap (need_next (length old.cpu.core)) (came b) ∙ next_needs x.session b.member b.task b.next (length old.cpu.core))
 
-  has_sectors : (b : StopsBefore known n x.steps x.session new) (sum : ℕ) → TakesSectors x.session b.member b.task sum → sum ≤ count
+  has_sectors : (b : StopsBefore told n x.steps x.session new) (sum : ℕ) → TakesSectors x.session b.member b.task sum → sum ≤ count
   has_sectors b sum =
       subst (λ (z : Session). IsNext z b.member b.task → TakesSectors z b.member b.task sum → sum ≤ count) (came b)
       (ample.sectors_suffice x.steps sum b.member b.task (to_make b)) b.next
 
   pub goes_through : NoFault answered → IsOk answered
   goes_through (device, printer) = by answered refl x.meets where
-    by : (a : Result Progress Stop) → answered ≡ a → SliceMeets known exact (length old.cpu.core) count n x.steps x.session x.is_due a new → IsOk a
+    by : (a : Result Progress Stop) → answered ≡ a → SliceMeets told exact (length old.cpu.core) count n x.steps x.session x.is_due a new → IsOk a
     by (Ok progress) e meets = refl
     by (Err (stops.NoCore words size)) e (b, words_is, size_is, more) = (let fits = has_core b in absurd (omega (arith, words_is, more, fits)))
     by (Err (stops.BackingFull sum size)) e (b, lacks, short, takes, size_is, more) = (let fits = has_sectors b sum takes in absurd (omega (arith, more, fits)))

@@ -33,19 +33,19 @@ pub record PrintsTo {K : Type 0} (taken : K → Option (List ℕ)) (exact : Type
   pub was : exact → was_due ≡ due first
   pub prints : Prints taken paper paper' was_due before printed is_due now
 
-pub record Going {K : Type 0} (taken : K → Option (List ℕ)) (exact : Type 0) (known : Option (List (List ℕ))) (steps : ℕ) (first : Session) (old now : Machine) (paper paper' : K) : Type 0 where
+pub record Going {K : Type 0} (taken : K → Option (List ℕ)) (exact : Type 0) (told : Option (List (List ℕ))) (steps : ℕ) (first : Session) (old now : Machine) (paper paper' : K) : Type 0 where
   pub session : Session
   pub printed : List RunLine
   pub came : exact → Came first steps session printed
   pub made : now.tasks.made ≡ old.tasks.made + steps
-  pub stands : StandsAt known now session
+  pub stands : StandsAt told now session
   pub below : (j : ℕ) → j < steps → old.tasks.halt ≢ Some (old.tasks.made + j)
   pub fits : exact → StepsFit (length old.cpu.core) steps first
   pub texts : PrintsWhole steps old now paper paper'
   pub prints : (is_due : List ℕ) → (exact → is_due ≡ due session) → PrintsTo taken exact first paper paper' old.tasks.printed printed is_due now.tasks.printed
 
-pub going-begins : {K : Type 0} (taken : K → Option (List ℕ)) (exact : Type 0) (known : Option (List (List ℕ))) (s : Session) (now : Machine) (paper : K) → StandsAt known now s → Going taken exact known 0 s now now paper paper
-going-begins taken exact known s now paper stands = record {
+pub going-begins : {K : Type 0} (taken : K → Option (List ℕ)) (exact : Type 0) (told : Option (List (List ℕ))) (s : Session) (now : Machine) (paper : K) → StandsAt told now s → Going taken exact told 0 s now now paper paper
+going-begins taken exact told s now paper stands = record {
   session = s;
   printed = [];
   came = λ tells. came-none s;
@@ -68,8 +68,8 @@ no_tasks (m ∷ jobs) none =
     by [] out = refl
     by (t ∷ ts) out = absurd (out t (inl refl))
 
-pub rests_now : (known : Option (List (List ℕ))) (now : Machine) (s : Session) → StandsAt known now s → now.tasks.rows.items ≡ [] → RepresentsWithoutTasks known now s
-rests_now known now s h none = record {
+pub rests_now : (told : Option (List (List ℕ))) (now : Machine) (s : Session) → StandsAt told now s → now.tasks.rows.items ≡ [] → RepresentsWithoutTasks told now s
+rests_now told now s h none = record {
   storage = h.storage;
   plan = h.plan;
   stands = h.stands;
@@ -89,8 +89,8 @@ next_by : (s : Session) (o : IsInOrderButPlaces s) (x : Option Choice) → choic
 next_by s o None e some = absurd (some (none_ready s e))
 next_by s o (Some c) e some = let (m, t, n, same, ready) = chosen_tasks_are_ready s c o e in (m, t, n)
 
-pub next_now : (known : Option (List (List ℕ))) (now : Machine) (s : Session) → StandsAt known now s → now.tasks.rows.items ≢ [] → (m : SessionJob) × (t : Task) × IsNext s m t
-next_now known now s h some = by now.tasks.rows.items refl
+pub next_now : (told : Option (List (List ℕ))) (now : Machine) (s : Session) → StandsAt told now s → now.tasks.rows.items ≢ [] → (m : SessionJob) × (t : Task) × IsNext s m t
+next_now told now s h some = by now.tasks.rows.items refl
   where
     by : (rs : List TaskRow) → now.tasks.rows.items ≡ rs → (m : SessionJob) × (t : Task) × IsNext s m t
     by [] e = absurd (some e)
@@ -122,20 +122,20 @@ leads_then first steps n s was now printed more came same (halves part one is se
     subst (λ (k : ℕ). Reaches first (steps + k) now (printed ++ more)) (sym one) (but_limit steps part refl at session last all)
 
 -- the step that wasn't made, after steps that were
-abbrev stops_later : (known : Option (List (List ℕ))) (n steps more : ℕ) (s : Session) (new : Machine) → steps + 1 ≤ n → StopsBefore known 1 more s new → StopsBefore known n (steps + more) s new
-stops_later known n steps more s new few b = record { left = omega (arith, few, b.left); halt = b.halt; stands = b.stands; member = b.member; task = b.task; next = b.next }
+abbrev stops_later : (told : Option (List (List ℕ))) (n steps more : ℕ) (s : Session) (new : Machine) → steps + 1 ≤ n → StopsBefore told 1 more s new → StopsBefore told n (steps + more) s new
+stops_later told n steps more s new few b = record { left = omega (arith, few, b.left); halt = b.halt; stands = b.stands; member = b.member; task = b.task; next = b.next }
 
-stop_meets : (known : Option (List (List ℕ))) (exact sure : Type 0) (core count n steps more : ℕ) (s : Session) (is_due : List ℕ) (stop : Stop) (new : Machine) → (exact → sure) → steps + 1 ≤ n
-    → SliceMeets known sure core count 1 more s is_due (Err stop) new → SliceMeets known exact core count n (steps + more) s is_due (Err stop) new
-stop_meets known exact sure core count n steps more s is_due (stops.NoCore words size) new up few m = (stops_later known n steps more s new few m.0, m.1, m.2, m.3)
-stop_meets known exact sure core count n steps more s is_due (stops.BackingFull sum size) new up few m =
+stop_meets : (told : Option (List (List ℕ))) (exact sure : Type 0) (core count n steps more : ℕ) (s : Session) (is_due : List ℕ) (stop : Stop) (new : Machine) → (exact → sure) → steps + 1 ≤ n
+    → SliceMeets told sure core count 1 more s is_due (Err stop) new → SliceMeets told exact core count n (steps + more) s is_due (Err stop) new
+stop_meets told exact sure core count n steps more s is_due (stops.NoCore words size) new up few m = (stops_later told n steps more s new few m.0, m.1, m.2, m.3)
+stop_meets told exact sure core count n steps more s is_due (stops.BackingFull sum size) new up few m =
     let lacks = m.1 in
-    (stops_later known n steps more s new few m.0, record { lacks = λ e. lacks.lacks (up e); room = λ e. lacks.room (up e) }, m.2, m.3, m.4, m.5)
-stop_meets known exact sure core count n steps more s is_due stops.BackingFault new up few m =
+    (stops_later told n steps more s new few m.0, record { lacks = λ e. lacks.lacks (up e); room = λ e. lacks.room (up e) }, m.2, m.3, m.4, m.5)
+stop_meets told exact sure core count n steps more s is_due stops.BackingFault new up few m =
     let lacks = m.1 in
-    (stops_later known n steps more s new few m.0, record { lacks = λ e. lacks.lacks (up e); room = λ e. lacks.room (up e) })
-stop_meets known exact sure core count n steps more s is_due stops.PrintFault new up few (proper, inl (b, room)) = (proper, inl (stops_later known n steps more s new few b, λ e. room (up e)))
-stop_meets known exact sure core count n steps more s is_due stops.PrintFault new up few (proper, inr limited) = (proper, inr limited)
+    (stops_later told n steps more s new few m.0, record { lacks = λ e. lacks.lacks (up e); room = λ e. lacks.room (up e) })
+stop_meets told exact sure core count n steps more s is_due stops.PrintFault new up few (proper, inl (b, room)) = (proper, inl (stops_later told n steps more s new few b, λ e. room (up e)))
+stop_meets told exact sure core count n steps more s is_due stops.PrintFault new up few (proper, inr limited) = (proper, inr limited)
 
 module _ {K : Type 0} (taken : K → Option (List ℕ)) (exact : Type 0) (known : Option (List (List ℕ))) (count n steps : ℕ) (first : Session) (old now : Machine) (paper paper' : K) (g : Going taken exact known steps first old now paper paper') where
   pub going-lives : (told : Option (List (List ℕ))) → Says known told → now.tasks.rows.items ≢ [] → LivesOn told now
@@ -265,10 +265,10 @@ pub keeps_on : (old mid new : Machine) → Keeps old mid → Keeps mid new → K
 keeps_on old mid new a b = record { core = b.core ∙ a.core; sectors = b.sectors ∙ a.sectors; halt = b.halt ∙ a.halt; names = b.names ∙ a.names }
 
 -- so many steps of a turn follow, which print nothing
-pub going-turn : {K : Type 0} (taken : K → Option (List ℕ)) (exact : Type 0) (known : Option (List (List ℕ))) (steps more total : ℕ) (first : Session) (old now new : Machine) (paper paper' : K) (g : Going taken exact known steps first old now paper paper')
-    → Keeps old now → 1 ≤ steps → GoesOnInTurn known more g.session now new → total ≡ steps + more → Going taken exact known total first old new paper paper'
-going-turn {K} taken exact known steps more total first old now new paper paper' g keeps some t total_is =
-    subst (λ (k : ℕ). Going taken exact known k first old new paper paper') (sym total_is) (record {
+pub going-turn : {K : Type 0} (taken : K → Option (List ℕ)) (exact : Type 0) (told : Option (List (List ℕ))) (steps more total : ℕ) (first : Session) (old now new : Machine) (paper paper' : K) (g : Going taken exact told steps first old now paper paper')
+    → Keeps old now → 1 ≤ steps → GoesOnInTurn told more g.session now new → total ≡ steps + more → Going taken exact told total first old new paper paper'
+going-turn {K} taken exact told steps more total first old now new paper paper' g keeps some t total_is =
+    subst (λ (k : ℕ). Going taken exact told k first old new paper paper') (sym total_is) (record {
       session = t.session;
       printed = g.printed;
       came = λ tells. came_on (g.came tells);
@@ -306,17 +306,17 @@ going-turn {K} taken exact known steps more total first old now new paper paper'
     came_on c = record { session = after-add steps more first ∙ ap (after more) c.session ∙ t.leads; lines_are = t.silent first steps c.session ∙ c.lines_are }
 
 -- at the beginning of a slice nothing has changed: what a step says of the machine before it, a slice says
-pub begun_present : {A B D : Type 0} (known : Option (List (List ℕ))) (core' core n made : ℕ) (k k' new : Machine) (s : Session) (m : SessionJob) (t : Task) (d d' e : D) (step : Result A Stop) (answered : Result B Stop) → (made ≡ 0 → (k' ≡ k) × (d' ≡ d)) → core' ≡ core
+pub begun_present : {A B D : Type 0} (told : Option (List (List ℕ))) (core' core n made : ℕ) (k k' new : Machine) (s : Session) (m : SessionJob) (t : Task) (d d' e : D) (step : Result A Stop) (answered : Result B Stop) → (made ≡ 0 → (k' ≡ k) × (d' ≡ d)) → core' ≡ core
     → k'.tasks.made ≡ k.tasks.made + made → k'.tasks.made ≤ new.tasks.made → made + 1 ≤ n → (StopsWithRoom core s m t step → StopsWithRoom core s m t answered)
-    → (made ≡ 0 → (h : StandsAt known k' s) → IfPresent (known ≢ None) core' 1 h.storage h.plan s m t step k' new d' e) → (h : StandsAt known k s) → IfPresent (known ≢ None) core n h.storage h.plan s m t answered k new d e
-begun_present {A} {B} {D} known core' core n made k k' new s m t d d' e step answered begun len counted later few same present h = record {
+    → (made ≡ 0 → (h : StandsAt told k' s) → IfPresent (told ≢ None) core' 1 h.storage h.plan s m t step k' new d' e) → (h : StandsAt told k s) → IfPresent (told ≢ None) core n h.storage h.plan s m t answered k new d e
+begun_present {A} {B} {D} told core' core n made k k' new s m t d d' e step answered begun len counted later few same present h = record {
   quiet = λ one wants. (first (omega (arith, one, few)) h).quiet (omega arith) wants;
   room = λ tells code none. same ((first (omega (arith, none, counted, later)) h).room tells code none);
 } where
-  first : made ≡ 0 → (h : StandsAt known k s) → IfPresent (known ≢ None) core 1 h.storage h.plan s m t step k new d e
+  first : made ≡ 0 → (h : StandsAt told k s) → IfPresent (told ≢ None) core 1 h.storage h.plan s m t step k new d e
   first none =
       let (is, device) = begun none in
-      let P : Machine → D → ℕ → Type 0 = λ z x size. (h : StandsAt known z s) → IfPresent (known ≢ None) size 1 h.storage h.plan s m t step z new x e in
+      let P : Machine → D → ℕ → Type 0 = λ z x size. (h : StandsAt told z s) → IfPresent (told ≢ None) size 1 h.storage h.plan s m t step z new x e in
       subst (P k d) len (subst (λ (z : Machine). P z d core') is (subst (λ (x : D). P k' x core') device (present none)))
 
 -- a step makes none or one

@@ -28,8 +28,8 @@ use Rattle.b67_law_order.proofs.FewMade.{made_few, all_few}
 use Rattle.b67_session_attempt.specs.Passed.{IsCalled, WaitsSo, printed_text}
 use Rattle.b67_session_attempt.specs.Tries.{EndsSo}
 use Rattle.b67_session_attempt.specs.Stops.{Stop}
-use Rattle.b67_session_attempt.specs.declared.attempts.Attempt.{Attempt}
-use Rattle.b67_session_attempt.specs.declared.attempts.Attempt.TheVariants as attempts
+use Rattle.b67_session_attempt.specs.declared.outcomes.Attempt.{Attempt}
+use Rattle.b67_session_attempt.specs.declared.outcomes.Attempt.TheVariants as attempts
 use Rattle.b67_session_attempt.specs.Attempts.{StillStands}
 use Rattle.b67_session_ends.specs.Closing.{StandsChosen}
 use Rattle.b67_session_ends.specs.Counts.{IsCounted}

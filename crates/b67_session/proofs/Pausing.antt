@@ -16,7 +16,7 @@ says_retold None told = tt
 says_retold (Some all) told = says_self told
 
 -- where something was known, the device tells its sectors still
-pub still_told : {D : Type 0} (holds : D → Option (List (List ℕ))) (size calls faults : D → ℕ) (d e : D) (known : Option (List (List ℕ))) → Says known (holds d) → DeviceAfterCalls holds size calls faults d e → known ≢ None → holds e ≢ None
+pub still_told : {D : Type 0} (holds : D → Option (List (List ℕ))) (size calls faults : D → ℕ) (d e : D) (told : Option (List (List ℕ))) → Says told (holds d) → DeviceAfterCalls holds size calls faults d e → told ≢ None → holds e ≢ None
 still_told holds size calls faults d e None says served some = absurd (some refl)
 still_told holds size calls faults d e (Some all) says served some = λ none.
     let (y, now) = still_tells holds size calls faults d e served all says in absurd (none-some y (sym none ∙ now))
@@ -30,8 +30,8 @@ retold_twice None told told' tells = refl
 retold_twice (Some all) None told' tells = absurd (tells (λ e. absurd (none-some all (sym e))) refl)
 retold_twice (Some all) (Some other) told' tells = refl
 
-pub pause_slices : {K : Type 0} (taken : K → Option (List ℕ)) (exact : Type 0) (known : Option (List (List ℕ))) (count n steps : ℕ) (first : Session) (old now : Machine) (paper paper' : K) → Going taken exact known steps first old now paper paper'
-    → steps ≤ n → (p : Progress) → Pauses now.tasks now.tasks.halt (Some p) → Slices taken known exact count n first (Ok p) old now paper paper'
-pause_slices taken exact known count n steps first old now paper paper' g few progress.Ended h = going-ended taken exact known count n steps first old now paper paper' g few h
-pause_slices taken exact known count n steps first old now paper paper' g few progress.Halted h = going-halted taken exact known count n steps first old now paper paper' g few h.0 h.1
-pause_slices taken exact known count n steps first old now paper paper' g few progress.More h = absurd h
+pub pause_slices : {K : Type 0} (taken : K → Option (List ℕ)) (exact : Type 0) (told : Option (List (List ℕ))) (count n steps : ℕ) (first : Session) (old now : Machine) (paper paper' : K) → Going taken exact told steps first old now paper paper'
+    → steps ≤ n → (p : Progress) → Pauses now.tasks now.tasks.halt (Some p) → Slices taken told exact count n first (Ok p) old now paper paper'
+pause_slices taken exact told count n steps first old now paper paper' g few progress.Ended h = going-ended taken exact told count n steps first old now paper paper' g few h
+pause_slices taken exact told count n steps first old now paper paper' g few progress.Halted h = going-halted taken exact told count n steps first old now paper paper' g few h.0 h.1
+pause_slices taken exact told count n steps first old now paper paper' g few progress.More h = absurd h

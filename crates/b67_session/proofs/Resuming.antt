@@ -26,38 +26,38 @@ use Rattle.b67_session.proofs.Rows.{no_row}
 abbrev pub TellsLimit : Tasks → Bool → Type 0
 TellsLimit tasks at = (plan : Placement) (s : Session) → NumberedFrom 1 s.jobs → TasksShow plan s tasks → at ≡ is_some (last_part s)
 
-pub stands_not : (known : Option (List (List ℕ))) (k : Machine) (s : Session) {at : Bool} → StandsAt known k s → TellsLimit k.tasks at → at ≡ true → ⊥
-stands_not known k s h tells is =
+pub stands_not : (told : Option (List (List ℕ))) (k : Machine) (s : Session) {at : Bool} → StandsAt told k s → TellsLimit k.tasks at → at ≡ true → ⊥
+stands_not told k s h tells is =
     let none : is_some (last_part s) ≡ false = ap is_some (no_last s h.ordered) in
     true≢false (sym is ∙ tells h.plan s h.ordered.numbered h.stands.tables ∙ none)
 
-pub limited_not : (known : Option (List (List ℕ))) (k : Machine) (h : Session) (part : StepResult) {at : Bool} → IsLimited known k h part → TellsLimit k.tasks at → at ≡ false → ⊥
-limited_not known k h part l tells is =
+pub limited_not : (told : Option (List (List ℕ))) (k : Machine) (h : Session) (part : StepResult) {at : Bool} → IsLimited told k h part → TellsLimit k.tasks at → at ≡ false → ⊥
+limited_not told k h part l tells is =
     let some : is_some (last_part h) ≡ true = ap is_some l.is in
     true≢false (sym some ∙ sym (tells l.plan h l.ordered.numbered l.stands.tables) ∙ is)
 
-pub rests_not : (known : Option (List (List ℕ))) (k : Machine) (s : Session) → RepresentsWithoutTasks known k s → k.tasks.rows.items ≢ [] → ⊥
-rests_not known k s r some = some (no_row known k s r)
+pub rests_not : (told : Option (List (List ℕ))) (k : Machine) (s : Session) → RepresentsWithoutTasks told k s → k.tasks.rows.items ≢ [] → ⊥
+rests_not told k s r some = some (no_row told k s r)
 
 some_item : (ts : List Task) → ts ≢ [] → (t : Task) × Has ts t
 some_item [] some = absurd (some refl)
 some_item (t ∷ ts) some = (t, inl refl)
 
 -- a live task has a row
-has_row : (known : Option (List (List ℕ))) (k : Machine) (s : Session) (plan : Placement) (m : SessionJob) (t : Task) → TasksShow plan s k.tasks → Has s.jobs m → Has m.progress.job.tasks t → k.tasks.rows.items ≡ [] → ⊥
-has_row known k s plan m t shows inm int none =
+has_row : (told : Option (List (List ℕ))) (k : Machine) (s : Session) (plan : Placement) (m : SessionJob) (t : Task) → TasksShow plan s k.tasks → Has s.jobs m → Has m.progress.job.tasks t → k.tasks.rows.items ≡ [] → ⊥
+has_row told k s plan m t shows inm int none =
     let (row, among, w) = shows.each m t inm int in
     subst (λ (rs : List TaskRow). Has (map task_row rs) row) none among
 
-pub next_row : (known : Option (List (List ℕ))) (k : Machine) (s : Session) (m : SessionJob) (t : Task) → StandsAt known k s → IsNext s m t → k.tasks.rows.items ≡ [] → ⊥
-next_row known k s m t h n none = has_row known k s h.plan m t h.stands.tables (in_session s m t n) (in_job s m t n) none
+pub next_row : (told : Option (List (List ℕ))) (k : Machine) (s : Session) (m : SessionJob) (t : Task) → StandsAt told k s → IsNext s m t → k.tasks.rows.items ≡ [] → ⊥
+next_row told k s m t h n none = has_row told k s h.plan m t h.stands.tables (in_session s m t n) (in_job s m t n) none
 
-pub limited_row : (known : Option (List (List ℕ))) (k : Machine) (h : Session) (part : StepResult) → IsLimited known k h part → k.tasks.rows.items ≡ [] → ⊥
-limited_row known k h part l none =
+pub limited_row : (told : Option (List (List ℕ))) (k : Machine) (h : Session) (part : StepResult) → IsLimited told k h part → k.tasks.rows.items ≡ [] → ⊥
+limited_row told k h part l none =
     let q = limit_of h part l.is in
     let inm = (keyed_has number_of h.last.job h.jobs q.member q.found).0 in
     let (u, int) = some_item q.member.progress.job.tasks q.lives in
-    has_row known k h l.plan q.member u l.stands.tables inm int none
+    has_row told k h l.plan q.member u l.stands.tables inm int none
 
 -- a slice begins with a step, if any
 pub open_stands : (told : Option (List (List ℕ))) (k : Machine) {at : Bool} → IsOpen told k → k.tasks.rows.items ≢ [] → TellsLimit k.tasks at → at ≡ false → StandsSome told k
@@ -90,7 +90,7 @@ keeps_counts old new k = record {
   names = ap (λ (z : Tasks). row_names z.jobs) k.tasks;
 }
 
-module _ (known : Option (List (List ℕ))) (h : Session) (part : StepResult) (old : Machine) (l : IsLimited known old h part) where
+module _ (told : Option (List (List ℕ))) (h : Session) (part : StepResult) (old : Machine) (l : IsLimited told old h part) where
   pub due_is : due h ≡ run_text part.lines
   due_is = ap (λ (o : Option StepResult). text_of (option_or o (first_part h))) l.is
 
@@ -98,14 +98,14 @@ module _ (known : Option (List (List ℕ))) (h : Session) (part : StepResult) (o
   order = subst (OrderAfter h) l.is (last_parts_restore_order h l.ordered)
 
   module _ {K : Type 0} (taken : K → Option (List ℕ)) (new : Machine) (paper paper' : K) where
-    pub over_stands : LimitEnds taken known part (Ok tt) old new paper paper' → StandsAt known new part.session
+    pub over_stands : LimitEnds taken told part (Ok tt) old new paper paper' → StandsAt told new part.session
     over_stands (text, none, stands) = record { storage = stands.storage; plan = stands.plan; ordered = order; stands = stands.stands }
 
-    pub over_prints : LimitEnds taken known part (Ok tt) old new paper paper' → Prints taken paper paper' (due h) old.tasks.printed part.lines [] 0
+    pub over_prints : LimitEnds taken told part (Ok tt) old new paper paper' → Prints taken paper paper' (due h) old.tasks.printed part.lines [] 0
     over_prints (text, none, stands) = prints_rest taken paper paper' (run_text part.lines) (due h) [] old.tasks.printed 0 part.lines due_is refl refl text
 
     module _ (failed : Failed) where
-      pub cut_again : {D : Type 0} (device : D) → LimitEnds taken known part (Err failed) old new paper paper' → IsCutAgain taken h (Err stops.PrintFault) old new device device paper paper'
+      pub cut_again : {D : Type 0} (device : D) → LimitEnds taken told part (Err failed) old new paper paper' → IsCutAgain taken h (Err stops.PrintFault) old new device device paper paper'
       cut_again device (text, only) = record {
         answer = refl;
         only = only;
@@ -114,8 +114,8 @@ module _ (known : Option (List (List ℕ))) (h : Session) (part : StepResult) (o
         backing = refl;
       }
 
-      pub cut_limited : LimitEnds taken known part (Err failed) old new paper paper' → IsLimited known new h part
-      cut_limited (text, only) = subst (λ (k : Machine). IsLimited known k h part) (sym only) (record {
+      pub cut_limited : LimitEnds taken told part (Err failed) old new paper paper' → IsLimited told new h part
+      cut_limited (text, only) = subst (λ (k : Machine). IsLimited told k h part) (sym only) (record {
         storage = l.storage;
         plan = l.plan;
         ordered = l.ordered;

@@ -37,8 +37,8 @@ none_of (y ∷ jobs) m t (inr later) int none =
     none_of jobs m t later int (omega (arith, both))
 
 -- a machine without a task has no row
-pub no_row : (known : Option (List (List ℕ))) (k : Machine) (s : Session) → RepresentsWithoutTasks known k s → k.tasks.rows.items ≡ []
-no_row known k s r = by k.tasks.rows.items refl where
+pub no_row : (told : Option (List (List ℕ))) (k : Machine) (s : Session) → RepresentsWithoutTasks told k s → k.tasks.rows.items ≡ []
+no_row told k s r = by k.tasks.rows.items refl where
   by : (rows : List TaskRow) → k.tasks.rows.items ≡ rows → k.tasks.rows.items ≡ []
   by [] e = e
   by (row ∷ more) e =
@@ -46,13 +46,13 @@ no_row known k s r = by k.tasks.rows.items refl where
       absurd (none_of s.jobs m t inm int r.none)
 
 -- a slice that began without a row has made no step, and stops at once
-module _ {D K : Type 0} (known : Option (List (List ℕ))) (old now : Machine) (s : Session) (made : ℕ) (d e : D) (p q : K) (r : RepresentsWithoutTasks known old s)
+module _ {D K : Type 0} (told : Option (List (List ℕ))) (old now : Machine) (s : Session) (made : ℕ) (d e : D) (p q : K) (r : RepresentsWithoutTasks told old s)
     (none : old.tasks.rows.items ≡ [] → made ≡ 0) (begun : made ≡ 0 → (now ≡ old) × (e ≡ d)) (unprinted : made ≡ 0 → q ≡ p) where
   nothing : made ≡ 0
-  nothing = none (no_row known old s r)
+  nothing = none (no_row told old s r)
 
   empty : now.tasks.rows.items ≡ []
-  empty = ap (λ (k : Machine). k.tasks.rows.items) (begun nothing).0 ∙ no_row known old s r
+  empty = ap (λ (k : Machine). k.tasks.rows.items) (begun nothing).0 ∙ no_row told old s r
 
   pub stays_ended : (x : Progress) → Pauses now.tasks now.tasks.halt (Some x) → StaysEnded (Ok x) old now d e p q
   stays_ended progress.Ended h = record { answer = refl; machine = (begun nothing).0; backing = (begun nothing).1; printer = unprinted nothing }

@@ -8,14 +8,14 @@ use Rattle.b67_session_attempt.proofs.Untold.{machine_untold}
 use Rattle.b67_session.specs.Slices.{StandsAt, LivesOn, StandsLimited, HasNoTasks, IsLimited, RepresentsWithoutTasks, IsOpen}
 use Rattle.b67_session.specs.Shaped.{IsShaped}
 
-pub stands_untold : (known : Option (List (List ℕ))) (k : Machine) (s : Session) → StandsAt known k s → StandsAt None k s
-stands_untold known k s h = record { storage = untold h.storage; plan = h.plan; ordered = h.ordered; stands = machine_untold h.storage known k h.plan s h.stands }
+pub stands_untold : (told : Option (List (List ℕ))) (k : Machine) (s : Session) → StandsAt told k s → StandsAt None k s
+stands_untold told k s h = record { storage = untold h.storage; plan = h.plan; ordered = h.ordered; stands = machine_untold h.storage told k h.plan s h.stands }
 
-limited_untold : (known : Option (List (List ℕ))) (k : Machine) (s : Session) (part : StepResult) → IsLimited known k s part → IsLimited None k s part
-limited_untold known k s part h = record { storage = untold h.storage; plan = h.plan; ordered = h.ordered; is = h.is; stands = machine_untold h.storage known k h.plan s h.stands }
+limited_untold : (told : Option (List (List ℕ))) (k : Machine) (s : Session) (part : StepResult) → IsLimited told k s part → IsLimited None k s part
+limited_untold told k s part h = record { storage = untold h.storage; plan = h.plan; ordered = h.ordered; is = h.is; stands = machine_untold h.storage told k h.plan s h.stands }
 
-rests_untold : (known : Option (List (List ℕ))) (k : Machine) (s : Session) → RepresentsWithoutTasks known k s → RepresentsWithoutTasks None k s
-rests_untold known k s h = record { storage = untold h.storage; plan = h.plan; stands = machine_untold h.storage known k h.plan s h.stands; none = h.none }
+rests_untold : (told : Option (List (List ℕ))) (k : Machine) (s : Session) → RepresentsWithoutTasks told k s → RepresentsWithoutTasks None k s
+rests_untold told k s h = record { storage = untold h.storage; plan = h.plan; stands = machine_untold h.storage told k h.plan s h.stands; none = h.none }
 
 stage_untold : (told now : Option (List (List ℕ))) (k : Machine) → LivesOn told k ⊎ (StandsLimited told k ⊎ HasNoTasks told k) → LivesOn now k ⊎ (StandsLimited now k ⊎ HasNoTasks now k)
 stage_untold told now k (inl h) =

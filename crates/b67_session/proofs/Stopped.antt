@@ -14,7 +14,7 @@ use Rattle.b67_task_tables.specs.Tables.{MachineRepresents}
 use Rattle.b67_session_schedule.specs.declared.counting.Chosen.{Chosen}
 use Rattle.b67_session_attempt.specs.Stops.{Stop}
 use Rattle.b67_session_attempt.specs.Stops as stops
-use Rattle.b67_session_attempt.specs.declared.attempts.Attempt.{Attempt}
+use Rattle.b67_session_attempt.specs.declared.outcomes.Attempt.{Attempt}
 use Rattle.b67_session_attempt.specs.Attempts.{StillStands, StandsLacking}
 use Rattle.b67_session.specs.Slices.{Prints, Lacks, StopsBefore, SliceMeets}
 use Rattle.b67_session.specs.Steps.{stays, Steps}

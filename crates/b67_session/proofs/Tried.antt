@@ -18,8 +18,8 @@ use Rattle.b67_session_schedule.specs.Counted.{choice_of, CountsHaveRoom}
 use Rattle.b67_session_attempt.specs.Stops.{Stop}
 use Rattle.b67_session_attempt.specs.Stops as stops
 use Rattle.b67_session_attempt.specs.Attempts.{AttemptFits}
-use Rattle.b67_session_attempt.specs.declared.attempts.Attempt.{Attempt}
-use Rattle.b67_session_attempt.specs.declared.attempts.Attempt.TheVariants as attempts
+use Rattle.b67_session_attempt.specs.declared.outcomes.Attempt.{Attempt}
+use Rattle.b67_session_attempt.specs.declared.outcomes.Attempt.TheVariants as attempts
 use Rattle.b67_session_ends.specs.Closing.{StandsChosen, ChoseSome, Closes}
 use Rattle.b67_session_ends.specs.Counts.{IsCounted}
 use Rattle.b67_session_ends.specs.Ends.{StandsBetween, KeepsCounts}

@@ -25,7 +25,7 @@ use Rattle.b67_session_schedule.specs.Chosen.{Chooses}
 use Rattle.b67_session_attempt.specs.Passed.{StandsOver, CallsDevice}
 use Rattle.b67_session_attempt.specs.Stops.{Stop}
 use Rattle.b67_session_attempt.specs.Stops as stops
-use Rattle.b67_session_attempt.specs.declared.attempts.Attempt.{Attempt}
+use Rattle.b67_session_attempt.specs.declared.outcomes.Attempt.{Attempt}
 use Rattle.b67_session_attempt.specs.Attempts.{RunsOver, ForEachOver, WantsNothing, AttemptMeets, Attempts, AttemptFits, AttemptRow, TablesStay}
 use Rattle.b67_session.specs.Slices.{StandsAt}
 use Rattle.b67_session.proofs.Next.{Chose, chose, runs_then, next_other}
@@ -40,14 +40,14 @@ runs_already x told k plan s r h at =
     subst (λ (p : Placement). MachineRepresents x told k p s) is h
 
 -- the machine stands for the session with the chosen task running
-pub record Turned (known : Option (List (List ℕ))) (k : Machine) (s : Session) (m : SessionJob) (t : Task) (c : Chosen) : Type 0 where
+pub record Turned (told : Option (List (List ℕ))) (k : Machine) (s : Session) (m : SessionJob) (t : Task) (c : Chosen) : Type 0 where
   pub storage : Storage
   pub plan : Placement
   pub ordered : IsInOrderButPlaces s
   pub next : IsNext s m t
   pub chosen : next.chosen ≡ choice_of c
   pub ready : t.condition ≡ Ready
-  pub stands : MachineRepresents storage known k plan s
+  pub stands : MachineRepresents storage told k plan s
   pub running : IsRunning plan s.jobs m t
   pub turn : c.turn + 1 < 2 ^ 32
 
@@ -118,7 +118,7 @@ pub record Attempted {K : Type 0} (taken : K → Option (List ℕ)) (known known
 -- the chosen task's row, and what the machine then stands for
 abbrev pub GivesTurn : Machine → ℕ → Machine → Type 0
 GivesTurn k row new =
-    (x : Storage) (known : Option (List (List ℕ))) (plan : Placement) (s : Session) (r : TaskRow) → IsInOrderButCounts s → MachineRepresents x known k plan s → slice_get k.tasks.rows.items row ≡ Some r → MachineRepresents x known new (with_running plan r.slot) s
+    (x : Storage) (told : Option (List (List ℕ))) (plan : Placement) (s : Session) (r : TaskRow) → IsInOrderButCounts s → MachineRepresents x told k plan s → slice_get k.tasks.rows.items row ≡ Some r → MachineRepresents x told new (with_running plan r.slot) s
 
 abbrev pub ChoosesRow : Machine → Chosen → Type 0
 ChoosesRow k c = (plan : Placement) (s : Session) → IsInOrderButPlaces s → TasksShow plan s k.tasks → Chooses k.tasks.rows.items (Some c) (choice s)

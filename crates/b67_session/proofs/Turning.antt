@@ -230,7 +230,7 @@ unmade x told plan s m t answered old new other row = by_area (code_area x plan 
 
 -- so many steps without a line lead from a session to one of which the last task has so many operators left; the machine
 -- represents that but for the counts of these steps
-pub record HasTurn (known : Option (List (List ℕ))) (steps left : ℕ) (first : Session) (core : ℕ) (now : Machine) : Type 0 where
+pub record HasTurn (told : Option (List (List ℕ))) (steps left : ℕ) (first : Session) (core : ℕ) (now : Machine) : Type 0 where
   pub bare : Session
   pub member : SessionJob
   pub task : Task
@@ -240,7 +240,7 @@ pub record HasTurn (known : Option (List (List ℕ))) (steps left : ℕ) (first 
   pub fits : StepsFit core steps first
   pub storage : Storage
   pub plan : Placement
-  pub stands : MachineRepresents storage known now plan bare
+  pub stands : MachineRepresents storage told now plan bare
   pub found : keyed number_of bare.last.job bare.jobs ≡ Some member
   pub lasts : Lasts (counted_by steps bare) (counted_more steps member) task left
   pub slot : plan.running ≡ slot_of plan member.constants.number task.number
@@ -416,9 +416,9 @@ module _ (known : Option (List (List ℕ))) (steps left : ℕ) (first : Session)
 -- ---- the loop
 
 -- the turn at its beginning
-pub turn_begins : (known : Option (List (List ℕ))) (room : ℕ) (x : Storage) (plan : Placement) (s : Session) (k : Machine) → IsInOrderButPlaces s → MachineRepresents x known k plan s → TurnLasts plan s room → (left : ℕ) → left ≡ room → HasTurn known 0 left s (length k.cpu.core) k
-turn_begins known room x plan s k o h w left same =
-    subst (λ (i : ℕ). HasTurn known 0 i s (length k.cpu.core) k) (sym same) (record {
+pub turn_begins : (told : Option (List (List ℕ))) (room : ℕ) (x : Storage) (plan : Placement) (s : Session) (k : Machine) → IsInOrderButPlaces s → MachineRepresents x told k plan s → TurnLasts plan s room → (left : ℕ) → left ≡ room → HasTurn told 0 left s (length k.cpu.core) k
+turn_begins told room x plan s k o h w left same =
+    subst (λ (i : ℕ). HasTurn told 0 i s (length k.cpu.core) k) (sym same) (record {
       bare = s;
       member = w.who;
       task = w.task;
@@ -437,8 +437,8 @@ turn_begins known room x plan s k o h w left same =
     none : counted_more 0 w.who ≡ w.who
     none = let one : w.who.progress.made + 0 ≡ w.who.progress.made = omega arith in ap (λ (i : ℕ). record w.who { progress = record w.who.progress { made = i } }) one
 
-pub made_in_turn : (known : Option (List (List ℕ))) (steps left : ℕ) (first : Session) (core : ℕ) (k : Machine) → HasTurn known steps left first core k → MadeInTurn known steps first core k
-made_in_turn known steps left first core k h = record { bare = h.bare; ordered = h.ordered; leads = h.leads; silent = h.silent; fits = h.fits; storage = h.storage; plan = h.plan; stands = h.stands }
+pub made_in_turn : (told : Option (List (List ℕ))) (steps left : ℕ) (first : Session) (core : ℕ) (k : Machine) → HasTurn told steps left first core k → MadeInTurn told steps first core k
+made_in_turn told steps left first core k h = record { bare = h.bare; ordered = h.ordered; leads = h.leads; silent = h.silent; fits = h.fits; storage = h.storage; plan = h.plan; stands = h.stands }
 
 -- ---- the turn
 
@@ -462,11 +462,11 @@ turn_fits plan s tasks room made o shows w few =
     }
 
 -- the steps of the turn, once they are counted
-pub turn_goes_on : (known : Option (List (List ℕ))) (steps : ℕ) (first : Session) (old : Machine) (k : Machine) (tasks : Tasks) → MadeInTurn known steps first (length old.cpu.core) k → k.tasks ≡ old.tasks
+pub turn_goes_on : (told : Option (List (List ℕ))) (steps : ℕ) (first : Session) (old : Machine) (k : Machine) (tasks : Tasks) → MadeInTurn told steps first (length old.cpu.core) k → k.tasks ≡ old.tasks
     → ((plan : Placement) (s : Session) → NumberedFrom 1 s.jobs → TasksShow plan s k.tasks → TasksShow plan (counted_by steps s) tasks)
     → tasks ≡ record k.tasks { jobs = tasks.jobs; made = k.tasks.made + steps; turn = k.tasks.turn + steps } → old.tasks.printed ≡ 0 → BeforeHalt old.tasks.halt old.tasks.made steps
-    → GoesOnInTurn known steps first old (record k { tasks = tasks })
-turn_goes_on known steps first old k tasks a stay shows rest none below = record {
+    → GoesOnInTurn told steps first old (record k { tasks = tasks })
+turn_goes_on told steps first old k tasks a stay shows rest none below = record {
   session = counted_by steps a.bare;
   leads = a.leads;
   silent = a.silent;
@@ -487,8 +487,8 @@ turn_goes_on known steps first old k tasks a stay shows rest none below = record
 }
 
 -- no step of it was made
-pub turn_rests : (known : Option (List (List ℕ))) (s : Session) (k : Machine) → StandsAt known k s → k.tasks.printed ≡ 0 → GoesOnInTurn known 0 s k k
-turn_rests known s k h none = record {
+pub turn_rests : (told : Option (List (List ℕ))) (s : Session) (k : Machine) → StandsAt told k s → k.tasks.printed ≡ 0 → GoesOnInTurn told 0 s k k
+turn_rests told s k h none = record {
   session = s;
   leads = refl;
   silent = λ start n to. let one : n + 0 ≡ n = omega arith in ap (λ (i : ℕ). lines i start) one;

@@ -8,9 +8,9 @@ use Rattle.b67_session_attempt.specs.Attempts.{TakesSectors}
 use Rattle.b67_session_ends.specs.Machines.{StandsAt, IsLimited}
 
 -- the machine represents the session whose steps a slice makes: at once, or when the lines of LIMIT that are due are printed
-pub data SetsOut (known : Option (List (List ℕ))) (k : Machine) (s : Session) : Type 0 where
-  at_once : StandsAt known k s → SetsOut known k s
-  after_limit : (h : Session) (part : StepResult) → IsLimited known k h part → part.session ≡ s → SetsOut known k s
+pub data SetsOut (told : Option (List (List ℕ))) (k : Machine) (s : Session) : Type 0 where
+  at_once : StandsAt told k s → SetsOut told k s
+  after_limit : (h : Session) (part : StepResult) → IsLimited told k h part → part.session ≡ s → SetsOut told k s
 
 -- a slice of n steps is to make one more after so many: they are fewer than n, and no count up to there is the halt's
 pub record IsToMake (n : ℕ) (tasks : Tasks) (steps : ℕ) : Type 0 where

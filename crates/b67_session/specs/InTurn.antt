@@ -21,7 +21,7 @@ pub record TurnBegins (k : Machine) (room : ℕ) : Type 0 where
 
 -- So many steps lead from a session to another, which is in order, and print nothing; core of so many words had those that they
 -- need. The machine represents that session but for the counts of these steps
-pub record MadeInTurn (known : Option (List (List ℕ))) (steps : ℕ) (first : Session) (core : ℕ) (k : Machine) : Type 0 where
+pub record MadeInTurn (told : Option (List (List ℕ))) (steps : ℕ) (first : Session) (core : ℕ) (k : Machine) : Type 0 where
   pub bare : Session
   pub ordered : IsInOrderButPlaces (counted_by steps bare)
   pub leads : after steps first ≡ counted_by steps bare
@@ -29,4 +29,4 @@ pub record MadeInTurn (known : Option (List (List ℕ))) (steps : ℕ) (first : 
   pub fits : StepsFit core steps first
   pub storage : Storage
   pub plan : Placement
-  pub stands : MachineRepresents storage known k plan bare
+  pub stands : MachineRepresents storage told k plan bare

@@ -119,10 +119,10 @@ pub record IfPresent {A D : Type 0} (exact : Type 0) (core n : ℕ) (x : Storage
 
 -- a slice of n steps stopped after so many of them, before one that was due: they are not all made, and the halt isn't
 -- reached. The machine stands for the session before that step, which this task makes
-pub record StopsBefore (known : Option (List (List ℕ))) (n steps : ℕ) (s : Session) (new : Machine) : Type 0 where
+pub record StopsBefore (told : Option (List (List ℕ))) (n steps : ℕ) (s : Session) (new : Machine) : Type 0 where
   pub left : steps < n
   pub halt : new.tasks.halt ≢ Some new.tasks.made
-  pub stands : StandsAt known new s
+  pub stands : StandsAt told new s
   pub member : SessionJob
   pub task : Task
   pub next : IsNext s member task
@@ -152,7 +152,7 @@ SliceMeets known exact core count n steps s is_due (Err stops.PrintFault) new =
 
 -- Where it is known what the device's sectors hold, the steps are those of the session from which the slice set out. Where
 -- nothing is known, they are those of a machine that had some code and some numbers. None is made at the halt
-pub record Slices {K : Type 0} (taken : K → Option (List ℕ)) (known : Option (List (List ℕ))) (exact : Type 0) (count n : ℕ) (first : Session) (answered : Result Progress Stop) (old new : Machine) (paper paper' : K) : Type 0 where
+pub record Slices {K : Type 0} (taken : K → Option (List ℕ)) (told : Option (List (List ℕ))) (exact : Type 0) (count n : ℕ) (first : Session) (answered : Result Progress Stop) (old new : Machine) (paper paper' : K) : Type 0 where
   pub steps : ℕ
   pub few : steps ≤ n
   pub below : (j : ℕ) → j < steps → old.tasks.halt ≢ Some (old.tasks.made + j)
@@ -168,7 +168,7 @@ pub record Slices {K : Type 0} (taken : K → Option (List ℕ)) (known : Option
   pub next : exact → is_due ≡ due session
   pub prints : Prints taken paper paper' was_due old.tasks.printed printed is_due new.tasks.printed
   pub texts : answered ≢ Err stops.PrintFault → PrintsWhole steps old new paper paper'
-  pub meets : SliceMeets known exact (length old.cpu.core) count n steps session is_due answered new
+  pub meets : SliceMeets told exact (length old.cpu.core) count n steps session is_due answered new
 
 -- the printer has failed again in the lines of LIMIT: nothing has changed but how much of them is printed
 pub record IsCutAgain {D K : Type 0} (taken : K → Option (List ℕ)) (h : Session) (answered : Result Progress Stop) (old new : Machine) (device device' : D) (paper paper' : K) : Type 0 where

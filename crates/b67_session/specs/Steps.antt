@@ -32,7 +32,7 @@ StepMeets known exact core count steps was s printed is_due (Err stop) new = Sli
 
 -- Where it is known what the device's sectors hold, the step is that of the session. Where nothing is known, it is that of
 -- a session with some other code and some other numbers.
-pub record Steps {K : Type 0} (taken : K → Option (List ℕ)) (known : Option (List (List ℕ))) (exact : Type 0) (count : ℕ) (s : Session) (answered : Result (Unit {0}) Stop) (old new : Machine) (paper paper' : K) : Type 0 where
+pub record Steps {K : Type 0} (taken : K → Option (List ℕ)) (told : Option (List (List ℕ))) (exact : Type 0) (count : ℕ) (s : Session) (answered : Result (Unit {0}) Stop) (old new : Machine) (paper paper' : K) : Type 0 where
   pub was : Session
   pub same : exact → was ≡ s
   pub steps : ℕ
@@ -48,7 +48,7 @@ pub record Steps {K : Type 0} (taken : K → Option (List ℕ)) (known : Option 
   pub next_is : exact → is_due ≡ due session
   pub prints : Prints taken paper paper' was_due old.tasks.printed printed is_due new.tasks.printed
   pub texts : answered ≢ Err stops.PrintFault → PrintsWhole steps old new paper paper'
-  pub meets : StepMeets known exact (length old.cpu.core) count steps was session printed is_due answered new
+  pub meets : StepMeets told exact (length old.cpu.core) count steps was session printed is_due answered new
 
 -- ---- the last part
 
@@ -73,11 +73,11 @@ pub record IsInOrderFor (k : Machine) : Type 0 where
 
 -- so many steps lead from a session to another, and a run that comes to the first one prints no more in them; core had the words
 -- that they need, and the halt wasn't reached before them
-pub record GoesOnInTurn (known : Option (List (List ℕ))) (steps : ℕ) (first : Session) (old new : Machine) : Type 0 where
+pub record GoesOnInTurn (told : Option (List (List ℕ))) (steps : ℕ) (first : Session) (old new : Machine) : Type 0 where
   pub session : Session
   pub leads : after steps first ≡ session
   pub silent : (start : Session) (n : ℕ) → after n start ≡ first → lines (n + steps) start ≡ lines n start
-  pub stands : StandsAt known new session
+  pub stands : StandsAt told new session
   pub made : new.tasks.made ≡ old.tasks.made + steps
   pub unprinted : new.tasks.printed ≡ 0
   pub fits : StepsFit (length old.cpu.core) steps first

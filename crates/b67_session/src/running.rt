@@ -68,15 +68,15 @@ impl Session {
     ) -> Result<Progress, Stop>
         requires open { IsOpen (B.holds backing.old) self.old }
         requires sized { B.size backing.old + 1 ≡ length self.old.sectors.links }
-        ensures row { (known : Option (List (List ℕ))) (s : schedule.Session) → Says known (B.holds backing.old) → StandsAt known self.old s
-            → Slices K.taken (content_after known (B.holds backing.new)) (known ≢ None) (B.size backing.old) n s result self.old self.new paper.old paper.new }
-        ensures present { (known : Option (List (List ℕ))) (s : schedule.Session) (m : SessionJob) (t : Task) → Says known (B.holds backing.old) → (h : StandsAt known self.old s) → IsNext s m t
-            → IfPresent (known ≢ None) (length self.old.cpu.core) n h.storage h.plan s m t result self.old self.new backing.old backing.new }
-        ensures resumed { (known : Option (List (List ℕ))) (h : schedule.Session) (part : StepResult) → Says known (B.holds backing.old) → IsLimited known self.old h part
-            → Resumes K.taken known (content_after known (B.holds backing.new)) (B.size backing.old) n h part result self.old self.new backing.old backing.new paper.old paper.new }
-        ensures ended { (known : Option (List (List ℕ))) (s : schedule.Session) → RepresentsWithoutTasks known self.old s
+        ensures row { (told : Option (List (List ℕ))) (s : schedule.Session) → Says told (B.holds backing.old) → StandsAt told self.old s
+            → Slices K.taken (content_after told (B.holds backing.new)) (told ≢ None) (B.size backing.old) n s result self.old self.new paper.old paper.new }
+        ensures present { (told : Option (List (List ℕ))) (s : schedule.Session) (m : SessionJob) (t : Task) → Says told (B.holds backing.old) → (h : StandsAt told self.old s) → IsNext s m t
+            → IfPresent (told ≢ None) (length self.old.cpu.core) n h.storage h.plan s m t result self.old self.new backing.old backing.new }
+        ensures resumed { (told : Option (List (List ℕ))) (h : schedule.Session) (part : StepResult) → Says told (B.holds backing.old) → IsLimited told self.old h part
+            → Resumes K.taken told (content_after told (B.holds backing.new)) (B.size backing.old) n h part result self.old self.new backing.old backing.new paper.old paper.new }
+        ensures ended { (told : Option (List (List ℕ))) (s : schedule.Session) → RepresentsWithoutTasks told self.old s
             → StaysEnded result self.old self.new backing.old backing.new paper.old paper.new }
-        ensures complete { (known : Option (List (List ℕ))) (s : schedule.Session) → known ≢ None → Says known (B.holds backing.old) → SetsOut known self.old s
+        ensures complete { (told : Option (List (List ℕ))) (s : schedule.Session) → told ≢ None → Says told (B.holds backing.old) → SetsOut told self.old s
             → Suffices (length self.old.cpu.core) (B.size backing.old) n self.old.tasks s → Stayed B.faults backing.old backing.new → Stayed K.faults paper.old paper.new
             → IsOk result }
         ensures leaves { SliceLeaves B.holds B.size B.calls B.faults K.faults result self.old self.new backing.old backing.new paper.old paper.new }

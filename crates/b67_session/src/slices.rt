@@ -54,11 +54,11 @@ fn go_on<B: Backing, K: Sink>(
     requires stands { StandsSome (B.holds backing.old) machine.old }
     requires countable { AreCountable machine.old.tasks.jobs }
     requires sized { B.size backing.old + 1 ≡ length machine.old.sectors.links }
-    ensures row { (known : Option (List (List ℕ))) (s : Session) → Says known (B.holds backing.old) → StandsAt known machine.old s
-        → Slices K.taken (content_after known (B.holds backing.new)) (known ≢ None) (B.size backing.old) n s result machine.old machine.new paper.old paper.new }
-    ensures present { (known : Option (List (List ℕ))) (s : Session) (m : SessionJob) (t : Task) → Says known (B.holds backing.old) → (h : StandsAt known machine.old s) → IsNext s m t
-        → IfPresent (known ≢ None) (length machine.old.cpu.core) n h.storage h.plan s m t result machine.old machine.new backing.old backing.new }
-    ensures ended { (known : Option (List (List ℕ))) (s : Session) → RepresentsWithoutTasks known machine.old s
+    ensures row { (told : Option (List (List ℕ))) (s : Session) → Says told (B.holds backing.old) → StandsAt told machine.old s
+        → Slices K.taken (content_after told (B.holds backing.new)) (told ≢ None) (B.size backing.old) n s result machine.old machine.new paper.old paper.new }
+    ensures present { (told : Option (List (List ℕ))) (s : Session) (m : SessionJob) (t : Task) → Says told (B.holds backing.old) → (h : StandsAt told machine.old s) → IsNext s m t
+        → IfPresent (told ≢ None) (length machine.old.cpu.core) n h.storage h.plan s m t result machine.old machine.new backing.old backing.new }
+    ensures ended { (told : Option (List (List ℕ))) (s : Session) → RepresentsWithoutTasks told machine.old s
         → StaysEnded result machine.old machine.new backing.old backing.new paper.old paper.new }
     ensures countable { AreCountable machine.new.tasks.jobs }
     ensures causes { CallCauses B.faults K.faults backing.old backing.new paper.old paper.new result }
@@ -116,15 +116,15 @@ pub fn slice<B: Backing, K: Sink>(
 ) -> Result<Progress, Stop>
     requires open { IsOpen (B.holds backing.old) machine.old }
     requires sized { B.size backing.old + 1 ≡ length machine.old.sectors.links }
-    ensures row { (known : Option (List (List ℕ))) (s : Session) → Says known (B.holds backing.old) → StandsAt known machine.old s
-        → Slices K.taken (content_after known (B.holds backing.new)) (known ≢ None) (B.size backing.old) n s result machine.old machine.new paper.old paper.new }
-    ensures present { (known : Option (List (List ℕ))) (s : Session) (m : SessionJob) (t : Task) → Says known (B.holds backing.old) → (h : StandsAt known machine.old s) → IsNext s m t
-        → IfPresent (known ≢ None) (length machine.old.cpu.core) n h.storage h.plan s m t result machine.old machine.new backing.old backing.new }
-    ensures resumed { (known : Option (List (List ℕ))) (h : Session) (part : StepResult) → Says known (B.holds backing.old) → IsLimited known machine.old h part
-        → Resumes K.taken known (content_after known (B.holds backing.new)) (B.size backing.old) n h part result machine.old machine.new backing.old backing.new paper.old paper.new }
-    ensures ended { (known : Option (List (List ℕ))) (s : Session) → RepresentsWithoutTasks known machine.old s
+    ensures row { (told : Option (List (List ℕ))) (s : Session) → Says told (B.holds backing.old) → StandsAt told machine.old s
+        → Slices K.taken (content_after told (B.holds backing.new)) (told ≢ None) (B.size backing.old) n s result machine.old machine.new paper.old paper.new }
+    ensures present { (told : Option (List (List ℕ))) (s : Session) (m : SessionJob) (t : Task) → Says told (B.holds backing.old) → (h : StandsAt told machine.old s) → IsNext s m t
+        → IfPresent (told ≢ None) (length machine.old.cpu.core) n h.storage h.plan s m t result machine.old machine.new backing.old backing.new }
+    ensures resumed { (told : Option (List (List ℕ))) (h : Session) (part : StepResult) → Says told (B.holds backing.old) → IsLimited told machine.old h part
+        → Resumes K.taken told (content_after told (B.holds backing.new)) (B.size backing.old) n h part result machine.old machine.new backing.old backing.new paper.old paper.new }
+    ensures ended { (told : Option (List (List ℕ))) (s : Session) → RepresentsWithoutTasks told machine.old s
         → StaysEnded result machine.old machine.new backing.old backing.new paper.old paper.new }
-    ensures complete { (known : Option (List (List ℕ))) (s : Session) → known ≢ None → Says known (B.holds backing.old) → SetsOut known machine.old s
+    ensures complete { (told : Option (List (List ℕ))) (s : Session) → told ≢ None → Says told (B.holds backing.old) → SetsOut told machine.old s
         → Suffices (length machine.old.cpu.core) (B.size backing.old) n machine.old.tasks s → Stayed B.faults backing.old backing.new → Stayed K.faults paper.old paper.new
         → IsOk result }
     ensures leaves { SliceLeaves B.holds B.size B.calls B.faults K.faults result machine.old machine.new backing.old backing.new paper.old paper.new }

@@ -22,8 +22,8 @@ use Rattle.b67_mcp.specs.declared.ends.Stop.TheVariants as stops
 use Rattle.b67_presence.specs.Bringing.{StandsOver, IsWanted, WantsSome, StandsAgain, Brings}
 use Rattle.b67_layout_step.proofs.MoreOtherNumbers.{others_running, RunsOther}
 use Rattle.b67_presence.proofs.Others.{others_same, others_then}
-use Rattle.b67_session_attempt.specs.declared.attempts.Attempt.{Attempt}
-use Rattle.b67_session_attempt.specs.declared.attempts.Attempt.TheVariants as attempts
+use Rattle.b67_session_attempt.specs.declared.outcomes.Attempt.{Attempt}
+use Rattle.b67_session_attempt.specs.declared.outcomes.Attempt.TheVariants as attempts
 use Rattle.b67_session_attempt.specs.declared.tries.Tried.{Tried}
 use Rattle.b67_session_attempt.specs.declared.tries.Tried.TheVariants as tries
 use Rattle.b67_session_attempt.specs.Tries.{IsTouched, TryMeets, TryFits, TryWrites}

@@ -12,8 +12,8 @@ use Rattle.b67_task_tables.specs.Tables.{MachineRepresents}
 use Rattle.b67_mcp.specs.Called.{IsCalled, IsCut, IsShortAt, Lengthens, CallsDevice, WaitsSo}
 use Rattle.b67_mcp.specs.declared.ends.Stop.{Stop}
 use Rattle.b67_mcp.specs.declared.ends.Stop.TheVariants as stops
-use Rattle.b67_session_attempt.specs.declared.attempts.Attempt.{Attempt}
-use Rattle.b67_session_attempt.specs.declared.attempts.Attempt.TheVariants as attempts
+use Rattle.b67_session_attempt.specs.declared.outcomes.Attempt.{Attempt}
+use Rattle.b67_session_attempt.specs.declared.outcomes.Attempt.TheVariants as attempts
 use Rattle.b67_session_attempt.specs.Tries.{EndsSo}
 
 -- the machine stands for some session in order over a device that tells this, and a ready task of it runs

@@ -9,24 +9,24 @@ use Rattle.b67_task_tables.specs.Tables.{MachineRepresents}
 use Rattle.b67_law_turns.specs.Orders.{IsInOrderButLimit}
 
 -- the machine stands for a session in order, and this is known of what the device's sectors hold
-pub record StandsAt (known : Option (List (List ℕ))) (k : Machine) (s : Session) : Type 0 where
+pub record StandsAt (told : Option (List (List ℕ))) (k : Machine) (s : Session) : Type 0 where
   pub storage : Storage
   pub plan : Placement
   pub ordered : IsInOrderButPlaces s
-  pub stands : MachineRepresents storage known k plan s
+  pub stands : MachineRepresents storage told k plan s
 
 -- the machine stands for a session in which the job that made the last operator stands at its limit with live tasks. All of
 -- these are to end by LIMIT, deepest first, which is this last part of the step
-pub record IsLimited (known : Option (List (List ℕ))) (k : Machine) (h : Session) (part : StepResult) : Type 0 where
+pub record IsLimited (told : Option (List (List ℕ))) (k : Machine) (h : Session) (part : StepResult) : Type 0 where
   pub storage : Storage
   pub plan : Placement
   pub ordered : IsInOrderButLimit h
   pub is : last_part h ≡ Some part
-  pub stands : MachineRepresents storage known k plan h
+  pub stands : MachineRepresents storage told k plan h
 
 -- the machine stands for a session that no task is left of, and this is known of what the device's sectors hold
-pub record RepresentsWithoutTasks (known : Option (List (List ℕ))) (k : Machine) (s : Session) : Type 0 where
+pub record RepresentsWithoutTasks (told : Option (List (List ℕ))) (k : Machine) (s : Session) : Type 0 where
   pub storage : Storage
   pub plan : Placement
-  pub stands : MachineRepresents storage known k plan s
+  pub stands : MachineRepresents storage told k plan s
   pub none : live_tasks s.jobs ≡ 0

@@ -16,7 +16,7 @@ ghost use Rattle.b67_session_schedule.specs.Counted.{choice_of, CountsHaveRoom};
 ghost use Rattle.b67_session_ends.specs.Closing.{HasJobOf, StandsChosen, ChoseSome, Closes, KeepsNames};
 ghost use Rattle.b67_session_ends.specs.Ends.{StandsFor};
 
-use crate::closing::{goes_on, with_stuck};
+use crate::left::{goes_on, with_stuck};
 use crate::counts::count_one;
 use crate::deaths::end_job;
 use crate::limits::has_row;

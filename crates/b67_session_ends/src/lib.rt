@@ -2,7 +2,7 @@
 #![tactic(auto)]
 
 mod closes;
-mod closing;
+mod left;
 mod counts;
 mod deaths;
 mod ends;
@@ -12,7 +12,7 @@ mod states;
 mod texts;
 
 pub use closes::{close, end_stuck};
-pub use closing::goes_on;
+pub use left::goes_on;
 pub use counts::count_one;
 pub use deaths::{all_ended, end_job};
 pub use ends::{end_by_limit, finish};

@@ -12,7 +12,7 @@ ghost use Rattle.b67_session_ends.specs.Holds.{with_state};
 
 use arrayvec::ArrayVec;
 use crate::deaths::all_ended;
-use crate::closing::goes_on;
+use crate::left::goes_on;
 use b67_task_end::{EndedTask, live_of};
 use b67_task_tables::{TaskState, Tasks};
 use b67_word::Ending;

@@ -26,12 +26,12 @@ programs_are d fs each = programs_back d.jobs (map program_of fs) (length-map fs
 pub free_are : (t : Table) (n : ℕ) → IsShelf t (all_free n) → t.free ≡ n
 free_are t n is = is.count ∙ length-row 1 n
 
-pub machine_opens : (d : Deck) (fs : List Codefile) (known : Option (List (List ℕ))) (x : Storage) (k : Machine) (core sectors : ℕ) → DeckInRange d → length fs ≡ length d.jobs → AllByRecursion IsLoaded fs
-    → Opens k.areas k.sectors known x k.cpu d.stack (map program_of fs)
+pub machine_opens : (d : Deck) (fs : List Codefile) (told : Option (List (List ℕ))) (x : Storage) (k : Machine) (core sectors : ℕ) → DeckInRange d → length fs ≡ length d.jobs → AllByRecursion IsLoaded fs
+    → Opens k.areas k.sectors told x k.cpu d.stack (map program_of fs)
     → TasksShow (opening_plan d.stack (map program_of fs)) (session_of d (map program_of fs)) k.tasks
     → row_names k.tasks.jobs ≡ job_names d.jobs → k.tasks.halt ≡ d.halt → k.tasks.printed ≡ 0 → length k.cpu.core ≡ core
-    → length k.sectors.links ≡ sectors + 1 → ((r : JobRow) → Has k.tasks.jobs r → IsCountable r) → OpensAs known d (map program_of fs) core sectors k
-machine_opens d fs known x k core sectors range each loaded opens shows names halt printed len links countable = record {
+    → length k.sectors.links ≡ sectors + 1 → ((r : JobRow) → Has k.tasks.jobs r → IsCountable r) → OpensAs told d (map program_of fs) core sectors k
+machine_opens d fs told x k core sectors range each loaded opens shows names halt printed len links countable = record {
   storage = x;
   stands = record {
     session = opens.session d.quantum (map switch_of d.switches) (openings_of d.jobs (map program_of fs)) (programs_are d fs each) (deck_within d fs range loaded);

@@ -23,9 +23,9 @@ sectors_of_all d ps = sectors (session_of d ps).jobs
 
 -- the machine represents the opening state of a deck's session, in a core of so many words over a device of so many sectors,
 -- of which this is known. A slice of steps may be called on it
-pub record OpensAs (known : Option (List (List ℕ))) (d : Deck) (ps : List Program) (core sectors : ℕ) (k : Machine) : Type 0 where
+pub record OpensAs (told : Option (List (List ℕ))) (d : Deck) (ps : List Program) (core sectors : ℕ) (k : Machine) : Type 0 where
   pub storage : Storage
-  pub stands : MachineRepresents storage known k (opening_plan d.stack ps) (session_of d ps)
+  pub stands : MachineRepresents storage told k (opening_plan d.stack ps) (session_of d ps)
   pub names : row_names k.tasks.jobs ≡ job_names d.jobs
   pub halt : k.tasks.halt ≡ d.halt
   pub printed : k.tasks.printed ≡ 0

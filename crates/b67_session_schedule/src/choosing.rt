@@ -11,7 +11,7 @@ ghost use Rattle.b67_session_schedule.specs.Chosen.{who_is, turn_lasts, IsReadyA
 
 use crate::counting::Chosen;
 use crate::ready::{Who, next_row, ready_row, ready_row_near};
-use crate::switches::{is_left, switch_to};
+use crate::switches::{is_left, due_switch};
 use b67_task_tables::Tasks;
 
 #[inline(always)]
@@ -30,7 +30,7 @@ fn switched_row(tasks: &Tasks) -> Option<u8>
     ensures row { (plan : Placement) (s : Session) → IsInOrderButPlaces s → TasksShow plan s tasks.now → RowOf tasks.now.rows.items result (switched s) }
     ensures inside { IfSome result (λ row. row < length tasks.now.rows.items) }
 {
-    match switch_to(tasks.switches.as_slice(), tasks.next_switch, tasks.made) {
+    match due_switch(tasks.switches.as_slice(), tasks.next_switch, tasks.made) {
         Some(who) => ready_row(tasks.rows.as_slice(), who),
         None => None,
     }

@@ -12,7 +12,7 @@ use b67_model_text::Switch;
 
 /// Whom the switch of a count names, if there is one. All switches before `from` are for lower counts.
 #[inline(always)]
-pub(crate) fn switch_to(switches: &[Switch], from: u32, made: u64) -> Option<Who>
+pub(crate) fn due_switch(switches: &[Switch], from: u32, made: u64) -> Option<Who>
     ensures { SwitchesRise (map switch_of switches.now) → Past from made (map switch_of switches.now)
         → SwitchesTo made (map switch_of switches.now) (option_map who_is result) }
 {

@@ -19,7 +19,7 @@ use crate::opening::open_slot;
 use b67_core::Core;
 use b67_ctl::Pcw;
 use b67_refer::activation_of;
-use b67_task_start_stack::{build_child, mark_under};
+use b67_task_start_stack::{build_child, mark_disp};
 use b67_task_tables::{JobRow, Machine, TaskRow, TaskState, Tasks};
 
 /// The program control word at an address.
@@ -94,7 +94,7 @@ pub fn start(machine: &mut Machine, cell: u32, args: u32) -> u32
         number,
         slot,
         parent: parent.slot,
-        critical: mark_under(&machine.cpu),
+        critical: mark_disp(&machine.cpu),
         state: TaskState::Ready,
         segment: procedure.segment,
         place: procedure.place,

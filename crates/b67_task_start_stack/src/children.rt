@@ -18,7 +18,7 @@ use b67_stack::Cpu;
 use b67_word::Word;
 
 /// The displacement of the mark under the running stack's topmost one.
-pub fn mark_under(cpu: &Cpu) -> u16
+pub fn mark_disp(cpu: &Cpu) -> u16
     requires { (x : Storage) × (p : MachineView) × (stack : List Activation) × Represents x cpu.now.core cpu.now.regs p × RunsOn p cpu.now.regs.slot stack × (below_top stack ≢ []) }
     ensures { (x : Storage) (p : MachineView) (stack : List Activation) → Represents x cpu.now.core cpu.now.regs p → RunsOn p cpu.now.regs.slot stack → below_top stack ≢ []
         → result ≡ mark_place (below_top stack) }
@@ -58,7 +58,7 @@ pub fn build_child(
     let _size = cpu.core.size();
     let base = cpu.regs.stacks + u32::from(slot) * u32::from(cpu.regs.stack_size);
     let parent = cpu.regs.slot;
-    let under = mark_under(cpu);
+    let under = mark_disp(cpu);
     let top = Toscw {
         s: (2 + count) as u16,
         level,

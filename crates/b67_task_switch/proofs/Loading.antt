@@ -11,7 +11,7 @@ use Rattle.b67_stack.specs.Common.{Activation, stack_words, mark_place, running_
 use Rattle.b67_layout.specs.Common.{Placement, stack_of_task, slot_at, machine_view, IsRunning, RepresentsTask, SessionHolds}
 use Rattle.b67_layout.proofs.Rows.{slot_below}
 use Rattle.b67_layout.proofs.Sessions.{running_only}
-use Rattle.b67_task_switch.specs.declared.switching.Turn.{Turn}
+use Rattle.b67_task_switch.specs.declared.registers.Turn.{Turn}
 use Rattle.b67_task_switch.specs.Turns.{with_running, IsTurnOf, WaitsOn, loaded}
 use Rattle.b67_task_switch.proofs.Replans.{fit_replan, stack-replan, slot_here, machine_view-turned}
 use Rattle.b67_task_switch.proofs.StackTurns.{Turned, Represents-turned, Settled-turned, SessionHolds-turned}

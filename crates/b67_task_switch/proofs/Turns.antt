@@ -11,7 +11,7 @@ use Rattle.b67_stack.specs.Represents.{Storage}
 use Rattle.b67_layout.specs.Rows as rows
 use Rattle.b67_task_switch.proofs.Replans.{fit_replan}
 use Rattle.b67_task_switch.specs.Turns.{with_running, IsTurnOf}
-use Rattle.b67_task_switch.specs.declared.switching.Turn.{Turn}
+use Rattle.b67_task_switch.specs.declared.registers.Turn.{Turn}
 use Rattle.b67_task_tables.specs.declared.tables.TaskRow.{TaskRow}
 use Rattle.b67_task_tables.specs.declared.tables.JobRow.{JobRow}
 use Rattle.b67_task_tables.specs.declared.tables.Tasks.{Tasks}

@@ -1,8 +1,8 @@
 //! Another task runs, and the same session stands.
 #![tactic(auto)]
 
-mod switching;
+mod registers;
 mod turning;
 
-pub use switching::{Turn, switch_stack};
+pub use registers::{Turn, switch_stack};
 pub use turning::switch_to;

@@ -14,7 +14,7 @@ ghost use Rattle.b67_task_tables.specs.declared.tables.Tasks.{Tasks};
 ghost use Rattle.b67_task_tables.specs.Tables.{TasksShow, MachineRepresents};
 ghost use Rattle.b67_task_switch.specs.Standing.{HasRow, InUse, Rests};
 
-use crate::switching::{Turn, switch_stack};
+use crate::registers::{Turn, switch_stack};
 use b67_ctl::Regs;
 use b67_task_tables::{Machine, TaskRow, Tasks};
 

@@ -17,7 +17,7 @@ use Rattle.b67_fetch.specs.Stores.{stored}
 use Rattle.b67_fetch.proofs.Words.{Choice, given, no_operand, followed}
 use Rattle.b67_fetch.proofs.Stores.{missing, refused, followed_end, at_fault, at_proc, at_array, at_intrinsic, cell_inside, element_inside, holds, cell_done, element_done, element_not}
 use Rattle.b67_fetch.proofs.StoreContext.{context, leads_to, MeetsElement}
-use Rattle.b67_fetch.proofs.storing.store.Goals.{then-tag-eq0, else-tag-eq0, in-Cell, in-Element+in-Ok-element_at}
+use Rattle.b67_fetch.proofs.storing.store.Goals.{then-tag-eq0, else-tag-eq0, in-Cell, in-Element+in-Ok-element_address}
 use Rattle.b67_fetch.proofs.storing.store.Goals as goal
 
 pub returns-in-Err : goal.returns-in-Err
@@ -59,8 +59,8 @@ returns-in-Err-chase c = record {
       (at_fault x old plan s m t o h runs q c.args.keeps (step.Fault c.in-Err-chase.fault) old k.cells.rest k.bits c.in-Err-chase.fault (follow (here m t q) (in_order k.cells.first k.cells.second).0) (leads_to x old plan s m t o h runs q p c.chase.result (Err c.in-Err-chase.fault) k c.in-Err-chase.is) refl refl);
 }
 
-pub element_at-requires : goal.element_at-requires
-element_at-requires c =
+pub element_address-requires : goal.element_address-requires
+element_address-requires c =
     let r = c.requires in
     let x = r.storage in let plan = r.plan in let s = r.session in let m = r.member in let t = r.task in let o = r.ordered in let h = r.stands in let runs = r.running in
     let ch : Choice c.in-Ok.two c.if-tag-eq0.reference = elim c.if-tag-eq0.branch [ then-tag-eq0 w ↦ inl (sym c.tag.ensures.value ∙ w.if-tag-eq0.true, w.reference-is) | else-tag-eq0 w ↦ inr (λ z. w.if-tag-eq0.false (c.tag.ensures.value ∙ z), w.reference-is) ] in
@@ -68,16 +68,16 @@ element_at-requires c =
     let k = context x old plan s m t o h runs q c.in-Ok.two p (c.in-Ok.ensures.cells x plan s m t o h runs) ch (sym c.tag-2.ensures.value ∙ c.if-tag-ne0.false) c.chase.result c.chase.ensures.running in
     holds x old plan s m t o h runs q c.args.keeps c.in-Element.original c.in-Element.index (follow (here m t q) (in_order k.cells.first k.cells.second).0) (leads_to x old plan s m t o h runs q p c.chase.result _ k (c.in-Ok-chase.is ∙ ap Ok c.in-Element.is))
 
-pub returns-in-Err-element_at : goal.returns-in-Err-element_at
-returns-in-Err-element_at c = record {
+pub returns-in-Err-element_address : goal.returns-in-Err-element_address
+returns-in-Err-element_address c = record {
   row = λ x plan s m t o h runs.
       let ch : Choice c.in-Ok.two c.if-tag-eq0.reference = elim c.if-tag-eq0.branch [ then-tag-eq0 w ↦ inl (sym c.tag.ensures.value ∙ w.if-tag-eq0.true, w.reference-is) | else-tag-eq0 w ↦ inr (λ z. w.if-tag-eq0.false (c.tag.ensures.value ∙ z), w.reference-is) ] in
       let old = c.args.cpu.now in let q = c.args.next in let p = c.if-tag-eq0.reference in
       let k = context x old plan s m t o h runs q c.in-Ok.two p (c.in-Ok.ensures.cells x plan s m t o h runs) ch (sym c.tag-2.ensures.value ∙ c.if-tag-ne0.false) c.chase.result c.chase.ensures.running in
       let E = MeetsElement x old plan s m t o h runs q c.in-Element.original c.in-Element.index in
-      followed_end x old plan s m t o h runs q c.args.keeps p k.cells c.in-Err-element_at.step old k.bits k.operand
-      (element_not x old plan s m t o h runs q c.args.keeps k.cells.first k.cells.second k.cells.rest k.cells.is c.in-Ok.ensures.above k.bits k.operand c.in-Element.original c.in-Element.index c.in-Err-element_at.step old refl (leads_to x old plan s m t o h runs q p c.chase.result _ k (c.in-Ok-chase.is ∙ ap Ok c.in-Element.is))
-      (subst E c.in-Err-element_at.is (c.element_at.ensures x plan s m t o h runs)));
+      followed_end x old plan s m t o h runs q c.args.keeps p k.cells c.in-Err-element_address.step old k.bits k.operand
+      (element_not x old plan s m t o h runs q c.args.keeps k.cells.first k.cells.second k.cells.rest k.cells.is c.in-Ok.ensures.above k.bits k.operand c.in-Element.original c.in-Element.index c.in-Err-element_address.step old refl (leads_to x old plan s m t o h runs q p c.chase.result _ k (c.in-Ok-chase.is ∙ ap Ok c.in-Element.is))
+      (subst E c.in-Err-element_address.is (c.element_address.ensures x plan s m t o h runs)));
 }
 
 pub returns-in-Array : goal.returns-in-Array
@@ -112,9 +112,9 @@ put-requires-clause-at c =
     let k = context x old plan s m t o h runs q c.in-Ok.two p (c.in-Ok.ensures.cells x plan s m t o h runs) ch (sym c.tag-2.ensures.value ∙ c.if-tag-ne0.false) c.chase.result c.chase.ensures.running in
     elim c.match-end.branch [
       | in-Cell w ↦ let low = cell_inside x old plan s m t o h runs q c.args.keeps w.in-Cell.at (follow (here m t q) (in_order k.cells.first k.cells.second).0) (leads_to x old plan s m t o h runs q p c.chase.result _ k (c.in-Ok-chase.is ∙ ap Ok w.in-Cell.is)) in omega (arith, low, w.at-is)
-      | in-Element+in-Ok-element_at w ↦
+      | in-Element+in-Ok-element_address w ↦
           let E = MeetsElement x old plan s m t o h runs q w.in-Element.original w.in-Element.index in
-          let low = element_inside x old plan s m t o h runs q c.args.keeps w.in-Element.original w.in-Element.index w.in-Ok-element_at.at (follow (here m t q) (in_order k.cells.first k.cells.second).0) (leads_to x old plan s m t o h runs q p c.chase.result _ k (c.in-Ok-chase.is ∙ ap Ok w.in-Element.is)) (subst E w.in-Ok-element_at.is (w.element_at.ensures x plan s m t o h runs)) in
+          let low = element_inside x old plan s m t o h runs q c.args.keeps w.in-Element.original w.in-Element.index w.in-Ok-element_address.at (follow (here m t q) (in_order k.cells.first k.cells.second).0) (leads_to x old plan s m t o h runs q p c.chase.result _ k (c.in-Ok-chase.is ∙ ap Ok w.in-Element.is)) (subst E w.in-Ok-element_address.is (w.element_address.ensures x plan s m t o h runs)) in
           omega (arith, low, w.at-is)
     ]
 
@@ -133,9 +133,9 @@ returns c = record {
       followed_end x old plan s m t o h runs q c.args.keeps p k.cells step.Done c.put.new.cpu k.bits k.operand
       (elim c.match-end.branch [
         | in-Cell w ↦ back w.in-Cell.at w.at-is (cell_done x old plan s m t o h runs q c.args.keeps k.cells.first k.cells.second k.cells.rest k.cells.is c.in-Ok.ensures.above k.bits k.operand w.in-Cell.at (leads_to x old plan s m t o h runs q p c.chase.result _ k (c.in-Ok-chase.is ∙ ap Ok w.in-Cell.is)))
-        | in-Element+in-Ok-element_at w ↦
+        | in-Element+in-Ok-element_address w ↦
             let E = MeetsElement x old plan s m t o h runs q w.in-Element.original w.in-Element.index in
-            back w.in-Ok-element_at.at w.at-is (element_done x old plan s m t o h runs q c.args.keeps k.cells.first k.cells.second k.cells.rest k.cells.is c.in-Ok.ensures.above k.bits k.operand w.in-Element.original w.in-Element.index w.in-Ok-element_at.at
-            (leads_to x old plan s m t o h runs q p c.chase.result _ k (c.in-Ok-chase.is ∙ ap Ok w.in-Element.is)) (subst E w.in-Ok-element_at.is (w.element_at.ensures x plan s m t o h runs)))
+            back w.in-Ok-element_address.at w.at-is (element_done x old plan s m t o h runs q c.args.keeps k.cells.first k.cells.second k.cells.rest k.cells.is c.in-Ok.ensures.above k.bits k.operand w.in-Element.original w.in-Element.index w.in-Ok-element_address.at
+            (leads_to x old plan s m t o h runs q p c.chase.result _ k (c.in-Ok-chase.is ∙ ap Ok w.in-Element.is)) (subst E w.in-Ok-element_address.is (w.element_address.ensures x plan s m t o h runs)))
       ]);
 }

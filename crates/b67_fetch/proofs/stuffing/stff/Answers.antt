@@ -32,8 +32,8 @@ pub returns-in-None : goal.returns-in-None
 returns-in-None c = record {
   row = λ x plan s m t ordered h runs.
       let top = top_followed x c.args.cpu.now plan s m t c.in-Ok.word ordered runs (c.in-Ok.ensures.cell x plan s m t ordered h runs) in
-      stff_stays x c.args.cpu.now plan s m t ordered h runs c.args.next c.in-Ok.word top (sym c.tag.ensures.value ∙ c.if-tag-ne1.false) c.go_on.result c.go_on.new.cpu
-      (λ i fits e. none-some i (sym c.in-None.is ∙ c.from_word.ensures.known i fits e)) (c.go_on.ensures.row x plan s m t ordered h runs);
+      stff_stays x c.args.cpu.now plan s m t ordered h runs c.args.next c.in-Ok.word top (sym c.tag.ensures.value ∙ c.if-tag-ne1.false) c.branch_to.result c.branch_to.new.cpu
+      (λ i fits e. none-some i (sym c.in-None.is ∙ c.from_word.ensures.known i fits e)) (c.branch_to.ensures.row x plan s m t ordered h runs);
 }
 
 pub cell_of-requires : goal.cell_of-requires

@@ -4,8 +4,8 @@ use Rattle.b67_stack.specs.declared.Cpu.{Cpu}
 use Rattle.b67_layout.specs.Common.{with_job, IsInStack, RepresentsSession}
 use Rattle.b67_mcp_calls.specs.Calls.{job_cut}
 use Rattle.b67_mcp_calls.specs.Declaring.{job_declared, with_home, without}
-use Rattle.b67_exec_calls.proofs.Pushed.{room}
-use Rattle.b67_exec_calls.proofs.Answering.{task_cut, member_cut, runs_cut, higher, changed}
+use Rattle.b67_mcp_call.proofs.Pushed.{room}
+use Rattle.b67_mcp_call.proofs.Answering.{task_cut, member_cut, runs_cut, higher, changed}
 use Rattle.b67_mcp_calls.proofs.Arrays.{array_answered}
 use Rattle.b67_mcp_calls.proofs.declare.answer_array.Goals as goal
 

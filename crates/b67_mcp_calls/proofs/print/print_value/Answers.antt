@@ -3,7 +3,7 @@ use Rattle.std.specs.Result.{is_ok}
 use Rattle.b67_word.specs.declared.faults.Fault.{Fault}
 use Rattle.b67_mcp_calls.specs.Calls.{PrintMeets}
 use Rattle.b67_layout.proofs.Fresh.{running_in_order}
-use Rattle.b67_exec_calls.proofs.Ones.{value_is}
+use Rattle.b67_mcp_call.proofs.Ones.{value_is}
 use Rattle.b67_mcp_calls.proofs.Prints.{not_one, decided, decided_critical}
 use Rattle.b67_mcp_calls.proofs.print.print_value.Goals.{else-is_ok-via-then-is_ok+else-is_critical, else-is_ok-via-else-is_ok}
 use Rattle.b67_mcp_calls.proofs.print.print_value.Goals as goal

@@ -2,8 +2,8 @@ use Rattle.std.proofs.Common.{refl, ◌∙◌, ap}
 use Rattle.b67_word.specs.Tagged.{word}
 use Rattle.b67_model.specs.Words.{Operand}
 use Rattle.b67_layout.specs.Meets.{with_job}
-use Rattle.b67_exec_calls.specs.Answered.{job_answered}
-use Rattle.b67_exec_calls.proofs.Standing.{machine_answered, same_size}
+use Rattle.b67_mcp_call.specs.Answered.{job_answered}
+use Rattle.b67_mcp_call.proofs.Standing.{machine_answered, same_size}
 use Rattle.b67_mcp_process.proofs.starting.answer.Goals as goal
 
 pub answer_call-requires-clause-call : goal.answer_call-requires-clause-call

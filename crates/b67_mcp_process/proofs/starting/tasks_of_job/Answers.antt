@@ -5,7 +5,7 @@ use Rattle.b67_lemmas.proofs.Members.{keyed_has}
 use Rattle.b67_model.specs.Run.{number_of}
 use Rattle.b67_task_start.proofs.Rows.{rows_few}
 use Rattle.b67_task_tables.specs.declared.tables.TaskRow.{TaskRow}
-use Rattle.b67_exec_calls.proofs.Rows.{row_of}
+use Rattle.b67_mcp_call.proofs.Rows.{row_of}
 use Rattle.b67_mcp_process.specs.Begins.{rows_of_job}
 use Rattle.b67_mcp_process.proofs.Counts.{counted_tasks, rows_are}
 use Rattle.b67_mcp_process.proofs.starting.tasks_of_job.Goals as goal

@@ -6,7 +6,7 @@ use Rattle.b67_layout.specs.Session.{RepresentsSession}
 use Rattle.b67_layout.specs.Meets.{here}
 use Rattle.b67_task_tables.specs.declared.tables.TaskRow.{TaskRow}
 use Rattle.b67_task_tables.specs.declared.tables.Tasks.{Tasks}
-use Rattle.b67_exec_calls.specs.Calls.{CutSome}
+use Rattle.b67_mcp_call.specs.Calls.{CutSome}
 use Rattle.b67_mcp_waits.specs.Arguments.{end_given}
 use Rattle.b67_mcp_waits.specs.Woken.{woken_row}
 use Rattle.b67_mcp_waits.proofs.Arguments.{cause_is, may_end}

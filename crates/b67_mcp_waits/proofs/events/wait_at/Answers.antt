@@ -6,8 +6,8 @@ use Rattle.b67_model.specs.Common.{Answer, ◌>>=◌, End, AtCell, Task, waits_a
 use Rattle.b67_model.specs.State as State
 use Rattle.b67_layout.specs.Common.{WaitsAtCell, frame_address, here}
 use Rattle.b67_layout.proofs.Fresh.{running_in_order}
-use Rattle.b67_exec_calls.specs.Calls.{job_cut}
-use Rattle.b67_exec_calls.proofs.Standing.{machine_cut}
+use Rattle.b67_mcp_call.specs.Calls.{job_cut}
+use Rattle.b67_mcp_call.proofs.Standing.{machine_cut}
 use Rattle.b67_mcp_waits.specs.Arguments.{end_given}
 use Rattle.b67_mcp_waits.proofs.Arguments.{wait_is, may_end}
 use Rattle.b67_mcp_waits.proofs.EndCells.{found_here, wait_fault, wait_zero, wait_other}

@@ -8,8 +8,8 @@ use Rattle.b67_layout.specs.Meets.{here}
 use Rattle.b67_layout.proofs.Fresh.{running_in_order}
 use Rattle.b67_task_tables.specs.Tables.{state_of}
 use Rattle.b67_task_end.proofs.Living.{next_at}
-use Rattle.b67_exec_calls.specs.Calls.{job_cut}
-use Rattle.b67_exec_calls.proofs.Standing.{machine_cut}
+use Rattle.b67_mcp_call.specs.Calls.{job_cut}
+use Rattle.b67_mcp_call.proofs.Standing.{machine_cut}
 use Rattle.b67_mcp_waits.proofs.Arguments.{await_is, may_number}
 use Rattle.b67_mcp_waits.proofs.Awaited.{live_number, await_waits, await_free}
 use Rattle.b67_mcp_waits.proofs.Made.{runs_some, call_some, kept_same, has_job, answers_critical, answers_cut}

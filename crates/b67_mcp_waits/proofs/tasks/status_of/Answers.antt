@@ -5,8 +5,8 @@ use Rattle.b67_word.specs.Tagged.{word}
 use Rattle.b67_model.specs.Common.{Answer, ◌>>=◌, Operand, Task, answers, answered, status_of}
 use Rattle.b67_layout.specs.Meets.{here, with_job}
 use Rattle.b67_layout.proofs.Fresh.{running_in_order}
-use Rattle.b67_exec_calls.specs.Answered.{job_answered}
-use Rattle.b67_exec_calls.proofs.Standing.{machine_answered, same_size}
+use Rattle.b67_mcp_call.specs.Answered.{job_answered}
+use Rattle.b67_mcp_call.proofs.Standing.{machine_answered, same_size}
 use Rattle.b67_mcp_waits.proofs.Arguments.{status_is, may_number}
 use Rattle.b67_mcp_waits.proofs.Made.{runs_some, call_some, kept_same, has_job, answers_critical, answers_one}
 use Rattle.b67_mcp_waits.proofs.tasks.status_of.Goals as goal

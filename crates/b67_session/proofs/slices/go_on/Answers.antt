@@ -86,12 +86,12 @@ pub step-requires-clause-sized : goal.step-requires-clause-sized
 step-requires-clause-sized g c = omega (arith, c.turn.invariant.device.size, c.turn.invariant.keeps.sectors, c.requires.sized)
 
 -- the step was made
-module _ (g : Over) (c : After-step g) (is : c.step.result ≡ Ok tt) (due : c.turn.machine.tasks.halt ≢ Some c.turn.machine.tasks.made) (known : Option (List (List ℕ))) (s : Session) (says : Says known (g.B.Backing.holds c.args.backing.now)) (h : StandsAt known c.args.machine.now s) where
-  abbrev one_more : Going g.K.Sink.taken (known ≢ None) (content_after known (g.B.Backing.holds c.step.new.backing)) (c.turn.made + 1) s c.args.machine.now c.step.new.machine c.args.paper.now c.step.new.paper
+module _ (g : Over) (c : After-step g) (is : c.step.result ≡ Ok tt) (due : c.turn.machine.tasks.halt ≢ Some c.turn.machine.tasks.made) (told : Option (List (List ℕ))) (s : Session) (says : Says told (g.B.Backing.holds c.args.backing.now)) (h : StandsAt told c.args.machine.now s) where
+  abbrev one_more : Going g.K.Sink.taken (told ≢ None) (content_after told (g.B.Backing.holds c.step.new.backing)) (c.turn.made + 1) s c.args.machine.now c.step.new.machine c.args.paper.now c.step.new.paper
   one_more =
-      going-steps g.K.Sink.taken (known ≢ None) (now g c known s says h) (g.B.Backing.size c.args.backing.now) c.args.n c.turn.made s c.args.machine.now c.turn.machine c.args.paper.now c.turn.paper (going g c known s says h)
-      (content_after known (g.B.Backing.holds c.step.new.backing)) (known_still known (g.B.Backing.holds c.turn.backing) (tells g c known s says h)) c.step.new.machine c.step.new.paper
-      c.turn.invariant.keeps due (stepped g c known s says h (Ok tt) is)
+      going-steps g.K.Sink.taken (told ≢ None) (now g c told s says h) (g.B.Backing.size c.args.backing.now) c.args.n c.turn.made s c.args.machine.now c.turn.machine c.args.paper.now c.turn.paper (going g c told s says h)
+      (content_after told (g.B.Backing.holds c.step.new.backing)) (known_still told (g.B.Backing.holds c.turn.backing) (tells g c told s says h)) c.step.new.machine c.step.new.paper
+      c.turn.invariant.keeps due (stepped g c told s says h (Ok tt) is)
 
 pub go_on_with_turn-more-requires-clause-stands : goal.go_on_with_turn-more-requires-clause-stands
 go_on_with_turn-more-requires-clause-stands g c =

@@ -15,12 +15,12 @@ invariant-turn g l = record {
   later : g.K.Sink.faults l.initial.paper ≤ g.K.Sink.faults l.paper;
   device : DeviceAfterCalls g.B.Backing.holds g.B.Backing.size g.B.Backing.calls g.B.Backing.faults l.initial.backing l.backing;
   keeps : Keeps l.initial.machine l.machine;
-  going : (known : Option (List (List ℕ))) (s : Session) → Says known (g.B.Backing.holds l.initial.backing) → StandsAt known l.initial.machine s
-      → Going g.K.Sink.taken (known ≢ None) (content_after known (g.B.Backing.holds l.backing)) l.made s l.initial.machine l.machine l.initial.paper l.paper;
+  going : (told : Option (List (List ℕ))) (s : Session) → Says told (g.B.Backing.holds l.initial.backing) → StandsAt told l.initial.machine s
+      → Going g.K.Sink.taken (told ≢ None) (content_after told (g.B.Backing.holds l.backing)) l.made s l.initial.machine l.machine l.initial.paper l.paper;
   begun : l.made ≡ 0 → (l.machine ≡ l.initial.machine) × (l.backing ≡ l.initial.backing);
   none : l.initial.machine.tasks.rows.items ≡ [] → l.made ≡ 0;
   unprinted : l.made ≡ 0 → l.paper ≡ l.initial.paper;
-  quiet : (known : Option (List (List ℕ))) (s : Session) (m : SessionJob) (t : Task) (h : StandsAt known l.initial.machine s) → Says known (g.B.Backing.holds l.initial.backing) → IsNext s m t
+  quiet : (told : Option (List (List ℕ))) (s : Session) (m : SessionJob) (t : Task) (h : StandsAt told l.initial.machine s) → Says told (g.B.Backing.holds l.initial.backing) → IsNext s m t
       → l.n ≤ 1 → WantsNothing h.storage h.plan m t → (CallsDevice m t → ⊥) → l.backing ≡ l.initial.backing;
 }
 

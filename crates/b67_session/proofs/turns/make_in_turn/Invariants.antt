@@ -14,8 +14,8 @@ invariant-operator l = record {
   few : l.made ≤ l.room;
   tables : l.machine.tasks ≡ l.initial.machine.tasks;
   keeps : Keeps l.initial.machine l.machine;
-  turn : (x : Storage) (known : Option (List (List ℕ))) (plan : Placement) (s : Session) → IsInOrderButPlaces s → MachineRepresents x known l.initial.machine plan s → TurnLasts plan s l.room
-      → HasTurn known l.made (l.room - l.made) s (length l.initial.machine.cpu.core) l.machine;
+  turn : (x : Storage) (told : Option (List (List ℕ))) (plan : Placement) (s : Session) → IsInOrderButPlaces s → MachineRepresents x told l.initial.machine plan s → TurnLasts plan s l.room
+      → HasTurn told l.made (l.room - l.made) s (length l.initial.machine.cpu.core) l.machine;
 }
 
 abbrev pub decreases-operator : goal.decreases-operator

@@ -5,7 +5,7 @@ use Rattle.b67_exec_cells.specs.Running.{code_area}
 use Rattle.b67_task_tables.specs.declared.tables.Machine.{Machine}
 use Rattle.b67_task_tables.specs.declared.tables.Tasks.{Tasks}
 use Rattle.b67_mcp.specs.Running.{JobsHaveRoom}
-use Rattle.b67_session_attempt.specs.declared.attempts.Attempt.TheVariants.{Made, Ends, Waits}
+use Rattle.b67_session_attempt.specs.declared.outcomes.Attempt.TheVariants.{Made, Ends, Waits}
 use Rattle.b67_session_attempt.proofs.Composed.{made_once, ends_once, waits_once, stops_once, never, unchanged_over, goes_on_telling, stopped_attempt, runs_over, wants_some, tables_after_end, tables_after_wait, tables_after_want, tables_after_stop, tables_stay, tables_from, room_after_stop, may_call, stop_calls, attempt_as, same_needs, still_told, other, in_order, then_on, room_after_want, code_there}
 use Rattle.b67_session_attempt.proofs.Runs.{ready_over, caused_none, caused_stop, caused_want, caused_later, kept_then, kept_tasks}
 use Rattle.b67_session_attempt.proofs.attempting.attempt.Goals as goal

@@ -5,8 +5,8 @@ use Rattle.b67_layout.specs.Layout.{machine_view, stack_of_task}
 use Rattle.b67_task_start_stack.proofs.Building.{on_stack, two_marks, few_words, base_is, few_copied, apart, slot_small, job_small, child_built}
 use Rattle.b67_task_start_stack.proofs.children.build_child.Goals as goal
 
-pub mark_under-under-requires : goal.mark_under-under-requires
-mark_under-under-requires c =
+pub mark_disp-under-requires : goal.mark_disp-under-requires
+mark_disp-under-requires c =
     let q = c.requires in
     let k = c.args.cpu.now in (
       q.storage,
@@ -87,11 +87,11 @@ returns-clause-stands c = λ x plan s m t after child b.
     let vector : 70368744177664 + c.from-4.result * 68719476736 + c.from-5.result * 65536 ≡ 2 ^ 46 + k.regs.slot * 2 ^ 36 + c.args.job * 2 ^ 16 = omega (arith, c.from-4.ensures, c.from-5.ensures) in
     let written = c.set.ensures.value ∙ ap (λ (n : ℕ). slice_set c.build_stack.new.core (32 + n) c.of.result) c.from-6.ensures ∙ ap (λ (w : Tagged). slice_set c.build_stack.new.core (32 + slot) w) c.of.ensures in
     child_built x k plan s m t after child slot c.args.job c.args.env_stack c.args.env_disp c.args.level c.args.count b
-    c.set.new.self c.build_stack.new.core c.depend.new.critical _ c.mark_under-under.result _ _ _
+    c.set.new.self c.build_stack.new.core c.depend.new.critical _ c.mark_disp-under.result _ _ _
     (base_is x k plan s m t after child slot c.args.job c.args.env_stack c.args.env_disp c.args.level c.args.count b c.from.result c.from-2.result c.from.ensures c.from-2.ensures)
     refl
     (ap (λ (n : ℕ). let w : Mscw = record { far = not (c.args.env_stack == n); entered = true; env_stack = c.args.env_stack; env_disp = c.args.env_disp; value = false; level = c.args.level; back = 0 } in w) c.from-3.ensures)
-    (c.mark_under-under.ensures x (machine_view plan s.jobs) (stack_of_task plan m.constants.number m.progress.job plan.running t) b.stands.holds.memory
+    (c.mark_disp-under.ensures x (machine_view plan s.jobs) (stack_of_task plan m.constants.number m.progress.job plan.running t) b.stands.holds.memory
     (on_stack x k plan s m t after child slot c.args.job c.args.env_stack c.args.env_disp c.args.level c.args.count b)
     (two_marks x k plan s m t after child slot c.args.job c.args.env_stack c.args.env_disp c.args.level c.args.count b))
     vector
