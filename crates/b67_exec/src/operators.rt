@@ -17,7 +17,10 @@ use crate::evaluating::{evaluate, load};
 use b67_arith::Numeric;
 use b67_entry::{exit, retn};
 use b67_entry_enter::{entr, mkst};
-use b67_exec_cells::{Binary, Unary, branch_if, dlet, dupl, exch, branch_to, literal, mpcw, namc, on_numbers, on_one, on_two, present_segment, read_in};
+use b67_exec_cells::{
+    Binary, Unary, branch_if, branch_to, dlet, dupl, exch, literal, mpcw, namc, on_numbers, on_one,
+    on_two, present_segment, read_in,
+};
 use b67_fetch::{indx, nxlv, stff};
 use b67_model::{Code, Op};
 use b67_stack::{Cpu, Step, What};

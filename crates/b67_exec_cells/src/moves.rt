@@ -10,8 +10,8 @@ ghost use Rattle.b67_layout.specs.Placement.{Placement};
 ghost use Rattle.b67_layout.specs.Meets.{here, Meets, RunsSome, ForEach};
 ghost use Rattle.b67_layout.specs.Tops.{IsWordOf};
 
-use b67_ctl::DataDesc;
 use crate::cells::{drop_cells, replace_cells, top_cell, two_cells};
+use b67_ctl::DataDesc;
 use b67_stack::{Cpu, Step};
 use b67_word::{Fault, Place, Word};
 

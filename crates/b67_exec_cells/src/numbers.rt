@@ -7,10 +7,10 @@ ghost use Rattle.b67_arith.specs.OnWords.{on_word, on_words};
 ghost use Rattle.b67_layout.specs.Meets.{here, Meets, RunsSome, ForEach};
 ghost use Rattle.b67_exec_cells.specs.Meanings.{of_one, of_two};
 
+use crate::cells::{replace_cells, top_cell, two_cells};
 use b67_arith::{
     Numeric, brst, bset, chsn, combine, idiv, insr, isol, land, leqv, lnot, lor, mult, rdiv, same,
 };
-use crate::cells::{replace_cells, top_cell, two_cells};
 use b67_stack::{Cpu, Step};
 use b67_word::{Fault, Place, Word};
 

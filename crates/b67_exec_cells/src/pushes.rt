@@ -5,8 +5,8 @@ ghost use Rattle.b67_model.specs.Words.{Operand, Name};
 ghost use Rattle.b67_model.specs.Steps.{pushes};
 ghost use Rattle.b67_layout.specs.Meets.{here, Meets, RunsSome, ForEach};
 
-use b67_ctl::Irw;
 use crate::cells::replace_cells;
+use b67_ctl::Irw;
 use b67_stack::{Cpu, Step};
 use b67_word::{Place, Word};
 

@@ -9,8 +9,8 @@ ghost use Rattle.b67_mcp_calls.specs.Lengthening.{EmptyMeets, ResizeMeets};
 use crate::declare::length_in;
 use crate::row::copied;
 use b67_entry::is_critical;
-use b67_mcp_call::only_argument;
 use b67_exec_cells::{array_descriptor, count_cells, two_cells};
+use b67_mcp_call::only_argument;
 use b67_stack::Cpu;
 use b67_word::Fault;
 

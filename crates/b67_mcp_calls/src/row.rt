@@ -12,8 +12,8 @@ ghost use Rattle.b67_mcp_calls.specs.RowCalls.{CopyMeets, MissesCopy, RowMeets, 
 use crate::whole::are_whole;
 use b67_ctl::DataDesc;
 use b67_entry::is_critical;
-use b67_mcp_call::only_argument;
 use b67_exec_cells::array_descriptor;
+use b67_mcp_call::only_argument;
 use b67_refer::owner;
 use b67_stack::Cpu;
 use b67_word::{Fault, Word};

@@ -7,8 +7,8 @@ ghost use Rattle.b67_mcp.specs.Called.{AreCountable};
 ghost use Rattle.b67_mcp.specs.Running.{CanNumber, JobsHaveRoom, CallCauses, Kept};
 ghost use Rattle.b67_session_attempt.specs.Attempts.{RunsOver, ForEachOver, WantsNothing, Attempts, AttemptFits, AttemptRow, TablesStay};
 
-use crate::outcomes::Attempt;
 use crate::bringing::bring_wanted;
+use crate::outcomes::Attempt;
 use crate::tries::{Tried, try_once};
 use b67_backing::Backing;
 use b67_io::Sink;

@@ -2,13 +2,13 @@
 #![tactic(auto)]
 
 mod attempting;
-mod outcomes;
 mod bringing;
 mod fits;
+mod outcomes;
 mod tries;
 
 pub use attempting::attempt;
-pub use outcomes::Attempt;
 pub use b67_mcp::Stop;
 pub use fits::{made_fits, present_fits};
+pub use outcomes::Attempt;
 pub use tries::{Tried, try_once};

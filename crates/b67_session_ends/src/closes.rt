@@ -16,9 +16,9 @@ ghost use Rattle.b67_session_schedule.specs.Counted.{choice_of, CountsHaveRoom};
 ghost use Rattle.b67_session_ends.specs.Closing.{HasJobOf, StandsChosen, ChoseSome, Closes, KeepsNames};
 ghost use Rattle.b67_session_ends.specs.Ends.{StandsFor};
 
-use crate::left::{goes_on, with_stuck};
 use crate::counts::count_one;
 use crate::deaths::end_job;
+use crate::left::{goes_on, with_stuck};
 use crate::limits::has_row;
 use crate::texts::put_endings;
 use b67_io::Sink;

@@ -11,11 +11,11 @@ ghost use Rattle.b67_session_schedule.specs.Counted.{choice_of, CountsHaveRoom};
 ghost use Rattle.b67_session_ends.specs.Closing.{StandsChosen, Closes, KeepsNames};
 ghost use Rattle.b67_session_ends.specs.Holds.{holding, HoldsSo, HoldsSome};
 
-use crate::states::{set_state, stuck};
-use b67_io::Sink;
-use crate::counts::count_one;
 use crate::closes::end_stuck;
+use crate::counts::count_one;
+use crate::states::{set_state, stuck};
 use crate::texts::put_endings;
+use b67_io::Sink;
 use b67_session_schedule::Chosen;
 use b67_task_tables::{Machine, TaskState};
 use b67_word::Failed;

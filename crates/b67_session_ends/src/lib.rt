@@ -2,20 +2,20 @@
 #![tactic(auto)]
 
 mod closes;
-mod left;
 mod counts;
 mod deaths;
 mod ends;
 mod holds;
+mod left;
 mod limits;
 mod states;
 mod texts;
 
 pub use closes::{close, end_stuck};
-pub use left::goes_on;
 pub use counts::count_one;
 pub use deaths::{all_ended, end_job};
 pub use ends::{end_by_limit, finish};
 pub use holds::hold;
+pub use left::goes_on;
 pub use limits::is_at_limit;
 pub use texts::put_endings;

@@ -10,9 +10,9 @@ ghost use Rattle.b67_task_tables.specs.declared.tables.TaskRow as table;
 ghost use Rattle.b67_task_end.specs.Family.{TablesHold, HasSomeHead, pair_of};
 ghost use Rattle.b67_session_ends.specs.Holds.{with_state};
 
-use arrayvec::ArrayVec;
 use crate::deaths::all_ended;
 use crate::left::goes_on;
+use arrayvec::ArrayVec;
 use b67_task_end::{EndedTask, live_of};
 use b67_task_tables::{TaskState, Tasks};
 use b67_word::Ending;

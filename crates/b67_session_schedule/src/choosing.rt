@@ -11,7 +11,7 @@ ghost use Rattle.b67_session_schedule.specs.Chosen.{who_is, turn_lasts, IsReadyA
 
 use crate::counting::Chosen;
 use crate::ready::{Who, next_row, ready_row, ready_row_near};
-use crate::switches::{is_left, due_switch};
+use crate::switches::{due_switch, is_left};
 use b67_task_tables::Tasks;
 
 #[inline(always)]
