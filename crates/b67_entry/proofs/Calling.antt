@@ -18,7 +18,7 @@ use Rattle.b67_stack.specs.Common.{PagedObject, Storage, RepresentsRunning}
 use Rattle.b67_stack.proofs.Slots.{running_slot}
 use Rattle.b67_layout.proofs.Common.{member-same, IsFree, change-has, fresh, running_in_order, with_job-twice, RepresentsSession-condition}
 use Rattle.b67_refer.specs.Ends.{IsProcAt}
-use Rattle.b67_entry_enter.specs.Procedures.{CanEnter, IsEntered, EntersOrFaults}
+use Rattle.b67_entry.specs.Procedures.{CanEnter, IsEntered, EntersOrFaults}
 use Rattle.b67_layout.proofs.Objects.{objects-after}
 use Rattle.b67_entry.proofs.Returned.{clear_mark, clear_return}
 use Rattle.b67_layout_records.proofs.Leaves.{task_at}

@@ -13,7 +13,7 @@ use Rattle.b67_refer.specs.declared.ends.End.{End}
 use Rattle.b67_refer.specs.RunningContext.{RunningContext, IsShown}
 use Rattle.b67_refer.specs.Cells.{StandsFor}
 use Rattle.b67_refer.specs.Ends.{IsProcAt, EndMeets}
-use Rattle.b67_entry_enter.specs.Procedures.{CanEnter, EntersOrFaults}
+use Rattle.b67_entry.specs.Procedures.{CanEnter, EntersOrFaults}
 use Rattle.b67_entry.specs.Left.{Returns, caller_regs, caller_stack}
 use Rattle.b67_entry.specs.Returned.{with_word, ReturnsWord}
 use Rattle.b67_entry.proofs.Leaving.{regs_left}

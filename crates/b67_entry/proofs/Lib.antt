@@ -18,3 +18,13 @@ pub mod Evaluating
 pub mod Calling
 pub mod Candidates
 pub mod RetnContext
+pub mod Marking
+pub mod Leads
+pub mod Firsts
+pub mod Called
+pub mod Unasked
+pub mod Plain
+pub mod Accidental
+pub mod Segments
+pub mod Sites
+pub mod Entering

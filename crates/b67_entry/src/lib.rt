@@ -1,11 +1,12 @@
-//! Activation records: entered, left by EXIT and RETN, with the words that may not be returned.
+//! Activation records: marked, entered through a reference or in place, and left by EXIT and RETN, with the words that may not be returned.
 #![tactic(auto)]
 
+mod enter;
 mod leave;
 mod refusals;
 mod returns;
 
-pub use b67_entry_enter::{accident, entr, mkst};
+pub use enter::{accident, accident_on, entr, mkst};
 pub use leave::{caller, exit, is_critical};
 pub use refusals::refusal;
 pub use returns::retn;

@@ -10,10 +10,10 @@ ghost use Rattle.b67_refer.specs.RunningContext.{RunningContext, IsShown};
 ghost use Rattle.b67_entry.specs.Left.{Returns, caller_regs, caller_stack, here_left};
 ghost use Rattle.b67_entry.specs.Returned.{ReturnsWord, with_word};
 
+use crate::enter::accident_on;
 use crate::leave::{caller, is_critical};
 use crate::refusals::refusal;
 use b67_ctl::Regs;
-use b67_entry_enter::accident_on;
 use b67_exec_cells::element;
 use b67_refer::{End, chase, rebuild};
 use b67_stack::{Cpu, Step, What};

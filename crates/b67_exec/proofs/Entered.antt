@@ -17,7 +17,7 @@ use Rattle.b67_refer.specs.declared.ends.End.{End}
 use Rattle.b67_refer.specs.declared.ends.End.TheVariants as end
 use Rattle.b67_refer.specs.RunningContext.{RunningContext}
 use Rattle.b67_refer.specs.Ends.{EndMeets, IsProcAt}
-use Rattle.b67_entry_enter.specs.Procedures.{ReachesProc}
+use Rattle.b67_entry.specs.Procedures.{ReachesProc}
 use Rattle.b67_fetch.specs.Fetches.{enters, enters_at, EntersOrMeets}
 use Rattle.b67_fetch.proofs.Values.{here_scene, here_shown, followed_stands, couple_followed}
 use Rattle.b67_exec.specs.Procedures.{Leads}

@@ -22,7 +22,7 @@ use Rattle.b67_refer.specs.RunningContext.{RunningContext}
 use Rattle.b67_refer.specs.Ends.{IsProcAt}
 use Rattle.b67_refer.proofs.Scenes.{scene}
 use Rattle.b67_stack.proofs.ClearHeads.{clear_settled}
-use Rattle.b67_entry_enter.specs.Procedures.{CanEnter, IsEntered, EntersOrFaults}
+use Rattle.b67_entry.specs.Procedures.{CanEnter, IsEntered, EntersOrFaults}
 use Rattle.b67_exec.proofs.Looks.{spots-same, reach-same, level-same, cell-same}
 
 cells-back : (fs : List Frame) (cs : List Word) → with_top_cells (with_top_cells fs cs) (top (with_top_cells fs cs)).cells ≡ with_top_cells fs cs

@@ -18,7 +18,7 @@ use Rattle.b67_layout.proofs.Common.{task_with, running_in_order, cells_in_order
 use Rattle.b67_exec_cells.proofs.Put.{room, top_given, dropped_stands, dropped-fits}
 use Rattle.b67_refer.specs.RunningContext.{RunningContext}
 use Rattle.b67_refer.specs.Ends.{IsProcAt}
-use Rattle.b67_entry_enter.specs.Procedures.{CanEnter, EntersOrFaults}
+use Rattle.b67_entry.specs.Procedures.{CanEnter, EntersOrFaults}
 use Rattle.b67_fetch.specs.Fetches.{enters_at, top_end}
 use Rattle.b67_fetch.proofs.Values.{TopFollowed, top_followed, followed_plain, here_scene, here_shown, followed_stands}
 use Rattle.b67_exec.proofs.Entries.{EntersOver, scene0, member0, task0, proc_moves, can_enter, entered}

@@ -12,7 +12,7 @@ use Rattle.b67_stack.specs.declared.Step.{Step}
 use Rattle.b67_stack.specs.Represents.{Storage}
 use Rattle.b67_layout.specs.Placement.{Placement}
 use Rattle.b67_exec_cells.specs.Running.{code_area}
-use Rattle.b67_entry_enter.specs.Procedures.{CallsOrMeets}
+use Rattle.b67_entry.specs.Procedures.{CallsOrMeets}
 use Rattle.b67_exec.specs.Operators.{ParametersFit, called_by, OperatorAt, OperatorMeets}
 
 fits_by : (op : Op) → OpBits op → ParametersFit op

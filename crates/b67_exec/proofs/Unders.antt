@@ -25,7 +25,7 @@ use Rattle.b67_exec_cells.proofs.Replaced.{height-with}
 use Rattle.b67_exec_cells.proofs.Put.{room, replaced_stands}
 use Rattle.b67_refer.specs.RunningContext.{RunningContext}
 use Rattle.b67_refer.specs.Ends.{IsProcAt}
-use Rattle.b67_entry_enter.specs.Procedures.{CanEnter, EntersOrFaults}
+use Rattle.b67_entry.specs.Procedures.{CanEnter, EntersOrFaults}
 use Rattle.b67_fetch.proofs.Values.{here_scene}
 use Rattle.b67_exec.proofs.Entries.{EntersOver, scene0, member0, task0, proc_moves, can_enter, entered}
 use Rattle.b67_exec.proofs.Entered.{AtProcedure}

@@ -11,7 +11,7 @@ use Rattle.b67_stack.specs.declared.Step.{Step}
 use Rattle.b67_stack.specs.declared.Step.TheVariants as answers
 use Rattle.b67_stack.specs.Represents.{Storage}
 use Rattle.b67_layout.specs.Placement.{Placement}
-pub use Rattle.b67_entry_enter.specs.Procedures.{CallsOrMeets}
+pub use Rattle.b67_entry.specs.Procedures.{CallsOrMeets}
 use Rattle.b67_exec_cells.specs.Running.{code_area}
 use Rattle.b67_layout_step.specs.Keeping.{is_leaving}
 pub use Rattle.b67_exec_cells.specs.Called.{called_by, called_in}

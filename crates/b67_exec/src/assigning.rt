@@ -13,7 +13,7 @@ ghost use Rattle.b67_exec.specs.Stores.{ValueOver, StoresInProc};
 
 use crate::evaluating::{enter_in_place, evaluate, load, procedure_cell};
 use b67_ctl::Regs;
-use b67_entry_enter::accident_on;
+use b67_entry::accident_on;
 use b67_exec_cells::two_cells;
 use b67_stack::{Cpu, Step};
 use b67_word::{Place, Word};

@@ -13,7 +13,7 @@ ghost use Rattle.b67_fetch.specs.Fetches.{enters_at, top_end};
 ghost use Rattle.b67_exec.specs.Procedures.{Leads, EntersTop};
 
 use b67_ctl::{Irw, Regs};
-use b67_entry_enter::{accident, accident_on};
+use b67_entry::{accident, accident_on};
 use b67_fetch::valc;
 use b67_refer::{End, chase};
 use b67_stack::{Cpu, Step};

@@ -9,14 +9,13 @@ ghost use Rattle.b67_stack.specs.declared.Step.TheVariants.{Done};
 ghost use Rattle.b67_layout.specs.Meets.{here, RunsSome, ForEach};
 ghost use Rattle.b67_layout_step.specs.Keeping.{is_leaving};
 ghost use Rattle.b67_exec_cells.specs.Running.{code_area};
-ghost use Rattle.b67_entry_enter.specs.Procedures.{CallsOrMeets};
+ghost use Rattle.b67_entry.specs.Procedures.{CallsOrMeets};
 ghost use Rattle.b67_exec.specs.Operators.{ParametersFit, goes_far, is_far, OperatorMeets, leaves_record, CutsRecord};
 
 use crate::assigning::{stod, ston};
 use crate::evaluating::{evaluate, load};
 use b67_arith::Numeric;
-use b67_entry::{exit, retn};
-use b67_entry_enter::{entr, mkst};
+use b67_entry::{entr, exit, mkst, retn};
 use b67_exec_cells::{
     Binary, Unary, branch_if, branch_to, dlet, dupl, exch, literal, mpcw, namc, on_numbers, on_one,
     on_two, present_segment, read_in,

@@ -15,9 +15,9 @@ use Rattle.b67_job_admit.specs.Admitting.{Prepared}
 use Rattle.b67_session.specs.Stops.{Stop}
 use Rattle.b67_session.specs.Stops as stops
 use Rattle.b67_law_order.proofs.Sessions.{starts_are_segments}
-use Rattle.b67_law_turns.specs.Turns.{IsNext}
-use Rattle.b67_law_turns.proofs.Limits.{no_last}
-use Rattle.b67_law_turns.proofs.Runs.{Came}
+use Rattle.b67_law_sessions.specs.Turns.{IsNext}
+use Rattle.b67_law_sessions.proofs.Limits.{no_last}
+use Rattle.b67_law_sessions.proofs.TurnRuns.{Came}
 use Rattle.b67_task_tables.specs.declared.tables.Machine.{Machine}
 use Rattle.b67_session.specs.declared.slices.Progress.{Progress}
 use Rattle.b67_session.specs.declared.slices.Progress.TheVariants as progress

@@ -11,7 +11,7 @@ use Rattle.b67_model_text.specs.Deck.{limit}
 use Rattle.b67_task_tables.specs.declared.tables.Machine.{Machine}
 use Rattle.b67_job_admit.specs.Admitting.{Prepared}
 use Rattle.b67_model.specs.Common.{run_text, need, need_of_job, need_by, need_next, Task, SessionJob, Session, RunLine, live_tasks, number_of}
-use Rattle.b67_law_turns.specs.Turns.{IsNext}
+use Rattle.b67_law_sessions.specs.Turns.{IsNext}
 use Rattle.b67_lemmas.proofs.Members.{keyed_has}
 use Rattle.b67_session.specs.Passed.{TakesSectors}
 use Rattle.b67_session.proofs.Rows.{none_of}

@@ -5,7 +5,7 @@ use Rattle.b67_io.specs.Line.{ended}
 use Rattle.b67_io.specs.Causes.{Rose}
 use Rattle.b67_model.specs.Common.{Task, SessionJob, need, run_text, IsInOrderButPlaces, Session, RunLine, StepResult, lines, after}
 use Rattle.b67_exec_cells.specs.Running.{code_area}
-use Rattle.b67_law_turns.specs.Turns.{IsNext}
+use Rattle.b67_law_sessions.specs.Turns.{IsNext}
 use Rattle.b67_session.specs.Passed.{IsLacking, IsShortAt, TakesSectors}
 use Rattle.b67_job_admit.specs.Admitting.{Prepared}
 use Rattle.b67_session_open.specs.Decks.{session_of, job_names, row_names}

@@ -14,3 +14,11 @@ mod PlaceLemmas
 pub mod Rows
 pub mod States
 pub mod Steps
+pub mod Choices
+pub mod Settled
+pub mod Parts
+pub mod Limits
+pub mod First
+pub mod Deepest
+pub mod Halves
+pub mod TurnRuns

@@ -8,3 +8,5 @@ pub mod Opened
 pub mod Places
 pub mod RunFaults
 pub mod RunMade
+pub mod Orders
+pub mod Turns

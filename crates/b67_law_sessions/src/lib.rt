@@ -1,12 +1,11 @@
-//! Every word of a run was made by the loader or by its own operator, INVALID OPERATOR occurs exactly at NVLD, and a job's
-//! part of a run is its own steps alone. Chains of references are followed to their ends, identities only grow, and what
-//! changes a frame moves no other.
+//! Laws of runs: who made each word, where INVALID OPERATOR occurs, jobs apart, chains followed to their ends, and the choice of a turn.
 #![tactic(auto)]
 
 mod apart;
 mod faults;
 mod frames;
 mod runs;
+mod turns;
 mod words;
 
 pub use apart::{jobs_print_apart, jobs_stay_apart};
@@ -19,5 +18,9 @@ pub use frames::{
 pub use runs::{
     invalid_operator_exactly_at_nvld, openings_are_made_by_the_loader, runs_end_exactly_at_nvld,
     runs_fault_exactly_at_nvld, runs_make_their_words, sessions_fault_exactly_at_nvld,
+};
+pub use turns::{
+    choice_ignores_numbers, chosen_tasks_are_ready, first_parts_keep_order,
+    last_parts_restore_order,
 };
 pub use words::each_row_makes_its_words;

@@ -9,7 +9,7 @@ use Rattle.b67_layout_storage.specs.Machine.{Says, content_after}
 use Rattle.b67_layout.specs.Common.{Placement, with_job, area_held, IsInStack, shown, moved}
 use Rattle.b67_exec_cells.specs.Running.{code_area}
 use Rattle.b67_exec_cells.specs.Called.{called_in}
-use Rattle.b67_law_turns.specs.Turns.{task_lines}
+use Rattle.b67_law_sessions.specs.Turns.{task_lines}
 use Rattle.b67_session_lines.specs.Parts.{TookRest, TookMore}
 use Rattle.b67_task_tables.specs.declared.tables.TaskState.{TaskState}
 use Rattle.b67_task_tables.specs.declared.tables.Machine.{Machine}

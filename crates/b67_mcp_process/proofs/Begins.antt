@@ -18,7 +18,7 @@ use Rattle.b67_law_order.proofs.Children.{word_any}
 use Rattle.b67_layout.specs.Common.{JobInOrderButCounts, IsInOrderButCounts, Placement, IsRunning, with_job, cells, peak_with, moved}
 use Rattle.b67_stack.specs.Represents.{Storage}
 use Rattle.b67_layout.proofs.Common.{running_in_order, member-same, with_job-twice, numbered_course}
-use Rattle.b67_entry_enter.proofs.Sites.{Site, site}
+use Rattle.b67_entry.proofs.Sites.{Site, site}
 use Rattle.b67_mcp_call.specs.Calls.{MayCut}
 use Rattle.b67_mcp_call.specs.Answered.{job_answered}
 use Rattle.b67_mcp_call.proofs.Cuts.{Cut, cut_of}

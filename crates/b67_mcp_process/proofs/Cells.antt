@@ -18,7 +18,7 @@ use Rattle.b67_stack.specs.declared.Cpu.{Cpu}
 use Rattle.b67_stack.specs.Common.{Fits, top_mark, Storage}
 use Rattle.b67_layout.proofs.Fresh.{running_in_order}
 use Rattle.b67_refer.specs.RunningContext.{RunningContext, live_of}
-use Rattle.b67_entry_enter.specs.Procedures.{ReachesProc}
+use Rattle.b67_entry.specs.Procedures.{ReachesProc}
 use Rattle.b67_refer.proofs.Links.{Described, own, row, item}
 use Rattle.b67_exec_cells.proofs.Put as Put
 use Rattle.b67_exec_cells.proofs.Replaced.{word_under}

@@ -19,9 +19,9 @@ use Rattle.b67_refer.specs.declared.ends.End.TheVariants as end
 use Rattle.b67_refer.specs.RunningContext.{RunningContext}
 use Rattle.b67_refer.specs.Ends.{IsReference, IsProcAt, EndMeets}
 use Rattle.b67_law_order.proofs.Follows.{follow_same}
-use Rattle.b67_entry_enter.specs.Procedures.{ReachesProc}
-use Rattle.b67_entry_enter.proofs.Firsts.{refers, refers_not}
-use Rattle.b67_entry_enter.proofs.Leads.{ProcFound, proc_found, fault_found}
+use Rattle.b67_entry.specs.Procedures.{ReachesProc}
+use Rattle.b67_entry.proofs.Firsts.{refers, refers_not}
+use Rattle.b67_entry.proofs.Leads.{ProcFound, proc_found, fault_found}
 use Rattle.b67_mcp_call.specs.Calls.{IsCall}
 use Rattle.b67_fetch.specs.Fetches.{IsFollowed}
 use Rattle.b67_fetch.proofs.Values.{here_scene}

@@ -13,7 +13,7 @@ use Rattle.b67_refer.specs.Ends.{IsReference}
 use Rattle.b67_layout.specs.Tops.{cells}
 use Rattle.b67_mcp_call.specs.Calls.{IsCall}
 use Rattle.b67_mcp_call.proofs.Answering.{no_higher}
-use Rattle.b67_entry_enter.proofs.Firsts.{same_follow}
+use Rattle.b67_entry.proofs.Firsts.{same_follow}
 use Rattle.b67_task_start.specs.Starts.{child}
 use Rattle.b67_mcp_process.specs.Asked.{answer_by, admits}
 use Rattle.b67_mcp_process.proofs.Words.{take_front, any_turned, turned_two}

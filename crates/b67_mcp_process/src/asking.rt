@@ -7,7 +7,7 @@ ghost use Rattle.b67_model.specs.Words as words;
 ghost use Rattle.b67_model.specs.Intrinsics.{is_original as original};
 ghost use Rattle.b67_layout.specs.Meets.{RunsSome, ForEach, here};
 ghost use Rattle.b67_refer.specs.RunningContext.{RunningContext};
-ghost use Rattle.b67_entry_enter.specs.Procedures.{ReachesProc};
+ghost use Rattle.b67_entry.specs.Procedures.{ReachesProc};
 ghost use Rattle.b67_layout.specs.Tops.{cells};
 ghost use Rattle.b67_fetch.specs.Fetches.{IsFollowed, MayFollow};
 ghost use Rattle.b67_mcp_call.specs.Calls.{CallSome, IsCall};

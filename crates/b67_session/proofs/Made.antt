@@ -11,11 +11,11 @@ use Rattle.b67_law_order.specs.Ends.{StepsFrom}
 use Rattle.b67_law_order.proofs.Numbered.{tasks_of}
 use Rattle.b67_law_order.specs.Keeping.{KeepsOrder}
 use Rattle.b67_law_order.proofs.Segments.{rows_keep_order_but_places}
-use Rattle.b67_law_turns.specs.Orders.{IsInOrderButLimit}
-use Rattle.b67_law_turns.specs.Turns.{IsNext, part_of}
-use Rattle.b67_law_turns.proofs.Parts.{first_parts_keep_order}
-use Rattle.b67_law_turns.proofs.Settled.{made_settles}
-use Rattle.b67_law_turns.proofs.Halves.{open_lines}
+use Rattle.b67_law_sessions.specs.Orders.{IsInOrderButLimit}
+use Rattle.b67_law_sessions.specs.Turns.{IsNext, part_of}
+use Rattle.b67_law_sessions.proofs.Parts.{first_parts_keep_order}
+use Rattle.b67_law_sessions.proofs.Settled.{made_settles}
+use Rattle.b67_law_sessions.proofs.Halves.{open_lines}
 use Rattle.b67_stack.specs.Represents.{Storage}
 use Rattle.b67_layout.specs.Placement.{Placement}
 use Rattle.b67_layout.specs.Moved.{moved}

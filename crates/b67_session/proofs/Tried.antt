@@ -3,8 +3,8 @@ use Rattle.std.proofs.Common.{◌≡◌, ◌≢◌, ℕ, List, length, Option, S
 use Rattle.b67_word.specs.declared.faults.Ending.{Ending}
 use Rattle.b67_word.specs.declared.faults.Failed.{Failed}
 use Rattle.b67_model.specs.Common.{Stepped, ends_with, StepResult, Condition, Task, SessionJob, Session}
-use Rattle.b67_law_turns.specs.Orders.{IsInOrderButLimit}
-use Rattle.b67_law_turns.specs.Turns.{IsNext, part_of}
+use Rattle.b67_law_sessions.specs.Orders.{IsInOrderButLimit}
+use Rattle.b67_law_sessions.specs.Turns.{IsNext, part_of}
 use Rattle.b67_stack.specs.Represents.{Storage}
 use Rattle.b67_layout_storage.specs.Machine.{Says, content_after}
 use Rattle.b67_layout.specs.Placement.{Placement}

@@ -6,8 +6,8 @@ use Rattle.b67_lemmas.proofs.Places.{at_mapped}
 use Rattle.b67_model.specs.Common.{Ready, Task, SessionJob, number_of, Session, Choice, choice, IsInOrderButPlaces}
 use Rattle.b67_model.specs.Keyed.{keyed}
 use Rattle.b67_law_order.proofs.Sessions.{other_numbers_keep_order}
-use Rattle.b67_law_turns.specs.Turns.{IsNext}
-use Rattle.b67_law_turns.proofs.Choices.{chosen_tasks_are_ready}
+use Rattle.b67_law_sessions.specs.Turns.{IsNext}
+use Rattle.b67_law_sessions.proofs.Choices.{chosen_tasks_are_ready}
 use Rattle.b67_stack.specs.Represents.{Storage}
 use Rattle.b67_layout_storage.specs.Machine.{Says, content_after}
 use Rattle.b67_layout.specs.Common.{IsInOrderButCounts, Placement, RunningRow, IsRunning}

@@ -21,11 +21,11 @@ use Rattle.b67_session_lines.proofs.Statuses.{after-add}
 use Rattle.b67_law_order.proofs.Numbered.{numbered_low, tasks_of}
 use Rattle.b67_law_order.specs.Profiles.{Profile, profile, profiles}
 use Rattle.b67_law_order.proofs.Lemmas.{rows_keep}
-use Rattle.b67_law_turns.specs.Orders.{IsInOrderButLimit}
-use Rattle.b67_law_turns.specs.Turns.{IsNext, OrderAfter}
-use Rattle.b67_law_turns.proofs.Halves.{first_by}
-use Rattle.b67_law_turns.proofs.Limits.{last_parts_restore_order}
-use Rattle.b67_law_turns.proofs.Runs.{Came, came-more}
+use Rattle.b67_law_sessions.specs.Orders.{IsInOrderButLimit}
+use Rattle.b67_law_sessions.specs.Turns.{IsNext, OrderAfter}
+use Rattle.b67_law_sessions.proofs.Halves.{first_by}
+use Rattle.b67_law_sessions.proofs.Limits.{last_parts_restore_order}
+use Rattle.b67_law_sessions.proofs.TurnRuns.{Came, came-more}
 use Rattle.b67_stack.specs.declared.Cpu.{Cpu}
 use Rattle.b67_stack.specs.declared.Step.{Step}
 use Rattle.b67_stack.specs.declared.Step.TheVariants as answers
@@ -40,7 +40,7 @@ use Rattle.b67_task_tables.specs.declared.tables.Tasks.{Tasks}
 use Rattle.b67_task_tables.specs.declared.tables.Machine.{Machine}
 use Rattle.b67_task_tables.specs.Runs.{RunsTask}
 use Rattle.b67_task_tables.specs.Tables.{job_row, TasksShow, MachineRepresents}
-use Rattle.b67_session_make.specs.Makes.{OperatorMade, StepMakes, CallsOrMakes, MakesAt, MakesOperator, ForEachReady}
+use Rattle.b67_session_attempt.specs.Makes.{OperatorMade, StepMakes, CallsOrMakes, MakesAt, MakesOperator, ForEachReady}
 use Rattle.b67_session_schedule.specs.declared.counting.Chosen.{Chosen}
 use Rattle.b67_session_schedule.specs.Counted.{counted_more, counted_by, TurnHasRoom}
 use Rattle.b67_session_schedule.specs.Lasting.{RulesLeave, Lasts, TurnLasts, BeforeHalt}

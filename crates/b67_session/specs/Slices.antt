@@ -7,7 +7,7 @@ use Rattle.b67_stack.specs.Represents.{Storage}
 use Rattle.b67_layout_storage.specs.Machine.{Says}
 use Rattle.b67_layout.specs.Placement.{Placement}
 use Rattle.b67_exec_cells.specs.Running.{code_area}
-use Rattle.b67_law_turns.specs.Turns.{IsNext}
+use Rattle.b67_law_sessions.specs.Turns.{IsNext}
 use Rattle.b67_task_tables.specs.declared.tables.Tasks.{Tasks}
 use Rattle.b67_task_tables.specs.declared.tables.Machine.{Machine}
 pub use Rattle.b67_task_tables.specs.Runs.{Keeps}

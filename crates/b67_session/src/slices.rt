@@ -8,7 +8,7 @@ ghost use Rattle.b67_io.specs.Causes.{Stayed};
 ghost use Rattle.b67_layout_storage.specs.Machine.{Says, DeviceAfterCalls, content_after};
 ghost use Rattle.b67_session_attempt.specs.Passed.{AreCountable, CallCauses};
 ghost use Rattle.b67_model.specs.Run.{StepResult};
-ghost use Rattle.b67_law_turns.specs.Turns.{IsNext};
+ghost use Rattle.b67_law_sessions.specs.Turns.{IsNext};
 ghost use Rattle.b67_session.specs.Complete.{SetsOut, Suffices};
 ghost use Rattle.b67_session.specs.Slices.{IsOpen, StandsSome, StandsAt, IsLimited, RepresentsWithoutTasks, Keeps, Slices, IfPresent, Resumes, StaysEnded, Pauses};
 ghost use Rattle.b67_session.specs.Shaped.{IsShaped, SliceLeaves};

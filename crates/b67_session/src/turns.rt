@@ -16,7 +16,7 @@ ghost use Rattle.b67_session.specs.Slices.{StandsAt, Keeps};
 ghost use Rattle.b67_session.specs.Steps.{IsInOrderFor, GoesOnInTurn};
 ghost use Rattle.b67_session.specs.InTurn.{TurnBegins, MadeInTurn};
 
-use b67_session_make::make;
+use b67_session_attempt::make;
 use b67_session_schedule::{count_turn, turn_room};
 use b67_stack::Step;
 use b67_task_switch::switch_to;

@@ -22,7 +22,7 @@ use Rattle.b67_task_tables.specs.Tables.{MachineRepresents}
 use Rattle.b67_layout_step.proofs.Laws.{touches_arrays}
 use Rattle.b67_session_attempt.specs.Fits.{IsOfJob}
 use Rattle.b67_session_attempt.proofs.FittingMade.{made_fit}
-use Rattle.b67_session_make.specs.Makes.{OperatorMade, CallsOrMakes, MakesAt}
+use Rattle.b67_session_attempt.specs.Makes.{OperatorMade, CallsOrMakes, MakesAt}
 use Rattle.b67_mcp.specs.declared.ends.Stop.{Stop}
 use Rattle.b67_mcp.specs.declared.ends.Stop.TheVariants as stops
 use Rattle.b67_mcp.specs.Called.{IsCut, IsFull, IsRefused, IsUnstarted, IsUnstartedFull, StartsTask, WaitsSo, CallMeets, CallTouches, CallFits, printed_text, IsThere, TouchesPresent}

@@ -10,3 +10,16 @@ pub mod Stops
 pub mod Runs
 pub mod Composed
 pub mod Passed
+pub mod Places
+pub mod Keeps
+pub mod Steps
+pub mod Tables
+pub mod Inversion
+pub mod Read
+pub mod Leavers
+pub mod Ordered
+pub mod Readied
+pub mod Releasing
+pub mod Holes
+pub mod Made
+pub mod Gives

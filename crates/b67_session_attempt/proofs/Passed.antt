@@ -1,2 +1,2 @@
 -- Lemmas of the crates below, for the crates above.
-pub use Rattle.b67_session_make.proofs.Keeps.{row_keeps}
+pub use Rattle.b67_session_attempt.proofs.Keeps.{row_keeps}

@@ -13,7 +13,7 @@ use Rattle.b67_exec_cells.specs.Called.{called_in}
 use Rattle.b67_task_tables.specs.declared.tables.Machine.{Machine}
 use Rattle.b67_task_tables.specs.declared.tables.Tasks.{Tasks}
 use Rattle.b67_layout_step.proofs.Laws.{touches_arrays}
-use Rattle.b67_session_make.specs.Makes.{OperatorMade, CallsOrMakes, MakesAt}
+use Rattle.b67_session_attempt.specs.Makes.{OperatorMade, CallsOrMakes, MakesAt}
 use Rattle.b67_mcp.specs.declared.ends.Stop.{Stop}
 use Rattle.b67_mcp.specs.declared.ends.Stop.TheVariants as stops
 use Rattle.b67_mcp.specs.Called.{IsCalled, TouchesAbsent, CallMeets, CallWrites}

@@ -4,3 +4,4 @@ pub mod Attempts
 pub mod Brought
 pub mod Stops
 pub mod Passed
+pub mod Makes

@@ -5,13 +5,13 @@ ghost use Rattle.b67_layout_storage.specs.Machine.{DeviceAfterCalls};
 ghost use Rattle.b67_task_tables.specs.Runs.{Keeps};
 ghost use Rattle.b67_mcp.specs.Called.{AreCountable};
 ghost use Rattle.b67_mcp.specs.Running.{JobsHaveRoom, CallCauses};
-ghost use Rattle.b67_session_make.specs.Makes.{ForEachReady};
+ghost use Rattle.b67_session_attempt.specs.Makes.{ForEachReady};
 ghost use Rattle.b67_session_attempt.specs.Tries.{ReadyRuns, TryRow};
 
+use crate::making::make;
 use b67_backing::Backing;
 use b67_io::Sink;
 use b67_mcp::{CallEnd, Stop, intrinsic};
-use b67_session_make::make;
 use b67_stack::{Step, What};
 use b67_task_tables::{Machine, TaskState};
 use b67_word::Ending;

@@ -11,8 +11,8 @@ use Rattle.b67_model.specs.Common.{JobMoment, moment_with, Task, Job, SessionJob
 use Rattle.b67_model.specs.Keyed.{keyed, change_keyed}
 use Rattle.b67_law_order.proofs.Numbered.{numbered_change}
 use Rattle.b67_law_order.proofs.Deaths.{ends_task_good}
-use Rattle.b67_law_turns.specs.Turns.{part_of}
-use Rattle.b67_law_turns.proofs.Settled.{ends_fewer}
+use Rattle.b67_law_sessions.specs.Turns.{part_of}
+use Rattle.b67_law_sessions.proofs.Settled.{ends_fewer}
 use Rattle.b67_stack.specs.Represents.{Storage}
 use Rattle.b67_layout.specs.Common.{with_job, JobInOrderButCounts, IsInOrderButCounts, Placement}
 use Rattle.b67_layout.proofs.Sessions.{course_twice}

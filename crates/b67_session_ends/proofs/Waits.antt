@@ -9,11 +9,11 @@ use Rattle.b67_law_order.proofs.Reaches.{alike_same}
 use Rattle.b67_law_order.proofs.Replaced.{Replaced, replaced}
 use Rattle.b67_law_order.specs.Keeping.{KeepsOrder}
 use Rattle.b67_law_order.proofs.Segments.{rows_keep_order_but_places}
-use Rattle.b67_law_turns.specs.Orders.{IsInOrderButLimit, SettlesInOrder}
-use Rattle.b67_law_turns.specs.Turns.{IsNext, part_of}
-use Rattle.b67_law_turns.proofs.Choices.{next_is_ready}
-use Rattle.b67_law_turns.proofs.Parts.{first_parts_keep_order}
-use Rattle.b67_law_turns.proofs.Settled.{made_settles}
+use Rattle.b67_law_sessions.specs.Orders.{IsInOrderButLimit, SettlesInOrder}
+use Rattle.b67_law_sessions.specs.Turns.{IsNext, part_of}
+use Rattle.b67_law_sessions.proofs.Choices.{next_is_ready}
+use Rattle.b67_law_sessions.proofs.Parts.{first_parts_keep_order}
+use Rattle.b67_law_sessions.proofs.Settled.{made_settles}
 use Rattle.b67_layout.specs.Meets.{with_job}
 use Rattle.b67_layout.specs.Orders.{IsInOrderButCounts}
 use Rattle.b67_layout.proofs.Weaker.{but_counts}

@@ -15,7 +15,7 @@ use Rattle.b67_lemmas.specs.Lists.{Has}
 use Rattle.b67_stack.specs.Represents.{Storage}
 use Rattle.b67_layout.specs.Orders.{IsInOrderButCounts}
 use Rattle.b67_layout.specs.Placement.{Placement}
-use Rattle.b67_law_turns.specs.Turns.{IsNext}
+use Rattle.b67_law_sessions.specs.Turns.{IsNext}
 use Rattle.b67_task_tables.specs.RowOf.{IsRowOf}
 use Rattle.b67_session_schedule.specs.declared.counting.Chosen.{Chosen}
 use Rattle.b67_session_schedule.specs.Counted.{choice_of}

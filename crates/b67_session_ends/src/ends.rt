@@ -8,7 +8,7 @@ ghost use Rattle.b67_session_lines.specs.Moments.{last_part};
 ghost use Rattle.b67_stack.specs.Represents.{Storage};
 ghost use Rattle.b67_layout.specs.Placement.{Placement};
 ghost use Rattle.b67_task_tables.specs.Tables.{MachineRepresents};
-ghost use Rattle.b67_law_turns.specs.Orders.{IsInOrderButLimit};
+ghost use Rattle.b67_law_sessions.specs.Orders.{IsInOrderButLimit};
 ghost use Rattle.b67_session_ends.specs.Ends.{StandsBetween, HasLimited, LimitEnds, Finishes, KeepsCounts};
 
 use crate::deaths::{all_ended, end_job};

@@ -1,7 +1,7 @@
 //! Stacks, references, activation records, operators.
 
 ghost use Rattle.b67_ctl.specs.Layout.{IsPlace};
-ghost use Rattle.b67_entry_enter.specs.Procedures.{ReachesProc};
+ghost use Rattle.b67_entry.specs.Procedures.{ReachesProc};
 ghost use Rattle.b67_layout.specs.Meets.{RunsSome};
 ghost use Rattle.b67_model.specs.InOrder.{NamesEntered};
 ghost use Rattle.b67_refer.specs.Ends.{IsCopyOf};

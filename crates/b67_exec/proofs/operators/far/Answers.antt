@@ -3,7 +3,7 @@ use Rattle.b67_model.specs.declared.operators.Op.{Op}
 use Rattle.b67_model.specs.Rows.{row}
 use Rattle.b67_layout.specs.Meets.{here}
 use Rattle.b67_model.specs.Called.{called}
-use Rattle.b67_entry_enter.specs.Procedures.{CallsOrMeets}
+use Rattle.b67_entry.specs.Procedures.{CallsOrMeets}
 use Rattle.b67_exec.proofs.operators.far.Goals as goal
 
 pub returns-in-Valc-clause-row : goal.returns-in-Valc-clause-row

@@ -4,7 +4,7 @@ use Rattle.b67_model.specs.declared.operators.Op.TheVariants.{Plain}
 use Rattle.b67_model.specs.Rows.{plain}
 use Rattle.b67_layout.specs.Meets.{here}
 use Rattle.b67_model.specs.Called.{called}
-use Rattle.b67_entry_enter.specs.Procedures.{CallsOrMeets}
+use Rattle.b67_entry.specs.Procedures.{CallsOrMeets}
 use Rattle.b67_exec.proofs.operators.far_plain.Goals as goal
 
 pub returns-in-Entr-clause-row : goal.returns-in-Entr-clause-row

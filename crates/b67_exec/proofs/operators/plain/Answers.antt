@@ -8,7 +8,7 @@ use Rattle.b67_layout.specs.Meets.{here, Meets}
 use Rattle.b67_arith.specs.declared.numerics.Numeric.{Numeric}
 use Rattle.b67_arith.specs.declared.numerics.Numeric.TheVariants as numeric
 use Rattle.b67_arith.specs.Numerics.{of_numbers}
-use Rattle.b67_entry_enter.specs.Procedures.{CallsOrMeets}
+use Rattle.b67_entry.specs.Procedures.{CallsOrMeets}
 use Rattle.b67_exec.proofs.operators.plain.Goals.{in-Add, in-Subt, in-Less, in-Greq, in-Grtr, in-Lseq, in-Equl, in-Neql}
 use Rattle.b67_exec.proofs.operators.plain.Goals as goal
 

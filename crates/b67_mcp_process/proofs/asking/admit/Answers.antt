@@ -5,8 +5,8 @@ use Rattle.b67_model.specs.State.{frame}
 use Rattle.b67_model.specs.Environment.{level_of_frame}
 use Rattle.b67_layout.specs.Meets.{here}
 use Rattle.b67_refer.specs.declared.activation.Activation.{Activation}
-use Rattle.b67_entry_enter.proofs.Unasked as Unasked
-use Rattle.b67_entry_enter.proofs.Unasked.{pcw_there, pcw_fits, level_small}
+use Rattle.b67_entry.proofs.Unasked as Unasked
+use Rattle.b67_entry.proofs.Unasked.{pcw_there, pcw_fits, level_small}
 use Rattle.b67_mcp_process.proofs.Rows.{not_level, no_room, is_depended_on, all_three}
 use Rattle.b67_mcp_process.proofs.Cells.{sizes}
 use Rattle.b67_mcp_process.proofs.asking.admit.Goals as goal

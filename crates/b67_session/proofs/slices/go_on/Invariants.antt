@@ -1,7 +1,7 @@
 use Rattle.std.proofs.Common.{◌≡◌, ◌≢◌, ◌≤◌, ◌-◌, ℕ, List, [], Option, None}
 use Rattle.b67_model.specs.Common.{Task, SessionJob, Session}
 use Rattle.b67_layout_storage.specs.Machine.{Says, DeviceAfterCalls, content_after}
-use Rattle.b67_law_turns.specs.Turns.{IsNext}
+use Rattle.b67_law_sessions.specs.Turns.{IsNext}
 use Rattle.b67_session_attempt.specs.Passed.{AreCountable, CallsDevice}
 use Rattle.b67_session_attempt.specs.Attempts.{WantsNothing}
 use Rattle.b67_session.specs.Slices.{StandsAt, Keeps}

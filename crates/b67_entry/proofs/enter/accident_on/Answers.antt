@@ -1,0 +1,115 @@
+use Rattle.std.proofs.Common.{◌≡◌, ℕ, ◌+◌, ◌<◌, ◌≤◌, List, refl, sym, ◌∙◌, ap, arith, slice_set, subst}
+use Rattle.std.specs.List.{slice_get}
+use Rattle.b67_word.specs.Tagged.{Tagged}
+use Rattle.b67_core.proofs.Writes.{slice_get-set_other}
+use Rattle.b67_ctl.specs.declared.programs.Pcw.{Pcw}
+use Rattle.b67_ctl.specs.Layout.{IsMscw}
+use Rattle.b67_model.specs.State.{frame}
+use Rattle.b67_model.specs.Environment.{level_of_frame}
+use Rattle.b67_stack.specs.declared.Cpu.{Cpu}
+use Rattle.b67_layout.specs.Meets.{here}
+use Rattle.b67_refer.specs.declared.activation.Activation.{Activation}
+use Rattle.b67_entry.proofs.Unasked as Unasked
+use Rattle.b67_entry.proofs.Unasked.{pcw_there, pcw_fits, level_small, rooms}
+use Rattle.b67_entry.proofs.enter.accident_on.Goals as goal
+
+-- two words were written over a top: those above them stay
+over : (s : ℕ) (core one two : List Tagged) (v w : Tagged) → one ≡ slice_set core (s + 1) v → two ≡ slice_set one (s + 2) w → (i : ℕ) → s + 2 < i → slice_get two i ≡ slice_get core i
+over s core one two v w e1 e2 i low =
+    ap (λ (k : List Tagged). slice_get k i) e2 ∙ slice_get-set_other one (s + 2) i w (λ z. omega arith) ∙ ap (λ (k : List Tagged). slice_get k i) e1 ∙ slice_get-set_other core (s + 1) i v (λ z. omega arith)
+
+pub procedure_at-procedure-requires : goal.procedure_at-procedure-requires
+procedure_at-procedure-requires c =
+    let (a, q, f, segment, level, place, e) = c.requires.procedure in
+    (Unasked.pcw c.args.cpu.now c.args.regs a q c.args.cell f segment level place e.procedure, pcw_fits c.args.cpu.now c.args.regs a q c.args.cell f segment level place e.procedure, pcw_there c.args.cpu.now c.args.regs a q c.args.cell f segment level place e.procedure)
+
+pub overflow_add-env : goal.overflow_add-env
+overflow_add-env c =
+    let (a, q, f, segment, level, place, e) = c.requires.procedure in
+    let env = c.activation_of-env.ensures a q f segment level place e.procedure in
+    let is : c.activation_of-env.result.level ≡ level_of_frame (frame (here a.member a.task q) f) = ap (λ (z : Activation). z.level) env in
+    omega (arith, is, level_small c.args.cpu.now c.args.regs a q c.args.cell f segment level place e.procedure)
+
+pub overflow_sub-regs : goal.overflow_sub-regs
+overflow_sub-regs c = let (a, q, f, segment, level, place, e) = c.requires.procedure in (rooms c.args.cpu.now c.args.regs a q c.args.cell f segment level place e.procedure).last
+
+pub overflow_sub-distance : goal.overflow_sub-distance
+overflow_sub-distance c = let (a, q, f, segment, level, place, e) = c.requires.procedure in let r = rooms c.args.cpu.now c.args.regs a q c.args.cell f segment level place e.procedure in omega (arith, r.top)
+
+pub overflow_cast-distance : goal.overflow_cast-distance
+overflow_cast-distance c =
+    let (a, q, f, segment, level, place, e) = c.requires.procedure in
+    let m = Unasked.mark_good c.args.cpu.now c.args.regs a q c.args.cell f segment level place e.procedure c.args.value c.args.back c.requires.back in
+    omega (arith, m.back)
+
+pub set-requires : goal.set-requires
+set-requires c = let (a, q, f, segment, level, place, e) = c.requires.procedure in let r = rooms c.args.cpu.now c.args.regs a q c.args.cell f segment level place e.procedure in omega (arith, r.last, r.under, r.inside, c.if-regs-lt2.false)
+
+pub set-requires-2 : goal.set-requires-2
+set-requires-2 c = let (a, q, f, segment, level, place, e) = c.requires.procedure in let r = rooms c.args.cpu.now c.args.regs a q c.args.cell f segment level place e.procedure in omega (arith, r.last, r.under, r.inside, c.if-regs-lt2.false, c.set.ensures.len)
+
+pub word-requires : goal.word-requires
+word-requires c =
+    let (a, q, f, segment, level, place, e) = c.requires.procedure in
+    let env = c.activation_of-env.ensures a q f segment level place e.procedure in
+    let pcw = c.procedure_at-procedure.ensures (Unasked.pcw c.args.cpu.now c.args.regs a q c.args.cell f segment level place e.procedure) (pcw_fits c.args.cpu.now c.args.regs a q c.args.cell f segment level place e.procedure) (pcw_there c.args.cpu.now c.args.regs a q c.args.cell f segment level place e.procedure) in
+    subst IsMscw (sym (Unasked.mark_is c.args.cpu.now c.args.regs a q c.args.cell f segment level place e.procedure c.args.value c.args.back c.requires.back c.activation_of-env.result c.procedure_at-procedure.result env pcw c.entered_mark-mark.result c.entered_mark-mark.ensures))
+    (Unasked.mark_good c.args.cpu.now c.args.regs a q c.args.cell f segment level place e.procedure c.args.value c.args.back c.requires.back)
+
+pub word-requires-2 : goal.word-requires-2
+word-requires-2 c = let (a, q, f, segment, level, place, e) = c.requires.procedure in Unasked.caller_good c.args.cpu.now c.args.regs a q c.args.cell f segment level place e.procedure c.args.value c.args.back c.requires.back
+
+pub returns-then-env-procedure : goal.returns-then-env-procedure
+returns-then-env-procedure c = record {
+  row = λ a q f segment level place e.
+      let env = c.activation_of-env.ensures a q f segment level place e.procedure in
+      let pcw = c.procedure_at-procedure.ensures (Unasked.pcw c.args.cpu.now c.args.regs a q c.args.cell f segment level place e.procedure) (pcw_fits c.args.cpu.now c.args.regs a q c.args.cell f segment level place e.procedure) (pcw_there c.args.cpu.now c.args.regs a q c.args.cell f segment level place e.procedure) in
+      let one : c.activation_of-env.result.level ≡ level_of_frame (frame (here a.member a.task q) f) = ap (λ (z : Activation). z.level) env in
+      let two : c.procedure_at-procedure.result.level ≡ level = ap (λ (z : Pcw). z.level) pcw in
+      (Unasked.refused c.args.cpu.now c.args.regs a q c.args.cell f segment level place e.procedure c.args.value c.args.back c.requires.back (λ z. c.if-env-procedure.true (omega (arith, one, two, z))), refl);
+  above = λ i h. refl;
+  top = λ e. cc;
+}
+
+pub returns-then-regs-lt2 : goal.returns-then-regs-lt2
+returns-then-regs-lt2 c = record {
+  row = λ a q f segment level place e.
+      let env = c.activation_of-env.ensures a q f segment level place e.procedure in
+      let pcw = c.procedure_at-procedure.ensures (Unasked.pcw c.args.cpu.now c.args.regs a q c.args.cell f segment level place e.procedure) (pcw_fits c.args.cpu.now c.args.regs a q c.args.cell f segment level place e.procedure) (pcw_there c.args.cpu.now c.args.regs a q c.args.cell f segment level place e.procedure) in
+      let one : c.activation_of-env.result.level ≡ level_of_frame (frame (here a.member a.task q) f) = ap (λ (z : Activation). z.level) env in
+      let two : c.procedure_at-procedure.result.level ≡ level = ap (λ (z : Pcw). z.level) pcw in
+      (Unasked.full c.args.cpu.now c.args.regs a q c.args.cell f segment level place e.procedure c.args.value c.args.back c.requires.back (omega (arith, one, two, c.if-env-procedure.false)) (omega (arith, c.if-regs-lt2.true, (rooms c.args.cpu.now c.args.regs a q c.args.cell f segment level place e.procedure).last)), refl);
+  above = λ i h. refl;
+  top = λ e. cc;
+}
+
+pub begin-requires : goal.begin-requires
+begin-requires c =
+    let (a, q, f, segment, level, place, e) = c.requires.procedure in
+    let env = c.activation_of-env.ensures a q f segment level place e.procedure in
+    let pcw = c.procedure_at-procedure.ensures (Unasked.pcw c.args.cpu.now c.args.regs a q c.args.cell f segment level place e.procedure) (pcw_fits c.args.cpu.now c.args.regs a q c.args.cell f segment level place e.procedure) (pcw_there c.args.cpu.now c.args.regs a q c.args.cell f segment level place e.procedure) in
+    let mark = Unasked.mark_is c.args.cpu.now c.args.regs a q c.args.cell f segment level place e.procedure c.args.value c.args.back c.requires.back c.activation_of-env.result c.procedure_at-procedure.result env pcw c.entered_mark-mark.result c.entered_mark-mark.ensures in
+    let core = Unasked.core_is c.args.cpu.now c.args.regs a q c.args.cell f segment level place e.procedure c.args.value c.args.back c.requires.back c.word.result c.word-2.result c.entered_mark-mark.result c.set.new.self c.set-2.new.self c.set.ensures.value c.word.ensures mark c.set-2.ensures.value c.word-2.ensures in
+    let one : c.activation_of-env.result.level ≡ level_of_frame (frame (here a.member a.task q) f) = ap (λ (z : Activation). z.level) env in
+    let two : c.procedure_at-procedure.result.level ≡ level = ap (λ (z : Pcw). z.level) pcw in
+    let test : level_of_frame (frame (here a.member a.task q) f) + 1 ≡ level = omega (arith, one, two, c.if-env-procedure.false) in
+    let room : c.args.regs.s + 2 ≤ c.args.regs.losr = omega (arith, c.if-regs-lt2.false, (rooms c.args.cpu.now c.args.regs a q c.args.cell f segment level place e.procedure).last) in
+    Unasked.scene_with c.args.cpu.now c.args.regs a q c.args.cell f segment level place e.procedure c.args.value c.args.back c.requires.back test room (e.clear room) c.set-2.new.self c.procedure_at-procedure.result core pcw
+
+pub returns : goal.returns
+returns c = record {
+  row = λ a q f segment level place e.
+      let env = c.activation_of-env.ensures a q f segment level place e.procedure in
+      let pcw = c.procedure_at-procedure.ensures (Unasked.pcw c.args.cpu.now c.args.regs a q c.args.cell f segment level place e.procedure) (pcw_fits c.args.cpu.now c.args.regs a q c.args.cell f segment level place e.procedure) (pcw_there c.args.cpu.now c.args.regs a q c.args.cell f segment level place e.procedure) in
+      let mark = Unasked.mark_is c.args.cpu.now c.args.regs a q c.args.cell f segment level place e.procedure c.args.value c.args.back c.requires.back c.activation_of-env.result c.procedure_at-procedure.result env pcw c.entered_mark-mark.result c.entered_mark-mark.ensures in
+      let core = Unasked.core_is c.args.cpu.now c.args.regs a q c.args.cell f segment level place e.procedure c.args.value c.args.back c.requires.back c.word.result c.word-2.result c.entered_mark-mark.result c.set.new.self c.set-2.new.self c.set.ensures.value c.word.ensures mark c.set-2.ensures.value c.word-2.ensures in
+      let one : c.activation_of-env.result.level ≡ level_of_frame (frame (here a.member a.task q) f) = ap (λ (z : Activation). z.level) env in
+      let two : c.procedure_at-procedure.result.level ≡ level = ap (λ (z : Pcw). z.level) pcw in
+      let test : level_of_frame (frame (here a.member a.task q) f) + 1 ≡ level = omega (arith, one, two, c.if-env-procedure.false) in
+      let room : c.args.regs.s + 2 ≤ c.args.regs.losr = omega (arith, c.if-regs-lt2.false, (rooms c.args.cpu.now c.args.regs a q c.args.cell f segment level place e.procedure).last) in
+      Unasked.done c.args.cpu.now c.args.regs a q c.args.cell f segment level place e.procedure c.args.value c.args.back c.requires.back test room (e.clear room) c.set-2.new.self c.procedure_at-procedure.result c.begin.new.cpu core pcw e.marks c.begin.ensures.rest c.begin.ensures.display;
+  above = λ i low.
+      let top = ap (λ (k : Cpu). k.regs.s) c.begin.ensures.rest in
+      ap (λ (k : Cpu). slice_get k.core i) c.begin.ensures.rest ∙ over c.args.regs.s c.args.cpu.now.core c.set.new.self c.set-2.new.self c.word.result c.word-2.result c.set.ensures.value c.set-2.ensures.value i (omega arith);
+  top = λ e. ap (λ (k : Cpu). k.regs.s) c.begin.ensures.rest;
+}

@@ -1,0 +1,184 @@
+//! MKST, ENTR, and the accidental entry of a procedure.
+
+ghost use Rattle.std.specs.Prelude.{◌≡◌, ℕ, not, ◌==◌, ◌+◌, ◌<◌, true, List, Some, slice_get};
+ghost use Rattle.b67_ctl.specs.Layout.{IsPlace, IsPcw, pcw_word};
+ghost use Rattle.b67_ctl.specs.declared.programs.Pcw.{Pcw};
+ghost use Rattle.b67_ctl.specs.declared.registers.Regs.{Regs};
+ghost use Rattle.b67_word.specs.declared.couples.Place.{Place};
+ghost use Rattle.b67_model.specs.Steps.{cells_of, top_of};
+ghost use Rattle.b67_model.specs.Called.{called_on};
+ghost use Rattle.b67_model.specs.Chase.{AtProc};
+ghost use Rattle.b67_model.specs.Entry as rows;
+ghost use Rattle.b67_model.specs.Entry.{back_to};
+ghost use Rattle.b67_model.specs.Rows as operators;
+ghost use Rattle.b67_stack.specs.declared.Step.TheVariants.{Done};
+ghost use Rattle.b67_layout.specs.Meets.{RunsSome, ForEach, Meets, here};
+ghost use Rattle.b67_refer.specs.RunningContext.{RunningContext, IsShown};
+ghost use Rattle.b67_entry.specs.Procedures.{ReachesProc, CanEnter, EntersOrFaults, Calls, CallsOrMeets};
+ghost use Rattle.b67_model.specs.Words.{Word};
+
+use b67_core::Core;
+use b67_ctl::{Mscw, Pcw, Rcw, Regs};
+use b67_refer::{Activation, End, activation_of, chase, rebuild};
+use b67_stack::{Cpu, Step};
+use b67_word::{Fault, Place};
+
+/// MKST: puts a mark on the stack, or faults if the stack is as high as its slot. The task goes on at `next`.
+#[inline(never)]
+pub fn mkst(cpu: &mut Cpu, next: Place) -> Step
+    requires { RunsSome cpu.old }
+    ensures row { ForEach cpu.old (λ x plan s m t. Meets x plan s m result cpu.old cpu.new (rows.mkst (here m t next))) }
+{
+    match cpu.mark() {
+        Ok(()) => {
+            cpu.regs.place = next;
+            Step::Done
+        }
+        Err(_) => Step::Fault(Fault::StackOverflow),
+    }
+}
+
+/// The program control word at an address.
+fn procedure_at(core: &Core, at: u32) -> Pcw
+    requires { (p : Pcw) × IsPcw p × (slice_get core.now at ≡ Some (pcw_word p)) }
+    ensures { (p : Pcw) → IsPcw p → slice_get core.now at ≡ Some (pcw_word p) → result ≡ p }
+{
+    Pcw::read(core.get(at))
+}
+
+/// The mark of an activation record that is entered at a level in an environment.
+fn entered_mark(regs: &Regs, env: Activation, level: u8, value: bool, back: u16) -> Mscw
+    ensures { result ≡ record { far = not (env.stack == regs.now.slot); entered = true; env_stack = env.stack; env_disp = env.disp; value = value; level = level; back = back } }
+{
+    Mscw {
+        far: env.stack != u16::from(regs.slot),
+        entered: true,
+        env_stack: env.stack,
+        env_disp: env.disp,
+        value,
+        level,
+        back,
+    }
+}
+
+/// The task goes on at a procedure's first operator, in the environment of its top activation record.
+fn begin(cpu: &mut Cpu, procedure: Pcw)
+    requires { RunningContext cpu.old.core (record cpu.old.regs { level = procedure.level; segment = procedure.segment; place = procedure.place }) }
+    ensures display { (a : RunningContext cpu.old.core (record cpu.old.regs { level = procedure.level; segment = procedure.segment; place = procedure.place })) → IsShown a cpu.new.display }
+    ensures rest { cpu.new ≡ record cpu.old { regs = record cpu.old.regs { level = procedure.level; segment = procedure.segment; place = procedure.place }; display = cpu.new.display } }
+{
+    cpu.regs.level = procedure.level;
+    cpu.regs.segment = procedure.segment;
+    cpu.regs.place = procedure.place;
+    rebuild(&cpu.core, &cpu.regs, &mut cpu.display);
+}
+
+/// The top activation record, which is marked, enters the procedure of a cell that its first cell refers to: that cell
+/// becomes the return to `next`.
+///
+/// INVALID OPERAND, with nothing changed, if the procedure's level isn't the next one above that of its cell's
+/// activation record.
+fn enter(cpu: &mut Cpu, cell: u32, next: Place) -> Step
+    requires procedure { (a : RunningContext cpu.old.core cpu.old.regs) × (f : ℕ) × (segment : ℕ) × (level : ℕ) × (place : Place) × (reference : Word) × (arguments : List Word)
+        × ReachesProc cpu.old a next cell f segment level place × Calls a.task reference arguments }
+    requires next { IsPlace next }
+    ensures row { (a : RunningContext cpu.old.core cpu.old.regs) (f segment level : ℕ) (place : Place) (reference : Word) (arguments : List Word)
+        → ReachesProc cpu.old a next cell f segment level place → Calls a.task reference arguments
+        → Meets a.storage a.plan a.session a.member result cpu.old cpu.new (rows.enters (here a.member a.task next) arguments (AtProc f segment level place)) }
+{
+    let env = activation_of(&cpu.core, &cpu.regs, cell);
+    let procedure = procedure_at(&cpu.core, cell);
+    if env.level + 1 != procedure.level {
+        return Step::Fault(Fault::InvalidOperand);
+    }
+    let top = cpu.top_mark();
+    let mark = entered_mark(&cpu.regs, env, procedure.level, false, top.back);
+    let caller = Rcw {
+        place: next,
+        level: cpu.regs.level,
+        segment: cpu.regs.segment,
+    };
+    cpu.core.set(cpu.regs.f, mark.word());
+    cpu.core.set(cpu.regs.f + 1, caller.word());
+    begin(cpu, procedure);
+    Step::Done
+}
+
+/// ENTR: enters the procedure that the first cell of the marked activation record on top refers to. Its caller goes on
+/// at `next`. If the reference ends at an intrinsic, the answer is its number, with nothing changed.
+#[inline(never)]
+pub fn entr(cpu: &mut Cpu, next: Place) -> Step
+    requires runs { RunsSome cpu.old }
+    requires next { IsPlace next }
+    ensures row { ForEach cpu.old (λ x plan s m t. CallsOrMeets x plan s m result cpu.old cpu.new (called_on (here m t next) (top_of (here m t next)).standing) (operators.entr (here m t next) (top_of (here m t next)).standing)) }
+{
+    if cpu.top_mark().entered {
+        return Step::Fault(Fault::InvalidOperand);
+    }
+    if cpu.regs.s == cpu.regs.f {
+        return Step::Fault(Fault::StackUnderflow);
+    }
+    let first = cpu.core.get(cpu.regs.f + 1);
+    if first.tag() != 1 {
+        return Step::Fault(Fault::InvalidOperand);
+    }
+    match chase(&cpu.core, &cpu.regs, &cpu.display, first) {
+        Ok(End::Proc(cell)) => enter(cpu, cell, next),
+        Ok(End::Intrinsic(n)) => Step::Call(n),
+        Ok(End::Cell(_)) => Step::Fault(Fault::InvalidOperand),
+        Ok(End::Element { .. }) => Step::Fault(Fault::InvalidOperand),
+        Ok(End::Array(_)) => Step::Fault(Fault::InvalidOperand),
+        Err(fault) => Step::Fault(fault),
+    }
+}
+
+/// As `accident`, with these registers in place of the machine's. The two words over their top are the new ones, and
+/// nothing above these changes.
+pub fn accident_on(cpu: &mut Cpu, regs: Regs, cell: u32, value: bool, back: Place) -> Step
+    requires procedure { (a : RunningContext cpu.old.core regs) × (q : Place) × (f : ℕ) × (segment : ℕ) × (level : ℕ) × (place : Place) × CanEnter cpu.old regs a q cell f segment level place }
+    requires back { IsPlace back }
+    ensures row { (a : RunningContext cpu.old.core regs) (q : Place) (f segment level : ℕ) (place : Place) → CanEnter cpu.old regs a q cell f segment level place
+        → EntersOrFaults a result cpu.old cpu.new (rows.accident (here a.member a.task q) (cells_of (here a.member a.task q)) (back_to (here a.member a.task q) value back) (AtProc f segment level place)) }
+    ensures above { (i : ℕ) → cpu.new.regs.s < i → slice_get cpu.new.core i ≡ slice_get cpu.old.core i }
+    ensures top { result ≡ Done → cpu.new.regs.s ≡ regs.s + 2 }
+{
+    let env = activation_of(&cpu.core, &regs, cell);
+    let procedure = procedure_at(&cpu.core, cell);
+    if env.level + 1 != procedure.level {
+        return Step::Fault(Fault::InvalidOperand);
+    }
+    if regs.losr - regs.s < 2 {
+        return Step::Fault(Fault::StackOverflow);
+    }
+    let distance = (regs.s + 1 - regs.f) as u16;
+    let mark = entered_mark(&regs, env, procedure.level, value, distance);
+    let caller = Rcw {
+        place: back,
+        level: regs.level,
+        segment: regs.segment,
+    };
+    cpu.core.set(regs.s + 1, mark.word());
+    cpu.core.set(regs.s + 2, caller.word());
+    cpu.regs = Regs {
+        s: regs.s + 2,
+        f: regs.s + 1,
+        ..regs
+    };
+    begin(cpu, procedure);
+    Step::Done
+}
+
+/// Enters the procedure of a cell that a reference of the running task ends at, by a new activation record without
+/// cells. It returns to `back` in the running segment, and is marked to return a value where `value` says so.
+///
+/// INVALID OPERAND if the procedure's level isn't the next one above that of its cell's activation record, then
+/// STACK OVERFLOW if two words don't fit; nothing is changed then.
+pub fn accident(cpu: &mut Cpu, cell: u32, value: bool, back: Place) -> Step
+    requires procedure { (a : RunningContext cpu.old.core cpu.old.regs) × (q : Place) × (f : ℕ) × (segment : ℕ) × (level : ℕ) × (place : Place) × ReachesProc cpu.old a q cell f segment level place }
+    requires back { IsPlace back }
+    ensures row { (a : RunningContext cpu.old.core cpu.old.regs) (q : Place) (f segment level : ℕ) (place : Place) → ReachesProc cpu.old a q cell f segment level place
+        → Meets a.storage a.plan a.session a.member result cpu.old cpu.new (rows.accident (here a.member a.task q) (cells_of (here a.member a.task q)) (back_to (here a.member a.task q) value back) (AtProc f segment level place)) }
+{
+    let regs = cpu.regs;
+    accident_on(cpu, regs, cell, value, back)
+}

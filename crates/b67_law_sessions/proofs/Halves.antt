@@ -1,0 +1,24 @@
+-- What the attempt at an operator leaves, once it is counted: a step whose first part was made.
+use Rattle.std.proofs.Common.{◌≡◌, ◌≢◌, ℕ, ◌+◌, ◌≤◌, List, [], ◌∷◌, ◌++◌, length, map, Option, Some, None, Ok, Err, refl, sym, ap, ◌∙◌, subst, append-nil}
+use Rattle.b67_model.specs.Common.{Answer, JobMoment, moment_with, Settled, Stepped, stepped, settles, deadlocked, unsettled, run_text, step, RunLine, StepResult, number_of, of_job, Session, Choice, choice, Task, Job, SessionJob, Line, Done, Goes}
+use Rattle.b67_model.specs.Endings.{goes_on}
+use Rattle.b67_model.specs.Keyed.{keyed}
+use Rattle.b67_session_lines.specs.Moments.{first_part, first_part_by, first_part_in, first_part_of}
+use Rattle.b67_law_sessions.specs.Turns.{IsNext, part_of}
+
+-- the first part of a session's step, by what its row answers
+module _ (s : Session) (m : SessionJob) (t : Task) (n : IsNext s m t) where
+  pub first_is : first_part s ≡ Some (part_of s n.chosen m t (stepped m.constants m.progress.job t))
+  unfolding first_part
+  first_is = ap (first_part_by s) n.is ∙ ap (first_part_in s n.chosen) n.member ∙ ap (first_part_of s n.chosen m) n.task
+
+  pub first_by : (answer : Answer Done) → step m.constants m.progress.job t ≡ answer → first_part s ≡ Some (part_of s n.chosen m t (settles m.progress.job t answer))
+  unfolding stepped
+  first_by answer e = first_is ∙ ap (λ (a : Answer Done). Some (part_of s n.chosen m t (settles m.progress.job t a))) e
+
+  -- an operator after which a task is ready prints its own lines alone
+  pub open_lines : (job : Job) (printed : List Line) (touched : Option ℕ) → deadlocked (unsettled job) ≡ unsettled job
+      → (part_of s n.chosen m t (goes_on job printed touched)).lines ≡ of_job n.chosen.who.job (map (λ line. (t.number, line)) printed)
+  open_lines job printed touched e =
+      ap (λ (z : Settled). of_job n.chosen.who.job (moment_with m.progress t (goes_on job printed touched) z).lines) e
+      ∙ ap (of_job n.chosen.who.job) (append-nil (map (λ line. (t.number, line)) printed))
