@@ -2,6 +2,7 @@
 #![tactic(auto)]
 
 mod access;
+mod chaining;
 mod copies;
 mod crooked;
 mod device;
@@ -16,6 +17,7 @@ mod sectors;
 mod tests;
 
 pub use access::RandomAccess;
+pub use chaining::sectors_tell_chains;
 pub use crooked::CrookedBacking;
 pub use device::Backing;
 pub use file::FileBacking;

@@ -1,13 +1,15 @@
 //! Which sectors of a device are free, and the chains of those that aren't.
 
-ghost use Rattle.std.specs.Prelude.{◌≡◌, ◌≢◌, ◌⊎◌, ℕ, ◌+◌, ◌*◌, ◌<◌, ◌≤◌, ◌^◌, List, [], IfOk, IfSome, IfNone, MatchOption, Some, OnOk, length, map, option_map, slice_get, slice_range, take, if◌then◌else◌, ◌==◌};
+ghost use Rattle.std.specs.Prelude.{◌≡◌, ◌≢◌, ◌⊎◌, nat_lt, ℕ, ◌+◌, ◌*◌, ◌<◌, ◌≤◌, ◌^◌, List, [], IfOk, IfSome, IfNone, MatchOption, Some, OnOk, length, map, option_map, slice_get, slice_range, take, if◌then◌else◌, ◌==◌};
 ghost use Rattle.b67_word.specs.Tagged.{Tagged};
 ghost use Rattle.b67_word.specs.Numbers.{number};
 ghost use Rattle.b67_io.specs.Causes.{HasCause};
-ghost use Rattle.b67_backing.specs.Shelf.{Table, Shelf, IsShelf, HasChain, chain_of, taken, given, joined, first, last, all_free};
+ghost use Rattle.b67_backing.specs.Shelf.{Table, Shelf, IsShelf, HasChain, chain_of, taken, given, joined, first, last, all_free, times};
 ghost use Rattle.b67_backing.specs.Held.{Tells, Changes, SameBut, Stores, Holds, AreTagged, OnlyWords, WasCalled, WasRead, sectors_for, under};
+ghost use Rattle.b67_backing.specs.Links.{AreLinksOf, links_in, free_sectors, link_in, link_of, unlinked};
 ghost use Rattle.b67_backing.specs.Extending.{ExtendMeets, KeepsDevice};
 
+use crate::chaining::are_of_chains;
 use crate::copies::{pack, unpack};
 use crate::{Backing, SpaceFault};
 use b67_core::Core;
@@ -50,6 +52,37 @@ impl Sectors {
         })
     }
 
+    /// Sectors in chains that have these links, those of the sectors from 1 on: 0 of a free sector, its own number of the
+    /// last of a chain, else the next one's. The other sectors are free. None exactly if no disjoint chains have them.
+    pub fn of_links(alloc: Global, links: &[u32]) -> Result<Option<Sectors>, AllocError>
+        ensures some { IfOk result (λ found. IfSome found (λ s. (ks : List (List ℕ)) × AreLinksOf links.now ks)) }
+        ensures each { IfOk result (λ found. IfSome found (λ s. (ks : List (List ℕ)) → AreLinksOf links.now ks
+            → IsShelf s (record { free = unlinked 1 links.now; chains = ks }))) }
+        ensures told { IfOk result (λ found. IfSome found (λ s. links_in s ≡ links.now)) }
+        ensures none { IfOk result (λ found. IfNone found ((ks : List (List ℕ)) → AreLinksOf links.now ks → ⊥)) }
+    {
+        let held = are_of_chains(alloc, links)?;
+        if !held {
+            return Ok(None);
+        }
+        let mut table = vec![in alloc; 0u32; links.len() + 1]?;
+        let mut first = 0u32;
+        let mut free = 0u32;
+        'down: for k in 0..links.len() {
+            let n = links.len() - k;
+            let link = links[n - 1];
+            if link == 0 {
+                table[n] = first;
+                first = n as u32;
+                free += 1;
+            } else if link as usize != n {
+                table[n] = link;
+            }
+        }
+        table[0] = first;
+        Ok(Some(Sectors { links: table, free }))
+    }
+
     /// The number of sectors, free or not.
     pub fn count(&self) -> u32
         ensures { result + 1 ≡ length self.now.links }
@@ -65,11 +98,42 @@ impl Sectors {
     }
 
     /// The sector after a sector; after 0 the first free one.
-    fn link(&self, at: u32) -> u32
+    fn follow(&self, at: u32) -> u32
         requires { at < length self.now.links }
         ensures { slice_get self.now.links at ≡ Some result }
     {
         self.links[at as usize]
+    }
+
+    /// Whether a sector is free. As many links are followed as there are free sectors.
+    fn is_free(&self, n: u32) -> bool
+        ensures { result ≡ nat_lt 0 (times n (free_sectors self.now)) }
+    {
+        let mut at = 0;
+        'free: for _i in 0..self.free {
+            at = self.follow(at);
+            if at == n {
+                return true;
+            }
+        }
+        false
+    }
+
+    /// The link of a sector: 0 if it is free, its own number if it is the last of its chain, else the next one's.
+    pub fn link(&self, n: u32) -> u32
+        requires low { 1 ≤ n }
+        requires high { n < length self.now.links }
+        ensures value { result ≡ link_in self.now n }
+        ensures chain { (st : Shelf) → IsShelf self.now st → result ≡ link_of n st.chains }
+    {
+        if self.is_free(n) {
+            return 0;
+        }
+        let next = self.follow(n);
+        if next == 0 {
+            return n;
+        }
+        next
     }
 
     /// The sector after n free ones.
@@ -80,7 +144,7 @@ impl Sectors {
     {
         let mut at = 0;
         for _i in 0..n {
-            at = self.link(at);
+            at = self.follow(at);
         }
         at
     }
@@ -100,9 +164,9 @@ impl Sectors {
         if self.free < n {
             return None;
         }
-        let first = self.link(0);
+        let first = self.follow(0);
         let last = self.nth(n);
-        self.links[0] = self.link(last);
+        self.links[0] = self.follow(last);
         self.links[last as usize] = 0;
         self.free -= n;
         Some(first)
@@ -118,7 +182,7 @@ impl Sectors {
     {
         let mut at = first;
         for i in 0..self.count() {
-            let next = self.link(at);
+            let next = self.follow(at);
             if next == 0 {
                 return Tail {
                     last: at,
@@ -141,7 +205,7 @@ impl Sectors {
         ensures count { length self.new.links ≡ length self.old.links }
     {
         let tail = self.last_of(first);
-        self.links[tail.last as usize] = self.link(0);
+        self.links[tail.last as usize] = self.follow(0);
         self.links[0] = first;
         self.free += tail.count;
     }
@@ -180,7 +244,7 @@ impl Sectors {
         let mut at = first;
         for j in 0..sectors {
             backing.write(at, &pack(from, 30 * j))?;
-            at = self.link(at);
+            at = self.follow(at);
         }
         Ok(())
     }
@@ -296,7 +360,7 @@ impl Sectors {
             backing.read(from, &mut buffer)?;
             let n = (words - 30 * j).min(30);
             unpack(core, at + 30 * j, n, tag, &buffer);
-            from = self.link(from);
+            from = self.follow(from);
         }
         Ok(())
     }

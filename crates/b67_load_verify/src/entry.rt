@@ -19,7 +19,7 @@ pub(crate) const ORIGIN: Place = Place {
 
 /// An operator at its place, or why none can be read there.
 #[derive(Clone, Copy, Debug)]
-pub(crate) struct Entry {
+pub struct Entry {
     pub place: Place,
     pub read: Result<Op, Undecodable>,
 }
@@ -38,7 +38,7 @@ pub(crate) fn count_at(place: Place) -> usize
 }
 
 /// The listing of a segment's code.
-pub(crate) fn entries_of(alloc: Global, code: &[Word]) -> Result<Vec<Entry>, AllocError>
+pub fn entries_of(alloc: Global, code: &[Word]) -> Result<Vec<Entry>, AllocError>
     requires { length code.now ≤ 8191 }
     ensures { IfOk result (λ entries. map seen entries.items ≡ listing (contents code.now)) }
 {

@@ -10,4 +10,6 @@ mod rules;
 
 pub use admission::verify;
 pub use admitted::Admitted;
+pub use entry::{Entry, entries_of};
 pub use fault::LoadFault;
+pub use rules::{couple_bits, may_begin_at, proc_bits};

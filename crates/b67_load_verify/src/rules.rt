@@ -28,7 +28,7 @@ fn target_of(op: Op) -> Option<Place>
 }
 
 /// The bits of an operator's address couple.
-fn couple_bits(op: Op) -> Option<u16>
+pub fn couple_bits(op: Op) -> Option<u16>
     ensures { result ≡ couple_bits op }
 {
     match op {
@@ -38,7 +38,7 @@ fn couple_bits(op: Op) -> Option<u16>
 }
 
 /// The program control word that an operator makes.
-fn proc_bits(op: Op) -> Option<u64>
+pub fn proc_bits(op: Op) -> Option<u64>
     ensures { result ≡ proc_bits op }
 {
     match op {
@@ -80,7 +80,7 @@ fn named_level(file: &Codefile, disp: u16) -> Option<u8>
 }
 
 /// Whether a procedure may begin at a place, given as a branch's 16 bits: at the segment's first one or at an entry.
-fn may_begin_at(segment: &Segment, bits: u64) -> bool
+pub fn may_begin_at(segment: &Segment, bits: u64) -> bool
     ensures { result ≡ may_begin_at (Some (segment_of segment.now)) bits }
 {
     bits == 0 || has_entry(segment.entries.as_slice(), bits)

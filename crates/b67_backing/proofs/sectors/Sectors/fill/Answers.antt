@@ -31,8 +31,8 @@ write-requires-clause-high g c =
     let p = ahead_pos c.args.self.now.links (chain_of c.args.first st.chains) c.args.sectors c.loop-j.j c.loop-j.at s.rest s.ahead c.loop-j-test.true in
     omega (arith, p.1, c.loop-j.invariant.size)
 
-pub link-at-requires : goal.link-at-requires
-link-at-requires g c =
+pub follow-at-requires : goal.follow-at-requires
+follow-at-requires g c =
     let (st, h) = c.requires.chain in
     let s = c.loop-j.invariant.storing st h in
     (ahead_pos c.args.self.now.links (chain_of c.args.first st.chains) c.args.sectors c.loop-j.j c.loop-j.at s.rest s.ahead c.loop-j-test.true).1
@@ -42,7 +42,7 @@ loop-j-preserved g c =
     let counts = counts_next g.B.Backing.calls c.args.backing.now c.loop-j.backing c.write.new.self c.loop-j.invariant.calls c.in_ok-write.ensures.calls in
     record {
       storing = λ st h.
-          storing_next g.B.Backing.holds c.args.self.now.links (chain_of c.args.first st.chains) c.args.sectors c.loop-j.j c.loop-j.at c.link-at.result (map number c.args.from.now) c.pack.result c.args.backing.now c.loop-j.backing c.write.new.self c.loop-j-test.true (c.loop-j.invariant.storing st h) c.in_ok-write.ensures.sets (λ k low. c.pack.ensures k low) c.link-at.ensures;
+          storing_next g.B.Backing.holds c.args.self.now.links (chain_of c.args.first st.chains) c.args.sectors c.loop-j.j c.loop-j.at c.follow-at.result (map number c.args.from.now) c.pack.result c.args.backing.now c.loop-j.backing c.write.new.self c.loop-j-test.true (c.loop-j.invariant.storing st h) c.in_ok-write.ensures.sets (λ k low. c.pack.ensures k low) c.follow-at.ensures;
       size = c.in_ok-write.ensures.size ∙ c.loop-j.invariant.size;
       faults = omega (arith, c.loop-j.invariant.faults, c.in_ok-write.ensures.cause.later);
       calls = counts.later;

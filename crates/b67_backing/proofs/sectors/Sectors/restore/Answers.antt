@@ -27,8 +27,8 @@ read-requires-clause-high g c =
     let p = ahead_pos c.args.self.now.links (chain_of c.args.first st.chains) (sectors_for c.args.words) c.loop-j.j c.loop-j.from s.rest s.ahead c.loop-j-test.true in
     omega (arith, p.1, c.loop-j.invariant.size)
 
-pub link-from-requires : goal.link-from-requires
-link-from-requires g c =
+pub follow-from-requires : goal.follow-from-requires
+follow-from-requires g c =
     let (st, h) = c.requires.chain in
     let s = c.loop-j.invariant.restoring st h in
     (ahead_pos c.args.self.now.links (chain_of c.args.first st.chains) (sectors_for c.args.words) c.loop-j.j c.loop-j.from s.rest s.ahead c.loop-j-test.true).1
@@ -38,7 +38,7 @@ loop-j-preserved g c =
     let counts = counts_next g.B.Backing.calls c.args.backing.now c.loop-j.backing c.read.new.self c.loop-j.invariant.calls c.in_ok-read.ensures.calls in
     record {
       restoring = λ st h.
-          restoring_next g.B.Backing.holds c.args.self.now.links (chain_of c.args.first st.chains) (sectors_for c.args.words) c.loop-j.j c.loop-j.from c.link-from.result c.args.tag c.args.words c.args.at c.loop-j.core c.unpack.new.core c.min-n.result c.read.new.into c.args.backing.now c.loop-j.backing c.read.new.self c.loop-j-test.true (c.loop-j.invariant.restoring st h) c.loop-j.invariant.same c.in_ok-read.ensures.gives c.min-n.ensures c.unpack.ensures.value c.unpack.ensures.outside c.link-from.ensures;
+          restoring_next g.B.Backing.holds c.args.self.now.links (chain_of c.args.first st.chains) (sectors_for c.args.words) c.loop-j.j c.loop-j.from c.follow-from.result c.args.tag c.args.words c.args.at c.loop-j.core c.unpack.new.core c.min-n.result c.read.new.into c.args.backing.now c.loop-j.backing c.read.new.self c.loop-j-test.true (c.loop-j.invariant.restoring st h) c.loop-j.invariant.same c.in_ok-read.ensures.gives c.min-n.ensures c.unpack.ensures.value c.unpack.ensures.outside c.follow-from.ensures;
       tags = λ i low inside. ⊎_elim
           (λ l. let (w, is, t) = c.loop-j.invariant.tags i l inside in (w, c.unpack.ensures.outside (c.args.at + i) (inl (omega arith)) ∙ is, t))
           (λ l.

@@ -1,0 +1,36 @@
+-- Sessions in which never two tasks are ready at once.
+use Rattle.std.specs.Prelude.{ℕ, ◌≡◌, ◌≤◌, ◌<◌, List, length, Ok}
+use Rattle.b67_model.specs.Common.{Session, ready, lines, after, Program}
+use Rattle.b67_model_text.specs.declared.deck.Deck.{Deck}
+use Rattle.b67_model_text.specs.declared.deck.Switch.{Switch}
+use Rattle.b67_job_admit.specs.Admitting.{deck_prepared}
+use Rattle.b67_session_open.specs.Decks.{session_of}
+use Rattle.b67_session_lines.specs.Stops.{Run, Stops}
+
+-- they have the same jobs and have made as many operators
+pub record DifferInTurns (s t : Session) : Type 0 where
+  pub jobs : t.jobs ≡ s.jobs
+  pub made : t.made ≡ s.made
+
+-- before none of so many steps two tasks are ready
+abbrev pub NeverTwoReady : ℕ → Session → Type 0
+NeverTwoReady steps s = (k : ℕ) → k < steps → length (ready (after k s)) ≤ 1
+
+-- whatever the switches, the quantum and the turn, the lines are the same, and so are the jobs
+abbrev pub SwitchesNeedTwo : Type 0
+SwitchesNeedTwo = (steps : ℕ) (s t : Session) → DifferInTurns s t → NeverTwoReady steps s → (lines steps t ≡ lines steps s) × DifferInTurns (after steps s) (after steps t)
+
+-- so a run stops with the same status and the same text under any switches and any quantum
+abbrev pub RunsNeedTwo : Type 0
+RunsNeedTwo = (r q : Run) → DifferInTurns r.session q.session → q.halt ≡ r.halt → ((steps : ℕ) → NeverTwoReady steps r.session) → (status : ℕ) (text : List ℕ) → Stops r status text → Stops q status text
+
+-- a text's deck with its programs, and another text's, which has other switches and another quantum alone. Never are two tasks of
+-- the first one ready
+pub record DecksDifferInTurns (bytes other : List ℕ) : Type 0 where
+  pub d : Deck
+  pub ps : List Program
+  pub switches : List Switch
+  pub quantum : ℕ
+  pub is : deck_prepared bytes ≡ Ok (d, ps)
+  pub other_is : deck_prepared other ≡ Ok (record d { switches = switches; quantum = quantum }, ps)
+  pub one_ready : (steps : ℕ) → NeverTwoReady steps (session_of d ps)
