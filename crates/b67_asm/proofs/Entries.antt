@@ -1,12 +1,11 @@
 -- The entries of a segment's cards are places within it, in order.
-use Rattle.std.proofs.Common.{◌⊎◌, inl, inr, ◌≡◌, ◌≤◌, ◌<◌, ◌+◌, ◌*◌, ◌/◌, ◌%◌, ◌^◌, ℕ, Bool, true, false, not, cond, List, [], ◌∷◌, map, length, drop, zero, suc, Option, Some, None, Result, Ok, Err, refl, sym, ap, subst, ◌∙◌, arith}
-use Rattle.std.specs.Prelude.{nat_lt, ◌==◌, ◌||◌}
+use Rattle.std.proofs.Common.{inl, inr, ◌≡◌, ◌≤◌, ◌<◌, ◌+◌, ◌*◌, ◌/◌, ◌^◌, ℕ, Bool, true, false, not, cond, List, [], ◌∷◌, map, length, drop, zero, suc, Option, Some, Result, Ok, Err, refl, sym, ap, subst, ◌∙◌, arith}
+use Rattle.std.specs.Prelude.{nat_lt, ◌==◌}
 use Rattle.std.specs.List.{AllByRecursion, list_any}
 use Rattle.std.proofs.lemmas.Bool.{ltb-true, ltb-false, or_parts}
-use Rattle.b67_codefile.specs.Spelling.{entry_count, IsEntry, EntriesRise, AreEntries}
+use Rattle.b67_codefile.specs.Spelling.{entry_count, EntriesRise, AreEntries}
 use Rattle.b67_model_text.specs.declared.assembly.Line.{Line}
 use Rattle.b67_model_text.specs.Deck.{Refusal}
-use Rattle.b67_model_text.specs.Encoding.{laid}
 use Rattle.b67_model_text.specs.Asm as asm
 use Rattle.b67_model_text.proofs.Contents.{AddsEntry, headed, same_Ok, label_small}
 use Rattle.b67_asm.specs.Putting.{put_behind}

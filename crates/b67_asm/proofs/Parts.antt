@@ -1,10 +1,7 @@
 -- A segment or a data row, from its card and the cards behind it.
-use Rattle.std.proofs.Common.{◌≡◌, ◌≤◌, ◌<◌, ◌+◌, ◌^◌, ℕ, Bool, true, false, not, nat_lt, ◌||◌, cond, List, [], ◌∷◌, ◌++◌, map, length, Option, Some, None, Result, Ok, Err, refl, sym, ap, subst, ◌∙◌, arith}
+use Rattle.std.proofs.Common.{◌≡◌, ◌≤◌, ◌<◌, ◌+◌, ◌^◌, ℕ, Bool, true, false, nat_lt, ◌||◌, cond, List, [], ◌∷◌, ◌++◌, map, length, Option, Some, None, Result, Ok, Err, refl, sym, ap, subst, ◌∙◌, arith}
 use Rattle.std.specs.List.{list_any, AllByRecursion}
 use Rattle.b67_word.specs.Tagged.{Tagged, contents}
-use Rattle.b67_codefile.specs.Meaning.{segment_of}
-use Rattle.b67_model.specs.State as state
-use Rattle.b67_model.specs.declared.operators.Op.{Op}
 use Rattle.b67_model_text.specs.declared.assembly.Line.{Line}
 use Rattle.b67_model_text.specs.Answers.{Answer, ◌>>=◌, ◌>>◌, needs}
 use Rattle.b67_model_text.specs.Deck.{Refusal, of_card}
@@ -14,10 +11,9 @@ use Rattle.b67_asm.specs.Blocks.{segment_head, row_head, has_entry_card, Grows, 
 use Rattle.b67_asm.specs.Putting.{put_behind, code_count, IsSegmentCode}
 use Rattle.b67_asm.specs.Scope.{scope_at}
 use Rattle.b67_asm.proofs.Entries.{entries_fit, no_entries}
-use Rattle.b67_codefile.specs.Spelling.{IsSegment, AreWords, HasTag, HasNoEntries}
+use Rattle.b67_codefile.specs.Spelling.{HasNoEntries}
 use Rattle.b67_codefile.specs.declared.file.Segment.{Segment}
 use Rattle.b67_codefile.specs.declared.file.Codefile.{Codefile}
-use Rattle.std.specs.Prelude.{⊤}
 
 abbrev segment_rest : asm.Names → ℕ → List Line → ℕ → Result asm.Part Refusal
 segment_rest names segments lines l = asm.content_of (scope_at names segments l lines) 0 [] lines >>= λ content. Ok (asm.CodePart (record { level = l; entries = map asm.place_bits content.entries; code = code_of content.operators }))

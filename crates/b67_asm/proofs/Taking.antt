@@ -1,5 +1,5 @@
 -- Definitions and labels, card by card.
-use Rattle.std.proofs.Common.{◌≡◌, ◌<◌, ◌≤◌, ◌+◌, ◌-◌, ℕ, zero, suc, Bool, true, false, List, [], ◌∷◌, length, take, drop, get_or, ◌||◌, ◌&&◌, not, ◌++◌, is_some, Option, Some, None, Result, Ok, Err, append_assoc, refl, sym, ap, subst, ◌∙◌, arith}
+use Rattle.std.proofs.Common.{◌≡◌, ◌<◌, ◌≤◌, ◌+◌, ◌-◌, ℕ, zero, suc, Bool, true, false, List, [], ◌∷◌, length, take, drop, get_or, ◌||◌, ◌&&◌, not, ◌++◌, Option, Result, Ok, Err, append_assoc, refl, sym, ap, subst, ◌∙◌, arith}
 use Rattle.std.specs.Prelude.{slice_get, unwrap_or}
 use Rattle.std.proofs.Math.Seq.{drop-cons}
 use Rattle.std.proofs.lemmas.List.{append-nil, length-append}
@@ -10,7 +10,7 @@ use Rattle.b67_model_text.specs.declared.assembly.Named.{Named}
 use Rattle.b67_model_text.specs.declared.assembly.Statement as statement
 use Rattle.b67_model_text.specs.declared.assembly.Statement.TheVariants as statements
 use Rattle.b67_model_text.specs.Answers.{Answer, ◌>>=◌}
-use Rattle.b67_model_text.specs.Asm.{meaning, definition, definitions, segments_behind, rows_behind, labels, label_at, reach, is_word, names_entry, with_cards, cards_of_segments, own, is_entry, is_place, Scope, Content, Added, AddedOperator, AddedEntry, syllable_behind, entries_behind, with_added, content_of, next}
+use Rattle.b67_model_text.specs.Asm.{meaning, definition, definitions, segments_behind, rows_behind, labels, label_at, reach, names_entry, with_cards, cards_of_segments, own, is_entry, is_place, Scope, Content, Added, AddedOperator, AddedEntry, syllable_behind, entries_behind, with_added, content_of, next}
 use Rattle.b67_model_text.specs.Deck.{Refusal, of_card}
 use Rattle.b67_model_text.specs.Encoding.{laid_one, laid}
 use Rattle.b67_asm.specs.Putting.{laid_added, line_added, put_behind, code_weight, code_count}

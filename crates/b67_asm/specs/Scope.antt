@@ -1,8 +1,6 @@
 -- What the operators of a segment may name, as the assembler holds it.
-use denote.Bor.{Bor}
 use Rattle.std.specs.Prelude.{◌≡◌, ◌&&◌, ℕ, not, Bool, true, false, List, [], ◌∷◌, slice_get, Option, Some, None, is_some, Result, Ok, Err}
 use Rattle.std.specs.List.{list_any}
-use Rattle.b67_model_text.specs.declared.assembly.Named.{Named}
 use Rattle.b67_model.specs.declared.operators.Op.{Op}
 use Rattle.b67_model_text.specs.declared.assembly.Line.{Line}
 use Rattle.b67_model_text.specs.declared.assembly.Sketch.{Sketch}

@@ -51,11 +51,11 @@ fn segment_count(lines: &[Line]) -> u32
 }
 
 #[tactic(auto, using(crate::proofs::Program::none_before))]
-fn program_in(
+fn program_in<'a>(
     alloc: Global,
-    names: &Names,
+    names: &Names<'a>,
     segments: u32,
-    lines: &[Line],
+    lines: &'a [Line],
 ) -> Result<Codefile, AsmFault>
     requires { length lines.now < 2 ^ 31 }
     ensures { IsAssembled result (asm.version_in lines.now) (asm.program_from (names_in names.now) segments 0 0 lines.now) }
@@ -80,7 +80,7 @@ fn program_in(
 }
 
 // A card that stands before all segments and data rows is refused.
-fn check_front(names: &Names, lines: &[Line]) -> Result<(), AsmFault>
+fn check_front<'a>(names: &Names<'a>, lines: &'a [Line]) -> Result<(), AsmFault>
     ensures { IsChecked result (asm.no_strays (names_in names.now) lines.now) }
 {
     match lines {
@@ -101,7 +101,7 @@ fn check_front(names: &Names, lines: &[Line]) -> Result<(), AsmFault>
     }
 }
 
-fn with_names(alloc: Global, names: &Names, lines: &[Line]) -> Result<Codefile, AsmFault>
+fn with_names<'a>(alloc: Global, names: &Names<'a>, lines: &'a [Line]) -> Result<Codefile, AsmFault>
     requires { length lines.now < 2 ^ 31 }
     ensures { IsAssembled result (asm.version_in lines.now) (with_names (names_in names.now) lines.now) }
 {

@@ -82,7 +82,7 @@ fn is_row_number(count: usize, named: Option<Named>) -> bool
 }
 
 #[tactic(auto, using(crate::proofs::Parts::code_some))]
-fn level_of(names: &Names, block: &Block, level: Option<u8>) -> Result<u8, u8>
+fn level_of<'a>(names: &Names<'a>, block: &Block<'a>, level: Option<u8>) -> Result<u8, u8>
     requires { block.now.segments + block.now.rows ≤ 255 }
     ensures exact { result ≡ segment_head (names_in names.now) block.now.segments block.now.rows block.now.name.now level block.now.own.now }
     ensures small { IfOk result (λ l. l < 2 ^ 8) }
@@ -108,7 +108,7 @@ fn level_of(names: &Names, block: &Block, level: Option<u8>) -> Result<u8, u8>
 }
 
 #[tactic(auto, using(crate::proofs::Parts::any_some))]
-fn check_row(names: &Names, block: &Block) -> Result<(), u8>
+fn check_row<'a>(names: &Names<'a>, block: &Block<'a>) -> Result<(), u8>
     requires { block.now.segments + block.now.rows ≤ 255 }
     ensures exact { result ≡ row_head (names_in names.now) block.now.segments block.now.rows block.now.name.now block.now.own.now }
     ensures room { OnOk result (block.now.segments + block.now.rows < 255) }
@@ -128,12 +128,12 @@ fn check_row(names: &Names, block: &Block) -> Result<(), u8>
 }
 
 // The code and the entries of a segment's own cards.
-fn segment_code(
+fn segment_code<'a>(
     alloc: Global,
-    names: &Names,
+    names: &Names<'a>,
     segments: u32,
     level: u8,
-    own: &[Line],
+    own: &'a [Line],
 ) -> Result<Coded, AsmFault>
     requires { length own.now < 2 ^ 31 }
     ensures { CodePut result (put_behind [] (asm.content_of (scope_at (names_in names.now) segments level own.now) 0 [] own.now)) (code_count own.now) }
@@ -148,11 +148,11 @@ fn segment_code(
     code_in(alloc, &scope, own)
 }
 
-fn segment_in(
+fn segment_in<'a>(
     alloc: Global,
-    names: &Names,
+    names: &Names<'a>,
     segments: u32,
-    block: &Block,
+    block: &Block<'a>,
     level: Option<u8>,
 ) -> Result<Segment, AsmFault>
     requires counts { block.now.segments + block.now.rows ≤ 255 }
@@ -176,7 +176,7 @@ fn segment_in(
     }
 }
 
-fn row_in(alloc: Global, names: &Names, block: &Block) -> Result<Words, AsmFault>
+fn row_in<'a>(alloc: Global, names: &Names<'a>, block: &Block<'a>) -> Result<Words, AsmFault>
     requires { block.now.segments + block.now.rows ≤ 255 }
     ensures exact { RowPartPut result (asm.row_part (names_in names.now) block.now.segments block.now.rows block.now.number block.now.name.now block.now.own.now) }
     ensures room { OnOk result (block.now.segments + block.now.rows < 255) }
@@ -194,11 +194,11 @@ fn row_in(alloc: Global, names: &Names, block: &Block) -> Result<Words, AsmFault
 }
 
 #[tactic(auto, using(crate::proofs::Parts::all_one, crate::proofs::Parts::all_plain))]
-fn put_segment(
+fn put_segment<'a>(
     alloc: Global,
-    names: &Names,
+    names: &Names<'a>,
     segments: u32,
-    block: &Block,
+    block: &Block<'a>,
     level: Option<u8>,
     file: &mut Codefile,
 ) -> Result<(), AsmFault>
@@ -219,7 +219,12 @@ fn put_segment(
 }
 
 #[tactic(auto, using(crate::proofs::Parts::all_one))]
-fn put_row(alloc: Global, names: &Names, block: &Block, file: &mut Codefile) -> Result<(), AsmFault>
+fn put_row<'a>(
+    alloc: Global,
+    names: &Names<'a>,
+    block: &Block<'a>,
+    file: &mut Codefile,
+) -> Result<(), AsmFault>
     requires grows { Grows file.old }
     requires segments { block.now.segments ≡ length file.old.segments }
     requires rows { block.now.rows ≡ length file.old.rows }
@@ -251,12 +256,12 @@ fn block_of<'a>(number: u32, name: &'a [u8], own: &'a [Line], file: &Codefile) -
 }
 
 /// Puts the segment or data row that a card begins behind those of a codefile.
-pub fn put_part(
+pub fn put_part<'a>(
     alloc: Global,
-    names: &Names,
+    names: &Names<'a>,
     segments: u32,
-    line: &Line,
-    own: &[Line],
+    line: &'a Line,
+    own: &'a [Line],
     file: &mut Codefile,
 ) -> Result<(), AsmFault>
     requires grows { Grows file.old }

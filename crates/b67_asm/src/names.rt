@@ -12,12 +12,13 @@ use b67_model::Op;
 use b67_model_text::{Line, Named, Sketch, Statement};
 use indexmap::IndexMap;
 use std::alloc::{AllocError, Global};
+use std::collections::BTreeMap;
 
 /// The labels of a segment's cards with their syllables, and the labels that its ENTRY cards name.
 #[derive(Drop)]
 pub struct Labels<'a> {
-    pub places: IndexMap<&'a [u8], u64>,
-    pub entries: IndexMap<&'a [u8], u64>,
+    pub places: BTreeMap<&'a [u8], u64>,
+    pub entries: BTreeMap<&'a [u8], u64>,
 }
 
 /// What names mean, and the labels of each segment, by its number.
@@ -35,14 +36,14 @@ pub fn meaning_of(names: &IndexMap<&[u8], Named>, name: &[u8]) -> Option<Named>
 }
 
 // A label's syllable.
-pub fn place_of(labels: &IndexMap<&[u8], u64>, label: &[u8]) -> Option<u64>
+pub fn place_of<'a>(labels: &BTreeMap<&'a [u8], u64>, label: &'a [u8]) -> Option<u64>
     ensures { result ≡ meaning (label_entries labels.now.entries) label.now }
 {
-    labels.get(label).copied()
+    labels.get(&label).copied()
 }
 
 // The syllable of a segment's label.
-pub fn label_of(names: &Names, number: u32, label: &[u8]) -> Option<u64>
+pub fn label_of<'a>(names: &Names<'a>, number: u32, label: &'a [u8]) -> Option<u64>
     ensures { result ≡ (names_in names.now).label number label.now }
 {
     match names.segments.get(number as usize) {
@@ -52,7 +53,7 @@ pub fn label_of(names: &Names, number: u32, label: &[u8]) -> Option<u64>
 }
 
 // Whether a segment's label is an entry of it.
-pub fn is_entry(names: &Names, number: u32, label: &[u8]) -> bool
+pub fn is_entry<'a>(names: &Names<'a>, number: u32, label: &'a [u8]) -> bool
     ensures { result ≡ (names_in names.now).entry number label.now }
 {
     match names.segments.get(number as usize) {
@@ -82,13 +83,13 @@ fn define<'a>(
 
 // Adds a label, unless it is there already.
 fn define_at<'a>(
-    labels: &mut IndexMap<&'a [u8], u64>,
+    labels: &mut BTreeMap<&'a [u8], u64>,
     label: &'a [u8],
     syllable: u64,
 ) -> Result<(), AllocError>
     ensures { OnOk result ((q : List ℕ) → meaning (label_entries labels.new.entries) q ≡ option_or (meaning (label_entries labels.old.entries) q) (meaning ((label.now, syllable) ∷ []) q)) }
 {
-    if labels.get(label).is_some() {
+    if labels.get(&label).is_some() {
         return Ok(());
     }
     match labels.insert(label, syllable) {
@@ -143,7 +144,7 @@ fn define_line<'a>(
 
 #[tactic(auto, using(crate::proofs::NamesLaw::or_none))]
 fn label_statement<'a>(
-    labels: &mut IndexMap<&'a [u8], u64>,
+    labels: &mut BTreeMap<&'a [u8], u64>,
     statement: &'a Statement,
     n: u64,
 ) -> Result<(), AllocError>
@@ -163,7 +164,7 @@ fn label_statement<'a>(
 
 #[tactic(auto, using(crate::proofs::NamesLaw::or_none))]
 fn label_line<'a>(
-    labels: &mut IndexMap<&'a [u8], u64>,
+    labels: &mut BTreeMap<&'a [u8], u64>,
     line: &'a Line,
     n: u64,
 ) -> Result<(), AllocError>
@@ -282,11 +283,11 @@ fn meanings_of<'a>(
 pub fn labels_of<'a>(
     alloc: Global,
     lines: &'a [Line],
-) -> Result<IndexMap<&'a [u8], u64>, AllocError>
+) -> Result<BTreeMap<&'a [u8], u64>, AllocError>
     requires { length lines.now < 2 ^ 31 }
     ensures { IfOk result (λ m. (q : List ℕ) → meaning (label_entries m.entries) q ≡ meaning (labels 0 lines.now) q) }
 {
-    let mut labels = IndexMap::new(alloc);
+    let mut labels = BTreeMap::new(alloc);
     let mut n: u64 = 0;
     for line in lines {
         label_line(&mut labels, line, n)?;
@@ -296,7 +297,7 @@ pub fn labels_of<'a>(
 }
 
 // Adds the label that a card names, if it is an ENTRY.
-fn enter_line<'a>(entries: &mut IndexMap<&'a [u8], u64>, line: &'a Line) -> Result<(), AllocError>
+fn enter_line<'a>(entries: &mut BTreeMap<&'a [u8], u64>, line: &'a Line) -> Result<(), AllocError>
     ensures { OnOk result ((q : List ℕ) → is_some (meaning (label_entries entries.new.entries) q) ≡ (is_some (meaning (label_entries entries.old.entries) q) || names_entry q line.now.says)) }
 {
     match &line.says {
@@ -306,7 +307,7 @@ fn enter_line<'a>(entries: &mut IndexMap<&'a [u8], u64>, line: &'a Line) -> Resu
 }
 
 fn enter_statement<'a>(
-    entries: &mut IndexMap<&'a [u8], u64>,
+    entries: &mut BTreeMap<&'a [u8], u64>,
     statement: &'a Statement,
 ) -> Result<(), AllocError>
     ensures { OnOk result ((q : List ℕ) → is_some (meaning (label_entries entries.new.entries) q) ≡ (is_some (meaning (label_entries entries.old.entries) q) || names_entry q (Ok statement.now))) }
@@ -321,10 +322,10 @@ fn enter_statement<'a>(
 }
 
 // The labels that ENTRY cards name.
-fn entries_of<'a>(alloc: Global, lines: &'a [Line]) -> Result<IndexMap<&'a [u8], u64>, AllocError>
+fn entries_of<'a>(alloc: Global, lines: &'a [Line]) -> Result<BTreeMap<&'a [u8], u64>, AllocError>
     ensures { IfOk result (λ m. (q : List ℕ) → is_some (meaning (label_entries m.entries) q) ≡ list_any (λ l. names_entry q l.says) lines.now) }
 {
-    let mut entries = IndexMap::new(alloc);
+    let mut entries = BTreeMap::new(alloc);
     for line in lines {
         enter_line(&mut entries, line)?;
     }

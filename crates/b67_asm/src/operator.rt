@@ -14,13 +14,13 @@ use crate::names::{Names, is_entry, label_of, meaning_of, place_of};
 use b67_model::Op;
 use b67_model_text::{Branch, Call, Name, Named, Sketch, Statement, Values};
 use b67_word::{Couple, Place, bits_of};
-use indexmap::IndexMap;
+use std::collections::BTreeMap;
 
 /// What the operators of a segment may name: names, labels, how many segments there are, and the segment's level.
 #[derive(Clone, Copy)]
-pub struct Scope<'a> {
-    pub names: &'a Names<'a>,
-    pub labels: &'a IndexMap<&'a [u8], u64>,
+pub struct Scope<'s, 'a> {
+    pub names: &'s Names<'a>,
+    pub labels: &'s BTreeMap<&'a [u8], u64>,
     pub segments: u32,
     pub level: u8,
 }
@@ -46,7 +46,7 @@ fn pcw_in(named: Option<Named>) -> Option<u64>
     }
 }
 
-fn label_in(names: &Names, named: Option<Named>, label: &[u8]) -> Option<u64>
+fn label_in<'a>(names: &Names<'a>, named: Option<Named>, label: &'a [u8]) -> Option<u64>
     ensures { result ≡ asm.label_in (names_in names.now) named label.now }
 {
     match named {
@@ -55,7 +55,7 @@ fn label_in(names: &Names, named: Option<Named>, label: &[u8]) -> Option<u64>
     }
 }
 
-fn entry_in(names: &Names, named: Option<Named>, label: &[u8]) -> bool
+fn entry_in<'a>(names: &Names<'a>, named: Option<Named>, label: &'a [u8]) -> bool
     ensures { result ≡ asm.entry_in (names_in names.now) named label.now }
 {
     match named {
@@ -117,7 +117,7 @@ fn is_in_range(sketch: &Sketch) -> bool
     }
 }
 
-pub fn has_names(names: &Names, sketch: &Sketch) -> bool
+pub fn has_names<'a>(names: &Names<'a>, sketch: &'a Sketch) -> bool
     ensures { result ≡ asm.has_names (names_in names.now) sketch.now }
 {
     match sketch {
@@ -138,7 +138,7 @@ pub fn has_names(names: &Names, sketch: &Sketch) -> bool
 }
 
 /// Whether the label of an MPCW is an entry of the segment named.
-pub fn has_entry(names: &Names, sketch: &Sketch) -> bool
+pub fn has_entry<'a>(names: &Names<'a>, sketch: &'a Sketch) -> bool
     ensures { result ≡ asm.has_entry (names_in names.now) sketch.now }
 {
     match sketch {
@@ -151,7 +151,7 @@ pub fn has_entry(names: &Names, sketch: &Sketch) -> bool
     }
 }
 
-fn has_label(labels: &IndexMap<&[u8], u64>, sketch: &Sketch) -> bool
+fn has_label<'a>(labels: &BTreeMap<&'a [u8], u64>, sketch: &'a Sketch) -> bool
     ensures { result ≡ asm.has_label (λ label. asm.meaning (label_entries labels.now.entries) label) sketch.now }
 {
     match sketch {
@@ -222,7 +222,7 @@ fn misplaced_values(first: Option<u64>, more: &Values) -> u8
 }
 
 /// Why a card is refused that stands in no block of its kind.
-pub fn misplaced(names: &Names, statement: &Statement) -> u8
+pub fn misplaced<'a>(names: &Names<'a>, statement: &'a Statement) -> u8
     ensures { result ≡ asm.misplaced (names_in names.now) statement.now }
 {
     match statement {
@@ -269,7 +269,7 @@ fn couple_call(call: Call, couple: Option<Couple>, level: u8) -> Option<Op>
     }
 }
 
-fn is_first_label(labels: &IndexMap<&[u8], u64>, n: u64, label: &Option<Name>) -> bool
+fn is_first_label<'a>(labels: &BTreeMap<&'a [u8], u64>, n: u64, label: &'a Option<Name>) -> bool
     ensures { result ≡ asm.is_first_label (λ text. asm.meaning (label_entries labels.now.entries) text) n label.now }
 {
     match label {
@@ -278,7 +278,7 @@ fn is_first_label(labels: &IndexMap<&[u8], u64>, n: u64, label: &Option<Name>) -
     }
 }
 
-fn row_operator(scope: &Scope, call: Call, row: &[u8]) -> Option<Op>
+fn row_operator<'a>(scope: &Scope<'_, 'a>, call: Call, row: &'a [u8]) -> Option<Op>
     ensures exact { result ≡ option_map (asm.called call) (option_and_then (λ number. couple_bits (min scope.now.level 31) (record { level = 1; disp = scope.now.segments + number + 2 })) (asm.row_in ((names_in scope.now.names.now).means row.now))) }
     ensures fits { IfSome result (λ op. IsTrue (has_bits op)) }
 {
@@ -291,7 +291,7 @@ fn row_operator(scope: &Scope, call: Call, row: &[u8]) -> Option<Op>
     }
 }
 
-fn jump(labels: &IndexMap<&[u8], u64>, branch: Branch, label: &[u8]) -> Option<Op>
+fn jump<'a>(labels: &BTreeMap<&'a [u8], u64>, branch: Branch, label: &'a [u8]) -> Option<Op>
     ensures exact { result ≡ option_map (asm.branch_to branch) (asm.meaning (label_entries labels.now.entries) label.now) }
     ensures fits { IfSome result (λ op. IsTrue (has_bits op)) }
 {
@@ -301,7 +301,7 @@ fn jump(labels: &IndexMap<&[u8], u64>, branch: Branch, label: &[u8]) -> Option<O
     }
 }
 
-fn pcw(names: &Names, segment: &[u8]) -> Option<Op>
+fn pcw<'a>(names: &Names<'a>, segment: &'a [u8]) -> Option<Op>
     ensures exact { result ≡ option_map Mpcw (asm.pcw_in ((names_in names.now).means segment.now)) }
     ensures fits { IfSome result (λ op. IsTrue (has_bits op)) }
 {
@@ -311,7 +311,7 @@ fn pcw(names: &Names, segment: &[u8]) -> Option<Op>
     }
 }
 
-fn pcw_of_label(names: &Names, segment: &[u8], label: &[u8]) -> Option<Op>
+fn pcw_of_label<'a>(names: &Names<'a>, segment: &'a [u8], label: &'a [u8]) -> Option<Op>
     ensures exact { result ≡ option_map Mpcw (asm.pcw_at (asm.pcw_in ((names_in names.now).means segment.now)) (asm.label_in (names_in names.now) ((names_in names.now).means segment.now) label.now)) }
     ensures fits { IfSome result (λ op. IsTrue (has_bits op)) }
 {
@@ -322,7 +322,7 @@ fn pcw_of_label(names: &Names, segment: &[u8], label: &[u8]) -> Option<Op>
     }
 }
 
-fn denoted(scope: &Scope, sketch: &Sketch) -> Option<Op>
+fn denoted<'a>(scope: &Scope<'_, 'a>, sketch: &'a Sketch) -> Option<Op>
     requires { IsTrue (asm.is_in_range sketch.now) }
     ensures exact { result ≡ asm.denoted (scope_of scope.now) sketch.now }
     ensures fits { IfSome result (λ op. IsTrue (has_bits op)) }
@@ -344,11 +344,11 @@ fn denoted(scope: &Scope, sketch: &Sketch) -> Option<Op>
 
 /// What an operator's card writes at syllable n, None for a couple that doesn't fit, or the reason of 3 to 5 why the card is
 /// refused.
-pub fn operator_in(
-    scope: &Scope,
+pub fn operator_in<'a>(
+    scope: &Scope<'_, 'a>,
     n: u64,
-    label: &Option<Name>,
-    sketch: &Sketch,
+    label: &'a Option<Name>,
+    sketch: &'a Sketch,
 ) -> Result<Option<Op>, u8>
     ensures exact { IsOperator result (scope_of scope.now) n label.now sketch.now }
     ensures fits { IfOk result (λ o. IfSome o (λ op. IsTrue (has_bits op))) }

@@ -45,7 +45,11 @@ fn put_values(first: Option<u64>, more: &[Option<u64>], into: &mut Words) -> Res
     put_more(more, into)
 }
 
-fn put_statement(names: &Names, statement: &Statement, into: &mut Words) -> Result<(), Refused>
+fn put_statement<'a>(
+    names: &Names<'a>,
+    statement: &'a Statement,
+    into: &mut Words,
+) -> Result<(), Refused>
     requires { length into.old ≤ 65535 }
     ensures { WordsPut result (asm.values_of (names_in names.now) (length into.old) statement.now) into.old into.new }
 {
@@ -69,7 +73,7 @@ fn put_checked(first: Option<u64>, more: &[Option<u64>], into: &mut Words) -> Re
     Ok(())
 }
 
-fn put_line(names: &Names, line: &Line, into: &mut Words) -> Result<(), Refused>
+fn put_line<'a>(names: &Names<'a>, line: &'a Line, into: &mut Words) -> Result<(), Refused>
     requires { length into.old ≤ 65535 }
     ensures { WordsPut result (line_words (names_in names.now) (length into.old) line.now) into.old into.new }
 {
@@ -80,7 +84,7 @@ fn put_line(names: &Names, line: &Line, into: &mut Words) -> Result<(), Refused>
 }
 
 /// The words of a data row's cards, or the first refused card.
-pub fn words_in(alloc: Global, names: &Names, lines: &[Line]) -> Result<Words, AsmFault>
+pub fn words_in<'a>(alloc: Global, names: &Names<'a>, lines: &'a [Line]) -> Result<Words, AsmFault>
     ensures { RowPut result (asm.row_words (names_in names.now) 0 lines.now) (length lines.now) }
 {
     let mut words = Words::new(alloc);

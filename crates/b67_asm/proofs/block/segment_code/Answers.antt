@@ -1,4 +1,4 @@
-use Rattle.std.proofs.Common.{◌≡◌, [], List, ℕ, Option, ap, subst}
+use Rattle.std.proofs.Common.{◌≡◌, [], List, ℕ, Option, subst}
 use Rattle.b67_model_text.specs.Asm as asm
 use Rattle.b67_asm.specs.Names.{label_entries}
 use Rattle.b67_asm.specs.Scope.{names_in}

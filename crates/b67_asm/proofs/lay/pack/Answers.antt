@@ -1,4 +1,4 @@
-use Rattle.std.proofs.Common.{◌≡◌, ◌-◌, arith, ap, length, take, drop, ◌∙◌, List, ℕ}
+use Rattle.std.proofs.Common.{ap, length, ◌∙◌}
 use Rattle.b67_asm.proofs.Six.{next_word, all_behind, fewer, below}
 use Rattle.b67_asm.proofs.lay.pack.Goals as goal
 

@@ -1,4 +1,4 @@
-use Rattle.std.proofs.Common.{◌≡◌, ◌≤◌, ◌+◌, ◌*◌, ◌++◌, length}
+use Rattle.std.proofs.Common.{◌≡◌, ◌+◌, ◌*◌, ◌++◌, length}
 use Rattle.std.specs.List.{AllByRecursion}
 use Rattle.b67_word.specs.Tagged.{contents}
 use Rattle.b67_codefile.specs.Spelling.{HasTag}

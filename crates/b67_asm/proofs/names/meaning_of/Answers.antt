@@ -1,4 +1,4 @@
-use Rattle.std.proofs.Common.{◌≡◌, ◌∙◌}
+use Rattle.std.proofs.Common.{◌∙◌}
 use Rattle.b67_asm.proofs.NamesLaw.{lookup_seen}
 use Rattle.b67_asm.proofs.names.meaning_of.Goals as goal
 

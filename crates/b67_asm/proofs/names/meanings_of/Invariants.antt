@@ -1,4 +1,4 @@
-use Rattle.std.proofs.Common.{◌≡◌, ◌≤◌, ◌+◌, ℕ, List, drop}
+use Rattle.std.proofs.Common.{◌≡◌, ◌≤◌, ℕ, List, drop}
 use Rattle.std.specs.Option.{option_or}
 use Rattle.b67_model_text.specs.Asm.{meaning, definitions}
 use Rattle.b67_asm.specs.Names.{name_entries}
