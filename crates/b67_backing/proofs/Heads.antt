@@ -8,7 +8,7 @@ use Rattle.std.proofs.Math.ListN.{length-set}
 use Rattle.b67_backing.specs.Shelf.{one, times, uses, first}
 use Rattle.b67_backing.specs.Links.{next_or, after, link_of, AreSome, AreLinksOf, link_at, AreInside, Follows, mark, AreLed, Runs, AreRuns, Walked, AreMarkedBy, NoChainOver, Reaches}
 use Rattle.b67_backing.proofs.Links.{one-same, one-other}
-use Rattle.b67_backing.proofs.Marks.{mark-true, mark-false, mark-same, mark-other, mark-is, mark-past, mark-within, link-absent, link-here, link-there, after-first, after-later, chain_runs, pred, followed}
+use Rattle.b67_backing.proofs.Marks.{mark-true, mark-false, mark-same, mark-other, mark-is, mark-within, link-absent, link-here, link-there, after-later, chain_runs, pred, followed}
 
 -- how often a sector stands in the chains whose first sector is below n
 pub below : ℕ → ℕ → List (List ℕ) → ℕ

@@ -1,10 +1,10 @@
 -- The link of a sector, by the table and by the chains.
-use Rattle.std.proofs.Common.{◌≡◌, ◌≢◌, ℕ, zero, suc, ◌+◌, ◌-◌, ◌<◌, ◌≤◌, Bool, true, false, cond, List, [], ◌∷◌, length, map, Some, refl, sym, ◌∙◌, ap, arith, ⊎_elim, subst, get_or, nat_lt, ◌==◌}
+use Rattle.std.proofs.Common.{◌≡◌, ◌≢◌, ℕ, zero, suc, ◌+◌, ◌-◌, ◌<◌, ◌≤◌, true, false, List, [], ◌∷◌, length, map, Some, refl, sym, ◌∙◌, ap, arith, ⊎_elim, get_or, nat_lt, ◌==◌}
 use Rattle.std.specs.List.{slice_get}
 use Rattle.std.proofs.lemmas.Bool.{cases_eq, cases_lt, cond-true, cond-false, eq-eqb, ne_eqb, lt-ltb, le-ltb, ltb-true, ltb-false}
 use Rattle.std.proofs.lemmas.Option.{same_Some}
 use Rattle.b67_backing.specs.Shelf.{Table, Shelf, IsShelf, Linked, AreChains, one, times, uses, row}
-use Rattle.b67_backing.specs.Links.{next_or, after, link_of, walk, free_sectors, or_itself, link_in, links_in}
+use Rattle.b67_backing.specs.Links.{after, link_of, walk, free_sectors, or_itself, link_in, links_in}
 use Rattle.b67_backing.proofs.Links.{one-same, one-other, times-cons}
 use Rattle.b67_backing.proofs.Marks.{link-absent, link-here, link-there, after-later}
 use Rattle.b67_backing.proofs.Heads.{after-here}

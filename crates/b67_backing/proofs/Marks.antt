@@ -1,11 +1,10 @@
 -- Sectors that are marked, and chains that the links run through.
-use Rattle.std.proofs.Common.{◌≡◌, ◌≢◌, ◌⊎◌, ℕ, zero, suc, ◌+◌, ◌-◌, ◌<◌, ◌≤◌, Bool, true, false, cond, List, [], ◌∷◌, ◌++◌, length, Some, refl, sym, ◌∙◌, ap, arith, ⊎_elim, inl, inr, subst, slice_set, get_or, append_assoc, nat_lt, ◌==◌, eqb, get_or-set_same, get_or-set_other}
-use Rattle.std.specs.List.{slice_get}
-use Rattle.std.proofs.lemmas.Bool.{cases_Bool, cases_eq, cases_lt, cond-true, cond-false, ne_eqb, eq-eqb, eqb-true, lt-ltb, le-ltb}
+use Rattle.std.proofs.Common.{◌≡◌, ◌≢◌, ◌⊎◌, ℕ, zero, suc, ◌+◌, ◌<◌, ◌≤◌, Bool, true, false, cond, List, [], ◌∷◌, ◌++◌, length, refl, sym, ◌∙◌, ap, arith, ⊎_elim, inl, inr, subst, slice_set, get_or, append_assoc, ◌==◌, get_or-set_same, get_or-set_other}
+use Rattle.std.proofs.lemmas.Bool.{cases_Bool, cases_eq, cases_lt, cond-true, cond-false, ne_eqb, eq-eqb}
 use Rattle.std.proofs.lemmas.List.{get_or_past}
-use Rattle.b67_backing.specs.Shelf.{one, times, uses, first}
-use Rattle.b67_backing.specs.Links.{next_or, after, link_of, AreSome, AreLinksOf, link_at, AreInside, Follows, mark, AreLed, Runs, AreRuns, Walked, AreMarkedBy, NoChainOver, Reaches}
-use Rattle.b67_backing.proofs.Links.{one-same, one-other, one-apart, times-cons, times-append}
+use Rattle.b67_backing.specs.Shelf.{one, times, uses}
+use Rattle.b67_backing.specs.Links.{next_or, after, link_of, link_at, mark, Runs, Walked, NoChainOver}
+use Rattle.b67_backing.proofs.Links.{one-same, one-other, times-cons, times-append}
 
 -- ---- marks
 

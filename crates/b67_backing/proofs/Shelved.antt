@@ -1,9 +1,8 @@
 -- The links that sectors tell are those of their chains.
-use Rattle.std.proofs.Common.{◌≡◌, ◌≢◌, ℕ, zero, suc, ◌+◌, ◌-◌, ◌<◌, ◌≤◌, ◌^◌, List, [], ◌∷◌, length, Some, refl, sym, ◌∙◌, ap, arith, ⊎_elim, get_or}
-use Rattle.std.specs.List.{slice_get}
+use Rattle.std.proofs.Common.{◌≡◌, ℕ, zero, suc, ◌+◌, ◌-◌, ◌≤◌, List, [], ◌∷◌, length, Some, refl, ◌∙◌, ap, arith, ⊎_elim}
 use Rattle.std.proofs.lemmas.Bool.{cases_lt}
-use Rattle.b67_backing.specs.Shelf.{Table, Shelf, IsShelf, Linked, AreChains, one, times, uses}
-use Rattle.b67_backing.specs.Links.{link_of, AreSome, AreLinksOf, links_in}
+use Rattle.b67_backing.specs.Shelf.{Table, Shelf, IsShelf, AreChains, times, uses}
+use Rattle.b67_backing.specs.Links.{AreSome, AreLinksOf, links_in}
 use Rattle.b67_backing.proofs.Links.{one-other, linked_within}
 use Rattle.b67_backing.proofs.Walks.{all_below}
 use Rattle.b67_backing.proofs.Tallies.{AllBelow}

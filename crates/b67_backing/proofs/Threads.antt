@@ -1,11 +1,11 @@
 -- The table of links: the chains' sectors lead on as the links say, and the others are threaded in the order of their numbers.
-use Rattle.std.proofs.Common.{◌≡◌, ◌≢◌, ℕ, zero, suc, ◌+◌, ◌-◌, ◌<◌, ◌≤◌, ◌^◌, Bool, true, false, cond, List, [], ◌∷◌, length, drop, Some, refl, sym, ◌∙◌, ap, arith, ⊎_elim, subst, get_or, slice_set, ◌==◌, add-one, drop-cons, replicate, get_or-set_same, get_or-set_other}
+use Rattle.std.proofs.Common.{◌≡◌, ◌≢◌, ℕ, zero, suc, ◌+◌, ◌-◌, ◌<◌, ◌≤◌, cond, List, [], ◌∷◌, length, drop, Some, refl, sym, ◌∙◌, ap, arith, ⊎_elim, subst, get_or, slice_set, ◌==◌, add-one, drop-cons, replicate, get_or-set_same, get_or-set_other}
 use Rattle.std.specs.List.{slice_get}
 use Rattle.std.proofs.lemmas.Bool.{cases_eq, cases_lt, cond-true, cond-false, eq-eqb, ne_eqb}
 use Rattle.std.proofs.Math.ListN.{length-set}
 use Rattle.std.proofs.lemmas.List.{length-replicate}
-use Rattle.b67_backing.specs.Shelf.{Table, Shelf, IsShelf, Linked, AreChains, one, times, uses, first}
-use Rattle.b67_backing.specs.Links.{after, link_of, AreSome, AreLinksOf, unlinked, links_in, link_at, Runs, AreRuns}
+use Rattle.b67_backing.specs.Shelf.{IsShelf, Linked, AreChains, one, times, uses, first}
+use Rattle.b67_backing.specs.Links.{link_of, AreSome, AreLinksOf, unlinked, links_in, link_at, Runs, AreRuns}
 use Rattle.b67_backing.proofs.Linkings.{links_in-same}
 use Rattle.b67_backing.proofs.Links.{one-same, one-other}
 use Rattle.b67_backing.proofs.Marks.{link-absent, link-here, link-there, chain_runs}

@@ -1,8 +1,9 @@
 -- What a call did to the sectors of a device, where it tells them.
-use Rattle.std.specs.Prelude.{◌≡◌, ℕ, zero, suc, Result, replicate, ◌+◌, ◌-◌, ◌/◌, ◌%◌, ◌^◌, ◌<◌, ◌≤◌, ◌⊎◌, List, [], ◌∷◌, length, Option, Some, slice_get}
+use Rattle.std.specs.Prelude.{◌≡◌, ℕ, zero, suc, Result, replicate, ◌+◌, ◌-◌, ◌%◌, ◌^◌, ◌<◌, ◌≤◌, ◌⊎◌, List, [], ◌∷◌, length, Option, Some, slice_get}
 use Rattle.b67_word.specs.Tagged.{Tagged, word}
 use Rattle.b67_io.specs.Causes.{Rose, HasCause}
 use Rattle.b67_backing.specs.Shelf.{times}
+pub use Rattle.b67_word.specs.Sectors.{sectors_for}
 
 -- what is told has this property
 pub record Tells {D A : Type 0} (tell : D → Option A) (now : D) (P : A → Type 0) : Type 0 where
@@ -78,10 +79,6 @@ Fills all (c ∷ cs) at numbers =
 pub record Stores (chain numbers : List ℕ) (old new : List (List ℕ)) : Type 0 where
   pub same : SameBut chain old new
   pub holds : Fills new chain 0 numbers
-
--- how many sectors so many words take
-abbrev pub sectors_for : ℕ → ℕ
-sectors_for words = (words + 29) / 30
 
 -- the word of a number's low 48 bits under a tag
 abbrev pub under : ℕ → ℕ → Tagged

@@ -1,5 +1,5 @@
 -- The links of sectors as an image tells them.
-use Rattle.std.specs.Prelude.{◌≡◌, ◌≢◌, ℕ, zero, suc, ◌+◌, ◌-◌, ◌<◌, ◌≤◌, ◌^◌, ◌==◌, Bool, false, List, [], ◌∷◌, length, map, Some, slice_get, slice_index, slice_index_or, if◌then◌else◌}
+use Rattle.std.specs.Prelude.{◌≡◌, ◌≢◌, ℕ, zero, suc, ◌+◌, ◌-◌, ◌<◌, ◌≤◌, ◌==◌, Bool, false, List, [], ◌∷◌, length, map, Some, slice_get, slice_index, slice_index_or, if◌then◌else◌}
 use Rattle.b67_backing.specs.Shelf.{Table, Shelf, IsShelf, times, uses, row}
 
 -- ---- by chains

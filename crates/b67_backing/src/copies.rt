@@ -6,7 +6,7 @@ ghost use Rattle.b67_word.specs.Numbers.{number};
 ghost use Rattle.b67_backing.specs.Held.{under, blank, number_at};
 
 use b67_core::{Core, to_number};
-use b67_word::Word;
+use b67_word::{TAG_WEIGHT, Word};
 use std::alloc::{AllocError, Global};
 
 /// So many sectors of zeros.
@@ -56,6 +56,6 @@ pub fn unpack(core: &mut Core, at: u32, n: u32, tag: u8, from: &[u64; 30])
 {
     let _size = core.size();
     for i in 0..n {
-        core.set(at + i, Word::of(tag, from[i as usize] % 0x1_0000_0000_0000));
+        core.set(at + i, Word::of(tag, from[i as usize] % TAG_WEIGHT));
     }
 }

@@ -24,4 +24,4 @@ pub use file::FileBacking;
 pub use honest::HonestBacking;
 pub use memory::MemoryBacking;
 pub use refusals::SpaceFault;
-pub use sectors::Sectors;
+pub use sectors::{Sectors, sectors_needed};

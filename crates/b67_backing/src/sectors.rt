@@ -17,6 +17,13 @@ use b67_word::{Failed, Word};
 use std::alloc::{AllocError, Global};
 use std::marker::Model;
 
+/// How many sectors so many words take, 30 words to a sector.
+pub fn sectors_needed(words: u32) -> u32
+    ensures { result ≡ sectors_for words }
+{
+    words.div_ceil(30)
+}
+
 /// The sectors of a device: which follows which, the first free one at 0.
 #[derive(Drop)]
 pub struct Sectors {
@@ -265,7 +272,7 @@ impl Sectors {
             → Changes B.holds backing.old backing.new (SameBut (chain_of first st.chains)) }
         ensures device { WasCalled B.size B.calls B.faults backing.old backing.new result }
     {
-        self.fill(first, (from.len() + 29) / 30, from, backing)
+        self.fill(first, from.len().div_ceil(30), from, backing)
     }
 
     /// Writes words of core to a chain, 30 to a sector. What is left of its last sector is filled with zeros.
@@ -310,7 +317,7 @@ impl Sectors {
         ensures count { length self.new.links ≡ length self.old.links }
         ensures device { KeepsDevice B.size B.calls B.faults backing.old backing.new result }
     {
-        let wants = want.div_ceil(30) - have.div_ceil(30);
+        let wants = sectors_needed(want) - sectors_needed(have);
         if wants == 0 {
             return Ok(());
         }
@@ -355,7 +362,7 @@ impl Sectors {
     {
         let _size = core.size();
         let mut from = first;
-        for j in 0..(words + 29) / 30 {
+        for j in 0..sectors_needed(words) {
             let mut buffer = [0u64; 30];
             backing.read(from, &mut buffer)?;
             let n = (words - 30 * j).min(30);

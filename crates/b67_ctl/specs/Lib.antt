@@ -1,3 +1,4 @@
 pub mod Layout
 pub mod Descriptors
 pub mod Areas
+pub mod Vector

@@ -1,19 +1,26 @@
 //! The control words of the machine, each as its fields and as a word.
 //!
-//! `word` gives the word of fields that fit the layout, `to_word` tests them first, and `from_word` reads a word that
-//! is on the layout: bits that the layout doesn't name are zero.
+//! `word` gives the word of fields that fit the layout, and `to_word` tests them first. `from_word` tests whether a word
+//! is on the layout: bits that the layout doesn't name are zero. `read` is for a word that is known to be on it.
 #![tactic(auto)]
 
 mod areas;
 mod descriptors;
+mod map;
 mod marks;
 mod programs;
 mod references;
 mod registers;
+mod vector;
 
 pub use areas::{AreaHead, AreaTail};
 pub use descriptors::{DataDesc, SegDesc};
+pub use map::{
+    DICTIONARY_STACKS, DIRECTORY, FIRST_DICTIONARY, FIRST_INTRINSIC, LAST_INTRINSIC, MCP_STACK,
+    SLOTS, STACK_VECTOR,
+};
 pub use marks::{Mscw, Rcw, Toscw};
 pub use programs::{IntrinsicPcw, Pcw};
 pub use references::{Irw, Sirw};
-pub use registers::Regs;
+pub use registers::{NO_SLOT, Regs};
+pub use vector::{FIRST_TASK, VectorWord};

@@ -201,6 +201,17 @@ impl Toscw {
         }
     }
 
+    /// What the word of a top of stack holds. The word is one: nothing is tested.
+    pub fn read(w: Word) -> Toscw
+        ensures { (t : Toscw) → IsToscw t → w ≡ toscw_word t → result ≡ t }
+    {
+        Toscw {
+            s: w.part(20, 16) as u16,
+            level: w.part(14, 5) as u8,
+            f: w.part(0, 14) as u16,
+        }
+    }
+
     /// What a top of stack holds. None if the word is off its layout.
     pub fn from_word(w: Word) -> Option<Toscw>
         ensures some { IfSome result (λ t. IsToscw t × (w ≡ toscw_word t)) }

@@ -84,6 +84,17 @@ impl Sirw {
         }
     }
 
+    /// What the word of a reference holds. The word is one: nothing is tested.
+    pub fn read(w: Word) -> Sirw
+        ensures { (r : Sirw) → IsSirw r → w ≡ sirw_word r → result ≡ r }
+    {
+        Sirw {
+            stack: w.part(36, 10) as u16,
+            disp: w.part(20, 16) as u16,
+            offset: w.part(0, 13) as u16,
+        }
+    }
+
     /// What a reference holds. None if the word is off its layout.
     pub fn from_word(w: Word) -> Option<Sirw>
         ensures some { IfSome result (λ r. IsSirw r × (w ≡ sirw_word r)) }

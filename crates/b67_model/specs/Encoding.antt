@@ -1,5 +1,5 @@
 -- An operator's syllables, and the word that follows it.
-use Rattle.std.specs.Prelude.{◌≡◌, ℕ, ◌+◌, ◌*◌, ◌/◌, ◌^◌, ◌<◌, ◌≤◌, List, [], ◌∷◌, length, Bool, true, nat_lt, ◌&&◌, IsTrue, Option, Some, None, Ok, IfSome, slice_get, slice_index}
+use Rattle.std.specs.Prelude.{◌≡◌, ℕ, ◌+◌, ◌*◌, ◌/◌, ◌^◌, ◌<◌, ◌≤◌, List, [], ◌∷◌, length, Bool, true, nat_lt, ◌&&◌, Option, Some, None, Ok, IfSome, slice_get, slice_index}
 use Rattle.std.specs.Int.{w16, to_be_bytes}
 use Rattle.b67_word.specs.declared.couples.Place.{Place}
 use Rattle.b67_model.specs.declared.operators.Op.{Op}

@@ -1,5 +1,5 @@
 -- One row for each operator.
-use Rattle.std.specs.Prelude.{◌≡◌, ◌≤◌, ℕ, ◌+◌, ◌-◌, ◌/◌, ◌%◌, ◌^◌, ◌==◌, ◌&&◌, nat_lt, Bool, true, false, List, [], ◌∷◌, reverse, length, Option, Some, None, Ok, Err, if◌then◌else◌, slice_get}
+use Rattle.std.specs.Prelude.{ℕ, ◌+◌, ◌-◌, ◌/◌, ◌%◌, ◌^◌, ◌==◌, ◌&&◌, nat_lt, Bool, true, false, List, [], ◌∷◌, reverse, length, Option, Some, None, Ok, Err, if◌then◌else◌, slice_get}
 use Rattle.b67_word.specs.declared.faults.Fault.TheVariants.{StackUnderflow, InvalidOperand, MemoryProtect, InvalidOperator}
 use Rattle.b67_word.specs.declared.couples.Place.{Place}
 use Rattle.b67_model.specs.declared.operators.Op.{Op}
@@ -15,7 +15,7 @@ use Rattle.b67_model.specs.State as State
 use Rattle.b67_model.specs.Cells.{place_of, cell, with_cell}
 use Rattle.b67_model.specs.Chase.{End, AtCell, AtElement, AtArray, AtProc, AtIntrinsic, chase, follow, follow_reference}
 use Rattle.b67_model.specs.Arithmetic.{Binary, add, subt, mult, idiv, rdiv, less, greq, grtr, lseq, equl, neql, land, lor, leqv, same, chsn, lnot, bset, brst, isol, insr}
-use Rattle.b67_model.specs.Steps.{Line, Done, Goes, top_of, cells_of, result, with_cells, leaves_cells, pushes}
+use Rattle.b67_model.specs.Steps.{Done, Goes, top_of, cells_of, result, with_cells, leaves_cells, pushes}
 use Rattle.b67_model.specs.Entry.{mkst, accident, back_to, evaluates, enters, exit, retn}
 use Rattle.b67_model.specs.Arrays.{array, element, with_element}
 use Rattle.b67_model.specs.Indexing.{indexed, in_order}

@@ -9,4 +9,4 @@ mod tagged;
 pub use couples::{Couple, Place, bits_of, couple_of};
 pub use faults::{Ending, Failed, Fault};
 pub use lists::{Bytes, Numbers, Words};
-pub use tagged::Word;
+pub use tagged::{TAG_WEIGHT, Word};

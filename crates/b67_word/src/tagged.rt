@@ -6,6 +6,9 @@ ghost use Rattle.b67_word.specs.Operands.{operand_of, number_of};
 
 use std::marker::Model;
 
+/// What a tag of 1 weighs in a word: one more than the greatest number that its 48 bits hold.
+pub const TAG_WEIGHT: u64 = 0x1_0000_0000_0000;
+
 /// A word: a tag of 0 to 7 and 48 bits.
 #[derive(Clone, Copy, Debug, PartialEq, Eq)]
 pub struct Word(u64);
@@ -32,8 +35,8 @@ impl Word {
         ensures fits { IsSome result ↔ (IsWord (word tag bits)) }
         ensures value { IfSome result (λ w. w ≡ word tag bits) }
     {
-        if tag < 8 && bits < 0x1_0000_0000_0000 {
-            Some(Word(u64::from(tag) * 0x1_0000_0000_0000 + bits))
+        if tag < 8 && bits < TAG_WEIGHT {
+            Some(Word(u64::from(tag) * TAG_WEIGHT + bits))
         } else {
             None
         }
@@ -44,21 +47,21 @@ impl Word {
         requires { IsWord (word tag bits) }
         ensures { result ≡ word tag bits }
     {
-        Word(u64::from(tag) * 0x1_0000_0000_0000 + bits)
+        Word(u64::from(tag) * TAG_WEIGHT + bits)
     }
 
     pub fn tag(self) -> u8
         ensures value { result ≡ self.tag }
         ensures small { result < 8 }
     {
-        (self.0 / 0x1_0000_0000_0000) as u8
+        (self.0 / TAG_WEIGHT) as u8
     }
 
     pub fn bits(self) -> u64
         ensures value { result ≡ self.bits }
         ensures small { result < 2 ^ 48 }
     {
-        self.0 % 0x1_0000_0000_0000
+        self.0 % TAG_WEIGHT
     }
 
     /// Whether it is the operand of a natural number: the tag is 0, and of the bits only 38 to 0 are set.

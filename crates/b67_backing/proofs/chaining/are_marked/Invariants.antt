@@ -1,4 +1,4 @@
-use Rattle.std.proofs.Common.{◌≡◌, ◌≢◌, ℕ, ◌<◌, ◌≤◌}
+use Rattle.std.proofs.Common.{◌≡◌, ◌≢◌, ℕ, ◌≤◌}
 use Rattle.b67_backing.specs.Links.{link_at, mark}
 use Rattle.b67_backing.proofs.chaining.are_marked.Given as goal
 

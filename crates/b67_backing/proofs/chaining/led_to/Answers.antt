@@ -1,4 +1,4 @@
-use Rattle.std.proofs.Common.{◌≡◌, ◌+◌, List, get_or, slice_set, Bool, true, refl, sym, subst, inl, inr, arith}
+use Rattle.std.proofs.Common.{◌≡◌, ◌+◌, List, get_or, slice_set, Bool, true, refl, sym, subst, inl, inr}
 use Rattle.b67_backing.proofs.Heads.{LedSoFar, led_on, led_past}
 use Rattle.b67_backing.proofs.chaining.led_to.Goals.{then-link-ne0+then-link-i, else-link-ne0, else-link-ne0-via-then-link-ne0+else-link-i, else-link-ne0-via-else-link-ne0}
 use Rattle.b67_backing.proofs.chaining.led_to.Goals as goal

@@ -1,4 +1,4 @@
-use Rattle.std.proofs.Common.{◌≡◌, ◌<◌, length, refl, true, slice_set, arith}
+use Rattle.std.proofs.Common.{◌<◌, length, refl, true, arith}
 use Rattle.std.proofs.Math.ListN.{length-set}
 use Rattle.b67_backing.proofs.Marks.{mark-true, mark-false, blanks-less, walking_next, walking_done, walking_met, walking_free}
 use Rattle.b67_backing.proofs.chaining.mark_chain.Goals as goal

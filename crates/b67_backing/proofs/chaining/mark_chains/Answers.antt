@@ -1,4 +1,4 @@
-use Rattle.std.proofs.Common.{◌≡◌, ◌+◌, List, Bool, sym, subst, arith}
+use Rattle.std.proofs.Common.{◌+◌, List, Bool, sym, subst, arith}
 use Rattle.b67_backing.proofs.Heads.{Heading, heading_first, heading_done, turn_stuck, turn_walked, turn_led, turn_free}
 use Rattle.b67_backing.proofs.chaining.mark_chains.Goals.{then-links-i-ne0+then-not-led-i+else-not-mark_chain, else-links-i-ne0, else-links-i-ne0-via-then-links-i-ne0+else-not-led-i, else-links-i-ne0-via-else-links-i-ne0}
 use Rattle.b67_backing.proofs.chaining.mark_chains.Goals as goal

@@ -9,22 +9,22 @@ use Rattle.b67_backing.proofs.sectors.Sectors.extend.Goals as goal
 
 pub returns-then-wants-eq0-clause-row : goal.returns-then-wants-eq0-clause-row
 returns-then-wants-eq0-clause-row g c = λ st h.
-    extends_none g.B.Backing.holds c.args.self.now st c.args.first c.args.have c.args.want c.args.backing.now h c.requires.some c.requires.order (omega (arith, c.if-wants-eq0.true, c.div_ceil.ensures, c.div_ceil-2.ensures))
+    extends_none g.B.Backing.holds c.args.self.now st c.args.first c.args.have c.args.want c.args.backing.now h c.requires.some c.requires.order (omega (arith, c.if-wants-eq0.true, c.sectors_needed.ensures, c.sectors_needed-2.ensures))
 
 -- the free sectors that are taken
 record Taking (g : Over) (c : After-fill g) (st : Shelf) : Type 0 where
-  wants : c.div_ceil.result - c.div_ceil-2.result ≡ sectors_more c.args.have c.args.want
-  some : 1 ≤ c.div_ceil.result - c.div_ceil-2.result
-  room : c.div_ceil.result - c.div_ceil-2.result ≤ length st.free
+  wants : c.sectors_needed.result - c.sectors_needed-2.result ≡ sectors_more c.args.have c.args.want
+  some : 1 ≤ c.sectors_needed.result - c.sectors_needed-2.result
+  room : c.sectors_needed.result - c.sectors_needed-2.result ≤ length st.free
   more : c.in-Some.more ≡ first st.free
   apart : c.args.first ≢ c.in-Some.more
 
 context : (g : Over) (c : After-fill g) (st : Shelf) → HasChain c.args.self.now st c.args.first (sectors_for c.args.have) → Taking g c st
 context g c st h =
     let r = c.in-Some.ensures.row st h.shelf in
-    let some : 1 ≤ c.div_ceil.result - c.div_ceil-2.result = omega (arith, c.if-wants-eq0.false) in
+    let some : 1 ≤ c.sectors_needed.result - c.sectors_needed-2.result = omega (arith, c.if-wants-eq0.false) in
     record {
-      wants = omega (arith, c.div_ceil.ensures, c.div_ceil-2.ensures);
+      wants = omega (arith, c.sectors_needed.ensures, c.sectors_needed-2.ensures);
       some = some;
       room = r.0;
       more = r.1;
@@ -37,7 +37,7 @@ join-requires-clause-apart g c = let (st, h) = c.requires.chain in (context g (g
 pub returns-in-Ok-clause-row : goal.returns-in-Ok-clause-row
 returns-in-Ok-clause-row g c = λ st h.
     let t = context g (goal.at.returns-in-Ok-clause-row g c).After-fill st h in
-    let n = c.div_ceil.result - c.div_ceil-2.result in
+    let n = c.sectors_needed.result - c.sectors_needed-2.result in
     let chain = c.in-Some.ensures.chain st h.shelf in
     let stores = c.in-Ok.ensures.stores (taken n st) chain in
     let back = taken_chain n c.in-Some.more st t.some t.more in
@@ -52,7 +52,7 @@ returns-in-Ok-clause-row g c = λ st h.
 pub returns-in-Err-clause-row : goal.returns-in-Err-clause-row
 returns-in-Err-clause-row g c = λ st h.
     let t = context g (goal.at.returns-in-Err-clause-row g c).After-fill st h in
-    let n = c.div_ceil.result - c.div_ceil-2.result in
+    let n = c.sectors_needed.result - c.sectors_needed-2.result in
     let chain = c.in-Some.ensures.chain st h.shelf in
     let S : List ℕ → Type 0 = λ k. Changes g.B.Backing.holds c.args.backing.now c.fill.new.backing (SameBut k) in
     let back = taken_chain n c.in-Some.more st t.some t.more in

@@ -1,4 +1,4 @@
-use Rattle.std.proofs.Common.{◌≡◌, ◌<◌, ◌-◌, ℕ, get_or, length, refl, sym, ap, subst, arith}
+use Rattle.std.proofs.Common.{◌≡◌, ◌<◌, ℕ, get_or, length, refl, sym, ap, subst, arith}
 use Rattle.b67_backing.specs.Shelf.{Table, IsShelf, times}
 use Rattle.b67_backing.specs.Links.{walk}
 use Rattle.b67_backing.proofs.Walks.{nth_step}

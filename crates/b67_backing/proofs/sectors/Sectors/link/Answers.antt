@@ -1,6 +1,5 @@
-use Rattle.std.proofs.Common.{◌≡◌, ◌∙◌, sym, ap, false, nat_lt}
-use Rattle.b67_backing.specs.Shelf.{times}
-use Rattle.b67_backing.specs.Links.{free_sectors, or_itself, link_in}
+use Rattle.std.proofs.Common.{◌∙◌, sym, ap}
+use Rattle.b67_backing.specs.Links.{or_itself}
 use Rattle.b67_backing.proofs.Linkings.{link_in_is, link_answers, free_answers, other_next}
 use Rattle.b67_backing.proofs.sectors.Sectors.link.Goals as goal
 

@@ -1,7 +1,7 @@
-use Rattle.std.proofs.Common.{◌≡◌, ◌<◌, ◌≤◌, ◌+◌, ◌-◌, ℕ, List, Bool, length, get_or, slice_set, refl, subst, arith}
+use Rattle.std.proofs.Common.{◌+◌, ◌-◌, ℕ, List, Bool, length, get_or, slice_set, refl, subst, arith}
 use Rattle.std.specs.Bool.{OnTrue}
 use Rattle.b67_backing.specs.Links.{AreLinksOf, unlinked}
-use Rattle.b67_backing.proofs.Threads.{Threads, made_zero, down_free, down_linked, down_last, shelf_at, told_at, threads_same}
+use Rattle.b67_backing.proofs.Threads.{made_zero, down_free, down_linked, down_last, shelf_at, told_at, threads_same}
 use Rattle.b67_backing.proofs.sectors.Sectors.of_links.Goals.{then-link-eq0, else-link-eq0+then-link-n, else-link-eq0+else-link-n}
 use Rattle.b67_backing.proofs.sectors.Sectors.of_links.Goals as goal
 

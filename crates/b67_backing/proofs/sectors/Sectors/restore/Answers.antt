@@ -24,21 +24,21 @@ pub read-requires-clause-high : goal.read-requires-clause-high
 read-requires-clause-high g c =
     let (st, h) = c.requires.chain in
     let s = c.loop-j.invariant.restoring st h in
-    let p = ahead_pos c.args.self.now.links (chain_of c.args.first st.chains) (sectors_for c.args.words) c.loop-j.j c.loop-j.from s.rest s.ahead c.loop-j-test.true in
+    let p = ahead_pos c.args.self.now.links (chain_of c.args.first st.chains) (sectors_for c.args.words) c.loop-j.j c.loop-j.from s.rest s.ahead (omega (arith, c.loop-j-test.true, c.sectors_needed-j-end.ensures)) in
     omega (arith, p.1, c.loop-j.invariant.size)
 
 pub follow-from-requires : goal.follow-from-requires
 follow-from-requires g c =
     let (st, h) = c.requires.chain in
     let s = c.loop-j.invariant.restoring st h in
-    (ahead_pos c.args.self.now.links (chain_of c.args.first st.chains) (sectors_for c.args.words) c.loop-j.j c.loop-j.from s.rest s.ahead c.loop-j-test.true).1
+    (ahead_pos c.args.self.now.links (chain_of c.args.first st.chains) (sectors_for c.args.words) c.loop-j.j c.loop-j.from s.rest s.ahead (omega (arith, c.loop-j-test.true, c.sectors_needed-j-end.ensures))).1
 
 pub loop-j-preserved : goal.loop-j-preserved
 loop-j-preserved g c =
     let counts = counts_next g.B.Backing.calls c.args.backing.now c.loop-j.backing c.read.new.self c.loop-j.invariant.calls c.in_ok-read.ensures.calls in
     record {
       restoring = λ st h.
-          restoring_next g.B.Backing.holds c.args.self.now.links (chain_of c.args.first st.chains) (sectors_for c.args.words) c.loop-j.j c.loop-j.from c.follow-from.result c.args.tag c.args.words c.args.at c.loop-j.core c.unpack.new.core c.min-n.result c.read.new.into c.args.backing.now c.loop-j.backing c.read.new.self c.loop-j-test.true (c.loop-j.invariant.restoring st h) c.loop-j.invariant.same c.in_ok-read.ensures.gives c.min-n.ensures c.unpack.ensures.value c.unpack.ensures.outside c.follow-from.ensures;
+          restoring_next g.B.Backing.holds c.args.self.now.links (chain_of c.args.first st.chains) (sectors_for c.args.words) c.loop-j.j c.loop-j.from c.follow-from.result c.args.tag c.args.words c.args.at c.loop-j.core c.unpack.new.core c.min-n.result c.read.new.into c.args.backing.now c.loop-j.backing c.read.new.self (omega (arith, c.loop-j-test.true, c.sectors_needed-j-end.ensures)) (c.loop-j.invariant.restoring st h) c.loop-j.invariant.same c.in_ok-read.ensures.gives c.min-n.ensures c.unpack.ensures.value c.unpack.ensures.outside c.follow-from.ensures;
       tags = λ i low inside. ⊎_elim
           (λ l. let (w, is, t) = c.loop-j.invariant.tags i l inside in (w, c.unpack.ensures.outside (c.args.at + i) (inl (omega arith)) ∙ is, t))
           (λ l.
@@ -53,7 +53,7 @@ loop-j-preserved g c =
           let (w, is, t) = c.unpack.ensures.low (i - 30 * c.loop-j.j) (omega (arith, c.min-n.ensures)) in
           (w, ap (slice_get c.unpack.new.core) (sym there) ∙ is, t))
           (cases_lt i (30 * c.loop-j.j));
-      outside = λ i o. c.unpack.ensures.outside i (⊎_elim (λ l. inl (omega arith)) (λ l. inr (omega (arith, c.loop-j-test.true, c.min-n.ensures))) o) ∙ c.loop-j.invariant.outside i o;
+      outside = λ i o. c.unpack.ensures.outside i (⊎_elim (λ l. inl (omega arith)) (λ l. inr (omega (arith, c.loop-j-test.true, c.sectors_needed-j-end.ensures, c.min-n.ensures))) o) ∙ c.loop-j.invariant.outside i o;
       len = c.unpack.ensures.len ∙ c.loop-j.invariant.len;
       same = becomes_next g.B.Backing.holds c.args.backing.now c.loop-j.backing c.read.new.self c.loop-j.invariant.same c.in_ok-read.ensures.same;
       size = c.in_ok-read.ensures.size ∙ c.loop-j.invariant.size;
