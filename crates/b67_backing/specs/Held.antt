@@ -1,26 +1,9 @@
 -- What a call did to the sectors of a device, where it tells them.
 use Rattle.std.specs.Prelude.{◌≡◌, ℕ, zero, suc, Result, replicate, ◌+◌, ◌-◌, ◌%◌, ◌^◌, ◌<◌, ◌≤◌, ◌⊎◌, List, [], ◌∷◌, length, Option, Some, slice_get}
 use Rattle.b67_word.specs.Tagged.{Tagged, word}
-use Rattle.b67_io.specs.Causes.{Rose, HasCause}
-use Rattle.b67_backing.specs.Shelf.{times}
+use Rattle.b67_io.specs.Causes.{HasCause}
+pub use Rattle.b67_backing.specs.Device.{Tells, Becomes, Changes, Counts, sector, SameBut, Sets}
 pub use Rattle.b67_word.specs.Sectors.{sectors_for}
-
--- what is told has this property
-pub record Tells {D A : Type 0} (tell : D → Option A) (now : D) (P : A → Type 0) : Type 0 where
-  pub told : (x : A) → tell now ≡ Some x → P x
-
--- what was told has become this
-pub record Becomes {D A : Type 0} (tell : D → Option A) (old new : D) (f : A → A) : Type 0 where
-  pub told : (x : A) → tell old ≡ Some x → tell new ≡ Some (f x)
-
--- what was told is changed in this way
-pub record Changes {D A : Type 0} (tell : D → Option A) (old new : D) (R : A → A → Type 0) : Type 0 where
-  pub told : (x : A) → tell old ≡ Some x → (y : A) × (tell new ≡ Some y) × R x y
-
--- the count hasn't fallen, and has risen
-pub record Counts {D : Type 0} (calls : D → ℕ) (old new : D) : Type 0 where
-  pub later : calls old ≤ calls new
-  pub rose : Rose calls old new
 
 -- a device after one call or more: it has as many sectors, and its counts of calls and of failures are right
 pub record WasCalled {D T E : Type 0} (many counted failed : D → ℕ) (old new : D) (result : Result T E) : Type 0 where
@@ -39,23 +22,9 @@ pub record KeepsCounts {D T E : Type 0} (many counted failed : D → ℕ) (old n
   pub calls : counted old ≤ counted new
   pub cause : HasCause failed old new result
 
--- the numbers of a sector; sectors are numbered from 1
-abbrev pub sector : List (List ℕ) → ℕ → Option (List ℕ)
-sector all n = slice_get all (n - 1)
-
 -- so many sectors of 30 zeros
 abbrev pub blank : ℕ → List (List ℕ)
 blank sectors = replicate sectors (replicate 30 zero)
-
--- the sectors but for those of a list hold what they held
-pub record SameBut (ns : List ℕ) (old new : List (List ℕ)) : Type 0 where
-  pub count : length new ≡ length old
-  pub others : (m : ℕ) → 1 ≤ m → times m ns ≡ 0 → sector new m ≡ sector old m
-
--- sector n holds these numbers, and all others what they held
-pub record Sets (n : ℕ) (numbers : List ℕ) (old new : List (List ℕ)) : Type 0 where
-  pub same : SameBut (n ∷ []) old new
-  pub set : sector new n ≡ Some numbers
 
 -- the numbers from a place on lie in these sectors, 30 in each
 abbrev pub Holds : List (List ℕ) → List ℕ → ℕ → List ℕ → Type 0

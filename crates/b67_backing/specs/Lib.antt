@@ -1,3 +1,4 @@
+pub mod Device
 pub mod Shelf
 pub mod Held
 pub mod Extending

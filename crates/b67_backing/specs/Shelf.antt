@@ -1,4 +1,5 @@
 use Rattle.std.specs.Prelude.{◌≡◌, ℕ, zero, suc, ◌+◌, ◌<◌, ◌≤◌, ◌^◌, ◌==◌, List, [], ◌∷◌, ◌++◌, length, take, drop, Some, slice_get, if◌then◌else◌}
+pub use Rattle.b67_backing.specs.Device.{one, times}
 
 -- sectors as contracts see them: each sector's link, that of 0 being the first free sector, and how many are free
 pub record Table : Type 0 where
@@ -20,14 +21,7 @@ AreChains links [] = Unit {0}
 AreChains links ([] ∷ ks) = ⊥
 AreChains links ((c ∷ cs) ∷ ks) = Linked links c cs × AreChains links ks
 
--- how often a sector stands in a list, and in all chains
-abbrev pub one : ℕ → ℕ → ℕ
-one i c = if c == i then 1 else 0
-
-abbrev pub times : ℕ → List ℕ → ℕ
-times i [] = 0
-times i (c ∷ cs) = one i c + times i cs
-
+-- how often a sector stands in all chains
 abbrev pub uses : ℕ → List (List ℕ) → ℕ
 uses i [] = 0
 uses i (k ∷ ks) = times i k + uses i ks

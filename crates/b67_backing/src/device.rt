@@ -2,7 +2,7 @@
 
 ghost use Rattle.std.specs.Prelude.{◌≡◌, ◌≤◌, ◌<◌, ◌^◌, ℕ, List, [], ◌∷◌, Option, Some, OnOk, OnErr};
 ghost use Rattle.b67_io.specs.Causes.{HasCause};
-ghost use Rattle.b67_backing.specs.Held.{Tells, Becomes, Changes, Counts, SameBut, Sets, sector};
+ghost use Rattle.b67_backing.specs.Device.{Tells, Becomes, Changes, Counts, SameBut, Sets, sector};
 
 use b67_word::Failed;
 
