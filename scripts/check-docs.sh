@@ -15,7 +15,13 @@
 # each link must lead to a file and a heading, the table of decks must name each folder of decks/, and the manual page
 # each status's line.
 set -u
-[ $# -ge 1 ] || { echo "usage: bash scripts/check-docs.sh PROGRAM [DOCUMENT..]" >&2; exit 2; }
+usage() {
+    echo "$1" >&2
+    echo "usage: bash scripts/check-docs.sh PROGRAM [DOCUMENT..]" >&2
+    exit 2
+}
+[ $# -ge 1 ] || usage "a program is missing"
+[ -f "$1" ] && [ -x "$1" ] || usage "$1: not a program that can be run"
 program=$(cd "$(dirname "$1")" && pwd)/$(basename "$1")
 shift
 top=$(cd "$(dirname "$0")/.." && pwd)
@@ -30,7 +36,10 @@ done
 export PATH="$room/bin:$PATH" HOME="$room/home"
 mkdir -p "$HOME"
 cd "$room/clone" || exit 2
-[ $# -gt 0 ] || set -- README.md docs/*.md bench/README.md decks/README.md
+[ $# -gt 0 ] || set -- README.md CHANGES.md docs/*.md bench/README.md decks/README.md reference/README.md
+for document in "$@"; do
+    [ -f "$document" ] || usage "$document: not a document of the repository"
+done
 
 passed=0
 failed=0
