@@ -23,7 +23,7 @@ use Rattle.b67_codefile.specs.Spelling.{IsWithin}
 use Rattle.b67_codefile.specs.Meaning.{segment_of, program_of}
 use Rattle.b67_load_verify.specs.Broken.{rules_at}
 use Rattle.b67_bind.specs.declared.pairs.Pair.{Pair}
-use Rattle.b67_bind.specs.Reasons.{Binding, numbered, pair_at, pair_named, entries_in, proc_in, kept_procs, procs_from, stands_before, names_unpaired, has_level_1, enters_elsewhere, reasons, first_refusal}
+use Rattle.b67_bind.specs.Reasons.{Binding, numbered, pair_at, pair_named, entries_in, proc_in, kept_procs, procs_from, is_taken, names_unpaired, has_level_1, enters_elsewhere, reasons, first_refusal}
 use Rattle.b67_bind.specs.Bound.{by_pair, rebound, rebound_word, literal_of, changed_at, change_one, change_literals, rebound_segment, taken, placed, bound_segments, bound}
 use Rattle.b67_bind.specs.Laws.{IsGood, same_pairs, HasNoLevel1, into_itself}
 use Rattle.b67_bind.proofs.Relisted.{HoldsLiteral, listing-literals}
@@ -106,7 +106,7 @@ none-kept pairs n (s ∷ more) h =
 abbrev Lower : ℕ → Pair → Type 0
 Lower n b = (b.host < n) × (b.part < n)
 
-not_again : (before : List Pair) (n : ℕ) → AllByRecursion (Lower n) before → stands_before before (same_pair n) ≡ false
+not_again : (before : List Pair) (n : ℕ) → AllByRecursion (Lower n) before → is_taken before (same_pair n) ≡ false
 not_again [] n h = refl
 not_again (b ∷ before) n h = rw (ne_eqb b.host n (lower b.host n h.0.0), ne_eqb b.part n (lower b.part n h.0.1)) (not_again before n h.1)
   where

@@ -2,12 +2,16 @@
 #![tactic(auto)]
 
 mod converting;
+mod copying;
 mod fault;
 mod file;
 mod reading;
 mod writing;
 
 pub use converting::convert;
+pub use copying::{
+    copy_of_entries, copy_of_rows, copy_of_segment, copy_of_segments, copy_of_words,
+};
 pub use fault::BadFile;
 pub use file::{Codefile, Entries, Rows, Segment, Segments, place_of_entry};
 pub use reading::read;

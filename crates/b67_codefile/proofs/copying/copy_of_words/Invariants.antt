@@ -1,5 +1,5 @@
 use Rattle.std.proofs.Common.{◌≡◌, take}
-use Rattle.b67_codefile.proofs.converting.copy_of_words.Given as goal
+use Rattle.b67_codefile.proofs.copying.copy_of_words.Given as goal
 
 abbrev pub invariant-loop-word : goal.invariant-loop-word
 invariant-loop-word l = l.copy ≡ take l.word-index l.words
