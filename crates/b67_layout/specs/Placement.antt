@@ -38,7 +38,7 @@ spot_in k outer [] identity = outer identity
 spot_in k outer (f ∷ below) identity =
     if f.identity == identity then record { stack = k; disp = height below } else spot_in k outer below identity
 
--- stack numbers 128 to 135 are the dictionaries of jobs 1 to 8, and 136 is the MCP
+-- stack numbers from DICTIONARY_STACKS + 1 on are the dictionaries of jobs 1 to 8, and MCP_STACK is the MCP
 abbrev pub base_spot : ℕ → ℕ → StackPlace
 base_spot job identity =
     if identity == 1 then record { stack = DICTIONARY_STACKS + job; disp = 0 } else record { stack = MCP_STACK; disp = 0 }

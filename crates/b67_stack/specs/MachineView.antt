@@ -91,7 +91,7 @@ SlotFits p k Free = Unit {0}
 SlotFits p k (Running stack) = IsStack p.size stack × CopiesName p.objects (words k stack)
 SlotFits p k (Waiting stack) = IsStack p.size stack × CopiesName p.objects (words k stack)
 
--- what a view by itself keeps: the dictionaries lie from word 160 up to slot 0, the slots from there up to an end.
+-- what a view by itself keeps: the dictionaries lie from FIRST_DICTIONARY up to slot 0, the slots from there up to an end.
 -- Originals lie in both, segment descriptors in dictionaries
 pub record Laid (end : ℕ) (p : MachineView) : Type 0 where
   pub low : end ≡ slot_base p p.peak
