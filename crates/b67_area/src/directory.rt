@@ -9,7 +9,7 @@ use crate::chain::{leave, link_of, linked, room_of};
 use crate::kinds::{Info, Kind};
 use crate::search::{find_hole, info_at, next_area, vacated, words_of};
 use b67_core::Core;
-use b67_ctl::AreaTail;
+use b67_ctl::{AreaTail, DIRECTORY, FIRST_DICTIONARY};
 use b67_word::Word;
 
 /// The areas of a core of `size` words, from `low` up.
@@ -88,7 +88,7 @@ impl Areas {
         ensures row { (ss : List Span) (a : Info) → IsDirectory core.old self.old.low ss → area_at self.old.low ss address ≡ Some a
             → IsDirectory core.new self.old.low (shortened self.old.low address words ss) }
         ensures outside { (ss : List Span) (a : Info) → IsDirectory core.old self.old.low ss → area_at self.old.low ss address ≡ Some a
-            → (i : ℕ) → i ≢ 152 → i + 1 ≢ address → i ≢ address + words → (InHole self.old.low (shortened self.old.low address words ss) i → ⊥)
+            → (i : ℕ) → i ≢ DIRECTORY → i + 1 ≢ address → i ≢ address + words → (InHole self.old.low (shortened self.old.low address words ss) i → ⊥)
             → slice_get core.new i ≡ slice_get core.old i }
         ensures areas { (ss : List Span) (a : Info) (x : ℕ) → IsDirectory core.old self.old.low ss → area_at self.old.low ss address ≡ Some a
             → area_at self.old.low (shortened self.old.low address words ss) x ≡ with_words address words x (area_at self.old.low ss x) }
@@ -165,7 +165,7 @@ impl Areas {
         if low != self.low {
             let room = room_of(core, self.low);
             let next = link_of(core, self.low);
-            leave(core, 152, low, room - (low - self.low), next);
+            leave(core, DIRECTORY, low, room - (low - self.low), next);
             self.low = low;
         }
     }
@@ -176,30 +176,30 @@ impl Areas {
         ensures same { self.new ≡ self.old }
         ensures row { (ss : List Span) → IsDirectory core.old self.old.low ss
             → IsDirectory core.new self.old.low (left (length core.old - self.old.low) []) }
-        ensures outside { (i : ℕ) → i ≢ 152 → i ≢ self.old.low → slice_get core.new i ≡ slice_get core.old i }
+        ensures outside { (i : ℕ) → i ≢ DIRECTORY → i ≢ self.old.low → slice_get core.new i ≡ slice_get core.old i }
         ensures areas { (x : ℕ) → area_at self.old.low (left (length core.old - self.old.low) []) x ≡ None }
         ensures len { length core.new ≡ length core.old }
     {
         let size = core.size();
-        leave(core, 152, self.low, size - self.low, 0);
+        leave(core, DIRECTORY, self.low, size - self.low, 0);
     }
 
     /// The directory of a core with no area.
     pub fn new(core: &mut Core, low: u32) -> Areas
-        requires low { 160 ≤ low }
+        requires low { FIRST_DICTIONARY ≤ low }
         requires high { low ≤ length core.old }
         ensures low { result ≡ record { size = length core.old; low = low } }
         ensures row { IsDirectory core.new low (left (length core.old - low) []) }
-        ensures outside { (i : ℕ) → (i < 152) ⊎ (160 ≤ i) → i ≢ low → slice_get core.new i ≡ slice_get core.old i }
+        ensures outside { (i : ℕ) → (i < DIRECTORY) ⊎ (FIRST_DICTIONARY ≤ i) → i ≢ low → slice_get core.new i ≡ slice_get core.old i }
         ensures areas { (x : ℕ) → area_at low (left (length core.old - low) []) x ≡ None }
         ensures len { length core.new ≡ length core.old }
     {
         let size = core.size();
-        core.set(152, linked(0, 0));
-        for i in 153..160u32 {
+        core.set(DIRECTORY, linked(0, 0));
+        for i in DIRECTORY + 1..FIRST_DICTIONARY {
             core.set(i, Word::of(0, 0));
         }
-        leave(core, 152, low, size - low, 0);
+        leave(core, DIRECTORY, low, size - low, 0);
         Areas { size, low }
     }
 }

@@ -9,6 +9,7 @@ ghost use Rattle.b67_area.specs.Walk.{NoFit, Fits, Facts, Around, IsAbove, IsAre
 use crate::chain::{link_of, room_of};
 use crate::kinds::{Info, Kind};
 use b67_core::Core;
+use b67_ctl::DIRECTORY;
 
 /// A hole, and where the link to it stands.
 #[derive(Clone, Copy, Debug, PartialEq, Eq)]
@@ -52,8 +53,8 @@ pub fn find_hole(core: &Core, words: u32) -> Option<Fit>
         → MatchOption result (NoFit (words + 2) ss) (λ f. Fits (words + 2) low ss f) }
     ensures facts { IfSome result (λ f. Facts core.now (words + 2) f) }
 {
-    let mut before = 152;
-    let mut at = link_of(core, 152);
+    let mut before = DIRECTORY;
+    let mut at = link_of(core, DIRECTORY);
     'holes: while at != 0 {
         let room = room_of(core, at);
         let next = link_of(core, at);
@@ -107,9 +108,9 @@ pub fn around(core: &Core, at: u32) -> Links
     ensures { (low : ℕ) (ss : List Span) (a : Info) → IsDirectory core.now low ss → area_at low ss (at + 1) ≡ Some a
         → Around low ss at a result }
 {
-    let mut before = 152;
+    let mut before = DIRECTORY;
     let mut room = 0;
-    let mut next = link_of(core, 152);
+    let mut next = link_of(core, DIRECTORY);
     'up: while next != 0 {
         if at < next {
             return Links { before, room, next };

@@ -33,7 +33,8 @@ impl VectorWord {
 
     /// What the word of a slot holds in which a task lives. The word is one: nothing is tested.
     pub fn read(w: Word) -> VectorWord
-        ensures { (v : VectorWord) → IsVectorWord v → w ≡ task_word v → result ≡ v }
+        ensures value { (v : VectorWord) → IsVectorWord v → w ≡ task_word v → result ≡ v }
+        ensures fits { IsVectorWord result }
     {
         VectorWord {
             parent: w.part(36, 10) as u16,

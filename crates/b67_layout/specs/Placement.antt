@@ -1,5 +1,7 @@
 -- Where a machine keeps the objects of a session: what the session's state doesn't say.
 use Rattle.std.specs.Prelude.{ℕ, ◌+◌, ◌-◌, ◌*◌, ◌==◌, ◌&&◌, nat_lt, List, [], ◌∷◌, find, option_map, unwrap_or, if◌then◌else◌, Bool}
+use Rattle.b67_ctl.specs.declared.registers.TheConstants.{NO_SLOT}
+use Rattle.b67_ctl.specs.declared.map.TheConstants.{DICTIONARY_STACKS, MCP_STACK, SLOTS}
 use Rattle.b67_model.specs.Common.{Frame, Task, Job, height, from_frame, frames_of_task, critical_of}
 use Rattle.b67_model.specs.Keyed.{keyed}
 use Rattle.b67_stack.specs.Stacks.{StackPlace}
@@ -17,7 +19,7 @@ pub record Placement : Type 0 where
   pub peak : ℕ
   -- the live tasks
   pub rows : List Slotted
-  -- the slot of the task whose registers stand in the registers; 255 for none
+  -- the slot of the task whose registers stand in the registers; NO_SLOT for none
   pub running : ℕ
   -- the base of a job's dictionary
   pub dictionary : ℕ → ℕ
@@ -28,7 +30,7 @@ abbrev pub is_row_of : ℕ → ℕ → Slotted → Bool
 is_row_of job task r = (r.job == job) && (r.task == task)
 
 abbrev pub slot_of : Placement → ℕ → ℕ → ℕ
-slot_of plan job task = unwrap_or (option_map (λ (r : Slotted). r.slot) (find (is_row_of job task) plan.rows)) 255
+slot_of plan job task = unwrap_or (option_map (λ (r : Slotted). r.slot) (find (is_row_of job task) plan.rows)) NO_SLOT
 
 -- the spot of a frame that is looked up from here down: among these frames of slot k, else further out
 abbrev pub spot_in : ℕ → (ℕ → StackPlace) → List Frame → ℕ → StackPlace
@@ -36,10 +38,10 @@ spot_in k outer [] identity = outer identity
 spot_in k outer (f ∷ below) identity =
     if f.identity == identity then record { stack = k; disp = height below } else spot_in k outer below identity
 
--- stack numbers 128 to 135 are the dictionaries of jobs 1 to 8, and 136 is the MCP
+-- stack numbers from DICTIONARY_STACKS + 1 on are the dictionaries of jobs 1 to 8, and MCP_STACK is the MCP
 abbrev pub base_spot : ℕ → ℕ → StackPlace
 base_spot job identity =
-    if identity == 1 then record { stack = 127 + job; disp = 0 } else record { stack = 136; disp = 0 }
+    if identity == 1 then record { stack = DICTIONARY_STACKS + job; disp = 0 } else record { stack = MCP_STACK; disp = 0 }
 
 -- among the parents' frames from the critical ones down, else the dictionary or the MCP
 abbrev pub outer_spots : Placement → ℕ → Job → ℕ → List ℕ → ℕ → StackPlace
@@ -55,7 +57,7 @@ spots plan j job t identity =
 
 -- the core address of the base word of a stack
 abbrev pub base_of : Placement → ℕ → ℕ
-base_of plan k = if nat_lt k 120 then plan.stacks + k * plan.size else (if nat_lt k 136 then plan.dictionary (k - 127) else 0)
+base_of plan k = if nat_lt k SLOTS then plan.stacks + k * plan.size else (if nat_lt k MCP_STACK then plan.dictionary (k - DICTIONARY_STACKS) else 0)
 
 -- that of a spot
 abbrev pub address_of : Placement → StackPlace → ℕ

@@ -2,6 +2,7 @@
 -- tables of the machine give.
 use Rattle.std.specs.Prelude.{◌≡◌, ◌≢◌, ℕ, ℤ, ◌+◌, ◌<◌, ◌≤◌, List, [], ◌∷◌, length, map, drop, Option, Some, None, slice_get}
 use Rattle.b67_word.specs.declared.couples.Place.{Place}
+use Rattle.b67_ctl.specs.declared.registers.TheConstants.{NO_SLOT}
 use Rattle.b67_lemmas.specs.Lists.{Has}
 use Rattle.b67_model.specs.Common.{Condition, Ready, Awaits, WaitsAt, Task, Job, SessionJob, frames_of_task, Switch, Session}
 use Rattle.b67_model.specs.Keyed.{keyed}
@@ -13,7 +14,7 @@ pub data RowState : Type 0 where
   AwaitsTask : (number : ℕ) → RowState
   WaitsAtCell : (mark offset : ℕ) → RowState
 
--- the row of a live task: its parent's slot, 255 for none, and the displacement of the mark in that slot which the
+-- the row of a live task: its parent's slot, NO_SLOT for none, and the displacement of the mark in that slot which the
 -- parent may not leave
 pub record TaskRow : Type 0 where
   pub job : ℕ
@@ -37,7 +38,11 @@ pub record JobRow : Type 0 where
   pub numbers : List ℤ
   pub next_number : ℕ
 
--- the counts of the session: the first switch that is left, the row of the running task, 255 for none
+-- what the counts have for a running row, if no task's registers are in use
+abbrev pub no_row : ℕ
+no_row = 255
+
+-- the counts of the session: the first switch that is left, the row of the running task, no_row for none
 pub record JobCounts : Type 0 where
   pub quantum : ℕ
   pub made : ℕ
@@ -55,7 +60,7 @@ shown plan j job t (WaitsAt frame offset) = WaitsAtCell (address_of plan (spots 
 
 -- the nearest parent's slot, and the displacement of the critical mark there
 abbrev pub parent_slot : Placement → ℕ → List ℕ → ℕ
-parent_slot plan j [] = 255
+parent_slot plan j [] = NO_SLOT
 parent_slot plan j (parent ∷ more) = slot_of plan j parent
 
 abbrev pub critical_disp : Placement → ℕ → Job → ℕ → List ℕ → ℕ
@@ -91,8 +96,8 @@ JobsShow plan _ _ = ⊥
 
 -- the running row's slot is that of the running task
 abbrev pub RunningRow : Placement → Option TaskRow → ℕ → Type 0
-RunningRow plan None running = (running ≡ 255) × (plan.running ≡ 255)
-RunningRow plan (Some row) running = (running ≢ 255) × (row.slot ≡ plan.running)
+RunningRow plan None running = (running ≡ no_row) × (plan.running ≡ NO_SLOT)
+RunningRow plan (Some row) running = (running ≢ no_row) × (row.slot ≡ plan.running)
 
 pub record CountsShow (plan : Placement) (s : Session) (rows : List TaskRow) (c : JobCounts) : Type 0 where
   pub quantum : c.quantum ≡ s.quantum

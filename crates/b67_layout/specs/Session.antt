@@ -1,6 +1,9 @@
 -- When a machine stands for a session's state.
 use Rattle.std.specs.Prelude.{◌≡◌, ◌≢◌, ℕ, ◌+◌, ◌*◌, ◌^◌, ◌<◌, ◌≤◌, List, [], ◌∷◌, ◌++◌, length, Option, Some, None, slice_get, if◌then◌else◌}
 use Rattle.b67_word.specs.Tagged.{Tagged, word}
+use Rattle.b67_ctl.specs.declared.vector.TheConstants.{FIRST_TASK}
+use Rattle.b67_ctl.specs.declared.registers.TheConstants.{NO_SLOT}
+use Rattle.b67_ctl.specs.declared.map.TheConstants.{FIRST_DICTIONARY, FIRST_INTRINSIC, LAST_INTRINSIC, MCP_STACK, SLOTS, STACK_VECTOR}
 use Rattle.b67_area.specs.declared.Areas.{Areas}
 use Rattle.b67_backing.specs.Shelf.{Table, IsShelf}
 use Rattle.b67_ctl.specs.declared.registers.Regs.{Regs}
@@ -34,30 +37,30 @@ RowHomes plan m = (n : ℕ) → 1 ≤ n → n + length m.constants.segments ≤ 
 pub record PlanFits (plan : Placement) (s : Session) : Type 0 where
   pub rows : RowsFit plan s.jobs
   pub peak : plan.peak ≡ s.peak
-  pub few : plan.peak ≤ 120
+  pub few : plan.peak ≤ SLOTS
   pub sizes : (m : SessionJob) → Has s.jobs m → m.constants.stack_size ≡ plan.size
-  pub dictionaries : DictionariesFollow plan 160 s.jobs
+  pub dictionaries : DictionariesFollow plan FIRST_DICTIONARY s.jobs
   pub row_homes : (m : SessionJob) → Has s.jobs m → RowHomes plan m
 
 -- the two words before a dictionary's entries; the entries are words of objects
 pub record RepresentsDictionary (core : List Tagged) (plan : Placement) (m : SessionJob) : Type 0 where
-  pub mark : slice_get core (plan.dictionary m.constants.number) ≡ Some (word 3 (2 ^ 47 + 2 ^ 46 + 136 * 2 ^ 36 + 1 * 2 ^ 14))
+  pub mark : slice_get core (plan.dictionary m.constants.number) ≡ Some (word 3 (2 ^ 47 + 2 ^ 46 + MCP_STACK * 2 ^ 36 + 1 * 2 ^ 14))
   pub entries : slice_get core (plan.dictionary m.constants.number + 1) ≡ Some (word 0 (length m.constants.dictionary.cells))
 
 -- the MCP's mark and the intrinsics
 pub record RepresentsMcp (core : List Tagged) : Type 0 where
   pub mark : slice_get core 0 ≡ Some (word 3 (2 ^ 46))
-  pub intrinsics : (n : ℕ) → 8 ≤ n → n ≤ 18 → slice_get core n ≡ Some (word 7 (2 ^ 19 + n))
+  pub intrinsics : (n : ℕ) → FIRST_INTRINSIC ≤ n → n ≤ LAST_INTRINSIC → slice_get core n ≡ Some (word 7 (2 ^ 19 + n))
 
--- the word of a slot in the stack vector: the parent's slot, 1,023 for a first task, and the job
+-- the word of a slot in the stack vector: the parent's slot, FIRST_TASK for none, and the job
 abbrev pub vector_word : Placement → ℕ → List ℕ → Tagged
-vector_word plan j [] = word 3 (2 ^ 46 + 1023 * 2 ^ 36 + j * 2 ^ 16)
+vector_word plan j [] = word 3 (2 ^ 46 + FIRST_TASK * 2 ^ 36 + j * 2 ^ 16)
 vector_word plan j (parent ∷ more) = word 3 (2 ^ 46 + slot_of plan j parent * 2 ^ 36 + j * 2 ^ 16)
 
 pub record RepresentsVector (core : List Tagged) (plan : Placement) (jobs : List SessionJob) : Type 0 where
   pub live : (m : SessionJob) (t : Task) → Has jobs m → Has m.progress.job.tasks t
-      → slice_get core (32 + slot_of plan m.constants.number t.number) ≡ Some (vector_word plan m.constants.number t.parents)
-  pub free : (k : ℕ) → k < 120 → ((r : Slotted) → Has plan.rows r → r.slot ≢ k) → slice_get core (32 + k) ≡ Some (word 0 0)
+      → slice_get core (STACK_VECTOR + slot_of plan m.constants.number t.number) ≡ Some (vector_word plan m.constants.number t.parents)
+  pub free : (k : ℕ) → k < SLOTS → ((r : Slotted) → Has plan.rows r → r.slot ≢ k) → slice_get core (STACK_VECTOR + k) ≡ Some (word 0 0)
 
 -- the registers of the running task that its stack doesn't tell
 pub record RepresentsTask (r : Regs) (plan : Placement) (m : SessionJob) (t : Task) : Type 0 where
@@ -91,7 +94,7 @@ critical_mark job (f ∷ below) = if is_critical job f.identity then height belo
 pub record RepresentsCritical (critical : List ℕ) (plan : Placement) (jobs : List SessionJob) : Type 0 where
   pub live : (m : SessionJob) (t : Task) → Has jobs m → Has m.progress.job.tasks t
       → slice_get critical (slot_of plan m.constants.number t.number) ≡ Some (critical_mark m.progress.job t.frames)
-  pub free : (k : ℕ) → k < 120 → ((r : Slotted) → Has plan.rows r → r.slot ≢ k) → slice_get critical k ≡ Some 0
+  pub free : (k : ℕ) → k < SLOTS → ((r : Slotted) → Has plan.rows r → r.slot ≢ k) → slice_get critical k ≡ Some 0
 
 -- the view with more objects
 abbrev pub with_objects : List PagedObject → MachineView → MachineView
@@ -107,9 +110,9 @@ pub record SessionHoldsBut (left : List PagedObject) (x : Storage) (core : List 
   pub mcp : RepresentsMcp core
   pub vector : RepresentsVector core plan s.jobs
   pub critical : RepresentsCritical marks plan s.jobs
-  pub live : plan.running ≢ 255 → (m : SessionJob) × (t : Task) × IsRunning plan s.jobs m t
+  pub live : plan.running ≢ NO_SLOT → (m : SessionJob) × (t : Task) × IsRunning plan s.jobs m t
   pub running : (m : SessionJob) (t : Task) → IsRunning plan s.jobs m t → RepresentsTask r plan m t
-  pub none : plan.running ≡ 255 → r.slot ≡ 255
+  pub none : plan.running ≡ NO_SLOT → r.slot ≡ NO_SLOT
 
 abbrev pub SessionHolds : Storage → List Tagged → Regs → List ℕ → Placement → Session → Type 0
 SessionHolds = SessionHoldsBut []

@@ -1,6 +1,7 @@
 -- Objects that are in sectors alone.
 use Rattle.std.specs.Prelude.{◌≡◌, ℕ, ◌+◌, ◌*◌, ◌^◌, ◌<◌, ◌≤◌, ◌⊎◌, List, [], ◌∷◌, length, map, take, drop, Some, slice_get}
 use Rattle.b67_word.specs.Common.{Tagged, word, number}
+use Rattle.b67_ctl.specs.declared.map.TheConstants.{MCP_STACK}
 use Rattle.b67_backing.specs.Shelf.{Shelf, first, chain_of, taken}
 use Rattle.b67_backing.specs.Held.{Fills, SameBut}
 use Rattle.b67_lemmas.specs.Lists.{Has}
@@ -33,7 +34,7 @@ DescriptorsStand core items = (r : Resting) → Has items r → slice_get core r
 
 -- the mark of a dictionary
 abbrev pub dictionary_mark : Tagged
-dictionary_mark = word 3 (2 ^ 47 + 2 ^ 46 + 136 * 2 ^ 36 + 1 * 2 ^ 14)
+dictionary_mark = word 3 (2 ^ 47 + 2 ^ 46 + MCP_STACK * 2 ^ 36 + 1 * 2 ^ 14)
 
 -- the dictionary of a program at base: its mark, the number of its entries, and a descriptor of each object
 pub record DictionaryIs (core : List Tagged) (base : ℕ) (p : Program) (free : List ℕ) : Type 0 where

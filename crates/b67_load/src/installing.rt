@@ -14,10 +14,10 @@ ghost use Rattle.b67_stack.specs.declared.Cpu.{Cpu};
 ghost use Rattle.b67_load.specs.Objects.{code_from, rows_from, objects_of, entries_of, sectors_of_objects, sectors_of_program};
 ghost use Rattle.b67_load.specs.Writing.{Parts, Spares, Writes, HasSectors, Installed};
 
-use b67_backing::{Backing, Sectors, SpaceFault};
+use b67_backing::{Backing, Sectors, SpaceFault, sectors_needed};
 use b67_codefile::{Codefile, Segment};
 use b67_core::Core;
-use b67_ctl::{DataDesc, Mscw, SegDesc};
+use b67_ctl::{DataDesc, MCP_STACK, Mscw, SegDesc};
 use b67_load_verify::Admitted;
 use b67_stack::Cpu;
 use b67_word::{Word, Words};
@@ -42,7 +42,7 @@ fn shelve<B: Backing>(
     ensures refusal { IfErr result (λ fault. fault ≡ BackingFault) }
     ensures device { KeepsCounts B.size B.calls B.faults backing.old backing.new result }
 {
-    let first = match sectors.take((words.len() as u32 + 29) / 30) {
+    let first = match sectors.take(sectors_needed(words.len() as u32)) {
         Some(first) => first,
         None => unreachable!(),
     };
@@ -237,7 +237,7 @@ pub fn install<B: Backing>(
     let mark = Mscw {
         far: true,
         entered: true,
-        env_stack: 136,
+        env_stack: MCP_STACK,
         env_disp: 0,
         value: false,
         level: 1,

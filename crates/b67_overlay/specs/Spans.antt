@@ -2,6 +2,8 @@
 use Rattle.std.specs.Prelude.{◌≡◌, ℕ, suc, ◌+◌, ◌*◌, ◌^◌, ◌<◌, ◌≤◌, ◌==◌, ◌&&◌, not, nat_lt, Bool, List, [], ◌∷◌, length, Option, Some, None, if◌then◌else◌, slice_get}
 use Rattle.std.specs.List.{list_any}
 use Rattle.b67_word.specs.Tagged.{Tagged, word}
+use Rattle.b67_ctl.specs.declared.vector.TheConstants.{FIRST_TASK}
+use Rattle.b67_ctl.specs.declared.map.TheConstants.{FIRST_DICTIONARY, SLOTS, STACK_VECTOR}
 use Rattle.b67_area.specs.declared.Areas.{Areas}
 use Rattle.b67_backing.specs.Shelf.{Table, IsShelf}
 use Rattle.b67_stack.specs.declared.Cpu.{Cpu}
@@ -19,9 +21,9 @@ pub record Families : Type 0 where
   pub kin : ℕ → Option Kin
   pub entries : List ℕ
 
--- the word of a slot in the stack vector: the parent's slot, 1,023 for a first task, and the job; 0 if no task lives there
+-- the word of a slot in the stack vector: the parent's slot, FIRST_TASK for none, and the job; 0 if no task lives there
 abbrev pub parent_field : List ℕ → ℕ
-parent_field [] = 1023
+parent_field [] = FIRST_TASK
 parent_field (slot ∷ more) = slot
 
 abbrev pub kin_word : Option Kin → Tagged
@@ -34,11 +36,11 @@ LineStands f peak job [] = Unit {0}
 LineStands f peak job (slot ∷ more) =
     (slot < peak) × (f.kin slot ≡ Some (record { job = job; parents = more })) × LineStands f peak job more
 
--- a live task has a slot that is in use, and fewer than 120 parents
+-- a live task has a slot that is in use, and fewer parents than there are slots
 pub record KinFits (f : Families) (peak k : ℕ) (a : Kin) : Type 0 where
   pub used : k < peak
   pub job : a.job < 2 ^ 4
-  pub few : length a.parents < 120
+  pub few : length a.parents < SLOTS
   pub line : LineStands f peak a.job a.parents
 
 -- dictionaries follow each other from an address up to slot 0, each a mark, the number of its entries, and these
@@ -49,10 +51,10 @@ DictionariesLie core stacks at (n ∷ more) =
 
 -- core shows who lives in each slot and where the dictionaries lie
 pub record ShowsFamilies (core : List Tagged) (p : MachineView) (f : Families) : Type 0 where
-  pub few : p.peak ≤ 120
-  pub vector : (k : ℕ) → k < 120 → slice_get core (32 + k) ≡ Some (kin_word (f.kin k))
+  pub few : p.peak ≤ SLOTS
+  pub vector : (k : ℕ) → k < SLOTS → slice_get core (STACK_VECTOR + k) ≡ Some (kin_word (f.kin k))
   pub kin : (k : ℕ) (a : Kin) → f.kin k ≡ Some a → KinFits f p.peak k a
-  pub dictionaries : DictionariesLie core p.stacks 160 f.entries
+  pub dictionaries : DictionariesLie core p.stacks FIRST_DICTIONARY f.entries
 
 -- how many dictionaries begin at or below an address: the number of the job in whose dictionary it lies
 abbrev pub job_at : ℕ → List ℕ → ℕ → ℕ → ℕ
@@ -76,7 +78,7 @@ whole p k = up_from p k (slot_base p k + 1)
 abbrev pub span_of_kin : Families → MachineView → ℕ → ℕ → Option Kin → Option Span
 span_of_kin f p original k None = None
 span_of_kin f p original k (Some a) =
-    if nat_lt original p.stacks then (if job_at 160 f.entries 0 original == a.job then Some (whole p k) else None)
+    if nat_lt original p.stacks then (if job_at FIRST_DICTIONARY f.entries 0 original == a.job then Some (whole p k) else None)
     else (if holds p original k then Some (up_from p k (original + 1))
     else (if list_any (holds p original) a.parents then Some (whole p k) else None))
 

@@ -1,6 +1,7 @@
 -- What the search for copies of an area does to core.
 use Rattle.std.specs.Prelude.{◌≡◌, ℕ, true, false, ◌+◌, ◌<◌, ◌≤◌, ◌^◌, ◌⊎◌, List, length, Some, slice_get}
 use Rattle.b67_word.specs.Tagged.{Tagged}
+use Rattle.b67_ctl.specs.declared.map.TheConstants.{FIRST_DICTIONARY}
 use Rattle.b67_ctl.specs.declared.descriptors.DataDesc.{DataDesc}
 use Rattle.b67_ctl.specs.Descriptors.{data_word, IsDataDesc}
 use Rattle.b67_ctl.specs.declared.registers.Regs.{Regs}
@@ -50,5 +51,5 @@ pub record Hides (x : Storage) (core new : List Tagged) (p : MachineView) (t : P
       → (w : Tagged) × (slice_get new i ≡ Some w) × Fits (with_held x.held t.home h) a i w
   pub homes : (u : PagedObject) → Has p.objects u → slice_get new u.home ≡ slice_get core u.home
   pub bases : (k : ℕ) → k < p.peak → slice_get new (slot_base p k) ≡ slice_get core (slot_base p k)
-  pub outside : (i : ℕ) → (x.low ≤ i) ⊎ (i < 160) → slice_get new i ≡ slice_get core i
+  pub outside : (i : ℕ) → (x.low ≤ i) ⊎ (i < FIRST_DICTIONARY) → slice_get new i ≡ slice_get core i
   pub below : Stayed p core new

@@ -9,7 +9,7 @@ ghost use Rattle.b67_overlay.specs.Spans.{Kin, Families, ShowsFamilies, parent_f
 
 use crate::search::stack_top;
 use b67_core::Core;
-use b67_ctl::Regs;
+use b67_ctl::{FIRST_DICTIONARY, FIRST_TASK, Regs, SLOTS, STACK_VECTOR, VectorWord};
 use b67_stack::Cpu;
 
 /// Words of core, from an address up to another one, which isn't included.
@@ -34,9 +34,9 @@ fn job_of(core: &Core, address: u32) -> u32
     requires inside { (p : MachineView) × (f : Families) × ShowsFamilies core.now p f × (p.stacks ≤ length core.now) × (address < p.stacks) }
     requires small { length core.now < 2 ^ 20 }
     ensures { (p : MachineView) (f : Families) → ShowsFamilies core.now p f → p.stacks ≤ length core.now → address < p.stacks
-        → result ≡ job_at 160 f.entries 0 address }
+        → result ≡ job_at FIRST_DICTIONARY f.entries 0 address }
 {
-    let mut at = 160;
+    let mut at = FIRST_DICTIONARY;
     let mut job = 0;
     'dictionaries: while at <= address {
         at += 2 + entries_at(core, at);
@@ -58,14 +58,14 @@ fn is_in_slot(regs: &Regs, slot: u32, address: u32) -> bool
     address < base + size
 }
 
-/// The slot of a parent in the stack vector, 1,023 for none.
+/// The slot of a parent in the stack vector, [`FIRST_TASK`] for none.
 fn parent_of(core: &Core, slot: u32) -> u32
-    requires inside { 32 + slot < length core.now }
+    requires inside { STACK_VECTOR + slot < length core.now }
     requires small { length core.now < 2 ^ 20 }
     ensures small { result < 2 ^ 10 }
-    ensures value { (a : Kin) → a.job < 2 ^ 4 → parent_field a.parents < 2 ^ 10 → slice_get core.now (32 + slot) ≡ Some (kin_word (Some a)) → result ≡ parent_field a.parents }
+    ensures value { (a : Kin) → a.job < 2 ^ 4 → parent_field a.parents < 2 ^ 10 → slice_get core.now (STACK_VECTOR + slot) ≡ Some (kin_word (Some a)) → result ≡ parent_field a.parents }
 {
-    core.get(32 + slot).part(36, 10) as u32
+    u32::from(VectorWord::read(core.get(STACK_VECTOR + slot)).parent)
 }
 
 /// Whether an address is in the slot of a parent of the task of a slot, at any remove.
@@ -75,9 +75,9 @@ fn is_in_parent(core: &Core, regs: &Regs, slot: u8, address: u32) -> bool
         → result ≡ list_any (holds p address) a.parents }
 {
     let mut child = u32::from(slot);
-    for n in 0..120u32 {
+    for n in 0..u32::from(SLOTS) {
         let parent = parent_of(core, child);
-        if parent == 1023 {
+        if parent == u32::from(FIRST_TASK) {
             return false;
         }
         if is_in_slot(regs, parent, address) {
@@ -101,7 +101,8 @@ fn span_of_task(core: &Core, regs: &Regs, original: u32, slot: u8) -> Option<Spa
         upto,
     });
     if original < regs.stacks {
-        let job = core.get(32 + u32::from(slot)).part(16, 4) as u32;
+        let vector = VectorWord::read(core.get(STACK_VECTOR + u32::from(slot)));
+        let job = u32::from(vector.job);
         if job_of(core, original) == job {
             return whole;
         }
@@ -121,11 +122,11 @@ fn span_of_task(core: &Core, regs: &Regs, original: u32, slot: u8) -> Option<Spa
 
 /// The same as [`search_span`], over core and registers.
 pub(crate) fn span_in(core: &Core, regs: &Regs, original: u32, slot: u8) -> Option<Span>
-    requires { (low : ℕ) × (p : MachineView) × (f : Families) × Lies core.now regs.now low p × ShowsFamilies core.now p f × (original < low) × (slot < 120) }
+    requires { (low : ℕ) × (p : MachineView) × (f : Families) × Lies core.now regs.now low p × ShowsFamilies core.now p f × (original < low) × (slot < SLOTS) }
     ensures { (low : ℕ) (p : MachineView) (f : Families) → Lies core.now regs.now low p → ShowsFamilies core.now p f
         → result ≡ span_of f p original slot }
 {
-    if core.get(32 + u32::from(slot)).tag() == 0 {
+    if core.get(STACK_VECTOR + u32::from(slot)).tag() == 0 {
         return None;
     }
     span_of_task(core, regs, original, slot)
@@ -136,7 +137,7 @@ pub(crate) fn span_in(core: &Core, regs: &Regs, original: u32, slot: u8) -> Opti
 /// what lies over the original, and the whole stack of each task that has that one among its parents, at any remove. None for
 /// any other slot.
 pub fn search_span(cpu: &Cpu, original: u32, slot: u8) -> Option<Span>
-    requires { (low : ℕ) × (p : MachineView) × (f : Families) × Lies cpu.now.core cpu.now.regs low p × ShowsFamilies cpu.now.core p f × (original < low) × (slot < 120) }
+    requires { (low : ℕ) × (p : MachineView) × (f : Families) × Lies cpu.now.core cpu.now.regs low p × ShowsFamilies cpu.now.core p f × (original < low) × (slot < SLOTS) }
     ensures { (low : ℕ) (p : MachineView) (f : Families) → Lies cpu.now.core cpu.now.regs low p → ShowsFamilies cpu.now.core p f
         → result ≡ span_of f p original slot }
 {

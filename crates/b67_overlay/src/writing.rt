@@ -9,7 +9,7 @@ ghost use Rattle.b67_io.specs.Causes.{Rose};
 ghost use Rattle.b67_layout_storage.specs.Machine.{DeviceAfterCalls};
 ghost use Rattle.b67_overlay.specs.Written.{IsPieceOf, WritesOut};
 
-use b67_backing::{Backing, Sectors, SpaceFault};
+use b67_backing::{Backing, Sectors, SpaceFault, sectors_needed};
 use b67_core::Core;
 
 /// Writes words of core to the chain that is kept, or to a new one if none is, and answers its first sector. A chain that
@@ -38,7 +38,7 @@ pub fn write_out<B: Backing>(
             Err(_) => Err(SpaceFault::BackingFault),
         };
     }
-    let wants = (words + 29) / 30;
+    let wants = sectors_needed(words);
     let free = sectors.free_count();
     match sectors.take(wants) {
         None => Err(SpaceFault::BackingFull { wants, free }),

@@ -27,10 +27,7 @@ fn segment_at(core: &Core, code: u32) -> SegDesc
     ensures { (x : Storage) (r : Regs) (p : MachineView) (c : PagedObject) (at : ℕ) → Represents x core.now r p → IsCode x p code at c
         → (result.words ≡ length c.numbers) × (result.address ≡ at) }
 {
-    match SegDesc::from_word(core.get(code)) {
-        Some(segment) => segment,
-        None => unreachable!(),
-    }
+    SegDesc::read(core.get(code))
 }
 
 /// Brings the object of an absent descriptor in, where there is a hole for it.

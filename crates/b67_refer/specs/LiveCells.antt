@@ -3,6 +3,7 @@ use Rattle.std.specs.Prelude.{◌≡◌, ◌≢◌, ℕ, ◌+◌, ◌*◌, ◌<�
 use Rattle.b67_word.specs.Tagged.{Tagged}
 use Rattle.b67_word.specs.declared.couples.Place.{Place}
 use Rattle.b67_word.specs.declared.faults.Fault.{Fault}
+use Rattle.b67_ctl.specs.declared.map.TheConstants.{FIRST_INTRINSIC, LAST_INTRINSIC}
 use Rattle.b67_ctl.specs.declared.registers.Regs.{Regs}
 use Rattle.b67_ctl.specs.declared.marks.Toscw.{Toscw}
 use Rattle.b67_ctl.specs.Layout.{intrinsic_word, toscw_word, IsToscw}
@@ -26,7 +27,7 @@ module _ {core : List Tagged} {r : Regs} (a : LiveContext core r) where
 
   -- a word of core at an address is this one of a frame that the task may name
   abbrev pub StandsFor : (at owner : ℕ) → Tagged → Word → Type 0
-  StandsFor at owner v (Intrinsic n) = (v ≡ intrinsic_word (record { number = n })) × (8 ≤ n) × (n ≤ 18)
+  StandsFor at owner v (Intrinsic n) = (v ≡ intrinsic_word (record { number = n })) × (FIRST_INTRINSIC ≤ n) × (n ≤ LAST_INTRINSIC)
   StandsFor at owner v (Words.Segment n) = v.tag ≡ 3
   StandsFor at owner v w =
       Fits a.storage.held (shape a.plan a.member.constants.number a.member.progress.job view w) at v

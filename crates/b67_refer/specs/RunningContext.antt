@@ -1,6 +1,7 @@
 -- The session that core and registers stand for, with its running task, whatever the display shows.
 use Rattle.std.specs.Prelude.{◌≡◌, ℕ, ◌+◌, ◌<◌, ◌≤◌, ◌⊎◌, List, Some}
 use Rattle.b67_word.specs.Tagged.{Tagged}
+use Rattle.b67_ctl.specs.declared.map.TheConstants.{DICTIONARY_STACKS, MCP_STACK}
 use Rattle.b67_ctl.specs.declared.registers.Regs.{Regs}
 use Rattle.b67_model.specs.Keyed.{keyed}
 use Rattle.b67_model.specs.Common.{Task, Job, SessionJob, Session, IsSegment, SettingInOrder, TasksInOrder}
@@ -91,7 +92,7 @@ IsShown a display = ShowsDisplay display a.plan a.member a.task
 
 -- a stack that a word of a task of this job may name: a slot, the job's dictionary or the MCP
 abbrev pub IsStackIn : Placement → SessionJob → ℕ → Type 0
-IsStackIn plan m k = (k < plan.peak) ⊎ ((k ≡ 127 + m.constants.number) ⊎ (k ≡ 136))
+IsStackIn plan m k = (k < plan.peak) ⊎ ((k ≡ DICTIONARY_STACKS + m.constants.number) ⊎ (k ≡ MCP_STACK))
 
 abbrev pub IsStackOf : {core : List Tagged} {r : Regs} → LiveContext core r → ℕ → Type 0
 IsStackOf a k = IsStackIn a.plan a.member k

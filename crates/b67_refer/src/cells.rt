@@ -12,7 +12,7 @@ ghost use Rattle.b67_refer.specs.Cells.{FindsCell};
 
 use crate::environment::address_of;
 use b67_core::Core;
-use b67_ctl::{Regs, Sirw, Toscw};
+use b67_ctl::{FIRST_INTRINSIC, LAST_INTRINSIC, Regs, Sirw, Toscw};
 use b67_word::{Couple, Fault};
 
 /// The address of the top word of the stack in which an address of a slot is.
@@ -26,10 +26,8 @@ fn top_of(core: &Core, regs: &Regs, base: u32) -> u32
         return regs.s;
     }
     let first = regs.stacks + slot * size;
-    match Toscw::from_word(core.get(first)) {
-        Some(w) => first + u32::from(w.s),
-        None => unreachable!(),
-    }
+    let top = Toscw::read(core.get(first));
+    first + u32::from(top.s)
 }
 
 /// The cell at an offset of an activation record whose mark is at an address of a slot: no mark lies between. Over the running
@@ -61,7 +59,7 @@ fn cell_in(core: &Core, regs: &Regs, base: u32, offset: u16) -> Result<u32, Faul
         → live.CellMeets a q f offset result (cell (here a.member a.task q) f offset) }
 {
     if base == 0 {
-        if offset < 8 || offset > 18 {
+        if offset < FIRST_INTRINSIC || offset > LAST_INTRINSIC {
             return Err(Fault::InvalidAddress);
         }
         return Ok(u32::from(offset));

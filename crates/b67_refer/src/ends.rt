@@ -109,10 +109,7 @@ fn named_cell(core: &Core, regs: &Regs, display: &[u32; 32], w: Word) -> Result<
 {
     match Irw::from_word(w) {
         Some(r) => cell_of(core, regs, display, couple_of(r.couple, regs.level)),
-        None => match Sirw::from_word(w) {
-            Some(r) => cell_at(core, regs, r),
-            None => unreachable!(),
-        },
+        None => cell_at(core, regs, Sirw::read(w)),
     }
 }
 

@@ -10,7 +10,7 @@ ghost use Rattle.b67_layout.specs.Session.{frame_address};
 ghost use Rattle.b67_refer.specs.RunningContext.{RunningContext, LiveContext, IsShown, IsStackOf};
 
 use b67_core::Core;
-use b67_ctl::{Mscw, Regs};
+use b67_ctl::{MCP_STACK, Mscw, Regs, SLOTS};
 
 /// The mark at an address.
 #[inline(always)]
@@ -27,9 +27,9 @@ fn base_of(core: &Core, regs: &Regs, stack: u16) -> u32
     ensures value { (a : LiveContext core.now regs.now) → IsStackOf a stack → result ≡ base_of_stack a.plan stack }
     ensures small { result < 2 ^ 20 }
 {
-    if stack < 120 {
+    if stack < u16::from(SLOTS) {
         regs.stacks + u32::from(stack) * u32::from(regs.stack_size)
-    } else if stack < 136 {
+    } else if stack < MCP_STACK {
         regs.dict
     } else {
         0

@@ -1,6 +1,7 @@
 -- Storages and views in which one object is held otherwise.
 use Rattle.std.specs.Prelude.{◌≡◌, ◌≢◌, ℕ, slice_get, ◌<◌, ◌≤◌, ◌==◌, ◌⊎◌, List, map, if◌then◌else◌, ◌^◌, length}
 use Rattle.b67_word.specs.Tagged.{Tagged}
+use Rattle.b67_ctl.specs.declared.map.TheConstants.{DIRECTORY, FIRST_DICTIONARY}
 use Rattle.b67_lemmas.specs.Lists.{Has}
 use Rattle.b67_stack.specs.MachineView.{PagedObject, MachineView}
 use Rattle.b67_backing.specs.Shelf.{chain_of}
@@ -17,7 +18,7 @@ renumbered p home ns = record p { objects = map (renumber home ns) p.objects }
 -- the words below the slots that are neither the directory's nor descriptors are as they were
 abbrev pub Stayed : MachineView → List Tagged → List Tagged → Type 0
 Stayed p core new =
-    (i : ℕ) → i < p.stacks → (i < 152) ⊎ (160 ≤ i) → ((t : PagedObject) → Has p.objects t → t.home ≢ i) → slice_get new i ≡ slice_get core i
+    (i : ℕ) → i < p.stacks → (i < DIRECTORY) ⊎ (FIRST_DICTIONARY ≤ i) → ((t : PagedObject) → Has p.objects t → t.home ≢ i) → slice_get new i ≡ slice_get core i
 
 -- how all objects are held where that at a home is held so
 abbrev pub with_held : Locations → ℕ → Location → Locations

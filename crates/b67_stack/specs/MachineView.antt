@@ -2,6 +2,7 @@
 use Rattle.std.specs.Prelude.{◌≡◌, ◌≢◌, ℕ, Bool, true, false, ◌+◌, ◌*◌, ◌^◌, ◌<◌, ◌≤◌, ◌==◌, List, [], length, map, Option, Some, None, if◌then◌else◌}
 use Rattle.std.specs.List.{AllByRecursion}
 use Rattle.b67_word.specs.Tagged.{Tagged, word}
+use Rattle.b67_ctl.specs.declared.map.TheConstants.{FIRST_DICTIONARY}
 use Rattle.b67_ctl.specs.declared.descriptors.DataDesc.{DataDesc}
 use Rattle.b67_ctl.specs.Descriptors.{data_word, seg_word}
 use Rattle.b67_area.specs.declared.Kind.{Kind}
@@ -90,14 +91,14 @@ SlotFits p k Free = Unit {0}
 SlotFits p k (Running stack) = IsStack p.size stack × CopiesName p.objects (words k stack)
 SlotFits p k (Waiting stack) = IsStack p.size stack × CopiesName p.objects (words k stack)
 
--- what a view by itself keeps: the dictionaries lie from word 160 up to slot 0, the slots from there up to an end.
+-- what a view by itself keeps: the dictionaries lie from FIRST_DICTIONARY up to slot 0, the slots from there up to an end.
 -- Originals lie in both, segment descriptors in dictionaries
 pub record Laid (end : ℕ) (p : MachineView) : Type 0 where
   pub low : end ≡ slot_base p p.peak
-  pub first : 160 ≤ p.stacks
+  pub first : FIRST_DICTIONARY ≤ p.stacks
   pub room : p.size < 2 ^ 14
   pub slots : (k : ℕ) → k < p.peak → SlotFits p k (p.slots k)
-  pub homes : (t : PagedObject) → Has p.objects t → (160 ≤ t.home) × (t.home < end)
+  pub homes : (t : PagedObject) → Has p.objects t → (FIRST_DICTIONARY ≤ t.home) × (t.home < end)
   pub codes : (t : PagedObject) → Has p.objects t → t.kind ≡ Code → t.home < p.stacks
   pub differ : (t u : PagedObject) → Has p.objects t → Has p.objects u → t.home ≡ u.home → t ≡ u
   pub not_base : (t : PagedObject) → Has p.objects t → (k : ℕ) → k < p.peak → t.home ≢ slot_base p k

@@ -41,6 +41,9 @@ pub enum Step {
     Ended,
 }
 
+/// The number in [`Step::Call`] where a fetch ended at a procedure: the caller enters it.
+pub const PROCEDURE: u8 = 255;
+
 /// The stack is as high as its slot.
 #[derive(Clone, Copy, Debug, PartialEq, Eq)]
 pub struct StackOverflow {}

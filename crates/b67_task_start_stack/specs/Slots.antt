@@ -1,6 +1,7 @@
 -- One slot more, and a stack in a slot in which no task lives.
 use Rattle.std.specs.Prelude.{◌≡◌, ◌≢◌, ℕ, suc, ◌+◌, ◌-◌, ◌<◌, ◌≤◌, ◌⊎◌, List, length, Some, slice_get}
 use Rattle.b67_word.specs.Tagged.{Tagged, word}
+use Rattle.b67_ctl.specs.declared.map.TheConstants.{SLOTS, STACK_VECTOR}
 use Rattle.b67_area.specs.declared.Info.{Info}
 use Rattle.b67_area.specs.Spans.{area_at, cut}
 use Rattle.b67_ctl.specs.declared.registers.Regs.{Regs}
@@ -17,7 +18,7 @@ raised x low = record x { low = low; spans = cut (low - x.low) x.spans }
 
 -- there is room for one slot more: core has its words, and no area has a word there
 pub record HasRoom (x : Storage) (core : List Tagged) (r : Regs) (p : MachineView) : Type 0 where
-  pub few : p.peak < 120
+  pub few : p.peak < SLOTS
   pub some : 0 < p.size
   pub inside : x.low + p.size ≤ length core
   pub clear : (at : ℕ) (a : Info) → area_at x.low x.spans at ≡ Some a → x.low + p.size < at
@@ -31,8 +32,8 @@ pub record Filled (x : Storage) (core new : List Tagged) (r : Regs) (p : Machine
   pub free : p.slots k ≡ Free
   pub away : r.slot ≢ k
   pub size : length new ≡ length core
-  pub few : p.peak ≤ 120
-  pub outside : (i : ℕ) → i ≢ 32 + k → (i < slot_base p k) ⊎ (slot_base p k + p.size ≤ i) → slice_get new i ≡ slice_get core i
+  pub few : p.peak ≤ SLOTS
+  pub outside : (i : ℕ) → i ≢ STACK_VECTOR + k → (i < slot_base p k) ⊎ (slot_base p k + p.size ≤ i) → slice_get new i ≡ slice_get core i
   pub top : slice_get new (slot_base p k) ≡ Some (toscw_word (toscw_of stack))
   pub fits : IsStack p.size stack
   pub copies : CopiesName p.objects (words k stack)

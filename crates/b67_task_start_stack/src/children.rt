@@ -13,9 +13,8 @@ ghost use Rattle.b67_task_start_stack.specs.Born.{with_task_at};
 ghost use Rattle.b67_task_start_stack.specs.Joining.{BuildsSome, MayBuild, joined};
 
 use crate::slots::build_stack;
-use b67_ctl::{Mscw, Toscw};
+use b67_ctl::{Mscw, SLOTS, STACK_VECTOR, Toscw, VectorWord};
 use b67_stack::Cpu;
-use b67_word::Word;
 
 /// The displacement of the mark under the running stack's topmost one.
 pub fn mark_disp(cpu: &Cpu) -> u16
@@ -29,7 +28,7 @@ pub fn mark_disp(cpu: &Cpu) -> u16
 
 /// The mark at a displacement is one that a live task depends on.
 fn depend(critical: &mut [u16; 120], slot: u8, at: u16)
-    requires { slot < 120 }
+    requires { slot < SLOTS }
     ensures own { (v : ℕ) → slice_get critical.old slot ≡ Some v → slice_get critical.new slot ≡ Some (max v at) }
     ensures others { (q : ℕ) → q ≢ slot → slice_get critical.new q ≡ slice_get critical.old q }
 {
@@ -75,7 +74,10 @@ pub fn build_child(
     };
     let from = cpu.regs.s + 1 - count;
     build_stack(&mut cpu.core, base, top.word(), mark.word(), from, count);
-    let vector = 0x4000_0000_0000 + u64::from(parent) * 0x10_0000_0000 + u64::from(job) * 0x1_0000;
-    cpu.core.set(32 + u32::from(slot), Word::of(3, vector));
+    let vector = VectorWord {
+        parent: u16::from(parent),
+        job,
+    };
+    cpu.core.set(STACK_VECTOR + u32::from(slot), vector.word());
     depend(&mut cpu.critical, parent, under);
 }

@@ -8,6 +8,7 @@ ghost use Rattle.b67_task_start_stack.specs.Slots.{grown, raised, HasRoom};
 
 use b67_area::Areas;
 use b67_core::Core;
+use b67_ctl::DIRECTORY;
 use b67_stack::Cpu;
 use b67_word::Word;
 
@@ -19,7 +20,7 @@ pub fn add_slot(cpu: &mut Cpu, areas: &mut Areas)
     ensures rest { cpu.new ≡ record cpu.old { core = cpu.new.core; regs = record cpu.old.regs { peak = cpu.old.regs.peak + 1 } } }
     ensures areas { areas.new ≡ record areas.old { low = areas.old.low + cpu.old.regs.stack_size } }
     ensures below { (x : Storage) (p : MachineView) → Represents x cpu.old.core cpu.old.regs p → HasRoom x cpu.old.core cpu.old.regs p → areas.old.low ≡ x.low
-        → (i : ℕ) → i < areas.old.low → i ≢ 152 → slice_get cpu.new.core i ≡ slice_get cpu.old.core i }
+        → (i : ℕ) → i < areas.old.low → i ≢ DIRECTORY → slice_get cpu.new.core i ≡ slice_get cpu.old.core i }
     ensures len { length cpu.new.core ≡ length cpu.old.core }
 {
     let _size = cpu.core.size();

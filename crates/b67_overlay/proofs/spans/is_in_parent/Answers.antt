@@ -13,30 +13,30 @@ parent_of-parent-requires-clause-inside c =
 pub parent_of-parent-requires-clause-small : goal.parent_of-parent-requires-clause-small
 parent_of-parent-requires-clause-small c = let (low, p, f, a, l, s, e) = c.requires in l.small
 
-pub returns-then-parent-eq1023 : goal.returns-then-parent-eq1023
-returns-then-parent-eq1023 c = λ low p f a l s e.
-    walk_end c.args.core.now p f s c.args.address a c.loop-n.child c.loop-n.n (c.loop-n.invariant low p f a l s e) (sym (parent_read c.args.core.now p f s c.args.address a c.loop-n.child c.loop-n.n (c.loop-n.invariant low p f a l s e) c.parent_of-parent.result c.parent_of-parent.ensures.value (s.kin c.args.slot a e).job) ∙ c.if-parent-eq1023.true)
+pub returns-then-parent-from : goal.returns-then-parent-from
+returns-then-parent-from c = λ low p f a l s e.
+    walk_end c.args.core.now p f s c.args.address a c.loop-n.child c.loop-n.n (c.loop-n.invariant low p f a l s e) (sym (parent_read c.args.core.now p f s c.args.address a c.loop-n.child c.loop-n.n (c.loop-n.invariant low p f a l s e) c.parent_of-parent.result c.parent_of-parent.ensures.value (s.kin c.args.slot a e).job) ∙ c.if-parent-from.true ∙ c.from.ensures)
 
 pub is_in_slot-requires : goal.is_in_slot-requires
 is_in_slot-requires c =
     let (low, p, f, a, l, s, e) = c.requires in
     let w = c.loop-n.invariant low p f a l s e in
     let is = parent_read c.args.core.now p f s c.args.address a c.loop-n.child c.loop-n.n (c.loop-n.invariant low p f a l s e) c.parent_of-parent.result c.parent_of-parent.ensures.value (s.kin c.args.slot a e).job in
-    (c.args.core.now, low, p, l, walk_used c.args.core.now p f s c.args.address a c.loop-n.child c.loop-n.n w c.parent_of-parent.result is c.if-parent-eq1023.false)
+    (c.args.core.now, low, p, l, walk_used c.args.core.now p f s c.args.address a c.loop-n.child c.loop-n.n w c.parent_of-parent.result is (λ z. c.if-parent-from.false (z ∙ sym c.from.ensures)))
 
 pub returns-then-is_in_slot : goal.returns-then-is_in_slot
 returns-then-is_in_slot c = λ low p f a l s e.
     let w = c.loop-n.invariant low p f a l s e in
     let is = parent_read c.args.core.now p f s c.args.address a c.loop-n.child c.loop-n.n (c.loop-n.invariant low p f a l s e) c.parent_of-parent.result c.parent_of-parent.ensures.value (s.kin c.args.slot a e).job in
-    let used = walk_used c.args.core.now p f s c.args.address a c.loop-n.child c.loop-n.n w c.parent_of-parent.result is c.if-parent-eq1023.false in
-    walk_found c.args.core.now p f s c.args.address a c.loop-n.child c.loop-n.n w c.parent_of-parent.result is c.if-parent-eq1023.false (sym (c.is_in_slot.ensures c.args.core.now low p l used) ∙ c.if-is_in_slot.true)
+    let used = walk_used c.args.core.now p f s c.args.address a c.loop-n.child c.loop-n.n w c.parent_of-parent.result is (λ z. c.if-parent-from.false (z ∙ sym c.from.ensures)) in
+    walk_found c.args.core.now p f s c.args.address a c.loop-n.child c.loop-n.n w c.parent_of-parent.result is (λ z. c.if-parent-from.false (z ∙ sym c.from.ensures)) (sym (c.is_in_slot.ensures c.args.core.now low p l used) ∙ c.if-is_in_slot.true)
 
 pub loop-n-preserved : goal.loop-n-preserved
 loop-n-preserved c = λ low p f a l s e.
     let w = c.loop-n.invariant low p f a l s e in
     let is = parent_read c.args.core.now p f s c.args.address a c.loop-n.child c.loop-n.n (c.loop-n.invariant low p f a l s e) c.parent_of-parent.result c.parent_of-parent.ensures.value (s.kin c.args.slot a e).job in
-    let used = walk_used c.args.core.now p f s c.args.address a c.loop-n.child c.loop-n.n w c.parent_of-parent.result is c.if-parent-eq1023.false in
-    walk_on c.args.core.now p f s c.args.address a c.loop-n.child c.loop-n.n w c.parent_of-parent.result is c.if-parent-eq1023.false (sym (c.is_in_slot.ensures c.args.core.now low p l used) ∙ c.if-is_in_slot.false)
+    let used = walk_used c.args.core.now p f s c.args.address a c.loop-n.child c.loop-n.n w c.parent_of-parent.result is (λ z. c.if-parent-from.false (z ∙ sym c.from.ensures)) in
+    walk_on c.args.core.now p f s c.args.address a c.loop-n.child c.loop-n.n w c.parent_of-parent.result is (λ z. c.if-parent-from.false (z ∙ sym c.from.ensures)) (sym (c.is_in_slot.ensures c.args.core.now low p l used) ∙ c.if-is_in_slot.false)
 
 pub returns : goal.returns
 returns c = λ low p f a l s e. absurd (omega (arith, (c.loop-n.invariant low p f a l s e).few, c.loop-n-test.false))

@@ -1,9 +1,11 @@
 use Rattle.std.proofs.Common.{◌≡◌, ℕ, ◌+◌, ◌*◌, ◌<◌, Some, ap, arith, sym, ◌∙◌}
 use Rattle.std.specs.List.{slice_get}
+use Rattle.std.proofs.lemmas.Option.{same_Some}
+use Rattle.b67_ctl.specs.declared.vector.VectorWord.{VectorWord}
 use Rattle.b67_stack.specs.Common.{stack_words, MachineView, slot_base, stack_of}
 use Rattle.b67_overlay.specs.Turns.{Lies}
-use Rattle.b67_overlay.specs.Spans.{Kin, Families, ShowsFamilies, kin_word, holds}
-use Rattle.b67_overlay.proofs.Families.{job_is, parent_low, base_here, whole_here, over_here, span_in_job, span_of_others, span_in_own, span_in_parent, span_nowhere}
+use Rattle.b67_overlay.specs.Spans.{Kin, Families, ShowsFamilies, parent_field, kin_word, holds}
+use Rattle.b67_overlay.proofs.Families.{parent_low, base_here, whole_here, over_here, span_in_job, span_of_others, span_in_own, span_in_parent, span_nowhere}
 use Rattle.b67_overlay.proofs.Turning.{stack_low}
 use Rattle.b67_overlay.proofs.spans.span_of_task.Goals.{After-stack_top-upto, After-job_of, After-is_in_slot}
 use Rattle.b67_overlay.proofs.spans.span_of_task.Goals as goal
@@ -33,12 +35,14 @@ get-requires c =
     omega (arith, (s.kin c.args.slot a e).used, s.few, c.from-then-original-regs.ensures, l.slots.laid.first, l.inside, l.slots.laid.low)
 
 job_read : (c : After-job_of) (low : ℕ) (p : MachineView) (f : Families) (a : Kin) (l : Lies c.args.core.now c.args.regs.now low p) (s : ShowsFamilies c.args.core.now p f) → f.kin c.args.slot ≡ Some a
-    → c.part-job.result ≡ a.job
+    → c.from-job.result ≡ a.job
 job_read c low p f a l s e =
     let k = s.kin c.args.slot a e in
     let word = s.vector c.args.slot (omega (arith, k.used, s.few)) ∙ ap (λ o. Some (kin_word o)) e in
     let read = ap (λ (n : ℕ). slice_get c.args.core.now (32 + n)) (sym c.from-then-original-regs.ensures) ∙ c.get.ensures in
-    c.part-job.ensures.value ∙ job_is a c.get.result k.job (parent_low f p.peak a.job a.parents s.few k.line) (sym read ∙ word)
+    let v : VectorWord = record { parent = parent_field a.parents; job = a.job } in
+    let is = c.read-vector.ensures.value v (record { parent = parent_low f p.peak a.job a.parents s.few k.line; job = k.job }) (same_Some _ _ (sym read ∙ word)) in
+    c.from-job.ensures ∙ ap (λ (w : VectorWord). w.job) is
 
 pub returns-then-job_of-job : goal.returns-then-job_of-job
 returns-then-job_of-job c = λ low p f a l s e.

@@ -8,12 +8,12 @@ pub save-requires-clause-chain : goal.save-requires-clause-chain
 save-requires-clause-chain g c = let (st, sh, k) = c.requires.chain in ⊎_elim (λ (z : c.args.kept ≡ 0). absurd (c.if-kept-ne0.true z)) (λ (h : HasChain c.args.sectors.now st c.args.kept (sectors_for c.args.words)). (st, h)) k
 
 pub save-requires-in-Some-clause-chain : goal.save-requires-in-Some-clause-chain
-save-requires-in-Some-clause-chain g c = let (st, sh, k) = c.requires.chain in (taken (sectors_for c.args.words) st, c.in-Some.ensures.chain st sh)
+save-requires-in-Some-clause-chain g c = let (st, sh, k) = c.requires.chain in (taken (sectors_for c.args.words) st, subst (λ (n : ℕ). HasChain c.take.new.self (taken n st) c.in-Some.first n) c.sectors_needed-wants.ensures (c.in-Some.ensures.chain st sh))
 
 pub give-requires : goal.give-requires
 give-requires g c =
     let (st, sh, k) = c.requires.chain in
-    let h : HasChain c.take.new.self (taken (sectors_for c.args.words) st) c.in-Some.first (sectors_for c.args.words) = c.in-Some.ensures.chain st sh in
+    let h : HasChain c.take.new.self (taken (sectors_for c.args.words) st) c.in-Some.first (sectors_for c.args.words) = subst (λ (n : ℕ). HasChain c.take.new.self (taken n st) c.in-Some.first n) c.sectors_needed-wants.ensures (c.in-Some.ensures.chain st sh) in
     (taken (sectors_for c.args.words) st, h.shelf, omega (arith, h.many))
 
 pub returns-in-Ok-clause-row : goal.returns-in-Ok-clause-row
@@ -54,9 +54,9 @@ returns-in-Err-save-clause-row g c = λ st sh. record {
   room = search rules;
   refused = λ k.
       let n = sectors_for c.args.words in
-      let h : HasChain c.take.new.self (taken n st) c.in-Some.first n = c.in-Some.ensures.chain st sh in
+      let h : HasChain c.take.new.self (taken n st) c.in-Some.first n = subst (λ (n : ℕ). HasChain c.take.new.self (taken n st) c.in-Some.first n) c.sectors_needed-wants.ensures (c.in-Some.ensures.chain st sh) in
       let row = c.in-Some.ensures.row st sh in
-      let back = given_taken n c.in-Some.first st (omega arith) row.0 row.1 in
+      let back = given_taken n c.in-Some.first st (omega arith) (omega (arith, row.0, c.sectors_needed-wants.ensures)) row.1 in
       let S : Shelf → Type 0 = λ z. IsShelf c.give.new.self z in
       let C : List ℕ → Type 0 = λ z. Changes g.B.Backing.holds c.args.backing.now c.save-in-Some.new.backing (SameBut z) in
       (subst S back (c.give.ensures.row (taken n st) h.shelf (omega (arith, h.many))), subst C (sym (new_out st c.args.kept c.args.words c.if-kept-ne0.false ∙ ap (λ (f : ℕ). chain_of f (taken n st).chains) (sym row.1))) (c.in-Err-save.ensures.others (taken n st) h));
@@ -66,7 +66,7 @@ returns-in-Err-save-clause-row g c = λ st sh. record {
 pub returns-in-Ok-save-clause-device : goal.returns-in-Ok-save-clause-device
 returns-in-Ok-save-clause-device g c =
     let (st, sh, k) = c.requires.chain in
-    let h : HasChain c.take.new.self (taken (sectors_for c.args.words) st) c.in-Some.first (sectors_for c.args.words) = c.in-Some.ensures.chain st sh in
+    let h : HasChain c.take.new.self (taken (sectors_for c.args.words) st) c.in-Some.first (sectors_for c.args.words) = subst (λ (n : ℕ). HasChain c.take.new.self (taken n st) c.in-Some.first n) c.sectors_needed-wants.ensures (c.in-Some.ensures.chain st sh) in
     let e = c.save-in-Some.ensures in
     record {
       size = e.device.size;
@@ -78,7 +78,7 @@ returns-in-Ok-save-clause-device g c =
 pub returns-in-Err-save-clause-device : goal.returns-in-Err-save-clause-device
 returns-in-Err-save-clause-device g c =
     let (st, sh, k) = c.requires.chain in
-    let h : HasChain c.take.new.self (taken (sectors_for c.args.words) st) c.in-Some.first (sectors_for c.args.words) = c.in-Some.ensures.chain st sh in
+    let h : HasChain c.take.new.self (taken (sectors_for c.args.words) st) c.in-Some.first (sectors_for c.args.words) = subst (λ (n : ℕ). HasChain c.take.new.self (taken n st) c.in-Some.first n) c.sectors_needed-wants.ensures (c.in-Some.ensures.chain st sh) in
     let e = c.save-in-Some.ensures in
     record {
       size = e.device.size;

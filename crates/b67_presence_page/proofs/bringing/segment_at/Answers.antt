@@ -1,5 +1,5 @@
 use Rattle.std.proofs.Common.{sym, ◌∙◌, ap}
-use Rattle.std.proofs.lemmas.Option.{same_Some, none-some}
+use Rattle.std.proofs.lemmas.Option.{same_Some}
 use Rattle.b67_ctl.specs.declared.descriptors.SegDesc.{SegDesc}
 use Rattle.b67_presence_page.proofs.Descriptors.{segment_here}
 use Rattle.b67_presence_page.proofs.bringing.segment_at.Goals as goal
@@ -9,14 +9,8 @@ get-requires c =
     let (x, r, p, t, at, s, k) = c.requires in
     (segment_here x c.args.core.now r p c.args.code at t s k).inside
 
-pub unreachable-requires : goal.unreachable-requires
-unreachable-requires c =
-    let (x, r, p, t, at, s, k) = c.requires in
-    let h = segment_here x c.args.core.now r p c.args.code at t s k in
-    none-some _ (c.in-None.ensures.known h.desc h.fits (same_Some _ _ (sym c.get.ensures ∙ h.word)))
-
 pub returns : goal.returns
 returns c = λ x r p t at s k.
     let h = segment_here x c.args.core.now r p c.args.code at t s k in
-    let is = same_Some _ _ (c.in-Some.ensures.known h.desc h.fits (same_Some _ _ (sym c.get.ensures ∙ h.word))) in
+    let is = c.read.ensures h.desc h.fits (same_Some _ _ (sym c.get.ensures ∙ h.word)) in
     (ap (λ (d : SegDesc). d.words) is ∙ h.words, ap (λ (d : SegDesc). d.address) is ∙ h.address)

@@ -5,18 +5,18 @@ use Rattle.b67_refer.specs.LiveCells.{CellMeets}
 use Rattle.b67_refer.proofs.Unders.{is_task}
 use Rattle.b67_refer.proofs.Founds.{mcp_far, mcp_found, dictionary_far, dictionary_found, dictionary_small}
 use Rattle.b67_refer.proofs.cells.cell_in.Goals as goal
-use Rattle.b67_refer.proofs.cells.cell_in.Goals.{then-offset-lt8-via-then-offset-lt8, then-offset-lt8-via-else-offset-lt8+then-offset-gt18, then-offset-lt2-via-then-offset-lt2, then-offset-lt2-via-else-offset-lt2+then-from}
+use Rattle.b67_refer.proofs.cells.cell_in.Goals.{then-offset-lt-FIRST_INTRINSIC-via-then-offset-lt-FIRST_INTRINSIC, then-offset-lt-FIRST_INTRINSIC-via-else-offset-lt-FIRST_INTRINSIC+then-offset-gt-LAST_INTRINSIC, then-offset-lt2-via-then-offset-lt2, then-offset-lt2-via-else-offset-lt2+then-from}
 
-pub returns-then-offset-lt8 : goal.returns-then-offset-lt8
-returns-then-offset-lt8 c = λ a q f n e.
-    mcp_far c.args.core.now c.args.regs.now a q f c.args.base c.args.offset n e c.if-base-eq0.true (elim c.then-offset-lt8.branch [
-      | then-offset-lt8-via-then-offset-lt8 w ↦ inl (omega (arith, w.if-offset-lt8.true))
-      | then-offset-lt8-via-else-offset-lt8+then-offset-gt18 w ↦ inr (omega (arith, w.if-offset-gt18.true))
+pub returns-then-offset-lt-FIRST_INTRINSIC : goal.returns-then-offset-lt-FIRST_INTRINSIC
+returns-then-offset-lt-FIRST_INTRINSIC c = λ a q f n e.
+    mcp_far c.args.core.now c.args.regs.now a q f c.args.base c.args.offset n e c.if-base-eq0.true (elim c.then-offset-lt-FIRST_INTRINSIC.branch [
+      | then-offset-lt-FIRST_INTRINSIC-via-then-offset-lt-FIRST_INTRINSIC w ↦ inl (omega (arith, w.if-offset-lt-FIRST_INTRINSIC.true))
+      | then-offset-lt-FIRST_INTRINSIC-via-else-offset-lt-FIRST_INTRINSIC+then-offset-gt-LAST_INTRINSIC w ↦ inr (omega (arith, w.if-offset-gt-LAST_INTRINSIC.true))
     ])
 
 pub returns-then-base-eq0 : goal.returns-then-base-eq0
 returns-then-base-eq0 c = λ a q f n e.
-    mcp_found c.args.core.now c.args.regs.now a q f c.args.base c.args.offset n e c.from.result c.from.ensures c.if-base-eq0.true (omega (arith, c.if-offset-lt8.false)) (omega (arith, c.if-offset-gt18.false))
+    mcp_found c.args.core.now c.args.regs.now a q f c.args.base c.args.offset n e c.from.result c.from.ensures c.if-base-eq0.true (omega (arith, c.if-offset-lt-FIRST_INTRINSIC.false)) (omega (arith, c.if-offset-gt-LAST_INTRINSIC.false))
 
 pub returns-then-offset-lt2 : goal.returns-then-offset-lt2
 returns-then-offset-lt2 c = λ a q f n e.

@@ -42,39 +42,13 @@ build_stack-requires-clause-source c =
       few_copied q.storage k q.plan q.session q.member q.task q.after q.child c.args.slot c.args.job c.args.env_stack c.args.env_disp c.args.level c.args.count q.may,
     )
 
-pub overflow_mul-vector : goal.overflow_mul-vector
-overflow_mul-vector c =
+pub word-requires-3 : goal.word-requires-3
+word-requires-3 c =
     let q = c.requires in
-    omega (arith, c.from-4.ensures, slot_small q.storage c.args.cpu.now q.plan q.session q.member q.task q.after q.child c.args.slot c.args.job c.args.env_stack c.args.env_disp c.args.level c.args.count q.may)
-
-pub overflow_add-vector : goal.overflow_add-vector
-overflow_add-vector c =
-    let q = c.requires in
-    omega (arith, c.from-4.ensures, slot_small q.storage c.args.cpu.now q.plan q.session q.member q.task q.after q.child c.args.slot c.args.job c.args.env_stack c.args.env_disp c.args.level c.args.count q.may)
-
-pub overflow_add-vector-2 : goal.overflow_add-vector-2
-overflow_add-vector-2 c =
-    let q = c.requires in
-    omega (
-      arith,
-      c.from-4.ensures,
-      c.from-5.ensures,
-      slot_small q.storage c.args.cpu.now q.plan q.session q.member q.task q.after q.child c.args.slot c.args.job c.args.env_stack c.args.env_disp c.args.level c.args.count q.may,
-      job_small q.storage c.args.cpu.now q.plan q.session q.member q.task q.after q.child c.args.slot c.args.job c.args.env_stack c.args.env_disp c.args.level c.args.count q.may,
-    )
-
-pub of-requires : goal.of-requires
-of-requires c =
-    let q = c.requires in
+    let k = c.args.cpu.now in
     record {
-      tag = omega arith;
-      bits = omega (
-        arith,
-        c.from-4.ensures,
-        c.from-5.ensures,
-        slot_small q.storage c.args.cpu.now q.plan q.session q.member q.task q.after q.child c.args.slot c.args.job c.args.env_stack c.args.env_disp c.args.level c.args.count q.may,
-        job_small q.storage c.args.cpu.now q.plan q.session q.member q.task q.after q.child c.args.slot c.args.job c.args.env_stack c.args.env_disp c.args.level c.args.count q.may,
-      );
+      parent = omega (arith, c.from-4.ensures, slot_small q.storage k q.plan q.session q.member q.task q.after q.child c.args.slot c.args.job c.args.env_stack c.args.env_disp c.args.level c.args.count q.may);
+      job = omega (arith, job_small q.storage k q.plan q.session q.member q.task q.after q.child c.args.slot c.args.job c.args.env_stack c.args.env_disp c.args.level c.args.count q.may);
     }
 
 pub depend-requires : goal.depend-requires
@@ -84,8 +58,8 @@ pub returns-clause-stands : goal.returns-clause-stands
 returns-clause-stands c = λ x plan s m t after child b.
     let k = c.args.cpu.now in
     let slot = c.args.slot in
-    let vector : 70368744177664 + c.from-4.result * 68719476736 + c.from-5.result * 65536 ≡ 2 ^ 46 + k.regs.slot * 2 ^ 36 + c.args.job * 2 ^ 16 = omega (arith, c.from-4.ensures, c.from-5.ensures) in
-    let written = c.set.ensures.value ∙ ap (λ (n : ℕ). slice_set c.build_stack.new.core (32 + n) c.of.result) c.from-6.ensures ∙ ap (λ (w : Tagged). slice_set c.build_stack.new.core (32 + slot) w) c.of.ensures in
+    let vector : 2 ^ 46 + c.from-4.result * 2 ^ 36 + c.args.job * 2 ^ 16 ≡ 2 ^ 46 + k.regs.slot * 2 ^ 36 + c.args.job * 2 ^ 16 = omega (arith, c.from-4.ensures) in
+    let written = c.set.ensures.value ∙ ap (λ (n : ℕ). slice_set c.build_stack.new.core (32 + n) c.word-3.result) c.from-5.ensures ∙ ap (λ (w : Tagged). slice_set c.build_stack.new.core (32 + slot) w) c.word-3.ensures in
     child_built x k plan s m t after child slot c.args.job c.args.env_stack c.args.env_disp c.args.level c.args.count b
     c.set.new.self c.build_stack.new.core c.depend.new.critical _ c.mark_disp-under.result _ _ _
     (base_is x k plan s m t after child slot c.args.job c.args.env_stack c.args.env_disp c.args.level c.args.count b c.from.result c.from-2.result c.from.ensures c.from-2.ensures)
