@@ -36,7 +36,6 @@ IsNoProc _ = Unit {0}
 module _ (x : Storage) (cpu : Cpu) (plan : Placement) (s : Session) (m : SessionJob) (t : Task) (o : IsInOrderButCounts s) (h : RepresentsSession x cpu plan s) (runs : IsRunning plan s.jobs m t)
     (reference : Word) (arguments : List Word) (call : IsCall t reference arguments) (count : ℕ) (p : Parts t reference arguments call count) (v : Tagged) (i : IsFollowed x plan m t v p.first)
     (none : list_any is_original (take count (cells t)) ≡ false) where
-
   -- it is no reference
   pub leads_nowhere : v.tag ≢ 1 → AskMeets plan m t arguments (Err InvalidOperand)
   leads_nowhere ne = λ next. not_led t reference arguments call m count p none next InvalidOperand

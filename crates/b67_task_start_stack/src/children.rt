@@ -27,8 +27,8 @@ pub fn mark_disp(cpu: &Cpu) -> u16
     (cpu.regs.f - u32::from(mark.back) - cpu.regs.bosr) as u16
 }
 
-/// The mark at a displacement is one that a live task depends on.
-fn depend(critical: &mut [u16; 120], slot: u8, at: u16)
+/// A live task depends on the mark at a displacement of a slot: the topmost mark on which one depends there is no lower.
+pub fn raise(critical: &mut [u16; 120], slot: u8, at: u16)
     requires { slot < 120 }
     ensures own { (v : ℕ) → slice_get critical.old slot ≡ Some v → slice_get critical.new slot ≡ Some (max v at) }
     ensures others { (q : ℕ) → q ≢ slot → slice_get critical.new q ≡ slice_get critical.old q }
@@ -77,5 +77,5 @@ pub fn build_child(
     build_stack(&mut cpu.core, base, top.word(), mark.word(), from, count);
     let vector = 0x4000_0000_0000 + u64::from(parent) * 0x10_0000_0000 + u64::from(job) * 0x1_0000;
     cpu.core.set(32 + u32::from(slot), Word::of(3, vector));
-    depend(&mut cpu.critical, parent, under);
+    raise(&mut cpu.critical, parent, under);
 }
