@@ -125,10 +125,6 @@ left-some : (n : ℕ) (ss : List Span) → 1 ≤ n → left n ss ≡ Hole n ∷ 
 left-some zero ss h = absurd (omega arith)
 left-some (suc n) ss h = refl
 
-link_to-some : (at n next : ℕ) → 1 ≤ n → link_to at n next ≡ at
-link_to-some at zero next h = absurd (omega arith)
-link_to-some at (suc n) next h = refl
-
 -- whether a hole lies just below a cut
 pub alone_below : (low : ℕ) (ds : List Span) → link_place low ds + link_room ds ≢ top low ds → NoHole ds
 alone_below low [] h = tt

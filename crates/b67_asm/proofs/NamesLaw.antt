@@ -16,14 +16,6 @@ pub lookup_seen : {X : Type 0} (q : List ℕ) (es : List (Bor (List ℕ) × X)) 
 lookup_seen q [] = refl
 lookup_seen q (e ∷ es) = ap (cond (bytes_eq q e.0.now) (Some e.1)) (lookup_seen q es)
 
-pub lookup_behind : {X : Type 0} (q : List ℕ) (xs ys : List (List ℕ × X)) → lookup (bytes_eq q) (xs ++ ys) ≡ option_or (lookup (bytes_eq q) xs) (lookup (bytes_eq q) ys)
-lookup_behind q [] ys = refl
-lookup_behind q (x ∷ xs) ys = step (bytes_eq q x.0) x.1 (lookup (bytes_eq q) (xs ++ ys)) (lookup (bytes_eq q) xs) (lookup (bytes_eq q) ys) (lookup_behind q xs ys)
-  where
-    step : {B : Type 0} (b : Bool) (v : B) (all front back : Option B) → all ≡ option_or front back → cond b (Some v) all ≡ option_or (cond b (Some v) front) back
-    step true v all front back h = refl
-    step false v all front back h = h
-
 pub or_none : {X : Type 0} (o : Option X) → o ≡ option_or o None
 or_none None = refl
 or_none (Some x) = refl

@@ -54,30 +54,9 @@ code_part (Ok content) l syllables entries own code e o h =
     ∙ ap (λ (es : List ℕ). Ok (asm.CodePart (record { level = l; entries = es; code = code }))) (ap (map asm.place_bits) listed ∙ sym o)
 code_part (Err refusal) l syllables entries own code e o h = absurd (let z : ⊥ = cc in z)
 
-code_bad : (answer : Result asm.Content Refusal) (l : ℕ) (refusal : Refusal) → put_behind [] answer ≡ Err refusal → (answer >>= λ content. Ok (asm.CodePart (record { level = l; entries = map asm.place_bits content.entries; code = code_of content.operators }))) ≡ Err refusal
-code_bad (Ok content) l refusal e = absurd (let z : ⊥ = cc in z)
-code_bad (Err other) l refusal e = let same : other ≡ refusal = cc in ap Err same
-
 pub segment_ok : (names : asm.Names) (segments s r number l : ℕ) (name : List ℕ) (level : Option ℕ) (lines : List Line) (syllables entries own code : List ℕ) → segment_head names s r name level lines ≡ Ok l → put_behind [] (asm.content_of (scope_at names segments l lines) 0 [] lines) ≡ Ok (syllables, entries) → own ≡ map asm.place_bits entries → code ≡ packed syllables → asm.segment_part names segments s r number name level lines ≡ Ok (asm.CodePart (record { level = l; entries = own; code = code }))
 segment_ok names segments s r number l name level lines syllables entries own code head e o h =
     segment_is names segments s r number name level lines ∙ ap (λ (a : Answer ℕ). of_card number a >>= segment_rest names segments lines) head ∙ code_part (asm.content_of (scope_at names segments l lines) 0 [] lines) l syllables entries own code e o h
-
-pub segment_bad : (names : asm.Names) (segments s r number l : ℕ) (name : List ℕ) (level : Option ℕ) (lines : List Line) (refusal : Refusal) → segment_head names s r name level lines ≡ Ok l → put_behind [] (asm.content_of (scope_at names segments l lines) 0 [] lines) ≡ Err refusal → asm.segment_part names segments s r number name level lines ≡ Err refusal
-segment_bad names segments s r number l name level lines refusal head e =
-    segment_is names segments s r number name level lines ∙ ap (λ (a : Answer ℕ). of_card number a >>= segment_rest names segments lines) head ∙ code_bad (asm.content_of (scope_at names segments l lines) 0 [] lines) l refusal e
-
-pub segment_head_bad : (names : asm.Names) (segments s r number reason : ℕ) (name : List ℕ) (level : Option ℕ) (lines : List Line) → segment_head names s r name level lines ≡ Err reason → asm.segment_part names segments s r number name level lines ≡ Err (record { card = number; reason = reason })
-segment_head_bad names segments s r number reason name level lines head =
-    segment_is names segments s r number name level lines ∙ ap (λ (a : Answer ℕ). of_card number a >>= segment_rest names segments lines) head
-
-pub row_ok : (names : asm.Names) (s r number : ℕ) (name : List ℕ) (lines : List Line) (words : List ℕ) → row_head names s r name lines ≡ Ok tt → asm.row_words names 0 lines ≡ Ok words → asm.row_part names s r number name lines ≡ Ok (asm.RowPart words)
-row_ok names s r number name lines words head e = row_is names s r number name lines ∙ rw (head, e) refl
-
-pub row_bad : (names : asm.Names) (s r number : ℕ) (name : List ℕ) (lines : List Line) (refusal : Refusal) → row_head names s r name lines ≡ Ok tt → asm.row_words names 0 lines ≡ Err refusal → asm.row_part names s r number name lines ≡ Err refusal
-row_bad names s r number name lines refusal head e = row_is names s r number name lines ∙ rw (head, e) refl
-
-pub row_head_bad : (names : asm.Names) (s r number reason : ℕ) (name : List ℕ) (lines : List Line) → row_head names s r name lines ≡ Err reason → asm.row_part names s r number name lines ≡ Err (record { card = number; reason = reason })
-row_head_bad names s r number reason name lines head = row_is names s r number name lines ∙ rw head refl
 
 pub any_some : {A : Type 0} (p : A → Bool) (xs : List A) → list_any p xs ≡ true → 1 ≤ length xs
 any_some p [] e = absurd cc

@@ -82,9 +82,6 @@ one_held_behind held now labels (l ∷ more) all item lines some is o begins one
 pub none_held : (held : List Labels) (l : Line) (more all : List Line) → HeldSoFar held (l ∷ more) all → begins_segment l.says ≡ false → HeldSoFar held more all
 none_held held l more all h begins = (h.0, h.1, ap (λ (rest : List (List Line)). h.0 ++ rest) (sym (not_begun l.says (own more) (cards_of_segments more) begins)) ∙ h.2)
 
-pub all_held : (held : List Labels) (all : List Line) → HeldSoFar held [] all → HoldLabels held (cards_of_segments all)
-all_held held all h = subst (HoldLabels held) (sym (append-nil h.0) ∙ h.2) h.1
-
 -- a label's syllable is that of the segment's own cards
 pub syllable_is : (held : List Labels) (cards : List (List Line)) (n : ℕ) (q : List ℕ) → HoldLabels held cards → syllable_of (slice_get held n) q ≡ meaning (labels 0 (unwrap_or (slice_get cards n) [])) q
 syllable_is [] [] n q h = refl

@@ -17,9 +17,6 @@ mark-false xs i e = cond-false (get_or xs i false) 1 0 e
 pub mark-is : (xs : List Bool) (i : ℕ) → (mark xs i ≡ 0) ⊎ (mark xs i ≡ 1)
 mark-is xs i = ⊎_elim (λ e. inr (mark-true xs i e)) (λ e. inl (mark-false xs i e)) (cases_Bool (get_or xs i false))
 
-pub marked-true : (xs : List Bool) (i : ℕ) → mark xs i ≡ 1 → get_or xs i false ≡ true
-marked-true xs i m = ⊎_elim (λ e. e) (λ e. absurd (omega (arith, mark-false xs i e))) (cases_Bool (get_or xs i false))
-
 pub mark-past : (xs : List Bool) (i : ℕ) → length xs ≤ i → mark xs i ≡ 0
 mark-past xs i le = mark-false xs i (get_or_past xs i false le)
 
@@ -64,17 +61,6 @@ pub record Walking (links : List ℕ) (c at : ℕ) (old now : List Bool) : Type 
   pub many : length now ≡ length old
   pub low : 1 ≤ at
   pub high : at ≤ length links
-
-pub walking_first : (links : List ℕ) (c : ℕ) (old : List Bool) → 1 ≤ c → c ≤ length links → Walking links c c old old
-walking_first links c old low high = record {
-  before = [];
-  marks = λ i. omega arith;
-  on = λ ys r. (ys, refl, r);
-  back = λ cs r. (cs, refl, r);
-  many = refl;
-  low = low;
-  high = high;
-}
 
 once_more : (links : List ℕ) (c at : ℕ) (old now : List Bool) (w : Walking links c at old now) → at < length now → mark now at ≡ 0 → (i : ℕ) → mark (slice_set now at true) i ≡ mark old i + times i (w.before ++ at ∷ [])
 once_more links c at old now w lt z i = omega (arith, mark-more now at i lt z, w.marks i, times-append i w.before (at ∷ []))

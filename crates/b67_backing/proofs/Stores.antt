@@ -140,22 +140,6 @@ storing_all holds links k n j at ns old now e long s = by_rest s.rest s.ahead s.
         (y, there, record { same = w.same; holds = w.missing y (same_but-refl [] y) (omega arith) });
   }
 
--- the other sectors, also where the next write fails
-pub storing_others : {D : Type 0} (holds : D → Option (List (List ℕ))) (links k : List ℕ) (n j at : ℕ) (ns : List ℕ) (old now : D) → Storing holds links k n j at ns old now → Changes holds old now (SameBut k)
-storing_others holds links k n j at ns old now s = record { told = λ x is. let (y, there, w) = s.changed.told x is in (y, there, w.same) }
-
-pub storing_failed : {D : Type 0} (holds : D → Option (List (List ℕ))) (links k : List ℕ) (n j at : ℕ) (ns : List ℕ) (old now new : D) → j < n → Storing holds links k n j at ns old now → Changes holds now new (SameBut (at ∷ [])) → Changes holds old new (SameBut k)
-storing_failed holds links k n j at ns old now new h s w = by_rest s.rest s.ahead s.changed where
-  by_rest : (rest : List ℕ) → Ahead links k n j at rest → Changes holds old now (Written k rest (30 * j) ns) → Changes holds old new (SameBut k)
-  by_rest [] a ch = absurd (omega (arith, a.many))
-  by_rest (c ∷ cs) a ch = record {
-    told = λ x e.
-        let (y, is, wr) = ch.told x e in
-        let (z, new_is, st) = w.told y is in
-        let same : SameBut (c ∷ []) y z = subst (λ (i : ℕ). SameBut (i ∷ []) y z) a.at_is st in
-        (z, new_is, record { count = same.count ∙ wr.same.count; others = λ m pos t. same.others m pos (one_head m c cs (a.inside m t)) ∙ wr.same.others m pos t });
-  }
-
 -- a count that rose at a turn or before it
 pub counts_next : {D : Type 0} (calls : D → ℕ) (old now new : D) → calls old ≤ calls now → Counts calls now new → Counts calls old new
 counts_next calls old now new l c = record { later = omega (arith, c.later); rose = omega (arith, c.rose) }
@@ -212,10 +196,6 @@ restoring_next holds links k n j from next tag words at core after m buf old now
               subst (λ (q : ℕ). Given tag words at after k cs q x) p (given_next tag words at core after k c cs (30 * j) m buf x e there v out (g.told x is));
         };
       }
-
--- all is read
-pub restoring_all : {D : Type 0} (holds : D → Option (List (List ℕ))) (links k : List ℕ) (n j from tag words at : ℕ) (core : List Tagged) (old now : D) → words ≤ 30 * j → Restoring holds links k n j from tag words at core old now → Tells holds old (λ all. (ns : List ℕ) → length ns ≡ words → Holds all k 0 ns → (i : ℕ) → i < words → slice_get core (at + i) ≡ option_map (under tag) (slice_get ns i))
-restoring_all holds links k n j from tag words at core old now low s = record { told = λ x is ns long h i inside. (s.given.told x is ns long h).1 i (omega arith) inside }
 
 pub becomes_next : {D A : Type 0} (tell : D → Option A) (old now new : D) → Becomes tell old now (λ all. all) → Becomes tell now new (λ all. all) → Becomes tell old new (λ all. all)
 becomes_next tell old now new a b = record { told = λ x e. b.told x (a.told x e) }

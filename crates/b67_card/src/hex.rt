@@ -18,8 +18,8 @@ fn hex_digit(b: u8) -> Option<u8>
     }
 }
 
-// The value of a digit, 0 of another character.
-fn digit_value(b: u8) -> u8
+/// The value of a hexadecimal digit, 0 of another character.
+pub fn digit_value(b: u8) -> u8
     ensures exact { result ≡ digit_value b }
     ensures small { result ≤ 15 }
 {
@@ -35,7 +35,8 @@ fn is_hex_digit(b: u8) -> bool
     hex_digit(b).is_some()
 }
 
-fn are_hex_digits(text: &[u8]) -> bool
+/// Whether all characters of a text are hexadecimal digits.
+pub fn are_hex_digits(text: &[u8]) -> bool
     ensures { result ≡ list_all (λ b. is_some (hex_digit b)) text.now }
 {
     text.iter().all(|b| is_hex_digit(*b))

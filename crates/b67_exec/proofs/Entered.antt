@@ -50,9 +50,6 @@ module _ {core : List Tagged} {r : Regs} (a : RunningContext core r) (q : Place)
   found_by (end.Array original) f segment level place i = absurd i
   found_by (end.Intrinsic n) f segment level place i = absurd i
 
-  pub found_proc : (found : End) (e : Answer Chase.End) (f segment level : ℕ) (place : Place) → e ≡ Ok (AtProc f segment level place) → EndMeets a q (Ok found) e → (cell : ℕ) × (found ≡ end.Proc cell) × IsProcAt a q cell f segment level place
-  found_proc found e f segment level place is i = let P : Answer Chase.End → Type 0 = λ z. EndMeets a q (Ok found) z in found_by found f segment level place (subst P is i)
-
   pub no_fault : (fault : Fault) (e : Answer Chase.End) (f segment level : ℕ) (place : Place) → e ≡ Ok (AtProc f segment level place) → EndMeets a q (Err fault) e → ⊥
   no_fault fault e f segment level place is i = let P : Answer Chase.End → Type 0 = λ z. EndMeets a q (Err fault) z in subst P is i
 

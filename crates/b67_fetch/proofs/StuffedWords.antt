@@ -74,9 +74,6 @@ module _ (x : Storage) (cpu : Cpu) (plan : Placement) (s : Session) (m : Session
           let N : Couple → Answer (ℕ × ℕ) = λ z. named (here m t q) z in
           ap (place_of (here m t q)) named_word ∙ ap N (sym (split ∙ ap (couple name.couple) (level_is cpu.core cpu.regs (here_scene x cpu plan s m t ordered h runs))))
 
-      stuff_at : Answer (ℕ × ℕ) → Answer Word
-      stuff_at p = p >>= λ at. cell (here m t q) at.0 at.1 >>= λ v. Ok (Ref at.0 at.1)
-
       word_is : stff_word (here m t q) top.word ≡ (named (here m t q) c >>= λ at. cell (here m t q) at.0 at.1 >>= λ v. Ok (Ref at.0 at.1))
       word_is =
           let named_is : stff_word (here m t q) top.word ≡ (place_of (here m t q) (Name name.couple) >>= λ at. cell (here m t q) at.0 at.1 >>= λ v. Ok (Ref at.0 at.1)) = ap (stff_word (here m t q)) named_word in
@@ -101,9 +98,6 @@ module _ (x : Storage) (cpu : Cpu) (plan : Placement) (s : Session) (m : Session
           let z = subst F (named_above cpu.core cpu.regs (here_scene x cpu plan s m t ordered h runs) q cpu.display (here_shown x cpu plan s m t ordered h runs) c high) i in let b : ⊥ = cc in b))
           (λ (low : c.level ≤ cpu.regs.level). low)
           (cases_lt cpu.regs.level c.level)
-
-      abbrev pub frame_of : ℕ
-      frame_of = (frame_at (here m t q) c.level).identity
 
       pub frame_named : c.level ≤ cpu.regs.level → NamesEntered (reach_of m.progress.job t) (frame_at (here m t q) c.level).identity × (get_or cpu.display c.level 0 ≡ frame_address plan m t (frame_at (here m t q) c.level).identity)
       frame_named low = (

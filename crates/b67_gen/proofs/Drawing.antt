@@ -9,11 +9,6 @@ pub record DrawsLengths (first : ℕ) (front : List ℕ) (count i x : ℕ) : Typ
   pub all : front ++ lengths (count - i) x ≡ lengths count first
   pub state : after_draws (count - i) x ≡ after_draws count first
 
-pub lengths_begin : (first count : ℕ) → DrawsLengths first [] count 0 first
-lengths_begin first count =
-    let e : count - 0 ≡ count = omega arith in
-    record { all = ap (λ n. lengths n first) e; state = ap (λ n. after_draws n first) e }
-
 pub lengths_go_on : (first : ℕ) (front : List ℕ) (count i x : ℕ) → i < count → DrawsLengths first front count i x → DrawsLengths first (front ++ (50 + below 200 (drawn x)) ∷ []) count (i + 1) (drawn x)
 lengths_go_on first front count i x lt d =
     let k : count - i ≡ suc (count - (i + 1)) = omega (arith, lt) in
@@ -31,11 +26,6 @@ lengths_end first front count i x le d =
 -- the same of stores
 pub record DrawsStores (arrays : List ℕ) (first : ℕ) (front : List Store) (count i x : ℕ) : Type 0 where
   pub all : front ++ stores arrays (count - i) x ≡ stores arrays count first
-
-pub stores_begin : (arrays : List ℕ) (first count : ℕ) → DrawsStores arrays first [] count 0 first
-stores_begin arrays first count =
-    let e : count - 0 ≡ count = omega arith in
-    record { all = ap (λ n. stores arrays n first) e }
 
 pub stores_go_on : (arrays : List ℕ) (first : ℕ) (front : List Store) (count i x : ℕ) → i < count → DrawsStores arrays first front count i x → DrawsStores arrays first (front ++ store arrays x ∷ []) count (i + 1) (after_draws 3 x)
 stores_go_on arrays first front count i x lt d =

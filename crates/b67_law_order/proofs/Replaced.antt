@@ -179,10 +179,6 @@ module _ (P : Starts) (constants : JobConstants) (job : Job) (old : Task) (job' 
     ]
   ]
 
-  new_live : Has job'.tasks new
-  new_live = let e : keyed (λ t. t.number) old.number job'.tasks ≡ Some new = rw r.tasks (change_found (λ (t : Task). t.number) old.number old new job.tasks r.number found) in
-      (keyed_has (λ t. t.number) old.number job'.tasks new e).0
-
   pub outer_kept : Alike (outer_of job old) (outer_of job' new)
   outer_kept =
       let outer : Alike (outer_of job old) (outer_reach job' old.critical old.parents) = outer_alike job job' (λ n. Unit {0}) follows births old old_live old.parents refl (λ n h. tt) in

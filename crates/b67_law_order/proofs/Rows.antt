@@ -185,8 +185,6 @@ module _ (P : Starts) (h : OperatorContext) where
   entr_good run next (Entered level environment back) e = post_err (Keeps P h) _
 
 module _ (P : Starts) (h : OperatorContext) (start : Run P (branches h h.at)) (next : h.job.next_task < 2 ^ 48) where
-  abbrev AtStart : Type 0
-  AtStart = P h.task.segment (level_of_frame (running h.task.frames)) h.at
 
   -- the operators after which the next one may follow
   on_good : (code : Code) → AfterFits P h (Plain code) → may_be_last (Plain code) ≡ false → Run P h

@@ -1,30 +1,12 @@
 -- A task's frames as activation records: what a change of the top frame makes of them. All of it computes.
-use Rattle.std.proofs.Common.{◌≡◌, ℕ, suc, List, [], ◌∷◌, map, refl, sym, ap, arith}
+use Rattle.std.proofs.Common.{◌≡◌, ℕ, suc, List, [], ◌∷◌, refl, sym, ap, arith}
 use Rattle.std.proofs.lemmas.List.{length-map}
-use Rattle.b67_model.specs.Common.{Word, Standing, Frame, Job, head_words, words_of, height, level_of_standing, level_of_frame, running_from, running}
+use Rattle.b67_model.specs.Common.{Standing, Frame, Job, head_words, words_of, height, level_of_standing, level_of_frame, running_from, running}
 use Rattle.b67_model.specs.State as State
-use Rattle.b67_stack.specs.Common.{StackPlace, head_size, top_size, stack_words, running_level, level_from, with_cells, top_cells, below_top, new_mark}
+use Rattle.b67_stack.specs.Common.{StackPlace, head_size, top_size, stack_words, running_level, level_from}
 use Rattle.b67_layout.specs.Common.{Placement, spot_in, shape, head, activations}
 
 module _ (plan : Placement) (j : ℕ) (job : Job) (k : ℕ) (outer : ℕ → StackPlace) where
-  -- other cells on the top frame
-  pub activations-cells : (f : Frame) (below : List Frame) (cells : List Word)
-      → activations plan j job k outer (record f { cells = cells } ∷ below) ≡ with_cells (activations plan j job k outer (f ∷ below)) (map (shape plan j job (spot_in k outer (f ∷ below))) cells)
-  activations-cells f below cells = refl
-
-  -- a word more
-  pub activations-push : (f : Frame) (below : List Frame) (w : Word) → let old = activations plan j job k outer (f ∷ below) in
-      activations plan j job k outer (record f { cells = w ∷ f.cells } ∷ below) ≡ with_cells old (shape plan j job (spot_in k outer (f ∷ below)) w ∷ top_cells old)
-  activations-push f below w = refl
-
-  -- a mark more
-  pub activations-mark : (identity : ℕ) (fs : List Frame)
-      → activations plan j job k outer (record { identity = identity; standing = State.Marked; cells = [] } ∷ fs) ≡ new_mark ∷ activations plan j job k outer fs
-  activations-mark identity fs = refl
-
-  -- a frame less
-  pub activations-cut : (f : Frame) (below : List Frame) → below_top (activations plan j job k outer (f ∷ below)) ≡ activations plan j job k outer below
-  activations-cut f below = refl
 
   head_size-head : (spot : ℕ → StackPlace) (s : Standing) → head_size (head spot s) ≡ head_words s
   head_size-head spot State.Marked = refl

@@ -13,7 +13,7 @@ use Rattle.b67_layout_step.proofs.OtherNumbers.{others_in_order}
 use Rattle.b67_model.specs.Words as Words
 use Rattle.b67_model.specs.Keyed.{keyed}
 use Rattle.b67_stack.specs.Common.{Shape, Copy, StackPlace, Activation, stack_words, PagedObject, Slot, Running, Waiting, MachineView, slot_base, stack_of, NoOriginalAboveTop, renumber, renumbered}
-use Rattle.b67_layout.proofs.Alike.{AllAlike, outer_same}
+use Rattle.b67_layout.proofs.Alike.{outer_same}
 use Rattle.b67_area.specs.declared.kinds.Kind.TheVariants as kind
 
 -- the segments of a dictionary, from number n on, with other code in that of a home
@@ -186,11 +186,6 @@ module _ (plan : Placement) (home : ℕ) (ns : List ℕ) (jobs : List SessionJob
 recoded_count : (plan : Placement) (j home : ℕ) (ns : List ℕ) (n : ℕ) (segments : List Segment) → length (recoded plan j home ns n segments) ≡ length segments
 recoded_count plan j home ns n [] = refl
 recoded_count plan j home ns n (s ∷ more) = ap suc (recoded_count plan j home ns (n + 1) more)
-
-pub alike_renumbered : (plan : Placement) (home : ℕ) (ns : List ℕ) (jobs : List SessionJob) → AllAlike jobs (map (member_with plan home ns) jobs)
-alike_renumbered plan home ns [] = tt
-alike_renumbered plan home ns (m ∷ more) =
-    (record { number = refl; stack_size = refl; dictionary = refl; count = recoded_count plan m.constants.number home ns 1 m.constants.segments; tasks = refl }, alike_renumbered plan home ns more)
 
 module _ (plan : Placement) (home : ℕ) (ns : List ℕ) (bits : AllByRecursion (λ (n : ℕ). n < 2 ^ 48) ns) where
   recoded_other : (j n : ℕ) (segments : List Segment) → AllByRecursion SegmentInOrder segments → Fitting home ns (code_objects plan j n segments) → Recoded segments (recoded plan j home ns n segments)

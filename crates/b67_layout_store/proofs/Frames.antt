@@ -113,13 +113,6 @@ module _ (id i : ℕ) (w : Word) where
       (λ (t : (f.identity == id) ≡ false). (let m : 0 + frames_named id fs ≡ 0 = rw t at n in rw t (ap (λ gs. f ∷ gs) (put_none fs (omega (arith, m))))))
       (cases_Bool (f.identity == id))
 
-  pub put_identities : (fs : List Frame) → identities (put_frames id i w fs) ≡ identities fs
-  put_identities [] = refl
-  put_identities (f ∷ fs) = ⊎_elim
-      (λ (t : (f.identity == id) ≡ true). rw t refl)
-      (λ (t : (f.identity == id) ≡ false). rw t (ap (λ ks. f.identity ∷ ks) (put_identities fs)))
-      (cases_Bool (f.identity == id))
-
   module _ (plan : Placement) (j : ℕ) (job : Job) (k : ℕ) (outer : ℕ → StackPlace) where
     entered_size : (spot : ℕ → StackPlace) (s : Standing) → IsEntered s → head_size (head spot s) ≡ 2
     entered_size spot State.Marked e = absurd e

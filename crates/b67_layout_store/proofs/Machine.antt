@@ -78,10 +78,6 @@ module _ (x : Storage) (old : Cpu) (plan : Placement) (s : Session) (m : Session
   same : (k : ℕ) → k ≤ x.low → slice_get (slice_set old.core (b + i) (word 0 v)) k ≡ slice_get old.core k
   same k down = slice_get-set_other old.core (b + i) k (word 0 v) (λ z. omega (arith, z, down, above))
 
-  -- the view
-  old_machine_view : MachineView
-  old_machine_view = machine_view plan s.jobs
-
   machine_view_is : machine_view plan (with_course s.jobs m.constants.number (record m.progress { job = with_element m.progress.job a.identity i v })) ≡ record (machine_view plan s.jobs) { objects = flat_map (objects_of plan) (with_course s.jobs m.constants.number (record m.progress { job = with_element m.progress.job a.identity i v })) }
   machine_view_is =
       let F : (ℕ → Slot) → MachineView = λ slots. record { stacks = plan.stacks; size = plan.size; peak = plan.peak; slots = slots; objects = flat_map (objects_of plan) jobs' } in

@@ -1,18 +1,14 @@
--- Whose frame it is that the running task names, and where it lies in its task's stack.
+-- Whose frame it is that a live task names, and where it lies in its task's stack.
 use Rattle.std.proofs.Common.{◌≡◌, ◌≢◌, ℕ, ◌+◌, ◌<◌, ◌≤◌, List, [], ◌∷◌, ◌++◌, map, Option, Some, refl, sym, ◌∙◌, ap, arith, true, false, ◌==◌, ⊎_elim, inl, inr, subst}
 use Rattle.std.proofs.lemmas.Bool.{cases_Bool, eq-eqb, ne_eqb}
-use Rattle.b67_word.specs.Tagged.{Tagged}
-use Rattle.b67_ctl.specs.declared.registers.Regs.{Regs}
 use Rattle.b67_lemmas.specs.Lists.{Has, Falls, total}
-use Rattle.b67_lemmas.proofs.Members.{falls_low, has_append_cases, has_append_right, has_map, keyed_has, total_has}
+use Rattle.b67_lemmas.proofs.Members.{all_in, falls_low, has_append_cases, has_append_right, has_map, keyed_has, total_has}
 use Rattle.b67_model.specs.Keyed.{keyed}
-use Rattle.b67_model.specs.Common.{Frame, Standing, Task, height, Known, known_of, known_numbers, identities, from_frame, frames_of_task, critical_of, base, outer_reach, outer_of, reach_of, NamesEntered, ParentInOrder, BirthInOrder, frames_named}
+use Rattle.b67_model.specs.Common.{Frame, Standing, Task, Job, JobConstants, height, IsSegment, Known, known_of, known_numbers, identities, from_frame, frames_of_task, critical_of, base, outer_reach, outer_of, reach_of, NamesEntered, ParentInOrder, BirthInOrder, TaskInOrder, TasksInOrder, frames_named}
 use Rattle.b67_law_order.proofs.Replaced.{numbers_append}
 use Rattle.b67_stack.specs.Stacks.{StackPlace}
-use Rattle.b67_layout.specs.Placement.{slot_of, spot_in, outer_spots, spots}
+use Rattle.b67_layout.specs.Placement.{Placement, slot_of, spot_in, outer_spots, spots}
 use Rattle.b67_layout.proofs.Fresh.{has-number}
-use Rattle.b67_refer.specs.RunningContext.{RunningContext, live_of}
-use Rattle.b67_refer.proofs.Seats.{order_of, has_task}
 use Rattle.b67_layout_store.proofs.Frames.{frames_under}
 
 identity_has : (fs : List Frame) (id : ℕ) (s : Standing) → Has (map known_of fs) (id, s) → Has (identities fs) id
@@ -68,32 +64,34 @@ no_base id s (inl e) high = omega (arith, ap (λ (q : Known). q.0) e, high)
 no_base id s (inr (inl e)) high = omega (arith, ap (λ (q : Known). q.0) e, high)
 no_base id s (inr (inr z)) high = z
 
-module _ (core : List Tagged) (r : Regs) (a : RunningContext core r) where
+module _ (plan : Placement) (constants : JobConstants) (job : Job) (ordered : TasksInOrder (IsSegment constants) constants job) where
+  order_of : (u : Task) → Has job.tasks u → TaskInOrder (IsSegment constants) constants job u
+  order_of u h = all_in (TaskInOrder (IsSegment constants) constants job) job.tasks u ordered.tasks h
+
   pub record OwnerAt (view : ℕ → StackPlace) (id : ℕ) : Type 0 where
     pub task : Task
-    pub there : keyed (λ (v : Task). v.number) task.number a.member.progress.job.tasks ≡ Some task
+    pub there : keyed (λ (v : Task). v.number) task.number job.tasks ≡ Some task
     pub has : Has (identities task.frames) id
-    pub spot : view id ≡ record { stack = slot_of a.plan a.member.constants.number task.number; disp = height (frames_under id task.frames) }
+    pub spot : view id ≡ record { stack = slot_of plan constants.number task.number; disp = height (frames_under id task.frames) }
 
-  owner_outer : (u : Task) → Has a.member.progress.job.tasks u → (parents : List ℕ) → u.parents ≡ parents → (id : ℕ) (s : Standing) → 1 < id
-      → Has (outer_reach a.member.progress.job u.critical parents) (id, s) → OwnerAt (outer_spots a.plan a.member.constants.number a.member.progress.job u.critical parents) id
+  owner_outer : (u : Task) → Has job.tasks u → (parents : List ℕ) → u.parents ≡ parents → (id : ℕ) (s : Standing) → 1 < id
+      → Has (outer_reach job u.critical parents) (id, s) → OwnerAt (outer_spots plan constants.number job u.critical parents) id
   owner_outer u here [] line id s high h = absurd (no_base id s h high)
   owner_outer u here (n ∷ more) line id s high h =
-      let job = a.member.progress.job in
-      let birth : ParentInOrder job u n more = subst (BirthInOrder job u) line (order_of core r (live_of a) u here).birth in
+      let birth : ParentInOrder job u n more = subst (BirthInOrder job u) line (order_of u here).birth in
       let q = birth.parent in
       let at = keyed_has (λ (v : Task). v.number) n job.tasks q birth.found in
       let found : keyed (λ (v : Task). v.number) q.number job.tasks ≡ Some q = subst (λ (i : ℕ). keyed (λ (v : Task). v.number) i job.tasks ≡ Some q) (sym at.1) birth.found in
-      let k = slot_of a.plan a.member.constants.number q.number in
-      let slot_is : slot_of a.plan a.member.constants.number n ≡ k = ap (slot_of a.plan a.member.constants.number) (sym at.1) in
+      let k = slot_of plan constants.number q.number in
+      let slot_is : slot_of plan constants.number n ≡ k = ap (slot_of plan constants.number) (sym at.1) in
       let known = outer_reach job q.critical more in
-      let outer = outer_spots a.plan a.member.constants.number job q.critical more in
-      let falls : Falls job.next_frame (known_numbers (map known_of q.frames ++ known)) = subst (λ (ps : List ℕ). Falls job.next_frame (known_numbers (map known_of q.frames ++ outer_reach job q.critical ps))) birth.line (order_of core r (live_of a) q at.0).falls in
+      let outer = outer_spots plan constants.number job q.critical more in
+      let falls : Falls job.next_frame (known_numbers (map known_of q.frames ++ known)) = subst (λ (ps : List ℕ). Falls job.next_frame (known_numbers (map known_of q.frames ++ outer_reach job q.critical ps))) birth.line (order_of q at.0).falls in
       let fs = from_frame u.critical q.frames in
       let h' : Has (map known_of fs ++ known) (id, s) = rw birth.found at h in
-      let F : Option Task → ℕ → Type 0 = λ v i. OwnerAt (λ g. spot_in i (outer_spots a.plan a.member.constants.number job (critical_of v) more) (from_frame u.critical (frames_of_task v)) g) id in
+      let F : Option Task → ℕ → Type 0 = λ v i. OwnerAt (λ g. spot_in i (outer_spots plan constants.number job (critical_of v) more) (from_frame u.critical (frames_of_task v)) g) id in
       let G : ℕ → Type 0 = λ i. F (Some q) i in
-      let H : Option Task → Type 0 = λ v. F v (slot_of a.plan a.member.constants.number n) in
+      let H : Option Task → Type 0 = λ v. F v (slot_of plan constants.number n) in
       let result : OwnerAt (λ g. spot_in k outer fs g) id = ⊎_elim
       (λ m.
       (let inside = identity_has fs id s m in
@@ -111,18 +109,17 @@ module _ (core : List Tagged) (r : Regs) (a : RunningContext core r) where
       subst H (sym birth.found) (subst G (sym slot_is) result)
 
   -- the owner of a frame of a task that is named
-  pub owner : (id : ℕ) → NamesEntered (reach_of a.member.progress.job a.task) id → 1 < id → OwnerAt (spots a.plan a.member.constants.number a.member.progress.job a.task) id
-  owner id n high =
-      let job = a.member.progress.job in
-      let t = a.task in
-      let k = slot_of a.plan a.member.constants.number t.number in
-      let outer = outer_spots a.plan a.member.constants.number job t.critical t.parents in
-      let falls = (order_of core r (live_of a) t (has_task core r (live_of a))).falls in
+  pub owner : (t : Task) → keyed (λ (v : Task). v.number) t.number job.tasks ≡ Some t → (id : ℕ) → NamesEntered (reach_of job t) id → 1 < id → OwnerAt (spots plan constants.number job t) id
+  owner t live id n high =
+      let in_t : Has job.tasks t = (keyed_has (λ (v : Task). v.number) t.number job.tasks t live).0 in
+      let k = slot_of plan constants.number t.number in
+      let outer = outer_spots plan constants.number job t.critical t.parents in
+      let falls = (order_of t in_t).falls in
       ⊎_elim
       (λ m. (let inside = identity_has t.frames id n.standing m in
-      let o : OwnerAt (spots a.plan a.member.constants.number a.member.progress.job a.task) id = record { task = t; there = a.running.task; has = inside; spot = spot_under k outer t.frames id inside } in o))
-      (λ m. (let o = owner_outer t (has_task core r (live_of a)) t.parents refl id n.standing high m in
-      let p : OwnerAt (spots a.plan a.member.constants.number a.member.progress.job a.task) id = record { task = o.task; there = o.there; has = o.has; spot = apart job.next_frame t.frames (outer_of job t) id falls (has_map (λ (z : Known). z.0) (outer_of job t) (id, n.standing) m) k outer ∙ o.spot } in p))
+      let o : OwnerAt (spots plan constants.number job t) id = record { task = t; there = live; has = inside; spot = spot_under k outer t.frames id inside } in o))
+      (λ m. (let o = owner_outer t in_t t.parents refl id n.standing high m in
+      let p : OwnerAt (spots plan constants.number job t) id = record { task = o.task; there = o.there; has = o.has; spot = apart job.next_frame t.frames (outer_of job t) id falls (has_map (λ (z : Known). z.0) (outer_of job t) (id, n.standing) m) k outer ∙ o.spot } in p))
       (has_append_cases (map known_of t.frames) (outer_of job t) (id, n.standing) n.among)
 
 -- a frame's identity is one task's alone

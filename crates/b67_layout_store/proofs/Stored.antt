@@ -68,8 +68,8 @@ module _ (core : List Tagged) (r : Regs) (a : RunningContext core r) (q : Place)
       (cases_lt f 1)))
       (cases_lt 1 f)
 
-  pub own_of : OwnerAt core r a (spots a.plan a.member.constants.number a.member.progress.job a.task) f
-  own_of = owner core r a f here_at.names operand_own
+  pub own_of : OwnerAt a.plan a.member.constants a.member.progress.job a.ordered.tasks (spots a.plan a.member.constants.number a.member.progress.job a.task) f
+  own_of = owner a.plan a.member.constants a.member.progress.job a.ordered.tasks a.task a.running.task f here_at.names operand_own
 
   -- the frame that holds the cell, among its task's
   found_is : frame (here a.member a.task q) f ≡ frame_found f own_of.task.frames
@@ -140,7 +140,7 @@ module _ (x : Storage) (old : Cpu) (plan : Placement) (s : Session) (m : Session
     abbrev pub jobs' : List SessionJob
     jobs' = with_course s.jobs m.constants.number (record m.progress { job = put_job m.progress.job f (offset - 2) (Operand new_bits) })
 
-    u : OwnerAt old.core old.regs scene (spots plan m.constants.number m.progress.job t) f
+    u : OwnerAt plan m.constants m.progress.job scene.ordered.tasks (spots plan m.constants.number m.progress.job t) f
     u = own_of old.core old.regs scene q at f offset bits here_at
 
     has_m : Has s.jobs m

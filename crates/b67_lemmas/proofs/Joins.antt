@@ -1,9 +1,9 @@
 -- What holds of all items of a list, joined, turned and mapped.
-use Rattle.std.proofs.Common.{List, [], ◌∷◌, ◌++◌, reverse, sym, subst, map, ◌≡◌, inl, inr, ℕ, ◌<◌, ap, ◌∙◌}
+use Rattle.std.proofs.Common.{List, [], ◌∷◌, ◌++◌, reverse, sym, subst, map, ◌≡◌, ℕ, ◌<◌, ap, ◌∙◌}
 use Rattle.std.specs.List.{AllByRecursion}
 use Rattle.std.proofs.lemmas.List.{map-append}
 use Rattle.b67_lemmas.proofs.Members.{reverse_cons}
-use Rattle.b67_lemmas.specs.Lists.{Has, Falls}
+use Rattle.b67_lemmas.specs.Lists.{Falls}
 
 pub all_append : {A : Type 0} (P : A → Type 0) (xs ys : List A) → AllByRecursion P xs → AllByRecursion P ys → AllByRecursion P (xs ++ ys)
 all_append P [] ys h k = k
@@ -20,10 +20,6 @@ all_by P Q each (x ∷ xs) h = (each x h.0, all_by P Q each xs h.1)
 pub all_map : {A B : Type 0} (f : A → B) (P : B → Type 0) (xs : List A) → AllByRecursion (λ x. P (f x)) xs → AllByRecursion P (map f xs)
 all_map f P [] h = tt
 all_map f P (x ∷ xs) h = (h.0, all_map f P xs h.1)
-
-pub has_last : {A : Type 0} (xs : List A) (x y : A) → y ≡ x → Has (xs ++ y ∷ []) x
-has_last [] x y e = inl e
-has_last (z ∷ xs) x y e = inr (has_last xs x y e)
 
 -- one more number at the end, below all of them
 pub falls_last : (bound n : ℕ) (xs : List ℕ) → n < bound → Falls bound xs → AllByRecursion (λ m. n < m) xs → Falls bound (xs ++ n ∷ [])

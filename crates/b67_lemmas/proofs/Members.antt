@@ -175,13 +175,6 @@ total_has weight (y ∷ xs) x h = elim h [
   | inr m ↦ omega (arith, total_has weight xs x m)
 ]
 
-pub total_filter : {A : Type 0} (weight : A → ℕ) (p : A → Bool) (xs : List A) → total weight (filter p xs) ≤ total weight xs
-total_filter weight p [] = omega arith
-total_filter weight p (x ∷ xs) = elim (cases_Bool (p x)) [
-  | inl t ↦ rw t (omega (arith, total_filter weight p xs))
-  | inr t ↦ rw t (omega (arith, total_filter weight p xs))
-]
-
 -- an item whose number stands once is the one that is found
 pub keyed_once : {A : Type 0} (key : A → ℕ) (n : ℕ) (xs : List A) (x : A) → how_many (λ y. eqb (key y) n) xs ≤ 1 → Has xs x → key x ≡ n → keyed key n xs ≡ Some x
 keyed_once key n [] x few h k = absurd h
@@ -221,14 +214,6 @@ change_other key m n new (y ∷ ys) k ne = elim (eqb_tells (key y) n) [
 pub length_change : {A : Type 0} (key : A → ℕ) (n : ℕ) (new : A) (xs : List A) → length (change_keyed key n (λ y. new) xs) ≡ length xs
 length_change key n new [] = refl
 length_change key n new (y ∷ ys) = elim (eqb_tells (key y) n) [ inl t ↦ rw t.0 refl | inr t ↦ rw t.0 (ap suc (length_change key n new ys)) ]
-
-pub falls_append_right : (bound : ℕ) (xs ys : List ℕ) → Falls bound (xs ++ ys) → Falls bound ys
-falls_append_right bound [] ys f = f
-falls_append_right bound (x ∷ xs) ys f = falls_more x bound ys (omega (arith, f.0)) (falls_append_right x xs ys f.1)
-
-pub falls_append_left : (bound : ℕ) (xs ys : List ℕ) → Falls bound (xs ++ ys) → Falls bound xs
-falls_append_left bound [] ys f = tt
-falls_append_left bound (x ∷ xs) ys f = (f.0, falls_append_left x xs ys f.1)
 
 -- the front lies above what follows
 pub falls_above : (bound : ℕ) (xs ys : List ℕ) (x y : ℕ) → Falls bound (xs ++ ys) → Has xs x → Has ys y → y < x

@@ -31,11 +31,6 @@ total_before f (y ∷ xs) k zero x e h = absurd (omega arith)
 total_before f (y ∷ xs) zero (suc l) x e h = omega (arith, ap f (same_Some y x e))
 total_before f (y ∷ xs) (suc k) (suc l) x e h = omega (arith, total_before f xs k l x e (omega arith))
 
-pub total_next : {A : Type 0} (f : A → ℕ) (xs : List A) (k : ℕ) (x : A) → slice_get xs k ≡ Some x → total f (take (suc k) xs) ≡ total f (take k xs) + f x
-total_next f [] k x e = absurd (none-some x e)
-total_next f (y ∷ xs) zero x e = omega (arith, ap f (same_Some y x e))
-total_next f (y ∷ xs) (suc k) x e = omega (arith, total_next f xs k x e)
-
 pub total_within : {A : Type 0} (f : A → ℕ) (xs : List A) (k : ℕ) (x : A) → slice_get xs k ≡ Some x → total f (take k xs) + f x ≤ total f xs
 total_within f [] k x e = absurd (none-some x e)
 total_within f (y ∷ xs) zero x e = omega (arith, ap f (same_Some y x e))

@@ -1,5 +1,5 @@
 -- Chains among others, and chains that are taken one after the other.
-use Rattle.std.proofs.Common.{◌≡◌, ℕ, zero, suc, ◌+◌, ◌-◌, ◌<◌, ◌≤◌, ◌^◌, List, [], ◌∷◌, ◌++◌, length, take, drop, refl, sym, ◌∙◌, ap, subst, arith, inl, inr, ⊎_elim, if◌then◌else◌, ◌==◌, length-drop}
+use Rattle.std.proofs.Common.{◌≡◌, ℕ, zero, suc, ◌+◌, ◌-◌, ◌<◌, ◌≤◌, ◌^◌, List, [], ◌∷◌, ◌++◌, length, take, drop, refl, sym, ◌∙◌, ap, subst, arith, inl, inr, ⊎_elim, if◌then◌else◌, ◌==◌}
 use Rattle.std.proofs.lemmas.Bool.{cond-true, cond-false, eq-eqb, ne_eqb, cases_eq, cases_lt}
 use Rattle.std.proofs.lemmas.List.{take-append-drop}
 use Rattle.b67_backing.specs.Shelf.{Table, Shelf, HasChain, IsShelf, Linked, AreChains, one, times, uses, first, chain_of, taken}
@@ -8,7 +8,7 @@ use Rattle.b67_backing.proofs.Links.{Chain, chain_there, linked_within, rest, on
 use Rattle.b67_backing.proofs.News.{first_take}
 use Rattle.b67_lemmas.specs.Lists.{Has}
 use Rattle.b67_stack.specs.MachineView.{PagedObject}
-use Rattle.b67_load.specs.Objects.{sectors_of, sectors_of_objects}
+use Rattle.b67_load.specs.Objects.{sectors_of}
 use Rattle.b67_load.specs.Resting.{Resting, placed, stocked, KeepsChains}
 
 -- a chain's first sector is a sector's number
@@ -122,14 +122,6 @@ stocked-append (x ∷ xs) ys s = stocked-append xs ys (taken (sectors_of x) s)
 pub placed-append : (xs ys : List PagedObject) (s : Shelf) → placed (xs ++ ys) s.free ≡ placed xs s.free ++ placed ys (stocked xs s).free
 placed-append [] ys s = refl
 placed-append (x ∷ xs) ys s = ap (λ (r : List Resting). record { object = x; chain = take (sectors_of x) s.free } ∷ r) (placed-append xs ys (taken (sectors_of x) s))
-
-pub free-stocked : (xs : List PagedObject) (s : Shelf) → length (stocked xs s).free ≡ length s.free - sectors_of_objects xs
-free-stocked [] s = omega arith
-free-stocked (x ∷ xs) s = omega (arith, free-stocked xs (taken (sectors_of x) s), length-drop (sectors_of x) s.free)
-
-pub times-stocked : (m : ℕ) (xs : List PagedObject) (s : Shelf) → times m (stocked xs s).free ≤ times m s.free
-times-stocked m [] s = omega arith
-times-stocked m (x ∷ xs) s = omega (arith, times-stocked m xs (taken (sectors_of x) s), times-take_drop m (sectors_of x) s.free)
 
 pub old_chain : (xs : List PagedObject) (s : Shelf) (k : List ℕ) → Has s.chains k → Has (stocked xs s).chains k
 old_chain [] s k h = h

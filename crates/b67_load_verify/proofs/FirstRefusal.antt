@@ -18,7 +18,7 @@ use Rattle.b67_load_verify.specs.declared.fault.LoadFault.TheVariants.{Refused, 
 use Rattle.b67_load_verify.specs.declared.entry.Entry.{Entry}
 use Rattle.b67_load_verify.specs.Listing.{seen, CouplesFit}
 use Rattle.b67_load_verify.specs.Broken.{listed, rules_at, first_broken, FindsFirst}
-use Rattle.b67_load_verify.specs.Order.{ComesBefore, IsFirst}
+use Rattle.b67_load_verify.specs.Order.{ComesBefore}
 use Rattle.b67_load_verify.proofs.Starts.{place_of-seen}
 use Rattle.b67_load_verify.proofs.InOrder.{InSegment, own-segment, segments-later}
 use Rattle.b67_load_verify.proofs.Least.{has_all, first_before}
@@ -122,14 +122,6 @@ wrong-goes_on l entries i d lt start r =
     let one : wrong_entries l (drop i entries) ≡ wrong_entries l (drop (i + 1) entries) = wrong-step l entries i d lt ∙ rw start refl in
     record { refusals = sym one ∙ r.refusals }
 
-pub wrong-here : (l : Listed) (entries : List ℕ) (i d : ℕ) → i < length entries → is_start l.entries (place_of_bits (get_or entries i d)) ≡ false
-    → RemainsWrong l entries (drop i entries) → slice_get (wrong_entries l entries) 0 ≡ Some (refusal l.number (place_of_bits (get_or entries i d)) 11)
-wrong-here l entries i d lt start r =
-    ap (λ (x : List Refusal). slice_get x 0) (sym r.refusals ∙ wrong-step l entries i d lt) ∙ rw start refl
-
-pub wrong-done : (l : Listed) (entries : List ℕ) (i : ℕ) → length entries ≤ i → RemainsWrong l entries (drop i entries) → wrong_entries l entries ≡ []
-wrong-done l entries i le r = sym r.refusals ∙ ap (wrong_entries l) (drop_all i entries le)
-
 -- ---- segments
 
 -- what is refused of the segments from here on is what is refused of the program
@@ -173,7 +165,3 @@ segments-refuse X Y f n i segments s e lt is found h =
 
 pub segments-done : (f : Codefile) (n i : ℕ) (segments : List Segment) → length segments ≤ i → Segments (program_of f) n (drop i segments) → refusals (program_of f) ≡ []
 segments-done f n i segments le h = sym h.refusals ∙ ap (λ (rest : List Segment). refusals_from (program_of f) n (map segment_of rest)) (drop_all i segments le)
-
--- no segment: rule 10
-pub no_segments : (f : Codefile) → eqb (length f.segments) 0 ≡ true → IsFirst (refusals (program_of f)) (refusal 0 origin 10)
-no_segments f e = rw (length-map f.segments segment_of, e) (record { among = inl refl; least = (inl refl, tt) })

@@ -1,10 +1,10 @@
 -- The marks of a listing's starts, and its last entry.
-use Rattle.std.proofs.Common.{◌≡◌, ◌⊎◌, ℕ, zero, suc, ◌+◌, ◌-◌, ◌*◌, ◌<◌, Bool, true, false, eqb, ◌&&◌, ◌||◌, List, [], ◌∷◌, ◌++◌, length, map, get_or, set, take, replicate, Option, Some, Result, Ok, Err, refl, sym, ap, ◌∙◌, arith, inl, inr}
+use Rattle.std.proofs.Common.{◌≡◌, ◌⊎◌, ℕ, zero, suc, ◌+◌, ◌-◌, ◌*◌, ◌<◌, Bool, true, false, eqb, ◌&&◌, ◌||◌, List, [], ◌∷◌, ◌++◌, length, map, get_or, set, take, Option, Some, Result, Ok, Err, refl, sym, ap, ◌∙◌, arith, inl, inr}
 use Rattle.std.specs.Prelude.{slice_get}
 use Rattle.std.specs.Option.{option_map_or}
 use Rattle.std.specs.List.{AllByRecursion}
-use Rattle.std.proofs.lemmas.Bool.{cases_lt, cases_eq, ne_eqb, eq-eqb}
-use Rattle.std.proofs.lemmas.List.{get_or-set_same, get_or-set_other, get_or_past, get_or-replicate, length-replicate, length-set, map-append, take_more}
+use Rattle.std.proofs.lemmas.Bool.{cases_eq, ne_eqb, eq-eqb}
+use Rattle.std.proofs.lemmas.List.{get_or-set_same, get_or-set_other, length-set, map-append, take_more}
 use Rattle.std.proofs.lemmas.List.Folds.{list_any-append}
 use Rattle.b67_word.specs.declared.couples.Place.{Place}
 use Rattle.b67_model.specs.declared.operators.Op.{Op}
@@ -28,15 +28,6 @@ at_index P (x ∷ xs) zero d lt h = h.0
 at_index P (x ∷ xs) (suc i) d lt h = at_index P xs i d (omega arith) h.1
 
 -- ---- marks
-
-get_or-all : (n i : ℕ) (a : Bool) → get_or (replicate n a) i a ≡ a
-get_or-all n i a = elim (cases_lt i n) [
-  | inl lt ↦ get_or-replicate n i a a lt
-  | inr le ↦ get_or_past (replicate n a) i a (omega (arith, length-replicate n a))
-]
-
-pub no_marks : (n : ℕ) → Marks (replicate n false) []
-no_marks n = record { at = λ place small. get_or-all n (count_at place) false }
 
 same_place-count : (a b : Place) → a.syllable < 6 → b.syllable < 6 → same_place a b ≡ eqb (count_at a) (count_at b)
 same_place-count a b sa sb = elim (cases_eq (count_at a) (count_at b)) [

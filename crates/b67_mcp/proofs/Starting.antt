@@ -156,12 +156,6 @@ module _ (x : Storage) (told : Option (List (List ℕ))) (k : Machine) (plan : P
     stops_write new (space.BackingFull wants free) stop (sum, size, is, sums, size_is) w = let S : Stop → Type 0 = λ z. CallWrites x plan m t (Err z) in subst S (sym is) (inr (starts w))
     stops_write new space.BackingFault stop is w = let S : Stop → Type 0 = λ z. CallWrites x plan m t (Err z) in subst S (sym is) (inr (starts w))
 
--- no stop is the printer's, and the device's is its own
-pub stop_kind : (k : Machine) (fault : SpaceFault) (stop : Stop) → StopsFor k fault stop → stop ≢ stops.PrintFault
-stop_kind k (space.NoCore words size) stop is e = let z : stops.NoCore words size ≡ stops.PrintFault = sym is ∙ e in absurd cc
-stop_kind k (space.BackingFull wants free) stop (sum, size, is, sums, size_is) e = let z : stops.BackingFull sum size ≡ stops.PrintFault = sym is ∙ e in absurd cc
-stop_kind k space.BackingFault stop is e = let z : stops.BackingFault ≡ stops.PrintFault = sym is ∙ e in absurd cc
-
 pub stop_faults : (k : Machine) (fault : SpaceFault) (stop : Stop) → StopsFor k fault stop → stop ≡ stops.BackingFault → fault ≡ space.BackingFault
 stop_faults k (space.NoCore words size) stop is e = let z : stops.NoCore words size ≡ stops.BackingFault = sym is ∙ e in absurd cc
 stop_faults k (space.BackingFull wants free) stop (sum, size, is, sums, size_is) e = let z : stops.BackingFull sum size ≡ stops.BackingFault = sym is ∙ e in absurd cc

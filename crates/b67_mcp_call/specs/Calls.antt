@@ -1,15 +1,17 @@
 -- A call of an intrinsic: the marked activation record on top, with a reference and arguments in its cells.
-use Rattle.std.specs.Prelude.{◌≡◌, ◌≢◌, ℤ, false, List, [], ◌∷◌, length, reverse, Result, Ok, Err}
+use Rattle.std.specs.Prelude.{◌≡◌, ◌≢◌, ℕ, ℤ, false, List, [], ◌∷◌, length, reverse, Option, Result, Ok, Err}
 use Rattle.std.specs.List.{AllByRecursion}
 use Rattle.b67_word.specs.Tagged.{Tagged}
 use Rattle.b67_word.specs.declared.couples.Place.{Place}
 use Rattle.b67_word.specs.declared.faults.Fault.{Fault}
 use Rattle.b67_word.specs.declared.faults.Fault.TheVariants.{InvalidOperand}
-use Rattle.b67_model.specs.Common.{Answer, ◌>>=◌, Word, number, Marked, Task, Job, SessionJob, top, with_task, is_critical, is_original, answered}
+use Rattle.b67_model.specs.Common.{Answer, ◌>>=◌, Word, number, Marked, Task, Job, SessionJob, Session, top, with_task, is_critical, is_original, answered}
 use Rattle.b67_arith.specs.OnWords.{bits_in}
 use Rattle.b67_stack.specs.declared.Cpu.{Cpu}
 use Rattle.b67_stack.specs.Represents.{Storage}
 use Rattle.b67_layout.specs.Common.{Placement, RunsSome, here, GivesTop}
+use Rattle.b67_task_tables.specs.declared.tables.Machine.{Machine}
+use Rattle.b67_task_tables.specs.Runs.{RunsTask, ForEachRun}
 
 -- the cells of a call from the first one up: the reference and the arguments
 pub record IsCall (t : Task) (reference : Word) (arguments : List Word) : Type 0 where
@@ -47,3 +49,14 @@ OnlyCell x plan m t cpu cs (Err fault) = (length cs ≢ 2) × (fault ≡ Invalid
 -- the number of a word, if it is a whole operand
 abbrev pub number_in : Tagged → Answer ℤ
 number_in w = bits_in w >>= number
+
+-- the machine stands for some session in order, whose running task stands at the call of an intrinsic
+pub record StandsAtCall (k : Machine) : Type 0 where
+  pub runs : RunsTask k
+  pub reference : Word
+  pub arguments : List Word
+  pub call : IsCall runs.task reference arguments
+
+-- for each such session, with its running task and the arguments of the call
+abbrev pub ForCall : Machine → (Storage → Option (List (List ℕ)) → Placement → Session → SessionJob → Task → List Word → Type 0) → Type 0
+ForCall k P = ForEachRun k (λ x told plan s m t. (reference : Word) (arguments : List Word) → IsCall t reference arguments → P x told plan s m t arguments)

@@ -5,8 +5,7 @@ use Rattle.std.proofs.lemmas.List.{length-set, length-replicate}
 use Rattle.std.proofs.lemmas.Option.{none-some}
 use Rattle.b67_word.specs.Tagged.{Tagged}
 use Rattle.b67_core.proofs.Writes.{slice_get-set_same, slice_get-set_other}
-use Rattle.b67_area.specs.declared.Kind.{Kind}
-use Rattle.b67_area.specs.declared.Kind.TheVariants.{Array, Code}
+use Rattle.b67_area.specs.declared.Kind.TheVariants.{Array}
 use Rattle.b67_area.specs.Spans.{Span, without}
 use Rattle.b67_area.proofs.Climbs.{area_at-low}
 use Rattle.b67_area.proofs.Separation.{IsDirectory-set_below}
@@ -27,9 +26,6 @@ use Rattle.b67_mcp_lengths.proofs.Freeing.{of_left, no_zero_left, other_left}
 zeros : (n : ℕ) → AreZero (replicate n zero)
 zeros zero = tt
 zeros (suc n) = (refl, zeros n)
-
-array_no_code : (k : Kind) → k ≡ Array → k ≢ Code
-array_no_code k e z = let b : Array ≡ Code = sym e ∙ z in let f : ⊥ = cc in f
 
 module _ (x : Storage) (core : List Tagged) (r : Regs) (p : MachineView) (s : Represents x core r p) (t : PagedObject) (int : Has p.objects t) (array : t.kind ≡ Array) (table : Table) (sh : IsShelf table x.shelf)
     (objects : List PagedObject) (re : TakesPlace p.objects objects t (zeroed t)) where

@@ -16,7 +16,6 @@ use Rattle.b67_stack.specs.Represents.{Storage}
 use Rattle.b67_layout.proofs.Fresh.{running_in_order}
 use Rattle.b67_refer.specs.declared.ends.End.{End}
 use Rattle.b67_refer.specs.declared.ends.End.TheVariants as end
-use Rattle.b67_refer.specs.RunningContext.{RunningContext}
 use Rattle.b67_refer.specs.Ends.{IsReference, IsProcAt, EndMeets}
 use Rattle.b67_law_order.proofs.Follows.{follow_same}
 use Rattle.b67_entry.specs.Procedures.{ReachesProc}
@@ -37,9 +36,6 @@ IsNoProc _ = Unit {0}
 module _ (x : Storage) (cpu : Cpu) (plan : Placement) (s : Session) (m : SessionJob) (t : Task) (o : IsInOrderButCounts s) (h : RepresentsSession x cpu plan s) (runs : IsRunning plan s.jobs m t)
     (reference : Word) (arguments : List Word) (call : IsCall t reference arguments) (count : ℕ) (p : Parts t reference arguments call count) (v : Tagged) (i : IsFollowed x plan m t v p.first)
     (none : list_any is_original (take count (cells t)) ≡ false) where
-  abbrev pub scene_here : RunningContext cpu.core cpu.regs
-  scene_here = here_scene x cpu plan s m t o h runs
-
   -- it is no reference
   pub leads_nowhere : v.tag ≢ 1 → AskMeets plan m t arguments (Err InvalidOperand)
   leads_nowhere ne = λ next. not_led t reference arguments call m count p none next InvalidOperand

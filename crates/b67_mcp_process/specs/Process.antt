@@ -8,24 +8,12 @@ use Rattle.b67_backing.specs.declared.SpaceFault.TheVariants.{NoCore, BackingFul
 use Rattle.b67_model.specs.Common.{Word, Task, Job, SessionJob, Goes, process, Session}
 use Rattle.b67_stack.specs.Represents.{Storage}
 use Rattle.b67_layout.specs.Common.{Placement, here, moved}
-use Rattle.b67_mcp_call.specs.Calls.{IsCall}
 use Rattle.b67_task_need.specs.Needing.{need_with}
 use Rattle.b67_task_tables.specs.declared.tables.JobRow.{JobRow}
 use Rattle.b67_task_tables.specs.declared.tables.Machine.{Machine}
 use Rattle.b67_task_tables.specs.Tables.{MachineRepresents, AreCountable}
 use Rattle.b67_task_tables.specs.Shortage.{IsShortOf}
-use Rattle.b67_task_tables.specs.Runs.{RunsTask, ForEachRun, Keeps}
-
--- the machine stands for some session in order, whose running task calls an intrinsic
-pub record CallsProcess (k : Machine) : Type 0 where
-  pub runs : RunsTask k
-  pub reference : Word
-  pub arguments : List Word
-  pub call : IsCall runs.task reference arguments
-
--- for each such session, with the call's arguments
-abbrev pub ForCall : Machine → (Storage → Option (List (List ℕ)) → Placement → Session → SessionJob → Task → List Word → Type 0) → Type 0
-ForCall k P = ForEachRun k (λ x told plan s m t. (reference : Word) (arguments : List Word) → IsCall t reference arguments → P x told plan s m t arguments)
+use Rattle.b67_task_tables.specs.Runs.{Keeps}
 
 -- each job's next task can be numbered, and then the one after it
 abbrev pub CanNumber : List JobRow → Type 0

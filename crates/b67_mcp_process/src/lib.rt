@@ -9,7 +9,8 @@ ghost use Rattle.b67_io.specs.Causes.{Rose};
 ghost use Rattle.b67_ctl.specs.Layout.{IsPlace};
 ghost use Rattle.b67_backing.specs.declared.SpaceFault.TheVariants.{BackingFault};
 ghost use Rattle.b67_layout_storage.specs.Machine.{Says, DeviceAfterCalls, content_after};
-ghost use Rattle.b67_mcp_process.specs.Process.{CallsProcess, CanNumber, ForCall, ProcessMeets, ProcessWrites, ProcessFits, ProcessKeeps};
+ghost use Rattle.b67_mcp_call.specs.Calls.{StandsAtCall, ForCall};
+ghost use Rattle.b67_mcp_process.specs.Process.{CanNumber, ProcessMeets, ProcessWrites, ProcessFits, ProcessKeeps};
 
 use crate::asking::task_asked;
 use crate::starting::{answer, start_asked, tasks_of_job};
@@ -29,7 +30,7 @@ pub fn process<B: Backing>(
     next: Place,
     backing: &mut B,
 ) -> Result<Result<(), Fault>, SpaceFault>
-    requires calls { CallsProcess machine.old }
+    requires calls { StandsAtCall machine.old }
     requires place { IsPlace next }
     requires number { CanNumber machine.old.tasks.jobs }
     requires same { B.size backing.old + 1 ≡ length machine.old.sectors.links }

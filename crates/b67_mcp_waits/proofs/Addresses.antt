@@ -12,7 +12,7 @@ use Rattle.b67_stack.specs.Represents.{Storage}
 use Rattle.b67_layout.specs.Common.{IsInOrderButCounts, Placement, slot_of, spots, address_of, IsRunning, frame_address, RepresentsSession}
 use Rattle.b67_layout.proofs.Rows.{task_row}
 use Rattle.b67_layout_store.proofs.Frames.{frames_under}
-use Rattle.b67_layout_store.proofs.Owners.{others_none}
+use Rattle.b67_layout_store.proofs.Owners.{OwnerAt, owner, others_none}
 use Rattle.b67_refer.specs.RunningContext.{LiveContext}
 use Rattle.b67_refer.proofs.Scenes.{member_in_order}
 use Rattle.b67_refer.proofs.Slots.{live_slot}
@@ -20,7 +20,6 @@ use Rattle.b67_refer.proofs.Bases.{dictionary_is, dictionary_low}
 use Rattle.b67_refer.proofs.Marks.{slot_address}
 use Rattle.b67_refer.proofs.Unders.{high_address, is_task}
 use Rattle.b67_mcp_waits.proofs.Made.{marked_words}
-use Rattle.b67_mcp_waits.proofs.Owners.{OwnerAt, owner}
 
 -- the frames under one are lower than the stack, and each frame has its own height
 under_low : (id : ℕ) (fs : List Frame) → Has (identities fs) id → height (frames_under id fs) < height fs

@@ -9,9 +9,9 @@ use Rattle.b67_layout.specs.Common.{IsInOrderButCounts, Placement, IsRunning, Ru
 use Rattle.b67_task_tables.specs.declared.tables.Machine.{Machine}
 use Rattle.b67_task_tables.specs.Runs.{RunsTask}
 use Rattle.b67_task_end.specs.Lives.{HasJob}
-use Rattle.b67_mcp_call.specs.Calls.{CallSome, job_cut}
+use Rattle.b67_mcp_call.specs.Calls.{StandsAtCall, CallSome, job_cut}
 use Rattle.b67_mcp_call.specs.Answered.{job_answered}
-use Rattle.b67_mcp_waits.specs.Events.{StandsAtCall, KeepsSectors}
+use Rattle.b67_mcp_waits.specs.Events.{KeepsSectors}
 use Rattle.b67_task_tables.specs.Tables.{MachineRepresents}
 use Rattle.b67_lemmas.proofs.Members.{keyed_has}
 

@@ -5,22 +5,10 @@ use Rattle.b67_word.specs.declared.faults.Fault.{Fault}
 use Rattle.b67_model.specs.Common.{Word, Condition, Task, Job, SessionJob, Goes, Waits, Call, Session}
 use Rattle.b67_stack.specs.Represents.{Storage}
 use Rattle.b67_layout.specs.Common.{Placement, shown, here, with_job}
-use Rattle.b67_mcp_call.specs.Calls.{IsCall}
 use Rattle.b67_task_tables.specs.declared.tables.TaskState.{TaskState}
 use Rattle.b67_task_tables.specs.declared.tables.Machine.{Machine}
 use Rattle.b67_task_tables.specs.Tables.{MachineRepresents, AreCountable, state_of}
-use Rattle.b67_task_tables.specs.Runs.{RunsTask, ForEachRun, Keeps}
-
--- the machine stands for some session in order, whose running task stands at the call of an intrinsic
-pub record StandsAtCall (k : Machine) : Type 0 where
-  pub runs : RunsTask k
-  pub reference : Word
-  pub arguments : List Word
-  pub call : IsCall runs.task reference arguments
-
--- for each such session, with its running task and the arguments of the call
-abbrev pub ForCall : Machine → (Storage → Option (List (List ℕ)) → Placement → Session → SessionJob → Task → List Word → Type 0) → Type 0
-ForCall k P = ForEachRun k (λ x told plan s m t. (reference : Word) (arguments : List Word) → IsCall t reference arguments → P x told plan s m t arguments)
+use Rattle.b67_task_tables.specs.Runs.{Keeps}
 
 -- the call was made, by this row: the machine stands for what it makes, with as many tasks. How much of the next text is
 -- printed stays

@@ -3,7 +3,8 @@
 ghost use Rattle.std.specs.Prelude.{◌≡◌};
 ghost use Rattle.b67_ctl.specs.Layout.{IsPlace};
 ghost use Rattle.b67_model.specs.Intrinsics as rows;
-ghost use Rattle.b67_mcp_waits.specs.Events.{StandsAtCall, ForCall, WaitMeets, DoneMeets, KeepsSectors};
+ghost use Rattle.b67_mcp_call.specs.Calls.{StandsAtCall, ForCall};
+ghost use Rattle.b67_mcp_waits.specs.Events.{WaitMeets, DoneMeets, KeepsSectors};
 
 use crate::cells::cell_given;
 use crate::tasks::running_job;

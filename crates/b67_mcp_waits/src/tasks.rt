@@ -1,22 +1,21 @@
 //! AWAIT and STATUS.
 
-ghost use Rattle.std.specs.Prelude.{◌≡◌, ◌<◌, ◌≤◌, ◌-◌, ℕ, List, Some, pos, slice_get};
+ghost use Rattle.std.specs.Prelude.{◌≡◌, ◌<◌, ℕ, List, Some, pos};
 ghost use Rattle.b67_ctl.specs.Layout.{IsPlace};
 ghost use Rattle.b67_model.specs.Words as words;
 ghost use Rattle.b67_model.specs.Intrinsics as rows;
 ghost use Rattle.b67_layout.specs.Meets.{ForEach};
 ghost use Rattle.b67_task_tables.specs.Runs.{RunsTask, ForEachRun};
-ghost use Rattle.b67_task_tables.specs.declared.tables.JobRow.{JobRow};
 ghost use Rattle.b67_task_tables.specs.declared.tables.TaskState.TheVariants.{Awaits};
-ghost use Rattle.b67_mcp_call.specs.Calls.{CallSome, IsCall};
+ghost use Rattle.b67_mcp_call.specs.Calls.{StandsAtCall, ForCall, CallSome, IsCall};
 ghost use Rattle.b67_mcp_waits.specs.Arguments.{number_given};
-ghost use Rattle.b67_mcp_waits.specs.Events.{StandsAtCall, ForCall, WaitMeets, DoneMeets, KeepsSectors};
+ghost use Rattle.b67_mcp_waits.specs.Events.{WaitMeets, DoneMeets, KeepsSectors};
 
 use b67_entry::is_critical;
 use b67_mcp_call::{answer_call, cut_call, only_argument, whole};
 use b67_stack::Cpu;
 use b67_task_end::{lives, status};
-use b67_task_tables::{Machine, TaskState, Tasks};
+use b67_task_tables::{Machine, TaskState};
 use b67_word::{Fault, Place, Word};
 
 /// The number of the running task's job.
@@ -37,14 +36,6 @@ fn number_in(cpu: &Cpu) -> Result<i64, Fault>
         Ok(w) => whole(w),
         Err(fault) => Err(fault),
     }
-}
-
-/// The number of a job's next task.
-fn next_number(tasks: &Tasks, job: u8) -> u32
-    requires { (r : JobRow) × (slice_get tasks.now.jobs (job - 1) ≡ Some r) × (1 ≤ job) }
-    ensures { (r : JobRow) → slice_get tasks.now.jobs (job - 1) ≡ Some r → result ≡ r.next_task }
-{
-    tasks.jobs.as_slice()[job as usize - 1].next_task
 }
 
 /// The state of one who waits for the end of the task of a number, which was started before the next one.
@@ -69,7 +60,7 @@ pub fn await_task(machine: &mut Machine, next: Place) -> Result<Option<TaskState
     };
     let job = running_job(machine);
     if lives(&machine.tasks, job, number) {
-        return Ok(Some(awaiting(number, next_number(&machine.tasks, job))));
+        return Ok(Some(awaiting(number, machine.tasks.next_number(job))));
     }
     if is_critical(&machine.cpu) {
         return Err(Fault::CriticalBlock);

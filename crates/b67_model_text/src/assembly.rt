@@ -1,12 +1,8 @@
 //! Assembly: what its cards say.
 
-ghost use Rattle.std.specs.Prelude.{◌≡◌, [], ◌∷◌, ◌++◌, OnOk, OnErr};
-
 use crate::text::Name;
 use b67_model::{Code, Op};
-use b67_word::Couple;
-use std::alloc::{AllocError, Global};
-use std::marker::Model;
+use b67_word::{Couple, List};
 
 /// What an operator's name stands for.
 #[derive(Clone, Copy, Debug)]
@@ -60,44 +56,7 @@ pub enum Sketch {
 }
 
 /// Words of a data row, None for one out of its range.
-#[derive(Drop)]
-pub struct Values {
-    items: Vec<Option<u64>>,
-}
-
-impl Model for Values {
-    ghost use Rattle.std.specs.Prelude.{List, ℕ, Option};
-
-    ghost Value = { List (Option ℕ) };
-
-    ghost view = { λ v. v.items.items };
-}
-
-impl Values {
-    /// The empty list.
-    pub fn new(alloc: Global) -> Self
-        ensures { result ≡ [] }
-    {
-        Values {
-            items: Vec::new(alloc),
-        }
-    }
-
-    /// Appends a word. A refusal changes nothing.
-    pub fn push(&mut self, x: Option<u64>) -> Result<(), AllocError>
-        ensures ok { OnOk result (self.new ≡ self.old ++ x ∷ []) }
-        ensures err { OnErr result (self.new ≡ self.old) }
-    {
-        self.items.push(x)?;
-        Ok(())
-    }
-
-    pub fn as_slice(&self) -> &[Option<u64>]
-        ensures { result.now ≡ self.now }
-    {
-        self.items.as_slice()
-    }
-}
+pub type Values = List<Option<u64>>;
 
 /// What a card says.
 #[derive(Drop)]
@@ -131,45 +90,7 @@ pub struct Line {
 }
 
 /// A list of such cards.
-#[derive(Drop)]
-pub struct Lines {
-    items: Vec<Line>,
-}
-
-impl Model for Lines {
-    ghost use Rattle.std.specs.Prelude.{List};
-    ghost use Rattle.b67_model_text.specs.declared.assembly.Line.{Line};
-
-    ghost Value = { List Line };
-
-    ghost view = { λ c. c.items.items };
-}
-
-impl Lines {
-    /// The empty list.
-    pub fn new(alloc: Global) -> Self
-        ensures { result ≡ [] }
-    {
-        Lines {
-            items: Vec::new(alloc),
-        }
-    }
-
-    /// Appends a card. A refusal changes nothing.
-    pub fn push(&mut self, x: Line) -> Result<(), AllocError>
-        ensures ok { OnOk result (self.new ≡ self.old ++ x ∷ []) }
-        ensures err { OnErr result (self.new ≡ self.old) }
-    {
-        self.items.push(x)?;
-        Ok(())
-    }
-
-    pub fn as_slice(&self) -> &[Line]
-        ensures { result.now ≡ self.now }
-    {
-        self.items.as_slice()
-    }
-}
+pub type Lines = List<Line>;
 
 /// What a name means: a segment or a data row, by its place among those of its kind, counted from 0.
 #[derive(Clone, Copy, Debug)]

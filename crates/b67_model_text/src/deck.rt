@@ -1,12 +1,8 @@
 //! A deck: the run that its cards describe.
 
-ghost use Rattle.std.specs.Prelude.{◌≡◌, [], ◌∷◌, ◌++◌, OnOk, OnErr};
-
 use crate::card::Cards;
 use crate::text::Name;
-use b67_word::{Bytes, Numbers};
-use std::alloc::{AllocError, Global};
-use std::marker::Model;
+use b67_word::{Bytes, List, Numbers};
 
 /// A switch to a task of a job, once a count of operators is reached.
 #[derive(Clone, Copy, Debug, PartialEq, Eq)]
@@ -17,45 +13,7 @@ pub struct Switch {
 }
 
 /// A list of switches.
-#[derive(Drop)]
-pub struct Switches {
-    items: Vec<Switch>,
-}
-
-impl Model for Switches {
-    ghost use Rattle.std.specs.Prelude.{List};
-    ghost use Rattle.b67_model_text.specs.declared.deck.Switch.{Switch};
-
-    ghost Value = { List Switch };
-
-    ghost view = { λ c. c.items.items };
-}
-
-impl Switches {
-    /// The empty list.
-    pub fn new(alloc: Global) -> Self
-        ensures { result ≡ [] }
-    {
-        Switches {
-            items: Vec::new(alloc),
-        }
-    }
-
-    /// Appends a switch. A refusal changes nothing.
-    pub fn push(&mut self, x: Switch) -> Result<(), AllocError>
-        ensures ok { OnOk result (self.new ≡ self.old ++ x ∷ []) }
-        ensures err { OnErr result (self.new ≡ self.old) }
-    {
-        self.items.push(x)?;
-        Ok(())
-    }
-
-    pub fn as_slice(&self) -> &[Switch]
-        ensures { result.now ≡ self.now }
-    {
-        self.items.as_slice()
-    }
-}
+pub type Switches = List<Switch>;
 
 /// A job's program: assembly cards, or the bytes of a codefile.
 #[derive(Drop)]
@@ -77,45 +35,7 @@ pub struct Job {
 }
 
 /// A list of jobs.
-#[derive(Drop)]
-pub struct Jobs {
-    items: Vec<Job>,
-}
-
-impl Model for Jobs {
-    ghost use Rattle.std.specs.Prelude.{List};
-    ghost use Rattle.b67_model_text.specs.declared.deck.Job.{Job};
-
-    ghost Value = { List Job };
-
-    ghost view = { λ c. c.items.items };
-}
-
-impl Jobs {
-    /// The empty list.
-    pub fn new(alloc: Global) -> Self
-        ensures { result ≡ [] }
-    {
-        Jobs {
-            items: Vec::new(alloc),
-        }
-    }
-
-    /// Appends a job. A refusal changes nothing.
-    pub fn push(&mut self, x: Job) -> Result<(), AllocError>
-        ensures ok { OnOk result (self.new ≡ self.old ++ x ∷ []) }
-        ensures err { OnErr result (self.new ≡ self.old) }
-    {
-        self.items.push(x)?;
-        Ok(())
-    }
-
-    pub fn as_slice(&self) -> &[Job]
-        ensures { result.now ≡ self.now }
-    {
-        self.items.as_slice()
-    }
-}
+pub type Jobs = List<Job>;
 
 /// A run: the size of its stacks in words, the operators in a turn, the count at which it halts, its switches,
 /// and its jobs.

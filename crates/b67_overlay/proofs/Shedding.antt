@@ -34,10 +34,6 @@ retold-none : (d told : Option (List (List ℕ))) → d ≡ None → content_aft
 retold-none None told e = refl
 retold-none (Some all) told e = absurd (let z : ⊥ = cc in z)
 
-retold-some : (d old new : Option (List (List ℕ))) → Says (content_after d new) new → d ≢ None → Says d old → ((all : List (List ℕ)) → old ≡ Some all → new ≢ None) → content_after d new ≢ None
-retold-some None old new s n o f e = n refl
-retold-some (Some all) old new s n o f e = f all o e
-
 module _ (x : Storage) (told new : Option (List (List ℕ))) (says : Says x.device told) (tells : (all : List (List ℕ)) → told ≡ Some all → new ≢ None) where
   not_none : x.device ≢ None → content_after x.device new ≢ None
   not_none n = by x.device n says where

@@ -32,14 +32,6 @@ told_of : (d told : Option (List (List ℕ))) → d ≢ None → Says d told →
 told_of None told n says = absurd (n refl)
 told_of (Some all) told n says = says
 
--- and the other way round, where it says something
-pub not_silent : (x : Storage) (told : Option (List (List ℕ))) (k : Machine) (plan : Placement) (s : Session) → x.device ≢ None → StandsOver x told k plan s → MachineRepresents x told k plan s
-not_silent x told k plan s n h = record {
-  session = h.stands.session;
-  storage = record { low = h.stands.storage.low; size = h.stands.storage.size; shelf = h.stands.storage.shelf; device = told_of x.device told n h.says };
-  tables = h.stands.tables;
-}
-
 -- what its view says of it
 pub view_stands : (x : Storage) (told : Option (List (List ℕ))) (k : Machine) (plan : Placement) (s : Session) → IsInOrderButCounts s → StandsOver x told k plan s
     → MachineCanPage x k.cpu k.areas k.sectors told (machine_view plan s.jobs)

@@ -1,15 +1,14 @@
 -- Sessions with other numbers: what they share.
-use Rattle.std.proofs.Common.{◌≡◌, ℕ, zero, suc, ◌+◌, ◌-◌, ◌*◌, List, [], ◌∷◌, length, map, Option, Some, None, refl, sym, ◌∙◌, ap, subst, inl, inr}
-use Rattle.std.specs.Prelude.{sum_by, max}
-use Rattle.std.specs.List.{AllByRecursion, slice_get}
+use Rattle.std.proofs.Common.{◌≡◌, ℕ, ◌+◌, ◌-◌, List, [], ◌∷◌, length, map, refl, sym, ◌∙◌, ap, subst, inl, inr}
+use Rattle.std.specs.Prelude.{sum_by}
+use Rattle.std.specs.List.{AllByRecursion}
 use Rattle.std.proofs.lemmas.List.Sums.{sum_by-cons}
 use Rattle.b67_lemmas.specs.Lists.{Has}
-use Rattle.b67_model.specs.Common.{Array, Segment, Condition, Ready, Awaits, WaitsAt, Task, SessionJob, fixed, code_of, live_tasks, Session, sectors_for, sectors_of, sectors, IsSegment, SegmentInOrder, ArrayInOrder}
+use Rattle.b67_model.specs.Common.{Array, Segment, Condition, Ready, Awaits, WaitsAt, Task, SessionJob, Session, sectors_for, sectors_of, sectors, IsSegment, SegmentInOrder, ArrayInOrder}
 use Rattle.b67_layout.specs.Common.{JobInOrderButCounts, IsInOrderButCounts, Placement, slot_of, spot_in, address_of, WaitsAtCell, TaskRow, JobRow, shown, critical_disp, TaskShows, JobShows, JobsShow}
 use Rattle.b67_law_order.specs.Weaker.{Renumbers, Recoded, Refilled, OtherNumbers, AllOtherNumbers}
 use Rattle.b67_law_order.proofs.Sessions.{recoded_count}
 use Rattle.b67_stack.specs.Stacks.{StackPlace}
-use Rattle.b67_task_need.specs.Needing.{array_area, need_with}
 use Rattle.b67_layout.proofs.Alike.{outer_same}
 use Rattle.b67_task_tables.specs.declared.tables.Tasks.{Tasks}
 use Rattle.b67_task_tables.specs.Tables.{job_row, TasksShow}
@@ -184,12 +183,6 @@ module _ (f : SessionJob → ℕ) (same : (m n : SessionJob) → OtherNumbers m 
   others_sum [] (n ∷ ns) h = absurd h
   others_sum (m ∷ ms) [] h = absurd h
 
-pub others_live : (ms ns : List SessionJob) → AllOtherNumbers ms ns → live_tasks ns ≡ live_tasks ms
-others_live ms ns h = others_sum (λ (m : SessionJob). length m.progress.job.tasks) (λ m n o. ap (λ (z : SessionJob). length z.progress.job.tasks) o.rest) ms ns h
-
-pub others_fixed : (ms ns : List SessionJob) → AllOtherNumbers ms ns → fixed ns ≡ fixed ms
-others_fixed ms ns h = ap (λ (k : ℕ). 160 + k) (others_sum (λ (m : SessionJob). 2 + length m.constants.dictionary.cells) (λ m n o. ap (λ (z : SessionJob). 2 + length z.constants.dictionary.cells) o.rest) ms ns h)
-
 segment_sectors : (xs ys : List Segment) → Recoded xs ys → sum_by (λ (s : Segment). sectors_for (length s.code)) ys ≡ sum_by (λ (s : Segment). sectors_for (length s.code)) xs
 segment_sectors [] [] h = refl
 segment_sectors (x ∷ xs) (y ∷ ys) h =
@@ -210,32 +203,3 @@ pub others_sectors : (ms ns : List SessionJob) → AllOtherNumbers ms ns → sec
 others_sectors ms ns h = others_sum sectors_of (λ m n o.
     ap (λ (k : ℕ). k + sum_by (λ (a : Array). sectors_for (length a.numbers)) n.progress.job.arrays) (segment_sectors m.constants.segments n.constants.segments o.segments)
     ∙ ap (λ (k : ℕ). sum_by (λ (g : Segment). sectors_for (length g.code)) m.constants.segments + k) (array_sectors m.progress.job.arrays n.progress.job.arrays o.arrays)) ms ns h
-
--- a segment is as long
-abbrev AsLong : Option Segment → Option Segment → Type 0
-AsLong None None = Unit {0}
-AsLong (Some a) (Some b) = length b.code ≡ length a.code
-AsLong _ _ = ⊥
-
-as_long : (xs ys : List Segment) (i : ℕ) → Recoded xs ys → AsLong (slice_get xs i) (slice_get ys i)
-as_long [] [] i h = tt
-as_long (x ∷ xs) (y ∷ ys) zero h = h.0.count
-as_long (x ∷ xs) (y ∷ ys) (suc i) h = as_long xs ys i h.1
-as_long [] (y ∷ ys) i h = absurd h
-as_long (x ∷ xs) [] i h = absurd h
-
-pub other_code : (m n : SessionJob) → OtherNumbers m n → (segment : ℕ) → length (code_of n.constants segment) ≡ length (code_of m.constants segment)
-other_code m n h segment = by (slice_get m.constants.segments (segment - 1)) (slice_get n.constants.segments (segment - 1)) refl refl (as_long m.constants.segments n.constants.segments (segment - 1) h.segments) where
-  by : (o p : Option Segment) → slice_get m.constants.segments (segment - 1) ≡ o → slice_get n.constants.segments (segment - 1) ≡ p → AsLong o p → length (code_of n.constants segment) ≡ length (code_of m.constants segment)
-  by None None e f k = rw (e, f) refl
-  by (Some a) (Some b) e f k = rw (e, f) k
-  by None (Some b) e f k = absurd k
-  by (Some a) None e f k = absurd k
-
-pub others_need : (s : Session) (jobs : List SessionJob) (m n : SessionJob) (t : Task) (stacks words : ℕ) → AllOtherNumbers s.jobs jobs → OtherNumbers m n → need_with (record s { jobs = jobs }) n t stacks words ≡ need_with s m t stacks words
-others_need s jobs m n t stacks words h o =
-    let size : n.constants.stack_size ≡ m.constants.stack_size = ap (λ (z : SessionJob). z.constants.stack_size) o.rest in
-    ap (λ (k : ℕ). k + max s.peak (live_tasks jobs + stacks) * n.constants.stack_size + (length (code_of n.constants t.segment) + 2) + array_area words) (others_fixed s.jobs jobs h)
-    ∙ ap (λ (k : ℕ). fixed s.jobs + max s.peak (k + stacks) * n.constants.stack_size + (length (code_of n.constants t.segment) + 2) + array_area words) (others_live s.jobs jobs h)
-    ∙ ap (λ (k : ℕ). fixed s.jobs + max s.peak (live_tasks s.jobs + stacks) * k + (length (code_of n.constants t.segment) + 2) + array_area words) size
-    ∙ ap (λ (k : ℕ). fixed s.jobs + max s.peak (live_tasks s.jobs + stacks) * m.constants.stack_size + (k + 2) + array_area words) (other_code m n o t.segment)

@@ -57,9 +57,3 @@ module _ (core : List Tagged) (r : Regs) (a : LiveContext core r) where
       let b = dictionary_low in
       let z = slot_zero in
       (d ∙ ap a.plan.dictionary (sym n) ∙ rw t (rw u refl), omega (arith, d, b, z.0, z.1))
-
-  pub of_mcp : (k : ℕ) → 136 ≤ k → 0 ≡ base_of a.plan k
-  of_mcp k low =
-      let t : nat_lt k 120 ≡ false = le-ltb k 120 (omega (arith, low)) in
-      let u : nat_lt k 136 ≡ false = le-ltb k 136 low in
-      rw t (rw u refl)

@@ -41,12 +41,6 @@ module _ (core : List Tagged) (copy : DataDesc) (home : ℕ) (c : IsCopyOf core 
   same : SameDesc copy (copy_desc c.copied c.is.number c.is.present c.is.address)
   same = same_desc copy (copy_desc c.copied c.is.number c.is.present c.is.address) c.fits c.is.fits c.is.is
 
-  pub absent_owner : copy.present ≡ false → copy.address ≡ home
-  absent_owner e =
-      let p : c.is.present ≡ false = sym same.present ∙ e in
-      let t : c.is.address ≡ home = (let P : Bool → Type 0 = λ b. MatchBool b ((c.storage.held home).area ≡ Some c.is.address) (c.is.address ≡ home) in subst P p c.is.to) in
-      same.address ∙ t
-
   -- the head before the area of a present copy
   pub present_owner : copy.present ≡ true → (h : AreaHead) × IsAreaHead h × (slice_get core (copy.address - 1) ≡ Some (area_head_word h)) × (h.owner ≡ home) × (0 < copy.address) × (copy.address < length core)
   present_owner e =

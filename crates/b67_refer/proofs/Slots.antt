@@ -99,9 +99,6 @@ module _ (core : List Tagged) (r : Regs) (a : LiveContext core r) where
     pub top_is : IsTop a (slot_of a.plan a.member.constants.number u.number) top
     pub part : Part (slot_of a.plan a.member.constants.number u.number) (outer_spots a.plan a.member.constants.number a.member.progress.job u.critical u.parents) top u.frames
 
-  abbrev whole_machine_view : MachineView
-  whole_machine_view = with_objects a.left (machine_view a.plan a.session.jobs)
-
   by_slot : (k : ℕ) (stack : List Activation) (b : Bool) → k < a.plan.peak → (let y = if b then Running stack else Waiting stack in
       RepresentsSlot core r (with_objects a.left (machine_view a.plan a.session.jobs)) k y → SlotFits (with_objects a.left (machine_view a.plan a.session.jobs)) k y
       → LieDownward (Fits a.storage.held) core (suc (base k)) (words k (stack_of y))

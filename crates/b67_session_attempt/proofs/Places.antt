@@ -18,11 +18,6 @@ abbrev pub places : List Frame → List At
 places [] = []
 places (f ∷ below) = (f.identity, height below) ∷ places below
 
--- the top frame with other cells
-pub top_places : (fs : List Frame) (cells : List Word) → places (with_top_cells fs cells) ≡ places fs
-top_places [] cells = refl
-top_places (f ∷ below) cells = refl
-
 pub top_from : (c : ℕ) (fs : List Frame) (cells : List Word) → places (from_frame c (with_top_cells fs cells)) ≡ places (from_frame c fs)
 top_from c [] cells = refl
 top_from c (f ∷ below) cells = elim (cases_Bool (f.identity == c)) [ inl e ↦ rw e refl | inr e ↦ rw e refl ]

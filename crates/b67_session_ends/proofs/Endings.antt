@@ -27,10 +27,6 @@ pub record IsPrinting {K : Type 0} (taken : K → Option (List ℕ)) (old now : 
 pub printing_none : {K : Type 0} (taken : K → Option (List ℕ)) (old : K) (text : List ℕ) (was : ℕ) → IsPrinting taken old old text was was 0 text
 printing_none taken old text was = record { lines = []; long = refl; past = omega arith; later = omega arith; continues = Continues-none taken old text was; same = refl }
 
--- the text of a line and those after it
-pub text_cons : (job number : ℕ) (ending : Ending) (more : List (ℕ × Ending)) → endings_text job ((number, ending) ∷ more) ≡ ended (task_name job number ++ codes " " ++ ending_name ending) ++ endings_text job more
-text_cons job number ending more = refl
-
 module _ {K : Type 0} (taken : K → Option (List ℕ)) (old mid : K) (text line rest : List ℕ) (was printed start : ℕ) (p : IsPrinting taken old mid text was printed start (ended line ++ rest)) where
   -- the text with its next line written out
   whole : text ≡ p.lines ++ ended line ++ rest

@@ -9,10 +9,9 @@ use Rattle.b67_law_order.proofs.Reaches.{alike_same}
 use Rattle.b67_law_order.proofs.Replaced.{Replaced, replaced}
 use Rattle.b67_law_order.specs.Keeping.{KeepsOrder}
 use Rattle.b67_law_order.proofs.Segments.{rows_keep_order_but_places}
-use Rattle.b67_law_sessions.specs.Orders.{IsInOrderButLimit, SettlesInOrder}
-use Rattle.b67_law_sessions.specs.Turns.{IsNext, part_of}
+use Rattle.b67_law_sessions.specs.Orders.{SettlesInOrder}
+use Rattle.b67_law_sessions.specs.Turns.{IsNext}
 use Rattle.b67_law_sessions.proofs.Choices.{next_is_ready}
-use Rattle.b67_law_sessions.proofs.Parts.{first_parts_keep_order}
 use Rattle.b67_law_sessions.proofs.Settled.{made_settles}
 use Rattle.b67_layout.specs.Meets.{with_job}
 use Rattle.b67_layout.specs.Orders.{IsInOrderButCounts}
@@ -87,9 +86,6 @@ module _ (s : Session) (m : SessionJob) (t : Task) (condition : Condition) (o : 
   -- the first part of the step leaves the session in order, but that its job may stand at its limit
   pub waits_settle : SettlesInOrder m.constants m.progress (holding job t condition).alive (holding job t condition).settled
   waits_settle = made_settles m.constants m.progress after [] None tasks_ordered (omega arith)
-
-  pub holding_ordered : IsInOrderButLimit (part_of s n.chosen m t (holding job t condition)).session
-  holding_ordered = first_parts_keep_order s m t n (holding job t condition) o waits_settle
 
   -- before the test for deadlock
   pub held_ordered : IsInOrderButCounts (with_job s m after)

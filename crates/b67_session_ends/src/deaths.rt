@@ -51,7 +51,7 @@ fn first_row(rows: &[TaskRow], job: u8) -> u8
 }
 
 /// All tasks of a job end: its first one, with those under it.
-pub fn end_job(machine: &mut Machine, job: u8)
+pub(crate) fn end_job(machine: &mut Machine, job: u8)
     requires { JobLives machine.old job }
     ensures stands { (x : Storage) (told : Option (List (List ℕ))) (plan : Placement) (s : Session) (m : SessionJob) → IsInOrderButCounts s → MachineRepresents x told machine.old plan s
         → Has s.jobs m → m.constants.number ≡ job → m.progress.job.tasks ≢ []

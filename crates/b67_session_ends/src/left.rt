@@ -10,19 +10,12 @@ ghost use Rattle.b67_model.specs.Schedule.{Session};
 ghost use Rattle.b67_model.specs.State.{SessionJob};
 ghost use Rattle.b67_layout.specs.Placement.{Placement};
 ghost use Rattle.b67_task_end.specs.Family.{TablesHold, HasSomeHead, pair_of};
-ghost use Rattle.b67_session_ends.specs.Closing.{is_dead_of, left_ready, others_of};
+ghost use Rattle.b67_session_ends.specs.Closing.{left_ready, others_of};
 
 use arrayvec::ArrayVec;
-use b67_task_end::{EndedTask, live_of};
+use b67_task_end::{EndedTask, is_among, live_of};
 use b67_task_tables::{TaskRow, TaskState, Tasks};
 use b67_word::Ending;
-
-/// Whether the task of a number is among those that ended.
-fn is_dead(dead: &[EndedTask], number: u32) -> bool
-    ensures { result ≡ is_dead_of dead.now number }
-{
-    dead.iter().any(|one| one.number == number)
-}
 
 /// Whether a row's task is of a job, and is left and ready once these have ended.
 fn is_left_ready(row: TaskRow, job: u8, dead: &[EndedTask]) -> bool
@@ -31,12 +24,12 @@ fn is_left_ready(row: TaskRow, job: u8, dead: &[EndedTask]) -> bool
     if row.job != job {
         return false;
     }
-    if is_dead(dead, row.number) {
+    if is_among(dead, row.number) {
         return false;
     }
     match row.state {
         TaskState::Ready => true,
-        TaskState::Awaits(number) => is_dead(dead, number),
+        TaskState::Awaits(number) => is_among(dead, number),
         TaskState::WaitsAt { mark: _, offset: _ } => false,
     }
 }
@@ -71,7 +64,7 @@ fn add_one(list: &mut ArrayVec<EndedTask, 30>, dead: &[EndedTask], number: u32)
     ensures all { map pair_of list.new.items ≡ map pair_of list.old.items ++ all_with endings.Deadlock (others_of dead.now (number ∷ [])) }
     ensures few { length list.new.items ≤ length list.old.items + 1 }
 {
-    if is_dead(dead, number) {
+    if is_among(dead, number) {
         return;
     }
     list.push(EndedTask {

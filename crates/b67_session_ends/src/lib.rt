@@ -13,7 +13,7 @@ mod texts;
 
 pub use closes::{close, end_stuck};
 pub use counts::count_one;
-pub use deaths::{all_ended, end_job};
+pub use deaths::all_ended;
 pub use ends::{end_by_limit, finish};
 pub use holds::hold;
 pub use left::goes_on;

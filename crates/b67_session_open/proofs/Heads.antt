@@ -60,17 +60,6 @@ module _ {D : Type 0} (tell : D → Option (List (List ℕ))) where
     pub writes : (end : Parts D) → Writes tell (objects_from at rest) now end → Spares tell at (dictionaries rest) now end → Writes tell (objects_from 160 all) start end
     pub heads : (core : List Tagged) → ((i : ℕ) → i < at → slice_get core i ≡ slice_get now.core i) → HeadsLie core at rest → HeadsLie core 160 all
 
-  pub installing_first : (all : List Program) (start : Parts D) → (st : Shelf) × IsShelf start.table st → total sectors_of_program all ≤ start.table.free → Installing 160 all all start start
-  installing_first all start known room = record {
-    low = omega arith;
-    high = refl;
-    room = room;
-    known = known;
-    spares = spares-refl tell 160 (dictionaries all) start;
-    writes = λ end w s. w;
-    heads = λ core same h. h;
-  }
-
   pub installing_next : (at : ℕ) (all rest : List Program) (p : Program) (more : List Program) (start now next : Parts D) → rest ≡ p ∷ more
       → Installing at all rest start now → Installs at p now next → Installing (at + dictionary_words p) all more start next
   installing_next at all rest p more start now next e g step = by_cons (subst (λ (r : List Program). Installing at all r start now) e g) where

@@ -119,12 +119,6 @@ module _ (plan : Placement) (s : Session) (o : IsInOrderButPlaces s) (task_rows 
       let b : IsReadyAt task_rows i s.last = subst (λ (v : Who). IsReadyAt task_rows i v) is a in
       (b, ap (λ (b : Bool). b && turn_lasts s) (any_some (is_same s.last) (ready s) s.last (in_row i s.last b) (is_self s.last)) ∙ lasts)
 
-  pub goes_not_on : turn_lasts s ≡ false → goes_on s ≡ false
-  goes_not_on ends = elim (cases_Bool (list_any (is_same s.last) (ready s))) [
-    | inl t ↦ ap (λ (b : Bool). b && turn_lasts s) t ∙ ends
-    | inr t ↦ ap (λ (b : Bool). b && turn_lasts s) t
-  ]
-
   module _ (n : ℕ) (all : length task_rows ≤ n) where
     within : (i : ℕ) (w : Who) → IsReadyAt task_rows i w → i < n
     within i w a = omega (arith, all, slice_get_within task_rows i a.row a.at)

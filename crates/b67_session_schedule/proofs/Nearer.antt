@@ -6,7 +6,7 @@ use Rattle.std.proofs.lemmas.Bool.{cases_lt, cases_Bool, true≢false}
 use Rattle.b67_model.specs.Schedule.{Who, is_before, is_same}
 use Rattle.b67_task_tables.specs.declared.tables.TaskRow.{TaskRow}
 use Rattle.b67_session_schedule.specs.Chosen.{who_of, is_ready, comes, is_row_of, IsReadyAt, IsNextAt, NextRow}
-use Rattle.b67_session_schedule.proofs.Orders.{before_same, before_after, same_is, is_self}
+use Rattle.b67_session_schedule.proofs.Orders.{before_same, before_after, is_self}
 use Rattle.b67_lemmas.proofs.Places.{get_within}
 
 -- the item that is read at a place within a list
@@ -114,10 +114,4 @@ module _ (rows : List TaskRow) (k : ℕ) (row : TaskRow) (e : slice_get rows k �
         let b : is_same (who_of row) who ≡ false = rw ready at q in
         let c : is_same who who ≡ false = subst (λ (v : Who). is_same v who ≡ false) same b in
         true≢false (sym (is_self who) ∙ c)
-  ]
-
-  pub is_here : (who : Who) → is_row_of who row ≡ true → IsReadyAt rows k who
-  is_here who p = elim (cases_Bool (is_ready row.state)) [
-    | inl t ↦ record { row = row; at = e; ready = t; is = same_is (who_of row) who (rw t at p) }
-    | inr t ↦ let q : false ≡ true = rw t at p in absurd (true≢false (sym q))
   ]

@@ -1,6 +1,5 @@
 -- Words that lie in core by their shapes.
-use Rattle.std.proofs.Common.{◌≡◌, ℕ, ◌+◌, ◌<◌, ◌≤◌, List, [], ◌∷◌, ◌++◌, length, Some, refl, ◌∙◌, arith, ⊎_elim, inl, inr, slice_set, subst, suc, ap, take, drop, ◌-◌}
-use Rattle.std.proofs.lemmas.Bool.{cases_eq}
+use Rattle.std.proofs.Common.{◌≡◌, ℕ, ◌+◌, ◌<◌, ◌≤◌, List, [], ◌∷◌, ◌++◌, length, Some, refl, ◌∙◌, arith, inl, inr, slice_set, subst, suc, ap, take, drop, ◌-◌}
 use Rattle.std.specs.List.{slice_get, slice_range}
 use Rattle.b67_word.specs.Tagged.{Tagged}
 use Rattle.b67_core.proofs.Writes.{slice_get-set_same, slice_get-set_other}
@@ -45,13 +44,6 @@ pub record Found (R : Shape → ℕ → Tagged → Type 0) (core : List Tagged) 
   pub among : Has xs shape
   pub there : slice_get core i ≡ Some word
   pub fits : R shape i word
-
-pub Lie-at : (R : Shape → ℕ → Tagged → Type 0) (core : List Tagged) (from : ℕ) (xs : List Shape) (i : ℕ) → from ≤ i → i < from + length xs → LieDownward R core from xs → Found R core i xs
-Lie-at R core from [] i low high l = absurd (omega arith)
-Lie-at R core from (a ∷ more) i low high l = ⊎_elim
-    (λ (e : i ≡ from + length more). rw e (let r : Found R core (from + length more) (a ∷ more) = record { shape = a; word = l.0.0; among = inl refl; there = l.0.1; fits = l.0.2 } in r))
-    (λ (n : i ≡ from + length more → ⊥). let r = Lie-at R core from more i low (omega arith) l.1 in record { shape = r.shape; word = r.word; among = inr r.among; there = r.there; fits = r.fits })
-    (cases_eq i (from + length more))
 
 pub upward-take : (core : List Tagged) (at : ℕ) (ws : List Tagged) → LieUpward core at ws → take (length ws) (drop at core) ≡ ws
 upward-take core at [] u = refl

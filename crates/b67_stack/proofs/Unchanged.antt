@@ -9,7 +9,7 @@ use Rattle.b67_area.specs.Spans.{Span, Area, Hole, area_at, end}
 use Rattle.b67_area.specs.Words.{hole_high}
 use Rattle.b67_area.specs.Directory.{IsDirectory, Laid}
 use Rattle.b67_area.proofs.Cuts.{pending}
-use Rattle.b67_area.proofs.Laws.{area_inside, areas_apart}
+use Rattle.b67_area.proofs.Laws.{area_inside}
 use Rattle.b67_lemmas.specs.Lists.{Has}
 use Rattle.b67_ctl.specs.declared.registers.Regs.{Regs}
 use Rattle.b67_stack.specs.Common.{Fits, Activation, stack_words, words, PagedObject, MachineView, Slot, Free, Running, Waiting, stack_of, slot_base, SlotFits, Storage, RepresentsSlot, info_of, Represents}
@@ -27,14 +27,6 @@ module _ (x : Storage) (core : List Tagged) (r : Regs) (p : MachineView) (s : Re
 
   pub area_bounds : (u : PagedObject) → Has p.objects u → (b : ℕ) → (x.held u.home).area ≡ Some b → (x.low < b) × (b + length u.numbers < length core)
   area_bounds u inu b e = area_inside core x.low x.spans b (info_of x u) s.directory (area_of_object u inu b e)
-
-  -- two objects have no word in common
-  pub bodies_apart : (u v : PagedObject) → Has p.objects u → Has p.objects v → u.home ≢ v.home → (b c : ℕ) → (x.held u.home).area ≡ Some b → (x.held v.home).area ≡ Some c
-      → (b + length u.numbers < c) ⊎ (c + length v.numbers < b)
-  bodies_apart u v inu inv n b c eb ec = ⊎_elim
-      (λ (e : b ≡ c). absurd (n (ap (λ (a : Info). a.owner) (same_Some _ _ (sym (area_of_object u inu b eb) ∙ ap (area_at x.low x.spans) e ∙ area_of_object v inv c ec)))))
-      (λ (a : (b + length u.numbers < c) ⊎ (c + length v.numbers < b)). a)
-      (areas_apart x.low x.spans b c (info_of x u) (info_of x v) (area_of_object u inu b eb) (area_of_object v inv c ec))
 
   pub home_below : (u : PagedObject) → Has p.objects u → (160 ≤ u.home) × (u.home < x.low)
   home_below u inu = s.slots.laid.homes u inu

@@ -1,11 +1,10 @@
 //! Whether a task lives, and what STATUS tells of it.
 
-ghost use Rattle.std.specs.Prelude.{◌≡◌, ◌≤◌, ◌-◌, ◌↔◌, ℕ, true, Some, length, slice_get, pos};
+ghost use Rattle.std.specs.Prelude.{◌≡◌, ◌≤◌, ◌↔◌, true, Some, length, pos};
 ghost use Rattle.b67_model.specs.Intrinsics.{is_live, status_of};
 ghost use Rattle.b67_model.specs.State.{SessionJob};
 ghost use Rattle.b67_model.specs.Schedule.{Session};
 ghost use Rattle.b67_layout.specs.Placement.{Placement};
-ghost use Rattle.b67_task_tables.specs.declared.tables.JobRow.{JobRow};
 ghost use Rattle.b67_task_tables.specs.Tables as Tables;
 ghost use Rattle.b67_task_end.specs.Lives.{FoundState, StateIs, HasJob, HasSomeJob, status_shown, was_before};
 
@@ -67,14 +66,6 @@ fn is_before(number: i64, next: u32) -> bool
     0 < number && number < i64::from(next)
 }
 
-/// The number of a job's next task.
-fn next_number(tasks: &Tasks, job: u8) -> u32
-    requires { (r : JobRow) × (slice_get tasks.now.jobs (job - 1) ≡ Some r) × (1 ≤ job) }
-    ensures { (r : JobRow) → slice_get tasks.now.jobs (job - 1) ≡ Some r → result ≡ r.next_task }
-{
-    tasks.jobs.as_slice()[job as usize - 1].next_task
-}
-
 /// What STATUS tells of a job's task of a number: 0 it was never started, 1 it is ready, 2 it waits, 3 it has ended.
 pub fn status(tasks: &Tasks, job: u8, number: i64) -> u8
     requires { HasSomeJob tasks.now job }
@@ -83,7 +74,7 @@ pub fn status(tasks: &Tasks, job: u8, number: i64) -> u8
     match state_of(tasks, job, number) {
         Some(state) => told_of(state),
         None => {
-            if is_before(number, next_number(tasks, job)) {
+            if is_before(number, tasks.next_number(job)) {
                 3
             } else {
                 0

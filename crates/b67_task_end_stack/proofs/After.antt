@@ -6,13 +6,13 @@ use Rattle.std.proofs.lemmas.Option.{same_Some}
 use Rattle.b67_word.specs.Tagged.{Tagged, word}
 use Rattle.b67_ctl.specs.declared.registers.Regs.{Regs}
 use Rattle.b67_lemmas.specs.Lists.{Has}
-use Rattle.b67_model.specs.Common.{Frame, Task, Job, JobProgress, SessionJob, number_of, Session}
+use Rattle.b67_model.specs.Common.{Task, Job, JobProgress, SessionJob, number_of, Session}
 use Rattle.b67_model.specs.Keyed.{keyed}
 use Rattle.b67_stack.specs.Common.{stack_words, PagedObject, Slot, stack_of, NoOriginalAboveTop, slot_base, Storage, Represents}
-use Rattle.b67_layout.specs.Common.{Placement, Slotted, slot_of, slot_at, machine_view, RowsFit, DictionariesFollow, RowHomes, PlanFits, RepresentsDictionary, RepresentsVector, RepresentsCritical, vector_word, critical_mark, SessionHolds, IsInOrderButCounts}
-use Rattle.b67_layout.proofs.Common.{with_course, task_row, slot_below, dictionary_below}
+use Rattle.b67_layout.specs.Common.{Placement, Slotted, slot_of, slot_at, machine_view, RowsFit, DictionariesFollow, RowHomes, PlanFits, RepresentsDictionary, RepresentsVector, RepresentsCritical, vector_word, SessionHolds, IsInOrderButCounts}
+use Rattle.b67_layout.proofs.Common.{with_course, slot_below, dictionary_below}
 use Rattle.b67_task_start_stack.proofs.Births.{changed_member, kept_member, moved_member}
-use Rattle.b67_task_end_stack.specs.Leaves.{Stays, Leaves, Lists, Cleared, Marked}
+use Rattle.b67_task_end_stack.specs.Leaves.{Stays, Leaves, Lists, Cleared}
 use Rattle.b67_task_end_stack.proofs.Slotwise.{In, one_each, found_member}
 use Rattle.b67_task_end_stack.proofs.Turns.{SomeDied, pic}
 use Rattle.b67_lemmas.proofs.Members.{keyed_has}
@@ -120,30 +120,6 @@ module _ (x : Storage) (core : List Tagged) (r : Regs) (marks : List ℕ) (plan 
             let kept : stack_words (stack_of (f k)) ≡ stack_words (stack_of (slot_at plan s.jobs k)) = ap (λ (z : Slot). stack_words (stack_of z)) (d.stays k (λ g in_g e. n (g, in_g, e))) in
             omega (arith, h.settled u (d.was u there) k hk low up, same, kept)
       ]
-
-  -- the critical marks
-  pub marks_after : (marks' : List ℕ) → Marked marks marks' plan m gone job' → RepresentsCritical marks' plan_after after.jobs
-  marks_after marks' k = record {
-    live = λ z u i l. for_members (λ z. (u : Task) → Has z.progress.job.tasks u → slice_get marks' (slot_of plan_after z.constants.number u.number) ≡ Some (critical_mark z.progress.job u.frames))
-        (λ z i ne u l. ap (slice_get marks') (slot_same z u (λ e. absurd (ne e)))
-        ∙ k.others (slot_of plan z.constants.number u.number) (λ t in_t e. ne (ap (λ (v : SessionJob). v.constants.number) (sym (one_each x core r marks plan s o h m z t u in_m i in_t l e).0)))
-        ∙ h.critical.live z u i l)
-        (λ u l.
-        let v = ls.task_in u l in
-        ap (λ (n : ℕ). slice_get marks' (slot_of plan_after m.constants.number n)) v.2.number
-        ∙ ap (slice_get marks') (slot_same m v.0 (λ e. v.3))
-        ∙ k.own v.0 v.1 v.3
-        ∙ ap (λ (fs : List Frame). Some (critical_mark job' fs)) (sym v.2.frames))
-        z i u l;
-    free = λ q hq none. elim (lost_or_not plan m.constants.number gone q) [
-      | inl l ↦ ap (slice_get marks') (sym l.2) ∙ k.dead l.0 l.1
-      | inr n ↦
-          k.others q (λ t in_t e.
-          (let a = task_row plan s.jobs m t h.fits.rows in_m in_t in
-          none a.row (ls.row_kept a.row a.among (λ w g in_g same. n (g, in_g, ap (λ (i : ℕ). slot_of plan m.constants.number i) (same ∙ a.number) ∙ e))) (sym a.slot ∙ e)))
-          ∙ h.critical.free q hq (λ w i at. none w (ls.row_kept w i (stays_row x core r marks plan s o h m in_m some rows 255 job' gone lv d.closed d.alive q n w i at)) at)
-    ];
-  }
 
   module _ (y : Storage) (new : List Tagged) (r' : Regs) (marks' : List ℕ) (c : Cleared core new plan m gone) (halted : r'.slot ≡ 255) where
     low : 160 ≤ plan.stacks

@@ -5,10 +5,9 @@ use Rattle.std.specs.List.{list_any}
 use Rattle.std.proofs.lemmas.Bool.{cases_Bool, cases_eq, eq-eqb, ne_eqb, eqb-true, true≢false}
 use Rattle.std.proofs.lemmas.Option.{same_Some}
 use Rattle.b67_word.specs.Tagged.{Tagged}
-use Rattle.b67_word.specs.declared.faults.Ending.{Ending}
 use Rattle.b67_ctl.specs.declared.registers.Regs.{Regs}
 use Rattle.b67_lemmas.specs.Lists.{Has}
-use Rattle.b67_model.specs.Common.{Frame, Array, Task, Job, SessionJob, array, among, released, is_owned_by, ends_all, Session, identities}
+use Rattle.b67_model.specs.Common.{Frame, Array, Task, Job, SessionJob, array, among, released, is_owned_by, Session, identities}
 use Rattle.b67_model.specs.Keyed.{keyed}
 use Rattle.b67_lemmas.proofs.Members.{has_map, has_map_back, has_filter, has_filter_in, any_some, any_has, falls_same}
 use Rattle.b67_stack.specs.Represents.{Storage}
@@ -168,7 +167,3 @@ module _ (x : Storage) (core : List Tagged) (r : Regs) (marks : List ℕ) (plan 
       | inl e ↦ (let w : (z.task == u) ≡ true = rw e at t in (eqb-true z.job i e, eqb-true z.task u w))
       | inr e ↦ absurd (true≢false (sym (let w : false ≡ true = rw e at t in w)))
     ]
-
--- and that is what the model says
-pub ends_all_is : (job : Job) (endings : List (ℕ × Ending)) → (ends_all (record { job = job; endings = [] }) endings).job ≡ job_without job (map (λ (e : ℕ × Ending). e.0) endings)
-ends_all_is job endings = refl

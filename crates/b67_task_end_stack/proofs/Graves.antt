@@ -11,7 +11,7 @@ use Rattle.b67_lemmas.proofs.Members.{has_append_left, has_append_right, has_app
 use Rattle.b67_stack.specs.Common.{PagedObject, MachineView, slot_base, Storage}
 use Rattle.b67_stack.proofs.Bases.{base-apart}
 use Rattle.b67_task_release.specs.Released.{HasHome, Released}
-use Rattle.b67_task_release.proofs.Remaining.{Released-none, Released-then}
+use Rattle.b67_task_release.proofs.Remaining.{Released-then}
 use Rattle.b67_task_end_stack.specs.Vacated.{put_out, died, MayDie}
 use Rattle.b67_task_end_stack.specs.Graves.{Death, MayAllDie, all_died, slots_of, HasGone, SameInside, SameButSlot, SameButSlots, ZeroVector, all_put_out, Buried}
 
@@ -48,22 +48,6 @@ inside_same low core new p k first below some few same q i hq down up =
     (cases_lt k q))
     (cases_lt q k))
     (λ e. omega (arith, e, down, first, few))
-
--- nobody has died yet
-pub none_buried : (x : Storage) (p : MachineView) (core : List Tagged) (ds : List Death) → MayAllDie p core ds → Buried x x p p core core ds [] ds
-none_buried x p core ds may = record {
-  whole = refl;
-  may = may;
-  end = refl;
-  released = Released-none (HasGone []) x (λ home g. absurd g.1);
-  apart = λ home g t i e. absurd g.1;
-  stacks = refl;
-  size = refl;
-  peak = refl;
-  below = λ i low dir others. refl;
-  zero = λ k i. absurd i;
-  few = λ k i. absurd i;
-}
 
 -- the next of the slots
 pub record Head (slots : List ℕ) (i : ℕ) (more : List Death) : Type 0 where

@@ -87,9 +87,6 @@ module _ (x : Storage) (core : List Tagged) (r : Regs) (marks : List ℕ) (plan 
     abbrev rests : List PagedObject
     rests = filter (lies_out plan k) ts
 
-    In_here : ℕ → Type 0
-    In_here home = In x core r marks plan s o h k home
-
     used : k < plan.peak
     used = slot_below plan s.jobs m t h.fits.rows in_m in_t
 

@@ -4,7 +4,6 @@ use Rattle.std.proofs.Common.{◌≡◌, ◌≢◌, ℕ, ◌+◌, ◌≤◌, Lis
 use Rattle.std.specs.Prelude.{◌&&◌, if◌then◌else◌, unwrap_or, option_map}
 use Rattle.std.specs.List.{list_any}
 use Rattle.std.proofs.lemmas.Bool.{cases_Bool, eq-eqb, eqb-true}
-use Rattle.b67_word.specs.declared.faults.Ending.{Ending}
 use Rattle.b67_area.specs.declared.Areas.{Areas}
 use Rattle.b67_backing.specs.Shelf.{Table}
 use Rattle.b67_lemmas.specs.Lists.{Has}
@@ -27,11 +26,11 @@ use Rattle.b67_task_tables.specs.Tables.{MachineRepresents, counts_of, job_row}
 use Rattle.b67_task_end_stack.specs.Bury.{MayBury, IsBuried, GaveBack, plan_without, session_without, slots_gone}
 use Rattle.b67_task_end_stack.specs.Turns.{InTurn}
 use Rattle.b67_task_end.specs.declared.families.EndedTask.{EndedTask}
-use Rattle.b67_task_end.specs.Family.{pair_of, endings_of}
+use Rattle.b67_task_end.specs.Family.{pair_of}
 use Rattle.b67_task_end_tables.specs.Left.{numbers_in, is_of, slot_shown, rows_left}
 use Rattle.b67_task_end_tables.specs.Marks.{ShowsMarks}
 use Rattle.b67_task_end_tables.specs.Deaths.{numbers_of, is_gone, without_tasks, IsStopped, StandsWith, MayEnd, HasEnded}
-use Rattle.b67_task_end_tables.proofs.Family.{among_has, has_among, family, family_numbers, family_turn}
+use Rattle.b67_task_end_tables.proofs.Family.{among_has, has_among}
 use Rattle.b67_task_end_tables.proofs.Remains.{member', member_of, rows_fit, tables_left}
 use Rattle.b67_task_end_tables.proofs.TopMarks.{marks_show}
 
@@ -217,16 +216,3 @@ module _ (k : Machine) (u : Tasks) (x : Storage) (told : Option (List (List ℕ)
           storage = y;
           stands = subst (λ (q : Placement). MachineRepresents y told new q left_session) (sym (plan_is plan s m numbers may h.stands.session.holds.fits.rows)) all;
         }
-
--- a task may end with all that are under it
-pub family_may : (plan : Placement) (s : Session) (m : SessionJob) (t : Task) (ending : Ending) → IsInOrderButCounts s → Has s.jobs m → (live : Has m.progress.job.tasks t) → IsStopped plan m (numbers_of (endings_of m.progress.job t.number ending))
-    → MayEnd plan s m (numbers_of (endings_of m.progress.job t.number ending))
-family_may plan s m t ending o in_m live stopped =
-    let g = (job_in_order s m o in_m).tasks in
-    record {
-      member = in_m;
-      todo = family (IsSegment m.constants) m.constants m.progress.job g t live;
-      named = family_numbers (IsSegment m.constants) m.constants m.progress.job g t live ending;
-      turn = family_turn (IsSegment m.constants) m.constants m.progress.job g t live;
-      stopped = stopped;
-    }

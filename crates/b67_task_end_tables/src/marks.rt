@@ -1,20 +1,10 @@
 //! The marks on which live tasks depend, by the rows of the table.
 
-ghost use Rattle.std.specs.Prelude.{◌≡◌, ◌≢◌, ℕ, ◌≤◌, ◌<◌, max, Some, length, slice_get};
+ghost use Rattle.std.specs.Prelude.{◌≤◌, length};
 ghost use Rattle.b67_task_end_tables.specs.Marks.{ShowsMarks, Raised};
 
+use b67_task_start_stack::raise;
 use b67_task_tables::TaskRow;
-
-/// A live task depends on the mark at a displacement of a slot.
-fn raise(marks: &mut [u16; 120], slot: u8, at: u16)
-    requires { slot < 120 }
-    ensures own { (v : ℕ) → slice_get marks.old slot ≡ Some v → slice_get marks.new slot ≡ Some (max v at) }
-    ensures others { (q : ℕ) → q ≢ slot → slice_get marks.new q ≡ slice_get marks.old q }
-{
-    if marks[slot as usize] < at {
-        marks[slot as usize] = at;
-    }
-}
 
 /// A row's task depends on the row's critical mark in its parent's slot.
 fn depend(marks: &mut [u16; 120], row: TaskRow)

@@ -1,21 +1,13 @@
 //! The rows of those who stay when tasks end, and the slots of those who go.
 
-ghost use Rattle.std.specs.Prelude.{◌≡◌, ◌<◌, ◌≤◌, ◌==◌, [], ◌∷◌, ◌++◌, length, map};
-ghost use Rattle.std.specs.List.{list_any};
+ghost use Rattle.std.specs.Prelude.{◌≡◌, ◌<◌, ◌≤◌, [], ◌∷◌, ◌++◌, length, map};
 ghost use Rattle.b67_task_end.specs.declared.families.EndedTask.{EndedTask};
 ghost use Rattle.b67_task_end_tables.specs.Left as left;
 ghost use Rattle.b67_task_end_tables.specs.Left.{numbers_in, slot_shown};
 
 use arrayvec::ArrayVec;
-use b67_task_end::EndedTask;
+use b67_task_end::{EndedTask, is_among};
 use b67_task_tables::{TaskRow, TaskState};
-
-/// Whether a number is that of one of these tasks.
-fn is_among(list: &[EndedTask], number: u32) -> bool
-    ensures { result ≡ list_any (λ (e : EndedTask). e.number == number) list.now }
-{
-    list.iter().any(|e| e.number == number)
-}
 
 /// Whether a row isn't that of one of a job's tasks that ended.
 fn stays(row: TaskRow, job: u8, list: &[EndedTask]) -> bool

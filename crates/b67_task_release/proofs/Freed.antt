@@ -1,5 +1,5 @@
 -- An original's array, by its fields, and its area that is freed.
-use Rattle.std.proofs.Common.{◌≡◌, ◌≢◌, ℕ, ◌==◌, List, length, Option, Some, None, refl, sym, ◌∙◌, ap, arith, ⊎_elim, Bool, true, false, not, inl, inr, ◌⊎◌}
+use Rattle.std.proofs.Common.{◌≡◌, ◌≢◌, ℕ, ◌==◌, List, length, Option, Some, None, sym, ◌∙◌, ap, arith, ⊎_elim, Bool, true, false, not, inl, inr, ◌⊎◌}
 use Rattle.std.proofs.lemmas.Bool.{cases_eq, cond-true, cond-false, eq-eqb, ne_eqb, cases_Bool, true≢false}
 use Rattle.std.proofs.lemmas.Option.{same_Some, none-some}
 use Rattle.b67_word.specs.Tagged.{Tagged}
@@ -16,16 +16,6 @@ present_area h present address e p a = by h.area (cases_Bool present) p a where
   by (Some at) b p a = ap Some (sym a)
   by None (inl t) p a = absurd (true≢false (sym t ∙ p))
   by None (inr f) p a = absurd (true≢false (sym (ap not f) ∙ e))
-
-pub vacated_none : (low : ℕ) (spans : List Span) (core : List Tagged) → IsDirectory core low spans → Vacated low None spans core core
-vacated_none low spans core d = record {
-  directory = d;
-  below = λ i h n. refl;
-  bodies = λ b i e q down up. refl;
-  gone = λ b i e. (e, λ z. none-some b z);
-  stays = λ b i e n. e;
-  size = refl;
-}
 
 pub vacated_some : (low at : ℕ) (spans : List Span) (core new : List Tagged) → IsDirectory new low (without low at spans) → OnlyHoles core new low (without low at spans)
     → ((y : ℕ) → area_at low (without low at spans) y ≡ but at y (area_at low spans y)) → length new ≡ length core → Vacated low (Some at) spans core new

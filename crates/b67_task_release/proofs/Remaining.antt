@@ -266,12 +266,3 @@ remains_all x y cpu areas table told p old from upto left rest l m r = (
   subst (λ (ts : List PagedObject). MachineRepresentsView y cpu areas table told (with_objects ts p)) (no_rest upto p cpu.core rest r.still) m,
   r.below,
 )
-
-pub remains_start : (x : Storage) (p : MachineView) (core : List Tagged) (from upto : ℕ) (left : List PagedObject) → AreLeft p core from upto left → Remains (λ home. (home < from) × HasHome left home) x x p core core from upto left left
-remains_start x p core from upto left l = record {
-  released = Released-none (λ home. (home < from) × HasHome left home) x (λ home g. omega (arith, g.0, (l.among g.1.0 g.1.1).0, g.1.2));
-  among = λ t h. h;
-  others = λ t h n. h;
-  still = l;
-  below = λ i h n. refl;
-}

@@ -57,12 +57,6 @@ module _ (x : Storage) (cpu : Cpu) (plan : Placement) (s : Session) (m : Session
     clear = may.clear;
   }
 
-  abbrev pub opened_plan : Placement
-  opened_plan = with_peak plan (peak_with s 1)
-
-  abbrev pub opened_session : Session
-  opened_session = record s { peak = peak_with s 1 }
-
   pub opened_order : IsInOrderButCounts (record s { peak = peak_with s 1 })
   opened_order = record {
     few = o.few;

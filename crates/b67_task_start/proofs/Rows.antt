@@ -1,12 +1,12 @@
 -- The tables once a task was started: its row is the last, and its job's next task has the next number.
-use Rattle.std.proofs.Common.{◌≡◌, ℕ, zero, suc, ◌+◌, ◌-◌, ◌<◌, ◌≤◌, List, [], ◌∷◌, ◌++◌, map, length, drop, take, Option, Some, None, refl, sym, ◌∙◌, ap, arith, inl, inr, subst, slice_set}
+use Rattle.std.proofs.Common.{◌≡◌, ℕ, zero, suc, ◌+◌, ◌-◌, ◌<◌, ◌≤◌, List, [], ◌∷◌, ◌++◌, map, length, Option, Some, None, refl, sym, ◌∙◌, ap, arith, inl, inr, subst, slice_set}
 use Rattle.std.specs.List.{slice_get}
 use Rattle.std.proofs.lemmas.Bool.Decides.{eqb_tells}
 use Rattle.std.proofs.lemmas.List.{map-append, length-map}
 use Rattle.std.proofs.lemmas.Option.{same_Some, none-some}
 use Rattle.b67_lemmas.specs.Lists.{Has}
 use Rattle.b67_lemmas.proofs.Members.{has_get, keyed_has}
-use Rattle.b67_lemmas.proofs.Places.{came_back, map-slice_set, mapped_at, at_mapped}
+use Rattle.b67_lemmas.proofs.Places.{map-slice_set, mapped_at, at_mapped}
 use Rattle.b67_law_order.proofs.Numbered.{keyed_member, numbered_low}
 use Rattle.b67_model.specs.Common.{Task, Job, SessionJob, live_tasks, number_of, Session, NumberedFrom}
 use Rattle.b67_model.specs.Keyed.{keyed}
@@ -105,12 +105,6 @@ module _ (plan : Placement) (m : SessionJob) (job' : Job) (number k peak : ℕ) 
       jobs_next (from + 1) i ys rs r (omega (arith, e)) d.1 (rw t.0 at found) h.1 at,
     )
   ]
-
--- what is counted through the lent slice
-pub counted_is : (xs lent new : List JobRow) (n : ℕ) (r : JobRow) → lent ≡ xs → (slice_get lent n ≡ Some r → new ≡ slice_set lent n (with_next r)) → length new ≡ length lent → slice_get xs n ≡ Some r
-    → take (length xs) (new ++ drop (length new) xs) ≡ slice_set xs n (with_next r)
-counted_is xs lent new n r same changed len at =
-    came_back xs new (len ∙ ap length same) ∙ changed (ap (λ (l : List JobRow). slice_get l n) same ∙ at) ∙ ap (λ (l : List JobRow). slice_set l n (with_next r)) same
 
 -- the tables show the session with the new task
 pub tables_started : (tasks tasks' : Tasks) (plan : Placement) (s : Session) (m : SessionJob) (t new : Task) (k : ℕ) (x : Storage) (cpu : Cpu) (o : IsInOrderButCounts s) (h : RepresentsSession x cpu plan s) (shows : TasksShow plan s tasks) (runs : IsRunning plan s.jobs m t)

@@ -38,7 +38,7 @@ pub fn next_slot_end(cpu: &Cpu) -> u32
 }
 
 /// Opens the slot of a new task: the lowest in which no task lives. The session's peak counts that task from now on.
-pub fn open_slot(cpu: &mut Cpu, areas: &mut Areas) -> u8
+pub(crate) fn open_slot(cpu: &mut Cpu, areas: &mut Areas) -> u8
     requires { HasSomeSlot cpu.old areas.old }
     ensures slot { (x : Storage) (plan : Placement) (s : Session) (k : ℕ) → RepresentsSession x cpu.old plan s → IsLowestFree plan k → result ≡ k }
     ensures stands { (x : Storage) (plan : Placement) (s : Session) (k : ℕ) → IsInOrderButCounts s → RepresentsSession x cpu.old plan s → areas.old.low ≡ x.low

@@ -1,6 +1,6 @@
 //! The birth of a task.
 
-ghost use Rattle.std.specs.Prelude.{◌≡◌, ℕ, ◌+◌, ◌-◌, ◌^◌, ◌<◌, ◌≤◌, List, [], ◌∷◌, ◌++◌, Option, Some, length, slice_get, slice_set};
+ghost use Rattle.std.specs.Prelude.{◌≡◌, ℕ, ◌+◌, ◌-◌, ◌^◌, ◌<◌, List, [], ◌∷◌, ◌++◌, Option, Some, length, slice_get, slice_set};
 ghost use Rattle.b67_word.specs.declared.couples.Place.{Place};
 ghost use Rattle.b67_ctl.specs.Layout.{IsPcw, pcw_word};
 ghost use Rattle.b67_ctl.specs.declared.programs.Pcw.{Pcw};
@@ -61,14 +61,6 @@ fn running_row(machine: &Machine) -> TaskRow
     machine.tasks.rows[machine.tasks.running as usize]
 }
 
-/// The number of a job's next task.
-fn next_number(tasks: &Tasks, job: u8) -> u32
-    requires { (r : JobRow) × (slice_get tasks.now.jobs (job - 1) ≡ Some r) × (1 ≤ job) }
-    ensures { (r : JobRow) → slice_get tasks.now.jobs (job - 1) ≡ Some r → result ≡ r.next_task }
-{
-    tasks.jobs.as_slice()[job as usize - 1].next_task
-}
-
 /// Starts a child of the running task in the procedure whose word lies at a core address, with copies of the last `args`
 /// cells of the top activation record as its cells; nothing is cut. Its stack stands in the lowest free slot, under which no
 /// area has a word. Answers its number.
@@ -85,7 +77,7 @@ pub fn start(machine: &mut Machine, cell: u32, args: u32) -> u32
     ensures sectors { machine.new.sectors ≡ machine.old.sectors }
 {
     let parent = running_row(machine);
-    let number = next_number(&machine.tasks, parent.job);
+    let number = machine.tasks.next_number(parent.job);
     let slot = open_slot(&mut machine.cpu, &mut machine.areas);
     let procedure = procedure_at(&machine.cpu.core, cell);
     let env = activation_of(&machine.cpu.core, &machine.cpu.regs, cell);

@@ -82,11 +82,6 @@ mark_same job job' child is (f ∷ below) apart =
     ap (λ (b : Bool). if b then height below else critical_mark job' below) test
     ∙ ap (λ (n : ℕ). if is_critical job f.identity then height below else n) (mark_same job job' child is below (λ g i. apart g (inr i)))
 
--- frames but the child's are found where they were
-past_child : (n : ℕ) (fs rest : List Frame) (id : ℕ) → ((f : Frame) → Has fs f → f.identity ≢ id) → keyed (λ (f : Frame). f.identity) id (fs ++ rest) ≡ keyed (λ (f : Frame). f.identity) id rest
-past_child n [] rest id apart = refl
-past_child n (f ∷ fs) rest id apart = rw (ne_eqb f.identity id (apart f (inl refl))) (past_child n fs rest id (λ g i. apart g (inr i)))
-
 -- what the machine's parts are to show beside the view: words below the slots, critical marks and registers
 pub record Shown (core new : List Tagged) (r r' : Regs) (marks marks' : List ℕ) (plan : Placement) (m : SessionJob) (t : Task) (job' : Job) (child : Task) (k peak : ℕ) : Type 0 where
   pub few : peak ≤ 120

@@ -8,7 +8,7 @@ use Rattle.b67_area.specs.Spans.{Span, area_at}
 use Rattle.b67_area.specs.Directory.{IsDirectory}
 use Rattle.b67_ctl.specs.declared.registers.Regs.{Regs}
 use Rattle.b67_lemmas.specs.Lists.{Has}
-use Rattle.b67_stack.specs.Common.{Fits, LieDownward, Activation, stack_words, words, PagedObject, Slot, Free, Running, Waiting, stack_of, MachineView, slot_base, SlotFits, Laid, NoOriginalAboveTop, Storage, RepresentsRunning, RepresentsSlot, RepresentsRegs, RepresentsSlots, StacksLie, RepresentsObjects, Owned, Represents, info_of}
+use Rattle.b67_stack.specs.Common.{Fits, LieDownward, Activation, stack_words, words, PagedObject, Slot, Free, Running, Waiting, stack_of, MachineView, slot_base, SlotFits, Laid, Storage, RepresentsRunning, RepresentsSlot, RepresentsRegs, RepresentsSlots, StacksLie, RepresentsObjects, Owned, Represents, info_of}
 use Rattle.b67_stack.proofs.Bases.{base-step, base-apart}
 use Rattle.b67_stack.proofs.Heights.{words-length}
 use Rattle.b67_stack.proofs.Lies.{Lie-same}
@@ -116,11 +116,3 @@ module _ (x : Storage) (core new : List Tagged) (r : Regs) (p : MachineView) (sp
     directory = directory;
     inside = omega (arith, g.inside, size);
   }
-
-  pub NoOriginalAboveTop-grown : NoOriginalAboveTop p → NoOriginalAboveTop (grown p)
-  NoOriginalAboveTop-grown h t i k hk up down = ⊎_elim
-      (λ (z : k < p.peak). h t i k z up down)
-      (λ (z : p.peak ≤ k).
-      let same : slot_base p k ≡ slot_base p p.peak = ap (slot_base p) (let q : k ≡ p.peak = omega (arith, z, hk) in q) in
-      absurd (let b : ⊥ = omega (arith, (laid.homes t i).1, low_base, up, same) in b))
-      (cases_lt k p.peak)

@@ -84,10 +84,6 @@ module _ (plan : Placement) (jobs : List SessionJob) (m : SessionJob) (job' : Jo
   any_array : (a : ℕ) → Unit {0} → (array job' a ≡ array m.progress.job a) × (plan_more.home m.constants.number a ≡ plan.home m.constants.number a)
   any_array a ok = (ap (λ (xs : List Array). array (record m.progress.job { arrays = xs }) a) h.arrays, refl)
 
-  -- the stacks of the tasks of the job, and of those of another
-  pub stack_own : (q : ℕ) (t : Task) → Has m.progress.job.tasks t → stack_of_task plan_more m.constants.number job' q t ≡ stack_of_task plan m.constants.number m.progress.job q t
-  stack_own q t i = stack-twin plan plan_more m.constants.number m.progress.job job' Old (λ a. Unit {0}) old_slots old_tasks any_array t t (like_same (Some t)) (h.above t i) q (name_all t.frames)
-
   pub spots_own : (t : Task) → Has m.progress.job.tasks t → (id : ℕ) → spots plan_more m.constants.number job' t id ≡ spots plan m.constants.number m.progress.job t id
   spots_own t i id = spots-twin plan plan_more m.constants.number m.progress.job job' Old (λ a. Unit {0}) old_slots old_tasks any_array t t (like_same (Some t)) (h.above t i) (h.newest t i) id
 

@@ -26,8 +26,8 @@ pub fn mark_disp(cpu: &Cpu) -> u16
     (cpu.regs.f - u32::from(mark.back) - cpu.regs.bosr) as u16
 }
 
-/// The mark at a displacement is one that a live task depends on.
-fn depend(critical: &mut [u16; 120], slot: u8, at: u16)
+/// A live task depends on the mark at a displacement of a slot: the topmost mark on which one depends there is no lower.
+pub fn raise(critical: &mut [u16; 120], slot: u8, at: u16)
     requires { slot < SLOTS }
     ensures own { (v : ℕ) → slice_get critical.old slot ≡ Some v → slice_get critical.new slot ≡ Some (max v at) }
     ensures others { (q : ℕ) → q ≢ slot → slice_get critical.new q ≡ slice_get critical.old q }
@@ -79,5 +79,5 @@ pub fn build_child(
         job,
     };
     cpu.core.set(STACK_VECTOR + u32::from(slot), vector.word());
-    depend(&mut cpu.critical, parent, under);
+    raise(&mut cpu.critical, parent, under);
 }

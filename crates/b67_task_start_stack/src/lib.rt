@@ -4,5 +4,5 @@
 mod children;
 mod slots;
 
-pub use children::{build_child, mark_disp};
-pub use slots::{add_slot, build_stack};
+pub use children::{build_child, mark_disp, raise};
+pub use slots::add_slot;

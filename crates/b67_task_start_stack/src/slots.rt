@@ -33,7 +33,7 @@ pub fn add_slot(cpu: &mut Cpu, areas: &mut Areas)
 
 /// Writes a stack of one entered activation record from its slot's base word up: the top of stack word, the mark, a return
 /// to nowhere, and as cells copies of so many words.
-pub fn build_stack(core: &mut Core, base: u32, top: Word, mark: Word, from: u32, count: u32)
+pub(crate) fn build_stack(core: &mut Core, base: u32, top: Word, mark: Word, from: u32, count: u32)
     requires inside { base + (3 + count) ≤ length core.old }
     requires apart { (from + count ≤ base) ⊎ (base + (3 + count) ≤ from) }
     requires source { from + count ≤ length core.old }

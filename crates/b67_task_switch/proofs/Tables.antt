@@ -2,7 +2,7 @@
 use Rattle.std.proofs.Common.{◌≡◌, ◌≢◌, ℕ, ◌+◌, ◌≤◌, List, [], ◌∷◌, length, Option, Some, None, refl, sym, ◌∙◌, ap, arith, ⊎_elim, slice_set, subst, length-set}
 use Rattle.std.specs.List.{slice_get}
 use Rattle.std.proofs.lemmas.Option.{same_Some, slice_get_within, slice_get_past}
-use Rattle.std.proofs.lemmas.Bool.{cases_eq, eq-eqb}
+use Rattle.std.proofs.lemmas.Bool.{cases_eq}
 use Rattle.b67_core.proofs.Writes.{slice_get-set_same, slice_get-set_other}
 use Rattle.b67_word.specs.Tagged.{Tagged}
 use Rattle.b67_ctl.specs.declared.registers.Regs.{Regs}
@@ -10,7 +10,6 @@ use Rattle.b67_lemmas.specs.Lists.{Has}
 use Rattle.b67_lemmas.proofs.Members.{has_get}
 use Rattle.b67_lemmas.proofs.Places.{has_at, same_mapped}
 use Rattle.b67_model.specs.Common.{Condition, Ready, Awaits, WaitsAt, Task, Job, SessionJob, Session}
-use Rattle.b67_model.specs.Keyed.{keyed}
 use Rattle.b67_layout.specs.Common.{IsInOrderButCounts, Placement, slot_of, address_of, WaitsAtCell, TaskRow, JobRow, JobCounts, shown, parent_slot, critical_disp, TaskShows, JobsShow, RunningRow, Differ, TablesShow, RowsFit, IsRunning, SessionHolds}
 use Rattle.b67_stack.specs.Represents.{Storage}
 use Rattle.b67_stack.specs.Stacks.{StackPlace}
@@ -18,9 +17,6 @@ use Rattle.b67_layout.proofs.Common.{slot_below, differ_at, live_in_order}
 use Rattle.b67_task_switch.specs.Turns.{with_running}
 use Rattle.b67_task_switch.proofs.Replans.{spots-replan}
 use Rattle.b67_law_order.proofs.Numbered.{keyed_member}
-
-keyed-head : {A : Type 0} (key : A → ℕ) (y : A) (more : List A) → keyed key (key y) (y ∷ more) ≡ Some y
-keyed-head key y more = rw (eq-eqb (key y) (key y) refl) refl
 
 -- a row of a task, whatever registers are in use
 module _ (plan : Placement) (k : ℕ) where

@@ -4,15 +4,11 @@ use Rattle.std.specs.List.{slice_get}
 use Rattle.b67_word.specs.Tagged.{Tagged}
 use Rattle.b67_ctl.specs.declared.registers.Regs.{Regs}
 use Rattle.b67_ctl.specs.Layout.{toscw_word, IsToscw}
-use Rattle.b67_stack.specs.Common.{Activation, Head, Marked, Entered, IsStack, head_size, stack_words, mark_place, words, toscw_of, MachineView, Slot, slot_base, RunsOn, SlotFits, CopiesName, Storage, RepresentsSlot, Represents}
+use Rattle.b67_stack.specs.Common.{Activation, IsStack, stack_words, mark_place, words, toscw_of, MachineView, Slot, slot_base, RunsOn, SlotFits, CopiesName, Storage, RepresentsSlot, Represents}
 use Rattle.b67_stack.proofs.Bases.{base-apart}
 use Rattle.b67_stack.proofs.Tops.{level-small, mark_high}
 use Rattle.b67_stack.proofs.Slots.{running_slot, running_fits}
 use Rattle.b67_task_switch.specs.Turns.{WaitsOn}
-
-head-some : (h : Head) → 1 ≤ head_size h
-head-some Marked = omega arith
-head-some (Entered level environment back) = omega arith
 
 pub toscw_fits : (size : ℕ) (stack : List Activation) → IsStack size stack → size < 2 ^ 14 → IsToscw (toscw_of stack)
 toscw_fits size stack f room = record { s = omega (arith, f.fits); level = level-small stack f.heads; f = omega (arith, f.fits, mark_high stack) }

@@ -4,5 +4,5 @@
 mod registers;
 mod turning;
 
-pub use registers::{Turn, switch_stack};
+pub use registers::Turn;
 pub use turning::switch_to;

@@ -95,7 +95,7 @@ fn registers(core: &Core, regs: &Regs, turn: Turn) -> Regs
 
 /// Brings the registers and the display of a live task into use; those of the task that ran before are put away, but for
 /// its segment and place, which the caller keeps. The session's state stays.
-pub fn switch_stack(cpu: &mut Cpu, turn: Turn)
+pub(crate) fn switch_stack(cpu: &mut Cpu, turn: Turn)
     requires { HasTurn cpu.old turn }
     ensures stands { (x : Storage) (plan : Placement) (s : Session) (m : SessionJob) (t : Task) → IsInOrderButCounts s
         → RepresentsSession x cpu.old plan s → IsTurnOf plan s.jobs m t turn → RepresentsSession x cpu.new (with_running plan turn.slot) s }

@@ -1,8 +1,9 @@
 //! The tables of tasks and jobs, and the whole machine.
 
-ghost use Rattle.std.specs.Prelude.{◌≡◌, [], ◌∷◌, ◌++◌, OnOk, OnErr};
+ghost use Rattle.std.specs.Prelude.{◌≡◌, ◌≤◌, ◌-◌, [], ◌∷◌, ◌++◌, OnOk, OnErr, Some, slice_get};
 ghost use Rattle.std.specs.Borrow.{sem};
 ghost use Rattle.b67_task_tables.specs.Lending.{LendsJobs};
+ghost use Rattle.b67_task_tables.specs.declared.tables.JobRow.{JobRow};
 
 use arrayvec::ArrayVec;
 use b67_area::Areas;
@@ -137,6 +138,16 @@ pub struct Tasks {
     pub last_number: u32,
     pub running: u8,
     pub printed: u64,
+}
+
+impl Tasks {
+    /// The number of a job's next task.
+    pub fn next_number(&self, job: u8) -> u32
+        requires { (r : JobRow) × (slice_get self.now.jobs (job - 1) ≡ Some r) × (1 ≤ job) }
+        ensures { (r : JobRow) → slice_get self.now.jobs (job - 1) ≡ Some r → result ≡ r.next_task }
+    {
+        self.jobs.as_slice()[job as usize - 1].next_task
+    }
 }
 
 /// The whole machine.

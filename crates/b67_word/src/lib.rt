@@ -8,5 +8,5 @@ mod tagged;
 
 pub use couples::{Couple, Place, bits_of, couple_of};
 pub use faults::{Ending, Failed, Fault};
-pub use lists::{Bytes, Numbers, Words};
+pub use lists::{Bytes, List, Numbers, Words};
 pub use tagged::{TAG_WEIGHT, Word};

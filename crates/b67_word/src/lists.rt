@@ -1,10 +1,56 @@
-//! Lists of words, bytes and numbers.
+//! Lists of items, and those of words, bytes and numbers.
 
 ghost use Rattle.std.specs.Prelude.{◌≡◌, [], ◌∷◌, ◌++◌, OnOk, OnErr};
 
 use crate::tagged::Word;
 use std::alloc::{AllocError, Global};
 use std::marker::Model;
+
+/// A list that grows by one item at a time.
+#[derive(Drop)]
+pub struct List<T> {
+    items: Vec<T>,
+}
+
+impl<T> Model for List<T> {
+    ghost use Rattle.std.specs.Prelude as prelude;
+
+    ghost Value = { prelude.List T };
+
+    ghost view = { λ l. l.items.items };
+}
+
+impl<T: Drop> List<T> {
+    /// The empty list.
+    pub fn new(alloc: Global) -> Self
+        ensures { result ≡ [] }
+    {
+        List {
+            items: Vec::new(alloc),
+        }
+    }
+
+    /// Appends an item. A refusal changes nothing.
+    pub fn push(&mut self, x: T) -> Result<(), AllocError>
+        ensures ok { OnOk result (self.new ≡ self.old ++ x ∷ []) }
+        ensures err { OnErr result (self.new ≡ self.old) }
+    {
+        self.items.push(x)?;
+        Ok(())
+    }
+
+    pub fn as_slice(&self) -> &[T]
+        ensures { result.now ≡ self.now }
+    {
+        self.items.as_slice()
+    }
+}
+
+/// A list of numbers.
+pub type Numbers = List<i64>;
+
+/// A list of words.
+pub type Words = List<Word>;
 
 /// A list of bytes.
 #[derive(Drop)]
@@ -49,87 +95,6 @@ impl Bytes {
     }
 
     pub fn as_slice(&self) -> &[u8]
-        ensures { result.now ≡ self.now }
-    {
-        self.items.as_slice()
-    }
-}
-
-/// A list of numbers.
-#[derive(Drop)]
-pub struct Numbers {
-    items: Vec<i64>,
-}
-
-impl Model for Numbers {
-    ghost use Rattle.std.specs.Prelude.{List, ℤ};
-
-    ghost Value = { List ℤ };
-
-    ghost view = { λ n. n.items.items };
-}
-
-impl Numbers {
-    /// The empty list.
-    pub fn new(alloc: Global) -> Self
-        ensures { result ≡ [] }
-    {
-        Numbers {
-            items: Vec::new(alloc),
-        }
-    }
-
-    /// Appends a number. A refusal changes nothing.
-    pub fn push(&mut self, x: i64) -> Result<(), AllocError>
-        ensures ok { OnOk result (self.new ≡ self.old ++ x ∷ []) }
-        ensures err { OnErr result (self.new ≡ self.old) }
-    {
-        self.items.push(x)?;
-        Ok(())
-    }
-
-    pub fn as_slice(&self) -> &[i64]
-        ensures { result.now ≡ self.now }
-    {
-        self.items.as_slice()
-    }
-}
-
-/// A list of words.
-#[derive(Drop)]
-pub struct Words {
-    items: Vec<Word>,
-}
-
-impl Model for Words {
-    ghost use Rattle.std.specs.Prelude.{List};
-    ghost use Rattle.b67_word.specs.Tagged.{Tagged};
-
-    ghost Value = { List Tagged };
-
-    ghost view = { λ b. b.items.items };
-}
-
-impl Words {
-    /// The empty list.
-    pub fn new(alloc: Global) -> Self
-        ensures { result ≡ [] }
-    {
-        Words {
-            items: Vec::new(alloc),
-        }
-    }
-
-    /// Appends a word. A refusal changes nothing.
-    pub fn push(&mut self, x: Word) -> Result<(), AllocError>
-        ensures ok { OnOk result (self.new ≡ self.old ++ x ∷ []) }
-        ensures err { OnErr result (self.new ≡ self.old) }
-    {
-        self.items.push(x)?;
-        Ok(())
-    }
-
-    pub fn as_slice(&self) -> &[Word]
         ensures { result.now ≡ self.now }
     {
         self.items.as_slice()

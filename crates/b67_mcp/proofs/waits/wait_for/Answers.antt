@@ -2,7 +2,7 @@ use Rattle.std.proofs.Common.{◌≡◌, ℕ, Some, length, ◌∙◌, ap, arith
 use Rattle.b67_model.specs.declared.operators.Op.TheVariants.{Plain}
 use Rattle.b67_model.specs.declared.operators.Code.TheVariants.{Entr}
 use Rattle.b67_model.specs.Intrinsics.{await, status, wait, cause}
-use Rattle.b67_mcp_waits.specs.Events.{StandsAtCall}
+use Rattle.b67_mcp_call.specs.Calls.{StandsAtCall}
 use Rattle.b67_task_tables.specs.declared.tables.Machine.{Machine}
 use Rattle.b67_mcp.specs.Called.{CallsSome}
 use Rattle.b67_mcp.proofs.Callings.{calling, reads_of}

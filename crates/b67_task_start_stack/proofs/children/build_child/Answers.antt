@@ -51,8 +51,8 @@ word-requires-3 c =
       job = omega (arith, job_small q.storage k q.plan q.session q.member q.task q.after q.child c.args.slot c.args.job c.args.env_stack c.args.env_disp c.args.level c.args.count q.may);
     }
 
-pub depend-requires : goal.depend-requires
-depend-requires c = let q = c.requires in slot_small q.storage c.args.cpu.now q.plan q.session q.member q.task q.after q.child c.args.slot c.args.job c.args.env_stack c.args.env_disp c.args.level c.args.count q.may
+pub raise-requires : goal.raise-requires
+raise-requires c = let q = c.requires in slot_small q.storage c.args.cpu.now q.plan q.session q.member q.task q.after q.child c.args.slot c.args.job c.args.env_stack c.args.env_disp c.args.level c.args.count q.may
 
 pub returns-clause-stands : goal.returns-clause-stands
 returns-clause-stands c = λ x plan s m t after child b.
@@ -61,7 +61,7 @@ returns-clause-stands c = λ x plan s m t after child b.
     let vector : 2 ^ 46 + c.from-4.result * 2 ^ 36 + c.args.job * 2 ^ 16 ≡ 2 ^ 46 + k.regs.slot * 2 ^ 36 + c.args.job * 2 ^ 16 = omega (arith, c.from-4.ensures) in
     let written = c.set.ensures.value ∙ ap (λ (n : ℕ). slice_set c.build_stack.new.core (32 + n) c.word-3.result) c.from-5.ensures ∙ ap (λ (w : Tagged). slice_set c.build_stack.new.core (32 + slot) w) c.word-3.ensures in
     child_built x k plan s m t after child slot c.args.job c.args.env_stack c.args.env_disp c.args.level c.args.count b
-    c.set.new.self c.build_stack.new.core c.depend.new.critical _ c.mark_disp-under.result _ _ _
+    c.set.new.self c.build_stack.new.core c.raise.new.critical _ c.mark_disp-under.result _ _ _
     (base_is x k plan s m t after child slot c.args.job c.args.env_stack c.args.env_disp c.args.level c.args.count b c.from.result c.from-2.result c.from.ensures c.from-2.ensures)
     refl
     (ap (λ (n : ℕ). let w : Mscw = record { far = not (c.args.env_stack == n); entered = true; env_stack = c.args.env_stack; env_disp = c.args.env_disp; value = false; level = c.args.level; back = 0 } in w) c.from-3.ensures)
@@ -72,4 +72,4 @@ returns-clause-stands c = λ x plan s m t after child b.
     (c.build_stack.ensures.top ∙ ap (λ (w : Tagged). Some w) c.word.ensures)
     (c.build_stack.ensures.mark ∙ ap (λ (w : Tagged). Some w) c.word-2.ensures)
     c.build_stack.ensures.back c.build_stack.ensures.cells c.build_stack.ensures.outside c.build_stack.ensures.len
-    written c.set.ensures.len c.depend.ensures.own c.depend.ensures.others
+    written c.set.ensures.len c.raise.ensures.own c.raise.ensures.others
