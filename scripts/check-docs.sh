@@ -105,7 +105,7 @@ for document in "$@"; do
         *) [ -e "$target" ] ;;
         esac || wrong "$document: the link $link"
     done
-    grep -oE '`[A-Z0-9, ]+( / [A-Z0-9, ]+)+` gives `[^`]+`' "$document" | sed 's/`//g; s/ gives /\t/' >"$room/sentences"
+    grep -oE '`[A-Z0-9,: ]+( / [A-Z0-9,: ]+)+` gives `[^`]+`' "$document" | sed 's/`//g; s/ gives /\t/' >"$room/sentences"
     while IFS="$(printf '\t')" read -r cards printed; do
         { printf '?JOB A\n?ASM\nSEGMENT MAIN 2\n'; printf '%s\n' "$cards" | sed 's: / :\n:g'; echo '?END'; } >"$room/text"
         if [ "$(b67 run --core 4096 --backing b <"$room/text" | head -1)" = "$printed" ]; then passed=$((passed + 1)); else
