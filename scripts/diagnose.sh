@@ -40,8 +40,9 @@ LOAD*)
     job=$(sed -n "1,${card}p" "$deck" | grep -c '^?JOB')
     sh "$here/listing.sh" "$deck" "$program" "$job" |
         awk -v segment="segment $segment," -v place="$place" '
-            /^segment/ { in_it = index($0, segment) == 1; if (in_it) print "    " $0 }
-            in_it && $1 == place { print "  " $0 }'
+            /^segment/ { in_it = index($0, segment) == 1; heading[$2 + 0] = $0; if (in_it) print "    " $0 }
+            in_it && $1 == place { print "  " $0; if (match($0, /MPCW segment [0-9]+/)) named = substr($0, RSTART + 13, RLENGTH - 13) }
+            END { if (named in heading) print "    " heading[named] }'
     ;;
 esac
 sh "$here/explain.sh" "${line:-status $status}"
