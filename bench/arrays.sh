@@ -1,5 +1,7 @@
 #!/bin/sh
 # A deck that makes 200 arrays of 50 to 249 words, and then stores into each of them in turn, a hundred times.
+# `sh bench/arrays.sh`
+[ $# = 0 ] || { echo "usage: sh bench/arrays.sh" >&2; exit 2; }
 cat <<'H'
 ?STACK 1024
 ?JOB ARRAYS

@@ -93,6 +93,8 @@ def answer(program, command, deck, folder):
 
 
 def main():
+    if len(sys.argv) != 2 or not os.access(sys.argv[1], os.X_OK) or os.path.isdir(sys.argv[1]):
+        sys.exit(print("usage: python3 bench/hostile.py PROGRAM", file=sys.stderr) or 2)
     program = os.path.abspath(sys.argv[1])
     print("| deck | half | whole | times | status | last line |\n|---|---|---|---|---|---|")
     with tempfile.TemporaryDirectory() as folder:

@@ -3,8 +3,17 @@
 # a built b67, and each random lie is told so many times (1000 if it isn't given). For each deck and lie it prints how many
 # runs ended with which status. A run that ends otherwise, or not within 20 seconds, is printed and gives status 1. It wants gcc.
 set -eu
+usage() {
+    echo "$1" >&2
+    echo "usage: sh bench/lies.sh PROGRAM [SEEDS]" >&2
+    exit 2
+}
+[ $# = 1 ] || [ $# = 2 ] || usage "a program, and a number of seeds if you like"
 program=$1
 seeds=${2:-1000}
+command -v "$program" >/dev/null || usage "$program: not a program that can be run"
+case $seeds in '' | *[!0-9]* | 0* | ???????*) usage "$seeds: not a number of seeds from 1 to 999999" ;; esac
+command -v gcc >/dev/null || usage "gcc isn't on the path"
 bench=$(cd "$(dirname "$0")" && pwd)
 room=$(mktemp -d)
 trap 'rm -rf "$room"' EXIT

@@ -65,6 +65,8 @@ ROWS = [
 
 
 def main():
+    if len(sys.argv) != 2 or not os.access(sys.argv[1], os.X_OK) or os.path.isdir(sys.argv[1]):
+        sys.exit(print("usage: python3 bench/limits.py PROGRAM", file=sys.stderr) or 2)
     program, wrong = os.path.abspath(sys.argv[1]), 0
     with tempfile.TemporaryDirectory() as folder:
         for name, core, deck, status, lines in ROWS:

@@ -15,7 +15,10 @@ if [ ${#names[@]} -eq 0 ]; then
     mapfile -t names < <(for folder in crates/*/more-edits; do basename "$(dirname "$folder")"; done)
 fi
 for name in "${names[@]}"; do
-    compgen -G "crates/$name/more-edits/*.edit" > /dev/null || { echo "$name has no more-edits" >&2; exit 2; }
+    compgen -G "crates/$name/more-edits/*.edit" > /dev/null || {
+        printf '%s has no more-edits\nusage: bash bench/more-edits.sh [NAME..]\n' "$name" >&2
+        exit 2
+    }
     # the gate tries those of must-fail
     rm -rf "crates/$name/must-fail"
     cp -r "crates/$name/more-edits" "crates/$name/must-fail"

@@ -3,7 +3,15 @@
 # prints how many requests a run makes, and how many of them, refused, left the answer as it was and how many gave NO MEMORY
 # alone, with status 9. Any other answer is printed and gives status 1. It wants gcc.
 set -eu
+usage() {
+    echo "$1" >&2
+    echo "usage: sh bench/refused.sh PROGRAM" >&2
+    exit 2
+}
+[ $# = 1 ] || usage "one program"
 program=$1
+command -v "$program" >/dev/null || usage "$program: not a program that can be run"
+command -v gcc >/dev/null || usage "gcc isn't on the path"
 bench=$(cd "$(dirname "$0")" && pwd)
 room=$(mktemp -d)
 trap 'rm -rf "$room"' EXIT

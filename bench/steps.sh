@@ -1,10 +1,19 @@
 #!/bin/sh
 # The instructions of one operator, by valgrind: each deck runs with two limits, and the difference is divided by the
-# operators between. The same on every machine. Takes the built program's path (default crates/b67/out/b67).
+# operators between. The same on every machine. Takes the built program's path (default crates/b67/out/b67):
+# `sh bench/steps.sh [PROGRAM]`. It wants valgrind.
 # The last line is the whole run of the paging deck, in millions of instructions.
 set -eu
 here=$(cd "$(dirname "$0")" && pwd)
 program=${1:-$here/../crates/b67/out/b67}
+usage() {
+    echo "$1" >&2
+    echo "usage: sh bench/steps.sh [PROGRAM]" >&2
+    exit 2
+}
+[ $# -le 1 ] || usage "one program at most"
+command -v "$program" >/dev/null || usage "$program: not a program that can be run"
+command -v valgrind >/dev/null || usage "valgrind isn't on the path"
 room=$(mktemp -d)
 trap 'rm -rf "$room"' EXIT
 

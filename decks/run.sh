@@ -6,9 +6,15 @@
 #
 #     sh decks/run.sh PROGRAM [DECK..]
 set -u
-[ $# -ge 1 ] || { echo "usage: sh decks/run.sh PROGRAM [DECK..]" >&2; exit 2; }
+usage() {
+    echo "$1" >&2
+    echo "usage: sh decks/run.sh PROGRAM [DECK..]" >&2
+    exit 2
+}
+[ $# -ge 1 ] || usage "a program is missing"
 program=$1
 shift
+command -v "$program" >/dev/null || usage "$program: not a program that can be run"
 case $program in
 */*) program=$(cd "$(dirname "$program")" && pwd)/$(basename "$program") ;;
 esac
@@ -17,6 +23,9 @@ room=$(mktemp -d)
 trap 'rm -rf "$room"' EXIT
 cd "$room" || exit 2
 [ $# -gt 0 ] || set -- $(ls "$here" | grep -v '\.')
+for name in "$@"; do
+    [ -f "$here/$name/stdin" ] || usage "$name: not a folder of decks/"
+done
 
 # runs deck $1 with its arguments, or with core $2, into the file `lines`; the status is that of the program
 run() {

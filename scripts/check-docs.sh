@@ -12,10 +12,16 @@
 # - cards in a sentence, as `ZERO / EXIT` gives `1.1 ENDED`, are the outer block of a deck that prints this first.
 # A block after a line <!-- check-docs: skip, WHY --> isn't run, and is listed as such. The program is found as `b67`
 # and as crates/b67/out/b67. The two lines with a status that `rt try` adds are left out of the comparison. Beside that,
-# each link must lead to a file and a heading, the table of decks must name each folder of decks/, and the manual page
-# each status's line.
+# each link must lead to a file and a heading, the table of decks must name each folder of decks/, that of crates each
+# crate, and the manual page each status's line.
 set -u
-[ $# -ge 1 ] || { echo "usage: bash scripts/check-docs.sh PROGRAM [DOCUMENT..]" >&2; exit 2; }
+usage() {
+    echo "$1" >&2
+    echo "usage: bash scripts/check-docs.sh PROGRAM [DOCUMENT..]" >&2
+    exit 2
+}
+[ $# -ge 1 ] || usage "a program is missing"
+[ -f "$1" ] && [ -x "$1" ] || usage "$1: not a program that can be run"
 program=$(cd "$(dirname "$1")" && pwd)/$(basename "$1")
 shift
 top=$(cd "$(dirname "$0")/.." && pwd)
@@ -30,7 +36,10 @@ done
 export PATH="$room/bin:$PATH" HOME="$room/home"
 mkdir -p "$HOME"
 cd "$room/clone" || exit 2
-[ $# -gt 0 ] || set -- README.md docs/*.md bench/README.md decks/README.md
+[ $# -gt 0 ] || set -- README.md CHANGES.md docs/*.md bench/README.md decks/README.md reference/README.md
+for document in "$@"; do
+    [ -f "$document" ] || usage "$document: not a document of the repository"
+done
 
 passed=0
 failed=0
@@ -96,7 +105,7 @@ for document in "$@"; do
         *) [ -e "$target" ] ;;
         esac || wrong "$document: the link $link"
     done
-    grep -oE '`[A-Z0-9, ]+( / [A-Z0-9, ]+)+` gives `[^`]+`' "$document" | sed 's/`//g; s/ gives /\t/' >"$room/sentences"
+    grep -oE '`[A-Z0-9,: ]+( / [A-Z0-9,: ]+)+` gives `[^`]+`' "$document" | sed 's/`//g; s/ gives /\t/' >"$room/sentences"
     while IFS="$(printf '\t')" read -r cards printed; do
         { printf '?JOB A\n?ASM\nSEGMENT MAIN 2\n'; printf '%s\n' "$cards" | sed 's: / :\n:g'; echo '?END'; } >"$room/text"
         if [ "$(b67 run --core 4096 --backing b <"$room/text" | head -1)" = "$printed" ]; then passed=$((passed + 1)); else
@@ -108,6 +117,11 @@ done
 if [ "$(ls -d decks/*/ | sed 's:decks/::; s:/::' | sort)" = "$(sed -n '/^## The decks/,$s/^| `\([a-z]*\)` .*/\1/p' docs/ASSEMBLER.md | sort)" ]; then
     passed=$((passed + 1))
 else wrong 'the table of decks in docs/ASSEMBLER.md'; fi
+missing=$(for crate in crates/*/; do
+    name=$(basename "$crate")
+    sed -n '/^## The crates/,/^## Where a rule/p' docs/ARCHITECTURE.md | grep '^|' | cut -d'|' -f2 | grep -qF "\`$name\`" || echo "$name"
+done)
+if [ -z "$missing" ]; then passed=$((passed + 1)); else wrong "the table of crates in docs/ARCHITECTURE.md: " $missing; fi
 page=$(MANWIDTH=1000 man -l docs/b67.1 2>/dev/null | col -b)
 for words in 'USAGE: b67 run' DECK ASM CODEFILE LOAD HALTED 'NO CORE' 'BACKING FULL' 'BACKING FAULT' 'READING FAULT' 'NO MEMORY'; do
     case $page in *"$words"*) passed=$((passed + 1)) ;; *) wrong "docs/b67.1: $words" ;; esac

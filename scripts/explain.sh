@@ -3,16 +3,23 @@
 #
 #     sh scripts/explain.sh 'LOAD 2 REASON 8 SEGMENT 1 AT 0:0'
 #     sh scripts/explain.sh 'status 4'
+#     sh scripts/explain.sh STACK OVERFLOW
 #     b67 run --core 4096 --backing b < deck | sh scripts/explain.sh
+#
+# Status 1: a line is none of b67's.
 set -u
 here=$(cd "$(dirname "$0")" && pwd)
+if [ $# = 0 ] && [ -t 0 ]; then
+    echo "usage: sh scripts/explain.sh LINE, or lines on standard input" >&2
+    exit 2
+fi
 if [ $# -gt 0 ]; then printf '%s\n' "$*"; else cat; fi |
     awk -v pages="$here/../docs/MESSAGES.md" '
 function trim(s) {
     gsub(/^ +| +$/, "", s)
     return s
 }
-function unknown() { print "    no line of b67" }
+function unknown() { print "    no line of b67"; strange = 1 }
 # prints what the row says from column `from` on, the first of it after `subject`, with the numbers of the line
 function look(key, from, subject,    i, name, text) {
     if (!(key in columns)) { unknown(); return }
@@ -24,6 +31,16 @@ function look(key, from, subject,    i, name, text) {
         subject = ""
     }
 }
+# prints each row of a table of this page: its first column, and then the others
+function list(of,    i, text) {
+    for (i = 1; i <= rows; i++)
+        if (index(row[i], of ":") == 1 && i != first_row[of]) {
+            print "    - " substr(row[i], length(of) + 2)
+            text = cell[row[i], 2]
+            gsub(/`/, "", text)
+            print "      " text
+        }
+}
 BEGIN {
     while ((getline line < pages) > 0) {
         if (line ~ /^## /) section = substr(line, 4)
@@ -32,14 +49,17 @@ BEGIN {
         first = trim(part[2])
         gsub(/`/, "", first)
         key = section ":" first
+        if (first ~ /^-+$/) continue
         columns[key] = n - 2
+        row[++rows] = key
+        if (!(section in first_row)) first_row[section] = rows
         for (i = 1; i <= n - 2; i++) {
             text = trim(part[i + 1])
             gsub(/\[[^]]*\]\([^)]*\)/, "docs/MESSAGES.md", text)
             cell[key, i] = text
         }
     }
-    if (section == "") { print "cannot read " pages > "/dev/stderr"; exit 1 }
+    if (section == "") { print "cannot read " pages > "/dev/stderr"; strange = 2; exit 2 }
 }
 { print; split("", numbers) }
 /^status [0-9]$/ { look("Statuses:" $2, 2); next }
@@ -52,7 +72,11 @@ BEGIN {
 /^HALTED [0-9]+$/ { look("Statuses:3", 3); next }
 /^NO CORE [0-9]+ [0-9]+$/ { numbers["need"] = $3; numbers["core"] = $4; look("Statuses:4", 3); next }
 /^BACKING FULL [0-9]+ [0-9]+$/ { numbers["sum"] = $3; numbers["sectors"] = $4; look("Statuses:5", 3); next }
-/^BACKING FAULT$/ { look("Statuses:6", 3); next }
+/^BACKING FAULT$/ { print "    " cell["Statuses:6", 3]; list("BACKING FAULT"); next }
+/^EXERCISE [0-9]+ [0-9]+ [0-9]+$/ {
+    print "    The deck of seed " $2 " with " $3 " arrays made " $4 " operators. All its tasks have ended."
+    next
+}
 /^READING FAULT$/ { look("Statuses:7", 3); next }
 /^NO MEMORY$/ { look("Statuses:9", 3); next }
 /^[A-Z][A-Z0-9]* ADMITTED [0-9]+ [0-9]+$/ {
@@ -67,5 +91,7 @@ BEGIN {
     next
 }
 /^([0-9a-f][0-9a-f])+$/ { print "    Bytes of the codefile that asm, bind or convert prints."; next }
+/^[A-Z]/ && ("Endings and faults:" $0) in columns { look("Endings and faults:" $0, 2); next }
 { unknown() }
+END { exit strange }
 '

@@ -3,32 +3,48 @@
 #
 #     sh scripts/least-core.sh DECK [PROGRAM]
 #
-# DECK is a file of cards. PROGRAM is `b67` on the path if it isn't given. Each try runs the deck from the start.
+# DECK is a file of cards. PROGRAM is `b67` on the path if it isn't given. Each try runs the deck from the start. Only a
+# run that ends (status 0), or that halts where its deck says so (status 3), is an answer; any other end is an error.
 set -u
-[ $# -ge 1 ] || { echo "usage: sh scripts/least-core.sh DECK [PROGRAM]" >&2; exit 2; }
+usage() {
+    echo "$1" >&2
+    echo "usage: sh scripts/least-core.sh DECK [PROGRAM]" >&2
+    exit 2
+}
+[ $# = 1 ] || [ $# = 2 ] || usage "one deck, and a program if you like"
 deck=$1
 program=${2:-b67}
+[ -f "$deck" ] && [ -r "$deck" ] || usage "$deck: not a file that can be read"
+command -v "$program" >/dev/null || usage "$program: not a program that can be run"
 room=$(mktemp -d)
 trap 'rm -rf "$room"' EXIT
 core=256
 while :; do
-    last=$("$program" run --core "$core" --backing "$room/b" <"$deck" | tail -n 1)
-    case $last in
-    "NO CORE "*)
-        core=${last#NO CORE }
-        core=${core% *}
+    "$program" run --core "$core" --backing "$room/b" <"$deck" >"$room/lines"
+    status=$?
+    last=$(tail -n 1 "$room/lines")
+    case $status in
+    0 | 3)
+        echo "$core"
+        exit 0
+        ;;
+    4)
+        need=${last#NO CORE }
+        need=${need% *}
+        # each need exceeds the core before it
+        if ! [ "$need" -gt "$core" ] 2>/dev/null; then
+            echo "status 4 without a need above $core: $last" >&2
+            exit 1
+        fi
+        core=$need
         if [ "$core" -gt 1048575 ]; then
             echo "no core is large enough: the deck needs $core words" >&2
             exit 1
         fi
         ;;
-    "USAGE: "* | "DECK "* | "ASM "* | "CODEFILE "* | "LOAD "* | BACKING* | "NO MEMORY" | "READING FAULT")
-        echo "$last" >&2
-        exit 1
-        ;;
     *)
-        echo "$core"
-        exit 0
+        echo "no least core: status $status${last:+, $last}" >&2
+        exit 1
         ;;
     esac
 done

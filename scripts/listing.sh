@@ -2,23 +2,33 @@
 # Lists an assembled program: for each operator its place (word:syllable), its bytes, its name, and the card that it
 # comes from. A refusal such as LOAD 2 REASON 8 SEGMENT 1 AT 0:0 names a segment and such a place.
 #
-#     sh scripts/listing.sh DECK [PROGRAM]
+#     sh scripts/listing.sh DECK [PROGRAM] [JOB]
 #
-# DECK is a file: a deck, whose first ?ASM or ?HEX body is listed; assembly cards alone; or the hexadecimal that
-# `b67 asm` prints. PROGRAM, which assembles, is `b67` on the path if it isn't given.
+# DECK is a file: a deck, of which the program of job JOB is listed, the first if it isn't given; assembly cards alone;
+# or the hexadecimal that `b67 asm` prints. PROGRAM, which assembles, is `b67` on the path if it isn't given.
 set -u
-[ $# -ge 1 ] || { echo "usage: sh scripts/listing.sh DECK [PROGRAM]" >&2; exit 2; }
+usage() {
+    echo "$1" >&2
+    echo "usage: sh scripts/listing.sh DECK [PROGRAM] [JOB]" >&2
+    exit 2
+}
+[ $# -ge 1 ] && [ $# -le 3 ] || usage "one deck, and a program and a job if you like"
 deck=$1
 program=${2:-b67}
+job=${3:-1}
+case $job in [1-8]) ;; *) usage "$job: a job is a number from 1 to 8" ;; esac
+[ -f "$deck" ] && [ -r "$deck" ] || usage "$deck: not a file that can be read"
 room=$(mktemp -d)
 trap 'rm -rf "$room"' EXIT
 
 # the body, each card on the line that it has in the deck; `kind` says what it is
-awk -v kind="$room/kind" '
+awk -v kind="$room/kind" -v wanted="$job" '
 BEGIN { is = "plain" }
 { sub(/\r$/, "") }
 /^\?/ {
-    if (/^\?(ASM|HEX) *$/ && !found) { found = 1; in_body = 1; is = substr($1, 2) } else in_body = 0
+    if (/^\?JOB/) job++
+    in_body = 0
+    if (/^\?(ASM|HEX) *$/ && job == wanted && is == "plain") { in_body = 1; is = substr($1, 2) }
     marked = 1
     print ""
     next
@@ -26,27 +36,31 @@ BEGIN { is = "plain" }
 { if (in_body || !marked) print; else print "" }
 !marked && !/^([0-9a-fA-F][0-9a-fA-F])* *$/ { other = 1 }
 END {
-    if (is == "plain") is = other ? "ASM" : "HEX"
+    if (is == "plain") is = marked || wanted > 1 ? "none" : other ? "ASM" : "HEX"
     print is > kind
 }' "$deck" >"$room/body"
+[ "$(cat "$room/kind")" != none ] || usage "$deck: no program of a job $job"
 
 : >"$room/cards"
+: >"$room/names"
 if [ "$(cat "$room/kind")" = ASM ]; then
+    command -v "$program" >/dev/null || usage "$program: not a program that can be run"
     "$program" asm <"$room/body" >"$room/hex" || { cat "$room/hex" >&2; exit 1; }
-    # operators alone: number, segment, mnemonic, text
-    awk '
+    # operators alone: number, segment, mnemonic, text; and the names of segments and rows
+    awk -v names="$room/names" '
     {
         text = $0
         sub(/;.*/, "")
-        if ($1 == "SEGMENT") { segment++; next }
-        if ($1 == "ROW" || $1 == "NUM" || $1 == "ENTRY" || NF == 0) next
+        if ($1 == "SEGMENT") segment++
+        if ($1 == "SEGMENT" || $1 == "ROW") { print $1 "\t" $2 > names; next }
+        if ($1 == "NUM" || $1 == "ENTRY" || NF == 0) next
         print NR "\t" segment "\t" ($1 ~ /:$/ ? $2 : $1) "\t" text
     }' "$room/body" >"$room/cards"
 else
     cp "$room/body" "$room/hex"
 fi
 
-awk -v cards="$room/cards" '
+awk -v cards="$room/cards" -v names_of="$room/names" '
 function digit(c) { return index("0123456789abcdef", c) - 1 }
 function number(text,    i, n) {
     n = 0
@@ -140,6 +154,11 @@ BEGIN {
         name_of[last_card] = part[3]
         text_of[last_card] = part[4]
     }
+    while ((getline line < names_of) > 0) {
+        split(line, part, "\t")
+        if (part[1] == "ROW") row_names[++named_rows] = part[2] ", "
+        else segment_names[++named_segments] = part[2] ", "
+    }
     next_card = 1
     cards_known = last_card > 0
 }
@@ -155,14 +174,14 @@ END {
         entries = ""
         if (version ~ /2$/) for (k = number(take(1)); k > 0; k--) entries = entries " " place(number(take(2)))
         words = number(take(2))
-        print "segment " segment ", level " level ", " words " words" (entries == "" ? "" : ", entries" entries)
+        print "segment " segment ", " segment_names[segment] "level " level ", " words " words" (entries == "" ? "" : ", entries" entries)
         code = ""
         for (k = 0; k < words; k++) code = code substr(take(8), 5)
         list(level, words, code)
     }
     for (row = 1; row <= rows; row++) {
         words = number(take(2))
-        print "data row " row ", displacement " segments + 1 + row ", " words " words"
+        print "data row " row ", " row_names[row] "displacement " segments + 1 + row ", " words " words"
         for (k = 0; k < words; k++) print "  " sprintf("%6d", k) "  " literal(substr(take(8), 5))
     }
 }' "$room/hex"

@@ -6,7 +6,9 @@ use b67_io::{StdSink, StdSource};
 use b67_job::{Outcome, backing_path, refuse_memory, run};
 use b67_word::Numbers;
 use std::alloc::Global;
+use std::fs;
 use std::io;
+use std::os::unix::fs::MetadataExt;
 use std::process::ExitCode;
 
 // The words without the program's own name. A word that isn't text makes them no command.
@@ -25,6 +27,22 @@ fn words(rt: &HostRuntime) -> io::Result<Vec<String>> {
     Ok(words)
 }
 
+// Whether standard output is the file at a path, as far as the system says: then lines would be printed into its sectors.
+fn prints_into(rt: &HostRuntime, path: &str) -> bool {
+    match (fs::metadata(rt, "/dev/stdout"), fs::metadata(rt, path)) {
+        (Ok(printed), Ok(backing)) => {
+            printed.dev() == backing.dev() && printed.ino() == backing.ino()
+        }
+        _ => false,
+    }
+}
+
+// The backing file at a path. If standard output is that file, it isn't opened: no file has the empty name, so every call
+// fails.
+fn backing_file(rt: &HostRuntime, path: &str) -> FileBacking<fs::File> {
+    FileBacking::at(rt, if prints_into(rt, path) { "" } else { path })
+}
+
 // Calls `run` over the file that the words name, or over sectors in memory where they name none.
 fn run_words(rt: &HostRuntime, alloc: Global, owned: &[String]) -> Option<Outcome> {
     let mut words = Vec::new(alloc);
@@ -35,7 +53,7 @@ fn run_words(rt: &HostRuntime, alloc: Global, owned: &[String]) -> Option<Outcom
     let mut printer = StdSink::new(rt.stdout());
     match backing_path(words.as_slice()) {
         Some(path) => {
-            let mut backing = FileBacking::at(rt, path);
+            let mut backing = backing_file(rt, path);
             Some(run(
                 alloc,
                 words.as_slice(),

@@ -1,0 +1,39 @@
+#!/bin/sh
+# Makes paging visible: how many sectors a deck reads and writes at each size of core, and the last line of each run.
+#
+#     sh scripts/paging.sh DECK CORE..
+#
+# The sectors are counted by strace, which shows each call that the program makes on its backing file: pread64 reads a
+# sector, pwrite64 writes one. So strace must be there, and be allowed to watch a program. The program is `b67` on the
+# path, or what the variable B67 names.
+set -u
+usage() {
+    echo "$1" >&2
+    echo "usage: sh scripts/paging.sh DECK CORE.." >&2
+    exit 2
+}
+[ $# -ge 2 ] || usage "a deck, and at least one size of core"
+deck=$1
+shift
+program=${B67:-b67}
+[ -f "$deck" ] && [ -r "$deck" ] || usage "$deck: not a file that can be read"
+command -v "$program" >/dev/null || usage "$program: not a program that can be run"
+command -v strace >/dev/null || usage "strace isn't installed, and nothing else here counts the sectors"
+for core in "$@"; do
+    case $core in
+    '' | *[!0-9]* | 0* | ????????*) usage "$core: a size of core is a number from 256 to 1048575" ;;
+    esac
+    [ "$core" -ge 256 ] && [ "$core" -le 1048575 ] || usage "$core: a size of core is a number from 256 to 1048575"
+done
+room=$(mktemp -d)
+trap 'rm -rf "$room"' EXIT
+echo "   core    read written  last line"
+for core in "$@"; do
+    strace -o "$room/calls" -P "$room/b" -e trace=pread64,pwrite64 \
+        "$program" run --core "$core" --backing "$room/b" <"$deck" >"$room/lines"
+    grep -q '^+++ exited with' "$room/calls" 2>/dev/null || usage "strace may not watch $program here"
+    awk -v core="$core" -v last="$(tail -n 1 "$room/lines")" '
+        /^pread64/ { reads++ }
+        /^pwrite64/ { writes++ }
+        END { printf "%7d %7d %7d  %s\n", core, reads, writes, last }' "$room/calls"
+done
