@@ -1,6 +1,6 @@
 //! Reading, assembling and admitting.
 
-ghost use Rattle.std.specs.Prelude.{◌≡◌, ◌≤◌, List, IfOk, length, map};
+ghost use Rattle.std.specs.Prelude.{◌≡◌, ◌≤◌, IfOk, length, map};
 ghost use Rattle.std.specs.List.{AllByRecursion};
 ghost use Rattle.b67_codefile.specs.Spelling.{IsWithin};
 ghost use Rattle.b67_codefile.specs.Meaning as meaning;
@@ -35,17 +35,6 @@ pub fn codefile_in(alloc: Global, card: u32, bytes: &[u8]) -> Result<Codefile, A
         Err(BadFile::Trailing { at }) => Err(refused(card, 5, at)),
         Err(BadFile::BadEntry { at }) => Err(refused(card, 6, at)),
         Err(BadFile::Memory) => Err(AdmitFault::Memory),
-    }
-}
-
-fn program_of_bytes(alloc: Global, card: u32, bytes: &[u8]) -> Result<Codefile, AdmitFault>
-    ensures within { IfOk result IsWithin }
-    ensures file { Meets (λ file. file) result (file_in card (Body.Bytes bytes.now)) }
-    ensures answer { Meets meaning.program_of result (program_in card (Body.Bytes bytes.now)) }
-{
-    match codefile_in(alloc, card, bytes) {
-        Ok(file) => Ok(file),
-        Err(fault) => Err(fault),
     }
 }
 
@@ -101,7 +90,7 @@ pub fn file_of(alloc: Global, job: &Job) -> Result<Codefile, AdmitFault>
 {
     match &job.program {
         Body::Cards(cards) => assembled_in(alloc, job.body_card, cards),
-        Body::Bytes(bytes) => program_of_bytes(alloc, job.body_card, bytes.as_slice()),
+        Body::Bytes(bytes) => codefile_in(alloc, job.body_card, bytes.as_slice()),
     }
 }
 
