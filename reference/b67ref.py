@@ -1,4 +1,4 @@
-"""The command: `run`, `exercise`, `asm`, `check` and `convert`.
+"""The command: `run`, `exercise`, `asm`, `check`, `convert` and `bind`.
 
 It reads the deck on standard input and prints on standard output:
 
@@ -12,6 +12,7 @@ import sys
 from dataclasses import dataclass, field
 
 from asm import assemble
+from binding import MOST_PAIRS, BindError, Pair, bind
 from cards import HEXADECIMAL, Deck, Job, RefusedError, cards_of, deck_refusal, natural
 from cards import read_cards, read_deck
 from codefile import BadFileError, Codefile, hexadecimal_cards, read_codefile, write_codefile
@@ -72,6 +73,7 @@ class Command:
     path: str = ""
     seed: int = 0
     size: int = 0
+    pairs: tuple[Pair, ...] = ()
 
 
 # --- The words of the command -----------------------------------------------------
@@ -99,6 +101,8 @@ def command_of(words: list[str]) -> Command | None:
             return run_command(options_of(rest, {"--core", "--backing"}))
         case ["exercise", seed, size, *rest]:
             return exercise_command(seed, size, options_of(rest, {"--core"}))
+        case ["bind", *rest] if 1 <= len(rest) <= MOST_PAIRS:
+            return bind_command(rest)
     return None
 
 
@@ -127,6 +131,18 @@ def exercise_command(seed: str, size: str, options: dict[str, str] | None) -> Co
     if core is None or seed_number is None or size_number is None:
         return None
     return Command("exercise", core=core, seed=seed_number, size=size_number)
+
+
+def bind_command(words: list[str]) -> Command | None:
+    """`bind`, with its pairs, each a word H=P."""
+    pairs = []
+    for word in words:
+        host, mark, part = word.partition("=")
+        host_number, part_number = bounded(host, 1, 255), bounded(part, 1, 255)
+        if not mark or host_number is None or part_number is None:
+            return None
+        pairs.append(Pair(host_number, part_number))
+    return Command("bind", pairs=tuple(pairs))
 
 
 # --- The programs of a deck -------------------------------------------------------
@@ -195,6 +211,20 @@ def converted(text: bytes) -> list[str]:
     return hexadecimal_cards(write_codefile(file))
 
 
+def bound(text: bytes, pairs: list[Pair]) -> list[str]:
+    """What `bind` prints: the codefile of the first job with segments of the second."""
+    deck = read_deck(text)
+    if len(deck.jobs) < 2:
+        raise deck_refusal(1, 15)
+    if len(deck.jobs) > 2:
+        raise deck_refusal(deck.jobs[2].card, 15)
+    (host, _), (part, _) = programs_of(deck)
+    try:
+        return hexadecimal_cards(write_codefile(bind(host, part, pairs)))
+    except BindError as bad:
+        raise RefusedError(f"BIND {bad.pair} REASON {bad.reason}") from None
+
+
 def run_deck(text: bytes, core: int, backing: Backing) -> Outcome:
     """Reads a deck and runs it."""
     deck = read_deck(text)
@@ -250,6 +280,8 @@ def outcome_of(words: list[str], text: bytes, backing: Backing) -> Outcome:
                 return Outcome(lines=assembled(text))
             case "check":
                 return Outcome(lines=checked(text))
+            case "bind":
+                return Outcome(lines=bound(text, list(command.pairs)))
             case _:
                 return Outcome(lines=converted(text))
     except RefusedError as refused:

@@ -68,6 +68,7 @@ BEGIN {
 /^ASM [0-9]+ REASON [0-9]+$/ { look("ASM:" $4, 2, "Card " $2 " "); next }
 /^CODEFILE [0-9]+ REASON [0-9]+ BYTE [0-9]+$/ { look("CODEFILE:" $4, 2, "The bytes under card " $2 " "); next }
 /^LOAD [0-9]+ REASON [0-9]+ SEGMENT [0-9]+ AT [0-9]+:[0-9]$/ { look("LOAD:" $4, 2, "The program of card " $2 " "); next }
+/^BIND [0-9]+ REASON [0-9]+$/ { look("BIND:" $4, 2, "Pair " $2 " "); next }
 /^HALTED [0-9]+$/ { look("Statuses:3", 3); next }
 /^NO CORE [0-9]+ [0-9]+$/ { numbers["need"] = $3; numbers["core"] = $4; look("Statuses:4", 3); next }
 /^BACKING FULL [0-9]+ [0-9]+$/ { numbers["sum"] = $3; numbers["sectors"] = $4; look("Statuses:5", 3); next }
@@ -89,7 +90,7 @@ BEGIN {
     else look("Endings and faults:" name, 2)
     next
 }
-/^([0-9a-f][0-9a-f])+$/ { print "    Bytes of the codefile that asm prints."; next }
+/^([0-9a-f][0-9a-f])+$/ { print "    Bytes of the codefile that asm, bind or convert prints."; next }
 /^[A-Z]/ && ("Endings and faults:" $0) in columns { look("Endings and faults:" $0, 2); next }
 { unknown() }
 END { exit strange }

@@ -22,7 +22,7 @@ use Rattle.b67_codefile.specs.Spelling.{HasTag, AreWords, IsSegment, HasNoEntrie
 use Rattle.b67_codefile.specs.Meaning.{segment_of, program_of}
 use Rattle.b67_bind.specs.declared.pairs.Pair.{Pair}
 use Rattle.b67_bind.specs.Reasons.{Binding, binding, numbered, pair_at, pair_named, entries_in, names_unpaired, first_refusal}
-use Rattle.b67_bind.specs.Bound.{by_pair, rebound, rebound_word, changed_at, change_one, change_literals, literal_of, change_op, change_entry, rebound_segment, taken, placed, bound_segments, bound}
+use Rattle.b67_bind.specs.Bound.{by_pair, rebound, rebound_word, changed_at, change_one, change_literals, literal_of, change_op, change_entry, rebound_segment, from_part, placed, bound_segments, bound}
 use Rattle.b67_bind.specs.Laws.{IsGood}
 use Rattle.b67_bind.proofs.Literals.{literals-length}
 use Rattle.b67_bind.proofs.Rebound.{rebound-listing}
@@ -77,7 +77,7 @@ placed-so : (P : Segment → Type 0) (x : Binding) (s : Segment) (o : Option Pai
 placed-so P x s None h m = h.0 s m
 placed-so P x s (Some a) h m = at_part (numbered x.part.segments a.part) refl
   where
-    at_part : (o : Option Segment) → numbered x.part.segments a.part ≡ o → P (taken x.pairs s o)
+    at_part : (o : Option Segment) → numbered x.part.segments a.part ≡ o → P (from_part x.pairs s o)
     at_part None is = h.0 s m
     at_part (Some t) is = h.1 t (has_get x.part.segments (a.part - 1) t (numbered-get x.part.segments a.part t is).1)
 

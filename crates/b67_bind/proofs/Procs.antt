@@ -14,7 +14,7 @@ use Rattle.b67_codefile.specs.declared.file.Segment.{Segment}
 use Rattle.b67_codefile.specs.Meaning.{segment_of, program_of}
 use Rattle.b67_bind.specs.declared.pairs.Pair.{Pair}
 use Rattle.b67_bind.specs.Reasons.{Binding, numbered, pair_at, pair_named, entries_in, proc_in, procs, kept_procs, procs_from, names_unpaired, enters_elsewhere}
-use Rattle.b67_bind.specs.Bound.{by_pair, rebound, rebound_segment, taken, placed, bound_segments, bound}
+use Rattle.b67_bind.specs.Bound.{by_pair, rebound, rebound_segment, from_part, placed, bound_segments, bound}
 use Rattle.b67_bind.proofs.Passing.{Passes, Fits, each-fits, found-host}
 
 -- ---- what rules 7 and 8 ask of a PCW in a segment of this level
@@ -124,7 +124,7 @@ bound-at x i s e = at_mapped segment_of (bound_segments x 1 x.host.segments) i (
 
 -- what stands there has the level of the host's
 pub paired-is : (x : Binding) (s : Segment) (a : Pair) (h : Fits x a) → placed x s (Some a) ≡ rebound_segment x.pairs h.new
-paired-is x s a h = ap (taken x.pairs s) h.at_part
+paired-is x s a h = ap (from_part x.pairs s) h.at_part
 
 -- ---- a PCW of a segment that stays
 

@@ -24,6 +24,7 @@ use Rattle.b67_job_admit.proofs.Loads.{loaded, refused_program}
 use Rattle.b67_job_admit.specs.Told.{refusal_text}
 use Rattle.b67_job_admit.specs.Verdicts.{Verdict}
 use Rattle.b67_job_admit.specs.CommandMeets.{IsJudged}
+use Rattle.b67_job_admit.proofs.Bound.{bind_long}
 use Rattle.b67_job_admit.proofs.Judged.{too_long, check_long, asm_long, convert_long}
 use Rattle.b67_session_open.specs.Decks.{DeckInRange}
 use Rattle.b67_job.proofs.Prepared.{prepared_in_range}
@@ -71,6 +72,7 @@ asked_long (lines.Run core) text r long = judged_long text long
 asked_long lines.Asm text r long = ap printed (asm_long text long)
 asked_long lines.Check text r long = ap printed (check_long text long)
 asked_long lines.Convert text r long = ap printed (convert_long text long)
+asked_long (lines.Bind pairs) text r long = ap printed (bind_long pairs text long)
 asked_long (lines.Exercise seed size core) text r long = absurd (false≢true r)
 
 asked_alike : (command : CommandLine) (text : List ℕ) → reads (Some command) ≡ true → limit < length text → asked command (take (limit + 1) text) ≡ asked command text
@@ -87,6 +89,7 @@ given_read (lines.Run core) r given = given
 given_read lines.Asm r given = given
 given_read lines.Check r given = given
 given_read lines.Convert r given = given
+given_read (lines.Bind pairs) r given = given
 given_read (lines.Exercise seed size core) r given = absurd (false≢true r)
 
 given_all : {S : Type 0} {left : S → Option (List ℕ)} {deck deck' : S} {bytes : List ℕ} (command : CommandLine) → reads (Some command) ≡ true → GaveAll left deck deck' bytes → ReadAll command left deck deck' bytes
@@ -94,6 +97,7 @@ given_all (lines.Run core) r given = given
 given_all lines.Asm r given = given
 given_all lines.Check r given = given
 given_all lines.Convert r given = given
+given_all (lines.Bind pairs) r given = given
 given_all (lines.Exercise seed size core) r given = absurd (false≢true r)
 
 -- what was read, and is refused

@@ -76,6 +76,7 @@ read_status left faults deck deck' (lines.Run core) bytes told h given = given_s
 read_status left faults deck deck' lines.Asm bytes told h given = given_status lines.Asm bytes told refl h.0 given
 read_status left faults deck deck' lines.Check bytes told h given = given_status lines.Check bytes told refl h.0 given
 read_status left faults deck deck' lines.Convert bytes told h given = given_status lines.Convert bytes told refl h.0 given
+read_status left faults deck deck' (lines.Bind pairs) bytes told h given = given_status (lines.Bind pairs) bytes told refl h.0 given
 read_status left faults deck deck' (lines.Exercise seed size core) bytes told h same = refl
 
 -- a text that was read to its end is judged as the one that the source tells
@@ -85,6 +86,7 @@ same_judgement left faults deck deck' (lines.Run core) bytes told h all = ap (as
 same_judgement left faults deck deck' lines.Asm bytes told h all = ap (asked lines.Asm) (all.told told h.0).0
 same_judgement left faults deck deck' lines.Check bytes told h all = ap (asked lines.Check) (all.told told h.0).0
 same_judgement left faults deck deck' lines.Convert bytes told h all = ap (asked lines.Convert) (all.told told h.0).0
+same_judgement left faults deck deck' (lines.Bind pairs) bytes told h all = ap (asked (lines.Bind pairs)) (all.told told h.0).0
 same_judgement left faults deck deck' (lines.Exercise seed size core) bytes told h same = refl
 
 -- a source that supplies a command that reads it hasn't failed
@@ -93,6 +95,7 @@ stays left faults deck deck' told (lines.Run core) r h = h.1
 stays left faults deck deck' told lines.Asm r h = h.1
 stays left faults deck deck' told lines.Check r h = h.1
 stays left faults deck deck' told lines.Convert r h = h.1
+stays left faults deck deck' told (lines.Bind pairs) r h = h.1
 stays left faults deck deck' told (lines.Exercise seed size core) r h = absurd (false≢true r)
 
 -- what is ample for a command is so for the session that it opens
@@ -102,6 +105,7 @@ ample_run {d = d} {core = core} {p = p} (lines.Exercise seed size n) told e judg
 ample_run {core = core} lines.Asm told e judged ample = absurd (none-some core e)
 ample_run {core = core} lines.Check told e judged ample = absurd (none-some core e)
 ample_run {core = core} lines.Convert told e judged ample = absurd (none-some core e)
+ample_run {core = core} (lines.Bind pairs) told e judged ample = absurd (none-some core e)
 
 -- ---- the status that is due
 

@@ -1,9 +1,10 @@
 -- The words of a command.
-use Rattle.std.specs.Prelude.{ℕ, ◌==◌, ◌&&◌, not, Bool, false, List, [], ◌∷◌, codes, Option, Some, None, if◌then◌else◌}
+use Rattle.std.specs.Prelude.{ℕ, ◌==◌, ◌&&◌, nat_le, not, Bool, false, List, [], ◌∷◌, length, codes, Option, Some, None, if◌then◌else◌}
 use Rattle.std.specs.Option.{option_map, option_and_then, option_or}
 use Rattle.std.specs.Str.{bytes_eq}
 use denote.Ref.{Bor}
-use Rattle.b67_model_text.specs.Command.{number_in}
+use Rattle.b67_model_text.specs.Command.{number_in, parted}
+use Rattle.b67_bind.specs.declared.pairs.Pair.{Pair}
 use Rattle.b67_job.specs.declared.command.CommandLine.{CommandLine}
 use Rattle.b67_job.specs.declared.command.CommandLine.TheVariants as lines
 
@@ -48,6 +49,20 @@ exercise (word ∷ seed ∷ size ∷ option ∷ core ∷ []) =
     if bytes_eq word.now (codes "exercise") && bytes_eq option.now (codes "--core") then exercise_by seed.now size.now core.now else None
 exercise _ = None
 
+-- a pair of segments, which is written H=P
+abbrev pub pair_in : List ℕ → Option Pair
+pair_in word = option_and_then (λ p. option_and_then (λ host. option_map (λ part. record { host = host; part = part }) (number_in 1 255 p.1)) (number_in 1 255 p.0)) (parted 61 word)
+
+abbrev pub pairs_in : List (Bor (List ℕ)) → Option (List Pair)
+pairs_in [] = Some []
+pairs_in (word ∷ more) = option_and_then (λ a. option_map (λ rest. a ∷ rest) (pairs_in more)) (pair_in word.now)
+
+-- what the words ask for, where they are `bind` and 1 to 255 pairs
+abbrev pub bind : List (Bor (List ℕ)) → Option CommandLine
+bind [] = None
+bind (word ∷ more) =
+    if bytes_eq word.now (codes "bind") && nat_le 1 (length more) && nat_le (length more) 255 then option_map lines.Bind (pairs_in more) else None
+
 -- the commands of one word
 abbrev pub one_word : List (Bor (List ℕ)) → Option CommandLine
 one_word (word ∷ []) =
@@ -58,7 +73,7 @@ one_word _ = None
 
 -- the command that the words are
 abbrev pub command_of : List (Bor (List ℕ)) → Option CommandLine
-command_of words = option_or (one_word words) (option_or (option_map (λ r. lines.Run r.core) (request words)) (exercise words))
+command_of words = option_or (one_word words) (option_or (option_map (λ r. lines.Run r.core) (request words)) (option_or (exercise words) (bind words)))
 
 -- the path that the words name
 abbrev pub backing_path : List (Bor (List ℕ)) → Option (List ℕ)

@@ -172,6 +172,7 @@ IsAmple d (lines.Run core) text = Tells d × ((p : Prepared) → judgement text 
 IsAmple d lines.Asm text = Unit {0}
 IsAmple d lines.Check text = Unit {0}
 IsAmple d lines.Convert text = Unit {0}
+IsAmple d (lines.Bind pairs) text = Unit {0}
 IsAmple d (lines.Exercise seed size core) text = Tells d × ((p : Prepared) → judgement (generated_text seed size) ≡ Runs p → Suffices d core p)
 
 -- the source tells these bytes and doesn't fail; an exercise doesn't ask it

@@ -2,7 +2,7 @@
 use Rattle.std.specs.Prelude.{ℕ, List, Ok, Err, Option, Some, None, Bool, true, false}
 use Rattle.b67_job_admit.specs.declared.refusal.Refusal.{Refusal}
 use Rattle.b67_job_admit.specs.Admitting.{Answer, Prepared, deck_prepared}
-use Rattle.b67_job_admit.specs.Verdicts.{Verdict, check_verdict, asm_verdict, convert_verdict}
+use Rattle.b67_job_admit.specs.Verdicts.{Verdict, check_verdict, asm_verdict, convert_verdict, bind_verdict}
 use Rattle.b67_session_lines.specs.Stops.{run_status}
 use Rattle.b67_gen.specs.Generated.{generated_text}
 use Rattle.b67_job.specs.Runs.{run_of}
@@ -34,6 +34,7 @@ asked (lines.Run core) text = judgement text
 asked lines.Asm text = printed (asm_verdict text)
 asked lines.Check text = printed (check_verdict text)
 asked lines.Convert text = printed (convert_verdict text)
+asked (lines.Bind pairs) text = printed (bind_verdict pairs text)
 asked (lines.Exercise seed size core) text = judgement (generated_text seed size)
 
 -- the words of core that a command opens a session in

@@ -12,10 +12,11 @@ seen_options o = record { core = o.core.now; path = o.path.now }
 abbrev pub seen_request : request.Request → Request
 seen_request r = record { core = r.core; path = r.path.now }
 
--- the numbers of a command are within their ranges
+-- the numbers of a command that opens a session are within their ranges
 abbrev pub AreInRange : CommandLine → Type 0
 AreInRange (lines.Run core) = (256 ≤ core) × (core < 2 ^ 20)
 AreInRange lines.Asm = Unit {0}
 AreInRange lines.Check = Unit {0}
 AreInRange lines.Convert = Unit {0}
+AreInRange (lines.Bind pairs) = Unit {0}
 AreInRange (lines.Exercise seed size core) = (seed ≤ 2147483647) × (1 ≤ size) × (size ≤ 500) × (256 ≤ core) × (core < 2 ^ 20)

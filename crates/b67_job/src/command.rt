@@ -1,14 +1,15 @@
 //! The words of a command.
 
-ghost use Rattle.std.specs.Prelude.{◌≡◌, ◌≤◌, ◌<◌, ◌^◌, ℕ, IfSome, Some};
+ghost use Rattle.std.specs.Prelude.{◌≡◌, ◌≤◌, ◌<◌, ◌^◌, ℕ, length, IfSome, Some};
 ghost use Rattle.std.specs.Option.{option_map};
-ghost use Rattle.b67_job.specs.Command.{options, is_path, requested, request, exercise_by, exercise, one_word, command_of, backing_path};
+ghost use Rattle.b67_job.specs.Command.{options, is_path, requested, request, exercise_by, exercise, pair_in, pairs_in, bind, one_word, command_of, backing_path};
 ghost use Rattle.b67_job.specs.Seen.{seen_options, seen_request, AreInRange};
 
-use b67_card::number_in;
+use b67_bind::{Pair, Pairs};
+use b67_card::{number_in, parted};
 
 /// A command.
-#[derive(Clone, Copy, Debug, PartialEq, Eq)]
+#[derive(Debug, Drop)]
 pub enum CommandLine {
     /// Runs a deck over so many words of core.
     Run { core: u32 },
@@ -20,6 +21,8 @@ pub enum CommandLine {
     Convert,
     /// Runs the deck that is drawn from a seed for so many arrays, over so many words of core.
     Exercise { seed: u32, size: u32, core: u32 },
+    /// Reads a deck of two jobs, binds the second one's program into the first one's by pairs, and prints the codefile.
+    Bind { pairs: Pairs },
 }
 
 // The texts behind the two options.
@@ -120,6 +123,50 @@ fn read_exercise(words: &[&str]) -> Option<CommandLine>
     }
 }
 
+/// A pair of segments, which is written H=P.
+fn read_pair(word: &str) -> Option<Pair>
+    ensures { result ≡ pair_in word.now }
+{
+    let (host, part) = parted(word.as_bytes(), b'=')?;
+    let host = number_in(host, 1, 255)?;
+    let part = number_in(part, 1, 255)?;
+    Some(Pair {
+        host: host as u8,
+        part: part as u8,
+    })
+}
+
+fn read_pairs(words: &[&str]) -> Option<Pairs>
+    requires { length words.now ≤ 255 }
+    ensures { result ≡ pairs_in words.now }
+{
+    let mut pairs = Pairs::new();
+    'words: for word in words {
+        match read_pair(word) {
+            Some(pair) => pairs.push(pair),
+            None => return None,
+        }
+    }
+    Some(pairs)
+}
+
+fn read_bind(words: &[&str]) -> Option<CommandLine>
+    ensures { result ≡ bind words.now }
+{
+    match words {
+        [word, rest @ ..] => {
+            if *word != "bind" || rest.is_empty() || rest.len() > 255 {
+                return None;
+            }
+            match read_pairs(rest) {
+                Some(pairs) => Some(CommandLine::Bind { pairs }),
+                None => None,
+            }
+        }
+        _ => None,
+    }
+}
+
 fn one_word(words: &[&str]) -> Option<CommandLine>
     ensures { result ≡ one_word words.now }
 {
@@ -139,9 +186,9 @@ fn one_word(words: &[&str]) -> Option<CommandLine>
     }
 }
 
-/// The command that the words are: `run --core N --backing PATH`, the two options in either order, `asm`, `check`, `convert` or
-/// `exercise SEED SIZE --core N`. N is 256 to 1,048,575, SEED at most 2,147,483,647 and SIZE 1 to 500, each in decimal without
-/// sign or leading zero; PATH isn't empty and doesn't begin with `-`.
+/// The command that the words are: `run --core N --backing PATH`, the two options in either order, `asm`, `check`, `convert`,
+/// `exercise SEED SIZE --core N`, or `bind H=P ..` with 1 to 255 pairs. N is 256 to 1,048,575, SEED at most 2,147,483,647, SIZE
+/// 1 to 500, H and P are 1 to 255, each in decimal without sign or leading zero; PATH isn't empty and doesn't begin with `-`.
 pub fn command_of(words: &[&str]) -> Option<CommandLine>
     ensures command { result ≡ command_of words.now }
     ensures range { IfSome result AreInRange }
@@ -150,7 +197,10 @@ pub fn command_of(words: &[&str]) -> Option<CommandLine>
         Some(command) => Some(command),
         None => match read_request(words) {
             Some(request) => Some(CommandLine::Run { core: request.core }),
-            None => read_exercise(words),
+            None => match read_exercise(words) {
+                Some(command) => Some(command),
+                None => read_bind(words),
+            },
         },
     }
 }

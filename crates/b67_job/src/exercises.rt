@@ -54,12 +54,16 @@ fn exercise_words(rt: HostRuntime) -> Result<(), Fail> {
     check_words(&rt, &["exercise", "--core", "256", "1", "1"], false);
     check_words(&rt, &["run", "1", "1", "--core", "256"], false);
     let words = ["exercise", "7", "9", "--core", "2048"];
-    let command = CommandLine::Exercise {
-        seed: 7,
-        size: 9,
-        core: 2048,
-    };
-    assert_eq!(rt; command_of(&words), Some(command));
-    assert_eq!(rt; command_of(&["exercise", "1", "1"]), None);
+    assert!(rt;
+        matches!(
+            command_of(&words),
+            Some(CommandLine::Exercise {
+                seed: 7,
+                size: 9,
+                core: 2048
+            })
+        )
+    );
+    assert!(rt; command_of(&["exercise", "1", "1"]).is_none());
     Ok(())
 }

@@ -1,6 +1,8 @@
 //! A whole run: the command, the deck, its session and its status.
 #![tactic(auto)]
 
+#[cfg(test)]
+mod binding;
 mod command;
 #[cfg(test)]
 mod exercises;

@@ -53,6 +53,7 @@ pub fn refusal_line(refusal: Refusal) -> Line
             segment,
             place,
         } => load_line(card, reason, segment, place),
+        Refusal::Bind { pair, reason } => card_line("BIND ", pair, reason),
     }
 }
 

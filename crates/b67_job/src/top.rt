@@ -6,7 +6,7 @@ ghost use Rattle.b67_task_tables.specs.declared.tables.Machine.{Machine};
 ghost use Rattle.b67_layout_storage.specs.Machine.{DeviceAfterCalls};
 ghost use Rattle.b67_job_admit.specs.Told.{refusal_text};
 ghost use Rattle.b67_job_admit.specs.Admitting.{Prepared};
-ghost use Rattle.b67_job_admit.specs.Verdicts.{asm_verdict, check_verdict, convert_verdict};
+ghost use Rattle.b67_job_admit.specs.Verdicts.{asm_verdict, bind_verdict, check_verdict, convert_verdict};
 ghost use Rattle.b67_session_lines.specs.Ends.{Ends};
 ghost use Rattle.b67_job.specs.Device.{device_of};
 ghost use Rattle.b67_job.specs.Lines.{memory_text};
@@ -23,9 +23,12 @@ use crate::outcome::Outcome;
 use crate::runs::run_deck;
 use crate::summaries::Exercise;
 use b67_backing::Backing;
+use b67_bind::Pairs;
 use b67_gen::deck_of;
 use b67_io::{Sink, Source};
-use b67_job_admit::{AdmitFault, Refusal, admit, asm_text, check_text, convert_text, prepare};
+use b67_job_admit::{
+    AdmitFault, Refusal, admit, asm_text, bind_text, check_text, convert_text, prepare,
+};
 use b67_session_lines::{line_of, say};
 use b67_word::Bytes;
 use std::alloc::Global;
@@ -85,6 +88,9 @@ fn answer<S: Source, K: Sink, B: Backing>(
         Some(CommandLine::Convert) => without_machine(answer_convert(alloc, deck, printer)),
         Some(CommandLine::Exercise { seed, size, core }) => {
             answer_exercise(alloc, seed, size, core, printer, backing)
+        }
+        Some(CommandLine::Bind { pairs }) => {
+            without_machine(answer_bind(alloc, &pairs, deck, printer))
         }
         None => without_machine(say(
             printer,
@@ -178,6 +184,18 @@ fn answer_convert<S: Source, K: Sink>(alloc: Global, deck: &mut S, printer: &mut
     answer_text(&text, printer)
 }
 
+fn answer_bind<S: Source, K: Sink>(
+    alloc: Global,
+    pairs: &Pairs,
+    deck: &mut S,
+    printer: &mut K,
+) -> u8
+    ensures { Writes (bind_verdict pairs.now) S.left S.faults deck.old deck.new K.taken K.faults printer.old printer.new result }
+{
+    let text = bind_text(alloc, deck, pairs);
+    answer_text(&text, printer)
+}
+
 fn answer_text<K: Sink>(text: &Result<Bytes, AdmitFault>, printer: &mut K) -> u8
     ensures { TextEnds text.now K.taken K.faults printer.old printer.new result }
 {
@@ -205,6 +223,8 @@ fn refuse_program<K: Sink>(fault: AdmitFault, printer: &mut K) -> u8
 /// - `check` prints `name ADMITTED s r` for each job of the deck, with its numbers of segments and of data rows.
 /// - `convert` prints the codefile of hexadecimal cards in version 2, with the same segments and rows, as `asm` prints one. The
 ///   file isn't verified.
+/// - `bind H=P ..` binds the program of a deck's second job into that of its first, each segment P of it in the place of segment
+///   H, and prints the codefile, as `asm` prints one.
 /// - `exercise SEED SIZE --core N` reads nothing: it runs the deck that is drawn from SEED for SIZE arrays, and after all its
 ///   tasks have ended prints `EXERCISE seed size operators`.
 ///

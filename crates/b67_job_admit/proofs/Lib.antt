@@ -2,3 +2,4 @@ pub mod Behind
 pub mod Loads
 pub mod Cards
 pub mod Judged
+pub mod Bound

@@ -16,6 +16,7 @@ refusal_line (refusal.Asm card reason) = card_text (codes "ASM ") card reason
 refusal_line (refusal.Codefile card reason byte) = card_text (codes "CODEFILE ") card reason ++ codes " BYTE " ++ decimal byte
 refusal_line (refusal.Load card reason segment place) =
     card_text (codes "LOAD ") card reason ++ codes " SEGMENT " ++ decimal segment ++ codes " AT " ++ decimal place.word ++ codes ":" ++ decimal place.syllable
+refusal_line (refusal.Bind pair reason) = card_text (codes "BIND ") pair reason
 
 abbrev pub refusal_text : Refusal → List ℕ
 refusal_text r = ended (refusal_line r)

@@ -1,5 +1,5 @@
 -- What the commands that open no session print of a text, or the first refusal of all.
-use Rattle.std.specs.Prelude.{ℕ, List, [], ◌∷◌, ◌++◌, length, map, Ok, codes, decimal}
+use Rattle.std.specs.Prelude.{ℕ, List, [], ◌∷◌, ◌++◌, length, map, Option, Some, None, Ok, Err, codes, decimal, ⊤}
 use Rattle.std.specs.List.{flat_map}
 use Rattle.b67_word.specs.Tagged.{word}
 use Rattle.b67_io.specs.Line.{ended}
@@ -9,12 +9,21 @@ use Rattle.b67_codefile.specs.declared.file.Segment.{Segment}
 use Rattle.b67_codefile.specs.declared.file.Codefile.{Codefile}
 use Rattle.b67_codefile.specs.Spelling.{spelling}
 use Rattle.b67_codefile.specs.Reading.{file_of}
+use Rattle.b67_codefile.specs.Meaning.{program_of}
+use Rattle.b67_bind.specs.declared.pairs.Pair.{Pair}
+use Rattle.b67_bind.specs.Reasons as pairs
+use Rattle.b67_bind.specs.Reasons.{Binding, binding}
+use Rattle.b67_bind.specs.Bound.{bound}
 use Rattle.b67_model_text.specs.declared.card.Card.{Card}
+use Rattle.b67_model_text.specs.declared.deck.Body.{Body}
+use Rattle.b67_model_text.specs.declared.deck.Body.TheVariants.{Cards, Bytes}
 use Rattle.b67_model_text.specs.declared.deck.Job.{Job}
+use Rattle.b67_model_text.specs.declared.deck.Deck.{Deck}
 use Rattle.b67_model_text.specs.Hex.{hex_cards}
-use Rattle.b67_model_text.specs.Deck.{plain_cards, hexadecimal_cards, bytes_in, first_number}
+use Rattle.b67_model_text.specs.Deck.{deck_of, plain_cards, hexadecimal_cards, bytes_in, first_number}
 use Rattle.b67_model_text.specs.Asm.{assembled, version_of}
-use Rattle.b67_job_admit.specs.Admitting.{Answer, ◌>>=◌, of_deck, of_cards, codefile_in, deck_prepared}
+use Rattle.b67_job_admit.specs.Admitting.{Answer, ◌>>=◌, of_deck, of_cards, codefile_in, first_refusal, by_rules, deck_prepared}
+use Rattle.b67_job_admit.specs.declared.refusal.Refusal.TheVariants as refusal
 
 -- the text to print, or the first refusal
 abbrev pub Verdict : Type 0
@@ -74,3 +83,48 @@ unfoldable pub convert_verdict : List ℕ → Verdict
 convert_verdict text = do
   cards ← of_deck (hexadecimal_cards text)
   converted_of cards
+
+-- ---- bind
+
+-- the codefile of a job's program
+abbrev pub file_in : ℕ → Body → Answer Codefile
+file_in card (Cards cards) = of_cards (assembled cards) >>= λ p. Ok (codefile_of (version_of cards) p)
+file_in card (Bytes bytes) = codefile_in card (file_of bytes)
+
+-- the host's job and the part's, of a deck that has just these two
+abbrev pub two_jobs : List Job → Answer (Job × Job)
+two_jobs (host ∷ part ∷ []) = Ok (host, part)
+two_jobs (host ∷ part ∷ third ∷ more) = Err (refusal.Deck third.card 15)
+two_jobs _ = Err (refusal.Deck 1 15)
+
+-- the first refused pair
+abbrev pub by_pairs : Option pairs.Refusal → Answer ⊤
+by_pairs None = Ok tt
+by_pairs (Some r) = Err (refusal.Bind r.pair r.reason)
+
+-- by two programs that are admitted: the cards of the bound file
+abbrev pub bound_text : Binding → Verdict
+bound_text x = do
+  _ ← by_pairs (pairs.first_refusal x)
+  Ok (hex_lines (spelling (bound x)))
+
+-- by the two jobs: both are assembled or read, and then both are admitted
+abbrev pub bind_jobs : List Pair → Job → Job → Verdict
+bind_jobs list h p = do
+  host ← file_in h.body_card h.program
+  part ← file_in p.body_card p.program
+  _ ← by_rules h.card (first_refusal (program_of host))
+  _ ← by_rules p.card (first_refusal (program_of part))
+  bound_text (binding host part list)
+
+-- by a deck
+abbrev pub bind_deck : List Pair → Deck → Verdict
+bind_deck list d = do
+  both ← two_jobs d.jobs
+  bind_jobs list both.0 both.1
+
+-- by a whole text of a deck
+unfoldable pub bind_verdict : List Pair → List ℕ → Verdict
+bind_verdict list text = do
+  d ← of_deck (deck_of text)
+  bind_deck list d

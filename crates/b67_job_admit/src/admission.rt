@@ -6,6 +6,7 @@ ghost use Rattle.b67_codefile.specs.Spelling.{IsWithin};
 ghost use Rattle.b67_codefile.specs.Meaning as meaning;
 ghost use Rattle.b67_codefile.specs.Reading.{file_of};
 ghost use Rattle.b67_job_admit.specs.Admitting.{codefile_in, program_in, programs, by_rules, first_refusal, admitted, prepared, with_programs};
+ghost use Rattle.b67_job_admit.specs.Verdicts.{file_in};
 ghost use Rattle.b67_job_admit.specs.Meets.{Meets, IsLoaded, prepared_of, of_deck_fault};
 
 use crate::fault::AdmitFault;
@@ -44,7 +45,7 @@ fn refused(card: u32, reason: u8, byte: usize) -> AdmitFault
 }
 
 /// A program is admitted exactly if it breaks none of the loader's rules. The card is that of its job.
-fn admitted_one(alloc: Global, card: u32, file: Codefile) -> Result<Admitted, AdmitFault>
+pub fn admitted_one(alloc: Global, card: u32, file: Codefile) -> Result<Admitted, AdmitFault>
     requires { IsWithin file }
     ensures kept { IfOk result (λ a. a ≡ file) }
     ensures answer { Meets (λ a. tt) result (by_rules card (first_refusal (meaning.program_of file))) }
@@ -69,6 +70,7 @@ fn admitted_one(alloc: Global, card: u32, file: Codefile) -> Result<Admitted, Ad
 
 fn assembled_in(alloc: Global, card: u32, cards: &Cards) -> Result<Codefile, AdmitFault>
     ensures within { IfOk result IsWithin }
+    ensures file { Meets (λ file. file) result (file_in card (Body.Cards cards.now)) }
     ensures answer { Meets meaning.program_of result (program_in card (Body.Cards cards.now)) }
 {
     match assemble(alloc, cards) {
@@ -83,6 +85,7 @@ fn assembled_in(alloc: Global, card: u32, cards: &Cards) -> Result<Codefile, Adm
 /// The file of a job's program, assembled or read, or the refusal of its cards or its bytes.
 pub fn file_of(alloc: Global, job: &Job) -> Result<Codefile, AdmitFault>
     ensures within { IfOk result IsWithin }
+    ensures file { Meets (λ file. file) result (file_in job.now.body_card job.now.program) }
     ensures answer { Meets meaning.program_of result (program_in job.now.body_card job.now.program) }
 {
     match &job.program {

@@ -1,8 +1,9 @@
-//! From the bytes of a deck to admitted programs, and what asm, check and convert print of a text.
+//! From the bytes of a deck to admitted programs, and what asm, bind, check and convert print of a text.
 #![tactic(auto)]
 
 mod admission;
 mod asm;
+mod bind;
 mod check;
 mod convert;
 mod fault;
@@ -13,6 +14,7 @@ mod refusal;
 
 pub use admission::{admit, file_of, prepare};
 pub use asm::asm_text;
+pub use bind::bind_text;
 pub use check::check_text;
 pub use convert::convert_text;
 pub use fault::AdmitFault;

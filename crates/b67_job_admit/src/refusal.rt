@@ -1,8 +1,8 @@
-//! Why a deck or cards are refused.
+//! Why a deck, cards or pairs are refused.
 
 use b67_word::Place;
 
-/// The first refusal of a deck or of assembly cards.
+/// The first refusal of a deck, of cards or of pairs.
 #[derive(Clone, Copy, Debug, PartialEq, Eq)]
 pub enum Refusal {
     /// A card of the deck breaks this reason of the deck's grammar.
@@ -28,5 +28,10 @@ pub enum Refusal {
         reason: u8,
         segment: u8,
         place: Place,
+    },
+    /// This pair, counted from 1, breaks this reason of binding.
+    Bind {
+        pair: u32,
+        reason: u8,
     },
 }

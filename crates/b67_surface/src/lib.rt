@@ -9,6 +9,8 @@ mod arith_rows;
 #[cfg(test)]
 mod asm_rows;
 #[cfg(test)]
+mod bind_rows;
+#[cfg(test)]
 mod card_rows;
 #[cfg(test)]
 mod codefile_rows;

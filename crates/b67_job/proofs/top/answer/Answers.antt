@@ -2,7 +2,7 @@ use Rattle.std.proofs.Common.{sym, ap, ◌∙◌, refl, Some}
 use Rattle.std.proofs.lemmas.Bool.{false≢true}
 use Rattle.b67_job.specs.Judgement.{reads}
 use Rattle.std.specs.Prelude.{is_some}
-use Rattle.b67_job_admit.specs.Verdicts.{asm_verdict, check_verdict, convert_verdict}
+use Rattle.b67_job_admit.specs.Verdicts.{asm_verdict, bind_verdict, check_verdict, convert_verdict}
 use Rattle.b67_session_open.proofs.InitialOpens.{uncalled}
 use Rattle.b67_job.specs.Device.{device_of}
 use Rattle.b67_job.specs.Texts.{only}
@@ -36,6 +36,13 @@ returns-in-Some-Convert-clause-answered g c =
     c.without_machine-in-Some-Convert.result.machine c.without_machine-in-Some-Convert.result.status c.answer_convert.result c.without_machine-in-Some-Convert.ensures.machine c.without_machine-in-Some-Convert.ensures.status
     (served_text d lines.Convert convert_verdict c.answer_convert.result refl refl (λ bytes. refl) c.answer_convert.ensures c.args.words.now (sym c.command_of.ensures.command ∙ c.in-Some-Convert.is ∙ ap (λ x. Some x) c.in-Some-Convert.field-0-is))
 
+pub returns-in-Some-Bind-clause-answered : goal.returns-in-Some-Bind-clause-answered
+returns-in-Some-Bind-clause-answered g c =
+    let d = device_of g.B.Backing.holds g.B.Backing.size g.B.Backing.faults c.args.backing.now c.args.backing.now in
+    without c.args.words.now g.S.Source.left g.S.Source.faults c.args.deck.now c.answer_bind.new.deck d g.K.Sink.taken g.K.Sink.faults c.args.printer.now c.answer_bind.new.printer
+    c.without_machine-in-Some-Bind.result.machine c.without_machine-in-Some-Bind.result.status c.answer_bind.result c.without_machine-in-Some-Bind.ensures.machine c.without_machine-in-Some-Bind.ensures.status
+    (served_text d (lines.Bind c.in-Some-Bind.pairs) (bind_verdict c.in-Some-Bind.pairs) c.answer_bind.result refl refl (λ bytes. refl) c.answer_bind.ensures c.args.words.now (sym c.command_of.ensures.command ∙ c.in-Some-Bind.is ∙ ap (λ x. Some x) c.in-Some-Bind.field-0-is))
+
 pub returns-in-Some-Exercise-clause-answered : goal.returns-in-Some-Exercise-clause-answered
 returns-in-Some-Exercise-clause-answered g c =
     exercised c.args.words.now g.S.Source.left g.S.Source.faults c.args.deck.now c.in-Some-Exercise.seed c.in-Some-Exercise.size c.in-Some-Exercise.core
@@ -58,6 +65,9 @@ returns-in-Some-Check-clause-device g c = uncalled g.B.Backing.holds g.B.Backing
 pub returns-in-Some-Convert-clause-device : goal.returns-in-Some-Convert-clause-device
 returns-in-Some-Convert-clause-device g c = uncalled g.B.Backing.holds g.B.Backing.size g.B.Backing.calls g.B.Backing.faults c.args.backing.now
 
+pub returns-in-Some-Bind-clause-device : goal.returns-in-Some-Bind-clause-device
+returns-in-Some-Bind-clause-device g c = uncalled g.B.Backing.holds g.B.Backing.size g.B.Backing.calls g.B.Backing.faults c.args.backing.now
+
 pub returns-in-None-clause-device : goal.returns-in-None-clause-device
 returns-in-None-clause-device g c = uncalled g.B.Backing.holds g.B.Backing.size g.B.Backing.calls g.B.Backing.faults c.args.backing.now
 
@@ -72,3 +82,6 @@ returns-in-Some-Check-clause-unread g c = λ e. absurd (false≢true (sym e ∙ 
 
 pub returns-in-Some-Convert-clause-unread : goal.returns-in-Some-Convert-clause-unread
 returns-in-Some-Convert-clause-unread g c = λ e. absurd (false≢true (sym e ∙ ap reads (sym c.command_of.ensures.command ∙ c.in-Some-Convert.is ∙ ap (λ x. Some x) c.in-Some-Convert.field-0-is)))
+
+pub returns-in-Some-Bind-clause-unread : goal.returns-in-Some-Bind-clause-unread
+returns-in-Some-Bind-clause-unread g c = λ e. absurd (false≢true (sym e ∙ ap reads (sym c.command_of.ensures.command ∙ c.in-Some-Bind.is ∙ ap (λ x. Some x) c.in-Some-Bind.field-0-is)))
