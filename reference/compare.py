@@ -13,6 +13,7 @@ most are refused. Differing decks are kept in a folder.
 from __future__ import annotations
 
 import argparse
+import re
 import subprocess
 import sys
 import tempfile
@@ -140,6 +141,10 @@ def main() -> int:
     parser.add_argument("--keep", type=Path, default=Path("differences"))
     add_features(parser)
     options = parser.parse_args()
+    if not options.program.is_file():
+        parser.error(f"{options.program}: not a program")
+    if not re.fullmatch(r"[0-9]+\.\.[0-9]+", options.seeds):
+        parser.error(f"{options.seeds}: not a range of seeds, A..B")
     first, last = map(int, options.seeds.split(".."))
     with tempfile.TemporaryDirectory() as folder:
         comparison = Comparison(options.program.resolve(), Path(folder), options.keep)

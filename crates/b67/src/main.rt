@@ -6,10 +6,9 @@ use b67_io::{StdSink, StdSource};
 use b67_job::{Outcome, backing_path, refuse_memory, run};
 use b67_word::Numbers;
 use std::alloc::Global;
-use std::fs;
-use std::io;
 use std::os::unix::fs::MetadataExt;
 use std::process::ExitCode;
+use std::{fs, io};
 
 // The words without the program's own name. A word that isn't text makes them no command.
 fn words(rt: &HostRuntime) -> io::Result<Vec<String>> {
