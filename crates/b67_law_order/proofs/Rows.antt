@@ -185,7 +185,6 @@ module _ (P : Starts) (h : OperatorContext) where
   entr_good run next (Entered level environment back) e = post_err (Keeps P h) _
 
 module _ (P : Starts) (h : OperatorContext) (start : Run P (branches h h.at)) (next : h.job.next_task < 2 ^ 48) where
-
   -- the operators after which the next one may follow
   on_good : (code : Code) → AfterFits P h (Plain code) → may_be_last (Plain code) ≡ false → Run P h
   on_good code after goes = run_at P (branches h h.at) h.task.place start (after goes)

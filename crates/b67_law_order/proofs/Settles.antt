@@ -5,7 +5,7 @@ use Rattle.std.proofs.lemmas.Bool.Decides.{eqb_tells}
 use Rattle.std.proofs.lemmas.Bool.{cases_Bool, true≢false}
 use Rattle.b67_word.specs.declared.faults.Ending.{Ending}
 use Rattle.b67_word.specs.declared.faults.Ending.TheVariants.{Ended, Deadlock, Limit, Faulted}
-use Rattle.b67_model.specs.Common.{Answer, Array, Condition, Ready, Task, JobConstants, Job, JobProgress, with_task, Done, Goes, Leaves, Waits, Reading, step, step_by, reading_of, among, all_with, deepest_first, Settled, ends_all, ends_task, ends_each_if, deadlocked, limited, unsettled, is_ready, settles, stepped, Starts, IsSegment, IsStart, known_of, from_frame, reach_of, originals_of, ConditionInOrder, TaskInOrder, TasksInOrder, JobInOrder}
+use Rattle.b67_model.specs.Common.{Answer, Array, Condition, Ready, Task, JobConstants, Job, JobProgress, with_task, Done, Goes, Leaves, Waits, Reading, step, step_by, reading_of, among, all_with, deepest_first, Settled, ends_task, ends_each_if, unsettled, is_ready, settles, stepped, Starts, IsSegment, IsStart, known_of, from_frame, reach_of, originals_of, ConditionInOrder, TaskInOrder, TasksInOrder, JobInOrder}
 use Rattle.b67_model.specs.Keyed.{keyed}
 use Rattle.b67_lemmas.specs.Lists.{Has}
 use Rattle.b67_lemmas.proofs.Members.{all_in, keyed_has, filter_none}
@@ -15,21 +15,19 @@ use Rattle.b67_law_order.specs.Ends.{StepsFrom}
 use Rattle.b67_law_order.specs.Keeping.{KeepsOrder}
 use Rattle.b67_law_order.specs.Laws.{StepsKeepOrderButPlaces, StepsKeepOrder}
 use Rattle.b67_law_order.proofs.Reaches.{alike_same}
-use Rattle.b67_law_order.proofs.Changes.{run_replaced}
-use Rattle.b67_law_order.proofs.Kept.{starts_run}
+use Rattle.b67_law_order.proofs.Replaced.{replaced}
 use Rattle.b67_law_order.proofs.Deaths.{ends_good, ends_task_good, all_closed, all_among}
 use Rattle.b67_law_order.proofs.Segments.{rows_keep_order_but_places}
 use Rattle.b67_law_order.proofs.Places.{rows_keep_order}
 use Rattle.b67_law_order.proofs.Posts.{Post}
 use Rattle.b67_law_order.proofs.Identities as Identities
 
--- a task that waits
-waits_good : (P : Starts) (constants : JobConstants) (job : Job) (task : Task) (condition : Condition) → StepsFrom P constants job task → ConditionInOrder (reach_of job task) condition → TasksInOrder P constants (with_task job (record task { condition = condition }))
-waits_good P constants job task condition s waits =
-    let run = starts_run P constants job task task.place s in
-    let own = all_in (TaskInOrder P constants job) job.tasks task s.order.tasks (keyed_has (λ t. t.number) task.number job.tasks task s.live).0 in
-    let new : Task = record task { condition = condition } in
-    (run_replaced P (record { constants = constants; job = job; task = task; at = task.place }) (with_task job new) new run (record {
+-- another condition of a task, one that its reach bears
+pub condition_good : (P : Starts) (constants : JobConstants) (job : Job) (task : Task) (condition : Condition) → TasksInOrder P constants job → keyed (λ (u : Task). u.number) task.number job.tasks ≡ Some task
+    → ConditionInOrder (reach_of job task) condition → TasksInOrder P constants (with_task job (record task { condition = condition }))
+condition_good P constants job task condition order live bears =
+    let own = all_in (TaskInOrder P constants job) job.tasks task order.tasks (keyed_has (λ (u : Task). u.number) task.number job.tasks task live).0 in
+    replaced P constants job task (with_task job (record task { condition = condition })) (record task { condition = condition }) order live (record {
       number = refl;
       line = refl;
       critical = refl;
@@ -42,16 +40,16 @@ waits_good P constants job task condition s waits =
       falls = own.falls;
       not_higher = own.not_higher;
       place = own.place;
-      condition = waits;
-      alike = λ t k. alike_same (map known_of (from_frame t.critical task.frames));
-      stays = λ t k c. c;
+      condition = bears;
+      alike = λ u k. alike_same (map known_of (from_frame u.critical task.frames));
+      stays = λ u k c. c;
       fewer = λ n low. omega arith;
       kept = λ a k. record { case = inl (record { item = a; live = k; named = refl; owned = refl }) };
-      arrays = s.order.arrays;
-      once = λ a k. omega (arith, all_in (λ (x : Array). originals_of x.identity constants job ≡ 1) job.arrays a s.order.once k);
-      names = s.order.names;
-      reads = s.order.reads;
-    })).0
+      arrays = order.arrays;
+      once = λ a k. omega (arith, all_in (λ (x : Array). originals_of x.identity constants job ≡ 1) job.arrays a order.once k);
+      names = order.names;
+      reads = order.reads;
+    })
 
 each_good : (P : Starts) (constants : JobConstants) (test : Bool) (ending : Ending) (s : Settled) → TasksInOrder P constants s.job → TasksInOrder P constants (ends_each_if test ending s).job
 each_good P constants false ending s g = g
@@ -59,7 +57,7 @@ each_good P constants true ending s g = ends_good P constants s (all_with ending
 
 settles_good : (P : Starts) (constants : JobConstants) (job : Job) (task : Task) (a : Answer Done) → StepsFrom P constants job task → KeepsOrder P constants job task a → TasksInOrder P constants (settles job task a).settled.job
 settles_good P constants job task (Ok (Goes after printed touched)) s g = each_good P constants _ Deadlock (unsettled after) g
-settles_good P constants job task (Ok (Waits condition)) s g = each_good P constants _ Deadlock (unsettled (with_task job (record task { condition = condition }))) (waits_good P constants job task condition s g)
+settles_good P constants job task (Ok (Waits condition)) s g = each_good P constants _ Deadlock (unsettled (with_task job (record task { condition = condition }))) (condition_good P constants job task condition s.order s.live g)
 settles_good P constants job task (Ok Leaves) s g = each_good P constants _ Deadlock (ends_task job task.number Ended) (ends_task_good P constants job task.number Ended s.order)
 settles_good P constants job task (Err fault) s g = each_good P constants _ Deadlock (ends_task job task.number (Faulted fault)) (ends_task_good P constants job task.number (Faulted fault) s.order)
 
@@ -120,7 +118,7 @@ ready_by P constants s false e g some = some_ready s.job.tasks e
 settles_ready : (P : Starts) (constants : JobConstants) (job : Job) (task : Task) (a : Answer Done) → StepsFrom P constants job task → KeepsOrder P constants job task a → (settles job task a).settled.job.tasks ≢ [] →
     (t : Task) × Has (settles job task a).settled.job.tasks t × IsTrue (is_ready t)
 settles_ready P constants job task (Ok (Goes after printed touched)) s g some = ready_by P constants (unsettled after) _ refl g some
-settles_ready P constants job task (Ok (Waits condition)) s g some = ready_by P constants (unsettled (with_task job (record task { condition = condition }))) _ refl (waits_good P constants job task condition s g) some
+settles_ready P constants job task (Ok (Waits condition)) s g some = ready_by P constants (unsettled (with_task job (record task { condition = condition }))) _ refl (condition_good P constants job task condition s.order s.live g) some
 settles_ready P constants job task (Ok Leaves) s g some = ready_by P constants (ends_task job task.number Ended) _ refl (ends_task_good P constants job task.number Ended s.order) some
 settles_ready P constants job task (Err fault) s g some = ready_by P constants (ends_task job task.number (Faulted fault)) _ refl (ends_task_good P constants job task.number (Faulted fault) s.order) some
 

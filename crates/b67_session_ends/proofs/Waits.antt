@@ -1,14 +1,13 @@
 -- A step that makes its task wait keeps the order.
-use Rattle.std.proofs.Common.{◌≡◌, ℕ, [], map, length, None, Some, Ok, refl, ap, ◌∙◌, subst, inl, arith}
+use Rattle.std.proofs.Common.{◌≡◌, ℕ, [], length, None, Some, Ok, refl, ap, ◌∙◌, subst, arith}
 use Rattle.b67_lemmas.specs.Lists.{Has}
 use Rattle.b67_lemmas.proofs.Members.{all_in, keyed_has, length_change}
-use Rattle.b67_model.specs.Common.{Answer, IsSegment, known_of, from_frame, reach_of, originals_of, ConditionInOrder, TaskInOrder, TasksInOrder, JobInOrder, IsInOrderButPlaces, step, number_of, Session, Array, Condition, Task, Job, SessionJob, Done, Waits}
+use Rattle.b67_model.specs.Common.{Answer, IsSegment, reach_of, ConditionInOrder, TaskInOrder, TasksInOrder, JobInOrder, IsInOrderButPlaces, step, number_of, Session, Condition, Task, Job, SessionJob, Done, Waits}
 use Rattle.b67_model.specs.Keyed.{keyed}
 use Rattle.b67_law_order.specs.Ends.{StepsFrom}
-use Rattle.b67_law_order.proofs.Reaches.{alike_same}
-use Rattle.b67_law_order.proofs.Replaced.{Replaced, replaced}
 use Rattle.b67_law_order.specs.Keeping.{KeepsOrder}
 use Rattle.b67_law_order.proofs.Segments.{rows_keep_order_but_places}
+use Rattle.b67_law_order.proofs.Settles.{condition_good}
 use Rattle.b67_law_sessions.specs.Orders.{SettlesInOrder}
 use Rattle.b67_law_sessions.specs.Turns.{IsNext}
 use Rattle.b67_law_sessions.proofs.Choices.{next_is_ready}
@@ -52,33 +51,8 @@ module _ (s : Session) (m : SessionJob) (t : Task) (condition : Condition) (o : 
       let K : Answer Done → Type 0 = KeepsOrder (IsSegment m.constants) m.constants job t in
       let there : K (Ok (Waits condition)) = subst K is (rows_keep_order_but_places m.constants job t from) in there
 
-  replaces : Replaced (IsSegment m.constants) m.constants job t after (record t { condition = condition })
-  replaces = record {
-    number = refl;
-    line = refl;
-    critical = refl;
-    tasks = refl;
-    next_task = refl;
-    next_frame = omega arith;
-    frames = own.frames;
-    returns = own.returns;
-    some = own.some;
-    falls = own.falls;
-    not_higher = own.not_higher;
-    place = own.place;
-    condition = waits_in_order;
-    alike = λ u k. alike_same (map known_of (from_frame u.critical t.frames));
-    stays = λ u k c. c;
-    fewer = λ i low. omega arith;
-    kept = λ a k. record { case = inl (record { item = a; live = k; named = refl; owned = refl }) };
-    arrays = order.tasks.arrays;
-    once = λ a k. omega (arith, all_in (λ (z : Array). originals_of z.identity m.constants job ≡ 1) job.arrays a order.tasks.once k);
-    names = order.tasks.names;
-    reads = order.tasks.reads;
-  }
-
   tasks_ordered : TasksInOrder (IsSegment m.constants) m.constants after
-  tasks_ordered = replaced (IsSegment m.constants) m.constants job t after (record t { condition = condition }) order.tasks live replaces
+  tasks_ordered = condition_good (IsSegment m.constants) m.constants job t condition order.tasks live waits_in_order
 
   pub as_many : length after.tasks ≡ length job.tasks
   as_many = length_change (λ (u : Task). u.number) t.number (record t { condition = condition }) job.tasks
