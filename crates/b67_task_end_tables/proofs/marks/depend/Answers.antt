@@ -5,4 +5,4 @@ pub returns-then-row-ge120 : goal.returns-then-row-ge120
 returns-then-row-ge120 c = raised_none c.args.marks.now c.args.row c.if-row-ge120.true
 
 pub returns : goal.returns
-returns c = raised_by c.args.marks.now c.raise.new.marks c.args.row c.raise.ensures.own c.raise.ensures.others
+returns c = raised_by c.args.marks.now c.raise.new.critical c.args.row c.raise.ensures.own c.raise.ensures.others
