@@ -2,11 +2,13 @@
 use Rattle.std.proofs.Common.{◌≡◌, ◌≢◌, ℕ, ◌+◌, ◌<◌, ◌≤◌, List, length, Option, Some, None, Result, Ok, Err, inl, inr, ◌⊎◌, refl, sym, ap, ◌∙◌, subst, arith}
 use Rattle.std.specs.Result.{IsOk}
 use Rattle.b67_io.specs.Causes.{Stayed}
-use Rattle.b67_model.specs.Common.{need, need_next, StepResult, after, Session}
+use Rattle.b67_model.specs.Common.{Task, SessionJob, need, need_next, StepResult, after, Session}
+use Rattle.b67_stack.specs.Represents.{Storage}
+use Rattle.b67_layout.specs.Placement.{Placement}
 use Rattle.b67_law_sessions.specs.Turns.{IsNext}
 use Rattle.b67_law_sessions.proofs.Limits.{no_last}
 use Rattle.b67_task_tables.specs.declared.tables.Machine.{Machine}
-use Rattle.b67_session_attempt.specs.Attempts.{TakesSectors}
+use Rattle.b67_session_attempt.specs.Attempts.{TakesSectors, TellsSectors, starts_task, makes_longer}
 use Rattle.b67_session_attempt.specs.Passed.{CallCauses}
 use Rattle.b67_session_attempt.specs.Stops.{Stop}
 use Rattle.b67_session_attempt.specs.Stops as stops
@@ -23,6 +25,17 @@ NoFault answered = (answered ≡ Err stops.BackingFault → ⊥) × (answered �
 pub no_fault : {D K : Type 0} (failed : D → ℕ) (unprinted : K → ℕ) (d d' : D) (p p' : K) (answered : Result Progress Stop) → CallCauses failed unprinted d d' p p' answered → Stayed failed d d' → Stayed unprinted p p' → NoFault answered
 no_fault failed unprinted d d' p p' answered causes calm quiet =
     (λ e. (let rose = causes.device e in omega (arith, rose, calm)), λ e. (let rose = causes.printer.failed e in omega (arith, rose, quiet)))
+
+-- the sum that is told is one that the session takes, or takes then
+pub takes_of : (exact : Type 0) (x : Storage) (plan : Placement) (s : Session) (m : SessionJob) (t : Task) (sum : ℕ) → TellsSectors exact x plan s m t sum → TakesSectors s m t sum
+takes_of exact x plan s m t sum (inl wanted) = inl wanted.1
+takes_of exact x plan s m t sum (inr (starts_task starts is)) = inl is
+takes_of exact x plan s m t sum (inr (makes_longer longer is)) = inr (longer, is)
+
+-- what is said of a device that tells holds of one that tells less
+pub tells_weaker : (exact other : Type 0) → (other → exact) → (x : Storage) (plan : Placement) (s : Session) (m : SessionJob) (t : Task) (sum : ℕ) → TellsSectors exact x plan s m t sum → TellsSectors other x plan s m t sum
+tells_weaker exact other f x plan s m t sum (inl wanted) = inl (λ e. wanted.0 (f e), wanted.1)
+tells_weaker exact other f x plan s m t sum (inr after) = inr after
 
 -- a slice from a session in order
 module _ {K : Type 0} (taken : K → Option (List ℕ)) (told : Option (List (List ℕ))) (exact : Type 0) (count n : ℕ) (first : Session) (answered : Result Progress Stop) (old new : Machine) (paper paper' : K)
@@ -54,13 +67,13 @@ module _ {K : Type 0} (taken : K → Option (List ℕ)) (told : Option (List (Li
     by : (a : Result Progress Stop) → answered ≡ a → SliceMeets told exact (length old.cpu.core) count n x.steps x.session x.is_due a new → IsOk a
     by (Ok progress) e meets = refl
     by (Err (stops.NoCore words size)) e (b, words_is, size_is, more) = (let fits = has_core b in absurd (omega (arith, words_is, more, fits)))
-    by (Err (stops.BackingFull sum size)) e (b, lacks, short, takes, size_is, more) = (let fits = has_sectors b sum takes in absurd (omega (arith, more, fits)))
+    by (Err (stops.BackingFull sum size)) e (b, lacks, short, tells, size_is, more) = (let fits = has_sectors b sum (takes_of exact b.stands.storage b.stands.plan x.session b.member b.task sum tells) in absurd (omega (arith, more, fits)))
     by (Err stops.BackingFault) e meets = absurd (device e)
     by (Err stops.PrintFault) e meets = absurd (printer e)
 
 -- or from one whose lines of LIMIT are due
-module _ {D K : Type 0} (taken : K → Option (List ℕ)) (known known' : Option (List (List ℕ))) (count n : ℕ) (h : Session) (part : StepResult) (answered : Result Progress Stop) (old new : Machine) (device device' : D) (paper paper' : K) where
-  pub goes_through_limit : Resumes taken known known' count n h part answered old new device device' paper paper' → known ≢ None → Keeps old new → Suffices (length old.cpu.core) count n old.tasks part.session → NoFault answered → IsOk answered
+module _ {D K : Type 0} (holds : D → Option (List (List ℕ))) (taken : K → Option (List ℕ)) (known known' : Option (List (List ℕ))) (count n : ℕ) (h : Session) (part : StepResult) (answered : Result Progress Stop) (old new : Machine) (device device' : D) (paper paper' : K) where
+  pub goes_through_limit : Resumes holds taken known known' count n h part answered old new device device' paper paper' → known ≢ None → Keeps old new → Suffices (length old.cpu.core) count n old.tasks part.session → NoFault answered → IsOk answered
   goes_through_limit (inl cut) tells keeps ample calm = absurd (calm.1 cut.answer)
   goes_through_limit (inr g) tells keeps ample calm =
       goes_through taken known' (known ≢ None) count n part.session answered g.middle new g.printer paper' g.slices tells (keeps.halt ∙ sym g.keeps.halt) still calm
@@ -76,12 +89,12 @@ module _ {D K : Type 0} (taken : K → Option (List ℕ)) (known known' : Option
       }
 
 -- from each session that the machine represents
-pub completes : {D K : Type 0} (taken : K → Option (List ℕ)) (known known' : Option (List (List ℕ))) (count n : ℕ) (answered : Result Progress Stop) (old new : Machine) (device device' : D) (paper paper' : K)
+pub completes : {D K : Type 0} (holds : D → Option (List (List ℕ))) (taken : K → Option (List ℕ)) (known known' : Option (List (List ℕ))) (count n : ℕ) (answered : Result Progress Stop) (old new : Machine) (device device' : D) (paper paper' : K)
     → ((s : Session) → StandsAt known old s → Slices taken known' (known ≢ None) count n s answered old new paper paper')
-    → ((h : Session) (part : StepResult) → IsLimited known old h part → Resumes taken known known' count n h part answered old new device device' paper paper')
+    → ((h : Session) (part : StepResult) → IsLimited known old h part → Resumes holds taken known known' count n h part answered old new device device' paper paper')
     → Keeps old new → known ≢ None → (s : Session) → SetsOut known old s → Suffices (length old.cpu.core) count n old.tasks s → NoFault answered → IsOk answered
-completes taken known known' count n answered old new device device' paper paper' row resumed keeps tells s (at_once stands) ample calm =
+completes holds taken known known' count n answered old new device device' paper paper' row resumed keeps tells s (at_once stands) ample calm =
     goes_through taken known' (known ≢ None) count n s answered old new paper paper' (row s stands) tells keeps.halt ample calm
-completes taken known known' count n answered old new device device' paper paper' row resumed keeps tells s (after_limit h part l e) ample calm =
-    goes_through_limit taken known known' count n h part answered old new device device' paper paper' (resumed h part l) tells keeps
+completes holds taken known known' count n answered old new device device' paper paper' row resumed keeps tells s (after_limit h part l e) ample calm =
+    goes_through_limit holds taken known known' count n h part answered old new device device' paper paper' (resumed h part l) tells keeps
     (subst (Suffices (length old.cpu.core) count n old.tasks) (sym e) ample) calm

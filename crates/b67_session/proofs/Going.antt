@@ -22,6 +22,7 @@ use Rattle.b67_session_attempt.specs.Stops as stops
 use Rattle.b67_session_attempt.proofs.Runs.{caused_stop, caused_later}
 use Rattle.b67_session.specs.declared.slices.Progress.{Progress}
 use Rattle.b67_session.specs.declared.slices.Progress.TheVariants as progress
+use Rattle.b67_session_attempt.specs.Attempts.{IsNotFull}
 use Rattle.b67_session.specs.Slices.{StandsAt, LivesOn, RepresentsWithoutTasks, Keeps, Reaches, whole, but_limit, Prints, PrintsWhole, NextFits, StepsFit, StopsWithRoom, IfPresent, StopsBefore, SliceMeets, Slices}
 use Rattle.b67_session.specs.Steps.{StepGives, Leads, stays, makes, halves, Steps, GoesOnInTurn}
 use Rattle.b67_session.proofs.Printing.{prints_none, prints_then, prints_before}
@@ -306,17 +307,20 @@ going-turn {K} taken exact told steps more total first old now new paper paper' 
     came_on c = record { session = after-add steps more first ∙ ap (after more) c.session ∙ t.leads; lines_are = t.silent first steps c.session ∙ c.lines_are }
 
 -- at the beginning of a slice nothing has changed: what a step says of the machine before it, a slice says
-pub begun_present : {A B D : Type 0} (told : Option (List (List ℕ))) (core' core n made : ℕ) (k k' new : Machine) (s : Session) (m : SessionJob) (t : Task) (d d' e : D) (step : Result A Stop) (answered : Result B Stop) → (made ≡ 0 → (k' ≡ k) × (d' ≡ d)) → core' ≡ core
+pub begun_present : {A B D : Type 0} (holds : D → Option (List (List ℕ))) (told : Option (List (List ℕ))) (core' core n made : ℕ) (k k' new : Machine) (s : Session) (m : SessionJob) (t : Task) (d d' e : D) (step : Result A Stop) (answered : Result B Stop) → (made ≡ 0 → (k' ≡ k) × (d' ≡ d)) → core' ≡ core
     → k'.tasks.made ≡ k.tasks.made + made → k'.tasks.made ≤ new.tasks.made → made + 1 ≤ n → (StopsWithRoom core s m t step → StopsWithRoom core s m t answered)
-    → (made ≡ 0 → (h : StandsAt told k' s) → IfPresent (told ≢ None) core' 1 h.storage h.plan s m t step k' new d' e) → (h : StandsAt told k s) → IfPresent (told ≢ None) core n h.storage h.plan s m t answered k new d e
-begun_present {A} {B} {D} told core' core n made k k' new s m t d d' e step answered begun len counted later few same present h = record {
+    → (IsNotFull step → IsNotFull answered) → ((sum size : ℕ) → answered ≡ Err (stops.BackingFull sum size) → step ≡ Err (stops.BackingFull sum size))
+    → (made ≡ 0 → (h : StandsAt told k' s) → IfPresent holds (told ≢ None) core' 1 h.storage h.plan s m t step k' new d' e) → (h : StandsAt told k s) → IfPresent holds (told ≢ None) core n h.storage h.plan s m t answered k new d e
+begun_present {A} {B} {D} holds told core' core n made k k' new s m t d d' e step answered begun len counted later few same fine full present h = record {
   quiet = λ one wants. (first (omega (arith, one, few)) h).quiet (omega arith) wants;
+  hole = λ tells one fits none. (let used = (first (omega (arith, one, few)) h).hole tells (omega arith) fits none in record { written = used.written; not_full = fine used.not_full });
+  sum = λ one wants sum size e. (first (omega (arith, one, few)) h).sum (omega arith) wants sum size (full sum size e);
   room = λ tells code none. same ((first (omega (arith, none, counted, later)) h).room tells code none);
 } where
-  first : made ≡ 0 → (h : StandsAt told k s) → IfPresent (told ≢ None) core 1 h.storage h.plan s m t step k new d e
+  first : made ≡ 0 → (h : StandsAt told k s) → IfPresent holds (told ≢ None) core 1 h.storage h.plan s m t step k new d e
   first none =
       let (is, device) = begun none in
-      let P : Machine → D → ℕ → Type 0 = λ z x size. (h : StandsAt told z s) → IfPresent (told ≢ None) size 1 h.storage h.plan s m t step z new x e in
+      let P : Machine → D → ℕ → Type 0 = λ z x size. (h : StandsAt told z s) → IfPresent holds (told ≢ None) size 1 h.storage h.plan s m t step z new x e in
       subst (P k d) len (subst (λ (z : Machine). P z d core') is (subst (λ (x : D). P k' x core') device (present none)))
 
 -- a step makes none or one

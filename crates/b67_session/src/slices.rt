@@ -57,7 +57,7 @@ fn go_on<B: Backing, K: Sink>(
     ensures row { (told : Option (List (List ℕ))) (s : Session) → Says told (B.holds backing.old) → StandsAt told machine.old s
         → Slices K.taken (content_after told (B.holds backing.new)) (told ≢ None) (B.size backing.old) n s result machine.old machine.new paper.old paper.new }
     ensures present { (told : Option (List (List ℕ))) (s : Session) (m : SessionJob) (t : Task) → Says told (B.holds backing.old) → (h : StandsAt told machine.old s) → IsNext s m t
-        → IfPresent (told ≢ None) (length machine.old.cpu.core) n h.storage h.plan s m t result machine.old machine.new backing.old backing.new }
+        → IfPresent B.holds (told ≢ None) (length machine.old.cpu.core) n h.storage h.plan s m t result machine.old machine.new backing.old backing.new }
     ensures ended { (told : Option (List (List ℕ))) (s : Session) → RepresentsWithoutTasks told machine.old s
         → StaysEnded result machine.old machine.new backing.old backing.new paper.old paper.new }
     ensures countable { AreCountable machine.new.tasks.jobs }
@@ -119,9 +119,9 @@ pub fn slice<B: Backing, K: Sink>(
     ensures row { (told : Option (List (List ℕ))) (s : Session) → Says told (B.holds backing.old) → StandsAt told machine.old s
         → Slices K.taken (content_after told (B.holds backing.new)) (told ≢ None) (B.size backing.old) n s result machine.old machine.new paper.old paper.new }
     ensures present { (told : Option (List (List ℕ))) (s : Session) (m : SessionJob) (t : Task) → Says told (B.holds backing.old) → (h : StandsAt told machine.old s) → IsNext s m t
-        → IfPresent (told ≢ None) (length machine.old.cpu.core) n h.storage h.plan s m t result machine.old machine.new backing.old backing.new }
+        → IfPresent B.holds (told ≢ None) (length machine.old.cpu.core) n h.storage h.plan s m t result machine.old machine.new backing.old backing.new }
     ensures resumed { (told : Option (List (List ℕ))) (h : Session) (part : StepResult) → Says told (B.holds backing.old) → IsLimited told machine.old h part
-        → Resumes K.taken told (content_after told (B.holds backing.new)) (B.size backing.old) n h part result machine.old machine.new backing.old backing.new paper.old paper.new }
+        → Resumes B.holds K.taken told (content_after told (B.holds backing.new)) (B.size backing.old) n h part result machine.old machine.new backing.old backing.new paper.old paper.new }
     ensures ended { (told : Option (List (List ℕ))) (s : Session) → RepresentsWithoutTasks told machine.old s
         → StaysEnded result machine.old machine.new backing.old backing.new paper.old paper.new }
     ensures complete { (told : Option (List (List ℕ))) (s : Session) → told ≢ None → Says told (B.holds backing.old) → SetsOut told machine.old s
