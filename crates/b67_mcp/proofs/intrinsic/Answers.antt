@@ -123,7 +123,7 @@ returns-in-18-clause-call g c = λ x told plan s m t o h runs code called.
     record {
       row = λ says.
           resize_meets g.K.Sink.taken c.args.paper.now x (content_after told (B.holds c.resize.new.backing)) (B.size c.args.backing.now) plan s m t c.args.n c.resize.result c.args.machine.now c.resize.new.machine
-          o.peak_low (as_many m t 18 k (inr (omega arith))) (c.resize.ensures.row x told plan s m t o h runs code is says);
+          is o.peak_low (as_many m t 18 k (inr (omega arith))) (c.resize.ensures.row x told plan s m t o h runs code is says);
       present = c.resize.ensures.present x told plan s m t o h runs code is;
       fits = fits_never (length c.args.machine.now.cpu.core) s m t (never_starts m t (call_starts m t 18 k (inr (omega arith)))) c.resize.result;
       quiet = λ none. c.resize.ensures.quiet x told plan s m t o h runs code is none;

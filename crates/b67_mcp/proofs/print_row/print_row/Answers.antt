@@ -59,7 +59,7 @@ returns-in-Ok-say_words-clause-row g c = λ x told plan s m t o h runs code call
     (let k = calling m t 10 called in
     let P : Found → Type 0 = λ f. RowMeets x plan m t c.args.machine.now.cpu.core k.arguments (Ok f) in
     let row = subst P c.in-Words.is (c.in-Ok.ensures.row x plan s m t o h.session runs k.reference k.arguments k.call) in
-    record {
+    (record {
       job = job_cut m t k.next;
       printed = Values row.values ∷ [];
       touched = Some row.array;
@@ -70,7 +70,7 @@ returns-in-Ok-say_words-clause-row g c = λ x told plan s m t o h runs code call
           (c.cut.ensures.stands x told plan s m t o h runs code row.may k.next (Plain Entr, k.reading));
       text = c.in-Ok-say_words.ensures.whole x told plan s m t o h runs code row.values row.lies;
       reset = c.cut.ensures.printed;
-    })
+    }, λ no_process no_resize home none. refl))
 
 pub returns-in-Err-say_words-clause-row : goal.returns-in-Err-say_words-clause-row
 returns-in-Err-say_words-clause-row g c = λ x told plan s m t o h runs code called count.

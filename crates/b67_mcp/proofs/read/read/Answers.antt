@@ -91,7 +91,7 @@ returns-clause-row c = λ x told plan s m t o h runs code called.
     let size = same_size x x old.cpu cpu plan plan s (with_job s m (job_read m t q)) h.session session refl refl in
     let is = did.is ∙ ap (λ (n : ℕ). slice_set old.tasks.jobs (n - 1) did.new) ej in
     let P : Place → Type 0 = λ p. MachineRepresents x told new plan (with_job s m (job_read m t p)) in
-    record {
+    (record {
       job = job_read m t k.next;
       is = k.is ∙ meets.makes k.next;
       storage = x;
@@ -102,7 +102,7 @@ returns-clause-row c = λ x told plan s m t o h runs code called.
         tables = tables_read plan s m t o runs q k.arguments old.tasks tasks h.tables j.row did.new c.in-Ok.number j.at is c.take_number.ensures.rest meets;
       });
       printed = ap (λ (z : Tasks). z.printed) c.take_number.ensures.rest;
-    })
+    }, λ no_process no_resize home none. refl))
 
 pub returns-clause-kept : goal.returns-clause-kept
 returns-clause-kept c =
