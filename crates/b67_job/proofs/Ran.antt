@@ -24,7 +24,7 @@ use Rattle.b67_session.specs.declared.slices.Progress.TheVariants as progress
 use Rattle.b67_law_order.proofs.FewMade.{made_few}
 use Rattle.b67_session.specs.Slices.{StandsAt, IsLimited, Reaches, Prints, SliceMeets, StopsBefore}
 use Rattle.b67_session.proofs.Texts.{run_text-append}
-use Rattle.b67_session.proofs.Completing.{tells_weaker}
+use Rattle.b67_session.proofs.Tells.{tells_weaker}
 use Rattle.b67_session_lines.specs.Moments.{last_part, due}
 use Rattle.b67_session_lines.specs.Stops.{halted_line}
 use Rattle.b67_session_lines.specs.Ends.{Ends, whole, cut}

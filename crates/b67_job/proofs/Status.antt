@@ -14,7 +14,7 @@ use Rattle.b67_model.specs.Common.{run_text, need, need_of_job, need_by, need_ne
 use Rattle.b67_law_sessions.specs.Turns.{IsNext}
 use Rattle.b67_lemmas.proofs.Members.{keyed_has}
 use Rattle.b67_session.specs.Passed.{TakesSectors}
-use Rattle.b67_session.proofs.Completing.{takes_of}
+use Rattle.b67_session.proofs.Tells.{takes_of}
 use Rattle.b67_session.proofs.Rows.{none_of}
 use Rattle.b67_session_lines.specs.Stops.{IsFinished, IsHalted, halted_line}
 use Rattle.b67_session_lines.proofs.Statuses.{finished-status, halted-status}

@@ -2,13 +2,11 @@
 use Rattle.std.proofs.Common.{◌≡◌, ◌≢◌, ℕ, ◌+◌, ◌<◌, ◌≤◌, List, length, Option, Some, None, Result, Ok, Err, inl, inr, ◌⊎◌, refl, sym, ap, ◌∙◌, subst, arith}
 use Rattle.std.specs.Result.{IsOk}
 use Rattle.b67_io.specs.Causes.{Stayed}
-use Rattle.b67_model.specs.Common.{Task, SessionJob, need, need_next, StepResult, after, Session}
-use Rattle.b67_stack.specs.Represents.{Storage}
-use Rattle.b67_layout.specs.Placement.{Placement}
+use Rattle.b67_model.specs.Common.{need, need_next, StepResult, after, Session}
 use Rattle.b67_law_sessions.specs.Turns.{IsNext}
 use Rattle.b67_law_sessions.proofs.Limits.{no_last}
 use Rattle.b67_task_tables.specs.declared.tables.Machine.{Machine}
-use Rattle.b67_session_attempt.specs.Attempts.{TakesSectors, TellsSectors, starts_task, makes_longer}
+use Rattle.b67_session_attempt.specs.Attempts.{TakesSectors}
 use Rattle.b67_session_attempt.specs.Passed.{CallCauses}
 use Rattle.b67_session_attempt.specs.Stops.{Stop}
 use Rattle.b67_session_attempt.specs.Stops as stops
@@ -16,6 +14,7 @@ use Rattle.b67_session.specs.declared.slices.Progress.{Progress}
 use Rattle.b67_session.specs.Slices.{StandsAt, IsLimited, Keeps, Reaches, whole, but_limit, StopsBefore, SliceMeets, Slices, Resumes}
 use Rattle.b67_session.specs.Complete.{SetsOut, at_once, after_limit, IsToMake, Suffices}
 use Rattle.b67_session.proofs.Fitting.{below}
+use Rattle.b67_session.proofs.Tells.{takes_of}
 use Rattle.b67_session.proofs.Next.{next_needs}
 
 -- no device failed, by its count
@@ -25,17 +24,6 @@ NoFault answered = (answered ≡ Err stops.BackingFault → ⊥) × (answered �
 pub no_fault : {D K : Type 0} (failed : D → ℕ) (unprinted : K → ℕ) (d d' : D) (p p' : K) (answered : Result Progress Stop) → CallCauses failed unprinted d d' p p' answered → Stayed failed d d' → Stayed unprinted p p' → NoFault answered
 no_fault failed unprinted d d' p p' answered causes calm quiet =
     (λ e. (let rose = causes.device e in omega (arith, rose, calm)), λ e. (let rose = causes.printer.failed e in omega (arith, rose, quiet)))
-
--- the sum that is told is one that the session takes, or takes then
-pub takes_of : (exact : Type 0) (x : Storage) (plan : Placement) (s : Session) (m : SessionJob) (t : Task) (sum : ℕ) → TellsSectors exact x plan s m t sum → TakesSectors s m t sum
-takes_of exact x plan s m t sum (inl wanted) = inl wanted.1
-takes_of exact x plan s m t sum (inr (starts_task starts is)) = inl is
-takes_of exact x plan s m t sum (inr (makes_longer longer is)) = inr (longer, is)
-
--- what is said of a device that tells holds of one that tells less
-pub tells_weaker : (exact other : Type 0) → (other → exact) → (x : Storage) (plan : Placement) (s : Session) (m : SessionJob) (t : Task) (sum : ℕ) → TellsSectors exact x plan s m t sum → TellsSectors other x plan s m t sum
-tells_weaker exact other f x plan s m t sum (inl wanted) = inl (λ e. wanted.0 (f e), wanted.1)
-tells_weaker exact other f x plan s m t sum (inr after) = inr after
 
 -- a slice from a session in order
 module _ {K : Type 0} (taken : K → Option (List ℕ)) (told : Option (List (List ℕ))) (exact : Type 0) (count n : ℕ) (first : Session) (answered : Result Progress Stop) (old new : Machine) (paper paper' : K)

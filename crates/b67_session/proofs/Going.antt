@@ -23,6 +23,7 @@ use Rattle.b67_session_attempt.proofs.Runs.{caused_stop, caused_later}
 use Rattle.b67_session.specs.declared.slices.Progress.{Progress}
 use Rattle.b67_session.specs.declared.slices.Progress.TheVariants as progress
 use Rattle.b67_session_attempt.specs.Attempts.{IsNotFull}
+use Rattle.b67_session.proofs.Tells.{tells_weaker}
 use Rattle.b67_session.specs.Slices.{StandsAt, LivesOn, RepresentsWithoutTasks, Keeps, Reaches, whole, but_limit, Prints, PrintsWhole, NextFits, StepsFit, StopsWithRoom, IfPresent, StopsBefore, SliceMeets, Slices}
 use Rattle.b67_session.specs.Steps.{StepGives, Leads, stays, makes, halves, Steps, GoesOnInTurn}
 use Rattle.b67_session.proofs.Printing.{prints_none, prints_then, prints_before}
@@ -130,11 +131,17 @@ stop_meets : (told : Option (List (List ℕ))) (exact sure : Type 0) (core count
     → SliceMeets told sure core count 1 more s is_due (Err stop) new → SliceMeets told exact core count n (steps + more) s is_due (Err stop) new
 stop_meets told exact sure core count n steps more s is_due (stops.NoCore words size) new up few m = (stops_later told n steps more s new few m.0, m.1, m.2, m.3)
 stop_meets told exact sure core count n steps more s is_due (stops.BackingFull sum size) new up few m =
-    let lacks = m.1 in
-    (stops_later told n steps more s new few m.0, record { lacks = λ e. lacks.lacks (up e); room = λ e. lacks.room (up e) }, m.2, m.3, m.4, m.5)
+    let lacks = m.1 in (
+      stops_later told n steps more s new few m.0,
+      record { lacks = λ e. lacks.lacks (up e); room = λ e. lacks.room (up e); code = λ e. lacks.code (up e) },
+      m.2,
+      tells_weaker sure exact up m.0.stands.storage m.0.stands.plan s m.0.member m.0.task sum m.3,
+      m.4,
+      m.5,
+    )
 stop_meets told exact sure core count n steps more s is_due stops.BackingFault new up few m =
     let lacks = m.1 in
-    (stops_later told n steps more s new few m.0, record { lacks = λ e. lacks.lacks (up e); room = λ e. lacks.room (up e) })
+    (stops_later told n steps more s new few m.0, record { lacks = λ e. lacks.lacks (up e); room = λ e. lacks.room (up e); code = λ e. lacks.code (up e) })
 stop_meets told exact sure core count n steps more s is_due stops.PrintFault new up few (proper, inl (b, room)) = (proper, inl (stops_later told n steps more s new few b, λ e. room (up e)))
 stop_meets told exact sure core count n steps more s is_due stops.PrintFault new up few (proper, inr limited) = (proper, inr limited)
 
