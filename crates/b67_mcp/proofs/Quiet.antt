@@ -28,32 +28,38 @@ StaysMany m t = (job : Job) (printed : List Line) (touched : Option ℕ) → ste
 
 module _ {K : Type 0} (taken : K → Option (List ℕ)) (paper : K) (x : Storage) (told : Option (List (List ℕ))) (count : ℕ) (plan : Placement) (s : Session) (m : SessionJob) (t : Task) (n : ℕ) where
   pub silent_meets : (done : Result (Unit {0}) Fault) (old new : Machine) → live_tasks s.jobs ≤ s.peak → StaysMany m t → AnswerMeets x told plan s m t done old new → CallMeets taken told count x plan s m t n (Ok (end_of done)) old new paper paper
-  silent_meets (Ok done) old new low many (h, rest) = (record {
-    job = h.job;
-    printed = [];
-    touched = None;
-    is = h.is;
-    storage = h.storage;
-    plan = h.plan;
-    stands = stands_peak h.storage told new h.plan s m h.job low (many h.job [] None h.is) h.stands;
-    text = rest_none taken paper old.tasks.printed;
-    reset = h.printed;
-  }, rest)
+  silent_meets (Ok done) old new low many (h, rest) = (
+    record {
+      job = h.job;
+      printed = [];
+      touched = None;
+      is = h.is;
+      storage = h.storage;
+      plan = h.plan;
+      stands = stands_peak h.storage told new h.plan s m h.job low (many h.job [] None h.is) h.stands;
+      text = rest_none taken paper old.tasks.printed;
+      reset = h.printed;
+    },
+    rest,
+  )
   silent_meets (Err fault) old new low many h = (h.0, h.1, refl)
 
   -- RESIZE prints nothing either
   pub resize_meets : (answered : Result CallEnd Stop) (old new : Machine) → called_in m t ≡ Some 18 → live_tasks s.jobs ≤ s.peak → StaysMany m t → ResizeAnswers told count x plan s m t answered old new → CallMeets taken told count x plan s m t n answered old new paper paper
-  resize_meets (Ok ends.Done) old new called low many h = (record {
-    job = h.job;
-    printed = [];
-    touched = h.touched;
-    is = h.is;
-    storage = h.storage;
-    plan = h.plan;
-    stands = stands_peak h.storage told new h.plan s m h.job low (many h.job [] h.touched h.is) h.stands;
-    text = rest_none taken paper old.tasks.printed;
-    reset = h.printed;
-  }, λ no_process no_resize. absurd (no_resize called))
+  resize_meets (Ok ends.Done) old new called low many h = (
+    record {
+      job = h.job;
+      printed = [];
+      touched = h.touched;
+      is = h.is;
+      storage = h.storage;
+      plan = h.plan;
+      stands = stands_peak h.storage told new h.plan s m h.job low (many h.job [] h.touched h.is) h.stands;
+      text = rest_none taken paper old.tasks.printed;
+      reset = h.printed;
+    },
+    λ no_process no_resize. absurd (no_resize called),
+  )
   resize_meets (Ok (ends.Absent found)) old new called low many h = (h.0, h.1, refl)
   resize_meets (Ok (ends.Fault fault)) old new called low many h = (h.0, h.1, refl)
   resize_meets (Ok (ends.Waits state)) old new called low many h = absurd h

@@ -100,7 +100,7 @@ module _ {B K : Type 0} (holds : B → Told) (taken : K → Option (List ℕ)) (
       (x, subst (λ d. MachineRepresents x d new plan s) (sym (told_is x.device (holds backing') says)) k)
 
   pub made_once : Try (Ok tries.Made) → Whole (Ok attempts.Made)
-  made_once meets = at_once (Ok attempts.Made) meets
+  made_once meets = at_once (Ok attempts.Made) meets.0
 
   pub ends_once : (ending : Ending) → backing' ≡ backing → Try (Ok (tries.Ends ending)) → Whole (Ok (attempts.Ends ending))
   ends_once ending quiet meets = at_once (Ok (attempts.Ends ending)) (inl meets.0, silent quiet (unchanged x x.device plan s old new meets.1 h.stands), meets.2)

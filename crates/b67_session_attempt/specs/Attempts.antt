@@ -21,7 +21,7 @@ use Rattle.b67_mcp.specs.declared.ends.Stop.{Stop}
 use Rattle.b67_mcp.specs.declared.ends.Stop.TheVariants as stops
 use Rattle.b67_session_attempt.specs.declared.outcomes.Attempt.{Attempt}
 use Rattle.b67_session_attempt.specs.declared.outcomes.Attempt.TheVariants as attempts
-use Rattle.b67_session_attempt.specs.Tries.{EndsSo}
+use Rattle.b67_session_attempt.specs.Tries.{EndsSo, LeavesAreas}
 
 -- the machine stands for some session in order over a device that tells this, and a ready task of it runs
 pub record RunsOver (k : Machine) (told : Option (List (List ℕ))) : Type 0 where
@@ -162,12 +162,13 @@ pub record IsCalm {A D : Type 0} (answered : Result A Stop) (device device' : D)
 
 -- What an attempt answers and leaves. Over a device that tells what its sectors hold, core has room as said, and what is wanted
 -- goes into a hole if one has room for it. Where nothing is wanted, no array becomes longer and no task starts, the device isn't
--- called; and if it is full, the sum is the one after the step
+-- called, and a step that is made leaves areas where they are; and if it is full, the sum is the one after the step
 pub record AttemptRow {D K : Type 0} (holds : D → Option (List (List ℕ))) (taken : K → Option (List ℕ)) (x : Storage) (told : Option (List (List ℕ))) (core count before : ℕ) (plan : Placement) (s : Session) (m : SessionJob) (t : Task) (answered : Result Attempt Stop) (new : Machine) (device device' : D) (paper paper' : K) : Type 0 where
   pub meets : Attempts taken x told core count before plan s t answered new paper paper'
   pub fits : x.device ≢ None → AttemptFits core x plan s m t answered
   pub quiet : WantsNothing x plan m t → (CallsDevice m t → ⊥) → device' ≡ device
   pub hole : x.device ≢ None → HoleFits x plan m t → (CallsDevice m t → ⊥) → UsesHole holds answered device device'
+  pub areas : WantsNothing x plan m t → answered ≡ Ok attempts.Made → (c : IsCalled taken paper paper' told s m t before new) × LeavesAreas x c.storage plan c.plan m t c.job
   pub sum : WantsNothing x plan m t → (sum size : ℕ) → answered ≡ Err (stops.BackingFull sum size) → TellsAfter s m t sum
 
 -- the tables are as they were but where the operator was made; after a printer's failure it is counted how much is printed

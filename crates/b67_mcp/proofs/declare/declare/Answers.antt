@@ -63,19 +63,21 @@ returns-clause-row c = λ x told plan s m t o h runs code called.
     let same = one_behind m t q k.next (c.next_place-next.ensures.behind x told plan s m t o h runs code) (Plain Entr, k.reading) in
     let session = c.answer_array.ensures.stands x plan s m t o h.session runs r.2 in
     let size = same_size x (without x cpu.regs.s) old.cpu cpu plan there s (with_job s m (job_declared m t n q)) h.session session refl refl in
-    let P : Place → Type 0 = λ p. MachineRepresents (without x cpu.regs.s) told new there (with_job s m (job_declared m t n p)) in
-    (record {
-      job = job_declared m t n k.next;
-      is = k.is ∙ r.3 k.next;
-      storage = without x cpu.regs.s;
-      plan = there;
-      stands = subst P same (record {
-        session = session;
-        storage = record { low = h.storage.low; size = h.storage.size ∙ sym size; shelf = h.storage.shelf; device = h.storage.device };
-        tables = tables_declared plan s m t o runs r.2 q n cpu.regs.s old.tasks h.tables;
-      });
-      printed = refl;
-    }, λ no_process no_resize home none. held-other x.held cpu.regs.s nowhere home (λ e. none (is_new called (home_here plan m.constants.number m.progress.job.next_array cpu.regs.s ∙ sym e)))))
+    let P : Place → Type 0 = λ p. MachineRepresents (without x cpu.regs.s) told new there (with_job s m (job_declared m t n p)) in (
+      record {
+        job = job_declared m t n k.next;
+        is = k.is ∙ r.3 k.next;
+        storage = without x cpu.regs.s;
+        plan = there;
+        stands = subst P same (record {
+          session = session;
+          storage = record { low = h.storage.low; size = h.storage.size ∙ sym size; shelf = h.storage.shelf; device = h.storage.device };
+          tables = tables_declared plan s m t o runs r.2 q n cpu.regs.s old.tasks h.tables;
+        });
+        printed = refl;
+      },
+      λ no_process no_resize home none. held-other x.held cpu.regs.s nowhere home (λ e. none (is_new called (home_here plan m.constants.number m.progress.job.next_array cpu.regs.s ∙ sym e))),
+    ))
 
 pub returns-clause-kept : goal.returns-clause-kept
 returns-clause-kept c =

@@ -44,6 +44,7 @@ returns-in-Ok-Made-clause-row g c = λ x plan s m t o h runs ready.
       fits = λ tells. tried.fits;
       quiet = λ nothing same. tried.quiet (λ w. same (may_call x plan m t w));
       hole = λ exact fits none. record { written = still_holds B.holds c.args.backing.now c.try_once.new.backing (tried.quiet (λ w. none (may_call x plan m t w))); not_full = not_full_ok Made };
+      areas = λ nothing e. tried.row h.says;
       sum = λ nothing sum size e. absurd (let b : ⊥ = cc in b);
     }
 
@@ -58,6 +59,7 @@ returns-in-Ok-Ends-clause-row g c = λ x plan s m t o h runs ready.
       fits = λ tells. tried.fits;
       quiet = λ nothing same. quiet;
       hole = λ exact fits none. record { written = still_holds B.holds c.args.backing.now c.try_once.new.backing quiet; not_full = not_full_ok (Ends c.in-Ok-Ends.ending) };
+      areas = λ nothing e. absurd (let b : ⊥ = cc in b);
       sum = λ nothing sum size e. absurd (let b : ⊥ = cc in b);
     }
 
@@ -72,6 +74,7 @@ returns-in-Ok-Waits-clause-row g c = λ x plan s m t o h runs ready.
       fits = λ tells. tried.fits;
       quiet = λ nothing same. quiet;
       hole = λ exact fits none. record { written = still_holds B.holds c.args.backing.now c.try_once.new.backing quiet; not_full = not_full_ok (Waits c.in-Ok-Waits.state) };
+      areas = λ nothing e. absurd (let b : ⊥ = cc in b);
       sum = λ nothing sum size e. absurd (let b : ⊥ = cc in b);
     }
 
@@ -90,6 +93,7 @@ returns-in-Err-clause-row g c = λ x plan s m t o h runs ready.
         written = still_holds B.holds c.args.backing.now c.try_once.new.backing (quiet (λ w. none (stop_calls x plan m t c.in-Err.stop w)));
         not_full = not_full_once g.K.Sink.taken (content_after x.device (B.holds c.try_once.new.backing)) (B.size c.args.backing.now) x plan s m t c.args.machine.now c.try_once.new.machine c.args.paper.now c.try_once.new.paper c.in-Err.stop (tried.row h.says) none;
       };
+      areas = λ nothing e. absurd (let b : ⊥ = cc in b);
       sum = λ nothing sum size e.
           tells_once g.K.Sink.taken (content_after x.device (B.holds c.try_once.new.backing)) (B.size c.args.backing.now) x plan s m t c.args.machine.now c.try_once.new.machine c.args.paper.now c.try_once.new.paper c.in-Err.stop sum size (tried.row h.says)
           (let is : c.in-Err.stop ≡ BackingFull sum size = cc in is);
@@ -117,6 +121,7 @@ returns-in-Err-bring_wanted-clause-row g c = λ x plan s m t o h runs ready.
       hole = λ exact fits none.
           let into = c.in-Err-bring_wanted.ensures.hole x plan s m t w.0 o k runs w.1 (hole_for x plan s m t o runs c.in-Ok-Absent.wanted w.0 w.1 w.2 fits) in
           record { written = held_from B.holds c.args.backing.now c.try_once.new.backing c.bring_wanted.new.backing same into.used.written; not_full = not_full_as c.in-Err-bring_wanted.stop into.used.not_full };
+      areas = λ nothing. absurd (never g.K.Sink.taken (content_after x.device (B.holds c.try_once.new.backing)) (B.size c.args.backing.now) x plan s m t c.args.machine.now c.try_once.new.machine c.args.paper.now c.try_once.new.paper c.in-Ok-Absent.wanted nothing w);
       sum = λ nothing. absurd (never g.K.Sink.taken (content_after x.device (B.holds c.try_once.new.backing)) (B.size c.args.backing.now) x plan s m t c.args.machine.now c.try_once.new.machine c.args.paper.now c.try_once.new.paper c.in-Ok-Absent.wanted nothing w);
     }
 
@@ -157,6 +162,7 @@ returns-in-Ok-clause-row g c = λ x plan s m t o h runs ready.
                 (held_from B.holds c.args.backing.now c.try_once.new.backing c.bring_wanted.new.backing same into.used.written);
             not_full = calm.not_full;
           };
+      areas = λ nothing. absurd (never g.K.Sink.taken (content_after x.device mid) (B.size c.args.backing.now) x plan s m t c.args.machine.now c.try_once.new.machine c.args.paper.now c.try_once.new.paper found nothing w);
       sum = λ nothing. absurd (never g.K.Sink.taken (content_after x.device mid) (B.size c.args.backing.now) x plan s m t c.args.machine.now c.try_once.new.machine c.args.paper.now c.try_once.new.paper found nothing w);
     }
 
