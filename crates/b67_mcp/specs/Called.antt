@@ -196,6 +196,10 @@ CallTouches x plan m t (Err (stops.BackingFull sum size)) = TouchesPresent x pla
 CallTouches x plan m t (Err stops.BackingFault) = TouchesPresent x plan m t
 CallTouches x plan m t (Err stop) = Unit {0}
 
+-- the core words that have changed lie in the running stack
+abbrev pub ChangesStack : Machine → Machine → Type 0
+ChangesStack old new = (i : ℕ) → (slice_get new.cpu.core i ≡ slice_get old.cpu.core i) ⊎ IsInStack old.cpu.regs i
+
 -- What a call answers and leaves, over a device of so many sectors; `holds` is what it tells of them
 pub record CallRow {D K : Type 0} (holds : D → Option (List (List ℕ))) (taken : K → Option (List ℕ)) (count : ℕ) (x : Storage) (told : Option (List (List ℕ))) (plan : Placement) (s : Session) (m : SessionJob) (t : Task) (n : ℕ) (answered : Result CallEnd Stop) (old new : Machine) (device device' : D) (paper paper' : K) : Type 0 where
   -- the answer is its row's, where the device tells what the storage says of it; and if the call was made, areas stay as said
@@ -204,9 +208,7 @@ pub record CallRow {D K : Type 0} (holds : D → Option (List (List ℕ))) (take
   pub present : CallTouches x plan m t answered
   -- core has room for a task that the call started, or was stopped at by the device
   pub fits : CallFits (length old.cpu.core) s m t answered
+  -- ARRAYDEC, PRINT, PRINTROW and READ change no word outside the running stack
+  pub outside : n < 12 → ChangesStack old new
   -- the device is as it was, unless the call may have written to it
   pub quiet : (CallWrites x plan m t answered → ⊥) → device' ≡ device
-
--- the core words that have changed lie in the running stack
-abbrev pub ChangesStack : Machine → Machine → Type 0
-ChangesStack old new = (i : ℕ) → (slice_get new.cpu.core i ≡ slice_get old.cpu.core i) ⊎ IsInStack old.cpu.regs i

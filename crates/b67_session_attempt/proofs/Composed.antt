@@ -10,7 +10,7 @@ use Rattle.b67_model.specs.Keyed.{keyed}
 use Rattle.b67_layout.specs.Common.{IsInOrderButCounts, Placement, IsRunning}
 use Rattle.b67_stack.specs.declared.What.{What}
 use Rattle.b67_stack.specs.declared.What.TheVariants as what
-use Rattle.b67_stack.specs.Represents.{Storage}
+use Rattle.b67_stack.specs.Common.{Location, Storage}
 use Rattle.b67_layout_storage.specs.Machine.{Says, HasHole, content_after}
 use Rattle.b67_exec_cells.specs.Running.{code_area}
 use Rattle.b67_layout_step.proofs.OtherNumbers.{others_in_order}
@@ -18,7 +18,7 @@ use Rattle.b67_task_tables.specs.declared.tables.TaskState.{TaskState}
 use Rattle.b67_task_tables.specs.declared.tables.Machine.{Machine}
 use Rattle.b67_task_tables.specs.declared.tables.Tasks.{Tasks}
 use Rattle.b67_task_tables.specs.Tables.{MachineRepresents}
-use Rattle.b67_mcp.specs.Called.{OnlyPrinted, IsFull, IsRefused, IsUnstarted, IsUnstartedFull, CallsDevice, MayWrite}
+use Rattle.b67_mcp.specs.Called.{IsCalled, OnlyPrinted, IsFull, IsRefused, IsUnstarted, IsUnstartedFull, CallsDevice, MayWrite}
 use Rattle.b67_mcp.proofs.Told.{told_is}
 use Rattle.b67_mcp.specs.declared.ends.Stop.{Stop}
 use Rattle.b67_mcp.specs.declared.ends.Stop.TheVariants as stops
@@ -29,8 +29,8 @@ use Rattle.b67_session_attempt.specs.declared.outcomes.Attempt.{Attempt}
 use Rattle.b67_session_attempt.specs.declared.outcomes.Attempt.TheVariants as attempts
 use Rattle.b67_session_attempt.specs.declared.tries.Tried.{Tried}
 use Rattle.b67_session_attempt.specs.declared.tries.Tried.TheVariants as tries
-use Rattle.b67_session_attempt.specs.Tries.{IsTouched, EndsSo, TryMeets, TryFits, TryWrites}
-use Rattle.b67_session_attempt.specs.Attempts.{RunsOver, ForEachOver, StillStands, StandsLacking, StandsShort, HoleFits, segment_fits, array_fits, LacksRoom, TellsAfter, starts_task, makes_longer, TellsSectors, EndsWithin, AttemptMeets, Attempts, AttemptFits, IsNotFull, TablesStay, WantsNothing}
+use Rattle.b67_session_attempt.specs.Tries.{IsTouched, EndsSo, LeavesAreas, TryMeets, TryFits, TryWrites}
+use Rattle.b67_session_attempt.specs.Attempts.{RunsOver, ForEachOver, StillStands, StandsLacking, StandsShort, HoleFits, segment_fits, array_fits, LacksRoom, TellsAfter, starts_task, makes_longer, TellsSectors, EndsWithin, AttemptMeets, Attempts, AttemptFits, IsNotFull, CallKeepsAreas, TablesStay, WantsNothing}
 use Rattle.b67_session_attempt.specs.Brought.{StopMeets, Stopped, BroughtFits}
 use Rattle.b67_session_attempt.proofs.Numbers.{code_of_step, same_array}
 
@@ -193,6 +193,10 @@ held_till {D} holds d mid d' same b = let P : D → Type 0 = λ z. Becomes holds
 -- and a stop of a call for too few sectors
 pub not_full_as : {A C : Type 0} (stop : Stop) → IsNotFull {A = A} (Err stop) → IsNotFull {A = C} (Err stop)
 not_full_as {A} {C} stop none sum size e = none sum size (let is : stop ≡ stops.BackingFull sum size = cc in ap Err is)
+
+-- nor was it made
+pub not_made : {A : Type 0} (stop : Stop) (made : A) → ◌≡◌ {A = Result A Stop} (Err stop) (Ok made) → ⊥
+not_made stop made e = let b : ⊥ = cc in b
 
 pub not_full_ok : {A : Type 0} (made : A) → IsNotFull (Ok made)
 not_full_ok made sum size e = absurd cc
@@ -379,6 +383,31 @@ module _ (x : Storage) (told : Told) (k : Machine) (plan : Placement) (s : Sessi
       let M : SessionJob → Type 0 = λ y. AttemptFits core x plan (record s { jobs = b.again.jobs }) y t answered in
       let S : List SessionJob → Type 0 = λ jobs. AttemptFits core x plan (record s { jobs = jobs }) m t answered in
       subst S same (subst M (member_is x told k plan s m t o runs found b same) (subst C e here))
+
+-- what was held as it was lies in the same area
+pub keeps_areas : {K : Type 0} (taken : K → Option (List ℕ)) (x : Storage) (told : Told) (before : ℕ) (plan : Placement) (s : Session) (m : SessionJob) (t : Task) (new : Machine) (paper paper' : K)
+    → (c : IsCalled taken paper paper' told s m t before new) × LeavesAreas x c.storage plan c.plan m t c.job → CallKeepsAreas taken x told before plan s m t new paper paper'
+keeps_areas taken x told before plan s m t new paper paper' (called, rest) = (called, λ no_process no_resize home some gone other. ap (λ (l : Location). l.area) (rest no_process no_resize home gone other))
+
+-- and so it does after what was wanted was brought into a hole
+module _ {K : Type 0} (taken : K → Option (List ℕ)) (x : Storage) (told after : Told) (k last : Machine) (before printed : ℕ) (plan : Placement) (s : Session) (m : SessionJob) (t : Task) (o : IsInOrderButCounts s) (runs : IsRunning plan s.jobs m t) (found : What) (b : Brings x told k plan s m t found)
+    (n : x.device ≢ None) (tells : x.device ≢ None → told ≢ None) (paper first paper' : K) (same_paper : first ≡ paper) (same_printed : printed ≡ before) (stay : AreasStay x b.again.storage) where
+  pub areas_kept : CallKeepsAreas taken b.again.storage (content_after b.again.storage.device after) printed plan (record s { jobs = b.again.jobs }) (other x told k plan s m t o runs found b).member t last first paper'
+      → CallKeepsAreas taken x (content_after x.device after) before plan s m t last paper paper'
+  areas_kept (called, rest) =
+      let y = b.again.storage in
+      let z = (other x told k plan s m t o runs found b).member in
+      let same = b.again.same n in
+      let H : Told → Session → SessionJob → ℕ → K → Type 0 = λ d q v count p. CallKeepsAreas taken x d count plan q v t last p paper' in
+      let it : H (content_after y.device after) (record s { jobs = b.again.jobs }) z printed first = (
+        called,
+        λ no_process no_resize home some gone elsewhere.
+            rest no_process no_resize home (λ none. some (sym (stay home some) ∙ none)) gone elsewhere ∙ stay home some,
+      ) in
+      let there : H (content_after x.device after) (record s { jobs = b.again.jobs }) z printed first = subst (λ (d : Told). H d (record s { jobs = b.again.jobs }) z printed first) (retold_same taken x told after k 0 0 0 plan s t b.again tells) it in
+      let mine : H (content_after x.device after) (record s { jobs = b.again.jobs }) m printed first = subst (λ (v : SessionJob). H (content_after x.device after) (record s { jobs = b.again.jobs }) v printed first) (member_is x told k plan s m t o runs found b same) there in
+      let here : H (content_after x.device after) s m printed first = subst (λ (js : List SessionJob). H (content_after x.device after) (record s { jobs = js }) m printed first) same mine in
+      subst (λ (p : K). H (content_after x.device after) s m before p) same_paper (subst (λ (count : ℕ). H (content_after x.device after) s m count first) same_printed here)
 
 -- what is wanted, where the try changed nothing
 pub wants_some : {K : Type 0} (taken : K → Option (List ℕ)) (told told' after : Told) (count : ℕ) (old new : Machine) (paper paper' : K) (found : What) (r : RunsOver old told) → told' ≡ told

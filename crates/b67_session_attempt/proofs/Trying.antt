@@ -99,17 +99,20 @@ nothing_left (suc n) = refl
 
 pub called_made : {K : Type 0} (taken : K → Option (List ℕ)) (paper : K) (x : Storage) (told : Option (List (List ℕ))) (plan : Placement) (s : Session) (m : SessionJob) (t : Task) (old new : Machine) → IsInOrderButCounts s → IsRunning plan s.jobs m t → called_in m t ≡ None → new.tasks ≡ old.tasks
     → OperatorMade x told plan s m t old new → (c : IsCalled taken paper paper told s m t old.tasks.printed new) × LeavesAreas x c.storage plan c.plan m t c.job
-called_made taken paper x told plan s m t old new o runs none tables h = (record {
-  job = h.job;
-  printed = [];
-  touched = h.touched;
-  is = h.is;
-  storage = h.storage;
-  plan = plan;
-  stands = stands_peak h.storage told new plan s m h.job o.peak_low (operator_many m t runs.task none h.job [] h.touched h.is) h.stands;
-  text = record { rest = []; took = record { told = λ before e. e ∙ ap Some (sym (append-nil before)) }; same = nothing_left old.tasks.printed };
-  reset = ap (λ (k : Tasks). k.printed) tables;
-}, λ no_process no_resize home gone other. h.released.others home gone)
+called_made taken paper x told plan s m t old new o runs none tables h = (
+  record {
+    job = h.job;
+    printed = [];
+    touched = h.touched;
+    is = h.is;
+    storage = h.storage;
+    plan = plan;
+    stands = stands_peak h.storage told new plan s m h.job o.peak_low (operator_many m t runs.task none h.job [] h.touched h.is) h.stands;
+    text = record { rest = []; took = record { told = λ before e. e ∙ ap Some (sym (append-nil before)) }; same = nothing_left old.tasks.printed };
+    reset = ap (λ (k : Tasks). k.printed) tables;
+  },
+  λ no_process no_resize home gone other. h.released.others home gone,
+)
 
 -- an intrinsic's call is the try's
 pub called_so : {K : Type 0} (taken : K → Option (List ℕ)) (x : Storage) (told : Option (List (List ℕ))) (plan : Placement) (s : Session) (m : SessionJob) (t : Task) (first old new : Machine) (paper paper' : K) → old ≡ first

@@ -7,8 +7,10 @@ use Rattle.b67_lemmas.specs.Lists.{Has}
 use Rattle.b67_backing.specs.Held.{Becomes}
 use Rattle.b67_layout_storage.specs.Machine.{HasHole}
 use Rattle.b67_task_need.specs.Needing.{need_with}
-use Rattle.b67_model.specs.Common.{Array, Ready, Task, SessionJob, code_of, sectors, touched_of, need, step, Session}
-use Rattle.b67_layout.specs.Common.{IsInOrderButCounts, Placement, IsRunning, area_held, with_job}
+use Rattle.b67_model.specs.Common.{Array, Ready, Task, Job, SessionJob, code_of, sectors, touched_of, need, step, Session}
+use Rattle.b67_layout.specs.Common.{IsInOrderButCounts, Placement, IsRunning, area_held, with_job, objects_gone}
+use Rattle.b67_exec_cells.specs.Called.{called_in}
+use Rattle.b67_task_release.specs.Released.{HasHome}
 use Rattle.b67_stack.specs.Represents.{Storage}
 use Rattle.b67_law_order.specs.Weaker.{AllOtherNumbers}
 use Rattle.b67_presence.specs.Bringing.{StandsOver}
@@ -16,12 +18,12 @@ use Rattle.b67_exec_cells.specs.Running.{code_area}
 use Rattle.b67_task_tables.specs.declared.tables.Machine.{Machine}
 use Rattle.b67_task_tables.specs.declared.tables.Tasks.{Tasks}
 use Rattle.b67_task_tables.specs.Tables.{MachineRepresents}
-use Rattle.b67_mcp.specs.Called.{IsCalled, IsCut, IsShortAt, Lengthens, StartsTask, CallsDevice, WaitsSo}
+use Rattle.b67_mcp.specs.Called.{IsCalled, HoldsOther, IsCut, IsShortAt, Lengthens, StartsTask, CallsDevice, WaitsSo}
 use Rattle.b67_mcp.specs.declared.ends.Stop.{Stop}
 use Rattle.b67_mcp.specs.declared.ends.Stop.TheVariants as stops
 use Rattle.b67_session_attempt.specs.declared.outcomes.Attempt.{Attempt}
 use Rattle.b67_session_attempt.specs.declared.outcomes.Attempt.TheVariants as attempts
-use Rattle.b67_session_attempt.specs.Tries.{EndsSo, LeavesAreas}
+use Rattle.b67_session_attempt.specs.Tries.{EndsSo}
 
 -- the machine stands for some session in order over a device that tells this, and a ready task of it runs
 pub record RunsOver (k : Machine) (told : Option (List (List ℕ))) : Type 0 where
@@ -155,6 +157,16 @@ pub record UsesHole {A D : Type 0} (holds : D → Option (List (List ℕ))) (ans
   pub written : Becomes holds device device' (λ all. all)
   pub not_full : IsNotFull answered
 
+-- a step was made, and every area that was there is where it was, but those of arrays of a record that it leaves, and that of one
+-- that DEALLOCATE empties. Of PROCESS and RESIZE that isn't said
+abbrev pub KeepsAreas : Storage → Storage → Placement → Placement → SessionJob → Task → Job → Type 0
+KeepsAreas x y plan after m t job =
+    called_in m t ≢ Some 12 → called_in m t ≢ Some 18 → (home : ℕ) → (x.held home).area ≢ None → (HasHome (objects_gone plan m job) home → ⊥) → (HoldsOther plan after m t job home → ⊥)
+    → (y.held home).area ≡ (x.held home).area
+
+abbrev pub CallKeepsAreas : {K : Type 0} → (K → Option (List ℕ)) → Storage → Option (List (List ℕ)) → ℕ → Placement → Session → SessionJob → Task → Machine → K → K → Type 0
+CallKeepsAreas taken x told before plan s m t new paper paper' = (c : IsCalled taken paper paper' told s m t before new) × KeepsAreas x c.storage plan c.plan m t c.job
+
 -- the device wasn't called, and doesn't stop the step for too few sectors
 pub record IsCalm {A D : Type 0} (answered : Result A Stop) (device device' : D) : Type 0 where
   pub same : device' ≡ device
@@ -162,13 +174,13 @@ pub record IsCalm {A D : Type 0} (answered : Result A Stop) (device device' : D)
 
 -- What an attempt answers and leaves. Over a device that tells what its sectors hold, core has room as said, and what is wanted
 -- goes into a hole if one has room for it. Where nothing is wanted, no array becomes longer and no task starts, the device isn't
--- called, and a step that is made leaves areas where they are; and if it is full, the sum is the one after the step
+-- called; and if it is full, the sum is the one after the step. In both cases a step that is made leaves areas where they are
 pub record AttemptRow {D K : Type 0} (holds : D → Option (List (List ℕ))) (taken : K → Option (List ℕ)) (x : Storage) (told : Option (List (List ℕ))) (core count before : ℕ) (plan : Placement) (s : Session) (m : SessionJob) (t : Task) (answered : Result Attempt Stop) (new : Machine) (device device' : D) (paper paper' : K) : Type 0 where
   pub meets : Attempts taken x told core count before plan s t answered new paper paper'
   pub fits : x.device ≢ None → AttemptFits core x plan s m t answered
   pub quiet : WantsNothing x plan m t → (CallsDevice m t → ⊥) → device' ≡ device
   pub hole : x.device ≢ None → HoleFits x plan m t → (CallsDevice m t → ⊥) → UsesHole holds answered device device'
-  pub areas : WantsNothing x plan m t → answered ≡ Ok attempts.Made → (c : IsCalled taken paper paper' told s m t before new) × LeavesAreas x c.storage plan c.plan m t c.job
+  pub areas : WantsNothing x plan m t ⊎ ((x.device ≢ None) × HoleFits x plan m t) → answered ≡ Ok attempts.Made → CallKeepsAreas taken x told before plan s m t new paper paper'
   pub sum : WantsNothing x plan m t → (sum size : ℕ) → answered ≡ Err (stops.BackingFull sum size) → TellsAfter s m t sum
 
 -- the tables are as they were but where the operator was made; after a printer's failure it is counted how much is printed

@@ -1,11 +1,12 @@
 //! The next operator, with what it wants brought into core.
 
-ghost use Rattle.std.specs.Prelude.{◌≡◌, ◌≢◌, ◌+◌, None, length};
+ghost use Rattle.std.specs.Prelude.{◌≡◌, ◌≢◌, ◌+◌, None, Ok, length};
 ghost use Rattle.b67_layout_storage.specs.Machine.{DeviceAfterCalls, content_after};
 ghost use Rattle.b67_exec_cells.specs.Running.{code_area};
 ghost use Rattle.b67_mcp.specs.Called.{AreCountable, CallsDevice};
 ghost use Rattle.b67_mcp.specs.Running.{CanNumber, JobsHaveRoom, CallCauses, Kept};
-ghost use Rattle.b67_session_attempt.specs.Attempts.{RunsOver, ForEachOver, WantsNothing, Attempts, AttemptFits, AttemptRow, IsCalm, TablesStay};
+ghost use Rattle.b67_session_attempt.specs.Attempts.{RunsOver, ForEachOver, WantsNothing, Attempts, AttemptFits, AttemptRow, IsCalm, CallKeepsAreas, TablesStay};
+ghost use Rattle.b67_session_attempt.specs.declared.outcomes.Attempt.TheVariants as attempts;
 
 use crate::bringing::bring_wanted;
 use crate::outcomes::Attempt;
@@ -59,6 +60,8 @@ fn with_code<B: Backing, K: Sink>(
         → Attempts K.taken x (content_after x.device (B.holds backing.new)) (length machine.old.cpu.core) (B.size backing.old) machine.old.tasks.printed plan s t result machine.new paper.old paper.new) }
     ensures fits { ForEachOver machine.old (B.holds backing.old) (λ x plan s m t. code_area x plan m t ≢ None → x.device ≢ None → AttemptFits (length machine.old.cpu.core) x plan s m t result) }
     ensures calm { ForEachOver machine.old (B.holds backing.old) (λ x plan s m t. WantsNothing x plan m t → (CallsDevice m t → ⊥) → IsCalm result backing.old backing.new) }
+    ensures areas { ForEachOver machine.old (B.holds backing.old) (λ x plan s m t. WantsNothing x plan m t → result ≡ Ok attempts.Made
+        → CallKeepsAreas K.taken x (content_after x.device (B.holds backing.new)) machine.old.tasks.printed plan s m t machine.new paper.old paper.new) }
     ensures causes { CallCauses B.faults K.faults backing.old backing.new paper.old paper.new result }
     ensures kept { Kept machine.old machine.new }
     ensures tables { TablesStay result machine.old.tasks machine.new.tasks }
@@ -81,7 +84,7 @@ fn with_code<B: Backing, K: Sink>(
 ///
 /// `NoCore` exactly where the step's need exceeds core, with both, unless core has room for the running segment, which is
 /// absent, and the device is full or fails as it is brought in. If one thing is wanted and a hole has room for it, no sector is
-/// written, and `BackingFull` isn't answered. `BackingFull` only where the session takes more sectors than the device has, with
+/// written, and `BackingFull` isn't answered; and if the operator is made, every area is where it was, as if nothing was wanted. `BackingFull` only where the session takes more sectors than the device has, with
 /// both, and no hole has room for what is absent, or the step starts a task; or where the session does that a RESIZE to a greater
 /// length would make, with its sum. More sectors are then wanted than are free: by a present array that keeps no chain, or by
 /// the chain of the array that becomes longer. `BackingFault` and `PrintFault` only where that device failed.

@@ -1,13 +1,14 @@
-use Rattle.std.proofs.Common.{◌≡◌, ◌≢◌, ◌∙◌, None, Err, refl, sym, ap, arith, length, subst}
+use Rattle.std.proofs.Common.{◌≡◌, ◌≢◌, ◌∙◌, None, Err, refl, sym, ap, arith, length, subst, ⊎_elim}
 use Rattle.b67_layout_storage.specs.Machine.{content_after}
 use Rattle.b67_layout_storage.proofs.Devices.{still_tells, Served-then}
 use Rattle.b67_exec_cells.specs.Running.{code_area}
 use Rattle.b67_task_tables.specs.declared.tables.Machine.{Machine}
 use Rattle.b67_task_tables.specs.declared.tables.Tasks.{Tasks}
 use Rattle.b67_mcp.specs.Running.{JobsHaveRoom}
+use Rattle.b67_session_attempt.specs.Attempts.{WantsNothing, HoleFits}
 use Rattle.b67_mcp.specs.declared.ends.Stop.TheVariants.{BackingFull}
 use Rattle.b67_session_attempt.specs.declared.outcomes.Attempt.TheVariants.{Made, Ends, Waits}
-use Rattle.b67_session_attempt.proofs.Composed.{made_once, ends_once, waits_once, stops_once, never, unchanged_over, goes_on_telling, stopped_attempt, runs_over, wants_some, tables_after_end, tables_after_wait, tables_after_want, tables_after_stop, tables_stay, tables_from, room_after_stop, may_call, stop_calls, attempt_as, same_needs, still_told, other, in_order, then_on, room_after_want, code_there, still_holds, held_from, held_till, not_full_as, not_full_ok, not_full_once, tells_once, hole_for, then_nothing, no_call}
+use Rattle.b67_session_attempt.proofs.Composed.{made_once, ends_once, waits_once, stops_once, never, unchanged_over, goes_on_telling, stopped_attempt, runs_over, wants_some, tables_after_end, tables_after_wait, tables_after_want, tables_after_stop, tables_stay, tables_from, room_after_stop, may_call, stop_calls, attempt_as, same_needs, still_told, other, in_order, then_on, room_after_want, code_there, still_holds, held_from, held_till, not_full_as, not_full_ok, not_full_once, tells_once, hole_for, then_nothing, no_call, keeps_areas, areas_kept, not_made}
 use Rattle.b67_session_attempt.proofs.Runs.{ready_over, caused_none, caused_stop, caused_want, caused_later, kept_then, kept_tasks}
 use Rattle.b67_session_attempt.proofs.attempting.attempt.Goals as goal
 
@@ -44,7 +45,7 @@ returns-in-Ok-Made-clause-row g c = λ x plan s m t o h runs ready.
       fits = λ tells. tried.fits;
       quiet = λ nothing same. tried.quiet (λ w. same (may_call x plan m t w));
       hole = λ exact fits none. record { written = still_holds B.holds c.args.backing.now c.try_once.new.backing (tried.quiet (λ w. none (may_call x plan m t w))); not_full = not_full_ok Made };
-      areas = λ nothing e. tried.row h.says;
+      areas = λ nothing e. keeps_areas g.K.Sink.taken x (content_after x.device (B.holds c.try_once.new.backing)) c.args.machine.now.tasks.printed plan s m t c.try_once.new.machine c.args.paper.now c.try_once.new.paper (tried.row h.says);
       sum = λ nothing sum size e. absurd (let b : ⊥ = cc in b);
     }
 
@@ -121,7 +122,7 @@ returns-in-Err-bring_wanted-clause-row g c = λ x plan s m t o h runs ready.
       hole = λ exact fits none.
           let into = c.in-Err-bring_wanted.ensures.hole x plan s m t w.0 o k runs w.1 (hole_for x plan s m t o runs c.in-Ok-Absent.wanted w.0 w.1 w.2 fits) in
           record { written = held_from B.holds c.args.backing.now c.try_once.new.backing c.bring_wanted.new.backing same into.used.written; not_full = not_full_as c.in-Err-bring_wanted.stop into.used.not_full };
-      areas = λ nothing. absurd (never g.K.Sink.taken (content_after x.device (B.holds c.try_once.new.backing)) (B.size c.args.backing.now) x plan s m t c.args.machine.now c.try_once.new.machine c.args.paper.now c.try_once.new.paper c.in-Ok-Absent.wanted nothing w);
+      areas = λ nothing e. absurd (not_made c.in-Err-bring_wanted.stop Made e);
       sum = λ nothing. absurd (never g.K.Sink.taken (content_after x.device (B.holds c.try_once.new.backing)) (B.size c.args.backing.now) x plan s m t c.args.machine.now c.try_once.new.machine c.args.paper.now c.try_once.new.paper c.in-Ok-Absent.wanted nothing w);
     }
 
@@ -162,7 +163,17 @@ returns-in-Ok-clause-row g c = λ x plan s m t o h runs ready.
                 (held_from B.holds c.args.backing.now c.try_once.new.backing c.bring_wanted.new.backing same into.used.written);
             not_full = calm.not_full;
           };
-      areas = λ nothing. absurd (never g.K.Sink.taken (content_after x.device mid) (B.size c.args.backing.now) x plan s m t c.args.machine.now c.try_once.new.machine c.args.paper.now c.try_once.new.paper found nothing w);
+      areas = λ calm made. ⊎_elim
+          (λ (nothing : WantsNothing x plan m t). absurd (never g.K.Sink.taken (content_after x.device mid) (B.size c.args.backing.now) x plan s m t c.args.machine.now c.try_once.new.machine c.args.paper.now c.try_once.new.paper found nothing w))
+          (λ (fits : (x.device ≢ None) × HoleFits x plan m t).
+          let into = c.in-Ok.ensures.hole x plan s m t w.0 o k runs w.1 (hole_for x plan s m t o runs found w.0 w.1 w.2 fits.1) in
+          let placed = into.in_place.brings in
+          let there = other x told' new plan s m t o runs found placed in
+          areas_kept g.K.Sink.taken x told' (B.holds c.with_code.new.backing) new c.with_code.new.machine c.args.machine.now.tasks.printed new.tasks.printed plan s m t o runs found placed fits.0 tells
+          c.args.paper.now c.try_once.new.paper c.with_code.new.paper w.4 printed into.in_place.areas
+          (c.with_code.ensures.areas placed.again.storage plan (record s { jobs = placed.again.jobs }) there.member t (in_order x told' new plan s m t o runs found placed) placed.again.stands there.runs ready
+          (then_nothing x told' new plan s m t o runs found placed w.0 fits.1 w.1 w.2 into.in_place.areas fits.0) made))
+          calm;
       sum = λ nothing. absurd (never g.K.Sink.taken (content_after x.device mid) (B.size c.args.backing.now) x plan s m t c.args.machine.now c.try_once.new.machine c.args.paper.now c.try_once.new.paper found nothing w);
     }
 

@@ -6,7 +6,7 @@ use Rattle.b67_task_tables.specs.declared.tables.Tasks.{Tasks}
 use Rattle.b67_mcp.specs.Running.{JobsHaveRoom}
 use Rattle.b67_session_attempt.specs.declared.outcomes.Attempt.TheVariants.{Made, Ends, Waits}
 use Rattle.b67_session_attempt.specs.Attempts.{WantsNothing}
-use Rattle.b67_session_attempt.proofs.Composed.{made_once, ends_once, waits_once, stops_once, unchanged_over, goes_on_telling, stopped_attempt, runs_over, wants_some, tables_after_end, tables_after_wait, tables_after_want, tables_after_stop, tables_stay, tables_from, room_after_stop, attempt_as, same_needs, still_told, other, in_order, then_on, room_after_want, wants_nothing, never, may_call, stop_calls, not_full_ok, not_full_once}
+use Rattle.b67_session_attempt.proofs.Composed.{made_once, ends_once, waits_once, stops_once, unchanged_over, goes_on_telling, stopped_attempt, runs_over, wants_some, tables_after_end, tables_after_wait, tables_after_want, tables_after_stop, tables_stay, tables_from, room_after_stop, attempt_as, same_needs, still_told, other, in_order, then_on, room_after_want, wants_nothing, never, may_call, stop_calls, not_full_ok, not_full_once, keeps_areas}
 use Rattle.b67_session_attempt.proofs.Runs.{ready_over, caused_none, caused_stop, caused_want, caused_later, kept_then, kept_tasks}
 use Rattle.b67_session_attempt.proofs.attempting.with_code.Goals as goal
 
@@ -259,6 +259,29 @@ returns-in-Err-bring_wanted-clause-calm g c = λ x plan s m t o h runs ready not
 
 pub returns-in-Ok-clause-calm : goal.returns-in-Ok-clause-calm
 returns-in-Ok-clause-calm g c = λ x plan s m t o h runs ready nothing none.
+    let B = g.B.Backing in
+    let w = ((rw c.in-Ok-Absent.field-0-is at c.in-Ok-Absent.ensures.tried) x x.device plan s m t o h.stands runs ready).row h.says in
+    absurd (never g.K.Sink.taken (content_after x.device (B.holds c.try_once.new.backing)) (B.size c.args.backing.now) x plan s m t c.args.machine.now c.try_once.new.machine c.args.paper.now c.try_once.new.paper c.in-Ok-Absent.wanted nothing w)
+
+pub returns-in-Ok-Made-clause-areas : goal.returns-in-Ok-Made-clause-areas
+returns-in-Ok-Made-clause-areas g c = λ x plan s m t o h runs ready nothing made.
+    let tried = (rw c.in-Ok-Made.field-0-is at c.in-Ok-Made.ensures.tried) x x.device plan s m t o h.stands runs ready in
+    keeps_areas g.K.Sink.taken x (content_after x.device (g.B.Backing.holds c.try_once.new.backing)) c.args.machine.now.tasks.printed plan s m t c.try_once.new.machine c.args.paper.now c.try_once.new.paper (tried.row h.says)
+
+pub returns-in-Ok-Ends-clause-areas : goal.returns-in-Ok-Ends-clause-areas
+returns-in-Ok-Ends-clause-areas g c = λ x plan s m t o h runs ready nothing made. absurd (let b : ⊥ = cc in b)
+
+pub returns-in-Ok-Waits-clause-areas : goal.returns-in-Ok-Waits-clause-areas
+returns-in-Ok-Waits-clause-areas g c = λ x plan s m t o h runs ready nothing made. absurd (let b : ⊥ = cc in b)
+
+pub returns-in-Err-clause-areas : goal.returns-in-Err-clause-areas
+returns-in-Err-clause-areas g c = λ x plan s m t o h runs ready nothing made. absurd (let b : ⊥ = cc in b)
+
+pub returns-in-Err-bring_wanted-clause-areas : goal.returns-in-Err-bring_wanted-clause-areas
+returns-in-Err-bring_wanted-clause-areas g c = λ x plan s m t o h runs ready nothing made. absurd (let b : ⊥ = cc in b)
+
+pub returns-in-Ok-clause-areas : goal.returns-in-Ok-clause-areas
+returns-in-Ok-clause-areas g c = λ x plan s m t o h runs ready nothing made.
     let B = g.B.Backing in
     let w = ((rw c.in-Ok-Absent.field-0-is at c.in-Ok-Absent.ensures.tried) x x.device plan s m t o h.stands runs ready).row h.says in
     absurd (never g.K.Sink.taken (content_after x.device (B.holds c.try_once.new.backing)) (B.size c.args.backing.now) x plan s m t c.args.machine.now c.try_once.new.machine c.args.paper.now c.try_once.new.paper c.in-Ok-Absent.wanted nothing w)
