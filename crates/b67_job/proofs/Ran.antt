@@ -24,6 +24,7 @@ use Rattle.b67_session.specs.declared.slices.Progress.TheVariants as progress
 use Rattle.b67_law_order.proofs.FewMade.{made_few}
 use Rattle.b67_session.specs.Slices.{StandsAt, IsLimited, Reaches, Prints, SliceMeets, StopsBefore}
 use Rattle.b67_session.proofs.Texts.{run_text-append}
+use Rattle.b67_session.proofs.Tells.{tells_weaker}
 use Rattle.b67_session_lines.specs.Moments.{last_part, due}
 use Rattle.b67_session_lines.specs.Stops.{halted_line}
 use Rattle.b67_session_lines.specs.Ends.{Ends, whole, cut}
@@ -228,9 +229,9 @@ module _ {K B : Type 0} (taken : K → Option (List ℕ)) (faults : K → ℕ) (
         stop = stops_at b.member b.task b.stands b.next;
         due = is_due b.halt;
         sum = sum;
-        takes = meets.3;
+        tells = tells_weaker E (Tells d) exact b.stands.storage b.stands.plan s b.member b.task sum meets.3;
         exceeds = meets.5;
-        absent = record { lacks = λ tells. meets.1.lacks (exact tells); room = λ tells. meets.1.room (exact tells) };
+        absent = record { lacks = λ tells. meets.1.lacks (exact tells); room = λ tells. meets.1.room (exact tells); code = λ tells. meets.1.code (exact tells) };
         wants = meets.2.0;
         free = meets.2.1;
         short = meets.2.2;
@@ -243,7 +244,7 @@ module _ {K B : Type 0} (taken : K → Option (List ℕ)) (faults : K → ℕ) (
       (step_fails refl (failed refl) (record {
         stop = stops_at b.member b.task b.stands b.next;
         due = is_due b.halt;
-        absent = record { lacks = λ tells. meets.1.lacks (exact tells); room = λ tells. meets.1.room (exact tells) };
+        absent = record { lacks = λ tells. meets.1.lacks (exact tells); room = λ tells. meets.1.room (exact tells); code = λ tells. meets.1.code (exact tells) };
         text_is = refl;
       }))
       (closes_then (lines_took prints begun (unprinted (λ e. cc))) later end)

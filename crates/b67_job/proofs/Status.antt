@@ -14,6 +14,7 @@ use Rattle.b67_model.specs.Common.{run_text, need, need_of_job, need_by, need_ne
 use Rattle.b67_law_sessions.specs.Turns.{IsNext}
 use Rattle.b67_lemmas.proofs.Members.{keyed_has}
 use Rattle.b67_session.specs.Passed.{TakesSectors}
+use Rattle.b67_session.proofs.Tells.{takes_of}
 use Rattle.b67_session.proofs.Rows.{none_of}
 use Rattle.b67_session_lines.specs.Stops.{IsFinished, IsHalted, halted_line}
 use Rattle.b67_session_lines.proofs.Statuses.{finished-status, halted-status}
@@ -129,7 +130,8 @@ run_status_is d core p exercise machine status text tells ample worked (opened k
 run_status_is d core p exercise machine status text tells ample worked (opened k is opens none (step_wants_sectors s w)) =
     let same = w.stop.comes.session tells in
     let less = subst (λ (z : Session). IsNext z w.stop.member w.stop.task → TakesSectors z w.stop.member w.stop.task w.sum → w.sum ≤ d.sectors) (sym same)
-    (ample.sectors_suffice k.tasks.made w.sum w.stop.member w.stop.task w.due) w.stop.next w.takes in
+    (ample.sectors_suffice k.tasks.made w.sum w.stop.member w.stop.task w.due) w.stop.next
+    (takes_of (Tells d) w.stop.stands.storage w.stop.stands.plan w.stop.session w.stop.member w.stop.task w.sum w.tells) in
     let more = w.exceeds in
     absurd (omega (arith, more, less))
 run_status_is d core p exercise machine status text tells ample worked (opened k is opens none (step_fails s failed h)) = absurd (omega (arith, failed, worked))

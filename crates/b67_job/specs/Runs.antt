@@ -6,7 +6,7 @@ use Rattle.b67_io.specs.Causes.{Rose}
 use Rattle.b67_model.specs.Common.{Task, SessionJob, need, run_text, IsInOrderButPlaces, Session, RunLine, StepResult, lines, after}
 use Rattle.b67_exec_cells.specs.Running.{code_area}
 use Rattle.b67_law_sessions.specs.Turns.{IsNext}
-use Rattle.b67_session.specs.Passed.{IsLacking, IsShortAt, TakesSectors}
+use Rattle.b67_session.specs.Passed.{IsLacking, IsShortAt, CodeFits, TellsSectors}
 use Rattle.b67_job_admit.specs.Admitting.{Prepared}
 use Rattle.b67_session_open.specs.Decks.{session_of, job_names, row_names}
 use Rattle.b67_session_open.specs.Opens.{need_of, sectors_of_all}
@@ -82,18 +82,20 @@ pub record WantsCore {B : Type 0} (d : Device B) (core : ℕ) (r : Run) (k : Mac
   pub text_is : text ≡ text_to stop.printed (no_core_line (need core stop.session stop.member stop.task) core)
 
 -- if the device told what its sectors hold, the machine lacks the segment or the array of the next step, or that step makes
--- an array longer or starts a task; it needs no more words than core has, or its segment is absent
+-- an array longer or starts a task; core has room for its segment, and for the whole step if the segment is present
 pub record LacksNext {B : Type 0} (d : Device B) (core : ℕ) (first : Session) (k : Machine) (stop : StopsAt d first k) : Type 0 where
   pub lacks : Tells d → IsLacking stop.stands.storage stop.stands.plan stop.member stop.task
   pub room : Tells d → (need core stop.session stop.member stop.task ≤ core) ⊎ (code_area stop.stands.storage stop.stands.plan stop.member stop.task ≡ None)
+  pub code : Tells d → CodeFits core stop.session stop.member stop.task
 
--- the next step is due, and the session, or the one that it makes if it makes an array longer, takes so many sectors, more
--- than the device has; and more are wanted than are free
+-- the next step is due, and more sectors are told than the device has: those that the session takes, if no hole has room for
+-- what the step wants or it starts a task, or those of the session that it makes if it makes an array longer; and more are
+-- wanted than are free
 pub record WantsSectors {B : Type 0} (d : Device B) (core : ℕ) (r : Run) (k : Machine) (text : Text) : Type 0 where
   pub stop : StopsAt d r.session k
   pub due : IsBeforeHalt r k.tasks.made
   pub sum : ℕ
-  pub takes : TakesSectors stop.session stop.member stop.task sum
+  pub tells : TellsSectors (Tells d) stop.stands.storage stop.stands.plan stop.session stop.member stop.task sum
   pub exceeds : d.sectors < sum
   pub absent : LacksNext d core r.session k stop
   pub wants : ℕ

@@ -99,8 +99,8 @@ module _ (m : SessionJob) (t : Task) where
     pub made_untouched : (job : Job) (printed : List Line) → step m.constants m.progress.job t ≡ Ok (Goes job printed None) → TouchesPresent x plan m t
     made_untouched job printed is a e = absurd (none-some a (sym (ap touched is) ∙ e))
 
-    pub silent_untouched : (n : ℕ) → n ≢ 10 → Calling m t n → (told : Option (List (List ℕ))) (s : Session) (old new : Machine) (done : Result (Unit {0}) Fault) → AnswerMeets told s m t done old new → CallTouches x plan m t (Ok (end_of done))
-    silent_untouched n ne k told s old new (Ok done) h = made_untouched h.job [] h.is
+    pub silent_untouched : (n : ℕ) → n ≢ 10 → Calling m t n → (told : Option (List (List ℕ))) (s : Session) (old new : Machine) (done : Result (Unit {0}) Fault) → AnswerMeets x told plan s m t done old new → CallTouches x plan m t (Ok (end_of done))
+    silent_untouched n ne k told s old new (Ok done) (a, rest) = made_untouched a.job [] a.is
     silent_untouched n ne k told s old new (Err fault) h = faults_untouched n ne k fault h.0
 
     -- PRINTROW

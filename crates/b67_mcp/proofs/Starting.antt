@@ -22,6 +22,7 @@ use Rattle.b67_task_tables.specs.Tables.{MachineRepresents}
 use Rattle.b67_task_tables.specs.Shortage.{IsShortOf}
 use Rattle.b67_layout_spans.proofs.FullDevice.{short_full}
 use Rattle.b67_mcp_process.specs.Process.{StartsOne, ProcessMeets, ProcessWrites, ProcessFits}
+use Rattle.b67_exec_cells.specs.Called.{called_in}
 use Rattle.b67_mcp.specs.Called.{StartsTask, CallTouches, CallWrites, CallFits}
 use Rattle.b67_mcp.specs.Answers.{SilentMeets, end_of}
 use Rattle.b67_mcp.specs.Stopping.{StopsFor}
@@ -91,18 +92,19 @@ module _ (x : Storage) (told : Option (List (List ℕ))) (k : Machine) (plan : P
     starts : StartsOne m t c.next c.arguments → StartsTask m t
     starts a = record { job = a.job; is = c.is ∙ a.is; more = a.more }
 
-    pub process_meets : (after : Option (List (List ℕ))) (count : ℕ) (new : Machine) (done : Result (Unit {0}) Fault) → (new.tasks.printed ≡ k.tasks.printed) → ProcessMeets after plan s m t c.next c.arguments (Ok done) k new → SilentMeets after count plan s m t (Ok (end_of done)) k new
-    process_meets after count new (Ok done) printed g = record { job = g.job; is = c.is ∙ g.is; storage = g.storage; plan = g.plan; stands = g.stands; printed = printed }
-    process_meets after count new (Err fault) printed g = (c.is ∙ g.0, g.1)
+    pub process_meets : (after : Option (List (List ℕ))) (count : ℕ) (new : Machine) (done : Result (Unit {0}) Fault) → called_in m t ≡ Some 12 → (new.tasks.printed ≡ k.tasks.printed) → ProcessMeets after plan s m t c.next c.arguments (Ok done) k new → SilentMeets x after count plan s m t (Ok (end_of done)) k new
+    process_meets after count new (Ok done) called printed g =
+        (record { job = g.job; is = c.is ∙ g.is; storage = g.storage; plan = g.plan; stands = g.stands; printed = printed }, λ no_process. absurd (no_process called))
+    process_meets after count new (Err fault) called printed g = (c.is ∙ g.0, g.1)
 
     pub process_stops : (after : Option (List (List ℕ))) (count : ℕ) (new : Machine) (fault : SpaceFault) (stop : Stop) → code_area x plan m t ≢ None → count + 1 ≡ length new.sectors.links → StopsFor new fault stop
-        → ProcessMeets after plan s m t c.next c.arguments (Err fault) k new → SilentMeets after count plan s m t (Err stop) k new
+        → ProcessMeets after plan s m t c.next c.arguments (Err fault) k new → SilentMeets x after count plan s m t (Err stop) k new
     process_stops after count new (space.NoCore words size) stop code links is g =
-        let S : Stop → Type 0 = λ z. SilentMeets after count plan s m t (Err z) k new in
+        let S : Stop → Type 0 = λ z. SilentMeets x after count plan s m t (Err z) k new in
         let need_is = need_started code (starts g.0.starts) in
         subst S (sym is) (record { starts = starts g.0.starts; words_is = g.0.need_is ∙ sym need_is; size_is = g.0.core_is; exceeds = (let above = g.0.exceeds in let is = g.0.core_is in omega (arith, above, is)) }, g.1)
     process_stops after count new (space.BackingFull wants free) stop code links (sum, size, is, sums, size_is) g =
-        let S : Stop → Type 0 = λ z. SilentMeets after count plan s m t (Err z) k new in
+        let S : Stop → Type 0 = λ z. SilentMeets x after count plan s m t (Err z) k new in
         let w = g.stopped in
         let total = sums w.storage after plan s o w.stands in
         subst S (sym is) (record {
@@ -115,7 +117,7 @@ module _ (x : Storage) (told : Option (List (List ℕ))) (k : Machine) (plan : P
           exceeds = (let above = short_of w.storage after new plan s wants free count w.stands g.short links in omega (arith, above, total));
         })
     process_stops after count new space.BackingFault stop code links is g =
-        let S : Stop → Type 0 = λ z. SilentMeets after count plan s m t (Err z) k new in
+        let S : Stop → Type 0 = λ z. SilentMeets x after count plan s m t (Err z) k new in
         subst S (sym is) (record { starts = starts g.starts; storage = g.storage; stands = g.stands; tables = g.tables })
 
     pub process_touches : (after : Option (List (List ℕ))) (new : Machine) (done : Result (Unit {0}) Fault) → ProcessMeets after plan s m t c.next c.arguments (Ok done) k new → CallTouches x plan m t (Ok (end_of done))

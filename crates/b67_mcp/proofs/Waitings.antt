@@ -1,5 +1,5 @@
 -- A call by which tasks wait for each other, as the step that it is.
-use Rattle.std.proofs.Common.{◌≡◌, ◌≢◌, ℕ, List, [], length, Option, Some, None, Result, Ok, Err, sym, ◌∙◌, ap, arith, subst}
+use Rattle.std.proofs.Common.{◌≡◌, ◌≢◌, ℕ, List, [], length, Option, Some, None, Result, Ok, Err, refl, sym, ◌∙◌, ap, arith, subst}
 use Rattle.b67_word.specs.declared.couples.Place.{Place}
 use Rattle.b67_word.specs.declared.faults.Fault.{Fault}
 use Rattle.b67_model.specs.Common.{Answer, Task, Job, SessionJob, Done, Goes, Leaves, Waits, Call, step, Session}
@@ -18,7 +18,7 @@ use Rattle.b67_mcp.proofs.Still.{stands_peak}
 
 -- what the call answers, touches and needs
 pub record Answers (told : Option (List (List ℕ))) (core : ℕ) (x : Storage) (plan : Placement) (s : Session) (m : SessionJob) (t : Task) (end : CallEnd) (old new : Machine) : Type 0 where
-  pub meets : (count : ℕ) → SilentMeets told count plan s m t (Ok end) old new
+  pub meets : (count : ℕ) → SilentMeets x told count plan s m t (Ok end) old new
   pub touches : CallTouches x plan m t (Ok end)
   pub fits : CallFits core s m t (Ok end)
 
@@ -35,7 +35,7 @@ module _ (x : Storage) (told : Option (List (List ℕ))) (plan : Placement) (s :
   made g =
       let step_is = is ∙ g.is in
       record {
-        meets = λ count. record { job = g.job; is = step_is; storage = x; plan = plan; stands = stands_peak x told new plan s m g.job o.peak_low g.same g.stands; printed = g.printed };
+        meets = λ count. (record { job = g.job; is = step_is; storage = x; plan = plan; stands = stands_peak x told new plan s m g.job o.peak_low g.same g.stands; printed = g.printed }, λ no_process no_resize home none. refl);
         touches = made_untouched m t x plan g.job [] step_is;
         fits = λ (a : StartsTask m t). absurd (let both : g.job ≡ a.job = ap (job_in g.job) (sym step_is ∙ a.is) in let more = a.more in let z : ⊥ = omega (arith, ap (λ (j : Job). length j.tasks) both, more, g.same) in z);
       }

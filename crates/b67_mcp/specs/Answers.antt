@@ -12,7 +12,7 @@ use Rattle.b67_task_tables.specs.declared.tables.JobRow.{JobRow}
 use Rattle.b67_task_tables.specs.declared.tables.Machine.{Machine}
 use Rattle.b67_task_tables.specs.Tables.{job_row, MachineRepresents}
 use Rattle.b67_task_tables.specs.declared.tables.TaskState.{TaskState}
-use Rattle.b67_mcp.specs.Called.{WaitsSo, IsUnstarted, IsUnstartedFull, LacksCore}
+use Rattle.b67_mcp.specs.Called.{WaitsSo, StaysInPlace, IsUnstarted, IsUnstartedFull, LacksCore}
 use Rattle.b67_mcp.specs.declared.ends.CallEnd.{CallEnd}
 use Rattle.b67_mcp.specs.declared.ends.CallEnd.TheVariants as ends
 use Rattle.b67_mcp.specs.declared.ends.Stop.{Stop}
@@ -28,9 +28,9 @@ pub record IsAnswered (told : Option (List (List ℕ))) (s : Session) (m : Sessi
   pub printed : new.tasks.printed ≡ old.tasks.printed
 
 -- or it faults, and nothing has changed
-abbrev pub AnswerMeets : Option (List (List ℕ)) → Session → SessionJob → Task → Result (Unit {0}) Fault → Machine → Machine → Type 0
-AnswerMeets told s m t (Ok done) old new = IsAnswered told s m t old new
-AnswerMeets told s m t (Err fault) old new = (step m.constants m.progress.job t ≡ Err fault) × (new ≡ old)
+abbrev pub AnswerMeets : Storage → Option (List (List ℕ)) → Placement → Session → SessionJob → Task → Result (Unit {0}) Fault → Machine → Machine → Type 0
+AnswerMeets x told plan s m t (Ok done) old new = (a : IsAnswered told s m t old new) × StaysInPlace x a.storage plan a.plan m t a.job
+AnswerMeets x told plan s m t (Err fault) old new = (step m.constants m.progress.job t ≡ Err fault) × (new ≡ old)
 
 -- the same of a call that may start a task, which counts for the peak then
 pub record IsMoved (told : Option (List (List ℕ))) (s : Session) (m : SessionJob) (t : Task) (old new : Machine) : Type 0 where
@@ -43,14 +43,14 @@ pub record IsMoved (told : Option (List (List ℕ))) (s : Session) (m : SessionJ
 
 -- by what PROCESS, AWAIT, STATUS, WAIT or CAUSE answered, which print and touch nothing, over a device of so many sectors that
 -- tells this afterwards
-abbrev pub SilentMeets : Option (List (List ℕ)) → ℕ → Placement → Session → SessionJob → Task → Result CallEnd Stop → Machine → Machine → Type 0
-SilentMeets told count plan s m t (Ok ends.Done) old new = IsMoved told s m t old new
-SilentMeets told count plan s m t (Ok (ends.Fault fault)) old new = (step m.constants m.progress.job t ≡ Err fault) × (new ≡ old)
-SilentMeets told count plan s m t (Ok (ends.Waits state)) old new = WaitsSo plan m t state × (new ≡ old)
-SilentMeets told count plan s m t (Err (stops.NoCore words size)) old new = LacksCore (length old.cpu.core) s m t words size × (new ≡ old)
-SilentMeets told count plan s m t (Err (stops.BackingFull sum size)) old new = IsUnstartedFull told count plan s m t sum size old new
-SilentMeets told count plan s m t (Err stops.BackingFault) old new = IsUnstarted told plan s m t old new
-SilentMeets told count plan s m t answered old new = ⊥
+abbrev pub SilentMeets : Storage → Option (List (List ℕ)) → ℕ → Placement → Session → SessionJob → Task → Result CallEnd Stop → Machine → Machine → Type 0
+SilentMeets x told count plan s m t (Ok ends.Done) old new = (a : IsMoved told s m t old new) × StaysInPlace x a.storage plan a.plan m t a.job
+SilentMeets x told count plan s m t (Ok (ends.Fault fault)) old new = (step m.constants m.progress.job t ≡ Err fault) × (new ≡ old)
+SilentMeets x told count plan s m t (Ok (ends.Waits state)) old new = WaitsSo plan m t state × (new ≡ old)
+SilentMeets x told count plan s m t (Err (stops.NoCore words size)) old new = LacksCore (length old.cpu.core) s m t words size × (new ≡ old)
+SilentMeets x told count plan s m t (Err (stops.BackingFull sum size)) old new = IsUnstartedFull told count plan s m t sum size old new
+SilentMeets x told count plan s m t (Err stops.BackingFault) old new = IsUnstarted told plan s m t old new
+SilentMeets x told count plan s m t answered old new = ⊥
 
 -- of the rows of jobs one was changed, as READ does
 pub record Takes (cpu : Cpu) (rows rows' : List JobRow) (at : ℕ) (row : JobRow) (answer : Result Tagged Fault) : Type 0 where

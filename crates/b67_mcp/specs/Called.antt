@@ -1,7 +1,7 @@
 -- What the call of an intrinsic answers, prints and leaves.
 use Rattle.std.specs.Prelude.{◌≡◌, ◌≢◌, ℕ, ◌+◌, ◌-◌, ◌<◌, ◌≤◌, ◌⊎◌, List, [], ◌∷◌, length, slice_get, Option, Some, None, Result, Ok, Err}
 use Rattle.b67_lemmas.specs.Lists.{Has}
-use Rattle.b67_model.specs.Common.{Array, Condition, Task, Job, SessionJob, Line, Goes, Waits, step, touched_of, need, sectors, run_text, Session}
+use Rattle.b67_model.specs.Common.{Array, Condition, Task, Job, SessionJob, with_array, all_zero, Line, Goes, Waits, step, touched_of, need, sectors, run_text, Session}
 use Rattle.b67_stack.specs.declared.What.{What}
 use Rattle.b67_stack.specs.declared.What.TheVariants as what
 use Rattle.b67_stack.specs.Represents.{Storage}
@@ -59,6 +59,18 @@ pub record IsCalled {K : Type 0} (taken : K → Option (List ℕ)) (paper paper'
   pub stands : MachineRepresents storage told new plan (moved s m job (length job.tasks - length m.progress.job.tasks))
   pub text : TookRest taken paper paper' (printed_text m t printed) before
   pub reset : new.tasks.printed ≡ printed_after printed before
+
+-- at this address something else is held after the call: it is the original of an array that DEALLOCATE empties, or of one that
+-- ARRAYDEC makes
+pub data HoldsOther (plan after : Placement) (m : SessionJob) (t : Task) (job : Job) (home : ℕ) : Type 0 where
+  is_emptied : (a : Array) → called_in m t ≡ Some 17 → Has m.progress.job.arrays a → job.arrays ≡ (with_array m.progress.job a.identity all_zero).arrays
+      → plan.home m.constants.number a.identity ≡ home → HoldsOther plan after m t job home
+  is_new : called_in m t ≡ Some 8 → after.home m.constants.number m.progress.job.next_array ≡ home → HoldsOther plan after m t job home
+
+-- everything else is held as it was: in the same areas, and in the same sectors. Of PROCESS and RESIZE that isn't said
+abbrev pub StaysInPlace : Storage → Storage → Placement → Placement → SessionJob → Task → Job → Type 0
+StaysInPlace x y plan after m t job =
+    called_in m t ≢ Some 12 → called_in m t ≢ Some 18 → (home : ℕ) → (HoldsOther plan after m t job home → ⊥) → y.held home ≡ x.held home
 
 -- the call touches an array of its job, which is absent
 pub record TouchesAbsent (x : Storage) (plan : Placement) (m : SessionJob) (t : Task) (found : What) : Type 0 where
@@ -149,7 +161,8 @@ pub record LacksCore (core : ℕ) (s : Session) (m : SessionJob) (t : Task) (wor
 -- changed but, after a printer's failure, how much is printed, and, after a want of sectors or a device's failure, where the
 -- array is held or which areas are present
 abbrev pub CallMeets : {K : Type 0} → (K → Option (List ℕ)) → Option (List (List ℕ)) → ℕ → Storage → Placement → Session → SessionJob → Task → ℕ → Result CallEnd Stop → Machine → Machine → K → K → Type 0
-CallMeets taken told count x plan s m t n (Ok ends.Done) old new paper paper' = IsCalled taken paper paper' told s m t old.tasks.printed new
+CallMeets taken told count x plan s m t n (Ok ends.Done) old new paper paper' =
+    (c : IsCalled taken paper paper' told s m t old.tasks.printed new) × StaysInPlace x c.storage plan c.plan m t c.job
 CallMeets taken told count x plan s m t n (Ok (ends.Absent found)) old new paper paper' = TouchesAbsent x plan m t found × (new ≡ old) × (paper' ≡ paper)
 CallMeets taken told count x plan s m t n (Ok (ends.Fault fault)) old new paper paper' = (step m.constants m.progress.job t ≡ Err fault) × (new ≡ old) × (paper' ≡ paper)
 CallMeets taken told count x plan s m t n (Ok (ends.Waits state)) old new paper paper' = WaitsSo plan m t state × (new ≡ old) × (paper' ≡ paper)
@@ -183,17 +196,19 @@ CallTouches x plan m t (Err (stops.BackingFull sum size)) = TouchesPresent x pla
 CallTouches x plan m t (Err stops.BackingFault) = TouchesPresent x plan m t
 CallTouches x plan m t (Err stop) = Unit {0}
 
+-- the core words that have changed lie in the running stack
+abbrev pub ChangesStack : Machine → Machine → Type 0
+ChangesStack old new = (i : ℕ) → (slice_get new.cpu.core i ≡ slice_get old.cpu.core i) ⊎ IsInStack old.cpu.regs i
+
 -- What a call answers and leaves, over a device of so many sectors; `holds` is what it tells of them
 pub record CallRow {D K : Type 0} (holds : D → Option (List (List ℕ))) (taken : K → Option (List ℕ)) (count : ℕ) (x : Storage) (told : Option (List (List ℕ))) (plan : Placement) (s : Session) (m : SessionJob) (t : Task) (n : ℕ) (answered : Result CallEnd Stop) (old new : Machine) (device device' : D) (paper paper' : K) : Type 0 where
-  -- the answer is its row's, where the device tells what the storage says of it
+  -- the answer is its row's, where the device tells what the storage says of it; and if the call was made, areas stay as said
   pub row : Says told (holds device) → CallMeets taken (content_after told (holds device')) count x plan s m t n answered old new paper paper'
   -- what the call touches is present, where it was made, faults, or was stopped by the printer or the device
   pub present : CallTouches x plan m t answered
   -- core has room for a task that the call started, or was stopped at by the device
   pub fits : CallFits (length old.cpu.core) s m t answered
+  -- ARRAYDEC, PRINT, PRINTROW and READ change no word outside the running stack
+  pub outside : n < 12 → ChangesStack old new
   -- the device is as it was, unless the call may have written to it
   pub quiet : (CallWrites x plan m t answered → ⊥) → device' ≡ device
-
--- the core words that have changed lie in the running stack
-abbrev pub ChangesStack : Machine → Machine → Type 0
-ChangesStack old new = (i : ℕ) → (slice_get new.cpu.core i ≡ slice_get old.cpu.core i) ⊎ IsInStack old.cpu.regs i

@@ -14,7 +14,7 @@ use b67_word::Fault;
 /// fault changes nothing.
 pub(crate) fn deallocate(machine: &mut Machine) -> Result<(), Fault>
     requires { CallsSome machine.old 17 }
-    ensures row { ForCalls machine.old 17 (λ x told plan s m t. AnswerMeets told s m t result machine.old machine.new) }
+    ensures row { ForCalls machine.old 17 (λ x told plan s m t. AnswerMeets x told plan s m t result machine.old machine.new) }
     ensures kept { Kept machine.old machine.new }
 {
     let original = match array_to_empty(&machine.cpu) {

@@ -12,7 +12,7 @@ use b67_word::Fault;
 /// ARRAYDEC: the call is cut and answers with the original of a new array. Its fault changes nothing.
 pub(crate) fn declare(machine: &mut Machine) -> Result<(), Fault>
     requires { CallsSome machine.old 8 }
-    ensures row { ForCalls machine.old 8 (λ x told plan s m t. AnswerMeets told s m t result machine.old machine.new) }
+    ensures row { ForCalls machine.old 8 (λ x told plan s m t. AnswerMeets x told plan s m t result machine.old machine.new) }
     ensures kept { KeptOutside machine.old machine.new }
 {
     let length = match array_length(&machine.cpu) {

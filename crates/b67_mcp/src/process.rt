@@ -23,7 +23,7 @@ pub(crate) fn start<B: Backing>(machine: &mut Machine, backing: &mut B) -> Resul
     requires number { CanNumber machine.old.tasks.jobs }
     requires same { B.size backing.old + 1 ≡ length machine.old.sectors.links }
     ensures row { ForCalls machine.old 12 (λ x told plan s m t. Says told (B.holds backing.old)
-        → SilentMeets (content_after told (B.holds backing.new)) (B.size backing.old) plan s m t result machine.old machine.new) }
+        → SilentMeets x (content_after told (B.holds backing.new)) (B.size backing.old) plan s m t result machine.old machine.new) }
     ensures present { ForCalls machine.old 12 (λ x told plan s m t. CallTouches x plan m t result × CallFits (length machine.old.cpu.core) s m t result) }
     ensures quiet { ForCalls machine.old 12 (λ x told plan s m t. (CallWrites x plan m t result → ⊥) → backing.new ≡ backing.old) }
     ensures cause { result ≡ Err BackingFault → Rose B.faults backing.old backing.new }

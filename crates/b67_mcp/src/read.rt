@@ -34,7 +34,7 @@ fn take_number(cpu: &Cpu, tasks: &mut Tasks, at: usize) -> Result<Word, Fault>
 pub(crate) fn read(machine: &mut Machine) -> Result<(), Fault>
     requires calls { CallsSome machine.old 11 }
     requires countable { AreCountable machine.old.tasks.jobs }
-    ensures row { ForCalls machine.old 11 (λ x told plan s m t. AnswerMeets told s m t result machine.old machine.new) }
+    ensures row { ForCalls machine.old 11 (λ x told plan s m t. AnswerMeets x told plan s m t result machine.old machine.new) }
     ensures kept { KeptOutside machine.old machine.new }
 {
     let next = next_place(machine);

@@ -30,7 +30,7 @@ pub(crate) fn wait_for(machine: &mut Machine, n: u8) -> CallEnd
     requires calls { CallsSome machine.old n }
     requires from { 13 ≤ n }
     requires upto { n ≤ 16 }
-    ensures row { ForCalls machine.old n (λ x told plan s m t. (count : ℕ) → SilentMeets told count plan s m t (Ok result) machine.old machine.new) }
+    ensures row { ForCalls machine.old n (λ x told plan s m t. (count : ℕ) → SilentMeets x told count plan s m t (Ok result) machine.old machine.new) }
     ensures present { ForCalls machine.old n (λ x told plan s m t. CallTouches x plan m t (Ok result) × CallFits (length machine.old.cpu.core) s m t (Ok result)) }
     ensures kept { Kept machine.old machine.new }
 {

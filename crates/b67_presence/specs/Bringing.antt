@@ -87,9 +87,16 @@ abbrev pub words_wanted : SessionJob → Task → What → ℕ → ℕ
 words_wanted m t (what.Code displacement) words = length (code_of m.constants t.segment) + 2
 words_wanted m t (what.Array home) words = words + 2
 
--- the machine that a want of sectors leaves: it stands for the session, and is short of them by these numbers
-pub record RefusedFull (x : Storage) (told : Option (List (List ℕ))) (k : Machine) (plan : Placement) (s : Session) (m : SessionJob) (t : Task) (absent : What) (wants free : ℕ) : Type 0 where
+-- what is wanted is absent, the running segment is present if it isn't what is wanted, and no hole has room
+abbrev pub HasNoRoom : Storage → What → ℕ → Placement → SessionJob → Task → Type 0
+HasNoRoom x (what.Code displacement) words plan m t = (code_area x plan m t ≡ None) × (HasHole (length (code_of m.constants t.segment) + 2) x.spans → ⊥)
+HasNoRoom x (what.Array home) words plan m t = (code_area x plan m t ≢ None) × ((x.held home).area ≡ None) × (HasHole (words + 2) x.spans → ⊥)
+
+-- the machine that a want of sectors leaves: it stands for the session, no hole has room for what is wanted, and it is short
+-- of sectors by these numbers
+pub record RefusedFull (x : Storage) (told : Option (List (List ℕ))) (k : Machine) (plan : Placement) (s : Session) (m : SessionJob) (t : Task) (absent : What) (words wants free : ℕ) : Type 0 where
   pub refused : Refused x told k plan s m t absent
+  pub no_room : HasNoRoom refused.again.storage absent words plan m t
   pub short : IsShortOf refused.again.storage plan refused.again.jobs wants free
 
 -- every area that was there is there
@@ -100,6 +107,11 @@ AreasStay x y = (home : ℕ) → (x.held home).area ≢ None → (y.held home).a
 pub record StaysIn (x : Storage) (told : Option (List (List ℕ))) (k : Machine) (plan : Placement) (s : Session) : Type 0 where
   pub again : StandsAgain x told k plan s
   pub areas : AreasStay x again.storage
+
+-- what was wanted and the running segment are in core, and no area has moved
+pub record BringsInPlace (x : Storage) (told : Option (List (List ℕ))) (k : Machine) (plan : Placement) (s : Session) (m : SessionJob) (t : Task) (absent : What) : Type 0 where
+  pub brings : Brings x told k plan s m t absent
+  pub areas : AreasStay x brings.again.storage
 
 -- what is wanted keeps no chain: an array of zeros that was never touched
 abbrev pub IsUntouched : Storage → What → Type 0
@@ -114,8 +126,9 @@ pub record BringMeets {D : Type 0} (tell : D → Option (List (List ℕ))) (many
   pub came : OnOk result (Brings x (tell after) new plan s m t absent)
   pub refused : OnErr result (Refused x (tell after) new plan s m t absent)
   pub hole : HasHole (words_wanted m t absent words) x.spans → (new.sectors ≡ old.sectors) × Becomes tell before after (λ all. all) × StaysIn x (tell after) new plan s
+      × OnOk result (BringsInPlace x (tell after) new plan s m t absent)
   pub zeros : HasHole (words_wanted m t absent words) x.spans → IsUntouched x absent → IsOk result × (after ≡ before)
   pub no_core : (need size : ℕ) → (result ≡ Err (NoCore need size))
       ↔ ((length old.cpu.core < need_with s m t 0 words) × (need ≡ need_with s m t 0 words) × (size ≡ length old.cpu.core))
   pub full : (wants free : ℕ) → result ≡ Err (BackingFull wants free)
-      → (many < sectors s.jobs) × (HasHole (words_wanted m t absent words) x.spans → ⊥) × RefusedFull x (tell after) new plan s m t absent wants free
+      → (many < sectors s.jobs) × (HasHole (words_wanted m t absent words) x.spans → ⊥) × RefusedFull x (tell after) new plan s m t absent words wants free

@@ -97,6 +97,10 @@ need_both x c t = x.low + (length c.numbers + 2) + (length t.numbers + 2)
 abbrev pub IsAlone : Storage → ℕ → Type 0
 IsAlone x spare = (at : ℕ) (a : Info) → area_at x.low x.spans at ≡ Some a → at ≡ spare
 
+-- where no hole had n words, none has them now
+abbrev pub NoHoleStill : ℕ → Storage → Storage → Type 0
+NoHoleStill n x y = (HasHole n x.spans → ⊥) → HasHole n y.spans → ⊥
+
 -- an absent object is brought into a hole: refused for no hole exactly if there is none with room, and then the device isn't
 -- called; one that was never touched never fails and calls no device
 pub record PagesIn {D : Type 0} (tell : D → Option (List (List ℕ))) (x : Storage) (p : MachineView) (home : ℕ) (t : PagedObject)
@@ -111,14 +115,16 @@ pub record PagesIn {D : Type 0} (tell : D → Option (List (List ℕ))) (x : Sto
   pub untouched : (x.held home).chain ≡ 0 → after ≡ before
   pub zeros : (x.held home).chain ≡ 0 → result ≢ Err BackingFault
 
--- areas but the one at `spare` are evicted for an absent object until it is placed, or none of them is left
+-- areas but the one at `spare` are evicted for an absent object until it is placed, or none of them is left. Too few free
+-- sectors refuse it only while no hole has room
 pub record MakesWay (x : Storage) (p : MachineView) (t : PagedObject) (spare : ℕ)
     (result : Result Bool SpaceFault) (old cpu : Cpu) (areas : Areas) (table : Table) (told : Option (List (List ℕ))) : Type 0 where
   pub outside : Stayed p old.core cpu.core
   pub came : result ≡ Ok true → IsReadable x p → PlacedAfterEviction x p t spare cpu areas table told
   pub clear : result ≡ Ok false → (w : Waits x p spare cpu areas table told) × IsAlone w.storage spare
   pub refused : OnErr result (Waits x p spare cpu areas table told)
-  pub full : (wants free : ℕ) → result ≡ Err (BackingFull wants free) → (w : Waits x p spare cpu areas table told) × IsShortBy w.storage p wants free
+  pub full : (wants free : ℕ) → result ≡ Err (BackingFull wants free)
+      → (w : Waits x p spare cpu areas table told) × IsShortBy w.storage p wants free × NoHoleStill (length t.numbers + 2) x w.storage
 
 -- what was brought in found a hole: no sector is written and no area moves, whatever is answered
 pub record FoundHole {D : Type 0} (tell : D → Option (List (List ℕ))) (x : Storage) (p : MachineView) (t : PagedObject)
@@ -128,7 +134,8 @@ pub record FoundHole {D : Type 0} (tell : D → Option (List (List ℕ))) (x : S
   pub read : OnOk result (IsReadable x p → ReadIn x p t cpu areas table_new (tell after))
   pub stays : OnErr result (MachineCanPage x cpu areas table_new (tell after) p)
 
--- the code of an absent descriptor is brought in; too few free sectors refuse it only if there was no hole for it
+-- the code of an absent descriptor is brought in; too few free sectors refuse it only if there was no hole for it, and there
+-- is none then
 pub record BringsCode (x : Storage) (p : MachineView) (t : PagedObject)
     (result : Result (Unit {0}) SpaceFault) (old cpu : Cpu) (areas : Areas) (table : Table) (told : Option (List (List ℕ))) : Type 0 where
   pub outside : Stayed p old.core cpu.core
@@ -136,6 +143,7 @@ pub record BringsCode (x : Storage) (p : MachineView) (t : PagedObject)
   pub refused : OnErr result (Waits x p 0 cpu areas table told)
   pub full : (wants free : ℕ) → result ≡ Err (BackingFull wants free)
       → (HasHole (length t.numbers + 2) x.spans → ⊥) × (w : Waits x p 0 cpu areas table told) × IsShortBy w.storage p wants free
+      × (HasHole (length t.numbers + 2) w.storage.spans → ⊥)
 
 -- the same for an array or a data row beside the running code, which is in the area at `at`; one that was never touched is
 -- there at once if a hole has room, and no device is called
@@ -147,3 +155,4 @@ pub record BringsData {D : Type 0} (tell : D → Option (List (List ℕ))) (x : 
   pub zeros : HasHole (length t.numbers + 2) x.spans → (x.held home).chain ≡ 0 → IsOk result × (after ≡ before)
   pub full : (wants free : ℕ) → result ≡ Err (BackingFull wants free)
       → (HasHole (length t.numbers + 2) x.spans → ⊥) × (w : Waits x p at cpu areas table (tell after)) × IsShortBy w.storage p wants free
+      × (HasHole (length t.numbers + 2) w.storage.spans → ⊥)

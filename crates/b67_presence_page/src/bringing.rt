@@ -10,7 +10,7 @@ ghost use Rattle.b67_stack.specs.HeldOtherwise.{Stayed};
 ghost use Rattle.b67_layout_storage.specs.Machine.{IsAbsent, DeviceAfterCalls, PagingKeeps, HasHole};
 ghost use Rattle.b67_overlay.specs.Spans.{MachineCanPage};
 ghost use Rattle.b67_overlay.specs.AreasEvicted.{IsShortBy};
-ghost use Rattle.b67_presence_page.specs.Brings.{IsReadable, ReadIn, PlacedAfterEviction, Waits, IsCode, BothIn, MayWait, need_one, need_both, IsAlone, FoundHole, BringsCode, BringsData};
+ghost use Rattle.b67_presence_page.specs.Brings.{IsReadable, ReadIn, PlacedAfterEviction, Waits, IsCode, BothIn, MayWait, need_one, need_both, IsAlone, FoundHole, NoHoleStill, BringsCode, BringsData};
 
 use crate::paging::{Refusal, page_in};
 use crate::way::make_way;
@@ -108,7 +108,7 @@ fn force_code<B: Backing>(
     ensures refused { OnErr result ((x : Storage) (p : MachineView) (t : PagedObject) → MachineCanPage x cpu.old areas.old sectors.old (B.holds backing.old) p → IsAbsent x p code t
         → Waits x p 0 cpu.new areas.new sectors.new (B.holds backing.new)) }
     ensures full { (x : Storage) (p : MachineView) (t : PagedObject) (wants free : ℕ) → MachineCanPage x cpu.old areas.old sectors.old (B.holds backing.old) p → IsAbsent x p code t
-        → result ≡ Err (BackingFull wants free) → (w : Waits x p 0 cpu.new areas.new sectors.new (B.holds backing.new)) × IsShortBy w.storage p wants free }
+        → result ≡ Err (BackingFull wants free) → (w : Waits x p 0 cpu.new areas.new sectors.new (B.holds backing.new)) × IsShortBy w.storage p wants free × NoHoleStill (length t.numbers + 2) x w.storage }
     ensures no_core { (need size : ℕ) → result ≢ Err (NoCore need size) }
     ensures device { DeviceAfterCalls B.holds B.size B.calls B.faults backing.old backing.new }
     ensures cause { result ≡ Err BackingFault → Rose B.faults backing.old backing.new }
@@ -142,7 +142,7 @@ fn force_data<B: Backing>(
     ensures refused { OnErr result ((x : Storage) (p : MachineView) (t c : PagedObject) → MachineCanPage x cpu.old areas.old sectors.old (B.holds backing.old) p → IsAbsent x p home t
         → IsCode x p code spare c → IsReadable x p → MayWait x p t c cpu.new areas.new sectors.new (B.holds backing.new)) }
     ensures full { (x : Storage) (p : MachineView) (t : PagedObject) (wants free : ℕ) → MachineCanPage x cpu.old areas.old sectors.old (B.holds backing.old) p → IsAbsent x p home t
-        → result ≡ Err (BackingFull wants free) → (w : Waits x p spare cpu.new areas.new sectors.new (B.holds backing.new)) × IsShortBy w.storage p wants free }
+        → result ≡ Err (BackingFull wants free) → (w : Waits x p spare cpu.new areas.new sectors.new (B.holds backing.new)) × IsShortBy w.storage p wants free × NoHoleStill (length t.numbers + 2) x w.storage }
     ensures no_core { (need size : ℕ) → result ≢ Err (NoCore need size) }
     ensures device { DeviceAfterCalls B.holds B.size B.calls B.faults backing.old backing.new }
     ensures cause { result ≡ Err BackingFault → Rose B.faults backing.old backing.new }

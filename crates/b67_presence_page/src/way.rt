@@ -6,7 +6,7 @@ ghost use Rattle.b67_io.specs.Causes.{Rose};
 ghost use Rattle.b67_stack.specs.MachineView.{PagedObject, MachineView};
 ghost use Rattle.b67_stack.specs.Represents.{Storage};
 ghost use Rattle.b67_stack.specs.HeldOtherwise.{Stayed};
-ghost use Rattle.b67_layout_storage.specs.Machine.{IsAbsent, IsPresent, DeviceAfterCalls, PagingKeeps};
+ghost use Rattle.b67_layout_storage.specs.Machine.{IsAbsent, IsPresent, DeviceAfterCalls, PagingKeeps, HasHole};
 ghost use Rattle.b67_overlay.specs.Spans.{MachineCanPage};
 ghost use Rattle.b67_overlay.specs.Overlaid.{overlaid};
 ghost use Rattle.b67_overlay.specs.AreasEvicted.{IsShortBy};
@@ -39,11 +39,12 @@ fn give_way<B: Backing>(
     ensures gone { result ≡ Ok false → (x : Storage) (p : MachineView) (t u : PagedObject) → MachineCanPage x cpu.old areas.old sectors.old (B.holds backing.old) p
         → IsAbsent x p home t → IsPresent x p at u
         → (at ≡ spare → MachineCanPage x cpu.new areas.new sectors.new (B.holds backing.new) p)
-        × (at ≢ spare → MachineCanPage (overlaid x u at (B.holds backing.new)) cpu.new areas.new sectors.new (B.holds backing.new) p) }
+        × (at ≢ spare → MachineCanPage (overlaid x u at (B.holds backing.new)) cpu.new areas.new sectors.new (B.holds backing.new) p
+        × (HasHole (length t.numbers + 2) (overlaid x u at (B.holds backing.new)).spans → ⊥)) }
     ensures refused { OnErr result ((x : Storage) (p : MachineView) (t u : PagedObject) → MachineCanPage x cpu.old areas.old sectors.old (B.holds backing.old) p
         → IsAbsent x p home t → IsPresent x p at u → Waits x p spare cpu.new areas.new sectors.new (B.holds backing.new)) }
     ensures full { (x : Storage) (p : MachineView) (t u : PagedObject) (wants free : ℕ) → MachineCanPage x cpu.old areas.old sectors.old (B.holds backing.old) p → IsAbsent x p home t → IsPresent x p at u
-        → result ≡ Err (BackingFull wants free) → (w : Waits x p spare cpu.new areas.new sectors.new (B.holds backing.new)) × IsShortBy w.storage p wants free }
+        → result ≡ Err (BackingFull wants free) → (w : Waits x p spare cpu.new areas.new sectors.new (B.holds backing.new)) × IsShortBy w.storage p wants free × (w.storage.spans ≡ x.spans) }
     ensures no_core { (need size : ℕ) → result ≢ Err (NoCore need size) }
     ensures device { DeviceAfterCalls B.holds B.size B.calls B.faults backing.old backing.new }
     ensures cause { result ≡ Err BackingFault → Rose B.faults backing.old backing.new }

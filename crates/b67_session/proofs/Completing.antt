@@ -14,6 +14,7 @@ use Rattle.b67_session.specs.declared.slices.Progress.{Progress}
 use Rattle.b67_session.specs.Slices.{StandsAt, IsLimited, Keeps, Reaches, whole, but_limit, StopsBefore, SliceMeets, Slices, Resumes}
 use Rattle.b67_session.specs.Complete.{SetsOut, at_once, after_limit, IsToMake, Suffices}
 use Rattle.b67_session.proofs.Fitting.{below}
+use Rattle.b67_session.proofs.Tells.{takes_of}
 use Rattle.b67_session.proofs.Next.{next_needs}
 
 -- no device failed, by its count
@@ -54,13 +55,13 @@ module _ {K : Type 0} (taken : K → Option (List ℕ)) (told : Option (List (Li
     by : (a : Result Progress Stop) → answered ≡ a → SliceMeets told exact (length old.cpu.core) count n x.steps x.session x.is_due a new → IsOk a
     by (Ok progress) e meets = refl
     by (Err (stops.NoCore words size)) e (b, words_is, size_is, more) = (let fits = has_core b in absurd (omega (arith, words_is, more, fits)))
-    by (Err (stops.BackingFull sum size)) e (b, lacks, short, takes, size_is, more) = (let fits = has_sectors b sum takes in absurd (omega (arith, more, fits)))
+    by (Err (stops.BackingFull sum size)) e (b, lacks, short, tells, size_is, more) = (let fits = has_sectors b sum (takes_of exact b.stands.storage b.stands.plan x.session b.member b.task sum tells) in absurd (omega (arith, more, fits)))
     by (Err stops.BackingFault) e meets = absurd (device e)
     by (Err stops.PrintFault) e meets = absurd (printer e)
 
 -- or from one whose lines of LIMIT are due
-module _ {D K : Type 0} (taken : K → Option (List ℕ)) (known known' : Option (List (List ℕ))) (count n : ℕ) (h : Session) (part : StepResult) (answered : Result Progress Stop) (old new : Machine) (device device' : D) (paper paper' : K) where
-  pub goes_through_limit : Resumes taken known known' count n h part answered old new device device' paper paper' → known ≢ None → Keeps old new → Suffices (length old.cpu.core) count n old.tasks part.session → NoFault answered → IsOk answered
+module _ {D K : Type 0} (holds : D → Option (List (List ℕ))) (taken : K → Option (List ℕ)) (known known' : Option (List (List ℕ))) (count n : ℕ) (h : Session) (part : StepResult) (answered : Result Progress Stop) (old new : Machine) (device device' : D) (paper paper' : K) where
+  pub goes_through_limit : Resumes holds taken known known' count n h part answered old new device device' paper paper' → known ≢ None → Keeps old new → Suffices (length old.cpu.core) count n old.tasks part.session → NoFault answered → IsOk answered
   goes_through_limit (inl cut) tells keeps ample calm = absurd (calm.1 cut.answer)
   goes_through_limit (inr g) tells keeps ample calm =
       goes_through taken known' (known ≢ None) count n part.session answered g.middle new g.printer paper' g.slices tells (keeps.halt ∙ sym g.keeps.halt) still calm
@@ -76,12 +77,12 @@ module _ {D K : Type 0} (taken : K → Option (List ℕ)) (known known' : Option
       }
 
 -- from each session that the machine represents
-pub completes : {D K : Type 0} (taken : K → Option (List ℕ)) (known known' : Option (List (List ℕ))) (count n : ℕ) (answered : Result Progress Stop) (old new : Machine) (device device' : D) (paper paper' : K)
+pub completes : {D K : Type 0} (holds : D → Option (List (List ℕ))) (taken : K → Option (List ℕ)) (known known' : Option (List (List ℕ))) (count n : ℕ) (answered : Result Progress Stop) (old new : Machine) (device device' : D) (paper paper' : K)
     → ((s : Session) → StandsAt known old s → Slices taken known' (known ≢ None) count n s answered old new paper paper')
-    → ((h : Session) (part : StepResult) → IsLimited known old h part → Resumes taken known known' count n h part answered old new device device' paper paper')
+    → ((h : Session) (part : StepResult) → IsLimited known old h part → Resumes holds taken known known' count n h part answered old new device device' paper paper')
     → Keeps old new → known ≢ None → (s : Session) → SetsOut known old s → Suffices (length old.cpu.core) count n old.tasks s → NoFault answered → IsOk answered
-completes taken known known' count n answered old new device device' paper paper' row resumed keeps tells s (at_once stands) ample calm =
+completes holds taken known known' count n answered old new device device' paper paper' row resumed keeps tells s (at_once stands) ample calm =
     goes_through taken known' (known ≢ None) count n s answered old new paper paper' (row s stands) tells keeps.halt ample calm
-completes taken known known' count n answered old new device device' paper paper' row resumed keeps tells s (after_limit h part l e) ample calm =
-    goes_through_limit taken known known' count n h part answered old new device device' paper paper' (resumed h part l) tells keeps
+completes holds taken known known' count n answered old new device device' paper paper' row resumed keeps tells s (after_limit h part l e) ample calm =
+    goes_through_limit holds taken known known' count n h part answered old new device device' paper paper' (resumed h part l) tells keeps
     (subst (Suffices (length old.cpu.core) count n old.tasks) (sym e) ample) calm

@@ -22,6 +22,8 @@ use Rattle.b67_session_attempt.specs.Stops as stops
 use Rattle.b67_session_attempt.proofs.Runs.{caused_stop, caused_later}
 use Rattle.b67_session.specs.declared.slices.Progress.{Progress}
 use Rattle.b67_session.specs.declared.slices.Progress.TheVariants as progress
+use Rattle.b67_session_attempt.specs.Attempts.{IsNotFull}
+use Rattle.b67_session.proofs.Tells.{tells_weaker}
 use Rattle.b67_session.specs.Slices.{StandsAt, LivesOn, RepresentsWithoutTasks, Keeps, Reaches, whole, but_limit, Prints, PrintsWhole, NextFits, StepsFit, StopsWithRoom, IfPresent, StopsBefore, SliceMeets, Slices}
 use Rattle.b67_session.specs.Steps.{StepGives, Leads, stays, makes, halves, Steps, GoesOnInTurn}
 use Rattle.b67_session.proofs.Printing.{prints_none, prints_then, prints_before}
@@ -129,11 +131,17 @@ stop_meets : (told : Option (List (List ℕ))) (exact sure : Type 0) (core count
     → SliceMeets told sure core count 1 more s is_due (Err stop) new → SliceMeets told exact core count n (steps + more) s is_due (Err stop) new
 stop_meets told exact sure core count n steps more s is_due (stops.NoCore words size) new up few m = (stops_later told n steps more s new few m.0, m.1, m.2, m.3)
 stop_meets told exact sure core count n steps more s is_due (stops.BackingFull sum size) new up few m =
-    let lacks = m.1 in
-    (stops_later told n steps more s new few m.0, record { lacks = λ e. lacks.lacks (up e); room = λ e. lacks.room (up e) }, m.2, m.3, m.4, m.5)
+    let lacks = m.1 in (
+      stops_later told n steps more s new few m.0,
+      record { lacks = λ e. lacks.lacks (up e); room = λ e. lacks.room (up e); code = λ e. lacks.code (up e) },
+      m.2,
+      tells_weaker sure exact up m.0.stands.storage m.0.stands.plan s m.0.member m.0.task sum m.3,
+      m.4,
+      m.5,
+    )
 stop_meets told exact sure core count n steps more s is_due stops.BackingFault new up few m =
     let lacks = m.1 in
-    (stops_later told n steps more s new few m.0, record { lacks = λ e. lacks.lacks (up e); room = λ e. lacks.room (up e) })
+    (stops_later told n steps more s new few m.0, record { lacks = λ e. lacks.lacks (up e); room = λ e. lacks.room (up e); code = λ e. lacks.code (up e) })
 stop_meets told exact sure core count n steps more s is_due stops.PrintFault new up few (proper, inl (b, room)) = (proper, inl (stops_later told n steps more s new few b, λ e. room (up e)))
 stop_meets told exact sure core count n steps more s is_due stops.PrintFault new up few (proper, inr limited) = (proper, inr limited)
 
@@ -306,17 +314,20 @@ going-turn {K} taken exact told steps more total first old now new paper paper' 
     came_on c = record { session = after-add steps more first ∙ ap (after more) c.session ∙ t.leads; lines_are = t.silent first steps c.session ∙ c.lines_are }
 
 -- at the beginning of a slice nothing has changed: what a step says of the machine before it, a slice says
-pub begun_present : {A B D : Type 0} (told : Option (List (List ℕ))) (core' core n made : ℕ) (k k' new : Machine) (s : Session) (m : SessionJob) (t : Task) (d d' e : D) (step : Result A Stop) (answered : Result B Stop) → (made ≡ 0 → (k' ≡ k) × (d' ≡ d)) → core' ≡ core
+pub begun_present : {A B D : Type 0} (holds : D → Option (List (List ℕ))) (told : Option (List (List ℕ))) (core' core n made : ℕ) (k k' new : Machine) (s : Session) (m : SessionJob) (t : Task) (d d' e : D) (step : Result A Stop) (answered : Result B Stop) → (made ≡ 0 → (k' ≡ k) × (d' ≡ d)) → core' ≡ core
     → k'.tasks.made ≡ k.tasks.made + made → k'.tasks.made ≤ new.tasks.made → made + 1 ≤ n → (StopsWithRoom core s m t step → StopsWithRoom core s m t answered)
-    → (made ≡ 0 → (h : StandsAt told k' s) → IfPresent (told ≢ None) core' 1 h.storage h.plan s m t step k' new d' e) → (h : StandsAt told k s) → IfPresent (told ≢ None) core n h.storage h.plan s m t answered k new d e
-begun_present {A} {B} {D} told core' core n made k k' new s m t d d' e step answered begun len counted later few same present h = record {
+    → (IsNotFull step → IsNotFull answered) → ((sum size : ℕ) → answered ≡ Err (stops.BackingFull sum size) → step ≡ Err (stops.BackingFull sum size))
+    → (made ≡ 0 → (h : StandsAt told k' s) → IfPresent holds (told ≢ None) core' 1 h.storage h.plan s m t step k' new d' e) → (h : StandsAt told k s) → IfPresent holds (told ≢ None) core n h.storage h.plan s m t answered k new d e
+begun_present {A} {B} {D} holds told core' core n made k k' new s m t d d' e step answered begun len counted later few same fine full present h = record {
   quiet = λ one wants. (first (omega (arith, one, few)) h).quiet (omega arith) wants;
+  hole = λ tells one fits none. (let used = (first (omega (arith, one, few)) h).hole tells (omega arith) fits none in record { written = used.written; not_full = fine used.not_full });
+  sum = λ one wants sum size e. (first (omega (arith, one, few)) h).sum (omega arith) wants sum size (full sum size e);
   room = λ tells code none. same ((first (omega (arith, none, counted, later)) h).room tells code none);
 } where
-  first : made ≡ 0 → (h : StandsAt told k s) → IfPresent (told ≢ None) core 1 h.storage h.plan s m t step k new d e
+  first : made ≡ 0 → (h : StandsAt told k s) → IfPresent holds (told ≢ None) core 1 h.storage h.plan s m t step k new d e
   first none =
       let (is, device) = begun none in
-      let P : Machine → D → ℕ → Type 0 = λ z x size. (h : StandsAt told z s) → IfPresent (told ≢ None) size 1 h.storage h.plan s m t step z new x e in
+      let P : Machine → D → ℕ → Type 0 = λ z x size. (h : StandsAt told z s) → IfPresent holds (told ≢ None) size 1 h.storage h.plan s m t step z new x e in
       subst (P k d) len (subst (λ (z : Machine). P z d core') is (subst (λ (x : D). P k' x core') device (present none)))
 
 -- a step makes none or one

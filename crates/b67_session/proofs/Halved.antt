@@ -27,6 +27,8 @@ use Rattle.b67_session_schedule.specs.Counted.{choice_of, CountsHaveRoom}
 use Rattle.b67_law_order.proofs.FewMade.{made_few, all_few}
 use Rattle.b67_session_attempt.specs.Passed.{IsCalled, WaitsSo, printed_text}
 use Rattle.b67_session_attempt.specs.Tries.{EndsSo}
+use Rattle.b67_session_attempt.specs.Attempts.{EndsWithin}
+use Rattle.b67_session_attempt.proofs.Composed.{ends_exact}
 use Rattle.b67_session_attempt.specs.Stops.{Stop}
 use Rattle.b67_session_attempt.specs.declared.outcomes.Attempt.{Attempt}
 use Rattle.b67_session_attempt.specs.declared.outcomes.Attempt.TheVariants as attempts
@@ -210,7 +212,7 @@ module _ {K : Type 0} (taken : K → Option (List ℕ)) (known known' : Option (
   ends_so ending h = record {
     still = h.meets.1;
     silent = h.meets.2;
-    first = λ tells. ends_first h.session h.member h.task h.next h.ordered ending (h.meets.0 tells);
+    first = λ tells. ends_first h.session h.member h.task h.next h.ordered ending (ends_exact (known ≢ None) h.member h.task ending tells h.meets.0);
     settles = ends_settle h.member.constants h.member.progress h.task.number ending (job_ordered h.session h.member h.task h.next h.ordered).tasks;
     room = h.room;
   }

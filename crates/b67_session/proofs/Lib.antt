@@ -21,3 +21,4 @@ pub mod Shaping
 pub mod Standing
 mod Again
 pub mod Completing
+pub mod Tells

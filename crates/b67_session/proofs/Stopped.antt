@@ -131,7 +131,7 @@ module _ {K : Type 0} (taken : K → Option (List ℕ)) (known known' : Option (
     }
 
     lacks : (L : StandsLacking (known ≢ None) known' core k h.plan here h.member h.task) → Lacks (known ≢ None) core L.storage h.plan here h.member h.task
-    lacks L = record { lacks = L.lacks; room = L.room }
+    lacks L = record { lacks = L.lacks; room = L.room; code = L.code }
 
   pub stop_steps : (stop : Stop) (h : Attempted taken known known' core count before s c (Err stop) k paper paper') (old : Machine) → old.tasks.made ≡ s.made → old.tasks.printed ≡ before → length old.cpu.core ≡ core
       → old.tasks.halt ≢ Some old.tasks.made → k.tasks.halt ≡ old.tasks.halt
@@ -142,12 +142,12 @@ module _ {K : Type 0} (taken : K → Option (List ℕ)) (known known' : Option (
       stayed (stops.NoCore words size') h old om size due_now halt still (λ other. (silent, printed)) (prints_none taken paper paper' (due h.session) old.tasks.printed k.tasks.printed printed silent)
       (before_next (stops.NoCore words size') h old om size due_now halt still, is, of, small)
   stop_steps (stops.BackingFull sum size') h old om op size due_now halt kp =
-      let (is, of, small, short, printed) = h.meets in
+      let (of, small, short, printed) = h.meets in
       let L = short.lacking in
       let still : StillStands known' k h.plan h.session = (L.storage, L.stands) in
       let silent = kp (λ e. absurd cc) in
       stayed (stops.BackingFull sum size') h old om size due_now halt still (λ other. (silent, printed)) (prints_none taken paper paper' (due h.session) old.tasks.printed k.tasks.printed printed silent)
-      (before_next (stops.BackingFull sum size') h old om size due_now halt still, lacks (stops.BackingFull sum size') h old om size due_now halt L, (short.wants, short.free, short.short), is, of, small)
+      (before_next (stops.BackingFull sum size') h old om size due_now halt still, lacks (stops.BackingFull sum size') h old om size due_now halt L, (short.wants, short.free, short.short), short.tells, of, small)
   stop_steps stops.BackingFault h old om op size due_now halt kp =
       let (L, printed) = h.meets in
       let still : StillStands known' k h.plan h.session = (L.storage, L.stands) in

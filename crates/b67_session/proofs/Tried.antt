@@ -17,7 +17,8 @@ use Rattle.b67_session_schedule.specs.declared.counting.Chosen.{Chosen}
 use Rattle.b67_session_schedule.specs.Counted.{choice_of, CountsHaveRoom}
 use Rattle.b67_session_attempt.specs.Stops.{Stop}
 use Rattle.b67_session_attempt.specs.Stops as stops
-use Rattle.b67_session_attempt.specs.Attempts.{AttemptFits}
+use Rattle.b67_session_attempt.specs.Attempts.{AttemptFits, IsNotFull}
+use Rattle.b67_session_attempt.proofs.Composed.{not_full_as}
 use Rattle.b67_session_attempt.specs.declared.outcomes.Attempt.{Attempt}
 use Rattle.b67_session_attempt.specs.declared.outcomes.Attempt.TheVariants as attempts
 use Rattle.b67_session_ends.specs.Closing.{StandsChosen, ChoseSome, Closes}
@@ -30,10 +31,14 @@ use Rattle.b67_session.proofs.Between.{IsHalfMade, finished}
 use Rattle.b67_session.proofs.Halved.{ClosesSo, made_room, made_half, close_room, chosen_stands, close_half, ends_so, waits, wait_made, waits_so, holds_so, between_of}
 use Rattle.b67_session.proofs.Next.{as_next}
 use Rattle.b67_session.proofs.Stopped.{cut_steps, stop_steps}
-use Rattle.b67_session.proofs.Turned.{NextOf, Tries, Attempted, attempted, n, quiet_here, room_there}
+use Rattle.b67_session.proofs.Turned.{NextOf, Tries, Attempted, attempted, n, quiet_here, hole_here, sum_here, room_there}
 use Rattle.b67_session.proofs.Tabled.{stop_printed, turned_printed}
 
 -- ---- stops with room
+
+pub ended_not_full : (result : Result (Unit {0}) Failed) (answered : Result (Unit {0}) Stop) → StopOf result answered → IsNotFull answered
+ended_not_full (Ok done) answered is sum size e = let d = sym is ∙ e in absurd cc
+ended_not_full (Err failed) answered is sum size e = let d = sym is ∙ e in absurd cc
 
 module _ (core : ℕ) (s : Session) (m : SessionJob) (t : Task) where
   pub ended_room : (result : Result (Unit {0}) Failed) (answered : Result (Unit {0}) Stop) → StopOf result answered → StopsWithRoom core s m t answered
@@ -65,28 +70,34 @@ HoldsEach taken c state result old new paper paper' =
 
 -- ---- the step
 
-module _ {D K : Type 0} {taken : K → Option (List ℕ)} {told told' : Option (List (List ℕ))} {count : ℕ} {k mid new : Machine} {c : Chosen} {device device' : D} {paper paper' : K} where
+module _ {D K : Type 0} {holds : D → Option (List (List ℕ))} {taken : K → Option (List ℕ)} {told told' : Option (List (List ℕ))} {count : ℕ} {k mid new : Machine} {c : Chosen} {device device' : D} {paper paper' : K} where
   -- at another answer
-  pub tries_as : (answered other : Result Attempt Stop) → answered ≡ other → Tries taken told told' count k c mid answered new device device' paper paper' → Tries taken told told' count k c mid other new device device' paper paper'
-  tries_as answered other e x = subst (λ (a : Result Attempt Stop). Tries taken told told' count k c mid a new device device' paper paper') e x
+  pub tries_as : (answered other : Result Attempt Stop) → answered ≡ other → Tries holds taken told told' count k c mid answered new device device' paper paper' → Tries holds taken told told' count k c mid other new device device' paper paper'
+  tries_as answered other e x = subst (λ (a : Result Attempt Stop). Tries holds taken told told' count k c mid a new device device' paper paper') e x
 
-  printed_is : (answered : Result Attempt Stop) → Tries taken told told' count k c mid answered new device device' paper paper' → mid.tasks.printed ≡ k.tasks.printed
+  printed_is : (answered : Result Attempt Stop) → Tries holds taken told told' count k c mid answered new device device' paper paper' → mid.tasks.printed ≡ k.tasks.printed
   printed_is answered x = turned_printed k.tasks mid.tasks c.row x.tables
 
   -- where its segment and array are present
-  module _ (answered : Result Attempt Stop) (x : Tries taken told told' count k c mid answered new device device' paper paper') (known : Option (List (List ℕ))) (s : Session) (says : Says known told) (h : StandsAt known k s) where
+  module _ (answered : Result Attempt Stop) (x : Tries holds taken told told' count k c mid answered new device device' paper paper') (known : Option (List (List ℕ))) (s : Session) (says : Says known told) (h : StandsAt known k s) where
     abbrev next_of : NextOf s c
     next_of = n x known s says h
 
     pub present_by : (m : SessionJob) (t : Task) → IsNext s m t → (step : Result (Unit {0}) Stop) (last : Machine)
         → (known ≢ None → code_area h.storage h.plan next_of.member next_of.task ≢ None → last.tasks.made ≡ k.tasks.made → StopsWithRoom (length k.cpu.core) s next_of.member next_of.task step)
-        → IfPresent (known ≢ None) (length k.cpu.core) 1 h.storage h.plan s m t step k last device device'
-    present_by m t next step last room =
-        as_next s m next_of.member t next_of.task (λ (z : SessionJob) (v : Task). IfPresent (known ≢ None) (length k.cpu.core) 1 h.storage h.plan s z v step k last device device') next_of.next next
-        (record { quiet = λ one wants same. quiet_here x known s says h wants same; room = room })
+        → (IsNotFull answered → IsNotFull step) → ((sum size : ℕ) → step ≡ Err (stops.BackingFull sum size) → answered ≡ Err (stops.BackingFull sum size))
+        → IfPresent holds (known ≢ None) (length k.cpu.core) 1 h.storage h.plan s m t step k last device device'
+    present_by m t next step last room fine full =
+        as_next s m next_of.member t next_of.task (λ (z : SessionJob) (v : Task). IfPresent holds (known ≢ None) (length k.cpu.core) 1 h.storage h.plan s z v step k last device device') next_of.next next
+        (record {
+          quiet = λ one wants same. quiet_here x known s says h wants same;
+          hole = λ tells one fits none. (let used = hole_here x known s says h tells fits none in record { written = used.written; not_full = fine used.not_full });
+          sum = λ one wants sum size e. sum_here x known s says h wants sum size (full sum size e);
+          room = room;
+        })
 
   -- the operator was made
-  module _ (x : Tries taken told told' count k c mid (Ok attempts.Made) new device device' paper paper') (known : Option (List (List ℕ))) (s : Session) (says : Says known told) (h : StandsAt known k s) where
+  module _ (x : Tries holds taken told told' count k c mid (Ok attempts.Made) new device device' paper paper') (known : Option (List (List ℕ))) (s : Session) (says : Says known told) (h : StandsAt known k s) where
     abbrev made : Attempted taken known (content_after known told') (length k.cpu.core) count k.tasks.printed s c (Ok attempts.Made) new paper paper'
     made = attempted x known s says h
 
@@ -110,13 +121,14 @@ module _ {D K : Type 0} {taken : K → Option (List ℕ)} {told told' : Option (
         pub made_row : KeepsCounts counts last → Steps taken (content_after known told') (known ≢ None) count s answered k last paper paper''
         made_row keeps = finished taken (content_after known told') (known ≢ None) count s k counts last paper paper' paper'' halved keeps ended.result ended.finishes answered ended.answer
 
-        pub made_present : (m : SessionJob) (t : Task) → IsNext s m t → IfPresent (known ≢ None) (length k.cpu.core) 1 h.storage h.plan s m t answered k last device device'
+        pub made_present : (m : SessionJob) (t : Task) → IsNext s m t → IfPresent holds (known ≢ None) (length k.cpu.core) 1 h.storage h.plan s m t answered k last device device'
         made_present m t next =
             let z = n x known s says h in
             present_by (Ok attempts.Made) x known s says h m t next answered last (λ tells code none. ended_room (length k.cpu.core) s z.member z.task ended.result answered ended.answer)
+            (λ whole. ended_not_full ended.result answered ended.answer) (λ sum size e. absurd (ended_not_full ended.result answered ended.answer sum size e))
 
   -- the operator ends its task, or makes it wait: the attempt has left the tables as they were
-  module _ (outcome : Attempt) (x : Tries taken told told' count k c mid (Ok outcome) new device device' paper paper') (stay : new.tasks ≡ mid.tasks) (known : Option (List (List ℕ))) (s : Session) (says : Says known told) (h : StandsAt known k s)
+  module _ (outcome : Attempt) (x : Tries holds taken told told' count k c mid (Ok outcome) new device device' paper paper') (stay : new.tasks ≡ mid.tasks) (known : Option (List (List ℕ))) (s : Session) (says : Says known told) (h : StandsAt known k s)
       (made : Stepped) (so : ClosesSo known (content_after known told') (length k.cpu.core) new paper paper' (attempted x known s says h).plan (attempted x known s says h).session (attempted x known s says h).member (attempted x known s says h).task (attempted x known s says h).next.chosen made) where
     abbrev left : Attempted taken known (content_after known told') (length k.cpu.core) count k.tasks.printed s c (Ok outcome) new paper paper'
     left = attempted x known s says h
@@ -153,10 +165,11 @@ module _ {D K : Type 0} {taken : K → Option (List ℕ)} {told told' : Option (
         pub closed_row : KeepsCounts closed last → Steps taken (content_after known told') (known ≢ None) count s answered k last paper paper'''
         closed_row keeps = finished taken (content_after known told') (known ≢ None) count s k closed last paper paper'' paper''' closed_half keeps over.result over.finishes answered over.answer
 
-        pub closed_present : (m : SessionJob) (t : Task) → IsNext s m t → IfPresent (known ≢ None) (length k.cpu.core) 1 h.storage h.plan s m t answered k last device device'
+        pub closed_present : (m : SessionJob) (t : Task) → IsNext s m t → IfPresent holds (known ≢ None) (length k.cpu.core) 1 h.storage h.plan s m t answered k last device device'
         closed_present m t next =
             let z = n x known s says h in
             present_by (Ok outcome) x known s says h m t next answered last (λ tells code none. ended_room (length k.cpu.core) s z.member z.task over.result answered over.answer)
+            (λ whole. ended_not_full over.result answered over.answer) (λ sum size e. absurd (ended_not_full over.result answered over.answer sum size e))
 
     -- the printer failed in them
     module _ (failed : Failed) (last : Machine) (paper'' : K) where
@@ -165,11 +178,11 @@ module _ {D K : Type 0} {taken : K → Option (List ℕ)} {told told' : Option (
           let (more, only) = closes in
           cut_steps taken known (content_after known told') (length k.cpu.core) count k.tasks.printed s c new paper paper' (Ok outcome) made left so k last paper'' h.stands.tables.counts.made refl printed_still refl due halt more only
 
-      pub cut_present : (m : SessionJob) (t : Task) → IsNext s m t → IfPresent {A = Unit {0}} (known ≢ None) (length k.cpu.core) 1 h.storage h.plan s m t (Err stops.PrintFault) k last device device'
-      cut_present m t next = present_by (Ok outcome) x known s says h m t next (Err stops.PrintFault) last (λ tells code none. tt)
+      pub cut_present : (m : SessionJob) (t : Task) → IsNext s m t → IfPresent {A = Unit {0}} holds (known ≢ None) (length k.cpu.core) 1 h.storage h.plan s m t (Err stops.PrintFault) k last device device'
+      cut_present m t next = present_by (Ok outcome) x known s says h m t next (Err stops.PrintFault) last (λ tells code none. tt) (λ whole sum size e. absurd cc) (λ sum size e. absurd cc)
 
   -- it ends its task
-  module _ (ending : Ending) (x : Tries taken told told' count k c mid (Ok (attempts.Ends ending)) new device device' paper paper') (known : Option (List (List ℕ))) (s : Session) (says : Says known told) (h : StandsAt known k s) where
+  module _ (ending : Ending) (x : Tries holds taken told told' count k c mid (Ok (attempts.Ends ending)) new device device' paper paper') (known : Option (List (List ℕ))) (s : Session) (says : Says known told) (h : StandsAt known k s) where
     abbrev ending_left : Attempted taken known (content_after known told') (length k.cpu.core) count k.tasks.printed s c (Ok (attempts.Ends ending)) new paper paper'
     ending_left = attempted x known s says h
 
@@ -192,7 +205,7 @@ module _ {D K : Type 0} {taken : K → Option (List ℕ)} {told told' : Option (
     ending_closes result closed paper'' closes = closes ending_so.still.0 (content_after known told') ending_left.plan ending_left.session ending_left.member ending_left.task ending_stands
 
   -- it makes its task wait
-  module _ (state : TaskState) (x : Tries taken told told' count k c mid (Ok (attempts.Waits state)) new device device' paper paper') (known : Option (List (List ℕ))) (s : Session) (says : Says known told) (h : StandsAt known k s) where
+  module _ (state : TaskState) (x : Tries holds taken told told' count k c mid (Ok (attempts.Waits state)) new device device' paper paper') (known : Option (List (List ℕ))) (s : Session) (says : Says known told) (h : StandsAt known k s) where
     abbrev waiting : Attempted taken known (content_after known told') (length k.cpu.core) count k.tasks.printed s c (Ok (attempts.Waits state)) new paper paper'
     waiting = attempted x known s says h
 
@@ -228,13 +241,14 @@ module _ {D K : Type 0} {taken : K → Option (List ℕ)} {told told' : Option (
         (waits taken known (content_after known told') (length k.cpu.core) count k.tasks.printed s c new paper paper' state waiting).condition waiting_stands waiting_holds
 
   -- it isn't made
-  module _ (stop : Stop) (x : Tries taken told told' count k c mid (Err stop) new device device' paper paper') (known : Option (List (List ℕ))) (s : Session) (says : Says known told) (h : StandsAt known k s) where
+  module _ (stop : Stop) (x : Tries holds taken told told' count k c mid (Err stop) new device device' paper paper') (known : Option (List (List ℕ))) (s : Session) (says : Says known told) (h : StandsAt known k s) where
     pub stop_row : k.tasks.halt ≢ Some k.tasks.made → new.tasks.halt ≡ k.tasks.halt → Steps taken (content_after known told') (known ≢ None) count s (Err stop) k new paper paper'
     stop_row due halt =
         stop_steps taken known (content_after known told') (length k.cpu.core) count k.tasks.printed s c new paper paper' stop (attempted x known s says h) k h.stands.tables.counts.made refl refl due halt
         (λ other. stop_printed stop mid.tasks new.tasks x.stay other ∙ printed_is (Err stop) x)
 
-    pub stop_present : (m : SessionJob) (t : Task) → IsNext s m t → IfPresent {A = Unit {0}} (known ≢ None) (length k.cpu.core) 1 h.storage h.plan s m t (Err stop) k new device device'
+    pub stop_present : (m : SessionJob) (t : Task) → IsNext s m t → IfPresent {A = Unit {0}} holds (known ≢ None) (length k.cpu.core) 1 h.storage h.plan s m t (Err stop) k new device device'
     stop_present m t next =
         let z = n x known s says h in
         present_by (Err stop) x known s says h m t next (Err stop) new (λ tells code none. stopped_room (length k.cpu.core) s z.member z.task h.storage h.plan stop (room_there x known s says h tells) code)
+        (λ whole. not_full_as stop whole) (λ sum size e. ap (λ (z : Stop). Err z) (let is : stop ≡ stops.BackingFull sum size = cc in is))

@@ -26,7 +26,7 @@ use Rattle.b67_session_attempt.specs.Passed.{StandsOver, CallsDevice}
 use Rattle.b67_session_attempt.specs.Stops.{Stop}
 use Rattle.b67_session_attempt.specs.Stops as stops
 use Rattle.b67_session_attempt.specs.declared.outcomes.Attempt.{Attempt}
-use Rattle.b67_session_attempt.specs.Attempts.{RunsOver, ForEachOver, WantsNothing, AttemptMeets, Attempts, AttemptFits, AttemptRow, TablesStay}
+use Rattle.b67_session_attempt.specs.Attempts.{RunsOver, ForEachOver, WantsNothing, HoleFits, segment_fits, array_fits, UsesHole, TellsAfter, AttemptMeets, Attempts, AttemptFits, AttemptRow, TablesStay}
 use Rattle.b67_session.specs.Slices.{StandsAt}
 use Rattle.b67_session.proofs.Next.{Chose, chose, runs_then, next_other}
 
@@ -127,18 +127,18 @@ abbrev pub ChosenRoom : Machine → Chosen → Type 0
 ChosenRoom k c = (plan : Placement) (s : Session) → IsInOrderButPlaces s → TasksShow plan s k.tasks → CountsHaveRoom k.tasks c
 
 -- a step as far as its operator was tried: a task was chosen and has the turn, and the attempt answered
-pub record Tries {D K : Type 0} (taken : K → Option (List ℕ)) (told told' : Option (List (List ℕ))) (count : ℕ) (k : Machine) (c : Chosen) (mid : Machine) (answered : Result Attempt Stop) (new : Machine) (device device' : D) (paper paper' : K) : Type 0 where
+pub record Tries {D K : Type 0} (holds : D → Option (List (List ℕ))) (taken : K → Option (List ℕ)) (told told' : Option (List (List ℕ))) (count : ℕ) (k : Machine) (c : Chosen) (mid : Machine) (answered : Result Attempt Stop) (new : Machine) (device device' : D) (paper paper' : K) : Type 0 where
   pub chooses : ChoosesRow k c
   pub counts : ChosenRoom k c
   pub gives : GivesTurn k c.row mid
   pub tables : mid.tasks ≡ record k.tasks { rows = mid.tasks.rows; running = c.row }
   pub core : length mid.cpu.core ≡ length k.cpu.core
-  pub row : ForEachOver mid told (λ x plan s m t. AttemptRow taken x (content_after x.device told') (length mid.cpu.core) count mid.tasks.printed plan s m t answered new device device' paper paper')
+  pub row : ForEachOver mid told (λ x plan s m t. AttemptRow holds taken x (content_after x.device told') (length mid.cpu.core) count mid.tasks.printed plan s m t answered new device device' paper paper')
   pub stay : TablesStay answered mid.tasks new.tasks
   pub halt : new.tasks.halt ≡ mid.tasks.halt
 
-module _ {D K : Type 0} {taken : K → Option (List ℕ)} {told told' : Option (List (List ℕ))} {count : ℕ} {k mid new : Machine} {c : Chosen} {answered : Result Attempt Stop} {device device' : D} {paper paper' : K}
-    (x : Tries taken told told' count k c mid answered new device device' paper paper') (known : Option (List (List ℕ))) (s : Session) (says : Says known told) (h : StandsAt known k s) where
+module _ {D K : Type 0} {holds : D → Option (List (List ℕ))} {taken : K → Option (List ℕ)} {told told' : Option (List (List ℕ))} {count : ℕ} {k mid new : Machine} {c : Chosen} {answered : Result Attempt Stop} {device device' : D} {paper paper' : K}
+    (x : Tries holds taken told told' count k c mid answered new device device' paper paper') (known : Option (List (List ℕ))) (s : Session) (says : Says known told) (h : StandsAt known k s) where
   abbrev chooses_here : Chooses k.tasks.rows.items (Some c) (choice s)
   chooses_here = x.chooses h.plan s h.ordered h.stands.tables
 
@@ -157,7 +157,7 @@ module _ {D K : Type 0} {taken : K → Option (List ℕ)} {told told' : Option (
   device_told : known ≢ None → here.storage.device ≢ None
   device_told tells = subst (λ (d : Option (List (List ℕ))). d ≢ None) device_is tells
 
-  abbrev pub promise : AttemptRow taken here.storage (content_after here.storage.device told') (length mid.cpu.core) count mid.tasks.printed here.plan s n.member n.task answered new device device' paper paper'
+  abbrev pub promise : AttemptRow holds taken here.storage (content_after here.storage.device told') (length mid.cpu.core) count mid.tasks.printed here.plan s n.member n.task answered new device device' paper paper'
   promise = x.row here.storage here.plan s n.member n.task (but_counts s here.ordered) stood here.running here.ready
 
   abbrev a : Attempts taken here.storage (content_after here.storage.device told') (length mid.cpu.core) count mid.tasks.printed here.plan s n.task answered new paper paper'
@@ -219,3 +219,15 @@ module _ {D K : Type 0} {taken : K → Option (List ℕ)} {told told' : Option (
   -- where nothing is wanted
   pub quiet_here : WantsNothing h.storage h.plan n.member n.task → (CallsDevice n.member n.task → ⊥) → device' ≡ device
   quiet_here wants same = promise.quiet (record { code = wants.code; array = wants.array }) same
+
+  -- where one thing is wanted and a hole has room for it
+  hole_there : HoleFits h.storage h.plan n.member n.task → HoleFits here.storage here.plan n.member n.task
+  hole_there (segment_fits none arrays room) = segment_fits none arrays room
+  hole_there (array_fits a code among absent is room) = array_fits a code among absent is room
+
+  pub hole_here : known ≢ None → HoleFits h.storage h.plan n.member n.task → (CallsDevice n.member n.task → ⊥) → UsesHole holds answered device device'
+  hole_here tells fits none = promise.hole (device_told tells) (hole_there fits) none
+
+  -- and what a full device is told where nothing is
+  pub sum_here : WantsNothing h.storage h.plan n.member n.task → (sum size : ℕ) → answered ≡ Err (stops.BackingFull sum size) → TellsAfter s n.member n.task sum
+  sum_here wants = promise.sum (record { code = wants.code; array = wants.array })

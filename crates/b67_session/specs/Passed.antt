@@ -1,3 +1,3 @@
 -- Definitions of the crates below, for the crates above.
-pub use Rattle.b67_session_attempt.specs.Attempts.{IsLacking, TakesSectors}
+pub use Rattle.b67_session_attempt.specs.Attempts.{IsLacking, TakesSectors, LacksRoom, CodeFits, TellsAfter, TellsSectors}
 pub use Rattle.b67_session_attempt.specs.Passed.{AreCountable, CallCauses, IsShortAt, Lengthens, StartsTask, CallsDevice}

@@ -12,7 +12,7 @@ use Rattle.b67_task_tables.specs.declared.tables.Tasks.{Tasks}
 use Rattle.b67_task_tables.specs.declared.tables.Machine.{Machine}
 pub use Rattle.b67_task_tables.specs.Runs.{Keeps}
 use Rattle.b67_session_attempt.specs.Passed.{AreCountable, IsShortAt, CallsDevice}
-use Rattle.b67_session_attempt.specs.Attempts.{IsLacking, TakesSectors, WantsNothing}
+use Rattle.b67_session_attempt.specs.Attempts.{IsLacking, WantsNothing, HoleFits, UsesHole, CodeFits, TellsAfter, TellsSectors}
 use Rattle.b67_session_attempt.specs.Stops.{Stop}
 use Rattle.b67_session_attempt.specs.Stops as stops
 pub use Rattle.b67_session_ends.specs.Machines.{StandsAt, IsLimited, RepresentsWithoutTasks}
@@ -96,11 +96,12 @@ pub record NextFits (core : ℕ) (s : Session) : Type 0 where
 abbrev pub StepsFit : ℕ → ℕ → Session → Type 0
 StepsFit core steps first = (k : ℕ) → k < steps → NextFits core (after k first)
 
--- the next step lacks its segment or its array, makes it longer, or starts a task; it needs no more words than core has, or its
--- segment is absent
+-- the next step lacks its segment or its array, makes it longer, or starts a task. Core has room for its segment, and for the
+-- whole step if the segment is present
 pub record Lacks (exact : Type 0) (core : ℕ) (x : Storage) (plan : Placement) (s : Session) (m : SessionJob) (t : Task) : Type 0 where
   pub lacks : exact → IsLacking x plan m t
   pub room : exact → (need core s m t ≤ core) ⊎ (code_area x plan m t ≡ None)
+  pub code : exact → CodeFits core s m t
 
 -- a device that is full or fails stops a step only where core has the words that it needs
 abbrev pub StopsWithRoom : {A : Type 0} → ℕ → Session → SessionJob → Task → Result A Stop → Type 0
@@ -109,10 +110,13 @@ StopsWithRoom core s m t (Err stops.BackingFault) = need core s m t ≤ core
 StopsWithRoom core s m t _ = Unit {0}
 
 -- The session's next step is looked at in a storage, where a slice of n steps sets out. Where its segment and its array are
--- present, and it makes no array longer and starts no task, a slice of one step doesn't call the device. Where its segment is
--- present, the device stops it only if core has room for it
-pub record IfPresent {A D : Type 0} (exact : Type 0) (core n : ℕ) (x : Storage) (plan : Placement) (s : Session) (m : SessionJob) (t : Task) (answered : Result A Stop) (old new : Machine) (device device' : D) : Type 0 where
+-- present, and it makes no array longer and starts no task, a slice of one step doesn't call the device; where one of them is
+-- absent and a hole has room for it, no sector is written, and too few free ones stop nothing. Where both are present, a full
+-- device is told the sum after the step. Where its segment is present, the device stops it only if core has room for it
+pub record IfPresent {A D : Type 0} (holds : D → Option (List (List ℕ))) (exact : Type 0) (core n : ℕ) (x : Storage) (plan : Placement) (s : Session) (m : SessionJob) (t : Task) (answered : Result A Stop) (old new : Machine) (device device' : D) : Type 0 where
   pub quiet : n ≤ 1 → WantsNothing x plan m t → (CallsDevice m t → ⊥) → device' ≡ device
+  pub hole : exact → n ≤ 1 → HoleFits x plan m t → (CallsDevice m t → ⊥) → UsesHole holds answered device device'
+  pub sum : n ≤ 1 → WantsNothing x plan m t → (sum size : ℕ) → answered ≡ Err (stops.BackingFull sum size) → TellsAfter s m t sum
   pub room : exact → code_area x plan m t ≢ None → new.tasks.made ≡ old.tasks.made → StopsWithRoom core s m t answered
 
 -- ---- what is answered
@@ -143,7 +147,8 @@ SliceMeets known exact core count n steps s is_due (Err (stops.NoCore words size
     (b : StopsBefore known n steps s new) × (words ≡ need core s b.member b.task) × (size ≡ core) × (core < words)
 SliceMeets known exact core count n steps s is_due (Err (stops.BackingFull sum size)) new =
     (b : StopsBefore known n steps s new) × Lacks exact core b.stands.storage b.stands.plan s b.member b.task
-    × ((wants : ℕ) × (free : ℕ) × IsShortAt b.stands.storage b.stands.plan s.jobs b.member b.task wants free) × TakesSectors s b.member b.task sum × (size ≡ count) × (count < sum)
+    × ((wants : ℕ) × (free : ℕ) × IsShortAt b.stands.storage b.stands.plan s.jobs b.member b.task wants free)
+    × TellsSectors exact b.stands.storage b.stands.plan s b.member b.task sum × (size ≡ count) × (count < sum)
 SliceMeets known exact core count n steps s is_due (Err stops.BackingFault) new =
     (b : StopsBefore known n steps s new) × Lacks exact core b.stands.storage b.stands.plan s b.member b.task
 SliceMeets known exact core count n steps s is_due (Err stops.PrintFault) new =
@@ -180,7 +185,7 @@ pub record IsCutAgain {D K : Type 0} (taken : K → Option (List ℕ)) (h : Sess
 
 -- the rest of these lines was printed and the tasks have ended: a machine stands for the session after the last part, and from
 -- there a slice was made
-pub record GoesOnAfter {D K : Type 0} (taken : K → Option (List ℕ)) (known known' : Option (List (List ℕ))) (count n : ℕ) (h : Session) (part : StepResult) (answered : Result Progress Stop) (old new : Machine) (device device' : D) (paper paper' : K) : Type 0 where
+pub record GoesOnAfter {D K : Type 0} (holds : D → Option (List (List ℕ))) (taken : K → Option (List ℕ)) (known known' : Option (List (List ℕ))) (count n : ℕ) (h : Session) (part : StepResult) (answered : Result Progress Stop) (old new : Machine) (device device' : D) (paper paper' : K) : Type 0 where
   pub middle : Machine
   pub printer : K
   pub stands : StandsAt known middle part.session
@@ -190,13 +195,13 @@ pub record GoesOnAfter {D K : Type 0} (taken : K → Option (List ℕ)) (known k
   pub prints : Prints taken paper printer (due h) old.tasks.printed part.lines [] 0
   pub slices : Slices taken known' (known ≢ None) count n part.session answered middle new printer paper'
   pub present : (g : StandsAt known middle part.session) (m : SessionJob) (t : Task) → IsNext part.session m t
-      → IfPresent (known ≢ None) (length middle.cpu.core) n g.storage g.plan part.session m t answered middle new device device'
+      → IfPresent holds (known ≢ None) (length middle.cpu.core) n g.storage g.plan part.session m t answered middle new device device'
   pub rests : live_tasks part.session.jobs ≡ 0 → device' ≡ device
 
 -- from a session of which tasks are to end by LIMIT
-abbrev pub Resumes : {D K : Type 0} → (K → Option (List ℕ)) → Option (List (List ℕ)) → Option (List (List ℕ)) → ℕ → ℕ → Session → StepResult → Result Progress Stop → Machine → Machine → D → D → K → K → Type 0
-Resumes taken known known' count n h part answered old new device device' paper paper' =
-    IsCutAgain taken h answered old new device device' paper paper' ⊎ GoesOnAfter taken known known' count n h part answered old new device device' paper paper'
+abbrev pub Resumes : {D K : Type 0} → (D → Option (List (List ℕ))) → (K → Option (List ℕ)) → Option (List (List ℕ)) → Option (List (List ℕ)) → ℕ → ℕ → Session → StepResult → Result Progress Stop → Machine → Machine → D → D → K → K → Type 0
+Resumes holds taken known known' count n h part answered old new device device' paper paper' =
+    IsCutAgain taken h answered old new device device' paper paper' ⊎ GoesOnAfter holds taken known known' count n h part answered old new device device' paper paper'
 
 -- of a session without a task nothing is made, printed or changed
 pub record StaysEnded {D K : Type 0} (answered : Result Progress Stop) (old new : Machine) (device device' : D) (paper paper' : K) : Type 0 where

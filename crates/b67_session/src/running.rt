@@ -71,9 +71,9 @@ impl Session {
         ensures row { (told : Option (List (List ℕ))) (s : schedule.Session) → Says told (B.holds backing.old) → StandsAt told self.old s
             → Slices K.taken (content_after told (B.holds backing.new)) (told ≢ None) (B.size backing.old) n s result self.old self.new paper.old paper.new }
         ensures present { (told : Option (List (List ℕ))) (s : schedule.Session) (m : SessionJob) (t : Task) → Says told (B.holds backing.old) → (h : StandsAt told self.old s) → IsNext s m t
-            → IfPresent (told ≢ None) (length self.old.cpu.core) n h.storage h.plan s m t result self.old self.new backing.old backing.new }
+            → IfPresent B.holds (told ≢ None) (length self.old.cpu.core) n h.storage h.plan s m t result self.old self.new backing.old backing.new }
         ensures resumed { (told : Option (List (List ℕ))) (h : schedule.Session) (part : StepResult) → Says told (B.holds backing.old) → IsLimited told self.old h part
-            → Resumes K.taken told (content_after told (B.holds backing.new)) (B.size backing.old) n h part result self.old self.new backing.old backing.new paper.old paper.new }
+            → Resumes B.holds K.taken told (content_after told (B.holds backing.new)) (B.size backing.old) n h part result self.old self.new backing.old backing.new paper.old paper.new }
         ensures ended { (told : Option (List (List ℕ))) (s : schedule.Session) → RepresentsWithoutTasks told self.old s
             → StaysEnded result self.old self.new backing.old backing.new paper.old paper.new }
         ensures complete { (told : Option (List (List ℕ))) (s : schedule.Session) → told ≢ None → Says told (B.holds backing.old) → SetsOut told self.old s

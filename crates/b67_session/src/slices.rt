@@ -57,7 +57,7 @@ fn go_on<B: Backing, K: Sink>(
     ensures row { (told : Option (List (List ℕ))) (s : Session) → Says told (B.holds backing.old) → StandsAt told machine.old s
         → Slices K.taken (content_after told (B.holds backing.new)) (told ≢ None) (B.size backing.old) n s result machine.old machine.new paper.old paper.new }
     ensures present { (told : Option (List (List ℕ))) (s : Session) (m : SessionJob) (t : Task) → Says told (B.holds backing.old) → (h : StandsAt told machine.old s) → IsNext s m t
-        → IfPresent (told ≢ None) (length machine.old.cpu.core) n h.storage h.plan s m t result machine.old machine.new backing.old backing.new }
+        → IfPresent B.holds (told ≢ None) (length machine.old.cpu.core) n h.storage h.plan s m t result machine.old machine.new backing.old backing.new }
     ensures ended { (told : Option (List (List ℕ))) (s : Session) → RepresentsWithoutTasks told machine.old s
         → StaysEnded result machine.old machine.new backing.old backing.new paper.old paper.new }
     ensures countable { AreCountable machine.new.tasks.jobs }
@@ -94,14 +94,15 @@ fn go_on<B: Backing, K: Sink>(
 /// every answer but `PrintFault` the text of each step that was made is printed whole, and nothing of the next step's.
 ///
 /// `NoCore` only if the step's need exceeds core, with both; no step that was made needs more. A step that does ends in
-/// another stop only if its segment is absent and the device is full or fails as it is brought in: if the segment was
-/// present when a call began that made no step, `BackingFull` and `BackingFault` come only with enough core. `PrintFault`
-/// before a step comes only with enough core too. `BackingFull` only if the session, or the one that a RESIZE to a greater
-/// length would make, takes more sectors than the device has, with both, the step's segment or array is absent, or it is
-/// such a RESIZE or starts a task, and more sectors are wanted than are free; `BackingFault` and `PrintFault` only if that
-/// device failed. A single step whose segment and array are present, and which is no such RESIZE and starts no task, doesn't
-/// call the backing. If nothing is known of what the device's sectors hold, the words that it gives back may be others, and
-/// as many. After `Ended` the machine represents the session without a task; if it was known what the sectors hold, the one
+/// another stop only if its segment is absent, core has room for it, and the device is full or fails as it is brought in:
+/// if the segment was present when a call began that made no step, `BackingFull` and `BackingFault` come only with enough
+/// core. `PrintFault` before a step comes only with enough core too. `BackingFull` only if the session takes more sectors than
+/// the device has, with both, and the step starts a task, or its segment or array is absent and no hole has room for it; or
+/// if the session that a RESIZE to a greater length would make does, with its sum. More sectors are then wanted than are free.
+/// `BackingFault` and `PrintFault` only if that device failed. A single step whose segment and array are present, and which
+/// is no such RESIZE and starts no task, doesn't call the backing; if one of the two is absent and a hole has room for it, no
+/// sector is written, and `BackingFull` isn't answered. If nothing is known of what the device's sectors hold, the words
+/// that it gives back may be others, and as many. After `Ended` the machine represents the session without a task; if it was known what the sectors hold, the one
 /// after the steps. Whatever the device gives back, the machine then represents some session, in order but for places
 /// if a task lives or the slice set out from such a session.
 ///
@@ -119,9 +120,9 @@ pub fn slice<B: Backing, K: Sink>(
     ensures row { (told : Option (List (List ℕ))) (s : Session) → Says told (B.holds backing.old) → StandsAt told machine.old s
         → Slices K.taken (content_after told (B.holds backing.new)) (told ≢ None) (B.size backing.old) n s result machine.old machine.new paper.old paper.new }
     ensures present { (told : Option (List (List ℕ))) (s : Session) (m : SessionJob) (t : Task) → Says told (B.holds backing.old) → (h : StandsAt told machine.old s) → IsNext s m t
-        → IfPresent (told ≢ None) (length machine.old.cpu.core) n h.storage h.plan s m t result machine.old machine.new backing.old backing.new }
+        → IfPresent B.holds (told ≢ None) (length machine.old.cpu.core) n h.storage h.plan s m t result machine.old machine.new backing.old backing.new }
     ensures resumed { (told : Option (List (List ℕ))) (h : Session) (part : StepResult) → Says told (B.holds backing.old) → IsLimited told machine.old h part
-        → Resumes K.taken told (content_after told (B.holds backing.new)) (B.size backing.old) n h part result machine.old machine.new backing.old backing.new paper.old paper.new }
+        → Resumes B.holds K.taken told (content_after told (B.holds backing.new)) (B.size backing.old) n h part result machine.old machine.new backing.old backing.new paper.old paper.new }
     ensures ended { (told : Option (List (List ℕ))) (s : Session) → RepresentsWithoutTasks told machine.old s
         → StaysEnded result machine.old machine.new backing.old backing.new paper.old paper.new }
     ensures complete { (told : Option (List (List ℕ))) (s : Session) → told ≢ None → Says told (B.holds backing.old) → SetsOut told machine.old s

@@ -57,7 +57,7 @@ pub(crate) fn step<B: Backing, K: Sink>(
     ensures row { (known : Option (List (List ℕ))) (s : Session) → Says known (B.holds backing.old) → StandsAt known machine.old s
         → Steps K.taken (content_after known (B.holds backing.new)) (known ≢ None) (B.size backing.old) s result machine.old machine.new paper.old paper.new }
     ensures present { (known : Option (List (List ℕ))) (s : Session) (m : SessionJob) (t : Task) → Says known (B.holds backing.old) → (h : StandsAt known machine.old s) → IsNext s m t
-        → IfPresent (known ≢ None) (length machine.old.cpu.core) 1 h.storage h.plan s m t result machine.old machine.new backing.old backing.new }
+        → IfPresent B.holds (known ≢ None) (length machine.old.cpu.core) 1 h.storage h.plan s m t result machine.old machine.new backing.old backing.new }
     ensures countable { AreCountable machine.new.tasks.jobs }
     ensures causes { CallCauses B.faults K.faults backing.old backing.new paper.old paper.new result }
     ensures keeps { Keeps machine.old machine.new }

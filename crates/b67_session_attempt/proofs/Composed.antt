@@ -2,33 +2,37 @@
 use Rattle.std.proofs.Common.{◌≡◌, ◌≢◌, ℕ, ◌+◌, ◌<◌, ◌≤◌, ◌⊎◌, ⊎_elim, arith, inl, inr, List, length, Option, Some, None, Result, Ok, Err, refl, sym, ◌∙◌, ap, subst}
 use Rattle.std.proofs.lemmas.Option.{same_Some}
 use Rattle.b67_word.specs.declared.faults.Ending.{Ending}
-use Rattle.b67_model.specs.Common.{Ready, Task, SessionJob, need, number_of, Session}
+use Rattle.b67_word.specs.declared.faults.Ending.TheVariants.{Faulted}
+use Rattle.b67_word.specs.declared.faults.Fault.TheVariants.{InvalidOperator}
+use Rattle.b67_backing.specs.Held.{Becomes}
+use Rattle.b67_model.specs.Common.{Ready, Task, SessionJob, sectors, need, number_of, Session}
 use Rattle.b67_model.specs.Keyed.{keyed}
 use Rattle.b67_layout.specs.Common.{IsInOrderButCounts, Placement, IsRunning}
 use Rattle.b67_stack.specs.declared.What.{What}
 use Rattle.b67_stack.specs.declared.What.TheVariants as what
-use Rattle.b67_stack.specs.Represents.{Storage}
-use Rattle.b67_layout_storage.specs.Machine.{Says, content_after}
+use Rattle.b67_stack.specs.Common.{Location, Storage}
+use Rattle.b67_layout_storage.specs.Machine.{Says, HasHole, content_after}
 use Rattle.b67_exec_cells.specs.Running.{code_area}
 use Rattle.b67_layout_step.proofs.OtherNumbers.{others_in_order}
 use Rattle.b67_task_tables.specs.declared.tables.TaskState.{TaskState}
 use Rattle.b67_task_tables.specs.declared.tables.Machine.{Machine}
 use Rattle.b67_task_tables.specs.declared.tables.Tasks.{Tasks}
 use Rattle.b67_task_tables.specs.Tables.{MachineRepresents}
-use Rattle.b67_mcp.specs.Called.{OnlyPrinted, IsFull, IsRefused, IsUnstarted, IsUnstartedFull, CallsDevice, MayWrite}
+use Rattle.b67_mcp.specs.Called.{IsCalled, OnlyPrinted, IsFull, IsRefused, IsUnstarted, IsUnstartedFull, CallsDevice, MayWrite}
 use Rattle.b67_mcp.proofs.Told.{told_is}
 use Rattle.b67_mcp.specs.declared.ends.Stop.{Stop}
 use Rattle.b67_mcp.specs.declared.ends.Stop.TheVariants as stops
-use Rattle.b67_presence.specs.Bringing.{StandsOver, IsWanted, WantsSome, StandsAgain, Brings}
+use Rattle.b67_presence.specs.Bringing.{StandsOver, IsWanted, WantsSome, StandsAgain, Brings, AreasStay, words_wanted}
 use Rattle.b67_layout_step.proofs.MoreOtherNumbers.{others_running, RunsOther}
 use Rattle.b67_presence.proofs.Others.{others_same, others_then}
 use Rattle.b67_session_attempt.specs.declared.outcomes.Attempt.{Attempt}
 use Rattle.b67_session_attempt.specs.declared.outcomes.Attempt.TheVariants as attempts
 use Rattle.b67_session_attempt.specs.declared.tries.Tried.{Tried}
 use Rattle.b67_session_attempt.specs.declared.tries.Tried.TheVariants as tries
-use Rattle.b67_session_attempt.specs.Tries.{IsTouched, TryMeets, TryFits, TryWrites}
-use Rattle.b67_session_attempt.specs.Attempts.{RunsOver, ForEachOver, StillStands, StandsLacking, StandsShort, TakesSectors, AttemptMeets, Attempts, AttemptFits, TablesStay, WantsNothing}
+use Rattle.b67_session_attempt.specs.Tries.{IsTouched, EndsSo, LeavesAreas, TryMeets, TryFits, TryWrites}
+use Rattle.b67_session_attempt.specs.Attempts.{RunsOver, ForEachOver, StillStands, StandsLacking, StandsShort, HoleFits, segment_fits, array_fits, LacksRoom, TellsAfter, starts_task, makes_longer, TellsSectors, EndsWithin, AttemptMeets, Attempts, AttemptFits, IsNotFull, CallKeepsAreas, TablesStay, WantsNothing}
 use Rattle.b67_session_attempt.specs.Brought.{StopMeets, Stopped, BroughtFits}
+use Rattle.b67_session_attempt.proofs.Numbers.{code_of_step, same_array}
 
 abbrev Told : Type 0
 Told = Option (List (List ℕ))
@@ -96,21 +100,21 @@ module _ {B K : Type 0} (holds : B → Told) (taken : K → Option (List ℕ)) (
       (x, subst (λ d. MachineRepresents x d new plan s) (sym (told_is x.device (holds backing') says)) k)
 
   pub made_once : Try (Ok tries.Made) → Whole (Ok attempts.Made)
-  made_once meets = at_once (Ok attempts.Made) meets
+  made_once meets = at_once (Ok attempts.Made) meets.0
 
   pub ends_once : (ending : Ending) → backing' ≡ backing → Try (Ok (tries.Ends ending)) → Whole (Ok (attempts.Ends ending))
-  ends_once ending quiet meets = at_once (Ok (attempts.Ends ending)) (λ e. meets.0, silent quiet (unchanged x x.device plan s old new meets.1 h.stands), meets.2)
+  ends_once ending quiet meets = at_once (Ok (attempts.Ends ending)) (inl meets.0, silent quiet (unchanged x x.device plan s old new meets.1 h.stands), meets.2)
 
   abbrev refused : IsRefused x known plan s m t old new → need (length old.cpu.core) s m t ≤ length old.cpu.core → StandsLacking (x.device ≢ None) known (length old.cpu.core) new plan s m t
-  refused r fits = record { storage = r.storage; stands = r.stands; lacks = λ e. inr (inr (inl r.longer)); room = λ e. inl fits }
+  refused r fits = record { storage = r.storage; stands = r.stands; lacks = λ e. inr (inr (inl r.longer)); room = λ e. inl fits; code = λ e. code_of_step (length old.cpu.core) s m t o.peak_low fits }
 
   abbrev unstarted : IsUnstarted known plan s m t old new → need (length old.cpu.core) s m t ≤ length old.cpu.core → StandsLacking (x.device ≢ None) known (length old.cpu.core) new plan s m t
-  unstarted u fits = record { storage = u.storage; stands = u.stands; lacks = λ e. inr (inr (inr u.starts)); room = λ e. inl fits }
+  unstarted u fits = record { storage = u.storage; stands = u.stands; lacks = λ e. inr (inr (inr u.starts)); room = λ e. inl fits; code = λ e. code_of_step (length old.cpu.core) s m t o.peak_low fits }
 
   full : (sum size : ℕ) → need (length old.cpu.core) s m t ≤ length old.cpu.core → IsFull x known count plan s m t sum size old new ⊎ IsUnstartedFull known count plan s m t sum size old new
-      → TakesSectors s m t sum × (size ≡ count) × (count < sum) × StandsShort (x.device ≢ None) known (length old.cpu.core) new plan s m t
-  full sum size fits (inl f) = (inr (f.refused.longer, f.sum_is), f.size_is, f.exceeds, record { lacking = refused f.refused fits; wants = f.wants; free = f.free; short = f.short })
-  full sum size fits (inr u) = (inl u.sum_is, u.size_is, u.exceeds, record { lacking = unstarted u.unstarted fits; wants = u.wants; free = u.free; short = inl u.short })
+      → (size ≡ count) × (count < sum) × StandsShort (x.device ≢ None) known (length old.cpu.core) new plan s m t sum
+  full sum size fits (inl f) = (f.size_is, f.exceeds, record { lacking = refused f.refused fits; tells = inr (makes_longer f.refused.longer f.sum_is); wants = f.wants; free = f.free; short = f.short })
+  full sum size fits (inr u) = (u.size_is, u.exceeds, record { lacking = unstarted u.unstarted fits; tells = inr (starts_task u.unstarted.starts u.sum_is); wants = u.wants; free = u.free; short = inl u.short })
 
   pub waits_once : (state : TaskState) → backing' ≡ backing → Try (Ok (tries.Waits state)) → Whole (Ok (attempts.Waits state))
   waits_once state quiet meets = at_once (Ok (attempts.Waits state)) (meets.0, silent quiet (unchanged x x.device plan s old new meets.1 h.stands), meets.2)
@@ -123,13 +127,13 @@ module _ {B K : Type 0} (holds : B → Told) (taken : K → Option (List ℕ)) (
     by (stops.NoCore words size) quiet fits meets =
         let w = meets.0 in
         (w.words_is, w.size_is, (let above = w.exceeds in let is = w.words_is in omega (arith, above, is)), silent (quiet (λ w. w)) (unchanged x x.device plan s old new meets.1 h.stands), meets.2)
-    by (stops.BackingFull sum size) quiet fits meets = let f = full sum size fits meets.0 in (f.0, f.1, f.2, f.3, meets.1)
+    by (stops.BackingFull sum size) quiet fits meets = let f = full sum size fits meets.0 in (f.0, f.1, f.2, meets.1)
     by stops.BackingFault quiet fits meets = (⊎_elim (λ (r : IsRefused x known plan s m t old new). refused r fits) (λ (u : IsUnstarted known plan s m t old new). unstarted u fits) meets.0, meets.1)
 
   -- nothing was wanted where the device tells
-  pub gives_up_once : (ending : Ending) (found : What) → backing' ≡ backing → (x.device ≢ None → WantsNothing x plan m t) → Try (Ok (tries.Absent found)) → Whole (Ok (attempts.Ends ending))
-  gives_up_once ending found quiet none meets =
-      at_once (Ok (attempts.Ends ending)) (λ e. absurd (never taken known count x plan s m t old new paper paper' found (none e) meets), silent quiet (unchanged x x.device plan s old new meets.3 h.stands), meets.4)
+  pub gives_up_once : (found : What) → backing' ≡ backing → (x.device ≢ None → WantsNothing x plan m t) → Try (Ok (tries.Absent found)) → Whole (Ok (attempts.Ends (Faulted InvalidOperator)))
+  gives_up_once found quiet none meets =
+      at_once (Ok (attempts.Ends (Faulted InvalidOperator))) (inr (λ e. never taken known count x plan s m t old new paper paper' found (none e) meets, refl), silent quiet (unchanged x x.device plan s old new meets.3 h.stands), meets.4)
 
 -- what a try leaves of the tables
 module _ {K : Type 0} (taken : K → Option (List ℕ)) (told : Told) (count : ℕ) (x : Storage) (plan : Placement) (s : Session) (m : SessionJob) (t : Task) (old new : Machine) (paper paper' : K) where
@@ -176,6 +180,58 @@ stop_calls x plan m t (stops.BackingFull sum size) w = may_call x plan m t w
 stop_calls x plan m t stops.BackingFault w = may_call x plan m t w
 stop_calls x plan m t stops.PrintFault w = absurd w
 
+-- the device of a call that wasn't made
+pub still_holds : {D : Type 0} (holds : D → Told) (d d' : D) → d' ≡ d → Becomes holds d d' (λ all. all)
+still_holds holds d d' same = record { told = λ all e. ap holds same ∙ e }
+
+pub held_from : {D : Type 0} (holds : D → Told) (d mid d' : D) → mid ≡ d → Becomes holds mid d' (λ all. all) → Becomes holds d d' (λ all. all)
+held_from {D} holds d mid d' same b = let P : D → Type 0 = λ z. Becomes holds z d' (λ all. all) in subst P same b
+
+pub held_till : {D : Type 0} (holds : D → Told) (d mid d' : D) → d' ≡ mid → Becomes holds d mid (λ all. all) → Becomes holds d d' (λ all. all)
+held_till {D} holds d mid d' same b = let P : D → Type 0 = λ z. Becomes holds d z (λ all. all) in subst P (sym same) b
+
+-- and a stop of a call for too few sectors
+pub not_full_as : {A C : Type 0} (stop : Stop) → IsNotFull {A = A} (Err stop) → IsNotFull {A = C} (Err stop)
+not_full_as {A} {C} stop none sum size e = none sum size (let is : stop ≡ stops.BackingFull sum size = cc in ap Err is)
+
+-- nor was it made
+pub not_made : {A : Type 0} (stop : Stop) (made : A) → ◌≡◌ {A = Result A Stop} (Err stop) (Ok made) → ⊥
+not_made stop made e = let b : ⊥ = cc in b
+
+pub not_full_ok : {A : Type 0} (made : A) → IsNotFull (Ok made)
+not_full_ok made sum size e = absurd cc
+
+module _ {K : Type 0} (taken : K → Option (List ℕ)) (told : Told) (count : ℕ) (x : Storage) (plan : Placement) (s : Session) (m : SessionJob) (t : Task) (old new : Machine) (paper paper' : K) where
+  -- only a step stops so that may call the device
+  pub not_full_once : {A : Type 0} (stop : Stop) → TryMeets taken told count x plan s m t (Err stop) old new paper paper' → (CallsDevice m t → ⊥) → IsNotFull {A = A} (Err stop)
+  not_full_once (stops.NoCore words size') meets none sum size e = absurd cc
+  not_full_once (stops.BackingFull sum' size') meets none sum size e =
+      none (⊎_elim (λ (f : IsFull x told count plan s m t sum' size' old new). inl f.refused.longer) (λ (u : IsUnstartedFull told count plan s m t sum' size' old new). inr u.unstarted.starts) meets.0)
+  not_full_once stops.BackingFault meets none sum size e = absurd cc
+  not_full_once stops.PrintFault meets none sum size e = absurd cc
+
+  -- and it tells the sum after it
+  pub tells_once : (stop : Stop) (sum size : ℕ) → TryMeets taken told count x plan s m t (Err stop) old new paper paper' → stop ≡ stops.BackingFull sum size → TellsAfter s m t sum
+  tells_once (stops.NoCore words size') sum size meets e = absurd cc
+  tells_once (stops.BackingFull sum' size') sum size meets e =
+      let same : sum' ≡ sum = cc in
+      subst (λ (n : ℕ). TellsAfter s m t n) same
+      (⊎_elim (λ (f : IsFull x told count plan s m t sum' size' old new). makes_longer f.refused.longer f.sum_is) (λ (u : IsUnstartedFull told count plan s m t sum' size' old new). starts_task u.unstarted.starts u.sum_is) meets.0)
+  tells_once stops.BackingFault sum size meets e = absurd cc
+  tells_once stops.PrintFault sum size meets e = absurd cc
+
+-- a hole for the one thing that a step wants is one for what was found absent
+pub hole_for : (x : Storage) (plan : Placement) (s : Session) (m : SessionJob) (t : Task) → IsInOrderButCounts s → IsRunning plan s.jobs m t → (found : What) (words : ℕ) → IsWanted x plan m t found words → IsTouched plan m t found words → HoleFits x plan m t
+    → HasHole (words_wanted m t found words) x.spans
+hole_for x plan s m t o runs (what.Code d) words wanted touched (segment_fits none arrays room) = room
+hole_for x plan s m t o runs (what.Code d) words wanted touched (array_fits a code among absent is room) = absurd (code wanted.1)
+hole_for x plan s m t o runs (what.Array home) words wanted touched (segment_fits none arrays room) = absurd (wanted.code none)
+hole_for x plan s m t o runs (what.Array home) words wanted touched (array_fits a code among absent is room) =
+    let (b, there, home_is, touches, count) = touched in
+    let same : a.identity ≡ b.identity = same_Some a.identity b.identity (sym is ∙ touches) in
+    let alike : length a.numbers ≡ length b.numbers = same_array plan s m t o runs a b among there same in
+    subst (λ (n : ℕ). HasHole (n + 2) x.spans) (alike ∙ sym count) room
+
 -- and where what was wanted wasn't brought in
 pub room_after_want : (core size : ℕ) (x : Storage) (plan : Placement) (s : Session) (m : SessionJob) (t : Task) (stop : Stop) → size ≡ core → stop ≢ stops.PrintFault → BroughtFits size x plan s m t (Err stop) → AttemptFits core x plan s m t (Err stop)
 room_after_want core size x plan s m t (stops.NoCore words size') e other fits = tt
@@ -191,20 +247,30 @@ fits_from core x y plan s m t (Err (stops.BackingFull sum size)) code fits = λ 
 fits_from core x y plan s m t (Err stops.BackingFault) code fits = λ here. fits code
 fits_from core x y plan s m t (Err stops.PrintFault) code fits = fits
 
+-- over a device that tells, a task ends as its step says
+pub ends_exact : (exact : Type 0) (m : SessionJob) (t : Task) (ending : Ending) → exact → EndsWithin exact m t ending → EndsSo m t ending
+ends_exact exact m t ending tells (inl so) = so
+ends_exact exact m t ending tells (inr other) = absurd (other.0 tells)
+
 -- less is told of a device that tells nothing
 module _ {K : Type 0} (taken : K → Option (List ℕ)) (told : Told) (exact other : Type 0) (core count before : ℕ) (plan : Placement) (s : Session) (m : SessionJob) (t : Task) (new : Machine) (paper paper' : K) (f : other → exact) where
   weaker : (answered : Result Attempt Stop) → AttemptMeets taken told exact core count before plan s m t answered new paper paper' → AttemptMeets taken told other core count before plan s m t answered new paper paper'
   weaker (Ok attempts.Made) meets = meets
-  weaker (Ok (attempts.Ends ending)) meets = (λ e. meets.0 (f e), meets.1, meets.2)
+  weaker (Ok (attempts.Ends ending)) meets =
+      (⊎_elim (λ (so : EndsSo m t ending). inl so) (λ (other_code : (exact → ⊥) × (ending ≡ Faulted InvalidOperator)). inr (λ e. other_code.0 (f e), other_code.1)) meets.0, meets.1, meets.2)
   weaker (Ok (attempts.Waits state)) meets = meets
   weaker (Err (stops.NoCore words size)) meets = meets
   weaker (Err (stops.BackingFull sum size)) meets =
-      let z = meets.3 in
+      let z = meets.2 in
       let y = z.lacking in
-      (meets.0, meets.1, meets.2, record { lacking = record { storage = y.storage; stands = y.stands; lacks = λ e. y.lacks (f e); room = λ e. y.room (f e) }; wants = z.wants; free = z.free; short = z.short }, meets.4)
+      let tells : TellsSectors other y.storage plan s m t sum = ⊎_elim
+      (λ (wanted : (exact → LacksRoom y.storage plan m t) × (sum ≡ sectors s.jobs)). inl (λ e. wanted.0 (f e), wanted.1))
+      (λ (after : TellsAfter s m t sum). inr after)
+      z.tells in
+      (meets.0, meets.1, record { lacking = record { storage = y.storage; stands = y.stands; lacks = λ e. y.lacks (f e); room = λ e. y.room (f e); code = λ e. y.code (f e) }; tells = tells; wants = z.wants; free = z.free; short = z.short }, meets.3)
   weaker (Err stops.BackingFault) meets =
       let y = meets.0 in
-      (record { storage = y.storage; stands = y.stands; lacks = λ e. y.lacks (f e); room = λ e. y.room (f e) }, meets.1)
+      (record { storage = y.storage; stands = y.stands; lacks = λ e. y.lacks (f e); room = λ e. y.room (f e); code = λ e. y.code (f e) }, meets.1)
   weaker (Err stops.PrintFault) meets = meets
 
 -- an attempt that goes on in the session that stands again
@@ -234,7 +300,7 @@ pub stopped_attempt : {K : Type 0} (taken : K → Option (List ℕ)) (x : Storag
 stopped_attempt taken x told core count before plan s t stop new paper a = record { jobs = a.jobs; others = a.others; same = a.same; member = a.member; running = a.running; meets = by stop a.meets } where
   by : (why : Stop) → StopMeets told (x.device ≢ None) core count plan (record s { jobs = a.jobs }) a.member t why new → AttemptMeets taken told (x.device ≢ None) core count before plan (record s { jobs = a.jobs }) a.member t (Err why) new paper paper
   by (stops.NoCore words size) meets = (meets.0, meets.1, meets.2, meets.3, refl)
-  by (stops.BackingFull sum size) meets = (inl meets.0, meets.1, meets.2, meets.3, refl)
+  by (stops.BackingFull sum size) meets = (meets.0, meets.1, meets.2, refl)
   by stops.BackingFault meets = (meets, refl)
   by stops.PrintFault meets = absurd meets
 
@@ -277,6 +343,25 @@ module _ (x : Storage) (told : Told) (k : Machine) (plan : Placement) (s : Sessi
             d.there (ap (λ (at : ℕ). (d.again.storage.held at).area) (sym home_is ∙ ap (plan.home m.constants.number) same) ∙ none);
       }
 
+  -- what was brought into a hole was the one thing that was wanted
+  wants_no_more : (wanted : What) (words : ℕ) → HoleFits x plan m t → IsWanted x plan m t wanted words → IsTouched plan m t wanted words → (c : Brings x told k plan s m t wanted) → AreasStay x c.again.storage → WantsNothing c.again.storage plan m t
+  wants_no_more (what.Code displacement) words (segment_fits none arrays room) w touched c stay = record {
+    code = c.code;
+    array = λ a is none. arrays a is (sym (stay (plan.home m.constants.number a) (arrays a is)) ∙ none);
+  }
+  wants_no_more (what.Code displacement) words (array_fits a code among absent is room) w touched c stay = absurd (code w.1)
+  wants_no_more (what.Array home) words fits w touched c stay = nothing (what.Array home) words w.code w touched c c
+
+  pub then_nothing : (words : ℕ) → HoleFits x plan m t → IsWanted x plan m t found words → IsTouched plan m t found words → AreasStay x b.again.storage → x.device ≢ None → WantsNothing b.again.storage plan other.member t
+  then_nothing words fits w touched stay tells =
+      let W : SessionJob → Type 0 = λ z. WantsNothing b.again.storage plan z t in
+      subst W (sym (member_is (b.again.same tells))) (wants_no_more found words fits w touched b stay)
+
+  pub no_call : x.device ≢ None → (CallsDevice m t → ⊥) → CallsDevice other.member t → ⊥
+  no_call tells none =
+      let W : SessionJob → Type 0 = λ z. CallsDevice z t → ⊥ in
+      subst W (sym (member_is (b.again.same tells))) none
+
   pub wants_nothing : (words : ℕ) → code_area x plan m t ≢ None → IsWanted x plan m t found words → IsTouched plan m t found words → b.again.storage.device ≢ None → WantsNothing b.again.storage plan other.member t
   wants_nothing words code w touched n =
       let P : Told → Type 0 = λ d. d ≢ None in
@@ -298,6 +383,31 @@ module _ (x : Storage) (told : Told) (k : Machine) (plan : Placement) (s : Sessi
       let M : SessionJob → Type 0 = λ y. AttemptFits core x plan (record s { jobs = b.again.jobs }) y t answered in
       let S : List SessionJob → Type 0 = λ jobs. AttemptFits core x plan (record s { jobs = jobs }) m t answered in
       subst S same (subst M (member_is x told k plan s m t o runs found b same) (subst C e here))
+
+-- what was held as it was lies in the same area
+pub keeps_areas : {K : Type 0} (taken : K → Option (List ℕ)) (x : Storage) (told : Told) (before : ℕ) (plan : Placement) (s : Session) (m : SessionJob) (t : Task) (new : Machine) (paper paper' : K)
+    → (c : IsCalled taken paper paper' told s m t before new) × LeavesAreas x c.storage plan c.plan m t c.job → CallKeepsAreas taken x told before plan s m t new paper paper'
+keeps_areas taken x told before plan s m t new paper paper' (called, rest) = (called, λ no_process no_resize home some gone other. ap (λ (l : Location). l.area) (rest no_process no_resize home gone other))
+
+-- and so it does after what was wanted was brought into a hole
+module _ {K : Type 0} (taken : K → Option (List ℕ)) (x : Storage) (told after : Told) (k last : Machine) (before printed : ℕ) (plan : Placement) (s : Session) (m : SessionJob) (t : Task) (o : IsInOrderButCounts s) (runs : IsRunning plan s.jobs m t) (found : What) (b : Brings x told k plan s m t found)
+    (n : x.device ≢ None) (tells : x.device ≢ None → told ≢ None) (paper first paper' : K) (same_paper : first ≡ paper) (same_printed : printed ≡ before) (stay : AreasStay x b.again.storage) where
+  pub areas_kept : CallKeepsAreas taken b.again.storage (content_after b.again.storage.device after) printed plan (record s { jobs = b.again.jobs }) (other x told k plan s m t o runs found b).member t last first paper'
+      → CallKeepsAreas taken x (content_after x.device after) before plan s m t last paper paper'
+  areas_kept (called, rest) =
+      let y = b.again.storage in
+      let z = (other x told k plan s m t o runs found b).member in
+      let same = b.again.same n in
+      let H : Told → Session → SessionJob → ℕ → K → Type 0 = λ d q v count p. CallKeepsAreas taken x d count plan q v t last p paper' in
+      let it : H (content_after y.device after) (record s { jobs = b.again.jobs }) z printed first = (
+        called,
+        λ no_process no_resize home some gone elsewhere.
+            rest no_process no_resize home (λ none. some (sym (stay home some) ∙ none)) gone elsewhere ∙ stay home some,
+      ) in
+      let there : H (content_after x.device after) (record s { jobs = b.again.jobs }) z printed first = subst (λ (d : Told). H d (record s { jobs = b.again.jobs }) z printed first) (retold_same taken x told after k 0 0 0 plan s t b.again tells) it in
+      let mine : H (content_after x.device after) (record s { jobs = b.again.jobs }) m printed first = subst (λ (v : SessionJob). H (content_after x.device after) (record s { jobs = b.again.jobs }) v printed first) (member_is x told k plan s m t o runs found b same) there in
+      let here : H (content_after x.device after) s m printed first = subst (λ (js : List SessionJob). H (content_after x.device after) (record s { jobs = js }) m printed first) same mine in
+      subst (λ (p : K). H (content_after x.device after) s m before p) same_paper (subst (λ (count : ℕ). H (content_after x.device after) s m count first) same_printed here)
 
 -- what is wanted, where the try changed nothing
 pub wants_some : {K : Type 0} (taken : K → Option (List ℕ)) (told told' after : Told) (count : ℕ) (old new : Machine) (paper paper' : K) (found : What) (r : RunsOver old told) → told' ≡ told

@@ -1,7 +1,7 @@
 -- The core that a step needs, where its code or the array that it touches is wanted.
-use Rattle.std.proofs.Common.{◌≡◌, ◌≢◌, ℕ, ◌+◌, ◌*◌, ◌<◌, ◌≤◌, cond, Bool, List, length, Option, Some, None, unwrap_or, refl, sym, ◌∙◌, ap, arith, subst}
+use Rattle.std.proofs.Common.{◌≡◌, ◌≢◌, ℕ, ◌+◌, ◌*◌, ◌<◌, ◌≤◌, cond, Bool, ◌⊎◌, ⊎_elim, List, length, Option, Some, None, unwrap_or, refl, sym, ◌∙◌, ap, arith, subst}
 use Rattle.std.specs.Prelude.{max}
-use Rattle.std.proofs.lemmas.Bool.{lt-ltb, le-ltb}
+use Rattle.std.proofs.lemmas.Bool.{lt-ltb, le-ltb, cases_lt}
 use Rattle.b67_area.proofs.Laws.{area_inside}
 use Rattle.b67_model.specs.Keyed.{keyed}
 use Rattle.b67_model.specs.Common.{Array, Task, Job, SessionJob, no_array, array, fixed, touched_of, started_by, area_of, need, code_of, step, live_tasks, Session, ArrayInOrder}
@@ -20,6 +20,7 @@ use Rattle.b67_presence.specs.Bringing.{IsWanted}
 use Rattle.b67_presence.proofs.Wants.{array_area-some}
 use Rattle.b67_session_attempt.specs.Tries.{IsTouched}
 use Rattle.b67_session_attempt.proofs.Started.{none_started}
+use Rattle.b67_lemmas.specs.Lists.{Has}
 use Rattle.b67_lemmas.proofs.Members.{all_in, keyed_falls}
 
 module _ (core : ℕ) (s : Session) (m : SessionJob) (t : Task) (low : live_tasks s.jobs ≤ s.peak) where
@@ -56,9 +57,27 @@ module _ (core : ℕ) (s : Session) (m : SessionJob) (t : Task) (low : live_task
       ∙ ap (λ (k : ℕ). k + area) base_is
       ∙ ap (λ (o : Option ℕ). need_with s m t 0 0 + area_of m.progress.job o) touched
 
+  -- core has room for the code where it has for the step
+  pub code_of_step : need core s m t ≤ core → need_with s m t 0 0 ≤ core
+  code_of_step fits = ⊎_elim
+      (λ (above : core < need_with s m t 0 0). let is = need_code above in absurd (omega (arith, above, is, fits)))
+      (λ (under : need_with s m t 0 0 ≤ core). under)
+      (cases_lt core (need_with s m t 0 0))
+
+-- and where it has for an array beside it
+pub code_beside : (core : ℕ) (s : Session) (m : SessionJob) (t : Task) (words : ℕ) → need_with s m t 0 words ≤ core → need_with s m t 0 0 ≤ core
+code_beside core s m t words fits = let none : array_area 0 ≡ 0 = refl in omega (arith, fits, none)
+
 -- an array of a job, by its identity
 array_is : (job : Job) (a : Array) → keyed (λ (z : Array). z.identity) a.identity job.arrays ≡ Some a → array job a.identity ≡ a
 array_is job a e = ap (λ (o : Option Array). unwrap_or o no_array) e
+
+-- arrays of a job with one identity are as long
+pub same_array : (plan : Placement) (s : Session) (m : SessionJob) (t : Task) → IsInOrderButCounts s → IsRunning plan s.jobs m t → (a b : Array) → Has m.progress.job.arrays a → Has m.progress.job.arrays b → a.identity ≡ b.identity → length a.numbers ≡ length b.numbers
+same_array plan s m t o runs a b there here same =
+    let order = (running_in_order plan s m t o runs).0.tasks in
+    let by_name : (z : Array) → Has m.progress.job.arrays z → array m.progress.job z.identity ≡ z = λ z among. array_is m.progress.job z (keyed_falls (λ (y : Array). y.identity) m.progress.job.next_array m.progress.job.arrays z order.names among) in
+    ap (λ (z : Array). length z.numbers) (sym (by_name a there) ∙ ap (array m.progress.job) same ∙ by_name b here)
 
 module _ (x : Storage) (told : Option (List (List ℕ))) (k : Machine) (plan : Placement) (s : Session) (m : SessionJob) (t : Task) (o : IsInOrderButCounts s) (h : MachineRepresents x told k plan s) (runs : IsRunning plan s.jobs m t) where
   -- the running segment's area lies in core, behind the stacks

@@ -8,7 +8,7 @@ use Rattle.b67_backing.specs.declared.refusals.SpaceFault.TheVariants as space
 use Rattle.b67_stack.specs.declared.What.{What}
 use Rattle.b67_stack.specs.declared.What.TheVariants as what
 use Rattle.b67_stack.specs.Represents.{Storage}
-use Rattle.b67_layout_storage.specs.Machine.{content_after}
+use Rattle.b67_layout_storage.specs.Machine.{HasHole, content_after}
 use Rattle.b67_exec_cells.specs.Running.{code_area}
 use Rattle.b67_task_need.specs.Needing.{need_with}
 use Rattle.b67_layout_step.proofs.OtherNumbers.{others_in_order}
@@ -16,14 +16,14 @@ use Rattle.b67_task_tables.specs.declared.tables.Machine.{Machine}
 use Rattle.b67_task_tables.specs.Tables.{MachineRepresents}
 use Rattle.b67_mcp.specs.declared.ends.Stop.{Stop}
 use Rattle.b67_mcp.specs.declared.ends.Stop.TheVariants as stops
-use Rattle.b67_presence.specs.Bringing.{StandsOver, IsWanted, StandsAgain, Lacks, Refused, RefusedFull}
+use Rattle.b67_presence.specs.Bringing.{StandsOver, IsWanted, StandsAgain, Lacks, Refused, HasNoRoom, RefusedFull}
 use Rattle.b67_layout_step.proofs.MoreOtherNumbers.{others_running, RunsOther}
 use Rattle.b67_presence.proofs.Others.{others_same, others_sectors}
 use Rattle.b67_session_attempt.specs.Tries.{IsTouched}
-use Rattle.b67_session_attempt.specs.Attempts.{IsLacking}
+use Rattle.b67_session_attempt.specs.Attempts.{IsLacking, LacksRoom, for_segment, for_array, CodeFits}
 use Rattle.b67_session_attempt.specs.Brought.{Stopped, BroughtFits}
 use Rattle.b67_mcp.specs.Stopping.{StopsFor}
-use Rattle.b67_session_attempt.proofs.Numbers.{need_of, need_fits}
+use Rattle.b67_session_attempt.proofs.Numbers.{need_of, need_fits, code_beside}
 use Rattle.b67_mcp.proofs.Told.{told_is}
 use Rattle.b67_session_attempt.proofs.Composed.{unchanged, same_member}
 
@@ -59,6 +59,13 @@ module _ (x : Storage) (told told' : Option (List (List ℕ))) (old new : Machin
   room y (what.Code displacement) want touch absent low = inr absent
   room y (what.Array home) want touch absent low = inl (need_fits x x.device old plan s m t o h.stands runs home words want touch low)
 
+  -- no hole has room for what is absent
+  lacks_room : (y : Storage) (home : What) → IsTouched plan m t home words → HasNoRoom y home words plan m t → LacksRoom y plan m t
+  lacks_room y (what.Code displacement) touch none = for_segment none.0 none.1
+  lacks_room y (what.Array home) touch none =
+      let (a, among, home_is, is, count_is) = touch in
+      for_array a none.0 among (ap (λ (at : ℕ). (y.held at).area) home_is ∙ none.1) is (λ hole. none.2 (subst (λ (n : ℕ). HasHole (n + 2) y.spans) (sym count_is) hole))
+
   -- where the running segment was present
   present_room : (home : What) → IsWanted x plan m t home words → IsTouched plan m t home words → need_with s m t 0 words ≤ length old.cpu.core → code_area x plan m t ≢ None → need (length old.cpu.core) s m t ≤ length old.cpu.core
   present_room (what.Code displacement) want touch low code = absurd (code want.1)
@@ -84,8 +91,19 @@ module _ (x : Storage) (told told' : Option (List (List ℕ))) (old new : Machin
         let J : List SessionJob → Type 0 = λ jobs. (need (length old.cpu.core) (record s { jobs = jobs }) m t ≤ length old.cpu.core) ⊎ (code_area again.storage plan m t ≡ None) in
         subst M (sym (same_member plan s again.jobs m t runs other (again.same n))) (subst J (sym (again.same n)) (room again.storage found wanted touched absent low))
 
+    code_again : need_with s m t 0 words ≤ length old.cpu.core → x.device ≢ None → CodeFits (length old.cpu.core) (record s { jobs = again.jobs }) other.member t
+    code_again low n =
+        let M : SessionJob → Type 0 = λ z. CodeFits (length old.cpu.core) (record s { jobs = again.jobs }) z t in
+        let J : List SessionJob → Type 0 = λ jobs. CodeFits (length old.cpu.core) (record s { jobs = jobs }) m t in
+        subst M (sym (same_member plan s again.jobs m t runs other (again.same n))) (subst J (sym (again.same n)) (code_beside (length old.cpu.core) s m t words low))
+
+    no_room_again : HasNoRoom again.storage found words plan m t → x.device ≢ None → LacksRoom again.storage plan other.member t
+    no_room_again none n =
+        let M : SessionJob → Type 0 = λ z. LacksRoom again.storage plan z t in
+        subst M (sym (same_member plan s again.jobs m t runs other (again.same n))) (lacks_room again.storage found touched none)
+
   -- a refusal for want of sectors, and by the device
-  full_so : (sum size wants free : ℕ) (r : RefusedFull x told' new plan s m t found wants free) → ((y : Storage) (d : Option (List (List ℕ))) (p : Placement) (z : Session) → IsInOrderButCounts z → MachineRepresents y d new p z → sum ≡ sectors z.jobs)
+  full_so : (sum size wants free : ℕ) (r : RefusedFull x told' new plan s m t found words wants free) → ((y : Storage) (d : Option (List (List ℕ))) (p : Placement) (z : Session) → IsInOrderButCounts z → MachineRepresents y d new p z → sum ≡ sectors z.jobs)
       → size ≡ count → count < sectors s.jobs → need_with s m t 0 words ≤ length old.cpu.core → Stopped x (content_after x.device told') (length old.cpu.core) count plan s t (stops.BackingFull sum size) new
   full_so sum size wants free r sums size_is below low =
       let again = r.refused.again in
@@ -97,11 +115,11 @@ module _ (x : Storage) (told told' : Option (List (List ℕ))) (old new : Machin
         member = (other again).member;
         running = (other again).runs;
         meets = (
-          is,
           size_is,
           omega (arith, below, is, others_sectors s.jobs again.jobs again.others),
           record {
-            lacking = record { storage = again.storage; stands = stands_told again; lacks = lacks_again again r.refused.lacks; room = room_again again r.refused.lacks low };
+            lacking = record { storage = again.storage; stands = stands_told again; lacks = lacks_again again r.refused.lacks; room = room_again again r.refused.lacks low; code = code_again again low };
+            tells = inl (no_room_again again r.no_room, is);
             wants = wants;
             free = free;
             short = inl r.short;
@@ -118,7 +136,7 @@ module _ (x : Storage) (told told' : Option (List (List ℕ))) (old new : Machin
         same = again.same;
         member = (other again).member;
         running = (other again).runs;
-        meets = record { storage = again.storage; stands = stands_told again; lacks = lacks_again again r.lacks; room = room_again again r.lacks low };
+        meets = record { storage = again.storage; stands = stands_told again; lacks = lacks_again again r.lacks; room = room_again again r.lacks low; code = code_again again low };
       }
 
   -- core has room where that isn't the reason
@@ -143,7 +161,7 @@ module _ (x : Storage) (told told' : Option (List (List ℕ))) (old new : Machin
       → ((words' size : ℕ) → fault ≡ space.NoCore words' size → (length old.cpu.core < need_with s m t 0 words) × (words' ≡ need_with s m t 0 words) × (size ≡ length old.cpu.core))
       → (length old.cpu.core < need_with s m t 0 words → fault ≡ space.NoCore (need_with s m t 0 words) (length old.cpu.core))
       → ((words' size : ℕ) → fault ≡ space.NoCore words' size → (new ≡ old) × (told' ≡ told))
-      → ((wants free : ℕ) → fault ≡ space.BackingFull wants free → (count < sectors s.jobs) × RefusedFull x told' new plan s m t found wants free)
+      → ((wants free : ℕ) → fault ≡ space.BackingFull wants free → (count < sectors s.jobs) × RefusedFull x told' new plan s m t found words wants free)
       → Stopped x (content_after x.device told') (length old.cpu.core) count plan s t stop new
   stopped_so refused (space.NoCore words' size) stop h links core exactly same full =
       let (above, is, size_is) = core words' size refl in
@@ -159,3 +177,9 @@ module _ (x : Storage) (told told' : Option (List (List ℕ))) (old new : Machin
       let S : Stop → Type 0 = λ z. Stopped x (content_after x.device told') (length old.cpu.core) count plan s t z new in
       let low = has_room space.BackingFault (λ a b e. absurd cc) exactly in
       subst S (sym h) (fault_so refused low)
+
+-- a stop for too few sectors is that of the call
+pub full_fault : (k : Machine) (fault : SpaceFault) (stop : Stop) (sum size : ℕ) → StopsFor k fault stop → stop ≡ stops.BackingFull sum size → (wants : ℕ) × (free : ℕ) × (fault ≡ space.BackingFull wants free)
+full_fault k (space.NoCore words free) stop sum size h e = let d = sym h ∙ e in absurd cc
+full_fault k (space.BackingFull wants free) stop sum size h e = (wants, free, refl)
+full_fault k space.BackingFault stop sum size h e = let d = sym h ∙ e in absurd cc

@@ -16,9 +16,9 @@ use Rattle.b67_layout_step.proofs.Laws.{touches_arrays}
 use Rattle.b67_session_attempt.specs.Makes.{OperatorMade, CallsOrMakes, MakesAt}
 use Rattle.b67_mcp.specs.declared.ends.Stop.{Stop}
 use Rattle.b67_mcp.specs.declared.ends.Stop.TheVariants as stops
-use Rattle.b67_mcp.specs.Called.{IsCalled, TouchesAbsent, CallMeets, CallWrites}
+use Rattle.b67_mcp.specs.Called.{IsCalled, StaysInPlace, TouchesAbsent, CallMeets, CallWrites}
 use Rattle.b67_presence.specs.Bringing.{IsWanted}
-use Rattle.b67_session_attempt.specs.Tries.{IsTouched, TryMeets, TryWrites}
+use Rattle.b67_session_attempt.specs.Tries.{IsTouched, LeavesAreas, TryMeets, TryWrites}
 use Rattle.b67_mcp.proofs.Still.{stands_peak}
 use Rattle.b67_session_attempt.proofs.Still.{operator_many}
 use Rattle.b67_lemmas.proofs.Members.{keyed_has}
@@ -98,22 +98,29 @@ nothing_left zero = refl
 nothing_left (suc n) = refl
 
 pub called_made : {K : Type 0} (taken : K → Option (List ℕ)) (paper : K) (x : Storage) (told : Option (List (List ℕ))) (plan : Placement) (s : Session) (m : SessionJob) (t : Task) (old new : Machine) → IsInOrderButCounts s → IsRunning plan s.jobs m t → called_in m t ≡ None → new.tasks ≡ old.tasks
-    → OperatorMade x told plan s m t old new → IsCalled taken paper paper told s m t old.tasks.printed new
-called_made taken paper x told plan s m t old new o runs none tables h = record {
-  job = h.job;
-  printed = [];
-  touched = h.touched;
-  is = h.is;
-  storage = h.storage;
-  plan = plan;
-  stands = stands_peak h.storage told new plan s m h.job o.peak_low (operator_many m t runs.task none h.job [] h.touched h.is) h.stands;
-  text = record { rest = []; took = record { told = λ before e. e ∙ ap Some (sym (append-nil before)) }; same = nothing_left old.tasks.printed };
-  reset = ap (λ (k : Tasks). k.printed) tables;
-}
+    → OperatorMade x told plan s m t old new → (c : IsCalled taken paper paper told s m t old.tasks.printed new) × LeavesAreas x c.storage plan c.plan m t c.job
+called_made taken paper x told plan s m t old new o runs none tables h = (
+  record {
+    job = h.job;
+    printed = [];
+    touched = h.touched;
+    is = h.is;
+    storage = h.storage;
+    plan = plan;
+    stands = stands_peak h.storage told new plan s m h.job o.peak_low (operator_many m t runs.task none h.job [] h.touched h.is) h.stands;
+    text = record { rest = []; took = record { told = λ before e. e ∙ ap Some (sym (append-nil before)) }; same = nothing_left old.tasks.printed };
+    reset = ap (λ (k : Tasks). k.printed) tables;
+  },
+  λ no_process no_resize home gone other. h.released.others home gone,
+)
 
 -- an intrinsic's call is the try's
-pub called_so : {K : Type 0} (taken : K → Option (List ℕ)) (told : Option (List (List ℕ))) (s : Session) (m : SessionJob) (t : Task) (first old new : Machine) (paper paper' : K) → old ≡ first → IsCalled taken paper paper' told s m t old.tasks.printed new → IsCalled taken paper paper' told s m t first.tasks.printed new
-called_so taken told s m t first old new paper paper' same h = let P : Machine → Type 0 = λ k. IsCalled taken paper paper' told s m t k.tasks.printed new in subst P same h
+pub called_so : {K : Type 0} (taken : K → Option (List ℕ)) (x : Storage) (told : Option (List (List ℕ))) (plan : Placement) (s : Session) (m : SessionJob) (t : Task) (first old new : Machine) (paper paper' : K) → old ≡ first
+    → (c : IsCalled taken paper paper' told s m t old.tasks.printed new) × StaysInPlace x c.storage plan c.plan m t c.job
+    → (c : IsCalled taken paper paper' told s m t first.tasks.printed new) × LeavesAreas x c.storage plan c.plan m t c.job
+called_so taken x told plan s m t first old new paper paper' same (called, rest) =
+    let P : Machine → Type 0 = λ k. (c : IsCalled taken paper paper' told s m t k.tasks.printed new) × LeavesAreas x c.storage plan c.plan m t c.job in
+    subst P same (called, λ no_process no_resize home gone other. rest no_process no_resize home other)
 
 -- an intrinsic's stop is the try's
 pub stops_so : {K : Type 0} (taken : K → Option (List ℕ)) (told : Option (List (List ℕ))) (count : ℕ) (x : Storage) (plan : Placement) (s : Session) (m : SessionJob) (t : Task) (n : ℕ) (stop : Stop) (first old new : Machine) (paper paper' : K) → called_in m t ≡ Some n → old ≡ first

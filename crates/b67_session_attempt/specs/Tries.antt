@@ -1,18 +1,20 @@
 -- What one try at the next operator of the running task answers and leaves.
-use Rattle.std.specs.Prelude.{◌≡◌, ℕ, ◌≤◌, ◌⊎◌, List, length, Option, Some, Result, Ok, Err}
+use Rattle.std.specs.Prelude.{◌≡◌, ◌≢◌, ℕ, ◌≤◌, ◌⊎◌, List, length, Option, Some, Result, Ok, Err}
 use Rattle.b67_word.specs.declared.faults.Ending.{Ending}
 use Rattle.b67_word.specs.declared.faults.Ending.TheVariants.{Ended, Faulted}
 use Rattle.b67_lemmas.specs.Lists.{Has}
-use Rattle.b67_model.specs.Common.{Array, Ready, Task, SessionJob, Leaves, step, touched_of, need, Session}
+use Rattle.b67_model.specs.Common.{Array, Ready, Task, Job, SessionJob, Leaves, step, touched_of, need, Session}
 use Rattle.b67_stack.specs.declared.What.{What}
 use Rattle.b67_stack.specs.declared.What.TheVariants as what
 use Rattle.b67_stack.specs.Represents.{Storage}
 use Rattle.b67_layout_storage.specs.Machine.{Says, content_after}
-use Rattle.b67_layout.specs.Placement.{Placement}
+use Rattle.b67_layout.specs.Common.{Placement, objects_gone}
+use Rattle.b67_exec_cells.specs.Called.{called_in}
+use Rattle.b67_task_release.specs.Released.{HasHome}
 use Rattle.b67_presence.specs.Bringing.{IsWanted}
 use Rattle.b67_task_tables.specs.declared.tables.Machine.{Machine}
 use Rattle.b67_task_tables.specs.Runs.{RunsTask}
-use Rattle.b67_mcp.specs.Called.{IsCalled, IsCut, IsFull, IsRefused, IsUnstarted, IsUnstartedFull, LacksCore, MayWrite, OnlyPrinted, WaitsSo}
+use Rattle.b67_mcp.specs.Called.{IsCalled, HoldsOther, IsCut, IsFull, IsRefused, IsUnstarted, IsUnstartedFull, LacksCore, MayWrite, OnlyPrinted, WaitsSo}
 use Rattle.b67_mcp.specs.declared.ends.Stop.{Stop}
 use Rattle.b67_mcp.specs.declared.ends.Stop.TheVariants as stops
 use Rattle.b67_session_attempt.specs.declared.tries.Tried.{Tried}
@@ -36,11 +38,19 @@ EndsSo m t Ended = step m.constants m.progress.job t ≡ Ok Leaves
 EndsSo m t (Faulted fault) = step m.constants m.progress.job t ≡ Err fault
 EndsSo m t _ = ⊥
 
+-- after a step that was made everything is held as it was, in the same areas and the same sectors, but the arrays of a record
+-- that it leaves, and one that DEALLOCATE empties or ARRAYDEC makes. Of PROCESS and RESIZE that isn't said
+abbrev pub LeavesAreas : Storage → Storage → Placement → Placement → SessionJob → Task → Job → Type 0
+LeavesAreas x y plan after m t job =
+    called_in m t ≢ Some 12 → called_in m t ≢ Some 18 → (home : ℕ) → (HasHome (objects_gone plan m job) home → ⊥) → (HoldsOther plan after m t job home → ⊥)
+    → y.held home ≡ x.held home
+
 -- By what was answered, over a device of so many sectors that tells this afterwards. Where the step wasn't made nothing has
 -- changed but, after a printer's failure, how much is printed, and, after a want of sectors or a device's failure, where the
 -- array is held that was to become longer, or which areas are present
 abbrev pub TryMeets : {K : Type 0} → (K → Option (List ℕ)) → Option (List (List ℕ)) → ℕ → Storage → Placement → Session → SessionJob → Task → Result Tried Stop → Machine → Machine → K → K → Type 0
-TryMeets taken told count x plan s m t (Ok tries.Made) old new paper paper' = IsCalled taken paper paper' told s m t old.tasks.printed new
+TryMeets taken told count x plan s m t (Ok tries.Made) old new paper paper' =
+    (c : IsCalled taken paper paper' told s m t old.tasks.printed new) × LeavesAreas x c.storage plan c.plan m t c.job
 TryMeets taken told count x plan s m t (Ok (tries.Absent found)) old new paper paper' =
     (words : ℕ) × IsWanted x plan m t found words × IsTouched plan m t found words × (new ≡ old) × (paper' ≡ paper)
 TryMeets taken told count x plan s m t (Ok (tries.Ends ending)) old new paper paper' = EndsSo m t ending × (new ≡ old) × (paper' ≡ paper)

@@ -1,11 +1,12 @@
 //! The next operator, with what it wants brought into core.
 
-ghost use Rattle.std.specs.Prelude.{◌≡◌, ◌≢◌, ◌+◌, None, length};
+ghost use Rattle.std.specs.Prelude.{◌≡◌, ◌≢◌, ◌+◌, None, Ok, length};
 ghost use Rattle.b67_layout_storage.specs.Machine.{DeviceAfterCalls, content_after};
 ghost use Rattle.b67_exec_cells.specs.Running.{code_area};
-ghost use Rattle.b67_mcp.specs.Called.{AreCountable};
+ghost use Rattle.b67_mcp.specs.Called.{AreCountable, CallsDevice};
 ghost use Rattle.b67_mcp.specs.Running.{CanNumber, JobsHaveRoom, CallCauses, Kept};
-ghost use Rattle.b67_session_attempt.specs.Attempts.{RunsOver, ForEachOver, WantsNothing, Attempts, AttemptFits, AttemptRow, TablesStay};
+ghost use Rattle.b67_session_attempt.specs.Attempts.{RunsOver, ForEachOver, WantsNothing, Attempts, AttemptFits, AttemptRow, IsCalm, CallKeepsAreas, TablesStay};
+ghost use Rattle.b67_session_attempt.specs.declared.outcomes.Attempt.TheVariants as attempts;
 
 use crate::bringing::bring_wanted;
 use crate::outcomes::Attempt;
@@ -30,6 +31,7 @@ fn last_try<B: Backing, K: Sink>(
     ensures row { ForEachOver machine.old (B.holds backing.old) (λ x plan s m t. (x.device ≢ None → WantsNothing x plan m t)
         → Attempts K.taken x (content_after x.device (B.holds backing.new)) (length machine.old.cpu.core) (B.size backing.old) machine.old.tasks.printed plan s t result machine.new paper.old paper.new) }
     ensures fits { ForEachOver machine.old (B.holds backing.old) (λ x plan s m t. WantsNothing x plan m t → AttemptFits (length machine.old.cpu.core) x plan s m t result) }
+    ensures calm { ForEachOver machine.old (B.holds backing.old) (λ x plan s m t. (CallsDevice m t → ⊥) → IsCalm result backing.old backing.new) }
     ensures causes { CallCauses B.faults K.faults backing.old backing.new paper.old paper.new result }
     ensures kept { Kept machine.old machine.new }
     ensures tables { TablesStay result machine.old.tasks machine.new.tasks }
@@ -57,6 +59,9 @@ fn with_code<B: Backing, K: Sink>(
     ensures row { ForEachOver machine.old (B.holds backing.old) (λ x plan s m t. code_area x plan m t ≢ None
         → Attempts K.taken x (content_after x.device (B.holds backing.new)) (length machine.old.cpu.core) (B.size backing.old) machine.old.tasks.printed plan s t result machine.new paper.old paper.new) }
     ensures fits { ForEachOver machine.old (B.holds backing.old) (λ x plan s m t. code_area x plan m t ≢ None → x.device ≢ None → AttemptFits (length machine.old.cpu.core) x plan s m t result) }
+    ensures calm { ForEachOver machine.old (B.holds backing.old) (λ x plan s m t. WantsNothing x plan m t → (CallsDevice m t → ⊥) → IsCalm result backing.old backing.new) }
+    ensures areas { ForEachOver machine.old (B.holds backing.old) (λ x plan s m t. WantsNothing x plan m t → result ≡ Ok attempts.Made
+        → CallKeepsAreas K.taken x (content_after x.device (B.holds backing.new)) machine.old.tasks.printed plan s m t machine.new paper.old paper.new) }
     ensures causes { CallCauses B.faults K.faults backing.old backing.new paper.old paper.new result }
     ensures kept { Kept machine.old machine.new }
     ensures tables { TablesStay result machine.old.tasks machine.new.tasks }
@@ -77,10 +82,12 @@ fn with_code<B: Backing, K: Sink>(
 /// Executes the next operator of the running task, including an intrinsic's call. The running segment and the array that it
 /// touches are brought into core first, and other areas are evicted if need be.
 ///
-/// `NoCore` exactly where the step's need exceeds core, with both, unless the running segment is absent and the device is full
-/// or fails as it is brought in. `BackingFull` only where the session, or the one that a RESIZE to a greater length would make,
-/// takes more sectors than the device has, with both, and more are wanted than are free: by a present array that keeps no
-/// chain, or by the chain of the array that becomes longer. `BackingFault` and `PrintFault` only where that device failed.
+/// `NoCore` exactly where the step's need exceeds core, with both, unless core has room for the running segment, which is
+/// absent, and the device is full or fails as it is brought in. If one thing is wanted and a hole has room for it, no sector is
+/// written, and `BackingFull` isn't answered; and if the operator is made, every area is where it was, as if nothing was wanted. `BackingFull` only where the session takes more sectors than the device has, with
+/// both, and no hole has room for what is absent, or the step starts a task; or where the session does that a RESIZE to a greater
+/// length would make, with its sum. More sectors are then wanted than are free: by a present array that keeps no chain, or by
+/// the chain of the array that becomes longer. `BackingFault` and `PrintFault` only where that device failed.
 /// After each of them, and when the operator ends its task or makes it wait, the machine represents the same session; after
 /// `BackingFull` and `BackingFault` its segment or its array is absent, or the step is such a RESIZE or starts a task. Where
 /// both are present the backing isn't called but by such steps. After `PrintFault` `printed` is raised by the bytes that were
@@ -96,7 +103,7 @@ pub fn attempt<B: Backing, K: Sink>(
     requires number { CanNumber machine.old.tasks.jobs }
     requires same { B.size backing.old + 1 ≡ length machine.old.sectors.links }
     ensures row { ForEachOver machine.old (B.holds backing.old) (λ x plan s m t.
-        AttemptRow K.taken x (content_after x.device (B.holds backing.new)) (length machine.old.cpu.core) (B.size backing.old) machine.old.tasks.printed plan s m t result machine.new
+        AttemptRow B.holds K.taken x (content_after x.device (B.holds backing.new)) (length machine.old.cpu.core) (B.size backing.old) machine.old.tasks.printed plan s m t result machine.new
         backing.old backing.new paper.old paper.new) }
     ensures causes { CallCauses B.faults K.faults backing.old backing.new paper.old paper.new result }
     ensures kept { Kept machine.old machine.new }

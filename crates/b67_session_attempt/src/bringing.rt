@@ -6,13 +6,13 @@ ghost use Rattle.b67_model.specs.State.{Task, SessionJob};
 ghost use Rattle.b67_model.specs.Schedule.{Session};
 ghost use Rattle.b67_layout.specs.Orders.{IsInOrderButCounts};
 ghost use Rattle.b67_stack.specs.Represents.{Storage};
-ghost use Rattle.b67_layout_storage.specs.Machine.{DeviceAfterCalls};
+ghost use Rattle.b67_layout_storage.specs.Machine.{DeviceAfterCalls, HasHole};
 ghost use Rattle.b67_layout.specs.Placement.{Placement};
 ghost use Rattle.b67_layout.specs.Session.{IsRunning};
-ghost use Rattle.b67_presence.specs.Bringing.{StandsOver, WantsSome, IsWanted};
+ghost use Rattle.b67_presence.specs.Bringing.{StandsOver, WantsSome, IsWanted, words_wanted};
 ghost use Rattle.b67_mcp.specs.declared.ends.Stop.TheVariants.{BackingFault, PrintFault};
 ghost use Rattle.b67_session_attempt.specs.Tries.{IsTouched};
-ghost use Rattle.b67_session_attempt.specs.Brought.{BroughtFits, BroughtMeets};
+ghost use Rattle.b67_session_attempt.specs.Brought.{BroughtFits, BroughtMeets, BroughtIntoHole};
 
 use b67_backing::Backing;
 use b67_mcp::{Stop, stop_for};
@@ -21,7 +21,7 @@ use b67_stack::What;
 use b67_task_tables::Machine;
 
 /// Brings in what the next operator wants, and evicts other areas if need be; the running segment is then present too. After
-/// a stop the machine represents the same session.
+/// a stop the machine represents the same session. If a hole has room no area moves and no sector is written.
 #[inline(always)]
 pub fn bring_wanted<B: Backing>(
     machine: &mut Machine,
@@ -36,6 +36,9 @@ pub fn bring_wanted<B: Backing>(
     ensures fits { (x : Storage) (plan : Placement) (s : Session) (m : SessionJob) (t : Task) (words : ℕ) → IsInOrderButCounts s
         → StandsOver x (B.holds backing.old) machine.old plan s → IsRunning plan s.jobs m t → IsWanted x plan m t wanted words → IsTouched plan m t wanted words
         → BroughtFits (length machine.old.cpu.core) x plan s m t result }
+    ensures hole { (x : Storage) (plan : Placement) (s : Session) (m : SessionJob) (t : Task) (words : ℕ) → IsInOrderButCounts s
+        → StandsOver x (B.holds backing.old) machine.old plan s → IsRunning plan s.jobs m t → IsWanted x plan m t wanted words → HasHole (words_wanted m t wanted words) x.spans
+        → BroughtIntoHole B.holds x plan s m t wanted result machine.new backing.old backing.new }
     ensures cause { result ≡ Err BackingFault → Rose B.faults backing.old backing.new }
     ensures silent { result ≢ Err PrintFault }
     ensures tasks { machine.new.tasks ≡ machine.old.tasks }

@@ -25,6 +25,7 @@ returns-in-8-clause-call g c = λ x told plan s m t o h runs code called.
           (silent_meets g.K.Sink.taken c.args.paper.now x told (B.size c.args.backing.now) plan s m t c.args.n c.declare.result c.args.machine.now c.declare.new.machine o.peak_low (as_many m t 8 k (inl (omega arith))) row));
       present = subst P (sym c.silent.ensures) (silent_untouched m t x plan 8 (λ e. absurd cc) k told s c.args.machine.now c.declare.new.machine c.declare.result row);
       fits = fits_never (length c.args.machine.now.cpu.core) s m t (never_starts m t (call_starts m t 8 k (inl (omega arith)))) (Ok c.silent.result);
+      outside = λ few. c.declare.ensures.kept.changed;
       quiet = λ none. refl;
     }
 
@@ -39,6 +40,7 @@ returns-in-9-clause-call g c = λ x told plan s m t o h runs code called.
           (subst (λ n. M n told) (sym c.in-9.is) (c.print.ensures.row x told plan s m t o h runs code is (B.size c.args.backing.now)));
       present = c.print.ensures.present x told plan s m t o h runs code is;
       fits = fits_never (length c.args.machine.now.cpu.core) s m t (never_starts m t (call_starts m t 9 (calling m t 9 is) (inl (omega arith)))) c.print.result;
+      outside = λ few. c.print.ensures.kept.changed;
       quiet = λ none. refl;
     }
 
@@ -56,6 +58,7 @@ returns-in-10-clause-call g c = λ x told plan s m t o h runs code called.
           (subst (λ n. M n told) (sym c.in-10.is) (c.print_row.ensures.row x told plan s m t o h runs code is (B.size c.args.backing.now)));
       present = c.print_row.ensures.present x told plan s m t o h runs code is;
       fits = fits_never (length c.args.machine.now.cpu.core) s m t (never_starts m t (call_starts m t 10 (calling m t 10 is) (inl (omega arith)))) c.print_row.result;
+      outside = λ few. c.print_row.ensures.kept.changed;
       quiet = λ none. refl;
     }
 
@@ -77,6 +80,7 @@ returns-in-11-clause-call g c = λ x told plan s m t o h runs code called.
           (silent_meets g.K.Sink.taken c.args.paper.now x told (B.size c.args.backing.now) plan s m t c.args.n c.read.result c.args.machine.now c.read.new.machine o.peak_low (as_many m t 11 k (inl (omega arith))) row));
       present = subst P (sym c.silent-in-11.ensures) (silent_untouched m t x plan 11 (λ e. absurd cc) k told s c.args.machine.now c.read.new.machine c.read.result row);
       fits = fits_never (length c.args.machine.now.cpu.core) s m t (never_starts m t (call_starts m t 11 k (inl (omega arith)))) (Ok c.silent-in-11.result);
+      outside = λ few. c.read.ensures.kept.changed;
       quiet = λ none. refl;
     }
 
@@ -91,6 +95,7 @@ returns-in-12-clause-call g c = λ x told plan s m t o h runs code called.
           (c.start.ensures.row x told plan s m t o h runs code is says);
       present = there.0;
       fits = there.1;
+      outside = λ few. absurd (omega (arith, few, c.in-12.is));
       quiet = λ none. c.start.ensures.quiet x told plan s m t o h runs code is none;
     }
 
@@ -112,6 +117,7 @@ returns-in-17-clause-call g c = λ x told plan s m t o h runs code called.
           (silent_meets g.K.Sink.taken c.args.paper.now x told (B.size c.args.backing.now) plan s m t c.args.n c.deallocate.result c.args.machine.now c.deallocate.new.machine o.peak_low (as_many m t 17 k (inr (omega arith))) row));
       present = subst P (sym c.silent-in-17.ensures) (silent_untouched m t x plan 17 (λ e. absurd cc) k told s c.args.machine.now c.deallocate.new.machine c.deallocate.result row);
       fits = fits_never (length c.args.machine.now.cpu.core) s m t (never_starts m t (call_starts m t 17 k (inr (omega arith)))) (Ok c.silent-in-17.result);
+      outside = λ few. absurd (omega (arith, few, c.in-17.is));
       quiet = λ none. refl;
     }
 
@@ -123,9 +129,10 @@ returns-in-18-clause-call g c = λ x told plan s m t o h runs code called.
     record {
       row = λ says.
           resize_meets g.K.Sink.taken c.args.paper.now x (content_after told (B.holds c.resize.new.backing)) (B.size c.args.backing.now) plan s m t c.args.n c.resize.result c.args.machine.now c.resize.new.machine
-          o.peak_low (as_many m t 18 k (inr (omega arith))) (c.resize.ensures.row x told plan s m t o h runs code is says);
+          is o.peak_low (as_many m t 18 k (inr (omega arith))) (c.resize.ensures.row x told plan s m t o h runs code is says);
       present = c.resize.ensures.present x told plan s m t o h runs code is;
       fits = fits_never (length c.args.machine.now.cpu.core) s m t (never_starts m t (call_starts m t 18 k (inr (omega arith)))) c.resize.result;
+      outside = λ few. absurd (omega (arith, few, c.in-18.is));
       quiet = λ none. c.resize.ensures.quiet x told plan s m t o h runs code is none;
     }
 
@@ -155,5 +162,6 @@ returns-in_default-clause-call g c = λ x told plan s m t o h runs code called.
           (moved_meets g.K.Sink.taken c.args.paper.now x told (B.size c.args.backing.now) plan s m t c.args.n (Ok c.wait_for.result) c.args.machine.now c.wait_for.new.machine (c.wait_for.ensures.row x told plan s m t o h runs code called (B.size c.args.backing.now)));
       present = there.0;
       fits = there.1;
+      outside = λ few. absurd (let between = numbered plan s m t c.args.n o runs called in omega (arith, few, between.0));
       quiet = λ none. refl;
     }

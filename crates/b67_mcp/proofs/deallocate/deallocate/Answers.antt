@@ -1,4 +1,4 @@
-use Rattle.std.proofs.Common.{List, length, refl, ap, ◌∙◌, subst}
+use Rattle.std.proofs.Common.{List, length, refl, sym, ap, ◌∙◌, subst}
 use Rattle.b67_word.specs.Tagged.{Tagged}
 use Rattle.b67_word.specs.declared.couples.Place.{Place}
 use Rattle.b67_model.specs.declared.operators.Op.TheVariants.{Plain}
@@ -7,6 +7,9 @@ use Rattle.b67_model.specs.Common.{with_array, all_zero, SessionJob}
 use Rattle.b67_layout.specs.Common.{array_object, machine_view, with_job}
 use Rattle.b67_mcp_calls.specs.Lengthening.{job_emptied}
 use Rattle.b67_mcp_lengths.specs.Lengths.{emptied}
+use Rattle.b67_stack.specs.Shapes.{nowhere}
+use Rattle.b67_stack.proofs.Helds.{held-other}
+use Rattle.b67_mcp.specs.Called.{is_emptied}
 use Rattle.b67_task_tables.specs.declared.tables.Machine.{Machine}
 use Rattle.b67_task_tables.specs.Tables.{MachineRepresents}
 use Rattle.b67_mcp.proofs.Callings.{calling, reads_of, call_some}
@@ -80,16 +83,18 @@ returns-clause-row c = λ x told plan s m t o h runs code called.
     let q = c.next_place-next.result in
     let same = one_behind m t q k.next (c.next_place-next.ensures.behind x told plan s m t o h runs code) (Plain Entr, k.reading) in
     let new : Machine = record mid { cpu = c.cut_call.new.cpu } in
-    let P : Place → Type 0 = λ z. MachineRepresents y told new plan (with_job s m (job_emptied m t a.identity z)) in
-    record {
-      job = job_emptied m t a.identity k.next;
-      is = k.is ∙ r.makes k.next;
-      storage = y;
-      plan = plan;
-      stands = subst P same (stands_cut plan s m t o runs a.identity all_zero zeros_renumber zeros_fit r.may y told mid stands c.cut_call.new.cpu q c.cut_call.ensures.core
-          (c.cut_call.ensures.stands y plan (with_job s m m1.progress.job) m1 t order stands.session runs1 may1));
-      printed = refl;
-    })
+    let P : Place → Type 0 = λ z. MachineRepresents y told new plan (with_job s m (job_emptied m t a.identity z)) in (
+      record {
+        job = job_emptied m t a.identity k.next;
+        is = k.is ∙ r.makes k.next;
+        storage = y;
+        plan = plan;
+        stands = subst P same (stands_cut plan s m t o runs a.identity all_zero zeros_renumber zeros_fit r.may y told mid stands c.cut_call.new.cpu q c.cut_call.ensures.core
+            (c.cut_call.ensures.stands y plan (with_job s m m1.progress.job) m1 t order stands.session runs1 may1));
+        printed = refl;
+      },
+      λ no_process no_resize home none. held-other x.held object.home nowhere home (λ e. none (is_emptied a called r.which.among refl (sym e))),
+    ))
 
 pub returns-clause-kept : goal.returns-clause-kept
 returns-clause-kept c = record {

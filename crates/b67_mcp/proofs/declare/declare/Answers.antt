@@ -1,9 +1,14 @@
-use Rattle.std.proofs.Common.{refl, sym, ◌∙◌, subst}
+use Rattle.std.proofs.Common.{◌≡◌, ℕ, refl, sym, ◌∙◌, subst}
 use Rattle.b67_word.specs.declared.couples.Place.{Place}
 use Rattle.b67_layout.specs.Meets.{with_job}
 use Rattle.b67_model.specs.declared.operators.Op.TheVariants.{Plain}
 use Rattle.b67_model.specs.declared.operators.Code.TheVariants.{Entr}
 use Rattle.b67_mcp_calls.specs.Declaring.{job_declared, with_home, without}
+use Rattle.std.proofs.lemmas.Bool.{eq-eqb}
+use Rattle.b67_layout.specs.Placement.{Placement}
+use Rattle.b67_stack.specs.Shapes.{nowhere}
+use Rattle.b67_stack.proofs.Helds.{held-other}
+use Rattle.b67_mcp.specs.Called.{is_new}
 use Rattle.b67_task_tables.specs.declared.tables.Machine.{Machine}
 use Rattle.b67_task_tables.specs.Tables.{MachineRepresents}
 use Rattle.b67_mcp.proofs.Callings.{calling, reads_of, call_some}
@@ -11,6 +16,10 @@ use Rattle.b67_mcp.proofs.Cut.{one_behind}
 use Rattle.b67_mcp.proofs.Sizes.{same_size}
 use Rattle.b67_mcp.proofs.Answered.{tables_declared}
 use Rattle.b67_mcp.proofs.declare.declare.Goals as goal
+
+-- where the new original stands
+home_here : (plan : Placement) (j n at : ℕ) → (with_home plan j n at).home j n ≡ at
+home_here plan j n at = rw (eq-eqb j j refl, eq-eqb n n refl) refl
 
 pub array_length-requires : goal.array_length-requires
 array_length-requires c = call_some c.args.machine.now 8 c.requires
@@ -54,19 +63,21 @@ returns-clause-row c = λ x told plan s m t o h runs code called.
     let same = one_behind m t q k.next (c.next_place-next.ensures.behind x told plan s m t o h runs code) (Plain Entr, k.reading) in
     let session = c.answer_array.ensures.stands x plan s m t o h.session runs r.2 in
     let size = same_size x (without x cpu.regs.s) old.cpu cpu plan there s (with_job s m (job_declared m t n q)) h.session session refl refl in
-    let P : Place → Type 0 = λ p. MachineRepresents (without x cpu.regs.s) told new there (with_job s m (job_declared m t n p)) in
-    record {
-      job = job_declared m t n k.next;
-      is = k.is ∙ r.3 k.next;
-      storage = without x cpu.regs.s;
-      plan = there;
-      stands = subst P same (record {
-        session = session;
-        storage = record { low = h.storage.low; size = h.storage.size ∙ sym size; shelf = h.storage.shelf; device = h.storage.device };
-        tables = tables_declared plan s m t o runs r.2 q n cpu.regs.s old.tasks h.tables;
-      });
-      printed = refl;
-    })
+    let P : Place → Type 0 = λ p. MachineRepresents (without x cpu.regs.s) told new there (with_job s m (job_declared m t n p)) in (
+      record {
+        job = job_declared m t n k.next;
+        is = k.is ∙ r.3 k.next;
+        storage = without x cpu.regs.s;
+        plan = there;
+        stands = subst P same (record {
+          session = session;
+          storage = record { low = h.storage.low; size = h.storage.size ∙ sym size; shelf = h.storage.shelf; device = h.storage.device };
+          tables = tables_declared plan s m t o runs r.2 q n cpu.regs.s old.tasks h.tables;
+        });
+        printed = refl;
+      },
+      λ no_process no_resize home none. held-other x.held cpu.regs.s nowhere home (λ e. none (is_new called (home_here plan m.constants.number m.progress.job.next_array cpu.regs.s ∙ sym e))),
+    ))
 
 pub returns-clause-kept : goal.returns-clause-kept
 returns-clause-kept c =

@@ -40,19 +40,21 @@ pub returns-in-Ok-say_value-clause-row : goal.returns-in-Ok-say_value-clause-row
 returns-in-Ok-say_value-clause-row g c = λ x told plan s m t o h runs code called count.
     (let k = calling m t 9 called in
     let f : SFits w64 c.in-Ok.value = search rules in
-    let r = c.in-Ok.ensures.row x plan s m t o h.session runs k.reference k.arguments k.call in
-    record {
-      job = job_cut m t k.next;
-      printed = Value c.in-Ok.value ∷ [];
-      touched = None;
-      is = k.is ∙ r.0 k.next;
-      storage = x;
-      plan = plan;
-      stands = stands_peak x told c.cut.new.machine plan s m (job_cut m t k.next) o.peak_low (as_many m t 9 k (inl (omega arith)) (job_cut m t k.next) (Value c.in-Ok.value ∷ []) None (k.is ∙ r.0 k.next))
-          (c.cut.ensures.stands x told plan s m t o h runs code r.1 k.next (Plain Entr, k.reading));
-      text = subst (λ (v : ℤ). TookRest g.K.Sink.taken c.args.paper.now c.say_value.new.paper (printed_text m t (Value v ∷ [])) c.args.machine.now.tasks.printed) (to_z-of_z w64 c.in-Ok.value f) (c.in-Ok-say_value.ensures.whole x told plan s m t o h runs code);
-      reset = c.cut.ensures.printed;
-    })
+    let r = c.in-Ok.ensures.row x plan s m t o h.session runs k.reference k.arguments k.call in (
+      record {
+        job = job_cut m t k.next;
+        printed = Value c.in-Ok.value ∷ [];
+        touched = None;
+        is = k.is ∙ r.0 k.next;
+        storage = x;
+        plan = plan;
+        stands = stands_peak x told c.cut.new.machine plan s m (job_cut m t k.next) o.peak_low (as_many m t 9 k (inl (omega arith)) (job_cut m t k.next) (Value c.in-Ok.value ∷ []) None (k.is ∙ r.0 k.next))
+            (c.cut.ensures.stands x told plan s m t o h runs code r.1 k.next (Plain Entr, k.reading));
+        text = subst (λ (v : ℤ). TookRest g.K.Sink.taken c.args.paper.now c.say_value.new.paper (printed_text m t (Value v ∷ [])) c.args.machine.now.tasks.printed) (to_z-of_z w64 c.in-Ok.value f) (c.in-Ok-say_value.ensures.whole x told plan s m t o h runs code);
+        reset = c.cut.ensures.printed;
+      },
+      λ no_process no_resize home none. refl,
+    ))
 
 pub returns-in-Err-clause-present : goal.returns-in-Err-clause-present
 returns-in-Err-clause-present g c = λ x told plan s m t o h runs code called.

@@ -58,19 +58,21 @@ pub returns-in-Ok-say_words-clause-row : goal.returns-in-Ok-say_words-clause-row
 returns-in-Ok-say_words-clause-row g c = λ x told plan s m t o h runs code called count.
     (let k = calling m t 10 called in
     let P : Found → Type 0 = λ f. RowMeets x plan m t c.args.machine.now.cpu.core k.arguments (Ok f) in
-    let row = subst P c.in-Words.is (c.in-Ok.ensures.row x plan s m t o h.session runs k.reference k.arguments k.call) in
-    record {
-      job = job_cut m t k.next;
-      printed = Values row.values ∷ [];
-      touched = Some row.array;
-      is = k.is ∙ row.makes k.next;
-      storage = x;
-      plan = plan;
-      stands = stands_peak x told c.cut.new.machine plan s m (job_cut m t k.next) o.peak_low (as_many m t 10 k (inl (omega arith)) (job_cut m t k.next) (Values row.values ∷ []) (Some row.array) (k.is ∙ row.makes k.next))
-          (c.cut.ensures.stands x told plan s m t o h runs code row.may k.next (Plain Entr, k.reading));
-      text = c.in-Ok-say_words.ensures.whole x told plan s m t o h runs code row.values row.lies;
-      reset = c.cut.ensures.printed;
-    })
+    let row = subst P c.in-Words.is (c.in-Ok.ensures.row x plan s m t o h.session runs k.reference k.arguments k.call) in (
+      record {
+        job = job_cut m t k.next;
+        printed = Values row.values ∷ [];
+        touched = Some row.array;
+        is = k.is ∙ row.makes k.next;
+        storage = x;
+        plan = plan;
+        stands = stands_peak x told c.cut.new.machine plan s m (job_cut m t k.next) o.peak_low (as_many m t 10 k (inl (omega arith)) (job_cut m t k.next) (Values row.values ∷ []) (Some row.array) (k.is ∙ row.makes k.next))
+            (c.cut.ensures.stands x told plan s m t o h runs code row.may k.next (Plain Entr, k.reading));
+        text = c.in-Ok-say_words.ensures.whole x told plan s m t o h runs code row.values row.lies;
+        reset = c.cut.ensures.printed;
+      },
+      λ no_process no_resize home none. refl,
+    ))
 
 pub returns-in-Err-say_words-clause-row : goal.returns-in-Err-say_words-clause-row
 returns-in-Err-say_words-clause-row g c = λ x told plan s m t o h runs code called count.

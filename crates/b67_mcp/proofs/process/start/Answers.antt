@@ -41,8 +41,8 @@ returns-in-Ok-clause-row g c = λ x told plan s m t o h runs code called says.
     let same = one_behind m t c.next_place-next.result k.next (c.next_place-next.ensures.behind x told plan s m t o h runs code) (Plain Entr, k.reading) in
     let R : Place → Type 0 = λ z. ProcessMeets d plan s m t z k.arguments (Ok c.in-Ok.done) old new in
     let row = subst R same (c.in-Ok.ensures.row x told plan s m t o h runs k.reference k.arguments k.call says) in
-    let S : CallEnd → Type 0 = λ e. SilentMeets d (B.size c.args.backing.now) plan s m t (Ok e) old new in
-    subst S (sym c.silent.ensures) (process_meets x told old plan s m t o h runs k d (B.size c.args.backing.now) new c.in-Ok.done c.process.ensures.kept.printed row))
+    let S : CallEnd → Type 0 = λ e. SilentMeets x d (B.size c.args.backing.now) plan s m t (Ok e) old new in
+    subst S (sym c.silent.ensures) (process_meets x told old plan s m t o h runs k d (B.size c.args.backing.now) new c.in-Ok.done called c.process.ensures.kept.printed row))
 
 pub returns-in-Ok-clause-present : goal.returns-in-Ok-clause-present
 returns-in-Ok-clause-present g c = λ x told plan s m t o h runs code called.

@@ -90,19 +90,21 @@ returns-clause-row c = λ x told plan s m t o h runs code called.
     let session = c.answer_call.ensures.stands x plan s m t o h.session runs taken.0 taken.1 meets.may meets.is in
     let size = same_size x x old.cpu cpu plan plan s (with_job s m (job_read m t q)) h.session session refl refl in
     let is = did.is ∙ ap (λ (n : ℕ). slice_set old.tasks.jobs (n - 1) did.new) ej in
-    let P : Place → Type 0 = λ p. MachineRepresents x told new plan (with_job s m (job_read m t p)) in
-    record {
-      job = job_read m t k.next;
-      is = k.is ∙ meets.makes k.next;
-      storage = x;
-      plan = plan;
-      stands = subst P same (record {
-        session = session;
-        storage = record { low = h.storage.low; size = h.storage.size ∙ sym size; shelf = h.storage.shelf; device = h.storage.device };
-        tables = tables_read plan s m t o runs q k.arguments old.tasks tasks h.tables j.row did.new c.in-Ok.number j.at is c.take_number.ensures.rest meets;
-      });
-      printed = ap (λ (z : Tasks). z.printed) c.take_number.ensures.rest;
-    })
+    let P : Place → Type 0 = λ p. MachineRepresents x told new plan (with_job s m (job_read m t p)) in (
+      record {
+        job = job_read m t k.next;
+        is = k.is ∙ meets.makes k.next;
+        storage = x;
+        plan = plan;
+        stands = subst P same (record {
+          session = session;
+          storage = record { low = h.storage.low; size = h.storage.size ∙ sym size; shelf = h.storage.shelf; device = h.storage.device };
+          tables = tables_read plan s m t o runs q k.arguments old.tasks tasks h.tables j.row did.new c.in-Ok.number j.at is c.take_number.ensures.rest meets;
+        });
+        printed = ap (λ (z : Tasks). z.printed) c.take_number.ensures.rest;
+      },
+      λ no_process no_resize home none. refl,
+    ))
 
 pub returns-clause-kept : goal.returns-clause-kept
 returns-clause-kept c =

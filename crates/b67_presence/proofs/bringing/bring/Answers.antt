@@ -7,7 +7,7 @@ use Rattle.b67_presence_page.proofs.Forcing.{same_need, need_is}
 use Rattle.b67_layout_spans.proofs.Sessions.{view_of}
 use Rattle.b67_presence.proofs.Again.{machine_of, view_stands}
 use Rattle.b67_presence.proofs.Ends.{brings_code, brings_array}
-use Rattle.b67_presence.proofs.Refusals.{code_lacks, array_lacks, refused_waits, refused_full, refused_array, refused_still, stays_in, stays_put, refused_as, full_as, room_code, room_array, untouched_code, untouched_array}
+use Rattle.b67_presence.proofs.Refusals.{code_lacks, array_lacks, refused_waits, refused_full, refused_array, refused_still, stays_in, stays_put, in_place_code, in_place_array, in_place_as, no_room_code, no_room_array, refused_as, full_as, room_code, room_array, untouched_code, untouched_array}
 use Rattle.b67_layout_spans.proofs.FullDevice.{short_full}
 use Rattle.b67_presence.proofs.Seen.{readable}
 use Rattle.b67_presence.proofs.Wants.{code_found, address, address_small, displaced, code_absent, code_present, array_absent, need_code, need_array, needed_is, fits_not, core_has, room_fits, wanted_code, wanted_array, brings_as}
@@ -35,7 +35,7 @@ returns-then-needed-core-clause-row g c = λ x plan s m t words o h runs wanted.
     record {
       came = tt;
       refused = refused_still x told k plan s o h m t c.args.absent words wanted;
-      hole = λ room. (refl, record { told = λ all e. e }, stays_put x told k plan s o h);
+      hole = λ room. (refl, record { told = λ all e. e }, stays_put x told k plan s o h, tt);
       zeros = λ room untouched. absurd (fits_not (need_with s m t 0 words) (length k.cpu.core) (length k.cpu.core) (need_with s m t 0 words) (room_fits x told k plan s m t o h runs c.args.absent words wanted room untouched) refl refl (omega (arith, c.if-needed-core.true, c.size-core.ensures.value, is)));
       no_core = λ need size. (
         λ e. let q = need_is c.need-needed.result c.size-core.result need size e in (omega (arith, c.if-needed-core.true, c.size-core.ensures.value, is), sym q.0 ∙ is, sym q.1 ∙ c.size-core.ensures.value),
@@ -127,19 +127,27 @@ returns-in-Code-clause-row g c = λ x plan s m t words o h runs wanted.
           (refused_waits x told now k plan s o h new.cpu new.areas new.sectors keeps.rest keeps.len keeps.areas row.outside m t (what.Code d) 0 refused (λ y sheds. code_lacks x y plan m t d 0 w.1 sheds)))
           row.refused;
       hole = λ room.
-          let hole = c.bring_code.ensures.hole x p code mx a (room_code x plan s m t c.args.absent words d found c.in-Code.is room) in
-          (hole.sectors, hole.device, stays_in x told now k plan s o h new.cpu new.areas new.sectors keeps.rest keeps.len keeps.areas row.outside (k.cpu.regs.dict + c.from.result) code a c.bring_code.result hole.read hole.stays);
+          let hole = c.bring_code.ensures.hole x p code mx a (room_code x plan s m t c.args.absent words d found c.in-Code.is room) in (
+            hole.sectors,
+            hole.device,
+            stays_in x told now k plan s o h new.cpu new.areas new.sectors keeps.rest keeps.len keeps.areas row.outside (k.cpu.regs.dict + c.from.result) code a c.bring_code.result hole.read hole.stays,
+            on_ok_weaker c.bring_code.result
+                (λ read. in_place_as x now (machine_of new.cpu new.areas new.sectors k.tasks) plan s m t c.args.absent (what.Code d) c.in-Code.is
+                (in_place_code x told now k plan s o h new.cpu new.areas new.sectors keeps.rest keeps.len keeps.areas row.outside m t runs d w.0 w.1 (read (readable x plan s o))))
+                hole.read,
+          );
       zeros = λ room untouched. absurd (untouched_code x c.args.absent d c.in-Code.is untouched);
       no_core = λ need size. (
         λ e. absurd (c.bring_code.ensures.no_core need size e),
         λ q. absurd (fits_not c.need-needed.result c.size-core.result (length k.cpu.core) (need_with s m t 0 words) (omega (arith, c.if-needed-core.false)) c.size-core.ensures.value need_is q.0),
       );
       full = λ wants free e.
-          let (none, waits, short) = row.full wants free e in (
+          let (none, waits, short, still) = row.full wants free e in (
             short_full waits.storage new.cpu new.areas new.sectors now plan s wants free (g.B.Backing.size c.args.backing.now) (view_of waits.storage new.cpu new.areas new.sectors now p waits.stands) short (c.requires.same ∙ sym keeps.count),
             λ room. none (room_code x plan s m t c.args.absent words d found c.in-Code.is room),
-            full_as x now (machine_of new.cpu new.areas new.sectors k.tasks) plan s m t c.args.absent (what.Code d) wants free c.in-Code.is
-                (refused_full x told now k plan s o h new.cpu new.areas new.sectors keeps.rest keeps.len keeps.areas row.outside m t (what.Code d) 0 waits (λ y sheds. code_lacks x y plan m t d 0 w.1 sheds) wants free short),
+            full_as x now (machine_of new.cpu new.areas new.sectors k.tasks) plan s m t c.args.absent (what.Code d) words 0 wants free c.in-Code.is w.2
+                (refused_full x told now k plan s o h new.cpu new.areas new.sectors keeps.rest keeps.len keeps.areas row.outside m t (what.Code d) 0 waits (λ y sheds. code_lacks x y plan m t d 0 w.1 sheds) 0 wants free short
+                (no_room_code waits.storage plan s m t d found (code_lacks x waits.storage plan m t d 0 w.1 waits.sheds) still)),
           );
     }
 
@@ -170,18 +178,26 @@ returns-in-Array-clause-row g c = λ x plan s m t words o h runs wanted.
           (refused_array x told now k plan s o h new.cpu new.areas new.sectors keeps.rest keeps.len keeps.areas row.outside m t runs home words w (refused (readable x plan s o))))
           row.refused;
       hole = λ room.
-          let hole = c.bring_data.ensures.hole x p object mx a (room_array x m t c.args.absent words home (length w.array.numbers) c.in-Array.is w.words_are room) in
-          (hole.sectors, hole.device, stays_in x told now k plan s o h new.cpu new.areas new.sectors keeps.rest keeps.len keeps.areas row.outside home object a c.bring_data.result hole.read hole.stays);
+          let hole = c.bring_data.ensures.hole x p object mx a (room_array x m t c.args.absent words home (length w.array.numbers) c.in-Array.is w.words_are room) in (
+            hole.sectors,
+            hole.device,
+            stays_in x told now k plan s o h new.cpu new.areas new.sectors keeps.rest keeps.len keeps.areas row.outside home object a c.bring_data.result hole.read hole.stays,
+            on_ok_weaker c.bring_data.result
+                (λ read. in_place_as x now (machine_of new.cpu new.areas new.sectors k.tasks) plan s m t c.args.absent (what.Array home) c.in-Array.is
+                (in_place_array x told now k plan s o h new.cpu new.areas new.sectors keeps.rest keeps.len keeps.areas row.outside m t runs home words w (read (readable x plan s o))))
+                hole.read,
+          );
       zeros = λ room untouched. row.zeros (room_array x m t c.args.absent words home (length w.array.numbers) c.in-Array.is w.words_are room) (untouched_array x c.args.absent home c.in-Array.is untouched);
       no_core = λ need size. (
         λ e. absurd (c.bring_data.ensures.no_core need size e),
         λ q. absurd (fits_not c.need-needed.result c.size-core.result (length k.cpu.core) (need_with s m t 0 words) (omega (arith, c.if-needed-core.false)) c.size-core.ensures.value need_is q.0),
       );
       full = λ wants free e.
-          let (none, waits, short) = row.full wants free e in (
+          let (none, waits, short, still) = row.full wants free e in (
             short_full waits.storage new.cpu new.areas new.sectors now plan s wants free (g.B.Backing.size c.args.backing.now) (view_of waits.storage new.cpu new.areas new.sectors now p waits.stands) short (c.requires.same ∙ sym keeps.count),
             λ room. none (room_array x m t c.args.absent words home (length w.array.numbers) c.in-Array.is w.words_are room),
-            full_as x now (machine_of new.cpu new.areas new.sectors k.tasks) plan s m t c.args.absent (what.Array home) wants free c.in-Array.is
-                (refused_full x told now k plan s o h new.cpu new.areas new.sectors keeps.rest keeps.len keeps.areas row.outside m t (what.Array home) at waits (λ y sheds. array_lacks x y plan m t home words at w sheds) wants free short),
+            full_as x now (machine_of new.cpu new.areas new.sectors k.tasks) plan s m t c.args.absent (what.Array home) words words wants free c.in-Array.is refl
+                (refused_full x told now k plan s o h new.cpu new.areas new.sectors keeps.rest keeps.len keeps.areas row.outside m t (what.Array home) at waits (λ y sheds. array_lacks x y plan m t home words at w sheds) words wants free short
+                (no_room_array x waits.storage plan s m t home words (k.cpu.regs.dict + c.from-in-Array.result) at (code_found plan s m t o runs) w waits.sheds present still)),
           );
     }

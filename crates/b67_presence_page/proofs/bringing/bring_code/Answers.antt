@@ -43,7 +43,8 @@ returns-in-Err-NoHole-clause-row g c = λ x p t m a.
       full = λ wants free e.
           let none : c.page_in.result ≡ Err NoHole = cc in
           let r = c.force_code.ensures.full x p t wants free mx a e in
-          (((c.page_in.ensures.row x p t m a).full).0 none, r.0, r.1);
+          let no_hole = ((c.page_in.ensures.row x p t m a).full).0 none in
+          (no_hole, r.0, r.1, r.2 no_hole);
     }
 
 pub returns-in-Ok-clause-hole : goal.returns-in-Ok-clause-hole

@@ -1,4 +1,4 @@
-use Rattle.std.proofs.Common.{◌≡◌, ◌≢◌, ℕ, List, Option, Some, None, sym, ◌∙◌, ap, subst, Result, Err}
+use Rattle.std.proofs.Common.{◌≡◌, ◌≢◌, ℕ, ◌+◌, List, length, refl, Option, Some, None, sym, ◌∙◌, ap, subst, Result, Err}
 use Rattle.std.proofs.lemmas.Option.{none-some}
 use Rattle.b67_stack.specs.Represents.{Storage}
 use Rattle.b67_overlay.specs.Spans.{MachineCanPage}
@@ -7,6 +7,7 @@ use Rattle.b67_layout_storage.proofs.Devices.{still_tells}
 use Rattle.b67_overlay.specs.Overlaid.{overlaid, retelling}
 use Rattle.b67_overlay.specs.AreasEvicted.{AreasEvicted}
 use Rattle.b67_overlay.proofs.Shedding.{AreasEvicted-retelling, AreasEvicted-overlaid, short_by}
+use Rattle.b67_layout_storage.specs.Machine.{HasHole}
 use Rattle.b67_presence_page.specs.Brings.{Waits}
 use Rattle.b67_presence_page.proofs.Ways.{absent_after, readable_after, read_in, came_of}
 use Rattle.b67_backing.specs.declared.SpaceFault.{SpaceFault}
@@ -42,7 +43,7 @@ returns-in-Err-clause-full g c = λ x p t u wants free m a pr e.
     let tells : (all : List (List ℕ)) → g.B.Backing.holds c.args.backing.now ≡ Some all → g.B.Backing.holds c.overlay.new.backing ≢ None = λ all e n. let (q, i) = still_tells g.B.Backing.holds g.B.Backing.size g.B.Backing.calls g.B.Backing.faults c.args.backing.now c.overlay.new.backing c.overlay.ensures.device all e in none-some q (sym n ∙ i) in
     let sh = AreasEvicted-retelling x (g.B.Backing.holds c.args.backing.now) (g.B.Backing.holds c.overlay.new.backing) m.device tells spare in
     let w : Waits x p spare c.overlay.new.cpu c.overlay.new.areas c.overlay.new.sectors (g.B.Backing.holds c.overlay.new.backing) = record { storage = retelling x (g.B.Backing.holds c.overlay.new.backing); sheds = sh; stands = (c.in-Err.ensures.row x p u m pr).refused } in
-    (w, short_by x p u c.args.at wants free (g.B.Backing.holds c.overlay.new.backing) pr (((c.in-Err.ensures.row x p u m pr).full wants free).0 (let z : ◌≡◌ {A = Result (Unit {0}) SpaceFault} (Err c.in-Err.fault) (Err (BackingFull wants free)) = cc in z)))
+    (w, short_by x p u c.args.at wants free (g.B.Backing.holds c.overlay.new.backing) pr (((c.in-Err.ensures.row x p u m pr).full wants free).0 (let z : ◌≡◌ {A = Result (Unit {0}) SpaceFault} (Err c.in-Err.fault) (Err (BackingFull wants free)) = cc in z)), refl)
 
 pub returns-in-Ok-page_in-clause-came : goal.returns-in-Ok-page_in-clause-came
 returns-in-Ok-page_in-clause-came g c = λ _ x p t u m a pr readable.
@@ -67,7 +68,10 @@ returns-in-Err-NoHole-clause-gone g c = λ _ x p t u m a pr.
     let sh : AreasEvicted x y spare = AreasEvicted-overlaid x (g.B.Backing.holds c.args.backing.now) (g.B.Backing.holds c.overlay.new.backing) m.device tells u c.args.at spare pr.present n in
     let ay = absent_after x y p c.args.home spare t sh a in
     let P : Option (List (List ℕ)) → Type 0 = λ d. MachineCanPage (overlaid x u c.args.at d) c.page_in.new.cpu c.page_in.new.areas c.overlay.new.sectors (g.B.Backing.holds c.page_in.new.backing) p in
-    (λ e. absurd (n e), λ _. subst P (ap g.B.Backing.holds (sym (c.page_in.ensures.unchanged (let z : c.page_in.result ≡ Err NoHole = cc in z)).1)) ((c.in-Err-NoHole.ensures.row y p t my ay).refused))
+    let none : c.page_in.result ≡ Err NoHole = cc in
+    let back = ap g.B.Backing.holds (sym (c.page_in.ensures.unchanged none).1) in
+    let H : Option (List (List ℕ)) → Type 0 = λ d. HasHole (length t.numbers + 2) (overlaid x u c.args.at d).spans → ⊥ in
+    (λ e. absurd (n e), λ _. (subst P back ((c.in-Err-NoHole.ensures.row y p t my ay).refused), subst H back ((c.page_in.ensures.row y p t my ay).full.0 none)))
 
 pub returns-in-Err-BackingFault-clause-refused : goal.returns-in-Err-BackingFault-clause-refused
 returns-in-Err-BackingFault-clause-refused g c = λ x p t u m a pr.

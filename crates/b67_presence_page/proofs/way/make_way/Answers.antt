@@ -1,4 +1,4 @@
-use Rattle.std.proofs.Common.{◌≡◌, ◌≢◌, ℕ, List, Option, Some, None, Result, Ok, Err, Bool, sym, ◌∙◌, ap, ⊎_elim, subst}
+use Rattle.std.proofs.Common.{◌≡◌, ◌≢◌, ℕ, ◌+◌, List, length, Option, Some, None, Result, Ok, Err, Bool, sym, ◌∙◌, ap, ⊎_elim, subst}
 use Rattle.std.proofs.lemmas.Option.{none-some}
 use Rattle.std.proofs.lemmas.Bool.{cases_eq}
 use Rattle.b67_backing.specs.declared.SpaceFault.{SpaceFault}
@@ -11,7 +11,9 @@ use Rattle.b67_layout_storage.proofs.Devices.{Served-none, Served-then, Keeps-no
 use Rattle.b67_overlay.specs.Overlaid.{overlaid}
 use Rattle.b67_overlay.specs.AreasEvicted.{AreasEvicted, Remains}
 use Rattle.b67_overlay.proofs.Shedding.{AreasEvicted-none, AreasEvicted-then, AreasEvicted-overlaid, directory_here, object_here, after_here, falls_here, gone_here, past_here, first_here}
-use Rattle.b67_presence_page.specs.Brings.{Waits}
+use Rattle.b67_area.specs.Spans.{Span}
+use Rattle.b67_layout_storage.specs.Machine.{HasHole}
+use Rattle.b67_presence_page.specs.Brings.{Waits, NoHoleStill}
 use Rattle.b67_presence_page.proofs.Ways.{absent_after, readable_after, Came-before, Waits-before}
 use Rattle.b67_presence_page.proofs.way.make_way.Goals as goal
 
@@ -19,13 +21,13 @@ pub areas-init : goal.areas-init
 areas-init g c = record {
   keeps = Keeps-none c.args.cpu.now c.args.areas.now c.args.sectors.now;
   device = Served-none g.B.Backing.holds g.B.Backing.size g.B.Backing.calls g.B.Backing.faults c.args.backing.now;
-  stands = λ x p t m a. (x, AreasEvicted-none x c.args.spare, first_here x c.args.cpu.now c.args.areas.now c.args.sectors.now (g.B.Backing.holds c.args.backing.now) p c.args.spare c.first-next.result m c.first-next.ensures, m, Stayed-none p c.args.cpu.now.core);
+  stands = λ x p t m a. (x, AreasEvicted-none x c.args.spare, first_here x c.args.cpu.now c.args.areas.now c.args.sectors.now (g.B.Backing.holds c.args.backing.now) p c.args.spare c.first-next.result m c.first-next.ensures, m, Stayed-none p c.args.cpu.now.core, λ none room. none room);
 }
 
 pub after-next-requires : goal.after-next-requires
 after-next-requires g c =
     let (x, p, t, m, a) = c.requires.machine in
-    let (y, sh, re, my, st) = c.areas.invariant.stands x p t m a in
+    let (y, sh, re, my, st, nh) = c.areas.invariant.stands x p t m a in
     let ay = absent_after x y p c.args.home c.args.spare t sh a in
     let d = directory_here y c.areas.cpu c.areas.areas c.areas.sectors (g.B.Backing.holds c.areas.backing) p my c.args.spare c.in-Some.at c.areas.next c.in-Some.is re in
     (y.spans, d.0, d.1, d.2)
@@ -33,14 +35,14 @@ after-next-requires g c =
 pub give_way-requires-clause-machine : goal.give_way-requires-clause-machine
 give_way-requires-clause-machine g c =
     let (x, p, t, m, a) = c.requires.machine in
-    let (y, sh, re, my, st) = c.areas.invariant.stands x p t m a in
+    let (y, sh, re, my, st, nh) = c.areas.invariant.stands x p t m a in
     let ay = absent_after x y p c.args.home c.args.spare t sh a in
     let (u, pr) = object_here y c.areas.cpu c.areas.areas c.areas.sectors (g.B.Backing.holds c.areas.backing) p my c.args.spare c.in-Some.at c.areas.next c.in-Some.is re in
     (y, p, t, u, my, ay, pr)
 
 pub returns-in-Ok-true-clause-row : goal.returns-in-Ok-true-clause-row
 returns-in-Ok-true-clause-row g c = λ x p t m a.
-    let (y, sh, re, my, st) = c.areas.invariant.stands x p t m a in
+    let (y, sh, re, my, st, nh) = c.areas.invariant.stands x p t m a in
     let ay = absent_after x y p c.args.home c.args.spare t sh a in
     let (u, pr) = object_here y c.areas.cpu c.areas.areas c.areas.sectors (g.B.Backing.holds c.areas.backing) p my c.args.spare c.in-Some.at c.areas.next c.in-Some.is re in
     record {
@@ -53,7 +55,7 @@ returns-in-Ok-true-clause-row g c = λ x p t m a.
 
 pub returns-in-Err-clause-row : goal.returns-in-Err-clause-row
 returns-in-Err-clause-row g c = λ x p t m a.
-    let (y, sh, re, my, st) = c.areas.invariant.stands x p t m a in
+    let (y, sh, re, my, st, nh) = c.areas.invariant.stands x p t m a in
     let ay = absent_after x y p c.args.home c.args.spare t sh a in
     let (u, pr) = object_here y c.areas.cpu c.areas.areas c.areas.sectors (g.B.Backing.holds c.areas.backing) p my c.args.spare c.in-Some.at c.areas.next c.in-Some.is re in
     record {
@@ -63,12 +65,12 @@ returns-in-Err-clause-row g c = λ x p t m a.
       refused = Waits-before x y p c.args.spare c.give_way.new.cpu c.give_way.new.areas c.give_way.new.sectors (g.B.Backing.holds c.give_way.new.backing) sh (c.in-Err.ensures.refused y p t u my ay pr);
       full = λ wants free e.
           let r = c.in-Err.ensures.full y p t u wants free my ay pr (let z : ◌≡◌ {A = Result Bool SpaceFault} (Err c.in-Err.fault) (Err (BackingFull wants free)) = cc in z) in
-          (Waits-before x y p c.args.spare c.give_way.new.cpu c.give_way.new.areas c.give_way.new.sectors (g.B.Backing.holds c.give_way.new.backing) sh r.0, r.1);
+          (Waits-before x y p c.args.spare c.give_way.new.cpu c.give_way.new.areas c.give_way.new.sectors (g.B.Backing.holds c.give_way.new.backing) sh r.0, r.1, λ none room. nh none (subst (λ (z : List Span). HasHole (length t.numbers + 2) z) r.2 room));
     }
 
 pub returns-clause-row : goal.returns-clause-row
 returns-clause-row g c = λ x p t m a.
-    let (y, sh, re, my, st) = c.areas.invariant.stands x p t m a in
+    let (y, sh, re, my, st, nh) = c.areas.invariant.stands x p t m a in
     let ay = absent_after x y p c.args.home c.args.spare t sh a in
     record {
       outside = st;
@@ -85,7 +87,7 @@ returns-clause-row g c = λ x p t m a.
 pub areas-smaller : goal.areas-smaller
 areas-smaller g c =
     let (x, p, t, m, a) = c.requires.machine in
-    let (y, sh, re, my, st) = c.areas.invariant.stands x p t m a in
+    let (y, sh, re, my, st, nh) = c.areas.invariant.stands x p t m a in
     let ay = absent_after x y p c.args.home c.args.spare t sh a in
     falls_here y c.areas.cpu c.areas.areas c.areas.sectors (g.B.Backing.holds c.areas.backing) p my c.args.spare c.in-Some.at c.areas.next c.in-Some.is re c.after-next.result (after_here y c.areas.cpu c.areas.areas c.areas.sectors (g.B.Backing.holds c.areas.backing) p my c.args.spare c.in-Some.at c.areas.next c.in-Some.is re c.after-next.result c.after-next.ensures)
 
@@ -96,7 +98,7 @@ areas-preserved g c =
       keeps = Keeps-then c.args.cpu.now c.areas.cpu c.give_way.new.cpu c.args.areas.now c.areas.areas c.give_way.new.areas c.args.sectors.now c.areas.sectors c.give_way.new.sectors v.keeps c.give_way.ensures.keeps;
       device = Served-then g.B.Backing.holds g.B.Backing.size g.B.Backing.calls g.B.Backing.faults c.args.backing.now c.areas.backing c.give_way.new.backing v.device c.give_way.ensures.device;
       stands = λ x p t m a.
-          let (y, sh, re, my, st) = c.areas.invariant.stands x p t m a in
+          let (y, sh, re, my, st, nh) = c.areas.invariant.stands x p t m a in
           let ay = absent_after x y p c.args.home c.args.spare t sh a in
           let (u, pr) = object_here y c.areas.cpu c.areas.areas c.areas.sectors (g.B.Backing.holds c.areas.backing) p my c.args.spare c.in-Some.at c.areas.next c.in-Some.is re in
           let tells : (all : List (List ℕ)) → g.B.Backing.holds c.areas.backing ≡ Some all → g.B.Backing.holds c.give_way.new.backing ≢ None = λ all e n. let (q, i) = still_tells g.B.Backing.holds g.B.Backing.size g.B.Backing.calls g.B.Backing.faults c.areas.backing c.give_way.new.backing c.give_way.ensures.device all e in none-some q (sym n ∙ i) in
@@ -106,14 +108,15 @@ areas-preserved g c =
           let e = (after_here y c.areas.cpu c.areas.areas c.areas.sectors (g.B.Backing.holds c.areas.backing) p my c.args.spare c.in-Some.at c.areas.next c.in-Some.is re c.after-next.result c.after-next.ensures) in
           ⊎_elim
           (λ (q : c.in-Some.at ≡ c.args.spare).
-          let done : (s : Storage) × AreasEvicted x s c.args.spare × Remains s.low s.spans c.args.spare c.after-next.result × MachineCanPage s c.give_way.new.cpu c.give_way.new.areas c.give_way.new.sectors (g.B.Backing.holds c.give_way.new.backing) p × Stayed p c.args.cpu.now.core c.give_way.new.cpu.core = (y, sh, past_here y c.areas.cpu c.areas.areas c.areas.sectors (g.B.Backing.holds c.areas.backing) p my c.args.spare c.in-Some.at c.areas.next c.in-Some.is re c.after-next.result e q, r.0 q, sw) in done)
+          let done : (s : Storage) × AreasEvicted x s c.args.spare × Remains s.low s.spans c.args.spare c.after-next.result × MachineCanPage s c.give_way.new.cpu c.give_way.new.areas c.give_way.new.sectors (g.B.Backing.holds c.give_way.new.backing) p × Stayed p c.args.cpu.now.core c.give_way.new.cpu.core × NoHoleStill (length t.numbers + 2) x s = (y, sh, past_here y c.areas.cpu c.areas.areas c.areas.sectors (g.B.Backing.holds c.areas.backing) p my c.args.spare c.in-Some.at c.areas.next c.in-Some.is re c.after-next.result e q, r.0 q, sw, nh) in done)
           (λ (n : c.in-Some.at ≡ c.args.spare → ⊥).
-          let done : (s : Storage) × AreasEvicted x s c.args.spare × Remains s.low s.spans c.args.spare c.after-next.result × MachineCanPage s c.give_way.new.cpu c.give_way.new.areas c.give_way.new.sectors (g.B.Backing.holds c.give_way.new.backing) p × Stayed p c.args.cpu.now.core c.give_way.new.cpu.core = (
+          let done : (s : Storage) × AreasEvicted x s c.args.spare × Remains s.low s.spans c.args.spare c.after-next.result × MachineCanPage s c.give_way.new.cpu c.give_way.new.areas c.give_way.new.sectors (g.B.Backing.holds c.give_way.new.backing) p × Stayed p c.args.cpu.now.core c.give_way.new.cpu.core × NoHoleStill (length t.numbers + 2) x s = (
             z,
             AreasEvicted-then x y z c.args.spare sh (AreasEvicted-overlaid y (g.B.Backing.holds c.areas.backing) (g.B.Backing.holds c.give_way.new.backing) my.device tells u c.in-Some.at c.args.spare pr.present n),
             gone_here y c.areas.cpu c.areas.areas c.areas.sectors (g.B.Backing.holds c.areas.backing) p my c.args.spare c.in-Some.at c.areas.next c.in-Some.is re c.after-next.result e n,
-            r.1 n,
+            (r.1 n).0,
             sw,
+            λ none room. (r.1 n).1 room,
           ) in done)
           (cases_eq c.in-Some.at c.args.spare);
     }

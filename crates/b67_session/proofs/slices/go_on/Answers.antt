@@ -1,10 +1,12 @@
-use Rattle.std.proofs.Common.{◌≡◌, ◌≢◌, ◌≤◌, ℕ, ◌+◌, List, Option, Some, None, Result, Ok, Err, length, refl, sym, ◌∙◌, subst, arith}
+use Rattle.std.proofs.Common.{◌≡◌, ◌≢◌, ◌≤◌, ℕ, ◌+◌, List, Option, Some, None, Result, Ok, Err, length, refl, sym, ◌∙◌, ap, subst, arith}
 use Rattle.b67_model.specs.Common.{Task, SessionJob, Session}
 use Rattle.b67_layout_storage.specs.Machine.{Says, content_after}
 use Rattle.b67_layout_storage.proofs.Devices.{Served-none, Served-then}
 use Rattle.b67_layout_storage.proofs.Retold.{retold-same}
 use Rattle.b67_law_sessions.specs.Turns.{IsNext}
-use Rattle.b67_session_attempt.specs.Stops.{Stop}
+use Rattle.b67_session_attempt.specs.Stops.{Stop, BackingFull}
+use Rattle.b67_session_attempt.specs.Attempts.{IsNotFull}
+use Rattle.b67_session_attempt.proofs.Composed.{not_full_ok}
 use Rattle.b67_session.specs.declared.slices.Progress.{Progress}
 use Rattle.b67_session.specs.declared.slices.Progress.TheVariants as progress
 use Rattle.b67_session.specs.Slices.{StandsAt, Keeps, StopsWithRoom, IfPresent}
@@ -49,10 +51,11 @@ module _ (g : Over) (c : After-step g) where
 
     present : (m : SessionJob) (t : Task) → IsNext s m t → (answered : Result Progress Stop) → c.turn.machine.tasks.made ≤ c.step.new.machine.tasks.made → c.turn.made + 1 ≤ c.args.n
         → (StopsWithRoom (length c.args.machine.now.cpu.core) s m t c.step.result → StopsWithRoom (length c.args.machine.now.cpu.core) s m t answered)
-        → IfPresent (known ≢ None) (length c.args.machine.now.cpu.core) c.args.n h.storage h.plan s m t answered c.args.machine.now c.step.new.machine c.args.backing.now c.step.new.backing
-    present m t next answered later few same =
-        begun_present known (length c.turn.machine.cpu.core) (length c.args.machine.now.cpu.core) c.args.n c.turn.made c.args.machine.now c.turn.machine c.step.new.machine s m t
-        c.args.backing.now c.turn.backing c.step.new.backing c.step.result answered c.turn.invariant.begun c.turn.invariant.keeps.core going.made later few same
+        → (IsNotFull c.step.result → IsNotFull answered) → ((sum size : ℕ) → answered ≡ Err (BackingFull sum size) → c.step.result ≡ Err (BackingFull sum size))
+        → IfPresent g.B.Backing.holds (known ≢ None) (length c.args.machine.now.cpu.core) c.args.n h.storage h.plan s m t answered c.args.machine.now c.step.new.machine c.args.backing.now c.step.new.backing
+    present m t next answered later few same fine full =
+        begun_present g.B.Backing.holds known (length c.turn.machine.cpu.core) (length c.args.machine.now.cpu.core) c.args.n c.turn.made c.args.machine.now c.turn.machine c.step.new.machine s m t
+        c.args.backing.now c.turn.backing c.step.new.backing c.step.result answered c.turn.invariant.begun c.turn.invariant.keeps.core going.made later few same fine full
         (λ none l. c.step.ensures.present known s m t (subst (λ d. Says known (g.B.Backing.holds d)) (sym (c.turn.invariant.begun none).1) says) l next) h
 
 -- ---- the loop
@@ -71,6 +74,7 @@ turn-init g c = record {
   none = λ none. refl;
   unprinted = λ none. refl;
   quiet = λ known s m t h says next few wants same. refl;
+  written = λ known s m t h says next tells few fits none. record { told = λ all e. e };
 }
 
 pub step-requires-clause-lives : goal.step-requires-clause-lives
@@ -127,7 +131,10 @@ turn-preserved g c =
       unprinted = λ none. absurd (omega (arith, none));
       quiet = λ known s m t h says next few wants.
           let later = made_no_fewer (stepped g a known s says h (Ok tt) is) in
-          (present g a known s says h m t next (Ok progress.More) later (omega arith) (λ room. tt)).quiet few wants;
+          (present g a known s says h m t next (Ok progress.More) later (omega arith) (λ room. tt) (λ whole. not_full_ok progress.More) (λ sum size e. absurd cc)).quiet few wants;
+      written = λ known s m t h says next tells few fits none.
+          let later = made_no_fewer (stepped g a known s says h (Ok tt) is) in
+          ((present g a known s says h m t next (Ok progress.More) later (omega arith) (λ room. tt) (λ whole. not_full_ok progress.More) (λ sum size e. absurd cc)).hole tells few fits none).written;
     }
 
 -- ---- the answers
@@ -138,7 +145,13 @@ returns-in-Some-clause-row g c = λ known s says h.
     (c.turn.invariant.going known s says h) (omega arith) c.in-Some.progress c.in-Some.ensures
 
 pub returns-in-Some-clause-present : goal.returns-in-Some-clause-present
-returns-in-Some-clause-present g c = λ known s m t says h next. record { quiet = λ few wants. c.turn.invariant.quiet known s m t h says next few wants; room = λ tells code none. tt }
+returns-in-Some-clause-present g c = λ known s m t says h next.
+    record {
+      quiet = λ few wants. c.turn.invariant.quiet known s m t h says next few wants;
+      hole = λ tells few fits none. record { written = c.turn.invariant.written known s m t h says next tells few fits none; not_full = not_full_ok c.in-Some.progress };
+      sum = λ few wants sum size e. absurd (let b : ⊥ = cc in b);
+      room = λ tells code none. tt;
+    }
 
 pub returns-in-Some-pause-clause-row : goal.returns-in-Some-pause-clause-row
 returns-in-Some-pause-clause-row g c = λ known s says h.
@@ -146,7 +159,13 @@ returns-in-Some-pause-clause-row g c = λ known s says h.
     (c.turn.invariant.going known s says h) (omega arith) c.in-Some-pause.progress c.in-Some-pause.ensures
 
 pub returns-in-Some-pause-clause-present : goal.returns-in-Some-pause-clause-present
-returns-in-Some-pause-clause-present g c = λ known s m t says h next. record { quiet = λ few wants. c.turn.invariant.quiet known s m t h says next few wants; room = λ tells code none. tt }
+returns-in-Some-pause-clause-present g c = λ known s m t says h next.
+    record {
+      quiet = λ few wants. c.turn.invariant.quiet known s m t h says next few wants;
+      hole = λ tells few fits none. record { written = c.turn.invariant.written known s m t h says next tells few fits none; not_full = not_full_ok c.in-Some-pause.progress };
+      sum = λ few wants sum size e. absurd (let b : ⊥ = cc in b);
+      room = λ tells code none. tt;
+    }
 
 pub returns-in-None-clause-row : goal.returns-in-None-clause-row
 returns-in-None-clause-row g c = λ known s says h.
@@ -154,7 +173,13 @@ returns-in-None-clause-row g c = λ known s says h.
     (c.turn.invariant.going known s says h) (omega arith) c.in-None.ensures.0 c.in-None.ensures.1
 
 pub returns-in-None-clause-present : goal.returns-in-None-clause-present
-returns-in-None-clause-present g c = λ known s m t says h next. record { quiet = λ few wants. c.turn.invariant.quiet known s m t h says next few wants; room = λ tells code none. tt }
+returns-in-None-clause-present g c = λ known s m t says h next.
+    record {
+      quiet = λ few wants. c.turn.invariant.quiet known s m t h says next few wants;
+      hole = λ tells few fits none. record { written = c.turn.invariant.written known s m t h says next tells few fits none; not_full = not_full_ok progress.More };
+      sum = λ few wants sum size e. absurd (let b : ⊥ = cc in b);
+      room = λ tells code none. tt;
+    }
 
 pub returns-in-Err-clause-row : goal.returns-in-Err-clause-row
 returns-in-Err-clause-row g c = λ known s says h.
@@ -168,6 +193,8 @@ returns-in-Err-clause-present g c = λ known s m t says h next.
     let a = (goal.at.returns-in-Err-clause-present g c).After-step in
     present g a known s says h m t next (Err c.in-Err.stop) (made_no_fewer (stepped g a known s says h c.step.result refl)) (omega arith)
     (stop_rooms (length c.args.machine.now.cpu.core) s m t c.in-Err.stop c.step.result c.in-Err.is)
+    (λ whole sum size e. whole sum size (c.in-Err.is ∙ ap Err (let is : c.in-Err.stop ≡ BackingFull sum size = cc in is)))
+    (λ sum size e. c.in-Err.is ∙ ap Err (let is : c.in-Err.stop ≡ BackingFull sum size = cc in is))
 
 pub returns-in-Err-clause-keeps : goal.returns-in-Err-clause-keeps
 returns-in-Err-clause-keeps g c = keeps g (goal.at.returns-in-Err-clause-keeps g c).After-step

@@ -1,9 +1,10 @@
 use Rattle.std.proofs.Common.{◌≡◌, ◌≢◌, ◌≤◌, ◌-◌, ℕ, List, [], Option, None}
 use Rattle.b67_model.specs.Common.{Task, SessionJob, Session}
+use Rattle.b67_backing.specs.Held.{Becomes}
 use Rattle.b67_layout_storage.specs.Machine.{Says, DeviceAfterCalls, content_after}
 use Rattle.b67_law_sessions.specs.Turns.{IsNext}
 use Rattle.b67_session_attempt.specs.Passed.{AreCountable, CallsDevice}
-use Rattle.b67_session_attempt.specs.Attempts.{WantsNothing}
+use Rattle.b67_session_attempt.specs.Attempts.{WantsNothing, HoleFits}
 use Rattle.b67_session.specs.Slices.{StandsAt, Keeps}
 use Rattle.b67_session.proofs.Going.{Going}
 use Rattle.b67_session.proofs.slices.go_on.Given as goal
@@ -22,6 +23,8 @@ invariant-turn g l = record {
   unprinted : l.made ≡ 0 → l.paper ≡ l.initial.paper;
   quiet : (told : Option (List (List ℕ))) (s : Session) (m : SessionJob) (t : Task) (h : StandsAt told l.initial.machine s) → Says told (g.B.Backing.holds l.initial.backing) → IsNext s m t
       → l.n ≤ 1 → WantsNothing h.storage h.plan m t → (CallsDevice m t → ⊥) → l.backing ≡ l.initial.backing;
+  written : (told : Option (List (List ℕ))) (s : Session) (m : SessionJob) (t : Task) (h : StandsAt told l.initial.machine s) → Says told (g.B.Backing.holds l.initial.backing) → IsNext s m t
+      → told ≢ None → l.n ≤ 1 → HoleFits h.storage h.plan m t → (CallsDevice m t → ⊥) → Becomes g.B.Backing.holds l.initial.backing l.backing (λ all. all);
 }
 
 abbrev pub decreases-turn : goal.decreases-turn

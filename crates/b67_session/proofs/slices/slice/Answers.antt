@@ -45,7 +45,7 @@ returns-then-not-is_at_limit-clause-resumed g c = λ known h part says l. absurd
 
 pub returns-then-not-is_at_limit-clause-complete : goal.returns-then-not-is_at_limit-clause-complete
 returns-then-not-is_at_limit-clause-complete g c = λ known s tells says sets ample calm quiet.
-    completes g.K.Sink.taken known (content_after known (g.B.Backing.holds c.go_on.new.backing)) (g.B.Backing.size c.args.backing.now) c.args.n c.go_on.result c.args.machine.now c.go_on.new.machine
+    completes g.B.Backing.holds g.K.Sink.taken known (content_after known (g.B.Backing.holds c.go_on.new.backing)) (g.B.Backing.size c.args.backing.now) c.args.n c.go_on.result c.args.machine.now c.go_on.new.machine
     c.args.backing.now c.go_on.new.backing c.args.paper.now c.go_on.new.paper
     (λ s h. c.go_on.ensures.row known s says h) (λ h part l. returns-then-not-is_at_limit-clause-resumed g c known h part says l) c.go_on.ensures.keeps tells s sets ample
     (no_fault g.B.Backing.faults g.K.Sink.faults c.args.backing.now c.go_on.new.backing c.args.paper.now c.go_on.new.paper c.go_on.result c.go_on.ensures.causes calm quiet)
@@ -106,7 +106,7 @@ pub returns-in-Ok-clause-complete : goal.returns-in-Ok-clause-complete
 returns-in-Ok-clause-complete g c = λ known s tells says sets ample calm quiet.
     (let causes = c.go_on-in-Ok.ensures.causes in
     let later = c.in-Ok.ensures.cause.later in
-    completes g.K.Sink.taken known (content_after known (g.B.Backing.holds c.go_on-in-Ok.new.backing)) (g.B.Backing.size c.args.backing.now) c.args.n c.go_on-in-Ok.result c.args.machine.now c.go_on-in-Ok.new.machine
+    completes g.B.Backing.holds g.K.Sink.taken known (content_after known (g.B.Backing.holds c.go_on-in-Ok.new.backing)) (g.B.Backing.size c.args.backing.now) c.args.n c.go_on-in-Ok.result c.args.machine.now c.go_on-in-Ok.new.machine
     c.args.backing.now c.go_on-in-Ok.new.backing c.args.paper.now c.go_on-in-Ok.new.paper
     (λ s h. absurd (stands_not known c.args.machine.now s h c.is_at_limit.ensures c.if-not-is_at_limit.false)) (λ h part l. returns-in-Ok-clause-resumed g c known h part says l) (let first = keeps_counts c.args.machine.now c.end_by_limit.new.machine c.end_by_limit.ensures.keeps in
     let rest = c.go_on-in-Ok.ensures.keeps in

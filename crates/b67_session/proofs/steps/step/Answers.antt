@@ -14,7 +14,7 @@ use Rattle.b67_session.proofs.steps.step.Goals.{After-attempt}
 use Rattle.b67_session.proofs.steps.step.Goals as goal
 
 -- a task has the turn, and its operator was tried
-context : (g : Over) (c : After-attempt g) → Tries g.K.Sink.taken (g.B.Backing.holds c.args.backing.now) (g.B.Backing.holds c.attempt.new.backing) (g.B.Backing.size c.args.backing.now) c.args.machine.now c.in-Some.chosen c.give_turn.new.machine c.attempt.result c.attempt.new.machine c.args.backing.now c.attempt.new.backing c.args.paper.now c.attempt.new.paper
+context : (g : Over) (c : After-attempt g) → Tries g.B.Backing.holds g.K.Sink.taken (g.B.Backing.holds c.args.backing.now) (g.B.Backing.holds c.attempt.new.backing) (g.B.Backing.size c.args.backing.now) c.args.machine.now c.in-Some.chosen c.give_turn.new.machine c.attempt.result c.attempt.new.machine c.args.backing.now c.attempt.new.backing c.args.paper.now c.attempt.new.paper
 context g c = record {
   chooses = c.in-Some.ensures.choice;
   counts = c.in-Some.ensures.room;

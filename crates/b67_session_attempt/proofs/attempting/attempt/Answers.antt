@@ -1,12 +1,14 @@
-use Rattle.std.proofs.Common.{◌≢◌, ◌∙◌, None, Err, refl, sym, ap, arith, length, subst}
+use Rattle.std.proofs.Common.{◌≡◌, ◌≢◌, ◌∙◌, None, Err, refl, sym, ap, arith, length, subst, ⊎_elim}
 use Rattle.b67_layout_storage.specs.Machine.{content_after}
 use Rattle.b67_layout_storage.proofs.Devices.{still_tells, Served-then}
 use Rattle.b67_exec_cells.specs.Running.{code_area}
 use Rattle.b67_task_tables.specs.declared.tables.Machine.{Machine}
 use Rattle.b67_task_tables.specs.declared.tables.Tasks.{Tasks}
 use Rattle.b67_mcp.specs.Running.{JobsHaveRoom}
+use Rattle.b67_session_attempt.specs.Attempts.{WantsNothing, HoleFits}
+use Rattle.b67_mcp.specs.declared.ends.Stop.TheVariants.{BackingFull}
 use Rattle.b67_session_attempt.specs.declared.outcomes.Attempt.TheVariants.{Made, Ends, Waits}
-use Rattle.b67_session_attempt.proofs.Composed.{made_once, ends_once, waits_once, stops_once, never, unchanged_over, goes_on_telling, stopped_attempt, runs_over, wants_some, tables_after_end, tables_after_wait, tables_after_want, tables_after_stop, tables_stay, tables_from, room_after_stop, may_call, stop_calls, attempt_as, same_needs, still_told, other, in_order, then_on, room_after_want, code_there}
+use Rattle.b67_session_attempt.proofs.Composed.{made_once, ends_once, waits_once, stops_once, never, unchanged_over, goes_on_telling, stopped_attempt, runs_over, wants_some, tables_after_end, tables_after_wait, tables_after_want, tables_after_stop, tables_stay, tables_from, room_after_stop, may_call, stop_calls, attempt_as, same_needs, still_told, other, in_order, then_on, room_after_want, code_there, still_holds, held_from, held_till, not_full_as, not_full_ok, not_full_once, tells_once, hole_for, then_nothing, no_call, keeps_areas, areas_kept, not_made}
 use Rattle.b67_session_attempt.proofs.Runs.{ready_over, caused_none, caused_stop, caused_want, caused_later, kept_then, kept_tasks}
 use Rattle.b67_session_attempt.proofs.attempting.attempt.Goals as goal
 
@@ -42,6 +44,9 @@ returns-in-Ok-Made-clause-row g c = λ x plan s m t o h runs ready.
           (tried.row h.says);
       fits = λ tells. tried.fits;
       quiet = λ nothing same. tried.quiet (λ w. same (may_call x plan m t w));
+      hole = λ exact fits none. record { written = still_holds B.holds c.args.backing.now c.try_once.new.backing (tried.quiet (λ w. none (may_call x plan m t w))); not_full = not_full_ok Made };
+      areas = λ nothing e. keeps_areas g.K.Sink.taken x (content_after x.device (B.holds c.try_once.new.backing)) c.args.machine.now.tasks.printed plan s m t c.try_once.new.machine c.args.paper.now c.try_once.new.paper (tried.row h.says);
+      sum = λ nothing sum size e. absurd (let b : ⊥ = cc in b);
     }
 
 pub returns-in-Ok-Ends-clause-row : goal.returns-in-Ok-Ends-clause-row
@@ -54,6 +59,9 @@ returns-in-Ok-Ends-clause-row g c = λ x plan s m t o h runs ready.
           quiet (tried.row h.says);
       fits = λ tells. tried.fits;
       quiet = λ nothing same. quiet;
+      hole = λ exact fits none. record { written = still_holds B.holds c.args.backing.now c.try_once.new.backing quiet; not_full = not_full_ok (Ends c.in-Ok-Ends.ending) };
+      areas = λ nothing e. absurd (let b : ⊥ = cc in b);
+      sum = λ nothing sum size e. absurd (let b : ⊥ = cc in b);
     }
 
 pub returns-in-Ok-Waits-clause-row : goal.returns-in-Ok-Waits-clause-row
@@ -66,6 +74,9 @@ returns-in-Ok-Waits-clause-row g c = λ x plan s m t o h runs ready.
           quiet (tried.row h.says);
       fits = λ tells. tried.fits;
       quiet = λ nothing same. quiet;
+      hole = λ exact fits none. record { written = still_holds B.holds c.args.backing.now c.try_once.new.backing quiet; not_full = not_full_ok (Waits c.in-Ok-Waits.state) };
+      areas = λ nothing e. absurd (let b : ⊥ = cc in b);
+      sum = λ nothing sum size e. absurd (let b : ⊥ = cc in b);
     }
 
 pub returns-in-Err-clause-row : goal.returns-in-Err-clause-row
@@ -79,6 +90,14 @@ returns-in-Err-clause-row g c = λ x plan s m t o h runs ready.
           quiet fits (tried.row h.says);
       fits = λ tells. room_after_stop (length c.args.machine.now.cpu.core) x plan s m t c.in-Err.stop fits;
       quiet = λ nothing same. quiet (λ w. same (stop_calls x plan m t c.in-Err.stop w));
+      hole = λ exact fits none. record {
+        written = still_holds B.holds c.args.backing.now c.try_once.new.backing (quiet (λ w. none (stop_calls x plan m t c.in-Err.stop w)));
+        not_full = not_full_once g.K.Sink.taken (content_after x.device (B.holds c.try_once.new.backing)) (B.size c.args.backing.now) x plan s m t c.args.machine.now c.try_once.new.machine c.args.paper.now c.try_once.new.paper c.in-Err.stop (tried.row h.says) none;
+      };
+      areas = λ nothing e. absurd (let b : ⊥ = cc in b);
+      sum = λ nothing sum size e.
+          tells_once g.K.Sink.taken (content_after x.device (B.holds c.try_once.new.backing)) (B.size c.args.backing.now) x plan s m t c.args.machine.now c.try_once.new.machine c.args.paper.now c.try_once.new.paper c.in-Err.stop sum size (tried.row h.says)
+          (let is : c.in-Err.stop ≡ BackingFull sum size = cc in is);
     }
 
 pub returns-in-Err-bring_wanted-clause-row : goal.returns-in-Err-bring_wanted-clause-row
@@ -100,6 +119,11 @@ returns-in-Err-bring_wanted-clause-row g c = λ x plan s m t o h runs ready.
       fits = λ tells. room_after_want (length c.args.machine.now.cpu.core) size x plan s m t c.in-Err-bring_wanted.stop core
           (λ e. c.in-Err-bring_wanted.ensures.silent (ap Err e)) (c.in-Err-bring_wanted.ensures.fits x plan s m t w.0 o k runs w.1 w.2);
       quiet = λ nothing same. absurd (never g.K.Sink.taken (content_after x.device (B.holds c.try_once.new.backing)) (B.size c.args.backing.now) x plan s m t c.args.machine.now c.try_once.new.machine c.args.paper.now c.try_once.new.paper c.in-Ok-Absent.wanted nothing w);
+      hole = λ exact fits none.
+          let into = c.in-Err-bring_wanted.ensures.hole x plan s m t w.0 o k runs w.1 (hole_for x plan s m t o runs c.in-Ok-Absent.wanted w.0 w.1 w.2 fits) in
+          record { written = held_from B.holds c.args.backing.now c.try_once.new.backing c.bring_wanted.new.backing same into.used.written; not_full = not_full_as c.in-Err-bring_wanted.stop into.used.not_full };
+      areas = λ nothing e. absurd (not_made c.in-Err-bring_wanted.stop Made e);
+      sum = λ nothing. absurd (never g.K.Sink.taken (content_after x.device (B.holds c.try_once.new.backing)) (B.size c.args.backing.now) x plan s m t c.args.machine.now c.try_once.new.machine c.args.paper.now c.try_once.new.paper c.in-Ok-Absent.wanted nothing w);
     }
 
 pub returns-in-Ok-clause-row : goal.returns-in-Ok-clause-row
@@ -128,6 +152,29 @@ returns-in-Ok-clause-row g c = λ x plan s m t o h runs ready.
           (c.with_code.ensures.fits b.again.storage plan (record s { jobs = b.again.jobs }) r.member t (in_order x told' new plan s m t o runs found b) b.again.stands r.runs ready code
           (still_told x told' new plan s m t o runs found b exact tells));
       quiet = λ nothing same. absurd (never g.K.Sink.taken (content_after x.device mid) (B.size c.args.backing.now) x plan s m t c.args.machine.now c.try_once.new.machine c.args.paper.now c.try_once.new.paper found nothing w);
+      hole = λ exact fits none.
+          let into = c.in-Ok.ensures.hole x plan s m t w.0 o k runs w.1 (hole_for x plan s m t o runs found w.0 w.1 w.2 fits) in
+          let placed = into.in_place.brings in
+          let there = other x told' new plan s m t o runs found placed in
+          let calm = c.with_code.ensures.calm placed.again.storage plan (record s { jobs = placed.again.jobs }) there.member t (in_order x told' new plan s m t o runs found placed) placed.again.stands there.runs ready
+          (then_nothing x told' new plan s m t o runs found placed w.0 fits w.1 w.2 into.in_place.areas exact) (no_call x told' new plan s m t o runs found placed exact none) in
+          record {
+            written = held_till B.holds c.args.backing.now c.bring_wanted.new.backing c.with_code.new.backing calm.same
+                (held_from B.holds c.args.backing.now c.try_once.new.backing c.bring_wanted.new.backing same into.used.written);
+            not_full = calm.not_full;
+          };
+      areas = λ calm made. ⊎_elim
+          (λ (nothing : WantsNothing x plan m t). absurd (never g.K.Sink.taken (content_after x.device mid) (B.size c.args.backing.now) x plan s m t c.args.machine.now c.try_once.new.machine c.args.paper.now c.try_once.new.paper found nothing w))
+          (λ (fits : (x.device ≢ None) × HoleFits x plan m t).
+          let into = c.in-Ok.ensures.hole x plan s m t w.0 o k runs w.1 (hole_for x plan s m t o runs found w.0 w.1 w.2 fits.1) in
+          let placed = into.in_place.brings in
+          let there = other x told' new plan s m t o runs found placed in
+          areas_kept g.K.Sink.taken x told' (B.holds c.with_code.new.backing) new c.with_code.new.machine c.args.machine.now.tasks.printed new.tasks.printed plan s m t o runs found placed fits.0 tells
+          c.args.paper.now c.try_once.new.paper c.with_code.new.paper w.4 printed into.in_place.areas
+          (c.with_code.ensures.areas placed.again.storage plan (record s { jobs = placed.again.jobs }) there.member t (in_order x told' new plan s m t o runs found placed) placed.again.stands there.runs ready
+          (then_nothing x told' new plan s m t o runs found placed w.0 fits.1 w.1 w.2 into.in_place.areas fits.0) made))
+          calm;
+      sum = λ nothing. absurd (never g.K.Sink.taken (content_after x.device mid) (B.size c.args.backing.now) x plan s m t c.args.machine.now c.try_once.new.machine c.args.paper.now c.try_once.new.paper found nothing w);
     }
 
 pub returns-in-Ok-Made-clause-causes : goal.returns-in-Ok-Made-clause-causes

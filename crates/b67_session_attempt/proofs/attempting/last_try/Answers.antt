@@ -3,7 +3,7 @@ use Rattle.b67_word.specs.declared.faults.Fault.TheVariants.{InvalidOperator}
 use Rattle.b67_word.specs.declared.faults.Ending.TheVariants.{Faulted}
 use Rattle.b67_layout_storage.specs.Machine.{content_after}
 use Rattle.b67_session_attempt.specs.declared.outcomes.Attempt.TheVariants.{Made, Ends, Waits}
-use Rattle.b67_session_attempt.proofs.Composed.{made_once, ends_once, waits_once, stops_once, gives_up_once, never, tables_after_end, tables_after_wait, tables_after_want, tables_after_stop, room_after_stop}
+use Rattle.b67_session_attempt.proofs.Composed.{made_once, ends_once, waits_once, stops_once, gives_up_once, never, tables_after_end, tables_after_wait, tables_after_want, tables_after_stop, room_after_stop, may_call, stop_calls, not_full_ok, not_full_once}
 use Rattle.b67_session_attempt.proofs.Runs.{ready_over, caused_none, caused_stop}
 use Rattle.b67_session_attempt.proofs.attempting.last_try.Goals as goal
 
@@ -36,7 +36,7 @@ pub returns-in-Ok-Absent-clause-row : goal.returns-in-Ok-Absent-clause-row
 returns-in-Ok-Absent-clause-row g c = λ x plan s m t o h runs ready none.
     let B = g.B.Backing in
     let tried = (rw c.in-Ok-Absent.field-0-is at c.in-Ok-Absent.ensures.tried) x x.device plan s m t o h.stands runs ready in
-    gives_up_once B.holds g.K.Sink.taken c.args.backing.now c.try_once.new.backing x (B.size c.args.backing.now) plan s m t o runs c.args.machine.now c.try_once.new.machine h c.args.paper.now c.try_once.new.paper (Faulted InvalidOperator) c.in-Ok-Absent.field-0-0
+    gives_up_once B.holds g.K.Sink.taken c.args.backing.now c.try_once.new.backing x (B.size c.args.backing.now) plan s m t o runs c.args.machine.now c.try_once.new.machine h c.args.paper.now c.try_once.new.paper c.in-Ok-Absent.field-0-0
     (tried.quiet (λ w. w)) none
     (tried.row h.says)
 
@@ -108,3 +108,32 @@ returns-in-Err-clause-tables g c =
     let r = c.requires.runs in
     tables_after_stop g.K.Sink.taken (content_after r.storage.device (B.holds c.try_once.new.backing)) (B.size c.args.backing.now) r.storage r.plan r.session r.member r.task c.args.machine.now c.try_once.new.machine c.args.paper.now c.try_once.new.paper c.in-Err.stop
     ((c.in-Err.ensures.tried r.storage r.storage.device r.plan r.session r.member r.task r.ordered r.stands.stands r.running r.ready).row r.stands.says)
+
+pub returns-in-Ok-Made-clause-calm : goal.returns-in-Ok-Made-clause-calm
+returns-in-Ok-Made-clause-calm g c = λ x plan s m t o h runs ready none.
+    let tried = (rw c.in-Ok-Made.field-0-is at c.in-Ok-Made.ensures.tried) x x.device plan s m t o h.stands runs ready in
+    record { same = tried.quiet (λ w. none (may_call x plan m t w)); not_full = not_full_ok Made }
+
+pub returns-in-Ok-Ends-clause-calm : goal.returns-in-Ok-Ends-clause-calm
+returns-in-Ok-Ends-clause-calm g c = λ x plan s m t o h runs ready none.
+    let tried = (rw c.in-Ok-Ends.field-0-is at c.in-Ok-Ends.ensures.tried) x x.device plan s m t o h.stands runs ready in
+    record { same = tried.quiet (λ w. w); not_full = not_full_ok (Ends c.in-Ok-Ends.ending) }
+
+pub returns-in-Ok-Waits-clause-calm : goal.returns-in-Ok-Waits-clause-calm
+returns-in-Ok-Waits-clause-calm g c = λ x plan s m t o h runs ready none.
+    let tried = (rw c.in-Ok-Waits.field-0-is at c.in-Ok-Waits.ensures.tried) x x.device plan s m t o h.stands runs ready in
+    record { same = tried.quiet (λ w. w); not_full = not_full_ok (Waits c.in-Ok-Waits.state) }
+
+pub returns-in-Ok-Absent-clause-calm : goal.returns-in-Ok-Absent-clause-calm
+returns-in-Ok-Absent-clause-calm g c = λ x plan s m t o h runs ready none.
+    let tried = (rw c.in-Ok-Absent.field-0-is at c.in-Ok-Absent.ensures.tried) x x.device plan s m t o h.stands runs ready in
+    record { same = tried.quiet (λ w. w); not_full = not_full_ok (Ends (Faulted InvalidOperator)) }
+
+pub returns-in-Err-clause-calm : goal.returns-in-Err-clause-calm
+returns-in-Err-clause-calm g c = λ x plan s m t o h runs ready none.
+    let B = g.B.Backing in
+    let tried = c.in-Err.ensures.tried x x.device plan s m t o h.stands runs ready in
+    record {
+      same = tried.quiet (λ w. none (stop_calls x plan m t c.in-Err.stop w));
+      not_full = not_full_once g.K.Sink.taken (content_after x.device (B.holds c.try_once.new.backing)) (B.size c.args.backing.now) x plan s m t c.args.machine.now c.try_once.new.machine c.args.paper.now c.try_once.new.paper c.in-Err.stop (tried.row h.says) none;
+    }

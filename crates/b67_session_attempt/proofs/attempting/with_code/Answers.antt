@@ -6,7 +6,7 @@ use Rattle.b67_task_tables.specs.declared.tables.Tasks.{Tasks}
 use Rattle.b67_mcp.specs.Running.{JobsHaveRoom}
 use Rattle.b67_session_attempt.specs.declared.outcomes.Attempt.TheVariants.{Made, Ends, Waits}
 use Rattle.b67_session_attempt.specs.Attempts.{WantsNothing}
-use Rattle.b67_session_attempt.proofs.Composed.{made_once, ends_once, waits_once, stops_once, unchanged_over, goes_on_telling, stopped_attempt, runs_over, wants_some, tables_after_end, tables_after_wait, tables_after_want, tables_after_stop, tables_stay, tables_from, room_after_stop, attempt_as, same_needs, still_told, other, in_order, then_on, room_after_want, wants_nothing}
+use Rattle.b67_session_attempt.proofs.Composed.{made_once, ends_once, waits_once, stops_once, unchanged_over, goes_on_telling, stopped_attempt, runs_over, wants_some, tables_after_end, tables_after_wait, tables_after_want, tables_after_stop, tables_stay, tables_from, room_after_stop, attempt_as, same_needs, still_told, other, in_order, then_on, room_after_want, wants_nothing, never, may_call, stop_calls, not_full_ok, not_full_once, keeps_areas}
 use Rattle.b67_session_attempt.proofs.Runs.{ready_over, caused_none, caused_stop, caused_want, caused_later, kept_then, kept_tasks}
 use Rattle.b67_session_attempt.proofs.attempting.with_code.Goals as goal
 
@@ -226,3 +226,62 @@ last_try-requires-clause-jobs g c =
     let same = tables_after_want g.K.Sink.taken (content_after r.storage.device (B.holds c.try_once.new.backing)) (B.size c.args.backing.now) r.storage r.plan r.session r.member r.task c.args.machine.now c.try_once.new.machine c.args.paper.now c.try_once.new.paper c.in-Ok-Absent.wanted
     (((rw c.in-Ok-Absent.field-0-is at c.in-Ok-Absent.ensures.tried) r.storage r.storage.device r.plan r.session r.member r.task r.ordered r.stands.stands r.running r.ready).row r.stands.says) in
     subst (λ (z : Tasks). JobsHaveRoom z.jobs) (sym (c.bring_wanted.ensures.tasks ∙ same)) c.requires.jobs
+
+pub returns-in-Ok-Made-clause-calm : goal.returns-in-Ok-Made-clause-calm
+returns-in-Ok-Made-clause-calm g c = λ x plan s m t o h runs ready nothing none.
+    let tried = (rw c.in-Ok-Made.field-0-is at c.in-Ok-Made.ensures.tried) x x.device plan s m t o h.stands runs ready in
+    record { same = tried.quiet (λ w. none (may_call x plan m t w)); not_full = not_full_ok Made }
+
+pub returns-in-Ok-Ends-clause-calm : goal.returns-in-Ok-Ends-clause-calm
+returns-in-Ok-Ends-clause-calm g c = λ x plan s m t o h runs ready nothing none.
+    let tried = (rw c.in-Ok-Ends.field-0-is at c.in-Ok-Ends.ensures.tried) x x.device plan s m t o h.stands runs ready in
+    record { same = tried.quiet (λ w. w); not_full = not_full_ok (Ends c.in-Ok-Ends.ending) }
+
+pub returns-in-Ok-Waits-clause-calm : goal.returns-in-Ok-Waits-clause-calm
+returns-in-Ok-Waits-clause-calm g c = λ x plan s m t o h runs ready nothing none.
+    let tried = (rw c.in-Ok-Waits.field-0-is at c.in-Ok-Waits.ensures.tried) x x.device plan s m t o h.stands runs ready in
+    record { same = tried.quiet (λ w. w); not_full = not_full_ok (Waits c.in-Ok-Waits.state) }
+
+pub returns-in-Err-clause-calm : goal.returns-in-Err-clause-calm
+returns-in-Err-clause-calm g c = λ x plan s m t o h runs ready nothing none.
+    let B = g.B.Backing in
+    let tried = c.in-Err.ensures.tried x x.device plan s m t o h.stands runs ready in
+    record {
+      same = tried.quiet (λ w. none (stop_calls x plan m t c.in-Err.stop w));
+      not_full = not_full_once g.K.Sink.taken (content_after x.device (B.holds c.try_once.new.backing)) (B.size c.args.backing.now) x plan s m t c.args.machine.now c.try_once.new.machine c.args.paper.now c.try_once.new.paper c.in-Err.stop (tried.row h.says) none;
+    }
+
+pub returns-in-Err-bring_wanted-clause-calm : goal.returns-in-Err-bring_wanted-clause-calm
+returns-in-Err-bring_wanted-clause-calm g c = λ x plan s m t o h runs ready nothing none.
+    let B = g.B.Backing in
+    let w = ((rw c.in-Ok-Absent.field-0-is at c.in-Ok-Absent.ensures.tried) x x.device plan s m t o h.stands runs ready).row h.says in
+    absurd (never g.K.Sink.taken (content_after x.device (B.holds c.try_once.new.backing)) (B.size c.args.backing.now) x plan s m t c.args.machine.now c.try_once.new.machine c.args.paper.now c.try_once.new.paper c.in-Ok-Absent.wanted nothing w)
+
+pub returns-in-Ok-clause-calm : goal.returns-in-Ok-clause-calm
+returns-in-Ok-clause-calm g c = λ x plan s m t o h runs ready nothing none.
+    let B = g.B.Backing in
+    let w = ((rw c.in-Ok-Absent.field-0-is at c.in-Ok-Absent.ensures.tried) x x.device plan s m t o h.stands runs ready).row h.says in
+    absurd (never g.K.Sink.taken (content_after x.device (B.holds c.try_once.new.backing)) (B.size c.args.backing.now) x plan s m t c.args.machine.now c.try_once.new.machine c.args.paper.now c.try_once.new.paper c.in-Ok-Absent.wanted nothing w)
+
+pub returns-in-Ok-Made-clause-areas : goal.returns-in-Ok-Made-clause-areas
+returns-in-Ok-Made-clause-areas g c = λ x plan s m t o h runs ready nothing made.
+    let tried = (rw c.in-Ok-Made.field-0-is at c.in-Ok-Made.ensures.tried) x x.device plan s m t o h.stands runs ready in
+    keeps_areas g.K.Sink.taken x (content_after x.device (g.B.Backing.holds c.try_once.new.backing)) c.args.machine.now.tasks.printed plan s m t c.try_once.new.machine c.args.paper.now c.try_once.new.paper (tried.row h.says)
+
+pub returns-in-Ok-Ends-clause-areas : goal.returns-in-Ok-Ends-clause-areas
+returns-in-Ok-Ends-clause-areas g c = λ x plan s m t o h runs ready nothing made. absurd (let b : ⊥ = cc in b)
+
+pub returns-in-Ok-Waits-clause-areas : goal.returns-in-Ok-Waits-clause-areas
+returns-in-Ok-Waits-clause-areas g c = λ x plan s m t o h runs ready nothing made. absurd (let b : ⊥ = cc in b)
+
+pub returns-in-Err-clause-areas : goal.returns-in-Err-clause-areas
+returns-in-Err-clause-areas g c = λ x plan s m t o h runs ready nothing made. absurd (let b : ⊥ = cc in b)
+
+pub returns-in-Err-bring_wanted-clause-areas : goal.returns-in-Err-bring_wanted-clause-areas
+returns-in-Err-bring_wanted-clause-areas g c = λ x plan s m t o h runs ready nothing made. absurd (let b : ⊥ = cc in b)
+
+pub returns-in-Ok-clause-areas : goal.returns-in-Ok-clause-areas
+returns-in-Ok-clause-areas g c = λ x plan s m t o h runs ready nothing made.
+    let B = g.B.Backing in
+    let w = ((rw c.in-Ok-Absent.field-0-is at c.in-Ok-Absent.ensures.tried) x x.device plan s m t o h.stands runs ready).row h.says in
+    absurd (never g.K.Sink.taken (content_after x.device (B.holds c.try_once.new.backing)) (B.size c.args.backing.now) x plan s m t c.args.machine.now c.try_once.new.machine c.args.paper.now c.try_once.new.paper c.in-Ok-Absent.wanted nothing w)

@@ -2,7 +2,8 @@ use Rattle.std.proofs.Common.{◌≡◌, Err, length, refl, ap, arith}
 use Rattle.b67_layout_step.proofs.OtherNumbers.{others_in_order}
 use Rattle.b67_backing.specs.declared.refusals.SpaceFault.TheVariants.{NoCore}
 use Rattle.b67_task_need.specs.Needing.{need_with}
-use Rattle.b67_session_attempt.proofs.Stops.{stopped_so, stopped_fits}
+use Rattle.b67_mcp.specs.declared.ends.Stop.TheVariants.{BackingFull}
+use Rattle.b67_session_attempt.proofs.Stops.{stopped_so, stopped_fits, full_fault}
 use Rattle.b67_session_attempt.proofs.bringing.bring_wanted.Goals as goal
 
 pub stop_for-requires : goal.stop_for-requires
@@ -43,3 +44,24 @@ returns-in-Err-clause-fits g c = λ x plan s m t words o h runs wanted touched.
     c.in-Err.fault c.stop_for.result c.stop_for.ensures
     (λ above. let is = (row.no_core (need_with s m t 0 words) (length k.cpu.core)).1 (above, refl, refl) in
     let z : c.in-Err.fault ≡ NoCore (need_with s m t 0 words) (length k.cpu.core) = cc in z)
+
+pub returns-in-Ok-clause-hole : goal.returns-in-Ok-clause-hole
+returns-in-Ok-clause-hole g c = λ x plan s m t words o h runs wanted room.
+    let row = c.in-Ok.ensures.row x plan s m t words o h runs wanted in
+    let hole = row.hole room in
+    record { used = record { written = hole.1; not_full = λ sum size e. absurd (let b : ⊥ = cc in b) }; in_place = hole.3; untouched = λ zeros. (row.zeros room zeros).1 }
+
+pub returns-in-Err-clause-hole : goal.returns-in-Err-clause-hole
+returns-in-Err-clause-hole g c = λ x plan s m t words o h runs wanted room.
+    let row = c.in-Err.ensures.row x plan s m t words o h runs wanted in
+    let hole = row.hole room in
+    record {
+      used = record {
+        written = hole.1;
+        not_full = λ sum size e.
+            let (wants, free, is) = full_fault c.bring.new.machine c.in-Err.fault c.stop_for.result sum size c.stop_for.ensures (let z : c.stop_for.result ≡ BackingFull sum size = cc in z) in
+            (row.full wants free (ap Err is)).1 room;
+      };
+      in_place = tt;
+      untouched = λ zeros. (row.zeros room zeros).1;
+    }

@@ -10,7 +10,7 @@ use Rattle.b67_task_tables.specs.declared.tables.Machine.{Machine}
 use Rattle.b67_task_tables.specs.declared.tables.Tasks.{Tasks}
 use Rattle.b67_task_tables.specs.Tables.{MachineRepresents}
 use Rattle.b67_session_attempt.specs.declared.tries.Tried.TheVariants.{Made}
-use Rattle.b67_session_attempt.specs.Tries.{TryFits}
+use Rattle.b67_session_attempt.specs.Tries.{TryFits, LeavesAreas}
 use Rattle.b67_mcp.specs.Called.{IsCalled}
 use Rattle.b67_mcp.specs.Running.{JobsHaveRoom}
 use Rattle.b67_mcp.proofs.Told.{told_is}
@@ -54,7 +54,7 @@ returns-in-Done-clause-tried g c = λ x told plan s m t o h runs ready.
     let row = c.in-Done.ensures.row x told plan s m t o h runs ready in
     let is = was_operator x told plan s m t answers.Done old new (code_area x plan m t) refl (λ e. absurd cc) (λ n e. absurd cc) row in
     let made = was_made x told plan s m t old new (code_area x plan m t) row in
-    let P : Option (List (List ℕ)) → Type 0 = λ d. IsCalled g.K.Sink.taken c.args.paper.now c.args.paper.now d s m t old.tasks.printed new in
+    let P : Option (List (List ℕ)) → Type 0 = λ d. (q : IsCalled g.K.Sink.taken c.args.paper.now c.args.paper.now d s m t old.tasks.printed new) × LeavesAreas x q.storage plan q.plan m t q.job in
     record {
       row = λ says. subst P (sym (told_is told (g.B.Backing.holds c.args.backing.now) says)) (called_made g.K.Sink.taken c.args.paper.now x told plan s m t old new o runs is.1 c.make.ensures.tasks made);
       fits = operator_fits x told plan s m t o runs old h is (made_touches x told plan s m t o runs old new made);
@@ -107,10 +107,10 @@ returns-in-Ok-Done-clause-tried g c = λ x told plan s m t o h runs ready.
     let k = stays x told plan s old new it.2 h in
     let call = (rw c.in-Ok-Done.field-0-is at c.in-Ok-Done.ensures.call) x told plan s m t o k runs it.0 it.1 in
     let untold_call = (rw c.in-Ok-Done.field-0-is at c.in-Ok-Done.ensures.call) (untold x) None plan s m t o (machine_untold x told new plan s k) runs it.0 it.1 in
-    let row = untold_call.row tt in
+    let row = (untold_call.row tt).0 in
     let F : Machine → Type 0 = λ z. TryFits (length z.cpu.core) s m t (Ok Made) in
     record {
-      row = λ says. called_so g.K.Sink.taken (content_after told (g.B.Backing.holds c.intrinsic.new.backing)) s m t old new c.intrinsic.new.machine c.args.paper.now c.intrinsic.new.paper it.2 (call.row says);
+      row = λ says. called_so g.K.Sink.taken x (content_after told (g.B.Backing.holds c.intrinsic.new.backing)) plan s m t old new c.intrinsic.new.machine c.args.paper.now c.intrinsic.new.paper it.2 (call.row says);
       fits = subst F it.2 (call_fits x told plan s m t o runs new c.in-Call.n row.job row.printed row.touched k it.0 it.1 row.is call.fits call.present);
       quiet = λ none. call.quiet none;
     }
