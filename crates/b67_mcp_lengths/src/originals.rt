@@ -15,10 +15,7 @@ pub fn original_at(core: &Core, home: u32) -> DataDesc
     requires { (d : DataDesc) × IsDataDesc d × (slice_get core.now home ≡ Some (data_word d)) }
     ensures { (d : DataDesc) → IsDataDesc d → slice_get core.now home ≡ Some (data_word d) → result ≡ d }
 {
-    match DataDesc::from_word(core.get(home)) {
-        Some(original) => original,
-        None => unreachable!(),
-    }
+    DataDesc::read(core.get(home))
 }
 
 /// Makes the sectors of a chain free. 0 is no chain.

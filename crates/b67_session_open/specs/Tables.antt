@@ -1,5 +1,6 @@
 -- The rows of tasks and jobs, and the counts, of a session that opens.
 use Rattle.std.specs.Prelude.{ℕ, ◌+◌, List, [], ◌∷◌, length}
+use Rattle.b67_task_tables.specs.declared.tables.TheConstants.{NO_PARENT, NO_ROW}
 use Rattle.b67_model.specs.Program.{Program}
 use Rattle.b67_model.specs.Schedule.{Switch}
 use Rattle.b67_law_order.specs.Opening.{Opening}
@@ -8,7 +9,7 @@ use Rattle.b67_session_open.specs.Opened.{dictionary_words}
 
 -- the first task of a job, in slot k
 abbrev pub first_row : ℕ → TaskRow
-first_row k = record { job = k + 1; number = 1; slot = k; parent = 255; critical = 0; state = IsReady; segment = 2; place = record { word = 0; syllable = 0 } }
+first_row k = record { job = k + 1; number = 1; slot = k; parent = NO_PARENT; critical = 0; state = IsReady; segment = 2; place = record { word = 0; syllable = 0 } }
 
 -- those of jobs, from slot k on
 abbrev pub first_rows : ℕ → List Program → List TaskRow
@@ -34,4 +35,4 @@ opening_rows at (o ∷ more) = opening_row at o ∷ opening_rows (at + dictionar
 
 abbrev pub opening_counts : ℕ → List Switch → JobCounts
 opening_counts quantum switches =
-    record { quantum = quantum; made = 0; turn = 0; last_job = 0; last_number = 0; switches = switches; next_switch = 0; running = 255 }
+    record { quantum = quantum; made = 0; turn = 0; last_job = 0; last_number = 0; switches = switches; next_switch = 0; running = NO_ROW }

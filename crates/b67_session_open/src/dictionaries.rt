@@ -12,6 +12,7 @@ ghost use Rattle.b67_session_open.specs.Opened.{dictionary_words as words_of_dic
 ghost use Rattle.b67_session_open.specs.Words.{InstalledAll};
 
 use b67_backing::{Backing, Sectors, SpaceFault};
+use b67_ctl::FIRST_DICTIONARY;
 use b67_load::install;
 use b67_load_verify::Admitted;
 use b67_stack::Cpu;
@@ -32,13 +33,13 @@ pub fn install_all<B: Backing>(
     backing: &mut B,
     programs: &[Admitted],
 ) -> Result<u32, SpaceFault>
-    requires inside { 160 + dictionaries (map program_of programs.now) ≤ length cpu.old.core }
+    requires inside { FIRST_DICTIONARY + dictionaries (map program_of programs.now) ≤ length cpu.old.core }
     requires sectors { HasSectors (B.size backing.old) sectors.old (total sectors_of_program (map program_of programs.now)) }
-    ensures end { IfOk result (λ at. at ≡ 160 + dictionaries (map program_of programs.now)) }
+    ensures end { IfOk result (λ at. at ≡ FIRST_DICTIONARY + dictionaries (map program_of programs.now)) }
     ensures installed { OnOk result (InstalledAll B.holds (map program_of programs.now)
         (record { core = cpu.old.core; table = sectors.old; device = backing.old })
         (record { core = cpu.new.core; table = sectors.new; device = backing.new })) }
-    ensures spares { Spares B.holds 160 (dictionaries (map program_of programs.now))
+    ensures spares { Spares B.holds FIRST_DICTIONARY (dictionaries (map program_of programs.now))
         (record { core = cpu.old.core; table = sectors.old; device = backing.old })
         (record { core = cpu.new.core; table = sectors.new; device = backing.new }) }
     ensures cpu { cpu.new ≡ record cpu.old { core = cpu.new.core } }
@@ -46,7 +47,7 @@ pub fn install_all<B: Backing>(
     ensures device { KeepsCounts B.size B.calls B.faults backing.old backing.new result }
 {
     let _size = cpu.core.size();
-    let mut at = 160;
+    let mut at = FIRST_DICTIONARY;
     'programs: for program in programs {
         install(cpu, sectors, backing, at, program)?;
         at += dictionary_words(program);

@@ -8,7 +8,10 @@ ghost use Rattle.b67_session_open.specs.Words.{SlotLies, SlotsLie, first_vector_
 
 use b67_area::Areas;
 use b67_core::Core;
-use b67_ctl::{IntrinsicPcw, Mscw, Toscw};
+use b67_ctl::{
+    DICTIONARY_STACKS, FIRST_DICTIONARY, FIRST_INTRINSIC, FIRST_TASK, IntrinsicPcw, LAST_INTRINSIC,
+    Mscw, STACK_VECTOR, Toscw, VectorWord,
+};
 use b67_word::Word;
 
 /// Writes the mark of the MCP and the intrinsics.
@@ -28,7 +31,7 @@ fn lay_mcp(core: &mut Core)
         back: 0,
     };
     core.set(0, mark.word());
-    for number in 8..19u16 {
+    for number in FIRST_INTRINSIC..LAST_INTRINSIC + 1 {
         let intrinsic = IntrinsicPcw { number };
         core.set(u32::from(number), intrinsic.word());
     }
@@ -39,10 +42,10 @@ fn lay_mcp(core: &mut Core)
 /// vector.
 fn lay_first_task(core: &mut Core, slot: u8, at: u32)
     requires few { slot < 8 }
-    requires above { 160 ≤ at }
+    requires above { FIRST_DICTIONARY ≤ at }
     requires inside { at + 3 ≤ length core.old }
     ensures task { FirstTaskLies core.new at slot }
-    ensures outside { (i : ℕ) → (i ≢ 32 + slot) → (i < at) ⊎ (at + 3 ≤ i) → slice_get core.new i ≡ slice_get core.old i }
+    ensures outside { (i : ℕ) → (i ≢ STACK_VECTOR + slot) → (i < at) ⊎ (at + 3 ≤ i) → slice_get core.new i ≡ slice_get core.old i }
     ensures len { length core.new ≡ length core.old }
 {
     let _size = core.size();
@@ -55,14 +58,17 @@ fn lay_first_task(core: &mut Core, slot: u8, at: u32)
     let mark = Mscw {
         far: true,
         entered: true,
-        env_stack: 127 + job,
+        env_stack: DICTIONARY_STACKS + job,
         env_disp: 0,
         value: false,
         level: 2,
         back: 0,
     };
-    let vector = 0x7FF0_0000_0000 + u64::from(job) * 0x1_0000;
-    core.set(32 + u32::from(slot), Word::of(3, vector));
+    let vector = VectorWord {
+        parent: FIRST_TASK,
+        job: slot + 1,
+    };
+    core.set(STACK_VECTOR + u32::from(slot), vector.word());
     core.set(at, top.word());
     core.set(at + 1, mark.word());
     core.set(at + 2, Word::of(3, 0));
@@ -72,7 +78,7 @@ fn lay_first_task(core: &mut Core, slot: u8, at: u32)
 fn lay_slots(core: &mut Core, stacks: u32, size: u16, jobs: u8)
     requires { SlotsFit core.old stacks size jobs }
     ensures slots { SlotsLie core.new stacks size jobs }
-    ensures outside { (i : ℕ) → (i < 32) ⊎ ((32 + jobs ≤ i) × (i < stacks)) → slice_get core.new i ≡ slice_get core.old i }
+    ensures outside { (i : ℕ) → (i < STACK_VECTOR) ⊎ ((STACK_VECTOR + jobs ≤ i) × (i < stacks)) → slice_get core.new i ≡ slice_get core.old i }
     ensures len { length core.new ≡ length core.old }
 {
     let _size = core.size();

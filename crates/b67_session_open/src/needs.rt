@@ -3,7 +3,7 @@
 ghost use Rattle.std.specs.Prelude.{◌≡◌, ℕ, ◌+◌, ◌*◌, ◌<◌, ◌≤◌, ◌^◌, List, length, map};
 ghost use Rattle.std.specs.List.{AllByRecursion};
 ghost use Rattle.b67_word.specs.Tagged.{contents};
-ghost use Rattle.b67_backing.specs.Held.{sectors_for as sectors_of_words};
+ghost use Rattle.b67_backing.specs.Held.{sectors_for};
 ghost use Rattle.b67_codefile.specs.Spelling.{IsSegment, IsRow};
 ghost use Rattle.b67_codefile.specs.Meaning.{segment_of, program_of};
 ghost use Rattle.b67_lemmas.specs.Lists.{total};
@@ -15,7 +15,9 @@ ghost use Rattle.b67_load.specs.Objects.{sectors_of_program};
 ghost use Rattle.b67_session_open.specs.Opened.{dictionaries, programs_of};
 
 use crate::dictionaries::dictionary_words;
+use b67_backing::sectors_needed;
 use b67_codefile::Segment;
+use b67_ctl::FIRST_DICTIONARY;
 use b67_load_verify::Admitted;
 use b67_word::Words;
 
@@ -23,36 +25,27 @@ use b67_word::Words;
 /// dictionaries, and one stack for each program.
 pub fn opening_need(stack: u16, programs: &[Admitted]) -> u32
     requires few { length programs.now ≤ 8 }
-    ensures value { result ≡ 160 + dictionaries (map program_of programs.now) + length programs.now * stack }
+    ensures value { result ≡ FIRST_DICTIONARY + dictionaries (map program_of programs.now) + length programs.now * stack }
     ensures need { (openings : List Opening) → programs_of openings ≡ map program_of programs.now
         → result ≡ need_at_opening stack (opened_from 1 stack openings) }
 {
-    let mut words = 160;
+    let mut words = FIRST_DICTIONARY;
     'programs: for program in programs {
         words += dictionary_words(program);
     }
     words + programs.len() as u32 * u32::from(stack)
 }
 
-/// The sectors that so many words take, 30 words in each.
-fn sectors_for(words: usize) -> u32
-    requires { words < 2 ^ 16 }
-    ensures value { result ≡ sectors_of_words words }
-    ensures few { result ≤ 2185 }
-{
-    (words as u32 + 29) / 30
-}
-
 /// The sectors of segments.
 fn sectors_of_segments(segments: &[Segment]) -> u32
     requires within { AllByRecursion IsSegment segments.now }
     requires few { length segments.now ≤ 255 }
-    ensures value { result ≡ total (λ (s : ModelSegment). sectors_of_words (length s.code)) (map segment_of segments.now) }
+    ensures value { result ≡ total (λ (s : ModelSegment). sectors_for (length s.code)) (map segment_of segments.now) }
     ensures few { result ≤ length segments.now * 2185 }
 {
     let mut sectors = 0;
     'segments: for segment in segments {
-        sectors += sectors_for(segment.code.as_slice().len());
+        sectors += sectors_needed(segment.code.as_slice().len() as u32);
     }
     sectors
 }
@@ -61,12 +54,12 @@ fn sectors_of_segments(segments: &[Segment]) -> u32
 fn sectors_of_rows(rows: &[Words]) -> u32
     requires within { AllByRecursion IsRow rows.now }
     requires few { length rows.now ≤ 255 }
-    ensures value { result ≡ total (λ (r : List ℕ). sectors_of_words (length r)) (map contents rows.now) }
+    ensures value { result ≡ total (λ (r : List ℕ). sectors_for (length r)) (map contents rows.now) }
     ensures few { result ≤ length rows.now * 2185 }
 {
     let mut sectors = 0;
     'rows: for row in rows {
-        sectors += sectors_for(row.as_slice().len());
+        sectors += sectors_needed(row.as_slice().len() as u32);
     }
     sectors
 }

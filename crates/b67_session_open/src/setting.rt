@@ -20,7 +20,7 @@ use crate::laying::lay_core;
 use b67_area::Areas;
 use b67_backing::{Backing, Sectors, SpaceFault};
 use b67_core::Core;
-use b67_ctl::Regs;
+use b67_ctl::{FIRST_DICTIONARY, NO_SLOT, Regs};
 use b67_load_verify::Admitted;
 use b67_stack::Cpu;
 use b67_word::Place;
@@ -34,7 +34,7 @@ pub struct Initial {
 
 /// The registers where no task's registers are loaded.
 fn idle_registers(stacks: u32, stack_size: u16, peak: u8) -> Regs
-    ensures slot { result.slot ≡ 255 }
+    ensures slot { result.slot ≡ NO_SLOT }
     ensures stacks { result.stacks ≡ stacks }
     ensures size { result.stack_size ≡ stack_size }
     ensures peak { result.peak ≡ peak }
@@ -48,7 +48,7 @@ fn idle_registers(stacks: u32, stack_size: u16, peak: u8) -> Regs
         f: 0,
         bosr: 0,
         losr: 0,
-        slot: 255,
+        slot: NO_SLOT,
         level: 0,
         segment: 0,
         place,
@@ -75,7 +75,7 @@ pub fn set_up<B: Backing>(
     requires sectors { HasSectors (B.size backing.old) sectors.old (total sectors_of_program (map program_of programs.now)) }
     ensures opens { IfOk result (λ m. (st : Shelf) → IsShelf sectors.old st → st.chains ≡ []
         → Opens m.areas sectors.new (content_after (B.holds backing.old) (B.holds backing.new))
-        (absent_storage m.cpu.core m.areas.low (stocked (objects_from 160 (map program_of programs.now)) st) (content_after (B.holds backing.old) (B.holds backing.new)))
+        (absent_storage m.cpu.core m.areas.low (stocked (objects_from FIRST_DICTIONARY (map program_of programs.now)) st) (content_after (B.holds backing.old) (B.holds backing.new)))
         m.cpu stack (map program_of programs.now)) }
     ensures len { IfOk result (λ m. length m.cpu.core ≡ length core) }
     ensures device { DeviceAfterCalls B.holds B.size B.calls B.faults backing.old backing.new }

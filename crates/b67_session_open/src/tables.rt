@@ -11,9 +11,10 @@ ghost use Rattle.b67_session_open.specs.Decks.{opening_of, openings_of, session_
 use crate::copies::{copied_name, copied_numbers, copied_switches};
 use crate::dictionaries::dictionary_words;
 use arrayvec::ArrayVec;
+use b67_ctl::FIRST_DICTIONARY;
 use b67_load_verify::Admitted;
 use b67_model_text::{Deck, Job};
-use b67_task_tables::{JobRow, JobRows, TaskRow, TaskState, Tasks};
+use b67_task_tables::{JobRow, JobRows, NO_PARENT, NO_ROW, TaskRow, TaskState, Tasks};
 use b67_word::Place;
 use std::alloc::{AllocError, Global};
 
@@ -50,13 +51,13 @@ fn opening_rows(alloc: Global, jobs: &[Job], programs: &[Admitted]) -> Result<Jo
     requires range { AllByRecursion JobInRange jobs.now }
     requires few { length jobs.now ≤ 8 }
     requires each { length programs.now ≡ length jobs.now }
-    ensures rows { IfOk result (λ rows. map job_row rows ≡ opening_rows_of 160 (openings_of jobs.now (map program_of programs.now))) }
+    ensures rows { IfOk result (λ rows. map job_row rows ≡ opening_rows_of FIRST_DICTIONARY (openings_of jobs.now (map program_of programs.now))) }
     ensures names { IfOk result (λ rows. row_names rows ≡ job_names jobs.now) }
     ensures countable { IfOk result (AllByRecursion IsCountable) }
     ensures loaded { OnOk result (AllByRecursion IsLoaded programs.now) }
 {
     let mut rows = JobRows::new(alloc);
-    let mut at = 160;
+    let mut at = FIRST_DICTIONARY;
     'jobs: for k in 0..jobs.len() {
         let row = opening_row(alloc, at, &jobs[k], &programs[k])?;
         rows.push(row)?;
@@ -74,7 +75,7 @@ fn first_row(slot: u8) -> TaskRow
         job: slot + 1,
         number: 1,
         slot,
-        parent: 255,
+        parent: NO_PARENT,
         critical: 0,
         state: TaskState::Ready,
         segment: 2,
@@ -122,7 +123,7 @@ pub fn opening_tasks(alloc: Global, deck: &Deck, programs: &[Admitted]) -> Resul
         turn: 0,
         last_job: 0,
         last_number: 0,
-        running: 255,
+        running: NO_ROW,
         printed: 0,
     })
 }

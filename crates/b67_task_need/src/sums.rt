@@ -12,8 +12,9 @@ ghost use Rattle.b67_overlay.specs.Turns.{Lies};
 ghost use Rattle.b67_task_need.specs.Sums.{sectors_of_word, sectors_from, sectors_of_slots, LiesSome};
 ghost use Rattle.b67_task_need.specs.Needing.{StandsInOrder};
 
+use b67_backing::sectors_needed;
 use b67_core::Core;
-use b67_ctl::Regs;
+use b67_ctl::{FIRST_DICTIONARY, Regs};
 use b67_overlay::stack_top;
 use b67_task_tables::Machine;
 use b67_word::Word;
@@ -26,7 +27,7 @@ fn word_sectors(w: Word, code: bool) -> u32
 {
     let descriptor = w.tag() == 5 || (code && w.tag() == 3);
     if descriptor && w.part(46, 1) == 0 {
-        (w.part(20, 16) as u32 + 29) / 30
+        sectors_needed(w.part(20, 16) as u32)
     } else {
         0
     }
@@ -51,11 +52,11 @@ pub(crate) fn range_sectors(core: &Core, from: u32, upto: u32, code: bool) -> u3
 fn core_sectors(core: &Core, regs: &Regs) -> u32
     requires { LiesSome core.now regs.now }
     ensures { (low : ℕ) (p : MachineView) → Lies core.now regs.now low p
-        → result ≡ sectors_from true core.now 160 (p.stacks - 160) + sectors_of_slots core.now p p.peak }
+        → result ≡ sectors_from true core.now FIRST_DICTIONARY (p.stacks - FIRST_DICTIONARY) + sectors_of_slots core.now p p.peak }
 {
     let size = u32::from(regs.stack_size);
     let mut base = regs.stacks;
-    let mut sum = range_sectors(core, 160, base, true);
+    let mut sum = range_sectors(core, FIRST_DICTIONARY, base, true);
     for slot in 0..regs.peak {
         let top = stack_top(core, regs, slot, base);
         sum += range_sectors(core, base + 1, top + 1, false);

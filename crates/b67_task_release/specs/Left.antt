@@ -1,6 +1,7 @@
 -- What is left to release after an activation record was left.
 use Rattle.std.specs.Prelude.{◌≡◌, ◌≢◌, ℕ, ◌+◌, ◌<◌, ◌≤◌, List, Option, Some, slice_get}
 use Rattle.b67_word.specs.Tagged.{Tagged}
+use Rattle.b67_ctl.specs.declared.registers.TheConstants.{NO_SLOT}
 use Rattle.b67_area.specs.declared.Areas.{Areas}
 use Rattle.b67_area.specs.declared.Kind.TheVariants.{Code}
 use Rattle.b67_backing.specs.Shelf.{Table}
@@ -16,7 +17,7 @@ use Rattle.b67_task_release.specs.Released.{HasHome, Released, SameBelow}
 pub record IsLeft (left : List PagedObject) (x : Storage) (cpu : Cpu) (plan : Placement) (s : Session) (from upto : ℕ) : Type 0 where
   pub frames : (m : SessionJob) (t : Task) → Has s.jobs m → Has m.progress.job.tasks t → FramesInOrder (IsSegment m.constants) m.progress.job.arrays (outer_of m.progress.job t) t.frames
   pub stands : RepresentsSessionBut left x cpu plan s
-  pub runs : plan.running ≢ 255
+  pub runs : plan.running ≢ NO_SLOT
   pub low : cpu.regs.s < from
   pub high : upto ≤ cpu.regs.losr + 1
   pub arrays : (t : PagedObject) → Has left t → t.kind ≢ Code

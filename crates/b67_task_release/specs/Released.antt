@@ -1,6 +1,7 @@
 -- What is left of a storage where arrays were released.
 use Rattle.std.specs.Prelude.{◌≡◌, ◌≢◌, ℕ, ◌+◌, ◌<◌, ◌≤◌, ◌==◌, List, [], length, Option, Some, None, slice_get, if◌then◌else◌}
 use Rattle.b67_word.specs.Tagged.{Tagged}
+use Rattle.b67_ctl.specs.declared.map.TheConstants.{DIRECTORY}
 use Rattle.b67_area.specs.declared.Info.{Info}
 use Rattle.b67_area.specs.Spans.{Span, without, area_at}
 use Rattle.b67_area.specs.Directory.{IsDirectory}
@@ -45,7 +46,7 @@ pub record Finds (low : ℕ) (spans : List Span) (h : Location) (original : Data
 
 -- the words below the areas are as they were, but for the directory's
 abbrev pub SameBelow : ℕ → List Tagged → List Tagged → Type 0
-SameBelow low core new = (i : ℕ) → i < low → i ≢ 152 → slice_get new i ≡ slice_get core i
+SameBelow low core new = (i : ℕ) → i < low → i ≢ DIRECTORY → slice_get new i ≡ slice_get core i
 
 -- an area, if there is one, is a hole, and all other areas and words are as they were
 pub record Vacated (low : ℕ) (area : Option ℕ) (spans : List Span) (core new : List Tagged) : Type 0 where

@@ -1,6 +1,7 @@
 -- The slot that a new task gets, and the peak that it raises.
 use Rattle.std.specs.Prelude.{◌≡◌, ◌≢◌, ℕ, ◌+◌, ◌*◌, ◌<◌, ◌≤◌, List, length, Some}
 use Rattle.b67_word.specs.Tagged.{Tagged}
+use Rattle.b67_ctl.specs.declared.map.TheConstants.{SLOTS}
 use Rattle.b67_area.specs.declared.Areas.{Areas}
 use Rattle.b67_area.specs.declared.Info.{Info}
 use Rattle.b67_area.specs.Spans.{area_at}
@@ -39,7 +40,7 @@ pub record HasSome (cpu : Cpu) : Type 0 where
 
 -- slot k is the lowest free one, it lies inside core, and no area has a word below its end
 pub record HasSlot (x : Storage) (plan : Placement) (s : Session) (core k : ℕ) : Type 0 where
-  pub few : live_tasks s.jobs < 120
+  pub few : live_tasks s.jobs < SLOTS
   pub some : 0 < plan.size
   pub lowest : IsLowestFree plan k
   pub inside : slot_end plan k ≤ core

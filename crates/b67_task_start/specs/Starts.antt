@@ -2,6 +2,7 @@
 use Rattle.std.specs.Prelude.{◌≡◌, ℕ, ◌+◌, ◌-◌, ◌^◌, ◌<◌, ◌≤◌, List, ◌∷◌, length, take, reverse, Option, Ok, Some, false, slice_get}
 use Rattle.std.specs.List.{AllByRecursion}
 use Rattle.b67_word.specs.declared.couples.Place.{Place}
+use Rattle.b67_ctl.specs.declared.map.TheConstants.{SLOTS}
 use Rattle.b67_area.specs.declared.Info.{Info}
 use Rattle.b67_area.specs.Spans.{area_at}
 use Rattle.b67_model.specs.Common.{Word, Proc, Marked, Task, Job, SessionJob, frame, top, cell, level_of_frame, NamesEntered, reach_of, child_of, is_original, Session}
@@ -78,7 +79,7 @@ with_next r = record r { next_task = r.next_task + 1 }
 
 -- there is room for a row more, and its job's next number is one
 pub record HasRowRoom (tasks : Tasks) (row : TaskRow) : Type 0 where
-  pub few : length tasks.rows.items < 120
+  pub few : length tasks.rows.items < SLOTS
   pub from_one : 1 ≤ row.job
   pub job : JobRow
   pub at : slice_get tasks.jobs (row.job - 1) ≡ Some job

@@ -10,7 +10,7 @@ ghost use Rattle.b67_task_start.specs.Opening.{IsLowestFree, slot_end, HoldsOne,
 
 use b67_area::Areas;
 use b67_core::Core;
-use b67_ctl::Regs;
+use b67_ctl::{Regs, STACK_VECTOR};
 use b67_stack::Cpu;
 use b67_task_start_stack::add_slot;
 
@@ -21,7 +21,7 @@ fn lowest_free(core: &Core, regs: &Regs) -> u8
         → IsLowestFree plan result × (result ≤ plan.peak) }
 {
     for slot in 0..regs.peak {
-        if core.get(32 + u32::from(slot)).tag() == 0 {
+        if core.get(STACK_VECTOR + u32::from(slot)).tag() == 0 {
             return slot;
         }
     }

@@ -27,10 +27,7 @@ pub fn procedure_at(core: &Core, at: u32) -> Pcw
     requires { (p : Pcw) × IsPcw p × (slice_get core.now at ≡ Some (pcw_word p)) }
     ensures { (p : Pcw) → IsPcw p → slice_get core.now at ≡ Some (pcw_word p) → result ≡ p }
 {
-    match Pcw::from_word(core.get(at)) {
-        Some(p) => p,
-        None => unreachable!(),
-    }
+    Pcw::read(core.get(at))
 }
 
 /// A job's next task has the next number.

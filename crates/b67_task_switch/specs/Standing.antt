@@ -1,6 +1,7 @@
 -- What the machine stands for before and after its registers go to another task.
 use Rattle.std.specs.Prelude.{◌≡◌, ℕ, ◌<◌, List, length, Option}
 use Rattle.b67_word.specs.Tagged.{Tagged}
+use Rattle.b67_ctl.specs.declared.registers.TheConstants.{NO_SLOT}
 use Rattle.b67_ctl.specs.declared.registers.Regs.{Regs}
 use Rattle.b67_model.specs.Schedule.{Session}
 use Rattle.b67_layout.specs.Common.{IsInOrderButCounts, Placement, RowsFit, SessionHolds}
@@ -35,5 +36,5 @@ pub record Rests (tasks : Tasks) (plan : Placement) (s : Session) : Type 0 where
   pub ordered : IsInOrderButCounts s
   pub fits : RowsFit plan s.jobs
   pub few : plan.peak < 121
-  pub none : plan.running ≡ 255
+  pub none : plan.running ≡ NO_SLOT
   pub shows : TasksShow plan s tasks

@@ -9,7 +9,7 @@ use Rattle.b67_stack.specs.declared.Cpu.{Cpu}
 use Rattle.b67_stack.specs.Common.{Activation, stack_words, mark_place, running_level, MachineView, Waiting, slot_base, Storage, Represents}
 use Rattle.b67_task_switch.specs.declared.registers.Turn.{Turn}
 
--- the plan with the registers of the task in a slot in use, 255 for none
+-- the plan with the registers of the task in a slot in use, NO_SLOT for none
 abbrev pub with_running : Placement → ℕ → Placement
 with_running plan k = record plan { running = k }
 

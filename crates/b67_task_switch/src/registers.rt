@@ -15,7 +15,7 @@ ghost use Rattle.b67_layout.specs.Session.{RepresentsSession};
 ghost use Rattle.b67_task_switch.specs.Turns.{with_running, IsTurnOf, HasTurn, StandsForOne, WaitsOn, WaitsInOne, loaded};
 
 use b67_core::Core;
-use b67_ctl::{Regs, Toscw};
+use b67_ctl::{NO_SLOT, Regs, Toscw};
 use b67_refer::rebuild;
 use b67_stack::Cpu;
 use b67_word::{Place, Word};
@@ -51,16 +51,16 @@ fn top_word(cpu: &Cpu) -> Word
 fn put_away(cpu: &mut Cpu)
     requires { StandsForOne cpu.old }
     ensures stands { (x : Storage) (plan : Placement) (s : Session) → RepresentsSession x cpu.old plan s
-        → RepresentsSession x cpu.new (with_running plan 255) s }
+        → RepresentsSession x cpu.new (with_running plan NO_SLOT) s }
     ensures words { (i : ℕ) → i ≢ cpu.old.regs.bosr → slice_get cpu.new.core i ≡ slice_get cpu.old.core i }
     ensures len { length cpu.new.core ≡ length cpu.old.core }
 {
-    if cpu.regs.slot == 255 {
+    if cpu.regs.slot == NO_SLOT {
         return;
     }
     let word = top_word(cpu);
     cpu.core.set(cpu.regs.bosr, word);
-    cpu.regs.slot = 255;
+    cpu.regs.slot = NO_SLOT;
 }
 
 /// The registers of a waiting task.
@@ -72,10 +72,7 @@ fn registers(core: &Core, regs: &Regs, turn: Turn) -> Regs
     let _size = core.size();
     let size = u32::from(regs.stack_size);
     let base = regs.stacks + u32::from(turn.slot) * size;
-    let top = match Toscw::from_word(core.get(base)) {
-        Some(top) => top,
-        None => unreachable!(),
-    };
+    let top = Toscw::read(core.get(base));
     Regs {
         s: base + u32::from(top.s),
         f: base + u32::from(top.f),

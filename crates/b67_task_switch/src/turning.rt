@@ -15,8 +15,8 @@ ghost use Rattle.b67_task_tables.specs.Tables.{TasksShow, MachineRepresents};
 ghost use Rattle.b67_task_switch.specs.Standing.{HasRow, InUse, Rests};
 
 use crate::registers::{Turn, switch_stack};
-use b67_ctl::Regs;
-use b67_task_tables::{Machine, TaskRow, Tasks};
+use b67_ctl::{NO_SLOT, Regs};
+use b67_task_tables::{Machine, NO_ROW, TaskRow, Tasks};
 
 /// Notes in a row where its task goes on.
 fn note(rows: &mut [TaskRow], at: u8, regs: &Regs)
@@ -34,15 +34,15 @@ fn note(rows: &mut [TaskRow], at: u8, regs: &Regs)
 fn pause(tasks: &mut Tasks, regs: &Regs)
     requires { InUse regs.now tasks.old }
     ensures rests { (x : Storage) (core : List Tagged) (marks : List ℕ) (plan : Placement) (s : Session) → IsInOrderButCounts s
-        → SessionHolds x core regs.now marks plan s → TasksShow plan s tasks.old → TasksShow (with_running plan 255) s tasks.new }
-    ensures rest { tasks.new ≡ record tasks.old { rows = tasks.new.rows; running = 255 } }
+        → SessionHolds x core regs.now marks plan s → TasksShow plan s tasks.old → TasksShow (with_running plan NO_SLOT) s tasks.new }
+    ensures rest { tasks.new ≡ record tasks.old { rows = tasks.new.rows; running = NO_ROW } }
     ensures slots { map (λ (r : TaskRow). r.slot) tasks.new.rows.items ≡ map (λ (r : TaskRow). r.slot) tasks.old.rows.items }
 {
-    if tasks.running == 255 {
+    if tasks.running == NO_ROW {
         return;
     }
     note(tasks.rows.as_mut_slice(), tasks.running, regs);
-    tasks.running = 255;
+    tasks.running = NO_ROW;
 }
 
 /// The turn of a row's task.

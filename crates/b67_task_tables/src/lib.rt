@@ -3,4 +3,4 @@
 
 pub mod tables;
 
-pub use crate::tables::{JobRow, JobRows, Machine, TaskRow, TaskState, Tasks};
+pub use crate::tables::{JobRow, JobRows, Machine, NO_PARENT, NO_ROW, TaskRow, TaskState, Tasks};

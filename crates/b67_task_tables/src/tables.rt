@@ -23,7 +23,10 @@ pub enum TaskState {
     WaitsAt { mark: u32, offset: u16 },
 }
 
-/// A live task: its job and number, from 1 on; the slot of its stack; its parent's slot, 255 for a first task; the
+/// The slot in a first task's row as its parent's.
+pub const NO_PARENT: u8 = 255;
+
+/// A live task: its job and number, from 1 on; the slot of its stack; its parent's slot, [`NO_PARENT`] for a first task; the
 /// displacement of the mark that its parent may not leave; where it goes on unless its registers are in use.
 #[derive(Clone, Copy, Debug, PartialEq, Eq)]
 pub struct TaskRow {
@@ -120,9 +123,12 @@ impl JobRows {
     }
 }
 
+/// The running row of tables, if no task's registers are in use.
+pub const NO_ROW: u8 = 255;
+
 /// The jobs and the live tasks; the switches and the first that is left; the operators of a turn; the count at which the
 /// run stops; the operators made so far, and those of this turn; the job and the number of the task that made the last
-/// one, 0 and 0 before the first; the row of the task whose registers are in use, 255 for none; and how many bytes of the
+/// one, 0 and 0 before the first; the row of the task whose registers are in use, [`NO_ROW`] for none; and how many bytes of the
 /// step's text the printer has already taken.
 #[derive(Drop)]
 pub struct Tasks {
