@@ -6,6 +6,7 @@ use Rattle.b67_io.specs.Line.{ended}
 use Rattle.b67_io.specs.Told.{Took}
 use Rattle.b67_model.specs.Common.{run_text, Session, RunLine, lines, after, live_tasks}
 use Rattle.b67_task_tables.specs.declared.tables.Machine.{Machine}
+use Rattle.b67_job_admit.specs.declared.refusal.Refusal.{Refusal}
 use Rattle.b67_job_admit.specs.Admitting.{Prepared}
 use Rattle.b67_session_lines.specs.Stops.{Run, live_after, halted_line, IsFinished, IsHalted, halted}
 use Rattle.b67_session_lines.proofs.Statuses.{finished-status, halted-status, stops-once}
@@ -213,16 +214,21 @@ module _ {B : Type 0} (d : Device B) (tells : Tells d) (core : ℕ) (p : Prepare
 pub record CallPrints (j : Judgement) (e : Option Exercise) (status : ℕ) (text : List ℕ) : Type 0 where
   pub runs : IsWhole status → (p : Prepared) × (j ≡ Runs p)
   pub prints : (p : Prepared) → j ≡ Runs p → Printed (run_of p) e status text
+  pub refused : (refusal : Refusal) → j ≡ Refused refusal → (r : Run) → Shape r text
 
 abbrev pub prepared_in : Prepared → Judgement → Prepared
 prepared_in other (Refused refusal) = other
 prepared_in other (Runs p) = p
 prepared_in other (Prints text) = other
 
+pub not_refused : (j : Judgement) (p : Prepared) → j ≡ Runs p → (refusal : Refusal) → j ≡ Refused refusal → ⊥
+not_refused j p is refusal refused = let both : Runs p ≡ Refused refusal = sym is ∙ refused in cc
+
 with_deck : (j : Judgement) (e : Option Exercise) (status : ℕ) (text : List ℕ) (p : Prepared) → j ≡ Runs p → Printed (run_of p) e status text → CallPrints j e status text
 with_deck j e status text p is printed = record {
   runs = λ whole. (p, is);
   prints = λ q js. subst (λ (x : Prepared). Printed (run_of x) e status text) (ap (prepared_in p) (sym is ∙ js)) printed;
+  refused = λ refusal js. absurd (not_refused j p is refusal js);
 }
 
 module _ {K : Type 0} (taken : K → Option (List ℕ)) (faults : K → ℕ) (old new : K) (j : Judgement) (e : Option Exercise) where
@@ -233,10 +239,10 @@ module _ {K : Type 0} (taken : K → Option (List ℕ)) (faults : K → ℕ) (ol
   short_call : (status : ℕ) (text : Text) (answer : ℕ) → (IsWhole status → ⊥) → ((r : Run) → TextShape r text) → Closes taken faults old new status text answer → Prints_so answer
   short_call status text answer short shape (all_taken a took) =
       let none : IsWhole answer → ⊥ = λ w. short (subst IsWhole a w) in
-      (whole_of text, took, record { runs = λ w. absurd (none w); prints = λ p is. fell_short none (whole_shape (run_of p) text (shape (run_of p))) })
+      (whole_of text, took, record { runs = λ w. absurd (none w); prints = λ p is. fell_short none (whole_shape (run_of p) text (shape (run_of p))); refused = λ refusal is r. whole_shape r text (shape r) })
   short_call status text answer short shape (cut_short count a rose part) =
       let none = short_at answer 8 a (inl (omega arith)) in
-      (text.front ++ take count text.last, part.took, record { runs = λ w. absurd (none w); prints = λ p is. fell_short none (cut_shape (run_of p) text count (shape (run_of p))) })
+      (text.front ++ take count text.last, part.took, record { runs = λ w. absurd (none w); prints = λ p is. fell_short none (cut_shape (run_of p) text count (shape (run_of p))); refused = λ refusal is r. cut_shape r text count (shape r) })
 
   run_call : (p : Prepared) (status : ℕ) (text : Text) (answer : ℕ) → j ≡ Runs p → Printed (run_of p) e status (whole_of text) → TextShape (run_of p) text → Closes taken faults old new status text answer → Prints_so answer
   run_call p status text answer is printed shape (all_taken a took) = (whole_of text, took, with_deck j e answer (whole_of text) p is (subst (λ (n : ℕ). Printed (run_of p) e n (whole_of text)) (sym a) printed))

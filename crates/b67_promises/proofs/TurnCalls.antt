@@ -1,0 +1,93 @@
+-- Calls of texts that differ in their ?QUANTUM and ?SWITCH cards, the first of which was whole in a core that holds one stack.
+use Rattle.std.proofs.Common.{◌≡◌, ◌≤◌, ℕ, List, refl, sym, ap, subst, ◌∙◌, Option, Result, Ok, Err}
+use Rattle.std.specs.Prelude.{IfSome}
+use denote.Ref.{Bor}
+use Rattle.b67_model.specs.Common.{Program}
+use Rattle.b67_model_text.specs.declared.deck.Deck.{Deck}
+use Rattle.b67_model_text.specs.declared.deck.Job.{Job}
+use Rattle.b67_model_text.specs.Deck as deck
+use Rattle.b67_model_text.specs.Deck.{deck_of}
+use Rattle.b67_model_text.proofs.Answers.{err-ok}
+use Rattle.b67_job_admit.specs.declared.refusal.Refusal.{Refusal}
+use Rattle.b67_job_admit.specs.Admitting.{Answer, ◌>>=◌, Prepared, of_deck, prepared, deck_prepared}
+use Rattle.b67_session_open.specs.Decks.{session_of, openings_of}
+use Rattle.b67_law_order.specs.Opening.{opened_from}
+use Rattle.b67_job.specs.Device.{Device, Tells}
+use Rattle.b67_job.specs.declared.summaries.Exercise.{Exercise}
+use Rattle.b67_job.specs.Runs.{run_of}
+use Rattle.b67_job.specs.Judgement.{Judgement, Refused, Runs, Prints, judgement, prepared_judgement}
+use Rattle.b67_promises.specs.Paging.{IsWhole}
+use Rattle.b67_promises.specs.Switches.{DifferInTurns, NeverTwoReady}
+use Rattle.b67_promises.specs.TurnLines.{DifferInTurnLines, HoldsOneStack}
+use Rattle.b67_promises.proofs.Calls.{Printed, fell_short, CallPrints, prepared_in, not_refused}
+use Rattle.b67_promises.proofs.Alike.{printed_alike}
+use Rattle.b67_promises.proofs.MoreCore.{WholeRun}
+use Rattle.b67_promises.proofs.Words.{no_print}
+use Rattle.b67_promises.proofs.OneStack.{never_two}
+use Rattle.b67_promises.proofs.TurnCards.{SameButTurns, decks_differ}
+
+after : {A B : Type 0} (r : Answer A) (go : A → Answer B) (b : B) → (r >>= go) ≡ Ok b → (a : A) × (r ≡ Ok a) × (go a ≡ Ok b)
+after (Ok a) go b e = (a, refl, e)
+after (Err r) go b e = err-ok r b _ e
+
+of_deck_ok : {A : Type 0} (r : Result A deck.Refusal) (a : A) → of_deck r ≡ Ok a → r ≡ Ok a
+of_deck_ok (Ok x) a e = let is : x ≡ a = cc in ap (λ y. Ok y) is
+of_deck_ok (Err r) a e = absurd (let z : ⊥ = cc in z)
+
+-- a text's deck, and its programs by its jobs
+parts : (text : List ℕ) (p : Prepared) → deck_prepared text ≡ Ok p → (deck_of text ≡ Ok p.0) × (prepared p.0.jobs ≡ Ok p.1)
+unfolding deck_prepared
+parts text p e =
+    let a = after (of_deck (deck_of text)) (λ (x : Deck). prepared x.jobs >>= λ qs. Ok (x, qs)) p e in
+    let b = after (prepared a.0.jobs) (λ qs. Ok (a.0, qs)) p a.2 in
+    let is : ◌≡◌ {A = Prepared} (a.0, b.0) p = cc in
+    let same : a.0 ≡ p.0 = ap (λ (z : Prepared). z.0) is in
+    let programs : b.0 ≡ p.1 = ap (λ (z : Prepared). z.1) is in
+    (of_deck_ok (deck_of text) a.0 a.1 ∙ ap Ok same, ap (λ (x : Deck). prepared x.jobs) (sym same) ∙ b.1 ∙ ap Ok programs)
+
+prepared_is : (text : List ℕ) (p : Prepared) → judgement text ≡ Runs p → deck_prepared text ≡ Ok p
+unfolding judgement
+prepared_is text p e = by_answer (deck_prepared text) e
+  where
+    by_answer : (a : Answer Prepared) → prepared_judgement a ≡ Runs p → a ≡ Ok p
+    by_answer (Ok q) e = ap Ok (ap (prepared_in q) e)
+    by_answer (Err r) e = let z : ⊥ = cc in absurd z
+
+-- sessions of such decks differ in turns
+differ : (d e : Deck) (ps qs : List Program) → SameButTurns d e → qs ≡ ps → DifferInTurns (session_of d ps) (session_of e qs)
+differ d e ps qs h same = record {
+  jobs = ap (λ (x : List Program). opened_from 1 e.stack (openings_of e.jobs x)) same ∙ ap (λ (n : ℕ). opened_from 1 n (openings_of e.jobs ps)) h.stack ∙ ap (λ (js : List Job). opened_from 1 d.stack (openings_of js ps)) h.jobs;
+  made = refl;
+}
+
+same_ok : {A : Type 0} (a b : A) → ◌≡◌ {A = Answer A} (Ok a) (Ok b) → a ≡ b
+same_ok a b e = cc
+
+module _ {S B : Type 0} {words : List (Bor (List ℕ))} {left : S → Option (List ℕ)} {deck deck' : S} {d : Device B} (tells : Tells d) (w : WholeRun words left deck deck' d)
+    (bytes other : List ℕ) (judged : judgement bytes ≡ Runs w.p) (h : DifferInTurnLines bytes other) (small : HoldsOneStack w.core) (e : Option Exercise) (status : ℕ) (text : List ℕ) (c : CallPrints (judgement other) e status text) where
+  -- the other text runs, too
+  also_runs : (q : Prepared) → judgement other ≡ Runs q → Printed (run_of w.p) e status text
+  also_runs q js =
+      let one = parts bytes w.p (prepared_is bytes w.p judged) in
+      let two = parts other q (prepared_is other q js) in
+      let same = decks_differ bytes other w.p.0 q.0 h one.0 two.0 in
+      let programs : q.1 ≡ w.p.1 = same_ok q.1 w.p.1 (sym two.1 ∙ ap prepared same.jobs ∙ one.1) in
+      printed_alike (run_of w.p) (run_of q) (differ w.p.0 q.0 w.p.1 q.1 same programs) same.halt (never_two tells w small) e status text (c.prints q js)
+
+  -- or it is refused, or runs
+  printed_by : (j : Judgement) → judgement other ≡ j → Printed (run_of w.p) e status text
+  printed_by (Runs q) js = also_runs q js
+  printed_by (Refused refusal) js =
+      let none : IsWhole status → ⊥ = λ whole. let r = c.runs whole in not_refused (judgement other) r.0 r.1 refusal js in
+      fell_short none (c.refused refusal js (run_of w.p))
+  printed_by (Prints printed) js = absurd (no_print other printed js)
+
+  -- a call of the other text prints as one of the first would
+  pub prints_turned : CallPrints (judgement bytes) e status text
+  prints_turned =
+      let one = printed_by (judgement other) refl in
+      record {
+        runs = λ whole. (w.p, judged);
+        prints = λ x js. subst (λ (y : Prepared). Printed (run_of y) e status text) (ap (prepared_in w.p) (sym judged ∙ js)) one;
+        refused = λ refusal js. absurd (not_refused (judgement bytes) w.p judged refusal js);
+      }

@@ -1,0 +1,25 @@
+-- Decks that differ in their ?QUANTUM and ?SWITCH cards.
+use Rattle.std.specs.Prelude.{ℕ, ◌≡◌, ◌<◌, ◌+◌, ◌*◌, List, [], ◌++◌, length, codes}
+use Rattle.std.specs.List.{AllByRecursion}
+use Rattle.std.specs.Str.Lines.{lines}
+
+-- a line that begins as a card of the quantum or of a switch, or an empty one
+pub data IsTurnLine (line : List ℕ) : Type 0 where
+  quantum_line : (more : List ℕ) → line ≡ codes "?QUANTUM" ++ more → IsTurnLine line
+  switch_line : (more : List ℕ) → line ≡ codes "?SWITCH" ++ more → IsTurnLine line
+  empty_line : line ≡ [] → IsTurnLine line
+
+-- two texts begin with as many such lines, and behind these all lines are the same
+pub record DifferInTurnLines (bytes other : List ℕ) : Type 0 where
+  pub first : List (List ℕ)
+  pub other_first : List (List ℕ)
+  pub rest : List (List ℕ)
+  pub is : lines bytes ≡ first ++ rest
+  pub other_is : lines other ≡ other_first ++ rest
+  pub as_many : length other_first ≡ length first
+  pub turns : AllByRecursion IsTurnLine first
+  pub other_turns : AllByRecursion IsTurnLine other_first
+
+-- beside the 160 words of the operating system the core has no room for two stacks, each of 64 words at least
+abbrev pub HoldsOneStack : ℕ → Type 0
+HoldsOneStack core = core < 160 + 2 * 64
