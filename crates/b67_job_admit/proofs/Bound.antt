@@ -1,31 +1,25 @@
 -- What `bind` prints, from its parts.
-use Rattle.std.proofs.Common.{◌≡◌, ◌≤◌, ◌<◌, ◌+◌, ℕ, List, length, take, Option, Some, None, Result, Ok, Err, refl, sym, ap, ◌∙◌}
+use Rattle.std.proofs.Common.{◌≡◌, ◌<◌, ℕ, List, length, Option, Result, Ok, Err, refl, sym, ap, ◌∙◌}
 use Rattle.b67_io.specs.Told.{GaveAll}
 use Rattle.std.proofs.lemmas.Bool.{lt-ltb}
 use Rattle.b67_model_text.specs.declared.card.Card.{Card}
-use Rattle.b67_model_text.specs.declared.deck.Job.{Job}
 use Rattle.b67_model_text.specs.declared.deck.Deck.{Deck}
 use Rattle.b67_model_text.specs.Deck as deck
 use Rattle.b67_model_text.specs.Deck.{deck_of, limit}
 use Rattle.b67_model_text.specs.Asm.{assembled, version_of}
-use Rattle.b67_card.specs.Reading.{GaveFirst, IsRead}
+use Rattle.b67_card.specs.Reading.{IsRead}
 use Rattle.b67_card.specs.declared.fault.DeckFault.{DeckFault}
 use Rattle.b67_card.specs.declared.fault.DeckFault.TheVariants as fault
 use Rattle.b67_codefile.specs.declared.file.Codefile.{Codefile}
-use Rattle.b67_codefile.specs.Spelling.{IsWithin, spelling}
+use Rattle.b67_codefile.specs.Spelling.{IsWithin}
 use Rattle.b67_codefile.specs.Meaning.{program_of}
 use Rattle.b67_bind.specs.declared.pairs.Pair.{Pair}
-use Rattle.b67_bind.specs.Reasons as pairs
-use Rattle.b67_bind.specs.Reasons.{Binding}
-use Rattle.b67_bind.specs.Bound.{bound}
-use Rattle.b67_job_admit.specs.declared.refusal.Refusal.{Refusal}
 use Rattle.b67_job_admit.specs.declared.refusal.Refusal.TheVariants as refusal
 use Rattle.b67_job_admit.specs.declared.fault.AdmitFault.{AdmitFault}
 use Rattle.b67_job_admit.specs.declared.fault.AdmitFault.TheVariants as admits
 use Rattle.b67_job_admit.specs.Admitting.{Answer, ◌>>=◌, of_cards}
-use Rattle.b67_job_admit.specs.Meets as meets
 use Rattle.b67_job_admit.specs.Meets.{of_deck_fault}
-use Rattle.b67_job_admit.specs.Verdicts.{Verdict, codefile_of, hex_lines, bound_text, bind_deck, bind_verdict}
+use Rattle.b67_job_admit.specs.Verdicts.{Verdict, codefile_of, bind_deck, bind_verdict}
 use Rattle.b67_job_admit.specs.CommandMeets.{IsJudged, Meets}
 use Rattle.b67_job_admit.proofs.Cards.{file_back}
 use Rattle.b67_job_admit.proofs.Loads.{first_of_all}

@@ -1,6 +1,5 @@
 -- How a refusal is told.
-use Rattle.std.specs.Prelude.{ℕ, List, [], ◌∷◌, ◌++◌, codes, decimal}
-use Rattle.b67_word.specs.declared.couples.Place.{Place}
+use Rattle.std.specs.Prelude.{ℕ, List, ◌++◌, codes, decimal}
 use Rattle.b67_io.specs.Line.{ended}
 use Rattle.b67_job_admit.specs.declared.refusal.Refusal.{Refusal}
 use Rattle.b67_job_admit.specs.declared.refusal.Refusal.TheVariants as refusal
