@@ -1,7 +1,6 @@
 -- A run that is whole in a core that holds one stack never has two ready tasks.
-use Rattle.std.proofs.Common.{◌≡◌, ◌≤◌, ◌<◌, ◌+◌, ◌*◌, ⊎_elim, inl, inr, ◌⊎◌, ℕ, zero, suc, Bool, true, false, List, [], ◌∷◌, ◌++◌, length, map, reverse, filter, refl, sym, ap, subst, ◌∙◌, arith, cond, ltb-true, ltb-false, Option, Some, None}
+use Rattle.std.proofs.Common.{◌≡◌, ◌≤◌, ◌<◌, ◌*◌, ⊎_elim, inl, inr, ◌⊎◌, ℕ, Bool, true, false, List, [], ◌∷◌, length, reverse, filter, refl, sym, subst, arith, cond, ltb-false, Option, Some, None}
 use Rattle.std.specs.Prelude.{IfSome, nat_lt, flat_map, option_map}
-use Rattle.std.specs.List.{sum_by}
 use Rattle.std.proofs.lemmas.Bool.{cases_lt}
 use Rattle.std.proofs.lemmas.List.{length-map, length-append, length-reverse}
 use Rattle.std.proofs.lemmas.List.Sums.{sum_by-cons}
@@ -13,7 +12,6 @@ use Rattle.b67_model.specs.Keyed.{keyed}
 use Rattle.b67_model.specs.Common.{need, need_of_job, need_by, need_next, Task, SessionJob, Session, Who, Choice, choice, after, live_tasks, number_of, ready, ready_of, is_ready, IsInOrder}
 use Rattle.b67_session.specs.Slices.{NextFits}
 use Rattle.b67_session_lines.specs.Stops.{live_after}
-use Rattle.b67_job_admit.specs.Admitting.{Prepared}
 use Rattle.b67_job.specs.Device.{Device, Tells}
 use Rattle.b67_job.specs.Runs.{run_of}
 use Rattle.b67_promises.specs.Switches.{NeverTwoReady}

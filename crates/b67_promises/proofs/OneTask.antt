@@ -1,18 +1,17 @@
 -- A job that never calls PROCESS has one task at most.
-use Rattle.std.proofs.Common.{◌≡◌, ◌≤◌, ◌<◌, ◌+◌, ⊎_elim, inl, inr, ◌⊎◌, ℕ, zero, suc, List, [], ◌∷◌, length, refl, sym, ap, subst, ◌∙◌, arith, eqb, true, Option, Some, None}
+use Rattle.std.proofs.Common.{◌≡◌, ◌≤◌, ◌<◌, ⊎_elim, inl, inr, ◌⊎◌, ℕ, zero, suc, List, [], ◌∷◌, length, refl, sym, ap, subst, ◌∙◌, arith, eqb, true, Option, Some, None}
 use Rattle.std.specs.Prelude.{IfSome}
 use Rattle.std.proofs.lemmas.Bool.{cases_lt}
 use Rattle.std.proofs.lemmas.Bool.Decides.{eqb_tells}
 use Rattle.std.proofs.lemmas.List.Sums.{sum_by-cons}
-use Rattle.b67_lemmas.specs.Lists.{Has, total, how_many}
+use Rattle.b67_lemmas.specs.Lists.{Has, total}
 use Rattle.b67_lemmas.proofs.Members.{all_in}
 use Rattle.b67_model.specs.declared.operators.Op.{Op}
 use Rattle.b67_model.specs.Keyed.{keyed, change_keyed}
-use Rattle.b67_model.specs.Common.{Frame, Standing, Marked, Entered, Return, Task, Job, SessionJob, Session, Choice, choice, StepResult, JobMoment, called, step_of, moment_by, moment_for, next, after, after_from, live_tasks, number_of, ready, Starts, IsStart, StackInOrder, ReturnsInOrder, frames_named, frames_in_job, IsInOrder}
+use Rattle.b67_model.specs.Common.{Frame, Standing, Marked, Entered, Task, SessionJob, Session, Choice, choice, StepResult, called, step_of, moment_by, moment_for, next, after, after_from, live_tasks, number_of, ready, Starts, IsStart, StackInOrder, ReturnsInOrder, frames_named, IsInOrder}
 use Rattle.b67_law_sessions.specs.Made.{MakesMark, by_process}
 use Rattle.b67_law_sessions.specs.RunMade.{EarlierStep, FrameMadeInRun, context}
 use Rattle.b67_session_lines.specs.Stops.{live_after}
-use Rattle.b67_job_admit.specs.Admitting.{Prepared}
 use Rattle.b67_job.specs.Device.{Device}
 use Rattle.b67_job.specs.States.{IsMadeByOperators}
 use Rattle.b67_job.specs.Runs.{run_of}

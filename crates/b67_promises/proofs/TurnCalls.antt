@@ -8,7 +8,6 @@ use Rattle.b67_model_text.specs.declared.deck.Job.{Job}
 use Rattle.b67_model_text.specs.Deck as deck
 use Rattle.b67_model_text.specs.Deck.{deck_of}
 use Rattle.b67_model_text.proofs.Answers.{err-ok}
-use Rattle.b67_job_admit.specs.declared.refusal.Refusal.{Refusal}
 use Rattle.b67_job_admit.specs.Admitting.{Answer, ◌>>=◌, Prepared, of_deck, prepared, deck_prepared}
 use Rattle.b67_session_open.specs.Decks.{session_of, openings_of}
 use Rattle.b67_law_order.specs.Opening.{opened_from}
