@@ -20,6 +20,7 @@ THEOREMS = [
     ("b67_promises::run_under_switches", ["decks"]),
     ("b67_promises::run_one_session", []),
     ("b67_promises::codefiles_hold_programs", []),
+    ("b67_promises::converting_keeps_programs", []),
     ("b67_job::run", []),
 ]
 WORD = re.compile(r"[^\s(){}\[\],;.`\"]+(?:\.[^\s(){}\[\],;.`\"]+)*")
