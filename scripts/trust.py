@@ -16,9 +16,11 @@ THEOREMS = [
     ("b67_promises::run_twice", ["decks", "exercises", "more_core", "more_core_exercises"]),
     ("b67_promises::run_twice", ["call", "other_call"]),
     ("b67_promises::run_under_switches", ["texts"]),
+    ("b67_promises::run_under_switches", ["one_job"]),
     ("b67_promises::run_under_switches", ["decks"]),
     ("b67_promises::run_one_session", []),
     ("b67_promises::codefiles_hold_programs", []),
+    ("b67_promises::converting_keeps_programs", []),
     ("b67_job::run", []),
 ]
 WORD = re.compile(r"[^\s(){}\[\],;.`\"]+(?:\.[^\s(){}\[\],;.`\"]+)*")
@@ -208,7 +210,7 @@ def main(arguments):
         lines = sum(len(block.lines()) for block in order) + len(whole.lines())
         title = function + "".join(" " + clause for clause in clauses)
         for block in order + [whole] if arguments else []:
-            print(f"{len(block.lines()):5} {os.path.relpath(block.path, TOP)}:{block.first} {block.name}")
+            print(f"{len(block.lines()):5} {os.path.relpath(block.path, TOP)} {block.name}")
         print(f"{lines:5} lines in {len(files)} files: {title}")
     return 0
 

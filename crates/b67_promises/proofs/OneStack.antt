@@ -1,7 +1,6 @@
 -- A run that is whole in a core that holds one stack never has two ready tasks.
-use Rattle.std.proofs.Common.{◌≡◌, ◌≤◌, ◌<◌, ◌+◌, ◌*◌, ⊎_elim, inl, inr, ◌⊎◌, ℕ, zero, suc, Bool, true, false, List, [], ◌∷◌, ◌++◌, length, map, reverse, filter, refl, sym, ap, subst, ◌∙◌, arith, cond, ltb-true, ltb-false, Option, Some, None}
+use Rattle.std.proofs.Common.{◌≡◌, ◌≤◌, ◌<◌, ◌*◌, ⊎_elim, inl, inr, ◌⊎◌, ℕ, Bool, true, false, List, [], ◌∷◌, length, reverse, filter, refl, sym, subst, arith, cond, ltb-false, Option, Some, None}
 use Rattle.std.specs.Prelude.{IfSome, nat_lt, flat_map, option_map}
-use Rattle.std.specs.List.{sum_by}
 use Rattle.std.proofs.lemmas.Bool.{cases_lt}
 use Rattle.std.proofs.lemmas.List.{length-map, length-append, length-reverse}
 use Rattle.std.proofs.lemmas.List.Sums.{sum_by-cons}
@@ -13,7 +12,6 @@ use Rattle.b67_model.specs.Keyed.{keyed}
 use Rattle.b67_model.specs.Common.{need, need_of_job, need_by, need_next, Task, SessionJob, Session, Who, Choice, choice, after, live_tasks, number_of, ready, ready_of, is_ready, IsInOrder}
 use Rattle.b67_session.specs.Slices.{NextFits}
 use Rattle.b67_session_lines.specs.Stops.{live_after}
-use Rattle.b67_job_admit.specs.Admitting.{Prepared}
 use Rattle.b67_job.specs.Device.{Device, Tells}
 use Rattle.b67_job.specs.Runs.{run_of}
 use Rattle.b67_promises.specs.Switches.{NeverTwoReady}
@@ -27,7 +25,7 @@ use denote.Ref.{Bor}
 few_ready : (m : SessionJob) → length (ready_of m) ≤ length m.progress.job.tasks
 few_ready m = omega (arith, length-map {B = Who} (filter is_ready (reverse m.progress.job.tasks)) (λ (t : Task). record { job = m.constants.number; task = t.number }), length_filter is_ready (reverse m.progress.job.tasks), length-reverse m.progress.job.tasks)
 
-ready_live : (jobs : List SessionJob) → length (flat_map ready_of jobs) ≤ live_tasks jobs
+pub ready_live : (jobs : List SessionJob) → length (flat_map ready_of jobs) ≤ live_tasks jobs
 ready_live [] = omega arith
 ready_live (m ∷ jobs) = omega (arith, length-append (ready_of m) (flat_map ready_of jobs), few_ready m, ready_live jobs, sum_by-cons (λ (n : SessionJob). length n.progress.job.tasks) m jobs)
 
@@ -80,13 +78,13 @@ one_task core s small order fits =
 
 -- ---- a whole run
 
-module _ {S B : Type 0} {words : List (Bor (List ℕ))} {left : S → Option (List ℕ)} {deck deck' : S} {d : Device B} (tells : Tells d) (w : WholeRun words left deck deck' d) (small : HoldsOneStack w.core) where
-  none_later : (made j : ℕ) (first : Session) → live_after made first ≡ 0 → made ≤ j → length (ready (after j first)) ≤ 1
-  none_later made j first over le =
-      let same = over_after made j first over le in
-      let few = ready_live (after made first).jobs in
-      subst (λ (s : Session). length (ready s) ≤ 1) (sym same) (omega (arith, over, few))
+pub none_later : (made j : ℕ) (first : Session) → live_after made first ≡ 0 → made ≤ j → length (ready (after j first)) ≤ 1
+none_later made j first over le =
+    let same = over_after made j first over le in
+    let few = ready_live (after made first).jobs in
+    subst (λ (s : Session). length (ready s) ≤ 1) (sym same) (omega (arith, over, few))
 
+module _ {S B : Type 0} {words : List (Bor (List ℕ))} {left : S → Option (List ℕ)} {deck deck' : S} {d : Device B} (tells : Tells d) (w : WholeRun words left deck deck' d) (small : HoldsOneStack w.core) where
   pub never_two : (steps : ℕ) → IfSome (run_of w.p).halt (λ count. steps ≤ count) → NeverTwoReady steps (run_of w.p).session
   never_two steps within j less = ⊎_elim
       (λ (before : j < w.k.tasks.made). one_task w.core (after j (run_of w.p).session) small (w.opens.in_order.ordered j (omega (arith, before))) (w.opens.fitted tells j before))

@@ -1,17 +1,17 @@
 -- A job that never calls PROCESS has one task at most.
-use Rattle.std.proofs.Common.{◌≡◌, ◌≤◌, ◌<◌, ◌+◌, ⊎_elim, inl, inr, ◌⊎◌, ℕ, zero, suc, List, [], ◌∷◌, length, refl, sym, ap, subst, ◌∙◌, arith, eqb, true, Option, Some, None}
+use Rattle.std.proofs.Common.{◌≡◌, ◌≤◌, ◌<◌, ⊎_elim, inl, inr, ◌⊎◌, ℕ, zero, suc, List, [], ◌∷◌, length, refl, sym, ap, subst, ◌∙◌, arith, eqb, true, Option, Some, None}
 use Rattle.std.specs.Prelude.{IfSome}
 use Rattle.std.proofs.lemmas.Bool.{cases_lt}
 use Rattle.std.proofs.lemmas.Bool.Decides.{eqb_tells}
 use Rattle.std.proofs.lemmas.List.Sums.{sum_by-cons}
-use Rattle.b67_lemmas.specs.Lists.{Has, total, how_many}
+use Rattle.b67_lemmas.specs.Lists.{Has, total}
 use Rattle.b67_lemmas.proofs.Members.{all_in}
+use Rattle.b67_model.specs.declared.operators.Op.{Op}
 use Rattle.b67_model.specs.Keyed.{keyed, change_keyed}
-use Rattle.b67_model.specs.Common.{Frame, Standing, Marked, Entered, Return, Task, Job, SessionJob, Session, Choice, choice, StepResult, JobMoment, step_of, moment_by, moment_for, next, after, after_from, live_tasks, number_of, ready, Starts, IsStart, StackInOrder, ReturnsInOrder, frames_named, frames_in_job, IsInOrder}
+use Rattle.b67_model.specs.Common.{Frame, Standing, Marked, Entered, Task, SessionJob, Session, Choice, choice, StepResult, called, step_of, moment_by, moment_for, next, after, after_from, live_tasks, number_of, ready, Starts, IsStart, StackInOrder, ReturnsInOrder, frames_named, IsInOrder}
 use Rattle.b67_law_sessions.specs.Made.{MakesMark, by_process}
-use Rattle.b67_law_sessions.specs.RunMade.{EarlierStep, FrameMadeInRun}
+use Rattle.b67_law_sessions.specs.RunMade.{EarlierStep, FrameMadeInRun, context}
 use Rattle.b67_session_lines.specs.Stops.{live_after}
-use Rattle.b67_job_admit.specs.Admitting.{Prepared}
 use Rattle.b67_job.specs.Device.{Device}
 use Rattle.b67_job.specs.States.{IsMadeByOperators}
 use Rattle.b67_job.specs.Runs.{run_of}
@@ -75,8 +75,11 @@ bottom P (f ∷ g ∷ more) some h =
     record { frame = b.frame; among = inr b.among; level = b.level; environment = b.environment; stands = b.stands }
 
 -- without PROCESS it is the outer block's
-not_made : {op : _} {call : Option ℕ} {level environment : ℕ} → MakesMark op call (Entered level environment None) → call ≡ Some 12
+not_made : {op : Op} {call : Option ℕ} {level environment : ℕ} → MakesMark op call (Entered level environment None) → call ≡ Some 12
 not_made (by_process o c) = c
+
+process_made : (op : Op) (call : Option ℕ) (z : Standing) (level environment : ℕ) → z ≡ Entered level environment None → MakesMark op call z → call ≡ Some 12
+process_made op call z level environment is made = not_made (subst (λ (x : Standing). MakesMark op call x) is made)
 
 named_two : (frames : List Frame) (f : Frame) → Has frames f → f.identity ≡ 2 → 1 ≤ frames_named 2 frames
 named_two [] f h e = absurd h
@@ -94,31 +97,38 @@ each_once (t ∷ tasks) all =
 
 -- ---- a session of one job
 
-one_job : (first : Session) (j : ℕ) → length first.jobs ≡ 1 → IsInOrder (after j first) → IsMadeByOperators j first → ((job : ℕ) → CallsProcess first j job → ⊥) → live_tasks (after j first).jobs ≤ 1
-one_job first j one order made none = by_jobs (after j first).jobs refl
+frame_named : (first : Session) (j job : ℕ) (frames : List Frame) (b : Bottom frames) → FrameMadeInRun first j job b.frame → (CallsProcess first j job → ⊥) → 1 ≤ frames_named 2 frames
+frame_named first j job frames b how none = by_mark how.mark
   where
-    first_frame : (m : SessionJob) (t : Task) → Has (after j first).jobs m → Has m.progress.job.tasks t → 1 ≤ frames_named 2 t.frames
-    first_frame m t h k =
-        let good = all_in _ m.progress.job.tasks t (all_in _ (after j first).jobs m order.jobs h).tasks.tasks k in
-        let b = bottom _ t.frames good.some good.returns in
-        let how = (made m t b.frame h k b.among).mark in
-        ⊎_elim (λ outer. named_two t.frames b.frame b.among outer.0)
-        (λ (step : EarlierStep first j (number_of m) (λ op call. MakesMark op call b.frame.standing)).
-        absurd (none (number_of m) (record {
+    by_mark : ((b.frame.identity ≡ 2) × (b.frame.standing ≡ Entered 2 1 None)) ⊎ EarlierStep first j job (λ op call. MakesMark op call b.frame.standing) → 1 ≤ frames_named 2 frames
+    by_mark (inl outer) = named_two frames b.frame b.among outer.0
+    by_mark (inr step) =
+        let calls : CallsProcess first j job = record {
           steps_before = step.steps_before;
           earlier = step.earlier;
           number = step.number;
           op = step.op;
           ran = step.ran;
-          made = not_made (subst (λ (z : Standing). MakesMark step.op _ z) b.stands step.made);
-        }))) how
+          made = process_made step.op (called step.op (context step.ran)) b.frame.standing b.level b.environment b.stands step.made;
+        } in
+        absurd (none calls)
 
+first_frame : (first : Session) (j : ℕ) → IsInOrder (after j first) → IsMadeByOperators j first → ((job : ℕ) → CallsProcess first j job → ⊥)
+    → (m : SessionJob) (t : Task) → Has (after j first).jobs m → Has m.progress.job.tasks t → 1 ≤ frames_named 2 t.frames
+first_frame first j order made none m t h k =
+    let good = all_in _ m.progress.job.tasks t (all_in _ (after j first).jobs m order.jobs h).tasks.tasks k in
+    let b = bottom (IsStart m.constants) t.frames good.some good.returns in
+    frame_named first j (number_of m) t.frames b (made m t b.frame h k b.among) (none (number_of m))
+
+one_job : (first : Session) (j : ℕ) → length first.jobs ≡ 1 → IsInOrder (after j first) → IsMadeByOperators j first → ((job : ℕ) → CallsProcess first j job → ⊥) → live_tasks (after j first).jobs ≤ 1
+one_job first j one order made none = by_jobs (after j first).jobs refl
+  where
     by_jobs : (jobs : List SessionJob) → (after j first).jobs ≡ jobs → live_tasks jobs ≤ 1
     by_jobs [] e = omega arith
     by_jobs (m ∷ []) e =
         let h : Has (after j first).jobs m = subst (λ (js : List SessionJob). Has js m) (sym e) (inl refl) in
         let apart = (all_in _ (after j first).jobs m order.jobs h).tasks.apart 2 in
-        let many = each_once m.progress.job.tasks (λ t k. first_frame m t h k) in
+        let many = each_once m.progress.job.tasks (λ t k. first_frame first j order made none m t h k) in
         let sum = sum_by-cons (λ (n : SessionJob). length n.progress.job.tasks) m [] in
         omega (arith, apart, many, sum)
     by_jobs (m ∷ k ∷ more) e =

@@ -1,5 +1,5 @@
--- Calls of texts that differ in their ?QUANTUM and ?SWITCH cards, the first of which was whole in a core that holds one stack.
-use Rattle.std.proofs.Common.{◌≡◌, ◌≤◌, ℕ, List, refl, sym, ap, subst, ◌∙◌, Option, Result, Ok, Err}
+-- Calls of texts that differ in their ?QUANTUM and ?SWITCH cards, the first of which was whole with never two ready tasks.
+use Rattle.std.proofs.Common.{◌≡◌, ◌≤◌, ℕ, List, length, refl, sym, ap, subst, ◌∙◌, Option, Result, Ok, Err}
 use Rattle.std.specs.Prelude.{IfSome}
 use denote.Ref.{Bor}
 use Rattle.b67_model.specs.Common.{Program}
@@ -8,22 +8,20 @@ use Rattle.b67_model_text.specs.declared.deck.Job.{Job}
 use Rattle.b67_model_text.specs.Deck as deck
 use Rattle.b67_model_text.specs.Deck.{deck_of}
 use Rattle.b67_model_text.proofs.Answers.{err-ok}
-use Rattle.b67_job_admit.specs.declared.refusal.Refusal.{Refusal}
 use Rattle.b67_job_admit.specs.Admitting.{Answer, ◌>>=◌, Prepared, of_deck, prepared, deck_prepared}
 use Rattle.b67_session_open.specs.Decks.{session_of, openings_of}
 use Rattle.b67_law_order.specs.Opening.{opened_from}
-use Rattle.b67_job.specs.Device.{Device, Tells}
+use Rattle.b67_job.specs.Device.{Device}
 use Rattle.b67_job.specs.declared.summaries.Exercise.{Exercise}
 use Rattle.b67_job.specs.Runs.{run_of}
 use Rattle.b67_job.specs.Judgement.{Judgement, Refused, Runs, Prints, judgement, prepared_judgement}
 use Rattle.b67_promises.specs.Paging.{IsWhole}
-use Rattle.b67_promises.specs.Switches.{DifferInTurns, NeverTwoReady}
-use Rattle.b67_promises.specs.TurnLines.{DifferInTurnLines, HoldsOneStack}
+use Rattle.b67_promises.specs.Switches.{DifferInTurns, NeverTwoReady, CallsProcess, IsOneTask}
+use Rattle.b67_promises.specs.TurnLines.{DifferInTurnLines}
 use Rattle.b67_promises.proofs.Calls.{Printed, fell_short, CallPrints, prepared_in, not_refused}
 use Rattle.b67_promises.proofs.Alike.{printed_alike}
 use Rattle.b67_promises.proofs.MoreCore.{WholeRun}
 use Rattle.b67_promises.proofs.Words.{no_print}
-use Rattle.b67_promises.proofs.OneStack.{never_two}
 use Rattle.b67_promises.proofs.TurnCards.{SameButTurns, decks_differ}
 
 after : {A B : Type 0} (r : Answer A) (go : A → Answer B) (b : B) → (r >>= go) ≡ Ok b → (a : A) × (r ≡ Ok a) × (go a ≡ Ok b)
@@ -45,7 +43,7 @@ parts text p e =
     let programs : b.0 ≡ p.1 = ap (λ (z : Prepared). z.1) is in
     (of_deck_ok (deck_of text) a.0 a.1 ∙ ap Ok same, ap (λ (x : Deck). prepared x.jobs) (sym same) ∙ b.1 ∙ ap Ok programs)
 
-prepared_is : (text : List ℕ) (p : Prepared) → judgement text ≡ Runs p → deck_prepared text ≡ Ok p
+pub prepared_is : (text : List ℕ) (p : Prepared) → judgement text ≡ Runs p → deck_prepared text ≡ Ok p
 unfolding judgement
 prepared_is text p e = by_answer (deck_prepared text) e
   where
@@ -63,8 +61,8 @@ differ d e ps qs h same = record {
 same_ok : {A : Type 0} (a b : A) → ◌≡◌ {A = Answer A} (Ok a) (Ok b) → a ≡ b
 same_ok a b e = cc
 
-module _ {S B : Type 0} {words : List (Bor (List ℕ))} {left : S → Option (List ℕ)} {deck deck' : S} {d : Device B} (tells : Tells d) (w : WholeRun words left deck deck' d)
-    (bytes other : List ℕ) (judged : judgement bytes ≡ Runs w.p) (h : DifferInTurnLines bytes other) (small : HoldsOneStack w.core) (e : Option Exercise) (status : ℕ) (text : List ℕ) (c : CallPrints (judgement other) e status text) where
+module _ {S B : Type 0} {words : List (Bor (List ℕ))} {left : S → Option (List ℕ)} {deck deck' : S} {d : Device B} (w : WholeRun words left deck deck' d)
+    (bytes other : List ℕ) (judged : judgement bytes ≡ Runs w.p) (h : DifferInTurnLines bytes other) (few : (steps : ℕ) → IfSome (run_of w.p).halt (λ count. steps ≤ count) → NeverTwoReady steps (run_of w.p).session) (e : Option Exercise) (status : ℕ) (text : List ℕ) (c : CallPrints (judgement other) e status text) where
   -- the other text runs, too
   also_runs : (q : Prepared) → judgement other ≡ Runs q → Printed (run_of w.p) e status text
   also_runs q js =
@@ -72,7 +70,7 @@ module _ {S B : Type 0} {words : List (Bor (List ℕ))} {left : S → Option (Li
       let two = parts other q (prepared_is other q js) in
       let same = decks_differ bytes other w.p.0 q.0 h one.0 two.0 in
       let programs : q.1 ≡ w.p.1 = same_ok q.1 w.p.1 (sym two.1 ∙ ap prepared same.jobs ∙ one.1) in
-      printed_alike (run_of w.p) (run_of q) (differ w.p.0 q.0 w.p.1 q.1 same programs) same.halt (never_two tells w small) e status text (c.prints q js)
+      printed_alike (run_of w.p) (run_of q) (differ w.p.0 q.0 w.p.1 q.1 same programs) same.halt few e status text (c.prints q js)
 
   -- or it is refused, or runs
   printed_by : (j : Judgement) → judgement other ≡ j → Printed (run_of w.p) e status text
@@ -91,3 +89,9 @@ module _ {S B : Type 0} {words : List (Bor (List ℕ))} {left : S → Option (Li
         prints = λ x js. subst (λ (y : Prepared). Printed (run_of y) e status text) (ap (prepared_in w.p) (sym judged ∙ js)) one;
         refused = λ refusal js. absurd (not_refused (judgement bytes) w.p judged refusal js);
       }
+
+-- the run of a text of one task
+pub one_of : (bytes : List ℕ) (p : Prepared) → judgement bytes ≡ Runs p → IsOneTask bytes → (length (run_of p).session.jobs ≡ 1) × ((steps job : ℕ) → CallsProcess (run_of p).session steps job → ⊥)
+one_of bytes p judged h =
+    let same : ◌≡◌ {A = Prepared} (h.d, h.ps) p = same_ok (h.d, h.ps) p (sym h.is ∙ prepared_is bytes p judged) in
+    subst (λ (x : Prepared). (length (run_of x).session.jobs ≡ 1) × ((steps job : ℕ) → CallsProcess (run_of x).session steps job → ⊥)) same (h.one, h.alone)

@@ -1,25 +1,21 @@
 -- Texts that differ in their ?QUANTUM and ?SWITCH cards: what their decks share.
-use Rattle.std.proofs.Common.{◌≡◌, ◌≤◌, ◌<◌, ◌+◌, ◌-◌, ℕ, zero, suc, Bool, true, false, cond, eqb, not, List, [], ◌∷◌, ◌++◌, length, take, map, reverse, append-nil, append_assoc, refl, sym, ap, subst, ◌∙◌, arith, ◌⊎◌, inl, inr, Option, Some, None, Result, Ok, Err, codes}
+use Rattle.std.proofs.Common.{◌≡◌, ◌≤◌, ◌+◌, ◌-◌, ℕ, suc, Bool, true, false, cond, eqb, not, List, [], ◌∷◌, ◌++◌, length, take, map, reverse, append-nil, append_assoc, refl, sym, ap, subst, ◌∙◌, arith, ◌⊎◌, inl, inr, Option, Some, None, Result, Ok, Err, codes}
 use Rattle.std.specs.Prelude.{filter, slice_get, unwrap_or, ⊤, if◌then◌else◌}
 use Rattle.std.specs.List.{AllByRecursion, filter_map, cons_option, slice_split, onto_first, enumerate_from, prefix_len, suffix_len}
-use Rattle.std.specs.Option.{option_map, option_and_then, option_or, option_to_list}
+use Rattle.std.specs.Option.{option_map, option_and_then, option_to_list}
 use Rattle.std.specs.Str.{bytes_eq}
 use Rattle.std.specs.Str.Lines.{lines}
-use Rattle.std.proofs.lemmas.Bool.{cases_Bool, eqb-true}
-use Rattle.std.proofs.lemmas.Option.{same_Some, none-some}
-use Rattle.std.proofs.lemmas.List.{reverse-append, length-reverse, length-append, map-append}
+use Rattle.std.proofs.lemmas.List.{reverse-append, length-reverse, map-append}
 use Rattle.std.proofs.lemmas.List.Elements.{filter-append}
 use Rattle.b67_model_text.specs.declared.card.Card.{Card}
 use Rattle.b67_model_text.specs.declared.deck.Deck.{Deck}
-use Rattle.b67_model_text.specs.declared.deck.Job as declared
-use Rattle.b67_model_text.specs.declared.deck.Keyword.{Keyword}
 use Rattle.b67_model_text.specs.declared.deck.Keyword.TheVariants as keywords
 use Rattle.b67_model_text.specs.Answers.{Answer, ◌>>=◌, ◌>>◌, needs, or_reason}
 use Rattle.b67_model_text.specs.Cards.{card_of, cards, is_empty, is_space, trimmed, words}
-use Rattle.b67_model_text.specs.Command.{Command, Stack, Quantum, Halt, Switch, Job, Limit, Asm, Hex, Data, End, Plain, keyword_of, number_in, one_number, target, switch, says, command_of, plain, said}
-use Rattle.b67_model_text.specs.Placing.{stand, placed, stack_in, halt_in, name_in, first_of}
+use Rattle.b67_model_text.specs.Command.{Command, Quantum, Switch, number_in, one_number, target, switch, says, command_of, plain, said}
+use Rattle.b67_model_text.specs.Placing.{stand, placed, stack_in, halt_in, name_in}
 use Rattle.b67_model_text.specs.Deck.{Said, Refusal, of_card, command_in, said_after, sayings, is_between, number_of_last, job_of, own_cards, jobs, deck, within_limit, deck_of}
-use Rattle.b67_model_text.proofs.Answers.{after_both, after_needs, err-ok}
+use Rattle.b67_model_text.proofs.Answers.{after_both, err-ok}
 use Rattle.b67_promises.specs.TurnLines.{IsTurnLine, quantum_line, switch_line, empty_line, DifferInTurnLines}
 
 -- ---- a card that says the quantum or a switch

@@ -1,11 +1,12 @@
 -- Sessions in which never two tasks are ready at once.
-use Rattle.std.specs.Prelude.{ℕ, ◌≡◌, ◌≤◌, ◌<◌, List, length, Ok}
+use Rattle.std.specs.Prelude.{ℕ, ◌≡◌, ◌≤◌, ◌<◌, List, length, Some, Ok}
 use Rattle.b67_model.specs.Common.{Session, ready, lines, after, Program}
 use Rattle.b67_model_text.specs.declared.deck.Deck.{Deck}
 use Rattle.b67_model_text.specs.declared.deck.Switch.{Switch}
 use Rattle.b67_job_admit.specs.Admitting.{deck_prepared}
 use Rattle.b67_session_open.specs.Decks.{session_of}
 use Rattle.b67_session_lines.specs.Stops.{Run, Stops}
+use Rattle.b67_law_sessions.specs.RunMade.{EarlierStep}
 
 -- they have the same jobs and have made as many operators
 pub record DifferInTurns (s t : Session) : Type 0 where
@@ -34,3 +35,15 @@ pub record DecksDifferInTurns (bytes other : List ℕ) : Type 0 where
   pub is : deck_prepared bytes ≡ Ok (d, ps)
   pub other_is : deck_prepared other ≡ Ok (record d { switches = switches; quantum = quantum }, ps)
   pub one_ready : (steps : ℕ) → NeverTwoReady steps (session_of d ps)
+
+-- one of so many first steps of a run was that of a task of the job, and called PROCESS, intrinsic 12
+abbrev pub CallsProcess : Session → ℕ → ℕ → Type 0
+CallsProcess first steps job = EarlierStep first steps job (λ op call. call ≡ Some 12)
+
+-- a text's deck has one job, and no step of its run calls PROCESS
+pub record IsOneTask (bytes : List ℕ) : Type 0 where
+  pub d : Deck
+  pub ps : List Program
+  pub is : deck_prepared bytes ≡ Ok (d, ps)
+  pub one : length (session_of d ps).jobs ≡ 1
+  pub alone : (steps job : ℕ) → CallsProcess (session_of d ps) steps job → ⊥
