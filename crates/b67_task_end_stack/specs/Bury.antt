@@ -1,6 +1,7 @@
 -- Several tasks of one job of a session are to die.
 use Rattle.std.specs.Prelude.{◌≡◌, ℕ, ◌<◌, ◌⊎◌, List, [], map}
 use Rattle.b67_word.specs.Tagged.{Tagged}
+use Rattle.b67_ctl.specs.declared.registers.TheConstants.{NO_SLOT}
 use Rattle.b67_ctl.specs.declared.registers.Regs.{Regs}
 use Rattle.b67_lemmas.specs.Lists.{Has}
 use Rattle.b67_model.specs.Common.{Task, SessionJob, number_of, Session}
@@ -27,10 +28,10 @@ pub record MayBury (x : Storage) (core : List Tagged) (r : Regs) (marks : List �
   pub todo : List Task
   pub named : map (λ (t : Task). t.number) todo ≡ numbers
   pub turn : InTurn m.progress.job.tasks [] todo
-  pub stopped : (plan.running ≡ 255) ⊎ Lost plan m.constants.number (gone_of m.progress.job numbers) plan.running
+  pub stopped : (plan.running ≡ NO_SLOT) ⊎ Lost plan m.constants.number (gone_of m.progress.job numbers) plan.running
 
 abbrev pub plan_without : Placement → SessionJob → List ℕ → Placement
-plan_without plan m numbers = record plan { rows = rows_without plan m.constants.number numbers; running = 255 }
+plan_without plan m numbers = record plan { rows = rows_without plan m.constants.number numbers; running = NO_SLOT }
 
 abbrev pub session_without : Session → SessionJob → List ℕ → Session
 session_without s m numbers = record s {

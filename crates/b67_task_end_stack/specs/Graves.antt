@@ -1,6 +1,7 @@
 -- The tasks of several slots die, one after another.
 use Rattle.std.specs.Prelude.{◌≡◌, ◌≢◌, ℕ, ◌+◌, ◌<◌, List, [], ◌∷◌, ◌++◌, map, Some, slice_get}
 use Rattle.b67_word.specs.Tagged.{Tagged, word}
+use Rattle.b67_ctl.specs.declared.map.TheConstants.{DIRECTORY, SLOTS, STACK_VECTOR}
 use Rattle.b67_ctl.specs.declared.registers.Regs.{Regs}
 use Rattle.b67_lemmas.specs.Lists.{Has}
 use Rattle.b67_stack.specs.Common.{PagedObject, MachineView, slot_base, Storage}
@@ -34,14 +35,14 @@ SameInside p core new = (q i : ℕ) → q < p.peak → slot_base p q < i → i <
 
 -- and so are all words below the areas but for the directory's, the slot's first and its word in the stack vector
 abbrev pub SameButSlot : ℕ → MachineView → ℕ → List Tagged → List Tagged → Type 0
-SameButSlot low p k core new = (i : ℕ) → i < low → i ≢ 152 → i ≢ slot_base p k → i ≢ 32 + k → slice_get new i ≡ slice_get core i
+SameButSlot low p k core new = (i : ℕ) → i < low → i ≢ DIRECTORY → i ≢ slot_base p k → i ≢ STACK_VECTOR + k → slice_get new i ≡ slice_get core i
 
 -- the same after several deaths
 abbrev pub SameButSlots : ℕ → MachineView → List ℕ → List Tagged → List Tagged → Type 0
-SameButSlots low p ks core new = (i : ℕ) → i < low → i ≢ 152 → ((k : ℕ) → Has ks k → (i ≢ slot_base p k) × (i ≢ 32 + k)) → slice_get new i ≡ slice_get core i
+SameButSlots low p ks core new = (i : ℕ) → i < low → i ≢ DIRECTORY → ((k : ℕ) → Has ks k → (i ≢ slot_base p k) × (i ≢ STACK_VECTOR + k)) → slice_get new i ≡ slice_get core i
 
 abbrev pub ZeroVector : List ℕ → List Tagged → Type 0
-ZeroVector ks new = (k : ℕ) → Has ks k → slice_get new (32 + k) ≡ Some (word 0 0)
+ZeroVector ks new = (k : ℕ) → Has ks k → slice_get new (STACK_VECTOR + k) ≡ Some (word 0 0)
 
 -- no registers are in use if they were those of one of these slots
 unfoldable pub all_put_out : Regs → List ℕ → Regs
@@ -60,4 +61,4 @@ pub record Buried (x y : Storage) (p q : MachineView) (core new : List Tagged) (
   pub peak : q.peak ≡ p.peak
   pub below : SameButSlots x.low p (slots_of done) core new
   pub zero : ZeroVector (slots_of done) new
-  pub few : (k : ℕ) → Has (slots_of done) k → k < 120
+  pub few : (k : ℕ) → Has (slots_of done) k → k < SLOTS

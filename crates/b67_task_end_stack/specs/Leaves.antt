@@ -1,6 +1,7 @@
 -- A plan and a job without some tasks, their slots and their arrays.
 use Rattle.std.specs.Prelude.{◌≡◌, ◌≢◌, ℕ, ◌+◌, ◌<◌, ◌==◌, List, Some, None, slice_get}
 use Rattle.b67_word.specs.Tagged.{Tagged, word}
+use Rattle.b67_ctl.specs.declared.map.TheConstants.{DIRECTORY, SLOTS, STACK_VECTOR}
 use Rattle.b67_lemmas.specs.Lists.{Has}
 use Rattle.b67_model.specs.Common.{Array, Task, Job, SessionJob, array, identities}
 use Rattle.b67_model.specs.Keyed.{keyed}
@@ -23,7 +24,7 @@ pub record Leaves (plan : Placement) (m : SessionJob) (gone : List Task) (rows :
   pub row_gone : (q : ℕ) → Lost plan m.constants.number gone q → keyed (λ (r : Slotted). r.slot) q rows ≡ None
   pub row_other : (q : ℕ) → (Lost plan m.constants.number gone q → ⊥) → keyed (λ (r : Slotted). r.slot) q rows ≡ keyed (λ (r : Slotted). r.slot) q plan.rows
   pub slots : (i u : ℕ) → (i ≡ m.constants.number → Stays gone u) → slot_of (record plan { rows = rows; running = running }) i u ≡ slot_of plan i u
-  pub runs : (q : ℕ) → q < 120 → (Lost plan m.constants.number gone q → ⊥) → (q == running) ≡ (q == plan.running)
+  pub runs : (q : ℕ) → q < SLOTS → (Lost plan m.constants.number gone q → ⊥) → (q == running) ≡ (q == plan.running)
   pub tasks : (u : ℕ) → Stays gone u → Like (keyed (λ (t : Task). t.number) u job.tasks) (keyed (λ (t : Task). t.number) u m.progress.job.tasks)
   pub arrays : (a : ℕ) → Kept m.progress.job.arrays gone a → array job a ≡ array m.progress.job a
   pub array_in : (a : Array) → Has job.arrays a → Has m.progress.job.arrays a × NotTheirs gone a
@@ -38,8 +39,8 @@ pub record Lists (plan : Placement) (m : SessionJob) (gone : List Task) (rows : 
 
 -- what has become of the words below the slots
 pub record Cleared (core new : List Tagged) (plan : Placement) (m : SessionJob) (gone : List Task) : Type 0 where
-  pub words : (i : ℕ) → i < plan.stacks → i ≢ 152 → ((g : Task) → Has gone g → i ≢ 32 + slot_of plan m.constants.number g.number) → slice_get new i ≡ slice_get core i
-  pub vector : (g : Task) → Has gone g → slice_get new (32 + slot_of plan m.constants.number g.number) ≡ Some (word 0 0)
+  pub words : (i : ℕ) → i < plan.stacks → i ≢ DIRECTORY → ((g : Task) → Has gone g → i ≢ STACK_VECTOR + slot_of plan m.constants.number g.number) → slice_get new i ≡ slice_get core i
+  pub vector : (g : Task) → Has gone g → slice_get new (STACK_VECTOR + slot_of plan m.constants.number g.number) ≡ Some (word 0 0)
 
 -- the critical marks: nothing in the slots of the dead, those of the job's other tasks by who is left, all others as they were
 pub record Marked (marks new : List ℕ) (plan : Placement) (m : SessionJob) (gone : List Task) (job : Job) : Type 0 where

@@ -16,6 +16,7 @@ ghost use Rattle.b67_task_end_stack.specs.Graves.{Death, MayAllDie, all_died, sl
 
 use b67_area::Areas;
 use b67_backing::Sectors;
+use b67_ctl::{FIRST_DICTIONARY, NO_SLOT, SLOTS, STACK_VECTOR};
 use b67_overlay::stack_top;
 use b67_stack::Cpu;
 use b67_task_release::release_words;
@@ -23,15 +24,15 @@ use b67_word::Word;
 
 /// Makes a slot's base word and its word in the stack vector zeros. If the registers were those of its task, none are in use.
 fn vacate(cpu: &mut Cpu, slot: u8, base: u32)
-    requires slot { slot < 120 }
+    requires slot { slot < SLOTS }
     requires base { base < length cpu.old.core }
-    requires vector { 160 ≤ length cpu.old.core }
+    requires vector { FIRST_DICTIONARY ≤ length cpu.old.core }
     ensures { cpu.new ≡ vacated cpu.old slot base }
 {
     cpu.core.set(base, Word::of(0, 0));
-    cpu.core.set(32 + u32::from(slot), Word::of(0, 0));
+    cpu.core.set(STACK_VECTOR + u32::from(slot), Word::of(0, 0));
     if cpu.regs.slot == slot {
-        cpu.regs.slot = 255;
+        cpu.regs.slot = NO_SLOT;
     }
 }
 
@@ -47,7 +48,7 @@ pub fn empty_slot(cpu: &mut Cpu, areas: &mut Areas, sectors: &mut Sectors, slot:
     ensures stands { (x : Storage) (told : Option (List (List ℕ))) (p : MachineView) (gone : List PagedObject) (rest : List PagedObject)
         → MachineRepresentsView x cpu.old areas.old sectors.old told p → MayDie p cpu.old.core slot gone rest
         → (y : Storage) × Released (HasHome gone) x y × MachineRepresentsView y cpu.new areas.new sectors.new told (died p slot rest)
-        × SameButSlot x.low p slot cpu.old.core cpu.new.core × (slice_get cpu.new.core (32 + slot) ≡ Some (word 0 0)) }
+        × SameButSlot x.low p slot cpu.old.core cpu.new.core × (slice_get cpu.new.core (STACK_VECTOR + slot) ≡ Some (word 0 0)) }
 {
     let _size = cpu.core.size();
     let base = cpu.regs.stacks + u32::from(slot) * u32::from(cpu.regs.stack_size);
