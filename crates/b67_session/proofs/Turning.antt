@@ -53,7 +53,7 @@ use Rattle.b67_session_attempt.proofs.Started.{known_in}
 use Rattle.b67_session_attempt.proofs.Still.{operator_many, operator_starts}
 use Rattle.b67_session_attempt.proofs.Trying.{was_made}
 use Rattle.b67_session_ends.proofs.Counted.{alike_refl, same_refl}
-use Rattle.b67_session.specs.InTurn.{MadeInTurn}
+use Rattle.b67_session.specs.InTurn.{HasTurn, MadeInTurn}
 use Rattle.b67_session.specs.Slices.{StandsAt, NextFits, StepsFit}
 use Rattle.b67_session.specs.Steps.{GoesOnInTurn}
 use Rattle.b67_session.proofs.Fitting.{fits_more}
@@ -227,23 +227,6 @@ unmade x told plan s m t answered old new other row = by_area (code_area x plan 
   by_area : (area : Option ℕ) → MakesAt x told plan s m t answered old new area → new ≡ old
   by_area None h = h.1
   by_area (Some at) h = by_call (called_in m t) h
-
--- so many steps without a line lead from a session to one of which the last task has so many operators left; the machine
--- represents that but for the counts of these steps
-pub record HasTurn (told : Option (List (List ℕ))) (steps left : ℕ) (first : Session) (core : ℕ) (now : Machine) : Type 0 where
-  pub bare : Session
-  pub member : SessionJob
-  pub task : Task
-  pub ordered : IsInOrderButPlaces (counted_by steps bare)
-  pub leads : after steps first ≡ counted_by steps bare
-  pub silent : (start : Session) (n : ℕ) → after n start ≡ first → lines (n + steps) start ≡ lines n start
-  pub fits : StepsFit core steps first
-  pub storage : Storage
-  pub plan : Placement
-  pub stands : MachineRepresents storage told now plan bare
-  pub found : keyed number_of bare.last.job bare.jobs ≡ Some member
-  pub lasts : Lasts (counted_by steps bare) (counted_more steps member) task left
-  pub slot : plan.running ≡ slot_of plan member.constants.number task.number
 
 module _ (known : Option (List (List ℕ))) (steps left : ℕ) (first : Session) (core : ℕ) (k : Machine) (h : HasTurn known steps left first core k) (some : 1 ≤ left) where
   abbrev u : Session
