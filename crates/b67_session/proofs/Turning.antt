@@ -30,7 +30,7 @@ use Rattle.b67_stack.specs.declared.Cpu.{Cpu}
 use Rattle.b67_stack.specs.declared.Step.{Step}
 use Rattle.b67_stack.specs.declared.Step.TheVariants as answers
 use Rattle.b67_stack.specs.Common.{MachineView, NoOriginalAboveTop as Calm, Storage, Represents}
-use Rattle.b67_layout.specs.Common.{machine_view, here, with_job, JobInOrderButCounts, IsInOrderButCounts, Placement, slot_of, IsRunning, RepresentsSession, with_objects}
+use Rattle.b67_layout.specs.Common.{machine_view, here, with_job, JobInOrderButCounts, IsInOrderButCounts, Placement, slot_of, IsRunning, RunsSome, RepresentsSession, with_objects}
 use Rattle.b67_layout.specs.Rows as rows
 use Rattle.b67_layout.proofs.Common.{but_counts, AllAlike, SameJobs, same_machine_view, RepresentsSession-over, job_at}
 use Rattle.b67_exec_cells.specs.Called as operators
@@ -422,6 +422,15 @@ turn_begins told room x plan s k o h w left same =
 
 pub made_in_turn : (told : Option (List (List ℕ))) (steps left : ℕ) (first : Session) (core : ℕ) (k : Machine) → HasTurn told steps left first core k → MadeInTurn told steps first core k
 made_in_turn told steps left first core k h = record { bare = h.bare; ordered = h.ordered; leads = h.leads; silent = h.silent; fits = h.fits; storage = h.storage; plan = h.plan; stands = h.stands }
+
+-- the same counts, written otherwise
+pub turn_as : (told : Option (List (List ℕ))) (steps left : ℕ) (first : Session) (core : ℕ) (k : Machine) → HasTurn told steps left first core k → (more fewer : ℕ) → more ≡ steps → fewer ≡ left → HasTurn told more fewer first core k
+turn_as told steps left first core k h more fewer same_more same_fewer =
+    subst (λ (i : ℕ). HasTurn told i fewer first core k) (sym same_more) (subst (λ (i : ℕ). HasTurn told steps i first core k) (sym same_fewer) h)
+
+-- the running task of a turn, over the registers
+pub some_runs : (k : Machine) → RunsTask k → RunsSome k.cpu
+some_runs k r = record { storage = r.storage; plan = r.plan; session = r.session; member = r.member; task = r.task; ordered = r.ordered; stands = r.stands.session; running = r.running }
 
 -- ---- the turn
 

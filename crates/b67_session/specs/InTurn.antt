@@ -42,7 +42,9 @@ pub record GoesOn (k : Machine) (room : ℕ) : Type 0 where
   pub known : Option (List (List ℕ))
   pub steps : ℕ
   pub first : Session
-  pub turn : HasTurn known steps room first (length k.cpu.core) k
+  pub core : ℕ
+  pub size : length k.cpu.core ≡ core
+  pub turn : HasTurn known steps room first core k
   pub some : 1 ≤ room
 
 -- So many steps lead from a session to another, which is in order, and print nothing; core of so many words had those that they

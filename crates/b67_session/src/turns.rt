@@ -44,8 +44,8 @@ pub(crate) fn give_turn(machine: &mut Machine, row: u8)
 fn make_near_ones(machine: &mut Machine, room: u64) -> u64
     requires { GoesOn machine.old room }
     ensures few { result ≤ room }
-    ensures row { (known : Option (List (List ℕ))) (steps : ℕ) (s : Session) → HasTurn known steps room s (length machine.old.cpu.core) machine.old
-        → HasTurn known (steps + result) (room - result) s (length machine.old.cpu.core) machine.new }
+    ensures row { (known : Option (List (List ℕ))) (steps core : ℕ) (s : Session) → length machine.old.cpu.core ≡ core → HasTurn known steps room s core machine.old
+        → HasTurn known (steps + result) (room - result) s core machine.new }
     ensures tables { machine.new.tasks ≡ machine.old.tasks }
     ensures keeps { Keeps machine.old machine.new }
 {
