@@ -1,5 +1,4 @@
 use Rattle.std.proofs.Common.{◌≡◌, ◌+◌, ◌-◌, length, refl, sym, ◌∙◌, subst, arith}
-use Rattle.std.proofs.lemmas.Bool.{not-false, not-true}
 use Rattle.b67_task_tables.specs.declared.tables.Machine.{Machine}
 use Rattle.b67_session.specs.InTurn.{HasTurn}
 use Rattle.b67_session.specs.Slices.{Keeps}
@@ -29,7 +28,7 @@ make_near-requires-clause-runs c =
 
 pub returns-then-not-make_near : goal.returns-then-not-make_near
 returns-then-not-make_near c =
-    let same : c.make_near.new.machine ≡ c.operator.machine = c.make_near.ensures.rest (not-true _ c.if-not-make_near.true) in
+    let same : c.make_near.new.machine ≡ c.operator.machine = c.make_near.ensures.rest c.if-not-make_near.true in
     record {
       few = omega (arith, c.operator.invariant.few);
       row = λ known steps core s size h.
@@ -47,6 +46,6 @@ operator-preserved c = record {
   turn = λ known steps core s size h.
       turn_as known (steps + c.operator.made + 1) (c.args.room - (c.operator.made + 1)) s core c.make_near.new.machine
       (turn_made known (steps + c.operator.made) (c.args.room - c.operator.made) s core c.operator.machine (c.operator.invariant.turn known steps core s size h) (omega arith)
-      c.make_near.new.machine (c.make_near.ensures.row (not-false _ c.if-not-make_near.false)) (c.operator.invariant.keeps.core ∙ size) (c.args.room - (c.operator.made + 1)) (omega arith))
+      c.make_near.new.machine (c.make_near.ensures.row c.if-not-make_near.false) (c.operator.invariant.keeps.core ∙ size) (c.args.room - (c.operator.made + 1)) (omega arith))
       (steps + (c.operator.made + 1)) (c.args.room - (c.operator.made + 1)) (omega arith) refl;
 }
