@@ -28,7 +28,6 @@ use Rattle.b67_exec_cells.specs.Running.{code_desc, GivesSegment}
 use Rattle.b67_exec_cells.proofs.Codes.{code_object, word-is, desc-fits}
 use Rattle.b67_exec_cells.proofs.Replaced.{before, member_objects}
 use Rattle.b67_entry.specs.Procedures.{CallsOrMeets}
-use Rattle.b67_layout_step.specs.Keeping.{is_leaving}
 use Rattle.b67_exec.specs.Operators.{goes_far, is_far}
 use Rattle.b67_exec.specs.Near.{HoldsCode}
 
@@ -194,19 +193,16 @@ holds_on old new desc r op q near code k x plan s m t ordered h runs =
     let one : seg_word (code_desc r.storage r.plan r.member r.task) ≡ seg_word (code_desc x plan m t) = same_Some _ _ (sym before_is ∙ now_is) in
     (given.0 ∙ same_desc (code_desc r.storage r.plan r.member r.task) (code_desc x plan m t) (desc-fits r.storage old r.plan r.session r.member r.task r.ordered r.stands r.running) (desc-fits x new plan s m t ordered h runs) one, given.1)
 
-pub code_after : (old new : Cpu) (desc : SegDesc) (r : RunsSome old) (op : Op) (q : Place) (made : Bool) → (made ≡ true → is_far op ≡ false)
-    → (made ≡ true → ForEach old (λ x plan s m t. CallsOrMeets x plan s m answers.Done old new (called op (here m t q)) (row op (here m t q)))) → (made ≡ false → new ≡ old) → HoldsCode old desc → HoldsCode new desc
-code_after old new desc r op q true near rows rest code =
-    let h = here r.member r.task q in
-    holds_on old new desc r op q (near refl) code (made_near r.storage r.plan r.session r.member old new (called op h) (row op h) (rows refl r.storage r.plan r.session r.member r.task r.ordered r.stands r.running))
-code_after old new desc r op q false near rows rest code = subst (λ (z : Cpu). HoldsCode z desc) (sym (rest refl)) code
+-- and so it is after any answer
+pub code_after : (old new : Cpu) (desc : SegDesc) (r : RunsSome old) (op : Op) (q : Place) (answered : Step) → is_far op ≡ false → HoldsCode old desc
+    → ForEach old (λ x plan s m t. CallsOrMeets x plan s m answered old new (called op (here m t q)) (row op (here m t q))) → HoldsCode new desc
+code_after old new desc r op q answered near code rows = by answered (rows r.storage r.plan r.session r.member r.task r.ordered r.stands r.running) where
+  kept : new ≡ old → HoldsCode new desc
+  kept same = subst (λ (z : Cpu). HoldsCode z desc) (sym same) code
 
--- a near operator leaves no activation record
-code_stays : (code : Code) → goes_far code ≡ false → is_leaving (Plain code) ≡ false
-code_stays codes.Exit near = absurd (let z : ⊥ = cc in z)
-code_stays codes.Retn near = absurd (let z : ⊥ = cc in z)
-code_stays _ near = refl
-
-pub near_stays : (op : Op) → is_far op ≡ false → is_leaving op ≡ false
-near_stays (Plain code) near = code_stays code near
-near_stays _ near = refl
+  by : (a : Step) → CallsOrMeets r.storage r.plan r.session r.member a old new (called op (here r.member r.task q)) (row op (here r.member r.task q)) → HoldsCode new desc
+  by answers.Done i = holds_on old new desc r op q near code (made_near r.storage r.plan r.session r.member old new (called op (here r.member r.task q)) (row op (here r.member r.task q)) i)
+  by (answers.Absent found) i = kept (unmade r.storage r.plan r.session r.member (answers.Absent found) old new (called op (here r.member r.task q)) (row op (here r.member r.task q)) (λ e. cc) i)
+  by (answers.Call n) i = kept (unmade r.storage r.plan r.session r.member (answers.Call n) old new (called op (here r.member r.task q)) (row op (here r.member r.task q)) (λ e. cc) i)
+  by (answers.Fault fault) i = kept (unmade r.storage r.plan r.session r.member (answers.Fault fault) old new (called op (here r.member r.task q)) (row op (here r.member r.task q)) (λ e. cc) i)
+  by answers.Ended i = kept (unmade r.storage r.plan r.session r.member answers.Ended old new (called op (here r.member r.task q)) (row op (here r.member r.task q)) (λ e. cc) i)

@@ -3,11 +3,9 @@
 
 mod assigning;
 mod evaluating;
-mod near;
 mod operators;
 
 pub use assigning::{stod, ston};
 pub use b67_entry::{exit, retn};
 pub use evaluating::{enter_in_place, evaluate, load, procedure_cell};
-pub use near::{operate_near, running_code};
-pub use operators::{Outcome, operate, operator};
+pub use operators::{Outcome, Performed, operate, operate_in, operator};

@@ -428,6 +428,10 @@ pub turn_as : (told : Option (List (List ℕ))) (steps left : ℕ) (first : Sess
 turn_as told steps left first core k h more fewer same_more same_fewer =
     subst (λ (i : ℕ). HasTurn told i fewer first core k) (sym same_more) (subst (λ (i : ℕ). HasTurn told steps i first core k) (sym same_fewer) h)
 
+-- an answer that is Done
+pub done_row : (k new : Machine) (answered : Step) → answered ≡ answers.Done → ForEachReady k (λ x told plan s m t. MakesOperator x told plan s m t answered k new) → ForEachReady k (λ x told plan s m t. MakesOperator x told plan s m t answers.Done k new)
+done_row k new answered is each x told plan s m t o h runs ready = subst (λ (z : Step). MakesOperator x told plan s m t z k new) is (each x told plan s m t o h runs ready)
+
 -- the running task of a turn, over the registers
 pub some_runs : (k : Machine) → RunsTask k → RunsSome k.cpu
 some_runs k r = record { storage = r.storage; plan = r.plan; session = r.session; member = r.member; task = r.task; ordered = r.ordered; stands = r.stands.session; running = r.running }

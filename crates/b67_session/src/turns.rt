@@ -1,6 +1,6 @@
 //! The chosen task is the running one.
 
-ghost use Rattle.std.specs.Prelude.{◌≡◌, ℕ, ◌+◌, ◌-◌, ◌≤◌, List, length, Option, Some, slice_get};
+ghost use Rattle.std.specs.Prelude.{◌≡◌, ℕ, ◌+◌, ◌-◌, ◌≤◌, List, length, Option, Some, slice_get, true};
 ghost use Rattle.b67_model.specs.InOrder.{IsInOrderButPlaces};
 ghost use Rattle.b67_model.specs.Schedule.{Session};
 ghost use Rattle.b67_layout.specs.Orders.{IsInOrderButCounts};
@@ -16,7 +16,8 @@ ghost use Rattle.b67_session.specs.Slices.{StandsAt, Keeps};
 ghost use Rattle.b67_session.specs.Steps.{IsInOrderFor, GoesOnInTurn};
 ghost use Rattle.b67_session.specs.InTurn.{TurnBegins, HasTurn, GoesOn, MadeInTurn};
 
-use b67_session_attempt::{make, make_near, running_code};
+use b67_exec_cells::present_segment;
+use b67_session_attempt::make_in;
 use b67_session_schedule::{count_turn, turn_room};
 use b67_stack::Step;
 use b67_task_switch::switch_to;
@@ -38,29 +39,47 @@ pub(crate) fn give_turn(machine: &mut Machine, row: u8)
     }
 }
 
-/// Makes near operators of the running task, up to `room`, and answers how many. Where the running segment is absent it
-/// makes none. The segment's descriptor is read once, since no near operator leaves the segment or changes what it is.
-#[inline(never)]
-fn make_near_ones(machine: &mut Machine, room: u64) -> u64
+/// How many operators were made, and whether the turn goes on behind them, in this segment or another.
+#[derive(Clone, Copy)]
+struct InSegment {
+    made: u64,
+    goes: bool,
+}
+
+/// Makes operators of the running task, up to `room`, and reads the segment's descriptor once. It stops behind one that isn't
+/// near; and before one that prints, ends its task or wants something that is absent: then the turn doesn't go on.
+#[inline(always)]
+fn make_in_segment(machine: &mut Machine, room: u64) -> InSegment
     requires { GoesOn machine.old room }
-    ensures few { result ≤ room }
+    ensures few { result.made ≤ room }
+    ensures some { result.goes ≡ true → 1 ≤ result.made }
     ensures row { (known : Option (List (List ℕ))) (steps core : ℕ) (s : Session) → length machine.old.cpu.core ≡ core → HasTurn known steps room s core machine.old
-        → HasTurn known (steps + result) (room - result) s core machine.new }
+        → HasTurn known (steps + result.made) (room - result.made) s core machine.new }
     ensures tables { machine.new.tasks ≡ machine.old.tasks }
     ensures keeps { Keeps machine.old machine.new }
 {
-    let code = match running_code(&machine.cpu) {
+    let code = match present_segment(&machine.cpu) {
         Some(code) => code,
-        None => return 0,
+        None => {
+            return InSegment {
+                made: 0,
+                goes: false,
+            };
+        }
     };
     let mut made = 0;
     'operator: while made < room {
-        if !make_near(machine, code) {
-            return made;
+        let next = make_in(machine, code);
+        match next.step {
+            Step::Done => {}
+            _ => return InSegment { made, goes: false },
         }
         made += 1;
+        if !next.near {
+            return InSegment { made, goes: true };
+        }
     }
-    made
+    InSegment { made, goes: true }
 }
 
 /// Makes operators of the running task, up to `room`, and answers how many. It stops before one that prints, ends its task or
@@ -75,16 +94,12 @@ fn make_in_turn(machine: &mut Machine, room: u64) -> u64
     ensures keeps { Keeps machine.old machine.new }
 {
     let mut made = 0;
-    'operator: while made < room {
-        made += make_near_ones(machine, room - made);
-        if made == room {
+    'segment: while made < room {
+        let next = make_in_segment(machine, room - made);
+        made += next.made;
+        if !next.goes {
             return made;
         }
-        match make(machine) {
-            Step::Done => {}
-            _ => return made,
-        }
-        made += 1;
     }
     made
 }

@@ -9,9 +9,8 @@ mod outcomes;
 mod tries;
 
 pub use attempting::attempt;
-pub use b67_exec::running_code;
 pub use b67_mcp::Stop;
 pub use fits::{made_fits, present_fits};
-pub use making::{make, make_near};
+pub use making::{Operated, make, make_in};
 pub use outcomes::Attempt;
 pub use tries::{Tried, try_once};

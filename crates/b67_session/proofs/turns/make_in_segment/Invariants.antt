@@ -3,7 +3,7 @@ use Rattle.b67_model.specs.Schedule.{Session}
 use Rattle.b67_session_attempt.specs.Passed.{HoldsCode}
 use Rattle.b67_session.specs.InTurn.{HasTurn}
 use Rattle.b67_session.specs.Slices.{Keeps}
-use Rattle.b67_session.proofs.turns.make_near_ones.Given as goal
+use Rattle.b67_session.proofs.turns.make_in_segment.Given as goal
 
 abbrev pub invariant-operator : goal.invariant-operator
 invariant-operator l = record {
