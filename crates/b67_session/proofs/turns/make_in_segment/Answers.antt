@@ -1,4 +1,5 @@
 use Rattle.std.proofs.Common.{◌≡◌, ◌+◌, ◌-◌, length, refl, sym, ◌∙◌, subst, arith}
+use Rattle.std.proofs.lemmas.Bool.{not-false}
 use Rattle.b67_task_tables.specs.declared.tables.Machine.{Machine}
 use Rattle.b67_session.specs.InTurn.{HasTurn}
 use Rattle.b67_session.specs.Slices.{Keeps}
@@ -62,7 +63,7 @@ operator-preserved c = record {
   few = omega arith;
   tables = c.make_in-next.ensures.tasks ∙ c.operator.invariant.tables;
   keeps = keeps_on c.args.machine.now c.operator.machine c.make_in-next.new.machine c.operator.invariant.keeps c.make_in-next.ensures.keeps;
-  code = c.make_in-next.ensures.code c.if-not-next.false;
+  code = c.make_in-next.ensures.code (not-false _ c.if-not-next.false);
   turn = λ known steps core s size h.
       turn_as known (steps + c.operator.made + 1) (c.args.room - (c.operator.made + 1)) s core c.make_in-next.new.machine
       (turn_made known (steps + c.operator.made) (c.args.room - c.operator.made) s core c.operator.machine (c.operator.invariant.turn known steps core s size h) (omega arith)

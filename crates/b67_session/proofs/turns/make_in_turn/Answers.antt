@@ -1,4 +1,5 @@
 use Rattle.std.proofs.Common.{◌≡◌, ◌+◌, ◌-◌, length, refl, ◌∙◌, arith}
+use Rattle.std.proofs.lemmas.Bool.{not-false}
 use Rattle.b67_session.proofs.Going.{keeps_on}
 use Rattle.b67_session.proofs.Turning.{turn_as, turn_begins, made_in_turn}
 use Rattle.b67_session.proofs.turns.make_in_turn.Goals as goal
@@ -51,7 +52,7 @@ segment-preserved c =
     }
 
 pub segment-smaller : goal.segment-smaller
-segment-smaller c = let next = c.make_in_segment-next.ensures in omega (arith, next.few, next.some c.if-not-next.false)
+segment-smaller c = let next = c.make_in_segment-next.ensures in omega (arith, next.few, next.some (not-false _ c.if-not-next.false))
 
 pub returns-clause-row : goal.returns-clause-row
 returns-clause-row c = λ x known plan s o h w. made_in_turn known c.segment.made (c.args.room - c.segment.made) s (length c.args.machine.now.cpu.core) c.segment.machine (c.segment.invariant.turn x known plan s o h w)
