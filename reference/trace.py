@@ -186,8 +186,9 @@ class Traced(Session):
         card = cards[segment].get(place, "-") if segment < len(cards) else "-"
         super().step()
         where = f"{segment + 1}@{place}"
-        line = f"{self.machine.made:6} {task.label} {where:8} card {card:>4}  {text:17} {self.after(task)}"
-        self.show(Made(self.machine.made, task.label, line, self.printed[:]))
+        made = self.machine.made
+        line = f"{made:6} {task.label} {where:8} card {card:>4}  {text:17} {self.after(task)}"
+        self.show(Made(made, task.label, line, self.printed[:]))
         self.printed.clear()
 
     def after(self, task: Task) -> str:

@@ -51,12 +51,12 @@ LOAD*)
     sh "$here/listing.sh" "$deck" "$program" "$job" |
         awk -v segment="$segment" -v place="$place" -v rule="$(echo "$line" | cut -d' ' -f4)" -v hint="$room/hint" '
             # what the heading says of its segment: its number, name, level and card
-            function read(heading,    part, n, number) {
+            function read(heading,    part, number) {
                 sub(/^job [^:]*: /, "", heading)
                 if (heading !~ /^segment /) return 0
-                n = split(heading, part, /, */)
+                split(heading, part, /, */)
                 number = substr(part[1], 9)
-                name[number] = n > 3 && part[2] !~ /^level / ? part[2] : "segment " number
+                name[number] = part[2] !~ /^level / ? part[2] : "segment " number
                 if (match(heading, /level [0-9]+/)) level[number] = substr(heading, RSTART + 6, RLENGTH - 6)
                 if (match(heading, /   [0-9]+: /)) card[number] = substr(heading, RSTART + 3, RLENGTH - 5)
                 return number
@@ -68,15 +68,16 @@ LOAD*)
             }
             END {
                 if (named in text && named != segment) print "    " text[named]
-                if (rule != 8 || !(named in level) || level[named] == level[segment] + 1) exit
                 made = level[segment] + 1
-                not_it = name[segment] " isn\047t the one to make it."
-                what = "    " toupper(substr(name[named], 1, 1)) substr(name[named], 2) " has level " level[named] ", but " name[segment] ", which makes it, has level " level[segment] ": "
-                if (named == segment) what = "    " toupper(substr(name[named], 1, 1)) substr(name[named], 2) " makes itself: let a segment one level up make it, and name its cell here."
-                else if (made > 31) what = what not_it
-                else if (named in card) what = what "card " card[named] " must read SEGMENT " name[named] " " made ", or " not_it
-                else what = what "it must have level " made ", or " not_it
-                print what > hint
+                if (rule != 8 || !(named in level) || level[named] == made) exit
+                if (named == segment) what = " makes itself: let a segment one level up make it, and name its cell here."
+                else {
+                    what = " has level " level[named] ", but " name[segment] ", which makes it, has level " level[segment] ": "
+                    if (made <= 31 && named in card) what = what "card " card[named] " must read SEGMENT " name[named] " " made ", or "
+                    else if (made <= 31) what = what "it must have level " made ", or "
+                    what = what name[segment] " isn\047t the one to make it."
+                }
+                print "    " toupper(substr(name[named], 1, 1)) substr(name[named], 2) what > hint
             }'
     ;;
 esac
