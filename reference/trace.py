@@ -3,7 +3,8 @@
     python3 trace.py DECK              each operator, and the record on top after it
     python3 trace.py DECK 100 120      operators 100 to 120 alone
     python3 trace.py DECK 100          operator 100 and all after it
-    python3 trace.py DECK last         the last 20 operators
+    python3 trace.py DECK last         the last 20 operators, and before each fault
+                                       the last 20 of the task that faults
     python3 trace.py DECK --draw 40    the stacks after 40 operators, for Graphviz
 
 A line has the operator's count, its task, its place (segment@word:syllable), its
@@ -17,8 +18,9 @@ from __future__ import annotations
 
 import re
 import sys
-from collections import deque
+from collections import defaultdict, deque
 from collections.abc import Callable
+from dataclasses import dataclass
 from pathlib import Path
 
 from asm import read_line
@@ -32,6 +34,7 @@ from words import (
     NOT_WHOLE,
     SIGN_BIT,
     Element,
+    Fault,
     Intrinsic,
     Name,
     Operand,
@@ -45,7 +48,7 @@ from words import (
 )
 
 MOST_CELLS = 6
-MOST_LINES = 20
+MOST_OPERATORS = 20
 GREATEST_CORE = 1_048_575
 COUNT = re.compile(r"[0-9]{1,9}")
 
@@ -142,10 +145,29 @@ def places_of_cards(numbers: list[list[int]], operators: list) -> Cards:
 # --- The session ------------------------------------------------------------------
 
 
-class Traced(Session):
-    """A session that shows each of its operators, and then what it printed."""
+@dataclass(frozen=True)
+class Made:
+    """An operator that was made: its count, its task, its line, and what it printed."""
 
-    def __init__(self, deck: Deck, show: Callable[[str], None]) -> None:
+    count: int
+    task: str
+    line: str
+    printed: list[str]
+
+    @property
+    def faulted(self) -> bool:
+        """Whether its task ended by a fault."""
+        return any(f"{self.task} {fault.value}" in self.printed for fault in Fault)
+
+    def show(self) -> None:
+        """Prints its line, and what it printed."""
+        print("\n".join([self.line, *self.printed]))
+
+
+class Traced(Session):
+    """A session that shows each of its operators."""
+
+    def __init__(self, deck: Deck, show: Callable[[Made], None]) -> None:
         self.show = show
         self.printed: list[str] = []
         programs = programs_of(deck)
@@ -164,11 +186,9 @@ class Traced(Session):
         card = cards[segment].get(place, "-") if segment < len(cards) else "-"
         super().step()
         where = f"{segment + 1}@{place}"
-        self.show(
-            f"{self.machine.made:6} {task.label} {where:8} card {card:>4}  {text:17} {self.after(task)}"
-        )
-        for line in self.printed:
-            self.show(line)
+        made = self.machine.made
+        line = f"{made:6} {task.label} {where:8} card {card:>4}  {text:17} {self.after(task)}"
+        self.show(Made(made, task.label, line, self.printed[:]))
         self.printed.clear()
 
     def after(self, task: Task) -> str:
@@ -214,7 +234,7 @@ def drawing(machine: Machine) -> str:
 
 def draw(deck: Deck, count: int) -> None:
     """Prints the drawing of the stacks after so many operators."""
-    session = Traced(deck, lambda line: None)
+    session = Traced(deck, lambda made: None)
     while session.lives() and session.machine.made < count and session.machine.made != session.halt:
         session.step()
     print(drawing(session.machine))
@@ -222,36 +242,39 @@ def draw(deck: Deck, count: int) -> None:
 
 def trace(deck: Deck, first: int, end: float) -> None:
     """Prints the operators from `first` to `end`."""
-    session = Traced(deck, lambda line: shown(line) if first <= session.machine.made <= end else None)
-    run(session, shown)
+    session = Traced(deck, lambda made: made.show() if first <= made.count <= end else None)
+    print(ending_of(session), end="")
 
 
 def trace_last(deck: Deck) -> None:
-    """Prints the last operators, and what they printed."""
-    last: deque[str] = deque()
-    session = Traced(deck, last.append)
+    """Prints the last operators of each task that faults, and the last ones of the run.
 
-    def keep_last(line: str) -> None:
-        last.append(line)
-        while sum(text.startswith(" ") or text[:7].isdigit() for text in last) > MOST_LINES:
-            last.popleft()
+    Two dots stand where operators are left out between them.
+    """
+    latest: deque[Made] = deque(maxlen=MOST_OPERATORS)
+    of_task: defaultdict[str, deque[Made]] = defaultdict(lambda: deque(maxlen=MOST_OPERATORS))
+    kept: dict[int, Made] = {}
 
-    session.show = keep_last
-    run(session, last.append)
-    while last and not (last[0].startswith(" ") or last[0][:7].isdigit()):
-        last.popleft()
-    print("\n".join(last))
+    def keep(made: Made) -> None:
+        latest.append(made)
+        of_task[made.task].append(made)
+        if made.faulted:
+            kept.update((each.count, each) for each in of_task[made.task])
+
+    ending = ending_of(Traced(deck, keep))
+    kept.update((made.count, made) for made in latest)
+    before = min(kept, default=0) - 1
+    for count in sorted(kept):
+        if count != before + 1:
+            print("    ..")
+        kept[count].show()
+        before = count
+    print(ending, end="")
 
 
-def run(session: Traced, show: Callable[[str], None]) -> None:
-    """Runs a session to its end. Its last line is that of a halt."""
-    if not session.run():
-        show(f"HALTED {session.machine.made}")
-
-
-def shown(line: str) -> None:
-    """Prints a line."""
-    print(line)
+def ending_of(session: Traced) -> str:
+    """Runs a session to its end, and gives the line of a halt, if it halts."""
+    return "" if session.run() else f"HALTED {session.machine.made}\n"
 
 
 def usage(why: str) -> int:

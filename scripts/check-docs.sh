@@ -123,7 +123,7 @@ missing=$(for crate in crates/*/; do
 done)
 if [ -z "$missing" ]; then passed=$((passed + 1)); else wrong "the table of crates in docs/ARCHITECTURE.md: " $missing; fi
 page=$(MANWIDTH=1000 man -l docs/b67.1 2>/dev/null | col -b)
-for words in 'USAGE: b67 run' DECK ASM CODEFILE LOAD HALTED 'NO CORE' 'BACKING FULL' 'BACKING FAULT' 'READING FAULT' 'NO MEMORY'; do
+for words in 'USAGE: b67 run' DECK ASM CODEFILE LOAD BIND HALTED 'NO CORE' 'BACKING FULL' 'BACKING FAULT' 'READING FAULT' 'NO MEMORY'; do
     case $page in *"$words"*) passed=$((passed + 1)) ;; *) wrong "docs/b67.1: $words" ;; esac
 done
 echo "$passed passed, $failed failed, $skipped not run"

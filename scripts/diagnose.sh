@@ -15,8 +15,15 @@ usage() {
 deck=$1
 program=${2:-b67}
 here=$(cd "$(dirname "$0")" && pwd)
+# the tracer, as it is called from the folder in which this is called
+case $(dirname "$0") in
+scripts) tracer=reference/trace.py ;;
+*/scripts) tracer=$(dirname "$(dirname "$0")")/reference/trace.py ;;
+*) tracer=$(dirname "$0")/../reference/trace.py ;;
+esac
 [ -f "$deck" ] && [ -r "$deck" ] || usage "$deck: not a file that can be read"
 command -v "$program" >/dev/null || usage "$program: not a program that can be run"
+job=
 room=$(mktemp -d)
 trap 'rm -rf "$room"' EXIT
 "$program" check <"$deck" >"$room/lines"
@@ -25,7 +32,8 @@ line=$(tail -n 1 "$room/lines")
 if [ $status = 0 ]; then
     cat "$room/lines"
     [ -n "$line" ] || echo "    The deck is empty, or has empty cards alone."
-    echo "    Nothing is refused. Where a fault comes from: python3 reference/trace.py $deck last"
+    echo "    Nothing is refused. It may still fault: run it, and pipe its lines to sh $(dirname "$0")/explain.sh."
+    echo "    Where a fault comes from: python3 $tracer $deck last"
     exit 0
 fi
 case $line in
@@ -38,12 +46,46 @@ LOAD*)
     segment=$(echo "$line" | cut -d' ' -f6)
     place=$(echo "$line" | cut -d' ' -f8)
     job=$(sed -n "1,${card}p" "$deck" | grep -c '^?JOB')
+    name=$(sed -n "${card}p" "$deck" | tr -d '\r' | sed 's/^?JOB *//; s/ *$//')
+    # the operator between its segment's heading and that of the segment which it names; for rule 8 their levels
     sh "$here/listing.sh" "$deck" "$program" "$job" |
-        awk -v segment="segment $segment," -v place="$place" '
-            /^segment/ { in_it = index($0, segment) == 1; heading[$2 + 0] = $0; if (in_it) print "    " $0 }
-            in_it && $1 == place { print "  " $0; if (match($0, /MPCW segment [0-9]+/)) named = substr($0, RSTART + 13, RLENGTH - 13) }
-            END { if (named in heading) print "    " heading[named] }'
+        awk -v segment="$segment" -v place="$place" -v rule="$(echo "$line" | cut -d' ' -f4)" -v hint="$room/hint" '
+            # what the heading says of its segment: its number, name, level and card
+            function read(heading,    part, number) {
+                sub(/^job [^:]*: /, "", heading)
+                if (heading !~ /^segment /) return 0
+                split(heading, part, /, */)
+                number = substr(part[1], 9)
+                name[number] = part[2] !~ /^level / ? part[2] : "segment " number
+                if (match(heading, /level [0-9]+/)) level[number] = substr(heading, RSTART + 6, RLENGTH - 6)
+                if (match(heading, /   [0-9]+: /)) card[number] = substr(heading, RSTART + 3, RLENGTH - 5)
+                return number
+            }
+            /^[a-z]/ { now = read($0); text[now] = $0; if (now == segment) print "    " $0 }
+            now == segment && $1 == place {
+                print "  " $0
+                if (match($0, /MPCW segment [0-9]+/)) named = substr($0, RSTART + 13, RLENGTH - 13)
+            }
+            END {
+                if (named in text && named != segment) print "    " text[named]
+                made = level[segment] + 1
+                if (rule != 8 || !(named in level) || level[named] == made) exit
+                if (named == segment) what = " makes itself: let a segment one level up make it, and name its cell here."
+                else {
+                    what = " has level " level[named] ", but " name[segment] ", which makes it, has level " level[segment] ": "
+                    if (made <= 31 && named in card) what = what "card " card[named] " must read SEGMENT " name[named] " " made ", or "
+                    else if (made <= 31) what = what "it must have level " made ", or "
+                    what = what name[segment] " isn\047t the one to make it."
+                }
+                print "    " toupper(substr(name[named], 1, 1)) substr(name[named], 2) what > hint
+            }'
     ;;
 esac
-sh "$here/explain.sh" "${line:-status $status}"
+sh "$here/explain.sh" "${line:-status $status}" >"$room/explained"
+if [ -n "$job" ]; then
+    sed "s/^    The program of the job that begins at card $card /    The program of job $job, $name, which begins at card $card, /" "$room/explained" >"$room/named"
+    mv "$room/named" "$room/explained"
+fi
+# a hint that knows the levels takes the place of the general one
+if [ -f "$room/hint" ]; then sed '$d' "$room/explained"; cat "$room/hint"; else cat "$room/explained"; fi
 exit 1

@@ -67,7 +67,7 @@ BEGIN {
 /^DECK [0-9]+ REASON [0-9]+$/ { look("DECK:" $4, 2, "Card " $2 " "); next }
 /^ASM [0-9]+ REASON [0-9]+$/ { look("ASM:" $4, 2, "Card " $2 " "); next }
 /^CODEFILE [0-9]+ REASON [0-9]+ BYTE [0-9]+$/ { look("CODEFILE:" $4, 2, "The bytes under card " $2 " "); next }
-/^LOAD [0-9]+ REASON [0-9]+ SEGMENT [0-9]+ AT [0-9]+:[0-9]$/ { look("LOAD:" $4, 2, "The program of card " $2 " "); next }
+/^LOAD [0-9]+ REASON [0-9]+ SEGMENT [0-9]+ AT [0-9]+:[0-9]$/ { look("LOAD:" $4, 2, "The program of the job that begins at card " $2 " "); next }
 /^BIND [0-9]+ REASON [0-9]+$/ { look("BIND:" $4, 2, "Pair " $2 " "); next }
 /^HALTED [0-9]+$/ { look("Statuses:3", 3); next }
 /^NO CORE [0-9]+ [0-9]+$/ { numbers["need"] = $3; numbers["core"] = $4; look("Statuses:4", 3); next }

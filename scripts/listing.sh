@@ -1,6 +1,7 @@
 #!/bin/sh
 # Lists an assembled program: for each operator its place (word:syllable), its bytes, its name, and the card that it
-# comes from. A refusal such as LOAD 2 REASON 8 SEGMENT 1 AT 0:0 names a segment and such a place.
+# comes from. A refusal such as LOAD 2 REASON 8 SEGMENT 1 AT 0:0 names a segment and such a place. The heading of a
+# segment or data row ends with its card, and begins with the job if the deck has several.
 #
 #     sh scripts/listing.sh DECK [PROGRAM] [JOB]
 #
@@ -21,12 +22,12 @@ case $job in [1-8]) ;; *) usage "$job: a job is a number from 1 to 8" ;; esac
 room=$(mktemp -d)
 trap 'rm -rf "$room"' EXIT
 
-# the body, each card on the line that it has in the deck; `kind` says what it is
-awk -v kind="$room/kind" -v wanted="$job" '
+# the body, each card on the line that it has in the deck; `kind` says what it is, `prefix` which job of several
+awk -v kind="$room/kind" -v prefix="$room/prefix" -v wanted="$job" '
 BEGIN { is = "plain" }
 { sub(/\r$/, "") }
 /^\?/ {
-    if (/^\?JOB/) job++
+    if (/^\?JOB/ && ++job == wanted) name = $2
     in_body = 0
     if (/^\?(ASM|HEX) *$/ && job == wanted && is == "plain") { in_body = 1; is = substr($1, 2) }
     marked = 1
@@ -38,21 +39,23 @@ BEGIN { is = "plain" }
 END {
     if (is == "plain") is = marked || wanted > 1 ? "none" : other ? "ASM" : "HEX"
     print is > kind
+    if (job > 1) printf "job %d, %s, of %d: ", wanted, name, job > prefix
 }' "$deck" >"$room/body"
 [ "$(cat "$room/kind")" != none ] || usage "$deck: no program of a job $job"
 
+prefix=$(cat "$room/prefix" 2>/dev/null)
 : >"$room/cards"
 : >"$room/names"
 if [ "$(cat "$room/kind")" = ASM ]; then
     command -v "$program" >/dev/null || usage "$program: not a program that can be run"
     "$program" asm <"$room/body" >"$room/hex" || { cat "$room/hex" >&2; exit 1; }
-    # operators alone: number, segment, mnemonic, text; and the names of segments and rows
+    # operators alone: number, segment, mnemonic, text; and the names of segments and rows, with their cards
     awk -v names="$room/names" '
     {
         text = $0
         sub(/;.*/, "")
         if ($1 == "SEGMENT") segment++
-        if ($1 == "SEGMENT" || $1 == "ROW") { print $1 "\t" $2 > names; next }
+        if ($1 == "SEGMENT" || $1 == "ROW") { print $1 "\t" $2 "\t" NR ": " text > names; next }
         if ($1 == "NUM" || $1 == "ENTRY" || NF == 0) next
         print NR "\t" segment "\t" ($1 ~ /:$/ ? $2 : $1) "\t" text
     }' "$room/body" >"$room/cards"
@@ -60,7 +63,7 @@ else
     cp "$room/body" "$room/hex"
 fi
 
-awk -v cards="$room/cards" -v names_of="$room/names" '
+awk -v cards="$room/cards" -v names_of="$room/names" -v prefix="$prefix" '
 function digit(c) { return index("0123456789abcdef", c) - 1 }
 function number(text,    i, n) {
     n = 0
@@ -156,8 +159,8 @@ BEGIN {
     }
     while ((getline line < names_of) > 0) {
         split(line, part, "\t")
-        if (part[1] == "ROW") row_names[++named_rows] = part[2] ", "
-        else segment_names[++named_segments] = part[2] ", "
+        if (part[1] == "ROW") { row_names[++named_rows] = part[2] ", "; row_cards[named_rows] = "   " part[3] }
+        else { segment_names[++named_segments] = part[2] ", "; segment_cards[named_segments] = "   " part[3] }
     }
     next_card = 1
     cards_known = last_card > 0
@@ -174,14 +177,14 @@ END {
         entries = ""
         if (version ~ /2$/) for (k = number(take(1)); k > 0; k--) entries = entries " " place(number(take(2)))
         words = number(take(2))
-        print "segment " segment ", " segment_names[segment] "level " level ", " words " words" (entries == "" ? "" : ", entries" entries)
+        print prefix "segment " segment ", " segment_names[segment] "level " level ", " words " words" (entries == "" ? "" : ", entries" entries) segment_cards[segment]
         code = ""
         for (k = 0; k < words; k++) code = code substr(take(8), 5)
         list(level, words, code)
     }
     for (row = 1; row <= rows; row++) {
         words = number(take(2))
-        print "data row " row ", " row_names[row] "displacement " segments + 1 + row ", " words " words"
+        print prefix "data row " row ", " row_names[row] "displacement " segments + 1 + row ", " words " words" row_cards[row]
         for (k = 0; k < words; k++) print "  " sprintf("%6d", k) "  " literal(substr(take(8), 5))
     }
 }' "$room/hex"
