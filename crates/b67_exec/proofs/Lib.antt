@@ -6,3 +6,4 @@ pub mod Unders
 pub mod Cases
 pub mod Overs
 pub mod Readings
+pub mod Nears

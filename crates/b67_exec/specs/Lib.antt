@@ -1,3 +1,4 @@
 pub mod Procedures
 pub mod Stores
 pub mod Operators
+pub mod Near

@@ -11,10 +11,12 @@ ghost use Rattle.b67_layout_step.specs.Keeping.{is_leaving};
 ghost use Rattle.b67_exec_cells.specs.Running.{code_area};
 ghost use Rattle.b67_entry.specs.Procedures.{CallsOrMeets};
 ghost use Rattle.b67_exec.specs.Operators.{ParametersFit, goes_far, is_far, OperatorMeets, leaves_record, CutsRecord};
+ghost use Rattle.b67_exec.specs.Near.{HoldsCode};
 
 use crate::assigning::{stod, ston};
 use crate::evaluating::{evaluate, load};
 use b67_arith::Numeric;
+use b67_ctl::SegDesc;
 use b67_entry::{entr, exit, mkst, retn};
 use b67_exec_cells::{
     Binary, Unary, branch_if, branch_to, dlet, dupl, exch, literal, mpcw, namc, on_numbers, on_one,
@@ -210,24 +212,56 @@ fn far(cpu: &mut Cpu, op: Op, next: Place) -> Step
 
 /// An operator, after which the task goes on at `next`.
 #[inline(always)]
-fn perform(cpu: &mut Cpu, op: Op, next: Place) -> Outcome
+fn perform(cpu: &mut Cpu, op: Op, next: Place) -> Performed
     requires runs { RunsSome cpu.old }
     requires parameters { ParametersFit op }
     requires next { IsPlace next }
     ensures row { ForEach cpu.old (λ x plan s m t. CallsOrMeets x plan s m result.step cpu.old cpu.new (called op (here m t next)) (row op (here m t next))) }
     ensures left { result.left ≡ is_leaving op }
     ensures cuts { result.left ≡ true → result.step ≡ Done → CutsRecord cpu.old cpu.new }
+    ensures near { result.near ≡ true → is_far op ≡ false }
 {
     if is_far(op) {
         let step = far(cpu, op, next);
-        return Outcome {
+        return Performed {
             step,
             left: leaves(op),
+            near: false,
         };
     }
-    Outcome {
+    Performed {
         step: stay(cpu, op, next),
         left: false,
+        near: true,
+    }
+}
+
+/// As `Outcome`, and whether the operator is near: if so, the running segment and its descriptor are as they were.
+#[derive(Clone, Copy, Debug, PartialEq, Eq)]
+pub struct Performed {
+    pub step: Step,
+    pub left: bool,
+    pub near: bool,
+}
+
+/// Executes the operator at the running place, as `operate`, where the running segment is present and this is its
+/// descriptor. `near` is whether the segment still runs, with this descriptor.
+#[inline(always)]
+pub fn operate_in(cpu: &mut Cpu, desc: SegDesc) -> Performed
+    requires runs { RunsSome cpu.old }
+    requires code { HoldsCode cpu.old desc }
+    ensures row { ForEach cpu.old (λ x plan s m t. OperatorMeets x plan s m t result.step cpu.old cpu.new) }
+    ensures left { ForEach cpu.old (λ x plan s m t. code_area x plan m t ≢ None → result.left ≡ leaves_record (reading_of m.constants t)) }
+    ensures cuts { result.left ≡ true → result.step ≡ Done → CutsRecord cpu.old cpu.new }
+    ensures code { result.near ≡ true → HoldsCode cpu.new desc }
+{
+    match read_in(cpu, desc) {
+        Ok((op, next)) => perform(cpu, op, next),
+        Err(_) => Performed {
+            step: Step::Fault(Fault::InvalidOperator),
+            left: false,
+            near: true,
+        },
     }
 }
 
@@ -252,12 +286,10 @@ pub fn operate(cpu: &mut Cpu) -> Outcome
             };
         }
     };
-    match read_in(cpu, desc) {
-        Ok((op, next)) => perform(cpu, op, next),
-        Err(_) => Outcome {
-            step: Step::Fault(Fault::InvalidOperator),
-            left: false,
-        },
+    let made = operate_in(cpu, desc);
+    Outcome {
+        step: made.step,
+        left: made.left,
     }
 }
 

@@ -2,6 +2,7 @@
 
 use crate::command::command_of;
 use crate::tests::{WORDS, answer};
+use std::alloc::{AllocError, Global};
 use std::process::Abort;
 use std::test::Fail;
 
@@ -39,21 +40,13 @@ const DEEP: &str = "?JOB D\n?ASM\nSEGMENT A 3\nEXIT\n?END\n";
 /// A card of its assembly is refused.
 const MISSPELT: &str = "?JOB B\n?ASM\nSEGMENT A 2\nADDD\n?END\n";
 
-fn check(
-    rt: &HostRuntime,
-    words: &[&str],
-    jobs: &[&str],
-    status: u8,
-    lines: &str,
-) -> Result<(), Fail> {
-    let mut deck = String::new(rt.alloc());
+/// The status of a deck of these jobs, and what is printed.
+fn answer_jobs(alloc: Global, words: &[&str], jobs: &[&str]) -> Result<(u8, Vec<u8>), AllocError> {
+    let mut deck = String::new(alloc);
     for job in jobs {
         deck.push_str(job)?;
     }
-    let (was, printed) = answer(rt.alloc(), words, deck.as_bytes(), 80, &[], &[])?;
-    assert_eq!(rt; was, status, "{lines}");
-    assert_eq!(rt; printed.as_slice(), lines.as_bytes(), "{lines}");
-    Ok(())
+    answer(alloc, words, deck.as_bytes(), 80, &[], &[])
 }
 
 #[test]
@@ -85,11 +78,16 @@ fn binds(rt: HostRuntime) -> Result<(), Fail> {
         ),
     ];
     for (words, jobs, lines) in rows {
-        check(&rt, words, jobs.as_slice(), 0, lines)?;
+        let (status, printed) = answer_jobs(rt.alloc(), words, jobs.as_slice())?;
+        assert_eq!(rt; status, 0, "{lines}");
+        assert_eq!(rt; printed.as_slice(), lines.as_bytes());
     }
     // What is bound runs.
     let deck = ["?JOB B\n?HEX\n", BOUND, "?END\n"];
-    check(&rt, &WORDS, deck.as_slice(), 0, "1.1 4\n1.1 ENDED\n")
+    let (status, printed) = answer_jobs(rt.alloc(), &WORDS, deck.as_slice())?;
+    assert_eq!(rt; status, 0);
+    assert_eq!(rt; printed.as_slice(), b"1.1 4\n1.1 ENDED\n".as_slice());
+    Ok(())
 }
 
 #[test]
@@ -156,7 +154,9 @@ fn refuses(rt: HostRuntime) -> Result<(), Fail> {
         ),
     ];
     for (words, jobs, lines) in rows {
-        check(&rt, words, jobs, 2, lines)?;
+        let (status, printed) = answer_jobs(rt.alloc(), words, jobs)?;
+        assert_eq!(rt; status, 2, "{lines}");
+        assert_eq!(rt; printed.as_slice(), lines.as_bytes(), "{lines}");
     }
     Ok(())
 }
@@ -184,7 +184,8 @@ fn bind_words(rt: HostRuntime) -> Result<(), Fail> {
     let mut most = ["1=1"; 256];
     most[0] = "bind";
     check_words(&rt, most.as_slice(), true);
-    check(&rt, most.as_slice(), &[HOST, PART], 2, "BIND 2 REASON 3\n")?;
+    let (_, printed) = answer_jobs(rt.alloc(), most.as_slice(), &[HOST, PART])?;
+    assert_eq!(rt; printed.as_slice(), b"BIND 2 REASON 3\n".as_slice());
     let mut more = ["1=1"; 257];
     more[0] = "bind";
     check_words(&rt, more.as_slice(), false);

@@ -1,6 +1,6 @@
 //! The chosen task is the running one.
 
-ghost use Rattle.std.specs.Prelude.{◌≡◌, ℕ, ◌≤◌, List, length, Option, Some, slice_get};
+ghost use Rattle.std.specs.Prelude.{◌≡◌, ℕ, ◌+◌, ◌-◌, ◌≤◌, List, length, Option, Some, slice_get, true};
 ghost use Rattle.b67_model.specs.InOrder.{IsInOrderButPlaces};
 ghost use Rattle.b67_model.specs.Schedule.{Session};
 ghost use Rattle.b67_layout.specs.Orders.{IsInOrderButCounts};
@@ -14,9 +14,10 @@ ghost use Rattle.b67_session_schedule.specs.Lasting.{TurnLasts};
 ghost use Rattle.b67_session_attempt.specs.Passed.{AreCountable};
 ghost use Rattle.b67_session.specs.Slices.{StandsAt, Keeps};
 ghost use Rattle.b67_session.specs.Steps.{IsInOrderFor, GoesOnInTurn};
-ghost use Rattle.b67_session.specs.InTurn.{TurnBegins, MadeInTurn};
+ghost use Rattle.b67_session.specs.InTurn.{TurnBegins, HasTurn, GoesOn, MadeInTurn};
 
-use b67_session_attempt::make;
+use b67_exec_cells::present_segment;
+use b67_session_attempt::make_in;
 use b67_session_schedule::{count_turn, turn_room};
 use b67_stack::Step;
 use b67_task_switch::switch_to;
@@ -38,6 +39,49 @@ pub(crate) fn give_turn(machine: &mut Machine, row: u8)
     }
 }
 
+/// How many operators were made, and whether the turn goes on behind them, in this segment or another.
+#[derive(Clone, Copy)]
+struct InSegment {
+    made: u64,
+    goes: bool,
+}
+
+/// Makes operators of the running task, up to `room`, and reads the segment's descriptor once. It stops behind one that isn't
+/// near; and before one that prints, ends its task or wants something that is absent: then the turn doesn't go on.
+#[inline(always)]
+fn make_in_segment(machine: &mut Machine, room: u64) -> InSegment
+    requires { GoesOn machine.old room }
+    ensures few { result.made ≤ room }
+    ensures some { result.goes ≡ true → 1 ≤ result.made }
+    ensures row { (known : Option (List (List ℕ))) (steps core : ℕ) (s : Session) → length machine.old.cpu.core ≡ core → HasTurn known steps room s core machine.old
+        → HasTurn known (steps + result.made) (room - result.made) s core machine.new }
+    ensures tables { machine.new.tasks ≡ machine.old.tasks }
+    ensures keeps { Keeps machine.old machine.new }
+{
+    let code = match present_segment(&machine.cpu) {
+        Some(code) => code,
+        None => {
+            return InSegment {
+                made: 0,
+                goes: false,
+            };
+        }
+    };
+    let mut made = 0;
+    'operator: while made < room {
+        let next = make_in(machine, code);
+        match next.step {
+            Step::Done => {}
+            _ => return InSegment { made, goes: false },
+        }
+        made += 1;
+        if !next.near {
+            return InSegment { made, goes: true };
+        }
+    }
+    InSegment { made, goes: true }
+}
+
 /// Makes operators of the running task, up to `room`, and answers how many. It stops before one that prints, ends its task or
 /// wants something that is absent. None is counted yet.
 #[inline(never)]
@@ -50,12 +94,12 @@ fn make_in_turn(machine: &mut Machine, room: u64) -> u64
     ensures keeps { Keeps machine.old machine.new }
 {
     let mut made = 0;
-    'operator: while made < room {
-        match make(machine) {
-            Step::Done => {}
-            _ => return made,
+    'segment: while made < room {
+        let next = make_in_segment(machine, room - made);
+        made += next.made;
+        if !next.goes {
+            return made;
         }
-        made += 1;
     }
     made
 }

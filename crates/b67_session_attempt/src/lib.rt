@@ -11,6 +11,6 @@ mod tries;
 pub use attempting::attempt;
 pub use b67_mcp::Stop;
 pub use fits::{made_fits, present_fits};
-pub use making::make;
+pub use making::{Operated, make, make_in};
 pub use outcomes::Attempt;
 pub use tries::{Tried, try_once};

@@ -1,48 +1,58 @@
-use Rattle.std.proofs.Common.{◌≡◌, ◌+◌, ◌-◌, length, refl, sym, ◌∙◌, subst, arith}
-use Rattle.b67_task_tables.specs.declared.tables.Machine.{Machine}
-use Rattle.b67_session.specs.InTurn.{MadeInTurn}
-use Rattle.b67_session.specs.Slices.{Keeps}
+use Rattle.std.proofs.Common.{◌≡◌, ◌+◌, ◌-◌, length, refl, ◌∙◌, arith}
+use Rattle.std.proofs.lemmas.Bool.{not-false}
 use Rattle.b67_session.proofs.Going.{keeps_on}
-use Rattle.b67_session.proofs.Turning.{turn_begins, made_in_turn, turn_runs, turn_made, turn_stays}
+use Rattle.b67_session.proofs.Turning.{turn_as, turn_begins, made_in_turn}
 use Rattle.b67_session.proofs.turns.make_in_turn.Goals as goal
 
-pub operator-init : goal.operator-init
-operator-init c = record {
+pub segment-init : goal.segment-init
+segment-init c = record {
   few = omega arith;
   tables = refl;
   keeps = record { core = refl; sectors = refl; halt = refl; names = refl };
   turn = λ x known plan s o h w. turn_begins known c.args.room x plan s c.args.machine.now o h w (c.args.room - 0) (omega arith);
 }
 
-pub make-requires : goal.make-requires
-make-requires c =
+pub make_in_segment-next-requires : goal.make_in_segment-next-requires
+make_in_segment-next-requires c =
     let q = c.requires in
-    record { runs = turn_runs q.known c.operator.made (c.args.room - c.operator.made) q.session (length c.args.machine.now.cpu.core) c.operator.machine (c.operator.invariant.turn q.storage q.known q.plan q.session q.ordered q.stands q.lasts) (omega arith) }
-
-pub operator-preserved : goal.operator-preserved
-operator-preserved c = record {
-  few = omega arith;
-  tables = c.make.ensures.tasks ∙ c.operator.invariant.tables;
-  keeps = keeps_on c.args.machine.now c.operator.machine c.make.new.machine c.operator.invariant.keeps c.make.ensures.keeps;
-  turn = λ x known plan s o h w.
-      turn_made known c.operator.made (c.args.room - c.operator.made) s (length c.args.machine.now.cpu.core) c.operator.machine (c.operator.invariant.turn x known plan s o h w) (omega arith)
-      c.make.new.machine c.in-Done.ensures.row c.operator.invariant.keeps.core (c.args.room - (c.operator.made + 1)) (omega arith);
-}
-
-pub returns-in_default : goal.returns-in_default
-returns-in_default c =
-    let q = c.requires in
-    let same : c.make.new.machine ≡ c.operator.machine =
-    turn_stays q.known c.operator.made (c.args.room - c.operator.made) q.session (length c.args.machine.now.cpu.core) c.operator.machine (c.operator.invariant.turn q.storage q.known q.plan q.session q.ordered q.stands q.lasts) (omega arith)
-    c.make.result c.make.new.machine c.in_default.not-Done c.make.ensures.row in
     record {
-      few = omega (arith, c.operator.invariant.few);
-      row = λ x known plan s o h w.
-          subst (λ (z : Machine). MadeInTurn known c.operator.made s (length c.args.machine.now.cpu.core) z) (sym same)
-          (made_in_turn known c.operator.made (c.args.room - c.operator.made) s (length c.args.machine.now.cpu.core) c.operator.machine (c.operator.invariant.turn x known plan s o h w));
-      tables = c.make.ensures.tasks ∙ c.operator.invariant.tables;
-      keeps = subst (λ (z : Machine). Keeps c.args.machine.now z) (sym same) c.operator.invariant.keeps;
+      known = q.known;
+      steps = c.segment.made;
+      first = q.session;
+      core = length c.args.machine.now.cpu.core;
+      size = c.segment.invariant.keeps.core;
+      turn = c.segment.invariant.turn q.storage q.known q.plan q.session q.ordered q.stands q.lasts;
+      some = omega arith;
     }
 
+pub returns-then-not-next : goal.returns-then-not-next
+returns-then-not-next c =
+    let next = c.make_in_segment-next.ensures in
+    record {
+      few = omega (arith, next.few);
+      row = λ x known plan s o h w.
+          made_in_turn known (c.segment.made + c.make_in_segment-next.result.made) (c.args.room - c.segment.made - c.make_in_segment-next.result.made) s (length c.args.machine.now.cpu.core) c.make_in_segment-next.new.machine
+          (next.row known c.segment.made (length c.args.machine.now.cpu.core) s c.segment.invariant.keeps.core (c.segment.invariant.turn x known plan s o h w));
+      tables = next.tables ∙ c.segment.invariant.tables;
+      keeps = keeps_on c.args.machine.now c.segment.machine c.make_in_segment-next.new.machine c.segment.invariant.keeps next.keeps;
+    }
+
+pub segment-preserved : goal.segment-preserved
+segment-preserved c =
+    let next = c.make_in_segment-next.ensures in
+    let made = c.segment.made + c.make_in_segment-next.result.made in
+    let left = c.args.room - c.segment.made - c.make_in_segment-next.result.made in
+    record {
+      few = omega (arith, next.few);
+      tables = next.tables ∙ c.segment.invariant.tables;
+      keeps = keeps_on c.args.machine.now c.segment.machine c.make_in_segment-next.new.machine c.segment.invariant.keeps next.keeps;
+      turn = λ x known plan s o h w.
+          turn_as known made left s (length c.args.machine.now.cpu.core) c.make_in_segment-next.new.machine
+          (next.row known c.segment.made (length c.args.machine.now.cpu.core) s c.segment.invariant.keeps.core (c.segment.invariant.turn x known plan s o h w)) made (c.args.room - made) refl (omega (arith, next.few));
+    }
+
+pub segment-smaller : goal.segment-smaller
+segment-smaller c = let next = c.make_in_segment-next.ensures in omega (arith, next.few, next.some (not-false _ c.if-not-next.false))
+
 pub returns-clause-row : goal.returns-clause-row
-returns-clause-row c = λ x known plan s o h w. made_in_turn known c.operator.made (c.args.room - c.operator.made) s (length c.args.machine.now.cpu.core) c.operator.machine (c.operator.invariant.turn x known plan s o h w)
+returns-clause-row c = λ x known plan s o h w. made_in_turn known c.segment.made (c.args.room - c.segment.made) s (length c.args.machine.now.cpu.core) c.segment.machine (c.segment.invariant.turn x known plan s o h w)

@@ -6,11 +6,11 @@ use Rattle.b67_layout.specs.Placement.{Placement}
 use Rattle.b67_task_tables.specs.Tables.{MachineRepresents}
 use Rattle.b67_session_schedule.specs.Lasting.{TurnLasts}
 use Rattle.b67_session.specs.Slices.{Keeps}
-use Rattle.b67_session.proofs.Turning.{HasTurn}
+use Rattle.b67_session.specs.InTurn.{HasTurn}
 use Rattle.b67_session.proofs.turns.make_in_turn.Given as goal
 
-abbrev pub invariant-operator : goal.invariant-operator
-invariant-operator l = record {
+abbrev pub invariant-segment : goal.invariant-segment
+invariant-segment l = record {
   few : l.made ≤ l.room;
   tables : l.machine.tasks ≡ l.initial.machine.tasks;
   keeps : Keeps l.initial.machine l.machine;
@@ -18,5 +18,5 @@ invariant-operator l = record {
       → HasTurn told l.made (l.room - l.made) s (length l.initial.machine.cpu.core) l.machine;
 }
 
-abbrev pub decreases-operator : goal.decreases-operator
-decreases-operator l = l.room - l.made
+abbrev pub decreases-segment : goal.decreases-segment
+decreases-segment l = l.room - l.made

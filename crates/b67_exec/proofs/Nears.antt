@@ -1,0 +1,208 @@
+-- A near operator: other cells on the running stack, and the same segment, held as it was.
+use Rattle.std.proofs.Common.{◌≡◌, ◌≢◌, ℕ, ◌+◌, ◌-◌, ◌*◌, ◌^◌, ◌<◌, ◌≤◌, Bool, true, false, List, [], ◌∷◌, ◌++◌, map, flat_map, length, Option, Some, None, Ok, Err, refl, sym, ◌∙◌, ap, subst, arith}
+use Rattle.std.specs.Prelude.{nat_le}
+use Rattle.std.specs.List.{slice_get}
+use Rattle.std.proofs.lemmas.Option.{same_Some}
+use Rattle.b67_word.specs.Tagged.{Tagged}
+use Rattle.b67_word.specs.declared.couples.Place.{Place}
+use Rattle.b67_area.specs.declared.Kind.TheVariants as kind
+use Rattle.b67_ctl.specs.Layout.{bit}
+use Rattle.b67_ctl.specs.declared.descriptors.SegDesc.{SegDesc}
+use Rattle.b67_ctl.specs.Descriptors.{seg_word, IsSegDesc}
+use Rattle.b67_lemmas.specs.Lists.{Has}
+use Rattle.b67_lemmas.proofs.Keyed.{keyed-change_same}
+use Rattle.b67_lemmas.proofs.Members.{change_found, has_append_right, keyed_has}
+use Rattle.b67_lemmas.proofs.Places.{get_within}
+use Rattle.b67_model.specs.declared.operators.Op.{Op}
+use Rattle.b67_model.specs.declared.operators.Op.TheVariants.{Valc, Namc, Lt8, Lt16, Lt48, Mpcw, Brun, Brtr, Brfl, Bset, Brst, Isol, Insr, Plain}
+use Rattle.b67_model.specs.declared.operators.Code.{Code}
+use Rattle.b67_model.specs.declared.operators.Code.TheVariants as codes
+use Rattle.b67_model.specs.Common.{Answer, ◌>>=◌, Word, Done, Goes, Line, Task, Job, SessionJob, Session, Segment, operand, with_task, with_top_cells, height, leaves_cells, on_cells, branch_if, row, called, code_of, number_of}
+use Rattle.b67_stack.specs.declared.Cpu.{Cpu}
+use Rattle.b67_stack.specs.declared.Step.{Step}
+use Rattle.b67_stack.specs.declared.Step.TheVariants as answers
+use Rattle.b67_stack.specs.Common.{PagedObject, Storage}
+use Rattle.b67_layout.specs.Common.{Placement, IsInOrderButCounts, IsRunning, RepresentsSession, RepresentsSessionBut, RunsSome, ForEach, here, with_job, objects_gone, IsMade, Meets, code_objects, objects_of, array_object, cells}
+use Rattle.b67_layout.proofs.Common.{task_with, running_in_order}
+use Rattle.b67_exec_cells.specs.Running.{code_desc, GivesSegment}
+use Rattle.b67_exec_cells.proofs.Codes.{code_object, word-is, desc-fits}
+use Rattle.b67_exec_cells.proofs.Replaced.{before, member_objects}
+use Rattle.b67_entry.specs.Procedures.{CallsOrMeets}
+use Rattle.b67_exec.specs.Operators.{goes_far, is_far}
+use Rattle.b67_exec.specs.Near.{HoldsCode}
+
+-- ---- what was answered
+
+-- an operator that was made calls no intrinsic
+pub made_near : (x : Storage) (plan : Placement) (s : Session) (m : SessionJob) (old new : Cpu) (calls : Option ℕ) (answer : Answer Done) → CallsOrMeets x plan s m answers.Done old new calls answer → IsMade x plan s m old new answer
+made_near x plan s m old new (Some n) answer i = absurd (let e = i.0 in let z : ⊥ = cc in z)
+made_near x plan s m old new None answer i = i
+
+-- after another answer nothing has changed
+unmet : (x : Storage) (plan : Placement) (s : Session) (m : SessionJob) (answered : Step) (old new : Cpu) (answer : Answer Done) → answered ≢ answers.Done → Meets x plan s m answered old new answer → new ≡ old
+unmet x plan s m answers.Done old new answer other i = absurd (other refl)
+unmet x plan s m (answers.Absent found) old new answer other i = i.1
+unmet x plan s m (answers.Call n) old new answer other i = absurd i
+unmet x plan s m (answers.Fault fault) old new answer other i = i.1
+unmet x plan s m answers.Ended old new answer other i = i.1
+
+pub unmade : (x : Storage) (plan : Placement) (s : Session) (m : SessionJob) (answered : Step) (old new : Cpu) (calls : Option ℕ) (answer : Answer Done) → answered ≢ answers.Done → CallsOrMeets x plan s m answered old new calls answer → new ≡ old
+unmade x plan s m answered old new (Some n) answer other i = i.1
+unmade x plan s m answered old new None answer other i = unmet x plan s m answered old new answer other i
+
+-- ---- the rows
+
+module _ (m : SessionJob) (t : Task) (job : Job) (printed : List Line) (touched : Option ℕ) where
+  -- the running task goes on with other cells in its top frame, at some place
+  pub record LeavesCells : Type 0 where
+    pub cells : List Word
+    pub place : Place
+    pub is : job ≡ with_task m.progress.job (task_with t cells place)
+
+  leaves : (q : Place) (cs : List Word) → leaves_cells (here m t q) cs None ≡ Ok (Goes job printed touched) → LeavesCells
+  leaves q cs e = by_test (nat_le (height (with_top_cells t.frames cs)) m.constants.stack_size) refl where
+    by_test : (b : Bool) → nat_le (height (with_top_cells t.frames cs)) m.constants.stack_size ≡ b → LeavesCells
+    by_test true test =
+        let made : ◌≡◌ {A = Answer Done} (Ok (Goes (with_task m.progress.job (task_with t cs q)) [] None)) (Ok (Goes job printed touched)) = rw test at e in
+        record { cells = cs; place = q; is = sym (let k : with_task m.progress.job (task_with t cs q) ≡ job = cc in k) }
+    by_test false test = absurd (let made = rw test at e in let z : ⊥ = cc in z)
+
+  by_cells : (q : Place) (r : Answer (List Word)) → (r >>= λ ds. leaves_cells (here m t q) ds None) ≡ Ok (Goes job printed touched) → LeavesCells
+  by_cells q (Err why) e = absurd (let z : ⊥ = cc in z)
+  by_cells q (Ok ds) e = leaves q ds e
+
+  by_operand : (o : Answer ℕ) (f : ℕ → Answer Done) → ((n : ℕ) → f n ≡ Ok (Goes job printed touched) → LeavesCells) → (o >>= f) ≡ Ok (Goes job printed touched) → LeavesCells
+  by_operand (Err why) f g e = absurd (let z : ⊥ = cc in z)
+  by_operand (Ok n) f g e = g n e
+
+  by_branch : (wanted : Bool) (q target : Place) (cs : List Word) → branch_if wanted (here m t q) cs target ≡ Ok (Goes job printed touched) → LeavesCells
+  by_branch wanted q target [] e = absurd (let z : ⊥ = cc in z)
+  by_branch wanted q target (a ∷ rest) e = by_operand (operand a) _ (λ n k. leaves _ rest k) e
+
+  by_code : (q : Place) (code : Code) → goes_far code ≡ false → row (Plain code) (here m t q) ≡ Ok (Goes job printed touched) → LeavesCells
+  by_code q codes.Zero near e = leaves q _ e
+  by_code q codes.One near e = leaves q _ e
+  by_code q codes.Push near e = leaves q _ e
+  by_code q codes.Noop near e = leaves q _ e
+  by_code q codes.Add near e = by_cells q _ e
+  by_code q codes.Subt near e = by_cells q _ e
+  by_code q codes.Less near e = by_cells q _ e
+  by_code q codes.Greq near e = by_cells q _ e
+  by_code q codes.Grtr near e = by_cells q _ e
+  by_code q codes.Lseq near e = by_cells q _ e
+  by_code q codes.Equl near e = by_cells q _ e
+  by_code q codes.Neql near e = by_cells q _ e
+  by_code q codes.Dlet near e = by_cells q _ e
+  by_code q codes.Exch near e = by_cells q _ e
+  by_code q codes.Dupl near e = by_cells q _ e
+  by_code q _ near e = absurd (let z : ⊥ = cc in z)
+
+  pub near_leaves : (q : Place) (op : Op) → is_far op ≡ false → row op (here m t q) ≡ Ok (Goes job printed touched) → LeavesCells
+  near_leaves q (Namc couple) near e = leaves q _ e
+  near_leaves q (Lt8 n) near e = leaves q _ e
+  near_leaves q (Lt16 n) near e = leaves q _ e
+  near_leaves q (Lt48 bits) near e = leaves q _ e
+  near_leaves q (Brun target) near e = leaves target _ e
+  near_leaves q (Brtr target) near e = by_branch true q target (cells t) e
+  near_leaves q (Brfl target) near e = by_branch false q target (cells t) e
+  near_leaves q (Plain code) near e = by_code q code near e
+  near_leaves q (Valc couple) near e = absurd (let z : ⊥ = cc in z)
+  near_leaves q (Mpcw bits) near e = absurd (let z : ⊥ = cc in z)
+  near_leaves q (Bset n) near e = absurd (let z : ⊥ = cc in z)
+  near_leaves q (Brst n) near e = absurd (let z : ⊥ = cc in z)
+  near_leaves q (Isol high width) near e = absurd (let z : ⊥ = cc in z)
+  near_leaves q (Insr high width) near e = absurd (let z : ⊥ = cc in z)
+
+-- ---- descriptors
+
+bit_low : (b : Bool) → bit b ≤ 1
+bit_low true = omega arith
+bit_low false = omega arith
+
+same_bit : (a b : Bool) → bit a ≡ bit b → a ≡ b
+same_bit true true e = refl
+same_bit false false e = refl
+same_bit true false e = absurd (omega (arith, e))
+same_bit false true e = absurd (omega (arith, e))
+
+same_fields : (a b : SegDesc) → a.present ≡ b.present → a.words ≡ b.words → a.address ≡ b.address → a ≡ b
+same_fields a b present words address = by a.present a.words a.address present words address where
+  by : (p : Bool) (w n : ℕ) → p ≡ b.present → w ≡ b.words → n ≡ b.address → ◌≡◌ {A = SegDesc} (record { present = p; words = w; address = n }) b
+  by p w n same_p same_w same_n = rw (same_p, same_w, same_n) refl
+
+-- a word is one descriptor's
+pub same_desc : (a b : SegDesc) → IsSegDesc a → IsSegDesc b → seg_word a ≡ seg_word b → a ≡ b
+same_desc a b p q e =
+    let bits : bit a.present * 2 ^ 47 + a.words * 2 ^ 20 + a.address ≡ bit b.present * 2 ^ 47 + b.words * 2 ^ 20 + b.address = ap (λ (w : Tagged). w.bits) e in
+    same_fields a b
+    (same_bit a.present b.present (omega (arith, bits, p.address, q.address, p.words, q.words, bit_low a.present, bit_low b.present)))
+    (omega (arith, bits, p.address, q.address, p.words, q.words, bit_low a.present, bit_low b.present))
+    (omega (arith, bits, p.address, q.address, p.words, q.words, bit_low a.present, bit_low b.present))
+
+-- ---- the segment
+
+module _ (x : Storage) (old new : Cpu) (plan : Placement) (s : Session) (m : SessionJob) (t : Task) (ordered : IsInOrderButCounts s) (h : RepresentsSession x old plan s) (runs : IsRunning plan s.jobs m t)
+    (left : List PagedObject) (cs : List Word) (q : Place) (stands : RepresentsSessionBut left x new plan (with_job s m (with_task m.progress.job (task_with t cs q)))) where
+  abbrev job : Job
+  job = with_task m.progress.job (task_with t cs q)
+
+  abbrev member : SessionJob
+  member = record m { progress = record m.progress { job = job } }
+
+  found_member : IsRunning plan (with_job s m job).jobs member (task_with t cs q)
+  found_member = record {
+    member = keyed-change_same number_of m.constants.number (λ (y : SessionJob). record y { progress = record m.progress { job = job } }) (λ y. refl) s.jobs m runs.member;
+    task = change_found (λ (u : Task). u.number) t.number t (task_with t cs q) m.progress.job.tasks refl runs.task;
+    slot = runs.slot;
+  }
+
+  segment : (g : Segment) × (slice_get m.constants.segments (t.segment - 1) ≡ Some g)
+  segment = let o = (running_in_order plan s m t ordered runs).1.place in get_within m.constants.segments (t.segment - 1) (omega (arith, o.from_one, o.within))
+
+  code-is : code_of m.constants t.segment ≡ segment.0.code
+  code-is = rw (segment.1) refl
+
+  abbrev object : PagedObject
+  object = record { home = plan.dictionary m.constants.number + 1 + t.segment; kind = kind.Code; numbers = segment.0.code }
+
+  there : Has (left ++ flat_map (objects_of plan) (with_job s m job).jobs) object
+  there =
+      let o = (running_in_order plan s m t ordered runs).1.place in
+      has_append_right left (flat_map (objects_of plan) (with_job s m job).jobs) object
+      (member_objects plan (with_job s m job).jobs member object (keyed_has number_of m.constants.number (with_job s m job).jobs member found_member.member).0
+      (before (code_objects plan m.constants.number 1 m.constants.segments) (map (array_object plan m.constants.number) job.arrays) object
+      (code_object plan m.constants.number 1 m.constants.segments (t.segment - 1) (plan.dictionary m.constants.number + 1 + t.segment) segment.0 segment.1 (omega (arith, o.from_one)))))
+
+  -- the running segment's descriptor stands where it stood
+  pub word_after : slice_get new.core (new.regs.dict + new.regs.segment) ≡ Some (seg_word (code_desc x plan m t))
+  word_after =
+      let o = stands.holds.running member (task_with t cs q) found_member in
+      let at : new.regs.dict + new.regs.segment ≡ plan.dictionary m.constants.number + 1 + t.segment = omega (arith, o.dict, o.segment) in
+      let d = code_desc x plan m t in
+      ap (slice_get new.core) at ∙ (stands.holds.memory.objects object there).home
+      ∙ ap (λ (n : ℕ). Some (seg_word (record { present = d.present; words = n; address = d.address }))) (ap length (sym code-is))
+
+-- a near operator that was made leaves the running segment's descriptor
+pub holds_on : (old new : Cpu) (desc : SegDesc) (r : RunsSome old) (op : Op) (q : Place) → is_far op ≡ false → HoldsCode old desc → IsMade r.storage r.plan r.session r.member old new (row op (here r.member r.task q)) → HoldsCode new desc
+holds_on old new desc r op q near code k x plan s m t ordered h runs =
+    let given = code r.storage r.plan r.session r.member r.task r.ordered r.stands r.running in
+    let l = near_leaves r.member r.task k.job [] k.touched q op near k.is in
+    let S : Job → Type 0 = λ j. RepresentsSessionBut (objects_gone r.plan r.member k.job) r.storage new r.plan (with_job r.session r.member j) in
+    let before_is = word_after r.storage old new r.plan r.session r.member r.task r.ordered r.stands r.running (objects_gone r.plan r.member k.job) l.cells l.place (subst S l.is k.stands) in
+    let now_is = word-is x new plan s m t ordered h runs in
+    let one : seg_word (code_desc r.storage r.plan r.member r.task) ≡ seg_word (code_desc x plan m t) = same_Some _ _ (sym before_is ∙ now_is) in
+    (given.0 ∙ same_desc (code_desc r.storage r.plan r.member r.task) (code_desc x plan m t) (desc-fits r.storage old r.plan r.session r.member r.task r.ordered r.stands r.running) (desc-fits x new plan s m t ordered h runs) one, given.1)
+
+-- and so it is after any answer
+pub code_after : (old new : Cpu) (desc : SegDesc) (r : RunsSome old) (op : Op) (q : Place) (answered : Step) → is_far op ≡ false → HoldsCode old desc
+    → ForEach old (λ x plan s m t. CallsOrMeets x plan s m answered old new (called op (here m t q)) (row op (here m t q))) → HoldsCode new desc
+code_after old new desc r op q answered near code rows = by answered (rows r.storage r.plan r.session r.member r.task r.ordered r.stands r.running) where
+  kept : new ≡ old → HoldsCode new desc
+  kept same = subst (λ (z : Cpu). HoldsCode z desc) (sym same) code
+
+  by : (a : Step) → CallsOrMeets r.storage r.plan r.session r.member a old new (called op (here r.member r.task q)) (row op (here r.member r.task q)) → HoldsCode new desc
+  by answers.Done i = holds_on old new desc r op q near code (made_near r.storage r.plan r.session r.member old new (called op (here r.member r.task q)) (row op (here r.member r.task q)) i)
+  by (answers.Absent found) i = kept (unmade r.storage r.plan r.session r.member (answers.Absent found) old new (called op (here r.member r.task q)) (row op (here r.member r.task q)) (λ e. cc) i)
+  by (answers.Call n) i = kept (unmade r.storage r.plan r.session r.member (answers.Call n) old new (called op (here r.member r.task q)) (row op (here r.member r.task q)) (λ e. cc) i)
+  by (answers.Fault fault) i = kept (unmade r.storage r.plan r.session r.member (answers.Fault fault) old new (called op (here r.member r.task q)) (row op (here r.member r.task q)) (λ e. cc) i)
+  by answers.Ended i = kept (unmade r.storage r.plan r.session r.member answers.Ended old new (called op (here r.member r.task q)) (row op (here r.member r.task q)) (λ e. cc) i)
