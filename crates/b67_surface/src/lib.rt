@@ -29,6 +29,8 @@ mod limits_rows;
 #[cfg(test)]
 mod load_verify_rows;
 mod pages;
+#[cfg(test)]
+mod sectors_rows;
 mod session;
 #[cfg(test)]
 mod session_lines_rows;
