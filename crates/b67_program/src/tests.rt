@@ -21,7 +21,7 @@ fn serves(mut rt: HostRuntime) -> Result<(), Fail> {
         (run, SUM, 0, 0, "1.1 5\n1.1 ENDED\n"),
         (run, "?JOB a\n", 0, 2, "DECK 1 REASON 4\n"),
         (run, SUM, 3, 7, "READING FAULT\n"),
-        (&["check"], SUM, 0, 0, "SUM ADMITTED 2 0\n"),
+        (&["check"], SUM, 0, 0, "SUM ADMITTED 1 0\n"),
         (&["check"], SUM, 1, 7, "READING FAULT\n"),
         (
             &["exercise", "1", "1", "--core", "2048"],

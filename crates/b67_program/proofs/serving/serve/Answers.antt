@@ -5,10 +5,10 @@ use Rattle.b67_program.proofs.Answering.{opens_none, not_seven}
 use Rattle.b67_program.proofs.serving.serve.Goals as goal
 
 pub returns-in-Some-clause-opened : goal.returns-in-Some-clause-opened
-returns-in-Some-clause-opened g c = subst (λ (named : Option (List ℕ)). Opens g.R.Devices.opened c.args.devices.now c.open.new.self (paths_of named)) c.in-Some.ensures c.open.ensures
+returns-in-Some-clause-opened g c = subst (λ (named : Option (List ℕ)). Opens g.R.Devices.opened c.args.devices.now c.open-backing.new.self (paths_of named)) c.in-Some.ensures c.open-backing.ensures
 
 pub returns-in-Some-clause-served : goal.returns-in-Some-clause-served
-returns-in-Some-clause-served g c = over_file c.in-Some.path.now c.open.result c.answer.new.backing (sym c.in-Some.ensures) c.answer.ensures.answered
+returns-in-Some-clause-served g c = over_file c.in-Some.path.now c.open-backing.result c.answer.new.backing (sym c.in-Some.ensures) c.answer.ensures.answered
 
 pub returns-in-Ok-clause-opened : goal.returns-in-Ok-clause-opened
 returns-in-Ok-clause-opened g c = subst (λ (named : Option (List ℕ)). Opens g.R.Devices.opened c.args.devices.now c.args.devices.now (paths_of named)) c.in-None.ensures (opens_none _ _)
