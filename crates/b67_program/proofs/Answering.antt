@@ -25,7 +25,7 @@ pub unread_of : {S : Type 0} (b : Bool) (left : S → Option (List ℕ)) (faults
 unread_of true left faults old new r t e = absurd (false≢true (sym e))
 unread_of false left faults old new r t e = t.0
 
-failed_of : {S : Type 0} (b : Bool) (left : S → Option (List ℕ)) (faults : S → ℕ) (old new : S) → IsTakenIn b left faults old new (Err SourceFault) → (b ≡ true) × Rose faults old new
+pub failed_of : {S : Type 0} (b : Bool) (left : S → Option (List ℕ)) (faults : S → ℕ) (old new : S) → IsTakenIn b left faults old new (Err SourceFault) → (b ≡ true) × Rose faults old new
 failed_of true left faults old new t = (refl, t)
 failed_of false left faults old new t = err-ok SourceFault [] _ t.1
 
