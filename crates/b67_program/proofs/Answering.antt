@@ -40,9 +40,9 @@ module _ {S B K : Type 0} {words : List (Bor (List ℕ))} {left : S → Option (
       → free_left deck ≡ bytes → Answered words free_told free_faults deck deck' d machine taken faults old new answer
       → StatusMeans words free_told free_faults deck deck' d machine taken faults old new answer
       → ((command : CommandLine) → (text : List ℕ) → command_of words ≡ Some command
-          → Supplies command free_told free_faults deck deck' text → IsAmple d command text
-          → Stayed faults old new → Stayed (λ (count : ℕ). count) d.failed_before d.failed_now
-          → (answer ≡ judged_status (asked command text)) ⊎ (answer ≡ 9))
+      → Supplies command free_told free_faults deck deck' text → IsAmple d command text
+      → Stayed faults old new → Stayed (λ (count : ℕ). count) d.failed_before d.failed_now
+      → (answer ≡ judged_status (asked command text)) ⊎ (answer ≡ 9))
       → IsAnswered words left source_faults input input' d taken faults old new answer
   carried b bytes deck deck' machine is t holds due means complete = carried_out (record {
     bytes = bytes;

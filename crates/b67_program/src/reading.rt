@@ -22,11 +22,7 @@ pub enum InputFault {
 }
 
 /// Reads a source into memory: to its end, or up to the first byte past a limit.
-fn read_up_to<S: Source>(
-    alloc: Global,
-    source: &mut S,
-    limit: usize,
-) -> Result<Bytes, InputFault>
+fn read_up_to<S: Source>(alloc: Global, source: &mut S, limit: usize) -> Result<Bytes, InputFault>
     requires { limit < 2 ^ 31 }
     ensures answer { IsInputUpTo limit S.left S.faults source.old source.new result }
     ensures later { S.faults source.old ≤ S.faults source.new }

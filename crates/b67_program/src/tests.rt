@@ -30,7 +30,13 @@ fn serves(mut rt: HostRuntime) -> Result<(), Fail> {
             0,
             "1.1 695\n1.1 ENDED\nEXERCISE 1 1 45\n",
         ),
-        (&["ru"], SUM, 1, 1, "USAGE: b67 run --core N --backing PATH\n"),
+        (
+            &["ru"],
+            SUM,
+            1,
+            1,
+            "USAGE: b67 run --core N --backing PATH\n",
+        ),
     ];
     for (words, deck, bad_read, status, lines) in table {
         let alloc = rt.alloc();
