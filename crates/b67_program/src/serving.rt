@@ -1,0 +1,122 @@
+//! The call that the program makes.
+
+ghost use Rattle.std.specs.Prelude.{◌≡◌, false, IfOk};
+ghost use Rattle.b67_io.specs.Causes.{Rose};
+ghost use Rattle.b67_backing.specs.Memory.{memory_sectors};
+ghost use Rattle.b67_backing.specs.Held.{blank};
+ghost use Rattle.b67_job.specs.Command.{command_of, backing_path};
+ghost use Rattle.b67_job.specs.Device.{device_of};
+ghost use Rattle.b67_job.specs.Due.{reading_text};
+ghost use Rattle.b67_job.specs.Judgement.{reads};
+ghost use Rattle.b67_session_lines.specs.Ends.{Ends};
+ghost use Rattle.b67_program.specs.Opening.{Opens, paths_of};
+ghost use Rattle.b67_program.specs.Input.{IsTakenIn};
+ghost use Rattle.b67_program.specs.Served.{IsAnswered, IsServed};
+
+use crate::files::Devices;
+use crate::reading::{InputFault, PIECE, read_input};
+use b67_backing::{Backing, MemoryBacking};
+use b67_io::{FreeTape, Sink, Source};
+use b67_job::{CommandLine, backing_path, command_of, refuse_memory, run};
+use b67_session_lines::{line_of, say};
+use b67_word::{Bytes, Numbers};
+use std::alloc::{AllocError, Global};
+
+/// How many sectors a run has whose words name no file.
+const SECTORS: u32 = 4096;
+
+// Whether the words ask for a command that reads a text.
+fn reads(words: &[&str]) -> bool
+    ensures { result ≡ reads (command_of words.now) }
+{
+    match command_of(words) {
+        None => false,
+        Some(CommandLine::Exercise { .. }) => false,
+        Some(_) => true,
+    }
+}
+
+// The bytes of the text, or none if none is read.
+fn take_in<S: Source>(alloc: Global, reads: bool, input: &mut S) -> Result<Bytes, InputFault>
+    ensures { IsTakenIn reads S.left S.faults input.old input.new result }
+{
+    if !reads {
+        return Ok(Bytes::new(alloc));
+    }
+    read_input(alloc, input)
+}
+
+fn say_reading_fault<K: Sink>(printer: &mut K) -> u8
+    ensures { Ends K.taken K.faults printer.old printer.new 7 reading_text result }
+{
+    say(printer, 7, &line_of("READING FAULT"))
+}
+
+// Carries out the command of the words over a backing.
+fn answer<S: Source, K: Sink, B: Backing>(
+    alloc: Global,
+    words: &[&str],
+    input: &mut S,
+    printer: &mut K,
+    backing: &mut B,
+) -> u8
+    ensures answered { IsAnswered words.now S.left S.faults input.old input.new (device_of B.holds B.size B.faults backing.old backing.new)
+        K.taken K.faults printer.old printer.new result }
+    ensures unread { reads (command_of words.now) ≡ false → input.new ≡ input.old }
+    ensures reading { result ≡ 7 → Rose S.faults input.old input.new }
+{
+    match take_in(alloc, reads(words), input) {
+        Ok(bytes) => {
+            let mut deck = FreeTape::new(bytes, PIECE);
+            run(alloc, words, &mut deck, printer, backing).status
+        }
+        Err(InputFault::SourceFault) => say_reading_fault(printer),
+        Err(InputFault::Memory) => refuse_memory(printer).status,
+    }
+}
+
+fn memory_backing(alloc: Global) -> Result<MemoryBacking, AllocError>
+    ensures zeros { IfOk result (λ b. memory_sectors b ≡ blank 4096) }
+    ensures faults { IfOk result (λ b. b.faults ≡ 0) }
+{
+    MemoryBacking::new(alloc, SECTORS, Numbers::new(alloc), Numbers::new(alloc))
+}
+
+/// Carries out the command that the words are, and answers the program's exit status. The text that the command reads is read
+/// into memory first, to the first byte past a deck's limit at most. The command runs over the file of the words' path; where
+/// they name none, over 4,096 sectors of zeros in memory.
+///
+/// The status is that of `run`. A read that fails ends the call with `READING FAULT` and status 7, want of memory with `NO
+/// MEMORY` and status 9.
+pub fn serve<R: Devices, S: Source, K: Sink>(
+    alloc: Global,
+    words: &[&str],
+    devices: &mut R,
+    input: &mut S,
+    printer: &mut K,
+) -> u8
+    // The file of the words' path is opened, and no other.
+    ensures opened { Opens R.opened devices.old devices.new (paths_of (backing_path words.now)) }
+
+    // The status is that of `run` over the bytes that were read, and over that file or 4,096 sectors of zeros; or a read failed,
+    // or memory was refused.
+    ensures served { IsServed words.now S.left S.faults input.old input.new (device_of R.File.holds R.File.size R.File.faults)
+        K.taken K.faults printer.old printer.new result }
+
+    // A command that reads no text, and words that are no command, leave the input as it was.
+    ensures unread { reads (command_of words.now) ≡ false → input.new ≡ input.old }
+
+    // Status 7 is that a read of the input failed.
+    ensures reading { result ≡ 7 → Rose S.faults input.old input.new }
+{
+    match backing_path(words) {
+        Some(path) => {
+            let mut backing = devices.open(path);
+            answer(alloc, words, input, printer, &mut backing)
+        }
+        None => match memory_backing(alloc) {
+            Ok(mut backing) => answer(alloc, words, input, printer, &mut backing),
+            Err(_) => refuse_memory(printer).status,
+        },
+    }
+}
