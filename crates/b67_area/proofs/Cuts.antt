@@ -6,20 +6,20 @@ use Rattle.b67_area.specs.declared.kinds.Info.{Info}
 use Rattle.b67_area.specs.Spans.{Span, Area, Hole, wide, end, first_hole, InHole}
 use Rattle.b67_area.specs.Words.{link_word, hole_high, head_word, tail_word}
 use Rattle.b67_area.specs.Directory.{IsInfo, NoHole, AreSpans, Laid}
-use Rattle.b67_area.specs.Walk.{unzip, top, link_place, link_high, Below}
+use Rattle.b67_area.specs.Walk.{unzip, spans_top, link_place, link_high, Below}
 
 -- the words of spans cut in two, and back
-pub opened : (core : List Tagged) (low : ℕ) (ds ss : List Span) → Laid core 152 0 low (unzip ds ss) → Below core low ds × Laid core (link_place low ds) (link_high ds) (top low ds) ss
+pub opened : (core : List Tagged) (low : ℕ) (ds ss : List Span) → Laid core 152 0 low (unzip ds ss) → Below core low ds × Laid core (link_place low ds) (link_high ds) (spans_top low ds) ss
 opened core low [] ss l = (tt, l)
 opened core low (Area a ∷ ds) ss l = let r = opened core low ds (Area a ∷ ss) l in ((r.1.0, r.1.1, r.0), r.1.2)
 opened core low (Hole n ∷ ds) ss l = let r = opened core low ds (Hole n ∷ ss) l in ((r.1.0, r.0), r.1.1)
 
-pub closed : (core : List Tagged) (low : ℕ) (ds ss : List Span) → Below core low ds → Laid core (link_place low ds) (link_high ds) (top low ds) ss → Laid core 152 0 low (unzip ds ss)
+pub closed : (core : List Tagged) (low : ℕ) (ds ss : List Span) → Below core low ds → Laid core (link_place low ds) (link_high ds) (spans_top low ds) ss → Laid core 152 0 low (unzip ds ss)
 closed core low [] ss b l = l
 closed core low (Area a ∷ ds) ss b l = closed core low ds (Area a ∷ ss) b.2 (b.0, b.1, l)
 closed core low (Hole n ∷ ds) ss b l = closed core low ds (Hole n ∷ ss) b.1 (b.0, l)
 
-pub end-unzip : (low : ℕ) (ds ss : List Span) → end low (unzip ds ss) ≡ end (top low ds) ss
+pub end-unzip : (low : ℕ) (ds ss : List Span) → end low (unzip ds ss) ≡ end (spans_top low ds) ss
 end-unzip low [] ss = refl
 end-unzip low (d ∷ ds) ss = end-unzip low ds (d ∷ ss)
 
@@ -57,27 +57,27 @@ Laid-move core new b h b' h' at (Hole n ∷ ss) same link l =
     (link, Laid-move core new at (hole_high n) at (hole_high n) (at + n) ss (λ i g. same i (omega arith)) (same at (omega arith) ∙ pending core at (hole_high n) (at + n) ss l.1) l.1)
 
 -- where the open link stands
-pub low_top : (low : ℕ) (ds : List Span) → low ≤ top low ds
+pub low_top : (low : ℕ) (ds : List Span) → low ≤ spans_top low ds
 low_top low [] = omega arith
 low_top low (d ∷ ds) = omega (arith, low_top low ds)
 
-pub link_place_low : (low : ℕ) (ds : List Span) → 160 ≤ low → AreSpans ds → (link_place low ds < top low ds) × ((link_place low ds ≡ 152) ⊎ (low ≤ link_place low ds))
+pub link_place_low : (low : ℕ) (ds : List Span) → 160 ≤ low → AreSpans ds → (link_place low ds < spans_top low ds) × ((link_place low ds ≡ 152) ⊎ (low ≤ link_place low ds))
 link_place_low low [] h d = (omega arith, inl refl)
 link_place_low low (Area a ∷ ds) h d = let r = link_place_low low ds h d.1 in (omega (arith, r.0), r.1)
 link_place_low low (Hole n ∷ ds) h d = (omega (arith, d.0), inr (low_top low ds))
 
 -- the words below stay where no more changes than the open link
-pub Below-same : (core new : List Tagged) (low : ℕ) (ds : List Span) → 160 ≤ low → AreSpans ds → ((i : ℕ) → i < top low ds → i ≢ link_place low ds → slice_get new i ≡ slice_get core i) → Below core low ds → Below new low ds
+pub Below-same : (core new : List Tagged) (low : ℕ) (ds : List Span) → 160 ≤ low → AreSpans ds → ((i : ℕ) → i < spans_top low ds → i ≢ link_place low ds → slice_get new i ≡ slice_get core i) → Below core low ds → Below new low ds
 Below-same core new low [] h d same b = tt
 Below-same core new low (Area a ∷ ds) h d same b =
     let p = link_place_low low ds h d.1 in
-    (same (top low ds) (omega arith) (λ e. omega (arith, p.0)) ∙ b.0, same (top low ds + (a.words + 1)) (omega arith) (λ e. omega (arith, p.0)) ∙ b.1, Below-same core new low ds h d.1 (λ i g e. same i (omega arith) e) b.2)
+    (same (spans_top low ds) (omega arith) (λ e. omega (arith, p.0)) ∙ b.0, same (spans_top low ds + (a.words + 1)) (omega arith) (λ e. omega (arith, p.0)) ∙ b.1, Below-same core new low ds h d.1 (λ i g e. same i (omega arith) e) b.2)
 Below-same core new low (Hole n ∷ ds) h d same b =
     let p = link_place_low low ds h d.2 in
     (same (link_place low ds) (omega (arith, p.0)) (λ e. omega (arith, p.0)) ∙ b.0, Below-same core new low ds h d.2 (λ i g e. same i (omega arith) (λ q. omega arith)) b.1)
 
 -- words of holes, seen from a cut
-pub InHole-above : (low : ℕ) (ds ss : List Span) (i : ℕ) → InHole (top low ds) ss i → InHole low (unzip ds ss) i
+pub InHole-above : (low : ℕ) (ds ss : List Span) (i : ℕ) → InHole (spans_top low ds) ss i → InHole low (unzip ds ss) i
 InHole-above low [] ss i h = h
 InHole-above low (Area a ∷ ds) ss i h = InHole-above low ds (Area a ∷ ss) i h
 InHole-above low (Hole n ∷ ds) ss i h = InHole-above low ds (Hole n ∷ ss) i (inr h)
@@ -85,4 +85,4 @@ InHole-above low (Hole n ∷ ds) ss i h = InHole-above low ds (Hole n ∷ ss) i 
 pub InHole-link : (low : ℕ) (ds ss : List Span) → AreSpans ds → (link_place low ds ≡ 152) ⊎ InHole low (unzip ds ss) (link_place low ds)
 InHole-link low [] ss d = inl refl
 InHole-link low (Area a ∷ ds) ss d = InHole-link low ds (Area a ∷ ss) d.1
-InHole-link low (Hole n ∷ ds) ss d = inr (InHole-above low ds (Hole n ∷ ss) (top low ds) (inl (omega arith, omega (arith, d.0))))
+InHole-link low (Hole n ∷ ds) ss d = inr (InHole-above low ds (Hole n ∷ ss) (spans_top low ds) (inl (omega arith, omega (arith, d.0))))

@@ -9,7 +9,7 @@ use Rattle.b67_area.specs.Spans.{Span, Area, Hole, wide, end, first_hole, area_a
 use Rattle.b67_area.proofs.Holes.{link_to, with_hole-length, with_hole-other, with_hole-link, with_hole-hole, Laid-left}
 use Rattle.b67_area.specs.Words.{link_word, hole_high, head_word, tail_word}
 use Rattle.b67_area.specs.Directory.{IsInfo, NoHole, AreSpans, Laid, IsDirectory, OnlyHoles}
-use Rattle.b67_area.specs.Walk.{unzip, top, link_place, link_high, link_room, front, behind, Below, Found, Around, Climbed, IsArea, IsAbove, Leaves, Vacates, with_hole}
+use Rattle.b67_area.specs.Walk.{unzip, spans_top, link_place, link_high, link_room, front, behind, Below, Found, Around, Climbed, IsArea, IsAbove, LeavesHole, Vacates, with_hole}
 use Rattle.b67_area.specs.declared.search.Vacancy.{Vacancy}
 use Rattle.b67_area.proofs.Walks.{next-lt, low_end}
 use Rattle.b67_area.proofs.Climbs.{first_hole-low, is_above}
@@ -32,13 +32,13 @@ rejoin-alone [] ss h = refl
 rejoin-alone (Area b ∷ ds) ss h = refl
 rejoin-alone (Hole n ∷ ds) ss h = absurd h
 
-pub without-unzip : (low : ℕ) (ds ss : List Span) (x : ℕ) → top low ds < x → AreSpans ds → without low x (unzip ds ss) ≡ rejoin ds (without (top low ds) x ss)
+pub without-unzip : (low : ℕ) (ds ss : List Span) (x : ℕ) → spans_top low ds < x → AreSpans ds → without low x (unzip ds ss) ≡ rejoin ds (without (spans_top low ds) x ss)
 without-unzip low [] ss x h s = refl
 without-unzip low (Area b ∷ ds) ss x h s =
-    let past = cond-false (top low ds + 1 == x) (join (b.words + 2) ss) (Area b ∷ without (top low ds + (b.words + 2)) x ss) (ne_eqb (top low ds + 1) x (λ e. omega arith)) in
-    without-unzip low ds (Area b ∷ ss) x (omega arith) s.1 ∙ ap (rejoin ds) past ∙ rejoin-area ds (without (top low ds + (b.words + 2)) x ss) b
+    let past = cond-false (spans_top low ds + 1 == x) (join (b.words + 2) ss) (Area b ∷ without (spans_top low ds + (b.words + 2)) x ss) (ne_eqb (spans_top low ds + 1) x (λ e. omega arith)) in
+    without-unzip low ds (Area b ∷ ss) x (omega arith) s.1 ∙ ap (rejoin ds) past ∙ rejoin-area ds (without (spans_top low ds + (b.words + 2)) x ss) b
 without-unzip low (Hole n ∷ ds) ss x h s =
-    without-unzip low ds (Hole n ∷ ss) x (omega arith) s.2 ∙ rejoin-alone ds (join n (without (top low ds + n) x ss)) s.1
+    without-unzip low ds (Hole n ∷ ss) x (omega arith) s.2 ∙ rejoin-alone ds (join n (without (spans_top low ds + n) x ss)) s.1
 
 pub join-front : (n : ℕ) (ss : List Span) → join n ss ≡ Hole (n + front ss) ∷ behind ss
 join-front n [] = let e : n ≡ n + 0 = omega arith in ap (λ (k : ℕ). Hole k ∷ []) e
@@ -71,14 +71,14 @@ module _ (core : List Tagged) (b h at next : ℕ) where
   front_next (Hole n ∷ ss) i = (next-lt core at (at + n) ss i.spans.2 (omega (arith, i.ends)) i.small, omega (arith, i.ends, low_end (at + n) ss), i.ends)
 
 -- where the hole at the last link ends
-pub link_room-end : (low : ℕ) (ds : List Span) → 160 ≤ low → AreSpans ds → link_place low ds + link_room ds ≤ top low ds
+pub link_room-end : (low : ℕ) (ds : List Span) → 160 ≤ low → AreSpans ds → link_place low ds + link_room ds ≤ spans_top low ds
 link_room-end low [] h s = omega arith
 link_room-end low (Area a ∷ ds) h s = omega (arith, link_room-end low ds h s.1)
 link_room-end low (Hole n ∷ ds) h s = omega arith
 
 -- the parts of a vacancy
 module _ (core : List Tagged) (low : ℕ) (ss : List Span) (address at : ℕ) (a : Info) (r : Links) (d : IsDirectory core low ss) (t : Around low ss at a r) (is : address ≡ at + 1) where
-  pub leaves : (room next : ℕ) → room ≡ front t.above → next ≡ first_hole (at + (a.words + 2) + front t.above) (behind t.above) → Leaves low ss address a (record { before = r.before; room = r.room; at = at; size = a.words + 2 + room; next = next })
+  pub leaves : (room next : ℕ) → room ≡ front t.above → next ≡ first_hole (at + (a.words + 2) + front t.above) (behind t.above) → LeavesHole low ss address a (record { before = r.before; room = r.room; at = at; size = a.words + 2 + room; next = next })
   leaves room next er en =
       let z : at + (a.words + 2) + front t.above ≡ at + (a.words + 2 + room) = omega arith in
       record {
@@ -93,20 +93,20 @@ module _ (core : List Tagged) (low : ℕ) (ss : List Span) (address at : ℕ) (a
         next = en ∙ ap (λ (k : ℕ). first_hole k (behind t.above)) z;
       }
 
-pub vacates : (core : List Tagged) (low : ℕ) (ss : List Span) (address : ℕ) (a : Info) (v : Vacancy) → IsDirectory core low ss → Leaves low ss address a v → Vacates core v
+pub vacates : (core : List Tagged) (low : ℕ) (ss : List Span) (address : ℕ) (a : Info) (v : Vacancy) → IsDirectory core low ss → LeavesHole low ss address a v → Vacates core v
 vacates core low ss address a v d t =
     let o = opened core low t.below (Area a ∷ t.above) (rw t.is at d.laid) in
     let s = spans_opened t.below (Area a ∷ t.above) (rw t.is at d.spans) in
-    let link = pending core (link_place low t.below) (link_high t.below) (top low t.below) (Area a ∷ t.above) o.1 in
+    let link = pending core (link_place low t.below) (link_high t.below) (spans_top low t.below) (Area a ∷ t.above) o.1 in
     let r : Links = record { before = v.before; room = v.room; next = first_hole (v.at + (a.words + 2)) t.above } in
     let n : Around low ss v.at a r = record { below = t.below; above = t.above; is = t.is; at_is = t.at_is; before = t.before; room = t.room; next = refl } in
     let f = front_next core (link_place low t.below) (link_high t.below) (v.at + (a.words + 2)) 0 t.above (is_above core low ss v.at a r d n) in
     let z : v.at + (a.words + 2) + front t.above ≡ v.at + v.size = omega (arith, t.size) in
     record {
       high = link_high t.below;
-      old = first_hole (top low t.below) (Area a ∷ t.above);
+      old = first_hole (spans_top low t.below) (Area a ∷ t.above);
       link = rw t.before link;
-      old_small = next-lt core low (top low t.below) (Area a ∷ t.above) s.1 (omega (arith, sym (end-unzip low t.below (Area a ∷ t.above)) ∙ rw t.is at d.all)) d.small;
+      old_small = next-lt core low (spans_top low t.below) (Area a ∷ t.above) s.1 (omega (arith, sym (end-unzip low t.below (Area a ∷ t.above)) ∙ rw t.is at d.all)) d.small;
       before = omega (arith, t.before, t.at_is, (link_place_low low t.below d.above s.0).0);
       above = omega (arith, t.at_is, d.above, low_top low t.below);
       room = omega (arith, t.before, t.room, t.at_is, link_room-end low t.below d.above s.0);
@@ -126,18 +126,18 @@ left-some zero ss h = absurd (omega arith)
 left-some (suc n) ss h = refl
 
 -- whether a hole lies just below a cut
-pub alone_below : (low : ℕ) (ds : List Span) → link_place low ds + link_room ds ≢ top low ds → NoHole ds
+pub alone_below : (low : ℕ) (ds : List Span) → link_place low ds + link_room ds ≢ spans_top low ds → NoHole ds
 alone_below low [] h = tt
 alone_below low (Area a ∷ ds) h = tt
 alone_below low (Hole n ∷ ds) h = h refl
 
-pub hole_below : (low : ℕ) (ds : List Span) → 160 ≤ low → AreSpans ds → link_place low ds + link_room ds ≡ top low ds → (n : ℕ) × (es : List Span) × (ds ≡ Hole n ∷ es)
+pub hole_below : (low : ℕ) (ds : List Span) → 160 ≤ low → AreSpans ds → link_place low ds + link_room ds ≡ spans_top low ds → (n : ℕ) × (es : List Span) × (ds ≡ Hole n ∷ es)
 hole_below low [] h s e = absurd (omega arith)
 hole_below low (Area a ∷ ds) h s e = absurd (omega (arith, link_room-end low ds h s.1))
 hole_below low (Hole n ∷ ds) h s e = (n, ds, refl)
 
-module _ (core : List Tagged) (low : ℕ) (ss : List Span) (address : ℕ) (a : Info) (v : Vacancy) (d : IsDirectory core low ss) (t : Leaves low ss address a v) where
-  pub opened_here : Below core low t.below × Laid core (link_place low t.below) (link_high t.below) (top low t.below) (Area a ∷ t.above)
+module _ (core : List Tagged) (low : ℕ) (ss : List Span) (address : ℕ) (a : Info) (v : Vacancy) (d : IsDirectory core low ss) (t : LeavesHole low ss address a v) where
+  pub opened_here : Below core low t.below × Laid core (link_place low t.below) (link_high t.below) (spans_top low t.below) (Area a ∷ t.above)
   opened_here = opened core low t.below (Area a ∷ t.above) (rw t.is at d.laid)
 
   pub spans_here : AreSpans t.below × AreSpans (Area a ∷ t.above) × Meet t.below (Area a ∷ t.above)
@@ -148,36 +148,36 @@ module _ (core : List Tagged) (low : ℕ) (ss : List Span) (address : ℕ) (a : 
 
   gone : without low address ss ≡ rejoin t.below (Hole v.size ∷ behind t.above)
   gone =
-      let here : top low t.below + 1 ≡ address = omega (arith, t.at_is, t.address_is) in
+      let here : spans_top low t.below + 1 ≡ address = omega (arith, t.at_is, t.address_is) in
       ap (without low address) t.is ∙ without-unzip low t.below (Area a ∷ t.above) address (omega arith) spans_here.0
-      ∙ ap (rejoin t.below) (cond-true (top low t.below + 1 == address) _ _ (eq-eqb (top low t.below + 1) address here) ∙ join-front (a.words + 2) t.above ∙ ap (λ (k : ℕ). Hole k ∷ behind t.above) (sym t.size))
+      ∙ ap (rejoin t.below) (cond-true (spans_top low t.below + 1 == address) _ _ (eq-eqb (spans_top low t.below + 1) address here) ∙ join-front (a.words + 2) t.above ∙ ap (λ (k : ℕ). Hole k ∷ behind t.above) (sym t.size))
 
   pub place_below : (v.before ≡ 152) ⊎ (low ≤ v.before)
   place_below = rw t.before (link_place_low low t.below d.above spans_here.0).1
 
-  pub z : top low t.below + (a.words + 2) + front t.above ≡ v.at + v.size
+  pub z : spans_top low t.below + (a.words + 2) + front t.above ≡ v.at + v.size
   z = omega (arith, t.size, t.at_is)
 
   pub rest_laid : (b : ℕ) × (h : ℕ) × Laid core b h (v.at + v.size) (behind t.above)
-  rest_laid = let r = behind_laid core (link_place low t.below) (link_high t.below) (top low t.below + (a.words + 2)) t.above opened_here.1.2 in (r.0, r.1, rw z at r.2)
+  rest_laid = let r = behind_laid core (link_place low t.below) (link_high t.below) (spans_top low t.below + (a.words + 2)) t.above opened_here.1.2 in (r.0, r.1, rw z at r.2)
 
   pub rest_spans : NoHole (behind t.above) × AreSpans (behind t.above)
   rest_spans = NoHole-behind t.above spans_here.1.1
 
   pub rest_end : end (v.at + v.size) (behind t.above) ≡ length core
   rest_end =
-      let all : end (top low t.below + (a.words + 2)) t.above ≡ length core = sym (end-unzip low t.below (Area a ∷ t.above)) ∙ rw t.is at d.all in
-      let i : IsAbove core (link_place low t.below) (link_high t.below) (top low t.below + (a.words + 2)) t.above = record { laid = opened_here.1.2; spans = spans_here.1.1; ends = all; small = d.small; some = omega arith } in
-      rw z at (front_next core (link_place low t.below) (link_high t.below) (top low t.below + (a.words + 2)) 0 t.above i).2
+      let all : end (spans_top low t.below + (a.words + 2)) t.above ≡ length core = sym (end-unzip low t.below (Area a ∷ t.above)) ∙ rw t.is at d.all in
+      let i : IsAbove core (link_place low t.below) (link_high t.below) (spans_top low t.below + (a.words + 2)) t.above = record { laid = opened_here.1.2; spans = spans_here.1.1; ends = all; small = d.small; some = omega arith } in
+      rw z at (front_next core (link_place low t.below) (link_high t.below) (spans_top low t.below + (a.words + 2)) 0 t.above i).2
 
   pub below_hole : v.before + v.room ≡ v.at → (n : ℕ) × (es : List Span) × (t.below ≡ Hole n ∷ es)
   below_hole e = hole_below low t.below d.above spans_here.0 (omega (arith, t.before, t.room, t.at_is))
 
   pub leaves_link : (x : ℕ) × (x < 2 ^ 20) × (slice_get core v.before ≡ Some (link_word (link_high t.below) x))
   leaves_link = (
-    first_hole (top low t.below) (Area a ∷ t.above),
-    next-lt core low (top low t.below) (Area a ∷ t.above) spans_here.1 (omega (arith, sym (end-unzip low t.below (Area a ∷ t.above)) ∙ rw t.is at d.all)) d.small,
-    rw t.before (pending core (link_place low t.below) (link_high t.below) (top low t.below) (Area a ∷ t.above) opened_here.1),
+    first_hole (spans_top low t.below) (Area a ∷ t.above),
+    next-lt core low (spans_top low t.below) (Area a ∷ t.above) spans_here.1 (omega (arith, sym (end-unzip low t.below (Area a ∷ t.above)) ∙ rw t.is at d.all)) d.small,
+    rw t.before (pending core (link_place low t.below) (link_high t.below) (spans_top low t.below) (Area a ∷ t.above) opened_here.1),
   )
 
   -- no hole lies just below
@@ -203,7 +203,7 @@ module _ (core : List Tagged) (low : ℕ) (ss : List Span) (address : ℕ) (a : 
     hole_alone : slice_get new v.at ≡ Some (link_word (hole_high v.size) v.next)
     hole_alone = ap (λ (c : List Tagged). slice_get c v.at) is ∙ with_hole-hole core v.before (link_high t.below) v.at v.size v.next some_size (λ e. omega (arith, facts.before)) (omega (arith, facts.fits, facts.some))
 
-    laid_alone : Laid new (link_place low t.below) (link_high t.below) (top low t.below) (Hole v.size ∷ behind t.above)
+    laid_alone : Laid new (link_place low t.below) (link_high t.below) (spans_top low t.below) (Hole v.size ∷ behind t.above)
     laid_alone =
         let l = Laid-left core new rest_laid.0 rest_laid.1 v.before (link_high t.below) v.at v.size v.next (behind t.above) (λ k g. same_alone k (λ e. omega (arith, facts.before)) (λ e. omega (arith, some_size))) link_alone (λ _. hole_alone) t.next rest_laid.2 in
         rw (sym t.before, sym t.at_is) (rw (left-some v.size (behind t.above) some_size) at l)
@@ -228,14 +228,14 @@ module _ (core : List Tagged) (low : ℕ) (ss : List Span) (address : ℕ) (a : 
     gone_joined : without low address ss ≡ unzip es (Hole (n + v.size) ∷ behind t.above)
     gone_joined = gone ∙ ap (λ (ds : List Span). rejoin ds (Hole v.size ∷ behind t.above)) below_is
 
-    before_joined : v.before ≡ top low es
+    before_joined : v.before ≡ spans_top low es
     before_joined = t.before ∙ ap (link_place low) below_is
 
     room_joined : v.room ≡ n
     room_joined = t.room ∙ ap link_room below_is
 
-    at_joined : v.at ≡ top low es + n
-    at_joined = t.at_is ∙ ap (top low) below_is
+    at_joined : v.at ≡ spans_top low es + n
+    at_joined = t.at_is ∙ ap (spans_top low) below_is
 
     below_joined : Below core low (Hole n ∷ es)
     below_joined = rw below_is at opened_here.0
@@ -249,19 +249,19 @@ module _ (core : List Tagged) (low : ℕ) (ss : List Span) (address : ℕ) (a : 
     len_joined : length new ≡ length core
     len_joined = ap length is ∙ length-set core v.before (link_word (hole_high (v.room + v.size)) v.next)
 
-    hole_joined : slice_get new (top low es) ≡ Some (link_word (hole_high (n + v.size)) v.next)
+    hole_joined : slice_get new (spans_top low es) ≡ Some (link_word (hole_high (n + v.size)) v.next)
     hole_joined = rw (sym before_joined, sym room_joined) (ap (λ (c : List Tagged). slice_get c v.before) is ∙ slice_get-set_same core v.before (link_word (hole_high (v.room + v.size)) v.next) (omega (arith, facts.before, facts.fits)))
 
-    y : v.at + v.size ≡ top low es + (n + v.size)
+    y : v.at + v.size ≡ spans_top low es + (n + v.size)
     y = omega (arith, at_joined)
 
-    place_joined : link_place low es < top low es
+    place_joined : link_place low es < spans_top low es
     place_joined = (link_place_low low es d.above spans_joined.2).0
 
-    laid_joined : Laid new (link_place low es) (link_high es) (top low es) (Hole (n + v.size) ∷ behind t.above)
+    laid_joined : Laid new (link_place low es) (link_high es) (spans_top low es) (Hole (n + v.size) ∷ behind t.above)
     laid_joined = (
       same_joined (link_place low es) (λ e. omega (arith, before_joined, place_joined)) ∙ below_joined.0,
-      rw (sym y) (Laid-move core new rest_laid.0 rest_laid.1 (top low es) (hole_high (n + v.size)) (v.at + v.size) (behind t.above) (λ k g. same_joined k (λ e. omega (arith, facts.before, facts.some))) (hole_joined ∙ ap (λ (k : ℕ). Some (link_word (hole_high (n + v.size)) k)) t.next) rest_laid.2),
+      rw (sym y) (Laid-move core new rest_laid.0 rest_laid.1 (spans_top low es) (hole_high (n + v.size)) (v.at + v.size) (behind t.above) (λ k g. same_joined k (λ e. omega (arith, facts.before, facts.some))) (hole_joined ∙ ap (λ (k : ℕ). Some (link_word (hole_high (n + v.size)) k)) t.next) rest_laid.2),
     )
 
     pub freed_joined : IsDirectory new low (without low address ss)

@@ -7,7 +7,7 @@ use Rattle.b67_area.specs.declared.kinds.Info.{Info}
 use Rattle.b67_area.specs.Spans.{Span, Area, Hole, wide, end, first_hole, InHole, left, fill, spot}
 use Rattle.b67_area.specs.Words.{link_word, hole_high, head_word, tail_word}
 use Rattle.b67_area.specs.Directory.{IsInfo, NoHole, AreSpans, Laid, IsDirectory}
-use Rattle.b67_area.specs.Walk.{unzip, top, link_place, link_high, Below, NoFit, with_hole}
+use Rattle.b67_area.specs.Walk.{unzip, spans_top, link_place, link_high, Below, NoFit, with_hole}
 use Rattle.b67_area.proofs.Cuts.{Laid-move}
 use Rattle.b67_core.proofs.Writes.{slice_get-set_same, slice_get-set_other}
 
@@ -52,7 +52,7 @@ AreSpans-left zero ss h s = s
 AreSpans-left (suc n) ss h s = (omega arith, h, s)
 
 -- the lowest hole with room, seen from a cut below which there is none
-pub spot-unzip : (n low : ℕ) (ds ss : List Span) → NoFit n ds → spot n low (unzip ds ss) ≡ spot n (top low ds) ss
+pub spot-unzip : (n low : ℕ) (ds ss : List Span) → NoFit n ds → spot n low (unzip ds ss) ≡ spot n (spans_top low ds) ss
 spot-unzip n low [] ss f = refl
 spot-unzip n low (Area a ∷ ds) ss f = spot-unzip n low ds (Area a ∷ ss) f
 spot-unzip n low (Hole m ∷ ds) ss f = spot-unzip n low ds (Hole m ∷ ss) f.1 ∙ cond-false (leb n m) _ _ (lt-leb n m f.0)

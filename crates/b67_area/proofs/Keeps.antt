@@ -10,7 +10,7 @@ use Rattle.b67_area.specs.declared.kinds.Kind.TheVariants.{Array, Row, Code}
 use Rattle.b67_area.specs.Spans.{Span, Area, Hole, wide, end, first_hole, first_area, area_at, area_after, keeping}
 use Rattle.b67_area.specs.Words.{link_word, hole_high, kind_number, head_word, tail_word}
 use Rattle.b67_area.specs.Directory.{IsInfo, NoHole, AreSpans, Laid, IsDirectory}
-use Rattle.b67_area.specs.Walk.{unzip, top, link_place, link_high, Found, IsArea, IsAbove, front, behind, Around, link_room}
+use Rattle.b67_area.specs.Walk.{unzip, spans_top, link_place, link_high, Found, IsArea, IsAbove, front, behind, Around, link_room}
 use Rattle.b67_area.proofs.Cuts.{opened, closed, end-unzip, spans_opened, spans_closed, pending, low_top, link_place_low, Below-same, Laid-move}
 use Rattle.b67_core.proofs.Writes.{slice_get-set_same, slice_get-set_other}
 use Rattle.b67_area.proofs.Walks.{low_end, next-lt}
@@ -21,41 +21,41 @@ area_here core low ss address a d e =
     let p = area_at-low low ss address a e in
     (omega arith, found_area core low ss address (address - 1) a d e (omega arith))
 
-keeping-unzip : (low : ℕ) (ds ss : List Span) (x first : ℕ) → top low ds < x → keeping low x first (unzip ds ss) ≡ unzip ds (keeping (top low ds) x first ss)
+keeping-unzip : (low : ℕ) (ds ss : List Span) (x first : ℕ) → spans_top low ds < x → keeping low x first (unzip ds ss) ≡ unzip ds (keeping (spans_top low ds) x first ss)
 keeping-unzip low [] ss x first h = refl
 keeping-unzip low (Area b ∷ ds) ss x first h =
-    keeping-unzip low ds (Area b ∷ ss) x first (omega arith) ∙ ap (unzip ds) (cond-false (top low ds + 1 == x) _ _ (ne_eqb (top low ds + 1) x (λ e. omega arith)))
+    keeping-unzip low ds (Area b ∷ ss) x first (omega arith) ∙ ap (unzip ds) (cond-false (spans_top low ds + 1 == x) _ _ (ne_eqb (spans_top low ds + 1) x (λ e. omega arith)))
 keeping-unzip low (Hole n ∷ ds) ss x first h = keeping-unzip low ds (Hole n ∷ ss) x first (omega arith)
 
-area_after-unzip : (low : ℕ) (ds ss : List Span) (x : ℕ) → top low ds < x → area_after low (unzip ds ss) x ≡ area_after (top low ds) ss x
+area_after-unzip : (low : ℕ) (ds ss : List Span) (x : ℕ) → spans_top low ds < x → area_after low (unzip ds ss) x ≡ area_after (spans_top low ds) ss x
 area_after-unzip low [] ss x h = refl
 area_after-unzip low (Area b ∷ ds) ss x h =
-    area_after-unzip low ds (Area b ∷ ss) x (omega arith) ∙ cond-false (top low ds + 1 == x) _ _ (ne_eqb (top low ds + 1) x (λ e. omega arith))
+    area_after-unzip low ds (Area b ∷ ss) x (omega arith) ∙ cond-false (spans_top low ds + 1 == x) _ _ (ne_eqb (spans_top low ds + 1) x (λ e. omega arith))
 area_after-unzip low (Hole n ∷ ds) ss x h = area_after-unzip low ds (Hole n ∷ ss) x (omega arith)
 
 module _ (core : List Tagged) (low : ℕ) (ss : List Span) (address : ℕ) (a : Info) (d : IsDirectory core low ss) (e : area_at low ss address ≡ Some a) where
   there : Found low ss address a
   there = find_area low [] ss address a e
 
-  laid : Laid core (link_place low there.below) (link_high there.below) (top low there.below) (Area a ∷ there.above)
+  laid : Laid core (link_place low there.below) (link_high there.below) (spans_top low there.below) (Area a ∷ there.above)
   laid = (opened core low there.below (Area a ∷ there.above) (rw there.is at d.laid)).1
 
   spans : AreSpans there.below × AreSpans (Area a ∷ there.above)
   spans = let s = spans_opened there.below (Area a ∷ there.above) (rw there.is at d.spans) in (s.0, s.1)
 
-  ends : end (top low there.below + (a.words + 2)) there.above ≡ length core
+  ends : end (spans_top low there.below + (a.words + 2)) there.above ≡ length core
   ends = sym (end-unzip low there.below (Area a ∷ there.above)) ∙ rw there.is at d.all
 
   -- what lies above the area
   pub above_here : (b : ℕ) × (h : ℕ) × (ss' : List Span) × IsAbove core b h (address + (a.words + 1)) ss' × (area_after low ss address ≡ first_area (address + (a.words + 1)) ss')
   above_here =
-      let z : top low there.below + (a.words + 2) ≡ address + (a.words + 1) = omega (arith, there.at) in
-      let h : top low there.below + 1 ≡ address = sym there.at in (
+      let z : spans_top low there.below + (a.words + 2) ≡ address + (a.words + 1) = omega (arith, there.at) in
+      let h : spans_top low there.below + 1 ≡ address = sym there.at in (
         link_place low there.below,
         link_high there.below,
         there.above,
         subst (λ (k : ℕ). IsAbove core (link_place low there.below) (link_high there.below) k there.above) z (record { laid = laid.2; spans = spans.1.1; ends = ends; small = d.small; some = omega arith }),
-        ap (λ (s : List Span). area_after low s address) there.is ∙ area_after-unzip low there.below (Area a ∷ there.above) address (omega arith) ∙ cond-true (top low there.below + 1 == address) _ _ (eq-eqb (top low there.below + 1) address h) ∙ ap (λ (k : ℕ). first_area k there.above) z,
+        ap (λ (s : List Span). area_after low s address) there.is ∙ area_after-unzip low there.below (Area a ∷ there.above) address (omega arith) ∙ cond-true (spans_top low there.below + 1 == address) _ _ (eq-eqb (spans_top low there.below + 1) address h) ∙ ap (λ (k : ℕ). first_area k there.above) z,
       )
 
   module _ (first : ℕ) (low_first : first < 2 ^ 20) (new : List Tagged) (is : new ≡ slice_set core (address - 1 + (a.words + 1)) (link_word a.words first)) where
@@ -65,28 +65,28 @@ module _ (core : List Tagged) (low : ℕ) (ss : List Span) (address : ℕ) (a : 
     len : length new ≡ length core
     len = ap length is ∙ length-set core (address - 1 + (a.words + 1)) (link_word a.words first)
 
-    z : address - 1 + (a.words + 1) ≡ top low there.below + (a.words + 1)
+    z : address - 1 + (a.words + 1) ≡ spans_top low there.below + (a.words + 1)
     z = omega (arith, there.at)
 
-    tail_here : slice_get new (top low there.below + (a.words + 1)) ≡ Some (link_word a.words first)
-    tail_here = rw (sym z) (ap (λ (c : List Tagged). slice_get c (address - 1 + (a.words + 1))) is ∙ slice_get-set_same core (address - 1 + (a.words + 1)) (link_word a.words first) (omega (arith, z, ends, low_end (top low there.below + (a.words + 2)) there.above)))
+    tail_here : slice_get new (spans_top low there.below + (a.words + 1)) ≡ Some (link_word a.words first)
+    tail_here = rw (sym z) (ap (λ (c : List Tagged). slice_get c (address - 1 + (a.words + 1))) is ∙ slice_get-set_same core (address - 1 + (a.words + 1)) (link_word a.words first) (omega (arith, z, ends, low_end (spans_top low there.below + (a.words + 2)) there.above)))
 
     kept : keeping low address first ss ≡ unzip there.below (Area (record a { kept = first }) ∷ there.above)
     kept =
-        let h : top low there.below + 1 ≡ address = sym there.at in
-        ap (keeping low address first) there.is ∙ keeping-unzip low there.below (Area a ∷ there.above) address first (omega arith) ∙ ap (unzip there.below) (cond-true (top low there.below + 1 == address) _ _ (eq-eqb (top low there.below + 1) address h))
+        let h : spans_top low there.below + 1 ≡ address = sym there.at in
+        ap (keeping low address first) there.is ∙ keeping-unzip low there.below (Area a ∷ there.above) address first (omega arith) ∙ ap (unzip there.below) (cond-true (spans_top low there.below + 1 == address) _ _ (eq-eqb (spans_top low there.below + 1) address h))
 
-    place : link_place low there.below < top low there.below
+    place : link_place low there.below < spans_top low there.below
     place = (link_place_low low there.below d.above spans.0).0
 
     pub keeps : IsDirectory new low (keeping low address first ss)
     keeps = record {
       laid = rw kept (closed new low there.below (Area (record a { kept = first }) ∷ there.above)
           (Below-same core new low there.below d.above spans.0 (λ k g _. same k (λ q. omega (arith, z))) (opened core low there.below (Area a ∷ there.above) (rw there.is at d.laid)).0) (
-            same (top low there.below) (λ q. omega (arith, z)) ∙ laid.0,
+            same (spans_top low there.below) (λ q. omega (arith, z)) ∙ laid.0,
             tail_here,
-            Laid-move core new (link_place low there.below) (link_high there.below) (link_place low there.below) (link_high there.below) (top low there.below + (a.words + 2)) there.above (λ k g. same k (λ q. omega (arith, z)))
-                (same (link_place low there.below) (λ q. omega (arith, z, place)) ∙ pending core (link_place low there.below) (link_high there.below) (top low there.below + (a.words + 2)) there.above laid.2) laid.2,
+            Laid-move core new (link_place low there.below) (link_high there.below) (link_place low there.below) (link_high there.below) (spans_top low there.below + (a.words + 2)) there.above (λ k g. same k (λ q. omega (arith, z)))
+                (same (link_place low there.below) (λ q. omega (arith, z, place)) ∙ pending core (link_place low there.below) (link_high there.below) (spans_top low there.below + (a.words + 2)) there.above laid.2) laid.2,
           ));
       zeros = λ k g h. same k (λ q. omega (arith, z, low_top low there.below, d.above)) ∙ d.zeros k g h;
       all = ap (end low) kept ∙ end-unzip low there.below (Area (record a { kept = first }) ∷ there.above) ∙ ends ∙ sym len;

@@ -8,20 +8,20 @@ use Rattle.b67_area.specs.declared.search.Fit.{Fit}
 use Rattle.b67_area.specs.Spans.{Span, Area, Hole, wide, end, first_hole, InHole, left, fill, spot}
 use Rattle.b67_area.specs.Words.{link_word, hole_high, head_word, tail_word}
 use Rattle.b67_area.specs.Directory.{IsInfo, NoHole, AreSpans, Laid, IsDirectory, OnlyHoles}
-use Rattle.b67_area.specs.Walk.{unzip, top, link_place, link_high, Below, NoFit, with_hole, Fits, Facts}
+use Rattle.b67_area.specs.Walk.{unzip, spans_top, link_place, link_high, Below, NoFit, with_hole, FitsHole, Facts}
 use Rattle.b67_area.proofs.Cuts.{closed, end-unzip, spans_closed, Below-same, link_place_low, InHole-above, InHole-link}
 use Rattle.b67_core.proofs.Writes.{slice_get-set_same, slice_get-set_other}
 use Rattle.b67_area.proofs.Walks.{AtHole, at_hole, next-lt}
 use Rattle.b67_area.proofs.Holes.{link_to, with_hole-length, with_hole-other, with_hole-link, with_hole-hole, Laid-left, end-left, AreSpans-left, spot-unzip, fill-unzip}
 
-module _ (core : List Tagged) (n low : ℕ) (ss : List Span) (f : Fit) (d : IsDirectory core low ss) (t : Fits n low ss f) where
+module _ (core : List Tagged) (n low : ℕ) (ss : List Span) (f : Fit) (d : IsDirectory core low ss) (t : FitsHole n low ss f) where
   hole_here : AtHole core low ss t.below f.room t.above
   hole_here = at_hole core low ss t.below f.room t.above d t.is
 
   pub hole_link : slice_get core f.before ≡ Some (link_word (link_high t.below) f.at)
   hole_link = rw (t.before, t.at) hole_here.link
 
-  pub hole_all : end (top low t.below + f.room) t.above ≡ length core
+  pub hole_all : end (spans_top low t.below + f.room) t.above ≡ length core
   hole_all = sym (end-unzip low t.below (Hole f.room ∷ t.above)) ∙ rw t.is at d.all
 
   -- what the code needs to know of the hole
@@ -33,18 +33,18 @@ module _ (core : List Tagged) (n low : ℕ) (ss : List Span) (f : Fit) (d : IsDi
     above = omega (arith, hole_here.high, t.at, d.above);
     fits = omega (arith, hole_here.fits, t.at);
     room = t.room;
-    next = rw (t.next, t.at) (next-lt core low (top low t.below + f.room) t.above hole_here.tail (omega (arith, hole_all)) d.small);
+    next = rw (t.next, t.at) (next-lt core low (spans_top low t.below + f.room) t.above hole_here.tail (omega (arith, hole_all)) d.small);
     small = d.small;
   }
 
-module _ (core : List Tagged) (low : ℕ) (ss : List Span) (a : Info) (f : Fit) (d : IsDirectory core low ss) (t : Fits (a.words + 2) low ss f) where
+module _ (core : List Tagged) (low : ℕ) (ss : List Span) (a : Info) (f : Fit) (d : IsDirectory core low ss) (t : FitsHole (a.words + 2) low ss f) where
   hole : AtHole core low ss t.below f.room t.above
   hole = at_hole core low ss t.below f.room t.above d t.is
 
   facts : Facts core (a.words + 2) f
   facts = hole_facts core (a.words + 2) low ss f d t
 
-  all : end (top low t.below + f.room) t.above ≡ length core
+  all : end (spans_top low t.below + f.room) t.above ≡ length core
   all = hole_all core (a.words + 2) low ss f d t
 
   module _ (new : List Tagged) (i : IsInfo a) (is : new ≡ slice_set (slice_set (with_hole core f.before (link_high t.below) (f.at + (a.words + 2)) (f.room - (a.words + 2)) f.next) f.at (head_word a)) (f.at + (a.words + 1)) (tail_word a)) where
@@ -101,14 +101,14 @@ module _ (core : List Tagged) (low : ℕ) (ss : List Span) (a : Info) (f : Fit) 
         (t.next ∙ ap (λ (k : ℕ). first_hole k t.above) (sym rejoined))
         (rw (rejoined, t.at) hole.laid)
 
-    laid : Laid new (link_place low t.below) (link_high t.below) (top low t.below) (Area a ∷ left (f.room - (a.words + 2)) t.above)
+    laid : Laid new (link_place low t.below) (link_high t.below) (spans_top low t.below) (Area a ∷ left (f.room - (a.words + 2)) t.above)
     laid = rw (sym t.before, sym t.at) (head, tail, above_laid)
 
     pub placed : IsDirectory new low (fill a ss)
     placed = record {
       laid = rw filled (closed new low t.below (Area a ∷ left (f.room - (a.words + 2)) t.above) (Below-same core new low t.below d.above hole.spans (λ k g e. same k (λ q. e (q ∙ t.before)) (inl (omega (arith, t.at)))) hole.below) laid);
       zeros = λ k g h. same k (λ e. ⊎_elim (λ q. omega (arith, t.before)) (λ q. omega (arith, t.before, d.above)) (link_place_low low t.below d.above hole.spans).1) (inl (omega (arith, facts.above))) ∙ d.zeros k g h;
-      all = ap (end low) filled ∙ end-unzip low t.below (Area a ∷ left (f.room - (a.words + 2)) t.above) ∙ end-left (top low t.below + (a.words + 2)) (f.room - (a.words + 2)) t.above ∙ ap (λ (k : ℕ). end k t.above) (sym (ap (λ (k : ℕ). k + (a.words + 2) + (f.room - (a.words + 2))) t.at) ∙ rejoined ∙ ap (λ (k : ℕ). k + f.room) t.at) ∙ all ∙ sym len;
+      all = ap (end low) filled ∙ end-unzip low t.below (Area a ∷ left (f.room - (a.words + 2)) t.above) ∙ end-left (spans_top low t.below + (a.words + 2)) (f.room - (a.words + 2)) t.above ∙ ap (λ (k : ℕ). end k t.above) (sym (ap (λ (k : ℕ). k + (a.words + 2) + (f.room - (a.words + 2))) t.at) ∙ rejoined ∙ ap (λ (k : ℕ). k + f.room) t.at) ∙ all ∙ sym len;
       spans = rw filled (spans_closed t.below (Area a ∷ left (f.room - (a.words + 2)) t.above) hole.spans (i, AreSpans-left (f.room - (a.words + 2)) t.above hole.alone hole.tail) (inr tt));
       above = d.above;
       small = omega (arith, len, d.small);

@@ -11,7 +11,7 @@ use Rattle.b67_area.specs.declared.search.Vacancy.{Vacancy}
 use Rattle.b67_area.specs.Spans.{Span, Area, Hole, wide, end, first_hole, area_at, join, left, spaced, shortened, with_words, InHole}
 use Rattle.b67_area.specs.Words.{link_word, hole_high, head_word, tail_word}
 use Rattle.b67_area.specs.Directory.{IsInfo, NoHole, AreSpans, Laid, IsDirectory}
-use Rattle.b67_area.specs.Walk.{unzip, top, link_place, link_high, front, behind, with_hole, Leaves, Vacates}
+use Rattle.b67_area.specs.Walk.{unzip, spans_top, link_place, link_high, front, behind, with_hole, LeavesHole, Vacates}
 use Rattle.b67_area.proofs.Cuts.{closed, end-unzip, spans_closed, low_top, link_place_low, Below-same, InHole-above, InHole-link}
 use Rattle.b67_area.proofs.Holes.{link_to, with_hole-length, with_hole-other, with_hole-link, with_hole-hole, Laid-left, end-left, AreSpans-left}
 use Rattle.b67_area.proofs.Frees.{join-front, opened_here, spans_here, facts, place_below, rest_laid, rest_spans, rest_end}
@@ -19,10 +19,10 @@ use Rattle.b67_area.proofs.Climbs.{area_at-low}
 use Rattle.b67_area.proofs.Laws.{area_at-join}
 
 -- an area there that has so many words or more, seen from its place
-pub shortened-unzip : (low : ℕ) (ds ss : List Span) (x n : ℕ) → top low ds < x → shortened low x n (unzip ds ss) ≡ unzip ds (shortened (top low ds) x n ss)
+pub shortened-unzip : (low : ℕ) (ds ss : List Span) (x n : ℕ) → spans_top low ds < x → shortened low x n (unzip ds ss) ≡ unzip ds (shortened (spans_top low ds) x n ss)
 shortened-unzip low [] ss x n h = refl
 shortened-unzip low (Area b ∷ ds) ss x n h =
-    shortened-unzip low ds (Area b ∷ ss) x n (omega arith) ∙ ap (unzip ds) (cond-false (top low ds + 1 == x) _ _ (ne_eqb (top low ds + 1) x (λ e. omega arith)))
+    shortened-unzip low ds (Area b ∷ ss) x n (omega arith) ∙ ap (unzip ds) (cond-false (spans_top low ds + 1 == x) _ _ (ne_eqb (spans_top low ds + 1) x (λ e. omega arith)))
 shortened-unzip low (Hole m ∷ ds) ss x n h = shortened-unzip low ds (Hole m ∷ ss) x n (omega arith)
 
 -- the hole before what lies behind the hole at the front
@@ -63,7 +63,7 @@ area_at-shortened at x n (Area b ∷ ss) y fits = ⊎_elim
       moved : n ≤ b.words → area_at (at + (n + 2)) (spaced (b.words - n) ss) y ≡ area_at (at + (b.words + 2)) ss y
       moved h = area_at-spaced (at + (n + 2)) (b.words - n) ss y ∙ (let e : at + (n + 2) + (b.words - n) ≡ at + (b.words + 2) = omega arith in ap (λ (k : ℕ). area_at k ss y) e)
 
-module _ (core : List Tagged) (low : ℕ) (ss : List Span) (address : ℕ) (a : Info) (v : Vacancy) (d : IsDirectory core low ss) (t : Leaves low ss address a v) (n : ℕ) (some : 1 ≤ n) (fits : n ≤ a.words) where
+module _ (core : List Tagged) (low : ℕ) (ss : List Span) (address : ℕ) (a : Info) (v : Vacancy) (d : IsDirectory core low ss) (t : LeavesHole low ss address a v) (n : ℕ) (some : 1 ≤ n) (fits : n ≤ a.words) where
   -- the words that are left fit
   pub bounds : (n < 2 ^ 20) × (v.at + (n + 2) ≤ length core) × (n + 2 ≤ v.size) × (v.at + (n + 1) < length core) × (a.owner < 2 ^ 20) × (a.kept < 2 ^ 20)
   bounds =
@@ -73,10 +73,10 @@ module _ (core : List Tagged) (low : ℕ) (ss : List Span) (address : ℕ) (a : 
 
   pub now_short : shortened low address n ss ≡ unzip t.below (Area (record a { words = n }) ∷ left (v.size - (n + 2)) (behind t.above))
   now_short =
-      let here : top low t.below + 1 ≡ address = omega (arith, t.at_is, t.address_is) in
+      let here : spans_top low t.below + 1 ≡ address = omega (arith, t.at_is, t.address_is) in
       let same : a.words - n + front t.above ≡ v.size - (n + 2) = omega (arith, t.size) in
       ap (shortened low address n) t.is ∙ shortened-unzip low t.below (Area a ∷ t.above) address n (omega arith)
-      ∙ ap (unzip t.below) (cond-true (top low t.below + 1 == address) _ _ (eq-eqb (top low t.below + 1) address here)
+      ∙ ap (unzip t.below) (cond-true (spans_top low t.below + 1 == address) _ _ (eq-eqb (spans_top low t.below + 1) address here)
       ∙ ap (λ (s : List Span). Area (record a { words = n }) ∷ s) (spaced-left (a.words - n) t.above (spans_here core low ss address a v d t).1.1 ∙ ap (λ (k : ℕ). left k (behind t.above)) same))
 
   module _ (new : List Tagged) (is : new ≡ slice_set (slice_set (with_hole core v.before (link_high t.below) (v.at + (n + 2)) (v.size - (n + 2)) v.next) v.at (head_word (record a { words = n }))) (v.at + (n + 1)) (tail_word (record a { words = n }))) where
@@ -134,7 +134,7 @@ module _ (core : List Tagged) (low : ℕ) (ss : List Span) (address : ℕ) (a : 
     place : (v.before ≡ 152) ⊎ (low ≤ v.before)
     place = place_below core low ss address a v d t
 
-    laid_here : Laid new (link_place low t.below) (link_high t.below) (top low t.below) (Area (record a { words = n }) ∷ left (v.size - (n + 2)) (behind t.above))
+    laid_here : Laid new (link_place low t.below) (link_high t.below) (spans_top low t.below) (Area (record a { words = n }) ∷ left (v.size - (n + 2)) (behind t.above))
     laid_here =
         let r = rest_laid core low ss address a v d t in
         let l = Laid-left core new r.0 r.1 v.before (link_high t.below) (v.at + (n + 2)) (v.size - (n + 2)) v.next (behind t.above)
@@ -161,6 +161,6 @@ module _ (core : List Tagged) (low : ℕ) (ss : List Span) (address : ℕ) (a : 
         (λ e. ⊎_elim (λ q. w (e ∙ t.before ∙ q)) (λ q. out (rw (now_short, e, t.before) q)) (InHole-link low t.below (Area (record a { words = n }) ∷ left (v.size - (n + 2)) (behind t.above)) (spans_here core low ss address a v d t).0))
         (λ e. h (omega (arith, t.address_is))) (λ e. g (omega (arith, t.address_is)))
         (λ more e. out (rw now_short (InHole-above low t.below (Area (record a { words = n }) ∷ left (v.size - (n + 2)) (behind t.above)) k (in_left (v.size - (n + 2)) (behind t.above) more (omega (arith, t.at_is, e)))))) where
-          in_left : (m : ℕ) (rest : List Span) → 1 ≤ m → k ≡ top low t.below + (n + 2) → InHole (top low t.below + (n + 2)) (left m rest) k
+          in_left : (m : ℕ) (rest : List Span) → 1 ≤ m → k ≡ spans_top low t.below + (n + 2) → InHole (spans_top low t.below + (n + 2)) (left m rest) k
           in_left zero rest h e = absurd (omega arith)
           in_left (suc m) rest h e = inl (omega arith, omega arith)

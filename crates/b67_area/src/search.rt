@@ -4,7 +4,7 @@ ghost use Rattle.std.specs.Prelude.{◌≡◌, ℕ, ◌+◌, ◌^◌, ◌<◌, S
 ghost use Rattle.b67_area.specs.declared.kinds.Info.{Info};
 ghost use Rattle.b67_area.specs.Spans.{Span, address, area_at, first_hole, first_area};
 ghost use Rattle.b67_area.specs.Directory.{IsDirectory};
-ghost use Rattle.b67_area.specs.Walk.{NoFit, Fits, Facts, Around, IsAbove, IsArea, Leaves, Vacates, front, behind};
+ghost use Rattle.b67_area.specs.Walk.{NoFit, FitsHole, Facts, Around, IsAbove, IsArea, LeavesHole, Vacates, front, behind};
 
 use crate::chain::{link_of, room_of};
 use crate::kinds::{Info, Kind};
@@ -50,7 +50,7 @@ pub struct Vacancy {
 pub fn find_hole(core: &Core, words: u32) -> Option<Fit>
     requires { (low : ℕ) × (ss : List Span) × IsDirectory core.now low ss }
     ensures found { (low : ℕ) (ss : List Span) → IsDirectory core.now low ss
-        → MatchOption result (NoFit (words + 2) ss) (λ f. Fits (words + 2) low ss f) }
+        → MatchOption result (NoFit (words + 2) ss) (λ f. FitsHole (words + 2) low ss f) }
     ensures facts { IfSome result (λ f. Facts core.now (words + 2) f) }
 {
     let mut before = DIRECTORY;
@@ -161,7 +161,7 @@ pub fn next_area(core: &Core, at: u32) -> Option<u32>
 pub fn vacated(core: &Core, address: u32) -> Vacancy
     requires { (low : ℕ) × (ss : List Span) × (a : Info) × IsDirectory core.now low ss × (area_at low ss address ≡ Some a) }
     ensures found { (low : ℕ) (ss : List Span) (a : Info) → IsDirectory core.now low ss → area_at low ss address ≡ Some a
-        → Leaves low ss address a result }
+        → LeavesHole low ss address a result }
     ensures facts { Vacates core.now result }
 {
     let at = address - 1;

@@ -4,14 +4,14 @@ ghost use Rattle.std.specs.Prelude.{◌≡◌, ◌+◌, ◌*◌, ◌^◌, ◌<�
 ghost use Rattle.b67_word.specs.Tagged.{word};
 ghost use Rattle.b67_word.specs.Operands.{is_whole, value_of};
 ghost use Rattle.b67_model.specs.Words.{truth};
-ghost use Rattle.b67_arith.specs.OnWords.{bits_in, numbers_in, operand_word};
+ghost use Rattle.b67_arith.specs.OnWords.{operand_bits, numbers_of_two, operand_word};
 
 use b67_word::{Fault, Word};
 
 /// The bits of an operand.
 #[inline(always)]
 pub fn bits(w: Word) -> Result<u64, Fault>
-    ensures value { result ≡ bits_in w }
+    ensures value { result ≡ operand_bits w }
     ensures small { IfOk result (λ n. n < 2 ^ 48) }
 {
     if w.tag() == 0 {
@@ -46,7 +46,7 @@ fn number(w: Word) -> i64
 /// The numbers of two operands.
 #[inline(always)]
 pub fn numbers(a: Word, b: Word) -> Result<(i64, i64), Fault>
-    ensures value { result ≡ numbers_in a b }
+    ensures value { result ≡ numbers_of_two a b }
     ensures small { IfOk result (λ p. (nat_abs p.0 < 2 ^ 39) × (nat_abs p.1 < 2 ^ 39)) }
 {
     if a.is_natural() && b.is_natural() {

@@ -20,32 +20,32 @@ strictly : (m n : ℕ) → m ≤ n → (m == n) ≡ false → m < n
 strictly m n le e = grind arith
 
 -- a number that isn't there is put among numbers that rise
-rises_in : (low n : ℕ) (xs : List ℕ) → Rises low xs → low < n → list_any (λ m. m == n) xs ≡ false → Rises low (asm.in_order n xs)
+rises_in : (low n : ℕ) (xs : List ℕ) → Rises low xs → low < n → list_any (λ m. m == n) xs ≡ false → Rises low (asm.inserted_in_order n xs)
 rises_in low n [] h lt none = (lt, tt)
 rises_in low n (m ∷ more) h lt none =
     let parts = or_parts (m == n) (list_any (λ m. m == n) more) none in
     by_test (λ le. rises_in m n more h.1 (strictly m n le parts.0) parts.1) (nat_lt n m) refl
   where
-    by_test : (m ≤ n → Rises m (asm.in_order n more)) → (b : Bool) → nat_lt n m ≡ b → Rises low (cond b (n ∷ m ∷ more) (m ∷ asm.in_order n more))
+    by_test : (m ≤ n → Rises m (asm.inserted_in_order n more)) → (b : Bool) → nat_lt n m ≡ b → Rises low (cond b (n ∷ m ∷ more) (m ∷ asm.inserted_in_order n more))
     by_test go true t = (lt, (ltb-true n m t, h.1))
     by_test go false t = (h.0, go (ltb-false n m t))
 
-length_in : (n : ℕ) (xs : List ℕ) → length (asm.in_order n xs) ≡ length xs + 1
+length_in : (n : ℕ) (xs : List ℕ) → length (asm.inserted_in_order n xs) ≡ length xs + 1
 length_in n [] = refl
 length_in n (m ∷ more) = by_test (length_in n more) (nat_lt n m)
   where
-    by_test : length (asm.in_order n more) ≡ length more + 1 → (b : Bool) → length (cond b (n ∷ m ∷ more) (m ∷ asm.in_order n more)) ≡ length (m ∷ more) + 1
+    by_test : length (asm.inserted_in_order n more) ≡ length more + 1 → (b : Bool) → length (cond b (n ∷ m ∷ more) (m ∷ asm.inserted_in_order n more)) ≡ length (m ∷ more) + 1
     by_test rest true = omega arith
     by_test rest false = omega (arith, rest)
 
 abbrev IsLow : ℕ → Type 0
 IsLow n = n ≤ 6 * 8191
 
-all_low : (n : ℕ) (xs : List ℕ) → AllByRecursion IsLow xs → IsLow n → AllByRecursion IsLow (asm.in_order n xs)
+all_low : (n : ℕ) (xs : List ℕ) → AllByRecursion IsLow xs → IsLow n → AllByRecursion IsLow (asm.inserted_in_order n xs)
 all_low n [] h low = (low, tt)
 all_low n (m ∷ more) h low = by_test (all_low n more h.1 low) (nat_lt n m)
   where
-    by_test : AllByRecursion IsLow (asm.in_order n more) → (b : Bool) → AllByRecursion IsLow (cond b (n ∷ m ∷ more) (m ∷ asm.in_order n more))
+    by_test : AllByRecursion IsLow (asm.inserted_in_order n more) → (b : Bool) → AllByRecursion IsLow (cond b (n ∷ m ∷ more) (m ∷ asm.inserted_in_order n more))
     by_test rest true = (low, h)
     by_test rest false = (h.0, rest)
 
@@ -65,12 +65,12 @@ entry_fits x entries l added low fit a = subst (λ (added : asm.Added). Fit (asm
   low = all_low a.syllable entries fit.low (low a.label a.syllable a.found);
 })
 
-same_entries : (added : asm.Added) (rest : asm.Content) → (asm.with_added added rest).entries ≡ rest.entries
+same_entries : (added : asm.Added) (rest : asm.SegmentContent) → (asm.with_added added rest).entries ≡ rest.entries
 same_entries (asm.AddedOperator op) rest = refl
 same_entries (asm.AddedEntry n) rest = refl
 
-content_fits : (x : asm.Scope) (n : ℕ) (entries : List ℕ) (lines : List Line) (content : asm.Content) → AreLow x.labels → Fit entries → asm.content_of x n entries lines ≡ Ok content → Fit content.entries
-content_fits x n entries [] content low fit e = subst (λ (c : asm.Content). Fit c.entries) (same_Ok (record { operators = []; entries = entries }) content e) fit
+content_fits : (x : asm.Scope) (n : ℕ) (entries : List ℕ) (lines : List Line) (content : asm.SegmentContent) → AreLow x.labels → Fit entries → asm.content_of x n entries lines ≡ Ok content → Fit content.entries
+content_fits x n entries [] content low fit e = subst (λ (c : asm.SegmentContent). Fit c.entries) (same_Ok (record { operators = []; entries = entries }) content e) fit
 content_fits x n entries (l ∷ more) content low fit e =
     let h = headed x n entries l more content e in
     let behind : Fit (asm.entries_behind entries h.added) = elim h.adds [
@@ -78,23 +78,23 @@ content_fits x n entries (l ∷ more) content low fit e =
       | inr a ↦ entry_fits x entries l h.added low fit a
     ] in
     let rest = content_fits x (asm.syllable_behind n h.added) (asm.entries_behind entries h.added) more h.rest low behind h.behind_it in
-    subst (λ (c : asm.Content). Fit c.entries) h.all (subst Fit (sym (same_entries h.added h.rest)) rest)
+    subst (λ (c : asm.SegmentContent). Fit c.entries) h.all (subst Fit (sym (same_entries h.added h.rest)) rest)
 
-count_is : (n : ℕ) → n ≤ 6 * 8191 → entry_count (asm.place_bits n) ≡ n
+count_is : (n : ℕ) → n ≤ 6 * 8191 → entry_count (asm.syllable_bits n) ≡ n
 count_is n low = omega (arith, low)
 
-syllable_fits : (n : ℕ) → asm.place_bits n / 2 ^ 13 < 6
+syllable_fits : (n : ℕ) → asm.syllable_bits n / 2 ^ 13 < 6
 syllable_fits n = omega arith
 
-bits_rise : (low : ℕ) (entries : List ℕ) → Rises low entries → AllByRecursion IsLow entries → EntriesRise low (map asm.place_bits entries)
+bits_rise : (low : ℕ) (entries : List ℕ) → Rises low entries → AllByRecursion IsLow entries → EntriesRise low (map asm.syllable_bits entries)
 bits_rise low [] rise all = tt
 bits_rise low (n ∷ more) rise all =
     let is = count_is n all.0 in (
       record { syllable = syllable_fits n; later = subst (λ (m : ℕ). low < m) (sym is) rise.0 },
-      subst (λ (m : ℕ). EntriesRise m (map asm.place_bits more)) (sym is) (bits_rise n more rise.1 all.1),
+      subst (λ (m : ℕ). EntriesRise m (map asm.syllable_bits more)) (sym is) (bits_rise n more rise.1 all.1),
     )
 
-length_bits : (entries : List ℕ) → length (map asm.place_bits entries) ≡ length entries
+length_bits : (entries : List ℕ) → length (map asm.syllable_bits entries) ≡ length entries
 length_bits [] = refl
 length_bits (n ∷ more) = omega (arith, length_bits more)
 
@@ -102,12 +102,12 @@ abbrev entries_in : Result (List ℕ × List ℕ) Refusal → List ℕ
 entries_in (Ok p) = p.1
 entries_in (Err refusal) = []
 
-content_found : (answer : Result asm.Content Refusal) (syllables entries : List ℕ) → put_behind [] answer ≡ Ok (syllables, entries) → (content : asm.Content) × (answer ≡ Ok content) × (content.entries ≡ entries)
+content_found : (answer : Result asm.SegmentContent Refusal) (syllables entries : List ℕ) → put_behind [] answer ≡ Ok (syllables, entries) → (content : asm.SegmentContent) × (answer ≡ Ok content) × (content.entries ≡ entries)
 content_found (Ok content) syllables entries e = (content, refl, ap entries_in e)
 content_found (Err refusal) syllables entries e = absurd (let z : ⊥ = cc in z)
 
 -- the entries of a segment are those of a codefile
-pub entries_fit : (names : asm.Names) (segments l : ℕ) (lines : List Line) (syllables entries own : List ℕ) → put_behind [] (asm.content_of (scope_at names segments l lines) 0 [] lines) ≡ Ok (syllables, entries) → own ≡ map asm.place_bits entries → AreEntries own
+pub entries_fit : (names : asm.Names) (segments l : ℕ) (lines : List Line) (syllables entries own : List ℕ) → put_behind [] (asm.content_of (scope_at names segments l lines) 0 [] lines) ≡ Ok (syllables, entries) → own ≡ map asm.syllable_bits entries → AreEntries own
 entries_fit names segments l lines syllables entries own e is =
     let x = scope_at names segments l lines in
     let found = content_found (asm.content_of x 0 [] lines) syllables entries e in
@@ -118,8 +118,8 @@ entries_fit names segments l lines syllables entries own e is =
 
 -- ---- without ENTRY cards there are no entries
 
-plain_content : (x : asm.Scope) (n : ℕ) (entries : List ℕ) (lines : List Line) (content : asm.Content) → has_entry_card lines ≡ false → asm.content_of x n entries lines ≡ Ok content → content.entries ≡ entries
-plain_content x n entries [] content none e = ap (λ (c : asm.Content). c.entries) (sym (same_Ok (record { operators = []; entries = entries }) content e))
+plain_content : (x : asm.Scope) (n : ℕ) (entries : List ℕ) (lines : List Line) (content : asm.SegmentContent) → has_entry_card lines ≡ false → asm.content_of x n entries lines ≡ Ok content → content.entries ≡ entries
+plain_content x n entries [] content none e = ap (λ (c : asm.SegmentContent). c.entries) (sym (same_Ok (record { operators = []; entries = entries }) content e))
 plain_content x n entries (l ∷ more) content none e =
     let h = headed x n entries l more content e in
     let parts = or_parts (asm.says_entry l.says) (has_entry_card more) none in
@@ -128,14 +128,14 @@ plain_content x n entries (l ∷ more) content none e =
       | inr a ↦ absurd (let no : true ≡ false = sym (ap asm.says_entry a.says) ∙ parts.0 in let z : ⊥ = cc in z)
     ] in
     let rest = plain_content x (asm.syllable_behind n h.added) (asm.entries_behind entries h.added) more h.rest parts.1 h.behind_it in
-    ap (λ (c : asm.Content). c.entries) (sym h.all) ∙ same_entries h.added h.rest ∙ rest ∙ stay
+    ap (λ (c : asm.SegmentContent). c.entries) (sym h.all) ∙ same_entries h.added h.rest ∙ rest ∙ stay
 
-pub no_entries : (names : asm.Names) (segments l : ℕ) (lines : List Line) (syllables entries own : List ℕ) → put_behind [] (asm.content_of (scope_at names segments l lines) 0 [] lines) ≡ Ok (syllables, entries) → own ≡ map asm.place_bits entries → has_entry_card lines ≡ false → own ≡ []
+pub no_entries : (names : asm.Names) (segments l : ℕ) (lines : List Line) (syllables entries own : List ℕ) → put_behind [] (asm.content_of (scope_at names segments l lines) 0 [] lines) ≡ Ok (syllables, entries) → own ≡ map asm.syllable_bits entries → has_entry_card lines ≡ false → own ≡ []
 no_entries names segments l lines syllables entries own e is none =
     let x = scope_at names segments l lines in
     let found = content_found (asm.content_of x 0 [] lines) syllables entries e in
     let here : entries ≡ [] = sym found.2 ∙ plain_content x 0 [] lines found.0 none found.1 in
-    is ∙ ap (map asm.place_bits) here
+    is ∙ ap (map asm.syllable_bits) here
 
 -- ---- the own cards of a segment or row
 

@@ -4,10 +4,10 @@ use Rattle.std.specs.List.{AllByRecursion}
 use Rattle.std.proofs.lemmas.List.{length-drop, length-append, map-append}
 use Rattle.b67_word.specs.Tagged.{Tagged, contents}
 use Rattle.b67_codefile.specs.Spelling.{HasTag}
-use Rattle.b67_model_text.specs.Encoding.{packed}
+use Rattle.b67_model_text.specs.Encoding.{packed_words}
 use Rattle.b67_asm.proofs.Program.{rest_is}
 
-pub six_more : (xs : List ℕ) → 6 ≤ length xs → packed xs ≡ (((((get_or xs 0 0 * 256 + get_or xs 1 0) * 256 + get_or xs 2 0) * 256 + get_or xs 3 0) * 256 + get_or xs 4 0) * 256 + get_or xs 5 0) ∷ packed (drop 6 xs)
+pub six_more : (xs : List ℕ) → 6 ≤ length xs → packed_words xs ≡ (((((get_or xs 0 0 * 256 + get_or xs 1 0) * 256 + get_or xs 2 0) * 256 + get_or xs 3 0) * 256 + get_or xs 4 0) * 256 + get_or xs 5 0) ∷ packed_words (drop 6 xs)
 six_more [] le = absurd (omega arith)
 six_more (a ∷ []) le = absurd (omega arith)
 six_more (a ∷ b ∷ []) le = absurd (omega arith)
@@ -16,7 +16,7 @@ six_more (a ∷ b ∷ c ∷ d ∷ []) le = absurd (omega arith)
 six_more (a ∷ b ∷ c ∷ d ∷ e ∷ []) le = absurd (omega arith)
 six_more (a ∷ b ∷ c ∷ d ∷ e ∷ f ∷ more) le = refl
 
-pub no_six : (xs : List ℕ) → length xs < 6 → packed xs ≡ []
+pub no_six : (xs : List ℕ) → length xs < 6 → packed_words xs ≡ []
 no_six [] lt = refl
 no_six (a ∷ []) lt = refl
 no_six (a ∷ b ∷ []) lt = refl
@@ -25,11 +25,11 @@ no_six (a ∷ b ∷ c ∷ d ∷ []) lt = refl
 no_six (a ∷ b ∷ c ∷ d ∷ e ∷ []) lt = refl
 no_six (a ∷ b ∷ c ∷ d ∷ e ∷ f ∷ more) lt = absurd (omega arith)
 
-pub next_word : (words : List Tagged) (w : Tagged) (rest all : List ℕ) (new : List Tagged) → 6 ≤ length rest → new ≡ words ++ w ∷ [] → w.bits ≡ ((((get_or rest 0 0 * 256 + get_or rest 1 0) * 256 + get_or rest 2 0) * 256 + get_or rest 3 0) * 256 + get_or rest 4 0) * 256 + get_or rest 5 0 → contents words ++ packed rest ≡ packed all → contents new ++ packed (take (length rest - 6) (drop 6 rest)) ≡ packed all
+pub next_word : (words : List Tagged) (w : Tagged) (rest all : List ℕ) (new : List Tagged) → 6 ≤ length rest → new ≡ words ++ w ∷ [] → w.bits ≡ ((((get_or rest 0 0 * 256 + get_or rest 1 0) * 256 + get_or rest 2 0) * 256 + get_or rest 3 0) * 256 + get_or rest 4 0) * 256 + get_or rest 5 0 → contents words ++ packed_words rest ≡ packed_words all → contents new ++ packed_words (take (length rest - 6) (drop 6 rest)) ≡ packed_words all
 next_word words w rest all new le grown bits h =
-    let cut = ap packed (rest_is 6 rest) in
-    let more : packed rest ≡ w.bits ∷ packed (drop 6 rest) = six_more rest le ∙ ap (λ (n : ℕ). n ∷ packed (drop 6 rest)) (sym bits) in
-    ap (λ (l : List Tagged). contents l ++ packed (take (length rest - 6) (drop 6 rest))) grown ∙ ap (λ (l : List ℕ). contents (words ++ w ∷ []) ++ l) cut ∙ ap (λ (l : List ℕ). l ++ packed (drop 6 rest)) (map-append (λ (t : Tagged). t.bits) words (w ∷ [])) ∙ append_assoc (contents words) (w.bits ∷ []) (packed (drop 6 rest)) ∙ ap (λ (l : List ℕ). contents words ++ l) (sym more) ∙ h
+    let cut = ap packed_words (rest_is 6 rest) in
+    let more : packed_words rest ≡ w.bits ∷ packed_words (drop 6 rest) = six_more rest le ∙ ap (λ (n : ℕ). n ∷ packed_words (drop 6 rest)) (sym bits) in
+    ap (λ (l : List Tagged). contents l ++ packed_words (take (length rest - 6) (drop 6 rest))) grown ∙ ap (λ (l : List ℕ). contents (words ++ w ∷ []) ++ l) cut ∙ ap (λ (l : List ℕ). l ++ packed_words (drop 6 rest)) (map-append (λ (t : Tagged). t.bits) words (w ∷ [])) ∙ append_assoc (contents words) (w.bits ∷ []) (packed_words (drop 6 rest)) ∙ ap (λ (l : List ℕ). contents words ++ l) (sym more) ∙ h
 
 all_one : (P : Tagged → Type 0) (xs : List Tagged) (x : Tagged) → AllByRecursion P xs → P x → AllByRecursion P (xs ++ x ∷ [])
 all_one P [] x h p = (p, tt)

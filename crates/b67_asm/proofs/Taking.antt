@@ -10,13 +10,13 @@ use Rattle.b67_model_text.specs.declared.assembly.Named.{Named}
 use Rattle.b67_model_text.specs.declared.assembly.Statement as statement
 use Rattle.b67_model_text.specs.declared.assembly.Statement.TheVariants as statements
 use Rattle.b67_model_text.specs.Answers.{Answer, ◌>>=◌}
-use Rattle.b67_model_text.specs.Asm.{meaning, definition, definitions, segments_behind, rows_behind, labels, label_at, reach, names_entry, with_cards, cards_of_segments, own, is_entry, is_place, Scope, Content, Added, AddedOperator, AddedEntry, syllable_behind, entries_behind, with_added, content_of, next}
+use Rattle.b67_model_text.specs.Asm.{meaning, definition, definitions, segments_behind, rows_behind, labels, label_at, syllable_after_card, names_entry, with_cards, cards_of_segments, own, is_entry, is_place, Scope, SegmentContent, Added, AddedOperator, AddedEntry, syllable_behind, entries_behind, with_added, content_of, after_operator}
 use Rattle.b67_model_text.specs.Deck.{Refusal, of_card}
 use Rattle.b67_model_text.specs.Encoding.{laid_one, laid}
 use Rattle.b67_asm.specs.Putting.{laid_added, line_added, put_behind, code_weight, code_count}
 use Rattle.b67_asm.specs.Names.{label_entries}
 use Rattle.b67_asm.specs.declared.names.Labels.{Labels}
-use Rattle.b67_asm.specs.Scope.{begins_segment, HoldsLabels, HoldLabels, syllable_of, is_entry_of}
+use Rattle.b67_asm.specs.Scope.{begins_segment, HoldsLabels, HoldLabels, label_syllable, is_entry_of}
 use Rattle.b67_asm.proofs.NamesLaw.{grown, or_rest}
 use Rattle.b67_asm.proofs.Program.{rest_is}
 
@@ -30,10 +30,10 @@ names_grown old new all lines item i s r s' r' lt is es er step before q =
     let cons = drop_item lines i item lt is in
     ap (λ (n : ℕ). option_or (meaning new q) (meaning (definitions n r' (drop (i + 1) lines)) q)) es ∙ ap (λ (n : ℕ). option_or (meaning new q) (meaning (definitions (segments_behind s item.says) n (drop (i + 1) lines)) q)) er ∙ grown old new (definition s r item.says) (definitions (segments_behind s item.says) (rows_behind r item.says) (drop (i + 1) lines)) all step (λ p. ap (λ (ls : List Line). option_or (meaning old p) (meaning (definitions s r ls) p)) (sym cons) ∙ before p) q
 
-pub labels_grown : (old new all : List (List ℕ × ℕ)) (lines : List Line) (item : Line) (i n n' : ℕ) → i < length lines → item ≡ get_or lines i item → n' ≡ reach n item.says → ((q : List ℕ) → meaning new q ≡ option_or (meaning old q) (meaning (cons_option (label_at n item.says) []) q)) → ((q : List ℕ) → option_or (meaning old q) (meaning (labels n (drop i lines)) q) ≡ meaning all q) → (q : List ℕ) → option_or (meaning new q) (meaning (labels n' (drop (i + 1) lines)) q) ≡ meaning all q
+pub labels_grown : (old new all : List (List ℕ × ℕ)) (lines : List Line) (item : Line) (i n n' : ℕ) → i < length lines → item ≡ get_or lines i item → n' ≡ syllable_after_card n item.says → ((q : List ℕ) → meaning new q ≡ option_or (meaning old q) (meaning (cons_option (label_at n item.says) []) q)) → ((q : List ℕ) → option_or (meaning old q) (meaning (labels n (drop i lines)) q) ≡ meaning all q) → (q : List ℕ) → option_or (meaning new q) (meaning (labels n' (drop (i + 1) lines)) q) ≡ meaning all q
 labels_grown old new all lines item i n n' lt is en step before q =
     let cons = drop_item lines i item lt is in
-    ap (λ (m : ℕ). option_or (meaning new q) (meaning (labels m (drop (i + 1) lines)) q)) en ∙ grown old new (label_at n item.says) (labels (reach n item.says) (drop (i + 1) lines)) all step (λ p. ap (λ (ls : List Line). option_or (meaning old p) (meaning (labels n ls) p)) (sym cons) ∙ before p) q
+    ap (λ (m : ℕ). option_or (meaning new q) (meaning (labels m (drop (i + 1) lines)) q)) en ∙ grown old new (label_at n item.says) (labels (syllable_after_card n item.says) (drop (i + 1) lines)) all step (λ p. ap (λ (ls : List Line). option_or (meaning old p) (meaning (labels n ls) p)) (sym cons) ∙ before p) q
 
 pub entries_grown : (old new : Bool) (lines : List Line) (item : Line) (i : ℕ) (q : List ℕ) (all : Bool) → i < length lines → item ≡ get_or lines i item → new ≡ (old || names_entry q item.says) → (old || list_any (λ (l : Line). names_entry q l.says) (drop i lines)) ≡ all → (new || list_any (λ (l : Line). names_entry q l.says) (drop (i + 1) lines)) ≡ all
 entries_grown old new lines item i q all lt is step before =
@@ -83,7 +83,7 @@ pub none_held : (held : List Labels) (l : Line) (more all : List Line) → HeldS
 none_held held l more all h begins = (h.0, h.1, ap (λ (rest : List (List Line)). h.0 ++ rest) (sym (not_begun l.says (own more) (cards_of_segments more) begins)) ∙ h.2)
 
 -- a label's syllable is that of the segment's own cards
-pub syllable_is : (held : List Labels) (cards : List (List Line)) (n : ℕ) (q : List ℕ) → HoldLabels held cards → syllable_of (slice_get held n) q ≡ meaning (labels 0 (unwrap_or (slice_get cards n) [])) q
+pub syllable_is : (held : List Labels) (cards : List (List Line)) (n : ℕ) (q : List ℕ) → HoldLabels held cards → label_syllable (slice_get held n) q ≡ meaning (labels 0 (unwrap_or (slice_get cards n) [])) q
 syllable_is [] [] n q h = refl
 syllable_is [] (d ∷ cards) n q h = absurd h
 syllable_is (x ∷ held) [] n q h = absurd h
@@ -106,11 +106,11 @@ behind_length (AddedEntry m) out new e = ap length e ∙ ap length (append-nil o
 abbrev answered : List ℕ → List ℕ → Result (List ℕ × List ℕ) Refusal
 answered syllables entries = Ok (syllables, entries)
 
-put_rest : (added : Added) (out new : List ℕ) → new ≡ out ++ laid_added (length out) added → (r : Result Content Refusal) → put_behind out (r >>= λ rest. Ok (with_added added rest)) ≡ put_behind new r
+put_rest : (added : Added) (out new : List ℕ) → new ≡ out ++ laid_added (length out) added → (r : Result SegmentContent Refusal) → put_behind out (r >>= λ rest. Ok (with_added added rest)) ≡ put_behind new r
 put_rest (AddedOperator op) out new e (Ok c) =
     let len = behind_length (AddedOperator op) out new e in
-    let words : out ++ (laid_one (length out) op ++ laid (next (length out) op) c.operators) ≡ new ++ laid (length new) c.operators =
-    sym (append_assoc out (laid_one (length out) op) (laid (next (length out) op) c.operators)) ∙ ap (λ (z : List ℕ). z ++ laid (next (length out) op) c.operators) (sym e) ∙ ap (λ (k : ℕ). new ++ laid k c.operators) (sym len) in
+    let words : out ++ (laid_one (length out) op ++ laid (after_operator (length out) op) c.operators) ≡ new ++ laid (length new) c.operators =
+    sym (append_assoc out (laid_one (length out) op) (laid (after_operator (length out) op) c.operators)) ∙ ap (λ (z : List ℕ). z ++ laid (after_operator (length out) op) c.operators) (sym e) ∙ ap (λ (k : ℕ). new ++ laid k c.operators) (sym len) in
     ap (λ (z : List ℕ). answered z c.entries) words
 put_rest (AddedEntry m) out new e (Ok c) = let same : new ≡ out = e ∙ append-nil out in ap (λ (z : List ℕ). put_behind z (Ok c)) (sym same)
 put_rest (AddedOperator op) out new e (Err refusal) = refl

@@ -6,7 +6,7 @@ use Rattle.b67_model.specs.State as state
 use Rattle.b67_model.specs.Program.{Program}
 use Rattle.b67_codefile.specs.declared.file.Segment.{Segment}
 use Rattle.b67_codefile.specs.declared.file.Codefile.{Codefile}
-use Rattle.b67_codefile.specs.Spelling.{IsSegment, IsRow, IsWithin, HasNoEntries}
+use Rattle.b67_codefile.specs.Spelling.{IsFileSegment, IsRow, IsWithin, HasNoEntries}
 use Rattle.b67_codefile.specs.Meaning.{segment_of, program_of}
 use Rattle.b67_model_text.specs.declared.assembly.Line.{Line}
 use Rattle.b67_model_text.specs.Answers.{Answer, ◌>>=◌, ◌>>◌, needs, or_reason}
@@ -36,7 +36,7 @@ has_entry_card lines = list_any (λ l. asm.says_entry l.says) lines
 
 -- the segment of these own cards
 abbrev pub SegmentPut : Result Segment AsmFault → Result asm.Part Refusal → List Line → Type 0
-SegmentPut (Ok s) answer own = (answer ≡ Ok (asm.CodePart (segment_of s))) × IsSegment s × (has_entry_card own ≡ false → s.entries ≡ [])
+SegmentPut (Ok s) answer own = (answer ≡ Ok (asm.CodePart (segment_of s))) × IsFileSegment s × (has_entry_card own ≡ false → s.entries ≡ [])
 SegmentPut (Err (Card card reason)) answer own = answer ≡ Err (record { card = card; reason = reason })
 SegmentPut (Err Memory) answer own = Unit {0}
 
@@ -49,14 +49,14 @@ RowPartPut (Err Memory) answer = Unit {0}
 pub record Grows (f : Codefile) : Type 0 where
   pub version : (f.version ≡ 1) ⊎ (f.version ≡ 2)
   pub count : length f.segments + length f.rows ≤ 255
-  pub segments : AllByRecursion IsSegment f.segments
+  pub segments : AllByRecursion IsFileSegment f.segments
   pub rows : AllByRecursion IsRow f.rows
   pub plain : f.version ≡ 1 → AllByRecursion HasNoEntries f.segments
 
 -- a codefile with a program behind it
-abbrev pub with_program : Codefile → Result Program Refusal → Result Program Refusal
-with_program f (Ok p) = Ok (record { segments = map segment_of f.segments ++ p.segments; rows = map contents f.rows ++ p.rows })
-with_program f (Err refusal) = Err refusal
+abbrev pub program_after : Codefile → Result Program Refusal → Result Program Refusal
+program_after f (Ok p) = Ok (record { segments = map segment_of f.segments ++ p.segments; rows = map contents f.rows ++ p.rows })
+program_after f (Err refusal) = Err refusal
 
 -- a part is put behind a codefile
 abbrev pub Extends : asm.Part → Codefile → Codefile → Type 0

@@ -9,7 +9,7 @@ use Rattle.b67_model_text.specs.declared.assembly.Statement as statement
 use Rattle.b67_model_text.specs.declared.assembly.Statement.TheVariants as statements
 use Rattle.b67_model_text.specs.Answers.{Answer, ◌>>=◌}
 use Rattle.b67_model_text.specs.Deck.{Refusal}
-use Rattle.b67_model_text.specs.Encoding.{laid_one, laid, filling, packed}
+use Rattle.b67_model_text.specs.Encoding.{laid_one, laid, filling, packed_words}
 use Rattle.b67_model_text.specs.Asm as asm
 use Rattle.b67_asm.specs.declared.fault.AsmFault.{AsmFault}
 use Rattle.b67_asm.specs.declared.fault.AsmFault.TheVariants as faults
@@ -25,7 +25,7 @@ OperatorPut (Err Memory) answer old new = Unit {0}
 
 -- the entry is put among the others, or the card is refused
 abbrev pub EntryPut : Result ⊤ Refused → Answer asm.Added → List ℕ → List ℕ → Type 0
-EntryPut (Ok done) answer old new = (n : ℕ) × (answer ≡ Ok (asm.AddedEntry n)) × (new ≡ asm.in_order n old)
+EntryPut (Ok done) answer old new = (n : ℕ) × (answer ≡ Ok (asm.AddedEntry n)) × (new ≡ asm.inserted_in_order n old)
 EntryPut (Err (Reason r)) answer old new = answer ≡ Err r
 EntryPut (Err Memory) answer old new = Unit {0}
 
@@ -62,7 +62,7 @@ LinePut (Err (Reason r)) answer l old new entries entries' = answer ≡ Err r
 LinePut (Err Memory) answer l old new entries entries' = Unit {0}
 
 -- the syllables of a segment behind these, and its entries
-abbrev pub put_behind : List ℕ → Result asm.Content Refusal → Result (List ℕ × List ℕ) Refusal
+abbrev pub put_behind : List ℕ → Result asm.SegmentContent Refusal → Result (List ℕ × List ℕ) Refusal
 put_behind out (Ok content) = Ok (out ++ laid (length out) content.operators, content.entries)
 put_behind out (Err refusal) = Err refusal
 
@@ -74,12 +74,12 @@ ContentPut (Err faults.Memory) answer count out entries = Unit {0}
 
 -- the code of these syllables
 pub record IsSegmentCode (words : List Tagged) (syllables : List ℕ) (count : ℕ) : Type 0 where
-  pub code : contents words ≡ packed syllables
+  pub code : contents words ≡ packed_words syllables
   pub tags : AllByRecursion (HasTag 3) words
   pub few : length words ≤ 8191
   pub some : 1 ≤ count → 1 ≤ length words
 
 abbrev pub CodePut : Result Coded AsmFault → Result (List ℕ × List ℕ) Refusal → ℕ → Type 0
-CodePut (Ok coded) answer count = (syllables : List ℕ) × (entries : List ℕ) × (answer ≡ Ok (syllables, entries)) × IsSegmentCode coded.code syllables count × (coded.entries ≡ map asm.place_bits entries)
+CodePut (Ok coded) answer count = (syllables : List ℕ) × (entries : List ℕ) × (answer ≡ Ok (syllables, entries)) × IsSegmentCode coded.code syllables count × (coded.entries ≡ map asm.syllable_bits entries)
 CodePut (Err (faults.Card card reason)) answer count = answer ≡ Err (record { card = card; reason = reason })
 CodePut (Err faults.Memory) answer count = Unit {0}

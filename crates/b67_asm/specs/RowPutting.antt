@@ -23,7 +23,7 @@ abbrev pub checked_values : ℕ → List (Option ℕ) → Answer (List ℕ)
 checked_values n values = needs (not (list_any (λ v. not (asm.is_word v)) values)) 3 >> (needs (nat_le (n + length values) 65535) 7 >> Ok (map asm.value_in values))
 
 abbrev pub line_words : asm.Names → ℕ → Line → Answer (List ℕ)
-line_words names n l = l.says >>= asm.values_of names n
+line_words names n l = l.says >>= asm.row_values names n
 
 abbrev pub words_behind : List ℕ → Result (List ℕ) Refusal → Result (List ℕ) Refusal
 words_behind out (Ok words) = Ok (out ++ words)

@@ -14,9 +14,9 @@ use Rattle.b67_asm.specs.declared.names.Names.{Names}
 use Rattle.b67_asm.specs.declared.operator.Scope.{Scope}
 
 -- a label's syllable, where the segment is there
-abbrev pub syllable_of : Option Labels → List ℕ → Option ℕ
-syllable_of None label = None
-syllable_of (Some labels) label = asm.meaning (label_entries labels.places.entries) label
+abbrev pub label_syllable : Option Labels → List ℕ → Option ℕ
+label_syllable None label = None
+label_syllable (Some labels) label = asm.meaning (label_entries labels.places.entries) label
 
 -- an ENTRY card names a label, and it isn't at 0:0
 abbrev pub is_entry_of : Option Labels → List ℕ → Bool
@@ -26,7 +26,7 @@ is_entry_of (Some labels) label = is_some (asm.meaning (label_entries labels.ent
 abbrev pub names_in : Names → asm.Names
 names_in names = record {
   means = λ name. asm.meaning (name_entries names.meanings.entries) name;
-  label = λ number label. syllable_of (slice_get names.segments.items number) label;
+  label = λ number label. label_syllable (slice_get names.segments.items number) label;
   entry = λ number label. is_entry_of (slice_get names.segments.items number) label;
 }
 
@@ -35,8 +35,8 @@ scope_of x = record { names = names_in x.names.now; segments = x.segments; level
 
 -- the operator that fits or not, or the reason of 3 to 5
 abbrev pub IsOperator : Result (Option Op) ℕ → asm.Scope → ℕ → Option (List ℕ) → Sketch → Type 0
-IsOperator (Ok o) x n label sketch = asm.operator_of x n label sketch ≡ (asm.fitted n o >>= asm.entered x.names sketch)
-IsOperator (Err r) x n label sketch = asm.operator_of x n label sketch ≡ Err r
+IsOperator (Ok o) x n label sketch = asm.card_operator x n label sketch ≡ (asm.fitted n o >>= asm.entered x.names sketch)
+IsOperator (Err r) x n label sketch = asm.card_operator x n label sketch ≡ Err r
 
 -- what the operators of these cards may name
 abbrev pub scope_at : asm.Names → ℕ → ℕ → List Line → asm.Scope

@@ -267,7 +267,7 @@ pub fn put_part<'a>(
     requires grows { Grows file.old }
     requires small { length own.now < 2 ^ 31 }
     requires plain { file.old.version ≡ 1 → has_entry_card own.now ≡ false }
-    ensures { PartPut result (asm.part_of (names_in names.now) segments (length file.old.segments) (length file.old.rows) line.now.number line.now.says own.now) line.now file.old file.new }
+    ensures { PartPut result (asm.program_part (names_in names.now) segments (length file.old.segments) (length file.old.rows) line.now.number line.now.says own.now) line.now file.old file.new }
 {
     match &line.says {
         Err(reason) => Err(AsmFault::Card {

@@ -4,7 +4,7 @@ ghost use Rattle.b67_word.specs.Tagged.{contents};
 ghost use Rattle.std.specs.List.{AllByRecursion};
 ghost use Rattle.b67_codefile.specs.Spelling.{HasTag};
 ghost use Rattle.b67_model.specs.Encoding.{has_bits};
-ghost use Rattle.b67_model_text.specs.Encoding.{filling, literal_part, laid_one, packed};
+ghost use Rattle.b67_model_text.specs.Encoding.{filling, literal_part, laid_one, packed_words};
 
 use arrayvec::ArrayVec;
 use b67_model::Op;
@@ -63,7 +63,7 @@ fn word_bits(a: u8, b: u8, c: u8, d: u8, e: u8, f: u8) -> u64
 // The words of code, six syllables to a word.
 #[tactic(auto, using(crate::proofs::Six::six_more, crate::proofs::Six::no_six))]
 pub fn pack(alloc: Global, syllables: &[u8]) -> Result<Words, AllocError>
-    ensures code { IfOk result (λ words. contents words ≡ packed syllables.now) }
+    ensures code { IfOk result (λ words. contents words ≡ packed_words syllables.now) }
     ensures tag { IfOk result (λ words. AllByRecursion (HasTag 3) words) }
     ensures most { IfOk result (λ words. 6 * length words ≤ length syllables.now) }
     ensures least { IfOk result (λ words. length syllables.now < 6 * length words + 6) }

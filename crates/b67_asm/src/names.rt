@@ -3,7 +3,7 @@ ghost use Rattle.std.specs.Prelude.{◌≡◌, ◌+◌, ◌<◌, ◌≤◌, ◌^
 ghost use Rattle.std.specs.Option.{option_or};
 ghost use Rattle.std.specs.List.{cons_option, list_any};
 ghost use Rattle.b67_model.specs.Encoding.{syllable_after};
-ghost use Rattle.b67_model_text.specs.Asm.{meaning, definition, definitions, segments_behind, rows_behind, labels, label_at, behind, reach, names_entry, own, cards_of_segments, names_of};
+ghost use Rattle.b67_model_text.specs.Asm.{meaning, definition, definitions, segments_behind, rows_behind, labels, label_at, after_sketch, syllable_after_card, names_entry, own, cards_of_segments, names_of};
 ghost use Rattle.b67_asm.specs.Names.{name_entries, label_entries};
 ghost use Rattle.b67_asm.specs.Scope.{names_in, begins_segment, HoldLabels, HoldsLabels};
 
@@ -229,7 +229,7 @@ fn behind_operator(op: Op, n: u64) -> u64
 
 fn behind_sketch(sketch: &Sketch, n: u64) -> u64
     requires { n < 2 ^ 40 }
-    ensures exact { result ≡ behind sketch.now n }
+    ensures exact { result ≡ after_sketch sketch.now n }
     ensures near { result ≤ n + 12 }
 {
     match sketch {
@@ -245,7 +245,7 @@ fn behind_sketch(sketch: &Sketch, n: u64) -> u64
 
 fn reach(n: u64, line: &Line) -> u64
     requires { n < 2 ^ 40 }
-    ensures exact { result ≡ reach n line.now.says }
+    ensures exact { result ≡ syllable_after_card n line.now.says }
     ensures near { result ≤ n + 12 }
 {
     match &line.says {

@@ -66,7 +66,7 @@ fn entry_in<'a>(names: &Names<'a>, named: Option<Named>, label: &'a [u8]) -> boo
 
 /// A place's 16 bits, as a branch has them. None past the longest segment comes to code.
 pub fn place_bits(syllable: u64) -> u16
-    ensures { result ≡ asm.place_bits syllable }
+    ensures { result ≡ asm.syllable_bits syllable }
 {
     let place = place_at(syllable.min(6 * 8_191));
     u16::from(place.syllable) * 0x2000 + place.word
@@ -162,7 +162,7 @@ fn has_label<'a>(labels: &BTreeMap<&'a [u8], u64>, sketch: &'a Sketch) -> bool
 
 fn called(call: Call, bits: u16) -> Op
     requires { bits < 2 ^ 14 }
-    ensures exact { result ≡ asm.called call bits }
+    ensures exact { result ≡ asm.call_operator call bits }
     ensures fits { IsTrue (has_bits result) }
 {
     match call {
@@ -260,7 +260,7 @@ fn row_bits(segments: u32, number: u32, level: u8) -> Option<u16>
 }
 
 fn couple_call(call: Call, couple: Option<Couple>, level: u8) -> Option<Op>
-    ensures exact { result ≡ option_map (asm.called call) (option_and_then (couple_bits (min level 31)) couple) }
+    ensures exact { result ≡ option_map (asm.call_operator call) (option_and_then (couple_bits (min level 31)) couple) }
     ensures fits { IfSome result (λ op. IsTrue (has_bits op)) }
 {
     match bits_of(couple?, level.min(31)) {
@@ -279,7 +279,7 @@ fn is_first_label<'a>(labels: &BTreeMap<&'a [u8], u64>, n: u64, label: &'a Optio
 }
 
 fn row_operator<'a>(scope: &Scope<'_, 'a>, call: Call, row: &'a [u8]) -> Option<Op>
-    ensures exact { result ≡ option_map (asm.called call) (option_and_then (λ number. couple_bits (min scope.now.level 31) (record { level = 1; disp = scope.now.segments + number + 2 })) (asm.row_in ((names_in scope.now.names.now).means row.now))) }
+    ensures exact { result ≡ option_map (asm.call_operator call) (option_and_then (λ number. couple_bits (min scope.now.level 31) (record { level = 1; disp = scope.now.segments + number + 2 })) (asm.row_in ((names_in scope.now.names.now).means row.now))) }
     ensures fits { IfSome result (λ op. IsTrue (has_bits op)) }
 {
     match row_in(meaning_of(&scope.names.meanings, row)) {

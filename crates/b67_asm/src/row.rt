@@ -51,7 +51,7 @@ fn put_statement<'a>(
     into: &mut Words,
 ) -> Result<(), Refused>
     requires { length into.old ≤ 65535 }
-    ensures { WordsPut result (asm.values_of (names_in names.now) (length into.old) statement.now) into.old into.new }
+    ensures { WordsPut result (asm.row_values (names_in names.now) (length into.old) statement.now) into.old into.new }
 {
     match statement {
         Statement::Values { first, more } => put_checked(*first, more.as_slice(), into),

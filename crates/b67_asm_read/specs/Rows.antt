@@ -4,8 +4,8 @@ use Rattle.std.specs.Prelude.{◌≡◌, ℕ, Bool, true, false, List, ◌++◌,
 use Rattle.b67_model_text.specs.declared.assembly.Mnemonic.{Mnemonic}
 
 -- a row without where its key lies
-abbrev pub keyed : Bor (List ℕ) × Mnemonic → List ℕ × Mnemonic
-keyed row = (row.0.now, row.1)
+abbrev pub key_and_mnemonic : Bor (List ℕ) × Mnemonic → List ℕ × Mnemonic
+key_and_mnemonic row = (row.0.now, row.1)
 
 -- the values are appended, or one is malformed
 abbrev pub ValuesPut : {E : Type 0} → Result Bool E → Option (List (Option ℕ)) → List (Option ℕ) → List (Option ℕ) → Type 0

@@ -1,7 +1,7 @@
 // Numbers on assembly cards.
 ghost use Rattle.std.specs.Prelude.{◌≡◌, ◌+◌, ◌*◌, ◌%◌, ◌^◌, ◌<◌, ◌≤◌, IfSome};
 ghost use Rattle.b67_model_text.specs.Hex.{digit_value};
-ghost use Rattle.b67_model_text.specs.Statements.{numeral_up_to, negative_bits, digit_bits, hex_bits, bits_in};
+ghost use Rattle.b67_model_text.specs.Statements.{numeral_up_to, negative_bits, digit_bits, hex_bits, literal_bits};
 ghost use Rattle.b67_asm_read.specs.Bounds.{IfInRange};
 
 use b67_card::{are_hex_digits, digit_value, natural};
@@ -54,7 +54,7 @@ fn hex_bits(digits: &[u8]) -> Option<Option<u64>>
 
 // The bits of a whole number, or of # and twelve hexadecimal digits.
 pub fn bits_in(word: &[u8]) -> Option<Option<u64>>
-    ensures exact { result ≡ bits_in word.now }
+    ensures exact { result ≡ literal_bits word.now }
     ensures within { IfInRange result (λ n. n < 2 ^ 48) }
 {
     match word {

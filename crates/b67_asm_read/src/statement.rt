@@ -5,7 +5,7 @@ ghost use Rattle.b67_model_text.specs.declared.assembly.Mnemonic.TheVariants as 
 ghost use Rattle.b67_model_text.specs.Answers.{or_reason};
 ghost use Rattle.b67_model_text.specs.Command.{row_of, parted};
 ghost use Rattle.b67_model_text.specs.Statements as spec;
-ghost use Rattle.b67_asm_read.specs.Rows.{keyed, ValuesPut};
+ghost use Rattle.b67_asm_read.specs.Rows.{key_and_mnemonic, ValuesPut};
 
 use crate::number::{bits_in, numeral_up_to};
 use b67_card::{name, parted, words};
@@ -68,7 +68,7 @@ const MNEMONICS: [(&[u8], Mnemonic); 48] = [
 ];
 
 fn look_up(rows: &[(&[u8], Mnemonic)], word: &[u8]) -> Option<Mnemonic>
-    ensures { result ≡ row_of word.now (map keyed rows.now) }
+    ensures { result ≡ row_of word.now (map key_and_mnemonic rows.now) }
 {
     for row in rows {
         if row.0 == word {

@@ -7,7 +7,7 @@ use Rattle.std.proofs.lemmas.List.{get_or-drop, get_or-append-add}
 use Rattle.std.specs.Result.{result_ok}
 use Rattle.byteorder.specs.Endian.{big_from, big_bytes, IsRead, big_number}
 use Rattle.byteorder.specs.Numbers.{big_number-reads_back, length-bytes_high_first}
-use Rattle.b67_backing.specs.File.{LiesAt, SameBytesBut, Overwrites, Puts, KeepsBytes, resized, numbers_from, sectors_from, told_sectors, file_sectors}
+use Rattle.b67_backing.specs.File.{LiesAt, SameBytesBut, Overwrites, Puts, KeepsBytes, of_length, numbers_from, sectors_from, told_sectors, file_sectors}
 use Rattle.b67_backing.specs.Held.{Tells, Becomes, Changes, SameBut, Sets}
 use Rattle.b67_backing.proofs.Links.{times-cons}
 
@@ -112,8 +112,8 @@ sectors_same n old new low same = record {
 
 -- an empty file that was filled up, or couldn't be
 pub filled_kept : {D U E : Type 0} (tell : D → Option (List ℕ)) (old new : D) (result : Result U E) → Tells tell old (λ all. length all ≡ 0)
-    → OnOk result (Becomes tell old new (resized 15728640)) → OnErr result (Becomes tell old new (λ all. all)) → Changes tell old new KeepsBytes
-filled_kept tell old new (Ok u) empty set same = record { told = λ x e. (resized 15728640 x, set.told x e, record { kept = λ h. absurd (h (empty.told x e)) }) }
+    → OnOk result (Becomes tell old new (of_length 15728640)) → OnErr result (Becomes tell old new (λ all. all)) → Changes tell old new KeepsBytes
+filled_kept tell old new (Ok u) empty set same = record { told = λ x e. (of_length 15728640 x, set.told x e, record { kept = λ h. absurd (h (empty.told x e)) }) }
 filled_kept tell old new (Err x) empty set same = record { told = λ x e. (x, same.told x e, record { kept = λ h. refl }) }
 
 pub on_ok : {U E : Type 0} {P Q : Type 0} (result : Result U E) → OnOk result P → (P → Q) → OnOk result Q

@@ -2,7 +2,7 @@
 use Rattle.std.proofs.Common.{◌≡◌, ◌≢◌, ℕ, zero, suc, ◌+◌, ◌-◌, ◌≤◌, List, [], ◌∷◌, ◌++◌, length, length-append, take, drop, replicate, Option, refl, sym, ◌∙◌, ap, arith, subst, ⊎_elim, ◌==◌}
 use Rattle.std.proofs.lemmas.Bool.{cases_lt, cond-true, cond-false, eq-eqb, ne_eqb}
 use Rattle.std.proofs.lemmas.List.{length-take-le, length-replicate, append-nil, take-append-drop}
-use Rattle.b67_backing.specs.Shelf.{Table, Shelf, IsShelf, HasChain, AreChains, one, times, first, chain_of, others, taken, given, joined}
+use Rattle.b67_backing.specs.Shelf.{Table, Shelf, IsShelf, HasChain, AreChains, one, times, first, chain_of, others, taken, given, chains_joined}
 use Rattle.b67_backing.specs.Held.{Changes, Stores, sectors_for}
 use Rattle.b67_backing.specs.Extending.{extended, sectors_more, Prolongs, IsExtended}
 use Rattle.b67_backing.proofs.Links.{one-same, times-append, uses-split, AreChains-others, linked_within, Chain, chain_there, rest}
@@ -67,7 +67,7 @@ pub still_chain : (n x z : ℕ) (st : Shelf) → 1 ≤ n → x ≢ z → z ≡ f
 still_chain n x z st some apart e = chain_of-taken n z x st some e ∙ cond-false (z == x) (take n st.free) (chain_of x st.chains) (ne_eqb z x (λ q. apart (sym q)))
 
 -- free sectors that were taken are led on to
-pub led_on : (n x z : ℕ) (t : Table) (st : Shelf) → 1 ≤ n → x ≢ z → z ≡ first st.free → joined x z (taken n st) ≡ extended x n st
+pub led_on : (n x z : ℕ) (t : Table) (st : Shelf) → 1 ≤ n → x ≢ z → z ≡ first st.free → chains_joined x z (taken n st) ≡ extended x n st
 led_on n x z t st some apart e =
     let f : first (take n st.free) ≡ z = first_take n st.free some ∙ sym e in
     let a = still_chain n x z st some apart e in

@@ -6,7 +6,7 @@ use Rattle.std.proofs.lemmas.Option.{same_Some}
 use Rattle.std.proofs.lemmas.List.{get_or_past}
 use Rattle.std.proofs.Math.ListN.{length-set}
 use Rattle.b67_backing.specs.Shelf.{one, times, uses, first}
-use Rattle.b67_backing.specs.Links.{next_or, after, link_of, AreSome, AreLinksOf, link_at, AreInside, Follows, mark, AreLed, Runs, AreRuns, Walked, AreMarkedBy, NoChainOver, Reaches}
+use Rattle.b67_backing.specs.Links.{next_or, sector_after, link_of, AreSome, AreLinksOf, sector_link, AreInside, Follows, mark, AreLed, Runs, AreRuns, Walked, AreMarkedBy, NoChainOver, Reaches}
 use Rattle.b67_backing.proofs.Links.{one-same, one-other}
 use Rattle.b67_backing.proofs.Marks.{mark-true, mark-false, mark-same, mark-other, mark-is, mark-within, link-absent, link-here, link-there, after-later, chain_runs, pred, followed}
 
@@ -62,7 +62,7 @@ below-none i ((c ∷ cs) ∷ ks) some h = below_out 1 i (c ∷ cs) ks (h c (omeg
 -- the chain that a sector begins which follows none
 record Begins (n : ℕ) (ks : List (List ℕ)) : Type 0 where
   pub cs : List ℕ
-  pub links : (m : ℕ) → 1 ≤ times m (n ∷ cs) → link_of m ks ≡ after m (n ∷ cs)
+  pub links : (m : ℕ) → 1 ≤ times m (n ∷ cs) → link_of m ks ≡ sector_after m (n ∷ cs)
   pub within : (m : ℕ) → times m (n ∷ cs) ≤ uses m ks
   pub next : (i : ℕ) → below (n + 1) i ks ≡ below n i ks + times i (n ∷ cs)
 
@@ -120,14 +120,14 @@ follows_none n i p ((c ∷ cs) ∷ ks) some apart pos is other = ⊎_elim
 
 -- ---- the link of a sector of a chain isn't 0
 
-pub after-here : (n c : ℕ) (cs : List ℕ) → c ≡ n → after n (c ∷ cs) ≡ next_or n cs
+pub after-here : (n c : ℕ) (cs : List ℕ) → c ≡ n → sector_after n (c ∷ cs) ≡ next_or n cs
 after-here n c cs e = cond-true (c == n) _ _ (eq-eqb c n e)
 
 next_or_some : (n : ℕ) (cs : List ℕ) → 1 ≤ n → ((m : ℕ) → 1 ≤ times m cs → 1 ≤ m) → 1 ≤ next_or n cs
 next_or_some n [] low pos = low
 next_or_some n (d ∷ ds) low pos = pos d (omega (arith, one-same d))
 
-after_some : (n : ℕ) (k : List ℕ) → 1 ≤ n → ((m : ℕ) → 1 ≤ times m k → 1 ≤ m) → 1 ≤ times n k → 1 ≤ after n k
+after_some : (n : ℕ) (k : List ℕ) → 1 ≤ n → ((m : ℕ) → 1 ≤ times m k → 1 ≤ m) → 1 ≤ times n k → 1 ≤ sector_after n k
 after_some n [] low pos s = absurd (omega arith)
 after_some n (c ∷ cs) low pos s = ⊎_elim
     (λ e. omega (arith, after-here n c cs e, next_or_some n cs low (λ m t. pos m (omega arith))))
@@ -149,12 +149,12 @@ get-some (x ∷ xs) zero lt = refl
 get-some (x ∷ xs) (suc i) lt = get-some xs i (omega arith)
 
 module _ (links : List ℕ) (ks : List (List ℕ)) (a : AreLinksOf links ks) where
-  pub link_is : (n : ℕ) → 1 ≤ n → n ≤ length links → link_at links n ≡ link_of n ks
+  pub link_is : (n : ℕ) → 1 ≤ n → n ≤ length links → sector_link links n ≡ link_of n ks
   link_is n low high =
       let e : n - 1 + 1 ≡ n = omega arith in
-      same_Some (link_at links n) (link_of n ks) (sym (get-some links (n - 1) (omega arith)) ∙ a.each (n - 1) (omega arith) ∙ ap (λ (m : ℕ). Some (link_of m ks)) e)
+      same_Some (sector_link links n) (link_of n ks) (sym (get-some links (n - 1) (omega arith)) ∙ a.each (n - 1) (omega arith) ∙ ap (λ (m : ℕ). Some (link_of m ks)) e)
 
-  pub used : (n : ℕ) → 1 ≤ n → n ≤ length links → link_at links n ≢ 0 → 1 ≤ uses n ks
+  pub used : (n : ℕ) → 1 ≤ n → n ≤ length links → sector_link links n ≢ 0 → 1 ≤ uses n ks
   used n low high some = ⊎_elim
       (λ lt. absurd (some (link_is n low high ∙ link-absent n ks (omega arith))))
       (λ le. le)
@@ -167,7 +167,7 @@ module _ (links : List ℕ) (ks : List (List ℕ)) (a : AreLinksOf links ks) whe
       let (low, high) = a.inside p there in
       record { low = low; high = high; link = link_is p low high ∙ is; other = λ e. other (sym e); some = some }
 
-  pub head_chain : (n : ℕ) → 1 ≤ n → n ≤ length links → link_at links n ≢ 0 → ((p : ℕ) → Follows links p n → ⊥)
+  pub head_chain : (n : ℕ) → 1 ≤ n → n ≤ length links → sector_link links n ≢ 0 → ((p : ℕ) → Follows links p n → ⊥)
       → (cs : List ℕ) × Runs links n cs × ((m : ℕ) → times m (n ∷ cs) ≤ uses m ks) × ((i : ℕ) → below (n + 1) i ks ≡ below n i ks + times i (n ∷ cs))
   head_chain n low high some none =
       let b = begins n ks a.some a.apart (λ e. omega arith) (used n low high some) (λ p is other. none p (linked_follows p n is other (λ e. omega arith))) in (
@@ -184,13 +184,13 @@ module _ (links : List ℕ) (ks : List (List ℕ)) (a : AreLinksOf links ks) whe
       zero_out b = ⊎_elim (λ lt. omega arith) (λ le. absurd (let (l, h) = a.inside 0 (omega (arith, b.within 0, le)) in omega (arith, l))) (cases_lt (times 0 (n ∷ b.cs)) 1)
 
   -- no chain begins with a sector that has no link or follows another one
-  pub no_head : (n i : ℕ) → 1 ≤ n → n ≤ length links → (link_at links n ≡ 0) ⊎ ((p : ℕ) × Follows links p n) → below (n + 1) i ks ≡ below n i ks
+  pub no_head : (n i : ℕ) → 1 ≤ n → n ≤ length links → (sector_link links n ≡ 0) ⊎ ((p : ℕ) × Follows links p n) → below (n + 1) i ks ≡ below n i ks
   no_head n i low high why = ⊎_elim
       (λ z. below-absent n i ks a.some (unused z))
       (λ (p, f). (follows_none n i p ks a.some a.apart f.some (sym (link_is p f.low f.high) ∙ f.link) (λ e. f.other (sym e))).0)
       why
     where
-      unused : link_at links n ≡ 0 → uses n ks ≡ 0
+      unused : sector_link links n ≡ 0 → uses n ks ≡ 0
       unused z = ⊎_elim
           (λ lt. omega arith)
           (λ le. absurd (omega (arith, link_some n ks low (λ m s. (a.inside m s).0) le, link_is n low high, z)))
@@ -209,7 +209,7 @@ heading_first links seen many none = record {
   all = λ ks a i. none i ∙ sym (below-none i ks a.some (λ m s. (a.inside m s).0));
 }
 
-pub heading_past : (links : List ℕ) (n : ℕ) (seen : List Bool) → Heading links n seen → 1 ≤ n → n ≤ length links → (link_at links n ≡ 0) ⊎ ((p : ℕ) × Follows links p n) → Heading links (n + 1) seen
+pub heading_past : (links : List ℕ) (n : ℕ) (seen : List Bool) → Heading links n seen → 1 ≤ n → n ≤ length links → (sector_link links n ≡ 0) ⊎ ((p : ℕ) × Follows links p n) → Heading links (n + 1) seen
 heading_past links n seen h low high why = record {
   marked = h.marked;
   all = λ ks a i. h.all ks a i ∙ sym (no_head links ks a n i low high why);
@@ -229,7 +229,7 @@ runs_same links c (d ∷ cs) (e ∷ ds) r q =
     let same : e ≡ d = sym q.0 ∙ r.0 in
     ap (λ (xs : List ℕ). d ∷ xs) (runs_same links d cs ds r.3 (subst (λ (x : ℕ). Runs links x ds) same q.3)) ∙ ap (λ (x : ℕ). x ∷ ds) (sym same)
 
-pub heading_next : (links : List ℕ) (n : ℕ) (cs : List ℕ) (seen after : List Bool) → Heading links n seen → 1 ≤ n → n ≤ length links → link_at links n ≢ 0 → ((p : ℕ) → Follows links p n → ⊥) → Walked links n cs seen after → Heading links (n + 1) after
+pub heading_next : (links : List ℕ) (n : ℕ) (cs : List ℕ) (seen after : List Bool) → Heading links n seen → 1 ≤ n → n ≤ length links → sector_link links n ≢ 0 → ((p : ℕ) → Follows links p n → ⊥) → Walked links n cs seen after → Heading links (n + 1) after
 heading_next links n cs seen after h low high some none w = record {
   marked = record {
     chains = (n ∷ cs) ∷ h.marked.chains;
@@ -244,7 +244,7 @@ heading_next links n cs seen after h low high some none w = record {
       omega (arith, w.marks i, h.all ks a i, next i, ap (λ (xs : List ℕ). times i (n ∷ xs)) same);
 }
 
-pub heading_stuck : (links : List ℕ) (n : ℕ) (seen : List Bool) → Heading links n seen → 1 ≤ n → n ≤ length links → link_at links n ≢ 0 → ((p : ℕ) → Follows links p n → ⊥) → NoChainOver links n seen → (ks : List (List ℕ)) → AreLinksOf links ks → ⊥
+pub heading_stuck : (links : List ℕ) (n : ℕ) (seen : List Bool) → Heading links n seen → 1 ≤ n → n ≤ length links → sector_link links n ≢ 0 → ((p : ℕ) → Follows links p n → ⊥) → NoChainOver links n seen → (ks : List (List ℕ)) → AreLinksOf links ks → ⊥
 heading_stuck links n seen h low high some none stuck ks a =
     let (ds, r, within, next) = head_chain links ks a n low high some none in
     stuck ds r (λ i. omega (arith, h.all ks a i, next i, below-low (n + 1) i ks, a.apart i))
@@ -259,17 +259,17 @@ runs_some links [] r = tt
 runs_some links ([] ∷ ks) r = absurd r
 runs_some links ((c ∷ cs) ∷ ks) r = runs_some links ks r.1
 
-runs_after : (links : List ℕ) (n c : ℕ) (cs : List ℕ) → Runs links c cs → 1 ≤ times n (c ∷ cs) → after n (c ∷ cs) ≡ link_at links n
+runs_after : (links : List ℕ) (n c : ℕ) (cs : List ℕ) → Runs links c cs → 1 ≤ times n (c ∷ cs) → sector_after n (c ∷ cs) ≡ sector_link links n
 runs_after links n c [] r s = ⊎_elim
-    (λ e. after-here n c [] e ∙ sym (ap (link_at links) (sym e) ∙ r ∙ e))
+    (λ e. after-here n c [] e ∙ sym (ap (sector_link links) (sym e) ∙ r ∙ e))
     (λ ne. absurd (omega (arith, one-other n c (λ e. ne (sym e)))))
     (cases_eq c n)
 runs_after links n c (d ∷ cs) r s = ⊎_elim
-    (λ e. after-here n c (d ∷ cs) e ∙ sym (ap (link_at links) (sym e) ∙ r.0))
+    (λ e. after-here n c (d ∷ cs) e ∙ sym (ap (sector_link links) (sym e) ∙ r.0))
     (λ ne. after-later n c (d ∷ cs) ne ∙ runs_after links n d cs r.3 (omega (arith, one-other n c (λ e. ne (sym e)))))
     (cases_eq c n)
 
-runs_link : (links : List ℕ) (n : ℕ) (ks : List (List ℕ)) → AreRuns links ks → 1 ≤ uses n ks → link_of n ks ≡ link_at links n
+runs_link : (links : List ℕ) (n : ℕ) (ks : List (List ℕ)) → AreRuns links ks → 1 ≤ uses n ks → link_of n ks ≡ sector_link links n
 runs_link links n [] r s = absurd (omega arith)
 runs_link links n ([] ∷ ks) r s = absurd r
 runs_link links n ((c ∷ cs) ∷ ks) r s = ⊎_elim
@@ -290,7 +290,7 @@ are_links links seen some few m reaches = record {
   each = λ i lt. get-some links i lt ∙ ap Some (link_here i lt);
 }
   where
-    at_is : (i : ℕ) → link_at links (i + 1) ≡ get_or links i 0
+    at_is : (i : ℕ) → sector_link links (i + 1) ≡ get_or links i 0
     at_is i = let e : i + 1 - 1 ≡ i = omega arith in ap (λ (j : ℕ). get_or links j 0) e
 
     link_here : (i : ℕ) → i < length links → get_or links i 0 ≡ link_of (i + 1) m.chains
@@ -300,7 +300,7 @@ are_links links seen some few m reaches = record {
         ⊎_elim
         (λ e. sym (at_is i) ∙ e ∙ sym (link-absent (i + 1) m.chains none))
         (λ ne. absurd (omega (arith, reaches (i + 1) (omega arith) (omega arith) ne, m.marks (i + 1), none)))
-        (cases_eq (link_at links (i + 1)) 0))
+        (cases_eq (sector_link links (i + 1)) 0))
         (λ s. sym (at_is i) ∙ sym (runs_link links (i + 1) m.chains m.runs s))
         (cases_lt (uses (i + 1) m.chains) 1)
 
@@ -310,7 +310,7 @@ reached_all links seen ks a marks n low high some = omega (arith, marks n, used 
 -- ---- as the loop stands at a sector
 
 -- its link, at its index
-at_index : (links : List ℕ) (i : ℕ) → link_at links (i + 1) ≡ get_or links i 0
+at_index : (links : List ℕ) (i : ℕ) → sector_link links (i + 1) ≡ get_or links i 0
 at_index links i = let e : i + 1 - 1 ≡ i = omega arith in ap (λ (j : ℕ). get_or links j 0) e
 
 unled : (links : List ℕ) (led : List Bool) (n : ℕ) → AreLed links led → get_or led n false ≡ false → (p : ℕ) → Follows links p n → ⊥
@@ -357,7 +357,7 @@ led_on links led i inside lt some other l =
   where
     earlier : (n j : ℕ) → Follows links n j → j ≢ get_or links i 0 → n ≤ i + 1 → n ≤ i
     earlier n j f ne le = ⊎_elim
-        (λ e. absurd (ne (sym f.link ∙ ap (link_at links) e ∙ at_index links i)))
+        (λ e. absurd (ne (sym f.link ∙ ap (sector_link links) e ∙ at_index links i)))
         (λ q. omega (arith, q))
         (cases_eq n (i + 1))
 
@@ -367,7 +367,7 @@ led_past links led i why l = record { many = l.many; marked = later; only = l.on
     later : (n j : ℕ) → Follows links n j → n ≤ i + 1 → mark led j ≡ 1
     later n j f le = ⊎_elim
         (λ e.
-        let at : get_or links i 0 ≡ j = sym (at_index links i) ∙ ap (link_at links) (sym e) ∙ f.link in
+        let at : get_or links i 0 ≡ j = sym (at_index links i) ∙ ap (sector_link links) (sym e) ∙ f.link in
         ⊎_elim (λ z. absurd (f.some (sym at ∙ z))) (λ k. absurd (f.other (sym at ∙ k ∙ sym e))) why)
         (λ q. l.marked n j f (omega (arith, q)))
         (cases_eq n (i + 1))
@@ -378,7 +378,7 @@ next_low : (n most : ℕ) (cs : List ℕ) → n ≤ most → ((m : ℕ) → 1 �
 next_low n most [] le inside = le
 next_low n most (d ∷ ds) le inside = inside d (omega (arith, one-same d))
 
-after_low : (n most : ℕ) (k : List ℕ) → n ≤ most → ((m : ℕ) → 1 ≤ times m k → m ≤ most) → after n k ≤ most
+after_low : (n most : ℕ) (k : List ℕ) → n ≤ most → ((m : ℕ) → 1 ≤ times m k → m ≤ most) → sector_after n k ≤ most
 after_low n most [] le inside = omega arith
 after_low n most (c ∷ cs) le inside = ⊎_elim
     (λ e. omega (arith, after-here n c cs e, next_low n most cs le (λ m s. inside m (omega arith))))

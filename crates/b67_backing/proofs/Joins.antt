@@ -3,7 +3,7 @@ use Rattle.std.proofs.Common.{◌≡◌, ◌≢◌, ℕ, ◌+◌, ◌<◌, ◌�
 use Rattle.std.proofs.lemmas.Option.{slice_get_within}
 use Rattle.std.proofs.Math.ListN.{length-set}
 use Rattle.b67_core.proofs.Writes.{slice_get-set_same, slice_get-set_other}
-use Rattle.b67_backing.specs.Shelf.{Shelf, IsShelf, Linked, AreChains, one, times, uses, last, chain_of, others, joined}
+use Rattle.b67_backing.specs.Shelf.{Shelf, IsShelf, Linked, AreChains, one, times, uses, last, chain_of, others, chains_joined}
 use Rattle.b67_backing.proofs.Links.{one-apart, times-cons, times-append, times-last, linked_end, linked_within, Linked-set, AreChains-set, AreChains-others, uses-split, Chain, chain_there, rest}
 use Rattle.b67_backing.proofs.News.{chain_of-others}
 
@@ -59,7 +59,7 @@ module _ (links : List ℕ) (x y : ℕ) (st : Shelf) (free : ℕ) (s : IsShelf (
       let b : times (last x (rest (chain_of x st.chains))) (y ∷ rest (chain_of y st.chains)) ≡ 0 = subst (λ (c : List ℕ). times (last x (rest (chain_of x st.chains))) c ≡ 0) h.is (omega (arith, there, end_once, parts end)) in
       Linked-lead links x (rest (chain_of x st.chains)) y (rest (chain_of y st.chains)) k.linked h.linked a b
 
-  pub joins : IsShelf (record { links = slice_set links (last 0 (chain_of x st.chains)) y; free = free }) (joined x y st)
+  pub joins : IsShelf (record { links = slice_set links (last 0 (chain_of x st.chains)) y; free = free }) (chains_joined x y st)
   unfolding end
   joins =
       let l : last 0 (chain_of x st.chains) ≡ last x (rest (chain_of x st.chains)) = ap (last 0) k.is in

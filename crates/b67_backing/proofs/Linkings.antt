@@ -4,7 +4,7 @@ use Rattle.std.specs.List.{slice_get}
 use Rattle.std.proofs.lemmas.Bool.{cases_eq, cases_lt, cond-true, cond-false, eq-eqb, ne_eqb, lt-ltb, le-ltb, ltb-true, ltb-false}
 use Rattle.std.proofs.lemmas.Option.{same_Some}
 use Rattle.b67_backing.specs.Shelf.{Table, Shelf, IsShelf, Linked, AreChains, one, times, uses, row}
-use Rattle.b67_backing.specs.Links.{after, link_of, walk, free_sectors, or_itself, link_in, links_in}
+use Rattle.b67_backing.specs.Links.{sector_after, link_of, walk, free_sectors, or_itself, table_link, links_in}
 use Rattle.b67_backing.proofs.Links.{one-same, one-other, times-cons}
 use Rattle.b67_backing.proofs.Marks.{link-absent, link-here, link-there, after-later}
 use Rattle.b67_backing.proofs.Heads.{after-here}
@@ -28,7 +28,7 @@ itself n = refl
 pub other_next : (n d : ℕ) → d ≢ 0 → or_itself n d ≡ d
 other_next n d ne = cond-false (d == 0) _ _ (ne_eqb d 0 ne)
 
-linked_after : (links : List ℕ) (n c : ℕ) (cs : List ℕ) → Linked links c cs → times 0 cs ≡ 0 → 1 ≤ times n (c ∷ cs) → or_itself n (get_or links n 0) ≡ after n (c ∷ cs)
+linked_after : (links : List ℕ) (n c : ℕ) (cs : List ℕ) → Linked links c cs → times 0 cs ≡ 0 → 1 ≤ times n (c ∷ cs) → or_itself n (get_or links n 0) ≡ sector_after n (c ∷ cs)
 linked_after links n c [] l z s = ⊎_elim
     (λ e.
     let at : get_or links n 0 ≡ 0 = ap (λ (i : ℕ). get_or links i 0) (sym e) ∙ get_is links c 0 l in
@@ -52,7 +52,7 @@ chain_link links n ((c ∷ cs) ∷ ks) a z s = ⊎_elim
     (λ t. linked_after links n c cs a.0 (omega arith) t ∙ sym (link-here n (c ∷ cs) ks t))
     (cases_lt (times n (c ∷ cs)) 1)
 
-pub link_in_is : (t : Table) (st : Shelf) (n : ℕ) → IsShelf t st → 1 ≤ n → n < length t.links → link_in t n ≡ link_of n st.chains
+pub link_in_is : (t : Table) (st : Shelf) (n : ℕ) → IsShelf t st → 1 ≤ n → n < length t.links → table_link t n ≡ link_of n st.chains
 link_in_is t st n s low high =
     let free = free_is t st s in
     ⊎_elim
@@ -83,14 +83,14 @@ pub walk_over : (links : List ℕ) (n at free i total : ℕ) → free ≤ i → 
 walk_over links n at free i total le h = let k : free - i ≡ 0 = omega arith in le-ltb 0 total (omega (arith, h, ap (λ (j : ℕ). times n (walk links j at)) k))
 
 -- what a call answers that follows a link
-pub link_answers : (t : Table) (n next : ℕ) → nat_lt 0 (times n (free_sectors t)) ≡ false → slice_get t.links n ≡ Some next → link_in t n ≡ or_itself n next
+pub link_answers : (t : Table) (n next : ℕ) → nat_lt 0 (times n (free_sectors t)) ≡ false → slice_get t.links n ≡ Some next → table_link t n ≡ or_itself n next
 link_answers t n next free e =
     cond-true (times n (free_sectors t) == 0) _ _ (eq-eqb (times n (free_sectors t)) 0 (none (times n (free_sectors t)) free)) ∙ ap (or_itself n) (get_is t.links n next e)
   where
     none : (k : ℕ) → nat_lt 0 k ≡ false → k ≡ 0
     none k e = omega (arith, ltb-false 0 k e)
 
-pub free_answers : (t : Table) (n : ℕ) → nat_lt 0 (times n (free_sectors t)) ≡ true → link_in t n ≡ 0
+pub free_answers : (t : Table) (n : ℕ) → nat_lt 0 (times n (free_sectors t)) ≡ true → table_link t n ≡ 0
 free_answers t n free = cond-false (times n (free_sectors t) == 0) _ _ (ne_eqb (times n (free_sectors t)) 0 (some (times n (free_sectors t)) free))
   where
     some : (k : ℕ) → nat_lt 0 k ≡ true → k ≢ 0
@@ -118,14 +118,14 @@ map-at f (x ∷ xs) (suc k) lt = map-at f xs k (omega arith)
 
 pub links_in-length : (t : Table) (n : ℕ) → n + 1 ≡ length t.links → length (links_in t) ≡ n
 unfolding links_in
-links_in-length t n e = map-length (link_in t) (row 1 (length t.links - 1)) ∙ row-length 1 (length t.links - 1) ∙ (let m : length t.links - 1 ≡ n = omega arith in m)
+links_in-length t n e = map-length (table_link t) (row 1 (length t.links - 1)) ∙ row-length 1 (length t.links - 1) ∙ (let m : length t.links - 1 ≡ n = omega arith in m)
 
-pub links_in-at : (t : Table) (n k : ℕ) → n + 1 ≡ length t.links → k < n → get_or (links_in t) k 0 ≡ link_in t (k + 1)
+pub links_in-at : (t : Table) (n k : ℕ) → n + 1 ≡ length t.links → k < n → get_or (links_in t) k 0 ≡ table_link t (k + 1)
 unfolding links_in
 links_in-at t n k e lt =
     let long : k < length (row 1 (length t.links - 1)) = omega (arith, row-length 1 (length t.links - 1)) in
     let one : 1 + k ≡ k + 1 = omega arith in
-    map-at (link_in t) (row 1 (length t.links - 1)) k long ∙ ap (link_in t) (row-at 1 (length t.links - 1) k (omega arith) ∙ one)
+    map-at (table_link t) (row 1 (length t.links - 1)) k long ∙ ap (table_link t) (row-at 1 (length t.links - 1) k (omega arith) ∙ one)
 
 same_items : (xs ys : List ℕ) → length xs ≡ length ys → ((k : ℕ) → k < length ys → get_or xs k 0 ≡ get_or ys k 0) → xs ≡ ys
 same_items [] [] e h = refl

@@ -3,7 +3,7 @@ use Rattle.std.proofs.Common.{◌≡◌, ◌≢◌, ◌⊎◌, ℕ, zero, suc, �
 use Rattle.std.proofs.lemmas.Bool.{cases_Bool, cases_eq, cases_lt, cond-true, cond-false, ne_eqb, eq-eqb}
 use Rattle.std.proofs.lemmas.List.{get_or_past}
 use Rattle.b67_backing.specs.Shelf.{one, times, uses}
-use Rattle.b67_backing.specs.Links.{next_or, after, link_of, link_at, mark, Runs, Walked, NoChainOver}
+use Rattle.b67_backing.specs.Links.{next_or, sector_after, link_of, sector_link, mark, Runs, Walked, NoChainOver}
 use Rattle.b67_backing.proofs.Links.{one-same, one-other, times-cons, times-append}
 
 -- ---- marks
@@ -65,7 +65,7 @@ pub record Walking (links : List ℕ) (c at : ℕ) (old now : List Bool) : Type 
 once_more : (links : List ℕ) (c at : ℕ) (old now : List Bool) (w : Walking links c at old now) → at < length now → mark now at ≡ 0 → (i : ℕ) → mark (slice_set now at true) i ≡ mark old i + times i (w.before ++ at ∷ [])
 once_more links c at old now w lt z i = omega (arith, mark-more now at i lt z, w.marks i, times-append i w.before (at ∷ []))
 
-pub walking_next : (links : List ℕ) (c at next : ℕ) (old now : List Bool) → Walking links c at old now → at < length now → mark now at ≡ 0 → next ≡ link_at links at → next ≢ 0 → next ≢ at → next ≤ length links → length (slice_set now at true) ≡ length now → Walking links c next old (slice_set now at true)
+pub walking_next : (links : List ℕ) (c at next : ℕ) (old now : List Bool) → Walking links c at old now → at < length now → mark now at ≡ 0 → next ≡ sector_link links at → next ≢ 0 → next ≢ at → next ≤ length links → length (slice_set now at true) ≡ length now → Walking links c next old (slice_set now at true)
 walking_next links c at next old now w lt z is some other high len = record {
   before = w.before ++ at ∷ [];
   marks = once_more links c at old now w lt z;
@@ -84,7 +84,7 @@ walking_next links c at next old now w lt z is some other high len = record {
         let same : d ≡ next = sym q.0 ∙ sym is in
         (ys, e ∙ ap (λ (x : ℕ). w.before ++ at ∷ x ∷ ys) same ∙ sym (append_assoc w.before (at ∷ []) (next ∷ ys)), subst (λ (x : ℕ). Runs links x ys) same q.3)
 
-pub walking_done : (links : List ℕ) (c at : ℕ) (old now : List Bool) → Walking links c at old now → at < length now → mark now at ≡ 0 → link_at links at ≡ at → length (slice_set now at true) ≡ length now → (cs : List ℕ) × Walked links c cs old (slice_set now at true)
+pub walking_done : (links : List ℕ) (c at : ℕ) (old now : List Bool) → Walking links c at old now → at < length now → mark now at ≡ 0 → sector_link links at ≡ at → length (slice_set now at true) ≡ length now → (cs : List ℕ) × Walked links c cs old (slice_set now at true)
 walking_done links c at old now w lt z last len =
     let (cs, e, q) = w.on [] last in
     (cs, record { runs = q; marks = λ i. once_more links c at old now w lt z i ∙ ap (λ (ys : List ℕ). mark old i + times i ys) (sym e); many = len ∙ w.many })
@@ -94,7 +94,7 @@ walking_met links c at old now w met = λ cs r once.
     let (ys, e, q) = w.back cs r in
     omega (arith, w.marks at, met, once at, ap (times at) e, times-append at w.before (at ∷ ys), one-same at)
 
-pub walking_free : (links : List ℕ) (c at : ℕ) (old now : List Bool) → Walking links c at old now → link_at links at ≡ 0 → NoChainOver links c old
+pub walking_free : (links : List ℕ) (c at : ℕ) (old now : List Bool) → Walking links c at old now → sector_link links at ≡ 0 → NoChainOver links c old
 walking_free links c at old now w free = λ cs r once. let (ys, e, q) = w.back cs r in ends ys q
   where
     ends : (ys : List ℕ) → Runs links at ys → ⊥
@@ -110,20 +110,20 @@ pub link-absent : (p : ℕ) (ks : List (List ℕ)) → uses p ks ≡ 0 → link_
 link-absent p [] z = refl
 link-absent p (k ∷ ks) z = cond-true (times p k == 0) _ _ (eq-eqb (times p k) 0 (omega arith)) ∙ link-absent p ks (omega arith)
 
-pub link-here : (p : ℕ) (k : List ℕ) (ks : List (List ℕ)) → 1 ≤ times p k → link_of p (k ∷ ks) ≡ after p k
+pub link-here : (p : ℕ) (k : List ℕ) (ks : List (List ℕ)) → 1 ≤ times p k → link_of p (k ∷ ks) ≡ sector_after p k
 link-here p k ks s = cond-false (times p k == 0) _ _ (ne_eqb (times p k) 0 (λ e. omega arith))
 
 pub link-there : (p : ℕ) (k : List ℕ) (ks : List (List ℕ)) → times p k ≡ 0 → link_of p (k ∷ ks) ≡ link_of p ks
 link-there p k ks z = cond-true (times p k == 0) _ _ (eq-eqb (times p k) 0 z)
 
-pub after-first : (c : ℕ) (cs : List ℕ) → after c (c ∷ cs) ≡ next_or c cs
+pub after-first : (c : ℕ) (cs : List ℕ) → sector_after c (c ∷ cs) ≡ next_or c cs
 after-first c cs = cond-true (c == c) _ _ (eq-eqb c c refl)
 
-pub after-later : (p c : ℕ) (cs : List ℕ) → c ≢ p → after p (c ∷ cs) ≡ after p cs
+pub after-later : (p c : ℕ) (cs : List ℕ) → c ≢ p → sector_after p (c ∷ cs) ≡ sector_after p cs
 after-later p c cs ne = cond-false (c == p) _ _ (ne_eqb c p ne)
 
 -- the links that chains have run through them
-pub chain_runs : (links : List ℕ) (c : ℕ) (cs : List ℕ) → ((m : ℕ) → times m (c ∷ cs) ≤ 1) → times 0 (c ∷ cs) ≡ 0 → ((m : ℕ) → 1 ≤ times m (c ∷ cs) → link_at links m ≡ after m (c ∷ cs)) → Runs links c cs
+pub chain_runs : (links : List ℕ) (c : ℕ) (cs : List ℕ) → ((m : ℕ) → times m (c ∷ cs) ≤ 1) → times 0 (c ∷ cs) ≡ 0 → ((m : ℕ) → 1 ≤ times m (c ∷ cs) → sector_link links m ≡ sector_after m (c ∷ cs)) → Runs links c cs
 chain_runs links c [] once z is = is c (omega (arith, one-same c)) ∙ after-first c []
 chain_runs links c (d ∷ cs) once z is = (
   is c (omega (arith, one-same c)) ∙ after-first c (d ∷ cs),
@@ -136,7 +136,7 @@ chain_runs links c (d ∷ cs) once z is = (
 )
 
 -- a sector of a chain but the first follows another one
-pub pred : (n c : ℕ) (cs : List ℕ) → c ≢ n → ((m : ℕ) → times m (c ∷ cs) ≤ 1) → 1 ≤ times n (c ∷ cs) → (p : ℕ) × (after p (c ∷ cs) ≡ n) × (p ≢ n) × (1 ≤ times p (c ∷ cs))
+pub pred : (n c : ℕ) (cs : List ℕ) → c ≢ n → ((m : ℕ) → times m (c ∷ cs) ≤ 1) → 1 ≤ times n (c ∷ cs) → (p : ℕ) × (sector_after p (c ∷ cs) ≡ n) × (p ≢ n) × (1 ≤ times p (c ∷ cs))
 pred n c [] ne once s = absurd (omega (arith, one-other n c (λ e. ne (sym e))))
 pred n c (d ∷ cs) ne once s = ⊎_elim
     (λ e. (c, after-first c (d ∷ cs) ∙ e, ne, omega (arith, one-same c)))
@@ -146,7 +146,7 @@ pred n c (d ∷ cs) ne once s = ⊎_elim
     (cases_eq d n)
 
 -- what follows a sector in a chain is in the chain behind it
-pub followed : (p n c : ℕ) (cs : List ℕ) → after p (c ∷ cs) ≡ n → p ≢ n → n ≢ 0 → 1 ≤ times n cs
+pub followed : (p n c : ℕ) (cs : List ℕ) → sector_after p (c ∷ cs) ≡ n → p ≢ n → n ≢ 0 → 1 ≤ times n cs
 followed p n c [] is other some = ⊎_elim
     (λ e. absurd (other (sym (cond-true (c == p) _ _ (eq-eqb c p e)) ∙ is)))
     (λ ne. absurd (some (sym is ∙ after-later p c [] ne)))

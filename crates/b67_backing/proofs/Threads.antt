@@ -5,7 +5,7 @@ use Rattle.std.proofs.lemmas.Bool.{cases_eq, cases_lt, cond-true, cond-false, eq
 use Rattle.std.proofs.Math.ListN.{length-set}
 use Rattle.std.proofs.lemmas.List.{length-replicate}
 use Rattle.b67_backing.specs.Shelf.{IsShelf, Linked, AreChains, one, times, uses, first}
-use Rattle.b67_backing.specs.Links.{link_of, AreSome, AreLinksOf, unlinked, links_in, link_at, Runs, AreRuns}
+use Rattle.b67_backing.specs.Links.{link_of, AreSome, AreLinksOf, unlinked, links_in, sector_link, Runs, AreRuns}
 use Rattle.b67_backing.proofs.Linkings.{links_in-same}
 use Rattle.b67_backing.proofs.Links.{one-same, one-other}
 use Rattle.b67_backing.proofs.Marks.{link-absent, link-here, link-there, chain_runs}
@@ -17,7 +17,7 @@ free_from links m = unlinked (m + 1) (drop m links)
 
 -- what the table tells of a sector
 abbrev pub told : List ℕ → ℕ → ℕ
-told links j = cond (link_at links j == 0) (first (free_from links j)) (cond (link_at links j == j) 0 (link_at links j))
+told links j = cond (sector_link links j == 0) (first (free_from links j)) (cond (sector_link links j == j) 0 (sector_link links j))
 
 -- the table tells of the sectors above m
 pub record Threads (links table : List ℕ) (m head free : ℕ) : Type 0 where
@@ -27,7 +27,7 @@ pub record Threads (links table : List ℕ) (m head free : ℕ) : Type 0 where
   pub done : (j : ℕ) → m < j → j ≤ length links → get_or table j 0 ≡ told links j
   pub rest : (j : ℕ) → j ≤ m → get_or table j 0 ≡ 0
 
-here_at : (links : List ℕ) (m : ℕ) → link_at links (m + 1) ≡ get_or links m 0
+here_at : (links : List ℕ) (m : ℕ) → sector_link links (m + 1) ≡ get_or links m 0
 here_at links m = let e : m + 1 - 1 ≡ m = omega arith in ap (λ (i : ℕ). get_or links i 0) e
 
 free_here : (links : List ℕ) (m : ℕ) → m < length links → free_from links m ≡ cond (get_or links m 0 == 0) ((m + 1) ∷ free_from links (m + 1)) (free_from links (m + 1))
@@ -72,7 +72,7 @@ threads_free links table m head free lt z t =
     at_here : free_from links m ≡ (m + 1) ∷ free_from links (m + 1) → get_or (slice_set table (m + 1) head) (m + 1) 0 ≡ told links (m + 1)
     at_here here =
         let inside : m + 1 < length table = omega (arith, t.many) in
-        rw get_or-set_same (t.head_is ∙ sym (cond-true (link_at links (m + 1) == 0) _ _ (eq-eqb (link_at links (m + 1)) 0 (here_at links m ∙ z))))
+        rw get_or-set_same (t.head_is ∙ sym (cond-true (sector_link links (m + 1) == 0) _ _ (eq-eqb (sector_link links (m + 1)) 0 (here_at links m ∙ z))))
 
 -- a sector of a chain
 pub threads_linked : (links table : List ℕ) (m head free : ℕ) → m < length links → get_or links m 0 ≢ 0 → get_or links m 0 ≢ m + 1 → Threads links table (m + 1) head free → Threads links (slice_set table (m + 1) (get_or links m 0)) m head free
@@ -93,8 +93,8 @@ threads_linked links table m head free lt some other t =
     at_here =
         let inside : m + 1 < length table = omega (arith, t.many) in
         rw get_or-set_same (sym (here_at links m)
-        ∙ sym (cond-false (link_at links (m + 1) == m + 1) _ _ (ne_eqb (link_at links (m + 1)) (m + 1) (λ e. other (sym (here_at links m) ∙ e))))
-        ∙ sym (cond-false (link_at links (m + 1) == 0) _ _ (ne_eqb (link_at links (m + 1)) 0 (λ e. some (sym (here_at links m) ∙ e)))))
+        ∙ sym (cond-false (sector_link links (m + 1) == m + 1) _ _ (ne_eqb (sector_link links (m + 1)) (m + 1) (λ e. other (sym (here_at links m) ∙ e))))
+        ∙ sym (cond-false (sector_link links (m + 1) == 0) _ _ (ne_eqb (sector_link links (m + 1)) 0 (λ e. some (sym (here_at links m) ∙ e)))))
 
 -- the last sector of a chain
 pub threads_last : (links table : List ℕ) (m head free : ℕ) → m < length links → get_or links m 0 ≡ m + 1 → Threads links table (m + 1) head free → Threads links table m head free
@@ -114,12 +114,12 @@ threads_last links table m head free lt last t =
   where
     at_here : told links (m + 1) ≡ 0
     at_here =
-        cond-false (link_at links (m + 1) == 0) _ _ (ne_eqb (link_at links (m + 1)) 0 (λ e. let z : get_or links m 0 ≡ 0 = sym (here_at links m) ∙ e in omega arith))
-        ∙ cond-true (link_at links (m + 1) == m + 1) _ _ (eq-eqb (link_at links (m + 1)) (m + 1) (here_at links m ∙ last))
+        cond-false (sector_link links (m + 1) == 0) _ _ (ne_eqb (sector_link links (m + 1)) 0 (λ e. let z : get_or links m 0 ≡ 0 = sym (here_at links m) ∙ e in omega arith))
+        ∙ cond-true (sector_link links (m + 1) == m + 1) _ _ (eq-eqb (sector_link links (m + 1)) (m + 1) (here_at links m ∙ last))
 
 -- ---- the whole table
 
-all_runs : (links : List ℕ) (ks : List (List ℕ)) → AreSome ks → ((n : ℕ) → uses n ks ≤ 1) → uses 0 ks ≡ 0 → ((n : ℕ) → 1 ≤ uses n ks → link_at links n ≡ link_of n ks) → AreRuns links ks
+all_runs : (links : List ℕ) (ks : List (List ℕ)) → AreSome ks → ((n : ℕ) → uses n ks ≤ 1) → uses 0 ks ≡ 0 → ((n : ℕ) → 1 ≤ uses n ks → sector_link links n ≡ link_of n ks) → AreRuns links ks
 all_runs links [] some apart z is = tt
 all_runs links ([] ∷ ks) some apart z is = absurd some
 all_runs links ((c ∷ cs) ∷ ks) some apart z is = (
@@ -191,16 +191,16 @@ module _ (links table : List ℕ) (head free : ℕ) (t : Threads links table 0 h
       free_one z more =
           let cut : unlinked (m + 1) (l ∷ ls) ≡ (m + 1) ∷ unlinked (m + 1 + 1) ls = cond-true (l == 0) _ _ (eq-eqb l 0 z) in
           let next : slice_get whole (m + 1) ≡ Some (first (unlinked (m + 1 + 1) ls)) =
-          at_sector (m + 1) (omega arith) (omega arith) ∙ ap Some (cond-true (link_at links (m + 1) == 0) _ _ (eq-eqb (link_at links (m + 1)) 0 (here_at links m ∙ same ∙ z)) ∙ ap (λ (xs : List ℕ). first (unlinked (m + 1 + 1) xs)) behind) in
+          at_sector (m + 1) (omega arith) (omega arith) ∙ ap Some (cond-true (sector_link links (m + 1) == 0) _ _ (eq-eqb (sector_link links (m + 1)) 0 (here_at links m ∙ same ∙ z)) ∙ ap (λ (xs : List ℕ). first (unlinked (m + 1 + 1) xs)) behind) in
           rw cut (rw cut at h, more next)
 
   linked_run : (c : ℕ) (cs : List ℕ) → Runs links c cs → ((m : ℕ) → 1 ≤ times m (c ∷ cs) → (1 ≤ m) × (m ≤ length links)) → Linked whole c cs
   linked_run c [] r inside =
       let (low, high) = inside c (omega (arith, one-same c)) in
-      at_sector c low high ∙ ap Some (cond-false (link_at links c == 0) _ _ (ne_eqb (link_at links c) 0 (λ e. omega (arith, e, r))) ∙ cond-true (link_at links c == c) _ _ (eq-eqb (link_at links c) c r))
+      at_sector c low high ∙ ap Some (cond-false (sector_link links c == 0) _ _ (ne_eqb (sector_link links c) 0 (λ e. omega (arith, e, r))) ∙ cond-true (sector_link links c == c) _ _ (eq-eqb (sector_link links c) c r))
   linked_run c (d ∷ cs) r inside =
       let (low, high) = inside c (omega (arith, one-same c)) in (
-        at_sector c low high ∙ ap Some (cond-false (link_at links c == 0) _ _ (ne_eqb (link_at links c) 0 (λ e. r.2 (sym r.0 ∙ e))) ∙ cond-false (link_at links c == c) _ _ (ne_eqb (link_at links c) c (λ e. r.1 (sym r.0 ∙ e))) ∙ r.0),
+        at_sector c low high ∙ ap Some (cond-false (sector_link links c == 0) _ _ (ne_eqb (sector_link links c) 0 (λ e. r.2 (sym r.0 ∙ e))) ∙ cond-false (sector_link links c == c) _ _ (ne_eqb (sector_link links c) c (λ e. r.1 (sym r.0 ∙ e))) ∙ r.0),
         linked_run d cs r.3 (λ m s. inside m (omega arith)),
       )
 
@@ -218,15 +218,15 @@ module _ (links table : List ℕ) (head free : ℕ) (t : Threads links table 0 h
   once_each : (i : ℕ) → 1 ≤ i → i ≤ length links → times i (unlinked 1 links) + uses i ks ≡ 1
   once_each i low high =
       let e : 1 + (i - 1) ≡ i = omega arith in
-      let count : times i (unlinked 1 links) ≡ cond (link_at links i == 0) 1 0 = ap (λ (j : ℕ). times j (unlinked 1 links)) (sym e) ∙ times-unlinked 1 (i - 1) links (omega arith) in
+      let count : times i (unlinked 1 links) ≡ cond (sector_link links i == 0) 1 0 = ap (λ (j : ℕ). times j (unlinked 1 links)) (sym e) ∙ times-unlinked 1 (i - 1) links (omega arith) in
       ⊎_elim
       (λ lt.
       let none : uses i ks ≡ 0 = omega arith in
-      let z : link_at links i ≡ 0 = link_is links ks a i low high ∙ link-absent i ks none in
-      omega (arith, count, cond-true {A = ℕ} (link_at links i == 0) 1 0 (eq-eqb (link_at links i) 0 z), none))
+      let z : sector_link links i ≡ 0 = link_is links ks a i low high ∙ link-absent i ks none in
+      omega (arith, count, cond-true {A = ℕ} (sector_link links i == 0) 1 0 (eq-eqb (sector_link links i) 0 z), none))
       (λ le.
-      let some : link_at links i ≢ 0 = λ z. omega (arith, z, link_is links ks a i low high, link_some i ks low (λ m s. (a.inside m s).0) le) in
-      omega (arith, count, cond-false {A = ℕ} (link_at links i == 0) 1 0 (ne_eqb (link_at links i) 0 some), a.apart i, le))
+      let some : sector_link links i ≢ 0 = λ z. omega (arith, z, link_is links ks a i low high, link_some i ks low (λ m s. (a.inside m s).0) le) in
+      omega (arith, count, cond-false {A = ℕ} (sector_link links i == 0) 1 0 (ne_eqb (sector_link links i) 0 some), a.apart i, le))
       (cases_lt (uses i ks) 1)
 
   pub shelf_of_links : IsShelf (record { links = slice_set table 0 head; free = free }) (record { free = unlinked 1 links; chains = ks })

@@ -21,8 +21,8 @@ pub record Puts (at : ℕ) (part old new : List ℕ) : Type 0 where
   pub within : at + length part ≤ length old → LiesAt at part new
 
 -- the bytes cut or filled up with zeros to a length
-abbrev pub resized : ℕ → List ℕ → List ℕ
-resized n bytes = take n bytes ++ replicate (n - length bytes) zero
+abbrev pub of_length : ℕ → List ℕ → List ℕ
+of_length n bytes = take n bytes ++ replicate (n - length bytes) zero
 
 -- bytes that are changed only if there were none
 pub record KeepsBytes (old new : List ℕ) : Type 0 where

@@ -10,14 +10,14 @@ next_or n [] = n
 next_or n (c ∷ cs) = c
 
 -- what follows a sector in a chain, the sector itself where it is the last; 0 where it isn't in the chain
-abbrev pub after : ℕ → List ℕ → ℕ
-after n [] = 0
-after n (c ∷ cs) = if c == n then next_or n cs else after n cs
+abbrev pub sector_after : ℕ → List ℕ → ℕ
+sector_after n [] = 0
+sector_after n (c ∷ cs) = if c == n then next_or n cs else sector_after n cs
 
 -- the link of a sector among chains: 0 where it is free, itself where it is the last of its chain, else the next one
 abbrev pub link_of : ℕ → List (List ℕ) → ℕ
 link_of n [] = 0
-link_of n (k ∷ ks) = if times n k == 0 then link_of n ks else after n k
+link_of n (k ∷ ks) = if times n k == 0 then link_of n ks else sector_after n k
 
 abbrev pub AreSome : List (List ℕ) → Type 0
 AreSome [] = Unit {0}
@@ -47,12 +47,12 @@ free_sectors t = walk t.links t.free 0
 abbrev pub or_itself : ℕ → ℕ → ℕ
 or_itself n next = if next == 0 then n else next
 
-abbrev pub link_in : Table → ℕ → ℕ
-link_in t n = if times n (free_sectors t) == 0 then or_itself n (slice_index t.links n) else 0
+abbrev pub table_link : Table → ℕ → ℕ
+table_link t n = if times n (free_sectors t) == 0 then or_itself n (slice_index t.links n) else 0
 
 -- the links of all sectors, from 1 on
 unfoldable pub links_in : Table → List ℕ
-links_in t = map (link_in t) (row 1 (length t.links - 1))
+links_in t = map (table_link t) (row 1 (length t.links - 1))
 
 -- the sectors without a link, in order, from number n on
 abbrev pub unlinked : ℕ → List ℕ → List ℕ
@@ -62,8 +62,8 @@ unlinked n (l ∷ ls) = if l == 0 then n ∷ unlinked (n + 1) ls else unlinked (
 -- ---- as they are told, sector by sector
 
 -- the link of sector n
-abbrev pub link_at : List ℕ → ℕ → ℕ
-link_at links n = slice_index links (n - 1)
+abbrev pub sector_link : List ℕ → ℕ → ℕ
+sector_link links n = slice_index links (n - 1)
 
 -- no link is greater than the number of sectors
 abbrev pub AreInside : List ℕ → Type 0
@@ -73,7 +73,7 @@ AreInside links = (i : ℕ) → slice_index links i ≤ length links
 pub record Follows (links : List ℕ) (n j : ℕ) : Type 0 where
   pub low : 1 ≤ n
   pub high : n ≤ length links
-  pub link : link_at links n ≡ j
+  pub link : sector_link links n ≡ j
   pub other : j ≢ n
   pub some : j ≢ 0
 
@@ -89,8 +89,8 @@ pub record AreLed (links : List ℕ) (led : List Bool) : Type 0 where
 
 -- the links run from a sector through these to the last of a chain
 abbrev pub Runs : List ℕ → ℕ → List ℕ → Type 0
-Runs links c [] = link_at links c ≡ c
-Runs links c (d ∷ cs) = (link_at links c ≡ d) × (d ≢ c) × (d ≢ 0) × Runs links d cs
+Runs links c [] = sector_link links c ≡ c
+Runs links c (d ∷ cs) = (sector_link links c ≡ d) × (d ≢ c) × (d ≢ 0) × Runs links d cs
 
 abbrev pub AreRuns : List ℕ → List (List ℕ) → Type 0
 AreRuns links [] = Unit {0}
@@ -117,7 +117,7 @@ NoChainOver links c seen = (cs : List ℕ) → Runs links c cs → ((i : ℕ) �
 
 -- each sector with a link is marked
 abbrev pub Reaches : List ℕ → List Bool → Type 0
-Reaches links seen = (n : ℕ) → 1 ≤ n → n ≤ length links → link_at links n ≢ 0 → mark seen n ≡ 1
+Reaches links seen = (n : ℕ) → 1 ≤ n → n ≤ length links → sector_link links n ≢ 0 → mark seen n ≡ 1
 
 -- the links that sectors tell are those of their chains
 abbrev pub TellChains : Type 0

@@ -58,8 +58,8 @@ abbrev pub given : ℕ → Shelf → Shelf
 given x s = record { free = chain_of x s.chains ++ s.free; chains = others x s.chains }
 
 -- the chain of x goes on through that of y
-abbrev pub joined : ℕ → ℕ → Shelf → Shelf
-joined x y s = record { free = s.free; chains = (chain_of x s.chains ++ chain_of y s.chains) ∷ others x (others y s.chains) }
+abbrev pub chains_joined : ℕ → ℕ → Shelf → Shelf
+chains_joined x y s = record { free = s.free; chains = (chain_of x s.chains ++ chain_of y s.chains) ∷ others x (others y s.chains) }
 
 -- the last sector of a walk from b through these
 abbrev pub last : ℕ → List ℕ → ℕ

@@ -2,7 +2,7 @@
 
 ghost use Rattle.std.specs.Prelude.{◌≡◌, ◌+◌, ◌<ℤ◌, ℕ, List, Option, None, IfOk, OnOk, OnErr, length, pos};
 ghost use Rattle.std.specs.Fd.{file_raw_fd};
-ghost use Rattle.b67_backing.specs.File.{LiesAt, Overwrites, Puts, resized};
+ghost use Rattle.b67_backing.specs.File.{LiesAt, Overwrites, Puts, of_length};
 ghost use Rattle.b67_backing.specs.Held.{Tells, Becomes, Changes};
 
 use std::fs::File;
@@ -32,7 +32,7 @@ pub trait RandomAccess {
     /// Cuts the file to a length in bytes, or fills it up with zeros. After an error it is as it was.
     fn set_length(&mut self, wanted: u64) -> io::Result<()>
         ensures long { OnOk result (Tells bytes self.new (λ all. length all ≡ wanted)) }
-        ensures set { OnOk result (Becomes bytes self.old self.new (resized wanted)) }
+        ensures set { OnOk result (Becomes bytes self.old self.new (of_length wanted)) }
         ensures same { OnErr result (Becomes bytes self.old self.new (λ all. all)) };
 
     /// Fills the buffer with the bytes from a place on. An error if the file ends before. No byte is changed.

@@ -4,9 +4,9 @@ ghost use Rattle.std.specs.Prelude.{◌≡◌, ◌≢◌, ◌⊎◌, nat_lt, ℕ
 ghost use Rattle.b67_word.specs.Tagged.{Tagged};
 ghost use Rattle.b67_word.specs.Numbers.{number};
 ghost use Rattle.b67_io.specs.Causes.{HasCause};
-ghost use Rattle.b67_backing.specs.Shelf.{Table, Shelf, IsShelf, HasChain, chain_of, taken, given, joined, first, last, all_free, times};
+ghost use Rattle.b67_backing.specs.Shelf.{Table, Shelf, IsShelf, HasChain, chain_of, taken, given, chains_joined, first, last, all_free, times};
 ghost use Rattle.b67_backing.specs.Held.{Tells, Changes, SameBut, Stores, Holds, AreTagged, OnlyWords, WasCalled, WasRead, sectors_for, under};
-ghost use Rattle.b67_backing.specs.Links.{AreLinksOf, links_in, free_sectors, link_in, link_of, unlinked};
+ghost use Rattle.b67_backing.specs.Links.{AreLinksOf, links_in, free_sectors, table_link, link_of, unlinked};
 ghost use Rattle.b67_backing.specs.Extending.{ExtendMeets, KeepsDevice};
 
 use crate::chaining::are_of_chains;
@@ -130,7 +130,7 @@ impl Sectors {
     pub fn link(&self, n: u32) -> u32
         requires low { 1 ≤ n }
         requires high { n < length self.now.links }
-        ensures value { result ≡ link_in self.now n }
+        ensures value { result ≡ table_link self.now n }
         ensures chain { (st : Shelf) → IsShelf self.now st → result ≡ link_of n st.chains }
     {
         if self.is_free(n) {
@@ -223,7 +223,7 @@ impl Sectors {
         requires apart { first ≢ more }
         requires chains { (st : Shelf) × IsShelf self.old st × (1 ≤ length (chain_of first st.chains)) × (1 ≤ length (chain_of more st.chains)) }
         ensures row { (st : Shelf) → IsShelf self.old st → 1 ≤ length (chain_of first st.chains) → 1 ≤ length (chain_of more st.chains)
-            → IsShelf self.new (joined first more st) }
+            → IsShelf self.new (chains_joined first more st) }
         ensures count { length self.new.links ≡ length self.old.links }
     {
         let tail = self.last_of(first);

@@ -18,11 +18,11 @@ use Rattle.b67_load_verify.specs.Broken.{Finds}
 use Rattle.b67_word.specs.declared.couples.Place.{Place}
 use Rattle.b67_codefile.specs.declared.file.Segment.{Segment}
 use Rattle.b67_codefile.specs.declared.file.Codefile.{Codefile}
-use Rattle.b67_codefile.specs.Spelling.{HasTag, AreWords, IsSegment, HasNoEntries, IsWithin}
+use Rattle.b67_codefile.specs.Spelling.{HasTag, AreWordsOfTag, IsFileSegment, HasNoEntries, IsWithin}
 use Rattle.b67_codefile.specs.Meaning.{segment_of, program_of}
 use Rattle.b67_bind.specs.declared.pairs.Pair.{Pair}
 use Rattle.b67_bind.specs.Reasons.{Binding, binding, numbered, pair_at, pair_named, entries_in, names_unpaired, first_refusal}
-use Rattle.b67_bind.specs.Bound.{by_pair, rebound, rebound_word, changed_at, change_one, change_literals, literal_of, change_op, change_entry, rebound_segment, from_part, placed, bound_segments, bound}
+use Rattle.b67_bind.specs.Bound.{by_pair, rebound, rebound_word, changed_at, change_one, change_literals, literal_of, change_op, change_entry, rebound_segment, from_part, placed_segment, bound_segments, bound}
 use Rattle.b67_bind.specs.Laws.{IsGood}
 use Rattle.b67_bind.proofs.Literals.{literals-length}
 use Rattle.b67_bind.proofs.Rebound.{rebound-listing}
@@ -56,7 +56,7 @@ literals-all : {A : Type 0} (P : A → Type 0) (f : A → A) (entries : List Ent
 literals-all P f [] xs go h = h
 literals-all P f (e ∷ more) xs go h = literals-all P f more (change_one f (literal_of e) xs) go (some-all P f (literal_of e) xs go h)
 
-segment-within : (pairs : List Pair) (s : Segment) → AllByRecursion (λ (a : Pair). a.host ≤ 255) pairs → IsSegment s → IsSegment (rebound_segment pairs s)
+segment-within : (pairs : List Pair) (s : Segment) → AllByRecursion (λ (a : Pair). a.host ≤ 255) pairs → IsFileSegment s → IsFileSegment (rebound_segment pairs s)
 segment-within pairs s few h =
     let len : length (rebound_segment pairs s).code ≡ length s.code = literals-length (rebound_word pairs) (entries_in s) s.code in
     record {
@@ -73,7 +73,7 @@ segment-within pairs s few h =
 abbrev BothSo : (Segment → Type 0) → Binding → Type 0
 BothSo P x = ((s : Segment) → Has x.host.segments s → P s) × ((s : Segment) → Has x.part.segments s → P (rebound_segment x.pairs s))
 
-placed-so : (P : Segment → Type 0) (x : Binding) (s : Segment) (o : Option Pair) → BothSo P x → Has x.host.segments s → P (placed x s o)
+placed-so : (P : Segment → Type 0) (x : Binding) (s : Segment) (o : Option Pair) → BothSo P x → Has x.host.segments s → P (placed_segment x s o)
 placed-so P x s None h m = h.0 s m
 placed-so P x s (Some a) h m = at_part (numbered x.part.segments a.part) refl
   where
@@ -102,7 +102,7 @@ unfolding bound
 bound-within x host part h = record {
   version = at_test (eqb x.host.version 2 || eqb x.part.version 2);
   count = omega (arith, bound-length x 1 x.host.segments, host.count);
-  segments = all-so IsSegment x host.segments (all_from (λ (s : Segment). IsSegment (rebound_segment x.pairs s)) x.part.segments (λ s m. segment-within x.pairs s small (all_in IsSegment x.part.segments s part.segments m)));
+  segments = all-so IsFileSegment x host.segments (all_from (λ (s : Segment). IsFileSegment (rebound_segment x.pairs s)) x.part.segments (λ s m. segment-within x.pairs s small (all_in IsFileSegment x.part.segments s part.segments m)));
   rows = host.rows;
   plain = λ one. plain (eqb x.host.version 2 || eqb x.part.version 2) refl one;
 }
@@ -173,7 +173,7 @@ rebound-clean x i j s t h few stands level paired clean =
     alike-clean f l m alike (level-moved (program_of x.host) (program_of (bound x)) (1 + i) (segment_of s) (segment_of (rebound_segment x.pairs t)) (sym level) host_level)
     (λ e bits among is stray eight. fits-proc m (f bits) (rebound-fits x t.level bits e h few (any_none (names_unpaired x.pairs) (entries_in t) e paired among) is (proc-fits l bits stray eight))) clean
 
-segment-clean : (x : Binding) (i : ℕ) (s : Segment) → IsGood x.part → Passes x [] x.pairs → length x.host.segments ≤ 255 → Stands x i s → (o : Option Pair) → pair_at x.pairs (1 + i) ≡ o → IsClean (listed_in (program_of (bound x)) (1 + i) (segment_of (placed x s o)))
+segment-clean : (x : Binding) (i : ℕ) (s : Segment) → IsGood x.part → Passes x [] x.pairs → length x.host.segments ≤ 255 → Stands x i s → (o : Option Pair) → pair_at x.pairs (1 + i) ≡ o → IsClean (listed_in (program_of (bound x)) (1 + i) (segment_of (placed_segment x s o)))
 segment-clean x i s part h few stands None pair = kept-clean x i s h stands pair
 segment-clean x i s part h few stands (Some a) pair =
     let has = keyed_has (λ (b : Pair). b.host) (1 + i) x.pairs a pair in
@@ -189,16 +189,16 @@ segment-clean x i s part h few stands (Some a) pair =
 host-stands : (x : Binding) (i : ℕ) (s : Segment) → IsGood x.host → slice_get x.host.segments i ≡ Some s → Stands x i s
 host-stands x i s host at = record {
   at = at;
-  some = (all_in IsSegment x.host.segments s host.0.segments (has_get x.host.segments i s at)).code.some;
+  some = (all_in IsFileSegment x.host.segments s host.0.segments (has_get x.host.segments i s at)).code.some;
   clean = program-clean (program_of x.host) i (segment_of s) host.1 (at_mapped segment_of x.host.segments i s at);
 }
 
-bound-source : (x : Binding) (i : ℕ) (r : state.Segment) → slice_get (program_of (bound x)).segments i ≡ Some r → (s : Segment) × (slice_get x.host.segments i ≡ Some s) × (segment_of (placed x s (pair_at x.pairs (1 + i))) ≡ r)
+bound-source : (x : Binding) (i : ℕ) (r : state.Segment) → slice_get (program_of (bound x)).segments i ≡ Some r → (s : Segment) × (slice_get x.host.segments i ≡ Some s) × (segment_of (placed_segment x s (pair_at x.pairs (1 + i))) ≡ r)
 unfolding bound
 bound-source x i r e = at_segment (slice_get x.host.segments i) refl
   where
-    at_segment : (o : Option Segment) → slice_get x.host.segments i ≡ o → (s : Segment) × (slice_get x.host.segments i ≡ Some s) × (segment_of (placed x s (pair_at x.pairs (1 + i))) ≡ r)
-    at_segment (Some s) is = (s, is, same_Some (segment_of (placed x s (pair_at x.pairs (1 + i)))) r (sym (bound-at x i s is) ∙ e))
+    at_segment : (o : Option Segment) → slice_get x.host.segments i ≡ o → (s : Segment) × (slice_get x.host.segments i ≡ Some s) × (segment_of (placed_segment x s (pair_at x.pairs (1 + i))) ≡ r)
+    at_segment (Some s) is = (s, is, same_Some (segment_of (placed_segment x s (pair_at x.pairs (1 + i)))) r (sym (bound-at x i s is) ∙ e))
     at_segment None is = absurd (past (slice_get_within (program_of (bound x)).segments i r e))
       where
         past : i < length (program_of (bound x)).segments → ⊥

@@ -24,7 +24,7 @@ use Rattle.b67_codefile.specs.Meaning.{segment_of, program_of}
 use Rattle.b67_load_verify.specs.Broken.{rules_at}
 use Rattle.b67_bind.specs.declared.pairs.Pair.{Pair}
 use Rattle.b67_bind.specs.Reasons.{Binding, numbered, pair_at, pair_named, entries_in, proc_in, kept_procs, procs_from, is_taken, names_unpaired, has_level_1, enters_elsewhere, reasons, first_refusal}
-use Rattle.b67_bind.specs.Bound.{by_pair, rebound, rebound_word, literal_of, changed_at, change_one, change_literals, rebound_segment, from_part, placed, bound_segments, bound}
+use Rattle.b67_bind.specs.Bound.{by_pair, rebound, rebound_word, literal_of, changed_at, change_one, change_literals, rebound_segment, from_part, placed_segment, bound_segments, bound}
 use Rattle.b67_bind.specs.Laws.{IsGood, same_pairs, HasNoLevel1, into_itself}
 use Rattle.b67_bind.proofs.Relisted.{HoldsLiteral, listing-literals}
 use Rattle.b67_bind.proofs.Rules.{AllFalse, refused-none, append-none, entry-own, listed_in, IsClean, program-clean}
@@ -216,7 +216,7 @@ segments-same file i (s ∷ more) good tail len =
     let pair : pair_at x.pairs (1 + i) ≡ Some (same_pair (1 + i)) = same-host 1 file.segments (1 + i) (omega arith) (omega (arith, len)) in
     let place : 1 + i ≡ i + 1 = omega arith in
     let there : numbered file.segments (1 + i) ≡ Some s = ap (numbered file.segments) place ∙ get-numbered file.segments i ∙ here in
-    let own : placed x s (pair_at x.pairs (1 + i)) ≡ s = ap (placed x s) pair ∙ ap (from_part x.pairs s) there ∙ segment-same file i s good here in
+    let own : placed_segment x s (pair_at x.pairs (1 + i)) ≡ s = ap (placed_segment x s) pair ∙ ap (from_part x.pairs s) there ∙ segment-same file i s good here in
     let rest : bound_segments x (1 + i + 1) more ≡ more = ap (λ (n : ℕ). bound_segments x n more) (next i) ∙ segments-same file (i + 1) more good (λ j. ap (slice_get file.segments) (later i j) ∙ tail (suc j)) (omega (arith, len)) in
     ap (λ (r : Segment). r ∷ bound_segments x (1 + i + 1) more) own ∙ ap (λ (rs : List Segment). s ∷ rs) rest
   where

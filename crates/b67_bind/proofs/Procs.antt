@@ -14,7 +14,7 @@ use Rattle.b67_codefile.specs.declared.file.Segment.{Segment}
 use Rattle.b67_codefile.specs.Meaning.{segment_of, program_of}
 use Rattle.b67_bind.specs.declared.pairs.Pair.{Pair}
 use Rattle.b67_bind.specs.Reasons.{Binding, numbered, pair_at, pair_named, entries_in, proc_in, procs, kept_procs, procs_from, names_unpaired, enters_elsewhere}
-use Rattle.b67_bind.specs.Bound.{by_pair, rebound, rebound_segment, from_part, placed, bound_segments, bound}
+use Rattle.b67_bind.specs.Bound.{by_pair, rebound, rebound_segment, from_part, placed_segment, bound_segments, bound}
 use Rattle.b67_bind.proofs.Passing.{Passes, Fits, each-fits, found-host}
 
 -- ---- what rules 7 and 8 ask of a PCW in a segment of this level
@@ -101,29 +101,29 @@ get-numbered xs i =
     above : (i : ℕ) → i + 1 ≡ 0 → ⊥
     above i e = omega (arith, e)
 
-pub bound-get : (x : Binding) (n i : ℕ) (segments : List Segment) (s : Segment) → slice_get segments i ≡ Some s → slice_get (bound_segments x n segments) i ≡ Some (placed x s (pair_at x.pairs (n + i)))
+pub bound-get : (x : Binding) (n i : ℕ) (segments : List Segment) (s : Segment) → slice_get segments i ≡ Some s → slice_get (bound_segments x n segments) i ≡ Some (placed_segment x s (pair_at x.pairs (n + i)))
 bound-get x n i [] s e = absurd (none-some s e)
 bound-get x n zero (t ∷ more) s e =
     let same : t ≡ s = same_Some t s e in
     let here : n ≡ n + zero = omega arith in
-    ap Some (ap (λ (r : Segment). placed x r (pair_at x.pairs n)) same ∙ ap (λ (m : ℕ). placed x s (pair_at x.pairs m)) here)
+    ap Some (ap (λ (r : Segment). placed_segment x r (pair_at x.pairs n)) same ∙ ap (λ (m : ℕ). placed_segment x s (pair_at x.pairs m)) here)
 bound-get x n (suc i) (t ∷ more) s e =
     let next : n + 1 + i ≡ n + suc i = omega arith in
-    bound-get x (n + 1) i more s e ∙ ap (λ (m : ℕ). Some (placed x s (pair_at x.pairs m))) next
+    bound-get x (n + 1) i more s e ∙ ap (λ (m : ℕ). Some (placed_segment x s (pair_at x.pairs m))) next
 
 pub bound-length : (x : Binding) (n : ℕ) (segments : List Segment) → length (bound_segments x n segments) ≡ length segments
 bound-length x n [] = refl
 bound-length x n (s ∷ more) = ap suc (bound-length x (n + 1) more)
 
 -- the bound file's segment at a place, without the tags of its words
-pub bound-at : (x : Binding) (i : ℕ) (s : Segment) → slice_get x.host.segments i ≡ Some s → slice_get (program_of (bound x)).segments i ≡ Some (segment_of (placed x s (pair_at x.pairs (1 + i))))
+pub bound-at : (x : Binding) (i : ℕ) (s : Segment) → slice_get x.host.segments i ≡ Some s → slice_get (program_of (bound x)).segments i ≡ Some (segment_of (placed_segment x s (pair_at x.pairs (1 + i))))
 unfolding bound
-bound-at x i s e = at_mapped segment_of (bound_segments x 1 x.host.segments) i (placed x s (pair_at x.pairs (1 + i))) (bound-get x 1 i x.host.segments s e)
+bound-at x i s e = at_mapped segment_of (bound_segments x 1 x.host.segments) i (placed_segment x s (pair_at x.pairs (1 + i))) (bound-get x 1 i x.host.segments s e)
 
 -- ---- the segment that takes the place of the host's
 
 -- what stands there has the level of the host's
-pub paired-is : (x : Binding) (s : Segment) (a : Pair) (h : Fits x a) → placed x s (Some a) ≡ rebound_segment x.pairs h.new
+pub paired-is : (x : Binding) (s : Segment) (a : Pair) (h : Fits x a) → placed_segment x s (Some a) ≡ rebound_segment x.pairs h.new
 paired-is x s a h = ap (from_part x.pairs s) h.at_part
 
 -- ---- a PCW of a segment that stays
@@ -170,7 +170,7 @@ stays x bits old h low found begins kept =
     at_pair : (s : Segment) → slice_get x.host.segments (bits % 2 ^ 14 - 2) ≡ Some s → segment_of s ≡ old → (o : Option Pair) → pair_at x.pairs (1 + (bits % 2 ^ 14 - 2)) ≡ o → Stands x (bits % 2 ^ 14 - 2) old (bits / 2 ^ 20)
     at_pair s at is None none = record {
       new = old;
-      found = bound-at x (bits % 2 ^ 14 - 2) s at ∙ ap (λ (o : Option Pair). Some (segment_of (placed x s o))) none ∙ ap Some is;
+      found = bound-at x (bits % 2 ^ 14 - 2) s at ∙ ap (λ (o : Option Pair). Some (segment_of (placed_segment x s o))) none ∙ ap Some is;
       level = refl;
       begins = begins;
     }
@@ -183,7 +183,7 @@ stays x bits old h low found begins kept =
         let level : fit.new.level ≡ old.level = sym fit.level ∙ ap (λ (r : Segment). r.level) same ∙ ap (λ (r : state.Segment). r.level) is in
         record {
           new = segment_of (rebound_segment x.pairs fit.new);
-          found = bound-at x (bits % 2 ^ 14 - 2) s at ∙ ap (λ (o : Option Pair). Some (segment_of (placed x s o))) pair ∙ ap (λ (r : Segment). Some (segment_of r)) (paired-is x s a fit);
+          found = bound-at x (bits % 2 ^ 14 - 2) s at ∙ ap (λ (o : Option Pair). Some (segment_of (placed_segment x s o))) pair ∙ ap (λ (r : Segment). Some (segment_of r)) (paired-is x s a fit);
           level = level;
           begins = begins-there a fit.new bits (any_none (enters_elsewhere a fit.new) (procs_from x.pairs 1 x.host.segments) bits fit.begins kept) (omega (arith, has.1, low));
         }
@@ -240,7 +240,7 @@ rebound-fits x own bits e h few paired is fit = at_pair (pair_named x.pairs bits
         let named : segment_of own_fit.new ≡ fit.named = same_Some (segment_of own_fit.new) fit.named (sym (at_mapped segment_of x.part.segments (a.part - 1) own_fit.new part.1) ∙ ap (slice_get (program_of x.part).segments) (sym place) ∙ fit.found) in
         let found_pair : pair_at x.pairs (1 + (a.host - 1)) ≡ Some a = ap (pair_at x.pairs) (back a.host host.0) ∙ found-host x [] x.pairs a h has.0 in
         let there : slice_get (program_of (bound x)).segments (a.host - 1) ≡ Some (segment_of (rebound_segment x.pairs own_fit.new)) =
-        bound-at x (a.host - 1) own_fit.old host.1 ∙ ap (λ (o : Option Pair). Some (segment_of (placed x own_fit.old o))) found_pair ∙ ap (λ (r : Segment). Some (segment_of r)) (paired-is x own_fit.old a own_fit) in
+        bound-at x (a.host - 1) own_fit.old host.1 ∙ ap (λ (o : Option Pair). Some (segment_of (placed_segment x own_fit.old o))) found_pair ∙ ap (λ (r : Segment). Some (segment_of r)) (paired-is x own_fit.old a own_fit) in
         let down : new % 2 ^ 14 - 2 ≡ a.host - 1 = omega (arith, m.disp) in
         record {
           small = m.small;

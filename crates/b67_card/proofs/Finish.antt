@@ -8,9 +8,9 @@ use Rattle.std.proofs.lemmas.List.Elements.{filter_map-append}
 use Rattle.b67_model_text.specs.declared.deck.Job as declared
 use Rattle.b67_model_text.specs.Command.{Command}
 use Rattle.b67_card.specs.Meaning.{deck_behind}
-use Rattle.b67_model_text.specs.Placing.{stand, first_of, stack_in, quantum_in, halt_in, switch_in}
+use Rattle.b67_model_text.specs.Placing.{stand, first_found, stack_in, quantum_in, halt_in, switch_in}
 use Rattle.b67_model_text.specs.Deck.{Said, command_in, is_between, jobs, deck}
-use Rattle.b67_card.specs.Shape.{Shows, deck_of}
+use Rattle.b67_card.specs.Shape.{Shows, deck_shaped}
 use Rattle.b67_card.specs.Contents.{jobs_told}
 use Rattle.b67_card.specs.Reader.{IsAccepted, Knows}
 use Rattle.b67_card.specs.declared.shape.Shape.{Shape}
@@ -36,10 +36,10 @@ lone : {Y : Type 0} (o : Option Y) → slice_get (reverse (option_to_list o)) 0 
 lone None = refl
 lone (Some y) = refl
 
-first_in_order : {Y : Type 0} (f : Command → Option Y) (o : Option Y) (before : List Said) → filter_map f (map command_in before) ≡ option_to_list o → first_of (λ s. f s.command) (reverse before) ≡ o
+first_in_order : {Y : Type 0} (f : Command → Option Y) (o : Option Y) (before : List Said) → filter_map f (map command_in before) ≡ option_to_list o → first_found (λ s. f s.command) (reverse before) ≡ o
 first_in_order f o before e = ap (λ l. slice_get l 0) (in_order f before ∙ ap reverse e) ∙ lone o
 
-pub deck_is : (s : Shape) (all : List declared.Job) (before : List Said) → Shows s (map command_in before) → IsAccepted (map command_in before) → jobs_told before ≡ reverse all → deck (reverse before) ≡ deck_of s all
+pub deck_is : (s : Shape) (all : List declared.Job) (before : List Said) → Shows s (map command_in before) → IsAccepted (map command_in before) → jobs_told before ≡ reverse all → deck (reverse before) ≡ deck_shaped s all
 deck_is s all before shows accepted told =
     let stack = first_in_order stack_in s.stack before shows.stack in
     let quantum = first_in_order quantum_in s.quantum before shows.quantum in
@@ -48,7 +48,7 @@ deck_is s all before shows accepted told =
     let same_jobs : jobs (reverse before) ≡ all = jobs_are_told before accepted ∙ ap reverse told ∙ reverse-reverse all in
     rw (stack, quantum, halt, switches, same_jobs) refl
 
-pub deck_behind_is : (r : Reader) (all : List declared.Job) (before : List Said) → Knows r before → is_between r.shape.stand ≡ true → jobs_told before ≡ reverse all → deck_behind before ≡ Ok (deck_of r.shape all)
+pub deck_behind_is : (r : Reader) (all : List declared.Job) (before : List Said) → Knows r before → is_between r.shape.stand ≡ true → jobs_told before ≡ reverse all → deck_behind before ≡ Ok (deck_shaped r.shape all)
 deck_behind_is r all before knows between told =
     let open_end : is_between (stand (map command_in before)) ≡ true = ap is_between (sym knows.shape.stand) ∙ between in
     rw open_end (ap Ok (deck_is r.shape all before knows.shape knows.accepted told))

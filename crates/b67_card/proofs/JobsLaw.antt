@@ -12,7 +12,7 @@ use Rattle.b67_model_text.specs.Answers.{Answer, ◌>>=◌, ◌>>◌, needs}
 use Rattle.b67_model_text.specs.Command.{Command, Stack, Quantum, Halt, Switch, Job, Limit, Asm, Hex, Data, End, Plain}
 use Rattle.b67_model_text.specs.Placing.{stand_after, stand, may_stand, lacks_program, is_repeated, rises, has_room, arranged, numbers}
 use Rattle.b67_model_text.specs.Deck.{Said, command_in, body, bytes_in, numbers_in, program, data_numbers, limit_behind, job_of, own_cards, jobs}
-use Rattle.b67_card.specs.Contents.{to_newest, new_job, with_card, with_text, with_limit, with_program, told, jobs_told}
+use Rattle.b67_card.specs.Contents.{to_newest, new_job, with_card, with_text, with_limit, with_program, jobs_with, jobs_told}
 use Rattle.b67_card.specs.Reader.{IsAccepted}
 
 -- ---- each card may stand where it stands
@@ -24,7 +24,7 @@ Follows s (t ∷ more) = (may_stand s t.command ≡ true) × Follows (stand_afte
 -- what the cards from a stand on add to these jobs
 abbrev run : Stand → List declared.Job → List Said → List declared.Job
 run s js [] = js
-run s js (t ∷ more) = run (stand_after s t.command) (told s t.number t.command js) more
+run s js (t ∷ more) = run (stand_after s t.command) (jobs_with s t.number t.command js) more
 
 abbrev with_body : List Card → Body → Body
 with_body more (Cards cards) = Cards (cards ++ more)
@@ -95,7 +95,7 @@ job_begun : (n : ℕ) (name : List ℕ) (js : List declared.Job) (more : List Sa
 job_begun n name js more ih f = ih (new_job n name ∷ js) f ∙ sym (reverse_cons (job_of n name (own_cards more)) (jobs more) js)
 
 abbrev One : Stand → Type 0
-One s = (n : ℕ) (c : Command) (js : List declared.Job) (more : List Said) → ((t : Stand) → Says t more) → may_stand s c ≡ true → Follows (stand_after s c) more → run (stand_after s c) (told s n c js) more ≡ reverse (jobs (said n c ∷ more)) ++ to_newest (finished s (own_cards (said n c ∷ more))) js
+One s = (n : ℕ) (c : Command) (js : List declared.Job) (more : List Said) → ((t : Stand) → Says t more) → may_stand s c ≡ true → Follows (stand_after s c) more → run (stand_after s c) (jobs_with s n c js) more ≡ reverse (jobs (said n c ∷ more)) ++ to_newest (finished s (own_cards (said n c ∷ more))) js
 
 same_front : (s : Stand) (own : List Said) → ((j : declared.Job) → finished s own j ≡ j) → (xs js : List declared.Job) → xs ++ js ≡ xs ++ to_newest (finished s own) js
 same_front s own same xs js = ap (λ l. xs ++ l) (sym (newest_same (finished s own) same js))
@@ -274,7 +274,7 @@ newest_nil f (j ∷ js) e = absurd cc
 front_only : (s : Stand) (c : Command) → s ≡ Front → may_stand Front c ≡ false → may_stand s c ≡ true → ⊥
 front_only s c e wrong ok = let yes : may_stand Front c ≡ true = subst (λ t. may_stand t c ≡ true) e ok in cc
 
-none_begun : (s : Stand) (n : ℕ) (c : Command) (js : List declared.Job) → (js ≡ [] → s ≡ Front) → may_stand s c ≡ true → told s n c js ≡ [] → stand_after s c ≡ Front
+none_begun : (s : Stand) (n : ℕ) (c : Command) (js : List declared.Job) → (js ≡ [] → s ≡ Front) → may_stand s c ≡ true → jobs_with s n c js ≡ [] → stand_after s c ≡ Front
 none_begun s n (Stack k) js ih ok e = ih e
 none_begun s n (Quantum k) js ih ok e = ih e
 none_begun s n (Halt k) js ih ok e = ih e

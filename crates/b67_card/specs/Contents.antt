@@ -38,21 +38,21 @@ abbrev pub with_program : ℕ → Body → declared.Job → declared.Job
 with_program number program job = record job { body_card = number; program = program }
 
 -- what a card adds that stands there
-abbrev pub told : Stand → ℕ → Command → List declared.Job → List declared.Job
-told s number (Job name) jobs = new_job number name ∷ jobs
-told s number (Limit n) jobs = to_newest (with_limit n) jobs
-told s number Asm jobs = to_newest (with_program number (Cards [])) jobs
-told s number Hex jobs = to_newest (with_program number (Bytes [])) jobs
-told s number (Plain text) jobs = to_newest (with_text s (record { number = number; text = text })) jobs
-told s number _ jobs = jobs
+abbrev pub jobs_with : Stand → ℕ → Command → List declared.Job → List declared.Job
+jobs_with s number (Job name) jobs = new_job number name ∷ jobs
+jobs_with s number (Limit n) jobs = to_newest (with_limit n) jobs
+jobs_with s number Asm jobs = to_newest (with_program number (Cards [])) jobs
+jobs_with s number Hex jobs = to_newest (with_program number (Bytes [])) jobs
+jobs_with s number (Plain text) jobs = to_newest (with_text s (record { number = number; text = text })) jobs
+jobs_with s number _ jobs = jobs
 
 -- the jobs that cards tell, the nearest card first
 abbrev pub jobs_told : List Said → List declared.Job
 jobs_told [] = []
-jobs_told (s ∷ before) = told (stand (map command_in before)) s.number s.command (jobs_told before)
+jobs_told (s ∷ before) = jobs_with (stand (map command_in before)) s.number s.command (jobs_told before)
 
 -- these are the jobs
-pub record Holds (c : Contents) (jobs : List declared.Job) : Type 0 where
+pub record HoldsJobs (c : Contents) (jobs : List declared.Job) : Type 0 where
   pub all : jobs ≡ option_to_list c.newest ++ reverse c.older
   pub none : c.newest ≡ None → jobs ≡ []
 
@@ -70,7 +70,7 @@ Appended (Err (Reason r)) found old new = (r ≡ 12) × (found ≡ None)
 Appended (Err Memory) found old new = Unit {0}
 
 -- the jobs have what a card adds, or it is refused for its digits
-abbrev pub Told : Result ⊤ Refused → Stand → ℕ → Command → List declared.Job → Contents → Type 0
-Told (Ok done) s number c jobs new = (is_well_formed s c ≡ Ok tt) × Holds new (told s number c jobs)
-Told (Err (Reason r)) s number c jobs new = is_well_formed s c ≡ Err r
-Told (Err Memory) s number c jobs new = Unit {0}
+abbrev pub AddsCard : Result ⊤ Refused → Stand → ℕ → Command → List declared.Job → Contents → Type 0
+AddsCard (Ok done) s number c jobs new = (is_well_formed s c ≡ Ok tt) × HoldsJobs new (jobs_with s number c jobs)
+AddsCard (Err (Reason r)) s number c jobs new = is_well_formed s c ≡ Err r
+AddsCard (Err Memory) s number c jobs new = Unit {0}

@@ -6,7 +6,7 @@ ghost use Rattle.std.specs.Char.{is_ascii};
 ghost use Rattle.b67_model_text.specs.Cards.{is_name};
 ghost use Rattle.b67_model_text.specs.Command as card;
 ghost use Rattle.b67_model_text.specs.declared.deck.Keyword.TheVariants as keywords;
-ghost use Rattle.b67_card.specs.Said.{Says, IsPlain, command_of};
+ghost use Rattle.b67_card.specs.Said.{CardSays, IsPlain, said_command};
 ghost use Rattle.b67_card.specs.declared.command.Refused.TheVariants.{Memory};
 
 use crate::word::{name, number_in, parted, words};
@@ -82,7 +82,7 @@ fn one_number(parameters: &[&[u8]], low: u64, high: u64) -> Option<u64>
 
 // A numeral that fits its type.
 fn stack(parameters: &[&[u8]]) -> Option<Command>
-    ensures { option_map command_of result ≡ card.says keywords.Stack (map (λ w. w.now) parameters.now) }
+    ensures { option_map said_command result ≡ card.says keywords.Stack (map (λ w. w.now) parameters.now) }
 {
     match one_number(parameters, 64, 16_383) {
         Some(n) => Some(Command::Stack(n as u16)),
@@ -91,7 +91,7 @@ fn stack(parameters: &[&[u8]]) -> Option<Command>
 }
 
 fn quantum(parameters: &[&[u8]]) -> Option<Command>
-    ensures { option_map command_of result ≡ card.says keywords.Quantum (map (λ w. w.now) parameters.now) }
+    ensures { option_map said_command result ≡ card.says keywords.Quantum (map (λ w. w.now) parameters.now) }
 {
     match one_number(parameters, 1, 1_000_000) {
         Some(n) => Some(Command::Quantum(n as u32)),
@@ -100,7 +100,7 @@ fn quantum(parameters: &[&[u8]]) -> Option<Command>
 }
 
 fn halt(parameters: &[&[u8]]) -> Option<Command>
-    ensures { option_map command_of result ≡ card.says keywords.Halt (map (λ w. w.now) parameters.now) }
+    ensures { option_map said_command result ≡ card.says keywords.Halt (map (λ w. w.now) parameters.now) }
 {
     match one_number(parameters, 1, 800_000_000) {
         Some(n) => Some(Command::Halt(n)),
@@ -109,7 +109,7 @@ fn halt(parameters: &[&[u8]]) -> Option<Command>
 }
 
 fn limit(parameters: &[&[u8]]) -> Option<Command>
-    ensures { option_map command_of result ≡ card.says keywords.Limit (map (λ w. w.now) parameters.now) }
+    ensures { option_map said_command result ≡ card.says keywords.Limit (map (λ w. w.now) parameters.now) }
 {
     match one_number(parameters, 1, 100_000_000) {
         Some(n) => Some(Command::Limit(n)),
@@ -128,7 +128,7 @@ fn target(word: &[u8]) -> Option<(u8, u32)>
 }
 
 fn switch_at(count: &[u8], word: &[u8]) -> Option<Command>
-    ensures { option_map command_of result ≡ card.switch (count.now ∷ word.now ∷ []) }
+    ensures { option_map said_command result ≡ card.switch (count.now ∷ word.now ∷ []) }
 {
     let count = number_in(count, 0, 800_000_000)?;
     let (job, task) = target(word)?;
@@ -136,7 +136,7 @@ fn switch_at(count: &[u8], word: &[u8]) -> Option<Command>
 }
 
 fn switch(parameters: &[&[u8]]) -> Option<Command>
-    ensures { option_map command_of result ≡ card.says keywords.Switch (map (λ w. w.now) parameters.now) }
+    ensures { option_map said_command result ≡ card.says keywords.Switch (map (λ w. w.now) parameters.now) }
 {
     match parameters {
         [count, word] => switch_at(count, word),
@@ -145,7 +145,7 @@ fn switch(parameters: &[&[u8]]) -> Option<Command>
 }
 
 fn job_named(word: &[u8]) -> Option<Command>
-    ensures { option_map command_of result ≡ card.job_named word.now }
+    ensures { option_map said_command result ≡ card.job_named word.now }
 {
     match name(word) {
         Some(name) => Some(Command::Job(name)),
@@ -154,7 +154,7 @@ fn job_named(word: &[u8]) -> Option<Command>
 }
 
 fn job(parameters: &[&[u8]]) -> Option<Command>
-    ensures { option_map command_of result ≡ card.says keywords.Job (map (λ w. w.now) parameters.now) }
+    ensures { option_map said_command result ≡ card.says keywords.Job (map (λ w. w.now) parameters.now) }
 {
     match parameters {
         [] => None,
@@ -170,7 +170,7 @@ fn job(parameters: &[&[u8]]) -> Option<Command>
 
 // A card without parameters.
 fn alone(command: Command, parameters: &[&[u8]]) -> Option<Command>
-    ensures { option_map command_of result ≡ card.alone (command_of command) (map (λ w. w.now) parameters.now) }
+    ensures { option_map said_command result ≡ card.alone (said_command command) (map (λ w. w.now) parameters.now) }
 {
     if parameters.is_empty() {
         Some(command)
@@ -180,7 +180,7 @@ fn alone(command: Command, parameters: &[&[u8]]) -> Option<Command>
 }
 
 fn says(keyword: Keyword, parameters: &[&[u8]]) -> Option<Command>
-    ensures { option_map command_of result ≡ card.says keyword (map (λ w. w.now) parameters.now) }
+    ensures { option_map said_command result ≡ card.says keyword (map (λ w. w.now) parameters.now) }
 {
     match keyword {
         Keyword::Stack => stack(parameters),
@@ -197,7 +197,7 @@ fn says(keyword: Keyword, parameters: &[&[u8]]) -> Option<Command>
 }
 
 fn command_of(words: &[&[u8]]) -> Result<Command, Refused>
-    ensures { Says result (card.command_of (map (λ w. w.now) words.now)) }
+    ensures { CardSays result (card.command_of (map (λ w. w.now) words.now)) }
 {
     match words {
         [] => Err(Refused::Reason(3)),
@@ -219,7 +219,7 @@ fn are_printable(text: &[u8]) -> bool
 
 // What is refused of any card: 1 a text that is too long, 2 a character outside space to tilde.
 pub fn plain(text: &[u8]) -> Result<Text, Refused>
-    ensures { IsPlain result text.now (card.plain text.now) }
+    ensures { IsPlain result text.now (card.plain_card text.now) }
 {
     if text.len() > 80 {
         return Err(Refused::Reason(1));
@@ -232,7 +232,7 @@ pub fn plain(text: &[u8]) -> Result<Text, Refused>
 
 /// What a card says, or the lowest reason of 1 to 4 why it is refused.
 pub fn said(alloc: Global, text: &[u8]) -> Result<Command, Refused>
-    ensures { Says result (card.said text.now) }
+    ensures { CardSays result (card.said text.now) }
 {
     let plain = plain(text)?;
     match text {

@@ -4,8 +4,8 @@ ghost use Rattle.b67_model_text.specs.declared.deck.Job as job;
 ghost use Rattle.b67_model_text.specs.declared.deck.Stand.TheVariants.{Front};
 ghost use Rattle.b67_model_text.specs.Command as text;
 ghost use Rattle.b67_model_text.specs.Placing.{numbers, operands_in};
-ghost use Rattle.b67_card.specs.Said.{command_of};
-ghost use Rattle.b67_card.specs.Contents.{Holds, Told, Filled, Appended, with_card, with_text, with_limit, with_program, new_job, to_newest};
+ghost use Rattle.b67_card.specs.Said.{said_command};
+ghost use Rattle.b67_card.specs.Contents.{HoldsJobs, AddsCard, Filled, Appended, with_card, with_text, with_limit, with_program, new_job, to_newest};
 
 use crate::command::{Command, Refused};
 use crate::hex::{is_hex, put_digits};
@@ -71,7 +71,7 @@ fn fill(alloc: Global, stand: Stand, card: Card, job: &mut Job) -> Result<(), Re
 
 impl Contents {
     pub fn new(alloc: Global) -> Self
-        ensures { Holds result [] }
+        ensures { HoldsJobs result [] }
     {
         Contents {
             older: Jobs::new(alloc),
@@ -81,7 +81,7 @@ impl Contents {
 
     // Puts the newest job behind the others.
     fn close(&mut self) -> Result<(), AllocError>
-        ensures { OnOk result ((jobs : List job.Job) → Holds self.old jobs → (self.new.newest ≡ None) × (jobs ≡ reverse self.new.older)) }
+        ensures { OnOk result ((jobs : List job.Job) → HoldsJobs self.old jobs → (self.new.newest ≡ None) × (jobs ≡ reverse self.new.older)) }
     {
         match self.newest.take() {
             Some(job) => self.older.push(job),
@@ -90,7 +90,7 @@ impl Contents {
     }
 
     fn begin(&mut self, alloc: Global, number: u32, name: Name) -> Result<(), AllocError>
-        ensures { OnOk result ((jobs : List job.Job) → Holds self.old jobs → Holds self.new (new_job number name ∷ jobs)) }
+        ensures { OnOk result ((jobs : List job.Job) → HoldsJobs self.old jobs → HoldsJobs self.new (new_job number name ∷ jobs)) }
     {
         self.close()?;
         self.newest = Some(Job {
@@ -105,7 +105,7 @@ impl Contents {
     }
 
     fn limit(&mut self, n: u64)
-        ensures { (jobs : List job.Job) → Holds self.old jobs → Holds self.new (to_newest (with_limit n) jobs) }
+        ensures { (jobs : List job.Job) → HoldsJobs self.old jobs → HoldsJobs self.new (to_newest (with_limit n) jobs) }
     {
         match &mut self.newest {
             Some(job) => job.limit = n,
@@ -114,7 +114,7 @@ impl Contents {
     }
 
     fn program(&mut self, number: u32, program: Body)
-        ensures { (jobs : List job.Job) → Holds self.old jobs → Holds self.new (to_newest (with_program number program) jobs) }
+        ensures { (jobs : List job.Job) → HoldsJobs self.old jobs → HoldsJobs self.new (to_newest (with_program number program) jobs) }
     {
         match &mut self.newest {
             Some(job) => {
@@ -126,7 +126,7 @@ impl Contents {
     }
 
     fn plain(&mut self, alloc: Global, stand: Stand, card: Card) -> Result<(), Refused>
-        ensures { (jobs : List job.Job) → Holds self.old jobs → (jobs ≡ [] → stand ≡ Front) → Told result stand card.number (text.Plain card.text) jobs self.new }
+        ensures { (jobs : List job.Job) → HoldsJobs self.old jobs → (jobs ≡ [] → stand ≡ Front) → AddsCard result stand card.number (text.Plain card.text) jobs self.new }
     {
         match &mut self.newest {
             Some(job) => fill(alloc, stand, card, job),
@@ -142,7 +142,7 @@ impl Contents {
         number: u32,
         command: Command,
     ) -> Result<(), Refused>
-        ensures { (jobs : List job.Job) → Holds self.old jobs → (jobs ≡ [] → stand ≡ Front) → Told result stand number (command_of command) jobs self.new }
+        ensures { (jobs : List job.Job) → HoldsJobs self.old jobs → (jobs ≡ [] → stand ≡ Front) → AddsCard result stand number (said_command command) jobs self.new }
     {
         match command {
             Command::Job(name) => self.begin(alloc, number, name)?,
@@ -158,7 +158,7 @@ impl Contents {
 
     /// All the jobs, in the order of their cards.
     pub fn into_jobs(mut self) -> Result<Jobs, AllocError>
-        ensures { IfOk result (λ all. (jobs : List job.Job) → Holds self jobs → jobs ≡ reverse all) }
+        ensures { IfOk result (λ all. (jobs : List job.Job) → HoldsJobs self jobs → jobs ≡ reverse all) }
     {
         self.close()?;
         let Contents { older, newest } = self;

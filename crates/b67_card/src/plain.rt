@@ -1,4 +1,4 @@
-//! The plain cards of a source.
+//! Cards that are no commands: they add their text to the newest job.
 
 ghost use Rattle.std.specs.Prelude.{◌≡◌, ◌<◌, ◌≤◌, ◌^◌, length};
 ghost use Rattle.b67_model_text.specs.Deck.{plain_cards};

@@ -2,8 +2,8 @@
 ghost use Rattle.std.specs.Prelude.{◌≡◌, ◌-◌, slice_get, length, [], ℕ, List};
 ghost use Rattle.b67_model_text.specs.Command as card;
 ghost use Rattle.b67_model_text.specs.Placing.{is_above};
-ghost use Rattle.b67_card.specs.Said.{command_of};
-ghost use Rattle.b67_card.specs.Shape.{Shows, Placed, deck_of};
+ghost use Rattle.b67_card.specs.Said.{said_command};
+ghost use Rattle.b67_card.specs.Shape.{Shows, Placed, deck_shaped};
 
 use crate::command::{Command, Refused};
 use b67_model_text::{Deck, Jobs, Stand, Switch, Switches};
@@ -187,7 +187,7 @@ impl Shape {
 
     /// Takes in where a card stands, or says why it may not stand there: the lowest reason of 5 to 10.
     pub fn take(&mut self, command: &Command) -> Result<(), Refused>
-        ensures { (before : List card.Command) → Shows self.old before → Placed result before (command_of command.now) self.new }
+        ensures { (before : List card.Command) → Shows self.old before → Placed result before (said_command command.now) self.new }
     {
         match command {
             Command::Stack(n) => self.stack(*n),
@@ -205,7 +205,7 @@ impl Shape {
     }
     /// The deck of these jobs.
     pub fn into_deck(self, jobs: Jobs) -> Deck
-        ensures { result ≡ deck_of self jobs }
+        ensures { result ≡ deck_shaped self jobs }
     {
         Deck {
             stack: self.stack.unwrap_or(512),

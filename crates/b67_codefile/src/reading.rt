@@ -4,7 +4,7 @@ ghost use Rattle.std.specs.Prelude.{◌≡◌, ◌<◌, length, IfOk, Ok};
 ghost use Rattle.std.specs.Int.{w8, w16, w64};
 ghost use Rattle.b67_codefile.specs.declared.file.Codefile.{Codefile};
 ghost use Rattle.b67_codefile.specs.Spelling.{IsWithin, spelling, entry_count};
-ghost use Rattle.b67_codefile.specs.Reading.{Gives, Answers, number_at, word_at, words_at, many_at, entry_at, many_entries_at, entries_at, segment_at, row_at, header_at, counts_at, reading, file_of};
+ghost use Rattle.b67_codefile.specs.Reading.{Gives, Answers, number_read, word_at, words_at, many_at, entry_at, many_entries_at, entries_at, segment_at, row_at, header_at, counts_at, reading, file_of};
 
 use crate::fault::{BadFile, FormatError, ReadError};
 use crate::file::{Codefile, Entries, Rows, Segment, Segments};
@@ -12,7 +12,7 @@ use b67_word::{Word, Words};
 use std::alloc::Global;
 
 fn u8_at(bytes: &[u8]) -> Result<(u8, &[u8]), ReadError>
-    ensures { Gives (λ x. (x.0, x.1.now)) result (number_at w8 bytes.now) }
+    ensures { Gives (λ x. (x.0, x.1.now)) result (number_read w8 bytes.now) }
 {
     if bytes.is_empty() {
         return Err(ReadError::Format(FormatError::Short));
@@ -22,7 +22,7 @@ fn u8_at(bytes: &[u8]) -> Result<(u8, &[u8]), ReadError>
 }
 
 fn u16_at(bytes: &[u8]) -> Result<(u16, &[u8]), ReadError>
-    ensures { Gives (λ x. (x.0, x.1.now)) result (number_at w16 bytes.now) }
+    ensures { Gives (λ x. (x.0, x.1.now)) result (number_read w16 bytes.now) }
 {
     if bytes.len() < 2 {
         return Err(ReadError::Format(FormatError::Short));
@@ -32,7 +32,7 @@ fn u16_at(bytes: &[u8]) -> Result<(u16, &[u8]), ReadError>
 }
 
 fn u64_at(bytes: &[u8]) -> Result<(u64, &[u8]), ReadError>
-    ensures { Gives (λ x. (x.0, x.1.now)) result (number_at w64 bytes.now) }
+    ensures { Gives (λ x. (x.0, x.1.now)) result (number_read w64 bytes.now) }
 {
     if bytes.len() < 8 {
         return Err(ReadError::Format(FormatError::Short));

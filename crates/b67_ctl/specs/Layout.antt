@@ -11,12 +11,12 @@ use Rattle.b67_ctl.specs.declared.references.Irw.{Irw}
 use Rattle.b67_ctl.specs.declared.references.Sirw.{Sirw}
 
 -- a flag as a bit
-abbrev pub bit : Bool → ℕ
-bit b = if b then 1 else 0
+abbrev pub flag_bit : Bool → ℕ
+flag_bit b = if b then 1 else 0
 
 -- a mark stack control word
 abbrev pub mscw_word : Mscw → Tagged
-mscw_word m = word 3 (bit m.far * 2 ^ 47 + bit m.entered * 2 ^ 46 + m.env_stack * 2 ^ 36 + m.env_disp * 2 ^ 20 + bit m.value * 2 ^ 19 + m.level * 2 ^ 14 + m.back)
+mscw_word m = word 3 (flag_bit m.far * 2 ^ 47 + flag_bit m.entered * 2 ^ 46 + m.env_stack * 2 ^ 36 + m.env_disp * 2 ^ 20 + flag_bit m.value * 2 ^ 19 + m.level * 2 ^ 14 + m.back)
 
 pub record IsMscw (m : Mscw) : Type 0 where
   pub env_stack : m.env_stack < 2 ^ 10
@@ -24,7 +24,7 @@ pub record IsMscw (m : Mscw) : Type 0 where
   pub level : m.level < 2 ^ 5
   pub back : m.back < 2 ^ 14
   -- one that is only marked has nothing but the distance
-  pub marked : m.entered ≡ false → bit m.far + m.env_stack + m.env_disp + bit m.value + m.level ≡ 0
+  pub marked : m.entered ≡ false → flag_bit m.far + m.env_stack + m.env_disp + flag_bit m.value + m.level ≡ 0
 
 -- a place in a segment
 abbrev pub place_bits : Place → ℕ

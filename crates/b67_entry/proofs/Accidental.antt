@@ -11,7 +11,7 @@ use Rattle.b67_ctl.specs.Layout.{IsPlace, IsMscw, mscw_word, IsRcw, rcw_word}
 use Rattle.b67_model.specs.State as State
 use Rattle.b67_model.specs.Common.{Frame, Return, Ready, Segment, Task, JobConstants, Job, SessionJob, OperatorContext, top, height, with_top_cells, frame, level_of_frame, AtProc, cells_of, accident, back_to, IsSegment, NamesEntered, TasksInOrder, TaskInOrder, EnvironmentInOrder, outer_of, reach_of, known_of}
 use Rattle.b67_stack.specs.declared.Cpu.{Cpu}
-use Rattle.b67_stack.specs.Common.{StackPlace, Activation, Entered, HeadFits, IsStack, mark_of, return_of, running_level, words, CopiesName, RepresentsRunning}
+use Rattle.b67_stack.specs.Common.{StackPlace, Activation, Entered, HeadFits, IsStack, mark_of, return_of, stack_level, words, CopiesName, RepresentsRunning}
 use Rattle.b67_stack.proofs.Slots.{running_slot, running_fits}
 use Rattle.b67_stack.proofs.Tops.{level-small, top_size-high}
 use Rattle.b67_layout.specs.Common.{spot_in, outer_spots, spots, machine_view, stack_of_task, here, with_job, ShowsDisplay, with_objects, SessionHoldsBut}
@@ -27,7 +27,7 @@ use Rattle.b67_layout.proofs.Steps.{IsFree}
 use Rattle.b67_core.proofs.Writes.{slice_get-set_other}
 use Rattle.b67_lemmas.specs.Lists.{Has}
 use Rattle.b67_lemmas.proofs.Members.{all_in, keyed_has}
-use Rattle.b67_entry.specs.Procedures.{IsEntered}
+use Rattle.b67_entry.specs.Procedures.{RecordEntered}
 use Rattle.b67_entry.proofs.Sites.{Site, site}
 use Rattle.b67_entry.proofs.Segments.{few_segments}
 
@@ -91,7 +91,7 @@ module _ (core : List Tagged) (r : Regs) (a : RunningContext core r) (q : Place)
   rcw_is : rcw ≡ return_of (Some back) stack
   rcw_is =
       ap (λ (n : ℕ). record rcw { level = n }) top_is.level
-      ∙ ap (λ (n : ℕ). record rcw { level = running_level stack; segment = n }) (a.holds.running a.member a.task a.running).segment
+      ∙ ap (λ (n : ℕ). record rcw { level = stack_level stack; segment = n }) (a.holds.running a.member a.task a.running).segment
 
   pub mark_good : IsMscw mark
   mark_good =
@@ -175,7 +175,7 @@ module _ (core : List Tagged) (r : Regs) (a : RunningContext core r) (q : Place)
       }
 
       pub done : IsClear r (with_objects a.left (machine_view a.plan a.session.jobs)) → (display marks : List ℕ) → marks ≡ a.marks → ShowsDisplay display a.plan (record a.member { progress = record a.member.progress { job = job_ready } }) task_ready
-          → IsEntered a (record { core = core_after; regs = regs_after; display = display; critical = marks }) (accident (here a.member a.task q) (cells_of (here a.member a.task q)) (back_to (here a.member a.task q) value b) (AtProc f segment level place))
+          → RecordEntered a (record { core = core_after; regs = regs_after; display = display; critical = marks }) (accident (here a.member a.task q) (cells_of (here a.member a.task q)) (back_to (here a.member a.task q) value b) (AtProc f segment level place))
       done clear display marks em shown =
           let new : Cpu = record { core = core_after; regs = regs_after; display = display; critical = marks } in
           let job' : Job = Accidents.job_after a.left a.storage core r a.marks a.plan a.session a.member a.task a.holds a.running level f back spot job a.member.progress.job.next_frame refl refl free segment place a.task.condition in

@@ -18,7 +18,7 @@ use Rattle.b67_refer.specs.RunningContext.{RunningContext, IsShown}
 use Rattle.b67_layout_records.proofs.Enters.{IsMarkedWith}
 use Rattle.b67_refer.specs.declared.activation.Activation.{Activation}
 use Rattle.b67_refer.specs.Ends.{IsReference}
-use Rattle.b67_entry.specs.Procedures.{ReachesProc, Calls}
+use Rattle.b67_entry.specs.Procedures.{ReachesProc, CallsWith}
 use Rattle.b67_entry.proofs.Unasked.{pcw, environment, starts, high}
 use Rattle.b67_entry.proofs.Entering as Entering
 
@@ -45,7 +45,7 @@ plain_shape plan j job spot (Proc segment level place) is home = absurd is
 plain_shape plan j job spot (Intrinsic k) is home = absurd is
 plain_shape plan j job spot (Words.Segment k) is home = absurd is
 
-module _ (cpu : Cpu) (a : RunningContext cpu.core cpu.regs) (q : Place) (good : IsPlace q) (at f segment level : ℕ) (place : Place) (reference : Word) (arguments : List Word) (e : ReachesProc cpu a q at f segment level place) (w : Calls a.task reference arguments) where
+module _ (cpu : Cpu) (a : RunningContext cpu.core cpu.regs) (q : Place) (good : IsPlace q) (at f segment level : ℕ) (place : Place) (reference : Word) (arguments : List Word) (e : ReachesProc cpu a q at f segment level place) (w : CallsWith a.task reference arguments) where
   pub with : IsMarkedWith a.task.frames reference (reverse arguments)
   with = record { some = w.some; marked = w.marked; cells = w.cells }
 

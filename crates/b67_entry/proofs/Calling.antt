@@ -18,7 +18,7 @@ use Rattle.b67_stack.specs.Common.{PagedObject, Storage, RepresentsRunning}
 use Rattle.b67_stack.proofs.Slots.{running_slot}
 use Rattle.b67_layout.proofs.Common.{member-same, IsFree, change-has, fresh, running_in_order, with_job-twice, RepresentsSession-condition}
 use Rattle.b67_refer.specs.Ends.{IsProcAt}
-use Rattle.b67_entry.specs.Procedures.{CanEnter, IsEntered, EntersOrFaults}
+use Rattle.b67_entry.specs.Procedures.{CanEnter, RecordEntered, EntersOrFaults}
 use Rattle.b67_layout.proofs.Objects.{objects-after}
 use Rattle.b67_entry.proofs.Returned.{clear_mark, clear_return}
 use Rattle.b67_layout_records.proofs.Leaves.{task_at}
@@ -132,7 +132,7 @@ module _ (x : Storage) (old : Cpu) (plan : Placement) (s : Session) (m : Session
     answer b e = answer_is x old plan s m t o h runs a v not_operand ∙ ap (λ (z : Answer Chase.End). z >>= evaluates (here_left m t a)) is ∙ by_level Ready b e
 
     -- it was entered
-    entered : (new : Cpu) (b : Bool) → (level_of_frame (frame (seen x old plan s m t o h runs a) f) + 1 == level) ≡ b → IsEntered (scene x old plan s m t o h runs a) new ready_row → IsMade x plan s m old new (returned (here_left m t a) v true)
+    entered : (new : Cpu) (b : Bool) → (level_of_frame (frame (seen x old plan s m t o h runs a) f) + 1 == level) ≡ b → RecordEntered (scene x old plan s m t o h runs a) new ready_row → IsMade x plan s m old new (returned (here_left m t a) v true)
     entered new false e i = absurd (let z : Err InvalidOperand ≡ Ok (Goes i.job [] None) = sym (ready_level false e) ∙ i.is in let y : ⊥ = cc in y)
     entered new true e i =
         let both : Ok (Goes (job_on Ready) [] None) ≡ Ok (Goes i.job [] None) = sym (ready_level true e) ∙ i.is in

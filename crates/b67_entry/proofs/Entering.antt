@@ -14,7 +14,7 @@ use Rattle.b67_model.specs.Common.{Word, Frame, Return, Ready, Task, Job, Sessio
 use Rattle.b67_model.specs.State as State
 use Rattle.b67_layout.specs.Common.{IsInOrderButCounts, Placement, spot_in, outer_spots, spots, shape, machine_view, stack_of_task, IsMade, here, with_job, IsRunning, ShowsDisplay, SessionHolds, RepresentsSession, RepresentsSessionBut}
 use Rattle.b67_stack.specs.declared.Cpu.{Cpu}
-use Rattle.b67_stack.specs.Common.{Original, StackPlace, Activation, Entered, HeadFits, IsStack, mark_of, top_mark, return_of, running_level, top_size, words, PagedObject, CopiesName, Storage, RepresentsRunning}
+use Rattle.b67_stack.specs.Common.{Original, StackPlace, Activation, Entered, HeadFits, IsStack, mark_of, top_mark, return_of, stack_level, top_size, words, PagedObject, CopiesName, Storage, RepresentsRunning}
 use Rattle.b67_stack.proofs.Slots.{running_slot, running_fits}
 use Rattle.b67_stack.proofs.Tops.{level-small, top_size-high}
 use Rattle.b67_stack.proofs.Pushes.{Room, room_of}
@@ -97,7 +97,7 @@ module _ (x : Storage) (old : Cpu) (plan : Placement) (s : Session) (m : Session
   rcw_is : rcw ≡ return_of (Some back) under
   rcw_is =
       ap (λ (n : ℕ). record rcw { level = n }) top_is.level
-      ∙ ap (λ (n : ℕ). record rcw { level = running_level under; segment = n }) (h.holds.running m t runs).segment
+      ∙ ap (λ (n : ℕ). record rcw { level = stack_level under; segment = n }) (h.holds.running m t runs).segment
 
   pub mark_good : IsMscw mark
   mark_good =

@@ -13,7 +13,7 @@ use Rattle.b67_ctl.specs.declared.registers.Regs.{Regs}
 use Rattle.b67_model.specs.Common.{Answer, ◌>>=◌, Word, Operand, Name, Ref, Row, Element, Original, Proc, Intrinsic, Ready, Frame, Array, Task, Job, OperatorContext, SessionJob, all_frames, mcp, height, with_task, element, AtCell, AtElement, AtArray, AtProc, AtIntrinsic, follow, evaluates, returned, Done, Goes, pushes, without_arrays_of, Session}
 use Rattle.b67_model.specs.Words as Words
 use Rattle.b67_model.specs.Chase as Chase
-use Rattle.b67_layout.specs.Common.{IsInOrderButCounts, Placement, IsRunning, RepresentsSession, IsMade, FindsAbsent, IsPresent, area_held, here}
+use Rattle.b67_layout.specs.Common.{IsInOrderButCounts, Placement, IsRunning, RepresentsSession, IsMade, FindsAbsent, TouchedIsPresent, area_held, here}
 use Rattle.b67_stack.specs.declared.Cpu.{Cpu}
 use Rattle.b67_stack.specs.declared.What.TheVariants as what
 use Rattle.b67_stack.specs.Represents.{Storage}
@@ -116,7 +116,7 @@ module _ (x : Storage) (old : Cpu) (plan : Placement) (s : Session) (m : Session
       let twice : with_task (here_left m t a).job U ≡ with_task (without_arrays_of a.f.identity m.progress.job) U = ap (λ (ts : List Task). record (without_arrays_of a.f.identity m.progress.job) { tasks = ts }) (change_twice (λ (z : Task). z.number) t.number T U m.progress.job.tasks refl) in
       rw (le-leb (height fs) m.constants.stack_size (omega (arith, height_left x old plan s m t o h runs a))) (ap (λ (j : Job). Ok (Goes j [] touched)) twice)
 
-  pub put_made : (u : Word) (w : Tagged) → Puts x old plan s m t o h runs a u w → (touched : Option ℕ) → IsPresent x plan m.constants.number touched → (display : List ℕ) → IsShown scene display → (answer : Answer Done) → answer ≡ pushes (here_left m t a) u touched
+  pub put_made : (u : Word) (w : Tagged) → Puts x old plan s m t o h runs a u w → (touched : Option ℕ) → TouchedIsPresent x plan m.constants.number touched → (display : List ℕ) → IsShown scene display → (answer : Answer Done) → answer ≡ pushes (here_left m t a) u touched
       → IsMade x plan s m old (with_word old (regs_left x old plan s m t o h runs a) display w) answer
   put_made u w put touched present display shown answer is = record {
     job = job_with x old plan s m t o h runs a (frames_with x old plan s m t o h runs a (u ∷ a.next.cells)) t.condition;

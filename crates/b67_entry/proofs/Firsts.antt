@@ -6,7 +6,7 @@ use Rattle.std.proofs.lemmas.List.{reverse-reverse}
 use Rattle.b67_word.specs.Tagged.{Tagged}
 use Rattle.b67_word.specs.declared.couples.Place.{Place}
 use Rattle.b67_word.specs.declared.faults.Fault.TheVariants.{InvalidOperand, StackUnderflow}
-use Rattle.b67_ctl.specs.Layout.{bit}
+use Rattle.b67_ctl.specs.Layout.{flag_bit}
 use Rattle.b67_ctl.specs.declared.marks.Mscw.{Mscw}
 use Rattle.b67_model.specs.Common.{Answer, ◌>>=◌, Word, Operand, Name, Ref, Row, Element, Proc, Intrinsic, Frame, Standing, Array, Task, Job, SessionJob, OperatorContext, top, below_top, End, follow, follow_reference, cells_of, top_of, entr, entr_at, entr_with, Session, Starts, Known, IsSegment, WordInOrder, FramesInOrder, known_of, outer_of, reach_of, called_at, called_by, called_on}
 use Rattle.b67_ctl.specs.declared.registers.Regs.{Regs}
@@ -26,7 +26,7 @@ use Rattle.b67_refer.specs.Cells.{StandsFor}
 use Rattle.b67_refer.proofs.Scenes.{scene}
 use Rattle.b67_layout_records.proofs.Enters.{IsMarkedWith, marked_stack}
 use Rattle.b67_refer.specs.Ends.{IsReference}
-use Rattle.b67_entry.specs.Procedures.{Calls}
+use Rattle.b67_entry.specs.Procedures.{CallsWith}
 
 -- what the mark says of how the frame stands
 module _ (plan : Placement) (j : ℕ) (job : Job) (k : ℕ) (outer : ℕ → StackPlace) where
@@ -148,7 +148,7 @@ module _ (x : Storage) (old : Cpu) (plan : Placement) (s : Session) (m : Session
 
     empty : (old.regs.s ≡ old.regs.f → top_cells stack_now ≡ []) × (top_cells stack_now ≡ [] → old.regs.s ≡ old.regs.f)
     empty =
-        let e = empty_at x old.core old.regs (machine_view plan s.jobs) old.regs.slot stack_now k 0 h.holds.memory (runs_here x old plan s m t h runs) is (ap bit (sym unentered)) in
+        let e = empty_at x old.core old.regs (machine_view plan s.jobs) old.regs.slot stack_now k 0 h.holds.memory (runs_here x old plan s m t h runs) is (ap flag_bit (sym unentered)) in
         (λ z. e.0 (omega (arith, z)), λ z. omega (arith, e.1 z))
 
     no_cells : (g : Word → Shape) (cs : List Word) → map g cs ≡ [] → cs ≡ []
@@ -212,7 +212,7 @@ module _ (x : Storage) (old : Cpu) (plan : Placement) (s : Session) (m : Session
       pub first_stands : StandsFor (scene [] x old.core old.regs old.critical plan s m t o h.holds runs) (old.regs.f + 1) (top t.frames).identity (facing some).word (facing some).first
       first_stands = let f = facing some in stands_for (scene [] x old.core old.regs old.critical plan s m t o h.holds runs) (old.regs.f + 1) (top t.frames).identity f.word f.first is_reference f.fits f.order
 
-      pub calling : Calls t (facing some).first (facing some).arguments
+      pub calling : CallsWith t (facing some).first (facing some).arguments
       calling = let f = facing some in record { some = f.with.some; marked = f.with.marked; cells = f.with.cells; refers = is_reference }
 
       -- the row, by where its reference leads

@@ -13,7 +13,7 @@ use Rattle.b67_layout.proofs.Starts.{runs_here}
 use Rattle.b67_refer.specs.RunningContext.{RunningContext}
 use Rattle.b67_refer.proofs.Scenes.{scene}
 use Rattle.b67_stack.proofs.ClearHeads.{clear_settled}
-use Rattle.b67_entry.specs.Procedures.{ReachesProc, CanEnter, IsEntered, EntersOrFaults}
+use Rattle.b67_entry.specs.Procedures.{ReachesProc, CanEnter, RecordEntered, EntersOrFaults}
 
 module _ (cpu : Cpu) (a : RunningContext cpu.core cpu.regs) where
   -- the scene with nothing to release
@@ -32,7 +32,7 @@ module _ (cpu : Cpu) (a : RunningContext cpu.core cpu.regs) (q : Place) (at f se
     };
   }
 
-  made : (new : Cpu) (answer : Answer Done) → IsEntered (plain_scene cpu a e.ordered e.stands) new answer → IsMade a.storage a.plan a.session a.member cpu new answer
+  made : (new : Cpu) (answer : Answer Done) → RecordEntered (plain_scene cpu a e.ordered e.stands) new answer → IsMade a.storage a.plan a.session a.member cpu new answer
   made new answer d =
       let L : List PagedObject → Type 0 = λ left. RepresentsSessionBut left a.storage new a.plan (with_job a.session a.member d.job) in
       record {

@@ -6,7 +6,7 @@ use Rattle.b67_word.specs.Tagged.{Tagged}
 use Rattle.b67_word.specs.declared.couples.Place.{Place}
 use Rattle.b67_word.specs.declared.faults.Fault.{Fault}
 use Rattle.b67_word.specs.declared.faults.Fault.TheVariants.{MarkPending, StackUnderflow, CriticalBlock}
-use Rattle.b67_ctl.specs.Layout.{bit}
+use Rattle.b67_ctl.specs.Layout.{flag_bit}
 use Rattle.b67_ctl.specs.declared.marks.Mscw.{Mscw}
 use Rattle.b67_model.specs.Common.{Answer, Word, Operand, Name, Ref, Row, Element, Original, Proc, Intrinsic, Standing, Frame, Task, SessionJob, top, returnable, returned, retn, Leaves, is_critical, Session, IsSegment, known_of, outer_of, FramesInOrder, WordInOrder, reach_of}
 use Rattle.b67_model.specs.Words as Words
@@ -73,7 +73,7 @@ module _ (x : Storage) (cpu : Cpu) (plan : Placement) (s : Session) (m : Session
       cells_are = ap (λ (fs : List Frame). top_cells (activations plan m.constants.number m.progress.job plan.running outer fs)) top_entered.frames
 
       empty_is : (cpu.regs.s ≡ cpu.regs.f + 1 → top_cells stack ≡ []) × (top_cells stack ≡ [] → cpu.regs.s ≡ cpu.regs.f + 1)
-      empty_is = empty_at x cpu.core cpu.regs (machine_view plan s.jobs) cpu.regs.slot stack mark 1 h.holds.memory on is (ap bit (sym n))
+      empty_is = empty_at x cpu.core cpu.regs (machine_view plan s.jobs) cpu.regs.slot stack mark 1 h.holds.memory on is (ap flag_bit (sym n))
 
       pub empty : (next : Place) → cpu.regs.s ≡ cpu.regs.f + 1 → retn (here m t next) ≡ Err StackUnderflow
       empty next e =

@@ -8,7 +8,7 @@ use Rattle.b67_ctl.specs.Layout.{mscw_word, rcw_word}
 use Rattle.b67_core.proofs.Writes.{slice_get-set_other}
 use Rattle.b67_lemmas.specs.Lists.{Has}
 use Rattle.b67_model.specs.State.{Return}
-use Rattle.b67_stack.specs.Common.{Shape, Is, Original, Copy, Fits, LieDownward, StackPlace, Head, Entered, Activation, IsStack, stack_words, mark_place, running_level, mark_of, return_of, headed, words, PagedObject, MachineView, RunsOn, slot_base, CopiesName, Storage, RepresentsRunning, Represents, with_stack, MayPush}
+use Rattle.b67_stack.specs.Common.{Shape, Is, Original, Copy, Fits, LieDownward, StackPlace, Head, Entered, Activation, IsStack, stack_words, mark_place, stack_level, mark_of, return_of, headed, words, PagedObject, MachineView, RunsOn, slot_base, CopiesName, Storage, RepresentsRunning, Represents, with_stack, MayPush}
 use Rattle.b67_stack.proofs.Lies.{Lie-push, Lie-under}
 use Rattle.b67_stack.proofs.Heights.{words-length}
 use Rattle.b67_stack.proofs.Homes.{not_home}
@@ -76,7 +76,7 @@ module _ (x : Storage) (core : List Tagged) (r : Regs) (p : MachineView) (k : �
 
   -- the registers after it was left
   abbrev pub regs_below : ℕ → Place → Regs
-  regs_below g q = record r { s = r.bosr + stack_words (b ∷ more); f = r.bosr + mark_place (b ∷ more); level = running_level (b ∷ more); segment = g; place = q }
+  regs_below g q = record r { s = r.bosr + stack_words (b ∷ more); f = r.bosr + mark_place (b ∷ more); level = stack_level (b ∷ more); segment = g; place = q }
 
   -- left, with a word on the record below
   pub Represents-returned : (c : Shape) (w : Tagged) (i g : ℕ) (q : Place) → MayPush p.objects c → Fits x.held c i w

@@ -19,7 +19,7 @@ use Rattle.b67_layout_records.proofs.Accidents as Accidents
 use Rattle.b67_refer.specs.Ends.{IsProcAt}
 use Rattle.b67_refer.specs.RunningContext.{RunningContext, IsShown}
 use Rattle.b67_refer.specs.declared.activation.Activation.{Activation}
-use Rattle.b67_entry.specs.Procedures.{IsEntered}
+use Rattle.b67_entry.specs.Procedures.{RecordEntered}
 use Rattle.b67_entry.proofs.Sites.{site}
 use Rattle.b67_entry.proofs.Accidental as Accidental
 use Rattle.b67_entry.proofs.Segments.{few_segments}
@@ -108,7 +108,7 @@ module _ (cpu : Cpu) (r : Regs) (a : RunningContext cpu.core r) (q : Place) (at 
 
         pub done : (core : List Tagged) (p : Pcw) (new : Cpu) → core ≡ core_after → p ≡ pcw → cpu.critical ≡ a.marks → new ≡ record { core = core; regs = regs_with p; display = new.display; critical = cpu.critical }
             → ((b : RunningContext core (regs_with p)) → IsShown b new.display)
-            → IsEntered a new (accident (here a.member a.task q) (cells_of (here a.member a.task q)) (back_to (here a.member a.task q) value back) (AtProc f segment level place))
+            → RecordEntered a new (accident (here a.member a.task q) (cells_of (here a.member a.task q)) (back_to (here a.member a.task q) value back) (AtProc f segment level place))
         done core p new ec ep em en shown =
             let d = new.display in
             let D : List Tagged → Pcw → Type 0 = λ k z. (b : RunningContext k (regs_with z)) → IsShown b d in
@@ -116,4 +116,4 @@ module _ (cpu : Cpu) (r : Regs) (a : RunningContext cpu.core r) (q : Place) (at 
             let made = Accidental.done cpu.core r a q f segment level place e.cell.names e.own high starts value back good test room clear d cpu.critical em seen in
             let is : new ≡ record { core = core_after; regs = regs_with pcw; display = d; critical = cpu.critical } =
             en ∙ ap (λ (k : List Tagged). let z : Cpu = record { core = k; regs = regs_with p; display = d; critical = cpu.critical } in z) ec ∙ ap (λ (y : Pcw). let z : Cpu = record { core = core_after; regs = regs_with y; display = d; critical = cpu.critical } in z) ep in
-            subst (λ (z : Cpu). IsEntered a z (accident (here a.member a.task q) (cells_of (here a.member a.task q)) (back_to (here a.member a.task q) value back) (AtProc f segment level place))) (sym is) made
+            subst (λ (z : Cpu). RecordEntered a z (accident (here a.member a.task q) (cells_of (here a.member a.task q)) (back_to (here a.member a.task q) value back) (AtProc f segment level place))) (sym is) made

@@ -5,7 +5,7 @@ use Rattle.b67_model.specs.State as State
 use Rattle.b67_model.specs.Common.{Return, Frame, Task, OperatorContext, SessionJob, with_task, level_of_frame, is_critical, without_arrays_of, IsSegment}
 use Rattle.b67_model.specs.Environment as Environment
 use Rattle.b67_stack.specs.declared.Cpu.{Cpu}
-use Rattle.b67_stack.specs.Common.{StackPlace, Activation, Entered, stack_words, mark_place, running_level, MachineView, RunsOn, Storage, Represents}
+use Rattle.b67_stack.specs.Common.{StackPlace, Activation, Entered, stack_words, mark_place, stack_level, MachineView, RunsOn, Storage, Represents}
 use Rattle.b67_layout.specs.Common.{Placement, outer_spots, activations}
 
 -- the running stack's top activation record is entered, with a return to one below
@@ -25,7 +25,7 @@ pub record MayReturn (cpu : Cpu) : Type 0 where
 -- the registers on the stack below, where the caller goes on
 abbrev pub caller_regs : Regs → List Activation → Return → Regs
 caller_regs r below back =
-    record r { s = r.bosr + stack_words below; f = r.bosr + mark_place below; level = running_level below; segment = back.segment + 1; place = back.place }
+    record r { s = r.bosr + stack_words below; f = r.bosr + mark_place below; level = stack_level below; segment = back.segment + 1; place = back.place }
 
 -- the task's top frame is entered with a return to others, and no live task depends on it
 pub record Returns (m : SessionJob) (t : Task) : Type 0 where

@@ -22,7 +22,7 @@ pub record CanEnter (cpu : Cpu) (r : Regs) (a : RunningContext cpu.core r) (q : 
 
 -- the record was entered: the machine stands for what the row makes, but for what was left to release, and the two words
 -- over the top alone have changed
-pub record IsEntered {core : List Tagged} {r : Regs} (a : RunningContext core r) (new : Cpu) (answer : Answer Done) : Type 0 where
+pub record RecordEntered {core : List Tagged} {r : Regs} (a : RunningContext core r) (new : Cpu) (answer : Answer Done) : Type 0 where
   pub job : Job
   pub arrays : job.arrays ≡ a.member.progress.job.arrays
   pub is : answer ≡ Ok (Goes job [] None)
@@ -33,7 +33,7 @@ pub record IsEntered {core : List Tagged} {r : Regs} (a : RunningContext core r)
 
 -- it was entered, or nothing has changed at a fault
 abbrev pub EntersOrFaults : {core : List Tagged} {r : Regs} (a : RunningContext core r) → Step → Cpu → Cpu → Answer Done → Type 0
-EntersOrFaults a step.Done old new answer = IsEntered a new answer
+EntersOrFaults a step.Done old new answer = RecordEntered a new answer
 EntersOrFaults a (step.Fault fault) old new answer = (answer ≡ Err fault) × (new ≡ old)
 EntersOrFaults a _ old new answer = ⊥
 
@@ -44,7 +44,7 @@ pub record ReachesProc (cpu : Cpu) (a : RunningContext cpu.core cpu.regs) (q : P
   pub procedure : IsProcAt a q at f segment level place
 
 -- the running task's top frame is marked, and these are its cells: a reference, and arguments
-pub record Calls (t : Task) (reference : Word) (arguments : List Word) : Type 0 where
+pub record CallsWith (t : Task) (reference : Word) (arguments : List Word) : Type 0 where
   pub some : t.frames ≢ []
   pub marked : (top t.frames).standing ≡ Marked
   pub cells : (top t.frames).cells ≡ reverse arguments ++ reference ∷ []

@@ -14,7 +14,7 @@ ghost use Rattle.b67_model.specs.Rows as operators;
 ghost use Rattle.b67_stack.specs.declared.Step.TheVariants.{Done};
 ghost use Rattle.b67_layout.specs.Meets.{RunsSome, ForEach, Meets, here};
 ghost use Rattle.b67_refer.specs.RunningContext.{RunningContext, IsShown};
-ghost use Rattle.b67_entry.specs.Procedures.{ReachesProc, CanEnter, EntersOrFaults, Calls, CallsOrMeets};
+ghost use Rattle.b67_entry.specs.Procedures.{ReachesProc, CanEnter, EntersOrFaults, CallsWith, CallsOrMeets};
 ghost use Rattle.b67_model.specs.Words.{Word};
 
 use b67_core::Core;
@@ -80,10 +80,10 @@ fn begin(cpu: &mut Cpu, procedure: Pcw)
 /// activation record.
 fn enter(cpu: &mut Cpu, cell: u32, next: Place) -> Step
     requires procedure { (a : RunningContext cpu.old.core cpu.old.regs) × (f : ℕ) × (segment : ℕ) × (level : ℕ) × (place : Place) × (reference : Word) × (arguments : List Word)
-        × ReachesProc cpu.old a next cell f segment level place × Calls a.task reference arguments }
+        × ReachesProc cpu.old a next cell f segment level place × CallsWith a.task reference arguments }
     requires next { IsPlace next }
     ensures row { (a : RunningContext cpu.old.core cpu.old.regs) (f segment level : ℕ) (place : Place) (reference : Word) (arguments : List Word)
-        → ReachesProc cpu.old a next cell f segment level place → Calls a.task reference arguments
+        → ReachesProc cpu.old a next cell f segment level place → CallsWith a.task reference arguments
         → Meets a.storage a.plan a.session a.member result cpu.old cpu.new (rows.enters (here a.member a.task next) arguments (AtProc f segment level place)) }
 {
     let env = activation_of(&cpu.core, &cpu.regs, cell);

@@ -18,9 +18,9 @@ use Rattle.b67_refer.specs.declared.ends.End.TheVariants as end
 use Rattle.b67_refer.specs.RunningContext.{RunningContext}
 use Rattle.b67_refer.specs.Ends.{EndMeets, IsProcAt}
 use Rattle.b67_entry.specs.Procedures.{ReachesProc}
-use Rattle.b67_fetch.specs.Fetches.{enters, enters_at, EntersOrMeets}
+use Rattle.b67_fetch.specs.Fetches.{is_procedure_end, enters_at, EntersOrMeets}
 use Rattle.b67_fetch.proofs.Values.{here_scene, here_shown, followed_stands, couple_followed}
-use Rattle.b67_exec.specs.Procedures.{Leads}
+use Rattle.b67_exec.specs.Procedures.{LeadsToProcedure}
 
 -- an end that is a procedure's
 pub record AtProcedure (e : Answer Chase.End) : Type 0 where
@@ -30,7 +30,7 @@ pub record AtProcedure (e : Answer Chase.End) : Type 0 where
   pub place : Place
   pub is : e ≡ Ok (AtProc frame segment level place)
 
-at_by : (e : Chase.End) → enters e ≡ true → AtProcedure (Ok e)
+at_by : (e : Chase.End) → is_procedure_end e ≡ true → AtProcedure (Ok e)
 at_by (AtProc f segment level place) is = record { frame = f; segment = segment; level = level; place = place; is = refl }
 at_by (AtCell f offset bits) is = absurd (let z : ⊥ = cc in z)
 at_by (AtElement n i) is = absurd (let z : ⊥ = cc in z)
@@ -65,7 +65,7 @@ called_by x plan s m n old new false answer i = absurd i
 module _ (x : Storage) (cpu : Cpu) (plan : Placement) (s : Session) (m : SessionJob) (t : Task) (ordered : IsInOrderButCounts s) (h : RepresentsSession x cpu plan s) (runs : IsRunning plan s.jobs m t) where
   -- a couple that leads to a procedure
   pub couple_leads : (q : Place) (couple : ℕ) (w : Tagged) → couple < 2 ^ 14 → w ≡ irw_word (record { couple = couple }) → (p : AtProcedure (chase (here m t q) (Name couple)))
-      → Leads cpu (here_scene x cpu plan s m t ordered h runs) q w p.frame p.segment p.level p.place
+      → LeadsToProcedure cpu (here_scene x cpu plan s m t ordered h runs) q w p.frame p.segment p.level p.place
   couple_leads q couple w small is p =
       let i = couple_followed x plan m t couple w small is in
       record { shown = here_shown x cpu plan s m t ordered h runs; at = i.at; owner = i.owner; word = Name couple; stands = followed_stands x cpu plan s m t ordered h runs w (Name couple) i; ends = p.is }

@@ -22,7 +22,7 @@ use Rattle.b67_refer.specs.RunningContext.{RunningContext}
 use Rattle.b67_refer.specs.Ends.{IsProcAt}
 use Rattle.b67_refer.proofs.Scenes.{scene}
 use Rattle.b67_stack.proofs.ClearHeads.{clear_settled}
-use Rattle.b67_entry.specs.Procedures.{CanEnter, IsEntered, EntersOrFaults}
+use Rattle.b67_entry.specs.Procedures.{CanEnter, RecordEntered, EntersOrFaults}
 use Rattle.b67_exec.proofs.Looks.{spots-same, reach-same, level-same, cell-same}
 
 cells-back : (fs : List Frame) (cs : List Word) → with_top_cells (with_top_cells fs cs) (top (with_top_cells fs cs)).cells ≡ with_top_cells fs cs
@@ -117,7 +117,7 @@ module _ (x : Storage) (old : Cpu) (plan : Placement) (s : Session) (m : Session
       ∙ ap last tasks
 
   module _ (within : (i : ℕ) → (slice_get cpu0.core i ≡ slice_get old.core i) ⊎ ((old.regs.bosr < i) × (i ≤ old.regs.losr))) where
-    made : (new : Cpu) (answer other : Answer Done) → answer ≡ other → IsEntered scene0 new answer → IsMade x plan s m old new other
+    made : (new : Cpu) (answer other : Answer Done) → answer ≡ other → RecordEntered scene0 new answer → IsMade x plan s m old new other
     made new answer other e i =
         let S : List SessionJob → Session = λ js. record s { jobs = js } in
         let jobs = jobs-twice m.constants.number (record m.progress { job = with_task m.progress.job (task_with t cs t.place) }) (record m.progress { job = i.job }) s.jobs in

@@ -22,7 +22,7 @@ use Rattle.b67_entry.specs.Procedures.{CanEnter, EntersOrFaults}
 use Rattle.b67_fetch.specs.Fetches.{enters_at, top_end}
 use Rattle.b67_fetch.proofs.Values.{TopFollowed, top_followed, followed_plain, here_scene, here_shown, followed_stands}
 use Rattle.b67_exec.proofs.Entries.{EntersOver, scene0, member0, task0, proc_moves, can_enter, entered}
-use Rattle.b67_exec.specs.Procedures.{Leads}
+use Rattle.b67_exec.specs.Procedures.{LeadsToProcedure}
 use Rattle.b67_exec.proofs.Entered.{AtProcedure, at_procedure}
 
 pub over_meets : (x : Storage) (plan : Placement) (s : Session) (m : SessionJob) (r : Step) (old new : Cpu) (answer : Answer Done) → EntersOver x plan s m r old old new answer → Meets x plan s m r old new answer
@@ -77,7 +77,7 @@ module _ (x : Storage) (cpu : Cpu) (plan : Placement) (s : Session) (m : Session
     pub at_end : AtProcedure (follow (here m t q) top_is.word)
     at_end = at_procedure (follow (here m t q) top_is.word) (subst (λ cs. enters_at (top_end (here m t q) cs) ≡ true) top_is.is enters)
 
-    pub leads : Leads cpu (here_scene x cpu plan s m t ordered h runs) q w at_end.frame at_end.segment at_end.level at_end.place
+    pub leads : LeadsToProcedure cpu (here_scene x cpu plan s m t ordered h runs) q w at_end.frame at_end.segment at_end.level at_end.place
     leads = record {
       shown = here_shown x cpu plan s m t ordered h runs;
       at = top_is.followed.at;

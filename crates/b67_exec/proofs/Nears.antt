@@ -6,7 +6,7 @@ use Rattle.std.proofs.lemmas.Option.{same_Some}
 use Rattle.b67_word.specs.Tagged.{Tagged}
 use Rattle.b67_word.specs.declared.couples.Place.{Place}
 use Rattle.b67_area.specs.declared.Kind.TheVariants as kind
-use Rattle.b67_ctl.specs.Layout.{bit}
+use Rattle.b67_ctl.specs.Layout.{flag_bit}
 use Rattle.b67_ctl.specs.declared.descriptors.SegDesc.{SegDesc}
 use Rattle.b67_ctl.specs.Descriptors.{seg_word, IsSegDesc}
 use Rattle.b67_lemmas.specs.Lists.{Has}
@@ -115,11 +115,11 @@ module _ (m : SessionJob) (t : Task) (job : Job) (printed : List Line) (touched 
 
 -- ---- descriptors
 
-bit_low : (b : Bool) → bit b ≤ 1
+bit_low : (b : Bool) → flag_bit b ≤ 1
 bit_low true = omega arith
 bit_low false = omega arith
 
-same_bit : (a b : Bool) → bit a ≡ bit b → a ≡ b
+same_bit : (a b : Bool) → flag_bit a ≡ flag_bit b → a ≡ b
 same_bit true true e = refl
 same_bit false false e = refl
 same_bit true false e = absurd (omega (arith, e))
@@ -133,7 +133,7 @@ same_fields a b present words address = by a.present a.words a.address present w
 -- a word is one descriptor's
 pub same_desc : (a b : SegDesc) → IsSegDesc a → IsSegDesc b → seg_word a ≡ seg_word b → a ≡ b
 same_desc a b p q e =
-    let bits : bit a.present * 2 ^ 47 + a.words * 2 ^ 20 + a.address ≡ bit b.present * 2 ^ 47 + b.words * 2 ^ 20 + b.address = ap (λ (w : Tagged). w.bits) e in
+    let bits : flag_bit a.present * 2 ^ 47 + a.words * 2 ^ 20 + a.address ≡ flag_bit b.present * 2 ^ 47 + b.words * 2 ^ 20 + b.address = ap (λ (w : Tagged). w.bits) e in
     same_fields a b
     (same_bit a.present b.present (omega (arith, bits, p.address, q.address, p.words, q.words, bit_low a.present, bit_low b.present)))
     (omega (arith, bits, p.address, q.address, p.words, q.words, bit_low a.present, bit_low b.present))

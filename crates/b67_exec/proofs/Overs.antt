@@ -20,7 +20,7 @@ use Rattle.b67_refer.specs.Ends.{IsProcAt}
 use Rattle.b67_entry.specs.Procedures.{CanEnter, EntersOrFaults}
 use Rattle.b67_fetch.specs.Fetches.{IsFollowed}
 use Rattle.b67_fetch.proofs.Values.{here_scene, here_shown, followed_stands}
-use Rattle.b67_exec.specs.Procedures.{Leads}
+use Rattle.b67_exec.specs.Procedures.{LeadsToProcedure}
 use Rattle.b67_exec.proofs.Entered.{AtProcedure}
 use Rattle.b67_exec.specs.Stores.{ValueOver}
 use Rattle.b67_exec.proofs.Unders.{under_scene, under_enters, under_made, under_fault}
@@ -44,7 +44,7 @@ module _ (x : Storage) (cpu : Cpu) (plan : Placement) (s : Session) (m : Session
   abbrev pub proc_of : AtProcedure (follow (here m t q) o.reference)
   proc_of = record { frame = o.frame; segment = o.segment; level = o.level; place = o.place; is = o.ends }
 
-  pub leads_under : Leads cpu (here_scene x cpu plan s m t ordered h runs) q u o.frame o.segment o.level o.place
+  pub leads_under : LeadsToProcedure cpu (here_scene x cpu plan s m t ordered h runs) q u o.frame o.segment o.level o.place
   leads_under =
       let i : IsFollowed x plan m t u o.reference = record {
         at = cpu.regs.s - 1;

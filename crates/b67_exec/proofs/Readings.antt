@@ -13,9 +13,9 @@ use Rattle.b67_stack.specs.Represents.{Storage}
 use Rattle.b67_layout.specs.Placement.{Placement}
 use Rattle.b67_exec_cells.specs.Running.{code_area}
 use Rattle.b67_entry.specs.Procedures.{CallsOrMeets}
-use Rattle.b67_exec.specs.Operators.{ParametersFit, called_by, OperatorAt, OperatorMeets}
+use Rattle.b67_exec.specs.Operators.{ParametersHaveBits, called_by_reading, OperatorAt, OperatorMeets}
 
-fits_by : (op : Op) → OpBits op → ParametersFit op
+fits_by : (op : Op) → OpBits op → ParametersHaveBits op
 fits_by (Valc couple) o = o
 fits_by (Namc couple) o = o
 fits_by (Lt8 n) o = tt
@@ -31,17 +31,17 @@ fits_by (Isol high width) o = tt
 fits_by (Insr high width) o = tt
 fits_by (Plain code) o = tt
 
-pub read_fits : (constants : JobConstants) (t : Task) (op : Op) (next : Place) → SettingInOrder constants → ◌≡◌ {A = Reading} (Ok (op, next)) (reading_of constants t) → ParametersFit op × IsPlace next
+pub read_fits : (constants : JobConstants) (t : Task) (op : Op) (next : Place) → SettingInOrder constants → ◌≡◌ {A = Reading} (Ok (op, next)) (reading_of constants t) → ParametersHaveBits op × IsPlace next
 read_fits constants t op next g is =
     let r : ReadFits (Ok (op, next)) = subst ReadFits (sym is) (reading_fits constants t g) in
     (fits_by op r.0, record { syllable = r.1.1; word = r.1.0 })
 
 -- what making the operator that was read answers
 abbrev ByReading : Storage → Placement → Session → SessionJob → Task → Step → Cpu → Cpu → Reading → Type 0
-ByReading x plan s m t answered old new reading = CallsOrMeets x plan s m answered old new (called_by m t reading) (step_by m.constants m.progress.job t reading)
+ByReading x plan s m t answered old new reading = CallsOrMeets x plan s m answered old new (called_by_reading m t reading) (step_by m.constants m.progress.job t reading)
 
 pub operator_read : (x : Storage) (plan : Placement) (s : Session) (m : SessionJob) (t : Task) (answered : Step) (old new : Cpu) (at : ℕ) (reading : Reading) → code_area x plan m t ≡ Some at → reading ≡ reading_of m.constants t
-    → CallsOrMeets x plan s m answered old new (called_by m t reading) (step_by m.constants m.progress.job t reading) → OperatorMeets x plan s m t answered old new
+    → CallsOrMeets x plan s m answered old new (called_by_reading m t reading) (step_by m.constants m.progress.job t reading) → OperatorMeets x plan s m t answered old new
 unfolding step
 operator_read x plan s m t answered old new at reading area is made =
     let P : Option ℕ → Type 0 = λ o. OperatorAt x plan s m t answered old new o in

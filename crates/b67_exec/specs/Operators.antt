@@ -14,14 +14,14 @@ use Rattle.b67_layout.specs.Placement.{Placement}
 pub use Rattle.b67_entry.specs.Procedures.{CallsOrMeets}
 use Rattle.b67_exec_cells.specs.Running.{code_area}
 use Rattle.b67_layout_step.specs.Keeping.{is_leaving}
-pub use Rattle.b67_exec_cells.specs.Called.{called_by, called_in}
+pub use Rattle.b67_exec_cells.specs.Called.{called_by_reading, called_in}
 
 -- an operator's parameters have their bits: 14 of a couple, 48 of a literal
-abbrev pub ParametersFit : Op → Type 0
-ParametersFit (Valc couple) = couple < 2 ^ 14
-ParametersFit (Namc couple) = couple < 2 ^ 14
-ParametersFit (Lt48 bits) = bits < 2 ^ 48
-ParametersFit _ = Unit {0}
+abbrev pub ParametersHaveBits : Op → Type 0
+ParametersHaveBits (Valc couple) = couple < 2 ^ 14
+ParametersHaveBits (Namc couple) = couple < 2 ^ 14
+ParametersHaveBits (Lt48 bits) = bits < 2 ^ 48
+ParametersHaveBits _ = Unit {0}
 
 -- operators without parameters that are near: sums, differences, comparisons, and those that push, move or take off cells
 abbrev pub goes_far : Code → Bool

@@ -10,7 +10,7 @@ use Rattle.b67_refer.specs.RunningContext.{RunningContext, IsShown}
 use Rattle.b67_refer.specs.Cells.{StandsFor}
 
 -- the running task, seen on these registers, follows a word to a procedure
-pub record Leads (cpu : Cpu) (a : RunningContext cpu.core cpu.regs) (q : Place) (w : Tagged) (f segment level : ℕ) (place : Place) : Type 0 where
+pub record LeadsToProcedure (cpu : Cpu) (a : RunningContext cpu.core cpu.regs) (q : Place) (w : Tagged) (f segment level : ℕ) (place : Place) : Type 0 where
   pub shown : IsShown a cpu.display
   pub at : ℕ
   pub owner : ℕ

@@ -70,7 +70,7 @@ pub fn stod(cpu: &mut Cpu, next: Place) -> Step
     }
 }
 
-/// The same, but the operand stays on the stack.
+/// Stores as STOD does, but the operand stays on the stack.
 #[inline(never)]
 pub fn ston(cpu: &mut Cpu, next: Place) -> Step
     requires { RunsSome cpu.old }

@@ -10,7 +10,7 @@ ghost use Rattle.b67_refer.specs.RunningContext.{RunningContext};
 ghost use Rattle.b67_refer.specs.Ends.{IsProcAt};
 ghost use Rattle.b67_layout.specs.Tops.{cells};
 ghost use Rattle.b67_fetch.specs.Fetches.{enters_at, top_end};
-ghost use Rattle.b67_exec.specs.Procedures.{Leads, EntersTop};
+ghost use Rattle.b67_exec.specs.Procedures.{LeadsToProcedure, EntersTop};
 
 use b67_ctl::{Irw, Regs};
 use b67_entry::{accident, accident_on};
@@ -21,8 +21,8 @@ use b67_word::{Place, Word};
 
 /// The core address of the cell of the procedure to which a word leads.
 pub fn procedure_cell(cpu: &Cpu, w: Word) -> u32
-    requires { (a : RunningContext cpu.now.core cpu.now.regs) × (q : Place) × (f : ℕ) × (segment : ℕ) × (level : ℕ) × (place : Place) × Leads cpu.now a q w f segment level place }
-    ensures { (a : RunningContext cpu.now.core cpu.now.regs) (q : Place) (f segment level : ℕ) (place : Place) → Leads cpu.now a q w f segment level place → IsProcAt a q result f segment level place }
+    requires { (a : RunningContext cpu.now.core cpu.now.regs) × (q : Place) × (f : ℕ) × (segment : ℕ) × (level : ℕ) × (place : Place) × LeadsToProcedure cpu.now a q w f segment level place }
+    ensures { (a : RunningContext cpu.now.core cpu.now.regs) (q : Place) (f segment level : ℕ) (place : Place) → LeadsToProcedure cpu.now a q w f segment level place → IsProcAt a q result f segment level place }
 {
     match chase(&cpu.core, &cpu.regs, &cpu.display, w) {
         Ok(end) => match end {

@@ -10,7 +10,7 @@ ghost use Rattle.b67_layout.specs.Meets.{here, RunsSome, ForEach};
 ghost use Rattle.b67_layout_step.specs.Keeping.{is_leaving};
 ghost use Rattle.b67_exec_cells.specs.Running.{code_area};
 ghost use Rattle.b67_entry.specs.Procedures.{CallsOrMeets};
-ghost use Rattle.b67_exec.specs.Operators.{ParametersFit, goes_far, is_far, OperatorMeets, leaves_record, CutsRecord};
+ghost use Rattle.b67_exec.specs.Operators.{ParametersHaveBits, goes_far, is_far, OperatorMeets, leaves_record, CutsRecord};
 ghost use Rattle.b67_exec.specs.Near.{HoldsCode};
 
 use crate::assigning::{stod, ston};
@@ -30,7 +30,7 @@ use b67_word::{Fault, Place};
 /// What an operator came to. `left` is whether it is one that leaves an activation record, EXIT or RETN: after `Done` the
 /// arrays of the record that was left are still to be given back.
 #[derive(Clone, Copy, Debug, PartialEq, Eq)]
-pub struct Outcome {
+pub struct Executed {
     pub step: Step,
     pub left: bool,
 }
@@ -126,7 +126,7 @@ fn plain(cpu: &mut Cpu, code: Code, next: Place) -> Step
 fn stay(cpu: &mut Cpu, op: Op, next: Place) -> Step
     requires runs { RunsSome cpu.old }
     requires near { is_far op ≡ false }
-    requires parameters { ParametersFit op }
+    requires parameters { ParametersHaveBits op }
     ensures row { ForEach cpu.old (λ x plan s m t. CallsOrMeets x plan s m result cpu.old cpu.new (called op (here m t next)) (row op (here m t next))) }
 {
     match op {
@@ -193,7 +193,7 @@ fn far_plain(cpu: &mut Cpu, code: Code, next: Place) -> Step
 fn far(cpu: &mut Cpu, op: Op, next: Place) -> Step
     requires runs { RunsSome cpu.old }
     requires far { is_far op ≡ true }
-    requires parameters { ParametersFit op }
+    requires parameters { ParametersHaveBits op }
     requires next { IsPlace next }
     ensures row { ForEach cpu.old (λ x plan s m t. CallsOrMeets x plan s m result cpu.old cpu.new (called op (here m t next)) (row op (here m t next))) }
     ensures cuts { is_leaving op ≡ true → result ≡ Done → CutsRecord cpu.old cpu.new }
@@ -214,7 +214,7 @@ fn far(cpu: &mut Cpu, op: Op, next: Place) -> Step
 #[inline(always)]
 fn perform(cpu: &mut Cpu, op: Op, next: Place) -> Performed
     requires runs { RunsSome cpu.old }
-    requires parameters { ParametersFit op }
+    requires parameters { ParametersHaveBits op }
     requires next { IsPlace next }
     ensures row { ForEach cpu.old (λ x plan s m t. CallsOrMeets x plan s m result.step cpu.old cpu.new (called op (here m t next)) (row op (here m t next))) }
     ensures left { result.left ≡ is_leaving op }
@@ -236,7 +236,7 @@ fn perform(cpu: &mut Cpu, op: Op, next: Place) -> Performed
     }
 }
 
-/// As `Outcome`, and whether the operator is near: if so, the running segment and its descriptor are as they were.
+/// As `Executed`, and whether the operator is near: if so, the running segment and its descriptor are as they were.
 #[derive(Clone, Copy, Debug, PartialEq, Eq)]
 pub struct Performed {
     pub step: Step,
@@ -271,7 +271,7 @@ pub fn operate_in(cpu: &mut Cpu, desc: SegDesc) -> Performed
 /// `Done` no word above the stack's top has changed: from the top on, up to the top before, stand the words of the record
 /// that was left.
 #[inline(always)]
-pub fn operate(cpu: &mut Cpu) -> Outcome
+pub fn operate(cpu: &mut Cpu) -> Executed
     requires { RunsSome cpu.old }
     ensures row { ForEach cpu.old (λ x plan s m t. OperatorMeets x plan s m t result.step cpu.old cpu.new) }
     ensures left { ForEach cpu.old (λ x plan s m t. code_area x plan m t ≢ None → result.left ≡ leaves_record (reading_of m.constants t)) }
@@ -280,14 +280,14 @@ pub fn operate(cpu: &mut Cpu) -> Outcome
     let desc = match present_segment(cpu) {
         Some(desc) => desc,
         None => {
-            return Outcome {
+            return Executed {
                 step: Step::Absent(What::Code(cpu.regs.segment)),
                 left: false,
             };
         }
     };
     let made = operate_in(cpu, desc);
-    Outcome {
+    Executed {
         step: made.step,
         left: made.left,
     }

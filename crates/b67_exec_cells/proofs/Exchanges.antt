@@ -9,7 +9,7 @@ use Rattle.b67_ctl.specs.declared.registers.Regs.{Regs}
 use Rattle.b67_model.specs.Common.{Answer, ◌>>=◌, Word, Task, SessionJob, number_of, Session, Done, leaves_cells, on_cells, exch, is_original}
 use Rattle.b67_layout.specs.Common.{IsInOrderButCounts, Placement, spot_in, outer_spots, machine_view, IsRunning, RepresentsSession, here, IsMade, IsWordOf, cells}
 use Rattle.b67_stack.specs.declared.Cpu.{Cpu}
-use Rattle.b67_stack.specs.Common.{Shape, Fits, Activation, MachineView, RunsOn, NoOriginalAboveTop, Storage, Represents, with_stack, with_cells, top_cells, MayPush}
+use Rattle.b67_stack.specs.Common.{Shape, Fits, Activation, MachineView, RunsOn, NoOriginalAboveTop, Storage, Represents, with_stack, stack_with_cells, top_cells, MayPush}
 use Rattle.b67_stack.proofs.Cells.{with_stack-twice}
 use Rattle.b67_stack.proofs.Pushes.{RunsOn-with}
 use Rattle.b67_stack.proofs.Slots.{running_fits}
@@ -21,11 +21,11 @@ use Rattle.b67_layout.proofs.Fresh.{running_in_order}
 use Rattle.b67_exec_cells.proofs.Rows.{elsewhere, two_may_stand}
 use Rattle.b67_lemmas.proofs.Members.{keyed_has}
 
-cells-twice : (st : List Activation) (cs ds : List Shape) → with_cells (with_cells st cs) ds ≡ with_cells st ds
+cells-twice : (st : List Activation) (cs ds : List Shape) → stack_with_cells (stack_with_cells st cs) ds ≡ stack_with_cells st ds
 cells-twice [] cs ds = refl
 cells-twice (a ∷ below) cs ds = refl
 
-cells-now : (st : List Activation) (cs : List Shape) → st ≢ [] → top_cells (with_cells st cs) ≡ cs
+cells-now : (st : List Activation) (cs : List Shape) → st ≢ [] → top_cells (stack_with_cells st cs) ≡ cs
 cells-now [] cs some = absurd (some refl)
 cells-now (a ∷ below) cs some = refl
 
@@ -33,17 +33,17 @@ cells-now (a ∷ below) cs some = refl
 module _ (x : Storage) (core : List Tagged) (r : Regs) (p : MachineView) (k : ℕ) (st : List Activation) (s : Represents x core r p) (u : RunsOn p k st) where
   pub Represents-two : (b a : Shape) (rest : List Shape) (v w : Tagged) (q : Place) → top_cells st ≡ b ∷ a ∷ rest → 2 ≤ r.s → r.s ≤ r.losr → Settles.NoOriginals (b ∷ a ∷ []) → NoOriginalAboveTop p → MayPush p.objects a → MayPush p.objects b
       → Fits x.held b (r.s - 1) v → Fits x.held a r.s w
-      → Represents x (slice_set (slice_set core (r.s - 1) v) r.s w) (record r { place = q }) (with_stack p k (with_cells st (a ∷ b ∷ rest))) × NoOriginalAboveTop (with_stack p k (with_cells st (a ∷ b ∷ rest)))
+      → Represents x (slice_set (slice_set core (r.s - 1) v) r.s w) (record r { place = q }) (with_stack p k (stack_with_cells st (a ∷ b ∷ rest))) × NoOriginalAboveTop (with_stack p k (stack_with_cells st (a ∷ b ∷ rest)))
   Represents-two b a rest v w q e two room plain settled may_a may_b fit_b fit_a =
       let r1 : Regs = record r { s = r.s - 1; place = q } in
-      let st1 : List Activation = with_cells st (b ∷ rest) in
+      let st1 : List Activation = stack_with_cells st (b ∷ rest) in
       let p1 : MachineView = with_stack p k st1 in
       let one = Represents-put x core r p k st s u (b ∷ a ∷ []) rest b v (r.s - 1) q e (omega (arith, two)) (omega (arith, room)) plain settled may_b fit_b in
       let some = (running_fits x core r p k st s u).0.some in
       let here_at : r.s ≡ r1.s - 0 + 1 = omega (arith, two) in
       let both = Represents-put x (slice_set core (r.s - 1) v) r1 p1 k st1 one.0 (RunsOn-with p k st st1 u) [] (b ∷ rest) a w r.s q (cells-now st (b ∷ rest) some) here_at room (λ home h. h) one.1 may_a fit_a in
-      let same : with_stack p1 k (with_cells st1 (a ∷ b ∷ rest)) ≡ with_stack p k (with_cells st (a ∷ b ∷ rest)) =
-      with_stack-twice p k st1 (with_cells st1 (a ∷ b ∷ rest)) ∙ ap (with_stack p k) (cells-twice st (b ∷ rest) (a ∷ b ∷ rest)) in
+      let same : with_stack p1 k (stack_with_cells st1 (a ∷ b ∷ rest)) ≡ with_stack p k (stack_with_cells st (a ∷ b ∷ rest)) =
+      with_stack-twice p k st1 (stack_with_cells st1 (a ∷ b ∷ rest)) ∙ ap (with_stack p k) (cells-twice st (b ∷ rest) (a ∷ b ∷ rest)) in
       let P : MachineView → Type 0 = λ z. Represents x (slice_set (slice_set core (r.s - 1) v) r.s w) (record r { place = q }) z in
       (subst P same both.0, subst NoOriginalAboveTop same both.1)
 

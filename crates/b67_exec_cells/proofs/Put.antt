@@ -10,12 +10,12 @@ use Rattle.b67_word.specs.Tagged.{Tagged}
 use Rattle.b67_word.specs.declared.couples.Place.{Place}
 use Rattle.b67_word.specs.declared.faults.Fault.TheVariants.{StackUnderflow, StackOverflow}
 use Rattle.b67_ctl.specs.declared.marks.Mscw.{Mscw}
-use Rattle.b67_ctl.specs.Layout.{bit}
+use Rattle.b67_ctl.specs.Layout.{flag_bit}
 use Rattle.b67_core.proofs.Writes.{slice_get-set_other}
 use Rattle.b67_model.specs.Common.{Word, Task, Job, SessionJob, with_top_cells, height, with_task, leaves_cells, number_of, Session}
 use Rattle.b67_layout.specs.Common.{IsInOrderButCounts, Placement, spot_in, outer_spots, shape, stack_of_task, machine_view, IsRunning, RepresentsSession, RepresentsSessionBut, here, with_job, IsMade, IsWordOf, IsAt, cells, GivesTop}
 use Rattle.b67_stack.specs.declared.Cpu.{Cpu}
-use Rattle.b67_stack.specs.Common.{Shape, Fits, StackPlace, Activation, stack_words, top_mark, PagedObject, RunsOn, NoOriginalAboveTop, Storage, RepresentsRunning, Represents, with_stack, with_cells, top_cells}
+use Rattle.b67_stack.specs.Common.{Shape, Fits, StackPlace, Activation, stack_words, top_mark, PagedObject, RunsOn, NoOriginalAboveTop, Storage, RepresentsRunning, Represents, with_stack, stack_with_cells, top_cells}
 use Rattle.b67_stack.proofs.Tops.{cells_above}
 use Rattle.b67_stack.proofs.Slots.{running_slot, running_fits}
 use Rattle.b67_stack.proofs.Pushes.{Room, room_of}
@@ -70,7 +70,7 @@ module _ (x : Storage) (old : Cpu) (plan : Placement) (s : Session) (m : Session
   -- other cells on top, whatever the machine's words
   pub stands_cells : (new : Cpu) (q : Place) (cs : List Word) → new.display ≡ old.display → new.critical ≡ old.critical → GoesOn old.regs new.regs q
       → ((i : ℕ) → (slice_get new.core i ≡ slice_get old.core i) ⊎ ((old.regs.bosr < i) × (i ≤ old.regs.losr)))
-      → Represents x new.core new.regs (with_stack (machine_view plan s.jobs) plan.running (with_cells stack (map shaped cs))) × NoOriginalAboveTop (with_stack (machine_view plan s.jobs) plan.running (with_cells stack (map shaped cs)))
+      → Represents x new.core new.regs (with_stack (machine_view plan s.jobs) plan.running (stack_with_cells stack (map shaped cs))) × NoOriginalAboveTop (with_stack (machine_view plan s.jobs) plan.running (stack_with_cells stack (map shaped cs)))
       → RepresentsSession x new plan (with_job s m (with_task m.progress.job (task_with t cs q)))
   stands_cells new q cs display critical on changed stands =
       let low : plan.stacks ≤ old.regs.bosr = omega (arith, registers.first) in
@@ -78,7 +78,7 @@ module _ (x : Storage) (old : Cpu) (plan : Placement) (s : Session) (m : Session
 
   pub made_cells : (new : Cpu) (q : Place) (cs : List Word) → new.display ≡ old.display → new.critical ≡ old.critical → GoesOn old.regs new.regs q
       → ((i : ℕ) → (slice_get new.core i ≡ slice_get old.core i) ⊎ ((old.regs.bosr < i) × (i ≤ old.regs.losr)))
-      → Represents x new.core new.regs (with_stack (machine_view plan s.jobs) plan.running (with_cells stack (map shaped cs))) × NoOriginalAboveTop (with_stack (machine_view plan s.jobs) plan.running (with_cells stack (map shaped cs)))
+      → Represents x new.core new.regs (with_stack (machine_view plan s.jobs) plan.running (stack_with_cells stack (map shaped cs))) × NoOriginalAboveTop (with_stack (machine_view plan s.jobs) plan.running (stack_with_cells stack (map shaped cs)))
       → height (with_top_cells t.frames cs) ≤ m.constants.stack_size
       → IsMade x plan s m old new (leaves_cells (here m t q) cs None)
   made_cells new q cs display critical on changed stands fits =
@@ -95,11 +95,11 @@ module _ (x : Storage) (old : Cpu) (plan : Placement) (s : Session) (m : Session
 
   -- fewer cells
   Represents-dropped : (count : ℕ) (q : Place) (gone rest : List Word) → cells t ≡ gone ++ rest → length gone ≡ count → NoOriginals gone
-      → Represents x old.core (record old.regs { s = old.regs.s - count; place = q }) (with_stack (machine_view plan s.jobs) plan.running (with_cells stack (map shaped rest))) × NoOriginalAboveTop (with_stack (machine_view plan s.jobs) plan.running (with_cells stack (map shaped rest)))
+      → Represents x old.core (record old.regs { s = old.regs.s - count; place = q }) (with_stack (machine_view plan s.jobs) plan.running (stack_with_cells stack (map shaped rest))) × NoOriginalAboveTop (with_stack (machine_view plan s.jobs) plan.running (stack_with_cells stack (map shaped rest)))
   Represents-dropped count q gone rest e n plain =
       let d = Represents-less x old.core old.regs (machine_view plan s.jobs) plan.running stack h.holds.memory runs_here (map shaped gone) (map shaped rest) q (tops gone rest e)
       (shapes_plain plan m.constants.number m.progress.job (spot_in plan.running (outer_spots plan m.constants.number m.progress.job t.critical t.parents) t.frames) gone plain) h.holds.settled in
-      let P : ℕ → Type 0 = λ i. Represents x old.core (record old.regs { s = old.regs.s - i; place = q }) (with_stack (machine_view plan s.jobs) plan.running (with_cells stack (map shaped rest))) in
+      let P : ℕ → Type 0 = λ i. Represents x old.core (record old.regs { s = old.regs.s - i; place = q }) (with_stack (machine_view plan s.jobs) plan.running (stack_with_cells stack (map shaped rest))) in
       (subst P (length-map gone shaped ∙ n) d.0, d.1)
 
   pub dropped_stands : (count : ℕ) (q : Place) (gone rest : List Word) → cells t ≡ gone ++ rest → length gone ≡ count → NoOriginals gone
@@ -124,7 +124,7 @@ module _ (x : Storage) (old : Cpu) (plan : Placement) (s : Session) (m : Session
   -- a word in the place of cells
   Represents-replaced : (count i : ℕ) (v : Tagged) (q : Place) (gone rest : List Word) (w : Word) → cells t ≡ gone ++ rest → length gone ≡ count → i ≡ old.regs.s - count + 1 → i ≤ old.regs.losr
       → NoOriginals gone → MayStand m.progress.job w → IsWordOf x plan m t w i v
-      → Represents x (slice_set old.core i v) (record old.regs { s = i; place = q }) (with_stack (machine_view plan s.jobs) plan.running (with_cells stack (map shaped (w ∷ rest)))) × NoOriginalAboveTop (with_stack (machine_view plan s.jobs) plan.running (with_cells stack (map shaped (w ∷ rest))))
+      → Represents x (slice_set old.core i v) (record old.regs { s = i; place = q }) (with_stack (machine_view plan s.jobs) plan.running (stack_with_cells stack (map shaped (w ∷ rest)))) × NoOriginalAboveTop (with_stack (machine_view plan s.jobs) plan.running (stack_with_cells stack (map shaped (w ∷ rest))))
   Represents-replaced count i v q gone rest w e n at inside plain may fit =
       let spot : ℕ → StackPlace = spot_in plan.running (outer_spots plan m.constants.number m.progress.job t.critical t.parents) t.frames in
       let has_m = (keyed_has number_of m.constants.number s.jobs m runs.member).0 in
@@ -177,10 +177,10 @@ module _ (x : Storage) (old : Cpu) (plan : Placement) (s : Session) (m : Session
       rw test refl
 
   -- the cells by S, F and the mark
-  pub counted : (mark : Mscw) (n : ℕ) → mark ≡ top_mark old.regs.slot stack → n ≡ bit mark.entered → old.regs.s ≡ old.regs.f + n + length (cells t)
+  pub counted : (mark : Mscw) (n : ℕ) → mark ≡ top_mark old.regs.slot stack → n ≡ flag_bit mark.entered → old.regs.s ≡ old.regs.f + n + length (cells t)
   counted mark n is e =
       cells_above x old.core old.regs (machine_view plan s.jobs) old.regs.slot stack h.holds.memory (Starts.runs_here x old plan s m t h runs)
-      ∙ ap (λ (i : ℕ). old.regs.f + i + length (top_cells stack)) (sym (e ∙ ap (λ (w : Mscw). bit w.entered) is))
+      ∙ ap (λ (i : ℕ). old.regs.f + i + length (top_cells stack)) (sym (e ∙ ap (λ (w : Mscw). flag_bit w.entered) is))
       ∙ ap (λ (i : ℕ). old.regs.f + n + i) (ap length (cells-are plan m.constants.number m.progress.job plan.running (outer_spots plan m.constants.number m.progress.job t.critical t.parents) t.frames) ∙ length-map (cells t) shaped)
 
   -- a word that is read is that of the cell there

@@ -11,7 +11,7 @@ use Rattle.b67_model.specs.Words as Words
 use Rattle.b67_model.specs.Common.{Word, Operand, Name, Ref, Element, Original, Proc, Intrinsic, Frame, Task, Job, SessionJob, top, with_top_cells, height, is_original}
 use Rattle.b67_model.specs.State as State
 use Rattle.b67_stack.specs.Shapes as Shapes
-use Rattle.b67_stack.specs.Common.{Shape, Fits, StackPlace, Activation, PagedObject, MachineView, NoOriginalAboveTop, RunsOn, IsArrayAt, Storage, Represents, with_stack, with_cells, top_cells, MayPush}
+use Rattle.b67_stack.specs.Common.{Shape, Fits, StackPlace, Activation, PagedObject, MachineView, NoOriginalAboveTop, RunsOn, IsArrayAt, Storage, Represents, with_stack, stack_with_cells, top_cells, MayPush}
 use Rattle.b67_stack.proofs.Cells.{cell_word, Represents-drop, Represents-cells, with_stack-twice}
 use Rattle.b67_stack.proofs.Pushes.{RunsOn-with}
 use Rattle.b67_stack.proofs.Slots.{running_fits}
@@ -95,7 +95,7 @@ may_push plan jobs m spot (Words.Segment n) h may = tt
 module _ (x : Storage) (core : List Tagged) (r : Regs) (p : MachineView) (k : ℕ) where
   -- cells less
   pub Represents-less : (stack : List Activation) → Represents x core r p → RunsOn p k stack → (gone rest : List Shape) (q : Place) → top_cells stack ≡ gone ++ rest → Settles.NoOriginals gone → NoOriginalAboveTop p
-      → Represents x core (record r { s = r.s - length gone; place = q }) (with_stack p k (with_cells stack rest)) × NoOriginalAboveTop (with_stack p k (with_cells stack rest))
+      → Represents x core (record r { s = r.s - length gone; place = q }) (with_stack p k (stack_with_cells stack rest)) × NoOriginalAboveTop (with_stack p k (stack_with_cells stack rest))
   Represents-less [] s u gone rest q e plain settled = absurd ((running_fits x core r p k [] s u).0.some refl)
   Represents-less (a ∷ below) s u gone rest q e plain settled =
       (Represents-drop x core r p k a below s u gone rest q e, Settled-drop x core r p k a below s u gone rest e plain settled)
@@ -103,7 +103,7 @@ module _ (x : Storage) (core : List Tagged) (r : Regs) (p : MachineView) (k : �
   -- one cell in the place of others
   pub Represents-put : (stack : List Activation) → Represents x core r p → RunsOn p k stack → (gone rest : List Shape) (c : Shape) (w : Tagged) (i : ℕ) (q : Place) → top_cells stack ≡ gone ++ rest
       → i ≡ r.s - length gone + 1 → i ≤ r.losr → Settles.NoOriginals gone → NoOriginalAboveTop p → MayPush p.objects c → Fits x.held c i w
-      → Represents x (slice_set core i w) (record r { s = i; place = q }) (with_stack p k (with_cells stack (c ∷ rest))) × NoOriginalAboveTop (with_stack p k (with_cells stack (c ∷ rest)))
+      → Represents x (slice_set core i w) (record r { s = i; place = q }) (with_stack p k (stack_with_cells stack (c ∷ rest))) × NoOriginalAboveTop (with_stack p k (stack_with_cells stack (c ∷ rest)))
   Represents-put [] s u gone rest c w i q e at room plain settled may fit = absurd ((running_fits x core r p k [] s u).0.some refl)
   Represents-put (a ∷ below) s u gone rest c w i q e at room plain settled may fit =
       let less = Settled-drop x core r p k a below s u gone rest e plain settled in

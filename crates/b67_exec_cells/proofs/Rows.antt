@@ -9,7 +9,7 @@ use Rattle.b67_word.specs.declared.faults.Fault.TheVariants.{StackUnderflow, Inv
 use Rattle.b67_model.specs.Common.{Answer, ◌>>=◌, Word, Operand, Name, Ref, Row, Element, Original, Proc, Intrinsic, operand, Frame, Array, Task, Job, SessionJob, top, Starts, IsSegment, Known, known_of, outer_of, FramesInOrder, WordInOrder, Binary, Done, leaves_cells, is_original, Session, CellRow, on_one, on_two, on_cells, dlet, dupl}
 use Rattle.b67_model.specs.Words as Words
 use Rattle.b67_layout.specs.Common.{IsInOrderButCounts, Placement, IsRunning, here, IsMade, Meets, RunsSome, IsWordOf, cells, GivesTop}
-use Rattle.b67_arith.specs.OnWords.{bits_in, on_word, on_words}
+use Rattle.b67_arith.specs.OnWords.{operand_bits, on_word, on_words}
 use Rattle.b67_stack.specs.declared.Cpu.{Cpu}
 use Rattle.b67_stack.specs.declared.Step.{Step}
 use Rattle.b67_stack.specs.Represents.{Storage}
@@ -20,16 +20,16 @@ use Rattle.b67_layout.proofs.PlainOperands.{plain_operand}
 
 -- the bits of a word are those of the cell, if that is an operand
 module _ (x : Storage) (plan : Placement) (m : SessionJob) (t : Task) (at : ℕ) (v : Tagged) where
-  pub operand_seen : (w : Word) → IsWordOf x plan m t w at v → bits_in v ≡ operand w
-  operand_seen (Operand bits) f = ap bits_in f.0
-  operand_seen (Name c) f = ap bits_in f.0
-  operand_seen (Ref g o) f = ap bits_in f.0
-  operand_seen (Row a) f = ap bits_in f.is
-  operand_seen (Element a i) f = ap bits_in f.is
-  operand_seen (Original a) f = ap bits_in f.1.is
-  operand_seen (Proc g l p) f = ap bits_in f.0
-  operand_seen (Intrinsic n) f = ap bits_in f.0
-  operand_seen (Words.Segment n) f = ap bits_in f.0
+  pub operand_seen : (w : Word) → IsWordOf x plan m t w at v → operand_bits v ≡ operand w
+  operand_seen (Operand bits) f = ap operand_bits f.0
+  operand_seen (Name c) f = ap operand_bits f.0
+  operand_seen (Ref g o) f = ap operand_bits f.0
+  operand_seen (Row a) f = ap operand_bits f.is
+  operand_seen (Element a i) f = ap operand_bits f.is
+  operand_seen (Original a) f = ap operand_bits f.1.is
+  operand_seen (Proc g l p) f = ap operand_bits f.0
+  operand_seen (Intrinsic n) f = ap operand_bits f.0
+  operand_seen (Words.Segment n) f = ap operand_bits f.0
 
 -- what an answer on words says of the row
 abbrev pub SaysOne : (ℕ → Answer ℕ) → Word → Result Tagged Fault → Type 0
@@ -55,11 +55,11 @@ two_by f a b (Ok x) (Ok y) ea eb = by_answer (f x y) refl where
   by_answer (Err fault) q = λ rest. rw ea (rw eb (rw q refl))
   by_answer (Ok z) q = (z, refl, plain_operand a x ea, plain_operand b y eb, λ rest. rw ea (rw eb (rw q refl)))
 
-pub says_one : (f : ℕ → Answer ℕ) (a : Word) (u : Tagged) (r : Result Tagged Fault) → bits_in u ≡ operand a → r ≡ on_word f u → SaysOne f a r
-says_one f a u r e is = let P : Result Tagged Fault → Type 0 = λ q. SaysOne f a q in subst P (sym is) (one_by f a (bits_in u) (sym e))
+pub says_one : (f : ℕ → Answer ℕ) (a : Word) (u : Tagged) (r : Result Tagged Fault) → operand_bits u ≡ operand a → r ≡ on_word f u → SaysOne f a r
+says_one f a u r e is = let P : Result Tagged Fault → Type 0 = λ q. SaysOne f a q in subst P (sym is) (one_by f a (operand_bits u) (sym e))
 
-pub says_two : (f : Binary) (a b : Word) (u v : Tagged) (r : Result Tagged Fault) → bits_in u ≡ operand a → bits_in v ≡ operand b → r ≡ on_words f u v → SaysTwo f a b r
-says_two f a b u v r ea eb is = let P : Result Tagged Fault → Type 0 = λ q. SaysTwo f a b q in subst P (sym is) (two_by f a b (bits_in u) (bits_in v) (sym ea) (sym eb))
+pub says_two : (f : Binary) (a b : Word) (u v : Tagged) (r : Result Tagged Fault) → operand_bits u ≡ operand a → operand_bits v ≡ operand b → r ≡ on_words f u v → SaysTwo f a b r
+says_two f a b u v r ea eb is = let P : Result Tagged Fault → Type 0 = λ q. SaysTwo f a b q in subst P (sym is) (two_by f a b (operand_bits u) (operand_bits v) (sym ea) (sym eb))
 
 -- the top activation record begins below S
 pub marked : (cpu : Cpu) → RunsSome cpu → cpu.regs.f + 0 ≤ cpu.regs.s

@@ -6,7 +6,7 @@ use Rattle.b67_word.specs.Tagged.{word}
 use Rattle.b67_word.specs.declared.couples.Place.{Place}
 use Rattle.b67_model.specs.Common.{Word, Operand, Task, SessionJob, number_of, Session}
 use Rattle.b67_stack.specs.declared.Cpu.{Cpu}
-use Rattle.b67_stack.specs.Common.{Shape, Is, Activation, RunsOn, Storage, RepresentsRunning, Represents, with_stack, with_cells, top_cells}
+use Rattle.b67_stack.specs.Common.{Shape, Is, Activation, RunsOn, Storage, RepresentsRunning, Represents, with_stack, stack_with_cells, top_cells}
 use Rattle.b67_stack.proofs.Slots.{running_slot}
 use Rattle.b67_layout.specs.Common.{Placement, spot_in, outer_spots, shape, stack_of_task, machine_view, IsRunning, RepresentsSession, cells}
 use Rattle.b67_layout.proofs.Common.{runs_on, IsFree, session_with, RepresentsSession-cells}
@@ -41,7 +41,7 @@ module _ (x : Storage) (cpu : Cpu) (plan : Placement) (s : Session) (m : Session
   finish_drop gone rest e plain =
       let spot = spot_in plan.running (outer_spots plan m.constants.number m.progress.job t.critical t.parents) t.frames in
       let d = Represents-less x cpu.core cpu.regs (machine_view plan s.jobs) plan.running stack h.holds.memory runs_here (map shaped gone) (map shaped rest) q (tops gone rest e) (shapes_plain plan m.constants.number m.progress.job spot gone plain) h.holds.settled in
-      let P : ℕ → Type 0 = λ i. Represents x cpu.core (record cpu.regs { s = cpu.regs.s - i; place = q }) (with_stack (machine_view plan s.jobs) plan.running (with_cells stack (map shaped rest))) in
+      let P : ℕ → Type 0 = λ i. Represents x cpu.core (record cpu.regs { s = cpu.regs.s - i; place = q }) (with_stack (machine_view plan s.jobs) plan.running (stack_with_cells stack (map shaped rest))) in
       RepresentsSession-cells x cpu (record cpu { regs = record cpu.regs { s = cpu.regs.s - length gone; place = q } }) plan s m t q h runs (λ i below. refl) (record { slot = refl; dict = refl; entries = refl; segment = refl; place = refl }) refl refl n rest free
       (subst P (length-map gone shaped) d.0) d.1
 

@@ -7,7 +7,7 @@ use Rattle.b67_word.specs.Tagged.{Tagged, word}
 use Rattle.b67_word.specs.declared.couples.Place.{Place}
 use Rattle.b67_word.specs.declared.faults.Fault.{Fault}
 use Rattle.b67_word.specs.declared.faults.Fault.TheVariants.{StackUnderflow, InvalidIndex}
-use Rattle.b67_arith.specs.OnWords.{bits_in}
+use Rattle.b67_arith.specs.OnWords.{operand_bits}
 use Rattle.b67_model.specs.Common.{Answer, ◌>>=◌, Word, Operand, Name, Ref, Row, Element, Original, Proc, Intrinsic, operand, number, array, array_of, index_below, indexed, in_order, is_original, Array, Frame, Task, SessionJob, top, Session, Done, Starts, IsSegment, Known, known_of, outer_of, FramesInOrder, WordInOrder}
 use Rattle.b67_model.specs.Words as Words
 use Rattle.b67_layout.specs.Common.{IsInOrderButCounts, Placement, IsRunning, RepresentsSession, here, Meets, RunsSome, IsWordOf, cells}
@@ -38,7 +38,7 @@ second_word (Ok p) = p.1
 second_word (Err f) = word 0 0
 
 -- the word of an operand
-bits_is : (w : Tagged) → w.tag ≡ 0 → bits_in w ≡ Ok w.bits
+bits_is : (w : Tagged) → w.tag ≡ 0 → operand_bits w ≡ Ok w.bits
 bits_is w e = rw e refl
 
 index_ok : (len n bits k : ℕ) → Ok k ≡ index_in len bits → ((number bits >>= λ z. index_below len z >>= pair n) ≡ pair n k) × (k < len)
@@ -71,7 +71,7 @@ module _ (plan : Placement) (m : SessionJob) (t : Task) (q : Place) where
   abbrev row : Answer ℕ → Answer ℕ → Answer (ℕ × ℕ)
   row o ao = o >>= λ bits. ao >>= λ a. number bits >>= λ z. index_below (length (array m.progress.job a).numbers) z >>= pair a
 
-  pub array_fault : (v i : Word) (index : Tagged) (fault : Fault) → index.tag ≡ 0 → bits_in index ≡ operand i → FindsArray plan m (Err fault) (array_of (here m t q) v) → FindsItem plan m (Err fault) (indexed (here m t q) v i)
+  pub array_fault : (v i : Word) (index : Tagged) (fault : Fault) → index.tag ≡ 0 → operand_bits index ≡ operand i → FindsArray plan m (Err fault) (array_of (here m t q) v) → FindsItem plan m (Err fault) (indexed (here m t q) v i)
   array_fault v i index fault zero same found = subst (λ (o : Answer ℕ). FindsItem plan m (Err fault) (row o (array_of (here m t q) v))) (sym (bits_is index zero) ∙ same) (by (array_of (here m t q) v) found)
     where
       by : (ao : Answer ℕ) → FindsArray plan m (Err fault) ao → FindsItem plan m (Err fault) (row (Ok index.bits) ao)
@@ -83,7 +83,7 @@ module _ (plan : Placement) (m : SessionJob) (t : Task) (q : Place) where
   holds_found cpu runs original (Err g) f = absurd f
 
   module _ (x : Storage) (cpu : Cpu) (s : Session) (ordered : IsInOrderButCounts s) (h : RepresentsSession x cpu plan s) (runs : IsRunning plan s.jobs m t) (v i : Word) (index : Tagged) (original : ℕ) (d : DataDesc)
-      (zero : index.tag ≡ 0) (same : bits_in index ≡ operand i) (found : FindsArray plan m (Ok original) (array_of (here m t q) v))
+      (zero : index.tag ≡ 0) (same : operand_bits index ≡ operand i) (found : FindsArray plan m (Ok original) (array_of (here m t q) v))
       (desc : (n k : ℕ) → original ≡ plan.home m.constants.number n → HasElement m.progress.job n k → d ≡ original_desc x plan m n) where
     length_is : (n : ℕ) → original ≡ plan.home m.constants.number n → HasElement m.progress.job n 0 → d.length ≡ length (array m.progress.job n).numbers
     length_is n home e = ap (λ (z : DataDesc). z.length) (desc n 0 home e)

@@ -10,7 +10,7 @@ use Rattle.b67_word.specs.declared.faults.Fault.TheVariants.{StackUnderflow, Sta
 use Rattle.b67_model.specs.Common.{Answer, ◌>>=◌, ◌>>◌, needs, evaluates, is_original, AtCell, AtElement, AtArray, AtProc, AtIntrinsic, chase, follow, Word, Operand, Name, Ref, Row, Element, Original, Proc, Intrinsic, Frame, Array, Task, Job, SessionJob, top, with_top_cells, height, with_task, Starts, IsSegment, Known, known_of, outer_of, reach_of, FramesInOrder, WordInOrder, Session, Done, Goes, leaves_cells}
 use Rattle.b67_model.specs.Chase as Chase
 use Rattle.b67_model.specs.Words as Words
-use Rattle.b67_layout.specs.Common.{IsInOrderButCounts, Placement, IsRunning, RepresentsSession, here, IsPresent, IsTouched, IsMade, FindsAbsent, Meets, RunsSome, area_held, IsWordOf, cells, GivesTop}
+use Rattle.b67_layout.specs.Common.{IsInOrderButCounts, Placement, IsRunning, RepresentsSession, here, TouchedIsPresent, IsTouched, IsMade, FindsAbsent, Meets, RunsSome, area_held, IsWordOf, cells, GivesTop}
 use Rattle.b67_model.specs.Rows as rows
 use Rattle.b67_refer.specs.declared.ends.End.{End}
 use Rattle.b67_refer.specs.declared.ends.End.TheVariants as end
@@ -28,7 +28,7 @@ use Rattle.b67_layout.proofs.Fresh.{running_in_order}
 use Rattle.b67_refer.proofs.Items.{array_is, not_empty}
 use Rattle.b67_exec_cells.specs.Elements.{HasElement, HoldsElement}
 use Rattle.b67_exec_cells.proofs.Put.{fitting}
-use Rattle.b67_fetch.specs.Fetches.{IsFollowed, IsEnd, SomeEnd, FindsEnd, value_of, enters, enters_at, EntersOrMeets, top_end}
+use Rattle.b67_fetch.specs.Fetches.{IsFollowed, IsEnd, SomeEnd, FindsEnd, value_at_end, is_procedure_end, enters_at, EntersOrMeets, top_end}
 
 -- the scene of a machine that stands for a session
 module _ (x : Storage) (cpu : Cpu) (plan : Placement) (s : Session) (m : SessionJob) (t : Task) (ordered : IsInOrderButCounts s) (h : RepresentsSession x cpu plan s) (runs : IsRunning plan s.jobs m t) where
@@ -96,7 +96,7 @@ module _ (x : Storage) (cpu : Cpu) (plan : Placement) (s : Session) (m : Session
   finds_end q (Err f) (Ok e) i = i
 
 -- a row that touched an array that is present
-module _ (x : Storage) (plan : Placement) (s : Session) (m : SessionJob) (t : Task) (old new : Cpu) (q : Place) (cs : List Word) (n : ℕ) (present : IsPresent x plan m.constants.number (Some n)) where
+module _ (x : Storage) (plan : Placement) (s : Session) (m : SessionJob) (t : Task) (old new : Cpu) (q : Place) (cs : List Word) (n : ℕ) (present : TouchedIsPresent x plan m.constants.number (Some n)) where
   abbrev row_by : Bool → Option ℕ → Answer Done
   row_by b touched = needs b StackOverflow >> Ok (Goes (with_task m.progress.job (task_with t cs q)) [] touched)
 
@@ -218,7 +218,7 @@ followed_plain x m t q (Words.Segment n) e is = refl
 
 module _ (x : Storage) (plan : Placement) (s : Session) (m : SessionJob) (t : Task) (q : Place) (old : Cpu) where
   -- VALC by its end
-  valc_by : (r : Step) (new : Cpu) (e : Chase.End) → EntersOrMeets x plan s m r old new (enters e) (value_of (here m t q) (cells t) e) → EntersOrMeets x plan s m r old new (enters e) (evaluates (here m t q) e)
+  valc_by : (r : Step) (new : Cpu) (e : Chase.End) → EntersOrMeets x plan s m r old new (is_procedure_end e) (value_at_end (here m t q) (cells t) e) → EntersOrMeets x plan s m r old new (is_procedure_end e) (evaluates (here m t q) e)
   valc_by r new (AtCell f offset bits) i = i
   valc_by r new (AtElement n k) i = i
   valc_by r new (AtArray n) i = i
@@ -231,14 +231,14 @@ module _ (x : Storage) (plan : Placement) (s : Session) (m : SessionJob) (t : Ta
   refused row fault (Err g) is = (ap Err (sym is), refl)
 
   pub valc_row : (r : Step) (new : Cpu) (found : End) (e : Answer Chase.End) → FindsEnd plan m old.core (Ok found) e
-      → ((f : Chase.End) → IsEnd plan m old.core found f → EntersOrMeets x plan s m r old new (enters f) (value_of (here m t q) (cells t) f))
+      → ((f : Chase.End) → IsEnd plan m old.core found f → EntersOrMeets x plan s m r old new (is_procedure_end f) (value_at_end (here m t q) (cells t) f))
       → EntersOrMeets x plan s m r old new (enters_at e) (e >>= λ f. evaluates (here m t q) f)
   valc_row r new found (Ok e) is value = valc_by r new e (value e is)
   valc_row r new found (Err g) is value = absurd is
 
   -- LOAD by its end
   load_by : (rest : List Word) (r : Step) (new : Cpu) (found : End) (e : Chase.End) → IsEnd plan m old.core found e → ((o : ℕ) → found ≢ end.Array o)
-      → EntersOrMeets x plan s m r old new (enters e) (value_of (here m t q) rest e) → EntersOrMeets x plan s m r old new (enters e) (rows.load_at (here m t q) rest e)
+      → EntersOrMeets x plan s m r old new (is_procedure_end e) (value_at_end (here m t q) rest e) → EntersOrMeets x plan s m r old new (is_procedure_end e) (rows.load_at (here m t q) rest e)
   load_by rest r new found (AtCell f offset bits) is other i = i
   load_by rest r new found (AtElement n k) is other i = i
   load_by rest r new (end.Array o) (AtArray n) is other i = absurd (other o refl)
@@ -250,7 +250,7 @@ module _ (x : Storage) (plan : Placement) (s : Session) (m : SessionJob) (t : Ta
   load_by rest r new found (AtIntrinsic n) is other i = i
 
   pub load_row : (rest : List Word) (r : Step) (new : Cpu) (found : End) (e : Answer Chase.End) → FindsEnd plan m old.core (Ok found) e → ((o : ℕ) → found ≢ end.Array o)
-      → ((f : Chase.End) → e ≡ Ok f → IsEnd plan m old.core found f → EntersOrMeets x plan s m r old new (enters f) (value_of (here m t q) rest f))
+      → ((f : Chase.End) → e ≡ Ok f → IsEnd plan m old.core found f → EntersOrMeets x plan s m r old new (is_procedure_end f) (value_at_end (here m t q) rest f))
       → EntersOrMeets x plan s m r old new (enters_at e) (e >>= λ f. rows.load_at (here m t q) rest f)
   load_row rest r new found (Ok e) is other value = load_by rest r new found e is other (value e refl is)
   load_row rest r new found (Err g) is other value = absurd is
@@ -258,7 +258,7 @@ module _ (x : Storage) (plan : Placement) (s : Session) (m : SessionJob) (t : Ta
   -- at an array
   copy_by : (rest : List Word) (r : Step) (new : Cpu) (original : ℕ) (e : Chase.End) → IsEnd plan m old.core (end.Array original) e
       → ((n : ℕ) → original ≡ plan.home m.constants.number n → HasElement m.progress.job n 0 → Meets x plan s m r old new (leaves_cells (here m t q) (Row n ∷ rest) None))
-      → EntersOrMeets x plan s m r old new (enters e) (rows.load_at (here m t q) rest e)
+      → EntersOrMeets x plan s m r old new (is_procedure_end e) (rows.load_at (here m t q) rest e)
   copy_by rest r new original (AtArray n) is row = row n is.0 is.1
   copy_by rest r new original (AtCell f offset bits) is row = absurd is
   copy_by rest r new original (AtElement n k) is row = absurd is

@@ -47,23 +47,23 @@ pub record SomeEnd (cpu : Cpu) (found : End) : Type 0 where
   pub is : IsEnd runs.plan runs.member cpu.core found end
 
 -- the number at an end, on these cells
-abbrev pub value_of : OperatorContext → List Word → Chase.End → Answer Done
-value_of h rest (AtCell f offset bits) = leaves_cells h (Operand bits ∷ rest) None
-value_of h rest (AtElement n index) = leaves_cells h (Operand (element h.job n index) ∷ rest) (Some n)
-value_of h rest (AtArray n) = Err InvalidOperand
-value_of h rest (AtProc f segment level place) = Err InvalidOperand
-value_of h rest (AtIntrinsic n) = Err InvalidOperand
+abbrev pub value_at_end : OperatorContext → List Word → Chase.End → Answer Done
+value_at_end h rest (AtCell f offset bits) = leaves_cells h (Operand bits ∷ rest) None
+value_at_end h rest (AtElement n index) = leaves_cells h (Operand (element h.job n index) ∷ rest) (Some n)
+value_at_end h rest (AtArray n) = Err InvalidOperand
+value_at_end h rest (AtProc f segment level place) = Err InvalidOperand
+value_at_end h rest (AtIntrinsic n) = Err InvalidOperand
 
 -- whether an end is a procedure's cell
-abbrev pub enters : Chase.End → Bool
-enters (AtProc f segment level place) = true
-enters (AtCell f offset bits) = false
-enters (AtElement n index) = false
-enters (AtArray n) = false
-enters (AtIntrinsic n) = false
+abbrev pub is_procedure_end : Chase.End → Bool
+is_procedure_end (AtProc f segment level place) = true
+is_procedure_end (AtCell f offset bits) = false
+is_procedure_end (AtElement n index) = false
+is_procedure_end (AtArray n) = false
+is_procedure_end (AtIntrinsic n) = false
 
 abbrev pub enters_at : Answer Chase.End → Bool
-enters_at (Ok end) = enters end
+enters_at (Ok end) = is_procedure_end end
 enters_at (Err fault) = false
 
 -- an operator that may enter a procedure: where it does it answers 255, and nothing has changed. Else it is made by its row

@@ -7,7 +7,7 @@ ghost use Rattle.b67_model.specs.Words.{Element, operand};
 ghost use Rattle.b67_model.specs.Indexing.{array_of as array_of_row, indexed as indexed_row};
 ghost use Rattle.b67_model.specs.Rows as rows;
 ghost use Rattle.b67_model.specs.Steps.{cells_of};
-ghost use Rattle.b67_arith.specs.OnWords.{bits_in};
+ghost use Rattle.b67_arith.specs.OnWords.{operand_bits};
 ghost use Rattle.b67_layout.specs.Meets.{here, Meets, RunsSome, ForEach};
 ghost use Rattle.b67_layout.specs.Tops.{IsWordOf};
 ghost use Rattle.b67_exec_cells.specs.Elements.{HasElement, HoldsElement};
@@ -78,7 +78,7 @@ fn index_below(index: Word, length: u32) -> Result<u32, Fault>
 #[inline(always)]
 fn item_at(cpu: &Cpu, reference: Word, index: Word) -> Result<(u32, u32), Fault>
     requires { MayFollow cpu.now reference }
-    ensures { ForEach cpu.now (λ x plan s m t. (q : Place) (v i : words.Word) → IsFollowed x plan m t reference v → bits_in index ≡ operand i
+    ensures { ForEach cpu.now (λ x plan s m t. (q : Place) (v i : words.Word) → IsFollowed x plan m t reference v → operand_bits index ≡ operand i
         → FindsItem plan m result (indexed_row (here m t q) v i)) }
 {
     if index.tag() != 0 {

@@ -14,7 +14,7 @@ ghost use Rattle.b67_layout.specs.Meets.{here, Meets, RunsSome, ForEach};
 ghost use Rattle.b67_layout.specs.Tops.{cells};
 ghost use Rattle.b67_exec_cells.specs.Tops.{NoOriginals};
 ghost use Rattle.b67_exec_cells.specs.Elements.{HasElement, HoldsElement};
-ghost use Rattle.b67_fetch.specs.Fetches.{IsFollowed, MayFollow, IsEnd, FindsEnd, SomeEnd, value_of, enters, enters_at, EntersOrMeets, top_end};
+ghost use Rattle.b67_fetch.specs.Fetches.{IsFollowed, MayFollow, IsEnd, FindsEnd, SomeEnd, value_at_end, is_procedure_end, enters_at, EntersOrMeets, top_end};
 
 use b67_ctl::Irw;
 use b67_exec_cells::{element, replace_cells, row_copy, top_cell};
@@ -54,7 +54,7 @@ fn value(cpu: &mut Cpu, count: u32, end: End, next: Place) -> Step
     requires end { SomeEnd cpu.old end }
     requires cells { cpu.old.regs.f + count ≤ cpu.old.regs.s }
     ensures row { ForEach cpu.old (λ x plan s m t. (gone rest : List words.Word) (e : ModelEnd) → cells t ≡ gone ++ rest → length gone ≡ count → NoOriginals gone
-        → IsEnd plan m cpu.old.core end e → EntersOrMeets x plan s m result cpu.old cpu.new (enters e) (value_of (here m t next) rest e)) }
+        → IsEnd plan m cpu.old.core end e → EntersOrMeets x plan s m result cpu.old cpu.new (is_procedure_end e) (value_at_end (here m t next) rest e)) }
 {
     match end {
         End::Cell(at) => {

@@ -48,8 +48,8 @@ fn put(cpu: &mut Cpu, at: u32, w: Word, keeps: bool, next: Place)
     cpu.regs.place = next;
 }
 
-/// Stores the operand of the two top cells where the other one leads, and takes both off, or the other one where the
-/// operand is kept.
+/// Stores the operand of the two top cells where the other one leads, and takes both off, or only the reference if
+/// the operand is kept.
 #[inline(always)]
 fn store(cpu: &mut Cpu, keeps: bool, next: Place) -> Step
     requires { RunsSome cpu.old }
@@ -94,7 +94,7 @@ pub fn stod(cpu: &mut Cpu, next: Place) -> Step
     store(cpu, false, next)
 }
 
-/// The same, but the operand stays on the stack.
+/// Stores as STOD does, but the operand stays on the stack.
 pub fn ston(cpu: &mut Cpu, next: Place) -> Step
     requires { RunsSome cpu.old }
     ensures row { ForEach cpu.old (λ x plan s m t. let h = here m t next in EntersOrMeets x plan s m result cpu.old cpu.new (enters_at (store_end h (cells_of h))) (rows.store true h (cells_of h))) }

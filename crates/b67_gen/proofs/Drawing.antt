@@ -2,7 +2,7 @@
 use Rattle.std.proofs.Common.{◌≡◌, ℕ, zero, suc, ◌+◌, ◌-◌, ◌<◌, ◌≤◌, List, [], ◌∷◌, ◌++◌, refl, sym, ap, ◌∙◌, subst, append_assoc, append-nil, length, arith}
 use Rattle.std.specs.List.{AllByRecursion}
 use Rattle.b67_gen.specs.declared.stores.Store.{Store}
-use Rattle.b67_gen.specs.Generated.{drawn, below, after_draws, lengths, store, stores}
+use Rattle.b67_gen.specs.Generated.{drawn, below, after_draws, lengths, drawn_store, stores}
 
 -- so many lengths are drawn, and what is still drawn from this state makes them all
 pub record DrawsLengths (first : ℕ) (front : List ℕ) (count i x : ℕ) : Type 0 where
@@ -27,11 +27,11 @@ lengths_end first front count i x le d =
 pub record DrawsStores (arrays : List ℕ) (first : ℕ) (front : List Store) (count i x : ℕ) : Type 0 where
   pub all : front ++ stores arrays (count - i) x ≡ stores arrays count first
 
-pub stores_go_on : (arrays : List ℕ) (first : ℕ) (front : List Store) (count i x : ℕ) → i < count → DrawsStores arrays first front count i x → DrawsStores arrays first (front ++ store arrays x ∷ []) count (i + 1) (after_draws 3 x)
+pub stores_go_on : (arrays : List ℕ) (first : ℕ) (front : List Store) (count i x : ℕ) → i < count → DrawsStores arrays first front count i x → DrawsStores arrays first (front ++ drawn_store arrays x ∷ []) count (i + 1) (after_draws 3 x)
 stores_go_on arrays first front count i x lt d =
     let k : count - i ≡ suc (count - (i + 1)) = omega (arith, lt) in
     let more = stores arrays (count - (i + 1)) (after_draws 3 x) in
-    record { all = append_assoc front (store arrays x ∷ []) more ∙ ap (λ n. front ++ stores arrays n x) (sym k) ∙ d.all }
+    record { all = append_assoc front (drawn_store arrays x ∷ []) more ∙ ap (λ n. front ++ stores arrays n x) (sym k) ∙ d.all }
 
 pub stores_end : (arrays : List ℕ) (first : ℕ) (front : List Store) (count i x : ℕ) → count ≤ i → DrawsStores arrays first front count i x → front ≡ stores arrays count first
 stores_end arrays first front count i x le d =

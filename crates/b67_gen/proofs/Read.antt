@@ -23,7 +23,7 @@ use Rattle.b67_model_text.specs.Placing.{stand}
 use Rattle.b67_model_text.specs.Deck.{Said, command_in, said_after, sayings, limit, deck, deck_of}
 use Rattle.b67_model_text.specs.declared.deck.Deck.{Deck}
 use Rattle.b67_card.proofs.Lines.{cards_from, is_newline, lines_some}
-use Rattle.b67_gen.specs.Generated.{drawn, below, after_draws, lengths, stores, literal, cell, making, storing, adding, front, printing, end, cards_over, on_lines, generated_text}
+use Rattle.b67_gen.specs.Generated.{drawn, below, after_draws, lengths, stores, literal_card, cell_card, making, storing, adding, front_cards, printing, end_cards, cards_over, on_lines, generated_text}
 use Rattle.b67_gen.specs.declared.stores.Store.{Store}
 use Rattle.b67_gen.proofs.Drawing.{lengths_many}
 use Rattle.b67_gen.proofs.Cards.{part_by_part}
@@ -188,10 +188,10 @@ drawn_small m x =
 closed : (t : List ℕ) → nat_le (length t) 80 ≡ true → ltb 0 (length t) ≡ true → list_all is_printable t ≡ true → ltb 32 (get_or t (length t - 1) 0) ≡ true → IsLine t
 closed t a b c d = record { short = leb-true (length t) 80 a; some = ltb-true 0 (length t) b; printable = c; last = ltb-true 32 (get_or t (length t - 1) 0) d }
 
-literal_plain : (n : ℕ) → n < 2 ^ 31 → IsPlainLine (literal n)
+literal_plain : (n : ℕ) → n < 2 ^ 31 → IsPlainLine (literal_card n)
 literal_plain n small = record { line = numbered (codes "LT16 ") n (omega arith) refl small; plain = refl }
 
-cell_plain : (array : ℕ) → array ≤ 32768 → IsPlainLine (cell array)
+cell_plain : (array : ℕ) → array ≤ 32768 → IsPlainLine (cell_card array)
 cell_plain array small = record { line = numbered (codes "NAMC 2,") (array + 2) (omega arith) refl (omega (arith, small)); plain = refl }
 
 making_plain : (n : ℕ) → n < 2 ^ 31 → AllByRecursion IsPlainLine (making n)
@@ -315,11 +315,11 @@ module _ (m s a : List (List ℕ)) (making_all : AllByRecursion IsPlainLine m) (
   t6 : (rest : List ℕ) → Takes [] 1 (first_lines ++ on_lines segment_line ++ on_lines m ++ on_lines s ++ on_lines printing ++ on_lines a ++ on_lines last_lines) rest
   t6 rest = takes_more [] 1 (first_lines ++ on_lines segment_line ++ on_lines m ++ on_lines s ++ on_lines printing ++ on_lines a) last_lines rest (t5 (on_lines last_lines ++ rest)) last_plain
 
-  pub accepted : (said : List Said) × (sayings [] (cards_from 1 (on_lines (front ++ m ++ s ++ printing ++ a ++ end))) ≡ Ok said)
+  pub accepted : (said : List Said) × (sayings [] (cards_from 1 (on_lines (front_cards ++ m ++ s ++ printing ++ a ++ end_cards))) ≡ Ok said)
   accepted =
       let all = t6 (codes "?END\n") in
-      let before = on_lines front ++ on_lines m ++ on_lines s ++ on_lines printing ++ on_lines a in
-      let same : on_lines (front ++ m ++ s ++ printing ++ a ++ end) ≡ (before ++ on_lines last_lines) ++ codes "?END\n" = part_by_part front m s printing a end ∙ sym (append_assoc before (on_lines last_lines) (codes "?END\n")) in
+      let before = on_lines front_cards ++ on_lines m ++ on_lines s ++ on_lines printing ++ on_lines a in
+      let same : on_lines (front_cards ++ m ++ s ++ printing ++ a ++ end_cards) ≡ (before ++ on_lines last_lines) ++ codes "?END\n" = part_by_part front_cards m s printing a end_cards ∙ sym (append_assoc before (on_lines last_lines) (codes "?END\n")) in
       (reverse (record { number = all.number; command = End } ∷ all.behind), ap (λ (x : List ℕ). sayings [] (cards_from 1 x)) same ∙ all.same ∙ last_card all.behind all.number all.stands)
 
 -- ---- its length
@@ -365,11 +365,11 @@ over_has_deck size arrays all few some many small fit =
     let count_m = cards_many making 4 (λ n. refl) arrays in
     let count_s = cards_many storing 5 (λ x. refl) all in
     let count_a = cards_many adding 4 (λ x. refl) all in
-    let first : length (on_lines front) ≡ 46 = refl in
+    let first : length (on_lines front_cards) ≡ 46 = refl in
     let middle : length (on_lines printing) ≡ 19 = refl in
-    let last : length (on_lines end) ≡ 15 = refl in
-    let parts = six_long (on_lines front) (on_lines (flat_map making arrays)) (on_lines (flat_map storing all)) (on_lines printing) (on_lines (flat_map adding all)) (on_lines end) in
-    let whole = ap length (part_by_part front (flat_map making arrays) (flat_map storing all) printing (flat_map adding all) end) in
+    let last : length (on_lines end_cards) ≡ 15 = refl in
+    let parts = six_long (on_lines front_cards) (on_lines (flat_map making arrays)) (on_lines (flat_map storing all)) (on_lines printing) (on_lines (flat_map adding all)) (on_lines end_cards) in
+    let whole = ap length (part_by_part front_cards (flat_map making arrays) (flat_map storing all) printing (flat_map adding all) end_cards) in
     let short : length (on_lines (cards_over arrays all)) ≤ limit = omega (arith, few, some, many, long_m, long_s, long_a, count_m, count_s, count_a, first, middle, last, parts, whole) in
     (deck taken.0, has_deck (on_lines (cards_over arrays all)) taken.0 short taken.1)
 

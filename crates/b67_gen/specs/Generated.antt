@@ -24,46 +24,46 @@ lengths zero x = []
 lengths (suc n) x = (50 + below 200 (drawn x)) ∷ lengths n (drawn x)
 
 -- a store into an array that is drawn: its index, and the value
-abbrev pub store : List ℕ → ℕ → Store
-store arrays x =
+abbrev pub drawn_store : List ℕ → ℕ → Store
+drawn_store arrays x =
     let array = below (length arrays) (after_draws 1 x) in
     record { array = array; index = below (get_or arrays array 1) (after_draws 2 x); value = below 1000 (after_draws 3 x) }
 
 abbrev pub stores : List ℕ → ℕ → ℕ → List Store
 stores arrays zero x = []
-stores arrays (suc n) x = store arrays x ∷ stores arrays n (after_draws 3 x)
+stores arrays (suc n) x = drawn_store arrays x ∷ stores arrays n (after_draws 3 x)
 
 -- ---- as cards
 
-abbrev pub literal : ℕ → List ℕ
-literal n = codes "LT16 " ++ decimal n
+abbrev pub literal_card : ℕ → List ℕ
+literal_card n = codes "LT16 " ++ decimal n
 
 -- the cell of an array
-abbrev pub cell : ℕ → List ℕ
-cell array = codes "NAMC 2," ++ decimal (array + 2)
+abbrev pub cell_card : ℕ → List ℕ
+cell_card array = codes "NAMC 2," ++ decimal (array + 2)
 
 abbrev pub making : ℕ → List (List ℕ)
-making words = codes "MKST" ∷ codes "NAMC 0,8" ∷ literal words ∷ codes "ENTR" ∷ []
+making words = codes "MKST" ∷ codes "NAMC 0,8" ∷ literal_card words ∷ codes "ENTR" ∷ []
 
 abbrev pub storing : Store → List (List ℕ)
-storing s = literal s.value ∷ cell s.array ∷ literal s.index ∷ codes "INDX" ∷ codes "STOD" ∷ []
+storing s = literal_card s.value ∷ cell_card s.array ∷ literal_card s.index ∷ codes "INDX" ∷ codes "STOD" ∷ []
 
 abbrev pub adding : Store → List (List ℕ)
-adding s = cell s.array ∷ literal s.index ∷ codes "NXLV" ∷ codes "ADD" ∷ []
+adding s = cell_card s.array ∷ literal_card s.index ∷ codes "NXLV" ∷ codes "ADD" ∷ []
 
 -- the cards before the operators, the operators that begin to print, and the cards after the sum
-abbrev pub front : List (List ℕ)
-front = codes "?STACK 1024" ∷ codes "?JOB EXERCISE" ∷ codes "?ASM" ∷ codes "SEGMENT MAIN 2" ∷ []
+abbrev pub front_cards : List (List ℕ)
+front_cards = codes "?STACK 1024" ∷ codes "?JOB EXERCISE" ∷ codes "?ASM" ∷ codes "SEGMENT MAIN 2" ∷ []
 
 abbrev pub printing : List (List ℕ)
 printing = codes "MKST" ∷ codes "NAMC 0,9" ∷ codes "ZERO" ∷ []
 
-abbrev pub end : List (List ℕ)
-end = codes "ENTR" ∷ codes "EXIT" ∷ codes "?END" ∷ []
+abbrev pub end_cards : List (List ℕ)
+end_cards = codes "ENTR" ∷ codes "EXIT" ∷ codes "?END" ∷ []
 
 -- the cards of an exercise over these arrays and stores
 abbrev pub cards_over : List ℕ → List Store → List (List ℕ)
-cards_over arrays all = front ++ flat_map making arrays ++ flat_map storing all ++ printing ++ flat_map adding all ++ end
+cards_over arrays all = front_cards ++ flat_map making arrays ++ flat_map storing all ++ printing ++ flat_map adding all ++ end_cards
 
 -- each on a line
 abbrev pub on_lines : List (List ℕ) → List ℕ

@@ -2,7 +2,7 @@
 
 ghost use Rattle.std.specs.Prelude.{◌≡◌, ◌<◌, ◌≤◌, ◌+◌, ◌*◌, IfOk, length, ℕ, List};
 ghost use Rattle.std.specs.List.{AllByRecursion};
-ghost use Rattle.b67_gen.specs.Generated.{lengths, store, stores, after_draws};
+ghost use Rattle.b67_gen.specs.Generated.{lengths, drawn_store, stores, after_draws};
 
 use crate::draws::Draws;
 use std::alloc::{AllocError, Global};
@@ -32,7 +32,7 @@ fn draw_store(draws: &mut Draws, arrays: &[u32]) -> Store
     requires some { 0 < length arrays.now }
     requires few { length arrays.now < 65536 }
     requires long { AllByRecursion (λ n. 0 < n) arrays.now }
-    ensures store { result ≡ store arrays.now draws.old.state }
+    ensures store { result ≡ drawn_store arrays.now draws.old.state }
     ensures state { draws.new.state ≡ after_draws 3 draws.old.state }
 {
     let array = draws.below(arrays.len() as u32);

@@ -3,7 +3,7 @@
 ghost use Rattle.std.specs.Prelude.{◌≡◌, ◌++◌, OnOk, IfOk, decimal};
 ghost use Rattle.b67_io.specs.Line.{ended};
 ghost use Rattle.std.specs.List.{flat_map};
-ghost use Rattle.b67_gen.specs.Generated.{literal, cell, making, storing, adding, on_lines, cards_over};
+ghost use Rattle.b67_gen.specs.Generated.{literal_card, cell_card, making, storing, adding, on_lines, cards_over};
 
 use crate::stores::Store;
 use b67_word::Bytes;
@@ -28,13 +28,13 @@ fn put_numbered(front: &str, n: u64, into: &mut Bytes) -> Result<(), AllocError>
 }
 
 fn put_literal(n: u32, into: &mut Bytes) -> Result<(), AllocError>
-    ensures { OnOk result (into.new ≡ into.old ++ ended (literal n)) }
+    ensures { OnOk result (into.new ≡ into.old ++ ended (literal_card n)) }
 {
     put_numbered("LT16 ", u64::from(n), into)
 }
 
 fn put_cell(array: u32, into: &mut Bytes) -> Result<(), AllocError>
-    ensures { OnOk result (into.new ≡ into.old ++ ended (cell array)) }
+    ensures { OnOk result (into.new ≡ into.old ++ ended (cell_card array)) }
 {
     put_numbered("NAMC 2,", u64::from(array) + 2, into)
 }

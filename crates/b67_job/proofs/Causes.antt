@@ -8,16 +8,16 @@ use Rattle.b67_io.specs.Told.{Took}
 use Rattle.b67_io.specs.Causes.{Rose}
 use Rattle.b67_task_tables.specs.declared.tables.Machine.{Machine}
 use Rattle.b67_job_admit.specs.Admitting.{Prepared}
-use Rattle.b67_job.specs.Device.{Device, Failed, IsUntouched}
+use Rattle.b67_job.specs.Device.{Device, Failed, DeviceUnchanged}
 use Rattle.b67_job.specs.Texts.{Text, whole_of, only, TookUpTo, all_taken, cut_short}
 use Rattle.b67_job.specs.Lines.{memory_text}
 use Rattle.b67_job.specs.Statuses.{StatusMeans}
-use Rattle.b67_job.specs.Runs.{WasOpened, memory_refused, opening_wants_core, opening_wants_sectors, opening_fails, all_end, halt_comes, step_wants_core, step_wants_sectors, step_fails, RunStops, unopened, opened, IsPrinting}
-use Rattle.b67_job.specs.Command.{command_of}
+use Rattle.b67_job.specs.Runs.{WasOpened, memory_refused, opening_wants_core, opening_wants_sectors, opening_fails, all_end, halt_comes, step_wants_core, step_wants_sectors, step_fails, RunStops, unopened, opened, IsPrintingStep}
+use Rattle.b67_job.specs.Command.{command_line_of}
 use Rattle.b67_job.specs.declared.command.CommandLine.{CommandLine}
 use Rattle.b67_job.specs.declared.summaries.Exercise.{Exercise}
-use Rattle.b67_job.specs.Judgement.{Judgement, Runs, asked, exercise_of, reads}
-use Rattle.b67_job.specs.Due.{usage_text, reading_text, ReadAll, IsRun, IsDue, usage_due, refusal_due, print_due, run_due, reading_due, memory_due, Answered, answered, cut_in_step, IsAllDone, Halts, IsShortOfCore, IsShortOfSectors, IsFailedBy, IsRefused, IsSpared}
+use Rattle.b67_job.specs.Judgement.{Judgement, Runs, asked, exercise_of, reads_text}
+use Rattle.b67_job.specs.Due.{usage_text, reading_text, ReadAll, IsRun, IsDue, usage_due, refusal_due, print_due, run_due, reading_due, memory_due, Answered, answered, cut_in_step, IsAllDone, Halts, IsShortOfCore, IsShortOfSectors, IsFailedBy, TextIsRefused, IsSpared}
 use Rattle.b67_job.proofs.Status.{is_finished, is_halted}
 
 -- ---- runs
@@ -89,7 +89,7 @@ module _ {B : Type 0} (d : Device B) (core : ℕ) (p : Prepared) (exercise : Opt
   run_not_2 e (opened k is opens none (step_wants_sectors s h)) = absurd (omega (arith, e, s))
   run_not_2 e (opened k is opens none (step_fails s failed h)) = absurd (omega (arith, e, s))
 
-  run_is_9 : status ≡ 9 → RunStops d core p exercise machine status text → (machine ≡ None) × IsUntouched d × (text ≡ only memory_text)
+  run_is_9 : status ≡ 9 → RunStops d core p exercise machine status text → (machine ≡ None) × DeviceUnchanged d × (text ≡ only memory_text)
   run_is_9 e (unopened none (memory_refused same s t)) = (none, same, t)
   run_is_9 e (unopened none (opening_wants_core same more s t)) = absurd (omega (arith, e, s))
   run_is_9 e (unopened none (opening_wants_sectors same fits more s t)) = absurd (omega (arith, e, s))
@@ -150,13 +150,13 @@ module _ {B : Type 0} (d : Device B) (core : ℕ) (p : Prepared) (exercise : Opt
 -- ---- calls
 
 -- words that are no command ask for none that reads
-unread_unknown : (o : Option CommandLine) → is_some o ≡ false → reads o ≡ true → ⊥
+unread_unknown : (o : Option CommandLine) → is_some o ≡ false → reads_text o ≡ true → ⊥
 unread_unknown None none c = false≢true c
 unread_unknown (Some command) none c = false≢true (sym none)
 
 module _ {S B : Type 0} {words : List (Bor (List ℕ))} {left : S → Option (List ℕ)} {source_faults : S → ℕ} {deck deck' : S} {d : Device B} {machine : Option Machine} where
   due_done : {n : ℕ} {text : Text} → n ≡ 0 → IsDue words left source_faults deck deck' d machine n text
-      → (command : CommandLine) × (bytes : List ℕ) × (command_of words ≡ Some command) × ReadAll command left deck deck' bytes × IsAllDone d (exercise_of (Some command)) (asked command bytes) machine text
+      → (command : CommandLine) × (bytes : List ℕ) × (command_line_of words ≡ Some command) × ReadAll command left deck deck' bytes × IsAllDone d (exercise_of (Some command)) (asked command bytes) machine text
   due_done e (usage_due c g same m s t) = absurd (omega (arith, e, s))
   due_done e (refusal_due command b r c w same j m s t) = absurd (omega (arith, e, s))
   due_done {n = n} {text = text} e (print_due command b printed c r same j m s t) = (command, b, c, r, subst (λ (x : Judgement). IsAllDone d (exercise_of (Some command)) x machine text) (sym j) (m, same, t))
@@ -166,16 +166,16 @@ module _ {S B : Type 0} {words : List (Bor (List ℕ))} {left : S → Option (Li
     run.is,
     run.read,
     subst (λ (x : Judgement). IsAllDone d (exercise_of (Some run.command)) x machine text) (sym run.judged)
-        (subst (λ (x : Option Exercise). IsAllDone d x (Runs p) machine text) (ap exercise_of run.is) (run_is_done d core p (exercise_of (command_of words)) machine n text e stops)),
+        (subst (λ (x : Option Exercise). IsAllDone d x (Runs p) machine text) (ap exercise_of run.is) (run_is_done d core p (exercise_of (command_line_of words)) machine n text e stops)),
   )
   due_done e (reading_due c r same m s t) = absurd (omega (arith, e, s))
   due_done e (memory_due c same m s t) = absurd (omega (arith, e, s))
 
-  due_refused : {n : ℕ} {text : Text} → n ≡ 2 → IsDue words left source_faults deck deck' d machine n text → IsRefused words left deck deck' d machine text
+  due_refused : {n : ℕ} {text : Text} → n ≡ 2 → IsDue words left source_faults deck deck' d machine n text → TextIsRefused words left deck deck' d machine text
   due_refused e (usage_due c g same m s t) = absurd (omega (arith, e, s))
   due_refused e (refusal_due command b r c w same j m s t) = (command, b, r, c, w, same, j, m, t)
   due_refused e (print_due command b printed c r same j m s t) = absurd (omega (arith, e, s))
-  due_refused {n = n} {text = text} e (run_due core p run stops) = absurd (run_not_2 d core p (exercise_of (command_of words)) machine n text e stops)
+  due_refused {n = n} {text = text} e (run_due core p run stops) = absurd (run_not_2 d core p (exercise_of (command_line_of words)) machine n text e stops)
   due_refused e (reading_due c r same m s t) = absurd (omega (arith, e, s))
   due_refused e (memory_due c same m s t) = absurd (omega (arith, e, s))
 
@@ -183,7 +183,7 @@ module _ {S B : Type 0} {words : List (Bor (List ℕ))} {left : S → Option (Li
   due_halts e (usage_due c g same m s t) = absurd (omega (arith, e, s))
   due_halts e (refusal_due command b r c w same j m s t) = absurd (omega (arith, e, s))
   due_halts e (print_due command b printed c r same j m s t) = absurd (omega (arith, e, s))
-  due_halts {n = n} {text = text} e (run_due core p run stops) = (core, p, run, run_halts d core p (exercise_of (command_of words)) machine n text e stops)
+  due_halts {n = n} {text = text} e (run_due core p run stops) = (core, p, run, run_halts d core p (exercise_of (command_line_of words)) machine n text e stops)
   due_halts e (reading_due c r same m s t) = absurd (omega (arith, e, s))
   due_halts e (memory_due c same m s t) = absurd (omega (arith, e, s))
 
@@ -191,7 +191,7 @@ module _ {S B : Type 0} {words : List (Bor (List ℕ))} {left : S → Option (Li
   due_core e (usage_due c g same m s t) = absurd (omega (arith, e, s))
   due_core e (refusal_due command b r c w same j m s t) = absurd (omega (arith, e, s))
   due_core e (print_due command b printed c r same j m s t) = absurd (omega (arith, e, s))
-  due_core {n = n} {text = text} e (run_due core p run stops) = (core, p, run, run_wants_core d core p (exercise_of (command_of words)) machine n text e stops)
+  due_core {n = n} {text = text} e (run_due core p run stops) = (core, p, run, run_wants_core d core p (exercise_of (command_line_of words)) machine n text e stops)
   due_core e (reading_due c r same m s t) = absurd (omega (arith, e, s))
   due_core e (memory_due c same m s t) = absurd (omega (arith, e, s))
 
@@ -199,7 +199,7 @@ module _ {S B : Type 0} {words : List (Bor (List ℕ))} {left : S → Option (Li
   due_sectors e (usage_due c g same m s t) = absurd (omega (arith, e, s))
   due_sectors e (refusal_due command b r c w same j m s t) = absurd (omega (arith, e, s))
   due_sectors e (print_due command b printed c r same j m s t) = absurd (omega (arith, e, s))
-  due_sectors {n = n} {text = text} e (run_due core p run stops) = (core, p, run, run_wants_sectors d core p (exercise_of (command_of words)) machine n text e stops)
+  due_sectors {n = n} {text = text} e (run_due core p run stops) = (core, p, run, run_wants_sectors d core p (exercise_of (command_line_of words)) machine n text e stops)
   due_sectors e (reading_due c r same m s t) = absurd (omega (arith, e, s))
   due_sectors e (memory_due c same m s t) = absurd (omega (arith, e, s))
 
@@ -207,48 +207,48 @@ module _ {S B : Type 0} {words : List (Bor (List ℕ))} {left : S → Option (Li
   due_fails e (usage_due c g same m s t) = absurd (omega (arith, e, s))
   due_fails e (refusal_due command b r c w same j m s t) = absurd (omega (arith, e, s))
   due_fails e (print_due command b printed c r same j m s t) = absurd (omega (arith, e, s))
-  due_fails {n = n} {text = text} e (run_due core p run stops) = (let z = run_fails d core p (exercise_of (command_of words)) machine n text e stops in (core, p, run, z.0, z.1))
+  due_fails {n = n} {text = text} e (run_due core p run stops) = (let z = run_fails d core p (exercise_of (command_line_of words)) machine n text e stops in (core, p, run, z.0, z.1))
   due_fails e (reading_due c r same m s t) = absurd (omega (arith, e, s))
   due_fails e (memory_due c same m s t) = absurd (omega (arith, e, s))
 
-  due_9 : {n : ℕ} {text : Text} → n ≡ 9 → IsDue words left source_faults deck deck' d machine n text → (machine ≡ None) × IsUntouched d × (text ≡ only memory_text)
+  due_9 : {n : ℕ} {text : Text} → n ≡ 9 → IsDue words left source_faults deck deck' d machine n text → (machine ≡ None) × DeviceUnchanged d × (text ≡ only memory_text)
   due_9 e (usage_due c g same m s t) = absurd (omega (arith, e, s))
   due_9 e (refusal_due command b r c w same j m s t) = absurd (omega (arith, e, s))
   due_9 e (print_due command b printed c r same j m s t) = absurd (omega (arith, e, s))
-  due_9 {n = n} {text = text} e (run_due core p run stops) = run_is_9 d core p (exercise_of (command_of words)) machine n text e stops
+  due_9 {n = n} {text = text} e (run_due core p run stops) = run_is_9 d core p (exercise_of (command_line_of words)) machine n text e stops
   due_9 e (reading_due c r same m s t) = absurd (omega (arith, e, s))
   due_9 e (memory_due c same m s t) = (m, same, t)
 
-  due_7 : {n : ℕ} {text : Text} → n ≡ 7 → IsDue words left source_faults deck deck' d machine n text → (reads (command_of words) ≡ true) × Rose source_faults deck deck' × (text ≡ only reading_text)
+  due_7 : {n : ℕ} {text : Text} → n ≡ 7 → IsDue words left source_faults deck deck' d machine n text → (reads_text (command_line_of words) ≡ true) × Rose source_faults deck deck' × (text ≡ only reading_text)
   due_7 e (usage_due c g same m s t) = absurd (omega (arith, e, s))
   due_7 e (refusal_due command b r c w same j m s t) = absurd (omega (arith, e, s))
   due_7 e (print_due command b printed c r same j m s t) = absurd (omega (arith, e, s))
-  due_7 {n = n} {text = text} e (run_due core p run stops) = absurd (run_not_7 d core p (exercise_of (command_of words)) machine n text e stops)
+  due_7 {n = n} {text = text} e (run_due core p run stops) = absurd (run_not_7 d core p (exercise_of (command_line_of words)) machine n text e stops)
   due_7 e (reading_due c r same m s t) = (c, r, t)
   due_7 e (memory_due c same m s t) = absurd (omega (arith, e, s))
 
-  due_1 : {n : ℕ} {text : Text} → n ≡ 1 → IsDue words left source_faults deck deck' d machine n text → (is_some (command_of words) ≡ false) × (deck' ≡ deck) × (text ≡ only usage_text)
+  due_1 : {n : ℕ} {text : Text} → n ≡ 1 → IsDue words left source_faults deck deck' d machine n text → (is_some (command_line_of words) ≡ false) × (deck' ≡ deck) × (text ≡ only usage_text)
   due_1 e (usage_due c g same m s t) = (c, g, t)
   due_1 e (refusal_due command b r c w same j m s t) = absurd (omega (arith, e, s))
   due_1 e (print_due command b printed c r same j m s t) = absurd (omega (arith, e, s))
-  due_1 {n = n} {text = text} e (run_due core p run stops) = absurd (run_not_1 d core p (exercise_of (command_of words)) machine n text e stops)
+  due_1 {n = n} {text = text} e (run_due core p run stops) = absurd (run_not_1 d core p (exercise_of (command_line_of words)) machine n text e stops)
   due_1 e (reading_due c r same m s t) = absurd (omega (arith, e, s))
   due_1 e (memory_due c same m s t) = absurd (omega (arith, e, s))
 
   -- words that are no command are due the usage line alone
-  due_unknown : {n : ℕ} {text : Text} → is_some (command_of words) ≡ false → IsDue words left source_faults deck deck' d machine n text → n ≡ 1
+  due_unknown : {n : ℕ} {text : Text} → is_some (command_line_of words) ≡ false → IsDue words left source_faults deck deck' d machine n text → n ≡ 1
   due_unknown none (usage_due c g same m s t) = s
   due_unknown none (refusal_due command b r c w same j m s t) = absurd (false≢true (sym none ∙ ap is_some c))
   due_unknown none (print_due command b printed c r same j m s t) = absurd (false≢true (sym none ∙ ap is_some c))
   due_unknown none (run_due core p run stops) = absurd (false≢true (sym none ∙ ap is_some run.is))
-  due_unknown none (reading_due c r same m s t) = absurd (unread_unknown (command_of words) none c)
+  due_unknown none (reading_due c r same m s t) = absurd (unread_unknown (command_line_of words) none c)
   due_unknown none (memory_due c same m s t) = absurd (false≢true (sym none ∙ c))
 
   due_not_8 : {n : ℕ} {text : Text} → IsDue words left source_faults deck deck' d machine n text → n ≢ 8
   due_not_8 (usage_due c g same m s t) e = absurd (omega (arith, e, s))
   due_not_8 (refusal_due command b r c w same j m s t) e = absurd (omega (arith, e, s))
   due_not_8 (print_due command b printed c r same j m s t) e = absurd (omega (arith, e, s))
-  due_not_8 {n = n} {text = text} (run_due core p run stops) e = run_not_8 d core p (exercise_of (command_of words)) machine n text e stops
+  due_not_8 {n = n} {text = text} (run_due core p run stops) e = run_not_8 d core p (exercise_of (command_line_of words)) machine n text e stops
   due_not_8 (reading_due c r same m s t) e = absurd (omega (arith, e, s))
   due_not_8 (memory_due c same m s t) e = absurd (omega (arith, e, s))
 
@@ -256,7 +256,7 @@ module _ {S B : Type 0} {words : List (Bor (List ℕ))} {left : S → Option (Li
   due_spares none (usage_due c g same m s t) = inl same
   due_spares none (refusal_due command b r c w same j m s t) = inl same
   due_spares none (print_due command b printed c r same j m s t) = inl same
-  due_spares {n = n} {text = text} none (run_due core p run stops) = run_spares d core p (exercise_of (command_of words)) machine n text run none stops
+  due_spares {n = n} {text = text} none (run_due core p run stops) = run_spares d core p (exercise_of (command_line_of words)) machine n text run none stops
   due_spares none (reading_due c r same m s t) = inl same
   due_spares none (memory_due c same m s t) = inl same
 
@@ -264,7 +264,7 @@ module _ {S B : Type 0} {words : List (Bor (List ℕ))} {left : S → Option (Li
   due_opened k e (usage_due c g same m s t) = absurd (none-some k (sym m ∙ e))
   due_opened k e (refusal_due command b r c w same j m s t) = absurd (none-some k (sym m ∙ e))
   due_opened k e (print_due command b printed c r same j m s t) = absurd (none-some k (sym m ∙ e))
-  due_opened {n = n} {text = text} k e (run_due core p run stops) = (core, p, run, run_opened d core p (exercise_of (command_of words)) machine n text k e stops)
+  due_opened {n = n} {text = text} k e (run_due core p run stops) = (core, p, run, run_opened d core p (exercise_of (command_line_of words)) machine n text k e stops)
   due_opened k e (reading_due c r same m s t) = absurd (none-some k (sym m ∙ e))
   due_opened k e (memory_due c same m s t) = absurd (none-some k (sym m ∙ e))
 
@@ -277,10 +277,10 @@ module _ {S B : Type 0} {words : List (Bor (List ℕ))} {left : S → Option (Li
         by_end (answered status text due (cut_short count a rose part)) = absurd (other a)
         by_end (cut_in_step core p text count run printing a rose part) = absurd (other a)
 
-    is_refused : answer ≡ 2 → (text : Text) × IsRefused words left deck deck' d machine text × Took taken old new (whole_of text)
+    is_refused : answer ≡ 2 → (text : Text) × TextIsRefused words left deck deck' d machine text × Took taken old new (whole_of text)
     is_refused e = let u = due_at (λ z. omega (arith, e, z)) in (u.0, due_refused e u.1, u.2)
 
-    is_done : answer ≡ 0 → (command : CommandLine) × (bytes : List ℕ) × (text : Text) × (command_of words ≡ Some command) × ReadAll command left deck deck' bytes
+    is_done : answer ≡ 0 → (command : CommandLine) × (bytes : List ℕ) × (text : Text) × (command_line_of words ≡ Some command) × ReadAll command left deck deck' bytes
         × IsAllDone d (exercise_of (Some command)) (asked command bytes) machine text × Took taken old new (whole_of text)
     is_done e =
         let u = due_at (λ z. omega (arith, e, z)) in
@@ -312,34 +312,34 @@ module _ {S B : Type 0} {words : List (Bor (List ℕ))} {left : S → Option (Li
         (v.3, (v.0, v.1, u.0, v.2, v.4, u.2))
 
     is_cut : answer ≡ 8 → Rose faults old new × ((text : Text) × (count : ℕ) × (((status : ℕ) × IsDue words left source_faults deck deck' d machine status text)
-        ⊎ ((core : ℕ) × (p : Prepared) × IsRun words left deck deck' core p × IsPrinting d core p machine text count)) × TookUpTo taken old new text count)
+        ⊎ ((core : ℕ) × (p : Prepared) × IsRun words left deck deck' core p × IsPrintingStep d core p machine text count)) × TookUpTo taken old new text count)
     is_cut e = by_end h
       where
         by_end : Answered words left source_faults deck deck' d machine taken faults old new answer → Rose faults old new × ((text : Text) × (count : ℕ) × (((status : ℕ) × IsDue words left source_faults deck deck' d machine status text)
-            ⊎ ((core : ℕ) × (p : Prepared) × IsRun words left deck deck' core p × IsPrinting d core p machine text count)) × TookUpTo taken old new text count)
+            ⊎ ((core : ℕ) × (p : Prepared) × IsRun words left deck deck' core p × IsPrintingStep d core p machine text count)) × TookUpTo taken old new text count)
         by_end (answered status text due (all_taken a took)) = absurd (due_not_8 due (sym a ∙ e))
         by_end (answered status text due (cut_short count a rose part)) = (rose, (text, count, inl (status, due), part))
         by_end (cut_in_step core p text count run printing a rose part) = (rose, (text, count, inr (core, p, run, printing), part))
 
-    is_memory : answer ≡ 9 → (machine ≡ None) × IsUntouched d × Took taken old new memory_text
+    is_memory : answer ≡ 9 → (machine ≡ None) × DeviceUnchanged d × Took taken old new memory_text
     is_memory e =
         let u = due_at (λ z. omega (arith, e, z)) in
         let v = due_9 e u.1 in
         (v.0, v.1, subst (λ (x : Text). Took taken old new (whole_of x)) v.2 u.2)
 
-    is_reading : answer ≡ 7 → (reads (command_of words) ≡ true) × Rose source_faults deck deck' × Took taken old new reading_text
+    is_reading : answer ≡ 7 → (reads_text (command_line_of words) ≡ true) × Rose source_faults deck deck' × Took taken old new reading_text
     is_reading e =
         let u = due_at (λ z. omega (arith, e, z)) in
         let v = due_7 e u.1 in
         (v.0, v.1, subst (λ (x : Text). Took taken old new (whole_of x)) v.2 u.2)
 
-    is_usage : answer ≡ 1 → (is_some (command_of words) ≡ false) × (deck' ≡ deck) × Took taken old new usage_text
+    is_usage : answer ≡ 1 → (is_some (command_line_of words) ≡ false) × (deck' ≡ deck) × Took taken old new usage_text
     is_usage e =
         let u = due_at (λ z. omega (arith, e, z)) in
         let v = due_1 e u.1 in
         (v.0, v.1, subst (λ (x : Text). Took taken old new (whole_of x)) v.2 u.2)
 
-    is_unknown : is_some (command_of words) ≡ false → (answer ≡ 1) ⊎ (answer ≡ 8)
+    is_unknown : is_some (command_line_of words) ≡ false → (answer ≡ 1) ⊎ (answer ≡ 8)
     is_unknown none = by_end h
       where
         by_end : Answered words left source_faults deck deck' d machine taken faults old new answer → (answer ≡ 1) ⊎ (answer ≡ 8)

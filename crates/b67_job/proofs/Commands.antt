@@ -9,8 +9,8 @@ use Rattle.std.proofs.lemmas.Bool.{and_parts, and_from, or_cases, leb-true, ltb-
 use Rattle.b67_model_text.specs.declared.deck.Keyword as keyword
 use Rattle.b67_model_text.specs.declared.deck.Keyword.TheVariants as keywords
 use Rattle.b67_model_text.specs.Answers.{or_reason}
-use Rattle.b67_model_text.specs.Cards.{words, natural, is_name, name_in, is_empty}
-use Rattle.b67_model_text.specs.Command.{Command, Stack, Quantum, Halt, Switch, Job, Limit, Asm, Hex, Data, End, Plain, keyword_of, number_in, one_number, target, switch, says, job_named, job, alone, command_of, is_command, plain, said}
+use Rattle.b67_model_text.specs.Cards.{words_in_card, natural, is_name, name_in, is_empty}
+use Rattle.b67_model_text.specs.Command.{Command, Stack, Quantum, Halt, Switch, Job, Limit, Asm, Hex, Data, End, Plain, keyword_of, number_in, one_number, target, switch, says, job_named, job, alone, command_of, is_command, plain_card, said}
 use Rattle.b67_model_text.proofs.Answers.{after_both, err-ok}
 
 pub record NumberWithin (low high n : ℕ) : Type 0 where
@@ -134,8 +134,8 @@ command_in_range (key ∷ ps) c e =
     says_in_range k.0 ps c (given (says k.0 ps) 4 c k.2)
 
 pub said_in_range : (text : List ℕ) (c : Command) → said text ≡ Ok c → CommandInRange c
-said_in_range text c e = by_test (is_command text) (after_both (plain text) (λ (u : ⊤). cond (is_command text) (command_of (words text)) (Ok (Plain text))) c e).2
+said_in_range text c e = by_test (is_command text) (after_both (plain_card text) (λ (u : ⊤). cond (is_command text) (command_of (words_in_card text)) (Ok (Plain text))) c e).2
   where
-    by_test : (b : Bool) → cond b (command_of (words text)) (Ok (Plain text)) ≡ Ok c → CommandInRange c
-    by_test true e = command_in_range (words text) c e
+    by_test : (b : Bool) → cond b (command_of (words_in_card text)) (Ok (Plain text)) ≡ Ok c → CommandInRange c
+    by_test true e = command_in_range (words_in_card text) c e
     by_test false e = let is : Plain text ≡ c = cc in subst CommandInRange is tt

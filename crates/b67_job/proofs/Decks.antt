@@ -18,7 +18,7 @@ use Rattle.b67_session_open.specs.Opens.{need_of, sectors_of_all, IsOpened}
 use Rattle.b67_layout_storage.specs.Machine.{Says, DeviceAfterCalls, content_after}
 use Rattle.b67_session.proofs.Shaping.{shaped}
 use Rattle.b67_session.specs.Slices.{StandsAt, IsOpen, Keeps, PrintsWhole, SliceMeets, StepsFit}
-use Rattle.b67_session_lines.specs.Ends.{Ends}
+use Rattle.b67_session_lines.specs.Ends.{EndsPrinting}
 use Rattle.b67_job.specs.Device.{device_of}
 use Rattle.b67_job.specs.Lines.{no_core_line, backing_full_line}
 use Rattle.b67_job.specs.declared.summaries.Exercise.{Exercise}
@@ -33,7 +33,7 @@ use Rattle.b67_job.proofs.Ran.{closes_only, ran}
 module _ {K B : Type 0} (taken : K → Option (List ℕ)) (failures : K → ℕ) (holds : B → Option (List (List ℕ))) (size broken : B → ℕ) (d : Deck) (ps : List Program) (core : ℕ) (exercise : Option Exercise) where
   -- no session was opened
   pub refused : (b b' : B) (fault : OpenFault) (old new : K) (answer : ℕ) → IsOpened holds size broken d ps core b b' (Err fault)
-      → Ends taken failures old new (refused_status fault) (ended (refused_line fault)) answer → DeckRunEnds taken failures (device_of holds size broken b b') core (d, ps) exercise None old new answer
+      → EndsPrinting taken failures old new (refused_status fault) (ended (refused_line fault)) answer → DeckRunEnds taken failures (device_of holds size broken b b') core (d, ps) exercise None old new answer
   refused b b' faults.Memory old new answer o ends = run_stops 9 _ (unopened refl (memory_refused o refl refl)) (closes_only ends)
   refused b b' (faults.NoCore need words) old new answer o ends =
       let line : no_core_line need words ≡ no_core_line (need_of d ps) core = ap (λ n. no_core_line n words) o.0 ∙ ap (λ n. no_core_line (need_of d ps) n) o.1 in
@@ -73,17 +73,17 @@ after_more f g =
 
 module _ {K B : Type 0} (taken : K → Option (List ℕ)) (failures : K → ℕ) (holds : B → Option (List (List ℕ))) (size calls broken : B → ℕ) (d : Deck) (fs : List Codefile) (core : ℕ) (exercise : Option Exercise)
     (range : DeckInRange d) (loaded : AllByRecursion IsLoaded fs) (b b' b'' : B) (k0 k : Machine) (o : IsOpened holds size broken d (map program_of fs) core b b' (Ok k0)) where
-  abbrev known : Option (List (List ℕ))
-  known = content_after (holds b) (holds b')
+  abbrev said : Option (List (List ℕ))
+  said = content_after (holds b) (holds b')
 
   abbrev first : Session
   first = session_of d (map program_of fs)
 
-  stands : StandsAt known k0 first
-  stands = stands_opened d fs known core (size b) k0 range loaded o.2
+  stands : StandsAt said k0 first
+  stands = stands_opened d fs said core (size b) k0 range loaded o.2
 
   pub is_open : IsOpen (holds b') k0
-  is_open = record { stage = stage_of known (holds b') k0 first (says_after (holds b) (holds b')) stands; countable = o.2.countable }
+  is_open = record { stage = stage_of said (holds b') k0 first (says_after (holds b) (holds b')) stands; countable = o.2.countable }
 
   pub deck_run : (old new : K) (answer : ℕ) → DeviceAfterCalls holds size calls broken b b' → DeviceAfterCalls holds size calls broken b' b''
       → IsOpen (holds b'') k → Keeps k0 k
@@ -92,8 +92,8 @@ module _ {K B : Type 0} (taken : K → Option (List ℕ)) (failures : K → ℕ)
       → DeckRunEnds taken failures (device_of holds size broken b b'') core (d, map program_of fs) exercise (Some k) old new answer
   deck_run old new answer first_calls more_calls may_go_on keeps rans =
       let still = still_told holds b b' first_calls.tells in
-      let r = subst (λ (x : Option (List (List ℕ))). SessionRan taken failures exercise x (known ≢ None) (Rose broken b' b'') (size b') 800000000 first k0 k old new answer) (known_later (holds b) (holds b') (holds b'') still)
-      (rans known first (says_after (holds b) (holds b')) stands) in
+      let r = subst (λ (x : Option (List (List ℕ))). SessionRan taken failures exercise x (said ≢ None) (Rose broken b' b'') (size b') 800000000 first k0 k old new answer) (known_later (holds b) (holds b') (holds b'') still)
+      (rans said first (says_after (holds b) (holds b')) stands) in
       let now = content_after (holds b) (holds b'') in
       let begun : k0.tasks.made ≡ 0 = o.2.stands.tables.counts.made in
       let made : k.tasks.made ≡ r.slices.steps = from_none k.tasks.made k0.tasks.made r.slices.steps begun r.slices.made in
@@ -115,12 +115,12 @@ module _ {K B : Type 0} (taken : K → Option (List ℕ)) (failures : K → ℕ)
         goes_on = may_go_on;
         sized = omega (arith, begun_links, links, again, same);
       })
-      (known ≢ None) exact r.slices.steps r.slices.session r.slices.printed
+      (said ≢ None) exact r.slices.steps r.slices.session r.slices.printed
       (λ i low e. r.slices.below i low (o.2.halt ∙ e ∙ ap Some (let z : i ≡ k0.tasks.made + i = omega (arith, begun) in z))) made (λ told. r.slices.leads (exact told))
       r.slices.was_due r.slices.is_due (λ told. r.slices.next (exact told)) k0.tasks.printed o.2.printed
       r.answered old r.between new answer
-      (subst (λ n. SliceMeets now (known ≢ None) n (size b) 800000000 r.slices.steps r.slices.session r.slices.is_due r.answered k) o.2.core_size
-      (subst (λ n. SliceMeets now (known ≢ None) (length k0.cpu.core) n 800000000 r.slices.steps r.slices.session r.slices.is_due r.answered k) same r.slices.meets))
+      (subst (λ n. SliceMeets now (said ≢ None) n (size b) 800000000 r.slices.steps r.slices.session r.slices.is_due r.answered k) o.2.core_size
+      (subst (λ n. SliceMeets now (said ≢ None) (length k0.cpu.core) n 800000000 r.slices.steps r.slices.session r.slices.is_due r.answered k) same r.slices.meets))
       r.finishes r.slices.prints (λ other. none_printed r.slices.steps k0 k old r.between o.2.printed (r.slices.texts other))
       (λ e. let rose = r.device_failed e in omega (arith, later, rose))
       r.printer_failed r.later

@@ -6,9 +6,9 @@ use Rattle.std.specs.Option.{option_map, option_and_then, option_or, option_to_l
 use Rattle.std.proofs.lemmas.Option.{same_Some, none-some}
 use Rattle.b67_model_text.specs.declared.card.Card.{Card}
 use Rattle.b67_model_text.specs.declared.deck.Deck.{Deck}
-use Rattle.b67_model_text.specs.Cards.{cards, words, leading}
+use Rattle.b67_model_text.specs.Cards.{cards, words_in_card, leading}
 use Rattle.b67_model_text.specs.Command.{Command, Stack, Job, Limit, Data, number_in}
-use Rattle.b67_model_text.specs.Placing.{stack_in, switch_in, name_in, first_of, operand_in, operands_in, numbers}
+use Rattle.b67_model_text.specs.Placing.{stack_in, switch_in, name_in, first_found, operand_in, operands_in, numbers}
 use Rattle.b67_model_text.specs.Answers.{◌>>=◌}
 use Rattle.b67_model_text.specs.Deck.{Said, command_in, within_limit, sayings, limit_in, body, numbers_in, numbers_at, data_numbers, limit_behind, job_of, is_job, own_cards, jobs, deck, deck_of}
 use Rattle.b67_model_text.proofs.Answers.{after_both}
@@ -63,7 +63,7 @@ card_small (Some vs) h = h vs refl
 
 cards_small : (cs : List Card) → AllByRecursion Small (numbers_in cs)
 cards_small [] = tt
-cards_small (c ∷ more) = all_both (unwrap_or (numbers c.text) []) (numbers_in more) (card_small (numbers c.text) (λ vs i. operands_small (words c.text) vs i)) (cards_small more)
+cards_small (c ∷ more) = all_both (unwrap_or (numbers c.text) []) (numbers_in more) (card_small (numbers c.text) (λ vs i. operands_small (words_in_card c.text) vs i)) (cards_small more)
 
 data_small : (said : List Said) → AllByRecursion Small (unwrap_or (data_numbers said) [])
 data_small [] = tt
@@ -116,11 +116,11 @@ jobs_count (s ∷ more) = by_name (jobs_count more) (name_in s.command)
     by_name rest (Some name) = ap suc rest
 
 -- the size of stacks
-stack_within : (said : List Said) → AllByRecursion InRange said → NumberWithin 64 16383 (unwrap_or (first_of (λ (s : Said). stack_in s.command) said) 512)
+stack_within : (said : List Said) → AllByRecursion InRange said → NumberWithin 64 16383 (unwrap_or (first_found (λ (s : Said). stack_in s.command) said) 512)
 stack_within [] h = record { from = omega arith; upto = omega arith }
 stack_within (s ∷ more) h = by_command s.command h.0 (stack_within more h.1)
   where
-    by_command : (c : Command) → CommandInRange c → NumberWithin 64 16383 (unwrap_or (first_of (λ (s : Said). stack_in s.command) more) 512)
+    by_command : (c : Command) → CommandInRange c → NumberWithin 64 16383 (unwrap_or (first_found (λ (s : Said). stack_in s.command) more) 512)
         → NumberWithin 64 16383 (unwrap_or (slice_get (cons_option (stack_in c) (filter_map (λ (s : Said). stack_in s.command) more)) 0) 512)
     by_command (Stack n) h k = h
     by_command _ h k = k
@@ -129,7 +129,7 @@ of_read : (said : List Said) → Read said → DeckInRange (deck said)
 of_read said r = subst (λ (all : List Said). DeckInRange (deck all)) (sym r.is) (record {
   stack_low = (stack_within (reverse r.all) range).from;
   stack_high = omega (arith, (stack_within (reverse r.all) range).upto);
-  rise = rise_onto r.all [] r.stood tt (follows_none (first_of switch_in (map command_in r.all)));
+  rise = rise_onto r.all [] r.stood tt (follows_none (first_found switch_in (map command_in r.all)));
   few = omega (arith, jobs_count (reverse r.all), jobs_onto r.all [], few_jobs r.all r.stood);
   each = jobs_in_range (reverse r.all) range;
 })

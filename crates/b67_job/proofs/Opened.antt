@@ -63,14 +63,14 @@ stands_opened d fs told core sectors k range loaded o = record {
 }
 
 -- a slice may be called on a machine that stands for a session
-pub stage_of : (known told : Option (List (List ℕ))) (k : Machine) (s : Session) → Says known told → StandsAt known k s → LivesOn told k ⊎ (StandsLimited told k ⊎ HasNoTasks told k)
-stage_of known told k s says stands = by k.tasks.rows.items refl
+pub stage_of : (said told : Option (List (List ℕ))) (k : Machine) (s : Session) → Says said told → StandsAt said k s → LivesOn told k ⊎ (StandsLimited told k ⊎ HasNoTasks told k)
+stage_of said told k s says stands = by k.tasks.rows.items refl
   where
     by : (rows : List TaskRow) → k.tasks.rows.items ≡ rows → LivesOn told k ⊎ (StandsLimited told k ⊎ HasNoTasks told k)
-    by [] e = inr (inr (record { known = known; says = says; session = s; ordered = stands.ordered; rests = rests_now known k s stands e }))
+    by [] e = inr (inr (record { said = said; says = says; session = s; ordered = stands.ordered; rests = rests_now said k s stands e }))
     by (row ∷ rows) e =
-        let n = next_now known k s stands (λ none. not_empty row rows (sym e ∙ none)) in
-        inl (record { some = record { known = known; says = says; session = s; stands = stands }; member = n.0; task = n.1; next = n.2 })
+        let n = next_now said k s stands (λ none. not_empty row rows (sym e ∙ none)) in
+        inl (record { some = record { said = said; says = says; session = s; stands = stands }; member = n.0; task = n.1; next = n.2 })
 
 -- where the device told its sectors, and still does, these are known, and then known again
 pub known_after : (before now : Option (List (List ℕ))) → before ≢ None → now ≢ None → content_after before now ≢ None

@@ -7,11 +7,11 @@ use Rattle.b67_model_text.specs.declared.deck.Job.{Job}
 use Rattle.b67_model_text.specs.Deck as deck
 use Rattle.b67_model_text.specs.Deck.{deck_of}
 use Rattle.b67_model_text.proofs.Answers.{err-ok}
-use Rattle.b67_job_admit.specs.Admitting.{Answer, ◌>>=◌, of_deck, program_in, programs, admitted, prepared, Prepared, deck_prepared}
+use Rattle.b67_job_admit.specs.Admitting.{Admission, ◌>>=◌, of_deck, program_in, programs, admitted, prepared, Prepared, deck_prepared}
 use Rattle.b67_session_open.specs.Decks.{DeckInRange}
 use Rattle.b67_job.proofs.Jobs.{decks_in_range}
 
-after : {A B : Type 0} (r : Answer A) (go : A → Answer B) (b : B) → (r >>= go) ≡ Ok b → (a : A) × (r ≡ Ok a) × (go a ≡ Ok b)
+after : {A B : Type 0} (r : Admission A) (go : A → Admission B) (b : B) → (r >>= go) ≡ Ok b → (a : A) × (r ≡ Ok a) × (go a ≡ Ok b)
 after (Ok a) go b e = (a, refl, e)
 after (Err r) go b e = err-ok r b _ e
 

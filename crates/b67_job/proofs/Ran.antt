@@ -22,19 +22,19 @@ use Rattle.b67_task_tables.specs.declared.tables.Machine.{Machine}
 use Rattle.b67_session.specs.declared.slices.Progress.{Progress}
 use Rattle.b67_session.specs.declared.slices.Progress.TheVariants as progress
 use Rattle.b67_law_order.proofs.FewMade.{made_few}
-use Rattle.b67_session.specs.Slices.{StandsAt, IsLimited, Reaches, Prints, SliceMeets, StopsBefore}
+use Rattle.b67_session.specs.Slices.{StandsAt, IsLimited, StepsReach, Prints, SliceMeets, StopsBefore}
 use Rattle.b67_session.proofs.Texts.{run_text-append}
 use Rattle.b67_session.proofs.Tells.{tells_weaker}
 use Rattle.b67_session_lines.specs.Moments.{last_part, due}
 use Rattle.b67_session_lines.specs.Stops.{halted_line}
-use Rattle.b67_session_lines.specs.Ends.{Ends, whole, cut}
-use Rattle.b67_job.specs.Device.{Device, Tells, Failed, known_now}
+use Rattle.b67_session_lines.specs.Ends.{EndsPrinting, all_printed, cut_off}
+use Rattle.b67_job.specs.Device.{Device, DeviceTells, Failed, known_now}
 use Rattle.b67_job.specs.Lines.{no_core_line, backing_full_line, backing_fault_line, summary}
 use Rattle.b67_job.specs.declared.summaries.Exercise.{Exercise}
-use Rattle.b67_job.specs.Texts.{Text, only, Closes, all_taken, cut_short}
+use Rattle.b67_job.specs.Texts.{Text, only, PrintsAndAnswers, all_taken, cut_short}
 use Rattle.b67_job.proofs.Opened.{run_apart_to}
-use Rattle.b67_job.specs.Runs.{run_of, text_to, StandsAfter, IsBeforeHalt, IsWithinHalt, StopsAt, IsCutInStep, IsCutInLimit, WasOpened, StopsOpened, all_end, halt_comes, step_wants_core, step_wants_sectors, step_fails, opened, DeckRunEnds, run_stops, step_is_cut}
-use Rattle.b67_job.specs.Finishing.{Finishes}
+use Rattle.b67_job.specs.Runs.{run_of, text_to, StandsAfter, IsBeforeHalt, IsWithinHalt, StopsInRun, IsCutInStep, IsCutInLimit, WasOpened, StopsOpened, all_end, halt_comes, step_wants_core, step_wants_sectors, step_fails, opened, DeckRunEnds, run_stops, step_is_cut}
+use Rattle.b67_job.specs.Finishing.{FinishesRun}
 use Rattle.b67_job.proofs.Parts.{over_has_no_last}
 use Rattle.b67_job.proofs.Reached.{came_whole, came_limited, begins_step, ends_step}
 
@@ -42,14 +42,14 @@ use Rattle.b67_job.proofs.Reached.{came_whole, came_limited, begins_step, ends_s
 
 -- one text is printed, and then the call ends that prints another behind it
 pub closes_then : {K : Type 0} {taken : K → Option (List ℕ)} {faults : K → ℕ} {a b c : K} {x y : List ℕ} {status answer : ℕ} → Took taken a b x → faults a ≤ faults b
-    → Ends taken faults b c status y answer → Closes taken faults a c status (record { front = x; last = y }) answer
-closes_then took later (whole e t) = all_taken e (Took-then took t)
-closes_then took later (cut e rose part) = cut_short part.count e (omega (arith, later, rose)) (record { proper = part.proper; took = Took-then took part.first })
+    → EndsPrinting taken faults b c status y answer → PrintsAndAnswers taken faults a c status (record { front = x; last = y }) answer
+closes_then took later (all_printed e t) = all_taken e (Took-then took t)
+closes_then took later (cut_off e rose part) = cut_short part.count e (omega (arith, later, rose)) (record { proper = part.proper; took = Took-then took part.first })
 
 -- one text alone
-pub closes_only : {K : Type 0} {taken : K → Option (List ℕ)} {faults : K → ℕ} {a b : K} {y : List ℕ} {status answer : ℕ} → Ends taken faults a b status y answer → Closes taken faults a b status (only y) answer
-closes_only (whole e t) = all_taken e t
-closes_only (cut e rose part) = cut_short part.count e rose (record { proper = part.proper; took = part.first })
+pub closes_only : {K : Type 0} {taken : K → Option (List ℕ)} {faults : K → ℕ} {a b : K} {y : List ℕ} {status answer : ℕ} → EndsPrinting taken faults a b status y answer → PrintsAndAnswers taken faults a b status (only y) answer
+closes_only (all_printed e t) = all_taken e t
+closes_only (cut_off e rose part) = cut_short part.count e rose (record { proper = part.proper; took = part.first })
 
 -- what a slice prints that had printed nothing of its first text
 module _ {K : Type 0} {taken : K → Option (List ℕ)} {old between : K} {was is : List ℕ} {before now : ℕ} {printed : List RunLine} where
@@ -108,18 +108,18 @@ before_halt (Some count) steps below other =
 -- ---- how a session's steps ended, as the run of its deck
 
 module _ {K B : Type 0} (taken : K → Option (List ℕ)) (faults : K → ℕ) (d : Device B) (core : ℕ) (p : Prepared) (exercise : Option Exercise) (k : Machine) (opens : WasOpened d core p k)
-    (E : Type 0) (exact : Tells d → E) (steps : ℕ) (s : Session) (printed : List RunLine) (below_halt : (j : ℕ) → j < steps → p.0.halt ≢ Some j) (made : k.tasks.made ≡ steps)
-    (leads : Tells d → Reaches (run_of p).session steps s printed) (was is : List ℕ) (due_is : Tells d → is ≡ due s) (before : ℕ) (begun : before ≡ 0) where
+    (E : Type 0) (exact : DeviceTells d → E) (steps : ℕ) (s : Session) (printed : List RunLine) (below_halt : (j : ℕ) → j < steps → p.0.halt ≢ Some j) (made : k.tasks.made ≡ steps)
+    (leads : DeviceTells d → StepsReach (run_of p).session steps s printed) (was is : List ℕ) (due_is : DeviceTells d → is ≡ due s) (before : ℕ) (begun : before ≡ 0) where
   abbrev first : Session
   first = (run_of p).session
 
-  abbrev known : Option (List (List ℕ))
-  known = known_now d
+  abbrev said : Option (List (List ℕ))
+  said = known_now d
 
-  came : Tells d → last_part s ≡ None → Came first steps s printed
+  came : DeviceTells d → last_part s ≡ None → Came first steps s printed
   came tells none = came_whole first steps s printed (leads tells) none
 
-  none_due : StandsAt known k s → last_part s ≡ None
+  none_due : StandsAt said k s → last_part s ≡ None
   none_due stands = no_last s stands.ordered
 
   same_lines : Came first steps s printed → printed ≡ lines k.tasks.made first
@@ -132,7 +132,7 @@ module _ {K B : Type 0} (taken : K → Option (List ℕ)) (faults : K → ℕ) (
     apart = λ tells. let c = came tells none in run_apart_to k.tasks.made first s printed (sym (ap (λ n. after n first) made ∙ c.session)) (same_lines c);
   }
 
-  abbrev stops_at : (m : SessionJob) (t : Task) → StandsAt known k s → IsNext s m t → StopsAt d first k
+  abbrev stops_at : (m : SessionJob) (t : Task) → StandsAt said k s → IsNext s m t → StopsInRun d first k
   stops_at m t stands n = record { session = s; printed = printed; comes = comes_to (none_due stands); stands = stands; member = m; task = t; next = n }
 
   within_halt : IsWithinHalt (run_of p) k.tasks.made
@@ -145,7 +145,7 @@ module _ {K B : Type 0} (taken : K → Option (List ℕ)) (faults : K → ℕ) (
   ending line = record { front = run_text printed; last = ended line }
 
   -- the printer failed in the text of a step
-  in_step : k.tasks.printed < length is → (b : StopsBefore known 800000000 steps s k) → (E → need core s b.member b.task ≤ core) → IsCutInStep d core (run_of p) k (record { front = run_text printed; last = is })
+  in_step : k.tasks.printed < length is → (b : StopsBefore said 800000000 steps s k) → (E → need core s b.member b.task ≤ core) → IsCutInStep d core (run_of p) k (record { front = run_text printed; last = is })
   in_step proper b room = record {
     stop = stops_at b.member b.task b.stands b.next;
     due = is_due b.halt;
@@ -160,7 +160,7 @@ module _ {K B : Type 0} (taken : K → Option (List ℕ)) (faults : K → ℕ) (
         (begins.0, ap (λ (x : List ℕ). (run_text printed ++ x) ++ begins.0) (due_is tells) ∙ begins.1 ∙ ap (λ n. run_text (lines (n + 1) first)) (sym made));
   }
 
-  in_limit : (rest : StepResult) → IsLimited known k s rest → IsCutInLimit d (run_of p) k (record { front = run_text printed; last = is })
+  in_limit : (rest : StepResult) → IsLimited said k s rest → IsCutInLimit d (run_of p) k (record { front = run_text printed; last = is })
   in_limit rest h = record {
     session = s;
     printed = printed;
@@ -188,13 +188,13 @@ module _ {K B : Type 0} (taken : K → Option (List ℕ)) (faults : K → ℕ) (
         };
   }
 
-  stopped : {old new : K} {answer status : ℕ} (y : Text) → k.tasks.printed ≡ 0 → StopsOpened d core p exercise k status y → Closes taken faults old new status y answer → DeckRunEnds taken faults d core p exercise (Some k) old new answer
+  stopped : {old new : K} {answer status : ℕ} (y : Text) → k.tasks.printed ≡ 0 → StopsOpened d core p exercise k status y → PrintsAndAnswers taken faults old new status y answer → DeckRunEnds taken faults d core p exercise (Some k) old new answer
   stopped {status = status} y none stops ends = run_stops status y (opened k refl opens none stops) ends
 
   -- by what the steps answered
   pub ran : (answered : Result Progress Stop) (old between new : K) (answer : ℕ)
-      → SliceMeets known E core d.sectors 800000000 steps s is answered k
-      → Finishes taken faults exercise k.tasks.made answered between new answer
+      → SliceMeets said E core d.sectors 800000000 steps s is answered k
+      → FinishesRun taken faults exercise k.tasks.made answered between new answer
       → Prints taken old between was before printed is k.tasks.printed → (answered ≢ Err stops.PrintFault → k.tasks.printed ≡ 0)
       → (answered ≡ Err stops.BackingFault → Failed d) → (answered ≡ Err stops.PrintFault → Rose faults old between) → faults old ≤ faults between
       → DeckRunEnds taken faults d core p exercise (Some k) old new answer
@@ -204,7 +204,7 @@ module _ {K B : Type 0} (taken : K → Option (List ℕ)) (faults : K → ℕ) (
       (all_end refl (record { session = s; printed = printed; comes = comes_to (over_has_no_last s meets.0.none); within = within_halt; rests = meets.0; ordered = meets.1; text_is = refl }))
       (closes_then (lines_took prints begun none) later end)
   ran (Ok progress.More) old between new answer meets end prints unprinted failed rose later =
-      absurd (most_is_no_end known k s meets.2.1.0 meets.2.1.1 steps made meets.0 meets.2.0 meets.2.1.2)
+      absurd (most_is_no_end said k s meets.2.1.0 meets.2.1.1 steps made meets.0 meets.2.0 meets.2.1.2)
   ran (Ok progress.Halted) old between new answer meets end prints unprinted failed rose later =
       let lives = meets.1.1 in
       stopped (ending (halted_line k.tasks.made)) (unprinted (λ e. cc))
@@ -229,7 +229,7 @@ module _ {K B : Type 0} (taken : K → Option (List ℕ)) (faults : K → ℕ) (
         stop = stops_at b.member b.task b.stands b.next;
         due = is_due b.halt;
         sum = sum;
-        tells = tells_weaker E (Tells d) exact b.stands.storage b.stands.plan s b.member b.task sum meets.3;
+        tells = tells_weaker E (DeviceTells d) exact b.stands.storage b.stands.plan s b.member b.task sum meets.3;
         exceeds = meets.5;
         absent = record { lacks = λ tells. meets.1.lacks (exact tells); room = λ tells. meets.1.room (exact tells); code = λ tells. meets.1.code (exact tells) };
         wants = meets.2.0;
@@ -255,7 +255,7 @@ module _ {K B : Type 0} (taken : K → Option (List ℕ)) (faults : K → ℕ) (
       (subst (λ (z : K). Rose faults old z) (sym end.1) (rose refl))
       (record { proper = meets.0; took = subst (λ (z : K). Took taken old z (run_text printed ++ take k.tasks.printed is)) (sym end.1) (front_took prints begun) })
     where
-      by_machine : ((b : StopsBefore known 800000000 steps s k) × (E → need core s b.member b.task ≤ core)) ⊎ ((rest : StepResult) × IsLimited known k s rest)
+      by_machine : ((b : StopsBefore said 800000000 steps s k) × (E → need core s b.member b.task ≤ core)) ⊎ ((rest : StepResult) × IsLimited said k s rest)
           → IsCutInStep d core (run_of p) k (record { front = run_text printed; last = is }) ⊎ IsCutInLimit d (run_of p) k (record { front = run_text printed; last = is })
       by_machine (inl h) = inl (in_step meets.0 h.0 h.1)
       by_machine (inr h) = inr (in_limit h.0 h.1)

@@ -3,14 +3,14 @@ use Rattle.std.proofs.Common.{◌≡◌, ◌≢◌, ℕ, ◌+◌, ◌<◌, List,
 use Rattle.b67_model.specs.Common.{run_text, Session, IsInOrderButPlaces, RunLine, StepResult, lines, after}
 use Rattle.b67_law_sessions.proofs.Limits.{no_last}
 use Rattle.b67_law_sessions.proofs.TurnRuns.{Came, came-more}
-use Rattle.b67_session.specs.Slices.{Reaches, whole, but_limit}
+use Rattle.b67_session.specs.Slices.{StepsReach, in_whole_steps, but_limit}
 use Rattle.b67_session.proofs.Texts.{run_text-append}
 use Rattle.b67_session_lines.specs.Moments.{first_part, last_part, due}
 use Rattle.b67_job.proofs.Parts.{parts}
 
 -- whole steps, where no last part is due
-pub came_whole : (first : Session) (steps : ℕ) (s : Session) (printed : List RunLine) → Reaches first steps s printed → last_part s ≡ None → Came first steps s printed
-came_whole first steps s printed (whole a l) none = record { session = a; lines_are = l }
+pub came_whole : (first : Session) (steps : ℕ) (s : Session) (printed : List RunLine) → StepsReach first steps s printed → last_part s ≡ None → Came first steps s printed
+came_whole first steps s printed (in_whole_steps a l) none = record { session = a; lines_are = l }
 came_whole first steps s printed (but_limit k part e f g some l) none = absurd (some none)
 
 -- all but the last part of the last step
@@ -23,8 +23,8 @@ pub record Limited (first : Session) (steps : ℕ) (s : Session) (printed : List
   pub some : last_part s ≢ None
   pub lines_are : lines before first ++ part.lines ≡ printed
 
-pub came_limited : (first : Session) (steps : ℕ) (s : Session) (printed : List RunLine) → IsInOrderButPlaces (after steps first) → last_part s ≢ None → Reaches first steps s printed → Limited first steps s printed
-came_limited first steps s printed order some (whole a l) = absurd (some (no_last s (subst IsInOrderButPlaces a order)))
+pub came_limited : (first : Session) (steps : ℕ) (s : Session) (printed : List RunLine) → IsInOrderButPlaces (after steps first) → last_part s ≢ None → StepsReach first steps s printed → Limited first steps s printed
+came_limited first steps s printed order some (in_whole_steps a l) = absurd (some (no_last s (subst IsInOrderButPlaces a order)))
 came_limited first steps s printed order some (but_limit k part e f g rest l) = record { before = k; part = part; one_more = e; is_first = f; session = g; some = rest; lines_are = l }
 
 -- ---- what is due begins the text of the next step, or ends that of the last one

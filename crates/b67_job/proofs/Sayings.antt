@@ -9,7 +9,7 @@ use Rattle.b67_model_text.specs.declared.card.Card.{Card}
 use Rattle.b67_model_text.specs.declared.deck.Switch as text
 use Rattle.b67_model_text.specs.Answers.{Answer, ◌>>=◌, ◌>>◌, needs}
 use Rattle.b67_model_text.specs.Command.{Command, Switch, Job, said}
-use Rattle.b67_model_text.specs.Placing.{stand, may_stand, lacks_program, is_repeated, rises, has_room, arranged, is_well_formed, placed, is_above, first_of, switch_in, name_in}
+use Rattle.b67_model_text.specs.Placing.{stand, may_stand, lacks_program, is_repeated, rises, has_room, arranged, is_well_formed, placed_card, is_above, first_found, switch_in, name_in}
 use Rattle.b67_model_text.specs.Deck.{Said, Refusal, of_card, command_in, said_after, sayings, is_between, number_of_last}
 use Rattle.b67_model_text.proofs.Answers.{after_both, after_needs, err-ok}
 use Rattle.b67_model.specs.InOrder.{SwitchesRise}
@@ -27,7 +27,7 @@ abbrev pub AllStood : List Said → Type 0
 AllStood [] = Unit {0}
 AllStood (s ∷ before) = Stood (map command_in before) s.command × AllStood before
 
-stood : (before : List Command) (text : List ℕ) (c : Command) → said text ≡ Ok c → (u : ⊤) → placed before c ≡ Ok u → Stood before c
+stood : (before : List Command) (text : List ℕ) (c : Command) → said text ≡ Ok c → (u : ⊤) → placed_card before c ≡ Ok u → Stood before c
 stood before text c is u e =
     let both = after_both (arranged before c) (λ (v : ⊤). is_well_formed (stand before) c) u e in
     let a = after_needs (may_stand (stand before) c || lacks_program (stand before) c) 5 _ both.0 both.1 in
@@ -42,8 +42,8 @@ given_card number (Err reason) a e = err-ok (record { card = number; reason = re
 
 stood_card : (before : List Said) (card : Card) (s : Said) → said_after before card ≡ Ok s → Stood (map command_in before) s.command
 stood_card before card s e =
-    let c = after_both (said card.text) (λ (c : Command). placed (map command_in before) c >>= λ (u : ⊤). Ok (record { number = card.number; command = c })) s e in
-    let p = after_both (placed (map command_in before) c.0) (λ (u : ⊤). Ok (record { number = card.number; command = c.0 })) s c.2 in
+    let c = after_both (said card.text) (λ (c : Command). placed_card (map command_in before) c >>= λ (u : ⊤). Ok (record { number = card.number; command = c })) s e in
+    let p = after_both (placed_card (map command_in before) c.0) (λ (u : ⊤). Ok (record { number = card.number; command = c.0 })) s c.2 in
     let is : c.0 ≡ s.command = by_ok c.0 p.2 in
     subst (Stood (map command_in before)) is (stood (map command_in before) card.text c.0 c.1 p.0 p.1)
   where
@@ -84,8 +84,8 @@ rise_more : (w : text.Switch) (vs : List text.Switch) → Follows (Some w) vs �
 rise_more w [] f h = tt
 rise_more w (v ∷ vs) f h = (f, h)
 
-above : (before : List Command) (c : Command) (w : text.Switch) → rises before c ≡ true → switch_in c ≡ Some w → is_above (first_of switch_in before) w.count ≡ true
-above before (Switch count job task) w h e = subst (λ (v : text.Switch). is_above (first_of switch_in before) v.count ≡ true) (same_Some (record { count = count; job = job; task = task }) w e) h
+above : (before : List Command) (c : Command) (w : text.Switch) → rises before c ≡ true → switch_in c ≡ Some w → is_above (first_found switch_in before) w.count ≡ true
+above before (Switch count job task) w h e = subst (λ (v : text.Switch). is_above (first_found switch_in before) v.count ≡ true) (same_Some (record { count = count; job = job; task = task }) w e) h
 above before _ w h e = absurd (none-some w e)
 
 follows : (o : Option text.Switch) (w : text.Switch) (vs : List text.Switch) → is_above o w.count ≡ true → Follows o (w ∷ vs)
@@ -97,24 +97,24 @@ pub follows_none : (o : Option text.Switch) → Follows o []
 follows_none None = tt
 follows_none (Some w) = tt
 
-pub rise_onto : (before acc : List Said) → AllStood before → SwitchesRise (map switch_of (switches_of acc)) → Follows (first_of switch_in (map command_in before)) (switches_of acc)
+pub rise_onto : (before acc : List Said) → AllStood before → SwitchesRise (map switch_of (switches_of acc)) → Follows (first_found switch_in (map command_in before)) (switches_of acc)
     → SwitchesRise (map switch_of (switches_of (reverse_aux before acc)))
 rise_onto [] acc h k f = k
 rise_onto (s ∷ before) acc h k f = by_switch (λ k f. rise_onto before (s ∷ acc) h.1 k f) (switch_in s.command) refl
   where
-    by_switch : (SwitchesRise (map switch_of (switches_of (s ∷ acc))) → Follows (first_of switch_in (map command_in before)) (switches_of (s ∷ acc)) → SwitchesRise (map switch_of (switches_of (reverse_aux before (s ∷ acc)))))
+    by_switch : (SwitchesRise (map switch_of (switches_of (s ∷ acc))) → Follows (first_found switch_in (map command_in before)) (switches_of (s ∷ acc)) → SwitchesRise (map switch_of (switches_of (reverse_aux before (s ∷ acc)))))
         → (o : Option text.Switch) → switch_in s.command ≡ o → SwitchesRise (map switch_of (switches_of (reverse_aux before (s ∷ acc))))
     by_switch next None e =
         next
         (subst (λ (o : Option text.Switch). SwitchesRise (map switch_of (cons_option o (switches_of acc)))) (sym e) k)
-        (subst (λ (o : Option text.Switch). Follows (first_of switch_in (map command_in before)) (cons_option o (switches_of acc))) (sym e)
+        (subst (λ (o : Option text.Switch). Follows (first_found switch_in (map command_in before)) (cons_option o (switches_of acc))) (sym e)
         (subst (λ (o : Option text.Switch). Follows (slice_get (cons_option o (filter_map switch_in (map command_in before))) 0) (switches_of acc)) e f))
     by_switch next (Some w) e =
         next
         (subst (λ (o : Option text.Switch). SwitchesRise (map switch_of (cons_option o (switches_of acc)))) (sym e)
         (rise_more w (switches_of acc) (subst (λ (o : Option text.Switch). Follows (slice_get (cons_option o (filter_map switch_in (map command_in before))) 0) (switches_of acc)) e f) k))
-        (subst (λ (o : Option text.Switch). Follows (first_of switch_in (map command_in before)) (cons_option o (switches_of acc))) (sym e)
-        (follows (first_of switch_in (map command_in before)) w (switches_of acc) (above (map command_in before) s.command w h.0.rises e)))
+        (subst (λ (o : Option text.Switch). Follows (first_found switch_in (map command_in before)) (cons_option o (switches_of acc))) (sym e)
+        (follows (first_found switch_in (map command_in before)) w (switches_of acc) (above (map command_in before) s.command w h.0.rises e)))
 
 -- at most eight jobs
 abbrev pub jobs_in : List Said → ℕ

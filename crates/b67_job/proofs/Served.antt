@@ -19,7 +19,7 @@ use Rattle.b67_job_admit.specs.declared.programs.Loaded.{Loaded}
 use Rattle.b67_model_text.specs.declared.deck.Deck.{Deck}
 use Rattle.b67_gen.specs.Generated.{generated_text}
 use Rattle.b67_job_admit.specs.Admitting.{Prepared, with_programs, deck_prepared}
-use Rattle.b67_job_admit.specs.Meets.{Meets, IsLoaded, prepared_of}
+use Rattle.b67_job_admit.specs.Meets.{MeetsAnswer, LoadsDeck, prepared_of}
 use Rattle.b67_job_admit.proofs.Loads.{loaded, refused_program}
 use Rattle.b67_job_admit.specs.Told.{refusal_text}
 use Rattle.b67_job_admit.specs.Verdicts.{Verdict}
@@ -28,17 +28,17 @@ use Rattle.b67_job_admit.proofs.Bound.{bind_long}
 use Rattle.b67_job_admit.proofs.Judged.{too_long, check_long, asm_long, convert_long}
 use Rattle.b67_session_open.specs.Decks.{DeckInRange}
 use Rattle.b67_job.proofs.Prepared.{prepared_in_range}
-use Rattle.b67_job.specs.Device.{Device, IsUntouched}
+use Rattle.b67_job.specs.Device.{Device, DeviceUnchanged}
 use Rattle.b67_job.specs.Lines.{memory_text}
 use Rattle.b67_job.specs.Texts.{only}
 use Rattle.b67_job.specs.Runs.{RunStops, DeckRunEnds, run_stops, step_is_cut}
 use Rattle.b67_job.proofs.Ran.{closes_only}
-use Rattle.b67_job.specs.Command.{command_of}
+use Rattle.b67_job.specs.Command.{command_line_of}
 use Rattle.b67_job.specs.declared.command.CommandLine.{CommandLine}
 use Rattle.b67_job.specs.declared.command.CommandLine.TheVariants as lines
-use Rattle.b67_job.specs.Judgement.{Refused, Runs, judgement, printed, asked, exercise_of, reads}
+use Rattle.b67_job.specs.Judgement.{Refused, Runs, judgement, printed, asked, exercise_of, reads_text}
 use Rattle.b67_job.specs.declared.summaries.Exercise.{Exercise}
-use Rattle.b67_job.specs.Due.{WasGiven, WasRead, ReadAll, ExerciseEnds, exercise_wants_memory, exercise_is_refused, exercise_runs, refusal_due, print_due, run_due, reading_due, memory_due, Answered, answered, cut_in_step, Serves, RefusalEnds, TextEnds, Writes, reading_text}
+use Rattle.b67_job.specs.Due.{WasGiven, CommandWasRead, ReadAll, ExerciseEnds, exercise_wants_memory, exercise_is_refused, exercise_runs, refusal_due, print_due, run_due, reading_due, memory_due, Answered, answered, cut_in_step, Serves, RefusalEnds, TextEnds, WritesText, reading_text}
 
 -- ---- decks
 
@@ -55,7 +55,7 @@ unfolding judgement deck_prepared
 judged_long text long = rw (lt-ltb limit (length text) long) refl
 
 -- a deck that was loaded is within its ranges, and has a program for each job
-pub loaded_in_range : {S : Type 0} (left : S → Option (List ℕ)) (faults : S → ℕ) (deck deck' : S) (loaded : Loaded) → IsLoaded left faults deck deck' (Ok loaded)
+pub loaded_in_range : {S : Type 0} (left : S → Option (List ℕ)) (faults : S → ℕ) (deck deck' : S) (loaded : Loaded) → LoadsDeck left faults deck deck' (Ok loaded)
     → DeckInRange loaded.deck × (length loaded.programs ≡ length loaded.deck.jobs)
 loaded_in_range left faults deck deck' loaded h =
     let range = prepared_in_range h.0 loaded.deck (map program_of loaded.programs) h.2 in
@@ -67,7 +67,7 @@ take_first : (n : ℕ) (text : List ℕ) → take n (take (n + 1) text) ≡ take
 take_first n text = take-take n (n + 1) text (omega arith)
 
 -- a text past the limit is refused as its first bytes are, by a command that reads it
-pub asked_long : (command : CommandLine) (text : List ℕ) → reads (Some command) ≡ true → limit < length text → asked command text ≡ Refused (too_long text)
+pub asked_long : (command : CommandLine) (text : List ℕ) → reads_text (Some command) ≡ true → limit < length text → asked command text ≡ Refused (too_long text)
 asked_long (lines.Run core) text r long = judged_long text long
 asked_long lines.Asm text r long = ap printed (asm_long text long)
 asked_long lines.Check text r long = ap printed (check_long text long)
@@ -75,7 +75,7 @@ asked_long lines.Convert text r long = ap printed (convert_long text long)
 asked_long (lines.Bind pairs) text r long = ap printed (bind_long pairs text long)
 asked_long (lines.Exercise seed size core) text r long = absurd (false≢true r)
 
-asked_alike : (command : CommandLine) (text : List ℕ) → reads (Some command) ≡ true → limit < length text → asked command (take (limit + 1) text) ≡ asked command text
+asked_alike : (command : CommandLine) (text : List ℕ) → reads_text (Some command) ≡ true → limit < length text → asked command (take (limit + 1) text) ≡ asked command text
 asked_alike command text r long =
     let l : length (take (limit + 1) text) ≡ min (limit + 1) (length text) = length-take (limit + 1) text in
     let longer : limit < length (take (limit + 1) text) = omega (arith, l, long) in
@@ -84,7 +84,7 @@ asked_alike command text r long =
     ∙ sym (asked_long command text r long)
 
 -- a command that reads has read what was given
-given_read : {S : Type 0} {left : S → Option (List ℕ)} {deck deck' : S} {bytes : List ℕ} (command : CommandLine) → reads (Some command) ≡ true → WasGiven left deck deck' bytes → WasRead command left deck deck' bytes
+given_read : {S : Type 0} {left : S → Option (List ℕ)} {deck deck' : S} {bytes : List ℕ} (command : CommandLine) → reads_text (Some command) ≡ true → WasGiven left deck deck' bytes → CommandWasRead command left deck deck' bytes
 given_read (lines.Run core) r given = given
 given_read lines.Asm r given = given
 given_read lines.Check r given = given
@@ -92,7 +92,7 @@ given_read lines.Convert r given = given
 given_read (lines.Bind pairs) r given = given
 given_read (lines.Exercise seed size core) r given = absurd (false≢true r)
 
-given_all : {S : Type 0} {left : S → Option (List ℕ)} {deck deck' : S} {bytes : List ℕ} (command : CommandLine) → reads (Some command) ≡ true → GaveAll left deck deck' bytes → ReadAll command left deck deck' bytes
+given_all : {S : Type 0} {left : S → Option (List ℕ)} {deck deck' : S} {bytes : List ℕ} (command : CommandLine) → reads_text (Some command) ≡ true → GaveAll left deck deck' bytes → ReadAll command left deck deck' bytes
 given_all (lines.Run core) r given = given
 given_all lines.Asm r given = given
 given_all lines.Check r given = given
@@ -102,10 +102,10 @@ given_all (lines.Exercise seed size core) r given = absurd (false≢true r)
 
 -- what was read, and is refused
 abbrev ReadAndRefused : {S : Type 0} → (S → Option (List ℕ)) → S → S → CommandLine → Refusal → Type 0
-ReadAndRefused left deck deck' command r = (bytes : List ℕ) × WasRead command left deck deck' bytes × (asked command bytes ≡ Refused r)
+ReadAndRefused left deck deck' command r = (bytes : List ℕ) × CommandWasRead command left deck deck' bytes × (asked command bytes ≡ Refused r)
 
 -- first bytes of a source are all that it had, or one more than a deck may have
-was_read : {S : Type 0} {left : S → Option (List ℕ)} {deck deck' : S} {bytes : List ℕ} (command : CommandLine) (r : Refusal) → reads (Some command) ≡ true → GaveFirst left (limit + 1) deck deck' bytes → asked command bytes ≡ Refused r
+was_read : {S : Type 0} {left : S → Option (List ℕ)} {deck deck' : S} {bytes : List ℕ} (command : CommandLine) (r : Refusal) → reads_text (Some command) ≡ true → GaveFirst left (limit + 1) deck deck' bytes → asked command bytes ≡ Refused r
     → ReadAndRefused left deck deck' command r
 was_read {left = left} {deck = deck} {deck' = deck'} {bytes = bytes} command r is first refused = by_test (nat_lt limit (length bytes)) refl
   where
@@ -147,7 +147,7 @@ was_read {left = left} {deck = deck} {deck' = deck'} {bytes = bytes} command r i
 
 -- ---- commands
 
-pub commanded : (words : List (Bor (List ℕ))) (command : CommandLine) → command_of words ≡ Some command → is_some (command_of words) ≡ true
+pub commanded : (words : List (Bor (List ℕ))) (command : CommandLine) → command_line_of words ≡ Some command → is_some (command_line_of words) ≡ true
 commanded words command e = ap is_some e
 
 -- the same of a result that has this status and no machine
@@ -165,16 +165,16 @@ IsUnserved left source_faults deck deck' command admits.SourceFault = Rose sourc
 IsUnserved left source_faults deck deck' command admits.Memory = Unit {0}
 
 module _ {S B K : Type 0} {left : S → Option (List ℕ)} {source_faults : S → ℕ} {deck deck' : S} {taken : K → Option (List ℕ)} {faults : K → ℕ} {old new : K} where
-  unserved : (d : Device B) (command : CommandLine) (fault : AdmitFault) (answer : ℕ) → reads (Some command) ≡ true → IsUntouched d → IsUnserved left source_faults deck deck' command fault → RefusalEnds fault taken faults old new answer
+  unserved : (d : Device B) (command : CommandLine) (fault : AdmitFault) (answer : ℕ) → reads_text (Some command) ≡ true → DeviceUnchanged d → IsUnserved left source_faults deck deck' command fault → RefusalEnds fault taken faults old new answer
       → Serves command left source_faults deck deck' d None taken faults old new answer
   unserved d command (admits.Refused r) answer is same h ends = λ words e.
       let read = was_read command r is h.1 h.2 in
       answered 2 (only (refusal_text r)) (refusal_due command read.0 r e read.1 same read.2 refl refl refl) (closes_only ends)
-  unserved d command admits.SourceFault answer is same rose ends = λ words e. answered 7 (only reading_text) (reading_due (ap reads e ∙ is) rose same refl refl refl) (closes_only ends)
+  unserved d command admits.SourceFault answer is same rose ends = λ words e. answered 7 (only reading_text) (reading_due (ap reads_text e ∙ is) rose same refl refl refl) (closes_only ends)
   unserved d command admits.Memory answer is same free ends = λ words e. answered 9 (only memory_text) (memory_due (commanded words command e) same refl refl refl) (closes_only ends)
 
   -- a deck that was loaded, or wasn't
-  pub served_deck : (d : Device B) (core : ℕ) (loaded : Loaded) (machine : Option Machine) (answer : ℕ) → IsLoaded left source_faults deck deck' (Ok loaded)
+  pub served_deck : (d : Device B) (core : ℕ) (loaded : Loaded) (machine : Option Machine) (answer : ℕ) → LoadsDeck left source_faults deck deck' (Ok loaded)
       → DeckRunEnds taken faults d core (prepared_of loaded) None machine old new answer → Serves (lines.Run core) left source_faults deck deck' d machine taken faults old new answer
   served_deck d core loaded machine answer h ends = by_end (prepared_is h.0 (prepared_of loaded) h.2) ends
     where
@@ -184,18 +184,18 @@ module _ {S B K : Type 0} {left : S → Option (List ℕ)} {source_faults : S �
           (subst (λ (x : Option Exercise). RunStops d core (prepared_of loaded) x machine status text) (sym (ap exercise_of e)) stops)) ends
       by_end is (step_is_cut text count printing a rose part) = λ words e. cut_in_step core (prepared_of loaded) text count (record { command = lines.Run core; bytes = h.0; is = e; opens = refl; read = h.1; judged = is }) printing a rose part
 
-  pub served_refusal : (d : Device B) (core : ℕ) (fault : AdmitFault) (answer : ℕ) → IsUntouched d → IsLoaded left source_faults deck deck' (Err fault) → RefusalEnds fault taken faults old new answer
+  pub served_refusal : (d : Device B) (core : ℕ) (fault : AdmitFault) (answer : ℕ) → DeviceUnchanged d → LoadsDeck left source_faults deck deck' (Err fault) → RefusalEnds fault taken faults old new answer
       → Serves (lines.Run core) left source_faults deck deck' d None taken faults old new answer
   served_refusal d core fault answer same h ends = unserved d (lines.Run core) fault answer refl same (by_fault fault h) ends
     where
-      by_fault : (fault : AdmitFault) → IsLoaded left source_faults deck deck' (Err fault) → IsUnserved left source_faults deck deck' (lines.Run core) fault
+      by_fault : (fault : AdmitFault) → LoadsDeck left source_faults deck deck' (Err fault) → IsUnserved left source_faults deck deck' (lines.Run core) fault
       by_fault (admits.Refused r) h = (h.0, h.1, refused_is h.0 r h.2)
       by_fault admits.SourceFault h = h
       by_fault admits.Memory h = h
 
   -- a text that was made, or wasn't
-  pub served_text : (d : Device B) (command : CommandLine) (verdict : List ℕ → Verdict) (answer : ℕ) → reads (Some command) ≡ true → IsUntouched d → ((bytes : List ℕ) → asked command bytes ≡ printed (verdict bytes))
-      → Writes verdict left source_faults deck deck' taken faults old new answer → Serves command left source_faults deck deck' d None taken faults old new answer
+  pub served_text : (d : Device B) (command : CommandLine) (verdict : List ℕ → Verdict) (answer : ℕ) → reads_text (Some command) ≡ true → DeviceUnchanged d → ((bytes : List ℕ) → asked command bytes ≡ printed (verdict bytes))
+      → WritesText verdict left source_faults deck deck' taken faults old new answer → Serves command left source_faults deck deck' d None taken faults old new answer
   served_text d command verdict answer is untouched same h = by_made h.0 h.1 h.2
     where
       by_fault : (fault : AdmitFault) → IsJudged left source_faults deck deck' verdict (Err fault) → IsUnserved left source_faults deck deck' command fault
@@ -222,18 +222,18 @@ module _ {B K : Type 0} (seed size core : ℕ) (d : Device B) {taken : K → Opt
   exercise_ran l machine answer e ends = exercise_runs (prepared_of l) (prepared_is (generated_text seed size) (prepared_of l) (loaded (generated_text seed size) deck (prepared_of l) is e)) ends
 
   -- or is refused
-  pub exercise_unprepared : (fault : AdmitFault) (machine : Option Machine) (answer status : ℕ) → Meets prepared_of (Err fault) (with_programs deck) → IsUntouched d → machine ≡ None → status ≡ answer
+  pub exercise_unprepared : (fault : AdmitFault) (machine : Option Machine) (answer status : ℕ) → MeetsAnswer prepared_of (Err fault) (with_programs deck) → DeviceUnchanged d → machine ≡ None → status ≡ answer
       → RefusalEnds fault taken faults old new answer → ExerciseEnds seed size core d machine taken faults old new status
   exercise_unprepared fault machine answer status m same none e ends = subst (λ (n : ℕ). ExerciseEnds seed size core d machine taken faults old new n) (sym e) (by_fault fault m ends)
     where
-      by_fault : (fault : AdmitFault) → Meets prepared_of (Err fault) (with_programs deck) → RefusalEnds fault taken faults old new answer → ExerciseEnds seed size core d machine taken faults old new answer
+      by_fault : (fault : AdmitFault) → MeetsAnswer prepared_of (Err fault) (with_programs deck) → RefusalEnds fault taken faults old new answer → ExerciseEnds seed size core d machine taken faults old new answer
       by_fault (admits.Refused r) m ends = exercise_is_refused r (refused_is (generated_text seed size) r (refused_program (generated_text seed size) deck r is m)) same none ends
       by_fault admits.SourceFault m ends = absurd m
       by_fault admits.Memory m ends = exercise_wants_memory same none ends
 
 -- an exercise that ended so is what is due
 pub exercised : {S B K : Type 0} (words : List (Bor (List ℕ))) (left : S → Option (List ℕ)) (source_faults : S → ℕ) (deck : S) (seed size core : ℕ) (d : Device B) (machine : Option Machine)
-    (taken : K → Option (List ℕ)) (faults : K → ℕ) (old new : K) (answer : ℕ) → command_of words ≡ Some (lines.Exercise seed size core) → ExerciseEnds seed size core d machine taken faults old new answer
+    (taken : K → Option (List ℕ)) (faults : K → ℕ) (old new : K) (answer : ℕ) → command_line_of words ≡ Some (lines.Exercise seed size core) → ExerciseEnds seed size core d machine taken faults old new answer
     → Answered words left source_faults deck deck d machine taken faults old new answer
 exercised words left source_faults deck seed size core d machine taken faults old new answer e (exercise_wants_memory same none ends) =
     answered 9 (only memory_text) (memory_due (commanded words (lines.Exercise seed size core) e) same none refl refl) (closes_only ends)

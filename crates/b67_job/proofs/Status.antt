@@ -18,15 +18,15 @@ use Rattle.b67_session.proofs.Tells.{takes_of}
 use Rattle.b67_session.proofs.Rows.{none_of}
 use Rattle.b67_session_lines.specs.Stops.{IsFinished, IsHalted, halted_line}
 use Rattle.b67_session_lines.proofs.Statuses.{finished-status, halted-status}
-use Rattle.b67_job.specs.Device.{Device, Tells, Worked}
+use Rattle.b67_job.specs.Device.{Device, DeviceTells, Worked}
 use Rattle.b67_job.specs.Texts.{Text, whole_of, all_taken, cut_short}
 use Rattle.b67_job.specs.Runs.{run_of, IsDone, IsHaltedAt, memory_refused, opening_wants_core, opening_wants_sectors, opening_fails, all_end, halt_comes, step_wants_core, step_wants_sectors, step_fails, RunStops, unopened, opened}
-use Rattle.b67_job.specs.Command.{command_of}
+use Rattle.b67_job.specs.Command.{command_line_of}
 use Rattle.b67_job.specs.declared.command.CommandLine.{CommandLine}
 use Rattle.b67_job.specs.declared.command.CommandLine.TheVariants as lines
-use Rattle.b67_job.specs.Judgement.{Judgement, Refused, Runs, Prints, asked, judged_status, core_asked, exercise_of, reads}
+use Rattle.b67_job.specs.Judgement.{Judgement, Refused, Runs, Prints, asked, judged_status, core_asked, exercise_of, reads_text}
 use Rattle.b67_job.specs.declared.summaries.Exercise.{Exercise}
-use Rattle.b67_job.specs.Due.{WasGiven, WasRead, ReadAll, Supplies, IsDue, usage_due, refusal_due, print_due, run_due, reading_due, memory_due, Answered, answered, cut_in_step, Suffices, IsAmple}
+use Rattle.b67_job.specs.Due.{WasGiven, CommandWasRead, ReadAll, Supplies, IsDue, usage_due, refusal_due, print_due, run_due, reading_due, memory_due, Answered, answered, cut_in_step, SufficesForRun, IsAmple}
 use Rattle.b67_job.proofs.Served.{asked_long}
 
 -- a session of which a task makes the next step has one
@@ -43,7 +43,7 @@ next_need core s m t n =
     ap (need_by core s) n.is ∙ ap (need_of_job core s n.chosen.who.task) n.member ∙ ap (λ (o : Option Task). option_map (need core s m) o) n.task
 
 -- the text of a run that is done or halts, as the run alone gives it
-pub is_finished : {B : Type 0} (d : Device B) (p : Prepared) (exercise : Option Exercise) (k : Machine) (text : Text) → IsDone d (run_of p) exercise k text → Tells d → IsFinished (run_of p) text.front
+pub is_finished : {B : Type 0} (d : Device B) (p : Prepared) (exercise : Option Exercise) (k : Machine) (text : Text) → IsDone d (run_of p) exercise k text → DeviceTells d → IsFinished (run_of p) text.front
 is_finished d p exercise k text h tells = record {
   steps = k.tasks.made;
   within = h.within;
@@ -51,7 +51,7 @@ is_finished d p exercise k text h tells = record {
   printed = ap (λ (x : Text). x.front) h.text_is ∙ ap run_text (h.comes.lines_are tells);
 }
 
-pub is_halted : {B : Type 0} (d : Device B) (p : Prepared) (k : Machine) (text : Text) → IsHaltedAt d (run_of p) k text → Tells d → IsHalted (run_of p) (whole_of text)
+pub is_halted : {B : Type 0} (d : Device B) (p : Prepared) (k : Machine) (text : Text) → IsHaltedAt d (run_of p) k text → DeviceTells d → IsHalted (run_of p) (whole_of text)
 is_halted d p k text h tells = record {
   count = k.tasks.made;
   halt = h.halt;
@@ -61,7 +61,7 @@ is_halted d p k text h tells = record {
 
 -- ---- texts that begin alike past the limit are judged alike
 
-given_status : {S : Type 0} {left : S → Option (List ℕ)} {deck deck' : S} (command : CommandLine) (bytes told : List ℕ) → reads (Some command) ≡ true → left deck ≡ Some told → WasGiven left deck deck' bytes
+given_status : {S : Type 0} {left : S → Option (List ℕ)} {deck deck' : S} (command : CommandLine) (bytes told : List ℕ) → reads_text (Some command) ≡ true → left deck ≡ Some told → WasGiven left deck deck' bytes
     → judged_status (asked command told) ≡ judged_status (asked command bytes)
 given_status command bytes told r e (inl all) = ap (λ (text : List ℕ). judged_status (asked command text)) (all.told told e).0
 given_status command bytes told r e (inr front) =
@@ -71,7 +71,7 @@ given_status command bytes told r e (inr front) =
     let longer : limit < length told = rw f.1 (omega (arith, length-append bytes f.0)) in
     ap judged_status (asked_long command told r longer) ∙ sym (ap judged_status (asked_long command bytes r long))
 
-read_status : {S : Type 0} (left : S → Option (List ℕ)) (faults : S → ℕ) (deck deck' : S) (command : CommandLine) (bytes told : List ℕ) → Supplies command left faults deck deck' told → WasRead command left deck deck' bytes
+read_status : {S : Type 0} (left : S → Option (List ℕ)) (faults : S → ℕ) (deck deck' : S) (command : CommandLine) (bytes told : List ℕ) → Supplies command left faults deck deck' told → CommandWasRead command left deck deck' bytes
     → judged_status (asked command told) ≡ judged_status (asked command bytes)
 read_status left faults deck deck' (lines.Run core) bytes told h given = given_status (lines.Run core) bytes told refl h.0 given
 read_status left faults deck deck' lines.Asm bytes told h given = given_status lines.Asm bytes told refl h.0 given
@@ -91,7 +91,7 @@ same_judgement left faults deck deck' (lines.Bind pairs) bytes told h all = ap (
 same_judgement left faults deck deck' (lines.Exercise seed size core) bytes told h same = refl
 
 -- a source that supplies a command that reads it hasn't failed
-stays : {S : Type 0} (left : S → Option (List ℕ)) (faults : S → ℕ) (deck deck' : S) (told : List ℕ) (command : CommandLine) → reads (Some command) ≡ true → Supplies command left faults deck deck' told → Stayed faults deck deck'
+stays : {S : Type 0} (left : S → Option (List ℕ)) (faults : S → ℕ) (deck deck' : S) (told : List ℕ) (command : CommandLine) → reads_text (Some command) ≡ true → Supplies command left faults deck deck' told → Stayed faults deck deck'
 stays left faults deck deck' told (lines.Run core) r h = h.1
 stays left faults deck deck' told lines.Asm r h = h.1
 stays left faults deck deck' told lines.Check r h = h.1
@@ -100,9 +100,9 @@ stays left faults deck deck' told (lines.Bind pairs) r h = h.1
 stays left faults deck deck' told (lines.Exercise seed size core) r h = absurd (false≢true r)
 
 -- what is ample for a command is so for the session that it opens
-ample_run : {B : Type 0} {d : Device B} {core : ℕ} {p : Prepared} (command : CommandLine) (told : List ℕ) → core_asked command ≡ Some core → asked command told ≡ Runs p → IsAmple d command told → Tells d × Suffices d core p
-ample_run {d = d} {core = core} {p = p} (lines.Run n) told e judged ample = (ample.0, subst (λ (m : ℕ). Suffices d m p) (same_Some n core e) (ample.1 p judged))
-ample_run {d = d} {core = core} {p = p} (lines.Exercise seed size n) told e judged ample = (ample.0, subst (λ (m : ℕ). Suffices d m p) (same_Some n core e) (ample.1 p judged))
+ample_run : {B : Type 0} {d : Device B} {core : ℕ} {p : Prepared} (command : CommandLine) (told : List ℕ) → core_asked command ≡ Some core → asked command told ≡ Runs p → IsAmple d command told → DeviceTells d × SufficesForRun d core p
+ample_run {d = d} {core = core} {p = p} (lines.Run n) told e judged ample = (ample.0, subst (λ (m : ℕ). SufficesForRun d m p) (same_Some n core e) (ample.1 p judged))
+ample_run {d = d} {core = core} {p = p} (lines.Exercise seed size n) told e judged ample = (ample.0, subst (λ (m : ℕ). SufficesForRun d m p) (same_Some n core e) (ample.1 p judged))
 ample_run {core = core} lines.Asm told e judged ample = absurd (none-some core e)
 ample_run {core = core} lines.Check told e judged ample = absurd (none-some core e)
 ample_run {core = core} lines.Convert told e judged ample = absurd (none-some core e)
@@ -113,7 +113,7 @@ ample_run {core = core} (lines.Bind pairs) told e judged ample = absurd (none-so
 same_command : (o : Option CommandLine) (a b : CommandLine) → o ≡ Some a → o ≡ Some b → a ≡ b
 same_command o a b e f = cc
 
-run_status_is : {B : Type 0} (d : Device B) (core : ℕ) (p : Prepared) (exercise : Option Exercise) (machine : Option Machine) (status : ℕ) (text : Text) → Tells d → Suffices d core p → Worked d → RunStops d core p exercise machine status text
+run_status_is : {B : Type 0} (d : Device B) (core : ℕ) (p : Prepared) (exercise : Option Exercise) (machine : Option Machine) (status : ℕ) (text : Text) → DeviceTells d → SufficesForRun d core p → Worked d → RunStops d core p exercise machine status text
     → (status ≡ judged_status (Runs p)) ⊎ (status ≡ 9)
 run_status_is d core p exercise machine status text tells ample worked (unopened none (memory_refused same s t)) = inr s
 run_status_is d core p exercise machine status text tells ample worked (unopened none (opening_wants_core same more s t)) = let room = ample.room.0 in absurd (omega (arith, more, room))
@@ -131,42 +131,42 @@ run_status_is d core p exercise machine status text tells ample worked (opened k
     let same = w.stop.comes.session tells in
     let less = subst (λ (z : Session). IsNext z w.stop.member w.stop.task → TakesSectors z w.stop.member w.stop.task w.sum → w.sum ≤ d.sectors) (sym same)
     (ample.sectors_suffice k.tasks.made w.sum w.stop.member w.stop.task w.due) w.stop.next
-    (takes_of (Tells d) w.stop.stands.storage w.stop.stands.plan w.stop.session w.stop.member w.stop.task w.sum w.tells) in
+    (takes_of (DeviceTells d) w.stop.stands.storage w.stop.stands.plan w.stop.session w.stop.member w.stop.task w.sum w.tells) in
     let more = w.exceeds in
     absurd (omega (arith, more, less))
 run_status_is d core p exercise machine status text tells ample worked (opened k is opens none (step_fails s failed h)) = absurd (omega (arith, failed, worked))
 
-commanded : (words : List (Bor (List ℕ))) (command : CommandLine) → command_of words ≡ Some command → is_some (command_of words) ≡ true
+commanded : (words : List (Bor (List ℕ))) (command : CommandLine) → command_line_of words ≡ Some command → is_some (command_line_of words) ≡ true
 commanded words command e = ap is_some e
 
 module _ {S B : Type 0} {words : List (Bor (List ℕ))} {left : S → Option (List ℕ)} {source_faults : S → ℕ} {deck deck' : S} {d : Device B} {machine : Option Machine} where
-  due_status : {status : ℕ} {text : Text} (command : CommandLine) (told : List ℕ) → command_of words ≡ Some command → Supplies command left source_faults deck deck' told → IsAmple d command told → Worked d
+  due_status : {status : ℕ} {text : Text} (command : CommandLine) (told : List ℕ) → command_line_of words ≡ Some command → Supplies command left source_faults deck deck' told → IsAmple d command told → Worked d
       → IsDue words left source_faults deck deck' d machine status text → (status ≡ judged_status (asked command told)) ⊎ (status ≡ 9)
   due_status command told is supplies ample worked (usage_due c g same m s t) = absurd (false≢true (sym c ∙ commanded words command is))
   due_status command told is supplies ample worked (refusal_due other b refusal c r untouched j m s t) =
-      let same : other ≡ command = same_command (command_of words) other command c is in
-      let read = subst (λ (x : CommandLine). WasRead x left deck deck' b) same r in
+      let same : other ≡ command = same_command (command_line_of words) other command c is in
+      let read = subst (λ (x : CommandLine). CommandWasRead x left deck deck' b) same r in
       let judged = subst (λ (x : CommandLine). asked x b ≡ Refused refusal) same j in
       inl (s ∙ sym (read_status left source_faults deck deck' command b told supplies read ∙ ap judged_status judged))
   due_status command told is supplies ample worked (print_due other b printed c r untouched j m s t) =
-      let same : other ≡ command = same_command (command_of words) other command c is in
+      let same : other ≡ command = same_command (command_line_of words) other command c is in
       let read = subst (λ (x : CommandLine). ReadAll x left deck deck' b) same r in
       let judged = subst (λ (x : CommandLine). asked x b ≡ Prints printed) same j in
       inl (s ∙ sym (ap judged_status (same_judgement left source_faults deck deck' command b told supplies read ∙ judged)))
   due_status {status = status} {text = text} command told is supplies ample worked (run_due core p run stops) =
-      let same : run.command ≡ command = same_command (command_of words) run.command command run.is is in
+      let same : run.command ≡ command = same_command (command_line_of words) run.command command run.is is in
       let read = subst (λ (x : CommandLine). ReadAll x left deck deck' run.bytes) same run.read in
       let opens = subst (λ (x : CommandLine). core_asked x ≡ Some core) same run.opens in
       let judged : asked command told ≡ Runs p = same_judgement left source_faults deck deck' command run.bytes told supplies read ∙ subst (λ (x : CommandLine). asked x run.bytes ≡ Runs p) same run.judged in
       let room = ample_run command told opens judged ample in
       subst (λ (j : Judgement). (status ≡ judged_status j) ⊎ (status ≡ 9)) (sym judged)
-      (run_status_is d core p (exercise_of (command_of words)) machine status text room.0 room.1 worked stops)
+      (run_status_is d core p (exercise_of (command_line_of words)) machine status text room.0 room.1 worked stops)
   due_status command told is supplies ample worked (reading_due c r same m s t) =
-      let calm = stays left source_faults deck deck' told command (sym (ap reads is) ∙ c) supplies in
+      let calm = stays left source_faults deck deck' told command (sym (ap reads_text is) ∙ c) supplies in
       absurd (omega (arith, r, calm))
   due_status command told is supplies ample worked (memory_due c same m s t) = inr s
 
-  pub completed : {K : Type 0} (taken : K → Option (List ℕ)) (faults : K → ℕ) (old new : K) (answer : ℕ) (command : CommandLine) (told : List ℕ) → command_of words ≡ Some command
+  pub completed : {K : Type 0} (taken : K → Option (List ℕ)) (faults : K → ℕ) (old new : K) (answer : ℕ) (command : CommandLine) (told : List ℕ) → command_line_of words ≡ Some command
       → Supplies command left source_faults deck deck' told → IsAmple d command told → Stayed faults old new → Worked d → Answered words left source_faults deck deck' d machine taken faults old new answer
       → (answer ≡ judged_status (asked command told)) ⊎ (answer ≡ 9)
   completed taken faults old new answer command told is supplies ample calm worked (answered status text due (all_taken a took)) =

@@ -72,8 +72,8 @@ one_word (word ∷ []) =
 one_word _ = None
 
 -- the command that the words are
-abbrev pub command_of : List (Bor (List ℕ)) → Option CommandLine
-command_of words = option_or (one_word words) (option_or (option_map (λ r. lines.Run r.core) (request words)) (option_or (exercise words) (bind words)))
+abbrev pub command_line_of : List (Bor (List ℕ)) → Option CommandLine
+command_line_of words = option_or (one_word words) (option_or (option_map (λ r. lines.Run r.core) (request words)) (option_or (exercise words) (bind words)))
 
 -- the path that the words name
 abbrev pub backing_path : List (Bor (List ℕ)) → Option (List ℕ)

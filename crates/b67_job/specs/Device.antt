@@ -28,16 +28,16 @@ device_of holds size faults old new = record {
 }
 
 -- it told what its sectors hold
-abbrev pub Tells : {B : Type 0} → Device B → Type 0
-Tells d = d.before ≢ None
+abbrev pub DeviceTells : {B : Type 0} → Device B → Type 0
+DeviceTells d = d.before ≢ None
 
 -- what is known now of its sectors: what it tells, if it told them before
 abbrev pub known_now : {B : Type 0} → Device B → Option (List (List ℕ))
 known_now d = content_after d.before d.now
 
 -- it is as it was: no call changed it
-abbrev pub IsUntouched : {B : Type 0} → Device B → Type 0
-IsUntouched d = d.new ≡ d.old
+abbrev pub DeviceUnchanged : {B : Type 0} → Device B → Type 0
+DeviceUnchanged d = d.new ≡ d.old
 
 -- its count of failures rose, or didn't
 abbrev pub Failed : {B : Type 0} → Device B → Type 0

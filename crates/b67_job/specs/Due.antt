@@ -15,19 +15,19 @@ use Rattle.b67_job_admit.specs.Admitting.{Prepared}
 use Rattle.b67_job_admit.specs.CommandMeets.{IsJudged}
 use Rattle.b67_job_admit.specs.Told.{refusal_text}
 use Rattle.b67_job_admit.specs.Verdicts.{Verdict}
-use Rattle.b67_session_lines.specs.Ends.{Ends}
+use Rattle.b67_session_lines.specs.Ends.{EndsPrinting}
 use Rattle.b67_session.specs.Passed.{TakesSectors}
 use Rattle.b67_session_lines.specs.Stops.{IsFinished, IsHalted}
 use Rattle.b67_session_open.specs.Opens.{need_of, sectors_of_all}
-use Rattle.b67_job.specs.Device.{Device, Tells, Failed, IsUntouched}
+use Rattle.b67_job.specs.Device.{Device, DeviceTells, Failed, DeviceUnchanged}
 use Rattle.b67_job.specs.Lines.{no_core_line, backing_full_line, backing_fault_line, memory_text}
 use Rattle.b67_job.specs.declared.summaries.Exercise.{Exercise}
-use Rattle.b67_job.specs.Texts.{Text, whole_of, only, TookUpTo, Closes}
-use Rattle.b67_job.specs.Runs.{run_of, IsBeforeHalt, IsDone, IsHaltedAt, WantsCore, WantsSectors, IsCutOff, RoomSuffices, RunStops, DeckRunEnds, IsPrinting}
-use Rattle.b67_job.specs.Command.{command_of}
+use Rattle.b67_job.specs.Texts.{Text, whole_of, only, TookUpTo, PrintsAndAnswers}
+use Rattle.b67_job.specs.Runs.{run_of, IsBeforeHalt, IsDone, IsHaltedAt, WantsCore, WantsSectors, IsCutOff, RoomSuffices, RunStops, DeckRunEnds, IsPrintingStep}
+use Rattle.b67_job.specs.Command.{command_line_of}
 use Rattle.b67_job.specs.declared.command.CommandLine.{CommandLine}
 use Rattle.b67_job.specs.declared.command.CommandLine.TheVariants as lines
-use Rattle.b67_job.specs.Judgement.{Judgement, Refused, Runs, Prints, judgement, asked, core_asked, exercise_of, reads}
+use Rattle.b67_job.specs.Judgement.{Judgement, Refused, Runs, Prints, judgement, asked, core_asked, exercise_of, reads_text}
 use Rattle.b67_gen.specs.Generated.{generated_text}
 
 abbrev pub usage_text : List ℕ
@@ -46,16 +46,16 @@ abbrev pub WasGiven : {S : Type 0} → (S → Option (List ℕ)) → S → S →
 WasGiven left deck deck' bytes = GaveAll left deck deck' bytes ⊎ (Gave left deck deck' bytes × (length bytes ≡ limit + 1))
 
 -- the command read them; an exercise reads nothing
-abbrev pub WasRead : {S : Type 0} → CommandLine → (S → Option (List ℕ)) → S → S → List ℕ → Type 0
-WasRead (lines.Exercise seed size core) left deck deck' bytes = deck' ≡ deck
-WasRead _ left deck deck' bytes = WasGiven left deck deck' bytes
+abbrev pub CommandWasRead : {S : Type 0} → CommandLine → (S → Option (List ℕ)) → S → S → List ℕ → Type 0
+CommandWasRead (lines.Exercise seed size core) left deck deck' bytes = deck' ≡ deck
+CommandWasRead _ left deck deck' bytes = WasGiven left deck deck' bytes
 
 -- the words ask for a run over so much core, of a deck that was read to its end or of an exercise, and the deck is this one
 -- with these programs
 pub record IsRun {S : Type 0} (words : List (Bor (List ℕ))) (left : S → Option (List ℕ)) (deck deck' : S) (core : ℕ) (p : Prepared) : Type 0 where
   pub command : CommandLine
   pub bytes : List ℕ
-  pub is : command_of words ≡ Some command
+  pub is : command_line_of words ≡ Some command
   pub opens : core_asked command ≡ Some core
   pub read : ReadAll command left deck deck' bytes
   pub judged : asked command bytes ≡ Runs p
@@ -63,34 +63,34 @@ pub record IsRun {S : Type 0} (words : List (Bor (List ℕ))) (left : S → Opti
 -- The status, the text and the machine that are due, by their cause. The device is as it was unless a session was opened or
 -- its opening failed.
 pub data IsDue {S B : Type 0} (words : List (Bor (List ℕ))) (left : S → Option (List ℕ)) (faults : S → ℕ) (deck deck' : S) (d : Device B) (machine : Option Machine) (status : ℕ) (text : Text) : Type 0 where
-  usage_due : is_some (command_of words) ≡ false → deck' ≡ deck → IsUntouched d → machine ≡ None
+  usage_due : is_some (command_line_of words) ≡ false → deck' ≡ deck → DeviceUnchanged d → machine ≡ None
       → status ≡ 1 → text ≡ only usage_text → IsDue words left faults deck deck' d machine status text
-  refusal_due : (command : CommandLine) (bytes : List ℕ) (refusal : Refusal) → command_of words ≡ Some command → WasRead command left deck deck' bytes → IsUntouched d
+  refusal_due : (command : CommandLine) (bytes : List ℕ) (refusal : Refusal) → command_line_of words ≡ Some command → CommandWasRead command left deck deck' bytes → DeviceUnchanged d
       → asked command bytes ≡ Refused refusal → machine ≡ None → status ≡ 2 → text ≡ only (refusal_text refusal) → IsDue words left faults deck deck' d machine status text
-  print_due : (command : CommandLine) (bytes printed : List ℕ) → command_of words ≡ Some command → ReadAll command left deck deck' bytes → IsUntouched d
+  print_due : (command : CommandLine) (bytes printed : List ℕ) → command_line_of words ≡ Some command → ReadAll command left deck deck' bytes → DeviceUnchanged d
       → asked command bytes ≡ Prints printed → machine ≡ None → status ≡ 0 → text ≡ only printed → IsDue words left faults deck deck' d machine status text
-  run_due : (core : ℕ) (p : Prepared) → IsRun words left deck deck' core p → RunStops d core p (exercise_of (command_of words)) machine status text → IsDue words left faults deck deck' d machine status text
-  reading_due : reads (command_of words) ≡ true → Rose faults deck deck' → IsUntouched d → machine ≡ None
+  run_due : (core : ℕ) (p : Prepared) → IsRun words left deck deck' core p → RunStops d core p (exercise_of (command_line_of words)) machine status text → IsDue words left faults deck deck' d machine status text
+  reading_due : reads_text (command_line_of words) ≡ true → Rose faults deck deck' → DeviceUnchanged d → machine ≡ None
       → status ≡ 7 → text ≡ only reading_text → IsDue words left faults deck deck' d machine status text
-  memory_due : is_some (command_of words) ≡ true → IsUntouched d → machine ≡ None → status ≡ 9 → text ≡ only memory_text → IsDue words left faults deck deck' d machine status text
+  memory_due : is_some (command_line_of words) ≡ true → DeviceUnchanged d → machine ≡ None → status ≡ 9 → text ≡ only memory_text → IsDue words left faults deck deck' d machine status text
 
 -- what was due, and how the call ended. A printer may also fail in the text of a step
 pub data Answered {S B K : Type 0} (words : List (Bor (List ℕ))) (left : S → Option (List ℕ)) (source_faults : S → ℕ) (deck deck' : S) (d : Device B) (machine : Option Machine)
     (taken : K → Option (List ℕ)) (printer_faults : K → ℕ) (old new : K) (answer : ℕ) : Type 0 where
-  answered : (status : ℕ) (text : Text) → IsDue words left source_faults deck deck' d machine status text → Closes taken printer_faults old new status text answer
+  answered : (status : ℕ) (text : Text) → IsDue words left source_faults deck deck' d machine status text → PrintsAndAnswers taken printer_faults old new status text answer
       → Answered words left source_faults deck deck' d machine taken printer_faults old new answer
-  cut_in_step : (core : ℕ) (p : Prepared) (text : Text) (count : ℕ) → IsRun words left deck deck' core p → IsPrinting d core p machine text count
+  cut_in_step : (core : ℕ) (p : Prepared) (text : Text) (count : ℕ) → IsRun words left deck deck' core p → IsPrintingStep d core p machine text count
       → answer ≡ 8 → Rose printer_faults old new → TookUpTo taken old new text count → Answered words left source_faults deck deck' d machine taken printer_faults old new answer
 
 -- how a call ends that carries out a command
 abbrev pub Serves : {S B K : Type 0} → CommandLine → (S → Option (List ℕ)) → (S → ℕ) → S → S → Device B → Option Machine → (K → Option (List ℕ)) → (K → ℕ) → K → K → ℕ → Type 0
 Serves command left source_faults deck deck' d machine taken printer_faults old new answer =
-    (words : List (Bor (List ℕ))) → command_of words ≡ Some command → Answered words left source_faults deck deck' d machine taken printer_faults old new answer
+    (words : List (Bor (List ℕ))) → command_line_of words ≡ Some command → Answered words left source_faults deck deck' d machine taken printer_faults old new answer
 
 -- how an exercise ends: its deck is refused, or runs, unless memory is refused for it
 pub data ExerciseEnds {B K : Type 0} (seed size core : ℕ) (d : Device B) (machine : Option Machine) (taken : K → Option (List ℕ)) (faults : K → ℕ) (old new : K) (answer : ℕ) : Type 0 where
-  exercise_wants_memory : IsUntouched d → machine ≡ None → Ends taken faults old new 9 memory_text answer → ExerciseEnds seed size core d machine taken faults old new answer
-  exercise_is_refused : (refusal : Refusal) → judgement (generated_text seed size) ≡ Refused refusal → IsUntouched d → machine ≡ None → Ends taken faults old new 2 (refusal_text refusal) answer
+  exercise_wants_memory : DeviceUnchanged d → machine ≡ None → EndsPrinting taken faults old new 9 memory_text answer → ExerciseEnds seed size core d machine taken faults old new answer
+  exercise_is_refused : (refusal : Refusal) → judgement (generated_text seed size) ≡ Refused refusal → DeviceUnchanged d → machine ≡ None → EndsPrinting taken faults old new 2 (refusal_text refusal) answer
       → ExerciseEnds seed size core d machine taken faults old new answer
   exercise_runs : (p : Prepared) → judgement (generated_text seed size) ≡ Runs p → DeckRunEnds taken faults d core p (Some (record { seed = seed; size = size })) machine old new answer
       → ExerciseEnds seed size core d machine taken faults old new answer
@@ -98,82 +98,82 @@ pub data ExerciseEnds {B K : Type 0} (seed size core : ℕ) (d : Device B) (mach
 -- ---- the causes of a status
 
 -- this machine is left, of whose next step nothing is printed
-abbrev pub Leaves : Option Machine → (Machine → Type 0) → Type 0
-Leaves machine P = (k : Machine) × (machine ≡ Some k) × (k.tasks.printed ≡ 0) × P k
+abbrev pub LeavesMachine : Option Machine → (Machine → Type 0) → Type 0
+LeavesMachine machine P = (k : Machine) × (machine ≡ Some k) × (k.tasks.printed ≡ 0) × P k
 
 -- the text of what is done: that of a whole run, with an exercise's line, or the one to print
 abbrev pub IsAllDone : {B : Type 0} → Device B → Option Exercise → Judgement → Option Machine → Text → Type 0
 IsAllDone d exercise (Refused refusal) machine text = ⊥
-IsAllDone d exercise (Runs p) machine text = Leaves machine (λ k. IsDone d (run_of p) exercise k text) × (Tells d → IsFinished (run_of p) text.front)
-IsAllDone d exercise (Prints whole) machine text = (machine ≡ None) × IsUntouched d × (text ≡ only whole)
+IsAllDone d exercise (Runs p) machine text = LeavesMachine machine (λ k. IsDone d (run_of p) exercise k text) × (DeviceTells d → IsFinished (run_of p) text.front)
+IsAllDone d exercise (Prints whole) machine text = (machine ≡ None) × DeviceUnchanged d × (text ≡ only whole)
 
 -- a run halts
 abbrev pub Halts : {B : Type 0} → Device B → Prepared → Option Machine → Text → Type 0
-Halts d p machine text = Leaves machine (λ k. IsHaltedAt d (run_of p) k text) × (Tells d → IsHalted (run_of p) (whole_of text))
+Halts d p machine text = LeavesMachine machine (λ k. IsHaltedAt d (run_of p) k text) × (DeviceTells d → IsHalted (run_of p) (whole_of text))
 
 -- core is too small: for the session that opens, or for the next step of the machine that is left
 abbrev pub IsShortOfCore : {B : Type 0} → Device B → ℕ → Prepared → Option Machine → Text → Type 0
 IsShortOfCore d core p machine text =
-    ((machine ≡ None) × IsUntouched d × (core < need_of p.0 p.1) × (text ≡ only (ended (no_core_line (need_of p.0 p.1) core))))
-    ⊎ Leaves machine (λ k. WantsCore d core (run_of p) k text)
+    ((machine ≡ None) × DeviceUnchanged d × (core < need_of p.0 p.1) × (text ≡ only (ended (no_core_line (need_of p.0 p.1) core))))
+    ⊎ LeavesMachine machine (λ k. WantsCore d core (run_of p) k text)
 
 -- the device has too few sectors: for the programs of the session that opens, or for the session of the machine that is left,
 -- which lacks what its next step wants
 abbrev pub IsShortOfSectors : {B : Type 0} → Device B → ℕ → Prepared → Option Machine → Text → Type 0
 IsShortOfSectors d core p machine text =
-    ((machine ≡ None) × IsUntouched d × (need_of p.0 p.1 ≤ core) × (d.sectors < sectors_of_all p.0 p.1) × (text ≡ only (ended (backing_full_line (sectors_of_all p.0 p.1) d.sectors))))
-    ⊎ Leaves machine (λ k. WantsSectors d core (run_of p) k text)
+    ((machine ≡ None) × DeviceUnchanged d × (need_of p.0 p.1 ≤ core) × (d.sectors < sectors_of_all p.0 p.1) × (text ≡ only (ended (backing_full_line (sectors_of_all p.0 p.1) d.sectors))))
+    ⊎ LeavesMachine machine (λ k. WantsSectors d core (run_of p) k text)
 
 -- the device failed: as the session opened, for which there is room, or at a step of the machine that is left, which lacks what it wants
 abbrev pub IsFailedBy : {B : Type 0} → Device B → ℕ → Prepared → Option Machine → Text → Type 0
 IsFailedBy d core p machine text =
-    RoomSuffices d core p × (((machine ≡ None) × (text ≡ only (ended backing_fault_line))) ⊎ Leaves machine (λ k. IsCutOff d core (run_of p) k text))
+    RoomSuffices d core p × (((machine ≡ None) × (text ≡ only (ended backing_fault_line))) ⊎ LeavesMachine machine (λ k. IsCutOff d core (run_of p) k text))
 
 -- a refusal of a text that was read
-abbrev pub IsRefused : {S B : Type 0} → List (Bor (List ℕ)) → (S → Option (List ℕ)) → S → S → Device B → Option Machine → Text → Type 0
-IsRefused words left deck deck' d machine text =
-    (command : CommandLine) × (bytes : List ℕ) × (refusal : Refusal) × (command_of words ≡ Some command) × WasRead command left deck deck' bytes × IsUntouched d
+abbrev pub TextIsRefused : {S B : Type 0} → List (Bor (List ℕ)) → (S → Option (List ℕ)) → S → S → Device B → Option Machine → Text → Type 0
+TextIsRefused words left deck deck' d machine text =
+    (command : CommandLine) × (bytes : List ℕ) × (refusal : Refusal) × (command_line_of words ≡ Some command) × CommandWasRead command left deck deck' bytes × DeviceUnchanged d
     × (asked command bytes ≡ Refused refusal) × (machine ≡ None) × (text ≡ only (refusal_text refusal))
 
 -- without a machine the device is as it was, or a session had room, and the device failed as it was opened
 abbrev pub IsSpared : {S B : Type 0} → List (Bor (List ℕ)) → (S → Option (List ℕ)) → S → S → Device B → Type 0
-IsSpared words left deck deck' d = IsUntouched d ⊎ ((core : ℕ) × (p : Prepared) × IsRun words left deck deck' core p × RoomSuffices d core p × Failed d)
+IsSpared words left deck deck' d = DeviceUnchanged d ⊎ ((core : ℕ) × (p : Prepared) × IsRun words left deck deck' core p × RoomSuffices d core p × Failed d)
 
 -- ---- answers to a fault, to a text and to a deck
 
 -- how the answer to a refusal, or to a fault of reading, ends
 abbrev pub RefusalEnds : {K : Type 0} → AdmitFault → (K → Option (List ℕ)) → (K → ℕ) → K → K → ℕ → Type 0
-RefusalEnds (admits.Refused refusal) taken faults old new answer = Ends taken faults old new 2 (refusal_text refusal) answer
-RefusalEnds admits.SourceFault taken faults old new answer = Ends taken faults old new 7 reading_text answer
-RefusalEnds admits.Memory taken faults old new answer = Ends taken faults old new 9 memory_text answer
+RefusalEnds (admits.Refused refusal) taken faults old new answer = EndsPrinting taken faults old new 2 (refusal_text refusal) answer
+RefusalEnds admits.SourceFault taken faults old new answer = EndsPrinting taken faults old new 7 reading_text answer
+RefusalEnds admits.Memory taken faults old new answer = EndsPrinting taken faults old new 9 memory_text answer
 
 -- how the answer ends where a text was made, or wasn't
 abbrev pub TextEnds : {K : Type 0} → Result (List ℕ) AdmitFault → (K → Option (List ℕ)) → (K → ℕ) → K → K → ℕ → Type 0
-TextEnds (Ok text) taken faults old new answer = Ends taken faults old new 0 text answer
+TextEnds (Ok text) taken faults old new answer = EndsPrinting taken faults old new 0 text answer
 TextEnds (Err fault) taken faults old new answer = RefusalEnds fault taken faults old new answer
 
 -- a text was made as it is judged, or wasn't, and the answer to it
-abbrev pub Writes : {S K : Type 0} → (List ℕ → Verdict) → (S → Option (List ℕ)) → (S → ℕ) → S → S → (K → Option (List ℕ)) → (K → ℕ) → K → K → ℕ → Type 0
-Writes verdict left source_faults deck deck' taken faults old new answer =
+abbrev pub WritesText : {S K : Type 0} → (List ℕ → Verdict) → (S → Option (List ℕ)) → (S → ℕ) → S → S → (K → Option (List ℕ)) → (K → ℕ) → K → K → ℕ → Type 0
+WritesText verdict left source_faults deck deck' taken faults old new answer =
     (made : Result (List ℕ) AdmitFault) × IsJudged left source_faults deck deck' verdict made × TextEnds made taken faults old new answer
 
 -- ---- a run for which core and device are large enough
 
 -- the session opens, and no step of its run before the halt needs more words of core, or sectors for the arrays that there are
 -- before it, and after it where it makes one longer
-pub record Suffices {B : Type 0} (d : Device B) (core : ℕ) (p : Prepared) : Type 0 where
+pub record SufficesForRun {B : Type 0} (d : Device B) (core : ℕ) (p : Prepared) : Type 0 where
   pub room : RoomSuffices d core p
   pub core_suffices : (steps words : ℕ) → IsBeforeHalt (run_of p) steps → need_next core (after steps (run_of p).session) ≡ Some words → words ≤ core
   pub sectors_suffice : (steps sum : ℕ) (m : SessionJob) (t : Task) → IsBeforeHalt (run_of p) steps → IsNext (after steps (run_of p).session) m t → TakesSectors (after steps (run_of p).session) m t sum → sum ≤ d.sectors
 
 -- a run is told and has room, and so is an exercise; the other commands need neither
 abbrev pub IsAmple : {B : Type 0} → Device B → CommandLine → List ℕ → Type 0
-IsAmple d (lines.Run core) text = Tells d × ((p : Prepared) → judgement text ≡ Runs p → Suffices d core p)
+IsAmple d (lines.Run core) text = DeviceTells d × ((p : Prepared) → judgement text ≡ Runs p → SufficesForRun d core p)
 IsAmple d lines.Asm text = Unit {0}
 IsAmple d lines.Check text = Unit {0}
 IsAmple d lines.Convert text = Unit {0}
 IsAmple d (lines.Bind pairs) text = Unit {0}
-IsAmple d (lines.Exercise seed size core) text = Tells d × ((p : Prepared) → judgement (generated_text seed size) ≡ Runs p → Suffices d core p)
+IsAmple d (lines.Exercise seed size core) text = DeviceTells d × ((p : Prepared) → judgement (generated_text seed size) ≡ Runs p → SufficesForRun d core p)
 
 -- the source tells these bytes and doesn't fail; an exercise doesn't ask it
 abbrev pub Supplies : {S : Type 0} → CommandLine → (S → Option (List ℕ)) → (S → ℕ) → S → S → List ℕ → Type 0

@@ -1,7 +1,7 @@
 -- What a command and a text ask for.
 use Rattle.std.specs.Prelude.{ℕ, List, Ok, Err, Option, Some, None, Bool, true, false}
 use Rattle.b67_job_admit.specs.declared.refusal.Refusal.{Refusal}
-use Rattle.b67_job_admit.specs.Admitting.{Answer, Prepared, deck_prepared}
+use Rattle.b67_job_admit.specs.Admitting.{Admission, Prepared, deck_prepared}
 use Rattle.b67_job_admit.specs.Verdicts.{Verdict, check_verdict, asm_verdict, convert_verdict, bind_verdict}
 use Rattle.b67_session_lines.specs.Stops.{run_status}
 use Rattle.b67_gen.specs.Generated.{generated_text}
@@ -16,7 +16,7 @@ pub data Judgement : Type 0 where
   Runs : (prepared : Prepared) → Judgement
   Prints : (text : List ℕ) → Judgement
 
-abbrev pub prepared_judgement : Answer Prepared → Judgement
+abbrev pub prepared_judgement : Admission Prepared → Judgement
 prepared_judgement (Ok p) = Runs p
 prepared_judgement (Err refusal) = Refused refusal
 
@@ -49,10 +49,10 @@ exercise_of (Some (lines.Exercise seed size core)) = Some (record { seed = seed;
 exercise_of _ = None
 
 -- these words ask for a command that reads a text: each does but an exercise
-abbrev pub reads : Option CommandLine → Bool
-reads None = false
-reads (Some (lines.Exercise seed size core)) = false
-reads (Some _) = true
+abbrev pub reads_text : Option CommandLine → Bool
+reads_text None = false
+reads_text (Some (lines.Exercise seed size core)) = false
+reads_text (Some _) = true
 
 abbrev pub judged_status : Judgement → ℕ
 judged_status (Refused refusal) = 2

@@ -16,10 +16,10 @@ pub use Rattle.b67_session.specs.Slices.{IsOpen, RepresentsWithoutTasks, StepsFi
 pub use Rattle.b67_session.specs.Shaped.{IsShaped}
 use Rattle.b67_session_lines.specs.Moments.{first_part, due as due_text}
 use Rattle.b67_session_lines.specs.Stops.{Run, halted_line}
-use Rattle.b67_job.specs.Device.{Device, Tells, Failed, IsUntouched, known_now}
+use Rattle.b67_job.specs.Device.{Device, DeviceTells, Failed, DeviceUnchanged, known_now}
 use Rattle.b67_job.specs.Lines.{no_core_line, backing_full_line, backing_fault_line, memory_text, summary}
 use Rattle.b67_job.specs.declared.summaries.Exercise.{Exercise}
-use Rattle.b67_job.specs.Texts.{Text, whole_of, only, TookUpTo, Closes}
+use Rattle.b67_job.specs.Texts.{Text, whole_of, only, TookUpTo, PrintsAndAnswers}
 use Rattle.b67_job.specs.States.{StatesInOrder, JobsRunApart}
 
 -- the run that a deck with its programs asks for: the session that it opens, and its halt
@@ -36,9 +36,9 @@ text_to printed line = record { front = run_text printed; last = ended line }
 -- hold, that is the session after as many steps as the machine counts, these are their lines, and each job has run as it
 -- does alone. One that tells nothing may give back other code and other numbers than were written.
 pub record StandsAfter {B : Type 0} (d : Device B) (first : Session) (k : Machine) (s : Session) (printed : List RunLine) : Type 0 where
-  pub session : Tells d → s ≡ after k.tasks.made first
-  pub lines_are : Tells d → printed ≡ lines k.tasks.made first
-  pub apart : Tells d → JobsRunApart k.tasks.made first s printed
+  pub session : DeviceTells d → s ≡ after k.tasks.made first
+  pub lines_are : DeviceTells d → printed ≡ lines k.tasks.made first
+  pub apart : DeviceTells d → JobsRunApart k.tasks.made first s printed
 
 -- so many steps are fewer than the halt's count, or not more
 abbrev pub IsBeforeHalt : Run → ℕ → Type 0
@@ -59,7 +59,7 @@ pub record IsDone {B : Type 0} (d : Device B) (r : Run) (exercise : Option Exerc
   pub text_is : text ≡ record { front = run_text printed; last = summary exercise k.tasks.made }
 
 -- the machine represents the session to which the run came, of which this task makes the next step
-pub record StopsAt {B : Type 0} (d : Device B) (first : Session) (k : Machine) : Type 0 where
+pub record StopsInRun {B : Type 0} (d : Device B) (first : Session) (k : Machine) : Type 0 where
   pub session : Session
   pub printed : List RunLine
   pub comes : StandsAfter d first k session printed
@@ -70,32 +70,32 @@ pub record StopsAt {B : Type 0} (d : Device B) (first : Session) (k : Machine) :
 
 -- its count of steps is that of the halt
 pub record IsHaltedAt {B : Type 0} (d : Device B) (r : Run) (k : Machine) (text : Text) : Type 0 where
-  pub stop : StopsAt d r.session k
+  pub stop : StopsInRun d r.session k
   pub halt : r.halt ≡ Some k.tasks.made
   pub text_is : text ≡ text_to stop.printed (halted_line k.tasks.made)
 
 -- the next step is due, and needs more core than there is
 pub record WantsCore {B : Type 0} (d : Device B) (core : ℕ) (r : Run) (k : Machine) (text : Text) : Type 0 where
-  pub stop : StopsAt d r.session k
+  pub stop : StopsInRun d r.session k
   pub due : IsBeforeHalt r k.tasks.made
   pub exceeds : core < need core stop.session stop.member stop.task
   pub text_is : text ≡ text_to stop.printed (no_core_line (need core stop.session stop.member stop.task) core)
 
 -- if the device told what its sectors hold, the machine lacks the segment or the array of the next step, or that step makes
 -- an array longer or starts a task; core has room for its segment, and for the whole step if the segment is present
-pub record LacksNext {B : Type 0} (d : Device B) (core : ℕ) (first : Session) (k : Machine) (stop : StopsAt d first k) : Type 0 where
-  pub lacks : Tells d → IsLacking stop.stands.storage stop.stands.plan stop.member stop.task
-  pub room : Tells d → (need core stop.session stop.member stop.task ≤ core) ⊎ (code_area stop.stands.storage stop.stands.plan stop.member stop.task ≡ None)
-  pub code : Tells d → CodeFits core stop.session stop.member stop.task
+pub record LacksNext {B : Type 0} (d : Device B) (core : ℕ) (first : Session) (k : Machine) (stop : StopsInRun d first k) : Type 0 where
+  pub lacks : DeviceTells d → IsLacking stop.stands.storage stop.stands.plan stop.member stop.task
+  pub room : DeviceTells d → (need core stop.session stop.member stop.task ≤ core) ⊎ (code_area stop.stands.storage stop.stands.plan stop.member stop.task ≡ None)
+  pub code : DeviceTells d → CodeFits core stop.session stop.member stop.task
 
 -- the next step is due, and more sectors are told than the device has: those that the session takes, if no hole has room for
 -- what the step wants or it starts a task, or those of the session that it makes if it makes an array longer; and more are
 -- wanted than are free
 pub record WantsSectors {B : Type 0} (d : Device B) (core : ℕ) (r : Run) (k : Machine) (text : Text) : Type 0 where
-  pub stop : StopsAt d r.session k
+  pub stop : StopsInRun d r.session k
   pub due : IsBeforeHalt r k.tasks.made
   pub sum : ℕ
-  pub tells : TellsSectors (Tells d) stop.stands.storage stop.stands.plan stop.session stop.member stop.task sum
+  pub tells : TellsSectors (DeviceTells d) stop.stands.storage stop.stands.plan stop.session stop.member stop.task sum
   pub exceeds : d.sectors < sum
   pub absent : LacksNext d core r.session k stop
   pub wants : ℕ
@@ -105,7 +105,7 @@ pub record WantsSectors {B : Type 0} (d : Device B) (core : ℕ) (r : Run) (k : 
 
 -- the next step is due, and the device failed
 pub record IsCutOff {B : Type 0} (d : Device B) (core : ℕ) (r : Run) (k : Machine) (text : Text) : Type 0 where
-  pub stop : StopsAt d r.session k
+  pub stop : StopsInRun d r.session k
   pub due : IsBeforeHalt r k.tasks.made
   pub absent : LacksNext d core r.session k stop
   pub text_is : text ≡ text_to stop.printed backing_fault_line
@@ -114,12 +114,12 @@ pub record IsCutOff {B : Type 0} (d : Device B) (core : ℕ) (r : Run) (k : Mach
 
 -- in the first part of the next step, which core has room for: the machine represents the session before that step
 pub record IsCutInStep {B : Type 0} (d : Device B) (core : ℕ) (r : Run) (k : Machine) (text : Text) : Type 0 where
-  pub stop : StopsAt d r.session k
+  pub stop : StopsInRun d r.session k
   pub due : IsBeforeHalt r k.tasks.made
-  pub room : Tells d → need core stop.session stop.member stop.task ≤ core
+  pub room : DeviceTells d → need core stop.session stop.member stop.task ≤ core
   pub front : text.front ≡ run_text stop.printed
-  pub last : Tells d → text.last ≡ due_text stop.session
-  pub begins : Tells d → (rest : List ℕ) × (whole_of text ++ rest ≡ run_text (lines (k.tasks.made + 1) r.session))
+  pub last : DeviceTells d → text.last ≡ due_text stop.session
+  pub begins : DeviceTells d → (rest : List ℕ) × (whole_of text ++ rest ≡ run_text (lines (k.tasks.made + 1) r.session))
 
 -- the lines of LIMIT of the last step that the machine counts: these lines are printed up to the step's first part
 pub record AreLimitLines (first : Session) (k : Machine) (s : Session) (printed : List RunLine) (text : Text) : Type 0 where
@@ -140,7 +140,7 @@ pub record IsCutInLimit {B : Type 0} (d : Device B) (r : Run) (k : Machine) (tex
   pub limited : IsLimited (known_now d) k session rest
   pub within : IsWithinHalt r k.tasks.made
   pub front : text.front ≡ run_text printed
-  pub exact : Tells d → AreLimitLines r.session k session printed text
+  pub exact : DeviceTells d → AreLimitLines r.session k session printed text
 
 -- ---- the status and the text
 
@@ -151,9 +151,9 @@ RoomSuffices d core p = (need_of p.0 p.1 ≤ core) × (sectors_of_all p.0 p.1 �
 -- no session was opened: memory was refused, or core or the device has no room for it, and the device is as it was; or the
 -- device failed
 pub data StopsUnopened {B : Type 0} (d : Device B) (core : ℕ) (p : Prepared) (status : ℕ) (text : Text) : Type 0 where
-  memory_refused : IsUntouched d → status ≡ 9 → text ≡ only memory_text → StopsUnopened d core p status text
-  opening_wants_core : IsUntouched d → core < need_of p.0 p.1 → status ≡ 4 → text ≡ only (ended (no_core_line (need_of p.0 p.1) core)) → StopsUnopened d core p status text
-  opening_wants_sectors : IsUntouched d → need_of p.0 p.1 ≤ core → d.sectors < sectors_of_all p.0 p.1
+  memory_refused : DeviceUnchanged d → status ≡ 9 → text ≡ only memory_text → StopsUnopened d core p status text
+  opening_wants_core : DeviceUnchanged d → core < need_of p.0 p.1 → status ≡ 4 → text ≡ only (ended (no_core_line (need_of p.0 p.1) core)) → StopsUnopened d core p status text
+  opening_wants_sectors : DeviceUnchanged d → need_of p.0 p.1 ≤ core → d.sectors < sectors_of_all p.0 p.1
       → status ≡ 5 → text ≡ only (ended (backing_full_line (sectors_of_all p.0 p.1) d.sectors)) → StopsUnopened d core p status text
   opening_fails : RoomSuffices d core p → Failed d → status ≡ 6 → text ≡ only (ended backing_fault_line) → StopsUnopened d core p status text
 
@@ -164,7 +164,7 @@ pub data StopsUnopened {B : Type 0} (d : Device B) (core : ℕ) (p : Prepared) (
 pub record WasOpened {B : Type 0} (d : Device B) (core : ℕ) (p : Prepared) (k : Machine) : Type 0 where
   pub room : RoomSuffices d core p
   pub in_order : StatesInOrder k.tasks.made (run_of p).session
-  pub fitted : Tells d → StepsFit core k.tasks.made (run_of p).session
+  pub fitted : DeviceTells d → StepsFit core k.tasks.made (run_of p).session
   pub core_size : length k.cpu.core ≡ core
   pub halt : k.tasks.halt ≡ p.0.halt
   pub names : row_names k.tasks.jobs ≡ job_names p.0.jobs
@@ -186,7 +186,7 @@ pub data RunStops {B : Type 0} (d : Device B) (core : ℕ) (p : Prepared) (exerc
   opened : (k : Machine) → machine ≡ Some k → WasOpened d core p k → k.tasks.printed ≡ 0 → StopsOpened d core p exercise k status text → RunStops d core p exercise machine status text
 
 -- the printer was due to take the text of a step, and has taken so many bytes of it, as the machine counts
-pub record IsPrinting {B : Type 0} (d : Device B) (core : ℕ) (p : Prepared) (machine : Option Machine) (text : Text) (count : ℕ) : Type 0 where
+pub record IsPrintingStep {B : Type 0} (d : Device B) (core : ℕ) (p : Prepared) (machine : Option Machine) (text : Text) (count : ℕ) : Type 0 where
   pub left : Machine
   pub is : machine ≡ Some left
   pub opens : WasOpened d core p left
@@ -195,7 +195,7 @@ pub record IsPrinting {B : Type 0} (d : Device B) (core : ℕ) (p : Prepared) (m
 
 -- a run stops and its text is printed, unless the printer fails, in its last line or in the text of a step
 pub data DeckRunEnds {K B : Type 0} (taken : K → Option (List ℕ)) (faults : K → ℕ) (d : Device B) (core : ℕ) (p : Prepared) (exercise : Option Exercise) (machine : Option Machine) (old new : K) (answer : ℕ) : Type 0 where
-  run_stops : (status : ℕ) (text : Text) → RunStops d core p exercise machine status text → Closes taken faults old new status text answer
+  run_stops : (status : ℕ) (text : Text) → RunStops d core p exercise machine status text → PrintsAndAnswers taken faults old new status text answer
       → DeckRunEnds taken faults d core p exercise machine old new answer
-  step_is_cut : (text : Text) (count : ℕ) → IsPrinting d core p machine text count → answer ≡ 8 → Rose faults old new → TookUpTo taken old new text count
+  step_is_cut : (text : Text) (count : ℕ) → IsPrintingStep d core p machine text count → answer ≡ 8 → Rose faults old new → TookUpTo taken old new text count
       → DeckRunEnds taken faults d core p exercise machine old new answer

@@ -22,6 +22,6 @@ pub record TookUpTo {K : Type 0} (taken : K → Option (List ℕ)) (old new : K)
 
 -- The call is due to print this text and to answer this status: it does, or the printer failed behind the front, and the
 -- answer is 8.
-pub data Closes {K : Type 0} (taken : K → Option (List ℕ)) (faults : K → ℕ) (old new : K) (status : ℕ) (text : Text) (answer : ℕ) : Type 0 where
-  all_taken : answer ≡ status → Took taken old new (whole_of text) → Closes taken faults old new status text answer
-  cut_short : (count : ℕ) → answer ≡ 8 → Rose faults old new → TookUpTo taken old new text count → Closes taken faults old new status text answer
+pub data PrintsAndAnswers {K : Type 0} (taken : K → Option (List ℕ)) (faults : K → ℕ) (old new : K) (status : ℕ) (text : Text) (answer : ℕ) : Type 0 where
+  all_taken : answer ≡ status → Took taken old new (whole_of text) → PrintsAndAnswers taken faults old new status text answer
+  cut_short : (count : ℕ) → answer ≡ 8 → Rose faults old new → TookUpTo taken old new text count → PrintsAndAnswers taken faults old new status text answer

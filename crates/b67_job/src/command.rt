@@ -2,7 +2,7 @@
 
 ghost use Rattle.std.specs.Prelude.{◌≡◌, ◌≤◌, ◌<◌, ◌^◌, ℕ, length, IfSome, Some};
 ghost use Rattle.std.specs.Option.{option_map};
-ghost use Rattle.b67_job.specs.Command.{options, is_path, requested, request, exercise_by, exercise, pair_in, pairs_in, bind, one_word, command_of, backing_path};
+ghost use Rattle.b67_job.specs.Command.{options, is_path, requested, request, exercise_by, exercise, pair_in, pairs_in, bind, one_word, command_line_of, backing_path};
 ghost use Rattle.b67_job.specs.Seen.{seen_options, seen_request, AreInRange};
 
 use b67_bind::{Pair, Pairs};
@@ -190,7 +190,7 @@ fn one_word(words: &[&str]) -> Option<CommandLine>
 /// `exercise SEED SIZE --core N`, or `bind H=P ..` with 1 to 255 pairs. N is 256 to 1,048,575, SEED at most 2,147,483,647, SIZE
 /// 1 to 500, H and P are 1 to 255, each in decimal without sign or leading zero; PATH isn't empty and doesn't begin with `-`.
 pub fn command_of(words: &[&str]) -> Option<CommandLine>
-    ensures command { result ≡ command_of words.now }
+    ensures command { result ≡ command_line_of words.now }
     ensures range { IfSome result AreInRange }
 {
     match one_word(words) {

@@ -38,7 +38,7 @@ const AND_BACK: &str =
 const MOVED: &str =
     "NAMC 2,2\nLT8 9\nINDX\nMKST\nNAMC 0,18\nNAMC 2,2\nLOAD\nLT8 12\nENTR\nMKST\nNAMC 0,8\nLT8 10\nENTR\nLT8 8\nNAMC 2,5\nLT8 9\nINDX\nSTOD\nMKST\nNAMC 0,9\nVALC 2,4\nENTR\nEXIT\n?END\n";
 
-/// The same, with an array that is deallocated. With FILLED 9 words.
+/// As MOVED, with an array that is deallocated instead of made longer. With FILLED 9 words.
 const REPLACED: &str =
     "NAMC 2,2\nLT8 9\nINDX\nMKST\nNAMC 0,17\nNAMC 2,2\nLOAD\nENTR\nMKST\nNAMC 0,8\nLT8 10\nENTR\nLT8 8\nNAMC 2,5\nLT8 9\nINDX\nSTOD\nMKST\nNAMC 0,9\nVALC 2,4\nENTR\nEXIT\n?END\n";
 

@@ -2,7 +2,7 @@
 
 ghost use Rattle.std.specs.Prelude.{◌≡◌, ◌≤◌, ◌++◌, length, codes, decimal};
 ghost use Rattle.b67_job_admit.specs.Told.{card_text, refusal_line};
-ghost use Rattle.b67_session_lines.specs.Ends.{Ends};
+ghost use Rattle.b67_session_lines.specs.Ends.{EndsPrinting};
 ghost use Rattle.b67_job.specs.Lines.{no_core_line, backing_full_line};
 
 use b67_io::{Line, Sink};
@@ -75,7 +75,7 @@ pub fn backing_full_line(sum: u32, sectors: u32) -> Line
 
 /// Prints a text and answers the status, or 8.
 pub fn say_text<K: Sink>(printer: &mut K, status: u8, text: &[u8]) -> u8
-    ensures { Ends K.taken K.faults printer.old printer.new status text.now result }
+    ensures { EndsPrinting K.taken K.faults printer.old printer.new status text.now result }
 {
     match put_text(printer, text) {
         Ok(()) => status,

@@ -7,11 +7,11 @@ ghost use Rattle.b67_io.specs.Causes.{Rose};
 ghost use Rattle.b67_codefile.specs.Meaning.{program_of};
 ghost use Rattle.b67_layout_storage.specs.Machine.{Says, DeviceAfterCalls, content_after};
 ghost use Rattle.b67_model.specs.Schedule.{Session};
-ghost use Rattle.b67_session_lines.specs.Ends.{Ends};
+ghost use Rattle.b67_session_lines.specs.Ends.{EndsPrinting};
 ghost use Rattle.b67_session_open.specs.Decks.{DeckInRange, IsLoaded};
 ghost use Rattle.b67_session.specs.Slices.{StandsAt, IsOpen, Keeps};
 ghost use Rattle.b67_job.specs.Device.{device_of};
-ghost use Rattle.b67_job.specs.Finishing.{refused_status, refused_line, Finishes, SessionRan};
+ghost use Rattle.b67_job.specs.Finishing.{refused_status, refused_line, FinishesRun, SessionRan};
 ghost use Rattle.b67_job.specs.Lines.{backing_fault_line};
 ghost use Rattle.b67_job.specs.Runs.{DeckRunEnds};
 
@@ -29,14 +29,14 @@ use b67_task_tables::Machine;
 use std::alloc::Global;
 
 fn say_backing_fault<K: Sink>(printer: &mut K) -> u8
-    ensures { Ends K.taken K.faults printer.old printer.new 6 (ended backing_fault_line) result }
+    ensures { EndsPrinting K.taken K.faults printer.old printer.new 6 (ended backing_fault_line) result }
 {
     say(printer, 6, &line_of("BACKING FAULT"))
 }
 
 // Prints why no session is opened.
 fn refuse_opening<K: Sink>(fault: OpenFault, printer: &mut K) -> u8
-    ensures { Ends K.taken K.faults printer.old printer.new (refused_status fault) (ended (refused_line fault)) result }
+    ensures { EndsPrinting K.taken K.faults printer.old printer.new (refused_status fault) (ended (refused_line fault)) result }
 {
     match fault {
         OpenFault::Memory => say(printer, 9, &line_of("NO MEMORY")),
@@ -57,7 +57,7 @@ fn finish<K: Sink>(
     made: u64,
     printer: &mut K,
 ) -> u8
-    ensures { Finishes K.taken K.faults exercise made answered printer.old printer.new result }
+    ensures { FinishesRun K.taken K.faults exercise made answered printer.old printer.new result }
 {
     match answered {
         Ok(Progress::Ended) => say_summary(exercise, made, printer),

@@ -1,7 +1,7 @@
 //! The line after a run whose tasks have all ended.
 
 ghost use Rattle.std.specs.Prelude.{◌≡◌};
-ghost use Rattle.b67_session_lines.specs.Ends.{Ends};
+ghost use Rattle.b67_session_lines.specs.Ends.{EndsPrinting};
 ghost use Rattle.b67_job.specs.Lines.{exercise_line, summary};
 
 use b67_io::{Line, Sink};
@@ -25,7 +25,7 @@ fn exercise_line(exercise: Exercise, operators: u64) -> Line
 
 /// Prints the line of an exercise whose run is done, or nothing of another run.
 pub fn say_summary<K: Sink>(exercise: Option<Exercise>, operators: u64, printer: &mut K) -> u8
-    ensures { Ends K.taken K.faults printer.old printer.new 0 (summary exercise operators) result }
+    ensures { EndsPrinting K.taken K.faults printer.old printer.new 0 (summary exercise operators) result }
 {
     match exercise {
         Some(exercise) => say(printer, 0, &exercise_line(exercise, operators)),

@@ -7,15 +7,15 @@ ghost use Rattle.b67_layout_storage.specs.Machine.{DeviceAfterCalls};
 ghost use Rattle.b67_job_admit.specs.Told.{refusal_text};
 ghost use Rattle.b67_job_admit.specs.Admitting.{Prepared};
 ghost use Rattle.b67_job_admit.specs.Verdicts.{asm_verdict, bind_verdict, check_verdict, convert_verdict};
-ghost use Rattle.b67_session_lines.specs.Ends.{Ends};
+ghost use Rattle.b67_session_lines.specs.Ends.{EndsPrinting};
 ghost use Rattle.b67_job.specs.Device.{device_of};
 ghost use Rattle.b67_job.specs.Lines.{memory_text};
 ghost use Rattle.b67_job.specs.Runs.{WasOpened};
 ghost use Rattle.b67_job.specs.Statuses.{StatusMeans};
-ghost use Rattle.b67_job.specs.Command.{command_of};
+ghost use Rattle.b67_job.specs.Command.{command_line_of};
 ghost use Rattle.b67_job.specs.declared.command.CommandLine.{CommandLine};
-ghost use Rattle.b67_job.specs.Judgement.{asked, judged_status, reads};
-ghost use Rattle.b67_job.specs.Due.{Answered, Serves, RefusalEnds, TextEnds, Writes, IsRun, IsSpared, IsAmple, Supplies, ExerciseEnds, reading_text};
+ghost use Rattle.b67_job.specs.Judgement.{asked, judged_status, reads_text};
+ghost use Rattle.b67_job.specs.Due.{Answered, Serves, RefusalEnds, TextEnds, WritesText, IsRun, IsSpared, IsAmple, Supplies, ExerciseEnds, reading_text};
 
 use crate::command::{CommandLine, command_of};
 use crate::lines::{refusal_line, say_text};
@@ -34,26 +34,26 @@ use b67_word::Bytes;
 use std::alloc::Global;
 
 fn refuse<K: Sink>(printer: &mut K, refusal: Refusal) -> u8
-    ensures { Ends K.taken K.faults printer.old printer.new 2 (refusal_text refusal) result }
+    ensures { EndsPrinting K.taken K.faults printer.old printer.new 2 (refusal_text refusal) result }
 {
     say(printer, 2, &refusal_line(refusal))
 }
 
 fn say_reading_fault<K: Sink>(printer: &mut K) -> u8
-    ensures { Ends K.taken K.faults printer.old printer.new 7 reading_text result }
+    ensures { EndsPrinting K.taken K.faults printer.old printer.new 7 reading_text result }
 {
     say(printer, 7, &line_of("READING FAULT"))
 }
 
 fn say_no_memory<K: Sink>(printer: &mut K) -> u8
-    ensures { Ends K.taken K.faults printer.old printer.new 9 memory_text result }
+    ensures { EndsPrinting K.taken K.faults printer.old printer.new 9 memory_text result }
 {
     say(printer, 9, &line_of("NO MEMORY"))
 }
 
 /// Answers that memory was refused, for a program that has no memory for its words or for its backing.
 pub fn refuse_memory<K: Sink>(printer: &mut K) -> Outcome
-    ensures ends { Ends K.taken K.faults printer.old printer.new 9 memory_text result.status }
+    ensures ends { EndsPrinting K.taken K.faults printer.old printer.new 9 memory_text result.status }
     ensures machine { result.machine ≡ None }
 {
     without_machine(say_no_memory(printer))
@@ -78,7 +78,7 @@ fn answer<S: Source, K: Sink, B: Backing>(
 ) -> Outcome
     ensures answered { Answered words.now S.left S.faults deck.old deck.new (device_of B.holds B.size B.faults backing.old backing.new)
         result.machine K.taken K.faults printer.old printer.new result.status }
-    ensures unread { reads (command_of words.now) ≡ false → deck.new ≡ deck.old }
+    ensures unread { reads_text (command_line_of words.now) ≡ false → deck.new ≡ deck.old }
     ensures device { DeviceAfterCalls B.holds B.size B.calls B.faults backing.old backing.new }
 {
     match command_of(words) {
@@ -164,21 +164,21 @@ fn answer_exercise<K: Sink, B: Backing>(
 }
 
 fn answer_asm<S: Source, K: Sink>(alloc: Global, deck: &mut S, printer: &mut K) -> u8
-    ensures { Writes asm_verdict S.left S.faults deck.old deck.new K.taken K.faults printer.old printer.new result }
+    ensures { WritesText asm_verdict S.left S.faults deck.old deck.new K.taken K.faults printer.old printer.new result }
 {
     let text = asm_text(alloc, deck);
     answer_text(&text, printer)
 }
 
 fn answer_check<S: Source, K: Sink>(alloc: Global, deck: &mut S, printer: &mut K) -> u8
-    ensures { Writes check_verdict S.left S.faults deck.old deck.new K.taken K.faults printer.old printer.new result }
+    ensures { WritesText check_verdict S.left S.faults deck.old deck.new K.taken K.faults printer.old printer.new result }
 {
     let text = check_text(alloc, deck);
     answer_text(&text, printer)
 }
 
 fn answer_convert<S: Source, K: Sink>(alloc: Global, deck: &mut S, printer: &mut K) -> u8
-    ensures { Writes convert_verdict S.left S.faults deck.old deck.new K.taken K.faults printer.old printer.new result }
+    ensures { WritesText convert_verdict S.left S.faults deck.old deck.new K.taken K.faults printer.old printer.new result }
 {
     let text = convert_text(alloc, deck);
     answer_text(&text, printer)
@@ -190,7 +190,7 @@ fn answer_bind<S: Source, K: Sink>(
     deck: &mut S,
     printer: &mut K,
 ) -> u8
-    ensures { Writes (bind_verdict pairs.now) S.left S.faults deck.old deck.new K.taken K.faults printer.old printer.new result }
+    ensures { WritesText (bind_verdict pairs.now) S.left S.faults deck.old deck.new K.taken K.faults printer.old printer.new result }
 {
     let text = bind_text(alloc, deck, pairs);
     answer_text(&text, printer)
@@ -260,11 +260,11 @@ pub fn run<S: Source, K: Sink, B: Backing>(
         × WasOpened (device_of B.holds B.size B.faults backing.old backing.new) core p k }
 
     // A command that reads no text, and words that are no command, leave the source as it was.
-    ensures unread { reads (command_of words.now) ≡ false → deck.new ≡ deck.old }
+    ensures unread { reads_text (command_line_of words.now) ≡ false → deck.new ≡ deck.old }
 
     // If no count rises, core and device suffice and the device tells what its sectors hold, the command and the deck decide,
     // or memory was refused.
-    ensures complete { (command : CommandLine) → (bytes : List ℕ) → command_of words.now ≡ Some command
+    ensures complete { (command : CommandLine) → (bytes : List ℕ) → command_line_of words.now ≡ Some command
         → Supplies command S.left S.faults deck.old deck.new bytes → IsAmple (device_of B.holds B.size B.faults backing.old backing.new) command bytes
         → Stayed K.faults printer.old printer.new → Stayed B.faults backing.old backing.new
         → (result.status ≡ judged_status (asked command bytes)) ⊎ (result.status ≡ 9) }

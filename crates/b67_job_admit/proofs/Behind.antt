@@ -8,15 +8,15 @@ use Rattle.b67_codefile.specs.Spelling.{IsWithin}
 use Rattle.b67_codefile.specs.Meaning.{program_of}
 use Rattle.b67_model.specs.Program.{Program}
 use Rattle.b67_model_text.specs.declared.deck.Job.{Job}
-use Rattle.b67_job_admit.specs.Admitting.{Answer, ◌>>=◌, program_in, programs}
+use Rattle.b67_job_admit.specs.Admitting.{Admission, ◌>>=◌, program_in, programs}
 use Rattle.b67_asm.proofs.Parts.{all_one}
 
-abbrev pub behind : List Program → Answer (List Program) → Answer (List Program)
+abbrev pub behind : List Program → Admission (List Program) → Admission (List Program)
 behind done (Ok ps) = Ok (done ++ ps)
 behind done (Err r) = Err r
 
 -- one program more is done
-behind_one : (done : List Program) (p : Program) (answer : Answer (List Program)) → behind done (answer >>= λ ps. Ok (p ∷ ps)) ≡ behind (done ++ p ∷ []) answer
+behind_one : (done : List Program) (p : Program) (answer : Admission (List Program)) → behind done (answer >>= λ ps. Ok (p ∷ ps)) ≡ behind (done ++ p ∷ []) answer
 behind_one done p (Ok ps) = ap Ok (sym (append_assoc done (p ∷ []) ps))
 behind_one done p (Err r) = refl
 

@@ -17,10 +17,10 @@ use Rattle.b67_bind.specs.declared.pairs.Pair.{Pair}
 use Rattle.b67_job_admit.specs.declared.refusal.Refusal.TheVariants as refusal
 use Rattle.b67_job_admit.specs.declared.fault.AdmitFault.{AdmitFault}
 use Rattle.b67_job_admit.specs.declared.fault.AdmitFault.TheVariants as admits
-use Rattle.b67_job_admit.specs.Admitting.{Answer, ◌>>=◌, of_cards}
+use Rattle.b67_job_admit.specs.Admitting.{Admission, ◌>>=◌, of_cards}
 use Rattle.b67_job_admit.specs.Meets.{of_deck_fault}
 use Rattle.b67_job_admit.specs.Verdicts.{Verdict, codefile_of, bind_deck, bind_verdict}
-use Rattle.b67_job_admit.specs.CommandMeets.{IsJudged, Meets}
+use Rattle.b67_job_admit.specs.CommandMeets.{IsJudged, MeetsVerdict}
 use Rattle.b67_job_admit.proofs.Cards.{file_back}
 use Rattle.b67_job_admit.proofs.Loads.{first_of_all}
 use Rattle.b67_job_admit.proofs.Judged.{too_long}
@@ -30,7 +30,7 @@ use Rattle.b67_job_admit.proofs.Judged.{too_long}
 pub assembled_codefile : (cards : List Card) (f : Codefile) → assembled cards ≡ Ok (program_of f) → f.version ≡ version_of cards → IsWithin f → (of_cards (assembled cards) >>= λ p. Ok (codefile_of (version_of cards) p)) ≡ Ok f
 assembled_codefile cards f e version within = rw e (ap (λ (g : Codefile). done g) (ap (λ (n : ℕ). codefile_of n (program_of f)) (sym version) ∙ file_back f within))
   where
-    done : Codefile → Answer Codefile
+    done : Codefile → Admission Codefile
     done g = Ok g
 
 -- ---- by a text
@@ -44,7 +44,7 @@ unfolding bind_verdict
 refused_card list text r e = rw e refl
 
 -- a deck that was read
-pub judged : {S : Type 0} (left : S → Option (List ℕ)) (faults : S → ℕ) (old new : S) (list : List Pair) (text : List ℕ) (d : Deck) (r : Result (List ℕ) AdmitFault) → GaveAll left old new text → deck_of text ≡ Ok d → Meets r (bind_deck list d)
+pub judged : {S : Type 0} (left : S → Option (List ℕ)) (faults : S → ℕ) (old new : S) (list : List Pair) (text : List ℕ) (d : Deck) (r : Result (List ℕ) AdmitFault) → GaveAll left old new text → deck_of text ≡ Ok d → MeetsVerdict r (bind_deck list d)
     → IsJudged left faults old new (bind_verdict list) r
 judged left faults old new list text d (Ok printed) all e m = (text, all, by_deck list text d (Ok printed) e m)
 judged left faults old new list text d (Err (admits.Refused r)) all e m = (text, first_of_all left old new text d e all, by_deck list text d (Err r) e m)

@@ -8,7 +8,7 @@ use Rattle.b67_word.specs.Tagged.{Tagged, word, contents}
 use Rattle.b67_io.specs.Line.{ended}
 use Rattle.b67_codefile.specs.declared.file.Segment.{Segment}
 use Rattle.b67_codefile.specs.declared.file.Codefile.{Codefile}
-use Rattle.b67_codefile.specs.Spelling.{spelling, HasTag, IsSegment, IsRow, IsWithin}
+use Rattle.b67_codefile.specs.Spelling.{spelling, HasTag, IsFileSegment, IsRow, IsWithin}
 use Rattle.b67_codefile.specs.Meaning.{segment_of, program_of}
 use Rattle.b67_model_text.specs.declared.card.Card.{Card}
 use Rattle.b67_model_text.specs.Hex.{hex_text}
@@ -19,7 +19,7 @@ words_back : (tag : ℕ) (words : List Tagged) → AllByRecursion (HasTag tag) w
 words_back tag [] all = refl
 words_back tag (w ∷ words) all = let e : word tag w.bits ≡ w = ap (λ (t : ℕ). word t w.bits) (sym all.0.tagged) in rw (e, words_back tag words all.1) refl
 
-segments_back : (segments : List Segment) → AllByRecursion IsSegment segments → map segment_file (map segment_of segments) ≡ segments
+segments_back : (segments : List Segment) → AllByRecursion IsFileSegment segments → map segment_file (map segment_of segments) ≡ segments
 segments_back [] all = refl
 segments_back (s ∷ segments) all = rw (words_back 3 s.code all.0.code.each, segments_back segments all.1) refl
 

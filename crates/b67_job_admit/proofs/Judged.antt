@@ -19,7 +19,7 @@ use Rattle.b67_job_admit.specs.declared.programs.Loaded.{Loaded}
 use Rattle.b67_job_admit.specs.declared.fault.AdmitFault.{AdmitFault}
 use Rattle.b67_job_admit.specs.declared.fault.AdmitFault.TheVariants as admits
 use Rattle.b67_job_admit.specs.Admitting.{Prepared, deck_prepared}
-use Rattle.b67_job_admit.specs.Meets.{IsLoaded, prepared_of, of_deck_fault}
+use Rattle.b67_job_admit.specs.Meets.{LoadsDeck, prepared_of, of_deck_fault}
 use Rattle.b67_job_admit.specs.Verdicts.{Verdict, job_lines, check_verdict, asm_of, asm_verdict, converted_of, convert_verdict}
 use Rattle.b67_job_admit.specs.CommandMeets.{IsJudged}
 
@@ -38,7 +38,7 @@ unfolding check_verdict
 check_refused text r e = rw e refl
 
 -- a deck that isn't loaded
-pub not_loaded : {S : Type 0} (left : S → Option (List ℕ)) (faults : S → ℕ) (old new : S) (f : AdmitFault) → IsLoaded left faults old new (Err f) → IsJudged left faults old new check_verdict (Err f)
+pub not_loaded : {S : Type 0} (left : S → Option (List ℕ)) (faults : S → ℕ) (old new : S) (f : AdmitFault) → LoadsDeck left faults old new (Err f) → IsJudged left faults old new check_verdict (Err f)
 not_loaded left faults old new (admits.Refused r) h = (h.0, h.1, check_refused h.0 r h.2)
 not_loaded left faults old new admits.SourceFault h = h
 not_loaded left faults old new admits.Memory h = h

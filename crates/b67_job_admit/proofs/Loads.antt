@@ -17,14 +17,14 @@ use Rattle.b67_codefile.specs.Meaning.{program_of}
 use Rattle.b67_job_admit.specs.declared.programs.Loaded.{Loaded}
 use Rattle.b67_job_admit.specs.declared.fault.AdmitFault.{AdmitFault}
 use Rattle.b67_job_admit.specs.declared.fault.AdmitFault.TheVariants as admits
-use Rattle.b67_job_admit.specs.Meets.{Meets, IsLoaded, prepared_of, of_deck_fault}
+use Rattle.b67_job_admit.specs.Meets.{MeetsAnswer, LoadsDeck, prepared_of, of_deck_fault}
 use Rattle.b67_job_admit.specs.Admitting.{Prepared, with_programs, prepared, deck_prepared}
 
 -- a deck with its programs, from theirs
 pub with_them : (d : Deck) (ps : List Program) → prepared d.jobs ≡ Ok ps → with_programs d ≡ Ok (d, ps)
 with_them d ps e = rw e refl
 
-pub without_them : (d : Deck) (f : AdmitFault) → Meets {X = List Codefile} (map program_of) (Err f) (prepared d.jobs) → Meets prepared_of (Err f) (with_programs d)
+pub without_them : (d : Deck) (f : AdmitFault) → MeetsAnswer {X = List Codefile} (map program_of) (Err f) (prepared d.jobs) → MeetsAnswer prepared_of (Err f) (with_programs d)
 without_them d (admits.Refused r) e = rw e refl
 without_them d admits.SourceFault e = e
 without_them d admits.Memory e = e
@@ -65,14 +65,14 @@ first_of_all left old new text d e all =
     }
 
 -- what a deck's fault says of the source is what the fault that is handed on says
-pub handed_on : {S : Type 0} (left : S → Option (List ℕ)) (faults : S → ℕ) (old new : S) (f : DeckFault) → IsRead left faults old new deck_of (Err f) → IsLoaded left faults old new (Err (of_deck_fault f))
+pub handed_on : {S : Type 0} (left : S → Option (List ℕ)) (faults : S → ℕ) (old new : S) (f : DeckFault) → IsRead left faults old new deck_of (Err f) → LoadsDeck left faults old new (Err (of_deck_fault f))
 handed_on left faults old new (fault.Card card reason) h = (h.0, h.1, refused_card h.0 (record { card = card; reason = reason }) h.2)
 handed_on left faults old new fault.SourceFault h = h
 handed_on left faults old new fault.Memory h = h
 
 -- the deck of a text, with its programs or their refusal
 pub loads : {S : Type 0} (left : S → Option (List ℕ)) (faults : S → ℕ) (old new : S) (text : List ℕ) (d : Deck) (r : Result Loaded AdmitFault) → GaveAll left old new text → deck_of text ≡ Ok d
-    → Meets prepared_of r (with_programs d) → IsLoaded left faults old new r
+    → MeetsAnswer prepared_of r (with_programs d) → LoadsDeck left faults old new r
 loads left faults old new text d (Ok l) all e m = (text, all, loaded text d (prepared_of l) e m)
 loads left faults old new text d (Err (admits.Refused r)) all e m = (text, first_of_all left old new text d e all, refused_program text d r e m)
 loads left faults old new text d (Err admits.SourceFault) all e m = absurd m

@@ -18,20 +18,20 @@ use Rattle.b67_job_admit.specs.declared.refusal.Refusal.{Refusal}
 use Rattle.b67_job_admit.specs.declared.refusal.Refusal.TheVariants as refusal
 
 -- an answer, or the first refusal
-abbrev pub Answer : Type 0 → Type 0
-Answer A = Result A Refusal
+abbrev pub Admission : Type 0 → Type 0
+Admission A = Result A Refusal
 
 infixl 10 ◌>>=◌
-abbrev pub ◌>>=◌ : {A B : Type 0} → Answer A → (A → Answer B) → Answer B
+abbrev pub ◌>>=◌ : {A B : Type 0} → Admission A → (A → Admission B) → Admission B
 (Ok a) >>= go = go a
 (Err r) >>= go = Err r
 
 -- a refused card of a deck or of assembly, as it is told
-abbrev pub of_deck : {A : Type 0} → Result A deck.Refusal → Answer A
+abbrev pub of_deck : {A : Type 0} → Result A deck.Refusal → Admission A
 of_deck (Ok a) = Ok a
 of_deck (Err r) = Err (refusal.Deck r.card r.reason)
 
-abbrev pub of_cards : {A : Type 0} → Result A deck.Refusal → Answer A
+abbrev pub of_cards : {A : Type 0} → Result A deck.Refusal → Admission A
 of_cards (Ok a) = Ok a
 of_cards (Err r) = Err (refusal.Asm r.card r.reason)
 
@@ -46,21 +46,21 @@ told_of card (bad.BadEntry at) = refusal.Codefile card 6 at
 told_of card bad.Memory = refusal.Codefile card 0 0
 
 -- a codefile, or why bytes are none, by a card
-abbrev pub codefile_in : ℕ → Result Codefile BadFile → Answer Codefile
+abbrev pub codefile_in : ℕ → Result Codefile BadFile → Admission Codefile
 codefile_in card (Ok file) = Ok file
 codefile_in card (Err e) = Err (told_of card e)
 
 -- a codefile's program, or why its bytes are none, by the card of the body
-abbrev pub of_file : ℕ → Result Codefile BadFile → Answer Program
+abbrev pub of_file : ℕ → Result Codefile BadFile → Admission Program
 of_file card file = codefile_in card file >>= λ file. Ok (program_of file)
 
 -- a job's program
-abbrev pub program_in : ℕ → Body → Answer Program
+abbrev pub program_in : ℕ → Body → Admission Program
 program_in card (Cards cards) = of_cards (assembled cards)
 program_in card (Bytes bytes) = of_file card (file_of bytes)
 
 -- the programs of jobs, in job order
-abbrev pub programs : List Job → Answer (List Program)
+abbrev pub programs : List Job → Admission (List Program)
 programs [] = Ok []
 programs (j ∷ more) = do
   p ← program_in j.body_card j.program
@@ -68,24 +68,24 @@ programs (j ∷ more) = do
   Ok (p ∷ ps)
 
 -- the first rule that a program breaks
-abbrev pub first_refusal : Program → Option loader.Refusal
-first_refusal p = first_of (refusals p)
+abbrev pub first_broken_rule : Program → Option loader.Refusal
+first_broken_rule p = first_of (refusals p)
 
 -- the same by the card of its job
-abbrev pub by_rules : ℕ → Option loader.Refusal → Answer ⊤
+abbrev pub by_rules : ℕ → Option loader.Refusal → Admission ⊤
 by_rules card None = Ok tt
 by_rules card (Some r) = Err (refusal.Load card r.rule r.segment r.place)
 
 -- every program is admitted, in job order
-abbrev pub admitted : List Job → List Program → Answer ⊤
+abbrev pub admitted : List Job → List Program → Admission ⊤
 admitted [] ps = Ok tt
 admitted (j ∷ more) [] = Ok tt
 admitted (j ∷ more) (p ∷ ps) = do
-  _ ← by_rules j.card (first_refusal p)
+  _ ← by_rules j.card (first_broken_rule p)
   admitted more ps
 
 -- the programs of a deck's jobs
-abbrev pub prepared : List Job → Answer (List Program)
+abbrev pub prepared : List Job → Admission (List Program)
 prepared jobs = do
   ps ← programs jobs
   _ ← admitted jobs ps
@@ -96,13 +96,13 @@ abbrev pub Prepared : Type 0
 Prepared = Deck × List Program
 
 -- a deck with its programs, or the first refusal of these
-abbrev pub with_programs : Deck → Answer Prepared
+abbrev pub with_programs : Deck → Admission Prepared
 with_programs d = do
   ps ← prepared d.jobs
   Ok (d, ps)
 
 -- the deck of a text, with its programs, or the first refusal of all
-unfoldable pub deck_prepared : List ℕ → Answer Prepared
+unfoldable pub deck_prepared : List ℕ → Admission Prepared
 deck_prepared text = do
   d ← of_deck (deck_of text)
   with_programs d

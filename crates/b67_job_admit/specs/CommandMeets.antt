@@ -10,8 +10,8 @@ use Rattle.b67_job_admit.specs.Meets as admit
 use Rattle.b67_job_admit.specs.Verdicts.{Verdict}
 
 -- the answer is this verdict, unless memory ran out
-abbrev pub Meets : Result (List ℕ) AdmitFault → Verdict → Type 0
-Meets answer verdict = admit.Meets (λ text. text) answer verdict
+abbrev pub MeetsVerdict : Result (List ℕ) AdmitFault → Verdict → Type 0
+MeetsVerdict answer verdict = admit.MeetsAnswer (λ text. text) answer verdict
 
 -- Of the text that the source gave to its end, this is the verdict. A refusal is by the bytes up to the first one past the
 -- limit, where reading stops. The source failed only where its count of faults rose. Want of memory is free.

@@ -22,12 +22,12 @@ use Rattle.b67_model_text.specs.declared.deck.Deck.{Deck}
 use Rattle.b67_model_text.specs.Hex.{hex_cards}
 use Rattle.b67_model_text.specs.Deck.{deck_of, plain_cards, hexadecimal_cards, bytes_in, first_number}
 use Rattle.b67_model_text.specs.Asm.{assembled, version_of}
-use Rattle.b67_job_admit.specs.Admitting.{Answer, ◌>>=◌, of_deck, of_cards, codefile_in, first_refusal, by_rules, deck_prepared}
+use Rattle.b67_job_admit.specs.Admitting.{Admission, ◌>>=◌, of_deck, of_cards, codefile_in, first_broken_rule, by_rules, deck_prepared}
 use Rattle.b67_job_admit.specs.declared.refusal.Refusal.TheVariants as refusal
 
 -- the text to print, or the first refusal
 abbrev pub Verdict : Type 0
-Verdict = Answer (List ℕ)
+Verdict = Admission (List ℕ)
 
 -- ---- check
 
@@ -87,18 +87,18 @@ convert_verdict text = do
 -- ---- bind
 
 -- the codefile of a job's program
-abbrev pub file_in : ℕ → Body → Answer Codefile
+abbrev pub file_in : ℕ → Body → Admission Codefile
 file_in card (Cards cards) = of_cards (assembled cards) >>= λ p. Ok (codefile_of (version_of cards) p)
 file_in card (Bytes bytes) = codefile_in card (file_of bytes)
 
 -- the host's job and the part's, of a deck that has just these two
-abbrev pub two_jobs : List Job → Answer (Job × Job)
+abbrev pub two_jobs : List Job → Admission (Job × Job)
 two_jobs (host ∷ part ∷ []) = Ok (host, part)
 two_jobs (host ∷ part ∷ third ∷ more) = Err (refusal.Deck third.card 15)
 two_jobs _ = Err (refusal.Deck 1 15)
 
 -- the first refused pair
-abbrev pub by_pairs : Option pairs.Refusal → Answer ⊤
+abbrev pub by_pairs : Option pairs.PairRefusal → Admission ⊤
 by_pairs None = Ok tt
 by_pairs (Some r) = Err (refusal.Bind r.pair r.reason)
 
@@ -113,8 +113,8 @@ abbrev pub bind_jobs : List Pair → Job → Job → Verdict
 bind_jobs list h p = do
   host ← file_in h.body_card h.program
   part ← file_in p.body_card p.program
-  _ ← by_rules h.card (first_refusal (program_of host))
-  _ ← by_rules p.card (first_refusal (program_of part))
+  _ ← by_rules h.card (first_broken_rule (program_of host))
+  _ ← by_rules p.card (first_broken_rule (program_of part))
   bound_text (binding host part list)
 
 -- by a deck

@@ -5,9 +5,9 @@ ghost use Rattle.std.specs.List.{AllByRecursion};
 ghost use Rattle.b67_codefile.specs.Spelling.{IsWithin};
 ghost use Rattle.b67_codefile.specs.Meaning as meaning;
 ghost use Rattle.b67_codefile.specs.Reading.{file_of};
-ghost use Rattle.b67_job_admit.specs.Admitting.{codefile_in, program_in, programs, by_rules, first_refusal, admitted, prepared, with_programs};
+ghost use Rattle.b67_job_admit.specs.Admitting.{codefile_in, program_in, programs, by_rules, first_broken_rule, admitted, prepared, with_programs};
 ghost use Rattle.b67_job_admit.specs.Verdicts.{file_in};
-ghost use Rattle.b67_job_admit.specs.Meets.{Meets, IsLoaded, prepared_of, of_deck_fault};
+ghost use Rattle.b67_job_admit.specs.Meets.{MeetsAnswer, LoadsDeck, prepared_of, of_deck_fault};
 
 use crate::fault::AdmitFault;
 use crate::programs::{Loaded, Programs};
@@ -24,7 +24,7 @@ use std::collections::VecDeque;
 /// The codefile of bytes, or the reason why they are none, by a card.
 pub fn codefile_in(alloc: Global, card: u32, bytes: &[u8]) -> Result<Codefile, AdmitFault>
     ensures within { IfOk result IsWithin }
-    ensures answer { Meets (λ file. file) result (codefile_in card (file_of bytes.now)) }
+    ensures answer { MeetsAnswer (λ file. file) result (codefile_in card (file_of bytes.now)) }
 {
     match read(alloc, bytes) {
         Ok(file) => Ok(file),
@@ -48,7 +48,7 @@ fn refused(card: u32, reason: u8, byte: usize) -> AdmitFault
 pub fn admitted_one(alloc: Global, card: u32, file: Codefile) -> Result<Admitted, AdmitFault>
     requires { IsWithin file }
     ensures kept { IfOk result (λ a. a ≡ file) }
-    ensures answer { Meets (λ a. tt) result (by_rules card (first_refusal (meaning.program_of file))) }
+    ensures answer { MeetsAnswer (λ a. tt) result (by_rules card (first_broken_rule (meaning.program_of file))) }
 {
     match verify(alloc, file) {
         Ok(program) => Ok(program),
@@ -70,8 +70,8 @@ pub fn admitted_one(alloc: Global, card: u32, file: Codefile) -> Result<Admitted
 
 fn assembled_in(alloc: Global, card: u32, cards: &Cards) -> Result<Codefile, AdmitFault>
     ensures within { IfOk result IsWithin }
-    ensures file { Meets (λ file. file) result (file_in card (Body.Cards cards.now)) }
-    ensures answer { Meets meaning.program_of result (program_in card (Body.Cards cards.now)) }
+    ensures file { MeetsAnswer (λ file. file) result (file_in card (Body.Cards cards.now)) }
+    ensures answer { MeetsAnswer meaning.program_of result (program_in card (Body.Cards cards.now)) }
 {
     match assemble(alloc, cards) {
         Ok(file) => Ok(file),
@@ -85,8 +85,8 @@ fn assembled_in(alloc: Global, card: u32, cards: &Cards) -> Result<Codefile, Adm
 /// The file of a job's program, assembled or read, or the refusal of its cards or its bytes.
 pub fn file_of(alloc: Global, job: &Job) -> Result<Codefile, AdmitFault>
     ensures within { IfOk result IsWithin }
-    ensures file { Meets (λ file. file) result (file_in job.now.body_card job.now.program) }
-    ensures answer { Meets meaning.program_of result (program_in job.now.body_card job.now.program) }
+    ensures file { MeetsAnswer (λ file. file) result (file_in job.now.body_card job.now.program) }
+    ensures answer { MeetsAnswer meaning.program_of result (program_in job.now.body_card job.now.program) }
 {
     match &job.program {
         Body::Cards(cards) => assembled_in(alloc, job.body_card, cards),
@@ -97,7 +97,7 @@ pub fn file_of(alloc: Global, job: &Job) -> Result<Codefile, AdmitFault>
 fn files_of(alloc: Global, jobs: &[Job]) -> Result<VecDeque<Codefile>, AdmitFault>
     ensures within { IfOk result (λ files. AllByRecursion IsWithin files.items) }
     ensures each { IfOk result (λ files. length files.items ≡ length jobs.now) }
-    ensures answer { Meets (λ files. map meaning.program_of files.items) result (programs jobs.now) }
+    ensures answer { MeetsAnswer (λ files. map meaning.program_of files.items) result (programs jobs.now) }
 {
     let mut files = VecDeque::new(alloc);
     'jobs: for job in jobs {
@@ -121,7 +121,7 @@ fn admitted_all(
     requires within { AllByRecursion IsWithin files.items }
     requires each { length files.items ≡ length jobs.now }
     ensures kept { IfOk result (λ ps. ps ≡ files.items) }
-    ensures answer { Meets (λ ps. tt) result (admitted jobs.now (map meaning.program_of files.items)) }
+    ensures answer { MeetsAnswer (λ ps. tt) result (admitted jobs.now (map meaning.program_of files.items)) }
 {
     let mut programs = Programs::new(alloc);
     'jobs: for job in jobs {
@@ -142,7 +142,7 @@ fn admitted_all(
 
 /// The programs of jobs: each is assembled or read, in job order, and then each is admitted, in job order.
 fn programs_of(alloc: Global, jobs: &[Job]) -> Result<Programs, AdmitFault>
-    ensures { Meets (λ ps. map meaning.program_of ps) result (prepared jobs.now) }
+    ensures { MeetsAnswer (λ ps. map meaning.program_of ps) result (prepared jobs.now) }
 {
     match files_of(alloc, jobs) {
         Ok(files) => admitted_all(alloc, jobs, files),
@@ -164,7 +164,7 @@ pub fn deck_fault(fault: DeckFault) -> AdmitFault
 /// Loads the programs of a deck: each job's cards are assembled or its bytes read, in job order, and then each program is
 /// admitted, in job order. The answer is the first refusal of all.
 pub fn prepare(alloc: Global, deck: Deck) -> Result<Loaded, AdmitFault>
-    ensures { Meets prepared_of result (with_programs deck) }
+    ensures { MeetsAnswer prepared_of result (with_programs deck) }
 {
     match programs_of(alloc, deck.jobs.as_slice()) {
         Ok(programs) => Ok(Loaded { deck, programs }),
@@ -175,7 +175,7 @@ pub fn prepare(alloc: Global, deck: Deck) -> Result<Loaded, AdmitFault>
 /// Reads a deck to its end, and loads its programs: each job's cards are assembled or its bytes read, in job order, and
 /// then each program is admitted, in job order. The answer is the first refusal of all.
 pub fn admit<S: Source>(alloc: Global, source: &mut S) -> Result<Loaded, AdmitFault>
-    ensures answer { IsLoaded S.left S.faults source.old source.new result }
+    ensures answer { LoadsDeck S.left S.faults source.old source.new result }
     ensures later { S.faults source.old ≤ S.faults source.new }
 {
     match read_deck(alloc, source) {

@@ -3,7 +3,7 @@
 ghost use Rattle.std.specs.Prelude.{◌≡◌, ◌≤◌, IfOk};
 ghost use Rattle.b67_codefile.specs.Spelling.{IsWithin, spelling};
 ghost use Rattle.b67_job_admit.specs.Verdicts.{asm_verdict, asm_of, hex_lines};
-ghost use Rattle.b67_job_admit.specs.CommandMeets.{IsJudged, Meets};
+ghost use Rattle.b67_job_admit.specs.CommandMeets.{IsJudged, MeetsVerdict};
 
 use crate::admission::deck_fault;
 use crate::fault::AdmitFault;
@@ -29,7 +29,7 @@ pub fn text_of(alloc: Global, file: &Codefile) -> Result<Bytes, AllocError>
 }
 
 fn assembled_text(alloc: Global, cards: &Cards) -> Result<Bytes, AdmitFault>
-    ensures { Meets result (asm_of cards.now) }
+    ensures { MeetsVerdict result (asm_of cards.now) }
 {
     match assemble(alloc, cards) {
         Ok(file) => match text_of(alloc, &file) {

@@ -3,7 +3,7 @@
 ghost use Rattle.std.specs.Prelude.{◌≡◌, ◌≤◌};
 ghost use Rattle.b67_bind.specs.Reasons.{binding};
 ghost use Rattle.b67_job_admit.specs.Verdicts.{two_jobs, bound_text, bind_jobs, bind_deck, bind_verdict};
-ghost use Rattle.b67_job_admit.specs.CommandMeets.{IsJudged, Meets};
+ghost use Rattle.b67_job_admit.specs.CommandMeets.{IsJudged, MeetsVerdict};
 ghost use Rattle.b67_job_admit.specs.Meets as meets;
 
 use crate::admission::{admitted_one, deck_fault, file_of};
@@ -21,7 +21,7 @@ use std::alloc::Global;
 
 /// The host's job and the part's: a deck must have just these two.
 fn two_jobs(jobs: &[Job]) -> Result<(&Job, &Job), AdmitFault>
-    ensures { meets.Meets (λ b. (b.0.now, b.1.now)) result (two_jobs jobs.now) }
+    ensures { meets.MeetsAnswer (λ b. (b.0.now, b.1.now)) result (two_jobs jobs.now) }
 {
     match jobs {
         [host, part] => Ok((host, part)),
@@ -43,7 +43,7 @@ fn bound_text(
     part: &Admitted,
     pairs: &Pairs,
 ) -> Result<Bytes, AdmitFault>
-    ensures { Meets result (bound_text (binding host.now part.now pairs.now)) }
+    ensures { MeetsVerdict result (bound_text (binding host.now part.now pairs.now)) }
 {
     match bind(alloc, host, part, pairs) {
         Ok(bound) => Ok(text_of(alloc, bound.file())?),
@@ -56,7 +56,7 @@ fn bound_text(
 
 /// Both jobs are assembled or read, then both are admitted, and then the part is bound into the host.
 fn bind_jobs(alloc: Global, host: &Job, part: &Job, pairs: &Pairs) -> Result<Bytes, AdmitFault>
-    ensures { Meets result (bind_jobs pairs.now host.now part.now) }
+    ensures { MeetsVerdict result (bind_jobs pairs.now host.now part.now) }
 {
     let host_file = file_of(alloc, host)?;
     let part_file = file_of(alloc, part)?;
@@ -66,7 +66,7 @@ fn bind_jobs(alloc: Global, host: &Job, part: &Job, pairs: &Pairs) -> Result<Byt
 }
 
 fn bind_deck(alloc: Global, deck: &Deck, pairs: &Pairs) -> Result<Bytes, AdmitFault>
-    ensures { Meets result (bind_deck pairs.now deck.now) }
+    ensures { MeetsVerdict result (bind_deck pairs.now deck.now) }
 {
     let (host, part) = two_jobs(deck.jobs.as_slice())?;
     bind_jobs(alloc, host, part, pairs)

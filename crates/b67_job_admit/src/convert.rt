@@ -4,7 +4,7 @@ ghost use Rattle.std.specs.Prelude.{◌≡◌, ◌≤◌, ◌++◌, IfOk, OnOk};
 ghost use Rattle.b67_codefile.specs.Spelling.{IsWithin, spelling};
 ghost use Rattle.b67_model_text.specs.Deck.{bytes_in, first_number};
 ghost use Rattle.b67_job_admit.specs.Verdicts.{convert_verdict, converted_of, hex_lines};
-ghost use Rattle.b67_job_admit.specs.CommandMeets.{IsJudged, Meets};
+ghost use Rattle.b67_job_admit.specs.CommandMeets.{IsJudged, MeetsVerdict};
 
 use crate::admission::{codefile_in, deck_fault};
 use crate::asm::text_of;
@@ -45,7 +45,7 @@ fn second_version(alloc: Global, file: &Codefile) -> Result<Bytes, AllocError>
 }
 
 fn converted_text(alloc: Global, cards: &[Card]) -> Result<Bytes, AdmitFault>
-    ensures { Meets result (converted_of cards.now) }
+    ensures { MeetsVerdict result (converted_of cards.now) }
 {
     let bytes = match bytes_of(alloc, cards) {
         Ok(bytes) => bytes,

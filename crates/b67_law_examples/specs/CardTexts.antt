@@ -3,13 +3,13 @@ use Rattle.std.specs.Prelude.{ℕ, zero, suc, ◌+◌, ◌/◌, ◌%◌, List, [
 use Rattle.std.specs.List.{flat_map}
 
 -- cards as the lines of a text
-abbrev pub text_of : List (List ℕ) → List ℕ
-text_of cards = flat_map (λ card. card ++ 10 ∷ []) cards
+abbrev pub text_of_cards : List (List ℕ) → List ℕ
+text_of_cards cards = flat_map (λ card. card ++ 10 ∷ []) cards
 
 -- cards so many times
-abbrev pub times : ℕ → List (List ℕ) → List (List ℕ)
-times zero cards = []
-times (suc n) cards = cards ++ times n cards
+abbrev pub cards_times : ℕ → List (List ℕ) → List (List ℕ)
+cards_times zero cards = []
+cards_times (suc n) cards = cards ++ cards_times n cards
 
 -- two and three
 abbrev pub sum_cards : List (List ℕ)
@@ -48,7 +48,7 @@ manboy_cards =
 abbrev pub eight_cards : List (List ℕ)
 eight_cards =
     codes "SEGMENT MAIN 2" ∷ codes "MPCW CH" ∷
-    times 8 (codes "MKST" ∷ codes "NAMC 0,8" ∷ codes "LT8 200" ∷ codes "ENTR" ∷ []) ++ codes "NAMC 2,3" ∷
+    cards_times 8 (codes "MKST" ∷ codes "NAMC 0,8" ∷ codes "LT8 200" ∷ codes "ENTR" ∷ []) ++ codes "NAMC 2,3" ∷
     codes "LT8 0" ∷ codes "INDX" ∷ codes "NAMC 2,4" ∷ codes "LT8 1" ∷ codes "INDX" ∷ codes "NAMC 2,5" ∷
     codes "LT8 2" ∷ codes "INDX" ∷ codes "NAMC 2,6" ∷ codes "LT8 3" ∷ codes "INDX" ∷ codes "NAMC 2,7" ∷
     codes "LT8 4" ∷ codes "INDX" ∷ codes "NAMC 2,8" ∷ codes "LT8 5" ∷ codes "INDX" ∷ codes "NAMC 2,9" ∷
@@ -78,7 +78,7 @@ eight_cards =
 abbrev pub leave_cards : List (List ℕ)
 leave_cards =
     codes "SEGMENT MAIN 2" ∷ codes "MPCW P" ∷ codes "MKST" ∷ codes "NAMC 0,8" ∷ codes "LT8 200" ∷
-    times 3 (codes "ENTR" ∷ codes "MKST" ∷ codes "NAMC 2,2" ∷ []) ++ codes "ENTR" ∷ codes "MKST" ∷ codes "NAMC 0,9" ∷
+    cards_times 3 (codes "ENTR" ∷ codes "MKST" ∷ codes "NAMC 2,2" ∷ []) ++ codes "ENTR" ∷ codes "MKST" ∷ codes "NAMC 0,9" ∷
     codes "NAMC 2,3" ∷ codes "ZERO" ∷ codes "NXLV" ∷ codes "ENTR" ∷ codes "EXIT" ∷ codes "SEGMENT P 3" ∷
     codes "MKST" ∷ codes "NAMC 0,8" ∷ codes "LT8 200" ∷ codes "ENTR" ∷ codes "ONE" ∷ codes "NAMC 3,2" ∷
     codes "ZERO" ∷ codes "INDX" ∷ codes "STOD" ∷ codes "NAMC 2,3" ∷ codes "ZERO" ∷ codes "NXLV" ∷ codes "NAMC 3,2" ∷

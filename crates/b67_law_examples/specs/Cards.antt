@@ -10,5 +10,5 @@ abbrev pub assembly : List ℕ → Result Program Refusal
 assembly text = assembled (cards text)
 
 -- a card with its reason
-abbrev pub refused : {A : Type 0} → ℕ → ℕ → Result A Refusal
-refused card reason = Err (record { card = card; reason = reason })
+abbrev pub refused_with : {A : Type 0} → ℕ → ℕ → Result A Refusal
+refused_with card reason = Err (record { card = card; reason = reason })

@@ -6,7 +6,7 @@ use Rattle.b67_model.specs.declared.operators.Op.TheVariants as op
 use Rattle.b67_model.specs.declared.operators.Code.{Code}
 use Rattle.b67_model.specs.declared.operators.Code.TheVariants as code
 use Rattle.b67_model.specs.State.{Segment}
-use Rattle.b67_model_text.specs.Encoding.{code_of}
+use Rattle.b67_model_text.specs.Encoding.{code_words}
 
 -- an operator, by the level of its segment, which splits couples
 abbrev pub Operator : Type 0
@@ -14,12 +14,12 @@ Operator = ℕ → Op
 
 -- a segment of a level
 abbrev pub segment : ℕ → List Operator → Segment
-segment level operators = record { level = level; entries = []; code = code_of (map (λ (o : Operator). o level) operators) }
+segment level operators = record { level = level; entries = []; code = code_words (map (λ (o : Operator). o level) operators) }
 
 -- operators so many times
-abbrev pub times : ℕ → List Operator → List Operator
-times zero operators = []
-times (suc n) operators = operators ++ times n operators
+abbrev pub operators_times : ℕ → List Operator → List Operator
+operators_times zero operators = []
+operators_times (suc n) operators = operators ++ operators_times n operators
 
 abbrev pub couple_at : ℕ → ℕ → ℕ → ℕ
 couple_at level disp running = reversed_bits (level_bits running) level + disp
@@ -53,74 +53,74 @@ BRUN word syllable running = op.Brun (record { word = word; syllable = syllable 
 abbrev pub BRTR : ℕ → ℕ → Operator
 BRTR word syllable running = op.Brtr (record { word = word; syllable = syllable })
 
-abbrev pub plain : Code → Operator
-plain c running = op.Plain c
+abbrev pub plain_operator : Code → Operator
+plain_operator c running = op.Plain c
 
 abbrev pub ADD : Operator
-ADD = plain code.Add
+ADD = plain_operator code.Add
 
 abbrev pub SUBT : Operator
-SUBT = plain code.Subt
+SUBT = plain_operator code.Subt
 
 abbrev pub MULT : Operator
-MULT = plain code.Mult
+MULT = plain_operator code.Mult
 
 abbrev pub IDIV : Operator
-IDIV = plain code.Idiv
+IDIV = plain_operator code.Idiv
 
 abbrev pub RDIV : Operator
-RDIV = plain code.Rdiv
+RDIV = plain_operator code.Rdiv
 
 abbrev pub GRTR : Operator
-GRTR = plain code.Grtr
+GRTR = plain_operator code.Grtr
 
 abbrev pub CHSN : Operator
-CHSN = plain code.Chsn
+CHSN = plain_operator code.Chsn
 
 abbrev pub LNOT : Operator
-LNOT = plain code.Lnot
+LNOT = plain_operator code.Lnot
 
 abbrev pub SAME : Operator
-SAME = plain code.Same
+SAME = plain_operator code.Same
 
 abbrev pub EXIT : Operator
-EXIT = plain code.Exit
+EXIT = plain_operator code.Exit
 
 abbrev pub INDX : Operator
-INDX = plain code.Indx
+INDX = plain_operator code.Indx
 
 abbrev pub RETN : Operator
-RETN = plain code.Retn
+RETN = plain_operator code.Retn
 
 abbrev pub ENTR : Operator
-ENTR = plain code.Entr
+ENTR = plain_operator code.Entr
 
 abbrev pub NXLV : Operator
-NXLV = plain code.Nxlv
+NXLV = plain_operator code.Nxlv
 
 abbrev pub MKST : Operator
-MKST = plain code.Mkst
+MKST = plain_operator code.Mkst
 
 abbrev pub STFF : Operator
-STFF = plain code.Stff
+STFF = plain_operator code.Stff
 
 abbrev pub ZERO : Operator
-ZERO = plain code.Zero
+ZERO = plain_operator code.Zero
 
 abbrev pub ONE : Operator
-ONE = plain code.One
+ONE = plain_operator code.One
 
 abbrev pub DLET : Operator
-DLET = plain code.Dlet
+DLET = plain_operator code.Dlet
 
 abbrev pub STOD : Operator
-STOD = plain code.Stod
+STOD = plain_operator code.Stod
 
 abbrev pub LOAD : Operator
-LOAD = plain code.Load
+LOAD = plain_operator code.Load
 
 abbrev pub NOOP : Operator
-NOOP = plain code.Noop
+NOOP = plain_operator code.Noop
 
 abbrev pub NVLD : Operator
-NVLD = plain code.Nvld
+NVLD = plain_operator code.Nvld

@@ -1,8 +1,8 @@
 -- The programs of worked runs.
 use Rattle.std.specs.Prelude.{ℕ, zero, suc, ◌+◌, ◌*◌, ◌/◌, ◌%◌, ◌^◌, List, [], ◌∷◌, ◌++◌, map}
 use Rattle.b67_model.specs.State.{Segment}
-use Rattle.b67_model_text.specs.Encoding.{code_of}
-use Rattle.b67_law_examples.specs.Mnemonics.{Operator, segment, times, ADD, BRTR, BRUN, CHSN, DLET, ENTR, EXIT, GRTR, IDIV, INDX, ISOL, LNOT, LOAD, LT16, LT48, LT8, MKST, MPCW, MULT, NAMC, NOOP, NVLD, NXLV, ONE, RDIV, RETN, SAME, STFF, STOD, VALC, ZERO}
+use Rattle.b67_model_text.specs.Encoding.{code_words}
+use Rattle.b67_law_examples.specs.Mnemonics.{Operator, segment, operators_times, ADD, BRTR, BRUN, CHSN, DLET, ENTR, EXIT, GRTR, IDIV, INDX, ISOL, LNOT, LOAD, LT16, LT48, LT8, MKST, MPCW, MULT, NAMC, NOOP, NVLD, NXLV, ONE, RDIV, RETN, SAME, STFF, STOD, VALC, ZERO}
 
 -- two and three
 abbrev pub sum : List Segment
@@ -66,12 +66,12 @@ critical_block =
 abbrev pub ten_words : List Segment
 ten_words =
     segment 2 (MKST ∷ NAMC 0 8 ∷ LT8 100 ∷ ENTR ∷ MKST ∷ NAMC 0 9 ∷ NAMC 2 2 ∷ LT8 99 ∷ NXLV ∷ ENTR ∷ EXIT ∷
-    times 44 (NVLD ∷ []) ++ []) ∷ []
+    operators_times 44 (NVLD ∷ []) ++ []) ∷ []
 
 -- eight arrays, of each of which an element is raised by a child
 abbrev pub eight : List Segment
 eight =
-    segment 2 (MPCW 2 3 ∷ times 8 (MKST ∷ NAMC 0 8 ∷ LT8 200 ∷ ENTR ∷ []) ++ NAMC 2 3 ∷ LT8 0 ∷ INDX ∷ NAMC 2 4 ∷
+    segment 2 (MPCW 2 3 ∷ operators_times 8 (MKST ∷ NAMC 0 8 ∷ LT8 200 ∷ ENTR ∷ []) ++ NAMC 2 3 ∷ LT8 0 ∷ INDX ∷ NAMC 2 4 ∷
     LT8 1 ∷ INDX ∷ NAMC 2 5 ∷ LT8 2 ∷ INDX ∷ NAMC 2 6 ∷ LT8 3 ∷ INDX ∷ NAMC 2 7 ∷ LT8 4 ∷ INDX ∷ NAMC 2 8 ∷
     LT8 5 ∷ INDX ∷ NAMC 2 9 ∷ LT8 6 ∷ INDX ∷ NAMC 2 10 ∷ LT8 7 ∷ INDX ∷ LT8 11 ∷ NAMC 2 11 ∷ STOD ∷ LT8 12 ∷
     NAMC 2 12 ∷ STOD ∷ LT8 13 ∷ NAMC 2 13 ∷ STOD ∷ LT8 14 ∷ NAMC 2 14 ∷ STOD ∷ LT8 15 ∷ NAMC 2 15 ∷ STOD ∷
@@ -89,7 +89,7 @@ eight =
 -- a procedure with an array of its own, called three times
 abbrev pub leave : List Segment
 leave =
-    segment 2 (MPCW 2 3 ∷ MKST ∷ NAMC 0 8 ∷ LT8 200 ∷ times 3 (ENTR ∷ MKST ∷ NAMC 2 2 ∷ []) ++ ENTR ∷ MKST ∷
+    segment 2 (MPCW 2 3 ∷ MKST ∷ NAMC 0 8 ∷ LT8 200 ∷ operators_times 3 (ENTR ∷ MKST ∷ NAMC 2 2 ∷ []) ++ ENTR ∷ MKST ∷
     NAMC 0 9 ∷ NAMC 2 3 ∷ ZERO ∷ NXLV ∷ ENTR ∷ EXIT ∷ []) ∷
     segment 3 (MKST ∷ NAMC 0 8 ∷ LT8 200 ∷ ENTR ∷ ONE ∷ NAMC 3 2 ∷ ZERO ∷ INDX ∷ STOD ∷ NAMC 2 3 ∷ ZERO ∷ NXLV ∷
     NAMC 3 2 ∷ ZERO ∷ NXLV ∷ ADD ∷ NAMC 2 3 ∷ ZERO ∷ INDX ∷ STOD ∷ EXIT ∷ []) ∷ []
@@ -105,14 +105,14 @@ endless =
     segment 2 (BRUN 0 0 ∷ []) ∷ []
 
 -- two numbers that are read, and the end of the numbers
-abbrev pub reads : List Segment
-reads =
+abbrev pub reads_program : List Segment
+reads_program =
     segment 2 (MKST ∷ NAMC 0 9 ∷ MKST ∷ NAMC 0 11 ∷ ENTR ∷ MKST ∷ NAMC 0 11 ∷ ENTR ∷ ADD ∷ ENTR ∷ MKST ∷ NAMC 0 9 ∷
     MKST ∷ NAMC 0 11 ∷ ENTR ∷ LT48 0x800000000000 ∷ SAME ∷ ENTR ∷ EXIT ∷ []) ∷ []
 
 -- four stores into one array, and the sum of their elements
-abbrev pub exercise : List Segment
-exercise =
+abbrev pub exercise_program : List Segment
+exercise_program =
     segment 2 (MKST ∷ NAMC 0 8 ∷ LT16 88 ∷ ENTR ∷ LT16 515 ∷ NAMC 2 2 ∷ LT16 81 ∷ INDX ∷ STOD ∷ LT16 10 ∷ NAMC 2 2 ∷
     LT16 83 ∷ INDX ∷ STOD ∷ LT16 86 ∷ NAMC 2 2 ∷ LT16 20 ∷ INDX ∷ STOD ∷ LT16 84 ∷ NAMC 2 2 ∷ LT16 7 ∷ INDX ∷
     STOD ∷ MKST ∷ NAMC 0 9 ∷ ZERO ∷ NAMC 2 2 ∷ LT16 81 ∷ NXLV ∷ ADD ∷ NAMC 2 2 ∷ LT16 83 ∷ NXLV ∷ ADD ∷
@@ -172,8 +172,8 @@ printed_row =
 abbrev pub three_segments : List Segment
 three_segments =
     segment 2 (MPCW 2 3 ∷ MPCW 3 3 ∷ MKST ∷ NAMC 2 2 ∷ ENTR ∷ MKST ∷ NAMC 2 3 ∷ ENTR ∷ EXIT ∷ []) ∷
-    segment 3 (times 60 (NOOP ∷ []) ++ EXIT ∷ []) ∷
-    segment 3 (times 60 (NOOP ∷ []) ++ EXIT ∷ []) ∷ []
+    segment 3 (operators_times 60 (NOOP ∷ []) ++ EXIT ∷ []) ∷
+    segment 3 (operators_times 60 (NOOP ∷ []) ++ EXIT ∷ []) ∷ []
 
 -- two arrays with an element each
 abbrev pub two : List Segment
@@ -188,8 +188,8 @@ never_started =
     segment 2 (MKST ∷ NAMC 0 9 ∷ MKST ∷ NAMC 0 14 ∷ LT8 9 ∷ ENTR ∷ ENTR ∷ EXIT ∷ []) ∷ []
 
 -- a child is started among the arguments of a PRINT
-abbrev pub critical_mark : List Segment
-critical_mark =
+abbrev pub critical_program : List Segment
+critical_program =
     segment 2 (MPCW 2 3 ∷ MKST ∷ NAMC 0 9 ∷ MKST ∷ NAMC 0 12 ∷ NAMC 2 2 ∷ ENTR ∷ ENTR ∷ EXIT ∷ []) ∷
     segment 3 (BRUN 0 0 ∷ []) ∷ []
 
@@ -209,14 +209,14 @@ popped_cell =
     segment 3 (ZERO ∷ MKST ∷ NAMC 0 16 ∷ NAMC 3 2 ∷ ENTR ∷ EXIT ∷ []) ∷ []
 
 -- a loop that pushes a cell
-abbrev pub pushes : List Segment
-pushes =
+abbrev pub push_loop : List Segment
+push_loop =
     segment 2 (ZERO ∷ BRUN 0 0 ∷ []) ∷ []
 
 -- fifteen children, the last of which isn't started
 abbrev pub fifteen : List Segment
 fifteen =
-    segment 2 (MPCW 2 3 ∷ times 15 (MKST ∷ NAMC 0 12 ∷ NAMC 2 2 ∷ ENTR ∷ []) ++ MKST ∷ NAMC 0 9 ∷ VALC 2 17 ∷ ENTR ∷
+    segment 2 (MPCW 2 3 ∷ operators_times 15 (MKST ∷ NAMC 0 12 ∷ NAMC 2 2 ∷ ENTR ∷ []) ++ MKST ∷ NAMC 0 9 ∷ VALC 2 17 ∷ ENTR ∷
     EXIT ∷ []) ∷
     segment 3 (BRUN 0 0 ∷ []) ∷ []
 
@@ -273,13 +273,13 @@ element_for_a_value =
 -- a LOAD that enters a procedure over a full stack
 abbrev pub full_load : List Segment
 full_load =
-    segment 2 (MPCW 2 3 ∷ times 59 (ZERO ∷ []) ++ NAMC 2 2 ∷ LOAD ∷ EXIT ∷ []) ∷
+    segment 2 (MPCW 2 3 ∷ operators_times 59 (ZERO ∷ []) ++ NAMC 2 2 ∷ LOAD ∷ EXIT ∷ []) ∷
     segment 3 (EXIT ∷ []) ∷ []
 
 -- the same with a cell less
 abbrev pub fuller_load : List Segment
 fuller_load =
-    segment 2 (MPCW 2 3 ∷ times 58 (ZERO ∷ []) ++ NAMC 2 2 ∷ LOAD ∷ EXIT ∷ []) ∷
+    segment 2 (MPCW 2 3 ∷ operators_times 58 (ZERO ∷ []) ++ NAMC 2 2 ∷ LOAD ∷ EXIT ∷ []) ∷
     segment 3 (EXIT ∷ []) ∷ []
 
 -- an array that is declared into the parameters of a call
@@ -344,12 +344,12 @@ names_itself =
     segment 2 (MPCW 1 2 ∷ EXIT ∷ []) ∷ []
 
 -- segments from a level on, each of which enters the next one, and the last one prints its level
-abbrev pub calls : ℕ → ℕ → List Segment
-calls zero level = segment level (MKST ∷ NAMC 0 9 ∷ LT8 level ∷ ENTR ∷ EXIT ∷ []) ∷ []
-calls (suc more) level = segment level (MPCW level (level + 1) ∷ MKST ∷ NAMC level 2 ∷ ENTR ∷ EXIT ∷ []) ∷ calls more (level + 1)
+abbrev pub nested_calls : ℕ → ℕ → List Segment
+nested_calls zero level = segment level (MKST ∷ NAMC 0 9 ∷ LT8 level ∷ ENTR ∷ EXIT ∷ []) ∷ []
+nested_calls (suc more) level = segment level (MPCW level (level + 1) ∷ MKST ∷ NAMC level 2 ∷ ENTR ∷ EXIT ∷ []) ∷ nested_calls more (level + 1)
 
 abbrev pub thirty_levels : List Segment
-thirty_levels = calls 29 2
+thirty_levels = nested_calls 29 2
 
 -- a branch into a literal
 abbrev pub into_a_literal : List Segment
@@ -369,8 +369,8 @@ marks_last =
     MKST ∷ NAMC 0 8 ∷ LT8 10 ∷ ENTR ∷ NAMC 2 2 ∷ LT8 9 ∷ INDX ∷ LT8 7 ∷ NAMC 2 3 ∷ STOD ∷ []
 
 -- the array becomes shorter than the copy's index
-abbrev pub shortened : List Segment
-shortened =
+abbrev pub shortened_array : List Segment
+shortened_array =
     segment 2 (marks_last ++ (MKST ∷ NAMC 0 18 ∷ NAMC 2 2 ∷ LOAD ∷ LT8 9 ∷ ENTR ∷ VALC 2 3 ∷ EXIT ∷ [])) ∷ []
 
 -- the array becomes longer; the marked element and the new last one
@@ -431,8 +431,8 @@ shortened_and_back =
     MKST ∷ NAMC 0 9 ∷ VALC 2 3 ∷ ENTR ∷ EXIT ∷ [])) ∷ []
 
 -- one word of level 2, with entries
-abbrev pub one_word : List ℕ → ℕ → List Segment
-one_word entries word = record { level = 2; entries = entries; code = word ∷ [] } ∷ []
+abbrev pub one_word_segment : List ℕ → ℕ → List Segment
+one_word_segment entries word = record { level = 2; entries = entries; code = word ∷ [] } ∷ []
 
 -- the second segment prints 1 from its second operator on, at which the first one enters it, and has these entries
 abbrev pub enters_at_0_1 : List ℕ → List Segment
@@ -441,10 +441,10 @@ enters_at_0_1 entries =
     record { level = 3; entries = entries; code = 0xa3ae4009b1ab ∷ 0xa3ffffffffff ∷ [] } ∷ []
 
 -- so many entries, one at each syllable from the nth on
-abbrev pub entries_from : (n count : ℕ) → List ℕ
-entries_from n zero = []
-entries_from n (suc count) = ((n % 6) * 2 ^ 13 + n / 6) ∷ entries_from (n + 1) count
+abbrev pub counted_entries : (n count : ℕ) → List ℕ
+counted_entries n zero = []
+counted_entries n (suc count) = ((n % 6) * 2 ^ 13 + n / 6) ∷ counted_entries (n + 1) count
 
 -- 258 operators of a syllable each, and these entries
 abbrev pub with_entries : List ℕ → List Segment
-with_entries entries = record { level = 2; entries = entries; code = code_of (map (λ (o : Operator). o 2) (times 257 (NOOP ∷ []) ++ EXIT ∷ [])) } ∷ []
+with_entries entries = record { level = 2; entries = entries; code = code_words (map (λ (o : Operator). o 2) (operators_times 257 (NOOP ∷ []) ++ EXIT ∷ [])) } ∷ []

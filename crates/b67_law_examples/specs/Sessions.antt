@@ -14,37 +14,37 @@ abbrev pub without_rows : List Segment → Program
 without_rows segments = record { segments = segments; rows = [] }
 
 -- one job with the defaults
-abbrev pub alone : List Segment → Session
-alone segments = one_job (without_rows segments) 512 1000000 [] []
+abbrev pub job_alone : List Segment → Session
+job_alone segments = one_job (without_rows segments) 512 1000000 [] []
 
 -- one job with stacks of a size
-abbrev pub with_stack : ℕ → List Segment → Session
-with_stack stack segments = one_job (without_rows segments) stack 1000000 [] []
+abbrev pub job_with_stack : ℕ → List Segment → Session
+job_with_stack stack segments = one_job (without_rows segments) stack 1000000 [] []
 
 -- one job with a limit, and stacks of a size
-abbrev pub with_limit : ℕ → ℕ → List Segment → Session
-with_limit stack limit segments = one_job (without_rows segments) stack limit [] []
+abbrev pub limited_job : ℕ → ℕ → List Segment → Session
+limited_job stack limit segments = one_job (without_rows segments) stack limit [] []
 
 -- a switch at a count to a task of the first job
-abbrev pub switch : ℕ → ℕ → Switch
-switch count task = record { count = count; to = record { job = 1; task = task } }
+abbrev pub switch_to_task : ℕ → ℕ → Switch
+switch_to_task count task = record { count = count; to = record { job = 1; task = task } }
 
 -- lines of the first job's tasks
-abbrev pub value : ℕ → ℤ → RunLine
-value task v = (1, task, Value v)
+abbrev pub line_of_value : ℕ → ℤ → RunLine
+line_of_value task v = (1, task, Value v)
 
 abbrev pub row : ℕ → List ℤ → RunLine
 row task vs = (1, task, Values vs)
 
-abbrev pub ends : ℕ → Ending → RunLine
-ends task ending = (1, task, Ends ending)
+abbrev pub line_of_ending : ℕ → Ending → RunLine
+line_of_ending task ending = (1, task, Ends ending)
 
 abbrev pub faults : ℕ → Fault → RunLine
 faults task fault = (1, task, Ends (Faulted fault))
 
 -- the first two programs as two jobs, with turns of so many operators
-abbrev pub two_jobs : ℕ → Session
-two_jobs quantum =
+abbrev pub session_of_two : ℕ → Session
+session_of_two quantum =
     start (opened 1 (without_rows sum) 512 1000 [] ∷ opened 2 (without_rows not_whole) 512 1000 [] ∷ []) [] quantum
 
 abbrev pub refused_row_program : Program
@@ -91,10 +91,10 @@ abbrev pub most_need : ℕ → Session → ℕ
 most_need n s = most_from n s (next s)
 
 -- the greatest sector sum of the states of the next n steps
-abbrev pub sectors_from : ℕ → Session → Option StepResult → ℕ
-sectors_from zero s m = sectors s.jobs
-sectors_from (suc n) s None = sectors s.jobs
-sectors_from (suc n) s (Some m) = max (sectors s.jobs) (sectors_from n m.session (next m.session))
+abbrev pub most_sectors_from : ℕ → Session → Option StepResult → ℕ
+most_sectors_from zero s m = sectors s.jobs
+most_sectors_from (suc n) s None = sectors s.jobs
+most_sectors_from (suc n) s (Some m) = max (sectors s.jobs) (most_sectors_from n m.session (next m.session))
 
 abbrev pub most_sectors : ℕ → Session → ℕ
-most_sectors n s = sectors_from n s (next s)
+most_sectors n s = most_sectors_from n s (next s)

@@ -4,7 +4,7 @@ ghost use Rattle.std.specs.Prelude.{◌≡◌, [], ◌∷◌, map};
 ghost use Rattle.b67_word.specs.Couples.{couple};
 ghost use Rattle.b67_model.specs.Loader.{refusals, first_of};
 ghost use Rattle.b67_law_examples.specs.Sessions.{branching, first_at, refused_at, rule_of, without_rows};
-ghost use Rattle.b67_law_examples.specs.Programs.{eight, enters_at_0_1, entries_from, exercise, into_a_literal, jensen, leave, names_itself, names_none, one_word, outer_of_level_3, popped_cell, sum, thirty_levels, two, two_tasks, with_entries};
+ghost use Rattle.b67_law_examples.specs.Programs.{eight, enters_at_0_1, counted_entries, exercise_program, into_a_literal, jensen, leave, names_itself, names_none, one_word_segment, outer_of_level_3, popped_cell, sum, thirty_levels, two, two_tasks, with_entries};
 
 /// At level 2 the couple of level 2 and displacement 5 is 1005 in hexadecimal, and that of level 0 and 9 is 9.
 pub fn couple_in_reversed_bits()
@@ -47,7 +47,7 @@ pub fn rows_programs_are_admitted()
     ensures two { refusals (without_rows two) ≡ [] }
     ensures thirty_levels { refusals (without_rows thirty_levels) ≡ [] }
     ensures popped_cell { refusals (without_rows popped_cell) ≡ [] }
-    ensures exercise { refusals (without_rows exercise) ≡ [] }
+    ensures exercise { refusals (without_rows exercise_program) ≡ [] }
 {}
 
 /// A program without segments, or whose first segment isn't of level 2, is refused by rule 10.
@@ -65,15 +65,15 @@ pub fn proc_of_the_own_level_is_refused()
 /// An entry that isn't a start is refused by rule 11 at its place, also if that stands before all that is refused of
 /// the listing, or past the segment.
 pub fn entries_are_starts()
-    ensures before_a_break { first_of (refusals (without_rows (one_word (0x2000 ∷ []) 0x4009c0ffffff))) ≡ first_at 0 1 11 }
-    ensures past_the_segment { first_of (refusals (without_rows (one_word (5 ∷ []) 0x4009b0b1b0a3))) ≡ first_at 5 0 11 }
-    ensures past_a_refusal { first_of (refusals (without_rows (one_word (5 ∷ []) 0x4009b0b1b0b1))) ≡ first_at 0 5 5 }
-    ensures first_of_two { first_of (refusals (without_rows (one_word (0x2000 ∷ 5 ∷ []) 0x4009b0b1b0b1))) ≡ first_at 0 1 11 }
-    ensures of_segment { refusals (without_rows (one_word (5 ∷ []) 0x4009b0b1b0a3)) ≡ refused_at 5 0 11 }
-    ensures at_starts { refusals (without_rows (one_word (0x4000 ∷ 0x6000 ∷ 0x8000 ∷ 0xa000 ∷ []) 0x4009b0b1b0a3)) ≡ [] }
-    ensures at_a_break { first_of (refusals (without_rows (one_word (0x4000 ∷ []) 0x4009c0ffffff))) ≡ first_at 0 2 1 }
-    ensures most { refusals (without_rows (with_entries (entries_from 1 255))) ≡ [] }
-    ensures after_most { first_of (refusals (without_rows (with_entries (entries_from 4 255)))) ≡ first_at 43 0 11 }
+    ensures before_a_break { first_of (refusals (without_rows (one_word_segment (0x2000 ∷ []) 0x4009c0ffffff))) ≡ first_at 0 1 11 }
+    ensures past_the_segment { first_of (refusals (without_rows (one_word_segment (5 ∷ []) 0x4009b0b1b0a3))) ≡ first_at 5 0 11 }
+    ensures past_a_refusal { first_of (refusals (without_rows (one_word_segment (5 ∷ []) 0x4009b0b1b0b1))) ≡ first_at 0 5 5 }
+    ensures first_of_two { first_of (refusals (without_rows (one_word_segment (0x2000 ∷ 5 ∷ []) 0x4009b0b1b0b1))) ≡ first_at 0 1 11 }
+    ensures of_segment { refusals (without_rows (one_word_segment (5 ∷ []) 0x4009b0b1b0a3)) ≡ refused_at 5 0 11 }
+    ensures at_starts { refusals (without_rows (one_word_segment (0x4000 ∷ 0x6000 ∷ 0x8000 ∷ 0xa000 ∷ []) 0x4009b0b1b0a3)) ≡ [] }
+    ensures at_a_break { first_of (refusals (without_rows (one_word_segment (0x4000 ∷ []) 0x4009c0ffffff))) ≡ first_at 0 2 1 }
+    ensures most { refusals (without_rows (with_entries (counted_entries 1 255))) ≡ [] }
+    ensures after_most { first_of (refusals (without_rows (with_entries (counted_entries 4 255)))) ≡ first_at 43 0 11 }
 {}
 
 /// An MPCW makes the PCW of a segment's first place or of one of its entries. Any other place, also a start, is refused

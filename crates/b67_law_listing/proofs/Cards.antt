@@ -21,23 +21,23 @@ use Rattle.b67_model_text.specs.declared.assembly.Named as named
 use Rattle.b67_model_text.specs.declared.assembly.Named.TheVariants as means
 use Rattle.b67_model_text.specs.declared.assembly.Line.{Line}
 use Rattle.b67_model_text.specs.Answers.{Answer}
-use Rattle.b67_model_text.specs.Encoding.{code_of}
-use Rattle.b67_model_text.specs.Asm.{Names, Scope, Added, AddedOperator, Content, is_place, is_first_label, pcw_in, label_in, place_bits, pcw_at, branch_to, denoted, next, syllable_behind, entries_behind, with_added, content_of, meaning, labels, label_at}
+use Rattle.b67_model_text.specs.Encoding.{code_words}
+use Rattle.b67_model_text.specs.Asm.{Names, Scope, Added, AddedOperator, SegmentContent, is_place, is_first_label, pcw_in, label_in, syllable_bits, pcw_at, branch_to, denoted, after_operator, syllable_behind, entries_behind, with_added, content_of, meaning, labels, label_at}
 use Rattle.b67_model_text.proofs.Contents.{same_Ok, mapped, Adds, headed, labels_behind, label_small}
-use Rattle.b67_law_listing.specs.Operators.{AllHaveBits, filled, entries_of}
-use Rattle.b67_law_listing.specs.Listing.{begins_at, HasLabel, Labels, IsLabelled, IsListed, StandsAt, GoesTo, IsFilled, AreFilled, Reads, AreRead}
+use Rattle.b67_law_listing.specs.Operators.{AllHaveBits, filled, listed_entries}
+use Rattle.b67_law_listing.specs.Listing.{begins_at, HasLabel, Labels, IsLabelled, IsListed, LabelStandsAt, GoesTo, IsFilled, AreFilled, Reads, AreRead}
 use Rattle.b67_law_listing.proofs.Laying.{listing_is}
 use Rattle.b67_law_listing.proofs.Denoting.{AreSmall, pcw_small, at_label, denoted_bits}
 use Rattle.b67_law_listing.proofs.Entries.{are_entered}
 
-operators_bits : (x : Scope) (n : ℕ) (entries : List ℕ) (lines : List Line) (content : Content) → AreSmall x.names → content_of x n entries lines ≡ Ok content → AllHaveBits content.operators
-operators_bits x n entries [] content small e = subst (λ (c : Content). AllHaveBits c.operators) (same_Ok _ content e) tt
+operators_bits : (x : Scope) (n : ℕ) (entries : List ℕ) (lines : List Line) (content : SegmentContent) → AreSmall x.names → content_of x n entries lines ≡ Ok content → AllHaveBits content.operators
+operators_bits x n entries [] content small e = subst (λ (c : SegmentContent). AllHaveBits c.operators) (same_Ok _ content e) tt
 operators_bits x n entries (l ∷ more) content small e =
     let h = headed x n entries l more content e in
-    subst (λ (c : Content). AllHaveBits c.operators) h.all
+    subst (λ (c : SegmentContent). AllHaveBits c.operators) h.all
     (by h.added h.rest h.adds (operators_bits x (syllable_behind n h.added) (entries_behind entries h.added) more h.rest small h.behind_it))
   where
-    by : (added : Added) (rest : Content) → Adds x n entries l added → AllHaveBits rest.operators → AllHaveBits (with_added added rest).operators
+    by : (added : Added) (rest : SegmentContent) → Adds x n entries l added → AllHaveBits rest.operators → AllHaveBits (with_added added rest).operators
     by added rest (inl a) h = subst (λ (z : Added). AllHaveBits (with_added z rest).operators) a.is (denoted_bits x a.own a.op small a.taken.in_range a.taken.denotes, h)
     by added rest (inr a) h = subst (λ (z : Added). AllHaveBits (with_added z rest).operators) a.is h
 
@@ -52,7 +52,7 @@ stands_there : (n : ℕ) (o : Option ℕ) → is_place n o ≡ true → option_m
 stands_there n None e = absurd (let z : ⊥ = cc in z)
 stands_there n (Some m) e = ap (λ k. Some (place_at k)) (eqb-true m n e)
 
-stands_at : (labels : List ℕ → Option ℕ) (n : ℕ) (label : Option (List ℕ)) → is_first_label labels n label ≡ true → StandsAt labels label (place_at n)
+stands_at : (labels : List ℕ → Option ℕ) (n : ℕ) (label : Option (List ℕ)) → is_first_label labels n label ≡ true → LabelStandsAt labels label (place_at n)
 stands_at labels n None e = tt
 stands_at labels n (Some text) e = stands_there n (labels text) e
 
@@ -74,10 +74,10 @@ place_is a b w s = λ i. record { word = w i; syllable = s i }
 first_place : (bits : ℕ) → bits < 2 ^ 19 → place_of_bits (bits / 2 ^ 20) ≡ origin
 first_place bits low = place_is (place_of_bits (bits / 2 ^ 20)) origin (omega (arith, low)) (omega (arith, low))
 
-label_place : (own n bits : ℕ) → own < 2 ^ 19 → n ≤ 6 * 8191 → own + place_bits n * 2 ^ 20 ≡ bits → place_of_bits (bits / 2 ^ 20) ≡ place_at n
+label_place : (own n bits : ℕ) → own < 2 ^ 19 → n ≤ 6 * 8191 → own + syllable_bits n * 2 ^ 20 ≡ bits → place_of_bits (bits / 2 ^ 20) ≡ place_at n
 label_place own n bits low few is =
     let same : min n (6 * 8191) ≡ n = omega (arith, few) in
-    let place : place_bits n ≡ n % 6 * 2 ^ 13 + n / 6 = ap (λ (k : ℕ). k % 6 * 2 ^ 13 + k / 6) same in
+    let place : syllable_bits n ≡ n % 6 * 2 ^ 13 + n / 6 = ap (λ (k : ℕ). k % 6 * 2 ^ 13 + k / 6) same in
     let bits_is : bits / 2 ^ 20 ≡ n % 6 * 2 ^ 13 + n / 6 = omega (arith, low, is, place) in
     place_is (place_of_bits (bits / 2 ^ 20)) (place_at n) (omega (arith, bits_is, few)) (omega (arith, bits_is, few))
 
@@ -105,31 +105,31 @@ goes_to x (PcwAt segment label) op small all own e =
     ap begins_at (sym m.2) ∙ ap Some (label_place at.own at.syllable m.0 low few at.is) ∙ ap (option_map place_at) (sym at.label_is)
 
 -- NVLD up to a whole word
-filling_each : (k n : ℕ) → AllByRecursion IsFilled (entries_of n (replicate k (Plain Nvld)))
+filling_each : (k n : ℕ) → AllByRecursion IsFilled (listed_entries n (replicate k (Plain Nvld)))
 filling_each zero n = tt
-filling_each (suc k) n = (refl, filling_each k (next n (Plain Nvld)))
+filling_each (suc k) n = (refl, filling_each k (after_operator n (Plain Nvld)))
 
-filling_few : (k n : ℕ) → length (entries_of n (replicate k (Plain Nvld))) ≡ k
+filling_few : (k n : ℕ) → length (listed_entries n (replicate k (Plain Nvld))) ≡ k
 filling_few zero n = refl
-filling_few (suc k) n = omega (arith, filling_few k (next n (Plain Nvld)))
+filling_few (suc k) n = omega (arith, filling_few k (after_operator n (Plain Nvld)))
 
-filling_is : (n : ℕ) → AreFilled (entries_of n (replicate ((6 - n % 6) % 6) (Plain Nvld)))
+filling_is : (n : ℕ) → AreFilled (listed_entries n (replicate ((6 - n % 6) % 6) (Plain Nvld)))
 filling_is n = record { few = omega (arith, filling_few ((6 - n % 6) % 6) n); each = filling_each ((6 - n % 6) % 6) n }
 
 -- the listing of a content's operators from syllable n on
-abbrev listed : ℕ → Content → List Entry
-listed n content = entries_of n (filled n content.operators)
+abbrev listed : ℕ → SegmentContent → List Entry
+listed n content = listed_entries n (filled n content.operators)
 
-are_read : (x : Scope) (n : ℕ) (entries : List ℕ) (lines : List Line) (content : Content) → AreSmall x.names → AllLabelsAreSmall x.names → LabelsAreSmall x.labels → content_of x n entries lines ≡ Ok content → AreRead x lines (listed n content)
-are_read x n entries [] content small all own e = subst (λ (c : Content). AreRead x [] (listed n c)) (same_Ok _ content e) (filling_is n)
+are_read : (x : Scope) (n : ℕ) (entries : List ℕ) (lines : List Line) (content : SegmentContent) → AreSmall x.names → AllLabelsAreSmall x.names → LabelsAreSmall x.labels → content_of x n entries lines ≡ Ok content → AreRead x lines (listed n content)
+are_read x n entries [] content small all own e = subst (λ (c : SegmentContent). AreRead x [] (listed n c)) (same_Ok _ content e) (filling_is n)
 are_read x n entries (l ∷ more) content small all own e =
     let h = headed x n entries l more content e in
-    subst (λ (c : Content). AreRead x (l ∷ more) (listed n c)) h.all
+    subst (λ (c : SegmentContent). AreRead x (l ∷ more) (listed n c)) h.all
     (by h.added h.rest h.adds (are_read x (syllable_behind n h.added) (entries_behind entries h.added) more h.rest small all own h.behind_it))
   where
-    by : (added : Added) (rest : Content) → Adds x n entries l added → AreRead x more (listed (syllable_behind n added) rest) → AreRead x (l ∷ more) (listed n (with_added added rest))
+    by : (added : Added) (rest : SegmentContent) → Adds x n entries l added → AreRead x more (listed (syllable_behind n added) rest) → AreRead x (l ∷ more) (listed n (with_added added rest))
     by added rest (inl a) h =
-        let there : AreRead x more (listed (next n a.op) rest) = subst (λ (z : Added). AreRead x more (listed (syllable_behind n z) rest)) (sym a.is) h in
+        let there : AreRead x more (listed (after_operator n a.op) rest) = subst (λ (z : Added). AreRead x more (listed (syllable_behind n z) rest)) (sym a.is) h in
         subst (λ (z : Added). Reads x l l.says (listed n (with_added z rest)) (AreRead x more)) a.is
         (subst (λ (s : Answer statement.Statement). Reads x l s (listed n (with_added (AddedOperator a.op) rest)) (AreRead x more)) (sym a.says) (
           record {
@@ -149,11 +149,11 @@ are_read x n entries (l ∷ more) content small all own e =
         (subst (λ (s : Answer statement.Statement). Reads x l s (listed n rest) (AreRead x more)) (sym a.says) there)
 
 -- a label that means a place stands on a card that is read there
-labelled : (x : Scope) (n : ℕ) (entries : List ℕ) (lines : List Line) (content : Content) (q : List ℕ) (m : ℕ) → content_of x n entries lines ≡ Ok content → meaning (labels n lines) q ≡ Some m → IsLabelled q (place_at m) lines (listed n content)
+labelled : (x : Scope) (n : ℕ) (entries : List ℕ) (lines : List Line) (content : SegmentContent) (q : List ℕ) (m : ℕ) → content_of x n entries lines ≡ Ok content → meaning (labels n lines) q ≡ Some m → IsLabelled q (place_at m) lines (listed n content)
 labelled x n entries [] content q m e is = absurd (none-some m is)
 labelled x n entries (l ∷ more) content q m e is =
     let h = headed x n entries l more content e in
-    subst (λ (c : Content). IsLabelled q (place_at m) (l ∷ more) (listed n c)) h.all
+    subst (λ (c : SegmentContent). IsLabelled q (place_at m) (l ∷ more) (listed n c)) h.all
     (by h.added h.rest h.adds (λ there. labelled x (syllable_behind n h.added) (entries_behind entries h.added) more h.rest q m h.behind_it there)
     (subst (λ (rows : List (List ℕ × ℕ)). meaning rows q ≡ Some m) (labels_behind x n entries l more h.added h.adds) is))
   where
@@ -167,17 +167,17 @@ labelled x n entries (l ∷ more) content q m e is =
     by_label rows rest own None says go e = inr (go e)
     by_label rows rest own (Some text) says go e = by_test rows rest own text says go (bytes_eq q text) refl e
 
-    by : (added : Added) (rest : Content) → Adds x n entries l added → (meaning (labels (syllable_behind n added) more) q ≡ Some m → IsLabelled q (place_at m) more (listed (syllable_behind n added) rest))
+    by : (added : Added) (rest : SegmentContent) → Adds x n entries l added → (meaning (labels (syllable_behind n added) more) q ≡ Some m → IsLabelled q (place_at m) more (listed (syllable_behind n added) rest))
         → meaning (cons_option (label_at n l.says) (labels (syllable_behind n added) more)) q ≡ Some m → IsLabelled q (place_at m) (l ∷ more) (listed n (with_added added rest))
     by added rest (inl a) go is =
-        let go' : meaning (labels (next n a.op) more) q ≡ Some m → IsLabelled q (place_at m) more (listed (next n a.op) rest) =
+        let go' : meaning (labels (after_operator n a.op) more) q ≡ Some m → IsLabelled q (place_at m) more (listed (after_operator n a.op) rest) =
         subst (λ (z : Added). meaning (labels (syllable_behind n z) more) q ≡ Some m → IsLabelled q (place_at m) more (listed (syllable_behind n z) rest)) (sym a.is) go in
-        let is' : meaning (cons_option (option_map (λ text. (text, n)) a.label) (labels (next n a.op) more)) q ≡ Some m =
-        subst (λ (s : Answer statement.Statement). meaning (cons_option (label_at n s) (labels (next n a.op) more)) q ≡ Some m) a.says
+        let is' : meaning (cons_option (option_map (λ text. (text, n)) a.label) (labels (after_operator n a.op) more)) q ≡ Some m =
+        subst (λ (s : Answer statement.Statement). meaning (cons_option (label_at n s) (labels (after_operator n a.op) more)) q ≡ Some m) a.says
         (subst (λ (z : Added). meaning (cons_option (label_at n l.says) (labels (syllable_behind n z) more)) q ≡ Some m) (sym a.is) is) in
         subst (λ (z : Added). Labels q (place_at m) l l.says (listed n (with_added z rest)) (IsLabelled q (place_at m) more)) a.is
         (subst (λ (s : Answer statement.Statement). Labels q (place_at m) l s (listed n (with_added (AddedOperator a.op) rest)) (IsLabelled q (place_at m) more)) (sym a.says)
-        (by_label (labels (next n a.op) more) (listed (next n a.op) rest) a.own a.label a.says go' is'))
+        (by_label (labels (after_operator n a.op) more) (listed (after_operator n a.op) rest) a.own a.label a.says go' is'))
     by added rest (inr a) go is =
         let go' : meaning (labels n more) q ≡ Some m → IsLabelled q (place_at m) more (listed n rest) =
         subst (λ (z : Added). meaning (labels (syllable_behind n z) more) q ≡ Some m → IsLabelled q (place_at m) more (listed (syllable_behind n z) rest)) (sym a.is) go in
@@ -188,12 +188,12 @@ labelled x n entries (l ∷ more) content q m e is =
         (subst (λ (s : Answer statement.Statement). Labels q (place_at m) l s (listed n rest) (IsLabelled q (place_at m) more)) (sym a.says) (go' is'))
 
 -- a segment's cards
-pub segment_read : (x : Scope) (lines : List Line) (content : Content) → AreSmall x.names → AllLabelsAreSmall x.names → x.labels ≡ (λ label. meaning (labels 0 lines) label) → content_of x 0 [] lines ≡ Ok content
-    → IsListed x lines (record { level = x.level; entries = map place_bits content.entries; code = code_of content.operators })
+pub segment_read : (x : Scope) (lines : List Line) (content : SegmentContent) → AreSmall x.names → AllLabelsAreSmall x.names → x.labels ≡ (λ label. meaning (labels 0 lines) label) → content_of x 0 [] lines ≡ Ok content
+    → IsListed x lines (record { level = x.level; entries = map syllable_bits content.entries; code = code_words content.operators })
 segment_read x lines content small all same e =
     let known : (q : List ℕ) (m : ℕ) → x.labels q ≡ Some m → meaning (labels 0 lines) q ≡ Some m = λ q m is. sym (ap (λ (f : List ℕ → Option ℕ). f q) same) ∙ is in
     let own : LabelsAreSmall x.labels = λ q m is. label_small x 0 [] lines content q m e (known q m is) in
-    let code : listing (code_of content.operators) ≡ listed 0 content = listing_is content.operators (operators_bits x 0 [] lines content small e) in
+    let code : listing (code_words content.operators) ≡ listed 0 content = listing_is content.operators (operators_bits x 0 [] lines content small e) in
     record {
       read = subst (AreRead x lines) (sym code) (are_read x 0 [] lines content small all own e);
       labelled = λ q m is. subst (IsLabelled q (place_at m) lines) (sym code) (labelled x 0 [] lines content q m e (known q m is));

@@ -17,7 +17,7 @@ use Rattle.b67_model_text.specs.declared.assembly.Sketch as sketch
 use Rattle.b67_model_text.specs.declared.assembly.Sketch.TheVariants.{Whole, OutOfRange, Couple as Coupled, Row as RowCoupled, Jump, Pcw, PcwAt}
 use Rattle.b67_model_text.specs.declared.assembly.Named as named
 use Rattle.b67_model_text.specs.declared.assembly.Named.TheVariants as means
-use Rattle.b67_model_text.specs.Asm.{Names, Scope, is_in_range, pcw_in, label_in, place_bits, pcw_at, row_in, called, branch_to, denoted}
+use Rattle.b67_model_text.specs.Asm.{Names, Scope, is_in_range, pcw_in, label_in, syllable_bits, pcw_at, row_in, call_operator, branch_to, denoted}
 use Rattle.b67_model_text.proofs.Contents.{mapped}
 use Rattle.b67_law_listing.specs.Operators.{HasBits}
 
@@ -78,14 +78,14 @@ pub record AtLabel (base : Option ℕ) (label : Option ℕ) (bits : ℕ) : Type 
   pub base_is : base ≡ Some own
   pub syllable : ℕ
   pub label_is : label ≡ Some syllable
-  pub is : own + place_bits syllable * 2 ^ 20 ≡ bits
+  pub is : own + syllable_bits syllable * 2 ^ 20 ≡ bits
 
 pub at_label : (base label : Option ℕ) (bits : ℕ) → pcw_at base label ≡ Some bits → AtLabel base label bits
 at_label None label bits e = absurd (none-some bits e)
 at_label (Some own) None bits e = absurd (none-some bits e)
-at_label (Some own) (Some n) bits e = record { own = own; base_is = refl; syllable = n; label_is = refl; is = same_Some (own + place_bits n * 2 ^ 20) bits e }
+at_label (Some own) (Some n) bits e = record { own = own; base_is = refl; syllable = n; label_is = refl; is = same_Some (own + syllable_bits n * 2 ^ 20) bits e }
 
-called_bits : (c : call.Call) (bits : ℕ) → bits < 2 ^ 14 → HasBits (called c bits)
+called_bits : (c : call.Call) (bits : ℕ) → bits < 2 ^ 14 → HasBits (call_operator c bits)
 called_bits calls.Value bits h = lt-ltb bits (2 ^ 14) h
 called_bits calls.Name bits h = lt-ltb bits (2 ^ 14) h
 
@@ -101,12 +101,12 @@ pub denoted_bits : (x : Scope) (s : sketch.Sketch) (op : Op) → AreSmall x.name
 denoted_bits x (Whole own) op small h e = subst HasBits (same_Some own op e) h
 denoted_bits x OutOfRange op small h e = absurd (none-some op e)
 denoted_bits x (Coupled c couple) op small h e =
-    let m = mapped (called c) (option_and_then (couple_bits (min x.level 31)) couple) op e in
+    let m = mapped (call_operator c) (option_and_then (couple_bits (min x.level 31)) couple) op e in
     let k = chained (couple_bits (min x.level 31)) couple m.0 m.1 in
     subst HasBits m.2 (called_bits c m.0 (couple_small (min x.level 31) k.0 m.0 k.2))
 denoted_bits x (RowCoupled c row) op small h e =
     let f : ℕ → Option ℕ = λ number. couple_bits (min x.level 31) (record { level = 1; disp = x.segments + number + 2 }) in
-    let m = mapped (called c) (option_and_then f (row_in (x.names.means row))) op e in
+    let m = mapped (call_operator c) (option_and_then f (row_in (x.names.means row))) op e in
     let k = chained f (row_in (x.names.means row)) m.0 m.1 in
     subst HasBits m.2 (called_bits c m.0 (couple_small (min x.level 31) (record { level = 1; disp = x.segments + k.0 + 2 }) m.0 k.2))
 denoted_bits x (Jump b label) op small h e =
@@ -122,5 +122,5 @@ denoted_bits x (PcwAt segment label) op small h e =
     let low = pcw_small (x.names.means segment) at.own (small segment) at.base_is in
     subst HasBits m.2 (lt-ltb m.0 (2 ^ 48) (with_place at.own at.syllable m.0 low at.is))
   where
-    with_place : (own n bits : ℕ) → own < 2 ^ 19 → own + place_bits n * 2 ^ 20 ≡ bits → bits < 2 ^ 48
+    with_place : (own n bits : ℕ) → own < 2 ^ 19 → own + syllable_bits n * 2 ^ 20 ≡ bits → bits < 2 ^ 48
     with_place own n bits low is = omega (arith, low, is)

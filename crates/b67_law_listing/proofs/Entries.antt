@@ -11,27 +11,27 @@ use Rattle.b67_model_text.specs.declared.assembly.Line.{Line}
 use Rattle.b67_model_text.specs.declared.assembly.Sketch as sketch
 use Rattle.b67_model_text.specs.Answers.{Answer}
 use Rattle.b67_model_text.specs.declared.assembly.Statement as statement
-use Rattle.b67_model_text.specs.Asm.{Scope, Added, Content, place_bits, syllable_behind, in_order, entries_behind, with_added, content_of}
+use Rattle.b67_model_text.specs.Asm.{Scope, Added, SegmentContent, syllable_bits, syllable_behind, inserted_in_order, entries_behind, with_added, content_of}
 use Rattle.b67_model_text.proofs.Contents.{same_Ok, Adds, headed}
-use Rattle.b67_law_listing.specs.Listing.{IsEntered, Rise, AreEntered}
+use Rattle.b67_law_listing.specs.Listing.{IsEntryLabel, Rise, AreEntered}
 
 -- ---- a number among numbers in order
 
-order_has : (n m : ℕ) (xs : List ℕ) → Has xs m → Has (in_order n xs) m
+order_has : (n m : ℕ) (xs : List ℕ) → Has xs m → Has (inserted_in_order n xs) m
 order_has n m [] h = absurd h
 order_has n m (x ∷ xs) h = elim (cases_lt n x) [
   | inl lt ↦ rw (lt-ltb n x lt) (inr h)
   | inr le ↦ rw (le-ltb n x le) (elim h [ inl e ↦ inl e | inr k ↦ inr (order_has n m xs k) ])
 ]
 
-order_new : (n : ℕ) (xs : List ℕ) → Has (in_order n xs) n
+order_new : (n : ℕ) (xs : List ℕ) → Has (inserted_in_order n xs) n
 order_new n [] = inl refl
 order_new n (x ∷ xs) = elim (cases_lt n x) [
   | inl lt ↦ rw (lt-ltb n x lt) (inl refl)
   | inr le ↦ rw (le-ltb n x le) (inr (order_new n xs))
 ]
 
-order_only : (n m : ℕ) (xs : List ℕ) → Has (in_order n xs) m → (n ≡ m) ⊎ Has xs m
+order_only : (n m : ℕ) (xs : List ℕ) → Has (inserted_in_order n xs) m → (n ≡ m) ⊎ Has xs m
 order_only n m [] h = h
 order_only n m (x ∷ xs) h = elim (cases_lt n x) [
   | inl lt ↦ first (rw (lt-ltb n x lt) at h)
@@ -41,7 +41,7 @@ order_only n m (x ∷ xs) h = elim (cases_lt n x) [
     first : Has (n ∷ x ∷ xs) m → (n ≡ m) ⊎ Has (x ∷ xs) m
     first h = h
 
-    later : (Has (in_order n xs) m → (n ≡ m) ⊎ Has xs m) → Has (x ∷ in_order n xs) m → (n ≡ m) ⊎ Has (x ∷ xs) m
+    later : (Has (inserted_in_order n xs) m → (n ≡ m) ⊎ Has xs m) → Has (x ∷ inserted_in_order n xs) m → (n ≡ m) ⊎ Has (x ∷ xs) m
     later more (inl e) = inr (inl e)
     later more (inr k) = elim (more k) [ inl e ↦ inl e | inr r ↦ inr (inr r) ]
 
@@ -49,7 +49,7 @@ all_later : (n m : ℕ) (xs : List ℕ) → n < m → AllByRecursion (λ (k : �
 all_later n m [] lt h = tt
 all_later n m (x ∷ xs) lt h = (omega (arith, lt, h.0), all_later n m xs lt h.1)
 
-order_above : (low n : ℕ) (xs : List ℕ) → low < n → AllByRecursion (λ (k : ℕ). low < k) xs → AllByRecursion (λ (k : ℕ). low < k) (in_order n xs)
+order_above : (low n : ℕ) (xs : List ℕ) → low < n → AllByRecursion (λ (k : ℕ). low < k) xs → AllByRecursion (λ (k : ℕ). low < k) (inserted_in_order n xs)
 order_above low n [] lt h = (lt, tt)
 order_above low n (x ∷ xs) lt h = elim (cases_lt n x) [
   | inl less ↦ rw (lt-ltb n x less) (lt, h)
@@ -57,7 +57,7 @@ order_above low n (x ∷ xs) lt h = elim (cases_lt n x) [
 ]
 
 -- a number that isn't there yet
-order_rises : (n : ℕ) (xs : List ℕ) → list_any (λ m. eqb m n) xs ≡ false → Rise xs → Rise (in_order n xs)
+order_rises : (n : ℕ) (xs : List ℕ) → list_any (λ m. eqb m n) xs ≡ false → Rise xs → Rise (inserted_in_order n xs)
 order_rises n [] fresh h = (tt, tt)
 order_rises n (x ∷ xs) fresh h = elim (eqb_tells x n) [
   | inl t ↦ absurd (no (rw t.0 at fresh))
@@ -79,10 +79,10 @@ order_rises n (x ∷ xs) fresh h = elim (eqb_tells x n) [
 record Enters (x : Scope) (before : List ℕ) (lines : List Line) (after : List ℕ) : Type 0 where
   rise : Rise after
   kept : (n : ℕ) → Has before n → Has after n
-  named : (label : List ℕ) → IsEntered label lines → (n : ℕ) × (x.labels label ≡ Some n) × Has after n
-  only : (n : ℕ) → Has after n → Has before n ⊎ ((label : List ℕ) × IsEntered label lines × (x.labels label ≡ Some n))
+  named : (label : List ℕ) → IsEntryLabel label lines → (n : ℕ) × (x.labels label ≡ Some n) × Has after n
+  only : (n : ℕ) → Has after n → Has before n ⊎ ((label : List ℕ) × IsEntryLabel label lines × (x.labels label ≡ Some n))
 
-further : (label : List ℕ) (l : Line) (lines : List Line) → IsEntered label lines → IsEntered label (l ∷ lines)
+further : (label : List ℕ) (l : Line) (lines : List Line) → IsEntryLabel label lines → IsEntryLabel label (l ∷ lines)
 further label l lines h = record { card = h.card; among = inr h.among; says = h.says }
 
 same_entry : (a b : List ℕ) → ◌≡◌ {A = Answer statement.Statement} (Ok (statements.Entry a)) (Ok (statements.Entry b)) → a ≡ b
@@ -91,16 +91,16 @@ same_entry a b e = cc
 no_entry : (l : Line) (label : List ℕ) (text : Option (List ℕ)) (own : sketch.Sketch) → l.says ≡ Ok (statements.Operator text own) → l.says ≡ Ok (statements.Entry label) → ⊥
 no_entry l label text own e f = let g : ◌≡◌ {A = Answer statement.Statement} (Ok (statements.Operator text own)) (Ok (statements.Entry label)) = sym e ∙ f in cc
 
-enters : (x : Scope) (n : ℕ) (before : List ℕ) (lines : List Line) (content : Content) → Rise before → content_of x n before lines ≡ Ok content → Enters x before lines content.entries
+enters : (x : Scope) (n : ℕ) (before : List ℕ) (lines : List Line) (content : SegmentContent) → Rise before → content_of x n before lines ≡ Ok content → Enters x before lines content.entries
 enters x n before [] content rise e =
-    subst (λ (c : Content). Enters x before [] c.entries) (same_Ok _ content e)
+    subst (λ (c : SegmentContent). Enters x before [] c.entries) (same_Ok _ content e)
     (record { rise = rise; kept = λ n h. h; named = λ label h. absurd h.among; only = λ n h. inl h })
 enters x n before (l ∷ more) content rise e =
     let h = headed x n before l more content e in
-    subst (λ (c : Content). Enters x before (l ∷ more) c.entries) h.all
+    subst (λ (c : SegmentContent). Enters x before (l ∷ more) c.entries) h.all
     (by h.added h.rest h.adds (λ rising. enters x (syllable_behind n h.added) (entries_behind before h.added) more h.rest rising h.behind_it))
   where
-    by : (added : Added) (rest : Content) → Adds x n before l added → (Rise (entries_behind before added) → Enters x (entries_behind before added) more rest.entries) → Enters x before (l ∷ more) (with_added added rest).entries
+    by : (added : Added) (rest : SegmentContent) → Adds x n before l added → (Rise (entries_behind before added) → Enters x (entries_behind before added) more rest.entries) → Enters x before (l ∷ more) (with_added added rest).entries
     by added rest (inl a) go =
         let r : Enters x before more rest.entries = subst (λ (z : Added). Rise (entries_behind before z) → Enters x (entries_behind before z) more rest.entries) (sym a.is) go rise in
         subst (λ (z : Added). Enters x before (l ∷ more) (with_added z rest).entries) a.is (record {
@@ -113,7 +113,7 @@ enters x n before (l ∷ more) content rise e =
           only = λ n h. elim (r.only n h) [ inl b ↦ inl b | inr k ↦ inr (k.0, further k.0 l more k.1, k.2) ];
         })
     by added rest (inr a) go =
-        let r : Enters x (in_order a.syllable before) more rest.entries = subst (λ (z : Added). Rise (entries_behind before z) → Enters x (entries_behind before z) more rest.entries) (sym a.is) go (order_rises a.syllable before a.fresh rise) in
+        let r : Enters x (inserted_in_order a.syllable before) more rest.entries = subst (λ (z : Added). Rise (entries_behind before z) → Enters x (entries_behind before z) more rest.entries) (sym a.is) go (order_rises a.syllable before a.fresh rise) in
         subst (λ (z : Added). Enters x before (l ∷ more) (with_added z rest).entries) a.is (record {
           rise = r.rise;
           kept = λ n h. r.kept n (order_has a.syllable n before h);
@@ -133,23 +133,23 @@ enters x n before (l ∷ more) content rise e =
         })
 
 -- a place's 16 bits
-place_back : (n : ℕ) → n ≤ 6 * 8191 → place_of_bits (place_bits n) ≡ place_at n
+place_back : (n : ℕ) → n ≤ 6 * 8191 → place_of_bits (syllable_bits n) ≡ place_at n
 place_back n few =
     let same : min n (6 * 8191) ≡ n = omega (arith, few) in
-    let place : place_bits n ≡ n % 6 * 2 ^ 13 + n / 6 = ap (λ (k : ℕ). k % 6 * 2 ^ 13 + k / 6) same in
-    let word : place_bits n % 2 ^ 13 ≡ n / 6 = omega (arith, place, few) in
-    let syllable : place_bits n / 2 ^ 13 ≡ n % 6 = omega (arith, place, few) in
+    let place : syllable_bits n ≡ n % 6 * 2 ^ 13 + n / 6 = ap (λ (k : ℕ). k % 6 * 2 ^ 13 + k / 6) same in
+    let word : syllable_bits n % 2 ^ 13 ≡ n / 6 = omega (arith, place, few) in
+    let syllable : syllable_bits n / 2 ^ 13 ≡ n % 6 = omega (arith, place, few) in
     λ i. record { word = word i; syllable = syllable i }
 
-places_back : (ns : List ℕ) → ((n : ℕ) → Has ns n → n ≤ 6 * 8191) → map place_of_bits (map place_bits ns) ≡ map place_at ns
+places_back : (ns : List ℕ) → ((n : ℕ) → Has ns n → n ≤ 6 * 8191) → map place_of_bits (map syllable_bits ns) ≡ map place_at ns
 places_back [] few = refl
 places_back (n ∷ ns) few =
-    ap (λ (p : Place). p ∷ map place_of_bits (map place_bits ns)) (place_back n (few n (inl refl))) ∙ ap (λ (ps : List Place). place_at n ∷ ps) (places_back ns (λ m h. few m (inr h)))
+    ap (λ (p : Place). p ∷ map place_of_bits (map syllable_bits ns)) (place_back n (few n (inl refl))) ∙ ap (λ (ps : List Place). place_at n ∷ ps) (places_back ns (λ m h. few m (inr h)))
 
-pub are_entered : (x : Scope) (lines : List Line) (content : Content) → ((q : List ℕ) (m : ℕ) → x.labels q ≡ Some m → m ≤ 6 * 8191) → content_of x 0 [] lines ≡ Ok content → AreEntered x.labels lines (map place_bits content.entries)
+pub are_entered : (x : Scope) (lines : List Line) (content : SegmentContent) → ((q : List ℕ) (m : ℕ) → x.labels q ≡ Some m → m ≤ 6 * 8191) → content_of x 0 [] lines ≡ Ok content → AreEntered x.labels lines (map syllable_bits content.entries)
 are_entered x lines content small e =
     let r = enters x 0 [] lines content tt e in
-    let only : (n : ℕ) → Has content.entries n → (label : List ℕ) × IsEntered label lines × (x.labels label ≡ Some n) = λ n h. elim (r.only n h) [ inl b ↦ absurd b | inr k ↦ k ] in
+    let only : (n : ℕ) → Has content.entries n → (label : List ℕ) × IsEntryLabel label lines × (x.labels label ≡ Some n) = λ n h. elim (r.only n h) [ inl b ↦ absurd b | inr k ↦ k ] in
     record {
       syllables = content.entries;
       places = places_back content.entries (λ n h. let k = only n h in small k.0 n k.2);

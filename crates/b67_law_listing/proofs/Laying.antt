@@ -10,9 +10,9 @@ use Rattle.b67_model.specs.declared.operators.Code.{Code}
 use Rattle.b67_model.specs.declared.operators.Code.TheVariants.{Add, Nvld}
 use Rattle.b67_model.specs.declared.operators.Undecodable.TheVariants.{BadPlace}
 use Rattle.b67_model.specs.Common.{Reading, syllable, place_at, count_at, operator_at, syllable_of, syllables, literal, after_literal, syllable_after, IsLaid, At, entries_from, listing}
-use Rattle.b67_model_text.specs.Encoding.{filling, six_syllables, literal_part, laid_one, laid, packed, code_of}
+use Rattle.b67_model_text.specs.Encoding.{filling, six_syllables, literal_part, laid_one, laid, packed_words, code_words}
 use Rattle.b67_syllable.proofs.EncodingLemmas.{reads_back}
-use Rattle.b67_law_listing.specs.Operators.{HasBits, AllHaveBits, filled, entries_of}
+use Rattle.b67_law_listing.specs.Operators.{HasBits, AllHaveBits, filled, listed_entries}
 use Rattle.b67_law_listing.proofs.Packing.{Bytes, IsByte, syllable_is, packed_length, literal_is}
 
 -- bytes
@@ -105,14 +105,14 @@ some_syllable s (Some bits) n h = omega (arith, h.0, length-append s (literal_pa
 -- syllables and a literal stand where they are laid
 pub record Whole (t : List ℕ) : Type 0 where
   pub bytes : Bytes t
-  pub words : 6 * length (packed t) ≡ length t
+  pub words : 6 * length (packed_words t) ≡ length t
 
 lengths : (t before s l after : List ℕ) → t ≡ before ++ ((s ++ l) ++ after) → length t ≡ length before + (length s + length l + length after)
 lengths t before s l after is = ap length is ∙ omega (arith, length-append before ((s ++ l) ++ after), length-append (s ++ l) after, length-append s l)
 
-each_there : (t before s l after : List ℕ) (n k : ℕ) → Whole t → n ≡ length before → t ≡ before ++ ((s ++ l) ++ after) → k < length s → syllable (packed t) (n + k) ≡ slice_index s k
+each_there : (t before s l after : List ℕ) (n k : ℕ) → Whole t → n ≡ length before → t ≡ before ++ ((s ++ l) ++ after) → k < length s → syllable (packed_words t) (n + k) ≡ slice_index s k
 each_there t before s l after n k w at is lt =
-    let inside : n + k < 6 * length (packed t) = omega (arith, w.words, lengths t before s l after is) in
+    let inside : n + k < 6 * length (packed_words t) = omega (arith, w.words, lengths t before s l after is) in
     let within : k < length (s ++ l) = omega (arith, length-append s l) in
     syllable_is t (n + k) w.bytes inside ∙ ap (λ m. get_or t (m + k) 0) at ∙ ap (λ xs. get_or xs (length before + k) 0) is ∙
     get_or-append-add before ((s ++ l) ++ after) k 0 ∙ get_or_append_left (s ++ l) after 0 k within ∙ get_or_append_left s l 0 k lt
@@ -121,14 +121,14 @@ together : (before s f six after : List ℕ) → before ++ ((s ++ (f ++ six)) ++
 together before s f six after =
     ap (λ xs. before ++ (xs ++ after)) (sym (append_assoc s f six)) ∙ ap (λ xs. before ++ xs) (append_assoc (s ++ f) six after) ∙ sym (append_assoc before (s ++ f) (six ++ after))
 
-literal_there : (t before s after : List ℕ) (l : Option ℕ) (n : ℕ) → n ≡ length before → Fits l (length s) → t ≡ before ++ ((s ++ literal_part l (n + length s)) ++ after) → IfSome l (λ bits. slice_get (packed t) (n / 6 + 1) ≡ Some bits)
+literal_there : (t before s after : List ℕ) (l : Option ℕ) (n : ℕ) → n ≡ length before → Fits l (length s) → t ≡ before ++ ((s ++ literal_part l (n + length s)) ++ after) → IfSome l (λ bits. slice_get (packed_words t) (n / 6 + 1) ≡ Some bits)
 literal_there t before s after None n at h is = tt
 literal_there t before s after (Some bits) n at h is =
     let f : List ℕ = filling (n + length s) in
     let count : length (before ++ (s ++ f)) ≡ 6 * (n / 6 + 1) = omega (arith, at, h.0, length-append before (s ++ f), length-append s f, filling_length (n + length s)) in
-    ap (λ xs. slice_get (packed xs) (n / 6 + 1)) (is ∙ together before s f (six_syllables bits) after) ∙ literal_is (before ++ (s ++ f)) (n / 6 + 1) bits after h.1 count
+    ap (λ xs. slice_get (packed_words xs) (n / 6 + 1)) (is ∙ together before s f (six_syllables bits) after) ∙ literal_is (before ++ (s ++ f)) (n / 6 + 1) bits after h.1 count
 
-laid_there : (t before s after : List ℕ) (l : Option ℕ) (n : ℕ) → Whole t → n ≡ length before → Fits l (length s) → t ≡ before ++ ((s ++ literal_part l (n + length s)) ++ after) → IsLaid s l (packed t) n
+laid_there : (t before s after : List ℕ) (l : Option ℕ) (n : ℕ) → Whole t → n ≡ length before → Fits l (length s) → t ≡ before ++ ((s ++ literal_part l (n + length s)) ++ after) → IsLaid s l (packed_words t) n
 laid_there t before s after l n w at h is = record {
   each = λ k lt. each_there t before s (literal_part l (n + length s)) after n k w at is lt;
   inside = omega (arith, at, w.words, lengths t before s (literal_part l (n + length s)) after is);
@@ -136,11 +136,11 @@ laid_there t before s after l n w at h is = record {
 }
 
 -- an operator is read where it is laid, and the place behind it
-pub read_one : (t before after : List ℕ) (op : Op) (n : ℕ) → Whole t → n ≡ length before → HasBits op → t ≡ before ++ (laid_one n op ++ after) → operator_at (packed t) (place_at n) ≡ Ok (op, place_at (n + length (laid_one n op)))
+pub read_one : (t before after : List ℕ) (op : Op) (n : ℕ) → Whole t → n ≡ length before → HasBits op → t ≡ before ++ (laid_one n op ++ after) → operator_at (packed_words t) (place_at n) ≡ Ok (op, place_at (n + length (laid_one n op)))
 read_one t before after op n w at h is =
     let count : n ≡ count_at (place_at n) = omega arith in
     let in_word : n % 6 < 6 = omega arith in
-    reads_back op h (packed t) (place_at n) in_word (subst (IsLaid (syllables op) (literal op) (packed t)) count (laid_there t before (syllables op) after (literal op) n w at (fits op h) is)) ∙
+    reads_back op h (packed_words t) (place_at n) in_word (subst (IsLaid (syllables op) (literal op) (packed_words t)) count (laid_there t before (syllables op) after (literal op) n w at (fits op h) is)) ∙
     ap (λ m. Ok (op, place_at (after_literal (literal op) m (length (syllables op))))) (sym count) ∙ ap (λ m. Ok (op, place_at m)) (after_is op n h)
 
 -- past the end
@@ -176,9 +176,9 @@ ended : (fuel : ℕ) (words : List ℕ) (n : ℕ) (r : Reading) → r ≡ Err Ba
 ended zero words n r e = refl
 ended (suc fuel) words n r e = ap (entries_from (suc fuel) words (place_at n)) e
 
-listed : (t before : List ℕ) (ops : List Op) (fuel n : ℕ) → Whole t → n ≡ length before → AllHaveBits ops → t ≡ before ++ strung n ops → length t ≤ fuel + n → entries_from fuel (packed t) (place_at n) (operator_at (packed t) (place_at n)) ≡ entries_of n ops
+listed : (t before : List ℕ) (ops : List Op) (fuel n : ℕ) → Whole t → n ≡ length before → AllHaveBits ops → t ≡ before ++ strung n ops → length t ≤ fuel + n → entries_from fuel (packed_words t) (place_at n) (operator_at (packed_words t) (place_at n)) ≡ listed_entries n ops
 listed t before [] fuel n w at h is enough =
-    ended fuel (packed t) n (operator_at (packed t) (place_at n)) (none_there (packed t) n (omega (arith, at, w.words, ap length is, length-append before [])))
+    ended fuel (packed_words t) n (operator_at (packed_words t) (place_at n)) (none_there (packed_words t) n (omega (arith, at, w.words, ap length is, length-append before [])))
 listed t before (op ∷ more) zero n w at h is enough =
     absurd (omega (
       arith,
@@ -191,12 +191,12 @@ listed t before (op ∷ more) zero n w at h is enough =
 listed t before (op ∷ more) (suc fuel) n w at h is enough =
     let next : ℕ = n + length (laid_one n op) in
     let some : 1 ≤ length (laid_one n op) = some_syllable (syllables op) (literal op) (n + length (syllables op)) (fits op h.0) in
-    ap (entries_from (suc fuel) (packed t) (place_at n)) (read_one t before (strung next more) op n w at h.0 is) ∙
+    ap (entries_from (suc fuel) (packed_words t) (place_at n)) (read_one t before (strung next more) op n w at h.0 is) ∙
     ap (λ es. At (place_at n) op ∷ es) (listed t (before ++ laid_one n op) more fuel next w (omega (arith, at, length-append before (laid_one n op))) h.1 (is ∙ sym (append_assoc before (laid_one n op) (strung next more))) (omega arith))
 
 -- the listing of operators' code is these operators, and NVLD up to a whole word
-pub listing_is : (ops : List Op) → AllHaveBits ops → listing (code_of ops) ≡ entries_of 0 (filled 0 ops)
+pub listing_is : (ops : List Op) → AllHaveBits ops → listing (code_words ops) ≡ listed_entries 0 (filled 0 ops)
 listing_is ops h =
     let t : List ℕ = laid 0 ops in
-    let words : 6 * length (packed t) ≡ length t = packed_length t (omega (arith, laid_whole 0 ops)) in
-    listed t [] (filled 0 ops) (6 * length (packed t)) 0 (record { bytes = laid_bytes 0 ops h; words = words }) refl (filled_bits 0 ops h) (laid_strung 0 ops) (omega arith)
+    let words : 6 * length (packed_words t) ≡ length t = packed_length t (omega (arith, laid_whole 0 ops)) in
+    listed t [] (filled 0 ops) (6 * length (packed_words t)) 0 (record { bytes = laid_bytes 0 ops h; words = words }) refl (filled_bits 0 ops h) (laid_strung 0 ops) (omega arith)

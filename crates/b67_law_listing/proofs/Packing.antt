@@ -3,7 +3,7 @@ use Rattle.std.proofs.Common.{◌≡◌, ℕ, zero, suc, ◌+◌, ◌-◌, ◌*�
 use Rattle.std.specs.Prelude.{slice_get}
 use Rattle.std.specs.List.{AllByRecursion}
 use Rattle.b67_model.specs.Operators.{syllable}
-use Rattle.b67_model_text.specs.Encoding.{packed, six_syllables}
+use Rattle.b67_model_text.specs.Encoding.{packed_words, six_syllables}
 
 abbrev pub IsByte : ℕ → Type 0
 IsByte b = b < 256
@@ -37,24 +37,24 @@ of_more w m n words is =
     let place : n % 6 ≡ m % 6 = omega arith in
     ap (λ k. (get_or (w ∷ words) k 0 / 256 ^ (5 - n % 6)) % 256) word ∙ ap (λ k. (get_or words (m / 6) 0 / 256 ^ (5 - k)) % 256) place
 
-pub syllable_is : (xs : List ℕ) (n : ℕ) → Bytes xs → n < 6 * length (packed xs) → syllable (packed xs) n ≡ get_or xs n 0
+pub syllable_is : (xs : List ℕ) (n : ℕ) → Bytes xs → n < 6 * length (packed_words xs) → syllable (packed_words xs) n ≡ get_or xs n 0
 syllable_is [] n h lt = absurd (omega arith)
 syllable_is (a ∷ []) n h lt = absurd (omega arith)
 syllable_is (a ∷ b ∷ []) n h lt = absurd (omega arith)
 syllable_is (a ∷ b ∷ c ∷ []) n h lt = absurd (omega arith)
 syllable_is (a ∷ b ∷ c ∷ d ∷ []) n h lt = absurd (omega arith)
 syllable_is (a ∷ b ∷ c ∷ d ∷ e ∷ []) n h lt = absurd (omega arith)
-syllable_is (a ∷ b ∷ c ∷ d ∷ e ∷ f ∷ more) zero h lt = of_word (word_of a b c d e f) 0 (packed more) (omega arith) ∙ in_word a b c d e f 0 h.0 h.1.0 h.1.1.0 h.1.1.1.0 h.1.1.1.1.0 h.1.1.1.1.1.0 (omega arith)
-syllable_is (a ∷ b ∷ c ∷ d ∷ e ∷ f ∷ more) (suc zero) h lt = of_word (word_of a b c d e f) 1 (packed more) (omega arith) ∙ in_word a b c d e f 1 h.0 h.1.0 h.1.1.0 h.1.1.1.0 h.1.1.1.1.0 h.1.1.1.1.1.0 (omega arith)
-syllable_is (a ∷ b ∷ c ∷ d ∷ e ∷ f ∷ more) (suc (suc zero)) h lt = of_word (word_of a b c d e f) 2 (packed more) (omega arith) ∙ in_word a b c d e f 2 h.0 h.1.0 h.1.1.0 h.1.1.1.0 h.1.1.1.1.0 h.1.1.1.1.1.0 (omega arith)
-syllable_is (a ∷ b ∷ c ∷ d ∷ e ∷ f ∷ more) (suc (suc (suc zero))) h lt = of_word (word_of a b c d e f) 3 (packed more) (omega arith) ∙ in_word a b c d e f 3 h.0 h.1.0 h.1.1.0 h.1.1.1.0 h.1.1.1.1.0 h.1.1.1.1.1.0 (omega arith)
-syllable_is (a ∷ b ∷ c ∷ d ∷ e ∷ f ∷ more) (suc (suc (suc (suc zero)))) h lt = of_word (word_of a b c d e f) 4 (packed more) (omega arith) ∙ in_word a b c d e f 4 h.0 h.1.0 h.1.1.0 h.1.1.1.0 h.1.1.1.1.0 h.1.1.1.1.1.0 (omega arith)
-syllable_is (a ∷ b ∷ c ∷ d ∷ e ∷ f ∷ more) (suc (suc (suc (suc (suc zero))))) h lt = of_word (word_of a b c d e f) 5 (packed more) (omega arith) ∙ in_word a b c d e f 5 h.0 h.1.0 h.1.1.0 h.1.1.1.0 h.1.1.1.1.0 h.1.1.1.1.1.0 (omega arith)
+syllable_is (a ∷ b ∷ c ∷ d ∷ e ∷ f ∷ more) zero h lt = of_word (word_of a b c d e f) 0 (packed_words more) (omega arith) ∙ in_word a b c d e f 0 h.0 h.1.0 h.1.1.0 h.1.1.1.0 h.1.1.1.1.0 h.1.1.1.1.1.0 (omega arith)
+syllable_is (a ∷ b ∷ c ∷ d ∷ e ∷ f ∷ more) (suc zero) h lt = of_word (word_of a b c d e f) 1 (packed_words more) (omega arith) ∙ in_word a b c d e f 1 h.0 h.1.0 h.1.1.0 h.1.1.1.0 h.1.1.1.1.0 h.1.1.1.1.1.0 (omega arith)
+syllable_is (a ∷ b ∷ c ∷ d ∷ e ∷ f ∷ more) (suc (suc zero)) h lt = of_word (word_of a b c d e f) 2 (packed_words more) (omega arith) ∙ in_word a b c d e f 2 h.0 h.1.0 h.1.1.0 h.1.1.1.0 h.1.1.1.1.0 h.1.1.1.1.1.0 (omega arith)
+syllable_is (a ∷ b ∷ c ∷ d ∷ e ∷ f ∷ more) (suc (suc (suc zero))) h lt = of_word (word_of a b c d e f) 3 (packed_words more) (omega arith) ∙ in_word a b c d e f 3 h.0 h.1.0 h.1.1.0 h.1.1.1.0 h.1.1.1.1.0 h.1.1.1.1.1.0 (omega arith)
+syllable_is (a ∷ b ∷ c ∷ d ∷ e ∷ f ∷ more) (suc (suc (suc (suc zero)))) h lt = of_word (word_of a b c d e f) 4 (packed_words more) (omega arith) ∙ in_word a b c d e f 4 h.0 h.1.0 h.1.1.0 h.1.1.1.0 h.1.1.1.1.0 h.1.1.1.1.1.0 (omega arith)
+syllable_is (a ∷ b ∷ c ∷ d ∷ e ∷ f ∷ more) (suc (suc (suc (suc (suc zero))))) h lt = of_word (word_of a b c d e f) 5 (packed_words more) (omega arith) ∙ in_word a b c d e f 5 h.0 h.1.0 h.1.1.0 h.1.1.1.0 h.1.1.1.1.0 h.1.1.1.1.1.0 (omega arith)
 syllable_is (a ∷ b ∷ c ∷ d ∷ e ∷ f ∷ more) (suc (suc (suc (suc (suc (suc m)))))) h lt =
-    of_more (word_of a b c d e f) m (suc (suc (suc (suc (suc (suc m)))))) (packed more) (omega arith) ∙ syllable_is more m h.1.1.1.1.1.1 (omega arith)
+    of_more (word_of a b c d e f) m (suc (suc (suc (suc (suc (suc m)))))) (packed_words more) (omega arith) ∙ syllable_is more m h.1.1.1.1.1.1 (omega arith)
 
 -- whole words
-pub packed_length : (xs : List ℕ) → length xs % 6 ≡ 0 → 6 * length (packed xs) ≡ length xs
+pub packed_length : (xs : List ℕ) → length xs % 6 ≡ 0 → 6 * length (packed_words xs) ≡ length xs
 packed_length [] e = refl
 packed_length (a ∷ []) e = absurd (omega arith)
 packed_length (a ∷ b ∷ []) e = absurd (omega arith)
@@ -63,16 +63,16 @@ packed_length (a ∷ b ∷ c ∷ d ∷ []) e = absurd (omega arith)
 packed_length (a ∷ b ∷ c ∷ d ∷ e' ∷ []) e = absurd (omega arith)
 packed_length (a ∷ b ∷ c ∷ d ∷ e' ∷ f ∷ more) e = omega (arith, packed_length more (omega arith))
 
-word_is : (bits : ℕ) (after : List ℕ) → bits < 2 ^ 48 → packed (six_syllables bits ++ after) ≡ bits ∷ packed after
+word_is : (bits : ℕ) (after : List ℕ) → bits < 2 ^ 48 → packed_words (six_syllables bits ++ after) ≡ bits ∷ packed_words after
 word_is bits after small =
     let whole : word_of (bits / 2 ^ 40 % 256) (bits / 2 ^ 32 % 256) (bits / 2 ^ 24 % 256) (bits / 2 ^ 16 % 256) (bits / 2 ^ 8 % 256) (bits % 256) ≡ bits = omega arith in
-    ap (λ w. w ∷ packed after) whole
+    ap (λ w. w ∷ packed_words after) whole
 
 -- a literal's word
-pub literal_is : (before : List ℕ) (q bits : ℕ) (after : List ℕ) → bits < 2 ^ 48 → length before ≡ 6 * q → slice_get (packed (before ++ (six_syllables bits ++ after))) q ≡ Some bits
+pub literal_is : (before : List ℕ) (q bits : ℕ) (after : List ℕ) → bits < 2 ^ 48 → length before ≡ 6 * q → slice_get (packed_words (before ++ (six_syllables bits ++ after))) q ≡ Some bits
 literal_is [] q bits after small e =
     let none : q ≡ 0 = omega arith in
-    ap (λ k. slice_get (packed (six_syllables bits ++ after)) k) none ∙ ap (λ ws. slice_get ws 0) (word_is bits after small)
+    ap (λ k. slice_get (packed_words (six_syllables bits ++ after)) k) none ∙ ap (λ ws. slice_get ws 0) (word_is bits after small)
 literal_is (a ∷ []) q bits after small e = absurd (omega arith)
 literal_is (a ∷ b ∷ []) q bits after small e = absurd (omega arith)
 literal_is (a ∷ b ∷ c ∷ []) q bits after small e = absurd (omega arith)

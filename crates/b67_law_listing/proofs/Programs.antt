@@ -18,12 +18,12 @@ use Rattle.b67_model_text.specs.declared.assembly.Named as named
 use Rattle.b67_model_text.specs.declared.assembly.Named.TheVariants as means
 use Rattle.b67_model_text.specs.declared.assembly.Line.{Line}
 use Rattle.b67_model_text.specs.Answers.{Answer, ◌>>=◌, ◌>>◌, needs, or_reason}
-use Rattle.b67_model_text.specs.Cards.{words, name_in, is_empty}
+use Rattle.b67_model_text.specs.Cards.{words_in_card, name_in, is_empty}
 use Rattle.b67_model_text.specs.Command.{row_of}
 use Rattle.b67_model_text.specs.Deck.{Refusal, of_card}
-use Rattle.b67_model_text.specs.Encoding.{code_of}
-use Rattle.b67_model_text.specs.Statements.{mnemonics, sketch_of, bits_in, all_bits, num, entry, entry_named, operator, kind_of, is_label, with_label, labelled, says, without_comment, line_with, lines_of}
-use Rattle.b67_model_text.specs.Asm.{Names, names_of, Scope, Content, content_of, place_bits, Part, CodePart, RowPart, meaning, definition, definitions, segments_behind, rows_behind, segment_count, labels, misplaced, is_head, is_code, is_numbers, own, with_cards, cards_of_segments, is_segment_number, is_row_number, segment_part, row_part, part_of, row_words, with_part, program_from, no_strays, assembled}
+use Rattle.b67_model_text.specs.Encoding.{code_words}
+use Rattle.b67_model_text.specs.Statements.{mnemonics, sketch_of, literal_bits, all_bits, num, entry, entry_named, operator, kind_of, is_label, with_label, labelled, says, without_comment, line_with, lines_of}
+use Rattle.b67_model_text.specs.Asm.{Names, names_of, Scope, SegmentContent, content_of, syllable_bits, Part, CodePart, RowPart, meaning, definition, definitions, segments_behind, rows_behind, segment_count, labels, misplaced, is_head, is_code, is_numbers, own, with_cards, cards_of_segments, is_segment_number, is_row_number, segment_part, row_part, program_part, row_words, with_part, program_from, no_strays, assembled}
 use Rattle.b67_model_text.proofs.Answers.{after_both, err-ok}
 use Rattle.b67_model_text.proofs.Contents.{same_Ok, label_small}
 use Rattle.b67_law_listing.specs.Listing.{scope_in, SegmentsAreListed}
@@ -44,7 +44,7 @@ num_defines (Some first) (Some more) = refl
 
 numbers_define : (more : List (List ℕ)) → defines (or_reason (num more) 2) ≡ false
 numbers_define [] = refl
-numbers_define (word ∷ more) = num_defines (bits_in word) (all_bits more)
+numbers_define (word ∷ more) = num_defines (literal_bits word) (all_bits more)
 
 sketch_defines : (label : Option (List ℕ)) (o : Option sketch.Sketch) → defines (or_reason o 2 >>= λ s. Ok (statements.Operator label s)) ≡ false
 sketch_defines label None = refl
@@ -102,16 +102,16 @@ one_known number (word ∷ rest) more h = (says_known (kind_of word) rest (word 
 
 lines_known : (cards : List Card) → AllKnown (lines_of cards)
 lines_known [] = tt
-lines_known (card ∷ more) = one_known card.number (words (without_comment card.text)) (lines_of more) (lines_known more)
+lines_known (card ∷ more) = one_known card.number (words_in_card (without_comment card.text)) (lines_of more) (lines_known more)
 
 -- ---- one part
 
 -- the part that a card begins
 record IsSegment (names : Names) (segments s r : ℕ) (lines : List Line) (part : Part) : Type 0 where
   level : ℕ
-  content : Content
+  content : SegmentContent
   taken : content_of (record { names = names; segments = segments; level = level; labels = λ label. meaning (labels 0 lines) label }) 0 [] lines ≡ Ok content
-  is : CodePart (record { level = level; entries = map place_bits content.entries; code = code_of content.operators }) ≡ part
+  is : CodePart (record { level = level; entries = map syllable_bits content.entries; code = code_words content.operators }) ≡ part
   few : s + r < 255
 
 after_card : {B : Type 0} (number : ℕ) (t : Bool) (reason : ℕ) (rest : Result B Refusal) (b : B) → (of_card number (needs t reason) >> rest) ≡ Ok b → (t ≡ true) × (rest ≡ Ok b)
@@ -122,7 +122,7 @@ segment_is : (names : Names) (segments s r number : ℕ) (name : List ℕ) (leve
 segment_is names segments s r number name None lines part e = err-ok (record { card = number; reason = 3 }) part _ e
 segment_is names segments s r number name (Some level) lines part e =
     let scope : Scope = record { names = names; segments = segments; level = level; labels = λ label. meaning (labels 0 lines) label } in
-    let part_with : Content → Part = λ content. CodePart (record { level = level; entries = map place_bits content.entries; code = code_of content.operators }) in
+    let part_with : SegmentContent → Part = λ content. CodePart (record { level = level; entries = map syllable_bits content.entries; code = code_words content.operators }) in
     let put : Result Part Refusal = content_of scope 0 [] lines >>= λ content. Ok (part_with content) in
     let a = after_card number (is_segment_number s (names.means name)) 4 (of_card number (needs (list_any is_code lines) 7) >> (of_card number (needs (nat_lt (s + r) 255) 9) >> put)) part e in
     let b = after_card number (list_any is_code lines) 7 (of_card number (needs (nat_lt (s + r) 255) 9) >> put) part a.1 in
@@ -144,7 +144,7 @@ row_is names s r number name lines part e =
 small_none : IsSmall None
 small_none number level e = absurd (none-some (means.Segment number level) e)
 
-head_small : (names : Names) (segments s r number : ℕ) (says : Answer statement.Statement) (lines : List Line) (part : Part) → part_of names segments s r number says lines ≡ Ok part → (rest : List (List ℕ × named.Named)) (q : List ℕ) → IsSmall (meaning rest q) → IsSmall (meaning (cons_option (definition s r says) rest) q)
+head_small : (names : Names) (segments s r number : ℕ) (says : Answer statement.Statement) (lines : List Line) (part : Part) → program_part names segments s r number says lines ≡ Ok part → (rest : List (List ℕ × named.Named)) (q : List ℕ) → IsSmall (meaning rest q) → IsSmall (meaning (cons_option (definition s r says) rest) q)
 head_small names segments s r number (Ok (statements.Segment name level)) lines part e rest q h = by_test (bytes_eq q name)
   where
     low : s < 255
@@ -183,10 +183,10 @@ names_small names segments s r (l ∷ more) p known e q =
     by_head : ((p : Program) → program_from names segments (segments_behind s l.says) (rows_behind r l.says) more ≡ Ok p → IsSmall (meaning (definitions (segments_behind s l.says) (rows_behind r l.says) more) q))
         → (program_from names segments s r more ≡ Ok p → IsSmall (meaning (definitions s r more) q))
         → (b : Bool) → is_head l.kind ≡ b
-        → cond b (part_of names segments s r l.number l.says (own more) >>= go_on names segments s r l more) (program_from names segments s r more) ≡ Ok p
+        → cond b (program_part names segments s r l.number l.says (own more) >>= go_on names segments s r l more) (program_from names segments s r more) ≡ Ok p
         → IsSmall (meaning (definitions s r (l ∷ more)) q)
     by_head part skip true t e =
-        let a = after_both (part_of names segments s r l.number l.says (own more)) (go_on names segments s r l more) p e in
+        let a = after_both (program_part names segments s r l.number l.says (own more)) (go_on names segments s r l more) p e in
         let b = after_both (program_from names segments (segments_behind s l.says) (rows_behind r l.says) more) (λ rest. Ok (with_part a.0 rest)) p a.2 in
         head_small names segments s r l.number l.says (own more) a.0 a.1 (definitions (segments_behind s l.says) (rows_behind r l.says) more) q (part b.0 b.1)
     by_head part skip false t e =
@@ -208,7 +208,7 @@ no_cards (Err reason) cards rest e = refl
 abbrev CardsAreSmall : List Line → Type 0
 CardsAreSmall cards = LabelsAreSmall (λ label. meaning (labels 0 cards) label)
 
-head_cards_small : (names : Names) (segments s r number : ℕ) (says : Answer statement.Statement) (lines : List Line) (part : Part) → part_of names segments s r number says lines ≡ Ok part
+head_cards_small : (names : Names) (segments s r number : ℕ) (says : Answer statement.Statement) (lines : List Line) (part : Part) → program_part names segments s r number says lines ≡ Ok part
     → (rest : List (List Line)) → AllByRecursion CardsAreSmall rest → AllByRecursion CardsAreSmall (with_cards says lines rest)
 head_cards_small names segments s r number (Ok (statements.Segment name level)) lines part e rest h =
     let i = segment_is names segments s r number name level lines part e in
@@ -227,10 +227,10 @@ cards_small names segments s r (l ∷ more) p known e =
     by_head : ((p : Program) → program_from names segments (segments_behind s l.says) (rows_behind r l.says) more ≡ Ok p → AllByRecursion CardsAreSmall (cards_of_segments more))
         → (program_from names segments s r more ≡ Ok p → AllByRecursion CardsAreSmall (cards_of_segments more))
         → (b : Bool) → is_head l.kind ≡ b
-        → cond b (part_of names segments s r l.number l.says (own more) >>= go_on names segments s r l more) (program_from names segments s r more) ≡ Ok p
+        → cond b (program_part names segments s r l.number l.says (own more) >>= go_on names segments s r l more) (program_from names segments s r more) ≡ Ok p
         → AllByRecursion CardsAreSmall (with_cards l.says (own more) (cards_of_segments more))
     by_head part skip true t e =
-        let a = after_both (part_of names segments s r l.number l.says (own more)) (go_on names segments s r l more) p e in
+        let a = after_both (program_part names segments s r l.number l.says (own more)) (go_on names segments s r l more) p e in
         let b = after_both (program_from names segments (segments_behind s l.says) (rows_behind r l.says) more) (λ rest. Ok (with_part a.0 rest)) p a.2 in
         head_cards_small names segments s r l.number l.says (own more) a.0 a.1 (cards_of_segments more) (part b.0 b.1)
     by_head part skip false t e = subst (AllByRecursion CardsAreSmall) (sym (no_cards l.says (own more) (cards_of_segments more) (known.0 t))) (skip e)
@@ -242,7 +242,7 @@ found_small (cards ∷ more) (suc number) all q m e = found_small more number al
 
 -- ---- all segments
 
-head_read : (all : List Line) (s r number : ℕ) (says : Answer statement.Statement) (lines : List Line) (part : Part) → AreSmall (names_of all) → AllLabelsAreSmall (names_of all) → part_of (names_of all) (segment_count 0 all) s r number says lines ≡ Ok part
+head_read : (all : List Line) (s r number : ℕ) (says : Answer statement.Statement) (lines : List Line) (part : Part) → AreSmall (names_of all) → AllLabelsAreSmall (names_of all) → program_part (names_of all) (segment_count 0 all) s r number says lines ≡ Ok part
     → (cards : List (List Line)) (rest : Program) → SegmentsAreListed all cards rest.segments → SegmentsAreListed all (with_cards says lines cards) (with_part part rest).segments
 head_read all s r number (Ok (statements.Segment name level)) lines part small labelled e cards rest h =
     let i = segment_is (names_of all) (segment_count 0 all) s r number name level lines part e in
@@ -265,10 +265,10 @@ segments_read all s r (l ∷ more) p known small labelled e =
     by_head : ((p : Program) → program_from (names_of all) (segment_count 0 all) (segments_behind s l.says) (rows_behind r l.says) more ≡ Ok p → SegmentsAreListed all (cards_of_segments more) p.segments)
         → (program_from (names_of all) (segment_count 0 all) s r more ≡ Ok p → SegmentsAreListed all (cards_of_segments more) p.segments)
         → (b : Bool) → is_head l.kind ≡ b
-        → cond b (part_of (names_of all) (segment_count 0 all) s r l.number l.says (own more) >>= go_on (names_of all) (segment_count 0 all) s r l more) (program_from (names_of all) (segment_count 0 all) s r more) ≡ Ok p
+        → cond b (program_part (names_of all) (segment_count 0 all) s r l.number l.says (own more) >>= go_on (names_of all) (segment_count 0 all) s r l more) (program_from (names_of all) (segment_count 0 all) s r more) ≡ Ok p
         → SegmentsAreListed all (with_cards l.says (own more) (cards_of_segments more)) p.segments
     by_head part skip true t e =
-        let a = after_both (part_of (names_of all) (segment_count 0 all) s r l.number l.says (own more)) (go_on (names_of all) (segment_count 0 all) s r l more) p e in
+        let a = after_both (program_part (names_of all) (segment_count 0 all) s r l.number l.says (own more)) (go_on (names_of all) (segment_count 0 all) s r l more) p e in
         let b = after_both (program_from (names_of all) (segment_count 0 all) (segments_behind s l.says) (rows_behind r l.says) more) (λ rest. Ok (with_part a.0 rest)) p a.2 in
         subst (λ (p : Program). SegmentsAreListed all (with_cards l.says (own more) (cards_of_segments more)) p.segments) (same_Ok (with_part a.0 b.0) p b.2)
         (head_read all s r l.number l.says (own more) a.0 small labelled a.1 (cards_of_segments more) b.0 (part b.0 b.1))

@@ -28,9 +28,9 @@ scope_in all cards level = record {
 }
 
 -- a card's label means the place at which its operator is read
-abbrev pub StandsAt : (List ℕ → Option ℕ) → Option (List ℕ) → Place → Type 0
-StandsAt labels None place = Unit {0}
-StandsAt labels (Some label) place = option_map place_at (labels label) ≡ Some place
+abbrev pub LabelStandsAt : (List ℕ → Option ℕ) → Option (List ℕ) → Place → Type 0
+LabelStandsAt labels None place = Unit {0}
+LabelStandsAt labels (Some label) place = option_map place_at (labels label) ≡ Some place
 
 -- the place of the procedure that an operator makes
 abbrev pub begins_at : Op → Option Place
@@ -45,12 +45,12 @@ GoesTo x (PcwAt segment label) op = begins_at op ≡ option_map place_at (label_
 GoesTo x _ op = Unit {0}
 
 -- a card's operator is read at a place; a label of another segment is an entry of it
-pub record IsRead (x : Scope) (l : Line) (place : Place) (op : Op) : Type 0 where
+pub record CardIsRead (x : Scope) (l : Line) (place : Place) (op : Op) : Type 0 where
   pub label : Option (List ℕ)
   pub sketch : Sketch
   pub says : l.says ≡ Ok (statements.Operator label sketch)
   pub denotes : denoted x sketch ≡ Some op
-  pub stands : StandsAt x.labels label place
+  pub stands : LabelStandsAt x.labels label place
   pub goes : GoesTo x sketch op
   pub enters : has_entry x.names sketch ≡ true
 
@@ -68,7 +68,7 @@ abbrev pub Reads : Scope → Line → Answer Statement → List Entry → (List 
 Reads x l (Ok (statements.Entry label)) entries rest = rest entries
 Reads x l says [] rest = ⊥
 Reads x l says (Break place why ∷ more) rest = ⊥
-Reads x l says (At place op ∷ more) rest = IsRead x l place op × rest more
+Reads x l says (At place op ∷ more) rest = CardIsRead x l place op × rest more
 
 -- the listing of a segment is its cards, one behind the other
 abbrev pub AreRead : Scope → List Line → List Entry → Type 0
@@ -90,7 +90,7 @@ IsLabelled label place [] entries = ⊥
 IsLabelled label place (l ∷ more) entries = Labels label place l l.says entries (IsLabelled label place more)
 
 -- an ENTRY card names this label
-pub record IsEntered (label : List ℕ) (cards : List Line) : Type 0 where
+pub record IsEntryLabel (label : List ℕ) (cards : List Line) : Type 0 where
   pub card : Line
   pub among : Has cards card
   pub says : card.says ≡ Ok (statements.Entry label)
@@ -104,8 +104,8 @@ pub record AreEntered (labels : List ℕ → Option ℕ) (cards : List Line) (en
   pub syllables : List ℕ
   pub places : map place_of_bits entries ≡ map place_at syllables
   pub rise : Rise syllables
-  pub named : (label : List ℕ) → IsEntered label cards → (n : ℕ) × (labels label ≡ Some n) × Has syllables n
-  pub only : (n : ℕ) → Has syllables n → (label : List ℕ) × IsEntered label cards × (labels label ≡ Some n)
+  pub named : (label : List ℕ) → IsEntryLabel label cards → (n : ℕ) × (labels label ≡ Some n) × Has syllables n
+  pub only : (n : ℕ) → Has syllables n → (label : List ℕ) × IsEntryLabel label cards × (labels label ≡ Some n)
 
 -- a segment's listing is its cards, each label that means a place stands on the card that is read there, and its entries
 -- are those that its cards name

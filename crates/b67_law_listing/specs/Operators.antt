@@ -5,8 +5,8 @@ use Rattle.b67_model.specs.declared.operators.Op.{Op}
 use Rattle.b67_model.specs.declared.operators.Op.TheVariants.{Plain}
 use Rattle.b67_model.specs.declared.operators.Code.TheVariants.{Nvld}
 use Rattle.b67_model.specs.Common.{place_at, has_bits, Entry, At, listing}
-use Rattle.b67_model_text.specs.Encoding.{code_of}
-use Rattle.b67_model_text.specs.Asm.{next}
+use Rattle.b67_model_text.specs.Encoding.{code_words}
+use Rattle.b67_model_text.specs.Asm.{after_operator}
 
 abbrev pub HasBits : Op → Type 0
 HasBits op = IsTrue (has_bits op)
@@ -18,13 +18,13 @@ AllHaveBits ops = AllByRecursion HasBits ops
 -- operators from syllable n on, and NVLD behind them up to a whole word
 abbrev pub filled : ℕ → List Op → List Op
 filled n [] = replicate ((6 - n % 6) % 6) (Plain Nvld)
-filled n (op ∷ more) = op ∷ filled (next n op) more
+filled n (op ∷ more) = op ∷ filled (after_operator n op) more
 
 -- each at the place behind the one before
-abbrev pub entries_of : ℕ → List Op → List Entry
-entries_of n [] = []
-entries_of n (op ∷ more) = At (place_at n) op ∷ entries_of (next n op) more
+abbrev pub listed_entries : ℕ → List Op → List Entry
+listed_entries n [] = []
+listed_entries n (op ∷ more) = At (place_at n) op ∷ listed_entries (after_operator n op) more
 
 -- the code of operators is read as these operators
 abbrev pub OperatorsAreRead : Type 0
-OperatorsAreRead = (ops : List Op) → AllHaveBits ops → listing (code_of ops) ≡ entries_of 0 (filled 0 ops)
+OperatorsAreRead = (ops : List Op) → AllHaveBits ops → listing (code_words ops) ≡ listed_entries 0 (filled 0 ops)

@@ -11,13 +11,13 @@ pub fn invalid_operator_exactly_at_nvld()
     ensures { InvalidOperatorExactlyAtNvld }
 {}
 
-/// The same of each live task of a session in order over admitted programs, and of the task that
-/// is chosen for the next step.
+/// In a session in order over admitted programs each live task, and the task that is chosen for the next step, faults with
+/// INVALID OPERATOR exactly at NVLD.
 pub fn sessions_fault_exactly_at_nvld()
     ensures { SessionsFaultExactlyAtNvld }
 {}
 
-/// The same in every state of the run of an admitted deck.
+/// In every state of the run of an admitted deck INVALID OPERATOR occurs exactly at NVLD.
 pub fn runs_fault_exactly_at_nvld()
     ensures { RunsFaultExactlyAtNvld }
 {}

@@ -17,7 +17,7 @@ use Rattle.b67_ctl.specs.declared.registers.Regs.{Regs}
 use Rattle.b67_lemmas.specs.Lists.{Has}
 use Rattle.b67_model.specs.Common.{Entered, Ready, Task, Job, SessionJob, frame_at, Program, opened, number_of, Session, IsSegment, SettingInOrder, TaskInOrder, TasksInOrder, frames_in_job}
 use Rattle.b67_stack.specs.declared.Cpu.{Cpu}
-use Rattle.b67_stack.specs.Common.{Location, nowhere, Fits, LieDownward, stack_words, words, PagedObject, words_of, MachineView, stack_of, Laid, SlotFits, slot_base, CopiesName, Storage, RepresentsSlots, RepresentsSlot, StacksLie, RepresentsObjects, RepresentsObject, Owned, Represents, HoldsIn, info_of}
+use Rattle.b67_stack.specs.Common.{Location, nowhere, Fits, LieDownward, stack_words, words, PagedObject, object_words, MachineView, stack_of, IsLaidOut, SlotFits, slot_base, CopiesName, Storage, RepresentsSlots, RepresentsSlot, StacksLie, RepresentsObjects, RepresentsObject, Owned, Represents, HoldsIn, info_of}
 use Rattle.b67_lemmas.proofs.Members.{keyed_has}
 use Rattle.b67_layout.specs.Common.{Placement, Slotted, slot_of, machine_view, PlanFits, RowsFit, IsRunning, RepresentsDictionary, RepresentsVector, RepresentsCritical, RepresentsTask, vector_word, critical_mark, frame_address, ShowsDisplay, SessionHolds, RepresentsSession, IsInOrderButCounts}
 use Rattle.b67_layout.specs.Families.{RunsChild}
@@ -170,7 +170,7 @@ no_copies = two_slots (λ k. CopiesName p.objects (words k (stack_of (p.slots k)
   none_1 c home (inr (inl e)) = absurd (let z : ⊥ = cc in z)
   none_1 c home (inr (inr k)) = absurd k
 
-laid : Laid 291 p
+laid : IsLaidOut 291 p
 laid = record {
   low = refl;
   first = omega arith;
@@ -204,7 +204,7 @@ held_in = record {
     (
       (3 * 2 ^ 48 + 0xae4009b202b2) ∷ (3 * 2 ^ 48 + 0x0380aba3ffff) ∷ replicate 28 0,
       refl,
-      λ i small. all_from (λ q. slice_get ((3 * 2 ^ 48 + 0xae4009b202b2) ∷ (3 * 2 ^ 48 + 0x0380aba3ffff) ∷ replicate 28 0) q ≡ Some (number_at (map number (words_of object)) (0 + q))) 0 30 (refl, (refl, (refl, (refl, (refl, (refl, (refl, (refl, (refl, (refl, (refl, (refl, (refl, (refl, (refl, (refl, (refl, (refl, (refl, (refl, (refl, (refl, (refl, (refl, (refl, (refl, (refl, (refl, (refl, (refl, tt)))))))))))))))))))))))))))))) i (omega arith) (omega arith),
+      λ i small. all_from (λ q. slice_get ((3 * 2 ^ 48 + 0xae4009b202b2) ∷ (3 * 2 ^ 48 + 0x0380aba3ffff) ∷ replicate 28 0) q ≡ Some (number_at (map number (object_words object)) (0 + q))) 0 30 (refl, (refl, (refl, (refl, (refl, (refl, (refl, (refl, (refl, (refl, (refl, (refl, (refl, (refl, (refl, (refl, (refl, (refl, (refl, (refl, (refl, (refl, (refl, (refl, (refl, (refl, (refl, (refl, (refl, (refl, tt)))))))))))))))))))))))))))))) i (omega arith) (omega arith),
     ),
     omega arith,
   );

@@ -3,7 +3,7 @@ use Rattle.std.proofs.Common.{◌≡◌, ℕ, suc, List, [], ◌∷◌, refl, sy
 use Rattle.std.proofs.lemmas.List.{length-map}
 use Rattle.b67_model.specs.Common.{Standing, Frame, Job, head_words, words_of, height, level_of_standing, level_of_frame, running_from, running}
 use Rattle.b67_model.specs.State as State
-use Rattle.b67_stack.specs.Common.{StackPlace, head_size, top_size, stack_words, running_level, level_from}
+use Rattle.b67_stack.specs.Common.{StackPlace, head_size, top_size, stack_words, stack_level, level_from}
 use Rattle.b67_layout.specs.Common.{Placement, spot_in, shape, head, activations}
 
 module _ (plan : Placement) (j : ℕ) (job : Job) (k : ℕ) (outer : ℕ → StackPlace) where
@@ -23,6 +23,6 @@ module _ (plan : Placement) (j : ℕ) (job : Job) (k : ℕ) (outer : ℕ → Sta
   level-head spot State.Marked f next level e h = h
   level-head spot (State.Entered level environment back) f next l e h = ap level_of_standing (sym e)
 
-  pub level-is : (fs : List Frame) → running_level (activations plan j job k outer fs) ≡ level_of_frame (running fs)
+  pub level-is : (fs : List Frame) → stack_level (activations plan j job k outer fs) ≡ level_of_frame (running fs)
   level-is [] = refl
-  level-is (f ∷ below) = level-head (spot_in k outer below) f.standing f (running below) (running_level (activations plan j job k outer below)) refl (level-is below)
+  level-is (f ∷ below) = level-head (spot_in k outer below) f.standing f (running below) (stack_level (activations plan j job k outer below)) refl (level-is below)

@@ -3,7 +3,7 @@ use Rattle.std.proofs.Common.{◌≡◌, ◌≢◌, ℕ, ◌+◌, ◌*◌, ◌<�
 use Rattle.std.specs.List.{slice_get}
 use Rattle.std.proofs.lemmas.Option.{same_Some}
 use Rattle.b67_word.specs.Tagged.{Tagged, word}
-use Rattle.b67_ctl.specs.Layout.{bit}
+use Rattle.b67_ctl.specs.Layout.{flag_bit}
 use Rattle.b67_area.specs.declared.kinds.Kind.{Kind}
 use Rattle.b67_area.specs.declared.kinds.Kind.TheVariants.{Array, Row, Code}
 use Rattle.b67_area.proofs.Laws.{area_inside}
@@ -12,7 +12,7 @@ use Rattle.b67_lemmas.specs.Lists.{Has}
 use Rattle.b67_model.specs.State.{SessionJob}
 use Rattle.b67_model.specs.Schedule.{Session}
 use Rattle.b67_stack.specs.declared.Cpu.{Cpu}
-use Rattle.b67_stack.specs.Common.{Location, PagedObject, MachineView, NoOriginalAboveTop, home_word_of, is_present, address_or, Storage, Represents, info_of, Stayed}
+use Rattle.b67_stack.specs.Common.{Location, PagedObject, MachineView, NoOriginalAboveTop, home_word_of, is_present, address_or, Storage, Represents, info_of, LowWordsStayed}
 use Rattle.b67_stack.proofs.Homes.{chain_small}
 use Rattle.b67_layout.specs.Common.{Placement, slot_of, machine_view, RepresentsDictionary, vector_word, with_objects, ShowsDisplay, SessionHoldsBut, RepresentsSessionBut}
 use Rattle.b67_layout.proofs.Rows.{slot_below}
@@ -23,7 +23,7 @@ use Rattle.b67_layout.proofs.Alike.{AllAlike, backs, twin, has_task, dictionary_
 abbrev mark_bits : ℕ
 mark_bits = 2 ^ 47 + 2 ^ 46 + 136 * 2 ^ 36 + 1 * 2 ^ 14
 
-too_high : (p : Bool) (n a : ℕ) → n < 2 ^ 16 → a < 2 ^ 20 → bit p * 2 ^ 47 + n * 2 ^ 20 + a ≡ mark_bits → ⊥
+too_high : (p : Bool) (n a : ℕ) → n < 2 ^ 16 → a < 2 ^ 20 → flag_bit p * 2 ^ 47 + n * 2 ^ 20 + a ≡ mark_bits → ⊥
 too_high true n a hn ha e = omega arith
 too_high false n a hn ha e = omega arith
 
@@ -58,7 +58,7 @@ module _ (left left' : List PagedObject) (x x' : Storage) (cpu cpu' : Cpu) (plan
     (h : RepresentsSessionBut left x cpu plan s) (alike : AllAlike s.jobs s'.jobs) (peak : s'.peak ≡ s.peak)
     (regs : cpu'.regs ≡ cpu.regs) (display : cpu'.display ≡ cpu.display) (critical : cpu'.critical ≡ cpu.critical)
     (memory : Represents x' cpu'.core cpu.regs (with_objects left' (machine_view plan s'.jobs))) (settled : NoOriginalAboveTop (machine_view plan s'.jobs))
-    (stayed : Stayed (with_objects left (machine_view plan s.jobs)) cpu.core cpu'.core) where
+    (stayed : LowWordsStayed (with_objects left (machine_view plan s.jobs)) cpu.core cpu'.core) where
   abbrev o : SessionHoldsBut left x cpu.core cpu.regs cpu.critical plan s
   o = h.holds
 

@@ -9,7 +9,7 @@ use Rattle.b67_lemmas.specs.Lists.{Has}
 use Rattle.b67_lemmas.proofs.Members.{keyed_has}
 use Rattle.b67_model.specs.Common.{Word, Frame, Task, Job, JobProgress, SessionJob, height, with_top_cells, with_task, from_frame, is_critical, Session, number_of}
 use Rattle.b67_model.specs.State as State
-use Rattle.b67_stack.specs.Common.{StackPlace, Activation, MachineView, NoOriginalAboveTop, Storage, Represents, with_stack, with_cells, new_mark}
+use Rattle.b67_stack.specs.Common.{StackPlace, Activation, MachineView, NoOriginalAboveTop, Storage, Represents, with_stack, stack_with_cells, new_mark}
 use Rattle.b67_layout.specs.Common.{Placement, spot_in, outer_spots, shape, activations, stack_of_task, machine_view, RepresentsTask, IsRunning, critical_mark, SessionHolds}
 use Rattle.b67_layout.proofs.Others.{OnTop, seen-cells, seen-mark}
 use Rattle.b67_layout.proofs.MachineViews.{with_course, machine_view-after, stack-after}
@@ -19,7 +19,7 @@ use Rattle.b67_layout.proofs.Sessions.{SessionHoldsBut-after}
 use Rattle.b67_model.specs.Keyed.{change_keyed}
 
 pub activations-with : (plan : Placement) (j : ℕ) (job : Job) (k : ℕ) (outer : ℕ → StackPlace) (fs : List Frame) (cells : List Word)
-    → activations plan j job k outer (with_top_cells fs cells) ≡ with_cells (activations plan j job k outer fs) (map (shape plan j job (spot_in k outer fs)) cells)
+    → activations plan j job k outer (with_top_cells fs cells) ≡ stack_with_cells (activations plan j job k outer fs) (map (shape plan j job (spot_in k outer fs)) cells)
 activations-with plan j job k outer [] cells = refl
 activations-with plan j job k outer (f ∷ below) cells = refl
 
@@ -84,12 +84,12 @@ module _ (x : Storage) (core new : List Tagged) (r r' : Regs) (marks : List ℕ)
 
   -- other cells in the top frame
   pub SessionHolds-cells : (n : ℕ) (cells : List Word) → IsFree m.progress.job n
-      → Represents x new r' (with_stack (machine_view plan s.jobs) plan.running (with_cells running_stack (map (shape plan m.constants.number m.progress.job (spot_in plan.running outer t.frames)) cells)))
-      → NoOriginalAboveTop (with_stack (machine_view plan s.jobs) plan.running (with_cells running_stack (map (shape plan m.constants.number m.progress.job (spot_in plan.running outer t.frames)) cells)))
+      → Represents x new r' (with_stack (machine_view plan s.jobs) plan.running (stack_with_cells running_stack (map (shape plan m.constants.number m.progress.job (spot_in plan.running outer t.frames)) cells)))
+      → NoOriginalAboveTop (with_stack (machine_view plan s.jobs) plan.running (stack_with_cells running_stack (map (shape plan m.constants.number m.progress.job (spot_in plan.running outer t.frames)) cells)))
       → SessionHolds x new r' marks plan (record s { jobs = with_course s.jobs m.constants.number (record m.progress { job = with_task m.progress.job (record t { frames = with_top_cells t.frames cells; place = q }) }) })
   SessionHolds-cells n cells free stands settled =
       after (with_task m.progress.job (record t { frames = with_top_cells t.frames cells; place = q })) (with_top_cells t.frames cells)
-      (with_cells running_stack (map (shape plan m.constants.number m.progress.job (spot_in plan.running outer t.frames)) cells)) n
+      (stack_with_cells running_stack (map (shape plan m.constants.number m.progress.job (spot_in plan.running outer t.frames)) cells)) n
       (record {
         there = runs.task;
         number = refl;

@@ -4,7 +4,7 @@ use Rattle.std.specs.List.{slice_get}
 use Rattle.b67_word.specs.declared.couples.Place.{Place}
 use Rattle.b67_model.specs.Common.{Word, Frame, Task, JobProgress, SessionJob, with_top_cells, with_task, Session}
 use Rattle.b67_stack.specs.declared.Cpu.{Cpu}
-use Rattle.b67_stack.specs.Common.{StackPlace, NoOriginalAboveTop, Storage, Represents, with_stack, with_cells}
+use Rattle.b67_stack.specs.Common.{StackPlace, NoOriginalAboveTop, Storage, Represents, with_stack, stack_with_cells}
 use Rattle.b67_layout.specs.Common.{Placement, slot_of, spot_in, outer_spots, spots, shape, stack_of_task, machine_view, IsRunning, ShowsDisplay, SessionHolds, RepresentsSession}
 use Rattle.b67_layout.proofs.Others.{OnTop, outer_spots-after, task-same}
 use Rattle.b67_layout.proofs.MachineViews.{with_course, member-same}
@@ -29,7 +29,7 @@ session_with s m t cells q =
 module _ (x : Storage) (old new : Cpu) (plan : Placement) (s : Session) (m : SessionJob) (t : Task) (q : Place) (h : RepresentsSession x old plan s) (runs : IsRunning plan s.jobs m t)
     (same : (i : ℕ) → i < plan.stacks → slice_get new.core i ≡ slice_get old.core i) (on : GoesOn old.regs new.regs q) (display : new.display ≡ old.display) (critical : new.critical ≡ old.critical) where
   pub RepresentsSession-cells : (n : ℕ) (cells : List Word) → IsFree m.progress.job n
-      → let stack = with_cells (stack_of_task plan m.constants.number m.progress.job plan.running t) (map (shape plan m.constants.number m.progress.job (spot_in plan.running (outer_spots plan m.constants.number m.progress.job t.critical t.parents) t.frames)) cells) in
+      → let stack = stack_with_cells (stack_of_task plan m.constants.number m.progress.job plan.running t) (map (shape plan m.constants.number m.progress.job (spot_in plan.running (outer_spots plan m.constants.number m.progress.job t.critical t.parents) t.frames)) cells) in
       Represents x new.core new.regs (with_stack (machine_view plan s.jobs) plan.running stack) → NoOriginalAboveTop (with_stack (machine_view plan s.jobs) plan.running stack)
       → RepresentsSession x new plan (session_with s m t cells q)
   RepresentsSession-cells n cells free stands settled =

@@ -1,7 +1,7 @@
 -- The definitions of the layout of core that others cite, passed on from one place. Declares nothing.
 pub use Rattle.b67_layout.specs.Layout.{activations, array_object, code_objects, head, machine_view, objects_of, shape, slot_at, slot_by, slot_in, slot_with, stack_of_task}
-pub use Rattle.b67_layout.specs.Meets.{FindsAbsent, ForEach, IsInStack, IsLiveCell, IsMade, IsPresent, IsTouched, MayChange, Meets, RunsSome, area_held, gone, here, objects_gone, with_job}
-pub use Rattle.b67_layout.specs.Moved.{moved}
+pub use Rattle.b67_layout.specs.Meets.{FindsAbsent, ForEach, IsInStack, IsLiveCell, IsMade, TouchedIsPresent, IsTouched, MayChange, Meets, RunsSome, area_held, gone, here, objects_gone, with_job}
+pub use Rattle.b67_layout.specs.Moved.{session_moved}
 pub use Rattle.b67_layout.specs.Orders.{IsInOrderButCounts, JobInOrderButCounts}
 pub use Rattle.b67_layout.specs.Peaks.{peak_with}
 pub use Rattle.b67_layout.specs.Placement.{Placement, Slotted, address_of, base_of, base_spot, is_row_of, outer_spots, slot_of, spot_in, spots}

@@ -39,9 +39,9 @@ abbrev pub area_held : Storage → Placement → ℕ → ℕ → Option ℕ
 area_held x plan j a = (x.held (plan.home j a)).area
 
 -- an array that was touched is in an area
-abbrev pub IsPresent : Storage → Placement → ℕ → Option ℕ → Type 0
-IsPresent x plan j None = Unit {0}
-IsPresent x plan j (Some a) = (at : ℕ) × (area_held x plan j a ≡ Some at)
+abbrev pub TouchedIsPresent : Storage → Placement → ℕ → Option ℕ → Type 0
+TouchedIsPresent x plan j None = Unit {0}
+TouchedIsPresent x plan j (Some a) = (at : ℕ) × (area_held x plan j a ≡ Some at)
 
 -- a core address in the running stack, above the base word
 abbrev pub IsInStack : Regs → ℕ → Type 0
@@ -73,7 +73,7 @@ pub record IsMade (x : Storage) (plan : Placement) (s : Session) (m : SessionJob
   pub job : Job
   pub touched : Option ℕ
   pub is : answer ≡ Ok (Goes job [] touched)
-  pub present : IsPresent x plan m.constants.number touched
+  pub present : TouchedIsPresent x plan m.constants.number touched
   pub stands : RepresentsSessionBut (objects_gone plan m job) x new plan (with_job s m job)
   pub changed : (i : ℕ) → (slice_get new.core i ≡ slice_get old.core i) ⊎ MayChange x plan m old.regs touched i
 

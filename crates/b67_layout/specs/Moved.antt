@@ -5,5 +5,5 @@ use Rattle.b67_layout.specs.Meets.{with_job}
 use Rattle.b67_layout.specs.Peaks.{peak_with}
 
 -- the session with another job of a member, whose tasks count for the peak
-abbrev pub moved : Session → SessionJob → Job → ℕ → Session
-moved s m job more = record (with_job s m job) { peak = peak_with s more }
+abbrev pub session_moved : Session → SessionJob → Job → ℕ → Session
+session_moved s m job more = record (with_job s m job) { peak = peak_with s more }

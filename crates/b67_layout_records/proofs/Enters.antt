@@ -9,7 +9,7 @@ use Rattle.b67_ctl.specs.Layout.{mscw_word, rcw_word}
 use Rattle.b67_core.proofs.Writes.{slice_get-set_other}
 use Rattle.b67_model.specs.Common.{Word, Frame, Return, Condition, Ready, Task, Job, SessionJob, top, below_top, height, with_task, from_frame, Session, number_of}
 use Rattle.b67_model.specs.State as State
-use Rattle.b67_stack.specs.Common.{Shape, Original, StackPlace, Head, Marked, Entered, Activation, HeadFits, running_level, mark_of, return_of, RunsOn, Storage, RepresentsRunning, Represents, with_stack}
+use Rattle.b67_stack.specs.Common.{Shape, Original, StackPlace, Head, Marked, Entered, Activation, HeadFits, stack_level, mark_of, return_of, RunsOn, Storage, RepresentsRunning, Represents, with_stack}
 use Rattle.b67_stack.proofs.Slots.{running_slot}
 use Rattle.b67_stack.proofs.Pushes.{Room, room_of}
 use Rattle.b67_layout.specs.Common.{Placement, spot_in, outer_spots, shape, head, activations, stack_of_task, machine_view, with_job, IsRunning, ShowsDisplay, critical_mark, SessionHolds, RepresentsSession}
@@ -98,7 +98,7 @@ module _ (x : Storage) (core : List Tagged) (r : Regs) (marks : List ℕ) (plan 
   two_cells = omega (arith, top_is.top, top_is.mark, length-append (map sh cells) (sh first ∷ []))
 
   -- the running level is that of what lies under the marked record
-  pub level_is : r.level ≡ running_level under
+  pub level_is : r.level ≡ stack_level under
   level_is = top_is.level
 
   module _ (n : ℕ) (free : IsFree m.progress.job n) (segment : ℕ) (q : Place) where

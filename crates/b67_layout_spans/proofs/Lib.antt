@@ -1,4 +1,4 @@
-pub mod Kins
+pub mod Residents
 pub mod Lies
 pub mod Sessions
 pub mod Covers

@@ -20,9 +20,9 @@ use Rattle.b67_stack.proofs.Slots.{slot_room}
 use Rattle.b67_layout.specs.Common.{JobInOrderButCounts, IsInOrderButCounts, Slotted, Placement, slot_of, spot_in, outer_spots, shape, head, activations, stack_of_task, slot_by, slot_at, machine_view, PlanFits, DictionariesFollow}
 use Rattle.b67_layout.proofs.Common.{job_in_order, task_row, slot_below, follow-up, lies_at, original_word, InFrame, original_of, entry_number, stack_in_slot}
 use Rattle.b67_overlay.specs.declared.spans.Span.{Span}
-use Rattle.b67_overlay.specs.Spans.{Families, holds, span_of, up_from, whole, InSpan, ShapeInSpan, CopiesInSpans}
+use Rattle.b67_overlay.specs.Spans.{Families, holds, span_of, up_from, whole_stack, InSpan, ShapeInSpan, CopiesInSpans}
 use Rattle.b67_overlay.proofs.Families.{is_held, not_held_under, not_held_over, span_in_job, span_in_own, span_in_parent}
-use Rattle.b67_layout_spans.proofs.Kins.{kin_of, families, kin_there, parents_fall, task_order, job_found, lives_or}
+use Rattle.b67_layout_spans.proofs.Residents.{kin_of, families, kin_there, parents_fall, task_order, job_found, lives_or}
 use Rattle.b67_law_order.proofs.Lines.{outer_owned, one_task, frame_is, frame_named}
 
 dictionary_under : (plan : Placement) (at : ℕ) (ms : List SessionJob) (y : SessionJob) → DictionariesFollow plan at ms → Has ms y → plan.dictionary y.constants.number + (2 + length y.constants.dictionary.cells) ≤ plan.stacks
@@ -97,7 +97,7 @@ module _ (x : Storage) (core : List Tagged) (r : Regs) (plan : Placement) (s : S
     in_place = kin_there plan s o fits m t hm ht
 
     -- the span of an array whose original is in the dictionary
-    in_dictionary : (a : ℕ) → Has m.constants.dictionary.cells (Original a) → span_of f p (plan.home j a) k ≡ Some (whole p k)
+    in_dictionary : (a : ℕ) → Has m.constants.dictionary.cells (Original a) → span_of f p (plan.home j a) k ≡ Some (whole_stack p k)
     in_dictionary a d =
         let e = entry_number 1 m.constants.segments (reverse m.constants.dictionary.cells) a (order_of m hm).unchanging.dictionary (has_reverse m.constants.dictionary.cells (Original a) d) in
         let n : length (reverse m.constants.dictionary.cells) ≡ length m.constants.dictionary.cells = length-reverse m.constants.dictionary.cells in
@@ -113,7 +113,7 @@ module _ (x : Storage) (core : List Tagged) (r : Regs) (plan : Placement) (s : S
         rw in_place (span_in_own f p (plan.home j a) k (kin_of plan j t) (omega (arith, h.0)) (is_held p (plan.home j a) k (omega (arith, h.0)) h.1))
 
     -- of one whose original is in the stack of a task above
-    in_above : (u : Task) (g : Frame) (a : ℕ) → Has job.tasks u → Has t.parents u.number → Has u.frames g → Has g.cells (Original a) → span_of f p (plan.home j a) k ≡ Some (whole p k)
+    in_above : (u : Task) (g : Frame) (a : ℕ) → Has job.tasks u → Has t.parents u.number → Has u.frames g → Has g.cells (Original a) → span_of f p (plan.home j a) k ≡ Some (whole_stack p k)
     in_above u g a hu above hg ha =
         let l = slot_of plan j u.number in
         let h = home_held m u g a hm hu hg ha in

@@ -12,7 +12,7 @@ use Rattle.b67_layout.specs.Common.{IsInOrderButCounts, Placement, machine_view,
 use Rattle.b67_overlay.specs.Spans.{CopiesLie, MachineCanPage, span_of, InSpan}
 use Rattle.b67_overlay.proofs.Copies.{in_or_out, no_copy_outside}
 use Rattle.b67_layout_spans.specs.SpansHold.{SpansHoldCopies}
-use Rattle.b67_layout_spans.proofs.Kins.{families, families_shown}
+use Rattle.b67_layout_spans.proofs.Residents.{families, families_shown}
 use Rattle.b67_layout_spans.proofs.Lies.{copies_lie}
 
 pub copies_of : (x : Storage) (cpu : Cpu) (plan : Placement) (s : Session) → IsInOrderButCounts s → RepresentsSession x cpu plan s → CopiesLie cpu.core (machine_view plan s.jobs)

@@ -8,7 +8,7 @@ use Rattle.b67_stack.specs.MachineView.{PagedObject}
 use Rattle.b67_stack.specs.Represents.{Storage}
 use Rattle.b67_layout_storage.specs.Machine.{IsPresent}
 use Rattle.b67_layout.specs.Common.{IsInOrderButCounts, Placement, machine_view, RepresentsSession}
-use Rattle.b67_overlay.specs.Turns.{IsCopyOf, InStack}
+use Rattle.b67_overlay.specs.Turns.{IsCopyOfArea, InStack}
 use Rattle.b67_overlay.specs.Spans.{Families, ShowsFamilies, span_of, InSpan}
 
 -- a present copy of an area lies at an address of a slot's stack
@@ -16,7 +16,7 @@ pub record IsCopyAt (cpu : Cpu) (area i : ℕ) : Type 0 where
   pub desc : DataDesc
   pub fits : IsDataDesc desc
   pub read : slice_get cpu.core i ≡ Some (data_word desc)
-  pub copy : IsCopyOf area desc
+  pub copy : IsCopyOfArea area desc
 
 -- the machine represents a session in order, whatever its places and counts: then core shows who lives in each slot, and each
 -- present copy of an array on a stack lies in the span of that slot for the array's original

@@ -11,7 +11,7 @@ use Rattle.b67_area.specs.Directory.{IsDirectory}
 use Rattle.b67_backing.specs.Shelf.{Shelf, chain_of}
 use Rattle.b67_lemmas.specs.Lists.{Has}
 use Rattle.b67_ctl.specs.declared.registers.Regs.{Regs}
-use Rattle.b67_stack.specs.Common.{Location, PagedObject, MachineView, Slot, Free, Running, Waiting, SlotFits, IsArrayAt, Laid, slot_base, home_word, Storage, RepresentsSlot, RepresentsSlots, StacksLie, RepresentsObjects, RepresentsObject, Content, Owned, info_of, Represents, with_held, TakesPlace}
+use Rattle.b67_stack.specs.Common.{Location, PagedObject, MachineView, Slot, Free, Running, Waiting, SlotFits, IsArrayAt, IsLaidOut, slot_base, home_word, Storage, RepresentsSlot, RepresentsSlots, StacksLie, RepresentsObjects, RepresentsObject, Content, Owned, info_of, Represents, with_held, TakesPlace}
 use Rattle.b67_stack.proofs.Helds.{held-other, held-same}
 use Rattle.b67_stack.proofs.Reheld.{slot_same, ObjectStays, Content-stays, storage_with, info_with}
 
@@ -41,7 +41,7 @@ module _ (x : Storage) (core new : List Tagged) (r : Regs) (p : MachineView) (ob
   abbrev p' : MachineView
   p' = record p { objects = objects' }
 
-  laid : Laid x.low p
+  laid : IsLaidOut x.low p
   laid = s.slots.laid
 
   other : (q : ℕ) → q ≢ t.home → with_held x.held t.home h q ≡ x.held q
@@ -79,7 +79,7 @@ module _ (x : Storage) (core new : List Tagged) (r : Regs) (p : MachineView) (ob
   slot_fits k (Running stack) f = (f.0, λ d home i. named home (f.1 d home i))
   slot_fits k (Waiting stack) f = (f.0, λ d home i. named home (f.1 d home i))
 
-  laid' : Laid x.low p'
+  laid' : IsLaidOut x.low p'
   laid' = record {
     low = laid.low;
     first = laid.first;

@@ -9,7 +9,7 @@ use Rattle.b67_backing.specs.Held.{sectors_for}
 use Rattle.b67_lemmas.specs.Lists.{Has}
 use Rattle.b67_lemmas.proofs.Members.{has_map}
 use Rattle.b67_ctl.specs.declared.registers.Regs.{Regs}
-use Rattle.b67_stack.specs.Common.{PagedObject, MachineView, Slot, Free, Running, Waiting, SlotFits, IsArrayAt, Laid, slot_base, home_word_of, Storage, RepresentsSlot, RepresentsObjects, RepresentsObject, Content, AbsentContent, Told, Owned, info_of, Represents, renumber, renumbered, Stayed}
+use Rattle.b67_stack.specs.Common.{PagedObject, MachineView, Slot, Free, Running, Waiting, SlotFits, IsArrayAt, IsLaidOut, slot_base, home_word_of, Storage, RepresentsSlot, RepresentsObjects, RepresentsObject, Content, AbsentContent, Told, Owned, info_of, Represents, renumber, renumbered, LowWordsStayed}
 
 -- an object of other numbers, as many
 pub record Alike (u v : PagedObject) : Type 0 where
@@ -57,7 +57,7 @@ module _ (x : Storage) (core : List Tagged) (r : Regs) (p : MachineView) (s : Re
   fits k (Running stack) h = (h.0, λ c home there. named home (h.1 c home there))
   fits k (Waiting stack) h = (h.0, λ c home there. named home (h.1 c home there))
 
-  laid : Laid x.low p'
+  laid : IsLaidOut x.low p'
   laid = let l = s.slots.laid in record {
     low = l.low;
     first = l.first;
@@ -152,7 +152,7 @@ renumbered-same x core r p s t int =
 pub kept_there : (p : MachineView) (home : ℕ) (ns : List ℕ) (c : PagedObject) → Has p.objects c → c.home ≢ home → Has (renumbered p home ns).objects c
 kept_there p home ns c int n = let Q : PagedObject → Type 0 = λ v. Has (map (renumber home ns) p.objects) v in subst Q (renumber-other home ns c n) (has_map (renumber home ns) p.objects c int)
 
-pub Stayed-renumbered : (p : MachineView) (home : ℕ) (ns : List ℕ) (core new : List Tagged) → Stayed (renumbered p home ns) core new → Stayed p core new
+pub Stayed-renumbered : (p : MachineView) (home : ℕ) (ns : List ℕ) (core new : List Tagged) → LowWordsStayed (renumbered p home ns) core new → LowWordsStayed p core new
 Stayed-renumbered p home ns core new s i low out apart = s i low out (λ v inv e. let o = Has-map (renumber home ns) p.objects v inv in apart o.0 o.1 (sym (home_is o.0) ∙ ap (λ (u : PagedObject). u.home) o.2 ∙ e)) where
   home_is : (u : PagedObject) → (renumber home ns u).home ≡ u.home
   home_is u = ⊎_elim

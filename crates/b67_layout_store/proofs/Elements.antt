@@ -15,7 +15,7 @@ use Rattle.b67_area.proofs.Laws.{area_inside, areas_apart}
 use Rattle.b67_area.proofs.Separation.{IsDirectory-set_area}
 use Rattle.b67_lemmas.specs.Lists.{Has}
 use Rattle.b67_ctl.specs.declared.registers.Regs.{Regs}
-use Rattle.b67_stack.specs.Common.{Fits, LieUpward, stack_words, words, PagedObject, MachineView, Slot, Free, Running, Waiting, stack_of, slot_base, SlotFits, CopiesName, IsArrayAt, Laid, NoOriginalAboveTop, home_word, words_of, tag_of, Storage, RepresentsSlot, RepresentsObject, Content, KeptChain, Represents, info_of}
+use Rattle.b67_stack.specs.Common.{Fits, LieUpward, stack_words, words, PagedObject, MachineView, Slot, Free, Running, Waiting, stack_of, slot_base, SlotFits, CopiesName, IsArrayAt, IsLaidOut, NoOriginalAboveTop, home_word, object_words, tag_of, Storage, RepresentsSlot, RepresentsObject, Content, KeptChain, Represents, info_of}
 use Rattle.b67_stack.proofs.Bases.{base-apart}
 use Rattle.b67_stack.proofs.Lies.{Lie-same, Upward-same}
 use Rattle.b67_stack.proofs.Heights.{words-length}
@@ -58,7 +58,7 @@ module _ (x : Storage) (core : List Tagged) (r : Regs) (p : MachineView) (object
   abbrev p' : MachineView
   p' = record p { objects = objects' }
 
-  laid : Laid x.low p
+  laid : IsLaidOut x.low p
   laid = s.slots.laid
 
   n : length (slice_set t.numbers i v) ≡ length t.numbers
@@ -114,7 +114,7 @@ module _ (x : Storage) (core : List Tagged) (r : Regs) (p : MachineView) (object
   slot_stands k h (Running stack) f = record { slot = f.slot; first = f.first; last = f.last; top = f.top; mark = f.mark; level = f.level }
   slot_stands k h (Waiting stack) f = (f.0, below (slot_base p k) (slot_below k h) ∙ f.1)
 
-  laid' : Laid x.low p'
+  laid' : IsLaidOut x.low p'
   laid' = record {
     low = laid.low;
     first = laid.first;
@@ -131,7 +131,7 @@ module _ (x : Storage) (core : List Tagged) (r : Regs) (p : MachineView) (object
   }
 
   -- an area of another object is apart
-  other_area : (u : PagedObject) → Has p.objects u → u.home ≢ t.home → (c : ℕ) → (x.held u.home).area ≡ Some c → (q : ℕ) → c ≤ q → q < c + length (words_of u) → slice_get new q ≡ slice_get core q
+  other_area : (u : PagedObject) → Has p.objects u → u.home ≢ t.home → (c : ℕ) → (x.held u.home).area ≡ Some c → (q : ℕ) → c ≤ q → q < c + length (object_words u) → slice_get new q ≡ slice_get core q
   other_area u h ne c e q down up =
       let o = s.owned.of_held u.home c e in
       let same : o.0 ≡ u = laid.differ o.0 u o.1 h o.2 in
@@ -146,7 +146,7 @@ module _ (x : Storage) (core : List Tagged) (r : Regs) (p : MachineView) (object
 
   content_other : (u : PagedObject) → Has p.objects u → u.home ≢ t.home → (a : Option ℕ) → (x.held u.home).area ≡ a → (first : ℕ) → Content x core u a first → Content x new u a first
   content_other u h ne None e first c = c
-  content_other u h ne (Some a) e first c = (Upward-same core new a (words_of u) (other_area u h ne a e) c.0, c.1)
+  content_other u h ne (Some a) e first c = (Upward-same core new a (object_words u) (other_area u h ne a e) c.0, c.1)
 
   home_same : (u : PagedObject) → Has p.objects u → slice_get new u.home ≡ slice_get core u.home
   home_same u h = let e = (laid.homes u h).1 in below u.home (omega (arith, e))

@@ -9,7 +9,7 @@ use Rattle.b67_lemmas.specs.Lists.{Has}
 use Rattle.b67_model.specs.State.{Return}
 use Rattle.std.proofs.lemmas.List.{length-map}
 use Rattle.b67_ctl.specs.Layout.{mscw_word, rcw_word}
-use Rattle.b67_stack.specs.Common.{Copied, Shape, Is, Copy, LieDownward, Head, Marked, Entered, Activation, head_size, top_size, stack_words, mark_place, level_from, running_level, mark_of, return_of, headed, words, ReturnFits, HeadFits, HeadsFit}
+use Rattle.b67_stack.specs.Common.{Copied, Shape, Is, Copy, LieDownward, Head, Marked, Entered, Activation, head_size, top_size, stack_words, mark_place, level_from, stack_level, mark_of, return_of, headed, words, ReturnFits, HeadFits, HeadsFit}
 use Rattle.b67_stack.proofs.Lies.{Lie-same, Lie-under}
 use Rattle.b67_stack.proofs.Heights.{words-length, headed-length}
 
@@ -94,7 +94,7 @@ pub puts_mark : {c : Shape} {at : ℕ} {st st' : List Activation} → Puts c at 
 puts_mark (within a below i low) = refl
 puts_mark (lower a p) = let h = puts_high p in omega (arith, h)
 
-pub puts_level : {c : Shape} {at : ℕ} {st st' : List Activation} → Puts c at st st' → running_level st' ≡ running_level st
+pub puts_level : {c : Shape} {at : ℕ} {st st' : List Activation} → Puts c at st st' → stack_level st' ≡ stack_level st
 puts_level (within a below i low) = refl
 puts_level (lower a p) = ap (level_from a.head) (puts_level p)
 
@@ -124,7 +124,7 @@ puts_headed k (Entered level environment None) under p =
     ap (λ (n : ℕ). Is (rcw_word (record { place = record { word = 0; syllable = 0 }; level = 0; segment = 0 })) ∷ Is (mscw_word (record { far = not (environment.stack == k); entered = true; env_stack = environment.stack; env_disp = environment.disp; value = false; level = level; back = n })) ∷ under) (puts_top p)
 puts_headed {st = st} {st' = st'} k (Entered level environment (Some r)) under p =
     ap (λ (n : ℕ). Is (rcw_word (record { place = r.place; level = n; segment = r.segment + 1 })) ∷ Is (mscw_word (record { far = not (environment.stack == k); entered = true; env_stack = environment.stack; env_disp = environment.disp; value = r.value; level = level; back = top_size st' })) ∷ under) (puts_level p)
-    ∙ ap (λ (n : ℕ). Is (rcw_word (record { place = r.place; level = running_level st; segment = r.segment + 1 })) ∷ Is (mscw_word (record { far = not (environment.stack == k); entered = true; env_stack = environment.stack; env_disp = environment.disp; value = r.value; level = level; back = n })) ∷ under) (puts_top p)
+    ∙ ap (λ (n : ℕ). Is (rcw_word (record { place = r.place; level = stack_level st; segment = r.segment + 1 })) ∷ Is (mscw_word (record { far = not (environment.stack == k); entered = true; env_stack = environment.stack; env_disp = environment.disp; value = r.value; level = level; back = n })) ∷ under) (puts_top p)
 
 -- a word over others, where those others are as many
 moved : (R : Shape → ℕ → Tagged → Type 0) (core : List Tagged) (from i : ℕ) (v : Tagged) (sh : Shape) (n n' : ℕ) → n' ≡ n → i < from + n

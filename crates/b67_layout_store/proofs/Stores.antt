@@ -10,7 +10,7 @@ use Rattle.b67_area.proofs.Climbs.{area_at-low}
 use Rattle.b67_area.proofs.Separation.{IsDirectory-same, controls_above}
 use Rattle.b67_lemmas.specs.Lists.{Has}
 use Rattle.b67_ctl.specs.declared.registers.Regs.{Regs}
-use Rattle.b67_stack.specs.Common.{Copied, Shape, Copy, Fits, LieDownward, Activation, IsStack, stack_words, words, PagedObject, MachineView, Slot, Free, Running, Waiting, stack_of, slot_base, SlotFits, CopiesName, Laid, NoOriginalAboveTop, with_slot, Storage, RepresentsSlot, Represents, info_of}
+use Rattle.b67_stack.specs.Common.{Copied, Shape, Copy, Fits, LieDownward, Activation, IsStack, stack_words, words, PagedObject, MachineView, Slot, Free, Running, Waiting, stack_of, slot_base, SlotFits, CopiesName, IsLaidOut, NoOriginalAboveTop, with_slot, Storage, RepresentsSlot, Represents, info_of}
 use Rattle.b67_stack.proofs.Bases.{base-apart}
 use Rattle.b67_stack.proofs.Lies.{Lie-same}
 use Rattle.b67_stack.proofs.Heights.{words-length}
@@ -80,7 +80,7 @@ module _ (x : Storage) (core : List Tagged) (r : Regs) (p : MachineView) (k : â„
   abbrev new : List Tagged
   new = slice_set core (suc (slot_base p k) + at) v
 
-  laid : Laid x.low p
+  laid : IsLaidOut x.low p
   laid = s.slots.laid
 
   fits : SlotFits p k y
@@ -109,7 +109,7 @@ module _ (x : Storage) (core : List Tagged) (r : Regs) (p : MachineView) (k : â„
   fits_same j (Running q) f = f
   fits_same j (Waiting q) f = f
 
-  laid' : Laid x.low (with_slot p k y')
+  laid' : IsLaidOut x.low (with_slot p k y')
   laid' = record {
     low = laid.low;
     first = laid.first;

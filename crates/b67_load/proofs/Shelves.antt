@@ -8,8 +8,8 @@ use Rattle.b67_backing.proofs.Links.{Chain, chain_there, linked_within, rest, on
 use Rattle.b67_backing.proofs.News.{first_take}
 use Rattle.b67_lemmas.specs.Lists.{Has}
 use Rattle.b67_stack.specs.MachineView.{PagedObject}
-use Rattle.b67_load.specs.Objects.{sectors_of}
-use Rattle.b67_load.specs.Resting.{Resting, placed, stocked, KeepsChains}
+use Rattle.b67_load.specs.Objects.{object_sectors}
+use Rattle.b67_load.specs.StoredObjects.{StoredObject, placed, stocked, KeepsChains}
 
 -- a chain's first sector is a sector's number
 pub first_small : (t : Table) (s : Shelf) (x n : ℕ) → HasChain t s x n → 1 ≤ n → x < 2 ^ 20
@@ -117,25 +117,25 @@ keeps_both a b c k l = record {
 -- objects one after the other
 pub stocked-append : (xs ys : List PagedObject) (s : Shelf) → stocked (xs ++ ys) s ≡ stocked ys (stocked xs s)
 stocked-append [] ys s = refl
-stocked-append (x ∷ xs) ys s = stocked-append xs ys (taken (sectors_of x) s)
+stocked-append (x ∷ xs) ys s = stocked-append xs ys (taken (object_sectors x) s)
 
 pub placed-append : (xs ys : List PagedObject) (s : Shelf) → placed (xs ++ ys) s.free ≡ placed xs s.free ++ placed ys (stocked xs s).free
 placed-append [] ys s = refl
-placed-append (x ∷ xs) ys s = ap (λ (r : List Resting). record { object = x; chain = take (sectors_of x) s.free } ∷ r) (placed-append xs ys (taken (sectors_of x) s))
+placed-append (x ∷ xs) ys s = ap (λ (r : List StoredObject). record { object = x; chain = take (object_sectors x) s.free } ∷ r) (placed-append xs ys (taken (object_sectors x) s))
 
 pub old_chain : (xs : List PagedObject) (s : Shelf) (k : List ℕ) → Has s.chains k → Has (stocked xs s).chains k
 old_chain [] s k h = h
-old_chain (x ∷ xs) s k h = old_chain xs (taken (sectors_of x) s) k (inr h)
+old_chain (x ∷ xs) s k h = old_chain xs (taken (object_sectors x) s) k (inr h)
 
-pub placed_chain : (xs : List PagedObject) (s : Shelf) (r : Resting) → Has (placed xs s.free) r → Has (stocked xs s).chains r.chain
+pub placed_chain : (xs : List PagedObject) (s : Shelf) (r : StoredObject) → Has (placed xs s.free) r → Has (stocked xs s).chains r.chain
 placed_chain [] s r h = absurd h
-placed_chain (x ∷ xs) s r (inl e) = old_chain xs (taken (sectors_of x) s) r.chain (inl (ap (λ (q : Resting). q.chain) e))
-placed_chain (x ∷ xs) s r (inr h) = placed_chain xs (taken (sectors_of x) s) r h
+placed_chain (x ∷ xs) s r (inl e) = old_chain xs (taken (object_sectors x) s) r.chain (inl (ap (λ (q : StoredObject). q.chain) e))
+placed_chain (x ∷ xs) s r (inr h) = placed_chain xs (taken (object_sectors x) s) r h
 
-pub placed_object : (xs : List PagedObject) (free : List ℕ) (r : Resting) → Has (placed xs free) r → Has xs r.object
+pub placed_object : (xs : List PagedObject) (free : List ℕ) (r : StoredObject) → Has (placed xs free) r → Has xs r.object
 placed_object [] free r h = absurd h
-placed_object (x ∷ xs) free r (inl e) = inl (ap (λ (q : Resting). q.object) e)
-placed_object (x ∷ xs) free r (inr h) = inr (placed_object xs (drop (sectors_of x) free) r h)
+placed_object (x ∷ xs) free r (inl e) = inl (ap (λ (q : StoredObject). q.object) e)
+placed_object (x ∷ xs) free r (inr h) = inr (placed_object xs (drop (object_sectors x) free) r h)
 
 -- what a chain holds stays under changes of other sectors
 pub holds_stay : (ns k : List ℕ) (a b : List (List ℕ)) (at : ℕ) (numbers : List ℕ) → SameBut ns a b → ((c : ℕ) → Has k c → (1 ≤ c) × (times c ns ≡ 0)) → Fills a k at numbers → Fills b k at numbers
@@ -159,4 +159,4 @@ none_more xs ys m more z = ⊎_elim
 
 pub stocked_has : (m : ℕ) (xs : List PagedObject) (s : Shelf) → Has (stocked xs s).free m → Has s.free m
 stocked_has m [] s h = h
-stocked_has m (x ∷ xs) s h = has_drop (sectors_of x) s.free m (stocked_has m xs (taken (sectors_of x) s) h)
+stocked_has m (x ∷ xs) s h = has_drop (object_sectors x) s.free m (stocked_has m xs (taken (object_sectors x) s) h)

@@ -11,8 +11,8 @@ use Rattle.b67_lemmas.specs.Lists.{Has, total}
 use Rattle.b67_lemmas.proofs.Members.{total_append}
 use Rattle.b67_model.specs.Program.{Program}
 use Rattle.b67_stack.specs.MachineView.{PagedObject}
-use Rattle.b67_load.specs.Objects.{code_from, rows_from, objects_of, entries_of, sectors_of, sectors_of_objects, sectors_of_program}
-use Rattle.b67_load.specs.Resting.{placed, dictionary_mark, DescriptorsStand, DictionaryIs, SameOutside}
+use Rattle.b67_load.specs.Objects.{code_from, rows_from, program_objects, entries_of, object_sectors, sectors_of_objects, sectors_of_program}
+use Rattle.b67_load.specs.StoredObjects.{placed, dictionary_mark, DescriptorsStand, DictionaryIs, SameOutside}
 use Rattle.b67_backing.specs.Shelf.{Shelf, IsShelf}
 use Rattle.b67_load.specs.Writing.{Parts, Spares, Writes, Installed}
 use Rattle.b67_codefile.specs.declared.file.Codefile.{Codefile}
@@ -51,17 +51,17 @@ pub rows_end : (at i : ℕ) (rows : List (List Tagged)) → length rows ≤ i �
 rows_end at i rows h = ap (λ (q : List (List Tagged)). rows_from at (map contents q)) (none_left rows i h)
 
 -- the sectors of a program are those of its objects
-total-code_from : (at : ℕ) (segments : List state.Segment) → total sectors_of (code_from at segments) ≡ total (λ (s : state.Segment). sectors_for (length s.code)) segments
+total-code_from : (at : ℕ) (segments : List state.Segment) → total object_sectors (code_from at segments) ≡ total (λ (s : state.Segment). sectors_for (length s.code)) segments
 total-code_from at [] = refl
 total-code_from at (s ∷ more) = ap (λ (n : ℕ). sectors_for (length s.code) + n) (total-code_from (at + 1) more)
 
-total-rows_from : (at : ℕ) (rows : List (List ℕ)) → total sectors_of (rows_from at rows) ≡ total (λ (r : List ℕ). sectors_for (length r)) rows
+total-rows_from : (at : ℕ) (rows : List (List ℕ)) → total object_sectors (rows_from at rows) ≡ total (λ (r : List ℕ). sectors_for (length r)) rows
 total-rows_from at [] = refl
 total-rows_from at (r ∷ more) = ap (λ (n : ℕ). sectors_for (length r) + n) (total-rows_from (at + 1) more)
 
-pub sectors-objects : (base : ℕ) (p : Program) → sectors_of_objects (objects_of base p) ≡ sectors_of_program p
+pub sectors-objects : (base : ℕ) (p : Program) → sectors_of_objects (program_objects base p) ≡ sectors_of_program p
 sectors-objects base p =
-    omega (arith, total_append sectors_of (code_from (base + 2) p.segments) (rows_from (base + (2 + length p.segments)) p.rows), total-code_from (base + 2) p.segments, total-rows_from (base + (2 + length p.segments)) p.rows)
+    omega (arith, total_append object_sectors (code_from (base + 2) p.segments) (rows_from (base + (2 + length p.segments)) p.rows), total-code_from (base + 2) p.segments, total-rows_from (base + (2 + length p.segments)) p.rows)
 
 -- segments lie where they begin and below their end
 pub code_low : (at : ℕ) (segments : List state.Segment) (t : PagedObject) → Has (code_from at segments) t → (at ≤ t.home) × (t.home < at + length segments)
@@ -70,14 +70,14 @@ code_low at (s ∷ more) t (inl e) = let k : at ≡ t.home = ap (λ (u : PagedOb
 code_low at (s ∷ more) t (inr h) = let (low, high) = code_low (at + 1) more t h in (omega (arith, low), omega (arith, high))
 
 pub sectors-parts : (base : ℕ) (f : Codefile) (segments : List Segment) (rows : List (List Tagged)) → segments ≡ f.segments → rows ≡ f.rows
-    → sectors_of_objects (code_from (base + 2) (map segment_of segments)) + sectors_of_objects (rows_from (base + (2 + length segments)) (map contents rows)) ≡ sectors_of_objects (objects_of base (program_of f))
+    → sectors_of_objects (code_from (base + 2) (map segment_of segments)) + sectors_of_objects (rows_from (base + (2 + length segments)) (map contents rows)) ≡ sectors_of_objects (program_objects base (program_of f))
 sectors-parts base f segments rows e q =
-    rw (← e, ← q, length-map segments segment_of) (sym (total_append sectors_of (code_from (base + 2) (map segment_of segments)) (rows_from (base + (2 + length segments)) (map contents rows))))
+    rw (← e, ← q, length-map segments segment_of) (sym (total_append object_sectors (code_from (base + 2) (map segment_of segments)) (rows_from (base + (2 + length segments)) (map contents rows))))
 
 -- segments and then rows
 pub all_written : {D : Type 0} (tell : D → Option (List (List ℕ))) (base : ℕ) (f : Codefile) (segments : List Segment) (rows : List (List Tagged)) (a b c : Parts D) → segments ≡ f.segments → rows ≡ f.rows
     → Writes tell (code_from (base + 2) (map segment_of segments)) a b → Spares tell (base + (2 + length segments)) (length rows) b c
-    → Writes tell (rows_from (base + (2 + length segments)) (map contents rows)) b c → Writes tell (objects_of base (program_of f)) a c
+    → Writes tell (rows_from (base + (2 + length segments)) (map contents rows)) b c → Writes tell (program_objects base (program_of f)) a c
 all_written tell base f segments rows a b c e q w s v =
     rw (← e, ← q, length-map segments segment_of) (writes_both tell (code_from (base + 2) (map segment_of segments)) (rows_from (base + (2 + length segments)) (map contents rows)) (base + (2 + length segments)) (length rows) a b c w v s (λ t h. inl (let (_, high) = code_low (base + 2) (map segment_of segments) t h in omega (arith, high, length-map segments segment_of))))
 
@@ -92,12 +92,12 @@ all_spared tell base f segments rows a b c e q s t =
 -- the two words before the entries are written first
 dictionary_stands : {D : Type 0} (tell : D → Option (List (List ℕ))) (base : ℕ) (f g : Codefile) (core one : List Tagged) (m n : Tagged) (a b : Parts D) (k : ℕ) → f ≡ g
     → base + 1 < length core → one ≡ slice_set core base m → length one ≡ length core → a.core ≡ slice_set one (base + 1) n
-    → m ≡ dictionary_mark → n ≡ word 0 (entries_of (program_of g)) → Spares tell (base + 2) k a b → Writes tell (objects_of base (program_of f)) a b
+    → m ≡ dictionary_mark → n ≡ word 0 (entries_of (program_of g)) → Spares tell (base + 2) k a b → Writes tell (program_objects base (program_of f)) a b
     → (st : Shelf) → IsShelf a.table st → DictionaryIs b.core base (program_of g) st.free
 dictionary_stands tell base f g core one m n a b k same inside first_set len second_set mark_is count_is s w st is = record {
   mark = s.outside base (inl (omega arith)) ∙ outside_set one a.core (base + 1) n second_set base (inl (omega arith)) ∙ word_set core one base m dictionary_mark (omega arith) first_set mark_is;
   entries = s.outside (base + 1) (inl (omega arith)) ∙ word_set one a.core (base + 1) n (word 0 (entries_of (program_of g))) (omega (arith, len)) second_set count_is;
-  descriptors = subst (λ (x : Codefile). DescriptorsStand b.core (placed (objects_of base (program_of x)) st.free)) same (w.descriptors st is);
+  descriptors = subst (λ (x : Codefile). DescriptorsStand b.core (placed (program_objects base (program_of x)) st.free)) same (w.descriptors st is);
 }
 
 dictionary_outside : {D : Type 0} (tell : D → Option (List (List ℕ))) (base : ℕ) (core one : List Tagged) (m n : Tagged) (a b : Parts D) (k : ℕ)
@@ -110,7 +110,7 @@ dictionary_outside tell base core one m n a b k first_set second_set s i h =
 -- what a program's dictionary and its objects leave
 pub all_installed : {D : Type 0} (tell : D → Option (List (List ℕ))) (base : ℕ) (f g : Codefile) (core one : List Tagged) (m n : Tagged) (a b : Parts D) (k : ℕ) → f ≡ g
     → base + 1 < length core → one ≡ slice_set core base m → length one ≡ length core → a.core ≡ slice_set one (base + 1) n
-    → m ≡ dictionary_mark → n ≡ word 0 (entries_of (program_of g)) → Spares tell (base + 2) k a b → Writes tell (objects_of base (program_of f)) a b
+    → m ≡ dictionary_mark → n ≡ word 0 (entries_of (program_of g)) → Spares tell (base + 2) k a b → Writes tell (program_objects base (program_of f)) a b
     → Installed tell base (program_of g) (record a { core = core }) b
 all_installed tell base f g core one m n a b k same inside first_set len second_set mark_is count_is s w =
     let there : (st : Shelf) → IsShelf a.table st → DictionaryIs b.core base (program_of g) st.free =

@@ -9,9 +9,9 @@ use Rattle.b67_backing.specs.Held.{Changes, SameBut, Stores, Fills, sectors_for}
 use Rattle.b67_backing.proofs.News.{first_take}
 use Rattle.b67_lemmas.specs.Lists.{Has}
 use Rattle.b67_lemmas.proofs.Members.{has_append_cases, total_append}
-use Rattle.b67_stack.specs.Common.{PagedObject, words_of, home_word, at_rest}
-use Rattle.b67_load.specs.Objects.{sectors_of, sectors_of_objects}
-use Rattle.b67_load.specs.Resting.{Resting, placed, stocked, descriptor, DescriptorsStand, WordsRest, WritesFreeSectors, SameOutside}
+use Rattle.b67_stack.specs.Common.{PagedObject, object_words, home_word, at_rest}
+use Rattle.b67_load.specs.Objects.{object_sectors, sectors_of_objects}
+use Rattle.b67_load.specs.StoredObjects.{StoredObject, placed, stocked, descriptor, DescriptorsStand, WordsRest, WritesFreeSectors, SameOutside}
 use Rattle.b67_load.specs.Writing.{Parts, Spares, Writes}
 use Rattle.b67_load.proofs.Shelves.{keeps_taken, keeps-refl, keeps_both, stocked-append, placed-append, stocked_has, placed_chain, placed_object, holds_stay, chain_apart, times-take_drop, none_more}
 
@@ -97,22 +97,22 @@ module _ {D : Type 0} (tell : D → Option (List (List ℕ))) where
 
   -- one object is written
   pub writes_one : (t : PagedObject) (a b : Parts D)
-      → ((s : Shelf) → IsShelf a.table s → IsShelf b.table (taken (sectors_of t) s))
-      → ((s : Shelf) → IsShelf a.table s → slice_get b.core t.home ≡ Some (descriptor (record { object = t; chain = take (sectors_of t) s.free })))
-      → ((s : Shelf) → IsShelf a.table s → Changes tell a.device b.device (Stores (take (sectors_of t) s.free) (map number (words_of t))))
-      → b.table.free + sectors_of t ≡ a.table.free
+      → ((s : Shelf) → IsShelf a.table s → IsShelf b.table (taken (object_sectors t) s))
+      → ((s : Shelf) → IsShelf a.table s → slice_get b.core t.home ≡ Some (descriptor (record { object = t; chain = take (object_sectors t) s.free })))
+      → ((s : Shelf) → IsShelf a.table s → Changes tell a.device b.device (Stores (take (object_sectors t) s.free) (map number (object_words t))))
+      → b.table.free + object_sectors t ≡ a.table.free
       → Writes tell (t ∷ []) a b
   writes_one t a b shelf desc stores left = record {
     shelf = shelf;
-    descriptors = λ s is r h. ⊎_elim (λ e. subst (λ (q : Resting). slice_get b.core q.object.home ≡ Some (descriptor q)) e (desc s is)) (λ k. absurd k) h;
+    descriptors = λ s is r h. ⊎_elim (λ e. subst (λ (q : StoredObject). slice_get b.core q.object.home ≡ Some (descriptor q)) e (desc s is)) (λ k. absurd k) h;
     stocks = λ s is. record {
       told = λ x e.
           let (y, told, one) = (stores s is).told x e in (
             y,
             told,
             record {
-              same = record { count = one.same.count; others = λ m low out. one.same.others m low (omega (arith, out, times-take_drop m (sectors_of t) s.free)) };
-              rest = λ r h. ⊎_elim (λ e. subst (λ (q : Resting). Fills y q.chain 0 (map number (words_of q.object))) e one.holds) (λ k. absurd k) h;
+              same = record { count = one.same.count; others = λ m low out. one.same.others m low (omega (arith, out, times-take_drop m (object_sectors t) s.free)) };
+              rest = λ r h. ⊎_elim (λ e. subst (λ (q : StoredObject). Fills y q.chain 0 (map number (object_words q.object))) e one.holds) (λ k. absurd k) h;
             },
           );
     };
@@ -121,17 +121,17 @@ module _ {D : Type 0} (tell : D → Option (List (List ℕ))) where
 
   -- an object whose words were put on a shelf, and its descriptor into core
   pub written : (t : PagedObject) (ws : List Tagged) (x : ℕ) (a b : Parts D) → (s : Shelf) × IsShelf a.table s
-      → words_of t ≡ ws → length t.numbers ≡ length ws → 1 ≤ length ws → sectors_for (length ws) ≤ a.table.free
+      → object_words t ≡ ws → length t.numbers ≡ length ws → 1 ≤ length ws → sectors_for (length ws) ≤ a.table.free
       → ((s : Shelf) → IsShelf a.table s → IsShelf b.table (taken (sectors_for (length ws)) s))
       → ((s : Shelf) → IsShelf a.table s → Changes tell a.device b.device (Stores (take (sectors_for (length ws)) s.free) (map number ws)))
       → ((s : Shelf) → IsShelf a.table s → x ≡ first s.free)
       → slice_get b.core t.home ≡ Some (home_word t (at_rest x))
       → Writes tell (t ∷ []) a b
   written t ws x a b known words long some fits shelf stores firsts word_is =
-      let n : sectors_for (length ws) ≡ sectors_of t = ap sectors_for (sym long) in
+      let n : sectors_for (length ws) ≡ object_sectors t = ap sectors_for (sym long) in
       writes_one t a b
       (λ s is. subst (λ (m : ℕ). IsShelf b.table (taken m s)) n (shelf s is))
-      (λ s is. word_is ∙ ap (λ (m : ℕ). Some (home_word t (at_rest m))) (firsts s is ∙ sym (first_take (sectors_of t) s.free (omega (arith, long)))))
+      (λ s is. word_is ∙ ap (λ (m : ℕ). Some (home_word t (at_rest m))) (firsts s is ∙ sym (first_take (object_sectors t) s.free (omega (arith, long)))))
       (λ s is. rw words (subst (λ (m : ℕ). Changes tell a.device b.device (Stores (take m s.free) (map number ws))) n (stores s is)))
       (let (s, is) = known in omega (arith, (shelf s is).count, is.count, length-drop (sectors_for (length ws)) s.free, n))
 
@@ -153,7 +153,7 @@ module _ {D : Type 0} (tell : D → Option (List (List ℕ))) where
             },
           );
     };
-    left = omega (arith, w.left, v.left, total_append sectors_of xs ys);
+    left = omega (arith, w.left, v.left, total_append object_sectors xs ys);
   } where
     both_stand : (st : Shelf) → IsShelf a.table st → DescriptorsStand c.core (placed xs st.free ++ placed ys (stocked xs st).free)
     both_stand st is r h = ⊎_elim
@@ -165,7 +165,7 @@ module _ {D : Type 0} (tell : D → Option (List (List ℕ))) where
         → WordsRest z (placed xs st.free ++ placed ys (stocked xs st).free)
     both_rest st is y z one two r h = ⊎_elim
         (λ (k : Has (placed xs st.free) r).
-        holds_stay (stocked xs st).free r.chain y z 0 (map number (words_of r.object)) two.same
+        holds_stay (stocked xs st).free r.chain y z 0 (map number (object_words r.object)) two.same
         (λ d i. let p = chain_apart b.table (stocked xs st) r.chain d (w.shelf st is) (placed_chain xs st r k) i in (p.low, p.not_free))
         (one.rest r k))
         (λ (k : Has (placed ys (stocked xs st).free) r). two.rest r k)

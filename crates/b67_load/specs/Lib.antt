@@ -1,3 +1,3 @@
 pub mod Objects
-pub mod Resting
+pub mod StoredObjects
 pub mod Writing

@@ -18,19 +18,19 @@ rows_from at [] = []
 rows_from at (r ∷ more) = record { home = at; kind = Row; numbers = r } ∷ rows_from (at + 1) more
 
 -- the objects of a program whose dictionary begins at base: its segments, and then its data rows, after two words
-abbrev pub objects_of : ℕ → Program → List PagedObject
-objects_of base p = code_from (base + 2) p.segments ++ rows_from (base + (2 + length p.segments)) p.rows
+abbrev pub program_objects : ℕ → Program → List PagedObject
+program_objects base p = code_from (base + 2) p.segments ++ rows_from (base + (2 + length p.segments)) p.rows
 
 -- how many entries a dictionary has
 abbrev pub entries_of : Program → ℕ
 entries_of p = length p.segments + length p.rows
 
 -- the sectors of an object, and of all
-abbrev pub sectors_of : PagedObject → ℕ
-sectors_of t = sectors_for (length t.numbers)
+abbrev pub object_sectors : PagedObject → ℕ
+object_sectors t = sectors_for (length t.numbers)
 
 abbrev pub sectors_of_objects : List PagedObject → ℕ
-sectors_of_objects objects = total sectors_of objects
+sectors_of_objects objects = total object_sectors objects
 
 -- the sectors that a program takes
 abbrev pub sectors_of_program : Program → ℕ

@@ -5,8 +5,8 @@ use Rattle.b67_backing.specs.Shelf.{Table, Shelf, IsShelf}
 use Rattle.b67_backing.specs.Held.{Changes, SameBut}
 use Rattle.b67_model.specs.Program.{Program}
 use Rattle.b67_stack.specs.MachineView.{PagedObject}
-use Rattle.b67_load.specs.Objects.{objects_of, sectors_of_objects, sectors_of_program}
-use Rattle.b67_load.specs.Resting.{placed, stocked, DescriptorsStand, DictionaryIs, WritesFreeSectors, SameOutside, KeepsChains}
+use Rattle.b67_load.specs.Objects.{program_objects, sectors_of_objects, sectors_of_program}
+use Rattle.b67_load.specs.StoredObjects.{placed, stocked, DescriptorsStand, DictionaryIs, WritesFreeSectors, SameOutside, KeepsChains}
 
 -- core, the table of sectors, and the device
 pub record Parts (D : Type 0) : Type 0 where
@@ -38,6 +38,6 @@ pub record HasSectors (many : ℕ) (table : Table) (wanted : ℕ) : Type 0 where
 -- the dictionary of a program stands at base, and its segments and data rows lie in sectors that were free
 pub record Installed {D : Type 0} (tell : D → Option (List (List ℕ))) (base : ℕ) (p : Program) (old new : Parts D) : Type 0 where
   pub dictionary : (st : Shelf) → IsShelf old.table st → DictionaryIs new.core base p st.free
-  pub shelf : (st : Shelf) → IsShelf old.table st → IsShelf new.table (stocked (objects_of base p) st)
-  pub stocks : (st : Shelf) → IsShelf old.table st → Changes tell old.device new.device (WritesFreeSectors (objects_of base p) st.free)
+  pub shelf : (st : Shelf) → IsShelf old.table st → IsShelf new.table (stocked (program_objects base p) st)
+  pub stocks : (st : Shelf) → IsShelf old.table st → Changes tell old.device new.device (WritesFreeSectors (program_objects base p) st.free)
   pub left : new.table.free + sectors_of_program p ≡ old.table.free

@@ -8,10 +8,10 @@ ghost use Rattle.b67_area.specs.declared.Kind.TheVariants.{Code, Row};
 ghost use Rattle.b67_backing.specs.Shelf.{Shelf, IsShelf, first as first_of, taken};
 ghost use Rattle.b67_backing.specs.Held.{Changes, SameBut, Stores, KeepsCounts, sectors_for};
 ghost use Rattle.b67_backing.specs.declared.refusals.SpaceFault.TheVariants.{BackingFault};
-ghost use Rattle.b67_codefile.specs.Spelling.{IsSegment, IsRow, IsWithin};
+ghost use Rattle.b67_codefile.specs.Spelling.{IsFileSegment, IsRow, IsWithin};
 ghost use Rattle.b67_codefile.specs.Meaning.{segment_of, program_of};
 ghost use Rattle.b67_stack.specs.declared.Cpu.{Cpu};
-ghost use Rattle.b67_load.specs.Objects.{code_from, rows_from, objects_of, entries_of, sectors_of_objects, sectors_of_program};
+ghost use Rattle.b67_load.specs.Objects.{code_from, rows_from, program_objects, entries_of, sectors_of_objects, sectors_of_program};
 ghost use Rattle.b67_load.specs.Writing.{Parts, Spares, Writes, HasSectors, Installed};
 
 use b67_backing::{Backing, Sectors, SpaceFault, sectors_needed};
@@ -23,7 +23,7 @@ use b67_stack::Cpu;
 use b67_word::{Word, Words};
 
 /// Writes words to a chain of free sectors, and answers its first.
-fn shelve<B: Backing>(
+fn store_words<B: Backing>(
     sectors: &mut Sectors,
     backing: &mut B,
     words: &[Word],
@@ -61,7 +61,7 @@ fn install_segment<B: Backing>(
     segment: &Segment,
 ) -> Result<(), SpaceFault>
     requires inside { at < length core.old }
-    requires within { IsSegment segment.now }
+    requires within { IsFileSegment segment.now }
     requires sectors { HasSectors (B.size backing.old) sectors.old (sectors_for (length segment.now.code)) }
     ensures writes { OnOk result (Writes B.holds (record { home = at; kind = Code; numbers = contents segment.now.code } ∷ [])
         (record { core = core.old; table = sectors.old; device = backing.old })
@@ -73,7 +73,7 @@ fn install_segment<B: Backing>(
     ensures device { KeepsCounts B.size B.calls B.faults backing.old backing.new result }
 {
     let code = segment.code.as_slice();
-    let first = shelve(sectors, backing, code)?;
+    let first = store_words(sectors, backing, code)?;
     let descriptor = SegDesc {
         present: false,
         words: code.len() as u32,
@@ -104,7 +104,7 @@ fn install_row<B: Backing>(
     ensures device { KeepsCounts B.size B.calls B.faults backing.old backing.new result }
 {
     let words = row.as_slice();
-    let first = shelve(sectors, backing, words)?;
+    let first = store_words(sectors, backing, words)?;
     let original = DataDesc {
         present: false,
         copy: false,
@@ -126,7 +126,7 @@ fn install_segments<B: Backing>(
     segments: &[Segment],
 ) -> Result<(), SpaceFault>
     requires inside { base + length segments.now ≤ length core.old }
-    requires within { AllByRecursion IsSegment segments.now }
+    requires within { AllByRecursion IsFileSegment segments.now }
     requires sectors { HasSectors (B.size backing.old) sectors.old (sectors_of_objects (code_from base (map segment_of segments.now))) }
     ensures writes { OnOk result (Writes B.holds (code_from base (map segment_of segments.now))
         (record { core = core.old; table = sectors.old; device = backing.old })
@@ -185,8 +185,8 @@ fn install_objects<B: Backing>(
 ) -> Result<(), SpaceFault>
     requires inside { base + (2 + entries_of (program_of file.now)) ≤ length core.old }
     requires within { IsWithin file.now }
-    requires sectors { HasSectors (B.size backing.old) sectors.old (sectors_of_objects (objects_of base (program_of file.now))) }
-    ensures writes { OnOk result (Writes B.holds (objects_of base (program_of file.now))
+    requires sectors { HasSectors (B.size backing.old) sectors.old (sectors_of_objects (program_objects base (program_of file.now))) }
+    ensures writes { OnOk result (Writes B.holds (program_objects base (program_of file.now))
         (record { core = core.old; table = sectors.old; device = backing.old })
         (record { core = core.new; table = sectors.new; device = backing.new })) }
     ensures spares { Spares B.holds (base + 2) (entries_of (program_of file.now))

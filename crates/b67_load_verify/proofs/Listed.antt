@@ -8,7 +8,7 @@ use Rattle.b67_model.specs.declared.operators.Op.{Op}
 use Rattle.b67_model.specs.declared.operators.Undecodable.{Undecodable}
 use Rattle.b67_model.specs.declared.operators.Undecodable.TheVariants.{BadPlace, NotAdmitted, PastEnd}
 use Rattle.b67_model.specs.Common.{Reading, count_at, operator_at, Entry, At, Break, entries_from, origin, listing}
-use Rattle.b67_load_verify.specs.Listing.{entry_at, CouplesFit, IsInside}
+use Rattle.b67_load_verify.specs.Listing.{entry_of_read, CouplesFit, IsInside}
 use Rattle.b67_load_verify.proofs.Operator.{IsPlaceIn, operator_at-inside, operator_at-is, operator_at-reads, operator_at-outside}
 use Rattle.b67_lemmas.proofs.Joins.{all_by}
 
@@ -62,7 +62,7 @@ pub record IsRead (code : List ℕ) (e : Entry) : Type 0 where
   pub inside : IsInside (length code) e
   pub couples : CouplesFit e
 
-is_read : (code : List ℕ) (at : Place) (read : Result Op Undecodable) → IsPlaceIn code at → CouplesFit (entry_at at read) → IsRead code (entry_at at read)
+is_read : (code : List ℕ) (at : Place) (read : Result Op Undecodable) → IsPlaceIn code at → CouplesFit (entry_of_read at read) → IsRead code (entry_of_read at read)
 is_read code at (Ok op) inside couples = record { inside = record { word = inside.word; syllable = inside.syllable }; couples = couples }
 is_read code at (Err why) inside couples = record { inside = record { word = inside.word; syllable = inside.syllable }; couples = couples }
 

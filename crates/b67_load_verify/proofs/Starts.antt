@@ -12,9 +12,9 @@ use Rattle.b67_model.specs.declared.operators.Undecodable.{Undecodable}
 use Rattle.b67_model.specs.Common.{count_at, place_of_entry, same_place, is_start, is_last}
 use Rattle.b67_model.specs.Loader as loader
 use Rattle.b67_load_verify.specs.declared.entry.Entry.{Entry}
-use Rattle.b67_load_verify.specs.Listing.{entry_at, seen, IsInside, Marks}
+use Rattle.b67_load_verify.specs.Listing.{entry_of_read, seen, IsInside, Marks}
 
-place_of-entry_at : (place : Place) (read : Result Op Undecodable) → place_of_entry (entry_at place read) ≡ place
+place_of-entry_at : (place : Place) (read : Result Op Undecodable) → place_of_entry (entry_of_read place read) ≡ place
 place_of-entry_at place (Ok op) = refl
 place_of-entry_at place (Err why) = refl
 

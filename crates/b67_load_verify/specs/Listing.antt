@@ -9,12 +9,12 @@ use Rattle.b67_model.specs.Loader as loader
 use Rattle.b67_load_verify.specs.declared.entry.Entry.{Entry}
 
 -- what is read at a place
-abbrev pub entry_at : Place → Result Op Undecodable → loader.Entry
-entry_at place (Ok op) = At place op
-entry_at place (Err why) = Break place why
+abbrev pub entry_of_read : Place → Result Op Undecodable → loader.Entry
+entry_of_read place (Ok op) = At place op
+entry_of_read place (Err why) = Break place why
 
 abbrev pub seen : Entry → loader.Entry
-seen e = entry_at e.place e.read
+seen e = entry_of_read e.place e.read
 
 -- a couple has 14 bits
 abbrev pub CoupleFits : Op → Type 0

@@ -3,7 +3,7 @@
 ghost use Rattle.std.specs.Prelude.{◌≡◌, ◌++◌, IfOk, IfErr, option_map, slice_get};
 ghost use Rattle.b67_word.specs.Tagged.{contents};
 ghost use Rattle.b67_model.specs.Loader.{listing, refusals, refusals_of, wrong_entries};
-ghost use Rattle.b67_codefile.specs.Spelling.{IsSegment, IsWithin};
+ghost use Rattle.b67_codefile.specs.Spelling.{IsFileSegment, IsWithin};
 ghost use Rattle.b67_codefile.specs.Meaning.{program_of};
 ghost use Rattle.b67_load_verify.specs.Broken.{listed, refusal_at, Finds, FindsFirst};
 ghost use Rattle.b67_load_verify.specs.Order.{TellsLeast};
@@ -42,7 +42,7 @@ fn check_segment(
     number: u8,
     segment: &Segment,
 ) -> Result<(), LoadFault>
-    requires { IsSegment segment.now }
+    requires { IsFileSegment segment.now }
     ensures { let l = listed file.now number segment.now (listing (contents segment.now.code)) in FindsFirst result (refusals_of l l.entries ++ wrong_entries l segment.now.entries) }
 {
     let listing = Listing::new(alloc, segment.code.as_slice())?;

@@ -78,7 +78,7 @@ by_op : (m : SessionJob) (t : Task) (n : ℕ) (op : Op) (next : Place) → readi
 by_op m t n (Plain code) next e c = by_code m t n next code e c
 by_op m t n _ next e c = absurd cc
 
-by_reading : (m : SessionJob) (t : Task) (n : ℕ) (r : Reading) → reading_of m.constants t ≡ r → operators.called_by m t r ≡ Some n → Calling m t n
+by_reading : (m : SessionJob) (t : Task) (n : ℕ) (r : Reading) → reading_of m.constants t ≡ r → operators.called_by_reading m t r ≡ Some n → Calling m t n
 by_reading m t n (Ok read) e c = by_op m t n read.0 read.1 e c
 by_reading m t n (Err why) e c = absurd cc
 

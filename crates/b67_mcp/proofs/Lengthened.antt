@@ -13,7 +13,7 @@ use Rattle.b67_lemmas.proofs.Keyed.{change_same}
 use Rattle.b67_lemmas.proofs.Members.{keyed_has}
 use Rattle.b67_model.specs.Common.{Array, Task, Job, SessionJob, with_array, all_zero, resized, number_of, sectors, Session}
 use Rattle.b67_stack.specs.declared.Cpu.{Cpu}
-use Rattle.b67_stack.specs.Common.{PagedObject, Storage, Stayed, TakesPlace}
+use Rattle.b67_stack.specs.Common.{PagedObject, Storage, LowWordsStayed, TakesPlace}
 use Rattle.b67_layout.specs.Common.{IsInOrderButCounts, Placement, array_object, objects_of, machine_view, IsRunning, with_job, area_held}
 use Rattle.b67_layout_storage.specs.Machine.{IsPresent, PagingKeeps, Says, content_after}
 use Rattle.b67_overlay.specs.Spans.{MachineCanPage}
@@ -23,7 +23,7 @@ use Rattle.b67_exec_cells.proofs.Replaced.{array_object-has}
 use Rattle.b67_layout_spans.proofs.FullDevice.{short_full, within}
 use Rattle.b67_task_tables.specs.declared.tables.Machine.{Machine}
 use Rattle.b67_task_tables.specs.Tables.{MachineRepresents}
-use Rattle.b67_task_need.specs.Needing.{StandsInOrder}
+use Rattle.b67_task_need.specs.Needing.{StandsOrdered}
 use Rattle.b67_mcp_lengths.specs.Lengths.{IsArray, zeroed, cut_to, grown_to, emptied, shorter, OthersStay, LengthenMeets}
 use Rattle.b67_mcp.specs.declared.ends.Stop.{Stop}
 use Rattle.b67_mcp.specs.declared.ends.Stop.TheVariants as stops
@@ -92,7 +92,7 @@ module _ (x : Storage) (told : Option (List (List ℕ))) (k : Machine) (plan : P
   pub zero_place : TakesPlace (machine_view plan s.jobs).objects (flat_map (objects_of plan) (with_job s m (with_array m.progress.job a.identity all_zero)).jobs) (array_object plan m.constants.number a) (zeroed (array_object plan m.constants.number a))
   zero_place = takes x told k plan s h m t o runs a among all_zero zeros_renumber (omega (arith, zeros_long, few_numbers.0)) (omega (arith, zeros_long, few_numbers.1))
 
-  pub stands_emptied : (cpu : Cpu) (areas : Areas) (table : Table) → PagingKeeps k.cpu cpu k.areas areas k.sectors table → Stayed (machine_view plan s.jobs) k.cpu.core cpu.core
+  pub stands_emptied : (cpu : Cpu) (areas : Areas) (table : Table) → PagingKeeps k.cpu cpu k.areas areas k.sectors table → LowWordsStayed (machine_view plan s.jobs) k.cpu.core cpu.core
       → MachineCanPage (emptied x (array_object plan m.constants.number a)) cpu areas table told (record (machine_view plan s.jobs) { objects = objects_zeroed })
       → MachineRepresents (emptied x (array_object plan m.constants.number a)) told (record { cpu = cpu; areas = areas; sectors = table; tasks = k.tasks }) plan (with_job s m (with_array m.progress.job a.identity all_zero))
   stands_emptied cpu areas table kept stayed view =
@@ -123,14 +123,14 @@ module _ (x : Storage) (told : Option (List (List ℕ))) (k : Machine) (plan : P
     grown_place up = numbered (a.numbers ++ replicate (words - length a.numbers) 0) (resized_grown words a.numbers (omega (arith, up)))
 
     -- the machine with such an array
-    stands_by : (y : Storage) (now : Option (List (List ℕ))) (cpu : Cpu) (areas : Areas) (table : Table) → PagingKeeps k.cpu cpu k.areas areas k.sectors table → Stayed (machine_view plan s.jobs) k.cpu.core cpu.core
+    stands_by : (y : Storage) (now : Option (List (List ℕ))) (cpu : Cpu) (areas : Areas) (table : Table) → PagingKeeps k.cpu cpu k.areas areas k.sectors table → LowWordsStayed (machine_view plan s.jobs) k.cpu.core cpu.core
         → MachineCanPage y cpu areas table now (record (machine_view plan s.jobs) { objects = objects_resized })
         → MachineRepresents y y.device (record { cpu = cpu; areas = areas; sectors = table; tasks = k.tasks }) plan (session_resized s m a words)
     stands_by y now cpu areas table kept stayed view =
         stands_renumbered x told k plan s h m t o runs a among (resized words) (resized_renumbers words) y now cpu areas table kept stayed (omega (arith, long, some)) (omega (arith, long, few)) view
 
     -- where it is shorter, or as long
-    pub set_shorter : (at count : ℕ) (now : Option (List (List ℕ))) (cpu : Cpu) (areas : Areas) (table : Table) → PagingKeeps k.cpu cpu k.areas areas k.sectors table → Stayed (machine_view plan s.jobs) k.cpu.core cpu.core → Says told now
+    pub set_shorter : (at count : ℕ) (now : Option (List (List ℕ))) (cpu : Cpu) (areas : Areas) (table : Table) → PagingKeeps k.cpu cpu k.areas areas k.sectors table → LowWordsStayed (machine_view plan s.jobs) k.cpu.core cpu.core → Says told now
         → MachineCanPage (shorter x (array_object plan m.constants.number a) at words) cpu areas table told (record (machine_view plan s.jobs) { objects = objects_resized })
         → LengthSet (content_after told now) count x plan s m a words (Ok tt) k (record { cpu = cpu; areas = areas; sectors = table; tasks = k.tasks })
     set_shorter at count now cpu areas table kept stayed says view =
@@ -152,7 +152,7 @@ module _ (x : Storage) (told : Option (List (List ℕ))) (k : Machine) (plan : P
     set_same count now e says =
         ((x, subst (λ (z : Session). MachineRepresents x (content_after told now) k plan z) (sym (same_session e)) (subst (λ (d : Option (List (List ℕ))). MachineRepresents x d k plan s) (sym (told_is told now says)) h)), refl)
 
-    module _ (count : ℕ) (now : Option (List (List ℕ))) (cpu : Cpu) (areas : Areas) (table : Table) (kept : PagingKeeps k.cpu cpu k.areas areas k.sectors table) (stayed : Stayed (machine_view plan s.jobs) k.cpu.core cpu.core) where
+    module _ (count : ℕ) (now : Option (List (List ℕ))) (cpu : Cpu) (areas : Areas) (table : Table) (kept : PagingKeeps k.cpu cpu k.areas areas k.sectors table) (stayed : LowWordsStayed (machine_view plan s.jobs) k.cpu.core cpu.core) where
       abbrev new : Machine
       new = record { cpu = cpu; areas = areas; sectors = table; tasks = k.tasks }
 
@@ -222,7 +222,7 @@ module _ (x : Storage) (told : Option (List (List ℕ))) (k : Machine) (plan : P
       set_refused before (space.NoCore need core) stop e up size l is writable = absurd is
 
       -- the machine stands for some session then
-      pub stands_after : (fault : SpaceFault) → LengthenMeets x (machine_view plan s.jobs) (array_object plan m.constants.number a) words (Err fault) cpu areas table now → StandsInOrder (record { cpu = cpu; areas = areas; sectors = table; tasks = k.tasks })
+      pub stands_after : (fault : SpaceFault) → LengthenMeets x (machine_view plan s.jobs) (array_object plan m.constants.number a) words (Err fault) cpu areas table now → StandsOrdered (record { cpu = cpu; areas = areas; sectors = table; tasks = k.tasks })
       stands_after (space.BackingFull wants free) (y, others, view, lacking) =
           record { storage = y; told = content_after told now; plan = plan; session = s; ordered = o; stands = left y others view }
       stands_after space.BackingFault (y, others, view) = record { storage = y; told = content_after told now; plan = plan; session = s; ordered = o; stands = left y others view }

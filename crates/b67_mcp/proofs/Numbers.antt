@@ -10,7 +10,7 @@ use Rattle.b67_lemmas.proofs.Places.{at_mapped, map-slice_set, mapped_at, put_ba
 use Rattle.b67_model.specs.Common.{Word, Operand, Task, SessionJob, top, below_top, answered, read_from, number_of, Session}
 use Rattle.b67_layout.specs.Common.{IsInOrderButCounts, Placement, JobShows, TablesShow, IsRunning, here, with_job}
 use Rattle.b67_layout.specs.Rows as rows
-use Rattle.b67_mcp_calls.specs.Reads.{job_read, IsRead, ReadMeets}
+use Rattle.b67_mcp_calls.specs.Reads.{job_read, NumberIsRead, ReadMeets}
 use Rattle.b67_task_tables.specs.declared.tables.JobRow.{JobRow}
 use Rattle.b67_task_tables.specs.declared.tables.Tasks.{Tasks}
 use Rattle.b67_task_tables.specs.Tables.{task_row, job_row, counts_of, TasksShow, row_names}
@@ -73,7 +73,7 @@ names_read plan m t arguments jobs jobs' i old new answer at is meets =
     ∙ put_back (row_names jobs) i old.name (at_mapped name jobs i old at)
 
 module _ (plan : Placement) (s : Session) (m : SessionJob) (t : Task) (o : IsInOrderButCounts s) (runs : IsRunning plan s.jobs m t) (q : Place) (arguments : List Word) (tasks tasks' : Tasks) (h : TasksShow plan s tasks) (old new : JobRow) (w : Tagged)
-    (at : slice_get tasks.jobs (m.constants.number - 1) ≡ Some old) (is : tasks'.jobs ≡ slice_set tasks.jobs (m.constants.number - 1) new) (rest : tasks' ≡ record tasks { jobs = tasks'.jobs }) (did : IsRead plan m t arguments old new w) where
+    (at : slice_get tasks.jobs (m.constants.number - 1) ≡ Some old) (is : tasks'.jobs ≡ slice_set tasks.jobs (m.constants.number - 1) new) (rest : tasks' ≡ record tasks { jobs = tasks'.jobs }) (did : NumberIsRead plan m t arguments old new w) where
   pub tables_read : TasksShow plan (with_job s m (job_read m t q)) tasks'
   tables_read =
       let word : Word = Operand (read_from m.progress.job.numbers).0 in

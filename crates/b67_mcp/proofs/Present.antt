@@ -10,8 +10,8 @@ use Rattle.b67_layout.specs.Placement.{Placement}
 use Rattle.b67_layout.specs.Meets.{here}
 use Rattle.b67_mcp_calls.specs.RowCalls.{CopiesPresent}
 use Rattle.b67_task_tables.specs.declared.tables.Machine.{Machine}
-use Rattle.b67_mcp.specs.Called.{IsThere, TouchesPresent, CallTouches}
-use Rattle.b67_mcp.specs.Answers.{AnswerMeets, end_of}
+use Rattle.b67_mcp.specs.Called.{ArrayIsThere, TouchesPresent, CallTouches}
+use Rattle.b67_mcp.specs.Answers.{AnswerMeets, call_end_of}
 use Rattle.b67_mcp.proofs.Callings.{Calling}
 use Rattle.b67_mcp.proofs.Touched.{reference_same, touched_by_row}
 
@@ -99,13 +99,13 @@ module _ (m : SessionJob) (t : Task) where
     pub made_untouched : (job : Job) (printed : List Line) → step m.constants m.progress.job t ≡ Ok (Goes job printed None) → TouchesPresent x plan m t
     made_untouched job printed is a e = absurd (none-some a (sym (ap touched is) ∙ e))
 
-    pub silent_untouched : (n : ℕ) → n ≢ 10 → Calling m t n → (told : Option (List (List ℕ))) (s : Session) (old new : Machine) (done : Result (Unit {0}) Fault) → AnswerMeets x told plan s m t done old new → CallTouches x plan m t (Ok (end_of done))
+    pub silent_untouched : (n : ℕ) → n ≢ 10 → Calling m t n → (told : Option (List (List ℕ))) (s : Session) (old new : Machine) (done : Result (Unit {0}) Fault) → AnswerMeets x told plan s m t done old new → CallTouches x plan m t (Ok (call_end_of done))
     silent_untouched n ne k told s old new (Ok done) (a, rest) = made_untouched a.job [] a.is
     silent_untouched n ne k told s old new (Err fault) h = faults_untouched n ne k fault h.0
 
     -- PRINTROW
     module _ (k : Calling m t 10) (present : CopiesPresent x plan m k.arguments) where
-      copied : (a : ℕ) → k.arguments ≡ Row a ∷ [] → IsThere x plan m a
+      copied : (a : ℕ) → k.arguments ≡ Row a ∷ [] → ArrayIsThere x plan m a
       copied a are = let p = present a are in record { array = p.0.item; among = p.0.live; named = p.0.named; there = p.1 }
 
       pub row_faults : (fault : Fault) → step m.constants m.progress.job t ≡ Err fault → TouchesPresent x plan m t
@@ -115,4 +115,4 @@ module _ (m : SessionJob) (t : Task) where
       row_made done is a e =
           let (b, are) = made_row (here m t k.next) k.arguments done is in
           let same : b ≡ a = same_Some b a (sym (touched_by_row m t k b are) ∙ e) in
-          subst (IsThere x plan m) same (copied b are)
+          subst (ArrayIsThere x plan m) same (copied b are)

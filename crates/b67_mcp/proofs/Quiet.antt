@@ -9,7 +9,7 @@ use Rattle.b67_layout.specs.Placement.{Placement}
 use Rattle.b67_task_tables.specs.declared.tables.Machine.{Machine}
 use Rattle.b67_exec_cells.specs.Called.{called_in}
 use Rattle.b67_mcp.specs.Called.{StartsTask, CallMeets, CallFits}
-use Rattle.b67_mcp.specs.Answers.{AnswerMeets, SilentMeets, end_of}
+use Rattle.b67_mcp.specs.Answers.{AnswerMeets, SilentMeets, call_end_of}
 use Rattle.b67_mcp.specs.Resizing.{ResizeAnswers}
 use Rattle.b67_mcp.proofs.Still.{stands_peak}
 use Rattle.b67_mcp.specs.declared.ends.CallEnd.{CallEnd}
@@ -27,7 +27,7 @@ abbrev pub StaysMany : SessionJob → Task → Type 0
 StaysMany m t = (job : Job) (printed : List Line) (touched : Option ℕ) → step m.constants m.progress.job t ≡ Ok (Goes job printed touched) → length job.tasks ≡ length m.progress.job.tasks
 
 module _ {K : Type 0} (taken : K → Option (List ℕ)) (paper : K) (x : Storage) (told : Option (List (List ℕ))) (count : ℕ) (plan : Placement) (s : Session) (m : SessionJob) (t : Task) (n : ℕ) where
-  pub silent_meets : (done : Result (Unit {0}) Fault) (old new : Machine) → live_tasks s.jobs ≤ s.peak → StaysMany m t → AnswerMeets x told plan s m t done old new → CallMeets taken told count x plan s m t n (Ok (end_of done)) old new paper paper
+  pub silent_meets : (done : Result (Unit {0}) Fault) (old new : Machine) → live_tasks s.jobs ≤ s.peak → StaysMany m t → AnswerMeets x told plan s m t done old new → CallMeets taken told count x plan s m t n (Ok (call_end_of done)) old new paper paper
   silent_meets (Ok done) old new low many (h, rest) = (
     record {
       job = h.job;

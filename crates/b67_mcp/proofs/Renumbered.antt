@@ -11,7 +11,7 @@ use Rattle.b67_lemmas.proofs.Members.{keyed_falls}
 use Rattle.b67_model.specs.Keyed.{keyed, change_keyed}
 use Rattle.b67_model.specs.Common.{Frame, Array, Condition, Ready, Awaits, WaitsAt, Task, Job, SessionJob, with_array, number_of, Session}
 use Rattle.b67_stack.specs.declared.Cpu.{Cpu}
-use Rattle.b67_stack.specs.Common.{PagedObject, Slot, MachineView, NoOriginalAboveTop, Storage, Represents, Stayed, TakesPlace}
+use Rattle.b67_stack.specs.Common.{PagedObject, Slot, MachineView, NoOriginalAboveTop, Storage, Represents, LowWordsStayed, TakesPlace}
 use Rattle.b67_layout.specs.Common.{IsInOrderButCounts, Placement, array_object, objects_of, machine_view, IsRunning, with_job}
 use Rattle.b67_layout.proofs.Common.{running_in_order, member-same, AllAlike, RepresentsSession-over}
 use Rattle.b67_layout_storage.specs.Machine.{PagingKeeps}
@@ -88,7 +88,7 @@ module _ (x : Storage) (told : Option (List (List ℕ))) (k : Machine) (plan : P
       (jobs_kept plan m.constants.number m (record m.progress { job = with_array m.progress.job a.identity f }) s.jobs (map job_row k.tasks.jobs) runs.member
       (λ row w. record { dictionary = w.dictionary; segments = w.segments; rows = w.rows; limit = w.limit; made = w.made; next_task = w.next_task; numbers = w.numbers }) h.tables.jobs)
 
-  module _ (y : Storage) (now : Option (List (List ℕ))) (cpu : Cpu) (areas : Areas) (table : Table) (kept : PagingKeeps k.cpu cpu k.areas areas k.sectors table) (stayed : Stayed (machine_view plan s.jobs) k.cpu.core cpu.core) where
+  module _ (y : Storage) (now : Option (List (List ℕ))) (cpu : Cpu) (areas : Areas) (table : Table) (kept : PagingKeeps k.cpu cpu k.areas areas k.sectors table) (stayed : LowWordsStayed (machine_view plan s.jobs) k.cpu.core cpu.core) where
     -- the machine over what its storage says
     pub stands_renumbered : 0 < length (f a).numbers → length (f a).numbers < 2 ^ 16
         → MachineCanPage y cpu areas table now (record (machine_view plan s.jobs) { objects = flat_map (objects_of plan) (with_job s m (with_array m.progress.job a.identity f)).jobs })
@@ -107,7 +107,7 @@ module _ (x : Storage) (told : Option (List (List ℕ))) (k : Machine) (plan : P
 
 -- the same session, where pages alone have moved
 pub stands_moved : (x : Storage) (told : Option (List (List ℕ))) (k : Machine) (plan : Placement) (s : Session) → MachineRepresents x told k plan s
-    → (y : Storage) (now : Option (List (List ℕ))) (cpu : Cpu) (areas : Areas) (table : Table) → PagingKeeps k.cpu cpu k.areas areas k.sectors table → Stayed (machine_view plan s.jobs) k.cpu.core cpu.core
+    → (y : Storage) (now : Option (List (List ℕ))) (cpu : Cpu) (areas : Areas) (table : Table) → PagingKeeps k.cpu cpu k.areas areas k.sectors table → LowWordsStayed (machine_view plan s.jobs) k.cpu.core cpu.core
     → MachineCanPage y cpu areas table now (machine_view plan s.jobs) → MachineRepresents y y.device (record { cpu = cpu; areas = areas; sectors = table; tasks = k.tasks }) plan s
 stands_moved x told k plan s h y now cpu areas table kept stayed view =
     let P : Regs → Type 0 = λ r. Represents y cpu.core r (machine_view plan s.jobs) in

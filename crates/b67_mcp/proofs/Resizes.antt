@@ -14,7 +14,7 @@ use Rattle.b67_task_tables.specs.Tables.{MachineRepresents}
 use Rattle.b67_mcp.specs.declared.ends.CallEnd.TheVariants as ends
 use Rattle.b67_mcp.specs.declared.ends.Stop.{Stop}
 use Rattle.b67_mcp.specs.declared.ends.Stop.TheVariants as stops
-use Rattle.b67_mcp.specs.Called.{IsThere, TouchesPresent, CallTouches, CallWrites, Lengthens}
+use Rattle.b67_mcp.specs.Called.{ArrayIsThere, TouchesPresent, CallTouches, CallWrites, Lengthens}
 use Rattle.b67_mcp.specs.Resizing.{LengthSet, ResizeAnswers}
 use Rattle.b67_mcp.proofs.Callings.{Calling}
 use Rattle.b67_mcp.proofs.Renumbered.{found}
@@ -54,7 +54,7 @@ module _ (x : Storage) (told : Option (List (List ℕ))) (old : Machine) (plan :
       let id : ℕ = q.0.which.array.identity in
       let is = ap (λ (answer : Answer Done). touched_of m.constants m.progress.job t answer) makes in
       let same : id ≡ n = same_Some id n (sym is ∙ e) in
-      subst (IsThere x plan m) same (record { array = q.0.which.array; among = q.0.which.among; named = refl; there = q.2 })
+      subst (ArrayIsThere x plan m) same (record { array = q.0.which.array; among = q.0.which.among; named = refl; there = q.2 })
 
   pub touches_stopped : (stop : Stop) → CallTouches x plan m t (Err stop)
   touches_stopped (stops.NoCore need core) = tt

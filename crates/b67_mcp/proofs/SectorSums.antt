@@ -15,7 +15,7 @@ use Rattle.b67_stack.specs.Common.{stack_words, MachineView, slot_base, stack_of
 use Rattle.b67_stack.proofs.Bases.{base-step}
 use Rattle.b67_layout.specs.Common.{IsInOrderButCounts, Placement, machine_view, RepresentsSession, with_job}
 use Rattle.b67_overlay.proofs.Turning.{slot_high}
-use Rattle.b67_task_need.specs.Sums.{is_home, sectors_of_word, sectors_at, sectors_from, sectors_of_slots}
+use Rattle.b67_task_need.specs.Sums.{is_home, sectors_of_word, sectors_at, core_sectors_from, sectors_of_slots}
 use Rattle.b67_task_need.proofs.Sessions.{session_kept}
 
 -- its first numbers; its numbers, with zeros behind them; and so many
@@ -82,7 +82,7 @@ at_few : (code : Bool) (o : Option Tagged) → sectors_at code o ≤ 2185
 at_few code None = omega arith
 at_few code (Some w) = word_few code w
 
-from_few : (code : Bool) (core : List Tagged) (from n : ℕ) → sectors_from code core from n ≤ 2185 * n
+from_few : (code : Bool) (core : List Tagged) (from n : ℕ) → core_sectors_from code core from n ≤ 2185 * n
 from_few code core from zero = omega arith
 from_few code core from (suc n) = omega (arith, from_few code core from n, at_few code (slice_get core (from + n)))
 

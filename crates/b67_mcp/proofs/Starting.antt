@@ -15,7 +15,7 @@ use Rattle.b67_layout.specs.Common.{IsInOrderButCounts, array_object, machine_vi
 use Rattle.b67_stack.specs.Common.{PagedObject, Storage, Content, KeptChain}
 use Rattle.b67_exec_cells.proofs.Replaced.{array_object-has}
 use Rattle.b67_exec_cells.specs.Running.{code_area}
-use Rattle.b67_task_need.specs.Needing.{need_with, touched_words, HasWords, StandsInOrder}
+use Rattle.b67_task_need.specs.Needing.{need_with, touched_words, HasWords, StandsOrdered}
 use Rattle.b67_task_need.proofs.Needs.{need_whole}
 use Rattle.b67_task_tables.specs.declared.tables.Machine.{Machine}
 use Rattle.b67_task_tables.specs.Tables.{MachineRepresents}
@@ -24,7 +24,7 @@ use Rattle.b67_layout_spans.proofs.FullDevice.{short_full}
 use Rattle.b67_mcp_process.specs.Process.{StartsOne, ProcessMeets, ProcessWrites, ProcessFits}
 use Rattle.b67_exec_cells.specs.Called.{called_in}
 use Rattle.b67_mcp.specs.Called.{StartsTask, CallTouches, CallWrites, CallFits}
-use Rattle.b67_mcp.specs.Answers.{SilentMeets, end_of}
+use Rattle.b67_mcp.specs.Answers.{SilentMeets, call_end_of}
 use Rattle.b67_mcp.specs.Stopping.{StopsFor}
 use Rattle.b67_mcp.specs.declared.ends.Stop.{Stop}
 use Rattle.b67_mcp.specs.declared.ends.Stop.TheVariants as stops
@@ -82,8 +82,8 @@ module _ (x : Storage) (told : Option (List (List ℕ))) (k : Machine) (plan : P
       ∙ ap (λ (q : Option ℕ). need_with s m t 1 (touched_words m.progress.job q)) none
 
   -- the machine stands for some session where the task wasn't started
-  pub process_stands : (next : Place) (arguments : List Word) (after : Option (List (List ℕ))) (new : Machine) (fault : SpaceFault) → ProcessMeets after plan s m t next arguments (Err fault) k new → StandsInOrder new
-  process_stands next arguments after new (space.NoCore words size) g = subst StandsInOrder (sym g.1) (record { storage = x; told = told; plan = plan; session = s; ordered = o; stands = h })
+  pub process_stands : (next : Place) (arguments : List Word) (after : Option (List (List ℕ))) (new : Machine) (fault : SpaceFault) → ProcessMeets after plan s m t next arguments (Err fault) k new → StandsOrdered new
+  process_stands next arguments after new (space.NoCore words size) g = subst StandsOrdered (sym g.1) (record { storage = x; told = told; plan = plan; session = s; ordered = o; stands = h })
   process_stands next arguments after new (space.BackingFull wants free) g = record { storage = g.stopped.storage; told = after; plan = plan; session = s; ordered = o; stands = g.stopped.stands }
   process_stands next arguments after new space.BackingFault g = record { storage = g.storage; told = after; plan = plan; session = s; ordered = o; stands = g.stands }
 
@@ -92,7 +92,7 @@ module _ (x : Storage) (told : Option (List (List ℕ))) (k : Machine) (plan : P
     starts : StartsOne m t c.next c.arguments → StartsTask m t
     starts a = record { job = a.job; is = c.is ∙ a.is; more = a.more }
 
-    pub process_meets : (after : Option (List (List ℕ))) (count : ℕ) (new : Machine) (done : Result (Unit {0}) Fault) → called_in m t ≡ Some 12 → (new.tasks.printed ≡ k.tasks.printed) → ProcessMeets after plan s m t c.next c.arguments (Ok done) k new → SilentMeets x after count plan s m t (Ok (end_of done)) k new
+    pub process_meets : (after : Option (List (List ℕ))) (count : ℕ) (new : Machine) (done : Result (Unit {0}) Fault) → called_in m t ≡ Some 12 → (new.tasks.printed ≡ k.tasks.printed) → ProcessMeets after plan s m t c.next c.arguments (Ok done) k new → SilentMeets x after count plan s m t (Ok (call_end_of done)) k new
     process_meets after count new (Ok done) called printed g =
         (record { job = g.job; is = c.is ∙ g.is; storage = g.storage; plan = g.plan; stands = g.stands; printed = printed }, λ no_process. absurd (no_process called))
     process_meets after count new (Err fault) called printed g = (c.is ∙ g.0, g.1)
@@ -120,7 +120,7 @@ module _ (x : Storage) (told : Option (List (List ℕ))) (k : Machine) (plan : P
         let S : Stop → Type 0 = λ z. SilentMeets x after count plan s m t (Err z) k new in
         subst S (sym is) (record { starts = starts g.starts; storage = g.storage; stands = g.stands; tables = g.tables })
 
-    pub process_touches : (after : Option (List (List ℕ))) (new : Machine) (done : Result (Unit {0}) Fault) → ProcessMeets after plan s m t c.next c.arguments (Ok done) k new → CallTouches x plan m t (Ok (end_of done))
+    pub process_touches : (after : Option (List (List ℕ))) (new : Machine) (done : Result (Unit {0}) Fault) → ProcessMeets after plan s m t c.next c.arguments (Ok done) k new → CallTouches x plan m t (Ok (call_end_of done))
     process_touches after new (Ok done) g = made_untouched m t x plan g.job [] (c.is ∙ g.is)
     process_touches after new (Err fault) g = faults_untouched m t x plan 12 (λ e. absurd cc) c fault (c.is ∙ g.0)
 
@@ -132,7 +132,7 @@ module _ (x : Storage) (told : Option (List (List ℕ))) (k : Machine) (plan : P
     stops_touch after new space.BackingFault stop is g = let S : Stop → Type 0 = λ z. CallTouches x plan m t (Err z) in subst S (sym is) (made_untouched m t x plan g.starts.job [] (c.is ∙ g.starts.is))
 
     -- where a task is started, core has room
-    pub process_fits : (done : Result (Unit {0}) Fault) → code_area x plan m t ≢ None → ProcessFits (length k.cpu.core) s m t c.next c.arguments (Ok done) → CallFits (length k.cpu.core) s m t (Ok (end_of done))
+    pub process_fits : (done : Result (Unit {0}) Fault) → code_area x plan m t ≢ None → ProcessFits (length k.cpu.core) s m t c.next c.arguments (Ok done) → CallFits (length k.cpu.core) s m t (Ok (call_end_of done))
     process_fits (Ok done) code fits = λ a.
         (let one : StartsOne m t c.next c.arguments = record { job = a.job; is = sym c.is ∙ a.is; more = a.more } in
         let need_is = need_started code a in
@@ -149,7 +149,7 @@ module _ (x : Storage) (told : Option (List (List ℕ))) (k : Machine) (plan : P
         subst S (sym is) (λ a. (let need_is = need_started code a in omega (arith, need_is, fits)))
 
     -- the device may have been written only then
-    pub process_writes : (done : Result (Unit {0}) Fault) → ProcessWrites m t c.next c.arguments (Ok done) → CallWrites x plan m t (Ok (end_of done))
+    pub process_writes : (done : Result (Unit {0}) Fault) → ProcessWrites m t c.next c.arguments (Ok done) → CallWrites x plan m t (Ok (call_end_of done))
     process_writes (Ok done) w = inr (starts w)
     process_writes (Err fault) w = absurd w
 

@@ -4,7 +4,7 @@ use Rattle.std.specs.Prelude.{max}
 use Rattle.b67_model.specs.Common.{Answer, Word, Operand, Original, Array, Task, Job, SessionJob, OperatorContext, top, below_top, array, with_array, all_zero, resized, Line, Value, Values, Done, Goes, Leaves, Waits, answered, answers, array_length, arraydec, print, numbers_of, row_copy, printrow, read_from, read, needs_writable, deallocate, resize, intrinsic, started_by, step, live_tasks, Session}
 use Rattle.b67_model.specs.Words.{whole}
 use Rattle.b67_law_order.proofs.Posts.{Post, post_ok, post_err, post_any, post_then, post_at}
-use Rattle.b67_layout.specs.Common.{Placement, here, with_job, peak_with, moved}
+use Rattle.b67_layout.specs.Common.{Placement, here, with_job, peak_with, session_moved}
 use Rattle.b67_stack.specs.Represents.{Storage}
 use Rattle.b67_task_tables.specs.declared.tables.Machine.{Machine}
 use Rattle.b67_task_tables.specs.Tables.{MachineRepresents}
@@ -84,7 +84,7 @@ never_starts m t none a = let one = ap (started_by m.progress.job) a.is in omega
 
 -- the machine stands for the session whose peak counts the tasks
 pub stands_peak : (x : Storage) (told : Option (List (List ℕ))) (k : Machine) (plan : Placement) (s : Session) (m : SessionJob) (job : Job) → live_tasks s.jobs ≤ s.peak → length job.tasks ≡ length m.progress.job.tasks
-    → MachineRepresents x told k plan (with_job s m job) → MachineRepresents x told k plan (moved s m job (length job.tasks - length m.progress.job.tasks))
+    → MachineRepresents x told k plan (with_job s m job) → MachineRepresents x told k plan (session_moved s m job (length job.tasks - length m.progress.job.tasks))
 stands_peak x told k plan s m job low same h =
     let none : length job.tasks - length m.progress.job.tasks ≡ 0 = omega (arith, same) in
     let kept : max s.peak (live_tasks s.jobs + 0) ≡ s.peak = omega (arith, low) in

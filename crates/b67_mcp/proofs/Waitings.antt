@@ -11,7 +11,7 @@ use Rattle.b67_mcp_waits.specs.Events.{GoesOn, WaitMeets, DoneMeets}
 use Rattle.b67_mcp.specs.declared.ends.CallEnd.{CallEnd}
 use Rattle.b67_mcp.specs.declared.ends.CallEnd.TheVariants as ends
 use Rattle.b67_mcp.specs.Called.{StartsTask, CallTouches, CallFits}
-use Rattle.b67_mcp.specs.Answers.{SilentMeets, end_of, waiting_end}
+use Rattle.b67_mcp.specs.Answers.{SilentMeets, call_end_of, waiting_end}
 use Rattle.b67_mcp.proofs.Callings.{Calling}
 use Rattle.b67_mcp.proofs.Present.{faults_untouched, made_untouched}
 use Rattle.b67_mcp.proofs.Still.{stands_peak}
@@ -48,7 +48,7 @@ module _ (x : Storage) (told : Option (List (List ℕ))) (plan : Placement) (s :
   waits_so (Ok (Some state)) g = record { meets = λ count. (record { condition = g.0.condition; is = is ∙ g.0.is; shows = g.0.shows }, g.1); touches = tt; fits = tt }
   waits_so (Err fault) g = faulted fault g.0 g.1
 
-  done_so : (done : Result (Unit {0}) Fault) → DoneMeets row x told plan s m t k.next k.arguments done old new → Answers told core x plan s m t (end_of done) old new
+  done_so : (done : Result (Unit {0}) Fault) → DoneMeets row x told plan s m t k.next k.arguments done old new → Answers told core x plan s m t (call_end_of done) old new
   done_so (Ok done) g = made g
   done_so (Err fault) g = faulted fault g.0 g.1
 
@@ -58,7 +58,7 @@ module _ (x : Storage) (told : Option (List (List ℕ))) (plan : Placement) (s :
       let P : Place → Type 0 = λ q. WaitMeets row x told plan s m t q k.arguments done old new in
       subst (λ (e : CallEnd). Answers told core x plan s m t e old new) (sym is_end) (waits_so done (subst P same g))
 
-  pub done_at : (next : Place) → next ≡ k.next → (done : Result (Unit {0}) Fault) (end : CallEnd) → end ≡ end_of done → DoneMeets row x told plan s m t next k.arguments done old new → Answers told core x plan s m t end old new
+  pub done_at : (next : Place) → next ≡ k.next → (done : Result (Unit {0}) Fault) (end : CallEnd) → end ≡ call_end_of done → DoneMeets row x told plan s m t next k.arguments done old new → Answers told core x plan s m t end old new
   done_at next same done end is_end g =
       let P : Place → Type 0 = λ q. DoneMeets row x told plan s m t q k.arguments done old new in
       subst (λ (e : CallEnd). Answers told core x plan s m t e old new) (sym is_end) (done_so done (subst P same g))

@@ -5,7 +5,7 @@ use Rattle.b67_word.specs.declared.faults.Fault.{Fault}
 use Rattle.b67_model.specs.Common.{Word, Task, Job, SessionJob, Goes, step, Session}
 use Rattle.b67_stack.specs.declared.Cpu.{Cpu}
 use Rattle.b67_stack.specs.Represents.{Storage}
-use Rattle.b67_layout.specs.Common.{Placement, JobShows, ForEach, with_job, moved}
+use Rattle.b67_layout.specs.Common.{Placement, JobShows, ForEach, with_job, session_moved}
 use Rattle.b67_mcp_calls.specs.Calls.{IsCall}
 use Rattle.b67_mcp_calls.specs.Reads.{ReadMeets}
 use Rattle.b67_task_tables.specs.declared.tables.JobRow.{JobRow}
@@ -38,7 +38,7 @@ pub record IsMoved (told : Option (List (List ℕ))) (s : Session) (m : SessionJ
   pub is : step m.constants m.progress.job t ≡ Ok (Goes job [] None)
   pub storage : Storage
   pub plan : Placement
-  pub stands : MachineRepresents storage told new plan (moved s m job (length job.tasks - length m.progress.job.tasks))
+  pub stands : MachineRepresents storage told new plan (session_moved s m job (length job.tasks - length m.progress.job.tasks))
   pub printed : new.tasks.printed ≡ old.tasks.printed
 
 -- by what PROCESS, AWAIT, STATUS, WAIT or CAUSE answered, which print and touch nothing, over a device of so many sectors that
@@ -59,9 +59,9 @@ pub record Takes (cpu : Cpu) (rows rows' : List JobRow) (at : ℕ) (row : JobRow
   pub takes : ForEach cpu (λ x plan s m t. (reference : Word) (arguments : List Word) → IsCall t reference arguments → JobShows plan m (job_row row) → ReadMeets plan m t arguments row new answer)
 
 -- the end of a call that makes its task go on
-abbrev pub end_of : Result (Unit {0}) Fault → CallEnd
-end_of (Ok done) = ends.Done
-end_of (Err fault) = ends.Fault fault
+abbrev pub call_end_of : Result (Unit {0}) Fault → CallEnd
+call_end_of (Ok done) = ends.Done
+call_end_of (Err fault) = ends.Fault fault
 
 -- and of one that may make it wait
 abbrev pub waiting_end : Result (Option TaskState) Fault → CallEnd

@@ -6,7 +6,7 @@ use Rattle.b67_stack.specs.declared.What.{What}
 use Rattle.b67_stack.specs.declared.What.TheVariants as what
 use Rattle.b67_stack.specs.Represents.{Storage}
 use Rattle.b67_layout_storage.specs.Machine.{Says, content_after}
-use Rattle.b67_layout.specs.Common.{Placement, with_job, area_held, IsInStack, shown, moved}
+use Rattle.b67_layout.specs.Common.{Placement, with_job, area_held, IsInStack, shown, session_moved}
 use Rattle.b67_exec_cells.specs.Running.{code_area}
 use Rattle.b67_exec_cells.specs.Called.{called_in}
 use Rattle.b67_law_sessions.specs.Turns.{task_lines}
@@ -56,7 +56,7 @@ pub record IsCalled {K : Type 0} (taken : K → Option (List ℕ)) (paper paper'
   pub is : step m.constants m.progress.job t ≡ Ok (Goes job printed touched)
   pub storage : Storage
   pub plan : Placement
-  pub stands : MachineRepresents storage told new plan (moved s m job (length job.tasks - length m.progress.job.tasks))
+  pub stands : MachineRepresents storage told new plan (session_moved s m job (length job.tasks - length m.progress.job.tasks))
   pub text : TookRest taken paper paper' (printed_text m t printed) before
   pub reset : new.tasks.printed ≡ printed_after printed before
 
@@ -93,7 +93,7 @@ abbrev pub OnlyPrinted : Machine → Machine → Type 0
 OnlyPrinted old new = new ≡ record old { tasks = record old.tasks { printed = new.tasks.printed } }
 
 -- an array of the job, which is present
-pub record IsThere (x : Storage) (plan : Placement) (m : SessionJob) (n : ℕ) : Type 0 where
+pub record ArrayIsThere (x : Storage) (plan : Placement) (m : SessionJob) (n : ℕ) : Type 0 where
   pub array : Array
   pub among : Has m.progress.job.arrays array
   pub named : array.identity ≡ n
@@ -101,7 +101,7 @@ pub record IsThere (x : Storage) (plan : Placement) (m : SessionJob) (n : ℕ) :
 
 -- the array that the step touches, if any, is one of the job, and is present
 abbrev pub TouchesPresent : Storage → Placement → SessionJob → Task → Type 0
-TouchesPresent x plan m t = (n : ℕ) → touched_of m.constants m.progress.job t (step m.constants m.progress.job t) ≡ Some n → IsThere x plan m n
+TouchesPresent x plan m t = (n : ℕ) → touched_of m.constants m.progress.job t (step m.constants m.progress.job t) ≡ Some n → ArrayIsThere x plan m n
 
 -- the call may write to the device: it makes an array longer, and the array is present, or it starts a task
 abbrev pub MayWrite : Storage → Placement → SessionJob → Task → Type 0

@@ -51,7 +51,7 @@ abbrev pub session_resized : Session → SessionJob → Array → ℕ → Sessio
 session_resized s m a words = with_job s m (with_array m.progress.job a.identity (resized words))
 
 -- the machine stands for the session as it was, and everything but the array is held as it was
-pub record IsLeft (x : Storage) (told : Option (List (List ℕ))) (plan : Placement) (s : Session) (m : SessionJob) (a : Array) (old new : Machine) : Type 0 where
+pub record StaysButArray (x : Storage) (told : Option (List (List ℕ))) (plan : Placement) (s : Session) (m : SessionJob) (a : Array) (old new : Machine) : Type 0 where
   pub storage : Storage
   pub stands : MachineRepresents storage told new plan s
   pub others : (home : ℕ) → home ≢ plan.home m.constants.number a.identity → storage.held home ≡ x.held home
@@ -66,7 +66,7 @@ pub record ChainLacks (y : Storage) (plan : Placement) (m : SessionJob) (a : Arr
 
 -- and it is short of sectors: the session with the array of so many words takes more than the device has
 pub record IsUnset (x : Storage) (told : Option (List (List ℕ))) (count : ℕ) (plan : Placement) (s : Session) (m : SessionJob) (a : Array) (words sum size : ℕ) (old new : Machine) : Type 0 where
-  pub left : IsLeft x told plan s m a old new
+  pub left : StaysButArray x told plan s m a old new
   pub wants : ℕ
   pub free : ℕ
   pub short : IsShortOf left.storage plan s.jobs wants free ⊎ ChainLacks left.storage plan m a words wants free
@@ -78,7 +78,7 @@ pub record IsUnset (x : Storage) (told : Option (List (List ℕ))) (count : ℕ)
 abbrev pub LengthSet : Option (List (List ℕ)) → ℕ → Storage → Placement → Session → SessionJob → Array → ℕ → Result (Unit {0}) Stop → Machine → Machine → Type 0
 LengthSet told count x plan s m a words (Ok done) old new = ((y : Storage) × MachineRepresents y told new plan (session_resized s m a words)) × (new.tasks ≡ old.tasks)
 LengthSet told count x plan s m a words (Err (stops.BackingFull sum size)) old new = IsUnset x told count plan s m a words sum size old new
-LengthSet told count x plan s m a words (Err stops.BackingFault) old new = IsLeft x told plan s m a old new
+LengthSet told count x plan s m a words (Err stops.BackingFault) old new = StaysButArray x told plan s m a old new
 LengthSet told count x plan s m a words (Err stop) old new = ⊥
 
 -- the call was made, and the machine stands for what its row makes; how much of the next text is printed stays

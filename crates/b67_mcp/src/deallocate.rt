@@ -1,4 +1,4 @@
-//! DEALLOCATE.
+//! DEALLOCATE: an array becomes one of zeros, and its area and its sectors become free.
 
 ghost use Rattle.b67_mcp.specs.Answers.{AnswerMeets};
 ghost use Rattle.b67_mcp.specs.Called.{CallsSome};

@@ -16,7 +16,7 @@ mod waits;
 ghost use Rattle.std.specs.Prelude.{◌≡◌, ◌+◌, length};
 ghost use Rattle.b67_layout_storage.specs.Machine.{DeviceAfterCalls};
 ghost use Rattle.b67_mcp.specs.Called.{CallsSome, CallRow};
-ghost use Rattle.b67_mcp.specs.Answers.{end_of};
+ghost use Rattle.b67_mcp.specs.Answers.{call_end_of};
 ghost use Rattle.b67_mcp.specs.Running.{JobsHaveRoom, ForCalls, CallCauses, Kept};
 
 use crate::deallocate::deallocate;
@@ -36,7 +36,7 @@ pub use stopping::stop_for;
 
 /// The end of a call that prints nothing.
 fn silent(done: Result<(), Fault>) -> CallEnd
-    ensures { result ≡ end_of done }
+    ensures { result ≡ call_end_of done }
 {
     match done {
         Ok(()) => CallEnd::Done,

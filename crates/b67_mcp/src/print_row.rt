@@ -12,7 +12,7 @@ ghost use Rattle.b67_mcp.specs.Running.{ForRuns, ForCalls, ReadsOperator, KeptOu
 use crate::running::{cut, running_row};
 use crate::{CallEnd, Stop};
 use b67_io::Sink;
-use b67_mcp_calls::{Found, row_to_print, say_row};
+use b67_mcp_calls::{RowFound, row_to_print, say_row};
 use b67_stack::What;
 use b67_task_tables::Machine;
 use b67_word::Failed;
@@ -60,8 +60,8 @@ pub(crate) fn print_row<K: Sink>(machine: &mut Machine, paper: &mut K) -> Result
         Err(fault) => return Ok(CallEnd::Fault(fault)),
     };
     match found {
-        Found::Absent(original) => Ok(CallEnd::Absent(What::Array(original))),
-        Found::Words { at, count } => {
+        RowFound::Absent(original) => Ok(CallEnd::Absent(What::Array(original))),
+        RowFound::Words { at, count } => {
             let mut printed = machine.tasks.printed;
             match say_words(machine, at, count, &mut printed, paper) {
                 Ok(()) => {

@@ -9,7 +9,7 @@ ghost use Rattle.b67_mcp.specs.Called.{CallsSome, CallTouches, CallWrites};
 ghost use Rattle.b67_mcp.specs.Resizing.{HasArray, ForArrays, StopsAt, LengthSet, ResizeAnswers};
 ghost use Rattle.b67_mcp.specs.Running.{ForCalls, Kept};
 ghost use Rattle.b67_mcp.specs.declared.ends.Stop.TheVariants.{BackingFault, PrintFault};
-ghost use Rattle.b67_task_need.specs.Needing.{StandsInOrder};
+ghost use Rattle.b67_task_need.specs.Needing.{StandsOrdered};
 
 use crate::running::next_place;
 use crate::{CallEnd, Stop};
@@ -31,7 +31,7 @@ fn sectors_of(words: u32) -> u32
 /// The stop when there is no space to make an array longer: with the sectors that the session would take, and those of the
 /// device, if too few are free.
 fn stopped(machine: &Machine, fault: SpaceFault, before: u32, after: u32) -> Stop
-    requires stands { StandsInOrder machine.now }
+    requires stands { StandsOrdered machine.now }
     requires space { (need core : ℕ) → fault ≢ NoCore need core }
     requires more { before ≤ after }
     requires few { after < 2 ^ 16 }
@@ -95,7 +95,7 @@ fn set_length<B: Backing>(
 }
 
 /// RESIZE: the array has another length, and the call is cut. Where its array is absent, or the call faults, nothing is
-/// changed; where too few sectors are free or the device fails, the machine stands for the same session.
+/// changed; where too few sectors are free or the device fails, the machine represents the same session.
 pub(crate) fn resize<B: Backing>(machine: &mut Machine, backing: &mut B) -> Result<CallEnd, Stop>
     requires calls { CallsSome machine.old 18 }
     requires same { B.size backing.old + 1 ≡ length machine.old.sectors.links }

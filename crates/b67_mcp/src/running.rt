@@ -28,7 +28,7 @@ pub(crate) fn next_place(machine: &Machine) -> Place
     }
 }
 
-/// The row of the running task.
+/// The running task's entry in the table of tasks.
 pub(crate) fn running_row(machine: &Machine) -> TaskRow
     requires { ReadsOperator machine.now }
     ensures job { ForRuns machine.now (λ x told plan s m t. result.job ≡ m.constants.number) }

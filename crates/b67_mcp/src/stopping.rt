@@ -1,6 +1,6 @@
-//! The stop for a want of space.
+//! How a step stops for lack of space.
 
-ghost use Rattle.b67_task_need.specs.Needing.{StandsInOrder};
+ghost use Rattle.b67_task_need.specs.Needing.{StandsOrdered};
 ghost use Rattle.b67_mcp.specs.Stopping.{StopsFor};
 
 use crate::Stop;
@@ -8,9 +8,10 @@ use b67_backing::SpaceFault;
 use b67_task_need::sector_sum;
 use b67_task_tables::Machine;
 
-/// The stop for a want of space, with the sectors that the session takes and those of the device where too few are free.
+/// How a step stops for lack of space: if too few sectors are free, with the sectors that the session takes and those of the
+/// device.
 pub fn stop_for(machine: &Machine, fault: SpaceFault) -> Stop
-    requires { StandsInOrder machine.now }
+    requires { StandsOrdered machine.now }
     ensures { StopsFor machine.now fault result }
 {
     match fault {

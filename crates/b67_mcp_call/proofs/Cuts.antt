@@ -8,7 +8,7 @@ use Rattle.b67_model.specs.Common.{Word, Frame, Array, Condition, Ready, Task, J
 use Rattle.b67_model.specs.State as State
 use Rattle.b67_layout.specs.Common.{IsInOrderButCounts, Placement, spot_in, outer_spots, shape, head, activations, machine_view, RepresentsTask, IsRunning, ShowsDisplay, RepresentsSession, SessionHoldsBut, RepresentsSessionBut, objects_gone, with_job}
 use Rattle.b67_stack.specs.declared.Cpu.{Cpu}
-use Rattle.b67_stack.specs.Common.{StackPlace, Activation, stack_words, mark_place, running_level, RunsOn, Storage, Represents, with_stack}
+use Rattle.b67_stack.specs.Common.{StackPlace, Activation, stack_words, mark_place, stack_level, RunsOn, Storage, Represents, with_stack}
 use Rattle.b67_stack.proofs.Pushes.{Represents-cut}
 use Rattle.b67_layout.proofs.Common.{fresh, running_in_order, no_objects_gone, slot_is, runs_here, Shows-condition, others}
 use Rattle.b67_refer.specs.RunningContext.{RunningContext}
@@ -48,7 +48,7 @@ module _ (x : Storage) (old : Cpu) (plan : Placement) (s : Session) (m : Session
 
   -- the registers on the stack below, at the place behind the call
   abbrev pub regs_cut : Regs
-  regs_cut = record old.regs { s = old.regs.bosr + stack_words under; f = old.regs.bosr + mark_place under; level = running_level under; place = q }
+  regs_cut = record old.regs { s = old.regs.bosr + stack_words under; f = old.regs.bosr + mark_place under; level = stack_level under; place = q }
 
   abbrev pub job_at : Condition → Job
   job_at d = with_task m.progress.job (task_at t (a.next ∷ a.more) t.segment q d)

@@ -9,7 +9,7 @@ use Rattle.b67_stack.specs.declared.Cpu.{Cpu}
 use Rattle.b67_stack.specs.Represents.{Storage}
 use Rattle.b67_layout.specs.Common.{Placement, cells, GivesTop}
 use Rattle.b67_exec_cells.proofs.Rows.{operand_seen}
-use Rattle.b67_mcp_call.specs.Calls.{IsCall, OnlyCell, number_in}
+use Rattle.b67_mcp_call.specs.Calls.{IsCall, OnlyCell, operand_number}
 
 -- the top one of two cells
 pub only_cell : (x : Storage) (plan : Placement) (m : SessionJob) (t : Task) (cpu : Cpu) (cs : List Word) → length cs ≡ 2 → (found : Result Tagged Fault) → GivesTop x plan m t cpu cs found → OnlyCell x plan m t cpu cs found
@@ -40,9 +40,9 @@ module _ (m : SessionJob) (t : Task) (r : Word) (arguments : List Word) (call : 
       by (b ∷ a ∷ w ∷ more) e two rev = absurd cc
 
   module _ (x : Storage) (plan : Placement) (cpu : Cpu) (two : length (cells t) ≡ 2) where
-    pub value_is : (v : Tagged) → GivesTop x plan m t cpu (cells t) (Ok v) → number_in v ≡ whole (one two).argument
+    pub value_is : (v : Tagged) → GivesTop x plan m t cpu (cells t) (Ok v) → operand_number v ≡ whole (one two).argument
     value_is v g =
         let P : List Word → Type 0 = λ cs. GivesTop x plan m t cpu cs (Ok v) in
         let (u, e, at) = subst P (one two).cells_are g in
         let same : v ≡ u = cc in
-        ap number_in same ∙ ap (λ (o : Answer ℕ). o >>= number) (operand_seen x plan m t cpu.regs.s u (one two).argument at.is)
+        ap operand_number same ∙ ap (λ (o : Answer ℕ). o >>= number) (operand_seen x plan m t cpu.regs.s u (one two).argument at.is)

@@ -5,7 +5,7 @@ use Rattle.b67_core.proofs.Writes.{slice_get-set_other}
 use Rattle.b67_model.specs.Common.{Word, Frame, Task, Job, SessionJob, with_top_cells, known_of, Session}
 use Rattle.b67_model.specs.Keyed.{change_keyed}
 use Rattle.b67_stack.specs.declared.Cpu.{Cpu}
-use Rattle.b67_stack.specs.Common.{Shape, Fits, StackPlace, Activation, RunsOn, Storage, RepresentsRunning, pushed, top_cells, with_cells, MayPush}
+use Rattle.b67_stack.specs.Common.{Shape, Fits, StackPlace, Activation, RunsOn, Storage, RepresentsRunning, pushed, top_cells, stack_with_cells, MayPush}
 use Rattle.b67_stack.proofs.Slots.{running_slot}
 use Rattle.b67_stack.proofs.Pushes.{Room, room_of}
 use Rattle.b67_layout.specs.Common.{Placement, slot_of, spot_in, outer_spots, spots, shape, stack_of_task, machine_view, IsRunning, ShowsDisplay, critical_mark, RepresentsSession, with_job, cells}
@@ -57,7 +57,7 @@ module _ (x : Storage) (cpu : Cpu) (plan : Placement) (s : Session) (m : Session
         (omega arith) (omega (arith, higher)) (λ home z. z) h.holds.settled may fit in
         let r' = (pushed cpu w).regs in
         let fs = with_top_cells t.frames (v ∷ cells t) in
-        let holds = SessionHolds-top [] x cpu.core (pushed cpu w).core cpu.regs r' cpu.critical plan s m t h.holds runs job fs t.segment t.place t.condition n top (with_cells stack (map shaped (v ∷ cells t)))
+        let holds = SessionHolds-top [] x cpu.core (pushed cpu w).core cpu.regs r' cpu.critical plan s m t h.holds runs job fs t.segment t.place t.condition n top (stack_with_cells stack (map shaped (v ∷ cells t)))
         (λ i low. slice_get-set_other cpu.core (cpu.regs.s + 1) i w (λ e. omega (arith, e, low, registers.first, registers.top)))
         (record { slot = refl; dict = refl; entries = refl; segment = is.segment; place = is.place })
         (critical-with m.progress.job t.frames) (activations-with plan m.constants.number m.progress.job plan.running outer t.frames (v ∷ cells t)) d.0 d.1 in

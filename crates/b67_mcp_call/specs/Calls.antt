@@ -6,7 +6,7 @@ use Rattle.b67_word.specs.declared.couples.Place.{Place}
 use Rattle.b67_word.specs.declared.faults.Fault.{Fault}
 use Rattle.b67_word.specs.declared.faults.Fault.TheVariants.{InvalidOperand}
 use Rattle.b67_model.specs.Common.{Answer, ◌>>=◌, Word, number, Marked, Task, Job, SessionJob, Session, top, with_task, is_critical, is_original, answered}
-use Rattle.b67_arith.specs.OnWords.{bits_in}
+use Rattle.b67_arith.specs.OnWords.{operand_bits}
 use Rattle.b67_stack.specs.declared.Cpu.{Cpu}
 use Rattle.b67_stack.specs.Represents.{Storage}
 use Rattle.b67_layout.specs.Common.{Placement, RunsSome, here, GivesTop}
@@ -47,8 +47,8 @@ OnlyCell x plan m t cpu cs (Ok w) = (length cs ≡ 2) × GivesTop x plan m t cpu
 OnlyCell x plan m t cpu cs (Err fault) = (length cs ≢ 2) × (fault ≡ InvalidOperand)
 
 -- the number of a word, if it is a whole operand
-abbrev pub number_in : Tagged → Answer ℤ
-number_in w = bits_in w >>= number
+abbrev pub operand_number : Tagged → Answer ℤ
+operand_number w = operand_bits w >>= number
 
 -- the machine stands for some session in order, whose running task stands at the call of an intrinsic
 pub record StandsAtCall (k : Machine) : Type 0 where

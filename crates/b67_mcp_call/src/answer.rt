@@ -1,4 +1,4 @@
-//! The answer of a call.
+//! A call is cut off the stack, and its answer is pushed.
 
 ghost use Rattle.std.specs.Prelude.{◌≡◌, ℕ, ℤ, ◌+◌, ◌<◌, List, length, ◌⊎◌, slice_get};
 ghost use Rattle.b67_word.specs.Tagged.{word};
@@ -15,7 +15,7 @@ use b67_word::{Place, Word};
 
 /// Cuts the call of an intrinsic off the running stack, and puts the operand that it answers on the activation record
 /// below. The task goes on at a place of its segment. There is room, since the call's mark stood where the
-/// operand does. The numbers that are left to read are no matter of core.
+/// operand does. Core doesn't hold the numbers for READ.
 pub fn answer_call(cpu: &mut Cpu, w: Word, next: Place)
     requires call { CutSome cpu.old }
     requires place { IsPlace next }

@@ -1,13 +1,13 @@
 //! The number that an argument stands for.
 
 ghost use Rattle.std.specs.Prelude.{◌≡◌};
-ghost use Rattle.b67_mcp_call.specs.Calls.{number_in};
+ghost use Rattle.b67_mcp_call.specs.Calls.{operand_number};
 
 use b67_word::{Fault, Word};
 
 /// The number of a whole operand. INVALID OPERAND where a word is none, EXPONENT where it isn't whole.
 pub fn whole(w: Word) -> Result<i64, Fault>
-    ensures { result ≡ number_in w }
+    ensures { result ≡ operand_number w }
 {
     if w.tag() != 0 {
         return Err(Fault::InvalidOperand);

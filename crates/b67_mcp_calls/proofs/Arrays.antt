@@ -16,7 +16,7 @@ use Rattle.b67_stack.specs.declared.Cpu.{Cpu}
 use Rattle.b67_stack.specs.Common.{IsOriginal, nowhere, AreZero, home_desc, home_word_of, Storage, pushed}
 use Rattle.b67_layout.proofs.Common.{running_in_order, change-has, with_job-twice}
 use Rattle.b67_mcp_calls.specs.Calls.{MayCut, job_cut}
-use Rattle.b67_mcp_calls.specs.Declaring.{without, with_home, new_array, job_declared}
+use Rattle.b67_mcp_calls.specs.Declaring.{storage_without, with_home, new_array, job_declared}
 use Rattle.b67_mcp_call.proofs.Answering.{task_cut, member_cut, runs_cut, higher}
 use Rattle.b67_mcp_calls.proofs.Avoiding.{FramesAvoid, JobAvoids, job_avoids, row_avoids}
 use Rattle.b67_mcp_calls.proofs.Replanned.{stands-there}
@@ -76,7 +76,7 @@ module _ (x : Storage) (old mid : Cpu) (plan : Placement) (s : Session) (m : Ses
   }
 
   pub array_answered : (len : ℕ) (w : Tagged) → 0 < len → len < 2 ^ 16 → w ≡ data_word (home_desc false len nowhere)
-      → RepresentsSession (without x (mid.regs.s + 1)) (pushed mid w) (with_home plan m.constants.number m.progress.job.next_array (mid.regs.s + 1)) (with_job s m (job_declared m t len q))
+      → RepresentsSession (storage_without x (mid.regs.s + 1)) (pushed mid w) (with_home plan m.constants.number m.progress.job.next_array (mid.regs.s + 1)) (with_job s m (job_declared m t len q))
   array_answered len w some small is =
       let long : length (replicate len 0) ≡ len = length-replicate len 0 in
       let d : Declares there (member_cut m t q) (task_cut m t q) (job_declared m t len q) (new_array m t len) (mid.regs.s + 1) = record {
@@ -90,4 +90,4 @@ module _ (x : Storage) (old mid : Cpu) (plan : Placement) (s : Session) (m : Ses
       } in
       let made = stands_declared x mid there (with_job s m (job_cut m t q)) (member_cut m t q) (task_cut m t q) cut_there (runs_cut x old mid there s m t q o stands runs_there may cut_there) (job_declared m t len q) (new_array m t len) d
       w (subst IsOriginal (sym is) (is_original_word len small)) (is ∙ ap (λ (i : ℕ). home_word_of Array i nowhere) (sym long)) (higher x old mid there s m t q o stands runs_there may cut_there) in
-      subst (λ (k : Session). RepresentsSession (without x (mid.regs.s + 1)) (pushed mid w) there k) (with_job-twice s m (job_cut m t q) (job_declared m t len q)) made
+      subst (λ (k : Session). RepresentsSession (storage_without x (mid.regs.s + 1)) (pushed mid w) there k) (with_job-twice s m (job_cut m t q) (job_declared m t len q)) made

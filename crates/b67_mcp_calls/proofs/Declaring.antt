@@ -14,7 +14,7 @@ use Rattle.b67_model.specs.Common.{Word, Operand, Name, Ref, Row, Element, Origi
 use Rattle.b67_model.specs.Keyed.{keyed, change_keyed}
 use Rattle.b67_stack.specs.declared.Cpu.{Cpu}
 use Rattle.b67_stack.specs.Shapes as Shapes
-use Rattle.b67_stack.specs.Common.{Shape, IsOriginal, nowhere, StackPlace, Activation, stack_words, PagedObject, Slot, Running, stack_of, MachineView, NoOriginalAboveTop, AreZero, slot_base, home_word_of, Storage, RepresentsRunning, Represents, pushed, with_stack, with_cells, top_cells}
+use Rattle.b67_stack.specs.Common.{Shape, IsOriginal, nowhere, StackPlace, Activation, stack_words, PagedObject, Slot, Running, stack_of, MachineView, NoOriginalAboveTop, AreZero, slot_base, home_word_of, Storage, RepresentsRunning, Represents, pushed, with_stack, stack_with_cells, top_cells}
 use Rattle.b67_stack.proofs.Bases.{base-apart}
 use Rattle.b67_stack.proofs.Slots.{by_slot, running_fits}
 use Rattle.b67_stack.proofs.Helds.{held-same}
@@ -24,7 +24,7 @@ use Rattle.b67_layout.proofs.Replaces.{outer_spots-after}
 use Rattle.b67_layout_records.proofs.Nowhere.{SameArray, SameArrays, activations-same}
 use Rattle.b67_layout_records.proofs.Slots.{OthersSame, stack-after, slots-after}
 use Rattle.b67_exec_cells.proofs.Replaced.{cells-are}
-use Rattle.b67_mcp_calls.specs.Declaring.{without}
+use Rattle.b67_mcp_calls.specs.Declaring.{storage_without}
 use Rattle.b67_mcp_call.proofs.Pushed.{stack, on_slot, registers, room}
 use Rattle.b67_mcp_calls.proofs.Avoiding.{Avoids, FramesAvoid, JobAvoids}
 use Rattle.b67_mcp_calls.proofs.Unheld.{Represents-unheld}
@@ -148,7 +148,7 @@ module _ (x : Storage) (cpu : Cpu) (plan : Placement) (s : Session) (m : Session
   at = cpu.regs.s + 1
 
   abbrev y : Storage
-  y = without x at
+  y = storage_without x at
 
   abbrev p : MachineView
   p = machine_view plan s.jobs
@@ -160,7 +160,7 @@ module _ (x : Storage) (cpu : Cpu) (plan : Placement) (s : Session) (m : Session
   before = stack x cpu plan s m t h runs
 
   abbrev after : List Activation
-  after = with_cells before (Shapes.Original at ∷ top_cells before)
+  after = stack_with_cells before (Shapes.Original at ∷ top_cells before)
 
   abbrev core' : List Tagged
   core' = slice_set cpu.core at w
@@ -251,8 +251,8 @@ module _ (x : Storage) (cpu : Cpu) (plan : Placement) (s : Session) (m : Session
       stack-after plan j m.progress.job job t t' by k
       ∙ activations-same plan j job m.progress.job k outer t'.frames (original_same m.progress.job job a.identity t.frames (cells t) (top_same m.progress.job job t.frames own) own)
       ∙ activations-with plan j m.progress.job k outer t.frames (Original a.identity ∷ cells t)
-      ∙ ap (λ (i : ℕ). with_cells before (Shapes.Original i ∷ map shaped (cells t))) d.home
-      ∙ ap (λ (cs : List Shape). with_cells before (Shapes.Original at ∷ cs)) (sym (cells-are plan j m.progress.job k outer t.frames))
+      ∙ ap (λ (i : ℕ). stack_with_cells before (Shapes.Original i ∷ map shaped (cells t))) d.home
+      ∙ ap (λ (cs : List Shape). stack_with_cells before (Shapes.Original at ∷ cs)) (sym (cells-are plan j m.progress.job k outer t.frames))
 
   machine_view_is : machine_view plan jobs' ≡ of_objects (with_stack p k after) all
   machine_view_is =
@@ -270,7 +270,7 @@ module _ (x : Storage) (cpu : Cpu) (plan : Placement) (s : Session) (m : Session
   task_stands : RepresentsTask regs' plan (record m { progress = record m.progress { job = job } }) t'
   task_stands = let r = h.holds.running m t runs in record { slot = r.slot; dict = r.dict; entries = r.entries; segment = r.segment; place = r.place }
 
-  pub stands_declared : RepresentsSession (without x (cpu.regs.s + 1)) (pushed cpu w) plan (with_job s m job)
+  pub stands_declared : RepresentsSession (storage_without x (cpu.regs.s + 1)) (pushed cpu w) plan (with_job s m job)
   stands_declared =
       let c : JobProgress = record m.progress { job = job } in
       let low : (i : ℕ) → i < plan.stacks → slice_get core' i ≡ slice_get cpu.core i = λ i small. slice_get-set_other cpu.core at i w (λ e. omega (arith, e, small, g.first, g.top)) in

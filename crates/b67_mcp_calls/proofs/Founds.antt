@@ -14,7 +14,7 @@ use Rattle.b67_exec_cells.specs.Elements.{HasElement}
 use Rattle.b67_mcp_calls.specs.Calls.{IsCall}
 use Rattle.b67_mcp_call.proofs.Ones.{one}
 use Rattle.b67_mcp_calls.specs.Texts.{values_of, is_some}
-use Rattle.b67_mcp_calls.specs.RowCalls.{Copies, CopiesPresent, IsRow}
+use Rattle.b67_mcp_calls.specs.RowCalls.{Copies, CopiesPresent, IsPrintedRow}
 use Rattle.b67_mcp_calls.proofs.Words.{answer_of, numbers_are}
 
 -- the values, if they are some
@@ -58,7 +58,7 @@ module _ (plan : Placement) (m : SessionJob) (t : Task) (r : Word) (arguments : 
       printed next ∙ ap (λ (o : Option (List ℤ)). row_by (here m t next) (answer_of o)) is ∙ rw z refl
 
   pub row_is : at + count ≤ length core → is_some (values_of (slice_range core at (at + count))) ≡ true → is_critical m.progress.job (top t.frames).identity ≡ false → height t.frames ≤ m.constants.stack_size → length (cells t) ≡ 2
-      → IsRow m t core arguments at count
+      → IsPrintedRow m t core arguments at count
   row_is inside e z fits two =
       let (vs, is) = some_of (values_of (slice_range core at (at + count))) e in
       let low : height (below_top t.frames) ≤ m.constants.stack_size = omega (arith, lower t.frames, fits) in

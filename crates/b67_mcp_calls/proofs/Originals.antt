@@ -5,7 +5,7 @@ use Rattle.b67_word.specs.Tagged.{Tagged}
 use Rattle.b67_ctl.specs.declared.registers.Regs.{Regs}
 use Rattle.b67_core.proofs.Writes.{slice_get-set_other}
 use Rattle.b67_lemmas.specs.Lists.{Has}
-use Rattle.b67_stack.specs.Common.{Original, Copy, IsOriginal, Fits, Activation, IsStack, stack_words, words, PagedObject, Slot, MachineView, stack_of, RunsOn, NoOriginalAboveTop, slot_base, CopiesName, Storage, RepresentsRunning, Represents, with_stack, with_cells, top_cells}
+use Rattle.b67_stack.specs.Common.{Original, Copy, IsOriginal, Fits, Activation, IsStack, stack_words, words, PagedObject, Slot, MachineView, stack_of, RunsOn, NoOriginalAboveTop, slot_base, CopiesName, Storage, RepresentsRunning, Represents, with_stack, stack_with_cells, top_cells}
 use Rattle.b67_stack.proofs.Lies.{Lie-push}
 use Rattle.b67_stack.proofs.Heights.{words-length}
 use Rattle.b67_stack.proofs.Slots.{Represents-slot, running_slot, running_fits, running_lies}
@@ -46,7 +46,7 @@ module _ (x : Storage) (core : List Tagged) (r : Regs) (p : MachineView) (k : �
 
   -- the original on top, and no original above a top
   pub Represents-original : (stack : List Activation) → RunsOn p k stack
-      → let after = with_cells stack (Original (r.s + 1) ∷ top_cells stack) in
+      → let after = stack_with_cells stack (Original (r.s + 1) ∷ top_cells stack) in
       Represents x (slice_set core (r.s + 1) w) (record r { s = r.s + 1 }) (with_stack p k after) × NoOriginalAboveTop (with_stack p k after) × (stack_words after ≡ stack_words stack + 1)
   Represents-original [] u = absurd ((running_fits x core r p k [] s u).0.some refl)
   Represents-original (a ∷ below) u = (original_on a below u, Settled-more p k (a ∷ below) (record a { cells = Original (r.s + 1) ∷ a.cells } ∷ below) u (omega arith) settled, omega arith)

@@ -15,7 +15,7 @@ use Rattle.b67_layout.specs.Common.{Placement, here, cells, GivesTop}
 use Rattle.b67_layout.proofs.PlainOperands.{plain_operand}
 use Rattle.b67_exec_cells.proofs.Rows.{operand_seen}
 use Rattle.b67_mcp_call.proofs.Ones.{count, one}
-use Rattle.b67_mcp_calls.specs.Calls.{IsCall, PrintMeets, number_in}
+use Rattle.b67_mcp_calls.specs.Calls.{IsCall, PrintMeets, operand_number}
 
 module _ (m : SessionJob) (t : Task) (r : Word) (arguments : List Word) (call : IsCall t r arguments) where
   -- another number of arguments than one
@@ -54,12 +54,12 @@ module _ (m : SessionJob) (t : Task) (r : Word) (arguments : List Word) (call : 
       )
 
   -- by what the argument's word is
-  pub decided : (two : length (cells t) ≡ 2) → height t.frames ≤ m.constants.stack_size → (v : Tagged) (answer : Result ℤ Fault) → answer ≡ number_in v → number_in v ≡ whole (one m t r arguments call two).argument
+  pub decided : (two : length (cells t) ≡ 2) → height t.frames ≤ m.constants.stack_size → (v : Tagged) (answer : Result ℤ Fault) → answer ≡ operand_number v → operand_number v ≡ whole (one m t r arguments call two).argument
       → ((n : ℤ) → answer ≡ Ok n → is_critical m.progress.job (top t.frames).identity ≡ false) → PrintMeets m t arguments answer
   decided two fits v (Ok n) e is free = prints two n (sym is ∙ sym e) (free n refl) fits
   decided two fits v (Err fault) e is free = no_value two fault (sym is ∙ sym e)
 
-  pub decided_critical : (two : length (cells t) ≡ 2) (v : Tagged) (answer : Result ℤ Fault) → answer ≡ number_in v → number_in v ≡ whole (one m t r arguments call two).argument → is_ok answer ≡ true
+  pub decided_critical : (two : length (cells t) ≡ 2) (v : Tagged) (answer : Result ℤ Fault) → answer ≡ operand_number v → operand_number v ≡ whole (one m t r arguments call two).argument → is_ok answer ≡ true
       → is_critical m.progress.job (top t.frames).identity ≡ true → PrintMeets m t arguments (Err CriticalBlock)
   decided_critical two v (Ok n) e is ok c = critical two n (sym is ∙ sym e) c
   decided_critical two v (Err fault) e is ok c = absurd cc

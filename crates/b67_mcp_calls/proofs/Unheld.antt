@@ -11,11 +11,11 @@ use Rattle.b67_stack.proofs.Lies.{Lie-each}
 use Rattle.b67_stack.proofs.Helds.{held-other, held-same}
 use Rattle.b67_layout_storage.proofs.Words.{copy_other}
 use Rattle.b67_stack.proofs.Reheld.{Content-stays}
-use Rattle.b67_mcp_calls.specs.Declaring.{without}
+use Rattle.b67_mcp_calls.specs.Declaring.{storage_without}
 
 module _ (x : Storage) (core : List Tagged) (r : Regs) (p : MachineView) (at : ℕ) (s : Represents x core r p) (apart : (t : PagedObject) → Has p.objects t → t.home ≢ at) where
   abbrev y : Storage
-  y = without x at
+  y = storage_without x at
 
   other : (t : PagedObject) → Has p.objects t → y.held t.home ≡ x.held t.home
   other t i = held-other x.held at nowhere t.home (apart t i)
@@ -58,7 +58,7 @@ module _ (x : Storage) (core : List Tagged) (r : Regs) (p : MachineView) (at : �
     one_chain = λ t u i j some e. s.owned.one_chain t u i j (subst (λ (n : ℕ). 0 < n) (chain_in t i) some) (sym (chain_in t i) ∙ e ∙ chain_in u j);
   }
 
-  pub Represents-unheld : Represents (without x at) core r p
+  pub Represents-unheld : Represents (storage_without x at) core r p
   Represents-unheld = record {
     slots = record { laid = s.slots.laid; regs = s.slots.regs; slots = s.slots.slots };
     stacks = stacks;

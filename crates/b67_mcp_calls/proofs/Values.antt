@@ -3,7 +3,7 @@ use Rattle.std.proofs.Common.{◌≡◌, ℕ, suc, ◌+◌, ◌<◌, ◌≤◌, 
 use Rattle.std.proofs.lemmas.List.{at_drop_all}
 use Rattle.b67_word.specs.Tagged.{Tagged}
 use Rattle.b67_word.specs.Operands.{number_of}
-use Rattle.b67_mcp_calls.specs.Texts.{joined, values_of, is_some}
+use Rattle.b67_mcp_calls.specs.Texts.{values_with, values_of, is_some}
 
 pub first_of : (ws : List Tagged) (i : ℕ) (w : Tagged) → i < length ws → w ≡ get_or ws i w → drop i ws ≡ w ∷ drop (i + 1) ws
 first_of ws i w low e =
@@ -11,15 +11,15 @@ first_of ws i w low e =
     drop-cons ws i w low ∙ ap (λ (v : Tagged). v ∷ drop (suc i) ws) (sym e) ∙ ap (λ (k : ℕ). w ∷ drop k ws) next
 
 pub none_left : (ws : List Tagged) (i : ℕ) (w : Tagged) → i < length ws → w ≡ get_or ws i w → number_of w ≡ None → values_of (drop i ws) ≡ None
-none_left ws i w low e none = ap values_of (first_of ws i w low e) ∙ ap (λ (o : Option ℤ). joined o (values_of (drop (i + 1) ws))) none
+none_left ws i w low e none = ap values_of (first_of ws i w low e) ∙ ap (λ (o : Option ℤ). values_with o (values_of (drop (i + 1) ws))) none
 
-some_joined : (v : ℤ) (o : Option (List ℤ)) → is_some (joined (Some v) o) ≡ is_some o
+some_joined : (v : ℤ) (o : Option (List ℤ)) → is_some (values_with (Some v) o) ≡ is_some o
 some_joined v None = refl
 some_joined v (Some vs) = refl
 
 pub some_left : (ws : List Tagged) (i : ℕ) (w : Tagged) (v : ℤ) → i < length ws → w ≡ get_or ws i w → number_of w ≡ Some v → is_some (values_of (drop (i + 1) ws)) ≡ is_some (values_of (drop i ws))
 some_left ws i w v low e some =
-    sym (some_joined v (values_of (drop (i + 1) ws))) ∙ ap (λ (o : Option ℤ). is_some (joined o (values_of (drop (i + 1) ws)))) (sym some) ∙ ap (λ (l : List Tagged). is_some (values_of l)) (sym (first_of ws i w low e))
+    sym (some_joined v (values_of (drop (i + 1) ws))) ∙ ap (λ (o : Option ℤ). is_some (values_with o (values_of (drop (i + 1) ws)))) (sym some) ∙ ap (λ (l : List Tagged). is_some (values_of l)) (sym (first_of ws i w low e))
 
 -- the first value and those behind it
 pub record Splits (w : Tagged) (rest : List Tagged) (vs : List ℤ) : Type 0 where
@@ -29,7 +29,7 @@ pub record Splits (w : Tagged) (rest : List Tagged) (vs : List ℤ) : Type 0 whe
   pub others : values_of rest ≡ Some more
   pub all : vs ≡ value ∷ more
 
-by_parts : (w : Tagged) (rest : List Tagged) (vs : List ℤ) (o : Option ℤ) (p : Option (List ℤ)) → number_of w ≡ o → values_of rest ≡ p → joined o p ≡ Some vs → Splits w rest vs
+by_parts : (w : Tagged) (rest : List Tagged) (vs : List ℤ) (o : Option ℤ) (p : Option (List ℤ)) → number_of w ≡ o → values_of rest ≡ p → values_with o p ≡ Some vs → Splits w rest vs
 by_parts w rest vs None p a b e = absurd cc
 by_parts w rest vs (Some v) None a b e = absurd cc
 by_parts w rest vs (Some v) (Some more) a b e = record { value = v; more = more; first = a; others = b; all = cc }

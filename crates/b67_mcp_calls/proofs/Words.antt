@@ -14,7 +14,7 @@ use Rattle.b67_stack.proofs.Lies.{upward-range}
 use Rattle.b67_exec_cells.proofs.Replaced.{array_object-has}
 use Rattle.b67_exec_cells.specs.Elements.{HasElement}
 use Rattle.b67_exec_cells.proofs.Arrays.{array_is, tag_by}
-use Rattle.b67_mcp_calls.specs.Texts.{joined, values_of}
+use Rattle.b67_mcp_calls.specs.Texts.{values_with, values_of}
 use Rattle.b67_lemmas.proofs.Members.{keyed_has}
 
 -- the values of a row's numbers, or EXPONENT
@@ -22,7 +22,7 @@ abbrev pub answer_of : Option (List ℤ) → Answer (List ℤ)
 answer_of None = Err Exponent
 answer_of (Some vs) = Ok vs
 
-joins : (b : Bool) (v : ℤ) (o : Option (List ℤ)) → ((if b then Ok v else Err Exponent) >>= λ n. answer_of o >>= λ ns. Ok (n ∷ ns)) ≡ answer_of (joined (if b then Some v else None) o)
+joins : (b : Bool) (v : ℤ) (o : Option (List ℤ)) → ((if b then Ok v else Err Exponent) >>= λ n. answer_of o >>= λ ns. Ok (n ∷ ns)) ≡ answer_of (values_with (if b then Some v else None) o)
 joins true v None = refl
 joins true v (Some vs) = refl
 joins false v None = refl

@@ -9,7 +9,7 @@ use Rattle.b67_stack.specs.Represents.{Storage}
 use Rattle.b67_layout_storage.specs.Machine.{holding}
 use Rattle.b67_layout.specs.Placement.{Placement}
 use Rattle.b67_layout.specs.Meets.{here}
-use Rattle.b67_mcp_calls.specs.Calls.{MayCut, number_in}
+use Rattle.b67_mcp_calls.specs.Calls.{MayCut, operand_number}
 
 -- an array of zeros, which ends with the frame below the call
 abbrev pub new_array : SessionJob → Task → ℕ → Array
@@ -26,12 +26,12 @@ abbrev pub with_home : Placement → ℕ → ℕ → ℕ → Placement
 with_home plan j a at = record plan { home = λ i b. if (i == j) && (b == a) then at else plan.home i b }
 
 -- the storage that holds nothing of what is known by an address
-abbrev pub without : Storage → ℕ → Storage
-without x at = holding x at nowhere
+abbrev pub storage_without : Storage → ℕ → Storage
+storage_without x at = holding x at nowhere
 
 -- the length that a word says
 abbrev pub length_in : Tagged → Answer ℕ
-length_in w = number_in w >>= array_length
+length_in w = operand_number w >>= array_length
 
 -- ARRAYDEC is to make an array of the length that was found, or faults as its row does
 abbrev pub LengthMeets : SessionJob → Task → List Word → Result ℕ Fault → Type 0

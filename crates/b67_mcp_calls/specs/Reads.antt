@@ -30,7 +30,7 @@ abbrev pub job_read : SessionJob → Task → Place → Job
 job_read m t next = let taken = read_from m.progress.job.numbers in job_answered m t (Operand taken.0) next taken.1
 
 -- the number was taken: the call may be cut off and answers it, and the row shows the job that READ makes
-pub record IsRead (plan : Placement) (m : SessionJob) (t : Task) (arguments : List Word) (old new : JobRow) (w : Tagged) : Type 0 where
+pub record NumberIsRead (plan : Placement) (m : SessionJob) (t : Task) (arguments : List Word) (old new : JobRow) (w : Tagged) : Type 0 where
   pub is : w ≡ word 0 (read_from m.progress.job.numbers).0
   pub may : MayCut m t
   pub makes : (next : Place) → read (here m t next) arguments ≡ Ok (Goes (job_read m t next) [] None)
@@ -39,5 +39,5 @@ pub record IsRead (plan : Placement) (m : SessionJob) (t : Task) (arguments : Li
 
 -- READ takes the next number, or faults as its row does and takes none
 abbrev pub ReadMeets : Placement → SessionJob → Task → List Word → JobRow → JobRow → Result Tagged Fault → Type 0
-ReadMeets plan m t arguments old new (Ok w) = IsRead plan m t arguments old new w
+ReadMeets plan m t arguments old new (Ok w) = NumberIsRead plan m t arguments old new w
 ReadMeets plan m t arguments old new (Err fault) = ((next : Place) → read (here m t next) arguments ≡ Err fault) × (new ≡ old)

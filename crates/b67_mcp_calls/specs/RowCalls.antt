@@ -10,8 +10,8 @@ use Rattle.b67_layout.specs.Common.{Placement, here, area_held}
 use Rattle.b67_exec_cells.specs.Elements.{HasElement}
 use Rattle.b67_mcp_calls.specs.Calls.{MayCut, job_cut}
 use Rattle.b67_mcp_calls.specs.Texts.{values_of}
-use Rattle.b67_mcp_calls.specs.declared.row.Found.{Found}
-use Rattle.b67_mcp_calls.specs.declared.row.Found.TheVariants as found
+use Rattle.b67_mcp_calls.specs.declared.row.RowFound.{RowFound}
+use Rattle.b67_mcp_calls.specs.declared.row.RowFound.TheVariants as found
 
 -- the one argument copies an array, which has some element and whose original has this address
 pub record Copies (plan : Placement) (m : SessionJob) (arguments : List Word) (original : ℕ) : Type 0 where
@@ -31,7 +31,7 @@ MissesCopy arguments (Ok original) = Unit {0}
 MissesCopy arguments (Err fault) = (a : ℕ) → arguments ≢ Row a ∷ []
 
 -- so many words of core from an address on are the row's, and the call may be cut off
-pub record IsRow (m : SessionJob) (t : Task) (core : List Tagged) (arguments : List Word) (at count : ℕ) : Type 0 where
+pub record IsPrintedRow (m : SessionJob) (t : Task) (core : List Tagged) (arguments : List Word) (at count : ℕ) : Type 0 where
   pub inside : at + count ≤ length core
   pub values : List ℤ
   pub lies : values_of (slice_range core at (at + count)) ≡ Some values
@@ -48,8 +48,8 @@ pub record IsAbsentRow (x : Storage) (plan : Placement) (m : SessionJob) (argume
   pub absent : area_held x plan m.constants.number array.identity ≡ None
 
 -- what PRINTROW is to print, or that it touches an absent array, or its row's fault
-abbrev pub RowMeets : Storage → Placement → SessionJob → Task → List Tagged → List Word → Result Found Fault → Type 0
-RowMeets x plan m t core arguments (Ok (found.Words at count)) = IsRow m t core arguments at count
+abbrev pub RowMeets : Storage → Placement → SessionJob → Task → List Tagged → List Word → Result RowFound Fault → Type 0
+RowMeets x plan m t core arguments (Ok (found.Words at count)) = IsPrintedRow m t core arguments at count
 RowMeets x plan m t core arguments (Ok (found.Absent original)) = IsAbsentRow x plan m arguments original
 RowMeets x plan m t core arguments (Err fault) = (next : Place) → printrow (here m t next) arguments ≡ Err fault
 
@@ -58,7 +58,7 @@ abbrev pub CopiesPresent : Storage → Placement → SessionJob → List Word �
 CopiesPresent x plan m arguments = (a : ℕ) → arguments ≡ Row a ∷ [] → HasElement m.progress.job a 0 × (area_held x plan m.constants.number a ≢ None)
 
 -- so it is wherever no absent array is told, before and after a fault
-abbrev pub RowTouches : Storage → Placement → SessionJob → List Word → Result Found Fault → Type 0
+abbrev pub RowTouches : Storage → Placement → SessionJob → List Word → Result RowFound Fault → Type 0
 RowTouches x plan m arguments (Ok (found.Words at count)) = CopiesPresent x plan m arguments
 RowTouches x plan m arguments (Ok (found.Absent original)) = Unit {0}
 RowTouches x plan m arguments (Err fault) = CopiesPresent x plan m arguments

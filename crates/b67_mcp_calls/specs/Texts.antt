@@ -6,14 +6,14 @@ use Rattle.b67_io.specs.Told.{Continues}
 use Rattle.b67_model.specs.Lines.{row_text}
 
 -- a number, and those of the words behind it
-abbrev pub joined : Option ℤ → Option (List ℤ) → Option (List ℤ)
-joined (Some v) (Some vs) = Some (v ∷ vs)
-joined _ _ = None
+abbrev pub values_with : Option ℤ → Option (List ℤ) → Option (List ℤ)
+values_with (Some v) (Some vs) = Some (v ∷ vs)
+values_with _ _ = None
 
 -- the numbers of words, if each word is a whole operand
 abbrev pub values_of : List Tagged → Option (List ℤ)
 values_of [] = Some []
-values_of (w ∷ ws) = joined (number_of w) (values_of ws)
+values_of (w ∷ ws) = values_with (number_of w) (values_of ws)
 
 abbrev pub is_some : Option (List ℤ) → Bool
 is_some None = false
@@ -24,8 +24,8 @@ abbrev pub still : List ℕ → List ℕ → ℕ → List ℤ → List ℕ
 still name line room vs = line ++ row_text name room vs
 
 -- the values that have room fit in a line of 192 bytes
-abbrev pub IsShort : List ℕ → ℕ → Type 0
-IsShort line room = length line + 14 * room ≤ 181
+abbrev pub FitsLine : List ℕ → ℕ → Type 0
+FitsLine line room = length line + 14 * room ≤ 181
 
 -- Of a text so many first bytes were printed before, and so many are now. The lines before the one that has begun are printed,
 -- and have so many bytes; what follows them is still to come.

@@ -7,7 +7,7 @@ ghost use Rattle.b67_layout.specs.Meets.{ForEach, with_job, IsInStack};
 ghost use Rattle.b67_mcp_calls.specs.Calls.{CutSome, CallSome, IsCall, MayCut};
 ghost use Rattle.b67_model.specs.Words as words;
 ghost use Rattle.b67_mcp_calls.specs.Declaring as definition;
-ghost use Rattle.b67_mcp_calls.specs.Declaring.{job_declared, with_home, without, LengthMeets};
+ghost use Rattle.b67_mcp_calls.specs.Declaring.{job_declared, with_home, storage_without, LengthMeets};
 
 use b67_ctl::DataDesc;
 use b67_entry::is_critical;
@@ -55,7 +55,7 @@ pub fn answer_array(cpu: &mut Cpu, length: u32, next: Place)
     requires some { 0 < length }
     requires small { length < 2 ^ 16 }
     ensures stands { ForEach cpu.old (λ x plan s m t. MayCut m t
-        → RepresentsSession (without x cpu.new.regs.s) cpu.new (with_home plan m.constants.number m.progress.job.next_array cpu.new.regs.s) (with_job s m (job_declared m t length next))) }
+        → RepresentsSession (storage_without x cpu.new.regs.s) cpu.new (with_home plan m.constants.number m.progress.job.next_array cpu.new.regs.s) (with_job s m (job_declared m t length next))) }
     ensures changed { ForEach cpu.old (λ x plan s m t. MayCut m t → (i : ℕ)
         → (slice_get cpu.new.core i ≡ slice_get cpu.old.core i) ⊎ IsInStack cpu.old.regs i) }
 {

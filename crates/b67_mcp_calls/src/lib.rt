@@ -15,5 +15,5 @@ pub use declare::{answer_array, array_length};
 pub use print::print_value;
 pub use read::read_number;
 pub use resize::{Resizing, array_to_empty, array_to_resize};
-pub use row::{Found, row_to_print};
+pub use row::{RowFound, row_to_print};
 pub use text::say_row;

@@ -3,7 +3,7 @@
 ghost use Rattle.std.specs.Prelude.{◌≡◌, List};
 ghost use Rattle.b67_model.specs.Words as words;
 ghost use Rattle.b67_layout.specs.Meets.{ForEach};
-ghost use Rattle.b67_mcp_calls.specs.Calls.{CallSome, IsCall, number_in, PrintMeets};
+ghost use Rattle.b67_mcp_calls.specs.Calls.{CallSome, IsCall, operand_number, PrintMeets};
 
 use b67_entry::is_critical;
 use b67_mcp_call::{only_argument, whole};

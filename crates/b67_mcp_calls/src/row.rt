@@ -20,7 +20,7 @@ use b67_word::{Fault, Word};
 
 /// The row that a call prints: so many words from an address on; or the array whose original has this address is absent.
 #[derive(Clone, Copy, Debug, PartialEq, Eq)]
-pub enum Found {
+pub enum RowFound {
     Words { at: u32, count: u32 },
     Absent(u32),
 }
@@ -60,7 +60,7 @@ fn argument(cpu: &Cpu) -> Result<u32, Fault>
 /// The row that a call of PRINTROW on the running stack prints, or the call's fault. An absent array comes before the
 /// faults of what it holds: after any other answer the array that the argument copies, if any, is present. Nothing is
 /// changed: the lines are printed first, and then the call is cut.
-pub fn row_to_print(cpu: &Cpu) -> Result<Found, Fault>
+pub fn row_to_print(cpu: &Cpu) -> Result<RowFound, Fault>
     requires { CallSome cpu.now }
     ensures row { ForEach cpu.now (λ x plan s m t. (reference : words.Word) (arguments : List words.Word) → IsCall t reference arguments → RowMeets x plan m t cpu.now.core arguments result) }
     ensures present { ForEach cpu.now (λ x plan s m t. (reference : words.Word) (arguments : List words.Word) → IsCall t reference arguments → RowTouches x plan m arguments result) }
@@ -71,7 +71,7 @@ pub fn row_to_print(cpu: &Cpu) -> Result<Found, Fault>
     };
     let desc = array_descriptor(cpu, original);
     if !desc.present {
-        return Ok(Found::Absent(original));
+        return Ok(RowFound::Absent(original));
     }
     if !are_whole(cpu.core.words(desc.address, desc.length)) {
         return Err(Fault::Exponent);
@@ -79,7 +79,7 @@ pub fn row_to_print(cpu: &Cpu) -> Result<Found, Fault>
     if is_critical(cpu) {
         return Err(Fault::CriticalBlock);
     }
-    Ok(Found::Words {
+    Ok(RowFound::Words {
         at: desc.address,
         count: desc.length,
     })

@@ -5,7 +5,7 @@ ghost use Rattle.b67_io.specs.Causes.{HasCause};
 ghost use Rattle.b67_session_lines.specs.Parts.{TookRest, TookMore};
 ghost use Rattle.b67_model.specs.Lines.{task_name, value_text, line_text};
 ghost use Rattle.b67_model.specs.Steps.{Values};
-ghost use Rattle.b67_mcp_calls.specs.Texts.{values_of, still, IsShort, IsPrinting};
+ghost use Rattle.b67_mcp_calls.specs.Texts.{values_of, still, FitsLine, IsPrinting};
 
 use crate::whole::value_in;
 use b67_io::{Line, Sink};
@@ -51,13 +51,13 @@ fn add<K: Sink>(
     paper: &mut K,
 ) -> Result<(), Failed>
     requires small { nat_abs value < 2 ^ 39 }
-    requires short { IsShort begun.old.line begun.old.room }
+    requires short { FitsLine begun.old.line begun.old.room }
     requires start { begun.old.start < 2 ^ 61 }
     ensures adds { OnOk result ((before : List ℕ) (vs : List ℤ) → length before ≡ begun.old.start → begun.old.start ≤ printed.old
         → IsPrinting K.taken paper.old paper.new (before ++ still (task_name job task) begun.old.line begun.old.room (value ∷ vs)) printed.old printed.new begun.new.start (still (task_name job task) begun.new.line begun.new.room vs)) }
     ensures part { OnErr result ((before : List ℕ) (vs : List ℤ) → length before ≡ begun.old.start → begun.old.start ≤ printed.old
         → TookMore K.taken paper.old paper.new (before ++ still (task_name job task) begun.old.line begun.old.room (value ∷ vs)) printed.old printed.new) }
-    ensures short { OnOk result (IsShort begun.new.line begun.new.room) }
+    ensures short { OnOk result (FitsLine begun.new.line begun.new.room) }
     ensures start { OnOk result (begun.new.start ≤ begun.old.start + 182) }
     ensures cause { HasCause K.faults paper.old paper.new result }
 {

@@ -12,7 +12,7 @@ use Rattle.b67_area.proofs.Separation.{IsDirectory-set_below}
 use Rattle.b67_backing.specs.Shelf.{Table, IsShelf}
 use Rattle.b67_lemmas.specs.Lists.{Has}
 use Rattle.b67_ctl.specs.declared.registers.Regs.{Regs}
-use Rattle.b67_stack.specs.Common.{nowhere, PagedObject, MachineView, slot_base, home_word_of, AreZero, Storage, Represents, info_of, Stayed, TakesPlace}
+use Rattle.b67_stack.specs.Common.{nowhere, PagedObject, MachineView, slot_base, home_word_of, AreZero, Storage, Represents, info_of, LowWordsStayed, TakesPlace}
 use Rattle.b67_layout_storage.specs.Machine.{IsPresent}
 use Rattle.b67_stack.proofs.Unchanged.{area_of_object, home_below}
 use Rattle.b67_layout_storage.proofs.Words.{StacksLie-home, original_word}
@@ -113,5 +113,5 @@ module _ (x : Storage) (core : List Tagged) (r : Regs) (p : MachineView) (s : Re
         subst P (ap (λ (a : Option ℕ). freed_area x.low a x.spans) (sym absent)) it
 
 -- the words below the slots
-pub stayed_absent : (p : MachineView) (t : PagedObject) → Has p.objects t → (core : List Tagged) (home : ℕ) (w : Tagged) → t.home ≡ home → Stayed p core (slice_set core home w)
+pub stayed_absent : (p : MachineView) (t : PagedObject) → Has p.objects t → (core : List Tagged) (home : ℕ) (w : Tagged) → t.home ≡ home → LowWordsStayed p core (slice_set core home w)
 stayed_absent p t int core home w is = λ i low out apart. slice_get-set_other core home i w (λ e. apart t int (is ∙ sym e))

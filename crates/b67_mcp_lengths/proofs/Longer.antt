@@ -15,7 +15,7 @@ use Rattle.b67_backing.specs.Held.{SameBut, sectors_for}
 use Rattle.b67_backing.specs.Extending.{extended, sectors_more, Prolongs, ExtendMeets, KeepsDevice}
 use Rattle.b67_lemmas.specs.Lists.{Has}
 use Rattle.b67_ctl.specs.declared.registers.Regs.{Regs}
-use Rattle.b67_stack.specs.Common.{Location, PagedObject, MachineView, slot_base, home_word_of, words_of, tag_of, Storage, Represents, HoldsIn, Content, Told, info_of, with_held, TakesPlace}
+use Rattle.b67_stack.specs.Common.{Location, PagedObject, MachineView, slot_base, home_word_of, object_words, tag_of, Storage, Represents, HoldsIn, Content, Told, info_of, with_held, TakesPlace}
 use Rattle.b67_layout_storage.specs.Machine.{IsPresent, DeviceAfterCalls, Says, content_after}
 use Rattle.b67_overlay.specs.Spans.{MachineCanPage}
 use Rattle.b67_stack.proofs.Unchanged.{area_of_object, home_below}
@@ -114,14 +114,14 @@ module _ (x : Storage) (core : List Tagged) (r : Regs) (p : MachineView) (s : Re
         (content : Tells told new (Prolongs (chain_of (x.held t.home).chain x.shelf.chains) (chain_of (x.held t.home).chain (extended (x.held t.home).chain (sectors_more (length t.numbers) words) x.shelf).chains) (length t.numbers) words))
         (objects : List PagedObject) (re : TakesPlace p.objects objects t (grown_to words t)) where
       -- the longer chain holds the numbers and the zeros
-      told_more : (d : Option (List (List ℕ))) → Says d told → Told d (chain_of c x.shelf.chains) (map number (words_of t)) → Told (content_after d new) (chain_of c shelf.chains) (map number (words_of t) ++ replicate (words - length t.numbers) zero)
+      told_more : (d : Option (List (List ℕ))) → Says d told → Told d (chain_of c x.shelf.chains) (map number (object_words t)) → Told (content_after d new) (chain_of c shelf.chains) (map number (object_words t) ++ replicate (words - length t.numbers) zero)
       told_more None says h = tt
       told_more (Some all) says h =
           let k = content all says in
-          let T : Option (List (List ℕ)) → Type 0 = λ z. Told z (chain_of c shelf.chains) (map number (words_of t) ++ replicate (words - length t.numbers) zero) in
-          subst T (sym k.1) (k.2.fills (map number (words_of t)) (length-map (words_of t) number ∙ length-map t.numbers (word (tag_of t.kind))) h)
+          let T : Option (List (List ℕ)) → Type 0 = λ z. Told z (chain_of c shelf.chains) (map number (object_words t) ++ replicate (words - length t.numbers) zero) in
+          subst T (sym k.1) (k.2.fills (map number (object_words t)) (length-map (object_words t) number ∙ length-map t.numbers (word (tag_of t.kind))) h)
 
-      numbers_are : map number (words_of (grown_to words t)) ≡ map number (words_of t) ++ replicate (words - length t.numbers) zero
+      numbers_are : map number (object_words (grown_to words t)) ≡ map number (object_words t) ++ replicate (words - length t.numbers) zero
       numbers_are =
           let N : Kind → Type 0 = λ k. map number (map (word (tag_of k)) (t.numbers ++ replicate (words - length t.numbers) zero)) ≡ map number (map (word (tag_of k)) t.numbers) ++ replicate (words - length t.numbers) zero in
           subst N (sym array) (numbers_grown t.numbers (words - length t.numbers))

@@ -18,7 +18,7 @@ use Rattle.b67_area.proofs.Separation.{IsDirectory-set_below}
 use Rattle.b67_backing.specs.Shelf.{Table, IsShelf}
 use Rattle.b67_lemmas.specs.Lists.{Has}
 use Rattle.b67_ctl.specs.declared.registers.Regs.{Regs}
-use Rattle.b67_stack.specs.Common.{Location, Locations, Shape, Is, Original, Copy, IsOriginal, Fits, LieUpward, words, PagedObject, MachineView, slot_base, stack_of, home_word_of, words_of, tag_of, Storage, Represents, StacksLie, Content, KeptChain, info_of, Stayed, with_held, TakesPlace}
+use Rattle.b67_stack.specs.Common.{Location, Locations, Shape, Is, Original, Copy, IsOriginal, Fits, LieUpward, words, PagedObject, MachineView, slot_base, stack_of, home_word_of, object_words, tag_of, Storage, Represents, StacksLie, Content, KeptChain, info_of, LowWordsStayed, with_held, TakesPlace}
 use Rattle.b67_stack.proofs.Lies.{Lie-each, Upward-same}
 use Rattle.b67_layout_storage.specs.Machine.{IsPresent}
 use Rattle.b67_layout_storage.proofs.Below.{stacks_low, not_heads}
@@ -90,7 +90,7 @@ module _ (x : Storage) (core : List Tagged) (r : Regs) (p : MachineView) (s : Re
   low_same : (i : ℕ) → i ≢ 152 → i < x.low → slice_get mid i ≡ slice_get core i
   low_same i out up = f.outside i out (λ e. omega (arith, above)) (λ e. omega (arith, above)) (λ q. omega (arith, hole-low x.low (shortened x.low at n x.spans) i q))
 
-  pub below_short : Stayed p core (slice_set mid t.home (home_word_of t.kind n (record { area = Some at; chain = 0 })))
+  pub below_short : LowWordsStayed p core (slice_set mid t.home (home_word_of t.kind n (record { area = Some at; chain = 0 })))
   below_short i low out apart = slice_get-set_other mid t.home i w (λ e. apart t here.there (sym e)) ∙ low_same i (not_heads i out) (omega (arith, low, stacks_low x core r p s))
 
   low_new : (i : ℕ) → 160 ≤ i → i < x.low → i ≢ t.home → slice_get new i ≡ slice_get core i
@@ -150,7 +150,7 @@ module _ (x : Storage) (core : List Tagged) (r : Regs) (p : MachineView) (s : Re
       let C : Option ℕ → Type 0 = λ o. Content x core t o (x.held t.home).chain in
       let was = subst C here.present (s.objects t here.there).content in
       let K : Kind → Type 0 = λ k. KeptChain y (cut_to n t) k 0 in
-      (Upward-same core new at (words_of (cut_to n t)) (λ q down up. own_words q down (omega (arith, up, length-map (take n t.numbers) (word (tag_of t.kind)), long))) (upward_front core at (tag_of t.kind) t.numbers n was.0), subst K (sym array) (inl refl))
+      (Upward-same core new at (object_words (cut_to n t)) (λ q down up. own_words q down (omega (arith, up, length-map (take n t.numbers) (word (tag_of t.kind)), long))) (upward_front core at (tag_of t.kind) t.numbers n was.0), subst K (sym array) (inl refl))
 
   module _ (table : Table) (sh : IsShelf table x.shelf) (objects : List PagedObject) (re : TakesPlace p.objects objects t (cut_to n t)) where
     changed : Changed x core new p t (cut_to n t) h spans (freed_chain (x.held t.home).chain x.shelf) x.device

@@ -3,7 +3,7 @@
 ghost use Rattle.std.specs.Prelude.{◌≡◌, ℕ, List, Option};
 ghost use Rattle.b67_stack.specs.MachineView.{PagedObject, MachineView};
 ghost use Rattle.b67_stack.specs.Represents.{Storage};
-ghost use Rattle.b67_stack.specs.HeldOtherwise.{Stayed};
+ghost use Rattle.b67_stack.specs.HeldOtherwise.{LowWordsStayed};
 ghost use Rattle.b67_stack.specs.HeldOtherwise.{TakesPlace};
 ghost use Rattle.b67_layout_storage.specs.Machine.{PagingKeeps};
 ghost use Rattle.b67_overlay.specs.Spans.{MachineCanPage};
@@ -24,7 +24,7 @@ pub fn empty_array(cpu: &mut Cpu, areas: &mut Areas, sectors: &mut Sectors, home
     ensures row { (x : Storage) (told : Option (List (List ℕ))) (p : MachineView) (t : PagedObject) (objects : List PagedObject) → MachineCanPage x cpu.old areas.old sectors.old told p → IsArray p home t
         → TakesPlace p.objects objects t (zeroed t) → MachineCanPage (emptied x t) cpu.new areas.new sectors.new told (record p { objects = objects }) }
     ensures outside { (x : Storage) (told : Option (List (List ℕ))) (p : MachineView) (t : PagedObject) → MachineCanPage x cpu.old areas.old sectors.old told p → IsArray p home t
-        → Stayed p cpu.old.core cpu.new.core }
+        → LowWordsStayed p cpu.old.core cpu.new.core }
 {
     let original = original_at(&cpu.core, home);
     let untouched = DataDesc::original(false, false, original.length, 0);

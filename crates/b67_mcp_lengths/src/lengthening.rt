@@ -5,7 +5,7 @@ ghost use Rattle.b67_io.specs.Causes.{Rose};
 ghost use Rattle.b67_backing.specs.declared.SpaceFault.TheVariants.{BackingFault};
 ghost use Rattle.b67_stack.specs.MachineView.{PagedObject, MachineView};
 ghost use Rattle.b67_stack.specs.Represents.{Storage};
-ghost use Rattle.b67_stack.specs.HeldOtherwise.{Stayed};
+ghost use Rattle.b67_stack.specs.HeldOtherwise.{LowWordsStayed};
 ghost use Rattle.b67_layout_storage.specs.Machine.{IsPresent, DeviceAfterCalls, PagingKeeps};
 ghost use Rattle.b67_overlay.specs.Spans.{MachineCanPage};
 ghost use Rattle.b67_mcp_lengths.specs.Lengths.{IsArray, LengthenMeets};
@@ -35,7 +35,7 @@ pub fn lengthen_array<B: Backing>(
     ensures row { (x : Storage) (p : MachineView) (t : PagedObject) (at : ℕ) → MachineCanPage x cpu.old areas.old sectors.old (B.holds backing.old) p → IsArray p home t → IsPresent x p at t
         → LengthenMeets x p t words result cpu.new areas.new sectors.new (B.holds backing.new) }
     ensures outside { (x : Storage) (p : MachineView) (t : PagedObject) (at : ℕ) → MachineCanPage x cpu.old areas.old sectors.old (B.holds backing.old) p → IsArray p home t → IsPresent x p at t
-        → Stayed p cpu.old.core cpu.new.core }
+        → LowWordsStayed p cpu.old.core cpu.new.core }
     ensures device { DeviceAfterCalls B.holds B.size B.calls B.faults backing.old backing.new }
     ensures cause { result ≡ Err BackingFault → Rose B.faults backing.old backing.new }
 {

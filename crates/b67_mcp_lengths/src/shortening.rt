@@ -3,7 +3,7 @@
 ghost use Rattle.std.specs.Prelude.{◌≡◌, ◌≤◌, ◌<◌, ℕ, List, Option, length};
 ghost use Rattle.b67_stack.specs.MachineView.{PagedObject, MachineView};
 ghost use Rattle.b67_stack.specs.Represents.{Storage};
-ghost use Rattle.b67_stack.specs.HeldOtherwise.{Stayed};
+ghost use Rattle.b67_stack.specs.HeldOtherwise.{LowWordsStayed};
 ghost use Rattle.b67_stack.specs.HeldOtherwise.{TakesPlace};
 ghost use Rattle.b67_layout_storage.specs.Machine.{IsPresent, PagingKeeps};
 ghost use Rattle.b67_overlay.specs.Spans.{MachineCanPage};
@@ -24,7 +24,7 @@ pub fn shorten_array(cpu: &mut Cpu, areas: &mut Areas, sectors: &mut Sectors, ho
     ensures row { (x : Storage) (told : Option (List (List ℕ))) (p : MachineView) (t : PagedObject) (at : ℕ) (objects : List PagedObject) → MachineCanPage x cpu.old areas.old sectors.old told p → IsArray p home t → IsPresent x p at t
         → TakesPlace p.objects objects t (cut_to words t) → MachineCanPage (shorter x t at words) cpu.new areas.new sectors.new told (record p { objects = objects }) }
     ensures outside { (x : Storage) (told : Option (List (List ℕ))) (p : MachineView) (t : PagedObject) (at : ℕ) → MachineCanPage x cpu.old areas.old sectors.old told p → IsArray p home t → IsPresent x p at t
-        → Stayed p cpu.old.core cpu.new.core }
+        → LowWordsStayed p cpu.old.core cpu.new.core }
 {
     let at = original_at(&cpu.core, home).address;
     let kept = areas.info(&cpu.core, at).kept;

@@ -15,7 +15,7 @@ use Rattle.b67_law_order.proofs.Looks.{below_marked}
 use Rattle.b67_law_order.proofs.Reaches.{Wider}
 use Rattle.b67_law_order.proofs.Cells.{plain_word}
 use Rattle.b67_law_order.proofs.Children.{word_any}
-use Rattle.b67_layout.specs.Common.{JobInOrderButCounts, IsInOrderButCounts, Placement, IsRunning, with_job, cells, peak_with, moved}
+use Rattle.b67_layout.specs.Common.{JobInOrderButCounts, IsInOrderButCounts, Placement, IsRunning, with_job, cells, peak_with, session_moved}
 use Rattle.b67_stack.specs.Represents.{Storage}
 use Rattle.b67_layout.proofs.Common.{running_in_order, member-same, with_job-twice, numbered_course}
 use Rattle.b67_entry.proofs.Sites.{Site, site}
@@ -59,7 +59,7 @@ module _ (x : Storage) (told : Option (List (List ℕ))) (k : Machine) (plan : P
   job1 = with_child m.progress.job (child m t count f segment level place)
 
   abbrev pub session1 : Session
-  session1 = moved s m job1 1
+  session1 = session_moved s m job1 1
 
   abbrev pub member1 : SessionJob
   member1 = record m { progress = record m.progress { job = job1 } }
@@ -135,7 +135,7 @@ module _ (x : Storage) (told : Option (List (List ℕ))) (k : Machine) (plan : P
   abbrev Good : SessionJob → Type 0
   Good y = JobInOrderButCounts (IsSegment y.constants) y.constants y.progress
 
-  pub order1 : IsInOrderButCounts (moved s m job1 1)
+  pub order1 : IsInOrderButCounts (session_moved s m job1 1)
   order1 =
       let n : ℕ = m.constants.number in
       let jobs' : List SessionJob = change_keyed number_of n (λ (y : SessionJob). member1) s.jobs in
@@ -184,8 +184,8 @@ module _ (x : Storage) (told : Option (List (List ℕ))) (k : Machine) (plan : P
       → MachineRepresents y told after plan1 (with_job session1 member1 (job_answered member1 t (Operand number) next job1.numbers)) → StandsMoved told s m (job_started m t (child m t count f segment level place) next) 1 after
   is_moved number next y after number_is stands =
       let last : ℕ → Job = λ n. job_answered member1 t (Operand n) next job1.numbers in
-      let same : with_job session1 member1 (last number) ≡ moved s m (last number) 1 = ap (λ (z : Session). record z { peak = peak_with s 1 }) (with_job-twice s m job1 (last number)) in
-      let Q : ℕ → Type 0 = λ n. MachineRepresents y told after plan1 (moved s m (last n) 1) in
+      let same : with_job session1 member1 (last number) ≡ session_moved s m (last number) 1 = ap (λ (z : Session). record z { peak = peak_with s 1 }) (with_job-twice s m job1 (last number)) in
+      let Q : ℕ → Type 0 = λ n. MachineRepresents y told after plan1 (session_moved s m (last n) 1) in
       record { storage = y; plan = plan1; stands = subst Q number_is (subst (MachineRepresents y told after plan1) same stands) }
 
 -- the lowest free slot lies in a core that is large enough for one task more

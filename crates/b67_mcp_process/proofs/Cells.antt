@@ -5,7 +5,7 @@ use Rattle.std.specs.List.{slice_get}
 use Rattle.std.proofs.lemmas.List.{length-map}
 use Rattle.std.proofs.lemmas.Option.{same_Some}
 use Rattle.b67_word.specs.Tagged.{Tagged}
-use Rattle.b67_ctl.specs.Layout.{bit}
+use Rattle.b67_ctl.specs.Layout.{flag_bit}
 use Rattle.b67_word.specs.declared.couples.Place.{Place}
 use Rattle.b67_ctl.specs.declared.descriptors.DataDesc.{DataDesc}
 use Rattle.b67_ctl.specs.Descriptors.{data_word, IsDataDesc}
@@ -52,7 +52,7 @@ module _ (x : Storage) (cpu : Cpu) (plan : Placement) (s : Session) (m : Session
   pub reaches : (above : ℕ) → above + 1 ≤ length (cells t) → (above ≤ cpu.regs.s) × (cpu.regs.s - above < length cpu.core)
   reaches above enough =
       let stack = Put.stack x cpu plan s m t ordered h runs in
-      let c = Put.counted x cpu plan s m t ordered h runs (top_mark cpu.regs.slot stack) (bit (top_mark cpu.regs.slot stack).entered) refl refl in
+      let c = Put.counted x cpu plan s m t ordered h runs (top_mark cpu.regs.slot stack) (flag_bit (top_mark cpu.regs.slot stack).entered) refl refl in
       let r = Put.room x cpu plan s m t ordered h runs in
       (omega (arith, c, enough), omega (arith, r.last, r.under, r.inside))
 
@@ -60,7 +60,7 @@ module _ (x : Storage) (cpu : Cpu) (plan : Placement) (s : Session) (m : Session
   pub counts : (cpu.regs.f + length (cells t) ≤ cpu.regs.s) × (length (cells t) < 2 ^ 20)
   counts =
       let stack = Put.stack x cpu plan s m t ordered h runs in
-      let c = Put.counted x cpu plan s m t ordered h runs (top_mark cpu.regs.slot stack) (bit (top_mark cpu.regs.slot stack).entered) refl refl in
+      let c = Put.counted x cpu plan s m t ordered h runs (top_mark cpu.regs.slot stack) (flag_bit (top_mark cpu.regs.slot stack).entered) refl refl in
       let r = Put.room x cpu plan s m t ordered h runs in
       (omega (arith, c), omega (arith, c, r.last, r.under, r.inside, r.bound))
 

@@ -7,7 +7,7 @@ use Rattle.b67_ctl.specs.declared.registers.Regs.{Regs}
 use Rattle.b67_model.specs.State.{SessionJob}
 use Rattle.b67_model.specs.Schedule.{Session}
 use Rattle.b67_stack.specs.declared.Cpu.{Cpu}
-use Rattle.b67_stack.specs.Common.{Storage, Represents, Stayed}
+use Rattle.b67_stack.specs.Common.{Storage, Represents, LowWordsStayed}
 use Rattle.b67_layout.specs.Common.{IsInOrderButCounts, Placement, machine_view}
 use Rattle.b67_layout.proofs.Alike.{AllAlike}
 use Rattle.b67_layout.proofs.Paged.{RepresentsSession-over}
@@ -43,7 +43,7 @@ module _ (x : Storage) (told : Option (List (List ℕ))) (k : Machine) (plan : P
   pub seen_over : IsInOrderButCounts s → (now : Option (List (List ℕ))) → Says told now → MachineCanPage x k.cpu k.areas k.sectors now (machine_view plan s.jobs)
   seen_over o now says = record { stands = h.session.holds.memory; low = h.storage.low; shelf = h.storage.shelf; device = subst (λ (d : Option (List (List ℕ))). Says d now) h.storage.device says; copies = copies_of x k.cpu plan s o h.session }
 
-  module _ (y : Storage) (now : Option (List (List ℕ))) (cpu : Cpu) (areas : Areas) (table : Table) (kept : PagingKeeps k.cpu cpu k.areas areas k.sectors table) (stayed : Stayed (machine_view plan s.jobs) k.cpu.core cpu.core)
+  module _ (y : Storage) (now : Option (List (List ℕ))) (cpu : Cpu) (areas : Areas) (table : Table) (kept : PagingKeeps k.cpu cpu k.areas areas k.sectors table) (stayed : LowWordsStayed (machine_view plan s.jobs) k.cpu.core cpu.core)
       (evicted : AreasEvicted x y 0) (view : MachineCanPage y cpu areas table now (machine_view plan s.jobs)) where
     pub stands_moved : MachineRepresents y (content_after told now) (record k { cpu = cpu; areas = areas; sectors = table }) plan s
     stands_moved =

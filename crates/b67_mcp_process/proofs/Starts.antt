@@ -11,7 +11,7 @@ use Rattle.b67_backing.specs.declared.SpaceFault.{SpaceFault}
 use Rattle.b67_backing.specs.declared.SpaceFault.TheVariants.{NoCore, BackingFull, BackingFault}
 use Rattle.b67_lemmas.proofs.Members.{all_from, has_get, keyed_has, length_change}
 use Rattle.b67_model.specs.Common.{Answer, Word, Operand, Task, Job, SessionJob, Done, Goes, number_of, live_tasks, is_original, answered, process, Session}
-use Rattle.b67_layout.specs.Common.{IsInOrderButCounts, Placement, IsRunning, here, with_job, cells, moved}
+use Rattle.b67_layout.specs.Common.{IsInOrderButCounts, Placement, IsRunning, here, with_job, cells, session_moved}
 use Rattle.b67_stack.specs.Represents.{Storage}
 use Rattle.b67_mcp_call.specs.Answered.{job_answered}
 use Rattle.b67_task_need.specs.Needing.{need_with}
@@ -22,7 +22,7 @@ use Rattle.b67_task_tables.specs.declared.tables.Machine.{Machine}
 use Rattle.b67_task_tables.specs.Tables.{MachineRepresents}
 use Rattle.b67_mcp_process.specs.Asked.{job_started, job_full, answer_by, Asks}
 use Rattle.b67_mcp_process.specs.Begins.{StandsMoved}
-use Rattle.b67_mcp_process.specs.Process.{CanNumber, StartsOne, IsProcessed, IsStopped, IsStoppedShort, ProcessMeets, ProcessWrites, ProcessFits}
+use Rattle.b67_mcp_process.specs.Process.{CanNumber, StartsOne, IsProcessed, StartIsStopped, IsStoppedShort, ProcessMeets, ProcessWrites, ProcessFits}
 use Rattle.b67_mcp_process.proofs.Begins.{slot_inside}
 
 taken_within : {A : Type 0} (xs : List A) (n : ℕ) → length (take n xs) ≤ length xs
@@ -49,7 +49,7 @@ module _ (plan : Placement) (m : SessionJob) (t : Task) (asked : List Word) (cel
     processed told s new w =
         let job : Job = job_started m t child_asked next in
         let more : length job.tasks - length m.progress.job.tasks ≡ 1 = omega (arith, one_more) in
-        record { job = job; is = goes_started; storage = w.storage; plan = w.plan; stands = subst (λ (n : ℕ). MachineRepresents w.storage told new w.plan (moved s m job n)) (sym more) w.stands }
+        record { job = job; is = goes_started; storage = w.storage; plan = w.plan; stands = subst (λ (n : ℕ). MachineRepresents w.storage told new w.plan (session_moved s m job n)) (sym more) w.stands }
 
   -- with as many as there may be
   module _ (many : 15 ≤ length m.progress.job.tasks) (next : Place) where
@@ -72,8 +72,8 @@ module _ (plan : Placement) (m : SessionJob) (t : Task) (asked : List Word) (cel
         let none : length job.tasks - length m.progress.job.tasks ≡ 0 = omega (arith, as_many) in
         let peak : s.peak ≡ max s.peak (live_tasks s.jobs + 0) = omega (arith, o.peak_low) in
         let R : Option (List (List ℕ)) → Session → Type 0 = λ d z. MachineRepresents x d new plan z in
-        let one : R told (moved s m job 0) = subst (λ (n : ℕ). R told (record (with_job s m job) { peak = n })) peak stands in
-        record { job = job; is = goes_full; storage = x; plan = plan; stands = subst (λ (n : ℕ). R now (moved s m job n)) (sym none) (subst (λ (d : Option (List (List ℕ))). R d (moved s m job 0)) (sym same) one) }
+        let one : R told (session_moved s m job 0) = subst (λ (n : ℕ). R told (record (with_job s m job) { peak = n })) peak stands in
+        record { job = job; is = goes_full; storage = x; plan = plan; stands = subst (λ (n : ℕ). R now (session_moved s m job n)) (sym none) (subst (λ (d : Option (List (List ℕ))). R d (session_moved s m job 0)) (sym same) one) }
 
 -- the task may be started once no area has a word under its slot
 module _ (x : Storage) (told : Option (List (List ℕ))) (k : Machine) (plan : Placement) (s : Session) (m : SessionJob) (t : Task) (o : IsInOrderButCounts s) (h : MachineRepresents x told k plan s) (runs : IsRunning plan s.jobs m t)
@@ -97,7 +97,7 @@ module _ (x : Storage) (told : Option (List (List ℕ))) (k : Machine) (plan : P
 
 -- after a refusal
 module _ (told : Option (List (List ℕ))) (plan : Placement) (s : Session) (m : SessionJob) (t : Task) (next : Place) (asked : List Word) (old new : Machine) where
-  pub stopped : (fault : SpaceFault) → ((need size : ℕ) → fault ≢ NoCore need size) → IsStopped told plan s m t next asked old new → ((wants free : ℕ) → fault ≡ BackingFull wants free → IsStoppedShort told plan s m t next asked wants free old new)
+  pub stopped : (fault : SpaceFault) → ((need size : ℕ) → fault ≢ NoCore need size) → StartIsStopped told plan s m t next asked old new → ((wants free : ℕ) → fault ≡ BackingFull wants free → IsStoppedShort told plan s m t next asked wants free old new)
       → ProcessMeets told plan s m t next asked (Err fault) old new
   stopped (NoCore need size) never w full = absurd (never need size refl)
   stopped (BackingFull wants free) never w full = full wants free refl

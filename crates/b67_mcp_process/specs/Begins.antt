@@ -5,7 +5,7 @@ use Rattle.b67_model.specs.Common.{Word, Job, SessionJob, Session}
 use Rattle.b67_stack.specs.Represents.{Storage}
 use Rattle.b67_layout.specs.Placement.{Placement}
 use Rattle.b67_mcp_call.specs.Calls.{MayCut}
-use Rattle.b67_layout.specs.Moved.{moved}
+use Rattle.b67_layout.specs.Moved.{session_moved}
 use Rattle.b67_task_start.specs.Starts.{StartsSome}
 use Rattle.b67_task_tables.specs.declared.tables.TaskRow.{TaskRow}
 use Rattle.b67_task_tables.specs.declared.tables.Machine.{Machine}
@@ -41,4 +41,4 @@ pub record AsksSome (k : Machine) (cell count : ℕ) : Type 0 where
 pub record StandsMoved (told : Option (List (List ℕ))) (s : Session) (m : SessionJob) (job : Job) (more : ℕ) (k : Machine) : Type 0 where
   pub storage : Storage
   pub plan : Placement
-  pub stands : MachineRepresents storage told k plan (moved s m job more)
+  pub stands : MachineRepresents storage told k plan (session_moved s m job more)

@@ -7,7 +7,7 @@ use Rattle.b67_backing.specs.declared.SpaceFault.{SpaceFault}
 use Rattle.b67_backing.specs.declared.SpaceFault.TheVariants.{NoCore, BackingFull, BackingFault}
 use Rattle.b67_model.specs.Common.{Word, Task, Job, SessionJob, Goes, process, Session}
 use Rattle.b67_stack.specs.Represents.{Storage}
-use Rattle.b67_layout.specs.Common.{Placement, here, moved}
+use Rattle.b67_layout.specs.Common.{Placement, here, session_moved}
 use Rattle.b67_task_need.specs.Needing.{need_with}
 use Rattle.b67_task_tables.specs.declared.tables.JobRow.{JobRow}
 use Rattle.b67_task_tables.specs.declared.tables.Machine.{Machine}
@@ -31,10 +31,10 @@ pub record IsProcessed (told : Option (List (List ℕ))) (s : Session) (m : Sess
   pub is : process (here m t next) arguments ≡ Ok (Goes job [] None)
   pub storage : Storage
   pub plan : Placement
-  pub stands : MachineRepresents storage told new plan (moved s m job (length job.tasks - length m.progress.job.tasks))
+  pub stands : MachineRepresents storage told new plan (session_moved s m job (length job.tasks - length m.progress.job.tasks))
 
 -- the row starts a task, which isn't started: the machine stands for the same session, of which areas may have been evicted
-pub record IsStopped (told : Option (List (List ℕ))) (plan : Placement) (s : Session) (m : SessionJob) (t : Task) (next : Place) (arguments : List Word) (old new : Machine) : Type 0 where
+pub record StartIsStopped (told : Option (List (List ℕ))) (plan : Placement) (s : Session) (m : SessionJob) (t : Task) (next : Place) (arguments : List Word) (old new : Machine) : Type 0 where
   pub starts : StartsOne m t next arguments
   pub storage : Storage
   pub stands : MachineRepresents storage told new plan s
@@ -42,7 +42,7 @@ pub record IsStopped (told : Option (List (List ℕ))) (plan : Placement) (s : S
 
 -- and the machine is short of sectors
 pub record IsStoppedShort (told : Option (List (List ℕ))) (plan : Placement) (s : Session) (m : SessionJob) (t : Task) (next : Place) (arguments : List Word) (wants free : ℕ) (old new : Machine) : Type 0 where
-  pub stopped : IsStopped told plan s m t next arguments old new
+  pub stopped : StartIsStopped told plan s m t next arguments old new
   pub short : IsShortOf stopped.storage plan s.jobs wants free
 
 -- the row starts a task, for which core is too small
@@ -58,7 +58,7 @@ ProcessMeets told plan s m t next arguments (Ok (Ok done)) old new = IsProcessed
 ProcessMeets told plan s m t next arguments (Ok (Err fault)) old new = (process (here m t next) arguments ≡ Err fault) × (new ≡ old)
 ProcessMeets told plan s m t next arguments (Err (NoCore need core)) old new = LacksWords (length old.cpu.core) s m t next arguments need core × (new ≡ old)
 ProcessMeets told plan s m t next arguments (Err (BackingFull wants free)) old new = IsStoppedShort told plan s m t next arguments wants free old new
-ProcessMeets told plan s m t next arguments (Err BackingFault) old new = IsStopped told plan s m t next arguments old new
+ProcessMeets told plan s m t next arguments (Err BackingFault) old new = StartIsStopped told plan s m t next arguments old new
 
 -- after every other answer the device is as it was
 abbrev pub ProcessWrites : SessionJob → Task → Place → List Word → Result (Result (Unit {0}) Fault) SpaceFault → Type 0

@@ -23,7 +23,7 @@ use b67_word::{Fault, Place};
 /// of the job live. The call is cut, and its task goes on at a place of its segment. A fault changes nothing.
 ///
 /// Areas under the child's stack are evicted first. `NoCore`, with nothing changed, exactly where a task is to be started
-/// and the step needs more words than core has (`need`). After `BackingFull` and `BackingFault` the machine stands for the same session.
+/// and the step needs more words than core has (`need`). After `BackingFull` and `BackingFault` the machine represents the same session.
 /// The backing is called only where a task is to be started.
 pub fn process<B: Backing>(
     machine: &mut Machine,

@@ -11,7 +11,7 @@ use Rattle.b67_stack.specs.declared.Cpu.{Cpu}
 use Rattle.b67_stack.specs.Represents.{Storage}
 use Rattle.b67_layout.specs.Common.{Placement, cells, GivesTop}
 use Rattle.b67_layout.proofs.PlainOperands.{plain_operand}
-use Rattle.b67_mcp_call.specs.Calls.{IsCall, MayCut, number_in}
+use Rattle.b67_mcp_call.specs.Calls.{IsCall, MayCut, operand_number}
 use Rattle.b67_mcp_call.proofs.Ones.{count, one, value_is}
 use Rattle.b67_mcp_waits.specs.Arguments.{number_given, end_given}
 
@@ -74,7 +74,7 @@ module _ (m : SessionJob) (t : Task) (r : Word) (arguments : List Word) (call : 
       by (w ∷ v ∷ more) e = refl
 
   -- the argument
-  pub number_is : (x : Storage) (plan : Placement) (cpu : Cpu) → length (cells t) ≡ 2 → (v : Tagged) → GivesTop x plan m t cpu (cells t) (Ok v) → number_in v ≡ number_given arguments
+  pub number_is : (x : Storage) (plan : Placement) (cpu : Cpu) → length (cells t) ≡ 2 → (v : Tagged) → GivesTop x plan m t cpu (cells t) (Ok v) → operand_number v ≡ number_given arguments
   number_is x plan cpu two v g = value_is m t r arguments call x plan cpu two v g ∙ ap number_given (sym (one m t r arguments call two).arguments_are)
 
   may_one : (two : length (cells t) ≡ 2) → is_original (one m t r arguments call two).argument ≡ false → is_critical m.progress.job (top t.frames).identity ≡ false → MayCut m t

@@ -27,7 +27,7 @@ use Rattle.b67_task_tables.specs.declared.tables.Tasks.{Tasks}
 use Rattle.b67_task_tables.specs.Tables.{MachineRepresents}
 use Rattle.b67_mcp_call.specs.Calls.{MayCut, job_cut}
 use Rattle.b67_mcp_call.proofs.Standing.{machine_cut}
-use Rattle.b67_mcp_waits.specs.declared.cells.Found.{Found}
+use Rattle.b67_mcp_waits.specs.declared.cells.CellFound.{CellFound}
 use Rattle.b67_mcp_waits.specs.Arguments.{IsFoundCell}
 use Rattle.b67_mcp_waits.specs.Woken.{woken_row}
 use Rattle.b67_mcp_waits.proofs.CausedTables.{tables_caused}
@@ -54,7 +54,7 @@ below_put id i w [] ne = refl
 below_put id i w (f ∷ fs) ne = let no = ne_eqb f.identity id ne in rw no refl
 
 module _ (x : Storage) (told : Option (List (List ℕ))) (k : Machine) (plan : Placement) (s : Session) (m : SessionJob) (t : Task) (o : IsInOrderButCounts s) (h : MachineRepresents x told k plan s) (runs : IsRunning plan s.jobs m t) (q : Place)
-    (found : Found) (f offset bits : ℕ) (e : IsFoundCell plan m t k.cpu.core q found f offset bits) where
+    (found : CellFound) (f offset bits : ℕ) (e : IsFoundCell plan m t k.cpu.core q found f offset bits) where
   abbrev job1 : Job
   job1 = put_job m.progress.job f (offset - 2) (Operand 1)
 

@@ -20,7 +20,7 @@ use Rattle.b67_refer.specs.Ends.{EndMeets}
 use Rattle.b67_fetch.proofs.Values.{TopFollowed, here_scene}
 use Rattle.b67_mcp_call.specs.Calls.{IsCall}
 use Rattle.b67_mcp_call.proofs.Ones.{one}
-use Rattle.b67_mcp_waits.specs.declared.cells.Found.{Found}
+use Rattle.b67_mcp_waits.specs.declared.cells.CellFound.{CellFound}
 use Rattle.b67_mcp_waits.specs.Arguments.{end_given, CellAtEnd, IsFoundCell, FindsOperand}
 
 module _ {core : List Tagged} {r : Regs} (a : RunningContext core r) (q : Place) where
@@ -131,7 +131,7 @@ module _ (x : Storage) (cpu : Cpu) (plan : Placement) (s : Session) (m : Session
 
   pub finds_cell : (at mark : ℕ) (y : Answer End) (k : CellHere (here_scene x cpu plan s m t o h runs) q at y) → mark ≡ frame_address plan m t k.f → FindsOperand plan m t cpu.core q (Ok (record { at = at; mark = mark; offset = at - mark })) y
   finds_cell at mark y k e =
-      let found : Found = record { at = at; mark = mark; offset = at - mark } in
+      let found : CellFound = record { at = at; mark = mark; offset = at - mark } in
       let P : Answer End → Type 0 = λ z. FindsOperand plan m t cpu.core q (Ok found) z in
       let c = k.cell in
       subst P (sym k.is) (record {
@@ -146,14 +146,14 @@ module _ (x : Storage) (cpu : Cpu) (plan : Placement) (s : Session) (m : Session
       })
 
   -- what was found, where it was
-  pub record FoundHere (found : Found) (y : Answer End) : Type 0 where
+  pub record FoundHere (found : CellFound) (y : Answer End) : Type 0 where
     pub f : ℕ
     pub offset : ℕ
     pub bits : ℕ
     pub is : y ≡ Ok (AtCell f offset bits)
     pub cell : IsFoundCell plan m t cpu.core q found f offset bits
 
-  pub found_here : (found : Found) (y : Answer End) → FindsOperand plan m t cpu.core q (Ok found) y → FoundHere found y
+  pub found_here : (found : CellFound) (y : Answer End) → FindsOperand plan m t cpu.core q (Ok found) y → FoundHere found y
   found_here found (Ok (AtCell f offset bits)) e = record { f = f; offset = offset; bits = bits; is = refl; cell = e }
   found_here found (Ok (AtElement n i)) e = absurd e
   found_here found (Ok (AtArray n)) e = absurd e

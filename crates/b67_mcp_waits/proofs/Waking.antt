@@ -14,7 +14,7 @@ use Rattle.b67_layout.specs.Common.{Slotted, Placement, slot_of, spots, address_
 use Rattle.b67_layout.proofs.Common.{with_course, member-same, member-other, change-has, change-kept, running_only, same_frame_at}
 use Rattle.b67_layout.proofs.MachineViews.{objects-after}
 use Rattle.b67_task_start_stack.specs.Likes.{Like}
-use Rattle.b67_task_start_stack.proofs.Twins.{stack-twin, spots-twin, name_all}
+use Rattle.b67_task_start_stack.proofs.AlikePlans.{stack-twin, spots-twin, name_all}
 
 -- each task with another condition
 abbrev pub wake_task : (Condition → Condition) → Task → Task

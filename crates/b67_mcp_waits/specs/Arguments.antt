@@ -10,7 +10,7 @@ use Rattle.b67_model.specs.Words.{whole}
 use Rattle.b67_layout.specs.Common.{Placement, frame_address, here}
 use Rattle.b67_refer.specs.RunningContext.{RunningContext}
 use Rattle.b67_refer.specs.Cells.{IsCellAt}
-use Rattle.b67_mcp_waits.specs.declared.cells.Found.{Found}
+use Rattle.b67_mcp_waits.specs.declared.cells.CellFound.{CellFound}
 
 -- the number that is the one argument
 abbrev pub number_given : List Word → Answer ℤ
@@ -31,7 +31,7 @@ CellAtEnd a q (Err fault) (Ok _) = fault ≡ InvalidOperand
 CellAtEnd a q (Err fault) (Err why) = fault ≡ why
 
 -- the cell at an offset of a frame of the running task's reach: the address of the frame's mark, and the word
-pub record IsFoundCell (plan : Placement) (m : SessionJob) (t : Task) (core : List Tagged) (q : Place) (found : Found) (f offset bits : ℕ) : Type 0 where
+pub record IsFoundCell (plan : Placement) (m : SessionJob) (t : Task) (core : List Tagged) (q : Place) (found : CellFound) (f offset bits : ℕ) : Type 0 where
   pub own : 1 < f
   pub names : NamesEntered (reach_of m.progress.job t) f
   pub cell_is : cell (here m t q) f offset ≡ Ok (Operand bits)
@@ -42,7 +42,7 @@ pub record IsFoundCell (plan : Placement) (m : SessionJob) (t : Task) (core : Li
   pub small : bits < 2 ^ 48
 
 -- the same by the argument's end
-abbrev pub FindsOperand : Placement → SessionJob → Task → List Tagged → Place → Result Found Fault → Answer End → Type 0
+abbrev pub FindsOperand : Placement → SessionJob → Task → List Tagged → Place → Result CellFound Fault → Answer End → Type 0
 FindsOperand plan m t core q (Ok found) (Ok (AtCell f offset bits)) = IsFoundCell plan m t core q found f offset bits
 FindsOperand plan m t core q (Ok found) _ = ⊥
 FindsOperand plan m t core q (Err fault) (Ok (AtCell f offset bits)) = ⊥

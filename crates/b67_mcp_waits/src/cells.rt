@@ -20,7 +20,7 @@ use b67_word::{Fault, Word};
 
 /// The cell of an operand, by its core address, that of the mark of its activation record, and its offset there.
 #[derive(Clone, Copy, Debug, PartialEq, Eq)]
-pub struct Found {
+pub struct CellFound {
     pub at: u32,
     pub mark: u32,
     pub offset: u16,
@@ -63,7 +63,7 @@ fn mark_under(core: &Core, regs: &Regs, cell: u32) -> u32
 
 /// The operand's cell at which the one argument of a call ends, a reference. INVALID OPERAND if the call has another number of
 /// arguments, the faults of `operand_cell`.
-pub(crate) fn cell_given(cpu: &Cpu) -> Result<Found, Fault>
+pub(crate) fn cell_given(cpu: &Cpu) -> Result<CellFound, Fault>
     requires { CallSome cpu.now }
     ensures { ForEach cpu.now (λ x plan s m t. (reference : words.Word) (arguments : List words.Word) → IsCall t reference arguments
         → (q : Place) → FindsOperand plan m t cpu.now.core q result (end_given (here m t q) arguments)) }
@@ -77,7 +77,7 @@ pub(crate) fn cell_given(cpu: &Cpu) -> Result<Found, Fault>
         Err(fault) => return Err(fault),
     };
     let mark = mark_under(&cpu.core, &cpu.regs, at);
-    Ok(Found {
+    Ok(CellFound {
         at,
         mark,
         offset: (at - mark) as u16,

@@ -23,7 +23,7 @@ use Rattle.b67_model_text.specs.declared.assembly.Line.{Line}
 use Rattle.b67_model_text.specs.Answers.{Answer, ◌>>=◌, ◌>>◌, needs}
 use Rattle.b67_model_text.specs.Deck.{of_card}
 use Rattle.b67_model_text.specs.Encoding.{filling, six_syllables, laid_one}
-use Rattle.b67_model_text.specs.Asm.{Scope, Added, AddedOperator, AddedEntry, Content, behind, is_in_range, pcw_in, pcw_at, label_in, row_in, called, branch_to, denoted, is_first_label, has_names, has_label, has_entry, misplaced, fitted, entered, next, operator_of, entry_at, added_by, syllable_behind, entries_behind, with_added, content_of, meaning, labels, label_at, reach}
+use Rattle.b67_model_text.specs.Asm.{Scope, Added, AddedOperator, AddedEntry, SegmentContent, after_sketch, is_in_range, pcw_in, pcw_at, label_in, row_in, call_operator, branch_to, denoted, is_first_label, has_names, has_label, has_entry, misplaced, fitted, entered, after_operator, card_operator, entry_added, added_by, syllable_behind, entries_behind, with_added, content_of, meaning, labels, label_at, syllable_after_card}
 use Rattle.b67_model_text.proofs.Answers.{after_both, after_needs, err-ok}
 
 pub same_Ok : {A R : Type 0} (a b : A) → ◌≡◌ {A = Result A R} (Ok a) (Ok b) → a ≡ b
@@ -44,17 +44,17 @@ pub record Taken (x : Scope) (n : ℕ) (label : Option (List ℕ)) (own : sketch
   pub in_range : is_in_range own ≡ true
   pub first : is_first_label x.labels n label ≡ true
   pub denotes : denoted x own ≡ Some op
-  pub room : next n op ≤ 6 * 8191
+  pub room : after_operator n op ≤ 6 * 8191
   pub enters : has_entry x.names own ≡ true
 
-fits_there : (n : ℕ) (o : Option Op) (op : Op) → fitted n o ≡ Ok op → (o ≡ Some op) × (next n op ≤ 6 * 8191)
+fits_there : (n : ℕ) (o : Option Op) (op : Op) → fitted n o ≡ Ok op → (o ≡ Some op) × (after_operator n op ≤ 6 * 8191)
 fits_there n None op e = err-ok 8 op _ (after_needs (nat_le (n + 2) (6 * 8191)) 7 (Err 8) op e).1
 fits_there n (Some own) op e =
-    let t = after_needs (nat_le (next n own) (6 * 8191)) 7 (Ok own) op e in
+    let t = after_needs (nat_le (after_operator n own) (6 * 8191)) 7 (Ok own) op e in
     let is : own ≡ op = same_Ok own op t.1 in
-    (ap (λ o. Some o) is, subst (λ o. next n o ≤ 6 * 8191) is (leb-true (next n own) (6 * 8191) t.0))
+    (ap (λ o. Some o) is, subst (λ o. after_operator n o ≤ 6 * 8191) is (leb-true (after_operator n own) (6 * 8191) t.0))
 
-pub taken_of : (x : Scope) (n : ℕ) (label : Option (List ℕ)) (own : sketch.Sketch) (op : Op) → operator_of x n label own ≡ Ok op → Taken x n label own op
+pub taken_of : (x : Scope) (n : ℕ) (label : Option (List ℕ)) (own : sketch.Sketch) (op : Op) → card_operator x n label own ≡ Ok op → Taken x n label own op
 taken_of x n label own op e =
     let a = after_needs (is_in_range own) 3 _ op e in
     let b = after_needs (is_first_label x.labels n label) 4 _ op a.1 in
@@ -90,7 +90,7 @@ not_true : (b : Bool) → not b ≡ true → b ≡ false
 not_true true e = absurd (let z : ⊥ = cc in z)
 not_true false e = refl
 
-entry_of : (x : Scope) (entries : List ℕ) (l : Line) (label : List ℕ) (o : Option ℕ) (added : Added) → l.says ≡ Ok (statements.Entry label) → x.labels label ≡ o → entry_at entries o ≡ Ok added → AddsEntry x entries l added
+entry_of : (x : Scope) (entries : List ℕ) (l : Line) (label : List ℕ) (o : Option ℕ) (added : Added) → l.says ≡ Ok (statements.Entry label) → x.labels label ≡ o → entry_added entries o ≡ Ok added → AddsEntry x entries l added
 entry_of x entries l label None added says found e = err-ok 5 added _ e
 entry_of x entries l label (Some n) added says found e =
     let a = after_needs (not (n == 0) && not (list_any (λ m. m == n) entries) && nat_lt (length entries) 255) 10 (Ok (AddedEntry n)) added e in
@@ -112,7 +112,7 @@ Adds x n entries l added = AddsOperator x n l added ⊎ AddsEntry x entries l ad
 
 adds_of : (x : Scope) (n : ℕ) (entries : List ℕ) (l : Line) (s : statement.Statement) (added : Added) → l.says ≡ Ok s → added_by x n entries s ≡ Ok added → Adds x n entries l added
 adds_of x n entries l (statements.Operator label own) added says e =
-    let a = after_both (operator_of x n label own) (λ op. Ok (AddedOperator op)) added e in
+    let a = after_both (card_operator x n label own) (λ op. Ok (AddedOperator op)) added e in
     inl (record { label = label; own = own; op = a.0; says = says; taken = taken_of x n label own a.0 a.1; is = same_Ok (AddedOperator a.0) added a.2 })
 adds_of x n entries l (statements.Entry label) added says e = inr (entry_of x entries l label (x.labels label) added says refl e)
 adds_of x n entries l (statements.Segment name level) added says e = err-ok (misplaced x.names (statements.Segment name level)) added _ e
@@ -120,14 +120,14 @@ adds_of x n entries l (statements.Row name) added says e = err-ok (misplaced x.n
 adds_of x n entries l (statements.Values first more) added says e = err-ok (misplaced x.names (statements.Values first more)) added _ e
 
 -- the first card of these, and the cards behind it
-pub record Headed (x : Scope) (n : ℕ) (entries : List ℕ) (l : Line) (more : List Line) (content : Content) : Type 0 where
+pub record Headed (x : Scope) (n : ℕ) (entries : List ℕ) (l : Line) (more : List Line) (content : SegmentContent) : Type 0 where
   pub added : Added
-  pub rest : Content
+  pub rest : SegmentContent
   pub adds : Adds x n entries l added
   pub behind_it : content_of x (syllable_behind n added) (entries_behind entries added) more ≡ Ok rest
   pub all : with_added added rest ≡ content
 
-pub headed : (x : Scope) (n : ℕ) (entries : List ℕ) (l : Line) (more : List Line) (content : Content) → content_of x n entries (l ∷ more) ≡ Ok content → Headed x n entries l more content
+pub headed : (x : Scope) (n : ℕ) (entries : List ℕ) (l : Line) (more : List Line) (content : SegmentContent) → content_of x n entries (l ∷ more) ≡ Ok content → Headed x n entries l more content
 headed x n entries l more content e =
     let a = after_both (of_card l.number (l.says >>= added_by x n entries)) (λ added. content_of x (syllable_behind n added) (entries_behind entries added) more >>= λ rest. Ok (with_added added rest)) content e in
     let b = after_both (content_of x (syllable_behind n a.0) (entries_behind entries a.0) more) (λ rest. Ok (with_added a.0 rest)) content a.2 in
@@ -143,7 +143,7 @@ literal_next : (s n bits : ℕ) → 6 * (n / 6 + 2) ≡ n + length ((s ∷ []) +
 literal_next s n bits = omega (arith, length-append (filling (n + 1)) (six_syllables bits), filled_length (n + 1))
 
 -- the syllable behind an operator, as it is counted and as it is laid
-pub next_is : (op : Op) (n : ℕ) → syllable_after op n ≡ next n op
+pub next_is : (op : Op) (n : ℕ) → syllable_after op n ≡ after_operator n op
 next_is (Valc bits) n = refl
 next_is (Namc bits) n = refl
 next_is (Lt8 bits) n = refl
@@ -159,7 +159,7 @@ next_is (Isol high width) n = refl
 next_is (Insr high width) n = refl
 next_is (Plain code) n = refl
 
-called_after : (c : call.Call) (bits n : ℕ) → syllable_after (called c bits) n ≡ n + 2
+called_after : (c : call.Call) (bits n : ℕ) → syllable_after (call_operator c bits) n ≡ n + 2
 called_after calls.Value bits n = refl
 called_after calls.Name bits n = refl
 
@@ -169,17 +169,17 @@ branch_after branches.IfTrue m n = refl
 branch_after branches.IfFalse m n = refl
 
 -- the syllable behind an operator, before and after its names are known
-pub behind_is : (x : Scope) (s : sketch.Sketch) (op : Op) (n : ℕ) → denoted x s ≡ Some op → behind s n ≡ next n op
+pub behind_is : (x : Scope) (s : sketch.Sketch) (op : Op) (n : ℕ) → denoted x s ≡ Some op → after_sketch s n ≡ after_operator n op
 behind_is x s op n e = counted x s op n e ∙ next_is op n
   where
-    counted : (x : Scope) (s : sketch.Sketch) (op : Op) (n : ℕ) → denoted x s ≡ Some op → behind s n ≡ syllable_after op n
+    counted : (x : Scope) (s : sketch.Sketch) (op : Op) (n : ℕ) → denoted x s ≡ Some op → after_sketch s n ≡ syllable_after op n
     counted x (Whole own) op n e = ap (λ o. syllable_after o n) (same_Some own op e)
     counted x OutOfRange op n e = absurd (none-some op e)
     counted x (Coupled c couple) op n e =
-        let m = mapped (called c) (option_and_then (couple_bits (min x.level 31)) couple) op e in
+        let m = mapped (call_operator c) (option_and_then (couple_bits (min x.level 31)) couple) op e in
         sym (called_after c m.0 n) ∙ ap (λ o. syllable_after o n) m.2
     counted x (RowCoupled c row) op n e =
-        let m = mapped (called c) (option_and_then (λ number. couple_bits (min x.level 31) (record { level = 1; disp = x.segments + number + 2 })) (row_in (x.names.means row))) op e in
+        let m = mapped (call_operator c) (option_and_then (λ number. couple_bits (min x.level 31) (record { level = 1; disp = x.segments + number + 2 })) (row_in (x.names.means row))) op e in
         sym (called_after c m.0 n) ∙ ap (λ o. syllable_after o n) m.2
     counted x (Jump b label) op n e =
         let m = mapped (branch_to b) (x.labels label) op e in
@@ -194,10 +194,10 @@ behind_is x s op n e = counted x s op n e ∙ next_is op n
 -- the labels behind a card, as they are looked for and as its operator is laid
 pub labels_behind : (x : Scope) (n : ℕ) (entries : List ℕ) (l : Line) (more : List Line) (added : Added) → Adds x n entries l added → labels n (l ∷ more) ≡ cons_option (label_at n l.says) (labels (syllable_behind n added) more)
 labels_behind x n entries l more added (inl a) =
-    let after : reach n l.says ≡ syllable_behind n added = ap (reach n) a.says ∙ behind_is x a.own a.op n a.taken.denotes ∙ ap (syllable_behind n) a.is in
+    let after : syllable_after_card n l.says ≡ syllable_behind n added = ap (syllable_after_card n) a.says ∙ behind_is x a.own a.op n a.taken.denotes ∙ ap (syllable_behind n) a.is in
     ap (λ (k : ℕ). cons_option (label_at n l.says) (labels k more)) after
 labels_behind x n entries l more added (inr a) =
-    let after : reach n l.says ≡ syllable_behind n added = ap (reach n) a.says ∙ ap (syllable_behind n) a.is in
+    let after : syllable_after_card n l.says ≡ syllable_behind n added = ap (syllable_after_card n) a.says ∙ ap (syllable_behind n) a.is in
     ap (λ (k : ℕ). cons_option (label_at n l.says) (labels k more)) after
 
 -- ---- labels stand within the longest segment
@@ -219,7 +219,7 @@ here_small x n entries l added (inl a) =
     subst (λ (s : Answer statement.Statement). label_at n s ≡ None ⊎ ((text : List ℕ) × (label_at n s ≡ Some (text, n)) × (n ≤ 6 * 8191))) (sym a.says) (label_of n a.label (omega (arith, a.taken.room)))
 here_small x n entries l added (inr a) = inl (ap (label_at n) a.says)
 
-pub label_small : (x : Scope) (n : ℕ) (entries : List ℕ) (lines : List Line) (content : Content) (q : List ℕ) (m : ℕ) → content_of x n entries lines ≡ Ok content → meaning (labels n lines) q ≡ Some m → m ≤ 6 * 8191
+pub label_small : (x : Scope) (n : ℕ) (entries : List ℕ) (lines : List Line) (content : SegmentContent) (q : List ℕ) (m : ℕ) → content_of x n entries lines ≡ Ok content → meaning (labels n lines) q ≡ Some m → m ≤ 6 * 8191
 label_small x n entries [] content q m e is = absurd (none-some m is)
 label_small x n entries (l ∷ more) content q m e is =
     let h = headed x n entries l more content e in

@@ -28,7 +28,7 @@ use Rattle.b67_model_text.specs.declared.assembly.Line.{Line}
 use Rattle.b67_model_text.specs.Answers.{Answer, ◌>>=◌, ◌>>◌, needs, or_reason}
 use Rattle.b67_model_text.specs.Cards.{leading}
 use Rattle.b67_model_text.specs.Deck.{Refusal, of_card}
-use Rattle.b67_model_text.specs.Encoding.{laid_one, code_of}
+use Rattle.b67_model_text.specs.Encoding.{laid_one, code_words}
 use Rattle.b67_model_text.specs.Statements.{lines_of}
 
 -- ---- names
@@ -60,33 +60,33 @@ abbrev pub meaning : {A : Type 0} → List (List ℕ × A) → List ℕ → Opti
 meaning rows name = lookup (bytes_eq name) rows
 
 -- the syllable behind an operator that begins at syllable n
-abbrev pub next : ℕ → Op → ℕ
-next n op = n + length (laid_one n op)
+abbrev pub after_operator : ℕ → Op → ℕ
+after_operator n op = n + length (laid_one n op)
 
 -- ---- the labels and entries of a segment's cards
 
 -- the syllable behind an operator that begins at syllable n
-abbrev pub behind : sketch.Sketch → ℕ → ℕ
-behind (Whole op) n = syllable_after op n
-behind OutOfRange n = n
-behind (Coupled c couple) n = n + 2
-behind (RowCoupled c row) n = n + 2
-behind (Jump b label) n = n + 3
-behind (Pcw segment) n = 6 * (n / 6 + 2)
-behind (PcwAt segment label) n = 6 * (n / 6 + 2)
+abbrev pub after_sketch : sketch.Sketch → ℕ → ℕ
+after_sketch (Whole op) n = syllable_after op n
+after_sketch OutOfRange n = n
+after_sketch (Coupled c couple) n = n + 2
+after_sketch (RowCoupled c row) n = n + 2
+after_sketch (Jump b label) n = n + 3
+after_sketch (Pcw segment) n = 6 * (n / 6 + 2)
+after_sketch (PcwAt segment label) n = 6 * (n / 6 + 2)
 
 abbrev pub label_at : ℕ → Answer statement.Statement → Option (List ℕ × ℕ)
 label_at n (Ok (statements.Operator label sketch)) = option_map (λ text. (text, n)) label
 label_at n _ = None
 
-abbrev pub reach : ℕ → Answer statement.Statement → ℕ
-reach n (Ok (statements.Operator label sketch)) = behind sketch n
-reach n _ = n
+abbrev pub syllable_after_card : ℕ → Answer statement.Statement → ℕ
+syllable_after_card n (Ok (statements.Operator label sketch)) = after_sketch sketch n
+syllable_after_card n _ = n
 
 -- the labels of a segment's cards from syllable n on, with their places
 abbrev pub labels : ℕ → List Line → List (List ℕ × ℕ)
 labels n [] = []
-labels n (l ∷ more) = cons_option (label_at n l.says) (labels (reach n l.says) more)
+labels n (l ∷ more) = cons_option (label_at n l.says) (labels (syllable_after_card n l.says) more)
 
 -- an ENTRY card names this label
 abbrev pub names_entry : List ℕ → Answer statement.Statement → Bool
@@ -170,12 +170,12 @@ entry_in names (Some (means.Segment number level)) label = names.entry number la
 entry_in names _ label = false
 
 -- a place's 16 bits; none past the longest segment comes to code
-abbrev pub place_bits : ℕ → ℕ
-place_bits n = target_bits (place_at (min n (6 * 8191)))
+abbrev pub syllable_bits : ℕ → ℕ
+syllable_bits n = target_bits (place_at (min n (6 * 8191)))
 
 -- a procedure's bits, from the place of a label of it
 abbrev pub pcw_at : Option ℕ → Option ℕ → Option ℕ
-pcw_at (Some bits) (Some n) = Some (bits + place_bits n * 2 ^ 20)
+pcw_at (Some bits) (Some n) = Some (bits + syllable_bits n * 2 ^ 20)
 pcw_at _ _ = None
 
 abbrev pub row_in : Option named.Named → Option ℕ
@@ -198,9 +198,9 @@ abbrev pub has_label : (List ℕ → Option ℕ) → sketch.Sketch → Bool
 has_label labels (Jump b label) = is_some (labels label)
 has_label labels _ = true
 
-abbrev pub called : call.Call → ℕ → Op
-called calls.Value bits = Valc bits
-called calls.Name bits = Namc bits
+abbrev pub call_operator : call.Call → ℕ → Op
+call_operator calls.Value bits = Valc bits
+call_operator calls.Name bits = Namc bits
 
 -- to a syllable's place; none past the longest segment comes to code
 abbrev pub branch_to : branch.Branch → ℕ → Op
@@ -212,8 +212,8 @@ branch_to branches.IfFalse n = Brfl (place_at (min n (6 * 8191)))
 abbrev pub denoted : Scope → sketch.Sketch → Option Op
 denoted x (Whole op) = Some op
 denoted x OutOfRange = None
-denoted x (Coupled c couple) = option_map (called c) (option_and_then (couple_bits (min x.level 31)) couple)
-denoted x (RowCoupled c row) = option_map (called c) (option_and_then (λ number. couple_bits (min x.level 31) (record { level = 1; disp = x.segments + number + 2 })) (row_in (x.names.means row)))
+denoted x (Coupled c couple) = option_map (call_operator c) (option_and_then (couple_bits (min x.level 31)) couple)
+denoted x (RowCoupled c row) = option_map (call_operator c) (option_and_then (λ number. couple_bits (min x.level 31) (record { level = 1; disp = x.segments + number + 2 })) (row_in (x.names.means row)))
 denoted x (Jump b label) = option_map (branch_to b) (x.labels label)
 denoted x (Pcw segment) = option_map Mpcw (pcw_in (x.names.means segment))
 denoted x (PcwAt segment label) = option_map Mpcw (pcw_at (pcw_in (x.names.means segment)) (label_in x.names (x.names.means segment) label))
@@ -232,15 +232,15 @@ misplaced names _ = 6
 -- an operator that begins at syllable n, in 8,191 words; a couple that doesn't fit has two syllables too
 abbrev pub fitted : ℕ → Option Op → Answer Op
 fitted n None = needs (nat_le (n + 2) (6 * 8191)) 7 >> Err 8
-fitted n (Some op) = needs (nat_le (next n op) (6 * 8191)) 7 >> Ok op
+fitted n (Some op) = needs (nat_le (after_operator n op) (6 * 8191)) 7 >> Ok op
 
 -- an operator, unless it is an MPCW whose label is no entry
 abbrev pub entered : Names → sketch.Sketch → Op → Answer Op
 entered names sketch op = needs (has_entry names sketch) 11 >> Ok op
 
 -- the operator of a segment's card that begins at syllable n
-abbrev pub operator_of : Scope → ℕ → Option (List ℕ) → sketch.Sketch → Answer Op
-operator_of x n label sketch = do
+abbrev pub card_operator : Scope → ℕ → Option (List ℕ) → sketch.Sketch → Answer Op
+card_operator x n label sketch = do
   needs (is_in_range sketch) 3
   needs (is_first_label x.labels n label) 4
   needs (has_names x.names sketch && has_label x.labels sketch) 5
@@ -253,40 +253,40 @@ pub data Added : Type 0 where
   AddedEntry : ℕ → Added
 
 -- an entry at a label, behind those in this list: it isn't at 0:0, nor an entry already, nor number 256
-abbrev pub entry_at : List ℕ → Option ℕ → Answer Added
-entry_at entries None = Err 5
-entry_at entries (Some n) = needs (not (n == 0) && not (list_any (λ m. m == n) entries) && nat_lt (length entries) 255) 10 >> Ok (AddedEntry n)
+abbrev pub entry_added : List ℕ → Option ℕ → Answer Added
+entry_added entries None = Err 5
+entry_added entries (Some n) = needs (not (n == 0) && not (list_any (λ m. m == n) entries) && nat_lt (length entries) 255) 10 >> Ok (AddedEntry n)
 
 -- what a segment's card adds that stands at syllable n behind the cards of these entries
 abbrev pub added_by : Scope → (n : ℕ) (entries : List ℕ) → statement.Statement → Answer Added
-added_by x n entries (statements.Operator label sketch) = operator_of x n label sketch >>= λ op. Ok (AddedOperator op)
-added_by x n entries (statements.Entry label) = entry_at entries (x.labels label)
+added_by x n entries (statements.Operator label sketch) = card_operator x n label sketch >>= λ op. Ok (AddedOperator op)
+added_by x n entries (statements.Entry label) = entry_added entries (x.labels label)
 added_by x n entries other = Err (misplaced x.names other)
 
 abbrev pub syllable_behind : ℕ → Added → ℕ
-syllable_behind n (AddedOperator op) = next n op
+syllable_behind n (AddedOperator op) = after_operator n op
 syllable_behind n (AddedEntry m) = n
 
 -- a number among numbers in order
-abbrev pub in_order : ℕ → List ℕ → List ℕ
-in_order n [] = n ∷ []
-in_order n (m ∷ more) = if nat_lt n m then n ∷ m ∷ more else m ∷ in_order n more
+abbrev pub inserted_in_order : ℕ → List ℕ → List ℕ
+inserted_in_order n [] = n ∷ []
+inserted_in_order n (m ∷ more) = if nat_lt n m then n ∷ m ∷ more else m ∷ inserted_in_order n more
 
 abbrev pub entries_behind : List ℕ → Added → List ℕ
 entries_behind entries (AddedOperator op) = entries
-entries_behind entries (AddedEntry n) = in_order n entries
+entries_behind entries (AddedEntry n) = inserted_in_order n entries
 
 -- the operators of a segment, in card order, and the syllables of its entries, in order
-pub record Content : Type 0 where
+pub record SegmentContent : Type 0 where
   pub operators : List Op
   pub entries : List ℕ
 
-abbrev pub with_added : Added → Content → Content
+abbrev pub with_added : Added → SegmentContent → SegmentContent
 with_added (AddedOperator op) content = record { operators = op ∷ content.operators; entries = content.entries }
 with_added (AddedEntry n) content = content
 
 -- the content of a segment's cards from syllable n on, behind these entries
-abbrev pub content_of : Scope → (n : ℕ) (entries : List ℕ) → List Line → Result Content Refusal
+abbrev pub content_of : Scope → (n : ℕ) (entries : List ℕ) → List Line → Result SegmentContent Refusal
 content_of x n entries [] = Ok (record { operators = []; entries = entries })
 content_of x n entries (l ∷ more) = do
   added ← of_card l.number (l.says >>= added_by x n entries)
@@ -299,17 +299,17 @@ abbrev pub value_in : Option ℕ → ℕ
 value_in v = unwrap_or v 0
 
 -- the words of a row's card behind n words
-abbrev pub values_of : Names → ℕ → statement.Statement → Answer (List ℕ)
-values_of names n (statements.Values first more) = do
+abbrev pub row_values : Names → ℕ → statement.Statement → Answer (List ℕ)
+row_values names n (statements.Values first more) = do
   needs (not (list_any (λ v. not (is_word v)) (first ∷ more))) 3
   needs (nat_le (n + length (first ∷ more)) 65535) 7
   Ok (map value_in (first ∷ more))
-values_of names n other = Err (misplaced names other)
+row_values names n other = Err (misplaced names other)
 
 abbrev pub row_words : Names → ℕ → List Line → Result (List ℕ) Refusal
 row_words names n [] = Ok []
 row_words names n (l ∷ more) = do
-  words ← of_card l.number (l.says >>= values_of names n)
+  words ← of_card l.number (l.says >>= row_values names n)
   rest ← row_words names (n + length words) more
   Ok (words ++ rest)
 
@@ -350,7 +350,7 @@ segment_part names segments s r number name level lines = do
   of_card number (needs (list_any is_code lines) 7)
   of_card number (needs (nat_lt (s + r) 255) 9)
   content ← content_of (record { names = names; segments = segments; level = l; labels = λ label. meaning (labels 0 lines) label }) 0 [] lines
-  Ok (CodePart (record { level = l; entries = map place_bits content.entries; code = code_of content.operators }))
+  Ok (CodePart (record { level = l; entries = map syllable_bits content.entries; code = code_words content.operators }))
 
 abbrev pub row_part : Names → (s r number : ℕ) (name : List ℕ) → List Line → Result Part Refusal
 row_part names s r number name lines = do
@@ -360,11 +360,11 @@ row_part names s r number name lines = do
   words ← row_words names 0 lines
   Ok (RowPart words)
 
-abbrev pub part_of : Names → (segments s r number : ℕ) → Answer statement.Statement → List Line → Result Part Refusal
-part_of names segments s r number (Ok (statements.Segment name level)) lines = segment_part names segments s r number name level lines
-part_of names segments s r number (Ok (statements.Row name)) lines = row_part names s r number name lines
-part_of names segments s r number (Ok other) lines = Err (record { card = number; reason = misplaced names other })
-part_of names segments s r number (Err reason) lines = Err (record { card = number; reason = reason })
+abbrev pub program_part : Names → (segments s r number : ℕ) → Answer statement.Statement → List Line → Result Part Refusal
+program_part names segments s r number (Ok (statements.Segment name level)) lines = segment_part names segments s r number name level lines
+program_part names segments s r number (Ok (statements.Row name)) lines = row_part names s r number name lines
+program_part names segments s r number (Ok other) lines = Err (record { card = number; reason = misplaced names other })
+program_part names segments s r number (Err reason) lines = Err (record { card = number; reason = reason })
 
 abbrev pub with_part : Part → Program → Program
 with_part (CodePart segment) p = record { segments = segment ∷ p.segments; rows = p.rows }
@@ -375,7 +375,7 @@ abbrev pub program_from : Names → (segments s r : ℕ) → List Line → Resul
 program_from names segments s r [] = Ok (record { segments = []; rows = [] })
 program_from names segments s r (l ∷ more) =
     if is_head l.kind
-    then (part_of names segments s r l.number l.says (own more) >>= λ part. program_from names segments (segments_behind s l.says) (rows_behind r l.says) more >>= λ rest. Ok (with_part part rest))
+    then (program_part names segments s r l.number l.says (own more) >>= λ part. program_from names segments (segments_behind s l.says) (rows_behind r l.says) more >>= λ rest. Ok (with_part part rest))
     else program_from names segments s r more
 
 -- a card before all segments and rows is refused

@@ -30,8 +30,8 @@ abbrev pub cards : List ℕ → List Card
 cards text = filter (λ c. not (is_empty c.text)) (map card_of (enumerate_from 1 (lines text)))
 
 -- what stands between spaces
-abbrev pub words : List ℕ → List (List ℕ)
-words text = filter (λ w. not (is_empty w)) (slice_split is_space text)
+abbrev pub words_in_card : List ℕ → List (List ℕ)
+words_in_card text = filter (λ w. not (is_empty w)) (slice_split is_space text)
 
 -- digits without a leading zero
 abbrev pub is_numeral : List ℕ → Bool
@@ -50,9 +50,9 @@ negative None = None
 negative (Some zero) = None
 negative (Some (suc n)) = Some (negsuc n)
 
-abbrev pub whole : List ℕ → Option ℤ
-whole [] = None
-whole (b ∷ more) = if b == 45 then negative (natural more) else option_map pos (natural (b ∷ more))
+abbrev pub whole_number : List ℕ → Option ℤ
+whole_number [] = None
+whole_number (b ∷ more) = if b == 45 then negative (natural more) else option_map pos (natural (b ∷ more))
 
 -- 1 to 16 letters and digits, a letter first
 abbrev pub is_name : List ℕ → Bool

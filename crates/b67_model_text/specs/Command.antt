@@ -6,7 +6,7 @@ use Rattle.std.specs.Str.{bytes_eq}
 use Rattle.b67_model_text.specs.declared.deck.Keyword as keyword
 use Rattle.b67_model_text.specs.declared.deck.Keyword.TheVariants as keywords
 use Rattle.b67_model_text.specs.Answers.{Answer, ◌>>=◌, ◌>>◌, needs, or_reason}
-use Rattle.b67_model_text.specs.Cards.{words, natural, name_in, is_empty}
+use Rattle.b67_model_text.specs.Cards.{words_in_card, natural, name_in, is_empty}
 
 pub data Command : Type 0 where
   Stack : (words : ℕ) → Command
@@ -95,12 +95,12 @@ abbrev pub is_printable : ℕ → Bool
 is_printable b = nat_le 32 b && nat_le b 126
 
 -- what is refused of any card
-abbrev pub plain : List ℕ → Answer ⊤
-plain text = do
+abbrev pub plain_card : List ℕ → Answer ⊤
+plain_card text = do
   needs (nat_le (length text) 80) 1
   needs (list_all is_printable text) 2
 
 abbrev pub said : List ℕ → Answer Command
 said text = do
-  _ ← plain text
-  if is_command text then command_of (words text) else Ok (Plain text)
+  _ ← plain_card text
+  if is_command text then command_of (words_in_card text) else Ok (Plain text)

@@ -12,8 +12,8 @@ use Rattle.b67_model_text.specs.declared.deck.Deck.{Deck}
 use Rattle.b67_model_text.specs.Answers.{Answer, ◌>>=◌, ◌>>◌, needs}
 use Rattle.b67_model_text.specs.Cards.{cards, leading}
 use Rattle.b67_model_text.specs.Hex.{digit_bytes, is_hex}
-use Rattle.b67_model_text.specs.Command.{Command, Limit, Asm, Hex, Data, Plain, plain, said}
-use Rattle.b67_model_text.specs.Placing.{stand, placed, stack_in, quantum_in, halt_in, switch_in, name_in, first_of, numbers}
+use Rattle.b67_model_text.specs.Command.{Command, Limit, Asm, Hex, Data, Plain, plain_card, said}
+use Rattle.b67_model_text.specs.Placing.{stand, placed_card, stack_in, quantum_in, halt_in, switch_in, name_in, first_found, numbers}
 
 pub record Said : Type 0 where
   pub number : ℕ
@@ -34,7 +34,7 @@ of_card number (Err reason) = Err (record { card = number; reason = reason })
 abbrev pub said_after : List Said → Card → Answer Said
 said_after before card = do
   c ← said card.text
-  _ ← placed (map command_in before) c
+  _ ← placed_card (map command_in before) c
   Ok (record { number = card.number; command = c })
 
 abbrev pub is_between : Stand → Bool
@@ -47,12 +47,12 @@ number_of_last [] = 0
 number_of_last (s ∷ before) = s.number
 
 -- a deck ends outside jobs
-abbrev pub ended : List Said → Result (List Said) Refusal
-ended before = of_card (number_of_last before) (needs (is_between (stand (map command_in before))) 13) >> Ok (reverse before)
+abbrev pub ended_deck : List Said → Result (List Said) Refusal
+ended_deck before = of_card (number_of_last before) (needs (is_between (stand (map command_in before))) 13) >> Ok (reverse before)
 
 -- what all cards say, or the first card that is refused with its lowest reason
 abbrev pub sayings : List Said → List Card → Result (List Said) Refusal
-sayings before [] = ended before
+sayings before [] = ended_deck before
 sayings before (card ∷ more) = do
   s ← of_card card.number (said_after before card)
   sayings (s ∷ before) more
@@ -131,9 +131,9 @@ jobs (s ∷ more) = option_to_list (option_map (λ name. job_of s.number name (o
 
 abbrev pub deck : List Said → Deck
 deck said = record {
-  stack = unwrap_or (first_of (λ s. stack_in s.command) said) 512;
-  quantum = unwrap_or (first_of (λ s. quantum_in s.command) said) 1000;
-  halt = first_of (λ s. halt_in s.command) said;
+  stack = unwrap_or (first_found (λ s. stack_in s.command) said) 512;
+  quantum = unwrap_or (first_found (λ s. quantum_in s.command) said) 1000;
+  halt = first_found (λ s. halt_in s.command) said;
   switches = filter_map (λ s. switch_in s.command) said;
   jobs = jobs said;
 }
@@ -154,7 +154,7 @@ deck_of text = within_limit text >>= λ _. sayings [] (cards text) >>= λ said. 
 
 abbrev pub all_plain : List Card → Result ⊤ Refusal
 all_plain [] = Ok tt
-all_plain (card ∷ more) = of_card card.number (plain card.text) >> all_plain more
+all_plain (card ∷ more) = of_card card.number (plain_card card.text) >> all_plain more
 
 -- the cards of a text of plain cards, or the first refused card with its lowest reason
 abbrev pub plain_cards : List ℕ → Result (List Card) Refusal
@@ -162,7 +162,7 @@ plain_cards text = within_limit text >>= λ _. all_plain (cards text) >>= λ _. 
 
 -- what is refused of a hexadecimal card
 abbrev pub hexadecimal : List ℕ → Answer ⊤
-hexadecimal text = plain text >> needs (is_hex text) 11
+hexadecimal text = plain_card text >> needs (is_hex text) 11
 
 abbrev pub all_hexadecimal : List Card → Result ⊤ Refusal
 all_hexadecimal [] = Ok tt

@@ -26,9 +26,9 @@ laid n [] = filling n
 laid n (op ∷ more) = laid_one n op ++ laid (n + length (laid_one n op)) more
 
 -- six syllables to a word
-abbrev pub packed : List ℕ → List ℕ
-packed (a ∷ b ∷ c ∷ d ∷ e ∷ f ∷ more) = (((((a * 256 + b) * 256 + c) * 256 + d) * 256 + e) * 256 + f) ∷ packed more
-packed _ = []
+abbrev pub packed_words : List ℕ → List ℕ
+packed_words (a ∷ b ∷ c ∷ d ∷ e ∷ f ∷ more) = (((((a * 256 + b) * 256 + c) * 256 + d) * 256 + e) * 256 + f) ∷ packed_words more
+packed_words _ = []
 
-abbrev pub code_of : List Op → List ℕ
-code_of operators = packed (laid 0 operators)
+abbrev pub code_words : List Op → List ℕ
+code_words operators = packed_words (laid 0 operators)

@@ -6,7 +6,7 @@ use Rattle.b67_model_text.specs.declared.deck.Switch as switches
 use Rattle.b67_model_text.specs.declared.deck.Stand.{Stand}
 use Rattle.b67_model_text.specs.declared.deck.Stand.TheVariants.{Front, Begun, Limited, InAsm, InHex, InData, Ended}
 use Rattle.b67_model_text.specs.Answers.{Answer, ◌>>=◌, ◌>>◌, needs}
-use Rattle.b67_model_text.specs.Cards.{words}
+use Rattle.b67_model_text.specs.Cards.{words_in_card}
 use Rattle.b67_model_text.specs.Hex.{hex_bytes}
 use Rattle.b67_model_text.specs.Command.{number_in, Command, Stack, Quantum, Halt, Switch, Job, Limit, Asm, Hex, Data, End, Plain}
 
@@ -82,14 +82,14 @@ name_in (Job name) = Some name
 name_in _ = None
 
 -- the first that there is
-abbrev pub first_of : {A B : Type 0} → (A → Option B) → List A → Option B
-first_of f xs = slice_get (filter_map f xs) 0
+abbrev pub first_found : {A B : Type 0} → (A → Option B) → List A → Option B
+first_found f xs = slice_get (filter_map f xs) 0
 
 -- a run card whose like stands before it
 abbrev pub is_repeated : List Command → Command → Bool
-is_repeated before (Stack n) = is_some (first_of stack_in before)
-is_repeated before (Quantum n) = is_some (first_of quantum_in before)
-is_repeated before (Halt n) = is_some (first_of halt_in before)
+is_repeated before (Stack n) = is_some (first_found stack_in before)
+is_repeated before (Quantum n) = is_some (first_found quantum_in before)
+is_repeated before (Halt n) = is_some (first_found halt_in before)
 is_repeated before _ = false
 
 -- the count is above that of the switch before
@@ -98,7 +98,7 @@ is_above None count = true
 is_above (Some last) count = nat_lt last.count count
 
 abbrev pub rises : List Command → Command → Bool
-rises before (Switch count job task) = is_above (first_of switch_in before) count
+rises before (Switch count job task) = is_above (first_found switch_in before) count
 rises before _ = true
 
 abbrev pub has_room : List Command → Command → Answer ⊤
@@ -117,7 +117,7 @@ operands_in (w ∷ more) = let rest = operands_in more in option_and_then (λ v.
 
 -- the numbers of a card
 abbrev pub numbers : List ℕ → Option (List ℤ)
-numbers text = operands_in (words text)
+numbers text = operands_in (words_in_card text)
 
 abbrev pub is_well_formed : Stand → Command → Answer ⊤
 is_well_formed InHex (Plain text) = needs (is_some (hex_bytes text)) 11
@@ -134,7 +134,7 @@ arranged before c = do
   needs (not (lacks_program (stand before) c)) 10
 
 -- what is refused of a card by the cards before it
-abbrev pub placed : List Command → Command → Answer ⊤
-placed before c = do
+abbrev pub placed_card : List Command → Command → Answer ⊤
+placed_card before c = do
   _ ← arranged before c
   is_well_formed (stand before) c

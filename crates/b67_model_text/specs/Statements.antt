@@ -22,7 +22,7 @@ use Rattle.b67_model_text.specs.declared.assembly.Kind as kind
 use Rattle.b67_model_text.specs.declared.assembly.Kind.TheVariants as kinds
 use Rattle.b67_model_text.specs.declared.assembly.Line.{Line}
 use Rattle.b67_model_text.specs.Answers.{Answer, ◌>>=◌, ◌>>◌, needs, or_reason}
-use Rattle.b67_model_text.specs.Cards.{words, natural, name_in, is_empty}
+use Rattle.b67_model_text.specs.Cards.{words_in_card, natural, name_in, is_empty}
 use Rattle.b67_model_text.specs.Hex.{hex_digit, digit_value}
 use Rattle.b67_model_text.specs.Command.{row_of, parted}
 
@@ -31,9 +31,9 @@ abbrev pub numeral_up_to : ℕ → List ℕ → Option (Option ℕ)
 numeral_up_to high word = option_map (λ n. if nat_le n high then Some n else None) (natural word)
 
 -- an operator with a number
-abbrev pub with_number : (ℕ → Op) → Option ℕ → sketch.Sketch
-with_number op None = OutOfRange
-with_number op (Some n) = Whole (op n)
+abbrev pub numbered_operator : (ℕ → Op) → Option ℕ → sketch.Sketch
+numbered_operator op None = OutOfRange
+numbered_operator op (Some n) = Whole (op n)
 
 abbrev pub with_numbers : (ℕ → ℕ → Op) → Option ℕ → Option ℕ → sketch.Sketch
 with_numbers op (Some m) (Some n) = Whole (op m n)
@@ -98,9 +98,9 @@ abbrev pub hex_bits : List ℕ → Option (Option ℕ)
 hex_bits digits = if (length digits == 12) && are_hex digits then Some (Some (digit_bits digits)) else None
 
 -- a whole number, or # and twelve hexadecimal digits
-abbrev pub bits_in : List ℕ → Option (Option ℕ)
-bits_in [] = None
-bits_in (b ∷ more) =
+abbrev pub literal_bits : List ℕ → Option (Option ℕ)
+literal_bits [] = None
+literal_bits (b ∷ more) =
     if b == 35 then hex_bits more
     else (if b == 45 then option_and_then negative_bits (numeral_up_to 549755813887 more)
     else numeral_up_to 549755813887 (b ∷ more))
@@ -112,12 +112,12 @@ with_operand names.Namc word = option_and_then (couple_in calls.Name) (parted 44
 with_operand names.Brun word = jump_to branches.Always word
 with_operand names.Brtr word = jump_to branches.IfTrue word
 with_operand names.Brfl word = jump_to branches.IfFalse word
-with_operand names.Lt8 word = option_map (with_number ops.Lt8) (numeral_up_to 255 word)
-with_operand names.Lt16 word = option_map (with_number ops.Lt16) (numeral_up_to 65535 word)
-with_operand names.Lt48 word = option_map (with_number ops.Lt48) (bits_in word)
+with_operand names.Lt8 word = option_map (numbered_operator ops.Lt8) (numeral_up_to 255 word)
+with_operand names.Lt16 word = option_map (numbered_operator ops.Lt16) (numeral_up_to 65535 word)
+with_operand names.Lt48 word = option_map (numbered_operator ops.Lt48) (literal_bits word)
 with_operand names.Mpcw word = pcw_of word
-with_operand names.Bset word = option_map (with_number ops.Bset) (numeral_up_to 47 word)
-with_operand names.Brst word = option_map (with_number ops.Brst) (numeral_up_to 47 word)
+with_operand names.Bset word = option_map (numbered_operator ops.Bset) (numeral_up_to 47 word)
+with_operand names.Brst word = option_map (numbered_operator ops.Brst) (numeral_up_to 47 word)
 with_operand names.Isol word = option_and_then (two_numbers (field_operator false)) (parted 44 word)
 with_operand names.Insr word = option_and_then (two_numbers (field_operator true)) (parted 44 word)
 with_operand (names.Plain code) word = None
@@ -162,11 +162,11 @@ row (word ∷ more) = if is_empty more then row_named word else None
 
 abbrev pub all_bits : List (List ℕ) → Option (List (Option ℕ))
 all_bits [] = Some []
-all_bits (w ∷ more) = let rest = all_bits more in option_and_then (λ n. option_map (λ ns. n ∷ ns) rest) (bits_in w)
+all_bits (w ∷ more) = let rest = all_bits more in option_and_then (λ n. option_map (λ ns. n ∷ ns) rest) (literal_bits w)
 
 abbrev pub num : List (List ℕ) → Option statement.Statement
 num [] = None
-num (word ∷ more) = option_and_then (λ first. option_map (statements.Values first) (all_bits more)) (bits_in word)
+num (word ∷ more) = option_and_then (λ first. option_map (statements.Values first) (all_bits more)) (literal_bits word)
 
 abbrev pub entry_named : List ℕ → Option statement.Statement
 entry_named word = option_map statements.Entry (name_in word)
@@ -223,7 +223,7 @@ without_comment text = unwrap_or (option_map (λ p. p.0) (parted 59 text)) text
 
 -- a card with nothing before it is ignored
 abbrev pub line_of : Card → Option Line
-line_of card = line_with card.number (words (without_comment card.text))
+line_of card = line_with card.number (words_in_card (without_comment card.text))
 
 abbrev pub lines_of : List Card → List Line
 lines_of cards = filter_map line_of cards

@@ -12,13 +12,13 @@ use Rattle.b67_ctl.specs.declared.registers.Regs.{Regs}
 use Rattle.b67_ctl.specs.Descriptors.{data_word, IsDataDesc}
 use Rattle.b67_lemmas.specs.Lists.{Has}
 use Rattle.b67_lemmas.proofs.Places.{get_within}
-use Rattle.b67_stack.specs.Common.{Shape, Is, Original, Copy, Fits, LieDownward, copy_desc, nowhere, words, PagedObject, MachineView, stack_of, slot_base, home_word_of, Storage, Represents, Stayed}
+use Rattle.b67_stack.specs.Common.{Shape, Is, Original, Copy, Fits, LieDownward, copy_desc, nowhere, words, PagedObject, MachineView, stack_of, slot_base, home_word_of, Storage, Represents, LowWordsStayed}
 use Rattle.b67_stack.proofs.Heights.{words-length}
 use Rattle.b67_stack.proofs.Homes.{same_desc}
 use Rattle.b67_layout_storage.specs.Machine.{IsPresent}
-use Rattle.b67_overlay.specs.Turns.{IsCopyOf, InStack, Searched, SpansTurned, Lies}
+use Rattle.b67_overlay.specs.Turns.{IsCopyOfArea, InStack, Searched, SpansTurned, Lies}
 use Rattle.b67_overlay.specs.declared.spans.Span.{Span}
-use Rattle.b67_overlay.specs.Spans.{Kin, Families, DictionariesLie, ShowsFamilies, job_at, holds, span_of, span_of_kin, up_from, whole, InSpan, ShapeInSpan, CopiesInSpans, CopiesLie}
+use Rattle.b67_overlay.specs.Spans.{Resident, Families, DictionariesLie, ShowsFamilies, job_at, holds, span_of, span_of_kin, up_from, whole_stack, InSpan, ShapeInSpan, CopiesInSpans, CopiesLie}
 use Rattle.b67_overlay.proofs.Families.{dictionaries_up}
 use Rattle.b67_overlay.proofs.Hiding.{alone}
 use Rattle.b67_overlay.proofs.Turning.{lies_of, stack_before, stack_low}
@@ -29,7 +29,7 @@ home_tag Row n t core i m x get e = let z : ◌≡◌ {A = ℕ} 5 0 = ap (λ (w 
 home_tag Code n t core i m x get e = let z : ◌≡◌ {A = ℕ} 3 0 = ap (λ (w : Tagged). w.tag) (same_Some _ _ (sym get ∙ e)) in omega arith
 
 -- words that aren't descriptors, below the slots, stay
-module _ (x : Storage) (core : List Tagged) (r : Regs) (p : MachineView) (s : Represents x core r p) (new : List Tagged) (stayed : Stayed p core new) where
+module _ (x : Storage) (core : List Tagged) (r : Regs) (p : MachineView) (s : Represents x core r p) (new : List Tagged) (stayed : LowWordsStayed p core new) where
   dictionaries_stay : (at : ℕ) (rest : List ℕ) → 160 ≤ at → DictionariesLie core p.stacks at rest → DictionariesLie new p.stacks at rest
   dictionaries_stay at [] low d = d
   dictionaries_stay at (n ∷ more) low d =
@@ -57,7 +57,7 @@ copies_objects core p objects c = record {
 }
 
 -- a span is a part of its stack
-pub span_inside : (f : Families) (p : MachineView) (original k i : ℕ) (o : Option Kin) → InSpan (span_of_kin f p original k o) i → InStack p k i
+pub span_inside : (f : Families) (p : MachineView) (original k i : ℕ) (o : Option Resident) → InSpan (span_of_kin f p original k o) i → InStack p k i
 span_inside f p original k i None h = absurd h
 span_inside f p original k i (Some a) h = by (nat_lt original p.stacks) (job_at 160 f.entries 0 original == a.job) (holds p original k) (list_any (holds p original) a.parents) refl h where
   below : holds p original k ≡ true → slot_base p k ≤ original
@@ -67,7 +67,7 @@ span_inside f p original k i (Some a) h = by (nat_lt original p.stacks) (job_at 
       (cases_lt original (slot_base p k))
 
   by : (low same own any : Bool) → holds p original k ≡ own
-      → InSpan (if low then (if same then Some (whole p k) else None) else (if own then Some (up_from p k (original + 1)) else (if any then Some (whole p k) else None))) i → InStack p k i
+      → InSpan (if low then (if same then Some (whole_stack p k) else None) else (if own then Some (up_from p k (original + 1)) else (if any then Some (whole_stack p k) else None))) i → InStack p k i
   by true true own any e h = (omega (arith, h.0), omega (arith, h.1))
   by true false own any e h = absurd h
   by false same true any e h = (omega (arith, h.0, below e), omega (arith, h.1))
@@ -103,7 +103,7 @@ module _ (x : Storage) (core : List Tagged) (r : Regs) (p : MachineView) (s : Re
   there home address true e to = to
   there home address false e to = absurd (false≢true e)
 
-  by_shape : (span : ℕ → Option Span) (i : ℕ) (w : Tagged) (d : DataDesc) → IsDataDesc d → w ≡ data_word d → IsCopyOf area d → (InSpan (span t.home) i → ⊥) → (a : Shape) → Fits x.held a i w → ShapeInSpan span a i → ⊥
+  by_shape : (span : ℕ → Option Span) (i : ℕ) (w : Tagged) (d : DataDesc) → IsDataDesc d → w ≡ data_word d → IsCopyOfArea area d → (InSpan (span t.home) i → ⊥) → (a : Shape) → Fits x.held a i w → ShapeInSpan span a i → ⊥
   by_shape span i w d fd e copy out (Is v) f lies = f.1 (ap (λ (u : Tagged). u.tag) (sym f.0 ∙ e))
   by_shape span i w d fd e copy out (Original home) f lies = false≢true (sym f.1.own ∙ (same_desc f.1.desc d f.1.fits fd (sym f.1.is ∙ e)).copy ∙ copy.1)
   by_shape span i w d fd e copy out (Copy k home) f lies =
@@ -111,7 +111,7 @@ module _ (x : Storage) (core : List Tagged) (r : Regs) (p : MachineView) (s : Re
       let is : home ≡ t.home = alone x core r p s area t at nowhere home (there home f.address f.present (same.present ∙ copy.0) f.to ∙ ap Some (same.address ∙ copy.2)) in
       out (subst (λ (h : ℕ). InSpan (span h) i) is lies)
 
-  pub no_copy_outside : (k i : ℕ) (v : Tagged) → k < p.peak → InStack p k i → (InSpan (span_of c.families p t.home k) i → ⊥) → slice_get core i ≡ Some v → (d : DataDesc) → IsDataDesc d → v ≡ data_word d → IsCopyOf area d → ⊥
+  pub no_copy_outside : (k i : ℕ) (v : Tagged) → k < p.peak → InStack p k i → (InSpan (span_of c.families p t.home k) i → ⊥) → slice_get core i ≡ Some v → (d : DataDesc) → IsDataDesc d → v ≡ data_word d → IsCopyOfArea area d → ⊥
   no_copy_outside k i v hk stack out get d fd e copy =
       let stack_of_k = stack_of (p.slots k) in
       let a = at_place (Fits x.held) (λ (home : ℕ). span_of c.families p home k) core (suc (slot_base p k)) i v (words k stack_of_k) (omega (arith, stack.0)) (omega (arith, stack.1, words-length k stack_of_k)) (s.stacks k hk) (c.lie k hk) get in

@@ -14,7 +14,7 @@ use Rattle.b67_area.proofs.Laws.{OnlyHoles-area, OnlyHoles-below}
 use Rattle.b67_area.proofs.Separation.{IsDirectory-below_words, IsDirectory-set_below}
 use Rattle.b67_ctl.specs.declared.registers.Regs.{Regs}
 use Rattle.b67_lemmas.specs.Lists.{Has}
-use Rattle.b67_stack.specs.Common.{Location, Shape, Original, IsOriginal, Fits, words, PagedObject, MachineView, stack_of, slot_base, home_word_of, Storage, StacksLie, HoldsIn, info_of, Represents, Stayed, with_held}
+use Rattle.b67_stack.specs.Common.{Location, Shape, Original, IsOriginal, Fits, words, PagedObject, MachineView, stack_of, slot_base, home_word_of, Storage, StacksLie, HoldsIn, info_of, Represents, LowWordsStayed, with_held}
 use Rattle.b67_stack.proofs.Heights.{words-length}
 use Rattle.b67_stack.proofs.Lies.{Lie-each}
 use Rattle.b67_layout_storage.specs.Machine.{IsPresent}
@@ -61,7 +61,7 @@ module _ (x y : Storage) (core : List Tagged) (r : Regs) (p : MachineView) (s : 
   size2 = length-set mid t.home w ∙ hd.size
 
   -- the words below the slots
-  pub below_dropped : (new : List Tagged) → Freed x.low area x.spans c2 new → Stayed p core new
+  pub below_dropped : (new : List Tagged) → Freed x.low area x.spans c2 new → LowWordsStayed p core new
   below_dropped new f i low out apart =
       OnlyHoles-below c2 new x.low (without x.low area x.spans) i f.outside (not_heads i out) (omega (arith, stacks_low x core r p s))
       ∙ slice_get-set_other mid t.home i w (λ e. apart t at.there (sym e)) ∙ hd.below i low out apart

@@ -10,7 +10,7 @@ use Rattle.b67_ctl.specs.Layout.{toscw_word}
 use Rattle.b67_lemmas.proofs.Members.{all_in}
 use Rattle.b67_stack.specs.Common.{Shape, Is, Original, Copy, Activation, Entered, IsStack, stack_words, words, toscw_of, MachineView, Slot, Free, Running, Waiting, SlotFits, CopiesName, RepresentsSlot}
 use Rattle.b67_overlay.specs.Turns.{Lies}
-use Rattle.b67_overlay.specs.Spans.{Kin, Families, KinFits, kin_word, ShowsFamilies}
+use Rattle.b67_overlay.specs.Spans.{Resident, Families, ResidentFits, kin_word, ShowsFamilies}
 
 -- a task entered at level 2 with some cells
 abbrev stack : ℕ → List Activation
@@ -23,7 +23,7 @@ in_slot (suc (suc zero)) = Waiting (stack 1)
 in_slot (suc (suc (suc zero))) = Waiting (stack 0)
 in_slot (suc (suc (suc (suc k)))) = Free
 
-abbrev kin_in : ℕ → Option Kin
+abbrev kin_in : ℕ → Option Resident
 kin_in zero = Some (record { job = 1; parents = [] })
 kin_in (suc zero) = Some (record { job = 1; parents = 0 ∷ [] })
 kin_in (suc (suc zero)) = Some (record { job = 2; parents = [] })
@@ -81,11 +81,11 @@ vector (suc (suc zero)) h = refl
 vector (suc (suc (suc zero))) h = refl
 vector (suc (suc (suc (suc k)))) h = no_vector (32 + suc (suc (suc (suc k)))) (omega arith) (omega (arith, h))
 
-kin_fits : (k : ℕ) (a : Kin) → kin_in k ≡ Some a → KinFits family 5 k a
-kin_fits zero a e = subst (KinFits family 5 0) (same_Some _ _ e) (record { used = omega arith; job = omega arith; few = omega arith; line = tt })
-kin_fits (suc zero) a e = subst (KinFits family 5 1) (same_Some _ _ e) (record { used = omega arith; job = omega arith; few = omega arith; line = (omega arith, refl, tt) })
-kin_fits (suc (suc zero)) a e = subst (KinFits family 5 2) (same_Some _ _ e) (record { used = omega arith; job = omega arith; few = omega arith; line = tt })
-kin_fits (suc (suc (suc zero))) a e = subst (KinFits family 5 3) (same_Some _ _ e) (record { used = omega arith; job = omega arith; few = omega arith; line = (omega arith, refl, (omega arith, refl, tt)) })
+kin_fits : (k : ℕ) (a : Resident) → kin_in k ≡ Some a → ResidentFits family 5 k a
+kin_fits zero a e = subst (ResidentFits family 5 0) (same_Some _ _ e) (record { used = omega arith; job = omega arith; few = omega arith; line = tt })
+kin_fits (suc zero) a e = subst (ResidentFits family 5 1) (same_Some _ _ e) (record { used = omega arith; job = omega arith; few = omega arith; line = (omega arith, refl, tt) })
+kin_fits (suc (suc zero)) a e = subst (ResidentFits family 5 2) (same_Some _ _ e) (record { used = omega arith; job = omega arith; few = omega arith; line = tt })
+kin_fits (suc (suc (suc zero))) a e = subst (ResidentFits family 5 3) (same_Some _ _ e) (record { used = omega arith; job = omega arith; few = omega arith; line = (omega arith, refl, (omega arith, refl, tt)) })
 kin_fits (suc (suc (suc (suc k)))) a e = absurd (none-some a e)
 
 shown : ShowsFamilies core_of example family

@@ -10,7 +10,7 @@ use Rattle.b67_stack.specs.Common.{stack_words, MachineView, slot_base, stack_of
 use Rattle.b67_stack.proofs.Bases.{base-apart}
 use Rattle.b67_overlay.specs.Turns.{Lies}
 use Rattle.b67_overlay.specs.declared.spans.Span.{Span}
-use Rattle.b67_overlay.specs.Spans.{Kin, Families, parent_field, kin_word, LineStands, KinFits, DictionariesLie, ShowsFamilies, job_at, holds, span_of_kin, up_from, whole}
+use Rattle.b67_overlay.specs.Spans.{Resident, Families, parent_field, kin_word, LineStands, ResidentFits, DictionariesLie, ShowsFamilies, job_at, holds, span_of_kin, up_from, whole_stack}
 
 -- fields of words
 pub entries_field : (n : ℕ) (w : Tagged) → n < 2 ^ 20 → Some w ≡ Some (word 0 n) → bits_at w 0 20 ≡ n
@@ -22,10 +22,10 @@ parent_bits j k hj hk = omega arith
 pub job_bits : (j k : ℕ) → j < 2 ^ 4 → k < 2 ^ 10 → (2 ^ 46 + k * 2 ^ 36 + j * 2 ^ 16) / 2 ^ 16 % 2 ^ 4 ≡ j
 job_bits j k hj hk = omega arith
 
-pub parent_is : (a : Kin) (w : Tagged) → a.job < 2 ^ 4 → parent_field a.parents < 2 ^ 10 → Some w ≡ Some (kin_word (Some a)) → bits_at w 36 10 ≡ parent_field a.parents
+pub parent_is : (a : Resident) (w : Tagged) → a.job < 2 ^ 4 → parent_field a.parents < 2 ^ 10 → Some w ≡ Some (kin_word (Some a)) → bits_at w 36 10 ≡ parent_field a.parents
 parent_is a w hj hk e = ap (λ (v : Tagged). bits_at v 36 10) (same_Some _ _ e) ∙ parent_bits a.job (parent_field a.parents) hj hk
 
-pub job_is : (a : Kin) (w : Tagged) → a.job < 2 ^ 4 → parent_field a.parents < 2 ^ 10 → Some w ≡ Some (kin_word (Some a)) → bits_at w 16 4 ≡ a.job
+pub job_is : (a : Resident) (w : Tagged) → a.job < 2 ^ 4 → parent_field a.parents < 2 ^ 10 → Some w ≡ Some (kin_word (Some a)) → bits_at w 16 4 ≡ a.job
 job_is a w hj hk e = ap (λ (v : Tagged). bits_at v 16 4) (same_Some _ _ e) ∙ job_bits a.job (parent_field a.parents) hj hk
 
 pub parent_low : (f : Families) (peak job : ℕ) (parents : List ℕ) → peak ≤ 120 → LineStands f peak job parents → parent_field parents < 2 ^ 10
@@ -33,11 +33,11 @@ parent_low f peak job [] few line = omega arith
 parent_low f peak job (slot ∷ more) few line = omega (arith, line.0)
 
 -- a word with a tag is that of a live task
-pub lives_here : (f : Families) (k : ℕ) (o : Option Kin) (w : Tagged) → w.tag ≢ 0 → Some w ≡ Some (kin_word o) → f.kin k ≡ o → (a : Kin) × (f.kin k ≡ Some a)
+pub lives_here : (f : Families) (k : ℕ) (o : Option Resident) (w : Tagged) → w.tag ≢ 0 → Some w ≡ Some (kin_word o) → f.kin k ≡ o → (a : Resident) × (f.kin k ≡ Some a)
 lives_here f k None w tag e is = absurd (tag (ap (λ (v : Tagged). v.tag) (same_Some _ _ e)))
 lives_here f k (Some a) w tag e is = (a, is)
 
-pub nobody_here : (f : Families) (p : MachineView) (original k : ℕ) (o : Option Kin) (w : Tagged) → w.tag ≡ 0 → Some w ≡ Some (kin_word o) → span_of_kin f p original k o ≡ None
+pub nobody_here : (f : Families) (p : MachineView) (original k : ℕ) (o : Option Resident) (w : Tagged) → w.tag ≡ 0 → Some w ≡ Some (kin_word o) → span_of_kin f p original k o ≡ None
 nobody_here f p original k None w tag e = refl
 nobody_here f p original k (Some a) w tag e = let z : ◌≡◌ {A = ℕ} 3 0 = sym (ap (λ (v : Tagged). v.tag) (same_Some _ _ e)) ∙ tag in absurd (omega arith)
 
@@ -84,8 +84,8 @@ pub not_held_over : (p : MachineView) (i k : ℕ) → slot_base p k + p.size ≤
 not_held_over p i k high = rw (le-ltb i (slot_base p k) (omega arith), le-ltb i (slot_base p k + p.size) high) refl
 
 -- the span of a live task by the tests
-module _ (f : Families) (p : MachineView) (original k : ℕ) (a : Kin) where
-  pub span_in_job : original < p.stacks → (job_at 160 f.entries 0 original ≡ a.job) → span_of_kin f p original k (Some a) ≡ Some (whole p k)
+module _ (f : Families) (p : MachineView) (original k : ℕ) (a : Resident) where
+  pub span_in_job : original < p.stacks → (job_at 160 f.entries 0 original ≡ a.job) → span_of_kin f p original k (Some a) ≡ Some (whole_stack p k)
   span_in_job low same = rw (lt-ltb original p.stacks low, eq-eqb (job_at 160 f.entries 0 original) a.job same) refl
 
   pub span_of_others : original < p.stacks → (job_at 160 f.entries 0 original ≢ a.job) → span_of_kin f p original k (Some a) ≡ None
@@ -94,14 +94,14 @@ module _ (f : Families) (p : MachineView) (original k : ℕ) (a : Kin) where
   pub span_in_own : p.stacks ≤ original → holds p original k ≡ true → span_of_kin f p original k (Some a) ≡ Some (up_from p k (original + 1))
   span_in_own high own = rw (le-ltb original p.stacks high, own) refl
 
-  pub span_in_parent : p.stacks ≤ original → holds p original k ≡ false → list_any (holds p original) a.parents ≡ true → span_of_kin f p original k (Some a) ≡ Some (whole p k)
+  pub span_in_parent : p.stacks ≤ original → holds p original k ≡ false → list_any (holds p original) a.parents ≡ true → span_of_kin f p original k (Some a) ≡ Some (whole_stack p k)
   span_in_parent high own some = rw (le-ltb original p.stacks high, own, some) refl
 
   pub span_nowhere : p.stacks ≤ original → holds p original k ≡ false → list_any (holds p original) a.parents ≡ false → span_of_kin f p original k (Some a) ≡ None
   span_nowhere high own some = rw (le-ltb original p.stacks high, own, some) refl
 
 -- where the walk over parents stands: at a slot, with those that are left above it
-pub record Walk (p : MachineView) (f : Families) (i : ℕ) (a : Kin) (child n : ℕ) : Type 0 where
+pub record Walk (p : MachineView) (f : Families) (i : ℕ) (a : Resident) (child n : ℕ) : Type 0 where
   pub parents : List ℕ
   pub kin : f.kin child ≡ Some (record { job = a.job; parents = parents })
   pub line : LineStands f p.peak a.job parents
@@ -109,18 +109,18 @@ pub record Walk (p : MachineView) (f : Families) (i : ℕ) (a : Kin) (child n : 
   pub used : child < p.peak
   pub any : list_any (holds p i) a.parents ≡ list_any (holds p i) parents
 
-pub walk_first : (p : MachineView) (f : Families) (i : ℕ) (a : Kin) (k child : ℕ) → KinFits f p.peak k a → f.kin k ≡ Some a → child ≡ k → Walk p f i a child 0
+pub walk_first : (p : MachineView) (f : Families) (i : ℕ) (a : Resident) (k child : ℕ) → ResidentFits f p.peak k a → f.kin k ≡ Some a → child ≡ k → Walk p f i a child 0
 walk_first p f i a k child fits e is = rw is (let w : Walk p f i a k 0 = record { parents = a.parents; kin = e; line = fits.line; few = omega (arith, fits.few); used = fits.used; any = refl } in w)
 
-module _ (core : List Tagged) (p : MachineView) (f : Families) (s : ShowsFamilies core p f) (i : ℕ) (a : Kin) (child n : ℕ) (w : Walk p f i a child n) where
+module _ (core : List Tagged) (p : MachineView) (f : Families) (s : ShowsFamilies core p f) (i : ℕ) (a : Resident) (child n : ℕ) (w : Walk p f i a child n) where
   parent_word : slice_get core (32 + child) ≡ Some (kin_word (Some (record { job = a.job; parents = w.parents })))
-  parent_word = s.vector child (omega (arith, w.used, s.few)) ∙ ap (λ (o : Option Kin). Some (kin_word o)) w.kin
+  parent_word = s.vector child (omega (arith, w.used, s.few)) ∙ ap (λ (o : Option Resident). Some (kin_word o)) w.kin
 
   parent_small : parent_field w.parents < 2 ^ 10
   parent_small = parent_low f p.peak a.job w.parents s.few w.line
 
   -- the parent that is read
-  pub parent_read : (parent : ℕ) → ((b : Kin) → b.job < 2 ^ 4 → parent_field b.parents < 2 ^ 10 → slice_get core (32 + child) ≡ Some (kin_word (Some b)) → parent ≡ parent_field b.parents) → a.job < 2 ^ 4 → parent ≡ parent_field w.parents
+  pub parent_read : (parent : ℕ) → ((b : Resident) → b.job < 2 ^ 4 → parent_field b.parents < 2 ^ 10 → slice_get core (32 + child) ≡ Some (kin_word (Some b)) → parent ≡ parent_field b.parents) → a.job < 2 ^ 4 → parent ≡ parent_field w.parents
   parent_read parent reads job = reads (record { job = a.job; parents = w.parents }) job parent_small parent_word
 
   pub walk_end : parent_field w.parents ≡ 1023 → false ≡ list_any (holds p i) a.parents
@@ -172,5 +172,5 @@ in_slot_under core r low p k i size l e under = sym (not_held_under p i k (omega
 pub over_here : (p : MachineView) (k base top from : ℕ) → base ≡ slot_base p k → top ≡ base + stack_words (stack_of (p.slots k)) → ◌≡◌ {A = Option Span} (Some (record { from = from; upto = top + 1 })) (Some (up_from p k from))
 over_here p k base top from b t = rw (t, b) refl
 
-pub whole_here : (p : MachineView) (k base top : ℕ) → base ≡ slot_base p k → top ≡ base + stack_words (stack_of (p.slots k)) → ◌≡◌ {A = Option Span} (Some (record { from = base + 1; upto = top + 1 })) (Some (whole p k))
+pub whole_here : (p : MachineView) (k base top : ℕ) → base ≡ slot_base p k → top ≡ base + stack_words (stack_of (p.slots k)) → ◌≡◌ {A = Option Span} (Some (record { from = base + 1; upto = top + 1 })) (Some (whole_stack p k))
 whole_here p k base top b t = rw (t, b) refl

@@ -19,7 +19,7 @@ use Rattle.b67_layout_storage.specs.Machine.{IsPresent}
 use Rattle.b67_stack.proofs.Helds.{held-other}
 use Rattle.b67_layout_storage.proofs.Words.{original_of_home}
 use Rattle.b67_stack.proofs.Unchanged.{area_of_object, home_below}
-use Rattle.b67_overlay.specs.Turns.{Turns, InStack, Searched, Lies, Hides}
+use Rattle.b67_overlay.specs.Turns.{MakesAbsent, InStack, Searched, Lies, Hides}
 use Rattle.b67_overlay.proofs.Turning.{lies_of, stack_low, stack_before}
 
 -- a place is in some stack, or in none
@@ -56,7 +56,7 @@ tag_is : (d : DataDesc) (v : Tagged) → v ≡ data_word d → v.tag ≡ 5
 tag_is d v e = ap (λ (w : Tagged). w.tag) e
 
 module _ (held : Locations) (area home : ℕ) (h : Location) (has : (held home).area ≡ Some area) (alone : (q : ℕ) → (held q).area ≡ Some area → q ≡ home) (small : home < 2 ^ 20) where
-  copy_turned : (v w : Tagged) → Turns area home v w → (c : Copied) (q : ℕ) → IsCopy held c q v → IsCopy (with_held held home h) c q w
+  copy_turned : (v w : Tagged) → MakesAbsent area home v w → (c : Copied) (q : ℕ) → IsCopy held c q v → IsCopy (with_held held home h) c q w
   copy_turned v w t c q k = by k.present k.fits k.is k.to where
     by : (b : Bool) → IsDataDesc (copy_desc c k.number b k.address) → v ≡ data_word (copy_desc c k.number b k.address) → MatchBool b ((held q).area ≡ Some k.address) (k.address ≡ q) → IsCopy (with_held held home h) c q w
     by false fits is to = record {
@@ -88,7 +88,7 @@ module _ (held : Locations) (area home : ℕ) (h : Location) (has : (held home).
         r)
         (cases_eq k.address area)
 
-  fits_turned : (v w : Tagged) → Turns area home v w → (a : Shape) (i : ℕ) → Fits held a i v → Fits (with_held held home h) a i w
+  fits_turned : (v w : Tagged) → MakesAbsent area home v w → (a : Shape) (i : ℕ) → Fits held a i v → Fits (with_held held home h) a i w
   fits_turned v w t (Is u) i f =
       let same : w ≡ v = t.others (λ d fd e s. f.1 (ap (λ (x : Tagged). x.tag) (sym f.0) ∙ tag_is d v e)) in
       (same ∙ f.0, f.1)
@@ -130,7 +130,7 @@ module _ (x : Storage) (core : List Tagged) (r : Regs) (p : MachineView) (s : Re
     each = λ k i a v hk there has get f.
         let z = q.turned k hk i there in
         let same : z.0 ≡ v = same_Some _ _ (sym z.2 ∙ get) in
-        let P : Tagged → Type 0 = λ u. Turns area t.home u z.1 in
+        let P : Tagged → Type 0 = λ u. MakesAbsent area t.home u z.1 in
         (z.1, z.3, fits_turned x.held area t.home h at.present alone (omega (arith, (home_below x core r p s t at.there).1, s.inside, s.directory.small)) v z.1 (subst P same z.4) a i f);
     homes = λ u inu. word-stays p p.peak area t.home core mid u.home (home_word u (x.held u.home)) q (s.objects u inu).home (no_copy u inu);
     bases = λ k hk. q.others (slot_base p k) (λ n hn there. ⊎_elim

@@ -9,7 +9,7 @@ use Rattle.b67_ctl.specs.declared.registers.Regs.{Regs}
 use Rattle.b67_stack.specs.Common.{stack_words, MachineView, stack_of, slot_base}
 use Rattle.b67_overlay.specs.declared.spans.Span.{Span}
 use Rattle.b67_overlay.specs.Turns.{TurnsAt, InStack, SpansTurned, Lies}
-use Rattle.b67_overlay.specs.Spans.{Kin, Families, DictionariesLie, ShowsFamilies, job_at, holds, span_of_kin, span_of, up_from, whole, InSpan}
+use Rattle.b67_overlay.specs.Spans.{Resident, Families, DictionariesLie, ShowsFamilies, job_at, holds, span_of_kin, span_of, up_from, whole_stack, InSpan}
 use Rattle.b67_overlay.proofs.Families.{dictionaries_up}
 use Rattle.b67_overlay.proofs.Turning.{stack_low, stack_before, Lies-turned}
 use Rattle.b67_overlay.proofs.Copies.{span_inside}
@@ -17,11 +17,11 @@ use Rattle.b67_overlay.proofs.Copies.{span_inside}
 pub spans_none : (p : MachineView) (f : Families) (area original : ℕ) (core : List Tagged) → SpansTurned p f 0 area original core core
 spans_none p f area original core = record { size = refl; turned = λ k h. absurd (omega arith); others = λ i out. refl }
 
-span_upto : (f : Families) (p : MachineView) (original k : ℕ) (o : Option Kin) (part : Span) → span_of_kin f p original k o ≡ Some part → part.upto ≡ slot_base p k + stack_words (stack_of (p.slots k)) + 1
+span_upto : (f : Families) (p : MachineView) (original k : ℕ) (o : Option Resident) (part : Span) → span_of_kin f p original k o ≡ Some part → part.upto ≡ slot_base p k + stack_words (stack_of (p.slots k)) + 1
 span_upto f p original k None part e = absurd (none-some part e)
 span_upto f p original k (Some a) part e = by (nat_lt original p.stacks) (job_at 160 f.entries 0 original == a.job) (holds p original k) (list_any (holds p original) a.parents) e where
   by : (low same own any : Bool)
-      → (if low then (if same then Some (whole p k) else None) else (if own then Some (up_from p k (original + 1)) else (if any then Some (whole p k) else None))) ≡ Some part
+      → (if low then (if same then Some (whole_stack p k) else None) else (if own then Some (up_from p k (original + 1)) else (if any then Some (whole_stack p k) else None))) ≡ Some part
       → part.upto ≡ slot_base p k + stack_words (stack_of (p.slots k)) + 1
   by true true own any e = ap (λ (z : Span). z.upto) (sym (same_Some _ _ e))
   by true false own any e = absurd (none-some part e)

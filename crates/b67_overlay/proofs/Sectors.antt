@@ -13,7 +13,7 @@ use Rattle.b67_backing.specs.Held.{sectors_for, SameBut, Stores}
 use Rattle.b67_backing.proofs.News.{chain_of-taken}
 use Rattle.b67_ctl.specs.declared.registers.Regs.{Regs}
 use Rattle.b67_lemmas.specs.Lists.{Has}
-use Rattle.b67_stack.specs.Common.{Locations, LieUpward, PagedObject, MachineView, words_of, Storage, Represents, Content, KeptChain, ObjectHasChain, HoldsIn, Told, StacksLie, info_of}
+use Rattle.b67_stack.specs.Common.{Locations, LieUpward, PagedObject, MachineView, object_words, Storage, Represents, Content, KeptChain, ObjectHasChain, HoldsIn, Told, StacksLie, info_of}
 use Rattle.b67_stack.proofs.Homes.{chain_small}
 use Rattle.b67_stack.proofs.Lies.{upward-take}
 use Rattle.b67_layout_storage.specs.Machine.{IsPresent, Says, content_after}
@@ -38,7 +38,7 @@ pub record About (x : Storage) (core : List Tagged) (area : ℕ) (t : PagedObjec
   pub few : length t.numbers < 2 ^ 16
   pub small : (x.held t.home).chain < 2 ^ 20
   pub inside : area + length t.numbers < length core
-  pub words : LieUpward core area (words_of t)
+  pub words : LieUpward core area (object_words t)
   pub keeps : KeptChain x t t.kind (x.held t.home).chain
 
 module _ (x : Storage) (core : List Tagged) (r : Regs) (p : MachineView) (s : Represents x core r p) (area : ℕ) (t : PagedObject) (at : IsPresent x p area t) where
@@ -154,17 +154,17 @@ module _ (x : Storage) (core : List Tagged) (r : Regs) (p : MachineView) (s : Re
         subst Q (held-back x.held t.home) (Represents-reheld x core core r p t (x.held t.home) x.spans x.shelf d at.there s re)
 
     numbers : List ℕ
-    numbers = map number (words_of t)
+    numbers = map number (object_words t)
 
-    module _ (f : (all : List (List ℕ)) → told ≡ Some all → (y : List (List ℕ)) × (new ≡ Some y) × Stores (sectors_out x.shelf kept n) (map number (words_of t)) all y) (room : kept ≡ 0 → sectors_for n ≤ length x.shelf.free) where
+    module _ (f : (all : List (List ℕ)) → told ≡ Some all → (y : List (List ℕ)) × (new ≡ Some y) × Stores (sectors_out x.shelf kept n) (map number (object_words t)) all y) (room : kept ≡ 0 → sectors_for n ≤ length x.shelf.free) where
       abbrev out : Storage
       out = record x { shelf = shelf_out x.shelf kept n; device = content_after x.device new }
 
       same : (all : List (List ℕ)) → told ≡ Some all → (y : List (List ℕ)) × (new ≡ Some y) × SameBut (sectors_out x.shelf kept n) all y
       same all e = let (y, is, st) = f all e in (y, is, st.same)
 
-      written : Told (content_after x.device new) (sectors_out x.shelf kept n) (map number (words_of t))
-      written = Told-stored (sectors_out x.shelf kept n) (map number (words_of t)) x.device told new says f
+      written : Told (content_after x.device new) (sectors_out x.shelf kept n) (map number (object_words t))
+      written = Told-stored (sectors_out x.shelf kept n) (map number (object_words t)) x.device told new says f
 
       -- in the chain that was kept
       out_kept : ObjectHasChain x t kept → IsOut x out p t (chain_out x.shelf kept)
@@ -173,7 +173,7 @@ module _ (x : Storage) (core : List Tagged) (r : Regs) (p : MachineView) (s : Re
           let ec : chain_out x.shelf kept ≡ kept = cond-false (kept == 0) _ _ q in
           let es : shelf_out x.shelf kept n ≡ x.shelf = cond-false (kept == 0) _ _ q in
           let eo : sectors_out x.shelf kept n ≡ chain_of kept x.shelf.chains = rw q refl in
-          let W : List ℕ → Type 0 = λ k. Told (content_after x.device new) k (map number (words_of t)) in
+          let W : List ℕ → Type 0 = λ k. Told (content_after x.device new) k (map number (object_words t)) in
           let y : Storage = record x { shelf = x.shelf; device = content_after x.device new } in
           let done : IsOut x y p t kept = record {
             holds = record { chain = record { some = h.some; small = h.small; sectors = h.sectors }; told = subst W eo written };
@@ -198,7 +198,7 @@ module _ (x : Storage) (core : List Tagged) (r : Regs) (p : MachineView) (s : Re
           let chain : chain_of f0 (taken m x.shelf).chains ≡ take m x.shelf.free = chain_of-taken m f0 f0 x.shelf some refl ∙ cond-true (f0 == f0) _ _ (eq-eqb f0 f0 refl) in
           let other : (g : ℕ) → f0 ≢ g → chain_of g (taken m x.shelf).chains ≡ chain_of g x.shelf.chains = λ g w. chain_of-taken m f0 g x.shelf some refl ∙ cond-false (f0 == g) _ _ (ne_eqb f0 g w) in
           let eo : sectors_out x.shelf kept n ≡ chain_of f0 (taken m x.shelf).chains = rw q refl in
-          let W : List ℕ → Type 0 = λ k. Told (content_after x.device new) k (map number (words_of t)) in
+          let W : List ℕ → Type 0 = λ k. Told (content_after x.device new) k (map number (object_words t)) in
           let own : (u : PagedObject) → Has p.objects u → u.home ≢ t.home → (x.held u.home).chain ≢ f0 = λ u inu w e. ⊎_elim
           (λ (z : (x.held u.home).chain ≡ 0). let b : ⊥ = omega (arith, ff.0, e, z) in b)
           (λ (h : ObjectHasChain x u (x.held u.home).chain). let b : ⊥ = omega (arith, h.sectors, ap (λ k. length (chain_of k x.shelf.chains)) e, ap length ff.2, sectors_some (length u.numbers) (s.slots.laid.lengths u inu).0) in b)

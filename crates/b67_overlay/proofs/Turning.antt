@@ -13,7 +13,7 @@ use Rattle.b67_stack.proofs.Bases.{base-apart}
 use Rattle.b67_stack.proofs.Tops.{level-small, mark_high}
 use Rattle.b67_stack.proofs.Reheld.{RepresentsSlots-same}
 use Rattle.b67_stack.proofs.Unchanged.{base_low}
-use Rattle.b67_overlay.specs.Turns.{Turns, TurnsAt, InStack, Lies}
+use Rattle.b67_overlay.specs.Turns.{MakesAbsent, TurnsAt, InStack, Lies}
 
 pub lies_of : (x : Storage) (core : List Tagged) (r : Regs) (p : MachineView) → Represents x core r p → Lies core r x.low p
 lies_of x core r p s = record { slots = s.slots; inside = s.inside; small = s.directory.small; base = base_low x core r p s }
@@ -41,7 +41,7 @@ stack_before core r low p k j l h kj i at = ⊎_elim
 
 module _ (area original : ℕ) where
   -- one more word is turned
-  pub turned-more : (old core : List Tagged) (from i : ℕ) (v w : Tagged) → length core ≡ length old → i < length core → slice_get core i ≡ Some v → Turns area original v w
+  pub turned-more : (old core : List Tagged) (from i : ℕ) (v w : Tagged) → length core ≡ length old → i < length core → slice_get core i ≡ Some v → MakesAbsent area original v w
       → ((j : ℕ) → from ≤ j → j < i → TurnsAt area original old core j) → ((j : ℕ) → (j < from) ⊎ (i ≤ j) → slice_get core j ≡ slice_get old j)
       → (j : ℕ) → from ≤ j → j < i + 1 → TurnsAt area original old (slice_set core i w) j
   turned-more old core from i v w size h get t done rest j low high = ⊎_elim

@@ -9,7 +9,7 @@ use Rattle.b67_backing.specs.Held.{sectors_for}
 use Rattle.b67_backing.specs.declared.SpaceFault.{SpaceFault}
 use Rattle.b67_backing.specs.declared.SpaceFault.TheVariants.{BackingFull}
 use Rattle.b67_stack.specs.declared.Cpu.{Cpu}
-use Rattle.b67_stack.specs.Common.{PagedObject, MachineView, Storage, Stayed}
+use Rattle.b67_stack.specs.Common.{PagedObject, MachineView, Storage, LowWordsStayed}
 use Rattle.b67_layout_storage.specs.Machine.{IsPresent}
 use Rattle.b67_overlay.specs.Spans.{MachineCanPage}
 use Rattle.b67_overlay.specs.Overlaid.{overlaid, retelling, IsShort}
@@ -53,7 +53,7 @@ pub record Overlays {D : Type 0} (tell : D → Option (List (List ℕ))) (x : St
     (result : Result (Unit {0}) SpaceFault) (old cpu : Cpu) (areas : Areas) (table table_new : Table) (before after : D) : Type 0 where
   pub stands : OnOk result (MachineCanPage (overlaid x t area (tell after)) cpu areas table_new (tell after) p)
   pub refused : OnErr result (MachineCanPage (retelling x (tell after)) cpu areas table_new (tell after) p)
-  pub outside : Stayed p old.core cpu.core
+  pub outside : LowWordsStayed p old.core cpu.core
   pub full : (wants free : ℕ) → (result ≡ Err (BackingFull wants free)) ↔ (IsShort x t × (wants ≡ sectors_for (length t.numbers)) × (free ≡ length x.shelf.free))
   pub clean : t.kind ≢ Array → IsOk result × (table_new ≡ table) × (after ≡ before)
 
@@ -61,7 +61,7 @@ pub record Overlays {D : Type 0} (tell : D → Option (List (List ℕ))) (x : St
 -- sectors
 pub record Claims (x : Storage) (p : MachineView) (upto : ℕ)
     (result : Result (Unit {0}) SpaceFault) (old cpu : Cpu) (areas : Areas) (table : Table) (told : Option (List (List ℕ))) : Type 0 where
-  pub outside : Stayed p old.core cpu.core
+  pub outside : LowWordsStayed p old.core cpu.core
   pub clear : OnOk result ((y : Storage) × EvictedBelow upto x y × ((at : ℕ) (a : Info) → area_at y.low y.spans at ≡ Some a → upto < at)
       × MachineCanPage y cpu areas table told p)
   pub refused : OnErr result ((y : Storage) × EvictedBelow upto x y × MachineCanPage y cpu areas table told p)

@@ -12,13 +12,13 @@ use Rattle.b67_layout_storage.specs.Machine.{Says}
 use Rattle.b67_overlay.specs.declared.spans.Span.{Span}
 
 -- a live task's job, and the slots of its parents from the nearest up
-pub record Kin : Type 0 where
+pub record Resident : Type 0 where
   pub job : ℕ
   pub parents : List ℕ
 
 -- who lives in each slot, and how many entries the dictionary of each job has, in the jobs' order
 pub record Families : Type 0 where
-  pub kin : ℕ → Option Kin
+  pub kin : ℕ → Option Resident
   pub entries : List ℕ
 
 -- the word of a slot in the stack vector: the parent's slot, FIRST_TASK for none, and the job; 0 if no task lives there
@@ -26,7 +26,7 @@ abbrev pub parent_field : List ℕ → ℕ
 parent_field [] = FIRST_TASK
 parent_field (slot ∷ more) = slot
 
-abbrev pub kin_word : Option Kin → Tagged
+abbrev pub kin_word : Option Resident → Tagged
 kin_word None = word 0 0
 kin_word (Some a) = word 3 (2 ^ 46 + parent_field a.parents * 2 ^ 36 + a.job * 2 ^ 16)
 
@@ -37,7 +37,7 @@ LineStands f peak job (slot ∷ more) =
     (slot < peak) × (f.kin slot ≡ Some (record { job = job; parents = more })) × LineStands f peak job more
 
 -- a live task has a slot that is in use, and fewer parents than there are slots
-pub record KinFits (f : Families) (peak k : ℕ) (a : Kin) : Type 0 where
+pub record ResidentFits (f : Families) (peak k : ℕ) (a : Resident) : Type 0 where
   pub used : k < peak
   pub job : a.job < 2 ^ 4
   pub few : length a.parents < SLOTS
@@ -53,7 +53,7 @@ DictionariesLie core stacks at (n ∷ more) =
 pub record ShowsFamilies (core : List Tagged) (p : MachineView) (f : Families) : Type 0 where
   pub few : p.peak ≤ SLOTS
   pub vector : (k : ℕ) → k < SLOTS → slice_get core (STACK_VECTOR + k) ≡ Some (kin_word (f.kin k))
-  pub kin : (k : ℕ) (a : Kin) → f.kin k ≡ Some a → KinFits f p.peak k a
+  pub kin : (k : ℕ) (a : Resident) → f.kin k ≡ Some a → ResidentFits f p.peak k a
   pub dictionaries : DictionariesLie core p.stacks FIRST_DICTIONARY f.entries
 
 -- how many dictionaries begin at or below an address: the number of the job in whose dictionary it lies
@@ -69,18 +69,18 @@ holds p i k = not (nat_lt i (slot_base p k)) && nat_lt i (slot_base p k + p.size
 abbrev pub up_from : MachineView → ℕ → ℕ → Span
 up_from p k from = record { from = from; upto = slot_base p k + stack_words (stack_of (p.slots k)) + 1 }
 
-abbrev pub whole : MachineView → ℕ → Span
-whole p k = up_from p k (slot_base p k + 1)
+abbrev pub whole_stack : MachineView → ℕ → Span
+whole_stack p k = up_from p k (slot_base p k + 1)
 
 -- the part of slot k's stack in which the copies of the array can be whose original is at an address. Of a dictionary's
 -- array: the whole stack of a task of that job. Of a stack's array: what lies over the original, and the whole stacks of
 -- the tasks under that one
-abbrev pub span_of_kin : Families → MachineView → ℕ → ℕ → Option Kin → Option Span
+abbrev pub span_of_kin : Families → MachineView → ℕ → ℕ → Option Resident → Option Span
 span_of_kin f p original k None = None
 span_of_kin f p original k (Some a) =
-    if nat_lt original p.stacks then (if job_at FIRST_DICTIONARY f.entries 0 original == a.job then Some (whole p k) else None)
+    if nat_lt original p.stacks then (if job_at FIRST_DICTIONARY f.entries 0 original == a.job then Some (whole_stack p k) else None)
     else (if holds p original k then Some (up_from p k (original + 1))
-    else (if list_any (holds p original) a.parents then Some (whole p k) else None))
+    else (if list_any (holds p original) a.parents then Some (whole_stack p k) else None))
 
 abbrev pub span_of : Families → MachineView → ℕ → ℕ → Option Span
 span_of f p original k = span_of_kin f p original k (f.kin k)

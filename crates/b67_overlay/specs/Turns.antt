@@ -6,19 +6,19 @@ use Rattle.b67_ctl.specs.declared.descriptors.DataDesc.{DataDesc}
 use Rattle.b67_ctl.specs.Descriptors.{data_word, IsDataDesc}
 use Rattle.b67_ctl.specs.declared.registers.Regs.{Regs}
 use Rattle.b67_lemmas.specs.Lists.{Has}
-use Rattle.b67_stack.specs.Common.{Location, Shape, Fits, stack_words, words, PagedObject, MachineView, slot_base, stack_of, Storage, RepresentsSlots, Stayed, with_held}
+use Rattle.b67_stack.specs.Common.{Location, Shape, Fits, stack_words, words, PagedObject, MachineView, slot_base, stack_of, Storage, RepresentsSlots, LowWordsStayed, with_held}
 use Rattle.b67_overlay.specs.Spans.{Families, span_of, InSpan}
 
-abbrev pub IsCopyOf : ℕ → DataDesc → Type 0
-IsCopyOf area d = (d.present ≡ true) × (d.copy ≡ true) × (d.address ≡ area)
+abbrev pub IsCopyOfArea : ℕ → DataDesc → Type 0
+IsCopyOfArea area d = (d.present ≡ true) × (d.copy ≡ true) × (d.address ≡ area)
 
 -- a present copy of the area is absent and has the original's address; any other word stays
-pub record Turns (area original : ℕ) (v w : Tagged) : Type 0 where
-  pub copies : (d : DataDesc) → IsDataDesc d → v ≡ data_word d → IsCopyOf area d → w ≡ data_word (record d { present = false; address = original })
-  pub others : ((d : DataDesc) → IsDataDesc d → v ≡ data_word d → IsCopyOf area d → ⊥) → w ≡ v
+pub record MakesAbsent (area original : ℕ) (v w : Tagged) : Type 0 where
+  pub copies : (d : DataDesc) → IsDataDesc d → v ≡ data_word d → IsCopyOfArea area d → w ≡ data_word (record d { present = false; address = original })
+  pub others : ((d : DataDesc) → IsDataDesc d → v ≡ data_word d → IsCopyOfArea area d → ⊥) → w ≡ v
 
 abbrev pub TurnsAt : ℕ → ℕ → List Tagged → List Tagged → ℕ → Type 0
-TurnsAt area original old new i = (v : Tagged) × (w : Tagged) × (slice_get old i ≡ Some v) × (slice_get new i ≡ Some w) × Turns area original v w
+TurnsAt area original old new i = (v : Tagged) × (w : Tagged) × (slice_get old i ≡ Some v) × (slice_get new i ≡ Some w) × MakesAbsent area original v w
 
 -- the address of a word of slot k's stack, up to its top; the base word isn't one
 abbrev pub InStack : MachineView → ℕ → ℕ → Type 0
@@ -52,4 +52,4 @@ pub record Hides (x : Storage) (core new : List Tagged) (p : MachineView) (t : P
   pub homes : (u : PagedObject) → Has p.objects u → slice_get new u.home ≡ slice_get core u.home
   pub bases : (k : ℕ) → k < p.peak → slice_get new (slot_base p k) ≡ slice_get core (slot_base p k)
   pub outside : (i : ℕ) → (x.low ≤ i) ⊎ (i < FIRST_DICTIONARY) → slice_get new i ≡ slice_get core i
-  pub below : Stayed p core new
+  pub below : LowWordsStayed p core new

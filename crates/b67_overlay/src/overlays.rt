@@ -9,7 +9,7 @@ ghost use Rattle.b67_io.specs.Causes.{Rose};
 ghost use Rattle.b67_stack.specs.Shapes.{Location};
 ghost use Rattle.b67_stack.specs.MachineView.{PagedObject, MachineView, home_desc, home_word_of};
 ghost use Rattle.b67_stack.specs.Represents.{Storage, Represents, info_of};
-ghost use Rattle.b67_stack.specs.HeldOtherwise.{Stayed};
+ghost use Rattle.b67_stack.specs.HeldOtherwise.{LowWordsStayed};
 ghost use Rattle.b67_layout_storage.specs.Machine.{IsPresent, DeviceAfterCalls, PagingKeeps};
 ghost use Rattle.b67_overlay.specs.Turns.{Hides};
 ghost use Rattle.b67_overlay.specs.Overlaid.{overlaid, dropped, IsOut};
@@ -65,7 +65,7 @@ fn give_back(cpu: &mut Cpu, areas: &mut Areas, area: u32, info: Info, first: u32
     ensures stands { (x y : Storage) (p : MachineView) (t : PagedObject) → Represents x cpu.old.core cpu.old.regs p → CopiesLie cpu.old.core p → areas.old.low ≡ x.low → IsPresent x p area t → info ≡ info_of x t
         → IsOut x y p t first → Represents (dropped x y t area first) cpu.new.core cpu.new.regs p }
     ensures outside { (x : Storage) (p : MachineView) (t : PagedObject) → Represents x cpu.old.core cpu.old.regs p → CopiesLie cpu.old.core p → areas.old.low ≡ x.low → IsPresent x p area t → info ≡ info_of x t
-        → Stayed p cpu.old.core cpu.new.core }
+        → LowWordsStayed p cpu.old.core cpu.new.core }
 {
     hide_copies(cpu, area, info);
     cpu.core.set(info.owner, absent_word(info, first));
@@ -81,7 +81,7 @@ pub fn discard(cpu: &mut Cpu, areas: &mut Areas, area: u32)
     ensures stands { (x : Storage) (table : Table) (told : Option (List (List ℕ))) (p : MachineView) (t : PagedObject) → MachineCanPage x cpu.old areas.old table told p
         → IsPresent x p area t → t.kind ≢ Array → MachineCanPage (overlaid x t area told) cpu.new areas.new table told p }
     ensures outside { (x : Storage) (p : MachineView) (t : PagedObject) → Represents x cpu.old.core cpu.old.regs p → CopiesLie cpu.old.core p → areas.old.low ≡ x.low → IsPresent x p area t
-        → Stayed p cpu.old.core cpu.new.core }
+        → LowWordsStayed p cpu.old.core cpu.new.core }
 {
     let info = areas.info(&cpu.core, area);
     give_back(cpu, areas, area, info, info.kept);

@@ -5,7 +5,7 @@ ghost use Rattle.b67_stack.specs.Stacks.{stack_words};
 ghost use Rattle.b67_stack.specs.MachineView.{PagedObject, MachineView, slot_base, stack_of};
 ghost use Rattle.b67_stack.specs.Represents.{Storage, Represents};
 ghost use Rattle.b67_layout_storage.specs.Machine.{IsPresent};
-ghost use Rattle.b67_overlay.specs.Turns.{Turns, TurnsAt, Searched, SpansTurned, Lies};
+ghost use Rattle.b67_overlay.specs.Turns.{MakesAbsent, TurnsAt, Searched, SpansTurned, Lies};
 ghost use Rattle.b67_overlay.specs.Spans.{Families, ShowsFamilies, InSpan, CopiesLie};
 
 use crate::spans::{Span, span_in};
@@ -14,10 +14,10 @@ use b67_ctl::{DataDesc, Regs, Toscw};
 use b67_stack::Cpu;
 use b67_word::Word;
 
-/// The word; absent, with the original's address, if it is a present copy of the area.
-fn turned(w: Word, area: u32, original: u32) -> Word
+/// A present copy of the area becomes absent, with the original's address; any other word stays.
+fn made_absent(w: Word, area: u32, original: u32) -> Word
     requires { original < 2 ^ 20 }
-    ensures { Turns area original w result }
+    ensures { MakesAbsent area original w result }
 {
     if w.tag() != 5 || DataDesc::is_original(w) {
         return w;
@@ -53,7 +53,7 @@ fn turn_part(core: &mut Core, from: u32, upto: u32, area: u32, original: u32)
 {
     for i in from..upto {
         let w = core.get(i);
-        core.set(i, turned(w, area, original));
+        core.set(i, made_absent(w, area, original));
     }
 }
 

@@ -5,7 +5,7 @@ ghost use Rattle.std.specs.List.{list_any};
 ghost use Rattle.b67_word.specs.Tagged.{Tagged, word};
 ghost use Rattle.b67_stack.specs.MachineView.{MachineView};
 ghost use Rattle.b67_overlay.specs.Turns.{Lies};
-ghost use Rattle.b67_overlay.specs.Spans.{Kin, Families, ShowsFamilies, parent_field, kin_word, job_at, holds, span_of_kin, span_of};
+ghost use Rattle.b67_overlay.specs.Spans.{Resident, Families, ShowsFamilies, parent_field, kin_word, job_at, holds, span_of_kin, span_of};
 
 use crate::search::stack_top;
 use b67_core::Core;
@@ -63,15 +63,15 @@ fn parent_of(core: &Core, slot: u32) -> u32
     requires inside { STACK_VECTOR + slot < length core.now }
     requires small { length core.now < 2 ^ 20 }
     ensures small { result < 2 ^ 10 }
-    ensures value { (a : Kin) → a.job < 2 ^ 4 → parent_field a.parents < 2 ^ 10 → slice_get core.now (STACK_VECTOR + slot) ≡ Some (kin_word (Some a)) → result ≡ parent_field a.parents }
+    ensures value { (a : Resident) → a.job < 2 ^ 4 → parent_field a.parents < 2 ^ 10 → slice_get core.now (STACK_VECTOR + slot) ≡ Some (kin_word (Some a)) → result ≡ parent_field a.parents }
 {
     u32::from(VectorWord::read(core.get(STACK_VECTOR + slot)).parent)
 }
 
 /// Whether an address is in the slot of a parent of the task of a slot, at any remove.
 fn is_in_parent(core: &Core, regs: &Regs, slot: u8, address: u32) -> bool
-    requires { (low : ℕ) × (p : MachineView) × (f : Families) × (a : Kin) × Lies core.now regs.now low p × ShowsFamilies core.now p f × (f.kin slot ≡ Some a) }
-    ensures { (low : ℕ) (p : MachineView) (f : Families) (a : Kin) → Lies core.now regs.now low p → ShowsFamilies core.now p f → f.kin slot ≡ Some a
+    requires { (low : ℕ) × (p : MachineView) × (f : Families) × (a : Resident) × Lies core.now regs.now low p × ShowsFamilies core.now p f × (f.kin slot ≡ Some a) }
+    ensures { (low : ℕ) (p : MachineView) (f : Families) (a : Resident) → Lies core.now regs.now low p → ShowsFamilies core.now p f → f.kin slot ≡ Some a
         → result ≡ list_any (holds p address) a.parents }
 {
     let mut child = u32::from(slot);
@@ -90,8 +90,8 @@ fn is_in_parent(core: &Core, regs: &Regs, slot: u8, address: u32) -> bool
 
 /// The part of a live task's stack in which the copies of the array of an original can be.
 fn span_of_task(core: &Core, regs: &Regs, original: u32, slot: u8) -> Option<Span>
-    requires { (low : ℕ) × (p : MachineView) × (f : Families) × (a : Kin) × Lies core.now regs.now low p × ShowsFamilies core.now p f × (original < low) × (f.kin slot ≡ Some a) }
-    ensures { (low : ℕ) (p : MachineView) (f : Families) (a : Kin) → Lies core.now regs.now low p → ShowsFamilies core.now p f → f.kin slot ≡ Some a
+    requires { (low : ℕ) × (p : MachineView) × (f : Families) × (a : Resident) × Lies core.now regs.now low p × ShowsFamilies core.now p f × (original < low) × (f.kin slot ≡ Some a) }
+    ensures { (low : ℕ) (p : MachineView) (f : Families) (a : Resident) → Lies core.now regs.now low p → ShowsFamilies core.now p f → f.kin slot ≡ Some a
         → result ≡ span_of_kin f p original slot (Some a) }
 {
     let base = regs.stacks + u32::from(slot) * u32::from(regs.stack_size);

@@ -6,7 +6,7 @@ use Rattle.b67_backing.specs.Shelf.{Table}
 use Rattle.b67_ctl.specs.declared.registers.Regs.{Regs}
 use Rattle.b67_model.specs.Schedule.{Session}
 use Rattle.b67_stack.specs.declared.Cpu.{Cpu}
-use Rattle.b67_stack.specs.Common.{MachineView, NoOriginalAboveTop, Storage, Represents, Stayed}
+use Rattle.b67_stack.specs.Common.{MachineView, NoOriginalAboveTop, Storage, Represents, LowWordsStayed}
 use Rattle.b67_layout_storage.specs.Machine.{Says, content_after}
 use Rattle.b67_overlay.specs.Spans.{MachineCanPage}
 use Rattle.b67_layout_storage.proofs.Devices.{says_of}
@@ -48,7 +48,7 @@ abbrev pub machine_of : Cpu → Areas → Table → Tasks → Machine
 machine_of cpu areas table tasks = record { cpu = cpu; areas = areas; sectors = table; tasks = tasks }
 
 module _ (x y : Storage) (told now : Option (List (List ℕ))) (k : Machine) (plan : Placement) (s : Session) (h : StandsOver x told k plan s) (cpu : Cpu) (areas : Areas) (table : Table)
-    (rest : cpu ≡ record k.cpu { core = cpu.core }) (len : length cpu.core ≡ length k.cpu.core) (same_areas : areas ≡ k.areas) (stayed : Stayed (machine_view plan s.jobs) k.cpu.core cpu.core)
+    (rest : cpu ≡ record k.cpu { core = cpu.core }) (len : length cpu.core ≡ length k.cpu.core) (same_areas : areas ≡ k.areas) (stayed : LowWordsStayed (machine_view plan s.jobs) k.cpu.core cpu.core)
     (q : MachineView) (sees : Sees x plan s.jobs q) (m : MachineCanPage y cpu areas table now q) (untold : x.device ≡ None → y.device ≡ None) (tells : x.device ≢ None → y.device ≢ None) where
   regs : cpu.regs ≡ k.cpu.regs
   regs = ap (λ (c : Cpu). c.regs) rest

@@ -8,11 +8,11 @@ use Rattle.b67_model.specs.Common.{Task, SessionJob, Session}
 use Rattle.b67_layout.specs.Common.{IsInOrderButCounts, Placement, objects_of, array_object, machine_view, IsRunning}
 use Rattle.b67_stack.specs.declared.Cpu.{Cpu}
 use Rattle.b67_stack.specs.declared.What.TheVariants as what
-use Rattle.b67_stack.specs.Common.{Location, PagedObject, Storage, Stayed}
+use Rattle.b67_stack.specs.Common.{Location, PagedObject, Storage, LowWordsStayed}
 use Rattle.b67_overlay.specs.Spans.{MachineCanPage}
 use Rattle.b67_stack.proofs.Helds.{held-same}
 use Rattle.b67_presence_page.specs.Brought.{brought}
-use Rattle.b67_presence_page.specs.Brings.{ReadIn, PlacedAfterEviction, Waits, BothIn, MayWait}
+use Rattle.b67_presence_page.specs.Brings.{ReadIn, PlacedAfterEviction, StandsEvicted, BothIn, MayWait}
 use Rattle.b67_task_tables.specs.declared.tables.Machine.{Machine}
 use Rattle.b67_presence.specs.Bringing.{StandsOver, StandsAgain, Brings, IsArrayWanted}
 use Rattle.b67_presence.proofs.Seen.{Sees, sees_none, sees_read, sees_both, fitting, object_bits}
@@ -20,8 +20,8 @@ use Rattle.b67_presence.proofs.Again.{machine_of, again}
 use Rattle.b67_presence.proofs.Wants.{code_found, array_absent}
 
 module _ (x : Storage) (told now : Option (List (List ℕ))) (k : Machine) (plan : Placement) (s : Session) (o : IsInOrderButCounts s) (h : StandsOver x told k plan s) (cpu : Cpu) (areas : Areas) (table : Table)
-    (rest : cpu ≡ record k.cpu { core = cpu.core }) (len : length cpu.core ≡ length k.cpu.core) (same_areas : areas ≡ k.areas) (stayed : Stayed (machine_view plan s.jobs) k.cpu.core cpu.core) where
-  pub waits_again : (spare : ℕ) (w : Waits x (machine_view plan s.jobs) spare cpu areas table now) → (a : StandsAgain x now (machine_of cpu areas table k.tasks) plan s) × (a.storage ≡ w.storage) × (a.jobs ≡ s.jobs)
+    (rest : cpu ≡ record k.cpu { core = cpu.core }) (len : length cpu.core ≡ length k.cpu.core) (same_areas : areas ≡ k.areas) (stayed : LowWordsStayed (machine_view plan s.jobs) k.cpu.core cpu.core) where
+  pub waits_again : (spare : ℕ) (w : StandsEvicted x (machine_view plan s.jobs) spare cpu areas table now) → (a : StandsAgain x now (machine_of cpu areas table k.tasks) plan s) × (a.storage ≡ w.storage) × (a.jobs ≡ s.jobs)
   waits_again spare w = again x w.storage told now k plan s h cpu areas table rest len same_areas stayed (machine_view plan s.jobs) (sees_none x plan s o) w.stands w.sheds.untold w.sheds.told
 
   pub stays_again : MachineCanPage x cpu areas table now (machine_view plan s.jobs) → (a : StandsAgain x now (machine_of cpu areas table k.tasks) plan s) × (a.storage ≡ x)

@@ -9,7 +9,7 @@ use Rattle.b67_layout.specs.Common.{IsInOrderButCounts, Placement, array_object,
 use Rattle.b67_stack.specs.declared.Cpu.{Cpu}
 use Rattle.b67_stack.specs.declared.What.{What}
 use Rattle.b67_stack.specs.declared.What.TheVariants as what
-use Rattle.b67_stack.specs.Common.{Location, PagedObject, Storage, Stayed}
+use Rattle.b67_stack.specs.Common.{Location, PagedObject, Storage, LowWordsStayed}
 use Rattle.b67_layout_storage.specs.Machine.{IsAbsent, HasHole}
 use Rattle.b67_overlay.specs.Spans.{MachineCanPage}
 use Rattle.b67_stack.proofs.Helds.{held-same, held-other}
@@ -18,9 +18,9 @@ use Rattle.b67_overlay.specs.AreasEvicted.{AreasEvicted, IsShortBy}
 use Rattle.b67_overlay.proofs.Shedding.{AreasEvicted-none}
 use Rattle.b67_exec_cells.specs.Running.{code_area}
 use Rattle.b67_presence_page.specs.Brought.{brought}
-use Rattle.b67_presence_page.specs.Brings.{IsReadable, ReadIn, Waits, MayWait, IsCode}
+use Rattle.b67_presence_page.specs.Brings.{IsReadable, ReadIn, StandsEvicted, MayWait, IsCode}
 use Rattle.b67_task_tables.specs.declared.tables.Machine.{Machine}
-use Rattle.b67_presence.specs.Bringing.{StandsOver, IsArrayWanted, IsWanted, Lacks, Refused, HasNoRoom, RefusedFull, IsShortOf, AreasStay, StaysIn, BringsInPlace, IsUntouched, words_wanted}
+use Rattle.b67_presence.specs.Bringing.{StandsOver, IsArrayWanted, IsWanted, Lacks, StillLacks, HasNoRoom, RefusedFull, IsShortOf, AreasStay, StaysIn, BringsInPlace, IsUntouched, words_wanted}
 use Rattle.b67_presence.proofs.Again.{machine_of, view_stands}
 use Rattle.b67_presence.proofs.Ends.{waits_again, may_again, read_again, stays_again}
 use Rattle.b67_task_need.proofs.Shortage.{short_of}
@@ -40,9 +40,9 @@ array_lacks x y plan m t home words spare w s =
     inr (ap (λ (h : Location). h.area) (s.resting home none) ∙ none)
 
 module _ (x : Storage) (told now : Option (List (List ℕ))) (k : Machine) (plan : Placement) (s : Session) (o : IsInOrderButCounts s) (h : StandsOver x told k plan s) (cpu : Cpu) (areas : Areas) (table : Table)
-    (rest : cpu ≡ record k.cpu { core = cpu.core }) (len : length cpu.core ≡ length k.cpu.core) (same_areas : areas ≡ k.areas) (stayed : Stayed (machine_view plan s.jobs) k.cpu.core cpu.core) where
-  module _ (m : SessionJob) (t : Task) (absent : What) (spare : ℕ) (w : Waits x (machine_view plan s.jobs) spare cpu areas table now) (lacks : (y : Storage) → AreasEvicted x y spare → Lacks y absent plan m t) where
-    pub refused_waits : Refused x now (machine_of cpu areas table k.tasks) plan s m t absent
+    (rest : cpu ≡ record k.cpu { core = cpu.core }) (len : length cpu.core ≡ length k.cpu.core) (same_areas : areas ≡ k.areas) (stayed : LowWordsStayed (machine_view plan s.jobs) k.cpu.core cpu.core) where
+  module _ (m : SessionJob) (t : Task) (absent : What) (spare : ℕ) (w : StandsEvicted x (machine_view plan s.jobs) spare cpu areas table now) (lacks : (y : Storage) → AreasEvicted x y spare → Lacks y absent plan m t) where
+    pub refused_waits : StillLacks x now (machine_of cpu areas table k.tasks) plan s m t absent
     refused_waits =
         let a = waits_again x told now k plan s o h cpu areas table rest len same_areas stayed spare w in
         let L : Storage → Type 0 = λ y. Lacks y absent plan m t in
@@ -62,7 +62,7 @@ module _ (x : Storage) (told now : Option (List (List ℕ))) (k : Machine) (plan
         }
 
   pub refused_array : (m : SessionJob) (t : Task) (runs : IsRunning plan s.jobs m t) (home words : ℕ) (w : IsArrayWanted x plan m t home words)
-      → MayWait x (machine_view plan s.jobs) (array_object plan m.constants.number w.array) (code_found plan s m t o runs).object cpu areas table now → Refused x now (machine_of cpu areas table k.tasks) plan s m t (what.Array home)
+      → MayWait x (machine_view plan s.jobs) (array_object plan m.constants.number w.array) (code_found plan s m t o runs).object cpu areas table now → StillLacks x now (machine_of cpu areas table k.tasks) plan s m t (what.Array home)
   refused_array m t runs home words w b =
       let c = code_found plan s m t o runs in
       let absent = array_absent x told k plan s m t o h runs home words w in
@@ -157,7 +157,7 @@ wanted_lacks x y plan m t (what.Code d) words w s = code_lacks x y plan m t d 0 
 wanted_lacks x y plan m t (what.Array home) words w s = array_lacks x y plan m t home words 0 w s
 
 module _ (x : Storage) (told : Option (List (List ℕ))) (k : Machine) (plan : Placement) (s : Session) (o : IsInOrderButCounts s) (h : StandsOver x told k plan s) where
-  pub refused_still : (m : SessionJob) (t : Task) (absent : What) (words : ℕ) → IsWanted x plan m t absent words → Refused x told k plan s m t absent
+  pub refused_still : (m : SessionJob) (t : Task) (absent : What) (words : ℕ) → IsWanted x plan m t absent words → StillLacks x told k plan s m t absent
   refused_still m t absent words wanted =
       refused_waits x told told k plan s o h k.cpu k.areas k.sectors refl refl refl (Stayed-none (machine_view plan s.jobs) k.cpu.core) m t absent 0
       (record { storage = x; sheds = AreasEvicted-none x 0; stands = view_stands x told k plan s o h }) (λ y sheds. wanted_lacks x y plan m t absent words wanted sheds)
@@ -170,8 +170,8 @@ module _ (x : Storage) (told : Option (List (List ℕ))) (k : Machine) (plan : P
       record { again = a.0; areas = subst A (sym a.1) all }
 
 -- by the variant of what is wanted
-pub refused_as : (x : Storage) (told : Option (List (List ℕ))) (k : Machine) (plan : Placement) (s : Session) (m : SessionJob) (t : Task) (absent other : What) → absent ≡ other → Refused x told k plan s m t other → Refused x told k plan s m t absent
-refused_as x told k plan s m t absent other e b = subst (λ (z : What). Refused x told k plan s m t z) (sym e) b
+pub refused_as : (x : Storage) (told : Option (List (List ℕ))) (k : Machine) (plan : Placement) (s : Session) (m : SessionJob) (t : Task) (absent other : What) → absent ≡ other → StillLacks x told k plan s m t other → StillLacks x told k plan s m t absent
+refused_as x told k plan s m t absent other e b = subst (λ (z : What). StillLacks x told k plan s m t z) (sym e) b
 
 pub full_as : (x : Storage) (told : Option (List (List ℕ))) (k : Machine) (plan : Placement) (s : Session) (m : SessionJob) (t : Task) (absent other : What) (words words' wants free : ℕ) → absent ≡ other → words ≡ words' → RefusedFull x told k plan s m t other words' wants free → RefusedFull x told k plan s m t absent words wants free
 full_as x told k plan s m t absent other words words' wants free e same b =

@@ -78,7 +78,7 @@ Lacks x (what.Code displacement) plan m t = code_area x plan m t ≡ None
 Lacks x (what.Array home) plan m t = (code_area x plan m t ≡ None) ⊎ ((x.held home).area ≡ None)
 
 -- the machine stands for the session again, and in it the running segment or what was wanted is absent
-pub record Refused (x : Storage) (told : Option (List (List ℕ))) (k : Machine) (plan : Placement) (s : Session) (m : SessionJob) (t : Task) (absent : What) : Type 0 where
+pub record StillLacks (x : Storage) (told : Option (List (List ℕ))) (k : Machine) (plan : Placement) (s : Session) (m : SessionJob) (t : Task) (absent : What) : Type 0 where
   pub again : StandsAgain x told k plan s
   pub lacks : Lacks again.storage absent plan m t
 
@@ -95,7 +95,7 @@ HasNoRoom x (what.Array home) words plan m t = (code_area x plan m t ≢ None) �
 -- the machine that a want of sectors leaves: it stands for the session, no hole has room for what is wanted, and it is short
 -- of sectors by these numbers
 pub record RefusedFull (x : Storage) (told : Option (List (List ℕ))) (k : Machine) (plan : Placement) (s : Session) (m : SessionJob) (t : Task) (absent : What) (words wants free : ℕ) : Type 0 where
-  pub refused : Refused x told k plan s m t absent
+  pub refused : StillLacks x told k plan s m t absent
   pub no_room : HasNoRoom refused.again.storage absent words plan m t
   pub short : IsShortOf refused.again.storage plan refused.again.jobs wants free
 
@@ -124,7 +124,7 @@ IsUntouched x (what.Array home) = (x.held home).chain ≡ 0
 pub record BringMeets {D : Type 0} (tell : D → Option (List (List ℕ))) (many : ℕ) (x : Storage) (plan : Placement) (s : Session) (m : SessionJob) (t : Task) (absent : What) (words : ℕ)
     (result : Result (Unit {0}) SpaceFault) (old new : Machine) (before after : D) : Type 0 where
   pub came : OnOk result (Brings x (tell after) new plan s m t absent)
-  pub refused : OnErr result (Refused x (tell after) new plan s m t absent)
+  pub refused : OnErr result (StillLacks x (tell after) new plan s m t absent)
   pub hole : HasHole (words_wanted m t absent words) x.spans → (new.sectors ≡ old.sectors) × Becomes tell before after (λ all. all) × StaysIn x (tell after) new plan s
       × OnOk result (BringsInPlace x (tell after) new plan s m t absent)
   pub zeros : HasHole (words_wanted m t absent words) x.spans → IsUntouched x absent → IsOk result × (after ≡ before)

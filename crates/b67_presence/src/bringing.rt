@@ -13,7 +13,7 @@ ghost use Rattle.b67_backing.specs.declared.SpaceFault.TheVariants.{NoCore, Back
 ghost use Rattle.b67_presence.specs.Bringing.{StandsOver, WantsSome, IsWanted, BringMeets};
 
 use b67_backing::{Backing, SpaceFault};
-use b67_presence_page::{Resting, bring_code, bring_data};
+use b67_presence_page::{AbsentObject, bring_code, bring_data};
 use b67_stack::What;
 use b67_task_need::need;
 use b67_task_tables::Machine;
@@ -27,7 +27,7 @@ fn words_of(machine: &Machine, absent: What) -> u32
 {
     match absent {
         What::Code(_) => 0,
-        What::Array(original) => Resting::at(&machine.cpu.core, original).words,
+        What::Array(original) => AbsentObject::at(&machine.cpu.core, original).words,
     }
 }
 

@@ -11,14 +11,14 @@ use Rattle.b67_backing.proofs.Fills.{Fills-holds}
 use Rattle.b67_backing.specs.Shelf.{Shelf, Table, HasChain, chain_of}
 use Rattle.b67_backing.specs.Held.{sectors_for, under, Holds}
 use Rattle.b67_stack.specs.declared.Cpu.{Cpu}
-use Rattle.b67_stack.specs.Common.{LieUpward, PagedObject, MachineView, words_of, tag_of, AreZero, Storage, Content, AbsentContent, HoldsIn, Told}
+use Rattle.b67_stack.specs.Common.{LieUpward, PagedObject, MachineView, object_words, tag_of, AreZero, Storage, Content, AbsentContent, HoldsIn, Told}
 use Rattle.b67_layout_storage.specs.Machine.{Says, IsAbsent, AreBits}
 use Rattle.b67_overlay.specs.Spans.{MachineCanPage}
-use Rattle.b67_presence_page.specs.declared.paging.Resting.{Resting}
-use Rattle.b67_presence_page.specs.Brought.{resting, IsKnown, ReadFromChain}
+use Rattle.b67_presence_page.specs.declared.paging.AbsentObject.{AbsentObject}
+use Rattle.b67_presence_page.specs.Brought.{resting, NumbersAreKnown, ReadFromChain}
 
 -- what the words of an area are after they came in
-pub record Loaded (told : Option (List (List ℕ))) (table : Table) (at : ℕ) (object : Resting) (new : List Tagged) : Type 0 where
+pub record Loaded (told : Option (List (List ℕ))) (table : Table) (at : ℕ) (object : AbsentObject) (new : List Tagged) : Type 0 where
   pub reads : object.first ≢ 0 → ReadFromChain told table object.first at object.words (tag_of object.kind) new
   pub zeros : object.first ≡ 0 → (i : ℕ) → at ≤ i → i < at + object.words → slice_get new i ≡ Some (word 0 0)
   pub tags : object.first ≢ 0 → (i : ℕ) → i < object.words → (w : Tagged) × (slice_get new (at + i) ≡ Some w) × (w.tag ≡ tag_of object.kind)
@@ -78,18 +78,18 @@ module _ (x : Storage) (cpu : Cpu) (areas : Areas) (table : Table) (told : Optio
   chain_at = ⊎_elim (λ (h : HoldsIn x t first). inr (x.shelf, has_chain h)) (λ (z : (first ≡ 0) × (t.kind ≡ Array) × AreZero t.numbers). inl z.0) rests
 
   module _ (at : ℕ) (new : List Tagged) (l : Loaded told table at (resting x t) new) where
-    untouched : (first ≡ 0) × (t.kind ≡ Array) × AreZero t.numbers → LieUpward new at (words_of t)
+    untouched : (first ≡ 0) × (t.kind ≡ Array) × AreZero t.numbers → LieUpward new at (object_words t)
     untouched z =
         let P : Kind → Type 0 = λ k. LieUpward new at (map (word (tag_of k)) t.numbers) in
         subst P (sym z.1) (zeros_up new at t.numbers z.2 (l.zeros z.0))
 
-    pub known_words : IsKnown x t → LieUpward new at (words_of t)
+    pub known_words : NumbersAreKnown x t → LieUpward new at (object_words t)
     known_words k = ⊎_elim
         (λ (h : HoldsIn x t first). ⊎_elim
         (λ (z : first ≡ 0). absurd (omega (arith, h.chain.some)))
         (λ (q : (x.device ≢ None) × AreBits t.numbers).
-        let numbers = map number (words_of t) in
-        let count : length numbers ≡ length t.numbers = length-map (words_of t) number ∙ length-map t.numbers (word (tag_of t.kind)) in
+        let numbers = map number (object_words t) in
+        let count : length numbers ≡ length t.numbers = length-map (object_words t) number ∙ length-map t.numbers (word (tag_of t.kind)) in
         let w = what_is_told x.device told (chain_of first x.shelf.chains) numbers m.device q.0 h.told in
         told_up new at (tag_of t.kind) t.numbers q.1 (l.reads (λ z. omega (arith, h.chain.some)) x.shelf (has_chain h) w.0 w.1 numbers count w.2))
         k)

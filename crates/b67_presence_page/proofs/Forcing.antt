@@ -13,7 +13,7 @@ use Rattle.b67_overlay.specs.Spans.{MachineCanPage}
 use Rattle.b67_stack.proofs.Helds.{held-same, held-other}
 use Rattle.b67_overlay.specs.AreasEvicted.{AreasEvicted}
 use Rattle.b67_presence_page.specs.Brought.{brought}
-use Rattle.b67_presence_page.specs.Brings.{PlacedAfterEviction, Waits, IsCode, BothIn, MayWait, IsAlone}
+use Rattle.b67_presence_page.specs.Brings.{PlacedAfterEviction, StandsEvicted, IsCode, BothIn, MayWait, IsAlone}
 use Rattle.b67_presence_page.proofs.Rooms.{one_hole, first_room}
 use Rattle.b67_presence_page.proofs.Resort.{Reads-none, there_after, differ}
 
@@ -50,7 +50,7 @@ both_came x cpu areas table told p home code spare t c m a k new after table' no
     }
 
 -- areas were given back, and the object didn't come in
-pub may_wait : (x : Storage) (p : MachineView) (home spare : ℕ) (t c : PagedObject) → IsAbsent x p home t → (new : Cpu) (after : Areas) (table' : Table) (now : Option (List (List ℕ))) → Waits x p spare new after table' now → MayWait x p t c new after table' now
+pub may_wait : (x : Storage) (p : MachineView) (home spare : ℕ) (t c : PagedObject) → IsAbsent x p home t → (new : Cpu) (after : Areas) (table' : Table) (now : Option (List (List ℕ))) → StandsEvicted x p spare new after table' now → MayWait x p t c new after table' now
 may_wait x p home spare t c a new after table' now w = record {
   storage = w.storage;
   machine_view = p;

@@ -8,13 +8,13 @@ use Rattle.b67_area.specs.Directory.{IsDirectory}
 use Rattle.b67_backing.specs.Shelf.{Table}
 use Rattle.b67_ctl.specs.declared.registers.Regs.{Regs}
 use Rattle.b67_stack.specs.declared.Cpu.{Cpu}
-use Rattle.b67_stack.specs.Common.{LieUpward, PagedObject, MachineView, home_word_of, words_of, Storage, Represents, Stayed, renumbered, with_held}
+use Rattle.b67_stack.specs.Common.{LieUpward, PagedObject, MachineView, home_word_of, object_words, Storage, Represents, LowWordsStayed, renumbered, with_held}
 use Rattle.b67_layout_storage.specs.Machine.{Says, IsAbsent, AreBits}
 use Rattle.b67_overlay.specs.Spans.{CopiesLie, MachineCanPage}
 use Rattle.b67_overlay.proofs.Copies.{copies_stay, copies_objects}
 use Rattle.b67_layout_storage.proofs.Renumbered.{Represents-renumbered, there_renumbered, renumbered-same}
-use Rattle.b67_presence_page.specs.declared.paging.Resting.{Resting}
-use Rattle.b67_presence_page.specs.Brought.{brought, resting, IsKnown, IsPlace}
+use Rattle.b67_presence_page.specs.declared.paging.AbsentObject.{AbsentObject}
+use Rattle.b67_presence_page.specs.Brought.{brought, resting, NumbersAreKnown, IsSpot}
 use Rattle.b67_presence_page.proofs.Contents.{Loaded, known_words, some_words}
 use Rattle.b67_presence_page.proofs.Placing.{Placed, Filled, Kept, Freed, brought_in, given_back, below_in, below_back, without_here, directory2, area_here, bounds}
 
@@ -23,23 +23,23 @@ Says-on None told new f s = tt
 Says-on (Some all) told new f s = f all s
 
 -- what an area that was placed and filled needs to be kept or freed
-pub record Ready (low : ℕ) (ss : List Span) (core new : List Tagged) (home at : ℕ) (object : Resting) : Type 0 where
+pub record Ready (low : ℕ) (ss : List Span) (core new : List Tagged) (home at : ℕ) (object : AbsentObject) : Type 0 where
   pub directory : IsDirectory new low (fill (fresh object.kind object.words home) ss)
   pub area : area_at low (fill (fresh object.kind object.words home) ss) at ≡ Some (fresh object.kind object.words home)
   pub under : low < at
   pub high : at + object.words < length core
 
-pub ready : (x : Storage) (core : List Tagged) (r : Regs) (p : MachineView) (home at low : ℕ) (t : PagedObject) (c1 c2 : List Tagged) (object : Resting) → Represents x core r p → IsAbsent x p home t → object ≡ resting x t → low ≡ x.low
+pub ready : (x : Storage) (core : List Tagged) (r : Regs) (p : MachineView) (home at low : ℕ) (t : PagedObject) (c1 c2 : List Tagged) (object : AbsentObject) → Represents x core r p → IsAbsent x p home t → object ≡ resting x t → low ≡ x.low
     → Placed low x.spans core c1 home at object → Filled c1 c2 at object.words → Ready low x.spans core c2 home at object
 ready x core r p home at low t c1 c2 object s a is e pl fl =
-    let P : ℕ → Resting → Type 0 = λ l z. Placed l x.spans core c1 home at z × Filled c1 c2 at z.words in
-    let (pl', fl') = subst (λ (z : Resting). P x.low z) is (subst (λ (l : ℕ). P l object) e (pl, fl)) in
+    let P : ℕ → AbsentObject → Type 0 = λ l z. Placed l x.spans core c1 home at z × Filled c1 c2 at z.words in
+    let (pl', fl') = subst (λ (z : AbsentObject). P x.low z) is (subst (λ (l : ℕ). P l object) e (pl, fl)) in
     let b = bounds x core r p home t s a at c1 pl' in
     let r' : Ready x.low x.spans core c2 home at (resting x t) = record { directory = directory2 x core r p home t s a at c1 pl' c2 fl'; area = area_here x core r p home t s a at c1 pl'; under = b.0; high = b.1 } in
-    subst (λ (l : ℕ). Ready l x.spans core c2 home at object) (sym e) (subst (λ (z : Resting). Ready x.low x.spans core c2 home at z) (sym is) r')
+    subst (λ (l : ℕ). Ready l x.spans core c2 home at object) (sym e) (subst (λ (z : AbsentObject). Ready x.low x.spans core c2 home at z) (sym is) r')
 
 -- all that was done to core
-pub record Steps (low : ℕ) (ss : List Span) (core c1 c2 c3 : List Tagged) (home at : ℕ) (object : Resting) : Type 0 where
+pub record Steps (low : ℕ) (ss : List Span) (core c1 c2 c3 : List Tagged) (home at : ℕ) (object : AbsentObject) : Type 0 where
   pub placed : Placed low ss core c1 home at object
   pub filled : Filled c1 c2 at object.words
   pub kept : Kept low (fill (fresh object.kind object.words home) ss) c2 c3 at object.words object.first
@@ -52,7 +52,7 @@ place_of x kind words home first at = record x {
 
 -- with the number of words apart from the numbers
 placed_in : (x : Storage) (core c1 c2 c3 : List Tagged) (r : Regs) (p : MachineView) (home at : ℕ) (t : PagedObject) (n : ℕ) → length t.numbers ≡ n
-    → Represents x core r p → IsAbsent x p home t → Steps x.low x.spans core c1 c2 c3 home at (record { kind = t.kind; words = n; first = (x.held t.home).chain }) → LieUpward c2 at (words_of t)
+    → Represents x core r p → IsAbsent x p home t → Steps x.low x.spans core c1 c2 c3 home at (record { kind = t.kind; words = n; first = (x.held t.home).chain }) → LieUpward c2 at (object_words t)
     → Represents (place_of x t.kind n t.home (x.held t.home).chain at) (slice_set c3 home (home_word_of t.kind n (record { area = Some at; chain = (x.held t.home).chain }))) r p
 placed_in x core c1 c2 c3 r p home at t n e s a st up =
     let P : ℕ → Type 0 = λ m. Steps x.low x.spans core c1 c2 c3 home at (record { kind = t.kind; words = m; first = (x.held t.home).chain }) in
@@ -70,31 +70,31 @@ module _ (x : Storage) (cpu : Cpu) (areas after : Areas) (table : Table) (told n
     copies = k;
   }
 
-  module _ (at : ℕ) (c1 c2 c3 : List Tagged) (object : Resting) (is : object ≡ resting x t) (st : Steps areas.low x.spans cpu.core c1 c2 c3 home at object) (l : Loaded told table at object c2) where
-    abbrev word_at : Resting → Tagged
+  module _ (at : ℕ) (c1 c2 c3 : List Tagged) (object : AbsentObject) (is : object ≡ resting x t) (st : Steps areas.low x.spans cpu.core c1 c2 c3 home at object) (l : Loaded told table at object c2) where
+    abbrev word_at : AbsentObject → Tagged
     word_at z = home_word_of z.kind z.words (record { area = Some at; chain = z.first })
 
     st' : Steps x.low x.spans cpu.core c1 c2 c3 home at (resting x t)
     st' =
-        let P : ℕ → Resting → Type 0 = λ n z. Steps n x.spans cpu.core c1 c2 c3 home at z in
-        subst (λ (z : Resting). P x.low z) is (subst (λ (n : ℕ). P n object) m.low st)
+        let P : ℕ → AbsentObject → Type 0 = λ n z. Steps n x.spans cpu.core c1 c2 c3 home at z in
+        subst (λ (z : AbsentObject). P x.low z) is (subst (λ (n : ℕ). P n object) m.low st)
 
     l' : Loaded told table at (resting x t) c2
-    l' = let P : Resting → Type 0 = λ z. Loaded told table at z c2 in subst P is l
+    l' = let P : AbsentObject → Type 0 = λ z. Loaded told table at z c2 in subst P is l
 
     back : (y : Storage) (q : MachineView) → Represents y (slice_set c3 home (word_at (resting x t))) cpu.regs q → Represents y (slice_set c3 home (word_at object)) cpu.regs q
-    back y q s = let P : Resting → Type 0 = λ z. Represents y (slice_set c3 home (word_at z)) cpu.regs q in subst P (sym is) s
+    back y q s = let P : AbsentObject → Type 0 = λ z. Represents y (slice_set c3 home (word_at z)) cpu.regs q in subst P (sym is) s
 
-    pub paged_below : (v : Tagged) → Stayed p cpu.core (slice_set c3 home v)
+    pub paged_below : (v : Tagged) → LowWordsStayed p cpu.core (slice_set c3 home v)
     paged_below v = below_in x cpu.core cpu.regs p home t m.stands a at c1 st'.placed c2 st'.filled c3 st'.kept v
 
     lie_below : (v : Tagged) → CopiesLie (slice_set c3 home v) p
     lie_below v = copies_stay x cpu.core cpu.regs p m.stands (slice_set c3 home v) (paged_below v) m.copies
 
-    pub in_place : IsPlace x t at
+    pub in_place : IsSpot x t at
     in_place = sym st'.placed.row.0
 
-    pub paged_known : IsKnown x t → MachineCanPage (brought x t at) (record cpu { core = slice_set c3 home (word_at object) }) after table new p
+    pub paged_known : NumbersAreKnown x t → MachineCanPage (brought x t at) (record cpu { core = slice_set c3 home (word_at object) }) after table new p
     paged_known k = with_core (brought x t at) p (slice_set c3 home (word_at object)) refl refl refl
         (back (brought x t at) p (placed_in x cpu.core c1 c2 c3 cpu.regs p home at t (length t.numbers) refl m.stands a st' (known_words x cpu areas table told p home t m a at c2 l' k))) (lie_below (word_at object))
 
@@ -114,17 +114,17 @@ module _ (x : Storage) (cpu : Cpu) (areas after : Areas) (table : Table) (told n
         let P : ℕ → Type 0 = λ q. MachineCanPage (brought x t at) (record cpu { core = slice_set c3 home (word_at object) }) after table new (renumbered p q ns) in
         (ns, count, bits, subst P a.is (with_core (brought x t at) p' (slice_set c3 home (word_at object)) refl refl refl (back (brought x t at) p' d) (copies_objects (slice_set c3 home (word_at object)) p p'.objects (lie_below (word_at object)))))
 
-  pub back_below : (at : ℕ) (c1 c2 c3 : List Tagged) (object : Resting) → object ≡ resting x t → Placed areas.low x.spans cpu.core c1 home at object → Filled c1 c2 at object.words → Freed areas.low (without areas.low at (fill (fresh object.kind object.words home) x.spans)) c2 c3 → Stayed p cpu.core c3
+  pub back_below : (at : ℕ) (c1 c2 c3 : List Tagged) (object : AbsentObject) → object ≡ resting x t → Placed areas.low x.spans cpu.core c1 home at object → Filled c1 c2 at object.words → Freed areas.low (without areas.low at (fill (fresh object.kind object.words home) x.spans)) c2 c3 → LowWordsStayed p cpu.core c3
   back_below at c1 c2 c3 object is pl fl fr =
-      let P : ℕ → Resting → Type 0 = λ n z. Placed n x.spans cpu.core c1 home at z × Filled c1 c2 at z.words × Freed n (without n at (fill (fresh z.kind z.words home) x.spans)) c2 c3 in
-      let (pl', fl', fr') = subst (λ (z : Resting). P x.low z) is (subst (λ (n : ℕ). P n object) m.low (pl, fl, fr)) in
+      let P : ℕ → AbsentObject → Type 0 = λ n z. Placed n x.spans cpu.core c1 home at z × Filled c1 c2 at z.words × Freed n (without n at (fill (fresh z.kind z.words home) x.spans)) c2 c3 in
+      let (pl', fl', fr') = subst (λ (z : AbsentObject). P x.low z) is (subst (λ (n : ℕ). P n object) m.low (pl, fl, fr)) in
       let Q : List Span → Type 0 = λ ss. Freed x.low ss c2 c3 in
       below_back x cpu.core cpu.regs p home t m.stands a at c1 pl' c2 fl' c3 (subst Q (without_here x cpu.core cpu.regs p home t m.stands a at c1 pl' c2 fl') fr')
 
-  pub paged_back : (at : ℕ) (c1 c2 c3 : List Tagged) (object : Resting) → object ≡ resting x t → Placed areas.low x.spans cpu.core c1 home at object → Filled c1 c2 at object.words → Freed areas.low (without areas.low at (fill (fresh object.kind object.words home) x.spans)) c2 c3 → MachineCanPage x (record cpu { core = c3 }) after table new p
+  pub paged_back : (at : ℕ) (c1 c2 c3 : List Tagged) (object : AbsentObject) → object ≡ resting x t → Placed areas.low x.spans cpu.core c1 home at object → Filled c1 c2 at object.words → Freed areas.low (without areas.low at (fill (fresh object.kind object.words home) x.spans)) c2 c3 → MachineCanPage x (record cpu { core = c3 }) after table new p
   paged_back at c1 c2 c3 object is pl fl fr =
-      let P : ℕ → Resting → Type 0 = λ n z. Placed n x.spans cpu.core c1 home at z × Filled c1 c2 at z.words × Freed n (without n at (fill (fresh z.kind z.words home) x.spans)) c2 c3 in
-      let (pl', fl', fr') = subst (λ (z : Resting). P x.low z) is (subst (λ (n : ℕ). P n object) m.low (pl, fl, fr)) in
+      let P : ℕ → AbsentObject → Type 0 = λ n z. Placed n x.spans cpu.core c1 home at z × Filled c1 c2 at z.words × Freed n (without n at (fill (fresh z.kind z.words home) x.spans)) c2 c3 in
+      let (pl', fl', fr') = subst (λ (z : AbsentObject). P x.low z) is (subst (λ (n : ℕ). P n object) m.low (pl, fl, fr)) in
       let Q : List Span → Type 0 = λ ss. Freed x.low ss c2 c3 in
       with_core x p c3 refl refl refl (given_back x cpu.core cpu.regs p home t m.stands a at c1 pl' c2 fl' c3 (subst Q (without_here x cpu.core cpu.regs p home t m.stands a at c1 pl' c2 fl') fr'))
       (copies_stay x cpu.core cpu.regs p m.stands c3 (back_below at c1 c2 c3 object is pl fl fr) m.copies)

@@ -15,7 +15,7 @@ use Rattle.b67_area.proofs.Climbs.{area_at-low}
 use Rattle.b67_area.proofs.Laws.{area_inside, hole-area, OnlyHoles-area, OnlyHoles-below}
 use Rattle.b67_area.proofs.Separation.{IsDirectory-area_words, IsDirectory-set_below}
 use Rattle.b67_ctl.specs.declared.registers.Regs.{Regs}
-use Rattle.b67_stack.specs.Common.{Location, LieUpward, PagedObject, MachineView, slot_base, home_word_of, words_of, tag_of, AreZero, Storage, Content, KeptChain, AbsentContent, HoldsIn, info_of, Represents, Stayed, with_held, ChainStays}
+use Rattle.b67_stack.specs.Common.{Location, LieUpward, PagedObject, MachineView, slot_base, home_word_of, object_words, tag_of, AreZero, Storage, Content, KeptChain, AbsentContent, HoldsIn, info_of, Represents, LowWordsStayed, with_held, ChainStays}
 use Rattle.b67_stack.proofs.Lies.{Upward-same}
 use Rattle.b67_layout_storage.specs.Machine.{IsAbsent}
 use Rattle.b67_layout_storage.proofs.Below.{stacks_low, not_heads}
@@ -23,12 +23,12 @@ use Rattle.b67_stack.proofs.Unchanged.{area_of_object, home_below, slot_below, b
 use Rattle.b67_stack.proofs.Reheld.{Reheld, Keeps-stays, storage_with, info_with, Represents-reheld}
 use Rattle.b67_layout_storage.proofs.Words.{StacksLie-home, original_word}
 use Rattle.b67_layout_storage.proofs.Holes.{without_fill, place_spot}
-use Rattle.b67_presence_page.specs.declared.paging.Resting.{Resting}
+use Rattle.b67_presence_page.specs.declared.paging.AbsentObject.{AbsentObject}
 use Rattle.b67_presence_page.specs.Brought.{brought, resting}
 use Rattle.b67_presence_page.proofs.Descriptors.{rest_here}
 
 -- an area was placed
-pub record Placed (low : ℕ) (ss : List Span) (core new : List Tagged) (home at : ℕ) (object : Resting) : Type 0 where
+pub record Placed (low : ℕ) (ss : List Span) (core new : List Tagged) (home at : ℕ) (object : AbsentObject) : Type 0 where
   pub row : (Some at ≡ address (spot (object.words + 2) low ss)) × IsDirectory new low (fill (fresh object.kind object.words home) ss)
   pub outside : OnlyHoles core new low ss
   pub areas : (y : ℕ) → area_at low (fill (fresh object.kind object.words home) ss) y ≡ over (Some at) (fresh object.kind object.words home) y (area_at low ss y)
@@ -101,13 +101,13 @@ module _ (x : Storage) (core : List Tagged) (r : Regs) (p : MachineView) (home :
         ∙ OnlyHoles-area core c1 x.low x.spans b i q pl.outside e s.directory.above (omega arith) (omega arith)
 
     -- the words below the slots
-    pub below2 : Stayed p core c2
+    pub below2 : LowWordsStayed p core c2
     below2 i low out apart = fl.outside i (inl (omega (arith, bounds.0, stacks_low x core r p s))) ∙ OnlyHoles-below core c1 x.low x.spans i pl.outside (not_heads i out) (omega (arith, stacks_low x core r p s))
 
-    pub below_back : (c3 : List Tagged) → Freed x.low x.spans c2 c3 → Stayed p core c3
+    pub below_back : (c3 : List Tagged) → Freed x.low x.spans c2 c3 → LowWordsStayed p core c3
     below_back c3 f i low out apart = OnlyHoles-below c2 c3 x.low x.spans i f.outside (not_heads i out) (omega (arith, stacks_low x core r p s)) ∙ below2 i low out apart
 
-    pub below_in : (c3 : List Tagged) → Kept x.low filled c2 c3 at n first → (v : Tagged) → Stayed p core (slice_set c3 home v)
+    pub below_in : (c3 : List Tagged) → Kept x.low filled c2 c3 at n first → (v : Tagged) → LowWordsStayed p core (slice_set c3 home v)
     below_in c3 kp v i low out apart =
         slice_get-set_other c3 home i v (λ e. apart t a.there (a.is ∙ sym e)) ∙ kp.outside i (λ e. omega (arith, bounds.0, stacks_low x core r p s)) ∙ below2 i low out apart
 
@@ -188,7 +188,7 @@ module _ (x : Storage) (core : List Tagged) (r : Regs) (p : MachineView) (home :
       stays : (q : ℕ) → ChainStays x (storage_with x t.home h spans x.shelf x.device) q
       stays q = record { chain = refl; told = λ ns k. k }
 
-      pub reheld : LieUpward c2 at (words_of t) → Reheld x core c4 p t h spans x.shelf x.device
+      pub reheld : LieUpward c2 at (object_words t) → Reheld x core c4 p t h spans x.shelf x.device
       reheld up = record {
         bases = λ k hk. low4 (slot_base p k) (slot_below x core r p s k hk).0 (base_low x core r p s k hk) (λ e. s.slots.laid.not_base t a.there k hk (sym e));
         stacks = StacksLie-home x core r p s t a.there c4 h w none low4 here4
@@ -212,11 +212,11 @@ module _ (x : Storage) (core : List Tagged) (r : Regs) (p : MachineView) (home :
         directory = IsDirectory-set_below c3 x.low spans home w kp.directory below.1 (inr below.0);
         size = size4;
       } where
-        up4 : LieUpward c4 at (words_of t)
-        up4 = Upward-same c2 c4 at (words_of t) (λ q low high. slice_get-set_other c3 home q w (λ e. omega (arith, below.1, bounds.0)) ∙ kp.outside q (λ e. omega (arith, length-map t.numbers (word (tag_of t.kind))))) up
+        up4 : LieUpward c4 at (object_words t)
+        up4 = Upward-same c2 c4 at (object_words t) (λ q low high. slice_get-set_other c3 home q w (λ e. omega (arith, below.1, bounds.0)) ∙ kp.outside q (λ e. omega (arith, length-map t.numbers (word (tag_of t.kind))))) up
 
       -- the view stands, with that object in the area
-      pub brought_in : LieUpward c2 at (words_of t) → Represents (brought x t at) c4 r p
+      pub brought_in : LieUpward c2 at (object_words t) → Represents (brought x t at) c4 r p
       brought_in up =
           let d = Represents-reheld x core c4 r p t h spans x.shelf x.device a.there s (reheld up) in
           let P : ℕ → Type 0 = λ q. Represents (record x { held = with_held x.held t.home h; spans = keeping x.low at first (fill (fresh t.kind (length t.numbers) q) x.spans) }) c4 r p in

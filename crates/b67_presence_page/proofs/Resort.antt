@@ -12,7 +12,7 @@ use Rattle.b67_backing.specs.Shelf.{Table}
 use Rattle.b67_ctl.specs.declared.registers.Regs.{Regs}
 use Rattle.b67_lemmas.specs.Lists.{Has}
 use Rattle.b67_stack.specs.declared.Cpu.{Cpu}
-use Rattle.b67_stack.specs.Common.{Location, PagedObject, MachineView, Storage, Represents, info_of, Stayed}
+use Rattle.b67_stack.specs.Common.{Location, PagedObject, MachineView, Storage, Represents, info_of, LowWordsStayed}
 use Rattle.b67_layout_storage.specs.Machine.{IsAbsent, IsPresent, HasHole, AreBits}
 use Rattle.b67_layout_storage.proofs.Untold.{untold, Represents-untold}
 use Rattle.b67_overlay.specs.Spans.{MachineCanPage}
@@ -45,8 +45,8 @@ readable_on x y p q t r none k = ⊎_elim
       none_or (Some all) = inr (λ e. none-some all (sym e))
 
 -- the same words stay, whichever numbers were read
-pub Stayed-read : (x : Storage) (p q : MachineView) (t : PagedObject) → ReadBack x p q t → (core new : List Tagged) → Stayed q core new → Stayed p core new
-Stayed-read x p q t r core new s = let P : MachineView → Type 0 = λ z. Stayed z core new in Stayed-renumbered p t.home r.numbers core new (subst P r.is s)
+pub Stayed-read : (x : Storage) (p q : MachineView) (t : PagedObject) → ReadBack x p q t → (core new : List Tagged) → LowWordsStayed q core new → LowWordsStayed p core new
+Stayed-read x p q t r core new s = let P : MachineView → Type 0 = λ z. LowWordsStayed z core new in Stayed-renumbered p t.home r.numbers core new (subst P r.is s)
 
 -- paging over a storage that says nothing of the device
 pub paging_untold : (x : Storage) (cpu : Cpu) (areas : Areas) (table : Table) (told : Option (List (List ℕ))) (p : MachineView) → MachineCanPage x cpu areas table told p → MachineCanPage (untold x) cpu areas table told p

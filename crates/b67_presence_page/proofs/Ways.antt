@@ -13,8 +13,8 @@ use Rattle.b67_overlay.specs.Spans.{MachineCanPage}
 use Rattle.b67_layout_storage.proofs.Renumbered.{renumbered-same}
 use Rattle.b67_overlay.specs.AreasEvicted.{AreasEvicted}
 use Rattle.b67_overlay.proofs.Shedding.{AreasEvicted-then}
-use Rattle.b67_presence_page.specs.Brought.{brought, IsPlace, IsKnown}
-use Rattle.b67_presence_page.specs.Brings.{IsReadable, ReadBack, ReadIn, PlacedAfterEviction, Waits}
+use Rattle.b67_presence_page.specs.Brought.{brought, IsSpot, NumbersAreKnown}
+use Rattle.b67_presence_page.specs.Brings.{IsReadable, ReadBack, ReadIn, PlacedAfterEviction, StandsEvicted}
 
 pub absent_after : (x y : Storage) (p : MachineView) (home spare : ℕ) (t : PagedObject) → AreasEvicted x y spare → IsAbsent x p home t → IsAbsent y p home t
 absent_after x y p home spare t s a = record { there = a.there; is = a.is; absent = ap (λ (h : Location). h.area) (s.resting home a.absent) ∙ a.absent }
@@ -31,8 +31,8 @@ none_or None = inl refl
 none_or (Some all) = inr (λ e. none-some all (sym e))
 
 pub read_in : (y : Storage) (core : List Tagged) (r : Regs) (p : MachineView) (home : ℕ) (t : PagedObject) (cpu : Cpu) (areas : Areas) (table : Table) (told : Option (List (List ℕ))) → Represents y core r p → IsAbsent y p home t → IsReadable y p
-    → (IsKnown y t → (at : ℕ) × IsPlace y t at × MachineCanPage (brought y t at) cpu areas table told p)
-    → (y.device ≡ None → (at : ℕ) × (ns : List ℕ) × IsPlace y t at × (length ns ≡ length t.numbers) × AreBits ns × MachineCanPage (brought y t at) cpu areas table told (renumbered p home ns))
+    → (NumbersAreKnown y t → (at : ℕ) × IsSpot y t at × MachineCanPage (brought y t at) cpu areas table told p)
+    → (y.device ≡ None → (at : ℕ) × (ns : List ℕ) × IsSpot y t at × (length ns ≡ length t.numbers) × AreBits ns × MachineCanPage (brought y t at) cpu areas table told (renumbered p home ns))
     → ReadIn y p t cpu areas table told
 read_in y core r p home t cpu areas table told s a readable known untold = ⊎_elim
     (λ (e : y.device ≡ None).
@@ -83,5 +83,5 @@ Came-before x y p t spare cpu areas table told s c = record {
   stands = c.stands;
 }
 
-abbrev pub Waits-before : (x y : Storage) (p : MachineView) (spare : ℕ) (cpu : Cpu) (areas : Areas) (table : Table) (told : Option (List (List ℕ))) → AreasEvicted x y spare → Waits y p spare cpu areas table told → Waits x p spare cpu areas table told
+abbrev pub Waits-before : (x y : Storage) (p : MachineView) (spare : ℕ) (cpu : Cpu) (areas : Areas) (table : Table) (told : Option (List (List ℕ))) → AreasEvicted x y spare → StandsEvicted y p spare cpu areas table told → StandsEvicted x p spare cpu areas table told
 Waits-before x y p spare cpu areas table told s w = record { storage = w.storage; sheds = AreasEvicted-then x y w.storage spare s w.sheds; stands = w.stands }

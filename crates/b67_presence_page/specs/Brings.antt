@@ -10,13 +10,13 @@ use Rattle.b67_backing.specs.declared.SpaceFault.{SpaceFault}
 use Rattle.b67_backing.specs.declared.SpaceFault.TheVariants.{BackingFull}
 use Rattle.b67_lemmas.specs.Lists.{Has}
 use Rattle.b67_stack.specs.declared.Cpu.{Cpu}
-use Rattle.b67_stack.specs.Common.{PagedObject, MachineView, Storage, Stayed, renumbered}
+use Rattle.b67_stack.specs.Common.{PagedObject, MachineView, Storage, LowWordsStayed, renumbered}
 use Rattle.b67_layout_storage.specs.Machine.{AreBits, HasHole}
 use Rattle.b67_overlay.specs.Spans.{MachineCanPage}
 use Rattle.b67_overlay.specs.AreasEvicted.{AreasEvicted, IsShortBy}
-use Rattle.b67_presence_page.specs.declared.paging.Refusal.{Refusal}
-use Rattle.b67_presence_page.specs.declared.paging.Refusal.TheVariants.{NoHole, BackingFault}
-use Rattle.b67_presence_page.specs.Brought.{brought, IsPlace, IsKnown}
+use Rattle.b67_presence_page.specs.declared.paging.PagingRefusal.{PagingRefusal}
+use Rattle.b67_presence_page.specs.declared.paging.PagingRefusal.TheVariants.{NoHole, BackingFault}
+use Rattle.b67_presence_page.specs.Brought.{brought, IsSpot, NumbersAreKnown}
 
 -- the device tells nothing, or each number of the view is one of a word
 abbrev pub IsReadable : Storage → MachineView → Type 0
@@ -34,7 +34,7 @@ pub record ReadBack (x : Storage) (p q : MachineView) (t : PagedObject) : Type 0
 pub record ReadIn (x : Storage) (p : MachineView) (t : PagedObject) (cpu : Cpu) (areas : Areas) (table : Table) (told : Option (List (List ℕ))) : Type 0 where
   pub at : ℕ
   pub machine_view : MachineView
-  pub place : IsPlace x t at
+  pub place : IsSpot x t at
   pub reads : ReadBack x p machine_view t
   pub stands : MachineCanPage (brought x t at) cpu areas table told machine_view
 
@@ -44,12 +44,12 @@ pub record PlacedAfterEviction (x : Storage) (p : MachineView) (t : PagedObject)
   pub at : ℕ
   pub machine_view : MachineView
   pub sheds : AreasEvicted x storage spare
-  pub place : IsPlace storage t at
+  pub place : IsSpot storage t at
   pub reads : ReadBack x p machine_view t
   pub stands : MachineCanPage (brought storage t at) cpu areas table told machine_view
 
 -- the machine stands, where areas but the one at `spare` were given back
-pub record Waits (x : Storage) (p : MachineView) (spare : ℕ) (cpu : Cpu) (areas : Areas) (table : Table) (told : Option (List (List ℕ))) : Type 0 where
+pub record StandsEvicted (x : Storage) (p : MachineView) (spare : ℕ) (cpu : Cpu) (areas : Areas) (table : Table) (told : Option (List (List ℕ))) : Type 0 where
   pub storage : Storage
   pub sheds : AreasEvicted x storage spare
   pub stands : MachineCanPage storage cpu areas table told p
@@ -104,11 +104,11 @@ NoHoleStill n x y = (HasHole n x.spans → ⊥) → HasHole n y.spans → ⊥
 -- an absent object is brought into a hole: refused for no hole exactly if there is none with room, and then the device isn't
 -- called; one that was never touched never fails and calls no device
 pub record PagesIn {D : Type 0} (tell : D → Option (List (List ℕ))) (x : Storage) (p : MachineView) (home : ℕ) (t : PagedObject)
-    (result : Result (Unit {0}) Refusal) (old cpu : Cpu) (areas : Areas) (table : Table) (before after : D) : Type 0 where
-  pub outside : Stayed p old.core cpu.core
-  pub known : OnOk result (IsKnown x t → (at : ℕ) × IsPlace x t at × MachineCanPage (brought x t at) cpu areas table (tell after) p)
+    (result : Result (Unit {0}) PagingRefusal) (old cpu : Cpu) (areas : Areas) (table : Table) (before after : D) : Type 0 where
+  pub outside : LowWordsStayed p old.core cpu.core
+  pub known : OnOk result (NumbersAreKnown x t → (at : ℕ) × IsSpot x t at × MachineCanPage (brought x t at) cpu areas table (tell after) p)
   pub untold : OnOk result (x.device ≡ None
-      → (at : ℕ) × (ns : List ℕ) × IsPlace x t at × (length ns ≡ length t.numbers) × AreBits ns
+      → (at : ℕ) × (ns : List ℕ) × IsSpot x t at × (length ns ≡ length t.numbers) × AreBits ns
       × MachineCanPage (brought x t at) cpu areas table (tell after) (renumbered p home ns))
   pub refused : OnErr result (MachineCanPage x cpu areas table (tell after) p)
   pub full : (result ≡ Err NoHole) ↔ (HasHole (length t.numbers + 2) x.spans → ⊥)
@@ -119,12 +119,12 @@ pub record PagesIn {D : Type 0} (tell : D → Option (List (List ℕ))) (x : Sto
 -- sectors refuse it only while no hole has room
 pub record MakesWay (x : Storage) (p : MachineView) (t : PagedObject) (spare : ℕ)
     (result : Result Bool SpaceFault) (old cpu : Cpu) (areas : Areas) (table : Table) (told : Option (List (List ℕ))) : Type 0 where
-  pub outside : Stayed p old.core cpu.core
+  pub outside : LowWordsStayed p old.core cpu.core
   pub came : result ≡ Ok true → IsReadable x p → PlacedAfterEviction x p t spare cpu areas table told
-  pub clear : result ≡ Ok false → (w : Waits x p spare cpu areas table told) × IsAlone w.storage spare
-  pub refused : OnErr result (Waits x p spare cpu areas table told)
+  pub clear : result ≡ Ok false → (w : StandsEvicted x p spare cpu areas table told) × IsAlone w.storage spare
+  pub refused : OnErr result (StandsEvicted x p spare cpu areas table told)
   pub full : (wants free : ℕ) → result ≡ Err (BackingFull wants free)
-      → (w : Waits x p spare cpu areas table told) × IsShortBy w.storage p wants free × NoHoleStill (length t.numbers + 2) x w.storage
+      → (w : StandsEvicted x p spare cpu areas table told) × IsShortBy w.storage p wants free × NoHoleStill (length t.numbers + 2) x w.storage
 
 -- what was brought in found a hole: no sector is written and no area moves, whatever is answered
 pub record FoundHole {D : Type 0} (tell : D → Option (List (List ℕ))) (x : Storage) (p : MachineView) (t : PagedObject)
@@ -138,21 +138,21 @@ pub record FoundHole {D : Type 0} (tell : D → Option (List (List ℕ))) (x : S
 -- is none then
 pub record BringsCode (x : Storage) (p : MachineView) (t : PagedObject)
     (result : Result (Unit {0}) SpaceFault) (old cpu : Cpu) (areas : Areas) (table : Table) (told : Option (List (List ℕ))) : Type 0 where
-  pub outside : Stayed p old.core cpu.core
+  pub outside : LowWordsStayed p old.core cpu.core
   pub came : OnOk result (IsReadable x p → PlacedAfterEviction x p t 0 cpu areas table told)
-  pub refused : OnErr result (Waits x p 0 cpu areas table told)
+  pub refused : OnErr result (StandsEvicted x p 0 cpu areas table told)
   pub full : (wants free : ℕ) → result ≡ Err (BackingFull wants free)
-      → (HasHole (length t.numbers + 2) x.spans → ⊥) × (w : Waits x p 0 cpu areas table told) × IsShortBy w.storage p wants free
+      → (HasHole (length t.numbers + 2) x.spans → ⊥) × (w : StandsEvicted x p 0 cpu areas table told) × IsShortBy w.storage p wants free
       × (HasHole (length t.numbers + 2) w.storage.spans → ⊥)
 
 -- the same for an array or a data row beside the running code, which is in the area at `at`; one that was never touched is
 -- there at once if a hole has room, and no device is called
 pub record BringsData {D : Type 0} (tell : D → Option (List (List ℕ))) (x : Storage) (p : MachineView) (home : ℕ) (t c : PagedObject) (at : ℕ)
     (result : Result (Unit {0}) SpaceFault) (old cpu : Cpu) (areas : Areas) (table : Table) (before after : D) : Type 0 where
-  pub outside : Stayed p old.core cpu.core
+  pub outside : LowWordsStayed p old.core cpu.core
   pub both : OnOk result (IsReadable x p → BothIn x p t c cpu areas table (tell after))
   pub refused : OnErr result (IsReadable x p → MayWait x p t c cpu areas table (tell after))
   pub zeros : HasHole (length t.numbers + 2) x.spans → (x.held home).chain ≡ 0 → IsOk result × (after ≡ before)
   pub full : (wants free : ℕ) → result ≡ Err (BackingFull wants free)
-      → (HasHole (length t.numbers + 2) x.spans → ⊥) × (w : Waits x p at cpu areas table (tell after)) × IsShortBy w.storage p wants free
+      → (HasHole (length t.numbers + 2) x.spans → ⊥) × (w : StandsEvicted x p at cpu areas table (tell after)) × IsShortBy w.storage p wants free
       × (HasHole (length t.numbers + 2) w.storage.spans → ⊥)

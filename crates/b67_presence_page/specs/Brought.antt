@@ -6,7 +6,7 @@ use Rattle.b67_backing.specs.Shelf.{Table, Shelf, HasChain, chain_of}
 use Rattle.b67_backing.specs.Held.{Holds, sectors_for, under}
 use Rattle.b67_stack.specs.Common.{PagedObject, Storage, with_held}
 use Rattle.b67_layout_storage.specs.Machine.{AreBits}
-use Rattle.b67_presence_page.specs.declared.paging.Resting.{Resting}
+use Rattle.b67_presence_page.specs.declared.paging.AbsentObject.{AbsentObject}
 
 -- the storage with an absent object in an area at that address: the front of the lowest hole with room for it
 abbrev pub brought : Storage → PagedObject → ℕ → Storage
@@ -15,15 +15,15 @@ brought x t at = record x {
   spans = keeping x.low at (x.held t.home).chain (fill (fresh t.kind (length t.numbers) t.home) x.spans);
 }
 
-abbrev pub IsPlace : Storage → PagedObject → ℕ → Type 0
-IsPlace x t at = address (spot (length t.numbers + 2) x.low x.spans) ≡ Some at
+abbrev pub IsSpot : Storage → PagedObject → ℕ → Type 0
+IsSpot x t at = address (spot (length t.numbers + 2) x.low x.spans) ≡ Some at
 
 -- the numbers of an absent object are known: it is an array that was never touched, or the device tells them
-abbrev pub IsKnown : Storage → PagedObject → Type 0
-IsKnown x t = ((x.held t.home).chain ≡ 0) ⊎ ((x.device ≢ None) × AreBits t.numbers)
+abbrev pub NumbersAreKnown : Storage → PagedObject → Type 0
+NumbersAreKnown x t = ((x.held t.home).chain ≡ 0) ⊎ ((x.device ≢ None) × AreBits t.numbers)
 
 -- what the descriptor of an absent object says
-abbrev pub resting : Storage → PagedObject → Resting
+abbrev pub resting : Storage → PagedObject → AbsentObject
 resting x t = record { kind = t.kind; words = length t.numbers; first = (x.held t.home).chain }
 
 -- words that were read are those that sectors hold, by their low 48 bits

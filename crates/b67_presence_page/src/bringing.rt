@@ -6,13 +6,13 @@ ghost use Rattle.b67_ctl.specs.declared.registers.Regs.{Regs};
 ghost use Rattle.b67_io.specs.Causes.{Rose};
 ghost use Rattle.b67_stack.specs.MachineView.{PagedObject, MachineView};
 ghost use Rattle.b67_stack.specs.Represents.{Storage, Represents};
-ghost use Rattle.b67_stack.specs.HeldOtherwise.{Stayed};
+ghost use Rattle.b67_stack.specs.HeldOtherwise.{LowWordsStayed};
 ghost use Rattle.b67_layout_storage.specs.Machine.{IsAbsent, DeviceAfterCalls, PagingKeeps, HasHole};
 ghost use Rattle.b67_overlay.specs.Spans.{MachineCanPage};
 ghost use Rattle.b67_overlay.specs.AreasEvicted.{IsShortBy};
-ghost use Rattle.b67_presence_page.specs.Brings.{IsReadable, ReadIn, PlacedAfterEviction, Waits, IsCode, BothIn, MayWait, need_one, need_both, IsAlone, FoundHole, NoHoleStill, BringsCode, BringsData};
+ghost use Rattle.b67_presence_page.specs.Brings.{IsReadable, ReadIn, PlacedAfterEviction, StandsEvicted, IsCode, BothIn, MayWait, need_one, need_both, IsAlone, FoundHole, NoHoleStill, BringsCode, BringsData};
 
-use crate::paging::{Refusal, page_in};
+use crate::paging::{PagingRefusal, page_in};
 use crate::way::make_way;
 use b67_area::Areas;
 use b67_backing::{Backing, Sectors, SpaceFault};
@@ -42,7 +42,7 @@ fn page_in_room<B: Backing>(
     requires same { B.size backing.old + 1 ≡ length sectors.now.links }
     ensures keeps { PagingKeeps cpu.old cpu.new areas.old areas.new sectors.now sectors.now }
     ensures outside { (x : Storage) (p : MachineView) (t : PagedObject) → MachineCanPage x cpu.old areas.old sectors.now (B.holds backing.old) p → IsAbsent x p home t
-        → Stayed p cpu.old.core cpu.new.core }
+        → LowWordsStayed p cpu.old.core cpu.new.core }
     ensures came { OnOk result ((x : Storage) (p : MachineView) (t : PagedObject) → MachineCanPage x cpu.old areas.old sectors.now (B.holds backing.old) p
         → IsAbsent x p home t → IsReadable x p → ReadIn x p t cpu.new areas.new sectors.now (B.holds backing.new)) }
     ensures refused { OnErr result ((x : Storage) (p : MachineView) (t : PagedObject) → MachineCanPage x cpu.old areas.old sectors.now (B.holds backing.old) p
@@ -54,13 +54,13 @@ fn page_in_room<B: Backing>(
 {
     match page_in(cpu, areas, sectors, backing, home) {
         Ok(()) => Ok(()),
-        Err(Refusal::BackingFault) => Err(SpaceFault::BackingFault),
-        Err(Refusal::NoHole) => unreachable!(),
+        Err(PagingRefusal::BackingFault) => Err(SpaceFault::BackingFault),
+        Err(PagingRefusal::NoHole) => unreachable!(),
     }
 }
 
 /// Gives the running code's area back, the last one, places the object of an absent descriptor, and then the code again.
-fn last_resort<B: Backing>(
+fn evict_code<B: Backing>(
     cpu: &mut Cpu,
     areas: &mut Areas,
     sectors: &Sectors,
@@ -74,7 +74,7 @@ fn last_resort<B: Backing>(
     requires same { B.size backing.old + 1 ≡ length sectors.now.links }
     ensures keeps { PagingKeeps cpu.old cpu.new areas.old areas.new sectors.now sectors.now }
     ensures outside { (x : Storage) (p : MachineView) (t c : PagedObject) → MachineCanPage x cpu.old areas.old sectors.now (B.holds backing.old) p → IsAbsent x p home t → IsCode x p code spare c
-        → IsAlone x spare → Stayed p cpu.old.core cpu.new.core }
+        → IsAlone x spare → LowWordsStayed p cpu.old.core cpu.new.core }
     ensures both { OnOk result ((x : Storage) (p : MachineView) (t c : PagedObject) → MachineCanPage x cpu.old areas.old sectors.now (B.holds backing.old) p → IsAbsent x p home t
         → IsCode x p code spare c → IsAlone x spare → IsReadable x p → BothIn x p t c cpu.new areas.new sectors.now (B.holds backing.new)) }
     ensures waits { OnErr result ((x : Storage) (p : MachineView) (t c : PagedObject) → MachineCanPage x cpu.old areas.old sectors.now (B.holds backing.old) p → IsAbsent x p home t
@@ -102,13 +102,13 @@ fn force_code<B: Backing>(
     requires machine { (x : Storage) × (p : MachineView) × (t : PagedObject) × MachineCanPage x cpu.old areas.old sectors.old (B.holds backing.old) p × IsAbsent x p code t × (need_one x t ≤ length cpu.old.core) }
     requires same { B.size backing.old + 1 ≡ length sectors.old.links }
     ensures keeps { PagingKeeps cpu.old cpu.new areas.old areas.new sectors.old sectors.new }
-    ensures outside { (x : Storage) (p : MachineView) (t : PagedObject) → MachineCanPage x cpu.old areas.old sectors.old (B.holds backing.old) p → IsAbsent x p code t → Stayed p cpu.old.core cpu.new.core }
+    ensures outside { (x : Storage) (p : MachineView) (t : PagedObject) → MachineCanPage x cpu.old areas.old sectors.old (B.holds backing.old) p → IsAbsent x p code t → LowWordsStayed p cpu.old.core cpu.new.core }
     ensures came { OnOk result ((x : Storage) (p : MachineView) (t : PagedObject) → MachineCanPage x cpu.old areas.old sectors.old (B.holds backing.old) p → IsAbsent x p code t
         → IsReadable x p → PlacedAfterEviction x p t 0 cpu.new areas.new sectors.new (B.holds backing.new)) }
     ensures refused { OnErr result ((x : Storage) (p : MachineView) (t : PagedObject) → MachineCanPage x cpu.old areas.old sectors.old (B.holds backing.old) p → IsAbsent x p code t
-        → Waits x p 0 cpu.new areas.new sectors.new (B.holds backing.new)) }
+        → StandsEvicted x p 0 cpu.new areas.new sectors.new (B.holds backing.new)) }
     ensures full { (x : Storage) (p : MachineView) (t : PagedObject) (wants free : ℕ) → MachineCanPage x cpu.old areas.old sectors.old (B.holds backing.old) p → IsAbsent x p code t
-        → result ≡ Err (BackingFull wants free) → (w : Waits x p 0 cpu.new areas.new sectors.new (B.holds backing.new)) × IsShortBy w.storage p wants free × NoHoleStill (length t.numbers + 2) x w.storage }
+        → result ≡ Err (BackingFull wants free) → (w : StandsEvicted x p 0 cpu.new areas.new sectors.new (B.holds backing.new)) × IsShortBy w.storage p wants free × NoHoleStill (length t.numbers + 2) x w.storage }
     ensures no_core { (need size : ℕ) → result ≢ Err (NoCore need size) }
     ensures device { DeviceAfterCalls B.holds B.size B.calls B.faults backing.old backing.new }
     ensures cause { result ≡ Err BackingFault → Rose B.faults backing.old backing.new }
@@ -136,20 +136,20 @@ fn force_data<B: Backing>(
     requires same { B.size backing.old + 1 ≡ length sectors.old.links }
     ensures keeps { PagingKeeps cpu.old cpu.new areas.old areas.new sectors.old sectors.new }
     ensures outside { (x : Storage) (p : MachineView) (t c : PagedObject) → MachineCanPage x cpu.old areas.old sectors.old (B.holds backing.old) p → IsAbsent x p home t → IsCode x p code spare c
-        → Stayed p cpu.old.core cpu.new.core }
+        → LowWordsStayed p cpu.old.core cpu.new.core }
     ensures both { OnOk result ((x : Storage) (p : MachineView) (t c : PagedObject) → MachineCanPage x cpu.old areas.old sectors.old (B.holds backing.old) p → IsAbsent x p home t
         → IsCode x p code spare c → IsReadable x p → BothIn x p t c cpu.new areas.new sectors.new (B.holds backing.new)) }
     ensures refused { OnErr result ((x : Storage) (p : MachineView) (t c : PagedObject) → MachineCanPage x cpu.old areas.old sectors.old (B.holds backing.old) p → IsAbsent x p home t
         → IsCode x p code spare c → IsReadable x p → MayWait x p t c cpu.new areas.new sectors.new (B.holds backing.new)) }
     ensures full { (x : Storage) (p : MachineView) (t : PagedObject) (wants free : ℕ) → MachineCanPage x cpu.old areas.old sectors.old (B.holds backing.old) p → IsAbsent x p home t
-        → result ≡ Err (BackingFull wants free) → (w : Waits x p spare cpu.new areas.new sectors.new (B.holds backing.new)) × IsShortBy w.storage p wants free × NoHoleStill (length t.numbers + 2) x w.storage }
+        → result ≡ Err (BackingFull wants free) → (w : StandsEvicted x p spare cpu.new areas.new sectors.new (B.holds backing.new)) × IsShortBy w.storage p wants free × NoHoleStill (length t.numbers + 2) x w.storage }
     ensures no_core { (need size : ℕ) → result ≢ Err (NoCore need size) }
     ensures device { DeviceAfterCalls B.holds B.size B.calls B.faults backing.old backing.new }
     ensures cause { result ≡ Err BackingFault → Rose B.faults backing.old backing.new }
 {
     match make_way(cpu, areas, sectors, backing, home, spare) {
         Ok(true) => Ok(()),
-        Ok(false) => last_resort(cpu, areas, sectors, backing, home, code, spare),
+        Ok(false) => evict_code(cpu, areas, sectors, backing, home, code, spare),
         Err(fault) => Err(fault),
     }
 }
@@ -179,8 +179,8 @@ pub fn bring_code<B: Backing>(
 {
     match page_in(cpu, areas, sectors, backing, code) {
         Ok(()) => Ok(()),
-        Err(Refusal::BackingFault) => Err(SpaceFault::BackingFault),
-        Err(Refusal::NoHole) => force_code(cpu, areas, sectors, backing, code),
+        Err(PagingRefusal::BackingFault) => Err(SpaceFault::BackingFault),
+        Err(PagingRefusal::NoHole) => force_code(cpu, areas, sectors, backing, code),
     }
 }
 
@@ -213,8 +213,8 @@ pub fn bring_data<B: Backing>(
     let segment = segment_at(&cpu.core, code);
     match page_in(cpu, areas, sectors, backing, home) {
         Ok(()) => Ok(()),
-        Err(Refusal::BackingFault) => Err(SpaceFault::BackingFault),
-        Err(Refusal::NoHole) => {
+        Err(PagingRefusal::BackingFault) => Err(SpaceFault::BackingFault),
+        Err(PagingRefusal::NoHole) => {
             force_data(cpu, areas, sectors, backing, home, code, segment.address)
         }
     }

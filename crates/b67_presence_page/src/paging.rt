@@ -12,7 +12,7 @@ ghost use Rattle.b67_ctl.specs.Descriptors.{data_word};
 ghost use Rattle.b67_stack.specs.Represents.{Storage, Represents};
 ghost use Rattle.b67_layout_storage.specs.Machine.{IsAbsent, DeviceAfterReads, PagingKeeps};
 ghost use Rattle.b67_overlay.specs.Spans.{MachineCanPage};
-ghost use Rattle.b67_presence_page.specs.declared.paging.Refusal.TheVariants.{NoHole, BackingFault};
+ghost use Rattle.b67_presence_page.specs.declared.paging.PagingRefusal.TheVariants.{NoHole, BackingFault};
 ghost use Rattle.b67_presence_page.specs.Brought.{resting, ReadFromChain};
 ghost use Rattle.b67_presence_page.specs.Brings.{PagesIn};
 
@@ -25,7 +25,7 @@ use b67_word::{Failed, Word};
 
 /// Why nothing was brought in: no hole has room, or the device failed.
 #[derive(Clone, Copy, Debug, PartialEq, Eq)]
-pub enum Refusal {
+pub enum PagingRefusal {
     NoHole,
     BackingFault,
 }
@@ -33,7 +33,7 @@ pub enum Refusal {
 /// What an absent original or segment descriptor says: the words, and the first sector of the chain that holds them, 0 for
 /// zeros.
 #[derive(Clone, Copy, Debug, PartialEq, Eq)]
-pub struct Resting {
+pub struct AbsentObject {
     pub kind: Kind,
     pub words: u32,
     pub first: u32,
@@ -46,21 +46,21 @@ fn data_kind(read_only: bool) -> Kind
     if read_only { Kind::Row } else { Kind::Array }
 }
 
-impl Resting {
+impl AbsentObject {
     /// What the descriptor at an address says.
-    pub fn at(core: &Core, home: u32) -> Resting
+    pub fn at(core: &Core, home: u32) -> AbsentObject
         requires { (x : Storage) × (r : Regs) × (p : MachineView) × (t : PagedObject) × Represents x core.now r p × IsAbsent x p home t }
         ensures { (x : Storage) (r : Regs) (p : MachineView) (t : PagedObject) → Represents x core.now r p → IsAbsent x p home t → result ≡ resting x t }
     {
         let w = core.get(home);
         match SegDesc::from_word(w) {
-            Some(segment) => Resting {
+            Some(segment) => AbsentObject {
                 kind: Kind::Code,
                 words: segment.words,
                 first: segment.address,
             },
             None => match DataDesc::from_word(w) {
-                Some(data) => Resting {
+                Some(data) => AbsentObject {
                     kind: data_kind(data.read_only),
                     words: data.length,
                     first: data.address,
@@ -100,7 +100,7 @@ impl Resting {
     }
 
     /// Puts the words into an area.
-    fn load<B: Backing>(
+    fn fill<B: Backing>(
         self,
         core: &mut Core,
         at: u32,
@@ -138,7 +138,7 @@ pub fn page_in<B: Backing>(
     sectors: &Sectors,
     backing: &mut B,
     home: u32,
-) -> Result<(), Refusal>
+) -> Result<(), PagingRefusal>
     requires machine { (x : Storage) × (p : MachineView) × (t : PagedObject) × MachineCanPage x cpu.old areas.old sectors.now (B.holds backing.old) p × IsAbsent x p home t }
     requires same { B.size backing.old + 1 ≡ length sectors.now.links }
     ensures keeps { PagingKeeps cpu.old cpu.new areas.old areas.new sectors.now sectors.now }
@@ -148,10 +148,10 @@ pub fn page_in<B: Backing>(
     ensures device { DeviceAfterReads B.holds B.size B.calls B.faults backing.old backing.new }
     ensures cause { result ≡ Err BackingFault → Rose B.faults backing.old backing.new }
 {
-    let object = Resting::at(&cpu.core, home);
+    let object = AbsentObject::at(&cpu.core, home);
     match areas.place(&mut cpu.core, object.kind, object.words, home) {
-        None => Err(Refusal::NoHole),
-        Some(at) => match object.load(&mut cpu.core, at, sectors, backing) {
+        None => Err(PagingRefusal::NoHole),
+        Some(at) => match object.fill(&mut cpu.core, at, sectors, backing) {
             Ok(()) => {
                 areas.keep(&mut cpu.core, at, object.first);
                 cpu.core.set(home, object.present(at));
@@ -159,7 +159,7 @@ pub fn page_in<B: Backing>(
             }
             Err(_) => {
                 areas.free(&mut cpu.core, at);
-                Err(Refusal::BackingFault)
+                Err(PagingRefusal::BackingFault)
             }
         },
     }

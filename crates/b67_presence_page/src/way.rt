@@ -5,14 +5,14 @@ ghost use Rattle.b67_backing.specs.declared.SpaceFault.TheVariants.{NoCore, Back
 ghost use Rattle.b67_io.specs.Causes.{Rose};
 ghost use Rattle.b67_stack.specs.MachineView.{PagedObject, MachineView};
 ghost use Rattle.b67_stack.specs.Represents.{Storage};
-ghost use Rattle.b67_stack.specs.HeldOtherwise.{Stayed};
+ghost use Rattle.b67_stack.specs.HeldOtherwise.{LowWordsStayed};
 ghost use Rattle.b67_layout_storage.specs.Machine.{IsAbsent, IsPresent, DeviceAfterCalls, PagingKeeps, HasHole};
 ghost use Rattle.b67_overlay.specs.Spans.{MachineCanPage};
 ghost use Rattle.b67_overlay.specs.Overlaid.{overlaid};
 ghost use Rattle.b67_overlay.specs.AreasEvicted.{IsShortBy};
-ghost use Rattle.b67_presence_page.specs.Brings.{IsReadable, PlacedAfterEviction, Waits, MakesWay};
+ghost use Rattle.b67_presence_page.specs.Brings.{IsReadable, PlacedAfterEviction, StandsEvicted, MakesWay};
 
-use crate::paging::{Refusal, page_in};
+use crate::paging::{PagingRefusal, page_in};
 use b67_area::Areas;
 use b67_backing::{Backing, Sectors, SpaceFault};
 use b67_overlay::overlay;
@@ -20,7 +20,7 @@ use b67_stack::Cpu;
 
 /// Takes an area out of core, if it isn't the one at `spare`, and tries to bring the object of an absent descriptor in. False
 /// if there is still no hole for it, or nothing was done.
-fn give_way<B: Backing>(
+fn evict_area<B: Backing>(
     cpu: &mut Cpu,
     areas: &mut Areas,
     sectors: &mut Sectors,
@@ -33,7 +33,7 @@ fn give_way<B: Backing>(
     requires same { B.size backing.old + 1 ≡ length sectors.old.links }
     ensures keeps { PagingKeeps cpu.old cpu.new areas.old areas.new sectors.old sectors.new }
     ensures outside { (x : Storage) (p : MachineView) (t u : PagedObject) → MachineCanPage x cpu.old areas.old sectors.old (B.holds backing.old) p → IsAbsent x p home t → IsPresent x p at u
-        → Stayed p cpu.old.core cpu.new.core }
+        → LowWordsStayed p cpu.old.core cpu.new.core }
     ensures came { result ≡ Ok true → (x : Storage) (p : MachineView) (t u : PagedObject) → MachineCanPage x cpu.old areas.old sectors.old (B.holds backing.old) p
         → IsAbsent x p home t → IsPresent x p at u → IsReadable x p → PlacedAfterEviction x p t spare cpu.new areas.new sectors.new (B.holds backing.new) }
     ensures gone { result ≡ Ok false → (x : Storage) (p : MachineView) (t u : PagedObject) → MachineCanPage x cpu.old areas.old sectors.old (B.holds backing.old) p
@@ -42,9 +42,9 @@ fn give_way<B: Backing>(
         × (at ≢ spare → MachineCanPage (overlaid x u at (B.holds backing.new)) cpu.new areas.new sectors.new (B.holds backing.new) p
         × (HasHole (length t.numbers + 2) (overlaid x u at (B.holds backing.new)).spans → ⊥)) }
     ensures refused { OnErr result ((x : Storage) (p : MachineView) (t u : PagedObject) → MachineCanPage x cpu.old areas.old sectors.old (B.holds backing.old) p
-        → IsAbsent x p home t → IsPresent x p at u → Waits x p spare cpu.new areas.new sectors.new (B.holds backing.new)) }
+        → IsAbsent x p home t → IsPresent x p at u → StandsEvicted x p spare cpu.new areas.new sectors.new (B.holds backing.new)) }
     ensures full { (x : Storage) (p : MachineView) (t u : PagedObject) (wants free : ℕ) → MachineCanPage x cpu.old areas.old sectors.old (B.holds backing.old) p → IsAbsent x p home t → IsPresent x p at u
-        → result ≡ Err (BackingFull wants free) → (w : Waits x p spare cpu.new areas.new sectors.new (B.holds backing.new)) × IsShortBy w.storage p wants free × (w.storage.spans ≡ x.spans) }
+        → result ≡ Err (BackingFull wants free) → (w : StandsEvicted x p spare cpu.new areas.new sectors.new (B.holds backing.new)) × IsShortBy w.storage p wants free × (w.storage.spans ≡ x.spans) }
     ensures no_core { (need size : ℕ) → result ≢ Err (NoCore need size) }
     ensures device { DeviceAfterCalls B.holds B.size B.calls B.faults backing.old backing.new }
     ensures cause { result ≡ Err BackingFault → Rose B.faults backing.old backing.new }
@@ -56,8 +56,8 @@ fn give_way<B: Backing>(
         Err(fault) => Err(fault),
         Ok(()) => match page_in(cpu, areas, sectors, backing, home) {
             Ok(()) => Ok(true),
-            Err(Refusal::NoHole) => Ok(false),
-            Err(Refusal::BackingFault) => Err(SpaceFault::BackingFault),
+            Err(PagingRefusal::NoHole) => Ok(false),
+            Err(PagingRefusal::BackingFault) => Err(SpaceFault::BackingFault),
         },
     }
 }
@@ -84,7 +84,7 @@ pub fn make_way<B: Backing>(
     let mut next = areas.first(&cpu.core);
     'areas: while let Some(at) = next {
         next = areas.after(&cpu.core, at);
-        match give_way(cpu, areas, sectors, backing, home, at, spare) {
+        match evict_area(cpu, areas, sectors, backing, home, at, spare) {
             Ok(false) => {}
             Ok(true) => return Ok(true),
             Err(fault) => return Err(fault),

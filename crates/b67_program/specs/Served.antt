@@ -8,12 +8,12 @@ use Rattle.b67_backing.specs.Memory.{memory_sectors, memory_told, memory_faults}
 use Rattle.b67_backing.specs.Held.{blank}
 use Rattle.b67_backing.specs.declared.memory.MemoryBacking.{MemoryBacking}
 use Rattle.b67_task_tables.specs.declared.tables.Machine.{Machine}
-use Rattle.b67_session_lines.specs.Ends.{Ends}
-use Rattle.b67_job.specs.Command.{command_of, backing_path}
+use Rattle.b67_session_lines.specs.Ends.{EndsPrinting}
+use Rattle.b67_job.specs.Command.{command_line_of, backing_path}
 use Rattle.b67_job.specs.declared.command.CommandLine.{CommandLine}
 use Rattle.b67_job.specs.Device.{Device, device_of}
 use Rattle.b67_job.specs.Due.{Answered, Supplies, IsAmple, reading_text}
-use Rattle.b67_job.specs.Judgement.{asked, judged_status, reads}
+use Rattle.b67_job.specs.Judgement.{asked, judged_status, reads_text}
 use Rattle.b67_job.specs.Lines.{memory_text}
 use Rattle.b67_job.specs.Statuses.{StatusMeans}
 use Rattle.b67_program.specs.Input.{IsTakenIn}
@@ -23,7 +23,7 @@ use Rattle.b67_program.specs.Input.{IsTakenIn}
 pub record IsCarriedOut {S B K : Type 0} (words : List (Bor (List ℕ))) (left : S → Option (List ℕ)) (source_faults : S → ℕ) (input input' : S) (d : Device B)
     (taken : K → Option (List ℕ)) (faults : K → ℕ) (old new : K) (status : ℕ) : Type 0 where
   pub bytes : List ℕ
-  pub given : IsTakenIn (reads (command_of words)) left source_faults input input' (Ok bytes)
+  pub given : IsTakenIn (reads_text (command_line_of words)) left source_faults input input' (Ok bytes)
   pub deck : FreeTape
   pub deck_after : FreeTape
   pub holds : free_left deck ≡ bytes
@@ -32,7 +32,7 @@ pub record IsCarriedOut {S B K : Type 0} (words : List (Bor (List ℕ))) (left :
   pub means : StatusMeans words free_told free_faults deck deck_after d machine taken faults old new status
   -- If core and device suffice, and the printer and the device don't fail, the command and these bytes decide, or memory was
   -- refused.
-  pub complete : (command : CommandLine) → (text : List ℕ) → command_of words ≡ Some command
+  pub complete : (command : CommandLine) → (text : List ℕ) → command_line_of words ≡ Some command
       → Supplies command free_told free_faults deck deck_after text → IsAmple d command text
       → Stayed faults old new → Stayed (λ (count : ℕ). count) d.failed_before d.failed_now
       → (status ≡ judged_status (asked command text)) ⊎ (status ≡ 9)
@@ -41,9 +41,9 @@ pub record IsCarriedOut {S B K : Type 0} (words : List (Bor (List ℕ))) (left :
 pub data IsAnswered {S B K : Type 0} (words : List (Bor (List ℕ))) (left : S → Option (List ℕ)) (source_faults : S → ℕ) (input input' : S) (d : Device B)
     (taken : K → Option (List ℕ)) (faults : K → ℕ) (old new : K) (answer : ℕ) : Type 0 where
   carried_out : IsCarriedOut words left source_faults input input' d taken faults old new answer → IsAnswered words left source_faults input input' d taken faults old new answer
-  reading_failed : reads (command_of words) ≡ true → Rose source_faults input input' → Ends taken faults old new 7 reading_text answer
+  reading_failed : reads_text (command_line_of words) ≡ true → Rose source_faults input input' → EndsPrinting taken faults old new 7 reading_text answer
       → IsAnswered words left source_faults input input' d taken faults old new answer
-  text_wants_memory : reads (command_of words) ≡ true → Ends taken faults old new 9 memory_text answer → IsAnswered words left source_faults input input' d taken faults old new answer
+  text_wants_memory : reads_text (command_line_of words) ≡ true → EndsPrinting taken faults old new 9 memory_text answer → IsAnswered words left source_faults input input' d taken faults old new answer
 
 -- over a file if the words name a path; over 4,096 sectors of zeros in memory if they don't, unless memory is refused for these
 pub data IsServed {S B K : Type 0} (words : List (Bor (List ℕ))) (left : S → Option (List ℕ)) (source_faults : S → ℕ) (input input' : S) (device : B → B → Device B)
@@ -53,4 +53,4 @@ pub data IsServed {S B K : Type 0} (words : List (Bor (List ℕ))) (left : S →
   over_memory : (held held' : MemoryBacking) → backing_path words ≡ None → memory_sectors held ≡ blank 4096 → held.faults ≡ 0
       → IsAnswered words left source_faults input input' (device_of memory_told (λ b. length (memory_sectors b)) memory_faults held held') taken faults old new answer
       → IsServed words left source_faults input input' device taken faults old new answer
-  sectors_want_memory : backing_path words ≡ None → Ends taken faults old new 9 memory_text answer → IsServed words left source_faults input input' device taken faults old new answer
+  sectors_want_memory : backing_path words ≡ None → EndsPrinting taken faults old new 9 memory_text answer → IsServed words left source_faults input input' device taken faults old new answer

@@ -4,11 +4,11 @@ ghost use Rattle.std.specs.Prelude.{◌≡◌, false, IfOk};
 ghost use Rattle.b67_io.specs.Causes.{Rose};
 ghost use Rattle.b67_backing.specs.Memory.{memory_sectors};
 ghost use Rattle.b67_backing.specs.Held.{blank};
-ghost use Rattle.b67_job.specs.Command.{command_of, backing_path};
+ghost use Rattle.b67_job.specs.Command.{command_line_of, backing_path};
 ghost use Rattle.b67_job.specs.Device.{device_of};
 ghost use Rattle.b67_job.specs.Due.{reading_text};
-ghost use Rattle.b67_job.specs.Judgement.{reads};
-ghost use Rattle.b67_session_lines.specs.Ends.{Ends};
+ghost use Rattle.b67_job.specs.Judgement.{reads_text};
+ghost use Rattle.b67_session_lines.specs.Ends.{EndsPrinting};
 ghost use Rattle.b67_program.specs.Opening.{Opens, paths_of};
 ghost use Rattle.b67_program.specs.Input.{IsTakenIn};
 ghost use Rattle.b67_program.specs.Served.{IsAnswered, IsServed};
@@ -27,7 +27,7 @@ const SECTORS: u32 = 4096;
 
 // Whether the words ask for a command that reads a text.
 fn reads(words: &[&str]) -> bool
-    ensures { result ≡ reads (command_of words.now) }
+    ensures { result ≡ reads_text (command_line_of words.now) }
 {
     match command_of(words) {
         None => false,
@@ -47,7 +47,7 @@ fn take_in<S: Source>(alloc: Global, reads: bool, input: &mut S) -> Result<Bytes
 }
 
 fn say_reading_fault<K: Sink>(printer: &mut K) -> u8
-    ensures { Ends K.taken K.faults printer.old printer.new 7 reading_text result }
+    ensures { EndsPrinting K.taken K.faults printer.old printer.new 7 reading_text result }
 {
     say(printer, 7, &line_of("READING FAULT"))
 }
@@ -62,7 +62,7 @@ fn answer<S: Source, K: Sink, B: Backing>(
 ) -> u8
     ensures answered { IsAnswered words.now S.left S.faults input.old input.new (device_of B.holds B.size B.faults backing.old backing.new)
         K.taken K.faults printer.old printer.new result }
-    ensures unread { reads (command_of words.now) ≡ false → input.new ≡ input.old }
+    ensures unread { reads_text (command_line_of words.now) ≡ false → input.new ≡ input.old }
     ensures reading { result ≡ 7 → Rose S.faults input.old input.new }
 {
     match take_in(alloc, reads(words), input) {
@@ -104,7 +104,7 @@ pub fn serve<R: Devices, S: Source, K: Sink>(
         K.taken K.faults printer.old printer.new result }
 
     // A command that reads no text, and words that are no command, leave the input as it was.
-    ensures unread { reads (command_of words.now) ≡ false → input.new ≡ input.old }
+    ensures unread { reads_text (command_line_of words.now) ≡ false → input.new ≡ input.old }
 
     // Status 7 is that a read of the input failed.
     ensures reading { result ≡ 7 → Rose S.faults input.old input.new }

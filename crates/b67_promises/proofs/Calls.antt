@@ -11,10 +11,10 @@ use Rattle.b67_job_admit.specs.Admitting.{Prepared}
 use Rattle.b67_session_lines.specs.Stops.{Run, live_after, halted_line, IsFinished, IsHalted, halted}
 use Rattle.b67_session_lines.proofs.Statuses.{finished-status, halted-status, stops-once}
 use Rattle.b67_job.specs.declared.summaries.Exercise.{Exercise}
-use Rattle.b67_job.specs.Device.{Device, Tells}
+use Rattle.b67_job.specs.Device.{Device, DeviceTells}
 use Rattle.b67_job.specs.Lines.{memory_line, backing_fault_line, summary}
-use Rattle.b67_job.specs.Texts.{Text, whole_of, only, Closes, all_taken, cut_short}
-use Rattle.b67_job.specs.Runs.{run_of, StandsAfter, IsWithinHalt, memory_refused, opening_wants_core, opening_wants_sectors, opening_fails, all_end, halt_comes, step_wants_core, step_wants_sectors, step_fails, RunStops, unopened, opened, IsCutInStep, IsCutInLimit, IsPrinting}
+use Rattle.b67_job.specs.Texts.{Text, whole_of, only, PrintsAndAnswers, all_taken, cut_short}
+use Rattle.b67_job.specs.Runs.{run_of, StandsAfter, IsWithinHalt, memory_refused, opening_wants_core, opening_wants_sectors, opening_fails, all_end, halt_comes, step_wants_core, step_wants_sectors, step_fails, RunStops, unopened, opened, IsCutInStep, IsCutInLimit, IsPrintingStep}
 use Rattle.b67_job.specs.Judgement.{Judgement, Refused, Runs, Prints}
 use Rattle.b67_job.specs.Due.{IsDue, usage_due, refusal_due, print_due, run_due, reading_due, memory_due, Answered, answered, cut_in_step, usage_text, reading_text}
 use Rattle.b67_job.proofs.Status.{is_halted}
@@ -144,7 +144,7 @@ cut_shape r text count s = record { steps = s.steps; within = s.within; front = 
 lone : (r : Run) (text : Text) (line : List ℕ) → IsOneLine line → text ≡ only line → TextShape r text
 lone r text line one is = subst (λ (x : Text). TextShape r x) (sym is) (record { steps = 0; within = within_none r.halt; begins = (run_text (lines 0 r.session), refl); one = one })
 
-module _ {B : Type 0} (d : Device B) (tells : Tells d) (core : ℕ) (p : Prepared) where
+module _ {B : Type 0} (d : Device B) (tells : DeviceTells d) (core : ℕ) (p : Prepared) where
   abbrev of_deck : Run
   of_deck = run_of p
 
@@ -201,7 +201,7 @@ module _ {B : Type 0} (d : Device B) (tells : Tells d) (core : ℕ) (p : Prepare
     is = sym (append-nil (text.front ++ take count text.last));
   }
 
-  printing_shape : (machine : Option Machine) (text : Text) (count : ℕ) → IsPrinting d core p machine text count → Shape of_deck (text.front ++ take count text.last)
+  printing_shape : (machine : Option Machine) (text : Text) (count : ℕ) → IsPrintingStep d core p machine text count → Shape of_deck (text.front ++ take count text.last)
   printing_shape machine text count h = by_cut h.cut
     where
       by_cut : IsCutInStep d core of_deck h.left text ⊎ IsCutInLimit d of_deck h.left text → Shape of_deck (text.front ++ take count text.last)
@@ -236,7 +236,7 @@ module _ {K : Type 0} (taken : K → Option (List ℕ)) (faults : K → ℕ) (ol
   Prints_so answer = (text : List ℕ) × Took taken old new text × CallPrints j e answer text
 
   -- a call that isn't whole, whatever its deck
-  short_call : (status : ℕ) (text : Text) (answer : ℕ) → (IsWhole status → ⊥) → ((r : Run) → TextShape r text) → Closes taken faults old new status text answer → Prints_so answer
+  short_call : (status : ℕ) (text : Text) (answer : ℕ) → (IsWhole status → ⊥) → ((r : Run) → TextShape r text) → PrintsAndAnswers taken faults old new status text answer → Prints_so answer
   short_call status text answer short shape (all_taken a took) =
       let none : IsWhole answer → ⊥ = λ w. short (subst IsWhole a w) in
       (whole_of text, took, record { runs = λ w. absurd (none w); prints = λ p is. fell_short none (whole_shape (run_of p) text (shape (run_of p))); refused = λ refusal is r. whole_shape r text (shape r) })
@@ -244,13 +244,13 @@ module _ {K : Type 0} (taken : K → Option (List ℕ)) (faults : K → ℕ) (ol
       let none = short_at answer 8 a (inl (omega arith)) in
       (text.front ++ take count text.last, part.took, record { runs = λ w. absurd (none w); prints = λ p is. fell_short none (cut_shape (run_of p) text count (shape (run_of p))); refused = λ refusal is r. cut_shape r text count (shape r) })
 
-  run_call : (p : Prepared) (status : ℕ) (text : Text) (answer : ℕ) → j ≡ Runs p → Printed (run_of p) e status (whole_of text) → TextShape (run_of p) text → Closes taken faults old new status text answer → Prints_so answer
+  run_call : (p : Prepared) (status : ℕ) (text : Text) (answer : ℕ) → j ≡ Runs p → Printed (run_of p) e status (whole_of text) → TextShape (run_of p) text → PrintsAndAnswers taken faults old new status text answer → Prints_so answer
   run_call p status text answer is printed shape (all_taken a took) = (whole_of text, took, with_deck j e answer (whole_of text) p is (subst (λ (n : ℕ). Printed (run_of p) e n (whole_of text)) (sym a) printed))
   run_call p status text answer is printed shape (cut_short count a rose part) =
       (text.front ++ take count text.last, part.took, with_deck j e answer (text.front ++ take count text.last) p is (fell_short (short_at answer 8 a (inl (omega arith))) (cut_shape (run_of p) text count shape)))
 
-  module _ {S B : Type 0} {words : List (Bor (List ℕ))} {left : S → Option (List ℕ)} {source_faults : S → ℕ} {deck deck' : S} {d : Device B} {machine : Option Machine} (asks : Asks words left deck deck' j e) (tells : Tells d) where
-    by_due : (status : ℕ) (text : Text) (answer : ℕ) → IsDue words left source_faults deck deck' d machine status text → Closes taken faults old new status text answer → Prints_so answer
+  module _ {S B : Type 0} {words : List (Bor (List ℕ))} {left : S → Option (List ℕ)} {source_faults : S → ℕ} {deck deck' : S} {d : Device B} {machine : Option Machine} (asks : Asks words left deck deck' j e) (tells : DeviceTells d) where
+    by_due : (status : ℕ) (text : Text) (answer : ℕ) → IsDue words left source_faults deck deck' d machine status text → PrintsAndAnswers taken faults old new status text answer → Prints_so answer
     by_due status text answer (usage_due c g same m s t) closes = short_call status text answer (short_at status 1 s (inr (omega arith, omega arith))) (λ r. lone r text usage_text usage_is_one t) closes
     by_due status text answer (refusal_due command b refusal c r same judged m s t) closes = short_call status text answer (short_at status 2 s (inr (omega arith, omega arith))) (λ r. lone r text _ (refusal_is_one refusal) t) closes
     by_due status text answer (print_due command b printed c r same judged m s t) closes = absurd (asks.no_text command b printed c judged)

@@ -12,7 +12,7 @@ use Rattle.b67_model.specs.Keyed.{keyed}
 use Rattle.b67_model.specs.Common.{need, need_of_job, need_by, need_next, Task, SessionJob, Session, Who, Choice, choice, after, live_tasks, number_of, ready, ready_of, is_ready, IsInOrder}
 use Rattle.b67_session.specs.Slices.{NextFits}
 use Rattle.b67_session_lines.specs.Stops.{live_after}
-use Rattle.b67_job.specs.Device.{Device, Tells}
+use Rattle.b67_job.specs.Device.{Device, DeviceTells}
 use Rattle.b67_job.specs.Runs.{run_of}
 use Rattle.b67_promises.specs.Switches.{NeverTwoReady}
 use Rattle.b67_promises.specs.TurnLines.{HoldsOneStack}
@@ -84,7 +84,7 @@ none_later made j first over le =
     let few = ready_live (after made first).jobs in
     subst (λ (s : Session). length (ready s) ≤ 1) (sym same) (omega (arith, over, few))
 
-module _ {S B : Type 0} {words : List (Bor (List ℕ))} {left : S → Option (List ℕ)} {deck deck' : S} {d : Device B} (tells : Tells d) (w : WholeRun words left deck deck' d) (small : HoldsOneStack w.core) where
+module _ {S B : Type 0} {words : List (Bor (List ℕ))} {left : S → Option (List ℕ)} {deck deck' : S} {d : Device B} (tells : DeviceTells d) (w : WholeRun words left deck deck' d) (small : HoldsOneStack w.core) where
   pub never_two : (steps : ℕ) → IfSome (run_of w.p).halt (λ count. steps ≤ count) → NeverTwoReady steps (run_of w.p).session
   never_two steps within j less = ⊎_elim
       (λ (before : j < w.k.tasks.made). one_task w.core (after j (run_of w.p).session) small (w.opens.in_order.ordered j (omega (arith, before))) (w.opens.fitted tells j before))

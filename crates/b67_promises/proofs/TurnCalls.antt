@@ -8,7 +8,7 @@ use Rattle.b67_model_text.specs.declared.deck.Job.{Job}
 use Rattle.b67_model_text.specs.Deck as deck
 use Rattle.b67_model_text.specs.Deck.{deck_of}
 use Rattle.b67_model_text.proofs.Answers.{err-ok}
-use Rattle.b67_job_admit.specs.Admitting.{Answer, ◌>>=◌, Prepared, of_deck, prepared, deck_prepared}
+use Rattle.b67_job_admit.specs.Admitting.{Admission, ◌>>=◌, Prepared, of_deck, prepared, deck_prepared}
 use Rattle.b67_session_open.specs.Decks.{session_of, openings_of}
 use Rattle.b67_law_order.specs.Opening.{opened_from}
 use Rattle.b67_job.specs.Device.{Device}
@@ -24,7 +24,7 @@ use Rattle.b67_promises.proofs.MoreCore.{WholeRun}
 use Rattle.b67_promises.proofs.Words.{no_print}
 use Rattle.b67_promises.proofs.TurnCards.{SameButTurns, decks_differ}
 
-after : {A B : Type 0} (r : Answer A) (go : A → Answer B) (b : B) → (r >>= go) ≡ Ok b → (a : A) × (r ≡ Ok a) × (go a ≡ Ok b)
+after : {A B : Type 0} (r : Admission A) (go : A → Admission B) (b : B) → (r >>= go) ≡ Ok b → (a : A) × (r ≡ Ok a) × (go a ≡ Ok b)
 after (Ok a) go b e = (a, refl, e)
 after (Err r) go b e = err-ok r b _ e
 
@@ -47,7 +47,7 @@ pub prepared_is : (text : List ℕ) (p : Prepared) → judgement text ≡ Runs p
 unfolding judgement
 prepared_is text p e = by_answer (deck_prepared text) e
   where
-    by_answer : (a : Answer Prepared) → prepared_judgement a ≡ Runs p → a ≡ Ok p
+    by_answer : (a : Admission Prepared) → prepared_judgement a ≡ Runs p → a ≡ Ok p
     by_answer (Ok q) e = ap Ok (ap (prepared_in q) e)
     by_answer (Err r) e = let z : ⊥ = cc in absurd z
 
@@ -58,7 +58,7 @@ differ d e ps qs h same = record {
   made = refl;
 }
 
-same_ok : {A : Type 0} (a b : A) → ◌≡◌ {A = Answer A} (Ok a) (Ok b) → a ≡ b
+same_ok : {A : Type 0} (a b : A) → ◌≡◌ {A = Admission A} (Ok a) (Ok b) → a ≡ b
 same_ok a b e = cc
 
 module _ {S B : Type 0} {words : List (Bor (List ℕ))} {left : S → Option (List ℕ)} {deck deck' : S} {d : Device B} (w : WholeRun words left deck deck' d)

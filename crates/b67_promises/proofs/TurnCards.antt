@@ -11,9 +11,9 @@ use Rattle.b67_model_text.specs.declared.card.Card.{Card}
 use Rattle.b67_model_text.specs.declared.deck.Deck.{Deck}
 use Rattle.b67_model_text.specs.declared.deck.Keyword.TheVariants as keywords
 use Rattle.b67_model_text.specs.Answers.{Answer, ◌>>=◌, ◌>>◌, needs, or_reason}
-use Rattle.b67_model_text.specs.Cards.{card_of, cards, is_empty, is_space, trimmed, words}
-use Rattle.b67_model_text.specs.Command.{Command, Quantum, Switch, number_in, one_number, target, switch, says, command_of, plain, said}
-use Rattle.b67_model_text.specs.Placing.{stand, placed, stack_in, halt_in, name_in}
+use Rattle.b67_model_text.specs.Cards.{card_of, cards, is_empty, is_space, trimmed, words_in_card}
+use Rattle.b67_model_text.specs.Command.{Command, Quantum, Switch, number_in, one_number, target, switch, says, command_of, plain_card, said}
+use Rattle.b67_model_text.specs.Placing.{stand, placed_card, stack_in, halt_in, name_in}
 use Rattle.b67_model_text.specs.Deck.{Said, Refusal, of_card, command_in, said_after, sayings, is_between, number_of_last, job_of, own_cards, jobs, deck, within_limit, deck_of}
 use Rattle.b67_model_text.proofs.Answers.{after_both, err-ok}
 use Rattle.b67_promises.specs.TurnLines.{IsTurnLine, quantum_line, switch_line, empty_line, DifferInTurnLines}
@@ -73,7 +73,7 @@ filled : (x : ℕ) (xs : List ℕ) → eqb (length (x ∷ xs)) 0 ≡ false
 filled x xs = grind arith
 
 -- the words of a text whose first three bytes are no spaces
-first_word : (a b c : ℕ) (t : List ℕ) → is_space a ≡ false → is_space b ≡ false → is_space c ≡ false → (y : List ℕ) × (more : List (List ℕ)) × (words (a ∷ b ∷ c ∷ t) ≡ (a ∷ b ∷ c ∷ y) ∷ more)
+first_word : (a b c : ℕ) (t : List ℕ) → is_space a ≡ false → is_space b ≡ false → is_space c ≡ false → (y : List ℕ) × (more : List (List ℕ)) × (words_in_card (a ∷ b ∷ c ∷ t) ≡ (a ∷ b ∷ c ∷ y) ∷ more)
 first_word a b c t na nb nc =
     let p = some_part t in
     let keep : List (List ℕ) → List (List ℕ) = λ ws. filter (λ w. not (is_empty w)) ws in
@@ -85,14 +85,14 @@ quantum_said : (t : List ℕ) (c : Command) → said (63 ∷ 81 ∷ 85 ∷ t) �
 quantum_said t c e =
     let text = 63 ∷ 81 ∷ 85 ∷ t in
     let w = first_word 63 81 85 t refl refl refl in
-    let s = after_both (plain text) (λ (u : ⊤). command_of (words text)) c e in
+    let s = after_both (plain_card text) (λ (u : ⊤). command_of (words_in_card text)) c e in
     quantum_key w.0 w.1 c (ap command_of (sym w.2) ∙ s.2)
 
 switch_said : (t : List ℕ) (c : Command) → said (63 ∷ 83 ∷ 87 ∷ t) ≡ Ok c → IsTurn c
 switch_said t c e =
     let text = 63 ∷ 83 ∷ 87 ∷ t in
     let w = first_word 63 83 87 t refl refl refl in
-    let s = after_both (plain text) (λ (u : ⊤). command_of (words text)) c e in
+    let s = after_both (plain_card text) (λ (u : ⊤). command_of (words_in_card text)) c e in
     switch_key w.0 w.1 c (ap command_of (sym w.2) ∙ s.2)
 
 -- ---- a line without the spaces at its end
@@ -166,8 +166,8 @@ given number (Err reason) a e = err-ok (record { card = number; reason = reason 
 -- a card's command, and the card with it
 said_is : (before : List Said) (card : Card) (s : Said) → said_after before card ≡ Ok s → (c : Command) × (said card.text ≡ Ok c) × (s ≡ record { number = card.number; command = c })
 said_is before card s e =
-    let c = after_both (said card.text) (λ (c : Command). placed (map command_in before) c >>= λ (u : ⊤). Ok (record { number = card.number; command = c })) s e in
-    let p = after_both (placed (map command_in before) c.0) (λ (u : ⊤). Ok (record { number = card.number; command = c.0 })) s c.2 in
+    let c = after_both (said card.text) (λ (c : Command). placed_card (map command_in before) c >>= λ (u : ⊤). Ok (record { number = card.number; command = c })) s e in
+    let p = after_both (placed_card (map command_in before) c.0) (λ (u : ⊤). Ok (record { number = card.number; command = c.0 })) s c.2 in
     (c.0, c.1, by_ok c.0 p.2)
   where
     by_ok : (c : Command) → ◌≡◌ {A = Answer Said} (Ok (record { number = card.number; command = c })) (Ok s) → s ≡ record { number = card.number; command = c }

@@ -5,7 +5,7 @@ use Rattle.b67_model_text.specs.declared.deck.Deck.{Deck}
 use Rattle.b67_model_text.specs.declared.deck.Switch.{Switch}
 use Rattle.b67_job_admit.specs.Admitting.{deck_prepared}
 use Rattle.b67_session_open.specs.Decks.{session_of}
-use Rattle.b67_session_lines.specs.Stops.{Run, Stops}
+use Rattle.b67_session_lines.specs.Stops.{Run, StopsWith}
 use Rattle.b67_law_sessions.specs.RunMade.{EarlierStep}
 
 -- they have the same jobs and have made as many operators
@@ -23,7 +23,7 @@ SwitchesNeedTwo = (steps : ℕ) (s t : Session) → DifferInTurns s t → NeverT
 
 -- so a run stops with the same status and the same text under any switches and any quantum
 abbrev pub RunsNeedTwo : Type 0
-RunsNeedTwo = (r q : Run) → DifferInTurns r.session q.session → q.halt ≡ r.halt → ((steps : ℕ) → NeverTwoReady steps r.session) → (status : ℕ) (text : List ℕ) → Stops r status text → Stops q status text
+RunsNeedTwo = (r q : Run) → DifferInTurns r.session q.session → q.halt ≡ r.halt → ((steps : ℕ) → NeverTwoReady steps r.session) → (status : ℕ) (text : List ℕ) → StopsWith r status text → StopsWith q status text
 
 -- a text's deck with its programs, and another text's, which has other switches and another quantum alone. Never are two tasks of
 -- the first one ready

@@ -13,7 +13,7 @@ pub mod Copies
 pub mod Items
 pub mod Links
 pub mod Procs
-pub mod Eyes
+pub mod SeenFrom
 pub mod Names
 pub mod Follows
 pub mod Scans

@@ -19,7 +19,7 @@ use Rattle.b67_word.specs.declared.faults.Fault.{Fault}
 use Rattle.b67_refer.specs.RunningContext.{LiveContext}
 use Rattle.b67_refer.specs.LiveCells.{reach, StandsFor, IsCellAt}
 use Rattle.b67_refer.specs.LiveEnds.{EndMeets, LinkMeets, on_link}
-use Rattle.b67_refer.specs.Ends.{IsCopyOf, HasTag}
+use Rattle.b67_refer.specs.Ends.{IsCopyOf, HasTagAt}
 use Rattle.b67_refer.proofs.Bases.{viewed}
 use Rattle.b67_refer.proofs.Chains.{level}
 
@@ -105,14 +105,14 @@ module _ (core : List Tagged) (r : Regs) (a : LiveContext core r) where
   copied at owner w d (item b x e c i k h o) z = (a.plan.home a.member.constants.number b, h)
 
   -- the descriptor that a cell's word is
-  pub cell_described : (q : Place) (at f offset : ℕ) (w : Word) (v : Tagged) → IsCellAt a q at f offset w → HasTag core at 5 → slice_get core at ≡ Some v → (d : DataDesc) × IsDataDesc d × (v ≡ data_word d) × Described at f w d
+  pub cell_described : (q : Place) (at f offset : ℕ) (w : Word) (v : Tagged) → IsCellAt a q at f offset w → HasTagAt core at 5 → slice_get core at ≡ Some v → (d : DataDesc) × IsDataDesc d × (v ≡ data_word d) × Described at f w d
   cell_described q at f offset w v c t there =
       let is : c.word ≡ v = same_Some _ _ (sym c.there ∙ there) in
       let tag : v.tag ≡ 5 = ap (λ (x : Tagged). x.tag) (same_Some _ _ (sym there ∙ t.1)) ∙ t.2 in
       let P : Tagged → Type 0 = λ x. StandsFor a at f x w in
       described at f v w (subst P is c.stands) tag
 
-  pub read_described : (q : Place) (at f offset : ℕ) (w : Word) (v : Tagged) (d : DataDesc) → IsCellAt a q at f offset w → HasTag core at 5 → slice_get core at ≡ Some v
+  pub read_described : (q : Place) (at f offset : ℕ) (w : Word) (v : Tagged) (d : DataDesc) → IsCellAt a q at f offset w → HasTagAt core at 5 → slice_get core at ≡ Some v
       → ((x : DataDesc) → IsDataDesc x → v ≡ data_word x → d ≡ x) → Described at f w d
   read_described q at f offset w v d c t there known =
       let k = cell_described q at f offset w v c t there in

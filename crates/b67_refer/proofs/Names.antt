@@ -25,7 +25,7 @@ use Rattle.b67_refer.proofs.Seats.{seat}
 use Rattle.b67_refer.proofs.Unders.{seat_low}
 use Rattle.b67_refer.proofs.Marks.{stack_known, view_low}
 use Rattle.b67_refer.proofs.Chains.{level_is}
-use Rattle.b67_refer.proofs.Eyes.{eye, seen, either}
+use Rattle.b67_refer.proofs.SeenFrom.{eye, seen, either}
 
 module _ (core : List Tagged) (r : Regs) (a : LiveContext core r) where
   -- the fields of a reference's spot fit its word

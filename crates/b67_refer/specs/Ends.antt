@@ -25,8 +25,8 @@ pub record IsCopyOf (core : List Tagged) (copy : DataDesc) (home : ℕ) : Type 0
   pub is : IsCopy storage.held copied home (data_word copy)
 
 -- the word at an address has this tag
-abbrev pub HasTag : List Tagged → (at tag : ℕ) → Type 0
-HasTag core at tag = (v : Tagged) × (slice_get core at ≡ Some v) × (v.tag ≡ tag)
+abbrev pub HasTagAt : List Tagged → (at tag : ℕ) → Type 0
+HasTagAt core at tag = (v : Tagged) × (slice_get core at ≡ Some v) × (v.tag ≡ tag)
 
 module _ {core : List Tagged} {r : Regs} (a : RunningContext core r) (q : Place) where
   abbrev pub IsProcAt : (at f segment level : ℕ) (place : Place) → Type 0

@@ -80,8 +80,8 @@ abbrev pub FromEither : {core : List Tagged} {r : Regs} → (LiveContext core r 
 FromEither P a = P a ⊎ P (live_of (running_of a))
 
 -- the number of the running task's job, and its state
-abbrev pub number_in : {core : List Tagged} {r : Regs} → RunningContext core r → ℕ
-number_in a = a.member.constants.number
+abbrev pub job_number_in : {core : List Tagged} {r : Regs} → RunningContext core r → ℕ
+job_number_in a = a.member.constants.number
 
 abbrev pub job_in : {core : List Tagged} {r : Regs} → RunningContext core r → Job
 job_in a = a.member.progress.job

@@ -10,7 +10,7 @@ ghost use Rattle.b67_layout.specs.Meets.{here};
 ghost use Rattle.b67_refer.specs.RunningContext.{RunningContext, LiveContext, IsShown, live_of, running_of, FromEither};
 ghost use Rattle.b67_refer.specs.LiveCells.{reach, StandsFor, IsCellAt, FindsCell};
 ghost use Rattle.b67_refer.specs.LiveEnds.{IsReference, EndMeets, LinkMeets};
-ghost use Rattle.b67_refer.specs.Ends.{IsCopyOf, HasTag};
+ghost use Rattle.b67_refer.specs.Ends.{IsCopyOf, HasTagAt};
 
 use crate::cells::{cell_at, cell_of};
 use b67_core::Core;
@@ -54,8 +54,8 @@ fn element_at(core: &Core, regs: &Regs, original: u32, index: u32) -> Result<End
 
 /// The end at an array's descriptor in a cell.
 fn array_end(core: &Core, regs: &Regs, at: u32) -> Result<Option<End>, Fault>
-    requires { (a : LiveContext core.now regs.now) × (q : Place) × (f : ℕ) × (offset : ℕ) × (w : Words.Word) × IsCellAt a q at f offset w × HasTag core.now at 5 }
-    ensures { (a : LiveContext core.now regs.now) (q : Place) (f offset : ℕ) (w : Words.Word) → IsCellAt a q at f offset w → HasTag core.now at 5
+    requires { (a : LiveContext core.now regs.now) × (q : Place) × (f : ℕ) × (offset : ℕ) × (w : Words.Word) × IsCellAt a q at f offset w × HasTagAt core.now at 5 }
+    ensures { (a : LiveContext core.now regs.now) (q : Place) (f offset : ℕ) (w : Words.Word) → IsCellAt a q at f offset w → HasTagAt core.now at 5
         → LinkMeets a q result (link_at (here a.member a.runner q) f offset w) }
 {
     let d = DataDesc::read(core.get(at));

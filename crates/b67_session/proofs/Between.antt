@@ -15,7 +15,7 @@ use Rattle.b67_task_tables.specs.declared.tables.Tasks.{Tasks}
 use Rattle.b67_task_tables.specs.declared.tables.Machine.{Machine}
 use Rattle.b67_task_tables.specs.Tables.{MachineRepresents}
 use Rattle.b67_session_attempt.specs.Stops.{Stop}
-use Rattle.b67_session_ends.specs.Ends.{Finishes, KeepsCounts}
+use Rattle.b67_session_ends.specs.Ends.{Finishes, KeepsTables}
 use Rattle.b67_session_ends.specs.Machines.{StandsAt}
 use Rattle.b67_session.specs.Slices.{Prints, NextFits}
 use Rattle.b67_session.specs.Steps.{StepGives, makes, halves, Steps, StopOf}
@@ -40,7 +40,7 @@ pub record IsHalfMade {K : Type 0} (taken : K → Option (List ℕ)) (told : Opt
   pub prints : (is_due : List ℕ) → Prints taken paper paper' was_due old.tasks.printed part.lines is_due 0
 
 module _ {K : Type 0} (taken : K → Option (List ℕ)) (told : Option (List (List ℕ))) (exact : Type 0) (count : ℕ) (s : Session) (old mid new : Machine) (paper paper' paper'' : K)
-    (x : IsHalfMade taken told exact s old mid paper paper') (keeps : KeepsCounts mid new) where
+    (x : IsHalfMade taken told exact s old mid paper paper') (keeps : KeepsTables mid new) where
   abbrev h : Session
   h = x.part.session
 

@@ -9,7 +9,7 @@ use Rattle.b67_session_attempt.specs.Passed.{CallCauses}
 use Rattle.b67_session_attempt.specs.Stops.{Stop}
 use Rattle.b67_session_attempt.specs.Stops as stops
 use Rattle.b67_session_ends.specs.Closing.{KeepsNames}
-use Rattle.b67_session_ends.specs.Ends.{KeepsCounts}
+use Rattle.b67_session_ends.specs.Ends.{KeepsTables}
 use Rattle.b67_session.specs.Slices.{Keeps}
 
 -- an attempt that didn't stop, and a last part of which only the printer may fail
@@ -21,7 +21,7 @@ step_causes failed refused a b p q r answered one two rose other = record {
 }
 
 -- a step's parts one after the other
-pub keeps_then : (old mid last : Machine) → Keeps old mid → KeepsCounts mid last → Keeps old last
+pub keeps_then : (old mid last : Machine) → Keeps old mid → KeepsTables mid last → Keeps old last
 keeps_then old mid last a b = record {
   core = b.core ∙ a.core;
   sectors = b.sectors ∙ a.sectors;

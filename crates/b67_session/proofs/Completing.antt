@@ -11,7 +11,7 @@ use Rattle.b67_session_attempt.specs.Passed.{CallCauses}
 use Rattle.b67_session_attempt.specs.Stops.{Stop}
 use Rattle.b67_session_attempt.specs.Stops as stops
 use Rattle.b67_session.specs.declared.slices.Progress.{Progress}
-use Rattle.b67_session.specs.Slices.{StandsAt, IsLimited, Keeps, Reaches, whole, but_limit, StopsBefore, SliceMeets, Slices, Resumes}
+use Rattle.b67_session.specs.Slices.{StandsAt, IsLimited, Keeps, StepsReach, in_whole_steps, but_limit, StopsBefore, SliceMeets, Slices, Resumes}
 use Rattle.b67_session.specs.Complete.{SetsOut, at_once, after_limit, IsToMake, Suffices}
 use Rattle.b67_session.proofs.Fitting.{below}
 use Rattle.b67_session.proofs.Tells.{takes_of}
@@ -31,8 +31,8 @@ module _ {K : Type 0} (taken : K → Option (List ℕ)) (told : Option (List (Li
   -- no part of a step is made, where a whole one is due
   came : (b : StopsBefore told n x.steps x.session new) → after x.steps first ≡ x.session
   came b = by (x.leads tells) where
-    by : Reaches first x.steps x.session x.printed → after x.steps first ≡ x.session
-    by (whole a l) = a
+    by : StepsReach first x.steps x.session x.printed → after x.steps first ≡ x.session
+    by (in_whole_steps a l) = a
     by (but_limit k part e f g some l) = absurd (some (no_last x.session b.stands.ordered))
 
   to_make : (b : StopsBefore told n x.steps x.session new) → IsToMake n old.tasks x.steps
@@ -60,11 +60,11 @@ module _ {K : Type 0} (taken : K → Option (List ℕ)) (told : Option (List (Li
     by (Err stops.PrintFault) e meets = absurd (printer e)
 
 -- or from one whose lines of LIMIT are due
-module _ {D K : Type 0} (holds : D → Option (List (List ℕ))) (taken : K → Option (List ℕ)) (known known' : Option (List (List ℕ))) (count n : ℕ) (h : Session) (part : StepResult) (answered : Result Progress Stop) (old new : Machine) (device device' : D) (paper paper' : K) where
-  pub goes_through_limit : Resumes holds taken known known' count n h part answered old new device device' paper paper' → known ≢ None → Keeps old new → Suffices (length old.cpu.core) count n old.tasks part.session → NoFault answered → IsOk answered
+module _ {D K : Type 0} (holds : D → Option (List (List ℕ))) (taken : K → Option (List ℕ)) (said said' : Option (List (List ℕ))) (count n : ℕ) (h : Session) (part : StepResult) (answered : Result Progress Stop) (old new : Machine) (device device' : D) (paper paper' : K) where
+  pub goes_through_limit : Resumes holds taken said said' count n h part answered old new device device' paper paper' → said ≢ None → Keeps old new → Suffices (length old.cpu.core) count n old.tasks part.session → NoFault answered → IsOk answered
   goes_through_limit (inl cut) tells keeps ample calm = absurd (calm.1 cut.answer)
   goes_through_limit (inr g) tells keeps ample calm =
-      goes_through taken known' (known ≢ None) count n part.session answered g.middle new g.printer paper' g.slices tells (keeps.halt ∙ sym g.keeps.halt) still calm
+      goes_through taken said' (said ≢ None) count n part.session answered g.middle new g.printer paper' g.slices tells (keeps.halt ∙ sym g.keeps.halt) still calm
     where
       due : (steps : ℕ) → IsToMake n g.middle.tasks steps → IsToMake n old.tasks steps
       due steps d = record { few = d.few; before_halt = λ j low e. d.before_halt j low (g.keeps.halt ∙ e ∙ ap (λ (made : ℕ). Some (made + j)) (sym g.made)) }
@@ -77,12 +77,12 @@ module _ {D K : Type 0} (holds : D → Option (List (List ℕ))) (taken : K → 
       }
 
 -- from each session that the machine represents
-pub completes : {D K : Type 0} (holds : D → Option (List (List ℕ))) (taken : K → Option (List ℕ)) (known known' : Option (List (List ℕ))) (count n : ℕ) (answered : Result Progress Stop) (old new : Machine) (device device' : D) (paper paper' : K)
-    → ((s : Session) → StandsAt known old s → Slices taken known' (known ≢ None) count n s answered old new paper paper')
-    → ((h : Session) (part : StepResult) → IsLimited known old h part → Resumes holds taken known known' count n h part answered old new device device' paper paper')
-    → Keeps old new → known ≢ None → (s : Session) → SetsOut known old s → Suffices (length old.cpu.core) count n old.tasks s → NoFault answered → IsOk answered
-completes holds taken known known' count n answered old new device device' paper paper' row resumed keeps tells s (at_once stands) ample calm =
-    goes_through taken known' (known ≢ None) count n s answered old new paper paper' (row s stands) tells keeps.halt ample calm
-completes holds taken known known' count n answered old new device device' paper paper' row resumed keeps tells s (after_limit h part l e) ample calm =
-    goes_through_limit holds taken known known' count n h part answered old new device device' paper paper' (resumed h part l) tells keeps
+pub completes : {D K : Type 0} (holds : D → Option (List (List ℕ))) (taken : K → Option (List ℕ)) (said said' : Option (List (List ℕ))) (count n : ℕ) (answered : Result Progress Stop) (old new : Machine) (device device' : D) (paper paper' : K)
+    → ((s : Session) → StandsAt said old s → Slices taken said' (said ≢ None) count n s answered old new paper paper')
+    → ((h : Session) (part : StepResult) → IsLimited said old h part → Resumes holds taken said said' count n h part answered old new device device' paper paper')
+    → Keeps old new → said ≢ None → (s : Session) → SetsOut said old s → Suffices (length old.cpu.core) count n old.tasks s → NoFault answered → IsOk answered
+completes holds taken said said' count n answered old new device device' paper paper' row resumed keeps tells s (at_once stands) ample calm =
+    goes_through taken said' (said ≢ None) count n s answered old new paper paper' (row s stands) tells keeps.halt ample calm
+completes holds taken said said' count n answered old new device device' paper paper' row resumed keeps tells s (after_limit h part l e) ample calm =
+    goes_through_limit holds taken said said' count n h part answered old new device device' paper paper' (resumed h part l) tells keeps
     (subst (Suffices (length old.cpu.core) count n old.tasks) (sym e) ample) calm

@@ -24,8 +24,8 @@ use Rattle.b67_session.specs.declared.slices.Progress.{Progress}
 use Rattle.b67_session.specs.declared.slices.Progress.TheVariants as progress
 use Rattle.b67_session_attempt.specs.Attempts.{IsNotFull}
 use Rattle.b67_session.proofs.Tells.{tells_weaker}
-use Rattle.b67_session.specs.Slices.{StandsAt, LivesOn, RepresentsWithoutTasks, Keeps, Reaches, whole, but_limit, Prints, PrintsWhole, NextFits, StepsFit, StopsWithRoom, IfPresent, StopsBefore, SliceMeets, Slices}
-use Rattle.b67_session.specs.Steps.{StepGives, Leads, stays, makes, halves, Steps, GoesOnInTurn}
+use Rattle.b67_session.specs.Slices.{StandsAt, LivesOn, RepresentsWithoutTasks, Keeps, StepsReach, in_whole_steps, but_limit, Prints, PrintsWhole, NextFits, StepsFit, StopsWithRoom, IfPresent, StopsBefore, SliceMeets, Slices}
+use Rattle.b67_session.specs.Steps.{StepGives, StepLeads, stays, makes, halves, Steps, GoesOnInTurn}
 use Rattle.b67_session.proofs.Printing.{prints_none, prints_then, prints_before}
 use Rattle.b67_session.proofs.Fitting.{fits_then, below_then, whole_then}
 
@@ -109,19 +109,19 @@ one_more first steps s was after printed more came same m =
     subst (λ (z : Session). Came first (steps + 1) z (printed ++ more)) m.session (subst (λ (ls : List RunLine). Came first (steps + 1) m.moment.session (printed ++ ls)) m.lines_are c)
 
 -- a step, or its first part, after steps
-leads_then : (first : Session) (steps n : ℕ) (s was now : Session) (printed more : List RunLine) → Came first steps s printed → was ≡ s → Leads was n now more → Reaches first (steps + n) now (printed ++ more)
+leads_then : (first : Session) (steps n : ℕ) (s was now : Session) (printed more : List RunLine) → Came first steps s printed → was ≡ s → StepLeads was n now more → StepsReach first (steps + n) now (printed ++ more)
 leads_then first steps n s was now printed more came same (stays none is nothing) =
-    let P : ℕ → List RunLine → Type 0 = λ k ls. Reaches first k now ls in
+    let P : ℕ → List RunLine → Type 0 = λ k ls. StepsReach first k now ls in
     let same_steps : steps ≡ steps + n = omega (arith, none) in
     subst (λ (k : ℕ). P k (printed ++ more)) same_steps
-    (subst (P steps) (sym (ap (λ (ls : List RunLine). printed ++ ls) nothing ∙ append-nil printed)) (whole (came.session ∙ sym same ∙ sym is) came.lines_are))
+    (subst (P steps) (sym (ap (λ (ls : List RunLine). printed ++ ls) nothing ∙ append-nil printed)) (in_whole_steps (came.session ∙ sym same ∙ sym is) came.lines_are))
 leads_then first steps n s was now printed more came same (makes one m) =
     let c = one_more first steps s was now printed more came same m in
-    subst (λ (k : ℕ). Reaches first (steps + k) now (printed ++ more)) (sym one) (whole c.session c.lines_are)
+    subst (λ (k : ℕ). StepsReach first (steps + k) now (printed ++ more)) (sym one) (in_whole_steps c.session c.lines_are)
 leads_then first steps n s was now printed more came same (halves part one is session last lines_are) =
     let at : first_part (after steps first) ≡ Some part = ap first_part (came.session ∙ sym same) ∙ is in
     let all : lines steps first ++ part.lines ≡ printed ++ more = ap (λ (ls : List RunLine). ls ++ part.lines) came.lines_are ∙ ap (λ (ls : List RunLine). printed ++ ls) lines_are in
-    subst (λ (k : ℕ). Reaches first (steps + k) now (printed ++ more)) (sym one) (but_limit steps part refl at session last all)
+    subst (λ (k : ℕ). StepsReach first (steps + k) now (printed ++ more)) (sym one) (but_limit steps part refl at session last all)
 
 -- the step that wasn't made, after steps that were
 abbrev stops_later : (told : Option (List (List ℕ))) (n steps more : ℕ) (s : Session) (new : Machine) → steps + 1 ≤ n → StopsBefore told 1 more s new → StopsBefore told n (steps + more) s new
@@ -145,14 +145,14 @@ stop_meets told exact sure core count n steps more s is_due stops.BackingFault n
 stop_meets told exact sure core count n steps more s is_due stops.PrintFault new up few (proper, inl (b, room)) = (proper, inl (stops_later told n steps more s new few b, λ e. room (up e)))
 stop_meets told exact sure core count n steps more s is_due stops.PrintFault new up few (proper, inr limited) = (proper, inr limited)
 
-module _ {K : Type 0} (taken : K → Option (List ℕ)) (exact : Type 0) (known : Option (List (List ℕ))) (count n steps : ℕ) (first : Session) (old now : Machine) (paper paper' : K) (g : Going taken exact known steps first old now paper paper') where
-  pub going-lives : (told : Option (List (List ℕ))) → Says known told → now.tasks.rows.items ≢ [] → LivesOn told now
+module _ {K : Type 0} (taken : K → Option (List ℕ)) (exact : Type 0) (said : Option (List (List ℕ))) (count n steps : ℕ) (first : Session) (old now : Machine) (paper paper' : K) (g : Going taken exact said steps first old now paper paper') where
+  pub going-lives : (told : Option (List (List ℕ))) → Says said told → now.tasks.rows.items ≢ [] → LivesOn told now
   going-lives told says some =
-      let (m, t, next) = next_now known now g.session g.stands some in
-      record { some = record { known = known; says = says; session = g.session; stands = g.stands }; member = m; task = t; next = next }
+      let (m, t, next) = next_now said now g.session g.stands some in
+      record { some = record { said = said; says = says; session = g.session; stands = g.stands }; member = m; task = t; next = next }
 
   -- it goes no further
-  pub going-halted : steps ≤ n → now.tasks.rows.items ≢ [] → now.tasks.halt ≡ Some now.tasks.made → Slices taken known exact count n first (Ok progress.Halted) old now paper paper'
+  pub going-halted : steps ≤ n → now.tasks.rows.items ≢ [] → now.tasks.halt ≡ Some now.tasks.made → Slices taken said exact count n first (Ok progress.Halted) old now paper paper'
   going-halted few some halt =
       let p = g.prints (due g.session) (λ tells. refl) in
       record {
@@ -161,7 +161,7 @@ module _ {K : Type 0} (taken : K → Option (List ℕ)) (exact : Type 0) (known 
         session = g.session;
         printed = g.printed;
         below = g.below;
-        leads = λ tells. let c = g.came tells in whole c.session c.lines_are;
+        leads = λ tells. let c = g.came tells in in_whole_steps c.session c.lines_are;
         ends = λ tells e. absurd cc;
         fits = g.fits;
         texts = λ fine. g.texts;
@@ -171,10 +171,10 @@ module _ {K : Type 0} (taken : K → Option (List ℕ)) (exact : Type 0) (known 
         was = p.was;
         next = λ tells. refl;
         prints = p.prints;
-        meets = (halt, (g.stands, next_now known now g.session g.stands some));
+        meets = (halt, (g.stands, next_now said now g.session g.stands some));
       }
 
-  pub going-more : steps ≡ n → now.tasks.rows.items ≢ [] → now.tasks.halt ≢ Some now.tasks.made → Slices taken known exact count n first (Ok progress.More) old now paper paper'
+  pub going-more : steps ≡ n → now.tasks.rows.items ≢ [] → now.tasks.halt ≢ Some now.tasks.made → Slices taken said exact count n first (Ok progress.More) old now paper paper'
   going-more all some halt =
       let p = g.prints (due g.session) (λ tells. refl) in
       record {
@@ -183,7 +183,7 @@ module _ {K : Type 0} (taken : K → Option (List ℕ)) (exact : Type 0) (known 
         session = g.session;
         printed = g.printed;
         below = g.below;
-        leads = λ tells. let c = g.came tells in whole c.session c.lines_are;
+        leads = λ tells. let c = g.came tells in in_whole_steps c.session c.lines_are;
         ends = λ tells e. absurd cc;
         fits = g.fits;
         texts = λ fine. g.texts;
@@ -193,10 +193,10 @@ module _ {K : Type 0} (taken : K → Option (List ℕ)) (exact : Type 0) (known 
         was = p.was;
         next = λ tells. refl;
         prints = p.prints;
-        meets = (all, halt, (g.stands, next_now known now g.session g.stands some));
+        meets = (all, halt, (g.stands, next_now said now g.session g.stands some));
       }
 
-  pub going-ended : steps ≤ n → now.tasks.rows.items ≡ [] → Slices taken known exact count n first (Ok progress.Ended) old now paper paper'
+  pub going-ended : steps ≤ n → now.tasks.rows.items ≡ [] → Slices taken said exact count n first (Ok progress.Ended) old now paper paper'
   going-ended few none =
       let p = g.prints (due g.session) (λ tells. refl) in
       record {
@@ -205,7 +205,7 @@ module _ {K : Type 0} (taken : K → Option (List ℕ)) (exact : Type 0) (known 
         session = g.session;
         printed = g.printed;
         below = g.below;
-        leads = λ tells. let c = g.came tells in whole c.session c.lines_are;
+        leads = λ tells. let c = g.came tells in in_whole_steps c.session c.lines_are;
         ends = λ tells e. (g.came tells).session;
         fits = g.fits;
         texts = λ fine. g.texts;
@@ -215,15 +215,15 @@ module _ {K : Type 0} (taken : K → Option (List ℕ)) (exact : Type 0) (known 
         was = p.was;
         next = λ tells. refl;
         prints = p.prints;
-        meets = (rests_now known now g.session g.stands none, g.stands.ordered);
+        meets = (rests_now said now g.session g.stands none, g.stands.ordered);
       }
 
   -- one step more was tried: the halt wasn't reached
-  module _ (known' : Option (List (List ℕ))) (up : exact → known ≢ None) (new : Machine) (paper'' : K) (keeps : Keeps old now) (halt : now.tasks.halt ≢ Some now.tasks.made) where
+  module _ (said' : Option (List (List ℕ))) (up : exact → said ≢ None) (new : Machine) (paper'' : K) (keeps : Keeps old now) (halt : now.tasks.halt ≢ Some now.tasks.made) where
     below_more : (more : ℕ) → more ≤ 1 → (j : ℕ) → j < steps + more → old.tasks.halt ≢ Some (old.tasks.made + j)
     below_more more few = below_then old.tasks.halt now.tasks.halt old.tasks.made now.tasks.made steps more keeps.halt g.made few halt g.below
 
-    pub going-steps : Steps taken known' (known ≢ None) count g.session (Ok tt) now new paper' paper'' → Going taken exact known' (steps + 1) first old new paper paper''
+    pub going-steps : Steps taken said' (said ≢ None) count g.session (Ok tt) now new paper' paper'' → Going taken exact said' (steps + 1) first old new paper paper''
     going-steps s =
         let (one, made, stands) = s.meets in
         let p = g.prints s.was_due (λ tells. s.was_is (up tells) ∙ ap due (s.same (up tells))) in
@@ -245,7 +245,7 @@ module _ {K : Type 0} (taken : K → Option (List ℕ)) (exact : Type 0) (known 
           };
         }
 
-    pub going-stops : (stop : Stop) → steps + 1 ≤ n → Steps taken known' (known ≢ None) count g.session (Err stop) now new paper' paper'' → Slices taken known' exact count n first (Err stop) old new paper paper''
+    pub going-stops : (stop : Stop) → steps + 1 ≤ n → Steps taken said' (said ≢ None) count g.session (Err stop) now new paper' paper'' → Slices taken said' exact count n first (Err stop) old new paper paper''
     going-stops stop few s =
         let p = g.prints s.was_due (λ tells. s.was_is (up tells) ∙ ap due (s.same (up tells))) in
         record {
@@ -264,8 +264,8 @@ module _ {K : Type 0} (taken : K → Option (List ℕ)) (exact : Type 0) (known 
           next = λ tells. s.next_is (up tells);
           prints = prints_then taken paper paper' paper'' p.was_due s.was_due s.is_due old.tasks.printed now.tasks.printed new.tasks.printed g.printed s.printed p.prints s.prints;
           texts = λ fine. whole_then steps s.steps old now new paper paper' paper'' g.texts (s.texts (λ e. let why : stop ≡ stops.PrintFault = cc in fine (ap (λ (x : Stop). Err x) why)));
-          meets = stop_meets known' exact (known ≢ None) (length old.cpu.core) count n steps s.steps s.session s.is_due stop new up few
-              (subst (λ (size : ℕ). SliceMeets known' (known ≢ None) size count 1 s.steps s.session s.is_due (Err stop) new) keeps.core s.meets);
+          meets = stop_meets said' exact (said ≢ None) (length old.cpu.core) count n steps s.steps s.session s.is_due stop new up few
+              (subst (λ (size : ℕ). SliceMeets said' (said ≢ None) size count 1 s.steps s.session s.is_due (Err stop) new) keeps.core s.meets);
         }
 
 -- two parts keep what each does
@@ -331,7 +331,7 @@ begun_present {A} {B} {D} holds told core' core n made k k' new s m t d d' e ste
       subst (P k d) len (subst (λ (z : Machine). P z d core') is (subst (λ (x : D). P k' x core') device (present none)))
 
 -- a step makes none or one
-pub made_no_fewer : {K : Type 0} {taken : K → Option (List ℕ)} {known : Option (List (List ℕ))} {exact : Type 0} {count : ℕ} {s : Session} {answered : Result (Unit {0}) Stop} {old new : Machine} {paper paper' : K} → Steps taken known exact count s answered old new paper paper' → old.tasks.made ≤ new.tasks.made
+pub made_no_fewer : {K : Type 0} {taken : K → Option (List ℕ)} {said : Option (List (List ℕ))} {exact : Type 0} {count : ℕ} {s : Session} {answered : Result (Unit {0}) Stop} {old new : Machine} {paper paper' : K} → Steps taken said exact count s answered old new paper paper' → old.tasks.made ≤ new.tasks.made
 made_no_fewer x = omega (arith, x.made)
 
 -- a step's stop is the slice's

@@ -17,7 +17,7 @@ use Rattle.b67_law_sessions.proofs.Parts.{first_parts_keep_order}
 use Rattle.b67_law_sessions.proofs.Settled.{ends_settle}
 use Rattle.b67_session_lines.specs.Moments.{first_part, text_of, due}
 use Rattle.b67_session_lines.specs.Parts.{TookRest}
-use Rattle.b67_layout.specs.Common.{Placement, with_job, moved}
+use Rattle.b67_layout.specs.Common.{Placement, with_job, session_moved}
 use Rattle.b67_layout.proofs.Weaker.{but_counts}
 use Rattle.b67_task_tables.specs.declared.tables.TaskState.{TaskState}
 use Rattle.b67_task_tables.specs.declared.tables.Tasks.{Tasks}
@@ -35,8 +35,8 @@ use Rattle.b67_session_attempt.specs.declared.outcomes.Attempt.TheVariants as at
 use Rattle.b67_session_attempt.specs.Attempts.{StillStands}
 use Rattle.b67_session_ends.specs.Closing.{StandsChosen}
 use Rattle.b67_session_ends.specs.Counts.{IsCounted}
-use Rattle.b67_session_ends.specs.Ends.{StandsFor, StandsBetween}
-use Rattle.b67_session_ends.specs.Holds.{holding, HoldsSo}
+use Rattle.b67_session_ends.specs.Ends.{StandsForSession, StandsBetween}
+use Rattle.b67_session_ends.specs.Holds.{waiting_step, HoldsSo}
 use Rattle.b67_session_ends.proofs.Waits.{waits_settle}
 use Rattle.b67_session.specs.Slices.{Prints, NextFits}
 use Rattle.b67_session.proofs.Between.{IsHalfMade}
@@ -81,17 +81,17 @@ numbered_with s m job numbered there =
 
 -- A task ends, or comes to wait, with this outcome of its step, and the machine stands for the session before it still, with
 -- nothing printed
-pub record ClosesSo {K : Type 0} (known known' : Option (List (List ℕ))) (core : ℕ) (k : Machine) (paper paper' : K) (plan : Placement) (s : Session) (m : SessionJob) (t : Task) (chosen : Choice) (made : Stepped) : Type 0 where
-  pub still : StillStands known' k plan s
+pub record ClosesSo {K : Type 0} (said said' : Option (List (List ℕ))) (core : ℕ) (k : Machine) (paper paper' : K) (plan : Placement) (s : Session) (m : SessionJob) (t : Task) (chosen : Choice) (made : Stepped) : Type 0 where
+  pub still : StillStands said' k plan s
   pub silent : paper' ≡ paper
-  pub first : known ≢ None → first_part s ≡ Some (part_of s chosen m t made)
+  pub first : said ≢ None → first_part s ≡ Some (part_of s chosen m t made)
   pub settles : SettlesInOrder m.constants m.progress made.alive made.settled
-  pub room : known ≢ None → need core s m t ≤ core
+  pub room : said ≢ None → need core s m t ≤ core
 
-module _ {K : Type 0} (taken : K → Option (List ℕ)) (known known' : Option (List (List ℕ))) (core count before : ℕ) (s : Session) (c : Chosen) (k : Machine) (paper paper' : K) where
+module _ {K : Type 0} (taken : K → Option (List ℕ)) (said said' : Option (List (List ℕ))) (core count before : ℕ) (s : Session) (c : Chosen) (k : Machine) (paper paper' : K) where
   -- ---- the operator was made
-  module _ (h : Attempted taken known known' core count before s c (Ok attempts.Made) k paper paper') where
-    abbrev called : IsCalled taken paper paper' known' h.session h.member h.task before k
+  module _ (h : Attempted taken said said' core count before s c (Ok attempts.Made) k paper paper') where
+    abbrev called : IsCalled taken paper paper' said' h.session h.member h.task before k
     called = h.meets
 
     job_number : h.member.constants.number ≡ c.job
@@ -100,7 +100,7 @@ module _ {K : Type 0} (taken : K → Option (List ℕ)) (known known' : Option (
     pub made_room : CountsHaveRoom k.tasks c
     made_room =
         let there = found h.session h.member h.task h.next in
-        room_for called.plan (moved h.session h.member called.job (length called.job.tasks - length h.member.progress.job.tasks)) (record h.member { progress = record h.member.progress { job = called.job } }) k.tasks c
+        room_for called.plan (session_moved h.session h.member called.job (length called.job.tasks - length h.member.progress.job.tasks)) (record h.member { progress = record h.member.progress { job = called.job } }) k.tasks c
         (numbered_with h.session h.member called.job h.ordered.numbered there) called.stands.tables
         (changed_there number_of h.member.constants.number (λ (y : SessionJob). record y { progress = record h.member.progress { job = called.job } }) h.session.jobs h.member there)
         job_number (made_few h.session h.ordered h.member (in_session h.session h.member h.task h.next)) (all_few h.session h.ordered) h.few
@@ -122,11 +122,11 @@ module _ {K : Type 0} (taken : K → Option (List ℕ)) (known known' : Option (
         ap (λ (j : ℕ). run_text (of_job j (map (λ (line : Line). (h.task.number, line)) called.printed))) (job_is h.session h.member h.task h.next)
         ∙ sym (ap run_text (half_lines h.session h.member h.task c h.ordered h.next h.chosen ready called.job called.printed called.touched called.is keeps.0 keeps.1))
 
-    fits_here : known ≢ None → NextFits core s
+    fits_here : said ≢ None → NextFits core s
     fits_here tells = subst (NextFits core) (h.same tells) (next_fits h.session h.member h.task h.next core (h.room tells))
 
     pub made_half : (old : Machine) (tasks : Tasks) → IsCounted c k.tasks tasks → old.tasks.made ≡ s.made → old.tasks.printed ≡ before → length old.cpu.core ≡ core
-        → IsHalfMade taken known' (known ≢ None) s old (record k { tasks = tasks }) paper paper'
+        → IsHalfMade taken said' (said ≢ None) s old (record k { tasks = tasks }) paper paper'
     made_half old tasks counted om op size = record {
       was = h.session;
       same = h.same;
@@ -147,15 +147,15 @@ module _ {K : Type 0} (taken : K → Option (List ℕ)) (known known' : Option (
     }
 
   -- ---- the task has ended, or waits
-  module _ (answered : Result Attempt Stop) (made : Stepped) (h : Attempted taken known known' core count before s c answered k paper paper')
-      (stays : ClosesSo known known' core k paper paper' h.plan h.session h.member h.task h.next.chosen made) where
+  module _ (answered : Result Attempt Stop) (made : Stepped) (h : Attempted taken said said' core count before s c answered k paper paper')
+      (stays : ClosesSo said said' core k paper paper' h.plan h.session h.member h.task h.next.chosen made) where
     pub close_room : CountsHaveRoom k.tasks c
     close_room =
         let number : h.member.constants.number ≡ c.job = job_is h.session h.member h.task h.next ∙ ap (λ (z : Choice). z.who.job) h.chosen in
         room_for h.plan h.session h.member k.tasks c h.ordered.numbered stays.still.1.tables (in_session h.session h.member h.task h.next) number
         (made_few h.session h.ordered h.member (in_session h.session h.member h.task h.next)) (all_few h.session h.ordered) h.few
 
-    pub chosen_stands : k.tasks.running ≡ c.row → StandsChosen stays.still.0 known' k h.plan h.session h.member h.task c
+    pub chosen_stands : k.tasks.running ≡ c.row → StandsChosen stays.still.0 said' k h.plan h.session h.member h.task c
     chosen_stands runs = record {
       ordered = h.ordered;
       next = h.next;
@@ -170,7 +170,7 @@ module _ {K : Type 0} (taken : K → Option (List ℕ)) (known known' : Option (
     pub close_count : k.tasks.made ≡ s.made
     close_count = stays.still.1.tables.counts.made ∙ h.same_made
 
-    close_first : known ≢ None → first_part h.session ≡ Some close_part
+    close_first : said ≢ None → first_part h.session ≡ Some close_part
     close_first tells = subst (λ (z : Choice). first_part h.session ≡ Some (part_of h.session z h.member h.task made)) h.chosen (stays.first tells)
 
     close_ordered : IsInOrderButLimit close_part.session
@@ -178,14 +178,14 @@ module _ {K : Type 0} (taken : K → Option (List ℕ)) (known known' : Option (
         subst (λ (z : Choice). IsInOrderButLimit (part_of h.session z h.member h.task made).session) h.chosen
         (first_parts_keep_order h.session h.member h.task h.next made h.ordered stays.settles)
 
-    pub close_due : known ≢ None → run_text close_part.lines ≡ due h.session
+    pub close_due : said ≢ None → run_text close_part.lines ≡ due h.session
     close_due tells = sym (due_first h.session h.member h.task h.next h.ordered close_part (close_first tells))
 
-    close_fits : known ≢ None → NextFits core s
+    close_fits : said ≢ None → NextFits core s
     close_fits tells = subst (NextFits core) (h.same tells) (next_fits h.session h.member h.task h.next core (stays.room tells))
 
-    pub close_half : (old mid : Machine) (paper'' : K) → TookRest taken paper' paper'' (run_text close_part.lines) k.tasks.printed → mid.tasks.printed ≡ 0 → mid.tasks.made ≡ k.tasks.made + 1 → StandsFor known' mid close_part.session
-        → old.tasks.made ≡ s.made → old.tasks.printed ≡ before → k.tasks.printed ≡ before → length old.cpu.core ≡ core → IsHalfMade taken known' (known ≢ None) s old mid paper paper''
+    pub close_half : (old mid : Machine) (paper'' : K) → TookRest taken paper' paper'' (run_text close_part.lines) k.tasks.printed → mid.tasks.printed ≡ 0 → mid.tasks.made ≡ k.tasks.made + 1 → StandsForSession said' mid close_part.session
+        → old.tasks.made ≡ s.made → old.tasks.printed ≡ before → k.tasks.printed ≡ before → length old.cpu.core ≡ core → IsHalfMade taken said' (said ≢ None) s old mid paper paper''
     close_half old mid paper'' rest none counted stands om op kp size = record {
       was = h.session;
       same = h.same;
@@ -207,25 +207,25 @@ module _ {K : Type 0} (taken : K → Option (List ℕ)) (known known' : Option (
     }
 
   -- it has ended so
-  pub ends_so : (ending : Ending) (h : Attempted taken known known' core count before s c (Ok (attempts.Ends ending)) k paper paper')
-      → ClosesSo known known' core k paper paper' h.plan h.session h.member h.task h.next.chosen (ends_with h.member.progress.job h.task.number ending)
+  pub ends_so : (ending : Ending) (h : Attempted taken said said' core count before s c (Ok (attempts.Ends ending)) k paper paper')
+      → ClosesSo said said' core k paper paper' h.plan h.session h.member h.task h.next.chosen (ends_with h.member.progress.job h.task.number ending)
   ends_so ending h = record {
     still = h.meets.1;
     silent = h.meets.2;
-    first = λ tells. ends_first h.session h.member h.task h.next h.ordered ending (ends_exact (known ≢ None) h.member h.task ending tells h.meets.0);
+    first = λ tells. ends_first h.session h.member h.task h.next h.ordered ending (ends_exact (said ≢ None) h.member h.task ending tells h.meets.0);
     settles = ends_settle h.member.constants h.member.progress h.task.number ending (job_ordered h.session h.member h.task h.next h.ordered).tasks;
     room = h.room;
   }
 
   -- it waits for this
-  module _ (state : TaskState) (h : Attempted taken known known' core count before s c (Ok (attempts.Waits state)) k paper paper') where
+  module _ (state : TaskState) (h : Attempted taken said said' core count before s c (Ok (attempts.Waits state)) k paper paper') where
     abbrev pub waits : WaitsSo h.plan h.member h.task state
     waits = h.meets.0
 
     abbrev pub wait_made : Stepped
-    wait_made = holding h.member.progress.job h.task waits.condition
+    wait_made = waiting_step h.member.progress.job h.task waits.condition
 
-    pub waits_so : ClosesSo known known' core k paper paper' h.plan h.session h.member h.task h.next.chosen wait_made
+    pub waits_so : ClosesSo said said' core k paper paper' h.plan h.session h.member h.task h.next.chosen wait_made
     waits_so = record {
       still = h.meets.1;
       silent = h.meets.2;
@@ -238,5 +238,5 @@ module _ {K : Type 0} (taken : K → Option (List ℕ)) (known known' : Option (
     holds_so = record { is = waits.is; shows = waits.shows; runs = h.running.slot }
 
 -- a machine between the parts of a step
-pub between_of : {K : Type 0} (taken : K → Option (List ℕ)) (known : Option (List (List ℕ))) (exact : Type 0) (s : Session) (old mid : Machine) (paper paper' : K) → IsHalfMade taken known exact s old mid paper paper' → StandsBetween mid
-between_of taken known exact s old mid paper paper' x = record { storage = x.storage; told = known; plan = x.plan; session = x.part.session; ordered = x.ordered; stands = x.stands }
+pub between_of : {K : Type 0} (taken : K → Option (List ℕ)) (said : Option (List (List ℕ))) (exact : Type 0) (s : Session) (old mid : Machine) (paper paper' : K) → IsHalfMade taken said exact s old mid paper paper' → StandsBetween mid
+between_of taken said exact s old mid paper paper' x = record { storage = x.storage; told = said; plan = x.plan; session = x.part.session; ordered = x.ordered; stands = x.stands }

@@ -253,8 +253,8 @@ rows_stay op m t q live ready after printed touched is = (by (called op (here m 
 
     by : (o : Option ℕ) → called op (here m t q) ≡ o → Stays m.progress.job.tasks after.tasks
     by None e =
-        let known : IsKnown (here m t q) = profile_found t.number m.progress.job.tasks t live in
-        profiles_stay m.progress.job.tasks after.tasks t (rows_keep op (here m t q) known e after printed touched is).0 (keyed_has number_of t.number m.progress.job.tasks t live).0 ready
+        let said : IsKnown (here m t q) = profile_found t.number m.progress.job.tasks t live in
+        profiles_stay m.progress.job.tasks after.tasks t (rows_keep op (here m t q) said e after printed touched is).0 (keyed_has number_of t.number m.progress.job.tasks t live).0 ready
     by (Some n) e =
         post_at (Keeps m.progress.job.tasks) (row op (here m t q)) (Goes after printed touched) is
         (row_good m.progress.job.tasks op (here m t q) n e (record { few = omega arith; live = t; found = live; ready = ready }))

@@ -18,7 +18,7 @@ use Rattle.b67_law_sessions.proofs.Settled.{made_settles}
 use Rattle.b67_law_sessions.proofs.Halves.{open_lines}
 use Rattle.b67_stack.specs.Represents.{Storage}
 use Rattle.b67_layout.specs.Placement.{Placement}
-use Rattle.b67_layout.specs.Moved.{moved}
+use Rattle.b67_layout.specs.Moved.{session_moved}
 use Rattle.b67_task_tables.specs.declared.tables.Tasks.{Tasks}
 use Rattle.b67_task_tables.specs.declared.tables.Machine.{Machine}
 use Rattle.b67_task_tables.specs.Tables.{MachineRepresents}
@@ -60,7 +60,7 @@ module _ (s : Session) (c : Chosen) (m : SessionJob) (moment : JobMoment) (o : I
   same = ap (λ (p : ℕ). record (with_moment s (choice_of c) m moment) { peak = p }) same_peak
 
   raised_stands : (x : Storage) (told : Option (List (List ℕ))) (k : Machine) (plan : Placement) (tasks : Tasks) → moment.progress.made ≡ m.progress.made + 1 → IsCounted c k.tasks tasks
-      → MachineRepresents x told k plan (moved s m moment.progress.job (moment.alive - length m.progress.job.tasks)) → MachineRepresents x told (record k { tasks = tasks }) plan (with_moment s (choice_of c) m moment)
+      → MachineRepresents x told k plan (session_moved s m moment.progress.job (moment.alive - length m.progress.job.tasks)) → MachineRepresents x told (record k { tasks = tasks }) plan (with_moment s (choice_of c) m moment)
   raised_stands x told k plan tasks made counted h =
       let few : peak ≤ 120 = omega (arith, h.session.holds.fits.peak, h.session.holds.fits.few) in
       let ordered : IsInOrderButPlaces raised = record {
@@ -107,13 +107,13 @@ module _ (s : Session) (m : SessionJob) (t : Task) (c : Chosen) (o : IsInOrderBu
   half_lines = open_lines s m t n job printed touched open_job
 
   -- the counted machine stands for it
-  pub half_stands : {told : Option (List (List ℕ))} (x : _) (k : Machine) (plan : _) (tasks : Tasks) → IsCounted c k.tasks tasks → MachineRepresents x told k plan (moved s m job (length job.tasks - length m.progress.job.tasks))
+  pub half_stands : {told : Option (List (List ℕ))} (x : _) (k : Machine) (plan : _) (tasks : Tasks) → IsCounted c k.tasks tasks → MachineRepresents x told k plan (session_moved s m job (length job.tasks - length m.progress.job.tasks))
       → MachineRepresents x told (record k { tasks = tasks }) plan half.session
   half_stands {told} x k plan tasks counted h =
       let moment : JobMoment = moment_with m.progress t made made.settled in
       let job_same : moment.progress.job ≡ job = ap (λ (z : Settled). z.job) open_job in
       let there : keyed number_of c.job s.jobs ≡ Some m = ap (λ (z : Choice). keyed number_of z.who.job s.jobs) (sym chosen) ∙ n.member in
-      let stood : MachineRepresents x told k plan (moved s m moment.progress.job (length job.tasks - length m.progress.job.tasks)) =
-      subst (λ (j : Job). MachineRepresents x told k plan (moved s m j (length job.tasks - length m.progress.job.tasks))) (sym job_same) h in
+      let stood : MachineRepresents x told k plan (session_moved s m moment.progress.job (length job.tasks - length m.progress.job.tasks)) =
+      subst (λ (j : Job). MachineRepresents x told k plan (session_moved s m j (length job.tasks - length m.progress.job.tasks))) (sym job_same) h in
       subst (λ (z : Choice). MachineRepresents x told (record k { tasks = tasks }) plan (with_moment s z m moment)) (sym chosen)
       (raised_stands s c m moment o there (in_session s m t n) stays.more x told k plan tasks refl counted stood)

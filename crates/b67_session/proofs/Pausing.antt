@@ -11,7 +11,7 @@ use Rattle.b67_session.specs.Slices.{Pauses, Slices}
 use Rattle.b67_session.proofs.Going.{Going, going-halted, going-ended}
 
 -- what is known later is what the device then tells, if anything
-pub says_retold : (known told : Option (List (List ℕ))) → Says (content_after known told) told
+pub says_retold : (said told : Option (List (List ℕ))) → Says (content_after said told) told
 says_retold None told = tt
 says_retold (Some all) told = says_self told
 
@@ -21,11 +21,11 @@ still_told holds size calls faults d e None says served some = absurd (some refl
 still_told holds size calls faults d e (Some all) says served some = λ none.
     let (y, now) = still_tells holds size calls faults d e served all says in absurd (none-some y (sym none ∙ now))
 
-pub known_still : (known told : Option (List (List ℕ))) → (known ≢ None → told ≢ None) → known ≢ None → content_after known told ≢ None
+pub known_still : (said told : Option (List (List ℕ))) → (said ≢ None → told ≢ None) → said ≢ None → content_after said told ≢ None
 known_still None told tells some = absurd (some refl)
 known_still (Some all) told tells some = tells some
 
-pub retold_twice : (known told told' : Option (List (List ℕ))) → (known ≢ None → told ≢ None) → content_after (content_after known told) told' ≡ content_after known told'
+pub retold_twice : (said told told' : Option (List (List ℕ))) → (said ≢ None → told ≢ None) → content_after (content_after said told) told' ≡ content_after said told'
 retold_twice None told told' tells = refl
 retold_twice (Some all) None told' tells = absurd (tells (λ e. absurd (none-some all (sym e))) refl)
 retold_twice (Some all) (Some other) told' tells = refl

@@ -16,7 +16,7 @@ use Rattle.b67_task_tables.specs.declared.tables.TaskRow.{TaskRow}
 use Rattle.b67_task_tables.specs.declared.tables.Tasks.{Tasks}
 use Rattle.b67_task_tables.specs.declared.tables.Machine.{Machine}
 use Rattle.b67_task_tables.specs.Tables.{task_row, row_names, TasksShow}
-use Rattle.b67_session_ends.specs.Ends.{LimitEnds, HasLimited, KeepsCounts}
+use Rattle.b67_session_ends.specs.Ends.{LimitEnds, HasLimited, KeepsTables}
 use Rattle.b67_session.specs.Slices.{StandsAt, StandsSome, IsLimited, IsOpen, LivesOn, StandsLimited, HasNoTasks, RepresentsWithoutTasks, Keeps, Prints, IsCutAgain}
 use Rattle.b67_session.proofs.Next.{in_session, in_job}
 use Rattle.b67_session.proofs.Printing.{prints_rest, prints_more}
@@ -64,25 +64,25 @@ pub open_stands : (told : Option (List (List ℕ))) (k : Machine) {at : Bool} �
 open_stands told k {at} o some tells is = by o.stage where
   by : LivesOn told k ⊎ (StandsLimited told k ⊎ HasNoTasks told k) → StandsSome told k
   by (inl l) = l.some
-  by (inr (inl l)) = absurd (limited_not l.known k l.session l.part l.limited tells is)
-  by (inr (inr r)) = absurd (rests_not r.known k r.session r.rests some)
+  by (inr (inl l)) = absurd (limited_not l.said k l.session l.part l.limited tells is)
+  by (inr (inr r)) = absurd (rests_not r.said k r.session r.rests some)
 
 -- or with the lines of LIMIT
 pub open_limited : (told : Option (List (List ℕ))) (k : Machine) {at : Bool} → IsOpen told k → k.tasks.rows.items ≢ [] → TellsLimit k.tasks at → at ≡ true → StandsLimited told k
 open_limited told k {at} o some tells is = by o.stage where
   by : LivesOn told k ⊎ (StandsLimited told k ⊎ HasNoTasks told k) → StandsLimited told k
-  by (inl l) = absurd (stands_not l.some.known k l.some.session l.some.stands tells is)
+  by (inl l) = absurd (stands_not l.some.said k l.some.session l.some.stands tells is)
   by (inr (inl l)) = l
-  by (inr (inr r)) = absurd (rests_not r.known k r.session r.rests some)
+  by (inr (inr r)) = absurd (rests_not r.said k r.session r.rests some)
 
 pub has_limited : (told : Option (List (List ℕ))) (k : Machine) → StandsLimited told k → HasLimited k
 has_limited told k l = record {
-  between = record { storage = l.limited.storage; told = l.known; plan = l.limited.plan; session = l.session; ordered = l.limited.ordered; stands = l.limited.stands };
+  between = record { storage = l.limited.storage; told = l.said; plan = l.limited.plan; session = l.session; ordered = l.limited.ordered; stands = l.limited.stands };
   part = l.part;
   is_due = l.limited.is;
 }
 
-pub keeps_counts : (old new : Machine) → KeepsCounts old new → Keeps old new
+pub keeps_counts : (old new : Machine) → KeepsTables old new → Keeps old new
 keeps_counts old new k = record {
   core = k.core;
   sectors = k.sectors;

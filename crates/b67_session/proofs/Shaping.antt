@@ -20,13 +20,13 @@ rests_untold told k s h = record { storage = untold h.storage; plan = h.plan; st
 stage_untold : (told now : Option (List (List ℕ))) (k : Machine) → LivesOn told k ⊎ (StandsLimited told k ⊎ HasNoTasks told k) → LivesOn now k ⊎ (StandsLimited now k ⊎ HasNoTasks now k)
 stage_untold told now k (inl h) =
     inl (record {
-      some = record { known = None; says = tt; session = h.some.session; stands = stands_untold h.some.known k h.some.session h.some.stands };
+      some = record { said = None; says = tt; session = h.some.session; stands = stands_untold h.some.said k h.some.session h.some.stands };
       member = h.member;
       task = h.task;
       next = h.next;
     })
-stage_untold told now k (inr (inl h)) = inr (inl (record { known = None; says = tt; session = h.session; part = h.part; limited = limited_untold h.known k h.session h.part h.limited }))
-stage_untold told now k (inr (inr h)) = inr (inr (record { known = None; says = tt; session = h.session; ordered = h.ordered; rests = rests_untold h.known k h.session h.rests }))
+stage_untold told now k (inr (inl h)) = inr (inl (record { said = None; says = tt; session = h.session; part = h.part; limited = limited_untold h.said k h.session h.part h.limited }))
+stage_untold told now k (inr (inr h)) = inr (inr (record { said = None; says = tt; session = h.session; ordered = h.ordered; rests = rests_untold h.said k h.session h.rests }))
 
 -- a machine that may make steps over a device that tells this may make them over one that tells that, of which nothing is known
 pub over_any : (told now : Option (List (List ℕ))) (k : Machine) → IsOpen told k → IsOpen now k

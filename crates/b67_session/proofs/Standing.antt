@@ -18,7 +18,7 @@ pub stands_by : (k : Machine) → IsShaped k → Stands k ⊎ StandsLimited None
 stands_by k h = by h.stage
   where
     by : LivesOn None k ⊎ (StandsLimited None k ⊎ HasNoTasks None k) → Stands k ⊎ StandsLimited None k
-    by (inl l) = inl (record { session = l.some.session; stands = stands_untold l.some.known k l.some.session l.some.stands })
+    by (inl l) = inl (record { session = l.some.session; stands = stands_untold l.some.said k l.some.session l.some.stands })
     by (inr (inl l)) = inr l
     by (inr (inr l)) =
-        inl (record { session = l.session; stands = stands_untold l.known k l.session (record { storage = l.rests.storage; plan = l.rests.plan; ordered = l.ordered; stands = l.rests.stands }) })
+        inl (record { session = l.session; stands = stands_untold l.said k l.session (record { storage = l.rests.storage; plan = l.rests.plan; ordered = l.ordered; stands = l.rests.stands }) })

@@ -16,7 +16,7 @@ use Rattle.b67_session_attempt.specs.Stops.{Stop}
 use Rattle.b67_session_attempt.specs.Stops as stops
 use Rattle.b67_session_attempt.specs.declared.outcomes.Attempt.{Attempt}
 use Rattle.b67_session_attempt.specs.Attempts.{StillStands, StandsLacking}
-use Rattle.b67_session.specs.Slices.{Prints, Lacks, StopsBefore, SliceMeets}
+use Rattle.b67_session.specs.Slices.{Prints, StepLacks, StopsBefore, SliceMeets}
 use Rattle.b67_session.specs.Steps.{stays, Steps}
 use Rattle.b67_session.proofs.Halved.{due_first, ClosesSo, close_part, close_count, close_due}
 use Rattle.b67_session.proofs.Next.{job_is}
@@ -41,23 +41,23 @@ module _ (s : Session) (m : SessionJob) (t : Task) (n : IsNext s m t) where
         ap (λ (j : ℕ). of_job j (own ++ ended)) (sym (job_is s m t n)) ∙ map-append (λ (line : ℕ × Line). (m.constants.number, line.0, line.1)) own ended,
       )
 
-module _ {K : Type 0} (taken : K → Option (List ℕ)) (known known' : Option (List (List ℕ))) (core count before : ℕ) (s : Session) (c : Chosen) (k : Machine) (paper paper' : K) where
+module _ {K : Type 0} (taken : K → Option (List ℕ)) (said said' : Option (List (List ℕ))) (core count before : ℕ) (s : Session) (c : Chosen) (k : Machine) (paper paper' : K) where
   -- ---- the printer failed in the lines of the endings
-  module _ (answered : Result Attempt Stop) (made : Stepped) (h : Attempted taken known known' core count before s c answered k paper paper')
-      (so : ClosesSo known known' core k paper paper' h.plan h.session h.member h.task h.next.chosen made) where
+  module _ (answered : Result Attempt Stop) (made : Stepped) (h : Attempted taken said said' core count before s c answered k paper paper')
+      (so : ClosesSo said said' core k paper paper' h.plan h.session h.member h.task h.next.chosen made) where
     pub cut_steps : (old new : Machine) (paper'' : K) → old.tasks.made ≡ s.made → old.tasks.printed ≡ before → k.tasks.printed ≡ before → length old.cpu.core ≡ core → old.tasks.halt ≢ Some old.tasks.made → k.tasks.halt ≡ old.tasks.halt
-        → TookMore taken paper' paper'' (run_text (close_part taken known known' core count before s c k paper paper' answered made h so).lines) k.tasks.printed new.tasks.printed → new ≡ record k { tasks = record k.tasks { printed = new.tasks.printed } }
-        → Steps taken known' (known ≢ None) count s (Err stops.PrintFault) old new paper paper''
+        → TookMore taken paper' paper'' (run_text (close_part taken said said' core count before s c k paper paper' answered made h so).lines) k.tasks.printed new.tasks.printed → new ≡ record k { tasks = record k.tasks { printed = new.tasks.printed } }
+        → Steps taken said' (said ≢ None) count s (Err stops.PrintFault) old new paper paper''
     cut_steps old new paper'' om op kp size due_now halt more only =
-        let text = run_text (close_part taken known known' core count before s c k paper paper' answered made h so).lines in
+        let text = run_text (close_part taken said said' core count before s c k paper paper' answered made h so).lines in
         let there = so.still in
-        let counted : k.tasks.made ≡ s.made = close_count taken known known' core count before s c k paper paper' answered made h so in
-        let is : known ≢ None → text ≡ due h.session = close_due taken known known' core count before s c k paper paper' answered made h so in
+        let counted : k.tasks.made ≡ s.made = close_count taken said said' core count before s c k paper paper' answered made h so in
+        let is : said ≢ None → text ≡ due h.session = close_due taken said said' core count before s c k paper paper' answered made h so in
         let P : K → ℕ → Type 0 = λ z n. Prints taken z paper'' text n [] text new.tasks.printed in
         let made_is : new.tasks.made ≡ k.tasks.made = ap (λ (z : Machine). z.tasks.made) only in
         let halted : new.tasks.halt ≡ k.tasks.halt = ap (λ (z : Machine). z.tasks.halt) only in
-        let stood : MachineRepresents there.0 known' new h.plan h.session =
-        subst (λ (z : Machine). MachineRepresents there.0 known' z h.plan h.session) (sym only) (record { session = there.1.session; storage = there.1.storage; tables = there.1.tables }) in
+        let stood : MachineRepresents there.0 said' new h.plan h.session =
+        subst (λ (z : Machine). MachineRepresents there.0 said' z h.plan h.session) (sym only) (record { session = there.1.session; storage = there.1.storage; tables = there.1.tables }) in
         record {
           was = h.session;
           same = h.same;
@@ -91,15 +91,15 @@ module _ {K : Type 0} (taken : K → Option (List ℕ)) (known known' : Option (
         }
 
   -- ---- the step that wasn't made
-  module _ (stop : Stop) (h : Attempted taken known known' core count before s c (Err stop) k paper paper') (old : Machine) (om : old.tasks.made ≡ s.made) (size : length old.cpu.core ≡ core)
+  module _ (stop : Stop) (h : Attempted taken said said' core count before s c (Err stop) k paper paper') (old : Machine) (om : old.tasks.made ≡ s.made) (size : length old.cpu.core ≡ core)
       (due_now : old.tasks.halt ≢ Some old.tasks.made) (halt : k.tasks.halt ≡ old.tasks.halt) where
     abbrev here : Session
     here = h.session
 
-    still_made : StillStands known' k h.plan here → k.tasks.made ≡ old.tasks.made + 0
+    still_made : StillStands said' k h.plan here → k.tasks.made ≡ old.tasks.made + 0
     still_made there = omega (arith, om, there.1.tables.counts.made, h.same_made)
 
-    abbrev before_next : (there : StillStands known' k h.plan here) → StopsBefore known' 1 0 here k
+    abbrev before_next : (there : StillStands said' k h.plan here) → StopsBefore said' 1 0 here k
     before_next there = record {
       left = omega arith;
       halt = still_due old.tasks k.tasks due_now halt (omega (arith, still_made there));
@@ -109,8 +109,8 @@ module _ {K : Type 0} (taken : K → Option (List ℕ)) (known known' : Option (
       next = h.next;
     }
 
-    stayed : StillStands known' k h.plan here → (stop ≢ stops.PrintFault → (k.tasks.printed ≡ old.tasks.printed) × (paper' ≡ paper)) → Prints taken paper paper' (due here) old.tasks.printed [] (due here) k.tasks.printed
-        → SliceMeets known' (known ≢ None) core count 1 0 here (due here) (Err stop) k → Steps taken known' (known ≢ None) count s (Err stop) old k paper paper'
+    stayed : StillStands said' k h.plan here → (stop ≢ stops.PrintFault → (k.tasks.printed ≡ old.tasks.printed) × (paper' ≡ paper)) → Prints taken paper paper' (due here) old.tasks.printed [] (due here) k.tasks.printed
+        → SliceMeets said' (said ≢ None) core count 1 0 here (due here) (Err stop) k → Steps taken said' (said ≢ None) count s (Err stop) old k paper paper'
     stayed there silent prints meets = record {
       was = here;
       same = h.same;
@@ -127,15 +127,15 @@ module _ {K : Type 0} (taken : K → Option (List ℕ)) (known known' : Option (
       next_is = λ tells. refl;
       prints = prints;
       texts = λ fine. record { some = λ one. absurd (omega (arith, one)); none = λ none. silent (λ e. fine (ap (λ (x : Stop). Err x) e)) };
-      meets = subst (λ (n : ℕ). SliceMeets known' (known ≢ None) n count 1 0 here (due here) (Err stop) k) (sym size) meets;
+      meets = subst (λ (n : ℕ). SliceMeets said' (said ≢ None) n count 1 0 here (due here) (Err stop) k) (sym size) meets;
     }
 
-    lacks : (L : StandsLacking (known ≢ None) known' core k h.plan here h.member h.task) → Lacks (known ≢ None) core L.storage h.plan here h.member h.task
+    lacks : (L : StandsLacking (said ≢ None) said' core k h.plan here h.member h.task) → StepLacks (said ≢ None) core L.storage h.plan here h.member h.task
     lacks L = record { lacks = L.lacks; room = L.room; code = L.code }
 
-  pub stop_steps : (stop : Stop) (h : Attempted taken known known' core count before s c (Err stop) k paper paper') (old : Machine) → old.tasks.made ≡ s.made → old.tasks.printed ≡ before → length old.cpu.core ≡ core
+  pub stop_steps : (stop : Stop) (h : Attempted taken said said' core count before s c (Err stop) k paper paper') (old : Machine) → old.tasks.made ≡ s.made → old.tasks.printed ≡ before → length old.cpu.core ≡ core
       → old.tasks.halt ≢ Some old.tasks.made → k.tasks.halt ≡ old.tasks.halt
-      → (stop ≢ stops.PrintFault → k.tasks.printed ≡ old.tasks.printed) → Steps taken known' (known ≢ None) count s (Err stop) old k paper paper'
+      → (stop ≢ stops.PrintFault → k.tasks.printed ≡ old.tasks.printed) → Steps taken said' (said ≢ None) count s (Err stop) old k paper paper'
   stop_steps (stops.NoCore words size') h old om op size due_now halt kp =
       let (is, of, small, still, printed) = h.meets in
       let silent = kp (λ e. absurd cc) in
@@ -144,13 +144,13 @@ module _ {K : Type 0} (taken : K → Option (List ℕ)) (known known' : Option (
   stop_steps (stops.BackingFull sum size') h old om op size due_now halt kp =
       let (of, small, short, printed) = h.meets in
       let L = short.lacking in
-      let still : StillStands known' k h.plan h.session = (L.storage, L.stands) in
+      let still : StillStands said' k h.plan h.session = (L.storage, L.stands) in
       let silent = kp (λ e. absurd cc) in
       stayed (stops.BackingFull sum size') h old om size due_now halt still (λ other. (silent, printed)) (prints_none taken paper paper' (due h.session) old.tasks.printed k.tasks.printed printed silent)
       (before_next (stops.BackingFull sum size') h old om size due_now halt still, lacks (stops.BackingFull sum size') h old om size due_now halt L, (short.wants, short.free, short.short), short.tells, of, small)
   stop_steps stops.BackingFault h old om op size due_now halt kp =
       let (L, printed) = h.meets in
-      let still : StillStands known' k h.plan h.session = (L.storage, L.stands) in
+      let still : StillStands said' k h.plan h.session = (L.storage, L.stands) in
       let silent = kp (λ e. absurd cc) in
       stayed stops.BackingFault h old om size due_now halt still (λ other. (silent, printed)) (prints_none taken paper paper' (due h.session) old.tasks.printed k.tasks.printed printed silent)
       (before_next stops.BackingFault h old om size due_now halt still, lacks stops.BackingFault h old om size due_now halt L)

@@ -23,8 +23,8 @@ use Rattle.b67_session_attempt.specs.declared.outcomes.Attempt.{Attempt}
 use Rattle.b67_session_attempt.specs.declared.outcomes.Attempt.TheVariants as attempts
 use Rattle.b67_session_ends.specs.Closing.{StandsChosen, ChoseSome, Closes}
 use Rattle.b67_session_ends.specs.Counts.{IsCounted}
-use Rattle.b67_session_ends.specs.Ends.{StandsBetween, KeepsCounts}
-use Rattle.b67_session_ends.specs.Holds.{holding, HoldsSo, HoldsSome}
+use Rattle.b67_session_ends.specs.Ends.{StandsBetween, KeepsTables}
+use Rattle.b67_session_ends.specs.Holds.{waiting_step, HoldsSo, HoldsSome}
 use Rattle.b67_session.specs.Slices.{StandsAt, StopsWithRoom, IfPresent}
 use Rattle.b67_session.specs.Steps.{StopOf, EndsStep, Steps}
 use Rattle.b67_session.proofs.Between.{IsHalfMade, finished}
@@ -66,7 +66,7 @@ ClosesEach taken c ending result old new paper paper' =
 abbrev pub HoldsEach : {K : Type 0} → (K → Option (List ℕ)) → Chosen → TaskState → Result (Unit {0}) Failed → Machine → Machine → K → K → Type 0
 HoldsEach taken c state result old new paper paper' =
     (x : Storage) (told : Option (List (List ℕ))) (plan : Placement) (s : Session) (m : SessionJob) (t : Task) (condition : Condition) → StandsChosen x told old plan s m t c → HoldsSo plan m t state condition
-    → Closes taken told (part_of s (choice_of c) m t (holding m.progress.job t condition)) result old new paper paper'
+    → Closes taken told (part_of s (choice_of c) m t (waiting_step m.progress.job t condition)) result old new paper paper'
 
 -- ---- the step
 
@@ -79,59 +79,59 @@ module _ {D K : Type 0} {holds : D → Option (List (List ℕ))} {taken : K → 
   printed_is answered x = turned_printed k.tasks mid.tasks c.row x.tables
 
   -- where its segment and array are present
-  module _ (answered : Result Attempt Stop) (x : Tries holds taken told told' count k c mid answered new device device' paper paper') (known : Option (List (List ℕ))) (s : Session) (says : Says known told) (h : StandsAt known k s) where
+  module _ (answered : Result Attempt Stop) (x : Tries holds taken told told' count k c mid answered new device device' paper paper') (said : Option (List (List ℕ))) (s : Session) (says : Says said told) (h : StandsAt said k s) where
     abbrev next_of : NextOf s c
-    next_of = n x known s says h
+    next_of = n x said s says h
 
     pub present_by : (m : SessionJob) (t : Task) → IsNext s m t → (step : Result (Unit {0}) Stop) (last : Machine)
-        → (known ≢ None → code_area h.storage h.plan next_of.member next_of.task ≢ None → last.tasks.made ≡ k.tasks.made → StopsWithRoom (length k.cpu.core) s next_of.member next_of.task step)
+        → (said ≢ None → code_area h.storage h.plan next_of.member next_of.task ≢ None → last.tasks.made ≡ k.tasks.made → StopsWithRoom (length k.cpu.core) s next_of.member next_of.task step)
         → (IsNotFull answered → IsNotFull step) → ((sum size : ℕ) → step ≡ Err (stops.BackingFull sum size) → answered ≡ Err (stops.BackingFull sum size))
-        → IfPresent holds (known ≢ None) (length k.cpu.core) 1 h.storage h.plan s m t step k last device device'
+        → IfPresent holds (said ≢ None) (length k.cpu.core) 1 h.storage h.plan s m t step k last device device'
     present_by m t next step last room fine full =
-        as_next s m next_of.member t next_of.task (λ (z : SessionJob) (v : Task). IfPresent holds (known ≢ None) (length k.cpu.core) 1 h.storage h.plan s z v step k last device device') next_of.next next
+        as_next s m next_of.member t next_of.task (λ (z : SessionJob) (v : Task). IfPresent holds (said ≢ None) (length k.cpu.core) 1 h.storage h.plan s z v step k last device device') next_of.next next
         (record {
-          quiet = λ one wants same. quiet_here x known s says h wants same;
-          hole = λ tells one fits none. (let used = hole_here x known s says h tells fits none in record { written = used.written; not_full = fine used.not_full });
-          sum = λ one wants sum size e. sum_here x known s says h wants sum size (full sum size e);
+          quiet = λ one wants same. quiet_here x said s says h wants same;
+          hole = λ tells one fits none. (let used = hole_here x said s says h tells fits none in record { written = used.written; not_full = fine used.not_full });
+          sum = λ one wants sum size e. sum_here x said s says h wants sum size (full sum size e);
           room = room;
         })
 
   -- the operator was made
-  module _ (x : Tries holds taken told told' count k c mid (Ok attempts.Made) new device device' paper paper') (known : Option (List (List ℕ))) (s : Session) (says : Says known told) (h : StandsAt known k s) where
-    abbrev made : Attempted taken known (content_after known told') (length k.cpu.core) count k.tasks.printed s c (Ok attempts.Made) new paper paper'
-    made = attempted x known s says h
+  module _ (x : Tries holds taken told told' count k c mid (Ok attempts.Made) new device device' paper paper') (said : Option (List (List ℕ))) (s : Session) (says : Says said told) (h : StandsAt said k s) where
+    abbrev made : Attempted taken said (content_after said told') (length k.cpu.core) count k.tasks.printed s c (Ok attempts.Made) new paper paper'
+    made = attempted x said s says h
 
     pub made_counts : CountsHaveRoom new.tasks c
-    made_counts = made_room taken known (content_after known told') (length k.cpu.core) count k.tasks.printed s c new paper paper' made
+    made_counts = made_room taken said (content_after said told') (length k.cpu.core) count k.tasks.printed s c new paper paper' made
 
     module _ (tasks : Tasks) (counted : IsCounted c new.tasks tasks) where
       abbrev counts : Machine
       counts = record new { tasks = tasks }
 
-      halved : IsHalfMade taken (content_after known told') (known ≢ None) s k counts paper paper'
-      halved = made_half taken known (content_after known told') (length k.cpu.core) count k.tasks.printed s c new paper paper' made k tasks counted h.stands.tables.counts.made refl refl
+      halved : IsHalfMade taken (content_after said told') (said ≢ None) s k counts paper paper'
+      halved = made_half taken said (content_after said told') (length k.cpu.core) count k.tasks.printed s c new paper paper' made k tasks counted h.stands.tables.counts.made refl refl
 
       pub made_between : StandsBetween counts
-      made_between = between_of taken (content_after known told') (known ≢ None) s k counts paper paper' halved
+      made_between = between_of taken (content_after said told') (said ≢ None) s k counts paper paper' halved
 
       module _ (answered : Result (Unit {0}) Stop) (last : Machine) (paper'' : K) (each : EndsEach taken answered counts last paper' paper'') where
-        abbrev ended : EndsStep taken (content_after known told') halved.part.session answered counts last paper' paper''
-        ended = each halved.storage (content_after known told') halved.plan halved.part.session halved.ordered halved.stands
+        abbrev ended : EndsStep taken (content_after said told') halved.part.session answered counts last paper' paper''
+        ended = each halved.storage (content_after said told') halved.plan halved.part.session halved.ordered halved.stands
 
-        pub made_row : KeepsCounts counts last → Steps taken (content_after known told') (known ≢ None) count s answered k last paper paper''
-        made_row keeps = finished taken (content_after known told') (known ≢ None) count s k counts last paper paper' paper'' halved keeps ended.result ended.finishes answered ended.answer
+        pub made_row : KeepsTables counts last → Steps taken (content_after said told') (said ≢ None) count s answered k last paper paper''
+        made_row keeps = finished taken (content_after said told') (said ≢ None) count s k counts last paper paper' paper'' halved keeps ended.result ended.finishes answered ended.answer
 
-        pub made_present : (m : SessionJob) (t : Task) → IsNext s m t → IfPresent holds (known ≢ None) (length k.cpu.core) 1 h.storage h.plan s m t answered k last device device'
+        pub made_present : (m : SessionJob) (t : Task) → IsNext s m t → IfPresent holds (said ≢ None) (length k.cpu.core) 1 h.storage h.plan s m t answered k last device device'
         made_present m t next =
-            let z = n x known s says h in
-            present_by (Ok attempts.Made) x known s says h m t next answered last (λ tells code none. ended_room (length k.cpu.core) s z.member z.task ended.result answered ended.answer)
+            let z = n x said s says h in
+            present_by (Ok attempts.Made) x said s says h m t next answered last (λ tells code none. ended_room (length k.cpu.core) s z.member z.task ended.result answered ended.answer)
             (λ whole. ended_not_full ended.result answered ended.answer) (λ sum size e. absurd (ended_not_full ended.result answered ended.answer sum size e))
 
   -- the operator ends its task, or makes it wait: the attempt has left the tables as they were
-  module _ (outcome : Attempt) (x : Tries holds taken told told' count k c mid (Ok outcome) new device device' paper paper') (stay : new.tasks ≡ mid.tasks) (known : Option (List (List ℕ))) (s : Session) (says : Says known told) (h : StandsAt known k s)
-      (made : Stepped) (so : ClosesSo known (content_after known told') (length k.cpu.core) new paper paper' (attempted x known s says h).plan (attempted x known s says h).session (attempted x known s says h).member (attempted x known s says h).task (attempted x known s says h).next.chosen made) where
-    abbrev left : Attempted taken known (content_after known told') (length k.cpu.core) count k.tasks.printed s c (Ok outcome) new paper paper'
-    left = attempted x known s says h
+  module _ (outcome : Attempt) (x : Tries holds taken told told' count k c mid (Ok outcome) new device device' paper paper') (stay : new.tasks ≡ mid.tasks) (said : Option (List (List ℕ))) (s : Session) (says : Says said told) (h : StandsAt said k s)
+      (made : Stepped) (so : ClosesSo said (content_after said told') (length k.cpu.core) new paper paper' (attempted x said s says h).plan (attempted x said s says h).session (attempted x said s says h).member (attempted x said s says h).task (attempted x said s says h).next.chosen made) where
+    abbrev left : Attempted taken said (content_after said told') (length k.cpu.core) count k.tasks.printed s c (Ok outcome) new paper paper'
+    left = attempted x said s says h
 
     abbrev runs : new.tasks.running ≡ c.row
     runs = ap (λ (z : Tasks). z.running) stay ∙ ap (λ (z : Tasks). z.running) x.tables
@@ -140,115 +140,115 @@ module _ {D K : Type 0} {holds : D → Option (List (List ℕ))} {taken : K → 
     printed_still = ap (λ (z : Tasks). z.printed) stay ∙ printed_is (Ok outcome) x
 
     pub close_counts : CountsHaveRoom new.tasks c
-    close_counts = close_room taken known (content_after known told') (length k.cpu.core) count k.tasks.printed s c new paper paper' (Ok outcome) made left so
+    close_counts = close_room taken said (content_after said told') (length k.cpu.core) count k.tasks.printed s c new paper paper' (Ok outcome) made left so
 
-    abbrev pub stands_chosen : StandsChosen so.still.0 (content_after known told') new left.plan left.session left.member left.task c
-    stands_chosen = chosen_stands taken known (content_after known told') (length k.cpu.core) count k.tasks.printed s c new paper paper' (Ok outcome) made left so runs
+    abbrev pub stands_chosen : StandsChosen so.still.0 (content_after said told') new left.plan left.session left.member left.task c
+    stands_chosen = chosen_stands taken said (content_after said told') (length k.cpu.core) count k.tasks.printed s c new paper paper' (Ok outcome) made left so runs
 
     abbrev pub the_part : StepResult
     the_part = part_of left.session (choice_of c) left.member left.task made
 
     -- the endings' lines were printed
-    module _ (closed : Machine) (paper'' : K) (closes : Closes taken (content_after known told') the_part (Ok tt) new closed paper' paper'') where
-      closed_half : IsHalfMade taken (content_after known told') (known ≢ None) s k closed paper paper''
+    module _ (closed : Machine) (paper'' : K) (closes : Closes taken (content_after said told') the_part (Ok tt) new closed paper' paper'') where
+      closed_half : IsHalfMade taken (content_after said told') (said ≢ None) s k closed paper paper''
       closed_half =
           let (rest, none, counted, stands) = closes in
-          close_half taken known (content_after known told') (length k.cpu.core) count k.tasks.printed s c new paper paper' (Ok outcome) made left so k closed paper'' rest none counted stands h.stands.tables.counts.made refl printed_still refl
+          close_half taken said (content_after said told') (length k.cpu.core) count k.tasks.printed s c new paper paper' (Ok outcome) made left so k closed paper'' rest none counted stands h.stands.tables.counts.made refl printed_still refl
 
       pub closed_between : StandsBetween closed
-      closed_between = between_of taken (content_after known told') (known ≢ None) s k closed paper paper'' closed_half
+      closed_between = between_of taken (content_after said told') (said ≢ None) s k closed paper paper'' closed_half
 
       module _ (answered : Result (Unit {0}) Stop) (last : Machine) (paper''' : K) (each : EndsEach taken answered closed last paper'' paper''') where
-        abbrev over : EndsStep taken (content_after known told') closed_half.part.session answered closed last paper'' paper'''
-        over = each closed_half.storage (content_after known told') closed_half.plan closed_half.part.session closed_half.ordered closed_half.stands
+        abbrev over : EndsStep taken (content_after said told') closed_half.part.session answered closed last paper'' paper'''
+        over = each closed_half.storage (content_after said told') closed_half.plan closed_half.part.session closed_half.ordered closed_half.stands
 
-        pub closed_row : KeepsCounts closed last → Steps taken (content_after known told') (known ≢ None) count s answered k last paper paper'''
-        closed_row keeps = finished taken (content_after known told') (known ≢ None) count s k closed last paper paper'' paper''' closed_half keeps over.result over.finishes answered over.answer
+        pub closed_row : KeepsTables closed last → Steps taken (content_after said told') (said ≢ None) count s answered k last paper paper'''
+        closed_row keeps = finished taken (content_after said told') (said ≢ None) count s k closed last paper paper'' paper''' closed_half keeps over.result over.finishes answered over.answer
 
-        pub closed_present : (m : SessionJob) (t : Task) → IsNext s m t → IfPresent holds (known ≢ None) (length k.cpu.core) 1 h.storage h.plan s m t answered k last device device'
+        pub closed_present : (m : SessionJob) (t : Task) → IsNext s m t → IfPresent holds (said ≢ None) (length k.cpu.core) 1 h.storage h.plan s m t answered k last device device'
         closed_present m t next =
-            let z = n x known s says h in
-            present_by (Ok outcome) x known s says h m t next answered last (λ tells code none. ended_room (length k.cpu.core) s z.member z.task over.result answered over.answer)
+            let z = n x said s says h in
+            present_by (Ok outcome) x said s says h m t next answered last (λ tells code none. ended_room (length k.cpu.core) s z.member z.task over.result answered over.answer)
             (λ whole. ended_not_full over.result answered over.answer) (λ sum size e. absurd (ended_not_full over.result answered over.answer sum size e))
 
     -- the printer failed in them
     module _ (failed : Failed) (last : Machine) (paper'' : K) where
-      pub cut_row : k.tasks.halt ≢ Some k.tasks.made → new.tasks.halt ≡ k.tasks.halt → Closes taken (content_after known told') the_part (Err failed) new last paper' paper'' → Steps taken (content_after known told') (known ≢ None) count s (Err stops.PrintFault) k last paper paper''
+      pub cut_row : k.tasks.halt ≢ Some k.tasks.made → new.tasks.halt ≡ k.tasks.halt → Closes taken (content_after said told') the_part (Err failed) new last paper' paper'' → Steps taken (content_after said told') (said ≢ None) count s (Err stops.PrintFault) k last paper paper''
       cut_row due halt closes =
           let (more, only) = closes in
-          cut_steps taken known (content_after known told') (length k.cpu.core) count k.tasks.printed s c new paper paper' (Ok outcome) made left so k last paper'' h.stands.tables.counts.made refl printed_still refl due halt more only
+          cut_steps taken said (content_after said told') (length k.cpu.core) count k.tasks.printed s c new paper paper' (Ok outcome) made left so k last paper'' h.stands.tables.counts.made refl printed_still refl due halt more only
 
-      pub cut_present : (m : SessionJob) (t : Task) → IsNext s m t → IfPresent {A = Unit {0}} holds (known ≢ None) (length k.cpu.core) 1 h.storage h.plan s m t (Err stops.PrintFault) k last device device'
-      cut_present m t next = present_by (Ok outcome) x known s says h m t next (Err stops.PrintFault) last (λ tells code none. tt) (λ whole sum size e. absurd cc) (λ sum size e. absurd cc)
+      pub cut_present : (m : SessionJob) (t : Task) → IsNext s m t → IfPresent {A = Unit {0}} holds (said ≢ None) (length k.cpu.core) 1 h.storage h.plan s m t (Err stops.PrintFault) k last device device'
+      cut_present m t next = present_by (Ok outcome) x said s says h m t next (Err stops.PrintFault) last (λ tells code none. tt) (λ whole sum size e. absurd cc) (λ sum size e. absurd cc)
 
   -- it ends its task
-  module _ (ending : Ending) (x : Tries holds taken told told' count k c mid (Ok (attempts.Ends ending)) new device device' paper paper') (known : Option (List (List ℕ))) (s : Session) (says : Says known told) (h : StandsAt known k s) where
-    abbrev ending_left : Attempted taken known (content_after known told') (length k.cpu.core) count k.tasks.printed s c (Ok (attempts.Ends ending)) new paper paper'
-    ending_left = attempted x known s says h
+  module _ (ending : Ending) (x : Tries holds taken told told' count k c mid (Ok (attempts.Ends ending)) new device device' paper paper') (said : Option (List (List ℕ))) (s : Session) (says : Says said told) (h : StandsAt said k s) where
+    abbrev ending_left : Attempted taken said (content_after said told') (length k.cpu.core) count k.tasks.printed s c (Ok (attempts.Ends ending)) new paper paper'
+    ending_left = attempted x said s says h
 
     abbrev pub ending_made : Stepped
     ending_made = ends_with ending_left.member.progress.job ending_left.task.number ending
 
-    abbrev pub ending_so : ClosesSo known (content_after known told') (length k.cpu.core) new paper paper' ending_left.plan ending_left.session ending_left.member ending_left.task ending_left.next.chosen ending_made
-    ending_so = ends_so taken known (content_after known told') (length k.cpu.core) count k.tasks.printed s c new paper paper' ending ending_left
+    abbrev pub ending_so : ClosesSo said (content_after said told') (length k.cpu.core) new paper paper' ending_left.plan ending_left.session ending_left.member ending_left.task ending_left.next.chosen ending_made
+    ending_so = ends_so taken said (content_after said told') (length k.cpu.core) count k.tasks.printed s c new paper paper' ending ending_left
 
     -- the chosen row is its
-    ending_stands : StandsChosen ending_so.still.0 (content_after known told') new ending_left.plan ending_left.session ending_left.member ending_left.task c
-    ending_stands = stands_chosen (attempts.Ends ending) x x.stay known s says h ending_made ending_so
+    ending_stands : StandsChosen ending_so.still.0 (content_after said told') new ending_left.plan ending_left.session ending_left.member ending_left.task c
+    ending_stands = stands_chosen (attempts.Ends ending) x x.stay said s says h ending_made ending_so
 
     pub ending_chose : ChoseSome new c
-    ending_chose = record { storage = ending_so.still.0; told = content_after known told'; plan = ending_left.plan; session = ending_left.session; member = ending_left.member; task = ending_left.task; stands = ending_stands }
+    ending_chose = record { storage = ending_so.still.0; told = content_after said told'; plan = ending_left.plan; session = ending_left.session; member = ending_left.member; task = ending_left.task; stands = ending_stands }
 
     -- what closing says of it
     pub ending_closes : (result : Result (Unit {0}) Failed) (closed : Machine) (paper'' : K) → ClosesEach taken c ending result new closed paper' paper''
-        → Closes taken (content_after known told') (the_part (attempts.Ends ending) x x.stay known s says h ending_made ending_so) result new closed paper' paper''
-    ending_closes result closed paper'' closes = closes ending_so.still.0 (content_after known told') ending_left.plan ending_left.session ending_left.member ending_left.task ending_stands
+        → Closes taken (content_after said told') (the_part (attempts.Ends ending) x x.stay said s says h ending_made ending_so) result new closed paper' paper''
+    ending_closes result closed paper'' closes = closes ending_so.still.0 (content_after said told') ending_left.plan ending_left.session ending_left.member ending_left.task ending_stands
 
   -- it makes its task wait
-  module _ (state : TaskState) (x : Tries holds taken told told' count k c mid (Ok (attempts.Waits state)) new device device' paper paper') (known : Option (List (List ℕ))) (s : Session) (says : Says known told) (h : StandsAt known k s) where
-    abbrev waiting : Attempted taken known (content_after known told') (length k.cpu.core) count k.tasks.printed s c (Ok (attempts.Waits state)) new paper paper'
-    waiting = attempted x known s says h
+  module _ (state : TaskState) (x : Tries holds taken told told' count k c mid (Ok (attempts.Waits state)) new device device' paper paper') (said : Option (List (List ℕ))) (s : Session) (says : Says said told) (h : StandsAt said k s) where
+    abbrev waiting : Attempted taken said (content_after said told') (length k.cpu.core) count k.tasks.printed s c (Ok (attempts.Waits state)) new paper paper'
+    waiting = attempted x said s says h
 
     abbrev pub waiting_made : Stepped
-    waiting_made = wait_made taken known (content_after known told') (length k.cpu.core) count k.tasks.printed s c new paper paper' state waiting
+    waiting_made = wait_made taken said (content_after said told') (length k.cpu.core) count k.tasks.printed s c new paper paper' state waiting
 
-    abbrev pub waiting_so : ClosesSo known (content_after known told') (length k.cpu.core) new paper paper' waiting.plan waiting.session waiting.member waiting.task waiting.next.chosen waiting_made
-    waiting_so = waits_so taken known (content_after known told') (length k.cpu.core) count k.tasks.printed s c new paper paper' state waiting
+    abbrev pub waiting_so : ClosesSo said (content_after said told') (length k.cpu.core) new paper paper' waiting.plan waiting.session waiting.member waiting.task waiting.next.chosen waiting_made
+    waiting_so = waits_so taken said (content_after said told') (length k.cpu.core) count k.tasks.printed s c new paper paper' state waiting
 
-    waiting_stands : StandsChosen waiting_so.still.0 (content_after known told') new waiting.plan waiting.session waiting.member waiting.task c
-    waiting_stands = stands_chosen (attempts.Waits state) x x.stay known s says h waiting_made waiting_so
+    waiting_stands : StandsChosen waiting_so.still.0 (content_after said told') new waiting.plan waiting.session waiting.member waiting.task c
+    waiting_stands = stands_chosen (attempts.Waits state) x x.stay said s says h waiting_made waiting_so
 
-    waiting_holds : HoldsSo waiting.plan waiting.member waiting.task state (waits taken known (content_after known told') (length k.cpu.core) count k.tasks.printed s c new paper paper' state waiting).condition
-    waiting_holds = holds_so taken known (content_after known told') (length k.cpu.core) count k.tasks.printed s c new paper paper' state waiting
+    waiting_holds : HoldsSo waiting.plan waiting.member waiting.task state (waits taken said (content_after said told') (length k.cpu.core) count k.tasks.printed s c new paper paper' state waiting).condition
+    waiting_holds = holds_so taken said (content_after said told') (length k.cpu.core) count k.tasks.printed s c new paper paper' state waiting
 
     pub waiting_some : HoldsSome new c state
     waiting_some = record {
       storage = waiting_so.still.0;
-      told = content_after known told';
+      told = content_after said told';
       plan = waiting.plan;
       session = waiting.session;
       member = waiting.member;
       task = waiting.task;
-      condition = (waits taken known (content_after known told') (length k.cpu.core) count k.tasks.printed s c new paper paper' state waiting).condition;
+      condition = (waits taken said (content_after said told') (length k.cpu.core) count k.tasks.printed s c new paper paper' state waiting).condition;
       stands = waiting_stands;
       so = waiting_holds;
     }
 
     pub waiting_closes : (result : Result (Unit {0}) Failed) (closed : Machine) (paper'' : K) → HoldsEach taken c state result new closed paper' paper''
-        → Closes taken (content_after known told') (the_part (attempts.Waits state) x x.stay known s says h waiting_made waiting_so) result new closed paper' paper''
+        → Closes taken (content_after said told') (the_part (attempts.Waits state) x x.stay said s says h waiting_made waiting_so) result new closed paper' paper''
     waiting_closes result closed paper'' holds =
-        holds waiting_so.still.0 (content_after known told') waiting.plan waiting.session waiting.member waiting.task
-        (waits taken known (content_after known told') (length k.cpu.core) count k.tasks.printed s c new paper paper' state waiting).condition waiting_stands waiting_holds
+        holds waiting_so.still.0 (content_after said told') waiting.plan waiting.session waiting.member waiting.task
+        (waits taken said (content_after said told') (length k.cpu.core) count k.tasks.printed s c new paper paper' state waiting).condition waiting_stands waiting_holds
 
   -- it isn't made
-  module _ (stop : Stop) (x : Tries holds taken told told' count k c mid (Err stop) new device device' paper paper') (known : Option (List (List ℕ))) (s : Session) (says : Says known told) (h : StandsAt known k s) where
-    pub stop_row : k.tasks.halt ≢ Some k.tasks.made → new.tasks.halt ≡ k.tasks.halt → Steps taken (content_after known told') (known ≢ None) count s (Err stop) k new paper paper'
+  module _ (stop : Stop) (x : Tries holds taken told told' count k c mid (Err stop) new device device' paper paper') (said : Option (List (List ℕ))) (s : Session) (says : Says said told) (h : StandsAt said k s) where
+    pub stop_row : k.tasks.halt ≢ Some k.tasks.made → new.tasks.halt ≡ k.tasks.halt → Steps taken (content_after said told') (said ≢ None) count s (Err stop) k new paper paper'
     stop_row due halt =
-        stop_steps taken known (content_after known told') (length k.cpu.core) count k.tasks.printed s c new paper paper' stop (attempted x known s says h) k h.stands.tables.counts.made refl refl due halt
+        stop_steps taken said (content_after said told') (length k.cpu.core) count k.tasks.printed s c new paper paper' stop (attempted x said s says h) k h.stands.tables.counts.made refl refl due halt
         (λ other. stop_printed stop mid.tasks new.tasks x.stay other ∙ printed_is (Err stop) x)
 
-    pub stop_present : (m : SessionJob) (t : Task) → IsNext s m t → IfPresent {A = Unit {0}} holds (known ≢ None) (length k.cpu.core) 1 h.storage h.plan s m t (Err stop) k new device device'
+    pub stop_present : (m : SessionJob) (t : Task) → IsNext s m t → IfPresent {A = Unit {0}} holds (said ≢ None) (length k.cpu.core) 1 h.storage h.plan s m t (Err stop) k new device device'
     stop_present m t next =
-        let z = n x known s says h in
-        present_by (Err stop) x known s says h m t next (Err stop) new (λ tells code none. stopped_room (length k.cpu.core) s z.member z.task h.storage h.plan stop (room_there x known s says h tells) code)
+        let z = n x said s says h in
+        present_by (Err stop) x said s says h m t next (Err stop) new (λ tells code none. stopped_room (length k.cpu.core) s z.member z.task h.storage h.plan stop (room_there x said s says h tells) code)
         (λ whole. not_full_as stop whole) (λ sum size e. ap (λ (z : Stop). Err z) (let is : stop ≡ stops.BackingFull sum size = cc in is))

@@ -62,7 +62,7 @@ pub record NextOf (s : Session) (c : Chosen) : Type 0 where
 pub next_of : (s : Session) (c : Chosen) → IsInOrderButPlaces s → choice s ≡ Some (choice_of c) → NextOf s c
 next_of s c o is = let (m, t, n, same, ready) = chosen_tasks_are_ready s (choice_of c) o is in record { member = m; task = t; next = n; chosen = same; ready = ready }
 
-module _ (known : Option (List (List ℕ))) (k : Machine) (s : Session) (h : StandsAt known k s) (c : Chosen) (chooses : Chooses k.tasks.rows.items (Some c) (choice s)) where
+module _ (said : Option (List (List ℕ))) (k : Machine) (s : Session) (h : StandsAt said k s) (c : Chosen) (chooses : Chooses k.tasks.rows.items (Some c) (choice s)) where
   abbrev pub who : NextOf s c
   who = next_of s c h.ordered chooses.1
 
@@ -70,11 +70,11 @@ module _ (known : Option (List (List ℕ))) (k : Machine) (s : Session) (h : Sta
   the_row = chose s who.member who.task who.next h.plan k.tasks c h.ordered h.stands.tables who.chosen chooses.0
 
   pub has_row : HasRow k c.row
-  has_row = record { storage = h.storage; told = known; plan = h.plan; session = s; ordered = but_counts s h.ordered; stands = h.stands; inside = slice_get_within k.tasks.rows.items c.row the_row.row the_row.at }
+  has_row = record { storage = h.storage; told = said; plan = h.plan; session = s; ordered = but_counts s h.ordered; stands = h.stands; inside = slice_get_within k.tasks.rows.items c.row the_row.row the_row.at }
 
   abbrev pub turned : (new : Machine)
-      → ((x : Storage) (known : Option (List (List ℕ))) (plan : Placement) (s : Session) (r : TaskRow) → IsInOrderButCounts s → MachineRepresents x known k plan s → slice_get k.tasks.rows.items c.row ≡ Some r → MachineRepresents x known new (with_running plan r.slot) s)
-      → CountsHaveRoom k.tasks c → Turned known new s who.member who.task c
+      → ((x : Storage) (said : Option (List (List ℕ))) (plan : Placement) (s : Session) (r : TaskRow) → IsInOrderButCounts s → MachineRepresents x said k plan s → slice_get k.tasks.rows.items c.row ≡ Some r → MachineRepresents x said new (with_running plan r.slot) s)
+      → CountsHaveRoom k.tasks c → Turned said new s who.member who.task c
   turned new stands room =
       let r = the_row in record {
         storage = h.storage;
@@ -83,25 +83,25 @@ module _ (known : Option (List (List ℕ))) (k : Machine) (s : Session) (h : Sta
         next = who.next;
         chosen = who.chosen;
         ready = who.ready;
-        stands = stands h.storage known h.plan s r.row (but_counts s h.ordered) h.stands r.at;
+        stands = stands h.storage said h.plan s r.row (but_counts s h.ordered) h.stands r.at;
         running = runs_then s who.member who.task who.next h.plan r.row.slot r.shows.slot;
         turn = room.turn;
       }
 
 -- what is known is what the storage says
-pub over : (x : Storage) (known told : Option (List (List ℕ))) (k : Machine) (plan : Placement) (s : Session) → Says known told → MachineRepresents x known k plan s → StandsOver x told k plan s
-over x known told k plan s says h = record {
+pub over : (x : Storage) (said told : Option (List (List ℕ))) (k : Machine) (plan : Placement) (s : Session) → Says said told → MachineRepresents x said k plan s → StandsOver x told k plan s
+over x said told k plan s says h = record {
   says = subst (λ (d : Option (List (List ℕ))). Says d told) h.storage.device says;
   stands = subst (λ (d : Option (List (List ℕ))). MachineRepresents x d k plan s) h.storage.device h;
 }
 
-pub runs_over : (known told : Option (List (List ℕ))) → Says known told → (k : Machine) (s : Session) (m : SessionJob) (t : Task) (c : Chosen) → Turned known k s m t c → RunsOver k told
-runs_over known told says k s m t c h = record { storage = h.storage; plan = h.plan; session = s; member = m; task = t; ordered = but_counts s h.ordered; stands = over h.storage known told k h.plan s says h.stands; running = h.running; ready = h.ready }
+pub runs_over : (said told : Option (List (List ℕ))) → Says said told → (k : Machine) (s : Session) (m : SessionJob) (t : Task) (c : Chosen) → Turned said k s m t c → RunsOver k told
+runs_over said told says k s m t c h = record { storage = h.storage; plan = h.plan; session = s; member = m; task = t; ordered = but_counts s h.ordered; stands = over h.storage said told k h.plan s says h.stands; running = h.running; ready = h.ready }
 
 -- what the attempt answered, for the session or where nothing is known of the sectors for one with other numbers
-pub record Attempted {K : Type 0} (taken : K → Option (List ℕ)) (known known' : Option (List (List ℕ))) (core count before : ℕ) (s : Session) (c : Chosen) (answered : Result Attempt Stop) (k : Machine) (paper paper' : K) : Type 0 where
+pub record Attempted {K : Type 0} (taken : K → Option (List ℕ)) (said said' : Option (List (List ℕ))) (core count before : ℕ) (s : Session) (c : Chosen) (answered : Result Attempt Stop) (k : Machine) (paper paper' : K) : Type 0 where
   pub session : Session
-  pub same : known ≢ None → session ≡ s
+  pub same : said ≢ None → session ≡ s
   pub same_made : session.made ≡ s.made
   pub member : SessionJob
   pub task : Task
@@ -112,8 +112,8 @@ pub record Attempted {K : Type 0} (taken : K → Option (List ℕ)) (known known
   pub chosen : next.chosen ≡ choice_of c
   pub running : IsRunning plan session.jobs member task
   pub few : c.turn + 1 < 2 ^ 32
-  pub meets : AttemptMeets taken known' (known ≢ None) core count before plan session member task answered k paper paper'
-  pub room : known ≢ None → AttemptFits core storage plan session member task answered
+  pub meets : AttemptMeets taken said' (said ≢ None) core count before plan session member task answered k paper paper'
+  pub room : said ≢ None → AttemptFits core storage plan session member task answered
 
 -- the chosen task's row, and what the machine then stands for
 abbrev pub GivesTurn : Machine → ℕ → Machine → Type 0
@@ -138,23 +138,23 @@ pub record Tries {D K : Type 0} (holds : D → Option (List (List ℕ))) (taken 
   pub halt : new.tasks.halt ≡ mid.tasks.halt
 
 module _ {D K : Type 0} {holds : D → Option (List (List ℕ))} {taken : K → Option (List ℕ)} {told told' : Option (List (List ℕ))} {count : ℕ} {k mid new : Machine} {c : Chosen} {answered : Result Attempt Stop} {device device' : D} {paper paper' : K}
-    (x : Tries holds taken told told' count k c mid answered new device device' paper paper') (known : Option (List (List ℕ))) (s : Session) (says : Says known told) (h : StandsAt known k s) where
+    (x : Tries holds taken told told' count k c mid answered new device device' paper paper') (said : Option (List (List ℕ))) (s : Session) (says : Says said told) (h : StandsAt said k s) where
   abbrev chooses_here : Chooses k.tasks.rows.items (Some c) (choice s)
   chooses_here = x.chooses h.plan s h.ordered h.stands.tables
 
   abbrev pub n : NextOf s c
-  n = who known k s h c chooses_here
+  n = who said k s h c chooses_here
 
-  abbrev here : Turned known mid s n.member n.task c
-  here = turned known k s h c chooses_here mid x.gives (x.counts h.plan s h.ordered h.stands.tables)
+  abbrev here : Turned said mid s n.member n.task c
+  here = turned said k s h c chooses_here mid x.gives (x.counts h.plan s h.ordered h.stands.tables)
 
   abbrev stood : StandsOver here.storage told mid here.plan s
-  stood = over here.storage known told mid here.plan s says here.stands
+  stood = over here.storage said told mid here.plan s says here.stands
 
-  device_is : known ≡ here.storage.device
+  device_is : said ≡ here.storage.device
   device_is = here.stands.storage.device
 
-  device_told : known ≢ None → here.storage.device ≢ None
+  device_told : said ≢ None → here.storage.device ≢ None
   device_told tells = subst (λ (d : Option (List (List ℕ))). d ≢ None) device_is tells
 
   abbrev pub promise : AttemptRow holds taken here.storage (content_after here.storage.device told') (length mid.cpu.core) count mid.tasks.printed here.plan s n.member n.task answered new device device' paper paper'
@@ -166,27 +166,27 @@ module _ {D K : Type 0} {holds : D → Option (List (List ℕ))} {taken : K → 
   again : (q : IsNext (record s { jobs = a.jobs }) a.member n.task) × (q.chosen ≡ n.next.chosen)
   again = next_other here.plan s n.member a.member n.task a.jobs here.stands.session.holds.fits.rows a.others here.running a.running n.next
 
-  jobs_same : known ≢ None → a.jobs ≡ s.jobs
+  jobs_same : said ≢ None → a.jobs ≡ s.jobs
   jobs_same tells = a.same (device_told tells)
 
-  member_same : known ≢ None → a.member ≡ n.member
+  member_same : said ≢ None → a.member ≡ n.member
   member_same tells =
       let found : keyed number_of n.next.chosen.who.job a.jobs ≡ Some a.member = subst (λ (z : Choice). keyed number_of z.who.job a.jobs ≡ Some a.member) again.1 again.0.member in
       let there : keyed number_of n.next.chosen.who.job s.jobs ≡ Some a.member = subst (λ (js : List SessionJob). keyed number_of n.next.chosen.who.job js ≡ Some a.member) (jobs_same tells) found in
       same_Some a.member n.member (sym there ∙ n.next.member)
 
-  room_here : known ≢ None → AttemptFits (length mid.cpu.core) here.storage here.plan s n.member n.task answered
+  room_here : said ≢ None → AttemptFits (length mid.cpu.core) here.storage here.plan s n.member n.task answered
   room_here tells = promise.fits (device_told tells)
 
   -- the same of the session that the machine represents again
-  room_again : known ≢ None → AttemptFits (length mid.cpu.core) here.storage here.plan (record s { jobs = a.jobs }) a.member n.task answered
+  room_again : said ≢ None → AttemptFits (length mid.cpu.core) here.storage here.plan (record s { jobs = a.jobs }) a.member n.task answered
   room_again tells =
       let J : List SessionJob → Type 0 = λ jobs. AttemptFits (length mid.cpu.core) here.storage here.plan (record s { jobs = jobs }) n.member n.task answered in
       let M : SessionJob → Type 0 = λ z. AttemptFits (length mid.cpu.core) here.storage here.plan (record s { jobs = a.jobs }) z n.task answered in
       subst M (sym (member_same tells)) (subst J (sym (jobs_same tells)) (room_here tells))
 
   -- and of the machine before
-  pub room_there : known ≢ None → AttemptFits (length k.cpu.core) h.storage h.plan s n.member n.task answered
+  pub room_there : said ≢ None → AttemptFits (length k.cpu.core) h.storage h.plan s n.member n.task answered
   room_there tells = subst (λ (size : ℕ). AttemptFits size h.storage h.plan s n.member n.task answered) x.core (room_over answered (room_here tells)) where
     room_over : (other : Result Attempt Stop) → AttemptFits (length mid.cpu.core) here.storage here.plan s n.member n.task other → AttemptFits (length mid.cpu.core) h.storage h.plan s n.member n.task other
     room_over (Ok attempted) fits = fits
@@ -195,9 +195,9 @@ module _ {D K : Type 0} {holds : D → Option (List (List ℕ))} {taken : K → 
     room_over (Err stops.BackingFault) fits = fits
     room_over (Err stops.PrintFault) fits = fits
 
-  pub attempted : Attempted taken known (content_after known told') (length k.cpu.core) count k.tasks.printed s c answered new paper paper'
+  pub attempted : Attempted taken said (content_after said told') (length k.cpu.core) count k.tasks.printed s c answered new paper paper'
   attempted =
-      let P : ℕ → ℕ → Type 0 = λ core before. Attempted taken known (content_after known told') core count before s c answered new paper paper' in
+      let P : ℕ → ℕ → Type 0 = λ core before. Attempted taken said (content_after said told') core count before s c answered new paper paper' in
       let printed : mid.tasks.printed ≡ k.tasks.printed = ap (λ (z : Tasks). z.printed) x.tables in
       subst (λ (size : ℕ). P size k.tasks.printed) x.core (subst (P (length mid.cpu.core)) printed (record {
         session = record s { jobs = a.jobs };
@@ -225,7 +225,7 @@ module _ {D K : Type 0} {holds : D → Option (List (List ℕ))} {taken : K → 
   hole_there (segment_fits none arrays room) = segment_fits none arrays room
   hole_there (array_fits a code among absent is room) = array_fits a code among absent is room
 
-  pub hole_here : known ≢ None → HoleFits h.storage h.plan n.member n.task → (CallsDevice n.member n.task → ⊥) → UsesHole holds answered device device'
+  pub hole_here : said ≢ None → HoleFits h.storage h.plan n.member n.task → (CallsDevice n.member n.task → ⊥) → UsesHole holds answered device device'
   hole_here tells fits none = promise.hole (device_told tells) (hole_there fits) none
 
   -- and what a full device is told where nothing is

@@ -40,20 +40,20 @@ use Rattle.b67_task_tables.specs.declared.tables.Tasks.{Tasks}
 use Rattle.b67_task_tables.specs.declared.tables.Machine.{Machine}
 use Rattle.b67_task_tables.specs.Runs.{RunsTask}
 use Rattle.b67_task_tables.specs.Tables.{job_row, TasksShow, MachineRepresents}
-use Rattle.b67_session_attempt.specs.Makes.{OperatorMade, StepMakes, CallsOrMakes, MakesAt, MakesOperator, ForEachReady}
+use Rattle.b67_session_attempt.specs.Makes.{OperatorMade, StepMakes, CallsOrMakes, MakesAt, MakesInSegment, ForEachReady}
 use Rattle.b67_session_schedule.specs.declared.counting.Chosen.{Chosen}
 use Rattle.b67_session_schedule.specs.Counted.{counted_more, counted_by, TurnHasRoom}
 use Rattle.b67_session_schedule.specs.Lasting.{RulesLeave, Lasts, TurnLasts, BeforeHalt}
 use Rattle.b67_session_schedule.proofs.Lasting.{lasts_choice}
 use Rattle.b67_law_order.proofs.FewMade.{made_few, all_few}
-use Rattle.b67_session_attempt.specs.Fits.{IsOfJob}
+use Rattle.b67_session_attempt.specs.Fits.{IsArrayOfJob}
 use Rattle.b67_session_attempt.proofs.AttemptFits.{was_operator, made_touches}
 use Rattle.b67_session_attempt.proofs.FittingMade.{made_fit}
 use Rattle.b67_session_attempt.proofs.Started.{known_in}
 use Rattle.b67_session_attempt.proofs.Still.{operator_many, operator_starts}
 use Rattle.b67_session_attempt.proofs.Trying.{was_made}
 use Rattle.b67_session_ends.proofs.Counted.{alike_refl, same_refl}
-use Rattle.b67_session.specs.InTurn.{HasTurn, MadeInTurn}
+use Rattle.b67_session.specs.InTurn.{HasTurnLeft, MadeInTurn}
 use Rattle.b67_session.specs.Slices.{StandsAt, NextFits, StepsFit}
 use Rattle.b67_session.specs.Steps.{GoesOnInTurn}
 use Rattle.b67_session.proofs.Fitting.{fits_more}
@@ -89,7 +89,7 @@ twin n (x ∷ ts) (u ∷ us) t same e =
     ]
 
 module _ (m : SessionJob) (t : Task) (live : keyed number t.number m.progress.job.tasks ≡ Some t) where
-  profiles_by : (r : Reading) → operators.called_by m t r ≡ None → (job : Job) (printed : List Line) (touched : Option ℕ) → step_by m.constants m.progress.job t r ≡ Ok (Goes job printed touched) → profiles job.tasks ≡ profiles m.progress.job.tasks
+  profiles_by : (r : Reading) → operators.called_by_reading m t r ≡ None → (job : Job) (printed : List Line) (touched : Option ℕ) → step_by m.constants m.progress.job t r ≡ Ok (Goes job printed touched) → profiles job.tasks ≡ profiles m.progress.job.tasks
   profiles_by (Err why) none job printed touched is = absurd cc
   profiles_by (Ok read) none job printed touched is = (rows_keep read.0 (here m t read.1) (known_in t.number m.progress.job.tasks t live) none job printed touched is).0
 
@@ -211,7 +211,7 @@ counted_none s =
 -- ---- one operator
 
 -- after every answer but Done nothing has changed
-unmade : (x : Storage) (told : Option (List (List ℕ))) (plan : Placement) (s : Session) (m : SessionJob) (t : Task) (answered : Step) (old new : Machine) → answered ≢ answers.Done → MakesOperator x told plan s m t answered old new → new ≡ old
+unmade : (x : Storage) (told : Option (List (List ℕ))) (plan : Placement) (s : Session) (m : SessionJob) (t : Task) (answered : Step) (old new : Machine) → answered ≢ answers.Done → MakesInSegment x told plan s m t answered old new → new ≡ old
 unmade x told plan s m t answered old new other row = by_area (code_area x plan m t) row where
   by_answer : (a : Step) → a ≢ answers.Done → StepMakes x told plan s m t a old new → new ≡ old
   by_answer answers.Done no_step h = absurd (no_step refl)
@@ -228,7 +228,7 @@ unmade x told plan s m t answered old new other row = by_area (code_area x plan 
   by_area None h = h.1
   by_area (Some at) h = by_call (called_in m t) h
 
-module _ (known : Option (List (List ℕ))) (steps left : ℕ) (first : Session) (core : ℕ) (k : Machine) (h : HasTurn known steps left first core k) (some : 1 ≤ left) where
+module _ (said : Option (List (List ℕ))) (steps left : ℕ) (first : Session) (core : ℕ) (k : Machine) (h : HasTurnLeft said steps left first core k) (some : 1 ≤ left) where
   abbrev u : Session
   u = h.bare
 
@@ -257,21 +257,21 @@ module _ (known : Option (List (List ℕ))) (steps left : ℕ) (first : Session)
   order = bare_ordered steps u (but_counts s h.ordered)
 
   pub turn_runs : RunsTask k
-  turn_runs = record { storage = h.storage; told = known; plan = h.plan; session = u; member = h.member; task = t; ordered = order; stands = h.stands; running = runs }
+  turn_runs = record { storage = h.storage; told = said; plan = h.plan; session = u; member = h.member; task = t; ordered = order; stands = h.stands; running = runs }
 
   -- where an operator wasn't made nothing has changed
-  pub turn_stays : (answered : Step) (new : Machine) → answered ≢ answers.Done → ForEachReady k (λ x told plan s m t. MakesOperator x told plan s m t answered k new) → new ≡ k
-  turn_stays answered new other row = unmade h.storage known h.plan u h.member t answered k new other (row h.storage known h.plan u h.member t order h.stands runs h.lasts.ready)
+  pub turn_stays : (answered : Step) (new : Machine) → answered ≢ answers.Done → ForEachReady k (λ x told plan s m t. MakesInSegment x told plan s m t answered k new) → new ≡ k
+  turn_stays answered new other row = unmade h.storage said h.plan u h.member t answered k new other (row h.storage said h.plan u h.member t order h.stands runs h.lasts.ready)
 
-  module _ (new : Machine) (each : ForEachReady k (λ x told plan s m t. MakesOperator x told plan s m t answers.Done k new)) where
-    abbrev row : MakesOperator h.storage known h.plan u h.member t answers.Done k new
-    row = each h.storage known h.plan u h.member t order h.stands runs h.lasts.ready
+  module _ (new : Machine) (each : ForEachReady k (λ x told plan s m t. MakesInSegment x told plan s m t answers.Done k new)) where
+    abbrev row : MakesInSegment h.storage said h.plan u h.member t answers.Done k new
+    row = each h.storage said h.plan u h.member t order h.stands runs h.lasts.ready
 
-    abbrev made : OperatorMade h.storage known h.plan u h.member t k new
-    made = was_made h.storage known h.plan u h.member t k new (code_area h.storage h.plan h.member t) row
+    abbrev made : OperatorMade h.storage said h.plan u h.member t k new
+    made = was_made h.storage said h.plan u h.member t k new (code_area h.storage h.plan h.member t) row
 
     called : (code_area h.storage h.plan h.member t ≢ None) × (called_in h.member t ≡ None)
-    called = was_operator h.storage known h.plan u h.member t answers.Done k new (code_area h.storage h.plan h.member t) refl (λ e. absurd cc) (λ i e. absurd cc) row
+    called = was_operator h.storage said h.plan u h.member t answers.Done k new (code_area h.storage h.plan h.member t) refl (λ e. absurd cc) (λ i e. absurd cc) row
 
     abbrev stays : Stays m.progress.job.tasks made.job.tasks × (made.job.next_task ≤ m.progress.job.next_task + 1)
     stays = kept s m t n h.ordered made.job [] made.touched made.is
@@ -354,9 +354,9 @@ module _ (known : Option (List (List ℕ))) (steps left : ℕ) (first : Session)
     touches : touched_of m.constants m.progress.job t (step m.constants m.progress.job t) ≡ made.touched
     touches = ap (touched_of m.constants m.progress.job t) made.is
 
-    of_job : (o : Option ℕ) → made.touched ≡ o → IsOfJob m.progress.job o
+    of_job : (o : Option ℕ) → made.touched ≡ o → IsArrayOfJob m.progress.job o
     of_job None e = tt
-    of_job (Some a) e = let p = made_touches h.storage known h.plan u h.member t order runs k new made a (touches ∙ e) in (p.array, p.among, p.named)
+    of_job (Some a) e = let p = made_touches h.storage said h.plan u h.member t order runs k new made a (touches ∙ e) in (p.array, p.among, p.named)
 
     need_fits : (area : Option ℕ) → code_area h.storage h.plan m t ≡ area → area ≢ None → need (length k.cpu.core) s m t ≤ length k.cpu.core
     need_fits None is there = absurd (there refl)
@@ -368,7 +368,7 @@ module _ (known : Option (List (List ℕ))) (steps left : ℕ) (first : Session)
     needs = next_fits s m t n (length k.cpu.core) (need_fits (code_area h.storage h.plan m t) refl called.0)
 
     -- after it the last task goes on
-    pub turn_made : length k.cpu.core ≡ core → (fewer : ℕ) → fewer ≡ left - 1 → HasTurn known (steps + 1) fewer first core new
+    pub turn_made : length k.cpu.core ≡ core → (fewer : ℕ) → fewer ≡ left - 1 → HasTurnLeft said (steps + 1) fewer first core new
     turn_made size fewer same =
         let (v, at, like) = twin s.last.task m.progress.job.tasks made.job.tasks t (profiles_stay h.member t runs.task called.1 made.job [] made.touched made.is) h.lasts.task in
         record {
@@ -399,9 +399,9 @@ module _ (known : Option (List (List ℕ))) (steps left : ℕ) (first : Session)
 -- ---- the loop
 
 -- the turn at its beginning
-pub turn_begins : (told : Option (List (List ℕ))) (room : ℕ) (x : Storage) (plan : Placement) (s : Session) (k : Machine) → IsInOrderButPlaces s → MachineRepresents x told k plan s → TurnLasts plan s room → (left : ℕ) → left ≡ room → HasTurn told 0 left s (length k.cpu.core) k
+pub turn_begins : (told : Option (List (List ℕ))) (room : ℕ) (x : Storage) (plan : Placement) (s : Session) (k : Machine) → IsInOrderButPlaces s → MachineRepresents x told k plan s → TurnLasts plan s room → (left : ℕ) → left ≡ room → HasTurnLeft told 0 left s (length k.cpu.core) k
 turn_begins told room x plan s k o h w left same =
-    subst (λ (i : ℕ). HasTurn told 0 i s (length k.cpu.core) k) (sym same) (record {
+    subst (λ (i : ℕ). HasTurnLeft told 0 i s (length k.cpu.core) k) (sym same) (record {
       bare = s;
       member = w.who;
       task = w.task;
@@ -420,17 +420,17 @@ turn_begins told room x plan s k o h w left same =
     none : counted_more 0 w.who ≡ w.who
     none = let one : w.who.progress.made + 0 ≡ w.who.progress.made = omega arith in ap (λ (i : ℕ). record w.who { progress = record w.who.progress { made = i } }) one
 
-pub made_in_turn : (told : Option (List (List ℕ))) (steps left : ℕ) (first : Session) (core : ℕ) (k : Machine) → HasTurn told steps left first core k → MadeInTurn told steps first core k
+pub made_in_turn : (told : Option (List (List ℕ))) (steps left : ℕ) (first : Session) (core : ℕ) (k : Machine) → HasTurnLeft told steps left first core k → MadeInTurn told steps first core k
 made_in_turn told steps left first core k h = record { bare = h.bare; ordered = h.ordered; leads = h.leads; silent = h.silent; fits = h.fits; storage = h.storage; plan = h.plan; stands = h.stands }
 
 -- the same counts, written otherwise
-pub turn_as : (told : Option (List (List ℕ))) (steps left : ℕ) (first : Session) (core : ℕ) (k : Machine) → HasTurn told steps left first core k → (more fewer : ℕ) → more ≡ steps → fewer ≡ left → HasTurn told more fewer first core k
+pub turn_as : (told : Option (List (List ℕ))) (steps left : ℕ) (first : Session) (core : ℕ) (k : Machine) → HasTurnLeft told steps left first core k → (more fewer : ℕ) → more ≡ steps → fewer ≡ left → HasTurnLeft told more fewer first core k
 turn_as told steps left first core k h more fewer same_more same_fewer =
-    subst (λ (i : ℕ). HasTurn told i fewer first core k) (sym same_more) (subst (λ (i : ℕ). HasTurn told steps i first core k) (sym same_fewer) h)
+    subst (λ (i : ℕ). HasTurnLeft told i fewer first core k) (sym same_more) (subst (λ (i : ℕ). HasTurnLeft told steps i first core k) (sym same_fewer) h)
 
 -- an answer that is Done
-pub done_row : (k new : Machine) (answered : Step) → answered ≡ answers.Done → ForEachReady k (λ x told plan s m t. MakesOperator x told plan s m t answered k new) → ForEachReady k (λ x told plan s m t. MakesOperator x told plan s m t answers.Done k new)
-done_row k new answered is each x told plan s m t o h runs ready = subst (λ (z : Step). MakesOperator x told plan s m t z k new) is (each x told plan s m t o h runs ready)
+pub done_row : (k new : Machine) (answered : Step) → answered ≡ answers.Done → ForEachReady k (λ x told plan s m t. MakesInSegment x told plan s m t answered k new) → ForEachReady k (λ x told plan s m t. MakesInSegment x told plan s m t answers.Done k new)
+done_row k new answered is each x told plan s m t o h runs ready = subst (λ (z : Step). MakesInSegment x told plan s m t z k new) is (each x told plan s m t o h runs ready)
 
 -- the running task of a turn, over the registers
 pub some_runs : (k : Machine) → RunsTask k → RunsSome k.cpu

@@ -13,16 +13,16 @@ use Rattle.b67_session.specs.Slices.{StepsFit}
 -- the machine represents some session in order, of which the last task has so many operators of its turn left
 pub record TurnBegins (k : Machine) (room : ℕ) : Type 0 where
   pub storage : Storage
-  pub known : Option (List (List ℕ))
+  pub said : Option (List (List ℕ))
   pub plan : Placement
   pub session : Session
   pub ordered : IsInOrderButPlaces session
-  pub stands : MachineRepresents storage known k plan session
+  pub stands : MachineRepresents storage said k plan session
   pub lasts : TurnLasts plan session room
 
 -- so many steps without a line lead from a session to one of which the last task has so many operators left; the machine
 -- represents that but for the counts of these steps
-pub record HasTurn (told : Option (List (List ℕ))) (steps left : ℕ) (first : Session) (core : ℕ) (now : Machine) : Type 0 where
+pub record HasTurnLeft (told : Option (List (List ℕ))) (steps left : ℕ) (first : Session) (core : ℕ) (now : Machine) : Type 0 where
   pub bare : Session
   pub member : SessionJob
   pub task : Task
@@ -38,13 +38,13 @@ pub record HasTurn (told : Option (List (List ℕ))) (steps left : ℕ) (first :
   pub slot : plan.running ≡ slot_of plan member.constants.number task.number
 
 -- the last task of a session on the way has so many operators left, and not none
-pub record GoesOn (k : Machine) (room : ℕ) : Type 0 where
-  pub known : Option (List (List ℕ))
+pub record TurnGoesOn (k : Machine) (room : ℕ) : Type 0 where
+  pub said : Option (List (List ℕ))
   pub steps : ℕ
   pub first : Session
   pub core : ℕ
   pub size : length k.cpu.core ≡ core
-  pub turn : HasTurn known steps room first core k
+  pub turn : HasTurnLeft said steps room first core k
   pub some : 1 ≤ room
 
 -- So many steps lead from a session to another, which is in order, and print nothing; core of so many words had those that they

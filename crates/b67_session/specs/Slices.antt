@@ -23,10 +23,10 @@ use Rattle.b67_session.specs.declared.slices.Progress.TheVariants as progress
 
 -- the machine stands for some session in order, over a device that tells this
 pub record StandsSome (told : Option (List (List ℕ))) (k : Machine) : Type 0 where
-  pub known : Option (List (List ℕ))
-  pub says : Says known told
+  pub said : Option (List (List ℕ))
+  pub says : Says said told
   pub session : Session
-  pub stands : StandsAt known k session
+  pub stands : StandsAt said k session
 
 -- for one of which a task makes the next step
 pub record LivesOn (told : Option (List (List ℕ))) (k : Machine) : Type 0 where
@@ -37,19 +37,19 @@ pub record LivesOn (told : Option (List (List ℕ))) (k : Machine) : Type 0 wher
 
 -- for some session whose last part is due
 pub record StandsLimited (told : Option (List (List ℕ))) (k : Machine) : Type 0 where
-  pub known : Option (List (List ℕ))
-  pub says : Says known told
+  pub said : Option (List (List ℕ))
+  pub says : Says said told
   pub session : Session
   pub part : StepResult
-  pub limited : IsLimited known k session part
+  pub limited : IsLimited said k session part
 
 -- for some session in order that no task is left of
 pub record HasNoTasks (told : Option (List (List ℕ))) (k : Machine) : Type 0 where
-  pub known : Option (List (List ℕ))
-  pub says : Says known told
+  pub said : Option (List (List ℕ))
+  pub says : Says said told
   pub session : Session
   pub ordered : IsInOrderButPlaces session
-  pub rests : RepresentsWithoutTasks known k session
+  pub rests : RepresentsWithoutTasks said k session
 
 -- a slice may be called: a task makes the next step, or some are to end by LIMIT, or none is left; and each job's numbers can be
 -- counted
@@ -67,10 +67,10 @@ Pauses tasks halt (Some progress.More) = ⊥
 -- ---- steps and their text
 
 -- so many steps lead from a session to another and these are their lines: whole steps, or the last one but for LIMIT's part
-pub data Reaches (first : Session) (steps : ℕ) (s : Session) (printed : List RunLine) : Type 0 where
-  whole : after steps first ≡ s → lines steps first ≡ printed → Reaches first steps s printed
+pub data StepsReach (first : Session) (steps : ℕ) (s : Session) (printed : List RunLine) : Type 0 where
+  in_whole_steps : after steps first ≡ s → lines steps first ≡ printed → StepsReach first steps s printed
   but_limit : (k : ℕ) (part : StepResult) → steps ≡ k + 1 → first_part (after k first) ≡ Some part → part.session ≡ s → last_part s ≢ None
-      → lines k first ++ part.lines ≡ printed → Reaches first steps s printed
+      → lines k first ++ part.lines ≡ printed → StepsReach first steps s printed
 
 -- Of the text that was due before, so many first bytes were printed before. What is printed now is the rest of the text of
 -- these lines, and so many first bytes of the text that is due next.
@@ -98,7 +98,7 @@ StepsFit core steps first = (k : ℕ) → k < steps → NextFits core (after k f
 
 -- the next step lacks its segment or its array, makes it longer, or starts a task. Core has room for its segment, and for the
 -- whole step if the segment is present
-pub record Lacks (exact : Type 0) (core : ℕ) (x : Storage) (plan : Placement) (s : Session) (m : SessionJob) (t : Task) : Type 0 where
+pub record StepLacks (exact : Type 0) (core : ℕ) (x : Storage) (plan : Placement) (s : Session) (m : SessionJob) (t : Task) : Type 0 where
   pub lacks : exact → IsLacking x plan m t
   pub room : exact → (need core s m t ≤ core) ⊎ (code_area x plan m t ≡ None)
   pub code : exact → CodeFits core s m t
@@ -132,28 +132,28 @@ pub record StopsBefore (told : Option (List (List ℕ))) (n steps : ℕ) (s : Se
   pub next : IsNext s member task
 
 -- the machine stands for the session, of which a task lives
-abbrev pub GoesOn : Option (List (List ℕ)) → Session → Machine → Type 0
-GoesOn known s new = StandsAt known new s × ((m : SessionJob) × (t : Task) × IsNext s m t)
+abbrev pub StandsLive : Option (List (List ℕ)) → Session → Machine → Type 0
+StandsLive said s new = StandsAt said new s × ((m : SessionJob) × (t : Task) × IsNext s m t)
 
 -- how a slice of n steps ended after so many that led to a session, over a core of so many words and a device of so many
 -- sectors, of which this is known. `exact` is whether anything was known of them at the start
 abbrev pub SliceMeets : Option (List (List ℕ)) → Type 0 → ℕ → ℕ → ℕ → ℕ → Session → List ℕ → Result Progress Stop → Machine → Type 0
-SliceMeets known exact core count n steps s is_due (Ok progress.Ended) new = RepresentsWithoutTasks known new s × IsInOrderButPlaces s
-SliceMeets known exact core count n steps s is_due (Ok progress.Halted) new =
-    (new.tasks.halt ≡ Some new.tasks.made) × GoesOn known s new
-SliceMeets known exact core count n steps s is_due (Ok progress.More) new =
-    (steps ≡ n) × (new.tasks.halt ≢ Some new.tasks.made) × GoesOn known s new
-SliceMeets known exact core count n steps s is_due (Err (stops.NoCore words size)) new =
-    (b : StopsBefore known n steps s new) × (words ≡ need core s b.member b.task) × (size ≡ core) × (core < words)
-SliceMeets known exact core count n steps s is_due (Err (stops.BackingFull sum size)) new =
-    (b : StopsBefore known n steps s new) × Lacks exact core b.stands.storage b.stands.plan s b.member b.task
+SliceMeets said exact core count n steps s is_due (Ok progress.Ended) new = RepresentsWithoutTasks said new s × IsInOrderButPlaces s
+SliceMeets said exact core count n steps s is_due (Ok progress.Halted) new =
+    (new.tasks.halt ≡ Some new.tasks.made) × StandsLive said s new
+SliceMeets said exact core count n steps s is_due (Ok progress.More) new =
+    (steps ≡ n) × (new.tasks.halt ≢ Some new.tasks.made) × StandsLive said s new
+SliceMeets said exact core count n steps s is_due (Err (stops.NoCore words size)) new =
+    (b : StopsBefore said n steps s new) × (words ≡ need core s b.member b.task) × (size ≡ core) × (core < words)
+SliceMeets said exact core count n steps s is_due (Err (stops.BackingFull sum size)) new =
+    (b : StopsBefore said n steps s new) × StepLacks exact core b.stands.storage b.stands.plan s b.member b.task
     × ((wants : ℕ) × (free : ℕ) × IsShortAt b.stands.storage b.stands.plan s.jobs b.member b.task wants free)
     × TellsSectors exact b.stands.storage b.stands.plan s b.member b.task sum × (size ≡ count) × (count < sum)
-SliceMeets known exact core count n steps s is_due (Err stops.BackingFault) new =
-    (b : StopsBefore known n steps s new) × Lacks exact core b.stands.storage b.stands.plan s b.member b.task
-SliceMeets known exact core count n steps s is_due (Err stops.PrintFault) new =
+SliceMeets said exact core count n steps s is_due (Err stops.BackingFault) new =
+    (b : StopsBefore said n steps s new) × StepLacks exact core b.stands.storage b.stands.plan s b.member b.task
+SliceMeets said exact core count n steps s is_due (Err stops.PrintFault) new =
     (new.tasks.printed < length is_due)
-    × (((b : StopsBefore known n steps s new) × (exact → need core s b.member b.task ≤ core)) ⊎ ((part : StepResult) × IsLimited known new s part))
+    × (((b : StopsBefore said n steps s new) × (exact → need core s b.member b.task ≤ core)) ⊎ ((part : StepResult) × IsLimited said new s part))
 
 -- Where it is known what the device's sectors hold, the steps are those of the session from which the slice set out. Where
 -- nothing is known, they are those of a machine that had some code and some numbers. None is made at the halt
@@ -164,7 +164,7 @@ pub record Slices {K : Type 0} (taken : K → Option (List ℕ)) (told : Option 
   pub made : new.tasks.made ≡ old.tasks.made + steps
   pub session : Session
   pub printed : List RunLine
-  pub leads : exact → Reaches first steps session printed
+  pub leads : exact → StepsReach first steps session printed
   pub ends : exact → answered ≡ Ok progress.Ended → after steps first ≡ session
   pub fits : exact → StepsFit (length old.cpu.core) steps first
   pub was_due : List ℕ
@@ -185,23 +185,23 @@ pub record IsCutAgain {D K : Type 0} (taken : K → Option (List ℕ)) (h : Sess
 
 -- the rest of these lines was printed and the tasks have ended: a machine stands for the session after the last part, and from
 -- there a slice was made
-pub record GoesOnAfter {D K : Type 0} (holds : D → Option (List (List ℕ))) (taken : K → Option (List ℕ)) (known known' : Option (List (List ℕ))) (count n : ℕ) (h : Session) (part : StepResult) (answered : Result Progress Stop) (old new : Machine) (device device' : D) (paper paper' : K) : Type 0 where
+pub record GoesOnAfter {D K : Type 0} (holds : D → Option (List (List ℕ))) (taken : K → Option (List ℕ)) (said said' : Option (List (List ℕ))) (count n : ℕ) (h : Session) (part : StepResult) (answered : Result Progress Stop) (old new : Machine) (device device' : D) (paper paper' : K) : Type 0 where
   pub middle : Machine
   pub printer : K
-  pub stands : StandsAt known middle part.session
+  pub stands : StandsAt said middle part.session
   pub made : middle.tasks.made ≡ old.tasks.made
   pub unprinted : middle.tasks.printed ≡ 0
   pub keeps : Keeps old middle
   pub prints : Prints taken paper printer (due h) old.tasks.printed part.lines [] 0
-  pub slices : Slices taken known' (known ≢ None) count n part.session answered middle new printer paper'
-  pub present : (g : StandsAt known middle part.session) (m : SessionJob) (t : Task) → IsNext part.session m t
-      → IfPresent holds (known ≢ None) (length middle.cpu.core) n g.storage g.plan part.session m t answered middle new device device'
+  pub slices : Slices taken said' (said ≢ None) count n part.session answered middle new printer paper'
+  pub present : (g : StandsAt said middle part.session) (m : SessionJob) (t : Task) → IsNext part.session m t
+      → IfPresent holds (said ≢ None) (length middle.cpu.core) n g.storage g.plan part.session m t answered middle new device device'
   pub rests : live_tasks part.session.jobs ≡ 0 → device' ≡ device
 
 -- from a session of which tasks are to end by LIMIT
 abbrev pub Resumes : {D K : Type 0} → (D → Option (List (List ℕ))) → (K → Option (List ℕ)) → Option (List (List ℕ)) → Option (List (List ℕ)) → ℕ → ℕ → Session → StepResult → Result Progress Stop → Machine → Machine → D → D → K → K → Type 0
-Resumes holds taken known known' count n h part answered old new device device' paper paper' =
-    IsCutAgain taken h answered old new device device' paper paper' ⊎ GoesOnAfter holds taken known known' count n h part answered old new device device' paper paper'
+Resumes holds taken said said' count n h part answered old new device device' paper paper' =
+    IsCutAgain taken h answered old new device device' paper paper' ⊎ GoesOnAfter holds taken said said' count n h part answered old new device device' paper paper'
 
 -- of a session without a task nothing is made, printed or changed
 pub record StaysEnded {D K : Type 0} (answered : Result Progress Stop) (old new : Machine) (device device' : D) (paper paper' : K) : Type 0 where

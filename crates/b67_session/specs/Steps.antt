@@ -18,17 +18,17 @@ pub record StepGives (s after : Session) (printed : List RunLine) : Type 0 where
   pub lines_are : moment.lines ≡ printed
 
 -- no step does, a whole one, or one but for LIMIT's part
-pub data Leads (s : Session) (steps : ℕ) (after : Session) (printed : List RunLine) : Type 0 where
-  stays : steps ≡ 0 → after ≡ s → printed ≡ [] → Leads s steps after printed
-  makes : steps ≡ 1 → StepGives s after printed → Leads s steps after printed
-  halves : (part : StepResult) → steps ≡ 1 → first_part s ≡ Some part → part.session ≡ after → last_part after ≢ None → part.lines ≡ printed → Leads s steps after printed
+pub data StepLeads (s : Session) (steps : ℕ) (after : Session) (printed : List RunLine) : Type 0 where
+  stays : steps ≡ 0 → after ≡ s → printed ≡ [] → StepLeads s steps after printed
+  makes : steps ≡ 1 → StepGives s after printed → StepLeads s steps after printed
+  halves : (part : StepResult) → steps ≡ 1 → first_part s ≡ Some part → part.session ≡ after → last_part after ≢ None → part.lines ≡ printed → StepLeads s steps after printed
 
 -- how a step ended that led from a session to another, over a core of so many words and a device of so many sectors, of
 -- which this is known. One that stopped ends as a slice of one step. `exact` is whether anything was known of them at the
 -- start
 abbrev pub StepMeets : Option (List (List ℕ)) → Type 0 → ℕ → ℕ → ℕ → Session → Session → List RunLine → List ℕ → Result (Unit {0}) Stop → Machine → Type 0
-StepMeets known exact core count steps was s printed is_due (Ok done) new = (steps ≡ 1) × (exact → StepGives was s printed) × StandsAt known new s
-StepMeets known exact core count steps was s printed is_due (Err stop) new = SliceMeets known exact core count 1 steps s is_due (Err stop) new
+StepMeets said exact core count steps was s printed is_due (Ok done) new = (steps ≡ 1) × (exact → StepGives was s printed) × StandsAt said new s
+StepMeets said exact core count steps was s printed is_due (Err stop) new = SliceMeets said exact core count 1 steps s is_due (Err stop) new
 
 -- Where it is known what the device's sectors hold, the step is that of the session. Where nothing is known, it is that of
 -- a session with some other code and some other numbers.
@@ -40,7 +40,7 @@ pub record Steps {K : Type 0} (taken : K → Option (List ℕ)) (told : Option (
   pub session : Session
   pub printed : List RunLine
   pub made : new.tasks.made ≡ old.tasks.made + steps
-  pub leads : exact → Leads was steps session printed
+  pub leads : exact → StepLeads was steps session printed
   pub fits : exact → 1 ≤ steps → NextFits (length old.cpu.core) s
   pub was_due : List ℕ
   pub is_due : List ℕ
@@ -67,9 +67,9 @@ pub record EndsStep {K : Type 0} (taken : K → Option (List ℕ)) (told : Optio
 
 -- the machine represents some session in order
 pub record IsInOrderFor (k : Machine) : Type 0 where
-  pub known : Option (List (List ℕ))
+  pub said : Option (List (List ℕ))
   pub session : Session
-  pub stands : StandsAt known k session
+  pub stands : StandsAt said k session
 
 -- so many steps lead from a session to another, and a run that comes to the first one prints no more in them; core had the words
 -- that they need, and the halt wasn't reached before them

@@ -10,7 +10,7 @@ ghost use Rattle.b67_law_sessions.specs.Turns.{IsNext};
 ghost use Rattle.b67_stack.specs.Represents.{Storage};
 ghost use Rattle.b67_layout.specs.Placement.{Placement};
 ghost use Rattle.b67_task_tables.specs.Tables.{MachineRepresents};
-ghost use Rattle.b67_session_ends.specs.Ends.{StandsBetween, KeepsCounts};
+ghost use Rattle.b67_session_ends.specs.Ends.{StandsBetween, KeepsTables};
 ghost use Rattle.b67_session_attempt.specs.Stops as stops;
 ghost use Rattle.b67_session_attempt.specs.Passed.{AreCountable, CallCauses};
 ghost use Rattle.b67_session.specs.Slices.{LivesOn, StandsAt, Keeps, IfPresent};
@@ -20,7 +20,7 @@ use crate::turns::give_turn;
 use b67_backing::Backing;
 use b67_io::Sink;
 use b67_session_attempt::{Attempt, Stop, attempt};
-use b67_session_ends::{close, count_one, finish, hold};
+use b67_session_ends::{close, count_one, finish, make_wait};
 use b67_session_schedule::choose;
 use b67_task_tables::Machine;
 
@@ -33,7 +33,7 @@ fn end_step<K: Sink>(machine: &mut Machine, paper: &mut K) -> Result<(), Stop>
     ensures cause { result ≡ Err stops.PrintFault → Rose K.faults paper.old paper.new }
     ensures later { K.faults paper.old ≤ K.faults paper.new }
     ensures other { result ≢ Err stops.BackingFault }
-    ensures keeps { KeepsCounts machine.old machine.new }
+    ensures keeps { KeepsTables machine.old machine.new }
 {
     match finish(machine, paper) {
         Ok(()) => Ok(()),
@@ -54,10 +54,10 @@ pub(crate) fn step<B: Backing, K: Sink>(
     requires due { machine.old.tasks.halt ≢ Some machine.old.tasks.made }
     requires countable { AreCountable machine.old.tasks.jobs }
     requires sized { B.size backing.old + 1 ≡ length machine.old.sectors.links }
-    ensures row { (known : Option (List (List ℕ))) (s : Session) → Says known (B.holds backing.old) → StandsAt known machine.old s
-        → Steps K.taken (content_after known (B.holds backing.new)) (known ≢ None) (B.size backing.old) s result machine.old machine.new paper.old paper.new }
-    ensures present { (known : Option (List (List ℕ))) (s : Session) (m : SessionJob) (t : Task) → Says known (B.holds backing.old) → (h : StandsAt known machine.old s) → IsNext s m t
-        → IfPresent B.holds (known ≢ None) (length machine.old.cpu.core) 1 h.storage h.plan s m t result machine.old machine.new backing.old backing.new }
+    ensures row { (said : Option (List (List ℕ))) (s : Session) → Says said (B.holds backing.old) → StandsAt said machine.old s
+        → Steps K.taken (content_after said (B.holds backing.new)) (said ≢ None) (B.size backing.old) s result machine.old machine.new paper.old paper.new }
+    ensures present { (said : Option (List (List ℕ))) (s : Session) (m : SessionJob) (t : Task) → Says said (B.holds backing.old) → (h : StandsAt said machine.old s) → IsNext s m t
+        → IfPresent B.holds (said ≢ None) (length machine.old.cpu.core) 1 h.storage h.plan s m t result machine.old machine.new backing.old backing.new }
     ensures countable { AreCountable machine.new.tasks.jobs }
     ensures causes { CallCauses B.faults K.faults backing.old backing.new paper.old paper.new result }
     ensures keeps { Keeps machine.old machine.new }
@@ -77,7 +77,7 @@ pub(crate) fn step<B: Backing, K: Sink>(
             Ok(()) => end_step(machine, paper),
             Err(_failed) => Err(Stop::PrintFault),
         },
-        Ok(Attempt::Waits(state)) => match hold(machine, chosen, state, paper) {
+        Ok(Attempt::Waits(state)) => match make_wait(machine, chosen, state, paper) {
             Ok(()) => end_step(machine, paper),
             Err(_failed) => Err(Stop::PrintFault),
         },

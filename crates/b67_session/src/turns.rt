@@ -1,4 +1,4 @@
-//! The chosen task is the running one.
+//! A turn: the chosen task runs, and makes operators.
 
 ghost use Rattle.std.specs.Prelude.{◌≡◌, ℕ, ◌+◌, ◌-◌, ◌≤◌, List, length, Option, Some, slice_get, true};
 ghost use Rattle.b67_model.specs.InOrder.{IsInOrderButPlaces};
@@ -14,7 +14,7 @@ ghost use Rattle.b67_session_schedule.specs.Lasting.{TurnLasts};
 ghost use Rattle.b67_session_attempt.specs.Passed.{AreCountable};
 ghost use Rattle.b67_session.specs.Slices.{StandsAt, Keeps};
 ghost use Rattle.b67_session.specs.Steps.{IsInOrderFor, GoesOnInTurn};
-ghost use Rattle.b67_session.specs.InTurn.{TurnBegins, HasTurn, GoesOn, MadeInTurn};
+ghost use Rattle.b67_session.specs.InTurn.{TurnBegins, HasTurnLeft, TurnGoesOn, MadeInTurn};
 
 use b67_exec_cells::present_segment;
 use b67_session_attempt::make_in;
@@ -50,11 +50,11 @@ struct InSegment {
 /// near; and before one that prints, ends its task or wants something that is absent: then the turn doesn't go on.
 #[inline(always)]
 fn make_in_segment(machine: &mut Machine, room: u64) -> InSegment
-    requires { GoesOn machine.old room }
+    requires { TurnGoesOn machine.old room }
     ensures few { result.made ≤ room }
     ensures some { result.goes ≡ true → 1 ≤ result.made }
-    ensures row { (known : Option (List (List ℕ))) (steps core : ℕ) (s : Session) → length machine.old.cpu.core ≡ core → HasTurn known steps room s core machine.old
-        → HasTurn known (steps + result.made) (room - result.made) s core machine.new }
+    ensures row { (said : Option (List (List ℕ))) (steps core : ℕ) (s : Session) → length machine.old.cpu.core ≡ core → HasTurnLeft said steps room s core machine.old
+        → HasTurnLeft said (steps + result.made) (room - result.made) s core machine.new }
     ensures tables { machine.new.tasks ≡ machine.old.tasks }
     ensures keeps { Keeps machine.old machine.new }
 {
@@ -88,8 +88,8 @@ fn make_in_segment(machine: &mut Machine, room: u64) -> InSegment
 fn make_in_turn(machine: &mut Machine, room: u64) -> u64
     requires { TurnBegins machine.old room }
     ensures few { result ≤ room }
-    ensures row { (x : Storage) (known : Option (List (List ℕ))) (plan : Placement) (s : Session) → IsInOrderButPlaces s → MachineRepresents x known machine.old plan s → TurnLasts plan s room
-        → MadeInTurn known result s (length machine.old.cpu.core) machine.new }
+    ensures row { (x : Storage) (said : Option (List (List ℕ))) (plan : Placement) (s : Session) → IsInOrderButPlaces s → MachineRepresents x said machine.old plan s → TurnLasts plan s room
+        → MadeInTurn said result s (length machine.old.cpu.core) machine.new }
     ensures tables { machine.new.tasks ≡ machine.old.tasks }
     ensures keeps { Keeps machine.old machine.new }
 {
@@ -111,7 +111,7 @@ pub(crate) fn go_on_with_turn(machine: &mut Machine, most: u64) -> u64
     requires stands { IsInOrderFor machine.old }
     requires unprinted { machine.old.tasks.printed ≡ 0 }
     ensures few { result ≤ most }
-    ensures row { (known : Option (List (List ℕ))) (s : Session) → StandsAt known machine.old s → GoesOnInTurn known result s machine.old machine.new }
+    ensures row { (said : Option (List (List ℕ))) (s : Session) → StandsAt said machine.old s → GoesOnInTurn said result s machine.old machine.new }
     ensures countable { AreCountable machine.old.tasks.jobs → AreCountable machine.new.tasks.jobs }
     ensures keeps { Keeps machine.old machine.new }
 {

@@ -8,7 +8,7 @@ use Rattle.b67_model.specs.declared.operators.Op.TheVariants.{Plain}
 use Rattle.b67_model.specs.declared.operators.Code.{Code}
 use Rattle.b67_model.specs.declared.operators.Code.TheVariants.{Entr}
 use Rattle.b67_model.specs.Common.{Answer, Word, AtIntrinsic, follow_reference, Reading, Standing, Marked, Entered, Task, Job, SessionJob, OperatorContext, top, Line, Done, Goes, Leaves, touched_of, touched_at_mark, touched_before_fault, started_by, need, reading_of, step, number_of, Session, called_at, called_by, called_on, called}
-use Rattle.b67_layout.specs.Common.{IsInOrderButCounts, Placement, IsRunning, here, area_held, IsPresent}
+use Rattle.b67_layout.specs.Common.{IsInOrderButCounts, Placement, IsRunning, here, area_held, TouchedIsPresent}
 use Rattle.b67_stack.specs.declared.What.TheVariants as what
 use Rattle.b67_stack.specs.declared.Step.{Step}
 use Rattle.b67_stack.specs.declared.Step.TheVariants as answers
@@ -20,12 +20,12 @@ use Rattle.b67_task_tables.specs.declared.tables.TaskState.{TaskState}
 use Rattle.b67_task_tables.specs.declared.tables.Machine.{Machine}
 use Rattle.b67_task_tables.specs.Tables.{MachineRepresents}
 use Rattle.b67_layout_step.proofs.Laws.{touches_arrays}
-use Rattle.b67_session_attempt.specs.Fits.{IsOfJob}
+use Rattle.b67_session_attempt.specs.Fits.{IsArrayOfJob}
 use Rattle.b67_session_attempt.proofs.FittingMade.{made_fit}
 use Rattle.b67_session_attempt.specs.Makes.{OperatorMade, CallsOrMakes, MakesAt}
 use Rattle.b67_mcp.specs.declared.ends.Stop.{Stop}
 use Rattle.b67_mcp.specs.declared.ends.Stop.TheVariants as stops
-use Rattle.b67_mcp.specs.Called.{IsCut, IsFull, IsRefused, IsUnstarted, IsUnstartedFull, StartsTask, WaitsSo, CallMeets, CallTouches, CallFits, printed_text, IsThere, TouchesPresent}
+use Rattle.b67_mcp.specs.Called.{IsCut, IsFull, IsRefused, IsUnstarted, IsUnstartedFull, StartsTask, WaitsSo, CallMeets, CallTouches, CallFits, printed_text, ArrayIsThere, TouchesPresent}
 use Rattle.b67_mcp.proofs.Callings.{calling}
 use Rattle.b67_mcp.proofs.Touched.{reference_same}
 use Rattle.b67_mcp.proofs.Present.{row_only}
@@ -58,7 +58,7 @@ module _ (m : SessionJob) (t : Task) (a : ℕ) where
   by_op (Plain code) next none e = by_code code next none e
   by_op _ next none e = none-some a e
 
-  by_reading : (r : Reading) → operators.called_by m t r ≡ None → touched_before_fault m.constants m.progress.job t r ≢ Some a
+  by_reading : (r : Reading) → operators.called_by_reading m t r ≡ None → touched_before_fault m.constants m.progress.job t r ≢ Some a
   by_reading (Err why) none e = none-some a e
   by_reading (Ok read) none e = by_op read.0 read.1 none e
 
@@ -67,13 +67,13 @@ module _ (x : Storage) (told : Option (List (List ℕ))) (plan : Placement) (s :
   touched answer = touched_of m.constants m.progress.job t answer
 
   abbrev Present : Option ℕ → Type 0
-  Present o = IsPresent x plan m.constants.number o × IsOfJob m.progress.job o
+  Present o = TouchedIsPresent x plan m.constants.number o × IsArrayOfJob m.progress.job o
 
   -- the array that is touched, as room is asked for it
-  present_of : (o : Option ℕ) → ((n : ℕ) → o ≡ Some n → IsThere x plan m n) → Present o
+  present_of : (o : Option ℕ) → ((n : ℕ) → o ≡ Some n → ArrayIsThere x plan m n) → Present o
   present_of None each = (tt, tt)
   present_of (Some n) each = let p = each n refl in (by (area_held x plan m.constants.number n) refl p.there, (p.array, p.among, p.named)) where
-    by : (area : Option ℕ) → area_held x plan m.constants.number n ≡ area → area_held x plan m.constants.number n ≢ None → IsPresent x plan m.constants.number (Some n)
+    by : (area : Option ℕ) → area_held x plan m.constants.number n ≡ area → area_held x plan m.constants.number n ≢ None → TouchedIsPresent x plan m.constants.number (Some n)
     by None is some = absurd (some is)
     by (Some at) is some = (at, is)
 
@@ -108,7 +108,7 @@ module _ (x : Storage) (told : Option (List (List ℕ))) (plan : Placement) (s :
         let same : h.touched ≡ Some a = sym (ap touched h.is) ∙ e in
         let is : step m.constants m.progress.job t ≡ Ok (Goes h.job [] (Some a)) = h.is ∙ ap (λ (q : Option ℕ). Ok (Goes h.job [] q)) same in
         let (array, among, named) = touches_arrays s m t o (keyed_has number_of m.constants.number s.jobs m runs.member).0 (keyed_has (λ (u : Task). u.number) t.number m.progress.job.tasks t runs.task).0 h.job [] a is in
-        let (at, held) = subst (IsPresent x plan m.constants.number) same h.present in
+        let (at, held) = subst (TouchedIsPresent x plan m.constants.number) same h.present in
         record { array = array; among = among; named = named; there = λ none. none-some at (sym none ∙ held) }
 
     -- where it was made, or ends its task, core has room

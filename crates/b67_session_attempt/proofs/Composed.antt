@@ -29,7 +29,7 @@ use Rattle.b67_session_attempt.specs.declared.outcomes.Attempt.{Attempt}
 use Rattle.b67_session_attempt.specs.declared.outcomes.Attempt.TheVariants as attempts
 use Rattle.b67_session_attempt.specs.declared.tries.Tried.{Tried}
 use Rattle.b67_session_attempt.specs.declared.tries.Tried.TheVariants as tries
-use Rattle.b67_session_attempt.specs.Tries.{IsTouched, EndsSo, LeavesAreas, TryMeets, TryFits, TryWrites}
+use Rattle.b67_session_attempt.specs.Tries.{IsWantedByStep, EndsSo, LeavesAreas, TryMeets, TryFits, TryWrites}
 use Rattle.b67_session_attempt.specs.Attempts.{RunsOver, ForEachOver, StillStands, StandsLacking, StandsShort, HoleFits, segment_fits, array_fits, LacksRoom, TellsAfter, starts_task, makes_longer, TellsSectors, EndsWithin, AttemptMeets, Attempts, AttemptFits, IsNotFull, CallKeepsAreas, TablesStay, WantsNothing}
 use Rattle.b67_session_attempt.specs.Brought.{StopMeets, Stopped, BroughtFits}
 use Rattle.b67_session_attempt.proofs.Numbers.{code_of_step, same_array}
@@ -221,7 +221,7 @@ module _ {K : Type 0} (taken : K → Option (List ℕ)) (told : Told) (count : �
   tells_once stops.PrintFault sum size meets e = absurd cc
 
 -- a hole for the one thing that a step wants is one for what was found absent
-pub hole_for : (x : Storage) (plan : Placement) (s : Session) (m : SessionJob) (t : Task) → IsInOrderButCounts s → IsRunning plan s.jobs m t → (found : What) (words : ℕ) → IsWanted x plan m t found words → IsTouched plan m t found words → HoleFits x plan m t
+pub hole_for : (x : Storage) (plan : Placement) (s : Session) (m : SessionJob) (t : Task) → IsInOrderButCounts s → IsRunning plan s.jobs m t → (found : What) (words : ℕ) → IsWanted x plan m t found words → IsWantedByStep plan m t found words → HoleFits x plan m t
     → HasHole (words_wanted m t found words) x.spans
 hole_for x plan s m t o runs (what.Code d) words wanted touched (segment_fits none arrays room) = room
 hole_for x plan s m t o runs (what.Code d) words wanted touched (array_fits a code among absent is room) = absurd (code wanted.1)
@@ -333,7 +333,7 @@ module _ (x : Storage) (told : Told) (k : Machine) (plan : Placement) (s : Sessi
   member_is : b.again.jobs ≡ s.jobs → other.member ≡ m
   member_is e = same_member plan s b.again.jobs m t runs other e
 
-  nothing : (wanted : What) (words : ℕ) → code_area x plan m t ≢ None → IsWanted x plan m t wanted words → IsTouched plan m t wanted words → Brings x told k plan s m t wanted → (c : Brings x told k plan s m t wanted) → WantsNothing c.again.storage plan m t
+  nothing : (wanted : What) (words : ℕ) → code_area x plan m t ≢ None → IsWanted x plan m t wanted words → IsWantedByStep plan m t wanted words → Brings x told k plan s m t wanted → (c : Brings x told k plan s m t wanted) → WantsNothing c.again.storage plan m t
   nothing (what.Code displacement) words code w touched c d = absurd (code w.1)
   nothing (what.Array home) words code w touched c d =
       let (a, among, home_is, is, count) = touched in
@@ -344,7 +344,7 @@ module _ (x : Storage) (told : Told) (k : Machine) (plan : Placement) (s : Sessi
       }
 
   -- what was brought into a hole was the one thing that was wanted
-  wants_no_more : (wanted : What) (words : ℕ) → HoleFits x plan m t → IsWanted x plan m t wanted words → IsTouched plan m t wanted words → (c : Brings x told k plan s m t wanted) → AreasStay x c.again.storage → WantsNothing c.again.storage plan m t
+  wants_no_more : (wanted : What) (words : ℕ) → HoleFits x plan m t → IsWanted x plan m t wanted words → IsWantedByStep plan m t wanted words → (c : Brings x told k plan s m t wanted) → AreasStay x c.again.storage → WantsNothing c.again.storage plan m t
   wants_no_more (what.Code displacement) words (segment_fits none arrays room) w touched c stay = record {
     code = c.code;
     array = λ a is none. arrays a is (sym (stay (plan.home m.constants.number a) (arrays a is)) ∙ none);
@@ -352,7 +352,7 @@ module _ (x : Storage) (told : Told) (k : Machine) (plan : Placement) (s : Sessi
   wants_no_more (what.Code displacement) words (array_fits a code among absent is room) w touched c stay = absurd (code w.1)
   wants_no_more (what.Array home) words fits w touched c stay = nothing (what.Array home) words w.code w touched c c
 
-  pub then_nothing : (words : ℕ) → HoleFits x plan m t → IsWanted x plan m t found words → IsTouched plan m t found words → AreasStay x b.again.storage → x.device ≢ None → WantsNothing b.again.storage plan other.member t
+  pub then_nothing : (words : ℕ) → HoleFits x plan m t → IsWanted x plan m t found words → IsWantedByStep plan m t found words → AreasStay x b.again.storage → x.device ≢ None → WantsNothing b.again.storage plan other.member t
   then_nothing words fits w touched stay tells =
       let W : SessionJob → Type 0 = λ z. WantsNothing b.again.storage plan z t in
       subst W (sym (member_is (b.again.same tells))) (wants_no_more found words fits w touched b stay)
@@ -362,7 +362,7 @@ module _ (x : Storage) (told : Told) (k : Machine) (plan : Placement) (s : Sessi
       let W : SessionJob → Type 0 = λ z. CallsDevice z t → ⊥ in
       subst W (sym (member_is (b.again.same tells))) none
 
-  pub wants_nothing : (words : ℕ) → code_area x plan m t ≢ None → IsWanted x plan m t found words → IsTouched plan m t found words → b.again.storage.device ≢ None → WantsNothing b.again.storage plan other.member t
+  pub wants_nothing : (words : ℕ) → code_area x plan m t ≢ None → IsWanted x plan m t found words → IsWantedByStep plan m t found words → b.again.storage.device ≢ None → WantsNothing b.again.storage plan other.member t
   wants_nothing words code w touched n =
       let P : Told → Type 0 = λ d. d ≢ None in
       let tells : x.device ≢ None = retold_back x.device told (subst P b.again.device n) in

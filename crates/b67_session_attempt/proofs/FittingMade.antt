@@ -5,14 +5,14 @@ use Rattle.std.proofs.lemmas.Bool.{cases_Bool}
 use Rattle.b67_lemmas.specs.Lists.{Has}
 use Rattle.b67_lemmas.proofs.Members.{all_in, keyed_falls}
 use Rattle.b67_model.specs.Common.{Array, Task, SessionJob, Answer, Done, no_array, array, step, touched_of, started_by, need, Session, ArrayInOrder}
-use Rattle.b67_layout.specs.Common.{IsInOrderButCounts, Placement, IsRunning, RepresentsSession, area_held, IsPresent}
+use Rattle.b67_layout.specs.Common.{IsInOrderButCounts, Placement, IsRunning, RepresentsSession, area_held, TouchedIsPresent}
 use Rattle.b67_stack.specs.declared.Cpu.{Cpu}
 use Rattle.b67_stack.specs.Represents.{Storage}
 use Rattle.b67_layout.proofs.Fresh.{running_in_order}
 use Rattle.b67_exec_cells.specs.Running.{code_area}
 use Rattle.b67_task_need.specs.Needing.{need_with, touched_words, HasWords}
 use Rattle.b67_task_need.proofs.Needs.{need_whole}
-use Rattle.b67_session_attempt.specs.Fits.{HasSpace, IsOfJob, MadeFits}
+use Rattle.b67_session_attempt.specs.Fits.{HasSpace, IsArrayOfJob, MadeFits}
 use Rattle.b67_mcp.proofs.Space.{has_space}
 
 -- whichever of two it is, where both are at most that
@@ -29,7 +29,7 @@ module _ (x : Storage) (cpu : Cpu) (plan : Placement) (s : Session) (m : Session
       let names = (running_in_order plan s m t o runs).0.tasks.names in
       ap (array m.progress.job) (sym is) ∙ ap (λ (f : Option Array). unwrap_or f no_array) (keyed_falls (λ (y : Array). y.identity) m.progress.job.next_array m.progress.job.arrays a names among)
 
-  touched_space : (touched : Option ℕ) → IsPresent x plan m.constants.number touched → IsOfJob m.progress.job touched
+  touched_space : (touched : Option ℕ) → TouchedIsPresent x plan m.constants.number touched → IsArrayOfJob m.progress.job touched
       → HasWords m.progress.job touched × (need_with s m t 0 (touched_words m.progress.job touched) ≤ length cpu.core)
   touched_space None p q = (tt, space.code)
   touched_space (Some n) (there, held) (a, among, is) =
@@ -38,7 +38,7 @@ module _ (x : Storage) (cpu : Cpu) (plan : Placement) (s : Session) (m : Session
       let fits = space.array a there among (ap (area_held x plan m.constants.number) is ∙ held) in
       (λ e. omega (arith, e, count, some), subst (λ (w : ℕ). need_with s m t 0 w ≤ length cpu.core) (sym count) fits)
 
-  need_fits : IsPresent x plan m.constants.number (touched_of m.constants m.progress.job t (step m.constants m.progress.job t)) → IsOfJob m.progress.job (touched_of m.constants m.progress.job t (step m.constants m.progress.job t))
+  need_fits : TouchedIsPresent x plan m.constants.number (touched_of m.constants m.progress.job t (step m.constants m.progress.job t)) → IsArrayOfJob m.progress.job (touched_of m.constants m.progress.job t (step m.constants m.progress.job t))
       → started_by m.progress.job (step m.constants m.progress.job t) ≡ 0 → need (length cpu.core) s m t ≤ length cpu.core
   need_fits p q none =
       let made : Answer Done = step m.constants m.progress.job t in
@@ -52,4 +52,4 @@ module _ (x : Storage) (cpu : Cpu) (plan : Placement) (s : Session) (m : Session
 pub made_fit : MadeFits
 made_fit cpu x plan s m t o h runs at touched present is there among none =
     need_fits x cpu plan s m t o h runs at present
-    (subst (IsPresent x plan m.constants.number) (sym is) there) (subst (IsOfJob m.progress.job) (sym is) among) none
+    (subst (TouchedIsPresent x plan m.constants.number) (sym is) there) (subst (IsArrayOfJob m.progress.job) (sym is) among) none

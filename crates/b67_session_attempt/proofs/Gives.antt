@@ -15,7 +15,7 @@ use Rattle.b67_task_tables.specs.declared.tables.Tasks.{Tasks}
 use Rattle.b67_task_tables.specs.Tables.{TasksShow, task_row, job_row, counts_of, MachineRepresents, row_names}
 use Rattle.b67_task_release.specs.Left.{IsLeft, AreReleased}
 use Rattle.b67_task_tables.specs.Runs.{RunsTask, Keeps}
-use Rattle.b67_session_attempt.specs.Makes.{OperatorMade, MakesOperator}
+use Rattle.b67_session_attempt.specs.Makes.{OperatorMade, MakesInSegment}
 use Rattle.b67_session_attempt.proofs.Inversion.{LeftFrame}
 use Rattle.b67_exec_cells.specs.Running.{code_area}
 use Rattle.b67_exec.specs.Operators.{leaves_record, CutsRecord, OperatorMeets}
@@ -133,7 +133,7 @@ module _ (old : Machine) (new : Cpu) (answered : Step) (left : Bool) (rows : Row
 
   -- what is made
   pub gives : (after : Machine) → after.areas ≡ old.areas → after.tasks ≡ old.tasks → GivesBack old new after → (x : Storage) (told : Option (List (List ℕ))) (plan : Placement) (s : Session) (m : SessionJob) (t : Task) → IsInOrderButCounts s
-      → MachineRepresents x told old plan s → IsRunning plan s.jobs m t → t.condition ≡ Ready → MakesOperator x told plan s m t Done old after
+      → MachineRepresents x told old plan s → IsRunning plan s.jobs m t → t.condition ≡ Ready → MakesInSegment x told plan s m t Done old after
   gives after areas tasks back x told plan s m t o h runs ready =
       let k = by x plan s m t o h.session runs ready in
       let kept = row_kept plan s m t o runs k.op k.next (k.leaves.calls (here m t k.next)) k.made.job [] k.made.touched k.made.is in

@@ -16,7 +16,7 @@ use Rattle.b67_lemmas.specs.Lists.{Has}
 use Rattle.b67_lemmas.proofs.Members.{has_append_right}
 use Rattle.b67_model.specs.Schedule.{Session}
 use Rattle.b67_stack.specs.declared.Cpu.{Cpu}
-use Rattle.b67_stack.specs.Common.{Location, LieUpward, PagedObject, MachineView, words_of, Storage, Represents, Content, info_of}
+use Rattle.b67_stack.specs.Common.{Location, LieUpward, PagedObject, MachineView, object_words, Storage, Represents, Content, info_of}
 use Rattle.b67_stack.proofs.Unchanged.{area_of_object}
 use Rattle.b67_layout.specs.Common.{Placement, machine_view, with_objects, RepresentsStorage}
 use Rattle.b67_task_release.specs.Left.{IsLeft, AreReleased}
@@ -98,9 +98,9 @@ module _ (left : List PagedObject) (x : Storage) (cpu new : Cpu) (plan : Placeme
     info_same : info_of y t ≡ info_of x t
     info_same = ap (λ (h : Location). record { kind = t.kind; words = length t.numbers; owner = t.home; kept = h.chain }) held_same
 
-  words_in : (z : Storage) (core : List Tagged) (t : PagedObject) (o : Option ℕ) (first at : ℕ) → Content z core t o first → o ≡ Some at → LieUpward core at (words_of t)
+  words_in : (z : Storage) (core : List Tagged) (t : PagedObject) (o : Option ℕ) (first at : ℕ) → Content z core t o first → o ≡ Some at → LieUpward core at (object_words t)
   words_in z core t None first at c e = absurd (none-some at e)
-  words_in z core t (Some k) first at c e = subst (λ (q : ℕ). LieUpward core q (words_of t)) (same_Some k at e) c.0
+  words_in z core t (Some k) first at c e = subst (λ (q : ℕ). LieUpward core q (object_words t)) (same_Some k at e) c.0
 
   -- an area that stays
   area_same : (at : ℕ) (a : Info) → area_at y.low y.spans at ≡ Some a → Same cpu.core new.core at a
@@ -112,9 +112,9 @@ module _ (left : List PagedObject) (x : Storage) (cpu new : Cpu) (plan : Placeme
       let (head, tail) = laid_at cpu.core 152 0 x.low x.spans was.directory.laid at a e_x in
       let (head', tail') = laid_at new.core 152 0 y.low y.spans is.directory.laid at a e in
       let words : a.words ≡ length t.numbers = ap (λ (k : Info). k.words) info in
-      let count : length (words_of t) ≡ length t.numbers = length-map t.numbers _ in
+      let count : length (object_words t) ≡ length t.numbers = length-map t.numbers _ in
       let body : at ≤ i → i < at + a.words → slice_get new.core i ≡ slice_get cpu.core i = λ d u.
-      same_lie cpu.core new.core at (words_of t)
+      same_lie cpu.core new.core at (object_words t)
       (words_in x cpu.core t (x.held t.home).area (x.held t.home).chain at (was.objects t (still t there)).content held_x)
       (words_in y new.core t (y.held t.home).area (y.held t.home).chain at (is.objects t there).content held) i d (omega (arith, u, words, count)) in
       ⊎_elim

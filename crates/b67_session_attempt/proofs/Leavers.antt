@@ -12,7 +12,7 @@ use Rattle.b67_stack.specs.Represents.{Storage}
 use Rattle.b67_layout.specs.Common.{Placement, here, IsMade}
 use Rattle.b67_layout_step.specs.Keeping.{is_leaving}
 use Rattle.b67_exec_cells.specs.Running.{code_area}
-use Rattle.b67_exec_cells.specs.Called.{called_in, called_by}
+use Rattle.b67_exec_cells.specs.Called.{called_in, called_by_reading}
 use Rattle.b67_exec.specs.Operators.{CallsOrMeets, OperatorAt, OperatorMeets, leaves_record}
 use Rattle.b67_session_attempt.proofs.Inversion.{LeftFrame, exit_frame, retn_frame}
 use Rattle.b67_session_attempt.proofs.Read.{step_read}
@@ -61,7 +61,7 @@ module _ (x : Storage) (plan : Placement) (s : Session) (m : SessionJob) (t : Ta
   by_reading (Ok read) is e made =
       let same = step_read m t (Ok read) is in
       let P : Answer Done → Type 0 = λ a. IsMade x plan s m old new a in
-      record { op = read.0; next = read.1; leaves = leaving read.0 e; is = same; made = subst P same made; calls = ap (called_by m t) (sym is) ∙ (leaving read.0 e).calls (here m t read.1) }
+      record { op = read.0; next = read.1; leaves = leaving read.0 e; is = same; made = subst P same made; calls = ap (called_by_reading m t) (sym is) ∙ (leaving read.0 e).calls (here m t read.1) }
 
   -- its code is present
   pub code_there : OperatorMeets x plan s m t answers.Done old new → code_area x plan m t ≢ None

@@ -12,12 +12,12 @@ use Rattle.b67_stack.specs.declared.Step.TheVariants as answers
 use Rattle.b67_stack.specs.MachineView.{PagedObject}
 use Rattle.b67_stack.specs.Represents.{Storage}
 use Rattle.b67_exec_cells.specs.Running.{code_area}
-use Rattle.b67_exec_cells.specs.Called.{called_in, called_by}
+use Rattle.b67_exec_cells.specs.Called.{called_in, called_by_reading}
 use Rattle.b67_exec.specs.Operators.{CallsOrMeets, OperatorAt, OperatorMeets, leaves_record}
 use Rattle.b67_layout_step.specs.Keeping.{is_leaving}
 use Rattle.b67_task_tables.specs.declared.tables.Machine.{Machine}
 use Rattle.b67_task_tables.specs.Tables.{TasksShow, task_row, job_row, counts_of, MachineRepresents}
-use Rattle.b67_session_attempt.specs.Makes.{OperatorMade, StepMakes, CallsOrMakes, MakesAt, MakesOperator}
+use Rattle.b67_session_attempt.specs.Makes.{OperatorMade, StepMakes, CallsOrMakes, MakesAt, MakesInSegment}
 use Rattle.b67_task_release.specs.Released.{HasHome, Released}
 use Rattle.b67_task_release.proofs.Remaining.{Released-none}
 use Rattle.b67_session_attempt.proofs.Read.{step_read}
@@ -76,7 +76,7 @@ module _ (x : Storage) (told : Option (List (List ℕ))) (plan : Placement) (s :
         changed = λ i. ⊎_elim (λ e. inl e) (λ may. inr (inl may)) (k.changed i);
       }
 
-  by_reading : (read : Reading) → read ≡ reading_of m.constants t → leaves_record read ≡ false → called_by m t read ≡ None → IsMade x plan s m old.cpu new (step m.constants m.progress.job t)
+  by_reading : (read : Reading) → read ≡ reading_of m.constants t → leaves_record read ≡ false → called_by_reading m t read ≡ None → IsMade x plan s m old.cpu new (step m.constants m.progress.job t)
       → OperatorMade x told plan s m t old (record old { cpu = new })
   by_reading (Err why) is stays none k = let e = sym k.is ∙ step_read m t (Err why) is in absurd (let z : ⊥ = cc in z)
   by_reading (Ok read) is stays none k =
@@ -99,7 +99,7 @@ module _ (x : Storage) (told : Option (List (List ℕ))) (plan : Placement) (s :
   by_area answered (Some at) a stays made = by_call answered (called_in m t) (stays (λ e. none-some at (sym e ∙ a))) refl made
 
   -- an operator that leaves no record
-  pub operator_made : (answered : Step) → (code_area x plan m t ≢ None → leaves_record (reading_of m.constants t) ≡ false) → OperatorMeets x plan s m t answered old.cpu new → MakesOperator x told plan s m t answered old (record old { cpu = new })
+  pub operator_made : (answered : Step) → (code_area x plan m t ≢ None → leaves_record (reading_of m.constants t) ≡ false) → OperatorMeets x plan s m t answered old.cpu new → MakesInSegment x told plan s m t answered old (record old { cpu = new })
   operator_made answered stays made = by_area answered (code_area x plan m t) refl stays made
 
   -- and one whose answer isn't that it was made
@@ -111,7 +111,7 @@ module _ (x : Storage) (told : Option (List (List ℕ))) (plan : Placement) (s :
   not_area answered None other made = (made.0, ap (λ (c : Cpu). record old { cpu = c }) made.1)
   not_area answered (Some at) other made = not_call answered (called_in m t) other made
 
-  pub not_made : (answered : Step) → answered ≢ answers.Done → OperatorMeets x plan s m t answered old.cpu new → MakesOperator x told plan s m t answered old (record old { cpu = new })
+  pub not_made : (answered : Step) → answered ≢ answers.Done → OperatorMeets x plan s m t answered old.cpu new → MakesInSegment x told plan s m t answered old (record old { cpu = new })
   not_made answered other made = not_area answered (code_area x plan m t) other made
 
 -- core is as long as it was
@@ -124,7 +124,7 @@ operator_length x plan s m t answered old new h made = at_length x plan s m t an
 
 -- an operator that leaves a record was made
 pub made_so : (x : Storage) (told : Option (List (List ℕ))) (plan : Placement) (s : Session) (m : SessionJob) (t : Task) (old new : Machine) → code_area x plan m t ≢ None → called_in m t ≡ None → OperatorMade x told plan s m t old new
-    → MakesOperator x told plan s m t answers.Done old new
+    → MakesInSegment x told plan s m t answers.Done old new
 made_so x told plan s m t old new code none made = by (code_area x plan m t) refl where
   by : (area : Option ℕ) → code_area x plan m t ≡ area → MakesAt x told plan s m t answers.Done old new area
   by None e = absurd (code e)
@@ -132,7 +132,7 @@ made_so x told plan s m t old new code none made = by (code_area x plan m t) ref
 
 -- the running segment is absent
 pub absent_row : (x : Storage) (told : Option (List (List ℕ))) (plan : Placement) (s : Session) (m : SessionJob) (t : Task) (old : Machine) → MachineRepresents x told old plan s → IsRunning plan s.jobs m t → code_area x plan m t ≡ None
-    → MakesOperator x told plan s m t (answers.Absent (what.Code old.cpu.regs.segment)) old old
+    → MakesInSegment x told plan s m t (answers.Absent (what.Code old.cpu.regs.segment)) old old
 absent_row x told plan s m t old h runs none =
     let P : Option ℕ → Type 0 = λ o. MakesAt x told plan s m t (answers.Absent (what.Code old.cpu.regs.segment)) old old o in
     subst P (sym none) (ap (λ (n : ℕ). answers.Absent (what.Code n)) (h.session.holds.running m t runs).segment, refl)

@@ -18,7 +18,7 @@ use Rattle.b67_task_tables.specs.declared.tables.Machine.{Machine}
 use Rattle.b67_task_tables.specs.Tables.{MachineRepresents}
 use Rattle.b67_presence.specs.Bringing.{IsWanted}
 use Rattle.b67_presence.proofs.Wants.{array_area-some}
-use Rattle.b67_session_attempt.specs.Tries.{IsTouched}
+use Rattle.b67_session_attempt.specs.Tries.{IsWantedByStep}
 use Rattle.b67_session_attempt.proofs.Started.{none_started}
 use Rattle.b67_lemmas.specs.Lists.{Has}
 use Rattle.b67_lemmas.proofs.Members.{all_in, keyed_falls}
@@ -92,7 +92,7 @@ module _ (x : Storage) (told : Option (List (List ℕ))) (k : Machine) (plan : P
       omega (arith, low, high, need_is, none, h.storage.low)
 
   -- the need of a step whose segment is there, and whose array is wanted
-  array_need : (home words : ℕ) → IsWanted x plan m t (what.Array home) words → IsTouched plan m t (what.Array home) words → need (length k.cpu.core) s m t ≡ need_with s m t 0 words
+  array_need : (home words : ℕ) → IsWanted x plan m t (what.Array home) words → IsWantedByStep plan m t (what.Array home) words → need (length k.cpu.core) s m t ≡ need_with s m t 0 words
   array_need home words wanted touched =
       let (a, among, home_is, is, count) = touched in
       let order = (running_in_order plan s m t o runs).0.tasks in
@@ -106,7 +106,7 @@ module _ (x : Storage) (told : Option (List (List ℕ))) (k : Machine) (plan : P
       ∙ (let z : need_with s m t 0 0 + (length (array m.progress.job a.identity).numbers + 2) ≡ need_with s m t 0 words = omega (arith, n, area, zero_area) in z)
 
   -- what is wanted has the number of the step's need
-  pub need_of : (found : What) (words : ℕ) → IsWanted x plan m t found words → IsTouched plan m t found words → length k.cpu.core < need_with s m t 0 words → need (length k.cpu.core) s m t ≡ need_with s m t 0 words
+  pub need_of : (found : What) (words : ℕ) → IsWanted x plan m t found words → IsWantedByStep plan m t found words → length k.cpu.core < need_with s m t 0 words → need (length k.cpu.core) s m t ≡ need_with s m t 0 words
   need_of (what.Code displacement) words wanted touched above =
       let W : ℕ → Type 0 = λ n. length k.cpu.core < need_with s m t 0 n in
       let code : length k.cpu.core < need_with s m t 0 0 = subst W wanted.2 above in
@@ -114,5 +114,5 @@ module _ (x : Storage) (told : Option (List (List ℕ))) (k : Machine) (plan : P
   need_of (what.Array home) words wanted touched above = array_need home words wanted touched
 
   -- core has room for the step where it has for the array that is wanted
-  pub need_fits : (home words : ℕ) → IsWanted x plan m t (what.Array home) words → IsTouched plan m t (what.Array home) words → need_with s m t 0 words ≤ length k.cpu.core → need (length k.cpu.core) s m t ≤ length k.cpu.core
+  pub need_fits : (home words : ℕ) → IsWanted x plan m t (what.Array home) words → IsWantedByStep plan m t (what.Array home) words → need_with s m t 0 words ≤ length k.cpu.core → need (length k.cpu.core) s m t ≤ length k.cpu.core
   need_fits home words wanted touched low = let is = array_need home words wanted touched in let N : ℕ → Type 0 = λ n. n ≤ length k.cpu.core in subst N (sym is) low

@@ -23,7 +23,7 @@ kept op h known none_called = post_more (λ (x : Done). row op h ≡ Ok x) (Stil
   by (Waits condition) is = tt
 
 module _ (m : SessionJob) (t : Task) (here_is : keyed (λ (u : Task). u.number) t.number m.progress.job.tasks ≡ Some t) where
-  by_reading : (r : Reading) → operators.called_by m t r ≡ None → Post (Still (length m.progress.job.tasks)) (step_by m.constants m.progress.job t r)
+  by_reading : (r : Reading) → operators.called_by_reading m t r ≡ None → Post (Still (length m.progress.job.tasks)) (step_by m.constants m.progress.job t r)
   by_reading (Err why) none = post_err (Still (length m.progress.job.tasks)) _
   by_reading (Ok read) none = kept read.0 (here m t read.1) (known_in t.number m.progress.job.tasks t here_is) none
 

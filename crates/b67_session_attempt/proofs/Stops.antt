@@ -16,10 +16,10 @@ use Rattle.b67_task_tables.specs.declared.tables.Machine.{Machine}
 use Rattle.b67_task_tables.specs.Tables.{MachineRepresents}
 use Rattle.b67_mcp.specs.declared.ends.Stop.{Stop}
 use Rattle.b67_mcp.specs.declared.ends.Stop.TheVariants as stops
-use Rattle.b67_presence.specs.Bringing.{StandsOver, IsWanted, StandsAgain, Lacks, Refused, HasNoRoom, RefusedFull}
+use Rattle.b67_presence.specs.Bringing.{StandsOver, IsWanted, StandsAgain, Lacks, StillLacks, HasNoRoom, RefusedFull}
 use Rattle.b67_layout_step.proofs.MoreOtherNumbers.{others_running, RunsOther}
 use Rattle.b67_presence.proofs.Others.{others_same, others_sectors}
-use Rattle.b67_session_attempt.specs.Tries.{IsTouched}
+use Rattle.b67_session_attempt.specs.Tries.{IsWantedByStep}
 use Rattle.b67_session_attempt.specs.Attempts.{IsLacking, LacksRoom, for_segment, for_array, CodeFits}
 use Rattle.b67_session_attempt.specs.Brought.{Stopped, BroughtFits}
 use Rattle.b67_mcp.specs.Stopping.{StopsFor}
@@ -28,7 +28,7 @@ use Rattle.b67_mcp.proofs.Told.{told_is}
 use Rattle.b67_session_attempt.proofs.Composed.{unchanged, same_member}
 
 module _ (x : Storage) (told told' : Option (List (List ℕ))) (old new : Machine) (plan : Placement) (s : Session) (m : SessionJob) (t : Task) (count words : ℕ) (found : What) (o : IsInOrderButCounts s) (h : StandsOver x told old plan s) (runs : IsRunning plan s.jobs m t)
-    (wanted : IsWanted x plan m t found words) (touched : IsTouched plan m t found words) where
+    (wanted : IsWanted x plan m t found words) (touched : IsWantedByStep plan m t found words) where
   -- nothing has changed where core is too small
   small : (need_words size : ℕ) → length old.cpu.core < need_with s m t 0 words → need_words ≡ need_with s m t 0 words → size ≡ length old.cpu.core → new ≡ old → told' ≡ told
       → Stopped x (content_after x.device told') (length old.cpu.core) count plan s t (stops.NoCore need_words size) new
@@ -46,7 +46,7 @@ module _ (x : Storage) (told told' : Option (List (List ℕ))) (old new : Machin
       }
 
   -- what is missing where it was refused, in the session itself
-  lacking : (y : Storage) (home : What) → IsTouched plan m t home words → Lacks y home plan m t → IsLacking y plan m t
+  lacking : (y : Storage) (home : What) → IsWantedByStep plan m t home words → Lacks y home plan m t → IsLacking y plan m t
   lacking y (what.Code displacement) touch absent = inl absent
   lacking y (what.Array home) touch (inl absent) = inl absent
   lacking y (what.Array home) touch (inr absent) =
@@ -54,20 +54,20 @@ module _ (x : Storage) (told told' : Option (List (List ℕ))) (old new : Machin
       inr (inl (a.identity, is, ap (λ (at : ℕ). (y.held at).area) home_is ∙ absent))
 
   -- and that core has room
-  room : (y : Storage) (home : What) → IsWanted x plan m t home words → IsTouched plan m t home words → Lacks y home plan m t → need_with s m t 0 words ≤ length old.cpu.core
+  room : (y : Storage) (home : What) → IsWanted x plan m t home words → IsWantedByStep plan m t home words → Lacks y home plan m t → need_with s m t 0 words ≤ length old.cpu.core
       → (need (length old.cpu.core) s m t ≤ length old.cpu.core) ⊎ (code_area y plan m t ≡ None)
   room y (what.Code displacement) want touch absent low = inr absent
   room y (what.Array home) want touch absent low = inl (need_fits x x.device old plan s m t o h.stands runs home words want touch low)
 
   -- no hole has room for what is absent
-  lacks_room : (y : Storage) (home : What) → IsTouched plan m t home words → HasNoRoom y home words plan m t → LacksRoom y plan m t
+  lacks_room : (y : Storage) (home : What) → IsWantedByStep plan m t home words → HasNoRoom y home words plan m t → LacksRoom y plan m t
   lacks_room y (what.Code displacement) touch none = for_segment none.0 none.1
   lacks_room y (what.Array home) touch none =
       let (a, among, home_is, is, count_is) = touch in
       for_array a none.0 among (ap (λ (at : ℕ). (y.held at).area) home_is ∙ none.1) is (λ hole. none.2 (subst (λ (n : ℕ). HasHole (n + 2) y.spans) (sym count_is) hole))
 
   -- where the running segment was present
-  present_room : (home : What) → IsWanted x plan m t home words → IsTouched plan m t home words → need_with s m t 0 words ≤ length old.cpu.core → code_area x plan m t ≢ None → need (length old.cpu.core) s m t ≤ length old.cpu.core
+  present_room : (home : What) → IsWanted x plan m t home words → IsWantedByStep plan m t home words → need_with s m t 0 words ≤ length old.cpu.core → code_area x plan m t ≢ None → need (length old.cpu.core) s m t ≤ length old.cpu.core
   present_room (what.Code displacement) want touch low code = absurd (code want.1)
   present_room (what.Array home) want touch low code = need_fits x x.device old plan s m t o h.stands runs home words want touch low
 
@@ -127,7 +127,7 @@ module _ (x : Storage) (told told' : Option (List (List ℕ))) (old new : Machin
         );
       }
 
-  fault_so : (r : Refused x told' new plan s m t found) → need_with s m t 0 words ≤ length old.cpu.core → Stopped x (content_after x.device told') (length old.cpu.core) count plan s t stops.BackingFault new
+  fault_so : (r : StillLacks x told' new plan s m t found) → need_with s m t 0 words ≤ length old.cpu.core → Stopped x (content_after x.device told') (length old.cpu.core) count plan s t stops.BackingFault new
   fault_so r low =
       let again = r.again in
       record {
@@ -157,7 +157,7 @@ module _ (x : Storage) (told told' : Option (List (List ℕ))) (old new : Machin
       let low = has_room space.BackingFault (λ a b e. absurd cc) exactly in
       subst S (sym h) (present_room found wanted touched low)
 
-  pub stopped_so : Refused x told' new plan s m t found → (fault : SpaceFault) (stop : Stop) → StopsFor new fault stop → count + 1 ≡ length new.sectors.links
+  pub stopped_so : StillLacks x told' new plan s m t found → (fault : SpaceFault) (stop : Stop) → StopsFor new fault stop → count + 1 ≡ length new.sectors.links
       → ((words' size : ℕ) → fault ≡ space.NoCore words' size → (length old.cpu.core < need_with s m t 0 words) × (words' ≡ need_with s m t 0 words) × (size ≡ length old.cpu.core))
       → (length old.cpu.core < need_with s m t 0 words → fault ≡ space.NoCore (need_with s m t 0 words) (length old.cpu.core))
       → ((words' size : ℕ) → fault ≡ space.NoCore words' size → (new ≡ old) × (told' ≡ told))

@@ -18,14 +18,14 @@ use Rattle.b67_mcp.specs.declared.ends.Stop.{Stop}
 use Rattle.b67_mcp.specs.declared.ends.Stop.TheVariants as stops
 use Rattle.b67_mcp.specs.Called.{IsCalled, StaysInPlace, TouchesAbsent, CallMeets, CallWrites}
 use Rattle.b67_presence.specs.Bringing.{IsWanted}
-use Rattle.b67_session_attempt.specs.Tries.{IsTouched, LeavesAreas, TryMeets, TryWrites}
+use Rattle.b67_session_attempt.specs.Tries.{IsWantedByStep, LeavesAreas, TryMeets, TryWrites}
 use Rattle.b67_mcp.proofs.Still.{stands_peak}
 use Rattle.b67_session_attempt.proofs.Still.{operator_many}
 use Rattle.b67_lemmas.proofs.Members.{keyed_has}
 
 -- what is wanted, and that the step touches it, where nothing has changed
 abbrev pub Wants : Storage → Placement → SessionJob → Task → What → Machine → Machine → Type 0
-Wants x plan m t found old new = (words : ℕ) × IsWanted x plan m t found words × IsTouched plan m t found words × (new ≡ old)
+Wants x plan m t found old new = (words : ℕ) × IsWanted x plan m t found words × IsWantedByStep plan m t found words × (new ≡ old)
 
 pub wants_array : (x : Storage) (plan : Placement) (m : SessionJob) (t : Task) (found : What) (old new : Machine) → code_area x plan m t ≢ None → TouchesAbsent x plan m t found → new ≡ old → Wants x plan m t found old new
 wants_array x plan m t found old new code a same =

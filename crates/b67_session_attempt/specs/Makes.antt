@@ -7,7 +7,7 @@ use Rattle.b67_stack.specs.declared.What.TheVariants as what
 use Rattle.b67_stack.specs.declared.Step.{Step}
 use Rattle.b67_stack.specs.declared.Step.TheVariants as answers
 use Rattle.b67_stack.specs.Represents.{Storage}
-use Rattle.b67_layout.specs.Common.{Placement, with_job, objects_gone, FindsAbsent, IsPresent, MayChange}
+use Rattle.b67_layout.specs.Common.{Placement, with_job, objects_gone, FindsAbsent, TouchedIsPresent, MayChange}
 use Rattle.b67_exec_cells.specs.Running.{code_area}
 use Rattle.b67_exec_cells.specs.Called.{called_in}
 use Rattle.b67_exec.specs.Operators.{leaves_record}
@@ -27,7 +27,7 @@ pub record OperatorMade (x : Storage) (told : Option (List (List ℕ))) (plan : 
   pub job : Job
   pub touched : Option ℕ
   pub is : step m.constants m.progress.job t ≡ Ok (Goes job [] touched)
-  pub present : IsPresent x plan m.constants.number touched
+  pub present : TouchedIsPresent x plan m.constants.number touched
   pub storage : Storage
   pub stands : MachineRepresents storage told new plan (with_job s m job)
   pub released : Released (HasHome (objects_gone plan m job)) x storage
@@ -51,8 +51,8 @@ abbrev pub MakesAt : Storage → Option (List (List ℕ)) → Placement → Sess
 MakesAt x told plan s m t answered old new None = (answered ≡ answers.Absent (what.Code (t.segment + 1))) × (new ≡ old)
 MakesAt x told plan s m t answered old new (Some at) = CallsOrMakes x told plan s m t answered old new (called_in m t)
 
-abbrev pub MakesOperator : Storage → Option (List (List ℕ)) → Placement → Session → SessionJob → Task → Step → Machine → Machine → Type 0
-MakesOperator x told plan s m t answered old new = MakesAt x told plan s m t answered old new (code_area x plan m t)
+abbrev pub MakesInSegment : Storage → Option (List (List ℕ)) → Placement → Session → SessionJob → Task → Step → Machine → Machine → Type 0
+MakesInSegment x told plan s m t answered old new = MakesAt x told plan s m t answered old new (code_area x plan m t)
 
 -- for each session in order that the machine stands for, with its running task, which is ready
 abbrev pub ForEachReady : Machine → (Storage → Option (List (List ℕ)) → Placement → Session → SessionJob → Task → Type 0) → Type 0

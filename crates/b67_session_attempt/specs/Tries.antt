@@ -26,9 +26,9 @@ pub record ReadyRuns (k : Machine) : Type 0 where
   pub ready : runs.task.condition ≡ Ready
 
 -- the running segment is wanted, or the array that the step touches, by the address of its original
-abbrev pub IsTouched : Placement → SessionJob → Task → What → ℕ → Type 0
-IsTouched plan m t (what.Code displacement) words = Unit {0}
-IsTouched plan m t (what.Array home) words =
+abbrev pub IsWantedByStep : Placement → SessionJob → Task → What → ℕ → Type 0
+IsWantedByStep plan m t (what.Code displacement) words = Unit {0}
+IsWantedByStep plan m t (what.Array home) words =
     (a : Array) × Has m.progress.job.arrays a × (plan.home m.constants.number a.identity ≡ home)
     × (touched_of m.constants m.progress.job t (step m.constants m.progress.job t) ≡ Some a.identity) × (words ≡ length a.numbers)
 
@@ -52,7 +52,7 @@ abbrev pub TryMeets : {K : Type 0} → (K → Option (List ℕ)) → Option (Lis
 TryMeets taken told count x plan s m t (Ok tries.Made) old new paper paper' =
     (c : IsCalled taken paper paper' told s m t old.tasks.printed new) × LeavesAreas x c.storage plan c.plan m t c.job
 TryMeets taken told count x plan s m t (Ok (tries.Absent found)) old new paper paper' =
-    (words : ℕ) × IsWanted x plan m t found words × IsTouched plan m t found words × (new ≡ old) × (paper' ≡ paper)
+    (words : ℕ) × IsWanted x plan m t found words × IsWantedByStep plan m t found words × (new ≡ old) × (paper' ≡ paper)
 TryMeets taken told count x plan s m t (Ok (tries.Ends ending)) old new paper paper' = EndsSo m t ending × (new ≡ old) × (paper' ≡ paper)
 TryMeets taken told count x plan s m t (Ok (tries.Waits state)) old new paper paper' = WaitsSo plan m t state × (new ≡ old) × (paper' ≡ paper)
 TryMeets taken told count x plan s m t (Err stops.PrintFault) old new paper paper' = IsCut taken paper paper' m t old.tasks.printed new.tasks.printed × OnlyPrinted old new

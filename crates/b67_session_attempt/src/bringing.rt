@@ -11,7 +11,7 @@ ghost use Rattle.b67_layout.specs.Placement.{Placement};
 ghost use Rattle.b67_layout.specs.Session.{IsRunning};
 ghost use Rattle.b67_presence.specs.Bringing.{StandsOver, WantsSome, IsWanted, words_wanted};
 ghost use Rattle.b67_mcp.specs.declared.ends.Stop.TheVariants.{BackingFault, PrintFault};
-ghost use Rattle.b67_session_attempt.specs.Tries.{IsTouched};
+ghost use Rattle.b67_session_attempt.specs.Tries.{IsWantedByStep};
 ghost use Rattle.b67_session_attempt.specs.Brought.{BroughtFits, BroughtMeets, BroughtIntoHole};
 
 use b67_backing::Backing;
@@ -31,10 +31,10 @@ pub fn bring_wanted<B: Backing>(
     requires wants { WantsSome machine.old (B.holds backing.old) wanted }
     requires same { B.size backing.old + 1 ≡ length machine.old.sectors.links }
     ensures row { (x : Storage) (plan : Placement) (s : Session) (m : SessionJob) (t : Task) (words : ℕ) → IsInOrderButCounts s
-        → StandsOver x (B.holds backing.old) machine.old plan s → IsRunning plan s.jobs m t → IsWanted x plan m t wanted words → IsTouched plan m t wanted words
+        → StandsOver x (B.holds backing.old) machine.old plan s → IsRunning plan s.jobs m t → IsWanted x plan m t wanted words → IsWantedByStep plan m t wanted words
         → BroughtMeets x (B.holds backing.new) (length machine.old.cpu.core) (B.size backing.old) plan s m t wanted result machine.new }
     ensures fits { (x : Storage) (plan : Placement) (s : Session) (m : SessionJob) (t : Task) (words : ℕ) → IsInOrderButCounts s
-        → StandsOver x (B.holds backing.old) machine.old plan s → IsRunning plan s.jobs m t → IsWanted x plan m t wanted words → IsTouched plan m t wanted words
+        → StandsOver x (B.holds backing.old) machine.old plan s → IsRunning plan s.jobs m t → IsWanted x plan m t wanted words → IsWantedByStep plan m t wanted words
         → BroughtFits (length machine.old.cpu.core) x plan s m t result }
     ensures hole { (x : Storage) (plan : Placement) (s : Session) (m : SessionJob) (t : Task) (words : ℕ) → IsInOrderButCounts s
         → StandsOver x (B.holds backing.old) machine.old plan s → IsRunning plan s.jobs m t → IsWanted x plan m t wanted words → HasHole (words_wanted m t wanted words) x.spans

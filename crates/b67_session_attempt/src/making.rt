@@ -3,7 +3,7 @@
 ghost use Rattle.std.specs.Prelude.{◌≡◌, true};
 ghost use Rattle.b67_exec.specs.Near.{HoldsCode};
 ghost use Rattle.b67_task_tables.specs.Runs.{RunsTask, Keeps};
-ghost use Rattle.b67_session_attempt.specs.Makes.{MakesOperator, ForEachReady};
+ghost use Rattle.b67_session_attempt.specs.Makes.{MakesInSegment, ForEachReady};
 
 use b67_ctl::SegDesc;
 use b67_exec::operate_in;
@@ -24,7 +24,7 @@ pub struct Operated {
 pub fn make_in(machine: &mut Machine, desc: SegDesc) -> Operated
     requires runs { RunsTask machine.old }
     requires code { HoldsCode machine.old.cpu desc }
-    ensures row { ForEachReady machine.old (λ x told plan s m t. MakesOperator x told plan s m t result.step machine.old machine.new) }
+    ensures row { ForEachReady machine.old (λ x told plan s m t. MakesInSegment x told plan s m t result.step machine.old machine.new) }
     ensures code { result.near ≡ true → HoldsCode machine.new.cpu desc }
     ensures keeps { Keeps machine.old machine.new }
     ensures tasks { machine.new.tasks ≡ machine.old.tasks }
@@ -64,7 +64,7 @@ pub fn make_in(machine: &mut Machine, desc: SegDesc) -> Operated
 #[inline(always)]
 pub fn make(machine: &mut Machine) -> Step
     requires runs { RunsTask machine.old }
-    ensures row { ForEachReady machine.old (λ x told plan s m t. MakesOperator x told plan s m t result machine.old machine.new) }
+    ensures row { ForEachReady machine.old (λ x told plan s m t. MakesInSegment x told plan s m t result machine.old machine.new) }
     ensures keeps { Keeps machine.old machine.new }
     ensures tasks { machine.new.tasks ≡ machine.old.tasks }
 {

@@ -19,7 +19,7 @@ use Rattle.b67_task_tables.specs.declared.tables.Machine.{Machine}
 use Rattle.b67_task_tables.specs.Tables.{MachineRepresents}
 use Rattle.b67_task_end.specs.declared.families.EndedTask.{EndedTask}
 use Rattle.b67_task_end.specs.Family.{TablesHold, HasSomeHead, pair_of}
-use Rattle.b67_session_ends.specs.Ends.{StandsFor, JobLives, Finishes}
+use Rattle.b67_session_ends.specs.Ends.{StandsForSession, JobLives, Finishes}
 use Rattle.b67_session_ends.specs.Texts.{endings_text}
 use Rattle.b67_session_ends.proofs.Ended.{part_ended, stands_ended}
 
@@ -38,7 +38,7 @@ limit_but_counts h o = record { few = o.few; numbered = o.numbered; one_size = o
 pub reprinted : (x : Storage) (told : Option (List (List ℕ))) (k : Machine) (plan : Placement) (s : Session) (printed : ℕ) → MachineRepresents x told k plan s → MachineRepresents x told (record k { tasks = record k.tasks { printed = printed } }) plan s
 reprinted x told k plan s printed h = record { session = h.session; storage = h.storage; tables = h.tables }
 
-pub stands_reprinted : (told : Option (List (List ℕ))) (k : Machine) (s : Session) (printed : ℕ) → StandsFor told k s → StandsFor told (record k { tasks = record k.tasks { printed = printed } }) s
+pub stands_reprinted : (told : Option (List (List ℕ))) (k : Machine) (s : Session) (printed : ℕ) → StandsForSession told k s → StandsForSession told (record k { tasks = record k.tasks { printed = printed } }) s
 stands_reprinted told k s printed f = record { storage = f.storage; plan = f.plan; stands = reprinted f.storage told k f.plan s printed f.stands }
 
 module _ (x : Storage) (told : Option (List (List ℕ))) (k : Machine) (plan : Placement) (h : Session) (part : StepResult) (o : IsInOrderButLimit h) (is : last_part h ≡ Some part) (stands : MachineRepresents x told k plan h) where
@@ -105,7 +105,7 @@ module _ (x : Storage) (told : Option (List (List ℕ))) (k : Machine) (plan : P
   -- the session after it
   pub after_part : (new : Machine) (printed : ℕ)
       → ((x : Storage) (told : Option (List (List ℕ))) (plan : Placement) (s : Session) (m : SessionJob) → IsInOrderButCounts s → MachineRepresents x told (record k { tasks = record k.tasks { printed = printed } }) plan s → Has s.jobs m → m.constants.number ≡ k.tasks.last_job → m.progress.job.tasks ≢ []
-      → StandsFor told new (with_job s m (ends_each_if true Limit (unsettled m.progress.job)).job)) → StandsFor told new part.session
+      → StandsForSession told new (with_job s m (ends_each_if true Limit (unsettled m.progress.job)).job)) → StandsForSession told new part.session
   after_part new printed ends =
       let f = ends x told plan h m (limit_but_counts h o) (reprinted x told k plan h printed stands) named.0 number l.lives in
       let found : keyed number_of m.constants.number h.jobs ≡ Some m = subst (λ (n : ℕ). keyed number_of n h.jobs ≡ Some m) (sym named.1) l.found in

@@ -26,7 +26,7 @@ use Rattle.b67_session_schedule.specs.declared.counting.Chosen.{Chosen}
 use Rattle.b67_session_schedule.specs.Counted.{choice_of, CountsHaveRoom}
 use Rattle.b67_session_ends.specs.Closing.{HasJobOf, StandsChosen, KeepsNames}
 use Rattle.b67_session_ends.specs.Counts.{IsCounted}
-use Rattle.b67_session_ends.specs.Ends.{StandsFor, IsFamilyOf, EndsFamily}
+use Rattle.b67_session_ends.specs.Ends.{StandsForSession, IsFamilyOf, EndsFamily}
 use Rattle.b67_session_ends.specs.Texts.{endings_text}
 use Rattle.b67_session_ends.proofs.ByLimit.{reprinted}
 use Rattle.b67_session_ends.proofs.Counted.{counted_stands}
@@ -101,7 +101,7 @@ module _ (x : Storage) (told : Option (List (List ℕ))) (k : Machine) (plan : P
     pub ends_family : (ending : Ending) (endings : List (ℕ × Ending)) → endings ≡ endings_of m.progress.job t.number ending → EndsFamily now c.row c.job endings
     ends_family ending endings listed = record { storage = x; told = told; plan = plan; session = s; member = m; task = t; ending = ending; family = is_family ending endings listed }
 
-    module _ (ending : Ending) (new : Machine) (e : StandsFor told new (with_job s m (ends_task m.progress.job t.number ending).job)) where
+    module _ (ending : Ending) (new : Machine) (e : StandsForSession told new (with_job s m (ends_task m.progress.job t.number ending).job)) where
       abbrev gone : Settled
       gone = ends_task m.progress.job t.number ending
 
@@ -121,7 +121,7 @@ module _ (x : Storage) (told : Option (List (List ℕ))) (k : Machine) (plan : P
       has_job = record { storage = e.storage; told = told; plan = e.plan; session = with_job s m gone.job; member = left; ordered = left_ordered; stands = e.stands; among = left_among; number = own }
 
       -- and those that are deadlocked
-      module _ (last : Machine) (f : StandsFor told last (with_job (with_job s m gone.job) left (deadlocked (unsettled gone.job)).job)) where
+      module _ (last : Machine) (f : StandsForSession told last (with_job (with_job s m gone.job) left (deadlocked (unsettled gone.job)).job)) where
         abbrev made : Stepped
         made = ends_with m.progress.job t.number ending
 
@@ -132,7 +132,7 @@ module _ (x : Storage) (told : Option (List (List ℕ))) (k : Machine) (plan : P
             let same : made.settled.job ≡ J = settled_job (list_all (λ (u : Task). not (is_ready u)) gone.job.tasks) gone in
             subst (λ (j : Job). MachineRepresents f.storage told last f.plan (with_job s m j)) (sym same) (subst (MachineRepresents f.storage told last f.plan) twice f.stands)
 
-        pub closed : (counts : Tasks) → IsCounted c last.tasks counts → StandsFor told (record last { tasks = counts }) (part_of s (choice_of c) m t made).session
+        pub closed : (counts : Tasks) → IsCounted c last.tasks counts → StandsForSession told (record last { tasks = counts }) (part_of s (choice_of c) m t made).session
         closed counts counted =
             let moment : JobMoment = moment_with m.progress t made made.settled in
             record { storage = f.storage; plan = f.plan; stands = counted_stands s c m moment w.ordered there refl f.storage told last f.plan counts refl counted stuck_stands }
@@ -140,8 +140,8 @@ module _ (x : Storage) (told : Option (List (List ℕ))) (k : Machine) (plan : P
       -- by what is promised of the call that ends them
       pub closed_by : (last : Machine)
           → ((x : Storage) (told : Option (List (List ℕ))) (plan : Placement) (s : Session) (m : SessionJob) → IsInOrderButCounts s → MachineRepresents x told new plan s → Has s.jobs m → m.constants.number ≡ c.job
-          → StandsFor told last (with_job s m (deadlocked (unsettled m.progress.job)).job))
-          → (counts : Tasks) → IsCounted c last.tasks counts → StandsFor told (record last { tasks = counts }) (part_of s (choice_of c) m t (ends_with m.progress.job t.number ending)).session
+          → StandsForSession told last (with_job s m (deadlocked (unsettled m.progress.job)).job))
+          → (counts : Tasks) → IsCounted c last.tasks counts → StandsForSession told (record last { tasks = counts }) (part_of s (choice_of c) m t (ends_with m.progress.job t.number ending)).session
       closed_by last ends counts counted = closed last (ends e.storage told e.plan (with_job s m gone.job) left left_ordered e.stands left_among own) counts counted
 
 -- but for the rows, the one that runs and how much is printed the tables are as before the tasks' ends

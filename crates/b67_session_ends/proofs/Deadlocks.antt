@@ -20,11 +20,11 @@ use Rattle.b67_task_tables.specs.declared.tables.TaskRow.{TaskRow}
 use Rattle.b67_task_tables.specs.declared.tables.Tasks.{Tasks}
 use Rattle.b67_task_tables.specs.declared.tables.Machine.{Machine}
 use Rattle.b67_task_tables.specs.Tables.{MachineRepresents}
-use Rattle.b67_task_end_tables.specs.Deaths.{numbers_of}
+use Rattle.b67_task_end_tables.specs.Deaths.{ending_numbers}
 use Rattle.b67_task_end.specs.declared.families.EndedTask.{EndedTask}
 use Rattle.b67_task_end.specs.Family.{TablesHold, pair_of}
 use Rattle.b67_session_ends.specs.Closing.{is_dead_of, left_ready, others_of}
-use Rattle.b67_session_ends.specs.Ends.{StandsFor}
+use Rattle.b67_session_ends.specs.Ends.{StandsForSession}
 use Rattle.b67_session_ends.proofs.AtLimits.{no_tasks, some_tasks}
 use Rattle.b67_session_ends.proofs.Stuck.{dead_is, rows_tell}
 
@@ -40,8 +40,8 @@ filter_same p q (n ∷ ns) same = elim (cases_Bool (q n)) [
   | inr t ↦ let own : p n ≡ false = same n ∙ t in rw (own, t) (filter_same p q ns same)
 ]
 
-pub others_is : (dead : List EndedTask) (ns : List ℕ) → others_of dead ns ≡ others (numbers_of (map pair_of dead)) ns
-others_is dead ns = filter_same (λ (n : ℕ). not (is_dead_of dead n)) (λ (n : ℕ). not (among (numbers_of (map pair_of dead)) n)) ns (λ n. ap not (dead_is dead n))
+pub others_is : (dead : List EndedTask) (ns : List ℕ) → others_of dead ns ≡ others (ending_numbers (map pair_of dead)) ns
+others_is dead ns = filter_same (λ (n : ℕ). not (is_dead_of dead n)) (λ (n : ℕ). not (among (ending_numbers (map pair_of dead)) n)) ns (λ n. ap not (dead_is dead n))
 
 pub joined_none : (dead : List EndedTask) (n : ℕ) (list : List EndedTask) {b : Bool} → b ≡ true → b ≡ is_dead_of dead n → map pair_of list ≡ map pair_of list ++ all_with Deadlock (others_of dead (n ∷ []))
 joined_none dead n list t e =
@@ -90,7 +90,7 @@ module _ (plan : Placement) (s : Session) (tasks : Tasks) (h : TablesHold plan s
     gone = ends_task m.progress.job number ending
 
     abbrev waiting : List (ℕ × Ending) → Bool
-    waiting endings = list_all (λ (t : Task). not (is_ready t)) (map (λ (t : Task). record t { condition = released (numbers_of endings) t.condition }) (filter (λ (t : Task). not (among (numbers_of endings) t.number)) m.progress.job.tasks))
+    waiting endings = list_all (λ (t : Task). not (is_ready t)) (map (λ (t : Task). record t { condition = released (ending_numbers endings) t.condition }) (filter (λ (t : Task). not (among (ending_numbers endings) t.number)) m.progress.job.tasks))
 
     stuck_is : (job : ℕ) → m.constants.number ≡ job → is_stuck m.progress.job number ending ≡ not (list_any (left_ready job dead) tasks.rows.items)
     stuck_is job own =
@@ -116,7 +116,7 @@ module _ (plan : Placement) (s : Session) (tasks : Tasks) (h : TablesHold plan s
           ∙ ap (λ (l : List EndedTask). map pair_of l ++ all_with Deadlock (others_of dead live)) copy
           ∙ ap (λ (ns : List ℕ). map pair_of dead ++ all_with Deadlock (others_of dead ns)) lives
           ∙ ap (λ (ns : List ℕ). map pair_of dead ++ all_with Deadlock ns) (others_is dead deep)
-          ∙ ap (λ (l : List (ℕ × Ending)). l ++ all_with Deadlock (others (numbers_of l) deep)) e
+          ∙ ap (λ (l : List (ℕ × Ending)). l ++ all_with Deadlock (others (ending_numbers l) deep)) e
           ∙ sym (endings_by true is)
 
 -- ---- a job of which no task is ready
@@ -165,16 +165,16 @@ module _ (x : Storage) (told : Option (List (List ℕ))) (k : Machine) (plan : P
   with_same : with_job s m job ≡ s
   with_same = ap (λ (js : List SessionJob). record s { jobs = js }) (change_same number_of m.constants.number (λ (y : SessionJob). record y { progress = m.progress }) s.jobs m (keyed_member 1 s.jobs m o.numbered inm) refl)
 
-  stands_same : (deadlocked (unsettled job)).job ≡ job → StandsFor told k (with_job s m (deadlocked (unsettled job)).job)
-  stands_same e = subst (λ (j : Job). StandsFor told k (with_job s m j)) (sym e) (subst (StandsFor told k) (sym with_same) (record { storage = x; plan = plan; stands = h }))
+  stands_same : (deadlocked (unsettled job)).job ≡ job → StandsForSession told k (with_job s m (deadlocked (unsettled job)).job)
+  stands_same e = subst (λ (j : Job). StandsForSession told k (with_job s m j)) (sym e) (subst (StandsForSession told k) (sym with_same) (record { storage = x; plan = plan; stands = h }))
 
   module _ (n : ℕ) (own : m.constants.number ≡ n) {b : Bool} where
     -- one is ready
-    pub goes_same : b ≡ true → b ≡ list_any (left_ready n []) k.tasks.rows.items → StandsFor told k (with_job s m (deadlocked (unsettled job)).job)
+    pub goes_same : b ≡ true → b ≡ list_any (left_ready n []) k.tasks.rows.items → StandsForSession told k (with_job s m (deadlocked (unsettled job)).job)
     goes_same t tells = stands_same (job_by false (wait_is n own ∙ ap not (sym tells ∙ t)))
 
     -- none lives
-    pub none_same : b ≡ false → b ≡ list_any (λ (r : TaskRow). r.job == n) k.tasks.rows.items → StandsFor told k (with_job s m (deadlocked (unsettled job)).job)
+    pub none_same : b ≡ false → b ≡ list_any (λ (r : TaskRow). r.job == n) k.tasks.rows.items → StandsForSession told k (with_job s m (deadlocked (unsettled job)).job)
     none_same t tells =
         let none : job.tasks ≡ [] = no_tasks plan s k.tasks o.numbered h.tables m inm (ap (λ (i : ℕ). list_any (λ (r : TaskRow). r.job == i) k.tasks.rows.items) own ∙ sym tells ∙ t) in
         let waits : all_wait ≡ true = ap (list_all (λ (u : Task). not (is_ready u))) none in
@@ -184,8 +184,8 @@ module _ (x : Storage) (told : Option (List (List ℕ))) (k : Machine) (plan : P
     pub lives_still : b ≡ true → b ≡ list_any (λ (r : TaskRow). r.job == n) k.tasks.rows.items → job.tasks ≢ []
     lives_still t tells = some_tasks plan s k.tasks o.numbered h.tables m inm (ap (λ (i : ℕ). list_any (λ (r : TaskRow). r.job == i) k.tasks.rows.items) own ∙ sym tells ∙ t)
 
-    pub all_gone : b ≡ false → b ≡ list_any (left_ready n []) k.tasks.rows.items → (new : Machine) → StandsFor told new (with_job s m (ends_each_if true Limit (unsettled job)).job) → StandsFor told new (with_job s m (deadlocked (unsettled job)).job)
+    pub all_gone : b ≡ false → b ≡ list_any (left_ready n []) k.tasks.rows.items → (new : Machine) → StandsForSession told new (with_job s m (ends_each_if true Limit (unsettled job)).job) → StandsForSession told new (with_job s m (deadlocked (unsettled job)).job)
     all_gone t tells new stands =
         let same : (deadlocked (unsettled job)).job ≡ (ends_each_if true Limit (unsettled job)).job =
         job_by true (wait_is n own ∙ ap not (sym tells ∙ t)) ∙ each_emptied (IsSegment m.constants) m.constants job order Deadlock ∙ sym (each_emptied (IsSegment m.constants) m.constants job order Limit) in
-        subst (λ (j : Job). StandsFor told new (with_job s m j)) (sym same) stands
+        subst (λ (j : Job). StandsForSession told new (with_job s m j)) (sym same) stands

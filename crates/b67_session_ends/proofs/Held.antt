@@ -28,12 +28,12 @@ use Rattle.b67_session_schedule.specs.declared.counting.Chosen.{Chosen}
 use Rattle.b67_session_schedule.specs.Counted.{choice_of}
 use Rattle.b67_session_ends.specs.Closing.{HasJobOf, StandsChosen, Closes}
 use Rattle.b67_session_ends.specs.Counts.{IsCounted}
-use Rattle.b67_session_ends.specs.Ends.{StandsFor}
+use Rattle.b67_session_ends.specs.Ends.{StandsForSession}
 use Rattle.b67_session_ends.specs.Texts.{endings_text}
 use Rattle.b67_session_ends.proofs.ByLimit.{reprinted}
 use Rattle.b67_session_ends.proofs.Closed.{same_tasks}
 use Rattle.b67_session_ends.proofs.Counted.{counted_stands}
-use Rattle.b67_session_ends.specs.Holds.{held, holding, HoldsSo, HoldsSome, with_state}
+use Rattle.b67_session_ends.specs.Holds.{held, waiting_step, HoldsSo, HoldsSome, with_state}
 use Rattle.b67_session_ends.proofs.Shown.{moved, tables_held}
 use Rattle.b67_session_ends.proofs.Waits.{found, live, as_many, held_ordered}
 
@@ -180,7 +180,7 @@ module _ (k : Machine) (c : Chosen) (state : TaskState) (h : HoldsSome k c state
         ∙ ap (λ (l : List TaskRow). record k.tasks { rows = record { items = l }; printed = printed }) (set-back items c.row new row w.row.there)
 
     abbrev made : Stepped
-    made = holding job t condition
+    made = waiting_step job t condition
 
     abbrev part : StepResult
     part = part_of s (choice_of c) m t made
@@ -199,11 +199,11 @@ module _ (k : Machine) (c : Chosen) (state : TaskState) (h : HoldsSome k c state
 
       abbrev EndsStuck : Machine → Type 0
       EndsStuck last = (x : Storage) (told : Option (List (List ℕ))) (plan : Placement) (s : Session) (m : SessionJob) → IsInOrderButCounts s → MachineRepresents x told now plan s → Has s.jobs m → m.constants.number ≡ c.job
-          → StandsFor told last (with_job s m (deadlocked (unsettled m.progress.job)).job)
+          → StandsForSession told last (with_job s m (deadlocked (unsettled m.progress.job)).job)
 
-      held_stands : (last : Machine) → EndsStuck last → (counts : Tasks) → IsCounted c last.tasks counts → StandsFor told (record last { tasks = counts }) part.session
+      held_stands : (last : Machine) → EndsStuck last → (counts : Tasks) → IsCounted c last.tasks counts → StandsForSession told (record last { tasks = counts }) part.session
       held_stands last ends counts counted =
-          let f : StandsFor told last (with_job session member made.settled.job) = ends x told plan session member ordered (still printed) in_session own in
+          let f : StandsForSession told last (with_job session member made.settled.job) = ends x told plan session member ordered (still printed) in_session own in
           let there : MachineRepresents f.storage told last f.plan (with_job s m made.settled.job) = subst (MachineRepresents f.storage told last f.plan) (with_job-twice s m after made.settled.job) f.stands in
           let moment : JobMoment = moment_with m.progress t made made.settled in
           let found_c : keyed number_of c.job s.jobs ≡ Some m = ap (λ (z : Choice). keyed number_of z.who.job s.jobs) (sym w.chosen) ∙ w.next.member in

@@ -16,7 +16,7 @@ use Rattle.b67_layout.specs.Common.{with_job, IsInOrderButCounts, Placement, slo
 use Rattle.b67_layout.proofs.Common.{job_in_order, change-kept, differ_at, live_in_order}
 use Rattle.b67_task_start_stack.specs.Likes.{SameStack, Like}
 use Rattle.b67_task_start_stack.proofs.Births.{changed_member, kept_member, moved_member}
-use Rattle.b67_task_start_stack.proofs.Twins.{like_same, spots-twin}
+use Rattle.b67_task_start_stack.proofs.AlikePlans.{like_same, spots-twin}
 use Rattle.b67_session_ends.specs.Holds.{held}
 
 like_frames : (a b : Option Task) → Like a b → frames_of_task a ≡ frames_of_task b

@@ -17,13 +17,13 @@ use Rattle.b67_task_tables.specs.declared.tables.TaskRow.{TaskRow}
 use Rattle.b67_task_tables.specs.declared.tables.Tasks.{Tasks}
 use Rattle.b67_task_tables.specs.Tables.{state_of, task_row}
 use Rattle.b67_task_end.specs.declared.families.EndedTask.{EndedTask}
-use Rattle.b67_task_end_tables.specs.Deaths.{numbers_of}
+use Rattle.b67_task_end_tables.specs.Deaths.{ending_numbers}
 use Rattle.b67_task_end.specs.Family.{TablesHold, pair_of}
 use Rattle.b67_session_ends.specs.Closing.{is_dead_of, ready_after, left_ready}
 
 -- ---- lists
 
-pub dead_is : (dead : List EndedTask) (n : ℕ) → list_any (λ (e : EndedTask). e.number == n) dead ≡ among (numbers_of (map pair_of dead)) n
+pub dead_is : (dead : List EndedTask) (n : ℕ) → list_any (λ (e : EndedTask). e.number == n) dead ≡ among (ending_numbers (map pair_of dead)) n
 dead_is [] n = refl
 dead_is (e ∷ dead) n = ap (λ (b : Bool). (e.number == n) || b) (dead_is dead n)
 
@@ -49,12 +49,12 @@ released_by : (numbers : List ℕ) (n : ℕ) (b : Bool) → among numbers n ≡ 
 released_by numbers n true e = rw e refl
 released_by numbers n false e = rw e refl
 
-ready_as : (plan : Placement) (m : SessionJob) (t : Task) (dead : List EndedTask) (st : TaskState) (c : Condition) → state_of st ≡ shown plan m.constants.number m.progress.job t c → ready_after dead st ≡ is_ready_in (released (numbers_of (map pair_of dead)) c)
+ready_as : (plan : Placement) (m : SessionJob) (t : Task) (dead : List EndedTask) (st : TaskState) (c : Condition) → state_of st ≡ shown plan m.constants.number m.progress.job t c → ready_after dead st ≡ is_ready_in (released (ending_numbers (map pair_of dead)) c)
 ready_as plan m t dead states.Ready Ready e = refl
 ready_as plan m t dead states.Ready (Awaits n) e = absurd cc
 ready_as plan m t dead states.Ready (WaitsAt f offset) e = absurd cc
 ready_as plan m t dead (states.Awaits k) Ready e = absurd cc
-ready_as plan m t dead (states.Awaits k) (Awaits n) e = let numbers = numbers_of (map pair_of dead) in let same : k ≡ n = cc in dead_is dead k ∙ ap (among numbers) same ∙ released_by numbers n (among numbers n) refl
+ready_as plan m t dead (states.Awaits k) (Awaits n) e = let numbers = ending_numbers (map pair_of dead) in let same : k ≡ n = cc in dead_is dead k ∙ ap (among numbers) same ∙ released_by numbers n (among numbers n) refl
 ready_as plan m t dead (states.Awaits k) (WaitsAt f offset) e = absurd cc
 ready_as plan m t dead (states.WaitsAt mark offset) Ready e = absurd cc
 ready_as plan m t dead (states.WaitsAt mark offset) (Awaits n) e = absurd cc
@@ -64,7 +64,7 @@ ready_as plan m t dead (states.WaitsAt mark offset) (WaitsAt f k) e = refl
 
 module _ (plan : Placement) (s : Session) (tasks : Tasks) (h : TablesHold plan s tasks) (m : SessionJob) (inm : Has s.jobs m) (dead : List EndedTask) where
   abbrev numbers : List ℕ
-  numbers = numbers_of (map pair_of dead)
+  numbers = ending_numbers (map pair_of dead)
 
   abbrev test : TaskRow → Bool
   test r = left_ready m.constants.number dead r

@@ -16,7 +16,7 @@ use Rattle.b67_layout.specs.Meets.{with_job}
 use Rattle.b67_layout.specs.Orders.{IsInOrderButCounts}
 use Rattle.b67_layout.proofs.Weaker.{but_counts}
 use Rattle.b67_session_ends.proofs.Closed.{ordered_with}
-use Rattle.b67_session_ends.specs.Holds.{held, holding}
+use Rattle.b67_session_ends.specs.Holds.{held, waiting_step}
 
 module _ (s : Session) (m : SessionJob) (t : Task) (condition : Condition) (o : IsInOrderButPlaces s) (n : IsNext s m t) (is : step m.constants m.progress.job t ≡ Ok (Waits condition)) where
   abbrev job : Job
@@ -58,7 +58,7 @@ module _ (s : Session) (m : SessionJob) (t : Task) (condition : Condition) (o : 
   as_many = length_change (λ (u : Task). u.number) t.number (record t { condition = condition }) job.tasks
 
   -- the first part of the step leaves the session in order, but that its job may stand at its limit
-  pub waits_settle : SettlesInOrder m.constants m.progress (holding job t condition).alive (holding job t condition).settled
+  pub waits_settle : SettlesInOrder m.constants m.progress (waiting_step job t condition).alive (waiting_step job t condition).settled
   waits_settle = made_settles m.constants m.progress after [] None tasks_ordered (omega arith)
 
   -- before the test for deadlock

@@ -10,7 +10,7 @@ use Rattle.b67_task_tables.specs.declared.tables.TaskState.TheVariants as states
 use Rattle.b67_task_tables.specs.declared.tables.TaskRow.{TaskRow}
 use Rattle.b67_task_tables.specs.declared.tables.Machine.{Machine}
 use Rattle.b67_task_tables.specs.Tables.{AreCountable, row_names, MachineRepresents}
-use Rattle.b67_session_ends.specs.Ends.{StandsFor}
+use Rattle.b67_session_ends.specs.Ends.{StandsForSession}
 use Rattle.b67_lemmas.specs.Lists.{Has}
 use Rattle.b67_stack.specs.Represents.{Storage}
 use Rattle.b67_layout.specs.Orders.{IsInOrderButCounts}
@@ -42,7 +42,7 @@ others_of dead ns = filter (λ (n : ℕ). not (is_dead_of dead n)) ns
 -- is printed
 abbrev pub Closes : {K : Type 0} → (K → Option (List ℕ)) → Option (List (List ℕ)) → StepResult → Result (Unit {0}) Failed → Machine → Machine → K → K → Type 0
 Closes taken told part (Ok done) old new paper paper' =
-    TookRest taken paper paper' (run_text part.lines) old.tasks.printed × (new.tasks.printed ≡ 0) × (new.tasks.made ≡ old.tasks.made + 1) × StandsFor told new part.session
+    TookRest taken paper paper' (run_text part.lines) old.tasks.printed × (new.tasks.printed ≡ 0) × (new.tasks.made ≡ old.tasks.made + 1) × StandsForSession told new part.session
 Closes taken told part (Err failed) old new paper paper' =
     TookMore taken paper paper' (run_text part.lines) old.tasks.printed new.tasks.printed × (new ≡ record old { tasks = record old.tasks { printed = new.tasks.printed } })
 

@@ -11,7 +11,7 @@ use Rattle.b67_layout.specs.Orders.{IsInOrderButCounts}
 use Rattle.b67_task_tables.specs.declared.tables.TaskRow.{TaskRow}
 use Rattle.b67_task_tables.specs.declared.tables.Machine.{Machine}
 use Rattle.b67_task_tables.specs.Tables.{MachineRepresents}
-pub use Rattle.b67_task_end_tables.specs.Families.{StandsFor, IsFamilyOf, EndsFamily}
+pub use Rattle.b67_task_end_tables.specs.Families.{StandsForSession, IsFamilyOf, EndsFamily}
 use Rattle.b67_law_sessions.specs.Orders.{IsInOrderButLimit}
 
 -- the row of a job's first task
@@ -47,7 +47,7 @@ pub record StandsBetween (k : Machine) : Type 0 where
 -- but how much of them is printed
 abbrev pub LimitEnds : {K : Type 0} → (K → Option (List ℕ)) → Option (List (List ℕ)) → StepResult → Result (Unit {0}) Failed → Machine → Machine → K → K → Type 0
 LimitEnds taken told part (Ok done) old new paper paper' =
-    TookRest taken paper paper' (run_text part.lines) old.tasks.printed × (new.tasks.printed ≡ 0) × StandsFor told new part.session
+    TookRest taken paper paper' (run_text part.lines) old.tasks.printed × (new.tasks.printed ≡ 0) × StandsForSession told new part.session
 LimitEnds taken told part (Err failed) old new paper paper' =
     TookMore taken paper paper' (run_text part.lines) old.tasks.printed new.tasks.printed × (new ≡ record old { tasks = record old.tasks { printed = new.tasks.printed } })
 
@@ -59,7 +59,7 @@ Finishes taken told (Some part) answered old new paper paper' = LimitEnds taken 
 
 -- but for the rows of tasks, the one that runs and how much is printed, the tables are as they were; core and the table of
 -- sectors have as many words and sectors
-pub record KeepsCounts (old new : Machine) : Type 0 where
+pub record KeepsTables (old new : Machine) : Type 0 where
   pub tasks : new.tasks ≡ record old.tasks { rows = new.tasks.rows; running = new.tasks.running; printed = new.tasks.printed }
   pub core : length new.cpu.core ≡ length old.cpu.core
   pub sectors : length new.sectors.links ≡ length old.sectors.links

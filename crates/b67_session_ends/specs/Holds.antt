@@ -18,8 +18,8 @@ abbrev pub held : Job → Task → Condition → Job
 held job t condition = with_task job (record t { condition = condition })
 
 -- the step that makes it wait
-abbrev pub holding : Job → Task → Condition → Stepped
-holding job t condition = goes_on (held job t condition) [] None
+abbrev pub waiting_step : Job → Task → Condition → Stepped
+waiting_step job t condition = goes_on (held job t condition) [] None
 
 -- the task, whose registers are in use, waits for this by its step, and the state is what its row shows then
 pub record HoldsSo (plan : Placement) (m : SessionJob) (t : Task) (state : TaskState) (condition : Condition) : Type 0 where

@@ -14,7 +14,7 @@ ghost use Rattle.b67_law_sessions.specs.Turns.{part_of};
 ghost use Rattle.b67_task_tables.specs.Tables.{MachineRepresents};
 ghost use Rattle.b67_session_schedule.specs.Counted.{choice_of, CountsHaveRoom};
 ghost use Rattle.b67_session_ends.specs.Closing.{HasJobOf, StandsChosen, ChoseSome, Closes, KeepsNames};
-ghost use Rattle.b67_session_ends.specs.Ends.{StandsFor};
+ghost use Rattle.b67_session_ends.specs.Ends.{StandsForSession};
 
 use crate::counts::count_one;
 use crate::deaths::end_job;
@@ -32,7 +32,7 @@ use b67_word::{Ending, Failed};
 pub fn end_stuck(machine: &mut Machine, job: u8)
     requires { HasJobOf machine.old job }
     ensures stands { (x : Storage) (told : Option (List (List ℕ))) (plan : Placement) (s : Session) (m : SessionJob) → IsInOrderButCounts s → MachineRepresents x told machine.old plan s
-        → Has s.jobs m → m.constants.number ≡ job → StandsFor told machine.new (with_job s m (deadlocked (unsettled m.progress.job)).job) }
+        → Has s.jobs m → m.constants.number ≡ job → StandsForSession told machine.new (with_job s m (deadlocked (unsettled m.progress.job)).job) }
     ensures tasks { machine.new.tasks ≡ record machine.old.tasks { rows = machine.new.tasks.rows; running = machine.new.tasks.running } }
     ensures len { length machine.new.cpu.core ≡ length machine.old.cpu.core }
     ensures count { length machine.new.sectors.links ≡ length machine.old.sectors.links }

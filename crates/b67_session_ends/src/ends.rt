@@ -9,7 +9,7 @@ ghost use Rattle.b67_stack.specs.Represents.{Storage};
 ghost use Rattle.b67_layout.specs.Placement.{Placement};
 ghost use Rattle.b67_task_tables.specs.Tables.{MachineRepresents};
 ghost use Rattle.b67_law_sessions.specs.Orders.{IsInOrderButLimit};
-ghost use Rattle.b67_session_ends.specs.Ends.{StandsBetween, HasLimited, LimitEnds, Finishes, KeepsCounts};
+ghost use Rattle.b67_session_ends.specs.Ends.{StandsBetween, HasLimited, LimitEnds, Finishes, KeepsTables};
 
 use crate::deaths::{all_ended, end_job};
 use crate::limits::is_at_limit;
@@ -27,7 +27,7 @@ pub fn end_by_limit<K: Sink>(machine: &mut Machine, paper: &mut K) -> Result<(),
     ensures ends { (x : Storage) (told : Option (List (List ℕ))) (plan : Placement) (h : Session) (part : StepResult) → IsInOrderButLimit h → last_part h ≡ Some part
         → MachineRepresents x told machine.old plan h → LimitEnds K.taken told part result machine.old machine.new paper.old paper.new }
     ensures cause { HasCause K.faults paper.old paper.new result }
-    ensures keeps { KeepsCounts machine.old machine.new }
+    ensures keeps { KeepsTables machine.old machine.new }
 {
     let job = machine.tasks.last_job;
     let live = live_of(&machine.tasks, job);
@@ -48,7 +48,7 @@ pub fn finish<K: Sink>(machine: &mut Machine, paper: &mut K) -> Result<(), Faile
     ensures finishes { (x : Storage) (told : Option (List (List ℕ))) (plan : Placement) (h : Session) → IsInOrderButLimit h → MachineRepresents x told machine.old plan h
         → Finishes K.taken told (last_part h) result machine.old machine.new paper.old paper.new }
     ensures cause { HasCause K.faults paper.old paper.new result }
-    ensures keeps { KeepsCounts machine.old machine.new }
+    ensures keeps { KeepsTables machine.old machine.new }
 {
     if !is_at_limit(&machine.tasks) {
         return Ok(());

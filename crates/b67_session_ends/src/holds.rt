@@ -9,7 +9,7 @@ ghost use Rattle.b67_layout.specs.Placement.{Placement};
 ghost use Rattle.b67_law_sessions.specs.Turns.{part_of};
 ghost use Rattle.b67_session_schedule.specs.Counted.{choice_of, CountsHaveRoom};
 ghost use Rattle.b67_session_ends.specs.Closing.{StandsChosen, Closes, KeepsNames};
-ghost use Rattle.b67_session_ends.specs.Holds.{holding, HoldsSo, HoldsSome};
+ghost use Rattle.b67_session_ends.specs.Holds.{waiting_step, HoldsSo, HoldsSome};
 
 use crate::closes::end_stuck;
 use crate::counts::count_one;
@@ -23,7 +23,7 @@ use b67_word::Failed;
 /// The step of the chosen task makes it wait, and its row shows the state: if no task of its job is ready then, what isn't
 /// printed yet of the lines of DEADLOCK is printed, and all of them end; then the step is counted. If the printer fails,
 /// nothing changes but how much of the lines is printed.
-pub fn hold<K: Sink>(
+pub fn make_wait<K: Sink>(
     machine: &mut Machine,
     chosen: Chosen,
     state: TaskState,
@@ -32,7 +32,7 @@ pub fn hold<K: Sink>(
     requires row { HoldsSome machine.old chosen state }
     requires room { CountsHaveRoom machine.old.tasks chosen }
     ensures holds { (x : Storage) (told : Option (List (List ℕ))) (plan : Placement) (s : Session) (m : SessionJob) (t : Task) (condition : Condition) → StandsChosen x told machine.old plan s m t chosen
-        → HoldsSo plan m t state condition → Closes K.taken told (part_of s (choice_of chosen) m t (holding m.progress.job t condition)) result machine.old machine.new paper.old paper.new }
+        → HoldsSo plan m t state condition → Closes K.taken told (part_of s (choice_of chosen) m t (waiting_step m.progress.job t condition)) result machine.old machine.new paper.old paper.new }
     ensures cause { HasCause K.faults paper.old paper.new result }
     ensures keeps { KeepsNames machine.old machine.new }
 {

@@ -58,7 +58,7 @@ fn copied(list: &[EndedTask]) -> ArrayVec<EndedTask, 30>
     copy
 }
 
-/// DEADLOCK of a task, if it isn't among those that ended.
+/// Adds DEADLOCK for a task that isn't among those that ended.
 fn add_one(list: &mut ArrayVec<EndedTask, 30>, dead: &[EndedTask], number: u32)
     requires { length list.old.items < 30 }
     ensures all { map pair_of list.new.items ≡ map pair_of list.old.items ++ all_with endings.Deadlock (others_of dead.now (number ∷ [])) }

@@ -15,7 +15,7 @@ pub use closes::{close, end_stuck};
 pub use counts::count_one;
 pub use deaths::all_ended;
 pub use ends::{end_by_limit, finish};
-pub use holds::hold;
+pub use holds::make_wait;
 pub use left::goes_on;
 pub use limits::is_at_limit;
 pub use texts::put_endings;

@@ -7,7 +7,7 @@ use Rattle.std.proofs.lemmas.Bool.Decides.{nat_tests}
 use Rattle.b67_model.specs.Common.{Task, SessionJob, is_ready, Who, Session, is_same, is_before, ready_of, ready, afresh, switched, first, next_after, choice_by, choice, StepResult, next, moment_for, live_tasks, lines, lines_from, after, after_from, run_text}
 use Rattle.b67_model.specs.Schedule.{goes_on}
 use Rattle.b67_io.specs.Line.{ended}
-use Rattle.b67_session_lines.specs.Stops.{Run, halted_line, StopsOnce, live_after, IsFinished, IsHalted, Stops, finished, halted, run_status}
+use Rattle.b67_session_lines.specs.Stops.{Run, halted_line, StopsOnce, live_after, IsFinished, IsHalted, StopsWith, finished, halted, run_status}
 
 -- ---- a session without tasks makes no step
 
@@ -87,7 +87,7 @@ finished-status r text f = by_halt r.halt refl
 pub halted-status : (r : Run) (text : List ℕ) → IsHalted r text → run_status r ≡ 3
 halted-status r text h = let lives : (live_after h.count r.session == 0) ≡ false = let some = h.lives in grind (arith, nat_tests) in rw (h.halt, lives) refl
 
-pub stops-with : (r : Run) (status : ℕ) (text : List ℕ) → Stops r status text → status ≡ run_status r
+pub stops-with : (r : Run) (status : ℕ) (text : List ℕ) → StopsWith r status text → status ≡ run_status r
 stops-with r status text (finished e f) = e ∙ sym (finished-status r text f)
 stops-with r status text (halted e h) = e ∙ sym (halted-status r text h)
 
@@ -107,7 +107,7 @@ one-halt r text text' h i =
 three : (n : ℕ) → n ≡ 0 → n ≡ 3 → ⊥
 three n e f = omega arith
 
-one-text : (r : Run) (status : ℕ) (text text' : List ℕ) → Stops r status text → Stops r status text' → text ≡ text'
+one-text : (r : Run) (status : ℕ) (text text' : List ℕ) → StopsWith r status text → StopsWith r status text' → text ≡ text'
 one-text r status text text' (finished e f) (finished e' g) = one-end r text text' f g
 one-text r status text text' (halted e h) (halted e' i) = one-halt r text text' h i
 one-text r status text text' (finished e f) (halted e' i) = absurd (three status e e')
@@ -116,4 +116,4 @@ one-text r status text text' (halted e h) (finished e' g) = absurd (three status
 pub stops-once : StopsOnce
 stops-once r status status' text text' s t =
     let same : status ≡ status' = stops-with r status text s ∙ sym (stops-with r status' text' t) in
-    (same, one-text r status' text text' (subst (λ n. Stops r n text) same s) t)
+    (same, one-text r status' text text' (subst (λ n. StopsWith r n text) same s) t)

@@ -1,7 +1,7 @@
 -- A run that has come so far, and how it stops.
 use Rattle.std.proofs.Common.{◌≡◌, ◌+◌, ◌-◌, ℕ, suc, List, [], ◌++◌, arith}
 use Rattle.b67_model.specs.Common.{Session, run_text, lines, after}
-use Rattle.b67_session_lines.specs.Stops.{Run, Stops}
+use Rattle.b67_session_lines.specs.Stops.{Run, StopsWith}
 
 -- so many steps lead from the first session to this one, and print this text
 pub record Ran (steps : ℕ) (first s : Session) (printed : List ℕ) : Type 0 where
@@ -15,4 +15,4 @@ one_more n more = omega arith
 pub record StopsPast (run : Run) (printed : List ℕ) : Type 0 where
   pub status : ℕ
   pub rest : List ℕ
-  pub stops : Stops run status (printed ++ rest)
+  pub stops : StopsWith run status (printed ++ rest)

@@ -2,7 +2,7 @@
 use Rattle.std.specs.Prelude.{ℕ, ◌≡◌, ◌<◌, ◌≤◌, ◌==◌, List, ◌++◌, codes, decimal, Option, Some, None, IfSome, if◌then◌else◌}
 use Rattle.b67_io.specs.Line.{ended}
 use Rattle.b67_model.specs.Common.{Session, run_text, live_tasks, lines, after}
-use Rattle.b67_session_lines.specs.Ends.{Ends}
+use Rattle.b67_session_lines.specs.Ends.{EndsPrinting}
 
 -- a run that is asked for: the session at its opening, and the count of operators at which it halts, where there is one
 pub record Run : Type 0 where
@@ -31,9 +31,9 @@ pub record IsHalted (r : Run) (text : List ℕ) : Type 0 where
   pub printed : text ≡ run_text (lines count r.session) ++ ended (halted_line count)
 
 -- a run stops with this status and this text
-pub data Stops (r : Run) (status : ℕ) (text : List ℕ) : Type 0 where
-  finished : status ≡ 0 → IsFinished r text → Stops r status text
-  halted : status ≡ 3 → IsHalted r text → Stops r status text
+pub data StopsWith (r : Run) (status : ℕ) (text : List ℕ) : Type 0 where
+  finished : status ≡ 0 → IsFinished r text → StopsWith r status text
+  halted : status ≡ 3 → IsHalted r text → StopsWith r status text
 
 -- the status with which a run stops
 abbrev pub run_status : Run → ℕ
@@ -45,15 +45,15 @@ run_status r = by_halt r.halt
 
 -- a run stops with one status and one text
 abbrev pub StopsOnce : Type 0
-StopsOnce = (r : Run) (status status' : ℕ) (text text' : List ℕ) → Stops r status text → Stops r status' text' → (status ≡ status') × (text ≡ text')
+StopsOnce = (r : Run) (status status' : ℕ) (text text' : List ℕ) → StopsWith r status text → StopsWith r status' text' → (status ≡ status') × (text ≡ text')
 
 -- and this is the status
 abbrev pub StopsWithStatus : Type 0
-StopsWithStatus = (r : Run) (status : ℕ) (text : List ℕ) → Stops r status text → status ≡ run_status r
+StopsWithStatus = (r : Run) (status : ℕ) (text : List ℕ) → StopsWith r status text → status ≡ run_status r
 
 -- a run stops, and its text is printed, unless the printer fails
 pub record RunEnds {K : Type 0} (r : Run) (taken : K → Option (List ℕ)) (faults : K → ℕ) (old new : K) (answer : ℕ) : Type 0 where
   pub status : ℕ
   pub text : List ℕ
-  pub stops : Stops r status text
-  pub ends : Ends taken faults old new status text answer
+  pub stops : StopsWith r status text
+  pub ends : EndsPrinting taken faults old new status text answer

@@ -4,14 +4,14 @@ ghost use Rattle.std.specs.Prelude.{◌≡◌, ◌<◌, ◌≤◌, ◌+◌, ◌^
 ghost use Rattle.b67_io.specs.Line.{ended};
 ghost use Rattle.b67_io.specs.Told.{Continues};
 ghost use Rattle.b67_io.specs.Causes.{HasCause};
-ghost use Rattle.b67_session_lines.specs.Ends.{Ends};
+ghost use Rattle.b67_session_lines.specs.Ends.{EndsPrinting};
 
 use b67_io::{Line, Sink, put_line};
 use b67_word::Failed;
 
 /// Prints a line and answers the status, or 8.
 pub fn say<K: Sink>(printer: &mut K, status: u8, line: &Line) -> u8
-    ensures { Ends K.taken K.faults printer.old printer.new status (ended line.now) result }
+    ensures { EndsPrinting K.taken K.faults printer.old printer.new status (ended line.now) result }
 {
     match put_line(printer, line, 0) {
         Ok(()) => status,

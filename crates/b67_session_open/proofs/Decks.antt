@@ -8,7 +8,7 @@ use Rattle.b67_model_text.specs.declared.deck.Job.{Job}
 use Rattle.b67_model_text.specs.declared.deck.Switch as text
 use Rattle.b67_codefile.specs.declared.file.Segment.{Segment}
 use Rattle.b67_codefile.specs.declared.file.Codefile.{Codefile}
-use Rattle.b67_codefile.specs.Spelling.{HasTag, IsSegment, IsRow}
+use Rattle.b67_codefile.specs.Spelling.{HasTag, IsFileSegment, IsRow}
 use Rattle.b67_codefile.specs.Meaning.{segment_of, program_of}
 use Rattle.b67_lemmas.specs.Lists.{Has}
 use Rattle.b67_lemmas.proofs.Places.{get_within}
@@ -28,7 +28,7 @@ bits_fit : (tag : ℕ) (ws : List Tagged) → AllByRecursion (HasTag tag) ws →
 bits_fit tag [] h = tt
 bits_fit tag (w ∷ ws) h = (h.0.bits, bits_fit tag ws h.1)
 
-segments_fit : (ss : List Segment) → AllByRecursion IsSegment ss → AllByRecursion SegmentInOrder (map segment_of ss)
+segments_fit : (ss : List Segment) → AllByRecursion IsFileSegment ss → AllByRecursion SegmentInOrder (map segment_of ss)
 segments_fit [] h = tt
 segments_fit (s ∷ more) h =
     let long : length (contents s.code) ≡ length s.code = length-map s.code (λ (w : Tagged). w.bits) in

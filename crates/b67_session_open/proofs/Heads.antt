@@ -9,8 +9,8 @@ use Rattle.b67_codefile.specs.declared.file.Codefile.{Codefile}
 use Rattle.b67_codefile.specs.Meaning.{program_of}
 use Rattle.b67_lemmas.specs.Lists.{total}
 use Rattle.b67_model.specs.Program.{Program}
-use Rattle.b67_load.specs.Objects.{objects_of, entries_of, sectors_of_program}
-use Rattle.b67_load.specs.Resting.{stocked}
+use Rattle.b67_load.specs.Objects.{program_objects, entries_of, sectors_of_program}
+use Rattle.b67_load.specs.StoredObjects.{stocked}
 use Rattle.b67_load.specs.Writing.{Parts, Spares, Writes, Installed}
 use Rattle.b67_load.proofs.Steps.{sectors-objects}
 use Rattle.b67_load.proofs.Writing.{writes_none, writes_both, spares-refl, spares_both, spares_wider}
@@ -38,7 +38,7 @@ module _ {D : Type 0} (tell : D → Option (List (List ℕ))) where
   -- a program was installed
   pub record Installs (at : ℕ) (p : Program) (old new : Parts D) : Type 0 where
     pub head : HeadLies new.core at (entries_of p)
-    pub writes : Writes tell (objects_of at p) old new
+    pub writes : Writes tell (program_objects at p) old new
     pub spares : Spares tell at (dictionary_words p) old new
 
   pub installs : (at : ℕ) (p : Program) (old new : Parts D) → (st : Shelf) × IsShelf old.table st → Installed tell at p old new → Spares tell at (dictionary_words p) old new → Installs at p old new
@@ -68,10 +68,10 @@ module _ {D : Type 0} (tell : D → Option (List (List ℕ))) where
       low = omega (arith, g.low);
       high = omega (arith, g.high);
       room = omega (arith, g.room, step.writes.left, sectors-objects at p);
-      known = (stocked (objects_of at p) g.known.0, step.writes.shelf g.known.0 g.known.1);
+      known = (stocked (program_objects at p) g.known.0, step.writes.shelf g.known.0 g.known.1);
       spares = spares_both tell 160 (dictionaries all) start now next g.spares (spares_wider tell at (dictionary_words p) 160 (dictionaries all) now next g.low (omega (arith, g.high)) step.spares);
       writes = λ end v r. g.writes end
-          (writes_both tell (objects_of at p) (objects_from (at + dictionary_words p) more) (at + dictionary_words p) (dictionaries more) now next end step.writes v r (λ t h. inl (objects_within at p t h).high))
+          (writes_both tell (program_objects at p) (objects_from (at + dictionary_words p) more) (at + dictionary_words p) (dictionaries more) now next end step.writes v r (λ t h. inl (objects_within at p t h).high))
           (spares_both tell at (dictionary_words p + dictionaries more) now next end
           (spares_wider tell at (dictionary_words p) at (dictionary_words p + dictionaries more) now next (omega arith) (omega arith) step.spares)
           (spares_wider tell (at + dictionary_words p) (dictionaries more) at (dictionary_words p + dictionaries more) next end (omega arith) (omega arith) r));

@@ -13,7 +13,7 @@ use Rattle.b67_model.specs.Schedule.{Switch}
 use Rattle.b67_law_order.specs.Opening.{Opening, DeckWithin, opening}
 use Rattle.b67_stack.specs.declared.Cpu.{Cpu}
 use Rattle.b67_layout.specs.Session.{RepresentsMcp, RepresentsSession}
-use Rattle.b67_load.specs.Resting.{stocked}
+use Rattle.b67_load.specs.StoredObjects.{stocked}
 use Rattle.b67_load.specs.Writing.{Parts as Writing_parts, Spares, Writes}
 use Rattle.b67_load.proofs.Shelves.{placed_object}
 use Rattle.b67_session_open.specs.Opened.{dictionaries, objects_from, opening_plan, programs_of}

@@ -6,7 +6,7 @@ pub mod Heads
 pub mod Slots
 pub mod Plans
 pub mod Whole
-pub mod Resting
+pub mod StoredChains
 pub mod Rests
 pub mod InitialOpens
 pub mod Sums

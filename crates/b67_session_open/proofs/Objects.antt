@@ -13,7 +13,7 @@ use Rattle.b67_model.specs.Common.{Segment, SessionJob, Program, row_arrays, Seg
 use Rattle.b67_law_order.specs.Opening.{Opening, RowWithin, OpeningWithin, opened_from}
 use Rattle.b67_stack.specs.MachineView.{PagedObject}
 use Rattle.b67_layout.specs.Common.{Placement, array_object, code_objects, objects_of}
-use Rattle.b67_load.specs.Objects.{code_from, rows_from, objects_of as objects_at}
+use Rattle.b67_load.specs.Objects.{code_from, rows_from, program_objects as objects_at}
 use Rattle.b67_session_open.specs.Opened.{dictionary_words, dictionaries, segments_in, opening_plan, objects_from, programs_of}
 use Rattle.b67_session_open.proofs.Lists.{has_mapped, has_flat}
 use Rattle.b67_session_open.proofs.Members.{member, for_members, has_member}

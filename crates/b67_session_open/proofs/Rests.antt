@@ -9,13 +9,13 @@ use Rattle.b67_area.specs.declared.Kind.{Kind}
 use Rattle.b67_area.specs.declared.Kind.TheVariants.{Array, Row, Code}
 use Rattle.b67_backing.specs.Shelf.{Table, Shelf, IsShelf, first, chain_of}
 use Rattle.b67_lemmas.specs.Lists.{Has}
-use Rattle.b67_stack.specs.Common.{PagedObject, home_word_of, home_word, words_of, Storage, Told, HoldsIn, RepresentsObject, Owned, at_rest}
-use Rattle.b67_load.specs.Objects.{sectors_of, sectors_of_objects}
-use Rattle.b67_load.specs.Resting.{Resting, placed, stocked, DescriptorsStand, WritesFreeSectors}
+use Rattle.b67_stack.specs.Common.{PagedObject, home_word_of, home_word, object_words, Storage, Told, HoldsIn, RepresentsObject, Owned, at_rest}
+use Rattle.b67_load.specs.Objects.{object_sectors, sectors_of_objects}
+use Rattle.b67_load.specs.StoredObjects.{StoredObject, placed, stocked, DescriptorsStand, WritesFreeSectors}
 use Rattle.b67_load.proofs.Shelves.{Apart, placed_chain, placed_object}
 use Rattle.b67_session_open.specs.Stored.{sector_named, absent_storage}
 use Rattle.b67_layout_storage.specs.Machine.{content_after}
-use Rattle.b67_session_open.proofs.Resting.{first_apart, chain_found, no_zero, chain_begins, placed_length, placed_has, chain_placed, Alone, one_place}
+use Rattle.b67_session_open.proofs.StoredChains.{first_apart, chain_found, no_zero, chain_begins, placed_length, placed_has, chain_placed, Alone, one_place}
 
 -- objects that were written, from sectors that were all free
 pub record Stored (core : List Tagged) (old new : Table) (st : Shelf) (ts : List PagedObject) (before now : Option (List (List ℕ))) : Type 0 where
@@ -38,40 +38,40 @@ pub no_areas : (low n at : ℕ) → area_at low (left n []) at ≡ None
 no_areas low zero at = refl
 no_areas low (suc n) at = refl
 
-told_words : (before now : Option (List (List ℕ))) (r : Resting) (ts : List PagedObject) (free : List ℕ) → Has (placed ts free) r →
-    ((a : List (List ℕ)) → before ≡ Some a → (b : List (List ℕ)) × (now ≡ Some b) × WritesFreeSectors ts free a b) → Told (content_after before now) r.chain (map number (words_of r.object))
+told_words : (before now : Option (List (List ℕ))) (r : StoredObject) (ts : List PagedObject) (free : List ℕ) → Has (placed ts free) r →
+    ((a : List (List ℕ)) → before ≡ Some a → (b : List (List ℕ)) × (now ≡ Some b) × WritesFreeSectors ts free a b) → Told (content_after before now) r.chain (map number (object_words r.object))
 told_words None now r ts free h stocks = tt
 told_words (Some a) now r ts free h stocks =
-    let b = stocks a refl in subst (λ o. Told o r.chain (map number (words_of r.object))) (sym b.1) (b.2.rest r h)
+    let b = stocks a refl in subst (λ o. Told o r.chain (map number (object_words r.object))) (sym b.1) (b.2.rest r h)
 
 module _ (core : List Tagged) (low : ℕ) (old new : Table) (st : Shelf) (ts : List PagedObject) (before now : Option (List (List ℕ))) (stored : Stored core old new st ts before now) where
   abbrev x : Storage
   x = absent_storage core low (stocked ts st) (content_after before now)
 
-  long : (r : Resting) → Has (placed ts st.free) r → 1 ≤ length r.chain
+  long : (r : StoredObject) → Has (placed ts st.free) r → 1 ≤ length r.chain
   long r h =
       let some = stored.long r.object (placed_object ts st.free r h) in
-      let many : length r.chain ≡ sectors_of r.object = placed_length ts st.free r stored.room h in
+      let many : length r.chain ≡ object_sectors r.object = placed_length ts st.free r stored.room h in
       omega (arith, some, many)
 
-  apart : (r : Resting) → Has (placed ts st.free) r → Apart new (stocked ts st) (first r.chain)
+  apart : (r : StoredObject) → Has (placed ts st.free) r → Apart new (stocked ts st) (first r.chain)
   apart r h = first_apart new (stocked ts st) r.chain stored.new_shelf (placed_chain ts st r h)
 
-  small : (r : Resting) → Has (placed ts st.free) r → first r.chain < 2 ^ 20
+  small : (r : StoredObject) → Has (placed ts st.free) r → first r.chain < 2 ^ 20
   small r h = omega (arith, (apart r h).high, stored.new_shelf.small)
 
-  alone : (r : Resting) → Has (placed ts st.free) r → Alone st.free r
+  alone : (r : StoredObject) → Has (placed ts st.free) r → Alone st.free r
   alone r h = record { some = long r h; once = omega (arith, stored.old_shelf.once (first r.chain) (apart r h).low (omega (arith, (apart r h).high, stored.links))) }
 
-  names : (r : Resting) → Has (placed ts st.free) r → sector_named (slice_get core r.object.home) ≡ first r.chain
+  names : (r : StoredObject) → Has (placed ts st.free) r → sector_named (slice_get core r.object.home) ≡ first r.chain
   names r h = ap sector_named (stored.descriptors r h) ∙ named r.object.kind (length r.object.numbers) (first r.chain) (small r h)
 
-  holds : (r : Resting) → Has (placed ts st.free) r → HoldsIn x r.object (first r.chain)
+  holds : (r : StoredObject) → Has (placed ts st.free) r → HoldsIn x r.object (first r.chain)
   holds r h =
       let is = chain_found new (stocked ts st) r.chain stored.new_shelf (placed_chain ts st r h) in
       record {
         chain = record { some = (apart r h).low; small = small r h; sectors = ap length is ∙ placed_length ts st.free r stored.room h };
-        told = subst (λ k. Told (content_after before now) k (map number (words_of r.object))) (sym is) (told_words before now r ts st.free h stored.stocks);
+        told = subst (λ k. Told (content_after before now) k (map number (object_words r.object))) (sym is) (told_words before now r ts st.free h stored.stocks);
       }
 
   pub object_stands : (t : PagedObject) → Has ts t → RepresentsObject x core t
@@ -87,7 +87,7 @@ module _ (core : List Tagged) (low : ℕ) (old new : Table) (st : Shelf) (ts : L
       let b = chain_begins (stocked ts st).chains c some in
       ⊎_elim
       (λ (m : Has st.chains (chain_of c (stocked ts st).chains)). absurd (subst (λ ks. Has ks (chain_of c (stocked ts st).chains)) stored.none m))
-      (λ (m : (r : Resting) × Has (placed ts st.free) r × (r.chain ≡ chain_of c (stocked ts st).chains)).
+      (λ (m : (r : StoredObject) × Has (placed ts st.free) r × (r.chain ≡ chain_of c (stocked ts st).chains)).
       (m.0.object, placed_object ts st.free m.0 m.1, names m.0 m.1 ∙ ap first m.2 ∙ b.1))
       (chain_placed ts st (chain_of c (stocked ts st).chains) b.0)
 
@@ -98,7 +98,7 @@ module _ (core : List Tagged) (low : ℕ) (old new : Table) (st : Shelf) (ts : L
       let a : sector_named (slice_get core t.home) ≡ first r.0.chain = subst (λ (v : PagedObject). sector_named (slice_get core v.home) ≡ first r.0.chain) r.2 (names r.0 r.1) in
       let b : sector_named (slice_get core u.home) ≡ first q.0.chain = subst (λ (v : PagedObject). sector_named (slice_get core v.home) ≡ first q.0.chain) q.2 (names q.0 q.1) in
       let same : r.0 ≡ q.0 = one_place ts st.free r.0 q.0 (alone r.0 r.1) (alone q.0 q.1) r.1 q.1 (sym a ∙ (e ∙ b)) in
-      ap (λ (v : PagedObject). v.home) (sym r.2) ∙ ap (λ (v : Resting). v.object.home) same ∙ ap (λ (v : PagedObject). v.home) q.2
+      ap (λ (v : PagedObject). v.home) (sym r.2) ∙ ap (λ (v : StoredObject). v.object.home) same ∙ ap (λ (v : PagedObject). v.home) q.2
 
   pub owned : Owned x ts
   owned = record {

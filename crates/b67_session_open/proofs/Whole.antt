@@ -12,7 +12,7 @@ use Rattle.b67_model.specs.Common.{Task, SessionJob, Program, Switch, number_of}
 use Rattle.b67_law_order.specs.Opening.{Opening, opened_from, opening, DeckWithin}
 use Rattle.b67_law_order.proofs.OpenedRows.{entries_count}
 use Rattle.b67_stack.specs.declared.Cpu.{Cpu}
-use Rattle.b67_stack.specs.Common.{Fits, LieDownward, words, PagedObject, Slot, Waiting, stack_of, MachineView, slot_base, SlotFits, Laid, NoOriginalAboveTop, Storage, RepresentsSlot, RepresentsObject, Owned, Represents}
+use Rattle.b67_stack.specs.Common.{Fits, LieDownward, words, PagedObject, Slot, Waiting, stack_of, MachineView, slot_base, SlotFits, IsLaidOut, NoOriginalAboveTop, Storage, RepresentsSlot, RepresentsObject, Owned, Represents}
 use Rattle.b67_layout.specs.Common.{Placement, slot_of, machine_view, RepresentsDictionary, RepresentsMcp, vector_word, RepresentsVector, RepresentsCritical, critical_mark, IsRunning, RepresentsSession}
 use Rattle.b67_session_open.specs.Opened.{dictionaries, opening_plan, objects_from, first_stack, programs_of}
 use Rattle.b67_session_open.specs.Words.{SlotLies, SlotsLie, HeadsLie}
@@ -69,7 +69,7 @@ module _ (x : Storage) (cpu : Cpu) (stack quantum : ℕ) (switches : List Switch
   home_low : (t : PagedObject) → Has p.objects t → Within 162 (160 + dictionaries (programs_of openings)) t
   home_low t h = object_within (programs_of openings) t (is_object (programs_of openings) t (from_machine_view stack openings t h))
 
-  laid : Laid x.low p
+  laid : IsLaidOut x.low p
   laid = record {
     low = parts.low;
     first = omega arith;

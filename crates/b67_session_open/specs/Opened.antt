@@ -8,7 +8,7 @@ use Rattle.b67_model.specs.Program.{Program}
 use Rattle.b67_law_order.specs.Opening.{Opening}
 use Rattle.b67_stack.specs.Common.{Entered, Activation, PagedObject}
 use Rattle.b67_layout.specs.Placement.{Slotted, Placement}
-use Rattle.b67_load.specs.Objects.{entries_of, objects_of}
+use Rattle.b67_load.specs.Objects.{entries_of, program_objects}
 
 -- the words of a program's dictionary, and of the dictionaries of programs
 abbrev pub dictionary_words : Program → ℕ
@@ -44,7 +44,7 @@ opening_plan stack programs = record {
 -- the objects of programs whose dictionaries lie in a row from an address on
 abbrev pub objects_from : ℕ → List Program → List PagedObject
 objects_from at [] = []
-objects_from at (p ∷ more) = objects_of at p ++ objects_from (at + dictionary_words p) more
+objects_from at (p ∷ more) = program_objects at p ++ objects_from (at + dictionary_words p) more
 
 -- the stack of a job's first task
 abbrev pub first_stack : ℕ → List Activation

@@ -6,7 +6,7 @@ use Rattle.b67_ctl.specs.declared.map.TheConstants.{DICTIONARY_STACKS, FIRST_DIC
 use Rattle.b67_model.specs.Program.{Program}
 use Rattle.b67_load.specs.Objects.{entries_of}
 use Rattle.b67_layout.specs.Session.{RepresentsMcp}
-use Rattle.b67_load.specs.Resting.{dictionary_mark}
+use Rattle.b67_load.specs.StoredObjects.{dictionary_mark}
 use Rattle.b67_load.specs.Writing.{Parts, Writes}
 use Rattle.b67_session_open.specs.Opened.{dictionary_words, objects_from}
 

@@ -4,7 +4,7 @@ ghost use Rattle.std.specs.Prelude.{◌≡◌, ℕ, ◌+◌, ◌*◌, ◌<◌, �
 ghost use Rattle.std.specs.List.{AllByRecursion};
 ghost use Rattle.b67_word.specs.Tagged.{contents};
 ghost use Rattle.b67_backing.specs.Held.{sectors_for};
-ghost use Rattle.b67_codefile.specs.Spelling.{IsSegment, IsRow};
+ghost use Rattle.b67_codefile.specs.Spelling.{IsFileSegment, IsRow};
 ghost use Rattle.b67_codefile.specs.Meaning.{segment_of, program_of};
 ghost use Rattle.b67_lemmas.specs.Lists.{total};
 ghost use Rattle.b67_model.specs.State.{Segment as ModelSegment};
@@ -38,7 +38,7 @@ pub fn opening_need(stack: u16, programs: &[Admitted]) -> u32
 
 /// The sectors of segments.
 fn sectors_of_segments(segments: &[Segment]) -> u32
-    requires within { AllByRecursion IsSegment segments.now }
+    requires within { AllByRecursion IsFileSegment segments.now }
     requires few { length segments.now ≤ 255 }
     ensures value { result ≡ total (λ (s : ModelSegment). sectors_for (length s.code)) (map segment_of segments.now) }
     ensures few { result ≤ length segments.now * 2185 }
@@ -64,7 +64,7 @@ fn sectors_of_rows(rows: &[Words]) -> u32
     sectors
 }
 
-/// The sectors of a program.
+/// How many sectors the segments and data rows of a program take on the device.
 fn sectors_of(program: &Admitted) -> u32
     ensures value { result ≡ sectors_of_program (program_of program.now) }
     ensures few { result ≤ 557175 }

@@ -8,7 +8,7 @@ ghost use Rattle.b67_codefile.specs.Meaning.{program_of};
 ghost use Rattle.b67_layout_storage.specs.Machine.{DeviceAfterCalls, content_after};
 ghost use Rattle.b67_lemmas.specs.Lists.{total};
 ghost use Rattle.b67_load.specs.Objects.{sectors_of_program};
-ghost use Rattle.b67_load.specs.Resting.{stocked};
+ghost use Rattle.b67_load.specs.StoredObjects.{stocked};
 ghost use Rattle.b67_load.specs.Writing.{HasSectors};
 ghost use Rattle.b67_session_open.specs.Opened.{dictionaries, objects_from};
 ghost use Rattle.b67_session_open.specs.Stored.{absent_storage};

@@ -22,7 +22,7 @@ use Rattle.b67_task_tables.specs.declared.tables.JobRow.{JobRow}
 use Rattle.b67_task_tables.specs.declared.tables.Tasks.{Tasks}
 use Rattle.b67_task_tables.specs.Tables.{state_of, task_row, job_row, switch_of, TasksShow}
 use Rattle.b67_session_schedule.specs.Counted.{Past}
-use Rattle.b67_session_schedule.specs.Chosen.{is_ready, IsReadyAt}
+use Rattle.b67_session_schedule.specs.Chosen.{is_ready_state, IsReadyAt}
 use Rattle.b67_session_schedule.specs.Lasting.{RulesLeave, Lasts, TurnLasts}
 use Rattle.b67_session_schedule.proofs.Choices.{choice_is}
 use Rattle.b67_session_schedule.proofs.Nearer.{seen}
@@ -81,7 +81,7 @@ leave_fewer s room fewer few h = record {
 -- ---- the last task
 
 -- a state that is ready in a row is the task's
-ready_is : (plan : Placement) (j : ℕ) (job : Job) (t : Task) (state : TaskState) (c : Condition) → is_ready state ≡ true → state_of state ≡ shown plan j job t c → c ≡ Ready
+ready_is : (plan : Placement) (j : ℕ) (job : Job) (t : Task) (state : TaskState) (c : Condition) → is_ready_state state ≡ true → state_of state ≡ shown plan j job t c → c ≡ Ready
 ready_is plan j job t state Ready r e = refl
 ready_is plan j job t code.Ready (Awaits n) r e = absurd cc
 ready_is plan j job t (code.Awaits k) (Awaits n) r e = absurd cc

@@ -5,7 +5,7 @@ use Rattle.std.proofs.lemmas.Option.{same_Some, get_or_from_slice_get}
 use Rattle.std.proofs.lemmas.Bool.{cases_lt, cases_Bool, true≢false}
 use Rattle.b67_model.specs.Schedule.{Who, is_before, is_same}
 use Rattle.b67_task_tables.specs.declared.tables.TaskRow.{TaskRow}
-use Rattle.b67_session_schedule.specs.Chosen.{who_of, is_ready, comes, is_row_of, IsReadyAt, IsNextAt, NextRow}
+use Rattle.b67_session_schedule.specs.Chosen.{who_of, is_ready_state, comes, is_ready_row_of, IsReadyAt, IsNextAt, NextRow}
 use Rattle.b67_session_schedule.proofs.Orders.{before_same, before_after, is_self}
 use Rattle.b67_lemmas.proofs.Places.{get_within}
 
@@ -14,10 +14,10 @@ pub seen : {A : Type 0} (xs : List A) (i : ℕ) (d : A) → i < length xs → sl
 seen xs i d h = let (x, e) = get_within xs i h in e ∙ ap Some (sym (get_or_from_slice_get xs i x d e))
 
 module _ (rows : List TaskRow) (k : ℕ) (row : TaskRow) (e : slice_get rows k ≡ Some row) where
-  same_row : (w : Who) (a : IsReadyAt rows k w) → (is_ready row.state ≡ true) × (who_of row ≡ w)
+  same_row : (w : Who) (a : IsReadyAt rows k w) → (is_ready_state row.state ≡ true) × (who_of row ≡ w)
   same_row w a =
       let same : a.row ≡ row = same_Some a.row row (sym a.at ∙ e) in
-      (ap (λ (r : TaskRow). is_ready r.state) (sym same) ∙ a.ready, ap who_of (sym same) ∙ a.is)
+      (ap (λ (r : TaskRow). is_ready_state r.state) (sym same) ∙ a.ready, ap who_of (sym same) ∙ a.is)
 
   -- a row that doesn't come
   out : (last w : Who) → comes last row ≡ false → IsReadyAt rows k w → is_before last w ≡ false
@@ -26,8 +26,8 @@ module _ (rows : List TaskRow) (k : ℕ) (row : TaskRow) (e : slice_get rows k �
       let b : is_before last (who_of row) ≡ false = rw ready at q in
       subst (λ (v : Who). is_before last v ≡ false) is b
 
-  comes_parts : (last : Who) → comes last row ≡ true → (is_ready row.state ≡ true) × (is_before last (who_of row) ≡ true)
-  comes_parts last p = elim (cases_Bool (is_ready row.state)) [
+  comes_parts : (last : Who) → comes last row ≡ true → (is_ready_state row.state ≡ true) × (is_before last (who_of row) ≡ true)
+  comes_parts last p = elim (cases_Bool (is_ready_state row.state)) [
     | inl t ↦ (t, rw t at p)
     | inr t ↦ let q : false ≡ true = rw t at p in absurd (true≢false (sym q))
   ]
@@ -105,7 +105,7 @@ module _ (rows : List TaskRow) (k : ℕ) (row : TaskRow) (e : slice_get rows k �
     }
 
   -- the row at k is not that of a ready task of this name
-  pub not_here : (who : Who) → is_row_of who row ≡ false → ((j : ℕ) → j < k → IsReadyAt rows j who → ⊥) → (j : ℕ) → j < k + 1 → IsReadyAt rows j who → ⊥
+  pub not_here : (who : Who) → is_ready_row_of who row ≡ false → ((j : ℕ) → j < k → IsReadyAt rows j who → ⊥) → (j : ℕ) → j < k + 1 → IsReadyAt rows j who → ⊥
   not_here who q none j lt a = elim (cases_lt j k) [
     | inl low ↦ none j low a
     | inr high ↦

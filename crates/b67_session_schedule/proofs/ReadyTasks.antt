@@ -14,7 +14,7 @@ use Rattle.b67_task_tables.specs.declared.tables.TaskState.{TaskState}
 use Rattle.b67_task_tables.specs.declared.tables.TaskState.TheVariants as code
 use Rattle.b67_task_tables.specs.declared.tables.TaskRow.{TaskRow}
 use Rattle.b67_task_tables.specs.Tables.{state_of, task_row}
-use Rattle.b67_session_schedule.specs.Chosen.{who_of, is_ready, IsReadyAt}
+use Rattle.b67_session_schedule.specs.Chosen.{who_of, is_ready_state, IsReadyAt}
 use Rattle.b67_session_schedule.proofs.Orders.{before_job, before_task}
 use Rattle.b67_law_order.proofs.Numbered.{numbered_low}
 
@@ -78,7 +78,7 @@ members_rise n (m ∷ more) d f = rises_append (ready_of m) (flat_map ready_of m
     before_job x y (omega (arith, d.0, numbered_low (n + 1) more l d.1 kl, ap (λ (w : Who). w.job) et, ap (λ (w : Who). w.job) eu)))
 
 -- a state in a row, and a task's
-ready_condition : (plan : Placement) (j : ℕ) (job : Job) (t : Task) (state : TaskState) (c : Condition) → is_ready state ≡ true → state_of state ≡ shown plan j job t c → model.is_ready (record t { condition = c }) ≡ true
+ready_condition : (plan : Placement) (j : ℕ) (job : Job) (t : Task) (state : TaskState) (c : Condition) → is_ready_state state ≡ true → state_of state ≡ shown plan j job t c → model.is_ready (record t { condition = c }) ≡ true
 ready_condition plan j job t state Ready r e = refl
 ready_condition plan j job t code.Ready (Awaits n) r e = cc
 ready_condition plan j job t (code.Awaits k) (Awaits n) r e = absurd (true≢false (sym r))
@@ -87,7 +87,7 @@ ready_condition plan j job t code.Ready (WaitsAt f o) r e = cc
 ready_condition plan j job t (code.Awaits k) (WaitsAt f o) r e = absurd (true≢false (sym r))
 ready_condition plan j job t (code.WaitsAt mark offset) (WaitsAt f o) r e = absurd (true≢false (sym r))
 
-ready_state : (plan : Placement) (j : ℕ) (job : Job) (t : Task) (state : TaskState) (c : Condition) → model.is_ready (record t { condition = c }) ≡ true → state_of state ≡ shown plan j job t c → is_ready state ≡ true
+ready_state : (plan : Placement) (j : ℕ) (job : Job) (t : Task) (state : TaskState) (c : Condition) → model.is_ready (record t { condition = c }) ≡ true → state_of state ≡ shown plan j job t c → is_ready_state state ≡ true
 ready_state plan j job t code.Ready c r e = refl
 ready_state plan j job t (code.Awaits k) Ready r e = cc
 ready_state plan j job t (code.Awaits k) (Awaits n) r e = r

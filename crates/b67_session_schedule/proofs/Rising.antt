@@ -10,7 +10,7 @@ use Rattle.b67_lemmas.specs.Lists.{Has}
 use Rattle.b67_lemmas.proofs.Members.{any_has, any_some, has_get}
 use Rattle.b67_lemmas.proofs.Places.{at_mapped, get_within, has_at, mapped_at}
 use Rattle.b67_model.specs.Common.{SwitchesRise, Who, Switch, is_same}
-use Rattle.b67_session_schedule.specs.Counted.{Past, IsLeft}
+use Rattle.b67_session_schedule.specs.Counted.{Past, IsStillDue}
 use Rattle.b67_session_schedule.specs.Chosen.{SwitchesTo}
 use Rattle.b67_task_tables.specs.Tables.{switch_of}
 use Rattle.b67_session_schedule.proofs.Nearer.{seen}
@@ -114,19 +114,19 @@ named_one made xs who v rise k t =
     sym to ∙ ap (λ (z : Switch). z.to) (rise_once xs w (record { count = made; to = who }) rise kw k count)
 
 -- the next switch is left, where the one before it was left before this operator
-pub next_left : (xs : List text.Switch) (from before made : ℕ) → SwitchesRise (map switch_of xs) → from < length xs → made ≤ before + 1 → IsLeft from before (map switch_of xs) → IsLeft (from + 1) made (map switch_of xs)
+pub next_left : (xs : List text.Switch) (from before made : ℕ) → SwitchesRise (map switch_of xs) → from < length xs → made ≤ before + 1 → IsStillDue from before (map switch_of xs) → IsStillDue (from + 1) made (map switch_of xs)
 next_left xs from before made rise inside more left = λ w at.
     let (v, e) = get_within (map switch_of xs) from (omega (arith, inside, length-map xs switch_of)) in
     omega (arith, more, left v e, rise_at (map switch_of xs) from (from + 1) v w rise (omega arith) e at)
 
-pub still_left : (xs : List text.Switch) (from made : ℕ) (d : text.Switch) → (from < length xs → made ≤ (get_or xs from d).count) → IsLeft from made (map switch_of xs)
+pub still_left : (xs : List text.Switch) (from made : ℕ) (d : text.Switch) → (from < length xs → made ≤ (get_or xs from d).count) → IsStillDue from made (map switch_of xs)
 still_left xs from made d high = λ w at.
     let (x, e, same) = mapped_at switch_of xs from w at in
     omega (arith, high (slice_get_within xs from x e), ap (λ (v : text.Switch). v.count) (get_or_from_slice_get xs from x d e), ap (λ (v : Switch). v.count) same)
 
 pub lent_left : (lent xs : List text.Switch) (from next made : ℕ) → lent ≡ xs
-    → ((before : ℕ) → length lent < 2 ^ 32 → SwitchesRise (map switch_of lent) → made ≤ before + 1 → IsLeft from before (map switch_of lent) → IsLeft next made (map switch_of lent))
-    → (before : ℕ) → length xs < 2 ^ 32 → SwitchesRise (map switch_of xs) → made ≤ before + 1 → IsLeft from before (map switch_of xs) → IsLeft next made (map switch_of xs)
+    → ((before : ℕ) → length lent < 2 ^ 32 → SwitchesRise (map switch_of lent) → made ≤ before + 1 → IsStillDue from before (map switch_of lent) → IsStillDue next made (map switch_of lent))
+    → (before : ℕ) → length xs < 2 ^ 32 → SwitchesRise (map switch_of xs) → made ≤ before + 1 → IsStillDue from before (map switch_of xs) → IsStillDue next made (map switch_of xs)
 lent_left lent xs from next made is h =
-    let P : List text.Switch → Type 0 = λ l. (before : ℕ) → length l < 2 ^ 32 → SwitchesRise (map switch_of l) → made ≤ before + 1 → IsLeft from before (map switch_of l) → IsLeft next made (map switch_of l) in
+    let P : List text.Switch → Type 0 = λ l. (before : ℕ) → length l < 2 ^ 32 → SwitchesRise (map switch_of l) → made ≤ before + 1 → IsStillDue from before (map switch_of l) → IsStillDue next made (map switch_of l) in
     subst P is h

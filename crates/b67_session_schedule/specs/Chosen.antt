@@ -16,23 +16,23 @@ who_is w = record { job = w.job; task = w.task }
 abbrev pub who_of : TaskRow → Who
 who_of r = record { job = r.job; task = r.number }
 
-abbrev pub is_ready : TaskState → Bool
-is_ready Ready = true
-is_ready (Awaits n) = false
-is_ready (WaitsAt mark offset) = false
+abbrev pub is_ready_state : TaskState → Bool
+is_ready_state Ready = true
+is_ready_state (Awaits n) = false
+is_ready_state (WaitsAt mark offset) = false
 
 -- a ready task's row: that of this task, or of one after another
-abbrev pub is_row_of : Who → TaskRow → Bool
-is_row_of who r = is_ready r.state && is_same (who_of r) who
+abbrev pub is_ready_row_of : Who → TaskRow → Bool
+is_ready_row_of who r = is_ready_state r.state && is_same (who_of r) who
 
 abbrev pub comes : Who → TaskRow → Bool
-comes last r = is_ready r.state && is_before last (who_of r)
+comes last r = is_ready_state r.state && is_before last (who_of r)
 
 -- a row is that of a ready task
 pub record IsReadyAt (rows : List TaskRow) (i : ℕ) (who : Who) : Type 0 where
   pub row : TaskRow
   pub at : slice_get rows i ≡ Some row
-  pub ready : is_ready row.state ≡ true
+  pub ready : is_ready_state row.state ≡ true
   pub is : who_of row ≡ who
 
 -- the row of a task, where it is ready

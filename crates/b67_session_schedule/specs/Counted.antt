@@ -63,5 +63,5 @@ abbrev pub Past : ℕ → ℕ → List Switch → Type 0
 Past next made switches = (i : ℕ) (w : Switch) → i < next → slice_get switches i ≡ Some w → w.count < made
 
 -- and this one is not for a lower count
-abbrev pub IsLeft : ℕ → ℕ → List Switch → Type 0
-IsLeft next made switches = (w : Switch) → slice_get switches next ≡ Some w → made ≤ w.count
+abbrev pub IsStillDue : ℕ → ℕ → List Switch → Type 0
+IsStillDue next made switches = (w : Switch) → slice_get switches next ≡ Some w → made ≤ w.count

@@ -11,7 +11,7 @@ ghost use Rattle.b67_layout.specs.Meets.{with_job};
 ghost use Rattle.b67_layout.specs.Placement.{Placement};
 ghost use Rattle.b67_task_tables.specs.declared.tables.JobRow.{JobRow};
 ghost use Rattle.b67_task_tables.specs.Tables.{switch_of, TasksShow};
-ghost use Rattle.b67_session_schedule.specs.Counted.{choice_of, counted, counted_row, row_more, counted_by, CountsHaveRoom, TurnHasRoom, Past, IsLeft};
+ghost use Rattle.b67_session_schedule.specs.Counted.{choice_of, counted, counted_row, row_more, counted_by, CountsHaveRoom, TurnHasRoom, Past, IsStillDue};
 
 use b67_model_text::Switch;
 use b67_task_tables::{JobRow, Tasks};
@@ -26,7 +26,7 @@ pub struct Chosen {
     pub turn: u32,
 }
 
-/// A job has made one operator more.
+/// Counts one operator more of a job.
 #[inline(always)]
 fn count_of_job(rows: &mut [JobRow], at: usize)
     requires { (r : JobRow) × (slice_get rows.old at ≡ Some r) × (r.made + 1 < 2 ^ 64) }
@@ -43,7 +43,7 @@ fn first_left(switches: &[Switch], from: u32, made: u64) -> u32
     ensures within { result ≤ length switches.now }
     ensures past { Past from made (map switch_of switches.now) → Past result made (map switch_of switches.now) }
     ensures left { (before : ℕ) → length switches.now < 2 ^ 32 → SwitchesRise (map switch_of switches.now) → made ≤ before + 1
-        → IsLeft from before (map switch_of switches.now) → IsLeft result made (map switch_of switches.now) }
+        → IsStillDue from before (map switch_of switches.now) → IsStillDue result made (map switch_of switches.now) }
 {
     if (from as usize) < switches.len() && switches[from as usize].count < made {
         return from.saturating_add(1);
@@ -63,8 +63,8 @@ pub fn count(tasks: &mut Tasks, chosen: Chosen)
         → TasksShow plan (with_job s m made.progress.job) tasks.old → TasksShow plan (with_moment s (choice_of chosen) m made) tasks.new }
     // Where the first switch that is left was known, it is known again.
     ensures left { length tasks.old.switches < 2 ^ 32 → SwitchesRise (map switch_of tasks.old.switches)
-        → IsLeft tasks.old.next_switch tasks.old.made (map switch_of tasks.old.switches)
-        → IsLeft tasks.new.next_switch tasks.new.made (map switch_of tasks.new.switches) }
+        → IsStillDue tasks.old.next_switch tasks.old.made (map switch_of tasks.old.switches)
+        → IsStillDue tasks.new.next_switch tasks.new.made (map switch_of tasks.new.switches) }
     ensures jobs { (r : JobRow) → slice_get tasks.old.jobs (chosen.job - 1) ≡ Some r → tasks.new.jobs ≡ slice_set tasks.old.jobs (chosen.job - 1) (counted_row r) }
     ensures rest { tasks.new ≡ record tasks.old {
       jobs = tasks.new.jobs;

@@ -23,7 +23,7 @@ fn is_before(a: Who, b: Who) -> bool
 
 #[inline(always)]
 fn is_ready(state: TaskState) -> bool
-    ensures { result ≡ rows.is_ready state }
+    ensures { result ≡ rows.is_ready_state state }
 {
     match state {
         TaskState::Ready => true,
@@ -52,7 +52,7 @@ fn comes(row: TaskRow, last: Who) -> bool
 /// Whether a row is that of a task which is ready.
 #[inline(always)]
 pub(crate) fn is_row_of(row: TaskRow, who: Who) -> bool
-    ensures { result ≡ rows.is_row_of (who_is who) row }
+    ensures { result ≡ rows.is_ready_row_of (who_is who) row }
 {
     is_ready(row.state) && row.job == who.job && row.number == who.task
 }
@@ -72,7 +72,7 @@ pub(crate) fn ready_row(rows: &[TaskRow], who: Who) -> Option<u8>
     None
 }
 
-/// The same, looked for at one place first.
+/// The row of a ready task, looked for at one place first.
 #[inline(always)]
 pub(crate) fn ready_row_near(rows: &[TaskRow], near: u8, who: Who) -> Option<u8>
     requires { length rows.now ≤ 255 }

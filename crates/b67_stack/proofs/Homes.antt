@@ -4,7 +4,7 @@ use Rattle.std.specs.List.{slice_get}
 use Rattle.std.proofs.lemmas.Option.{same_Some}
 use Rattle.std.proofs.lemmas.Bool.{false≢true}
 use Rattle.b67_word.specs.Tagged.{Tagged}
-use Rattle.b67_ctl.specs.Layout.{bit}
+use Rattle.b67_ctl.specs.Layout.{flag_bit}
 use Rattle.b67_ctl.specs.declared.descriptors.DataDesc.{DataDesc}
 use Rattle.b67_ctl.specs.declared.registers.Regs.{Regs}
 use Rattle.b67_ctl.specs.Descriptors.{data_word, IsDataDesc}
@@ -14,13 +14,13 @@ use Rattle.b67_area.proofs.Laws.{area_inside}
 use Rattle.b67_lemmas.specs.Lists.{Has}
 use Rattle.b67_stack.specs.Common.{Location, Shape, Is, Original, Copy, copy_desc, Fits, PagedObject, MachineView, home_desc, home_word_of, Storage, Content, KeptChain, Represents, info_of}
 
-same_bit : (a b : Bool) → bit a ≡ bit b → a ≡ b
+same_bit : (a b : Bool) → flag_bit a ≡ flag_bit b → a ≡ b
 same_bit true true e = refl
 same_bit true false e = absurd (omega arith)
 same_bit false true e = absurd (omega arith)
 same_bit false false e = refl
 
-pub bit-lt : (a : Bool) → bit a < 2
+pub bit-lt : (a : Bool) → flag_bit a < 2
 bit-lt true = omega arith
 bit-lt false = omega arith
 
@@ -39,7 +39,7 @@ pub record SameDesc (d e : DataDesc) : Type 0 where
 
 pub same_desc : (d e : DataDesc) → IsDataDesc d → IsDataDesc e → data_word d ≡ data_word e → SameDesc d e
 same_desc d e hd he s =
-    let r = same_fields (bit d.present) (bit d.copy) (bit d.indexed) (bit d.read_only) d.length d.address (bit e.present) (bit e.copy) (bit e.indexed) (bit e.read_only) e.length e.address
+    let r = same_fields (flag_bit d.present) (flag_bit d.copy) (flag_bit d.indexed) (flag_bit d.read_only) d.length d.address (flag_bit e.present) (flag_bit e.copy) (flag_bit e.indexed) (flag_bit e.read_only) e.length e.address
     (bit-lt d.present) (bit-lt d.copy) (bit-lt d.indexed) (bit-lt d.read_only) hd.words hd.address (bit-lt e.present) (bit-lt e.copy) (bit-lt e.indexed) (bit-lt e.read_only) he.words he.address
     (ap (λ (w : Tagged). w.bits) s) in
     record { present = same_bit d.present e.present r.0; copy = same_bit d.copy e.copy r.1; address = r.2 }

@@ -7,7 +7,7 @@ use Rattle.b67_ctl.specs.Layout.{mscw_word}
 use Rattle.b67_core.proofs.Writes.{slice_get-set_other}
 use Rattle.b67_lemmas.specs.Lists.{Has}
 use Rattle.b67_ctl.specs.declared.registers.Regs.{Regs}
-use Rattle.b67_stack.specs.Common.{Shape, Is, Copy, Fits, LieDownward, Activation, Head, Marked, Entered, IsStack, top_size, stack_words, mark_place, running_level, mark_of, headed, words, PagedObject, MachineView, Running, stack_of, RunsOn, slot_base, CopiesName, NoOriginalAboveTop, Storage, RepresentsRunning, Represents, with_stack, with_cells, top_cells, below_top, new_mark, MayPush}
+use Rattle.b67_stack.specs.Common.{Shape, Is, Copy, Fits, LieDownward, Activation, Head, Marked, Entered, IsStack, top_size, stack_words, mark_place, stack_level, mark_of, headed, words, PagedObject, MachineView, Running, stack_of, RunsOn, slot_base, CopiesName, NoOriginalAboveTop, Storage, RepresentsRunning, Represents, with_stack, stack_with_cells, top_cells, activations_below, new_mark, MayPush}
 use Rattle.b67_stack.specs.Changes.{without_first}
 use Rattle.b67_stack.proofs.Lies.{Lie-push, Lie-under}
 use Rattle.b67_stack.proofs.Heights.{words-length}
@@ -64,7 +64,7 @@ Settled-with p k stack after u here s t int = by_slot p k (Running after) (λ j 
 module _ (x : Storage) (core : List Tagged) (r : Regs) (p : MachineView) (k : ℕ) where
   -- a word more
   pub Represents-push : (stack : List Activation) (c : Shape) (w : Tagged) (q : Place) → Represents x core r p → RunsOn p k stack → NoOriginalAboveTop p → MayPush p.objects c → Fits x.held c (r.s + 1) w → r.s ≢ r.losr
-      → Represents x (slice_set core (r.s + 1) w) (record r { s = r.s + 1; place = q }) (with_stack p k (with_cells stack (c ∷ top_cells stack)))
+      → Represents x (slice_set core (r.s + 1) w) (record r { s = r.s + 1; place = q }) (with_stack p k (stack_with_cells stack (c ∷ top_cells stack)))
   Represents-push [] c w q s u settled may fit ne = absurd ((running_fits x core r p k [] s u).0.some refl)
   Represents-push (a ∷ below) c w q s u settled may fit ne = Represents-slot x core (slice_set core (r.s + 1) w) r (record r { s = r.s + 1; place = q }) p k (a ∷ below) (record a { cells = c ∷ a.cells } ∷ below) u
       (record {
@@ -136,8 +136,8 @@ module _ (x : Storage) (core : List Tagged) (r : Regs) (p : MachineView) (k : �
 
   -- an activation record less
   pub Represents-cut : (a : Activation) (below : List Activation) (g : ℕ) (q : Place) → below ≢ [] → Represents x core r p → RunsOn p k (a ∷ below)
-      → Represents x core (record r { s = r.bosr + stack_words below; f = r.bosr + mark_place below; level = running_level below; segment = g; place = q }) (with_stack p k below)
-  Represents-cut a below g q some s u = Represents-slot x core core r (record r { s = r.bosr + stack_words below; f = r.bosr + mark_place below; level = running_level below; segment = g; place = q }) p k (a ∷ below) below u
+      → Represents x core (record r { s = r.bosr + stack_words below; f = r.bosr + mark_place below; level = stack_level below; segment = g; place = q }) (with_stack p k below)
+  Represents-cut a below g q some s u = Represents-slot x core core r (record r { s = r.bosr + stack_words below; f = r.bosr + mark_place below; level = stack_level below; segment = g; place = q }) p k (a ∷ below) below u
       (record {
         size = refl;
         outside = λ i o. refl;
@@ -169,7 +169,7 @@ module _ (x : Storage) (core : List Tagged) (r : Regs) (p : MachineView) (k : �
 -- the same for a stack that isn't taken apart
 module _ (x : Storage) (core : List Tagged) (r : Regs) (p : MachineView) (k : ℕ) where
   pub Represents-popped : (stack : List Activation) (q : Place) → top_cells stack ≢ [] → Represents x core r p → RunsOn p k stack
-      → Represents x core (record r { s = r.s - 1; place = q }) (with_stack p k (with_cells stack (without_first (top_cells stack))))
+      → Represents x core (record r { s = r.s - 1; place = q }) (with_stack p k (stack_with_cells stack (without_first (top_cells stack))))
   Represents-popped [] q n s u = absurd (n refl)
   Represents-popped (a ∷ below) q n s u = by_cells a.cells refl n where
     by_cells : (cs : List Shape) → a.cells ≡ cs → cs ≢ [] → Represents x core (record r { s = r.s - 1; place = q }) (with_stack p k (record a { cells = without_first a.cells } ∷ below))
@@ -182,8 +182,8 @@ module _ (x : Storage) (core : List Tagged) (r : Regs) (p : MachineView) (k : �
   Represents-marked [] w q is s u settled ne = absurd ((running_fits x core r p k [] s u).0.some refl)
   Represents-marked (a ∷ below) w q is s u settled ne = Represents-mark x core r p k a below w q is s u settled ne
 
-  pub Represents-below : (stack : List Activation) (t f l g : ℕ) (q : Place) → below_top stack ≢ [] → Represents x core r p → RunsOn p k stack
-      → t ≡ r.bosr + stack_words (below_top stack) → f ≡ r.bosr + mark_place (below_top stack) → l ≡ running_level (below_top stack)
-      → Represents x core (record r { s = t; f = f; level = l; segment = g; place = q }) (with_stack p k (below_top stack))
+  pub Represents-below : (stack : List Activation) (t f l g : ℕ) (q : Place) → activations_below stack ≢ [] → Represents x core r p → RunsOn p k stack
+      → t ≡ r.bosr + stack_words (activations_below stack) → f ≡ r.bosr + mark_place (activations_below stack) → l ≡ stack_level (activations_below stack)
+      → Represents x core (record r { s = t; f = f; level = l; segment = g; place = q }) (with_stack p k (activations_below stack))
   Represents-below [] t f l g q n s u et ef el = absurd (n refl)
   Represents-below (a ∷ below) t f l g q n s u et ef el = rw (et, ef, el) (Represents-cut x core r p k a below g q n s u)

@@ -13,7 +13,7 @@ use Rattle.b67_area.specs.Directory.{IsDirectory}
 use Rattle.b67_backing.specs.Shelf.{Shelf, chain_of}
 use Rattle.b67_lemmas.specs.Lists.{Has}
 use Rattle.b67_ctl.specs.declared.registers.Regs.{Regs}
-use Rattle.b67_stack.specs.Common.{Location, PagedObject, MachineView, Slot, Free, Running, Waiting, slot_base, home_word, words_of, tag_of, Storage, RepresentsSlot, RepresentsSlots, StacksLie, RepresentsObjects, RepresentsObject, Content, KeptChain, AbsentContent, ObjectHasChain, HoldsIn, Told, Owned, info_of, Represents, with_held, ChainStays}
+use Rattle.b67_stack.specs.Common.{Location, PagedObject, MachineView, Slot, Free, Running, Waiting, slot_base, home_word, object_words, tag_of, Storage, RepresentsSlot, RepresentsSlots, StacksLie, RepresentsObjects, RepresentsObject, Content, KeptChain, AbsentContent, ObjectHasChain, HoldsIn, Told, Owned, info_of, Represents, with_held, ChainStays}
 use Rattle.b67_stack.proofs.Lies.{Upward-same}
 use Rattle.b67_stack.proofs.Helds.{held-other, held-same}
 
@@ -33,7 +33,7 @@ module _ (x y : Storage) (t : PagedObject) (f : ℕ) (c : ChainStays x y f) wher
   pub HoldsIn-stays : HoldsIn x t f → HoldsIn y t f
   HoldsIn-stays h = record {
     chain = HasChain-stays h.chain;
-    told = let P : List ℕ → Type 0 = λ k. Told y.device k (map number (words_of t)) in subst P (sym c.chain) (c.told (map number (words_of t)) h.told);
+    told = let P : List ℕ → Type 0 = λ k. Told y.device k (map number (object_words t)) in subst P (sym c.chain) (c.told (map number (object_words t)) h.told);
   }
 
   pub Keeps-stays : (k : Kind) → KeptChain x t k f → KeptChain y t k f
@@ -49,7 +49,7 @@ module _ (x y : Storage) (t : PagedObject) (f : ℕ) (c : ChainStays x y f) wher
   -- an object's content, by the words of its area and by its chain
   pub Content-stays : (core new : List Tagged) (a : Option ℕ) → ((b : ℕ) → a ≡ Some b → (q : ℕ) → b ≤ q → q < b + length t.numbers → slice_get new q ≡ slice_get core q) → Content x core t a f → Content y new t a f
   Content-stays core new (Some a) same k =
-      (Upward-same core new a (words_of t) (λ q low high. same a refl q low (omega (arith, length-map t.numbers (word (tag_of t.kind))))) k.0, Keeps-stays t.kind k.1)
+      (Upward-same core new a (object_words t) (λ q low high. same a refl q low (omega (arith, length-map t.numbers (word (tag_of t.kind))))) k.0, Keeps-stays t.kind k.1)
   Content-stays core new None same k = Rests-stays k
 
 -- what stays of another object

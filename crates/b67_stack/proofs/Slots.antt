@@ -7,7 +7,7 @@ use Rattle.b67_area.proofs.Climbs.{area_at-low}
 use Rattle.b67_area.proofs.Separation.{IsDirectory-same, controls_above}
 use Rattle.b67_lemmas.specs.Lists.{Has}
 use Rattle.b67_ctl.specs.declared.registers.Regs.{Regs}
-use Rattle.b67_stack.specs.Common.{Fits, LieDownward, Activation, IsStack, stack_words, words, PagedObject, MachineView, Slot, Free, Running, Waiting, stack_of, slot_base, RunsOn, SlotFits, CopiesName, Laid, with_slot, words_of, Storage, RepresentsSlot, RepresentsRunning, StacksLie, RepresentsObjects, Content, RepresentsRegs, Represents, info_of, with_stack}
+use Rattle.b67_stack.specs.Common.{Fits, LieDownward, Activation, IsStack, stack_words, words, PagedObject, MachineView, Slot, Free, Running, Waiting, stack_of, slot_base, RunsOn, SlotFits, CopiesName, IsLaidOut, with_slot, object_words, Storage, RepresentsSlot, RepresentsRunning, StacksLie, RepresentsObjects, Content, RepresentsRegs, Represents, info_of, with_stack}
 use Rattle.b67_stack.proofs.Bases.{base-apart}
 use Rattle.b67_stack.proofs.Lies.{Lie-same, Upward-same}
 use Rattle.b67_stack.proofs.Heights.{words-length}
@@ -39,7 +39,7 @@ slot_room p k (Waiting stack) f some = f.0.fits
 -- content read in areas alone
 pub Content-areas : (x : Storage) (old new : List Tagged) (t : PagedObject) (a : Option ℕ) (f : ℕ)
     → ((b : ℕ) → a ≡ Some b → x.low ≤ b) → ((q : ℕ) → x.low ≤ q → slice_get new q ≡ slice_get old q) → Content x old t a f → Content x new t a f
-Content-areas x old new t (Some a) f up same c = (Upward-same old new a (words_of t) (λ q above below. same q (omega (arith, up a refl))) c.0, c.1)
+Content-areas x old new t (Some a) f up same c = (Upward-same old new a (object_words t) (λ q above below. same q (omega (arith, up a refl))) c.0, c.1)
 Content-areas x old new t None f up same c = c
 
 pub running_slot : (x : Storage) (core : List Tagged) (r : Regs) (p : MachineView) (k : ℕ) (stack : List Activation) → Represents x core r p → RunsOn p k stack → RepresentsRunning r p k stack
@@ -83,7 +83,7 @@ Represents-slot x core new r r' p k before stack u c s = record {
   p' : MachineView
   p' = with_stack p k stack
 
-  laid : Laid x.low p
+  laid : IsLaidOut x.low p
   laid = s.slots.laid
 
   is_k : r.slot ≡ k
@@ -106,7 +106,7 @@ Represents-slot x core new r r' p k before stack u c s = record {
   fits_same j (Running q) f = f
   fits_same j (Waiting q) f = f
 
-  laid' : Laid x.low p'
+  laid' : IsLaidOut x.low p'
   laid' = record {
     low = laid.low;
     first = laid.first;

@@ -5,20 +5,20 @@ use Rattle.b67_word.specs.Tagged.{Tagged}
 use Rattle.b67_ctl.specs.declared.registers.Regs.{Regs}
 use Rattle.b67_ctl.specs.declared.marks.Mscw.{Mscw}
 use Rattle.b67_ctl.specs.declared.marks.Rcw.{Rcw}
-use Rattle.b67_ctl.specs.Layout.{bit, mscw_word, IsMscw, rcw_word, IsRcw}
+use Rattle.b67_ctl.specs.Layout.{flag_bit, mscw_word, IsMscw, rcw_word, IsRcw}
 use Rattle.b67_model.specs.State.{Return}
-use Rattle.b67_stack.specs.Common.{Locations, Fits, LieDownward, Activation, Head, Marked, Entered, ReturnFits, HeadFits, HeadsFit, head_size, size, top_size, stack_words, mark_place, running_level, level_from, mark_of, top_mark, return_of, headed, words, MachineView, RunsOn, slot_base, Storage, Represents, top_cells, below_top}
+use Rattle.b67_stack.specs.Common.{Locations, Fits, LieDownward, Activation, Head, Marked, Entered, ReturnFits, HeadFits, HeadsFit, head_size, size, top_size, stack_words, mark_place, stack_level, level_from, mark_of, top_mark, return_of, headed, words, MachineView, RunsOn, slot_base, Storage, Represents, top_cells, activations_below}
 use Rattle.b67_stack.specs.declared.Cpu.{Cpu}
 use Rattle.b67_stack.specs.Changes.{topped}
 use Rattle.b67_stack.proofs.Lies.{Lie-under}
 use Rattle.b67_stack.proofs.Heights.{words-length}
 use Rattle.b67_stack.proofs.Slots.{running_slot, running_fits, running_lies}
 
-level-head : (b : Head) (below : List Activation) → HeadFits b below → running_level below < 2 ^ 5 → level_from b (running_level below) < 2 ^ 5
+level-head : (b : Head) (below : List Activation) → HeadFits b below → stack_level below < 2 ^ 5 → level_from b (stack_level below) < 2 ^ 5
 level-head Marked below f small = small
 level-head (Entered level environment back) below f small = f.0
 
-pub level-small : (stack : List Activation) → HeadsFit stack → running_level stack < 2 ^ 5
+pub level-small : (stack : List Activation) → HeadsFit stack → stack_level stack < 2 ^ 5
 level-small [] h = omega arith
 level-small (a ∷ below) h = level-head a.head below h.0 (level-small below h.1)
 
@@ -30,7 +30,7 @@ pub mark-fits : (k : ℕ) (h : Head) (below : List Activation) → HeadFits h be
 mark-fits k Marked below f small = record { env_stack = omega arith; env_disp = omega arith; level = omega arith; back = small; marked = λ e. refl }
 mark-fits k (Entered level environment back) below f small = record { env_stack = f.1; env_disp = f.2; level = f.0; back = small; marked = λ e. absurd (let z : ⊥ = cc in z) }
 
-mark-size : (k : ℕ) (h : Head) (below : List Activation) → bit (mark_of k h below).entered + 1 ≡ head_size h
+mark-size : (k : ℕ) (h : Head) (below : List Activation) → flag_bit (mark_of k h below).entered + 1 ≡ head_size h
 mark-size k Marked below = refl
 mark-size k (Entered level environment back) below = refl
 
@@ -54,15 +54,15 @@ module _ (x : Storage) (core : List Tagged) (r : Regs) (p : MachineView) (k : �
       mark-fits k a.head below f.heads.0 (omega (arith, f.fits, s.slots.laid.room, top_size-high below))
 
   -- S by F and the cells
-  pub cells_above : (stack : List Activation) → Represents x core r p → RunsOn p k stack → r.s ≡ r.f + bit (top_mark k stack).entered + length (top_cells stack)
+  pub cells_above : (stack : List Activation) → Represents x core r p → RunsOn p k stack → r.s ≡ r.f + flag_bit (top_mark k stack).entered + length (top_cells stack)
   cells_above [] s u = absurd ((running_fits x core r p k [] s u).0.some refl)
   cells_above (a ∷ below) s u =
       let g = running_slot x core r p k (a ∷ below) s u in
       omega (arith, g.mark, g.top, mark-size k a.head below)
 
   -- the mark before, by the distance in the mark at F
-  pub mark_before : (stack : List Activation) → Represents x core r p → RunsOn p k stack → below_top stack ≢ []
-      → (r.f - 1 ≡ r.bosr + stack_words (below_top stack)) × (r.f - (top_mark k stack).back ≡ r.bosr + mark_place (below_top stack)) × ((top_mark k stack).back ≤ r.f)
+  pub mark_before : (stack : List Activation) → Represents x core r p → RunsOn p k stack → activations_below stack ≢ []
+      → (r.f - 1 ≡ r.bosr + stack_words (activations_below stack)) × (r.f - (top_mark k stack).back ≡ r.bosr + mark_place (activations_below stack)) × ((top_mark k stack).back ≤ r.f)
   mark_before [] s u n = absurd (n refl)
   mark_before (a ∷ []) s u n = absurd (n refl)
   mark_before (a ∷ b ∷ below) s u n =
@@ -75,20 +75,20 @@ module _ (x : Storage) (core : List Tagged) (r : Regs) (p : MachineView) (k : �
 
   -- the level of the record that runs without the top one: that of the return word, if there is one
   pub level_under : (stack : List Activation) → Represents x core r p → RunsOn p k stack
-      → ((top_mark k stack).entered ≡ false → r.level ≡ running_level (below_top stack))
-      × ((top_mark k stack).entered ≡ true → (c : Rcw) × IsRcw c × (slice_get core (r.f + 1) ≡ Some (rcw_word c)) × (c.level ≡ running_level (below_top stack)))
+      → ((top_mark k stack).entered ≡ false → r.level ≡ stack_level (activations_below stack))
+      × ((top_mark k stack).entered ≡ true → (c : Rcw) × IsRcw c × (slice_get core (r.f + 1) ≡ Some (rcw_word c)) × (c.level ≡ stack_level (activations_below stack)))
   level_under [] s u = absurd ((running_fits x core r p k [] s u).0.some refl)
   level_under (a ∷ below) s u =
       let g = running_slot x core r p k (a ∷ below) s u in
       let f = (running_fits x core r p k (a ∷ below) s u).0 in
       let l = Lie-under (Fits x.held) core (suc (slot_base p k)) a.cells (headed k a.head below (words k below)) (running_lies x core r p k (a ∷ below) s u) in
       by_head a.head g.level (omega (arith, g.mark)) f.heads.0 f.heads.1 l where
-        returned : (level : ℕ) (back : Option Return) → ReturnFits back below → HeadsFit below → IsRcw (return_of back below) × ((return_of back below).level ≡ running_level below)
-        returned level None e hs = (record { place = record { syllable = omega arith; word = omega arith }; level = omega arith; segment = omega arith }, ap running_level (sym e))
+        returned : (level : ℕ) (back : Option Return) → ReturnFits back below → HeadsFit below → IsRcw (return_of back below) × ((return_of back below).level ≡ stack_level below)
+        returned level None e hs = (record { place = record { syllable = omega arith; word = omega arith }; level = omega arith; segment = omega arith }, ap stack_level (sym e))
         returned level (Some b) e hs = (record { place = e.0; level = level-small below hs; segment = e.1 }, refl)
 
-        by_head : (h : Head) → r.level ≡ level_from h (running_level below) → r.f ≡ suc (slot_base p k) + stack_words below → HeadFits h below → HeadsFit below → LieDownward (Fits x.held) core (suc (slot_base p k)) (headed k h below (words k below))
-            → ((mark_of k h below).entered ≡ false → r.level ≡ running_level below) × ((mark_of k h below).entered ≡ true → (c : Rcw) × IsRcw c × (slice_get core (r.f + 1) ≡ Some (rcw_word c)) × (c.level ≡ running_level below))
+        by_head : (h : Head) → r.level ≡ level_from h (stack_level below) → r.f ≡ suc (slot_base p k) + stack_words below → HeadFits h below → HeadsFit below → LieDownward (Fits x.held) core (suc (slot_base p k)) (headed k h below (words k below))
+            → ((mark_of k h below).entered ≡ false → r.level ≡ stack_level below) × ((mark_of k h below).entered ≡ true → (c : Rcw) × IsRcw c × (slice_get core (r.f + 1) ≡ Some (rcw_word c)) × (c.level ≡ stack_level below))
         by_head Marked e at fits hs l = (λ z. e, λ z. absurd (let b : ⊥ = cc in b))
         by_head (Entered level environment back) e at fits hs l =
             let d = returned level back fits.3 hs in (
@@ -101,14 +101,14 @@ module _ (x : Storage) (core : List Tagged) (r : Regs) (p : MachineView) (k : �
   no_items (y ∷ ys) e = absurd (omega arith)
 
   -- the top activation record has no cell exactly where S is at its last head word
-  pub empty_at : (stack : List Activation) (m : Mscw) (n : ℕ) → Represents x core r p → RunsOn p k stack → m ≡ top_mark k stack → n ≡ bit m.entered
+  pub empty_at : (stack : List Activation) (m : Mscw) (n : ℕ) → Represents x core r p → RunsOn p k stack → m ≡ top_mark k stack → n ≡ flag_bit m.entered
       → (r.s ≡ r.f + n → top_cells stack ≡ []) × (top_cells stack ≡ [] → r.s ≡ r.f + n)
   empty_at stack m n s u em en =
-      let h : r.s ≡ r.f + n + length (top_cells stack) = cells_above stack s u ∙ ap (λ (i : ℕ). r.f + i + length (top_cells stack)) (sym (en ∙ ap (λ (w : Mscw). bit w.entered) em)) in
+      let h : r.s ≡ r.f + n + length (top_cells stack) = cells_above stack s u ∙ ap (λ (i : ℕ). r.f + i + length (top_cells stack)) (sym (en ∙ ap (λ (w : Mscw). flag_bit w.entered) em)) in
       (λ e. no_items (top_cells stack) (omega (arith, e, h)), λ e. omega (arith, h, ap length e))
 
 -- the registers of a stack, by their numbers
-pub topped_by : (cpu : Cpu) (stack : List Activation) (t f l : ℕ) → t ≡ cpu.regs.bosr + stack_words stack → f ≡ cpu.regs.bosr + mark_place stack → l ≡ running_level stack
+pub topped_by : (cpu : Cpu) (stack : List Activation) (t f l : ℕ) → t ≡ cpu.regs.bosr + stack_words stack → f ≡ cpu.regs.bosr + mark_place stack → l ≡ stack_level stack
     → ◌≡◌ {A = Cpu} (record cpu { regs = record cpu.regs { s = t; f = f; level = l } }) (topped cpu stack)
 topped_by cpu stack t f l a b e = rw (a, b, e) refl
 

@@ -4,7 +4,7 @@ use Rattle.b67_word.specs.Tagged.{Tagged}
 use Rattle.b67_ctl.specs.Layout.{mscw_word}
 use Rattle.b67_stack.specs.declared.Cpu.{Cpu}
 use Rattle.b67_stack.specs.Shapes.{Shape, Is, Original, Copy}
-use Rattle.b67_stack.specs.Stacks.{Activation, Marked, stack_words, mark_place, running_level}
+use Rattle.b67_stack.specs.Stacks.{Activation, Marked, stack_words, mark_place, stack_level}
 use Rattle.b67_stack.specs.MachineView.{PagedObject, MachineView, Running, with_slot, RunsOn, IsArrayAt}
 use Rattle.b67_stack.specs.Represents.{Storage, Represents}
 
@@ -34,7 +34,7 @@ marked cpu = record cpu {
 -- with the registers of a stack in the running slot
 abbrev pub topped : Cpu → List Activation → Cpu
 topped cpu stack = record cpu {
-  regs = record cpu.regs { s = cpu.regs.bosr + stack_words stack; f = cpu.regs.bosr + mark_place stack; level = running_level stack };
+  regs = record cpu.regs { s = cpu.regs.bosr + stack_words stack; f = cpu.regs.bosr + mark_place stack; level = stack_level stack };
 }
 
 -- the cells of the top activation record, and the stack with others there
@@ -42,17 +42,17 @@ abbrev pub top_cells : List Activation → List Shape
 top_cells [] = []
 top_cells (a ∷ below) = a.cells
 
-abbrev pub with_cells : List Activation → List Shape → List Activation
-with_cells [] cells = []
-with_cells (a ∷ below) cells = record a { cells = cells } ∷ below
+abbrev pub stack_with_cells : List Activation → List Shape → List Activation
+stack_with_cells [] cells = []
+stack_with_cells (a ∷ below) cells = record a { cells = cells } ∷ below
 
 abbrev pub without_first : List Shape → List Shape
 without_first [] = []
 without_first (a ∷ more) = more
 
-abbrev pub below_top : List Activation → List Activation
-below_top [] = []
-below_top (a ∷ below) = below
+abbrev pub activations_below : List Activation → List Activation
+activations_below [] = []
+activations_below (a ∷ below) = below
 
 -- a mark alone
 abbrev pub new_mark : Activation

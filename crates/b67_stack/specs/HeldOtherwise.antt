@@ -16,8 +16,8 @@ abbrev pub renumbered : MachineView → ℕ → List ℕ → MachineView
 renumbered p home ns = record p { objects = map (renumber home ns) p.objects }
 
 -- the words below the slots that are neither the directory's nor descriptors are as they were
-abbrev pub Stayed : MachineView → List Tagged → List Tagged → Type 0
-Stayed p core new =
+abbrev pub LowWordsStayed : MachineView → List Tagged → List Tagged → Type 0
+LowWordsStayed p core new =
     (i : ℕ) → i < p.stacks → (i < DIRECTORY) ⊎ (FIRST_DICTIONARY ≤ i) → ((t : PagedObject) → Has p.objects t → t.home ≢ i) → slice_get new i ≡ slice_get core i
 
 -- how all objects are held where that at a home is held so

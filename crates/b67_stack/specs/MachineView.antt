@@ -72,8 +72,8 @@ tag_of Array = 0
 tag_of Row = 0
 tag_of Code = 3
 
-abbrev pub words_of : PagedObject → List Tagged
-words_of t = map (word (tag_of t.kind)) t.numbers
+abbrev pub object_words : PagedObject → List Tagged
+object_words t = map (word (tag_of t.kind)) t.numbers
 
 abbrev pub AreZero : List ℕ → Type 0
 AreZero ns = AllByRecursion (λ n. n ≡ 0) ns
@@ -93,7 +93,7 @@ SlotFits p k (Waiting stack) = IsStack p.size stack × CopiesName p.objects (wor
 
 -- what a view by itself keeps: the dictionaries lie from FIRST_DICTIONARY up to slot 0, the slots from there up to an end.
 -- Originals lie in both, segment descriptors in dictionaries
-pub record Laid (end : ℕ) (p : MachineView) : Type 0 where
+pub record IsLaidOut (end : ℕ) (p : MachineView) : Type 0 where
   pub low : end ≡ slot_base p p.peak
   pub first : FIRST_DICTIONARY ≤ p.stacks
   pub room : p.size < 2 ^ 14

@@ -12,8 +12,8 @@ use Rattle.b67_backing.specs.Held.{Fills, sectors_for}
 use Rattle.b67_lemmas.specs.Lists.{Has}
 use Rattle.b67_ctl.specs.declared.registers.Regs.{Regs}
 use Rattle.b67_stack.specs.Shapes.{Locations, Fits, LieDownward, LieUpward}
-use Rattle.b67_stack.specs.Stacks.{Activation, stack_words, mark_place, running_level, words, toscw_of}
-use Rattle.b67_stack.specs.MachineView.{PagedObject, Slot, Free, Running, Waiting, stack_of, MachineView, slot_base, Laid, home_word, words_of, AreZero}
+use Rattle.b67_stack.specs.Stacks.{Activation, stack_words, mark_place, stack_level, words, toscw_of}
+use Rattle.b67_stack.specs.MachineView.{PagedObject, Slot, Free, Running, Waiting, stack_of, MachineView, slot_base, IsLaidOut, home_word, object_words, AreZero}
 
 -- what isn't core: the areas' spans from `low` up, the chains of sectors, what these hold if the device tells it, and how
 -- the objects are held in both
@@ -31,7 +31,7 @@ pub record RepresentsRunning (r : Regs) (p : MachineView) (k : ℕ) (stack : Lis
   pub last : r.losr + 1 ≡ slot_base p k + p.size
   pub top : r.s ≡ slot_base p k + stack_words stack
   pub mark : r.f ≡ slot_base p k + mark_place stack
-  pub level : r.level ≡ running_level stack
+  pub level : r.level ≡ stack_level stack
 
 -- a slot's base word, and the registers if its task runs
 abbrev pub RepresentsSlot : List Tagged → Regs → MachineView → ℕ → Slot → Type 0
@@ -46,7 +46,7 @@ pub record RepresentsRegs (r : Regs) (p : MachineView) : Type 0 where
 
 -- the slots and where each one's top is
 pub record RepresentsSlots (core : List Tagged) (r : Regs) (low : ℕ) (p : MachineView) : Type 0 where
-  pub laid : Laid low p
+  pub laid : IsLaidOut low p
   pub regs : RepresentsRegs r p
   pub slots : (k : ℕ) → k < p.peak → RepresentsSlot core r p k (p.slots k)
 
@@ -69,7 +69,7 @@ Told (Some all) chain numbers = Fills all chain 0 numbers
 -- a chain that holds an object's words
 pub record HoldsIn (x : Storage) (t : PagedObject) (first : ℕ) : Type 0 where
   pub chain : ObjectHasChain x t first
-  pub told : Told x.device (chain_of first x.shelf.chains) (map number (words_of t))
+  pub told : Told x.device (chain_of first x.shelf.chains) (map number (object_words t))
 
 -- what a present object keeps in sectors: an array maybe a chain, which may hold anything; the others their words
 abbrev pub KeptChain : Storage → PagedObject → Kind → ℕ → Type 0
@@ -82,7 +82,7 @@ abbrev pub AbsentContent : Storage → PagedObject → ℕ → Type 0
 AbsentContent x t first = HoldsIn x t first ⊎ ((first ≡ 0) × (t.kind ≡ Array) × AreZero t.numbers)
 
 abbrev pub Content : Storage → List Tagged → PagedObject → Option ℕ → ℕ → Type 0
-Content x core t (Some at) first = LieUpward core at (words_of t) × KeptChain x t t.kind first
+Content x core t (Some at) first = LieUpward core at (object_words t) × KeptChain x t t.kind first
 Content x core t None first = AbsentContent x t first
 
 -- the original or segment descriptor of an object, and its words

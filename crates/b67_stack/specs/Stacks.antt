@@ -49,9 +49,9 @@ abbrev pub level_from : Head → ℕ → ℕ
 level_from Marked level = level
 level_from (Entered level environment back) lower = level
 
-abbrev pub running_level : List Activation → ℕ
-running_level [] = 0
-running_level (a ∷ below) = level_from a.head (running_level below)
+abbrev pub stack_level : List Activation → ℕ
+stack_level [] = 0
+stack_level (a ∷ below) = level_from a.head (stack_level below)
 
 abbrev pub wants_value : Option Return → Bool
 wants_value None = false
@@ -72,7 +72,7 @@ top_mark k (a ∷ below) = mark_of k a.head below
 -- the return control word, all zero where nothing returns. A segment's displacement in the dictionary is its number and 1
 abbrev pub return_of : Option Return → List Activation → Rcw
 return_of None below = record { place = record { word = 0; syllable = 0 }; level = 0; segment = 0 }
-return_of (Some r) below = record { place = r.place; level = running_level below; segment = r.segment + 1 }
+return_of (Some r) below = record { place = r.place; level = stack_level below; segment = r.segment + 1 }
 
 -- the words of a head on those below it
 abbrev pub headed : ℕ → Head → List Activation → List Shape → List Shape
@@ -87,7 +87,7 @@ words k (a ∷ below) = a.cells ++ headed k a.head below (words k below)
 
 -- the top of stack word of a stack that doesn't run
 abbrev pub toscw_of : List Activation → Toscw
-toscw_of stack = record { s = stack_words stack; level = running_level stack; f = mark_place stack }
+toscw_of stack = record { s = stack_words stack; level = stack_level stack; f = mark_place stack }
 
 -- the fields of its words fit, and nothing returns from the bottom one alone
 abbrev pub ReturnFits : Option Return → List Activation → Type 0

@@ -3,10 +3,10 @@
 
 ghost use Rattle.std.specs.Prelude.{◌≡◌, ◌≢◌, ◌↔◌, ℕ, ◌+◌, ◌-◌, ◌<◌, ◌≤◌, IsErr, IsOk, OnOk, OnErr, IfOk, [], ◌∷◌, List, length, slice_get, Some};
 ghost use Rattle.b67_stack.specs.Shapes.{Shape, Fits};
-ghost use Rattle.b67_stack.specs.Stacks.{Activation, running_level, top_mark as top_mark_of};
+ghost use Rattle.b67_stack.specs.Stacks.{Activation, stack_level, top_mark as top_mark_of};
 ghost use Rattle.b67_stack.specs.MachineView.{MachineView, RunsOn, NoOriginalAboveTop};
 ghost use Rattle.b67_stack.specs.Represents.{Storage, Represents};
-ghost use Rattle.b67_stack.specs.Changes.{Runs, pushed, popped, marked, topped, top_cells, with_cells, without_first, below_top, new_mark, with_stack, MayPush};
+ghost use Rattle.b67_stack.specs.Changes.{Runs, pushed, popped, marked, topped, top_cells, stack_with_cells, without_first, activations_below, new_mark, with_stack, MayPush};
 
 use b67_core::Core;
 use b67_ctl::{Mscw, Rcw, Regs};
@@ -77,7 +77,7 @@ impl Cpu {
     fn level_below(&self) -> u8
         requires { Runs self.now }
         ensures { (x : Storage) (p : MachineView) (stack : List Activation) → Represents x self.now.core self.now.regs p
-            → RunsOn p self.now.regs.slot stack → result ≡ running_level (below_top stack) }
+            → RunsOn p self.now.regs.slot stack → result ≡ stack_level (activations_below stack) }
     {
         if !self.top_mark().entered {
             return self.regs.level;
@@ -104,7 +104,7 @@ impl Cpu {
         ensures err { OnErr result (self.new ≡ self.old) }
         ensures stands { OnOk result ((x : Storage) (p : MachineView) (stack : List Activation) (c : Shape) → Represents x self.old.core self.old.regs p
             → RunsOn p self.old.regs.slot stack → NoOriginalAboveTop p → MayPush p.objects c → Fits x.held c (self.old.regs.s + 1) w
-            → Represents x self.new.core self.new.regs (with_stack p self.old.regs.slot (with_cells stack (c ∷ top_cells stack)))) }
+            → Represents x self.new.core self.new.regs (with_stack p self.old.regs.slot (stack_with_cells stack (c ∷ top_cells stack)))) }
     {
         if self.regs.s == self.regs.losr {
             return Err(StackOverflow {});
@@ -123,7 +123,7 @@ impl Cpu {
         ensures err { OnErr result (self.new ≡ self.old) }
         ensures stands { OnOk result ((x : Storage) (p : MachineView) (stack : List Activation) → Represents x self.old.core self.old.regs p
             → RunsOn p self.old.regs.slot stack
-            → Represents x self.new.core self.new.regs (with_stack p self.old.regs.slot (with_cells stack (without_first (top_cells stack))))) }
+            → Represents x self.new.core self.new.regs (with_stack p self.old.regs.slot (stack_with_cells stack (without_first (top_cells stack))))) }
     {
         let m = self.top_mark();
         if self.regs.s == self.regs.f + u32::from(m.entered) {
@@ -167,12 +167,12 @@ impl Cpu {
     /// segment and display are the caller's.
     pub fn cut(&mut self)
         requires { (x : Storage) × (p : MachineView) × (stack : List Activation) × Represents x self.old.core self.old.regs p
-            × RunsOn p self.old.regs.slot stack × (below_top stack ≢ []) }
+            × RunsOn p self.old.regs.slot stack × (activations_below stack ≢ []) }
         ensures row { (x : Storage) (p : MachineView) (stack : List Activation) → Represents x self.old.core self.old.regs p
-            → RunsOn p self.old.regs.slot stack → below_top stack ≢ [] → self.new ≡ topped self.old (below_top stack) }
+            → RunsOn p self.old.regs.slot stack → activations_below stack ≢ [] → self.new ≡ topped self.old (activations_below stack) }
         ensures stands { (x : Storage) (p : MachineView) (stack : List Activation) → Represents x self.old.core self.old.regs p
-            → RunsOn p self.old.regs.slot stack → below_top stack ≢ []
-            → Represents x self.new.core self.new.regs (with_stack p self.old.regs.slot (below_top stack)) }
+            → RunsOn p self.old.regs.slot stack → activations_below stack ≢ []
+            → Represents x self.new.core self.new.regs (with_stack p self.old.regs.slot (activations_below stack)) }
     {
         let m = self.top_mark();
         self.regs.level = self.level_below();

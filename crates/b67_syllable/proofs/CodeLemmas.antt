@@ -15,7 +15,7 @@ use Rattle.b67_model.specs.declared.operators.Op.TheVariants.{Plain}
 use Rattle.b67_syllable.specs.declared.kinds.Kind.{Kind}
 use Rattle.b67_syllable.specs.declared.kinds.Kind.TheVariants.{Lone}
 use Rattle.b67_syllable.specs.Kinds.{form, end_of, operator_of}
-use Rattle.b67_syllable.specs.Placed.{placed}
+use Rattle.b67_syllable.specs.Placed.{within_word}
 
 weight : (k : ℕ) → 256 ^ k ≡ 2 ^ (8 * k)
 weight zero = refl
@@ -75,19 +75,19 @@ found code at n kind b =
     let counted : operator_at (contents code) at ≡ reads (contents code) n (form_of (syllable (contents code) n)) = rw (b.count) (inside_is code at b.in_word (omega arith)) in
     counted ∙ ap (reads (contents code) n) (sym (ap form_of b.first_is) ∙ b.form_is) ∙ reads_is (contents code) n (form kind)
 
-before_last : (op : Op) (end : ℕ) → end < 6 * 2 ^ 16 → placed (Ok (op, place_at end)) ≡ Ok (op, place_at end)
+before_last : (op : Op) (end : ℕ) → end < 6 * 2 ^ 16 → within_word (Ok (op, place_at end)) ≡ Ok (op, place_at end)
 before_last op end below =
     let test : nat_lt (end / 6) (2 ^ 16) ≡ true = grind (arith, nat_tests) in
     rw test refl
 
-behind_last : (op : Op) (end : ℕ) → 6 * 2 ^ 16 ≤ end → placed (Ok (op, place_at end)) ≡ Err PastEnd
+behind_last : (op : Op) (end : ℕ) → 6 * 2 ^ 16 ≤ end → within_word (Ok (op, place_at end)) ≡ Err PastEnd
 behind_last op end above =
     let test : nat_lt (end / 6) (2 ^ 16) ≡ false = grind (arith, nat_tests) in
     rw test refl
 
 pub ends : (code : List Tagged) (at : Place) (n : ℕ) (kind : Kind) → Begins code at n kind → (end : ℕ) (op : Op) (place : Place) →
     end ≡ end_of n (form kind) → op ≡ operator_of (contents code) n (form kind) → place ≡ place_at end → end ≤ 6 * length code → end < 6 * 2 ^ 16 →
-    ◌≡◌ {A = Reading} (Ok (op, place)) (placed (operator_at (contents code) at))
+    ◌≡◌ {A = Reading} (Ok (op, place)) (within_word (operator_at (contents code) at))
 ends code at n kind b end op place end_is op_is place_is within below =
     let test : nat_le end (6 * length (contents code)) ≡ true = rw (length-map code (λ (v : Tagged). v.bits)) (grind (arith, nat_tests)) in
     rw (found code at n kind b, ← end_is, test, before_last (operator_of (contents code) n (form kind)) end below, place_is, op_is) refl
@@ -95,7 +95,7 @@ ends code at n kind b end op place end_is op_is place_is within below =
 -- the same with the place after it, for an operator after which there is one
 pub near_ends : (code : List Tagged) (at : Place) (kind : Kind) → Begins code at (count_at at) kind → (op : Op) (place : Place) →
     op ≡ operator_of (contents code) (count_at at) (form kind) → place ≡ place_at (end_of (count_at at) (form kind)) → place.word < 2 ^ 16 → count_at place ≤ 6 * length code →
-    ◌≡◌ {A = Reading} (Ok (op, place)) (placed (operator_at (contents code) at))
+    ◌≡◌ {A = Reading} (Ok (op, place)) (within_word (operator_at (contents code) at))
 near_ends code at kind b op place op_is place_is small within =
     let end = end_of (count_at at) (form kind) in
     let word : place.word ≡ end / 6 = ap (λ (p : Place). p.word) place_is in
@@ -112,14 +112,14 @@ near_count at kind place place_is =
 
 pub past_end : (code : List Tagged) (at : Place) (n : ℕ) (kind : Kind) → Begins code at n kind → (end : ℕ) →
     end ≡ end_of n (form kind) → 6 * length code < end →
-    ◌≡◌ {A = Reading} (Err PastEnd) (placed (operator_at (contents code) at))
+    ◌≡◌ {A = Reading} (Err PastEnd) (within_word (operator_at (contents code) at))
 past_end code at n kind b end end_is past =
     let test : nat_le end (6 * length (contents code)) ≡ false = rw (length-map code (λ (v : Tagged). v.bits)) (grind (arith, nat_tests)) in
     rw (found code at n kind b, ← end_is, test) refl
 
 pub near_past : (code : List Tagged) (at : Place) (kind : Kind) → Begins code at (count_at at) kind → (place : Place) →
     place ≡ place_at (end_of (count_at at) (form kind)) → 6 * length code < count_at place →
-    ◌≡◌ {A = Reading} (Err PastEnd) (placed (operator_at (contents code) at))
+    ◌≡◌ {A = Reading} (Err PastEnd) (within_word (operator_at (contents code) at))
 near_past code at kind b place place_is past =
     let end = end_of (count_at at) (form kind) in
     let word : place.word ≡ end / 6 = ap (λ (p : Place). p.word) place_is in
@@ -128,7 +128,7 @@ near_past code at kind b place place_is past =
 
 pub past_places : (code : List Tagged) (at : Place) (n : ℕ) (kind : Kind) → Begins code at n kind → (end : ℕ) →
     end ≡ end_of n (form kind) → end ≤ 6 * length code → 6 * 2 ^ 16 ≤ end →
-    ◌≡◌ {A = Reading} (Err PastEnd) (placed (operator_at (contents code) at))
+    ◌≡◌ {A = Reading} (Err PastEnd) (within_word (operator_at (contents code) at))
 past_places code at n kind b end end_is within above =
     let test : nat_le end (6 * length (contents code)) ≡ true = rw (length-map code (λ (v : Tagged). v.bits)) (grind (arith, nat_tests)) in
     rw (found code at n kind b, ← end_is, test, behind_last (operator_of (contents code) n (form kind)) end above) refl
@@ -136,32 +136,32 @@ past_places code at n kind b end end_is within above =
 -- an operator that is its first syllable alone
 pub alone : (code : List Tagged) (at : Place) (operator : Code) (first : ℕ) (place : Place) → at.syllable < 6 → at.word < length code → at.word < 0xffff →
     first ≡ syllable (contents code) (count_at at) → form_of first ≡ Some (Alone operator) → place ≡ place_at (count_at at + 1) →
-    ◌≡◌ {A = Reading} (Ok (Plain operator, place)) (placed (operator_at (contents code) at))
+    ◌≡◌ {A = Reading} (Ok (Plain operator, place)) (within_word (operator_at (contents code) at))
 alone code at operator first place in_word inside small first_is form_is place_is =
     let b : Begins code at (count_at at) (Lone operator) = record { in_word = in_word; inside = omega arith; count = refl; first = first; first_is = first_is; form_is = form_is } in
     ends code at (count_at at) (Lone operator) b (count_at at + 1) (Plain operator) place refl refl place_is (omega arith) (omega arith)
 
 -- a segment's code, where each place has a number
-ends_placed : (code : List ℕ) (end : ℕ) (op : Op) → length code < 2 ^ 16 → placed (ends_at code end op) ≡ ends_at code end op
+ends_placed : (code : List ℕ) (end : ℕ) (op : Op) → length code < 2 ^ 16 → within_word (ends_at code end op) ≡ ends_at code end op
 ends_placed code end op small = by_test (nat_le end (6 * length code)) refl
   where
-    by_test : (b : Bool) → nat_le end (6 * length code) ≡ b → placed (ends_at code end op) ≡ ends_at code end op
+    by_test : (b : Bool) → nat_le end (6 * length code) ≡ b → within_word (ends_at code end op) ≡ ends_at code end op
     by_test true e = let within : end ≤ 6 * length code = grind (arith, nat_tests) in rw e (before_last op end (omega arith))
     by_test false e = rw e refl
 
-reads_placed : (code : List ℕ) (n : ℕ) (f : Option Form) → length code < 2 ^ 16 → placed (reads code n f) ≡ reads code n f
+reads_placed : (code : List ℕ) (n : ℕ) (f : Option Form) → length code < 2 ^ 16 → within_word (reads code n f) ≡ reads code n f
 reads_placed code n None small = refl
 reads_placed code n (Some (Alone op)) small = ends_placed code (n + 1) (Plain op) small
 reads_placed code n (Some (OneMore op)) small = ends_placed code (n + 2) (op (syllable code (n + 1))) small
 reads_placed code n (Some (TwoMore op)) small = ends_placed code (n + 3) (op (syllable code (n + 1)) (syllable code (n + 2))) small
 reads_placed code n (Some (Literal op)) small = ends_placed code (6 * (n / 6 + 2)) (op (slice_index code (n / 6 + 1))) small
 
-at_placed : (code : List ℕ) (at : Place) → length code < 2 ^ 16 → placed (operator_at code at) ≡ operator_at code at
+at_placed : (code : List ℕ) (at : Place) → length code < 2 ^ 16 → within_word (operator_at code at) ≡ operator_at code at
 at_placed code at small = by_test (nat_lt at.syllable 6 && nat_lt at.word (length code)) refl
   where
-    by_test : (b : Bool) → nat_lt at.syllable 6 && nat_lt at.word (length code) ≡ b → placed (operator_at code at) ≡ operator_at code at
+    by_test : (b : Bool) → nat_lt at.syllable 6 && nat_lt at.word (length code) ≡ b → within_word (operator_at code at) ≡ operator_at code at
     by_test true e = rw e (reads_placed code (count_at at) (form_of (syllable code (count_at at))) small)
     by_test false e = rw e refl
 
-pub in_segment : (code : List Tagged) (at : Place) (r : Reading) → r ≡ placed (operator_at (contents code) at) → length code < 2 ^ 16 → r ≡ operator_at (contents code) at
+pub in_segment : (code : List Tagged) (at : Place) (r : Reading) → r ≡ within_word (operator_at (contents code) at) → length code < 2 ^ 16 → r ≡ operator_at (contents code) at
 in_segment code at r is small = is ∙ at_placed (contents code) at (rw (length-map code (λ (v : Tagged). v.bits)) small)

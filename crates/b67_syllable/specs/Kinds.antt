@@ -39,5 +39,5 @@ operator_of code n (TwoMore op) = op (syllable code (n + 1)) (syllable code (n +
 operator_of code n (Literal op) = op (slice_index code (n / 6 + 1))
 
 -- the place of a branch's two syllables
-abbrev pub target_of : ℕ → ℕ → Place
-target_of high low = record { word = (high % 32) * 256 + low; syllable = high / 32 }
+abbrev pub target_at : ℕ → ℕ → Place
+target_at high low = record { word = (high % 32) * 256 + low; syllable = high / 32 }

@@ -3,8 +3,8 @@
 ghost use Rattle.std.specs.Prelude.{◌≡◌, ◌+◌, ◌*◌, ◌/◌, ◌<◌, ◌≤◌, ◌^◌, ℕ, length, Some};
 ghost use Rattle.b67_word.specs.Tagged.{contents};
 ghost use Rattle.b67_model.specs.Operators.{syllable, form_of, operator_at, place_at, count_at};
-ghost use Rattle.b67_syllable.specs.Kinds.{form, end_of, operator_of, target_of};
-ghost use Rattle.b67_syllable.specs.Placed.{placed};
+ghost use Rattle.b67_syllable.specs.Kinds.{form, end_of, operator_of, target_at};
+ghost use Rattle.b67_syllable.specs.Placed.{within_word};
 
 use crate::kinds::{Kind, kind_of};
 use b67_model::{Op, Undecodable};
@@ -83,7 +83,7 @@ fn both(high: u8, low: u8) -> u16
 /// The place that a branch's two syllables name.
 #[inline(always)]
 fn target(high: u8, low: u8) -> Place
-    ensures { result ≡ target_of high low }
+    ensures { result ≡ target_at high low }
 {
     Place {
         word: both(high % 32, low),
@@ -222,7 +222,7 @@ fn operator_near(code: &[Word], at: Place, kind: Kind) -> Result<(Op, Place), Un
     requires word { at.word < length code.now }
     requires small { at.word + 2 < 2 ^ 16 }
     requires begins { form_of (syllable (contents code.now) (count_at at)) ≡ Some (form kind) }
-    ensures { result ≡ placed (operator_at (contents code.now) at) }
+    ensures { result ≡ within_word (operator_at (contents code.now) at) }
 {
     let end = end_behind(at, kind);
     if count_of(end) <= 6 * code.len() {
@@ -238,7 +238,7 @@ fn operator_of_kind(code: &[Word], at: Place, kind: Kind) -> Result<(Op, Place),
     requires in_word { at.syllable < 6 }
     requires word { at.word < length code.now }
     requires begins { form_of (syllable (contents code.now) (count_at at)) ≡ Some (form kind) }
-    ensures { result ≡ placed (operator_at (contents code.now) at) }
+    ensures { result ≡ within_word (operator_at (contents code.now) at) }
 {
     let n = count_of(at);
     let end = end_at(n, kind);
@@ -254,7 +254,7 @@ fn operator_of_kind(code: &[Word], at: Place, kind: Kind) -> Result<(Op, Place),
 /// than is there, or if no `Place` is after it, since its last word is word 65,535 or a later one.
 #[inline(always)]
 pub fn decode(code: &[Word], at: Place) -> Result<(Op, Place), Undecodable>
-    ensures exact { result ≡ placed (operator_at (contents code.now) at) }
+    ensures exact { result ≡ within_word (operator_at (contents code.now) at) }
     ensures segment { length code.now < 2 ^ 16 → result ≡ operator_at (contents code.now) at }
 {
     if at.syllable >= 6 || at.word as usize >= code.len() {

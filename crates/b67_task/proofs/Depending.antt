@@ -19,7 +19,7 @@ use Rattle.b67_task_tables.specs.Tables as tables
 use Rattle.b67_task_tables.specs.Tables.{MachineRepresents, counts_of, job_row}
 use Rattle.b67_task_end_stack.proofs.Owners.{counted}
 use Rattle.b67_task_end_tables.proofs.TopMarks.{Under, one_frame, one_slot, one_task, under_of, under_row}
-use Rattle.b67_task.specs.Marks.{HasMark, IsMarkAt, depends_on}
+use Rattle.b67_task.specs.Marks.{MarkStandsAt, IsMarkAt, depends_on}
 
 -- ---- marks of frames
 
@@ -27,18 +27,18 @@ some_words : (s : Standing) → 1 ≤ head_words s
 some_words Marked = omega arith
 some_words (Entered level environment back) = omega arith
 
-mark_low : (fs : List Frame) (f : Frame) (mark : ℕ) → HasMark fs f mark → mark < height fs
+mark_low : (fs : List Frame) (f : Frame) (mark : ℕ) → MarkStandsAt fs f mark → mark < height fs
 mark_low [] f mark h = absurd h
 mark_low (g ∷ below) f mark (inl e) = omega (arith, e.1, some_words g.standing)
 mark_low (g ∷ below) f mark (inr h) = omega (arith, mark_low below f mark h)
 
-mark_among : (fs : List Frame) (f : Frame) (mark : ℕ) → HasMark fs f mark → Has fs f
+mark_among : (fs : List Frame) (f : Frame) (mark : ℕ) → MarkStandsAt fs f mark → Has fs f
 mark_among [] f mark h = absurd h
 mark_among (g ∷ below) f mark (inl e) = inl e.0
 mark_among (g ∷ below) f mark (inr h) = inr (mark_among below f mark h)
 
 -- at a mark there is one frame
-one_mark : (fs : List Frame) (f g : Frame) (mark : ℕ) → HasMark fs f mark → HasMark fs g mark → f ≡ g
+one_mark : (fs : List Frame) (f g : Frame) (mark : ℕ) → MarkStandsAt fs f mark → MarkStandsAt fs g mark → f ≡ g
 one_mark [] f g mark a b = absurd a
 one_mark (h ∷ below) f g mark (inl a) (inl b) = sym a.0 ∙ b.0
 one_mark (h ∷ below) f g mark (inl a) (inr b) = absurd (let low = mark_low below g mark b in let w : ⊥ = omega (arith, low, a.1) in w)
@@ -49,7 +49,7 @@ one_mark (h ∷ below) f g mark (inr a) (inr b) = one_mark below f g mark a b
 record Found (fs : List Frame) (identity mark : ℕ) : Type 0 where
   pub frame : Frame
   pub is : frame.identity ≡ identity
-  pub there : HasMark fs frame mark
+  pub there : MarkStandsAt fs frame mark
 
 found : (k : ℕ) (outer : ℕ → StackPlace) (fs : List Frame) (c : ℕ) → Has (identities fs) c → Found fs c (spot_in k outer fs c).disp
 found k outer [] c i = absurd i
@@ -62,7 +62,7 @@ found k outer (f ∷ below) c i = elim (cases_eq f.identity c) [
 ]
 
 -- no identity is twice among the frames, so a frame is found at its mark
-own_mark : (k : ℕ) (outer : ℕ → StackPlace) (fs : List Frame) (f : Frame) (mark : ℕ) → HasMark fs f mark → frames_named f.identity fs ≤ 1 → (spot_in k outer fs f.identity).disp ≡ mark
+own_mark : (k : ℕ) (outer : ℕ → StackPlace) (fs : List Frame) (f : Frame) (mark : ℕ) → MarkStandsAt fs f mark → frames_named f.identity fs ≤ 1 → (spot_in k outer fs f.identity).disp ≡ mark
 own_mark k outer [] f mark h once = absurd h
 own_mark k outer (g ∷ below) f mark h once = elim (cases_eq g.identity f.identity) [
   | inl e ↦
@@ -70,7 +70,7 @@ own_mark k outer (g ∷ below) f mark h once = elim (cases_eq g.identity f.ident
       rw (eq-eqb g.identity f.identity e)
       (⊎_elim
       (λ (a : (g ≡ f) × (mark ≡ height below)). sym a.1)
-      (λ (b : HasMark below f mark).
+      (λ (b : MarkStandsAt below f mark).
       absurd (let again = counted f.identity below (has_map (λ (z : Frame). z.identity) below f (mark_among below f mark b)) in let w : ⊥ = omega (arith, few, again) in w))
       h))
   | inr ne ↦
@@ -78,7 +78,7 @@ own_mark k outer (g ∷ below) f mark h once = elim (cases_eq g.identity f.ident
       rw (ne_eqb g.identity f.identity ne)
       (⊎_elim
       (λ (a : (g ≡ f) × (mark ≡ height below)). absurd (ne (ap (λ (z : Frame). z.identity) a.0)))
-      (λ (b : HasMark below f mark). own_mark k outer below f mark b (omega (arith, few)))
+      (λ (b : MarkStandsAt below f mark). own_mark k outer below f mark b (omega (arith, few)))
       h))
 ]
 
@@ -119,7 +119,7 @@ module _ (x : Storage) (told : Option (List (List ℕ))) (k : Machine) (plan : P
           member = in_y;
           live = p.live;
           stack = sym parent ∙ w.parent ∙ p.slot;
-          stands = subst (HasMark p.parent.frames f.frame) (sym p.disp ∙ sym w.critical ∙ at) f.there;
+          stands = subst (MarkStandsAt p.parent.frames f.frame) (sym p.disp ∙ sym w.critical ∙ at) f.there;
         };
         critical = any_some (λ (v : Task). v.critical == f.frame.identity) y.progress.job.tasks u in_u (eq-eqb u.critical f.frame.identity (sym f.is));
       }
@@ -130,7 +130,7 @@ module _ (x : Storage) (told : Option (List (List ℕ))) (k : Machine) (plan : P
       let one = one_slot plan s o.numbered h.session.holds.fits.rows h.session.holds.fits.few good rs (map job_row k.tasks.jobs) (counts_of k.tasks) h.tables n m u t b.member a.member b.live a.live (sym b.stack ∙ a.stack) in
       let live : Has m.progress.job.tasks u = subst (λ (z : SessionJob). Has z.progress.job.tasks u) one.0 b.live in
       let same : u ≡ t = one_task plan s o.numbered h.session.holds.fits.rows h.session.holds.fits.few good rs (map job_row k.tasks.jobs) (counts_of k.tasks) h.tables m a.member u t live a.live one.1 in
-      let frames : g ≡ f = one_mark t.frames g f mark (subst (λ (v : Task). HasMark v.frames g mark) same b.stands) a.stands in
+      let frames : g ≡ f = one_mark t.frames g f mark (subst (λ (v : Task). MarkStandsAt v.frames g mark) same b.stands) a.stands in
       ap (λ (z : SessionJob). is_critical z.progress.job g.identity) one.0 ∙ ap (λ (z : Frame). is_critical m.progress.job z.identity) frames
 
   -- a row shows who depends on a frame

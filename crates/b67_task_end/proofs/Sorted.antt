@@ -5,15 +5,15 @@ use Rattle.std.proofs.lemmas.Bool.{cases_eq, cases_lt}
 use Rattle.b67_lemmas.specs.Lists.{Has}
 use Rattle.b67_lemmas.proofs.Members.{has_append_cases}
 use Rattle.b67_task_end.specs.declared.families.Deep.{Deep}
-use Rattle.b67_task_end.specs.Family.{ComesBefore, AreSorted}
+use Rattle.b67_task_end.specs.Family.{EndsBefore, AreSorted}
 
-pub before_both : (a b : Deep) → ComesBefore a b → ComesBefore b a → ⊥
+pub before_both : (a b : Deep) → EndsBefore a b → EndsBefore b a → ⊥
 before_both a b (inl l) (inl r) = omega (arith, l, r)
 before_both a b (inl l) (inr r) = omega (arith, l, r.0)
 before_both a b (inr l) (inl r) = omega (arith, l.0, r)
 before_both a b (inr l) (inr r) = omega (arith, l.1, r.1)
 
-pub before_then : (a b c : Deep) → ComesBefore a b → ComesBefore b c → ComesBefore a c
+pub before_then : (a b c : Deep) → EndsBefore a b → EndsBefore b c → EndsBefore a c
 before_then a b c (inl l) (inl r) = inl (omega (arith, l, r))
 before_then a b c (inl l) (inr r) = inl (omega (arith, l, r.0))
 before_then a b c (inr l) (inl r) = inl (omega (arith, l.0, r))
@@ -23,7 +23,7 @@ same_deep : (a b : Deep) → a.number ≡ b.number → a.depth ≡ b.depth → a
 same_deep a b n d = ap (λ (k : ℕ). record a { number = k }) n ∙ ap (λ (k : ℕ). record b { depth = k }) d
 
 -- of two that aren't the same one comes first
-pub before_or : (a b : Deep) → (ComesBefore a b → ⊥) → a ≢ b → ComesBefore b a
+pub before_or : (a b : Deep) → (EndsBefore a b → ⊥) → a ≢ b → EndsBefore b a
 before_or a b later ne = elim (cases_lt a.depth b.depth) [
   | inl low ↦ inl low
   | inr high ↦ elim (cases_lt b.depth a.depth) [
@@ -38,7 +38,7 @@ before_or a b later ne = elim (cases_lt a.depth b.depth) [
   ]
 ]
 
-pub before_self : (a : Deep) → ComesBefore a a → ⊥
+pub before_self : (a : Deep) → EndsBefore a a → ⊥
 before_self a b = before_both a a b b
 
 -- two sorted lists with the same members are the same
@@ -55,12 +55,12 @@ sorted_one (x ∷ xs) (y ∷ ys) sx sy there back =
       ]
     ] in
     let rest : xs ≡ ys = sorted_one xs ys sx.1 sy.1
-    (λ d i. elim (there d (inr i)) [ inl e ↦ absurd (before_self d (subst (λ (z : Deep). ComesBefore z d) (same ∙ e) (sx.0 d i))) | inr k ↦ k ])
-    (λ d i. elim (back d (inr i)) [ inl e ↦ absurd (before_self d (subst (λ (z : Deep). ComesBefore z d) (sym same ∙ e) (sy.0 d i))) | inr k ↦ k ]) in
+    (λ d i. elim (there d (inr i)) [ inl e ↦ absurd (before_self d (subst (λ (z : Deep). EndsBefore z d) (same ∙ e) (sx.0 d i))) | inr k ↦ k ])
+    (λ d i. elim (back d (inr i)) [ inl e ↦ absurd (before_self d (subst (λ (z : Deep). EndsBefore z d) (sym same ∙ e) (sy.0 d i))) | inr k ↦ k ]) in
     ap (λ (z : Deep). z ∷ xs) same ∙ ap (λ (zs : List Deep). y ∷ zs) rest
 
 -- a sorted list before another, each item of it before each of the other's
-pub sorted_append : (xs ys : List Deep) → AreSorted xs → AreSorted ys → ((a b : Deep) → Has xs a → Has ys b → ComesBefore a b) → AreSorted (xs ++ ys)
+pub sorted_append : (xs ys : List Deep) → AreSorted xs → AreSorted ys → ((a b : Deep) → Has xs a → Has ys b → EndsBefore a b) → AreSorted (xs ++ ys)
 sorted_append [] ys sx sy apart = sy
 sorted_append (x ∷ xs) ys sx sy apart = (
   λ e i. ⊎_elim (λ (l : Has xs e). sx.0 e l) (λ (r : Has ys e). apart x e (inl refl) r) (has_append_cases xs ys e i),
@@ -97,15 +97,15 @@ drop_at (suc n) [] e h = absurd h
 drop_at (suc n) (x ∷ xs) e h = let (i, low, at) = drop_at n xs e h in (suc i, omega (arith, low), at)
 
 -- an item put where it belongs
-pub sorted_put : (xs : List Deep) (n : ℕ) (item : Deep) → AreSorted xs → ((i : ℕ) (d : Deep) → i < n → slice_get xs i ≡ Some d → ComesBefore d item) → ((i : ℕ) (d : Deep) → n ≤ i → slice_get xs i ≡ Some d → ComesBefore item d)
+pub sorted_put : (xs : List Deep) (n : ℕ) (item : Deep) → AreSorted xs → ((i : ℕ) (d : Deep) → i < n → slice_get xs i ≡ Some d → EndsBefore d item) → ((i : ℕ) (d : Deep) → n ≤ i → slice_get xs i ≡ Some d → EndsBefore item d)
     → AreSorted (take n xs ++ item ∷ drop n xs)
 sorted_put xs n item s before behind =
     sorted_append (take n xs) (item ∷ drop n xs) (sorted_take n xs s)
     (λ e i. (let (k, low, at) = drop_at n xs e i in behind k e low at), sorted_drop n xs s)
     (λ a b ia ib.
     let (k, low, at) = take_at n xs a ia in
-    let first : ComesBefore a item = before k a low at in
+    let first : EndsBefore a item = before k a low at in
     ⊎_elim
-    (λ (e : item ≡ b). subst (ComesBefore a) e first)
+    (λ (e : item ≡ b). subst (EndsBefore a) e first)
     (λ (i : Has (drop n xs) b). (let (q, high, there) = drop_at n xs b i in before_then a item b first (behind q b high there)))
     ib)

@@ -17,7 +17,7 @@ use Rattle.b67_task_tables.specs.declared.tables.TaskRow.{TaskRow}
 use Rattle.b67_task_tables.specs.declared.tables.Tasks.{Tasks}
 use Rattle.b67_task_end.specs.declared.families.Deep.{Deep}
 use Rattle.b67_task_tables.specs.RowOf.{IsRowOf}
-use Rattle.b67_task_end.specs.Family.{TablesHold, IsUnder, ComesBefore, AreSorted, AreUnder}
+use Rattle.b67_task_end.specs.Family.{TablesHold, IsUnderHead, EndsBefore, AreSorted, AreUnder}
 use Rattle.b67_task_end.proofs.Sorted.{before_self, sorted_append, sorted_one, sorted_put}
 use Rattle.b67_task_end.proofs.Depths.{Parent, order, depth_low, parent_of, slot_small}
 
@@ -91,7 +91,7 @@ level_sorted over d (t ∷ ts) r same = (
       let low = r.0 b.item b.among in
       let one = same t (inl refl) in
       let two = same b.item (inr b.among) in
-      subst (ComesBefore (deep_of over t)) b.is (inr (omega (arith, one, two), low))),
+      subst (EndsBefore (deep_of over t)) b.is (inr (omega (arith, one, two), low))),
   level_sorted over d ts r.1 (λ u i. same u (inr i)),
 )
 
@@ -108,7 +108,7 @@ deepest_sorted over (suc n) bound ts f high =
     let kx = level_back n ts x.item x.among in
     let ky = deepest_back n ts y.item y.among in
     let above = high y.item ky.0 in
-    subst (λ (z : Deep). ComesBefore z b) x.is (subst (ComesBefore (deep_of over x.item)) y.is (inl (omega (arith, kx.1, ky.1, above))))))
+    subst (λ (z : Deep). EndsBefore z b) x.is (subst (EndsBefore (deep_of over x.item)) y.is (inl (omega (arith, kx.1, ky.1, above))))))
 
 -- places of rows whose slots differ
 differ_places : (rows : List TaskRow) (i k : ℕ) (a b : TaskRow) → Differ (map (λ (r : TaskRow). r.slot) rows) → slice_get rows i ≡ Some a → slice_get rows k ≡ Some b → a.slot ≡ b.slot → i ≡ k
@@ -122,8 +122,8 @@ differ_places (r ∷ rows) (suc i) (suc k) a b d ei ek e = ap suc (differ_places
 
 -- a head, and which tasks of the job are under it, and how many parents the head has with itself
 pub record HeadOf (plan : Placement) (m : SessionJob) (head over : ℕ) (below : Task → Bool) : Type 0 where
-  pub depth : (t : Task) (d : ℕ) → Has m.progress.job.tasks t → IsUnder plan m.constants.number head t.parents d → (below t ≡ true) × (d + over ≡ length t.parents)
-  pub under : (t : Task) → Has m.progress.job.tasks t → below t ≡ true → (d : ℕ) × IsUnder plan m.constants.number head t.parents d
+  pub depth : (t : Task) (d : ℕ) → Has m.progress.job.tasks t → IsUnderHead plan m.constants.number head t.parents d → (below t ≡ true) × (d + over ≡ length t.parents)
+  pub under : (t : Task) → Has m.progress.job.tasks t → below t ≡ true → (d : ℕ) × IsUnderHead plan m.constants.number head t.parents d
 
 drop_all : (xs : List ℕ) → drop (length xs) xs ≡ []
 drop_all [] = refl
@@ -223,7 +223,7 @@ module _ (plan : Placement) (s : Session) (tasks : Tasks) (h : TablesHold plan s
           let (t, it, dt) = each d (inl refl) in
           let (u, iu, du) = each b.item (inr b.among) in
           let same : t ≡ u = one_task t u it iu (ap (λ (z : Deep). z.number) dt ∙ sym b.is ∙ ap (λ (z : Deep). z.number) (sym du)) in
-          before_self d (subst (ComesBefore d) (sym du ∙ ap (deep_of over) (sym same) ∙ dt) (s.0 b.item b.among))),
+          before_self d (subst (EndsBefore d) (sym du ∙ ap (deep_of over) (sym same) ∙ dt) (s.0 b.item b.among))),
       numbers_differ more s.1 (λ e i. each e (inr i)),
     )
 
@@ -244,7 +244,7 @@ module _ (plan : Placement) (s : Session) (tasks : Tasks) (h : TablesHold plan s
     pub under_none : AreUnder plan s m head tasks.rows.items 0 []
     under_none = record { sorted = tt; each = λ d i. absurd i; all = λ i t d low. absurd (omega (arith, low)) }
 
-    pub under_skip : (upto : ℕ) (list : List Deep) → AreUnder plan s m head tasks.rows.items upto list → ((t : Task) (d : ℕ) → IsRowOf plan s tasks.rows.items upto m t → IsUnder plan m.constants.number head t.parents d → ⊥) → AreUnder plan s m head tasks.rows.items (upto + 1) list
+    pub under_skip : (upto : ℕ) (list : List Deep) → AreUnder plan s m head tasks.rows.items upto list → ((t : Task) (d : ℕ) → IsRowOf plan s tasks.rows.items upto m t → IsUnderHead plan m.constants.number head t.parents d → ⊥) → AreUnder plan s m head tasks.rows.items (upto + 1) list
     under_skip upto list u never = record {
       sorted = u.sorted;
       each = λ d i. (let (k, t, low, row, n, under) = u.each d i in (k, t, omega (arith, low), row, n, under));
@@ -254,7 +254,7 @@ module _ (plan : Placement) (s : Session) (tasks : Tasks) (h : TablesHold plan s
       ];
     }
 
-    module _ (upto : ℕ) (list : List Deep) (u : AreUnder plan s m head tasks.rows.items upto list) (t : Task) (row : IsRowOf plan s tasks.rows.items upto m t) (d : ℕ) (under : IsUnder plan m.constants.number head t.parents d) where
+    module _ (upto : ℕ) (list : List Deep) (u : AreUnder plan s m head tasks.rows.items upto list) (t : Task) (row : IsRowOf plan s tasks.rows.items upto m t) (d : ℕ) (under : IsUnderHead plan m.constants.number head t.parents d) where
       abbrev pub item : Deep
       item = record { number = t.number; depth = d }
 
@@ -276,14 +276,14 @@ module _ (plan : Placement) (s : Session) (tasks : Tasks) (h : TablesHold plan s
       pub item_room : length list < 15
       item_room = room_for upto list u t row.task new_number
 
-      pub under_put : (n : ℕ) → ((i : ℕ) (e : Deep) → i < n → slice_get list i ≡ Some e → ComesBefore e (record { number = t.number; depth = d })) → ((i : ℕ) (e : Deep) → n ≤ i → slice_get list i ≡ Some e → ComesBefore (record { number = t.number; depth = d }) e)
+      pub under_put : (n : ℕ) → ((i : ℕ) (e : Deep) → i < n → slice_get list i ≡ Some e → EndsBefore e (record { number = t.number; depth = d })) → ((i : ℕ) (e : Deep) → n ≤ i → slice_get list i ≡ Some e → EndsBefore (record { number = t.number; depth = d }) e)
           → AreUnder plan s m head tasks.rows.items (upto + 1) (take n list ++ record { number = t.number; depth = d } ∷ drop n list)
       under_put n before behind = record {
         sorted = sorted_put list n item u.sorted before behind;
         each = λ e i. ⊎_elim
             (λ (l : Has (take n list) e). old e (has_append_left (take n list) (drop n list) e l))
             (λ (r : Has (item ∷ drop n list) e). ⊎_elim
-            (λ (same : item ≡ e). (upto, t, omega arith, row, ap (λ (z : Deep). z.number) (sym same), subst (λ (z : Deep). IsUnder plan m.constants.number head t.parents z.depth) same under))
+            (λ (same : item ≡ e). (upto, t, omega arith, row, ap (λ (z : Deep). z.number) (sym same), subst (λ (z : Deep). IsUnderHead plan m.constants.number head t.parents z.depth) same under))
             (λ (k : Has (drop n list) e). old e (has_append_right (take n list) (drop n list) e k))
             r)
             (has_append_cases (take n list) (item ∷ drop n list) e i);
@@ -300,7 +300,7 @@ module _ (plan : Placement) (s : Session) (tasks : Tasks) (h : TablesHold plan s
         whole : (e : Deep) → Has (take n list ++ drop n list) e → Has list e
         whole e i = subst (λ (zs : List Deep). Has zs e) (take-append-drop n list) i
 
-        old : (e : Deep) → Has (take n list ++ drop n list) e → (i : ℕ) × (v : Task) × (i < upto + 1) × IsRowOf plan s tasks.rows.items i m v × (e.number ≡ v.number) × IsUnder plan m.constants.number head v.parents e.depth
+        old : (e : Deep) → Has (take n list ++ drop n list) e → (i : ℕ) × (v : Task) × (i < upto + 1) × IsRowOf plan s tasks.rows.items i m v × (e.number ≡ v.number) × IsUnderHead plan m.constants.number head v.parents e.depth
         old e i = let (k, v, low, other, n, w) = u.each e (whole e i) in (k, v, omega (arith, low), other, n, w)
 
         new : (e : Deep) → Has list e → Has (take n list ++ item ∷ drop n list) e

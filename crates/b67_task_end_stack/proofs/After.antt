@@ -12,7 +12,7 @@ use Rattle.b67_stack.specs.Common.{stack_words, PagedObject, Slot, stack_of, NoO
 use Rattle.b67_layout.specs.Common.{Placement, Slotted, slot_of, slot_at, machine_view, RowsFit, DictionariesFollow, RowHomes, PlanFits, RepresentsDictionary, RepresentsVector, RepresentsCritical, vector_word, SessionHolds, IsInOrderButCounts}
 use Rattle.b67_layout.proofs.Common.{with_course, slot_below, dictionary_below}
 use Rattle.b67_task_start_stack.proofs.Births.{changed_member, kept_member, moved_member}
-use Rattle.b67_task_end_stack.specs.Leaves.{Stays, Leaves, Lists, Cleared}
+use Rattle.b67_task_end_stack.specs.Leaves.{Stays, EndingLeaves, Lists, Cleared}
 use Rattle.b67_task_end_stack.proofs.Slotwise.{In, one_each, found_member}
 use Rattle.b67_task_end_stack.proofs.Turns.{SomeDied, pic}
 use Rattle.b67_lemmas.proofs.Members.{keyed_has}
@@ -35,7 +35,7 @@ dictionary_above plan at (w ∷ ws) z d (inl e) = let P : SessionJob → Type 0 
 dictionary_above plan at (w ∷ ws) z d (inr h) = omega (arith, dictionary_above plan (at + (2 + length w.constants.dictionary.cells)) ws z d.1 h)
 
 module _ (x : Storage) (core : List Tagged) (r : Regs) (marks : List ℕ) (plan : Placement) (s : Session) (o : IsInOrderButCounts s) (h : SessionHolds x core r marks plan s)
-    (m : SessionJob) (in_m : Has s.jobs m) (some : 0 < plan.size) (rows : List Slotted) (job' : Job) (gone : List Task) (lv : Leaves plan m gone rows 255 job')
+    (m : SessionJob) (in_m : Has s.jobs m) (some : 0 < plan.size) (rows : List Slotted) (job' : Job) (gone : List Task) (lv : EndingLeaves plan m gone rows 255 job')
     (f : ℕ → Slot) (ts : List PagedObject) (d : SomeDied x core r marks plan s o h m in_m some f ts gone) (ls : Lists plan m gone rows job') where
   abbrev j : ℕ
   j = m.constants.number

@@ -15,7 +15,7 @@ use Rattle.b67_layout_storage.specs.Machine.{MachineRepresentsView}
 use Rattle.b67_layout.specs.Session.{with_objects}
 use Rattle.b67_layout.proofs.Objects.{SameObjects, Represents-objects}
 use Rattle.b67_task_release.specs.Released.{of_objects, AreLeft}
-use Rattle.b67_task_end_stack.specs.Vacated.{put_out, vacated, Vacated, died, MayDie}
+use Rattle.b67_task_end_stack.specs.Vacated.{put_out, vacated, SlotVacated, died, MayDie}
 use Rattle.b67_task_end_stack.proofs.Vacates.{Represents-vacated}
 
 by_test : (r : Regs) (k : ℕ) → ((r.slot ≢ k) × (put_out r k ≡ r)) ⊎ ((r.slot ≡ k) × (put_out r k ≡ record r { slot = 255 }))
@@ -83,7 +83,7 @@ module _ (x : Storage) (cpu : Cpu) (p : MachineView) (k : ℕ) (gone rest : List
         ap (λ (c : List Tagged). slice_get c (32 + k)) core_is
         ∙ slice_get-set_same (slice_set cpu.core at (word 0 0)) (32 + k) (word 0 0) (omega (arith, low, may.used, may.few, core_long, length-set cpu.core at (word 0 0)))
 
-    is_vacated : Vacated cpu.core new.core cpu.regs new.regs p k
+    is_vacated : SlotVacated cpu.core new.core cpu.regs new.regs p k
     is_vacated = record {
       used = may.used;
       few = may.few;

@@ -14,7 +14,7 @@ use Rattle.b67_stack.specs.Represents.{Storage}
 use Rattle.b67_layout.specs.Common.{Placement, Slotted, slot_of, is_row_of, SessionHolds, IsInOrderButCounts}
 use Rattle.b67_layout.proofs.Rows.{task_row}
 use Rattle.b67_task_start_stack.specs.Likes.{Like}
-use Rattle.b67_task_end_stack.specs.Leaves.{Lost, Stays, NotTheirs, Leaves, Lists}
+use Rattle.b67_task_end_stack.specs.Leaves.{Lost, Stays, NotTheirs, EndingLeaves, Lists}
 use Rattle.b67_task_end_stack.specs.Ends.{gone_of, job_without, row_stays, rows_without}
 use Rattle.b67_task_end_stack.proofs.Slotwise.{order_of, found_member}
 
@@ -135,7 +135,7 @@ module _ (x : Storage) (core : List Tagged) (r : Regs) (marks : List ℕ) (plan 
         );
   }
 
-  pub leaves : (plan.running ≡ 255) ⊎ Lost plan m.constants.number (gone_of m.progress.job numbers) plan.running → Leaves plan m (gone_of m.progress.job numbers) (rows_without plan m.constants.number numbers) 255 (job_without m.progress.job numbers)
+  pub leaves : (plan.running ≡ 255) ⊎ Lost plan m.constants.number (gone_of m.progress.job numbers) plan.running → EndingLeaves plan m (gone_of m.progress.job numbers) (rows_without plan m.constants.number numbers) 255 (job_without m.progress.job numbers)
   leaves stopped = record {
     row_gone = λ q l. find_none (λ (z : Slotted). z.slot == q) (row_stays j numbers) plan.rows (λ z i t.
         (let (g, in_g, at) = l in

@@ -15,8 +15,8 @@ use Rattle.b67_area.specs.declared.Kind.TheVariants as kind
 use Rattle.b67_stack.specs.Common.{PagedObject, Slot, Storage, Represents}
 use Rattle.b67_layout.specs.Common.{Placement, Slotted, slot_of, slot_with, slot_in, slot_by, slot_at, code_objects, array_object, objects_of, machine_view, SessionHolds, IsInOrderButCounts}
 use Rattle.b67_layout.proofs.Common.{with_course, member-same, member-other, task_row, change-has, change-kept, numbered_course, Represents-objects}
-use Rattle.b67_task_start_stack.proofs.Twins.{NamesOnly, FramesName, like_same, slot_with-twin, name_all}
-use Rattle.b67_task_end_stack.specs.Leaves.{Lost, Stays, NotTheirs, Kept, Leaves}
+use Rattle.b67_task_start_stack.proofs.AlikePlans.{NamesOnly, FramesName, like_same, slot_with-twin, name_all}
+use Rattle.b67_task_end_stack.specs.Leaves.{Lost, Stays, NotTheirs, IsKeptArray, EndingLeaves}
 use Rattle.b67_task_end_stack.proofs.Owners.{NamesForeign, words_foreign}
 use Rattle.b67_task_end_stack.proofs.Slotwise.{In, frames_in_order, order_of, found_member, not_there, owned_lies}
 use Rattle.b67_law_order.proofs.Numbered.{keyed_member}
@@ -41,7 +41,7 @@ module _ (P : Starts) (arrays : List Array) (gone : List Task) (bound : ℕ) (fa
   the_same : (g : Task) (a : ℕ) (item other : Array) → Has arrays item → item.identity ≡ a → Has arrays other → other.identity ≡ a → other ≡ item
   the_same g a item other i e k f = falls_same (λ (b : Array). b.identity) bound arrays other item falls k i (f ∙ sym e)
 
-  kept_word : (reach : List Known) (owner : ℕ) (w : Word) → WordInOrder P arrays reach owner w → ((g : Task) → Has gone g → NamesForeign arrays g w) → NamesOnly (Kept arrays gone) w
+  kept_word : (reach : List Known) (owner : ℕ) (w : Word) → WordInOrder P arrays reach owner w → ((g : Task) → Has gone g → NamesForeign arrays g w) → NamesOnly (IsKeptArray arrays gone) w
   kept_word reach owner (Row a) o away = (o.item, o.live, o.named, λ g i own. let n = away g i in n.3 (subst (λ (b : Array). Has (map (λ (f : Frame). f.identity) g.frames) b.owner) (sym (the_same g a o.item n.0 o.live o.named n.1 n.2)) own))
   kept_word reach owner (Element a index) o away = (o.item, o.live, o.named, λ g i own. let n = away g i in n.3 (subst (λ (b : Array). Has (map (λ (f : Frame). f.identity) g.frames) b.owner) (sym (the_same g a o.item n.0 o.live o.named n.1 n.2)) own))
   kept_word reach owner (Original a) o away = (o.item, o.live, o.named, λ g i own. let n = away g i in n.3 (subst (λ (b : Array). Has (map (λ (f : Frame). f.identity) g.frames) b.owner) (sym (the_same g a o.item n.0 o.live o.named n.1 n.2)) own))
@@ -52,16 +52,16 @@ module _ (P : Starts) (arrays : List Array) (gone : List Task) (bound : ℕ) (fa
   kept_word reach owner (Intrinsic number) o away = tt
   kept_word reach owner (Words.Segment number) o away = tt
 
-  kept_words : (reach : List Known) (owner : ℕ) (ws : List Word) → AllByRecursion (WordInOrder P arrays reach owner) ws → ((w : Word) → Has ws w → (g : Task) → Has gone g → NamesForeign arrays g w) → AllByRecursion (NamesOnly (Kept arrays gone)) ws
+  kept_words : (reach : List Known) (owner : ℕ) (ws : List Word) → AllByRecursion (WordInOrder P arrays reach owner) ws → ((w : Word) → Has ws w → (g : Task) → Has gone g → NamesForeign arrays g w) → AllByRecursion (NamesOnly (IsKeptArray arrays gone)) ws
   kept_words reach owner [] o away = tt
   kept_words reach owner (w ∷ ws) o away = (kept_word reach owner w o.0 (away w (inl refl)), kept_words reach owner ws o.1 (λ v i. away v (inr i)))
 
-  kept_frames : (outer : List Known) (fs : List Frame) → FramesInOrder P arrays outer fs → ((f : Frame) → Has fs f → (w : Word) → Has f.cells w → (g : Task) → Has gone g → NamesForeign arrays g w) → FramesName (Kept arrays gone) fs
+  kept_frames : (outer : List Known) (fs : List Frame) → FramesInOrder P arrays outer fs → ((f : Frame) → Has fs f → (w : Word) → Has f.cells w → (g : Task) → Has gone g → NamesForeign arrays g w) → FramesName (IsKeptArray arrays gone) fs
   kept_frames outer [] o away = tt
   kept_frames outer (f ∷ below) o away = (kept_words (map known_of (f ∷ below) ++ outer) f.identity f.cells o.0.0 (away f (inl refl)), kept_frames outer below o.2 (λ g i. away g (inr i)))
 
 module _ (x : Storage) (core : List Tagged) (r : Regs) (marks : List ℕ) (plan : Placement) (s : Session) (o : IsInOrderButCounts s) (h : SessionHolds x core r marks plan s)
-    (m : SessionJob) (in_m : Has s.jobs m) (some : 0 < plan.size) (rows : List Slotted) (running : ℕ) (job' : Job) (gone : List Task) (lv : Leaves plan m gone rows running job') where
+    (m : SessionJob) (in_m : Has s.jobs m) (some : 0 < plan.size) (rows : List Slotted) (running : ℕ) (job' : Job) (gone : List Task) (lv : EndingLeaves plan m gone rows running job') where
   abbrev j : ℕ
   j = m.constants.number
 
@@ -85,7 +85,7 @@ module _ (x : Storage) (core : List Tagged) (r : Regs) (marks : List ℕ) (plan 
     pub above : (u : Task) → Has m.progress.job.tasks u → Stays gone u.number → (n : ℕ) → Has u.parents n → Stays gone n
     above u in_u stays n i g in_g e = stays u (closed g in_g u in_u (subst (Has u.parents) (sym e) i)) refl
 
-    pub named : (u : Task) → Has m.progress.job.tasks u → Stays gone u.number → FramesName (Kept m.progress.job.arrays gone) u.frames
+    pub named : (u : Task) → Has m.progress.job.tasks u → Stays gone u.number → FramesName (IsKeptArray m.progress.job.arrays gone) u.frames
     named u in_u stays =
         let order = order_of x core r marks plan s o h m in_m in
         kept_frames (IsSegment m.constants) job.arrays gone job.next_array order.tasks.names (outer_of job u) u.frames (frames_in_order s o m u in_m in_u)
@@ -94,12 +94,12 @@ module _ (x : Storage) (core : List Tagged) (r : Regs) (marks : List ℕ) (plan 
     other_slots : (i : ℕ) → i ≢ j → (u : ℕ) → Unit {0} → slot_of plan_left i u ≡ slot_of plan i u
     other_slots i ne u ok = lv.slots i u (λ e. absurd (ne e))
 
-    kept_arrays : (a : ℕ) → Kept m.progress.job.arrays gone a → (array job' a ≡ array job a) × (plan_left.home j a ≡ plan.home j a)
+    kept_arrays : (a : ℕ) → IsKeptArray m.progress.job.arrays gone a → (array job' a ≡ array job a) × (plan_left.home j a ≡ plan.home j a)
     kept_arrays a k = (lv.arrays a k, refl)
 
     own_slot : (q u : ℕ) → q < 120 → (Lost plan m.constants.number gone q → ⊥) → Stays gone u → slot_with plan_left q m.constants.number job' (keyed (λ (t : Task). t.number) u job'.tasks) ≡ slot_with plan q m.constants.number m.progress.job (keyed (λ (t : Task). t.number) u m.progress.job.tasks)
     own_slot q u low away stays =
-        slot_with-twin plan plan_left m.constants.number m.progress.job job' (Stays gone) (Kept m.progress.job.arrays gone) (λ n k. lv.slots m.constants.number n (λ e. k)) lv.tasks kept_arrays q (lv.runs q low away) (keyed N u job'.tasks) (keyed N u job.tasks) (lv.tasks u stays)
+        slot_with-twin plan plan_left m.constants.number m.progress.job job' (Stays gone) (IsKeptArray m.progress.job.arrays gone) (λ n k. lv.slots m.constants.number n (λ e. k)) lv.tasks kept_arrays q (lv.runs q low away) (keyed N u job'.tasks) (keyed N u job.tasks) (lv.tasks u stays)
         (λ t e. let g = keyed_has N u job.tasks t e in let st = subst (Stays gone) (sym g.1) stays in (above t g.0 st, named t g.0 st))
 
     other_slot : (q i u : ℕ) → q < 120 → (Lost plan m.constants.number gone q → ⊥) → i ≢ m.constants.number → (z : Option SessionJob) → slot_in plan_left q i u z ≡ slot_in plan q i u z

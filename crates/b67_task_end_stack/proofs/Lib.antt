@@ -1,10 +1,10 @@
 pub mod Vacates
 pub mod Dies
 pub mod Owners
-pub mod Graves
+pub mod StillMayDie
 pub mod Slotwise
 pub mod Turns
 pub mod Fewer
 pub mod After
 pub mod Ends
-pub mod Buries
+pub mod TasksTakenOut

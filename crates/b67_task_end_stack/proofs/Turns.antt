@@ -14,7 +14,7 @@ use Rattle.b67_layout.specs.Common.{Placement, slot_of, slot_at, array_object, c
 use Rattle.b67_layout.proofs.Rows.{slot_below}
 use Rattle.b67_task_release.specs.Released.{HasHome, of_objects}
 use Rattle.b67_task_end_stack.specs.Vacated.{died, MayDie}
-use Rattle.b67_task_end_stack.specs.Graves.{MayAllDie, all_died}
+use Rattle.b67_task_end_stack.specs.DeathsInTurn.{MayAllDie, all_died}
 use Rattle.b67_task_end_stack.specs.Turns.{InTurn, lies_in, lies_out, deaths}
 use Rattle.b67_task_end_stack.proofs.Vacates.{slot_room}
 use Rattle.b67_task_end_stack.proofs.Slotwise.{In, In_one, one_each, of_slot, each_original}

@@ -7,12 +7,12 @@ use Rattle.b67_area.specs.Spans.{Span, Area, Hole}
 use Rattle.b67_area.proofs.Climbs.{area_at-low}
 use Rattle.b67_area.proofs.Separation.{Controls, IsDirectory-same}
 use Rattle.b67_ctl.specs.declared.registers.Regs.{Regs}
-use Rattle.b67_stack.specs.Common.{Fits, LieDownward, stack_words, words, Slot, Free, Running, Waiting, stack_of, MachineView, slot_base, SlotFits, Laid, with_slot, Storage, RepresentsSlot, RepresentsRegs, StacksLie, RepresentsObjects, Represents, info_of}
+use Rattle.b67_stack.specs.Common.{Fits, LieDownward, stack_words, words, Slot, Free, Running, Waiting, stack_of, MachineView, slot_base, SlotFits, IsLaidOut, with_slot, Storage, RepresentsSlot, RepresentsRegs, StacksLie, RepresentsObjects, Represents, info_of}
 use Rattle.b67_stack.proofs.Bases.{base-apart}
 use Rattle.b67_stack.proofs.Heights.{words-length}
 use Rattle.b67_stack.proofs.Lies.{Lie-same}
 use Rattle.b67_stack.proofs.Slots.{by_slot, Content-areas}
-use Rattle.b67_task_end_stack.specs.Vacated.{Vacated}
+use Rattle.b67_task_end_stack.specs.Vacated.{SlotVacated}
 
 pub slot_room : (p : MachineView) (k : ℕ) (s : Slot) → SlotFits p k s → 0 < p.size → stack_words (stack_of s) < p.size
 slot_room p k Free f some = some
@@ -41,11 +41,11 @@ other_out core new r p k j Free ne small runs e t = (λ z. omega (arith, z, smal
 other_out core new r p k j (Running stack) ne small runs e t = absurd (ne (sym t.slot ∙ runs))
 other_out core new r p k j (Waiting stack) ne small runs e t = (λ z. omega (arith, z, small), e ∙ t.1)
 
-module _ (x : Storage) (core new : List Tagged) (r r' : Regs) (p : MachineView) (k : ℕ) (c : Vacated core new r r' p k) (s : Represents x core r p) where
+module _ (x : Storage) (core new : List Tagged) (r r' : Regs) (p : MachineView) (k : ℕ) (c : SlotVacated core new r r' p k) (s : Represents x core r p) where
   abbrev p' : MachineView
   p' = with_slot p k Free
 
-  laid : Laid x.low p
+  laid : IsLaidOut x.low p
   laid = s.slots.laid
 
   low_end : slot_base p k + p.size ≤ x.low

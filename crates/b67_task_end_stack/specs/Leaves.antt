@@ -17,16 +17,16 @@ Stays gone u = (g : Task) → Has gone g → g.number ≢ u
 abbrev pub NotTheirs : List Task → Array → Type 0
 NotTheirs gone a = (g : Task) → Has gone g → Has (identities g.frames) a.owner → ⊥
 
-abbrev pub Kept : List Array → List Task → ℕ → Type 0
-Kept arrays gone a = (item : Array) × Has arrays item × (item.identity ≡ a) × NotTheirs gone item
+abbrev pub IsKeptArray : List Array → List Task → ℕ → Type 0
+IsKeptArray arrays gone a = (item : Array) × Has arrays item × (item.identity ≡ a) × NotTheirs gone item
 
-pub record Leaves (plan : Placement) (m : SessionJob) (gone : List Task) (rows : List Slotted) (running : ℕ) (job : Job) : Type 0 where
+pub record EndingLeaves (plan : Placement) (m : SessionJob) (gone : List Task) (rows : List Slotted) (running : ℕ) (job : Job) : Type 0 where
   pub row_gone : (q : ℕ) → Lost plan m.constants.number gone q → keyed (λ (r : Slotted). r.slot) q rows ≡ None
   pub row_other : (q : ℕ) → (Lost plan m.constants.number gone q → ⊥) → keyed (λ (r : Slotted). r.slot) q rows ≡ keyed (λ (r : Slotted). r.slot) q plan.rows
   pub slots : (i u : ℕ) → (i ≡ m.constants.number → Stays gone u) → slot_of (record plan { rows = rows; running = running }) i u ≡ slot_of plan i u
   pub runs : (q : ℕ) → q < SLOTS → (Lost plan m.constants.number gone q → ⊥) → (q == running) ≡ (q == plan.running)
   pub tasks : (u : ℕ) → Stays gone u → Like (keyed (λ (t : Task). t.number) u job.tasks) (keyed (λ (t : Task). t.number) u m.progress.job.tasks)
-  pub arrays : (a : ℕ) → Kept m.progress.job.arrays gone a → array job a ≡ array m.progress.job a
+  pub arrays : (a : ℕ) → IsKeptArray m.progress.job.arrays gone a → array job a ≡ array m.progress.job a
   pub array_in : (a : Array) → Has job.arrays a → Has m.progress.job.arrays a × NotTheirs gone a
   pub array_kept : (a : Array) → Has m.progress.job.arrays a → NotTheirs gone a → Has job.arrays a
 
@@ -43,7 +43,7 @@ pub record Cleared (core new : List Tagged) (plan : Placement) (m : SessionJob) 
   pub vector : (g : Task) → Has gone g → slice_get new (STACK_VECTOR + slot_of plan m.constants.number g.number) ≡ Some (word 0 0)
 
 -- the critical marks: nothing in the slots of the dead, those of the job's other tasks by who is left, all others as they were
-pub record Marked (marks new : List ℕ) (plan : Placement) (m : SessionJob) (gone : List Task) (job : Job) : Type 0 where
+pub record MarksAfter (marks new : List ℕ) (plan : Placement) (m : SessionJob) (gone : List Task) (job : Job) : Type 0 where
   pub dead : (g : Task) → Has gone g → slice_get new (slot_of plan m.constants.number g.number) ≡ Some 0
   pub own : (t : Task) → Has m.progress.job.tasks t → Stays gone t.number → slice_get new (slot_of plan m.constants.number t.number) ≡ Some (critical_mark job t.frames)
   pub others : (q : ℕ) → ((t : Task) → Has m.progress.job.tasks t → slot_of plan m.constants.number t.number ≢ q) → slice_get new q ≡ slice_get marks q

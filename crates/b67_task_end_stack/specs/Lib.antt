@@ -1,6 +1,6 @@
 pub mod Vacated
-pub mod Graves
+pub mod DeathsInTurn
 pub mod Turns
 pub mod Leaves
 pub mod Ends
-pub mod Bury
+pub mod TakenOut

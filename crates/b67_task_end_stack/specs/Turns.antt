@@ -4,7 +4,7 @@ use Rattle.b67_lemmas.specs.Lists.{Has}
 use Rattle.b67_model.specs.State.{Task}
 use Rattle.b67_stack.specs.MachineView.{PagedObject}
 use Rattle.b67_layout.specs.Placement.{Placement, slot_of}
-use Rattle.b67_task_end_stack.specs.Graves.{Death}
+use Rattle.b67_task_end_stack.specs.DeathsInTurn.{Death}
 
 -- nobody who is left names one of them as a parent
 unfoldable pub InTurn : List Task → List Task → List Task → Type 0

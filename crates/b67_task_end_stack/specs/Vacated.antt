@@ -22,7 +22,7 @@ vacated cpu k base = record cpu {
 }
 
 -- that is all that has changed
-pub record Vacated (core new : List Tagged) (r r' : Regs) (p : MachineView) (k : ℕ) : Type 0 where
+pub record SlotVacated (core new : List Tagged) (r r' : Regs) (p : MachineView) (k : ℕ) : Type 0 where
   pub used : k < p.peak
   pub few : p.peak ≤ SLOTS
   pub room : 0 < p.size

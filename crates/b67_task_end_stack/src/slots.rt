@@ -10,9 +10,9 @@ ghost use Rattle.b67_model.specs.State.{SessionJob};
 ghost use Rattle.b67_model.specs.Schedule.{Session};
 ghost use Rattle.b67_layout.specs.Placement.{Placement};
 ghost use Rattle.b67_layout.specs.Layout.{machine_view};
-ghost use Rattle.b67_task_end_stack.specs.Bury.{MayBury, IsBuried, GaveBack, slots_gone};
+ghost use Rattle.b67_task_end_stack.specs.TakenOut.{MayTakeOut, IsBuried, GaveBack, slots_gone};
 ghost use Rattle.b67_task_end_stack.specs.Vacated.{put_out, vacated, MayDie, died};
-ghost use Rattle.b67_task_end_stack.specs.Graves.{Death, MayAllDie, all_died, slots_of, HasGone, SameButSlot, SameButSlots, ZeroVector, all_put_out};
+ghost use Rattle.b67_task_end_stack.specs.DeathsInTurn.{Death, MayAllDie, all_died, slots_of, HasGone, SameButSlot, SameButSlots, ZeroVector, all_put_out};
 
 use b67_area::Areas;
 use b67_backing::Sectors;
@@ -77,16 +77,16 @@ pub fn empty_slots(cpu: &mut Cpu, areas: &mut Areas, sectors: &mut Sectors, slot
 
 /// Takes tasks of one job out of their slots, with their arrays, each after those under it. The areas and the chains of
 /// those arrays are given back, and all others stay.
-pub fn bury(cpu: &mut Cpu, areas: &mut Areas, sectors: &mut Sectors, slots: &[u8])
+pub fn take_out(cpu: &mut Cpu, areas: &mut Areas, sectors: &mut Sectors, slots: &[u8])
     requires { (x : Storage) × (told : Option (List (List ℕ))) × (plan : Placement) × (s : Session) × (m : SessionJob) × (numbers : List ℕ)
-        × MachineRepresentsView x cpu.old areas.old sectors.old told (machine_view plan s.jobs) × MayBury x cpu.old.core cpu.old.regs cpu.old.critical plan s m numbers
+        × MachineRepresentsView x cpu.old areas.old sectors.old told (machine_view plan s.jobs) × MayTakeOut x cpu.old.core cpu.old.regs cpu.old.critical plan s m numbers
         × (slots_gone plan m numbers ≡ slots.now) }
     ensures rest { cpu.new ≡ record cpu.old { core = cpu.new.core; regs = all_put_out cpu.old.regs slots.now } }
     ensures len { length cpu.new.core ≡ length cpu.old.core }
     ensures areas { areas.new ≡ areas.old }
     ensures count { length sectors.new.links ≡ length sectors.old.links }
     ensures stands { (x : Storage) (told : Option (List (List ℕ))) (plan : Placement) (s : Session) (m : SessionJob) (numbers : List ℕ)
-        → MachineRepresentsView x cpu.old areas.old sectors.old told (machine_view plan s.jobs) → MayBury x cpu.old.core cpu.old.regs cpu.old.critical plan s m numbers
+        → MachineRepresentsView x cpu.old areas.old sectors.old told (machine_view plan s.jobs) → MayTakeOut x cpu.old.core cpu.old.regs cpu.old.critical plan s m numbers
         → slots_gone plan m numbers ≡ slots.now
         → (y : Storage) × (p : MachineView) × MachineRepresentsView y cpu.new areas.new sectors.new told p × IsBuried y cpu.new.core cpu.new.regs plan s m numbers
         × GaveBack x y (machine_view plan s.jobs) cpu.old.core cpu.new.core slots.now }

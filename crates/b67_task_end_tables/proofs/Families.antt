@@ -16,9 +16,9 @@ use Rattle.b67_task_end.specs.declared.families.EndedTask.{EndedTask}
 use Rattle.b67_task_tables.specs.RowOf.{IsRowOf}
 use Rattle.b67_task_end.specs.Family.{TablesHold, pair_of, endings_of}
 use Rattle.b67_task_end.proofs.Under.{deepest}
-use Rattle.b67_task_end_tables.specs.Deaths.{numbers_of, without_tasks, job_without, StandsWith, MayEnd, EndsSome, HasEnded}
+use Rattle.b67_task_end_tables.specs.Deaths.{ending_numbers, without_tasks, job_after_endings, StandsWith, MayEnd, EndsSome, HasEnded}
 use Rattle.b67_task_end_tables.proofs.Family.{among_has, family, family_numbers, family_turn}
-use Rattle.b67_task_end_tables.specs.Families.{StandsFor, IsFamilyOf}
+use Rattle.b67_task_end_tables.specs.Families.{StandsForSession, IsFamilyOf}
 
 -- the same tables, but for the rows and the one that runs
 same_running : (old new : Tasks) (k : ℕ) → new ≡ record old { rows = new.rows; running = k } → new ≡ record old { rows = new.rows; running = new.running }
@@ -43,10 +43,10 @@ module _ (x : Storage) (told : Option (List (List ℕ))) (k : Machine) (plan : P
   abbrev todo : List Task
   todo = family (IsSegment m.constants) m.constants m.progress.job order t f.at.task
 
-  named : map (λ (u : Task). u.number) todo ≡ numbers_of endings
-  named = family_numbers (IsSegment m.constants) m.constants m.progress.job order t f.at.task ending ∙ sym (ap numbers_of f.listed)
+  named : map (λ (u : Task). u.number) todo ≡ ending_numbers endings
+  named = family_numbers (IsSegment m.constants) m.constants m.progress.job order t f.at.task ending ∙ sym (ap ending_numbers f.listed)
 
-  its_own : Has (numbers_of endings) t.number
+  its_own : Has (ending_numbers endings) t.number
   its_own = subst (λ (ns : List ℕ). Has ns t.number) named (has_map (λ (u : Task). u.number) todo t (has_append_right (deepest 15 (descendants m.progress.job t.number)) (t ∷ []) t (inl refl)))
 
   -- its registers are in use
@@ -57,21 +57,21 @@ module _ (x : Storage) (told : Option (List (List ℕ))) (k : Machine) (plan : P
     pub with_tables : StandsWith mid mid.tasks x told turned s
     with_tables = record { same = record { rows = refl; running = refl }; ordered = f.ordered; stands = stands }
 
-    pub may : MayEnd turned s m (numbers_of endings)
+    pub may : MayEnd turned s m (ending_numbers endings)
     may = record {
       member = f.at.member;
       todo = todo;
       named = named;
       turn = family_turn (IsSegment m.constants) m.constants m.progress.job order t f.at.task;
-      stopped = inr (t, has_filter_in (λ (u : Task). among (numbers_of endings) u.number) m.progress.job.tasks t f.at.task (among_has (numbers_of endings) t.number its_own), sym f.at.shows.slot);
+      stopped = inr (t, has_filter_in (λ (u : Task). among (ending_numbers endings) u.number) m.progress.job.tasks t f.at.task (among_has (ending_numbers endings) t.number its_own), sym f.at.shows.slot);
     }
 
-    pub ends_some : EndsSome mid job (numbers_of endings)
+    pub ends_some : EndsSome mid job (ending_numbers endings)
     ends_some = record { tables = mid.tasks; storage = x; told = told; plan = turned; session = s; job_of = m; stands = with_tables; may = may; number = f.number }
 
-    pub ended_stands : (new : Machine) → HasEnded mid.tasks told turned s m endings new → new.tasks ≡ record mid.tasks { rows = new.tasks.rows; running = 255 } → StandsFor told new (with_job s m (ends_task m.progress.job t.number ending).job)
+    pub ended_stands : (new : Machine) → HasEnded mid.tasks told turned s m endings new → new.tasks ≡ record mid.tasks { rows = new.tasks.rows; running = 255 } → StandsForSession told new (with_job s m (ends_task m.progress.job t.number ending).job)
     ended_stands new e tasks =
-        let after : Placement = without_tasks turned m.constants.number (numbers_of endings) in
-        let T : Tasks → Type 0 = λ z. MachineRepresents e.storage told (record new { tasks = z }) after (with_job s m (job_without m.progress.job endings)) in
-        let J : List (ℕ × Ending) → Type 0 = λ l. MachineRepresents e.storage told new after (with_job s m (job_without m.progress.job l)) in
+        let after : Placement = without_tasks turned m.constants.number (ending_numbers endings) in
+        let T : Tasks → Type 0 = λ z. MachineRepresents e.storage told (record new { tasks = z }) after (with_job s m (job_after_endings m.progress.job endings)) in
+        let J : List (ℕ × Ending) → Type 0 = λ l. MachineRepresents e.storage told new after (with_job s m (job_after_endings m.progress.job l)) in
         record { storage = e.storage; plan = after; stands = subst J f.listed (subst T (sym (same_running mid.tasks new.tasks 255 tasks)) e.stands) }

@@ -5,13 +5,13 @@ use Rattle.b67_model.specs.Endings.{among}
 use Rattle.b67_task_tables.specs.declared.tables.TaskRow.{TaskRow}
 use Rattle.b67_task_tables.specs.declared.tables.TaskState.{TaskState}
 use Rattle.b67_task_tables.specs.declared.tables.TaskState.TheVariants.{Ready, Awaits}
-use Rattle.b67_task_end_tables.specs.Left.{freed_state, freed, stays}
+use Rattle.b67_task_end_tables.specs.Left.{freed_state, freed, row_is_kept}
 use Rattle.b67_task_end_tables.proofs.Remains.{freed_own}
 
-pub stays_own : (j : ℕ) (numbers : List ℕ) (q : TaskRow) (b : Bool) → q.job ≡ j → b ≡ among numbers q.number → not b ≡ stays j numbers q
+pub stays_own : (j : ℕ) (numbers : List ℕ) (q : TaskRow) (b : Bool) → q.job ≡ j → b ≡ among numbers q.number → not b ≡ row_is_kept j numbers q
 stays_own j numbers q b e is = rw (eq-eqb q.job j e) (ap not is)
 
-pub stays_other : (j : ℕ) (numbers : List ℕ) (q : TaskRow) → q.job ≢ j → true ≡ stays j numbers q
+pub stays_other : (j : ℕ) (numbers : List ℕ) (q : TaskRow) → q.job ≢ j → true ≡ row_is_kept j numbers q
 stays_other j numbers q e = rw (ne_eqb q.job j e) refl
 
 pub freed_awaits : (j : ℕ) (numbers : List ℕ) (q : TaskRow) (n : ℕ) → q.job ≡ j → Awaits n ≡ q.state → among numbers n ≡ true → record q { state = Ready } ≡ freed j numbers q

@@ -23,18 +23,18 @@ use Rattle.b67_task_tables.specs.declared.tables.Tasks.{Tasks}
 use Rattle.b67_task_tables.specs.declared.tables.Machine.{Machine}
 use Rattle.b67_task_tables.specs.Tables as tables
 use Rattle.b67_task_tables.specs.Tables.{MachineRepresents, counts_of, job_row}
-use Rattle.b67_task_end_stack.specs.Bury.{MayBury, IsBuried, GaveBack, plan_without, session_without, slots_gone}
+use Rattle.b67_task_end_stack.specs.TakenOut.{MayTakeOut, IsBuried, GaveBack, plan_without, session_without, slots_gone}
 use Rattle.b67_task_end_stack.specs.Turns.{InTurn}
 use Rattle.b67_task_end.specs.declared.families.EndedTask.{EndedTask}
 use Rattle.b67_task_end.specs.Family.{pair_of}
-use Rattle.b67_task_end_tables.specs.Left.{numbers_in, is_of, slot_shown, rows_left}
+use Rattle.b67_task_end_tables.specs.Left.{ended_numbers, is_of, slot_shown, rows_left}
 use Rattle.b67_task_end_tables.specs.Marks.{ShowsMarks}
-use Rattle.b67_task_end_tables.specs.Deaths.{numbers_of, is_gone, without_tasks, IsStopped, StandsWith, MayEnd, HasEnded}
+use Rattle.b67_task_end_tables.specs.Deaths.{ending_numbers, is_gone, without_tasks, IsStopped, StandsWith, MayEnd, HasEnded}
 use Rattle.b67_task_end_tables.proofs.Family.{among_has, has_among}
 use Rattle.b67_task_end_tables.proofs.Remains.{member', member_of, rows_fit, tables_left}
 use Rattle.b67_task_end_tables.proofs.TopMarks.{marks_show}
 
-pub numbers_same : (list : List EndedTask) → numbers_of (map pair_of list) ≡ numbers_in list
+pub numbers_same : (list : List EndedTask) → ending_numbers (map pair_of list) ≡ ended_numbers list
 numbers_same [] = refl
 numbers_same (e ∷ list) = ap (λ (ns : List ℕ). e.number ∷ ns) (numbers_same list)
 
@@ -107,8 +107,8 @@ module _ (plan : Placement) (s : Session) (o : IsInOrderButCounts s) (m : Sessio
           (λ (w : (q.job == m.constants.number) ≡ false). absurd (let z : ⊥ = (let at : false ≡ true = rw w at e in cc) in z))
           (cases_Bool (q.job == m.constants.number))
 
-  slots_told : (list : List EndedTask) → ((n : ℕ) → Has (numbers_of (map pair_of list)) n → (t : Task) × Has m.progress.job.tasks t × (t.number ≡ n))
-      → map (λ (e : EndedTask). slot_shown m.constants.number e.number rs) list ≡ slots_gone plan m (numbers_of (map pair_of list))
+  slots_told : (list : List EndedTask) → ((n : ℕ) → Has (ending_numbers (map pair_of list)) n → (t : Task) × Has m.progress.job.tasks t × (t.number ≡ n))
+      → map (λ (e : EndedTask). slot_shown m.constants.number e.number rs) list ≡ slots_gone plan m (ending_numbers (map pair_of list))
   slots_told [] live = refl
   slots_told (e ∷ list) live =
       let (t, i, is) = live e.number (inl refl) in
@@ -122,14 +122,14 @@ numbered_left n j c [] g = g
 numbered_left n j c (y ∷ ys) g = elim (cases_Bool (number_of y == j)) [ inl t ↦ rw t g | inr t ↦ rw t (g.0, numbered_left (n + 1) j c ys g.1) ]
 
 module _ (k : Machine) (u : Tasks) (x : Storage) (told : Option (List (List ℕ))) (plan : Placement) (s : Session) (m : SessionJob) (list : List EndedTask)
-    (h : StandsWith k u x told plan s) (may : MayEnd plan s m (numbers_of (map pair_of list))) where
+    (h : StandsWith k u x told plan s) (may : MayEnd plan s m (ending_numbers (map pair_of list))) where
   abbrev numbers : List ℕ
-  numbers = numbers_of (map pair_of list)
+  numbers = ending_numbers (map pair_of list)
 
   pub view : MachineRepresentsView x k.cpu k.areas k.sectors told (machine_view plan s.jobs)
   view = record { stands = h.stands.session.holds.memory; low = h.stands.storage.low; shelf = h.stands.storage.shelf; device = says_of x.device told h.stands.storage.device }
 
-  pub may_bury : MayBury x k.cpu.core k.cpu.regs k.cpu.critical plan s m numbers
+  pub may_bury : MayTakeOut x k.cpu.core k.cpu.regs k.cpu.critical plan s m numbers
   may_bury = record {
     ordered = h.ordered;
     holds = h.stands.session.holds;
@@ -188,7 +188,7 @@ module _ (k : Machine) (u : Tasks) (x : Storage) (told : Option (List (List ℕ)
     pub has_ended : (cpu' : Cpu) (areas' : Areas) (sectors' : Table) (done : Tasks) (marks : List ℕ) (job : ℕ) (lent : List TaskRow) (y : Storage) (p : MachineView) (slots : List ℕ)
         → m.constants.number ≡ job → lent ≡ k.tasks.rows.items → areas' ≡ k.areas → length cpu'.core ≡ length k.cpu.core
         → MachineRepresentsView y cpu' areas' sectors' told p → IsBuried y cpu'.core cpu'.regs plan s m numbers → GaveBack x y (machine_view plan s.jobs) k.cpu.core cpu'.core slots
-        → done.rows.items ≡ rows_left job (numbers_in list) lent → done.running ≡ 255 → ShowsMarks marks done.rows.items
+        → done.rows.items ≡ rows_left job (ended_numbers list) lent → done.running ≡ 255 → ShowsMarks marks done.rows.items
         → HasEnded u told plan s m (map pair_of list) (record k { cpu = record cpu' { critical = marks }; areas = areas'; sectors = sectors'; tasks = done })
     has_ended cpu' areas' sectors' done marks job lent y p slots is same areas_are len v buried gave rows_are none tops =
         let rows_so : left_rows ≡ done.rows.items =

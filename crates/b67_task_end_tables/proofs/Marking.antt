@@ -6,7 +6,7 @@ use Rattle.std.proofs.lemmas.Bool.{cases_eq, eq-eqb, ne_eqb}
 use Rattle.std.proofs.lemmas.Option.{slice_get-get_or}
 use Rattle.b67_lemmas.proofs.Places.{drop-get}
 use Rattle.b67_task_tables.specs.declared.tables.TaskRow.{TaskRow}
-use Rattle.b67_task_end_tables.specs.Marks.{top_mark, ShowsMarks, Raised}
+use Rattle.b67_task_end_tables.specs.Marks.{top_critical, ShowsMarks, Raised}
 use Rattle.b67_task_end_tables.proofs.Kept.{drop_past}
 
 pub raised_none : (old : List ℕ) (r : TaskRow) → 120 ≤ r.parent → Raised old old r
@@ -20,7 +20,7 @@ raised_by old new r own others k n low e = elim (cases_eq r.parent k) [
 
 -- the marks so far, with those of the rows that are left, are those of all rows
 abbrev pub MarksSoFar : List ℕ → List TaskRow → List TaskRow → Type 0
-MarksSoFar marks rest rows = (k : ℕ) → k < 120 → (n : ℕ) × (slice_get marks k ≡ Some n) × (max n (top_mark k rest) ≡ top_mark k rows)
+MarksSoFar marks rest rows = (k : ℕ) → k < 120 → (n : ℕ) × (slice_get marks k ≡ Some n) × (max n (top_critical k rest) ≡ top_critical k rows)
 
 each_is : {A : Type 0} (x : A) (n k : ℕ) → k < n → slice_get (replicate n x) k ≡ Some x
 each_is x zero k low = absurd (omega (arith, low))
@@ -28,11 +28,11 @@ each_is x (suc n) zero low = refl
 each_is x (suc n) (suc k) low = each_is x n k (omega (arith, low))
 
 pub marks_first : (marks : List ℕ) (rows : List TaskRow) → marks ≡ replicate 120 0 → MarksSoFar marks rows rows
-marks_first marks rows e k low = (0, ap (λ (l : List ℕ). slice_get l k) e ∙ each_is 0 120 k low, (let g : max 0 (top_mark k rows) ≡ top_mark k rows = omega arith in g))
+marks_first marks rows e k low = (0, ap (λ (l : List ℕ). slice_get l k) e ∙ each_is 0 120 k low, (let g : max 0 (top_critical k rows) ≡ top_critical k rows = omega arith in g))
 
-step : (k n : ℕ) (r : TaskRow) (rest : List TaskRow) → (max (if r.parent == k then max n r.critical else n) (top_mark k rest)) ≡ max n (top_mark k (r ∷ rest))
+step : (k n : ℕ) (r : TaskRow) (rest : List TaskRow) → (max (if r.parent == k then max n r.critical else n) (top_critical k rest)) ≡ max n (top_critical k (r ∷ rest))
 step k n r rest = elim (cases_eq r.parent k) [
-  | inl q ↦ rw (eq-eqb r.parent k q) (let g : max (max n r.critical) (top_mark k rest) ≡ max n (max r.critical (top_mark k rest)) = omega arith in g)
+  | inl q ↦ rw (eq-eqb r.parent k q) (let g : max (max n r.critical) (top_critical k rest) ≡ max n (max r.critical (top_critical k rest)) = omega arith in g)
   | inr q ↦ rw (ne_eqb r.parent k q) refl
 ]
 
@@ -43,15 +43,15 @@ marks_more marks new rows at d low so raised k small =
     let next : at + 1 ≡ suc at = omega arith in (
       (if r.parent == k then max n r.critical else n),
       raised k n small here,
-      ap (λ (i : ℕ). max (if r.parent == k then max n r.critical else n) (top_mark k (drop i rows))) next
+      ap (λ (i : ℕ). max (if r.parent == k then max n r.critical else n) (top_critical k (drop i rows))) next
           ∙ step k n r (drop (suc at) rows)
-          ∙ ap (λ (l : List TaskRow). max n (top_mark k l)) (sym (drop-get rows at r (slice_get-get_or rows at d low)))
+          ∙ ap (λ (l : List TaskRow). max n (top_critical k l)) (sym (drop-get rows at r (slice_get-get_or rows at d low)))
           ∙ e,
     )
 
 pub marks_all : (marks : List ℕ) (rows : List TaskRow) (at : ℕ) → length rows ≤ at → MarksSoFar marks (drop at rows) rows → ShowsMarks marks rows
 marks_all marks rows at past so k small =
     let (n, here, e) = so k small in
-    let same : max n (top_mark k []) ≡ top_mark k rows = ap (λ (l : List TaskRow). max n (top_mark k l)) (sym (drop_past rows at past)) ∙ e in
-    let is : n ≡ top_mark k rows = omega (arith, same) in
+    let same : max n (top_critical k []) ≡ top_critical k rows = ap (λ (l : List TaskRow). max n (top_critical k l)) (sym (drop_past rows at past)) ∙ e in
+    let is : n ≡ top_critical k rows = omega (arith, same) in
     here ∙ ap Some is

@@ -23,14 +23,14 @@ use Rattle.b67_task_tables.specs.declared.tables.TaskState.{TaskState}
 use Rattle.b67_task_tables.specs.declared.tables.TaskState.TheVariants as states
 use Rattle.b67_task_tables.specs.Tables.{state_of, task_row}
 use Rattle.b67_task_start_stack.specs.Likes.{Like}
-use Rattle.b67_task_start_stack.proofs.Twins.{like_same, spots-twin}
+use Rattle.b67_task_start_stack.proofs.AlikePlans.{like_same, spots-twin}
 use Rattle.b67_task_start_stack.proofs.Births.{changed_member, kept_member, moved_member}
-use Rattle.b67_task_end_stack.specs.Bury.{plan_without, session_without}
+use Rattle.b67_task_end_stack.specs.TakenOut.{plan_without, session_without}
 use Rattle.b67_task_end_stack.specs.Ends.{gone_of, job_without, rows_without}
-use Rattle.b67_task_end_stack.specs.Leaves.{Lost, Stays, Leaves, Lists}
+use Rattle.b67_task_end_stack.specs.Leaves.{Lost, Stays, EndingLeaves, Lists}
 use Rattle.b67_task_end_stack.proofs.Ends.{leaves, lists}
 use Rattle.b67_task_end_stack.proofs.Slotwise.{found_member, one_each}
-use Rattle.b67_task_end_tables.specs.Left.{freed_state, freed, stays, rows_left}
+use Rattle.b67_task_end_tables.specs.Left.{freed_state, freed, row_is_kept, rows_left}
 use Rattle.b67_task_end_tables.proofs.Kept.{kept_differ, kept_length}
 
 frames_like : (o' o : Option Task) → Like o' o → frames_of_task o' ≡ frames_of_task o
@@ -40,13 +40,13 @@ frames_like None (Some t) l = absurd l
 frames_like (Some t') None l = absurd l
 
 -- a row that stays
-pub stays_then : (j : ℕ) (numbers : List ℕ) (q : TaskRow) → stays j numbers q ≡ true → q.job ≡ j → among numbers q.number ≡ false
+pub stays_then : (j : ℕ) (numbers : List ℕ) (q : TaskRow) → row_is_kept j numbers q ≡ true → q.job ≡ j → among numbers q.number ≡ false
 stays_then j numbers q t e = elim (cases_Bool (among numbers q.number)) [
   | inl a ↦ absurd (let w : false ≡ true = rw (eq-eqb q.job j e, a) at t in true≢false (sym w))
   | inr a ↦ a
 ]
 
-pub stays_if : (j : ℕ) (numbers : List ℕ) (q : TaskRow) → (q.job ≡ j → among numbers q.number ≡ false) → stays j numbers q ≡ true
+pub stays_if : (j : ℕ) (numbers : List ℕ) (q : TaskRow) → (q.job ≡ j → among numbers q.number ≡ false) → row_is_kept j numbers q ≡ true
 stays_if j numbers q f = elim (cases_eq q.job j) [ inl e ↦ rw (eq-eqb q.job j e) (ap not (f e)) | inr n ↦ rw (ne_eqb q.job j n) refl ]
 
 pub freed_own : (j : ℕ) (numbers : List ℕ) (q : TaskRow) → q.job ≡ j → freed j numbers q ≡ record q { state = freed_state numbers q.state }
@@ -100,7 +100,7 @@ module _ (x : Storage) (core : List Tagged) (r : Regs) (marks : List ℕ) (plan 
   abbrev left_task : Task → Task
   left_task t = record t { condition = released numbers t.condition }
 
-  lv : Leaves plan m gone (rows_without plan m.constants.number numbers) 255 job'
+  lv : EndingLeaves plan m gone (rows_without plan m.constants.number numbers) 255 job'
   lv = leaves x core r marks plan s o h m in_m numbers stopped
 
   ls : Lists plan m gone (rows_without plan m.constants.number numbers) job'
@@ -281,7 +281,7 @@ module _ (x : Storage) (core : List Tagged) (r : Regs) (marks : List ℕ) (plan 
     abbrev pub RowShows : rows.TaskRow → Type 0
     RowShows row = (z : SessionJob) × (t : Task) × Has after.jobs z × Has z.progress.job.tasks t × TaskShows after_plan z t row
 
-    row_shows : (q : TaskRow) → Has rs q → stays m.constants.number numbers q ≡ true → RowShows (task_row (freed m.constants.number numbers q))
+    row_shows : (q : TaskRow) → Has rs q → row_is_kept m.constants.number numbers q ≡ true → RowShows (task_row (freed m.constants.number numbers q))
     row_shows q i st =
         let (y, t, in_y, in_t, w) = shows.tasks (task_row q) (has_map task_row rs q i) in
         ⊎_elim
@@ -297,12 +297,12 @@ module _ (x : Storage) (core : List Tagged) (r : Regs) (marks : List ℕ) (plan 
     row_back : (row : rows.TaskRow) → Has (map task_row left) row → RowShows row
     row_back row i =
         let a = has_map_back task_row left row i in
-        let b = has_map_back (freed m.constants.number numbers) (filter (stays m.constants.number numbers) rs) a.item a.among in
-        let k = has_filter (stays m.constants.number numbers) rs b.item b.among in
+        let b = has_map_back (freed m.constants.number numbers) (filter (row_is_kept m.constants.number numbers) rs) a.item a.among in
+        let k = has_filter (row_is_kept m.constants.number numbers) rs b.item b.among in
         subst RowShows (ap task_row b.is ∙ a.is) (row_shows b.item k.0 k.1)
 
-    row_in : (q : TaskRow) → Has rs q → stays m.constants.number numbers q ≡ true → Has (map task_row left) (task_row (freed m.constants.number numbers q))
-    row_in q i st = has_map task_row left (freed m.constants.number numbers q) (has_map (freed m.constants.number numbers) (filter (stays m.constants.number numbers) rs) q (has_filter_in (stays m.constants.number numbers) rs q i st))
+    row_in : (q : TaskRow) → Has rs q → row_is_kept m.constants.number numbers q ≡ true → Has (map task_row left) (task_row (freed m.constants.number numbers q))
+    row_in q i st = has_map task_row left (freed m.constants.number numbers q) (has_map (freed m.constants.number numbers) (filter (row_is_kept m.constants.number numbers) rs) q (has_filter_in (row_is_kept m.constants.number numbers) rs q i st))
 
     abbrev Shown : SessionJob → Task → Type 0
     Shown z t = (row : rows.TaskRow) × Has (map task_row left) row × TaskShows after_plan z t row
@@ -325,14 +325,14 @@ module _ (x : Storage) (core : List Tagged) (r : Regs) (marks : List ℕ) (plan 
         (member_of z in_z)
 
     pub few_left : length left ≤ 120
-    few_left = omega (arith, few, kept_length (freed m.constants.number numbers) (stays m.constants.number numbers) rs)
+    few_left = omega (arith, few, kept_length (freed m.constants.number numbers) (row_is_kept m.constants.number numbers) rs)
 
     pub tables_left : TablesShow after_plan after (map task_row left) job_rows (record c { running = 255 })
     tables_left = record {
       tasks = row_back;
       each = each_left;
       once = subst Differ (sym (map-map (λ (q : rows.TaskRow). q.slot) task_row left))
-          (kept_differ (freed m.constants.number numbers) (stays m.constants.number numbers) (λ (q : TaskRow). q.slot) (freed_slot m.constants.number numbers) rs
+          (kept_differ (freed m.constants.number numbers) (row_is_kept m.constants.number numbers) (λ (q : TaskRow). q.slot) (freed_slot m.constants.number numbers) rs
           (subst Differ (map-map (λ (q : rows.TaskRow). q.slot) task_row rs) shows.once));
       jobs = jobs_left s.jobs job_rows found_m shows.jobs;
       counts = record {

@@ -15,27 +15,27 @@ use Rattle.b67_layout.proofs.Rows.{task_row, slot_below}
 use Rattle.b67_task_end_stack.proofs.Owners.{counted, total_two}
 use Rattle.b67_task_tables.specs.declared.tables.TaskRow.{TaskRow}
 use Rattle.b67_task_tables.specs.Tables as tables
-use Rattle.b67_task_end_tables.specs.Marks.{top_mark, ShowsMarks}
+use Rattle.b67_task_end_tables.specs.Marks.{top_critical, ShowsMarks}
 
-pub top_high : (k : ℕ) (rs : List TaskRow) (q : TaskRow) → Has rs q → q.parent ≡ k → q.critical ≤ top_mark k rs
+pub top_high : (k : ℕ) (rs : List TaskRow) (q : TaskRow) → Has rs q → q.parent ≡ k → q.critical ≤ top_critical k rs
 top_high k [] q i e = absurd i
 top_high k (r ∷ rs) q (inl same) e =
     let here : r.parent ≡ k = ap (λ (z : TaskRow). z.parent) same ∙ e in
     let at : r.critical ≡ q.critical = ap (λ (z : TaskRow). z.critical) same in
-    rw (eq-eqb r.parent k here) (let g : q.critical ≤ max r.critical (top_mark k rs) = omega (arith, at) in g)
+    rw (eq-eqb r.parent k here) (let g : q.critical ≤ max r.critical (top_critical k rs) = omega (arith, at) in g)
 top_high k (r ∷ rs) q (inr i) e =
     let rest = top_high k rs q i e in
     elim (cases_Bool (r.parent == k)) [
-      | inl t ↦ rw t (let g : q.critical ≤ max r.critical (top_mark k rs) = omega (arith, rest) in g)
+      | inl t ↦ rw t (let g : q.critical ≤ max r.critical (top_critical k rs) = omega (arith, rest) in g)
       | inr t ↦ rw t rest
     ]
 
-pub top_low : (k n : ℕ) (rs : List TaskRow) → ((q : TaskRow) → Has rs q → q.parent ≡ k → q.critical ≤ n) → top_mark k rs ≤ n
+pub top_low : (k n : ℕ) (rs : List TaskRow) → ((q : TaskRow) → Has rs q → q.parent ≡ k → q.critical ≤ n) → top_critical k rs ≤ n
 top_low k n [] low = omega arith
 top_low k n (r ∷ rs) low =
     let rest = top_low k n rs (λ q i. low q (inr i)) in
     elim (cases_Bool (r.parent == k)) [
-      | inl t ↦ (let here = low r (inl refl) (eqb-true r.parent k t) in rw t (let g : max r.critical (top_mark k rs) ≤ n = omega (arith, rest, here) in g))
+      | inl t ↦ (let here = low r (inl refl) (eqb-true r.parent k t) in rw t (let g : max r.critical (top_critical k rs) ≤ n = omega (arith, rest, here) in g))
       | inr t ↦ rw t rest
     ]
 
@@ -148,7 +148,7 @@ module _ (plan : Placement) (s : Session) (numbered : NumberedFrom 1 s.jobs) (fi
       omega (arith, w.critical, p.disp, high, to)
 
   at_least : (m : SessionJob) (t : Task) → Has s.jobs m → Has m.progress.job.tasks t → MarkAt m.progress.job (slot_of plan m.constants.number t.number) (base_spot m.constants.number) t.frames
-      → critical_mark m.progress.job t.frames ≤ top_mark (slot_of plan m.constants.number t.number) rs
+      → critical_mark m.progress.job t.frames ≤ top_critical (slot_of plan m.constants.number t.number) rs
   at_least m t in_m in_t w =
       let (u, in_u, at) = any_has (λ (v : Task). v.critical == w.frame) m.progress.job.tasks w.critical in
       let is : u.critical ≡ w.frame = eqb-true u.critical w.frame at in
@@ -169,22 +169,22 @@ module _ (plan : Placement) (s : Session) (numbered : NumberedFrom 1 s.jobs) (fi
       omega (arith, top, critical)))
       (under_of m u in_m in_u u.parents refl)
 
-  top_is : (m : SessionJob) (t : Task) → Has s.jobs m → Has m.progress.job.tasks t → top_mark (slot_of plan m.constants.number t.number) rs ≡ critical_mark m.progress.job t.frames
+  top_is : (m : SessionJob) (t : Task) → Has s.jobs m → Has m.progress.job.tasks t → top_critical (slot_of plan m.constants.number t.number) rs ≡ critical_mark m.progress.job t.frames
   top_is m t in_m in_t =
       let k = slot_of plan m.constants.number t.number in
       let j = m.constants.number in
       let low : k < 120 = omega (arith, slot_below plan s.jobs m t fits in_m in_t, few) in
-      let down : top_mark k rs ≤ critical_mark m.progress.job t.frames = top_low k (critical_mark m.progress.job t.frames) rs (λ q i e.
+      let down : top_critical k rs ≤ critical_mark m.progress.job t.frames = top_low k (critical_mark m.progress.job t.frames) rs (λ q i e.
       (let (y, u, in_y, in_u, w, p) = under_row k low q i e in
       let one = one_slot y m p.parent t in_y in_m p.live in_t (sym p.slot ∙ sym w.parent ∙ e) in
       at_most m t in_m in_t y u in_y in_u q w p one.0 one.1)) in
-      let up : critical_mark m.progress.job t.frames ≤ top_mark k rs = ⊎_elim
+      let up : critical_mark m.progress.job t.frames ≤ top_critical k rs = ⊎_elim
       (λ (z : critical_mark m.progress.job t.frames ≡ 0). omega (arith, z))
       (λ (w : MarkAt m.progress.job k (base_spot j) t.frames). at_least m t in_m in_t w)
       (mark_from m.progress.job k (base_spot j) t.frames) in
       omega (arith, down, up)
 
-  top_free : (k : ℕ) → k < 120 → ((r : Slotted) → Has plan.rows r → r.slot ≢ k) → top_mark k rs ≡ 0
+  top_free : (k : ℕ) → k < 120 → ((r : Slotted) → Has plan.rows r → r.slot ≢ k) → top_critical k rs ≡ 0
   top_free k low none =
       let zero = top_low k 0 rs (λ q i e.
       (let (y, u, in_y, in_u, w, p) = under_row k low q i e in

@@ -14,8 +14,8 @@ use Rattle.b67_task_end_stack.specs.Leaves.{Lost}
 use Rattle.b67_task_end_stack.specs.Turns.{InTurn}
 
 -- the numbers of tasks that end so, in order
-abbrev pub numbers_of : List (ℕ × Ending) → List ℕ
-numbers_of endings = map (λ (e : ℕ × Ending). e.0) endings
+abbrev pub ending_numbers : List (ℕ × Ending) → List ℕ
+ending_numbers endings = map (λ (e : ℕ × Ending). e.0) endings
 
 -- the row of the plan is that of one of these tasks of a job
 abbrev pub is_gone : ℕ → List ℕ → Slotted → Bool
@@ -29,8 +29,8 @@ without_tasks plan j numbers = record plan {
 }
 
 -- the job once these tasks have ended
-abbrev pub job_without : Job → List (ℕ × Ending) → Job
-job_without job endings = (ends_all (unsettled job) endings).job
+abbrev pub job_after_endings : Job → List (ℕ × Ending) → Job
+job_after_endings job endings = (ends_all (unsettled job) endings).job
 
 -- no registers are in use but those of one of these tasks
 abbrev pub IsStopped : Placement → SessionJob → List ℕ → Type 0
@@ -71,4 +71,4 @@ pub record EndsSome (machine : Machine) (job : ℕ) (numbers : List ℕ) : Type 
 pub record HasEnded (u : Tasks) (told : Option (List (List ℕ))) (plan : Placement) (s : Session) (m : SessionJob) (endings : List (ℕ × Ending)) (new : Machine) : Type 0 where
   pub storage : Storage
   pub stands : MachineRepresents storage told (record new { tasks = record u { rows = new.tasks.rows; running = new.tasks.running } })
-      (without_tasks plan m.constants.number (numbers_of endings)) (with_job s m (job_without m.progress.job endings))
+      (without_tasks plan m.constants.number (ending_numbers endings)) (with_job s m (job_after_endings m.progress.job endings))

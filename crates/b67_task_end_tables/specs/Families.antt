@@ -11,7 +11,7 @@ use Rattle.b67_task_tables.specs.RowOf.{IsRowOf}
 use Rattle.b67_task_end.specs.Family.{endings_of}
 
 -- the machine represents the session, in some storage and placement
-pub record StandsFor (told : Option (List (List ℕ))) (k : Machine) (s : Session) : Type 0 where
+pub record StandsForSession (told : Option (List (List ℕ))) (k : Machine) (s : Session) : Type 0 where
   pub storage : Storage
   pub plan : Placement
   pub stands : MachineRepresents storage told k plan s

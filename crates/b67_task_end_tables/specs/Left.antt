@@ -6,8 +6,8 @@ use Rattle.b67_task_tables.specs.declared.tables.TaskState.TheVariants.{Ready, A
 use Rattle.b67_task_tables.specs.declared.tables.TaskRow.{TaskRow}
 use Rattle.b67_task_end.specs.declared.families.EndedTask.{EndedTask}
 
-abbrev pub numbers_in : List EndedTask → List ℕ
-numbers_in list = map (λ (e : EndedTask). e.number) list
+abbrev pub ended_numbers : List EndedTask → List ℕ
+ended_numbers list = map (λ (e : EndedTask). e.number) list
 
 -- awaits one of these no more
 abbrev pub freed_state : List ℕ → TaskState → TaskState
@@ -18,11 +18,11 @@ freed_state numbers (WaitsAt mark offset) = WaitsAt mark offset
 abbrev pub freed : ℕ → List ℕ → TaskRow → TaskRow
 freed j numbers r = if r.job == j then record r { state = freed_state numbers r.state } else r
 
-abbrev pub stays : ℕ → List ℕ → TaskRow → Bool
-stays j numbers r = not ((r.job == j) && among numbers r.number)
+abbrev pub row_is_kept : ℕ → List ℕ → TaskRow → Bool
+row_is_kept j numbers r = not ((r.job == j) && among numbers r.number)
 
 abbrev pub rows_left : ℕ → List ℕ → List TaskRow → List TaskRow
-rows_left j numbers rows = map (freed j numbers) (filter (stays j numbers) rows)
+rows_left j numbers rows = map (freed j numbers) (filter (row_is_kept j numbers) rows)
 
 abbrev pub is_of : ℕ → ℕ → TaskRow → Bool
 is_of j number r = (r.job == j) && (r.number == number)

@@ -3,13 +3,13 @@ use Rattle.std.specs.Prelude.{◌≡◌, ℕ, ◌<◌, ◌==◌, max, List, [], 
 use Rattle.b67_task_tables.specs.declared.tables.TaskRow.{TaskRow}
 
 -- the topmost mark in a slot on which a task of these rows depends, 0 for none
-abbrev pub top_mark : ℕ → List TaskRow → ℕ
-top_mark k [] = 0
-top_mark k (r ∷ rows) = if r.parent == k then max r.critical (top_mark k rows) else top_mark k rows
+abbrev pub top_critical : ℕ → List TaskRow → ℕ
+top_critical k [] = 0
+top_critical k (r ∷ rows) = if r.parent == k then max r.critical (top_critical k rows) else top_critical k rows
 
 -- that of each slot
 abbrev pub ShowsMarks : List ℕ → List TaskRow → Type 0
-ShowsMarks marks rows = (k : ℕ) → k < 120 → slice_get marks k ≡ Some (top_mark k rows)
+ShowsMarks marks rows = (k : ℕ) → k < 120 → slice_get marks k ≡ Some (top_critical k rows)
 
 -- the row's task depends on its mark
 abbrev pub Raised : List ℕ → List ℕ → TaskRow → Type 0

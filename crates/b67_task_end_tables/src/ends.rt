@@ -10,13 +10,13 @@ ghost use Rattle.b67_layout.specs.Meets.{with_job};
 ghost use Rattle.b67_layout.specs.Placement.{Placement};
 ghost use Rattle.b67_task_tables.specs.declared.tables.Tasks.{Tasks};
 ghost use Rattle.b67_task_end.specs.Family.{pair_of};
-ghost use Rattle.b67_task_end_tables.specs.Deaths.{numbers_of, StandsWith, MayEnd, EndsSome, HasEnded};
-ghost use Rattle.b67_task_end_tables.specs.Families.{StandsFor, IsFamilyOf, EndsFamily};
+ghost use Rattle.b67_task_end_tables.specs.Deaths.{ending_numbers, StandsWith, MayEnd, EndsSome, HasEnded};
+ghost use Rattle.b67_task_end_tables.specs.Families.{StandsForSession, IsFamilyOf, EndsFamily};
 
 use crate::marks::marks_of;
 use crate::rows::{rows_left, slots_of};
 use b67_task_end::EndedTask;
-use b67_task_end_stack::bury;
+use b67_task_end_stack::take_out;
 use b67_task_switch::switch_to;
 use b67_task_tables::Machine;
 
@@ -24,17 +24,17 @@ use b67_task_tables::Machine;
 /// and the areas and sectors of their arrays are given back; who awaited one is ready. The registers of no other task may be
 /// in use, and none are then. The tables' counts needn't be those of the session.
 fn end(machine: &mut Machine, job: u8, list: &[EndedTask])
-    requires some { EndsSome machine.old job (numbers_of (map pair_of list.now)) }
+    requires some { EndsSome machine.old job (ending_numbers (map pair_of list.now)) }
     requires few { length list.now ≤ 15 }
     ensures stands { (u : Tasks) (x : Storage) (told : Option (List (List ℕ))) (plan : Placement) (s : Session) (m : SessionJob) → StandsWith machine.old u x told plan s
-        → MayEnd plan s m (numbers_of (map pair_of list.now)) → m.constants.number ≡ job → HasEnded u told plan s m (map pair_of list.now) machine.new }
+        → MayEnd plan s m (ending_numbers (map pair_of list.now)) → m.constants.number ≡ job → HasEnded u told plan s m (map pair_of list.now) machine.new }
     ensures tasks { machine.new.tasks ≡ record machine.old.tasks { rows = machine.new.tasks.rows; running = 255 } }
     ensures areas { machine.new.areas ≡ machine.old.areas }
     ensures len { length machine.new.cpu.core ≡ length machine.old.cpu.core }
     ensures count { length machine.new.sectors.links ≡ length machine.old.sectors.links }
 {
     let slots = slots_of(machine.tasks.rows.as_slice(), job, list);
-    bury(
+    take_out(
         &mut machine.cpu,
         &mut machine.areas,
         &mut machine.sectors,
@@ -52,7 +52,7 @@ pub fn end_family(machine: &mut Machine, row: u8, job: u8, list: &[EndedTask])
     requires some { EndsFamily machine.old row job (map pair_of list.now) }
     requires few { length list.now ≤ 15 }
     ensures stands { (x : Storage) (told : Option (List (List ℕ))) (plan : Placement) (s : Session) (m : SessionJob) (t : Task) (ending : Ending)
-        → IsFamilyOf x told machine.old plan s m t row job ending (map pair_of list.now) → StandsFor told machine.new (with_job s m (ends_task m.progress.job t.number ending).job) }
+        → IsFamilyOf x told machine.old plan s m t row job ending (map pair_of list.now) → StandsForSession told machine.new (with_job s m (ends_task m.progress.job t.number ending).job) }
     ensures tasks { machine.new.tasks ≡ record machine.old.tasks { rows = machine.new.tasks.rows; running = machine.new.tasks.running } }
     ensures len { length machine.new.cpu.core ≡ length machine.old.cpu.core }
     ensures count { length machine.new.sectors.links ≡ length machine.old.sectors.links }

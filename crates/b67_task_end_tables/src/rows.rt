@@ -3,7 +3,7 @@
 ghost use Rattle.std.specs.Prelude.{◌≡◌, ◌<◌, ◌≤◌, [], ◌∷◌, ◌++◌, length, map};
 ghost use Rattle.b67_task_end.specs.declared.families.EndedTask.{EndedTask};
 ghost use Rattle.b67_task_end_tables.specs.Left as left;
-ghost use Rattle.b67_task_end_tables.specs.Left.{numbers_in, slot_shown};
+ghost use Rattle.b67_task_end_tables.specs.Left.{ended_numbers, slot_shown};
 
 use arrayvec::ArrayVec;
 use b67_task_end::{EndedTask, is_among};
@@ -11,7 +11,7 @@ use b67_task_tables::{TaskRow, TaskState};
 
 /// Whether a row isn't that of one of a job's tasks that ended.
 fn stays(row: TaskRow, job: u8, list: &[EndedTask]) -> bool
-    ensures { result ≡ left.stays job (numbers_in list.now) row }
+    ensures { result ≡ left.row_is_kept job (ended_numbers list.now) row }
 {
     if row.job == job {
         return !is_among(list, row.number);
@@ -21,7 +21,7 @@ fn stays(row: TaskRow, job: u8, list: &[EndedTask]) -> bool
 
 /// The row once these tasks of a job have ended: who awaited one of them is ready.
 fn freed(row: TaskRow, job: u8, list: &[EndedTask]) -> TaskRow
-    ensures { result ≡ left.freed job (numbers_in list.now) row }
+    ensures { result ≡ left.freed job (ended_numbers list.now) row }
 {
     if row.job != job {
         return row;
@@ -43,7 +43,7 @@ fn freed(row: TaskRow, job: u8, list: &[EndedTask]) -> TaskRow
 /// Keeps a row, as it is then, if it stays.
 fn keep(rows: &mut ArrayVec<TaskRow, 120>, row: TaskRow, job: u8, list: &[EndedTask])
     requires { length rows.old.items < 120 }
-    ensures { rows.new.items ≡ rows.old.items ++ left.rows_left job (numbers_in list.now) (row ∷ []) }
+    ensures { rows.new.items ≡ rows.old.items ++ left.rows_left job (ended_numbers list.now) (row ∷ []) }
 {
     if !stays(row, job, list) {
         return;
@@ -54,7 +54,7 @@ fn keep(rows: &mut ArrayVec<TaskRow, 120>, row: TaskRow, job: u8, list: &[EndedT
 /// The rows once these tasks of a job have ended.
 pub fn rows_left(rows: &[TaskRow], job: u8, list: &[EndedTask]) -> ArrayVec<TaskRow, 120>
     requires { length rows.now ≤ 120 }
-    ensures { result.items ≡ left.rows_left job (numbers_in list.now) rows.now }
+    ensures { result.items ≡ left.rows_left job (ended_numbers list.now) rows.now }
 {
     let mut kept = ArrayVec::new();
     for at in 0..rows.len() as u8 {

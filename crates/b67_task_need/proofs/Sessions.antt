@@ -22,7 +22,7 @@ use Rattle.b67_stack.proofs.Homes.{chain_small}
 use Rattle.b67_layout.proofs.Common.{task_row, slot_below, job_in_order, follow-up, stack_in_slot, entry_number, slots_of, jobs_differ}
 use Rattle.b67_exec_cells.proofs.Replaced.{array_object-has, member_objects, before}
 use Rattle.b67_exec_cells.proofs.Codes.{code_object}
-use Rattle.b67_task_need.specs.Sums.{sectors_at, sectors_from, sectors_of_slot, sectors_of_slots}
+use Rattle.b67_task_need.specs.Sums.{sectors_at, core_sectors_from, sectors_of_slot, sectors_of_slots}
 use Rattle.b67_task_need.proofs.Totals.{upto, slots_total, range_split, range_first, kept, kept_once, kept_original}
 use Rattle.b67_task_need.proofs.Words.{home_array, home_code, of_shape, lies_total, headed_total}
 use Rattle.b67_law_order.proofs.Numbered.{keyed_member}
@@ -64,7 +64,7 @@ frame_owns P arrays outer (f ∷ below) g w o (inl z) i a e =
 frame_owns P arrays outer (f ∷ below) g w o (inr h) i a e = frame_owns P arrays outer below g w o.2 h i a e
 
 -- words that begin with those of segments
-segments_kept : (core : List Tagged) (from : ℕ) (ss : List Segment) → ((i : ℕ) (g : Segment) → slice_get ss i ≡ Some g → sectors_at true (slice_get core (from + i)) ≡ sectors_for (length g.code)) → sectors_from true core from (length ss) ≡ of_segments ss
+segments_kept : (core : List Tagged) (from : ℕ) (ss : List Segment) → ((i : ℕ) (g : Segment) → slice_get ss i ≡ Some g → sectors_at true (slice_get core (from + i)) ≡ sectors_for (length g.code)) → core_sectors_from true core from (length ss) ≡ of_segments ss
 segments_kept core from [] f = refl
 segments_kept core from (g ∷ more) f =
     let first : from + 0 ≡ from = omega arith in
@@ -77,7 +77,7 @@ segments_kept core from (g ∷ more) f =
     )
 
 rows_kept : (core : List Tagged) (arrays : List Array) (from n : ℕ) (ws : List Word) → rows_after n ws → ((a at : ℕ) → Has ws (Original a) → n ≤ a → at + n ≡ from + a → sectors_at true (slice_get core at) ≡ kept arrays (Original a))
-    → sectors_from true core from (length ws) ≡ total (kept arrays) ws
+    → core_sectors_from true core from (length ws) ≡ total (kept arrays) ws
 rows_kept core arrays from n [] r f = refl
 rows_kept core arrays from n (w ∷ more) r f = omega (
   arith,
@@ -183,8 +183,8 @@ module _ (x : Storage) (cpu : Cpu) (plan : Placement) (s : Session) (o : IsInOrd
       let is : stack_of (slot_at plan s.jobs k) ≡ stack_of_task plan j job k t = stack_in_slot plan s.jobs m t fit inm int (keyed_member 1 s.jobs m o.numbered inm) (keyed_falls (λ (u : Task). u.number) job.next_task job.tasks t w.tasks.numbers int) in
       let one : slot_base p k + 1 ≡ suc (slot_base p k) = omega arith in
       let lies = h.holds.memory.stacks k (slot_below plan s.jobs m t fit inm int) in
-      ap (λ (at : ℕ). sectors_from false cpu.core at (stack_words (stack_of (p.slots k)))) one
-      ∙ ap (sectors_from false cpu.core (suc (slot_base p k))) (sym (words-length k (stack_of (p.slots k))))
+      ap (λ (at : ℕ). core_sectors_from false cpu.core at (stack_words (stack_of (p.slots k)))) one
+      ∙ ap (core_sectors_from false cpu.core (suc (slot_base p k))) (sym (words-length k (stack_of (p.slots k))))
       ∙ lies_total x.held cpu.core (suc (slot_base p k)) (words k (stack_of (p.slots k))) lies
       ∙ ap (λ (st : List Activation). total (of_shape cpu.core) (words k st)) is
       ∙ frames_kept m inm k (outer_spots plan j job t.critical t.parents) t.frames (λ f v there iv a e. frame_owns (IsSegment m.constants) job.arrays (outer_of job t) t.frames f v order.frames there iv a e)
@@ -204,7 +204,7 @@ module _ (x : Storage) (cpu : Cpu) (plan : Placement) (s : Session) (o : IsInOrd
   some_slot : (k : ℕ) → slot_words k ≢ 0 → Has (flat_map (slots_of plan) s.jobs) k
   some_slot k some = by_row (keyed (λ (r : Slotted). r.slot) k plan.rows) refl where
     by_row : (row : Option Slotted) → keyed (λ (r : Slotted). r.slot) k plan.rows ≡ row → Has (flat_map (slots_of plan) s.jobs) k
-    by_row None e = absurd (some (ap (λ (row : Option Slotted). sectors_from false cpu.core (slot_base (machine_view plan s.jobs) k + 1) (stack_words (stack_of (slot_by plan s.jobs k row)))) e))
+    by_row None e = absurd (some (ap (λ (row : Option Slotted). core_sectors_from false cpu.core (slot_base (machine_view plan s.jobs) k + 1) (stack_words (stack_of (slot_by plan s.jobs k row)))) e))
     by_row (Some r) e = taken k r e
 
   slots_upto : (n : ℕ) → sectors_of_slots cpu.core (machine_view plan s.jobs) n ≡ upto slot_words n
@@ -244,7 +244,7 @@ module _ (x : Storage) (cpu : Cpu) (plan : Placement) (s : Session) (o : IsInOrd
   abbrev of_dictionary : SessionJob → ℕ
   of_dictionary m = of_segments m.constants.segments + total (kept m.progress.job.arrays) m.constants.dictionary.cells
 
-  entries_kept : (m : SessionJob) → Has s.jobs m → sectors_from true cpu.core (plan.dictionary m.constants.number + 2) (length m.constants.dictionary.cells) ≡ of_dictionary m
+  entries_kept : (m : SessionJob) → Has s.jobs m → core_sectors_from true cpu.core (plan.dictionary m.constants.number + 2) (length m.constants.dictionary.cells) ≡ of_dictionary m
   entries_kept m inm =
       let w = job_in_order s m o inm in
       let arrays = m.progress.job.arrays in
@@ -264,7 +264,7 @@ module _ (x : Storage) (cpu : Cpu) (plan : Placement) (s : Session) (o : IsInOrd
       omega (arith, range_split true cpu.core from (length segments) (length cells) (length d.rows) count, segments_kept cpu.core from segments (code_at m inm), rows, d.same, total_reverse (kept arrays) cells)
 
   -- a dictionary with the two words before its entries
-  dictionary_kept : (m : SessionJob) → Has s.jobs m → sectors_from true cpu.core (plan.dictionary m.constants.number) (2 + length m.constants.dictionary.cells) ≡ of_dictionary m
+  dictionary_kept : (m : SessionJob) → Has s.jobs m → core_sectors_from true cpu.core (plan.dictionary m.constants.number) (2 + length m.constants.dictionary.cells) ≡ of_dictionary m
   dictionary_kept m inm =
       let at = plan.dictionary m.constants.number in
       let n = length m.constants.dictionary.cells in
@@ -274,20 +274,20 @@ module _ (x : Storage) (cpu : Cpu) (plan : Placement) (s : Session) (o : IsInOrd
       let mark : sectors_at true (slice_get cpu.core at) ≡ 0 = ap (sectors_at true) d.mark in
       let entries : sectors_at true (slice_get cpu.core (at + 1)) ≡ 0 = ap (sectors_at true) d.entries in
       let here : at + 1 + 1 ≡ at + 2 = omega arith in
-      omega (arith, one, two, mark, entries, ap (λ (i : ℕ). sectors_from true cpu.core i n) here, entries_kept m inm)
+      omega (arith, one, two, mark, entries, ap (λ (i : ℕ). core_sectors_from true cpu.core i n) here, entries_kept m inm)
 
-  dictionaries_kept : (at n : ℕ) (ms : List SessionJob) → DictionariesFollow plan at ms → at + n ≡ plan.stacks → ((m : SessionJob) → Has ms m → Has s.jobs m) → sectors_from true cpu.core at n ≡ total of_dictionary ms
-  dictionaries_kept at n [] d e inside = ap (sectors_from true cpu.core at) (let z : n ≡ 0 = omega (arith, d, e) in z)
+  dictionaries_kept : (at n : ℕ) (ms : List SessionJob) → DictionariesFollow plan at ms → at + n ≡ plan.stacks → ((m : SessionJob) → Has ms m → Has s.jobs m) → core_sectors_from true cpu.core at n ≡ total of_dictionary ms
+  dictionaries_kept at n [] d e inside = ap (core_sectors_from true cpu.core at) (let z : n ≡ 0 = omega (arith, d, e) in z)
   dictionaries_kept at n (m ∷ more) d e inside =
       let size = 2 + length m.constants.dictionary.cells in
       let up = follow-up plan (at + size) more d.1 in
       let rest = n - size in
       let cut : n ≡ size + rest = omega (arith, e, up) in
-      let first : sectors_from true cpu.core at size ≡ of_dictionary m = ap (λ (i : ℕ). sectors_from true cpu.core i size) (sym d.0) ∙ dictionary_kept m (inside m (inl refl)) in
+      let first : core_sectors_from true cpu.core at size ≡ of_dictionary m = ap (λ (i : ℕ). core_sectors_from true cpu.core i size) (sym d.0) ∙ dictionary_kept m (inside m (inl refl)) in
       omega (arith, range_split true cpu.core at size n rest cut, first, dictionaries_kept (at + size) rest more d.1 (omega (arith, e, cut)) (λ y there. inside y (inr there)))
 
   -- dictionaries and stacks keep the sector sum
-  pub session_kept : sectors_from true cpu.core 160 (plan.stacks - 160) + sectors_of_slots cpu.core (machine_view plan s.jobs) plan.peak ≡ sectors s.jobs
+  pub session_kept : core_sectors_from true cpu.core 160 (plan.stacks - 160) + sectors_of_slots cpu.core (machine_view plan s.jobs) plan.peak ≡ sectors s.jobs
   session_kept =
       let up = follow-up plan 160 s.jobs h.holds.fits.dictionaries in
       let each = total_same (λ (m : SessionJob). of_dictionary m + of_tasks m) sectors_of s.jobs

@@ -9,7 +9,7 @@ use Rattle.b67_lemmas.proofs.Members.{falls_low, has_map, total_same, total_zero
 use Rattle.b67_lemmas.proofs.Sums.{total_plus}
 use Rattle.b67_model.specs.Common.{Word, Array, sectors_for, is_original_of}
 use Rattle.b67_layout.specs.Rows.{Differ}
-use Rattle.b67_task_need.specs.Sums.{sectors_at, sectors_from}
+use Rattle.b67_task_need.specs.Sums.{sectors_at, core_sectors_from}
 
 -- a function of the numbers below n
 abbrev pub upto : (ℕ → ℕ) → ℕ → ℕ
@@ -55,14 +55,14 @@ slots_total h n (k ∷ ks) d low all =
     omega (arith, upto-but k h n (low k (inl refl)), rest, same)
 
 -- a range in two
-pub range_split : (code : Bool) (core : List Tagged) (from a n b : ℕ) → n ≡ a + b → sectors_from code core from n ≡ sectors_from code core from a + sectors_from code core (from + a) b
-range_split code core from a n zero e = omega (arith, ap (sectors_from code core from) (let z : n ≡ a = omega (arith, e) in z))
+pub range_split : (code : Bool) (core : List Tagged) (from a n b : ℕ) → n ≡ a + b → core_sectors_from code core from n ≡ core_sectors_from code core from a + core_sectors_from code core (from + a) b
+range_split code core from a n zero e = omega (arith, ap (core_sectors_from code core from) (let z : n ≡ a = omega (arith, e) in z))
 range_split code core from a zero (suc b) e = absurd (omega (arith, e))
 range_split code core from a (suc n) (suc b) e =
     let at : from + n ≡ from + a + b = omega (arith, e) in
     omega (arith, range_split code core from a n b (omega (arith, e)), ap (λ (i : ℕ). sectors_at code (slice_get core i)) at)
 
-pub range_first : (code : Bool) (core : List Tagged) (from n b : ℕ) → n ≡ b + 1 → sectors_from code core from n ≡ sectors_at code (slice_get core from) + sectors_from code core (from + 1) b
+pub range_first : (code : Bool) (core : List Tagged) (from n b : ℕ) → n ≡ b + 1 → core_sectors_from code core from n ≡ sectors_at code (slice_get core from) + core_sectors_from code core (from + 1) b
 range_first code core from n b e =
     let at : from + 0 ≡ from = omega arith in
     omega (arith, range_split code core from 1 n b (omega (arith, e)), ap (λ (i : ℕ). sectors_at code (slice_get core i)) at)

@@ -5,13 +5,13 @@ use Rattle.std.proofs.lemmas.Bool.{eq-eqb, ne_eqb}
 use Rattle.b67_word.specs.Tagged.{Tagged, bits_at}
 use Rattle.b67_area.specs.declared.Kind.{Kind}
 use Rattle.b67_area.specs.declared.Kind.TheVariants.{Array, Row, Code}
-use Rattle.b67_ctl.specs.Layout.{bit}
+use Rattle.b67_ctl.specs.Layout.{flag_bit}
 use Rattle.b67_lemmas.specs.Lists.{total}
 use Rattle.b67_model.specs.Sectors.{sectors_for}
 use Rattle.b67_stack.specs.Shapes as Shapes
 use Rattle.b67_stack.specs.Common.{Location, Locations, Shape, Is, Copy, Fits, LieDownward, is_indexed, Head, Marked, Entered, Activation, headed, is_present, address_or, home_word_of}
 use Rattle.b67_stack.proofs.Homes.{bit-lt}
-use Rattle.b67_task_need.specs.Sums.{sectors_of_word, sectors_at, sectors_from}
+use Rattle.b67_task_need.specs.Sums.{sectors_of_word, sectors_at, core_sectors_from}
 
 -- the fields of a descriptor
 copy_bit : (p i r l a : ℕ) → p < 2 → i < 2 → r < 2 → l < 2 ^ 20 → a < 2 ^ 20 → (p * 2 ^ 47 + 1 * 2 ^ 46 + i * 2 ^ 45 + r * 2 ^ 43 + l * 2 ^ 20 + a) / 2 ^ 46 % 2 ^ 1 ≡ 1
@@ -45,12 +45,12 @@ is_plain w t = rw (ne_eqb w.tag 5 t) refl
 -- the word at the home of an object
 module _ (n : ℕ) (h : Location) (short : n < 2 ^ 16) (low : address_or h.area h.chain < 2 ^ 20) where
   pub home_array : (code : Bool) (k : Kind) → k ≢ Code → sectors_of_word code (home_word_of k n h) ≡ sectors_for n
-  home_array code Array ne = is_data code (home_word_of Array n h) n refl (own_bit (bit (is_present h.area)) 0 n (address_or h.area h.chain) (bit-lt (is_present h.area)) (omega arith) short low) (own_length (bit (is_present h.area)) 0 n (address_or h.area h.chain) (bit-lt (is_present h.area)) (omega arith) short low)
-  home_array code Row ne = is_data code (home_word_of Row n h) n refl (own_bit (bit (is_present h.area)) 1 n (address_or h.area h.chain) (bit-lt (is_present h.area)) (omega arith) short low) (own_length (bit (is_present h.area)) 1 n (address_or h.area h.chain) (bit-lt (is_present h.area)) (omega arith) short low)
+  home_array code Array ne = is_data code (home_word_of Array n h) n refl (own_bit (flag_bit (is_present h.area)) 0 n (address_or h.area h.chain) (bit-lt (is_present h.area)) (omega arith) short low) (own_length (flag_bit (is_present h.area)) 0 n (address_or h.area h.chain) (bit-lt (is_present h.area)) (omega arith) short low)
+  home_array code Row ne = is_data code (home_word_of Row n h) n refl (own_bit (flag_bit (is_present h.area)) 1 n (address_or h.area h.chain) (bit-lt (is_present h.area)) (omega arith) short low) (own_length (flag_bit (is_present h.area)) 1 n (address_or h.area h.chain) (bit-lt (is_present h.area)) (omega arith) short low)
   home_array code Code ne = absurd (ne refl)
 
   pub home_code : sectors_of_word true (home_word_of Code n h) ≡ sectors_for n
-  home_code = is_code (home_word_of Code n h) n refl (code_bit (bit (is_present h.area)) n (address_or h.area h.chain) (bit-lt (is_present h.area)) short low) (code_length (bit (is_present h.area)) n (address_or h.area h.chain) (bit-lt (is_present h.area)) short low)
+  home_code = is_code (home_word_of Code n h) n refl (code_bit (flag_bit (is_present h.area)) n (address_or h.area h.chain) (bit-lt (is_present h.area)) short low) (code_length (flag_bit (is_present h.area)) n (address_or h.area h.chain) (bit-lt (is_present h.area)) short low)
 
 -- what a word of a shape keeps
 abbrev pub of_shape : List Tagged → Shape → ℕ
@@ -63,9 +63,9 @@ word_fits held core (Is v) at w get f = is_plain w (λ z. f.1 (ap (λ (u : Tagge
 word_fits held core (Shapes.Original home) at w get f = ap (sectors_at false) (sym get ∙ ap (slice_get core) f.0)
 word_fits held core (Copy c home) at w get f =
     ap (sectors_of_word false) f.is
-    ∙ is_copy _ refl (copy_bit (bit f.present) (bit (is_indexed c.index)) (bit c.read_only) f.number f.address (bit-lt f.present) (bit-lt (is_indexed c.index)) (bit-lt c.read_only) f.fits.words f.fits.address)
+    ∙ is_copy _ refl (copy_bit (flag_bit f.present) (flag_bit (is_indexed c.index)) (flag_bit c.read_only) f.number f.address (bit-lt f.present) (bit-lt (is_indexed c.index)) (bit-lt c.read_only) f.fits.words f.fits.address)
 
-pub lies_total : (held : Locations) (core : List Tagged) (from : ℕ) (xs : List Shape) → LieDownward (Fits held) core from xs → sectors_from false core from (length xs) ≡ total (of_shape core) xs
+pub lies_total : (held : Locations) (core : List Tagged) (from : ℕ) (xs : List Shape) → LieDownward (Fits held) core from xs → core_sectors_from false core from (length xs) ≡ total (of_shape core) xs
 lies_total held core from [] l = refl
 lies_total held core from (a ∷ more) l =
     let here : sectors_at false (slice_get core (from + length more)) ≡ of_shape core a = ap (sectors_at false) l.0.1 ∙ word_fits held core a (from + length more) l.0.0 l.0.1 l.0.2 in

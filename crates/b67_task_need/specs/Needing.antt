@@ -28,7 +28,7 @@ HasWords job None = Unit {0}
 HasWords job (Some a) = touched_words job (Some a) ≢ 0
 
 -- the machine stands for some session in order
-pub record StandsInOrder (k : Machine) : Type 0 where
+pub record StandsOrdered (k : Machine) : Type 0 where
   pub storage : Storage
   pub told : Option (List (List ℕ))
   pub plan : Placement

@@ -18,13 +18,13 @@ sectors_at code None = 0
 sectors_at code (Some w) = sectors_of_word code w
 
 -- those of so many words from an address on
-abbrev pub sectors_from : Bool → List Tagged → ℕ → ℕ → ℕ
-sectors_from code core from zero = 0
-sectors_from code core from (suc n) = sectors_from code core from n + sectors_at code (slice_get core (from + n))
+abbrev pub core_sectors_from : Bool → List Tagged → ℕ → ℕ → ℕ
+core_sectors_from code core from zero = 0
+core_sectors_from code core from (suc n) = core_sectors_from code core from n + sectors_at code (slice_get core (from + n))
 
 -- those of a slot's stack, and of the stacks of the slots below one
 abbrev pub sectors_of_slot : List Tagged → MachineView → ℕ → ℕ
-sectors_of_slot core p k = sectors_from false core (slot_base p k + 1) (stack_words (stack_of (p.slots k)))
+sectors_of_slot core p k = core_sectors_from false core (slot_base p k + 1) (stack_words (stack_of (p.slots k)))
 
 abbrev pub sectors_of_slots : List Tagged → MachineView → ℕ → ℕ
 sectors_of_slots core p zero = 0

@@ -9,8 +9,8 @@ ghost use Rattle.b67_layout.specs.Placement.{Placement};
 ghost use Rattle.b67_task_tables.specs.Tables.{MachineRepresents};
 ghost use Rattle.b67_stack.specs.MachineView.{MachineView};
 ghost use Rattle.b67_overlay.specs.Turns.{Lies};
-ghost use Rattle.b67_task_need.specs.Sums.{sectors_of_word, sectors_from, sectors_of_slots, LiesSome};
-ghost use Rattle.b67_task_need.specs.Needing.{StandsInOrder};
+ghost use Rattle.b67_task_need.specs.Sums.{sectors_of_word, core_sectors_from, sectors_of_slots, LiesSome};
+ghost use Rattle.b67_task_need.specs.Needing.{StandsOrdered};
 
 use b67_backing::sectors_needed;
 use b67_core::Core;
@@ -37,7 +37,7 @@ fn word_sectors(w: Word, code: bool) -> u32
 pub(crate) fn range_sectors(core: &Core, from: u32, upto: u32, code: bool) -> u32
     requires order { from ≤ upto }
     requires inside { upto ≤ length core.now }
-    ensures value { result ≡ sectors_from code core.now from (upto - from) }
+    ensures value { result ≡ core_sectors_from code core.now from (upto - from) }
     ensures low { result ≤ 2185 * (upto - from) }
 {
     let _size = core.size();
@@ -52,7 +52,7 @@ pub(crate) fn range_sectors(core: &Core, from: u32, upto: u32, code: bool) -> u3
 fn core_sectors(core: &Core, regs: &Regs) -> u32
     requires { LiesSome core.now regs.now }
     ensures { (low : ℕ) (p : MachineView) → Lies core.now regs.now low p
-        → result ≡ sectors_from true core.now FIRST_DICTIONARY (p.stacks - FIRST_DICTIONARY) + sectors_of_slots core.now p p.peak }
+        → result ≡ core_sectors_from true core.now FIRST_DICTIONARY (p.stacks - FIRST_DICTIONARY) + sectors_of_slots core.now p p.peak }
 {
     let size = u32::from(regs.stack_size);
     let mut base = regs.stacks;
@@ -68,7 +68,7 @@ fn core_sectors(core: &Core, regs: &Regs) -> u32
 /// The sectors that a session's state takes: for each installed segment, each data row and each live array, touched or
 /// not, those of its words, 30 to a sector.
 pub fn sector_sum(machine: &Machine) -> u32
-    requires { StandsInOrder machine.now }
+    requires { StandsOrdered machine.now }
     ensures { (x : Storage) (told : Option (List (List ℕ))) (plan : Placement) (s : Session) → IsInOrderButCounts s
         → MachineRepresents x told machine.now plan s → result ≡ sectors s.jobs }
 {

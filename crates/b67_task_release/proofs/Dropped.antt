@@ -17,7 +17,7 @@ use Rattle.b67_stack.proofs.Helds.{held-other, held-same}
 use Rattle.b67_stack.proofs.Reheld.{Content-stays}
 use Rattle.b67_stack.proofs.Unchanged.{area_of_object, home_below, slot_below, base_low}
 use Rattle.b67_layout_storage.proofs.Chained.{Content-chain}
-use Rattle.b67_task_release.specs.Released.{without_chain, released, of_objects, Drops, Vacated}
+use Rattle.b67_task_release.specs.Released.{without_chain, storage_released, of_objects, Drops, Vacated}
 
 sectors_some : (x : Storage) (t : PagedObject) (f : ℕ) → 0 < length t.numbers → ObjectHasChain x t f → 1 ≤ length (chain_of f x.shelf.chains)
 sectors_some x t f some h = omega (arith, h.sectors)
@@ -56,7 +56,7 @@ has_chain x core r p s t int = ⊎_elim
 module _ (x : Storage) (core : List Tagged) (r : Regs) (p : MachineView) (s : Represents x core r p) (t : PagedObject) (objects : List PagedObject) (d : Drops p t objects)
     (table : Table) (sh : IsShelf table x.shelf) (new : List Tagged) (v : Vacated x.low (x.held t.home).area x.spans core new) where
   abbrev y : Storage
-  y = released x t
+  y = storage_released x t
 
   abbrev q : MachineView
   q = of_objects p objects
@@ -161,7 +161,7 @@ module _ (x : Storage) (core : List Tagged) (r : Regs) (p : MachineView) (s : Re
         s.owned.one_chain a b (d.fewer a ina).0 (d.fewer b inb).0 (omega (arith, some, ea)) (sym ea ∙ e ∙ eb);
   }
 
-  pub Represents-released : Represents (released x t) new r (of_objects p objects)
+  pub Represents-released : Represents (storage_released x t) new r (of_objects p objects)
   Represents-released = record {
     slots = record {
       laid = record {

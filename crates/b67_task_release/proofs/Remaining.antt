@@ -21,7 +21,7 @@ use Rattle.b67_stack.proofs.Helds.{held-other, held-same}
 use Rattle.b67_stack.proofs.Unchanged.{area_of_object, area_bounds}
 use Rattle.b67_layout_storage.proofs.Words.{original_of_home}
 use Rattle.b67_layout.specs.Session.{with_objects}
-use Rattle.b67_task_release.specs.Released.{released, of_objects, Drops, Finds, SameBelow, HasHome, Released, AreLeft, Remains}
+use Rattle.b67_task_release.specs.Released.{storage_released, of_objects, Drops, LocatesArray, SameBelow, HasHome, Released, AreLeft, SomeRemain}
 use Rattle.b67_task_release.proofs.Dropped.{chains_other, chains_gone, has_chain}
 
 -- the word of an array's original, as a descriptor
@@ -43,7 +43,7 @@ home_desc_of Code n h ne small chain area = absurd (ne refl)
 
 module _ (x : Storage) (core : List Tagged) (r : Regs) (p : MachineView) (s : Represents x core r p) (t : PagedObject) (int : Has p.objects t) (array : t.kind ≢ Code) where
   -- the descriptor at an array's home tells how it is held
-  pub finds : (w : Tagged) (d : DataDesc) → slice_get core t.home ≡ Some w → IsDataDesc d → w ≡ data_word d → Finds x.low x.spans (x.held t.home) d
+  pub finds : (w : Tagged) (d : DataDesc) → slice_get core t.home ≡ Some w → IsDataDesc d → w ≡ data_word d → LocatesArray x.low x.spans (x.held t.home) d
   finds w d get fits is =
       let e = home_desc_of t.kind (length t.numbers) (x.held t.home) array (omega (arith, (s.slots.laid.lengths t int).1)) (chain_small x core t (x.held t.home).area (x.held t.home).chain (s.objects t int).content)
       (λ b e. omega (arith, (area_bounds x core r p s t int b e).1, s.directory.small)) in
@@ -137,23 +137,23 @@ Released-same P Q x y to from a = record {
 
 -- one array
 pub Released-one : (x : Storage) (core : List Tagged) (r : Regs) (p : MachineView) (table : Table) → Represents x core r p → IsShelf table x.shelf → (t : PagedObject) → Has p.objects t
-    → (Gone : ℕ → Type 0) → Gone t.home → ((home : ℕ) → Gone home → home ≡ t.home) → Released Gone x (released x t)
+    → (Gone : ℕ → Type 0) → Gone t.home → ((home : ℕ) → Gone home → home ≡ t.home) → Released Gone x (storage_released x t)
 Released-one x core r p table s sh t int Gone here only = record {
   low = refl;
   device = refl;
   others = λ home n. held-other x.held t.home nowhere home (λ e. n (subst Gone (sym e) here));
-  nowhere = λ home g. ap (released x t).held (only home g) ∙ held-same x.held t.home nowhere;
-  free = λ home g. ap (λ h. chain_of (x.held h).chain (released x t).shelf.chains) (only home g) ∙ gone;
+  nowhere = λ home g. ap (storage_released x t).held (only home g) ∙ held-same x.held t.home nowhere;
+  free = λ home g. ap (λ h. chain_of (x.held h).chain (storage_released x t).shelf.chains) (only home g) ∙ gone;
   chains = λ first n. chains_other f first x.shelf (λ e. n t.home here (sym e));
   no_more = λ first e. ⊎_elim
-      (λ (z : first ≡ f). ap (λ g. chain_of g (released x t).shelf.chains) z ∙ gone)
+      (λ (z : first ≡ f). ap (λ g. chain_of g (storage_released x t).shelf.chains) z ∙ gone)
       (λ (m : first ≡ f → ⊥). chains_other f first x.shelf m ∙ e)
       (cases_eq first f);
 } where
   f : ℕ
   f = (x.held t.home).chain
 
-  gone : chain_of f (released x t).shelf.chains ≡ []
+  gone : chain_of f (storage_released x t).shelf.chains ≡ []
   gone = chains_gone table f x.shelf sh s.owned.no_zero (has_chain x core r p s t int)
 
 fits_more : (p : MachineView) (more : List PagedObject) (k : ℕ) (slot : Slot) → SlotFits p k slot → SlotFits (of_objects p (more ++ p.objects)) k slot
@@ -167,7 +167,7 @@ module _ (x : Storage) (cpu : Cpu) (areas : Areas) (table : Table) (told : Optio
   in_all t h = has_append_left left p.objects t h
 
   -- a word that is no original
-  pub remains_none : (w : Tagged) → slice_get cpu.core at ≡ Some w → (IsOriginal w → ⊥) → Remains (λ home. (home ≡ at) × HasHome left home) x x p cpu.core cpu.core (at + 1) upto left left
+  pub remains_none : (w : Tagged) → slice_get cpu.core at ≡ Some w → (IsOriginal w → ⊥) → SomeRemain (λ home. (home ≡ at) × HasHome left home) x x p cpu.core cpu.core (at + 1) upto left left
   remains_none w get no_one =
       let not_here : (t : PagedObject) → Has left t → t.home ≢ at = λ t int e. no_one (is_original x cpu.core cpu.regs (with_objects left p) m.stands t (in_all t int) (l.arrays t int) w (ap (slice_get cpu.core) e ∙ get)) in
       record {
@@ -188,7 +188,7 @@ module _ (x : Storage) (cpu : Cpu) (areas : Areas) (table : Table) (told : Optio
 
   -- a word that is one
   pub one_left : (w : Tagged) (d : DataDesc) → slice_get cpu.core at ≡ Some w → IsDataDesc d → w ≡ data_word d → not d.copy ≡ true → at < upto
-      → (t : PagedObject) × Has left t × (t.home ≡ at) × Finds x.low x.spans (x.held t.home) d
+      → (t : PagedObject) × Has left t × (t.home ≡ at) × LocatesArray x.low x.spans (x.held t.home) d
   one_left w d get fits is own inside =
       let o : IsOriginal w = record { desc = d; fits = fits; own = not-true d.copy own; is = is } in
       let r = l.each at w (omega arith) inside get o in
@@ -212,7 +212,7 @@ module _ (x : Storage) (cpu : Cpu) (areas : Areas) (table : Table) (told : Optio
       fits = λ k hk. fits_more p rest k (p.slots k) (l.fits k hk);
     }
 
-    pub remains_one : (new : List Tagged) → SameBelow x.low cpu.core new → Remains (λ h. (h ≡ at) × HasHome left h) x (released x t) p cpu.core new (at + 1) upto left rest
+    pub remains_one : (new : List Tagged) → SameBelow x.low cpu.core new → SomeRemain (λ h. (h ≡ at) × HasHome left h) x (storage_released x t) p cpu.core new (at + 1) upto left rest
     remains_one new same = record {
       released = Released-one x cpu.core cpu.regs (with_objects left p) table m.stands m.shelf t (in_all t int) (λ h. (h ≡ at) × HasHome left h) (home, (t, int, refl)) (λ h g. g.0 ∙ sym home);
       among = λ u h. (without_home-in at left u h).0;
@@ -234,9 +234,9 @@ module _ (x : Storage) (cpu : Cpu) (areas : Areas) (table : Table) (told : Optio
 
 -- the words up to here, and the next one
 pub Remains-then : (x y z : Storage) (p : MachineView) (old mid new : List Tagged) (at upto : ℕ) (left rest more : List PagedObject)
-    → Remains (λ home. (home < at) × HasHome left home) x y p old mid at upto left rest
-    → Remains (λ home. (home ≡ at) × HasHome rest home) y z p mid new (at + 1) upto rest more
-    → Remains (λ home. (home < at + 1) × HasHome left home) x z p old new (at + 1) upto left more
+    → SomeRemain (λ home. (home < at) × HasHome left home) x y p old mid at upto left rest
+    → SomeRemain (λ home. (home ≡ at) × HasHome rest home) y z p mid new (at + 1) upto rest more
+    → SomeRemain (λ home. (home < at + 1) × HasHome left home) x z p old new (at + 1) upto left more
 Remains-then x y z p old mid new at upto left rest more a b = record {
   released = Released-then (λ home. (home < at) × HasHome left home) (λ home. (home ≡ at) × HasHome rest home) (λ home. (home < at + 1) × HasHome left home) x y z
       (λ home g h. omega (arith, g.0, h.0))
@@ -259,7 +259,7 @@ no_rest upto p core (t ∷ ts) l = let b = l.among t (inl refl) in absurd (omega
 
 -- all of them
 pub remains_all : (x y : Storage) (cpu : Cpu) (areas : Areas) (table : Table) (told : Option (List (List ℕ))) (p : MachineView) (old : List Tagged) (from upto : ℕ) (left rest : List PagedObject) → AreLeft p old from upto left
-    → MachineRepresentsView y cpu areas table told (with_objects rest p) → Remains (λ home. (home < upto) × HasHome left home) x y p old cpu.core upto upto left rest
+    → MachineRepresentsView y cpu areas table told (with_objects rest p) → SomeRemain (λ home. (home < upto) × HasHome left home) x y p old cpu.core upto upto left rest
     → Released (HasHome left) x y × MachineRepresentsView y cpu areas table told p × SameBelow x.low old cpu.core
 remains_all x y cpu areas table told p old from upto left rest l m r = (
   Released-same (λ home. (home < upto) × HasHome left home) (HasHome left) x y (λ home g. g.1) (λ home g. (omega (arith, (l.among g.0 g.1).1, g.2), g)) r.released,

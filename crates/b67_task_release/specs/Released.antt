@@ -20,8 +20,8 @@ abbrev pub without_chain : ℕ → Shelf → Shelf
 without_chain first shelf = if first == 0 then shelf else given first shelf
 
 -- the storage where the area and the chain of an array are free
-abbrev pub released : Storage → PagedObject → Storage
-released x t = record x {
+abbrev pub storage_released : Storage → PagedObject → Storage
+storage_released x t = record x {
   held = with_held x.held t.home nowhere;
   spans = without_area x.low (x.held t.home).area x.spans;
   shelf = without_chain (x.held t.home).chain x.shelf;
@@ -39,7 +39,7 @@ pub record Drops (p : MachineView) (t : PagedObject) (objects : List PagedObject
   pub fits : (k : ℕ) → k < p.peak → SlotFits (of_objects p objects) k (p.slots k)
 
 -- the fields of an original by which its array is found: it is held so, and its area's tail says its chain
-pub record Finds (low : ℕ) (spans : List Span) (h : Location) (original : DataDesc) : Type 0 where
+pub record LocatesArray (low : ℕ) (spans : List Span) (h : Location) (original : DataDesc) : Type 0 where
   pub present : original.present ≡ is_present h.area
   pub address : original.address ≡ address_or h.area h.chain
   pub area : (at : ℕ) → h.area ≡ Some at → (a : Info) × (area_at low spans at ≡ Some a) × (a.kept ≡ h.chain)
@@ -83,7 +83,7 @@ pub record AreLeft (p : MachineView) (core : List Tagged) (from upto : ℕ) (lef
   pub fits : (k : ℕ) → k < p.peak → SlotFits p k (p.slots k)
 
 -- what is still left when some are gone
-pub record Remains (Gone : ℕ → Type 0) (x y : Storage) (p : MachineView) (old new : List Tagged) (next upto : ℕ) (left rest : List PagedObject) : Type 0 where
+pub record SomeRemain (Gone : ℕ → Type 0) (x y : Storage) (p : MachineView) (old new : List Tagged) (next upto : ℕ) (left rest : List PagedObject) : Type 0 where
   pub released : Released Gone x y
   pub among : (t : PagedObject) → Has rest t → Has left t
   pub others : (t : PagedObject) → Has left t → next ≤ t.home → Has rest t

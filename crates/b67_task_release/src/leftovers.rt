@@ -5,7 +5,7 @@ ghost use Rattle.b67_stack.specs.MachineView.{PagedObject, MachineView};
 ghost use Rattle.b67_stack.specs.Represents.{Storage};
 ghost use Rattle.b67_layout_storage.specs.Machine.{MachineRepresentsView};
 ghost use Rattle.b67_layout.specs.Session.{with_objects};
-ghost use Rattle.b67_task_release.specs.Released.{HasHome, Released, AreLeft, Remains, SameBelow};
+ghost use Rattle.b67_task_release.specs.Released.{HasHome, Released, AreLeft, SomeRemain, SameBelow};
 
 use crate::originals::release_original;
 use b67_area::Areas;
@@ -26,7 +26,7 @@ fn release_word(cpu: &mut Cpu, areas: &mut Areas, sectors: &mut Sectors, at: u32
     ensures stands { (x : Storage) (told : Option (List (List ℕ))) (p : MachineView) (left : List PagedObject) (upto : ℕ)
         → MachineRepresentsView x cpu.old areas.old sectors.old told (with_objects left p) → AreLeft p cpu.old.core at upto left → at < upto
         → (y : Storage) × (rest : List PagedObject) × MachineRepresentsView y cpu.new areas.new sectors.new told (with_objects rest p)
-        × Remains (λ home. (home ≡ at) × HasHome left home) x y p cpu.old.core cpu.new.core (at + 1) upto left rest }
+        × SomeRemain (λ home. (home ≡ at) × HasHome left home) x y p cpu.old.core cpu.new.core (at + 1) upto left rest }
 {
     let word = cpu.core.get(at);
     if word.tag() != 5 {

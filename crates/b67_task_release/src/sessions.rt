@@ -33,7 +33,7 @@ pub fn release_arrays(cpu: &mut Cpu, areas: &mut Areas, sectors: &mut Sectors, f
     release_words(cpu, areas, sectors, from, upto);
 }
 
-/// The same in the whole machine, whose tables of tasks and jobs stay.
+/// Gives back those arrays in the whole machine, whose tables of tasks and jobs stay.
 pub fn release(machine: &mut Machine, from: u32, upto: u32)
     requires left { (left : List PagedObject) × (x : Storage) × (told : Option (List (List ℕ))) × (plan : Placement) × (s : Session)
         × IsLeft left x machine.old.cpu plan s from upto × RepresentsStorage machine.old.areas machine.old.sectors told machine.old.cpu.core x }

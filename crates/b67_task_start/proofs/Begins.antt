@@ -10,7 +10,7 @@ use Rattle.b67_lemmas.proofs.Members.{keyed_has}
 use Rattle.b67_lemmas.proofs.Sums.{sum_total, total_gap}
 use Rattle.b67_model.specs.Common.{Frame, Task, SessionJob, height, Proc, live_tasks, number_of, Session}
 use Rattle.b67_law_order.proofs.Numbered.{numbered_low}
-use Rattle.b67_layout.specs.Common.{IsInOrderButCounts, Placement, address_of, spots, IsRunning, RepresentsSession, RepresentsStorage, stack_of_task, IsReady, peak_with, moved}
+use Rattle.b67_layout.specs.Common.{IsInOrderButCounts, Placement, address_of, spots, IsRunning, RepresentsSession, RepresentsStorage, stack_of_task, IsReady, peak_with, session_moved}
 use Rattle.b67_stack.specs.declared.Cpu.{Cpu}
 use Rattle.b67_stack.specs.Common.{StackPlace, mark_place, Storage}
 use Rattle.b67_stack.specs.Changes as Changes
@@ -25,8 +25,8 @@ use Rattle.b67_task_tables.specs.declared.tables.Tasks.{Tasks}
 use Rattle.b67_task_tables.specs.declared.tables.Machine.{Machine}
 use Rattle.b67_task_tables.specs.Tables.{state_of, task_row, MachineRepresents}
 use Rattle.b67_task_start_stack.specs.Born.{with_peak, with_task_at}
-use Rattle.b67_task_start_stack.specs.Joining.{MayBuild, joined}
-use Rattle.b67_task_start.specs.Opening.{HasSlot, IsOpened}
+use Rattle.b67_task_start_stack.specs.Joining.{MayBuild, session_joined}
+use Rattle.b67_task_start.specs.Opening.{HasSlot, SlotOpened}
 use Rattle.b67_task_start.specs.Starts.{IsProcCell, MayStart, IsStarted, child, with_child, with_next}
 use Rattle.b67_task_start.proofs.Opens.{not_past, peak_stays, peak_rises}
 use Rattle.b67_task_start.proofs.Rows.{JobRowOf, job_row_of, rows_few, tables_started}
@@ -97,7 +97,7 @@ module _ (x : Storage) (cpu : Cpu) (plan : Placement) (s : Session) (m : Session
       may_build y now (with_peak plan (peak_with s 1)) (record s { peak = peak_with s 1 }) m t opened_order z opened_runs at count f segment level place opened_proc may.marked may.enough may.plain may.room k j env_stack env_disp may.lowest.free below_peak job_is spot_is
 
   -- what isn't core is as the slot's opening left it
-  pub opened_storage : (areas areas' : Areas) (table : Table) (told : Option (List (List ℕ))) (now : Cpu) (new : Cpu) (op : IsOpened x plan s now areas') → RepresentsStorage areas table told cpu.core x
+  pub opened_storage : (areas areas' : Areas) (table : Table) (told : Option (List (List ℕ))) (now : Cpu) (new : Cpu) (op : SlotOpened x plan s now areas') → RepresentsStorage areas table told cpu.core x
       → areas' ≡ record areas { low = areas'.low } → length now.core ≡ length cpu.core → length new.core ≡ length now.core → RepresentsStorage areas' table told new.core op.storage
   opened_storage areas areas' table told now new op r e len len' = record {
     low = op.low;
@@ -132,7 +132,7 @@ module _ (x : Storage) (told : Option (List (List ℕ))) (k : Machine) (plan : P
   pub row_room : length k.tasks.rows.items < 120
   row_room = omega (arith, rows_few k.tasks plan s x k.cpu o h.session h.tables, may_open.few)
 
-  module _ (now : Cpu) (areas' : Areas) (op : IsOpened x plan s now areas') where
+  module _ (now : Cpu) (areas' : Areas) (op : SlotOpened x plan s now areas') where
     -- what the new machine shows of the procedure
     abbrev pub seen : RunningContext now.core now.regs
     seen = record { left = []; storage = op.storage; marks = now.critical; plan = with_peak plan (peak_with s 1); session = record s { peak = peak_with s 1 }; member = m; task = t; ordered = member_in_order s m o (keyed_has number_of m.constants.number s.jobs m runs.member).0; holds = op.stands.holds; running = opened_runs x k.cpu plan s m t o h.session runs (length k.cpu.core) at count f segment level place slot may }
@@ -161,13 +161,13 @@ module _ (x : Storage) (told : Option (List (List ℕ))) (k : Machine) (plan : P
       under_same : (call call' under under' : Frame) (below below' : List Frame) → (call ∷ under ∷ below) ≡ (call' ∷ under' ∷ below') → below ≡ below'
       under_same call call' under under' below below' e = cc
 
-      pub critical_is : (under : ℕ) → under ≡ mark_place (Changes.below_top (stack_of_task (with_peak plan (peak_with s 1)) m.constants.number m.progress.job plan.running t)) → under ≡ height two_frames.below
+      pub critical_is : (under : ℕ) → under ≡ mark_place (Changes.activations_below (stack_of_task (with_peak plan (peak_with s 1)) m.constants.number m.progress.job plan.running t)) → under ≡ height two_frames.below
       critical_is under e =
           e ∙ under_place op.storage now (with_peak plan (peak_with s 1)) (record s { peak = peak_with s 1 }) m t (with_child m.progress.job new) new free b.ordered b.stands b.running b.joins b.calls
           ∙ ap height (under_same b.calls.call two_frames.call b.calls.under two_frames.under b.calls.below two_frames.below (sym b.calls.frames ∙ two_frames.is))
 
       pub started : (built : Cpu) (tasks' : Tasks) (row : TaskRow)
-          → RepresentsSession op.storage built (with_task_at (with_peak plan (peak_with s 1)) m.constants.number new.number free (peak_with s 1)) (joined (with_peak plan (peak_with s 1)) (record s { peak = peak_with s 1 }) m (with_child m.progress.job new))
+          → RepresentsSession op.storage built (with_task_at (with_peak plan (peak_with s 1)) m.constants.number new.number free (peak_with s 1)) (session_joined (with_peak plan (peak_with s 1)) (record s { peak = peak_with s 1 }) m (with_child m.progress.job new))
           → areas' ≡ record k.areas { low = areas'.low } → length now.core ≡ length k.cpu.core → length built.core ≡ length now.core
           → row.job ≡ m.constants.number → row.number ≡ m.progress.job.next_task → row.slot ≡ free → row.parent ≡ plan.running → row.critical ≡ height two_frames.below → state_of row.state ≡ IsReady → row.segment ≡ segment + 1 → row.place ≡ place
           → tasks'.rows.items ≡ k.tasks.rows.items ++ row ∷ [] → ((r : JobRow) → slice_get k.tasks.jobs (row.job - 1) ≡ Some r → tasks'.jobs ≡ slice_set k.tasks.jobs (row.job - 1) (with_next r)) → tasks' ≡ record k.tasks { rows = tasks'.rows; jobs = tasks'.jobs }
@@ -181,7 +181,7 @@ module _ (x : Storage) (told : Option (List (List ℕ))) (k : Machine) (plan : P
           record {
             storage = op.storage;
             stands = record {
-              session = subst (λ (n : ℕ). RepresentsSession op.storage built (with_task_at plan m.constants.number new.number n P) (moved s m (with_child m.progress.job new) 1)) is session;
+              session = subst (λ (n : ℕ). RepresentsSession op.storage built (with_task_at plan m.constants.number new.number n P) (session_moved s m (with_child m.progress.job new) 1)) is session;
               storage = opened_storage x k.cpu plan s m t o h.session runs (length k.cpu.core) at count f segment level place slot may k.areas areas' k.sectors told now built op h.storage areas_are len len';
               tables = tables_started k.tasks tasks' plan s m t new slot x k.cpu o h.session h.tables runs j row job_is (slot_is ∙ is) shows rows_are jobs_are rest;
             };

@@ -10,7 +10,7 @@ use Rattle.b67_lemmas.proofs.Places.{map-slice_set, put_back, at_mapped}
 use Rattle.b67_model.specs.Run as Run
 use Rattle.b67_model.specs.Common.{Session, Task, Job, SessionJob}
 use Rattle.b67_stack.specs.declared.Cpu.{Cpu}
-use Rattle.b67_stack.specs.Common.{below_top, RunsOn, StackPlace, Activation, mark_place, Storage}
+use Rattle.b67_stack.specs.Common.{activations_below, RunsOn, StackPlace, Activation, mark_place, Storage}
 use Rattle.b67_layout.specs.Common.{machine_view, stack_of_task, IsInOrderButCounts, Placement, IsRunning, RepresentsSession, IsReady, peak_with}
 use Rattle.b67_refer.specs.Cells.{view}
 use Rattle.b67_refer.specs.Ends.{IsProcAt}
@@ -22,9 +22,9 @@ use Rattle.b67_task_tables.specs.declared.tables.Tasks.{Tasks}
 use Rattle.b67_task_tables.specs.Runs.{Keeps}
 use Rattle.b67_task_tables.specs.Tables.{state_of, row_names, IsCountable, AreCountable, MachineRepresents}
 use Rattle.b67_task_start_stack.specs.Born.{with_peak, with_task_at}
-use Rattle.b67_task_start_stack.specs.Joining.{BuildsSome, MayBuild, joined}
+use Rattle.b67_task_start_stack.specs.Joining.{BuildsSome, MayBuild, session_joined}
 use Rattle.b67_task_start_stack.proofs.Building.{on_stack, two_marks}
-use Rattle.b67_task_start.specs.Opening.{HasSlot, HasSomeSlot, IsOpened}
+use Rattle.b67_task_start.specs.Opening.{HasSlot, HasSomeSlot, SlotOpened}
 use Rattle.b67_task_start.specs.Starts.{StartsSome, IsStarted, HasRowRoom, child, with_child, with_next}
 use Rattle.b67_task_start.proofs.Rows.{job_row_of}
 use Rattle.b67_task_start.proofs.Begins.{may_open, job_row, first_job, row_room, seen, seen_procedure, seen_pcw, may_child, critical_is, started}
@@ -93,7 +93,7 @@ module _ (k : Machine) (at count : ℕ) (q : StartsSome k at count) where
         small = omega (arith, b.next, q.may.number);
       }
 
-  module _ (now : Cpu) (areas' : Areas) (op : IsOpened q.storage q.plan q.session now areas') where
+  module _ (now : Cpu) (areas' : Areas) (op : SlotOpened q.storage q.plan q.session now areas') where
     abbrev pub context : RunningContext now.core now.regs
     context = seen q.storage q.told k q.plan q.session q.member q.task q.ordered q.stands q.running at count q.f q.segment q.level q.place q.slot q.may now areas' op
 
@@ -113,7 +113,7 @@ module _ (k : Machine) (at count : ℕ) (q : StartsSome k at count) where
     abbrev pub stack_now : List Activation
     stack_now = stack_of_task (with_peak q.plan (peak_with q.session 1)) q.member.constants.number q.member.progress.job q.plan.running q.task
 
-    pub marked : RunsOn (machine_view (with_peak q.plan (peak_with q.session 1)) q.session.jobs) now.regs.slot stack_now × (below_top stack_now ≢ [])
+    pub marked : RunsOn (machine_view (with_peak q.plan (peak_with q.session 1)) q.session.jobs) now.regs.slot stack_now × (activations_below stack_now ≢ [])
     marked =
         let b = builds_by q.slot q.member.constants.number (view context q.f).stack (view context q.f).disp q.level refl refl refl refl in
         let plan = with_peak q.plan (peak_with q.session 1) in
@@ -146,9 +146,9 @@ module _ (k : Machine) (at count : ℕ) (q : StartsSome k at count) where
       -- the machine with the child's stack, and its row
       pub is_started : (built : Cpu) (tasks' : Tasks) (number under : ℕ) (row : TaskRow)
           → ((x : Storage) (plan : Placement) (s : Session) (m : SessionJob) (t : Task) (after : Job) (z : Task)
-          → MayBuild x now plan s m t after z slot parent.job env_stack env_disp p.level count → RepresentsSession x built (with_task_at plan m.constants.number z.number slot plan.peak) (joined plan s m after))
+          → MayBuild x now plan s m t after z slot parent.job env_stack env_disp p.level count → RepresentsSession x built (with_task_at plan m.constants.number z.number slot plan.peak) (session_joined plan s m after))
           → areas' ≡ record k.areas { low = areas'.low } → length now.core ≡ length k.cpu.core → length built.core ≡ length now.core
-          → number ≡ q.member.progress.job.next_task → under ≡ mark_place (below_top stack_now)
+          → number ≡ q.member.progress.job.next_task → under ≡ mark_place (activations_below stack_now)
           → row.job ≡ parent.job → row.number ≡ number → row.slot ≡ slot → row.parent ≡ parent.slot → row.critical ≡ under → state_of row.state ≡ IsReady → row.segment ≡ p.segment → row.place ≡ p.place
           → tasks'.rows.items ≡ k.tasks.rows.items ++ row ∷ [] → ((r : JobRow) → slice_get k.tasks.jobs (row.job - 1) ≡ Some r → tasks'.jobs ≡ slice_set k.tasks.jobs (row.job - 1) (with_next r)) → tasks' ≡ record k.tasks { rows = tasks'.rows; jobs = tasks'.jobs }
           → IsStarted q.told q.plan q.session q.member q.task new q.slot (record k { cpu = built; areas = areas'; tasks = tasks' })

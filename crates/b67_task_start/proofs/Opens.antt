@@ -18,7 +18,7 @@ use Rattle.b67_stack.proofs.Bases.{base-step}
 use Rattle.b67_layout.proofs.Common.{task_row, jobs_differ, not_more, slots_of, slots_length}
 use Rattle.b67_task_start_stack.specs.Born.{with_peak}
 use Rattle.b67_task_start_stack.specs.Slots.{grown, raised, HasRoom}
-use Rattle.b67_task_start.specs.Opening.{IsLowestFree, slot_end, HasSlot, IsOpened}
+use Rattle.b67_task_start.specs.Opening.{IsLowestFree, slot_end, HasSlot, SlotOpened}
 use Rattle.b67_task_start_stack.proofs.Wider.{RepresentsSession-wider}
 
 -- the word of a slot in the stack vector has tag 0 only if no task lives in the slot
@@ -156,7 +156,7 @@ module _ (plan : Placement) (s : Session) (o : IsInOrderButCounts s) (fit : Rows
 module _ (x : Storage) (cpu new : Cpu) (areas areas' : Areas) (plan : Placement) (s : Session) (k : ℕ) (o : IsInOrderButCounts s) (h : RepresentsSession x cpu plan s) (low : areas.low ≡ x.low)
     (has : HasSlot x plan s (length cpu.core) k) where
   -- a slot that was used before
-  pub opened_before : k < plan.peak → IsOpened x plan s cpu areas
+  pub opened_before : k < plan.peak → SlotOpened x plan s cpu areas
   opened_before less = record {
     storage = x;
     stands = subst (λ (n : ℕ). RepresentsSession x cpu (with_peak plan n) (record s { peak = n })) (sym (peak_stays plan s o h.holds.fits.rows h.holds.fits.peak k has.lowest less)) same;
@@ -227,7 +227,7 @@ module _ (x : Storage) (cpu new : Cpu) (areas areas' : Areas) (plan : Placement)
           (λ i under ne. below i (omega (arith, under, low, h.holds.memory.slots.laid.low)) ne) stands
           settled
 
-      pub opened_now : IsOpened x plan s new areas'
+      pub opened_now : SlotOpened x plan s new areas'
       opened_now = record {
         storage = raised x areas'.low;
         stands = subst (λ (n : ℕ). RepresentsSession (raised x areas'.low) new (with_peak plan n) (record s { peak = n })) (sym (peak_rises plan s o h.holds.fits.rows h.holds.fits.peak k has.lowest is)) session;

@@ -10,7 +10,7 @@ use Rattle.b67_lemmas.proofs.Places.{map-slice_set, mapped_at, at_mapped}
 use Rattle.b67_law_order.proofs.Numbered.{keyed_member, numbered_low}
 use Rattle.b67_model.specs.Common.{Task, Job, SessionJob, live_tasks, number_of, Session, NumberedFrom}
 use Rattle.b67_model.specs.Keyed.{keyed}
-use Rattle.b67_layout.specs.Common.{IsInOrderButCounts, Placement, JobShows, JobsShow, RunningRow, TaskShows, TablesShow, IsRunning, RepresentsSession, peak_with, moved}
+use Rattle.b67_layout.specs.Common.{IsInOrderButCounts, Placement, JobShows, JobsShow, RunningRow, TaskShows, TablesShow, IsRunning, RepresentsSession, peak_with, session_moved}
 use Rattle.b67_stack.specs.Represents.{Storage}
 use Rattle.b67_layout.specs.Rows as rows
 use Rattle.b67_layout.proofs.Common.{with_course, slot_below, running_only, rows_live, job_at, live_in_order}
@@ -111,7 +111,7 @@ pub tables_started : (tasks tasks' : Tasks) (plan : Placement) (s : Session) (m 
     → Joins plan s.jobs m (with_child m.progress.job new) new k (peak_with s 1) → (row : TaskRow) → row.job ≡ m.constants.number → row.slot ≡ k
     → TaskShows (with_task_at plan m.constants.number new.number k (peak_with s 1)) (record m { progress = record m.progress { job = with_child m.progress.job new } }) new (task_row row)
     → tasks'.rows.items ≡ tasks.rows.items ++ row ∷ [] → ((r : JobRow) → slice_get tasks.jobs (row.job - 1) ≡ Some r → tasks'.jobs ≡ slice_set tasks.jobs (row.job - 1) (with_next r)) → tasks' ≡ record tasks { rows = tasks'.rows; jobs = tasks'.jobs }
-    → TasksShow (with_task_at plan m.constants.number new.number k (peak_with s 1)) (moved s m (with_child m.progress.job new) 1) tasks'
+    → TasksShow (with_task_at plan m.constants.number new.number k (peak_with s 1)) (session_moved s m (with_child m.progress.job new) 1) tasks'
 tables_started tasks tasks' plan s m t new k x cpu o h shows runs joins row job_is at_slot row_shows rows_are jobs_are rest =
     let P = peak_with s 1 in
     let has_m = (keyed_has number_of m.constants.number s.jobs m runs.member).0 in
@@ -126,7 +126,7 @@ tables_started tasks tasks' plan s m t new k x cpu o h shows runs joins row job_
     let born = tables_born plan s m (with_child m.progress.job new) new k P o.numbered joins (map task_row tasks.rows.items) (map job_row tasks.jobs) (slice_set (map job_row tasks.jobs) (m.constants.number - 1) (job_row (with_next j.row))) (counts_of tasks) (task_row row) shows row_shows at_slot next
     (task_row of.row) (at_mapped task_row tasks.rows.items tasks.running of.row of.at) in
     let more = with_task_at plan m.constants.number new.number k P in
-    let after = moved s m (with_child m.progress.job new) 1 in
+    let after = session_moved s m (with_child m.progress.job new) 1 in
     subst (λ (c : rows.JobCounts). TablesShow more after (map task_row tasks'.rows.items) (map job_row tasks'.jobs) c) (sym (ap counts_of rest))
     (subst (λ (js : List rows.JobRow). TablesShow more after (map task_row tasks'.rows.items) js (counts_of tasks)) jobs_mapped
     (subst (λ (rs : List rows.TaskRow). TablesShow more after rs (slice_set (map job_row tasks.jobs) (m.constants.number - 1) (job_row (with_next j.row))) (counts_of tasks)) mapped born))

@@ -58,7 +58,7 @@ pub record HasSomeSlot (cpu : Cpu) (areas : Areas) : Type 0 where
   pub has : HasSlot storage plan session (length cpu.core) slot
 
 -- the machine stands for the session whose peak counts one live task more. What the sectors hold is as it was
-pub record IsOpened (x : Storage) (plan : Placement) (s : Session) (cpu : Cpu) (areas : Areas) : Type 0 where
+pub record SlotOpened (x : Storage) (plan : Placement) (s : Session) (cpu : Cpu) (areas : Areas) : Type 0 where
   pub storage : Storage
   pub stands : RepresentsSession storage cpu (with_peak plan (peak_with s 1)) (record s { peak = peak_with s 1 })
   pub low : areas.low ≡ storage.low

@@ -6,7 +6,7 @@ use Rattle.b67_ctl.specs.declared.map.TheConstants.{SLOTS}
 use Rattle.b67_area.specs.declared.Info.{Info}
 use Rattle.b67_area.specs.Spans.{area_at}
 use Rattle.b67_model.specs.Common.{Word, Proc, Marked, Task, Job, SessionJob, frame, top, cell, level_of_frame, NamesEntered, reach_of, child_of, is_original, Session}
-use Rattle.b67_layout.specs.Common.{IsInOrderButCounts, Placement, IsRunning, frame_address, here, peak_with, moved}
+use Rattle.b67_layout.specs.Common.{IsInOrderButCounts, Placement, IsRunning, frame_address, here, peak_with, session_moved}
 use Rattle.b67_stack.specs.Represents.{Storage}
 use Rattle.b67_task_tables.specs.declared.tables.JobRow.{JobRow}
 use Rattle.b67_task_tables.specs.declared.tables.TaskRow.{TaskRow}
@@ -71,7 +71,7 @@ pub record StartsSome (k : Machine) (at count : ℕ) : Type 0 where
 -- the session with the task started, in some storage
 pub record IsStarted (told : Option (List (List ℕ))) (plan : Placement) (s : Session) (m : SessionJob) (t new : Task) (slot : ℕ) (k : Machine) : Type 0 where
   pub storage : Storage
-  pub stands : MachineRepresents storage told k (with_task_at plan m.constants.number new.number slot (peak_with s 1)) (moved s m (with_child m.progress.job new) 1)
+  pub stands : MachineRepresents storage told k (with_task_at plan m.constants.number new.number slot (peak_with s 1)) (session_moved s m (with_child m.progress.job new) 1)
 
 -- a job's row once one of its tasks was started
 abbrev pub with_next : JobRow → JobRow

@@ -6,7 +6,7 @@ ghost use Rattle.b67_model.specs.Schedule.{Session};
 ghost use Rattle.b67_stack.specs.Represents.{Storage};
 ghost use Rattle.b67_layout.specs.Placement.{Placement};
 ghost use Rattle.b67_layout.specs.Session.{SessionHolds, RepresentsSession};
-ghost use Rattle.b67_task_start.specs.Opening.{IsLowestFree, slot_end, HoldsOne, HasSome, HasSlot, HasSomeSlot, IsOpened};
+ghost use Rattle.b67_task_start.specs.Opening.{IsLowestFree, slot_end, HoldsOne, HasSome, HasSlot, HasSomeSlot, SlotOpened};
 
 use b67_area::Areas;
 use b67_core::Core;
@@ -42,7 +42,7 @@ pub(crate) fn open_slot(cpu: &mut Cpu, areas: &mut Areas) -> u8
     requires { HasSomeSlot cpu.old areas.old }
     ensures slot { (x : Storage) (plan : Placement) (s : Session) (k : ℕ) → RepresentsSession x cpu.old plan s → IsLowestFree plan k → result ≡ k }
     ensures stands { (x : Storage) (plan : Placement) (s : Session) (k : ℕ) → IsInOrderButCounts s → RepresentsSession x cpu.old plan s → areas.old.low ≡ x.low
-        → HasSlot x plan s (length cpu.old.core) k → IsOpened x plan s cpu.new areas.new }
+        → HasSlot x plan s (length cpu.old.core) k → SlotOpened x plan s cpu.new areas.new }
     ensures rest { cpu.new ≡ record cpu.old { core = cpu.new.core; regs = record cpu.old.regs { peak = cpu.new.regs.peak } } }
     ensures areas { areas.new ≡ record areas.old { low = areas.new.low } }
     ensures len { length cpu.new.core ≡ length cpu.old.core }

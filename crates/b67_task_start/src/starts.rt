@@ -30,7 +30,7 @@ pub fn procedure_at(core: &Core, at: u32) -> Pcw
     Pcw::read(core.get(at))
 }
 
-/// A job's next task has the next number.
+/// Raises the number of a job's next task.
 fn count_task(rows: &mut [JobRow], at: usize)
     requires { (r : JobRow) × (slice_get rows.old at ≡ Some r) × (r.next_task + 1 < 2 ^ 32) }
     ensures { (r : JobRow) → slice_get rows.old at ≡ Some r → rows.new ≡ slice_set rows.old at (with_next r) }

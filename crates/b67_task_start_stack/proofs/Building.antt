@@ -12,12 +12,12 @@ use Rattle.b67_lemmas.specs.Lists.{Has}
 use Rattle.b67_model.specs.Common.{Task, Job, SessionJob, Session, NumberedFrom}
 use Rattle.b67_model.specs.Keyed.{keyed}
 use Rattle.b67_stack.specs.declared.Cpu.{Cpu}
-use Rattle.b67_stack.specs.Common.{StackPlace, Activation, Entered, mark_of, mark_place, below_top, RunsOn, slot_base, Storage, Represents}
+use Rattle.b67_stack.specs.Common.{StackPlace, Activation, Entered, mark_of, mark_place, activations_below, RunsOn, slot_base, Storage, Represents}
 use Rattle.b67_stack.proofs.Pushes.{room_of}
 use Rattle.b67_layout.specs.Common.{Placement, slot_of, machine_view, stack_of_task, vector_word, critical_mark, RepresentsSession}
 use Rattle.b67_layout.proofs.Starts.{runs_here}
 use Rattle.b67_task_start_stack.specs.Born.{with_task_at}
-use Rattle.b67_task_start_stack.specs.Joining.{Joins, Calls, MayBuild, joined}
+use Rattle.b67_task_start_stack.specs.Joining.{Joins, Calls, MayBuild, session_joined}
 use Rattle.b67_task_start_stack.proofs.OneMore.{slot_of-other}
 use Rattle.b67_lemmas.proofs.Members.{keyed_has}
 use Rattle.b67_task_start_stack.proofs.Started.{Built, slot_apart, enough, slot_room, slot_low, running_small, below_some, under_place, mark_now, RepresentsSession-started}
@@ -35,7 +35,7 @@ module _ (x : Storage) (cpu : Cpu) (plan : Placement) (s : Session) (m : Session
   pub on_stack : RunsOn (machine_view plan s.jobs) cpu.regs.slot (stack_of_task plan m.constants.number m.progress.job plan.running t)
   on_stack = runs_here x cpu plan s m t b.stands b.running
 
-  pub two_marks : below_top (stack_of_task plan m.constants.number m.progress.job plan.running t) ≢ []
+  pub two_marks : activations_below (stack_of_task plan m.constants.number m.progress.job plan.running t) ≢ []
   two_marks = below_some x cpu plan s m t job' child k b.ordered b.stands b.running b.joins b.calls
 
   pub few_words : (cpu.regs.s < 2 ^ 20 - 1) × (cpu.regs.s + 1 ≤ length cpu.core)
@@ -69,7 +69,7 @@ module _ (x : Storage) (cpu : Cpu) (plan : Placement) (s : Session) (m : Session
   module _ (new mid : List Tagged) (critical : List ℕ) (at under vector : ℕ) (top : Toscw) (mark : Mscw) (start : at ≡ slot_base (machine_view plan s.jobs) k)
       (top_is : top ≡ record { s = 2 + count; level = level; f = 1 })
       (mark_is : mark ≡ record { far = not (env_stack == k); entered = true; env_stack = env_stack; env_disp = env_disp; value = false; level = level; back = 0 })
-      (under_is : under ≡ mark_place (below_top (stack_of_task plan m.constants.number m.progress.job plan.running t)))
+      (under_is : under ≡ mark_place (activations_below (stack_of_task plan m.constants.number m.progress.job plan.running t)))
       (vector_is : vector ≡ 2 ^ 46 + cpu.regs.slot * 2 ^ 36 + j * 2 ^ 16)
       (built_top : slice_get mid at ≡ Some (toscw_word top)) (built_mark : slice_get mid (at + 1) ≡ Some (mscw_word mark)) (built_back : slice_get mid (at + 2) ≡ Some (word 3 0))
       (cells : (i : ℕ) → i < count → slice_get mid (at + 3 + i) ≡ slice_get cpu.core (cpu.regs.s + 1 - count + i))
@@ -132,5 +132,5 @@ module _ (x : Storage) (cpu : Cpu) (plan : Placement) (s : Session) (m : Session
           ∙ ap (λ (n : ℕ). Some (word 3 (2 ^ 46 + slot_of (with_task_at plan m.constants.number child.number k plan.peak) m.constants.number t.number * 2 ^ 36 + n * 2 ^ 16))) (sym b.job_is)
           ∙ ap (λ (ps : List ℕ). Some (vector_word (with_task_at plan m.constants.number child.number k plan.peak) m.constants.number ps)) (sym b.calls.line)
 
-    pub child_built : RepresentsSession x (record cpu { core = new; critical = critical }) (with_task_at plan m.constants.number child.number k plan.peak) (joined plan s m job')
+    pub child_built : RepresentsSession x (record cpu { core = new; critical = critical }) (with_task_at plan m.constants.number child.number k plan.peak) (session_joined plan s m job')
     child_built = RepresentsSession-started x cpu plan s m t job' child k b.ordered b.stands b.running b.joins b.calls after built

@@ -8,12 +8,12 @@ use Rattle.b67_area.proofs.Climbs.{area_at-low}
 use Rattle.b67_area.proofs.Separation.{Controls, IsDirectory-same}
 use Rattle.b67_ctl.specs.declared.registers.Regs.{Regs}
 use Rattle.b67_lemmas.specs.Lists.{Has}
-use Rattle.b67_stack.specs.Common.{Fits, LieDownward, Activation, stack_words, words, PagedObject, Slot, Free, Running, Waiting, stack_of, MachineView, slot_base, SlotFits, Laid, with_slot, NoOriginalAboveTop, Storage, RepresentsRunning, RepresentsSlot, StacksLie, RepresentsObjects, Represents, info_of}
+use Rattle.b67_stack.specs.Common.{Fits, LieDownward, Activation, stack_words, words, PagedObject, Slot, Free, Running, Waiting, stack_of, MachineView, slot_base, SlotFits, IsLaidOut, with_slot, NoOriginalAboveTop, Storage, RepresentsRunning, RepresentsSlot, StacksLie, RepresentsObjects, Represents, info_of}
 use Rattle.b67_stack.proofs.Bases.{base-apart}
 use Rattle.b67_stack.proofs.Heights.{words-length}
 use Rattle.b67_stack.proofs.Lies.{Lie-same}
 use Rattle.b67_stack.proofs.Slots.{by_slot, Content-areas}
-use Rattle.b67_task_start_stack.specs.Slots.{Filled}
+use Rattle.b67_task_start_stack.specs.Slots.{SlotFilled}
 
 slot_room : (p : MachineView) (k : ℕ) (s : Slot) → SlotFits p k s → 0 < p.size → stack_words (stack_of s) < p.size
 slot_room p k Free f some = some
@@ -36,11 +36,11 @@ controls_above at [] i c = absurd c
 controls_above at (Area a ∷ ss) i c = ⊎_elim (λ e. omega arith) (λ d. ⊎_elim (λ e. omega arith) (λ r. omega (arith, controls_above (at + (a.words + 2)) ss i r)) d) c
 controls_above at (Hole n ∷ ss) i c = ⊎_elim (λ e. omega arith) (λ r. omega (arith, controls_above (at + n) ss i r)) c
 
-module _ (x : Storage) (core new : List Tagged) (r : Regs) (p : MachineView) (k : ℕ) (stack : List Activation) (c : Filled x core new r p k stack) (s : Represents x core r p) (rests : NoOriginalAboveTop p) where
+module _ (x : Storage) (core new : List Tagged) (r : Regs) (p : MachineView) (k : ℕ) (stack : List Activation) (c : SlotFilled x core new r p k stack) (s : Represents x core r p) (rests : NoOriginalAboveTop p) where
   abbrev p' : MachineView
   p' = with_slot p k (Waiting stack)
 
-  laid : Laid x.low p
+  laid : IsLaidOut x.low p
   laid = s.slots.laid
 
   room : 0 < p.size
@@ -64,7 +64,7 @@ module _ (x : Storage) (core new : List Tagged) (r : Regs) (p : MachineView) (k 
       let low : t.home ≤ slot_base p k + stack_words (stack_of Free) = subst (λ (z : Slot). t.home ≤ slot_base p k + stack_words (stack_of z)) c.free (rests t i k c.used up down) in
       laid.not_base t i k c.used (omega (arith, low, up))
 
-  laid' : Laid x.low p'
+  laid' : IsLaidOut x.low p'
   laid' = record {
     low = laid.low;
     first = laid.first;

@@ -8,7 +8,7 @@ use Rattle.b67_area.specs.Spans.{Span, area_at}
 use Rattle.b67_area.specs.Directory.{IsDirectory}
 use Rattle.b67_ctl.specs.declared.registers.Regs.{Regs}
 use Rattle.b67_lemmas.specs.Lists.{Has}
-use Rattle.b67_stack.specs.Common.{Fits, LieDownward, Activation, stack_words, words, PagedObject, Slot, Free, Running, Waiting, stack_of, MachineView, slot_base, SlotFits, Laid, Storage, RepresentsRunning, RepresentsSlot, RepresentsRegs, RepresentsSlots, StacksLie, RepresentsObjects, Owned, Represents, info_of}
+use Rattle.b67_stack.specs.Common.{Fits, LieDownward, Activation, stack_words, words, PagedObject, Slot, Free, Running, Waiting, stack_of, MachineView, slot_base, SlotFits, IsLaidOut, Storage, RepresentsRunning, RepresentsSlot, RepresentsRegs, RepresentsSlots, StacksLie, RepresentsObjects, Owned, Represents, info_of}
 use Rattle.b67_stack.proofs.Bases.{base-step, base-apart}
 use Rattle.b67_stack.proofs.Heights.{words-length}
 use Rattle.b67_stack.proofs.Lies.{Lie-same}
@@ -39,7 +39,7 @@ module _ (x : Storage) (core new : List Tagged) (r : Regs) (p : MachineView) (sp
   abbrev y : Storage
   y = record x { low = x.low + p.size; spans = spans }
 
-  laid : Laid x.low p
+  laid : IsLaidOut x.low p
   laid = s.slots.laid
 
   low_base : x.low ≡ slot_base p p.peak
@@ -61,7 +61,7 @@ module _ (x : Storage) (core new : List Tagged) (r : Regs) (p : MachineView) (sp
   above : (k : ℕ) → 160 ≤ slot_base p k
   above k = omega (arith, laid.first)
 
-  laid' : Laid (x.low + p.size) (grown p)
+  laid' : IsLaidOut (x.low + p.size) (grown p)
   laid' = record {
     low = ap (λ (n : ℕ). n + p.size) low_base ∙ sym (base-step p p.peak);
     first = laid.first;

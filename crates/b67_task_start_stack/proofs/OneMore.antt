@@ -18,7 +18,7 @@ use Rattle.b67_task_start_stack.specs.Born.{with_task_at}
 use Rattle.b67_task_start_stack.specs.Joining.{Joins}
 use Rattle.b67_lemmas.proofs.Members.{keyed_has}
 use Rattle.b67_task_start_stack.specs.Likes.{Like}
-use Rattle.b67_task_start_stack.proofs.Twins.{like_same, stack-twin, spots-twin, slot_with-twin, name_all}
+use Rattle.b67_task_start_stack.proofs.AlikePlans.{like_same, stack-twin, spots-twin, slot_with-twin, name_all}
 
 module _ (plan : Placement) (j n k peak : ℕ) where
   abbrev more : Placement

@@ -16,14 +16,14 @@ use Rattle.b67_model.specs.Keyed.{keyed}
 use Rattle.b67_layout.specs.Common.{IsInOrderButCounts, JobInOrderButCounts, Placement, Slotted, slot_of, spot_in, outer_spots, shape, head, activations, stack_of_task, slot_by, slot_at, machine_view, IsRunning, ShowsDisplay, vector_word, critical_mark, SessionHolds, RepresentsSession, RowsFit}
 use Rattle.b67_lemmas.proofs.Members.{has_append_left, has_append_cases, has_map, has_map_back, keyed_falls, keyed_has, found-has}
 use Rattle.b67_stack.specs.declared.Cpu.{Cpu}
-use Rattle.b67_stack.specs.Common.{Locations, Shape, Copy, Copied, Is, Fits, LieDownward, StackPlace, Head, Marked, Entered, Activation, HeadFits, IsStack, stack_words, mark_of, return_of, headed, mark_place, words, toscw_of, MachineView, Free, Waiting, RunsOn, IsArrayAt, CopiesName, slot_base, with_slot, NoOriginalAboveTop, Storage, Represents, below_top}
+use Rattle.b67_stack.specs.Common.{Locations, Shape, Copy, Copied, Is, Fits, LieDownward, StackPlace, Head, Marked, Entered, Activation, HeadFits, IsStack, stack_words, mark_of, return_of, headed, mark_place, words, toscw_of, MachineView, Free, Waiting, RunsOn, IsArrayAt, CopiesName, slot_base, with_slot, NoOriginalAboveTop, Storage, Represents, activations_below}
 use Rattle.b67_stack.proofs.Heights.{words-length}
 use Rattle.b67_stack.proofs.Bases.{base-apart}
 use Rattle.b67_stack.proofs.Slots.{running_slot, running_fits, running_lies}
 use Rattle.b67_layout.proofs.Common.{running_in_order, next_is_free, free-uncritical, job_in_order, height-is, with_course, running_only, runs_on}
 use Rattle.b67_law_order.proofs.LowNames.{frames_low}
 use Rattle.b67_task_start_stack.specs.Born.{with_task_at}
-use Rattle.b67_task_start_stack.specs.Slots.{Filled}
+use Rattle.b67_task_start_stack.specs.Slots.{SlotFilled}
 use Rattle.b67_task_start_stack.proofs.Apart.{frames_apart}
 use Rattle.b67_task_start_stack.specs.Joining.{Sees, Joins, Calls}
 use Rattle.b67_task_start_stack.proofs.Copies.{shape_seen, seen_below, child_lies}
@@ -244,13 +244,13 @@ module _ (x : Storage) (cpu : Cpu) (plan : Placement) (s : Session) (m : Session
   pub running_small : cpu.regs.slot < 120
   running_small = omega (arith, slot_regs, parent_runs.used, h.holds.fits.few)
 
-  pub below_some : below_top (stack_of_task plan m.constants.number m.progress.job plan.running t) ≢ []
-  below_some = subst (λ (fs : List Frame). below_top (activations plan m.constants.number m.progress.job plan.running outer fs) ≢ []) (sym c.frames) (λ e. cc)
+  pub below_some : activations_below (stack_of_task plan m.constants.number m.progress.job plan.running t) ≢ []
+  below_some = subst (λ (fs : List Frame). activations_below (activations plan m.constants.number m.progress.job plan.running outer fs) ≢ []) (sym c.frames) (λ e. cc)
 
   -- where the mark stands that the child depends on
-  pub under_place : mark_place (below_top (stack_of_task plan m.constants.number m.progress.job plan.running t)) ≡ height c.below
+  pub under_place : mark_place (activations_below (stack_of_task plan m.constants.number m.progress.job plan.running t)) ≡ height c.below
   under_place =
-      ap (λ (fs : List Frame). mark_place (below_top (activations plan m.constants.number m.progress.job plan.running outer fs))) c.frames
+      ap (λ (fs : List Frame). mark_place (activations_below (activations plan m.constants.number m.progress.job plan.running outer fs))) c.frames
       ∙ (let e : stack_words (activations plan m.constants.number m.progress.job plan.running outer c.below) + 1 ≡ height c.below = omega (arith, height-is plan m.constants.number m.progress.job plan.running outer c.below) in e)
 
   mark_low : (f : Frame) (below : List Frame) → critical_mark m.progress.job (f ∷ below) ≤ height below
@@ -288,7 +288,7 @@ module _ (x : Storage) (cpu : Cpu) (plan : Placement) (s : Session) (m : Session
         (λ w i. (c.plain w i, word_sees w i))
         parent_lies)
 
-    filled : Filled x cpu.core new.core cpu.regs p k built
+    filled : SlotFilled x cpu.core new.core cpu.regs p k built
     filled = record {
       used = joins.inside;
       free = free_slot;

@@ -15,7 +15,7 @@ use Rattle.b67_layout.proofs.Rows.{slot_below}
 use Rattle.b67_layout.proofs.Sessions.{dictionary_below}
 use Rattle.b67_task_start_stack.specs.Slots.{grown}
 use Rattle.b67_task_start_stack.specs.Born.{with_peak}
-use Rattle.b67_task_start_stack.proofs.Twins.{like_same, name_all, slot_with-twin, spots-twin}
+use Rattle.b67_task_start_stack.proofs.AlikePlans.{like_same, name_all, slot_with-twin, spots-twin}
 
 module _ (plan : Placement) (n : ℕ) where
   abbrev wide : Placement

@@ -83,5 +83,5 @@ pub record BuildsSome (cpu : Cpu) (slot job env_stack env_disp level count : ℕ
   pub may : MayBuild storage cpu plan session member task after child slot job env_stack env_disp level count
 
 -- the session with the task
-abbrev pub joined : Placement → Session → SessionJob → Job → Session
-joined plan s m job' = record (with_job s m job') { peak = plan.peak }
+abbrev pub session_joined : Placement → Session → SessionJob → Job → Session
+session_joined plan s m job' = record (with_job s m job') { peak = plan.peak }

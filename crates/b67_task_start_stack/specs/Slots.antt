@@ -27,7 +27,7 @@ pub record HasRoom (x : Storage) (core : List Tagged) (r : Regs) (p : MachineVie
 
 -- a stack stands in a slot in which no task lived, and no word outside the slot has changed but the slot's in the stack
 -- vector
-pub record Filled (x : Storage) (core new : List Tagged) (r : Regs) (p : MachineView) (k : ℕ) (stack : List Activation) : Type 0 where
+pub record SlotFilled (x : Storage) (core new : List Tagged) (r : Regs) (p : MachineView) (k : ℕ) (stack : List Activation) : Type 0 where
   pub used : k < p.peak
   pub free : p.slots k ≡ Free
   pub away : r.slot ≢ k

@@ -3,14 +3,14 @@
 ghost use Rattle.std.specs.Prelude.{◌≡◌, ◌≢◌, ℕ, ◌+◌, ◌<◌, ◌≤◌, max, List, [], Some, length, slice_get};
 ghost use Rattle.b67_model.specs.State.{Job, SessionJob, Task};
 ghost use Rattle.b67_model.specs.Schedule.{Session};
-ghost use Rattle.b67_stack.specs.Changes.{below_top};
+ghost use Rattle.b67_stack.specs.Changes.{activations_below};
 ghost use Rattle.b67_stack.specs.MachineView.{MachineView, RunsOn};
 ghost use Rattle.b67_stack.specs.Stacks.{Activation, mark_place};
 ghost use Rattle.b67_stack.specs.Represents.{Storage, Represents};
 ghost use Rattle.b67_layout.specs.Placement.{Placement};
 ghost use Rattle.b67_layout.specs.Session.{RepresentsSession};
 ghost use Rattle.b67_task_start_stack.specs.Born.{with_task_at};
-ghost use Rattle.b67_task_start_stack.specs.Joining.{BuildsSome, MayBuild, joined};
+ghost use Rattle.b67_task_start_stack.specs.Joining.{BuildsSome, MayBuild, session_joined};
 
 use crate::slots::build_stack;
 use b67_ctl::{Mscw, SLOTS, STACK_VECTOR, Toscw, VectorWord};
@@ -18,9 +18,9 @@ use b67_stack::Cpu;
 
 /// The displacement of the mark under the running stack's topmost one.
 pub fn mark_disp(cpu: &Cpu) -> u16
-    requires { (x : Storage) × (p : MachineView) × (stack : List Activation) × Represents x cpu.now.core cpu.now.regs p × RunsOn p cpu.now.regs.slot stack × (below_top stack ≢ []) }
-    ensures { (x : Storage) (p : MachineView) (stack : List Activation) → Represents x cpu.now.core cpu.now.regs p → RunsOn p cpu.now.regs.slot stack → below_top stack ≢ []
-        → result ≡ mark_place (below_top stack) }
+    requires { (x : Storage) × (p : MachineView) × (stack : List Activation) × Represents x cpu.now.core cpu.now.regs p × RunsOn p cpu.now.regs.slot stack × (activations_below stack ≢ []) }
+    ensures { (x : Storage) (p : MachineView) (stack : List Activation) → Represents x cpu.now.core cpu.now.regs p → RunsOn p cpu.now.regs.slot stack → activations_below stack ≢ []
+        → result ≡ mark_place (activations_below stack) }
 {
     let mark = cpu.top_mark();
     (cpu.regs.f - u32::from(mark.back) - cpu.regs.bosr) as u16
@@ -50,7 +50,7 @@ pub fn build_child(
 )
     requires { BuildsSome cpu.old slot job env_stack env_disp level count }
     ensures stands { (x : Storage) (plan : Placement) (s : Session) (m : SessionJob) (t : Task) (after : Job) (child : Task) → MayBuild x cpu.old plan s m t after child slot job env_stack env_disp level count
-        → RepresentsSession x cpu.new (with_task_at plan m.constants.number child.number slot plan.peak) (joined plan s m after) }
+        → RepresentsSession x cpu.new (with_task_at plan m.constants.number child.number slot plan.peak) (session_joined plan s m after) }
     ensures len { length cpu.new.core ≡ length cpu.old.core }
     ensures regs { cpu.new.regs ≡ cpu.old.regs }
 {

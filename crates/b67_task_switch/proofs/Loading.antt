@@ -7,7 +7,7 @@ use Rattle.b67_ctl.specs.declared.registers.Regs.{Regs}
 use Rattle.b67_lemmas.specs.Lists.{Has}
 use Rattle.b67_lemmas.proofs.Members.{keyed_has}
 use Rattle.b67_model.specs.Common.{Task, SessionJob, number_of, Session}
-use Rattle.b67_stack.specs.Common.{Activation, stack_words, mark_place, running_level, MachineView, Running, Waiting, slot_base, with_slot, NoOriginalAboveTop, stack_of, Storage, RepresentsRegs, Represents}
+use Rattle.b67_stack.specs.Common.{Activation, stack_words, mark_place, stack_level, MachineView, Running, Waiting, slot_base, with_slot, NoOriginalAboveTop, stack_of, Storage, RepresentsRegs, Represents}
 use Rattle.b67_layout.specs.Common.{Placement, stack_of_task, slot_at, machine_view, IsRunning, RepresentsTask, SessionHolds}
 use Rattle.b67_layout.proofs.Rows.{slot_below}
 use Rattle.b67_layout.proofs.Sessions.{running_only}
@@ -83,7 +83,7 @@ module _ (x : Storage) (core : List Tagged) (r : Regs) (marks : List ℕ) (plan 
       (λ e. e)
 
 -- the registers as the code makes them
-pub loaded_is : (r : Regs) (p : MachineView) (stack : List Activation) (turn : Turn) (b z u v l : ℕ) → b ≡ slot_base p turn.slot → z ≡ p.size → u ≡ stack_words stack → v ≡ mark_place stack → l ≡ running_level stack
+pub loaded_is : (r : Regs) (p : MachineView) (stack : List Activation) (turn : Turn) (b z u v l : ℕ) → b ≡ slot_base p turn.slot → z ≡ p.size → u ≡ stack_words stack → v ≡ mark_place stack → l ≡ stack_level stack
     → (let made : Regs = record { s = b + u; f = b + v; bosr = b; losr = b + z - 1; slot = turn.slot; level = l; segment = turn.segment; place = turn.place; dict = turn.dict; entries = turn.entries; stacks = r.stacks; stack_size = r.stack_size; peak = r.peak } in made) ≡ loaded r p stack turn
 loaded_is r p stack turn b z u v l eb ez eu ev el = rw (eb, ez, eu, ev, el) refl
 

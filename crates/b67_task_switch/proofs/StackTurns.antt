@@ -7,7 +7,7 @@ use Rattle.b67_area.proofs.Climbs.{area_at-low}
 use Rattle.b67_area.proofs.Separation.{IsDirectory-same, controls_above}
 use Rattle.b67_ctl.specs.declared.registers.Regs.{Regs}
 use Rattle.b67_model.specs.Common.{Task, SessionJob, Session}
-use Rattle.b67_stack.specs.Common.{Fits, LieDownward, Activation, stack_words, words, MachineView, Slot, Free, Running, Waiting, stack_of, slot_base, SlotFits, Laid, with_slot, NoOriginalAboveTop, Storage, RepresentsSlot, StacksLie, RepresentsObjects, RepresentsRegs, Represents, info_of}
+use Rattle.b67_stack.specs.Common.{Fits, LieDownward, Activation, stack_words, words, MachineView, Slot, Free, Running, Waiting, stack_of, slot_base, SlotFits, IsLaidOut, with_slot, NoOriginalAboveTop, Storage, RepresentsSlot, StacksLie, RepresentsObjects, RepresentsRegs, Represents, info_of}
 use Rattle.b67_stack.proofs.Bases.{base-apart}
 use Rattle.b67_stack.proofs.Heights.{words-length}
 use Rattle.b67_stack.proofs.Lies.{Lie-same}
@@ -48,10 +48,10 @@ module _ (x : Storage) (core new : List Tagged) (r r' : Regs) (p : MachineView) 
   abbrev p' : MachineView
   p' = with_slot p k slot
 
-  laid : Laid x.low p
+  laid : IsLaidOut x.low p
   laid = s.slots.laid
 
-  laid' : Laid x.low p'
+  laid' : IsLaidOut x.low p'
   laid' = record {
     low = laid.low;
     first = laid.first;

@@ -6,7 +6,7 @@ use Rattle.b67_model.specs.Common.{Task, SessionJob, number_of, Session}
 use Rattle.b67_model.specs.Keyed.{keyed}
 use Rattle.b67_layout.specs.Common.{IsInOrderButCounts, Placement, slot_of, RepresentsSession}
 use Rattle.b67_stack.specs.declared.Cpu.{Cpu}
-use Rattle.b67_stack.specs.Common.{Activation, stack_words, mark_place, running_level, MachineView, Waiting, slot_base, Storage, Represents}
+use Rattle.b67_stack.specs.Common.{Activation, stack_words, mark_place, stack_level, MachineView, Waiting, slot_base, Storage, Represents}
 use Rattle.b67_task_switch.specs.declared.registers.Turn.{Turn}
 
 -- the plan with the registers of the task in a slot in use, NO_SLOT for none
@@ -62,7 +62,7 @@ loaded r p stack turn = record r {
   bosr = slot_base p turn.slot;
   losr = slot_base p turn.slot + p.size - 1;
   slot = turn.slot;
-  level = running_level stack;
+  level = stack_level stack;
   segment = turn.segment;
   place = turn.place;
   dict = turn.dict;

@@ -1,7 +1,7 @@
 use Rattle.std.proofs.Common.{◌≡◌, ℕ, ◌+◌, ◌-◌, ◌<◌, ◌≤◌, List, [], length, refl, sym, ◌∙◌, arith, ap, inl, inr}
 use Rattle.b67_area.specs.Spans.{Span, first_hole}
 use Rattle.b67_area.specs.Words.{hole_high}
-use Rattle.b67_area.specs.Walk.{top}
+use Rattle.b67_area.specs.Walk.{spans_top}
 use Rattle.b67_area.proofs.Walks.{first}
 use Rattle.b67_area.proofs.Climbs.{up_turn, up_next, up_word, up_size, up_on, arrived}
 use Rattle.b67_area.proofs.search.around.Goals as goal
@@ -24,13 +24,13 @@ pub room_of-room-requires : goal.room_of-room-requires
 room_of-room-requires c =
     let (low, ss, a, d, e) = c.requires in
     let t = up_turn c.args.core.now low ss c.args.at a c.up.before c.up.room c.up.next d (c.up.invariant low ss a d e) c.up-test.true c.if-at-next.false in
-    (t.size, first_hole (top low t.below + t.size) t.above, up_size c.args.core.now low ss c.args.at a c.up.before c.up.room c.up.next d t, up_next c.args.core.now low ss c.args.at a c.up.before c.up.room c.up.next d t, up_word c.args.core.now low ss c.args.at a c.up.before c.up.room c.up.next d t)
+    (t.size, first_hole (spans_top low t.below + t.size) t.above, up_size c.args.core.now low ss c.args.at a c.up.before c.up.room c.up.next d t, up_next c.args.core.now low ss c.args.at a c.up.before c.up.room c.up.next d t, up_word c.args.core.now low ss c.args.at a c.up.before c.up.room c.up.next d t)
 
 pub link_of-next-requires-in-up : goal.link_of-next-requires-in-up
 link_of-next-requires-in-up c =
     let (low, ss, a, d, e) = c.requires in
     let t = up_turn c.args.core.now low ss c.args.at a c.up.before c.up.room c.up.next d (c.up.invariant low ss a d e) c.up-test.true c.if-at-next.false in
-    (hole_high t.size, first_hole (top low t.below + t.size) t.above, up_next c.args.core.now low ss c.args.at a c.up.before c.up.room c.up.next d t, up_word c.args.core.now low ss c.args.at a c.up.before c.up.room c.up.next d t)
+    (hole_high t.size, first_hole (spans_top low t.below + t.size) t.above, up_next c.args.core.now low ss c.args.at a c.up.before c.up.room c.up.next d t, up_word c.args.core.now low ss c.args.at a c.up.before c.up.room c.up.next d t)
 
 pub up-smaller : goal.up-smaller
 up-smaller c =

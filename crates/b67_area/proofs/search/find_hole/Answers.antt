@@ -2,7 +2,7 @@ use Rattle.std.proofs.Common.{◌≡◌, ℕ, ◌+◌, ◌-◌, ◌<◌, ◌≤�
 use Rattle.b67_area.specs.Spans.{Span, first_hole}
 use Rattle.b67_area.specs.Words.{hole_high}
 use Rattle.b67_area.specs.Directory.{IsDirectory}
-use Rattle.b67_area.specs.Walk.{top, Fits}
+use Rattle.b67_area.specs.Walk.{spans_top, FitsHole}
 use Rattle.b67_area.proofs.Cuts.{pending}
 use Rattle.b67_area.proofs.Walks.{first, on, turn, turn_end, turn_next, turn_word, NoFit-unzip, NoFit-none, low_positive}
 use Rattle.b67_area.proofs.Places.{hole_facts}
@@ -25,24 +25,24 @@ room_of-room-requires c =
     let (low, ss, d) = c.requires in
     let n = c.args.words + 2 in
     let t = turn c.args.core.now n low ss c.holes.before c.holes.at d (c.holes.invariant low ss d) c.holes-test.true in
-    (t.room, first_hole (top low t.below + t.room) t.above, omega (arith, t.hole.fits, d.small), turn_next c.args.core.now n low ss c.holes.before c.holes.at d t, turn_word c.args.core.now n low ss c.holes.before c.holes.at d t)
+    (t.room, first_hole (spans_top low t.below + t.room) t.above, omega (arith, t.hole.fits, d.small), turn_next c.args.core.now n low ss c.holes.before c.holes.at d t, turn_word c.args.core.now n low ss c.holes.before c.holes.at d t)
 
 pub link_of-next-requires : goal.link_of-next-requires
 link_of-next-requires c =
     let (low, ss, d) = c.requires in
     let n = c.args.words + 2 in
     let t = turn c.args.core.now n low ss c.holes.before c.holes.at d (c.holes.invariant low ss d) c.holes-test.true in
-    (hole_high t.room, first_hole (top low t.below + t.room) t.above, turn_next c.args.core.now n low ss c.holes.before c.holes.at d t, turn_word c.args.core.now n low ss c.holes.before c.holes.at d t)
+    (hole_high t.room, first_hole (spans_top low t.below + t.room) t.above, turn_next c.args.core.now n low ss c.holes.before c.holes.at d t, turn_word c.args.core.now n low ss c.holes.before c.holes.at d t)
 
-fits : (c : Then-from) (low : ℕ) (ss : List Span) → IsDirectory c.args.core.now low ss → Fits (c.args.words + 2) low ss (record { before = c.holes.before; at = c.holes.at; room = c.room_of-room.result; next = c.link_of-next.result })
+fits : (c : Then-from) (low : ℕ) (ss : List Span) → IsDirectory c.args.core.now low ss → FitsHole (c.args.words + 2) low ss (record { before = c.holes.before; at = c.holes.at; room = c.room_of-room.result; next = c.link_of-next.result })
 fits c low ss d =
     let n = c.args.words + 2 in
     let t = turn c.args.core.now n low ss c.holes.before c.holes.at d (c.holes.invariant low ss d) c.holes-test.true in
     let next = turn_next c.args.core.now n low ss c.holes.before c.holes.at d t in
     let word = turn_word c.args.core.now n low ss c.holes.before c.holes.at d t in
     let room : c.room_of-room.result ≡ t.room = c.room_of-room.ensures _ _ (omega (arith, t.hole.fits, d.small)) next word in
-    let link : c.link_of-next.result ≡ first_hole (top low t.below + t.room) t.above = c.link_of-next.ensures _ _ next word in
-    let there : top low t.below + t.room ≡ c.holes.at + c.room_of-room.result = omega (arith, room, t.at_is) in
+    let link : c.link_of-next.result ≡ first_hole (spans_top low t.below + t.room) t.above = c.link_of-next.ensures _ _ next word in
+    let there : spans_top low t.below + t.room ≡ c.holes.at + c.room_of-room.result = omega (arith, room, t.at_is) in
     record {
       below = t.below;
       above = t.above;
@@ -76,10 +76,10 @@ holes-preserved c = λ low ss d.
     let next = turn_next c.args.core.now n low ss c.holes.before c.holes.at d t in
     let word = turn_word c.args.core.now n low ss c.holes.before c.holes.at d t in
     let room : c.room_of-room.result ≡ t.room = c.room_of-room.ensures _ _ (omega (arith, t.hole.fits, d.small)) next word in
-    let link : c.link_of-next.result ≡ first_hole (top low t.below + t.room) t.above = c.link_of-next.ensures _ _ next word in
+    let link : c.link_of-next.result ≡ first_hole (spans_top low t.below + t.room) t.above = c.link_of-next.ensures _ _ next word in
     on c.args.core.now n low ss c.holes.before c.holes.at d t c.link_of-next.result link (omega (arith, room))
 
 pub returns-clause-found : goal.returns-clause-found
 returns-clause-found c = λ low ss d.
     let w = c.holes.invariant low ss d in
-    rw w.is (NoFit-unzip (c.args.words + 2) w.below w.above w.small (NoFit-none (c.args.words + 2) (top low w.below) w.above (low_positive c.args.core.now low ss w.below d) (sym w.at_is ∙ c.holes-test.false)))
+    rw w.is (NoFit-unzip (c.args.words + 2) w.below w.above w.small (NoFit-none (c.args.words + 2) (spans_top low w.below) w.above (low_positive c.args.core.now low ss w.below d) (sym w.at_is ∙ c.holes-test.false)))

@@ -3,7 +3,7 @@ use Rattle.b67_area.specs.declared.kinds.Info.{Info}
 use Rattle.b67_area.specs.declared.search.Vacancy.{Vacancy}
 use Rattle.b67_area.specs.Spans.{Span, first_hole, area_at}
 use Rattle.b67_area.specs.Directory.{IsDirectory}
-use Rattle.b67_area.specs.Walk.{Around, Leaves, IsArea, IsAbove, front, behind, link_place, link_high}
+use Rattle.b67_area.specs.Walk.{Around, LeavesHole, IsArea, IsAbove, front, behind, link_place, link_high}
 use Rattle.b67_area.proofs.Climbs.{area_at-low, find_area, is_area, is_above, found_area}
 use Rattle.b67_area.proofs.Frees.{front_next, leaves, vacates}
 use Rattle.b67_area.proofs.search.vacated.Goals.{After-around-r, After-hole_at-t}
@@ -55,14 +55,14 @@ overflow_add-result c =
     let h = c.hole_at-t.ensures _ _ f.above i (next c.before.before low ss a d e) in
     omega (arith, h.0, (front_next c.args.core.now (link_place low f.below) (link_high f.below) (c.args.address - 1 + (c.words_of-taken.result + 2)) 0 f.above i).1, i.small)
 
-leaves_here : (c : After-hole_at-t) (low : ℕ) (ss : List Span) (a : Info) → IsDirectory c.args.core.now low ss → area_at low ss c.args.address ≡ Some a → Leaves low ss c.args.address a (record { before = c.around-r.result.before; room = c.around-r.result.room; at = c.args.address - 1; size = c.words_of-taken.result + 2 + c.hole_at-t.result.room; next = c.hole_at-t.result.next })
+leaves_here : (c : After-hole_at-t) (low : ℕ) (ss : List Span) (a : Info) → IsDirectory c.args.core.now low ss → area_at low ss c.args.address ≡ Some a → LeavesHole low ss c.args.address a (record { before = c.around-r.result.before; room = c.around-r.result.room; at = c.args.address - 1; size = c.words_of-taken.result + 2 + c.hole_at-t.result.room; next = c.hole_at-t.result.next })
 leaves_here c low ss a d e =
     let f = found c.before low ss a d e in
     let i = above c.before low ss a d e in
     let h = c.hole_at-t.ensures _ _ f.above i (next c.before low ss a d e) in
     let w : a.words + 2 + c.hole_at-t.result.room ≡ c.words_of-taken.result + 2 + c.hole_at-t.result.room = omega (arith, words c.before low ss a d e) in
     let l = leaves c.args.core.now low ss c.args.address (c.args.address - 1) a c.around-r.result d f (at_is c.before low ss a d e) c.hole_at-t.result.room c.hole_at-t.result.next h.0 (h.1 ∙ ap (λ (k : ℕ). first_hole (k + front f.above) (behind f.above)) (sym (behind_is c.before low ss a d e))) in
-    subst (λ (k : ℕ). Leaves low ss c.args.address a (record { before = c.around-r.result.before; room = c.around-r.result.room; at = c.args.address - 1; size = k; next = c.hole_at-t.result.next })) w l
+    subst (λ (k : ℕ). LeavesHole low ss c.args.address a (record { before = c.around-r.result.before; room = c.around-r.result.room; at = c.args.address - 1; size = k; next = c.hole_at-t.result.next })) w l
 
 pub returns-clause-found : goal.returns-clause-found
 returns-clause-found c = λ low ss a d e. leaves_here c.before low ss a d e

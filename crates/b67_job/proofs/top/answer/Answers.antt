@@ -1,6 +1,6 @@
 use Rattle.std.proofs.Common.{sym, ap, ◌∙◌, refl, Some}
 use Rattle.std.proofs.lemmas.Bool.{false≢true}
-use Rattle.b67_job.specs.Judgement.{reads}
+use Rattle.b67_job.specs.Judgement.{reads_text}
 use Rattle.std.specs.Prelude.{is_some}
 use Rattle.b67_job_admit.specs.Verdicts.{asm_verdict, bind_verdict, check_verdict, convert_verdict}
 use Rattle.b67_session_open.proofs.InitialOpens.{uncalled}
@@ -72,16 +72,16 @@ pub returns-in-None-clause-device : goal.returns-in-None-clause-device
 returns-in-None-clause-device g c = uncalled g.B.Backing.holds g.B.Backing.size g.B.Backing.calls g.B.Backing.faults c.args.backing.now
 
 pub returns-in-Some-Run-clause-unread : goal.returns-in-Some-Run-clause-unread
-returns-in-Some-Run-clause-unread g c = λ e. absurd (false≢true (sym e ∙ ap reads (sym c.command_of.ensures.command ∙ c.in-Some-Run.is ∙ ap (λ x. Some x) c.in-Some-Run.field-0-is)))
+returns-in-Some-Run-clause-unread g c = λ e. absurd (false≢true (sym e ∙ ap reads_text (sym c.command_of.ensures.command ∙ c.in-Some-Run.is ∙ ap (λ x. Some x) c.in-Some-Run.field-0-is)))
 
 pub returns-in-Some-Asm-clause-unread : goal.returns-in-Some-Asm-clause-unread
-returns-in-Some-Asm-clause-unread g c = λ e. absurd (false≢true (sym e ∙ ap reads (sym c.command_of.ensures.command ∙ c.in-Some-Asm.is ∙ ap (λ x. Some x) c.in-Some-Asm.field-0-is)))
+returns-in-Some-Asm-clause-unread g c = λ e. absurd (false≢true (sym e ∙ ap reads_text (sym c.command_of.ensures.command ∙ c.in-Some-Asm.is ∙ ap (λ x. Some x) c.in-Some-Asm.field-0-is)))
 
 pub returns-in-Some-Check-clause-unread : goal.returns-in-Some-Check-clause-unread
-returns-in-Some-Check-clause-unread g c = λ e. absurd (false≢true (sym e ∙ ap reads (sym c.command_of.ensures.command ∙ c.in-Some-Check.is ∙ ap (λ x. Some x) c.in-Some-Check.field-0-is)))
+returns-in-Some-Check-clause-unread g c = λ e. absurd (false≢true (sym e ∙ ap reads_text (sym c.command_of.ensures.command ∙ c.in-Some-Check.is ∙ ap (λ x. Some x) c.in-Some-Check.field-0-is)))
 
 pub returns-in-Some-Convert-clause-unread : goal.returns-in-Some-Convert-clause-unread
-returns-in-Some-Convert-clause-unread g c = λ e. absurd (false≢true (sym e ∙ ap reads (sym c.command_of.ensures.command ∙ c.in-Some-Convert.is ∙ ap (λ x. Some x) c.in-Some-Convert.field-0-is)))
+returns-in-Some-Convert-clause-unread g c = λ e. absurd (false≢true (sym e ∙ ap reads_text (sym c.command_of.ensures.command ∙ c.in-Some-Convert.is ∙ ap (λ x. Some x) c.in-Some-Convert.field-0-is)))
 
 pub returns-in-Some-Bind-clause-unread : goal.returns-in-Some-Bind-clause-unread
-returns-in-Some-Bind-clause-unread g c = λ e. absurd (false≢true (sym e ∙ ap reads (sym c.command_of.ensures.command ∙ c.in-Some-Bind.is ∙ ap (λ x. Some x) c.in-Some-Bind.field-0-is)))
+returns-in-Some-Bind-clause-unread g c = λ e. absurd (false≢true (sym e ∙ ap reads_text (sym c.command_of.ensures.command ∙ c.in-Some-Bind.is ∙ ap (λ x. Some x) c.in-Some-Bind.field-0-is)))

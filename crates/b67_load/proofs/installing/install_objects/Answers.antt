@@ -2,7 +2,7 @@ use Rattle.std.proofs.Common.{◌+◌, map, arith}
 use Rattle.std.proofs.lemmas.Result.{on_ok_weaker}
 use Rattle.b67_codefile.specs.Meaning.{segment_of}
 use Rattle.b67_load.specs.Objects.{code_from}
-use Rattle.b67_load.specs.Resting.{stocked}
+use Rattle.b67_load.specs.StoredObjects.{stocked}
 use Rattle.b67_load.proofs.Steps.{sectors-parts, all_written, all_spared}
 use Rattle.b67_load.proofs.installing.install_objects.Goals as goal
 

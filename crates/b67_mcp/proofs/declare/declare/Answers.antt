@@ -3,7 +3,7 @@ use Rattle.b67_word.specs.declared.couples.Place.{Place}
 use Rattle.b67_layout.specs.Meets.{with_job}
 use Rattle.b67_model.specs.declared.operators.Op.TheVariants.{Plain}
 use Rattle.b67_model.specs.declared.operators.Code.TheVariants.{Entr}
-use Rattle.b67_mcp_calls.specs.Declaring.{job_declared, with_home, without}
+use Rattle.b67_mcp_calls.specs.Declaring.{job_declared, with_home, storage_without}
 use Rattle.std.proofs.lemmas.Bool.{eq-eqb}
 use Rattle.b67_layout.specs.Placement.{Placement}
 use Rattle.b67_stack.specs.Shapes.{nowhere}
@@ -62,12 +62,12 @@ returns-clause-row c = λ x told plan s m t o h runs code called.
     let there = with_home plan m.constants.number m.progress.job.next_array cpu.regs.s in
     let same = one_behind m t q k.next (c.next_place-next.ensures.behind x told plan s m t o h runs code) (Plain Entr, k.reading) in
     let session = c.answer_array.ensures.stands x plan s m t o h.session runs r.2 in
-    let size = same_size x (without x cpu.regs.s) old.cpu cpu plan there s (with_job s m (job_declared m t n q)) h.session session refl refl in
-    let P : Place → Type 0 = λ p. MachineRepresents (without x cpu.regs.s) told new there (with_job s m (job_declared m t n p)) in (
+    let size = same_size x (storage_without x cpu.regs.s) old.cpu cpu plan there s (with_job s m (job_declared m t n q)) h.session session refl refl in
+    let P : Place → Type 0 = λ p. MachineRepresents (storage_without x cpu.regs.s) told new there (with_job s m (job_declared m t n p)) in (
       record {
         job = job_declared m t n k.next;
         is = k.is ∙ r.3 k.next;
-        storage = without x cpu.regs.s;
+        storage = storage_without x cpu.regs.s;
         plan = there;
         stands = subst P same (record {
           session = session;
@@ -88,7 +88,7 @@ returns-clause-kept c =
     let r = c.in-Ok.ensures.row q.storage q.plan q.session q.member q.task q.ordered q.stands.session q.running k.reference k.arguments k.call in
     let session = c.answer_array.ensures.stands q.storage q.plan q.session q.member q.task q.ordered q.stands.session q.running r.2 in
     record {
-      kept = record { countable = λ few. few; keeps = record { core = same_size q.storage (without q.storage cpu.regs.s) old.cpu cpu q.plan (with_home q.plan q.member.constants.number q.member.progress.job.next_array cpu.regs.s) q.session (with_job q.session q.member (job_declared q.member q.task c.in-Ok.length c.next_place-next.result)) q.stands.session session refl refl; sectors = refl; halt = refl; names = refl } };
+      kept = record { countable = λ few. few; keeps = record { core = same_size q.storage (storage_without q.storage cpu.regs.s) old.cpu cpu q.plan (with_home q.plan q.member.constants.number q.member.progress.job.next_array cpu.regs.s) q.session (with_job q.session q.member (job_declared q.member q.task c.in-Ok.length c.next_place-next.result)) q.stands.session session refl refl; sectors = refl; halt = refl; names = refl } };
       changed = c.answer_array.ensures.changed q.storage q.plan q.session q.member q.task q.ordered q.stands.session q.running r.2;
       sectors = refl;
     }

@@ -4,7 +4,7 @@ use Rattle.b67_model.specs.declared.operators.Code.TheVariants.{Entr}
 use Rattle.b67_model.specs.Steps.{Values, Goes}
 use Rattle.b67_stack.specs.declared.What.TheVariants as what
 use Rattle.b67_mcp_calls.specs.Calls.{job_cut}
-use Rattle.b67_mcp_calls.specs.declared.row.Found.{Found}
+use Rattle.b67_mcp_calls.specs.declared.row.RowFound.{RowFound}
 use Rattle.b67_mcp_calls.specs.RowCalls.{RowMeets, RowTouches}
 use Rattle.b67_mcp.proofs.Callings.{calling, reads_of, call_some}
 use Rattle.b67_mcp.proofs.Touched.{touched_by_row}
@@ -28,14 +28,14 @@ pub say_words-requires-clause-inside : goal.say_words-requires-clause-inside
 say_words-requires-clause-inside g c =
     let q = c.requires.runs in
     let k = calling q.member q.task 10 c.requires.called in
-    let P : Found → Type 0 = λ f. RowMeets q.storage q.plan q.member q.task c.args.machine.now.cpu.core k.arguments (Ok f) in
+    let P : RowFound → Type 0 = λ f. RowMeets q.storage q.plan q.member q.task c.args.machine.now.cpu.core k.arguments (Ok f) in
     (subst P c.in-Words.is (c.in-Ok.ensures.row q.storage q.plan q.session q.member q.task q.ordered q.stands.session q.running k.reference k.arguments k.call)).inside
 
 pub say_words-requires-clause-whole : goal.say_words-requires-clause-whole
 say_words-requires-clause-whole g c =
     let q = c.requires.runs in
     let k = calling q.member q.task 10 c.requires.called in
-    let P : Found → Type 0 = λ f. RowMeets q.storage q.plan q.member q.task c.args.machine.now.cpu.core k.arguments (Ok f) in
+    let P : RowFound → Type 0 = λ f. RowMeets q.storage q.plan q.member q.task c.args.machine.now.cpu.core k.arguments (Ok f) in
     let row = subst P c.in-Words.is (c.in-Ok.ensures.row q.storage q.plan q.session q.member q.task q.ordered q.stands.session q.running k.reference k.arguments k.call) in
     (row.values, row.lies)
 
@@ -43,21 +43,21 @@ pub cut-requires : goal.cut-requires
 cut-requires g c =
     let q = c.requires.runs in
     let k = calling q.member q.task 10 c.requires.called in
-    let P : Found → Type 0 = λ f. RowMeets q.storage q.plan q.member q.task c.args.machine.now.cpu.core k.arguments (Ok f) in
+    let P : RowFound → Type 0 = λ f. RowMeets q.storage q.plan q.member q.task c.args.machine.now.cpu.core k.arguments (Ok f) in
     let row = subst P c.in-Words.is (c.in-Ok.ensures.row q.storage q.plan q.session q.member q.task q.ordered q.stands.session q.running k.reference k.arguments k.call) in
     record { reads = reads_of c.args.machine.now 10 c.requires; may = row.may }
 
 pub returns-in-Absent-clause-row : goal.returns-in-Absent-clause-row
 returns-in-Absent-clause-row g c = λ x told plan s m t o h runs code called count.
     (let k = calling m t 10 called in
-    let P : Found → Type 0 = λ f. RowMeets x plan m t c.args.machine.now.cpu.core k.arguments (Ok f) in
+    let P : RowFound → Type 0 = λ f. RowMeets x plan m t c.args.machine.now.cpu.core k.arguments (Ok f) in
     let row = subst P c.in-Absent.is (c.in-Ok.ensures.row x plan s m t o h.session runs k.reference k.arguments k.call) in
     (record { array = row.array; among = row.among; touched = touched_by_row m t k row.array.identity row.are; absent = row.absent; named = ap what.Array row.home }, refl, refl))
 
 pub returns-in-Ok-say_words-clause-row : goal.returns-in-Ok-say_words-clause-row
 returns-in-Ok-say_words-clause-row g c = λ x told plan s m t o h runs code called count.
     (let k = calling m t 10 called in
-    let P : Found → Type 0 = λ f. RowMeets x plan m t c.args.machine.now.cpu.core k.arguments (Ok f) in
+    let P : RowFound → Type 0 = λ f. RowMeets x plan m t c.args.machine.now.cpu.core k.arguments (Ok f) in
     let row = subst P c.in-Words.is (c.in-Ok.ensures.row x plan s m t o h.session runs k.reference k.arguments k.call) in (
       record {
         job = job_cut m t k.next;
@@ -77,7 +77,7 @@ returns-in-Ok-say_words-clause-row g c = λ x told plan s m t o h runs code call
 pub returns-in-Err-say_words-clause-row : goal.returns-in-Err-say_words-clause-row
 returns-in-Err-say_words-clause-row g c = λ x told plan s m t o h runs code called count.
     (let k = calling m t 10 called in
-    let P : Found → Type 0 = λ f. RowMeets x plan m t c.args.machine.now.cpu.core k.arguments (Ok f) in
+    let P : RowFound → Type 0 = λ f. RowMeets x plan m t c.args.machine.now.cpu.core k.arguments (Ok f) in
     let row = subst P c.in-Words.is (c.in-Ok.ensures.row x plan s m t o h.session runs k.reference k.arguments k.call) in
     (record { job = job_cut m t k.next; printed = Values row.values ∷ []; touched = Some row.array; is = k.is ∙ row.makes k.next; text = c.in-Err-say_words.ensures.part x told plan s m t o h runs code row.values row.lies }, refl))
 
@@ -89,8 +89,8 @@ returns-in-Err-clause-present g c = λ x told plan s m t o h runs code called.
 pub returns-in-Ok-say_words-clause-present : goal.returns-in-Ok-say_words-clause-present
 returns-in-Ok-say_words-clause-present g c = λ x told plan s m t o h runs code called.
     (let k = calling m t 10 called in
-    let P : Found → Type 0 = λ f. RowMeets x plan m t c.args.machine.now.cpu.core k.arguments (Ok f) in
-    let Q : Found → Type 0 = λ f. RowTouches x plan m k.arguments (Ok f) in
+    let P : RowFound → Type 0 = λ f. RowMeets x plan m t c.args.machine.now.cpu.core k.arguments (Ok f) in
+    let Q : RowFound → Type 0 = λ f. RowTouches x plan m k.arguments (Ok f) in
     let row = subst P c.in-Words.is (c.in-Ok.ensures.row x plan s m t o h.session runs k.reference k.arguments k.call) in
     let present = subst Q c.in-Words.is (c.in-Ok.ensures.present x plan s m t o h.session runs k.reference k.arguments k.call) in
     row_made m t x plan k present (Goes (job_cut m t k.next) (Values row.values ∷ []) (Some row.array)) (row.makes k.next))
@@ -98,8 +98,8 @@ returns-in-Ok-say_words-clause-present g c = λ x told plan s m t o h runs code 
 pub returns-in-Err-say_words-clause-present : goal.returns-in-Err-say_words-clause-present
 returns-in-Err-say_words-clause-present g c = λ x told plan s m t o h runs code called.
     (let k = calling m t 10 called in
-    let P : Found → Type 0 = λ f. RowMeets x plan m t c.args.machine.now.cpu.core k.arguments (Ok f) in
-    let Q : Found → Type 0 = λ f. RowTouches x plan m k.arguments (Ok f) in
+    let P : RowFound → Type 0 = λ f. RowMeets x plan m t c.args.machine.now.cpu.core k.arguments (Ok f) in
+    let Q : RowFound → Type 0 = λ f. RowTouches x plan m k.arguments (Ok f) in
     let row = subst P c.in-Words.is (c.in-Ok.ensures.row x plan s m t o h.session runs k.reference k.arguments k.call) in
     let present = subst Q c.in-Words.is (c.in-Ok.ensures.present x plan s m t o h.session runs k.reference k.arguments k.call) in
     row_made m t x plan k present (Goes (job_cut m t k.next) (Values row.values ∷ []) (Some row.array)) (row.makes k.next))

@@ -3,7 +3,7 @@ use Rattle.std.specs.List.{slice_get}
 use Rattle.b67_stack.specs.declared.Cpu.{Cpu}
 use Rattle.b67_layout.specs.Common.{with_job, IsInStack, RepresentsSession}
 use Rattle.b67_mcp_calls.specs.Calls.{job_cut}
-use Rattle.b67_mcp_calls.specs.Declaring.{job_declared, with_home, without}
+use Rattle.b67_mcp_calls.specs.Declaring.{job_declared, with_home, storage_without}
 use Rattle.b67_mcp_call.proofs.Pushed.{room}
 use Rattle.b67_mcp_call.proofs.Answering.{task_cut, member_cut, runs_cut, higher, changed}
 use Rattle.b67_mcp_calls.proofs.Arrays.{array_answered}
@@ -22,7 +22,7 @@ put-requires c =
 pub returns-clause-stands : goal.returns-clause-stands
 returns-clause-stands c = λ x plan s m t o h runs may.
     (let q = c.args.next in
-    let P : Cpu → Type 0 = λ cpu. RepresentsSession (without x cpu.regs.s) cpu (with_home plan m.constants.number m.progress.job.next_array cpu.regs.s) (with_job s m (job_declared m t c.args.length q)) in
+    let P : Cpu → Type 0 = λ cpu. RepresentsSession (storage_without x cpu.regs.s) cpu (with_home plan m.constants.number m.progress.job.next_array cpu.regs.s) (with_job s m (job_declared m t c.args.length q)) in
     subst P (sym c.put.ensures) (array_answered x c.args.cpu.now c.cut_call.new.cpu plan s m t q o h runs may (λ there k r. c.cut_call.ensures.stands x there s m t o k r may) c.args.length c.word.result c.requires.some c.requires.small c.word.ensures))
 
 pub returns-clause-changed : goal.returns-clause-changed

@@ -1,11 +1,11 @@
 use Rattle.std.proofs.Common.{◌≡◌, ◌≤◌, ◌*◌, ◌++◌, ℤ, List, Some, drop}
 use Rattle.b67_model.specs.Lines.{task_name, row_text}
-use Rattle.b67_mcp_calls.specs.Texts.{values_of, still, IsShort, IsPrinting}
+use Rattle.b67_mcp_calls.specs.Texts.{values_of, still, FitsLine, IsPrinting}
 use Rattle.b67_mcp_calls.proofs.text.say_row.Given as goal
 
 abbrev pub invariant-loop-w : goal.invariant-loop-w
 invariant-loop-w g l = record {
-  short : IsShort l.begun.line l.begun.room;
+  short : FitsLine l.begun.line l.begun.room;
   start : l.begun.start ≤ 182 * l.w-index;
   later : g.K.Sink.faults l.fn.paper ≤ g.K.Sink.faults l.paper;
   left : (vs : List ℤ) × (values_of (drop l.w-index l.row) ≡ Some vs) × ((all : List ℤ) → values_of l.row ≡ Some all

@@ -9,7 +9,7 @@ use Rattle.b67_ctl.specs.declared.descriptors.DataDesc.{DataDesc}
 use Rattle.b67_ctl.specs.declared.registers.Regs.{Regs}
 use Rattle.b67_ctl.specs.Descriptors.{data_word}
 use Rattle.b67_stack.specs.declared.Cpu.{Cpu}
-use Rattle.b67_stack.specs.Common.{nowhere, PagedObject, MachineView, home_desc, home_word_of, Storage, Represents, info_of, Stayed}
+use Rattle.b67_stack.specs.Common.{nowhere, PagedObject, MachineView, home_desc, home_word_of, Storage, Represents, info_of, LowWordsStayed}
 use Rattle.b67_layout_storage.specs.Machine.{IsPresent}
 use Rattle.b67_overlay.specs.Spans.{CopiesLie, MachineCanPage}
 use Rattle.b67_overlay.proofs.Copies.{copies_stay, copies_objects}
@@ -199,12 +199,12 @@ returns-else-original-clause-row c = λ x told p t objects m a re.
       shelf = subst S k.1 (λ h. c.give_kept-else-original.ensures.row x.shelf m.shelf h) chain;
       device = m.device;
       copies =
-          let Y : List Tagged → Type 0 = λ core. Stayed p c.args.cpu.now.core core in
+          let Y : List Tagged → Type 0 = λ core. LowWordsStayed p c.args.cpu.now.core core in
           let stayed = subst Y (sym c.set-else-original.ensures.value) (stayed_absent p t a.there c.args.cpu.now.core c.args.home c.original-untouched.result a.is) in
           copies_objects c.set-else-original.new.self p objects (copies_stay x c.args.cpu.now.core c.args.cpu.now.regs p m.stands c.set-else-original.new.self stayed m.copies);
     }
 
 pub returns-else-original-clause-outside : goal.returns-else-original-clause-outside
 returns-else-original-clause-outside c = λ x told p t m a.
-    let S : List Tagged → Type 0 = λ core. Stayed p c.args.cpu.now.core core in
+    let S : List Tagged → Type 0 = λ core. LowWordsStayed p c.args.cpu.now.core core in
     subst S (sym c.set-else-original.ensures.value) (stayed_absent p t a.there c.args.cpu.now.core c.args.home c.original-untouched.result a.is)

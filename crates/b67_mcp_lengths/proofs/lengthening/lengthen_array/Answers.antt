@@ -3,7 +3,7 @@ use Rattle.b67_word.specs.Tagged.{Tagged}
 use Rattle.b67_backing.specs.Shelf.{HasChain}
 use Rattle.b67_backing.specs.Held.{sectors_for}
 use Rattle.b67_ctl.specs.declared.descriptors.DataDesc.{DataDesc}
-use Rattle.b67_stack.specs.Common.{PagedObject, MachineView, home_desc, address_or, Location, Storage, Represents, Stayed}
+use Rattle.b67_stack.specs.Common.{PagedObject, MachineView, home_desc, address_or, Location, Storage, Represents, LowWordsStayed}
 use Rattle.b67_layout_storage.specs.Machine.{IsPresent, content_after}
 use Rattle.b67_overlay.specs.Spans.{MachineCanPage}
 use Rattle.b67_overlay.proofs.Copies.{copies_stay, copies_objects}
@@ -152,7 +152,7 @@ pub returns-in-Ok-extend-clause-outside : goal.returns-in-Ok-extend-clause-outsi
 returns-in-Ok-extend-clause-outside g c = λ x p t at m a h.
     let k = context g (goal.at.returns-in-Ok-extend-clause-outside g c).After-original_at-original x p t at m a h in
     let row = c.in-Ok.ensures.row x p t m k.here in
-    let S : List Tagged → Type 0 = λ core. Stayed p c.overlay.new.cpu.core core in
+    let S : List Tagged → Type 0 = λ core. LowWordsStayed p c.overlay.new.cpu.core core in
     Stayed-then p c.args.cpu.now.core c.overlay.new.cpu.core c.set.new.self row.outside (subst S (sym c.set.ensures.value) (stayed_absent p t a.there c.overlay.new.cpu.core c.args.home c.original.result a.is))
 
 pub returns-in-Err-extend-clause-outside : goal.returns-in-Err-extend-clause-outside
@@ -207,7 +207,7 @@ returns-in-Ok-extend-clause-row g c = λ x p t at m a h.
             shelf = ext.chain.shelf;
             device = Says-retold y.device told1 told2 q.machine.device (λ all e. let z = ext.same.told all e in (z.0, z.1));
             copies =
-                let S : List Tagged → Type 0 = λ core. Stayed p c.overlay.new.cpu.core core in
+                let S : List Tagged → Type 0 = λ core. LowWordsStayed p c.overlay.new.cpu.core core in
                 let stayed = subst S (sym c.set.ensures.value) (stayed_absent p t a.there c.overlay.new.cpu.core c.args.home c.original.result a.is) in
                 copies_objects c.set.new.self p objects (copies_stay y c.overlay.new.cpu.core c.overlay.new.cpu.regs p q.machine.stands c.set.new.self stayed q.machine.copies);
           },

@@ -7,7 +7,7 @@ use Rattle.b67_area.specs.Spans.{Span, area_at, shortened, keeping, with_words}
 use Rattle.b67_area.specs.Directory.{IsDirectory}
 use Rattle.b67_backing.specs.Shelf.{IsShelf}
 use Rattle.b67_ctl.specs.declared.descriptors.DataDesc.{DataDesc}
-use Rattle.b67_stack.specs.Common.{PagedObject, MachineView, home_desc, home_word_of, address_or, Storage, Represents, info_of, Stayed}
+use Rattle.b67_stack.specs.Common.{PagedObject, MachineView, home_desc, home_word_of, address_or, Storage, Represents, info_of, LowWordsStayed}
 use Rattle.b67_layout_storage.specs.Machine.{IsPresent}
 use Rattle.b67_overlay.specs.Spans.{MachineCanPage}
 use Rattle.b67_overlay.proofs.Copies.{copies_stay, copies_objects}
@@ -127,9 +127,9 @@ left_core c x p t at a address =
 
 -- the words below the slots
 stays : (c : After-set) (x : Storage) (told : Option (List (List ℕ))) (p : MachineView) (t : PagedObject) (at : ℕ) → (m : MachineCanPage x c.args.cpu.now c.args.areas.now c.args.sectors.now told p) → IsArray p c.args.home t → IsPresent x p at t
-    → c.original_at-at.result.address ≡ at → 1 ≤ c.args.words → c.args.words < length t.numbers → Shrunk x.low at c.args.words x.spans c.args.cpu.now.core c.keep.new.core → Stayed p c.args.cpu.now.core c.set.new.self
+    → c.original_at-at.result.address ≡ at → 1 ≤ c.args.words → c.args.words < length t.numbers → Shrunk x.low at c.args.words x.spans c.args.cpu.now.core c.keep.new.core → LowWordsStayed p c.args.cpu.now.core c.set.new.self
 stays c x told p t at m a h address some fewer f =
-    let P : List Tagged → Type 0 = λ core. Stayed p c.args.cpu.now.core core in
+    let P : List Tagged → Type 0 = λ core. LowWordsStayed p c.args.cpu.now.core core in
     subst P (sym (left_core c x p t at a address)) (below_short x c.args.cpu.now.core c.args.cpu.now.regs p m.stands t a.kind at h c.args.words some fewer c.keep.new.core f)
 
 pub returns-clause-row : goal.returns-clause-row

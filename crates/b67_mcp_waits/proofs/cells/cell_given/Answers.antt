@@ -2,7 +2,7 @@ use Rattle.std.proofs.Common.{◌-◌, Ok, Err, sym, arith, subst}
 use Rattle.b67_model.specs.Common.{Answer, End, follow_reference}
 use Rattle.b67_layout.specs.Meets.{here}
 use Rattle.b67_fetch.proofs.Values.{top_followed, here_scene, here_shown, followed_stands}
-use Rattle.b67_mcp_waits.specs.declared.cells.Found.{Found}
+use Rattle.b67_mcp_waits.specs.declared.cells.CellFound.{CellFound}
 use Rattle.b67_mcp_waits.specs.Arguments.{FindsOperand}
 use Rattle.b67_mcp_waits.proofs.Arguments.{no_end}
 use Rattle.b67_mcp_waits.proofs.Scans.{offset_low}
@@ -80,6 +80,6 @@ returns c = λ x plan s m t o h runs r arguments call q.
     let found = c.in-Ok-operand_cell.ensures scene q (here_shown x c.args.cpu.now plan s m t o h runs) k.followed.at k.followed.owner k.word (followed_stands x c.args.cpu.now plan s m t o h runs c.in-Ok.w k.word k.followed) in
     let e = cell_here scene q c.in-Ok-operand_cell.at (follow_reference (here m t q) k.word) found in
     let mark = c.mark_under-mark.ensures scene q e.f e.offset e.bits e.cell in
-    let result : Found = record { at = c.in-Ok-operand_cell.at; mark = c.mark_under-mark.result; offset = c.in-Ok-operand_cell.at - c.mark_under-mark.result } in
+    let result : CellFound = record { at = c.in-Ok-operand_cell.at; mark = c.mark_under-mark.result; offset = c.in-Ok-operand_cell.at - c.mark_under-mark.result } in
     subst (λ (y : Answer End). FindsOperand plan m t c.args.cpu.now.core q (Ok result) y) (sym (end_is x plan m t r arguments call q c.in-Ok.w there.0 k))
     (finds_cell x c.args.cpu.now plan s m t o h runs q c.in-Ok-operand_cell.at c.mark_under-mark.result (follow_reference (here m t q) k.word) e mark))

@@ -1,4 +1,4 @@
-use Rattle.b67_stack.specs.Common.{MachineView, Storage, Stayed}
+use Rattle.b67_stack.specs.Common.{MachineView, Storage, LowWordsStayed}
 use Rattle.b67_layout_storage.specs.Machine.{DeviceAfterCalls, PagingKeeps}
 use Rattle.b67_overlay.specs.Spans.{MachineCanPage}
 use Rattle.b67_overlay.specs.AreasEvicted.{EvictedBelow, Remains}
@@ -13,7 +13,7 @@ invariant-areas g l =
       device : DeviceAfterCalls holds g.B.Backing.size g.B.Backing.calls g.B.Backing.faults l.initial.backing l.backing;
       stands : (x : Storage) (p : MachineView) → MachineCanPage x l.initial.cpu l.initial.areas l.initial.sectors (holds l.initial.backing) p
           → (y : Storage) × EvictedBelow l.fn.upto x y × Remains y.low y.spans 0 l.next × MachineCanPage y l.cpu l.areas l.sectors (holds l.backing) p
-          × Stayed p l.initial.cpu.core l.cpu.core;
+          × LowWordsStayed p l.initial.cpu.core l.cpu.core;
     }
 
 abbrev pub decreases-areas : goal.decreases-areas

@@ -8,7 +8,7 @@ use Rattle.b67_area.specs.Spans.{area_at}
 use Rattle.b67_area.specs.Directory.{IsDirectory}
 use Rattle.b67_backing.specs.Shelf.{IsShelf, HasChain as ChainIs}
 use Rattle.b67_backing.specs.Held.{sectors_for, Stores, SameBut, Changes}
-use Rattle.b67_stack.specs.Common.{words_of, tag_of, Storage, Represents, ObjectHasChain, info_of}
+use Rattle.b67_stack.specs.Common.{object_words, tag_of, Storage, Represents, ObjectHasChain, info_of}
 use Rattle.b67_layout_storage.specs.Machine.{content_after}
 use Rattle.b67_overlay.specs.Spans.{MachineCanPage}
 use Rattle.std.proofs.lemmas.List.{length-map}
@@ -86,7 +86,7 @@ give_back-requires-clause-first g c =
     let R : Info → Type 0 = λ i. i.kept ≡ 0 → sectors_for i.words ≤ length x.shelf.free in
     let room = subst R is ((c.in-Ok.ensures.row x.shelf m.shelf).room) in
     let S : List Tagged → Type 0 = λ ws. Changes g.B.Backing.holds c.args.backing.now c.write_out.new.backing (Stores (sectors_out x.shelf (x.held t.home).chain (length t.numbers)) (map number ws)) in
-    let stores = subst S (range_up c.args.cpu.now.core c.args.area (length t.numbers) (words_of t) (length-map t.numbers (word (tag_of t.kind))) ab.words) wr.2 in
+    let stores = subst S (range_up c.args.cpu.now.core c.args.area (length t.numbers) (object_words t) (length-map t.numbers (word (tag_of t.kind))) ab.words) wr.2 in
     let o = out_written x c.args.cpu.now.core c.args.cpu.now.regs p m.stands c.args.area t at c.args.sectors.now (g.B.Backing.holds c.args.backing.now) (g.B.Backing.holds c.write_out.new.backing) m.shelf m.device array stores.told room in
     omega (arith, o.holds.chain.small, wr.0)
 
@@ -128,7 +128,7 @@ returns-in-Ok-clause-row g c = λ x p t m at.
           let R : Info → Type 0 = λ i. i.kept ≡ 0 → sectors_for i.words ≤ length x.shelf.free in
           let room = subst R is ((c.in-Ok.ensures.row x.shelf m.shelf).room) in
           let S : List Tagged → Type 0 = λ ws. Changes g.B.Backing.holds c.args.backing.now c.write_out.new.backing (Stores (sectors_out x.shelf (x.held t.home).chain (length t.numbers)) (map number ws)) in
-          let stores = subst S (range_up c.args.cpu.now.core c.args.area (length t.numbers) (words_of t) (length-map t.numbers (word (tag_of t.kind))) ab.words) wr.2 in
+          let stores = subst S (range_up c.args.cpu.now.core c.args.area (length t.numbers) (object_words t) (length-map t.numbers (word (tag_of t.kind))) ab.words) wr.2 in
           let o = out_written x c.args.cpu.now.core c.args.cpu.now.regs p m.stands c.args.area t at c.args.sectors.now (g.B.Backing.holds c.args.backing.now) (g.B.Backing.holds c.write_out.new.backing) m.shelf m.device array stores.told room in
           let y : Storage = record x { shelf = shelf_out x.shelf (x.held t.home).chain (length t.numbers); device = content_after x.device (g.B.Backing.holds c.write_out.new.backing) } in
           let I : ℕ → Type 0 = λ n. IsOut x y p t n in

@@ -8,8 +8,8 @@ loop-i-preserved c =
     let m = c.loop-i.invariant in
     record {
       size = c.set.ensures.len ∙ m.size;
-      turned = rw c.set.ensures.value (turned-more c.args.area c.args.original c.args.core.now c.loop-i.core c.args.from c.loop-i.i c.get-w.result c.turned.result m.size (omega (arith, m.size, c.requires.inside)) c.get-w.ensures c.turned.ensures m.turned m.others);
-      others = rw c.set.ensures.value (others-more c.args.area c.args.original c.args.core.now c.loop-i.core c.args.from c.loop-i.i c.turned.result (omega arith) m.others);
+      turned = rw c.set.ensures.value (turned-more c.args.area c.args.original c.args.core.now c.loop-i.core c.args.from c.loop-i.i c.get-w.result c.made_absent.result m.size (omega (arith, m.size, c.requires.inside)) c.get-w.ensures c.made_absent.ensures m.turned m.others);
+      others = rw c.set.ensures.value (others-more c.args.area c.args.original c.args.core.now c.loop-i.core c.args.from c.loop-i.i c.made_absent.result (omega arith) m.others);
     }
 
 pub returns-clause-others : goal.returns-clause-others

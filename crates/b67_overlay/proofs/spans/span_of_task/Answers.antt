@@ -4,7 +4,7 @@ use Rattle.std.proofs.lemmas.Option.{same_Some}
 use Rattle.b67_ctl.specs.declared.vector.VectorWord.{VectorWord}
 use Rattle.b67_stack.specs.Common.{stack_words, MachineView, slot_base, stack_of}
 use Rattle.b67_overlay.specs.Turns.{Lies}
-use Rattle.b67_overlay.specs.Spans.{Kin, Families, ShowsFamilies, parent_field, kin_word, holds}
+use Rattle.b67_overlay.specs.Spans.{Resident, Families, ShowsFamilies, parent_field, kin_word, holds}
 use Rattle.b67_overlay.proofs.Families.{parent_low, base_here, whole_here, over_here, span_in_job, span_of_others, span_in_own, span_in_parent, span_nowhere}
 use Rattle.b67_overlay.proofs.Turning.{stack_low}
 use Rattle.b67_overlay.proofs.spans.span_of_task.Goals.{After-stack_top-upto, After-job_of, After-is_in_slot}
@@ -34,7 +34,7 @@ get-requires c =
     let (low, p, f, a, l, s, o, e) = c.requires in
     omega (arith, (s.kin c.args.slot a e).used, s.few, c.from-then-original-regs.ensures, l.slots.laid.first, l.inside, l.slots.laid.low)
 
-job_read : (c : After-job_of) (low : ℕ) (p : MachineView) (f : Families) (a : Kin) (l : Lies c.args.core.now c.args.regs.now low p) (s : ShowsFamilies c.args.core.now p f) → f.kin c.args.slot ≡ Some a
+job_read : (c : After-job_of) (low : ℕ) (p : MachineView) (f : Families) (a : Resident) (l : Lies c.args.core.now c.args.regs.now low p) (s : ShowsFamilies c.args.core.now p f) → f.kin c.args.slot ≡ Some a
     → c.from-job.result ≡ a.job
 job_read c low p f a l s e =
     let k = s.kin c.args.slot a e in

@@ -1,6 +1,6 @@
 use Rattle.std.proofs.Common.{sym, ◌∙◌, ap, arith}
 use Rattle.b67_layout.specs.Layout.{array_object, machine_view}
-use Rattle.b67_presence_page.specs.declared.paging.Resting.{Resting}
+use Rattle.b67_presence_page.specs.declared.paging.AbsentObject.{AbsentObject}
 use Rattle.b67_presence_page.proofs.Descriptors.{rest_here}
 use Rattle.b67_presence.proofs.Again.{view_stands}
 use Rattle.b67_presence.proofs.Wants.{array_absent, wanted_code, wanted_array}
@@ -33,7 +33,7 @@ returns-in-Array-clause-small c =
     let mx = (view_stands q.storage told k q.plan q.session q.ordered q.stands).stands in
     let a = array_absent q.storage told k q.plan q.session q.member q.task q.ordered q.stands q.running home q.words w in
     let few = (rest_here q.storage k.cpu.core k.cpu.regs p home object mx a).few in
-    omega (arith, ap (λ (z : Resting). z.words) (c.at.ensures q.storage k.cpu.regs p object mx a), few)
+    omega (arith, ap (λ (z : AbsentObject). z.words) (c.at.ensures q.storage k.cpu.regs p object mx a), few)
 
 pub returns-in-Array-clause-words : goal.returns-in-Array-clause-words
 returns-in-Array-clause-words c = λ x told plan s m t words o h runs wanted.
@@ -42,4 +42,4 @@ returns-in-Array-clause-words c = λ x told plan s m t words o h runs wanted.
     let w = wanted_array x plan m t c.args.absent words home c.in-Array.is wanted in
     let mx = (view_stands x told k plan s o h).stands in
     let a = array_absent x told k plan s m t o h runs home words w in
-    ap (λ (z : Resting). z.words) (c.at.ensures x k.cpu.regs (machine_view plan s.jobs) (array_object plan m.constants.number w.array) mx a) ∙ sym w.words_are
+    ap (λ (z : AbsentObject). z.words) (c.at.ensures x k.cpu.regs (machine_view plan s.jobs) (array_object plan m.constants.number w.array) mx a) ∙ sym w.words_are

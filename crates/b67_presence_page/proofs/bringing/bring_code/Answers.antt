@@ -3,7 +3,7 @@ use Rattle.std.proofs.lemmas.Result.{on_ok_weaker, on_err_weaker}
 use Rattle.b67_layout_storage.proofs.Below.{Stayed-then}
 use Rattle.b67_layout_storage.proofs.Devices.{Served-then, Served-same}
 use Rattle.b67_overlay.proofs.Shedding.{AreasEvicted-none}
-use Rattle.b67_presence_page.specs.declared.paging.Refusal.TheVariants.{NoHole}
+use Rattle.b67_presence_page.specs.declared.paging.PagingRefusal.TheVariants.{NoHole}
 use Rattle.b67_presence_page.proofs.Ways.{read_in, came_of}
 use Rattle.b67_presence_page.proofs.bringing.bring_code.Goals as goal
 

@@ -4,8 +4,8 @@ use Rattle.b67_layout_storage.proofs.Below.{Stayed-then}
 use Rattle.b67_layout_storage.proofs.Devices.{Served-then, Served-same}
 use Rattle.b67_overlay.specs.AreasEvicted.{IsShortBy}
 use Rattle.b67_overlay.proofs.Shedding.{AreasEvicted-none}
-use Rattle.b67_presence_page.specs.declared.paging.Refusal.TheVariants.{NoHole, BackingFault}
-use Rattle.b67_presence_page.specs.Brings.{Waits, IsCode, NoHoleStill}
+use Rattle.b67_presence_page.specs.declared.paging.PagingRefusal.TheVariants.{NoHole, BackingFault}
+use Rattle.b67_presence_page.specs.Brings.{StandsEvicted, IsCode, NoHoleStill}
 use Rattle.b67_presence_page.proofs.Ways.{read_in, came_of}
 use Rattle.b67_presence_page.proofs.Forcing.{both_came, may_wait}
 use Rattle.b67_presence_page.proofs.bringing.bring_data.Goals as goal
@@ -54,7 +54,7 @@ returns-in-Err-NoHole-clause-row g c = λ x p t d at m a k.
           f x p t d mx a ks r) c.force_data.ensures.refused;
       zeros = λ room z. absurd (((c.page_in.ensures.row x p t m a).full).0 none room);
       full = λ wants free e.
-          let Q : ℕ → Type 0 = λ n. (w : Waits x p n c.force_data.new.cpu c.force_data.new.areas c.force_data.new.sectors (g.B.Backing.holds c.force_data.new.backing)) × IsShortBy w.storage p wants free × NoHoleStill (length t.numbers + 2) x w.storage in
+          let Q : ℕ → Type 0 = λ n. (w : StandsEvicted x p n c.force_data.new.cpu c.force_data.new.areas c.force_data.new.sectors (g.B.Backing.holds c.force_data.new.backing)) × IsShortBy w.storage p wants free × NoHoleStill (length t.numbers + 2) x w.storage in
           let r = subst Q seg.1 (c.force_data.ensures.full x p t wants free mx a e) in
           let no_hole = ((c.page_in.ensures.row x p t m a).full).0 none in
           (no_hole, r.0, r.1, r.2 no_hole);

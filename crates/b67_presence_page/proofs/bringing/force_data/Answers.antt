@@ -8,8 +8,8 @@ use Rattle.b67_presence_page.proofs.Ways.{absent_after, readable_after}
 use Rattle.b67_presence_page.proofs.Forcing.{code_after, both_came, may_wait, both_before, wait_before}
 use Rattle.b67_presence_page.proofs.bringing.force_data.Goals as goal
 
-pub last_resort-requires-clause-machine : goal.last_resort-requires-clause-machine
-last_resort-requires-clause-machine g c =
+pub evict_code-requires-clause-machine : goal.evict_code-requires-clause-machine
+evict_code-requires-clause-machine g c =
     let (x, p, t, d, m, a, k, fits) = c.requires.machine in
     let (w, alone) = (c.make_way.ensures.row x p t m a).clear (c.in-Ok-false.is ∙ ap Ok c.in-Ok-false.field-0-test) in
     let y = w.storage in
@@ -35,27 +35,27 @@ returns-in-Ok-false-clause-outside g c = λ x p t d m a k.
     let y = w.storage in
     let ay = absent_after x y p c.args.home c.args.spare t w.sheds a in
     let ky = code_after x y p c.args.code c.args.spare d w.sheds k in
-    Stayed-then p c.args.cpu.now.core c.make_way.new.cpu.core c.last_resort.new.cpu.core ((c.make_way.ensures.row x p t m a).outside) (c.last_resort.ensures.outside y p t d w.stands ay ky alone)
+    Stayed-then p c.args.cpu.now.core c.make_way.new.cpu.core c.evict_code.new.cpu.core ((c.make_way.ensures.row x p t m a).outside) (c.evict_code.ensures.outside y p t d w.stands ay ky alone)
 
 pub returns-in-Ok-false-clause-both : goal.returns-in-Ok-false-clause-both
-returns-in-Ok-false-clause-both g c = on_ok_weaker c.last_resort.result (λ both x p t d m a k r.
+returns-in-Ok-false-clause-both g c = on_ok_weaker c.evict_code.result (λ both x p t d m a k r.
     let (w, alone) = (c.make_way.ensures.row x p t m a).clear (c.in-Ok-false.is ∙ ap Ok c.in-Ok-false.field-0-test) in
     let y = w.storage in
     let ay = absent_after x y p c.args.home c.args.spare t w.sheds a in
     let ky = code_after x y p c.args.code c.args.spare d w.sheds k in
-    both_before x y p c.args.spare t d c.last_resort.new.cpu c.last_resort.new.areas c.make_way.new.sectors (g.B.Backing.holds c.last_resort.new.backing) w.sheds (both y p t d w.stands ay ky alone (readable_after x y p c.args.spare w.sheds r))) c.last_resort.ensures.both
+    both_before x y p c.args.spare t d c.evict_code.new.cpu c.evict_code.new.areas c.make_way.new.sectors (g.B.Backing.holds c.evict_code.new.backing) w.sheds (both y p t d w.stands ay ky alone (readable_after x y p c.args.spare w.sheds r))) c.evict_code.ensures.both
 
 pub returns-in-Ok-false-clause-refused : goal.returns-in-Ok-false-clause-refused
-returns-in-Ok-false-clause-refused g c = on_err_weaker c.last_resort.result (λ waits x p t d m a k r.
+returns-in-Ok-false-clause-refused g c = on_err_weaker c.evict_code.result (λ waits x p t d m a k r.
     let (w, alone) = (c.make_way.ensures.row x p t m a).clear (c.in-Ok-false.is ∙ ap Ok c.in-Ok-false.field-0-test) in
     let y = w.storage in
     let ay = absent_after x y p c.args.home c.args.spare t w.sheds a in
     let ky = code_after x y p c.args.code c.args.spare d w.sheds k in
-    wait_before x y p c.args.spare t d c.last_resort.new.cpu c.last_resort.new.areas c.make_way.new.sectors (g.B.Backing.holds c.last_resort.new.backing) w.sheds (waits y p t d w.stands ay ky alone (readable_after x y p c.args.spare w.sheds r))) c.last_resort.ensures.waits
+    wait_before x y p c.args.spare t d c.evict_code.new.cpu c.evict_code.new.areas c.make_way.new.sectors (g.B.Backing.holds c.evict_code.new.backing) w.sheds (waits y p t d w.stands ay ky alone (readable_after x y p c.args.spare w.sheds r))) c.evict_code.ensures.waits
 
 pub returns-in-Ok-false-clause-device : goal.returns-in-Ok-false-clause-device
 returns-in-Ok-false-clause-device g c =
-    Served-then g.B.Backing.holds g.B.Backing.size g.B.Backing.calls g.B.Backing.faults c.args.backing.now c.make_way.new.backing c.last_resort.new.backing c.make_way.ensures.device c.last_resort.ensures.device
+    Served-then g.B.Backing.holds g.B.Backing.size g.B.Backing.calls g.B.Backing.faults c.args.backing.now c.make_way.new.backing c.evict_code.new.backing c.make_way.ensures.device c.evict_code.ensures.device
 
 pub returns-in-Err-clause-full : goal.returns-in-Err-clause-full
 returns-in-Err-clause-full g c = λ x p t wants free m a e. (c.in-Err.ensures.row x p t m a).full wants free (let z : ◌≡◌ {A = Result Bool SpaceFault} (Err c.in-Err.fault) (Err (BackingFull wants free)) = cc in z)

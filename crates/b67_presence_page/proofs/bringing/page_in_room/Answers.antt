@@ -1,6 +1,6 @@
 use Rattle.std.proofs.Common.{◌≡◌, Err}
 use Rattle.b67_layout_storage.proofs.Devices.{Served-same}
-use Rattle.b67_presence_page.specs.declared.paging.Refusal.TheVariants.{NoHole}
+use Rattle.b67_presence_page.specs.declared.paging.PagingRefusal.TheVariants.{NoHole}
 use Rattle.b67_presence_page.proofs.Ways.{read_in}
 use Rattle.b67_presence_page.proofs.bringing.page_in_room.Goals as goal
 

@@ -7,7 +7,7 @@ use Rattle.b67_model.specs.Chase.{follow}
 use Rattle.b67_layout.specs.Meets.{here}
 use Rattle.b67_refer.specs.RunningContext.{LiveContext, live_of, FromEither}
 use Rattle.b67_refer.specs.LiveEnds.{EndMeets}
-use Rattle.b67_refer.proofs.Eyes.{from_running}
+use Rattle.b67_refer.proofs.SeenFrom.{from_running}
 use Rattle.b67_refer.proofs.Follows.{is_reference, follows_reference, follows_none, follows_whole, follows_item, item_copied, item_named, word_described}
 use Rattle.b67_refer.proofs.ends.chase.Goals as goal
 

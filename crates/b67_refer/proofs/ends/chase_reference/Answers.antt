@@ -6,7 +6,7 @@ use Rattle.b67_layout.specs.Meets.{here}
 use Rattle.b67_refer.specs.declared.ends.End.{End}
 use Rattle.b67_refer.specs.RunningContext.{LiveContext}
 use Rattle.b67_refer.specs.LiveEnds.{EndMeets, LinkMeets}
-use Rattle.b67_refer.proofs.Eyes.{eye, either}
+use Rattle.b67_refer.proofs.SeenFrom.{eye, either}
 use Rattle.b67_refer.proofs.Names.{Rest, turn_end, turn_fault, turn_on, turn_last, cell_found, ends_chain, ends_missing}
 use Rattle.b67_refer.proofs.ends.chase_reference.Goals as goal
 

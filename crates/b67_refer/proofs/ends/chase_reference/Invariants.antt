@@ -4,7 +4,7 @@ use Rattle.b67_model.specs.Words.{Word}
 use Rattle.b67_refer.specs.RunningContext.{LiveContext, IsShown, running_of}
 use Rattle.b67_refer.specs.LiveCells.{StandsFor}
 use Rattle.b67_refer.specs.LiveEnds.{IsReference}
-use Rattle.b67_refer.proofs.Eyes.{eye}
+use Rattle.b67_refer.proofs.SeenFrom.{eye}
 use Rattle.b67_refer.proofs.Names.{Rest}
 use Rattle.b67_refer.proofs.ends.chase_reference.Given as goal
 

@@ -29,34 +29,34 @@ module _ (g : Over) (c : After-step g) where
     names = c.step.ensures.keeps.names ∙ c.turn.invariant.keeps.names;
   }
 
-  module _ (known : Option (List (List ℕ))) (s : Session) (says : Says known (g.B.Backing.holds c.args.backing.now)) (h : StandsAt known c.args.machine.now s) where
-    abbrev going : Going g.K.Sink.taken (known ≢ None) (content_after known (g.B.Backing.holds c.turn.backing)) c.turn.made s c.args.machine.now c.turn.machine c.args.paper.now c.turn.paper
-    going = c.turn.invariant.going known s says h
+  module _ (said : Option (List (List ℕ))) (s : Session) (says : Says said (g.B.Backing.holds c.args.backing.now)) (h : StandsAt said c.args.machine.now s) where
+    abbrev going : Going g.K.Sink.taken (said ≢ None) (content_after said (g.B.Backing.holds c.turn.backing)) c.turn.made s c.args.machine.now c.turn.machine c.args.paper.now c.turn.paper
+    going = c.turn.invariant.going said s says h
 
     abbrev now : Option (List (List ℕ))
-    now = content_after known (g.B.Backing.holds c.turn.backing)
+    now = content_after said (g.B.Backing.holds c.turn.backing)
 
-    tells : known ≢ None → g.B.Backing.holds c.turn.backing ≢ None
-    tells = still_told g.B.Backing.holds g.B.Backing.size g.B.Backing.calls g.B.Backing.faults c.args.backing.now c.turn.backing known says c.turn.invariant.device
+    tells : said ≢ None → g.B.Backing.holds c.turn.backing ≢ None
+    tells = still_told g.B.Backing.holds g.B.Backing.size g.B.Backing.calls g.B.Backing.faults c.args.backing.now c.turn.backing said says c.turn.invariant.device
 
     stepped : (answered : Result (Unit {0}) Stop) → c.step.result ≡ answered
-        → Steps g.K.Sink.taken (content_after known (g.B.Backing.holds c.step.new.backing)) (now ≢ None) (g.B.Backing.size c.args.backing.now) going.session answered c.turn.machine c.step.new.machine c.turn.paper c.step.new.paper
+        → Steps g.K.Sink.taken (content_after said (g.B.Backing.holds c.step.new.backing)) (now ≢ None) (g.B.Backing.size c.args.backing.now) going.session answered c.turn.machine c.step.new.machine c.turn.paper c.step.new.paper
     stepped answered is =
         let P : Option (List (List ℕ)) → ℕ → Result (Unit {0}) Stop → Type 0 = λ d n a. Steps g.K.Sink.taken d (now ≢ None) n going.session a c.turn.machine c.step.new.machine c.turn.paper c.step.new.paper in
         let told = g.B.Backing.holds c.step.new.backing in
-        let row = c.step.ensures.row now going.session (says_retold known (g.B.Backing.holds c.turn.backing)) going.stands in
-        subst (P (content_after known told) (g.B.Backing.size c.args.backing.now)) is
-        (subst (λ (d : Option (List (List ℕ))). P d (g.B.Backing.size c.args.backing.now) c.step.result) (retold_twice known (g.B.Backing.holds c.turn.backing) told tells)
+        let row = c.step.ensures.row now going.session (says_retold said (g.B.Backing.holds c.turn.backing)) going.stands in
+        subst (P (content_after said told) (g.B.Backing.size c.args.backing.now)) is
+        (subst (λ (d : Option (List (List ℕ))). P d (g.B.Backing.size c.args.backing.now) c.step.result) (retold_twice said (g.B.Backing.holds c.turn.backing) told tells)
         (subst (λ (n : ℕ). P (content_after now told) n c.step.result) c.turn.invariant.device.size row))
 
     present : (m : SessionJob) (t : Task) → IsNext s m t → (answered : Result Progress Stop) → c.turn.machine.tasks.made ≤ c.step.new.machine.tasks.made → c.turn.made + 1 ≤ c.args.n
         → (StopsWithRoom (length c.args.machine.now.cpu.core) s m t c.step.result → StopsWithRoom (length c.args.machine.now.cpu.core) s m t answered)
         → (IsNotFull c.step.result → IsNotFull answered) → ((sum size : ℕ) → answered ≡ Err (BackingFull sum size) → c.step.result ≡ Err (BackingFull sum size))
-        → IfPresent g.B.Backing.holds (known ≢ None) (length c.args.machine.now.cpu.core) c.args.n h.storage h.plan s m t answered c.args.machine.now c.step.new.machine c.args.backing.now c.step.new.backing
+        → IfPresent g.B.Backing.holds (said ≢ None) (length c.args.machine.now.cpu.core) c.args.n h.storage h.plan s m t answered c.args.machine.now c.step.new.machine c.args.backing.now c.step.new.backing
     present m t next answered later few same fine full =
-        begun_present g.B.Backing.holds known (length c.turn.machine.cpu.core) (length c.args.machine.now.cpu.core) c.args.n c.turn.made c.args.machine.now c.turn.machine c.step.new.machine s m t
+        begun_present g.B.Backing.holds said (length c.turn.machine.cpu.core) (length c.args.machine.now.cpu.core) c.args.n c.turn.made c.args.machine.now c.turn.machine c.step.new.machine s m t
         c.args.backing.now c.turn.backing c.step.new.backing c.step.result answered c.turn.invariant.begun c.turn.invariant.keeps.core going.made later few same fine full
-        (λ none l. c.step.ensures.present known s m t (subst (λ d. Says known (g.B.Backing.holds d)) (sym (c.turn.invariant.begun none).1) says) l next) h
+        (λ none l. c.step.ensures.present said s m t (subst (λ d. Says said (g.B.Backing.holds d)) (sym (c.turn.invariant.begun none).1) says) l next) h
 
 -- ---- the loop
 
@@ -67,21 +67,21 @@ turn-init g c = record {
   later = omega arith;
   device = Served-none g.B.Backing.holds g.B.Backing.size g.B.Backing.calls g.B.Backing.faults c.args.backing.now;
   keeps = record { core = refl; sectors = refl; halt = refl; names = refl };
-  going = λ known s says h.
-      let P : Option (List (List ℕ)) → Type 0 = λ d. Going g.K.Sink.taken (known ≢ None) d 0 s c.args.machine.now c.args.machine.now c.args.paper.now c.args.paper.now in
-      subst P (sym (retold-same known (g.B.Backing.holds c.args.backing.now) says)) (going-begins g.K.Sink.taken (known ≢ None) known s c.args.machine.now c.args.paper.now h);
+  going = λ said s says h.
+      let P : Option (List (List ℕ)) → Type 0 = λ d. Going g.K.Sink.taken (said ≢ None) d 0 s c.args.machine.now c.args.machine.now c.args.paper.now c.args.paper.now in
+      subst P (sym (retold-same said (g.B.Backing.holds c.args.backing.now) says)) (going-begins g.K.Sink.taken (said ≢ None) said s c.args.machine.now c.args.paper.now h);
   begun = λ none. (refl, refl);
   none = λ none. refl;
   unprinted = λ none. refl;
-  quiet = λ known s m t h says next few wants same. refl;
-  written = λ known s m t h says next tells few fits none. record { told = λ all e. e };
+  quiet = λ said s m t h says next few wants same. refl;
+  written = λ said s m t h says next tells few fits none. record { told = λ all e. e };
 }
 
 pub step-requires-clause-lives : goal.step-requires-clause-lives
 step-requires-clause-lives g c =
     let l = c.requires.stands in
-    going-lives g.K.Sink.taken (l.known ≢ None) (content_after l.known (g.B.Backing.holds c.turn.backing)) 0 c.args.n c.turn.made l.session c.args.machine.now c.turn.machine c.args.paper.now c.turn.paper
-    (c.turn.invariant.going l.known l.session l.says l.stands) (g.B.Backing.holds c.turn.backing) (says_retold l.known (g.B.Backing.holds c.turn.backing)) c.in_default.ensures.0
+    going-lives g.K.Sink.taken (l.said ≢ None) (content_after l.said (g.B.Backing.holds c.turn.backing)) 0 c.args.n c.turn.made l.session c.args.machine.now c.turn.machine c.args.paper.now c.turn.paper
+    (c.turn.invariant.going l.said l.session l.says l.stands) (g.B.Backing.holds c.turn.backing) (says_retold l.said (g.B.Backing.holds c.turn.backing)) c.in_default.ensures.0
 
 pub step-requires-clause-due : goal.step-requires-clause-due
 step-requires-clause-due g c = c.in_default.ensures.1
@@ -101,14 +101,14 @@ pub go_on_with_turn-more-requires-clause-stands : goal.go_on_with_turn-more-requ
 go_on_with_turn-more-requires-clause-stands g c =
     let a = (goal.at.go_on_with_turn-more-requires-clause-stands g c).After-step in
     let l = c.requires.stands in
-    let one = one_more g a c.in-Ok.is c.in_default.ensures.1 l.known l.session l.says l.stands in
-    record { known = content_after l.known (g.B.Backing.holds c.step.new.backing); session = one.session; stands = one.stands }
+    let one = one_more g a c.in-Ok.is c.in_default.ensures.1 l.said l.session l.says l.stands in
+    record { said = content_after l.said (g.B.Backing.holds c.step.new.backing); session = one.session; stands = one.stands }
 
 pub go_on_with_turn-more-requires-clause-unprinted : goal.go_on_with_turn-more-requires-clause-unprinted
 go_on_with_turn-more-requires-clause-unprinted g c =
     let a = (goal.at.go_on_with_turn-more-requires-clause-unprinted g c).After-step in
     let l = c.requires.stands in
-    (one_more g a c.in-Ok.is c.in_default.ensures.1 l.known l.session l.says l.stands).texts.some (omega arith)
+    (one_more g a c.in-Ok.is c.in_default.ensures.1 l.said l.session l.says l.stands).texts.some (omega arith)
 
 pub turn-preserved : goal.turn-preserved
 turn-preserved g c =
@@ -122,76 +122,76 @@ turn-preserved g c =
       later = omega (arith, c.turn.invariant.later, c.step.ensures.causes.printer.later);
       device = Served-then g.B.Backing.holds g.B.Backing.size g.B.Backing.calls g.B.Backing.faults c.args.backing.now c.turn.backing c.step.new.backing c.turn.invariant.device c.step.ensures.device;
       keeps = keeps_on c.args.machine.now c.step.new.machine c.go_on_with_turn-more.new.machine (keeps g a) c.go_on_with_turn-more.ensures.keeps;
-      going = λ known s says h.
-          let one = one_more g a is c.in_default.ensures.1 known s says h in
-          going-turn g.K.Sink.taken (known ≢ None) (content_after known (g.B.Backing.holds c.step.new.backing)) (c.turn.made + 1) more (c.turn.made + (1 + more)) s c.args.machine.now c.step.new.machine c.go_on_with_turn-more.new.machine c.args.paper.now c.step.new.paper
-          one (keeps g a) (omega arith) (c.go_on_with_turn-more.ensures.row (content_after known (g.B.Backing.holds c.step.new.backing)) one.session one.stands) total;
+      going = λ said s says h.
+          let one = one_more g a is c.in_default.ensures.1 said s says h in
+          going-turn g.K.Sink.taken (said ≢ None) (content_after said (g.B.Backing.holds c.step.new.backing)) (c.turn.made + 1) more (c.turn.made + (1 + more)) s c.args.machine.now c.step.new.machine c.go_on_with_turn-more.new.machine c.args.paper.now c.step.new.paper
+          one (keeps g a) (omega arith) (c.go_on_with_turn-more.ensures.row (content_after said (g.B.Backing.holds c.step.new.backing)) one.session one.stands) total;
       begun = λ none. absurd (omega (arith, none));
       none = λ none. absurd (none_made c.args.machine.now c.turn.machine c.turn.made c.turn.invariant.none (λ zero. (c.turn.invariant.begun zero).0) c.in_default.ensures.0 none);
       unprinted = λ none. absurd (omega (arith, none));
-      quiet = λ known s m t h says next few wants.
-          let later = made_no_fewer (stepped g a known s says h (Ok tt) is) in
-          (present g a known s says h m t next (Ok progress.More) later (omega arith) (λ room. tt) (λ whole. not_full_ok progress.More) (λ sum size e. absurd cc)).quiet few wants;
-      written = λ known s m t h says next tells few fits none.
-          let later = made_no_fewer (stepped g a known s says h (Ok tt) is) in
-          ((present g a known s says h m t next (Ok progress.More) later (omega arith) (λ room. tt) (λ whole. not_full_ok progress.More) (λ sum size e. absurd cc)).hole tells few fits none).written;
+      quiet = λ said s m t h says next few wants.
+          let later = made_no_fewer (stepped g a said s says h (Ok tt) is) in
+          (present g a said s says h m t next (Ok progress.More) later (omega arith) (λ room. tt) (λ whole. not_full_ok progress.More) (λ sum size e. absurd cc)).quiet few wants;
+      written = λ said s m t h says next tells few fits none.
+          let later = made_no_fewer (stepped g a said s says h (Ok tt) is) in
+          ((present g a said s says h m t next (Ok progress.More) later (omega arith) (λ room. tt) (λ whole. not_full_ok progress.More) (λ sum size e. absurd cc)).hole tells few fits none).written;
     }
 
 -- ---- the answers
 
 pub returns-in-Some-clause-row : goal.returns-in-Some-clause-row
-returns-in-Some-clause-row g c = λ known s says h.
-    pause_slices g.K.Sink.taken (known ≢ None) (content_after known (g.B.Backing.holds c.turn.backing)) (g.B.Backing.size c.args.backing.now) c.args.n c.turn.made s c.args.machine.now c.turn.machine c.args.paper.now c.turn.paper
-    (c.turn.invariant.going known s says h) (omega arith) c.in-Some.progress c.in-Some.ensures
+returns-in-Some-clause-row g c = λ said s says h.
+    pause_slices g.K.Sink.taken (said ≢ None) (content_after said (g.B.Backing.holds c.turn.backing)) (g.B.Backing.size c.args.backing.now) c.args.n c.turn.made s c.args.machine.now c.turn.machine c.args.paper.now c.turn.paper
+    (c.turn.invariant.going said s says h) (omega arith) c.in-Some.progress c.in-Some.ensures
 
 pub returns-in-Some-clause-present : goal.returns-in-Some-clause-present
-returns-in-Some-clause-present g c = λ known s m t says h next.
+returns-in-Some-clause-present g c = λ said s m t says h next.
     record {
-      quiet = λ few wants. c.turn.invariant.quiet known s m t h says next few wants;
-      hole = λ tells few fits none. record { written = c.turn.invariant.written known s m t h says next tells few fits none; not_full = not_full_ok c.in-Some.progress };
+      quiet = λ few wants. c.turn.invariant.quiet said s m t h says next few wants;
+      hole = λ tells few fits none. record { written = c.turn.invariant.written said s m t h says next tells few fits none; not_full = not_full_ok c.in-Some.progress };
       sum = λ few wants sum size e. absurd (let b : ⊥ = cc in b);
       room = λ tells code none. tt;
     }
 
 pub returns-in-Some-pause-clause-row : goal.returns-in-Some-pause-clause-row
-returns-in-Some-pause-clause-row g c = λ known s says h.
-    pause_slices g.K.Sink.taken (known ≢ None) (content_after known (g.B.Backing.holds c.turn.backing)) (g.B.Backing.size c.args.backing.now) c.args.n c.turn.made s c.args.machine.now c.turn.machine c.args.paper.now c.turn.paper
-    (c.turn.invariant.going known s says h) (omega arith) c.in-Some-pause.progress c.in-Some-pause.ensures
+returns-in-Some-pause-clause-row g c = λ said s says h.
+    pause_slices g.K.Sink.taken (said ≢ None) (content_after said (g.B.Backing.holds c.turn.backing)) (g.B.Backing.size c.args.backing.now) c.args.n c.turn.made s c.args.machine.now c.turn.machine c.args.paper.now c.turn.paper
+    (c.turn.invariant.going said s says h) (omega arith) c.in-Some-pause.progress c.in-Some-pause.ensures
 
 pub returns-in-Some-pause-clause-present : goal.returns-in-Some-pause-clause-present
-returns-in-Some-pause-clause-present g c = λ known s m t says h next.
+returns-in-Some-pause-clause-present g c = λ said s m t says h next.
     record {
-      quiet = λ few wants. c.turn.invariant.quiet known s m t h says next few wants;
-      hole = λ tells few fits none. record { written = c.turn.invariant.written known s m t h says next tells few fits none; not_full = not_full_ok c.in-Some-pause.progress };
+      quiet = λ few wants. c.turn.invariant.quiet said s m t h says next few wants;
+      hole = λ tells few fits none. record { written = c.turn.invariant.written said s m t h says next tells few fits none; not_full = not_full_ok c.in-Some-pause.progress };
       sum = λ few wants sum size e. absurd (let b : ⊥ = cc in b);
       room = λ tells code none. tt;
     }
 
 pub returns-in-None-clause-row : goal.returns-in-None-clause-row
-returns-in-None-clause-row g c = λ known s says h.
-    going-more g.K.Sink.taken (known ≢ None) (content_after known (g.B.Backing.holds c.turn.backing)) (g.B.Backing.size c.args.backing.now) c.args.n c.turn.made s c.args.machine.now c.turn.machine c.args.paper.now c.turn.paper
-    (c.turn.invariant.going known s says h) (omega arith) c.in-None.ensures.0 c.in-None.ensures.1
+returns-in-None-clause-row g c = λ said s says h.
+    going-more g.K.Sink.taken (said ≢ None) (content_after said (g.B.Backing.holds c.turn.backing)) (g.B.Backing.size c.args.backing.now) c.args.n c.turn.made s c.args.machine.now c.turn.machine c.args.paper.now c.turn.paper
+    (c.turn.invariant.going said s says h) (omega arith) c.in-None.ensures.0 c.in-None.ensures.1
 
 pub returns-in-None-clause-present : goal.returns-in-None-clause-present
-returns-in-None-clause-present g c = λ known s m t says h next.
+returns-in-None-clause-present g c = λ said s m t says h next.
     record {
-      quiet = λ few wants. c.turn.invariant.quiet known s m t h says next few wants;
-      hole = λ tells few fits none. record { written = c.turn.invariant.written known s m t h says next tells few fits none; not_full = not_full_ok progress.More };
+      quiet = λ few wants. c.turn.invariant.quiet said s m t h says next few wants;
+      hole = λ tells few fits none. record { written = c.turn.invariant.written said s m t h says next tells few fits none; not_full = not_full_ok progress.More };
       sum = λ few wants sum size e. absurd (let b : ⊥ = cc in b);
       room = λ tells code none. tt;
     }
 
 pub returns-in-Err-clause-row : goal.returns-in-Err-clause-row
-returns-in-Err-clause-row g c = λ known s says h.
+returns-in-Err-clause-row g c = λ said s says h.
     let a = (goal.at.returns-in-Err-clause-row g c).After-step in
-    going-stops g.K.Sink.taken (known ≢ None) (now g a known s says h) (g.B.Backing.size c.args.backing.now) c.args.n c.turn.made s c.args.machine.now c.turn.machine c.args.paper.now c.turn.paper (going g a known s says h)
-    (content_after known (g.B.Backing.holds c.step.new.backing)) (known_still known (g.B.Backing.holds c.turn.backing) (tells g a known s says h)) c.step.new.machine c.step.new.paper
-    c.turn.invariant.keeps c.in_default.ensures.1 c.in-Err.stop (omega arith) (stepped g a known s says h (Err c.in-Err.stop) c.in-Err.is)
+    going-stops g.K.Sink.taken (said ≢ None) (now g a said s says h) (g.B.Backing.size c.args.backing.now) c.args.n c.turn.made s c.args.machine.now c.turn.machine c.args.paper.now c.turn.paper (going g a said s says h)
+    (content_after said (g.B.Backing.holds c.step.new.backing)) (known_still said (g.B.Backing.holds c.turn.backing) (tells g a said s says h)) c.step.new.machine c.step.new.paper
+    c.turn.invariant.keeps c.in_default.ensures.1 c.in-Err.stop (omega arith) (stepped g a said s says h (Err c.in-Err.stop) c.in-Err.is)
 
 pub returns-in-Err-clause-present : goal.returns-in-Err-clause-present
-returns-in-Err-clause-present g c = λ known s m t says h next.
+returns-in-Err-clause-present g c = λ said s m t says h next.
     let a = (goal.at.returns-in-Err-clause-present g c).After-step in
-    present g a known s says h m t next (Err c.in-Err.stop) (made_no_fewer (stepped g a known s says h c.step.result refl)) (omega arith)
+    present g a said s says h m t next (Err c.in-Err.stop) (made_no_fewer (stepped g a said s says h c.step.result refl)) (omega arith)
     (stop_rooms (length c.args.machine.now.cpu.core) s m t c.in-Err.stop c.step.result c.in-Err.is)
     (λ whole sum size e. whole sum size (c.in-Err.is ∙ ap Err (let is : c.in-Err.stop ≡ BackingFull sum size = cc in is)))
     (λ sum size e. c.in-Err.is ∙ ap Err (let is : c.in-Err.stop ≡ BackingFull sum size = cc in is))
@@ -211,13 +211,13 @@ returns-in-Err-clause-device g c =
 -- ---- no task from the beginning
 
 pub returns-in-Some-clause-ended : goal.returns-in-Some-clause-ended
-returns-in-Some-clause-ended g c = λ known s r. stays_ended known c.args.machine.now c.turn.machine s c.turn.made c.args.backing.now c.turn.backing c.args.paper.now c.turn.paper r c.turn.invariant.none c.turn.invariant.begun c.turn.invariant.unprinted c.in-Some.progress c.in-Some.ensures
+returns-in-Some-clause-ended g c = λ said s r. stays_ended said c.args.machine.now c.turn.machine s c.turn.made c.args.backing.now c.turn.backing c.args.paper.now c.turn.paper r c.turn.invariant.none c.turn.invariant.begun c.turn.invariant.unprinted c.in-Some.progress c.in-Some.ensures
 
 pub returns-in-Some-pause-clause-ended : goal.returns-in-Some-pause-clause-ended
-returns-in-Some-pause-clause-ended g c = λ known s r. stays_ended known c.args.machine.now c.turn.machine s c.turn.made c.args.backing.now c.turn.backing c.args.paper.now c.turn.paper r c.turn.invariant.none c.turn.invariant.begun c.turn.invariant.unprinted c.in-Some-pause.progress c.in-Some-pause.ensures
+returns-in-Some-pause-clause-ended g c = λ said s r. stays_ended said c.args.machine.now c.turn.machine s c.turn.made c.args.backing.now c.turn.backing c.args.paper.now c.turn.paper r c.turn.invariant.none c.turn.invariant.begun c.turn.invariant.unprinted c.in-Some-pause.progress c.in-Some-pause.ensures
 
 pub returns-in-None-clause-ended : goal.returns-in-None-clause-ended
-returns-in-None-clause-ended g c = λ known s r. absurd (went_on known c.args.machine.now c.turn.machine s c.turn.made c.args.backing.now c.turn.backing c.args.paper.now c.turn.paper r c.turn.invariant.none c.turn.invariant.begun c.turn.invariant.unprinted c.in-None.ensures.0)
+returns-in-None-clause-ended g c = λ said s r. absurd (went_on said c.args.machine.now c.turn.machine s c.turn.made c.args.backing.now c.turn.backing c.args.paper.now c.turn.paper r c.turn.invariant.none c.turn.invariant.begun c.turn.invariant.unprinted c.in-None.ensures.0)
 
 pub returns-in-Err-clause-ended : goal.returns-in-Err-clause-ended
-returns-in-Err-clause-ended g c = λ known s r. absurd (went_on known c.args.machine.now c.turn.machine s c.turn.made c.args.backing.now c.turn.backing c.args.paper.now c.turn.paper r c.turn.invariant.none c.turn.invariant.begun c.turn.invariant.unprinted c.in_default.ensures.0)
+returns-in-Err-clause-ended g c = λ said s r. absurd (went_on said c.args.machine.now c.turn.machine s c.turn.made c.args.backing.now c.turn.backing c.args.paper.now c.turn.paper r c.turn.invariant.none c.turn.invariant.begun c.turn.invariant.unprinted c.in_default.ensures.0)

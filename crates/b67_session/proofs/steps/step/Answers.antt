@@ -38,15 +38,15 @@ kept g c = turn_keeps c.args.machine.now c.give_turn.new.machine c.attempt.new.m
 pub give_turn-requires : goal.give_turn-requires
 give_turn-requires g c =
     let l = c.requires.lives.some in
-    has_row l.known c.args.machine.now l.session l.stands c.in-Some.chosen (c.in-Some.ensures.choice l.stands.plan l.session l.stands.ordered l.stands.stands.tables)
+    has_row l.said c.args.machine.now l.session l.stands c.in-Some.chosen (c.in-Some.ensures.choice l.stands.plan l.session l.stands.ordered l.stands.stands.tables)
 
 pub attempt-requires-clause-runs : goal.attempt-requires-clause-runs
 attempt-requires-clause-runs g c =
     let l = c.requires.lives.some in
     let chooses = c.in-Some.ensures.choice l.stands.plan l.session l.stands.ordered l.stands.stands.tables in
-    let w = who l.known c.args.machine.now l.session l.stands c.in-Some.chosen chooses in
-    runs_over l.known (g.B.Backing.holds c.args.backing.now) l.says c.give_turn.new.machine l.session w.member w.task c.in-Some.chosen
-    (turned l.known c.args.machine.now l.session l.stands c.in-Some.chosen chooses c.give_turn.new.machine c.give_turn.ensures.stands (c.in-Some.ensures.room l.stands.plan l.session l.stands.ordered l.stands.stands.tables))
+    let w = who l.said c.args.machine.now l.session l.stands c.in-Some.chosen chooses in
+    runs_over l.said (g.B.Backing.holds c.args.backing.now) l.says c.give_turn.new.machine l.session w.member w.task c.in-Some.chosen
+    (turned l.said c.args.machine.now l.session l.stands c.in-Some.chosen chooses c.give_turn.new.machine c.give_turn.ensures.stands (c.in-Some.ensures.room l.stands.plan l.session l.stands.ordered l.stands.stands.tables))
 
 pub attempt-requires-clause-countable : goal.attempt-requires-clause-countable
 attempt-requires-clause-countable g c = subst (λ (z : Tasks). AreCountable z.jobs) (sym c.give_turn.ensures.tables) c.requires.countable
@@ -59,20 +59,20 @@ attempt-requires-clause-number g c =
 pub count_one-requires : goal.count_one-requires
 count_one-requires g c =
     let l = c.requires.lives.some in
-    made_counts (tries_as c.attempt.result (Ok attempts.Made) (c.in-Ok-Made.is ∙ ap (λ (z : Attempt). Ok z) c.in-Ok-Made.field-0-is) (context g (goal.at.count_one-requires g c).After-attempt)) l.known l.session l.says l.stands
+    made_counts (tries_as c.attempt.result (Ok attempts.Made) (c.in-Ok-Made.is ∙ ap (λ (z : Attempt). Ok z) c.in-Ok-Made.field-0-is) (context g (goal.at.count_one-requires g c).After-attempt)) l.said l.session l.says l.stands
 
 pub end_step-requires : goal.end_step-requires
 end_step-requires g c =
     let l = c.requires.lives.some in
-    made_between (tries_as c.attempt.result (Ok attempts.Made) (c.in-Ok-Made.is ∙ ap (λ (z : Attempt). Ok z) c.in-Ok-Made.field-0-is) (context g (goal.at.end_step-requires g c).After-attempt)) l.known l.session l.says l.stands c.count_one.new.tasks c.count_one.ensures
+    made_between (tries_as c.attempt.result (Ok attempts.Made) (c.in-Ok-Made.is ∙ ap (λ (z : Attempt). Ok z) c.in-Ok-Made.field-0-is) (context g (goal.at.end_step-requires g c).After-attempt)) l.said l.session l.says l.stands c.count_one.new.tasks c.count_one.ensures
 
 pub returns-in-Ok-Made-clause-row : goal.returns-in-Ok-Made-clause-row
-returns-in-Ok-Made-clause-row g c = λ known s says h.
-    made_row (tries_as c.attempt.result (Ok attempts.Made) (c.in-Ok-Made.is ∙ ap (λ (z : Attempt). Ok z) c.in-Ok-Made.field-0-is) (context g (goal.at.returns-in-Ok-Made-clause-row g c).After-attempt)) known s says h c.count_one.new.tasks c.count_one.ensures c.end_step.result c.end_step.new.machine c.end_step.new.paper c.end_step.ensures.finishes c.end_step.ensures.keeps
+returns-in-Ok-Made-clause-row g c = λ said s says h.
+    made_row (tries_as c.attempt.result (Ok attempts.Made) (c.in-Ok-Made.is ∙ ap (λ (z : Attempt). Ok z) c.in-Ok-Made.field-0-is) (context g (goal.at.returns-in-Ok-Made-clause-row g c).After-attempt)) said s says h c.count_one.new.tasks c.count_one.ensures c.end_step.result c.end_step.new.machine c.end_step.new.paper c.end_step.ensures.finishes c.end_step.ensures.keeps
 
 pub returns-in-Ok-Made-clause-present : goal.returns-in-Ok-Made-clause-present
-returns-in-Ok-Made-clause-present g c = λ known s m t says h next.
-    made_present (tries_as c.attempt.result (Ok attempts.Made) (c.in-Ok-Made.is ∙ ap (λ (z : Attempt). Ok z) c.in-Ok-Made.field-0-is) (context g (goal.at.returns-in-Ok-Made-clause-present g c).After-attempt)) known s says h c.count_one.new.tasks c.count_one.ensures c.end_step.result c.end_step.new.machine c.end_step.new.paper c.end_step.ensures.finishes m t next
+returns-in-Ok-Made-clause-present g c = λ said s m t says h next.
+    made_present (tries_as c.attempt.result (Ok attempts.Made) (c.in-Ok-Made.is ∙ ap (λ (z : Attempt). Ok z) c.in-Ok-Made.field-0-is) (context g (goal.at.returns-in-Ok-Made-clause-present g c).After-attempt)) said s says h c.count_one.new.tasks c.count_one.ensures c.end_step.result c.end_step.new.machine c.end_step.new.paper c.end_step.ensures.finishes m t next
 
 pub returns-in-Ok-Made-clause-countable : goal.returns-in-Ok-Made-clause-countable
 returns-in-Ok-Made-clause-countable g c =
@@ -91,29 +91,29 @@ returns-in-Ok-Made-clause-keeps g c =
 pub close-requires-clause-row : goal.close-requires-clause-row
 close-requires-clause-row g c =
     let l = c.requires.lives.some in
-    ending_chose c.in-Ok-Ends.ending (tries_as c.attempt.result (Ok (attempts.Ends c.in-Ok-Ends.ending)) (c.in-Ok-Ends.is ∙ ap (λ (z : Attempt). Ok z) c.in-Ok-Ends.field-0-is) (context g (goal.at.close-requires-clause-row g c).After-attempt)) l.known l.session l.says l.stands
+    ending_chose c.in-Ok-Ends.ending (tries_as c.attempt.result (Ok (attempts.Ends c.in-Ok-Ends.ending)) (c.in-Ok-Ends.is ∙ ap (λ (z : Attempt). Ok z) c.in-Ok-Ends.field-0-is) (context g (goal.at.close-requires-clause-row g c).After-attempt)) l.said l.session l.says l.stands
 
 pub close-requires-clause-room : goal.close-requires-clause-room
 close-requires-clause-room g c =
     let l = c.requires.lives.some in
     let x = (tries_as c.attempt.result (Ok (attempts.Ends c.in-Ok-Ends.ending)) (c.in-Ok-Ends.is ∙ ap (λ (z : Attempt). Ok z) c.in-Ok-Ends.field-0-is) (context g (goal.at.close-requires-clause-room g c).After-attempt)) in
-    close_counts (attempts.Ends c.in-Ok-Ends.ending) x x.stay l.known l.session l.says l.stands (ending_made c.in-Ok-Ends.ending x l.known l.session l.says l.stands) (ending_so c.in-Ok-Ends.ending x l.known l.session l.says l.stands)
+    close_counts (attempts.Ends c.in-Ok-Ends.ending) x x.stay l.said l.session l.says l.stands (ending_made c.in-Ok-Ends.ending x l.said l.session l.says l.stands) (ending_so c.in-Ok-Ends.ending x l.said l.session l.says l.stands)
 
 pub end_step-requires-in-Ok : goal.end_step-requires-in-Ok
 end_step-requires-in-Ok g c =
     let l = c.requires.lives.some in
     let x = (tries_as c.attempt.result (Ok (attempts.Ends c.in-Ok-Ends.ending)) (c.in-Ok-Ends.is ∙ ap (λ (z : Attempt). Ok z) c.in-Ok-Ends.field-0-is) (context g (goal.at.end_step-requires-in-Ok g c).After-attempt)) in
-    closed_between (attempts.Ends c.in-Ok-Ends.ending) x x.stay l.known l.session l.says l.stands (ending_made c.in-Ok-Ends.ending x l.known l.session l.says l.stands) (ending_so c.in-Ok-Ends.ending x l.known l.session l.says l.stands) c.close.new.machine c.close.new.paper (ending_closes c.in-Ok-Ends.ending x l.known l.session l.says l.stands (Ok tt) c.close.new.machine c.close.new.paper c.in-Ok.ensures.closes)
+    closed_between (attempts.Ends c.in-Ok-Ends.ending) x x.stay l.said l.session l.says l.stands (ending_made c.in-Ok-Ends.ending x l.said l.session l.says l.stands) (ending_so c.in-Ok-Ends.ending x l.said l.session l.says l.stands) c.close.new.machine c.close.new.paper (ending_closes c.in-Ok-Ends.ending x l.said l.session l.says l.stands (Ok tt) c.close.new.machine c.close.new.paper c.in-Ok.ensures.closes)
 
 pub returns-in-Ok-clause-row : goal.returns-in-Ok-clause-row
-returns-in-Ok-clause-row g c = λ known s says h.
+returns-in-Ok-clause-row g c = λ said s says h.
     (let x = (tries_as c.attempt.result (Ok (attempts.Ends c.in-Ok-Ends.ending)) (c.in-Ok-Ends.is ∙ ap (λ (z : Attempt). Ok z) c.in-Ok-Ends.field-0-is) (context g (goal.at.returns-in-Ok-clause-row g c).After-attempt)) in
-    closed_row (attempts.Ends c.in-Ok-Ends.ending) x x.stay known s says h (ending_made c.in-Ok-Ends.ending x known s says h) (ending_so c.in-Ok-Ends.ending x known s says h) c.close.new.machine c.close.new.paper (ending_closes c.in-Ok-Ends.ending x known s says h (Ok tt) c.close.new.machine c.close.new.paper c.in-Ok.ensures.closes) c.end_step-in-Ok.result c.end_step-in-Ok.new.machine c.end_step-in-Ok.new.paper c.end_step-in-Ok.ensures.finishes c.end_step-in-Ok.ensures.keeps)
+    closed_row (attempts.Ends c.in-Ok-Ends.ending) x x.stay said s says h (ending_made c.in-Ok-Ends.ending x said s says h) (ending_so c.in-Ok-Ends.ending x said s says h) c.close.new.machine c.close.new.paper (ending_closes c.in-Ok-Ends.ending x said s says h (Ok tt) c.close.new.machine c.close.new.paper c.in-Ok.ensures.closes) c.end_step-in-Ok.result c.end_step-in-Ok.new.machine c.end_step-in-Ok.new.paper c.end_step-in-Ok.ensures.finishes c.end_step-in-Ok.ensures.keeps)
 
 pub returns-in-Ok-clause-present : goal.returns-in-Ok-clause-present
-returns-in-Ok-clause-present g c = λ known s m t says h next.
+returns-in-Ok-clause-present g c = λ said s m t says h next.
     (let x = (tries_as c.attempt.result (Ok (attempts.Ends c.in-Ok-Ends.ending)) (c.in-Ok-Ends.is ∙ ap (λ (z : Attempt). Ok z) c.in-Ok-Ends.field-0-is) (context g (goal.at.returns-in-Ok-clause-present g c).After-attempt)) in
-    closed_present (attempts.Ends c.in-Ok-Ends.ending) x x.stay known s says h (ending_made c.in-Ok-Ends.ending x known s says h) (ending_so c.in-Ok-Ends.ending x known s says h) c.close.new.machine c.close.new.paper (ending_closes c.in-Ok-Ends.ending x known s says h (Ok tt) c.close.new.machine c.close.new.paper c.in-Ok.ensures.closes) c.end_step-in-Ok.result c.end_step-in-Ok.new.machine c.end_step-in-Ok.new.paper c.end_step-in-Ok.ensures.finishes m t next)
+    closed_present (attempts.Ends c.in-Ok-Ends.ending) x x.stay said s says h (ending_made c.in-Ok-Ends.ending x said s says h) (ending_so c.in-Ok-Ends.ending x said s says h) c.close.new.machine c.close.new.paper (ending_closes c.in-Ok-Ends.ending x said s says h (Ok tt) c.close.new.machine c.close.new.paper c.in-Ok.ensures.closes) c.end_step-in-Ok.result c.end_step-in-Ok.new.machine c.end_step-in-Ok.new.paper c.end_step-in-Ok.ensures.finishes m t next)
 
 pub returns-in-Ok-clause-countable : goal.returns-in-Ok-clause-countable
 returns-in-Ok-clause-countable g c =
@@ -128,14 +128,14 @@ returns-in-Ok-clause-keeps g c =
     keeps_then c.args.machine.now c.close.new.machine c.end_step-in-Ok.new.machine (close_keeps c.args.machine.now c.attempt.new.machine c.close.new.machine (kept g (goal.at.returns-in-Ok-clause-keeps g c).After-attempt) c.close.ensures.keeps) c.end_step-in-Ok.ensures.keeps
 
 pub returns-in-Err-close-clause-row : goal.returns-in-Err-close-clause-row
-returns-in-Err-close-clause-row g c = λ known s says h.
+returns-in-Err-close-clause-row g c = λ said s says h.
     (let x = (tries_as c.attempt.result (Ok (attempts.Ends c.in-Ok-Ends.ending)) (c.in-Ok-Ends.is ∙ ap (λ (z : Attempt). Ok z) c.in-Ok-Ends.field-0-is) (context g (goal.at.returns-in-Err-close-clause-row g c).After-attempt)) in
-    cut_row (attempts.Ends c.in-Ok-Ends.ending) x x.stay known s says h (ending_made c.in-Ok-Ends.ending x known s says h) (ending_so c.in-Ok-Ends.ending x known s says h) c.in-Err-close._failed c.close.new.machine c.close.new.paper c.requires.due (halted g (goal.at.returns-in-Err-close-clause-row g c).After-attempt) (ending_closes c.in-Ok-Ends.ending x known s says h (Err c.in-Err-close._failed) c.close.new.machine c.close.new.paper c.in-Err-close.ensures.closes))
+    cut_row (attempts.Ends c.in-Ok-Ends.ending) x x.stay said s says h (ending_made c.in-Ok-Ends.ending x said s says h) (ending_so c.in-Ok-Ends.ending x said s says h) c.in-Err-close._failed c.close.new.machine c.close.new.paper c.requires.due (halted g (goal.at.returns-in-Err-close-clause-row g c).After-attempt) (ending_closes c.in-Ok-Ends.ending x said s says h (Err c.in-Err-close._failed) c.close.new.machine c.close.new.paper c.in-Err-close.ensures.closes))
 
 pub returns-in-Err-close-clause-present : goal.returns-in-Err-close-clause-present
-returns-in-Err-close-clause-present g c = λ known s m t says h next.
+returns-in-Err-close-clause-present g c = λ said s m t says h next.
     (let x = (tries_as c.attempt.result (Ok (attempts.Ends c.in-Ok-Ends.ending)) (c.in-Ok-Ends.is ∙ ap (λ (z : Attempt). Ok z) c.in-Ok-Ends.field-0-is) (context g (goal.at.returns-in-Err-close-clause-present g c).After-attempt)) in
-    cut_present (attempts.Ends c.in-Ok-Ends.ending) x x.stay known s says h (ending_made c.in-Ok-Ends.ending x known s says h) (ending_so c.in-Ok-Ends.ending x known s says h) c.in-Err-close._failed c.close.new.machine c.close.new.paper m t next)
+    cut_present (attempts.Ends c.in-Ok-Ends.ending) x x.stay said s says h (ending_made c.in-Ok-Ends.ending x said s says h) (ending_so c.in-Ok-Ends.ending x said s says h) c.in-Err-close._failed c.close.new.machine c.close.new.paper m t next)
 
 pub returns-in-Err-close-clause-countable : goal.returns-in-Err-close-clause-countable
 returns-in-Err-close-clause-countable g c =
@@ -149,74 +149,74 @@ pub returns-in-Err-close-clause-keeps : goal.returns-in-Err-close-clause-keeps
 returns-in-Err-close-clause-keeps g c =
     close_keeps c.args.machine.now c.attempt.new.machine c.close.new.machine (kept g (goal.at.returns-in-Err-close-clause-keeps g c).After-attempt) c.close.ensures.keeps
 
-pub hold-requires-clause-row : goal.hold-requires-clause-row
-hold-requires-clause-row g c =
+pub make_wait-requires-clause-row : goal.make_wait-requires-clause-row
+make_wait-requires-clause-row g c =
     let l = c.requires.lives.some in
-    waiting_some c.in-Ok-Waits.state (tries_as c.attempt.result (Ok (attempts.Waits c.in-Ok-Waits.state)) (c.in-Ok-Waits.is ∙ ap (λ (z : Attempt). Ok z) c.in-Ok-Waits.field-0-is) (context g (goal.at.hold-requires-clause-row g c).After-attempt)) l.known l.session l.says l.stands
+    waiting_some c.in-Ok-Waits.state (tries_as c.attempt.result (Ok (attempts.Waits c.in-Ok-Waits.state)) (c.in-Ok-Waits.is ∙ ap (λ (z : Attempt). Ok z) c.in-Ok-Waits.field-0-is) (context g (goal.at.make_wait-requires-clause-row g c).After-attempt)) l.said l.session l.says l.stands
 
-pub hold-requires-clause-room : goal.hold-requires-clause-room
-hold-requires-clause-room g c =
+pub make_wait-requires-clause-room : goal.make_wait-requires-clause-room
+make_wait-requires-clause-room g c =
     let l = c.requires.lives.some in
-    let x = (tries_as c.attempt.result (Ok (attempts.Waits c.in-Ok-Waits.state)) (c.in-Ok-Waits.is ∙ ap (λ (z : Attempt). Ok z) c.in-Ok-Waits.field-0-is) (context g (goal.at.hold-requires-clause-room g c).After-attempt)) in
-    close_counts (attempts.Waits c.in-Ok-Waits.state) x x.stay l.known l.session l.says l.stands (waiting_made c.in-Ok-Waits.state x l.known l.session l.says l.stands) (waiting_so c.in-Ok-Waits.state x l.known l.session l.says l.stands)
+    let x = (tries_as c.attempt.result (Ok (attempts.Waits c.in-Ok-Waits.state)) (c.in-Ok-Waits.is ∙ ap (λ (z : Attempt). Ok z) c.in-Ok-Waits.field-0-is) (context g (goal.at.make_wait-requires-clause-room g c).After-attempt)) in
+    close_counts (attempts.Waits c.in-Ok-Waits.state) x x.stay l.said l.session l.says l.stands (waiting_made c.in-Ok-Waits.state x l.said l.session l.says l.stands) (waiting_so c.in-Ok-Waits.state x l.said l.session l.says l.stands)
 
-pub end_step-requires-in-Ok-hold : goal.end_step-requires-in-Ok-hold
-end_step-requires-in-Ok-hold g c =
+pub end_step-requires-in-Ok-make_wait : goal.end_step-requires-in-Ok-make_wait
+end_step-requires-in-Ok-make_wait g c =
     let l = c.requires.lives.some in
-    let x = (tries_as c.attempt.result (Ok (attempts.Waits c.in-Ok-Waits.state)) (c.in-Ok-Waits.is ∙ ap (λ (z : Attempt). Ok z) c.in-Ok-Waits.field-0-is) (context g (goal.at.end_step-requires-in-Ok-hold g c).After-attempt)) in
-    closed_between (attempts.Waits c.in-Ok-Waits.state) x x.stay l.known l.session l.says l.stands (waiting_made c.in-Ok-Waits.state x l.known l.session l.says l.stands) (waiting_so c.in-Ok-Waits.state x l.known l.session l.says l.stands) c.hold.new.machine c.hold.new.paper (waiting_closes c.in-Ok-Waits.state x l.known l.session l.says l.stands (Ok tt) c.hold.new.machine c.hold.new.paper c.in-Ok-hold.ensures.holds)
+    let x = (tries_as c.attempt.result (Ok (attempts.Waits c.in-Ok-Waits.state)) (c.in-Ok-Waits.is ∙ ap (λ (z : Attempt). Ok z) c.in-Ok-Waits.field-0-is) (context g (goal.at.end_step-requires-in-Ok-make_wait g c).After-attempt)) in
+    closed_between (attempts.Waits c.in-Ok-Waits.state) x x.stay l.said l.session l.says l.stands (waiting_made c.in-Ok-Waits.state x l.said l.session l.says l.stands) (waiting_so c.in-Ok-Waits.state x l.said l.session l.says l.stands) c.make_wait.new.machine c.make_wait.new.paper (waiting_closes c.in-Ok-Waits.state x l.said l.session l.says l.stands (Ok tt) c.make_wait.new.machine c.make_wait.new.paper c.in-Ok-make_wait.ensures.holds)
 
-pub returns-in-Ok-hold-clause-row : goal.returns-in-Ok-hold-clause-row
-returns-in-Ok-hold-clause-row g c = λ known s says h.
-    (let x = (tries_as c.attempt.result (Ok (attempts.Waits c.in-Ok-Waits.state)) (c.in-Ok-Waits.is ∙ ap (λ (z : Attempt). Ok z) c.in-Ok-Waits.field-0-is) (context g (goal.at.returns-in-Ok-hold-clause-row g c).After-attempt)) in
-    closed_row (attempts.Waits c.in-Ok-Waits.state) x x.stay known s says h (waiting_made c.in-Ok-Waits.state x known s says h) (waiting_so c.in-Ok-Waits.state x known s says h) c.hold.new.machine c.hold.new.paper (waiting_closes c.in-Ok-Waits.state x known s says h (Ok tt) c.hold.new.machine c.hold.new.paper c.in-Ok-hold.ensures.holds) c.end_step-in-Ok-hold.result c.end_step-in-Ok-hold.new.machine c.end_step-in-Ok-hold.new.paper c.end_step-in-Ok-hold.ensures.finishes c.end_step-in-Ok-hold.ensures.keeps)
+pub returns-in-Ok-make_wait-clause-row : goal.returns-in-Ok-make_wait-clause-row
+returns-in-Ok-make_wait-clause-row g c = λ said s says h.
+    (let x = (tries_as c.attempt.result (Ok (attempts.Waits c.in-Ok-Waits.state)) (c.in-Ok-Waits.is ∙ ap (λ (z : Attempt). Ok z) c.in-Ok-Waits.field-0-is) (context g (goal.at.returns-in-Ok-make_wait-clause-row g c).After-attempt)) in
+    closed_row (attempts.Waits c.in-Ok-Waits.state) x x.stay said s says h (waiting_made c.in-Ok-Waits.state x said s says h) (waiting_so c.in-Ok-Waits.state x said s says h) c.make_wait.new.machine c.make_wait.new.paper (waiting_closes c.in-Ok-Waits.state x said s says h (Ok tt) c.make_wait.new.machine c.make_wait.new.paper c.in-Ok-make_wait.ensures.holds) c.end_step-in-Ok-make_wait.result c.end_step-in-Ok-make_wait.new.machine c.end_step-in-Ok-make_wait.new.paper c.end_step-in-Ok-make_wait.ensures.finishes c.end_step-in-Ok-make_wait.ensures.keeps)
 
-pub returns-in-Ok-hold-clause-present : goal.returns-in-Ok-hold-clause-present
-returns-in-Ok-hold-clause-present g c = λ known s m t says h next.
-    (let x = (tries_as c.attempt.result (Ok (attempts.Waits c.in-Ok-Waits.state)) (c.in-Ok-Waits.is ∙ ap (λ (z : Attempt). Ok z) c.in-Ok-Waits.field-0-is) (context g (goal.at.returns-in-Ok-hold-clause-present g c).After-attempt)) in
-    closed_present (attempts.Waits c.in-Ok-Waits.state) x x.stay known s says h (waiting_made c.in-Ok-Waits.state x known s says h) (waiting_so c.in-Ok-Waits.state x known s says h) c.hold.new.machine c.hold.new.paper (waiting_closes c.in-Ok-Waits.state x known s says h (Ok tt) c.hold.new.machine c.hold.new.paper c.in-Ok-hold.ensures.holds) c.end_step-in-Ok-hold.result c.end_step-in-Ok-hold.new.machine c.end_step-in-Ok-hold.new.paper c.end_step-in-Ok-hold.ensures.finishes m t next)
+pub returns-in-Ok-make_wait-clause-present : goal.returns-in-Ok-make_wait-clause-present
+returns-in-Ok-make_wait-clause-present g c = λ said s m t says h next.
+    (let x = (tries_as c.attempt.result (Ok (attempts.Waits c.in-Ok-Waits.state)) (c.in-Ok-Waits.is ∙ ap (λ (z : Attempt). Ok z) c.in-Ok-Waits.field-0-is) (context g (goal.at.returns-in-Ok-make_wait-clause-present g c).After-attempt)) in
+    closed_present (attempts.Waits c.in-Ok-Waits.state) x x.stay said s says h (waiting_made c.in-Ok-Waits.state x said s says h) (waiting_so c.in-Ok-Waits.state x said s says h) c.make_wait.new.machine c.make_wait.new.paper (waiting_closes c.in-Ok-Waits.state x said s says h (Ok tt) c.make_wait.new.machine c.make_wait.new.paper c.in-Ok-make_wait.ensures.holds) c.end_step-in-Ok-make_wait.result c.end_step-in-Ok-make_wait.new.machine c.end_step-in-Ok-make_wait.new.paper c.end_step-in-Ok-make_wait.ensures.finishes m t next)
 
-pub returns-in-Ok-hold-clause-countable : goal.returns-in-Ok-hold-clause-countable
-returns-in-Ok-hold-clause-countable g c =
-    subst (λ (z : Tasks). AreCountable z.jobs) (sym c.end_step-in-Ok-hold.ensures.keeps.tasks) (c.hold.ensures.keeps.countable (countable g (goal.at.returns-in-Ok-hold-clause-countable g c).After-attempt))
+pub returns-in-Ok-make_wait-clause-countable : goal.returns-in-Ok-make_wait-clause-countable
+returns-in-Ok-make_wait-clause-countable g c =
+    subst (λ (z : Tasks). AreCountable z.jobs) (sym c.end_step-in-Ok-make_wait.ensures.keeps.tasks) (c.make_wait.ensures.keeps.countable (countable g (goal.at.returns-in-Ok-make_wait-clause-countable g c).After-attempt))
 
-pub returns-in-Ok-hold-clause-causes : goal.returns-in-Ok-hold-clause-causes
-returns-in-Ok-hold-clause-causes g c =
-    step_causes g.B.Backing.faults g.K.Sink.faults c.args.backing.now c.attempt.new.backing c.args.paper.now c.hold.new.paper c.end_step-in-Ok-hold.new.paper c.end_step-in-Ok-hold.result (omega (arith, c.attempt.ensures.causes.printer.later, c.hold.ensures.cause.later)) c.end_step-in-Ok-hold.ensures.later c.end_step-in-Ok-hold.ensures.cause c.end_step-in-Ok-hold.ensures.other
+pub returns-in-Ok-make_wait-clause-causes : goal.returns-in-Ok-make_wait-clause-causes
+returns-in-Ok-make_wait-clause-causes g c =
+    step_causes g.B.Backing.faults g.K.Sink.faults c.args.backing.now c.attempt.new.backing c.args.paper.now c.make_wait.new.paper c.end_step-in-Ok-make_wait.new.paper c.end_step-in-Ok-make_wait.result (omega (arith, c.attempt.ensures.causes.printer.later, c.make_wait.ensures.cause.later)) c.end_step-in-Ok-make_wait.ensures.later c.end_step-in-Ok-make_wait.ensures.cause c.end_step-in-Ok-make_wait.ensures.other
 
-pub returns-in-Ok-hold-clause-keeps : goal.returns-in-Ok-hold-clause-keeps
-returns-in-Ok-hold-clause-keeps g c =
-    keeps_then c.args.machine.now c.hold.new.machine c.end_step-in-Ok-hold.new.machine (close_keeps c.args.machine.now c.attempt.new.machine c.hold.new.machine (kept g (goal.at.returns-in-Ok-hold-clause-keeps g c).After-attempt) c.hold.ensures.keeps) c.end_step-in-Ok-hold.ensures.keeps
+pub returns-in-Ok-make_wait-clause-keeps : goal.returns-in-Ok-make_wait-clause-keeps
+returns-in-Ok-make_wait-clause-keeps g c =
+    keeps_then c.args.machine.now c.make_wait.new.machine c.end_step-in-Ok-make_wait.new.machine (close_keeps c.args.machine.now c.attempt.new.machine c.make_wait.new.machine (kept g (goal.at.returns-in-Ok-make_wait-clause-keeps g c).After-attempt) c.make_wait.ensures.keeps) c.end_step-in-Ok-make_wait.ensures.keeps
 
-pub returns-in-Err-hold-clause-row : goal.returns-in-Err-hold-clause-row
-returns-in-Err-hold-clause-row g c = λ known s says h.
-    (let x = (tries_as c.attempt.result (Ok (attempts.Waits c.in-Ok-Waits.state)) (c.in-Ok-Waits.is ∙ ap (λ (z : Attempt). Ok z) c.in-Ok-Waits.field-0-is) (context g (goal.at.returns-in-Err-hold-clause-row g c).After-attempt)) in
-    cut_row (attempts.Waits c.in-Ok-Waits.state) x x.stay known s says h (waiting_made c.in-Ok-Waits.state x known s says h) (waiting_so c.in-Ok-Waits.state x known s says h) c.in-Err-hold._failed c.hold.new.machine c.hold.new.paper c.requires.due (halted g (goal.at.returns-in-Err-hold-clause-row g c).After-attempt) (waiting_closes c.in-Ok-Waits.state x known s says h (Err c.in-Err-hold._failed) c.hold.new.machine c.hold.new.paper c.in-Err-hold.ensures.holds))
+pub returns-in-Err-make_wait-clause-row : goal.returns-in-Err-make_wait-clause-row
+returns-in-Err-make_wait-clause-row g c = λ said s says h.
+    (let x = (tries_as c.attempt.result (Ok (attempts.Waits c.in-Ok-Waits.state)) (c.in-Ok-Waits.is ∙ ap (λ (z : Attempt). Ok z) c.in-Ok-Waits.field-0-is) (context g (goal.at.returns-in-Err-make_wait-clause-row g c).After-attempt)) in
+    cut_row (attempts.Waits c.in-Ok-Waits.state) x x.stay said s says h (waiting_made c.in-Ok-Waits.state x said s says h) (waiting_so c.in-Ok-Waits.state x said s says h) c.in-Err-make_wait._failed c.make_wait.new.machine c.make_wait.new.paper c.requires.due (halted g (goal.at.returns-in-Err-make_wait-clause-row g c).After-attempt) (waiting_closes c.in-Ok-Waits.state x said s says h (Err c.in-Err-make_wait._failed) c.make_wait.new.machine c.make_wait.new.paper c.in-Err-make_wait.ensures.holds))
 
-pub returns-in-Err-hold-clause-present : goal.returns-in-Err-hold-clause-present
-returns-in-Err-hold-clause-present g c = λ known s m t says h next.
-    (let x = (tries_as c.attempt.result (Ok (attempts.Waits c.in-Ok-Waits.state)) (c.in-Ok-Waits.is ∙ ap (λ (z : Attempt). Ok z) c.in-Ok-Waits.field-0-is) (context g (goal.at.returns-in-Err-hold-clause-present g c).After-attempt)) in
-    cut_present (attempts.Waits c.in-Ok-Waits.state) x x.stay known s says h (waiting_made c.in-Ok-Waits.state x known s says h) (waiting_so c.in-Ok-Waits.state x known s says h) c.in-Err-hold._failed c.hold.new.machine c.hold.new.paper m t next)
+pub returns-in-Err-make_wait-clause-present : goal.returns-in-Err-make_wait-clause-present
+returns-in-Err-make_wait-clause-present g c = λ said s m t says h next.
+    (let x = (tries_as c.attempt.result (Ok (attempts.Waits c.in-Ok-Waits.state)) (c.in-Ok-Waits.is ∙ ap (λ (z : Attempt). Ok z) c.in-Ok-Waits.field-0-is) (context g (goal.at.returns-in-Err-make_wait-clause-present g c).After-attempt)) in
+    cut_present (attempts.Waits c.in-Ok-Waits.state) x x.stay said s says h (waiting_made c.in-Ok-Waits.state x said s says h) (waiting_so c.in-Ok-Waits.state x said s says h) c.in-Err-make_wait._failed c.make_wait.new.machine c.make_wait.new.paper m t next)
 
-pub returns-in-Err-hold-clause-countable : goal.returns-in-Err-hold-clause-countable
-returns-in-Err-hold-clause-countable g c =
-    c.hold.ensures.keeps.countable (countable g (goal.at.returns-in-Err-hold-clause-countable g c).After-attempt)
+pub returns-in-Err-make_wait-clause-countable : goal.returns-in-Err-make_wait-clause-countable
+returns-in-Err-make_wait-clause-countable g c =
+    c.make_wait.ensures.keeps.countable (countable g (goal.at.returns-in-Err-make_wait-clause-countable g c).After-attempt)
 
-pub returns-in-Err-hold-clause-causes : goal.returns-in-Err-hold-clause-causes
-returns-in-Err-hold-clause-causes g c =
-    step_causes g.B.Backing.faults g.K.Sink.faults c.args.backing.now c.attempt.new.backing c.args.paper.now c.attempt.new.paper c.hold.new.paper _ c.attempt.ensures.causes.printer.later c.hold.ensures.cause.later (λ e. c.in-Err-hold.ensures.cause.failed) (λ e. absurd cc)
+pub returns-in-Err-make_wait-clause-causes : goal.returns-in-Err-make_wait-clause-causes
+returns-in-Err-make_wait-clause-causes g c =
+    step_causes g.B.Backing.faults g.K.Sink.faults c.args.backing.now c.attempt.new.backing c.args.paper.now c.attempt.new.paper c.make_wait.new.paper _ c.attempt.ensures.causes.printer.later c.make_wait.ensures.cause.later (λ e. c.in-Err-make_wait.ensures.cause.failed) (λ e. absurd cc)
 
-pub returns-in-Err-hold-clause-keeps : goal.returns-in-Err-hold-clause-keeps
-returns-in-Err-hold-clause-keeps g c =
-    close_keeps c.args.machine.now c.attempt.new.machine c.hold.new.machine (kept g (goal.at.returns-in-Err-hold-clause-keeps g c).After-attempt) c.hold.ensures.keeps
+pub returns-in-Err-make_wait-clause-keeps : goal.returns-in-Err-make_wait-clause-keeps
+returns-in-Err-make_wait-clause-keeps g c =
+    close_keeps c.args.machine.now c.attempt.new.machine c.make_wait.new.machine (kept g (goal.at.returns-in-Err-make_wait-clause-keeps g c).After-attempt) c.make_wait.ensures.keeps
 
 pub returns-in-Err-clause-row : goal.returns-in-Err-clause-row
-returns-in-Err-clause-row g c = λ known s says h.
-    stop_row c.in-Err.stop (tries_as c.attempt.result (Err c.in-Err.stop) c.in-Err.is (context g (goal.at.returns-in-Err-clause-row g c).After-attempt)) known s says h c.requires.due (halted g (goal.at.returns-in-Err-clause-row g c).After-attempt)
+returns-in-Err-clause-row g c = λ said s says h.
+    stop_row c.in-Err.stop (tries_as c.attempt.result (Err c.in-Err.stop) c.in-Err.is (context g (goal.at.returns-in-Err-clause-row g c).After-attempt)) said s says h c.requires.due (halted g (goal.at.returns-in-Err-clause-row g c).After-attempt)
 
 pub returns-in-Err-clause-present : goal.returns-in-Err-clause-present
-returns-in-Err-clause-present g c = λ known s m t says h next.
-    stop_present c.in-Err.stop (tries_as c.attempt.result (Err c.in-Err.stop) c.in-Err.is (context g (goal.at.returns-in-Err-clause-present g c).After-attempt)) known s says h m t next
+returns-in-Err-clause-present g c = λ said s m t says h next.
+    stop_present c.in-Err.stop (tries_as c.attempt.result (Err c.in-Err.stop) c.in-Err.is (context g (goal.at.returns-in-Err-clause-present g c).After-attempt)) said s says h m t next
 
 pub returns-in-Err-clause-countable : goal.returns-in-Err-clause-countable
 returns-in-Err-clause-countable g c =

@@ -7,14 +7,14 @@ use Rattle.b67_session.proofs.Turning.{turn_fits, turn_goes_on, turn_rests}
 use Rattle.b67_session.proofs.turns.go_on_with_turn.Goals as goal
 
 pub returns-then-room-eq0-clause-row : goal.returns-then-room-eq0-clause-row
-returns-then-room-eq0-clause-row c = λ known s h. turn_rests known s c.args.machine.now h c.requires.unprinted
+returns-then-room-eq0-clause-row c = λ said s h. turn_rests said s c.args.machine.now h c.requires.unprinted
 
 pub make_in_turn-made-requires : goal.make_in_turn-made-requires
 make_in_turn-made-requires c =
     let i = c.requires.stands in
     record {
       storage = i.stands.storage;
-      known = i.known;
+      said = i.said;
       plan = i.stands.plan;
       session = i.session;
       ordered = i.stands.ordered;
@@ -37,9 +37,9 @@ room c =
     (c.turn_room-room.ensures.lasts i.stands.plan i.session i.stands.ordered i.stands.stands.tables (omega arith)) c.make_in_turn-made.ensures.few)
 
 pub returns-clause-row : goal.returns-clause-row
-returns-clause-row c = λ known s h.
-    turn_goes_on known c.make_in_turn-made.result s c.args.machine.now c.make_in_turn-made.new.machine c.count_turn.new.tasks
-    (c.make_in_turn-made.ensures.row h.storage known h.plan s h.ordered h.stands (c.turn_room-room.ensures.lasts h.plan s h.ordered h.stands.tables (omega arith)))
+returns-clause-row c = λ said s h.
+    turn_goes_on said c.make_in_turn-made.result s c.args.machine.now c.make_in_turn-made.new.machine c.count_turn.new.tasks
+    (c.make_in_turn-made.ensures.row h.storage said h.plan s h.ordered h.stands (c.turn_room-room.ensures.lasts h.plan s h.ordered h.stands.tables (omega arith)))
     c.make_in_turn-made.ensures.tables c.count_turn.ensures.shows c.count_turn.ensures.rest c.requires.unprinted
     (λ j low. c.turn_room-room.ensures.halt j (omega (arith, low, c.make_in_turn-made.ensures.few)))
 

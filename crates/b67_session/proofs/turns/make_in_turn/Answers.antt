@@ -9,19 +9,19 @@ segment-init c = record {
   few = omega arith;
   tables = refl;
   keeps = record { core = refl; sectors = refl; halt = refl; names = refl };
-  turn = λ x known plan s o h w. turn_begins known c.args.room x plan s c.args.machine.now o h w (c.args.room - 0) (omega arith);
+  turn = λ x said plan s o h w. turn_begins said c.args.room x plan s c.args.machine.now o h w (c.args.room - 0) (omega arith);
 }
 
 pub make_in_segment-next-requires : goal.make_in_segment-next-requires
 make_in_segment-next-requires c =
     let q = c.requires in
     record {
-      known = q.known;
+      said = q.said;
       steps = c.segment.made;
       first = q.session;
       core = length c.args.machine.now.cpu.core;
       size = c.segment.invariant.keeps.core;
-      turn = c.segment.invariant.turn q.storage q.known q.plan q.session q.ordered q.stands q.lasts;
+      turn = c.segment.invariant.turn q.storage q.said q.plan q.session q.ordered q.stands q.lasts;
       some = omega arith;
     }
 
@@ -30,9 +30,9 @@ returns-then-not-next c =
     let next = c.make_in_segment-next.ensures in
     record {
       few = omega (arith, next.few);
-      row = λ x known plan s o h w.
-          made_in_turn known (c.segment.made + c.make_in_segment-next.result.made) (c.args.room - c.segment.made - c.make_in_segment-next.result.made) s (length c.args.machine.now.cpu.core) c.make_in_segment-next.new.machine
-          (next.row known c.segment.made (length c.args.machine.now.cpu.core) s c.segment.invariant.keeps.core (c.segment.invariant.turn x known plan s o h w));
+      row = λ x said plan s o h w.
+          made_in_turn said (c.segment.made + c.make_in_segment-next.result.made) (c.args.room - c.segment.made - c.make_in_segment-next.result.made) s (length c.args.machine.now.cpu.core) c.make_in_segment-next.new.machine
+          (next.row said c.segment.made (length c.args.machine.now.cpu.core) s c.segment.invariant.keeps.core (c.segment.invariant.turn x said plan s o h w));
       tables = next.tables ∙ c.segment.invariant.tables;
       keeps = keeps_on c.args.machine.now c.segment.machine c.make_in_segment-next.new.machine c.segment.invariant.keeps next.keeps;
     }
@@ -46,13 +46,13 @@ segment-preserved c =
       few = omega (arith, next.few);
       tables = next.tables ∙ c.segment.invariant.tables;
       keeps = keeps_on c.args.machine.now c.segment.machine c.make_in_segment-next.new.machine c.segment.invariant.keeps next.keeps;
-      turn = λ x known plan s o h w.
-          turn_as known made left s (length c.args.machine.now.cpu.core) c.make_in_segment-next.new.machine
-          (next.row known c.segment.made (length c.args.machine.now.cpu.core) s c.segment.invariant.keeps.core (c.segment.invariant.turn x known plan s o h w)) made (c.args.room - made) refl (omega (arith, next.few));
+      turn = λ x said plan s o h w.
+          turn_as said made left s (length c.args.machine.now.cpu.core) c.make_in_segment-next.new.machine
+          (next.row said c.segment.made (length c.args.machine.now.cpu.core) s c.segment.invariant.keeps.core (c.segment.invariant.turn x said plan s o h w)) made (c.args.room - made) refl (omega (arith, next.few));
     }
 
 pub segment-smaller : goal.segment-smaller
 segment-smaller c = let next = c.make_in_segment-next.ensures in omega (arith, next.few, next.some (not-false _ c.if-not-next.false))
 
 pub returns-clause-row : goal.returns-clause-row
-returns-clause-row c = λ x known plan s o h w. made_in_turn known c.segment.made (c.args.room - c.segment.made) s (length c.args.machine.now.cpu.core) c.segment.machine (c.segment.invariant.turn x known plan s o h w)
+returns-clause-row c = λ x said plan s o h w. made_in_turn said c.segment.made (c.args.room - c.segment.made) s (length c.args.machine.now.cpu.core) c.segment.machine (c.segment.invariant.turn x said plan s o h w)

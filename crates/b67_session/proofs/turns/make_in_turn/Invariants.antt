@@ -6,7 +6,7 @@ use Rattle.b67_layout.specs.Placement.{Placement}
 use Rattle.b67_task_tables.specs.Tables.{MachineRepresents}
 use Rattle.b67_session_schedule.specs.Lasting.{TurnLasts}
 use Rattle.b67_session.specs.Slices.{Keeps}
-use Rattle.b67_session.specs.InTurn.{HasTurn}
+use Rattle.b67_session.specs.InTurn.{HasTurnLeft}
 use Rattle.b67_session.proofs.turns.make_in_turn.Given as goal
 
 abbrev pub invariant-segment : goal.invariant-segment
@@ -15,7 +15,7 @@ invariant-segment l = record {
   tables : l.machine.tasks ≡ l.initial.machine.tasks;
   keeps : Keeps l.initial.machine l.machine;
   turn : (x : Storage) (told : Option (List (List ℕ))) (plan : Placement) (s : Session) → IsInOrderButPlaces s → MachineRepresents x told l.initial.machine plan s → TurnLasts plan s l.room
-      → HasTurn told l.made (l.room - l.made) s (length l.initial.machine.cpu.core) l.machine;
+      → HasTurnLeft told l.made (l.room - l.made) s (length l.initial.machine.cpu.core) l.machine;
 }
 
 abbrev pub decreases-segment : goal.decreases-segment

@@ -1,6 +1,6 @@
 use Rattle.std.proofs.Common.{◌≡◌, ◌+◌, ℕ, map, subst, arith}
 use Rattle.b67_task_tables.specs.Tables.{switch_of}
-use Rattle.b67_session_schedule.specs.Counted.{IsLeft}
+use Rattle.b67_session_schedule.specs.Counted.{IsStillDue}
 use Rattle.b67_session_schedule.proofs.Rising.{next_left, still_left}
 use Rattle.b67_session_schedule.proofs.Counts.{past_grown}
 use Rattle.b67_session_schedule.proofs.counting.first_left.Goals as goal
@@ -12,7 +12,7 @@ returns-then-switches-from-clause-past c = past_grown c.args.switches.now c.args
 pub returns-then-switches-from-clause-left : goal.returns-then-switches-from-clause-left
 returns-then-switches-from-clause-left c = λ before short rise more left.
     let is : c.args.from + 1 ≡ c.saturating_add.result = omega (arith, c.saturating_add.ensures, short) in
-    subst (λ (n : ℕ). IsLeft n c.args.made (map switch_of c.args.switches.now)) is (next_left c.args.switches.now c.args.from before c.args.made rise (omega arith) more left)
+    subst (λ (n : ℕ). IsStillDue n c.args.made (map switch_of c.args.switches.now)) is (next_left c.args.switches.now c.args.from before c.args.made rise (omega arith) more left)
 
 pub returns-clause-left : goal.returns-clause-left
 returns-clause-left c = λ before short rise more left.

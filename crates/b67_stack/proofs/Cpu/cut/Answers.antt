@@ -1,6 +1,6 @@
 use Rattle.std.proofs.Common.{◌≡◌, ℕ, ◌-◌, ◌∙◌, ap, arith}
 use Rattle.b67_stack.specs.Stacks.{top_mark}
-use Rattle.b67_stack.specs.Changes.{below_top}
+use Rattle.b67_stack.specs.Changes.{activations_below}
 use Rattle.b67_ctl.specs.declared.marks.Mscw.{Mscw}
 use Rattle.b67_stack.proofs.Tops.{mark_before, topped_by}
 use Rattle.b67_stack.proofs.Pushes.{Represents-below}
@@ -19,7 +19,7 @@ returns-clause-row c = λ x p stack s u n.
     let r = c.args.self.now.regs in
     let b = mark_before x c.args.self.now.core r p r.slot stack s u n in
     let e : c.from.result ≡ (top_mark r.slot stack).back = c.from.ensures ∙ ap (λ (m : Mscw). m.back) (c.top_mark-m.ensures x p stack s u) in
-    topped_by c.args.self.now (below_top stack) (r.f - 1) (r.f - c.from.result) c.level_below-self.result b.0 (ap (λ (i : ℕ). r.f - i) e ∙ b.1) (c.level_below-self.ensures x p stack s u)
+    topped_by c.args.self.now (activations_below stack) (r.f - 1) (r.f - c.from.result) c.level_below-self.result b.0 (ap (λ (i : ℕ). r.f - i) e ∙ b.1) (c.level_below-self.ensures x p stack s u)
 
 pub returns-clause-stands : goal.returns-clause-stands
 returns-clause-stands c = λ x p stack s u n.

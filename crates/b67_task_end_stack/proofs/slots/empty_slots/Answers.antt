@@ -3,8 +3,8 @@ use Rattle.b67_ctl.specs.declared.registers.Regs.{Regs}
 use Rattle.b67_stack.specs.declared.Cpu.{Cpu}
 use Rattle.b67_layout_storage.specs.Machine.{MachineRepresentsView}
 use Rattle.b67_task_end_stack.specs.Vacated.{put_out, died}
-use Rattle.b67_task_end_stack.specs.Graves.{Death, Buried, all_put_out}
-use Rattle.b67_task_end_stack.proofs.Graves.{head, may, buried_more, all_buried, next_put_out, last_put_out}
+use Rattle.b67_task_end_stack.specs.DeathsInTurn.{Death, Buried, all_put_out}
+use Rattle.b67_task_end_stack.proofs.StillMayDie.{head, may, buried_more, all_buried, next_put_out, last_put_out}
 use Rattle.b67_task_end_stack.proofs.slots.empty_slots.Goals as goal
 
 pub empty_slot-requires : goal.empty_slot-requires

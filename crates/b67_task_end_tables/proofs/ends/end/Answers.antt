@@ -2,12 +2,12 @@ use Rattle.std.proofs.Common.{◌≤◌, List, map, length, refl, ◌∙◌, sub
 use Rattle.b67_task_tables.specs.declared.tables.TaskRow.{TaskRow}
 use Rattle.b67_task_end.specs.Family.{pair_of}
 use Rattle.b67_task_end_tables.specs.Marks.{ShowsMarks}
-use Rattle.b67_task_end_tables.specs.Deaths.{numbers_of}
+use Rattle.b67_task_end_tables.specs.Deaths.{ending_numbers}
 use Rattle.b67_task_end_tables.proofs.Machines.{view, may_bury, slots_are, has_ended}
 use Rattle.b67_task_end_tables.proofs.ends.end.Goals as goal
 
-pub bury-requires : goal.bury-requires
-bury-requires c =
+pub take_out-requires : goal.take_out-requires
+take_out-requires c =
     let q = c.requires.some in
     let k = c.args.machine.now in (
       q.storage,
@@ -15,7 +15,7 @@ bury-requires c =
       q.plan,
       q.session,
       q.job_of,
-      numbers_of (map pair_of c.args.list.now),
+      ending_numbers (map pair_of c.args.list.now),
       view k q.tables q.storage q.told q.plan q.session q.job_of c.args.list.now q.stands q.may,
       may_bury k q.tables q.storage q.told q.plan q.session q.job_of c.args.list.now q.stands q.may,
       slots_are k q.tables q.storage q.told q.plan q.session q.job_of c.args.list.now q.stands q.may c.args.job q.number c.as_slice.result.now c.as_slice.ensures.value
@@ -27,9 +27,9 @@ returns-clause-stands c = λ u x told plan s m h may number.
     let k = c.args.machine.now in
     let list = c.args.list.now in
     let few : length k.tasks.rows.items ≤ 120 = subst (λ (rs : List TaskRow). length rs ≤ 120) c.as_slice.ensures.value c.as_slice.ensures.fits in
-    let e = c.bury.ensures in
-    let (y, p, v, buried, gave) = e.stands x told plan s m (numbers_of (map pair_of list)) (view k u x told plan s m list h may) (may_bury k u x told plan s m list h may)
+    let e = c.take_out.ensures in
+    let (y, p, v, buried, gave) = e.stands x told plan s m (ending_numbers (map pair_of list)) (view k u x told plan s m list h may) (may_bury k u x told plan s m list h may)
     (slots_are k u x told plan s m list h may c.args.job number c.as_slice.result.now c.as_slice.ensures.value c.as_slice-2.result.now (c.as_slice-2.ensures.value ∙ c.slots_of-slots.ensures)) in
-    has_ended k u x told plan s m list h may few c.bury.new.cpu c.bury.new.areas c.bury.new.sectors (record k.tasks { rows = c.rows_left-rows.result; running = 255 }) c.marks_of-machine.result c.args.job
+    has_ended k u x told plan s m list h may few c.take_out.new.cpu c.take_out.new.areas c.take_out.new.sectors (record k.tasks { rows = c.rows_left-rows.result; running = 255 }) c.marks_of-machine.result c.args.job
     c.as_slice-3.result.now y p c.as_slice-2.result.now number c.as_slice-3.ensures.value e.areas e.len v buried gave c.rows_left-rows.ensures refl
     (subst (ShowsMarks c.marks_of-machine.result) c.as_slice-4.ensures.value c.marks_of-machine.ensures)

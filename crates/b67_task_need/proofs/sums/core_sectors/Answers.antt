@@ -2,7 +2,7 @@ use Rattle.std.proofs.Common.{◌≡◌, ℕ, suc, false, ◌+◌, ◌-◌, ◌<
 use Rattle.b67_stack.specs.Common.{stack_words, slot_base, stack_of}
 use Rattle.b67_stack.proofs.Bases.{base-step}
 use Rattle.b67_overlay.proofs.Turning.{stack_low, slot_high}
-use Rattle.b67_task_need.specs.Sums.{sectors_from, sectors_of_slots}
+use Rattle.b67_task_need.specs.Sums.{core_sectors_from, sectors_of_slots}
 use Rattle.b67_task_need.proofs.sums.core_sectors.Goals as goal
 
 pub range_sectors-sum-requires-in-loop-slot-clause-inside : goal.range_sectors-sum-requires-in-loop-slot-clause-inside
@@ -28,8 +28,8 @@ loop-slot-preserved c = record {
       let h : k < p.peak = omega (arith, l.slots.regs.peak) in
       let top = c.stack_top-top.ensures low p l h m.0 in
       let words : c.stack_top-top.result + 1 - (c.loop-slot.base + 1) ≡ stack_words (stack_of (p.slots k)) = omega (arith, top) in
-      let part : c.range_sectors-sum-in-loop-slot.result ≡ sectors_from false core (slot_base p k + 1) (stack_words (stack_of (p.slots k))) =
-      c.range_sectors-sum-in-loop-slot.ensures.value ∙ ap (sectors_from false core (c.loop-slot.base + 1)) words ∙ ap (λ (n : ℕ). sectors_from false core (n + 1) (stack_words (stack_of (p.slots k)))) m.0 in
+      let part : c.range_sectors-sum-in-loop-slot.result ≡ core_sectors_from false core (slot_base p k + 1) (stack_words (stack_of (p.slots k))) =
+      c.range_sectors-sum-in-loop-slot.ensures.value ∙ ap (core_sectors_from false core (c.loop-slot.base + 1)) words ∙ ap (λ (n : ℕ). core_sectors_from false core (n + 1) (stack_words (stack_of (p.slots k)))) m.0 in
       let next : sectors_of_slots core p (k + 1) ≡ sectors_of_slots core p (suc k) = ap (sectors_of_slots core p) (let e : k + 1 ≡ suc k = omega arith in e) in
       (omega (arith, base-step p k, m.0, l.slots.regs.size, c.from-size.ensures), omega (arith, m.1, part, next));
   low =

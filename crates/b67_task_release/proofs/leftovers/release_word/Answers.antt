@@ -1,6 +1,6 @@
 use Rattle.std.proofs.Common.{◌∙◌}
 use Rattle.b67_layout.specs.Session.{with_objects}
-use Rattle.b67_task_release.specs.Released.{released}
+use Rattle.b67_task_release.specs.Released.{storage_released}
 use Rattle.b67_task_release.proofs.Remaining.{one_left, copy_none, tag_none, other_none, rest, drops, remains_one, remains_none, in_all}
 use Rattle.b67_task_release.proofs.leftovers.release_word.Goals as goal
 
@@ -25,7 +25,7 @@ returns-then-not-original-clause-stands c = λ x told p left upto m l inside.
     let o = one_left x cpu areas table told p left at upto m l c.get-word.result c.in-Some.original c.get-word.ensures d.0 d.1 c.if-not-original.true inside in
     let there = in_all x cpu areas table told p left at upto m l o.0 o.1 in
     let e = c.release_original.ensures in (
-      released x o.0,
+      storage_released x o.0,
       rest x cpu areas table told p left at upto m l o.0 o.1 o.2,
       e.stands x told (with_objects left p) o.0 _ m o.3 (drops x cpu areas table told p left at upto m l o.0 o.1 o.2),
       remains_one x cpu areas table told p left at upto m l o.0 o.1 o.2 c.release_original.new.cpu.core (e.below x told (with_objects left p) o.0 m there o.3),

@@ -1,6 +1,6 @@
 use Rattle.std.proofs.Common.{◌≡◌, ℕ, ◌<◌, arith, ◌∙◌, ap, subst}
 use Rattle.b67_stack.specs.declared.Cpu.{Cpu}
-use Rattle.b67_task_release.specs.Released.{HasHome, Remains}
+use Rattle.b67_task_release.specs.Released.{HasHome, SomeRemain}
 use Rattle.b67_task_release.proofs.Remaining.{Remains-then, remains_all}
 use Rattle.b67_task_release.proofs.leftovers.release_words.Goals as goal
 
@@ -34,6 +34,6 @@ pub returns-clause-stands : goal.returns-clause-stands
 returns-clause-stands c = λ x told p left m l.
     let (y, rest, my, r) = c.loop-at.invariant.stands x told p left m l in
     let e : c.loop-at.at ≡ c.args.upto = omega (arith, c.loop-at-test.false, c.requires.order) in
-    let P : ℕ → Type 0 = λ n. Remains (λ home. (home < n) × HasHome left home) x y p c.args.cpu.now.core c.loop-at.cpu.core n c.args.upto left rest in
+    let P : ℕ → Type 0 = λ n. SomeRemain (λ home. (home < n) × HasHome left home) x y p c.args.cpu.now.core c.loop-at.cpu.core n c.args.upto left rest in
     let a = remains_all x y c.loop-at.cpu c.loop-at.areas c.loop-at.sectors told p c.args.cpu.now.core c.args.from c.args.upto left rest l my (subst P e r) in
     (y, a.0, a.1, a.2)

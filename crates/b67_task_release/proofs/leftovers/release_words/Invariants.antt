@@ -2,7 +2,7 @@ use Rattle.std.proofs.Common.{◌≡◌, ℕ, ◌<◌, List, Option, length}
 use Rattle.b67_stack.specs.Common.{PagedObject, MachineView, Storage}
 use Rattle.b67_layout_storage.specs.Machine.{MachineRepresentsView}
 use Rattle.b67_layout.specs.Session.{with_objects}
-use Rattle.b67_task_release.specs.Released.{HasHome, AreLeft, Remains}
+use Rattle.b67_task_release.specs.Released.{HasHome, AreLeft, SomeRemain}
 use Rattle.b67_task_release.proofs.leftovers.release_words.Given as goal
 
 abbrev pub invariant-loop-at : goal.invariant-loop-at
@@ -14,5 +14,5 @@ invariant-loop-at l = record {
   stands : (x : Storage) (told : Option (List (List ℕ))) (p : MachineView) (left : List PagedObject)
       → MachineRepresentsView x l.initial.cpu l.initial.areas l.initial.sectors told (with_objects left p) → AreLeft p l.initial.cpu.core l.from l.upto left
       → (y : Storage) × (rest : List PagedObject) × MachineRepresentsView y l.cpu l.areas l.sectors told (with_objects rest p)
-      × Remains (λ home. (home < l.at) × HasHome left home) x y p l.initial.cpu.core l.cpu.core l.at l.upto left rest;
+      × SomeRemain (λ home. (home < l.at) × HasHome left home) x y p l.initial.cpu.core l.cpu.core l.at l.upto left rest;
 }

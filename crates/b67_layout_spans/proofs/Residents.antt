@@ -13,21 +13,21 @@ use Rattle.b67_model.specs.Common.{Task, SessionJob, number_of, Session, IsSegme
 use Rattle.b67_law_order.proofs.Numbered.{keyed_member}
 use Rattle.b67_layout.specs.Common.{JobInOrderButCounts, IsInOrderButCounts, Slotted, Placement, slot_of, machine_view, RowsFit, DictionariesFollow, PlanFits, RepresentsDictionary, RepresentsVector, vector_word}
 use Rattle.b67_layout.proofs.Common.{job_in_order, task_row, slot_below, finds, dictionary_above}
-use Rattle.b67_overlay.specs.Spans.{Kin, Families, kin_word, LineStands, KinFits, DictionariesLie, ShowsFamilies, job_at}
+use Rattle.b67_overlay.specs.Spans.{Resident, Families, kin_word, LineStands, ResidentFits, DictionariesLie, ShowsFamilies, job_at}
 
 -- a task's job and the slots of its parents
-abbrev pub kin_of : Placement → ℕ → Task → Kin
+abbrev pub kin_of : Placement → ℕ → Task → Resident
 kin_of plan j t = record { job = j; parents = map (slot_of plan j) t.parents }
 
-abbrev pub kin_with : Placement → ℕ → Option Task → Option Kin
+abbrev pub kin_with : Placement → ℕ → Option Task → Option Resident
 kin_with plan j None = None
 kin_with plan j (Some t) = Some (kin_of plan j t)
 
-abbrev pub kin_in : Placement → ℕ → ℕ → Option SessionJob → Option Kin
+abbrev pub kin_in : Placement → ℕ → ℕ → Option SessionJob → Option Resident
 kin_in plan j task None = None
 kin_in plan j task (Some m) = kin_with plan j (keyed (λ (t : Task). t.number) task m.progress.job.tasks)
 
-abbrev pub kin_by : Placement → List SessionJob → Option Slotted → Option Kin
+abbrev pub kin_by : Placement → List SessionJob → Option Slotted → Option Resident
 kin_by plan jobs None = None
 kin_by plan jobs (Some r) = kin_in plan r.job r.task (keyed number_of r.job jobs)
 
@@ -94,7 +94,7 @@ module _ (plan : Placement) (s : Session) (o : IsInOrderButCounts s) (fits : Pla
         let j = m.constants.number in
         let low = subst (λ (i : ℕ). slot_of plan j i < plan.peak) h.1 (slot_below plan s.jobs m b.parent fits.rows hm h.0) in
         let kin = subst (λ (i : ℕ). (families plan s.jobs).kin (slot_of plan j i) ≡ Some (kin_of plan j b.parent)) h.1 (kin_there m b.parent hm h.0) in
-        let K : List ℕ → Kin = λ ps. record { job = j; parents = map (slot_of plan j) ps } in
+        let K : List ℕ → Resident = λ ps. record { job = j; parents = map (slot_of plan j) ps } in
         (low, kin ∙ ap (λ (ps : List ℕ). Some (K ps)) b.line, line_stands b.parent above (birth_of b.parent above h.0 b.line))
 
     pub parents_fall : (t : Task) (parents : List ℕ) → BirthInOrder m.progress.job t parents → Falls t.number parents
@@ -118,7 +118,7 @@ module _ (plan : Placement) (s : Session) (o : IsInOrderButCounts s) (fits : Pla
         let short = falls_short t.number t.parents m.progress.job.next_task (map (λ (v : Task). v.number) m.progress.job.tasks) (parents_fall t t.parents b) tasks.numbers (parents_live t t.parents b) in
         omega (arith, short, length-map m.progress.job.tasks (λ (v : Task). v.number), tasks.few)
 
-    pub kin_fits : (t : Task) → Has m.progress.job.tasks t → m.constants.number ≤ 8 → KinFits (families plan s.jobs) plan.peak (slot_of plan m.constants.number t.number) (kin_of plan m.constants.number t)
+    pub kin_fits : (t : Task) → Has m.progress.job.tasks t → m.constants.number ≤ 8 → ResidentFits (families plan s.jobs) plan.peak (slot_of plan m.constants.number t.number) (kin_of plan m.constants.number t)
     kin_fits t h small = record {
       used = slot_below plan s.jobs m t fits.rows hm h;
       job = omega arith;
@@ -175,16 +175,16 @@ families_shown core plan s o fits d v = record {
   vector k small = elim (lives_or plan s.jobs k fits.rows) [
     | inl (m, t, hm, ht, is) ↦
         subst (λ (i : ℕ). slice_get core (32 + i) ≡ Some (kin_word ((families plan s.jobs).kin i))) is
-        (v.live m t hm ht ∙ ap Some (vector_is plan m.constants.number t.parents) ∙ ap (λ (a : Option Kin). Some (kin_word a)) (sym (kin_there plan s o fits m t hm ht)))
+        (v.live m t hm ht ∙ ap Some (vector_is plan m.constants.number t.parents) ∙ ap (λ (a : Option Resident). Some (kin_word a)) (sym (kin_there plan s o fits m t hm ht)))
     | inr none ↦ v.free k small (keyed_none k plan.rows none) ∙ ap (λ (r : Option Slotted). Some (kin_word (kin_by plan s.jobs r))) (sym none)
   ]
 
-  kin : (k : ℕ) (a : Kin) → (families plan s.jobs).kin k ≡ Some a → KinFits (families plan s.jobs) plan.peak k a
+  kin : (k : ℕ) (a : Resident) → (families plan s.jobs).kin k ≡ Some a → ResidentFits (families plan s.jobs) plan.peak k a
   kin k a e = elim (lives_or plan s.jobs k fits.rows) [
     | inl (m, t, hm, ht, is) ↦
         let there = kin_there plan s o fits m t hm ht in
         let same : kin_of plan m.constants.number t ≡ a = same_Some _ _ (sym there ∙ ap (families plan s.jobs).kin is ∙ e) in
         let few : m.constants.number ≤ 8 = omega (arith, number_high 1 s.jobs m o.numbered hm, o.few) in
-        subst (λ (i : ℕ). KinFits (families plan s.jobs) plan.peak i a) is (subst (λ (b : Kin). KinFits (families plan s.jobs) plan.peak (slot_of plan m.constants.number t.number) b) same (kin_fits plan s o fits m hm t ht few))
+        subst (λ (i : ℕ). ResidentFits (families plan s.jobs) plan.peak i a) is (subst (λ (b : Resident). ResidentFits (families plan s.jobs) plan.peak (slot_of plan m.constants.number t.number) b) same (kin_fits plan s o fits m hm t ht few))
     | inr none ↦ absurd (none-some a (sym (ap (kin_by plan s.jobs) none) ∙ e))
   ]

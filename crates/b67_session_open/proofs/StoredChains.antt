@@ -6,8 +6,8 @@ use Rattle.b67_backing.specs.Shelf.{Table, Shelf, IsShelf, AreChains, one, times
 use Rattle.b67_backing.proofs.Links.{chain_there, one-same, uses-split}
 use Rattle.b67_lemmas.specs.Lists.{Has}
 use Rattle.b67_stack.specs.MachineView.{PagedObject}
-use Rattle.b67_load.specs.Objects.{sectors_of, sectors_of_objects}
-use Rattle.b67_load.specs.Resting.{Resting, placed, stocked}
+use Rattle.b67_load.specs.Objects.{object_sectors, sectors_of_objects}
+use Rattle.b67_load.specs.StoredObjects.{StoredObject, placed, stocked}
 use Rattle.b67_load.proofs.Shelves.{Apart, chain_apart, has_uses, has_times, times-take_drop}
 
 -- a chain has a first sector
@@ -62,51 +62,51 @@ chain_begins (k ∷ ks) x h = ⊎_elim
     (cases_eq (first k) x)
 
 -- each object has its sectors
-pub placed_length : (ts : List PagedObject) (free : List ℕ) (r : Resting) → sectors_of_objects ts ≤ length free → Has (placed ts free) r → length r.chain ≡ sectors_of r.object
+pub placed_length : (ts : List PagedObject) (free : List ℕ) (r : StoredObject) → sectors_of_objects ts ≤ length free → Has (placed ts free) r → length r.chain ≡ object_sectors r.object
 placed_length [] free r fits h = absurd h
 placed_length (t ∷ more) free r fits (inl e) =
-    subst (λ (q : Resting). length q.chain ≡ sectors_of q.object) e (omega (arith, fits, length-take (sectors_of t) free))
-placed_length (t ∷ more) free r fits (inr h) = placed_length more (drop (sectors_of t) free) r (omega (arith, fits, length-drop (sectors_of t) free)) h
+    subst (λ (q : StoredObject). length q.chain ≡ object_sectors q.object) e (omega (arith, fits, length-take (object_sectors t) free))
+placed_length (t ∷ more) free r fits (inr h) = placed_length more (drop (object_sectors t) free) r (omega (arith, fits, length-drop (object_sectors t) free)) h
 
-pub placed_has : (ts : List PagedObject) (free : List ℕ) (t : PagedObject) → Has ts t → (r : Resting) × Has (placed ts free) r × (r.object ≡ t)
+pub placed_has : (ts : List PagedObject) (free : List ℕ) (t : PagedObject) → Has ts t → (r : StoredObject) × Has (placed ts free) r × (r.object ≡ t)
 placed_has [] free t h = absurd h
-placed_has (u ∷ more) free t (inl e) = (record { object = u; chain = take (sectors_of u) free }, inl refl, e)
-placed_has (u ∷ more) free t (inr h) = let r = placed_has more (drop (sectors_of u) free) t h in (r.0, inr r.1, r.2)
+placed_has (u ∷ more) free t (inl e) = (record { object = u; chain = take (object_sectors u) free }, inl refl, e)
+placed_has (u ∷ more) free t (inr h) = let r = placed_has more (drop (object_sectors u) free) t h in (r.0, inr r.1, r.2)
 
 -- the chains are those of before and those of the objects
-pub chain_placed : (ts : List PagedObject) (s : Shelf) (k : List ℕ) → Has (stocked ts s).chains k → Has s.chains k ⊎ ((r : Resting) × Has (placed ts s.free) r × (r.chain ≡ k))
+pub chain_placed : (ts : List PagedObject) (s : Shelf) (k : List ℕ) → Has (stocked ts s).chains k → Has s.chains k ⊎ ((r : StoredObject) × Has (placed ts s.free) r × (r.chain ≡ k))
 chain_placed [] s k h = inl h
 chain_placed (t ∷ more) s k h = ⊎_elim
-    (λ (m : Has (take (sectors_of t) s.free ∷ s.chains) k). ⊎_elim
-    (λ (e : take (sectors_of t) s.free ≡ k). inr (record { object = t; chain = take (sectors_of t) s.free }, inl refl, e))
+    (λ (m : Has (take (object_sectors t) s.free ∷ s.chains) k). ⊎_elim
+    (λ (e : take (object_sectors t) s.free ≡ k). inr (record { object = t; chain = take (object_sectors t) s.free }, inl refl, e))
     (λ (i : Has s.chains k). inl i)
     m)
-    (λ (m : (r : Resting) × Has (placed more (drop (sectors_of t) s.free)) r × (r.chain ≡ k)). inr (m.0, inr m.1, m.2))
-    (chain_placed more (taken (sectors_of t) s) k h)
+    (λ (m : (r : StoredObject) × Has (placed more (drop (object_sectors t) s.free)) r × (r.chain ≡ k)). inr (m.0, inr m.1, m.2))
+    (chain_placed more (taken (object_sectors t) s) k h)
 
 -- no two objects have the same first sector
-part_times : (ts : List PagedObject) (free : List ℕ) (r : Resting) (c : ℕ) → Has (placed ts free) r → times c r.chain ≤ times c free
+part_times : (ts : List PagedObject) (free : List ℕ) (r : StoredObject) (c : ℕ) → Has (placed ts free) r → times c r.chain ≤ times c free
 part_times [] free r c h = absurd h
-part_times (t ∷ more) free r c (inl e) = subst (λ (q : Resting). times c q.chain ≤ times c free) e (omega (arith, times-take_drop c (sectors_of t) free))
-part_times (t ∷ more) free r c (inr h) = omega (arith, part_times more (drop (sectors_of t) free) r c h, times-take_drop c (sectors_of t) free)
+part_times (t ∷ more) free r c (inl e) = subst (λ (q : StoredObject). times c q.chain ≤ times c free) e (omega (arith, times-take_drop c (object_sectors t) free))
+part_times (t ∷ more) free r c (inr h) = omega (arith, part_times more (drop (object_sectors t) free) r c h, times-take_drop c (object_sectors t) free)
 
-pub record Alone (free : List ℕ) (r : Resting) : Type 0 where
+pub record Alone (free : List ℕ) (r : StoredObject) : Type 0 where
   pub some : 1 ≤ length r.chain
   pub once : times (first r.chain) free ≤ 1
 
-pub one_place : (ts : List PagedObject) (free : List ℕ) (r q : Resting) → Alone free r → Alone free q → Has (placed ts free) r → Has (placed ts free) q → first r.chain ≡ first q.chain → r ≡ q
+pub one_place : (ts : List PagedObject) (free : List ℕ) (r q : StoredObject) → Alone free r → Alone free q → Has (placed ts free) r → Has (placed ts free) q → first r.chain ≡ first q.chain → r ≡ q
 one_place [] free r q a b h g e = absurd h
 one_place (t ∷ more) free r q a b (inl h) (inl g) e = sym h ∙ g
 one_place (t ∷ more) free r q a b (inl h) (inr g) e =
     let c = first r.chain in
-    let here : 1 ≤ times c (take (sectors_of t) free) = subst (λ (k : List ℕ). 1 ≤ times c k) (ap (λ (z : Resting). z.chain) (sym h)) (has_times r.chain c (first_in r.chain a.some)) in
+    let here : 1 ≤ times c (take (object_sectors t) free) = subst (λ (k : List ℕ). 1 ≤ times c k) (ap (λ (z : StoredObject). z.chain) (sym h)) (has_times r.chain c (first_in r.chain a.some)) in
     let there : 1 ≤ times c q.chain = subst (λ i. 1 ≤ times i q.chain) (sym e) (has_times q.chain (first q.chain) (first_in q.chain b.some)) in
-    absurd (omega (arith, a.once, here, there, part_times more (drop (sectors_of t) free) q c g, times-take_drop c (sectors_of t) free))
+    absurd (omega (arith, a.once, here, there, part_times more (drop (object_sectors t) free) q c g, times-take_drop c (object_sectors t) free))
 one_place (t ∷ more) free r q a b (inr h) (inl g) e =
     let c = first q.chain in
-    let here : 1 ≤ times c (take (sectors_of t) free) = subst (λ (k : List ℕ). 1 ≤ times c k) (ap (λ (z : Resting). z.chain) (sym g)) (has_times q.chain c (first_in q.chain b.some)) in
+    let here : 1 ≤ times c (take (object_sectors t) free) = subst (λ (k : List ℕ). 1 ≤ times c k) (ap (λ (z : StoredObject). z.chain) (sym g)) (has_times q.chain c (first_in q.chain b.some)) in
     let there : 1 ≤ times c r.chain = subst (λ i. 1 ≤ times i r.chain) e (has_times r.chain (first r.chain) (first_in r.chain a.some)) in
-    absurd (omega (arith, b.once, here, there, part_times more (drop (sectors_of t) free) r c h, times-take_drop c (sectors_of t) free))
+    absurd (omega (arith, b.once, here, there, part_times more (drop (object_sectors t) free) r c h, times-take_drop c (object_sectors t) free))
 one_place (t ∷ more) free r q a b (inr h) (inr g) e =
-    let less : (z : Resting) → Alone free z → Alone (drop (sectors_of t) free) z = λ z m. record { some = m.some; once = omega (arith, m.once, times-take_drop (first z.chain) (sectors_of t) free) } in
-    one_place more (drop (sectors_of t) free) r q (less r a) (less q b) h g e
+    let less : (z : StoredObject) → Alone free z → Alone (drop (object_sectors t) free) z = λ z m. record { some = m.some; once = omega (arith, m.once, times-take_drop (first z.chain) (object_sectors t) free) } in
+    one_place more (drop (object_sectors t) free) r q (less r a) (less q b) h g e

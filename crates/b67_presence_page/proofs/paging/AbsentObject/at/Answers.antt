@@ -1,7 +1,7 @@
 use Rattle.std.proofs.Common.{length}
 use Rattle.std.proofs.lemmas.Option.{none-some}
 use Rattle.b67_presence_page.proofs.Descriptors.{rest_here, no_reader}
-use Rattle.b67_presence_page.proofs.paging.Resting.at.Goals as goal
+use Rattle.b67_presence_page.proofs.paging.AbsentObject.at.Goals as goal
 
 pub unreachable-requires : goal.unreachable-requires
 unreachable-requires c =

@@ -14,11 +14,11 @@ use Rattle.b67_layout.specs.Common.{Placement, slot_of, slot_at, machine_view, R
 use Rattle.b67_layout.proofs.MachineViews.{with_course}
 use Rattle.b67_layout.proofs.Rows.{slot_below}
 use Rattle.b67_task_end_stack.specs.Vacated.{put_out}
-use Rattle.b67_task_end_stack.specs.Graves.{Death, MayAllDie, all_died, slots_of, SameButSlots, ZeroVector, all_put_out}
+use Rattle.b67_task_end_stack.specs.DeathsInTurn.{Death, MayAllDie, all_died, slots_of, SameButSlots, ZeroVector, all_put_out}
 use Rattle.b67_task_end_stack.specs.Turns.{InTurn, lies_out, deaths}
 use Rattle.b67_task_end_stack.specs.Leaves.{Lost, Cleared}
 use Rattle.b67_task_end_stack.specs.Ends.{gone_of, job_without, rows_without}
-use Rattle.b67_task_end_stack.specs.Bury.{MayBury, IsBuried, slots_gone, plan_without, session_without}
+use Rattle.b67_task_end_stack.specs.TakenOut.{MayTakeOut, IsBuried, slots_gone, plan_without, session_without}
 use Rattle.b67_task_end_stack.proofs.Slotwise.{order_of}
 use Rattle.b67_task_end_stack.proofs.Turns.{SomeDied, none_died, AllDied, deaths_may, deaths_done}
 use Rattle.b67_task_end_stack.proofs.After.{SessionHolds-left}
@@ -142,7 +142,7 @@ turn_live live before [] t h i = absurd i
 turn_live live before (u ∷ todo) t h (inl e) = subst (Has live) e h.0
 turn_live live before (u ∷ todo) t h (inr i) = turn_live live (u ∷ before) todo t h.3 i
 
-module _ (x : Storage) (core : List Tagged) (r : Regs) (marks : List ℕ) (plan : Placement) (s : Session) (m : SessionJob) (numbers : List ℕ) (b : MayBury x core r marks plan s m numbers) where
+module _ (x : Storage) (core : List Tagged) (r : Regs) (marks : List ℕ) (plan : Placement) (s : Session) (m : SessionJob) (numbers : List ℕ) (b : MayTakeOut x core r marks plan s m numbers) where
   abbrev all_dying : List Death
   all_dying = deaths plan m.constants.number (machine_view plan s.jobs).objects b.todo
 

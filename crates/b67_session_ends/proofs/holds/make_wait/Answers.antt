@@ -4,7 +4,7 @@ use Rattle.b67_session_ends.specs.Closing.{KeepsNames}
 use Rattle.b67_session_ends.proofs.Closed.{room_still, keeps_close, keeps_cut}
 use Rattle.b67_session_ends.specs.Holds.{HoldsSome}
 use Rattle.b67_session_ends.proofs.Held.{inside, inside_set, set_head, rest_after, back_is, has_job, held_closed, held_cut}
-use Rattle.b67_session_ends.proofs.holds.hold.Goals as goal
+use Rattle.b67_session_ends.proofs.holds.make_wait.Goals as goal
 
 pub set_state-before-requires : goal.set_state-before-requires
 set_state-before-requires g c = inside c.args.machine.now c.args.chosen c.args.state c.requires.row

@@ -6,31 +6,31 @@ use Rattle.b67_backing.specs.Shelf.{Shelf, first, chain_of, taken}
 use Rattle.b67_backing.specs.Held.{Fills, SameBut}
 use Rattle.b67_lemmas.specs.Lists.{Has}
 use Rattle.b67_model.specs.Program.{Program}
-use Rattle.b67_stack.specs.Common.{at_rest, PagedObject, home_word, words_of}
-use Rattle.b67_load.specs.Objects.{sectors_of, objects_of, entries_of}
+use Rattle.b67_stack.specs.Common.{at_rest, PagedObject, home_word, object_words}
+use Rattle.b67_load.specs.Objects.{object_sectors, program_objects, entries_of}
 
 -- an object and its sectors
-pub record Resting : Type 0 where
+pub record StoredObject : Type 0 where
   pub object : PagedObject
   pub chain : List ℕ
 
 -- objects that take their sectors from free ones, one after the other
-abbrev pub placed : List PagedObject → List ℕ → List Resting
+abbrev pub placed : List PagedObject → List ℕ → List StoredObject
 placed [] free = []
-placed (t ∷ more) free = record { object = t; chain = take (sectors_of t) free } ∷ placed more (drop (sectors_of t) free)
+placed (t ∷ more) free = record { object = t; chain = take (object_sectors t) free } ∷ placed more (drop (object_sectors t) free)
 
 -- the sectors with a chain more for each
 abbrev pub stocked : List PagedObject → Shelf → Shelf
 stocked [] s = s
-stocked (t ∷ more) s = stocked more (taken (sectors_of t) s)
+stocked (t ∷ more) s = stocked more (taken (object_sectors t) s)
 
 -- the descriptor of an object that rests
-abbrev pub descriptor : Resting → Tagged
+abbrev pub descriptor : StoredObject → Tagged
 descriptor r = home_word r.object (at_rest (first r.chain))
 
 -- each one's descriptor stands in core
-abbrev pub DescriptorsStand : List Tagged → List Resting → Type 0
-DescriptorsStand core items = (r : Resting) → Has items r → slice_get core r.object.home ≡ Some (descriptor r)
+abbrev pub DescriptorsStand : List Tagged → List StoredObject → Type 0
+DescriptorsStand core items = (r : StoredObject) → Has items r → slice_get core r.object.home ≡ Some (descriptor r)
 
 -- the mark of a dictionary
 abbrev pub dictionary_mark : Tagged
@@ -40,11 +40,11 @@ dictionary_mark = word 3 (2 ^ 47 + 2 ^ 46 + MCP_STACK * 2 ^ 36 + 1 * 2 ^ 14)
 pub record DictionaryIs (core : List Tagged) (base : ℕ) (p : Program) (free : List ℕ) : Type 0 where
   pub mark : slice_get core base ≡ Some dictionary_mark
   pub entries : slice_get core (base + 1) ≡ Some (word 0 (entries_of p))
-  pub descriptors : DescriptorsStand core (placed (objects_of base p) free)
+  pub descriptors : DescriptorsStand core (placed (program_objects base p) free)
 
 -- each one's words lie in its chain
-abbrev pub WordsRest : List (List ℕ) → List Resting → Type 0
-WordsRest all items = (r : Resting) → Has items r → Fills all r.chain 0 (map number (words_of r.object))
+abbrev pub WordsRest : List (List ℕ) → List StoredObject → Type 0
+WordsRest all items = (r : StoredObject) → Has items r → Fills all r.chain 0 (map number (object_words r.object))
 
 -- the words were written to sectors that were free, and all other sectors hold what they held
 pub record WritesFreeSectors (objects : List PagedObject) (free : List ℕ) (old new : List (List ℕ)) : Type 0 where

@@ -8,12 +8,12 @@ use Rattle.b67_overlay.specs.Overlaid.{overlaid, retelling}
 use Rattle.b67_overlay.specs.AreasEvicted.{AreasEvicted}
 use Rattle.b67_overlay.proofs.Shedding.{AreasEvicted-retelling, AreasEvicted-overlaid, short_by}
 use Rattle.b67_layout_storage.specs.Machine.{HasHole}
-use Rattle.b67_presence_page.specs.Brings.{Waits}
+use Rattle.b67_presence_page.specs.Brings.{StandsEvicted}
 use Rattle.b67_presence_page.proofs.Ways.{absent_after, readable_after, read_in, came_of}
 use Rattle.b67_backing.specs.declared.SpaceFault.{SpaceFault}
 use Rattle.b67_backing.specs.declared.SpaceFault.TheVariants.{BackingFull}
-use Rattle.b67_presence_page.specs.declared.paging.Refusal.TheVariants.{NoHole}
-use Rattle.b67_presence_page.proofs.way.give_way.Goals as goal
+use Rattle.b67_presence_page.specs.declared.paging.PagingRefusal.TheVariants.{NoHole}
+use Rattle.b67_presence_page.proofs.way.evict_area.Goals as goal
 
 pub page_in-requires-clause-machine : goal.page_in-requires-clause-machine
 page_in-requires-clause-machine g c =
@@ -33,7 +33,7 @@ returns-in-Err-clause-refused g c = λ x p t u m a pr.
     let n = c.if-at-spare.false in
     let tells : (all : List (List ℕ)) → g.B.Backing.holds c.args.backing.now ≡ Some all → g.B.Backing.holds c.overlay.new.backing ≢ None = λ all e n. let (q, i) = still_tells g.B.Backing.holds g.B.Backing.size g.B.Backing.calls g.B.Backing.faults c.args.backing.now c.overlay.new.backing c.overlay.ensures.device all e in none-some q (sym n ∙ i) in
     let sh = AreasEvicted-retelling x (g.B.Backing.holds c.args.backing.now) (g.B.Backing.holds c.overlay.new.backing) m.device tells spare in
-    let w : Waits x p spare c.overlay.new.cpu c.overlay.new.areas c.overlay.new.sectors (g.B.Backing.holds c.overlay.new.backing) = record { storage = retelling x (g.B.Backing.holds c.overlay.new.backing); sheds = sh; stands = (c.in-Err.ensures.row x p u m pr).refused } in
+    let w : StandsEvicted x p spare c.overlay.new.cpu c.overlay.new.areas c.overlay.new.sectors (g.B.Backing.holds c.overlay.new.backing) = record { storage = retelling x (g.B.Backing.holds c.overlay.new.backing); sheds = sh; stands = (c.in-Err.ensures.row x p u m pr).refused } in
     w
 
 pub returns-in-Err-clause-full : goal.returns-in-Err-clause-full
@@ -42,7 +42,7 @@ returns-in-Err-clause-full g c = λ x p t u wants free m a pr e.
     let n = c.if-at-spare.false in
     let tells : (all : List (List ℕ)) → g.B.Backing.holds c.args.backing.now ≡ Some all → g.B.Backing.holds c.overlay.new.backing ≢ None = λ all e n. let (q, i) = still_tells g.B.Backing.holds g.B.Backing.size g.B.Backing.calls g.B.Backing.faults c.args.backing.now c.overlay.new.backing c.overlay.ensures.device all e in none-some q (sym n ∙ i) in
     let sh = AreasEvicted-retelling x (g.B.Backing.holds c.args.backing.now) (g.B.Backing.holds c.overlay.new.backing) m.device tells spare in
-    let w : Waits x p spare c.overlay.new.cpu c.overlay.new.areas c.overlay.new.sectors (g.B.Backing.holds c.overlay.new.backing) = record { storage = retelling x (g.B.Backing.holds c.overlay.new.backing); sheds = sh; stands = (c.in-Err.ensures.row x p u m pr).refused } in
+    let w : StandsEvicted x p spare c.overlay.new.cpu c.overlay.new.areas c.overlay.new.sectors (g.B.Backing.holds c.overlay.new.backing) = record { storage = retelling x (g.B.Backing.holds c.overlay.new.backing); sheds = sh; stands = (c.in-Err.ensures.row x p u m pr).refused } in
     (w, short_by x p u c.args.at wants free (g.B.Backing.holds c.overlay.new.backing) pr (((c.in-Err.ensures.row x p u m pr).full wants free).0 (let z : ◌≡◌ {A = Result (Unit {0}) SpaceFault} (Err c.in-Err.fault) (Err (BackingFull wants free)) = cc in z)), refl)
 
 pub returns-in-Ok-page_in-clause-came : goal.returns-in-Ok-page_in-clause-came

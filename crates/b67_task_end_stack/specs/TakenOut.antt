@@ -10,7 +10,7 @@ use Rattle.b67_stack.specs.MachineView.{MachineView}
 use Rattle.b67_stack.specs.Represents.{Storage}
 use Rattle.b67_layout.specs.Common.{Placement, slot_of, RepresentsCritical, SessionHolds, IsInOrderButCounts}
 use Rattle.b67_task_release.specs.Released.{Released}
-use Rattle.b67_task_end_stack.specs.Graves.{Death, HasGone, MayAllDie, SameButSlots, slots_of}
+use Rattle.b67_task_end_stack.specs.DeathsInTurn.{Death, HasGone, MayAllDie, SameButSlots, slots_of}
 use Rattle.b67_task_end_stack.specs.Turns.{InTurn}
 use Rattle.b67_task_end_stack.specs.Leaves.{Lost}
 use Rattle.b67_task_end_stack.specs.Ends.{gone_of, job_without, rows_without}
@@ -20,7 +20,7 @@ abbrev pub slots_gone : Placement → SessionJob → List ℕ → List ℕ
 slots_gone plan m numbers = map (slot_of plan m.constants.number) numbers
 
 -- they are numbers of live tasks, of which each goes after those that are under it; no other task's registers are in use
-pub record MayBury (x : Storage) (core : List Tagged) (r : Regs) (marks : List ℕ) (plan : Placement) (s : Session) (m : SessionJob) (numbers : List ℕ) : Type 0 where
+pub record MayTakeOut (x : Storage) (core : List Tagged) (r : Regs) (marks : List ℕ) (plan : Placement) (s : Session) (m : SessionJob) (numbers : List ℕ) : Type 0 where
   pub ordered : IsInOrderButCounts s
   pub holds : SessionHolds x core r marks plan s
   pub member : Has s.jobs m

@@ -3,7 +3,7 @@ use Rattle.b67_word.specs.Numbers.{number}
 use Rattle.b67_backing.specs.Shelf.{HasChain, chain_of, taken}
 use Rattle.b67_backing.specs.Held.{Changes, SameBut, Stores, sectors_for}
 use Rattle.b67_load.proofs.Shelves.{first_small, last_taken}
-use Rattle.b67_load.proofs.installing.shelve.Goals as goal
+use Rattle.b67_load.proofs.installing.store_words.Goals as goal
 
 pub unreachable-requires : goal.unreachable-requires
 unreachable-requires g c =

@@ -13,7 +13,7 @@ use Rattle.b67_stack.proofs.Bases.{base-apart}
 use Rattle.b67_task_release.specs.Released.{HasHome, Released}
 use Rattle.b67_task_release.proofs.Remaining.{Released-then}
 use Rattle.b67_task_end_stack.specs.Vacated.{put_out, died, MayDie}
-use Rattle.b67_task_end_stack.specs.Graves.{Death, MayAllDie, all_died, slots_of, HasGone, SameInside, SameButSlot, SameButSlots, ZeroVector, all_put_out, Buried}
+use Rattle.b67_task_end_stack.specs.DeathsInTurn.{Death, MayAllDie, all_died, slots_of, HasGone, SameInside, SameButSlot, SameButSlots, ZeroVector, all_put_out, Buried}
 
 may_die_same : (p : MachineView) (core new : List Tagged) (k : ℕ) (gone rest : List PagedObject) → SameInside p core new → MayDie p core k gone rest → MayDie p new k gone rest
 may_die_same p core new k gone rest same may = record {

@@ -10,7 +10,7 @@ use Rattle.b67_overlay.specs.Overlaid.{overlaid}
 use Rattle.b67_presence_page.specs.Brought.{brought}
 use Rattle.b67_presence_page.specs.Brings.{IsReadable, IsCode}
 use Rattle.b67_presence_page.proofs.Resort.{paging_untold, present_code, no_array, absent_t, readable_y, room_t, room_c, absent_z, readable_z, waits_first, waits_second, both_in, reads_x, Stayed-read}
-use Rattle.b67_presence_page.proofs.bringing.last_resort.Goals as goal
+use Rattle.b67_presence_page.proofs.bringing.evict_code.Goals as goal
 
 pub discard-requires : goal.discard-requires
 discard-requires g c =

@@ -1,9 +1,9 @@
 use Rattle.std.proofs.Common.{◌≡◌, ℕ, List, sym, ◌∙◌, ap, subst}
 use Rattle.b67_stack.specs.declared.Cpu.{Cpu}
 use Rattle.b67_layout.specs.Layout.{machine_view}
-use Rattle.b67_task_end_stack.specs.Graves.{all_died, all_put_out, slots_of, SameButSlots}
-use Rattle.b67_task_end_stack.proofs.Buries.{ends_in, buried_so}
-use Rattle.b67_task_end_stack.proofs.slots.bury.Goals as goal
+use Rattle.b67_task_end_stack.specs.DeathsInTurn.{all_died, all_put_out, slots_of, SameButSlots}
+use Rattle.b67_task_end_stack.proofs.TasksTakenOut.{ends_in, buried_so}
+use Rattle.b67_task_end_stack.proofs.slots.take_out.Goals as goal
 
 pub empty_slots-requires : goal.empty_slots-requires
 empty_slots-requires c =
