@@ -23,7 +23,6 @@ use Rattle.b67_entry.proofs.Calling.{can_enter}
 
 module _ (x : Storage) (old : Cpu) (plan : Placement) (s : Session) (m : SessionJob) (t : Task) (o : IsInOrderButCounts s) (h : RepresentsSession x old plan s) (runs : IsRunning plan s.jobs m t) (a : Returns m t)
     (r : Regs) (is : r ≡ caller_regs old.regs (caller_stack plan m t a) a.back) where
-
   -- the display that was built
   pub shown_there : (display : List ℕ) → ((c : RunningContext old.core r) → IsShown c display) → IsShown (scene x old plan s m t o h runs a) display
   shown_there display shown =

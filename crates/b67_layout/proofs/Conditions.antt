@@ -15,7 +15,6 @@ abbrev pub waiting : Task → Condition → Task
 waiting u c = record u { condition = c }
 
 module _ (display : List ℕ) (plan : Placement) (m : SessionJob) (job : Job) (u : Task) (c d : Condition) (old : Task) (n : ℕ) (there : keyed (λ (v : Task). v.number) u.number job.tasks ≡ Some old) (free : IsFree job n) (own : u.critical ≢ n) where
-
   abbrev with_condition : Condition → SessionJob
   with_condition e = record m { progress = record m.progress { job = with_task job (waiting u e) } }
 

@@ -7,7 +7,6 @@ use Rattle.b67_stack.specs.Common.{StackPlace, head_size, top_size, stack_words,
 use Rattle.b67_layout.specs.Common.{Placement, spot_in, shape, head, activations}
 
 module _ (plan : Placement) (j : ℕ) (job : Job) (k : ℕ) (outer : ℕ → StackPlace) where
-
   head_size-head : (spot : ℕ → StackPlace) (s : Standing) → head_size (head spot s) ≡ head_words s
   head_size-head spot State.Marked = refl
   head_size-head spot (State.Entered level environment back) = refl

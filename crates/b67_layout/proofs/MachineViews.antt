@@ -51,7 +51,6 @@ pub record RowOf (plan : Placement) (j task k : ℕ) : Type 0 where
 
 module _ (plan : Placement) (jobs : List SessionJob) (j : ℕ) (m : SessionJob) (c : JobProgress) (t t' : Task) (n k : ℕ)
     (member : keyed number_of j jobs ≡ Some m) (top : OnTop m.progress.job c.job t t' n) (row : RowOf plan j t.number k) where
-
   after : List Activation
   after = stack_of_task plan j c.job k t'
 

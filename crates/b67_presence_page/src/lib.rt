@@ -6,4 +6,4 @@ mod paging;
 mod way;
 
 pub use bringing::{bring_code, bring_data};
-pub use paging::{PagingRefusal, AbsentObject, page_in};
+pub use paging::{AbsentObject, PagingRefusal, page_in};
