@@ -4,9 +4,9 @@ use Rattle.b67_model.specs.Common.{Task, SessionJob, StepResult, IsInOrderButPla
 use Rattle.b67_law_sessions.specs.Turns.{IsNext}
 use Rattle.b67_layout_storage.specs.Machine.{Says}
 use Rattle.b67_task_tables.specs.declared.tables.Machine.{Machine}
-use Rattle.b67_session_attempt.specs.Passed.{AreCountable}
-use Rattle.b67_session_attempt.specs.Stops.{Stop}
-use Rattle.b67_session_attempt.specs.Stops as stops
+use Rattle.b67_session.specs.AttemptPassed.{AreCountable}
+use Rattle.b67_session.specs.AttemptStops.{Stop}
+use Rattle.b67_session.specs.AttemptStops as stops
 use Rattle.b67_session.specs.declared.slices.Progress.{Progress}
 use Rattle.b67_session.specs.declared.slices.Progress.TheVariants as progress
 use Rattle.b67_session.specs.Slices.{StandsAt, IsLimited, RepresentsWithoutTasks, IsOpen, SliceMeets, Slices}

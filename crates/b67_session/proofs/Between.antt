@@ -14,7 +14,7 @@ use Rattle.b67_law_sessions.proofs.Limits.{last_parts_restore_order}
 use Rattle.b67_task_tables.specs.declared.tables.Tasks.{Tasks}
 use Rattle.b67_task_tables.specs.declared.tables.Machine.{Machine}
 use Rattle.b67_task_tables.specs.Tables.{MachineRepresents}
-use Rattle.b67_session_attempt.specs.Stops.{Stop}
+use Rattle.b67_session.specs.AttemptStops.{Stop}
 use Rattle.b67_session_ends.specs.Ends.{Finishes, KeepsTables}
 use Rattle.b67_session_ends.specs.Machines.{StandsAt}
 use Rattle.b67_session.specs.Slices.{Prints, NextFits}

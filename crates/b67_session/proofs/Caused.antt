@@ -5,9 +5,9 @@ use Rattle.b67_io.specs.Causes.{Rose}
 use Rattle.b67_task_tables.specs.declared.tables.Tasks.{Tasks}
 use Rattle.b67_task_tables.specs.declared.tables.Machine.{Machine}
 use Rattle.b67_task_tables.specs.Tables.{row_names}
-use Rattle.b67_session_attempt.specs.Passed.{CallCauses}
-use Rattle.b67_session_attempt.specs.Stops.{Stop}
-use Rattle.b67_session_attempt.specs.Stops as stops
+use Rattle.b67_session.specs.AttemptPassed.{CallCauses}
+use Rattle.b67_session.specs.AttemptStops.{Stop}
+use Rattle.b67_session.specs.AttemptStops as stops
 use Rattle.b67_session_ends.specs.Closing.{KeepsNames}
 use Rattle.b67_session_ends.specs.Ends.{KeepsTables}
 use Rattle.b67_session.specs.Slices.{Keeps}

@@ -6,10 +6,10 @@ use Rattle.b67_model.specs.Common.{need, need_next, StepResult, after, Session}
 use Rattle.b67_law_sessions.specs.Turns.{IsNext}
 use Rattle.b67_law_sessions.proofs.Limits.{no_last}
 use Rattle.b67_task_tables.specs.declared.tables.Machine.{Machine}
-use Rattle.b67_session_attempt.specs.Attempts.{TakesSectors}
-use Rattle.b67_session_attempt.specs.Passed.{CallCauses}
-use Rattle.b67_session_attempt.specs.Stops.{Stop}
-use Rattle.b67_session_attempt.specs.Stops as stops
+use Rattle.b67_session.specs.Attempts.{TakesSectors}
+use Rattle.b67_session.specs.AttemptPassed.{CallCauses}
+use Rattle.b67_session.specs.AttemptStops.{Stop}
+use Rattle.b67_session.specs.AttemptStops as stops
 use Rattle.b67_session.specs.declared.slices.Progress.{Progress}
 use Rattle.b67_session.specs.Slices.{StandsAt, IsLimited, Keeps, StepsReach, in_whole_steps, but_limit, StopsBefore, SliceMeets, Slices, Resumes}
 use Rattle.b67_session.specs.Complete.{SetsOut, at_once, after_limit, IsToMake, Suffices}

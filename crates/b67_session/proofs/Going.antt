@@ -16,13 +16,13 @@ use Rattle.b67_law_sessions.proofs.TurnRuns.{Came, came-none, came-more}
 use Rattle.b67_task_tables.specs.declared.tables.TaskRow.{TaskRow}
 use Rattle.b67_task_tables.specs.declared.tables.Machine.{Machine}
 use Rattle.b67_task_tables.specs.Tables.{task_row}
-use Rattle.b67_session_attempt.specs.Passed.{CallCauses}
-use Rattle.b67_session_attempt.specs.Stops.{Stop}
-use Rattle.b67_session_attempt.specs.Stops as stops
-use Rattle.b67_session_attempt.proofs.Runs.{caused_stop, caused_later}
+use Rattle.b67_session.specs.AttemptPassed.{CallCauses}
+use Rattle.b67_session.specs.AttemptStops.{Stop}
+use Rattle.b67_session.specs.AttemptStops as stops
+use Rattle.b67_session.proofs.Runs.{caused_stop, caused_later}
 use Rattle.b67_session.specs.declared.slices.Progress.{Progress}
 use Rattle.b67_session.specs.declared.slices.Progress.TheVariants as progress
-use Rattle.b67_session_attempt.specs.Attempts.{IsNotFull}
+use Rattle.b67_session.specs.Attempts.{IsNotFull}
 use Rattle.b67_session.proofs.Tells.{tells_weaker}
 use Rattle.b67_session.specs.Slices.{StandsAt, LivesOn, RepresentsWithoutTasks, Keeps, StepsReach, in_whole_steps, but_limit, Prints, PrintsWhole, NextFits, StepsFit, StopsWithRoom, IfPresent, StopsBefore, SliceMeets, Slices}
 use Rattle.b67_session.specs.Steps.{StepGives, StepLeads, stays, makes, halves, Steps, GoesOnInTurn}

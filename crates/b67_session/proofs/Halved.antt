@@ -25,14 +25,13 @@ use Rattle.b67_task_tables.specs.declared.tables.Machine.{Machine}
 use Rattle.b67_session_schedule.specs.declared.counting.Chosen.{Chosen}
 use Rattle.b67_session_schedule.specs.Counted.{choice_of, CountsHaveRoom}
 use Rattle.b67_law_order.proofs.FewMade.{made_few, all_few}
-use Rattle.b67_session_attempt.specs.Passed.{IsCalled, WaitsSo, printed_text}
-use Rattle.b67_session_attempt.specs.Tries.{EndsSo}
-use Rattle.b67_session_attempt.specs.Attempts.{EndsWithin}
-use Rattle.b67_session_attempt.proofs.Composed.{ends_exact}
-use Rattle.b67_session_attempt.specs.Stops.{Stop}
-use Rattle.b67_session_attempt.specs.declared.outcomes.Attempt.{Attempt}
-use Rattle.b67_session_attempt.specs.declared.outcomes.Attempt.TheVariants as attempts
-use Rattle.b67_session_attempt.specs.Attempts.{StillStands}
+use Rattle.b67_session.specs.AttemptPassed.{IsCalled, WaitsSo, printed_text}
+use Rattle.b67_session.specs.Tries.{EndsSo}
+use Rattle.b67_session.specs.Attempts.{EndsWithin, StillStands}
+use Rattle.b67_session.proofs.Composed.{ends_exact}
+use Rattle.b67_session.specs.AttemptStops.{Stop}
+use Rattle.b67_session.specs.declared.outcomes.Attempt.{Attempt}
+use Rattle.b67_session.specs.declared.outcomes.Attempt.TheVariants as attempts
 use Rattle.b67_session_ends.specs.Closing.{StandsChosen}
 use Rattle.b67_session_ends.specs.Counts.{IsCounted}
 use Rattle.b67_session_ends.specs.Ends.{StandsForSession, StandsBetween}

@@ -11,7 +11,7 @@ pub mod Between
 pub mod Halved
 pub mod Stopped
 pub mod Tabled
-pub mod Tried
+pub mod TriedSteps
 pub mod Caused
 pub mod Going
 pub mod Fitting
@@ -22,3 +22,28 @@ pub mod Standing
 mod Again
 pub mod Completing
 pub mod Tells
+pub mod FittingMade
+pub mod Untold
+pub mod Started
+pub mod Still
+pub mod Trying
+pub mod Births
+pub mod AttemptFits
+pub mod Numbers
+pub mod Stops
+pub mod Runs
+pub mod Composed
+pub mod Passed
+pub mod Places
+pub mod Keeps
+pub mod AttemptSteps
+pub mod Tables
+pub mod Inversion
+pub mod Read
+pub mod Leavers
+pub mod Ordered
+pub mod Readied
+pub mod Releasing
+pub mod Holes
+pub mod OperatorsMade
+pub mod Gives

@@ -11,7 +11,7 @@ use Rattle.b67_session_lines.specs.Moments.{first_part, last_part, text_of, due}
 use Rattle.b67_law_sessions.specs.Turns.{IsNext, OrderAfter}
 use Rattle.b67_law_sessions.proofs.Limits.{limit_of, no_last, last_parts_restore_order}
 use Rattle.b67_layout.specs.Placement.{Placement}
-use Rattle.b67_session_attempt.specs.Stops as stops
+use Rattle.b67_session.specs.AttemptStops as stops
 use Rattle.b67_task_tables.specs.declared.tables.TaskRow.{TaskRow}
 use Rattle.b67_task_tables.specs.declared.tables.Tasks.{Tasks}
 use Rattle.b67_task_tables.specs.declared.tables.Machine.{Machine}

@@ -12,10 +12,10 @@ use Rattle.b67_task_tables.specs.declared.tables.Tasks.{Tasks}
 use Rattle.b67_task_tables.specs.declared.tables.Machine.{Machine}
 use Rattle.b67_task_tables.specs.Tables.{MachineRepresents}
 use Rattle.b67_session_schedule.specs.declared.counting.Chosen.{Chosen}
-use Rattle.b67_session_attempt.specs.Stops.{Stop}
-use Rattle.b67_session_attempt.specs.Stops as stops
-use Rattle.b67_session_attempt.specs.declared.outcomes.Attempt.{Attempt}
-use Rattle.b67_session_attempt.specs.Attempts.{StillStands, StandsLacking}
+use Rattle.b67_session.specs.AttemptStops.{Stop}
+use Rattle.b67_session.specs.AttemptStops as stops
+use Rattle.b67_session.specs.declared.outcomes.Attempt.{Attempt}
+use Rattle.b67_session.specs.Attempts.{StillStands, StandsLacking}
 use Rattle.b67_session.specs.Slices.{Prints, StepLacks, StopsBefore, SliceMeets}
 use Rattle.b67_session.specs.Steps.{stays, Steps}
 use Rattle.b67_session.proofs.Halved.{due_first, ClosesSo, close_part, close_count, close_due}

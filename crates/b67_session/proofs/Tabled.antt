@@ -1,9 +1,9 @@
 -- What a step leaves of the tables' counts.
 use Rattle.std.proofs.Common.{◌≡◌, ◌≢◌, ℕ, Err, refl, ap}
 use Rattle.b67_task_tables.specs.declared.tables.Tasks.{Tasks}
-use Rattle.b67_session_attempt.specs.Stops.{Stop}
-use Rattle.b67_session_attempt.specs.Stops as stops
-use Rattle.b67_session_attempt.specs.Attempts.{TablesStay}
+use Rattle.b67_session.specs.AttemptStops.{Stop}
+use Rattle.b67_session.specs.AttemptStops as stops
+use Rattle.b67_session.specs.Attempts.{TablesStay}
 
 -- a stop but a printer's leaves the tables
 pub stop_printed : (stop : Stop) (old new : Tasks) → TablesStay (Err stop) old new → stop ≢ stops.PrintFault → new.printed ≡ old.printed

@@ -3,7 +3,7 @@ use Rattle.std.proofs.Common.{ℕ, inl, inr}
 use Rattle.b67_model.specs.Common.{Task, SessionJob, Session}
 use Rattle.b67_stack.specs.Represents.{Storage}
 use Rattle.b67_layout.specs.Placement.{Placement}
-use Rattle.b67_session_attempt.specs.Attempts.{TakesSectors, TellsSectors, starts_task, makes_longer}
+use Rattle.b67_session.specs.Attempts.{TakesSectors, TellsSectors, starts_task, makes_longer}
 
 -- the sum that is told is one that the session takes, or takes then
 pub takes_of : (exact : Type 0) (x : Storage) (plan : Placement) (s : Session) (m : SessionJob) (t : Task) (sum : ℕ) → TellsSectors exact x plan s m t sum → TakesSectors s m t sum

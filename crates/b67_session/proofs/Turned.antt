@@ -22,11 +22,11 @@ use Rattle.b67_task_tables.specs.Tables.{task_row, TasksShow, MachineRepresents}
 use Rattle.b67_session_schedule.specs.declared.counting.Chosen.{Chosen}
 use Rattle.b67_session_schedule.specs.Counted.{choice_of, CountsHaveRoom}
 use Rattle.b67_session_schedule.specs.Chosen.{Chooses}
-use Rattle.b67_session_attempt.specs.Passed.{StandsOver, CallsDevice}
-use Rattle.b67_session_attempt.specs.Stops.{Stop}
-use Rattle.b67_session_attempt.specs.Stops as stops
-use Rattle.b67_session_attempt.specs.declared.outcomes.Attempt.{Attempt}
-use Rattle.b67_session_attempt.specs.Attempts.{RunsOver, ForEachOver, WantsNothing, HoleFits, segment_fits, array_fits, UsesHole, TellsAfter, AttemptMeets, Attempts, AttemptFits, AttemptRow, TablesStay}
+use Rattle.b67_session.specs.AttemptPassed.{StandsOver, CallsDevice}
+use Rattle.b67_session.specs.AttemptStops.{Stop}
+use Rattle.b67_session.specs.AttemptStops as stops
+use Rattle.b67_session.specs.declared.outcomes.Attempt.{Attempt}
+use Rattle.b67_session.specs.Attempts.{RunsOver, ForEachOver, WantsNothing, HoleFits, segment_fits, array_fits, UsesHole, TellsAfter, AttemptMeets, Attempts, AttemptFits, AttemptRow, TablesStay}
 use Rattle.b67_session.specs.Slices.{StandsAt}
 use Rattle.b67_session.proofs.Next.{Chose, chose, runs_then, next_other}
 

@@ -40,18 +40,18 @@ use Rattle.b67_task_tables.specs.declared.tables.Tasks.{Tasks}
 use Rattle.b67_task_tables.specs.declared.tables.Machine.{Machine}
 use Rattle.b67_task_tables.specs.Runs.{RunsTask}
 use Rattle.b67_task_tables.specs.Tables.{job_row, TasksShow, MachineRepresents}
-use Rattle.b67_session_attempt.specs.Makes.{OperatorMade, StepMakes, CallsOrMakes, MakesAt, MakesInSegment, ForEachReady}
+use Rattle.b67_session.specs.Makes.{OperatorMade, StepMakes, CallsOrMakes, MakesAt, MakesInSegment, ForEachReady}
 use Rattle.b67_session_schedule.specs.declared.counting.Chosen.{Chosen}
 use Rattle.b67_session_schedule.specs.Counted.{counted_more, counted_by, TurnHasRoom}
 use Rattle.b67_session_schedule.specs.Lasting.{RulesLeave, Lasts, TurnLasts, BeforeHalt}
 use Rattle.b67_session_schedule.proofs.Lasting.{lasts_choice}
 use Rattle.b67_law_order.proofs.FewMade.{made_few, all_few}
-use Rattle.b67_session_attempt.specs.Fits.{IsArrayOfJob}
-use Rattle.b67_session_attempt.proofs.AttemptFits.{was_operator, made_touches}
-use Rattle.b67_session_attempt.proofs.FittingMade.{made_fit}
-use Rattle.b67_session_attempt.proofs.Started.{known_in}
-use Rattle.b67_session_attempt.proofs.Still.{operator_many, operator_starts}
-use Rattle.b67_session_attempt.proofs.Trying.{was_made}
+use Rattle.b67_session.specs.Fits.{IsArrayOfJob}
+use Rattle.b67_session.proofs.AttemptFits.{was_operator, made_touches}
+use Rattle.b67_session.proofs.FittingMade.{made_fit}
+use Rattle.b67_session.proofs.Started.{known_in}
+use Rattle.b67_session.proofs.Still.{operator_many, operator_starts}
+use Rattle.b67_session.proofs.Trying.{was_made}
 use Rattle.b67_session_ends.proofs.Counted.{alike_refl, same_refl}
 use Rattle.b67_session.specs.InTurn.{HasTurnLeft, MadeInTurn}
 use Rattle.b67_session.specs.Slices.{StandsAt, NextFits, StepsFit}

@@ -4,7 +4,7 @@ use Rattle.b67_model.specs.Common.{Task, SessionJob, need_next, StepResult, afte
 use Rattle.b67_law_sessions.specs.Turns.{IsNext}
 use Rattle.b67_task_tables.specs.declared.tables.Tasks.{Tasks}
 use Rattle.b67_task_tables.specs.declared.tables.Machine.{Machine}
-use Rattle.b67_session_attempt.specs.Attempts.{TakesSectors}
+use Rattle.b67_session.specs.Attempts.{TakesSectors}
 use Rattle.b67_session_ends.specs.Machines.{StandsAt, IsLimited}
 
 -- the machine represents the session whose steps a slice makes: at once, or when the lines of LIMIT that are due are printed

@@ -5,3 +5,10 @@ pub mod Steps
 pub mod Complete
 pub mod Stops
 pub mod Passed
+pub mod Fits
+pub mod Tries
+pub mod Attempts
+pub mod Brought
+pub mod AttemptStops
+pub mod AttemptPassed
+pub mod Makes

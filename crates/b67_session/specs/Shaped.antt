@@ -2,8 +2,8 @@
 use Rattle.std.specs.Prelude.{ℕ, List, Option, None, Result}
 use Rattle.b67_task_tables.specs.declared.tables.Machine.{Machine}
 use Rattle.b67_layout_storage.specs.Machine.{DeviceAfterCalls}
-use Rattle.b67_session_attempt.specs.Passed.{CallCauses}
-use Rattle.b67_session_attempt.specs.Stops.{Stop}
+use Rattle.b67_session.specs.AttemptPassed.{CallCauses}
+use Rattle.b67_session.specs.AttemptStops.{Stop}
 use Rattle.b67_session.specs.Slices.{IsOpen, Keeps}
 
 -- The machine represents some session in order but for places, over a device of which nothing is known: one of which a task

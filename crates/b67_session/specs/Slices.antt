@@ -11,10 +11,10 @@ use Rattle.b67_law_sessions.specs.Turns.{IsNext}
 use Rattle.b67_task_tables.specs.declared.tables.Tasks.{Tasks}
 use Rattle.b67_task_tables.specs.declared.tables.Machine.{Machine}
 pub use Rattle.b67_task_tables.specs.Runs.{Keeps}
-use Rattle.b67_session_attempt.specs.Passed.{AreCountable, IsShortAt, CallsDevice}
-use Rattle.b67_session_attempt.specs.Attempts.{IsLacking, WantsNothing, HoleFits, UsesHole, CodeFits, TellsAfter, TellsSectors}
-use Rattle.b67_session_attempt.specs.Stops.{Stop}
-use Rattle.b67_session_attempt.specs.Stops as stops
+use Rattle.b67_session.specs.AttemptPassed.{AreCountable, IsShortAt, CallsDevice}
+use Rattle.b67_session.specs.Attempts.{IsLacking, WantsNothing, HoleFits, UsesHole, CodeFits, TellsAfter, TellsSectors}
+use Rattle.b67_session.specs.AttemptStops.{Stop}
+use Rattle.b67_session.specs.AttemptStops as stops
 pub use Rattle.b67_session_ends.specs.Machines.{StandsAt, IsLimited, RepresentsWithoutTasks}
 use Rattle.b67_session.specs.declared.slices.Progress.{Progress}
 use Rattle.b67_session.specs.declared.slices.Progress.TheVariants as progress

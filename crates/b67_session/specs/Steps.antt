@@ -3,8 +3,8 @@ use Rattle.std.specs.Prelude.{◌≡◌, ◌≢◌, ℕ, ◌+◌, ◌≤◌, Lis
 use Rattle.b67_session_lines.specs.Moments.{first_part, last_part, due}
 use Rattle.b67_model.specs.Common.{RunLine, StepResult, next, after, lines, Session}
 use Rattle.b67_task_tables.specs.declared.tables.Machine.{Machine}
-use Rattle.b67_session_attempt.specs.Stops.{Stop}
-use Rattle.b67_session_attempt.specs.Stops as stops
+use Rattle.b67_session.specs.AttemptStops.{Stop}
+use Rattle.b67_session.specs.AttemptStops as stops
 use Rattle.b67_word.specs.declared.faults.Failed.{Failed}
 use Rattle.b67_session_ends.specs.Ends.{Finishes}
 use Rattle.b67_session_schedule.specs.Lasting.{BeforeHalt}

@@ -1,2 +1,2 @@
 -- Why a step isn't made, for the crates above.
-pub use Rattle.b67_session_attempt.specs.Stops.{Stop, NoCore, BackingFull, BackingFault, PrintFault}
+pub use Rattle.b67_session.specs.AttemptStops.{Stop, NoCore, BackingFull, BackingFault, PrintFault}

@@ -1,15 +1,26 @@
-//! A session of any jobs and tasks, step by step.
+//! Sessions: a step is tried, what it lacks is brought in, and it is made; turns of steps, slices, and how they stop and go on.
 #![tactic(auto)]
 
+mod attempting;
+mod bringing;
+mod fits;
+mod making;
 mod opened;
+mod outcomes;
 mod running;
 mod slices;
 mod steps;
+mod tries;
 mod turns;
 
-pub use b67_session_attempt::Stop;
+pub use attempting::attempt;
+pub use b67_mcp::Stop;
 pub use b67_session_open::OpenFault;
 pub use b67_session_schedule::schedule;
+pub use fits::{made_fits, present_fits};
+pub use making::{Operated, make, make_in};
 pub use opened::open;
+pub use outcomes::Attempt;
 pub use running::Session;
 pub use slices::{Progress, slice};
+pub use tries::{Tried, try_once};

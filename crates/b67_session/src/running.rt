@@ -15,7 +15,7 @@ ghost use Rattle.b67_session.specs.Shaped.{SliceLeaves};
 use crate::slices::{Progress, slice};
 use b67_backing::Backing;
 use b67_io::Sink;
-use b67_session_attempt::Stop;
+use b67_mcp::Stop;
 use b67_task_tables::Machine;
 use std::marker::Model;
 

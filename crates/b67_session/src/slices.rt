@@ -6,7 +6,7 @@ ghost use Rattle.b67_model.specs.State.{Task, SessionJob};
 ghost use Rattle.b67_model.specs.Schedule.{Session};
 ghost use Rattle.b67_io.specs.Causes.{Stayed};
 ghost use Rattle.b67_layout_storage.specs.Machine.{Says, DeviceAfterCalls, content_after};
-ghost use Rattle.b67_session_attempt.specs.Passed.{AreCountable, CallCauses};
+ghost use Rattle.b67_session.specs.AttemptPassed.{AreCountable, CallCauses};
 ghost use Rattle.b67_model.specs.Run.{StepResult};
 ghost use Rattle.b67_law_sessions.specs.Turns.{IsNext};
 ghost use Rattle.b67_session.specs.Complete.{SetsOut, Suffices};
@@ -17,7 +17,7 @@ use crate::steps::step;
 use crate::turns::go_on_with_turn;
 use b67_backing::Backing;
 use b67_io::Sink;
-use b67_session_attempt::Stop;
+use b67_mcp::Stop;
 use b67_session_ends::{end_by_limit, is_at_limit};
 use b67_task_tables::{Machine, Tasks};
 

@@ -11,13 +11,13 @@ ghost use Rattle.b67_task_tables.specs.declared.tables.TaskRow.{TaskRow};
 ghost use Rattle.b67_task_tables.specs.Tables.{MachineRepresents};
 ghost use Rattle.b67_task_switch.specs.Standing.{HasRow};
 ghost use Rattle.b67_session_schedule.specs.Lasting.{TurnLasts};
-ghost use Rattle.b67_session_attempt.specs.Passed.{AreCountable};
+ghost use Rattle.b67_session.specs.AttemptPassed.{AreCountable};
 ghost use Rattle.b67_session.specs.Slices.{StandsAt, Keeps};
 ghost use Rattle.b67_session.specs.Steps.{IsInOrderFor, GoesOnInTurn};
 ghost use Rattle.b67_session.specs.InTurn.{TurnBegins, HasTurnLeft, TurnGoesOn, MadeInTurn};
 
+use crate::making::make_in;
 use b67_exec_cells::present_segment;
-use b67_session_attempt::make_in;
 use b67_session_schedule::{count_turn, turn_room};
 use b67_stack::Step;
 use b67_task_switch::switch_to;

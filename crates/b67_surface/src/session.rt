@@ -3,7 +3,7 @@
 ghost use Rattle.b67_mcp.specs.Called.{CallsSome};
 ghost use Rattle.b67_mcp.specs.Running.{JobsHaveRoom};
 ghost use Rattle.b67_session.specs.Slices.{IsOpen};
-ghost use Rattle.b67_session_attempt.specs.Passed.{AreCountable};
+ghost use Rattle.b67_session.specs.AttemptPassed.{AreCountable};
 ghost use Rattle.b67_session_open.specs.Decks.{DeckInRange};
 ghost use Rattle.std.specs.Prelude.{length, ◌+◌, ◌<◌, ◌^◌, ◌≡◌, ◌≤◌};
 

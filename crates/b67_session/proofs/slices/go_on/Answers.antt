@@ -4,9 +4,9 @@ use Rattle.b67_layout_storage.specs.Machine.{Says, content_after}
 use Rattle.b67_layout_storage.proofs.Devices.{Served-none, Served-then}
 use Rattle.b67_layout_storage.proofs.Retold.{retold-same}
 use Rattle.b67_law_sessions.specs.Turns.{IsNext}
-use Rattle.b67_session_attempt.specs.Stops.{Stop, BackingFull}
-use Rattle.b67_session_attempt.specs.Attempts.{IsNotFull}
-use Rattle.b67_session_attempt.proofs.Composed.{not_full_ok}
+use Rattle.b67_session.specs.AttemptStops.{Stop, BackingFull}
+use Rattle.b67_session.specs.Attempts.{IsNotFull}
+use Rattle.b67_session.proofs.Composed.{not_full_ok}
 use Rattle.b67_session.specs.declared.slices.Progress.{Progress}
 use Rattle.b67_session.specs.declared.slices.Progress.TheVariants as progress
 use Rattle.b67_session.specs.Slices.{StandsAt, Keeps, StopsWithRoom, IfPresent}

@@ -3,8 +3,8 @@ use Rattle.b67_model.specs.Common.{Task, SessionJob, Session}
 use Rattle.b67_backing.specs.Held.{Becomes}
 use Rattle.b67_layout_storage.specs.Machine.{Says, DeviceAfterCalls, content_after}
 use Rattle.b67_law_sessions.specs.Turns.{IsNext}
-use Rattle.b67_session_attempt.specs.Passed.{AreCountable, CallsDevice}
-use Rattle.b67_session_attempt.specs.Attempts.{WantsNothing, HoleFits}
+use Rattle.b67_session.specs.AttemptPassed.{AreCountable, CallsDevice}
+use Rattle.b67_session.specs.Attempts.{WantsNothing, HoleFits}
 use Rattle.b67_session.specs.Slices.{StandsAt, Keeps}
 use Rattle.b67_session.proofs.Going.{Going}
 use Rattle.b67_session.proofs.slices.go_on.Given as goal

@@ -3,7 +3,7 @@ use Rattle.b67_layout_storage.specs.Machine.{content_after}
 use Rattle.b67_layout_storage.proofs.Devices.{Served-none}
 use Rattle.b67_layout_storage.proofs.Retold.{retold-same}
 use Rattle.b67_task_tables.specs.declared.tables.Tasks.{Tasks}
-use Rattle.b67_session_attempt.specs.Passed.{AreCountable}
+use Rattle.b67_session.specs.AttemptPassed.{AreCountable}
 use Rattle.b67_session.specs.Slices.{StandsLimited}
 use Rattle.b67_session.proofs.Shaping.{shaped}
 use Rattle.b67_session.proofs.Going.{Going, going-begins, going-ended}

@@ -1,14 +1,14 @@
 use Rattle.std.proofs.Common.{◌≡◌, Ok, Err, sym, ap, ◌∙◌, subst, arith}
 use Rattle.b67_task_tables.specs.declared.tables.Tasks.{Tasks}
 use Rattle.b67_task_tables.specs.Runs.{Keeps}
-use Rattle.b67_session_attempt.specs.Passed.{AreCountable, CanNumber}
-use Rattle.b67_session_attempt.specs.declared.outcomes.Attempt.{Attempt}
-use Rattle.b67_session_attempt.specs.declared.outcomes.Attempt.TheVariants as attempts
-use Rattle.b67_session_attempt.proofs.Runs.{caused_stop}
+use Rattle.b67_session.specs.AttemptPassed.{AreCountable, CanNumber}
+use Rattle.b67_session.specs.declared.outcomes.Attempt.{Attempt}
+use Rattle.b67_session.specs.declared.outcomes.Attempt.TheVariants as attempts
+use Rattle.b67_session.proofs.Runs.{caused_stop}
 use Rattle.b67_session.proofs.Caused.{step_causes, keeps_then, close_keeps, turn_keeps}
 use Rattle.b67_session.proofs.Rooms.{can_number}
 use Rattle.b67_session.proofs.Turned.{Tries, who, has_row, turned, runs_over}
-use Rattle.b67_session.proofs.Tried.{tries_as, made_counts, made_between, made_row, made_present, close_counts, closed_between, closed_row, closed_present, cut_row, cut_present, ending_made, ending_so, ending_chose, ending_closes, waiting_made, waiting_so, waiting_some, waiting_closes, stop_row, stop_present}
+use Rattle.b67_session.proofs.TriedSteps.{tries_as, made_counts, made_between, made_row, made_present, close_counts, closed_between, closed_row, closed_present, cut_row, cut_present, ending_made, ending_so, ending_chose, ending_closes, waiting_made, waiting_so, waiting_some, waiting_closes, stop_row, stop_present}
 use Rattle.b67_session.proofs.steps.step.Given.{Over}
 use Rattle.b67_session.proofs.steps.step.Goals.{After-attempt}
 use Rattle.b67_session.proofs.steps.step.Goals as goal

@@ -1,6 +1,6 @@
 use Rattle.std.proofs.Common.{◌≡◌, ◌≤◌, ◌+◌, ◌-◌, ℕ, List, length, Option}
 use Rattle.b67_model.specs.Schedule.{Session}
-use Rattle.b67_session_attempt.specs.Passed.{HoldsCode}
+use Rattle.b67_session.specs.AttemptPassed.{HoldsCode}
 use Rattle.b67_session.specs.InTurn.{HasTurnLeft}
 use Rattle.b67_session.specs.Slices.{Keeps}
 use Rattle.b67_session.proofs.turns.make_in_segment.Given as goal

@@ -1,0 +1,78 @@
+-- A machine of which a ready task runs; and causes of what two calls answered.
+use Rattle.std.proofs.Common.{◌≡◌, ◌≢◌, ℕ, ◌≤◌, List, length, Option, Result, Ok, Err, sym, ◌∙◌, arith, ap, subst}
+use Rattle.b67_io.specs.Causes.{Rose}
+use Rattle.b67_mcp.specs.declared.ends.Stop.{Stop}
+use Rattle.b67_mcp.specs.declared.ends.Stop.TheVariants.{BackingFault, PrintFault}
+use Rattle.b67_mcp.specs.Called.{AreCountable}
+use Rattle.b67_mcp.specs.Running.{CallCauses, Kept}
+use Rattle.b67_task_tables.specs.declared.tables.Machine.{Machine}
+use Rattle.b67_task_tables.specs.declared.tables.Tasks.{Tasks}
+use Rattle.b67_task_tables.specs.Tables.{row_names}
+use Rattle.b67_session.specs.Tries.{ReadyRuns}
+use Rattle.b67_session.specs.Attempts.{RunsOver}
+
+pub ready_over : (k : Machine) (told : Option (List (List ℕ))) → RunsOver k told → ReadyRuns k
+ready_over k told r = record {
+  runs = record {
+    storage = r.storage;
+    told = r.storage.device;
+    plan = r.plan;
+    session = r.session;
+    member = r.member;
+    task = r.task;
+    ordered = r.ordered;
+    stands = r.stands.stands;
+    running = r.running;
+  };
+  ready = r.ready;
+}
+
+-- a count that rose later
+pub rose_later : {D : Type 0} (faults : D → ℕ) (old mid new : D) → faults old ≤ faults mid → Rose faults mid new → Rose faults old new
+rose_later faults old mid new a b = omega (arith, a, b)
+
+-- a stop of another call
+pub caused_stop : {B K A C : Type 0} (failed : B → ℕ) (unprinted : K → ℕ) (old new : B) (paper paper' : K) (stop : Stop) → CallCauses {A = A} failed unprinted old new paper paper' (Err stop) → CallCauses {A = C} failed unprinted old new paper paper' (Err stop)
+caused_stop {B} {K} {A} {C} failed unprinted old new paper paper' stop h = record {
+  printer = record { later = h.printer.later; failed = λ e. let is : stop ≡ PrintFault = (let d = e in cc) in h.printer.failed (ap Err is) };
+  device = λ e. let is : stop ≡ BackingFault = (let d = e in cc) in h.device (ap Err is);
+}
+
+-- no stop
+pub caused_none : {B K A : Type 0} (failed : B → ℕ) (unprinted : K → ℕ) (old new : B) (paper paper' : K) (made : A) → unprinted paper ≤ unprinted paper' → CallCauses failed unprinted old new paper paper' (Ok made)
+caused_none failed unprinted old new paper paper' made later = record { printer = record { later = later; failed = λ e. absurd cc }; device = λ e. absurd cc }
+
+-- what wasn't brought in after a first call
+pub caused_want : {B K A C : Type 0} (failed : B → ℕ) (unprinted : K → ℕ) (old mid new : B) (paper paper' : K) (brought : Result A Stop) (stop : Stop) → brought ≡ Err stop → failed old ≤ failed mid → unprinted paper ≤ unprinted paper'
+    → (brought ≡ Err BackingFault → Rose failed mid new) → brought ≢ Err PrintFault → CallCauses {A = C} failed unprinted old new paper paper' (Err stop)
+caused_want {B} {K} {A} {C} failed unprinted old mid new paper paper' brought stop at a later cause silent = record {
+  printer = record { later = later; failed = λ e. let is : stop ≡ PrintFault = (let d = e in cc) in absurd (silent (at ∙ ap (λ (x : Stop). Err x) is)) };
+  device = λ e. let is : stop ≡ BackingFault = (let d = e in cc) in rose_later failed old mid new a (cause (at ∙ ap (λ (x : Stop). Err x) is));
+}
+
+-- what a second call has caused
+pub caused_later : {B K A : Type 0} (failed : B → ℕ) (unprinted : K → ℕ) (old mid new : B) (paper first paper' : K) (answered : Result A Stop) → failed old ≤ failed mid → unprinted paper ≤ unprinted first
+    → CallCauses failed unprinted mid new first paper' answered → CallCauses failed unprinted old new paper paper' answered
+caused_later failed unprinted old mid new paper first paper' answered a b h = record {
+  printer = record { later = (let c = h.printer.later in omega (arith, b, c)); failed = λ e. rose_later unprinted paper first paper' b (h.printer.failed e) };
+  device = λ e. rose_later failed old mid new a (h.device e);
+}
+
+-- what two calls keep, one after the other
+pub kept_then : (old mid new : Machine) → Kept old mid → Kept mid new → Kept old new
+kept_then old mid new a b = record {
+  countable = λ few. b.countable (a.countable few);
+  keeps = record {
+    core = b.keeps.core ∙ a.keeps.core;
+    sectors = b.keeps.sectors ∙ a.keeps.sectors;
+    halt = b.keeps.halt ∙ a.keeps.halt;
+    names = b.keeps.names ∙ a.keeps.names;
+  };
+}
+
+-- and one that leaves the tables
+pub kept_tasks : (old new : Machine) → new.tasks ≡ old.tasks → length new.cpu.core ≡ length old.cpu.core → length new.sectors.links ≡ length old.sectors.links → Kept old new
+kept_tasks old new tasks core sectors = record {
+  countable = λ few. subst (λ (z : Tasks). AreCountable z.jobs) (sym tasks) few;
+  keeps = record { core = core; sectors = sectors; halt = ap (λ (z : Tasks). z.halt) tasks; names = ap (λ (z : Tasks). row_names z.jobs) tasks };
+}

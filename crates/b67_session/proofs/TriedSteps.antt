@@ -1,0 +1,254 @@
+-- A step, once its operator was tried: what it answers, prints and leaves.
+use Rattle.std.proofs.Common.{◌≡◌, ◌≢◌, ℕ, List, length, Option, Some, None, Result, Ok, Err, refl, sym, ap, ◌∙◌, subst}
+use Rattle.b67_word.specs.declared.faults.Ending.{Ending}
+use Rattle.b67_word.specs.declared.faults.Failed.{Failed}
+use Rattle.b67_model.specs.Common.{Stepped, ends_with, StepResult, Condition, Task, SessionJob, Session}
+use Rattle.b67_law_sessions.specs.Orders.{IsInOrderButLimit}
+use Rattle.b67_law_sessions.specs.Turns.{IsNext, part_of}
+use Rattle.b67_stack.specs.Represents.{Storage}
+use Rattle.b67_layout_storage.specs.Machine.{Says, content_after}
+use Rattle.b67_layout.specs.Placement.{Placement}
+use Rattle.b67_exec_cells.specs.Running.{code_area}
+use Rattle.b67_task_tables.specs.declared.tables.TaskState.{TaskState}
+use Rattle.b67_task_tables.specs.declared.tables.Tasks.{Tasks}
+use Rattle.b67_task_tables.specs.declared.tables.Machine.{Machine}
+use Rattle.b67_task_tables.specs.Tables.{MachineRepresents}
+use Rattle.b67_session_schedule.specs.declared.counting.Chosen.{Chosen}
+use Rattle.b67_session_schedule.specs.Counted.{choice_of, CountsHaveRoom}
+use Rattle.b67_session.specs.AttemptStops.{Stop}
+use Rattle.b67_session.specs.AttemptStops as stops
+use Rattle.b67_session.specs.Attempts.{AttemptFits, IsNotFull}
+use Rattle.b67_session.proofs.Composed.{not_full_as}
+use Rattle.b67_session.specs.declared.outcomes.Attempt.{Attempt}
+use Rattle.b67_session.specs.declared.outcomes.Attempt.TheVariants as attempts
+use Rattle.b67_session_ends.specs.Closing.{StandsChosen, ChoseSome, Closes}
+use Rattle.b67_session_ends.specs.Counts.{IsCounted}
+use Rattle.b67_session_ends.specs.Ends.{StandsBetween, KeepsTables}
+use Rattle.b67_session_ends.specs.Holds.{waiting_step, HoldsSo, HoldsSome}
+use Rattle.b67_session.specs.Slices.{StandsAt, StopsWithRoom, IfPresent}
+use Rattle.b67_session.specs.Steps.{StopOf, EndsStep, Steps}
+use Rattle.b67_session.proofs.Between.{IsHalfMade, finished}
+use Rattle.b67_session.proofs.Halved.{ClosesSo, made_room, made_half, close_room, chosen_stands, close_half, ends_so, waits, wait_made, waits_so, holds_so, between_of}
+use Rattle.b67_session.proofs.Next.{as_next}
+use Rattle.b67_session.proofs.Stopped.{cut_steps, stop_steps}
+use Rattle.b67_session.proofs.Turned.{NextOf, Tries, Attempted, attempted, n, quiet_here, hole_here, sum_here, room_there}
+use Rattle.b67_session.proofs.Tabled.{stop_printed, turned_printed}
+
+-- ---- stops with room
+
+pub ended_not_full : (result : Result (Unit {0}) Failed) (answered : Result (Unit {0}) Stop) → StopOf result answered → IsNotFull answered
+ended_not_full (Ok done) answered is sum size e = let d = sym is ∙ e in absurd cc
+ended_not_full (Err failed) answered is sum size e = let d = sym is ∙ e in absurd cc
+
+module _ (core : ℕ) (s : Session) (m : SessionJob) (t : Task) where
+  pub ended_room : (result : Result (Unit {0}) Failed) (answered : Result (Unit {0}) Stop) → StopOf result answered → StopsWithRoom core s m t answered
+  ended_room (Ok done) answered is = subst (λ (r : Result (Unit {0}) Stop). StopsWithRoom core s m t r) (sym is) tt
+  ended_room (Err failed) answered is = subst (λ (r : Result (Unit {0}) Stop). StopsWithRoom core s m t r) (sym is) tt
+
+  stopped_room : (x : Storage) (plan : Placement) (stop : Stop) → AttemptFits core x plan s m t (Err stop) → code_area x plan m t ≢ None → StopsWithRoom {A = Unit {0}} core s m t (Err stop)
+  stopped_room x plan (stops.NoCore words size) fits code = tt
+  stopped_room x plan (stops.BackingFull sum size) fits code = fits code
+  stopped_room x plan stops.BackingFault fits code = fits code
+  stopped_room x plan stops.PrintFault fits code = tt
+
+-- what the end of a step promises of each session between its parts
+abbrev pub EndsEach : {K : Type 0} → (K → Option (List ℕ)) → Result (Unit {0}) Stop → Machine → Machine → K → K → Type 0
+EndsEach taken answered mid last paper paper' =
+    (x : Storage) (told : Option (List (List ℕ))) (plan : Placement) (h : Session) → IsInOrderButLimit h → MachineRepresents x told mid plan h → EndsStep taken told h answered mid last paper paper'
+
+-- and `close` of each whose chosen task is known
+abbrev pub ClosesEach : {K : Type 0} → (K → Option (List ℕ)) → Chosen → Ending → Result (Unit {0}) Failed → Machine → Machine → K → K → Type 0
+ClosesEach taken c ending result old new paper paper' =
+    (x : Storage) (told : Option (List (List ℕ))) (plan : Placement) (s : Session) (m : SessionJob) (t : Task) → StandsChosen x told old plan s m t c
+    → Closes taken told (part_of s (choice_of c) m t (ends_with m.progress.job t.number ending)) result old new paper paper'
+
+-- and `hold`
+abbrev pub HoldsEach : {K : Type 0} → (K → Option (List ℕ)) → Chosen → TaskState → Result (Unit {0}) Failed → Machine → Machine → K → K → Type 0
+HoldsEach taken c state result old new paper paper' =
+    (x : Storage) (told : Option (List (List ℕ))) (plan : Placement) (s : Session) (m : SessionJob) (t : Task) (condition : Condition) → StandsChosen x told old plan s m t c → HoldsSo plan m t state condition
+    → Closes taken told (part_of s (choice_of c) m t (waiting_step m.progress.job t condition)) result old new paper paper'
+
+-- ---- the step
+
+module _ {D K : Type 0} {holds : D → Option (List (List ℕ))} {taken : K → Option (List ℕ)} {told told' : Option (List (List ℕ))} {count : ℕ} {k mid new : Machine} {c : Chosen} {device device' : D} {paper paper' : K} where
+  -- at another answer
+  pub tries_as : (answered other : Result Attempt Stop) → answered ≡ other → Tries holds taken told told' count k c mid answered new device device' paper paper' → Tries holds taken told told' count k c mid other new device device' paper paper'
+  tries_as answered other e x = subst (λ (a : Result Attempt Stop). Tries holds taken told told' count k c mid a new device device' paper paper') e x
+
+  printed_is : (answered : Result Attempt Stop) → Tries holds taken told told' count k c mid answered new device device' paper paper' → mid.tasks.printed ≡ k.tasks.printed
+  printed_is answered x = turned_printed k.tasks mid.tasks c.row x.tables
+
+  -- where its segment and array are present
+  module _ (answered : Result Attempt Stop) (x : Tries holds taken told told' count k c mid answered new device device' paper paper') (said : Option (List (List ℕ))) (s : Session) (says : Says said told) (h : StandsAt said k s) where
+    abbrev next_of : NextOf s c
+    next_of = n x said s says h
+
+    pub present_by : (m : SessionJob) (t : Task) → IsNext s m t → (step : Result (Unit {0}) Stop) (last : Machine)
+        → (said ≢ None → code_area h.storage h.plan next_of.member next_of.task ≢ None → last.tasks.made ≡ k.tasks.made → StopsWithRoom (length k.cpu.core) s next_of.member next_of.task step)
+        → (IsNotFull answered → IsNotFull step) → ((sum size : ℕ) → step ≡ Err (stops.BackingFull sum size) → answered ≡ Err (stops.BackingFull sum size))
+        → IfPresent holds (said ≢ None) (length k.cpu.core) 1 h.storage h.plan s m t step k last device device'
+    present_by m t next step last room fine full =
+        as_next s m next_of.member t next_of.task (λ (z : SessionJob) (v : Task). IfPresent holds (said ≢ None) (length k.cpu.core) 1 h.storage h.plan s z v step k last device device') next_of.next next
+        (record {
+          quiet = λ one wants same. quiet_here x said s says h wants same;
+          hole = λ tells one fits none. (let used = hole_here x said s says h tells fits none in record { written = used.written; not_full = fine used.not_full });
+          sum = λ one wants sum size e. sum_here x said s says h wants sum size (full sum size e);
+          room = room;
+        })
+
+  -- the operator was made
+  module _ (x : Tries holds taken told told' count k c mid (Ok attempts.Made) new device device' paper paper') (said : Option (List (List ℕ))) (s : Session) (says : Says said told) (h : StandsAt said k s) where
+    abbrev made : Attempted taken said (content_after said told') (length k.cpu.core) count k.tasks.printed s c (Ok attempts.Made) new paper paper'
+    made = attempted x said s says h
+
+    pub made_counts : CountsHaveRoom new.tasks c
+    made_counts = made_room taken said (content_after said told') (length k.cpu.core) count k.tasks.printed s c new paper paper' made
+
+    module _ (tasks : Tasks) (counted : IsCounted c new.tasks tasks) where
+      abbrev counts : Machine
+      counts = record new { tasks = tasks }
+
+      halved : IsHalfMade taken (content_after said told') (said ≢ None) s k counts paper paper'
+      halved = made_half taken said (content_after said told') (length k.cpu.core) count k.tasks.printed s c new paper paper' made k tasks counted h.stands.tables.counts.made refl refl
+
+      pub made_between : StandsBetween counts
+      made_between = between_of taken (content_after said told') (said ≢ None) s k counts paper paper' halved
+
+      module _ (answered : Result (Unit {0}) Stop) (last : Machine) (paper'' : K) (each : EndsEach taken answered counts last paper' paper'') where
+        abbrev ended : EndsStep taken (content_after said told') halved.part.session answered counts last paper' paper''
+        ended = each halved.storage (content_after said told') halved.plan halved.part.session halved.ordered halved.stands
+
+        pub made_row : KeepsTables counts last → Steps taken (content_after said told') (said ≢ None) count s answered k last paper paper''
+        made_row keeps = finished taken (content_after said told') (said ≢ None) count s k counts last paper paper' paper'' halved keeps ended.result ended.finishes answered ended.answer
+
+        pub made_present : (m : SessionJob) (t : Task) → IsNext s m t → IfPresent holds (said ≢ None) (length k.cpu.core) 1 h.storage h.plan s m t answered k last device device'
+        made_present m t next =
+            let z = n x said s says h in
+            present_by (Ok attempts.Made) x said s says h m t next answered last (λ tells code none. ended_room (length k.cpu.core) s z.member z.task ended.result answered ended.answer)
+            (λ whole. ended_not_full ended.result answered ended.answer) (λ sum size e. absurd (ended_not_full ended.result answered ended.answer sum size e))
+
+  -- the operator ends its task, or makes it wait: the attempt has left the tables as they were
+  module _ (outcome : Attempt) (x : Tries holds taken told told' count k c mid (Ok outcome) new device device' paper paper') (stay : new.tasks ≡ mid.tasks) (said : Option (List (List ℕ))) (s : Session) (says : Says said told) (h : StandsAt said k s)
+      (made : Stepped) (so : ClosesSo said (content_after said told') (length k.cpu.core) new paper paper' (attempted x said s says h).plan (attempted x said s says h).session (attempted x said s says h).member (attempted x said s says h).task (attempted x said s says h).next.chosen made) where
+    abbrev left : Attempted taken said (content_after said told') (length k.cpu.core) count k.tasks.printed s c (Ok outcome) new paper paper'
+    left = attempted x said s says h
+
+    abbrev runs : new.tasks.running ≡ c.row
+    runs = ap (λ (z : Tasks). z.running) stay ∙ ap (λ (z : Tasks). z.running) x.tables
+
+    printed_still : new.tasks.printed ≡ k.tasks.printed
+    printed_still = ap (λ (z : Tasks). z.printed) stay ∙ printed_is (Ok outcome) x
+
+    pub close_counts : CountsHaveRoom new.tasks c
+    close_counts = close_room taken said (content_after said told') (length k.cpu.core) count k.tasks.printed s c new paper paper' (Ok outcome) made left so
+
+    abbrev pub stands_chosen : StandsChosen so.still.0 (content_after said told') new left.plan left.session left.member left.task c
+    stands_chosen = chosen_stands taken said (content_after said told') (length k.cpu.core) count k.tasks.printed s c new paper paper' (Ok outcome) made left so runs
+
+    abbrev pub the_part : StepResult
+    the_part = part_of left.session (choice_of c) left.member left.task made
+
+    -- the endings' lines were printed
+    module _ (closed : Machine) (paper'' : K) (closes : Closes taken (content_after said told') the_part (Ok tt) new closed paper' paper'') where
+      closed_half : IsHalfMade taken (content_after said told') (said ≢ None) s k closed paper paper''
+      closed_half =
+          let (rest, none, counted, stands) = closes in
+          close_half taken said (content_after said told') (length k.cpu.core) count k.tasks.printed s c new paper paper' (Ok outcome) made left so k closed paper'' rest none counted stands h.stands.tables.counts.made refl printed_still refl
+
+      pub closed_between : StandsBetween closed
+      closed_between = between_of taken (content_after said told') (said ≢ None) s k closed paper paper'' closed_half
+
+      module _ (answered : Result (Unit {0}) Stop) (last : Machine) (paper''' : K) (each : EndsEach taken answered closed last paper'' paper''') where
+        abbrev over : EndsStep taken (content_after said told') closed_half.part.session answered closed last paper'' paper'''
+        over = each closed_half.storage (content_after said told') closed_half.plan closed_half.part.session closed_half.ordered closed_half.stands
+
+        pub closed_row : KeepsTables closed last → Steps taken (content_after said told') (said ≢ None) count s answered k last paper paper'''
+        closed_row keeps = finished taken (content_after said told') (said ≢ None) count s k closed last paper paper'' paper''' closed_half keeps over.result over.finishes answered over.answer
+
+        pub closed_present : (m : SessionJob) (t : Task) → IsNext s m t → IfPresent holds (said ≢ None) (length k.cpu.core) 1 h.storage h.plan s m t answered k last device device'
+        closed_present m t next =
+            let z = n x said s says h in
+            present_by (Ok outcome) x said s says h m t next answered last (λ tells code none. ended_room (length k.cpu.core) s z.member z.task over.result answered over.answer)
+            (λ whole. ended_not_full over.result answered over.answer) (λ sum size e. absurd (ended_not_full over.result answered over.answer sum size e))
+
+    -- the printer failed in them
+    module _ (failed : Failed) (last : Machine) (paper'' : K) where
+      pub cut_row : k.tasks.halt ≢ Some k.tasks.made → new.tasks.halt ≡ k.tasks.halt → Closes taken (content_after said told') the_part (Err failed) new last paper' paper'' → Steps taken (content_after said told') (said ≢ None) count s (Err stops.PrintFault) k last paper paper''
+      cut_row due halt closes =
+          let (more, only) = closes in
+          cut_steps taken said (content_after said told') (length k.cpu.core) count k.tasks.printed s c new paper paper' (Ok outcome) made left so k last paper'' h.stands.tables.counts.made refl printed_still refl due halt more only
+
+      pub cut_present : (m : SessionJob) (t : Task) → IsNext s m t → IfPresent {A = Unit {0}} holds (said ≢ None) (length k.cpu.core) 1 h.storage h.plan s m t (Err stops.PrintFault) k last device device'
+      cut_present m t next = present_by (Ok outcome) x said s says h m t next (Err stops.PrintFault) last (λ tells code none. tt) (λ whole sum size e. absurd cc) (λ sum size e. absurd cc)
+
+  -- it ends its task
+  module _ (ending : Ending) (x : Tries holds taken told told' count k c mid (Ok (attempts.Ends ending)) new device device' paper paper') (said : Option (List (List ℕ))) (s : Session) (says : Says said told) (h : StandsAt said k s) where
+    abbrev ending_left : Attempted taken said (content_after said told') (length k.cpu.core) count k.tasks.printed s c (Ok (attempts.Ends ending)) new paper paper'
+    ending_left = attempted x said s says h
+
+    abbrev pub ending_made : Stepped
+    ending_made = ends_with ending_left.member.progress.job ending_left.task.number ending
+
+    abbrev pub ending_so : ClosesSo said (content_after said told') (length k.cpu.core) new paper paper' ending_left.plan ending_left.session ending_left.member ending_left.task ending_left.next.chosen ending_made
+    ending_so = ends_so taken said (content_after said told') (length k.cpu.core) count k.tasks.printed s c new paper paper' ending ending_left
+
+    -- the chosen row is its
+    ending_stands : StandsChosen ending_so.still.0 (content_after said told') new ending_left.plan ending_left.session ending_left.member ending_left.task c
+    ending_stands = stands_chosen (attempts.Ends ending) x x.stay said s says h ending_made ending_so
+
+    pub ending_chose : ChoseSome new c
+    ending_chose = record { storage = ending_so.still.0; told = content_after said told'; plan = ending_left.plan; session = ending_left.session; member = ending_left.member; task = ending_left.task; stands = ending_stands }
+
+    -- what closing says of it
+    pub ending_closes : (result : Result (Unit {0}) Failed) (closed : Machine) (paper'' : K) → ClosesEach taken c ending result new closed paper' paper''
+        → Closes taken (content_after said told') (the_part (attempts.Ends ending) x x.stay said s says h ending_made ending_so) result new closed paper' paper''
+    ending_closes result closed paper'' closes = closes ending_so.still.0 (content_after said told') ending_left.plan ending_left.session ending_left.member ending_left.task ending_stands
+
+  -- it makes its task wait
+  module _ (state : TaskState) (x : Tries holds taken told told' count k c mid (Ok (attempts.Waits state)) new device device' paper paper') (said : Option (List (List ℕ))) (s : Session) (says : Says said told) (h : StandsAt said k s) where
+    abbrev waiting : Attempted taken said (content_after said told') (length k.cpu.core) count k.tasks.printed s c (Ok (attempts.Waits state)) new paper paper'
+    waiting = attempted x said s says h
+
+    abbrev pub waiting_made : Stepped
+    waiting_made = wait_made taken said (content_after said told') (length k.cpu.core) count k.tasks.printed s c new paper paper' state waiting
+
+    abbrev pub waiting_so : ClosesSo said (content_after said told') (length k.cpu.core) new paper paper' waiting.plan waiting.session waiting.member waiting.task waiting.next.chosen waiting_made
+    waiting_so = waits_so taken said (content_after said told') (length k.cpu.core) count k.tasks.printed s c new paper paper' state waiting
+
+    waiting_stands : StandsChosen waiting_so.still.0 (content_after said told') new waiting.plan waiting.session waiting.member waiting.task c
+    waiting_stands = stands_chosen (attempts.Waits state) x x.stay said s says h waiting_made waiting_so
+
+    waiting_holds : HoldsSo waiting.plan waiting.member waiting.task state (waits taken said (content_after said told') (length k.cpu.core) count k.tasks.printed s c new paper paper' state waiting).condition
+    waiting_holds = holds_so taken said (content_after said told') (length k.cpu.core) count k.tasks.printed s c new paper paper' state waiting
+
+    pub waiting_some : HoldsSome new c state
+    waiting_some = record {
+      storage = waiting_so.still.0;
+      told = content_after said told';
+      plan = waiting.plan;
+      session = waiting.session;
+      member = waiting.member;
+      task = waiting.task;
+      condition = (waits taken said (content_after said told') (length k.cpu.core) count k.tasks.printed s c new paper paper' state waiting).condition;
+      stands = waiting_stands;
+      so = waiting_holds;
+    }
+
+    pub waiting_closes : (result : Result (Unit {0}) Failed) (closed : Machine) (paper'' : K) → HoldsEach taken c state result new closed paper' paper''
+        → Closes taken (content_after said told') (the_part (attempts.Waits state) x x.stay said s says h waiting_made waiting_so) result new closed paper' paper''
+    waiting_closes result closed paper'' holds =
+        holds waiting_so.still.0 (content_after said told') waiting.plan waiting.session waiting.member waiting.task
+        (waits taken said (content_after said told') (length k.cpu.core) count k.tasks.printed s c new paper paper' state waiting).condition waiting_stands waiting_holds
+
+  -- it isn't made
+  module _ (stop : Stop) (x : Tries holds taken told told' count k c mid (Err stop) new device device' paper paper') (said : Option (List (List ℕ))) (s : Session) (says : Says said told) (h : StandsAt said k s) where
+    pub stop_row : k.tasks.halt ≢ Some k.tasks.made → new.tasks.halt ≡ k.tasks.halt → Steps taken (content_after said told') (said ≢ None) count s (Err stop) k new paper paper'
+    stop_row due halt =
+        stop_steps taken said (content_after said told') (length k.cpu.core) count k.tasks.printed s c new paper paper' stop (attempted x said s says h) k h.stands.tables.counts.made refl refl due halt
+        (λ other. stop_printed stop mid.tasks new.tasks x.stay other ∙ printed_is (Err stop) x)
+
+    pub stop_present : (m : SessionJob) (t : Task) → IsNext s m t → IfPresent {A = Unit {0}} holds (said ≢ None) (length k.cpu.core) 1 h.storage h.plan s m t (Err stop) k new device device'
+    stop_present m t next =
+        let z = n x said s says h in
+        present_by (Err stop) x said s says h m t next (Err stop) new (λ tells code none. stopped_room (length k.cpu.core) s z.member z.task h.storage h.plan stop (room_there x said s says h tells) code)
+        (λ whole. not_full_as stop whole) (λ sum size e. ap (λ (z : Stop). Err z) (let is : stop ≡ stops.BackingFull sum size = cc in is))

@@ -1,0 +1,123 @@
+//! The next operator, with what it wants brought into core.
+
+ghost use Rattle.std.specs.Prelude.{◌≡◌, ◌≢◌, ◌+◌, None, Ok, length};
+ghost use Rattle.b67_layout_storage.specs.Machine.{DeviceAfterCalls, content_after};
+ghost use Rattle.b67_exec_cells.specs.Running.{code_area};
+ghost use Rattle.b67_mcp.specs.Called.{AreCountable, CallsDevice};
+ghost use Rattle.b67_mcp.specs.Running.{CanNumber, JobsHaveRoom, CallCauses, Kept};
+ghost use Rattle.b67_session.specs.Attempts.{RunsOver, ForEachOver, WantsNothing, Attempts, AttemptFits, AttemptRow, IsCalm, CallKeepsAreas, TablesStay};
+ghost use Rattle.b67_session.specs.declared.outcomes.Attempt.TheVariants as attempts;
+
+use crate::bringing::bring_wanted;
+use crate::outcomes::Attempt;
+use crate::tries::{Tried, try_once};
+use b67_backing::Backing;
+use b67_io::Sink;
+use b67_mcp::Stop;
+use b67_task_tables::Machine;
+use b67_word::{Ending, Fault};
+
+/// Makes the next operator, whose segment and array are present. Over a device that doesn't tell what its sectors hold, the
+/// code that was read back may want another array: it then ends its task by INVALID OPERATOR.
+#[inline(always)]
+fn last_try<B: Backing, K: Sink>(
+    machine: &mut Machine,
+    backing: &mut B,
+    paper: &mut K,
+) -> Result<Attempt, Stop>
+    requires runs { RunsOver machine.old (B.holds backing.old) }
+    requires jobs { JobsHaveRoom machine.old.tasks.jobs }
+    requires same { B.size backing.old + 1 ≡ length machine.old.sectors.links }
+    ensures row { ForEachOver machine.old (B.holds backing.old) (λ x plan s m t. (x.device ≢ None → WantsNothing x plan m t)
+        → Attempts K.taken x (content_after x.device (B.holds backing.new)) (length machine.old.cpu.core) (B.size backing.old) machine.old.tasks.printed plan s t result machine.new paper.old paper.new) }
+    ensures fits { ForEachOver machine.old (B.holds backing.old) (λ x plan s m t. WantsNothing x plan m t → AttemptFits (length machine.old.cpu.core) x plan s m t result) }
+    ensures calm { ForEachOver machine.old (B.holds backing.old) (λ x plan s m t. (CallsDevice m t → ⊥) → IsCalm result backing.old backing.new) }
+    ensures causes { CallCauses B.faults K.faults backing.old backing.new paper.old paper.new result }
+    ensures kept { Kept machine.old machine.new }
+    ensures tables { TablesStay result machine.old.tasks machine.new.tasks }
+    ensures device { DeviceAfterCalls B.holds B.size B.calls B.faults backing.old backing.new }
+{
+    match try_once(machine, backing, paper) {
+        Ok(Tried::Made) => Ok(Attempt::Made),
+        Ok(Tried::Ends(ending)) => Ok(Attempt::Ends(ending)),
+        Ok(Tried::Waits(state)) => Ok(Attempt::Waits(state)),
+        Ok(Tried::Absent(_)) => Ok(Attempt::Ends(Ending::Faulted(Fault::InvalidOperator))),
+        Err(stop) => Err(stop),
+    }
+}
+
+/// Makes the next operator, whose segment is present, with the array that it touches brought in first.
+#[inline(always)]
+fn with_code<B: Backing, K: Sink>(
+    machine: &mut Machine,
+    backing: &mut B,
+    paper: &mut K,
+) -> Result<Attempt, Stop>
+    requires runs { RunsOver machine.old (B.holds backing.old) }
+    requires jobs { JobsHaveRoom machine.old.tasks.jobs }
+    requires same { B.size backing.old + 1 ≡ length machine.old.sectors.links }
+    ensures row { ForEachOver machine.old (B.holds backing.old) (λ x plan s m t. code_area x plan m t ≢ None
+        → Attempts K.taken x (content_after x.device (B.holds backing.new)) (length machine.old.cpu.core) (B.size backing.old) machine.old.tasks.printed plan s t result machine.new paper.old paper.new) }
+    ensures fits { ForEachOver machine.old (B.holds backing.old) (λ x plan s m t. code_area x plan m t ≢ None → x.device ≢ None → AttemptFits (length machine.old.cpu.core) x plan s m t result) }
+    ensures calm { ForEachOver machine.old (B.holds backing.old) (λ x plan s m t. WantsNothing x plan m t → (CallsDevice m t → ⊥) → IsCalm result backing.old backing.new) }
+    ensures areas { ForEachOver machine.old (B.holds backing.old) (λ x plan s m t. WantsNothing x plan m t → result ≡ Ok attempts.Made
+        → CallKeepsAreas K.taken x (content_after x.device (B.holds backing.new)) machine.old.tasks.printed plan s m t machine.new paper.old paper.new) }
+    ensures causes { CallCauses B.faults K.faults backing.old backing.new paper.old paper.new result }
+    ensures kept { Kept machine.old machine.new }
+    ensures tables { TablesStay result machine.old.tasks machine.new.tasks }
+    ensures device { DeviceAfterCalls B.holds B.size B.calls B.faults backing.old backing.new }
+{
+    match try_once(machine, backing, paper) {
+        Ok(Tried::Made) => Ok(Attempt::Made),
+        Ok(Tried::Ends(ending)) => Ok(Attempt::Ends(ending)),
+        Ok(Tried::Waits(state)) => Ok(Attempt::Waits(state)),
+        Ok(Tried::Absent(wanted)) => match bring_wanted(machine, backing, wanted) {
+            Ok(()) => last_try(machine, backing, paper),
+            Err(stop) => Err(stop),
+        },
+        Err(stop) => Err(stop),
+    }
+}
+
+/// Executes the next operator of the running task, including an intrinsic's call. The running segment and the array that it
+/// touches are brought into core first, and other areas are evicted if need be.
+///
+/// `NoCore` exactly where the step's need exceeds core, with both, unless core has room for the running segment, which is
+/// absent, and the device is full or fails as it is brought in. If one thing is wanted and a hole has room for it, no sector is
+/// written, and `BackingFull` isn't answered; and if the operator is made, every area is where it was, as if nothing was wanted. `BackingFull` only where the session takes more sectors than the device has, with
+/// both, and no hole has room for what is absent, or the step starts a task; or where the session does that a RESIZE to a greater
+/// length would make, with its sum. More sectors are then wanted than are free: by a present array that keeps no chain, or by
+/// the chain of the array that becomes longer. `BackingFault` and `PrintFault` only where that device failed.
+/// After each of them, and when the operator ends its task or makes it wait, the machine represents the same session; after
+/// `BackingFull` and `BackingFault` its segment or its array is absent, or the step is such a RESIZE or starts a task. Where
+/// both are present the backing isn't called but by such steps. After `PrintFault` `printed` is raised by the bytes that were
+/// taken. Over a device that doesn't tell what its sectors hold, the words that it gave back may be others, and as many.
+#[inline(always)]
+pub fn attempt<B: Backing, K: Sink>(
+    machine: &mut Machine,
+    backing: &mut B,
+    paper: &mut K,
+) -> Result<Attempt, Stop>
+    requires runs { RunsOver machine.old (B.holds backing.old) }
+    requires countable { AreCountable machine.old.tasks.jobs }
+    requires number { CanNumber machine.old.tasks.jobs }
+    requires same { B.size backing.old + 1 ≡ length machine.old.sectors.links }
+    ensures row { ForEachOver machine.old (B.holds backing.old) (λ x plan s m t.
+        AttemptRow B.holds K.taken x (content_after x.device (B.holds backing.new)) (length machine.old.cpu.core) (B.size backing.old) machine.old.tasks.printed plan s m t result machine.new
+        backing.old backing.new paper.old paper.new) }
+    ensures causes { CallCauses B.faults K.faults backing.old backing.new paper.old paper.new result }
+    ensures kept { Kept machine.old machine.new }
+    ensures tables { TablesStay result machine.old.tasks machine.new.tasks }
+    ensures device { DeviceAfterCalls B.holds B.size B.calls B.faults backing.old backing.new }
+{
+    match try_once(machine, backing, paper) {
+        Ok(Tried::Made) => Ok(Attempt::Made),
+        Ok(Tried::Ends(ending)) => Ok(Attempt::Ends(ending)),
+        Ok(Tried::Waits(state)) => Ok(Attempt::Waits(state)),
+        Ok(Tried::Absent(wanted)) => match bring_wanted(machine, backing, wanted) {
+            Ok(()) => with_code(machine, backing, paper),
+            Err(stop) => Err(stop),
+        },
+        Err(stop) => Err(stop),
+    }
+}

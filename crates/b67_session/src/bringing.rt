@@ -1,0 +1,53 @@
+//! What the next operator wants is brought in.
+
+ghost use Rattle.std.specs.Prelude.{◌≡◌, ◌≢◌, ℕ, ◌+◌, List, Option, Err, length};
+ghost use Rattle.b67_io.specs.Causes.{Rose};
+ghost use Rattle.b67_model.specs.State.{Task, SessionJob};
+ghost use Rattle.b67_model.specs.Schedule.{Session};
+ghost use Rattle.b67_layout.specs.Orders.{IsInOrderButCounts};
+ghost use Rattle.b67_stack.specs.Represents.{Storage};
+ghost use Rattle.b67_layout_storage.specs.Machine.{DeviceAfterCalls, HasHole};
+ghost use Rattle.b67_layout.specs.Placement.{Placement};
+ghost use Rattle.b67_layout.specs.Session.{IsRunning};
+ghost use Rattle.b67_presence.specs.Bringing.{StandsOver, WantsSome, IsWanted, words_wanted};
+ghost use Rattle.b67_mcp.specs.declared.ends.Stop.TheVariants.{BackingFault, PrintFault};
+ghost use Rattle.b67_session.specs.Tries.{IsWantedByStep};
+ghost use Rattle.b67_session.specs.Brought.{BroughtFits, BroughtMeets, BroughtIntoHole};
+
+use b67_backing::Backing;
+use b67_mcp::{Stop, stop_for};
+use b67_presence::bring;
+use b67_stack::What;
+use b67_task_tables::Machine;
+
+/// Brings in what the next operator wants, and evicts other areas if need be; the running segment is then present too. After
+/// a stop the machine represents the same session. If a hole has room no area moves and no sector is written.
+#[inline(always)]
+pub fn bring_wanted<B: Backing>(
+    machine: &mut Machine,
+    backing: &mut B,
+    wanted: What,
+) -> Result<(), Stop>
+    requires wants { WantsSome machine.old (B.holds backing.old) wanted }
+    requires same { B.size backing.old + 1 ≡ length machine.old.sectors.links }
+    ensures row { (x : Storage) (plan : Placement) (s : Session) (m : SessionJob) (t : Task) (words : ℕ) → IsInOrderButCounts s
+        → StandsOver x (B.holds backing.old) machine.old plan s → IsRunning plan s.jobs m t → IsWanted x plan m t wanted words → IsWantedByStep plan m t wanted words
+        → BroughtMeets x (B.holds backing.new) (length machine.old.cpu.core) (B.size backing.old) plan s m t wanted result machine.new }
+    ensures fits { (x : Storage) (plan : Placement) (s : Session) (m : SessionJob) (t : Task) (words : ℕ) → IsInOrderButCounts s
+        → StandsOver x (B.holds backing.old) machine.old plan s → IsRunning plan s.jobs m t → IsWanted x plan m t wanted words → IsWantedByStep plan m t wanted words
+        → BroughtFits (length machine.old.cpu.core) x plan s m t result }
+    ensures hole { (x : Storage) (plan : Placement) (s : Session) (m : SessionJob) (t : Task) (words : ℕ) → IsInOrderButCounts s
+        → StandsOver x (B.holds backing.old) machine.old plan s → IsRunning plan s.jobs m t → IsWanted x plan m t wanted words → HasHole (words_wanted m t wanted words) x.spans
+        → BroughtIntoHole B.holds x plan s m t wanted result machine.new backing.old backing.new }
+    ensures cause { result ≡ Err BackingFault → Rose B.faults backing.old backing.new }
+    ensures silent { result ≢ Err PrintFault }
+    ensures tasks { machine.new.tasks ≡ machine.old.tasks }
+    ensures len { length machine.new.cpu.core ≡ length machine.old.cpu.core }
+    ensures count { length machine.new.sectors.links ≡ length machine.old.sectors.links }
+    ensures device { DeviceAfterCalls B.holds B.size B.calls B.faults backing.old backing.new }
+{
+    match bring(machine, backing, wanted) {
+        Ok(()) => Ok(()),
+        Err(fault) => Err(stop_for(machine, fault)),
+    }
+}

@@ -1,0 +1,75 @@
+//! The operator at the running place, with the arrays given back of an activation record that it leaves.
+
+ghost use Rattle.std.specs.Prelude.{◌≡◌, true};
+ghost use Rattle.b67_exec.specs.Near.{HoldsCode};
+ghost use Rattle.b67_task_tables.specs.Runs.{RunsTask, Keeps};
+ghost use Rattle.b67_session.specs.Makes.{MakesInSegment, ForEachReady};
+
+use b67_ctl::SegDesc;
+use b67_exec::operate_in;
+use b67_exec_cells::present_segment;
+use b67_stack::{Step, What};
+use b67_task_release::release;
+use b67_task_tables::Machine;
+
+/// What an operator came to. `near` is whether the running segment and its descriptor are as they were.
+#[derive(Clone, Copy, Debug, PartialEq, Eq)]
+pub struct Operated {
+    pub step: Step,
+    pub near: bool,
+}
+
+/// Makes the operator at the running place, as `make`, where the running segment is present and this is its descriptor.
+#[inline(always)]
+pub fn make_in(machine: &mut Machine, desc: SegDesc) -> Operated
+    requires runs { RunsTask machine.old }
+    requires code { HoldsCode machine.old.cpu desc }
+    ensures row { ForEachReady machine.old (λ x told plan s m t. MakesInSegment x told plan s m t result.step machine.old machine.new) }
+    ensures code { result.near ≡ true → HoldsCode machine.new.cpu desc }
+    ensures keeps { Keeps machine.old machine.new }
+    ensures tasks { machine.new.tasks ≡ machine.old.tasks }
+{
+    let upto = machine.cpu.regs.s + 1;
+    let made = operate_in(&mut machine.cpu, desc);
+    if !made.left {
+        return Operated {
+            step: made.step,
+            near: made.near,
+        };
+    }
+    match made.step {
+        Step::Done => {
+            let from = machine.cpu.regs.s + 1;
+            release(machine, from, upto);
+            Operated {
+                step: Step::Done,
+                near: false,
+            }
+        }
+        other => Operated {
+            step: other,
+            near: false,
+        },
+    }
+}
+
+/// Makes the operator at the running place. Where it leaves an activation record, the areas and chains of that record's
+/// arrays are given back. The running task is a ready one, as each task is that was chosen.
+///
+/// `Absent(Code(..))` exactly where the running segment is absent, and `Call(n)` exactly where the operator calls
+/// intrinsic n. Else `Done`, `Absent(Array(..))`, `Fault` and `Ended` are by the operator's row. Nothing is changed but at
+/// `Done`: then every array, segment and data row that is left is held as it was, in the same area and the same sectors,
+/// and only words have changed that the operator may change and, where a record was left, words of the directory and of
+/// holes.
+#[inline(always)]
+pub fn make(machine: &mut Machine) -> Step
+    requires runs { RunsTask machine.old }
+    ensures row { ForEachReady machine.old (λ x told plan s m t. MakesInSegment x told plan s m t result machine.old machine.new) }
+    ensures keeps { Keeps machine.old machine.new }
+    ensures tasks { machine.new.tasks ≡ machine.old.tasks }
+{
+    match present_segment(&machine.cpu) {
+        Some(desc) => make_in(machine, desc).step,
+        None => Step::Absent(What::Code(machine.cpu.regs.segment)),
+    }
+}

@@ -1,5 +1,0 @@
-use Rattle.b67_session_attempt.proofs.FittingMade.{made_fit}
-use Rattle.b67_session_attempt.proofs.fits.made_fits.Goals as goal
-
-pub returns : goal.returns
-returns c = made_fit

@@ -1,5 +1,0 @@
-use Rattle.b67_mcp.proofs.Space.{present_fit}
-use Rattle.b67_session_attempt.proofs.fits.present_fits.Goals as goal
-
-pub returns : goal.returns
-returns c = present_fit
