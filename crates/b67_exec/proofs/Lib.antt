@@ -6,3 +6,7 @@ pub mod Unders
 pub mod Cases
 pub mod Overs
 pub mod Readings
+pub mod Nears
+pub mod Readers
+pub mod NearTable
+pub mod Straights

@@ -1,3 +1,5 @@
 pub mod Procedures
 pub mod Stores
 pub mod Operators
+pub mod Near
+pub mod Firsts

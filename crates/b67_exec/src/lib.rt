@@ -3,9 +3,14 @@
 
 mod assigning;
 mod evaluating;
+mod firsts;
+mod near;
 mod operators;
+mod reader;
 
 pub use assigning::{stod, ston};
 pub use b67_entry::{exit, retn};
 pub use evaluating::{enter_in_place, evaluate, load, procedure_cell};
+pub use near::{near_reader, operate_near};
+pub use reader::Reader;
 pub use operators::{Outcome, operate, operator};

@@ -80,7 +80,7 @@ fn goes_far(code: Code) -> bool
 
 /// Whether an operator is far.
 #[inline(always)]
-fn is_far(op: Op) -> bool
+pub(crate) fn is_far(op: Op) -> bool
     ensures { result ≡ is_far op }
 {
     match op {
@@ -121,7 +121,7 @@ fn plain(cpu: &mut Cpu, code: Code, next: Place) -> Step
 
 /// A near operator, after which the task goes on at `next`: it is on the top cells alone.
 #[inline(always)]
-fn stay(cpu: &mut Cpu, op: Op, next: Place) -> Step
+pub(crate) fn stay(cpu: &mut Cpu, op: Op, next: Place) -> Step
     requires runs { RunsSome cpu.old }
     requires near { is_far op ≡ false }
     requires parameters { ParametersFit op }

@@ -30,7 +30,7 @@ use Rattle.b67_stack.specs.declared.Cpu.{Cpu}
 use Rattle.b67_stack.specs.declared.Step.{Step}
 use Rattle.b67_stack.specs.declared.Step.TheVariants as answers
 use Rattle.b67_stack.specs.Common.{MachineView, NoOriginalAboveTop as Calm, Storage, Represents}
-use Rattle.b67_layout.specs.Common.{machine_view, here, with_job, JobInOrderButCounts, IsInOrderButCounts, Placement, slot_of, IsRunning, RepresentsSession, with_objects}
+use Rattle.b67_layout.specs.Common.{machine_view, here, with_job, JobInOrderButCounts, IsInOrderButCounts, Placement, slot_of, IsRunning, RunsSome, RepresentsSession, with_objects}
 use Rattle.b67_layout.specs.Rows as rows
 use Rattle.b67_layout.proofs.Common.{but_counts, AllAlike, SameJobs, same_machine_view, RepresentsSession-over, job_at}
 use Rattle.b67_exec_cells.specs.Called as operators
@@ -53,7 +53,7 @@ use Rattle.b67_session_attempt.proofs.Started.{known_in}
 use Rattle.b67_session_attempt.proofs.Still.{operator_many, operator_starts}
 use Rattle.b67_session_attempt.proofs.Trying.{was_made}
 use Rattle.b67_session_ends.proofs.Counted.{alike_refl, same_refl}
-use Rattle.b67_session.specs.InTurn.{MadeInTurn}
+use Rattle.b67_session.specs.InTurn.{HasTurn, MadeInTurn}
 use Rattle.b67_session.specs.Slices.{StandsAt, NextFits, StepsFit}
 use Rattle.b67_session.specs.Steps.{GoesOnInTurn}
 use Rattle.b67_session.proofs.Fitting.{fits_more}
@@ -227,23 +227,6 @@ unmade x told plan s m t answered old new other row = by_area (code_area x plan 
   by_area : (area : Option ℕ) → MakesAt x told plan s m t answered old new area → new ≡ old
   by_area None h = h.1
   by_area (Some at) h = by_call (called_in m t) h
-
--- so many steps without a line lead from a session to one of which the last task has so many operators left; the machine
--- represents that but for the counts of these steps
-pub record HasTurn (told : Option (List (List ℕ))) (steps left : ℕ) (first : Session) (core : ℕ) (now : Machine) : Type 0 where
-  pub bare : Session
-  pub member : SessionJob
-  pub task : Task
-  pub ordered : IsInOrderButPlaces (counted_by steps bare)
-  pub leads : after steps first ≡ counted_by steps bare
-  pub silent : (start : Session) (n : ℕ) → after n start ≡ first → lines (n + steps) start ≡ lines n start
-  pub fits : StepsFit core steps first
-  pub storage : Storage
-  pub plan : Placement
-  pub stands : MachineRepresents storage told now plan bare
-  pub found : keyed number_of bare.last.job bare.jobs ≡ Some member
-  pub lasts : Lasts (counted_by steps bare) (counted_more steps member) task left
-  pub slot : plan.running ≡ slot_of plan member.constants.number task.number
 
 module _ (known : Option (List (List ℕ))) (steps left : ℕ) (first : Session) (core : ℕ) (k : Machine) (h : HasTurn known steps left first core k) (some : 1 ≤ left) where
   abbrev u : Session
@@ -439,6 +422,15 @@ turn_begins told room x plan s k o h w left same =
 
 pub made_in_turn : (told : Option (List (List ℕ))) (steps left : ℕ) (first : Session) (core : ℕ) (k : Machine) → HasTurn told steps left first core k → MadeInTurn told steps first core k
 made_in_turn told steps left first core k h = record { bare = h.bare; ordered = h.ordered; leads = h.leads; silent = h.silent; fits = h.fits; storage = h.storage; plan = h.plan; stands = h.stands }
+
+-- the same counts, written otherwise
+pub turn_as : (told : Option (List (List ℕ))) (steps left : ℕ) (first : Session) (core : ℕ) (k : Machine) → HasTurn told steps left first core k → (more fewer : ℕ) → more ≡ steps → fewer ≡ left → HasTurn told more fewer first core k
+turn_as told steps left first core k h more fewer same_more same_fewer =
+    subst (λ (i : ℕ). HasTurn told i fewer first core k) (sym same_more) (subst (λ (i : ℕ). HasTurn told steps i first core k) (sym same_fewer) h)
+
+-- the running task of a turn, over the registers
+pub some_runs : (k : Machine) → RunsTask k → RunsSome k.cpu
+some_runs k r = record { storage = r.storage; plan = r.plan; session = r.session; member = r.member; task = r.task; ordered = r.ordered; stands = r.stands.session; running = r.running }
 
 -- ---- the turn
 

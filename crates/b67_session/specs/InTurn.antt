@@ -1,12 +1,13 @@
 -- Operators of a turn that were made and aren't counted yet.
-use Rattle.std.specs.Prelude.{◌≡◌, ℕ, ◌+◌, List, Option}
-use Rattle.b67_model.specs.Common.{IsInOrderButPlaces, after, lines, Session}
+use Rattle.std.specs.Prelude.{◌≡◌, ℕ, ◌+◌, ◌≤◌, List, length, Option, Some}
+use Rattle.b67_model.specs.Common.{IsInOrderButPlaces, after, lines, number_of, Session, Task, SessionJob}
+use Rattle.b67_model.specs.Keyed.{keyed}
 use Rattle.b67_stack.specs.Represents.{Storage}
-use Rattle.b67_layout.specs.Placement.{Placement}
+use Rattle.b67_layout.specs.Placement.{Placement, slot_of}
 use Rattle.b67_task_tables.specs.declared.tables.Machine.{Machine}
 use Rattle.b67_task_tables.specs.Tables.{MachineRepresents}
-use Rattle.b67_session_schedule.specs.Counted.{counted_by}
-use Rattle.b67_session_schedule.specs.Lasting.{TurnLasts}
+use Rattle.b67_session_schedule.specs.Counted.{counted_by, counted_more}
+use Rattle.b67_session_schedule.specs.Lasting.{Lasts, TurnLasts}
 use Rattle.b67_session.specs.Slices.{StepsFit}
 
 -- the machine represents some session in order, of which the last task has so many operators of its turn left
@@ -18,6 +19,33 @@ pub record TurnBegins (k : Machine) (room : ℕ) : Type 0 where
   pub ordered : IsInOrderButPlaces session
   pub stands : MachineRepresents storage known k plan session
   pub lasts : TurnLasts plan session room
+
+-- so many steps without a line lead from a session to one of which the last task has so many operators left; the machine
+-- represents that but for the counts of these steps
+pub record HasTurn (told : Option (List (List ℕ))) (steps left : ℕ) (first : Session) (core : ℕ) (now : Machine) : Type 0 where
+  pub bare : Session
+  pub member : SessionJob
+  pub task : Task
+  pub ordered : IsInOrderButPlaces (counted_by steps bare)
+  pub leads : after steps first ≡ counted_by steps bare
+  pub silent : (start : Session) (n : ℕ) → after n start ≡ first → lines (n + steps) start ≡ lines n start
+  pub fits : StepsFit core steps first
+  pub storage : Storage
+  pub plan : Placement
+  pub stands : MachineRepresents storage told now plan bare
+  pub found : keyed number_of bare.last.job bare.jobs ≡ Some member
+  pub lasts : Lasts (counted_by steps bare) (counted_more steps member) task left
+  pub slot : plan.running ≡ slot_of plan member.constants.number task.number
+
+-- the last task of a session on the way has so many operators left, and not none
+pub record GoesOn (k : Machine) (room : ℕ) : Type 0 where
+  pub known : Option (List (List ℕ))
+  pub steps : ℕ
+  pub first : Session
+  pub core : ℕ
+  pub size : length k.cpu.core ≡ core
+  pub turn : HasTurn known steps room first core k
+  pub some : 1 ≤ room
 
 -- So many steps lead from a session to another, which is in order, and print nothing; core of so many words had those that they
 -- need. The machine represents that session but for the counts of these steps

@@ -1,6 +1,6 @@
 //! The chosen task is the running one.
 
-ghost use Rattle.std.specs.Prelude.{◌≡◌, ℕ, ◌≤◌, List, length, Option, Some, slice_get};
+ghost use Rattle.std.specs.Prelude.{◌≡◌, ℕ, ◌+◌, ◌-◌, ◌≤◌, List, length, Option, Some, slice_get};
 ghost use Rattle.b67_model.specs.InOrder.{IsInOrderButPlaces};
 ghost use Rattle.b67_model.specs.Schedule.{Session};
 ghost use Rattle.b67_layout.specs.Orders.{IsInOrderButCounts};
@@ -14,9 +14,9 @@ ghost use Rattle.b67_session_schedule.specs.Lasting.{TurnLasts};
 ghost use Rattle.b67_session_attempt.specs.Passed.{AreCountable};
 ghost use Rattle.b67_session.specs.Slices.{StandsAt, Keeps};
 ghost use Rattle.b67_session.specs.Steps.{IsInOrderFor, GoesOnInTurn};
-ghost use Rattle.b67_session.specs.InTurn.{TurnBegins, MadeInTurn};
+ghost use Rattle.b67_session.specs.InTurn.{TurnBegins, HasTurn, GoesOn, MadeInTurn};
 
-use b67_session_attempt::make;
+use b67_session_attempt::{make, make_near, running_code};
 use b67_session_schedule::{count_turn, turn_room};
 use b67_stack::Step;
 use b67_task_switch::switch_to;
@@ -38,6 +38,31 @@ pub(crate) fn give_turn(machine: &mut Machine, row: u8)
     }
 }
 
+/// Makes near operators of the running task, up to `room`, and answers how many. Where the running segment is absent it
+/// makes none. The segment's descriptor is read once, since no near operator leaves the segment or changes what it is.
+#[inline(never)]
+fn make_near_ones(machine: &mut Machine, room: u64) -> u64
+    requires { GoesOn machine.old room }
+    ensures few { result ≤ room }
+    ensures row { (known : Option (List (List ℕ))) (steps core : ℕ) (s : Session) → length machine.old.cpu.core ≡ core → HasTurn known steps room s core machine.old
+        → HasTurn known (steps + result) (room - result) s core machine.new }
+    ensures tables { machine.new.tasks ≡ machine.old.tasks }
+    ensures keeps { Keeps machine.old machine.new }
+{
+    let code = match running_code(&machine.cpu) {
+        Some(code) => code,
+        None => return 0,
+    };
+    let mut made = 0;
+    'operator: while made < room {
+        if !make_near(machine, code) {
+            return made;
+        }
+        made += 1;
+    }
+    made
+}
+
 /// Makes operators of the running task, up to `room`, and answers how many. It stops before one that prints, ends its task or
 /// wants something that is absent. None is counted yet.
 #[inline(never)]
@@ -51,6 +76,10 @@ fn make_in_turn(machine: &mut Machine, room: u64) -> u64
 {
     let mut made = 0;
     'operator: while made < room {
+        made += make_near_ones(machine, room - made);
+        if made == room {
+            return made;
+        }
         match make(machine) {
             Step::Done => {}
             _ => return made,

@@ -1,10 +1,10 @@
 -- What an operator answered and left, in the whole machine.
-use Rattle.std.proofs.Common.{◌≡◌, ◌≢◌, ℕ, List, [], map, length, Option, Some, None, Ok, Err, refl, sym, ◌∙◌, ap, false, inl, inr, ⊎_elim, subst}
+use Rattle.std.proofs.Common.{◌≡◌, ◌≢◌, ℕ, List, [], map, length, Option, Some, None, Ok, Err, refl, sym, ◌∙◌, ap, Bool, true, false, inl, inr, ⊎_elim, subst}
 use Rattle.std.proofs.lemmas.Option.{none-some}
 use Rattle.b67_word.specs.declared.couples.Place.{Place}
 use Rattle.b67_model.specs.declared.operators.Op.{Op}
 use Rattle.b67_model.specs.Common.{Answer, Ready, Task, SessionJob, Done as Result, Reading, reading_of, row, step, Session, called}
-use Rattle.b67_layout.specs.Common.{IsInOrderButCounts, Placement, array_object, here, objects_gone, with_job, FindsAbsent, IsMade, Meets, IsRunning, RepresentsSession, RepresentsSessionBut}
+use Rattle.b67_layout.specs.Common.{IsInOrderButCounts, Placement, ForEach, array_object, here, objects_gone, with_job, FindsAbsent, IsMade, Meets, IsRunning, RepresentsSession, RepresentsSessionBut}
 use Rattle.b67_stack.specs.declared.Cpu.{Cpu}
 use Rattle.b67_stack.specs.declared.Step.{Step}
 use Rattle.b67_stack.specs.declared.Step.TheVariants as answers
@@ -15,6 +15,7 @@ use Rattle.b67_exec_cells.specs.Called.{called_in, called_by}
 use Rattle.b67_exec.specs.Operators.{CallsOrMeets, OperatorAt, OperatorMeets, leaves_record}
 use Rattle.b67_layout_step.specs.Keeping.{is_leaving}
 use Rattle.b67_task_tables.specs.declared.tables.Machine.{Machine}
+use Rattle.b67_task_tables.specs.Runs.{RunsTask}
 use Rattle.b67_task_tables.specs.Tables.{TasksShow, task_row, job_row, counts_of, MachineRepresents}
 use Rattle.b67_session_attempt.specs.Makes.{OperatorMade, StepMakes, CallsOrMakes, MakesAt, MakesOperator}
 use Rattle.b67_task_release.specs.Released.{HasHome, Released}
@@ -128,3 +129,9 @@ made_so x told plan s m t old new code none made = by (code_area x plan m t) ref
   by : (area : Option ℕ) → code_area x plan m t ≡ area → MakesAt x told plan s m t answers.Done old new area
   by None e = absurd (code e)
   by (Some at) e = let P : Option ℕ → Type 0 = λ o. CallsOrMakes x told plan s m t answers.Done old new o in subst P (sym none) made
+
+-- and so it is after a near operator
+pub near_length : (old : Machine) (new : Cpu) (r : RunsTask old) (made : Bool) → (made ≡ true → ForEach old.cpu (λ x plan s m t. OperatorMeets x plan s m t answers.Done old.cpu new)) → (made ≡ false → new ≡ old.cpu) → length new.core ≡ length old.cpu.core
+near_length old new r true rows rest =
+    operator_length r.storage r.plan r.session r.member r.task answers.Done old.cpu new r.stands.session (rows refl r.storage r.plan r.session r.member r.task r.ordered r.stands.session r.running)
+near_length old new r false rows rest = ap (λ (z : Cpu). length z.core) (rest refl)

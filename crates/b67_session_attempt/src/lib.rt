@@ -11,6 +11,7 @@ mod tries;
 pub use attempting::attempt;
 pub use b67_mcp::Stop;
 pub use fits::{made_fits, present_fits};
-pub use making::make;
+pub use b67_exec::running_code;
+pub use making::{make, make_near};
 pub use outcomes::Attempt;
 pub use tries::{Tried, try_once};

@@ -1,10 +1,13 @@
 //! The operator at the running place, with the arrays given back of an activation record that it leaves.
 
-ghost use Rattle.std.specs.Prelude.{◌≡◌};
+ghost use Rattle.std.specs.Prelude.{◌≡◌, true, false};
+ghost use Rattle.b67_stack.specs.declared.Step.TheVariants.{Done};
+ghost use Rattle.b67_exec.specs.Near.{HoldsCode};
 ghost use Rattle.b67_task_tables.specs.Runs.{RunsTask, Keeps};
 ghost use Rattle.b67_session_attempt.specs.Makes.{MakesOperator, ForEachReady};
 
-use b67_exec::operate;
+use b67_ctl::SegDesc;
+use b67_exec::{operate, operate_near};
 use b67_stack::Step;
 use b67_task_release::release;
 use b67_task_tables::Machine;
@@ -37,4 +40,19 @@ pub fn make(machine: &mut Machine) -> Step
         }
         other => other,
     }
+}
+
+/// Makes the operator at the running place, as `make`, if it is near and its answer is `Done`; else nothing is changed, and
+/// the answer is false. The descriptor is the running segment's, before and after it.
+#[inline(always)]
+pub fn make_near(machine: &mut Machine, desc: SegDesc) -> bool
+    requires runs { RunsTask machine.old }
+    requires code { HoldsCode machine.old.cpu desc }
+    ensures row { result ≡ true → ForEachReady machine.old (λ x told plan s m t. MakesOperator x told plan s m t Done machine.old machine.new) }
+    ensures rest { result ≡ false → machine.new ≡ machine.old }
+    ensures code { HoldsCode machine.new.cpu desc }
+    ensures keeps { Keeps machine.old machine.new }
+    ensures tasks { machine.new.tasks ≡ machine.old.tasks }
+{
+    operate_near(&mut machine.cpu, desc)
 }

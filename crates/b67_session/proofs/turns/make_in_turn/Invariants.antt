@@ -6,7 +6,7 @@ use Rattle.b67_layout.specs.Placement.{Placement}
 use Rattle.b67_task_tables.specs.Tables.{MachineRepresents}
 use Rattle.b67_session_schedule.specs.Lasting.{TurnLasts}
 use Rattle.b67_session.specs.Slices.{Keeps}
-use Rattle.b67_session.proofs.Turning.{HasTurn}
+use Rattle.b67_session.specs.InTurn.{HasTurn}
 use Rattle.b67_session.proofs.turns.make_in_turn.Given as goal
 
 abbrev pub invariant-operator : goal.invariant-operator

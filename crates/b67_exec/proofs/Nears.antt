@@ -1,0 +1,264 @@
+-- A near operator: other cells on the running stack, and the same segment, held as it was.
+use Rattle.std.proofs.Common.{◌≡◌, ◌≢◌, ℕ, ◌+◌, ◌-◌, ◌*◌, ◌^◌, ◌<◌, ◌≤◌, Bool, true, false, List, [], ◌∷◌, ◌++◌, map, flat_map, length, Option, Some, None, Ok, Err, refl, sym, ◌∙◌, ap, subst, arith}
+use Rattle.std.specs.Prelude.{nat_le, not, if◌then◌else◌}
+use Rattle.std.proofs.lemmas.Bool.{not-true}
+use Rattle.std.proofs.lemmas.List.{length-map}
+use Rattle.std.specs.List.{slice_get, slice_range}
+use Rattle.std.proofs.lemmas.Option.{same_Some}
+use Rattle.b67_word.specs.Tagged.{Tagged, word, contents}
+use Rattle.b67_word.specs.declared.couples.Place.{Place}
+use Rattle.b67_area.specs.declared.Kind.TheVariants as kind
+use Rattle.b67_ctl.specs.Layout.{bit}
+use Rattle.b67_ctl.specs.declared.descriptors.SegDesc.{SegDesc}
+use Rattle.b67_ctl.specs.Descriptors.{seg_word, IsSegDesc}
+use Rattle.b67_lemmas.specs.Lists.{Has}
+use Rattle.b67_lemmas.proofs.Keyed.{keyed-change_same}
+use Rattle.b67_lemmas.proofs.Members.{change_found, has_append_right, keyed_has}
+use Rattle.b67_lemmas.proofs.Places.{get_within}
+use Rattle.b67_model.specs.declared.operators.Op.{Op}
+use Rattle.b67_model.specs.declared.operators.Op.TheVariants.{Valc, Namc, Lt8, Lt16, Lt48, Mpcw, Brun, Brtr, Brfl, Bset, Brst, Isol, Insr, Plain}
+use Rattle.b67_model.specs.declared.operators.Code.{Code}
+use Rattle.b67_model.specs.declared.operators.Code.TheVariants as codes
+use Rattle.b67_model.specs.Common.{Answer, ◌>>=◌, Word, Done, Goes, Line, Task, Job, SessionJob, OperatorContext, Session, Segment, operand, with_task, with_top_cells, height, leaves_cells, on_cells, branch_if, row, called, code_of, number_of}
+use Rattle.b67_stack.specs.declared.Cpu.{Cpu}
+use Rattle.b67_stack.specs.declared.Step.{Step}
+use Rattle.b67_stack.specs.declared.Step.TheVariants as answers
+use Rattle.b67_stack.specs.Common.{PagedObject, Storage, Content}
+use Rattle.b67_stack.proofs.Lies.{upward-range}
+use Rattle.b67_layout.specs.Common.{Placement, IsInOrderButCounts, IsRunning, RepresentsSession, RepresentsSessionBut, RunsSome, here, with_job, objects_gone, IsMade, Meets, code_objects, objects_of, array_object, cells}
+use Rattle.b67_layout.proofs.Common.{task_with, running_in_order}
+use Rattle.b67_exec_cells.specs.Running.{code_held, code_desc, GivesSegment}
+use Rattle.b67_exec_cells.proofs.Codes.{code_object, code-read, desc-fits, present, word-is}
+use Rattle.b67_exec_cells.proofs.Replaced.{before, member_objects}
+use Rattle.b67_entry.specs.Procedures.{CallsOrMeets}
+use Rattle.b67_layout_step.specs.Keeping.{is_leaving}
+use Rattle.b67_exec.specs.Operators.{goes_far}
+use Rattle.b67_exec.specs.Near.{HoldsCode, branch_op}
+
+-- ---- what was answered
+
+-- an operator that was made calls no intrinsic
+pub made_near : (x : Storage) (plan : Placement) (s : Session) (m : SessionJob) (old new : Cpu) (calls : Option ℕ) (answer : Answer Done) → CallsOrMeets x plan s m answers.Done old new calls answer → IsMade x plan s m old new answer
+made_near x plan s m old new (Some n) answer i = absurd (let e = i.0 in let z : ⊥ = cc in z)
+made_near x plan s m old new None answer i = i
+
+-- after another answer nothing has changed
+pub unmet : (x : Storage) (plan : Placement) (s : Session) (m : SessionJob) (answered : Step) (old new : Cpu) (answer : Answer Done) → answered ≢ answers.Done → Meets x plan s m answered old new answer → new ≡ old
+unmet x plan s m answers.Done old new answer other i = absurd (other refl)
+unmet x plan s m (answers.Absent found) old new answer other i = i.1
+unmet x plan s m (answers.Call n) old new answer other i = absurd i
+unmet x plan s m (answers.Fault fault) old new answer other i = i.1
+unmet x plan s m answers.Ended old new answer other i = i.1
+
+pub unmade : (x : Storage) (plan : Placement) (s : Session) (m : SessionJob) (answered : Step) (old new : Cpu) (calls : Option ℕ) (answer : Answer Done) → answered ≢ answers.Done → CallsOrMeets x plan s m answered old new calls answer → new ≡ old
+unmade x plan s m answered old new (Some n) answer other i = i.1
+unmade x plan s m answered old new None answer other i = unmet x plan s m answered old new answer other i
+
+-- ---- the rows
+
+-- the near operators that aren't branches
+abbrev pub is_straight : Op → Bool
+is_straight (Plain code) = not (goes_far code)
+is_straight (Namc couple) = true
+is_straight (Lt8 n) = true
+is_straight (Lt16 n) = true
+is_straight (Lt48 bits) = true
+is_straight _ = false
+
+module _ (m : SessionJob) (t : Task) (job : Job) (printed : List Line) (touched : Option ℕ) (Goes_to : Place → Type 0) where
+  -- the running task goes on with other cells in its top frame, at such a place
+  pub record LeavesCells : Type 0 where
+    pub cells : List Word
+    pub place : Place
+    pub is : job ≡ with_task m.progress.job (task_with t cells place)
+    pub goes : Goes_to place
+
+  leaves : (q : Place) → Goes_to q → (cs : List Word) → leaves_cells (here m t q) cs None ≡ Ok (Goes job printed touched) → LeavesCells
+  leaves q goes cs e = by_test (nat_le (height (with_top_cells t.frames cs)) m.constants.stack_size) refl where
+    by_test : (b : Bool) → nat_le (height (with_top_cells t.frames cs)) m.constants.stack_size ≡ b → LeavesCells
+    by_test true test =
+        let made : ◌≡◌ {A = Answer Done} (Ok (Goes (with_task m.progress.job (task_with t cs q)) [] None)) (Ok (Goes job printed touched)) = rw test at e in
+        record { cells = cs; place = q; is = sym (let k : with_task m.progress.job (task_with t cs q) ≡ job = cc in k); goes = goes }
+    by_test false test = absurd (let made = rw test at e in let z : ⊥ = cc in z)
+
+  by_cells : (q : Place) → Goes_to q → (r : Answer (List Word)) → (r >>= λ ds. leaves_cells (here m t q) ds None) ≡ Ok (Goes job printed touched) → LeavesCells
+  by_cells q goes (Err why) e = absurd (let z : ⊥ = cc in z)
+  by_cells q goes (Ok ds) e = leaves q goes ds e
+
+  by_operand : (o : Answer ℕ) (f : ℕ → Answer Done) → ((n : ℕ) → f n ≡ Ok (Goes job printed touched) → LeavesCells) → (o >>= f) ≡ Ok (Goes job printed touched) → LeavesCells
+  by_operand (Err why) f g e = absurd (let z : ⊥ = cc in z)
+  by_operand (Ok n) f g e = g n e
+
+  either : (q target : Place) → Goes_to q → Goes_to target → (b : Bool) → Goes_to (if b then target else q)
+  either q target goes taken true = taken
+  either q target goes taken false = goes
+
+  by_branch : (wanted : Bool) (q target : Place) → Goes_to q → Goes_to target → (cs : List Word) → branch_if wanted (here m t q) cs target ≡ Ok (Goes job printed touched) → LeavesCells
+  by_branch wanted q target goes taken [] e = absurd (let z : ⊥ = cc in z)
+  by_branch wanted q target goes taken (a ∷ rest) e = by_operand (operand a) _ (λ n k. leaves _ (either q target goes taken _) rest k) e
+
+  by_code : (q : Place) → Goes_to q → (code : Code) → goes_far code ≡ false → row (Plain code) (here m t q) ≡ Ok (Goes job printed touched) → LeavesCells
+  by_code q goes codes.Zero near e = leaves q goes _ e
+  by_code q goes codes.One near e = leaves q goes _ e
+  by_code q goes codes.Push near e = leaves q goes _ e
+  by_code q goes codes.Noop near e = leaves q goes _ e
+  by_code q goes codes.Add near e = by_cells q goes _ e
+  by_code q goes codes.Subt near e = by_cells q goes _ e
+  by_code q goes codes.Less near e = by_cells q goes _ e
+  by_code q goes codes.Greq near e = by_cells q goes _ e
+  by_code q goes codes.Grtr near e = by_cells q goes _ e
+  by_code q goes codes.Lseq near e = by_cells q goes _ e
+  by_code q goes codes.Equl near e = by_cells q goes _ e
+  by_code q goes codes.Neql near e = by_cells q goes _ e
+  by_code q goes codes.Dlet near e = by_cells q goes _ e
+  by_code q goes codes.Exch near e = by_cells q goes _ e
+  by_code q goes codes.Dupl near e = by_cells q goes _ e
+  by_code q goes _ near e = absurd (let z : ⊥ = cc in z)
+
+  -- an operator that goes on behind it
+  pub straight_leaves : (q : Place) → Goes_to q → (op : Op) → is_straight op ≡ true → row op (here m t q) ≡ Ok (Goes job printed touched) → LeavesCells
+  straight_leaves q goes (Namc couple) near e = leaves q goes _ e
+  straight_leaves q goes (Lt8 n) near e = leaves q goes _ e
+  straight_leaves q goes (Lt16 n) near e = leaves q goes _ e
+  straight_leaves q goes (Lt48 bits) near e = leaves q goes _ e
+  straight_leaves q goes (Plain code) near e = by_code q goes code (not-true _ near) e
+  straight_leaves q goes _ near e = absurd (let z : ⊥ = cc in z)
+
+  -- a branch
+  pub branch_leaves : (always wanted : Bool) (q target : Place) → Goes_to q → Goes_to target → row (branch_op always wanted target) (here m t q) ≡ Ok (Goes job printed touched) → LeavesCells
+  branch_leaves true wanted q target goes taken e = leaves target taken _ e
+  branch_leaves false true q target goes taken e = by_branch true q target goes taken (cells t) e
+  branch_leaves false false q target goes taken e = by_branch false q target goes taken (cells t) e
+
+-- ---- descriptors
+
+bit_low : (b : Bool) → bit b ≤ 1
+bit_low true = omega arith
+bit_low false = omega arith
+
+same_bit : (a b : Bool) → bit a ≡ bit b → a ≡ b
+same_bit true true e = refl
+same_bit false false e = refl
+same_bit true false e = absurd (omega (arith, e))
+same_bit false true e = absurd (omega (arith, e))
+
+same_fields : (a b : SegDesc) → a.present ≡ b.present → a.words ≡ b.words → a.address ≡ b.address → a ≡ b
+same_fields a b present words address = by a.present a.words a.address present words address where
+  by : (p : Bool) (w n : ℕ) → p ≡ b.present → w ≡ b.words → n ≡ b.address → ◌≡◌ {A = SegDesc} (record { present = p; words = w; address = n }) b
+  by p w n same_p same_w same_n = rw (same_p, same_w, same_n) refl
+
+-- a word is one descriptor's
+pub same_desc : (a b : SegDesc) → IsSegDesc a → IsSegDesc b → seg_word a ≡ seg_word b → a ≡ b
+same_desc a b p q e =
+    let bits : bit a.present * 2 ^ 47 + a.words * 2 ^ 20 + a.address ≡ bit b.present * 2 ^ 47 + b.words * 2 ^ 20 + b.address = ap (λ (w : Tagged). w.bits) e in
+    same_fields a b
+    (same_bit a.present b.present (omega (arith, bits, p.address, q.address, p.words, q.words, bit_low a.present, bit_low b.present)))
+    (omega (arith, bits, p.address, q.address, p.words, q.words, bit_low a.present, bit_low b.present))
+    (omega (arith, bits, p.address, q.address, p.words, q.words, bit_low a.present, bit_low b.present))
+
+-- ---- the segment
+
+module _ (x : Storage) (old new : Cpu) (plan : Placement) (s : Session) (m : SessionJob) (t : Task) (ordered : IsInOrderButCounts s) (h : RepresentsSession x old plan s) (runs : IsRunning plan s.jobs m t)
+    (left : List PagedObject) (cs : List Word) (q : Place) (stands : RepresentsSessionBut left x new plan (with_job s m (with_task m.progress.job (task_with t cs q)))) where
+  abbrev job : Job
+  job = with_task m.progress.job (task_with t cs q)
+
+  abbrev member : SessionJob
+  member = record m { progress = record m.progress { job = job } }
+
+  pub found_member : IsRunning plan (with_job s m job).jobs member (task_with t cs q)
+  found_member = record {
+    member = keyed-change_same number_of m.constants.number (λ (y : SessionJob). record y { progress = record m.progress { job = job } }) (λ y. refl) s.jobs m runs.member;
+    task = change_found (λ (u : Task). u.number) t.number t (task_with t cs q) m.progress.job.tasks refl runs.task;
+    slot = runs.slot;
+  }
+
+  segment : (g : Segment) × (slice_get m.constants.segments (t.segment - 1) ≡ Some g)
+  segment = let o = (running_in_order plan s m t ordered runs).1.place in get_within m.constants.segments (t.segment - 1) (omega (arith, o.from_one, o.within))
+
+  code-is : code_of m.constants t.segment ≡ segment.0.code
+  code-is = rw (segment.1) refl
+
+  abbrev object : PagedObject
+  object = record { home = plan.dictionary m.constants.number + 1 + t.segment; kind = kind.Code; numbers = segment.0.code }
+
+  there : Has (left ++ flat_map (objects_of plan) (with_job s m job).jobs) object
+  there =
+      let o = (running_in_order plan s m t ordered runs).1.place in
+      has_append_right left (flat_map (objects_of plan) (with_job s m job).jobs) object
+      (member_objects plan (with_job s m job).jobs member object (keyed_has number_of m.constants.number (with_job s m job).jobs member found_member.member).0
+      (before (code_objects plan m.constants.number 1 m.constants.segments) (map (array_object plan m.constants.number) job.arrays) object
+      (code_object plan m.constants.number 1 m.constants.segments (t.segment - 1) (plan.dictionary m.constants.number + 1 + t.segment) segment.0 segment.1 (omega (arith, o.from_one)))))
+
+  -- the running segment's descriptor stands where it stood
+  pub word_after : slice_get new.core (new.regs.dict + new.regs.segment) ≡ Some (seg_word (code_desc x plan m t))
+  word_after =
+      let o = stands.holds.running member (task_with t cs q) found_member in
+      let at : new.regs.dict + new.regs.segment ≡ plan.dictionary m.constants.number + 1 + t.segment = omega (arith, o.dict, o.segment) in
+      let d = code_desc x plan m t in
+      ap (slice_get new.core) at ∙ (stands.holds.memory.objects object there).home
+      ∙ ap (λ (n : ℕ). Some (seg_word (record { present = d.present; words = n; address = d.address }))) (ap length (sym code-is))
+
+  contents-words : (tag : ℕ) (ns : List ℕ) → contents (map (word tag) ns) ≡ ns
+  contents-words tag [] = refl
+  contents-words tag (n ∷ ns) = ap (λ ms. n ∷ ms) (contents-words tag ns)
+
+  -- and so do its words
+  pub code_after : (desc : SegDesc) (words : List Tagged) → GivesSegment x plan m t (Some desc) → words ≡ slice_range new.core desc.address (desc.address + desc.words) → contents words ≡ code_of m.constants t.segment
+  code_after desc words given is =
+      let C : Option ℕ → Type 0 = λ o. Content x new.core object o (code_held x plan m t).chain in
+      let up = (subst C (present x old plan s m t ordered h runs desc given.0 given.1) (stands.holds.memory.objects object there).content).0 in
+      let n : desc.words ≡ length (map (word 3) segment.0.code) = ap (λ (d : SegDesc). d.words) given.0 ∙ ap length code-is ∙ sym (length-map segment.0.code (word 3)) in
+      ap contents (is ∙ upward-range new.core desc.address desc.words (map (word 3) segment.0.code) n up) ∙ contents-words 3 segment.0.code ∙ sym code-is
+
+-- ---- what stays
+
+module _ (old new : Cpu) (desc : SegDesc) (r : RunsSome old) (answer : Answer Done) (k : IsMade r.storage r.plan r.session r.member old new answer) (Goes_to : Place → Type 0)
+    (l : LeavesCells r.member r.task k.job [] k.touched Goes_to) (code : HoldsCode old desc) where
+  abbrev left : List PagedObject
+  left = objects_gone r.plan r.member k.job
+
+  shows : RepresentsSessionBut left r.storage new r.plan (with_job r.session r.member (with_task r.member.progress.job (task_with r.task l.cells l.place)))
+  shows = let S : Job → Type 0 = λ j. RepresentsSessionBut left r.storage new r.plan (with_job r.session r.member j) in subst S l.is k.stands
+
+  given : GivesSegment r.storage r.plan r.member r.task (Some desc)
+  given = code r.storage r.plan r.session r.member r.task r.ordered r.stands r.running
+
+  -- the running segment's descriptor
+  pub holds_on : HoldsCode new desc
+  holds_on x plan s m t ordered h runs =
+      let before_is = word_after r.storage old new r.plan r.session r.member r.task r.ordered r.stands r.running left l.cells l.place shows in
+      let now_is = word-is x new plan s m t ordered h runs in
+      let one : seg_word (code_desc r.storage r.plan r.member r.task) ≡ seg_word (code_desc x plan m t) = same_Some _ _ (sym before_is ∙ now_is) in
+      (given.0 ∙ same_desc (code_desc r.storage r.plan r.member r.task) (code_desc x plan m t) (desc-fits r.storage old r.plan r.session r.member r.task r.ordered r.stands r.running) (desc-fits x new plan s m t ordered h runs) one, given.1)
+
+  -- its code
+  pub code_on : (x : Storage) (plan : Placement) (s : Session) (m : SessionJob) (t : Task) → IsInOrderButCounts s → RepresentsSession x new plan s → IsRunning plan s.jobs m t → code_of r.member.constants r.task.segment ≡ code_of m.constants t.segment
+  code_on x plan s m t ordered h runs =
+      let now = holds_on x plan s m t ordered h runs in
+      let words : List Tagged = slice_range new.core desc.address (desc.address + desc.words) in
+      let length-is : words ≡ slice_range new.core desc.address (desc.address + length (code_of m.constants t.segment)) = ap (λ (n : ℕ). slice_range new.core desc.address (desc.address + n)) (ap (λ (d : SegDesc). d.words) now.0) in
+      sym (code_after r.storage old new r.plan r.session r.member r.task r.ordered r.stands r.running left l.cells l.place shows desc words given refl)
+      ∙ code-read x new plan s m t ordered h runs desc.address words (present x new plan s m t ordered h runs desc now.0 now.1) length-is
+
+  -- where the task goes on
+  pub place_on : new.regs.place ≡ l.place
+  place_on = (shows.holds.running _ _ (found_member r.storage old new r.plan r.session r.member r.task r.ordered r.stands r.running left l.cells l.place shows)).place
+
+-- a near operator leaves no activation record
+code_stays : (code : Code) → goes_far code ≡ false → is_leaving (Plain code) ≡ false
+code_stays codes.Exit near = absurd (let z : ⊥ = cc in z)
+code_stays codes.Retn near = absurd (let z : ⊥ = cc in z)
+code_stays _ near = refl
+
+pub straight_stays : (op : Op) → is_straight op ≡ true → is_leaving op ≡ false
+straight_stays (Plain code) near = code_stays code (not-true _ near)
+straight_stays _ near = refl
+
+code_calls : (code : Code) → goes_far code ≡ false → (h : OperatorContext) → called (Plain code) h ≡ None
+code_calls codes.Entr near h = absurd (let z : ⊥ = cc in z)
+code_calls _ near h = refl
+
+pub straight_calls : (op : Op) → is_straight op ≡ true → (h : OperatorContext) → called op h ≡ None
+straight_calls (Plain code) near h = code_calls code (not-true _ near) h
+straight_calls _ near h = refl

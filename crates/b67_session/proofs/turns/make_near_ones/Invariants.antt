@@ -1,0 +1,19 @@
+use Rattle.std.proofs.Common.{◌≡◌, ◌≤◌, ◌+◌, ◌-◌, ℕ, List, length, Option}
+use Rattle.b67_model.specs.Schedule.{Session}
+use Rattle.b67_session_attempt.specs.Passed.{HoldsCode}
+use Rattle.b67_session.specs.InTurn.{HasTurn}
+use Rattle.b67_session.specs.Slices.{Keeps}
+use Rattle.b67_session.proofs.turns.make_near_ones.Given as goal
+
+abbrev pub invariant-operator : goal.invariant-operator
+invariant-operator l = record {
+  few : l.made ≤ l.room;
+  tables : l.machine.tasks ≡ l.initial.machine.tasks;
+  keeps : Keeps l.initial.machine l.machine;
+  code : HoldsCode l.machine.cpu l.code;
+  turn : (known : Option (List (List ℕ))) (steps core : ℕ) (s : Session) → length l.initial.machine.cpu.core ≡ core → HasTurn known steps l.room s core l.initial.machine
+      → HasTurn known (steps + l.made) (l.room - l.made) s core l.machine;
+}
+
+abbrev pub decreases-operator : goal.decreases-operator
+decreases-operator l = l.room - l.made
