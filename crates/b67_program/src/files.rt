@@ -4,7 +4,6 @@ ghost use Rattle.std.specs.Prelude.{List, ℕ, Option, None, [], ◌∷◌};
 ghost use Rattle.b67_program.specs.Opening.{Opens};
 
 use b67_backing::{Backing, FileBacking};
-use b67_word::Failed;
 use std::fs;
 use std::fs::File;
 use std::os::unix::fs::MetadataExt;
@@ -31,45 +30,15 @@ fn prints_into(rt: &HostRuntime, path: &str) -> bool {
     }
 }
 
-/// Sectors in a file of the system. It doesn't tell what they hold.
-#[derive(Drop)]
-pub struct SystemFile {
-    sectors: FileBacking<File>,
-}
-
-impl Backing for SystemFile {
-    ghost holds = { λ _. None };
-
-    ghost size = { λ _. 65536 };
-
-    ghost faults = { λ f. f.sectors.faults };
-
-    ghost calls = { λ f. f.sectors.calls };
-
-    fn sectors(&self) -> u32 {
-        self.sectors.sectors()
-    }
-
-    fn read(&mut self, n: u32, into: &mut [u64; 30]) -> Result<(), Failed> {
-        self.sectors.read(n, into)
-    }
-
-    fn write(&mut self, n: u32, from: &[u64; 30]) -> Result<(), Failed> {
-        self.sectors.write(n, from)
-    }
-}
-
 /// The system's files. It doesn't tell which were opened. If standard output is the file at a path, that isn't opened: no file has
 /// the empty name, so every call fails.
 impl Devices for HostRuntime {
-    type File = SystemFile;
+    type File = FileBacking<File>;
 
     ghost opened = { λ _. None };
 
-    fn open(&mut self, path: &str) -> SystemFile {
+    fn open(&mut self, path: &str) -> FileBacking<File> {
         let path = if prints_into(self, path) { "" } else { path };
-        SystemFile {
-            sectors: FileBacking::at(self, path),
-        }
+        FileBacking::at(self, path)
     }
 }

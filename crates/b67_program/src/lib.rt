@@ -7,6 +7,6 @@ mod serving;
 #[cfg(test)]
 mod tests;
 
-pub use files::{Devices, SystemFile};
+pub use files::Devices;
 pub use reading::{InputFault, read_input};
 pub use serving::serve;

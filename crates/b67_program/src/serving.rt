@@ -86,7 +86,7 @@ fn memory_backing(alloc: Global) -> Result<MemoryBacking, AllocError>
 /// into memory first, to the first byte past a deck's limit at most. The command runs over the file of the words' path; where
 /// they name none, over 4,096 sectors of zeros in memory.
 ///
-/// The status is that of `run`. A read that fails ends the call with `READING FAULT` and status 7, refused memory with `NO
+/// The status is that of `run`. A read that fails ends the call with `READING FAULT` and status 7, want of memory with `NO
 /// MEMORY` and status 9.
 pub fn serve<R: Devices, S: Source, K: Sink>(
     alloc: Global,
