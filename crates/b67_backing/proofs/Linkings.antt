@@ -1,5 +1,5 @@
 -- The link of a sector, by the table and by the chains.
-use Rattle.std.proofs.Common.{◌≡◌, ◌≢◌, ℕ, zero, suc, ◌+◌, ◌-◌, ◌<◌, ◌≤◌, true, false, List, [], ◌∷◌, length, map, Some, refl, sym, ◌∙◌, ap, arith, ⊎_elim, get_or, nat_lt, ◌==◌}
+use Rattle.std.proofs.Common.{◌≡◌, ◌≢◌, ℕ, zero, suc, ◌+◌, ◌-◌, ◌<◌, ◌≤◌, Bool, true, false, cond, List, [], ◌∷◌, length, map, Some, refl, sym, ◌∙◌, ap, arith, ⊎_elim, get_or, nat_lt, ◌==◌}
 use Rattle.std.specs.List.{slice_get}
 use Rattle.std.proofs.lemmas.Bool.{cases_eq, cases_lt, cond-true, cond-false, eq-eqb, ne_eqb, lt-ltb, le-ltb, ltb-true, ltb-false}
 use Rattle.std.proofs.lemmas.Option.{same_Some}
@@ -81,6 +81,28 @@ walk_met links n at v free i total lt e is h = let here : one n v ≡ 1 = rw is 
 
 pub walk_over : (links : List ℕ) (n at free i total : ℕ) → free ≤ i → total ≡ times n (walk links (free - i) at) → nat_lt 0 total ≡ false
 walk_over links n at free i total le h = let k : free - i ≡ 0 = omega arith in le-ltb 0 total (omega (arith, h, ap (λ (j : ℕ). times n (walk links j at)) k))
+
+-- the mark of a sector, once one more free sector is marked: it is free if it is marked, or still among those that follow
+pub marked_on : (links : List ℕ) (n at v free i : ℕ) (old new total : Bool) → i < free → v ≡ get_or links at 0 → new ≡ cond (v == n) true old → total ≡ cond old true (nat_lt 0 (times n (walk links (free - i) at))) → total ≡ cond new true (nat_lt 0 (times n (walk links (free - (i + 1)) v)))
+marked_on links n at v free i old new total lt e m h = ⊎_elim
+    (λ is. h ∙ here is old ∙ sym (cond-true new true _ (m ∙ cond-true (v == n) true old (eq-eqb v n is))))
+    (λ ne.
+    let same : new ≡ old = m ∙ cond-false (v == n) true old (ne_eqb v n ne) in
+    let less : times n (walk links (free - i) at) ≡ times n (walk links (free - (i + 1)) v) = omega (arith, walk_on links n at v free i lt e, one-other n v (λ q. ne (sym q))) in
+    h ∙ ap (λ (k : ℕ). cond old true (nat_lt 0 k)) less ∙ ap (λ (b : Bool). cond b true (nat_lt 0 (times n (walk links (free - (i + 1)) v)))) (sym same))
+    (cases_eq v n)
+  where
+    here : v ≡ n → (b : Bool) → cond b true (nat_lt 0 (times n (walk links (free - i) at))) ≡ true
+    here is true = refl
+    here is false = walk_met links n at v free i _ lt e is refl
+
+-- at its end no free sector follows
+pub marked_over : (links : List ℕ) (n at free i : ℕ) (mark total : Bool) → free ≤ i → total ≡ cond mark true (nat_lt 0 (times n (walk links (free - i) at))) → mark ≡ total
+marked_over links n at free i mark total le h = sym (h ∙ ap (cond mark true) (walk_over links n at free i _ le refl) ∙ by mark)
+  where
+    by : (b : Bool) → cond b true false ≡ b
+    by true = refl
+    by false = refl
 
 -- what a call answers that follows a link
 pub link_answers : (t : Table) (n next : ℕ) → nat_lt 0 (times n (free_sectors t)) ≡ false → slice_get t.links n ≡ Some next → table_link t n ≡ or_itself n next

@@ -1,7 +1,8 @@
 -- Sectors that are marked, and chains that the links run through.
-use Rattle.std.proofs.Common.{◌≡◌, ◌≢◌, ◌⊎◌, ℕ, zero, suc, ◌+◌, ◌<◌, ◌≤◌, Bool, true, false, cond, List, [], ◌∷◌, ◌++◌, length, refl, sym, ◌∙◌, ap, arith, ⊎_elim, inl, inr, subst, slice_set, get_or, append_assoc, ◌==◌, get_or-set_same, get_or-set_other}
+use Rattle.std.proofs.Common.{◌≡◌, ◌≢◌, ◌⊎◌, ℕ, zero, suc, ◌+◌, ◌-◌, ◌<◌, ◌≤◌, Bool, true, false, cond, List, [], ◌∷◌, ◌++◌, length, refl, sym, ◌∙◌, ap, arith, ⊎_elim, inl, inr, subst, slice_set, get_or, append_assoc, ◌==◌, get_or-set_same, get_or-set_other}
 use Rattle.std.proofs.lemmas.Bool.{cases_Bool, cases_eq, cases_lt, cond-true, cond-false, ne_eqb, eq-eqb}
 use Rattle.std.proofs.lemmas.List.{get_or_past}
+use Rattle.std.proofs.lemmas.Grind.{get_or-set_at}
 use Rattle.b67_backing.specs.Shelf.{one, times, uses}
 use Rattle.b67_backing.specs.Links.{next_or, sector_after, link_of, sector_link, mark, Runs, Walked, NoChainOver}
 use Rattle.b67_backing.proofs.Links.{one-same, one-other, times-cons, times-append}
@@ -35,6 +36,33 @@ mark-more xs k i lt z = ⊎_elim
     (λ e. rw e (omega (arith, mark-same xs k lt, z, one-same k)))
     (λ ne. omega (arith, mark-other xs k i ne, one-other i k ne))
     (cases_eq i k)
+
+-- ---- windows
+
+-- one more mark is taken away
+pub cleared_on : (xs : List Bool) (i : ℕ) → i < length xs → ((j : ℕ) → j < i → get_or xs j false ≡ false) → (j : ℕ) → j < i + 1 → get_or (slice_set xs i false) j false ≡ false
+cleared_on xs i lt none j low = ⊎_elim
+    (λ e. rw e (get_or-set_at xs i i false false refl lt))
+    (λ ne. get_or-set_other xs i j false false ne ∙ none j (omega (arith, low, ne)))
+    (cases_eq j i)
+
+pub cleared_all : (xs : List Bool) (i : ℕ) → length xs ≤ i → ((j : ℕ) → j < i → get_or xs j false ≡ false) → (j : ℕ) → get_or xs j false ≡ false
+cleared_all xs i le none j = ⊎_elim (λ lt. none j lt) (λ past. get_or_past xs j false (omega (arith, le, past))) (cases_lt j i)
+
+-- a sector beside the window
+pub not_within : (xs : List Bool) (n first i : ℕ) → (n ≡ first + i → ⊥) → get_or xs i false ≡ cond (n == first + i) true (get_or xs i false)
+not_within xs n first i ne = sym (cond-false (n == first + i) true (get_or xs i false) (ne_eqb n (first + i) ne))
+
+-- a sector in it
+pub marked_within : (xs : List Bool) (n first i : ℕ) → first ≤ n → n - first < length xs → get_or (slice_set xs (n - first) true) i false ≡ cond (n == first + i) true (get_or xs i false)
+marked_within xs n first i low lt = ⊎_elim
+    (λ e.
+    let at : i ≡ n - first = omega (arith, e) in
+    get_or-set_at xs (n - first) i true false at lt ∙ sym (cond-true (n == first + i) true (get_or xs i false) (eq-eqb n (first + i) e)))
+    (λ ne.
+    let other : i ≢ n - first = λ q. ne (omega (arith, q, low)) in
+    get_or-set_other xs (n - first) i true false other ∙ not_within xs n first i ne)
+    (cases_eq n (first + i))
 
 -- how many aren't marked
 pub blanks : List Bool → ℕ

@@ -1,5 +1,5 @@
 -- The links of sectors as an image tells them.
-use Rattle.std.specs.Prelude.{◌≡◌, ◌≢◌, ℕ, zero, suc, ◌+◌, ◌-◌, ◌<◌, ◌≤◌, ◌==◌, Bool, false, List, [], ◌∷◌, length, map, Some, slice_get, slice_index, slice_index_or, if◌then◌else◌}
+use Rattle.std.specs.Prelude.{◌≡◌, ◌≢◌, ℕ, zero, suc, ◌+◌, ◌-◌, ◌<◌, ◌≤◌, ◌==◌, nat_lt, Bool, false, List, [], ◌∷◌, length, map, Some, slice_get, slice_index, slice_index_or, if◌then◌else◌}
 use Rattle.b67_backing.specs.Shelf.{Table, Shelf, IsShelf, times, uses, row}
 
 -- ---- by chains
@@ -49,6 +49,10 @@ or_itself n next = if next == 0 then n else next
 
 abbrev pub table_link : Table → ℕ → ℕ
 table_link t n = if times n (free_sectors t) == 0 then or_itself n (slice_index t.links n) else 0
+
+-- each mark of a window tells whether its sector is free, the first one that of sector number first
+abbrev pub AreFreeMarks : Table → ℕ → List Bool → Type 0
+AreFreeMarks t first marks = (i : ℕ) → i < length marks → slice_index_or marks i false ≡ nat_lt 0 (times (first + i) (free_sectors t))
 
 -- the links of all sectors, from 1 on
 unfoldable pub links_in : Table → List ℕ

@@ -15,6 +15,7 @@ mod refusals;
 mod sectors;
 #[cfg(test)]
 mod tests;
+mod windows;
 
 pub use access::RandomAccess;
 pub use chaining::sectors_tell_chains;

@@ -6,11 +6,12 @@ ghost use Rattle.b67_word.specs.Numbers.{number};
 ghost use Rattle.b67_io.specs.Causes.{HasCause};
 ghost use Rattle.b67_backing.specs.Shelf.{Table, Shelf, IsShelf, HasChain, chain_of, taken, given, chains_joined, first, last, all_free, times};
 ghost use Rattle.b67_backing.specs.Held.{Tells, Changes, SameBut, Stores, Holds, AreTagged, OnlyWords, WasCalled, WasRead, sectors_for, under};
-ghost use Rattle.b67_backing.specs.Links.{AreLinksOf, links_in, free_sectors, table_link, link_of, unlinked};
+ghost use Rattle.b67_backing.specs.Links.{AreLinksOf, AreFreeMarks, links_in, free_sectors, table_link, link_of, unlinked};
 ghost use Rattle.b67_backing.specs.Extending.{ExtendMeets, KeepsDevice};
 
 use crate::chaining::are_of_chains;
 use crate::copies::{pack, unpack};
+use crate::windows::{clear, mark_within};
 use crate::{Backing, SpaceFault};
 use b67_core::Core;
 use b67_word::{Failed, Word};
@@ -133,7 +134,18 @@ impl Sectors {
         ensures value { result ≡ table_link self.now n }
         ensures chain { (st : Shelf) → IsShelf self.now st → result ≡ link_of n st.chains }
     {
-        if self.is_free(n) {
+        let free = self.is_free(n);
+        self.link_marked(n, free)
+    }
+
+    /// The link of a sector, given whether it is free. No other link is followed.
+    pub fn link_marked(&self, n: u32, free: bool) -> u32
+        requires low { 1 ≤ n }
+        requires high { n < length self.now.links }
+        requires free { free ≡ nat_lt 0 (times n (free_sectors self.now)) }
+        ensures { result ≡ table_link self.now n }
+    {
+        if free {
             return 0;
         }
         let next = self.follow(n);
@@ -141,6 +153,20 @@ impl Sectors {
             return n;
         }
         next
+    }
+
+    /// Marks which sectors of a window are free: the mark at place i is that of sector first + i, and a number beyond the
+    /// last sector isn't marked. Each free sector's link is followed once, however wide the window is.
+    pub fn mark_free(&self, first: u32, marks: &mut [bool])
+        ensures length { length marks.new ≡ length marks.old }
+        ensures each { AreFreeMarks self.now first marks.new }
+    {
+        clear(marks);
+        let mut at = 0;
+        'free: for _i in 0..self.free {
+            at = self.follow(at);
+            mark_within(marks, first, at);
+        }
     }
 
     /// The sector after n free ones.

@@ -60,6 +60,13 @@ module _ (x : Storage) (cpu : Cpu) (plan : Placement) (s : Session) (m : Session
     by (Intrinsic number) fit g = absurd g
     by (Words.Segment number) fit g = absurd g
 
+  -- the one that is read
+  pub read_desc : w.tag ≡ 5 → (d : DataDesc) → ((e : DataDesc) → IsDataDesc e → w ≡ data_word e → d ≡ e) → IsDataDesc d × (w ≡ data_word d)
+  read_desc five d read =
+      let (e, fits, is) = has_desc five in
+      let P : DataDesc → Type 0 = λ z. IsDataDesc z × (w ≡ data_word z) in
+      subst P (sym (read e fits is)) (fits, is)
+
   -- an original
   pub original_refused : w.tag ≡ 5 → (d : DataDesc) → IsDataDesc d → w ≡ data_word d → d.copy ≡ false → Refuses (Some InvalidOperand) v (returnable m.progress.job (top t.frames).identity v)
   original_refused five d fits is own = by v b.fits b.order where

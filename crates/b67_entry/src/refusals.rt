@@ -42,10 +42,7 @@ fn copy_refusal(cpu: &Cpu, word: Word) -> Option<Fault>
     ensures { ForEach cpu.now (λ x plan s m t. (v : Words.Word) → IsTopWord x plan m t cpu.now v word
         → Refuses result v (rows.returnable m.progress.job (top t.frames).identity v)) }
 {
-    let d = match DataDesc::from_word(word) {
-        Some(d) => d,
-        None => unreachable!(),
-    };
+    let d = DataDesc::read(word);
     if !d.copy {
         return Some(Fault::InvalidOperand);
     }

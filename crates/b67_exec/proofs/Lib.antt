@@ -7,3 +7,6 @@ pub mod Cases
 pub mod Overs
 pub mod Readings
 pub mod Nears
+pub mod Readers
+pub mod NearTable
+pub mod Through

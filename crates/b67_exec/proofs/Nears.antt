@@ -1,9 +1,11 @@
 -- A near operator: other cells on the running stack, and the same segment, held as it was.
 use Rattle.std.proofs.Common.{◌≡◌, ◌≢◌, ℕ, ◌+◌, ◌-◌, ◌*◌, ◌^◌, ◌<◌, ◌≤◌, Bool, true, false, List, [], ◌∷◌, ◌++◌, map, flat_map, length, Option, Some, None, Ok, Err, refl, sym, ◌∙◌, ap, subst, arith}
-use Rattle.std.specs.Prelude.{nat_le}
-use Rattle.std.specs.List.{slice_get}
+use Rattle.std.specs.Prelude.{nat_le, not, if◌then◌else◌}
+use Rattle.std.specs.List.{slice_get, slice_range}
+use Rattle.std.proofs.lemmas.Bool.{not-true}
+use Rattle.std.proofs.lemmas.List.{length-map}
 use Rattle.std.proofs.lemmas.Option.{same_Some}
-use Rattle.b67_word.specs.Tagged.{Tagged}
+use Rattle.b67_word.specs.Tagged.{Tagged, word, contents}
 use Rattle.b67_word.specs.declared.couples.Place.{Place}
 use Rattle.b67_area.specs.declared.Kind.TheVariants as kind
 use Rattle.b67_ctl.specs.Layout.{flag_bit}
@@ -17,19 +19,21 @@ use Rattle.b67_model.specs.declared.operators.Op.{Op}
 use Rattle.b67_model.specs.declared.operators.Op.TheVariants.{Valc, Namc, Lt8, Lt16, Lt48, Mpcw, Brun, Brtr, Brfl, Bset, Brst, Isol, Insr, Plain}
 use Rattle.b67_model.specs.declared.operators.Code.{Code}
 use Rattle.b67_model.specs.declared.operators.Code.TheVariants as codes
-use Rattle.b67_model.specs.Common.{Answer, ◌>>=◌, Word, Done, Goes, Line, Task, Job, SessionJob, Session, Segment, operand, with_task, with_top_cells, height, leaves_cells, on_cells, branch_if, row, called, code_of, number_of}
+use Rattle.b67_model.specs.Common.{Answer, ◌>>=◌, Word, Done, Goes, Line, Task, Job, SessionJob, Session, Segment, operand, with_task, with_top_cells, height, leaves_cells, on_cells, branch_if, OperatorContext, row, called, code_of, number_of}
 use Rattle.b67_stack.specs.declared.Cpu.{Cpu}
 use Rattle.b67_stack.specs.declared.Step.{Step}
 use Rattle.b67_stack.specs.declared.Step.TheVariants as answers
-use Rattle.b67_stack.specs.Common.{PagedObject, Storage}
+use Rattle.b67_stack.specs.Common.{PagedObject, Storage, Content}
+use Rattle.b67_stack.proofs.Lies.{upward-range}
 use Rattle.b67_layout.specs.Common.{Placement, IsInOrderButCounts, IsRunning, RepresentsSession, RepresentsSessionBut, RunsSome, ForEach, here, with_job, objects_gone, IsMade, Meets, code_objects, objects_of, array_object, cells}
 use Rattle.b67_layout.proofs.Common.{task_with, running_in_order}
-use Rattle.b67_exec_cells.specs.Running.{code_desc, GivesSegment}
-use Rattle.b67_exec_cells.proofs.Codes.{code_object, word-is, desc-fits}
+use Rattle.b67_exec_cells.specs.Running.{code_held, code_desc, GivesSegment}
+use Rattle.b67_exec_cells.proofs.Codes.{code_object, code-read, present, word-is, desc-fits}
 use Rattle.b67_exec_cells.proofs.Replaced.{before, member_objects}
 use Rattle.b67_entry.specs.Procedures.{CallsOrMeets}
+use Rattle.b67_layout_step.specs.Keeping.{is_leaving}
 use Rattle.b67_exec.specs.Operators.{goes_far, is_far}
-use Rattle.b67_exec.specs.Near.{HoldsCode}
+use Rattle.b67_exec.specs.Near.{HoldsCode, is_straight, branch_op}
 
 -- ---- what was answered
 
@@ -39,7 +43,7 @@ made_near x plan s m old new (Some n) answer i = absurd (let e = i.0 in let z : 
 made_near x plan s m old new None answer i = i
 
 -- after another answer nothing has changed
-unmet : (x : Storage) (plan : Placement) (s : Session) (m : SessionJob) (answered : Step) (old new : Cpu) (answer : Answer Done) → answered ≢ answers.Done → Meets x plan s m answered old new answer → new ≡ old
+pub unmet : (x : Storage) (plan : Placement) (s : Session) (m : SessionJob) (answered : Step) (old new : Cpu) (answer : Answer Done) → answered ≢ answers.Done → Meets x plan s m answered old new answer → new ≡ old
 unmet x plan s m answers.Done old new answer other i = absurd (other refl)
 unmet x plan s m (answers.Absent found) old new answer other i = i.1
 unmet x plan s m (answers.Call n) old new answer other i = absurd i
@@ -52,66 +56,87 @@ unmade x plan s m answered old new None answer other i = unmet x plan s m answer
 
 -- ---- the rows
 
-module _ (m : SessionJob) (t : Task) (job : Job) (printed : List Line) (touched : Option ℕ) where
-  -- the running task goes on with other cells in its top frame, at some place
+module _ (m : SessionJob) (t : Task) (job : Job) (printed : List Line) (touched : Option ℕ) (Goes_to : Place → Type 0) where
+  -- the running task goes on with other cells in its top frame, at such a place
   pub record LeavesCells : Type 0 where
     pub cells : List Word
     pub place : Place
     pub is : job ≡ with_task m.progress.job (task_with t cells place)
+    pub goes : Goes_to place
 
-  leaves : (q : Place) (cs : List Word) → leaves_cells (here m t q) cs None ≡ Ok (Goes job printed touched) → LeavesCells
-  leaves q cs e = by_test (nat_le (height (with_top_cells t.frames cs)) m.constants.stack_size) refl where
+  leaves : (q : Place) → Goes_to q → (cs : List Word) → leaves_cells (here m t q) cs None ≡ Ok (Goes job printed touched) → LeavesCells
+  leaves q goes cs e = by_test (nat_le (height (with_top_cells t.frames cs)) m.constants.stack_size) refl where
     by_test : (b : Bool) → nat_le (height (with_top_cells t.frames cs)) m.constants.stack_size ≡ b → LeavesCells
     by_test true test =
         let made : ◌≡◌ {A = Answer Done} (Ok (Goes (with_task m.progress.job (task_with t cs q)) [] None)) (Ok (Goes job printed touched)) = rw test at e in
-        record { cells = cs; place = q; is = sym (let k : with_task m.progress.job (task_with t cs q) ≡ job = cc in k) }
+        record { cells = cs; place = q; is = sym (let k : with_task m.progress.job (task_with t cs q) ≡ job = cc in k); goes = goes }
     by_test false test = absurd (let made = rw test at e in let z : ⊥ = cc in z)
 
-  by_cells : (q : Place) (r : Answer (List Word)) → (r >>= λ ds. leaves_cells (here m t q) ds None) ≡ Ok (Goes job printed touched) → LeavesCells
-  by_cells q (Err why) e = absurd (let z : ⊥ = cc in z)
-  by_cells q (Ok ds) e = leaves q ds e
+  by_cells : (q : Place) → Goes_to q → (r : Answer (List Word)) → (r >>= λ ds. leaves_cells (here m t q) ds None) ≡ Ok (Goes job printed touched) → LeavesCells
+  by_cells q goes (Err why) e = absurd (let z : ⊥ = cc in z)
+  by_cells q goes (Ok ds) e = leaves q goes ds e
 
   by_operand : (o : Answer ℕ) (f : ℕ → Answer Done) → ((n : ℕ) → f n ≡ Ok (Goes job printed touched) → LeavesCells) → (o >>= f) ≡ Ok (Goes job printed touched) → LeavesCells
   by_operand (Err why) f g e = absurd (let z : ⊥ = cc in z)
   by_operand (Ok n) f g e = g n e
 
-  by_branch : (wanted : Bool) (q target : Place) (cs : List Word) → branch_if wanted (here m t q) cs target ≡ Ok (Goes job printed touched) → LeavesCells
-  by_branch wanted q target [] e = absurd (let z : ⊥ = cc in z)
-  by_branch wanted q target (a ∷ rest) e = by_operand (operand a) _ (λ n k. leaves _ rest k) e
+  by_code : (q : Place) → Goes_to q → (code : Code) → goes_far code ≡ false → row (Plain code) (here m t q) ≡ Ok (Goes job printed touched) → LeavesCells
+  by_code q goes codes.Zero near e = leaves q goes _ e
+  by_code q goes codes.One near e = leaves q goes _ e
+  by_code q goes codes.Push near e = leaves q goes _ e
+  by_code q goes codes.Noop near e = leaves q goes _ e
+  by_code q goes codes.Add near e = by_cells q goes _ e
+  by_code q goes codes.Subt near e = by_cells q goes _ e
+  by_code q goes codes.Less near e = by_cells q goes _ e
+  by_code q goes codes.Greq near e = by_cells q goes _ e
+  by_code q goes codes.Grtr near e = by_cells q goes _ e
+  by_code q goes codes.Lseq near e = by_cells q goes _ e
+  by_code q goes codes.Equl near e = by_cells q goes _ e
+  by_code q goes codes.Neql near e = by_cells q goes _ e
+  by_code q goes codes.Dlet near e = by_cells q goes _ e
+  by_code q goes codes.Exch near e = by_cells q goes _ e
+  by_code q goes codes.Dupl near e = by_cells q goes _ e
+  by_code q goes _ near e = absurd (let z : ⊥ = cc in z)
 
-  by_code : (q : Place) (code : Code) → goes_far code ≡ false → row (Plain code) (here m t q) ≡ Ok (Goes job printed touched) → LeavesCells
-  by_code q codes.Zero near e = leaves q _ e
-  by_code q codes.One near e = leaves q _ e
-  by_code q codes.Push near e = leaves q _ e
-  by_code q codes.Noop near e = leaves q _ e
-  by_code q codes.Add near e = by_cells q _ e
-  by_code q codes.Subt near e = by_cells q _ e
-  by_code q codes.Less near e = by_cells q _ e
-  by_code q codes.Greq near e = by_cells q _ e
-  by_code q codes.Grtr near e = by_cells q _ e
-  by_code q codes.Lseq near e = by_cells q _ e
-  by_code q codes.Equl near e = by_cells q _ e
-  by_code q codes.Neql near e = by_cells q _ e
-  by_code q codes.Dlet near e = by_cells q _ e
-  by_code q codes.Exch near e = by_cells q _ e
-  by_code q codes.Dupl near e = by_cells q _ e
-  by_code q _ near e = absurd (let z : ⊥ = cc in z)
+  -- an operator that goes on behind it
+  pub straight_leaves : (q : Place) → Goes_to q → (op : Op) → is_straight op ≡ true → row op (here m t q) ≡ Ok (Goes job printed touched) → LeavesCells
+  straight_leaves q goes (Namc couple) near e = leaves q goes _ e
+  straight_leaves q goes (Lt8 n) near e = leaves q goes _ e
+  straight_leaves q goes (Lt16 n) near e = leaves q goes _ e
+  straight_leaves q goes (Lt48 bits) near e = leaves q goes _ e
+  straight_leaves q goes (Plain code) near e = by_code q goes code (not-true _ near) e
+  straight_leaves q goes _ near e = absurd (let z : ⊥ = cc in z)
 
-  pub near_leaves : (q : Place) (op : Op) → is_far op ≡ false → row op (here m t q) ≡ Ok (Goes job printed touched) → LeavesCells
-  near_leaves q (Namc couple) near e = leaves q _ e
-  near_leaves q (Lt8 n) near e = leaves q _ e
-  near_leaves q (Lt16 n) near e = leaves q _ e
-  near_leaves q (Lt48 bits) near e = leaves q _ e
-  near_leaves q (Brun target) near e = leaves target _ e
-  near_leaves q (Brtr target) near e = by_branch true q target (cells t) e
-  near_leaves q (Brfl target) near e = by_branch false q target (cells t) e
-  near_leaves q (Plain code) near e = by_code q code near e
-  near_leaves q (Valc couple) near e = absurd (let z : ⊥ = cc in z)
-  near_leaves q (Mpcw bits) near e = absurd (let z : ⊥ = cc in z)
-  near_leaves q (Bset n) near e = absurd (let z : ⊥ = cc in z)
-  near_leaves q (Brst n) near e = absurd (let z : ⊥ = cc in z)
-  near_leaves q (Isol high width) near e = absurd (let z : ⊥ = cc in z)
-  near_leaves q (Insr high width) near e = absurd (let z : ⊥ = cc in z)
+  either : (q target : Place) → Goes_to q → Goes_to target → (b : Bool) → Goes_to (if b then target else q)
+  either q target goes taken true = taken
+  either q target goes taken false = goes
+
+  by_taken : (wanted : Bool) (q target : Place) → Goes_to q → Goes_to target → (cs : List Word) → branch_if wanted (here m t q) cs target ≡ Ok (Goes job printed touched) → LeavesCells
+  by_taken wanted q target goes taken [] e = absurd (let z : ⊥ = cc in z)
+  by_taken wanted q target goes taken (a ∷ rest) e = by_operand (operand a) _ (λ n k. leaves _ (either q target goes taken _) rest k) e
+
+  -- a branch
+  pub branch_leaves : (always wanted : Bool) (q target : Place) → Goes_to q → Goes_to target → row (branch_op always wanted target) (here m t q) ≡ Ok (Goes job printed touched) → LeavesCells
+  branch_leaves true wanted q target goes taken e = leaves target taken _ e
+  branch_leaves false true q target goes taken e = by_taken true q target goes taken (cells t) e
+  branch_leaves false false q target goes taken e = by_taken false q target goes taken (cells t) e
+
+  -- any near one
+  pub near_leaves : ((p : Place) → Goes_to p) → (q : Place) (op : Op) → is_far op ≡ false → row op (here m t q) ≡ Ok (Goes job printed touched) → LeavesCells
+  near_leaves goes q (Namc couple) near e = leaves q (goes q) _ e
+  near_leaves goes q (Lt8 n) near e = leaves q (goes q) _ e
+  near_leaves goes q (Lt16 n) near e = leaves q (goes q) _ e
+  near_leaves goes q (Lt48 bits) near e = leaves q (goes q) _ e
+  near_leaves goes q (Brun target) near e = leaves target (goes target) _ e
+  near_leaves goes q (Brtr target) near e = by_taken true q target (goes q) (goes target) (cells t) e
+  near_leaves goes q (Brfl target) near e = by_taken false q target (goes q) (goes target) (cells t) e
+  near_leaves goes q (Plain code) near e = by_code q (goes q) code near e
+  near_leaves goes q (Valc couple) near e = absurd (let z : ⊥ = cc in z)
+  near_leaves goes q (Mpcw bits) near e = absurd (let z : ⊥ = cc in z)
+  near_leaves goes q (Bset n) near e = absurd (let z : ⊥ = cc in z)
+  near_leaves goes q (Brst n) near e = absurd (let z : ⊥ = cc in z)
+  near_leaves goes q (Isol high width) near e = absurd (let z : ⊥ = cc in z)
+  near_leaves goes q (Insr high width) near e = absurd (let z : ⊥ = cc in z)
 
 -- ---- descriptors
 
@@ -149,7 +174,7 @@ module _ (x : Storage) (old new : Cpu) (plan : Placement) (s : Session) (m : Ses
   abbrev member : SessionJob
   member = record m { progress = record m.progress { job = job } }
 
-  found_member : IsRunning plan (with_job s m job).jobs member (task_with t cs q)
+  pub found_member : IsRunning plan (with_job s m job).jobs member (task_with t cs q)
   found_member = record {
     member = keyed-change_same number_of m.constants.number (λ (y : SessionJob). record y { progress = record m.progress { job = job } }) (λ y. refl) s.jobs m runs.member;
     task = change_found (λ (u : Task). u.number) t.number t (task_with t cs q) m.progress.job.tasks refl runs.task;
@@ -182,16 +207,51 @@ module _ (x : Storage) (old new : Cpu) (plan : Placement) (s : Session) (m : Ses
       ap (slice_get new.core) at ∙ (stands.holds.memory.objects object there).home
       ∙ ap (λ (n : ℕ). Some (seg_word (record { present = d.present; words = n; address = d.address }))) (ap length (sym code-is))
 
--- a near operator that was made leaves the running segment's descriptor
-pub holds_on : (old new : Cpu) (desc : SegDesc) (r : RunsSome old) (op : Op) (q : Place) → is_far op ≡ false → HoldsCode old desc → IsMade r.storage r.plan r.session r.member old new (row op (here r.member r.task q)) → HoldsCode new desc
-holds_on old new desc r op q near code k x plan s m t ordered h runs =
-    let given = code r.storage r.plan r.session r.member r.task r.ordered r.stands r.running in
-    let l = near_leaves r.member r.task k.job [] k.touched q op near k.is in
-    let S : Job → Type 0 = λ j. RepresentsSessionBut (objects_gone r.plan r.member k.job) r.storage new r.plan (with_job r.session r.member j) in
-    let before_is = word_after r.storage old new r.plan r.session r.member r.task r.ordered r.stands r.running (objects_gone r.plan r.member k.job) l.cells l.place (subst S l.is k.stands) in
-    let now_is = word-is x new plan s m t ordered h runs in
-    let one : seg_word (code_desc r.storage r.plan r.member r.task) ≡ seg_word (code_desc x plan m t) = same_Some _ _ (sym before_is ∙ now_is) in
-    (given.0 ∙ same_desc (code_desc r.storage r.plan r.member r.task) (code_desc x plan m t) (desc-fits r.storage old r.plan r.session r.member r.task r.ordered r.stands r.running) (desc-fits x new plan s m t ordered h runs) one, given.1)
+  contents-words : (tag : ℕ) (ns : List ℕ) → contents (map (word tag) ns) ≡ ns
+  contents-words tag [] = refl
+  contents-words tag (n ∷ ns) = ap (λ ms. n ∷ ms) (contents-words tag ns)
+
+  -- and so do its words
+  pub words_after : (desc : SegDesc) (words : List Tagged) → GivesSegment x plan m t (Some desc) → words ≡ slice_range new.core desc.address (desc.address + desc.words) → contents words ≡ code_of m.constants t.segment
+  words_after desc words given is =
+      let C : Option ℕ → Type 0 = λ o. Content x new.core object o (code_held x plan m t).chain in
+      let up = (subst C (present x old plan s m t ordered h runs desc given.0 given.1) (stands.holds.memory.objects object there).content).0 in
+      let n : desc.words ≡ length (map (word 3) segment.0.code) = ap (λ (d : SegDesc). d.words) given.0 ∙ ap length code-is ∙ sym (length-map segment.0.code (word 3)) in
+      ap contents (is ∙ upward-range new.core desc.address desc.words (map (word 3) segment.0.code) n up) ∙ contents-words 3 segment.0.code ∙ sym code-is
+
+-- ---- what stays
+
+module _ (old new : Cpu) (desc : SegDesc) (r : RunsSome old) (answer : Answer Done) (k : IsMade r.storage r.plan r.session r.member old new answer) (Goes_to : Place → Type 0)
+    (l : LeavesCells r.member r.task k.job [] k.touched Goes_to) (code : HoldsCode old desc) where
+  abbrev left : List PagedObject
+  left = objects_gone r.plan r.member k.job
+
+  shows : RepresentsSessionBut left r.storage new r.plan (with_job r.session r.member (with_task r.member.progress.job (task_with r.task l.cells l.place)))
+  shows = let S : Job → Type 0 = λ j. RepresentsSessionBut left r.storage new r.plan (with_job r.session r.member j) in subst S l.is k.stands
+
+  given : GivesSegment r.storage r.plan r.member r.task (Some desc)
+  given = code r.storage r.plan r.session r.member r.task r.ordered r.stands r.running
+
+  -- the running segment's descriptor
+  pub holds_on : HoldsCode new desc
+  holds_on x plan s m t ordered h runs =
+      let before_is = word_after r.storage old new r.plan r.session r.member r.task r.ordered r.stands r.running left l.cells l.place shows in
+      let now_is = word-is x new plan s m t ordered h runs in
+      let one : seg_word (code_desc r.storage r.plan r.member r.task) ≡ seg_word (code_desc x plan m t) = same_Some _ _ (sym before_is ∙ now_is) in
+      (given.0 ∙ same_desc (code_desc r.storage r.plan r.member r.task) (code_desc x plan m t) (desc-fits r.storage old r.plan r.session r.member r.task r.ordered r.stands r.running) (desc-fits x new plan s m t ordered h runs) one, given.1)
+
+  -- its code
+  pub code_on : (x : Storage) (plan : Placement) (s : Session) (m : SessionJob) (t : Task) → IsInOrderButCounts s → RepresentsSession x new plan s → IsRunning plan s.jobs m t → code_of r.member.constants r.task.segment ≡ code_of m.constants t.segment
+  code_on x plan s m t ordered h runs =
+      let now = holds_on x plan s m t ordered h runs in
+      let words : List Tagged = slice_range new.core desc.address (desc.address + desc.words) in
+      let length-is : words ≡ slice_range new.core desc.address (desc.address + length (code_of m.constants t.segment)) = ap (λ (n : ℕ). slice_range new.core desc.address (desc.address + n)) (ap (λ (d : SegDesc). d.words) now.0) in
+      sym (words_after r.storage old new r.plan r.session r.member r.task r.ordered r.stands r.running left l.cells l.place shows desc words given refl)
+      ∙ code-read x new plan s m t ordered h runs desc.address words (present x new plan s m t ordered h runs desc now.0 now.1) length-is
+
+  -- where the task goes on
+  pub place_on : new.regs.place ≡ l.place
+  place_on = (shows.holds.running _ _ (found_member r.storage old new r.plan r.session r.member r.task r.ordered r.stands r.running left l.cells l.place shows)).place
 
 -- and so it is after any answer
 pub code_after : (old new : Cpu) (desc : SegDesc) (r : RunsSome old) (op : Op) (q : Place) (answered : Step) → is_far op ≡ false → HoldsCode old desc
@@ -201,8 +261,38 @@ code_after old new desc r op q answered near code rows = by answered (rows r.sto
   kept same = subst (λ (z : Cpu). HoldsCode z desc) (sym same) code
 
   by : (a : Step) → CallsOrMeets r.storage r.plan r.session r.member a old new (called op (here r.member r.task q)) (row op (here r.member r.task q)) → HoldsCode new desc
-  by answers.Done i = holds_on old new desc r op q near code (made_near r.storage r.plan r.session r.member old new (called op (here r.member r.task q)) (row op (here r.member r.task q)) i)
+  by answers.Done i =
+      let k = made_near r.storage r.plan r.session r.member old new (called op (here r.member r.task q)) (row op (here r.member r.task q)) i in
+      holds_on old new desc r (row op (here r.member r.task q)) k (λ p. Unit {0}) (near_leaves r.member r.task k.job [] k.touched (λ p. Unit {0}) (λ p. tt) q op near k.is) code
   by (answers.Absent found) i = kept (unmade r.storage r.plan r.session r.member (answers.Absent found) old new (called op (here r.member r.task q)) (row op (here r.member r.task q)) (λ e. cc) i)
   by (answers.Call n) i = kept (unmade r.storage r.plan r.session r.member (answers.Call n) old new (called op (here r.member r.task q)) (row op (here r.member r.task q)) (λ e. cc) i)
   by (answers.Fault fault) i = kept (unmade r.storage r.plan r.session r.member (answers.Fault fault) old new (called op (here r.member r.task q)) (row op (here r.member r.task q)) (λ e. cc) i)
   by answers.Ended i = kept (unmade r.storage r.plan r.session r.member answers.Ended old new (called op (here r.member r.task q)) (row op (here r.member r.task q)) (λ e. cc) i)
+
+-- a near operator leaves no activation record and calls no intrinsic
+code_stays : (code : Code) → goes_far code ≡ false → is_leaving (Plain code) ≡ false
+code_stays codes.Exit near = absurd (let z : ⊥ = cc in z)
+code_stays codes.Retn near = absurd (let z : ⊥ = cc in z)
+code_stays _ near = refl
+
+pub straight_stays : (op : Op) → is_straight op ≡ true → is_leaving op ≡ false
+straight_stays (Plain code) near = code_stays code (not-true _ near)
+straight_stays _ near = refl
+
+code_calls : (code : Code) → goes_far code ≡ false → (h : OperatorContext) → called (Plain code) h ≡ None
+code_calls codes.Entr near h = absurd (let z : ⊥ = cc in z)
+code_calls _ near h = refl
+
+pub straight_calls : (op : Op) → is_straight op ≡ true → (h : OperatorContext) → called op h ≡ None
+straight_calls (Plain code) near h = code_calls code (not-true _ near) h
+straight_calls _ near h = refl
+
+pub branch_stays : (always wanted : Bool) (target : Place) → is_leaving (branch_op always wanted target) ≡ false
+branch_stays true wanted target = refl
+branch_stays false true target = refl
+branch_stays false false target = refl
+
+pub branch_calls : (always wanted : Bool) (target : Place) (h : OperatorContext) → called (branch_op always wanted target) h ≡ None
+branch_calls true wanted target h = refl
+branch_calls false true target h = refl
+branch_calls false false target h = refl

@@ -2,3 +2,4 @@ pub mod Procedures
 pub mod Stores
 pub mod Operators
 pub mod Near
+pub mod Firsts

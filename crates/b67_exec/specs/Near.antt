@@ -1,10 +1,96 @@
--- The code that a near operator is read in.
-use Rattle.std.specs.Prelude.{Some}
+-- The code of the running segment, and a reader of it.
+use Rattle.std.specs.Prelude.{◌≡◌, ◌≢◌, ◌⊎◌, ℕ, Bool, true, false, not, ◌+◌, ◌-◌, ◌*◌, ◌%◌, ◌^◌, ◌<◌, ◌≤◌, List, length, slice_index, Some, Ok}
 use Rattle.b67_ctl.specs.declared.descriptors.SegDesc.{SegDesc}
+use Rattle.b67_word.specs.declared.couples.Place.{Place}
+use Rattle.b67_model.specs.declared.operators.Op.{Op}
+use Rattle.b67_model.specs.declared.operators.Op.TheVariants.{Namc, Lt8, Lt16, Lt48, Plain, Brun, Brtr, Brfl}
+use Rattle.b67_model.specs.declared.operators.Code.{Code}
+use Rattle.b67_model.specs.declared.operators.Code.TheVariants as codes
+use Rattle.b67_arith.specs.declared.numerics.Numeric.{Numeric}
+use Rattle.b67_arith.specs.declared.numerics.Numeric.TheVariants as numeric
+use Rattle.b67_model.specs.Operators.{count_at, Reading}
+use Rattle.b67_model.specs.Rows.{code_of, reading_of}
 use Rattle.b67_stack.specs.declared.Cpu.{Cpu}
+use Rattle.b67_stack.specs.declared.Step.{Step}
+use Rattle.b67_stack.specs.declared.Step.TheVariants.{Done}
 use Rattle.b67_layout.specs.Meets.{ForEach}
 use Rattle.b67_exec_cells.specs.Running.{GivesSegment}
+use Rattle.b67_exec.specs.Operators.{goes_far, OperatorMeets, leaves_record}
+use Rattle.b67_exec.specs.declared.reader.Reader.{Reader}
 
 -- the running segment is present, and this is its descriptor
 abbrev pub HoldsCode : Cpu → SegDesc → Type 0
 HoldsCode cpu desc = ForEach cpu (λ x plan s m t. GivesSegment x plan m t (Some desc))
+
+-- a reader stands at a syllable of code: it has the syllables of the word from this one on
+pub record ReaderAt (r : Reader) (code : List ℕ) (n : ℕ) : Type 0 where
+  pub some : 1 ≤ r.left
+  pub few : r.left ≤ 6
+  pub at : n + r.left ≡ 6 * r.word + 6
+  pub inside : r.word < length code
+  pub bits : r.bits ≡ slice_index code r.word % 2 ^ (8 * r.left) * 2 ^ (64 - 8 * r.left)
+
+-- a reader of the running segment stands so many syllables behind the running place
+pub record ReaderBehind (cpu : Cpu) (r : Reader) (n : ℕ) : Type 0 where
+  pub code : HoldsCode cpu r.code
+  pub in_word : cpu.regs.place.syllable < 6
+  pub at : ForEach cpu (λ x plan s m t. ReaderAt r (code_of m.constants t.segment) (count_at t.place + n))
+
+-- the place of a reader's syllable
+abbrev pub reader_place : Reader → Place
+reader_place r = record { word = r.word; syllable = 6 - r.left }
+
+-- the operator at the running place was read, and a reader stands behind it
+pub record ReadsThrough (cpu : Cpu) (op : Op) (next : Reader) : Type 0 where
+  pub reads : ForEach cpu (λ x plan s m t. ◌≡◌ {A = Reading} (Ok (op, reader_place next)) (reading_of m.constants t))
+  pub length : ℕ
+  pub stands : ReaderBehind cpu next length
+
+-- the near operators that aren't branches: the task goes on behind them
+abbrev pub is_straight : Op → Bool
+is_straight (Plain code) = not (goes_far code)
+is_straight (Namc couple) = true
+is_straight (Lt8 n) = true
+is_straight (Lt16 n) = true
+is_straight (Lt48 bits) = true
+is_straight _ = false
+
+-- after an operator that was made the reader stands behind it
+abbrev pub WentOn : Step → Bool → Reader → Reader → Reader → Type 0
+WentOn step true before next after = (step ≡ Done) × (after ≡ next)
+WentOn step false before next after = (step ≢ Done) × (after ≡ before)
+
+-- an operator that leaves no activation record was made, and the reader stands where the task goes on
+pub record NearMade (old new : Cpu) (after : Reader) : Type 0 where
+  pub row : ForEach old (λ x plan s m t. OperatorMeets x plan s m t Done old new)
+  pub left : ForEach old (λ x plan s m t. leaves_record (reading_of m.constants t) ≡ false)
+  pub stands : ReaderBehind new after 0
+
+-- that, or nothing was changed
+abbrev pub MadeNear : Cpu → Reader → Bool → Cpu → Reader → Type 0
+MadeNear old before true new after = NearMade old new after
+MadeNear old before false new after = (new ≡ old) × (after ≡ before)
+
+-- of two readers the one at a branch's target, if the task went on there, else the one behind the branch
+abbrev pub IsEitherReader : Place → Place → Reader → Reader → Reader → Type 0
+IsEitherReader now target aim next reader = ((now ≡ target) × (reader ≡ aim)) ⊎ ((now ≢ target) × (reader ≡ next))
+
+-- the operators on two numbers, those that push nothing, and branches
+abbrev pub code_of_numbers : Numeric → Code
+code_of_numbers numeric.Add = codes.Add
+code_of_numbers numeric.Subt = codes.Subt
+code_of_numbers numeric.Less = codes.Less
+code_of_numbers numeric.Greq = codes.Greq
+code_of_numbers numeric.Grtr = codes.Grtr
+code_of_numbers numeric.Lseq = codes.Lseq
+code_of_numbers numeric.Equl = codes.Equl
+code_of_numbers numeric.Neql = codes.Neql
+
+abbrev pub resting_code : Bool → Code
+resting_code true = codes.Push
+resting_code false = codes.Noop
+
+abbrev pub branch_op : Bool → Bool → Place → Op
+branch_op true wanted = Brun
+branch_op false true = Brtr
+branch_op false false = Brfl

@@ -1,7 +1,6 @@
 -- The array that a word leads to.
-use Rattle.std.proofs.Common.{◌≡◌, ◌≢◌, ℕ, List, Ok, Err, Some, refl, sym, ◌∙◌, ap, true, false, subst}
+use Rattle.std.proofs.Common.{◌≡◌, ◌≢◌, ℕ, List, Ok, Err, refl, sym, ◌∙◌, ap, true, false, subst}
 use Rattle.std.proofs.lemmas.Bool.{true≢false, false≢true}
-use Rattle.std.proofs.lemmas.Option.{same_Some}
 use Rattle.b67_word.specs.Tagged.{Tagged}
 use Rattle.b67_word.specs.declared.couples.Place.{Place}
 use Rattle.b67_word.specs.declared.faults.Fault.{Fault}
@@ -89,8 +88,8 @@ module _ (x : Storage) (cpu : Cpu) (plan : Placement) (s : Session) (m : Session
   desc = described cpu.core cpu.regs (live_of (here_scene x cpu plan s m t ordered h runs)) i.at i.owner w v (followed_stands x cpu plan s m t ordered h runs w v i) five
 
   -- the one that is read
-  pub desc_is : (d : DataDesc) → IsDataDesc d → w ≡ data_word d → ((e : DataDesc) → IsDataDesc e → w ≡ data_word e → Some d ≡ Some e) → Desc d
-  desc_is d fits is known = subst Desc (sym (same_Some d desc.0 (known desc.0 desc.1 desc.2))) desc.3
+  pub desc_is : (d : DataDesc) → ((e : DataDesc) → IsDataDesc e → w ≡ data_word e → d ≡ e) → Desc d
+  desc_is d read = subst Desc (sym (read desc.0 desc.1 desc.2)) desc.3
 
   pub row_copied : (d : DataDesc) → Desc d → d.copy ≡ true → d.indexed ≡ false → (home : ℕ) × IsCopyOf cpu.core d home
   row_copied d (own b e c k o) z y = absurd (false≢true (sym c ∙ z))

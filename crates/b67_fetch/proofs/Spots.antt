@@ -1,15 +1,17 @@
 -- The spot of a frame by the address of its mark.
-use Rattle.std.proofs.Common.{◌≡◌, ◌≢◌, ℕ, ◌+◌, ◌-◌, ◌*◌, ◌/◌, ◌%◌, ◌<◌, ◌≤◌, ◌^◌, List, [], ◌∷◌, length, Some, sym, ◌∙◌, ap, arith}
+use Rattle.std.proofs.Common.{◌≡◌, ◌≢◌, ℕ, ◌+◌, ◌-◌, ◌*◌, ◌/◌, ◌%◌, ◌<◌, ◌≤◌, ◌^◌, List, [], ◌∷◌, length, find, option_map, unwrap_or, Option, None, Some, refl, sym, ◌∙◌, ap, arith}
 use Rattle.std.specs.List.{slice_get}
 use Rattle.std.proofs.lemmas.Nat.{div-mul-add, mod-mul-add}
 use Rattle.std.proofs.lemmas.Option.{same_Some, slice_get_within}
-use Rattle.b67_word.specs.Tagged.{Tagged, bits_at}
+use Rattle.b67_word.specs.Tagged.{Tagged}
 use Rattle.b67_ctl.specs.declared.registers.Regs.{Regs}
 use Rattle.b67_ctl.specs.declared.references.Sirw.{Sirw}
-use Rattle.b67_model.specs.Common.{NamesEntered, reach_of, height, number_of}
+use Rattle.b67_ctl.specs.declared.vector.VectorWord.{VectorWord}
+use Rattle.b67_ctl.specs.Vector.{task_word, IsVectorWord}
+use Rattle.b67_model.specs.Common.{NamesEntered, reach_of, height, number_of, SessionJob}
 use Rattle.b67_stack.specs.Stacks.{StackPlace}
-use Rattle.b67_layout.specs.Placement.{Placement}
-use Rattle.b67_layout.specs.Session.{vector_word}
+use Rattle.b67_layout.specs.Placement.{Placement, Slotted, is_row_of, slot_of}
+use Rattle.b67_layout.specs.Session.{RowsFit, vector_word}
 use Rattle.b67_refer.specs.RunningContext.{RunningContext, live_of}
 use Rattle.b67_refer.specs.Cells.{view, frame_at_core}
 use Rattle.b67_refer.proofs.Seats.{seat}
@@ -17,13 +19,19 @@ use Rattle.b67_refer.proofs.Bases.{stacks_is, size_is}
 use Rattle.b67_refer.proofs.Marks.{view_low}
 use Rattle.b67_refer.proofs.Rule.{seat_address}
 use Rattle.b67_refer.proofs.Unders.{seat_low, high_address, is_mcp, is_dictionary, is_task}
-use Rattle.b67_lemmas.proofs.Members.{keyed_has}
+use Rattle.b67_lemmas.proofs.Members.{keyed_has, found-has}
 
-vector_job : (plan : Placement) (j : ℕ) (parents : List ℕ) → j < 16 → bits_at (vector_word plan j parents) 16 4 ≡ j
-vector_job plan j parents small = by parents where
-  by : (ps : List ℕ) → bits_at (vector_word plan j ps) 16 4 ≡ j
-  by [] = omega arith
-  by (p ∷ more) = omega arith
+-- the slot that a word of the vector names fits its field
+slot_fits : (plan : Placement) (jobs : List SessionJob) (j n : ℕ) → RowsFit plan jobs → plan.peak ≤ 120 → slot_of plan j n < 2 ^ 10
+slot_fits plan jobs j n fit few = by (find (is_row_of j n) plan.rows) refl where
+  by : (o : Option Slotted) → find (is_row_of j n) plan.rows ≡ o → unwrap_or (option_map (λ (r : Slotted). r.slot) o) 255 < 2 ^ 10
+  by None e = omega arith
+  by (Some r) e = omega (arith, fit.below r (found-has (is_row_of j n) plan.rows r e).0, few)
+
+-- the word of a live task in the vector has fields that fit
+vector_fields : (plan : Placement) (jobs : List SessionJob) (j : ℕ) (parents : List ℕ) → RowsFit plan jobs → plan.peak ≤ 120 → j < 2 ^ 4 → (v : VectorWord) × IsVectorWord v × (vector_word plan j parents ≡ task_word v) × (v.job ≡ j)
+vector_fields plan jobs j [] fit few small = (record { parent = 1023; job = j }, record { parent = omega arith; job = small }, refl, refl)
+vector_fields plan jobs j (p ∷ more) fit few small = (record { parent = slot_of plan j p; job = j }, record { parent = slot_fits plan jobs j p fit few; job = small }, refl, refl)
 
 module _ (core : List Tagged) (r : Regs) (a : RunningContext core r) (f base offset : ℕ) (n : NamesEntered (reach_of a.member.progress.job a.task) f) (e : base ≡ frame_at_core a f) where
   pub at_mcp : base ≡ 0 → ◌≡◌ {A = Sirw} (record { stack = 136; disp = 0; offset = offset }) (record { stack = (view a f).stack; disp = (view a f).disp; offset = offset })
@@ -42,12 +50,12 @@ module _ (core : List Tagged) (r : Regs) (a : RunningContext core r) (f base off
   pub vector_inside : 32 + r.slot < length core
   vector_inside = slice_get_within core (32 + r.slot) (vector_word a.plan a.member.constants.number a.task.parents) vector_at
 
-  pub job_is : (w : Tagged) (job : ℕ) → slice_get core (32 + r.slot) ≡ Some w → job ≡ bits_at w 16 4 → (job ≡ a.member.constants.number) × (job ≤ 8)
-  job_is w job got is =
+  pub job_is : (w : Tagged) (v : VectorWord) → slice_get core (32 + r.slot) ≡ Some w → ((e : VectorWord) → IsVectorWord e → w ≡ task_word e → v ≡ e) → v.job ≡ a.member.constants.number
+  job_is w v got read =
       let few = a.ordered.few in
       let same : w ≡ vector_word a.plan a.member.constants.number a.task.parents = same_Some _ _ (sym got ∙ vector_at) in
-      let j : job ≡ a.member.constants.number = is ∙ ap (λ (v : Tagged). bits_at v 16 4) same ∙ vector_job a.plan a.member.constants.number a.task.parents (omega (arith, few)) in
-      (j, omega (arith, j, few))
+      let (e, fits, is, job) = vector_fields a.plan a.session.jobs a.member.constants.number a.task.parents a.holds.fits.rows a.holds.fits.few (omega (arith, few)) in
+      ap (λ (z : VectorWord). z.job) (read e fits (same ∙ is)) ∙ job
 
   pub at_dictionary : (job : ℕ) → base ≢ 0 → base ≡ r.dict → job ≡ a.member.constants.number → ◌≡◌ {A = Sirw} (record { stack = 127 + job; disp = 0; offset = offset }) (record { stack = (view a f).stack; disp = (view a f).disp; offset = offset })
   at_dictionary job some at j =

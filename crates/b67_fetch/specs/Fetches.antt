@@ -8,6 +8,7 @@ use Rattle.b67_model.specs.Chase as Chase
 use Rattle.b67_refer.specs.declared.ends.End.{End}
 use Rattle.b67_refer.specs.declared.ends.End.TheVariants as end
 use Rattle.b67_stack.specs.declared.Cpu.{Cpu}
+use Rattle.b67_stack.specs.declared.TheConstants.{PROCEDURE}
 use Rattle.b67_stack.specs.declared.Step.{Step}
 use Rattle.b67_stack.specs.declared.Step.TheVariants as step
 use Rattle.b67_stack.specs.Represents.{Storage}
@@ -66,9 +67,9 @@ abbrev pub enters_at : Answer Chase.End → Bool
 enters_at (Ok end) = is_procedure_end end
 enters_at (Err fault) = false
 
--- an operator that may enter a procedure: where it does it answers 255, and nothing has changed. Else it is made by its row
+-- an operator that may enter a procedure: where it does it answers PROCEDURE, and nothing has changed. Else it is made by its row
 abbrev pub EntersOrMeets : Storage → Placement → Session → SessionJob → Step → Cpu → Cpu → Bool → Answer Done → Type 0
-EntersOrMeets x plan s m answered old new true answer = (answered ≡ step.Call 255) × (new ≡ old)
+EntersOrMeets x plan s m answered old new true answer = (answered ≡ step.Call PROCEDURE) × (new ≡ old)
 EntersOrMeets x plan s m answered old new false answer = Meets x plan s m answered old new answer
 
 -- the end of the top one of some cells

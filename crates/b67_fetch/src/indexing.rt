@@ -45,15 +45,11 @@ fn array_of(cpu: &Cpu, w: Word) -> Result<u32, Fault>
             Err(fault) => Err(fault),
         };
     }
-    match DataDesc::from_word(w) {
-        Some(copy) => {
-            if copy.copy && !copy.indexed {
-                Ok(owner(&cpu.core, copy))
-            } else {
-                Err(Fault::InvalidOperand)
-            }
-        }
-        None => unreachable!(),
+    let copy = DataDesc::read(w);
+    if copy.copy && !copy.indexed {
+        Ok(owner(&cpu.core, copy))
+    } else {
+        Err(Fault::InvalidOperand)
     }
 }
 

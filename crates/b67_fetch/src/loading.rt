@@ -1,6 +1,6 @@
 //! Operators that read through references.
 //!
-//! If a reference ends at a procedure, the answer is `Step::Call(255)`, with nothing changed: the caller then enters it.
+//! If a reference ends at a procedure, the answer is [`PROCEDURE`], with nothing changed: the caller then enters it.
 
 ghost use Rattle.std.specs.Prelude.{◌≡◌, ℕ, ◌+◌, ◌^◌, ◌<◌, ◌≤◌, List, ◌++◌, ◌∷◌, length, Some};
 ghost use Rattle.b67_word.specs.declared.couples.Place.{Place};
@@ -19,7 +19,7 @@ ghost use Rattle.b67_fetch.specs.Fetches.{IsFollowed, MayFollow, IsEnd, FindsEnd
 use b67_ctl::Irw;
 use b67_exec_cells::{element, replace_cells, row_copy, top_cell};
 use b67_refer::{End, chase};
-use b67_stack::{Cpu, Step, What};
+use b67_stack::{Cpu, PROCEDURE, Step, What};
 use b67_word::{Fault, Place, Word};
 
 /// Where a word leads that the running task may follow.
@@ -32,7 +32,7 @@ fn end_of(cpu: &Cpu, w: Word) -> Result<End, Fault>
 
 /// Puts an element in the place of the `count` top cells, and goes on at `next`. STACK OVERFLOW. If the array is absent,
 /// nothing is changed.
-pub fn put_element(cpu: &mut Cpu, count: u32, original: u32, index: u32, next: Place) -> Step
+pub(crate) fn put_element(cpu: &mut Cpu, count: u32, original: u32, index: u32, next: Place) -> Step
     requires holds { HoldsElement cpu.old original index }
     requires cells { cpu.old.regs.f + count ≤ cpu.old.regs.s }
     ensures row { ForEach cpu.old (λ x plan s m t. (gone rest : List words.Word) (n : ℕ) → cells t ≡ gone ++ rest → length gone ≡ count → NoOriginals gone
@@ -63,7 +63,7 @@ fn value(cpu: &mut Cpu, count: u32, end: End, next: Place) -> Step
         }
         End::Element { original, index } => put_element(cpu, count, original, index, next),
         End::Array(_) | End::Intrinsic(_) => Step::Fault(Fault::InvalidOperand),
-        End::Proc(_) => Step::Call(255),
+        End::Proc(_) => Step::Call(PROCEDURE),
     }
 }
 

@@ -1,6 +1,6 @@
 //! Operators that store through references.
 //!
-//! If a reference ends at a procedure, the answer is `Step::Call(255)`, with nothing changed: the caller then enters it.
+//! If a reference ends at a procedure, the answer is [`PROCEDURE`], with nothing changed: the caller then enters it.
 
 ghost use Rattle.std.specs.Prelude.{◌≡◌, ℕ, ◌+◌, ◌-◌, ◌<◌, ◌≤◌, length, true, false};
 ghost use Rattle.b67_model.specs.Steps.{cells_of};
@@ -12,7 +12,7 @@ ghost use Rattle.b67_fetch.specs.Stores.{store_end, ElementAt, stored};
 
 use b67_exec_cells::{array_descriptor, two_cells};
 use b67_refer::{End, chase};
-use b67_stack::{Cpu, Step, What};
+use b67_stack::{Cpu, PROCEDURE, Step, What};
 use b67_word::{Fault, Place, Word};
 
 /// The core address of an element that is to be stored into. Else what the operator answers: MEMORY PROTECT if the
@@ -78,7 +78,7 @@ fn store(cpu: &mut Cpu, keeps: bool, next: Place) -> Step
             Err(step) => return step,
         },
         End::Array(_) | End::Intrinsic(_) => return Step::Fault(Fault::MemoryProtect),
-        End::Proc(_) => return Step::Call(255),
+        End::Proc(_) => return Step::Call(PROCEDURE),
     };
     put(cpu, at, value, keeps, next);
     Step::Done

@@ -9,7 +9,7 @@ ghost use Rattle.b67_refer.specs.RunningContext.{RunningContext};
 ghost use Rattle.b67_refer.specs.Cells.{reach, view, frame_at_core};
 
 use b67_core::Core;
-use b67_ctl::{Irw, Regs, Sirw};
+use b67_ctl::{DICTIONARY_STACKS, Irw, MCP_STACK, Regs, STACK_VECTOR, Sirw, VectorWord};
 use b67_exec_cells::{branch_to, replace_cells, top_cell};
 use b67_refer::cell_of;
 use b67_stack::{Cpu, Step};
@@ -26,15 +26,15 @@ fn stuffed(core: &Core, regs: &Regs, base: u32, offset: u16) -> Sirw
 {
     if base == 0 {
         return Sirw {
-            stack: 136,
+            stack: MCP_STACK,
             disp: 0,
             offset,
         };
     }
     if base == regs.dict {
-        let job = core.get(32 + u32::from(regs.slot)).part(16, 4);
+        let running = VectorWord::read(core.get(STACK_VECTOR + u32::from(regs.slot)));
         return Sirw {
-            stack: 127 + job as u16,
+            stack: DICTIONARY_STACKS + u16::from(running.job),
             disp: 0,
             offset,
         };

@@ -15,37 +15,37 @@ use Rattle.b67_job.specs.Statuses.{StatusMeans}
 use Rattle.b67_job.specs.Runs.{WasOpened, memory_refused, opening_wants_core, opening_wants_sectors, opening_fails, all_end, halt_comes, step_wants_core, step_wants_sectors, step_fails, RunStops, unopened, opened, IsPrintingStep}
 use Rattle.b67_job.specs.Command.{command_line_of}
 use Rattle.b67_job.specs.declared.command.CommandLine.{CommandLine}
-use Rattle.b67_job.specs.declared.summaries.Exercise.{Exercise}
-use Rattle.b67_job.specs.Judgement.{Judgement, Runs, asked, exercise_of, reads_text}
+use Rattle.b67_job.specs.declared.summaries.Closing.{Closing}
+use Rattle.b67_job.specs.Judgement.{Judgement, Runs, asked, closing_of, reads_text}
 use Rattle.b67_job.specs.Due.{usage_text, reading_text, ReadAll, IsRun, IsDue, usage_due, refusal_due, print_due, run_due, reading_due, memory_due, Answered, answered, cut_in_step, IsAllDone, Halts, IsShortOfCore, IsShortOfSectors, IsFailedBy, TextIsRefused, IsSpared}
 use Rattle.b67_job.proofs.Status.{is_finished, is_halted}
 
 -- ---- runs
 
-module _ {B : Type 0} (d : Device B) (core : ℕ) (p : Prepared) (exercise : Option Exercise) (machine : Option Machine) (status : ℕ) (text : Text) where
-  run_is_done : status ≡ 0 → RunStops d core p exercise machine status text → IsAllDone d exercise (Runs p) machine text
+module _ {B : Type 0} (d : Device B) (core : ℕ) (p : Prepared) (closing : Closing) (machine : Option Machine) (status : ℕ) (text : Text) where
+  run_is_done : status ≡ 0 → RunStops d core p closing machine status text → IsAllDone d closing (Runs p) machine text
   run_is_done e (unopened none (memory_refused same s t)) = absurd (omega (arith, e, s))
   run_is_done e (unopened none (opening_wants_core same more s t)) = absurd (omega (arith, e, s))
   run_is_done e (unopened none (opening_wants_sectors same fits more s t)) = absurd (omega (arith, e, s))
   run_is_done e (unopened none (opening_fails room failed s t)) = absurd (omega (arith, e, s))
-  run_is_done e (opened k is opens none (all_end s h)) = ((k, is, none, h), λ tells. is_finished d p exercise k text h tells)
+  run_is_done e (opened k is opens none (all_end s h)) = ((k, is, none, h), λ tells. is_finished d p closing k text h tells)
   run_is_done e (opened k is opens none (halt_comes s h)) = absurd (omega (arith, e, s))
   run_is_done e (opened k is opens none (step_wants_core s h)) = absurd (omega (arith, e, s))
   run_is_done e (opened k is opens none (step_wants_sectors s h)) = absurd (omega (arith, e, s))
   run_is_done e (opened k is opens none (step_fails s failed h)) = absurd (omega (arith, e, s))
 
-  run_halts : status ≡ 3 → RunStops d core p exercise machine status text → Halts d p machine text
+  run_halts : status ≡ 3 → RunStops d core p closing machine status text → Halts d p closing machine text
   run_halts e (unopened none (memory_refused same s t)) = absurd (omega (arith, e, s))
   run_halts e (unopened none (opening_wants_core same more s t)) = absurd (omega (arith, e, s))
   run_halts e (unopened none (opening_wants_sectors same fits more s t)) = absurd (omega (arith, e, s))
   run_halts e (unopened none (opening_fails room failed s t)) = absurd (omega (arith, e, s))
   run_halts e (opened k is opens none (all_end s h)) = absurd (omega (arith, e, s))
-  run_halts e (opened k is opens none (halt_comes s h)) = ((k, is, none, h), λ tells. is_halted d p k text h tells)
+  run_halts e (opened k is opens none (halt_comes s h)) = (k, is, none, (h, λ tells. is_halted d p closing k text h tells))
   run_halts e (opened k is opens none (step_wants_core s h)) = absurd (omega (arith, e, s))
   run_halts e (opened k is opens none (step_wants_sectors s h)) = absurd (omega (arith, e, s))
   run_halts e (opened k is opens none (step_fails s failed h)) = absurd (omega (arith, e, s))
 
-  run_wants_core : status ≡ 4 → RunStops d core p exercise machine status text → IsShortOfCore d core p machine text
+  run_wants_core : status ≡ 4 → RunStops d core p closing machine status text → IsShortOfCore d core p machine text
   run_wants_core e (unopened none (memory_refused same s t)) = absurd (omega (arith, e, s))
   run_wants_core e (unopened none (opening_wants_core same more s t)) = inl (none, same, more, t)
   run_wants_core e (unopened none (opening_wants_sectors same fits more s t)) = absurd (omega (arith, e, s))
@@ -56,7 +56,7 @@ module _ {B : Type 0} (d : Device B) (core : ℕ) (p : Prepared) (exercise : Opt
   run_wants_core e (opened k is opens none (step_wants_sectors s h)) = absurd (omega (arith, e, s))
   run_wants_core e (opened k is opens none (step_fails s failed h)) = absurd (omega (arith, e, s))
 
-  run_wants_sectors : status ≡ 5 → RunStops d core p exercise machine status text → IsShortOfSectors d core p machine text
+  run_wants_sectors : status ≡ 5 → RunStops d core p closing machine status text → IsShortOfSectors d core p machine text
   run_wants_sectors e (unopened none (memory_refused same s t)) = absurd (omega (arith, e, s))
   run_wants_sectors e (unopened none (opening_wants_core same more s t)) = absurd (omega (arith, e, s))
   run_wants_sectors e (unopened none (opening_wants_sectors same fits more s t)) = inl (none, same, fits, more, t)
@@ -67,7 +67,7 @@ module _ {B : Type 0} (d : Device B) (core : ℕ) (p : Prepared) (exercise : Opt
   run_wants_sectors e (opened k is opens none (step_wants_sectors s h)) = inr (k, is, none, h)
   run_wants_sectors e (opened k is opens none (step_fails s failed h)) = absurd (omega (arith, e, s))
 
-  run_fails : status ≡ 6 → RunStops d core p exercise machine status text → Failed d × IsFailedBy d core p machine text
+  run_fails : status ≡ 6 → RunStops d core p closing machine status text → Failed d × IsFailedBy d core p machine text
   run_fails e (unopened none (memory_refused same s t)) = absurd (omega (arith, e, s))
   run_fails e (unopened none (opening_wants_core same more s t)) = absurd (omega (arith, e, s))
   run_fails e (unopened none (opening_wants_sectors same fits more s t)) = absurd (omega (arith, e, s))
@@ -78,7 +78,7 @@ module _ {B : Type 0} (d : Device B) (core : ℕ) (p : Prepared) (exercise : Opt
   run_fails e (opened k is opens none (step_wants_sectors s h)) = absurd (omega (arith, e, s))
   run_fails e (opened k is opens none (step_fails s failed h)) = (failed, (opens.room, inr (k, is, none, h)))
 
-  run_not_2 : status ≡ 2 → RunStops d core p exercise machine status text → ⊥
+  run_not_2 : status ≡ 2 → RunStops d core p closing machine status text → ⊥
   run_not_2 e (unopened none (memory_refused same s t)) = absurd (omega (arith, e, s))
   run_not_2 e (unopened none (opening_wants_core same more s t)) = absurd (omega (arith, e, s))
   run_not_2 e (unopened none (opening_wants_sectors same fits more s t)) = absurd (omega (arith, e, s))
@@ -89,7 +89,7 @@ module _ {B : Type 0} (d : Device B) (core : ℕ) (p : Prepared) (exercise : Opt
   run_not_2 e (opened k is opens none (step_wants_sectors s h)) = absurd (omega (arith, e, s))
   run_not_2 e (opened k is opens none (step_fails s failed h)) = absurd (omega (arith, e, s))
 
-  run_is_9 : status ≡ 9 → RunStops d core p exercise machine status text → (machine ≡ None) × DeviceUnchanged d × (text ≡ only memory_text)
+  run_is_9 : status ≡ 9 → RunStops d core p closing machine status text → (machine ≡ None) × DeviceUnchanged d × (text ≡ only memory_text)
   run_is_9 e (unopened none (memory_refused same s t)) = (none, same, t)
   run_is_9 e (unopened none (opening_wants_core same more s t)) = absurd (omega (arith, e, s))
   run_is_9 e (unopened none (opening_wants_sectors same fits more s t)) = absurd (omega (arith, e, s))
@@ -100,7 +100,7 @@ module _ {B : Type 0} (d : Device B) (core : ℕ) (p : Prepared) (exercise : Opt
   run_is_9 e (opened k is opens none (step_wants_sectors s h)) = absurd (omega (arith, e, s))
   run_is_9 e (opened k is opens none (step_fails s failed h)) = absurd (omega (arith, e, s))
 
-  run_not_8 : status ≡ 8 → RunStops d core p exercise machine status text → ⊥
+  run_not_8 : status ≡ 8 → RunStops d core p closing machine status text → ⊥
   run_not_8 e (unopened none (memory_refused same s t)) = absurd (omega (arith, e, s))
   run_not_8 e (unopened none (opening_wants_core same more s t)) = absurd (omega (arith, e, s))
   run_not_8 e (unopened none (opening_wants_sectors same fits more s t)) = absurd (omega (arith, e, s))
@@ -111,7 +111,7 @@ module _ {B : Type 0} (d : Device B) (core : ℕ) (p : Prepared) (exercise : Opt
   run_not_8 e (opened k is opens none (step_wants_sectors s h)) = absurd (omega (arith, e, s))
   run_not_8 e (opened k is opens none (step_fails s failed h)) = absurd (omega (arith, e, s))
 
-  run_not_7 : status ≡ 7 → RunStops d core p exercise machine status text → ⊥
+  run_not_7 : status ≡ 7 → RunStops d core p closing machine status text → ⊥
   run_not_7 e (unopened none (memory_refused same s t)) = absurd (omega (arith, e, s))
   run_not_7 e (unopened none (opening_wants_core same more s t)) = absurd (omega (arith, e, s))
   run_not_7 e (unopened none (opening_wants_sectors same fits more s t)) = absurd (omega (arith, e, s))
@@ -122,7 +122,7 @@ module _ {B : Type 0} (d : Device B) (core : ℕ) (p : Prepared) (exercise : Opt
   run_not_7 e (opened k is opens none (step_wants_sectors s h)) = absurd (omega (arith, e, s))
   run_not_7 e (opened k is opens none (step_fails s failed h)) = absurd (omega (arith, e, s))
 
-  run_not_1 : status ≡ 1 → RunStops d core p exercise machine status text → ⊥
+  run_not_1 : status ≡ 1 → RunStops d core p closing machine status text → ⊥
   run_not_1 e (unopened none (memory_refused same s t)) = absurd (omega (arith, e, s))
   run_not_1 e (unopened none (opening_wants_core same more s t)) = absurd (omega (arith, e, s))
   run_not_1 e (unopened none (opening_wants_sectors same fits more s t)) = absurd (omega (arith, e, s))
@@ -134,7 +134,7 @@ module _ {B : Type 0} (d : Device B) (core : ℕ) (p : Prepared) (exercise : Opt
   run_not_1 e (opened k is opens none (step_fails s failed h)) = absurd (omega (arith, e, s))
 
   -- without a machine
-  run_spares : {S : Type 0} {words : List (Bor (List ℕ))} {left : S → Option (List ℕ)} {deck deck' : S} → IsRun words left deck deck' core p → machine ≡ None → RunStops d core p exercise machine status text
+  run_spares : {S : Type 0} {words : List (Bor (List ℕ))} {left : S → Option (List ℕ)} {deck deck' : S} → IsRun words left deck deck' core p → machine ≡ None → RunStops d core p closing machine status text
       → IsSpared words left deck deck' d
   run_spares run none (unopened _ (memory_refused same s t)) = inl same
   run_spares run none (unopened _ (opening_wants_core same more s t)) = inl same
@@ -143,7 +143,7 @@ module _ {B : Type 0} (d : Device B) (core : ℕ) (p : Prepared) (exercise : Opt
   run_spares run none (opened k is opens zero stops) = absurd (none-some k (sym none ∙ is))
 
   -- with one, of a session that was opened
-  run_opened : (k : Machine) → machine ≡ Some k → RunStops d core p exercise machine status text → WasOpened d core p k
+  run_opened : (k : Machine) → machine ≡ Some k → RunStops d core p closing machine status text → WasOpened d core p k
   run_opened k e (unopened none stops) = absurd (none-some k (sym none ∙ e))
   run_opened k e (opened k' is opens none stops) = subst (WasOpened d core p) (same_Some k' k (sym is ∙ e)) opens
 
@@ -156,17 +156,17 @@ unread_unknown (Some command) none c = false≢true (sym none)
 
 module _ {S B : Type 0} {words : List (Bor (List ℕ))} {left : S → Option (List ℕ)} {source_faults : S → ℕ} {deck deck' : S} {d : Device B} {machine : Option Machine} where
   due_done : {n : ℕ} {text : Text} → n ≡ 0 → IsDue words left source_faults deck deck' d machine n text
-      → (command : CommandLine) × (bytes : List ℕ) × (command_line_of words ≡ Some command) × ReadAll command left deck deck' bytes × IsAllDone d (exercise_of (Some command)) (asked command bytes) machine text
+      → (command : CommandLine) × (bytes : List ℕ) × (command_line_of words ≡ Some command) × ReadAll command left deck deck' bytes × IsAllDone d (closing_of (Some command)) (asked command bytes) machine text
   due_done e (usage_due c g same m s t) = absurd (omega (arith, e, s))
   due_done e (refusal_due command b r c w same j m s t) = absurd (omega (arith, e, s))
-  due_done {n = n} {text = text} e (print_due command b printed c r same j m s t) = (command, b, c, r, subst (λ (x : Judgement). IsAllDone d (exercise_of (Some command)) x machine text) (sym j) (m, same, t))
+  due_done {n = n} {text = text} e (print_due command b printed c r same j m s t) = (command, b, c, r, subst (λ (x : Judgement). IsAllDone d (closing_of (Some command)) x machine text) (sym j) (m, same, t))
   due_done {n = n} {text = text} e (run_due core p run stops) = (
     run.command,
     run.bytes,
     run.is,
     run.read,
-    subst (λ (x : Judgement). IsAllDone d (exercise_of (Some run.command)) x machine text) (sym run.judged)
-        (subst (λ (x : Option Exercise). IsAllDone d x (Runs p) machine text) (ap exercise_of run.is) (run_is_done d core p (exercise_of (command_line_of words)) machine n text e stops)),
+    subst (λ (x : Judgement). IsAllDone d (closing_of (Some run.command)) x machine text) (sym run.judged)
+        (subst (λ (x : Closing). IsAllDone d x (Runs p) machine text) (ap closing_of run.is) (run_is_done d core p (closing_of (command_line_of words)) machine n text e stops)),
   )
   due_done e (reading_due c r same m s t) = absurd (omega (arith, e, s))
   due_done e (memory_due c same m s t) = absurd (omega (arith, e, s))
@@ -175,15 +175,15 @@ module _ {S B : Type 0} {words : List (Bor (List ℕ))} {left : S → Option (Li
   due_refused e (usage_due c g same m s t) = absurd (omega (arith, e, s))
   due_refused e (refusal_due command b r c w same j m s t) = (command, b, r, c, w, same, j, m, t)
   due_refused e (print_due command b printed c r same j m s t) = absurd (omega (arith, e, s))
-  due_refused {n = n} {text = text} e (run_due core p run stops) = absurd (run_not_2 d core p (exercise_of (command_line_of words)) machine n text e stops)
+  due_refused {n = n} {text = text} e (run_due core p run stops) = absurd (run_not_2 d core p (closing_of (command_line_of words)) machine n text e stops)
   due_refused e (reading_due c r same m s t) = absurd (omega (arith, e, s))
   due_refused e (memory_due c same m s t) = absurd (omega (arith, e, s))
 
-  due_halts : {n : ℕ} {text : Text} → n ≡ 3 → IsDue words left source_faults deck deck' d machine n text → (core : ℕ) × (p : Prepared) × IsRun words left deck deck' core p × Halts d p machine text
+  due_halts : {n : ℕ} {text : Text} → n ≡ 3 → IsDue words left source_faults deck deck' d machine n text → (core : ℕ) × (p : Prepared) × IsRun words left deck deck' core p × Halts d p (closing_of (command_line_of words)) machine text
   due_halts e (usage_due c g same m s t) = absurd (omega (arith, e, s))
   due_halts e (refusal_due command b r c w same j m s t) = absurd (omega (arith, e, s))
   due_halts e (print_due command b printed c r same j m s t) = absurd (omega (arith, e, s))
-  due_halts {n = n} {text = text} e (run_due core p run stops) = (core, p, run, run_halts d core p (exercise_of (command_line_of words)) machine n text e stops)
+  due_halts {n = n} {text = text} e (run_due core p run stops) = (core, p, run, run_halts d core p (closing_of (command_line_of words)) machine n text e stops)
   due_halts e (reading_due c r same m s t) = absurd (omega (arith, e, s))
   due_halts e (memory_due c same m s t) = absurd (omega (arith, e, s))
 
@@ -191,7 +191,7 @@ module _ {S B : Type 0} {words : List (Bor (List ℕ))} {left : S → Option (Li
   due_core e (usage_due c g same m s t) = absurd (omega (arith, e, s))
   due_core e (refusal_due command b r c w same j m s t) = absurd (omega (arith, e, s))
   due_core e (print_due command b printed c r same j m s t) = absurd (omega (arith, e, s))
-  due_core {n = n} {text = text} e (run_due core p run stops) = (core, p, run, run_wants_core d core p (exercise_of (command_line_of words)) machine n text e stops)
+  due_core {n = n} {text = text} e (run_due core p run stops) = (core, p, run, run_wants_core d core p (closing_of (command_line_of words)) machine n text e stops)
   due_core e (reading_due c r same m s t) = absurd (omega (arith, e, s))
   due_core e (memory_due c same m s t) = absurd (omega (arith, e, s))
 
@@ -199,7 +199,7 @@ module _ {S B : Type 0} {words : List (Bor (List ℕ))} {left : S → Option (Li
   due_sectors e (usage_due c g same m s t) = absurd (omega (arith, e, s))
   due_sectors e (refusal_due command b r c w same j m s t) = absurd (omega (arith, e, s))
   due_sectors e (print_due command b printed c r same j m s t) = absurd (omega (arith, e, s))
-  due_sectors {n = n} {text = text} e (run_due core p run stops) = (core, p, run, run_wants_sectors d core p (exercise_of (command_line_of words)) machine n text e stops)
+  due_sectors {n = n} {text = text} e (run_due core p run stops) = (core, p, run, run_wants_sectors d core p (closing_of (command_line_of words)) machine n text e stops)
   due_sectors e (reading_due c r same m s t) = absurd (omega (arith, e, s))
   due_sectors e (memory_due c same m s t) = absurd (omega (arith, e, s))
 
@@ -207,7 +207,7 @@ module _ {S B : Type 0} {words : List (Bor (List ℕ))} {left : S → Option (Li
   due_fails e (usage_due c g same m s t) = absurd (omega (arith, e, s))
   due_fails e (refusal_due command b r c w same j m s t) = absurd (omega (arith, e, s))
   due_fails e (print_due command b printed c r same j m s t) = absurd (omega (arith, e, s))
-  due_fails {n = n} {text = text} e (run_due core p run stops) = (let z = run_fails d core p (exercise_of (command_line_of words)) machine n text e stops in (core, p, run, z.0, z.1))
+  due_fails {n = n} {text = text} e (run_due core p run stops) = (let z = run_fails d core p (closing_of (command_line_of words)) machine n text e stops in (core, p, run, z.0, z.1))
   due_fails e (reading_due c r same m s t) = absurd (omega (arith, e, s))
   due_fails e (memory_due c same m s t) = absurd (omega (arith, e, s))
 
@@ -215,7 +215,7 @@ module _ {S B : Type 0} {words : List (Bor (List ℕ))} {left : S → Option (Li
   due_9 e (usage_due c g same m s t) = absurd (omega (arith, e, s))
   due_9 e (refusal_due command b r c w same j m s t) = absurd (omega (arith, e, s))
   due_9 e (print_due command b printed c r same j m s t) = absurd (omega (arith, e, s))
-  due_9 {n = n} {text = text} e (run_due core p run stops) = run_is_9 d core p (exercise_of (command_line_of words)) machine n text e stops
+  due_9 {n = n} {text = text} e (run_due core p run stops) = run_is_9 d core p (closing_of (command_line_of words)) machine n text e stops
   due_9 e (reading_due c r same m s t) = absurd (omega (arith, e, s))
   due_9 e (memory_due c same m s t) = (m, same, t)
 
@@ -223,7 +223,7 @@ module _ {S B : Type 0} {words : List (Bor (List ℕ))} {left : S → Option (Li
   due_7 e (usage_due c g same m s t) = absurd (omega (arith, e, s))
   due_7 e (refusal_due command b r c w same j m s t) = absurd (omega (arith, e, s))
   due_7 e (print_due command b printed c r same j m s t) = absurd (omega (arith, e, s))
-  due_7 {n = n} {text = text} e (run_due core p run stops) = absurd (run_not_7 d core p (exercise_of (command_line_of words)) machine n text e stops)
+  due_7 {n = n} {text = text} e (run_due core p run stops) = absurd (run_not_7 d core p (closing_of (command_line_of words)) machine n text e stops)
   due_7 e (reading_due c r same m s t) = (c, r, t)
   due_7 e (memory_due c same m s t) = absurd (omega (arith, e, s))
 
@@ -231,7 +231,7 @@ module _ {S B : Type 0} {words : List (Bor (List ℕ))} {left : S → Option (Li
   due_1 e (usage_due c g same m s t) = (c, g, t)
   due_1 e (refusal_due command b r c w same j m s t) = absurd (omega (arith, e, s))
   due_1 e (print_due command b printed c r same j m s t) = absurd (omega (arith, e, s))
-  due_1 {n = n} {text = text} e (run_due core p run stops) = absurd (run_not_1 d core p (exercise_of (command_line_of words)) machine n text e stops)
+  due_1 {n = n} {text = text} e (run_due core p run stops) = absurd (run_not_1 d core p (closing_of (command_line_of words)) machine n text e stops)
   due_1 e (reading_due c r same m s t) = absurd (omega (arith, e, s))
   due_1 e (memory_due c same m s t) = absurd (omega (arith, e, s))
 
@@ -248,7 +248,7 @@ module _ {S B : Type 0} {words : List (Bor (List ℕ))} {left : S → Option (Li
   due_not_8 (usage_due c g same m s t) e = absurd (omega (arith, e, s))
   due_not_8 (refusal_due command b r c w same j m s t) e = absurd (omega (arith, e, s))
   due_not_8 (print_due command b printed c r same j m s t) e = absurd (omega (arith, e, s))
-  due_not_8 {n = n} {text = text} (run_due core p run stops) e = run_not_8 d core p (exercise_of (command_line_of words)) machine n text e stops
+  due_not_8 {n = n} {text = text} (run_due core p run stops) e = run_not_8 d core p (closing_of (command_line_of words)) machine n text e stops
   due_not_8 (reading_due c r same m s t) e = absurd (omega (arith, e, s))
   due_not_8 (memory_due c same m s t) e = absurd (omega (arith, e, s))
 
@@ -256,7 +256,7 @@ module _ {S B : Type 0} {words : List (Bor (List ℕ))} {left : S → Option (Li
   due_spares none (usage_due c g same m s t) = inl same
   due_spares none (refusal_due command b r c w same j m s t) = inl same
   due_spares none (print_due command b printed c r same j m s t) = inl same
-  due_spares {n = n} {text = text} none (run_due core p run stops) = run_spares d core p (exercise_of (command_line_of words)) machine n text run none stops
+  due_spares {n = n} {text = text} none (run_due core p run stops) = run_spares d core p (closing_of (command_line_of words)) machine n text run none stops
   due_spares none (reading_due c r same m s t) = inl same
   due_spares none (memory_due c same m s t) = inl same
 
@@ -264,7 +264,7 @@ module _ {S B : Type 0} {words : List (Bor (List ℕ))} {left : S → Option (Li
   due_opened k e (usage_due c g same m s t) = absurd (none-some k (sym m ∙ e))
   due_opened k e (refusal_due command b r c w same j m s t) = absurd (none-some k (sym m ∙ e))
   due_opened k e (print_due command b printed c r same j m s t) = absurd (none-some k (sym m ∙ e))
-  due_opened {n = n} {text = text} k e (run_due core p run stops) = (core, p, run, run_opened d core p (exercise_of (command_line_of words)) machine n text k e stops)
+  due_opened {n = n} {text = text} k e (run_due core p run stops) = (core, p, run, run_opened d core p (closing_of (command_line_of words)) machine n text k e stops)
   due_opened k e (reading_due c r same m s t) = absurd (none-some k (sym m ∙ e))
   due_opened k e (memory_due c same m s t) = absurd (none-some k (sym m ∙ e))
 
@@ -281,13 +281,13 @@ module _ {S B : Type 0} {words : List (Bor (List ℕ))} {left : S → Option (Li
     is_refused e = let u = due_at (λ z. omega (arith, e, z)) in (u.0, due_refused e u.1, u.2)
 
     is_done : answer ≡ 0 → (command : CommandLine) × (bytes : List ℕ) × (text : Text) × (command_line_of words ≡ Some command) × ReadAll command left deck deck' bytes
-        × IsAllDone d (exercise_of (Some command)) (asked command bytes) machine text × Took taken old new (whole_of text)
+        × IsAllDone d (closing_of (Some command)) (asked command bytes) machine text × Took taken old new (whole_of text)
     is_done e =
         let u = due_at (λ z. omega (arith, e, z)) in
         let v = due_done e u.1 in
         (v.0, v.1, u.0, v.2, v.3, v.4, u.2)
 
-    is_halt : answer ≡ 3 → (core : ℕ) × (p : Prepared) × (text : Text) × IsRun words left deck deck' core p × Halts d p machine text × Took taken old new (whole_of text)
+    is_halt : answer ≡ 3 → (core : ℕ) × (p : Prepared) × (text : Text) × IsRun words left deck deck' core p × Halts d p (closing_of (command_line_of words)) machine text × Took taken old new (whole_of text)
     is_halt e =
         let u = due_at (λ z. omega (arith, e, z)) in
         let v = due_halts e u.1 in

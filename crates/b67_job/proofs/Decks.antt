@@ -1,5 +1,5 @@
 -- The run of a deck.
-use Rattle.std.proofs.Common.{◌≡◌, ◌≢◌, ℕ, zero, suc, ◌+◌, List, length, map, refl, sym, ap, ◌∙◌, subst, arith, Option, Some, None, Ok, Err}
+use Rattle.std.proofs.Common.{◌≡◌, ◌≢◌, ℕ, ◌+◌, List, length, map, refl, sym, ap, ◌∙◌, subst, arith, Option, Some, None, Ok, Err}
 use Rattle.std.specs.List.{AllByRecursion}
 use Rattle.std.proofs.lemmas.Option.{none-some}
 use Rattle.b67_io.specs.Line.{ended}
@@ -17,23 +17,24 @@ use Rattle.b67_session_open.specs.Decks.{session_of, DeckInRange, IsLoaded}
 use Rattle.b67_session_open.specs.Opens.{need_of, sectors_of_all, IsOpened}
 use Rattle.b67_layout_storage.specs.Machine.{Says, DeviceAfterCalls, content_after}
 use Rattle.b67_session.proofs.Shaping.{shaped}
-use Rattle.b67_session.specs.Slices.{StandsAt, IsOpen, Keeps, PrintsWhole, SliceMeets, StepsFit}
+use Rattle.b67_session.specs.Slices.{StandsAt, IsOpen, Keeps, SliceMeets, StepsFit}
 use Rattle.b67_session_lines.specs.Ends.{EndsPrinting}
 use Rattle.b67_job.specs.Device.{device_of}
 use Rattle.b67_job.specs.Lines.{no_core_line, backing_full_line}
-use Rattle.b67_job.specs.declared.summaries.Exercise.{Exercise}
+use Rattle.b67_job.specs.declared.summaries.Closing.{Closing}
 use Rattle.b67_job.specs.Texts.{only}
 use Rattle.b67_job.specs.Finishing.{refused_status, refused_line, SessionRan}
 use Rattle.b67_job.specs.Runs.{memory_refused, opening_wants_core, opening_wants_sectors, opening_fails, unopened, DeckRunEnds, run_stops}
 use Rattle.b67_job.proofs.Opened.{states_in_order, says_after, stands_opened, stage_of, known_after, known_later}
 use Rattle.b67_job.proofs.Ran.{closes_only, ran}
+use Rattle.b67_job.proofs.Closings.{none_printed}
 
 -- ---- the run of a deck
 
-module _ {K B : Type 0} (taken : K → Option (List ℕ)) (failures : K → ℕ) (holds : B → Option (List (List ℕ))) (size broken : B → ℕ) (d : Deck) (ps : List Program) (core : ℕ) (exercise : Option Exercise) where
+module _ {K B : Type 0} (taken : K → Option (List ℕ)) (failures : K → ℕ) (holds : B → Option (List (List ℕ))) (size broken : B → ℕ) (d : Deck) (ps : List Program) (core : ℕ) (closing : Closing) where
   -- no session was opened
   pub refused : (b b' : B) (fault : OpenFault) (old new : K) (answer : ℕ) → IsOpened holds size broken d ps core b b' (Err fault)
-      → EndsPrinting taken failures old new (refused_status fault) (ended (refused_line fault)) answer → DeckRunEnds taken failures (device_of holds size broken b b') core (d, ps) exercise None old new answer
+      → EndsPrinting taken failures old new (refused_status fault) (ended (refused_line fault)) answer → DeckRunEnds taken failures (device_of holds size broken b b') core (d, ps) closing None old new answer
   refused b b' faults.Memory old new answer o ends = run_stops 9 _ (unopened refl (memory_refused o refl refl)) (closes_only ends)
   refused b b' (faults.NoCore need words) old new answer o ends =
       let line : no_core_line need words ≡ no_core_line (need_of d ps) core = ap (λ n. no_core_line n words) o.0 ∙ ap (λ n. no_core_line (need_of d ps) n) o.1 in
@@ -53,11 +54,6 @@ still_told holds b b' c some none = by_told (holds b) refl
 from_none : (made before steps : ℕ) → before ≡ 0 → made ≡ before + steps → made ≡ steps
 from_none made before steps e f = omega (arith, e, f)
 
--- whole texts were printed, after a machine that had printed nothing of its next one
-none_printed : {K : Type 0} (steps : ℕ) (k0 k : Machine) (paper paper' : K) → k0.tasks.printed ≡ 0 → PrintsWhole steps k0 k paper paper' → k.tasks.printed ≡ 0
-none_printed zero k0 k paper paper' none w = (w.none refl).0 ∙ none
-none_printed (suc n) k0 k paper paper' none w = w.some (omega arith)
-
 -- calls of a device after calls of it
 pub after_more : {B : Type 0} {holds : B → Option (List (List ℕ))} {size calls broken : B → ℕ} {b b' b'' : B} → DeviceAfterCalls holds size calls broken b b' → DeviceAfterCalls holds size calls broken b' b''
     → DeviceAfterCalls holds size calls broken b b''
@@ -71,7 +67,7 @@ after_more f g =
 
 -- ---- the run of a deck, after its steps and the last line
 
-module _ {K B : Type 0} (taken : K → Option (List ℕ)) (failures : K → ℕ) (holds : B → Option (List (List ℕ))) (size calls broken : B → ℕ) (d : Deck) (fs : List Codefile) (core : ℕ) (exercise : Option Exercise)
+module _ {K B : Type 0} (taken : K → Option (List ℕ)) (failures : K → ℕ) (holds : B → Option (List (List ℕ))) (size calls broken : B → ℕ) (d : Deck) (fs : List Codefile) (core : ℕ) (closing : Closing)
     (range : DeckInRange d) (loaded : AllByRecursion IsLoaded fs) (b b' b'' : B) (k0 k : Machine) (o : IsOpened holds size broken d (map program_of fs) core b b' (Ok k0)) where
   abbrev said : Option (List (List ℕ))
   said = content_after (holds b) (holds b')
@@ -88,11 +84,11 @@ module _ {K B : Type 0} (taken : K → Option (List ℕ)) (failures : K → ℕ)
   pub deck_run : (old new : K) (answer : ℕ) → DeviceAfterCalls holds size calls broken b b' → DeviceAfterCalls holds size calls broken b' b''
       → IsOpen (holds b'') k → Keeps k0 k
       → ((x : Option (List (List ℕ))) (s : Session) → Says x (holds b') → StandsAt x k0 s
-      → SessionRan taken failures exercise (content_after x (holds b'')) (x ≢ None) (Rose broken b' b'') (size b') 800000000 s k0 k old new answer)
-      → DeckRunEnds taken failures (device_of holds size broken b b'') core (d, map program_of fs) exercise (Some k) old new answer
+      → SessionRan taken failures closing (content_after x (holds b'')) (x ≢ None) (Rose broken b' b'') (size b') 800000000 s k0 k old new answer)
+      → DeckRunEnds taken failures (device_of holds size broken b b'') core (d, map program_of fs) closing (Some k) old new answer
   deck_run old new answer first_calls more_calls may_go_on keeps rans =
       let still = still_told holds b b' first_calls.tells in
-      let r = subst (λ (x : Option (List (List ℕ))). SessionRan taken failures exercise x (said ≢ None) (Rose broken b' b'') (size b') 800000000 first k0 k old new answer) (known_later (holds b) (holds b') (holds b'') still)
+      let r = subst (λ (x : Option (List (List ℕ))). SessionRan taken failures closing x (said ≢ None) (Rose broken b' b'') (size b') 800000000 first k0 k old new answer) (known_later (holds b) (holds b') (holds b'') still)
       (rans said first (says_after (holds b) (holds b')) stands) in
       let now = content_after (holds b) (holds b'') in
       let begun : k0.tasks.made ≡ 0 = o.2.stands.tables.counts.made in
@@ -103,11 +99,11 @@ module _ {K B : Type 0} (taken : K → Option (List ℕ)) (failures : K → ℕ)
       let same = first_calls.size in
       let again = more_calls.size in
       let later = first_calls.faults in
-      ran taken failures (device_of holds size broken b b'') core (d, map program_of fs) exercise k
+      ran taken failures (device_of holds size broken b b'') core (d, map program_of fs) closing k
       (record {
         room = (o.0, o.1);
         in_order = states_in_order d fs k.tasks.made range loaded;
-        fitted = λ told. subst (λ n. StepsFit n k.tasks.made first) o.2.core_size (subst (λ n. StepsFit (length k0.cpu.core) n first) (sym made) (r.slices.fits (exact told)));
+        fitted = λ told. subst (λ n. StepsFit n k.tasks.made first) o.2.core_size (subst (λ n. StepsFit (length k0.cpu.core) n first) (sym made) (r.slices.its (exact told)).fits);
         core_size = keeps.core ∙ o.2.core_size;
         halt = keeps.halt ∙ o.2.halt;
         names = keeps.names ∙ o.2.names;
@@ -116,8 +112,8 @@ module _ {K B : Type 0} (taken : K → Option (List ℕ)) (failures : K → ℕ)
         sized = omega (arith, begun_links, links, again, same);
       })
       (said ≢ None) exact r.slices.steps r.slices.session r.slices.printed
-      (λ i low e. r.slices.below i low (o.2.halt ∙ e ∙ ap Some (let z : i ≡ k0.tasks.made + i = omega (arith, begun) in z))) made (λ told. r.slices.leads (exact told))
-      r.slices.was_due r.slices.is_due (λ told. r.slices.next (exact told)) k0.tasks.printed o.2.printed
+      (λ i low e. r.slices.below i low (o.2.halt ∙ e ∙ ap Some (let z : i ≡ k0.tasks.made + i = omega (arith, begun) in z))) made (λ told. (r.slices.its (exact told)).leads)
+      r.slices.was_due r.slices.is_due (λ told. (r.slices.its (exact told)).next) k0.tasks.printed o.2.printed
       r.answered old r.between new answer
       (subst (λ n. SliceMeets now (said ≢ None) n (size b) 800000000 r.slices.steps r.slices.session r.slices.is_due r.answered k) o.2.core_size
       (subst (λ n. SliceMeets now (said ≢ None) (length k0.cpu.core) n 800000000 r.slices.steps r.slices.session r.slices.is_due r.answered k) same r.slices.meets))

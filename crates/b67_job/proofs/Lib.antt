@@ -6,6 +6,7 @@ pub mod Parts
 pub mod Reached
 pub mod Opened
 pub mod Ran
+pub mod Closings
 pub mod Decks
 pub mod Served
 pub mod Status

@@ -26,11 +26,10 @@ use Rattle.b67_session.specs.Slices.{StandsAt, IsLimited, StepsReach, Prints, Sl
 use Rattle.b67_session.proofs.Texts.{run_text-append}
 use Rattle.b67_session.proofs.Tells.{tells_weaker}
 use Rattle.b67_session_lines.specs.Moments.{last_part, due}
-use Rattle.b67_session_lines.specs.Stops.{halted_line}
 use Rattle.b67_session_lines.specs.Ends.{EndsPrinting, all_printed, cut_off}
 use Rattle.b67_job.specs.Device.{Device, DeviceTells, Failed, known_now}
-use Rattle.b67_job.specs.Lines.{no_core_line, backing_full_line, backing_fault_line, summary}
-use Rattle.b67_job.specs.declared.summaries.Exercise.{Exercise}
+use Rattle.b67_job.specs.Lines.{no_core_line, backing_full_line, backing_fault_line, summary, halted_text}
+use Rattle.b67_job.specs.declared.summaries.Closing.{Closing}
 use Rattle.b67_job.specs.Texts.{Text, only, PrintsAndAnswers, all_taken, cut_short}
 use Rattle.b67_job.proofs.Opened.{run_apart_to}
 use Rattle.b67_job.specs.Runs.{run_of, text_to, StandsAfter, IsBeforeHalt, IsWithinHalt, StopsInRun, IsCutInStep, IsCutInLimit, WasOpened, StopsOpened, all_end, halt_comes, step_wants_core, step_wants_sectors, step_fails, opened, DeckRunEnds, run_stops, step_is_cut}
@@ -107,7 +106,7 @@ before_halt (Some count) steps below other =
 
 -- ---- how a session's steps ended, as the run of its deck
 
-module _ {K B : Type 0} (taken : K → Option (List ℕ)) (faults : K → ℕ) (d : Device B) (core : ℕ) (p : Prepared) (exercise : Option Exercise) (k : Machine) (opens : WasOpened d core p k)
+module _ {K B : Type 0} (taken : K → Option (List ℕ)) (faults : K → ℕ) (d : Device B) (core : ℕ) (p : Prepared) (closing : Closing) (k : Machine) (opens : WasOpened d core p k)
     (E : Type 0) (exact : DeviceTells d → E) (steps : ℕ) (s : Session) (printed : List RunLine) (below_halt : (j : ℕ) → j < steps → p.0.halt ≢ Some j) (made : k.tasks.made ≡ steps)
     (leads : DeviceTells d → StepsReach (run_of p).session steps s printed) (was is : List ℕ) (due_is : DeviceTells d → is ≡ due s) (before : ℕ) (begun : before ≡ 0) where
   abbrev first : Session
@@ -188,26 +187,26 @@ module _ {K B : Type 0} (taken : K → Option (List ℕ)) (faults : K → ℕ) (
         };
   }
 
-  stopped : {old new : K} {answer status : ℕ} (y : Text) → k.tasks.printed ≡ 0 → StopsOpened d core p exercise k status y → PrintsAndAnswers taken faults old new status y answer → DeckRunEnds taken faults d core p exercise (Some k) old new answer
+  stopped : {old new : K} {answer status : ℕ} (y : Text) → k.tasks.printed ≡ 0 → StopsOpened d core p closing k status y → PrintsAndAnswers taken faults old new status y answer → DeckRunEnds taken faults d core p closing (Some k) old new answer
   stopped {status = status} y none stops ends = run_stops status y (opened k refl opens none stops) ends
 
   -- by what the steps answered
   pub ran : (answered : Result Progress Stop) (old between new : K) (answer : ℕ)
       → SliceMeets said E core d.sectors 800000000 steps s is answered k
-      → FinishesRun taken faults exercise k.tasks.made answered between new answer
+      → FinishesRun taken faults closing k answered between new answer
       → Prints taken old between was before printed is k.tasks.printed → (answered ≢ Err stops.PrintFault → k.tasks.printed ≡ 0)
       → (answered ≡ Err stops.BackingFault → Failed d) → (answered ≡ Err stops.PrintFault → Rose faults old between) → faults old ≤ faults between
-      → DeckRunEnds taken faults d core p exercise (Some k) old new answer
+      → DeckRunEnds taken faults d core p closing (Some k) old new answer
   ran (Ok progress.Ended) old between new answer meets end prints unprinted failed rose later =
       let none = unprinted (λ e. cc) in
-      stopped (record { front = run_text printed; last = summary exercise k.tasks.made }) none
+      stopped (record { front = run_text printed; last = summary closing k.tasks.made }) none
       (all_end refl (record { session = s; printed = printed; comes = comes_to (over_has_no_last s meets.0.none); within = within_halt; rests = meets.0; ordered = meets.1; text_is = refl }))
       (closes_then (lines_took prints begun none) later end)
   ran (Ok progress.More) old between new answer meets end prints unprinted failed rose later =
       absurd (most_is_no_end said k s meets.2.1.0 meets.2.1.1 steps made meets.0 meets.2.0 meets.2.1.2)
   ran (Ok progress.Halted) old between new answer meets end prints unprinted failed rose later =
       let lives = meets.1.1 in
-      stopped (ending (halted_line k.tasks.made)) (unprinted (λ e. cc))
+      stopped (record { front = run_text printed; last = halted_text closing k }) (unprinted (λ e. cc))
       (halt_comes refl (record { stop = stops_at lives.0 lives.1 meets.1.0 lives.2; halt = sym opens.halt ∙ meets.0; text_is = refl }))
       (closes_then (lines_took prints begun (unprinted (λ e. cc))) later end)
   ran (Err (stops.NoCore words size)) old between new answer meets end prints unprinted failed rose later =

@@ -36,9 +36,10 @@ use Rattle.b67_job.proofs.Ran.{closes_only}
 use Rattle.b67_job.specs.Command.{command_line_of}
 use Rattle.b67_job.specs.declared.command.CommandLine.{CommandLine}
 use Rattle.b67_job.specs.declared.command.CommandLine.TheVariants as lines
-use Rattle.b67_job.specs.Judgement.{Refused, Runs, judgement, printed, asked, exercise_of, reads_text}
-use Rattle.b67_job.specs.declared.summaries.Exercise.{Exercise}
-use Rattle.b67_job.specs.Due.{WasGiven, CommandWasRead, ReadAll, ExerciseEnds, exercise_wants_memory, exercise_is_refused, exercise_runs, refusal_due, print_due, run_due, reading_due, memory_due, Answered, answered, cut_in_step, Serves, RefusalEnds, TextEnds, WritesText, reading_text}
+use Rattle.b67_job.specs.Judgement.{Refused, Runs, judgement, printed, asked, closing_of, reads_text}
+use Rattle.b67_job.specs.declared.summaries.Closing.{Closing}
+use Rattle.b67_job.specs.declared.summaries.Closing.TheVariants as closings
+use Rattle.b67_job.specs.Due.{WasGiven, CommandWasRead, ReadAll, ExerciseEnds, exercise_wants_memory, exercise_is_refused, exercise_runs, refusal_due, print_due, run_due, reading_due, memory_due, Answered, answered, cut_in_step, Serves, RunsWhatItReads, RefusalEnds, TextEnds, WritesText, reading_text}
 
 -- ---- decks
 
@@ -69,6 +70,7 @@ take_first n text = take-take n (n + 1) text (omega arith)
 -- a text past the limit is refused as its first bytes are, by a command that reads it
 pub asked_long : (command : CommandLine) (text : List ℕ) → reads_text (Some command) ≡ true → limit < length text → asked command text ≡ Refused (too_long text)
 asked_long (lines.Run core) text r long = judged_long text long
+asked_long (lines.Image core) text r long = judged_long text long
 asked_long lines.Asm text r long = ap printed (asm_long text long)
 asked_long lines.Check text r long = ap printed (check_long text long)
 asked_long lines.Convert text r long = ap printed (convert_long text long)
@@ -86,6 +88,7 @@ asked_alike command text r long =
 -- a command that reads has read what was given
 given_read : {S : Type 0} {left : S → Option (List ℕ)} {deck deck' : S} {bytes : List ℕ} (command : CommandLine) → reads_text (Some command) ≡ true → WasGiven left deck deck' bytes → CommandWasRead command left deck deck' bytes
 given_read (lines.Run core) r given = given
+given_read (lines.Image core) r given = given
 given_read lines.Asm r given = given
 given_read lines.Check r given = given
 given_read lines.Convert r given = given
@@ -94,6 +97,7 @@ given_read (lines.Exercise seed size core) r given = absurd (false≢true r)
 
 given_all : {S : Type 0} {left : S → Option (List ℕ)} {deck deck' : S} {bytes : List ℕ} (command : CommandLine) → reads_text (Some command) ≡ true → GaveAll left deck deck' bytes → ReadAll command left deck deck' bytes
 given_all (lines.Run core) r given = given
+given_all (lines.Image core) r given = given
 given_all lines.Asm r given = given
 given_all lines.Check r given = given
 given_all lines.Convert r given = given
@@ -174,22 +178,25 @@ module _ {S B K : Type 0} {left : S → Option (List ℕ)} {source_faults : S �
   unserved d command admits.Memory answer is same free ends = λ words e. answered 9 (only memory_text) (memory_due (commanded words command e) same refl refl refl) (closes_only ends)
 
   -- a deck that was loaded, or wasn't
-  pub served_deck : (d : Device B) (core : ℕ) (loaded : Loaded) (machine : Option Machine) (answer : ℕ) → LoadsDeck left source_faults deck deck' (Ok loaded)
-      → DeckRunEnds taken faults d core (prepared_of loaded) None machine old new answer → Serves (lines.Run core) left source_faults deck deck' d machine taken faults old new answer
-  served_deck d core loaded machine answer h ends = by_end (prepared_is h.0 (prepared_of loaded) h.2) ends
+  pub served_deck : (d : Device B) (command : CommandLine) (core : ℕ) (closing : Closing) (loaded : Loaded) (machine : Option Machine) (answer : ℕ) → RunsWhatItReads command core closing
+      → LoadsDeck left source_faults deck deck' (Ok loaded) → DeckRunEnds taken faults d core (prepared_of loaded) closing machine old new answer
+      → Serves command left source_faults deck deck' d machine taken faults old new answer
+  served_deck d command core closing loaded machine answer r h ends = by_end (r.asks h.0 ∙ prepared_is h.0 (prepared_of loaded) h.2) (given_all command r.reads h.1) ends
     where
-      by_end : judgement h.0 ≡ Runs (prepared_of loaded) → DeckRunEnds taken faults d core (prepared_of loaded) None machine old new answer → Serves (lines.Run core) left source_faults deck deck' d machine taken faults old new answer
-      by_end is (run_stops status text stops ends) = λ words e.
-          answered status text (run_due core (prepared_of loaded) (record { command = lines.Run core; bytes = h.0; is = e; opens = refl; read = h.1; judged = is })
-          (subst (λ (x : Option Exercise). RunStops d core (prepared_of loaded) x machine status text) (sym (ap exercise_of e)) stops)) ends
-      by_end is (step_is_cut text count printing a rose part) = λ words e. cut_in_step core (prepared_of loaded) text count (record { command = lines.Run core; bytes = h.0; is = e; opens = refl; read = h.1; judged = is }) printing a rose part
+      by_end : asked command h.0 ≡ Runs (prepared_of loaded) → ReadAll command left deck deck' h.0 → DeckRunEnds taken faults d core (prepared_of loaded) closing machine old new answer
+          → Serves command left source_faults deck deck' d machine taken faults old new answer
+      by_end is read (run_stops status text stops ends) = λ words e.
+          answered status text (run_due core (prepared_of loaded) (record { command = command; bytes = h.0; is = e; opens = r.opens; read = read; judged = is })
+          (subst (λ (x : Closing). RunStops d core (prepared_of loaded) x machine status text) (sym (ap closing_of e ∙ r.closes)) stops)) ends
+      by_end is read (step_is_cut text count printing a rose part) = λ words e.
+          cut_in_step core (prepared_of loaded) text count (record { command = command; bytes = h.0; is = e; opens = r.opens; read = read; judged = is }) printing a rose part
 
-  pub served_refusal : (d : Device B) (core : ℕ) (fault : AdmitFault) (answer : ℕ) → DeviceUnchanged d → LoadsDeck left source_faults deck deck' (Err fault) → RefusalEnds fault taken faults old new answer
-      → Serves (lines.Run core) left source_faults deck deck' d None taken faults old new answer
-  served_refusal d core fault answer same h ends = unserved d (lines.Run core) fault answer refl same (by_fault fault h) ends
+  pub served_refusal : (d : Device B) (command : CommandLine) (core : ℕ) (closing : Closing) (fault : AdmitFault) (answer : ℕ) → RunsWhatItReads command core closing → DeviceUnchanged d
+      → LoadsDeck left source_faults deck deck' (Err fault) → RefusalEnds fault taken faults old new answer → Serves command left source_faults deck deck' d None taken faults old new answer
+  served_refusal d command core closing fault answer runs same h ends = unserved d command fault answer runs.reads same (by_fault fault h) ends
     where
-      by_fault : (fault : AdmitFault) → LoadsDeck left source_faults deck deck' (Err fault) → IsUnserved left source_faults deck deck' (lines.Run core) fault
-      by_fault (admits.Refused r) h = (h.0, h.1, refused_is h.0 r h.2)
+      by_fault : (fault : AdmitFault) → LoadsDeck left source_faults deck deck' (Err fault) → IsUnserved left source_faults deck deck' command fault
+      by_fault (admits.Refused r) h = (h.0, h.1, runs.asks h.0 ∙ refused_is h.0 r h.2)
       by_fault admits.SourceFault h = h
       by_fault admits.Memory h = h
 
@@ -218,7 +225,7 @@ exercise_in_range text d l e f =
 module _ {B K : Type 0} (seed size core : ℕ) (d : Device B) {taken : K → Option (List ℕ)} {faults : K → ℕ} {old new : K} (deck : Deck) (is : deck_of (generated_text seed size) ≡ Ok deck) where
   -- it runs
   pub exercise_ran : (l : Loaded) (machine : Option Machine) (answer : ℕ) → with_programs deck ≡ Ok (prepared_of l)
-      → DeckRunEnds taken faults d core (prepared_of l) (Some (record { seed = seed; size = size })) machine old new answer → ExerciseEnds seed size core d machine taken faults old new answer
+      → DeckRunEnds taken faults d core (prepared_of l) (closings.Exercise (record { seed = seed; size = size })) machine old new answer → ExerciseEnds seed size core d machine taken faults old new answer
   exercise_ran l machine answer e ends = exercise_runs (prepared_of l) (prepared_is (generated_text seed size) (prepared_of l) (loaded (generated_text seed size) deck (prepared_of l) is e)) ends
 
   -- or is refused
@@ -241,6 +248,6 @@ exercised words left source_faults deck seed size core d machine taken faults ol
     answered 2 (only (refusal_text r)) (refusal_due (lines.Exercise seed size core) [] r e refl same j none refl refl) (closes_only ends)
 exercised words left source_faults deck seed size core d machine taken faults old new answer e (exercise_runs p j (run_stops status text stops ends)) =
     answered status text (run_due core p (record { command = lines.Exercise seed size core; bytes = []; is = e; opens = refl; read = refl; judged = j })
-    (subst (λ (x : Option Exercise). RunStops d core p x machine status text) (sym (ap exercise_of e)) stops)) ends
+    (subst (λ (x : Closing). RunStops d core p x machine status text) (sym (ap closing_of e)) stops)) ends
 exercised words left source_faults deck seed size core d machine taken faults old new answer e (exercise_runs p j (step_is_cut text count printing a rose part)) =
     cut_in_step core p text count (record { command = lines.Exercise seed size core; bytes = []; is = e; opens = refl; read = refl; judged = j }) printing a rose part

@@ -32,11 +32,11 @@ is_path (b ∷ more) = not (b == 45)
 abbrev pub requested : Options → Option Request
 requested o = if is_path o.path then option_map (λ n. record { core = n; path = o.path }) (number_in 256 1048575 o.core) else None
 
--- what the words ask for, where they are `run` and both options
-abbrev pub request : List (Bor (List ℕ)) → Option Request
-request (run ∷ first ∷ a ∷ second ∷ b ∷ []) =
-    if bytes_eq run.now (codes "run") then option_and_then requested (options first.now a.now second.now b.now) else None
-request _ = None
+-- what the words ask for, where they are this name and both options
+abbrev pub request : List ℕ → List (Bor (List ℕ)) → Option Request
+request name (word ∷ first ∷ a ∷ second ∷ b ∷ []) =
+    if bytes_eq word.now name then option_and_then requested (options first.now a.now second.now b.now) else None
+request name _ = None
 
 -- an exercise of this seed and size, over these words of core
 abbrev pub exercise_by : List ℕ → List ℕ → List ℕ → Option CommandLine
@@ -73,8 +73,11 @@ one_word _ = None
 
 -- the command that the words are
 abbrev pub command_line_of : List (Bor (List ℕ)) → Option CommandLine
-command_line_of words = option_or (one_word words) (option_or (option_map (λ r. lines.Run r.core) (request words)) (option_or (exercise words) (bind words)))
+command_line_of words =
+    option_or (one_word words)
+    (option_or (option_map (λ r. lines.Run r.core) (request (codes "run") words))
+    (option_or (option_map (λ r. lines.Image r.core) (request (codes "image") words)) (option_or (exercise words) (bind words))))
 
 -- the path that the words name
 abbrev pub backing_path : List (Bor (List ℕ)) → Option (List ℕ)
-backing_path words = option_map (λ r. r.path) (request words)
+backing_path words = option_or (option_map (λ r. r.path) (request (codes "run") words)) (option_map (λ r. r.path) (request (codes "image") words))

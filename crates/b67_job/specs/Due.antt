@@ -1,5 +1,5 @@
 -- What a call of the program is due to answer and to print, by its cause.
-use Rattle.std.specs.Prelude.{ℕ, ◌≡◌, ◌+◌, ◌<◌, ◌≤◌, ◌⊎◌, true, false, List, length, codes, Option, Some, None, Result, Ok, Err, is_some}
+use Rattle.std.specs.Prelude.{ℕ, ◌≡◌, ◌+◌, ◌<◌, ◌≤◌, ◌⊎◌, true, false, List, ◌++◌, length, codes, Option, Some, None, Result, Ok, Err, is_some}
 use denote.Ref.{Bor}
 use Rattle.b67_io.specs.Line.{ended}
 use Rattle.b67_io.specs.Told.{Gave, GaveAll}
@@ -17,17 +17,18 @@ use Rattle.b67_job_admit.specs.Told.{refusal_text}
 use Rattle.b67_job_admit.specs.Verdicts.{Verdict}
 use Rattle.b67_session_lines.specs.Ends.{EndsPrinting}
 use Rattle.b67_session.specs.Passed.{TakesSectors}
-use Rattle.b67_session_lines.specs.Stops.{IsFinished, IsHalted}
+use Rattle.b67_session_lines.specs.Stops.{IsFinished, IsHalted, halted_line}
 use Rattle.b67_session_open.specs.Opens.{need_of, sectors_of_all}
 use Rattle.b67_job.specs.Device.{Device, DeviceTells, Failed, DeviceUnchanged}
 use Rattle.b67_job.specs.Lines.{no_core_line, backing_full_line, backing_fault_line, memory_text}
-use Rattle.b67_job.specs.declared.summaries.Exercise.{Exercise}
-use Rattle.b67_job.specs.Texts.{Text, whole_of, only, TookUpTo, PrintsAndAnswers}
+use Rattle.b67_job.specs.declared.summaries.Closing.{Closing}
+use Rattle.b67_job.specs.declared.summaries.Closing.TheVariants as closings
+use Rattle.b67_job.specs.Texts.{Text, only, TookUpTo, PrintsAndAnswers}
 use Rattle.b67_job.specs.Runs.{run_of, IsBeforeHalt, IsDone, IsHaltedAt, WantsCore, WantsSectors, IsCutOff, RoomSuffices, RunStops, DeckRunEnds, IsPrintingStep}
 use Rattle.b67_job.specs.Command.{command_line_of}
 use Rattle.b67_job.specs.declared.command.CommandLine.{CommandLine}
 use Rattle.b67_job.specs.declared.command.CommandLine.TheVariants as lines
-use Rattle.b67_job.specs.Judgement.{Judgement, Refused, Runs, Prints, judgement, asked, core_asked, exercise_of, reads_text}
+use Rattle.b67_job.specs.Judgement.{Judgement, Refused, Runs, Prints, judgement, asked, core_asked, closing_of, reads_text}
 use Rattle.b67_gen.specs.Generated.{generated_text}
 
 abbrev pub usage_text : List ℕ
@@ -69,7 +70,7 @@ pub data IsDue {S B : Type 0} (words : List (Bor (List ℕ))) (left : S → Opti
       → asked command bytes ≡ Refused refusal → machine ≡ None → status ≡ 2 → text ≡ only (refusal_text refusal) → IsDue words left faults deck deck' d machine status text
   print_due : (command : CommandLine) (bytes printed : List ℕ) → command_line_of words ≡ Some command → ReadAll command left deck deck' bytes → DeviceUnchanged d
       → asked command bytes ≡ Prints printed → machine ≡ None → status ≡ 0 → text ≡ only printed → IsDue words left faults deck deck' d machine status text
-  run_due : (core : ℕ) (p : Prepared) → IsRun words left deck deck' core p → RunStops d core p (exercise_of (command_line_of words)) machine status text → IsDue words left faults deck deck' d machine status text
+  run_due : (core : ℕ) (p : Prepared) → IsRun words left deck deck' core p → RunStops d core p (closing_of (command_line_of words)) machine status text → IsDue words left faults deck deck' d machine status text
   reading_due : reads_text (command_line_of words) ≡ true → Rose faults deck deck' → DeviceUnchanged d → machine ≡ None
       → status ≡ 7 → text ≡ only reading_text → IsDue words left faults deck deck' d machine status text
   memory_due : is_some (command_line_of words) ≡ true → DeviceUnchanged d → machine ≡ None → status ≡ 9 → text ≡ only memory_text → IsDue words left faults deck deck' d machine status text
@@ -87,12 +88,19 @@ abbrev pub Serves : {S B K : Type 0} → CommandLine → (S → Option (List ℕ
 Serves command left source_faults deck deck' d machine taken printer_faults old new answer =
     (words : List (Bor (List ℕ))) → command_line_of words ≡ Some command → Answered words left source_faults deck deck' d machine taken printer_faults old new answer
 
+-- the command runs the deck that it reads, over so many words of core, and prints this besides its lines
+pub record RunsWhatItReads (command : CommandLine) (core : ℕ) (closing : Closing) : Type 0 where
+  pub reads : reads_text (Some command) ≡ true
+  pub opens : core_asked command ≡ Some core
+  pub asks : (text : List ℕ) → asked command text ≡ judgement text
+  pub closes : closing_of (Some command) ≡ closing
+
 -- how an exercise ends: its deck is refused, or runs, unless memory is refused for it
 pub data ExerciseEnds {B K : Type 0} (seed size core : ℕ) (d : Device B) (machine : Option Machine) (taken : K → Option (List ℕ)) (faults : K → ℕ) (old new : K) (answer : ℕ) : Type 0 where
   exercise_wants_memory : DeviceUnchanged d → machine ≡ None → EndsPrinting taken faults old new 9 memory_text answer → ExerciseEnds seed size core d machine taken faults old new answer
   exercise_is_refused : (refusal : Refusal) → judgement (generated_text seed size) ≡ Refused refusal → DeviceUnchanged d → machine ≡ None → EndsPrinting taken faults old new 2 (refusal_text refusal) answer
       → ExerciseEnds seed size core d machine taken faults old new answer
-  exercise_runs : (p : Prepared) → judgement (generated_text seed size) ≡ Runs p → DeckRunEnds taken faults d core p (Some (record { seed = seed; size = size })) machine old new answer
+  exercise_runs : (p : Prepared) → judgement (generated_text seed size) ≡ Runs p → DeckRunEnds taken faults d core p (closings.Exercise (record { seed = seed; size = size })) machine old new answer
       → ExerciseEnds seed size core d machine taken faults old new answer
 
 -- ---- the causes of a status
@@ -102,14 +110,15 @@ abbrev pub LeavesMachine : Option Machine → (Machine → Type 0) → Type 0
 LeavesMachine machine P = (k : Machine) × (machine ≡ Some k) × (k.tasks.printed ≡ 0) × P k
 
 -- the text of what is done: that of a whole run, with an exercise's line, or the one to print
-abbrev pub IsAllDone : {B : Type 0} → Device B → Option Exercise → Judgement → Option Machine → Text → Type 0
-IsAllDone d exercise (Refused refusal) machine text = ⊥
-IsAllDone d exercise (Runs p) machine text = LeavesMachine machine (λ k. IsDone d (run_of p) exercise k text) × (DeviceTells d → IsFinished (run_of p) text.front)
-IsAllDone d exercise (Prints whole) machine text = (machine ≡ None) × DeviceUnchanged d × (text ≡ only whole)
+abbrev pub IsAllDone : {B : Type 0} → Device B → Closing → Judgement → Option Machine → Text → Type 0
+IsAllDone d closing (Refused refusal) machine text = ⊥
+IsAllDone d closing (Runs p) machine text = LeavesMachine machine (λ k. IsDone d (run_of p) closing k text) × (DeviceTells d → IsFinished (run_of p) text.front)
+IsAllDone d closing (Prints whole) machine text = (machine ≡ None) × DeviceUnchanged d × (text ≡ only whole)
 
--- a run halts
-abbrev pub Halts : {B : Type 0} → Device B → Prepared → Option Machine → Text → Type 0
-Halts d p machine text = LeavesMachine machine (λ k. IsHaltedAt d (run_of p) k text) × (DeviceTells d → IsHalted (run_of p) (whole_of text))
+-- a run halts; the text of the run has no image
+abbrev pub Halts : {B : Type 0} → Device B → Prepared → Closing → Option Machine → Text → Type 0
+Halts d p closing machine text =
+    LeavesMachine machine (λ k. IsHaltedAt d (run_of p) closing k text × (DeviceTells d → IsHalted (run_of p) (text.front ++ ended (halted_line k.tasks.made))))
 
 -- core is too small: for the session that opens, or for the next step of the machine that is left
 abbrev pub IsShortOfCore : {B : Type 0} → Device B → ℕ → Prepared → Option Machine → Text → Type 0
@@ -169,6 +178,7 @@ pub record SufficesForRun {B : Type 0} (d : Device B) (core : ℕ) (p : Prepared
 -- a run is told and has room, and so is an exercise; the other commands need neither
 abbrev pub IsAmple : {B : Type 0} → Device B → CommandLine → List ℕ → Type 0
 IsAmple d (lines.Run core) text = DeviceTells d × ((p : Prepared) → judgement text ≡ Runs p → SufficesForRun d core p)
+IsAmple d (lines.Image core) text = DeviceTells d × ((p : Prepared) → judgement text ≡ Runs p → SufficesForRun d core p)
 IsAmple d lines.Asm text = Unit {0}
 IsAmple d lines.Check text = Unit {0}
 IsAmple d lines.Convert text = Unit {0}

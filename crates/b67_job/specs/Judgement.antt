@@ -6,7 +6,8 @@ use Rattle.b67_job_admit.specs.Verdicts.{Verdict, check_verdict, asm_verdict, co
 use Rattle.b67_session_lines.specs.Stops.{run_status}
 use Rattle.b67_gen.specs.Generated.{generated_text}
 use Rattle.b67_job.specs.Runs.{run_of}
-use Rattle.b67_job.specs.declared.summaries.Exercise.{Exercise}
+use Rattle.b67_job.specs.declared.summaries.Closing.{Closing}
+use Rattle.b67_job.specs.declared.summaries.Closing.TheVariants as closings
 use Rattle.b67_job.specs.declared.command.CommandLine.{CommandLine}
 use Rattle.b67_job.specs.declared.command.CommandLine.TheVariants as lines
 
@@ -31,6 +32,7 @@ printed (Err refusal) = Refused refusal
 -- by a command and a whole text; an exercise brings its own text
 abbrev pub asked : CommandLine → List ℕ → Judgement
 asked (lines.Run core) text = judgement text
+asked (lines.Image core) text = judgement text
 asked lines.Asm text = printed (asm_verdict text)
 asked lines.Check text = printed (check_verdict text)
 asked lines.Convert text = printed (convert_verdict text)
@@ -40,13 +42,15 @@ asked (lines.Exercise seed size core) text = judgement (generated_text seed size
 -- the words of core that a command opens a session in
 abbrev pub core_asked : CommandLine → Option ℕ
 core_asked (lines.Run core) = Some core
+core_asked (lines.Image core) = Some core
 core_asked (lines.Exercise seed size core) = Some core
 core_asked _ = None
 
--- the exercise that words ask for
-abbrev pub exercise_of : Option CommandLine → Option Exercise
-exercise_of (Some (lines.Exercise seed size core)) = Some (record { seed = seed; size = size })
-exercise_of _ = None
+-- what the run that words ask for prints besides the lines of its steps and of its stop
+abbrev pub closing_of : Option CommandLine → Closing
+closing_of (Some (lines.Exercise seed size core)) = closings.Exercise (record { seed = seed; size = size })
+closing_of (Some (lines.Image core)) = closings.Image
+closing_of _ = closings.Plain
 
 -- these words ask for a command that reads a text: each does but an exercise
 abbrev pub reads_text : Option CommandLine → Bool

@@ -15,10 +15,10 @@ use Rattle.b67_session.specs.Slices.{StandsAt, IsLimited}
 pub use Rattle.b67_session.specs.Slices.{IsOpen, RepresentsWithoutTasks, StepsFit}
 pub use Rattle.b67_session.specs.Shaped.{IsShaped}
 use Rattle.b67_session_lines.specs.Moments.{first_part, due as due_text}
-use Rattle.b67_session_lines.specs.Stops.{Run, halted_line}
+use Rattle.b67_session_lines.specs.Stops.{Run}
 use Rattle.b67_job.specs.Device.{Device, DeviceTells, Failed, DeviceUnchanged, known_now}
-use Rattle.b67_job.specs.Lines.{no_core_line, backing_full_line, backing_fault_line, memory_text, summary}
-use Rattle.b67_job.specs.declared.summaries.Exercise.{Exercise}
+use Rattle.b67_job.specs.Lines.{no_core_line, backing_full_line, backing_fault_line, memory_text, summary, halted_text}
+use Rattle.b67_job.specs.declared.summaries.Closing.{Closing}
 use Rattle.b67_job.specs.Texts.{Text, whole_of, only, TookUpTo, PrintsAndAnswers}
 use Rattle.b67_job.specs.States.{StatesInOrder, JobsRunApart}
 
@@ -49,14 +49,14 @@ IsWithinHalt r steps = IfSome r.halt (λ count. steps ≤ count)
 
 -- no task lives any more, and the halt isn't passed; the machine represents the session without a task, in order but for
 -- places. An exercise has its line after the lines of the steps
-pub record IsDone {B : Type 0} (d : Device B) (r : Run) (exercise : Option Exercise) (k : Machine) (text : Text) : Type 0 where
+pub record IsDone {B : Type 0} (d : Device B) (r : Run) (closing : Closing) (k : Machine) (text : Text) : Type 0 where
   pub session : Session
   pub printed : List RunLine
   pub comes : StandsAfter d r.session k session printed
   pub within : IsWithinHalt r k.tasks.made
   pub rests : RepresentsWithoutTasks (known_now d) k session
   pub ordered : IsInOrderButPlaces session
-  pub text_is : text ≡ record { front = run_text printed; last = summary exercise k.tasks.made }
+  pub text_is : text ≡ record { front = run_text printed; last = summary closing k.tasks.made }
 
 -- the machine represents the session to which the run came, of which this task makes the next step
 pub record StopsInRun {B : Type 0} (d : Device B) (first : Session) (k : Machine) : Type 0 where
@@ -68,11 +68,11 @@ pub record StopsInRun {B : Type 0} (d : Device B) (first : Session) (k : Machine
   pub task : Task
   pub next : IsNext session member task
 
--- its count of steps is that of the halt
-pub record IsHaltedAt {B : Type 0} (d : Device B) (r : Run) (k : Machine) (text : Text) : Type 0 where
+-- its count of steps is that of the halt; where an image is asked for, that of the machine stands before the line of the halt
+pub record IsHaltedAt {B : Type 0} (d : Device B) (r : Run) (closing : Closing) (k : Machine) (text : Text) : Type 0 where
   pub stop : StopsInRun d r.session k
   pub halt : r.halt ≡ Some k.tasks.made
-  pub text_is : text ≡ text_to stop.printed (halted_line k.tasks.made)
+  pub text_is : text ≡ record { front = run_text stop.printed; last = halted_text closing k }
 
 -- the next step is due, and needs more core than there is
 pub record WantsCore {B : Type 0} (d : Device B) (core : ℕ) (r : Run) (k : Machine) (text : Text) : Type 0 where
@@ -173,17 +173,17 @@ pub record WasOpened {B : Type 0} (d : Device B) (core : ℕ) (p : Prepared) (k 
   pub sized : d.sectors_now + 1 ≡ length k.sectors.links
 
 -- then it stopped so
-pub data StopsOpened {B : Type 0} (d : Device B) (core : ℕ) (p : Prepared) (exercise : Option Exercise) (k : Machine) (status : ℕ) (text : Text) : Type 0 where
-  all_end : status ≡ 0 → IsDone d (run_of p) exercise k text → StopsOpened d core p exercise k status text
-  halt_comes : status ≡ 3 → IsHaltedAt d (run_of p) k text → StopsOpened d core p exercise k status text
-  step_wants_core : status ≡ 4 → WantsCore d core (run_of p) k text → StopsOpened d core p exercise k status text
-  step_wants_sectors : status ≡ 5 → WantsSectors d core (run_of p) k text → StopsOpened d core p exercise k status text
-  step_fails : status ≡ 6 → Failed d → IsCutOff d core (run_of p) k text → StopsOpened d core p exercise k status text
+pub data StopsOpened {B : Type 0} (d : Device B) (core : ℕ) (p : Prepared) (closing : Closing) (k : Machine) (status : ℕ) (text : Text) : Type 0 where
+  all_end : status ≡ 0 → IsDone d (run_of p) closing k text → StopsOpened d core p closing k status text
+  halt_comes : status ≡ 3 → IsHaltedAt d (run_of p) closing k text → StopsOpened d core p closing k status text
+  step_wants_core : status ≡ 4 → WantsCore d core (run_of p) k text → StopsOpened d core p closing k status text
+  step_wants_sectors : status ≡ 5 → WantsSectors d core (run_of p) k text → StopsOpened d core p closing k status text
+  step_fails : status ≡ 6 → Failed d → IsCutOff d core (run_of p) k text → StopsOpened d core p closing k status text
 
 -- a run stops, with a machine exactly if a session was opened, and nothing of the next step is printed
-pub data RunStops {B : Type 0} (d : Device B) (core : ℕ) (p : Prepared) (exercise : Option Exercise) (machine : Option Machine) (status : ℕ) (text : Text) : Type 0 where
-  unopened : machine ≡ None → StopsUnopened d core p status text → RunStops d core p exercise machine status text
-  opened : (k : Machine) → machine ≡ Some k → WasOpened d core p k → k.tasks.printed ≡ 0 → StopsOpened d core p exercise k status text → RunStops d core p exercise machine status text
+pub data RunStops {B : Type 0} (d : Device B) (core : ℕ) (p : Prepared) (closing : Closing) (machine : Option Machine) (status : ℕ) (text : Text) : Type 0 where
+  unopened : machine ≡ None → StopsUnopened d core p status text → RunStops d core p closing machine status text
+  opened : (k : Machine) → machine ≡ Some k → WasOpened d core p k → k.tasks.printed ≡ 0 → StopsOpened d core p closing k status text → RunStops d core p closing machine status text
 
 -- the printer was due to take the text of a step, and has taken so many bytes of it, as the machine counts
 pub record IsPrintingStep {B : Type 0} (d : Device B) (core : ℕ) (p : Prepared) (machine : Option Machine) (text : Text) (count : ℕ) : Type 0 where
@@ -193,9 +193,9 @@ pub record IsPrintingStep {B : Type 0} (d : Device B) (core : ℕ) (p : Prepared
   pub counts : count ≡ left.tasks.printed
   pub cut : IsCutInStep d core (run_of p) left text ⊎ IsCutInLimit d (run_of p) left text
 
--- a run stops and its text is printed, unless the printer fails, in its last line or in the text of a step
-pub data DeckRunEnds {K B : Type 0} (taken : K → Option (List ℕ)) (faults : K → ℕ) (d : Device B) (core : ℕ) (p : Prepared) (exercise : Option Exercise) (machine : Option Machine) (old new : K) (answer : ℕ) : Type 0 where
-  run_stops : (status : ℕ) (text : Text) → RunStops d core p exercise machine status text → PrintsAndAnswers taken faults old new status text answer
-      → DeckRunEnds taken faults d core p exercise machine old new answer
+-- a run stops and its text is printed, unless the printer fails, in what is due after the steps or in the text of a step
+pub data DeckRunEnds {K B : Type 0} (taken : K → Option (List ℕ)) (faults : K → ℕ) (d : Device B) (core : ℕ) (p : Prepared) (closing : Closing) (machine : Option Machine) (old new : K) (answer : ℕ) : Type 0 where
+  run_stops : (status : ℕ) (text : Text) → RunStops d core p closing machine status text → PrintsAndAnswers taken faults old new status text answer
+      → DeckRunEnds taken faults d core p closing machine old new answer
   step_is_cut : (text : Text) (count : ℕ) → IsPrintingStep d core p machine text count → answer ≡ 8 → Rose faults old new → TookUpTo taken old new text count
-      → DeckRunEnds taken faults d core p exercise machine old new answer
+      → DeckRunEnds taken faults d core p closing machine old new answer

@@ -9,7 +9,7 @@ use Rattle.b67_job.specs.Command.{command_line_of}
 use Rattle.b67_job.specs.declared.command.CommandLine.{CommandLine}
 use Rattle.b67_job.specs.Device.{Device, Failed, DeviceUnchanged}
 use Rattle.b67_job.specs.Due.{usage_text, reading_text, ReadAll, IsRun, IsDue, IsAllDone, Halts, IsShortOfCore, IsShortOfSectors, IsFailedBy, TextIsRefused}
-use Rattle.b67_job.specs.Judgement.{asked, exercise_of, reads_text}
+use Rattle.b67_job.specs.Judgement.{asked, closing_of, reads_text}
 use Rattle.b67_job.specs.Lines.{memory_text}
 use Rattle.b67_job.specs.Runs.{IsPrintingStep}
 use Rattle.b67_job.specs.Texts.{Text, whole_of, TookUpTo}
@@ -30,10 +30,10 @@ pub record StatusMeans {S B K : Type 0} (words : List (Bor (List ℕ))) (left : 
   -- printed, at the halt at the latest, with an exercise's line after it, and the machine represents a session without tasks; or
   -- the text that it is to print.
   pub done : status ≡ 0 → (command : CommandLine) × (bytes : List ℕ) × (text : Text) × (command_line_of words ≡ Some command) × ReadAll command left deck deck' bytes
-      × IsAllDone d (exercise_of (Some command)) (asked command bytes) machine text × Took taken old new (whole_of text)
+      × IsAllDone d (closing_of (Some command)) (asked command bytes) machine text × Took taken old new (whole_of text)
   -- The run halted: the machine represents a session with a task at the count of its halt, and the text up to there is
-  -- printed, with the line of the halt after it.
-  pub halted : status ≡ 3 → Ran words left deck deck' taken old new (λ core p text. Halts d p machine text)
+  -- printed, with the line of the halt after it. The image of that machine stands between them where the words ask for it.
+  pub halted : status ≡ 3 → Ran words left deck deck' taken old new (λ core p text. Halts d p (closing_of (command_line_of words)) machine text)
   -- Core is too small for the session that opens or for a step, or the device has too few sectors for it. The machine is
   -- before that step, which lacks its segment or its array where sectors are wanted, makes an array longer or starts a task.
   pub core_wanted : status ≡ 4 → Ran words left deck deck' taken old new (λ core p text. IsShortOfCore d core p machine text)
@@ -43,8 +43,8 @@ pub record StatusMeans {S B K : Type 0} (words : List (Bor (List ℕ))) (left : 
   pub backing_fault : status ≡ 6 → Failed d × Ran words left deck deck' taken old new (λ core p text. IsFailedBy d core p machine text)
   -- The source failed, of a command that reads it.
   pub reading_fault : status ≡ 7 → (reads_text (command_line_of words) ≡ true) × Rose source_faults deck deck' × Took taken old new reading_text
-  -- The printer failed. It has taken all lines of the steps, and a part of what is due after them: of the last line; or, as
-  -- the machine counts, of the first part of the next step, or of the lines of LIMIT of the last one.
+  -- The printer failed. It has taken all lines of the steps, and a part of what is due after them: of the last line, or of an
+  -- image and that line; or, as the machine counts, of the first part of the next step, or of the lines of LIMIT of the last one.
   pub printing_fault : status ≡ 8 → Rose printer_faults old new × ((text : Text) × (count : ℕ)
       × (((due : ℕ) × IsDue words left source_faults deck deck' d machine due text)
       ⊎ ((core : ℕ) × (p : Prepared) × IsRun words left deck deck' core p × IsPrintingStep d core p machine text count))

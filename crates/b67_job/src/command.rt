@@ -13,6 +13,8 @@ use b67_card::{number_in, parted};
 pub enum CommandLine {
     /// Runs a deck over so many words of core.
     Run { core: u32 },
+    /// Runs a deck so, and where it halts prints the image of its machine.
+    Image { core: u32 },
     /// Assembles cards, and prints their codefile.
     Asm,
     /// Reads a deck, and prints a line for each of its jobs.
@@ -76,13 +78,14 @@ fn check_options(options: Options<'_>) -> Option<Request<'_>>
     }
 }
 
-fn read_request<'a>(words: &[&'a str]) -> Option<Request<'a>>
-    ensures request { option_map seen_request result ≡ request words.now }
+// What the words ask for, where the first one is this name.
+fn read_request<'a>(name: &str, words: &[&'a str]) -> Option<Request<'a>>
+    ensures request { option_map seen_request result ≡ request name.now words.now }
     ensures core { IfSome result (λ r. (256 ≤ r.core) × (r.core < 2 ^ 20)) }
 {
     match words {
-        [run, first, a, second, b] => {
-            if *run != "run" {
+        [word, first, a, second, b] => {
+            if *word != name {
                 return None;
             }
             match read_options(first, a, second, b) {
@@ -186,20 +189,24 @@ fn one_word(words: &[&str]) -> Option<CommandLine>
     }
 }
 
-/// The command that the words are: `run --core N --backing PATH`, the two options in either order, `asm`, `check`, `convert`,
-/// `exercise SEED SIZE --core N`, or `bind H=P ..` with 1 to 255 pairs. N is 256 to 1,048,575, SEED at most 2,147,483,647, SIZE
-/// 1 to 500, H and P are 1 to 255, each in decimal without sign or leading zero; PATH isn't empty and doesn't begin with `-`.
+/// The command that the words are: `run --core N --backing PATH` or `image --core N --backing PATH`, the two options in either
+/// order, `asm`, `check`, `convert`, `exercise SEED SIZE --core N`, or `bind H=P ..` with 1 to 255 pairs. N is 256 to 1,048,575,
+/// SEED at most 2,147,483,647, SIZE 1 to 500, H and P are 1 to 255, each in decimal without sign or leading zero; PATH isn't empty
+/// and doesn't begin with `-`.
 pub fn command_of(words: &[&str]) -> Option<CommandLine>
     ensures command { result ≡ command_line_of words.now }
     ensures range { IfSome result AreInRange }
 {
     match one_word(words) {
         Some(command) => Some(command),
-        None => match read_request(words) {
+        None => match read_request("run", words) {
             Some(request) => Some(CommandLine::Run { core: request.core }),
-            None => match read_exercise(words) {
-                Some(command) => Some(command),
-                None => read_bind(words),
+            None => match read_request("image", words) {
+                Some(request) => Some(CommandLine::Image { core: request.core }),
+                None => match read_exercise(words) {
+                    Some(command) => Some(command),
+                    None => read_bind(words),
+                },
             },
         },
     }
@@ -209,8 +216,11 @@ pub fn command_of(words: &[&str]) -> Option<CommandLine>
 pub fn backing_path<'a>(words: &[&'a str]) -> Option<&'a str>
     ensures { option_map (λ p. p.now) result ≡ backing_path words.now }
 {
-    match read_request(words) {
+    match read_request("run", words) {
         Some(request) => Some(request.path),
-        None => None,
+        None => match read_request("image", words) {
+            Some(request) => Some(request.path),
+            None => None,
+        },
     }
 }

@@ -33,5 +33,5 @@ pub use lines::{backing_full_line, no_core_line, refusal_line, say_text};
 pub use outcome::Outcome;
 pub use ranges::{decks_are_in_range, prepared_decks_are_in_range};
 pub use runs::run_deck;
-pub use summaries::Exercise;
+pub use summaries::{Closing, Exercise};
 pub use top::{refuse_memory, run};

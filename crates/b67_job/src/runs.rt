@@ -1,6 +1,6 @@
 //! The run of a deck over core.
 
-ghost use Rattle.std.specs.Prelude.{◌≡◌, ◌≢◌, ◌+◌, ◌<◌, ◌≤◌, ◌^◌, ℕ, List, length, map, Option, None};
+ghost use Rattle.std.specs.Prelude.{◌≡◌, ◌≢◌, ◌+◌, ◌<◌, ◌≤◌, ◌^◌, ℕ, List, length, map, Option, None, Ok};
 ghost use Rattle.std.specs.List.{AllByRecursion};
 ghost use Rattle.b67_io.specs.Line.{ended};
 ghost use Rattle.b67_io.specs.Causes.{Rose};
@@ -10,6 +10,7 @@ ghost use Rattle.b67_model.specs.Schedule.{Session};
 ghost use Rattle.b67_session_lines.specs.Ends.{EndsPrinting};
 ghost use Rattle.b67_session_open.specs.Decks.{DeckInRange, IsLoaded};
 ghost use Rattle.b67_session.specs.Slices.{StandsAt, IsOpen, Keeps};
+ghost use Rattle.b67_session.specs.declared.slices.Progress.TheVariants as progress;
 ghost use Rattle.b67_job.specs.Device.{device_of};
 ghost use Rattle.b67_job.specs.Finishing.{refused_status, refused_line, FinishesRun, SessionRan};
 ghost use Rattle.b67_job.specs.Lines.{backing_fault_line};
@@ -17,13 +18,13 @@ ghost use Rattle.b67_job.specs.Runs.{DeckRunEnds};
 
 use crate::lines::{backing_full_line, no_core_line};
 use crate::outcome::Outcome;
-use crate::summaries::{Exercise, say_summary};
+use crate::summaries::{Closing, say_halted, say_summary};
 use b67_backing::Backing;
 use b67_io::Sink;
 use b67_load_verify::Admitted;
 use b67_model_text::Deck;
 use b67_session::{Progress, Stop, slice};
-use b67_session_lines::{halted_line, line_of, say};
+use b67_session_lines::{line_of, say};
 use b67_session_open::{OpenFault, open};
 use b67_task_tables::Machine;
 use std::alloc::Global;
@@ -50,19 +51,20 @@ fn refuse_opening<K: Sink>(fault: OpenFault, printer: &mut K) -> u8
     }
 }
 
-// Prints the last line after the steps that were made.
+// Prints what is due after the steps that were made.
 fn finish<K: Sink>(
     answered: Result<Progress, Stop>,
-    exercise: Option<Exercise>,
-    made: u64,
+    closing: Closing,
+    machine: &Machine,
     printer: &mut K,
 ) -> u8
-    ensures { FinishesRun K.taken K.faults exercise made answered printer.old printer.new result }
+    requires { answered ≡ Ok progress.Halted → machine.now.tasks.printed ≡ 0 }
+    ensures { FinishesRun K.taken K.faults closing machine.now answered printer.old printer.new result }
 {
     match answered {
-        Ok(Progress::Ended) => say_summary(exercise, made, printer),
+        Ok(Progress::Ended) => say_summary(closing, machine.tasks.made, printer),
         Ok(Progress::More) => 0,
-        Ok(Progress::Halted) => say(printer, 3, &halted_line(made)),
+        Ok(Progress::Halted) => say_halted(closing, machine, printer),
         Err(Stop::NoCore { need, core }) => say(printer, 4, &no_core_line(need, core)),
         Err(Stop::BackingFull { sum, sectors }) => say(
             printer,
@@ -74,24 +76,25 @@ fn finish<K: Sink>(
     }
 }
 
-// Makes the steps of a session, which are at most as many as eight jobs may make, and prints the last line.
+// Makes the steps of a session, which are at most as many as eight jobs may make, and prints what is due after them.
 fn run_session<K: Sink, B: Backing>(
     machine: &mut Machine,
-    exercise: Option<Exercise>,
+    closing: Closing,
     printer: &mut K,
     backing: &mut B,
 ) -> u8
     requires open { IsOpen (B.holds backing.old) machine.old }
     requires sized { B.size backing.old + 1 ≡ length machine.old.sectors.links }
+    requires unprinted { machine.old.tasks.printed ≡ 0 }
     ensures ran { (told : Option (List (List ℕ))) (s : Session) → Says told (B.holds backing.old) → StandsAt told machine.old s
-        → SessionRan K.taken K.faults exercise (content_after told (B.holds backing.new)) (told ≢ None) (Rose B.faults backing.old backing.new) (B.size backing.old) 800000000
+        → SessionRan K.taken K.faults closing (content_after told (B.holds backing.new)) (told ≢ None) (Rose B.faults backing.old backing.new) (B.size backing.old) 800000000
         s machine.old machine.new printer.old printer.new result }
     ensures goes_on { IsOpen (B.holds backing.new) machine.new }
     ensures keeps { Keeps machine.old machine.new }
     ensures device { DeviceAfterCalls B.holds B.size B.calls B.faults backing.old backing.new }
 {
     let answered = slice(machine, 800_000_000, backing, printer);
-    finish(answered, exercise, machine.tasks.made, printer)
+    finish(answered, closing, machine, printer)
 }
 
 // What the type of admitted programs says of each.
@@ -103,8 +106,9 @@ pub(crate) fn know_programs(programs: &[Admitted])
     }
 }
 
-/// Opens a deck's session in a core of `core` words over a device, runs it to its end or to its halt, and prints its lines, and
-/// after all tasks of an exercise have ended its line.
+/// Opens a deck's session in a core of `core` words over a device, runs it to its end or to its halt, and prints its lines. After
+/// all tasks of an exercise have ended, its line is printed; where a run halts of which an image is asked, the image before the
+/// line of the halt.
 ///
 /// Status 0 is that all tasks ended, 3 that the halt's count was reached while a task lives. Else the run stops before a
 /// step, or before the first one: 4 if core is too small, 5 if the device has too few sectors, 6 if it failed, 8 if the
@@ -117,7 +121,7 @@ pub fn run_deck<K: Sink, B: Backing>(
     deck: &Deck,
     programs: &[Admitted],
     core: u32,
-    exercise: Option<Exercise>,
+    closing: Closing,
     printer: &mut K,
     backing: &mut B,
 ) -> Outcome
@@ -126,7 +130,7 @@ pub fn run_deck<K: Sink, B: Backing>(
     requires core_low { 256 ≤ core }
     requires core_high { core < 2 ^ 20 }
     ensures ends { DeckRunEnds K.taken K.faults (device_of B.holds B.size B.faults backing.old backing.new) core (deck.now, map program_of programs.now)
-        exercise result.machine printer.old printer.new result.status }
+        closing result.machine printer.old printer.new result.status }
     ensures device { DeviceAfterCalls B.holds B.size B.calls B.faults backing.old backing.new }
 {
     know_programs(programs);
@@ -139,7 +143,7 @@ pub fn run_deck<K: Sink, B: Backing>(
             };
         }
     };
-    let status = run_session(&mut machine, exercise, printer, backing);
+    let status = run_session(&mut machine, closing, printer, backing);
     Outcome {
         status,
         machine: Some(machine),

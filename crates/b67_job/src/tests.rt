@@ -244,6 +244,13 @@ fn faults_and_usage(rt: HostRuntime) -> Result<(), Fail> {
     let turned = ["run", "--backing", "b", "--core", "256"];
     assert!(rt; matches!(command_of(&turned), Some(CommandLine::Run { core: 256 })));
     assert_eq!(rt; backing_path(&turned), Some("b"));
+    let image = ["image", "--core", "4096", "--backing", "b"];
+    assert!(rt; matches!(command_of(&image), Some(CommandLine::Image { core: 4096 })));
+    assert_eq!(rt; backing_path(&image), Some("b"));
+    let halting = sum_deck(rt.alloc(), "?HALT 1\n", "", "")?;
+    let (status, printed) = answer(rt.alloc(), &image, halting.as_slice(), 80, &[], &[2])?;
+    assert_eq!(rt; status, 8);
+    assert_eq!(rt; printed.as_slice(), b"?IMAGE\n".as_slice());
     let mut paper = Paper::new(rt.alloc(), 20, Numbers::new(rt.alloc()))?;
     assert_eq!(rt; refuse_memory(&mut paper).status, 9);
     assert_eq!(rt; paper.bytes(), b"NO MEMORY\n".as_slice());

@@ -15,13 +15,13 @@ ghost use Rattle.b67_job.specs.Statuses.{StatusMeans};
 ghost use Rattle.b67_job.specs.Command.{command_line_of};
 ghost use Rattle.b67_job.specs.declared.command.CommandLine.{CommandLine};
 ghost use Rattle.b67_job.specs.Judgement.{asked, judged_status, reads_text};
-ghost use Rattle.b67_job.specs.Due.{Answered, Serves, RefusalEnds, TextEnds, WritesText, IsRun, IsSpared, IsAmple, Supplies, ExerciseEnds, reading_text};
+ghost use Rattle.b67_job.specs.Due.{Answered, Serves, RunsWhatItReads, RefusalEnds, TextEnds, WritesText, IsRun, IsSpared, IsAmple, Supplies, ExerciseEnds, reading_text};
 
 use crate::command::{CommandLine, command_of};
 use crate::lines::{refusal_line, say_text};
 use crate::outcome::Outcome;
 use crate::runs::run_deck;
-use crate::summaries::Exercise;
+use crate::summaries::{Closing, Exercise};
 use b67_backing::Backing;
 use b67_bind::Pairs;
 use b67_gen::deck_of;
@@ -82,7 +82,12 @@ fn answer<S: Source, K: Sink, B: Backing>(
     ensures device { DeviceAfterCalls B.holds B.size B.calls B.faults backing.old backing.new }
 {
     match command_of(words) {
-        Some(CommandLine::Run { core }) => answer_run(alloc, core, deck, printer, backing),
+        Some(CommandLine::Run { core }) => {
+            answer_run(alloc, core, Closing::Plain, deck, printer, backing)
+        }
+        Some(CommandLine::Image { core }) => {
+            answer_run(alloc, core, Closing::Image, deck, printer, backing)
+        }
         Some(CommandLine::Asm) => without_machine(answer_asm(alloc, deck, printer)),
         Some(CommandLine::Check) => without_machine(answer_check(alloc, deck, printer)),
         Some(CommandLine::Convert) => without_machine(answer_convert(alloc, deck, printer)),
@@ -100,16 +105,19 @@ fn answer<S: Source, K: Sink, B: Backing>(
     }
 }
 
+// Runs the deck that is read.
 fn answer_run<S: Source, K: Sink, B: Backing>(
     alloc: Global,
     core: u32,
+    closing: Closing,
     deck: &mut S,
     printer: &mut K,
     backing: &mut B,
 ) -> Outcome
     requires low { 256 ≤ core }
     requires high { core < 2 ^ 20 }
-    ensures serves { Serves (CommandLine.Run core) S.left S.faults deck.old deck.new (device_of B.holds B.size B.faults backing.old backing.new)
+    ensures serves { (command : CommandLine) → RunsWhatItReads command core closing
+        → Serves command S.left S.faults deck.old deck.new (device_of B.holds B.size B.faults backing.old backing.new)
         result.machine K.taken K.faults printer.old printer.new result.status }
     ensures device { DeviceAfterCalls B.holds B.size B.calls B.faults backing.old backing.new }
 {
@@ -119,7 +127,7 @@ fn answer_run<S: Source, K: Sink, B: Backing>(
             &loaded.deck,
             loaded.programs.as_slice(),
             core,
-            None,
+            closing,
             printer,
             backing,
         ),
@@ -157,7 +165,7 @@ fn answer_exercise<K: Sink, B: Backing>(
         &loaded.deck,
         loaded.programs.as_slice(),
         core,
-        Some(Exercise { seed, size }),
+        Closing::Exercise(Exercise { seed, size }),
         printer,
         backing,
     )
@@ -219,6 +227,8 @@ fn refuse_program<K: Sink>(fault: AdmitFault, printer: &mut K) -> u8
 ///
 /// - `run --core N --backing PATH` opens the deck's session in a core of N words over the backing, and prints the lines of
 ///   its run, up to its halt.
+/// - `image --core N --backing PATH` does the same, and where the run halts prints the image of its machine before the line of
+///   the halt.
 /// - `asm` prints the codefile of assembly cards as hexadecimal cards, 32 bytes to a card, in lower case.
 /// - `check` prints `name ADMITTED s r` for each job of the deck, with its numbers of segments and of data rows.
 /// - `convert` prints the codefile of hexadecimal cards in version 2, with the same segments and rows, as `asm` prints one. The

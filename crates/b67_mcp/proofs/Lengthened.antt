@@ -182,7 +182,7 @@ module _ (x : Storage) (told : Option (List (List ℕ))) (k : Machine) (plan : P
           → StopsAt (record { cpu = cpu; areas = areas; sectors = table; tasks = k.tasks }) before words fault stop
           → a.writable ≡ true
           → LengthSet (content_after told now) count x plan s m a words (Err stop) k (record { cpu = cpu; areas = areas; sectors = table; tasks = k.tasks })
-      set_refused before (space.BackingFull wants free) stop e up size (y, others, view, (free_is, fewer, lacking)) (sum, device, is, sums, size_is) writable =
+      set_refused before (space.BackingFull wants free) stop e up size (y, others, view, (free_is, fewer, lacking), room) (sum, device, is, sums, size_is) writable =
           let S : Stop → Type 0 = λ z. LengthSet (content_after told now) count x plan s m a words (Err z) k new in
           let stands = left y others view in
           let is_sum = sum_of sum before e y (content_after told now) stands sums in
@@ -212,6 +212,7 @@ module _ (x : Storage) (told : Option (List (List ℕ))) (k : Machine) (plan : P
                 (λ l. inl (record { member = m; in_session = has_m; array = a; among = among; present = l.1; unkept = l.0; wants_is = l.2; free_is = free_is; fewer = fewer }))
                 (λ l. inr (record { chain = l.0; wants_is = l.1; free_is = free_is; fewer = fewer }))
                 lacking;
+            room = room;
             sum_is = is_sum;
             size_is = omega (arith, size, size_is);
             exceeds = above;
@@ -223,7 +224,7 @@ module _ (x : Storage) (told : Option (List (List ℕ))) (k : Machine) (plan : P
 
       -- the machine stands for some session then
       pub stands_after : (fault : SpaceFault) → LengthenMeets x (machine_view plan s.jobs) (array_object plan m.constants.number a) words (Err fault) cpu areas table now → StandsOrdered (record { cpu = cpu; areas = areas; sectors = table; tasks = k.tasks })
-      stands_after (space.BackingFull wants free) (y, others, view, lacking) =
+      stands_after (space.BackingFull wants free) (y, others, view, lacking, room) =
           record { storage = y; told = content_after told now; plan = plan; session = s; ordered = o; stands = left y others view }
       stands_after space.BackingFault (y, others, view) = record { storage = y; told = content_after told now; plan = plan; session = s; ordered = o; stands = left y others view }
       stands_after (space.NoCore need core) l = absurd l

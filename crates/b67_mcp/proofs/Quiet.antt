@@ -26,8 +26,8 @@ rest_none taken paper (suc n) = record { rest = []; took = Took-none taken paper
 abbrev pub StaysMany : SessionJob → Task → Type 0
 StaysMany m t = (job : Job) (printed : List Line) (touched : Option ℕ) → step m.constants m.progress.job t ≡ Ok (Goes job printed touched) → length job.tasks ≡ length m.progress.job.tasks
 
-module _ {K : Type 0} (taken : K → Option (List ℕ)) (paper : K) (x : Storage) (told : Option (List (List ℕ))) (count : ℕ) (plan : Placement) (s : Session) (m : SessionJob) (t : Task) (n : ℕ) where
-  pub silent_meets : (done : Result (Unit {0}) Fault) (old new : Machine) → live_tasks s.jobs ≤ s.peak → StaysMany m t → AnswerMeets x told plan s m t done old new → CallMeets taken told count x plan s m t n (Ok (call_end_of done)) old new paper paper
+module _ {K : Type 0} (taken : K → Option (List ℕ)) (paper : K) (x : Storage) (told : Option (List (List ℕ))) (count : ℕ) (plan : Placement) (s : Session) (m : SessionJob) (t : Task) where
+  pub silent_meets : (done : Result (Unit {0}) Fault) (old new : Machine) → live_tasks s.jobs ≤ s.peak → StaysMany m t → AnswerMeets x told plan s m t done old new → CallMeets taken told count x plan s m t (Ok (call_end_of done)) old new paper paper
   silent_meets (Ok done) old new low many (h, rest) = (
     record {
       job = h.job;
@@ -45,7 +45,7 @@ module _ {K : Type 0} (taken : K → Option (List ℕ)) (paper : K) (x : Storage
   silent_meets (Err fault) old new low many h = (h.0, h.1, refl)
 
   -- RESIZE prints nothing either
-  pub resize_meets : (answered : Result CallEnd Stop) (old new : Machine) → called_in m t ≡ Some 18 → live_tasks s.jobs ≤ s.peak → StaysMany m t → ResizeAnswers told count x plan s m t answered old new → CallMeets taken told count x plan s m t n answered old new paper paper
+  pub resize_meets : (answered : Result CallEnd Stop) (old new : Machine) → called_in m t ≡ Some 18 → live_tasks s.jobs ≤ s.peak → StaysMany m t → ResizeAnswers told count x plan s m t answered old new → CallMeets taken told count x plan s m t answered old new paper paper
   resize_meets (Ok ends.Done) old new called low many h = (
     record {
       job = h.job;
@@ -69,7 +69,7 @@ module _ {K : Type 0} (taken : K → Option (List ℕ)) (paper : K) (x : Storage
   resize_meets (Err (stops.NoCore need core)) old new called low many h = absurd h
 
   -- nor do those that start a task, or make one wait
-  pub moved_meets : (answered : Result CallEnd Stop) (old new : Machine) → SilentMeets x told count plan s m t answered old new → CallMeets taken told count x plan s m t n answered old new paper paper
+  pub moved_meets : (answered : Result CallEnd Stop) (old new : Machine) → SilentMeets x told count plan s m t answered old new → CallMeets taken told count x plan s m t answered old new paper paper
   moved_meets (Ok ends.Done) old new (h, rest) =
       (record { job = h.job; printed = []; touched = None; is = h.is; storage = h.storage; plan = h.plan; stands = h.stands; text = rest_none taken paper old.tasks.printed; reset = h.printed }, rest)
   moved_meets (Ok (ends.Absent found)) old new h = absurd h

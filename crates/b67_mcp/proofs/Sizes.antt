@@ -1,5 +1,5 @@
 -- What stays of the machine where core keeps its areas, and where nothing has changed.
-use Rattle.std.proofs.Common.{◌≡◌, ℕ, List, length, refl, sym, ◌∙◌, ap, inl, subst}
+use Rattle.std.proofs.Common.{◌≡◌, ℕ, List, length, refl, sym, ◌∙◌, ap, subst}
 use Rattle.b67_area.specs.Spans.{Span, end}
 use Rattle.b67_model.specs.Schedule.{Session}
 use Rattle.b67_stack.specs.declared.Cpu.{Cpu}
@@ -7,16 +7,17 @@ use Rattle.b67_stack.specs.Represents.{Storage}
 use Rattle.b67_layout.specs.Placement.{Placement}
 use Rattle.b67_layout.specs.Session.{RepresentsSession}
 use Rattle.b67_task_tables.specs.declared.tables.Machine.{Machine}
-use Rattle.b67_mcp.specs.Running.{KeptOutside}
+use Rattle.b67_task_tables.specs.Runs.{Kept}
+use Rattle.b67_task_tables.proofs.Keeping.{kept_same}
 
 -- core has the size that the spans of its directory have
 pub same_size : (x y : Storage) (old new : Cpu) (plan there : Placement) (s z : Session) → RepresentsSession x old plan s → RepresentsSession y new there z → y.low ≡ x.low → y.spans ≡ x.spans → length new.core ≡ length old.core
 same_size x y old new plan there s z a b low spans =
     sym b.holds.memory.directory.all ∙ ap (λ (i : ℕ). end i y.spans) low ∙ ap (λ (ss : List Span). end x.low ss) spans ∙ a.holds.memory.directory.all
 
-pub kept_same : (old new : Machine) → new ≡ old → KeptOutside old new
-kept_same old new e = subst (λ (k : Machine). KeptOutside old k) (sym e) (record { kept = record { countable = λ c. c; keeps = record { core = refl; sectors = refl; halt = refl; names = refl } }; changed = λ i. inl refl; sectors = refl })
+pub kept_is : (old new : Machine) → new ≡ old → Kept old new
+kept_is old new e = subst (λ (k : Machine). Kept old k) (sym e) (kept_same old)
 
 -- how much is printed is no part of it
-pub kept_printed : (old : Machine) (printed : ℕ) → KeptOutside old (record old { tasks = record old.tasks { printed = printed } })
-kept_printed old printed = record { kept = record { countable = λ c. c; keeps = record { core = refl; sectors = refl; halt = refl; names = refl } }; changed = λ i. inl refl; sectors = refl }
+pub kept_printed : (old : Machine) (printed : ℕ) → Kept old (record old { tasks = record old.tasks { printed = printed } })
+kept_printed old printed = record { countable = λ few. few; keeps = record { core = refl; sectors = refl; halt = refl; names = refl } }

@@ -64,6 +64,19 @@ module _ (x : Storage) (cpu : Cpu) (plan : Placement) (s : Session) (m : Session
       (code_object plan m.constants.number 1 m.constants.segments (t.segment - 1) home found.0 found.1 (omega (arith, place.from_one)))) in
       (info_of x object, area_is object at there e, refl, rw (found.1) refl)
 
+  -- its descriptor stands elsewhere than the original of an array
+  pub code_elsewhere : (a : Array) → Has m.progress.job.arrays a → plan.dictionary m.constants.number + 1 + t.segment ≢ plan.home m.constants.number a.identity
+  code_elsewhere a among same =
+      let place = (running_in_order plan s m t o runs).1.place in
+      let found = get_within m.constants.segments (t.segment - 1) (omega (arith, place.from_one, place.within)) in
+      let home = plan.dictionary m.constants.number + 1 + t.segment in
+      let object : PagedObject = record { home = home; kind = kind.Code; numbers = found.0.code } in
+      let there = member_objects plan s.jobs m object has_m
+      (before (code_objects plan m.constants.number 1 m.constants.segments) (map (array_object plan m.constants.number) m.progress.job.arrays) object
+      (code_object plan m.constants.number 1 m.constants.segments (t.segment - 1) home found.0 found.1 (omega (arith, place.from_one)))) in
+      let both : object ≡ array_object plan m.constants.number a = h.holds.memory.slots.laid.differ object (array_object plan m.constants.number a) there (array_object-has plan s.jobs m a has_m among) same in
+      not_code a.writable (ap (λ (z : PagedObject). z.kind) both)
+
   -- that of an array of the job
   array_is : (a : Array) (at : ℕ) → Has m.progress.job.arrays a → area_held x plan m.constants.number a.identity ≡ Some at → area_at x.low x.spans at ≡ Some (info_of x (array_object plan m.constants.number a))
   array_is a at among e = area_is (array_object plan m.constants.number a) at (array_object-has plan s.jobs m a has_m among) e

@@ -162,3 +162,8 @@ pub stop_faults : (k : Machine) (fault : SpaceFault) (stop : Stop) → StopsFor 
 stop_faults k (space.NoCore words size) stop is e = let z : stops.NoCore words size ≡ stops.BackingFault = sym is ∙ e in absurd cc
 stop_faults k (space.BackingFull wants free) stop (sum, size, is, sums, size_is) e = let z : stops.BackingFull sum size ≡ stops.BackingFault = sym is ∙ e in absurd cc
 stop_faults k space.BackingFault stop is e = refl
+
+pub stop_silent : (k : Machine) (fault : SpaceFault) (stop : Stop) → StopsFor k fault stop → stop ≢ stops.PrintFault
+stop_silent k (space.NoCore words size) stop is e = let both = sym is ∙ e in cc
+stop_silent k (space.BackingFull wants free) stop (sum, size, is, sums, size_is) e = let both = sym is ∙ e in cc
+stop_silent k space.BackingFault stop is e = let both = sym is ∙ e in cc

@@ -5,7 +5,7 @@ use Rattle.b67_model.specs.Common.{Array, Condition, Task, Job, SessionJob, with
 use Rattle.b67_stack.specs.declared.What.{What}
 use Rattle.b67_stack.specs.declared.What.TheVariants as what
 use Rattle.b67_stack.specs.Represents.{Storage}
-use Rattle.b67_layout_storage.specs.Machine.{Says, content_after}
+use Rattle.b67_layout_storage.specs.Machine.{Says, content_after, HasHole}
 use Rattle.b67_layout.specs.Common.{Placement, with_job, area_held, IsInStack, shown, session_moved}
 use Rattle.b67_exec_cells.specs.Running.{code_area}
 use Rattle.b67_exec_cells.specs.Called.{called_in}
@@ -123,12 +123,16 @@ pub record IsRefused (x : Storage) (told : Option (List (List ℕ))) (plan : Pla
   pub others : (home : ℕ) → home ≢ plan.home m.constants.number longer.array.identity → storage.held home ≡ x.held home
   pub tables : new.tasks ≡ old.tasks
 
--- so it is where the session that the call would make takes more sectors than the device has, and the machine is short of some
+-- so it is where the session that the call would make takes more sectors than the device has, and the machine is short of some. The
+-- running segment is in core; and if the array isn't any more, a hole has room for it
 pub record IsFull (x : Storage) (told : Option (List (List ℕ))) (count : ℕ) (plan : Placement) (s : Session) (m : SessionJob) (t : Task) (sum size : ℕ) (old new : Machine) : Type 0 where
   pub refused : IsRefused x told plan s m t old new
   pub wants : ℕ
   pub free : ℕ
   pub short : IsShortAt refused.storage plan s.jobs m t wants free
+  pub touches : refused.longer.touched ≡ Some refused.longer.array.identity
+  pub code : code_area refused.storage plan m t ≢ None
+  pub room : area_held refused.storage plan m.constants.number refused.longer.array.identity ≡ None → HasHole (length refused.longer.array.numbers + 2) refused.storage.spans
   pub sum_is : sum ≡ sectors (with_job s m refused.longer.job).jobs
   pub size_is : size ≡ count
   pub exceeds : count < sum
@@ -160,17 +164,17 @@ pub record LacksCore (core : ℕ) (s : Session) (m : SessionJob) (t : Task) (wor
 -- By what was answered, over a device of so many sectors that tells this afterwards. Where the call wasn't made nothing has
 -- changed but, after a printer's failure, how much is printed, and, after a want of sectors or a device's failure, where the
 -- array is held or which areas are present
-abbrev pub CallMeets : {K : Type 0} → (K → Option (List ℕ)) → Option (List (List ℕ)) → ℕ → Storage → Placement → Session → SessionJob → Task → ℕ → Result CallEnd Stop → Machine → Machine → K → K → Type 0
-CallMeets taken told count x plan s m t n (Ok ends.Done) old new paper paper' =
+abbrev pub CallMeets : {K : Type 0} → (K → Option (List ℕ)) → Option (List (List ℕ)) → ℕ → Storage → Placement → Session → SessionJob → Task → Result CallEnd Stop → Machine → Machine → K → K → Type 0
+CallMeets taken told count x plan s m t (Ok ends.Done) old new paper paper' =
     (c : IsCalled taken paper paper' told s m t old.tasks.printed new) × StaysInPlace x c.storage plan c.plan m t c.job
-CallMeets taken told count x plan s m t n (Ok (ends.Absent found)) old new paper paper' = TouchesAbsent x plan m t found × (new ≡ old) × (paper' ≡ paper)
-CallMeets taken told count x plan s m t n (Ok (ends.Fault fault)) old new paper paper' = (step m.constants m.progress.job t ≡ Err fault) × (new ≡ old) × (paper' ≡ paper)
-CallMeets taken told count x plan s m t n (Ok (ends.Waits state)) old new paper paper' = WaitsSo plan m t state × (new ≡ old) × (paper' ≡ paper)
-CallMeets taken told count x plan s m t n (Err stops.PrintFault) old new paper paper' = IsCut taken paper paper' m t old.tasks.printed new.tasks.printed × OnlyPrinted old new
-CallMeets taken told count x plan s m t n (Err (stops.BackingFull sum size)) old new paper paper' =
+CallMeets taken told count x plan s m t (Ok (ends.Absent found)) old new paper paper' = TouchesAbsent x plan m t found × (new ≡ old) × (paper' ≡ paper)
+CallMeets taken told count x plan s m t (Ok (ends.Fault fault)) old new paper paper' = (step m.constants m.progress.job t ≡ Err fault) × (new ≡ old) × (paper' ≡ paper)
+CallMeets taken told count x plan s m t (Ok (ends.Waits state)) old new paper paper' = WaitsSo plan m t state × (new ≡ old) × (paper' ≡ paper)
+CallMeets taken told count x plan s m t (Err stops.PrintFault) old new paper paper' = IsCut taken paper paper' m t old.tasks.printed new.tasks.printed × OnlyPrinted old new
+CallMeets taken told count x plan s m t (Err (stops.BackingFull sum size)) old new paper paper' =
     (IsFull x told count plan s m t sum size old new ⊎ IsUnstartedFull told count plan s m t sum size old new) × (paper' ≡ paper)
-CallMeets taken told count x plan s m t n (Err stops.BackingFault) old new paper paper' = (IsRefused x told plan s m t old new ⊎ IsUnstarted told plan s m t old new) × (paper' ≡ paper)
-CallMeets taken told count x plan s m t n (Err (stops.NoCore words size)) old new paper paper' = LacksCore (length old.cpu.core) s m t words size × (new ≡ old) × (paper' ≡ paper)
+CallMeets taken told count x plan s m t (Err stops.BackingFault) old new paper paper' = (IsRefused x told plan s m t old new ⊎ IsUnstarted told plan s m t old new) × (paper' ≡ paper)
+CallMeets taken told count x plan s m t (Err (stops.NoCore words size)) old new paper paper' = LacksCore (length old.cpu.core) s m t words size × (new ≡ old) × (paper' ≡ paper)
 
 -- a step that starts a task, was made so or was stopped by the device, needs no more words than core has
 abbrev pub CallFits : ℕ → Session → SessionJob → Task → Result CallEnd Stop → Type 0
@@ -200,10 +204,17 @@ CallTouches x plan m t (Err stop) = Unit {0}
 abbrev pub ChangesStack : Machine → Machine → Type 0
 ChangesStack old new = (i : ℕ) → (slice_get new.cpu.core i ≡ slice_get old.cpu.core i) ⊎ IsInStack old.cpu.regs i
 
+-- what is said of every call that may write to the device, beside its row's meaning: what it touches is present, core has room
+-- for a task that it starts, and the device is as it was unless the call may have written to it
+pub record CallReaches {D : Type 0} (core : ℕ) (x : Storage) (plan : Placement) (s : Session) (m : SessionJob) (t : Task) (answered : Result CallEnd Stop) (device device' : D) : Type 0 where
+  pub present : CallTouches x plan m t answered
+  pub fits : CallFits core s m t answered
+  pub quiet : (CallWrites x plan m t answered → ⊥) → device' ≡ device
+
 -- What a call answers and leaves, over a device of so many sectors; `holds` is what it tells of them
 pub record CallRow {D K : Type 0} (holds : D → Option (List (List ℕ))) (taken : K → Option (List ℕ)) (count : ℕ) (x : Storage) (told : Option (List (List ℕ))) (plan : Placement) (s : Session) (m : SessionJob) (t : Task) (n : ℕ) (answered : Result CallEnd Stop) (old new : Machine) (device device' : D) (paper paper' : K) : Type 0 where
   -- the answer is its row's, where the device tells what the storage says of it; and if the call was made, areas stay as said
-  pub row : Says told (holds device) → CallMeets taken (content_after told (holds device')) count x plan s m t n answered old new paper paper'
+  pub row : Says told (holds device) → CallMeets taken (content_after told (holds device')) count x plan s m t answered old new paper paper'
   -- what the call touches is present, where it was made, faults, or was stopped by the printer or the device
   pub present : CallTouches x plan m t answered
   -- core has room for a task that the call started, or was stopped at by the device

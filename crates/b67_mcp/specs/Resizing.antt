@@ -6,6 +6,7 @@ use Rattle.b67_backing.specs.declared.refusals.SpaceFault.{SpaceFault}
 use Rattle.b67_backing.specs.declared.refusals.SpaceFault.TheVariants as space
 use Rattle.b67_model.specs.Common.{Array, Task, Job, SessionJob, Goes, with_array, resized, sectors, step, Session}
 use Rattle.b67_stack.specs.Represents.{Storage}
+use Rattle.b67_layout_storage.specs.Machine.{HasHole}
 use Rattle.b67_layout.specs.Common.{IsInOrderButCounts, Placement, with_job, area_held}
 use Rattle.b67_task_tables.specs.declared.tables.Machine.{Machine}
 use Rattle.b67_task_tables.specs.Tables.{MachineRepresents}
@@ -64,12 +65,14 @@ pub record ChainLacks (y : Storage) (plan : Placement) (m : SessionJob) (a : Arr
   pub free_is : free ≡ length y.shelf.free
   pub fewer : free < wants
 
--- and it is short of sectors: the session with the array of so many words takes more than the device has
+-- and it is short of sectors: the session with the array of so many words takes more than the device has. If the array isn't in
+-- core any more, a hole has room for it
 pub record IsUnset (x : Storage) (told : Option (List (List ℕ))) (count : ℕ) (plan : Placement) (s : Session) (m : SessionJob) (a : Array) (words sum size : ℕ) (old new : Machine) : Type 0 where
   pub left : StaysButArray x told plan s m a old new
   pub wants : ℕ
   pub free : ℕ
   pub short : IsShortOf left.storage plan s.jobs wants free ⊎ ChainLacks left.storage plan m a words wants free
+  pub room : area_held left.storage plan m.constants.number a.identity ≡ None → HasHole (length a.numbers + 2) left.storage.spans
   pub sum_is : sum ≡ sectors (session_resized s m a words).jobs
   pub size_is : size ≡ count
   pub exceeds : count < sum

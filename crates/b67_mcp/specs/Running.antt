@@ -10,12 +10,13 @@ use Rattle.b67_mcp_call.specs.Calls.{MayCut}
 pub use Rattle.b67_mcp_process.specs.Process.{CanNumber}
 use Rattle.b67_task_tables.specs.declared.tables.JobRow.{JobRow}
 use Rattle.b67_task_tables.specs.declared.tables.Machine.{Machine}
-use Rattle.b67_task_tables.specs.Runs.{RunsTask, ForEachRun, Keeps}
+use Rattle.b67_task_tables.specs.Runs.{RunsTask, ForEachRun}
+pub use Rattle.b67_task_tables.specs.Runs.{Kept}
 use Rattle.b67_exec_cells.specs.Called.{called_in}
 use Rattle.b67_io.specs.Causes.{Rose}
 use Rattle.b67_mcp.specs.declared.ends.Stop.{Stop}
 use Rattle.b67_mcp.specs.declared.ends.Stop.TheVariants.{BackingFault, PrintFault}
-use Rattle.b67_mcp.specs.Called.{AreCountable, ChangesStack}
+use Rattle.b67_mcp.specs.Called.{AreCountable}
 
 -- for each session in order that the machine stands for, with its running task, whose segment is present
 abbrev pub ForRuns : Machine → (Storage → Option (List (List ℕ)) → Placement → Session → SessionJob → Task → Type 0) → Type 0
@@ -46,21 +47,15 @@ pub record JobsHaveRoom (rows : List JobRow) : Type 0 where
   pub countable : AreCountable rows
   pub number : CanNumber rows
 
--- what a call keeps: the size of core, the number of sectors, the halt, and that the numbers for READ are few
-pub record Kept (old new : Machine) : Type 0 where
-  pub countable : AreCountable old.tasks.jobs → AreCountable new.tasks.jobs
-  pub keeps : Keeps old new
-
--- and what it keeps that pages nothing: core outside the running stack, and the sectors
-pub record KeptOutside (old new : Machine) : Type 0 where
-  pub kept : Kept old new
-  pub changed : ChangesStack old new
-  pub sectors : new.sectors ≡ old.sectors
-
 -- the printer's count of failures hasn't fallen, and has risen where the call failed to print
 pub record IsHeard {K A : Type 0} (faults : K → ℕ) (old new : K) (result : Result A Stop) : Type 0 where
   pub later : faults old ≤ faults new
   pub failed : result ≡ Err PrintFault → Rose faults old new
+
+-- a call without a printer: the device's count of failures has risen where it failed
+pub record SilentCauses {B A : Type 0} (failed : B → ℕ) (backing backing' : B) (answered : Result A Stop) : Type 0 where
+  pub device : answered ≡ Err BackingFault → Rose failed backing backing'
+  pub silent : answered ≢ Err PrintFault
 
 -- the device's count of failures has risen where it failed; so has the printer's, which never falls
 pub record CallCauses {B K A : Type 0} (failed : B → ℕ) (unprinted : K → ℕ) (backing backing' : B) (paper paper' : K) (answered : Result A Stop) : Type 0 where

@@ -6,8 +6,8 @@ ghost use Rattle.b67_session_lines.specs.Parts.{TookRest, TookMore};
 ghost use Rattle.b67_model.specs.Steps.{Values};
 ghost use Rattle.b67_mcp_calls.specs.Texts.{values_of};
 ghost use Rattle.b67_mcp.specs.declared.ends.Stop.TheVariants.{BackingFault};
-ghost use Rattle.b67_mcp.specs.Called.{printed_text, CallsSome, CallMeets, CallTouches};
-ghost use Rattle.b67_mcp.specs.Running.{ForRuns, ForCalls, ReadsOperator, KeptOutside, IsHeard};
+ghost use Rattle.b67_mcp.specs.Called.{printed_text, CallsSome, CallMeets, CallTouches, ChangesStack};
+ghost use Rattle.b67_mcp.specs.Running.{ForRuns, ForCalls, ReadsOperator, Kept, IsHeard};
 
 use crate::running::{cut, running_row};
 use crate::{CallEnd, Stop};
@@ -49,11 +49,13 @@ fn say_words<K: Sink>(
 /// changed, and where the printer fails nothing but how much is printed.
 pub(crate) fn print_row<K: Sink>(machine: &mut Machine, paper: &mut K) -> Result<CallEnd, Stop>
     requires { CallsSome machine.old 10 }
-    ensures row { ForCalls machine.old 10 (λ x told plan s m t. (count : ℕ) → CallMeets K.taken told count x plan s m t 10 result machine.old machine.new paper.old paper.new) }
+    ensures row { ForCalls machine.old 10 (λ x told plan s m t. (count : ℕ) → CallMeets K.taken told count x plan s m t result machine.old machine.new paper.old paper.new) }
     ensures present { ForCalls machine.old 10 (λ x told plan s m t. CallTouches x plan m t result) }
     ensures cause { IsHeard K.faults paper.old paper.new result }
     ensures stops { result ≢ Err BackingFault }
-    ensures kept { KeptOutside machine.old machine.new }
+    ensures kept { Kept machine.old machine.new }
+    ensures changed { ChangesStack machine.old machine.new }
+    ensures sectors { machine.new.sectors ≡ machine.old.sectors }
 {
     let found = match row_to_print(&machine.cpu) {
         Ok(found) => found,

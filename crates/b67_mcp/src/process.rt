@@ -1,12 +1,10 @@
 //! PROCESS.
 
-ghost use Rattle.std.specs.Prelude.{◌≡◌, ◌≢◌, ◌+◌, Err, length};
-ghost use Rattle.b67_io.specs.Causes.{Rose};
+ghost use Rattle.std.specs.Prelude.{◌≡◌, ◌+◌, length};
 ghost use Rattle.b67_layout_storage.specs.Machine.{Says, DeviceAfterCalls, content_after};
 ghost use Rattle.b67_mcp.specs.Answers.{SilentMeets};
-ghost use Rattle.b67_mcp.specs.Called.{CallsSome, CallTouches, CallWrites, CallFits};
-ghost use Rattle.b67_mcp.specs.Running.{CanNumber, ForCalls, Kept};
-ghost use Rattle.b67_mcp.specs.declared.ends.Stop.TheVariants.{BackingFault, PrintFault};
+ghost use Rattle.b67_mcp.specs.Called.{CallsSome, CallReaches};
+ghost use Rattle.b67_mcp.specs.Running.{CanNumber, ForCalls, Kept, SilentCauses};
 
 use crate::running::next_place;
 use crate::stopping::stop_for;
@@ -24,10 +22,8 @@ pub(crate) fn start<B: Backing>(machine: &mut Machine, backing: &mut B) -> Resul
     requires same { B.size backing.old + 1 ≡ length machine.old.sectors.links }
     ensures row { ForCalls machine.old 12 (λ x told plan s m t. Says told (B.holds backing.old)
         → SilentMeets x (content_after told (B.holds backing.new)) (B.size backing.old) plan s m t result machine.old machine.new) }
-    ensures present { ForCalls machine.old 12 (λ x told plan s m t. CallTouches x plan m t result × CallFits (length machine.old.cpu.core) s m t result) }
-    ensures quiet { ForCalls machine.old 12 (λ x told plan s m t. (CallWrites x plan m t result → ⊥) → backing.new ≡ backing.old) }
-    ensures cause { result ≡ Err BackingFault → Rose B.faults backing.old backing.new }
-    ensures silent { result ≢ Err PrintFault }
+    ensures reaches { ForCalls machine.old 12 (λ x told plan s m t. CallReaches (length machine.old.cpu.core) x plan s m t result backing.old backing.new) }
+    ensures causes { SilentCauses B.faults backing.old backing.new result }
     ensures kept { Kept machine.old machine.new }
     ensures device { DeviceAfterCalls B.holds B.size B.calls B.faults backing.old backing.new }
 {

@@ -1,32 +1,21 @@
 //! RESIZE.
 
 ghost use Rattle.std.specs.Prelude.{◌≡◌, ◌≢◌, ℕ, ◌+◌, ◌^◌, ◌<◌, ◌≤◌, Ok, Err, length};
-ghost use Rattle.b67_io.specs.Causes.{Rose};
-ghost use Rattle.b67_backing.specs.Held.{sectors_for};
 ghost use Rattle.b67_backing.specs.declared.refusals.SpaceFault.TheVariants.{NoCore};
 ghost use Rattle.b67_layout_storage.specs.Machine.{Says, DeviceAfterCalls, content_after};
 ghost use Rattle.b67_mcp.specs.Called.{CallsSome, CallTouches, CallWrites};
 ghost use Rattle.b67_mcp.specs.Resizing.{HasArray, ForArrays, StopsAt, LengthSet, ResizeAnswers};
-ghost use Rattle.b67_mcp.specs.Running.{ForCalls, Kept};
-ghost use Rattle.b67_mcp.specs.declared.ends.Stop.TheVariants.{BackingFault, PrintFault};
+ghost use Rattle.b67_mcp.specs.Running.{ForCalls, Kept, SilentCauses};
 ghost use Rattle.b67_task_need.specs.Needing.{StandsOrdered};
 
 use crate::running::next_place;
 use crate::{CallEnd, Stop};
-use b67_backing::{Backing, SpaceFault};
+use b67_backing::{Backing, SpaceFault, sectors_needed};
 use b67_mcp_calls::{Resizing, array_to_resize, cut_call};
 use b67_mcp_lengths::{lengthen_array, shorten_array};
 use b67_stack::What;
 use b67_task_need::sector_sum;
 use b67_task_tables::Machine;
-
-/// The sectors that so many words take.
-fn sectors_of(words: u32) -> u32
-    requires { words < 2 ^ 16 }
-    ensures { result ≡ sectors_for words }
-{
-    (words + 29) / 30
-}
 
 /// The stop when there is no space to make an array longer: with the sectors that the session would take, and those of the
 /// device, if too few are free.
@@ -39,7 +28,7 @@ fn stopped(machine: &Machine, fault: SpaceFault, before: u32, after: u32) -> Sto
 {
     match fault {
         SpaceFault::BackingFull { .. } => Stop::BackingFull {
-            sum: sector_sum(machine) + sectors_of(after) - sectors_of(before),
+            sum: sector_sum(machine) + sectors_needed(after) - sectors_needed(before),
             sectors: machine.sectors.count(),
         },
         SpaceFault::BackingFault => Stop::BackingFault,
@@ -57,14 +46,12 @@ fn set_length<B: Backing>(
     after: u32,
 ) -> Result<(), Stop>
     requires array { HasArray machine.old original before }
-    requires some { 0 < after }
-    requires few { after < 2 ^ 16 }
+    requires length { (0 < after) × (after < 2 ^ 16) }
     requires same { B.size backing.old + 1 ≡ length machine.old.sectors.links }
     ensures row { ForArrays machine.old original before (λ x told plan s m a. Says told (B.holds backing.old)
         → LengthSet (content_after told (B.holds backing.new)) (B.size backing.old) x plan s m a after result machine.old machine.new) }
     ensures quiet { after ≤ before → (result ≡ Ok tt) × (backing.new ≡ backing.old) }
-    ensures cause { result ≡ Err BackingFault → Rose B.faults backing.old backing.new }
-    ensures silent { result ≢ Err PrintFault }
+    ensures causes { SilentCauses B.faults backing.old backing.new result }
     ensures kept { Kept machine.old machine.new }
     ensures device { DeviceAfterCalls B.holds B.size B.calls B.faults backing.old backing.new }
 {
@@ -103,8 +90,7 @@ pub(crate) fn resize<B: Backing>(machine: &mut Machine, backing: &mut B) -> Resu
         → ResizeAnswers (content_after told (B.holds backing.new)) (B.size backing.old) x plan s m t result machine.old machine.new) }
     ensures present { ForCalls machine.old 18 (λ x told plan s m t. CallTouches x plan m t result) }
     ensures quiet { ForCalls machine.old 18 (λ x told plan s m t. (CallWrites x plan m t result → ⊥) → backing.new ≡ backing.old) }
-    ensures cause { result ≡ Err BackingFault → Rose B.faults backing.old backing.new }
-    ensures silent { result ≢ Err PrintFault }
+    ensures causes { SilentCauses B.faults backing.old backing.new result }
     ensures kept { Kept machine.old machine.new }
     ensures device { DeviceAfterCalls B.holds B.size B.calls B.faults backing.old backing.new }
 {

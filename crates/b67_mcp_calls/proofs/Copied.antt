@@ -1,7 +1,8 @@
 -- The array that a word copies whole.
-use Rattle.std.proofs.Common.{◌≡◌, ℕ, Ok, sym, ◌∙◌, true, false, subst}
+use Rattle.std.proofs.Common.{◌≡◌, ℕ, Ok, Err, refl, sym, ◌∙◌, true, false, subst}
 use Rattle.std.proofs.lemmas.Bool.{true≢false, false≢true}
 use Rattle.b67_word.specs.Tagged.{Tagged}
+use Rattle.b67_word.specs.declared.faults.Fault.TheVariants.{InvalidOperand}
 use Rattle.b67_ctl.specs.declared.descriptors.DataDesc.{DataDesc}
 use Rattle.b67_model.specs.Common.{Word, Task, SessionJob, row_copy, Session}
 use Rattle.b67_layout.specs.Common.{IsInOrderButCounts, Placement, IsRunning, RepresentsSession}
@@ -23,3 +24,9 @@ module _ (x : Storage) (cpu : Cpu) (plan : Placement) (s : Session) (m : Session
   copy_found d original (row b e c j k o) z y found =
       let P : Word → Type 0 = λ u. FindsArray plan m (Ok original) (row_copy u) in
       subst P (sym e) (found (plan.home m.constants.number b) k, record { item = o.item; live = o.live; named = o.named; inside = not_empty cpu.core cpu.regs (live_of (here_scene x cpu plan s m t ordered h runs)) b o })
+
+  -- no copy of a whole array
+  pub no_copy : (d : DataDesc) → Described cpu.core cpu.regs (live_of (here_scene x cpu plan s m t ordered h runs)) i.at i.owner v d → (d.copy ≡ true → d.indexed ≡ false → ⊥) → FindsArray plan m (Err InvalidOperand) (row_copy v)
+  no_copy d (own b e c k o) none = let P : Word → Type 0 = λ u. FindsArray plan m (Err InvalidOperand) (row_copy u) in subst P (sym e) refl
+  no_copy d (row b e c j k o) none = absurd (none c j)
+  no_copy d (item b n e c j k l o) none = let P : Word → Type 0 = λ u. FindsArray plan m (Err InvalidOperand) (row_copy u) in subst P (sym e) refl

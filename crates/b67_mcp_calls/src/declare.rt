@@ -47,7 +47,7 @@ pub fn array_length(cpu: &Cpu) -> Result<u32, Fault>
     length
 }
 
-/// Cuts the call of ARRAYDEC off the running stack, and puts the original of a new array of so many zeros on the
+/// Cuts the call of ARRAYDEC off the running stack, and puts the original of a new array of `length` zeros on the
 /// activation record below. The array is in no area and in no chain. The task goes on at a place of its segment.
 pub fn answer_array(cpu: &mut Cpu, length: u32, next: Place)
     requires call { CutSome cpu.old }

@@ -33,15 +33,11 @@ pub(crate) fn copied(cpu: &Cpu, w: Word) -> Result<u32, Fault>
     if w.tag() != 5 {
         return Err(Fault::InvalidOperand);
     }
-    match DataDesc::from_word(w) {
-        Some(copy) => {
-            if copy.copy && !copy.indexed {
-                Ok(owner(&cpu.core, copy))
-            } else {
-                Err(Fault::InvalidOperand)
-            }
-        }
-        None => unreachable!(),
+    let copy = DataDesc::read(w);
+    if copy.copy && !copy.indexed {
+        Ok(owner(&cpu.core, copy))
+    } else {
+        Err(Fault::InvalidOperand)
     }
 }
 

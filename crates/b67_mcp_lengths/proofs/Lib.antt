@@ -2,3 +2,4 @@ pub mod Freeing
 pub mod Emptied
 pub mod Shorter
 pub mod Longer
+pub mod Freed

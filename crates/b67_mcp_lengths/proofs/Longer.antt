@@ -8,6 +8,7 @@ use Rattle.b67_word.specs.Common.{Tagged, word, number}
 use Rattle.b67_core.proofs.Writes.{slice_get-set_same, slice_get-set_other}
 use Rattle.b67_area.specs.declared.Kind.{Kind}
 use Rattle.b67_area.specs.declared.Kind.TheVariants.{Array}
+use Rattle.b67_area.specs.Spans.{area_at}
 use Rattle.b67_area.proofs.Climbs.{area_at-low}
 use Rattle.b67_area.proofs.Separation.{IsDirectory-set_below}
 use Rattle.b67_backing.specs.Shelf.{Table, Shelf, IsShelf, chain_of, first}
@@ -32,6 +33,7 @@ use Rattle.b67_overlay.specs.AreasEvicted.{Overlays}
 use Rattle.b67_overlay.specs.Overlaid.{retelling, overlaid, chain_out, IsShort}
 use Rattle.b67_overlay.proofs.Chains.{free_apart, free_first, Told-same, Says-retold}
 use Rattle.b67_mcp_lengths.specs.Lengths.{grown_to, OthersStay, LengthenMeets}
+use Rattle.b67_mcp_lengths.proofs.Freed.{hole_freed}
 
 -- what a device tells after a call
 abbrev pub Tells : Option (List (List ℕ)) → Option (List (List ℕ)) → (List (List ℕ) → List (List ℕ) → Type 0) → Type 0
@@ -204,21 +206,21 @@ module _ {D : Type 0} (tell : D → Option (List (List ℕ))) (x : Storage) (p :
       → LengthenMeets x p t words (Err fault) cpu areas table' (tell b1)
   refused_overlay (spaces.BackingFull wants free) old cpu table table' b0 b1 h none o =
       let k = (o.full wants free).0 refl in
-      (retelling x (tell b1), record { low = refl; others = λ q n. refl; device = refl }, o.refused, (k.2, omega (arith, k.0.few, k.1, k.2), inl (k.0.none, λ e. none-some at (sym e ∙ h.present), k.1)))
+      (retelling x (tell b1), record { low = refl; others = λ q n. refl; device = refl }, o.refused, (k.2, omega (arith, k.0.few, k.1, k.2), inl (k.0.none, λ e. none-some at (sym e ∙ h.present), k.1)), λ e. absurd (none-some at (sym e ∙ h.present)))
   refused_overlay spaces.BackingFault old cpu table table' b0 b1 h none o = (retelling x (tell b1), record { low = refl; others = λ q n. refl; device = refl }, o.refused)
   refused_overlay (spaces.NoCore need size) old cpu table table' b0 b1 h none o = none need size refl
 
   -- the chain is as before
   pub refused_extend : (fault : SpaceFault) (told : Option (List (List ℕ))) (cpu : Cpu) (t1 t2 : Table) (b1 b2 : D) → Says x.device told → ((all : List (List ℕ)) → told ≡ Some all → (y : List (List ℕ)) × (tell b1 ≡ Some y))
-      → MachineCanPage (overlaid x t at (tell b1)) cpu areas t1 (tell b1) p → IsOut (overlaid x t at (tell b1)) t → length t.numbers < words
+      → area_at x.low x.spans at ≡ Some (info_of x t) → MachineCanPage (overlaid x t at (tell b1)) cpu areas t1 (tell b1) p → IsOut (overlaid x t at (tell b1)) t → length t.numbers < words
       → ExtendMeets tell b1 b2 t1 t2 (overlaid x t at (tell b1)).shelf ((overlaid x t at (tell b1)).held t.home).chain (length t.numbers) words (Err fault)
       → LengthenMeets x p t words (Err fault) cpu areas t2 (tell b2)
-  refused_extend (spaces.BackingFull wants free) told cpu t1 t2 b1 b2 says f m out longer (w, e, less, same, still) =
+  refused_extend (spaces.BackingFull wants free) told cpu t1 t2 b1 b2 says f was m out longer (w, e, less, same, still) =
       let y = overlaid x t at (tell b1) in
       let M : Table → D → Type 0 = λ z b. MachineCanPage y cpu areas z (tell b) p in
       let O : D → Type 0 = λ b. OthersStay x y t.home (tell b) in
-      (y, subst O (sym still) (others_out x t at (tell b1)), subst (λ (z : Table). M z b2) (sym same) (subst (M t1) (sym still) m), (e, less, inr (λ z. omega (arith, out.some, z), omega (arith, w, longer))))
-  refused_extend spaces.BackingFault told cpu t1 t2 b1 b2 says f m out longer (room, shelf, same) =
+      (y, subst O (sym still) (others_out x t at (tell b1)), subst (λ (z : Table). M z b2) (sym same) (subst (M t1) (sym still) m), (e, less, inr (λ z. omega (arith, out.some, z), omega (arith, w, longer))), λ none. hole_freed x.low at x.spans (info_of x t) was)
+  refused_extend spaces.BackingFault told cpu t1 t2 b1 b2 says f was m out longer (room, shelf, same) =
       let y = overlaid x t at (tell b1) in (
         retelling y (tell b2),
         record { low = refl; others = (others_out x t at (tell b1)).others; device = retold_twice x.device told (tell b1) (tell b2) says f },
@@ -230,7 +232,7 @@ module _ {D : Type 0} (tell : D → Option (List (List ℕ))) (x : Storage) (p :
           copies = m.copies;
         },
       )
-  refused_extend (spaces.NoCore need size) told cpu t1 t2 b1 b2 says f m out longer e = e
+  refused_extend (spaces.NoCore need size) told cpu t1 t2 b1 b2 says f was m out longer e = e
 
 -- a device after a chain was made longer, or wasn't
 pub device_extended : {D : Type 0} (tell : D → Option (List (List ℕ))) (many counted failed : D → ℕ) (b1 b2 : D) (t1 t2 : Table) (s : Shelf) (first have want : ℕ) (result : Result (Unit {0}) SpaceFault) → KeepsDevice many counted failed b1 b2 result

@@ -10,7 +10,7 @@ use Rattle.b67_backing.specs.declared.SpaceFault.TheVariants as spaces
 use Rattle.b67_lemmas.specs.Lists.{Has}
 use Rattle.b67_stack.specs.declared.Cpu.{Cpu}
 use Rattle.b67_stack.specs.Common.{nowhere, PagedObject, MachineView, Storage, with_held, TakesPlace}
-use Rattle.b67_layout_storage.specs.Machine.{content_after}
+use Rattle.b67_layout_storage.specs.Machine.{content_after, HasHole}
 use Rattle.b67_overlay.specs.Spans.{MachineCanPage}
 
 -- an array of a view, by the address of its original
@@ -70,13 +70,17 @@ IsLackingFor y t words wants free =
     × ((((y.held t.home).chain ≡ 0) × ((y.held t.home).area ≢ None) × (wants ≡ sectors_for (length t.numbers)))
     ⊎ (((y.held t.home).chain ≢ 0) × (sectors_for (length t.numbers) + wants ≡ sectors_for words)))
 
+-- the array is in its area still, or the hole that it left has room for it
+abbrev pub KeepsRoom : Storage → PagedObject → Type 0
+KeepsRoom y t = (y.held t.home).area ≡ None → HasHole (length t.numbers + 2) y.spans
+
 -- by what was answered: the array is longer, and absent; or the same view stands, after a want of sectors in a storage that lacks them
 abbrev pub LengthenMeets : Storage → MachineView → PagedObject → ℕ → Result (Unit {0}) SpaceFault → Cpu → Areas → Table → Option (List (List ℕ)) → Type 0
 LengthenMeets x p t words (Ok done) cpu areas table told =
     (y : Storage) × OthersStay x y t.home told × ((y.held t.home).area ≡ None)
     × ((objects : List PagedObject) → TakesPlace p.objects objects t (grown_to words t) → MachineCanPage y cpu areas table told (record p { objects = objects }))
 LengthenMeets x p t words (Err (spaces.BackingFull wants free)) cpu areas table told =
-    (y : Storage) × OthersStay x y t.home told × MachineCanPage y cpu areas table told p × IsLackingFor y t words wants free
+    (y : Storage) × OthersStay x y t.home told × MachineCanPage y cpu areas table told p × IsLackingFor y t words wants free × KeepsRoom y t
 LengthenMeets x p t words (Err spaces.BackingFault) cpu areas table told =
     (y : Storage) × OthersStay x y t.home told × MachineCanPage y cpu areas table told p
 LengthenMeets x p t words (Err (spaces.NoCore need core)) cpu areas table told = ⊥

@@ -87,8 +87,8 @@ module _ (x : Storage) (cpu : Cpu) (plan : Placement) (s : Session) (m : Session
     by_desc d (item b n e c j k l o) = ap not c ∙ sym (ap is_original e)
 
     -- by the descriptor that is read
-    pub copy_tells : (five : w.tag ≡ 5) (d : DataDesc) → IsDataDesc d → w ≡ data_word d → ((e : DataDesc) → IsDataDesc e → w ≡ data_word e → Some d ≡ Some e) → not d.copy ≡ is_original v
-    copy_tells five d fits is known = by_desc d (desc_is x cpu plan s m t ordered h runs w v i five d fits is known)
+    pub copy_tells : (five : w.tag ≡ 5) (d : DataDesc) → ((e : DataDesc) → IsDataDesc e → w ≡ data_word e → d ≡ e) → not d.copy ≡ is_original v
+    copy_tells five d read = by_desc d (desc_is x cpu plan s m t ordered h runs w v i five d read)
 
 -- a slot's size in the registers is that of a stack
 pub sizes : (cpu : Cpu) (a : RunningContext cpu.core cpu.regs) (q : Place) (at f segment level : ℕ) (place : Place) → ReachesProc cpu a q at f segment level place → cpu.regs.stack_size ≡ a.member.constants.stack_size

@@ -1,6 +1,8 @@
 -- The parts of PROCESS: the tasks of the running job, the call that is answered, the task that is started.
 use Rattle.std.specs.Prelude.{◌==◌, ℕ, ◌<◌, List, length, Option, if◌then◌else◌}
 use Rattle.b67_lemmas.specs.Lists.{total}
+use Rattle.b67_word.specs.declared.couples.Place.{Place}
+use Rattle.b67_ctl.specs.Layout.{IsPlace}
 use Rattle.b67_model.specs.Common.{Word, Job, SessionJob, Session}
 use Rattle.b67_stack.specs.Represents.{Storage}
 use Rattle.b67_layout.specs.Placement.{Placement}
@@ -30,12 +32,13 @@ pub record BeginsSome (k : Machine) (cell count : ℕ) : Type 0 where
   pub starts : StartsSome k cell count
   pub may : MayCut starts.member starts.task
 
--- its call asks for a task, and fewer than 15 tasks of its job live
-pub record AsksSome (k : Machine) (cell count : ℕ) : Type 0 where
+-- its call asks for a task, fewer than 15 tasks of its job live, and it may go on at this place
+pub record AsksSome (k : Machine) (cell count : ℕ) (next : Place) : Type 0 where
   pub runs : RunsTask k
   pub arguments : List Word
   pub asks : Asks runs.plan runs.member runs.task arguments cell count
   pub few : length runs.member.progress.job.tasks < 15
+  pub place : IsPlace next
 
 -- the machine stands for the session with another job, whose tasks count for the peak
 pub record StandsMoved (told : Option (List (List ℕ))) (s : Session) (m : SessionJob) (job : Job) (more : ℕ) (k : Machine) : Type 0 where

@@ -6,14 +6,15 @@ use Rattle.b67_word.specs.declared.faults.Fault.{Fault}
 use Rattle.b67_backing.specs.declared.SpaceFault.{SpaceFault}
 use Rattle.b67_backing.specs.declared.SpaceFault.TheVariants.{NoCore, BackingFull, BackingFault}
 use Rattle.b67_model.specs.Common.{Word, Task, Job, SessionJob, Goes, process, Session}
+use Rattle.b67_io.specs.Causes.{Rose}
 use Rattle.b67_stack.specs.Represents.{Storage}
+use Rattle.b67_layout_storage.specs.Machine.{Says, DeviceAfterCalls, content_after}
 use Rattle.b67_layout.specs.Common.{Placement, here, session_moved}
 use Rattle.b67_task_need.specs.Needing.{need_with}
 use Rattle.b67_task_tables.specs.declared.tables.JobRow.{JobRow}
 use Rattle.b67_task_tables.specs.declared.tables.Machine.{Machine}
-use Rattle.b67_task_tables.specs.Tables.{MachineRepresents, AreCountable}
+use Rattle.b67_task_tables.specs.Tables.{MachineRepresents}
 use Rattle.b67_task_tables.specs.Shortage.{IsShortOf}
-use Rattle.b67_task_tables.specs.Runs.{Keeps}
 
 -- each job's next task can be numbered, and then the one after it
 abbrev pub CanNumber : List JobRow → Type 0
@@ -76,9 +77,14 @@ ProcessFits core s m t next arguments (Err (NoCore need size)) = Unit {0}
 ProcessFits core s m t next arguments (Err (BackingFull wants free)) = need_with s m t 1 0 ≤ core
 ProcessFits core s m t next arguments (Err BackingFault) = need_with s m t 1 0 ≤ core
 
--- what the call keeps: the size of core, the number of sectors, the halt, the jobs' names, that numbers for READ are few, and
--- how much is printed
-pub record ProcessKeeps (old new : Machine) : Type 0 where
-  pub keeps : Keeps old new
-  pub countable : AreCountable old.tasks.jobs → AreCountable new.tasks.jobs
-  pub printed : new.tasks.printed ≡ old.tasks.printed
+-- the call is made by its row, where the device tells what the storage says of it; and unless the row starts a task, the device
+-- is as it was
+pub record ProcessRow {D : Type 0} (holds : D → Option (List (List ℕ))) (told : Option (List (List ℕ))) (plan : Placement) (s : Session) (m : SessionJob) (t : Task) (next : Place) (arguments : List Word)
+    (result : Result (Result (Unit {0}) Fault) SpaceFault) (old new : Machine) (before after : D) : Type 0 where
+  pub meets : Says told (holds before) → ProcessMeets (content_after told (holds after)) plan s m t next arguments result old new
+  pub quiet : (ProcessWrites m t next arguments result → ⊥) → after ≡ before
+
+-- what the call leaves of the device, whose count of failures has risen where it failed
+pub record ProcessServed {D A : Type 0} (holds : D → Option (List (List ℕ))) (many counted failed : D → ℕ) (before after : D) (result : Result A SpaceFault) : Type 0 where
+  pub calls : DeviceAfterCalls holds many counted failed before after
+  pub cause : result ≡ Err BackingFault → Rose failed before after

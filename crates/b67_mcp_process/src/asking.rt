@@ -45,10 +45,7 @@ fn is_original(cpu: &Cpu, w: Word) -> bool
     if w.tag() != 5 {
         return false;
     }
-    match DataDesc::from_word(w) {
-        Some(desc) => !desc.copy,
-        None => unreachable!(),
-    }
+    !DataDesc::read(w).copy
 }
 
 /// Whether an original is among the `count` top cells.

@@ -4,13 +4,11 @@
 mod asking;
 mod starting;
 
-ghost use Rattle.std.specs.Prelude.{◌≡◌, ◌+◌, Err, length};
-ghost use Rattle.b67_io.specs.Causes.{Rose};
+ghost use Rattle.std.specs.Prelude.{◌≡◌, ◌+◌, length};
 ghost use Rattle.b67_ctl.specs.Layout.{IsPlace};
-ghost use Rattle.b67_backing.specs.declared.SpaceFault.TheVariants.{BackingFault};
-ghost use Rattle.b67_layout_storage.specs.Machine.{Says, DeviceAfterCalls, content_after};
 ghost use Rattle.b67_mcp_call.specs.Calls.{StandsAtCall, ForCall};
-ghost use Rattle.b67_mcp_process.specs.Process.{CanNumber, ProcessMeets, ProcessWrites, ProcessFits, ProcessKeeps};
+ghost use Rattle.b67_task_tables.specs.Runs.{Kept};
+ghost use Rattle.b67_mcp_process.specs.Process.{CanNumber, ProcessRow, ProcessFits, ProcessServed};
 
 use crate::asking::task_asked;
 use crate::starting::{answer, start_asked, tasks_of_job};
@@ -34,13 +32,11 @@ pub fn process<B: Backing>(
     requires place { IsPlace next }
     requires number { CanNumber machine.old.tasks.jobs }
     requires same { B.size backing.old + 1 ≡ length machine.old.sectors.links }
-    ensures row { ForCall machine.old (λ x told plan s m t arguments. Says told (B.holds backing.old)
-        → ProcessMeets (content_after told (B.holds backing.new)) plan s m t next arguments result machine.old machine.new) }
-    ensures quiet { ForCall machine.old (λ x told plan s m t arguments. (ProcessWrites m t next arguments result → ⊥) → backing.new ≡ backing.old) }
-    ensures fits { ForCall machine.old (λ x told plan s m t arguments. ProcessFits (length machine.old.cpu.core) s m t next arguments result) }
-    ensures kept { ProcessKeeps machine.old machine.new }
-    ensures cause { result ≡ Err BackingFault → Rose B.faults backing.old backing.new }
-    ensures device { DeviceAfterCalls B.holds B.size B.calls B.faults backing.old backing.new }
+    ensures row { ForCall machine.old (λ x told plan s m t arguments. ProcessRow B.holds told plan s m t next arguments result machine.old machine.new backing.old backing.new
+        × ProcessFits (length machine.old.cpu.core) s m t next arguments result) }
+    ensures kept { Kept machine.old machine.new }
+    ensures printed { machine.new.tasks.printed ≡ machine.old.tasks.printed }
+    ensures device { ProcessServed B.holds B.size B.calls B.faults backing.old backing.new result }
 {
     let asked = match task_asked(&machine.cpu) {
         Ok(asked) => asked,

@@ -1,11 +1,8 @@
 //! The task that PROCESS starts, and the call's answer.
 
-ghost use Rattle.std.specs.Prelude.{◌≡◌, ◌≢◌, ℕ, ◌+◌, ◌<◌, ◌≤◌, List, Option, Err, length};
-ghost use Rattle.b67_io.specs.Causes.{Rose};
+ghost use Rattle.std.specs.Prelude.{◌≡◌, ◌≢◌, ℕ, ◌+◌, ◌<◌, ◌≤◌, List, Option, length};
 ghost use Rattle.b67_word.specs.declared.couples.Place.{Place};
 ghost use Rattle.b67_ctl.specs.Layout.{IsPlace};
-ghost use Rattle.b67_backing.specs.declared.SpaceFault.TheVariants.{BackingFault};
-ghost use Rattle.b67_layout_storage.specs.Machine.{Says, DeviceAfterCalls, content_after};
 ghost use Rattle.b67_model.specs.Words as words;
 ghost use Rattle.b67_model.specs.State.{Task, SessionJob};
 ghost use Rattle.b67_model.specs.Schedule.{Session};
@@ -17,11 +14,11 @@ ghost use Rattle.b67_layout.specs.Meets.{with_job};
 ghost use Rattle.b67_mcp_call.specs.Calls.{MayCut};
 ghost use Rattle.b67_mcp_call.specs.Answered.{job_answered};
 ghost use Rattle.b67_task_start.specs.Starts.{MayStart, child};
-ghost use Rattle.b67_task_tables.specs.Runs.{ForEachRun, RunsTask};
+ghost use Rattle.b67_task_tables.specs.Runs.{ForEachRun, Kept, RunsTask};
 ghost use Rattle.b67_task_tables.specs.Tables.{MachineRepresents};
 ghost use Rattle.b67_mcp_process.specs.Asked.{Asks, job_started};
 ghost use Rattle.b67_mcp_process.specs.Begins.{counts_for, rows_of_job, AnswersSome, BeginsSome, AsksSome, StandsMoved};
-ghost use Rattle.b67_mcp_process.specs.Process.{CanNumber, ProcessMeets, ProcessWrites, ProcessFits, ProcessKeeps};
+ghost use Rattle.b67_mcp_process.specs.Process.{CanNumber, ProcessRow, ProcessFits, ProcessServed};
 
 use crate::asking::Asked;
 use b67_backing::{Backing, SpaceFault};
@@ -69,7 +66,8 @@ pub(crate) fn answer(machine: &mut Machine, number: u32, next: Place)
     requires place { IsPlace next }
     ensures stands { ForEachRun machine.old (λ x told plan s m t. MayCut m t
         → MachineRepresents x told machine.new plan (with_job s m (job_answered m t (words.Operand number) next m.progress.job.numbers))) }
-    ensures kept { ProcessKeeps machine.old machine.new }
+    ensures kept { Kept machine.old machine.new }
+    ensures printed { machine.new.tasks.printed ≡ machine.old.tasks.printed }
 {
     answer_call(&mut machine.cpu, Word::of(0, u64::from(number)), next);
 }
@@ -82,7 +80,8 @@ fn begin(machine: &mut Machine, asked: Asked, next: Place)
     ensures stands { (x : Storage) (told : Option (List (List ℕ))) (plan : Placement) (s : Session) (m : SessionJob) (t : Task) (f segment level : ℕ) (place : Place) (slot : ℕ) → IsInOrderButCounts s
         → MachineRepresents x told machine.old plan s → IsRunning plan s.jobs m t → MayStart x plan m t (length machine.old.cpu.core) asked.cell asked.count f segment level place slot → MayCut m t
         → StandsMoved told s m (job_started m t (child m t asked.count f segment level place) next) 1 machine.new }
-    ensures kept { ProcessKeeps machine.old machine.new }
+    ensures kept { Kept machine.old machine.new }
+    ensures printed { machine.new.tasks.printed ≡ machine.old.tasks.printed }
 {
     let number = start(machine, asked.cell, asked.count);
     answer(machine, number, next);
@@ -96,19 +95,15 @@ pub(crate) fn start_asked<B: Backing>(
     next: Place,
     backing: &mut B,
 ) -> Result<Result<(), Fault>, SpaceFault>
-    requires call { AsksSome machine.old asked.cell asked.count }
-    requires place { IsPlace next }
+    requires call { AsksSome machine.old asked.cell asked.count next }
     requires number { CanNumber machine.old.tasks.jobs }
     requires same { B.size backing.old + 1 ≡ length machine.old.sectors.links }
     ensures row { ForEachRun machine.old (λ x told plan s m t. (arguments : List words.Word) → Asks plan m t arguments asked.cell asked.count
-        → length m.progress.job.tasks < 15 → Says told (B.holds backing.old)
-        → ProcessMeets (content_after told (B.holds backing.new)) plan s m t next arguments result machine.old machine.new) }
-    ensures quiet { ForEachRun machine.old (λ x told plan s m t. (arguments : List words.Word) → Asks plan m t arguments asked.cell asked.count
-        → length m.progress.job.tasks < 15 → (ProcessWrites m t next arguments result → ⊥) → backing.new ≡ backing.old) }
+        → length m.progress.job.tasks < 15 → ProcessRow B.holds told plan s m t next arguments result machine.old machine.new backing.old backing.new) }
     ensures fits { ForEachRun machine.old (λ x told plan s m t. (arguments : List words.Word) → ProcessFits (length machine.old.cpu.core) s m t next arguments result) }
-    ensures kept { ProcessKeeps machine.old machine.new }
-    ensures cause { result ≡ Err BackingFault → Rose B.faults backing.old backing.new }
-    ensures device { DeviceAfterCalls B.holds B.size B.calls B.faults backing.old backing.new }
+    ensures kept { Kept machine.old machine.new }
+    ensures printed { machine.new.tasks.printed ≡ machine.old.tasks.printed }
+    ensures device { ProcessServed B.holds B.size B.calls B.faults backing.old backing.new result }
 {
     let words = need(machine, 1, 0);
     let core = machine.cpu.core.size();

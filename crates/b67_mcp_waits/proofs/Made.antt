@@ -11,7 +11,6 @@ use Rattle.b67_task_tables.specs.Runs.{RunsTask}
 use Rattle.b67_task_end.specs.Lives.{HasJob}
 use Rattle.b67_mcp_call.specs.Calls.{StandsAtCall, CallSome, job_cut}
 use Rattle.b67_mcp_call.specs.Answered.{job_answered}
-use Rattle.b67_mcp_waits.specs.Events.{KeepsSectors}
 use Rattle.b67_task_tables.specs.Tables.{MachineRepresents}
 use Rattle.b67_lemmas.proofs.Members.{keyed_has}
 
@@ -20,9 +19,6 @@ runs_some k r = record { storage = r.storage; plan = r.plan; session = r.session
 
 abbrev pub call_some : (k : Machine) → StandsAtCall k → CallSome k.cpu
 call_some k r = record { runs = runs_some k r.runs; reference = r.reference; arguments = r.arguments; call = r.call }
-
-pub kept_same : (k : Machine) → KeepsSectors k k
-kept_same k = record { countable = λ few. few; keeps = record { core = refl; sectors = refl; halt = refl; names = refl }; sectors = refl }
 
 -- the tables show the job of the running task
 pub has_job : (x : Storage) (told : Option (List (List ℕ))) (k : Machine) (plan : Placement) (s : Session) (m : SessionJob) (t : Task) → IsInOrderButCounts s → MachineRepresents x told k plan s → IsRunning plan s.jobs m t

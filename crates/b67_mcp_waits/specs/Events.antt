@@ -7,8 +7,7 @@ use Rattle.b67_stack.specs.Represents.{Storage}
 use Rattle.b67_layout.specs.Common.{Placement, shown, here, with_job}
 use Rattle.b67_task_tables.specs.declared.tables.TaskState.{TaskState}
 use Rattle.b67_task_tables.specs.declared.tables.Machine.{Machine}
-use Rattle.b67_task_tables.specs.Tables.{MachineRepresents, AreCountable, state_of}
-use Rattle.b67_task_tables.specs.Runs.{Keeps}
+use Rattle.b67_task_tables.specs.Tables.{MachineRepresents, state_of}
 
 -- the call was made, by this row: the machine stands for what it makes, with as many tasks. How much of the next text is
 -- printed stays
@@ -35,9 +34,3 @@ WaitMeets row x told plan s m t next arguments (Err fault) old new = (row (here 
 abbrev pub DoneMeets : Call → Storage → Option (List (List ℕ)) → Placement → Session → SessionJob → Task → Place → List Word → Result (Unit {0}) Fault → Machine → Machine → Type 0
 DoneMeets row x told plan s m t next arguments (Ok done) old new = GoesOn row x told plan s m t next arguments old new
 DoneMeets row x told plan s m t next arguments (Err fault) old new = (row (here m t next) arguments ≡ Err fault) × (new ≡ old)
-
--- what such a call keeps: the sizes, the halt and the names, the jobs' numbers for READ, and all sectors
-pub record KeepsSectors (old new : Machine) : Type 0 where
-  pub countable : AreCountable old.tasks.jobs → AreCountable new.tasks.jobs
-  pub keeps : Keeps old new
-  pub sectors : new.sectors ≡ old.sectors

@@ -17,8 +17,8 @@ use Rattle.b67_layout_storage.proofs.Below.{Stayed-none}
 use Rattle.b67_overlay.specs.AreasEvicted.{AreasEvicted, IsShortBy}
 use Rattle.b67_overlay.proofs.Shedding.{AreasEvicted-none}
 use Rattle.b67_exec_cells.specs.Running.{code_area}
-use Rattle.b67_presence_page.specs.Brought.{brought}
-use Rattle.b67_presence_page.specs.Brings.{IsReadable, ReadIn, StandsEvicted, MayWait, IsCode}
+use Rattle.b67_presence.specs.Brought.{brought}
+use Rattle.b67_presence.specs.Brings.{IsReadable, ReadIn, StandsEvicted, MayWait, IsCode}
 use Rattle.b67_task_tables.specs.declared.tables.Machine.{Machine}
 use Rattle.b67_presence.specs.Bringing.{StandsOver, IsArrayWanted, IsWanted, Lacks, StillLacks, HasNoRoom, RefusedFull, IsShortOf, AreasStay, StaysIn, BringsInPlace, IsUntouched, words_wanted}
 use Rattle.b67_presence.proofs.Again.{machine_of, view_stands}

@@ -14,8 +14,8 @@ use Rattle.b67_layout_step.proofs.OtherNumbers.{others_in_order}
 use Rattle.b67_stack.specs.Common.{PagedObject, MachineView, NoOriginalAboveTop, Storage, Represents, renumber, renumbered}
 use Rattle.b67_layout_storage.specs.Machine.{AreBits}
 use Rattle.b67_layout_step.proofs.Renumbered.{member_with, others_from, Fitting, machine_view_renumbered, settled_renumbered}
-use Rattle.b67_presence_page.specs.Brings.{IsReadable, ReadBack}
-use Rattle.b67_presence_page.proofs.Ways.{none_or}
+use Rattle.b67_presence.specs.Brings.{IsReadable, ReadBack}
+use Rattle.b67_presence.proofs.Ways.{none_or}
 use Rattle.b67_presence.proofs.Others.{others_same, others_then}
 
 -- each number of a session in order is one of a word

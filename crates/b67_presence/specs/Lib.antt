@@ -1,2 +1,4 @@
+pub mod Brought
+pub mod Brings
 pub mod Bringing
 pub mod Paging

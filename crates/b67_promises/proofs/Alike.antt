@@ -12,6 +12,7 @@ use Rattle.b67_job.specs.Judgement.{Runs, judgement}
 use Rattle.b67_promises.specs.Switches.{DifferInTurns, NeverTwoReady, DecksDifferInTurns}
 use Rattle.b67_promises.proofs.Calls.{Printed, all_ended, halt_came, fell_short, CallPrints, prepared_in, not_refused}
 use Rattle.b67_promises.proofs.Turns.{run_alike}
+use Rattle.b67_promises.proofs.Words.{closing_by}
 
 pub judged : (text : List ℕ) (p : Prepared) → deck_prepared text ≡ Ok p → judgement text ≡ Runs p
 unfolding judgement
@@ -25,7 +26,7 @@ module _ (r q : Run) (d : DifferInTurns r.session q.session) (halt : q.halt ≡ 
   pub printed_alike : (e : Option Exercise) (status : ℕ) (text : List ℕ) → Printed q e status text → Printed r e status text
   printed_alike e status text (all_ended z steps low over made is) =
       let same = run_alike steps r.session q.session d (few steps (within steps low)) in
-      all_ended z steps (within steps low) (ap live_tasks (sym same.1.jobs) ∙ over) (sym same.1.made ∙ made) (is ∙ ap (λ (ls : List RunLine). run_text ls ++ summary e steps) same.0)
+      all_ended z steps (within steps low) (ap live_tasks (sym same.1.jobs) ∙ over) (sym same.1.made ∙ made) (is ∙ ap (λ (ls : List RunLine). run_text ls ++ summary (closing_by e) steps) same.0)
   printed_alike e status text (halt_came z h) =
       let same = run_alike h.count r.session q.session d (few h.count (subst (λ (o : Option ℕ). IfSome o (λ count. h.count ≤ count)) (sym (sym halt ∙ h.halt)) (omega arith))) in
       halt_came z (record {

@@ -11,8 +11,9 @@ use Rattle.b67_job_admit.specs.Admitting.{Prepared}
 use Rattle.b67_session_lines.specs.Stops.{Run, live_after, halted_line, IsFinished, IsHalted, halted}
 use Rattle.b67_session_lines.proofs.Statuses.{finished-status, halted-status, stops-once}
 use Rattle.b67_job.specs.declared.summaries.Exercise.{Exercise}
+use Rattle.b67_job.specs.declared.summaries.Closing.{Closing}
 use Rattle.b67_job.specs.Device.{Device, DeviceTells}
-use Rattle.b67_job.specs.Lines.{memory_line, backing_fault_line, summary}
+use Rattle.b67_job.specs.Lines.{memory_line, backing_fault_line, summary, halted_text}
 use Rattle.b67_job.specs.Texts.{Text, whole_of, only, PrintsAndAnswers, all_taken, cut_short}
 use Rattle.b67_job.specs.Runs.{run_of, StandsAfter, IsWithinHalt, memory_refused, opening_wants_core, opening_wants_sectors, opening_fails, all_end, halt_comes, step_wants_core, step_wants_sectors, step_fails, RunStops, unopened, opened, IsCutInStep, IsCutInLimit, IsPrintingStep}
 use Rattle.b67_job.specs.Judgement.{Judgement, Refused, Runs, Prints}
@@ -21,7 +22,7 @@ use Rattle.b67_job.proofs.Status.{is_halted}
 use Rattle.b67_promises.specs.Paging.{IsWhole, IsOneLine, IsCutFrom}
 use Rattle.b67_promises.proofs.OneLines.{none_is_one, taken_is_one, halted_is_one, no_core_is_one, backing_full_is_one, backing_fault_is_one, memory_is_one, usage_is_one, reading_is_one, summary_is_one, refusal_is_one}
 use Rattle.b67_promises.proofs.Steps.{Begins, begins_then, begins_more, begins_over, same_session}
-use Rattle.b67_promises.proofs.Words.{Asks}
+use Rattle.b67_promises.proofs.Words.{Asks, closing_by}
 
 -- ---- what was printed
 
@@ -38,7 +39,7 @@ pub record Shape (r : Run) (text : List ℕ) : Type 0 where
 -- a call whose deck is this run has answered this status and printed this text
 pub data Printed (r : Run) (e : Option Exercise) (status : ℕ) (text : List ℕ) : Type 0 where
   all_ended : status ≡ 0 → (steps : ℕ) → IsWithinHalt r steps → live_after steps r.session ≡ 0 → (after steps r.session).made ≡ steps
-      → text ≡ run_text (lines steps r.session) ++ summary e steps → Printed r e status text
+      → text ≡ run_text (lines steps r.session) ++ summary (closing_by e) steps → Printed r e status text
   halt_came : status ≡ 3 → IsHalted r text → Printed r e status text
   fell_short : (IsWhole status → ⊥) → Shape r text → Printed r e status text
 
@@ -77,9 +78,9 @@ shape_of r e status text (all_ended z steps within over made is) = record {
   steps = steps;
   within = within;
   front = run_text (lines steps r.session);
-  line = summary e steps;
+  line = summary (closing_by e) steps;
   begins = all_of (run_text (lines steps r.session));
-  one = summary_is_one e steps;
+  one = summary_is_one (closing_by e) steps;
   is = is;
 }
 shape_of r e status text (halt_came z h) = record {
@@ -96,7 +97,7 @@ shape_of r e status text (fell_short short shape) = shape
 -- what steps up to the halt print begins what a whole run printed
 covers : (r : Run) (e : Option Exercise) (status : ℕ) (text : List ℕ) → Printed r e status text → IsWhole status → (k : ℕ) → IsWithinHalt r k → Begins (run_text (lines k r.session)) text
 covers r e status text (all_ended z steps within over made is) whole k low =
-    begins_then (run_text (lines k r.session)) (run_text (lines steps r.session)) text (begins_over k steps r.session over) (summary e steps, is)
+    begins_then (run_text (lines k r.session)) (run_text (lines steps r.session)) text (begins_over k steps r.session over) (summary (closing_by e) steps, is)
 covers r e status text (halt_came z h) whole k low =
     let le : k ≤ h.count = subst (λ (o : Option ℕ). IfSome o (λ c. k ≤ c)) h.halt low in
     begins_then (run_text (lines k r.session)) (run_text (lines h.count r.session)) text (begins_more k h.count r.session le) (ended (halted_line h.count), h.printed)
@@ -119,7 +120,7 @@ finished_at r steps within over = record { steps = steps; within = within; over 
 pub agree : (r : Run) (e : Option Exercise) (status status' : ℕ) (text text' : List ℕ) → Printed r e status text → Printed r e status' text' → IsWhole status → IsWhole status' → (status ≡ status') × (text ≡ text')
 agree r e status status' text text' (all_ended z n within over made is) (all_ended z' m within' over' made' is') w w' =
     let same : n ≡ m = sym made ∙ ap (λ (s : Session). s.made) (same_session n m r.session over over') ∙ made' in
-    (z ∙ sym z', is ∙ ap (λ (k : ℕ). run_text (lines k r.session) ++ summary e k) same ∙ sym is')
+    (z ∙ sym z', is ∙ ap (λ (k : ℕ). run_text (lines k r.session) ++ summary (closing_by e) k) same ∙ sym is')
 agree r e status status' text text' (halt_came z h) (halt_came z' h') w w' = (z ∙ sym z', (stops-once r 3 3 text text' (halted refl h) (halted refl h')).1)
 agree r e status status' text text' (all_ended z n within over made is) (halt_came z' h') w w' = absurd (one_status r (run_text (lines n r.session)) text' (finished_at r n within over) h')
 agree r e status status' text text' (halt_came z h) (all_ended z' m within' over' made' is') w w' = absurd (one_status r (run_text (lines m r.session)) text (finished_at r m within' over') h)
@@ -141,6 +142,14 @@ whole_shape r text s = record { steps = s.steps; within = s.within; front = text
 cut_shape : (r : Run) (text : Text) (count : ℕ) → TextShape r text → Shape r (text.front ++ take count text.last)
 cut_shape r text count s = record { steps = s.steps; within = s.within; front = text.front; line = take count text.last; begins = s.begins; one = taken_is_one count text.last s.one; is = refl }
 
+-- of a run and of an exercise that halt the line alone is printed
+halted_alone : (e : Option Exercise) (k : Machine) → halted_text (closing_by e) k ≡ ended (halted_line k.tasks.made)
+halted_alone None k = refl
+halted_alone (Some e) k = refl
+
+abbrev behind : List RunLine → List ℕ → Text
+behind printed last = record { front = run_text printed; last = last }
+
 lone : (r : Run) (text : Text) (line : List ℕ) → IsOneLine line → text ≡ only line → TextShape r text
 lone r text line one is = subst (λ (x : Text). TextShape r x) (sym is) (record { steps = 0; within = within_none r.halt; begins = (run_text (lines 0 r.session), refl); one = one })
 
@@ -157,23 +166,24 @@ module _ {B : Type 0} (d : Device B) (tells : DeviceTells d) (core : ℕ) (p : P
     one = one;
   })
 
-  stop_shape : (e : Option Exercise) (machine : Option Machine) (status : ℕ) (text : Text) → RunStops d core p e machine status text → TextShape of_deck text
+  stop_shape : (e : Option Exercise) (machine : Option Machine) (status : ℕ) (text : Text) → RunStops d core p (closing_by e) machine status text → TextShape of_deck text
   stop_shape e machine status text (unopened none (memory_refused same s t)) = lone of_deck text (ended memory_line) memory_is_one t
   stop_shape e machine status text (unopened none (opening_wants_core same more s t)) = lone of_deck text _ (no_core_is_one _ _) t
   stop_shape e machine status text (unopened none (opening_wants_sectors same fits more s t)) = lone of_deck text _ (backing_full_is_one _ _) t
   stop_shape e machine status text (unopened none (opening_fails room failed s t)) = lone of_deck text (ended backing_fault_line) backing_fault_is_one t
-  stop_shape e machine status text (opened k is opens none (all_end s h)) = stepped k h.session h.printed text (summary e k.tasks.made) h.comes h.within (summary_is_one e k.tasks.made) h.text_is
+  stop_shape e machine status text (opened k is opens none (all_end s h)) = stepped k h.session h.printed text (summary (closing_by e) k.tasks.made) h.comes h.within (summary_is_one (closing_by e) k.tasks.made) h.text_is
   stop_shape e machine status text (opened k is opens none (halt_comes s h)) =
-      stepped k h.stop.session h.stop.printed text (ended (halted_line k.tasks.made)) h.stop.comes (at_halt of_deck.halt k.tasks.made h.halt) (halted_is_one k.tasks.made) h.text_is
+      stepped k h.stop.session h.stop.printed text (ended (halted_line k.tasks.made)) h.stop.comes (at_halt of_deck.halt k.tasks.made h.halt) (halted_is_one k.tasks.made)
+      (h.text_is ∙ ap (behind h.stop.printed) (halted_alone e k))
   stop_shape e machine status text (opened k is opens none (step_wants_core s h)) = stepped k h.stop.session h.stop.printed text _ h.stop.comes (within_less of_deck.halt k.tasks.made h.due) (no_core_is_one _ _) h.text_is
   stop_shape e machine status text (opened k is opens none (step_wants_sectors s h)) = stepped k h.stop.session h.stop.printed text _ h.stop.comes (within_less of_deck.halt k.tasks.made h.due) (backing_full_is_one _ _) h.text_is
   stop_shape e machine status text (opened k is opens none (step_fails s failed h)) =
       stepped k h.stop.session h.stop.printed text (ended backing_fault_line) h.stop.comes (within_less of_deck.halt k.tasks.made h.due) backing_fault_is_one h.text_is
 
-  stop_prints : (e : Option Exercise) (machine : Option Machine) (status : ℕ) (text : Text) → RunStops d core p e machine status text → Printed of_deck e status (whole_of text)
+  stop_prints : (e : Option Exercise) (machine : Option Machine) (status : ℕ) (text : Text) → RunStops d core p (closing_by e) machine status text → Printed of_deck e status (whole_of text)
   stop_prints e machine status text stops = by_stop stops (whole_shape of_deck text (stop_shape e machine status text stops))
     where
-      by_stop : RunStops d core p e machine status text → Shape of_deck (whole_of text) → Printed of_deck e status (whole_of text)
+      by_stop : RunStops d core p (closing_by e) machine status text → Shape of_deck (whole_of text) → Printed of_deck e status (whole_of text)
       by_stop (unopened none (memory_refused same s t)) shape = fell_short (short_at status 9 s (inl (omega arith))) shape
       by_stop (unopened none (opening_wants_core same more s t)) shape = fell_short (short_at status 4 s (inl (omega arith))) shape
       by_stop (unopened none (opening_wants_sectors same fits more s t)) shape = fell_short (short_at status 5 s (inl (omega arith))) shape
@@ -181,8 +191,10 @@ module _ {B : Type 0} (d : Device B) (tells : DeviceTells d) (core : ℕ) (p : P
       by_stop (opened k is opens none (all_end s h)) shape =
           all_ended s k.tasks.made h.within (subst (λ (z : Session). live_tasks z.jobs ≡ 0) (h.comes.session tells) h.rests.none)
           (ap (λ (z : Session). z.made) (sym (h.comes.session tells)) ∙ sym h.rests.stands.tables.counts.made)
-          (ap whole_of h.text_is ∙ ap (λ (ls : List RunLine). run_text ls ++ summary e k.tasks.made) (h.comes.lines_are tells))
-      by_stop (opened k is opens none (halt_comes s h)) shape = halt_came s (is_halted d p k text h tells)
+          (ap whole_of h.text_is ∙ ap (λ (ls : List RunLine). run_text ls ++ summary (closing_by e) k.tasks.made) (h.comes.lines_are tells))
+      by_stop (opened k is opens none (halt_comes s h)) shape =
+          halt_came s (subst (λ (x : List ℕ). IsHalted of_deck (text.front ++ x)) (sym (ap (λ (x : Text). x.last) h.text_is ∙ halted_alone e k))
+          (is_halted d p (closing_by e) k text h tells))
       by_stop (opened k is opens none (step_wants_core s h)) shape = fell_short (short_at status 4 s (inl (omega arith))) shape
       by_stop (opened k is opens none (step_wants_sectors s h)) shape = fell_short (short_at status 5 s (inl (omega arith))) shape
       by_stop (opened k is opens none (step_fails s failed h)) shape = fell_short (short_at status 6 s (inl (omega arith))) shape
@@ -255,7 +267,7 @@ module _ {K : Type 0} (taken : K → Option (List ℕ)) (faults : K → ℕ) (ol
     by_due status text answer (refusal_due command b refusal c r same judged m s t) closes = short_call status text answer (short_at status 2 s (inr (omega arith, omega arith))) (λ r. lone r text _ (refusal_is_one refusal) t) closes
     by_due status text answer (print_due command b printed c r same judged m s t) closes = absurd (asks.no_text command b printed c judged)
     by_due status text answer (run_due core p run stops) closes =
-        let same = subst (λ (x : Option Exercise). RunStops d core p x machine status text) (asks.exercise_is core p run) stops in
+        let same = subst (λ (x : Closing). RunStops d core p x machine status text) (asks.closing_is core p run) stops in
         run_call p status text answer (asks.judged core p run) (stop_prints d tells core p e machine status text same) (stop_shape d tells core p e machine status text same) closes
     by_due status text answer (reading_due c r same m s t) closes = short_call status text answer (short_at status 7 s (inl (omega arith))) (λ r. lone r text reading_text reading_is_one t) closes
     by_due status text answer (memory_due c same m s t) closes = short_call status text answer (short_at status 9 s (inl (omega arith))) (λ r. lone r text (ended memory_line) memory_is_one t) closes

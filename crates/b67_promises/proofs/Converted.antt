@@ -1,5 +1,5 @@
 -- A codefile in version 2 holds the same program.
-use Rattle.std.proofs.Common.{◌≡◌, ℕ, List, length, inr, refl, sym, ap, ◌∙◌, Ok}
+use Rattle.std.proofs.Common.{◌≡◌, length, inr, refl, sym, ap, ◌∙◌, Ok}
 use Rattle.b67_codefile.specs.declared.file.Codefile.{Codefile}
 use Rattle.b67_codefile.specs.Spelling.{spelling, IsWithin}
 use Rattle.b67_codefile.specs.Reading.{told}

@@ -15,11 +15,12 @@ use Rattle.b67_session_lines.specs.Stops.{live_after}
 use Rattle.b67_job_admit.specs.declared.refusal.Refusal.{Refusal}
 use Rattle.b67_job_admit.specs.Admitting.{Prepared}
 use Rattle.b67_job.specs.declared.summaries.Exercise.{Exercise}
+use Rattle.b67_job.specs.declared.summaries.Closing.{Closing}
 use Rattle.b67_job.specs.Device.{Device, DeviceTells, Worked}
 use Rattle.b67_job.specs.Texts.{Text, all_taken, cut_short}
 use Rattle.b67_job.specs.Runs.{run_of, WantsCore, memory_refused, opening_wants_core, opening_wants_sectors, opening_fails, all_end, halt_comes, step_wants_core, step_wants_sectors, step_fails, RunStops, unopened, opened, WasOpened}
 use Rattle.b67_job.specs.Command.{command_line_of}
-use Rattle.b67_job.specs.Judgement.{Judgement, Refused, Runs, exercise_of}
+use Rattle.b67_job.specs.Judgement.{Judgement, Refused, Runs, closing_of}
 use Rattle.b67_job.specs.Due.{IsRun, IsDue, usage_due, refusal_due, print_due, run_due, reading_due, memory_due, Answered, answered, cut_in_step}
 use Rattle.b67_promises.specs.Paging.{IsWhole}
 use Rattle.b67_promises.specs.MoreCore.{EndsToo, as_well, no_command, sectors_wanted, memory_wanted}
@@ -65,7 +66,7 @@ pub record WholeRun {S B : Type 0} (words : List (Bor (List ℕ))) (left : S →
   pub last : (live_after k.tasks.made (run_of p).session ≡ 0) ⊎ ((run_of p).halt ≡ Some k.tasks.made)
 
 module _ {S B : Type 0} {words : List (Bor (List ℕ))} {left : S → Option (List ℕ)} {deck deck' : S} {d : Device B} {machine : Option Machine} (tells : DeviceTells d) where
-  whole_stop : (core : ℕ) (p : Prepared) (e : Option Exercise) (status : ℕ) (text : Text) → IsRun words left deck deck' core p → IsWhole status → RunStops d core p e machine status text → WholeRun words left deck deck' d
+  whole_stop : (core : ℕ) (p : Prepared) (e : Closing) (status : ℕ) (text : Text) → IsRun words left deck deck' core p → IsWhole status → RunStops d core p e machine status text → WholeRun words left deck deck' d
   whole_stop core p e status text its_run w (unopened none (memory_refused same s t)) = absurd (short_at status 9 s (inl (omega arith)) w)
   whole_stop core p e status text its_run w (unopened none (opening_wants_core same more s t)) = absurd (short_at status 4 s (inl (omega arith)) w)
   whole_stop core p e status text its_run w (unopened none (opening_wants_sectors same fits more s t)) = absurd (short_at status 5 s (inl (omega arith)) w)
@@ -81,7 +82,7 @@ module _ {S B : Type 0} {words : List (Bor (List ℕ))} {left : S → Option (Li
   whole_due j e status text asks w (usage_due c g same m s t) = absurd (short_at status 1 s (inr (omega arith, omega arith)) w)
   whole_due j e status text asks w (refusal_due command b refusal c r same judged m s t) = absurd (short_at status 2 s (inr (omega arith, omega arith)) w)
   whole_due j e status text asks w (print_due command b printed c r same judged m s t) = absurd (asks.no_text command b printed c judged)
-  whole_due j e status text asks w (run_due core p its_run stops) = whole_stop core p (exercise_of (command_line_of words)) status text its_run w stops
+  whole_due j e status text asks w (run_due core p its_run stops) = whole_stop core p (closing_of (command_line_of words)) status text its_run w stops
   whole_due j e status text asks w (reading_due c r same m s t) = absurd (short_at status 7 s (inl (omega arith)) w)
   whole_due j e status text asks w (memory_due c same m s t) = absurd (short_at status 9 s (inl (omega arith)) w)
 
@@ -132,7 +133,7 @@ module _ {T C : Type 0} {words : List (Bor (List ℕ))} {left : T → Option (Li
       let same : q ≡ p = same_runs q p (sym (asks.judged core q its_run) ∙ judged) in
       suffices (subst (λ (m : ℕ). WantsMore d m p) (opens_in core q its_run) (subst (λ (x : Prepared). WantsMore d core x) same wants))
 
-  stop_ends : {machine : Option Machine} (core : ℕ) (q : Prepared) (x : Option Exercise) (status : ℕ) (text : Text) → IsRun words left deck deck' core q → answer ≡ status → RunStops d core q x machine status text → EndsToo first answer
+  stop_ends : {machine : Option Machine} (core : ℕ) (q : Prepared) (x : Closing) (status : ℕ) (text : Text) → IsRun words left deck deck' core q → answer ≡ status → RunStops d core q x machine status text → EndsToo first answer
   stop_ends core q x status text its_run a (unopened none (memory_refused same s t)) = memory_wanted (a ∙ s)
   stop_ends core q x status text its_run a (unopened none (opening_wants_core same more s t)) = absurd (suffices_for core q its_run (inl more))
   stop_ends core q x status text its_run a (unopened none (opening_wants_sectors same fits more s t)) = sectors_wanted (a ∙ s)
@@ -150,7 +151,7 @@ module _ {T C : Type 0} {words : List (Bor (List ℕ))} {left : T → Option (Li
   due_ends status text a (usage_due c g same m s t) = no_command (a ∙ s)
   due_ends status text a (refusal_due command b refusal c r same refused m s t) = let f = asks.refuses command b refusal c r refused in absurd (runs_not_refused f.0 f.1)
   due_ends status text a (print_due command b printed c r same prints m s t) = absurd (asks.no_text command b printed c prints)
-  due_ends status text a (run_due core q its_run stops) = stop_ends core q (exercise_of (command_line_of words)) status text its_run a stops
+  due_ends status text a (run_due core q its_run stops) = stop_ends core q (closing_of (command_line_of words)) status text its_run a stops
   due_ends status text a (reading_due c r same m s t) = absurd (omega (arith, r, read))
   due_ends status text a (memory_due c same m s t) = memory_wanted (a ∙ s)
 

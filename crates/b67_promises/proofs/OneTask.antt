@@ -138,7 +138,7 @@ one_job first j one order made none = by_jobs (after j first).jobs refl
 -- ---- a whole run
 
 module _ {S B : Type 0} {words : List (Bor (List ℕ))} {left : S → Option (List ℕ)} {deck deck' : S} {d : Device B} (w : WholeRun words left deck deck' d)
-    (one : length (run_of w.p).session.jobs ≡ 1) (none : (n job : ℕ) → CallsProcess (run_of w.p).session n job → ⊥) where
+    (one : length (run_of w.p).session.jobs ≡ 1) (none : (n job : ℕ) → n ≤ w.k.tasks.made → CallsProcess (run_of w.p).session n job → ⊥) where
   pub never_two : (steps : ℕ) → IfSome (run_of w.p).halt (λ count. steps ≤ count) → NeverTwoReady steps (run_of w.p).session
   never_two steps within j less = ⊎_elim
       (λ (before : j < w.k.tasks.made). upto before)
@@ -146,7 +146,7 @@ module _ {S B : Type 0} {words : List (Bor (List ℕ))} {left : S → Option (Li
     where
       upto : j < w.k.tasks.made → length (ready (after j (run_of w.p).session)) ≤ 1
       upto before =
-          let few = one_job (run_of w.p).session j one (w.opens.in_order.ordered j (omega (arith, before))) (w.opens.in_order.made j (omega (arith, before))) (none j) in
+          let few = one_job (run_of w.p).session j one (w.opens.in_order.ordered j (omega (arith, before))) (w.opens.in_order.made j (omega (arith, before))) (λ job. none j job (omega (arith, before))) in
           omega (arith, few, ready_live (after j (run_of w.p).session).jobs)
 
       by_last : (live_after w.k.tasks.made (run_of w.p).session ≡ 0) ⊎ ((run_of w.p).halt ≡ Some w.k.tasks.made) → w.k.tasks.made ≤ j → length (ready (after j (run_of w.p).session)) ≤ 1

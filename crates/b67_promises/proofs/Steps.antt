@@ -21,7 +21,7 @@ more_lines : (k m : ℕ) (s : Session) → ((t : Session) → lines (k + m) t �
 more_lines k m s more None e = sym (no_lines m s e)
 more_lines k m s more (Some n) e = ap (λ ls. n.lines ++ ls) (more n.session) ∙ sym (append_assoc n.lines (lines k n.session) (lines m (after k n.session)))
 
-lines_add : (k m : ℕ) (s : Session) → lines (k + m) s ≡ lines k s ++ lines m (after k s)
+pub lines_add : (k m : ℕ) (s : Session) → lines (k + m) s ≡ lines k s ++ lines m (after k s)
 lines_add zero m s = let same : 0 + m ≡ m = omega arith in ap (λ n. lines n s) same
 lines_add (suc k) m s = let same : suc k + m ≡ suc (k + m) = omega arith in ap (λ n. lines n s) same ∙ more_lines k m s (lines_add k m) (next s) refl
 

@@ -24,16 +24,16 @@ use Rattle.b67_promises.proofs.MoreCore.{WholeRun}
 use Rattle.b67_promises.proofs.Words.{no_print}
 use Rattle.b67_promises.proofs.TurnCards.{SameButTurns, decks_differ}
 
-after : {A B : Type 0} (r : Admission A) (go : A → Admission B) (b : B) → (r >>= go) ≡ Ok b → (a : A) × (r ≡ Ok a) × (go a ≡ Ok b)
+pub after : {A B : Type 0} (r : Admission A) (go : A → Admission B) (b : B) → (r >>= go) ≡ Ok b → (a : A) × (r ≡ Ok a) × (go a ≡ Ok b)
 after (Ok a) go b e = (a, refl, e)
 after (Err r) go b e = err-ok r b _ e
 
-of_deck_ok : {A : Type 0} (r : Result A deck.Refusal) (a : A) → of_deck r ≡ Ok a → r ≡ Ok a
+pub of_deck_ok : {A : Type 0} (r : Result A deck.Refusal) (a : A) → of_deck r ≡ Ok a → r ≡ Ok a
 of_deck_ok (Ok x) a e = let is : x ≡ a = cc in ap (λ y. Ok y) is
 of_deck_ok (Err r) a e = absurd (let z : ⊥ = cc in z)
 
 -- a text's deck, and its programs by its jobs
-parts : (text : List ℕ) (p : Prepared) → deck_prepared text ≡ Ok p → (deck_of text ≡ Ok p.0) × (prepared p.0.jobs ≡ Ok p.1)
+pub parts : (text : List ℕ) (p : Prepared) → deck_prepared text ≡ Ok p → (deck_of text ≡ Ok p.0) × (prepared p.0.jobs ≡ Ok p.1)
 unfolding deck_prepared
 parts text p e =
     let a = after (of_deck (deck_of text)) (λ (x : Deck). prepared x.jobs >>= λ qs. Ok (x, qs)) p e in
@@ -58,7 +58,7 @@ differ d e ps qs h same = record {
   made = refl;
 }
 
-same_ok : {A : Type 0} (a b : A) → ◌≡◌ {A = Admission A} (Ok a) (Ok b) → a ≡ b
+pub same_ok : {A : Type 0} (a b : A) → ◌≡◌ {A = Admission A} (Ok a) (Ok b) → a ≡ b
 same_ok a b e = cc
 
 module _ {S B : Type 0} {words : List (Bor (List ℕ))} {left : S → Option (List ℕ)} {deck deck' : S} {d : Device B} (w : WholeRun words left deck deck' d)

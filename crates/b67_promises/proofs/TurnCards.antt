@@ -57,7 +57,7 @@ switch_key y parameters c e = by_switch (bytes_eq (codes "ITCH") y) parameters c
 
 -- ---- its first word
 
-some_part : (xs : List ℕ) → (y : List ℕ) × (more : List (List ℕ)) × (slice_split is_space xs ≡ y ∷ more)
+pub some_part : (xs : List ℕ) → (y : List ℕ) × (more : List (List ℕ)) × (slice_split is_space xs ≡ y ∷ more)
 some_part [] = ([], [], refl)
 some_part (x ∷ xs) = part_of (is_space x)
   where
@@ -69,7 +69,7 @@ some_part (x ∷ xs) = part_of (is_space x)
     part_of true = ([], slice_split is_space xs, refl)
     part_of false = onto (slice_split is_space xs)
 
-filled : (x : ℕ) (xs : List ℕ) → eqb (length (x ∷ xs)) 0 ≡ false
+pub filled : (x : ℕ) (xs : List ℕ) → eqb (length (x ∷ xs)) 0 ≡ false
 filled x xs = grind arith
 
 -- the words of a text whose first three bytes are no spaces
@@ -97,7 +97,7 @@ switch_said t c e =
 
 -- ---- a line without the spaces at its end
 
-spaces_few : (ys : List ℕ) (c : ℕ) (zs : List ℕ) → is_space c ≡ false → prefix_len is_space (ys ++ c ∷ zs) ≤ length ys
+pub spaces_few : (ys : List ℕ) (c : ℕ) (zs : List ℕ) → is_space c ≡ false → prefix_len is_space (ys ++ c ∷ zs) ≤ length ys
 spaces_few [] c zs n = rw n (omega arith)
 spaces_few (y ∷ ys) c zs n = by_test (is_space y) (spaces_few ys c zs n)
   where
@@ -119,20 +119,20 @@ trimmed_three a b c r n =
 abbrev SaysTurn : Card → Type 0
 SaysTurn card = (c : Command) → said card.text ≡ Ok c → IsTurn c
 
-abbrev is_filled : Card → Bool
+abbrev pub is_filled : Card → Bool
 is_filled card = not (is_empty card.text)
 
 -- the cards on these lines, from a number on
-abbrev cards_at : ℕ → List (List ℕ) → List Card
+abbrev pub cards_at : ℕ → List (List ℕ) → List Card
 cards_at n ls = filter is_filled (map card_of (enumerate_from n ls))
 
-enumerate-append : (n : ℕ) (xs ys : List (List ℕ)) → enumerate_from n (xs ++ ys) ≡ enumerate_from n xs ++ enumerate_from (n + length xs) ys
+pub enumerate-append : (n : ℕ) (xs ys : List (List ℕ)) → enumerate_from n (xs ++ ys) ≡ enumerate_from n xs ++ enumerate_from (n + length xs) ys
 enumerate-append n [] ys = let same : n ≡ n + 0 = omega arith in ap (λ (k : ℕ). enumerate_from k ys) same
 enumerate-append n (x ∷ xs) ys =
     let same : n + 1 + length xs ≡ n + suc (length xs) = omega arith in
     ap (λ (zs : List (ℕ × List ℕ)). (n, x) ∷ zs) (enumerate-append (n + 1) xs ys ∙ ap (λ (k : ℕ). enumerate_from (n + 1) xs ++ enumerate_from k ys) same)
 
-cards-append : (n : ℕ) (xs ys : List (List ℕ)) → cards_at n (xs ++ ys) ≡ cards_at n xs ++ cards_at (n + length xs) ys
+pub cards-append : (n : ℕ) (xs ys : List (List ℕ)) → cards_at n (xs ++ ys) ≡ cards_at n xs ++ cards_at (n + length xs) ys
 cards-append n xs ys =
     ap (λ (zs : List (ℕ × List ℕ)). filter is_filled (map card_of zs)) (enumerate-append n xs ys)
     ∙ ap (filter is_filled) (map-append card_of (enumerate_from n xs) (enumerate_from (n + length xs) ys))
@@ -173,18 +173,18 @@ said_is before card s e =
     by_ok : (c : Command) → ◌≡◌ {A = Answer Said} (Ok (record { number = card.number; command = c })) (Ok s) → s ≡ record { number = card.number; command = c }
     by_ok c e = let z : ◌≡◌ {A = Said} (record { number = card.number; command = c }) s = cc in sym z
 
-reverse_cons : {A : Type 0} (x : A) (xs ys : List A) → reverse (x ∷ xs) ++ ys ≡ reverse xs ++ x ∷ ys
+pub reverse_cons : {A : Type 0} (x : A) (xs ys : List A) → reverse (x ∷ xs) ++ ys ≡ reverse xs ++ x ∷ ys
 reverse_cons x xs ys = ap (λ l. l ++ ys) (reverse-append (x ∷ []) xs) ∙ append_assoc (reverse xs) (x ∷ []) ys
 
 -- what one card says, and what the cards behind it say
-first_said : (before : List Said) (card : Card) (more : List Card) (a : List Said) → sayings before (card ∷ more) ≡ Ok a
+pub first_said : (before : List Said) (card : Card) (more : List Card) (a : List Said) → sayings before (card ∷ more) ≡ Ok a
     → (c : Command) × (said card.text ≡ Ok c) × (sayings (record { number = card.number; command = c } ∷ before) more ≡ Ok a)
 first_said before card more a e =
     let s = after_both (of_card card.number (said_after before card)) (λ (s : Said). sayings (s ∷ before) more) a e in
     let c = said_is before card s.0 (given card.number (said_after before card) s.0 s.1) in
     (c.0, c.1, subst (λ (x : Said). sayings (x ∷ before) more ≡ Ok a) c.2 s.2)
 
-all_said : (before a : List Said) → sayings before [] ≡ Ok a → a ≡ reverse before
+pub all_said : (before a : List Said) → sayings before [] ≡ Ok a → a ≡ reverse before
 all_said before a e = by_end (of_card (number_of_last before) (needs (is_between (stand (map command_in before))) 13)) e
   where
     by_end : (r : Result ⊤ Refusal) → (r >> Ok (reverse before)) ≡ Ok a → a ≡ reverse before
@@ -265,7 +265,7 @@ same_decks turns turns' tail all all' = record {
 cards_of : (text : List ℕ) (first rest : List (List ℕ)) → lines text ≡ first ++ rest → cards text ≡ cards_at 1 first ++ cards_at (1 + length first) rest
 cards_of text first rest e = ap (cards_at 1) e ∙ cards-append 1 first rest
 
-deck_said : (text : List ℕ) (d : Deck) → deck_of text ≡ Ok d → (a : List Said) × (sayings [] (cards text) ≡ Ok a) × (d ≡ deck a)
+pub deck_said : (text : List ℕ) (d : Deck) → deck_of text ≡ Ok d → (a : List Said) × (sayings [] (cards text) ≡ Ok a) × (d ≡ deck a)
 deck_said text d e =
     let l = after_both (within_limit text) (λ (u : ⊤). sayings [] (cards text) >>= λ (ss : List Said). Ok (deck ss)) d e in
     let s = after_both (sayings [] (cards text)) (λ (ss : List Said). Ok (deck ss)) d l.2 in

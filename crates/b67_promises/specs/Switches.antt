@@ -1,6 +1,9 @@
 -- Sessions in which never two tasks are ready at once.
-use Rattle.std.specs.Prelude.{ℕ, ◌≡◌, ◌≤◌, ◌<◌, List, length, Some, Ok}
-use Rattle.b67_model.specs.Common.{Session, ready, lines, after, Program}
+use Rattle.std.specs.Prelude.{ℕ, ◌≡◌, ◌≤◌, ◌<◌, List, [], ◌∷◌, length, Some, Ok}
+use Rattle.b67_word.specs.declared.couples.Place.{Place}
+use Rattle.b67_lemmas.specs.Lists.{Has}
+use Rattle.b67_model.specs.declared.operators.Op.TheVariants.{Namc}
+use Rattle.b67_model.specs.Common.{Session, Segment, ready, lines, after, Program, At, listing}
 use Rattle.b67_model_text.specs.declared.deck.Deck.{Deck}
 use Rattle.b67_model_text.specs.declared.deck.Switch.{Switch}
 use Rattle.b67_job_admit.specs.Admitting.{deck_prepared}
@@ -47,3 +50,14 @@ pub record IsOneTask (bytes : List ℕ) : Type 0 where
   pub is : deck_prepared bytes ≡ Ok (d, ps)
   pub one : length (session_of d ps).jobs ≡ 1
   pub alone : (steps job : ℕ) → CallsProcess (session_of d ps) steps job → ⊥
+
+-- no operator in the listings of these segments names cell 12 of the operating system, PROCESS
+abbrev pub NamesNoProcess : List Segment → Type 0
+NamesNoProcess segments = (s : Segment) (place : Place) → Has segments s → Has (listing s.code) (At place (Namc 12)) → ⊥
+
+-- a text's deck has one program, which names no PROCESS
+pub record IsOneProgram (bytes : List ℕ) : Type 0 where
+  pub d : Deck
+  pub p : Program
+  pub is : deck_prepared bytes ≡ Ok (d, p ∷ [])
+  pub none : NamesNoProcess p.segments

@@ -1,5 +1,5 @@
 -- Decks that differ in their ?QUANTUM and ?SWITCH cards.
-use Rattle.std.specs.Prelude.{ℕ, ◌≡◌, ◌<◌, ◌+◌, ◌*◌, List, [], ◌++◌, length, codes}
+use Rattle.std.specs.Prelude.{ℕ, ◌≡◌, ◌<◌, ◌+◌, ◌*◌, List, [], ◌++◌, length, take, codes}
 use Rattle.std.specs.List.{AllByRecursion}
 use Rattle.std.specs.Str.Lines.{lines}
 
@@ -23,3 +23,7 @@ pub record DifferInTurnLines (bytes other : List ℕ) : Type 0 where
 -- beside the 160 words of the operating system the core has no room for two stacks, each of 64 words at least
 abbrev pub HoldsOneStack : ℕ → Type 0
 HoldsOneStack core = core < 160 + 2 * 64
+
+-- each line is one of task 1 of job 1
+abbrev pub AreOfOneTask : List ℕ → Type 0
+AreOfOneTask text = AllByRecursion (λ line. take 4 line ≡ codes "1.1 ") (lines text)

@@ -16,6 +16,7 @@ use b67_ctl::{FIRST_INTRINSIC, LAST_INTRINSIC, Regs, Sirw, Toscw};
 use b67_word::{Couple, Fault};
 
 /// The address of the top word of the stack in which an address of a slot is.
+#[inline(always)]
 fn top_of(core: &Core, regs: &Regs, base: u32) -> u32
     requires { (a : LiveContext core.now regs.now) × (top : ℕ) × live.IsUnder a base top }
     ensures { (a : LiveContext core.now regs.now) (top : ℕ) → live.IsUnder a base top → result ≡ top }
@@ -32,6 +33,7 @@ fn top_of(core: &Core, regs: &Regs, base: u32) -> u32
 
 /// The cell at an offset of an activation record whose mark is at an address of a slot: no mark lies between. Over the running
 /// stack's last mark there is none.
+#[inline(always)]
 fn slot_cell(core: &Core, regs: &Regs, base: u32, offset: u16) -> Result<u32, Fault>
     requires { (a : LiveContext core.now regs.now) × (f : ℕ) × NamesEntered (live.reach a) f × (1 < f) × (base ≡ live.frame_at_core a f) }
     ensures { (a : LiveContext core.now regs.now) (q : Place) (f : ℕ) → NamesEntered (live.reach a) f → 1 < f → base ≡ live.frame_at_core a f
@@ -53,6 +55,7 @@ fn slot_cell(core: &Core, regs: &Regs, base: u32, offset: u16) -> Result<u32, Fa
 }
 
 /// The cell at an offset of the activation record whose mark is at an address: in a slot, the dictionary's or the MCP's.
+#[inline(always)]
 fn cell_in(core: &Core, regs: &Regs, base: u32, offset: u16) -> Result<u32, Fault>
     requires { (a : LiveContext core.now regs.now) × (f : ℕ) × NamesEntered (live.reach a) f × (base ≡ live.frame_at_core a f) }
     ensures { (a : LiveContext core.now regs.now) (q : Place) (f : ℕ) → NamesEntered (live.reach a) f → base ≡ live.frame_at_core a f

@@ -144,7 +144,7 @@ module _ (x : Storage) (told : Option (List (List ℕ))) (plan : Placement) (s :
         by (line ∷ more) e low = absurd cc
 
     pub stop_fits : {K : Type 0} (taken : K → Option (List ℕ)) (after : Option (List (List ℕ))) (count : ℕ) (k new : Machine) (paper paper' : K) (n : ℕ) (stop : Stop) → MachineRepresents x told k plan s → code_area x plan m t ≢ None → called_in m t ≡ Some n
-        → CallMeets taken after count x plan s m t n (Err stop) k new paper paper' → CallTouches x plan m t (Err stop) → CallFits (length k.cpu.core) s m t (Err stop) → TryFits (length k.cpu.core) s m t (Err stop)
+        → CallMeets taken after count x plan s m t (Err stop) k new paper paper' → CallTouches x plan m t (Err stop) → CallFits (length k.cpu.core) s m t (Err stop) → TryFits (length k.cpu.core) s m t (Err stop)
     stop_fits taken after count k new paper paper' n stops.PrintFault h code called meets touches fits =
         let c = meets.0 in
         let same = cut_starts taken paper paper' n k.tasks.printed new.tasks.printed called c in

@@ -8,7 +8,7 @@ use Rattle.b67_task_tables.specs.Tables.{row_names}
 use Rattle.b67_session.specs.AttemptPassed.{CallCauses}
 use Rattle.b67_session.specs.AttemptStops.{Stop}
 use Rattle.b67_session.specs.AttemptStops as stops
-use Rattle.b67_session_ends.specs.Closing.{KeepsNames}
+use Rattle.b67_task_tables.specs.Runs.{Kept}
 use Rattle.b67_session_ends.specs.Ends.{KeepsTables}
 use Rattle.b67_session.specs.Slices.{Keeps}
 
@@ -39,5 +39,5 @@ turn_keeps old mid new row tables core sectors k = record {
 }
 
 -- and a task's end, or its wait
-pub close_keeps : (old mid new : Machine) → Keeps old mid → KeepsNames mid new → Keeps old new
-close_keeps old mid new a b = record { core = b.core ∙ a.core; sectors = b.sectors ∙ a.sectors; halt = b.halt ∙ a.halt; names = b.names ∙ a.names }
+pub close_keeps : (old mid new : Machine) → Keeps old mid → Kept mid new → Keeps old new
+close_keeps old mid new a b = record { core = b.keeps.core ∙ a.core; sectors = b.keeps.sectors ∙ a.sectors; halt = b.keeps.halt ∙ a.halt; names = b.keeps.names ∙ a.names }

@@ -30,7 +30,7 @@ module _ {K : Type 0} (taken : K → Option (List ℕ)) (told : Option (List (Li
     (x : Slices taken told exact count n first answered old new paper paper') (tells : exact) (halt : new.tasks.halt ≡ old.tasks.halt) (ample : Suffices (length old.cpu.core) count n old.tasks first) where
   -- no part of a step is made, where a whole one is due
   came : (b : StopsBefore told n x.steps x.session new) → after x.steps first ≡ x.session
-  came b = by (x.leads tells) where
+  came b = by (x.its tells).leads where
     by : StepsReach first x.steps x.session x.printed → after x.steps first ≡ x.session
     by (in_whole_steps a l) = a
     by (but_limit k part e f g some l) = absurd (some (no_last x.session b.stands.ordered))

@@ -5,9 +5,9 @@ use Rattle.b67_word.specs.declared.faults.Ending.{Ending}
 use Rattle.b67_word.specs.declared.faults.Ending.TheVariants.{Faulted}
 use Rattle.b67_word.specs.declared.faults.Fault.TheVariants.{InvalidOperator}
 use Rattle.b67_backing.specs.Held.{Becomes}
-use Rattle.b67_model.specs.Common.{Ready, Task, SessionJob, sectors, need, number_of, Session}
+use Rattle.b67_model.specs.Common.{Answer, Done, Ready, Task, SessionJob, touched_of, sectors, need, number_of, Session}
 use Rattle.b67_model.specs.Keyed.{keyed}
-use Rattle.b67_layout.specs.Common.{IsInOrderButCounts, Placement, IsRunning}
+use Rattle.b67_layout.specs.Common.{IsInOrderButCounts, Placement, IsRunning, area_held}
 use Rattle.b67_stack.specs.declared.What.{What}
 use Rattle.b67_stack.specs.declared.What.TheVariants as what
 use Rattle.b67_stack.specs.Common.{Location, Storage}
@@ -30,9 +30,10 @@ use Rattle.b67_session.specs.declared.outcomes.Attempt.TheVariants as attempts
 use Rattle.b67_session.specs.declared.tries.Tried.{Tried}
 use Rattle.b67_session.specs.declared.tries.Tried.TheVariants as tries
 use Rattle.b67_session.specs.Tries.{IsWantedByStep, EndsSo, LeavesAreas, TryMeets, TryFits, TryWrites}
-use Rattle.b67_session.specs.Attempts.{RunsOver, ForEachOver, StillStands, StandsLacking, StandsShort, HoleFits, segment_fits, array_fits, LacksRoom, TellsAfter, starts_task, makes_longer, TellsSectors, EndsWithin, AttemptMeets, Attempts, AttemptFits, IsNotFull, CallKeepsAreas, TablesStay, WantsNothing}
+use Rattle.b67_session.specs.Attempts.{RunsOver, ForEachOver, StillStands, StandsLacking, StandsShort, HoleFits, segment_fits, array_fits, LacksRoom, for_segment, for_array, TellsAfter, starts_task, makes_longer, for_task, for_length, EndsWithin, AttemptMeets, Attempts, AttemptFits, IsNotFull, CallKeepsAreas, TablesStay, WantsNothing}
 use Rattle.b67_session.specs.Brought.{StopMeets, Stopped, BroughtFits}
 use Rattle.b67_session.proofs.Numbers.{code_of_step, same_array}
+use Rattle.b67_session.proofs.Tells.{tells_weaker}
 
 abbrev Told : Type 0
 Told = Option (List (List ℕ))
@@ -111,10 +112,21 @@ module _ {B K : Type 0} (holds : B → Told) (taken : K → Option (List ℕ)) (
   abbrev unstarted : IsUnstarted known plan s m t old new → need (length old.cpu.core) s m t ≤ length old.cpu.core → StandsLacking (x.device ≢ None) known (length old.cpu.core) new plan s m t
   unstarted u fits = record { storage = u.storage; stands = u.stands; lacks = λ e. inr (inr (inr u.starts)); room = λ e. inl fits; code = λ e. code_of_step (length old.cpu.core) s m t o.peak_low fits }
 
+  -- after a RESIZE that was refused nothing is absent that no hole has room for
+  full_room : (sum size : ℕ) (f : IsFull x known count plan s m t sum size old new) → LacksRoom f.refused.storage plan m t → ⊥
+  full_room sum size f (for_segment none room) = f.code none
+  full_room sum size f (for_array a code among absent is room) =
+      let b = f.refused.longer.array in
+      let touches = ap (λ (answer : Answer Done). touched_of m.constants m.progress.job t answer) f.refused.longer.is ∙ f.touches in
+      let same : a.identity ≡ b.identity = same_Some a.identity b.identity (sym is ∙ touches) in
+      let alike : length a.numbers ≡ length b.numbers = same_array plan s m t o runs a b among f.refused.longer.among same in
+      let hole = f.room (ap (area_held f.refused.storage plan m.constants.number) (sym same) ∙ absent) in
+      room (subst (λ (n : ℕ). HasHole (n + 2) f.refused.storage.spans) (sym alike) hole)
+
   full : (sum size : ℕ) → need (length old.cpu.core) s m t ≤ length old.cpu.core → IsFull x known count plan s m t sum size old new ⊎ IsUnstartedFull known count plan s m t sum size old new
       → (size ≡ count) × (count < sum) × StandsShort (x.device ≢ None) known (length old.cpu.core) new plan s m t sum
-  full sum size fits (inl f) = (f.size_is, f.exceeds, record { lacking = refused f.refused fits; tells = inr (makes_longer f.refused.longer f.sum_is); wants = f.wants; free = f.free; short = f.short })
-  full sum size fits (inr u) = (u.size_is, u.exceeds, record { lacking = unstarted u.unstarted fits; tells = inr (starts_task u.unstarted.starts u.sum_is); wants = u.wants; free = u.free; short = inl u.short })
+  full sum size fits (inl f) = (f.size_is, f.exceeds, record { lacking = refused f.refused fits; tells = for_length f.refused.longer (full_room sum size f) f.sum_is; wants = f.wants; free = f.free; short = f.short })
+  full sum size fits (inr u) = (u.size_is, u.exceeds, record { lacking = unstarted u.unstarted fits; tells = for_task u.unstarted.starts u.sum_is; wants = u.wants; free = u.free; short = inl u.short })
 
   pub waits_once : (state : TaskState) → backing' ≡ backing → Try (Ok (tries.Waits state)) → Whole (Ok (attempts.Waits state))
   waits_once state quiet meets = at_once (Ok (attempts.Waits state)) (meets.0, silent quiet (unchanged x x.device plan s old new meets.1 h.stands), meets.2)
@@ -263,10 +275,7 @@ module _ {K : Type 0} (taken : K → Option (List ℕ)) (told : Told) (exact oth
   weaker (Err (stops.BackingFull sum size)) meets =
       let z = meets.2 in
       let y = z.lacking in
-      let tells : TellsSectors other y.storage plan s m t sum = ⊎_elim
-      (λ (wanted : (exact → LacksRoom y.storage plan m t) × (sum ≡ sectors s.jobs)). inl (λ e. wanted.0 (f e), wanted.1))
-      (λ (after : TellsAfter s m t sum). inr after)
-      z.tells in
+      let tells = tells_weaker exact other f y.storage plan s m t sum z.tells in
       (meets.0, meets.1, record { lacking = record { storage = y.storage; stands = y.stands; lacks = λ e. y.lacks (f e); room = λ e. y.room (f e); code = λ e. y.code (f e) }; tells = tells; wants = z.wants; free = z.free; short = z.short }, meets.3)
   weaker (Err stops.BackingFault) meets =
       let y = meets.0 in
@@ -387,14 +396,23 @@ module _ (x : Storage) (told : Told) (k : Machine) (plan : Placement) (s : Sessi
 -- what was held as it was lies in the same area
 pub keeps_areas : {K : Type 0} (taken : K → Option (List ℕ)) (x : Storage) (told : Told) (before : ℕ) (plan : Placement) (s : Session) (m : SessionJob) (t : Task) (new : Machine) (paper paper' : K)
     → (c : IsCalled taken paper paper' told s m t before new) × LeavesAreas x c.storage plan c.plan m t c.job → CallKeepsAreas taken x told before plan s m t new paper paper'
-keeps_areas taken x told before plan s m t new paper paper' (called, rest) = (called, λ no_process no_resize home some gone other. ap (λ (l : Location). l.area) (rest no_process no_resize home gone other))
+keeps_areas taken x told before plan s m t new paper paper' (called, rest) = (
+  called,
+  λ no_process no_resize home some gone other. ap (λ (l : Location). l.area) (rest no_process no_resize home gone other),
+  λ nothing no_process no_resize home none gone other. ap (λ (l : Location). l.area) (rest no_process no_resize home gone other) ∙ none,
+)
+
+-- where something has a hole, something is wanted
+pub hole_wants : (x : Storage) (plan : Placement) (m : SessionJob) (t : Task) → HoleFits x plan m t → WantsNothing x plan m t → ⊥
+hole_wants x plan m t (segment_fits none arrays room) nothing = nothing.code none
+hole_wants x plan m t (array_fits a code among absent is room) nothing = nothing.array a.identity is absent
 
 -- and so it does after what was wanted was brought into a hole
 module _ {K : Type 0} (taken : K → Option (List ℕ)) (x : Storage) (told after : Told) (k last : Machine) (before printed : ℕ) (plan : Placement) (s : Session) (m : SessionJob) (t : Task) (o : IsInOrderButCounts s) (runs : IsRunning plan s.jobs m t) (found : What) (b : Brings x told k plan s m t found)
-    (n : x.device ≢ None) (tells : x.device ≢ None → told ≢ None) (paper first paper' : K) (same_paper : first ≡ paper) (same_printed : printed ≡ before) (stay : AreasStay x b.again.storage) where
+    (n : x.device ≢ None) (tells : x.device ≢ None → told ≢ None) (paper first paper' : K) (same_paper : first ≡ paper) (same_printed : printed ≡ before) (stay : AreasStay x b.again.storage) (some_wanted : WantsNothing x plan m t → ⊥) where
   pub areas_kept : CallKeepsAreas taken b.again.storage (content_after b.again.storage.device after) printed plan (record s { jobs = b.again.jobs }) (other x told k plan s m t o runs found b).member t last first paper'
       → CallKeepsAreas taken x (content_after x.device after) before plan s m t last paper paper'
-  areas_kept (called, rest) =
+  areas_kept (called, rest, more) =
       let y = b.again.storage in
       let z = (other x told k plan s m t o runs found b).member in
       let same = b.again.same n in
@@ -403,6 +421,7 @@ module _ {K : Type 0} (taken : K → Option (List ℕ)) (x : Storage) (told afte
         called,
         λ no_process no_resize home some gone elsewhere.
             rest no_process no_resize home (λ none. some (sym (stay home some) ∙ none)) gone elsewhere ∙ stay home some,
+        λ nothing. absurd (subst (λ (v : SessionJob). WantsNothing x plan v t → ⊥) (sym (member_is x told k plan s m t o runs found b same)) some_wanted nothing),
       ) in
       let there : H (content_after x.device after) (record s { jobs = b.again.jobs }) z printed first = subst (λ (d : Told). H d (record s { jobs = b.again.jobs }) z printed first) (retold_same taken x told after k 0 0 0 plan s t b.again tells) it in
       let mine : H (content_after x.device after) (record s { jobs = b.again.jobs }) m printed first = subst (λ (v : SessionJob). H (content_after x.device after) (record s { jobs = b.again.jobs }) v printed first) (member_is x told k plan s m t o runs found b same) there in

@@ -7,8 +7,8 @@ use Rattle.b67_lemmas.proofs.Members.{all_in, has_flat}
 use Rattle.b67_model.specs.Common.{is_ready, IsSegment, JobInOrder, IsInOrderButPlaces, Task, SessionJob, RunLine, next, after, lines, live_tasks, Session, Choice, choice, ready_of, ready, Who}
 use Rattle.b67_law_sessions.specs.Turns.{IsNext}
 use Rattle.b67_law_sessions.proofs.Choices.{chosen_tasks_are_ready}
-use Rattle.b67_session_schedule.proofs.Rooms.{none_ready}
-use Rattle.b67_session_schedule.proofs.ReadyTasks.{of_tasks}
+use Rattle.b67_task_switch.proofs.Rooms.{none_ready}
+use Rattle.b67_task_switch.proofs.ReadyTasks.{of_tasks}
 use Rattle.b67_session_lines.specs.Moments.{first_part, due}
 use Rattle.b67_session_lines.proofs.Statuses.{after-add}
 use Rattle.b67_layout_storage.specs.Machine.{Says}
@@ -161,15 +161,11 @@ module _ {K : Type 0} (taken : K → Option (List ℕ)) (exact : Type 0) (said :
         session = g.session;
         printed = g.printed;
         below = g.below;
-        leads = λ tells. let c = g.came tells in in_whole_steps c.session c.lines_are;
-        ends = λ tells e. absurd cc;
-        fits = g.fits;
+        its = λ tells. let c = g.came tells in record { leads = in_whole_steps c.session c.lines_are; ends = λ e. absurd cc; fits = g.fits tells; was = p.was tells; next = refl };
         texts = λ fine. g.texts;
         made = g.made;
         was_due = p.was_due;
         is_due = due g.session;
-        was = p.was;
-        next = λ tells. refl;
         prints = p.prints;
         meets = (halt, (g.stands, next_now said now g.session g.stands some));
       }
@@ -183,15 +179,11 @@ module _ {K : Type 0} (taken : K → Option (List ℕ)) (exact : Type 0) (said :
         session = g.session;
         printed = g.printed;
         below = g.below;
-        leads = λ tells. let c = g.came tells in in_whole_steps c.session c.lines_are;
-        ends = λ tells e. absurd cc;
-        fits = g.fits;
+        its = λ tells. let c = g.came tells in record { leads = in_whole_steps c.session c.lines_are; ends = λ e. absurd cc; fits = g.fits tells; was = p.was tells; next = refl };
         texts = λ fine. g.texts;
         made = g.made;
         was_due = p.was_due;
         is_due = due g.session;
-        was = p.was;
-        next = λ tells. refl;
         prints = p.prints;
         meets = (all, halt, (g.stands, next_now said now g.session g.stands some));
       }
@@ -205,15 +197,11 @@ module _ {K : Type 0} (taken : K → Option (List ℕ)) (exact : Type 0) (said :
         session = g.session;
         printed = g.printed;
         below = g.below;
-        leads = λ tells. let c = g.came tells in in_whole_steps c.session c.lines_are;
-        ends = λ tells e. (g.came tells).session;
-        fits = g.fits;
+        its = λ tells. let c = g.came tells in record { leads = in_whole_steps c.session c.lines_are; ends = λ e. c.session; fits = g.fits tells; was = p.was tells; next = refl };
         texts = λ fine. g.texts;
         made = g.made;
         was_due = p.was_due;
         is_due = due g.session;
-        was = p.was;
-        next = λ tells. refl;
         prints = p.prints;
         meets = (rests_now said now g.session g.stands none, g.stands.ordered);
       }
@@ -255,13 +243,15 @@ module _ {K : Type 0} (taken : K → Option (List ℕ)) (exact : Type 0) (said :
           made = omega (arith, s.made, g.made);
           session = s.session;
           printed = g.printed ++ s.printed;
-          leads = λ tells. leads_then first steps s.steps g.session s.was s.session g.printed s.printed (g.came tells) (s.same (up tells)) (s.leads (up tells));
-          ends = λ tells e. absurd cc;
-          fits = λ tells. fits_then (length old.cpu.core) (length now.cpu.core) steps s.steps first g.session keeps.core (g.came tells).session s.few (g.fits tells) (s.fits (up tells));
+          its = λ tells. record {
+            leads = leads_then first steps s.steps g.session s.was s.session g.printed s.printed (g.came tells) (s.same (up tells)) (s.leads (up tells));
+            ends = λ e. absurd cc;
+            fits = fits_then (length old.cpu.core) (length now.cpu.core) steps s.steps first g.session keeps.core (g.came tells).session s.few (g.fits tells) (s.fits (up tells));
+            was = p.was tells;
+            next = s.next_is (up tells);
+          };
           was_due = p.was_due;
           is_due = s.is_due;
-          was = p.was;
-          next = λ tells. s.next_is (up tells);
           prints = prints_then taken paper paper' paper'' p.was_due s.was_due s.is_due old.tasks.printed now.tasks.printed new.tasks.printed g.printed s.printed p.prints s.prints;
           texts = λ fine. whole_then steps s.steps old now new paper paper' paper'' g.texts (s.texts (λ e. let why : stop ≡ stops.PrintFault = cc in fine (ap (λ (x : Stop). Err x) why)));
           meets = stop_meets said' exact (said ≢ None) (length old.cpu.core) count n steps s.steps s.session s.is_due stop new up few
@@ -321,6 +311,7 @@ pub begun_present : {A B D : Type 0} (holds : D → Option (List (List ℕ))) (t
 begun_present {A} {B} {D} holds told core' core n made k k' new s m t d d' e step answered begun len counted later few same fine full present h = record {
   quiet = λ one wants. (first (omega (arith, one, few)) h).quiet (omega arith) wants;
   hole = λ tells one fits none. (let used = (first (omega (arith, one, few)) h).hole tells (omega arith) fits none in record { written = used.written; not_full = fine used.not_full });
+  areas = λ job one alone hand more. (first (omega (arith, one, few)) h).areas job (omega arith) alone hand more;
   sum = λ one wants sum size e. (first (omega (arith, one, few)) h).sum (omega arith) wants sum size (full sum size e);
   room = λ tells code none. same ((first (omega (arith, none, counted, later)) h).room tells code none);
 } where

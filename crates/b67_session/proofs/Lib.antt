@@ -11,6 +11,7 @@ pub mod Between
 pub mod Halved
 pub mod Stopped
 pub mod Tabled
+pub mod AreasKept
 pub mod TriedSteps
 pub mod Caused
 pub mod Going
@@ -46,4 +47,5 @@ pub mod Readied
 pub mod Releasing
 pub mod Holes
 pub mod OperatorsMade
+pub mod NearOnes
 pub mod Gives

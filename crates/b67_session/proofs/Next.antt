@@ -20,9 +20,9 @@ use Rattle.b67_task_switch.specs.Turns.{with_running}
 use Rattle.b67_task_tables.specs.declared.tables.TaskRow.{TaskRow}
 use Rattle.b67_task_tables.specs.declared.tables.Tasks.{Tasks}
 use Rattle.b67_task_tables.specs.Tables.{task_row, TasksShow}
-use Rattle.b67_session_schedule.specs.declared.counting.Chosen.{Chosen}
-use Rattle.b67_session_schedule.specs.Counted.{choice_of}
-use Rattle.b67_session_schedule.specs.Chosen.{IsReadyAt}
+use Rattle.b67_task_switch.specs.declared.counting.Chosen.{Chosen}
+use Rattle.b67_task_switch.specs.Counted.{choice_of}
+use Rattle.b67_task_switch.specs.Chosen.{IsReadyAt}
 use Rattle.b67_session.specs.Slices.{NextFits}
 
 module _ (s : Session) (m : SessionJob) (t : Task) (n : IsNext s m t) where

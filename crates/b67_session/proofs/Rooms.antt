@@ -16,8 +16,8 @@ use Rattle.b67_task_tables.specs.declared.tables.JobRow.{JobRow}
 use Rattle.b67_task_tables.specs.declared.tables.Tasks.{Tasks}
 use Rattle.b67_task_tables.specs.Tables.{task_row, job_row, switch_of, TasksShow}
 use Rattle.b67_task_tables.specs.RowOf.{IsRowOf}
-use Rattle.b67_session_schedule.specs.declared.counting.Chosen.{Chosen}
-use Rattle.b67_session_schedule.specs.Counted.{CountsHaveRoom}
+use Rattle.b67_task_switch.specs.declared.counting.Chosen.{Chosen}
+use Rattle.b67_task_switch.specs.Counted.{CountsHaveRoom}
 
 -- the tables show some session with a job of these counts
 pub room_for : (plan : Placement) (shown : Session) (y : SessionJob) (tasks : Tasks) (c : Chosen) → NumberedFrom 1 shown.jobs → TasksShow plan shown tasks → Has shown.jobs y → y.constants.number ≡ c.job

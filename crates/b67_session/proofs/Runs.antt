@@ -4,7 +4,9 @@ use Rattle.b67_io.specs.Causes.{Rose}
 use Rattle.b67_mcp.specs.declared.ends.Stop.{Stop}
 use Rattle.b67_mcp.specs.declared.ends.Stop.TheVariants.{BackingFault, PrintFault}
 use Rattle.b67_mcp.specs.Called.{AreCountable}
-use Rattle.b67_mcp.specs.Running.{CallCauses, Kept}
+use Rattle.b67_mcp.specs.Running.{CallCauses}
+use Rattle.b67_task_tables.specs.Runs.{Kept}
+pub use Rattle.b67_task_tables.proofs.Keeping.{kept_then}
 use Rattle.b67_task_tables.specs.declared.tables.Machine.{Machine}
 use Rattle.b67_task_tables.specs.declared.tables.Tasks.{Tasks}
 use Rattle.b67_task_tables.specs.Tables.{row_names}
@@ -58,19 +60,7 @@ caused_later failed unprinted old mid new paper first paper' answered a b h = re
   device = λ e. rose_later failed old mid new a (h.device e);
 }
 
--- what two calls keep, one after the other
-pub kept_then : (old mid new : Machine) → Kept old mid → Kept mid new → Kept old new
-kept_then old mid new a b = record {
-  countable = λ few. b.countable (a.countable few);
-  keeps = record {
-    core = b.keeps.core ∙ a.keeps.core;
-    sectors = b.keeps.sectors ∙ a.keeps.sectors;
-    halt = b.keeps.halt ∙ a.keeps.halt;
-    names = b.keeps.names ∙ a.keeps.names;
-  };
-}
-
--- and one that leaves the tables
+-- what a call keeps that leaves the tables
 pub kept_tasks : (old new : Machine) → new.tasks ≡ old.tasks → length new.cpu.core ≡ length old.cpu.core → length new.sectors.links ≡ length old.sectors.links → Kept old new
 kept_tasks old new tasks core sectors = record {
   countable = λ few. subst (λ (z : Tasks). AreCountable z.jobs) (sym tasks) few;

@@ -20,7 +20,7 @@ use Rattle.b67_presence.specs.Bringing.{StandsOver, IsWanted, StandsAgain, Lacks
 use Rattle.b67_layout_step.proofs.MoreOtherNumbers.{others_running, RunsOther}
 use Rattle.b67_presence.proofs.Others.{others_same, others_sectors}
 use Rattle.b67_session.specs.Tries.{IsWantedByStep}
-use Rattle.b67_session.specs.Attempts.{IsLacking, LacksRoom, for_segment, for_array, CodeFits}
+use Rattle.b67_session.specs.Attempts.{IsLacking, LacksRoom, for_segment, for_array, CodeFits, for_want}
 use Rattle.b67_session.specs.Brought.{Stopped, BroughtFits}
 use Rattle.b67_mcp.specs.Stopping.{StopsFor}
 use Rattle.b67_session.proofs.Numbers.{need_of, need_fits, code_beside}
@@ -119,7 +119,7 @@ module _ (x : Storage) (told told' : Option (List (List ℕ))) (old new : Machin
           omega (arith, below, is, others_sectors s.jobs again.jobs again.others),
           record {
             lacking = record { storage = again.storage; stands = stands_told again; lacks = lacks_again again r.refused.lacks; room = room_again again r.refused.lacks low; code = code_again again low };
-            tells = inl (no_room_again again r.no_room, is);
+            tells = for_want (no_room_again again r.no_room) is;
             wants = wants;
             free = free;
             short = inl r.short;

@@ -15,3 +15,6 @@ stop_printed stops.PrintFault old new same other = absurd (other refl)
 -- another row runs, with the same counts
 pub turned_printed : (old new : Tasks) (row : ℕ) → new ≡ record old { rows = new.rows; running = row } → new.printed ≡ old.printed
 turned_printed old new row same = ap (λ (z : Tasks). z.printed) same
+
+pub turned_made : (old new : Tasks) (row : ℕ) → new ≡ record old { rows = new.rows; running = row } → new.made ≡ old.made
+turned_made old new row same = ap (λ (z : Tasks). z.made) same

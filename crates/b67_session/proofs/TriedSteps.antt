@@ -1,9 +1,8 @@
 -- A step, once its operator was tried: what it answers, prints and leaves.
-use Rattle.std.proofs.Common.{◌≡◌, ◌≢◌, ℕ, List, length, Option, Some, None, Result, Ok, Err, refl, sym, ap, ◌∙◌, subst}
+use Rattle.std.proofs.Common.{◌≡◌, ◌≢◌, ℕ, ◌+◌, List, length, Option, Some, None, Result, Ok, Err, refl, sym, ap, ◌∙◌, subst, arith}
 use Rattle.b67_word.specs.declared.faults.Ending.{Ending}
 use Rattle.b67_word.specs.declared.faults.Failed.{Failed}
-use Rattle.b67_model.specs.Common.{Stepped, ends_with, StepResult, Condition, Task, SessionJob, Session}
-use Rattle.b67_law_sessions.specs.Orders.{IsInOrderButLimit}
+use Rattle.b67_model.specs.Common.{Stepped, ends_with, StepResult, Condition, Task, Job, SessionJob, Session}
 use Rattle.b67_law_sessions.specs.Turns.{IsNext, part_of}
 use Rattle.b67_stack.specs.Represents.{Storage}
 use Rattle.b67_layout_storage.specs.Machine.{Says, content_after}
@@ -12,12 +11,12 @@ use Rattle.b67_exec_cells.specs.Running.{code_area}
 use Rattle.b67_task_tables.specs.declared.tables.TaskState.{TaskState}
 use Rattle.b67_task_tables.specs.declared.tables.Tasks.{Tasks}
 use Rattle.b67_task_tables.specs.declared.tables.Machine.{Machine}
-use Rattle.b67_task_tables.specs.Tables.{MachineRepresents}
-use Rattle.b67_session_schedule.specs.declared.counting.Chosen.{Chosen}
-use Rattle.b67_session_schedule.specs.Counted.{choice_of, CountsHaveRoom}
+use Rattle.b67_task_switch.specs.declared.counting.Chosen.{Chosen}
+use Rattle.b67_task_switch.specs.Counted.{choice_of, CountsHaveRoom}
+use Rattle.b67_task_switch.specs.Turns.{with_running}
 use Rattle.b67_session.specs.AttemptStops.{Stop}
 use Rattle.b67_session.specs.AttemptStops as stops
-use Rattle.b67_session.specs.Attempts.{AttemptFits, IsNotFull}
+use Rattle.b67_session.specs.Attempts.{AttemptFits, IsNotFull, IsAtHand}
 use Rattle.b67_session.proofs.Composed.{not_full_as}
 use Rattle.b67_session.specs.declared.outcomes.Attempt.{Attempt}
 use Rattle.b67_session.specs.declared.outcomes.Attempt.TheVariants as attempts
@@ -25,14 +24,15 @@ use Rattle.b67_session_ends.specs.Closing.{StandsChosen, ChoseSome, Closes}
 use Rattle.b67_session_ends.specs.Counts.{IsCounted}
 use Rattle.b67_session_ends.specs.Ends.{StandsBetween, KeepsTables}
 use Rattle.b67_session_ends.specs.Holds.{waiting_step, HoldsSo, HoldsSome}
-use Rattle.b67_session.specs.Slices.{StandsAt, StopsWithRoom, IfPresent}
+use Rattle.b67_session.specs.Slices.{StandsAt, StopsWithRoom, GoesOnAlone, StepKeepsAreas, IfPresent}
 use Rattle.b67_session.specs.Steps.{StopOf, EndsStep, Steps}
+use Rattle.b67_session.proofs.AreasKept.{EndsEach, step_keeps_areas, goes_on_only, stop_made}
 use Rattle.b67_session.proofs.Between.{IsHalfMade, finished}
 use Rattle.b67_session.proofs.Halved.{ClosesSo, made_room, made_half, close_room, chosen_stands, close_half, ends_so, waits, wait_made, waits_so, holds_so, between_of}
 use Rattle.b67_session.proofs.Next.{as_next}
 use Rattle.b67_session.proofs.Stopped.{cut_steps, stop_steps}
-use Rattle.b67_session.proofs.Turned.{NextOf, Tries, Attempted, attempted, n, quiet_here, hole_here, sum_here, room_there}
-use Rattle.b67_session.proofs.Tabled.{stop_printed, turned_printed}
+use Rattle.b67_session.proofs.Turned.{NextOf, Tries, Attempted, attempted, n, quiet_here, hole_here, sum_here, slot_here, areas_here, outcome_here, room_there}
+use Rattle.b67_session.proofs.Tabled.{stop_printed, turned_printed, turned_made}
 
 -- ---- stops with room
 
@@ -51,12 +51,7 @@ module _ (core : ℕ) (s : Session) (m : SessionJob) (t : Task) where
   stopped_room x plan stops.BackingFault fits code = fits code
   stopped_room x plan stops.PrintFault fits code = tt
 
--- what the end of a step promises of each session between its parts
-abbrev pub EndsEach : {K : Type 0} → (K → Option (List ℕ)) → Result (Unit {0}) Stop → Machine → Machine → K → K → Type 0
-EndsEach taken answered mid last paper paper' =
-    (x : Storage) (told : Option (List (List ℕ))) (plan : Placement) (h : Session) → IsInOrderButLimit h → MachineRepresents x told mid plan h → EndsStep taken told h answered mid last paper paper'
-
--- and `close` of each whose chosen task is known
+-- what `close` promises of each session whose chosen task is known
 abbrev pub ClosesEach : {K : Type 0} → (K → Option (List ℕ)) → Chosen → Ending → Result (Unit {0}) Failed → Machine → Machine → K → K → Type 0
 ClosesEach taken c ending result old new paper paper' =
     (x : Storage) (told : Option (List (List ℕ))) (plan : Placement) (s : Session) (m : SessionJob) (t : Task) → StandsChosen x told old plan s m t c
@@ -86,12 +81,14 @@ module _ {D K : Type 0} {holds : D → Option (List (List ℕ))} {taken : K → 
     pub present_by : (m : SessionJob) (t : Task) → IsNext s m t → (step : Result (Unit {0}) Stop) (last : Machine)
         → (said ≢ None → code_area h.storage h.plan next_of.member next_of.task ≢ None → last.tasks.made ≡ k.tasks.made → StopsWithRoom (length k.cpu.core) s next_of.member next_of.task step)
         → (IsNotFull answered → IsNotFull step) → ((sum size : ℕ) → step ≡ Err (stops.BackingFull sum size) → answered ≡ Err (stops.BackingFull sum size))
+        → ((job : Job) → GoesOnAlone s next_of.member next_of.task job → IsAtHand h.storage h.plan next_of.member next_of.task → last.tasks.made ≡ k.tasks.made + 1 → StepKeepsAreas h.storage h.plan s next_of.member next_of.task job last)
         → IfPresent holds (said ≢ None) (length k.cpu.core) 1 h.storage h.plan s m t step k last device device'
-    present_by m t next step last room fine full =
+    present_by m t next step last room fine full areas =
         as_next s m next_of.member t next_of.task (λ (z : SessionJob) (v : Task). IfPresent holds (said ≢ None) (length k.cpu.core) 1 h.storage h.plan s z v step k last device device') next_of.next next
         (record {
           quiet = λ one wants same. quiet_here x said s says h wants same;
           hole = λ tells one fits none. (let used = hole_here x said s says h tells fits none in record { written = used.written; not_full = fine used.not_full });
+          areas = λ job one alone hand more. areas job alone hand more;
           sum = λ one wants sum size e. sum_here x said s says h wants sum size (full sum size e);
           room = room;
         })
@@ -126,6 +123,9 @@ module _ {D K : Type 0} {holds : D → Option (List (List ℕ))} {taken : K → 
             let z = n x said s says h in
             present_by (Ok attempts.Made) x said s says h m t next answered last (λ tells code none. ended_room (length k.cpu.core) s z.member z.task ended.result answered ended.answer)
             (λ whole. ended_not_full ended.result answered ended.answer) (λ sum size e. absurd (ended_not_full ended.result answered ended.answer sum size e))
+            (λ job alone hand more.
+            step_keeps_areas taken s z.member z.task c h.ordered z.next z.chosen z.ready h.storage (slot_here x said s says h) h.plan (content_after h.storage.device told') mid.tasks.printed new last tasks paper paper' paper''
+            (areas_here x said s says h refl hand) counted answered each job alone)
 
   -- the operator ends its task, or makes it wait: the attempt has left the tables as they were
   module _ (outcome : Attempt) (x : Tries holds taken told told' count k c mid (Ok outcome) new device device' paper paper') (stay : new.tasks ≡ mid.tasks) (said : Option (List (List ℕ))) (s : Session) (says : Says said told) (h : StandsAt said k s)
@@ -135,6 +135,12 @@ module _ {D K : Type 0} {holds : D → Option (List (List ℕ))} {taken : K → 
 
     abbrev runs : new.tasks.running ≡ c.row
     runs = ap (λ (z : Tasks). z.running) stay ∙ ap (λ (z : Tasks). z.running) x.tables
+
+    -- it doesn't go on
+    left_not : outcome ≢ attempts.Made → (job : Job) → GoesOnAlone s (n x said s says h).member (n x said s says h).task job → IsAtHand h.storage h.plan (n x said s says h).member (n x said s says h).task → ⊥
+    left_not other job alone hand =
+        let z = n x said s says h in
+        goes_on_only (with_running h.plan (slot_here x said s says h)) z.member z.task job alone.printed alone.touched alone.is outcome other (outcome_here x said s says h hand)
 
     printed_still : new.tasks.printed ≡ k.tasks.printed
     printed_still = ap (λ (z : Tasks). z.printed) stay ∙ printed_is (Ok outcome) x
@@ -165,11 +171,12 @@ module _ {D K : Type 0} {holds : D → Option (List (List ℕ))} {taken : K → 
         pub closed_row : KeepsTables closed last → Steps taken (content_after said told') (said ≢ None) count s answered k last paper paper'''
         closed_row keeps = finished taken (content_after said told') (said ≢ None) count s k closed last paper paper'' paper''' closed_half keeps over.result over.finishes answered over.answer
 
-        pub closed_present : (m : SessionJob) (t : Task) → IsNext s m t → IfPresent holds (said ≢ None) (length k.cpu.core) 1 h.storage h.plan s m t answered k last device device'
-        closed_present m t next =
+        pub closed_present : outcome ≢ attempts.Made → (m : SessionJob) (t : Task) → IsNext s m t → IfPresent holds (said ≢ None) (length k.cpu.core) 1 h.storage h.plan s m t answered k last device device'
+        closed_present other m t next =
             let z = n x said s says h in
             present_by (Ok outcome) x said s says h m t next answered last (λ tells code none. ended_room (length k.cpu.core) s z.member z.task over.result answered over.answer)
             (λ whole. ended_not_full over.result answered over.answer) (λ sum size e. absurd (ended_not_full over.result answered over.answer sum size e))
+            (λ job alone hand more. absurd (left_not other job alone hand))
 
     -- the printer failed in them
     module _ (failed : Failed) (last : Machine) (paper'' : K) where
@@ -178,8 +185,10 @@ module _ {D K : Type 0} {holds : D → Option (List (List ℕ))} {taken : K → 
           let (more, only) = closes in
           cut_steps taken said (content_after said told') (length k.cpu.core) count k.tasks.printed s c new paper paper' (Ok outcome) made left so k last paper'' h.stands.tables.counts.made refl printed_still refl due halt more only
 
-      pub cut_present : (m : SessionJob) (t : Task) → IsNext s m t → IfPresent {A = Unit {0}} holds (said ≢ None) (length k.cpu.core) 1 h.storage h.plan s m t (Err stops.PrintFault) k last device device'
-      cut_present m t next = present_by (Ok outcome) x said s says h m t next (Err stops.PrintFault) last (λ tells code none. tt) (λ whole sum size e. absurd cc) (λ sum size e. absurd cc)
+      pub cut_present : outcome ≢ attempts.Made → (m : SessionJob) (t : Task) → IsNext s m t → IfPresent {A = Unit {0}} holds (said ≢ None) (length k.cpu.core) 1 h.storage h.plan s m t (Err stops.PrintFault) k last device device'
+      cut_present other m t next =
+          present_by (Ok outcome) x said s says h m t next (Err stops.PrintFault) last (λ tells code none. tt) (λ whole sum size e. absurd cc) (λ sum size e. absurd cc)
+          (λ job alone hand more. absurd (left_not other job alone hand))
 
   -- it ends its task
   module _ (ending : Ending) (x : Tries holds taken told told' count k c mid (Ok (attempts.Ends ending)) new device device' paper paper') (said : Option (List (List ℕ))) (s : Session) (says : Says said told) (h : StandsAt said k s) where
@@ -247,8 +256,12 @@ module _ {D K : Type 0} {holds : D → Option (List (List ℕ))} {taken : K → 
         stop_steps taken said (content_after said told') (length k.cpu.core) count k.tasks.printed s c new paper paper' stop (attempted x said s says h) k h.stands.tables.counts.made refl refl due halt
         (λ other. stop_printed stop mid.tasks new.tasks x.stay other ∙ printed_is (Err stop) x)
 
+    not_counted : new.tasks.made ≡ k.tasks.made + 1 → ⊥
+    not_counted more = omega (arith, more, stop_made stop mid.tasks new.tasks x.stay, turned_made k.tasks mid.tasks c.row x.tables)
+
     pub stop_present : (m : SessionJob) (t : Task) → IsNext s m t → IfPresent {A = Unit {0}} holds (said ≢ None) (length k.cpu.core) 1 h.storage h.plan s m t (Err stop) k new device device'
     stop_present m t next =
         let z = n x said s says h in
         present_by (Err stop) x said s says h m t next (Err stop) new (λ tells code none. stopped_room (length k.cpu.core) s z.member z.task h.storage h.plan stop (room_there x said s says h tells) code)
         (λ whole. not_full_as stop whole) (λ sum size e. ap (λ (z : Stop). Err z) (let is : stop ≡ stops.BackingFull sum size = cc in is))
+        (λ job alone hand more. absurd (not_counted more))

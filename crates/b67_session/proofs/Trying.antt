@@ -124,11 +124,11 @@ called_so taken x told plan s m t first old new paper paper' same (called, rest)
 
 -- an intrinsic's stop is the try's
 pub stops_so : {K : Type 0} (taken : K → Option (List ℕ)) (told : Option (List (List ℕ))) (count : ℕ) (x : Storage) (plan : Placement) (s : Session) (m : SessionJob) (t : Task) (n : ℕ) (stop : Stop) (first old new : Machine) (paper paper' : K) → called_in m t ≡ Some n → old ≡ first
-    → CallMeets taken told count x plan s m t n (Err stop) old new paper paper' → TryMeets taken told count x plan s m t (Err stop) first new paper paper'
+    → CallMeets taken told count x plan s m t (Err stop) old new paper paper' → TryMeets taken told count x plan s m t (Err stop) first new paper paper'
 stops_so taken told count x plan s m t n stop first old new paper paper' called same h =
     let P : Machine → Type 0 = λ k. TryMeets taken told count x plan s m t (Err stop) k new paper paper' in subst P same (by stop h)
   where
-    by : (why : Stop) → CallMeets taken told count x plan s m t n (Err why) old new paper paper' → TryMeets taken told count x plan s m t (Err why) old new paper paper'
+    by : (why : Stop) → CallMeets taken told count x plan s m t (Err why) old new paper paper' → TryMeets taken told count x plan s m t (Err why) old new paper paper'
     by stops.PrintFault h = h
     by (stops.NoCore need core) h = h
     by (stops.BackingFull sum sectors) h = h

@@ -1,5 +1,5 @@
 -- The chosen task is the running one, and what the attempt at its operator then answers.
-use Rattle.std.proofs.Common.{◌≡◌, ◌≢◌, ℕ, ◌+◌, ◌<◌, ◌^◌, List, length, map, Option, Some, None, Result, Ok, Err, refl, sym, ap, ◌∙◌, subst}
+use Rattle.std.proofs.Common.{◌≡◌, ◌≢◌, ℕ, ◌+◌, ◌<◌, ◌^◌, List, length, map, Option, Some, None, Result, Ok, Err, inl, inr, refl, sym, ap, ◌∙◌, subst}
 use Rattle.std.specs.List.{slice_get}
 use Rattle.std.proofs.lemmas.Option.{same_Some, slice_get_within}
 use Rattle.b67_lemmas.proofs.Places.{at_mapped}
@@ -19,14 +19,17 @@ use Rattle.b67_task_tables.specs.declared.tables.TaskRow.{TaskRow}
 use Rattle.b67_task_tables.specs.declared.tables.Tasks.{Tasks}
 use Rattle.b67_task_tables.specs.declared.tables.Machine.{Machine}
 use Rattle.b67_task_tables.specs.Tables.{task_row, TasksShow, MachineRepresents}
-use Rattle.b67_session_schedule.specs.declared.counting.Chosen.{Chosen}
-use Rattle.b67_session_schedule.specs.Counted.{choice_of, CountsHaveRoom}
-use Rattle.b67_session_schedule.specs.Chosen.{Chooses}
-use Rattle.b67_session.specs.AttemptPassed.{StandsOver, CallsDevice}
+use Rattle.b67_task_switch.specs.declared.counting.Chosen.{Chosen}
+use Rattle.b67_task_switch.specs.Counted.{choice_of, CountsHaveRoom}
+use Rattle.b67_task_switch.specs.Chosen.{Chooses}
+use Rattle.b67_session.specs.AttemptPassed.{StandsOver, CallsDevice, WaitsSo}
 use Rattle.b67_session.specs.AttemptStops.{Stop}
 use Rattle.b67_session.specs.AttemptStops as stops
 use Rattle.b67_session.specs.declared.outcomes.Attempt.{Attempt}
-use Rattle.b67_session.specs.Attempts.{RunsOver, ForEachOver, WantsNothing, HoleFits, segment_fits, array_fits, UsesHole, TellsAfter, AttemptMeets, Attempts, AttemptFits, AttemptRow, TablesStay}
+use Rattle.b67_session.specs.declared.outcomes.Attempt.TheVariants as attempts
+use Rattle.b67_session.specs.Tries.{EndsSo}
+use Rattle.b67_session.specs.Attempts.{RunsOver, ForEachOver, WantsNothing, HoleFits, segment_fits, array_fits, IsAtHand, UsesHole, CallKeepsAreas, TellsAfter, AttemptMeets, Attempts, AttemptFits, EndsByRow, AttemptRow, TablesStay}
+use Rattle.b67_session.proofs.Composed.{ends_exact}
 use Rattle.b67_session.specs.Slices.{StandsAt}
 use Rattle.b67_session.proofs.Next.{Chose, chose, runs_then, next_other}
 
@@ -145,6 +148,9 @@ module _ {D K : Type 0} {holds : D → Option (List (List ℕ))} {taken : K → 
   abbrev pub n : NextOf s c
   n = who said k s h c chooses_here
 
+  abbrev pub slot_here : ℕ
+  slot_here = (the_row said k s h c chooses_here).row.slot
+
   abbrev here : Turned said mid s n.member n.task c
   here = turned said k s h c chooses_here mid x.gives (x.counts h.plan s h.ordered h.stands.tables)
 
@@ -231,3 +237,25 @@ module _ {D K : Type 0} {holds : D → Option (List (List ℕ))} {taken : K → 
   -- and what a full device is told where nothing is
   pub sum_here : WantsNothing h.storage h.plan n.member n.task → (sum size : ℕ) → answered ≡ Err (stops.BackingFull sum size) → TellsAfter s n.member n.task sum
   sum_here wants = promise.sum (record { code = wants.code; array = wants.array })
+
+  -- where nothing is wanted, or what is wanted has a hole
+  at_hand_there : IsAtHand h.storage h.plan n.member n.task → IsAtHand here.storage here.plan n.member n.task
+  at_hand_there (inl wants) = inl (record { code = wants.code; array = wants.array })
+  at_hand_there (inr (tells, fits)) = inr (tells, hole_there fits)
+
+  pub areas_here : answered ≡ Ok attempts.Made → IsAtHand h.storage h.plan n.member n.task
+      → CallKeepsAreas taken here.storage (content_after here.storage.device told') mid.tasks.printed here.plan s n.member n.task new paper paper'
+  areas_here made hand = promise.areas (at_hand_there hand) made
+
+  -- the task ends or waits only by its row
+  outcome_told : (other : Result Attempt Stop) → said ≢ None → AttemptMeets taken (content_after here.storage.device told') (here.storage.device ≢ None) (length mid.cpu.core) count mid.tasks.printed here.plan (record s { jobs = a.jobs }) a.member n.task other new paper paper'
+      → EndsByRow here.plan n.member n.task other
+  outcome_told (Ok attempts.Made) tells meets = tt
+  outcome_told (Ok (attempts.Ends ending)) tells meets =
+      subst (λ (z : SessionJob). EndsSo z n.task ending) (member_same tells) (ends_exact (here.storage.device ≢ None) a.member n.task ending (device_told tells) meets.0)
+  outcome_told (Ok (attempts.Waits state)) tells meets = subst (λ (z : SessionJob). WaitsSo here.plan z n.task state) (member_same tells) meets.0
+  outcome_told (Err stop) tells meets = tt
+
+  pub outcome_here : IsAtHand h.storage h.plan n.member n.task → EndsByRow here.plan n.member n.task answered
+  outcome_here (inl wants) = promise.outcome (record { code = wants.code; array = wants.array })
+  outcome_here (inr (tells, fits)) = outcome_told answered (subst (λ (d : Option (List (List ℕ))). d ≢ None) (sym device_is) tells) a.meets

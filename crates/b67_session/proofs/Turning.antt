@@ -41,10 +41,10 @@ use Rattle.b67_task_tables.specs.declared.tables.Machine.{Machine}
 use Rattle.b67_task_tables.specs.Runs.{RunsTask}
 use Rattle.b67_task_tables.specs.Tables.{job_row, TasksShow, MachineRepresents}
 use Rattle.b67_session.specs.Makes.{OperatorMade, StepMakes, CallsOrMakes, MakesAt, MakesInSegment, ForEachReady}
-use Rattle.b67_session_schedule.specs.declared.counting.Chosen.{Chosen}
-use Rattle.b67_session_schedule.specs.Counted.{counted_more, counted_by, TurnHasRoom}
-use Rattle.b67_session_schedule.specs.Lasting.{RulesLeave, Lasts, TurnLasts, BeforeHalt}
-use Rattle.b67_session_schedule.proofs.Lasting.{lasts_choice}
+use Rattle.b67_task_switch.specs.declared.counting.Chosen.{Chosen}
+use Rattle.b67_task_switch.specs.Counted.{counted_more, counted_by, TurnHasRoom}
+use Rattle.b67_task_switch.specs.Lasting.{RulesLeave, Lasts, TurnLasts, BeforeHalt}
+use Rattle.b67_task_switch.proofs.Lasting.{lasts_choice}
 use Rattle.b67_law_order.proofs.FewMade.{made_few, all_few}
 use Rattle.b67_session.specs.Fits.{IsArrayOfJob}
 use Rattle.b67_session.proofs.AttemptFits.{was_operator, made_touches}
@@ -428,9 +428,25 @@ pub turn_as : (told : Option (List (List ℕ))) (steps left : ℕ) (first : Sess
 turn_as told steps left first core k h more fewer same_more same_fewer =
     subst (λ (i : ℕ). HasTurnLeft told i fewer first core k) (sym same_more) (subst (λ (i : ℕ). HasTurnLeft told steps i first core k) (sym same_fewer) h)
 
+-- of a machine that is as it was
+pub turn_same : (told : Option (List (List ℕ))) (steps left : ℕ) (first : Session) (core : ℕ) (k new : Machine) → new ≡ k → HasTurnLeft told steps left first core k → HasTurnLeft told steps left first core new
+turn_same told steps left first core k new same h = subst (λ (z : Machine). HasTurnLeft told steps left first core z) (sym same) h
+
 -- an answer that is Done
 pub done_row : (k new : Machine) (answered : Step) → answered ≡ answers.Done → ForEachReady k (λ x told plan s m t. MakesInSegment x told plan s m t answered k new) → ForEachReady k (λ x told plan s m t. MakesInSegment x told plan s m t answers.Done k new)
 done_row k new answered is each x told plan s m t o h runs ready = subst (λ (z : Step). MakesInSegment x told plan s m t z k new) is (each x told plan s m t o h runs ready)
+
+-- one operator more, where a try before it changed nothing
+pub turn_next : (told : Option (List (List ℕ))) (steps made room : ℕ) (first : Session) (core : ℕ) (k tried new : Machine) → made < room → tried ≡ k → length k.cpu.core ≡ core → HasTurnLeft told (steps + made) (room - made) first core k
+    → ForEachReady tried (λ x told plan s m t. MakesInSegment x told plan s m t answers.Done tried new) → HasTurnLeft told (steps + (made + 1)) (room - (made + 1)) first core new
+turn_next told steps made room first core k tried new low same size h each =
+    let some : 1 ≤ room - made = omega (arith, low) in
+    let long : length tried.cpu.core ≡ core = ap (λ (z : Machine). length z.cpu.core) same ∙ size in
+    let fewer : room - (made + 1) ≡ room - made - 1 = omega arith in
+    let more : steps + (made + 1) ≡ steps + made + 1 = omega arith in
+    turn_as told (steps + made + 1) (room - (made + 1)) first core new
+    (turn_made told (steps + made) (room - made) first core tried (turn_same told (steps + made) (room - made) first core k tried same h) some new each long (room - (made + 1)) fewer)
+    (steps + (made + 1)) (room - (made + 1)) more refl
 
 -- the running task of a turn, over the registers
 pub some_runs : (k : Machine) → RunsTask k → RunsSome k.cpu

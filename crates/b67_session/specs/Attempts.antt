@@ -68,6 +68,10 @@ pub data HoleFits (x : Storage) (plan : Placement) (m : SessionJob) (t : Task) :
       → touched_of m.constants m.progress.job t (step m.constants m.progress.job t) ≡ Some a.identity
       → HasHole (length a.numbers + 2) x.spans → HoleFits x plan m t
 
+-- nothing is wanted; or one thing is, a hole has room for it, and the device tells what its sectors hold
+abbrev pub IsAtHand : Storage → Placement → SessionJob → Task → Type 0
+IsAtHand x plan m t = WantsNothing x plan m t ⊎ ((x.device ≢ None) × HoleFits x plan m t)
+
 -- the running segment is absent, or, if it is present, the array that the step touches is; and no hole has room for it
 pub data LacksRoom (x : Storage) (plan : Placement) (m : SessionJob) (t : Task) : Type 0 where
   for_segment : code_area x plan m t ≡ None → (HasHole (length (code_of m.constants t.segment) + 2) x.spans → ⊥) → LacksRoom x plan m t
@@ -85,9 +89,13 @@ pub data TellsAfter (s : Session) (m : SessionJob) (t : Task) (sum : ℕ) : Type
   starts_task : StartsTask m t → sum ≡ sectors s.jobs → TellsAfter s m t sum
   makes_longer : (l : Lengthens m t) → sum ≡ sectors (with_job s m l.job).jobs → TellsAfter s m t sum
 
--- and where a step is stopped that wants something: the session's, and no hole has room for it
-abbrev pub TellsSectors : Type 0 → Storage → Placement → Session → SessionJob → Task → ℕ → Type 0
-TellsSectors exact x plan s m t sum = ((exact → LacksRoom x plan m t) × (sum ≡ sectors s.jobs)) ⊎ TellsAfter s m t sum
+-- So many sectors are told where a step is stopped: the session's, if something that it wants is absent and no hole has room for
+-- it, or if the step starts a task; or those that the session takes once the array is longer, and then nothing is absent that no
+-- hole has room for
+pub data TellsSectors (exact : Type 0) (x : Storage) (plan : Placement) (s : Session) (m : SessionJob) (t : Task) (sum : ℕ) : Type 0 where
+  for_want : (exact → LacksRoom x plan m t) → sum ≡ sectors s.jobs → TellsSectors exact x plan s m t sum
+  for_task : StartsTask m t → sum ≡ sectors s.jobs → TellsSectors exact x plan s m t sum
+  for_length : (l : Lengthens m t) → (LacksRoom x plan m t → ⊥) → sum ≡ sectors (with_job s m l.job).jobs → TellsSectors exact x plan s m t sum
 
 -- the session takes so many sectors, or does once the step has made its array longer
 abbrev pub TakesSectors : Session → SessionJob → Task → ℕ → Type 0
@@ -164,24 +172,53 @@ KeepsAreas x y plan after m t job =
     called_in m t ≢ Some 12 → called_in m t ≢ Some 18 → (home : ℕ) → (x.held home).area ≢ None → (HasHome (objects_gone plan m job) home → ⊥) → (HoldsOther plan after m t job home → ⊥)
     → (y.held home).area ≡ (x.held home).area
 
+-- and nothing else is in an area
+abbrev pub AddsNoArea : Storage → Storage → Placement → Placement → SessionJob → Task → Job → Type 0
+AddsNoArea x y plan after m t job =
+    called_in m t ≢ Some 12 → called_in m t ≢ Some 18 → (home : ℕ) → (x.held home).area ≡ None → (HasHome (objects_gone plan m job) home → ⊥) → (HoldsOther plan after m t job home → ⊥)
+    → (y.held home).area ≡ None
+
 abbrev pub CallKeepsAreas : {K : Type 0} → (K → Option (List ℕ)) → Storage → Option (List (List ℕ)) → ℕ → Placement → Session → SessionJob → Task → Machine → K → K → Type 0
-CallKeepsAreas taken x told before plan s m t new paper paper' = (c : IsCalled taken paper paper' told s m t before new) × KeepsAreas x c.storage plan c.plan m t c.job
+CallKeepsAreas taken x told before plan s m t new paper paper' =
+    (c : IsCalled taken paper paper' told s m t before new) × KeepsAreas x c.storage plan c.plan m t c.job × (WantsNothing x plan m t → AddsNoArea x c.storage plan c.plan m t c.job)
 
 -- the device wasn't called, and doesn't stop the step for too few sectors
 pub record IsCalm {A D : Type 0} (answered : Result A Stop) (device device' : D) : Type 0 where
   pub same : device' ≡ device
   pub not_full : IsNotFull answered
 
+-- a step that ends its task or makes it wait does so by its row
+abbrev pub EndsByRow : Placement → SessionJob → Task → Result Attempt Stop → Type 0
+EndsByRow plan m t (Ok (attempts.Ends ending)) = EndsSo m t ending
+EndsByRow plan m t (Ok (attempts.Waits state)) = WaitsSo plan m t state
+EndsByRow plan m t answered = Unit {0}
+
 -- What an attempt answers and leaves. Over a device that tells what its sectors hold, core has room as said, and what is wanted
 -- goes into a hole if one has room for it. Where nothing is wanted, no array becomes longer and no task starts, the device isn't
--- called; and if it is full, the sum is the one after the step. In both cases a step that is made leaves areas where they are
+-- called; and if it is full, the sum is the one after the step. In both cases a step that is made leaves areas where they are;
+-- where nothing is wanted none is new, and a task ends or waits only by its row
 pub record AttemptRow {D K : Type 0} (holds : D → Option (List (List ℕ))) (taken : K → Option (List ℕ)) (x : Storage) (told : Option (List (List ℕ))) (core count before : ℕ) (plan : Placement) (s : Session) (m : SessionJob) (t : Task) (answered : Result Attempt Stop) (new : Machine) (device device' : D) (paper paper' : K) : Type 0 where
   pub meets : Attempts taken x told core count before plan s t answered new paper paper'
   pub fits : x.device ≢ None → AttemptFits core x plan s m t answered
   pub quiet : WantsNothing x plan m t → (CallsDevice m t → ⊥) → device' ≡ device
   pub hole : x.device ≢ None → HoleFits x plan m t → (CallsDevice m t → ⊥) → UsesHole holds answered device device'
-  pub areas : WantsNothing x plan m t ⊎ ((x.device ≢ None) × HoleFits x plan m t) → answered ≡ Ok attempts.Made → CallKeepsAreas taken x told before plan s m t new paper paper'
+  pub areas : IsAtHand x plan m t → answered ≡ Ok attempts.Made → CallKeepsAreas taken x told before plan s m t new paper paper'
+  pub outcome : WantsNothing x plan m t → EndsByRow plan m t answered
   pub sum : WantsNothing x plan m t → (sum size : ℕ) → answered ≡ Err (stops.BackingFull sum size) → TellsAfter s m t sum
+
+-- the same of an attempt once the running segment is present: if nothing more is wanted, the device isn't called but by a step
+-- that may call it, and a step that is made leaves areas where they are
+pub record WithCodeRow {D K : Type 0} (taken : K → Option (List ℕ)) (x : Storage) (told : Option (List (List ℕ))) (core count before : ℕ) (plan : Placement) (s : Session) (m : SessionJob) (t : Task) (answered : Result Attempt Stop) (new : Machine) (device device' : D) (paper paper' : K) : Type 0 where
+  pub meets : code_area x plan m t ≢ None → Attempts taken x told core count before plan s t answered new paper paper'
+  pub fits : code_area x plan m t ≢ None → x.device ≢ None → AttemptFits core x plan s m t answered
+  pub calm : WantsNothing x plan m t → (CallsDevice m t → ⊥) → IsCalm answered device device'
+  pub areas : WantsNothing x plan m t → answered ≡ Ok attempts.Made → CallKeepsAreas taken x told before plan s m t new paper paper'
+
+-- and of the last try, once the array is present too. Over a device that tells nothing the step may want another
+pub record LastRow {D K : Type 0} (taken : K → Option (List ℕ)) (x : Storage) (told : Option (List (List ℕ))) (core count before : ℕ) (plan : Placement) (s : Session) (m : SessionJob) (t : Task) (answered : Result Attempt Stop) (new : Machine) (device device' : D) (paper paper' : K) : Type 0 where
+  pub meets : (x.device ≢ None → WantsNothing x plan m t) → Attempts taken x told core count before plan s t answered new paper paper'
+  pub fits : WantsNothing x plan m t → AttemptFits core x plan s m t answered
+  pub calm : (CallsDevice m t → ⊥) → IsCalm answered device device'
 
 -- the tables are as they were but where the operator was made; after a printer's failure it is counted how much is printed
 abbrev pub TablesStay : Result Attempt Stop → Tasks → Tasks → Type 0

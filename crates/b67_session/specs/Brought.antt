@@ -1,18 +1,19 @@
 -- What bringing in answers and leaves that the next operator wants, with the numbers that a stop says.
-use Rattle.std.specs.Prelude.{◌≡◌, ◌≢◌, ℕ, ◌<◌, ◌≤◌, List, Option, None, Result, Ok, Err, OnOk}
+use Rattle.std.specs.Prelude.{◌≡◌, ◌≢◌, ℕ, ◌<◌, ◌≤◌, List, length, Option, None, Result, Ok, Err, OnOk}
 use Rattle.b67_model.specs.Common.{Task, SessionJob, need, Session}
 use Rattle.b67_stack.specs.declared.What.{What}
 use Rattle.b67_stack.specs.Represents.{Storage}
-use Rattle.b67_layout_storage.specs.Machine.{content_after}
+use Rattle.b67_layout_storage.specs.Machine.{content_after, HasHole}
 use Rattle.b67_layout.specs.Placement.{Placement}
 use Rattle.b67_layout.specs.Session.{IsRunning}
 use Rattle.b67_exec_cells.specs.Running.{code_area}
 use Rattle.b67_law_order.specs.Weaker.{AllOtherNumbers}
 use Rattle.b67_task_tables.specs.declared.tables.Machine.{Machine}
-use Rattle.b67_presence.specs.Bringing.{Brings, BringsInPlace, IsUntouched}
+use Rattle.b67_presence.specs.Bringing.{Brings, BringsInPlace, IsUntouched, words_wanted}
 use Rattle.b67_mcp.specs.declared.ends.Stop.{Stop}
 use Rattle.b67_mcp.specs.declared.ends.Stop.TheVariants as stops
 use Rattle.b67_session.specs.Attempts.{StillStands, StandsLacking, StandsShort, UsesHole}
+use Rattle.b67_session.specs.Tries.{IsWantedByStep}
 
 -- by the reason, as an attempt's: what was wanted is absent where sectors were missing or the device failed
 abbrev pub StopMeets : Option (List (List ℕ)) → Type 0 → ℕ → ℕ → Placement → Session → SessionJob → Task → Stop → Machine → Type 0
@@ -48,3 +49,15 @@ pub record BroughtIntoHole {D : Type 0} (holds : D → Option (List (List ℕ)))
 abbrev pub BroughtMeets : Storage → Option (List (List ℕ)) → ℕ → ℕ → Placement → Session → SessionJob → Task → What → Result (Unit {0}) Stop → Machine → Type 0
 BroughtMeets x told core count plan s m t found (Ok done) new = Brings x told new plan s m t found
 BroughtMeets x told core count plan s m t found (Err stop) new = Stopped x (content_after x.device told) core count plan s t stop new
+
+-- The same, if this is what the next operator wants: of the session that the machine represented
+pub record BroughtRow {D : Type 0} (holds : D → Option (List (List ℕ))) (core count : ℕ) (x : Storage) (plan : Placement) (s : Session) (m : SessionJob) (t : Task) (found : What) (words : ℕ) (answered : Result (Unit {0}) Stop) (new : Machine) (device device' : D) : Type 0 where
+  pub meets : IsWantedByStep plan m t found words → BroughtMeets x (holds device') core count plan s m t found answered new
+  pub fits : IsWantedByStep plan m t found words → BroughtFits core x plan s m t answered
+  pub hole : HasHole (words_wanted m t found words) x.spans → BroughtIntoHole holds x plan s m t found answered new device device'
+
+-- the tables of tasks are as they were; core and the table of sectors have as many words and sectors
+pub record KeepsTasks (old new : Machine) : Type 0 where
+  pub tasks : new.tasks ≡ old.tasks
+  pub core : length new.cpu.core ≡ length old.cpu.core
+  pub sectors : length new.sectors.links ≡ length old.sectors.links

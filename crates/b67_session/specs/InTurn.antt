@@ -6,8 +6,8 @@ use Rattle.b67_stack.specs.Represents.{Storage}
 use Rattle.b67_layout.specs.Placement.{Placement, slot_of}
 use Rattle.b67_task_tables.specs.declared.tables.Machine.{Machine}
 use Rattle.b67_task_tables.specs.Tables.{MachineRepresents}
-use Rattle.b67_session_schedule.specs.Counted.{counted_by, counted_more}
-use Rattle.b67_session_schedule.specs.Lasting.{Lasts, TurnLasts}
+use Rattle.b67_task_switch.specs.Counted.{counted_by, counted_more}
+use Rattle.b67_task_switch.specs.Lasting.{Lasts, TurnLasts}
 use Rattle.b67_session.specs.Slices.{StepsFit}
 
 -- the machine represents some session in order, of which the last task has so many operators of its turn left

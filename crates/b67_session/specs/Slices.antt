@@ -1,7 +1,7 @@
 -- What a slice of a run answers, prints and leaves: a session of any jobs and tasks.
 use Rattle.std.specs.Prelude.{◌≡◌, ◌≢◌, ℕ, ◌+◌, ◌<◌, ◌≤◌, ◌⊎◌, List, [], ◌++◌, length, take, Option, Some, None, Result, Ok, Err}
 use Rattle.b67_io.specs.Told.{Took}
-use Rattle.b67_model.specs.Common.{Task, SessionJob, need, need_next, run_text, IsInOrderButPlaces, Session, RunLine, StepResult, after, lines, live_tasks}
+use Rattle.b67_model.specs.Common.{Task, Job, SessionJob, Line, Goes, step, need, need_next, run_text, IsInOrderButPlaces, Session, RunLine, StepResult, after, lines, live_tasks}
 use Rattle.b67_session_lines.specs.Moments.{first_part, last_part, due}
 use Rattle.b67_stack.specs.Represents.{Storage}
 use Rattle.b67_layout_storage.specs.Machine.{Says}
@@ -10,9 +10,10 @@ use Rattle.b67_exec_cells.specs.Running.{code_area}
 use Rattle.b67_law_sessions.specs.Turns.{IsNext}
 use Rattle.b67_task_tables.specs.declared.tables.Tasks.{Tasks}
 use Rattle.b67_task_tables.specs.declared.tables.Machine.{Machine}
+use Rattle.b67_task_tables.specs.Tables.{MachineRepresents}
 pub use Rattle.b67_task_tables.specs.Runs.{Keeps}
 use Rattle.b67_session.specs.AttemptPassed.{AreCountable, IsShortAt, CallsDevice}
-use Rattle.b67_session.specs.Attempts.{IsLacking, WantsNothing, HoleFits, UsesHole, CodeFits, TellsAfter, TellsSectors}
+use Rattle.b67_session.specs.Attempts.{IsLacking, WantsNothing, HoleFits, IsAtHand, UsesHole, KeepsAreas, AddsNoArea, CodeFits, TellsAfter, TellsSectors}
 use Rattle.b67_session.specs.AttemptStops.{Stop}
 use Rattle.b67_session.specs.AttemptStops as stops
 pub use Rattle.b67_session_ends.specs.Machines.{StandsAt, IsLimited, RepresentsWithoutTasks}
@@ -34,6 +35,17 @@ pub record LivesOn (told : Option (List (List ℕ))) (k : Machine) : Type 0 wher
   pub member : SessionJob
   pub task : Task
   pub next : IsNext some.session member task
+
+-- a slice of steps may begin: it stands for some session in order, and each job's numbers can be counted
+pub record SetsOutSome (told : Option (List (List ℕ))) (k : Machine) : Type 0 where
+  pub stands : StandsSome told k
+  pub countable : AreCountable k.tasks.jobs
+
+-- a step is due: a task makes the next one, and the halt isn't reached
+pub record IsStepDue (told : Option (List (List ℕ))) (k : Machine) : Type 0 where
+  pub lives : LivesOn told k
+  pub before_halt : k.tasks.halt ≢ Some k.tasks.made
+  pub countable : AreCountable k.tasks.jobs
 
 -- for some session whose last part is due
 pub record StandsLimited (told : Option (List (List ℕ))) (k : Machine) : Type 0 where
@@ -109,13 +121,32 @@ StopsWithRoom core s m t (Err (stops.BackingFull sum size)) = need core s m t �
 StopsWithRoom core s m t (Err stops.BackingFault) = need core s m t ≤ core
 StopsWithRoom core s m t _ = Unit {0}
 
+-- the step goes on with this job: it ends no task, makes none wait, and doesn't bring its job to its limit
+pub record GoesOnAlone (s : Session) (m : SessionJob) (t : Task) (job : Job) : Type 0 where
+  pub printed : List Line
+  pub touched : Option ℕ
+  pub is : step m.constants m.progress.job t ≡ Ok (Goes job printed touched)
+  pub below : (part : StepResult) → first_part s ≡ Some part → last_part part.session ≡ None
+
+-- the machine stands for the session after the next step, and every area that was there is where it was, as said of the step;
+-- and none is new, if nothing was wanted
+pub record StepKeepsAreas (x : Storage) (plan : Placement) (s : Session) (m : SessionJob) (t : Task) (job : Job) (new : Machine) : Type 0 where
+  pub told : Option (List (List ℕ))
+  pub storage : Storage
+  pub placed : Placement
+  pub stands : MachineRepresents storage told new placed (after 1 s)
+  pub areas : KeepsAreas x storage plan placed m t job
+  pub none_new : WantsNothing x plan m t → AddsNoArea x storage plan placed m t job
+
 -- The session's next step is looked at in a storage, where a slice of n steps sets out. Where its segment and its array are
 -- present, and it makes no array longer and starts no task, a slice of one step doesn't call the device; where one of them is
--- absent and a hole has room for it, no sector is written, and too few free ones stop nothing. Where both are present, a full
--- device is told the sum after the step. Where its segment is present, the device stops it only if core has room for it
+-- absent and a hole has room for it, no sector is written, and too few free ones stop nothing. In both cases the areas stay
+-- where they are if the step is made and goes on. Where both are present, a full device is told the sum after the step. Where
+-- its segment is present, the device stops it only if core has room for it
 pub record IfPresent {A D : Type 0} (holds : D → Option (List (List ℕ))) (exact : Type 0) (core n : ℕ) (x : Storage) (plan : Placement) (s : Session) (m : SessionJob) (t : Task) (answered : Result A Stop) (old new : Machine) (device device' : D) : Type 0 where
   pub quiet : n ≤ 1 → WantsNothing x plan m t → (CallsDevice m t → ⊥) → device' ≡ device
   pub hole : exact → n ≤ 1 → HoleFits x plan m t → (CallsDevice m t → ⊥) → UsesHole holds answered device device'
+  pub areas : (job : Job) → n ≤ 1 → GoesOnAlone s m t job → IsAtHand x plan m t → new.tasks.made ≡ old.tasks.made + 1 → StepKeepsAreas x plan s m t job new
   pub sum : n ≤ 1 → WantsNothing x plan m t → (sum size : ℕ) → answered ≡ Err (stops.BackingFull sum size) → TellsAfter s m t sum
   pub room : exact → code_area x plan m t ≢ None → new.tasks.made ≡ old.tasks.made → StopsWithRoom core s m t answered
 
@@ -155,6 +186,15 @@ SliceMeets said exact core count n steps s is_due (Err stops.PrintFault) new =
     (new.tasks.printed < length is_due)
     × (((b : StopsBefore said n steps s new) × (exact → need core s b.member b.task ≤ core)) ⊎ ((part : StepResult) × IsLimited said new s part))
 
+-- so many steps that led to a session are those of the first one: these are their lines, core had the words that they need, and
+-- these are the texts that were due before them and are due next
+pub record AreStepsOf (core steps : ℕ) (first session : Session) (printed : List RunLine) (was_due is_due : List ℕ) (answered : Result Progress Stop) : Type 0 where
+  pub leads : StepsReach first steps session printed
+  pub ends : answered ≡ Ok progress.Ended → after steps first ≡ session
+  pub fits : StepsFit core steps first
+  pub was : was_due ≡ due first
+  pub next : is_due ≡ due session
+
 -- Where it is known what the device's sectors hold, the steps are those of the session from which the slice set out. Where
 -- nothing is known, they are those of a machine that had some code and some numbers. None is made at the halt
 pub record Slices {K : Type 0} (taken : K → Option (List ℕ)) (told : Option (List (List ℕ))) (exact : Type 0) (count n : ℕ) (first : Session) (answered : Result Progress Stop) (old new : Machine) (paper paper' : K) : Type 0 where
@@ -164,13 +204,9 @@ pub record Slices {K : Type 0} (taken : K → Option (List ℕ)) (told : Option 
   pub made : new.tasks.made ≡ old.tasks.made + steps
   pub session : Session
   pub printed : List RunLine
-  pub leads : exact → StepsReach first steps session printed
-  pub ends : exact → answered ≡ Ok progress.Ended → after steps first ≡ session
-  pub fits : exact → StepsFit (length old.cpu.core) steps first
   pub was_due : List ℕ
   pub is_due : List ℕ
-  pub was : exact → was_due ≡ due first
-  pub next : exact → is_due ≡ due session
+  pub its : exact → AreStepsOf (length old.cpu.core) steps first session printed was_due is_due answered
   pub prints : Prints taken paper paper' was_due old.tasks.printed printed is_due new.tasks.printed
   pub texts : answered ≢ Err stops.PrintFault → PrintsWhole steps old new paper paper'
   pub meets : SliceMeets told exact (length old.cpu.core) count n steps session is_due answered new

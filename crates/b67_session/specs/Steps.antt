@@ -7,7 +7,7 @@ use Rattle.b67_session.specs.AttemptStops.{Stop}
 use Rattle.b67_session.specs.AttemptStops as stops
 use Rattle.b67_word.specs.declared.faults.Failed.{Failed}
 use Rattle.b67_session_ends.specs.Ends.{Finishes}
-use Rattle.b67_session_schedule.specs.Lasting.{BeforeHalt}
+use Rattle.b67_task_switch.specs.Lasting.{BeforeHalt}
 use Rattle.b67_session.specs.Slices.{StandsAt, Prints, PrintsWhole, NextFits, StepsFit, SliceMeets}
 
 -- a whole step leads from a session to another, and these are its lines

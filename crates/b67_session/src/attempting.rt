@@ -1,12 +1,9 @@
 //! The next operator, with what it wants brought into core.
 
-ghost use Rattle.std.specs.Prelude.{◌≡◌, ◌≢◌, ◌+◌, None, Ok, length};
+ghost use Rattle.std.specs.Prelude.{◌≡◌, ◌+◌, length};
 ghost use Rattle.b67_layout_storage.specs.Machine.{DeviceAfterCalls, content_after};
-ghost use Rattle.b67_exec_cells.specs.Running.{code_area};
-ghost use Rattle.b67_mcp.specs.Called.{AreCountable, CallsDevice};
-ghost use Rattle.b67_mcp.specs.Running.{CanNumber, JobsHaveRoom, CallCauses, Kept};
-ghost use Rattle.b67_session.specs.Attempts.{RunsOver, ForEachOver, WantsNothing, Attempts, AttemptFits, AttemptRow, IsCalm, CallKeepsAreas, TablesStay};
-ghost use Rattle.b67_session.specs.declared.outcomes.Attempt.TheVariants as attempts;
+ghost use Rattle.b67_mcp.specs.Running.{JobsHaveRoom, CallCauses, Kept};
+ghost use Rattle.b67_session.specs.Attempts.{RunsOver, ForEachOver, AttemptRow, WithCodeRow, LastRow, TablesStay};
 
 use crate::bringing::bring_wanted;
 use crate::outcomes::Attempt;
@@ -28,10 +25,9 @@ fn last_try<B: Backing, K: Sink>(
     requires runs { RunsOver machine.old (B.holds backing.old) }
     requires jobs { JobsHaveRoom machine.old.tasks.jobs }
     requires same { B.size backing.old + 1 ≡ length machine.old.sectors.links }
-    ensures row { ForEachOver machine.old (B.holds backing.old) (λ x plan s m t. (x.device ≢ None → WantsNothing x plan m t)
-        → Attempts K.taken x (content_after x.device (B.holds backing.new)) (length machine.old.cpu.core) (B.size backing.old) machine.old.tasks.printed plan s t result machine.new paper.old paper.new) }
-    ensures fits { ForEachOver machine.old (B.holds backing.old) (λ x plan s m t. WantsNothing x plan m t → AttemptFits (length machine.old.cpu.core) x plan s m t result) }
-    ensures calm { ForEachOver machine.old (B.holds backing.old) (λ x plan s m t. (CallsDevice m t → ⊥) → IsCalm result backing.old backing.new) }
+    ensures row { ForEachOver machine.old (B.holds backing.old) (λ x plan s m t.
+        LastRow K.taken x (content_after x.device (B.holds backing.new)) (length machine.old.cpu.core) (B.size backing.old) machine.old.tasks.printed plan s m t result machine.new
+        backing.old backing.new paper.old paper.new) }
     ensures causes { CallCauses B.faults K.faults backing.old backing.new paper.old paper.new result }
     ensures kept { Kept machine.old machine.new }
     ensures tables { TablesStay result machine.old.tasks machine.new.tasks }
@@ -56,12 +52,9 @@ fn with_code<B: Backing, K: Sink>(
     requires runs { RunsOver machine.old (B.holds backing.old) }
     requires jobs { JobsHaveRoom machine.old.tasks.jobs }
     requires same { B.size backing.old + 1 ≡ length machine.old.sectors.links }
-    ensures row { ForEachOver machine.old (B.holds backing.old) (λ x plan s m t. code_area x plan m t ≢ None
-        → Attempts K.taken x (content_after x.device (B.holds backing.new)) (length machine.old.cpu.core) (B.size backing.old) machine.old.tasks.printed plan s t result machine.new paper.old paper.new) }
-    ensures fits { ForEachOver machine.old (B.holds backing.old) (λ x plan s m t. code_area x plan m t ≢ None → x.device ≢ None → AttemptFits (length machine.old.cpu.core) x plan s m t result) }
-    ensures calm { ForEachOver machine.old (B.holds backing.old) (λ x plan s m t. WantsNothing x plan m t → (CallsDevice m t → ⊥) → IsCalm result backing.old backing.new) }
-    ensures areas { ForEachOver machine.old (B.holds backing.old) (λ x plan s m t. WantsNothing x plan m t → result ≡ Ok attempts.Made
-        → CallKeepsAreas K.taken x (content_after x.device (B.holds backing.new)) machine.old.tasks.printed plan s m t machine.new paper.old paper.new) }
+    ensures row { ForEachOver machine.old (B.holds backing.old) (λ x plan s m t.
+        WithCodeRow K.taken x (content_after x.device (B.holds backing.new)) (length machine.old.cpu.core) (B.size backing.old) machine.old.tasks.printed plan s m t result machine.new
+        backing.old backing.new paper.old paper.new) }
     ensures causes { CallCauses B.faults K.faults backing.old backing.new paper.old paper.new result }
     ensures kept { Kept machine.old machine.new }
     ensures tables { TablesStay result machine.old.tasks machine.new.tasks }
@@ -84,14 +77,16 @@ fn with_code<B: Backing, K: Sink>(
 ///
 /// `NoCore` exactly where the step's need exceeds core, with both, unless core has room for the running segment, which is
 /// absent, and the device is full or fails as it is brought in. If one thing is wanted and a hole has room for it, no sector is
-/// written, and `BackingFull` isn't answered; and if the operator is made, every area is where it was, as if nothing was wanted. `BackingFull` only where the session takes more sectors than the device has, with
-/// both, and no hole has room for what is absent, or the step starts a task; or where the session does that a RESIZE to a greater
-/// length would make, with its sum. More sectors are then wanted than are free: by a present array that keeps no chain, or by
-/// the chain of the array that becomes longer. `BackingFault` and `PrintFault` only where that device failed.
+/// written, and `BackingFull` isn't answered; and if the operator is made, every area is where it was, as if nothing was wanted.
+/// `BackingFull` only where the session takes more sectors than the device has, with both, and no hole has room for what is
+/// absent, or the step starts a task; or where the session does that a RESIZE to a greater length would make, with its sum:
+/// then nothing is absent that no hole has room for. More sectors are then wanted than are free: by a present array that keeps
+/// no chain, or by the chain of the array that becomes longer. `BackingFault` and `PrintFault` only where that device failed.
 /// After each of them, and when the operator ends its task or makes it wait, the machine represents the same session; after
 /// `BackingFull` and `BackingFault` its segment or its array is absent, or the step is such a RESIZE or starts a task. Where
-/// both are present the backing isn't called but by such steps. After `PrintFault` `printed` is raised by the bytes that were
-/// taken. Over a device that doesn't tell what its sectors hold, the words that it gave back may be others, and as many.
+/// both are present the backing isn't called but by such steps, and a task ends or waits only by its row. After `PrintFault`
+/// `printed` is raised by the bytes that were taken. Over a device that doesn't tell what its sectors hold, the words that it
+/// gave back may be others, and as many.
 #[inline(always)]
 pub fn attempt<B: Backing, K: Sink>(
     machine: &mut Machine,
@@ -99,8 +94,7 @@ pub fn attempt<B: Backing, K: Sink>(
     paper: &mut K,
 ) -> Result<Attempt, Stop>
     requires runs { RunsOver machine.old (B.holds backing.old) }
-    requires countable { AreCountable machine.old.tasks.jobs }
-    requires number { CanNumber machine.old.tasks.jobs }
+    requires jobs { JobsHaveRoom machine.old.tasks.jobs }
     requires same { B.size backing.old + 1 ≡ length machine.old.sectors.links }
     ensures row { ForEachOver machine.old (B.holds backing.old) (λ x plan s m t.
         AttemptRow B.holds K.taken x (content_after x.device (B.holds backing.new)) (length machine.old.cpu.core) (B.size backing.old) machine.old.tasks.printed plan s m t result machine.new

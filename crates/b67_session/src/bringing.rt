@@ -1,18 +1,17 @@
 //! What the next operator wants is brought in.
 
-ghost use Rattle.std.specs.Prelude.{◌≡◌, ◌≢◌, ℕ, ◌+◌, List, Option, Err, length};
+ghost use Rattle.std.specs.Prelude.{◌≡◌, ◌≢◌, ℕ, ◌+◌, Err, length};
 ghost use Rattle.b67_io.specs.Causes.{Rose};
 ghost use Rattle.b67_model.specs.State.{Task, SessionJob};
 ghost use Rattle.b67_model.specs.Schedule.{Session};
 ghost use Rattle.b67_layout.specs.Orders.{IsInOrderButCounts};
 ghost use Rattle.b67_stack.specs.Represents.{Storage};
-ghost use Rattle.b67_layout_storage.specs.Machine.{DeviceAfterCalls, HasHole};
+ghost use Rattle.b67_layout_storage.specs.Machine.{DeviceAfterCalls};
 ghost use Rattle.b67_layout.specs.Placement.{Placement};
 ghost use Rattle.b67_layout.specs.Session.{IsRunning};
-ghost use Rattle.b67_presence.specs.Bringing.{StandsOver, WantsSome, IsWanted, words_wanted};
+ghost use Rattle.b67_presence.specs.Bringing.{StandsOver, WantsSome, IsWanted};
 ghost use Rattle.b67_mcp.specs.declared.ends.Stop.TheVariants.{BackingFault, PrintFault};
-ghost use Rattle.b67_session.specs.Tries.{IsWantedByStep};
-ghost use Rattle.b67_session.specs.Brought.{BroughtFits, BroughtMeets, BroughtIntoHole};
+ghost use Rattle.b67_session.specs.Brought.{BroughtRow, KeepsTasks};
 
 use b67_backing::Backing;
 use b67_mcp::{Stop, stop_for};
@@ -31,19 +30,11 @@ pub fn bring_wanted<B: Backing>(
     requires wants { WantsSome machine.old (B.holds backing.old) wanted }
     requires same { B.size backing.old + 1 ≡ length machine.old.sectors.links }
     ensures row { (x : Storage) (plan : Placement) (s : Session) (m : SessionJob) (t : Task) (words : ℕ) → IsInOrderButCounts s
-        → StandsOver x (B.holds backing.old) machine.old plan s → IsRunning plan s.jobs m t → IsWanted x plan m t wanted words → IsWantedByStep plan m t wanted words
-        → BroughtMeets x (B.holds backing.new) (length machine.old.cpu.core) (B.size backing.old) plan s m t wanted result machine.new }
-    ensures fits { (x : Storage) (plan : Placement) (s : Session) (m : SessionJob) (t : Task) (words : ℕ) → IsInOrderButCounts s
-        → StandsOver x (B.holds backing.old) machine.old plan s → IsRunning plan s.jobs m t → IsWanted x plan m t wanted words → IsWantedByStep plan m t wanted words
-        → BroughtFits (length machine.old.cpu.core) x plan s m t result }
-    ensures hole { (x : Storage) (plan : Placement) (s : Session) (m : SessionJob) (t : Task) (words : ℕ) → IsInOrderButCounts s
-        → StandsOver x (B.holds backing.old) machine.old plan s → IsRunning plan s.jobs m t → IsWanted x plan m t wanted words → HasHole (words_wanted m t wanted words) x.spans
-        → BroughtIntoHole B.holds x plan s m t wanted result machine.new backing.old backing.new }
+        → StandsOver x (B.holds backing.old) machine.old plan s → IsRunning plan s.jobs m t → IsWanted x plan m t wanted words
+        → BroughtRow B.holds (length machine.old.cpu.core) (B.size backing.old) x plan s m t wanted words result machine.new backing.old backing.new }
     ensures cause { result ≡ Err BackingFault → Rose B.faults backing.old backing.new }
     ensures silent { result ≢ Err PrintFault }
-    ensures tasks { machine.new.tasks ≡ machine.old.tasks }
-    ensures len { length machine.new.cpu.core ≡ length machine.old.cpu.core }
-    ensures count { length machine.new.sectors.links ≡ length machine.old.sectors.links }
+    ensures keeps { KeepsTasks machine.old machine.new }
     ensures device { DeviceAfterCalls B.holds B.size B.calls B.faults backing.old backing.new }
 {
     match bring(machine, backing, wanted) {

@@ -16,7 +16,7 @@ mod turns;
 pub use attempting::attempt;
 pub use b67_mcp::Stop;
 pub use b67_session_open::OpenFault;
-pub use b67_session_schedule::schedule;
+pub use b67_task_switch::schedule;
 pub use fits::{made_fits, present_fits};
 pub use making::{Operated, make, make_in};
 pub use opened::open;

@@ -1,12 +1,13 @@
 //! The operator at the running place, with the arrays given back of an activation record that it leaves.
 
-ghost use Rattle.std.specs.Prelude.{◌≡◌, true};
-ghost use Rattle.b67_exec.specs.Near.{HoldsCode};
+ghost use Rattle.std.specs.Prelude.{◌≡◌, true, false};
+ghost use Rattle.b67_stack.specs.declared.Step.TheVariants.{Done};
+ghost use Rattle.b67_exec.specs.Near.{HoldsCode, ReaderBehind};
 ghost use Rattle.b67_task_tables.specs.Runs.{RunsTask, Keeps};
 ghost use Rattle.b67_session.specs.Makes.{MakesInSegment, ForEachReady};
 
 use b67_ctl::SegDesc;
-use b67_exec::operate_in;
+use b67_exec::{Reader, operate_at, operate_in, operate_near};
 use b67_exec_cells::present_segment;
 use b67_stack::{Step, What};
 use b67_task_release::release;
@@ -41,6 +42,55 @@ pub fn make_in(machine: &mut Machine, desc: SegDesc) -> Operated
         Step::Done => {
             let from = machine.cpu.regs.s + 1;
             release(machine, from, upto);
+            Operated {
+                step: Step::Done,
+                near: false,
+            }
+        }
+        other => Operated {
+            step: other,
+            near: false,
+        },
+    }
+}
+
+/// Makes the operator at the running place, at which the reader stands, as `make`, if it is near and its answer is `Done`: the
+/// reader then stands at the new place. Else nothing is changed, and the answer is false.
+#[inline(always)]
+pub fn make_near(machine: &mut Machine, reader: &mut Reader) -> bool
+    requires runs { RunsTask machine.old }
+    requires stands { ReaderBehind machine.old.cpu reader.old 0 }
+    ensures row { result ≡ true → ForEachReady machine.old (λ x told plan s m t. MakesInSegment x told plan s m t Done machine.old machine.new) }
+    ensures rest { result ≡ false → machine.new ≡ machine.old }
+    ensures stands { ReaderBehind machine.new.cpu reader.new 0 }
+    ensures keeps { Keeps machine.old machine.new }
+    ensures tasks { machine.new.tasks ≡ machine.old.tasks }
+{
+    operate_near(&mut machine.cpu, reader)
+}
+
+/// Makes the operator at the running place, at which the reader stands, as `make`. `near` is as of `make_in`.
+#[inline(always)]
+pub fn make_at(machine: &mut Machine, reader: Reader) -> Operated
+    requires runs { RunsTask machine.old }
+    requires stands { ReaderBehind machine.old.cpu reader 0 }
+    ensures row { ForEachReady machine.old (λ x told plan s m t. MakesInSegment x told plan s m t result.step machine.old machine.new) }
+    ensures code { result.near ≡ true → HoldsCode machine.new.cpu reader.code }
+    ensures keeps { Keeps machine.old machine.new }
+    ensures tasks { machine.new.tasks ≡ machine.old.tasks }
+{
+    let high = machine.cpu.regs.s + 1;
+    let made = operate_at(&mut machine.cpu, reader);
+    if !made.left {
+        return Operated {
+            step: made.step,
+            near: made.near,
+        };
+    }
+    match made.step {
+        Step::Done => {
+            let low = machine.cpu.regs.s + 1;
+            release(machine, low, high);
             Operated {
                 step: Step::Done,
                 near: false,

@@ -6,11 +6,11 @@ ghost use Rattle.b67_model.specs.State.{Task, SessionJob};
 ghost use Rattle.b67_model.specs.Schedule.{Session};
 ghost use Rattle.b67_io.specs.Causes.{Stayed};
 ghost use Rattle.b67_layout_storage.specs.Machine.{Says, DeviceAfterCalls, content_after};
-ghost use Rattle.b67_session.specs.AttemptPassed.{AreCountable, CallCauses};
+ghost use Rattle.b67_session.specs.AttemptPassed.{CallCauses, Kept};
 ghost use Rattle.b67_model.specs.Run.{StepResult};
 ghost use Rattle.b67_law_sessions.specs.Turns.{IsNext};
 ghost use Rattle.b67_session.specs.Complete.{SetsOut, Suffices};
-ghost use Rattle.b67_session.specs.Slices.{IsOpen, StandsSome, StandsAt, IsLimited, RepresentsWithoutTasks, Keeps, Slices, IfPresent, Resumes, StaysEnded, Pauses};
+ghost use Rattle.b67_session.specs.Slices.{IsOpen, SetsOutSome, StandsAt, IsLimited, RepresentsWithoutTasks, Slices, IfPresent, Resumes, StaysEnded, Pauses};
 ghost use Rattle.b67_session.specs.Shaped.{IsShaped, SliceLeaves};
 
 use crate::steps::step;
@@ -51,8 +51,7 @@ fn go_on<B: Backing, K: Sink>(
     backing: &mut B,
     paper: &mut K,
 ) -> Result<Progress, Stop>
-    requires stands { StandsSome (B.holds backing.old) machine.old }
-    requires countable { AreCountable machine.old.tasks.jobs }
+    requires begins { SetsOutSome (B.holds backing.old) machine.old }
     requires sized { B.size backing.old + 1 ≡ length machine.old.sectors.links }
     ensures row { (told : Option (List (List ℕ))) (s : Session) → Says told (B.holds backing.old) → StandsAt told machine.old s
         → Slices K.taken (content_after told (B.holds backing.new)) (told ≢ None) (B.size backing.old) n s result machine.old machine.new paper.old paper.new }
@@ -60,9 +59,8 @@ fn go_on<B: Backing, K: Sink>(
         → IfPresent B.holds (told ≢ None) (length machine.old.cpu.core) n h.storage h.plan s m t result machine.old machine.new backing.old backing.new }
     ensures ended { (told : Option (List (List ℕ))) (s : Session) → RepresentsWithoutTasks told machine.old s
         → StaysEnded result machine.old machine.new backing.old backing.new paper.old paper.new }
-    ensures countable { AreCountable machine.new.tasks.jobs }
     ensures causes { CallCauses B.faults K.faults backing.old backing.new paper.old paper.new result }
-    ensures keeps { Keeps machine.old machine.new }
+    ensures kept { Kept machine.old machine.new }
     ensures device { DeviceAfterCalls B.holds B.size B.calls B.faults backing.old backing.new }
 {
     let mut made = 0;
@@ -101,9 +99,11 @@ fn go_on<B: Backing, K: Sink>(
 /// if the session that a RESIZE to a greater length would make does, with its sum. More sectors are then wanted than are free.
 /// `BackingFault` and `PrintFault` only if that device failed. A single step whose segment and array are present, and which
 /// is no such RESIZE and starts no task, doesn't call the backing; if one of the two is absent and a hole has room for it, no
-/// sector is written, and `BackingFull` isn't answered. If nothing is known of what the device's sectors hold, the words
-/// that it gives back may be others, and as many. After `Ended` the machine represents the session without a task; if it was known what the sectors hold, the one
-/// after the steps. Whatever the device gives back, the machine then represents some session, in order but for places
+/// sector is written, and `BackingFull` isn't answered. In both cases, if that step is made, ends no task and makes none wait,
+/// and is neither PROCESS nor RESIZE, every area is where it was, but those of arrays of a record that it leaves, and that of
+/// one that DEALLOCATE empties; and no area is new where both are present. If nothing is known of what the device's sectors hold, the words that it gives back may be others, and as many. After `Ended`
+/// the machine represents the session without a task; if it was known what the sectors hold, the one after the steps.
+/// Whatever the device gives back, the machine then represents some session, in order but for places
 /// if a task lives or the slice set out from such a session.
 ///
 /// There is no `Stop` if it is known what the device's sectors hold, no count of failures rises, and core and sectors suffice

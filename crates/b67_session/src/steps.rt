@@ -1,6 +1,6 @@
 //! One step of a session of any jobs and tasks.
 
-ghost use Rattle.std.specs.Prelude.{◌≡◌, ◌≢◌, ℕ, ◌+◌, ◌≤◌, List, Option, Some, None, Err, length};
+ghost use Rattle.std.specs.Prelude.{◌≡◌, ◌≢◌, ℕ, ◌+◌, ◌≤◌, List, Option, None, Err, length};
 ghost use Rattle.b67_model.specs.State.{Task, SessionJob};
 ghost use Rattle.b67_model.specs.Schedule.{Session};
 ghost use Rattle.b67_layout_storage.specs.Machine.{Says, DeviceAfterCalls, content_after};
@@ -12,8 +12,8 @@ ghost use Rattle.b67_layout.specs.Placement.{Placement};
 ghost use Rattle.b67_task_tables.specs.Tables.{MachineRepresents};
 ghost use Rattle.b67_session_ends.specs.Ends.{StandsBetween, KeepsTables};
 ghost use Rattle.b67_session.specs.AttemptStops as stops;
-ghost use Rattle.b67_session.specs.AttemptPassed.{AreCountable, CallCauses};
-ghost use Rattle.b67_session.specs.Slices.{LivesOn, StandsAt, Keeps, IfPresent};
+ghost use Rattle.b67_session.specs.AttemptPassed.{CallCauses, Kept};
+ghost use Rattle.b67_session.specs.Slices.{IsStepDue, StandsAt, IfPresent};
 ghost use Rattle.b67_session.specs.Steps.{EndsStep, Steps};
 
 use crate::attempting::attempt;
@@ -23,7 +23,7 @@ use b67_backing::Backing;
 use b67_io::Sink;
 use b67_mcp::Stop;
 use b67_session_ends::{close, count_one, finish, make_wait};
-use b67_session_schedule::choose;
+use b67_task_switch::choose;
 use b67_task_tables::Machine;
 
 /// The last part of a step whose operator is counted: the lines of LIMIT, if its job stands at its limit.
@@ -52,17 +52,14 @@ pub(crate) fn step<B: Backing, K: Sink>(
     backing: &mut B,
     paper: &mut K,
 ) -> Result<(), Stop>
-    requires lives { LivesOn (B.holds backing.old) machine.old }
-    requires due { machine.old.tasks.halt ≢ Some machine.old.tasks.made }
-    requires countable { AreCountable machine.old.tasks.jobs }
+    requires due { IsStepDue (B.holds backing.old) machine.old }
     requires sized { B.size backing.old + 1 ≡ length machine.old.sectors.links }
     ensures row { (said : Option (List (List ℕ))) (s : Session) → Says said (B.holds backing.old) → StandsAt said machine.old s
         → Steps K.taken (content_after said (B.holds backing.new)) (said ≢ None) (B.size backing.old) s result machine.old machine.new paper.old paper.new }
     ensures present { (said : Option (List (List ℕ))) (s : Session) (m : SessionJob) (t : Task) → Says said (B.holds backing.old) → (h : StandsAt said machine.old s) → IsNext s m t
         → IfPresent B.holds (said ≢ None) (length machine.old.cpu.core) 1 h.storage h.plan s m t result machine.old machine.new backing.old backing.new }
-    ensures countable { AreCountable machine.new.tasks.jobs }
     ensures causes { CallCauses B.faults K.faults backing.old backing.new paper.old paper.new result }
-    ensures keeps { Keeps machine.old machine.new }
+    ensures kept { Kept machine.old machine.new }
     ensures device { DeviceAfterCalls B.holds B.size B.calls B.faults backing.old backing.new }
 {
     let chosen = match choose(&machine.tasks) {

@@ -10,17 +10,17 @@ ghost use Rattle.b67_task_switch.specs.Turns.{with_running};
 ghost use Rattle.b67_task_tables.specs.declared.tables.TaskRow.{TaskRow};
 ghost use Rattle.b67_task_tables.specs.Tables.{MachineRepresents};
 ghost use Rattle.b67_task_switch.specs.Standing.{HasRow};
-ghost use Rattle.b67_session_schedule.specs.Lasting.{TurnLasts};
+ghost use Rattle.b67_task_switch.specs.Lasting.{TurnLasts};
 ghost use Rattle.b67_session.specs.AttemptPassed.{AreCountable};
 ghost use Rattle.b67_session.specs.Slices.{StandsAt, Keeps};
 ghost use Rattle.b67_session.specs.Steps.{IsInOrderFor, GoesOnInTurn};
 ghost use Rattle.b67_session.specs.InTurn.{TurnBegins, HasTurnLeft, TurnGoesOn, MadeInTurn};
 
-use crate::making::make_in;
+use crate::making::{make_at, make_near};
+use b67_exec::reader_at;
 use b67_exec_cells::present_segment;
-use b67_session_schedule::{count_turn, turn_room};
 use b67_stack::Step;
-use b67_task_switch::switch_to;
+use b67_task_switch::{count_turn, switch_to, turn_room};
 use b67_task_tables::Machine;
 
 /// The task of a row is then the running one, if it wasn't. The session's state stays.
@@ -46,8 +46,9 @@ struct InSegment {
     goes: bool,
 }
 
-/// Makes operators of the running task, up to `room`, and reads the segment's descriptor once. It stops behind one that isn't
-/// near; and before one that prints, ends its task or wants something that is absent: then the turn doesn't go on.
+/// Makes operators of the running task, up to `room`, and reads the segment's descriptor once, and its words one by one. It stops
+/// behind one that isn't near; and before one that prints, ends its task, wants something that is absent, or stands outside the
+/// segment: then the turn doesn't go on.
 #[inline(always)]
 fn make_in_segment(machine: &mut Machine, room: u64) -> InSegment
     requires { TurnGoesOn machine.old room }
@@ -67,17 +68,34 @@ fn make_in_segment(machine: &mut Machine, room: u64) -> InSegment
             };
         }
     };
+    let mut reader = match reader_at(&machine.cpu, code) {
+        Some(reader) => reader,
+        None => {
+            return InSegment {
+                made: 0,
+                goes: false,
+            };
+        }
+    };
     let mut made = 0;
     'operator: while made < room {
-        let next = make_in(machine, code);
+        if make_near(machine, &mut reader) {
+            made += 1;
+            continue 'operator;
+        }
+        let next = make_at(machine, reader);
         match next.step {
             Step::Done => {}
             _ => return InSegment { made, goes: false },
         }
         made += 1;
-        if !next.near {
+        if !next.near || made == room {
             return InSegment { made, goes: true };
         }
+        reader = match reader_at(&machine.cpu, reader.code) {
+            Some(reader) => reader,
+            None => return InSegment { made, goes: false },
+        };
     }
     InSegment { made, goes: true }
 }
@@ -111,6 +129,7 @@ pub(crate) fn go_on_with_turn(machine: &mut Machine, most: u64) -> u64
     requires stands { IsInOrderFor machine.old }
     requires unprinted { machine.old.tasks.printed ≡ 0 }
     ensures few { result ≤ most }
+    ensures rests { most ≡ 0 → machine.new ≡ machine.old }
     ensures row { (said : Option (List (List ℕ))) (s : Session) → StandsAt said machine.old s → GoesOnInTurn said result s machine.old machine.new }
     ensures countable { AreCountable machine.old.tasks.jobs → AreCountable machine.new.tasks.jobs }
     ensures keeps { Keeps machine.old machine.new }

@@ -22,9 +22,10 @@ use Rattle.b67_task_tables.specs.declared.tables.Machine.{Machine}
 use Rattle.b67_task_tables.specs.Tables.{MachineRepresents, AreCountable, row_names}
 use Rattle.b67_task_end.specs.declared.families.EndedTask.{EndedTask}
 use Rattle.b67_task_end.specs.Family.{TablesHold, HasSomeRow, HasSomeHead, pair_of, endings_of}
-use Rattle.b67_session_schedule.specs.declared.counting.Chosen.{Chosen}
-use Rattle.b67_session_schedule.specs.Counted.{choice_of, CountsHaveRoom}
-use Rattle.b67_session_ends.specs.Closing.{HasJobOf, StandsChosen, KeepsNames}
+use Rattle.b67_task_switch.specs.declared.counting.Chosen.{Chosen}
+use Rattle.b67_task_switch.specs.Counted.{choice_of, CountsHaveRoom}
+use Rattle.b67_task_tables.specs.Runs.{Kept}
+use Rattle.b67_session_ends.specs.Closing.{HasJobOf, StandsChosen}
 use Rattle.b67_session_ends.specs.Counts.{IsCounted}
 use Rattle.b67_session_ends.specs.Ends.{StandsForSession, IsFamilyOf, EndsFamily}
 use Rattle.b67_session_ends.specs.Texts.{endings_text}
@@ -169,14 +170,16 @@ module _ (x : Storage) (told : Option (List (List ℕ))) (k : Machine) (plan : P
 -- ---- what stays
 
 pub keeps_close : (c : Chosen) (old last : Machine) (counts : Tasks) (printed : ℕ) → last.tasks ≡ record old.tasks { rows = last.tasks.rows; running = last.tasks.running; printed = printed } → IsCounted c last.tasks counts
-    → length last.cpu.core ≡ length old.cpu.core → length last.sectors.links ≡ length old.sectors.links → KeepsNames old (record last { tasks = counts })
+    → length last.cpu.core ≡ length old.cpu.core → length last.sectors.links ≡ length old.sectors.links → Kept old (record last { tasks = counts })
 keeps_close c old last counts printed same counted core sectors = record {
-  core = core;
-  sectors = sectors;
-  halt = counted.halt ∙ ap (λ (z : Tasks). z.halt) same;
-  names = counted.names ∙ ap (λ (z : Tasks). row_names z.jobs) same;
   countable = λ all. counted.countable (subst (λ (z : Tasks). AreCountable z.jobs) (sym same) all);
+  keeps = record {
+    core = core;
+    sectors = sectors;
+    halt = counted.halt ∙ ap (λ (z : Tasks). z.halt) same;
+    names = counted.names ∙ ap (λ (z : Tasks). row_names z.jobs) same;
+  };
 }
 
-pub keeps_cut : (old : Machine) (printed : ℕ) → KeepsNames old (record old { tasks = record old.tasks { printed = printed } })
-keeps_cut old printed = record { core = refl; sectors = refl; halt = refl; names = refl; countable = λ all. all }
+pub keeps_cut : (old : Machine) (printed : ℕ) → Kept old (record old { tasks = record old.tasks { printed = printed } })
+keeps_cut old printed = record { countable = λ all. all; keeps = record { core = refl; sectors = refl; halt = refl; names = refl } }

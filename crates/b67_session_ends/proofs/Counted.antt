@@ -13,8 +13,8 @@ use Rattle.b67_layout.proofs.Common.{AllAlike, SameJobs, same_machine_view, Repr
 use Rattle.b67_task_tables.specs.declared.tables.Tasks.{Tasks}
 use Rattle.b67_task_tables.specs.declared.tables.Machine.{Machine}
 use Rattle.b67_task_tables.specs.Tables.{MachineRepresents}
-use Rattle.b67_session_schedule.specs.declared.counting.Chosen.{Chosen}
-use Rattle.b67_session_schedule.specs.Counted.{choice_of}
+use Rattle.b67_task_switch.specs.declared.counting.Chosen.{Chosen}
+use Rattle.b67_task_switch.specs.Counted.{choice_of}
 use Rattle.b67_session_ends.specs.Counts.{IsCounted}
 
 pub alike_refl : (ms : List SessionJob) → AllAlike ms ms

@@ -6,7 +6,7 @@ use Rattle.b67_lemmas.specs.Lists.{Has}
 use Rattle.b67_lemmas.proofs.Places.{at_mapped, map-slice_set, put_back}
 use Rattle.b67_task_tables.specs.declared.tables.JobRow.{JobRow}
 use Rattle.b67_task_tables.specs.Tables.{AreCountable, row_names}
-use Rattle.b67_session_schedule.specs.Counted.{row_more}
+use Rattle.b67_task_switch.specs.Counted.{row_more}
 
 -- the numbers of jobs stay as many
 counted_in : (more : ℕ) (rows : List JobRow) (i : ℕ) (r q : JobRow) → slice_get rows i ≡ Some r → Has (slice_set rows i (row_more more r)) q → (y : JobRow) × Has rows y × (length y.numbers ≡ length q.numbers)

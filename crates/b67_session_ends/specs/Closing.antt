@@ -1,5 +1,5 @@
 -- A step in which a task ends by itself.
-use Rattle.std.specs.Prelude.{◌≡◌, ℕ, ◌+◌, ◌==◌, ◌&&◌, not, Bool, true, false, List, length, filter, Option, Result, Ok, Err}
+use Rattle.std.specs.Prelude.{◌≡◌, ℕ, ◌+◌, ◌==◌, ◌&&◌, not, Bool, true, false, List, filter, Option, Result, Ok, Err}
 use Rattle.b67_word.specs.declared.faults.Failed.{Failed}
 use Rattle.std.specs.List.{list_any}
 use Rattle.b67_task_end.specs.declared.families.EndedTask.{EndedTask}
@@ -9,7 +9,7 @@ use Rattle.b67_task_tables.specs.declared.tables.TaskState.{TaskState}
 use Rattle.b67_task_tables.specs.declared.tables.TaskState.TheVariants as states
 use Rattle.b67_task_tables.specs.declared.tables.TaskRow.{TaskRow}
 use Rattle.b67_task_tables.specs.declared.tables.Machine.{Machine}
-use Rattle.b67_task_tables.specs.Tables.{AreCountable, row_names, MachineRepresents}
+use Rattle.b67_task_tables.specs.Tables.{MachineRepresents}
 use Rattle.b67_session_ends.specs.Ends.{StandsForSession}
 use Rattle.b67_lemmas.specs.Lists.{Has}
 use Rattle.b67_stack.specs.Represents.{Storage}
@@ -17,8 +17,8 @@ use Rattle.b67_layout.specs.Orders.{IsInOrderButCounts}
 use Rattle.b67_layout.specs.Placement.{Placement}
 use Rattle.b67_law_sessions.specs.Turns.{IsNext}
 use Rattle.b67_task_tables.specs.RowOf.{IsRowOf}
-use Rattle.b67_session_schedule.specs.declared.counting.Chosen.{Chosen}
-use Rattle.b67_session_schedule.specs.Counted.{choice_of}
+use Rattle.b67_task_switch.specs.declared.counting.Chosen.{Chosen}
+use Rattle.b67_task_switch.specs.Counted.{choice_of}
 
 -- the task of a number is among those that ended
 abbrev pub is_dead_of : List EndedTask → ℕ → Bool
@@ -45,15 +45,6 @@ Closes taken told part (Ok done) old new paper paper' =
     TookRest taken paper paper' (run_text part.lines) old.tasks.printed × (new.tasks.printed ≡ 0) × (new.tasks.made ≡ old.tasks.made + 1) × StandsForSession told new part.session
 Closes taken told part (Err failed) old new paper paper' =
     TookMore taken paper paper' (run_text part.lines) old.tasks.printed new.tasks.printed × (new ≡ record old { tasks = record old.tasks { printed = new.tasks.printed } })
-
--- core and the table of sectors have as many words and sectors, and the halt, the jobs' names and the numbers for READ are as
--- they were
-pub record KeepsNames (old new : Machine) : Type 0 where
-  pub core : length new.cpu.core ≡ length old.cpu.core
-  pub sectors : length new.sectors.links ≡ length old.sectors.links
-  pub halt : new.tasks.halt ≡ old.tasks.halt
-  pub names : row_names new.tasks.jobs ≡ row_names old.tasks.jobs
-  pub countable : AreCountable old.tasks.jobs → AreCountable new.tasks.jobs
 
 -- the machine stands for some session in order but for counts, with a job of this number
 pub record HasJobOf (k : Machine) (job : ℕ) : Type 0 where

@@ -12,8 +12,9 @@ ghost use Rattle.b67_layout.specs.Orders.{IsInOrderButCounts};
 ghost use Rattle.b67_layout.specs.Placement.{Placement};
 ghost use Rattle.b67_law_sessions.specs.Turns.{part_of};
 ghost use Rattle.b67_task_tables.specs.Tables.{MachineRepresents};
-ghost use Rattle.b67_session_schedule.specs.Counted.{choice_of, CountsHaveRoom};
-ghost use Rattle.b67_session_ends.specs.Closing.{HasJobOf, StandsChosen, ChoseSome, Closes, KeepsNames};
+ghost use Rattle.b67_task_switch.specs.Counted.{choice_of, CountsHaveRoom};
+ghost use Rattle.b67_task_tables.specs.Runs.{Kept};
+ghost use Rattle.b67_session_ends.specs.Closing.{HasJobOf, StandsChosen, ChoseSome, Closes};
 ghost use Rattle.b67_session_ends.specs.Ends.{StandsForSession};
 
 use crate::counts::count_one;
@@ -22,9 +23,9 @@ use crate::left::{goes_on, with_stuck};
 use crate::limits::has_row;
 use crate::texts::put_endings;
 use b67_io::Sink;
-use b67_session_schedule::Chosen;
 use b67_task_end::endings;
 use b67_task_end_tables::end_family;
+use b67_task_switch::Chosen;
 use b67_task_tables::Machine;
 use b67_word::{Ending, Failed};
 
@@ -59,7 +60,7 @@ pub fn close<K: Sink>(
     ensures closes { (x : Storage) (told : Option (List (List ℕ))) (plan : Placement) (s : Session) (m : SessionJob) (t : Task) → StandsChosen x told machine.old plan s m t chosen
         → Closes K.taken told (part_of s (choice_of chosen) m t (ends_with m.progress.job t.number ending)) result machine.old machine.new paper.old paper.new }
     ensures cause { HasCause K.faults paper.old paper.new result }
-    ensures keeps { KeepsNames machine.old machine.new }
+    ensures keeps { Kept machine.old machine.new }
 {
     let dead = endings(&machine.tasks, chosen.row, ending);
     let all = with_stuck(&machine.tasks, chosen.job, dead.as_slice());

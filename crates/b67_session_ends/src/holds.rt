@@ -7,8 +7,9 @@ ghost use Rattle.b67_model.specs.State.{Condition, Task, SessionJob};
 ghost use Rattle.b67_stack.specs.Represents.{Storage};
 ghost use Rattle.b67_layout.specs.Placement.{Placement};
 ghost use Rattle.b67_law_sessions.specs.Turns.{part_of};
-ghost use Rattle.b67_session_schedule.specs.Counted.{choice_of, CountsHaveRoom};
-ghost use Rattle.b67_session_ends.specs.Closing.{StandsChosen, Closes, KeepsNames};
+ghost use Rattle.b67_task_switch.specs.Counted.{choice_of, CountsHaveRoom};
+ghost use Rattle.b67_task_tables.specs.Runs.{Kept};
+ghost use Rattle.b67_session_ends.specs.Closing.{StandsChosen, Closes};
 ghost use Rattle.b67_session_ends.specs.Holds.{waiting_step, HoldsSo, HoldsSome};
 
 use crate::closes::end_stuck;
@@ -16,7 +17,7 @@ use crate::counts::count_one;
 use crate::states::{set_state, stuck};
 use crate::texts::put_endings;
 use b67_io::Sink;
-use b67_session_schedule::Chosen;
+use b67_task_switch::Chosen;
 use b67_task_tables::{Machine, TaskState};
 use b67_word::Failed;
 
@@ -34,7 +35,7 @@ pub fn make_wait<K: Sink>(
     ensures holds { (x : Storage) (told : Option (List (List ℕ))) (plan : Placement) (s : Session) (m : SessionJob) (t : Task) (condition : Condition) → StandsChosen x told machine.old plan s m t chosen
         → HoldsSo plan m t state condition → Closes K.taken told (part_of s (choice_of chosen) m t (waiting_step m.progress.job t condition)) result machine.old machine.new paper.old paper.new }
     ensures cause { HasCause K.faults paper.old paper.new result }
-    ensures keeps { KeepsNames machine.old machine.new }
+    ensures keeps { Kept machine.old machine.new }
 {
     let before = set_state(&mut machine.tasks, chosen.row, state);
     let ended = stuck(&machine.tasks, chosen.job);

@@ -9,6 +9,7 @@ ghost use Rattle.b67_model.specs.Endings.{all_with, deadlocked, ends_task};
 ghost use Rattle.b67_model.specs.Schedule.{Session};
 ghost use Rattle.b67_model.specs.State.{SessionJob};
 ghost use Rattle.b67_layout.specs.Placement.{Placement};
+ghost use Rattle.b67_task_tables.specs.declared.tables.TheConstants.{NO_PARENT};
 ghost use Rattle.b67_task_end.specs.Family.{TablesHold, HasSomeHead, pair_of};
 ghost use Rattle.b67_session_ends.specs.Closing.{left_ready, others_of};
 
@@ -87,7 +88,7 @@ fn add_stuck(list: &mut ArrayVec<EndedTask, 30>, dead: &[EndedTask], live: &[u32
 /// All that end if these end by themselves or with their parent: if no task of the job is ready then, those that are left end
 /// by DEADLOCK.
 pub(crate) fn with_stuck(tasks: &Tasks, job: u8, dead: &[EndedTask]) -> ArrayVec<EndedTask, 30>
-    requires head { HasSomeHead tasks.now job 255 }
+    requires head { HasSomeHead tasks.now job NO_PARENT }
     requires few { length dead.now ≤ 15 }
     ensures { (plan : Placement) (s : Session) (m : SessionJob) (number : ℕ) (ending : ending_type.Ending) → TablesHold plan s tasks.now → Has s.jobs m → m.constants.number ≡ job
         → map pair_of dead.now ≡ (ends_task m.progress.job number ending).endings → map pair_of result.items ≡ (deadlocked (ends_task m.progress.job number ending)).endings }

@@ -7,6 +7,7 @@ ghost use Rattle.b67_model.specs.Schedule.{Session};
 ghost use Rattle.b67_model.specs.State.{SessionJob};
 ghost use Rattle.b67_layout.specs.Placement.{Placement};
 ghost use Rattle.b67_task_tables.specs.declared.tables.TaskRow as table;
+ghost use Rattle.b67_task_tables.specs.declared.tables.TheConstants.{NO_PARENT};
 ghost use Rattle.b67_task_end.specs.Family.{TablesHold, HasSomeHead, pair_of};
 ghost use Rattle.b67_session_ends.specs.Holds.{with_state};
 
@@ -32,7 +33,7 @@ pub(crate) fn set_state(tasks: &mut Tasks, at: u8, state: TaskState) -> TaskStat
 
 /// The tasks of a job that end by DEADLOCK, deepest first: all that live, if none of them is ready.
 pub(crate) fn stuck(tasks: &Tasks, job: u8) -> ArrayVec<EndedTask, 15>
-    requires { HasSomeHead tasks.now job 255 }
+    requires { HasSomeHead tasks.now job NO_PARENT }
     ensures { (plan : Placement) (s : Session) (m : SessionJob) → TablesHold plan s tasks.now → Has s.jobs m → m.constants.number ≡ job
         → map pair_of result.items ≡ (deadlocked (unsettled m.progress.job)).endings }
 {

@@ -2,7 +2,6 @@
 use Rattle.std.specs.Prelude.{ℕ, ◌≡◌, ◌<◌, ◌≤◌, ◌==◌, List, ◌++◌, codes, decimal, Option, Some, None, IfSome, if◌then◌else◌}
 use Rattle.b67_io.specs.Line.{ended}
 use Rattle.b67_model.specs.Common.{Session, run_text, live_tasks, lines, after}
-use Rattle.b67_session_lines.specs.Ends.{EndsPrinting}
 
 -- a run that is asked for: the session at its opening, and the count of operators at which it halts, where there is one
 pub record Run : Type 0 where
@@ -50,10 +49,3 @@ StopsOnce = (r : Run) (status status' : ℕ) (text text' : List ℕ) → StopsWi
 -- and this is the status
 abbrev pub StopsWithStatus : Type 0
 StopsWithStatus = (r : Run) (status : ℕ) (text : List ℕ) → StopsWith r status text → status ≡ run_status r
-
--- a run stops, and its text is printed, unless the printer fails
-pub record RunEnds {K : Type 0} (r : Run) (taken : K → Option (List ℕ)) (faults : K → ℕ) (old new : K) (answer : ℕ) : Type 0 where
-  pub status : ℕ
-  pub text : List ℕ
-  pub stops : StopsWith r status text
-  pub ends : EndsPrinting taken faults old new status text answer

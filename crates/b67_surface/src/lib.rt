@@ -34,11 +34,11 @@ mod sectors_rows;
 mod session;
 #[cfg(test)]
 mod session_lines_rows;
-#[cfg(test)]
-mod session_schedule_rows;
 mod stacks;
 #[cfg(test)]
 mod task_rows;
+#[cfg(test)]
+mod task_switch_rows;
 mod texts;
 #[cfg(test)]
 mod word_rows;

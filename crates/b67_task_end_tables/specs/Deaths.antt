@@ -2,6 +2,7 @@
 use Rattle.std.specs.Prelude.{◌≡◌, ℕ, ◌==◌, ◌&&◌, ◌⊎◌, not, Bool, List, [], map, filter, Option, if◌then◌else◌}
 use Rattle.std.specs.List.{list_any}
 use Rattle.b67_word.specs.declared.faults.Ending.{Ending}
+use Rattle.b67_ctl.specs.declared.registers.TheConstants.{NO_SLOT}
 use Rattle.b67_lemmas.specs.Lists.{Has}
 use Rattle.b67_model.specs.Common.{Task, Job, SessionJob, among, ends_all, unsettled, Session}
 use Rattle.b67_stack.specs.Represents.{Storage}
@@ -25,7 +26,7 @@ is_gone j numbers r = (r.job == j) && among numbers r.task
 abbrev pub without_tasks : Placement → ℕ → List ℕ → Placement
 without_tasks plan j numbers = record plan {
   rows = filter (λ (r : Slotted). not (is_gone j numbers r)) plan.rows;
-  running = if list_any (λ (r : Slotted). is_gone j numbers r && (r.slot == plan.running)) plan.rows then 255 else plan.running;
+  running = if list_any (λ (r : Slotted). is_gone j numbers r && (r.slot == plan.running)) plan.rows then NO_SLOT else plan.running;
 }
 
 -- the job once these tasks have ended
@@ -34,7 +35,7 @@ job_after_endings job endings = (ends_all (unsettled job) endings).job
 
 -- no registers are in use but those of one of these tasks
 abbrev pub IsStopped : Placement → SessionJob → List ℕ → Type 0
-IsStopped plan m numbers = (plan.running ≡ 255) ⊎ Lost plan m.constants.number (gone_of m.progress.job numbers) plan.running
+IsStopped plan m numbers = (plan.running ≡ NO_SLOT) ⊎ Lost plan m.constants.number (gone_of m.progress.job numbers) plan.running
 
 -- tables with the same rows, and the same one running. Their counts may be others
 pub record HasRowsOf (machine : Machine) (u : Tasks) : Type 0 where

@@ -1,5 +1,6 @@
 -- The rows of those who stay when tasks of a job end, and the slots of those who go.
 use Rattle.std.specs.Prelude.{ℕ, ◌==◌, ◌&&◌, not, Bool, List, map, filter, find, option_map, unwrap_or, if◌then◌else◌}
+use Rattle.b67_ctl.specs.declared.registers.TheConstants.{NO_SLOT}
 use Rattle.b67_model.specs.Endings.{among}
 use Rattle.b67_task_tables.specs.declared.tables.TaskState.{TaskState}
 use Rattle.b67_task_tables.specs.declared.tables.TaskState.TheVariants.{Ready, Awaits, WaitsAt}
@@ -27,6 +28,6 @@ rows_left j numbers rows = map (freed j numbers) (filter (row_is_kept j numbers)
 abbrev pub is_of : ℕ → ℕ → TaskRow → Bool
 is_of j number r = (r.job == j) && (r.number == number)
 
--- the slot in the first row of a job's task of a number, 255 for none
+-- the slot in the first row of a job's task of a number, NO_SLOT for none
 abbrev pub slot_shown : ℕ → ℕ → List TaskRow → ℕ
-slot_shown j number rows = unwrap_or (option_map (λ (r : TaskRow). r.slot) (find (is_of j number) rows)) 255
+slot_shown j number rows = unwrap_or (option_map (λ (r : TaskRow). r.slot) (find (is_of j number) rows)) NO_SLOT

@@ -8,6 +8,7 @@ ghost use Rattle.b67_model.specs.Schedule.{Session};
 ghost use Rattle.b67_stack.specs.Represents.{Storage};
 ghost use Rattle.b67_layout.specs.Meets.{with_job};
 ghost use Rattle.b67_layout.specs.Placement.{Placement};
+ghost use Rattle.b67_task_tables.specs.declared.tables.TheConstants.{NO_ROW};
 ghost use Rattle.b67_task_tables.specs.declared.tables.Tasks.{Tasks};
 ghost use Rattle.b67_task_end.specs.Family.{pair_of};
 ghost use Rattle.b67_task_end_tables.specs.Deaths.{ending_numbers, StandsWith, MayEnd, EndsSome, HasEnded};
@@ -18,7 +19,7 @@ use crate::rows::{rows_left, slots_of};
 use b67_task_end::EndedTask;
 use b67_task_end_stack::take_out;
 use b67_task_switch::switch_to;
-use b67_task_tables::Machine;
+use b67_task_tables::{Machine, NO_ROW};
 
 /// These tasks of a job end, each after those under it, as `endings` lists them. Their rows are gone, their slots are free,
 /// and the areas and sectors of their arrays are given back; who awaited one is ready. The registers of no other task may be
@@ -28,7 +29,7 @@ fn end(machine: &mut Machine, job: u8, list: &[EndedTask])
     requires few { length list.now ≤ 15 }
     ensures stands { (u : Tasks) (x : Storage) (told : Option (List (List ℕ))) (plan : Placement) (s : Session) (m : SessionJob) → StandsWith machine.old u x told plan s
         → MayEnd plan s m (ending_numbers (map pair_of list.now)) → m.constants.number ≡ job → HasEnded u told plan s m (map pair_of list.now) machine.new }
-    ensures tasks { machine.new.tasks ≡ record machine.old.tasks { rows = machine.new.tasks.rows; running = 255 } }
+    ensures tasks { machine.new.tasks ≡ record machine.old.tasks { rows = machine.new.tasks.rows; running = NO_ROW } }
     ensures areas { machine.new.areas ≡ machine.old.areas }
     ensures len { length machine.new.cpu.core ≡ length machine.old.cpu.core }
     ensures count { length machine.new.sectors.links ≡ length machine.old.sectors.links }
@@ -43,7 +44,7 @@ fn end(machine: &mut Machine, job: u8, list: &[EndedTask])
     let rows = rows_left(machine.tasks.rows.as_slice(), job, list);
     machine.cpu.critical = marks_of(rows.as_slice());
     machine.tasks.rows = rows;
-    machine.tasks.running = 255;
+    machine.tasks.running = NO_ROW;
 }
 
 /// The task of a row ends, with those under it, in the ways that `endings` lists. Whoever's registers were in use, none are

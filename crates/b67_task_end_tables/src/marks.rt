@@ -3,6 +3,7 @@
 ghost use Rattle.std.specs.Prelude.{◌≤◌, length};
 ghost use Rattle.b67_task_end_tables.specs.Marks.{ShowsMarks, Raised};
 
+use b67_ctl::SLOTS;
 use b67_task_start_stack::raise;
 use b67_task_tables::TaskRow;
 
@@ -10,7 +11,7 @@ use b67_task_tables::TaskRow;
 fn depend(marks: &mut [u16; 120], row: TaskRow)
     ensures { Raised marks.old marks.new row }
 {
-    if row.parent >= 120 {
+    if row.parent >= SLOTS {
         return;
     }
     raise(marks, row.parent, row.critical);

@@ -6,6 +6,7 @@ ghost use Rattle.b67_task_end_tables.specs.Left as left;
 ghost use Rattle.b67_task_end_tables.specs.Left.{ended_numbers, slot_shown};
 
 use arrayvec::ArrayVec;
+use b67_ctl::NO_SLOT;
 use b67_task_end::{EndedTask, is_among};
 use b67_task_tables::{TaskRow, TaskState};
 
@@ -70,7 +71,7 @@ fn is_of(row: TaskRow, job: u8, number: u32) -> bool
     row.job == job && row.number == number
 }
 
-/// The slot of a job's task of a number, 255 for none.
+/// The slot of a job's task of a number, [`NO_SLOT`] for none.
 fn slot_in(rows: &[TaskRow], job: u8, number: u32) -> u8
     requires { length rows.now ≤ 255 }
     ensures { result ≡ slot_shown job number rows.now }
@@ -80,7 +81,7 @@ fn slot_in(rows: &[TaskRow], job: u8, number: u32) -> u8
             return rows[at as usize].slot;
         }
     }
-    255
+    NO_SLOT
 }
 
 /// The slots of these tasks of a job, in their order.

@@ -171,7 +171,7 @@ module _ (x : Storage) (told : Option (List (List ℕ))) (k : Machine) (plan : P
           → areas' ≡ record k.areas { low = areas'.low } → length now.core ≡ length k.cpu.core → length built.core ≡ length now.core
           → row.job ≡ m.constants.number → row.number ≡ m.progress.job.next_task → row.slot ≡ free → row.parent ≡ plan.running → row.critical ≡ height two_frames.below → state_of row.state ≡ IsReady → row.segment ≡ segment + 1 → row.place ≡ place
           → tasks'.rows.items ≡ k.tasks.rows.items ++ row ∷ [] → ((r : JobRow) → slice_get k.tasks.jobs (row.job - 1) ≡ Some r → tasks'.jobs ≡ slice_set k.tasks.jobs (row.job - 1) (with_next r)) → tasks' ≡ record k.tasks { rows = tasks'.rows; jobs = tasks'.jobs }
-          → IsStarted told plan s m t new slot (record k { cpu = built; areas = areas'; tasks = tasks' })
+          → IsStarted told plan s m new slot (record k { cpu = built; areas = areas'; tasks = tasks' })
       started built tasks' row session areas_are len len' job_is number_is slot_is parent_is critical state segment_is place_is rows_are jobs_are rest =
           let P = peak_with s 1 in
           let below = below_peak x k.cpu plan s m t o h.session runs (length k.cpu.core) at count f segment level place slot may in

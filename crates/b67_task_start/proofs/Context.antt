@@ -151,7 +151,7 @@ module _ (k : Machine) (at count : ℕ) (q : StartsSome k at count) where
           → number ≡ q.member.progress.job.next_task → under ≡ mark_place (activations_below stack_now)
           → row.job ≡ parent.job → row.number ≡ number → row.slot ≡ slot → row.parent ≡ parent.slot → row.critical ≡ under → state_of row.state ≡ IsReady → row.segment ≡ p.segment → row.place ≡ p.place
           → tasks'.rows.items ≡ k.tasks.rows.items ++ row ∷ [] → ((r : JobRow) → slice_get k.tasks.jobs (row.job - 1) ≡ Some r → tasks'.jobs ≡ slice_set k.tasks.jobs (row.job - 1) (with_next r)) → tasks' ≡ record k.tasks { rows = tasks'.rows; jobs = tasks'.jobs }
-          → IsStarted q.told q.plan q.session q.member q.task new q.slot (record k { cpu = built; areas = areas'; tasks = tasks' })
+          → IsStarted q.told q.plan q.session q.member new q.slot (record k { cpu = built; areas = areas'; tasks = tasks' })
       is_started built tasks' number under row stands areas_are len len' number_next under_is job_is row_number row_slot row_parent row_critical state row_segment row_place rows_are jobs_are rest =
           started q.storage q.told k q.plan q.session q.member q.task q.ordered q.stands q.running at count q.f q.segment q.level q.place q.slot q.may now areas' op
           slot parent.job env_stack env_disp p.level may_build slot_is built tasks' row

@@ -69,7 +69,7 @@ pub record StartsSome (k : Machine) (at count : ℕ) : Type 0 where
   pub may : MayStart storage plan member task (length k.cpu.core) at count f segment level place slot
 
 -- the session with the task started, in some storage
-pub record IsStarted (told : Option (List (List ℕ))) (plan : Placement) (s : Session) (m : SessionJob) (t new : Task) (slot : ℕ) (k : Machine) : Type 0 where
+pub record IsStarted (told : Option (List (List ℕ))) (plan : Placement) (s : Session) (m : SessionJob) (new : Task) (slot : ℕ) (k : Machine) : Type 0 where
   pub storage : Storage
   pub stands : MachineRepresents storage told k (with_task_at plan m.constants.number new.number slot (peak_with s 1)) (session_moved s m (with_child m.progress.job new) 1)
 

@@ -67,7 +67,7 @@ pub fn start(machine: &mut Machine, cell: u32, args: u32) -> u32
         → MachineRepresents x told machine.old plan s → IsRunning plan s.jobs m t → result ≡ m.progress.job.next_task }
     ensures stands { (x : Storage) (told : Option (List (List ℕ))) (plan : Placement) (s : Session) (m : SessionJob) (t : Task) (f segment level : ℕ) (place : Place) (slot : ℕ) → IsInOrderButCounts s
         → MachineRepresents x told machine.old plan s → IsRunning plan s.jobs m t → MayStart x plan m t (length machine.old.cpu.core) cell args f segment level place slot
-        → IsStarted told plan s m t (child m t args f segment level place) slot machine.new }
+        → IsStarted told plan s m (child m t args f segment level place) slot machine.new }
     ensures keeps { Keeps machine.old machine.new }
     ensures countable { AreCountable machine.old.tasks.jobs → AreCountable machine.new.tasks.jobs }
     ensures tables { machine.new.tasks ≡ record machine.old.tasks { rows = machine.new.tasks.rows; jobs = machine.new.tasks.jobs } }

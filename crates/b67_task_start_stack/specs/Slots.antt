@@ -38,3 +38,11 @@ pub record SlotFilled (x : Storage) (core new : List Tagged) (r : Regs) (p : Mac
   pub fits : IsStack p.size stack
   pub copies : CopiesName p.objects (words k stack)
   pub lies : LieDownward (Fits x.held) new (suc (slot_base p k)) (words k stack)
+
+-- core has a stack of one activation record from a slot's base word up: the top of stack word, the mark, a return to nowhere, and
+-- copies of words that stood elsewhere
+pub record HasStackAt (core new : List Tagged) (base : ℕ) (head entered : Tagged) (from count : ℕ) : Type 0 where
+  pub top : slice_get new base ≡ Some head
+  pub mark : slice_get new (base + 1) ≡ Some entered
+  pub back : slice_get new (base + 2) ≡ Some (word 3 0)
+  pub cells : (i : ℕ) → i < count → slice_get new (base + 3 + i) ≡ slice_get core (from + i)

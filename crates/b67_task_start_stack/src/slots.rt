@@ -1,10 +1,9 @@
 //! A slot more, and the words of a new stack.
 
-ghost use Rattle.std.specs.Prelude.{◌≡◌, ◌≢◌, ◌⊎◌, ℕ, ◌+◌, ◌<◌, ◌≤◌, Some, length, slice_get};
-ghost use Rattle.b67_word.specs.Tagged.{Tagged, word};
+ghost use Rattle.std.specs.Prelude.{◌≡◌, ◌≢◌, ◌⊎◌, ℕ, ◌+◌, ◌<◌, ◌≤◌, length, slice_get};
 ghost use Rattle.b67_stack.specs.Represents.{Storage, Represents};
 ghost use Rattle.b67_stack.specs.MachineView.{MachineView};
-ghost use Rattle.b67_task_start_stack.specs.Slots.{grown, raised, HasRoom};
+ghost use Rattle.b67_task_start_stack.specs.Slots.{grown, raised, HasRoom, HasStackAt};
 
 use b67_area::Areas;
 use b67_core::Core;
@@ -32,15 +31,12 @@ pub fn add_slot(cpu: &mut Cpu, areas: &mut Areas)
 }
 
 /// Writes a stack of one entered activation record from its slot's base word up: the top of stack word, the mark, a return
-/// to nowhere, and as cells copies of so many words.
+/// to nowhere, and as cells copies of `count` words.
 pub(crate) fn build_stack(core: &mut Core, base: u32, top: Word, mark: Word, from: u32, count: u32)
     requires inside { base + (3 + count) ≤ length core.old }
     requires apart { (from + count ≤ base) ⊎ (base + (3 + count) ≤ from) }
     requires source { from + count ≤ length core.old }
-    ensures top { slice_get core.new base ≡ Some top }
-    ensures mark { slice_get core.new (base + 1) ≡ Some mark }
-    ensures back { slice_get core.new (base + 2) ≡ Some (word 3 0) }
-    ensures cells { (i : ℕ) → i < count → slice_get core.new (base + 3 + i) ≡ slice_get core.old (from + i) }
+    ensures stack { HasStackAt core.old core.new base top mark from count }
     ensures outside { (i : ℕ) → (i < base) ⊎ (base + (3 + count) ≤ i) → slice_get core.new i ≡ slice_get core.old i }
     ensures len { length core.new ≡ length core.old }
 {

@@ -5,3 +5,12 @@ pub mod Saving
 pub mod Loading
 pub mod Tables
 pub mod Turns
+pub mod Counts
+pub mod Orders
+pub mod Nearer
+pub mod Rising
+pub mod ReadyTasks
+pub mod Choices
+pub mod Rooms
+pub mod Moments
+pub mod Lasting

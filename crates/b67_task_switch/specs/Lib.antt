@@ -1,2 +1,5 @@
 pub mod Turns
 pub mod Standing
+pub mod Counted
+pub mod Chosen
+pub mod Lasting

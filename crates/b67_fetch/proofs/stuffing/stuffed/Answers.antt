@@ -15,8 +15,8 @@ get-requires c =
 pub returns-then-base-regs-clause-spot : goal.returns-then-base-regs-clause-spot
 returns-then-base-regs-clause-spot c = λ a f n e.
     let got = ap (λ (k : ℕ). slice_get c.args.core.now (32 + k)) (sym c.from.ensures) ∙ c.get.ensures in
-    let j = job_is c.args.core.now c.args.regs.now a f c.args.base c.args.offset n e c.get.result c.part-job.result got c.part-job.ensures.value in
-    at_dictionary c.args.core.now c.args.regs.now a f c.args.base c.args.offset n e c.part-job.result c.if-base-eq0.false c.if-base-regs.true j.0
+    let j = job_is c.args.core.now c.args.regs.now a f c.args.base c.args.offset n e c.get.result c.read-running.result got c.read-running.ensures.value in
+    at_dictionary c.args.core.now c.args.regs.now a f c.args.base c.args.offset n e c.from-then-base-regs.result c.if-base-eq0.false c.if-base-regs.true (c.from-then-base-regs.ensures ∙ j)
 
 pub overflow_sub-distance : goal.overflow_sub-distance
 overflow_sub-distance c =
@@ -28,8 +28,8 @@ nonzero_div-result c =
     let (a, f, n, e) = c.requires.frame in
     (in_slot c.args.core.now c.args.regs.now a f c.args.base c.args.offset n e c.from-size.result c.if-base-eq0.false c.if-base-regs.false c.from-size.ensures).3
 
-pub overflow_cast-result-2 : goal.overflow_cast-result-2
-overflow_cast-result-2 c =
+pub overflow_cast-result : goal.overflow_cast-result
+overflow_cast-result c =
     let (a, f, n, e) = c.requires.frame in
     let i = in_slot c.args.core.now c.args.regs.now a f c.args.base c.args.offset n e c.from-size.result c.if-base-eq0.false c.if-base-regs.false c.from-size.ensures in
     omega (arith, i.1, i.4)
@@ -39,8 +39,8 @@ nonzero_rem-result c =
     let (a, f, n, e) = c.requires.frame in
     (in_slot c.args.core.now c.args.regs.now a f c.args.base c.args.offset n e c.from-size.result c.if-base-eq0.false c.if-base-regs.false c.from-size.ensures).3
 
-pub overflow_cast-result-3 : goal.overflow_cast-result-3
-overflow_cast-result-3 c =
+pub overflow_cast-result-2 : goal.overflow_cast-result-2
+overflow_cast-result-2 c =
     let (a, f, n, e) = c.requires.frame in
     let i = in_slot c.args.core.now c.args.regs.now a f c.args.base c.args.offset n e c.from-size.result c.if-base-eq0.false c.if-base-regs.false c.from-size.ensures in
     omega (arith, i.2, i.5)

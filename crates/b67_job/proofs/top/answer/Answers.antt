@@ -13,7 +13,14 @@ use Rattle.b67_job.proofs.Served.{served_text, without, exercised}
 use Rattle.b67_job.proofs.top.answer.Goals as goal
 
 pub returns-in-Some-Run-clause-answered : goal.returns-in-Some-Run-clause-answered
-returns-in-Some-Run-clause-answered g c = c.answer_run.ensures.serves c.args.words.now (sym c.command_of.ensures.command ∙ c.in-Some-Run.is ∙ ap (λ x. Some x) c.in-Some-Run.field-0-is)
+returns-in-Some-Run-clause-answered g c =
+    c.answer_run.ensures.serves (lines.Run c.in-Some-Run.core) (record { reads = refl; opens = refl; asks = λ text. refl; closes = refl })
+    c.args.words.now (sym c.command_of.ensures.command ∙ c.in-Some-Run.is ∙ ap (λ x. Some x) c.in-Some-Run.field-0-is)
+
+pub returns-in-Some-Image-clause-answered : goal.returns-in-Some-Image-clause-answered
+returns-in-Some-Image-clause-answered g c =
+    c.answer_run-in-Some-Image.ensures.serves (lines.Image c.in-Some-Image.core) (record { reads = refl; opens = refl; asks = λ text. refl; closes = refl })
+    c.args.words.now (sym c.command_of.ensures.command ∙ c.in-Some-Image.is ∙ ap (λ x. Some x) c.in-Some-Image.field-0-is)
 
 pub returns-in-Some-Asm-clause-answered : goal.returns-in-Some-Asm-clause-answered
 returns-in-Some-Asm-clause-answered g c =
@@ -73,6 +80,9 @@ returns-in-None-clause-device g c = uncalled g.B.Backing.holds g.B.Backing.size 
 
 pub returns-in-Some-Run-clause-unread : goal.returns-in-Some-Run-clause-unread
 returns-in-Some-Run-clause-unread g c = λ e. absurd (false≢true (sym e ∙ ap reads_text (sym c.command_of.ensures.command ∙ c.in-Some-Run.is ∙ ap (λ x. Some x) c.in-Some-Run.field-0-is)))
+
+pub returns-in-Some-Image-clause-unread : goal.returns-in-Some-Image-clause-unread
+returns-in-Some-Image-clause-unread g c = λ e. absurd (false≢true (sym e ∙ ap reads_text (sym c.command_of.ensures.command ∙ c.in-Some-Image.is ∙ ap (λ x. Some x) c.in-Some-Image.field-0-is)))
 
 pub returns-in-Some-Asm-clause-unread : goal.returns-in-Some-Asm-clause-unread
 returns-in-Some-Asm-clause-unread g c = λ e. absurd (false≢true (sym e ∙ ap reads_text (sym c.command_of.ensures.command ∙ c.in-Some-Asm.is ∙ ap (λ x. Some x) c.in-Some-Asm.field-0-is)))

@@ -76,5 +76,8 @@ returns-in-Err-say_value-clause-present g c = λ x told plan s m t o h runs code
 pub returns-in-Err-say_value-clause-kept : goal.returns-in-Err-say_value-clause-kept
 returns-in-Err-say_value-clause-kept g c = kept_printed c.args.machine.now c.say_value.new.printed
 
+pub returns-in-Err-say_value-clause-changed : goal.returns-in-Err-say_value-clause-changed
+returns-in-Err-say_value-clause-changed g c = λ i. inl refl
+
 pub returns-in-Ok-say_value-clause-cause : goal.returns-in-Ok-say_value-clause-cause
 returns-in-Ok-say_value-clause-cause g c = record { later = c.say_value.ensures.cause.later; failed = λ e. absurd cc }

@@ -106,3 +106,6 @@ returns-in-Err-say_words-clause-present g c = λ x told plan s m t o h runs code
 
 pub returns-in-Err-say_words-clause-kept : goal.returns-in-Err-say_words-clause-kept
 returns-in-Err-say_words-clause-kept g c = kept_printed c.args.machine.now c.say_words.new.printed
+
+pub returns-in-Err-say_words-clause-changed : goal.returns-in-Err-say_words-clause-changed
+returns-in-Err-say_words-clause-changed g c = λ i. inl refl

@@ -11,7 +11,7 @@ use Rattle.b67_task_tables.specs.declared.tables.Tasks.{Tasks}
 use Rattle.b67_task_tables.specs.Tables.{MachineRepresents}
 use Rattle.b67_mcp.proofs.Callings.{calling, reads_of, call_some}
 use Rattle.b67_mcp.proofs.Cut.{one_behind}
-use Rattle.b67_mcp.proofs.Sizes.{same_size, kept_same}
+use Rattle.b67_mcp.proofs.Sizes.{same_size, kept_is}
 use Rattle.b67_mcp.proofs.Numbers.{job_in, tasks_same, countable_read, names_read, tables_read}
 use Rattle.b67_mcp.proofs.read.read.Goals as goal
 use Rattle.b67_lemmas.proofs.Members.{has_get}
@@ -60,7 +60,7 @@ returns-in-Err-clause-kept c =
     let at = ap (λ (n : ℕ). slice_get old.tasks.jobs (n - 1)) (c.running_row.ensures.job q.storage q.told q.plan q.session q.member q.task q.ordered q.stands q.running c.requires.calls.code) ∙ j.at in
     let did = c.in-Err.ensures.takes j.row at in
     let meets = did.takes q.storage q.plan q.session q.member q.task q.ordered q.stands.session q.running k.reference k.arguments k.call j.shows in
-    kept_same old (record old { tasks = c.take_number.new.tasks }) (ap (λ (z : Tasks). record old { tasks = z }) (tasks_same old.tasks c.take_number.new.tasks (c.running_row.result.job - 1) j.row did.new at did.is meets.1 c.take_number.ensures.rest))
+    kept_is old (record old { tasks = c.take_number.new.tasks }) (ap (λ (z : Tasks). record old { tasks = z }) (tasks_same old.tasks c.take_number.new.tasks (c.running_row.result.job - 1) j.row did.new at did.is meets.1 c.take_number.ensures.rest))
 
 pub answer_call-requires-clause-call : goal.answer_call-requires-clause-call
 answer_call-requires-clause-call c =
@@ -119,15 +119,22 @@ returns-clause-kept c =
     let taken = read_from q.member.progress.job.numbers in
     let session = c.answer_call.ensures.stands q.storage q.plan q.session q.member q.task q.ordered q.stands.session q.running taken.0 taken.1 meets.may meets.is in
     record {
-      kept = record {
-        countable = countable_read q.plan q.member q.task k.arguments old.tasks.jobs c.take_number.new.tasks.jobs (c.running_row.result.job - 1) j.row did.new (Ok c.in-Ok.number) at did.is meets;
-        keeps = record {
-          core = same_size q.storage q.storage old.cpu cpu q.plan q.plan q.session (with_job q.session q.member (job_read q.member q.task c.next_place-next.result)) q.stands.session session refl refl;
-          sectors = refl;
-          halt = ap (λ (z : Tasks). z.halt) c.take_number.ensures.rest;
-          names = names_read q.plan q.member q.task k.arguments old.tasks.jobs c.take_number.new.tasks.jobs (c.running_row.result.job - 1) j.row did.new (Ok c.in-Ok.number) at did.is meets;
-        };
+      countable = countable_read q.plan q.member q.task k.arguments old.tasks.jobs c.take_number.new.tasks.jobs (c.running_row.result.job - 1) j.row did.new (Ok c.in-Ok.number) at did.is meets;
+      keeps = record {
+        core = same_size q.storage q.storage old.cpu cpu q.plan q.plan q.session (with_job q.session q.member (job_read q.member q.task c.next_place-next.result)) q.stands.session session refl refl;
+        sectors = refl;
+        halt = ap (λ (z : Tasks). z.halt) c.take_number.ensures.rest;
+        names = names_read q.plan q.member q.task k.arguments old.tasks.jobs c.take_number.new.tasks.jobs (c.running_row.result.job - 1) j.row did.new (Ok c.in-Ok.number) at did.is meets;
       };
-      changed = c.answer_call.ensures.changed q.storage q.plan q.session q.member q.task q.ordered q.stands.session q.running meets.may;
-      sectors = refl;
     }
+
+pub returns-clause-changed : goal.returns-clause-changed
+returns-clause-changed c =
+    let q = c.requires.calls.runs in
+    let k = calling q.member q.task 11 c.requires.calls.called in
+    let old = c.args.machine.now in
+    let j = job_in old.tasks q.plan q.session q.member q.task q.ordered q.stands.tables q.running in
+    let at = ap (λ (n : ℕ). slice_get old.tasks.jobs (n - 1)) (c.running_row.ensures.job q.storage q.told q.plan q.session q.member q.task q.ordered q.stands q.running c.requires.calls.code) ∙ j.at in
+    let did = c.in-Ok.ensures.takes j.row at in
+    let meets = did.takes q.storage q.plan q.session q.member q.task q.ordered q.stands.session q.running k.reference k.arguments k.call j.shows in
+    c.answer_call.ensures.changed q.storage q.plan q.session q.member q.task q.ordered q.stands.session q.running meets.may

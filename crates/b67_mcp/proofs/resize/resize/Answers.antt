@@ -54,19 +54,13 @@ set_length-requires-clause-array g c =
     let q = subst P c.in-Lengths.is (c.in-Ok.ensures.row w.storage w.plan w.session w.member w.task w.ordered w.stands.session w.running k.reference k.arguments k.call) in
     record { runs = w; array = q.0.which.array; among = q.0.which.among; home = q.0.which.home; writable = q.0.which.writable; long = q.1; present = q.2 }
 
-pub set_length-requires-clause-some : goal.set_length-requires-clause-some
-set_length-requires-clause-some g c =
+pub set_length-requires-clause-length : goal.set_length-requires-clause-length
+set_length-requires-clause-length g c =
     let w = c.requires.calls.runs in
     let k = calling w.member w.task 18 c.requires.calls.called in
     let P : Resizing → Type 0 = λ f. ResizeMeets w.storage w.plan w.member w.task k.arguments (Ok f) in
-    (subst P c.in-Lengths.is (c.in-Ok.ensures.row w.storage w.plan w.session w.member w.task w.ordered w.stands.session w.running k.reference k.arguments k.call)).0.some
-
-pub set_length-requires-clause-few : goal.set_length-requires-clause-few
-set_length-requires-clause-few g c =
-    let w = c.requires.calls.runs in
-    let k = calling w.member w.task 18 c.requires.calls.called in
-    let P : Resizing → Type 0 = λ f. ResizeMeets w.storage w.plan w.member w.task k.arguments (Ok f) in
-    (subst P c.in-Lengths.is (c.in-Ok.ensures.row w.storage w.plan w.session w.member w.task w.ordered w.stands.session w.running k.reference k.arguments k.call)).0.few
+    let q = subst P c.in-Lengths.is (c.in-Ok.ensures.row w.storage w.plan w.session w.member w.task w.ordered w.stands.session w.running k.reference k.arguments k.call) in
+    (q.0.some, q.0.few)
 
 pub cut_call-requires-clause-call : goal.cut_call-requires-clause-call
 cut_call-requires-clause-call g c =
@@ -147,7 +141,7 @@ returns-in-Err-set_length-clause-row g c = λ x told plan s m t o h runs code ca
     let set = c.in-Err-set_length.ensures.row x told plan s m t o h runs a q.0.which.among q.0.which.home q.0.which.writable q.1 q.2 says in
     let up : c.in-Lengths.before < c.in-Lengths.after = ⊎_elim (λ up. up) (λ down. absurd (let z : ⊥ = (let e = (c.in-Err-set_length.ensures.quiet down).0 in cc) in z)) (cases_lt c.in-Lengths.before c.in-Lengths.after) in
     let d = content_after told (g.B.Backing.holds c.set_length.new.backing) in
-    refused x told old plan s m t o h runs k c.in-Lengths.original c.in-Lengths.before c.in-Lengths.after q d (g.B.Backing.size c.args.backing.now) c.set_length.new.machine c.in-Err-set_length.stop up set)
+    refused x told old plan s m t o h runs k c.in-Lengths.original c.in-Lengths.before c.in-Lengths.after q d (g.B.Backing.size c.args.backing.now) c.set_length.new.machine c.in-Err-set_length.stop code up set)
 
 pub returns-in-Err-set_length-clause-present : goal.returns-in-Err-set_length-clause-present
 returns-in-Err-set_length-clause-present g c = λ x told plan s m t o h runs code called.

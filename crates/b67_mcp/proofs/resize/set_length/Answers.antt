@@ -35,8 +35,8 @@ returns-then-after-before-clause-row g c = λ x told plan s m t o h runs a among
     let here = is_present x told k plan s m t o h runs a among there.0 there.1 in
     let p = machine_view plan s.jobs in
     let object = array_object plan m.constants.number a in
-    let some = c.requires.some in
-    let few = c.requires.few in
+    let some = c.requires.length.0 in
+    let few = c.requires.length.1 in
     let low : c.args.after < length a.numbers = omega (arith, long, c.if-after-before.true) in
     set_shorter x told k plan s m t o h runs a among c.args.after some few there.0 (g.B.Backing.size c.args.backing.now) (g.B.Backing.holds c.args.backing.now) c.shorten_array.new.cpu c.shorten_array.new.areas c.shorten_array.new.sectors e.keeps
     (e.outside x told p object there.0 view array here) says
@@ -47,7 +47,7 @@ returns-then-after-before-clause-kept g c = kept_by c.args.machine.now c.shorten
 
 pub returns-then-before-after-clause-row : goal.returns-then-before-after-clause-row
 returns-then-before-after-clause-row g c = λ x told plan s m t o h runs a among home writable long present says.
-    set_same x told c.args.machine.now plan s m t o h runs a among c.args.after c.requires.some c.requires.few (g.B.Backing.size c.args.backing.now) (g.B.Backing.holds c.args.backing.now) (long ∙ c.if-before-after.true) says
+    set_same x told c.args.machine.now plan s m t o h runs a among c.args.after c.requires.length.0 c.requires.length.1 (g.B.Backing.size c.args.backing.now) (g.B.Backing.holds c.args.backing.now) (long ∙ c.if-before-after.true) says
 
 pub lengthen_array-requires-clause-machine : goal.lengthen_array-requires-clause-machine
 lengthen_array-requires-clause-machine g c =
@@ -78,7 +78,7 @@ returns-in-Ok-clause-row g c = λ x told plan s m t o h runs a among home writab
     let p = machine_view plan s.jobs in
     let object = array_object plan m.constants.number a in
     let up : length a.numbers < c.args.after = omega (arith, long, c.if-after-before.false, c.if-before-after.false) in
-    set_longer x told k plan s m t o h runs a among c.args.after c.requires.some c.requires.few (g.B.Backing.size c.args.backing.now) (g.B.Backing.holds c.lengthen_array.new.backing) c.lengthen_array.new.cpu c.lengthen_array.new.areas c.lengthen_array.new.sectors
+    set_longer x told k plan s m t o h runs a among c.args.after c.requires.length.0 c.requires.length.1 (g.B.Backing.size c.args.backing.now) (g.B.Backing.holds c.lengthen_array.new.backing) c.lengthen_array.new.cpu c.lengthen_array.new.areas c.lengthen_array.new.sectors
     e.keeps (e.outside x p object there.0 view array here) up (e.row x p object there.0 view array here))
 
 pub returns-in-Ok-clause-kept : goal.returns-in-Ok-clause-kept
@@ -98,7 +98,7 @@ stopped-requires-clause-stands g c =
     let view = seen_over x None k r.plan r.session r.member r.task r.ordered h r.running q.array q.among (g.B.Backing.holds c.args.backing.now) tt in
     let array = is_array x None k r.plan r.session r.member r.task r.ordered h r.running q.array q.among c.args.original q.home q.writable in
     let here = is_present x None k r.plan r.session r.member r.task r.ordered h r.running q.array q.among there.0 there.1 in
-    stands_after x None k r.plan r.session r.member r.task r.ordered h r.running q.array q.among c.args.after c.requires.some c.requires.few 0 (g.B.Backing.holds c.lengthen_array.new.backing) c.lengthen_array.new.cpu c.lengthen_array.new.areas c.lengthen_array.new.sectors
+    stands_after x None k r.plan r.session r.member r.task r.ordered h r.running q.array q.among c.args.after c.requires.length.0 c.requires.length.1 0 (g.B.Backing.holds c.lengthen_array.new.backing) c.lengthen_array.new.cpu c.lengthen_array.new.areas c.lengthen_array.new.sectors
     e.keeps (e.outside x p object there.0 view array here) c.in-Err.fault (e.row x p object there.0 view array here)
 
 pub stopped-requires-clause-space : goal.stopped-requires-clause-space
@@ -127,7 +127,7 @@ returns-in-Err-clause-row g c = λ x told plan s m t o h runs a among home writa
     let here = is_present x told k plan s m t o h runs a among there.0 there.1 in
     let p = machine_view plan s.jobs in
     let object = array_object plan m.constants.number a in
-    set_refused x told k plan s m t o h runs a among c.args.after c.requires.some c.requires.few (g.B.Backing.size c.args.backing.now) (g.B.Backing.holds c.lengthen_array.new.backing) c.lengthen_array.new.cpu c.lengthen_array.new.areas c.lengthen_array.new.sectors
+    set_refused x told k plan s m t o h runs a among c.args.after c.requires.length.0 c.requires.length.1 (g.B.Backing.size c.args.backing.now) (g.B.Backing.holds c.lengthen_array.new.backing) c.lengthen_array.new.cpu c.lengthen_array.new.areas c.lengthen_array.new.sectors
     e.keeps (e.outside x p object there.0 view array here) c.args.before c.in-Err.fault c.stopped.result long (omega (arith, c.if-after-before.false, c.if-before-after.false)) (omega (arith, c.requires.same, e.keeps.count))
     (e.row x p object there.0 view array here) c.stopped.ensures writable)
 
@@ -140,14 +140,14 @@ returns-in-Err-clause-quiet g c = λ down. absurd (omega (arith, down, c.if-afte
 pub returns-in-Ok-clause-quiet : goal.returns-in-Ok-clause-quiet
 returns-in-Ok-clause-quiet g c = λ down. absurd (omega (arith, down, c.if-after-before.false, c.if-before-after.false))
 
-pub returns-in-Err-clause-cause : goal.returns-in-Err-clause-cause
-returns-in-Err-clause-cause g c = λ e.
-    (let is : c.stopped.result ≡ BackingFault = cc in
+pub returns-in-Err-clause-causes : goal.returns-in-Err-clause-causes
+returns-in-Err-clause-causes g c =
     let new : Machine = record c.args.machine.now { cpu = c.lengthen_array.new.cpu; areas = c.lengthen_array.new.areas; sectors = c.lengthen_array.new.sectors } in
-    c.in-Err.ensures.cause (ap Err (stop_faults new c.args.before c.args.after c.in-Err.fault c.stopped.result c.stopped.ensures is)))
-
-pub returns-in-Err-clause-silent : goal.returns-in-Err-clause-silent
-returns-in-Err-clause-silent g c = λ e.
-    (let is : c.stopped.result ≡ PrintFault = cc in
-    let new : Machine = record c.args.machine.now { cpu = c.lengthen_array.new.cpu; areas = c.lengthen_array.new.areas; sectors = c.lengthen_array.new.sectors } in
-    stop_silent new c.args.before c.args.after c.in-Err.fault c.stopped.result c.stopped.ensures is)
+    record {
+      device = λ e.
+          (let is : c.stopped.result ≡ BackingFault = cc in
+          c.in-Err.ensures.cause (ap Err (stop_faults new c.args.before c.args.after c.in-Err.fault c.stopped.result c.stopped.ensures is)));
+      silent = λ e.
+          (let is : c.stopped.result ≡ PrintFault = cc in
+          stop_silent new c.args.before c.args.after c.in-Err.fault c.stopped.result c.stopped.ensures is);
+    }

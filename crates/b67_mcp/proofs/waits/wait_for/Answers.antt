@@ -49,7 +49,7 @@ returns-in-13-clause-present c = λ x told plan s m t o h runs code called.
     (a.touches, a.fits))
 
 pub returns-in-13-clause-kept : goal.returns-in-13-clause-kept
-returns-in-13-clause-kept c = record { countable = c.await_task.ensures.keeps.countable; keeps = c.await_task.ensures.keeps.keeps }
+returns-in-13-clause-kept c = c.await_task.ensures.kept
 
 pub returns-in-14-clause-row : goal.returns-in-14-clause-row
 returns-in-14-clause-row c = λ x told plan s m t o h runs code called count.
@@ -67,7 +67,7 @@ returns-in-14-clause-present c = λ x told plan s m t o h runs code called.
     (a.touches, a.fits))
 
 pub returns-in-14-clause-kept : goal.returns-in-14-clause-kept
-returns-in-14-clause-kept c = record { countable = c.status_of.ensures.keeps.countable; keeps = c.status_of.ensures.keeps.keeps }
+returns-in-14-clause-kept c = c.status_of.ensures.kept
 
 pub returns-in-15-clause-row : goal.returns-in-15-clause-row
 returns-in-15-clause-row c = λ x told plan s m t o h runs code called count.
@@ -85,7 +85,7 @@ returns-in-15-clause-present c = λ x told plan s m t o h runs code called.
     (a.touches, a.fits))
 
 pub returns-in-15-clause-kept : goal.returns-in-15-clause-kept
-returns-in-15-clause-kept c = record { countable = c.wait_at.ensures.keeps.countable; keeps = c.wait_at.ensures.keeps.keeps }
+returns-in-15-clause-kept c = c.wait_at.ensures.kept
 
 pub returns-in_default-clause-row : goal.returns-in_default-clause-row
 returns-in_default-clause-row c = λ x told plan s m t o h runs code called count.
@@ -103,4 +103,4 @@ returns-in_default-clause-present c = λ x told plan s m t o h runs code called.
     (a.touches, a.fits))
 
 pub returns-in_default-clause-kept : goal.returns-in_default-clause-kept
-returns-in_default-clause-kept c = record { countable = c.cause.ensures.keeps.countable; keeps = c.cause.ensures.keeps.keeps }
+returns-in_default-clause-kept c = c.cause.ensures.kept

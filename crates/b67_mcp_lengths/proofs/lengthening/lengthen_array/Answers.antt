@@ -15,6 +15,7 @@ use Rattle.b67_backing.specs.Extending.{extended, sectors_more, IsExtended, Exte
 use Rattle.b67_layout_storage.proofs.Below.{Stayed-then}
 use Rattle.b67_layout_storage.proofs.Devices.{Served-then, still_tells}
 use Rattle.b67_stack.proofs.Helds.{held-other, held-same}
+use Rattle.b67_stack.proofs.Unchanged.{area_of_object}
 use Rattle.b67_stack.proofs.Reheld.{storage_with}
 use Rattle.b67_overlay.proofs.Chains.{Says-retold}
 use Rattle.b67_mcp_lengths.proofs.Emptied.{stayed_absent}
@@ -174,7 +175,8 @@ returns-in-Err-extend-clause-row g c = λ x p t at m a h.
     let E : ℕ → ℕ → Type 0 = λ f n. ExtendMeets g.B.Backing.holds c.overlay.new.backing c.extend.new.backing c.overlay.new.sectors c.extend.new.self y.shelf f n c.args.words (Err c.in-Err-extend.fault) in
     let row = subst (E (y.held t.home).chain) k.count (subst (λ (f : ℕ). E f c.original_at-original.result.length) b.first (c.in-Err-extend.ensures.row y.shelf b.chain)) in
     refused_extend g.B.Backing.holds x p t c.original_at-original.result.address c.args.words c.overlay.new.areas c.in-Err-extend.fault (g.B.Backing.holds c.args.backing.now) c.overlay.new.cpu c.overlay.new.sectors c.extend.new.self c.overlay.new.backing c.extend.new.backing m.device
-    (still_tells g.B.Backing.holds g.B.Backing.size g.B.Backing.calls g.B.Backing.faults c.args.backing.now c.overlay.new.backing c.overlay.ensures.device) q.machine q.out k.longer row
+    (still_tells g.B.Backing.holds g.B.Backing.size g.B.Backing.calls g.B.Backing.faults c.args.backing.now c.overlay.new.backing c.overlay.ensures.device)
+    (area_of_object x c.args.cpu.now.core c.args.cpu.now.regs p m.stands t a.there c.original_at-original.result.address k.here.present) q.machine q.out k.longer row
 
 pub returns-in-Ok-extend-clause-row : goal.returns-in-Ok-extend-clause-row
 returns-in-Ok-extend-clause-row g c = λ x p t at m a h.

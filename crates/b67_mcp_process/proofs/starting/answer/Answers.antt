@@ -26,5 +26,4 @@ returns-clause-kept c =
     record {
       keeps = record { core = same_size q.storage q.storage k.cpu c.answer_call.new.cpu q.plan q.plan q.session (with_job q.session m (job_answered m q.task (Operand c.args.number) c.args.next m.progress.job.numbers)) q.stands.session now refl refl; sectors = refl; halt = refl; names = refl };
       countable = λ all. all;
-      printed = refl;
     }

@@ -1,5 +1,6 @@
 use Rattle.std.proofs.Common.{◌∙◌, ap}
 use Rattle.b67_task_tables.specs.declared.tables.Tasks.{Tasks}
+use Rattle.b67_task_tables.proofs.Keeping.{keeps_then}
 use Rattle.b67_mcp_process.proofs.Begins.{order1, runs1, cut1, plan1, session1, member1, is_moved}
 use Rattle.b67_mcp_process.proofs.starting.begin.Goals as goal
 
@@ -48,8 +49,7 @@ pub returns-clause-kept : goal.returns-clause-kept
 returns-clause-kept c =
     let a = c.start-number.ensures.keeps in
     let b = c.answer.ensures.kept in
-    record {
-      keeps = record { core = b.keeps.core ∙ a.core; sectors = b.keeps.sectors ∙ a.sectors; halt = b.keeps.halt ∙ a.halt; names = b.keeps.names ∙ a.names };
-      countable = λ all. b.countable (c.start-number.ensures.countable all);
-      printed = b.printed ∙ ap (λ (z : Tasks). z.printed) c.start-number.ensures.tables;
-    }
+    record { countable = λ all. b.countable (c.start-number.ensures.countable all); keeps = keeps_then c.args.machine.now c.start-number.new.machine c.answer.new.machine a b.keeps }
+
+pub returns-clause-printed : goal.returns-clause-printed
+returns-clause-printed c = c.answer.ensures.printed ∙ ap (λ (z : Tasks). z.printed) c.start-number.ensures.tables

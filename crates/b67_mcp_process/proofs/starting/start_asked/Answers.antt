@@ -5,6 +5,7 @@ use Rattle.b67_layout_storage.specs.Machine.{content_after}
 use Rattle.b67_layout_storage.proofs.Devices.{Served-none}
 use Rattle.b67_layout_storage.proofs.Untold.{untold}
 use Rattle.b67_task_need.proofs.Shortage.{short_of}
+use Rattle.b67_task_tables.proofs.Keeping.{kept_same}
 use Rattle.b67_mcp_process.proofs.Moved.{silent, seen_over, stands_moved}
 use Rattle.b67_mcp_process.proofs.Starts.{starts_one, processed, may_start, stopped, writes, fits_by, same_fault}
 use Rattle.b67_mcp_process.proofs.starting.start_asked.Goals as goal
@@ -13,14 +14,17 @@ pub need-words-requires-clause-runs : goal.need-words-requires-clause-runs
 need-words-requires-clause-runs g c = c.requires.call.runs
 
 pub returns-then-words-core-clause-row : goal.returns-then-words-core-clause-row
-returns-then-words-core-clause-row g c = λ x told plan s m t o h runs arguments a few says.
-    (record { starts = starts_one plan m t arguments c.args.asked.cell c.args.asked.count a few c.args.next; need_is = c.need-words.ensures x told plan s m t o h runs; core_is = c.size-core.ensures.value; exceeds = c.if-words-core.true }, refl)
+returns-then-words-core-clause-row g c = λ x told plan s m t o h runs arguments a few. record {
+  meets = λ says.
+      (record { starts = starts_one plan m t arguments c.args.asked.cell c.args.asked.count a few c.args.next; need_is = c.need-words.ensures x told plan s m t o h runs; core_is = c.size-core.ensures.value; exceeds = c.if-words-core.true }, refl);
+  quiet = λ never. refl;
+}
 
 pub returns-then-words-core-clause-kept : goal.returns-then-words-core-clause-kept
-returns-then-words-core-clause-kept g c = record { keeps = record { core = refl; sectors = refl; halt = refl; names = refl }; countable = λ all. all; printed = refl }
+returns-then-words-core-clause-kept g c = kept_same c.args.machine.now
 
 pub returns-then-words-core-clause-device : goal.returns-then-words-core-clause-device
-returns-then-words-core-clause-device g c = Served-none g.B.Backing.holds g.B.Backing.size g.B.Backing.calls g.B.Backing.faults c.args.backing.now
+returns-then-words-core-clause-device g c = record { calls = Served-none g.B.Backing.holds g.B.Backing.size g.B.Backing.calls g.B.Backing.faults c.args.backing.now; cause = λ e. absurd (let b : ⊥ = cc in b) }
 
 pub next_slot_end-upto-requires : goal.next_slot_end-upto-requires
 next_slot_end-upto-requires g c =
@@ -70,24 +74,27 @@ begin-requires-clause-call g c =
       may = a.may;
     }
 
-pub returns-in-Ok-clause-row : goal.returns-in-Ok-clause-row
-returns-in-Ok-clause-row g c = λ x told plan s m t o h runs arguments a few says.
-    (let k = c.args.machine.now in
-    let new = c.claim.new in
-    let keeps = c.claim.ensures.keeps in
-    let now = g.B.Backing.holds new.backing in
-    let row = c.in-Ok.ensures.row x (machine_view plan s.jobs) (seen_over x told k plan s h o (g.B.Backing.holds c.args.backing.now) says) in
-    let (y, evicted, above, view) = row.clear in
-    let (slot, lowest, end) = c.next_slot_end-upto.ensures x plan s h.session in
-    let stands = stands_moved x told k plan s h y now new.cpu new.areas new.sectors keeps row.outside evicted.evicted view in
-    let may = may_start x told k plan s m t o h runs arguments c.args.asked.cell c.args.asked.count a few c.requires.number y (length new.cpu.core) slot lowest
-    (omega (arith, keeps.len, c.if-words-core.false, c.size-core.ensures.value, c.need-words.ensures x told plan s m t o h runs))
-    (λ at i e. omega (arith, above at i e, end)) in
-    processed plan m t arguments c.args.asked.cell c.args.asked.count a few c.args.next (content_after told now) s c.begin.new.machine
-    (c.begin.ensures.stands y (content_after told now) plan s m t a.f a.segment a.level a.place slot o stands runs may a.may))
+pub begin-requires-clause-place : goal.begin-requires-clause-place
+begin-requires-clause-place g c = c.requires.call.place
 
-pub returns-in-Ok-clause-quiet : goal.returns-in-Ok-clause-quiet
-returns-in-Ok-clause-quiet g c = λ x told plan s m t o h runs arguments a few never. absurd (never (starts_one plan m t arguments c.args.asked.cell c.args.asked.count a few c.args.next))
+pub returns-in-Ok-clause-row : goal.returns-in-Ok-clause-row
+returns-in-Ok-clause-row g c = λ x told plan s m t o h runs arguments a few. record {
+  meets = λ says.
+      (let k = c.args.machine.now in
+      let new = c.claim.new in
+      let keeps = c.claim.ensures.keeps in
+      let now = g.B.Backing.holds new.backing in
+      let row = c.in-Ok.ensures.row x (machine_view plan s.jobs) (seen_over x told k plan s h o (g.B.Backing.holds c.args.backing.now) says) in
+      let (y, evicted, above, view) = row.clear in
+      let (slot, lowest, end) = c.next_slot_end-upto.ensures x plan s h.session in
+      let stands = stands_moved x told k plan s h y now new.cpu new.areas new.sectors keeps row.outside evicted.evicted view in
+      let may = may_start x told k plan s m t o h runs arguments c.args.asked.cell c.args.asked.count a few c.requires.number y (length new.cpu.core) slot lowest
+      (omega (arith, keeps.len, c.if-words-core.false, c.size-core.ensures.value, c.need-words.ensures x told plan s m t o h runs))
+      (λ at i e. omega (arith, above at i e, end)) in
+      processed plan m t arguments c.args.asked.cell c.args.asked.count a few c.args.next (content_after told now) s c.begin.new.machine
+      (c.begin.ensures.stands y (content_after told now) plan s m t a.f a.segment a.level a.place slot o stands runs may a.may));
+  quiet = λ never. absurd (never (starts_one plan m t arguments c.args.asked.cell c.args.asked.count a few c.args.next));
+}
 
 pub returns-in-Ok-clause-fits : goal.returns-in-Ok-clause-fits
 returns-in-Ok-clause-fits g c = λ x told plan s m t o h runs arguments. λ w. omega (arith, c.if-words-core.false, c.size-core.ensures.value, c.need-words.ensures x told plan s m t o h runs)
@@ -96,34 +103,33 @@ pub returns-in-Ok-clause-kept : goal.returns-in-Ok-clause-kept
 returns-in-Ok-clause-kept g c =
     let a = c.claim.ensures.keeps in
     let b = c.begin.ensures.kept in
-    record {
-      keeps = record { core = b.keeps.core ∙ a.len; sectors = b.keeps.sectors ∙ a.count; halt = b.keeps.halt; names = b.keeps.names };
-      countable = b.countable;
-      printed = b.printed;
-    }
+    record { countable = b.countable; keeps = record { core = b.keeps.core ∙ a.len; sectors = b.keeps.sectors ∙ a.count; halt = b.keeps.halt; names = b.keeps.names } }
+
+pub returns-in-Ok-clause-device : goal.returns-in-Ok-clause-device
+returns-in-Ok-clause-device g c = record { calls = c.claim.ensures.device; cause = λ e. absurd (let b : ⊥ = cc in b) }
 
 pub returns-in-Err-clause-row : goal.returns-in-Err-clause-row
-returns-in-Err-clause-row g c = λ x told plan s m t o h runs arguments a few says.
-    (let k = c.args.machine.now in
-    let new = c.claim.new in
-    let keeps = c.claim.ensures.keeps in
-    let now = g.B.Backing.holds new.backing in
-    let row = c.in-Err.ensures.row x (machine_view plan s.jobs) (seen_over x told k plan s h o (g.B.Backing.holds c.args.backing.now) says) in
-    let starts = starts_one plan m t arguments c.args.asked.cell c.args.asked.count a few c.args.next in
-    let after = record k { cpu = new.cpu; areas = new.areas; sectors = new.sectors } in
-    stopped (content_after told now) plan s m t c.args.next arguments k after c.in-Err.fault
-    (λ need size e. c.claim.ensures.no_core need size (c.in-Err.is ∙ ap Err e))
-    (let (y, evicted, view) = row.refused in
-    record { starts = starts; storage = y; stands = stands_moved x told k plan s h y now new.cpu new.areas new.sectors keeps row.outside evicted.evicted view; tables = refl })
-    (λ wants free e. (let (y, short, at, evicted, view) = row.full wants free (ap Err e) in
-    record {
-      stopped = record { starts = starts; storage = y; stands = stands_moved x told k plan s h y now new.cpu new.areas new.sectors keeps row.outside evicted.evicted view; tables = refl };
-      short = short_of y plan s.jobs wants free short;
-    })))
-
-pub returns-in-Err-clause-quiet : goal.returns-in-Err-clause-quiet
-returns-in-Err-clause-quiet g c = λ x told plan s m t o h runs arguments a few never.
-    absurd (never (writes m t c.args.next arguments c.in-Err.fault (λ need size e. c.claim.ensures.no_core need size (c.in-Err.is ∙ ap Err e)) (starts_one plan m t arguments c.args.asked.cell c.args.asked.count a few c.args.next)))
+returns-in-Err-clause-row g c = λ x told plan s m t o h runs arguments a few. record {
+  meets = λ says.
+      (let k = c.args.machine.now in
+      let new = c.claim.new in
+      let keeps = c.claim.ensures.keeps in
+      let now = g.B.Backing.holds new.backing in
+      let row = c.in-Err.ensures.row x (machine_view plan s.jobs) (seen_over x told k plan s h o (g.B.Backing.holds c.args.backing.now) says) in
+      let starts = starts_one plan m t arguments c.args.asked.cell c.args.asked.count a few c.args.next in
+      let after = record k { cpu = new.cpu; areas = new.areas; sectors = new.sectors } in
+      stopped (content_after told now) plan s m t c.args.next arguments k after c.in-Err.fault
+      (λ need size e. c.claim.ensures.no_core need size (c.in-Err.is ∙ ap Err e))
+      (let (y, evicted, view) = row.refused in
+      record { starts = starts; storage = y; stands = stands_moved x told k plan s h y now new.cpu new.areas new.sectors keeps row.outside evicted.evicted view; tables = refl })
+      (λ wants free e. (let (y, short, at, evicted, view) = row.full wants free (ap Err e) in
+      record {
+        stopped = record { starts = starts; storage = y; stands = stands_moved x told k plan s h y now new.cpu new.areas new.sectors keeps row.outside evicted.evicted view; tables = refl };
+        short = short_of y plan s.jobs wants free short;
+      })));
+  quiet = λ never.
+      absurd (never (writes m t c.args.next arguments c.in-Err.fault (λ need size e. c.claim.ensures.no_core need size (c.in-Err.is ∙ ap Err e)) (starts_one plan m t arguments c.args.asked.cell c.args.asked.count a few c.args.next)));
+}
 
 pub returns-in-Err-clause-fits : goal.returns-in-Err-clause-fits
 returns-in-Err-clause-fits g c = λ x told plan s m t o h runs arguments.
@@ -132,7 +138,7 @@ returns-in-Err-clause-fits g c = λ x told plan s m t o h runs arguments.
 pub returns-in-Err-clause-kept : goal.returns-in-Err-clause-kept
 returns-in-Err-clause-kept g c =
     let a = c.claim.ensures.keeps in
-    record { keeps = record { core = a.len; sectors = a.count; halt = refl; names = refl }; countable = λ all. all; printed = refl }
+    record { countable = λ all. all; keeps = record { core = a.len; sectors = a.count; halt = refl; names = refl } }
 
-pub returns-in-Err-clause-cause : goal.returns-in-Err-clause-cause
-returns-in-Err-clause-cause g c = λ e. c.claim.ensures.cause (c.in-Err.is ∙ ap Err (same_fault c.in-Err.fault BackingFault e))
+pub returns-in-Err-clause-device : goal.returns-in-Err-clause-device
+returns-in-Err-clause-device g c = record { calls = c.claim.ensures.device; cause = λ e. c.claim.ensures.cause (c.in-Err.is ∙ ap Err (same_fault c.in-Err.fault BackingFault e)) }

@@ -11,7 +11,8 @@ use Rattle.b67_mcp_waits.specs.Arguments.{end_given}
 use Rattle.b67_mcp_waits.specs.Woken.{woken_row}
 use Rattle.b67_mcp_waits.proofs.Arguments.{cause_is, may_end}
 use Rattle.b67_mcp_waits.proofs.EndCells.{found_here, cause_fault}
-use Rattle.b67_mcp_waits.proofs.Made.{runs_some, call_some, kept_same}
+use Rattle.b67_mcp_waits.proofs.Made.{runs_some, call_some}
+use Rattle.b67_task_tables.proofs.Keeping.{kept_same}
 use Rattle.b67_mcp_waits.proofs.Caused.{m2, t2, s2, runs2, order2, stands_caused, may2, made, row_made, made_count, stands_made, row_critical}
 use Rattle.b67_mcp_waits.proofs.events.cause.Goals as goal
 
@@ -23,8 +24,8 @@ returns-in-Err-clause-row c = λ x told plan s m t o h runs r arguments call.
     (let q = c.args.next in
     (cause_is (here m t q) arguments ∙ cause_fault x c.args.machine.now.cpu plan s m t o h.session runs q c.in-Err.fault (end_given (here m t q) arguments) (c.in-Err.ensures x plan s m t o h.session runs r arguments call q), refl))
 
-pub returns-in-Err-clause-keeps : goal.returns-in-Err-clause-keeps
-returns-in-Err-clause-keeps c = kept_same c.args.machine.now
+pub returns-in-Err-clause-kept : goal.returns-in-Err-clause-kept
+returns-in-Err-clause-kept c = kept_same c.args.machine.now
 
 pub is_critical-requires : goal.is_critical-requires
 is_critical-requires c = runs_some c.args.machine.now c.requires.call.runs
@@ -39,8 +40,8 @@ returns-then-is_critical-clause-row c = λ x told plan s m t o h runs r argument
       refl,
     ))
 
-pub returns-then-is_critical-clause-keeps : goal.returns-then-is_critical-clause-keeps
-returns-then-is_critical-clause-keeps c = kept_same c.args.machine.now
+pub returns-then-is_critical-clause-kept : goal.returns-then-is_critical-clause-kept
+returns-then-is_critical-clause-kept c = kept_same c.args.machine.now
 
 pub running_job-job-requires : goal.running_job-job-requires
 running_job-job-requires c = c.requires.call.runs
@@ -112,9 +113,8 @@ returns-clause-row c = λ x told plan s m t o h runs r arguments call.
       printed = refl;
     })
 
-pub returns-clause-keeps : goal.returns-clause-keeps
-returns-clause-keeps c = record {
+pub returns-clause-kept : goal.returns-clause-kept
+returns-clause-kept c = record {
   countable = λ few. few;
   keeps = record { core = ap (λ (l : List Tagged). length l) c.cut_call.ensures.core ∙ c.set.ensures.len; sectors = refl; halt = refl; names = refl };
-  sectors = refl;
 }

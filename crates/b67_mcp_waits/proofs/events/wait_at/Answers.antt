@@ -11,7 +11,8 @@ use Rattle.b67_mcp_call.proofs.Standing.{machine_cut}
 use Rattle.b67_mcp_waits.specs.Arguments.{end_given}
 use Rattle.b67_mcp_waits.proofs.Arguments.{wait_is, may_end}
 use Rattle.b67_mcp_waits.proofs.EndCells.{found_here, wait_fault, wait_zero, wait_other}
-use Rattle.b67_mcp_waits.proofs.Made.{runs_some, call_some, kept_same, answers_critical, answers_cut}
+use Rattle.b67_mcp_waits.proofs.Made.{runs_some, call_some, answers_critical, answers_cut}
+use Rattle.b67_task_tables.proofs.Keeping.{kept_same}
 use Rattle.b67_mcp_waits.proofs.events.wait_at.Goals as goal
 
 pub cell_given-requires : goal.cell_given-requires
@@ -22,8 +23,8 @@ returns-in-Err-clause-row c = λ x told plan s m t o h runs r arguments call.
     (let q = c.args.next in
     (wait_is (here m t q) arguments ∙ wait_fault x c.args.machine.now.cpu plan s m t o h.session runs q c.in-Err.fault (end_given (here m t q) arguments) (c.in-Err.ensures x plan s m t o h.session runs r arguments call q), refl))
 
-pub returns-in-Err-clause-keeps : goal.returns-in-Err-clause-keeps
-returns-in-Err-clause-keeps c = kept_same c.args.machine.now
+pub returns-in-Err-clause-kept : goal.returns-in-Err-clause-kept
+returns-in-Err-clause-kept c = kept_same c.args.machine.now
 
 pub get-requires : goal.get-requires
 get-requires c =
@@ -50,8 +51,8 @@ returns-then-bits-eq0-clause-row c = λ x told plan s m t o h runs r arguments c
       refl,
     ))
 
-pub returns-then-bits-eq0-clause-keeps : goal.returns-then-bits-eq0-clause-keeps
-returns-then-bits-eq0-clause-keeps c = kept_same c.args.machine.now
+pub returns-then-bits-eq0-clause-kept : goal.returns-then-bits-eq0-clause-kept
+returns-then-bits-eq0-clause-kept c = kept_same c.args.machine.now
 
 pub is_critical-requires : goal.is_critical-requires
 is_critical-requires c = runs_some c.args.machine.now c.requires.call.runs
@@ -68,8 +69,8 @@ returns-then-is_critical-clause-row c = λ x told plan s m t o h runs r argument
       refl,
     ))
 
-pub returns-then-is_critical-clause-keeps : goal.returns-then-is_critical-clause-keeps
-returns-then-is_critical-clause-keeps c = kept_same c.args.machine.now
+pub returns-then-is_critical-clause-kept : goal.returns-then-is_critical-clause-kept
+returns-then-is_critical-clause-kept c = kept_same c.args.machine.now
 
 pub cut_call-requires-clause-call : goal.cut_call-requires-clause-call
 cut_call-requires-clause-call c =
@@ -103,5 +104,5 @@ returns-clause-row c = λ x told plan s m t o h runs r arguments call.
       printed = refl;
     })
 
-pub returns-clause-keeps : goal.returns-clause-keeps
-returns-clause-keeps c = record { countable = λ few. few; keeps = record { core = ap (λ (l : List Tagged). length l) c.cut_call.ensures.core; sectors = refl; halt = refl; names = refl }; sectors = refl }
+pub returns-clause-kept : goal.returns-clause-kept
+returns-clause-kept c = record { countable = λ few. few; keeps = record { core = ap (λ (l : List Tagged). length l) c.cut_call.ensures.core; sectors = refl; halt = refl; names = refl } }

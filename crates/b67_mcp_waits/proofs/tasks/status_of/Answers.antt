@@ -8,7 +8,8 @@ use Rattle.b67_layout.proofs.Fresh.{running_in_order}
 use Rattle.b67_mcp_call.specs.Answered.{job_answered}
 use Rattle.b67_mcp_call.proofs.Standing.{machine_answered, same_size}
 use Rattle.b67_mcp_waits.proofs.Arguments.{status_is, may_number}
-use Rattle.b67_mcp_waits.proofs.Made.{runs_some, call_some, kept_same, has_job, answers_critical, answers_one}
+use Rattle.b67_mcp_waits.proofs.Made.{runs_some, call_some, has_job, answers_critical, answers_one}
+use Rattle.b67_task_tables.proofs.Keeping.{kept_same}
 use Rattle.b67_mcp_waits.proofs.tasks.status_of.Goals as goal
 
 pub number_in-requires : goal.number_in-requires
@@ -18,8 +19,8 @@ pub returns-in-Err-clause-row : goal.returns-in-Err-clause-row
 returns-in-Err-clause-row c = λ x told plan s m t o h runs r arguments call.
     (status_is (here m t c.args.next) arguments ∙ ap (λ (a : Answer ℤ). a >>= λ n. answers (here m t c.args.next) m.progress.job (Operand (status_of m.progress.job n) ∷ []) [] None) (sym (c.in-Err.ensures x plan s m t o h.session runs r arguments call)), refl)
 
-pub returns-in-Err-clause-keeps : goal.returns-in-Err-clause-keeps
-returns-in-Err-clause-keeps c = kept_same c.args.machine.now
+pub returns-in-Err-clause-kept : goal.returns-in-Err-clause-kept
+returns-in-Err-clause-kept c = kept_same c.args.machine.now
 
 pub is_critical-requires : goal.is_critical-requires
 is_critical-requires c = runs_some c.args.machine.now c.requires.call.runs
@@ -32,8 +33,8 @@ returns-then-is_critical-clause-row c = λ x told plan s m t o h runs r argument
       refl,
     ))
 
-pub returns-then-is_critical-clause-keeps : goal.returns-then-is_critical-clause-keeps
-returns-then-is_critical-clause-keeps c = kept_same c.args.machine.now
+pub returns-then-is_critical-clause-kept : goal.returns-then-is_critical-clause-kept
+returns-then-is_critical-clause-kept c = kept_same c.args.machine.now
 
 pub running_job-job-requires : goal.running_job-job-requires
 running_job-job-requires c = c.requires.call.runs
@@ -82,8 +83,8 @@ returns-clause-row c = λ x told plan s m t o h runs r arguments call.
       printed = refl;
     })
 
-pub returns-clause-keeps : goal.returns-clause-keeps
-returns-clause-keeps c =
+pub returns-clause-kept : goal.returns-clause-kept
+returns-clause-kept c =
     let q = c.requires.call.runs in
     let k = c.requires.call in
     let given = sym (c.in-Ok.ensures q.storage q.plan q.session q.member q.task q.ordered q.stands.session q.running k.reference k.arguments k.call) in
@@ -98,5 +99,4 @@ returns-clause-keeps c =
         halt = refl;
         names = refl;
       };
-      sectors = refl;
     }

@@ -8,7 +8,7 @@ use Rattle.b67_mcp.specs.Running.{JobsHaveRoom}
 use Rattle.b67_session.specs.Attempts.{WantsNothing, HoleFits}
 use Rattle.b67_mcp.specs.declared.ends.Stop.TheVariants.{BackingFull}
 use Rattle.b67_session.specs.declared.outcomes.Attempt.TheVariants.{Made, Ends, Waits}
-use Rattle.b67_session.proofs.Composed.{made_once, ends_once, waits_once, stops_once, never, unchanged_over, goes_on_telling, stopped_attempt, runs_over, wants_some, tables_after_end, tables_after_wait, tables_after_want, tables_after_stop, tables_stay, tables_from, room_after_stop, may_call, stop_calls, attempt_as, same_needs, still_told, other, in_order, then_on, room_after_want, code_there, still_holds, held_from, held_till, not_full_as, not_full_ok, not_full_once, tells_once, hole_for, then_nothing, no_call, keeps_areas, areas_kept, not_made}
+use Rattle.b67_session.proofs.Composed.{made_once, ends_once, waits_once, stops_once, never, unchanged_over, goes_on_telling, stopped_attempt, runs_over, wants_some, tables_after_end, tables_after_wait, tables_after_want, tables_after_stop, tables_stay, tables_from, room_after_stop, may_call, stop_calls, attempt_as, same_needs, still_told, other, in_order, then_on, room_after_want, code_there, still_holds, held_from, held_till, not_full_as, not_full_ok, not_full_once, tells_once, hole_for, then_nothing, no_call, keeps_areas, areas_kept, hole_wants, not_made}
 use Rattle.b67_session.proofs.Runs.{ready_over, caused_none, caused_stop, caused_want, caused_later, kept_then, kept_tasks}
 use Rattle.b67_session.proofs.attempting.attempt.Goals as goal
 
@@ -32,7 +32,7 @@ with_code-requires-clause-runs g c =
     let same = tried.quiet (λ w. w) in
     let w = tried.row r.stands.says in
     let k = unchanged_over r.storage (B.holds c.args.backing.now) (B.holds c.try_once.new.backing) r.plan r.session c.args.machine.now c.try_once.new.machine w.3 (ap B.holds same) r.stands in
-    let b = c.in-Ok.ensures.row r.storage r.plan r.session r.member r.task w.0 r.ordered k r.running w.1 w.2 in
+    let b = (c.in-Ok.ensures.row r.storage r.plan r.session r.member r.task w.0 r.ordered k r.running w.1).meets w.2 in
     runs_over r.storage (B.holds c.bring_wanted.new.backing) c.bring_wanted.new.machine r.plan r.session r.member r.task r.ordered r.running c.in-Ok-Absent.wanted b r.ready
 
 pub returns-in-Ok-Made-clause-row : goal.returns-in-Ok-Made-clause-row
@@ -46,6 +46,7 @@ returns-in-Ok-Made-clause-row g c = λ x plan s m t o h runs ready.
       quiet = λ nothing same. tried.quiet (λ w. same (may_call x plan m t w));
       hole = λ exact fits none. record { written = still_holds B.holds c.args.backing.now c.try_once.new.backing (tried.quiet (λ w. none (may_call x plan m t w))); not_full = not_full_ok Made };
       areas = λ nothing e. keeps_areas g.K.Sink.taken x (content_after x.device (B.holds c.try_once.new.backing)) c.args.machine.now.tasks.printed plan s m t c.try_once.new.machine c.args.paper.now c.try_once.new.paper (tried.row h.says);
+      outcome = λ nothing. tt;
       sum = λ nothing sum size e. absurd (let b : ⊥ = cc in b);
     }
 
@@ -61,6 +62,7 @@ returns-in-Ok-Ends-clause-row g c = λ x plan s m t o h runs ready.
       quiet = λ nothing same. quiet;
       hole = λ exact fits none. record { written = still_holds B.holds c.args.backing.now c.try_once.new.backing quiet; not_full = not_full_ok (Ends c.in-Ok-Ends.ending) };
       areas = λ nothing e. absurd (let b : ⊥ = cc in b);
+      outcome = λ nothing. (tried.row h.says).0;
       sum = λ nothing sum size e. absurd (let b : ⊥ = cc in b);
     }
 
@@ -76,6 +78,7 @@ returns-in-Ok-Waits-clause-row g c = λ x plan s m t o h runs ready.
       quiet = λ nothing same. quiet;
       hole = λ exact fits none. record { written = still_holds B.holds c.args.backing.now c.try_once.new.backing quiet; not_full = not_full_ok (Waits c.in-Ok-Waits.state) };
       areas = λ nothing e. absurd (let b : ⊥ = cc in b);
+      outcome = λ nothing. (tried.row h.says).0;
       sum = λ nothing sum size e. absurd (let b : ⊥ = cc in b);
     }
 
@@ -95,6 +98,7 @@ returns-in-Err-clause-row g c = λ x plan s m t o h runs ready.
         not_full = not_full_once g.K.Sink.taken (content_after x.device (B.holds c.try_once.new.backing)) (B.size c.args.backing.now) x plan s m t c.args.machine.now c.try_once.new.machine c.args.paper.now c.try_once.new.paper c.in-Err.stop (tried.row h.says) none;
       };
       areas = λ nothing e. absurd (let b : ⊥ = cc in b);
+      outcome = λ nothing. tt;
       sum = λ nothing sum size e.
           tells_once g.K.Sink.taken (content_after x.device (B.holds c.try_once.new.backing)) (B.size c.args.backing.now) x plan s m t c.args.machine.now c.try_once.new.machine c.args.paper.now c.try_once.new.paper c.in-Err.stop sum size (tried.row h.says)
           (let is : c.in-Err.stop ≡ BackingFull sum size = cc in is);
@@ -112,17 +116,19 @@ returns-in-Err-bring_wanted-clause-row g c = λ x plan s m t o h runs ready.
     let size = length c.try_once.new.machine.cpu.core in
     let many = B.size c.try_once.new.backing in
     let core = ap (λ (z : Machine). length z.cpu.core) w.3 in
+    let brought = c.in-Err-bring_wanted.ensures.row x plan s m t w.0 o k runs w.1 in
     record {
       meets = attempt_as g.K.Sink.taken x after after size (length c.args.machine.now.cpu.core) many (B.size c.args.backing.now) printed printed plan s t (Err c.in-Err-bring_wanted.stop) c.bring_wanted.new.machine
           c.args.paper.now c.try_once.new.paper c.try_once.new.paper refl core (ap B.size same) refl w.4
-          (stopped_attempt g.K.Sink.taken x after size many printed plan s t c.in-Err-bring_wanted.stop c.bring_wanted.new.machine c.try_once.new.paper (c.in-Err-bring_wanted.ensures.row x plan s m t w.0 o k runs w.1 w.2));
+          (stopped_attempt g.K.Sink.taken x after size many printed plan s t c.in-Err-bring_wanted.stop c.bring_wanted.new.machine c.try_once.new.paper (brought.meets w.2));
       fits = λ tells. room_after_want (length c.args.machine.now.cpu.core) size x plan s m t c.in-Err-bring_wanted.stop core
-          (λ e. c.in-Err-bring_wanted.ensures.silent (ap Err e)) (c.in-Err-bring_wanted.ensures.fits x plan s m t w.0 o k runs w.1 w.2);
+          (λ e. c.in-Err-bring_wanted.ensures.silent (ap Err e)) (brought.fits w.2);
       quiet = λ nothing same. absurd (never g.K.Sink.taken (content_after x.device (B.holds c.try_once.new.backing)) (B.size c.args.backing.now) x plan s m t c.args.machine.now c.try_once.new.machine c.args.paper.now c.try_once.new.paper c.in-Ok-Absent.wanted nothing w);
       hole = λ exact fits none.
-          let into = c.in-Err-bring_wanted.ensures.hole x plan s m t w.0 o k runs w.1 (hole_for x plan s m t o runs c.in-Ok-Absent.wanted w.0 w.1 w.2 fits) in
+          let into = brought.hole (hole_for x plan s m t o runs c.in-Ok-Absent.wanted w.0 w.1 w.2 fits) in
           record { written = held_from B.holds c.args.backing.now c.try_once.new.backing c.bring_wanted.new.backing same into.used.written; not_full = not_full_as c.in-Err-bring_wanted.stop into.used.not_full };
       areas = λ nothing e. absurd (not_made c.in-Err-bring_wanted.stop Made e);
+      outcome = λ nothing. tt;
       sum = λ nothing. absurd (never g.K.Sink.taken (content_after x.device (B.holds c.try_once.new.backing)) (B.size c.args.backing.now) x plan s m t c.args.machine.now c.try_once.new.machine c.args.paper.now c.try_once.new.paper c.in-Ok-Absent.wanted nothing w);
     }
 
@@ -138,25 +144,27 @@ returns-in-Ok-clause-row g c = λ x plan s m t o h runs ready.
     let same = tried.quiet (λ w. w) in
     let w = tried.row h.says in
     let k = unchanged_over x told mid plan s c.args.machine.now c.try_once.new.machine w.3 (ap B.holds same) h in
-    let b = c.in-Ok.ensures.row x plan s m t w.0 o k runs w.1 w.2 in
-    let printed = ap (λ (z : Tasks). z.printed) c.bring_wanted.ensures.tasks ∙ ap (λ (z : Machine). z.tasks.printed) w.3 in
+    let brought = c.in-Ok.ensures.row x plan s m t w.0 o k runs w.1 in
+    let b = brought.meets w.2 in
+    let printed = ap (λ (z : Tasks). z.printed) c.bring_wanted.ensures.keeps.tasks ∙ ap (λ (z : Machine). z.tasks.printed) w.3 in
     let tells = goes_on_telling x.device mid told' k.says (still_tells B.holds B.size B.calls B.faults c.try_once.new.backing c.bring_wanted.new.backing c.bring_wanted.ensures.device) in
-    let core = c.bring_wanted.ensures.len ∙ ap (λ (z : Machine). length z.cpu.core) w.3 in
+    let core = c.bring_wanted.ensures.keeps.core ∙ ap (λ (z : Machine). length z.cpu.core) w.3 in
     let r = other x told' new plan s m t o runs found b in
     let code = code_there x told' new plan s m t o runs found b in
     record {
       meets = then_on g.K.Sink.taken x told' (B.holds c.with_code.new.backing) new c.with_code.new.machine (length c.args.machine.now.cpu.core) (B.size c.args.backing.now) c.args.machine.now.tasks.printed plan s m t o runs found b ready
           tells c.with_code.result c.args.paper.now c.try_once.new.paper c.with_code.new.paper w.4 printed (length new.cpu.core) (B.size c.bring_wanted.new.backing) core (c.bring_wanted.ensures.device.size ∙ ap B.size same)
-          (λ y p n u. code_area y p n u ≢ None) code c.with_code.ensures.row;
+          (λ y p n u. code_area y p n u ≢ None) code
+          (λ y p z n u order stands runs' ready' premise. (c.with_code.ensures.row y p z n u order stands runs' ready').meets premise);
       fits = λ exact. same_needs x told' new plan s m t o runs found b exact tells (length new.cpu.core) (length c.args.machine.now.cpu.core) c.with_code.result core
-          (c.with_code.ensures.fits b.again.storage plan (record s { jobs = b.again.jobs }) r.member t (in_order x told' new plan s m t o runs found b) b.again.stands r.runs ready code
+          ((c.with_code.ensures.row b.again.storage plan (record s { jobs = b.again.jobs }) r.member t (in_order x told' new plan s m t o runs found b) b.again.stands r.runs ready).fits code
           (still_told x told' new plan s m t o runs found b exact tells));
       quiet = λ nothing same. absurd (never g.K.Sink.taken (content_after x.device mid) (B.size c.args.backing.now) x plan s m t c.args.machine.now c.try_once.new.machine c.args.paper.now c.try_once.new.paper found nothing w);
       hole = λ exact fits none.
-          let into = c.in-Ok.ensures.hole x plan s m t w.0 o k runs w.1 (hole_for x plan s m t o runs found w.0 w.1 w.2 fits) in
+          let into = brought.hole (hole_for x plan s m t o runs found w.0 w.1 w.2 fits) in
           let placed = into.in_place.brings in
           let there = other x told' new plan s m t o runs found placed in
-          let calm = c.with_code.ensures.calm placed.again.storage plan (record s { jobs = placed.again.jobs }) there.member t (in_order x told' new plan s m t o runs found placed) placed.again.stands there.runs ready
+          let calm = (c.with_code.ensures.row placed.again.storage plan (record s { jobs = placed.again.jobs }) there.member t (in_order x told' new plan s m t o runs found placed) placed.again.stands there.runs ready).calm
           (then_nothing x told' new plan s m t o runs found placed w.0 fits w.1 w.2 into.in_place.areas exact) (no_call x told' new plan s m t o runs found placed exact none) in
           record {
             written = held_till B.holds c.args.backing.now c.bring_wanted.new.backing c.with_code.new.backing calm.same
@@ -166,14 +174,15 @@ returns-in-Ok-clause-row g c = λ x plan s m t o h runs ready.
       areas = λ calm made. ⊎_elim
           (λ (nothing : WantsNothing x plan m t). absurd (never g.K.Sink.taken (content_after x.device mid) (B.size c.args.backing.now) x plan s m t c.args.machine.now c.try_once.new.machine c.args.paper.now c.try_once.new.paper found nothing w))
           (λ (fits : (x.device ≢ None) × HoleFits x plan m t).
-          let into = c.in-Ok.ensures.hole x plan s m t w.0 o k runs w.1 (hole_for x plan s m t o runs found w.0 w.1 w.2 fits.1) in
+          let into = brought.hole (hole_for x plan s m t o runs found w.0 w.1 w.2 fits.1) in
           let placed = into.in_place.brings in
           let there = other x told' new plan s m t o runs found placed in
           areas_kept g.K.Sink.taken x told' (B.holds c.with_code.new.backing) new c.with_code.new.machine c.args.machine.now.tasks.printed new.tasks.printed plan s m t o runs found placed fits.0 tells
-          c.args.paper.now c.try_once.new.paper c.with_code.new.paper w.4 printed into.in_place.areas
-          (c.with_code.ensures.areas placed.again.storage plan (record s { jobs = placed.again.jobs }) there.member t (in_order x told' new plan s m t o runs found placed) placed.again.stands there.runs ready
+          c.args.paper.now c.try_once.new.paper c.with_code.new.paper w.4 printed into.in_place.areas (hole_wants x plan m t fits.1)
+          ((c.with_code.ensures.row placed.again.storage plan (record s { jobs = placed.again.jobs }) there.member t (in_order x told' new plan s m t o runs found placed) placed.again.stands there.runs ready).areas
           (then_nothing x told' new plan s m t o runs found placed w.0 fits.1 w.1 w.2 into.in_place.areas fits.0) made))
           calm;
+      outcome = λ nothing. absurd (never g.K.Sink.taken (content_after x.device mid) (B.size c.args.backing.now) x plan s m t c.args.machine.now c.try_once.new.machine c.args.paper.now c.try_once.new.paper found nothing w);
       sum = λ nothing. absurd (never g.K.Sink.taken (content_after x.device mid) (B.size c.args.backing.now) x plan s m t c.args.machine.now c.try_once.new.machine c.args.paper.now c.try_once.new.paper found nothing w);
     }
 
@@ -227,7 +236,7 @@ returns-in-Err-bring_wanted-clause-tables g c =
     let r = c.requires.runs in
     let same = tables_after_want g.K.Sink.taken (content_after r.storage.device (B.holds c.try_once.new.backing)) (B.size c.args.backing.now) r.storage r.plan r.session r.member r.task c.args.machine.now c.try_once.new.machine c.args.paper.now c.try_once.new.paper c.in-Ok-Absent.wanted
     (((rw c.in-Ok-Absent.field-0-is at c.in-Ok-Absent.ensures.tried) r.storage r.storage.device r.plan r.session r.member r.task r.ordered r.stands.stands r.running r.ready).row r.stands.says) in
-    tables_stay c.in-Err-bring_wanted.stop c.args.machine.now.tasks c.bring_wanted.new.machine.tasks (λ e. c.in-Err-bring_wanted.ensures.silent (ap Err e)) (c.bring_wanted.ensures.tasks ∙ same)
+    tables_stay c.in-Err-bring_wanted.stop c.args.machine.now.tasks c.bring_wanted.new.machine.tasks (λ e. c.in-Err-bring_wanted.ensures.silent (ap Err e)) (c.bring_wanted.ensures.keeps.tasks ∙ same)
 
 pub returns-in-Ok-clause-tables : goal.returns-in-Ok-clause-tables
 returns-in-Ok-clause-tables g c =
@@ -235,15 +244,15 @@ returns-in-Ok-clause-tables g c =
     let r = c.requires.runs in
     let same = tables_after_want g.K.Sink.taken (content_after r.storage.device (B.holds c.try_once.new.backing)) (B.size c.args.backing.now) r.storage r.plan r.session r.member r.task c.args.machine.now c.try_once.new.machine c.args.paper.now c.try_once.new.paper c.in-Ok-Absent.wanted
     (((rw c.in-Ok-Absent.field-0-is at c.in-Ok-Absent.ensures.tried) r.storage r.storage.device r.plan r.session r.member r.task r.ordered r.stands.stands r.running r.ready).row r.stands.says) in
-    tables_from c.with_code.result c.args.machine.now.tasks c.bring_wanted.new.machine.tasks c.with_code.new.machine.tasks (c.bring_wanted.ensures.tasks ∙ same) c.with_code.ensures.tables
+    tables_from c.with_code.result c.args.machine.now.tasks c.bring_wanted.new.machine.tasks c.with_code.new.machine.tasks (c.bring_wanted.ensures.keeps.tasks ∙ same) c.with_code.ensures.tables
 
 pub returns-in-Err-bring_wanted-clause-kept : goal.returns-in-Err-bring_wanted-clause-kept
-returns-in-Err-bring_wanted-clause-kept g c = kept_then c.args.machine.now c.try_once.new.machine c.bring_wanted.new.machine (record { countable = λ k. c.try_once.ensures.countable; keeps = c.try_once.ensures.keeps }) (kept_tasks c.try_once.new.machine c.bring_wanted.new.machine c.bring_wanted.ensures.tasks c.bring_wanted.ensures.len c.bring_wanted.ensures.count)
+returns-in-Err-bring_wanted-clause-kept g c = kept_then c.args.machine.now c.try_once.new.machine c.bring_wanted.new.machine (record { countable = λ k. c.try_once.ensures.countable; keeps = c.try_once.ensures.keeps }) (kept_tasks c.try_once.new.machine c.bring_wanted.new.machine c.bring_wanted.ensures.keeps.tasks c.bring_wanted.ensures.keeps.core c.bring_wanted.ensures.keeps.sectors)
 
 pub returns-in-Ok-clause-kept : goal.returns-in-Ok-clause-kept
 returns-in-Ok-clause-kept g c =
     kept_then c.args.machine.now c.try_once.new.machine c.with_code.new.machine (record { countable = λ k. c.try_once.ensures.countable; keeps = c.try_once.ensures.keeps })
-    (kept_then c.try_once.new.machine c.bring_wanted.new.machine c.with_code.new.machine (kept_tasks c.try_once.new.machine c.bring_wanted.new.machine c.bring_wanted.ensures.tasks c.bring_wanted.ensures.len c.bring_wanted.ensures.count) c.with_code.ensures.kept)
+    (kept_then c.try_once.new.machine c.bring_wanted.new.machine c.with_code.new.machine (kept_tasks c.try_once.new.machine c.bring_wanted.new.machine c.bring_wanted.ensures.keeps.tasks c.bring_wanted.ensures.keeps.core c.bring_wanted.ensures.keeps.sectors) c.with_code.ensures.kept)
 
 pub returns-in-Err-bring_wanted-clause-device : goal.returns-in-Err-bring_wanted-clause-device
 returns-in-Err-bring_wanted-clause-device g c =
@@ -262,4 +271,4 @@ with_code-requires-clause-jobs g c =
     let r = c.requires.runs in
     let same = tables_after_want g.K.Sink.taken (content_after r.storage.device (B.holds c.try_once.new.backing)) (B.size c.args.backing.now) r.storage r.plan r.session r.member r.task c.args.machine.now c.try_once.new.machine c.args.paper.now c.try_once.new.paper c.in-Ok-Absent.wanted
     (((rw c.in-Ok-Absent.field-0-is at c.in-Ok-Absent.ensures.tried) r.storage r.storage.device r.plan r.session r.member r.task r.ordered r.stands.stands r.running r.ready).row r.stands.says) in
-    subst (λ (z : Tasks). JobsHaveRoom z.jobs) (sym (c.bring_wanted.ensures.tasks ∙ same)) (record { countable = c.requires.countable; number = c.requires.number })
+    subst (λ (z : Tasks). JobsHaveRoom z.jobs) (sym (c.bring_wanted.ensures.keeps.tasks ∙ same)) c.requires.jobs

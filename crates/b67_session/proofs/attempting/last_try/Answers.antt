@@ -11,60 +11,73 @@ pub try_once-requires-clause-runs : goal.try_once-requires-clause-runs
 try_once-requires-clause-runs g c = ready_over c.args.machine.now (g.B.Backing.holds c.args.backing.now) c.requires.runs
 
 pub returns-in-Ok-Made-clause-row : goal.returns-in-Ok-Made-clause-row
-returns-in-Ok-Made-clause-row g c = λ x plan s m t o h runs ready none.
+returns-in-Ok-Made-clause-row g c = λ x plan s m t o h runs ready.
     let B = g.B.Backing in
-    made_once B.holds g.K.Sink.taken c.args.backing.now c.try_once.new.backing x (B.size c.args.backing.now) plan s m t o runs c.args.machine.now c.try_once.new.machine h c.args.paper.now c.try_once.new.paper
-    (((rw c.in-Ok-Made.field-0-is at c.in-Ok-Made.ensures.tried) x x.device plan s m t o h.stands runs ready).row h.says)
+    let tried = (rw c.in-Ok-Made.field-0-is at c.in-Ok-Made.ensures.tried) x x.device plan s m t o h.stands runs ready in
+    record {
+      meets = λ none.
+          made_once B.holds g.K.Sink.taken c.args.backing.now c.try_once.new.backing x (B.size c.args.backing.now) plan s m t o runs c.args.machine.now c.try_once.new.machine h c.args.paper.now c.try_once.new.paper
+          (tried.row h.says);
+      fits = λ none. tried.fits;
+      calm = λ none. record { same = tried.quiet (λ w. none (may_call x plan m t w)); not_full = not_full_ok Made };
+    }
 
 pub returns-in-Ok-Ends-clause-row : goal.returns-in-Ok-Ends-clause-row
-returns-in-Ok-Ends-clause-row g c = λ x plan s m t o h runs ready none.
+returns-in-Ok-Ends-clause-row g c = λ x plan s m t o h runs ready.
     let B = g.B.Backing in
     let tried = (rw c.in-Ok-Ends.field-0-is at c.in-Ok-Ends.ensures.tried) x x.device plan s m t o h.stands runs ready in
-    ends_once B.holds g.K.Sink.taken c.args.backing.now c.try_once.new.backing x (B.size c.args.backing.now) plan s m t o runs c.args.machine.now c.try_once.new.machine h c.args.paper.now c.try_once.new.paper c.in-Ok-Ends.ending
-    (tried.quiet (λ w. w))
-    (tried.row h.says)
+    let quiet = tried.quiet (λ w. w) in
+    record {
+      meets = λ none.
+          ends_once B.holds g.K.Sink.taken c.args.backing.now c.try_once.new.backing x (B.size c.args.backing.now) plan s m t o runs c.args.machine.now c.try_once.new.machine h c.args.paper.now c.try_once.new.paper c.in-Ok-Ends.ending
+          quiet (tried.row h.says);
+      fits = λ none. tried.fits;
+      calm = λ none. record { same = quiet; not_full = not_full_ok (Ends c.in-Ok-Ends.ending) };
+    }
 
 pub returns-in-Ok-Waits-clause-row : goal.returns-in-Ok-Waits-clause-row
-returns-in-Ok-Waits-clause-row g c = λ x plan s m t o h runs ready none.
+returns-in-Ok-Waits-clause-row g c = λ x plan s m t o h runs ready.
     let B = g.B.Backing in
     let tried = (rw c.in-Ok-Waits.field-0-is at c.in-Ok-Waits.ensures.tried) x x.device plan s m t o h.stands runs ready in
-    waits_once B.holds g.K.Sink.taken c.args.backing.now c.try_once.new.backing x (B.size c.args.backing.now) plan s m t o runs c.args.machine.now c.try_once.new.machine h c.args.paper.now c.try_once.new.paper c.in-Ok-Waits.state
-    (tried.quiet (λ w. w))
-    (tried.row h.says)
+    let quiet = tried.quiet (λ w. w) in
+    record {
+      meets = λ none.
+          waits_once B.holds g.K.Sink.taken c.args.backing.now c.try_once.new.backing x (B.size c.args.backing.now) plan s m t o runs c.args.machine.now c.try_once.new.machine h c.args.paper.now c.try_once.new.paper c.in-Ok-Waits.state
+          quiet (tried.row h.says);
+      fits = λ none. tried.fits;
+      calm = λ none. record { same = quiet; not_full = not_full_ok (Waits c.in-Ok-Waits.state) };
+    }
 
 pub returns-in-Ok-Absent-clause-row : goal.returns-in-Ok-Absent-clause-row
-returns-in-Ok-Absent-clause-row g c = λ x plan s m t o h runs ready none.
+returns-in-Ok-Absent-clause-row g c = λ x plan s m t o h runs ready.
     let B = g.B.Backing in
     let tried = (rw c.in-Ok-Absent.field-0-is at c.in-Ok-Absent.ensures.tried) x x.device plan s m t o h.stands runs ready in
-    gives_up_once B.holds g.K.Sink.taken c.args.backing.now c.try_once.new.backing x (B.size c.args.backing.now) plan s m t o runs c.args.machine.now c.try_once.new.machine h c.args.paper.now c.try_once.new.paper c.in-Ok-Absent.field-0-0
-    (tried.quiet (λ w. w)) none
-    (tried.row h.says)
+    let quiet = tried.quiet (λ w. w) in
+    record {
+      meets = λ none.
+          gives_up_once B.holds g.K.Sink.taken c.args.backing.now c.try_once.new.backing x (B.size c.args.backing.now) plan s m t o runs c.args.machine.now c.try_once.new.machine h c.args.paper.now c.try_once.new.paper c.in-Ok-Absent.field-0-0
+          quiet none (tried.row h.says);
+      fits = λ none.
+          absurd (never g.K.Sink.taken (content_after x.device (B.holds c.try_once.new.backing)) (B.size c.args.backing.now) x plan s m t c.args.machine.now c.try_once.new.machine c.args.paper.now c.try_once.new.paper c.in-Ok-Absent.field-0-0 none
+          (tried.row h.says));
+      calm = λ none. record { same = quiet; not_full = not_full_ok (Ends (Faulted InvalidOperator)) };
+    }
 
 pub returns-in-Err-clause-row : goal.returns-in-Err-clause-row
-returns-in-Err-clause-row g c = λ x plan s m t o h runs ready none.
+returns-in-Err-clause-row g c = λ x plan s m t o h runs ready.
     let B = g.B.Backing in
     let tried = c.in-Err.ensures.tried x x.device plan s m t o h.stands runs ready in
-    stops_once B.holds g.K.Sink.taken c.args.backing.now c.try_once.new.backing x (B.size c.args.backing.now) plan s m t o runs c.args.machine.now c.try_once.new.machine h c.args.paper.now c.try_once.new.paper c.in-Err.stop
-    tried.quiet tried.fits (tried.row h.says)
-
-pub returns-in-Ok-Made-clause-fits : goal.returns-in-Ok-Made-clause-fits
-returns-in-Ok-Made-clause-fits g c = λ x plan s m t o h runs ready none. ((rw c.in-Ok-Made.field-0-is at c.in-Ok-Made.ensures.tried) x x.device plan s m t o h.stands runs ready).fits
-
-pub returns-in-Ok-Ends-clause-fits : goal.returns-in-Ok-Ends-clause-fits
-returns-in-Ok-Ends-clause-fits g c = λ x plan s m t o h runs ready none. ((rw c.in-Ok-Ends.field-0-is at c.in-Ok-Ends.ensures.tried) x x.device plan s m t o h.stands runs ready).fits
-
-pub returns-in-Ok-Waits-clause-fits : goal.returns-in-Ok-Waits-clause-fits
-returns-in-Ok-Waits-clause-fits g c = λ x plan s m t o h runs ready none. ((rw c.in-Ok-Waits.field-0-is at c.in-Ok-Waits.ensures.tried) x x.device plan s m t o h.stands runs ready).fits
-
-pub returns-in-Ok-Absent-clause-fits : goal.returns-in-Ok-Absent-clause-fits
-returns-in-Ok-Absent-clause-fits g c = λ x plan s m t o h runs ready none.
-    let B = g.B.Backing in
-    absurd (never g.K.Sink.taken (content_after x.device (B.holds c.try_once.new.backing)) (B.size c.args.backing.now) x plan s m t c.args.machine.now c.try_once.new.machine c.args.paper.now c.try_once.new.paper c.in-Ok-Absent.field-0-0 none
-    (((rw c.in-Ok-Absent.field-0-is at c.in-Ok-Absent.ensures.tried) x x.device plan s m t o h.stands runs ready).row h.says))
-
-pub returns-in-Err-clause-fits : goal.returns-in-Err-clause-fits
-returns-in-Err-clause-fits g c = λ x plan s m t o h runs ready none.
-    room_after_stop (length c.args.machine.now.cpu.core) x plan s m t c.in-Err.stop (c.in-Err.ensures.tried x x.device plan s m t o h.stands runs ready).fits
+    let after = content_after x.device (B.holds c.try_once.new.backing) in
+    record {
+      meets = λ none.
+          stops_once B.holds g.K.Sink.taken c.args.backing.now c.try_once.new.backing x (B.size c.args.backing.now) plan s m t o runs c.args.machine.now c.try_once.new.machine h c.args.paper.now c.try_once.new.paper c.in-Err.stop
+          tried.quiet tried.fits (tried.row h.says);
+      fits = λ none. room_after_stop (length c.args.machine.now.cpu.core) x plan s m t c.in-Err.stop tried.fits;
+      calm = λ none. record {
+        same = tried.quiet (λ w. none (stop_calls x plan m t c.in-Err.stop w));
+        not_full = not_full_once g.K.Sink.taken after (B.size c.args.backing.now) x plan s m t c.args.machine.now c.try_once.new.machine c.args.paper.now c.try_once.new.paper c.in-Err.stop (tried.row h.says) none;
+      };
+    }
 
 pub returns-in-Ok-Made-clause-causes : goal.returns-in-Ok-Made-clause-causes
 returns-in-Ok-Made-clause-causes g c = caused_none g.B.Backing.faults g.K.Sink.faults c.args.backing.now c.try_once.new.backing c.args.paper.now c.try_once.new.paper Made c.try_once.ensures.causes.printer.later
@@ -108,32 +121,3 @@ returns-in-Err-clause-tables g c =
     let r = c.requires.runs in
     tables_after_stop g.K.Sink.taken (content_after r.storage.device (B.holds c.try_once.new.backing)) (B.size c.args.backing.now) r.storage r.plan r.session r.member r.task c.args.machine.now c.try_once.new.machine c.args.paper.now c.try_once.new.paper c.in-Err.stop
     ((c.in-Err.ensures.tried r.storage r.storage.device r.plan r.session r.member r.task r.ordered r.stands.stands r.running r.ready).row r.stands.says)
-
-pub returns-in-Ok-Made-clause-calm : goal.returns-in-Ok-Made-clause-calm
-returns-in-Ok-Made-clause-calm g c = λ x plan s m t o h runs ready none.
-    let tried = (rw c.in-Ok-Made.field-0-is at c.in-Ok-Made.ensures.tried) x x.device plan s m t o h.stands runs ready in
-    record { same = tried.quiet (λ w. none (may_call x plan m t w)); not_full = not_full_ok Made }
-
-pub returns-in-Ok-Ends-clause-calm : goal.returns-in-Ok-Ends-clause-calm
-returns-in-Ok-Ends-clause-calm g c = λ x plan s m t o h runs ready none.
-    let tried = (rw c.in-Ok-Ends.field-0-is at c.in-Ok-Ends.ensures.tried) x x.device plan s m t o h.stands runs ready in
-    record { same = tried.quiet (λ w. w); not_full = not_full_ok (Ends c.in-Ok-Ends.ending) }
-
-pub returns-in-Ok-Waits-clause-calm : goal.returns-in-Ok-Waits-clause-calm
-returns-in-Ok-Waits-clause-calm g c = λ x plan s m t o h runs ready none.
-    let tried = (rw c.in-Ok-Waits.field-0-is at c.in-Ok-Waits.ensures.tried) x x.device plan s m t o h.stands runs ready in
-    record { same = tried.quiet (λ w. w); not_full = not_full_ok (Waits c.in-Ok-Waits.state) }
-
-pub returns-in-Ok-Absent-clause-calm : goal.returns-in-Ok-Absent-clause-calm
-returns-in-Ok-Absent-clause-calm g c = λ x plan s m t o h runs ready none.
-    let tried = (rw c.in-Ok-Absent.field-0-is at c.in-Ok-Absent.ensures.tried) x x.device plan s m t o h.stands runs ready in
-    record { same = tried.quiet (λ w. w); not_full = not_full_ok (Ends (Faulted InvalidOperator)) }
-
-pub returns-in-Err-clause-calm : goal.returns-in-Err-clause-calm
-returns-in-Err-clause-calm g c = λ x plan s m t o h runs ready none.
-    let B = g.B.Backing in
-    let tried = c.in-Err.ensures.tried x x.device plan s m t o h.stands runs ready in
-    record {
-      same = tried.quiet (λ w. none (stop_calls x plan m t c.in-Err.stop w));
-      not_full = not_full_once g.K.Sink.taken (content_after x.device (B.holds c.try_once.new.backing)) (B.size c.args.backing.now) x plan s m t c.args.machine.now c.try_once.new.machine c.args.paper.now c.try_once.new.paper c.in-Err.stop (tried.row h.says) none;
-    }

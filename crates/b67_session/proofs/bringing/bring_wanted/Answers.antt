@@ -1,4 +1,4 @@
-use Rattle.std.proofs.Common.{◌≡◌, Err, length, refl, ap, arith}
+use Rattle.std.proofs.Common.{◌≡◌, ◌<◌, Err, length, refl, ap, arith}
 use Rattle.b67_layout_step.proofs.OtherNumbers.{others_in_order}
 use Rattle.b67_backing.specs.declared.refusals.SpaceFault.TheVariants.{NoCore}
 use Rattle.b67_task_need.specs.Needing.{need_with}
@@ -20,48 +20,54 @@ stop_for-requires g c =
     }
 
 pub returns-in-Ok-clause-row : goal.returns-in-Ok-clause-row
-returns-in-Ok-clause-row g c = λ x plan s m t words o h runs wanted touched. (c.in-Ok.ensures.row x plan s m t words o h runs wanted).came
+returns-in-Ok-clause-row g c = λ x plan s m t words o h runs wanted.
+    let row = c.in-Ok.ensures.row x plan s m t words o h runs wanted in
+    record {
+      meets = λ touched. row.came;
+      fits = λ touched. tt;
+      hole = λ room.
+          let hole = row.hole room in
+          record { used = record { written = hole.1; not_full = λ sum size e. absurd (let b : ⊥ = cc in b) }; in_place = hole.3; untouched = λ zeros. (row.zeros room zeros).1 };
+    }
 
 pub returns-in-Err-clause-row : goal.returns-in-Err-clause-row
-returns-in-Err-clause-row g c = λ x plan s m t words o h runs wanted touched.
+returns-in-Err-clause-row g c = λ x plan s m t words o h runs wanted.
     let holds = g.B.Backing.holds in
     let k = c.args.machine.now in
+    let new = c.bring.new.machine in
+    let count = g.B.Backing.size c.args.backing.now in
     let row = c.in-Err.ensures.row x plan s m t words o h runs wanted in
-    stopped_so x (holds c.args.backing.now) (holds c.bring.new.backing) k c.bring.new.machine plan s m t (g.B.Backing.size c.args.backing.now) words c.args.wanted o h runs wanted touched
-    row.refused c.in-Err.fault c.stop_for.result c.stop_for.ensures
-    (omega (arith, c.requires.same, c.bring.ensures.keeps.count))
-    (λ need size e. (row.no_core need size).0 (ap Err e))
-    (λ above. let is = (row.no_core (need_with s m t 0 words) (length k.cpu.core)).1 (above, refl, refl) in
-    let z : c.in-Err.fault ≡ NoCore (need_with s m t 0 words) (length k.cpu.core) = cc in z)
-    (λ need size e. let (a, b) = c.in-Err.ensures.unchanged need size (ap Err e) in (a, ap holds b))
-    (λ wants free e. let z = row.full wants free (ap Err e) in (z.0, z.2))
-
-pub returns-in-Err-clause-fits : goal.returns-in-Err-clause-fits
-returns-in-Err-clause-fits g c = λ x plan s m t words o h runs wanted touched.
-    let k = c.args.machine.now in
-    let row = c.in-Err.ensures.row x plan s m t words o h runs wanted in
-    stopped_fits x (g.B.Backing.holds c.args.backing.now) (g.B.Backing.holds c.bring.new.backing) k c.bring.new.machine plan s m t (g.B.Backing.size c.args.backing.now) words c.args.wanted o h runs wanted touched
-    c.in-Err.fault c.stop_for.result c.stop_for.ensures
-    (λ above. let is = (row.no_core (need_with s m t 0 words) (length k.cpu.core)).1 (above, refl, refl) in
-    let z : c.in-Err.fault ≡ NoCore (need_with s m t 0 words) (length k.cpu.core) = cc in z)
-
-pub returns-in-Ok-clause-hole : goal.returns-in-Ok-clause-hole
-returns-in-Ok-clause-hole g c = λ x plan s m t words o h runs wanted room.
-    let row = c.in-Ok.ensures.row x plan s m t words o h runs wanted in
-    let hole = row.hole room in
-    record { used = record { written = hole.1; not_full = λ sum size e. absurd (let b : ⊥ = cc in b) }; in_place = hole.3; untouched = λ zeros. (row.zeros room zeros).1 }
-
-pub returns-in-Err-clause-hole : goal.returns-in-Err-clause-hole
-returns-in-Err-clause-hole g c = λ x plan s m t words o h runs wanted room.
-    let row = c.in-Err.ensures.row x plan s m t words o h runs wanted in
-    let hole = row.hole room in
+    let exactly : length k.cpu.core < need_with s m t 0 words → c.in-Err.fault ≡ NoCore (need_with s m t 0 words) (length k.cpu.core) = λ above.
+    let is = (row.no_core (need_with s m t 0 words) (length k.cpu.core)).1 (above, refl, refl) in
+    let z : c.in-Err.fault ≡ NoCore (need_with s m t 0 words) (length k.cpu.core) = cc in z in
     record {
-      used = record {
-        written = hole.1;
-        not_full = λ sum size e.
-            let (wants, free, is) = full_fault c.bring.new.machine c.in-Err.fault c.stop_for.result sum size c.stop_for.ensures (let z : c.stop_for.result ≡ BackingFull sum size = cc in z) in
-            (row.full wants free (ap Err is)).1 room;
-      };
-      in_place = tt;
-      untouched = λ zeros. (row.zeros room zeros).1;
+      meets = λ touched.
+          stopped_so x (holds c.args.backing.now) (holds c.bring.new.backing) k new plan s m t count words c.args.wanted o h runs wanted touched
+          row.refused c.in-Err.fault c.stop_for.result c.stop_for.ensures
+          (omega (arith, c.requires.same, c.bring.ensures.keeps.count))
+          (λ need size e. (row.no_core need size).0 (ap Err e))
+          exactly
+          (λ need size e. let (a, b) = c.in-Err.ensures.unchanged need size (ap Err e) in (a, ap holds b))
+          (λ wants free e. let z = row.full wants free (ap Err e) in (z.0, z.2));
+      fits = λ touched.
+          stopped_fits x (holds c.args.backing.now) (holds c.bring.new.backing) k new plan s m t count words c.args.wanted o h runs wanted touched
+          c.in-Err.fault c.stop_for.result c.stop_for.ensures exactly;
+      hole = λ room.
+          let hole = row.hole room in
+          record {
+            used = record {
+              written = hole.1;
+              not_full = λ sum size e.
+                  let (wants, free, is) = full_fault new c.in-Err.fault c.stop_for.result sum size c.stop_for.ensures (let z : c.stop_for.result ≡ BackingFull sum size = cc in z) in
+                  (row.full wants free (ap Err is)).1 room;
+            };
+            in_place = tt;
+            untouched = λ zeros. (row.zeros room zeros).1;
+          };
     }
+
+pub returns-in-Ok-clause-keeps : goal.returns-in-Ok-clause-keeps
+returns-in-Ok-clause-keeps g c = record { tasks = c.bring.ensures.tasks; core = c.bring.ensures.keeps.len; sectors = c.bring.ensures.keeps.count }
+
+pub returns-in-Err-clause-keeps : goal.returns-in-Err-clause-keeps
+returns-in-Err-clause-keeps g c = record { tasks = c.bring.ensures.tasks; core = c.bring.ensures.keeps.len; sectors = c.bring.ensures.keeps.count }

@@ -9,7 +9,8 @@ use Rattle.b67_session.specs.Attempts.{IsNotFull}
 use Rattle.b67_session.proofs.Composed.{not_full_ok}
 use Rattle.b67_session.specs.declared.slices.Progress.{Progress}
 use Rattle.b67_session.specs.declared.slices.Progress.TheVariants as progress
-use Rattle.b67_session.specs.Slices.{StandsAt, Keeps, StopsWithRoom, IfPresent}
+use Rattle.b67_task_tables.specs.declared.tables.Machine.{Machine}
+use Rattle.b67_session.specs.Slices.{StandsAt, Keeps, StopsWithRoom, StepKeepsAreas, IfPresent}
 use Rattle.b67_session.specs.Steps.{Steps}
 use Rattle.b67_session.proofs.Going.{Going, going-begins, going-lives, going-more, going-steps, going-stops, going-turn, keeps_on, begun_present, made_no_fewer, stop_rooms, stop_causes}
 use Rattle.b67_session.proofs.Pausing.{says_retold, still_told, known_still, retold_twice, pause_slices}
@@ -23,10 +24,10 @@ use Rattle.b67_session.proofs.slices.go_on.Goals as goal
 module _ (g : Over) (c : After-step g) where
   keeps : Keeps c.args.machine.now c.step.new.machine
   keeps = record {
-    core = c.step.ensures.keeps.core ∙ c.turn.invariant.keeps.core;
-    sectors = c.step.ensures.keeps.sectors ∙ c.turn.invariant.keeps.sectors;
-    halt = c.step.ensures.keeps.halt ∙ c.turn.invariant.keeps.halt;
-    names = c.step.ensures.keeps.names ∙ c.turn.invariant.keeps.names;
+    core = c.step.ensures.kept.keeps.core ∙ c.turn.invariant.keeps.core;
+    sectors = c.step.ensures.kept.keeps.sectors ∙ c.turn.invariant.keeps.sectors;
+    halt = c.step.ensures.kept.keeps.halt ∙ c.turn.invariant.keeps.halt;
+    names = c.step.ensures.kept.keeps.names ∙ c.turn.invariant.keeps.names;
   }
 
   module _ (said : Option (List (List ℕ))) (s : Session) (says : Says said (g.B.Backing.holds c.args.backing.now)) (h : StandsAt said c.args.machine.now s) where
@@ -63,7 +64,7 @@ module _ (g : Over) (c : After-step g) where
 pub turn-init : goal.turn-init
 turn-init g c = record {
   few = omega arith;
-  countable = c.requires.countable;
+  countable = c.requires.begins.countable;
   later = omega arith;
   device = Served-none g.B.Backing.holds g.B.Backing.size g.B.Backing.calls g.B.Backing.faults c.args.backing.now;
   keeps = record { core = refl; sectors = refl; halt = refl; names = refl };
@@ -75,16 +76,18 @@ turn-init g c = record {
   unprinted = λ none. refl;
   quiet = λ said s m t h says next few wants same. refl;
   written = λ said s m t h says next tells few fits none. record { told = λ all e. e };
+  areas = λ said s m t h job says next few alone hand more. absurd (omega (arith, more));
 }
 
-pub step-requires-clause-lives : goal.step-requires-clause-lives
-step-requires-clause-lives g c =
-    let l = c.requires.stands in
-    going-lives g.K.Sink.taken (l.said ≢ None) (content_after l.said (g.B.Backing.holds c.turn.backing)) 0 c.args.n c.turn.made l.session c.args.machine.now c.turn.machine c.args.paper.now c.turn.paper
-    (c.turn.invariant.going l.said l.session l.says l.stands) (g.B.Backing.holds c.turn.backing) (says_retold l.said (g.B.Backing.holds c.turn.backing)) c.in_default.ensures.0
-
 pub step-requires-clause-due : goal.step-requires-clause-due
-step-requires-clause-due g c = c.in_default.ensures.1
+step-requires-clause-due g c =
+    let l = c.requires.begins.stands in
+    record {
+      lives = going-lives g.K.Sink.taken (l.said ≢ None) (content_after l.said (g.B.Backing.holds c.turn.backing)) 0 c.args.n c.turn.made l.session c.args.machine.now c.turn.machine c.args.paper.now c.turn.paper
+          (c.turn.invariant.going l.said l.session l.says l.stands) (g.B.Backing.holds c.turn.backing) (says_retold l.said (g.B.Backing.holds c.turn.backing)) c.in_default.ensures.0;
+      before_halt = c.in_default.ensures.1;
+      countable = c.turn.invariant.countable;
+    }
 
 pub step-requires-clause-sized : goal.step-requires-clause-sized
 step-requires-clause-sized g c = omega (arith, c.turn.invariant.device.size, c.turn.invariant.keeps.sectors, c.requires.sized)
@@ -100,14 +103,14 @@ module _ (g : Over) (c : After-step g) (is : c.step.result ≡ Ok tt) (due : c.t
 pub go_on_with_turn-more-requires-clause-stands : goal.go_on_with_turn-more-requires-clause-stands
 go_on_with_turn-more-requires-clause-stands g c =
     let a = (goal.at.go_on_with_turn-more-requires-clause-stands g c).After-step in
-    let l = c.requires.stands in
+    let l = c.requires.begins.stands in
     let one = one_more g a c.in-Ok.is c.in_default.ensures.1 l.said l.session l.says l.stands in
     record { said = content_after l.said (g.B.Backing.holds c.step.new.backing); session = one.session; stands = one.stands }
 
 pub go_on_with_turn-more-requires-clause-unprinted : goal.go_on_with_turn-more-requires-clause-unprinted
 go_on_with_turn-more-requires-clause-unprinted g c =
     let a = (goal.at.go_on_with_turn-more-requires-clause-unprinted g c).After-step in
-    let l = c.requires.stands in
+    let l = c.requires.begins.stands in
     (one_more g a c.in-Ok.is c.in_default.ensures.1 l.said l.session l.says l.stands).texts.some (omega arith)
 
 pub turn-preserved : goal.turn-preserved
@@ -118,7 +121,7 @@ turn-preserved g c =
     let total : c.turn.made + (1 + more) ≡ c.turn.made + 1 + more = omega arith in
     record {
       few = omega (arith, c.go_on_with_turn-more.ensures.few);
-      countable = c.go_on_with_turn-more.ensures.countable c.step.ensures.countable;
+      countable = c.go_on_with_turn-more.ensures.countable (c.step.ensures.kept.countable c.turn.invariant.countable);
       later = omega (arith, c.turn.invariant.later, c.step.ensures.causes.printer.later);
       device = Served-then g.B.Backing.holds g.B.Backing.size g.B.Backing.calls g.B.Backing.faults c.args.backing.now c.turn.backing c.step.new.backing c.turn.invariant.device c.step.ensures.device;
       keeps = keeps_on c.args.machine.now c.step.new.machine c.go_on_with_turn-more.new.machine (keeps g a) c.go_on_with_turn-more.ensures.keeps;
@@ -135,6 +138,12 @@ turn-preserved g c =
       written = λ said s m t h says next tells few fits none.
           let later = made_no_fewer (stepped g a said s says h (Ok tt) is) in
           ((present g a said s says h m t next (Ok progress.More) later (omega arith) (λ room. tt) (λ whole. not_full_ok progress.More) (λ sum size e. absurd cc)).hole tells few fits none).written;
+      areas = λ said s m t h job says next few alone hand counted.
+          let later = made_no_fewer (stepped g a said s says h (Ok tt) is) in
+          let same : c.go_on_with_turn-more.new.machine ≡ c.step.new.machine = c.go_on_with_turn-more.ensures.rests (omega (arith, few)) in
+          let there = (present g a said s says h m t next (Ok progress.More) later (omega arith) (λ room. tt) (λ whole. not_full_ok progress.More) (λ sum size e. absurd cc)).areas job few alone hand
+          (ap (λ (z : Machine). z.tasks.made) (sym same) ∙ counted) in
+          subst (λ (z : Machine). StepKeepsAreas h.storage h.plan s m t job z) (sym same) there;
     }
 
 -- ---- the answers
@@ -149,6 +158,7 @@ returns-in-Some-clause-present g c = λ said s m t says h next.
     record {
       quiet = λ few wants. c.turn.invariant.quiet said s m t h says next few wants;
       hole = λ tells few fits none. record { written = c.turn.invariant.written said s m t h says next tells few fits none; not_full = not_full_ok c.in-Some.progress };
+      areas = λ job few alone hand more. c.turn.invariant.areas said s m t h job says next few alone hand more;
       sum = λ few wants sum size e. absurd (let b : ⊥ = cc in b);
       room = λ tells code none. tt;
     }
@@ -163,6 +173,7 @@ returns-in-Some-pause-clause-present g c = λ said s m t says h next.
     record {
       quiet = λ few wants. c.turn.invariant.quiet said s m t h says next few wants;
       hole = λ tells few fits none. record { written = c.turn.invariant.written said s m t h says next tells few fits none; not_full = not_full_ok c.in-Some-pause.progress };
+      areas = λ job few alone hand more. c.turn.invariant.areas said s m t h job says next few alone hand more;
       sum = λ few wants sum size e. absurd (let b : ⊥ = cc in b);
       room = λ tells code none. tt;
     }
@@ -177,6 +188,7 @@ returns-in-None-clause-present g c = λ said s m t says h next.
     record {
       quiet = λ few wants. c.turn.invariant.quiet said s m t h says next few wants;
       hole = λ tells few fits none. record { written = c.turn.invariant.written said s m t h says next tells few fits none; not_full = not_full_ok progress.More };
+      areas = λ job few alone hand more. c.turn.invariant.areas said s m t h job says next few alone hand more;
       sum = λ few wants sum size e. absurd (let b : ⊥ = cc in b);
       room = λ tells code none. tt;
     }
@@ -196,8 +208,17 @@ returns-in-Err-clause-present g c = λ said s m t says h next.
     (λ whole sum size e. whole sum size (c.in-Err.is ∙ ap Err (let is : c.in-Err.stop ≡ BackingFull sum size = cc in is)))
     (λ sum size e. c.in-Err.is ∙ ap Err (let is : c.in-Err.stop ≡ BackingFull sum size = cc in is))
 
-pub returns-in-Err-clause-keeps : goal.returns-in-Err-clause-keeps
-returns-in-Err-clause-keeps g c = keeps g (goal.at.returns-in-Err-clause-keeps g c).After-step
+pub returns-in-Err-clause-kept : goal.returns-in-Err-clause-kept
+returns-in-Err-clause-kept g c = record { countable = λ few. c.step.ensures.kept.countable c.turn.invariant.countable; keeps = keeps g (goal.at.returns-in-Err-clause-kept g c).After-step }
+
+pub returns-in-Some-clause-kept : goal.returns-in-Some-clause-kept
+returns-in-Some-clause-kept g c = record { countable = λ few. c.turn.invariant.countable; keeps = c.turn.invariant.keeps }
+
+pub returns-in-Some-pause-clause-kept : goal.returns-in-Some-pause-clause-kept
+returns-in-Some-pause-clause-kept g c = record { countable = λ few. c.turn.invariant.countable; keeps = c.turn.invariant.keeps }
+
+pub returns-in-None-clause-kept : goal.returns-in-None-clause-kept
+returns-in-None-clause-kept g c = record { countable = λ few. c.turn.invariant.countable; keeps = c.turn.invariant.keeps }
 
 pub returns-in-Err-clause-causes : goal.returns-in-Err-clause-causes
 returns-in-Err-clause-causes g c =

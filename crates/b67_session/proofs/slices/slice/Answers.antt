@@ -34,11 +34,11 @@ returns-then-is_empty-clause-resumed g c = λ said h part says l. absurd (limite
 
 -- ---- a step, if any
 
-pub go_on-requires-clause-stands : goal.go_on-requires-clause-stands
-go_on-requires-clause-stands g c = open_stands (g.B.Backing.holds c.args.backing.now) c.args.machine.now c.requires.open (some_rows c.args.machine.now.tasks c.if-is_empty.ensures) c.is_at_limit.ensures c.if-not-is_at_limit.true
-
-pub go_on-requires-clause-countable : goal.go_on-requires-clause-countable
-go_on-requires-clause-countable g c = c.requires.open.countable
+pub go_on-requires-clause-begins : goal.go_on-requires-clause-begins
+go_on-requires-clause-begins g c = record {
+  stands = open_stands (g.B.Backing.holds c.args.backing.now) c.args.machine.now c.requires.open (some_rows c.args.machine.now.tasks c.if-is_empty.ensures) c.is_at_limit.ensures c.if-not-is_at_limit.true;
+  countable = c.requires.open.countable;
+}
 
 pub returns-then-not-is_at_limit-clause-resumed : goal.returns-then-not-is_at_limit-clause-resumed
 returns-then-not-is_at_limit-clause-resumed g c = λ said h part says l. absurd (limited_not said c.args.machine.now h part l c.is_at_limit.ensures c.if-not-is_at_limit.true)
@@ -47,7 +47,7 @@ pub returns-then-not-is_at_limit-clause-complete : goal.returns-then-not-is_at_l
 returns-then-not-is_at_limit-clause-complete g c = λ said s tells says sets ample calm quiet.
     completes g.B.Backing.holds g.K.Sink.taken said (content_after said (g.B.Backing.holds c.go_on.new.backing)) (g.B.Backing.size c.args.backing.now) c.args.n c.go_on.result c.args.machine.now c.go_on.new.machine
     c.args.backing.now c.go_on.new.backing c.args.paper.now c.go_on.new.paper
-    (λ s h. c.go_on.ensures.row said s says h) (λ h part l. returns-then-not-is_at_limit-clause-resumed g c said h part says l) c.go_on.ensures.keeps tells s sets ample
+    (λ s h. c.go_on.ensures.row said s says h) (λ h part l. returns-then-not-is_at_limit-clause-resumed g c said h part says l) c.go_on.ensures.kept.keeps tells s sets ample
     (no_fault g.B.Backing.faults g.K.Sink.faults c.args.backing.now c.go_on.new.backing c.args.paper.now c.go_on.new.paper c.go_on.result c.go_on.ensures.causes calm quiet)
 
 -- ---- the lines of LIMIT
@@ -58,20 +58,20 @@ context g c = open_limited (g.B.Backing.holds c.args.backing.now) c.args.machine
 pub end_by_limit-requires : goal.end_by_limit-requires
 end_by_limit-requires g c = has_limited (g.B.Backing.holds c.args.backing.now) c.args.machine.now (context g (goal.at.end_by_limit-requires g c).Else-not-is_at_limit)
 
-pub go_on-requires-in-Ok-clause-stands : goal.go_on-requires-in-Ok-clause-stands
-go_on-requires-in-Ok-clause-stands g c =
-    let l = context g (goal.at.go_on-requires-in-Ok-clause-stands g c).Else-not-is_at_limit in
+pub go_on-requires-in-Ok-clause-begins : goal.go_on-requires-in-Ok-clause-begins
+go_on-requires-in-Ok-clause-begins g c =
+    let l = context g (goal.at.go_on-requires-in-Ok-clause-begins g c).Else-not-is_at_limit in
     let q = l.limited in
     record {
-      said = l.said;
-      says = l.says;
-      session = l.part.session;
-      stands = over_stands l.said l.session l.part c.args.machine.now q g.K.Sink.taken c.end_by_limit.new.machine c.args.paper.now c.end_by_limit.new.paper
-          (c.in-Ok.ensures.ends q.storage l.said q.plan l.session l.part q.ordered q.is q.stands);
+      stands = record {
+        said = l.said;
+        says = l.says;
+        session = l.part.session;
+        stands = over_stands l.said l.session l.part c.args.machine.now q g.K.Sink.taken c.end_by_limit.new.machine c.args.paper.now c.end_by_limit.new.paper
+            (c.in-Ok.ensures.ends q.storage l.said q.plan l.session l.part q.ordered q.is q.stands);
+      };
+      countable = subst (λ (z : Tasks). AreCountable z.jobs) (sym c.end_by_limit.ensures.keeps.tasks) c.requires.open.countable;
     }
-
-pub go_on-requires-in-Ok-clause-countable : goal.go_on-requires-in-Ok-clause-countable
-go_on-requires-in-Ok-clause-countable g c = subst (λ (z : Tasks). AreCountable z.jobs) (sym c.end_by_limit.ensures.keeps.tasks) c.requires.open.countable
 
 pub go_on-requires-in-Ok-clause-sized : goal.go_on-requires-in-Ok-clause-sized
 go_on-requires-in-Ok-clause-sized g c = omega (arith, c.end_by_limit.ensures.keeps.sectors, c.requires.sized)
@@ -109,7 +109,7 @@ returns-in-Ok-clause-complete g c = λ said s tells says sets ample calm quiet.
     completes g.B.Backing.holds g.K.Sink.taken said (content_after said (g.B.Backing.holds c.go_on-in-Ok.new.backing)) (g.B.Backing.size c.args.backing.now) c.args.n c.go_on-in-Ok.result c.args.machine.now c.go_on-in-Ok.new.machine
     c.args.backing.now c.go_on-in-Ok.new.backing c.args.paper.now c.go_on-in-Ok.new.paper
     (λ s h. absurd (stands_not said c.args.machine.now s h c.is_at_limit.ensures c.if-not-is_at_limit.false)) (λ h part l. returns-in-Ok-clause-resumed g c said h part says l) (let first = keeps_counts c.args.machine.now c.end_by_limit.new.machine c.end_by_limit.ensures.keeps in
-    let rest = c.go_on-in-Ok.ensures.keeps in
+    let rest = c.go_on-in-Ok.ensures.kept.keeps in
     record { core = rest.core ∙ first.core; sectors = rest.sectors ∙ first.sectors; halt = rest.halt ∙ first.halt; names = rest.names ∙ first.names }) tells s sets ample
     (λ e. (let rose = causes.device e in omega (arith, rose, calm)), λ e. (let rose = causes.printer.failed e in omega (arith, later, rose, quiet))))
 
@@ -147,12 +147,12 @@ pub returns-then-not-is_at_limit-clause-leaves : goal.returns-then-not-is_at_lim
 returns-then-not-is_at_limit-clause-leaves g c =
     let goes_on = (let l = open_stands (g.B.Backing.holds c.args.backing.now) c.args.machine.now c.requires.open (some_rows c.args.machine.now.tasks c.if-is_empty.ensures) c.is_at_limit.ensures c.if-not-is_at_limit.true in
     open_again g.K.Sink.taken (content_after l.said (g.B.Backing.holds c.go_on.new.backing)) (g.B.Backing.holds c.go_on.new.backing) (l.said ≢ None) (g.B.Backing.size c.args.backing.now) c.args.n l.session c.go_on.result
-    c.args.machine.now c.go_on.new.machine c.args.paper.now c.go_on.new.paper (says_retold l.said (g.B.Backing.holds c.go_on.new.backing)) c.go_on.ensures.countable (c.go_on.ensures.row l.said l.session l.says l.stands)) in
+    c.args.machine.now c.go_on.new.machine c.args.paper.now c.go_on.new.paper (says_retold l.said (g.B.Backing.holds c.go_on.new.backing)) (c.go_on.ensures.kept.countable c.requires.open.countable) (c.go_on.ensures.row l.said l.session l.says l.stands)) in
     record {
       goes_on = goes_on;
       shaped = shaped _ _ goes_on;
       causes = c.go_on.ensures.causes;
-      keeps = c.go_on.ensures.keeps;
+      keeps = c.go_on.ensures.kept.keeps;
       served = c.go_on.ensures.device;
     }
 
@@ -162,13 +162,13 @@ returns-in-Ok-clause-leaves g c =
     let q = l.limited in
     let stands = over_stands l.said l.session l.part c.args.machine.now q g.K.Sink.taken c.end_by_limit.new.machine c.args.paper.now c.end_by_limit.new.paper (c.in-Ok.ensures.ends q.storage l.said q.plan l.session l.part q.ordered q.is q.stands) in
     open_again g.K.Sink.taken (content_after l.said (g.B.Backing.holds c.go_on-in-Ok.new.backing)) (g.B.Backing.holds c.go_on-in-Ok.new.backing) (l.said ≢ None) (g.B.Backing.size c.args.backing.now) c.args.n l.part.session c.go_on-in-Ok.result
-    c.end_by_limit.new.machine c.go_on-in-Ok.new.machine c.end_by_limit.new.paper c.go_on-in-Ok.new.paper (says_retold l.said (g.B.Backing.holds c.go_on-in-Ok.new.backing)) c.go_on-in-Ok.ensures.countable (c.go_on-in-Ok.ensures.row l.said l.part.session l.says stands)) in
+    c.end_by_limit.new.machine c.go_on-in-Ok.new.machine c.end_by_limit.new.paper c.go_on-in-Ok.new.paper (says_retold l.said (g.B.Backing.holds c.go_on-in-Ok.new.backing)) (c.go_on-in-Ok.ensures.kept.countable (subst (λ (z : Tasks). AreCountable z.jobs) (sym c.end_by_limit.ensures.keeps.tasks) c.requires.open.countable)) (c.go_on-in-Ok.ensures.row l.said l.part.session l.says stands)) in
     record {
       goes_on = goes_on;
       shaped = shaped _ _ goes_on;
       causes = search rules;
       keeps = (let first = keeps_counts c.args.machine.now c.end_by_limit.new.machine c.end_by_limit.ensures.keeps in
-          let rest = c.go_on-in-Ok.ensures.keeps in
+          let rest = c.go_on-in-Ok.ensures.kept.keeps in
           record { core = rest.core ∙ first.core; sectors = rest.sectors ∙ first.sectors; halt = rest.halt ∙ first.halt; names = rest.names ∙ first.names });
       served = c.go_on-in-Ok.ensures.device;
     }

@@ -1,7 +1,7 @@
 use Rattle.std.proofs.Common.{◌-◌, sym, ap, ◌∙◌, subst, arith}
 use Rattle.b67_task_tables.specs.declared.tables.Tasks.{Tasks}
 use Rattle.b67_task_tables.specs.Tables.{AreCountable, row_names}
-use Rattle.b67_session_schedule.specs.Counted.{TurnHasRoom}
+use Rattle.b67_task_switch.specs.Counted.{TurnHasRoom}
 use Rattle.b67_session_ends.proofs.Counting.{countable_counted, names_counted}
 use Rattle.b67_session.proofs.Turning.{turn_fits, turn_goes_on, turn_rests}
 use Rattle.b67_session.proofs.turns.go_on_with_turn.Goals as goal

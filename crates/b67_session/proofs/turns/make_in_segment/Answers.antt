@@ -4,7 +4,7 @@ use Rattle.b67_task_tables.specs.declared.tables.Machine.{Machine}
 use Rattle.b67_session.specs.InTurn.{HasTurnLeft}
 use Rattle.b67_session.specs.Slices.{Keeps}
 use Rattle.b67_session.proofs.Going.{keeps_on}
-use Rattle.b67_session.proofs.Turning.{turn_as, some_runs, turn_runs, turn_made, turn_stays, done_row}
+use Rattle.b67_session.proofs.Turning.{turn_as, some_runs, turn_runs, turn_made, turn_stays, turn_same, turn_next, done_row}
 use Rattle.b67_session.proofs.turns.make_in_segment.Goals as goal
 
 pub present_segment-requires : goal.present_segment-requires
@@ -13,62 +13,127 @@ present_segment-requires c = let q = c.requires in some_runs c.args.machine.now 
 pub returns-in-None-clause-row : goal.returns-in-None-clause-row
 returns-in-None-clause-row c = λ said steps core s size h. turn_as said steps c.args.room s core c.args.machine.now h (steps + 0) (c.args.room - 0) (omega arith) (omega arith)
 
+pub reader_at-requires-clause-runs : goal.reader_at-requires-clause-runs
+reader_at-requires-clause-runs c = let q = c.requires in some_runs c.args.machine.now (turn_runs q.said q.steps c.args.room q.first q.core c.args.machine.now q.turn q.some)
+
+pub reader_at-requires-clause-code : goal.reader_at-requires-clause-code
+reader_at-requires-clause-code c = c.in-Some.ensures
+
+pub returns-in-None-reader_at-clause-row : goal.returns-in-None-reader_at-clause-row
+returns-in-None-reader_at-clause-row c = λ said steps core s size h. turn_as said steps c.args.room s core c.args.machine.now h (steps + 0) (c.args.room - 0) (omega arith) (omega arith)
+
 pub operator-init : goal.operator-init
 operator-init c = record {
   few = omega arith;
   tables = refl;
   keeps = record { core = refl; sectors = refl; halt = refl; names = refl };
-  code = c.in-Some.ensures;
+  stands = c.in-Some-reader_at.ensures;
   turn = λ said steps core s size h. turn_as said steps c.args.room s core c.args.machine.now h (steps + 0) (c.args.room - 0) (omega arith) (omega arith);
 }
 
-pub make_in-next-requires-clause-runs : goal.make_in-next-requires-clause-runs
-make_in-next-requires-clause-runs c =
+-- ---- a near operator
+
+pub make_near-requires-clause-runs : goal.make_near-requires-clause-runs
+make_near-requires-clause-runs c =
     let q = c.requires in
     turn_runs q.said (q.steps + c.operator.made) (c.args.room - c.operator.made) q.first q.core c.operator.machine (c.operator.invariant.turn q.said q.steps q.core q.first q.size q.turn) (omega arith)
 
-pub make_in-next-requires-clause-code : goal.make_in-next-requires-clause-code
-make_in-next-requires-clause-code c = c.operator.invariant.code
+pub make_near-requires-clause-stands : goal.make_near-requires-clause-stands
+make_near-requires-clause-stands c = c.operator.invariant.stands
+
+pub operator-preserved-then-make_near : goal.operator-preserved-then-make_near
+operator-preserved-then-make_near c = record {
+  few = omega arith;
+  tables = c.make_near.ensures.tasks ∙ c.operator.invariant.tables;
+  keeps = keeps_on c.args.machine.now c.operator.machine c.make_near.new.machine c.operator.invariant.keeps c.make_near.ensures.keeps;
+  stands = c.make_near.ensures.stands;
+  turn = λ said steps core s size h.
+      turn_as said (steps + c.operator.made + 1) (c.args.room - (c.operator.made + 1)) s core c.make_near.new.machine
+      (turn_made said (steps + c.operator.made) (c.args.room - c.operator.made) s core c.operator.machine (c.operator.invariant.turn said steps core s size h) (omega arith)
+      c.make_near.new.machine (c.make_near.ensures.row c.if-make_near.true) (c.operator.invariant.keeps.core ∙ size) (c.args.room - (c.operator.made + 1)) (omega arith))
+      (steps + (c.operator.made + 1)) (c.args.room - (c.operator.made + 1)) (omega arith) refl;
+}
+
+-- ---- another one, after which the machine is as it was before the near try
+
+pub make_at-next-requires-clause-runs : goal.make_at-next-requires-clause-runs
+make_at-next-requires-clause-runs c =
+    let q = c.requires in
+    turn_runs q.said (q.steps + c.operator.made) (c.args.room - c.operator.made) q.first q.core c.make_near.new.machine
+    (turn_same q.said (q.steps + c.operator.made) (c.args.room - c.operator.made) q.first q.core c.operator.machine c.make_near.new.machine (c.make_near.ensures.rest c.if-make_near.false) (c.operator.invariant.turn q.said q.steps q.core q.first q.size q.turn)) (omega arith)
+
+pub make_at-next-requires-clause-stands : goal.make_at-next-requires-clause-stands
+make_at-next-requires-clause-stands c = c.make_near.ensures.stands
 
 pub returns-in_default : goal.returns-in_default
 returns-in_default c =
     let q = c.requires in
-    let same : c.make_in-next.new.machine ≡ c.operator.machine =
-    turn_stays q.said (q.steps + c.operator.made) (c.args.room - c.operator.made) q.first q.core c.operator.machine (c.operator.invariant.turn q.said q.steps q.core q.first q.size q.turn) (omega arith)
-    c.make_in-next.result.step c.make_in-next.new.machine c.in_default.not-Done c.make_in-next.ensures.row in
+    let tried : c.make_near.new.machine ≡ c.operator.machine = c.make_near.ensures.rest c.if-make_near.false in
+    let left = c.args.room - c.operator.made in
+    let same : c.make_at-next.new.machine ≡ c.make_near.new.machine =
+    turn_stays q.said (q.steps + c.operator.made) left q.first q.core c.make_near.new.machine
+    (turn_same q.said (q.steps + c.operator.made) left q.first q.core c.operator.machine c.make_near.new.machine tried (c.operator.invariant.turn q.said q.steps q.core q.first q.size q.turn)) (omega arith)
+    c.make_at-next.result.step c.make_at-next.new.machine c.in_default.not-Done c.make_at-next.ensures.row in
     record {
       few = omega (arith, c.operator.invariant.few);
       some = λ e. absurd cc;
-      row = λ said steps core s size h.
-          subst (λ (z : Machine). HasTurnLeft said (steps + c.operator.made) (c.args.room - c.operator.made) s core z) (sym same) (c.operator.invariant.turn said steps core s size h);
-      tables = c.make_in-next.ensures.tasks ∙ c.operator.invariant.tables;
-      keeps = keeps_on c.args.machine.now c.operator.machine c.make_in-next.new.machine c.operator.invariant.keeps c.make_in-next.ensures.keeps;
+      row = λ said steps core s size h. turn_same said (steps + c.operator.made) left s core c.operator.machine c.make_at-next.new.machine (same ∙ tried) (c.operator.invariant.turn said steps core s size h);
+      tables = c.make_at-next.ensures.tasks ∙ c.make_near.ensures.tasks ∙ c.operator.invariant.tables;
+      keeps = keeps_on c.args.machine.now c.make_near.new.machine c.make_at-next.new.machine (keeps_on c.args.machine.now c.operator.machine c.make_near.new.machine c.operator.invariant.keeps c.make_near.ensures.keeps) c.make_at-next.ensures.keeps;
     }
 
-pub returns-then-not-next : goal.returns-then-not-next
-returns-then-not-next c = record {
-  few = omega arith;
-  some = λ e. omega arith;
-  row = λ said steps core s size h.
-      turn_as said (steps + c.operator.made + 1) (c.args.room - (c.operator.made + 1)) s core c.make_in-next.new.machine
-      (turn_made said (steps + c.operator.made) (c.args.room - c.operator.made) s core c.operator.machine (c.operator.invariant.turn said steps core s size h) (omega arith)
-      c.make_in-next.new.machine (done_row c.operator.machine c.make_in-next.new.machine c.make_in-next.result.step c.in-Done.is c.make_in-next.ensures.row) (c.operator.invariant.keeps.core ∙ size) (c.args.room - (c.operator.made + 1)) (omega arith))
-      (steps + (c.operator.made + 1)) (c.args.room - (c.operator.made + 1)) (omega arith) refl;
-  tables = c.make_in-next.ensures.tasks ∙ c.operator.invariant.tables;
-  keeps = keeps_on c.args.machine.now c.operator.machine c.make_in-next.new.machine c.operator.invariant.keeps c.make_in-next.ensures.keeps;
-}
+pub returns-then-not-next-clause-few : goal.returns-then-not-next-clause-few
+returns-then-not-next-clause-few c = omega (arith, c.operator-test.true)
+
+pub returns-then-not-next-clause-some : goal.returns-then-not-next-clause-some
+returns-then-not-next-clause-some c = λ e. omega arith
+
+pub returns-then-not-next-clause-row : goal.returns-then-not-next-clause-row
+returns-then-not-next-clause-row c = λ said steps core s size h.
+    turn_next said steps c.operator.made c.args.room s core c.operator.machine c.make_near.new.machine c.make_at-next.new.machine c.operator-test.true (c.make_near.ensures.rest c.if-make_near.false) (c.operator.invariant.keeps.core ∙ size) (c.operator.invariant.turn said steps core s size h)
+    (done_row c.make_near.new.machine c.make_at-next.new.machine c.make_at-next.result.step c.in-Done.is c.make_at-next.ensures.row)
+
+pub returns-then-not-next-clause-tables : goal.returns-then-not-next-clause-tables
+returns-then-not-next-clause-tables c = c.make_at-next.ensures.tasks ∙ c.make_near.ensures.tasks ∙ c.operator.invariant.tables
+
+pub returns-then-not-next-clause-keeps : goal.returns-then-not-next-clause-keeps
+returns-then-not-next-clause-keeps c = keeps_on c.args.machine.now c.make_near.new.machine c.make_at-next.new.machine (keeps_on c.args.machine.now c.operator.machine c.make_near.new.machine c.operator.invariant.keeps c.make_near.ensures.keeps) c.make_at-next.ensures.keeps
+
+pub reader_at-requires-in-operator-clause-runs : goal.reader_at-requires-in-operator-clause-runs
+reader_at-requires-in-operator-clause-runs c =
+    let q = c.requires in
+    let made = c.operator.made + 1 in
+    some_runs c.make_at-next.new.machine
+    (turn_runs q.said (q.steps + made) (c.args.room - made) q.first q.core c.make_at-next.new.machine
+    (turn_next q.said q.steps c.operator.made c.args.room q.first q.core c.operator.machine c.make_near.new.machine c.make_at-next.new.machine c.operator-test.true (c.make_near.ensures.rest c.if-make_near.false) (c.operator.invariant.keeps.core ∙ q.size) (c.operator.invariant.turn q.said q.steps q.core q.first q.size q.turn)
+    (done_row c.make_near.new.machine c.make_at-next.new.machine c.make_at-next.result.step c.in-Done.is c.make_at-next.ensures.row)) (omega (arith, c.operator-test.true, c.if-made-room.false)))
+
+pub reader_at-requires-in-operator-clause-code : goal.reader_at-requires-in-operator-clause-code
+reader_at-requires-in-operator-clause-code c = c.make_at-next.ensures.code (not-false _ c.if-not-next.false)
+
+pub returns-in-None-reader_at-2-clause-few : goal.returns-in-None-reader_at-2-clause-few
+returns-in-None-reader_at-2-clause-few c = omega (arith, c.operator-test.true)
+
+pub returns-in-None-reader_at-2-clause-row : goal.returns-in-None-reader_at-2-clause-row
+returns-in-None-reader_at-2-clause-row c = λ said steps core s size h.
+    turn_next said steps c.operator.made c.args.room s core c.operator.machine c.make_near.new.machine c.make_at-next.new.machine c.operator-test.true (c.make_near.ensures.rest c.if-make_near.false) (c.operator.invariant.keeps.core ∙ size) (c.operator.invariant.turn said steps core s size h)
+    (done_row c.make_near.new.machine c.make_at-next.new.machine c.make_at-next.result.step c.in-Done.is c.make_at-next.ensures.row)
+
+pub returns-in-None-reader_at-2-clause-tables : goal.returns-in-None-reader_at-2-clause-tables
+returns-in-None-reader_at-2-clause-tables c = c.make_at-next.ensures.tasks ∙ c.make_near.ensures.tasks ∙ c.operator.invariant.tables
+
+pub returns-in-None-reader_at-2-clause-keeps : goal.returns-in-None-reader_at-2-clause-keeps
+returns-in-None-reader_at-2-clause-keeps c = keeps_on c.args.machine.now c.make_near.new.machine c.make_at-next.new.machine (keeps_on c.args.machine.now c.operator.machine c.make_near.new.machine c.operator.invariant.keeps c.make_near.ensures.keeps) c.make_at-next.ensures.keeps
 
 pub operator-preserved : goal.operator-preserved
 operator-preserved c = record {
-  few = omega arith;
-  tables = c.make_in-next.ensures.tasks ∙ c.operator.invariant.tables;
-  keeps = keeps_on c.args.machine.now c.operator.machine c.make_in-next.new.machine c.operator.invariant.keeps c.make_in-next.ensures.keeps;
-  code = c.make_in-next.ensures.code (not-false _ c.if-not-next.false);
+  few = omega (arith, c.operator-test.true);
+  tables = c.make_at-next.ensures.tasks ∙ c.make_near.ensures.tasks ∙ c.operator.invariant.tables;
+  keeps = keeps_on c.args.machine.now c.make_near.new.machine c.make_at-next.new.machine (keeps_on c.args.machine.now c.operator.machine c.make_near.new.machine c.operator.invariant.keeps c.make_near.ensures.keeps) c.make_at-next.ensures.keeps;
+  stands = c.in-Some-reader_at-2.ensures;
   turn = λ said steps core s size h.
-      turn_as said (steps + c.operator.made + 1) (c.args.room - (c.operator.made + 1)) s core c.make_in-next.new.machine
-      (turn_made said (steps + c.operator.made) (c.args.room - c.operator.made) s core c.operator.machine (c.operator.invariant.turn said steps core s size h) (omega arith)
-      c.make_in-next.new.machine (done_row c.operator.machine c.make_in-next.new.machine c.make_in-next.result.step c.in-Done.is c.make_in-next.ensures.row) (c.operator.invariant.keeps.core ∙ size) (c.args.room - (c.operator.made + 1)) (omega arith))
-      (steps + (c.operator.made + 1)) (c.args.room - (c.operator.made + 1)) (omega arith) refl;
+      turn_next said steps c.operator.made c.args.room s core c.operator.machine c.make_near.new.machine c.make_at-next.new.machine c.operator-test.true (c.make_near.ensures.rest c.if-make_near.false) (c.operator.invariant.keeps.core ∙ size) (c.operator.invariant.turn said steps core s size h)
+      (done_row c.make_near.new.machine c.make_at-next.new.machine c.make_at-next.result.step c.in-Done.is c.make_at-next.ensures.row);
 }
 
 pub returns-clause-some : goal.returns-clause-some

@@ -1,6 +1,6 @@
 use Rattle.std.proofs.Common.{◌≡◌, ◌≤◌, ◌+◌, ◌-◌, ℕ, List, length, Option}
 use Rattle.b67_model.specs.Schedule.{Session}
-use Rattle.b67_session.specs.AttemptPassed.{HoldsCode}
+use Rattle.b67_exec.specs.Near.{ReaderBehind}
 use Rattle.b67_session.specs.InTurn.{HasTurnLeft}
 use Rattle.b67_session.specs.Slices.{Keeps}
 use Rattle.b67_session.proofs.turns.make_in_segment.Given as goal
@@ -10,7 +10,7 @@ invariant-operator l = record {
   few : l.made ≤ l.room;
   tables : l.machine.tasks ≡ l.initial.machine.tasks;
   keeps : Keeps l.initial.machine l.machine;
-  code : HoldsCode l.machine.cpu l.code;
+  stands : ReaderBehind l.machine.cpu l.reader 0;
   turn : (said : Option (List (List ℕ))) (steps core : ℕ) (s : Session) → length l.initial.machine.cpu.core ≡ core → HasTurnLeft said steps l.room s core l.initial.machine
       → HasTurnLeft said (steps + l.made) (l.room - l.made) s core l.machine;
 }

@@ -69,7 +69,7 @@ returns-clause-stands c = λ x plan s m t after child b.
     (on_stack x k plan s m t after child slot c.args.job c.args.env_stack c.args.env_disp c.args.level c.args.count b)
     (two_marks x k plan s m t after child slot c.args.job c.args.env_stack c.args.env_disp c.args.level c.args.count b))
     vector
-    (c.build_stack.ensures.top ∙ ap (λ (w : Tagged). Some w) c.word.ensures)
-    (c.build_stack.ensures.mark ∙ ap (λ (w : Tagged). Some w) c.word-2.ensures)
-    c.build_stack.ensures.back c.build_stack.ensures.cells c.build_stack.ensures.outside c.build_stack.ensures.len
+    (c.build_stack.ensures.stack.top ∙ ap (λ (w : Tagged). Some w) c.word.ensures)
+    (c.build_stack.ensures.stack.mark ∙ ap (λ (w : Tagged). Some w) c.word-2.ensures)
+    c.build_stack.ensures.stack.back c.build_stack.ensures.stack.cells c.build_stack.ensures.outside c.build_stack.ensures.len
     written c.set.ensures.len c.raise.ensures.own c.raise.ensures.others

@@ -1,0 +1,36 @@
+-- The table of first syllables against the operators of the machine.
+use Rattle.std.proofs.Common.{◌≡◌, ℕ, zero, suc, ◌+◌, List, [], ◌∷◌, Option, Some, None, refl, sym, ◌∙◌, ap, subst, arith}
+use Rattle.std.specs.Prelude.{slice_get}
+use Rattle.std.proofs.lemmas.Option.{same_Some, none-some}
+use Rattle.b67_model.specs.Operators.{Form, form_of}
+use Rattle.b67_exec.specs.declared.firsts.Near.{Near}
+use Rattle.b67_exec.specs.declared.firsts.TheConstants.{NEARS}
+use Rattle.b67_exec.specs.Firsts.{near_form}
+
+-- a row says the form of its syllable, or nothing
+abbrev Says : Option Form → ℕ → Type 0
+Says None first = Unit {0}
+Says (Some f) first = form_of first ≡ Some f
+
+abbrev AllSay : ℕ → List Near → Type 0
+AllSay first [] = Unit {0}
+AllSay first (n ∷ ns) = Says (near_form n first) first × AllSay (first + 1) ns
+
+all_say : AllSay 0 NEARS
+all_say = (refl, (refl, (refl, (refl, (refl, (refl, (refl, (refl, (refl, (refl, (refl, (refl, (refl, (refl, (refl, (refl, (refl, (refl, (refl, (refl, (refl, (refl, (refl, (refl, (refl, (refl, (refl, (refl, (refl, (refl, (refl, (refl, (refl, (refl, (refl, (refl, (refl, (refl, (refl, (refl, (refl, (refl, (refl, (refl, (refl, (refl, (refl, (refl, (refl, (refl, (refl, (refl, (refl, (refl, (refl, (refl, (refl, (refl, (refl, (refl, (refl, (refl, (refl, (refl, (refl, (refl, (refl, (refl, (refl, (refl, (refl, (refl, (refl, (refl, (refl, (refl, (refl, (refl, (refl, (refl, (refl, (refl, (refl, (refl, (refl, (refl, (refl, (refl, (refl, (refl, (refl, (refl, (refl, (refl, (refl, (refl, (refl, (refl, (refl, (refl, (refl, (refl, (refl, (refl, (refl, (refl, (refl, (refl, (refl, (refl, (refl, (refl, (refl, (refl, (refl, (refl, (refl, (refl, (refl, (refl, (refl, (refl, (refl, (refl, (refl, (refl, (refl, (refl, (refl, (refl, (refl, (tt, (refl, (refl, (tt, (tt, (refl, (refl, (refl, (refl, (refl, (refl, (refl, (tt, (refl, (refl, (refl, (refl, (refl, (tt, (tt, (tt, (tt, (tt, (tt, (tt, (tt, (tt, (tt, (tt, (refl, (refl, (refl, (refl, (tt, (tt, (refl, (refl, (tt, (tt, (tt, (refl, (tt, (refl, (refl, (refl, (refl, (refl, (refl, (tt, (refl, (refl, (refl, (refl, (refl, (refl, (tt, (tt, (tt, (refl, (tt, (tt, (tt, (tt, (tt, (tt, (tt, (tt, (tt, (tt, (tt, (tt, (tt, (tt, (tt, (tt, (tt, (tt, (tt, (tt, (tt, (tt, (tt, (tt, (tt, (tt, (tt, (tt, (tt, (tt, (tt, (tt, (tt, (tt, (tt, (tt, (tt, (tt, (tt, (tt, (tt, (tt, (tt, (tt, (tt, (tt, (tt, (tt, (tt, (tt, (tt, (tt, (tt, (tt, (tt, (tt, (tt, (tt, (tt, (tt, (tt, (tt, (tt, (tt, (refl, (refl, tt))))))))))))))))))))))))))))))))))))))))))))))))))))))))))))))))))))))))))))))))))))))))))))))))))))))))))))))))))))))))))))))))))))))))))))))))))))))))))))))))))))))))))))))))))))))))))))))))))))))))))))))))))))))))))))))))))))))))))))))))))))))))))))))))
+
+row_says : (from : ℕ) (ns : List Near) (i : ℕ) (n : Near) → AllSay from ns → slice_get ns i ≡ Some n → (first : ℕ) → first ≡ from + i → Says (near_form n first) first
+row_says from [] i n all e first is = absurd (none-some n e)
+row_says from (m ∷ ns) zero n all e first is =
+    let at : first ≡ from = omega (arith, is) in
+    let P : ℕ → Type 0 = λ k. Says (near_form n k) k in
+    let Q : Near → Type 0 = λ z. Says (near_form z from) from in
+    subst P (sym at) (subst Q (same_Some m n e) all.0)
+row_says from (m ∷ ns) (suc i) n all e first is = row_says (from + 1) ns i n all.1 e first (omega (arith, is))
+
+says_form : (o : Option Form) (first : ℕ) (f : Form) → Says o first → o ≡ Some f → form_of first ≡ Some f
+says_form None first f h e = absurd (none-some f e)
+says_form (Some g) first f h e = h ∙ e
+
+pub near_says : (first : ℕ) (n : Near) (f : Form) → slice_get NEARS first ≡ Some n → near_form n first ≡ Some f → form_of first ≡ Some f
+near_says first n f at e = says_form (near_form n first) first f (row_says 0 NEARS first n all_say at first (omega arith)) e

@@ -1,0 +1,109 @@
+-- Code that is read syllable after syllable.
+use Rattle.std.proofs.Common.{◌≡◌, ℕ, zero, suc, ◌+◌, ◌-◌, ◌*◌, ◌/◌, ◌%◌, ◌^◌, ◌<◌, ◌≤◌, List, get_or, length, Some, true, refl, sym, ◌∙◌, ap, arith, subst, ◌⊎◌, inl, inr}
+use Rattle.std.specs.Prelude.{slice_index}
+use Rattle.std.specs.List.{slice_get, slice_range}
+use Rattle.std.proofs.lemmas.Bool.{cases_eq}
+use Rattle.b67_word.specs.Tagged.{Tagged, contents}
+use Rattle.b67_word.specs.declared.couples.Place.{Place}
+use Rattle.b67_ctl.specs.declared.descriptors.SegDesc.{SegDesc}
+use Rattle.b67_model.specs.Common.{Task, SessionJob, Session, code_of, count_at}
+use Rattle.b67_stack.specs.declared.Cpu.{Cpu}
+use Rattle.b67_stack.specs.Common.{Storage}
+use Rattle.b67_layout.specs.Common.{Placement, IsInOrderButCounts, IsRunning, RepresentsSession, RunsSome}
+use Rattle.std.proofs.lemmas.List.{get_or-map, length-map}
+use Rattle.b67_exec_cells.specs.Running.{GivesSegment}
+use Rattle.b67_exec_cells.proofs.Codes.{present, desc-inside, code-read}
+use Rattle.b67_exec.specs.declared.reader.Reader.{Reader}
+use Rattle.b67_exec.specs.Near.{HoldsCode, ReaderAt, ReaderBehind}
+
+-- one to six
+by_six : (P : ℕ → Type 0) → P 1 → P 2 → P 3 → P 4 → P 5 → P 6 → (n : ℕ) → 1 ≤ n → n ≤ 6 → P n
+by_six P a b c d e f n low high = elim (cases_eq n 1) [
+  | inl k ↦ subst P (sym k) a
+  | inr n1 ↦ elim (cases_eq n 2) [
+    | inl k ↦ subst P (sym k) b
+    | inr n2 ↦ elim (cases_eq n 3) [
+      | inl k ↦ subst P (sym k) c
+      | inr n3 ↦ elim (cases_eq n 4) [
+        | inl k ↦ subst P (sym k) d
+        | inr n4 ↦ elim (cases_eq n 5) [
+          | inl k ↦ subst P (sym k) e
+          | inr n5 ↦ let k : n ≡ 6 = omega (arith, low, high, n1, n2, n3, n4, n5) in subst P (sym k) f
+        ]
+      ]
+    ]
+  ]
+]
+
+-- the first of the syllables that are left, by the word
+pub top_is : (w left : ℕ) → 1 ≤ left → left ≤ 6 → (w % 2 ^ (8 * left) * 2 ^ (64 - 8 * left)) / 2 ^ 56 ≡ w / 256 ^ (left - 1) % 256
+top_is w left low high = by_six (λ l. (w % 2 ^ (8 * l) * 2 ^ (64 - 8 * l)) / 2 ^ 56 ≡ w / 256 ^ (l - 1) % 256) (omega arith) (omega arith) (omega arith) (omega arith) (omega arith) (omega arith) left low high
+
+-- one fewer
+pub shifted_is : (w left : ℕ) → 2 ≤ left → left ≤ 6 → (w % 2 ^ (8 * left) * 2 ^ (64 - 8 * left)) * 2 ^ 8 % 2 ^ 64 ≡ w % 2 ^ (8 * (left - 1)) * 2 ^ (64 - 8 * (left - 1))
+shifted_is w left low high =
+    let P : ℕ → Type 0 = λ l. 2 ≤ l → (w % 2 ^ (8 * l) * 2 ^ (64 - 8 * l)) * 2 ^ 8 % 2 ^ 64 ≡ w % 2 ^ (8 * (l - 1)) * 2 ^ (64 - 8 * (l - 1)) in
+    by_six P (λ k. absurd (omega (arith, k))) (λ k. omega arith) (λ k. omega arith) (λ k. omega arith) (λ k. omega arith) (λ k. omega arith) left (omega (arith, low)) high low
+
+-- those from a syllable on, of a whole word
+pub from_is : (w left : ℕ) → 1 ≤ left → left ≤ 6 → w < 2 ^ 48 → w * 2 ^ 16 * 2 ^ (8 * (6 - left)) % 2 ^ 64 ≡ w % 2 ^ (8 * left) * 2 ^ (64 - 8 * left)
+from_is w left low high small = by_six (λ l. w * 2 ^ 16 * 2 ^ (8 * (6 - l)) % 2 ^ 64 ≡ w % 2 ^ (8 * l) * 2 ^ (64 - 8 * l)) (omega (arith, small)) (omega (arith, small)) (omega (arith, small)) (omega (arith, small)) (omega (arith, small)) (omega (arith, small)) left low high
+
+module _ (x : Storage) (cpu : Cpu) (plan : Placement) (s : Session) (m : SessionJob) (t : Task) (ordered : IsInOrderButCounts s) (h : RepresentsSession x cpu plan s) (runs : IsRunning plan s.jobs m t)
+    (desc : SegDesc) (given : GivesSegment x plan m t (Some desc)) where
+  -- as many words as the descriptor says
+  pub words-are : desc.words ≡ length (code_of m.constants t.segment)
+  words-are = ap (λ (d : SegDesc). d.words) given.0
+
+  -- a word of the code
+  pub word-in : (words : List Tagged) (i : ℕ) (w : Tagged) → words ≡ slice_range cpu.core desc.address (desc.address + desc.words) → i < desc.words → w ≡ get_or words i w → slice_index (code_of m.constants t.segment) i ≡ w.bits
+  word-in words i w is low got =
+      let n : words ≡ slice_range cpu.core desc.address (desc.address + length (code_of m.constants t.segment)) = is ∙ ap (λ (k : ℕ). slice_range cpu.core desc.address (desc.address + k)) words-are in
+      let c : contents words ≡ code_of m.constants t.segment = code-read x cpu plan s m t ordered h runs desc.address words (present x cpu plan s m t ordered h runs desc given.0 given.1) n in
+      let inside : i < length words = omega (arith, low, words-are, ap length c, length-map words (λ (v : Tagged). v.bits)) in
+      ap (λ (ns : List ℕ). slice_index ns i) (sym c) ∙ get_or-map (λ (v : Tagged). v.bits) words i w 0 inside ∙ ap (λ (v : Tagged). v.bits) (sym got)
+
+  pub in-core : desc.address + desc.words ≤ length cpu.core
+  in-core = let i = desc-inside x cpu plan s m t ordered h runs desc given.0 given.1 in omega (arith, i)
+
+  pub range-long : (words : List Tagged) → words ≡ slice_range cpu.core desc.address (desc.address + desc.words) → length words ≡ desc.words
+  range-long words is =
+      let n : words ≡ slice_range cpu.core desc.address (desc.address + length (code_of m.constants t.segment)) = is ∙ ap (λ (k : ℕ). slice_range cpu.core desc.address (desc.address + k)) words-are in
+      let c : contents words ≡ code_of m.constants t.segment = code-read x cpu plan s m t ordered h runs desc.address words (present x cpu plan s m t ordered h runs desc given.0 given.1) n in
+      omega (arith, words-are, ap length c, length-map words (λ (v : Tagged). v.bits))
+
+-- the next syllable of the word
+pub stepped : (r : Reader) (code : List ℕ) (k : ℕ) → ReaderAt r code k → 1 < r.left → (more : ℕ) → more ≡ k + 1 → ReaderAt (record r { left = r.left - 1; bits = r.bits * 2 ^ 8 % 2 ^ 64 }) code more
+stepped r code k a some more is = record {
+  some = omega (arith, some);
+  few = omega (arith, a.few);
+  at = omega (arith, a.at, is, some);
+  inside = a.inside;
+  bits = ap (λ (z : ℕ). z * 2 ^ 8 % 2 ^ 64) a.bits ∙ shifted_is (slice_index code r.word) r.left (omega (arith, some)) a.few;
+}
+
+-- the first one of the next word
+pub crossed : (r : Reader) (code : List ℕ) (k : ℕ) → ReaderAt r code k → r.left ≤ 1 → r.word + 1 < length code → (bits : ℕ) → bits ≡ slice_index code (r.word + 1) * 2 ^ 16 → bits < 2 ^ 64 → (more : ℕ) → more ≡ k + 1
+    → ReaderAt (record { code = r.code; word = r.word + 1; left = 6; bits = bits }) code more
+crossed r code k a one inside bits is small more more_is = record {
+  some = omega arith;
+  few = omega arith;
+  at = omega (arith, a.at, a.some, one, more_is);
+  inside = inside;
+  bits = omega (arith, is, small);
+}
+
+-- the one at a place
+pub begun : (desc : SegDesc) (code : List ℕ) (place : Place) (word bits by : ℕ) → place.syllable < 6 → place.word < length code → word ≡ slice_index code place.word * 2 ^ 16 → word < 2 ^ 64 → by ≡ place.syllable → bits ≡ word * 2 ^ (8 * by) % 2 ^ 64
+    → ReaderAt (record { code = desc; word = place.word; left = 6 - place.syllable; bits = bits }) code (count_at place + 0)
+begun desc code place word bits by in_word inside word_is small by_is bits_is =
+    let w : ℕ = slice_index code place.word in
+    let back : by ≡ 6 - (6 - place.syllable) = omega (arith, by_is, in_word) in
+    let low : w < 2 ^ 48 = omega (arith, word_is, small) in
+    record {
+      some = omega (arith, in_word);
+      few = omega arith;
+      at = omega (arith, in_word);
+      inside = inside;
+      bits = bits_is ∙ ap (λ (z : ℕ). z * 2 ^ (8 * by) % 2 ^ 64) word_is ∙ ap (λ (z : ℕ). w * 2 ^ 16 * 2 ^ (8 * z) % 2 ^ 64) back ∙ from_is w (6 - place.syllable) (omega (arith, in_word)) (omega arith) low;
+    }

@@ -1,0 +1,236 @@
+-- An operator read syllable after syllable, and where the reader stands once the task has gone on.
+use Rattle.std.proofs.Common.{◌≡◌, ℕ, ◌+◌, ◌-◌, ◌*◌, ◌/◌, ◌%◌, ◌^◌, ◌<◌, ◌≤◌, Bool, true, false, List, [], length, Option, Some, None, Ok, Err, refl, sym, ◌∙◌, ap, subst, arith, ◌⊎◌, inl, inr}
+use Rattle.std.specs.Prelude.{nat_lt, nat_le, ◌&&◌, if◌then◌else◌, slice_index}
+use Rattle.std.proofs.lemmas.Bool.Decides.{nat_tests}
+use Rattle.b67_word.specs.declared.couples.Place.{Place}
+use Rattle.b67_arith.specs.declared.numerics.Numeric.{Numeric}
+use Rattle.b67_arith.specs.declared.numerics.Numeric.TheVariants as numeric
+use Rattle.b67_arith.specs.Numerics.{of_numbers}
+use Rattle.b67_model.specs.declared.operators.Op.{Op}
+use Rattle.b67_model.specs.declared.operators.Op.TheVariants.{Plain}
+use Rattle.b67_model.specs.declared.operators.Code.{Code}
+use Rattle.b67_model.specs.Common.{Answer, Done, Form, Alone, OneMore, TwoMore, Task, SessionJob, Session, Reading, form_of, syllable, count_at, place_at, ends_at, reads, operator_at, reading_of, code_of, row, called, OperatorContext, on_cells, on_two, branch_if, leaves_cells, cells_of}
+use Rattle.b67_stack.specs.declared.Cpu.{Cpu}
+use Rattle.b67_stack.specs.declared.Step.{Step}
+use Rattle.b67_stack.specs.declared.Step.TheVariants as answers
+use Rattle.b67_stack.specs.Common.{Storage}
+use Rattle.b67_layout.specs.Common.{Placement, IsInOrderButCounts, IsRunning, RepresentsSession, RunsSome, ForEach, here, IsMade, Meets}
+use Rattle.b67_exec_cells.proofs.Codes.{present}
+use Rattle.b67_entry.specs.Procedures.{CallsOrMeets}
+use Rattle.b67_exec.specs.Operators.{OperatorMeets, leaves_record}
+use Rattle.b67_exec.specs.declared.reader.Reader.{Reader}
+use Rattle.b67_exec.specs.Near.{HoldsCode, ReaderAt, ReaderBehind, ReadsThrough, reader_place, is_straight, WentOn, NearMade, MadeNear, IsEitherReader, code_of_numbers, resting_code, branch_op}
+use Rattle.b67_exec.specs.declared.firsts.Near.{Near}
+use Rattle.b67_exec.specs.Firsts.{near_form}
+use Rattle.b67_exec.proofs.Nears.{unmet, LeavesCells, straight_leaves, branch_leaves, straight_stays, straight_calls, branch_stays, branch_calls, holds_on, code_on, place_on}
+use Rattle.b67_exec.proofs.Readings.{operator_read}
+use Rattle.b67_exec.proofs.Readers.{top_is}
+
+-- ---- what is read
+
+pub same_place : (p q : Place) → p.word ≡ q.word → p.syllable ≡ q.syllable → p ≡ q
+same_place p q word syllable = by p.word p.syllable word syllable where
+  by : (w k : ℕ) → w ≡ q.word → k ≡ q.syllable → ◌≡◌ {A = Place} (record { word = w; syllable = k }) q
+  by w k same_w same_k = rw (same_w, same_k) refl
+
+-- the syllable on top of a reader
+syllable_at : (r : Reader) (code : List ℕ) (k : ℕ) → ReaderAt r code k → r.bits / 2 ^ 56 ≡ syllable code k
+syllable_at r code k a =
+    let word : k / 6 ≡ r.word = omega (arith, a.at, a.some, a.few) in
+    let rest : 5 - k % 6 ≡ r.left - 1 = omega (arith, a.at, a.some, a.few) in
+    ap (λ (z : ℕ). z / 2 ^ 56) a.bits ∙ top_is (slice_index code r.word) r.left a.some a.few
+    ∙ ap (λ (z : ℕ). slice_index code r.word / 256 ^ z % 256) (sym rest) ∙ ap (λ (z : ℕ). slice_index code z / 256 ^ (5 - k % 6) % 256) (sym word)
+
+-- its place
+place_is : (r : Reader) (code : List ℕ) (k : ℕ) → ReaderAt r code k → place_at k ≡ reader_place r
+place_is r code k a =
+    let word : k / 6 ≡ r.word = omega (arith, a.at, a.some, a.few) in
+    let rest : k % 6 ≡ 6 - r.left = omega (arith, a.at, a.some, a.few) in
+    rw (word, rest) refl
+
+-- the code goes on up to it
+ends_before : (next : Reader) (code : List ℕ) (k : ℕ) (op : Op) → ReaderAt next code k → ends_at code k op ≡ Ok (op, reader_place next)
+ends_before next code k op a =
+    let test : nat_le k (6 * length code) ≡ true = (let low : k ≤ 6 * length code = omega (arith, a.at, a.some, a.inside) in grind (arith, nat_tests)) in
+    rw test (ap (λ (p : Place). Ok (op, p)) (place_is next code k a))
+
+module _ (code : List ℕ) (at : Place) (r : Reader) (in_word : at.syllable < 6) (a : ReaderAt r code (count_at at + 0)) where
+  begins : (f : Form) → form_of (r.bits / 2 ^ 56) ≡ Some f → operator_at code at ≡ reads code (count_at at) (Some f)
+  begins f is =
+      let one : nat_lt at.syllable 6 ≡ true = grind (arith, nat_tests) in
+      let inside : at.word < length code = omega (arith, a.at, a.some, a.few, a.inside, in_word) in
+      let two : nat_lt at.word (length code) ≡ true = grind (arith, nat_tests) in
+      let same : count_at at + 0 ≡ count_at at = omega arith in
+      let first : r.bits / 2 ^ 56 ≡ syllable code (count_at at) = syllable_at r code (count_at at + 0) a ∙ ap (syllable code) same in
+      let form : form_of (syllable code (count_at at)) ≡ Some f = ap form_of (sym first) ∙ is in
+      rw (one, two) (ap (reads code (count_at at)) form)
+
+  lone : (op : Code) (next : Reader) → form_of (r.bits / 2 ^ 56) ≡ Some (Alone op) → ReaderAt next code (count_at at + 1) → operator_at code at ≡ Ok (Plain op, reader_place next)
+  lone op next is b = begins (Alone op) is ∙ ends_before next code (count_at at + 1) (Plain op) b
+
+  pair : (op : ℕ → Op) (second next : Reader) → form_of (r.bits / 2 ^ 56) ≡ Some (OneMore op) → ReaderAt second code (count_at at + 1) → ReaderAt next code (count_at at + 2) → operator_at code at ≡ Ok (op (second.bits / 2 ^ 56), reader_place next)
+  pair op second next is b c =
+      begins (OneMore op) is ∙ ap (λ (z : ℕ). ends_at code (count_at at + 2) (op z)) (sym (syllable_at second code (count_at at + 1) b)) ∙ ends_before next code (count_at at + 2) (op (second.bits / 2 ^ 56)) c
+
+  triple : (op : ℕ → ℕ → Op) (second third next : Reader) → form_of (r.bits / 2 ^ 56) ≡ Some (TwoMore op) → ReaderAt second code (count_at at + 1) → ReaderAt third code (count_at at + 2) → ReaderAt next code (count_at at + 3)
+      → operator_at code at ≡ Ok (op (second.bits / 2 ^ 56) (third.bits / 2 ^ 56), reader_place next)
+  triple op second third next is b c d =
+      begins (TwoMore op) is ∙ ap (λ (z : ℕ). ends_at code (count_at at + 3) (op z (syllable code (count_at at + 2)))) (sym (syllable_at second code (count_at at + 1) b))
+      ∙ ap (λ (z : ℕ). ends_at code (count_at at + 3) (op (second.bits / 2 ^ 56) z)) (sym (syllable_at third code (count_at at + 2) c)) ∙ ends_before next code (count_at at + 3) (op (second.bits / 2 ^ 56) (third.bits / 2 ^ 56)) d
+
+module _ (cpu : Cpu) (r : Reader) (b : ReaderBehind cpu r 0) where
+  in_its_word : (x : Storage) (plan : Placement) (s : Session) (m : SessionJob) (t : Task) → RepresentsSession x cpu plan s → IsRunning plan s.jobs m t → t.place.syllable < 6
+  in_its_word x plan s m t h runs = let P : Place → Type 0 = λ p. p.syllable < 6 in subst P (h.holds.running m t runs).place b.in_word
+
+  -- an operator without parameters
+  pub lone_through : (op : Code) (next : Reader) → form_of (r.bits / 2 ^ 56) ≡ Some (Alone op) → ReaderBehind cpu next (0 + 1) → ReadsThrough cpu (Plain op) next
+  lone_through op next is c = record {
+    reads = λ x plan s m t ordered h runs.
+        sym (lone (code_of m.constants t.segment) t.place r (in_its_word x plan s m t h runs) (b.at x plan s m t ordered h runs) op next is (c.at x plan s m t ordered h runs));
+    length = 0 + 1;
+    stands = c;
+  }
+
+  -- one with a syllable
+  pub pair_through : (op : ℕ → Op) (second next : Reader) (low : ℕ) (made : Op) → form_of (r.bits / 2 ^ 56) ≡ Some (OneMore op) → ReaderBehind cpu second (0 + 1) → ReaderBehind cpu next (0 + 1 + 1) → low ≡ second.bits / 2 ^ 56 → made ≡ op low → ReadsThrough cpu made next
+  pair_through op second next low made is c d low_is made_is =
+      let same : op (second.bits / 2 ^ 56) ≡ made = ap op (sym low_is) ∙ sym made_is in
+      record {
+        reads = λ x plan s m t ordered h runs.
+            let R : Op → Type 0 = λ o. ◌≡◌ {A = Reading} (Ok (o, reader_place next)) (reading_of m.constants t) in
+            subst R same (sym (pair (code_of m.constants t.segment) t.place r (in_its_word x plan s m t h runs) (b.at x plan s m t ordered h runs) op second next is (c.at x plan s m t ordered h runs) (d.at x plan s m t ordered h runs)));
+        length = 0 + 1 + 1;
+        stands = d;
+      }
+
+  -- one with two
+  pub triple_through : (op : ℕ → ℕ → Op) (second third next : Reader) (high low : ℕ) (made : Op) → form_of (r.bits / 2 ^ 56) ≡ Some (TwoMore op) → ReaderBehind cpu second (0 + 1) → ReaderBehind cpu third (0 + 1 + 1) → ReaderBehind cpu next (0 + 1 + 1 + 1)
+      → high ≡ second.bits / 2 ^ 56 → low ≡ third.bits / 2 ^ 56 → made ≡ op high low → ReadsThrough cpu made next
+  triple_through op second third next high low made is c d e high_is low_is made_is =
+      let same : op (second.bits / 2 ^ 56) (third.bits / 2 ^ 56) ≡ made = ap (λ (z : ℕ). op z (third.bits / 2 ^ 56)) (sym high_is) ∙ ap (op high) (sym low_is) ∙ sym made_is in
+      record {
+        reads = λ x plan s m t ordered h runs.
+            let R : Op → Type 0 = λ o. ◌≡◌ {A = Reading} (Ok (o, reader_place next)) (reading_of m.constants t) in
+            subst R same (sym (triple (code_of m.constants t.segment) t.place r (in_its_word x plan s m t h runs) (b.at x plan s m t ordered h runs) op second third next is (c.at x plan s m t ordered h runs) (d.at x plan s m t ordered h runs) (e.at x plan s m t ordered h runs)));
+        length = 0 + 1 + 1 + 1;
+        stands = e;
+      }
+
+-- ---- what is made
+
+-- an operator that was read and calls no intrinsic
+row_of : (old new : Cpu) (before next : Reader) (op : Op) → HoldsCode old before.code → ReadsThrough old op next → ((h : OperatorContext) → called op h ≡ None)
+    → (x : Storage) (plan : Placement) (s : Session) (m : SessionJob) (t : Task) → IsInOrderButCounts s → RepresentsSession x old plan s → IsRunning plan s.jobs m t → IsMade x plan s m old new (row op (here m t (reader_place next))) → OperatorMeets x plan s m t answers.Done old new
+row_of old new before next op code read quiet x plan s m t ordered h runs k =
+    let given = code x plan s m t ordered h runs in
+    let C : Option ℕ → Type 0 = λ o. CallsOrMeets x plan s m answers.Done old new o (row op (here m t (reader_place next))) in
+    operator_read x plan s m t answers.Done old new before.code.address (Ok (op, reader_place next)) (present x old plan s m t ordered h runs before.code given.0 given.1) (read.reads x plan s m t ordered h runs) (subst C (sym (quiet (here m t (reader_place next)))) k)
+
+-- a reader of the code, where the task has gone on to its place
+stands_there : (old new : Cpu) (r : RunsSome old) (answer : Answer Done) (k : IsMade r.storage r.plan r.session r.member old new answer) (G : Place → Type 0) (l : LeavesCells r.member r.task k.job [] k.touched G) (at : Reader) (n : ℕ)
+    → HoldsCode old at.code → ReaderAt at (code_of r.member.constants r.task.segment) n → new.regs.place ≡ reader_place at → ReaderBehind new at 0
+stands_there old new r answer k G l at n code a place = record {
+  code = holds_on old new at.code r answer k G l code;
+  in_word = (let low : 6 - at.left < 6 = omega (arith, a.some, a.few) in subst (λ (p : Place). p.syllable < 6) (sym place) low);
+  at = λ x plan s m t ordered h runs.
+      let same = code_on old new at.code r answer k G l code x plan s m t ordered h runs in
+      let here_is : t.place ≡ reader_place at = sym (h.holds.running m t runs).place ∙ place in
+      let count : n ≡ count_at (reader_place at) + 0 = omega (arith, a.at, a.some, a.few) in
+      subst (λ (p : Place). ReaderAt at (code_of m.constants t.segment) (count_at p + 0)) (sym here_is)
+      (subst (λ (i : ℕ). ReaderAt at (code_of m.constants t.segment) i) count (subst (λ (c : List ℕ). ReaderAt at c n) same a));
+}
+
+-- an operator that goes on behind it
+pub straight_made : (old new : Cpu) (before next after : Reader) (op : Op) (answered : Step) (made : Bool) → RunsSome old → ReaderBehind old before 0 → is_straight op ≡ true → ReadsThrough old op next
+    → ForEach old (λ x plan s m t. Meets x plan s m answered old new (row op (here m t (reader_place next)))) → WentOn answered made before next after → MadeNear old before made new after
+straight_made old new before next after op answered true r b near read each w =
+    let done : ForEach old (λ x plan s m t. IsMade x plan s m old new (row op (here m t (reader_place next)))) = λ x plan s m t ordered h runs. subst (λ (z : Step). Meets x plan s m z old new (row op (here m t (reader_place next)))) w.0 (each x plan s m t ordered h runs) in
+    let k = done r.storage r.plan r.session r.member r.task r.ordered r.stands r.running in
+    let answer : Answer Done = row op (here r.member r.task (reader_place next)) in
+    let G : Place → Type 0 = λ p. p ≡ reader_place next in
+    let l = straight_leaves r.member r.task k.job [] k.touched G (reader_place next) refl op near k.is in
+    record {
+      row = λ x plan s m t ordered h runs. row_of old new before next op b.code read (straight_calls op near) x plan s m t ordered h runs (done x plan s m t ordered h runs);
+      left = λ x plan s m t ordered h runs. ap leaves_record (sym (read.reads x plan s m t ordered h runs)) ∙ straight_stays op near;
+      stands = subst (λ (z : Reader). ReaderBehind new z 0) (sym w.1)
+          (stands_there old new r answer k G l next (count_at r.task.place + read.length) read.stands.code (read.stands.at r.storage r.plan r.session r.member r.task r.ordered r.stands r.running) (place_on old new next.code r answer k G l read.stands.code ∙ l.goes));
+    }
+straight_made old new before next after op answered false r b near read each w =
+    (unmet r.storage r.plan r.session r.member answered old new (row op (here r.member r.task (reader_place next))) w.0 (each r.storage r.plan r.session r.member r.task r.ordered r.stands r.running), w.1)
+
+-- a branch
+pub branch_made : (old new : Cpu) (before aim next at after : Reader) (always wanted : Bool) (target : Place) (answered : Step) (made : Bool) → RunsSome old → ReaderBehind old before 0 → ReadsThrough old (branch_op always wanted target) next
+    → aim.code ≡ before.code → ForEach old (λ x plan s m t. ReaderAt aim (code_of m.constants t.segment) (count_at target + 0)) → reader_place aim ≡ target
+    → ForEach old (λ x plan s m t. Meets x plan s m answered old new (row (branch_op always wanted target) (here m t (reader_place next)))) → IsEitherReader new.regs.place target aim next at → WentOn answered made before at after → MadeNear old before made new after
+branch_made old new before aim next at after always wanted target answered true r b read code aims aims_at each which w =
+    let op : Op = branch_op always wanted target in
+    let done : ForEach old (λ x plan s m t. IsMade x plan s m old new (row op (here m t (reader_place next)))) = λ x plan s m t ordered h runs. subst (λ (z : Step). Meets x plan s m z old new (row op (here m t (reader_place next)))) w.0 (each x plan s m t ordered h runs) in
+    let k = done r.storage r.plan r.session r.member r.task r.ordered r.stands r.running in
+    let answer : Answer Done = row op (here r.member r.task (reader_place next)) in
+    let G : Place → Type 0 = λ p. (p ≡ reader_place next) ⊎ (p ≡ target) in
+    let l : LeavesCells r.member r.task k.job [] k.touched G = branch_leaves r.member r.task k.job [] k.touched G always wanted (reader_place next) target (inl refl) (inr refl) k.is in
+    let aims_code : HoldsCode old aim.code = subst (HoldsCode old) (sym code) b.code in
+    let there : ReaderBehind new at 0 = elim which [
+      | inl w ↦
+          let A : Reader → Type 0 = λ z. ReaderBehind new z 0 in
+          subst A (sym w.1) (stands_there old new r answer k G l aim (count_at target + 0) aims_code (aims r.storage r.plan r.session r.member r.task r.ordered r.stands r.running) (w.0 ∙ sym aims_at))
+      | inr w ↦
+          let A : Reader → Type 0 = λ z. ReaderBehind new z 0 in
+          let now = place_on old new next.code r answer k G l read.stands.code in
+          let goes : l.place ≡ reader_place next = elim l.goes [
+            | inl p ↦ p
+            | inr p ↦ absurd (w.0 (now ∙ p))
+          ] in
+          subst A (sym w.1) (stands_there old new r answer k G l next (count_at r.task.place + read.length) read.stands.code (read.stands.at r.storage r.plan r.session r.member r.task r.ordered r.stands r.running) (now ∙ goes))
+    ] in
+    record {
+      row = λ x plan s m t ordered h runs. row_of old new before next op b.code read (branch_calls always wanted target) x plan s m t ordered h runs (done x plan s m t ordered h runs);
+      left = λ x plan s m t ordered h runs. ap leaves_record (sym (read.reads x plan s m t ordered h runs)) ∙ branch_stays always wanted target;
+      stands = subst (λ (z : Reader). ReaderBehind new z 0) (sym w.1) there;
+    }
+branch_made old new before aim next at after always wanted target answered false r b read code aims aims_at each which w =
+    (unmet r.storage r.plan r.session r.member answered old new (row (branch_op always wanted target) (here r.member r.task (reader_place next))) w.0 (each r.storage r.plan r.session r.member r.task r.ordered r.stands r.running), w.1)
+
+-- ---- forms and rows
+
+-- the form of the first syllable, by what the table says
+pub form_is : (said n : Near) (first top : ℕ) (f : Form) → ((g : Form) → near_form said first ≡ Some g → form_of first ≡ Some g) → first ≡ top → said ≡ n → near_form n first ≡ Some f → form_of top ≡ Some f
+form_is said n first top f known top_is is says = ap form_of (sym top_is) ∙ known f (ap (λ (k : Near). near_form k first) is ∙ says)
+
+pub form_at : (said n : Near) (first top : ℕ) (F : ℕ → Form) → ((g : Form) → near_form said first ≡ Some g → form_of first ≡ Some g) → first ≡ top → said ≡ n → near_form n first ≡ Some (F first) → form_of top ≡ Some (F top)
+form_at said n first top F known top_is is says = let P : ℕ → Type 0 = λ z. form_of z ≡ Some (F z) in subst P top_is (known (F first) (ap (λ (k : Near). near_form k first) is ∙ says))
+
+pub numbers_straight : (op : Numeric) → is_straight (Plain (code_of_numbers op)) ≡ true
+numbers_straight numeric.Add = refl
+numbers_straight _ = refl
+
+pub numbers_row : (op : Numeric) (h : OperatorContext) → on_cells (on_two (of_numbers op)) h ≡ row (Plain (code_of_numbers op)) h
+numbers_row numeric.Add h = refl
+numbers_row _ h = refl
+
+pub resting_straight : (pushed : Bool) → is_straight (Plain (resting_code pushed)) ≡ true
+resting_straight true = refl
+resting_straight false = refl
+
+pub resting_row : (pushed : Bool) (h : OperatorContext) → leaves_cells h (cells_of h) None ≡ row (Plain (resting_code pushed)) h
+resting_row true h = refl
+resting_row false h = refl
+
+pub branch_row : (wanted : Bool) (target : Place) (h : OperatorContext) → branch_if wanted h (cells_of h) target ≡ row (branch_op false wanted target) h
+branch_row true target h = refl
+branch_row false target h = refl
+
+-- a row under another name, at the same place
+pub each_as : (old new : Cpu) (answered : Step) (op : Op) (p q : Place) (f : OperatorContext → Answer Done) → p ≡ q → ((h : OperatorContext) → f h ≡ row op h)
+    → ForEach old (λ x plan s m t. Meets x plan s m answered old new (f (here m t p))) → ForEach old (λ x plan s m t. Meets x plan s m answered old new (row op (here m t q)))
+each_as old new answered op p q f same is each x plan s m t ordered h runs =
+    subst (λ (z : Answer Done). Meets x plan s m answered old new z) (ap (λ (z : Place). f (here m t z)) same ∙ is (here m t q)) (each x plan s m t ordered h runs)
+
+pub left_fits : (cpu : Cpu) (r : Reader) (n : ℕ) → RunsSome cpu → ReaderBehind cpu r n → r.left ≤ 6
+left_fits cpu r n q b = (b.at q.storage q.plan q.session q.member q.task q.ordered q.stands q.running).few
+
+-- a reader at a place of the code
+pub aimed : (cpu : Cpu) (aim : Reader) (target : Place) → RunsSome cpu → target.syllable < 6 → ForEach cpu (λ x plan s m t. ReaderAt aim (code_of m.constants t.segment) (count_at target + 0)) → reader_place aim ≡ target
+aimed cpu aim target q in_word aims =
+    let a = aims q.storage q.plan q.session q.member q.task q.ordered q.stands q.running in
+    same_place (reader_place aim) target (omega (arith, a.at, a.some, a.few, in_word)) (omega (arith, a.at, a.some, a.few, in_word))

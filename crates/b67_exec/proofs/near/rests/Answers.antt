@@ -1,0 +1,22 @@
+use Rattle.std.proofs.Common.{◌+◌, ◌*◌, ◌/◌, ◌^◌, ◌%◌, None, refl, ap, ◌∙◌, sym, arith}
+use Rattle.b67_model.specs.declared.operators.Op.TheVariants.{Plain}
+use Rattle.b67_model.specs.declared.operators.Code.TheVariants as codes
+use Rattle.b67_model.specs.Common.{Operand, pushes, leaves_cells, cells_of, on_cells, on_two, dlet, exch, dupl}
+use Rattle.b67_arith.specs.Numerics.{of_numbers}
+use Rattle.b67_exec.specs.Near.{code_of_numbers, resting_code, reader_place}
+use Rattle.b67_exec.proofs.Through.{lone_through, straight_made, each_as, left_fits, numbers_row, numbers_straight, resting_row, resting_straight}
+use Rattle.b67_exec.proofs.near.rests.Goals as goal
+
+pub place-requires : goal.place-requires
+place-requires c = left_fits c.args.cpu.now c.in-Some.next (0 + 1) c.requires.runs (c.in-Some.ensures 0 c.requires.stands)
+
+pub returns : goal.returns
+returns c =
+    let old = c.args.cpu.now in
+    let new = c.branch_to-step.new.cpu in
+    let before = c.args.reader.now in
+    let next = c.in-Some.next in
+    let b = c.requires.stands in
+    let d = c.in-Some.ensures 0 b in
+    straight_made old new before next c.went_on.new.reader (Plain (resting_code c.args.pushes)) c.branch_to-step.result c.went_on.result c.requires.runs b (resting_straight c.args.pushes) (lone_through old before b (resting_code c.args.pushes) next c.requires.begins d)
+    (each_as old new c.branch_to-step.result (Plain (resting_code c.args.pushes)) c.place.result (reader_place next) (λ h. leaves_cells h (cells_of h) None) c.place.ensures (resting_row c.args.pushes) c.branch_to-step.ensures.row) c.went_on.ensures

@@ -1,0 +1,12 @@
+pub mod Chunks
+pub mod Gathers
+pub mod Again
+pub mod Joining
+pub mod Loops
+pub mod Forms
+pub mod Shapes
+pub mod Octets
+pub mod Whole
+pub mod Answering
+pub mod Back
+pub mod Meant

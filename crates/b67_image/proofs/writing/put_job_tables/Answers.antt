@@ -1,0 +1,10 @@
+use Rattle.std.proofs.Common.{Ok, Err, ap}
+use Rattle.b67_image.proofs.Chunks.{punched_then, punched_stop, punched_is}
+use Rattle.b67_image.specs.Spelling.{listed_bytes, job_bytes, task_row_bytes}
+use Rattle.b67_image.proofs.writing.put_job_tables.Goals as goal
+
+pub returns-in-Ok-clause-row : goal.returns-in-Ok-clause-row
+returns-in-Ok-clause-row g c = punched_then g.K.Sink.taken c.args.sink.now c.put_jobs.new.sink c.put_rows.new.sink c.args.hand.now c.put_jobs.new.hand c.put_rows.new.hand c.put_rows.result (listed_bytes job_bytes c.args.tasks.now.jobs) (listed_bytes task_row_bytes c.args.tasks.now.rows.items) (punched_is g.K.Sink.taken c.args.sink.now c.put_jobs.new.sink c.args.hand.now c.put_jobs.new.hand (Ok tt) _ _ (ap (listed_bytes job_bytes) c.as_slice.ensures) c.in-Ok.ensures.row) (punched_is g.K.Sink.taken c.put_jobs.new.sink c.put_rows.new.sink c.put_jobs.new.hand c.put_rows.new.hand c.put_rows.result _ _ (ap (listed_bytes task_row_bytes) c.as_slice-in-Ok.ensures.value) c.put_rows.ensures.row)
+
+pub returns-in-Err-clause-row : goal.returns-in-Err-clause-row
+returns-in-Err-clause-row g c = punched_stop g.K.Sink.taken c.args.sink.now c.put_jobs.new.sink c.args.hand.now c.put_jobs.new.hand c.in-Err.failed (listed_bytes job_bytes c.args.tasks.now.jobs) (listed_bytes task_row_bytes c.args.tasks.now.rows.items) (punched_is g.K.Sink.taken c.args.sink.now c.put_jobs.new.sink c.args.hand.now c.put_jobs.new.hand (Err c.in-Err.failed) _ _ (ap (listed_bytes job_bytes) c.as_slice.ensures) c.in-Err.ensures.row)

@@ -1,0 +1,14 @@
+use Rattle.std.proofs.Common.{◌++◌, Ok, Err}
+use Rattle.b67_backing.specs.Links.{links_in}
+use Rattle.b67_image.proofs.Chunks.{punched_then, punched_stop, punched_is}
+use Rattle.b67_image.specs.Parts.{parts_of}
+use Rattle.b67_image.specs.Spelling.{image_header, listed_bytes, four_bytes, eight_bytes, areas_bytes, cpu_bytes, tables_bytes, image_bytes}
+use Rattle.b67_image.proofs.writing.put_machine.Goals as goal
+
+pub returns-in-Ok-clause-row : goal.returns-in-Ok-clause-row
+unfolding image_bytes
+returns-in-Ok-clause-row g c = punched_then g.K.Sink.taken c.args.sink.now c.punch.new.sink c.put_items.new.sink c.args.hand.now c.punch.new.self c.put_items.new.hand c.put_items.result (eight_bytes image_header) (cpu_bytes (parts_of c.args.machine.now) ++ (areas_bytes c.args.machine.now.areas ++ (listed_bytes four_bytes (links_in c.args.machine.now.sectors) ++ tables_bytes (parts_of c.args.machine.now)))) (punched_is g.K.Sink.taken c.args.sink.now c.punch.new.sink c.args.hand.now c.punch.new.self (Ok tt) _ _ c.to_be_bytes.ensures c.in-Ok.ensures.row) c.put_items.ensures.row
+
+pub returns-in-Err-clause-row : goal.returns-in-Err-clause-row
+unfolding image_bytes
+returns-in-Err-clause-row g c = punched_stop g.K.Sink.taken c.args.sink.now c.punch.new.sink c.args.hand.now c.punch.new.self c.in-Err.failed (eight_bytes image_header) (cpu_bytes (parts_of c.args.machine.now) ++ (areas_bytes c.args.machine.now.areas ++ (listed_bytes four_bytes (links_in c.args.machine.now.sectors) ++ tables_bytes (parts_of c.args.machine.now)))) (punched_is g.K.Sink.taken c.args.sink.now c.punch.new.sink c.args.hand.now c.punch.new.self (Err c.in-Err.failed) _ _ c.to_be_bytes.ensures c.in-Err.ensures.row)

@@ -1,5 +1,0 @@
-use Rattle.b67_presence.proofs.Again.{view_stands}
-use Rattle.b67_presence.proofs.paging.sessions_can_page.Goals as goal
-
-pub returns : goal.returns
-returns c = view_stands

@@ -1,0 +1,161 @@
+-- The lines of a run are no cards of an image.
+use Rattle.std.proofs.Common.{◌≡◌, ◌≢◌, ◌⊎◌, ◌<◌, ◌≤◌, ◌+◌, ℕ, length, None, Ok, zero, suc, Bool, true, false, not, List, [], ◌∷◌, ◌++◌, codes, decimal, inl, inr, refl, sym, ap, subst, ◌∙◌, arith, append_assoc, append-nil}
+use Rattle.std.specs.Prelude.{ℤ, pos, negsuc, ◌==◌, ◌&&◌, ◌/◌, ◌%◌, nat_lt}
+use Rattle.std.specs.List.{list_all, flat_map, AllByRecursion}
+use Rattle.std.specs.Fmt.{digits, digits_onto, digit_glyph, signed_decimal}
+use Rattle.std.proofs.lemmas.Bool.{cases_Bool, and_parts, eq-eqb, lt-ltb, false≢true}
+use Rattle.std.proofs.lemmas.Grind.{flat_map-append}
+use Rattle.std.proofs.lemmas.List.Concat.{flat_map-cons}
+use Rattle.b67_io.specs.Line.{ended}
+use Rattle.b67_word.specs.declared.faults.Fault.{Fault}
+use Rattle.b67_word.specs.declared.faults.Fault.TheVariants.{StackUnderflow, StackOverflow, InvalidOperand, InvalidIndex, MemoryProtect, InvalidAddress, IntegerOverflow, DivideByZero, Exponent, Loop, Uplevel, CriticalBlock, InvalidOperator, MarkPending}
+use Rattle.b67_word.specs.declared.faults.Ending.{Ending}
+use Rattle.b67_word.specs.declared.faults.Ending.TheVariants.{Ended, Parent, Deadlock, Limit, Faulted}
+use Rattle.b67_model.specs.Steps.{Line, Value, Values, Ends}
+use Rattle.b67_model.specs.Lines.{fault_name, ending_name, task_name, value_text, row_text, line_text}
+use Rattle.b67_model.specs.Common.{RunLine, run_text}
+use Rattle.b67_session_lines.specs.Stops.{halted_line}
+use Rattle.b67_image.specs.Parts.{parts_of}
+use Rattle.b67_image.specs.Spelling.{image_bytes}
+use Rattle.b67_image.specs.Text.{limit, image_text_of}
+use Rattle.b67_image.specs.Meaning.{told_in}
+use Rattle.b67_image.specs.Image.{image_text}
+use Rattle.b67_image.proofs.Octets.{octets}
+use Rattle.b67_image.proofs.Whole.{told_again}
+use Rattle.b67_promises.specs.Images.{HasNoMark, AreOtherLines, LinesAreOther, ImagesOfRunsAreRead}
+use Rattle.b67_promises.proofs.Among.{told_among}
+
+-- ---- texts without a mark
+
+joined : (xs ys : List ℕ) → HasNoMark xs → HasNoMark ys → HasNoMark (xs ++ ys)
+joined [] ys p q = q
+joined (x ∷ xs) ys p q = (p.0, joined xs ys p.1 q)
+
+tested : (xs : List ℕ) → list_all (λ b. not (b == 10) && not (b == 63)) xs ≡ true → HasNoMark xs
+tested [] e = tt
+tested (x ∷ xs) e =
+    let both = and_parts (not (x == 10) && not (x == 63)) (list_all (λ b. not (b == 10) && not (b == 63)) xs) e in
+    let each = and_parts (not (x == 10)) (not (x == 63)) both.0 in (
+      ((λ (is : x ≡ 10). false≢true (sym (ap not (eq-eqb x 10 is)) ∙ each.0)), (λ (is : x ≡ 63). false≢true (sym (ap not (eq-eqb x 63 is)) ∙ each.1))),
+      tested xs both.1,
+    )
+
+glyph : (d c : ℕ) → d < 10 → (c ≡ 10) ⊎ (c ≡ 63) → digit_glyph false d ≢ c
+glyph d c low marks e = elim (cases_Bool (nat_lt d 10)) [
+  | inl t ↦ let f : 48 + d ≡ c = rw t at e in by f marks
+  | inr z ↦ absurd (false≢true (sym z ∙ lt-ltb d 10 low))
+]
+  where
+    by : 48 + d ≡ c → (c ≡ 10) ⊎ (c ≡ 63) → ⊥
+    by f (inl t) = absurd (omega (arith, f, t))
+    by f (inr t) = absurd (omega (arith, f, t, low))
+
+onto : (k n : ℕ) (acc : List ℕ) → HasNoMark acc → HasNoMark (digits_onto k 10 false n acc)
+onto zero n acc p = p
+onto (suc k) n acc p =
+    let low : n % 10 < 10 = omega arith in
+    let one : (digit_glyph false (n % 10) ≢ 10) × (digit_glyph false (n % 10) ≢ 63) = (glyph (n % 10) 10 low (inl refl), glyph (n % 10) 63 low (inr refl)) in
+    elim (cases_Bool (n / 10 == 0)) [
+      | inl t ↦ rw t (one, p)
+      | inr z ↦ rw z (onto k (n / 10) (digit_glyph false (n % 10) ∷ acc) (one, p))
+    ]
+
+numeral : (n : ℕ) → HasNoMark (decimal n)
+unfolding digits
+numeral n = onto 64 n [] tt
+
+signed : (v : ℤ) → HasNoMark (signed_decimal v)
+signed (pos n) = numeral n
+signed (negsuc n) = (((λ (e : 45 ≡ 10). absurd (omega (arith, e))), (λ (e : 45 ≡ 63). absurd (omega (arith, e)))), numeral (suc n))
+
+value_other : (v : ℤ) → HasNoMark (value_text v)
+value_other v = joined (codes " ") (signed_decimal v) (tested (codes " ") refl) (signed v)
+
+name_other : (job task : ℕ) → HasNoMark (task_name job task)
+name_other job task = joined (decimal job ++ codes ".") (decimal task) (joined (decimal job) (codes ".") (numeral job) (tested (codes ".") refl)) (numeral task)
+
+fault_other : (fault : Fault) → HasNoMark (fault_name fault)
+fault_other StackUnderflow = tested (codes "STACK UNDERFLOW") refl
+fault_other StackOverflow = tested (codes "STACK OVERFLOW") refl
+fault_other InvalidOperand = tested (codes "INVALID OPERAND") refl
+fault_other InvalidIndex = tested (codes "INVALID INDEX") refl
+fault_other MemoryProtect = tested (codes "MEMORY PROTECT") refl
+fault_other InvalidAddress = tested (codes "INVALID ADDRESS") refl
+fault_other IntegerOverflow = tested (codes "INTEGER OVERFLOW") refl
+fault_other DivideByZero = tested (codes "DIVIDE BY ZERO") refl
+fault_other Exponent = tested (codes "EXPONENT") refl
+fault_other Loop = tested (codes "LOOP") refl
+fault_other Uplevel = tested (codes "UPLEVEL") refl
+fault_other CriticalBlock = tested (codes "CRITICAL BLOCK") refl
+fault_other InvalidOperator = tested (codes "INVALID OPERATOR") refl
+fault_other MarkPending = tested (codes "MARK PENDING") refl
+
+ending_other : (ending : Ending) → HasNoMark (ending_name ending)
+ending_other Ended = tested (codes "ENDED") refl
+ending_other Parent = tested (codes "PARENT") refl
+ending_other Deadlock = tested (codes "DEADLOCK") refl
+ending_other Limit = tested (codes "LIMIT") refl
+ending_other (Faulted fault) = fault_other fault
+
+-- ---- lines
+
+none_other : AreOtherLines []
+none_other = record { each = []; is = refl; other = tt }
+
+-- one line, and then others
+one_more : (line text : List ℕ) → HasNoMark line → AreOtherLines text → AreOtherLines (ended line ++ text)
+one_more line text p h = record {
+  each = line ∷ h.each;
+  is = ap (λ (t : List ℕ). ended line ++ t) h.is ∙ sym (flat_map-cons ended line h.each);
+  other = (p, h.other);
+}
+
+one_alone : (line : List ℕ) → HasNoMark line → AreOtherLines (ended line)
+one_alone line p = subst AreOtherLines (append-nil (ended line)) (one_more line [] p none_other)
+
+both_all : (xs ys : List (List ℕ)) → AllByRecursion HasNoMark xs → AllByRecursion HasNoMark ys → AllByRecursion HasNoMark (xs ++ ys)
+both_all [] ys p q = q
+both_all (x ∷ xs) ys p q = (p.0, both_all xs ys p.1 q)
+
+both_other : (a b : List ℕ) → AreOtherLines a → AreOtherLines b → AreOtherLines (a ++ b)
+both_other a b p q = record {
+  each = p.each ++ q.each;
+  is = ap (λ (t : List ℕ). t ++ b) p.is ∙ ap (λ (t : List ℕ). flat_map ended p.each ++ t) q.is ∙ sym (flat_map-append ended p.each q.each);
+  other = both_all p.each q.each p.other q.other;
+}
+
+-- a row of values behind what stands on the line
+row_other : (name before : List ℕ) (room : ℕ) (vs : List ℤ) → HasNoMark name → HasNoMark before → AreOtherLines (before ++ row_text name room vs)
+row_other name before room [] p q = one_alone before q
+row_other name before zero (v ∷ vs) p q =
+    let rest = row_other name (name ++ value_text v) 9 vs p (joined name (value_text v) p (value_other v)) in
+    subst AreOtherLines (same name before (value_text v) (row_text name 9 vs)) (one_more before ((name ++ value_text v) ++ row_text name 9 vs) q rest)
+  where
+    same : (name before value row : List ℕ) → ended before ++ ((name ++ value) ++ row) ≡ before ++ (((codes "\n" ++ name) ++ value) ++ row)
+    same name before value row = append_assoc before (codes "\n") ((name ++ value) ++ row)
+row_other name before (suc room) (v ∷ vs) p q =
+    subst AreOtherLines (append_assoc before (value_text v) (row_text name room vs)) (row_other name (before ++ value_text v) room vs p (joined before (value_text v) q (value_other v)))
+
+line_other : (job : ℕ) (task : ℕ) (line : Line) → AreOtherLines (line_text job (task, line))
+line_other job task (Value v) = one_alone (task_name job task ++ value_text v) (joined (task_name job task) (value_text v) (name_other job task) (value_other v))
+line_other job task (Values vs) = row_other (task_name job task) (task_name job task) 10 vs (name_other job task) (name_other job task)
+line_other job task (Ends ending) =
+    one_alone (task_name job task ++ codes " " ++ ending_name ending)
+    (joined (task_name job task ++ codes " ") (ending_name ending) (joined (task_name job task) (codes " ") (name_other job task) (tested (codes " ") refl)) (ending_other ending))
+
+pub lines_other : LinesAreOther
+lines_other [] = none_other
+lines_other (l ∷ ls) =
+    subst AreOtherLines (sym (flat_map-cons (λ (line : RunLine). line_text line.0 (line.1, line.2)) l ls))
+    (both_other (line_text l.0 (l.1, l.2)) (run_text ls) (line_other l.0 l.1 l.2) (lines_other ls))
+
+-- ---- the text of a run that halts
+
+pub read_among : ImagesOfRunsAreRead
+unfolding image_text
+read_among printed count m h few =
+    let o = lines_other printed in
+    let bytes = image_bytes (parts_of m) in
+    let tail = ended (halted_line count) in
+    let t = told_among o.each tail bytes (parts_of m) o.other (octets (parts_of m) h).all (told_again (parts_of m) h) (subst (λ (x : List ℕ). length (x ++ (image_text_of bytes ++ tail)) ≤ limit) o.is few) in
+    (t.0, subst (λ (x : List ℕ). told_in None (x ++ (image_text_of bytes ++ tail)) ≡ Ok (t.0, parts_of m)) (sym o.is) t.1)

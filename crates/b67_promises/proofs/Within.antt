@@ -1,0 +1,303 @@
+-- Assembled cards make a codefile within its limits.
+use Rattle.std.proofs.Common.{◌⊎◌, inl, inr, ◌≡◌, ℕ, ◌+◌, ◌*◌, ◌^◌, ◌<◌, ◌≤◌, Bool, true, false, not, cond, refl, ap, subst, arith, Option, Some, None, List, [], ◌∷◌, ◌++◌, length, map, eqb, Result, Ok, Err}
+use Rattle.std.specs.Prelude.{nat_lt, nat_le, IfSome, ⊤}
+use Rattle.std.specs.Int.{w8, w16, w64, to_be_bytes}
+use Rattle.std.specs.List.{AllByRecursion, flat_map, list_any}
+use Rattle.std.proofs.lemmas.Bool.{leb-true, ltb-true, or_parts}
+use Rattle.std.proofs.lemmas.List.{length-append, length-map}
+use Rattle.b67_word.specs.Tagged.{Tagged, word}
+use Rattle.b67_model.specs.Common.{Program}
+use Rattle.b67_codefile.specs.declared.file.Segment.{Segment}
+use Rattle.b67_codefile.specs.declared.file.Codefile.{Codefile}
+use Rattle.b67_codefile.specs.Spelling.{header, word_bytes, row_bytes, entry_bytes, segment_bytes, spelling, IsFileSegment, IsRow, HasNoEntries, IsWithin}
+use Rattle.b67_model_text.specs.declared.card.Card.{Card}
+use Rattle.b67_model_text.specs.declared.assembly.Statement as statement
+use Rattle.b67_model_text.specs.declared.assembly.Statement.TheVariants as statements
+use Rattle.b67_model_text.specs.declared.assembly.Line.{Line}
+use Rattle.b67_model_text.specs.Answers.{Answer, ◌>>=◌, ◌>>◌, needs}
+use Rattle.b67_model_text.specs.Deck.{Refusal, of_card}
+use Rattle.b67_model_text.specs.Encoding.{laid, code_words}
+use Rattle.b67_model_text.specs.Statements.{segment, lines_of}
+use Rattle.b67_model_text.specs.Asm.{Names, names_of, Scope, SegmentContent, content_of, syllable_bits, is_word, value_in, row_values, row_words, Part, CodePart, RowPart, segments_behind, rows_behind, segment_count, misplaced, is_head, is_code, is_numbers, own, is_segment_number, is_row_number, segment_part, row_part, program_part, with_part, program_from, no_strays, assembled, says_entry, version_of}
+use Rattle.b67_model_text.proofs.Answers.{after_both, after_needs, err-ok}
+use Rattle.b67_model_text.proofs.Contents.{same_Ok}
+use Rattle.b67_asm.specs.Putting.{put_behind}
+use Rattle.b67_asm.specs.Scope.{scope_at}
+use Rattle.b67_asm.proofs.Entries.{entries_fit, no_entries, plain_rest}
+use Rattle.b67_job_admit.specs.Verdicts.{segment_file, codefile_of}
+use Rattle.b67_promises.proofs.Syllables.{Bytes, bytes_append, content_laid, some_operators, code_fits, IsSmallWord, have_tag}
+use Rattle.b67_promises.proofs.Levels.{SmallLevel, IsSmallLine, lines_small}
+
+-- ---- data rows
+
+not_true : (b : Bool) → not b ≡ true → b ≡ false
+not_true true e = absurd (let z : ⊥ = cc in z)
+not_true false e = refl
+
+not_false : (b : Bool) → not b ≡ false → b ≡ true
+not_false true e = refl
+not_false false e = absurd (let z : ⊥ = cc in z)
+
+values_small : (vs : List (Option ℕ)) → list_any (λ v. not (is_word v)) vs ≡ false → AllByRecursion IsSmallWord (map value_in vs)
+values_small [] e = tt
+values_small (None ∷ vs) e = absurd (let z : ⊥ = cc in z)
+values_small (Some n ∷ vs) e =
+    let parts = or_parts (not (nat_lt n (2 ^ 48))) (list_any (λ v. not (is_word v)) vs) e in
+    (ltb-true n (2 ^ 48) (not_false (nat_lt n (2 ^ 48)) parts.0), values_small vs parts.1)
+
+-- words of a row behind so many
+record RowFits (n : ℕ) (ws : List ℕ) : Type 0 where
+  few : n + length ws ≤ 65535
+  small : AllByRecursion IsSmallWord ws
+
+card_fits : (names : Names) (n : ℕ) (s : statement.Statement) (ws : List ℕ) → row_values names n s ≡ Ok ws → RowFits n ws × (1 ≤ length ws)
+card_fits names n (statements.Values first more) ws e =
+    let vs : List (Option ℕ) = first ∷ more in
+    let a = after_needs (not (list_any (λ v. not (is_word v)) vs)) 3 (needs (nat_le (n + length vs) 65535) 7 >> Ok (map value_in vs)) ws e in
+    let b = after_needs (nat_le (n + length vs) 65535) 7 (Ok (map value_in vs)) ws a.1 in
+    let size = length-map vs value_in in
+    let most = leb-true (n + length vs) 65535 b.0 in
+    subst (λ (xs : List ℕ). RowFits n xs × (1 ≤ length xs)) (same_Ok (map value_in vs) ws b.1)
+    (record { few = omega (arith, size, most); small = values_small vs (not_true _ a.0) }, omega (arith, size))
+card_fits names n (statements.Segment name level) ws e = err-ok (misplaced names (statements.Segment name level)) ws _ e
+card_fits names n (statements.Row name) ws e = err-ok (misplaced names (statements.Row name)) ws _ e
+card_fits names n (statements.Operator label own) ws e = err-ok (misplaced names (statements.Operator label own)) ws _ e
+card_fits names n (statements.Entry label) ws e = err-ok (misplaced names (statements.Entry label)) ws _ e
+
+pub of_card_ok : {A : Type 0} (number : ℕ) (r : Answer A) (a : A) → of_card number r ≡ Ok a → r ≡ Ok a
+of_card_ok number (Ok x) a e = let is : x ≡ a = cc in ap (λ y. Ok y) is
+of_card_ok number (Err reason) a e = err-ok (record { card = number; reason = reason }) a _ e
+
+small_append : (xs ys : List ℕ) → AllByRecursion IsSmallWord xs → AllByRecursion IsSmallWord ys → AllByRecursion IsSmallWord (xs ++ ys)
+small_append [] ys h k = k
+small_append (x ∷ xs) ys h k = (h.0, small_append xs ys h.1 k)
+
+-- the first card's words, and those behind it
+record RowHeaded (names : Names) (n : ℕ) (more : List Line) (ws : List ℕ) : Type 0 where
+  first : List ℕ
+  rest : List ℕ
+  first_fits : RowFits n first
+  some : 1 ≤ length first
+  behind : row_words names (n + length first) more ≡ Ok rest
+  all : first ++ rest ≡ ws
+
+row_headed : (names : Names) (n : ℕ) (l : Line) (more : List Line) (ws : List ℕ) → row_words names n (l ∷ more) ≡ Ok ws → RowHeaded names n more ws
+row_headed names n l more ws e =
+    let a = after_both (of_card l.number (l.says >>= row_values names n)) (λ words. row_words names (n + length words) more >>= λ rest. Ok (words ++ rest)) ws e in
+    let b = after_both (row_words names (n + length a.0) more) (λ rest. Ok (a.0 ++ rest)) ws a.2 in
+    let c = after_both l.says (row_values names n) a.0 (of_card_ok l.number (l.says >>= row_values names n) a.0 a.1) in
+    let d = card_fits names n c.0 a.0 c.2 in
+    record { first = a.0; rest = b.0; first_fits = d.0; some = d.1; behind = b.1; all = same_Ok (a.0 ++ b.0) ws b.2 }
+
+row_fits : (names : Names) (n : ℕ) (lines : List Line) (ws : List ℕ) → n ≤ 65535 → row_words names n lines ≡ Ok ws → RowFits n ws
+row_fits names n [] ws low e = subst (RowFits n) (same_Ok [] ws e) (record { few = omega (arith, low); small = tt })
+row_fits names n (l ∷ more) ws low e =
+    let h = row_headed names n l more ws e in
+    let size = h.first_fits.few in
+    let rest = row_fits names (n + length h.first) more h.rest size h.behind in
+    let more_few = rest.few in
+    subst (RowFits n) h.all (record { few = omega (arith, more_few, length-append h.first h.rest); small = small_append h.first h.rest h.first_fits.small rest.small })
+
+row_some : (names : Names) (lines : List Line) (ws : List ℕ) → row_words names 0 lines ≡ Ok ws → list_any (λ l. is_numbers l.kind) lines ≡ true → 1 ≤ length ws
+row_some names [] ws e t = absurd (let z : ⊥ = cc in z)
+row_some names (l ∷ more) ws e t =
+    let h = row_headed names 0 l more ws e in
+    let some = h.some in
+    subst (λ (xs : List ℕ). 1 ≤ length xs) h.all (omega (arith, some, length-append h.first h.rest))
+
+row_is_row : (names : Names) (lines : List Line) (ws : List ℕ) → row_words names 0 lines ≡ Ok ws → list_any (λ l. is_numbers l.kind) lines ≡ true → IsRow (map (word 0) ws)
+row_is_row names lines ws e t =
+    let fits = row_fits names 0 lines ws (omega arith) e in
+    let most = fits.few in
+    let size = length-map ws (word 0) in
+    record { some = omega (arith, size, row_some names lines ws e t); few = omega (arith, size, most); each = have_tag 0 ws fits.small }
+
+-- ---- one part
+
+abbrev has_entry_card : List Line → Bool
+has_entry_card lines = list_any (λ l. says_entry l.says) lines
+
+pub after_card : {B : Type 0} (number : ℕ) (t : Bool) (reason : ℕ) (rest : Result B Refusal) (b : B) → (of_card number (needs t reason) >> rest) ≡ Ok b → (t ≡ true) × (rest ≡ Ok b)
+after_card number true reason rest b e = (refl, e)
+after_card number false reason rest b e = err-ok (record { card = number; reason = reason }) b _ e
+
+abbrev PartFits : Part → Type 0
+PartFits (CodePart s) = IsFileSegment (segment_file s)
+PartFits (RowPart ws) = IsRow (map (word 0) ws)
+
+abbrev IsPlainPart : Part → Type 0
+IsPlainPart (CodePart s) = s.entries ≡ []
+IsPlainPart (RowPart ws) = Unit {0}
+
+-- so many segments and rows with it
+abbrev PartCounts : Part → (s r s' r' : ℕ) → Type 0
+PartCounts (CodePart segment) s r s' r' = (s' ≡ s + 1) × (r' ≡ r)
+PartCounts (RowPart ws) s r s' r' = (s' ≡ s) × (r' ≡ r + 1)
+
+record PartIn (s r s' r' : ℕ) (lines : List Line) (part : Part) : Type 0 where
+  few : s + r < 255
+  fits : PartFits part
+  plain : has_entry_card lines ≡ false → IsPlainPart part
+  counts : PartCounts part s r s' r'
+
+segment_in : (names : Names) (segments s r number : ℕ) (name : List ℕ) (level : Option ℕ) (lines : List Line) (part : Part) → IfSome level (λ l. l < 2 ^ 8) → segment_part names segments s r number name level lines ≡ Ok part → PartIn s r (s + 1) r lines part
+segment_in names segments s r number name None lines part small e = err-ok (record { card = number; reason = 3 }) part _ e
+segment_in names segments s r number name (Some level) lines part small e =
+    let scope : Scope = scope_at names segments level lines in
+    let part_with : SegmentContent → Part = λ content. CodePart (record { level = level; entries = map syllable_bits content.entries; code = code_words content.operators }) in
+    let put : Result Part Refusal = content_of scope 0 [] lines >>= λ content. Ok (part_with content) in
+    let a = after_card number (is_segment_number s (names.means name)) 4 (of_card number (needs (list_any is_code lines) 7) >> (of_card number (needs (nat_lt (s + r) 255) 9) >> put)) part e in
+    let b = after_card number (list_any is_code lines) 7 (of_card number (needs (nat_lt (s + r) 255) 9) >> put) part a.1 in
+    let c = after_card number (nat_lt (s + r) 255) 9 put part b.1 in
+    let d = after_both (content_of scope 0 [] lines) (λ content. Ok (part_with content)) part c.1 in
+    let content : SegmentContent = d.0 in
+    let behind : put_behind [] (content_of scope 0 [] lines) ≡ Ok (laid 0 content.operators, content.entries) = ap (put_behind []) d.1 in
+    subst (PartIn s r (s + 1) r lines) (same_Ok (part_with content) part d.2) (record {
+      few = ltb-true (s + r) 255 c.0;
+      fits = record {
+        level = small;
+        entries = entries_fit names segments level lines (laid 0 content.operators) content.entries (map syllable_bits content.entries) behind refl;
+        code = code_fits content.operators (some_operators scope 0 [] lines content d.1 b.0) (content_laid scope 0 [] lines content (omega arith) d.1);
+      };
+      plain = λ none. no_entries names segments level lines (laid 0 content.operators) content.entries (map syllable_bits content.entries) behind refl none;
+      counts = (refl, refl);
+    })
+
+row_in_part : (names : Names) (s r number : ℕ) (name : List ℕ) (lines : List Line) (part : Part) → row_part names s r number name lines ≡ Ok part → PartIn s r s (r + 1) lines part
+row_in_part names s r number name lines part e =
+    let put : Result Part Refusal = row_words names 0 lines >>= λ words. Ok (RowPart words) in
+    let a = after_card number (is_row_number r (names.means name)) 4 (of_card number (needs (list_any (λ l. is_numbers l.kind) lines) 7) >> (of_card number (needs (nat_lt (s + r) 255) 9) >> put)) part e in
+    let b = after_card number (list_any (λ l. is_numbers l.kind) lines) 7 (of_card number (needs (nat_lt (s + r) 255) 9) >> put) part a.1 in
+    let c = after_card number (nat_lt (s + r) 255) 9 put part b.1 in
+    let d = after_both (row_words names 0 lines) (λ words. Ok (RowPart words)) part c.1 in
+    subst (PartIn s r s (r + 1) lines) (same_Ok (RowPart d.0) part d.2)
+    (record { few = ltb-true (s + r) 255 c.0; fits = row_is_row names lines d.0 d.1 b.0; plain = λ none. tt; counts = (refl, refl) })
+
+part_in : (names : Names) (segments s r number : ℕ) (a : Answer statement.Statement) (lines : List Line) (part : Part) → SmallLevel a → program_part names segments s r number a lines ≡ Ok part → PartIn s r (segments_behind s a) (rows_behind r a) lines part
+part_in names segments s r number (Ok (statements.Segment name level)) lines part small e = segment_in names segments s r number name level lines part small e
+part_in names segments s r number (Ok (statements.Row name)) lines part small e = row_in_part names s r number name lines part e
+part_in names segments s r number (Ok (statements.Values first more)) lines part small e = err-ok (record { card = number; reason = misplaced names (statements.Values first more) }) part _ e
+part_in names segments s r number (Ok (statements.Operator label own)) lines part small e = err-ok (record { card = number; reason = misplaced names (statements.Operator label own) }) part _ e
+part_in names segments s r number (Ok (statements.Entry label)) lines part small e = err-ok (record { card = number; reason = misplaced names (statements.Entry label) }) part _ e
+part_in names segments s r number (Err reason) lines part small e = err-ok (record { card = number; reason = reason }) part _ e
+
+-- ---- all parts
+
+record Fits (s r : ℕ) (lines : List Line) (p : Program) : Type 0 where
+  count : s + length p.segments + (r + length p.rows) ≤ 255
+  segments : AllByRecursion IsFileSegment (map segment_file p.segments)
+  rows : AllByRecursion IsRow (map (map (word 0)) p.rows)
+  plain : has_entry_card lines ≡ false → AllByRecursion HasNoEntries (map segment_file p.segments)
+
+with_fits : (s r s' r' : ℕ) (l : Line) (more : List Line) (part : Part) (rest : Program) → PartIn s r s' r' (own more) part → (s' + r' ≤ 255 → Fits s' r' more rest) → Fits s r (l ∷ more) (with_part part rest)
+with_fits s r s' r' l more (CodePart segment) rest i go =
+    let few = i.few in
+    let more_s = i.counts.0 in
+    let same_r = i.counts.1 in
+    let f = go (omega (arith, few, more_s, same_r)) in
+    let count = f.count in
+    record {
+      count = omega (arith, count, more_s, same_r);
+      segments = (i.fits, f.segments);
+      rows = f.rows;
+      plain = λ none. let parts = or_parts (says_entry l.says) (has_entry_card more) none in (i.plain (plain_rest 0 more parts.1), f.plain parts.1);
+    }
+with_fits s r s' r' l more (RowPart ws) rest i go =
+    let few = i.few in
+    let same_s = i.counts.0 in
+    let more_r = i.counts.1 in
+    let f = go (omega (arith, few, same_s, more_r)) in
+    let count = f.count in
+    record {
+      count = omega (arith, count, same_s, more_r);
+      segments = f.segments;
+      rows = (i.fits, f.rows);
+      plain = λ none. f.plain (or_parts (says_entry l.says) (has_entry_card more) none).1;
+    }
+
+abbrev pub go_on : Names → (segments s r : ℕ) → Line → List Line → Part → Result Program Refusal
+go_on names segments s r l more part = program_from names segments (segments_behind s l.says) (rows_behind r l.says) more >>= λ rest. Ok (with_part part rest)
+
+program_fits : (names : Names) (segments s r : ℕ) (lines : List Line) (p : Program) → AllByRecursion IsSmallLine lines → s + r ≤ 255 → program_from names segments s r lines ≡ Ok p → Fits s r lines p
+program_fits names segments s r [] p small few e =
+    subst (Fits s r []) (same_Ok (record { segments = []; rows = [] }) p e) (record { count = omega (arith, few); segments = tt; rows = tt; plain = λ none. tt })
+program_fits names segments s r (l ∷ more) p small few e =
+    by_head (λ rest few e. program_fits names segments (segments_behind s l.says) (rows_behind r l.says) more rest small.1 few e) (λ e. program_fits names segments s r more p small.1 few e) (is_head l.kind) e
+  where
+    by_head : ((rest : Program) → segments_behind s l.says + rows_behind r l.says ≤ 255 → program_from names segments (segments_behind s l.says) (rows_behind r l.says) more ≡ Ok rest → Fits (segments_behind s l.says) (rows_behind r l.says) more rest)
+        → (program_from names segments s r more ≡ Ok p → Fits s r more p)
+        → (b : Bool) → cond b (program_part names segments s r l.number l.says (own more) >>= go_on names segments s r l more) (program_from names segments s r more) ≡ Ok p
+        → Fits s r (l ∷ more) p
+    by_head begun skip true e =
+        let a = after_both (program_part names segments s r l.number l.says (own more)) (go_on names segments s r l more) p e in
+        let b = after_both (program_from names segments (segments_behind s l.says) (rows_behind r l.says) more) (λ rest. Ok (with_part a.0 rest)) p a.2 in
+        subst (Fits s r (l ∷ more)) (same_Ok (with_part a.0 b.0) p b.2)
+        (with_fits s r (segments_behind s l.says) (rows_behind r l.says) l more a.0 b.0 (part_in names segments s r l.number l.says (own more) a.0 small.0 a.1) (λ few. begun b.0 few b.1))
+    by_head begun skip false e =
+        let f = skip e in
+        record { count = f.count; segments = f.segments; rows = f.rows; plain = λ none. f.plain (or_parts (says_entry l.says) (has_entry_card more) none).1 }
+
+abbrev version_by : Bool → ℕ
+version_by b = cond b 2 1
+
+version_either : (b : Bool) → (version_by b ≡ 1) ⊎ (version_by b ≡ 2)
+version_either true = inr refl
+version_either false = inl refl
+
+version_plain : (b : Bool) → version_by b ≡ 1 → b ≡ false
+version_plain true e = absurd (let z : ⊥ = cc in z)
+version_plain false e = refl
+
+-- the codefile of assembled cards is within its limits
+pub assembled_within : (cards : List Card) (p : Program) → assembled cards ≡ Ok p → IsWithin (codefile_of (version_of cards) p)
+assembled_within cards p e =
+    let all : List Line = lines_of cards in
+    let a = after_both (no_strays (names_of all) all) (λ (u : ⊤). program_from (names_of all) (segment_count 0 all) 0 0 all) p e in
+    let f = program_fits (names_of all) (segment_count 0 all) 0 0 all p (lines_small cards) (omega arith) a.2 in
+    let count = f.count in
+    record {
+      version = version_either (has_entry_card all);
+      count = omega (arith, count, length-map p.segments segment_file, length-map p.rows (map (word 0)));
+      segments = f.segments;
+      rows = f.rows;
+      plain = λ one. f.plain (version_plain (has_entry_card all) one);
+    }
+
+-- ---- the bytes of a codefile
+
+flat_bytes : {X : Type 0} (f : X → List ℕ) → ((x : X) → Bytes (f x)) → (xs : List X) → Bytes (flat_map f xs)
+flat_bytes f each [] = tt
+flat_bytes f each (x ∷ xs) = bytes_append (f x) (flat_map f xs) (each x) (flat_bytes f each xs)
+
+eight_bytes : (n : ℕ) → Bytes (to_be_bytes w64 n)
+eight_bytes n = (omega arith, (omega arith, (omega arith, (omega arith, (omega arith, (omega arith, (omega arith, (omega arith, tt))))))))
+
+two_bytes : (n : ℕ) → Bytes (to_be_bytes w16 n)
+two_bytes n = (omega arith, (omega arith, tt))
+
+one_byte : (n : ℕ) → Bytes (to_be_bytes w8 n)
+one_byte n = (omega arith, tt)
+
+row_all : (ws : List Tagged) → Bytes (row_bytes ws)
+row_all ws = bytes_append (to_be_bytes w16 (length ws)) (flat_map word_bytes ws) (two_bytes (length ws)) (flat_bytes word_bytes (λ w. eight_bytes (w.tag * 2 ^ 48 + w.bits)) ws)
+
+entry_all : (version : ℕ) (entries : List ℕ) → Bytes (entry_bytes version entries)
+entry_all version entries = by_test (eqb version 1)
+  where
+    by_test : (b : Bool) → Bytes (cond b [] (to_be_bytes w8 (length entries) ++ flat_map (to_be_bytes w16) entries))
+    by_test true = tt
+    by_test false = bytes_append (to_be_bytes w8 (length entries)) (flat_map (to_be_bytes w16) entries) (one_byte (length entries)) (flat_bytes (to_be_bytes w16) two_bytes entries)
+
+segment_all : (version : ℕ) (s : Segment) → Bytes (segment_bytes version s)
+segment_all version s =
+    bytes_append (to_be_bytes w8 s.level) (entry_bytes version s.entries ++ row_bytes s.code) (one_byte s.level)
+    (bytes_append (entry_bytes version s.entries) (row_bytes s.code) (entry_all version s.entries) (row_all s.code))
+
+pub spelled_bytes : (f : Codefile) → Bytes (spelling f)
+spelled_bytes f =
+    let rows = flat_map row_bytes f.rows in
+    let segments = flat_map (segment_bytes f.version) f.segments in
+    bytes_append (to_be_bytes w64 (header f.version)) (to_be_bytes w16 (length f.segments) ++ (to_be_bytes w16 (length f.rows) ++ (segments ++ rows))) (eight_bytes (header f.version))
+    (bytes_append (to_be_bytes w16 (length f.segments)) (to_be_bytes w16 (length f.rows) ++ (segments ++ rows)) (two_bytes (length f.segments))
+    (bytes_append (to_be_bytes w16 (length f.rows)) (segments ++ rows) (two_bytes (length f.rows))
+    (bytes_append segments rows (flat_bytes (segment_bytes f.version) (segment_all f.version) f.segments) (flat_bytes row_bytes row_all f.rows))))

@@ -1,0 +1,57 @@
+//! A program is its codefile, over texts.
+
+ghost use Rattle.std.specs.Prelude.{◌≡◌, ◌≢◌, ℕ, List, [], Some, None, codes};
+ghost use Rattle.b67_promises.specs.Paging.{AsksForRun, SameLines};
+ghost use Rattle.b67_promises.specs.Sources.{AsksForAsm, AsksForConvert, HoldPrinted};
+
+use b67_backing::Backing;
+use b67_io::{Sink, Source};
+use b67_job::run;
+use std::alloc::Global;
+
+/// Has `asm` or `convert` print the hexadecimal cards of a source's program, and runs two decks that are the same but for one
+/// job: in the first one it holds the source, in the other one the printed cards. Answers the three statuses.
+///
+/// Once the cards are printed, both decks print the same, as `run_twice` says it of one deck.
+pub fn run_source_and_printed<
+    R: Source,
+    P: Sink,
+    A: Backing,
+    S: Source,
+    K: Sink,
+    B: Backing,
+    T: Source,
+    L: Sink,
+    C: Backing,
+>(
+    alloc: Global,
+    made_words: &[&str],
+    source: &mut R,
+    cards: &mut P,
+    spare: &mut A,
+    words: &[&str],
+    deck: &mut S,
+    printer: &mut K,
+    backing: &mut B,
+    other_words: &[&str],
+    other_deck: &mut T,
+    other_printer: &mut L,
+    other_backing: &mut C,
+) -> (u8, u8, u8)
+    // Of assembly cards, which stand behind ?ASM.
+    ensures asm { (text printed bytes other : List ℕ) → AsksForAsm made_words.now → R.left source.old ≡ Some text → P.taken cards.old ≡ Some [] → P.taken cards.new ≡ Some printed → result.0 ≡ 0
+        → HoldPrinted (codes "?ASM") bytes other text printed → AsksForRun words.now → AsksForRun other_words.now
+        → S.left deck.old ≡ Some bytes → T.left other_deck.old ≡ Some other → B.holds backing.old ≢ None → C.holds other_backing.old ≢ None
+        → SameLines K.taken printer.old printer.new result.1 L.taken other_printer.old other_printer.new result.2 }
+
+    // Of hexadecimal cards, which stand behind ?HEX.
+    ensures convert { (text printed bytes other : List ℕ) → AsksForConvert made_words.now → R.left source.old ≡ Some text → P.taken cards.old ≡ Some [] → P.taken cards.new ≡ Some printed → result.0 ≡ 0
+        → HoldPrinted (codes "?HEX") bytes other text printed → AsksForRun words.now → AsksForRun other_words.now
+        → S.left deck.old ≡ Some bytes → T.left other_deck.old ≡ Some other → B.holds backing.old ≢ None → C.holds other_backing.old ≢ None
+        → SameLines K.taken printer.old printer.new result.1 L.taken other_printer.old other_printer.new result.2 }
+{
+    let made = run(alloc, made_words, source, cards, spare);
+    let one = run(alloc, words, deck, printer, backing);
+    let other = run(alloc, other_words, other_deck, other_printer, other_backing);
+    (made.status, one.status, other.status)
+}

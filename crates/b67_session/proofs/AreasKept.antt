@@ -1,0 +1,120 @@
+-- A step that is made and goes on leaves areas where they are.
+use Rattle.std.proofs.Common.{◌≡◌, ◌≢◌, ◌+◌, ◌≤◌, ℕ, List, Option, Some, None, Result, Ok, Err, refl, sym, ap, ◌∙◌, subst}
+use Rattle.std.proofs.lemmas.Option.{none-some}
+use Rattle.b67_word.specs.declared.faults.Ending.{Ending}
+use Rattle.b67_word.specs.declared.faults.Ending.TheVariants.{Ended, Faulted, Parent, Deadlock, Limit}
+use Rattle.b67_word.specs.declared.faults.Failed.{Failed}
+use Rattle.b67_model.specs.Common.{IsInOrderButPlaces, StepResult, Session, Ready, Task, Job, SessionJob, Line, Goes, step, next}
+use Rattle.b67_model.specs.Run.{after_from}
+use Rattle.b67_law_sessions.specs.Orders.{IsInOrderButLimit}
+use Rattle.b67_law_sessions.specs.Turns.{IsNext}
+use Rattle.b67_law_sessions.proofs.Halves.{first_by}
+use Rattle.b67_session_lines.specs.Moments.{first_part, last_part, joined}
+use Rattle.b67_session_lines.proofs.Joins.{steps-have-parts}
+use Rattle.b67_stack.specs.Represents.{Storage}
+use Rattle.b67_layout.specs.Placement.{Placement}
+use Rattle.b67_task_tables.specs.declared.tables.Tasks.{Tasks}
+use Rattle.b67_task_tables.specs.declared.tables.Machine.{Machine}
+use Rattle.b67_task_tables.specs.Tables.{MachineRepresents}
+use Rattle.b67_task_switch.specs.declared.counting.Chosen.{Chosen}
+use Rattle.b67_task_switch.specs.Counted.{choice_of}
+use Rattle.b67_task_switch.specs.Turns.{with_running}
+use Rattle.b67_session_ends.specs.Counts.{IsCounted}
+use Rattle.b67_session_ends.specs.Ends.{Finishes}
+use Rattle.b67_mcp.specs.Called.{IsCalled, HoldsOther, is_emptied, is_new}
+use Rattle.b67_session.specs.AttemptStops.{Stop}
+use Rattle.b67_session.specs.AttemptStops as stops
+use Rattle.b67_session.specs.declared.outcomes.Attempt.{Attempt}
+use Rattle.b67_session.specs.declared.outcomes.Attempt.TheVariants as attempts
+use Rattle.b67_session.specs.Tries.{EndsSo}
+use Rattle.b67_session.specs.Attempts.{KeepsAreas, AddsNoArea, CallKeepsAreas, EndsByRow, TablesStay}
+use Rattle.b67_session.specs.Slices.{GoesOnAlone, StepKeepsAreas}
+use Rattle.b67_session.specs.Steps.{EndsStep}
+use Rattle.b67_session.proofs.Halved.{kept}
+use Rattle.b67_session.proofs.Lively.{Stays}
+use Rattle.b67_session.proofs.Made.{half, half_ordered, half_stands}
+
+-- what the end of a step promises of each session between its parts
+abbrev pub EndsEach : {K : Type 0} → (K → Option (List ℕ)) → Result (Unit {0}) Stop → Machine → Machine → K → K → Type 0
+EndsEach taken answered mid last paper paper' =
+    (x : Storage) (told : Option (List (List ℕ))) (plan : Placement) (h : Session) → IsInOrderButLimit h → MachineRepresents x told mid plan h → EndsStep taken told h answered mid last paper paper'
+
+-- where there is no last part, nothing is done
+no_more : {K : Type 0} (taken : K → Option (List ℕ)) (told : Option (List (List ℕ))) (o : Option StepResult) → o ≡ None → (result : Result (Unit {0}) Failed) (old new : Machine) (paper paper' : K) → Finishes taken told o result old new paper paper' → new ≡ old
+no_more taken told None e (Ok done) old new paper paper' f = f.0
+no_more taken told None e (Err failed) old new paper paper' f = absurd f
+no_more taken told (Some part) e result old new paper paper' f = absurd (none-some part (sym e))
+
+-- the running task's slot doesn't matter
+same_places : (slot : ℕ) (x y : Storage) (plan placed : Placement) (m : SessionJob) (t : Task) (job : Job) → KeepsAreas x y (with_running plan slot) placed m t job → KeepsAreas x y plan placed m t job
+same_places slot x y plan placed m t job keeps = λ no_process no_resize home some gone other. keeps no_process no_resize home some gone (λ held. other (held_there home held)) where
+  held_there : (home : ℕ) → HoldsOther (with_running plan slot) placed m t job home → HoldsOther plan placed m t job home
+  held_there home (is_emptied a called among is at) = is_emptied a called among is at
+  held_there home (is_new called at) = is_new called at
+
+same_none : (slot : ℕ) (x y : Storage) (plan placed : Placement) (m : SessionJob) (t : Task) (job : Job) → AddsNoArea x y (with_running plan slot) placed m t job → AddsNoArea x y plan placed m t job
+same_none slot x y plan placed m t job adds = λ no_process no_resize home none gone other. adds no_process no_resize home none gone (λ held. other (held_there home held)) where
+  held_there : (home : ℕ) → HoldsOther (with_running plan slot) placed m t job home → HoldsOther plan placed m t job home
+  held_there home (is_emptied a called among is at) = is_emptied a called among is at
+  held_there home (is_new called at) = is_new called at
+
+module _ {K : Type 0} (taken : K → Option (List ℕ)) (s : Session) (m : SessionJob) (t : Task) (c : Chosen) (o : IsInOrderButPlaces s) (n : IsNext s m t) (chosen : n.chosen ≡ choice_of c) (ready : t.condition ≡ Ready)
+    (x : Storage) (slot : ℕ) (plan : Placement) (told : Option (List (List ℕ))) (before : ℕ) (new last : Machine) (tasks : Tasks) (paper paper' paper'' : K)
+    (call : CallKeepsAreas taken x told before (with_running plan slot) s m t new paper paper') (counted : IsCounted c new.tasks tasks)
+    (answered : Result (Unit {0}) Stop) (each : EndsEach taken answered (record new { tasks = tasks }) last paper' paper'') where
+  abbrev called : IsCalled taken paper paper' told s m t before new
+  called = call.0
+
+  abbrev keeps : Stays m.progress.job.tasks called.job.tasks × (called.job.next_task ≤ m.progress.job.next_task + 1)
+  keeps = kept s m t n o called.job called.printed called.touched called.is
+
+  abbrev part : StepResult
+  part = half s m t c o n chosen ready called.job called.printed called.touched called.is keeps.0 keeps.1
+
+  first : first_part s ≡ Some part
+  first = first_by s m t n (Ok (Goes called.job called.printed called.touched)) called.is
+
+  stands : MachineRepresents called.storage told (record new { tasks = tasks }) called.plan part.session
+  stands = half_stands s m t c o n chosen ready called.job called.printed called.touched called.is keeps.0 keeps.1 called.storage new called.plan tasks counted called.stands
+
+  ended : EndsStep taken told part.session answered (record new { tasks = tasks }) last paper' paper''
+  ended = each called.storage told called.plan part.session (half_ordered s m t c o n chosen ready called.job called.printed called.touched called.is keeps.0 keeps.1) stands
+
+  pub step_keeps_areas : (job : Job) → GoesOnAlone s m t job → StepKeepsAreas x plan s m t job last
+  step_keeps_areas job alone =
+      let none : last_part part.session ≡ None = alone.below part first in
+      let same : last ≡ record new { tasks = tasks } = no_more taken told (last_part part.session) none ended.result (record new { tasks = tasks }) last paper' paper'' ended.finishes in
+      let next_is : next s ≡ Some part = steps-have-parts s part first ∙ ap (λ (r : Option StepResult). Some (joined part r)) none in
+      let is : Ok (Goes called.job called.printed called.touched) ≡ Ok (Goes job alone.printed alone.touched) = sym called.is ∙ alone.is in
+      let job_is : called.job ≡ job = cc in
+      record {
+        told = told;
+        storage = called.storage;
+        placed = called.plan;
+        stands = subst (λ (z : Session). MachineRepresents called.storage told last called.plan z) (sym (ap (after_from 1 s) next_is))
+            (subst (λ (k : Machine). MachineRepresents called.storage told k called.plan part.session) (sym same) stands);
+        areas = subst (λ (j : Job). KeepsAreas x called.storage plan called.plan m t j) job_is (same_places slot x called.storage plan called.plan m t called.job call.1);
+        none_new = λ wants. subst (λ (j : Job). AddsNoArea x called.storage plan called.plan m t j) job_is
+            (same_none slot x called.storage plan called.plan m t called.job (call.2 (record { code = wants.code; array = wants.array })));
+      }
+
+-- a step that goes on doesn't end its task, and doesn't make it wait
+module _ (plan : Placement) (m : SessionJob) (t : Task) (job : Job) (printed : List Line) (touched : Option ℕ) (is : step m.constants m.progress.job t ≡ Ok (Goes job printed touched)) where
+  not_ended : (ending : Ending) → EndsSo m t ending → ⊥
+  not_ended Ended e = let d = sym e ∙ is in absurd cc
+  not_ended (Faulted fault) e = let d = sym e ∙ is in absurd cc
+  not_ended Parent e = e
+  not_ended Deadlock e = e
+  not_ended Limit e = e
+
+  pub goes_on_only : (outcome : Attempt) → outcome ≢ attempts.Made → EndsByRow plan m t (Ok outcome) → ⊥
+  goes_on_only attempts.Made other so = other refl
+  goes_on_only (attempts.Ends ending) other so = not_ended ending so
+  goes_on_only (attempts.Waits state) other so = let d = sym so.is ∙ is in absurd cc
+
+-- a step that wasn't made isn't counted
+pub stop_made : (stop : Stop) (old new : Tasks) → TablesStay (Err stop) old new → new.made ≡ old.made
+stop_made (stops.NoCore words size) old new same = ap (λ (z : Tasks). z.made) same
+stop_made (stops.BackingFull sum size) old new same = ap (λ (z : Tasks). z.made) same
+stop_made stops.BackingFault old new same = ap (λ (z : Tasks). z.made) same
+stop_made stops.PrintFault old new same = ap (λ (z : Tasks). z.made) same

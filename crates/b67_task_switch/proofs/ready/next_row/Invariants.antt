@@ -1,0 +1,5 @@
+use Rattle.b67_task_switch.specs.Chosen.{who_is, NextRow}
+use Rattle.b67_task_switch.proofs.ready.next_row.Given as goal
+
+abbrev pub invariant-loop-at : goal.invariant-loop-at
+invariant-loop-at l = NextRow l.at l.rows (who_is l.last) l.best
