@@ -90,7 +90,13 @@ BEGIN {
     else look("Endings and faults:" name, 2)
     next
 }
-/^([0-9a-f][0-9a-f])+$/ { print "    Bytes of the codefile that asm, bind or convert prints."; next }
+/^\?IMAGE$/ { print "    Here begins the image of a machine that halted, up to ?END."; image = 1; next }
+/^\?END$/ && image { print "    Here the image ends."; image = 0; next }
+/^([0-9a-f][0-9a-f])+$/ {
+    if (image) print "    Bytes of the image."
+    else print "    Bytes of the codefile that asm, bind or convert prints."
+    next
+}
 /^[A-Z]/ && ("Endings and faults:" $0) in columns { look("Endings and faults:" $0, 2); next }
 { unknown() }
 END { exit strange }
