@@ -195,7 +195,7 @@ def compare_deck(comparison: Comparison, seed: int, options: argparse.Namespace)
         whole = session_at(deck, None)
     except RefusedError:
         return
-    count = rng.randrange(whole.machine.made + 1)
+    count = rng.randrange(1, max(whole.machine.made, 1) + 1)
     halted = session_at(deck, count)
     if halted is None:
         return
