@@ -1,0 +1,9 @@
+mod Unnamed
+mod Shown
+mod Marks
+mod Listed
+mod Walked
+mod Session
+mod Counted
+mod Sought
+mod Slots

@@ -1,0 +1,4 @@
+pub mod Dump
+pub mod Walk
+pub mod Laws
+pub mod Example

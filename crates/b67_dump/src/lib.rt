@@ -1,0 +1,6 @@
+//! The dump of a machine: the activation records of its live tasks, as text for people.
+#![tactic(auto)]
+
+pub mod laws;
+pub mod walking;
+pub mod rows;
