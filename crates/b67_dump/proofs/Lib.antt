@@ -1,0 +1,15 @@
+mod Unnamed
+mod Shown
+mod Marks
+mod Listed
+mod Walked
+mod Session
+mod Counted
+mod Sought
+mod Slots
+mod Putting
+mod Printed
+mod Sorted
+mod Marked
+mod Tops
+mod Lined

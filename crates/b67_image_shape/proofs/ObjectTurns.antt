@@ -1,0 +1,273 @@
+-- Turns of the tests of objects.
+use Rattle.std.proofs.Common.{◌≡◌, ◌≢◌, ℕ, ◌+◌, ◌<◌, ◌≤◌, ◌==◌, Bool, true, false, List, [], ◌∷◌, length, get_or, slice_set, Some, refl, sym, ◌∙◌, ap, subst, arith, inl, inr, ⊎_elim, get_or-set_same, get_or-set_other}
+use Rattle.std.specs.List.{slice_get}
+use Rattle.std.proofs.lemmas.Bool.{eq-eqb, ne_eqb, cases_eq, cases_lt, cond-true, cond-false, cases_Bool}
+use Rattle.std.proofs.lemmas.List.{get_or_past}
+use Rattle.std.proofs.lemmas.Option.{same_Some}
+use Rattle.std.proofs.Math.ListN.{length-set}
+use Rattle.b67_word.specs.Tagged.{Tagged, word, bits_at}
+use Rattle.b67_area.specs.declared.Info.{Info}
+use Rattle.b67_area.specs.declared.Kind.{Kind}
+use Rattle.b67_area.specs.declared.Kind.TheVariants.{Array, Row, Code}
+use Rattle.b67_area.specs.Spans.{Span, Area, Hole, area_at}
+use Rattle.b67_area.proofs.Climbs.{area_at-low}
+use Rattle.b67_backing.specs.Held.{sectors_for}
+use Rattle.b67_stack.specs.Common.{tag_of}
+use Rattle.b67_layout_shown.specs.Reading.{word_seen_at, desc_in}
+use Rattle.b67_layout_shown.proofs.Stacks.{word_is}
+use Rattle.b67_image_shape.specs.Held.{location_by, location_in, spans_of}
+use Rattle.b67_image_shape.specs.Chains.{IsSectorChain, AreClaimed}
+use Rattle.b67_image_shape.specs.ObjectMarks.{kind_code, desc_at, described, info_at, HaveTag, HasArea, HasChainOr, ObjectFits, AreKept, ObjectsClaim}
+use Rattle.b67_image_shape.specs.AreaWalk.{Houses, IsHoused, AreasWalked}
+use Rattle.b67_image_shape.proofs.ObjectWords.{kept_read}
+use Rattle.b67_image_shape.proofs.ObjectMarks.{code_some, code_same}
+
+-- ---- words
+
+pub again_same : (core : List Tagged) (at : ℕ) (kind : Kind) (w again : Tagged) (t b : ℕ) → slice_get core at ≡ Some w → again ≡ described kind (desc_in w) → t ≡ again.tag → b ≡ again.bits → w ≡ word t b → word_seen_at core at ≡ described kind (desc_at core at)
+again_same core at kind w again t b e ae te be is =
+    let here = word_is core at w e in
+    here ∙ is ∙ ap (λ i. word i b) te ∙ ap (λ i. word again.tag i) be ∙ ae ∙ ap (λ (v : Tagged). described kind (desc_in v)) (sym here)
+
+pub again_other : (core : List Tagged) (at : ℕ) (kind : Kind) (w again : Tagged) (t b : ℕ) → slice_get core at ≡ Some w → again ≡ described kind (desc_in w) → t ≡ again.tag → b ≡ again.bits → (w ≡ word t b → ⊥) → word_seen_at core at ≡ described kind (desc_at core at) → ⊥
+again_other core at kind w again t b e ae te be never is =
+    let here = word_is core at w e in
+    never (sym here ∙ is ∙ ap (λ (v : Tagged). described kind (desc_in v)) here ∙ sym ae ∙ sym (ap (λ i. word i b) te ∙ ap (λ i. word again.tag i) be))
+
+pub tags_next : (core : List Tagged) (at j tag : ℕ) (w : Tagged) → ((i : ℕ) → i < j → (word_seen_at core (at + i)).tag ≡ tag) → slice_get core (at + j) ≡ Some w → w.tag ≡ tag → (i : ℕ) → i < j + 1 → (word_seen_at core (at + i)).tag ≡ tag
+tags_next core at j tag w before e is i low = ⊎_elim
+    (λ q. ap (λ k. (word_seen_at core (at + k)).tag) q ∙ ap (λ (v : Tagged). v.tag) (word_is core (at + j) w e) ∙ is)
+    (λ ne. before i (omega (arith, low, ne)))
+    (cases_eq i j)
+
+-- a field of a descriptor
+pub present_is : (core : List Tagged) (at p : ℕ) (w : Tagged) → slice_get core at ≡ Some w → p ≡ bits_at w 47 1 → p ≡ 1 → (desc_at core at).present ≡ true
+present_is core at p w e pb one = eq-eqb (bits_at (word_seen_at core at) 47 1) 1 (ap (λ (v : Tagged). bits_at v 47 1) (word_is core at w e) ∙ sym pb ∙ one)
+
+pub absent_is : (core : List Tagged) (at p : ℕ) (w : Tagged) → slice_get core at ≡ Some w → p ≡ bits_at w 47 1 → p ≢ 1 → (desc_at core at).present ≡ false
+absent_is core at p w e pb other = ne_eqb (bits_at (word_seen_at core at) 47 1) 1 (λ z. other (pb ∙ sym (ap (λ (v : Tagged). bits_at v 47 1) (word_is core at w e)) ∙ z))
+
+pub length_is : (core : List Tagged) (at n : ℕ) (w : Tagged) → slice_get core at ≡ Some w → n ≡ bits_at w 20 20 → (desc_at core at).length ≡ n
+length_is core at n w e b = ap (λ (v : Tagged). bits_at v 20 20) (word_is core at w e) ∙ sym b
+
+pub address_is : (core : List Tagged) (at n : ℕ) (w : Tagged) → slice_get core at ≡ Some w → n ≡ bits_at w 0 20 → (desc_at core at).address ≡ n
+address_is core at n w e b = ap (λ (v : Tagged). bits_at v 0 20) (word_is core at w e) ∙ sym b
+
+-- ---- areas
+
+houses_at : (at : ℕ) (ss : List Span) (i : ℕ) → Houses ss i → (x : ℕ) × (a : Info) × (area_at at ss x ≡ Some a) × (a.owner ≡ i)
+houses_at at [] i h = absurd h
+houses_at at (Area a ∷ ss) i (inl e) = (at + 1, a, cond-true (at + 1 == at + 1) _ _ (eq-eqb (at + 1) (at + 1) refl), e)
+houses_at at (Area a ∷ ss) i (inr h) =
+    let (x, b, e, o) = houses_at (at + (a.words + 2)) ss i h in
+    let low = area_at-low (at + (a.words + 2)) ss x b e in
+    (x, b, cond-false (at + 1 == x) _ _ (ne_eqb (at + 1) x (λ z. omega (arith, low, z))) ∙ e, o)
+houses_at at (Hole n ∷ ss) i h = houses_at (at + n) ss i h
+
+at_houses : (at : ℕ) (ss : List Span) (x : ℕ) (a : Info) → area_at at ss x ≡ Some a → Houses ss a.owner
+at_houses at [] x a e = absurd (let z : ⊥ = cc in z)
+at_houses at (Area b ∷ ss) x a e = ⊎_elim
+    (λ t. inl (ap (λ (i : Info). i.owner) (same_Some b a (sym (cond-true (at + 1 == x) _ _ t) ∙ e))))
+    (λ t. inr (at_houses (at + (b.words + 2)) ss x a (sym (cond-false (at + 1 == x) _ _ t) ∙ e)))
+    (cases_Bool (at + 1 == x))
+at_houses at (Hole n ∷ ss) x a e = at_houses (at + n) ss x a e
+
+module _ (core : List Tagged) (low : ℕ) (kinds : List ℕ) (housed : List Bool) (walked : AreasWalked core low kinds housed) (i : ℕ) (kind : Kind) (marked : get_or kinds i 0 ≡ kind_code kind) (present : (desc_at core i).present ≡ true) where
+  -- a present object whose area was met has it
+  pub housed_area : IsHoused housed i → area_at low (spans_of core low) (desc_at core i).address ≡ Some (info_at core i kind)
+  housed_area h =
+      let (x, a, e, o) = houses_at low (spans_of core low) i (walked.only i h) in
+      let f = walked.fit.areas x a e in
+      let at : (desc_at core i).address ≡ x = ap (λ j. (desc_at core j).address) (sym o) ∙ f.address in
+      let words : (desc_at core i).length ≡ a.words = ap (λ j. (desc_at core j).length) (sym o) ∙ f.words in
+      let same : a.kind ≡ kind = code_same a.kind kind (sym f.owner ∙ ap (λ j. get_or kinds j 0) o ∙ marked) in
+      let (k, high) = kept_read core low (spans_of core low) x a walked.fit.directory e in
+      let kept : (location_in core i).chain ≡ a.kept =
+      ap (λ b. (location_by core (word_seen_at core i) b).chain) present
+      ∙ ap (λ n. bits_at (word_seen_at core (n + (desc_at core i).length)) 0 20) at
+      ∙ ap (λ n. bits_at (word_seen_at core (x + n)) 0 20) words
+      ∙ k in
+      ap (area_at low (spans_of core low)) at ∙ e ∙ ap Some (
+      ap (λ q. record { kind = q; words = a.words; owner = a.owner; kept = a.kept }) same
+      ∙ ap (λ q. record { kind = kind; words = q; owner = a.owner; kept = a.kept }) (sym words)
+      ∙ ap (λ q. record { kind = kind; words = (desc_at core i).length; owner = q; kept = a.kept }) o
+      ∙ ap (λ q. record { kind = kind; words = (desc_at core i).length; owner = i; kept = q }) (sym kept)
+      )
+
+  -- and lies in core
+  pub area_inside : area_at low (spans_of core low) (desc_at core i).address ≡ Some (info_at core i kind) → (desc_at core i).address + (desc_at core i).length < length core
+  area_inside e = (kept_read core low (spans_of core low) (desc_at core i).address (info_at core i kind) walked.fit.directory e).1
+
+  pub area_housed : area_at low (spans_of core low) (desc_at core i).address ≡ Some (info_at core i kind) → IsHoused housed i
+  area_housed e = walked.marked i (at_houses low (spans_of core low) (desc_at core i).address (info_at core i kind) e)
+
+pub not_housed : (core : List Tagged) (low : ℕ) (kinds : List ℕ) (housed : List Bool) (i : ℕ) (kind : Kind) → AreasWalked core low kinds housed → get_or housed i false ≡ false → HasArea core low i kind → ⊥
+not_housed core low kinds housed i kind walked e h =
+    let yes_housed = walked.marked i (at_houses low (spans_of core low) (desc_at core i).address (info_at core i kind) h.area) in
+    let z : true ≡ false = sym yes_housed ∙ e in
+    let y : ⊥ = cc in y
+
+pub area_made : (core : List Tagged) (low i : ℕ) (kind : Kind) (address words tag : ℕ) → (desc_at core i).address ≡ address → (desc_at core i).length ≡ words → tag ≡ tag_of kind
+    → area_at low (spans_of core low) (desc_at core i).address ≡ Some (info_at core i kind) → HaveTag core address words tag → HasArea core low i kind
+area_made core low i kind address words tag a n t e h = record {
+  area = e;
+  tags = λ j m. ap (λ k. (word_seen_at core (k + j)).tag) a ∙ h j (subst (λ k. j < k) n m) ∙ t;
+}
+
+pub tags_of_area : (core : List Tagged) (low i : ℕ) (kind : Kind) (address words tag : ℕ) → (desc_at core i).address ≡ address → (desc_at core i).length ≡ words → tag ≡ tag_of kind → HasArea core low i kind → HaveTag core address words tag
+tags_of_area core low i kind address words tag a n t h j m = ap (λ k. (word_seen_at core (k + j)).tag) (sym a) ∙ h.tags j (subst (λ k. j < k) (sym n) m) ∙ sym t
+
+-- ---- chains
+
+pub chain_present : (core : List Tagged) (i n : ℕ) → (desc_at core i).present ≡ true → n ≡ bits_at (word_seen_at core ((desc_at core i).address + (desc_at core i).length)) 0 20 → n ≡ (location_in core i).chain
+chain_present core i n p e = e ∙ sym (ap (λ b. (location_by core (word_seen_at core i) b).chain) p)
+
+pub chain_read : (core : List Tagged) (i address words n : ℕ) (w : Tagged) → (desc_at core i).address ≡ address → (desc_at core i).length ≡ words → slice_get core (address + words) ≡ Some w → n ≡ bits_at w 0 20
+    → n ≡ bits_at (word_seen_at core ((desc_at core i).address + (desc_at core i).length)) 0 20
+chain_read core i address words n w a l e b =
+    b ∙ ap (λ (v : Tagged). bits_at v 0 20) (sym (word_is core (address + words) w e))
+    ∙ ap (λ k. bits_at (word_seen_at core (k + words)) 0 20) (sym a) ∙ ap (λ k. bits_at (word_seen_at core ((desc_at core i).address + k)) 0 20) (sym l)
+
+pub chain_absent : (core : List Tagged) (i n : ℕ) → (desc_at core i).present ≡ false → n ≡ (desc_at core i).address → n ≡ (location_in core i).chain
+chain_absent core i n p e = e ∙ sym (ap (λ b. (location_by core (word_seen_at core i) b).chain) p)
+
+pub sectors_some : (words n : ℕ) → 1 ≤ words → n ≡ sectors_for words → 1 ≤ n
+sectors_some words n h e = omega (arith, h, e)
+
+no_first : (links : List ℕ) (first many : ℕ) → first ≡ 0 → IsSectorChain links first many → ⊥
+no_first links first many z c = let low = c.head.low in omega (arith, z, low)
+
+pub row_needs : (links : List ℕ) (first words : ℕ) → first ≡ 0 → HasChainOr links Row first words → ⊥
+row_needs links first words z c = no_first links first (sectors_for words) z c
+
+pub code_needs : (links : List ℕ) (first words : ℕ) → first ≡ 0 → HasChainOr links Code first words → ⊥
+code_needs links first words z c = no_first links first (sectors_for words) z c
+
+pub chain_or : (links : List ℕ) (kind : Kind) (first words : ℕ) → IsSectorChain links first (sectors_for words) → HasChainOr links kind first words
+chain_or links Array first words c = inr c
+chain_or links Row first words c = c
+chain_or links Code first words c = c
+
+pub or_chain : (links : List ℕ) (kind : Kind) (first words : ℕ) → first ≢ 0 → HasChainOr links kind first words → IsSectorChain links first (sectors_for words)
+or_chain links Array first words ne (inl z) = absurd (ne z)
+or_chain links Array first words ne (inr c) = c
+or_chain links Row first words ne c = c
+or_chain links Code first words ne c = c
+
+pub first_inside : (core : List Tagged) (low : ℕ) (links : List ℕ) (i : ℕ) (kind : Kind) (first : ℕ) → first ≡ (location_in core i).chain → first ≢ 0 → ObjectFits core low links i kind → first ≤ length links
+first_inside core low links i kind first e some f =
+    let c = or_chain links kind first (desc_at core i).length some (subst (λ n. HasChainOr links kind n (desc_at core i).length) (sym e) f.chain) in
+    c.head.high
+
+-- ---- all objects
+
+pub claims_first : (core : List Tagged) (low : ℕ) (kinds links : List ℕ) (claimed : List Bool) → length claimed ≡ length links + 1 → ((i : ℕ) → get_or claimed i false ≡ false) → ObjectsClaim core low kinds links 0 claimed
+claims_first core low kinds links claimed many none = record {
+  many = many;
+  objects = λ i kind h e. absurd (omega (arith, h));
+  one = λ i j h g p q s e. absurd (omega (arith, h));
+  marked = λ i h p s. absurd (omega (arith, h));
+  only = λ m e. absurd (let n = none m in let z : true ≡ false = sym e ∙ n in let y : ⊥ = cc in y);
+}
+
+module _ (core : List Tagged) (low : ℕ) (kinds links : List ℕ) (n : ℕ) (claimed : List Bool) where
+  pub claims_skip : ObjectsClaim core low kinds links n claimed → get_or kinds n 0 ≡ 0 → ObjectsClaim core low kinds links (n + 1) claimed
+  claims_skip c z = record {
+    many = c.many;
+    objects = λ i kind h e. ⊎_elim (λ q. absurd (code_some kind (sym e ∙ ap (λ j. get_or kinds j 0) q ∙ z))) (λ ne. c.objects i kind (omega (arith, h, ne)) e) (cases_eq i n);
+    one = λ i j h g p q s e. ⊎_elim
+        (λ t. absurd (p (ap (λ k. get_or kinds k 0) t ∙ z)))
+        (λ ne. ⊎_elim (λ t. absurd (q (ap (λ k. get_or kinds k 0) t ∙ z))) (λ me. c.one i j (omega (arith, h, ne)) (omega (arith, g, me)) p q s e) (cases_eq j n))
+        (cases_eq i n);
+    marked = λ i h p s. ⊎_elim (λ q. absurd (p (ap (λ j. get_or kinds j 0) q ∙ z))) (λ ne. c.marked i (omega (arith, h, ne)) p s) (cases_eq i n);
+    only = λ m e. let (i, h, p, q) = c.only m e in (i, omega (arith, h), p, q);
+  }
+
+  module _ (c : ObjectsClaim core low kinds links n claimed) (kind : Kind) (here : get_or kinds n 0 ≡ kind_code kind) (fits : ObjectFits core low links n kind) where
+    objects_next : (i : ℕ) (k : Kind) → i < n + 1 → get_or kinds i 0 ≡ kind_code k → ObjectFits core low links i k
+    objects_next i k h e = ⊎_elim
+        (λ q.
+        let same : kind ≡ k = code_same kind k (sym here ∙ ap (λ j. get_or kinds j 0) (sym q) ∙ e) in
+        subst (λ j. ObjectFits core low links j k) (sym q) (subst (λ (v : Kind). ObjectFits core low links n v) same fits))
+        (λ ne. c.objects i k (omega (arith, h, ne)) e)
+        (cases_eq i n)
+
+    pub claims_plain : (location_in core n).chain ≡ 0 → ObjectsClaim core low kinds links (n + 1) claimed
+    claims_plain z = record {
+      many = c.many;
+      objects = objects_next;
+      one = λ i j h g p q s e. ⊎_elim
+          (λ t. absurd (let zero_i : (location_in core i).chain ≡ 0 = ap (λ k. (location_in core k).chain) t ∙ z in omega (arith, s, zero_i)))
+          (λ ne. ⊎_elim
+          (λ t. absurd (let zero_j : (location_in core j).chain ≡ 0 = ap (λ k. (location_in core k).chain) t ∙ z in omega (arith, s, e, zero_j)))
+          (λ me. c.one i j (omega (arith, h, ne)) (omega (arith, g, me)) p q s e)
+          (cases_eq j n))
+          (cases_eq i n);
+      marked = λ i h p s. ⊎_elim (λ t. absurd (let zero_i : (location_in core i).chain ≡ 0 = ap (λ k. (location_in core k).chain) t ∙ z in omega (arith, s, zero_i))) (λ ne. c.marked i (omega (arith, h, ne)) p s) (cases_eq i n);
+      only = λ m e. let (i, h, p, q) = c.only m e in (i, omega (arith, h), p, q);
+    }
+
+    module _ (first : ℕ) (first_is : first ≡ (location_in core n).chain) (some : first ≢ 0) (high : first ≤ length links) (free : get_or claimed first false ≡ false) where
+      -- no object before has this chain
+      apart : (i : ℕ) → i < n → get_or kinds i 0 ≢ 0 → 0 < (location_in core i).chain → (location_in core i).chain ≡ first → ⊥
+      apart i h p s e =
+          let m = ap (λ k. get_or claimed k false) (sym e) ∙ c.marked i h p s in
+          let z : true ≡ false = sym m ∙ free in
+          let y : ⊥ = cc in y
+
+      set_here : get_or (slice_set claimed first true) first false ≡ true
+      set_here = let h : first < length claimed = omega (arith, high, c.many) in rw get_or-set_same refl
+
+      set_other : (m : ℕ) → m ≢ first → get_or (slice_set claimed first true) m false ≡ get_or claimed m false
+      set_other m ne = rw get_or-set_other refl
+
+      pub claims_more : ObjectsClaim core low kinds links (n + 1) (slice_set claimed first true)
+      claims_more = record {
+        many = length-set claimed first true ∙ c.many;
+        objects = objects_next;
+        one = λ i j h g p q s e. ⊎_elim
+            (λ t. ⊎_elim
+            (λ u. t ∙ sym u)
+            (λ me. absurd (apart j (omega (arith, g, me)) q (omega (arith, s, e)) (sym e ∙ ap (λ k. (location_in core k).chain) t ∙ sym first_is)))
+            (cases_eq j n))
+            (λ ne. ⊎_elim
+            (λ u. absurd (apart i (omega (arith, h, ne)) p s (e ∙ ap (λ k. (location_in core k).chain) u ∙ sym first_is)))
+            (λ me. c.one i j (omega (arith, h, ne)) (omega (arith, g, me)) p q s e)
+            (cases_eq j n))
+            (cases_eq i n);
+        marked = λ i h p s. ⊎_elim
+            (λ t. ap (λ k. get_or (slice_set claimed first true) k false) (ap (λ k. (location_in core k).chain) t ∙ sym first_is) ∙ set_here)
+            (λ ne. set_other (location_in core i).chain (apart i (omega (arith, h, ne)) p s) ∙ c.marked i (omega (arith, h, ne)) p s)
+            (cases_eq i n);
+        only = λ m e. ⊎_elim
+            (λ t. (n, omega arith, (λ z. code_some kind (sym here ∙ z)), sym first_is ∙ sym t))
+            (λ ne. let (i, h, p, q) = c.only m (sym (set_other m ne) ∙ e) in (i, omega (arith, h), p, q))
+            (cases_eq m first);
+      }
+
+  -- two objects with one chain
+  pub claims_met : ObjectsClaim core low kinds links n claimed → (kind : Kind) → get_or kinds n 0 ≡ kind_code kind → (first : ℕ) → first ≡ (location_in core n).chain → first ≢ 0 → get_or claimed first false ≡ true → AreKept core low kinds links → ⊥
+  claims_met c kind here first first_is some met k =
+      let (i, h, p, q) = c.only first met in
+      let same = k.one i n p (λ z. code_some kind (sym here ∙ z)) (omega (arith, q, some)) (q ∙ first_is) in
+      omega (arith, h, same)
+
+pub kept_from : (core : List Tagged) (low : ℕ) (kinds links : List ℕ) (housed claimed : List Bool) → length kinds ≡ length core → AreasWalked core low kinds housed → ObjectsClaim core low kinds links (length core) claimed → AreClaimed links claimed → AreKept core low kinds links
+kept_from core low kinds links housed claimed many walked c all = record {
+  areas = walked.fit;
+  objects = λ i kind e. c.objects i kind (inside i (λ z. code_some kind (sym e ∙ z))) e;
+  one = λ i j p q s e. c.one i j (inside i p) (inside j q) p q s e;
+  all = λ n h. let (i, low_i, p, q) = c.only n (all n h) in (i, p, q);
+}
+  where
+    inside : (i : ℕ) → get_or kinds i 0 ≢ 0 → i < length core
+    inside i p = ⊎_elim (λ lt. lt) (λ past. absurd (p (get_or_past kinds i 0 (omega (arith, many, past))))) (cases_lt i (length core))
+
+pub claimed_all : (core : List Tagged) (low : ℕ) (kinds links : List ℕ) (claimed : List Bool) → length kinds ≡ length core → ObjectsClaim core low kinds links (length core) claimed → AreKept core low kinds links → AreClaimed links claimed
+claimed_all core low kinds links claimed many c k n h =
+    let (i, p, e) = k.all n h in
+    let head_low = h.low in
+    ap (λ m. get_or claimed m false) (sym e) ∙ c.marked i (inside i p) p (omega (arith, head_low, e))
+  where
+    inside : (i : ℕ) → get_or kinds i 0 ≢ 0 → i < length core
+    inside i p = ⊎_elim (λ lt. lt) (λ past. absurd (p (get_or_past kinds i 0 (omega (arith, many, past))))) (cases_lt i (length core))

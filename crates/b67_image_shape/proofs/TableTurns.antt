@@ -1,0 +1,170 @@
+-- Turns of the loops that make the table of marks.
+use Rattle.std.proofs.Common.{◌≡◌, ◌≢◌, ℕ, ◌+◌, ◌-◌, ◌*◌, ◌/◌, ◌<◌, ◌≤◌, Bool, true, false, List, ◌∷◌, map, length, drop, get_or, slice_set, Option, Some, None, refl, sym, ◌∙◌, ap, subst, arith, ⊎_elim, lt-ltb, le-ltb}
+use Rattle.std.specs.Prelude.{◌&&◌, nat_lt, nat_le, option_map, unwrap_or, if◌then◌else◌}
+use Rattle.std.specs.List.{slice_get}
+use Rattle.std.proofs.lemmas.Bool.{cases_eq, cases_lt, le-leb, lt-leb, eq-eqb, ne_eqb}
+use Rattle.std.proofs.lemmas.List.{at_drop_more, get_or-set_same, get_or-set_other}
+use Rattle.b67_word.specs.Tagged.{Tagged, word, bits_at}
+use Rattle.b67_lemmas.specs.Lists.{Has}
+use Rattle.b67_lemmas.proofs.Members.{keyed_has}
+use Rattle.b67_layout.specs.Rows as rows
+use Rattle.b67_task_tables.specs.declared.tables.TaskRow.{TaskRow}
+use Rattle.b67_task_tables.specs.declared.tables.JobRow.{JobRow}
+use Rattle.b67_task_tables.specs.Tables.{task_row, job_row}
+use Rattle.b67_layout_shown.specs.Reading.{word_seen_at}
+use Rattle.b67_layout_shown.specs.Shown.{Sight, top_by, top_in}
+use Rattle.b67_image_shape.specs.TableFacts.{row_in_slot}
+use Rattle.b67_image_shape.specs.Items.{base_at}
+use Rattle.b67_image_shape.specs.ObjectTable.{entry_mark, has_entry_at, mark_in_dictionary, is_original_word, stack_mark, mark_at}
+use Rattle.b67_image_shape.specs.TableMarks.{end_by, HaveSlots}
+
+-- ---- a table that is filled from its beginning
+
+pub filled_next : (F : ℕ → ℕ) (xs : List ℕ) (i x : ℕ) → i < length xs → ((n : ℕ) → n < i → get_or xs n 0 ≡ F n) → x ≡ F i → (n : ℕ) → n < i + 1 → get_or (slice_set xs i x) n 0 ≡ F n
+filled_next F xs i x low before e n h = ⊎_elim
+    (λ (is : n ≡ i). subst (λ (m : ℕ). get_or (slice_set xs i x) m 0 ≡ F m) (sym is) (get_or-set_same xs i x 0 low ∙ e))
+    (λ (ne : n ≢ i). get_or-set_other xs i n x 0 ne ∙ before n (⊎_elim (λ lt. lt) (λ le. absurd (ne (omega (arith, le, h)))) (cases_lt n i)))
+    (cases_eq n i)
+
+-- ---- the row of a slot
+
+pub row_found : (rs : List TaskRow) (slot i : ℕ) (d : TaskRow) → i < length rs → row_in_slot (map task_row rs) slot ≡ row_in_slot (map task_row (drop i rs)) slot → (get_or rs i d).slot ≡ slot → Some (task_row (get_or rs i d)) ≡ row_in_slot (map task_row rs) slot
+row_found rs slot i d low inv e =
+    sym (inv ∙ at_drop_more (λ xs. row_in_slot (map task_row xs) slot) rs i d low
+    ∙ ap (λ (b : Bool). if b then Some (task_row (get_or rs i d)) else row_in_slot (map task_row (drop (i + 1) rs)) slot) (eq-eqb (get_or rs i d).slot slot e))
+
+pub row_later : (rs : List TaskRow) (slot i : ℕ) (d : TaskRow) → i < length rs → row_in_slot (map task_row rs) slot ≡ row_in_slot (map task_row (drop i rs)) slot → (get_or rs i d).slot ≢ slot → row_in_slot (map task_row rs) slot ≡ row_in_slot (map task_row (drop (i + 1) rs)) slot
+row_later rs slot i d low inv ne =
+    inv ∙ at_drop_more (λ xs. row_in_slot (map task_row xs) slot) rs i d low
+    ∙ ap (λ (b : Bool). if b then Some (task_row (get_or rs i d)) else row_in_slot (map task_row (drop (i + 1) rs)) slot) (ne_eqb (get_or rs i d).slot slot ne)
+
+-- ---- tops
+
+pub top_runs : (k : Sight) (r : rows.TaskRow) (s : ℕ) → s ≡ k.regs.s → r.slot ≡ k.regs.slot → s ≡ (top_in k r).s
+top_runs k r s is e = is ∙ sym (ap (λ (b : Bool). (top_by k r (base_at k r) b).s) (eq-eqb r.slot k.regs.slot e))
+
+pub top_waits : (k : Sight) (r : rows.TaskRow) (stacks slot size part : ℕ) (w : Tagged) → r.slot ≢ k.regs.slot → stacks ≡ k.regs.stacks → slot ≡ r.slot → size ≡ k.regs.stack_size → w ≡ word_seen_at k.core (stacks + slot * size) → part ≡ bits_at w 20 16 → stacks + slot * size + part ≡ (top_in k r).s
+top_waits k r stacks slot size part w ne a b c e p =
+    ap (λ (n : ℕ). stacks + slot * size + n) (p ∙ ap (λ (v : Tagged). bits_at v 20 16) e)
+    ∙ ap (λ (n : ℕ). n + bits_at (word_seen_at k.core n) 20 16) (rw (a, b, c) refl)
+    ∙ sym (ap (λ (b : Bool). (top_by k r (base_at k r) b).s) (ne_eqb r.slot k.regs.slot ne))
+
+pub end_found : (k : Sight) (s : ℕ) (o : Option TaskRow) (q : Option rows.TaskRow) (r : TaskRow) → option_map task_row o ≡ q → o ≡ Some r → s ≡ (top_in k (task_row r)).s → s + 1 ≡ end_by k q
+end_found k s o q r e is t = ap (λ n. n + 1) t ∙ ap (end_by k) (ap (λ (p : Option TaskRow). option_map task_row p) (sym is) ∙ e)
+
+pub end_none : (k : Sight) (o : Option TaskRow) (q : Option rows.TaskRow) → option_map task_row o ≡ q → o ≡ None → 0 ≡ end_by k q
+end_none k o q e is = ap (end_by k) (ap (λ (p : Option TaskRow). option_map task_row p) (sym is) ∙ e)
+
+-- ---- dictionaries
+
+entry_step : (js : List JobRow) (at i : ℕ) (row : JobRow) → i < length js → mark_in_dictionary (map job_row js) at ≡ mark_in_dictionary (map job_row (drop i js)) at → row ≡ get_or js i row
+    → mark_in_dictionary (map job_row js) at ≡ mark_in_dictionary (job_row row ∷ map job_row (drop (i + 1) js)) at
+entry_step js at i row low inv is =
+    inv ∙ at_drop_more (λ xs. mark_in_dictionary (map job_row xs) at) js i row low
+    ∙ ap (λ (x : JobRow). mark_in_dictionary (job_row x ∷ map job_row (drop (i + 1) js)) at) (sym is)
+
+pub entry_later : (js : List JobRow) (at i : ℕ) (row : JobRow) → i < length js → mark_in_dictionary (map job_row js) at ≡ mark_in_dictionary (map job_row (drop i js)) at → row ≡ get_or js i row → has_entry_at (job_row row) at ≡ false
+    → mark_in_dictionary (map job_row js) at ≡ mark_in_dictionary (map job_row (drop (i + 1) js)) at
+entry_later js at i row low inv is e =
+    entry_step js at i row low inv is
+    ∙ ap (λ (b : Bool). if b then entry_mark row.segments (at - (row.dict + 1)) else mark_in_dictionary (map job_row (drop (i + 1) js)) at) e
+
+pub entry_found : (js : List JobRow) (at i n : ℕ) (row : JobRow) → i < length js → mark_in_dictionary (map job_row js) at ≡ mark_in_dictionary (map job_row (drop i js)) at → row ≡ get_or js i row → has_entry_at (job_row row) at ≡ true
+    → n ≡ entry_mark row.segments (at - (row.dict + 1)) → n ≡ mark_in_dictionary (map job_row js) at
+entry_found js at i n row low inv is e number =
+    number ∙ sym (entry_step js at i row low inv is
+    ∙ ap (λ (b : Bool). if b then entry_mark row.segments (at - (row.dict + 1)) else mark_in_dictionary (map job_row (drop (i + 1) js)) at) e)
+
+pub segment_here : (row : JobRow) (at : ℕ) → at - (row.dict + 1) ≤ row.segments → 3 ≡ entry_mark row.segments (at - (row.dict + 1))
+segment_here row at h = sym (ap (λ (b : Bool). if b then 3 else 2) (le-leb (at - (row.dict + 1)) row.segments h))
+
+pub data_here : (row : JobRow) (at : ℕ) → row.segments < at - (row.dict + 1) → 2 ≡ entry_mark row.segments (at - (row.dict + 1))
+data_here row at h = sym (ap (λ (b : Bool). if b then 3 else 2) (lt-leb (at - (row.dict + 1)) row.segments h))
+
+-- ---- marks
+
+pub below_slots : (k : Sight) (at n : ℕ) → at < k.regs.stacks → n ≡ mark_in_dictionary k.jobs at → n ≡ mark_at k at
+below_slots k at n h e = e ∙ sym (ap (λ (b : Bool). if b then mark_in_dictionary k.jobs at else stack_mark k at (row_in_slot k.tasks ((at - k.regs.stacks) / k.regs.stack_size))) (lt-ltb at k.regs.stacks h))
+
+in_slots : (k : Sight) (at : ℕ) → k.regs.stacks ≤ at → mark_at k at ≡ stack_mark k at (row_in_slot k.tasks ((at - k.regs.stacks) / k.regs.stack_size))
+in_slots k at h = ap (λ (b : Bool). if b then mark_in_dictionary k.jobs at else stack_mark k at (row_in_slot k.tasks ((at - k.regs.stacks) / k.regs.stack_size))) (le-ltb at k.regs.stacks h)
+
+-- a slot in which no task lives
+no_row_mark : (k : Sight) (at n : ℕ) (o : Option rows.TaskRow) → row_in_slot k.tasks n ≡ o → ((r : rows.TaskRow) → Has k.tasks r → r.slot ≡ n → ⊥) → 0 ≡ stack_mark k at o
+no_row_mark k at n None e none = refl
+no_row_mark k at n (Some r) e none = let (h, q) = keyed_has (λ (w : rows.TaskRow). w.slot) n k.tasks r e in absurd (none r h q)
+
+pub no_slots : (k : Sight) (at : ℕ) → HaveSlots k → k.regs.stacks ≤ at → k.regs.stack_size ≡ 0 → 0 ≡ mark_at k at
+no_slots k at slots h z =
+    no_row_mark k at ((at - k.regs.stacks) / k.regs.stack_size) (row_in_slot k.tasks ((at - k.regs.stacks) / k.regs.stack_size)) refl (λ r there e. let some = (slots r there).1 in absurd (omega (arith, some, z)))
+    ∙ sym (in_slots k at h)
+
+pub past_slots : (k : Sight) (at : ℕ) → HaveSlots k → k.regs.stacks ≤ at → 120 ≤ (at - k.regs.stacks) / k.regs.stack_size → 0 ≡ mark_at k at
+past_slots k at slots h far =
+    no_row_mark k at ((at - k.regs.stacks) / k.regs.stack_size) (row_in_slot k.tasks ((at - k.regs.stacks) / k.regs.stack_size)) refl (λ r there e. let low = (slots r there).0 in absurd (omega (arith, low, e, far)))
+    ∙ sym (in_slots k at h)
+
+-- ---- by the end of what stands in a slot
+
+no_right : (a : Bool) → (a && false) ≡ false
+no_right true = refl
+no_right false = refl
+
+in_slot : (k : Sight) (n : ℕ) (r : rows.TaskRow) → row_in_slot k.tasks n ≡ Some r → k.regs.stacks + n * k.regs.stack_size ≡ base_at k r
+in_slot k n r e = let (h, q) = keyed_has (λ (w : rows.TaskRow). w.slot) n k.tasks r e in ap (λ m. k.regs.stacks + m * k.regs.stack_size) (sym q)
+
+low_by : (k : Sight) (at n : ℕ) (o : Option rows.TaskRow) → row_in_slot k.tasks n ≡ o → at ≤ k.regs.stacks + n * k.regs.stack_size → 0 ≡ stack_mark k at o
+low_by k at n None e h = refl
+low_by k at n (Some r) e h =
+    sym (ap (λ (b : Bool). if b && (nat_le at (top_in k r).s && is_original_word (word_seen_at k.core at)) then 1 else 0) (le-ltb (base_at k r) at (subst (λ m. at ≤ m) (in_slot k n r e) h)))
+
+high_by : (k : Sight) (at : ℕ) (o : Option rows.TaskRow) → end_by k o ≤ at → 0 ≡ stack_mark k at o
+high_by k at None h = refl
+high_by k at (Some r) h =
+    sym (ap (λ (b : Bool). if nat_lt (base_at k r) at && (b && is_original_word (word_seen_at k.core at)) then 1 else 0) (lt-leb at (top_in k r).s (omega (arith, h)))
+    ∙ ap (λ (b : Bool). if b then 1 else 0) (no_right (nat_lt (base_at k r) at)))
+
+other_by : (k : Sight) (at : ℕ) (o : Option rows.TaskRow) → is_original_word (word_seen_at k.core at) ≡ false → 0 ≡ stack_mark k at o
+other_by k at None h = refl
+other_by k at (Some r) h =
+    sym (ap (λ (b : Bool). if nat_lt (base_at k r) at && (nat_le at (top_in k r).s && b) then 1 else 0) h
+    ∙ ap (λ (b : Bool). if nat_lt (base_at k r) at && b then 1 else 0) (no_right (nat_le at (top_in k r).s))
+    ∙ ap (λ (b : Bool). if b then 1 else 0) (no_right (nat_lt (base_at k r) at)))
+
+here_by : (k : Sight) (at n : ℕ) (o : Option rows.TaskRow) → row_in_slot k.tasks n ≡ o → k.regs.stacks + n * k.regs.stack_size < at → at < end_by k o → is_original_word (word_seen_at k.core at) ≡ true → 1 ≡ stack_mark k at o
+here_by k at n None e lo hi w = absurd (omega (arith, hi))
+here_by k at n (Some r) e lo hi w =
+    sym (ap (λ (b : Bool). if b && (nat_le at (top_in k r).s && is_original_word (word_seen_at k.core at)) then 1 else 0) (lt-ltb (base_at k r) at (subst (λ m. m < at) (in_slot k n r e) lo))
+    ∙ ap (λ (b : Bool). if b && is_original_word (word_seen_at k.core at) then 1 else 0) (le-leb at (top_in k r).s (omega (arith, hi)))
+    ∙ ap (λ (b : Bool). if b then 1 else 0) w)
+
+-- the slot of an address
+abbrev pub slot_of : Sight → ℕ → ℕ
+slot_of k at = (at - k.regs.stacks) / k.regs.stack_size
+
+pub slot_is : (k : Sight) (at size : ℕ) → size ≡ k.regs.stack_size → (at - k.regs.stacks) / size ≡ slot_of k at
+slot_is k at size e = ap (λ n. (at - k.regs.stacks) / n) e
+
+base_is : (k : Sight) (s n z m : ℕ) → s ≡ k.regs.stacks → n ≡ m → z ≡ k.regs.stack_size → s + n * z ≡ k.regs.stacks + m * k.regs.stack_size
+base_is k s n z m a b c = rw (a, b, c) refl
+
+pub low_mark : (k : Sight) (at a s n z : ℕ) → k.regs.stacks ≤ at → a ≡ at → s ≡ k.regs.stacks → n ≡ slot_of k at → z ≡ k.regs.stack_size → a ≤ s + n * z → 0 ≡ mark_at k at
+low_mark k at a s n z h is f e g low =
+    let base = base_is k s n z (slot_of k at) f e g in
+    low_by k at (slot_of k at) (row_in_slot k.tasks (slot_of k at)) refl (omega (arith, base, low, is)) ∙ sym (in_slots k at h)
+
+pub high_mark : (k : Sight) (at a end : ℕ) → k.regs.stacks ≤ at → a ≡ at → end ≡ end_by k (row_in_slot k.tasks (slot_of k at)) → end ≤ a → 0 ≡ mark_at k at
+high_mark k at a end h is e past = high_by k at (row_in_slot k.tasks (slot_of k at)) (omega (arith, e, past, is)) ∙ sym (in_slots k at h)
+
+pub other_mark : (k : Sight) (at : ℕ) → k.regs.stacks ≤ at → is_original_word (word_seen_at k.core at) ≡ false → 0 ≡ mark_at k at
+other_mark k at h w = other_by k at (row_in_slot k.tasks (slot_of k at)) w ∙ sym (in_slots k at h)
+
+pub here_mark : (k : Sight) (at a s n z more end : ℕ) → k.regs.stacks ≤ at → a ≡ at → s ≡ k.regs.stacks → n ≡ slot_of k at → z ≡ k.regs.stack_size → s + n * z < a → more ≡ at → end ≡ end_by k (row_in_slot k.tasks (slot_of k at)) → more < end
+    → is_original_word (word_seen_at k.core at) ≡ true → 1 ≡ mark_at k at
+here_mark k at a s n z more end h is f e g lo also ends hi w =
+    let base = base_is k s n z (slot_of k at) f e g in
+    here_by k at (slot_of k at) (row_in_slot k.tasks (slot_of k at)) refl (omega (arith, base, lo, is)) (omega (arith, ends, hi, also)) w ∙ sym (in_slots k at h)
+
+-- the word that is read at an address
+pub word_read : (core : List Tagged) (at : ℕ) (w : Tagged) → slice_get core at ≡ Some w → w ≡ word_seen_at core at
+word_read core at w e = sym (ap (λ (o : Option Tagged). unwrap_or o (word 0 0)) e)

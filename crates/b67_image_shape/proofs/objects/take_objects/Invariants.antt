@@ -1,0 +1,5 @@
+use Rattle.b67_image_shape.specs.ObjectMarks.{ObjectsClaim}
+use Rattle.b67_image_shape.proofs.objects.take_objects.Given as goal
+
+abbrev pub invariant-each : goal.invariant-each
+invariant-each l = ObjectsClaim l.core l.low l.kinds l.links l.at l.claimed
