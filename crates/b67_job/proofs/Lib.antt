@@ -6,6 +6,8 @@ pub mod Parts
 pub mod Reached
 pub mod Opened
 pub mod Ran
+pub mod Finished
+pub mod Going
 pub mod Closings
 pub mod Decks
 pub mod Served

@@ -1,7 +1,7 @@
 use Rattle.std.proofs.Common.{◌≡◌, ◌++◌, ◌+◌, arith, ap, length-take, length, take}
 use Rattle.b67_io.proofs.Joined.{Gave-then}
 use Rattle.b67_card.proofs.Pieces.{read_part, read_length}
-use Rattle.b67_program.proofs.reading.read_up_to.Goals as goal
+use Rattle.b67_program.proofs.reading.read_input.Goals as goal
 
 pub read-preserved : goal.read-preserved
 read-preserved g c =

@@ -1,6 +1,6 @@
 use Rattle.std.proofs.Common.{◌≤◌, ◌+◌, ◌-◌, length}
 use Rattle.b67_io.specs.Told.{Gave}
-use Rattle.b67_program.proofs.reading.read_up_to.Given as goal
+use Rattle.b67_program.proofs.reading.read_input.Given as goal
 
 abbrev pub invariant-read : goal.invariant-read
 invariant-read g l = Gave g.S.Source.left l.initial.source l.source l.bytes

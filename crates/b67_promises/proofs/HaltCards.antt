@@ -1,0 +1,186 @@
+-- The decks of two texts that differ in a ?HALT card.
+use Rattle.std.proofs.Common.{◌≡◌, ◌+◌, ℕ, Bool, true, false, cond, not, List, [], ◌∷◌, ◌++◌, length, map, reverse, refl, sym, ap, subst, ◌∙◌, Option, Some, None, Result, Ok, Err, codes}
+use Rattle.std.specs.Prelude.{slice_get, unwrap_or, ⊤, ◌||◌, ◌&&◌, if◌then◌else◌}
+use Rattle.std.specs.List.{AllByRecursion, filter_map, cons_option}
+use Rattle.std.specs.Option.{option_map, option_to_list}
+use Rattle.std.specs.Str.{bytes_eq}
+use Rattle.std.specs.Str.Lines.{lines}
+use Rattle.std.proofs.lemmas.List.Elements.{filter_map-append}
+use Rattle.b67_model_text.specs.declared.card.Card.{Card}
+use Rattle.b67_model_text.specs.declared.deck.Deck.{Deck}
+use Rattle.b67_model_text.specs.declared.deck.Switch as deck_switch
+use Rattle.b67_model_text.specs.declared.deck.Stand.{Stand}
+use Rattle.b67_model_text.specs.declared.deck.Stand.TheVariants.{Front, Begun, Limited, InAsm, InHex, InData, Ended}
+use Rattle.b67_model_text.specs.declared.deck.Keyword.TheVariants as keywords
+use Rattle.b67_model_text.specs.Answers.{Answer, ◌>>=◌, ◌>>◌, needs, or_reason}
+use Rattle.b67_model_text.specs.Cards.{card_of, cards, is_empty, trimmed, words_in_card}
+use Rattle.b67_model_text.specs.Command.{Command, Stack, Quantum, Halt, Switch, Job, Limit, Asm, Hex, Data, End, Plain, one_number, says, command_of, plain_card, said}
+use Rattle.b67_model_text.specs.Placing.{stand, stand_after, may_stand, lacks_program, is_repeated, rises, has_room, arranged, is_well_formed, placed_card, stack_in, quantum_in, switch_in, name_in}
+use Rattle.b67_model_text.specs.Deck.{Said, command_in, of_card, said_after, sayings, job_of, own_cards, jobs, deck, deck_of}
+use Rattle.b67_model_text.proofs.Answers.{after_both, err-ok}
+use Rattle.b67_promises.specs.Halting.{DifferInHalt}
+use Rattle.b67_promises.proofs.TurnCards.{cards_at, is_filled, cards-append, filled, first_word, trimmed_three, given, first_said, say_same, reverse_cons, deck_said}
+
+-- ---- a card of a halt
+
+abbrev IsHaltCommand : Command → Type 0
+IsHaltCommand (Halt n) = Unit {0}
+IsHaltCommand _ = ⊥
+
+halt_says : (o : Option ℕ) (c : Command) → or_reason (option_map Halt o) 4 ≡ Ok c → IsHaltCommand c
+halt_says None c e = err-ok 4 c _ e
+halt_says (Some n) c e = let is : Halt n ≡ c = cc in subst IsHaltCommand is tt
+
+by_halt : (b : Bool) (parameters : List (List ℕ)) (c : Command) → (or_reason (if b then Some keywords.Halt else None) 3 >>= λ keyword. or_reason (says keyword parameters) 4) ≡ Ok c → IsHaltCommand c
+by_halt true parameters c e = halt_says (one_number 1 800000000 parameters) c e
+by_halt false parameters c e = err-ok 3 c _ e
+
+halt_key : (y : List ℕ) (parameters : List (List ℕ)) (c : Command) → command_of ((63 ∷ 72 ∷ 65 ∷ y) ∷ parameters) ≡ Ok c → IsHaltCommand c
+halt_key y parameters c e = by_halt (bytes_eq (codes "LT") y) parameters c e
+
+halt_said : (t : List ℕ) (c : Command) → said (63 ∷ 72 ∷ 65 ∷ t) ≡ Ok c → IsHaltCommand c
+halt_said t c e =
+    let text = 63 ∷ 72 ∷ 65 ∷ t in
+    let w = first_word 63 72 65 t refl refl refl in
+    let s = after_both (plain_card text) (λ (u : ⊤). command_of (words_in_card text)) c e in
+    halt_key w.0 w.1 c (ap command_of (sym w.2) ∙ s.2)
+
+-- ---- where it stands
+
+halt_in_front : (s : Stand) (n : ℕ) → (may_stand s (Halt n) || lacks_program s (Halt n)) ≡ true → s ≡ Front
+halt_in_front Front n e = refl
+halt_in_front Begun n e = absurd (let z : ⊥ = cc in z)
+halt_in_front Limited n e = absurd (let z : ⊥ = cc in z)
+halt_in_front InAsm n e = absurd (let z : ⊥ = cc in z)
+halt_in_front InHex n e = absurd (let z : ⊥ = cc in z)
+halt_in_front InData n e = absurd (let z : ⊥ = cc in z)
+halt_in_front Ended n e = absurd (let z : ⊥ = cc in z)
+
+needed : {A : Type 0} (b : Bool) (reason : ℕ) (rest : Answer A) (a : A) → (needs b reason >> rest) ≡ Ok a → b ≡ true
+needed true reason rest a e = refl
+needed false reason rest a e = err-ok reason a _ e
+
+stands_in_front : (before : List Command) (c : Command) (u : ⊤) → IsHaltCommand c → placed_card before c ≡ Ok u → stand before ≡ Front
+stands_in_front before (Halt n) u is e =
+    let a = after_both (arranged before (Halt n)) (λ (v : ⊤). is_well_formed (stand before) (Halt n)) u e in
+    halt_in_front (stand before) n (needed (may_stand (stand before) (Halt n) || lacks_program (stand before) (Halt n)) 5 _ a.0 a.1)
+stands_in_front before _ u is e = absurd is
+
+-- what stands in front names no job
+names_none : (s : Stand) (c : Command) → stand_after s c ≡ Front → (s ≡ Front) × (name_in c ≡ None)
+names_none s (Stack n) e = (e, refl)
+names_none s (Quantum n) e = (e, refl)
+names_none s (Halt n) e = (e, refl)
+names_none s (Switch count job task) e = (e, refl)
+names_none s (Plain text) e = (e, refl)
+names_none s (Job name) e = absurd (let z : ⊥ = cc in z)
+names_none s (Limit n) e = absurd (let z : ⊥ = cc in z)
+names_none s Asm e = absurd (let z : ⊥ = cc in z)
+names_none s Hex e = absurd (let z : ⊥ = cc in z)
+names_none s Data e = absurd (let z : ⊥ = cc in z)
+names_none s End e = absurd (let z : ⊥ = cc in z)
+
+-- ---- the jobs behind it
+
+no_job : (s : Said) (tail : List Said) → name_in s.command ≡ None → jobs (s ∷ tail) ≡ jobs tail
+no_job s tail none = ap (λ (o : Option (List ℕ)). option_to_list (option_map (λ name. job_of s.number name (own_cards tail)) o) ++ jobs tail) none
+
+jobs_after : (before tail : List Said) → stand (map command_in before) ≡ Front → jobs (reverse before ++ tail) ≡ jobs tail
+jobs_after [] tail e = refl
+jobs_after (s ∷ before) tail e =
+    let n = names_none (stand (map command_in before)) s.command e in
+    ap jobs (reverse_cons s before tail) ∙ jobs_after before (s ∷ tail) n.0 ∙ no_job s tail n.1
+
+halt_names_none : (c : Command) → IsHaltCommand c → name_in c ≡ None
+halt_names_none (Halt n) h = refl
+halt_names_none _ h = absurd h
+
+-- ---- the deck but for the halt
+
+pub record SameButHalt (d e : Deck) : Type 0 where
+  pub stack : e.stack ≡ d.stack
+  pub quantum : e.quantum ≡ d.quantum
+  pub switches : e.switches ≡ d.switches
+  pub jobs : e.jobs ≡ d.jobs
+
+passed_over : {B : Type 0} (f : Said → Option B) (front tail : List Said) (s : Said) → f s ≡ None → filter_map f (front ++ tail) ≡ filter_map f (front ++ s ∷ tail)
+passed_over f front tail s none =
+    filter_map-append f front tail
+    ∙ ap (λ o. filter_map f front ++ cons_option o (filter_map f tail)) (sym none)
+    ∙ sym (filter_map-append f front (s ∷ tail))
+
+no_stack : (c : Command) → IsHaltCommand c → stack_in c ≡ None
+no_stack (Halt n) h = refl
+no_stack _ h = absurd h
+
+no_quantum : (c : Command) → IsHaltCommand c → quantum_in c ≡ None
+no_quantum (Halt n) h = refl
+no_quantum _ h = absurd h
+
+no_switch : (c : Command) → IsHaltCommand c → switch_in c ≡ None
+no_switch (Halt n) h = refl
+no_switch _ h = absurd h
+
+same_deck : (before tail : List Said) (s : Said) → IsHaltCommand s.command → stand (map command_in before) ≡ Front → SameButHalt (deck (reverse before ++ s ∷ tail)) (deck (reverse before ++ tail))
+same_deck before tail s h e = record {
+  stack = ap (λ (ns : List ℕ). unwrap_or (slice_get ns 0) 512) (passed_over (λ (x : Said). stack_in x.command) (reverse before) tail s (no_stack s.command h));
+  quantum = ap (λ (ns : List ℕ). unwrap_or (slice_get ns 0) 1000) (passed_over (λ (x : Said). quantum_in x.command) (reverse before) tail s (no_quantum s.command h));
+  switches = passed_over (λ (x : Said). switch_in x.command) (reverse before) tail s (no_switch s.command h);
+  jobs = jobs_after before tail e ∙ sym (no_job s tail (halt_names_none s.command h)) ∙ sym (jobs_after before (s ∷ tail) e);
+}
+
+-- ---- what is said
+
+-- the same cards before others
+say_front : (cs more more' : List Card) (before a b : List Said) → sayings before (cs ++ more) ≡ Ok a → sayings before (cs ++ more') ≡ Ok b
+    → (behind : List Said) × (sayings behind more ≡ Ok a) × (sayings behind more' ≡ Ok b)
+say_front [] more more' before a b e f = (before, e, f)
+say_front (card ∷ cs) more more' before a b e f =
+    let s = first_said before card (cs ++ more) a e in
+    let t = first_said before card (cs ++ more') b f in
+    let same : t.0 ≡ s.0 = let z : ◌≡◌ {A = Answer Command} (Ok t.0) (Ok s.0) = sym t.1 ∙ s.1 in cc in
+    say_front cs more more' (record { number = card.number; command = s.0 } ∷ before) a b s.2
+    (subst (λ (c : Command). sayings (record { number = card.number; command = c } ∷ before) (cs ++ more') ≡ Ok b) same t.2)
+
+-- a card is placed
+placed_first : (before : List Said) (card : Card) (more : List Card) (a : List Said) → sayings before (card ∷ more) ≡ Ok a
+    → (c : Command) × (said card.text ≡ Ok c) × (u : ⊤) × (placed_card (map command_in before) c ≡ Ok u)
+placed_first before card more a e =
+    let s = after_both (of_card card.number (said_after before card)) (λ (s : Said). sayings (s ∷ before) more) a e in
+    let c = after_both (said card.text) (λ (c : Command). placed_card (map command_in before) c >>= λ (u : ⊤). Ok (record { number = card.number; command = c })) s.0 (given card.number (said_after before card) s.0 s.1) in
+    let p = after_both (placed_card (map command_in before) c.0) (λ (u : ⊤). Ok (record { number = card.number; command = c.0 })) s.0 c.2 in
+    (c.0, c.1, p.0, p.1)
+
+without_halt : (behind a b : List Said) (card : Card) (more : List Card) → ((c : Command) → said card.text ≡ Ok c → IsHaltCommand c) → sayings behind (card ∷ more) ≡ Ok a → sayings behind more ≡ Ok b
+    → SameButHalt (deck a) (deck b)
+without_halt behind a b card more is e f =
+    let p = placed_first behind card more a e in
+    let s = first_said behind card more a e in
+    let x : Said = record { number = card.number; command = s.0 } in
+    let h : IsHaltCommand s.0 = is s.0 s.1 in
+    let there : stand (map command_in behind) ≡ Front = stands_in_front (map command_in behind) p.0 p.2 (is p.0 p.1) p.3 in
+    let t = say_same more (x ∷ behind) behind a b s.2 f in
+    subst (λ (l : List Said). SameButHalt (deck l) (deck b)) (sym (t.1 ∙ reverse_cons x behind t.0))
+    (subst (λ (l : List Said). SameButHalt (deck (reverse behind ++ x ∷ t.0)) (deck l)) (sym t.2) (same_deck behind t.0 x h there))
+
+-- ---- the decks of texts
+
+halt_card : (n : ℕ) (count : List ℕ) → (c : Command) → said (card_of (n, codes "?HALT" ++ count)).text ≡ Ok c → IsHaltCommand c
+halt_card n count c e = let t = trimmed_three 63 72 65 (codes "LT" ++ count) refl in halt_said t.0 c (ap said (sym t.1) ∙ e)
+
+halt_filled : (n : ℕ) (count : List ℕ) → is_filled (card_of (n, codes "?HALT" ++ count)) ≡ true
+halt_filled n count = let t = trimmed_three 63 72 65 (codes "LT" ++ count) refl in ap (λ (xs : List ℕ). not (is_empty xs)) t.1 ∙ ap not (filled 63 (72 ∷ 65 ∷ t.0))
+
+pub decks_without : (bytes other : List ℕ) (d e : Deck) → DifferInHalt bytes other → deck_of bytes ≡ Ok d → deck_of other ≡ Ok e → SameButHalt d e
+decks_without bytes other d e h is is' =
+    let a = deck_said bytes d is in
+    let b = deck_said other e is' in
+    let line : List ℕ = codes "?HALT" ++ h.count in
+    let at : ℕ = 1 + length h.front in
+    let behind : List Card = cards_at (at + 1) h.rest in
+    let one : cards bytes ≡ cards_at 1 h.front ++ card_of (at, line) ∷ behind =
+    ap (cards_at 1) h.is ∙ cards-append 1 h.front (line ∷ h.rest) ∙ ap (λ (t : Bool). cards_at 1 h.front ++ cond t (card_of (at, line) ∷ behind) behind) (halt_filled at h.count) in
+    let two : cards other ≡ cards_at 1 h.front ++ behind = ap (cards_at 1) h.other_is ∙ cards-append 1 h.front ([] ∷ h.rest) in
+    let s = say_front (cards_at 1 h.front) (card_of (at, line) ∷ behind) behind [] a.0 b.0 (ap (sayings []) (sym one) ∙ a.1) (ap (sayings []) (sym two) ∙ b.1) in
+    let same = without_halt s.0 a.0 b.0 (card_of (at, line)) behind (halt_card at h.count) s.1 s.2 in
+    subst (λ (x : Deck). SameButHalt x e) (sym a.2) (subst (λ (x : Deck). SameButHalt (deck a.0) x) (sym b.2) same)

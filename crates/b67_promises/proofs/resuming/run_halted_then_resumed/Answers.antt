@@ -1,0 +1,50 @@
+use Rattle.std.proofs.Common.{◌≡◌, ℕ, List, Option, None, Some, sym, ap, subst, inl, ◌∙◌}
+use Rattle.b67_model.specs.Common.{Session, lines, after}
+use Rattle.b67_session.specs.Slices.{StandsAt}
+use Rattle.b67_job.specs.Device.{device_of}
+use Rattle.b67_job.specs.Statuses.{StatusMeans}
+use Rattle.b67_job.specs.Runs.{run_of}
+use Rattle.b67_job.specs.Judgement.{judgement}
+use Rattle.b67_image.specs.Meaning.{told_in}
+use Rattle.b67_promises.proofs.TurnCalls.{prepared_is}
+use Rattle.b67_promises.proofs.Words.{asks_run}
+use Rattle.b67_promises.proofs.Calls.{call_prints}
+use Rattle.b67_promises.proofs.OneImage.{parts_are}
+use Rattle.b67_promises.proofs.Halves as halves
+use Rattle.b67_promises.proofs.resuming.run_halted_then_resumed.Goals as goal
+
+pub returns-clause-together : goal.returns-clause-together
+returns-clause-together g c = λ bytes other before text w w' w'' told told' differ took took' given tells tells' three zero zero'.
+    let one = device_of g.B.Backing.holds g.B.Backing.size g.B.Backing.faults c.args.backing.now c.run-halted.new.backing in
+    let two = device_of g.B.Backing.holds g.B.Backing.size g.B.Backing.faults c.run-halted.new.backing c.run-resumed.new.backing in
+    let means = subst (λ (n : ℕ). StatusMeans c.args.words.now g.S.Source.left g.S.Source.faults c.args.deck.now c.run-halted.new.deck one c.run-halted.result.machine g.K.Sink.taken g.K.Sink.faults c.args.printer.now c.run-halted.new.printer n) three c.run-halted.ensures.status in
+    let h = halves.halted_run c.args.words.now g.S.Source.left g.S.Source.faults c.args.deck.now c.run-halted.new.deck one c.run-halted.result.machine g.K.Sink.taken g.K.Sink.faults c.args.printer.now c.run-halted.new.printer bytes before text w told tells took took' means in
+    let names = halves.names_of c.args.words.now g.S.Source.left g.S.Source.faults c.args.deck.now c.run-halted.new.deck one c.run-halted.result.machine g.K.Sink.taken g.K.Sink.faults c.args.printer.now c.run-halted.new.printer bytes before text w told tells took took' h (c.run-halted.ensures.opened h.k h.is) in
+    let typed = c.outcome_is_typed.ensures h.k h.is in
+    let s0 : Session = (run_of h.p).session in
+    let made : ℕ = h.k.tasks.made in
+    let s : Session = after made s0 in
+    let stands = subst (λ (t : Option (List (List ℕ))). StandsAt t h.k s) (halves.known_is (g.B.Backing.holds c.args.backing.now) (g.B.Backing.holds c.run-halted.new.backing) tells) h.stands in
+    let still = halves.tells_on g.B.Backing.holds g.B.Backing.size g.B.Backing.calls g.B.Backing.faults c.args.backing.now c.run-halted.new.backing c.run-halted.ensures.device tells in
+    let means' = subst (λ (n : ℕ). StatusMeans c.args.resume_words.now g.I.Source.left g.I.Source.faults c.args.image.now c.run-resumed.new.deck two c.run-resumed.result.machine g.L.Sink.taken g.L.Sink.faults c.args.resume_printer.now c.run-resumed.new.printer n) zero c.run-resumed.ensures.status in
+    let rest = halves.rest_of_run c.args.resume_words.now g.I.Source.left g.I.Source.faults c.args.image.now c.run-resumed.new.deck two c.run-resumed.result.machine g.L.Sink.taken g.L.Sink.faults c.args.resume_printer.now c.run-resumed.new.printer
+    w' still s h.k stands text given c.parts_tell_sessions.ensures
+    (λ card p few is. parts_are (lines made s0) made h.k _ card p (subst (λ (t : List ℕ). halves.IsShort t) h.printed few) typed names (ap (told_in _) (sym h.printed) ∙ is)) means' in
+    let j = judgement other in
+    let call = call_prints g.M.Sink.taken g.M.Sink.faults c.args.whole_printer.now c.run-whole.new.printer j None (asks_run c.args.whole_words.now g.T.Source.left c.args.whole_deck.now c.run-whole.new.deck other w'' told') tells' c.run-whole.result.status c.run-whole.ensures.due in
+    let q = call.2.runs (inl zero') in
+    let all = halves.whole_text (run_of q.0) c.run-whole.result.status call.0 (call.2.prints q.0 q.1) zero' in
+    let same = halves.one_session bytes other h.p q.0 differ h.deck (prepared_is other q.0 q.1) in
+    record {
+      resumed = rest.0;
+      whole = call.0;
+      printed = rest.1;
+      printed' = call.1;
+      parts = halves.printed_together made rest.2.steps all.steps s0 h.k text rest.0 call.0 rest.2.over (ap (λ (x : Session). halves.lives all.steps x) (sym same) ∙ all.over) h.printed rest.2.printed (all.printed ∙ ap (λ (x : Session). halves.text_of all.steps x) same);
+    }
+
+pub returns-clause-calls : goal.returns-clause-calls
+returns-clause-calls g c = (c.run-halted.new.backing, (c.run-halted.result.machine, c.run-halted.ensures.due), (c.run-resumed.result.machine, c.run-resumed.ensures.due))
+
+pub returns-clause-whole_call : goal.returns-clause-whole_call
+returns-clause-whole_call g c = (c.run-whole.result.machine, c.run-whole.ensures.due)

@@ -1,0 +1,79 @@
+//! A run that halts and is resumed prints what it would have printed.
+
+ghost use Rattle.std.specs.Prelude.{◌≡◌, ◌≢◌, ◌++◌, ℕ, List, Option, Some, None};
+ghost use Rattle.b67_task_tables.specs.declared.tables.Machine.{Machine};
+ghost use Rattle.b67_image.specs.Parts.{parts_of};
+ghost use Rattle.b67_image.specs.Typed.{AreTyped};
+ghost use Rattle.b67_job.specs.Device.{device_of};
+ghost use Rattle.b67_job.specs.Due.{Answered};
+ghost use Rattle.b67_promises.specs.Paging.{AsksForRun};
+ghost use Rattle.b67_promises.specs.Halting.{AsksForImage, AsksForResume, DifferInHalt, ResumePrints};
+
+use b67_backing::Backing;
+use b67_image::{machine_is_typed, parts_tell_sessions};
+use b67_io::{Sink, Source};
+use b67_job::{Outcome, run};
+use std::alloc::Global;
+
+/// Looks at each number of the machine that a call has left, if it left one: its type bounds it. Changes nothing.
+fn outcome_is_typed(outcome: &Outcome)
+    ensures { (k : Machine) → outcome.now.machine ≡ Some k → AreTyped (parts_of k) }
+{
+    if let Some(machine) = &outcome.machine {
+        machine_is_typed(machine);
+    }
+}
+
+/// Runs a deck to its halt by `image`; goes on from what was printed by `resume`, over the same backing; and runs the same deck
+/// without its halt by `run`, over a backing of its own. Answers the three statuses.
+///
+/// If the first run halts (3) and the other two end (0), the lines of the halted run and of the resumed one are together those of
+/// the whole run.
+pub fn run_halted_then_resumed<
+    S: Source,
+    K: Sink,
+    B: Backing,
+    I: Source,
+    L: Sink,
+    T: Source,
+    M: Sink,
+    C: Backing,
+>(
+    alloc: Global,
+    words: &[&str],
+    deck: &mut S,
+    printer: &mut K,
+    backing: &mut B,
+    resume_words: &[&str],
+    image: &mut I,
+    resume_printer: &mut L,
+    whole_words: &[&str],
+    whole_deck: &mut T,
+    whole_printer: &mut M,
+    whole_backing: &mut C,
+) -> (u8, u8, u8)
+    // What the second source gives is what the first printer took. The backings tell what their sectors hold.
+    ensures together { (bytes other before text : List ℕ) → AsksForImage words.now → AsksForResume resume_words.now → AsksForRun whole_words.now
+        → S.left deck.old ≡ Some bytes → T.left whole_deck.old ≡ Some other → DifferInHalt bytes other
+        → K.taken printer.old ≡ Some before → K.taken printer.new ≡ Some (before ++ text) → I.left image.old ≡ Some text → B.holds backing.old ≢ None → C.holds whole_backing.old ≢ None
+        → result.0 ≡ 3 → result.1 ≡ 0 → result.2 ≡ 0
+        → ResumePrints text L.taken resume_printer.old resume_printer.new M.taken whole_printer.old whole_printer.new }
+
+    // The first two statuses are those of calls of `run`, the second over the backing as the first has left it.
+    ensures calls { (middle : B)
+        × ((machine : Option Machine) × Answered words.now S.left S.faults deck.old deck.new (device_of B.holds B.size B.faults backing.old middle)
+        machine K.taken K.faults printer.old printer.new result.0)
+        × ((machine : Option Machine) × Answered resume_words.now I.left I.faults image.old image.new (device_of B.holds B.size B.faults middle backing.new)
+        machine L.taken L.faults resume_printer.old resume_printer.new result.1) }
+
+    // The third is that of a call on the others.
+    ensures whole_call { (machine : Option Machine) × Answered whole_words.now T.left T.faults whole_deck.old whole_deck.new (device_of C.holds C.size C.faults whole_backing.old whole_backing.new)
+        machine M.taken M.faults whole_printer.old whole_printer.new result.2 }
+{
+    parts_tell_sessions();
+    let halted = run(alloc, words, deck, printer, backing);
+    outcome_is_typed(&halted);
+    let resumed = run(alloc, resume_words, image, resume_printer, backing);
+    let whole = run(alloc, whole_words, whole_deck, whole_printer, whole_backing);
+    (halted.status, resumed.status, whole.status)
+}
