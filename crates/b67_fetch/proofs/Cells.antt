@@ -17,11 +17,11 @@ use Rattle.b67_refer.specs.Cells.{IsCellAt}
 use Rattle.b67_refer.proofs.Scenes as Scenes
 use Rattle.b67_exec_cells.specs.Tops.{NoOriginals}
 use Rattle.b67_exec_cells.proofs.Put.{room, registers}
-use Rattle.b67_layout_store.proofs.Puts.{put}
-use Rattle.b67_layout_store.proofs.Frames.{put_frames, put_job, with_cell_is, frame_found}
-use Rattle.b67_layout_store.proofs.Mapped.{put_task}
-use Rattle.b67_layout_store.proofs.Stored as Stored
-use Rattle.b67_layout_store.proofs.Stored.{RepresentsSession-store, still_runs}
+use Rattle.b67_layout_step.proofs.Puts.{put}
+use Rattle.b67_layout_step.proofs.Frames.{put_frames, put_job, with_cell_is, frame_found}
+use Rattle.b67_layout_step.proofs.Mapped.{put_task}
+use Rattle.b67_layout_step.proofs.Stored as Stored
+use Rattle.b67_layout_step.proofs.Stored.{RepresentsSession-store, still_runs}
 use Rattle.b67_fetch.proofs.Finishes.{finish_drop, finish_keep}
 use Rattle.b67_lemmas.proofs.Members.{has_map_back, keyed_has}
 use Rattle.b67_lemmas.proofs.Keyed.{change_map}

@@ -15,9 +15,9 @@ use Rattle.b67_stack.specs.Represents.{Storage}
 use Rattle.b67_layout.proofs.Common.{fresh, no_objects_gone, with_course, IsFree, task_with, course_twice}
 use Rattle.b67_exec_cells.specs.Tops.{NoOriginals}
 use Rattle.b67_exec_cells.proofs.Put.{room, registers}
-use Rattle.b67_layout_store.proofs.Arrays.{number_renumbers}
-use Rattle.b67_layout_store.proofs.Objects.{identities_kept}
-use Rattle.b67_layout_store.proofs.Machine.{RepresentsSession-element, still_runs}
+use Rattle.b67_layout_step.proofs.Arrays.{number_renumbers}
+use Rattle.b67_layout_step.proofs.Objects.{identities_kept}
+use Rattle.b67_layout_step.proofs.Machine.{RepresentsSession-element, still_runs}
 use Rattle.b67_fetch.proofs.Finishes.{finish_drop, finish_keep}
 
 module _ (x : Storage) (old : Cpu) (plan : Placement) (s : Session) (m : SessionJob) (t : Task) (o : IsInOrderButCounts s) (h : RepresentsSession x old plan s) (runs : IsRunning plan s.jobs m t) (q : Place)

@@ -6,6 +6,7 @@ use Rattle.b67_codefile.specs.declared.file.Codefile.{Codefile}
 use Rattle.b67_codefile.specs.Reading.{file_of}
 use Rattle.b67_codefile.specs.Meaning.{program_of}
 use Rattle.b67_model.specs.Common.{Program, refusals, first_of}
+pub use Rattle.b67_model.specs.Answers.{◌>>=◌}
 use Rattle.b67_model.specs.Loader as loader
 use Rattle.b67_model_text.specs.declared.deck.Body.{Body}
 use Rattle.b67_model_text.specs.declared.deck.Body.TheVariants.{Cards, Bytes}
@@ -20,11 +21,6 @@ use Rattle.b67_job_admit.specs.declared.refusal.Refusal.TheVariants as refusal
 -- an answer, or the first refusal
 abbrev pub Admission : Type 0 → Type 0
 Admission A = Result A Refusal
-
-infixl 10 ◌>>=◌
-abbrev pub ◌>>=◌ : {A B : Type 0} → Admission A → (A → Admission B) → Admission B
-(Ok a) >>= go = go a
-(Err r) >>= go = Err r
 
 -- a refused card of a deck or of assembly, as it is told
 abbrev pub of_deck : {A : Type 0} → Result A deck.Refusal → Admission A

@@ -4,3 +4,14 @@ pub mod Rows
 pub mod Laws
 pub mod OtherNumbers
 pub mod MoreOtherNumbers
+pub mod Puts
+pub mod Stores
+pub mod Frames
+pub mod Owners
+pub mod Mapped
+pub mod Stored
+pub mod Elements
+pub mod Homes
+pub mod Arrays
+pub mod Objects
+pub mod Machine

@@ -1,4 +1,4 @@
-//! The session that stands after a step: lemmas, and two laws on the arrays that rows keep and touch.
+//! The session that stands after a step or a store: lemmas, and two laws on the arrays that rows keep and touch.
 #![tactic(auto)]
 
 ghost use Rattle.b67_layout_step.specs.Keeping.{RowsKeepArrays, StepsTouchArrays};

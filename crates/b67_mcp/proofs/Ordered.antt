@@ -12,7 +12,7 @@ use Rattle.b67_law_order.proofs.Stores.{change_has, arrays_changed, names_change
 use Rattle.b67_law_order.proofs.ItemMaps.{task_up}
 use Rattle.b67_layout.specs.Common.{JobInOrderButCounts, IsInOrderButCounts, with_job}
 use Rattle.b67_layout.proofs.LeftSettles.{numbered_course}
-use Rattle.b67_layout_store.proofs.Arrays.{Renumbers}
+use Rattle.b67_layout_step.proofs.Arrays.{Renumbers}
 
 module _ (m : SessionJob) (id : ℕ) (f : Array → Array) (keeps : Renumbers f) (fits : (x : Array) → ArrayInOrder x → ArrayInOrder (f x)) where
   abbrev arrays' : List Array

@@ -19,8 +19,8 @@ use Rattle.b67_overlay.specs.Spans.{MachineCanPage}
 use Rattle.b67_layout_spans.proofs.Sessions.{copies_of}
 use Rattle.b67_layout_storage.proofs.Devices.{says_of}
 use Rattle.b67_layout_storage.proofs.Untold.{untold, Represents-untold}
-use Rattle.b67_layout_store.proofs.Arrays.{Renumbers, slots_same}
-use Rattle.b67_layout_store.proofs.Objects.{old_object, replaces}
+use Rattle.b67_layout_step.proofs.Arrays.{Renumbers, slots_same}
+use Rattle.b67_layout_step.proofs.Objects.{old_object, replaces}
 use Rattle.b67_task_tables.specs.declared.tables.Machine.{Machine}
 use Rattle.b67_task_tables.specs.Tables.{task_row, job_row, counts_of, TasksShow, MachineRepresents}
 use Rattle.b67_mcp_process.proofs.Moved.{same_jobs}

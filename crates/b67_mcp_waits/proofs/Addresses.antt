@@ -11,8 +11,8 @@ use Rattle.b67_stack.specs.declared.Cpu.{Cpu}
 use Rattle.b67_stack.specs.Represents.{Storage}
 use Rattle.b67_layout.specs.Common.{IsInOrderButCounts, Placement, slot_of, spots, address_of, IsRunning, frame_address, RepresentsSession}
 use Rattle.b67_layout.proofs.Rows.{task_row}
-use Rattle.b67_layout_store.proofs.Frames.{frames_under}
-use Rattle.b67_layout_store.proofs.Owners.{OwnerAt, owner, others_none}
+use Rattle.b67_layout_step.proofs.Frames.{frames_under}
+use Rattle.b67_layout_step.proofs.Owners.{OwnerAt, owner, others_none}
 use Rattle.b67_refer.specs.RunningContext.{LiveContext}
 use Rattle.b67_refer.proofs.Scenes.{member_in_order}
 use Rattle.b67_refer.proofs.Slots.{live_slot}

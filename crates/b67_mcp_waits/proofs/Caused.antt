@@ -17,9 +17,9 @@ use Rattle.b67_stack.specs.declared.Cpu.{Cpu}
 use Rattle.b67_stack.specs.Represents.{Storage}
 use Rattle.b67_layout.specs.Common.{IsInOrderButCounts, Placement, IsRunning, frame_address, RepresentsSession, here, with_job}
 use Rattle.b67_layout.proofs.Common.{running_in_order, member-same, with_job-twice}
-use Rattle.b67_layout_store.proofs.Frames.{put_frames, put_job, with_cell_is}
-use Rattle.b67_layout_store.proofs.Mapped.{put_task, keyed_put, critical_put}
-use Rattle.b67_layout_store.proofs.Stored.{RepresentsSession-store, still_runs}
+use Rattle.b67_layout_step.proofs.Frames.{put_frames, put_job, with_cell_is}
+use Rattle.b67_layout_step.proofs.Mapped.{put_task, keyed_put, critical_put}
+use Rattle.b67_layout_step.proofs.Stored.{RepresentsSession-store, still_runs}
 use Rattle.b67_refer.specs.Cells.{IsCellAt}
 use Rattle.b67_refer.proofs.Scenes as Scenes
 use Rattle.b67_task_tables.specs.declared.tables.Machine.{Machine}

@@ -16,8 +16,8 @@ use Rattle.b67_stack.specs.Stacks.{StackPlace}
 use Rattle.b67_layout.specs.Common.{IsInOrderButCounts, Placement, slot_of, spot_in, base_spot, spots, address_of, RowState, WaitsAtCell, RunningRow, shown, critical_disp, TaskShows, Differ, IsRunning, frame_address, RepresentsSession, with_job}
 use Rattle.b67_layout.specs.Rows as rows
 use Rattle.b67_layout.proofs.Common.{running_in_order, member-same, change-has, change-kept, live_in_order}
-use Rattle.b67_layout_store.proofs.Frames.{put_job, put_spot}
-use Rattle.b67_layout_store.proofs.Mapped.{put_task, keyed_put, spots_put}
+use Rattle.b67_layout_step.proofs.Frames.{put_job, put_spot}
+use Rattle.b67_layout_step.proofs.Mapped.{put_task, keyed_put, spots_put}
 use Rattle.b67_task_tables.specs.declared.tables.TaskRow.{TaskRow}
 use Rattle.b67_task_tables.specs.declared.tables.TaskState.{TaskState}
 use Rattle.b67_task_tables.specs.declared.tables.TaskState.TheVariants.{Ready, Awaits, WaitsAt}

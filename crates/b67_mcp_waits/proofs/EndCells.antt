@@ -11,7 +11,7 @@ use Rattle.b67_model.specs.Words as Words
 use Rattle.b67_stack.specs.declared.Cpu.{Cpu}
 use Rattle.b67_stack.specs.Represents.{Storage}
 use Rattle.b67_layout.specs.Common.{IsInOrderButCounts, Placement, IsRunning, frame_address, RepresentsSession, here, cells}
-use Rattle.b67_layout_store.proofs.Stored.{operand_own}
+use Rattle.b67_layout_step.proofs.Stored.{operand_own}
 use Rattle.b67_refer.specs.declared.ends.End as ends
 use Rattle.b67_refer.specs.declared.ends.End.TheVariants as end
 use Rattle.b67_refer.specs.RunningContext.{RunningContext}

@@ -13,7 +13,7 @@ use Rattle.b67_refer.specs.RunningContext.{RunningContext, live_of}
 use Rattle.b67_refer.specs.Cells.{IsCellAt, frame_at_core}
 use Rattle.b67_refer.proofs.Seats.{seat}
 use Rattle.b67_refer.proofs.Rule.{inside, no_mark_under, return_tag}
-use Rattle.b67_layout_store.proofs.Stored.{operand_own}
+use Rattle.b67_layout_step.proofs.Stored.{operand_own}
 
 words_low : (fs : List Frame) (f : Frame) → Has fs f → words_of f ≤ height fs
 words_low [] f h = absurd h

@@ -7,14 +7,14 @@ Answer A = Result A Fault
 
 -- goes on with the value
 infixl 10 ◌>>=◌
-abbrev pub ◌>>=◌ : {A B : Type 0} → Answer A → (A → Answer B) → Answer B
+abbrev pub ◌>>=◌ : {A B R : Type 0} → Result A R → (A → Result B R) → Result B R
 Ok a >>= go = go a
-Err fault >>= go = Err fault
+Err why >>= go = Err why
 
 infixl 10 ◌>>◌
-abbrev pub ◌>>◌ : {B : Type 0} → Answer ⊤ → Answer B → Answer B
+abbrev pub ◌>>◌ : {B R : Type 0} → Result ⊤ R → Result B R → Result B R
 Ok a >> rest = rest
-Err fault >> rest = Err fault
+Err why >> rest = Err why
 
 -- nothing where the test holds, else the fault
 abbrev pub needs : Bool → Fault → Answer ⊤

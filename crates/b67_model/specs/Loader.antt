@@ -18,7 +18,8 @@ pub data Entry : Type 0 where
   At : (place : Place) (op : Op) → Entry
   Break : (place : Place) (why : Undecodable) → Entry
 
--- each operator after the one before, up to the segment's end or a break
+-- Each operator after the one before, up to the segment's end or a break. What is read at the place is handed on, so that each
+-- clause is chosen by it
 abbrev pub entries_from : ℕ → List ℕ → Place → Reading → List Entry
 entries_from zero code at read = []
 entries_from (suc n) code at (Err BadPlace) = []

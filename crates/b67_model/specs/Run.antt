@@ -48,6 +48,9 @@ moment_for s (Some c) = moment_by s c (keyed number_of c.who.job s.jobs)
 unfoldable pub next : Session → Option StepResult
 next s = moment_for s (choice s)
 
+-- The functions below whose name ends in `_from` are handed what comes next, if anything does, as an argument: "the lines of n
+-- steps of which this is the first". So each of their clauses is chosen by whether there is a next step, and `next` stays folded.
+
 -- the lines of at most n steps
 abbrev pub lines_from : ℕ → Option StepResult → List RunLine
 lines_from zero m = []

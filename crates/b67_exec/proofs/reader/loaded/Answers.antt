@@ -1,5 +1,4 @@
-use Rattle.std.proofs.Common.{◌≡◌, ◌*◌, ◌^◌, ◌<◌, ◌+◌, sym, arith, ap, ◌∙◌}
-use Rattle.std.proofs.Common.{get_or}
+use Rattle.std.proofs.Common.{arith, ap, ◌∙◌, get_or}
 use Rattle.b67_exec.proofs.Readers.{word-in, in-core, range-long}
 use Rattle.b67_exec.proofs.reader.loaded.Goals as goal
 

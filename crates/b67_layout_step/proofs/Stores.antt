@@ -15,7 +15,7 @@ use Rattle.b67_stack.proofs.Bases.{base-apart}
 use Rattle.b67_stack.proofs.Lies.{Lie-same}
 use Rattle.b67_stack.proofs.Heights.{words-length}
 use Rattle.b67_stack.proofs.Slots.{by_slot, Content-areas, slot_room}
-use Rattle.b67_layout_store.proofs.Puts.{Puts, puts_high, puts_mark, puts_level, puts_some, puts_heads, puts_lies, puts_has, puts_low}
+use Rattle.b67_layout_step.proofs.Puts.{Puts, puts_high, puts_mark, puts_level, puts_some, puts_heads, puts_lies, puts_has, puts_low}
 
 -- a live task's slot with another shape in a cell
 pub data SlotPuts (c : Shape) (at : ℕ) : Slot → Slot → Type 0 where

@@ -13,8 +13,8 @@ use Rattle.b67_model.specs.Common.{Array, Job, JobProgress, SessionJob, with_arr
 use Rattle.b67_layout.specs.Common.{IsInOrderButCounts, Placement, array_object, code_objects, objects_of, machine_view, PlanFits}
 use Rattle.b67_stack.specs.Common.{PagedObject, Storage, Represents, TakesPlace}
 use Rattle.b67_layout.proofs.Common.{job_in_order, with_course, member-same, change-has, change-kept, numbered_course, code_kind}
-use Rattle.b67_layout_store.proofs.Arrays.{Renumbers}
-use Rattle.b67_layout_store.proofs.Homes.{one_home}
+use Rattle.b67_layout_step.proofs.Arrays.{Renumbers}
+use Rattle.b67_layout_step.proofs.Homes.{one_home}
 use Rattle.b67_law_order.proofs.Numbered.{keyed_member}
 
 pub identities_kept : (id : ℕ) (f : Array → Array) → Renumbers f → (xs : List Array) → map (λ (a : Array). a.identity) (change_keyed (λ (a : Array). a.identity) id f xs) ≡ map (λ (a : Array). a.identity) xs

@@ -27,11 +27,11 @@ use Rattle.b67_refer.proofs.Seats.{seat}
 use Rattle.b67_refer.proofs.Slots.{live_slot}
 use Rattle.b67_refer.proofs.Marks.{frame_known, frame_seat, frame_dictionary, frame_mcp, slot_address}
 use Rattle.b67_refer.proofs.Rule.{inside}
-use Rattle.b67_layout_store.proofs.Puts.{Puts}
-use Rattle.b67_layout_store.proofs.Stores.{SlotPuts, runs, waits, Represents-store, Settled-store}
-use Rattle.b67_layout_store.proofs.Frames.{put_job, put_activations, frames_under, frame_found}
-use Rattle.b67_layout_store.proofs.Owners.{OwnerAt, owner, spot_under}
-use Rattle.b67_layout_store.proofs.Mapped.{put_task, keyed_put, stack_put, mark_put, rows_put, machine_view_put, Shows-put}
+use Rattle.b67_layout_step.proofs.Puts.{Puts}
+use Rattle.b67_layout_step.proofs.Stores.{SlotPuts, runs, waits, Represents-store, Settled-store}
+use Rattle.b67_layout_step.proofs.Frames.{put_job, put_activations, frames_under, frame_found}
+use Rattle.b67_layout_step.proofs.Owners.{OwnerAt, owner, spot_under}
+use Rattle.b67_layout_step.proofs.Mapped.{put_task, keyed_put, stack_put, mark_put, rows_put, machine_view_put, Shows-put}
 
 abbrev IsNoOperand : Word → Type 0
 IsNoOperand (Operand bits) = ⊥

@@ -9,7 +9,7 @@ use Rattle.b67_law_order.proofs.Replaced.{numbers_append}
 use Rattle.b67_stack.specs.Stacks.{StackPlace}
 use Rattle.b67_layout.specs.Placement.{Placement, slot_of, spot_in, outer_spots, spots}
 use Rattle.b67_layout.proofs.Fresh.{has-number}
-use Rattle.b67_layout_store.proofs.Frames.{frames_under}
+use Rattle.b67_layout_step.proofs.Frames.{frames_under}
 
 identity_has : (fs : List Frame) (id : ℕ) (s : Standing) → Has (map known_of fs) (id, s) → Has (identities fs) id
 identity_has [] id s h = absurd h

@@ -16,9 +16,9 @@ use Rattle.b67_layout.specs.Common.{IsInOrderButCounts, Placement, slot_of, spot
 use Rattle.b67_stack.specs.declared.Cpu.{Cpu}
 use Rattle.b67_stack.specs.Common.{PagedObject, Slot, MachineView, NoOriginalAboveTop, Storage, Represents, info_of}
 use Rattle.b67_layout.proofs.Common.{same_frame_at, with_course, member-same, slot_below, change-has, change-kept, dictionary_below, running_only}
-use Rattle.b67_layout_store.proofs.Elements.{with_number, Replaces, Represents-element}
-use Rattle.b67_layout_store.proofs.Arrays.{number_renumbers, spots_same, mark_same, slots_same}
-use Rattle.b67_layout_store.proofs.Objects.{old_object, replaces}
+use Rattle.b67_layout_step.proofs.Elements.{with_number, Replaces, Represents-element}
+use Rattle.b67_layout_step.proofs.Arrays.{number_renumbers, spots_same, mark_same, slots_same}
+use Rattle.b67_layout_step.proofs.Objects.{old_object, replaces}
 
 -- the display
 pub Shows-element : (display : List ℕ) (plan : Placement) (m : SessionJob) (t : Task) (id i v : ℕ) → ShowsDisplay display plan m t → ShowsDisplay display plan (record m { progress = record m.progress { job = with_element m.progress.job id i v } }) t

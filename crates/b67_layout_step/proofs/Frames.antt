@@ -12,7 +12,7 @@ use Rattle.b67_model.specs.Common.{Word, Operand, Frame, Standing, Task, Job, no
 use Rattle.b67_model.specs.State as State
 use Rattle.b67_stack.specs.Common.{Shape, Is, StackPlace, Activation, head_size, stack_words}
 use Rattle.b67_layout.specs.Common.{Placement, spot_in, shape, head, activations}
-use Rattle.b67_layout_store.proofs.Puts.{put, put_length, put_map, Puts, within, lower}
+use Rattle.b67_layout_step.proofs.Puts.{put, put_length, put_map, Puts, within, lower}
 
 set_last : {A : Type 0} (ys : List A) (x w : A) (i : ℕ) → slice_set (ys ++ x ∷ []) i w ≡ slice_set ys i w ++ (if i == length ys then w else x) ∷ []
 set_last [] x w zero = refl

@@ -15,8 +15,8 @@ use Rattle.b67_layout.specs.Common.{Slotted, Placement, slot_of, spot_in, outer_
 use Rattle.b67_layout.proofs.Common.{activations-job, with_course, member-same, member-other, task_row, change-has, change-kept, same_running, same_frame_at}
 use Rattle.b67_layout.proofs.MachineViews.{objects-after}
 use Rattle.b67_refer.proofs.Slots.{live_slot}
-use Rattle.b67_layout_store.proofs.Frames.{put_frames, put_job, put_known, put_height, put_spot, put_from, put_none}
-use Rattle.b67_layout_store.proofs.Owners.{others_none}
+use Rattle.b67_layout_step.proofs.Frames.{put_frames, put_job, put_known, put_height, put_spot, put_from, put_none}
+use Rattle.b67_layout_step.proofs.Owners.{others_none}
 
 -- each task with the word stored
 abbrev pub put_task : ℕ → ℕ → Word → Task → Task
