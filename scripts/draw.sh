@@ -1,0 +1,240 @@
+#!/bin/sh
+# Draws the stacks of a dump as an SVG: the activation records of each task as boxes, the bottom one below, and as
+# arrows their static links, references, copies of arrays, and the cells at which tasks wait.
+#
+#     sh scripts/draw.sh [DUMP] > stacks.svg
+#
+# DUMP is a file with what `dump` printed, or standard input if it isn't given. Any browser shows an SVG.
+# Nothing here is proved, and it is no part of the gate.
+set -u
+usage() {
+    echo "$1" >&2
+    echo "usage: sh scripts/draw.sh [DUMP] > stacks.svg" >&2
+    exit 2
+}
+[ $# -le 1 ] || usage "one dump, or none to read standard input"
+if [ $# = 1 ]; then
+    case $1 in -*) usage "$1: there are no options" ;; esac
+    [ -f "$1" ] && [ -r "$1" ] || usage "$1: not a file that can be read"
+    exec <"$1"
+elif [ -t 0 ]; then
+    usage "a dump is missing"
+fi
+LC_ALL=C awk '
+function fail(why) { print "draw.sh: " why > "/dev/stderr"; failed = 1; exit 2 }
+function stray() { fail("line " NR " is no line of a dump: " substr($0, 1, 60)) }
+function number(text) { return text ~ /^[0-9]+$/ }
+function place(text) { return text ~ /^[0-9]+:[0-9]$/ }
+function hex(text,   i, n) {
+    n = 0
+    for (i = 1; i <= length(text); i++) n = n * 16 + index("0123456789abcdef", substr(text, i, 1)) - 1
+    return n
+}
+function bits(value, low, width) { return int(value / 2 ^ low) % 2 ^ width }
+# the record that fields from `at` on name, as one word; the field behind it is `behind`
+function record(at) {
+    if ($at == "MCP") { behind = at + 1; return "MCP" }
+    if ($at != "DICT" && $at !~ /^[0-9]+\.[0-9]+$/ || !number($(at + 1))) stray()
+    behind = at + 2
+    return $at "/" $(at + 1)
+}
+function named(r) { sub(/\//, " ", r); return r }
+# a record and the number behind it, as one word
+function cell_of(at,   r) {
+    r = record(at)
+    if (!number($behind)) stray()
+    return r "#" $(behind++)
+}
+function whole(digits,   n) {
+    n = hex(digits)
+    if (bits(n, 39, 7) || bits(n, 47, 1)) return "#" digits
+    return (bits(n, 46, 1) ? "-" : "") sprintf("%.0f", n % 2 ^ 39)
+}
+# a couple of 14 bits as the running level reads it
+function couple(digits,   n, width, i, level) {
+    n = hex(digits)
+    width = running < 4 ? 2 : running < 8 ? 3 : running < 16 ? 4 : 5
+    level = 0
+    for (i = 0; i < width; i++) level += bits(n, 13 - i, 1) * 2 ^ i
+    return level "," n % 2 ^ (14 - width)
+}
+function row(text) { rows[now]++; said[now, rows[now]] = text; if (length(text) > wide[task]) wide[task] = length(text) }
+function arrow(kind, from, to) { arrows++; is[arrows] = kind; comes[arrows] = from; goes[arrows] = to; wanted[to]; sub(/#.*/, "", to); wanted[to] }
+{ sub(/\r$/, "") }
+/^TASK / {
+    if ($2 !~ /^[0-9]+\.[0-9]+$/) stray()
+    task = $2
+    if ($3 == "READY") { at = 4; what = "ready" }
+    else if ($3 == "AWAITS" && number($4)) { at = 5; what = "awaits task " $4 }
+    else if ($3 == "WAITS") {
+        to = cell_of(4)
+        at = behind
+        what = to
+        sub(/.*#/, "", what)
+        what = "waits at cell " what " of " named(key_of(to))
+        arrow("wait", "task " task, to)
+    } else stray()
+    if (!number($at) || !place($(at + 1)) || NF != at + 1) stray()
+    names[++tasks] = task
+    state[task] = what
+    goes_on[task] = "segment " $at " at " $(at + 1)
+    wide[task] = length(goes_on[task])
+    if (length(what) > wide[task]) wide[task] = length(what)
+    running = 2
+    now = ""
+    next
+}
+/^FRAME / && task != "" {
+    if ($2 != records[task] + 1) stray()
+    records[task]++
+    now = task "/" $2
+    if ($3 == "MARKED" && NF == 3) { is_entered = 0; row("record " $2 ", marked") }
+    else if ($3 == "LEVEL" && number($4) && $5 == "ENV") {
+        is_entered = 1
+        running = $4
+        row("record " $2 ", level " $4)
+        to = record(6)
+        if (NF != behind - 1) stray()
+        arrow("link", now, to)
+    } else stray()
+    next
+}
+/^CELL / && now != "" {
+    if (!number($2)) stray()
+    here = now "#" $2
+    # what no couple names, in a record that is only marked, has no name
+    name = is_entered ? running "," $2 "  " : ""
+    at = 5
+    if ($3 == "NUM" && $4 ~ /^[0-9a-f]+$/) row(name whole($4))
+    else if ($3 == "NAME" && $4 ~ /^[0-9a-f]+$/) row(name "couple " couple($4))
+    else if ($3 == "ARRAY" && number($4)) row(name "array of " $4)
+    else if ($3 == "PROC" && number($4) && place($5) && number($6)) {
+        row(name "procedure: segment " $4 ($5 == "0:0" ? "" : " at " $5))
+        at = 7
+    }
+    else if ($3 == "REF") { to = cell_of(4); at = behind; row(name "reference"); arrow("ref", here, to) }
+    else if ($3 == "ROW") { to = cell_of(4); at = behind; row(name "copy of an array"); arrow("copy", here, to) }
+    else if ($3 == "ELEMENT") {
+        to = cell_of(4)
+        if (!number($behind)) stray()
+        row(name "element " $behind)
+        at = behind + 1
+        arrow("copy", here, to)
+    } else stray()
+    if (NF != at - 1) stray()
+    row_of[here] = rows[now]
+    next
+}
+{ stray() }
+# the text, and where an arrow sets out from it or comes to it
+function put(text) { out[++outs] = text }
+function write(x, y, words, more) { put(sprintf("<text x=\"%.1f\" y=\"%.1f\"%s>%s</text>", x, y, more, words)) }
+function box(key, left, width,   i, y) {
+    low[key] = floor
+    floor -= rows[key] * line
+    put(sprintf("<rect x=\"%.1f\" y=\"%.1f\" width=\"%.1f\" height=\"%.1f\" rx=\"3\"/>", left, floor, width, rows[key] * line))
+    for (i = 1; i <= rows[key]; i++) {
+        y = low[key] - (i - 1) * line
+        write(left + 8, y - 5, said[key, i], i == 1 ? " class=\"mark\"" : "")
+        if (i > 1) put(sprintf("<path class=\"rule\" d=\"M%.1f %.1fh%.1f\"/>", left, y, width))
+    }
+    from_left[key] = left
+    from_right[key] = left + width
+    if (floor < highest) highest = floor
+    floor -= 8
+}
+# the side column: the dictionaries and the record of the MCP, so far as something names them
+function sides(   j, key, n) {
+    floor = base
+    if (!(("MCP") in wanted)) for (j = 1; j <= 8; j++) if (("DICT/" j) in wanted) wanted["MCP"]
+    for (j = 0; j <= 8; j++) {
+        key = j == 0 ? "MCP" : "DICT/" j
+        if (!(key in wanted)) continue
+        now = key
+        task = "side"
+        row(j == 0 ? "MCP: level 0" : "DICT " j ": level 1")
+        if (j > 0) arrow("link", key, "MCP")
+    }
+    for (j = 0; j <= 8; j++) {
+        key = j == 0 ? "MCP" : "DICT/" j
+        if (key in rows) box(key, 60, wide["side"] * letter + 16)
+    }
+    if (wide["side"]) across = 60 + wide["side"] * letter + 16 + gap
+}
+# the record of a cell, of a mark, or of what is written under a stack
+function key_of(cell) {
+    if (cell ~ /^task /) return substr(cell, 6) "/1"
+    sub(/#.*/, "", cell)
+    return cell
+}
+# what has no row of its own, as a cell of a dictionary, is at the mark
+function height(cell) {
+    if (cell ~ /^task /) return base + 14
+    return low[key_of(cell)] - ((cell in row_of ? row_of[cell] : 1) - 0.5) * line
+}
+# Each arrow sets out and comes in level, and arrows go behind boxes: the higher, the more columns they pass.
+function draw_arrow(a, b, kind,   from, to, passed, x, y, to_x, to_y, way, way_in, bend, rise) {
+    from = key_of(a)
+    to = key_of(b)
+    y = height(a)
+    to_y = height(b)
+    # the side from which it sets out, and that at which it comes in: 1 is the right one
+    way = column[to] > column[from] || (column[to] == column[from] && kind != "link") ? 1 : -1
+    way_in = column[to] < column[from] || (column[to] == column[from] && kind != "link") ? 1 : -1
+    x = way > 0 ? from_right[from] : from_left[from]
+    to_x = way_in > 0 ? from_right[to] : from_left[to]
+    passed = (column[to] - column[from]) * way - 1
+    rise = passed > 0 ? 10 + 8 * passed : 0
+    bend = column[to] == column[from] ? (y > to_y ? y - to_y : to_y - y) / 4 + 14 : (x > to_x ? x - to_x : to_x - x) / 3
+    if (column[to] == column[from] && bend > gap * 0.8) bend = gap * 0.8
+    behind_boxes[++curves] = sprintf("<path class=\"%s\" d=\"M%.1f %.1fC%.1f %.1f %.1f %.1f %.1f %.1f\"/>", kind, x, y, x + way * bend, y - rise, to_x + way_in * (7 + bend), to_y - rise, to_x + way_in * 7, to_y)
+    put(sprintf("<path class=\"%s head\" d=\"M%.1f %.1fl%d -4v8z\"/>", kind, to_x, to_y, way_in * 7))
+}
+function legend(x, kind, words) {
+    put(sprintf("<path class=\"%s\" d=\"M%.1f %.1fh30\"/>", kind, x, base + 54))
+    write(x + 36, base + 58, words, "")
+    return x + 36 + length(words) * letter + 24
+}
+END {
+    if (failed) exit 2
+    letter = 7.4
+    line = 18
+    gap = 90
+    base = 0
+    across = 60
+    highest = -40
+    sides()
+    for (n = 1; n <= tasks; n++) {
+        task = names[n]
+        floor = base
+        for (k = 1; k <= records[task]; k++) {
+            column[task "/" k] = n
+            box(task "/" k, across, wide[task] * letter + 16)
+        }
+        write(across, base + 18, "task " task ", " state[task], " class=\"mark\"")
+        write(across, base + 33, goes_on[task], "")
+        wide_title = length("task , " task state[task])
+        if (wide[task] < wide_title) wide[task] = wide_title
+        across += wide[task] * letter + 16 + gap
+    }
+    for (n = 1; n <= arrows; n++) {
+        if (!(key_of(goes[n]) in low)) fail("no record " named(key_of(goes[n])) " stands in the dump")
+        draw_arrow(comes[n], goes[n], is[n])
+    }
+    if (tasks == 0) write(60, base, "No task lives.", "")
+    x = legend(60, "link", "static link")
+    x = legend(x, "ref", "reference")
+    x = legend(x, "copy", "copy of an array")
+    x = legend(x, "wait", "waits at")
+    if (across < x) across = x
+    wide_all = across + 20
+    high_all = base + 94 - highest
+    print "<svg xmlns=\"http://www.w3.org/2000/svg\" xml:space=\"preserve\" width=\"" int(wide_all) "\" height=\"" int(high_all) "\" viewBox=\"0 " int(highest - 20) " " int(wide_all) " " int(high_all) "\">"
+    print "<style>text{font:12px monospace;fill:#222}.mark{font-weight:bold}rect{fill:#fff;stroke:#555}path{fill:none;stroke-width:1.3}"
+    print ".rule{stroke:#ddd;stroke-width:1}.link{stroke:#444}.ref{stroke:#15c;stroke-dasharray:6 3}.copy{stroke:#083;stroke-dasharray:2 3}"
+    print ".wait{stroke:#c40;stroke-dasharray:10 3 2 3}.head{stroke-dasharray:none}.link.head{fill:#444}.ref.head{fill:#15c}.copy.head{fill:#083}.wait.head{fill:#c40}</style>"
+    print "<rect x=\"0\" y=\"" int(highest - 20) "\" width=\"" int(wide_all) "\" height=\"" int(high_all) "\" style=\"stroke:none\"/>"
+    for (n = 1; n <= curves; n++) print behind_boxes[n]
+    for (n = 1; n <= outs; n++) print out[n]
+    print "</svg>"
+}'
