@@ -14,7 +14,7 @@ use Rattle.b67_model_text.specs.Cards.{card_of, is_empty, is_space, trimmed, car
 use Rattle.b67_model_text.specs.Hex.{digit_bytes}
 use Rattle.b67_model_text.proofs.Answers.{err-ok, after_both}
 use Rattle.b67_card.proofs.Lines.{cards_from, is_newline}
-use Rattle.b67_image.specs.Text.{limit, first_card, last_card, card_lines, image_text_of, refused_card, within_image_limit, found_from, is_digits, bytes_from, bytes_of}
+use Rattle.b67_image.specs.Text.{limit, first_card, last_card, card_lines, image_text_of, refused_card, within_image_limit, found_from, is_digits, bytes_from}
 use Rattle.b67_image.specs.Parts.{ImageParts}
 use Rattle.b67_image.specs.Meaning.{parts_told, told_in}
 use Rattle.b67_image.proofs.Again.{IsByte, text_again}

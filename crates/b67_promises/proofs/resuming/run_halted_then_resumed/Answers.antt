@@ -26,12 +26,12 @@ returns-clause-together g c = λ bytes other before text w w' w'' told told' dif
     let s : Session = after made s0 in
     let stands = subst (λ (t : Option (List (List ℕ))). StandsAt t h.k s) (halves.known_is (g.B.Backing.holds c.args.backing.now) (g.B.Backing.holds c.run-halted.new.backing) tells) h.stands in
     let still = halves.tells_on g.B.Backing.holds g.B.Backing.size g.B.Backing.calls g.B.Backing.faults c.args.backing.now c.run-halted.new.backing c.run-halted.ensures.device tells in
-    let means' = subst (λ (n : ℕ). StatusMeans c.args.resume_words.now g.I.Source.left g.I.Source.faults c.args.image.now c.run-resumed.new.deck two c.run-resumed.result.machine g.L.Sink.taken g.L.Sink.faults c.args.resume_printer.now c.run-resumed.new.printer n) zero c.run-resumed.ensures.status in
-    let rest = halves.rest_of_run c.args.resume_words.now g.I.Source.left g.I.Source.faults c.args.image.now c.run-resumed.new.deck two c.run-resumed.result.machine g.L.Sink.taken g.L.Sink.faults c.args.resume_printer.now c.run-resumed.new.printer
+    let means' = subst (λ (n : ℕ). StatusMeans c.args.resume_words.now g.I.Source.left g.I.Source.faults c.args.image.now c.run-resumed.new.image two c.run-resumed.result.machine g.L.Sink.taken g.L.Sink.faults c.args.resume_printer.now c.run-resumed.new.resume_printer n) zero c.run-resumed.ensures.status in
+    let rest = halves.rest_of_run c.args.resume_words.now g.I.Source.left g.I.Source.faults c.args.image.now c.run-resumed.new.image two c.run-resumed.result.machine g.L.Sink.taken g.L.Sink.faults c.args.resume_printer.now c.run-resumed.new.resume_printer
     w' still s h.k stands text given c.parts_tell_sessions.ensures
     (λ card p few is. parts_are (lines made s0) made h.k _ card p (subst (λ (t : List ℕ). halves.IsShort t) h.printed few) typed names (ap (told_in _) (sym h.printed) ∙ is)) means' in
     let j = judgement other in
-    let call = call_prints g.M.Sink.taken g.M.Sink.faults c.args.whole_printer.now c.run-whole.new.printer j None (asks_run c.args.whole_words.now g.T.Source.left c.args.whole_deck.now c.run-whole.new.deck other w'' told') tells' c.run-whole.result.status c.run-whole.ensures.due in
+    let call = call_prints g.M.Sink.taken g.M.Sink.faults c.args.whole_printer.now c.run-whole.new.whole_printer j None (asks_run c.args.whole_words.now g.T.Source.left c.args.whole_deck.now c.run-whole.new.whole_deck other w'' told') tells' c.run-whole.result.status c.run-whole.ensures.due in
     let q = call.2.runs (inl zero') in
     let all = halves.whole_text (run_of q.0) c.run-whole.result.status call.0 (call.2.prints q.0 q.1) zero' in
     let same = halves.one_session bytes other h.p q.0 differ h.deck (prepared_is other q.0 q.1) in
