@@ -5,7 +5,7 @@ use Rattle.b67_word.specs.declared.couples.Place.{Place}
 use Rattle.b67_word.specs.declared.faults.Fault.{Fault}
 use Rattle.b67_ctl.specs.Layout.{irw_word}
 use Rattle.b67_ctl.specs.declared.registers.Regs.{Regs}
-use Rattle.b67_model.specs.Common.{Answer, ◌>>=◌, AtCell, AtElement, AtArray, AtProc, AtIntrinsic, chase, Name, accident, back_to, evaluates, Task, SessionJob, Done, cells_of, Session}
+use Rattle.b67_model.specs.Common.{Answer, ◌>>=◌, AtCell, AtElement, AtArray, AtProc, AtIntrinsic, chase, follow, Name, accident, back_to, evaluates, Task, SessionJob, Done, cells_of, Session}
 use Rattle.b67_model.specs.Chase as Chase
 use Rattle.b67_model.specs.Rows as rows
 use Rattle.b67_layout.specs.Common.{IsInOrderButCounts, Placement, IsRunning, RepresentsSession, here, Meets}

@@ -9,7 +9,7 @@ use Rattle.std.proofs.lemmas.Option.{same_Some, none-some}
 use Rattle.std.proofs.lemmas.List.{reverse-append}
 use Rattle.b67_word.specs.declared.couples.Place.{Place}
 use Rattle.b67_word.specs.declared.faults.Fault.TheVariants.{InvalidAddress}
-use Rattle.b67_model.specs.Common.{Answer, Word, Frame, Task, Job, SessionJob, top, with_top_cells, with_task, all_frames, frame, no_frame, level_of_frame, cell, cell_of, first_offset, Known, known_of, from_frame, frames_of_task, critical_of, outer_reach, reach_of, Session}
+use Rattle.b67_model.specs.Common.{Answer, Word, Frame, Task, Job, SessionJob, OperatorContext, top, with_top_cells, with_task, all_frames, frame, no_frame, level_of_frame, cell, cell_of, first_offset, Known, known_of, from_frame, frames_of_task, critical_of, outer_reach, reach_of, Session}
 use Rattle.b67_model.specs.Keyed.{keyed, change_keyed}
 use Rattle.b67_lemmas.specs.Lists.{Has}
 use Rattle.b67_lemmas.proofs.Members.{has_get, has_reverse_back, change_found, change_other, keyed_has}

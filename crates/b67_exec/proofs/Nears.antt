@@ -1,6 +1,6 @@
 -- A near operator: other cells on the running stack, and the same segment, held as it was.
-use Rattle.std.proofs.Common.{◌≡◌, ◌≢◌, ℕ, ◌+◌, ◌-◌, ◌*◌, ◌^◌, ◌≤◌, Bool, true, false, List, [], ◌∷◌, ◌++◌, map, flat_map, length, Option, Some, None, Ok, Err, refl, sym, ◌∙◌, ap, subst, arith}
-use Rattle.std.specs.Prelude.{nat_le, if◌then◌else◌}
+use Rattle.std.proofs.Common.{◌≡◌, ◌≢◌, ℕ, ◌+◌, ◌-◌, ◌*◌, ◌^◌, ◌<◌, ◌≤◌, Bool, true, false, List, [], ◌∷◌, ◌++◌, map, flat_map, length, Option, Some, None, Ok, Err, refl, sym, ◌∙◌, ap, subst, arith}
+use Rattle.std.specs.Prelude.{nat_le, not, if◌then◌else◌}
 use Rattle.std.specs.List.{slice_get, slice_range}
 use Rattle.std.proofs.lemmas.Bool.{not-true}
 use Rattle.std.proofs.lemmas.List.{length-map}
@@ -19,7 +19,7 @@ use Rattle.b67_model.specs.declared.operators.Op.{Op}
 use Rattle.b67_model.specs.declared.operators.Op.TheVariants.{Valc, Namc, Lt8, Lt16, Lt48, Mpcw, Brun, Brtr, Brfl, Bset, Brst, Isol, Insr, Plain}
 use Rattle.b67_model.specs.declared.operators.Code.{Code}
 use Rattle.b67_model.specs.declared.operators.Code.TheVariants as codes
-use Rattle.b67_model.specs.Common.{Answer, ◌>>=◌, Word, Done, Goes, Line, Task, Job, SessionJob, Session, Segment, operand, with_task, with_top_cells, height, leaves_cells, branch_if, OperatorContext, row, called, code_of, number_of}
+use Rattle.b67_model.specs.Common.{Answer, ◌>>=◌, Word, Done, Goes, Line, Task, Job, SessionJob, Session, Segment, operand, with_task, with_top_cells, height, leaves_cells, on_cells, branch_if, OperatorContext, row, called, code_of, number_of}
 use Rattle.b67_stack.specs.declared.Cpu.{Cpu}
 use Rattle.b67_stack.specs.declared.Step.{Step}
 use Rattle.b67_stack.specs.declared.Step.TheVariants as answers
@@ -64,7 +64,7 @@ module _ (m : SessionJob) (t : Task) (job : Job) (printed : List Line) (touched 
     pub is : job ≡ with_task m.progress.job (task_with t cells place)
     pub goes : Goes_to place
 
-  pub leaves : (q : Place) → Goes_to q → (cs : List Word) → leaves_cells (here m t q) cs None ≡ Ok (Goes job printed touched) → LeavesCells
+  leaves : (q : Place) → Goes_to q → (cs : List Word) → leaves_cells (here m t q) cs None ≡ Ok (Goes job printed touched) → LeavesCells
   leaves q goes cs e = by_test (nat_le (height (with_top_cells t.frames cs)) m.constants.stack_size) refl where
     by_test : (b : Bool) → nat_le (height (with_top_cells t.frames cs)) m.constants.stack_size ≡ b → LeavesCells
     by_test true test =
@@ -114,6 +114,12 @@ module _ (m : SessionJob) (t : Task) (job : Job) (printed : List Line) (touched 
   by_taken : (wanted : Bool) (q target : Place) → Goes_to q → Goes_to target → (cs : List Word) → branch_if wanted (here m t q) cs target ≡ Ok (Goes job printed touched) → LeavesCells
   by_taken wanted q target goes taken [] e = absurd (let z : ⊥ = cc in z)
   by_taken wanted q target goes taken (a ∷ rest) e = by_operand (operand a) _ (λ n k. leaves _ (either q target goes taken _) rest k) e
+
+  -- a branch
+  pub branch_leaves : (always wanted : Bool) (q target : Place) → Goes_to q → Goes_to target → row (branch_op always wanted target) (here m t q) ≡ Ok (Goes job printed touched) → LeavesCells
+  branch_leaves true wanted q target goes taken e = leaves target taken _ e
+  branch_leaves false true q target goes taken e = by_taken true q target goes taken (cells t) e
+  branch_leaves false false q target goes taken e = by_taken false q target goes taken (cells t) e
 
   -- any near one
   pub near_leaves : ((p : Place) → Goes_to p) → (q : Place) (op : Op) → is_far op ≡ false → row op (here m t q) ≡ Ok (Goes job printed touched) → LeavesCells

@@ -1,6 +1,6 @@
 -- An operator read syllable after syllable, and where the reader stands once the task has gone on.
-use Rattle.std.proofs.Common.{◌≡◌, ℕ, ◌+◌, ◌-◌, ◌*◌, ◌/◌, ◌%◌, ◌^◌, ◌<◌, ◌≤◌, Bool, true, false, List, [], ◌∷◌, length, Option, Some, None, Ok, refl, sym, ◌∙◌, ap, subst, arith}
-use Rattle.std.specs.Prelude.{nat_lt, nat_le, slice_index}
+use Rattle.std.proofs.Common.{◌≡◌, ℕ, ◌+◌, ◌-◌, ◌*◌, ◌/◌, ◌%◌, ◌^◌, ◌<◌, ◌≤◌, Bool, true, false, List, [], length, Option, Some, None, Ok, Err, refl, sym, ◌∙◌, ap, subst, arith, ◌⊎◌, inl, inr}
+use Rattle.std.specs.Prelude.{nat_lt, nat_le, ◌&&◌, if◌then◌else◌, slice_index}
 use Rattle.std.proofs.lemmas.Bool.Decides.{nat_tests}
 use Rattle.b67_word.specs.declared.couples.Place.{Place}
 use Rattle.b67_arith.specs.declared.numerics.Numeric.{Numeric}
@@ -9,23 +9,20 @@ use Rattle.b67_arith.specs.Numerics.{of_numbers}
 use Rattle.b67_model.specs.declared.operators.Op.{Op}
 use Rattle.b67_model.specs.declared.operators.Op.TheVariants.{Plain}
 use Rattle.b67_model.specs.declared.operators.Code.{Code}
-use Rattle.b67_model.specs.Common.{Answer, Done, Form, Alone, OneMore, TwoMore, Task, SessionJob, Session, Reading, form_of, syllable, count_at, place_at, ends_at, reads, operator_at, reading_of, code_of, row, called, OperatorContext, Word, operand, on_cells, on_two, branch_if, leaves_cells, cells_of}
+use Rattle.b67_model.specs.Common.{Answer, Done, Form, Alone, OneMore, TwoMore, Task, SessionJob, Session, Reading, form_of, syllable, count_at, place_at, ends_at, reads, operator_at, reading_of, code_of, row, called, OperatorContext, on_cells, on_two, branch_if, leaves_cells, cells_of}
 use Rattle.b67_stack.specs.declared.Cpu.{Cpu}
 use Rattle.b67_stack.specs.declared.Step.{Step}
 use Rattle.b67_stack.specs.declared.Step.TheVariants as answers
 use Rattle.b67_stack.specs.Common.{Storage}
-use Rattle.b67_layout.specs.Common.{Placement, IsInOrderButCounts, IsRunning, RepresentsSession, RunsSome, ForEach, here, IsMade, Meets, IsWordOf, GivesTop, cells}
-use Rattle.b67_layout.proofs.PlainOperands.{plain_operand}
-use Rattle.b67_exec_cells.proofs.Rows.{Drops, an_operand}
-use Rattle.b67_word.specs.Tagged.{Tagged}
+use Rattle.b67_layout.specs.Common.{Placement, IsInOrderButCounts, IsRunning, RepresentsSession, RunsSome, ForEach, here, IsMade, Meets}
 use Rattle.b67_exec_cells.proofs.Codes.{present}
 use Rattle.b67_entry.specs.Procedures.{CallsOrMeets}
 use Rattle.b67_exec.specs.Operators.{OperatorMeets, leaves_record}
 use Rattle.b67_exec.specs.declared.reader.Reader.{Reader}
-use Rattle.b67_exec.specs.Near.{HoldsCode, ReaderAt, ReaderBehind, ReadsThrough, reader_place, is_straight, WentOn, NearMade, MadeNear, code_of_numbers, resting_code, branch_op}
+use Rattle.b67_exec.specs.Near.{HoldsCode, ReaderAt, ReaderBehind, ReadsThrough, reader_place, is_straight, WentOn, NearMade, MadeNear, IsEitherReader, code_of_numbers, resting_code, branch_op}
 use Rattle.b67_exec.specs.declared.firsts.Near.{Near}
 use Rattle.b67_exec.specs.Firsts.{near_form}
-use Rattle.b67_exec.proofs.Nears.{unmet, LeavesCells, leaves, straight_leaves, straight_stays, straight_calls, branch_stays, branch_calls, holds_on, code_on, place_on}
+use Rattle.b67_exec.proofs.Nears.{unmet, LeavesCells, straight_leaves, branch_leaves, straight_stays, straight_calls, branch_stays, branch_calls, holds_on, code_on, place_on}
 use Rattle.b67_exec.proofs.Readings.{operator_read}
 use Rattle.b67_exec.proofs.Readers.{top_is}
 
@@ -57,12 +54,6 @@ ends_before next code k op a =
     let test : nat_le k (6 * length code) ≡ true = (let low : k ≤ 6 * length code = omega (arith, a.at, a.some, a.inside) in grind (arith, nat_tests)) in
     rw test (ap (λ (p : Place). Ok (op, p)) (place_is next code k a))
 
--- or ends behind its last syllable
-ends_behind : (last : Reader) (code : List ℕ) (k : ℕ) (op : Op) → ReaderAt last code k → ends_at code (k + 1) op ≡ Ok (op, place_at (k + 1))
-ends_behind last code k op a =
-    let test : nat_le (k + 1) (6 * length code) ≡ true = (let low : k + 1 ≤ 6 * length code = omega (arith, a.at, a.some, a.inside) in grind (arith, nat_tests)) in
-    rw test refl
-
 module _ (code : List ℕ) (at : Place) (r : Reader) (in_word : at.syllable < 6) (a : ReaderAt r code (count_at at + 0)) where
   begins : (f : Form) → form_of (r.bits / 2 ^ 56) ≡ Some f → operator_at code at ≡ reads code (count_at at) (Some f)
   begins f is =
@@ -86,22 +77,6 @@ module _ (code : List ℕ) (at : Place) (r : Reader) (in_word : at.syllable < 6)
   triple op second third next is b c d =
       begins (TwoMore op) is ∙ ap (λ (z : ℕ). ends_at code (count_at at + 3) (op z (syllable code (count_at at + 2)))) (sym (syllable_at second code (count_at at + 1) b))
       ∙ ap (λ (z : ℕ). ends_at code (count_at at + 3) (op (second.bits / 2 ^ 56) z)) (sym (syllable_at third code (count_at at + 2) c)) ∙ ends_before next code (count_at at + 3) (op (second.bits / 2 ^ 56) (third.bits / 2 ^ 56)) d
-
-  triple_behind : (op : ℕ → ℕ → Op) (second third : Reader) → form_of (r.bits / 2 ^ 56) ≡ Some (TwoMore op) → ReaderAt second code (count_at at + 1) → ReaderAt third code (count_at at + 2)
-      → operator_at code at ≡ Ok (op (second.bits / 2 ^ 56) (third.bits / 2 ^ 56), place_at (count_at at + 2 + 1))
-  triple_behind op second third is b c =
-      let more : count_at at + 3 ≡ count_at at + 2 + 1 = omega arith in
-      begins (TwoMore op) is ∙ ap (λ (z : ℕ). ends_at code (count_at at + 3) (op z (syllable code (count_at at + 2)))) (sym (syllable_at second code (count_at at + 1) b))
-      ∙ ap (λ (z : ℕ). ends_at code (count_at at + 3) (op (second.bits / 2 ^ 56) z)) (sym (syllable_at third code (count_at at + 2) c))
-      ∙ ap (λ (z : ℕ). ends_at code z (op (second.bits / 2 ^ 56) (third.bits / 2 ^ 56))) more ∙ ends_behind third code (count_at at + 2) (op (second.bits / 2 ^ 56) (third.bits / 2 ^ 56)) c
-
--- the operator at the running place was read, and it ends before another place
-abbrev pub ReadsTo : Cpu → Op → Place → Type 0
-ReadsTo cpu op next = ForEach cpu (λ x plan s m t. ◌≡◌ {A = Reading} (Ok (op, next)) (reading_of m.constants t))
-
--- the place behind an operator of three syllables
-abbrev pub three_on : Cpu → Place
-three_on cpu = place_at (count_at cpu.regs.place + 2 + 1)
 
 module _ (cpu : Cpu) (r : Reader) (b : ReaderBehind cpu r 0) where
   in_its_word : (x : Storage) (plan : Placement) (s : Session) (m : SessionJob) (t : Task) → RepresentsSession x cpu plan s → IsRunning plan s.jobs m t → t.place.syllable < 6
@@ -141,25 +116,15 @@ module _ (cpu : Cpu) (r : Reader) (b : ReaderBehind cpu r 0) where
         stands = e;
       }
 
-  -- one with two, behind which no reader need stand
-  pub triple_to : (op : ℕ → ℕ → Op) (second third : Reader) (high low : ℕ) (made : Op) → form_of (r.bits / 2 ^ 56) ≡ Some (TwoMore op) → ReaderBehind cpu second (0 + 1) → ReaderBehind cpu third (0 + 1 + 1)
-      → high ≡ second.bits / 2 ^ 56 → low ≡ third.bits / 2 ^ 56 → made ≡ op high low → ReadsTo cpu made (three_on cpu)
-  triple_to op second third high low made is c d high_is low_is made_is = λ x plan s m t ordered h runs.
-      let same : op (second.bits / 2 ^ 56) (third.bits / 2 ^ 56) ≡ made = ap (λ (z : ℕ). op z (third.bits / 2 ^ 56)) (sym high_is) ∙ ap (op high) (sym low_is) ∙ sym made_is in
-      let R : Op → Type 0 = λ o. ◌≡◌ {A = Reading} (Ok (o, place_at (count_at t.place + 2 + 1))) (reading_of m.constants t) in
-      let read = subst R same (sym (triple_behind (code_of m.constants t.segment) t.place r (in_its_word x plan s m t h runs) (b.at x plan s m t ordered h runs) op second third is (c.at x plan s m t ordered h runs) (d.at x plan s m t ordered h runs))) in
-      let P : Place → Type 0 = λ p. ◌≡◌ {A = Reading} (Ok (made, place_at (count_at p + 2 + 1))) (reading_of m.constants t) in
-      subst P (sym (h.holds.running m t runs).place) read
-
 -- ---- what is made
 
 -- an operator that was read and calls no intrinsic
-row_of : (old new : Cpu) (before : Reader) (next : Place) (op : Op) → HoldsCode old before.code → ReadsTo old op next → ((h : OperatorContext) → called op h ≡ None)
-    → (x : Storage) (plan : Placement) (s : Session) (m : SessionJob) (t : Task) → IsInOrderButCounts s → RepresentsSession x old plan s → IsRunning plan s.jobs m t → IsMade x plan s m old new (row op (here m t next)) → OperatorMeets x plan s m t answers.Done old new
+row_of : (old new : Cpu) (before next : Reader) (op : Op) → HoldsCode old before.code → ReadsThrough old op next → ((h : OperatorContext) → called op h ≡ None)
+    → (x : Storage) (plan : Placement) (s : Session) (m : SessionJob) (t : Task) → IsInOrderButCounts s → RepresentsSession x old plan s → IsRunning plan s.jobs m t → IsMade x plan s m old new (row op (here m t (reader_place next))) → OperatorMeets x plan s m t answers.Done old new
 row_of old new before next op code read quiet x plan s m t ordered h runs k =
     let given = code x plan s m t ordered h runs in
-    let C : Option ℕ → Type 0 = λ o. CallsOrMeets x plan s m answers.Done old new o (row op (here m t next)) in
-    operator_read x plan s m t answers.Done old new before.code.address (Ok (op, next)) (present x old plan s m t ordered h runs before.code given.0 given.1) (read x plan s m t ordered h runs) (subst C (sym (quiet (here m t next))) k)
+    let C : Option ℕ → Type 0 = λ o. CallsOrMeets x plan s m answers.Done old new o (row op (here m t (reader_place next))) in
+    operator_read x plan s m t answers.Done old new before.code.address (Ok (op, reader_place next)) (present x old plan s m t ordered h runs before.code given.0 given.1) (read.reads x plan s m t ordered h runs) (subst C (sym (quiet (here m t (reader_place next)))) k)
 
 -- a reader of the code, where the task has gone on to its place
 stands_there : (old new : Cpu) (r : RunsSome old) (answer : Answer Done) (k : IsMade r.storage r.plan r.session r.member old new answer) (G : Place → Type 0) (l : LeavesCells r.member r.task k.job [] k.touched G) (at : Reader) (n : ℕ)
@@ -175,35 +140,6 @@ stands_there old new r answer k G l at n code a place = record {
       (subst (λ (i : ℕ). ReaderAt at (code_of m.constants t.segment) i) count (subst (λ (c : List ℕ). ReaderAt at c n) same a));
 }
 
--- the task goes on at a place, with fewer cells
-pub record GoesWith (x : Storage) (plan : Placement) (s : Session) (m : SessionJob) (t : Task) (old new : Cpu) (place : Place) : Type 0 where
-  pub answer : Answer Done
-  pub made : IsMade x plan s m old new answer
-  pub leaves : LeavesCells m t made.job [] made.touched (λ p. p ≡ place)
-
-module _ (x : Storage) (plan : Placement) (s : Session) (m : SessionJob) (t : Task) (old new : Cpu) (q : Place) where
-  -- no cell was taken off
-  pub drops_none : Drops x old plan s m t q 0 new → GoesWith x plan s m t old new q
-  drops_none drops =
-      let k = drops [] (cells t) refl refl tt in
-      record { answer = leaves_cells (here m t q) (cells t) None; made = k; leaves = leaves m t k.job [] k.touched (λ p. p ≡ q) q refl (cells t) k.is }
-
-  -- the top cell was, an operand
-  pub drops_operand : (u : Tagged) → GivesTop x plan m t old (cells t) (Ok u) → u.tag ≡ 0 → Drops x old plan s m t q 1 new → GoesWith x plan s m t old new q
-  drops_operand u given is drops = by_cells (cells t) refl given where
-    by_cells : (cs : List Word) → cells t ≡ cs → GivesTop x plan m t old cs (Ok u) → GoesWith x plan s m t old new q
-    by_cells [] e g = absurd (let z : ⊥ = cc in z)
-    by_cells (a ∷ rest) e g =
-        let same : g.0 ≡ u = (let d = g.1 in cc) in
-        let P : Tagged → Type 0 = λ v. IsWordOf x plan m t a old.regs.s v in
-        let o : operand a ≡ Ok u.bits = an_operand x plan m t a old.regs.s u (subst P same g.2.is) is in
-        let k = drops (a ∷ []) rest e refl (plain_operand a u.bits o, tt) in
-        record { answer = leaves_cells (here m t q) rest None; made = k; leaves = leaves m t k.job [] k.touched (λ p. p ≡ q) q refl rest k.is }
-
--- where a reader stands
-pub goes_to : (x : Storage) (plan : Placement) (s : Session) (m : SessionJob) (t : Task) (old new : Cpu) (q : Place) (at : Reader) → reader_place at ≡ q → GoesWith x plan s m t old new q → GoesWith x plan s m t old new (reader_place at)
-goes_to x plan s m t old new q at is g = subst (λ (p : Place). GoesWith x plan s m t old new p) (sym is) g
-
 -- an operator that goes on behind it
 pub straight_made : (old new : Cpu) (before next after : Reader) (op : Op) (answered : Step) (made : Bool) → RunsSome old → ReaderBehind old before 0 → is_straight op ≡ true → ReadsThrough old op next
     → ForEach old (λ x plan s m t. Meets x plan s m answered old new (row op (here m t (reader_place next)))) → WentOn answered made before next after → MadeNear old before made new after
@@ -214,7 +150,7 @@ straight_made old new before next after op answered true r b near read each w =
     let G : Place → Type 0 = λ p. p ≡ reader_place next in
     let l = straight_leaves r.member r.task k.job [] k.touched G (reader_place next) refl op near k.is in
     record {
-      row = λ x plan s m t ordered h runs. row_of old new before (reader_place next) op b.code read.reads (straight_calls op near) x plan s m t ordered h runs (done x plan s m t ordered h runs);
+      row = λ x plan s m t ordered h runs. row_of old new before next op b.code read (straight_calls op near) x plan s m t ordered h runs (done x plan s m t ordered h runs);
       left = λ x plan s m t ordered h runs. ap leaves_record (sym (read.reads x plan s m t ordered h runs)) ∙ straight_stays op near;
       stands = subst (λ (z : Reader). ReaderBehind new z 0) (sym w.1)
           (stands_there old new r answer k G l next (count_at r.task.place + read.length) read.stands.code (read.stands.at r.storage r.plan r.session r.member r.task r.ordered r.stands r.running) (place_on old new next.code r answer k G l read.stands.code ∙ l.goes));
@@ -222,18 +158,38 @@ straight_made old new before next after op answered true r b near read each w =
 straight_made old new before next after op answered false r b near read each w =
     (unmet r.storage r.plan r.session r.member answered old new (row op (here r.member r.task (reader_place next))) w.0 (each r.storage r.plan r.session r.member r.task r.ordered r.stands r.running), w.1)
 
--- a branch: a reader stands where the task goes on
-pub branch_made : (old new : Cpu) (before at : Reader) (always wanted : Bool) (target next : Place) (r : RunsSome old) → ReaderBehind old before 0 → ReadsTo old (branch_op always wanted target) next
-    → ForEach old (λ x plan s m t. IsMade x plan s m old new (row (branch_op always wanted target) (here m t next)))
-    → GoesWith r.storage r.plan r.session r.member r.task old new (reader_place at) → HoldsCode old at.code → (n : ℕ) → ReaderAt at (code_of r.member.constants r.task.segment) n → NearMade old new at
-branch_made old new before at always wanted target next r b read made g code n stands =
+-- a branch
+pub branch_made : (old new : Cpu) (before aim next at after : Reader) (always wanted : Bool) (target : Place) (answered : Step) (made : Bool) → RunsSome old → ReaderBehind old before 0 → ReadsThrough old (branch_op always wanted target) next
+    → aim.code ≡ before.code → ForEach old (λ x plan s m t. ReaderAt aim (code_of m.constants t.segment) (count_at target + 0)) → reader_place aim ≡ target
+    → ForEach old (λ x plan s m t. Meets x plan s m answered old new (row (branch_op always wanted target) (here m t (reader_place next)))) → IsEitherReader new.regs.place target aim next at → WentOn answered made before at after → MadeNear old before made new after
+branch_made old new before aim next at after always wanted target answered true r b read code aims aims_at each which w =
     let op : Op = branch_op always wanted target in
-    let G : Place → Type 0 = λ p. p ≡ reader_place at in
+    let done : ForEach old (λ x plan s m t. IsMade x plan s m old new (row op (here m t (reader_place next)))) = λ x plan s m t ordered h runs. subst (λ (z : Step). Meets x plan s m z old new (row op (here m t (reader_place next)))) w.0 (each x plan s m t ordered h runs) in
+    let k = done r.storage r.plan r.session r.member r.task r.ordered r.stands r.running in
+    let answer : Answer Done = row op (here r.member r.task (reader_place next)) in
+    let G : Place → Type 0 = λ p. (p ≡ reader_place next) ⊎ (p ≡ target) in
+    let l : LeavesCells r.member r.task k.job [] k.touched G = branch_leaves r.member r.task k.job [] k.touched G always wanted (reader_place next) target (inl refl) (inr refl) k.is in
+    let aims_code : HoldsCode old aim.code = subst (HoldsCode old) (sym code) b.code in
+    let there : ReaderBehind new at 0 = elim which [
+      | inl w ↦
+          let A : Reader → Type 0 = λ z. ReaderBehind new z 0 in
+          subst A (sym w.1) (stands_there old new r answer k G l aim (count_at target + 0) aims_code (aims r.storage r.plan r.session r.member r.task r.ordered r.stands r.running) (w.0 ∙ sym aims_at))
+      | inr w ↦
+          let A : Reader → Type 0 = λ z. ReaderBehind new z 0 in
+          let now = place_on old new next.code r answer k G l read.stands.code in
+          let goes : l.place ≡ reader_place next = elim l.goes [
+            | inl p ↦ p
+            | inr p ↦ absurd (w.0 (now ∙ p))
+          ] in
+          subst A (sym w.1) (stands_there old new r answer k G l next (count_at r.task.place + read.length) read.stands.code (read.stands.at r.storage r.plan r.session r.member r.task r.ordered r.stands r.running) (now ∙ goes))
+    ] in
     record {
-      row = λ x plan s m t ordered h runs. row_of old new before next op b.code read (branch_calls always wanted target) x plan s m t ordered h runs (made x plan s m t ordered h runs);
-      left = λ x plan s m t ordered h runs. ap leaves_record (sym (read x plan s m t ordered h runs)) ∙ branch_stays always wanted target;
-      stands = stands_there old new r g.answer g.made G g.leaves at n code stands (place_on old new at.code r g.answer g.made G g.leaves code ∙ g.leaves.goes);
+      row = λ x plan s m t ordered h runs. row_of old new before next op b.code read (branch_calls always wanted target) x plan s m t ordered h runs (done x plan s m t ordered h runs);
+      left = λ x plan s m t ordered h runs. ap leaves_record (sym (read.reads x plan s m t ordered h runs)) ∙ branch_stays always wanted target;
+      stands = subst (λ (z : Reader). ReaderBehind new z 0) (sym w.1) there;
     }
+branch_made old new before aim next at after always wanted target answered false r b read code aims aims_at each which w =
+    (unmet r.storage r.plan r.session r.member answered old new (row (branch_op always wanted target) (here r.member r.task (reader_place next))) w.0 (each r.storage r.plan r.session r.member r.task r.ordered r.stands r.running), w.1)
 
 -- ---- forms and rows
 

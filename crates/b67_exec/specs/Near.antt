@@ -1,5 +1,5 @@
 -- The code of the running segment, and a reader of it.
-use Rattle.std.specs.Prelude.{◌≡◌, ◌≢◌, ℕ, Bool, true, false, not, ◌+◌, ◌-◌, ◌*◌, ◌%◌, ◌^◌, ◌<◌, ◌≤◌, List, length, slice_index, Some, Ok}
+use Rattle.std.specs.Prelude.{◌≡◌, ◌≢◌, ◌⊎◌, ℕ, Bool, true, false, not, ◌+◌, ◌-◌, ◌*◌, ◌%◌, ◌^◌, ◌<◌, ◌≤◌, List, length, slice_index, Some, Ok}
 use Rattle.b67_ctl.specs.declared.descriptors.SegDesc.{SegDesc}
 use Rattle.b67_word.specs.declared.couples.Place.{Place}
 use Rattle.b67_model.specs.declared.operators.Op.{Op}
@@ -70,6 +70,10 @@ pub record NearMade (old new : Cpu) (after : Reader) : Type 0 where
 abbrev pub MadeNear : Cpu → Reader → Bool → Cpu → Reader → Type 0
 MadeNear old before true new after = NearMade old new after
 MadeNear old before false new after = (new ≡ old) × (after ≡ before)
+
+-- of two readers the one at a branch's target, if the task went on there, else the one behind the branch
+abbrev pub IsEitherReader : Place → Place → Reader → Reader → Reader → Type 0
+IsEitherReader now target aim next reader = ((now ≡ target) × (reader ≡ aim)) ⊎ ((now ≢ target) × (reader ≡ next))
 
 -- the operators on two numbers, those that push nothing, and branches
 abbrev pub code_of_numbers : Numeric → Code

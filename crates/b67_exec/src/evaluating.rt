@@ -20,7 +20,7 @@ use b67_stack::{Cpu, Step};
 use b67_word::{Place, Word};
 
 /// The core address of the cell of the procedure to which a word leads.
-pub fn procedure_cell(cpu: &Cpu, w: Word) -> u32
+pub(crate) fn procedure_cell(cpu: &Cpu, w: Word) -> u32
     requires { (a : RunningContext cpu.now.core cpu.now.regs) × (q : Place) × (f : ℕ) × (segment : ℕ) × (level : ℕ) × (place : Place) × LeadsToProcedure cpu.now a q w f segment level place }
     ensures { (a : RunningContext cpu.now.core cpu.now.regs) (q : Place) (f segment level : ℕ) (place : Place) → LeadsToProcedure cpu.now a q w f segment level place → IsProcAt a q result f segment level place }
 {
@@ -54,7 +54,7 @@ pub fn evaluate(cpu: &mut Cpu, couple: u16, next: Place) -> Step
 
 /// Enters the procedure to which the top cell leads, in that cell's place. It returns to the running operator. INVALID
 /// OPERAND if its level doesn't fit, STACK OVERFLOW.
-pub fn enter_in_place(cpu: &mut Cpu) -> Step
+pub(crate) fn enter_in_place(cpu: &mut Cpu) -> Step
     requires { EntersTop cpu.old }
     ensures row { ForEach cpu.old (λ x plan s m t. (q : Place) → enters_at (top_end (here m t q) (cells t)) ≡ true → Meets x plan s m result cpu.old cpu.new (rows.load (here m t q) (cells t))) }
 {

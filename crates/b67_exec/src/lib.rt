@@ -10,7 +10,7 @@ mod reader;
 
 pub use assigning::{stod, ston};
 pub use b67_entry::{exit, retn};
-pub use evaluating::{enter_in_place, evaluate, load, procedure_cell};
+pub use evaluating::{evaluate, load};
 pub use near::operate_near;
 pub use operators::{Executed, Performed, operate, operate_at, operate_in, operator};
 pub use reader::{Reader, reader_at};

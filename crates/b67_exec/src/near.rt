@@ -5,14 +5,12 @@ ghost use Rattle.b67_model.specs.declared.operators.Op.TheVariants as ops;
 ghost use Rattle.b67_model.specs.declared.operators.Code.TheVariants as codes;
 ghost use Rattle.b67_model.specs.Operators.{form_of, Alone, OneMore, branch};
 ghost use Rattle.b67_layout.specs.Meets.{RunsSome};
-ghost use Rattle.b67_exec.specs.Near.{ReaderBehind, ReadsThrough, WentOn, MadeNear, code_of_numbers, resting_code, branch_op};
+ghost use Rattle.b67_exec.specs.Near.{ReaderBehind, ReadsThrough, WentOn, MadeNear, IsEitherReader, code_of_numbers, resting_code, branch_op};
 
 use crate::firsts::{Near, near_of};
 use crate::reader::{Reader, behind, first, place, reader_to};
 use b67_arith::Numeric;
-use b67_exec_cells::{
-    branch_to, dlet, drop_cells, dupl, exch, literal, namc, on_numbers, top_cell,
-};
+use b67_exec_cells::{branch_if, branch_to, dlet, dupl, exch, literal, namc, on_numbers};
 use b67_model::Op;
 use b67_stack::{Cpu, Step};
 use b67_word::Place;
@@ -202,7 +200,18 @@ fn literal_8(cpu: &mut Cpu, reader: &mut Reader) -> bool
     went_on(step, reader, next)
 }
 
-/// A branch that is always taken, also at the end of the code. One to a place outside the segment isn't made here.
+/// Where a branch's reader stands: at its target, if the task went on there, or behind it.
+#[inline(always)]
+fn either(now: Place, target: Place, aim: Reader, next: Reader) -> Reader
+    ensures { IsEitherReader now target aim next result }
+{
+    if now.word == target.word && now.syllable == target.syllable {
+        return aim;
+    }
+    next
+}
+
+/// A branch that is always taken. One to a place outside the segment isn't made here.
 #[inline(always)]
 fn jumps(cpu: &mut Cpu, reader: &mut Reader) -> bool
     requires runs { RunsSome cpu.old }
@@ -218,17 +227,20 @@ fn jumps(cpu: &mut Cpu, reader: &mut Reader) -> bool
         Some(third) => third,
         None => return false,
     };
+    let next = match behind(cpu, third) {
+        Some(next) => next,
+        None => return false,
+    };
     let to = target(first(second), first(third));
     if to.syllable >= 6 || u32::from(to.word) >= reader.code.words {
         return false;
     }
-    *reader = reader_to(cpu, reader.code, to);
-    drop_cells(cpu, 0, to);
-    true
+    let aim = reader_to(cpu, reader.code, to);
+    let step = branch_to(cpu, to);
+    went_on(step, reader, either(cpu.regs.place, to, aim, next))
 }
 
-/// A branch that is taken where bit 0 of the top cell is as wanted, then also at the end of the code. One to a place outside the
-/// segment isn't made here.
+/// A branch that is taken where bit 0 of the top cell is as wanted. One to a place outside the segment isn't made here.
 #[inline(always)]
 fn branches(cpu: &mut Cpu, reader: &mut Reader, wanted: bool) -> bool
     requires runs { RunsSome cpu.old }
@@ -244,29 +256,17 @@ fn branches(cpu: &mut Cpu, reader: &mut Reader, wanted: bool) -> bool
         Some(third) => third,
         None => return false,
     };
-    let top = match top_cell(cpu) {
-        Ok(top) => top,
-        Err(_) => return false,
-    };
-    if top.tag() != 0 {
-        return false;
-    }
-    if (top.bits() % 2 == 1) == wanted {
-        let to = target(first(second), first(third));
-        if to.syllable >= 6 || u32::from(to.word) >= reader.code.words {
-            return false;
-        }
-        *reader = reader_to(cpu, reader.code, to);
-        drop_cells(cpu, 1, to);
-        return true;
-    }
     let next = match behind(cpu, third) {
         Some(next) => next,
         None => return false,
     };
-    drop_cells(cpu, 1, place(next));
-    *reader = next;
-    true
+    let to = target(first(second), first(third));
+    if to.syllable >= 6 || u32::from(to.word) >= reader.code.words {
+        return false;
+    }
+    let aim = reader_to(cpu, reader.code, to);
+    let step = branch_if(cpu, wanted, to, place(next));
+    went_on(step, reader, either(cpu.regs.place, to, aim, next))
 }
 
 /// Executes the operator at the running place, at which the reader stands, if it is near and its answer is `Done`: the reader

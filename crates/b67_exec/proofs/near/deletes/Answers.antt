@@ -1,9 +1,10 @@
-use Rattle.std.proofs.Common.{◌+◌, refl}
+use Rattle.std.proofs.Common.{◌+◌, ◌*◌, ◌/◌, ◌^◌, ◌%◌, None, refl, ap, ◌∙◌, sym, arith}
 use Rattle.b67_model.specs.declared.operators.Op.TheVariants.{Plain}
 use Rattle.b67_model.specs.declared.operators.Code.TheVariants as codes
-use Rattle.b67_model.specs.Common.{on_cells, dlet}
-use Rattle.b67_exec.specs.Near.{reader_place}
-use Rattle.b67_exec.proofs.Through.{lone_through, straight_made, each_as, left_fits}
+use Rattle.b67_model.specs.Common.{Operand, pushes, leaves_cells, cells_of, on_cells, on_two, dlet, exch, dupl}
+use Rattle.b67_arith.specs.Numerics.{of_numbers}
+use Rattle.b67_exec.specs.Near.{code_of_numbers, resting_code, reader_place}
+use Rattle.b67_exec.proofs.Through.{lone_through, straight_made, each_as, left_fits, numbers_row, numbers_straight, resting_row, resting_straight}
 use Rattle.b67_exec.proofs.near.deletes.Goals as goal
 
 pub place-requires : goal.place-requires

@@ -1,4 +1,4 @@
-use Rattle.std.proofs.Common.{◌+◌, None, refl, ◌∙◌}
+use Rattle.std.proofs.Common.{◌+◌, ◌*◌, ◌/◌, ◌^◌, ◌%◌, ◌<◌, None, refl, ap, ◌∙◌, sym, arith}
 use Rattle.b67_model.specs.declared.operators.Op.TheVariants.{Lt8}
 use Rattle.b67_model.specs.Common.{Operand, pushes}
 use Rattle.b67_exec.specs.Near.{reader_place}

@@ -1,4 +1,4 @@
-use Rattle.std.proofs.Common.{◌+◌, ◌*◌, ◌/◌, ◌^◌, ◌%◌, refl}
+use Rattle.std.proofs.Common.{◌+◌, ◌*◌, ◌/◌, ◌^◌, ◌%◌, refl, true, false}
 use Rattle.b67_model.specs.declared.operators.Op.TheVariants.{Namc, Lt8, Brun, Brtr, Brfl}
 use Rattle.b67_model.specs.declared.operators.Code.TheVariants as codes
 use Rattle.b67_model.specs.Operators.{Alone, OneMore, branch}

@@ -1,4 +1,4 @@
-use Rattle.std.proofs.Common.{arith, ap, ◌∙◌, get_or}
+use Rattle.std.proofs.Common.{◌≡◌, ◌*◌, ◌^◌, ◌<◌, ◌+◌, sym, arith, ap, ◌∙◌, get_or}
 use Rattle.b67_exec.proofs.Readers.{word-in, in-core, range-long}
 use Rattle.b67_exec.proofs.reader.loaded.Goals as goal
 
