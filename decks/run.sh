@@ -1,7 +1,6 @@
 #!/bin/sh
 # Runs the decks of this folder, or those that are named, and compares what each prints and its status with the
-# files `stdout` and `status` (0 if there is none). Where there is a file `then`, what the deck prints goes to a second
-# command, which has its words from there and the same backing file, and whose lines and status are compared. Each deck that ends so is run again in the greatest core, where
+# files `stdout` and `status` (0 if there is none). Each deck that ends so is run again in the greatest core, where
 # it must print the same; but not one of status 5, since a larger core fills the backing file later.
 # This is no part of the gate: run it by hand, over any build of the program.
 #
@@ -40,12 +39,6 @@ run() {
     done <"$deck/args"
     last=
     "$program" "$@" <"$deck/stdin" >lines
-    ended=$?
-    [ -f "$deck/then" ] || return $ended
-    set --
-    while read -r word; do set -- "$@" "$word"; done <"$deck/then"
-    mv lines halted
-    "$program" "$@" <halted >lines
 }
 
 passed=0

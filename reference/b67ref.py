@@ -1,11 +1,8 @@
-"""The command: `run`, `exercise`, `asm`, `check`, `convert`, `bind`, `dump` and `resume`.
+"""The command: `run`, `exercise`, `asm`, `check`, `convert` and `bind`.
 
-It reads the deck, or an image, on standard input and prints on standard output:
+It reads the deck on standard input and prints on standard output:
 
     python3 b67ref.py run --core 4096 --backing b <deck
-
-There is no core here, so there is no `image`, and a run writes nothing to its
-backing file. `resume` reads the one that `image` of the program left.
 """
 
 from __future__ import annotations
@@ -19,11 +16,9 @@ from binding import MOST_PAIRS, BindError, Pair, bind
 from cards import HEXADECIMAL, Deck, Job, RefusedError, cards_of, deck_refusal, natural
 from cards import read_cards, read_deck
 from codefile import BadFileError, Codefile, hexadecimal_cards, read_codefile, write_codefile
-from dump import dumped, judged
 from generator import exercise_deck
 from loader import Listing, LoadError, verify
 from machine import NoCoreError
-from resume import is_sound, sectors_of_file, session_from
 from session import PossibleStop, Session
 
 USAGE = "USAGE: b67 run --core N --backing PATH"
@@ -33,7 +28,6 @@ SECTOR_BYTES = 240
 
 DONE, BAD_WORDS, REFUSED, HALTED, NO_CORE, BACKING_FULL, BACKING_FAULT = range(7)
 PRINTER_FAULT = 8
-UNSOUND = 10  # of this program alone: no admitted program, or no place of one, is behind the image
 
 
 @dataclass
@@ -64,11 +58,10 @@ class Outcome:
 
 @dataclass(frozen=True)
 class Backing:
-    """What a run must know of the backing: its size, whether it works, and what it holds."""
+    """What a run must know of the backing: its size, and whether it works."""
 
     sectors: int
     works: bool = True
-    held: bytes = b""
 
 
 @dataclass(frozen=True)
@@ -102,12 +95,10 @@ def bounded(text: str, least: int, greatest: int) -> int | None:
 def command_of(words: list[str]) -> Command | None:
     """The command that the words are, or None."""
     match words:
-        case ["asm" | "check" | "convert" | "dump"]:
+        case ["asm" | "check" | "convert"]:
             return Command(words[0])
         case ["run", *rest]:
             return run_command(options_of(rest, {"--core", "--backing"}))
-        case ["resume", "--backing", path] if path and not path.startswith("-"):
-            return Command("resume", path=path)
         case ["exercise", seed, size, *rest]:
             return exercise_command(seed, size, options_of(rest, {"--core"}))
         case ["bind", *rest] if 1 <= len(rest) <= MOST_PAIRS:
@@ -274,21 +265,6 @@ def exercised(command: Command) -> Outcome:
     return outcome
 
 
-def resumed(text: bytes, backing: Backing) -> Outcome:
-    """Goes on from an image, over the backing that belongs to it."""
-    shown = judged(text, backing.sectors)
-    outcome = Outcome()
-    session = session_from(shown, sectors_of_file(backing.held), outcome.lines.append)
-    if not is_sound(session):
-        outcome.status = UNSOUND
-        return outcome
-    run_session(session, outcome)
-    outcome.possible_stops = session.possible_stops
-    outcome.made = session.machine.made
-    outcome.need = session.machine.greatest_need
-    return outcome
-
-
 def outcome_of(words: list[str], text: bytes, backing: Backing) -> Outcome:
     """What the command of these words does with a deck."""
     command = command_of(words)
@@ -306,10 +282,6 @@ def outcome_of(words: list[str], text: bytes, backing: Backing) -> Outcome:
                 return Outcome(lines=checked(text))
             case "bind":
                 return Outcome(lines=bound(text, list(command.pairs)))
-            case "dump":
-                return Outcome(lines=dumped(text))
-            case "resume":
-                return resumed(text, backing)
             case _:
                 return Outcome(lines=converted(text))
     except RefusedError as refused:
@@ -326,11 +298,9 @@ def file_backing(path: str) -> Backing:
             if file.seek(0, os.SEEK_END) == 0:
                 file.truncate(FILE_SECTORS * SECTOR_BYTES)
             works = file.seek(0, os.SEEK_END) == FILE_SECTORS * SECTOR_BYTES
-            file.seek(0)
-            held = file.read() if works else b""
     except OSError:
-        works, held = False, b""
-    return Backing(FILE_SECTORS, works, held)
+        works = False
+    return Backing(FILE_SECTORS, works)
 
 
 def is_text(word: str) -> bool:

@@ -67,12 +67,13 @@ def with_halt(deck: bytes, count: int) -> bytes:
 
 
 @dataclass
-class Program:
-    """A program under test, and where what differs is kept."""
+class Comparison:
+    """A program under test, and what was found so far."""
 
     program: Path
     folder: Path
     keep: Path
+    results: Counter[str] = field(default_factory=Counter)
 
     def run(self, words: list[str], text: bytes) -> tuple[int, bytes]:
         """The status and the printed bytes of the program."""
@@ -83,13 +84,6 @@ class Program:
             command, input=text, capture_output=True, cwd=self.folder, timeout=TIME_LIMIT, check=False
         )
         return done.returncode, done.stdout + done.stderr
-
-
-@dataclass
-class Comparison(Program):
-    """A program under test, and what was found so far."""
-
-    results: Counter[str] = field(default_factory=Counter)
 
     def judge(self, what: str, name: str, same: bool, text: bytes) -> None:
         """Counts an answer, and keeps what differs."""
@@ -210,14 +204,6 @@ def compare_deck(comparison: Comparison, seed: int, options: argparse.Namespace)
         compare_image(comparison, f"{seed}-{count}-{kind}", deck, core, options, halted, rng)
 
 
-def range_of_seeds(parser: argparse.ArgumentParser, text: str) -> range:
-    """The seeds that an option names."""
-    if not re.fullmatch(r"[0-9]+\.\.[0-9]+", text):
-        parser.error(f"{text}: not a range of seeds, A..B")
-    first, last = map(int, text.split(".."))
-    return range(first, last)
-
-
 def main() -> int:
     """Compares a range of seeds."""
     parser = argparse.ArgumentParser(description="Compares images with the reference.")
@@ -231,12 +217,15 @@ def main() -> int:
     options = parser.parse_args()
     if not options.program.is_file():
         parser.error(f"{options.program}: not a program")
-    seeds = range_of_seeds(parser, options.seeds)
+    if not re.fullmatch(r"[0-9]+\.\.[0-9]+", options.seeds):
+        parser.error(f"{options.seeds}: not a range of seeds, A..B")
+    first, last = map(int, options.seeds.split(".."))
     with tempfile.TemporaryDirectory() as folder:
         comparison = Comparison(options.program.resolve(), Path(folder), options.keep)
-        for seed in seeds:
+        for seed in range(first, last):
             compare_deck(comparison, seed, options)
-    print(", ".join(f"{count} {result}" for result, count in sorted(comparison.results.items())))
+    for result, count in sorted(comparison.results.items()):
+        print(f"{count} {result}")
     return int(any("differs" in result for result in comparison.results))
 
 

@@ -101,8 +101,10 @@ class ImageDump:
     def frame(self, stack: int, disp: int, job: int) -> str:
         """The name of the record whose mark stands there."""
         if stack < SLOTS:
-            row = self.shown.by_slot[stack].row
-            return f"{row.job}.{row.number} {self.shown.marked_at(stack, disp).number}"
+            task = self.shown.by_slot[stack]
+            at = self.shown.base(stack) + disp
+            number = [frame.mark for frame in task.frames].index(at) + 1
+            return f"{task.row.job}.{task.row.number} {number}"
         return f"DICT {job}" if stack == DICTIONARY_STACKS + job else "MCP"
 
     def array(self, word: int, job: int) -> str:
@@ -110,9 +112,14 @@ class ImageDump:
         home = self.shown.home_of(word)
         if home < self.image.stacks:
             return f"DICT {job} {home - self.image.jobs[job - 1].dict}"
-        slot, owner = self.shown.owner_of(home)
-        row = self.shown.by_slot[slot].row
-        return f"{row.job}.{row.number} {owner.number} {home - owner.cells.start + 2}"
+        slot = (home - self.image.stacks) // self.shown.size
+        task = self.shown.by_slot[slot]
+        number, owner = [
+            (number, frame)
+            for number, frame in enumerate(task.frames, start=1)
+            if home in frame.cells
+        ][-1]
+        return f"{task.row.job}.{task.row.number} {number} {home - owner.cells.start + 2}"
 
     def cell(self, word: int, job: int) -> str:
         """What a cell holds."""

@@ -202,42 +202,36 @@ def read_count(octets: Octets, least: int, greatest: int) -> int:
     return octets.within(4, least, greatest)
 
 
-def items_of(octets: Octets) -> Image:
-    """The image that numbers spell, one after the other."""
-    octets.take(len(HEADER))
-    core = octets.numbers(8, read_count(octets, LEAST_CORE, MOST_CORE))
-    octets.need(all(word >> WORD_BITS == 0 for word in core))
-    registers = octets.fields(REGISTERS)
-    octets.need(64 <= registers["stack_size"] <= 16_383)
-    display, critical = octets.numbers(4, 32), octets.numbers(2, 120)
-    size, low = octets.number(4), octets.number(4)
-    links = octets.numbers(4, read_count(octets, 1, MOST_CORE))
-    counts = octets.fields(COUNTS)
-    octets.need(1 <= counts["quantum"] <= 1_000_000)
-    switches = [read_switch(octets) for _ in range(read_count(octets, 0, 100_000))]
-    jobs = [read_job(octets) for _ in range(read_count(octets, 0, 8))]
-    tasks = [read_task(octets) for _ in range(read_count(octets, 0, 120))]
-    return Image(
-        core, registers, display, critical, size, low, links, counts, switches, jobs, tasks
-    )
-
-
 def image_of(data: bytes, card: int, sectors: int | None) -> Image:
     """The image that bytes spell. Reasons 4 to 7 are looked for."""
     if data[: len(HEADER)] != HEADER:
         raise image_refusal(card, 4)
     octets = Octets(data)
+    octets.take(len(HEADER))
     try:
-        image = items_of(octets)
+        core = octets.numbers(8, read_count(octets, LEAST_CORE, MOST_CORE))
+        octets.need(all(word >> WORD_BITS == 0 for word in core))
+        registers = octets.fields(REGISTERS)
+        octets.need(64 <= registers["stack_size"] <= 16_383)
+        display, critical = octets.numbers(4, 32), octets.numbers(2, 120)
+        size, low = octets.number(4), octets.number(4)
+        links = octets.numbers(4, read_count(octets, 1, MOST_CORE))
+        counts = octets.fields(COUNTS)
+        octets.need(1 <= counts["quantum"] <= 1_000_000)
+        switches = [read_switch(octets) for _ in range(read_count(octets, 0, 100_000))]
+        jobs = [read_job(octets) for _ in range(read_count(octets, 0, 8))]
+        tasks = [read_task(octets) for _ in range(read_count(octets, 0, 120))]
     except EndedError:
         raise image_refusal(card, 5) from None
     if octets.at != len(data):
         raise image_refusal(card, 5)
     if octets.out_of_range:
         raise image_refusal(card, 6)
-    if sectors is not None and sectors != len(image.links):
+    if sectors is not None and sectors != len(links):
         raise image_refusal(card, 7)
-    return image
+    return Image(
+        core, registers, display, critical, size, low, links, counts, switches, jobs, tasks
+    )
 
 
 def bytes_of_text(text: bytes) -> tuple[int, bytes]:
@@ -320,10 +314,6 @@ def spelled(image: Image) -> bytes:
 
 def text_of(image: Image) -> bytes:
     """The text of an image."""
-    return text_of_bytes(spelled(image))
-
-
-def text_of_bytes(data: bytes) -> bytes:
-    """Bytes as the cards of an image."""
+    data = spelled(image)
     cards = [data[i : i + 32].hex() for i in range(0, len(data), 32)]
     return "".join(card + "\n" for card in ["?IMAGE", *cards, "?END"]).encode()

@@ -6,7 +6,6 @@ speaks of, as one above a stack's top or in a hole, is never looked at.
 
 from __future__ import annotations
 
-from bisect import bisect_left
 from dataclasses import dataclass
 
 from images import READY, WAITS_AT, Image, ImageJob, ImageTask
@@ -50,7 +49,6 @@ def made(word_tag: int, *fields: tuple[int, int]) -> int:
 class ShownFrame:
     """An activation record as its words lie in core."""
 
-    number: int
     mark: int
     entered: bool
     level: int
@@ -85,7 +83,6 @@ class Shown:
         self.core = image.core
         self.size = image.stack_size
         self.by_slot: dict[int, ShownTask] = {}
-        self.marks: dict[int, ShownFrame] = {}  # each record by the address of its mark
         self.objects: dict[int, tuple[int, int]] = {}  # kind and words, by address of descriptor
         self.areas: dict[int, tuple[int, int, int, int]] = {}
 
@@ -211,9 +208,8 @@ class Shown:
             task.frames = self.frames(base, task.f, task.s)
             need(task.level == task.frames[-1].level or not task.frames[-1].entered, "level")
             levels = [frame.level for frame in task.frames if frame.entered]
-            need(levels != [] and task.level == levels[-1], "running level")
+            need(task.level == levels[-1], "running level")
             self.by_slot[row.slot] = task
-            self.marks.update((frame.mark, frame) for frame in task.frames)
 
     def frames(self, base: int, mark: int, top: int) -> list[ShownFrame]:
         """The activation records from a mark down, the bottom one first."""
@@ -225,7 +221,6 @@ class Shown:
             first = mark + (2 if entered else 1)
             need(first - 1 <= top, "room for a record")
             frame = ShownFrame(
-                0,
                 mark,
                 entered,
                 bits(word, 14, 5),
@@ -234,13 +229,10 @@ class Shown:
                 bits(word, 19, 1) == 1,
                 range(first, top + 1),
             )
-            found.append(frame)
+            found.insert(0, frame)
             back = bits(word, 0, 14)
             if back == 0:
                 need(mark == base + 1, "bottom mark")
-                found.reverse()
-                for number, each in enumerate(found, start=1):
-                    each.number = number
                 return found
             need(mark - back > base, "distance to the mark before")
             top, mark = mark - 1, mark - back
@@ -251,42 +243,46 @@ class Shown:
             task = self.by_slot.get(stack)
             if task is None or task.row.job != job:
                 return None
-            return self.marked_at(stack, disp)
+            at = self.base(stack) + disp
+            return next((frame for frame in task.frames if frame.mark == at), None)
         if stack == DICTIONARY_STACKS + job and disp == 0:
             return "DICT"
         if stack == MCP_STACK and disp == 0:
             return "MCP"
         return None
 
-    def marked_at(self, slot: int, disp: int) -> ShownFrame | None:
-        """The record whose mark stands at a displacement of a task's stack."""
-        return self.marks.get(self.base(slot) + disp) if disp < self.size else None
+    def reach(self, task: ShownTask, mark: int) -> list[tuple[int, ShownFrame]]:
+        """Slot and record of each record in reach of that of a mark, from the top down."""
+        found = []
+        limit = mark
+        while True:
+            found += [(task.row.slot, f) for f in reversed(task.frames) if f.mark <= limit]
+            if task.row.parent == NONE:
+                return found
+            limit = self.base(task.row.parent) + task.row.critical
+            task = self.by_slot[task.row.parent]
 
     def entered_in_reach(self, task: ShownTask, mark: int, stack: int, disp: int) -> int | None:
-        """The level of an entered record in reach of that of a mark, or None."""
+        """The level of an entered record in reach, or None."""
         if stack >= SLOTS:
             frame = self.is_frame(stack, disp, task.row.job)
             return None if frame is None else (1 if frame == "DICT" else 0)
-        limit = mark
-        while task.row.slot != stack:
-            if task.row.parent == NONE:
-                return None
-            limit = self.base(task.row.parent) + task.row.critical
-            task = self.by_slot[task.row.parent]
-        frame = self.marked_at(stack, disp)
-        return frame.level if frame and frame.entered and frame.mark <= limit else None
+        at = self.base(stack) + disp
+        for slot, frame in self.reach(task, mark):
+            if slot == stack and frame.mark == at:
+                return frame.level if frame.entered else None
+        return None
 
     def words_of_stacks(self) -> None:
         for task in self.by_slot.values():
             row = task.row
             if row.parent != NONE:
-                need(self.marked_at(row.parent, row.critical) is not None, "critical record")
-            running = 0
+                marks = [f.mark for f in self.by_slot[row.parent].frames]
+                need(self.base(row.parent) + row.critical in marks, "critical record")
             for frame, below in zip(task.frames, [None, *task.frames]):
-                self.head(task, frame, below, running)
+                self.head(task, frame, below)
                 for at in frame.cells:
                     self.cell(task, frame, at)
-                running = frame.level if frame.entered else running
             self.is_segment(row.job, task.segment, *task.place)
             if row.kind == WAITS_AT:
                 self.waited_cell(task)
@@ -295,10 +291,8 @@ class Shown:
         need(2 <= segment <= 1 + self.image.jobs[job - 1].segments, "segment")
         need(word < 1 << 13 and syllable < 8, "place")
 
-    def head(
-        self, task: ShownTask, frame: ShownFrame, below: ShownFrame | None, running: int
-    ) -> None:
-        """The mark and the return word of a record, over which so deep a level runs."""
+    def head(self, task: ShownTask, frame: ShownFrame, below: ShownFrame | None) -> None:
+        """The mark and the return word of a record."""
         back = 0 if below is None else frame.mark - below.mark
         mark = self.word(frame.mark)
         if not frame.entered:
@@ -319,7 +313,8 @@ class Shown:
             segment = bits(word, 0, 14)
             fields = [(syllable, 33), (place, 20), (level, 14), (segment, 0)]
             need(word == made(3, *fields), "return word")
-            need(level == running, "level of a return word")
+            running = [f for f in task.frames if f.entered and f.mark < frame.mark]
+            need(level == running[-1].level, "level of a return word")
             self.is_segment(task.row.job, segment, place, syllable)
             under = (task, frame.mark - 1)
         if under is None:
@@ -490,12 +485,6 @@ class Shown:
         need(address in self.areas, "area of a copy")
         return self.areas[address][2]
 
-    def owner_of(self, home: int) -> tuple[int, ShownFrame]:
-        """The slot and the record in which an original stands."""
-        slot = (home - self.image.stacks) // self.size
-        frames = self.by_slot[slot].frames
-        return slot, frames[bisect_left(frames, home, key=lambda frame: frame.mark) - 1]
-
     def copy(self, task: ShownTask, frame: ShownFrame, at: int, word: int) -> None:
         home = self.home_of(word)
         need(home in self.objects and self.objects[home][0] != CODE, "original of a copy")
@@ -512,7 +501,8 @@ class Shown:
             first = job.dict + 2 + job.segments
             need(first <= home < first + job.rows, "data row of a copy")
             return
-        slot, owner = self.owner_of(home)
+        slot = (home - self.image.stacks) // self.size
+        owner = next(f for f in reversed(self.by_slot[slot].frames) if f.mark < home)
         need(self.by_slot[slot].row.job == task.row.job, "job of a copy")
         mark = owner.mark - self.base(slot)
         need(self.entered_in_reach(task, frame.mark, slot, mark) is not None, "owner of a copy")

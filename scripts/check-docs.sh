@@ -13,7 +13,7 @@
 # A block after a line <!-- check-docs: skip, WHY --> isn't run, and is listed as such. The program is found as `b67`
 # and as crates/b67/out/b67. The two lines with a status that `rt try` adds are left out of the comparison. Beside that,
 # each link must lead to a file and a heading, the table of decks must name each folder of decks/, that of crates each
-# crate, that of scripts each script, and the manual page each status's line.
+# crate, and the manual page each status's line.
 set -u
 usage() {
     echo "$1" >&2
@@ -121,11 +121,9 @@ missing=$(for crate in crates/*/; do
     name=$(basename "$crate")
     sed -n '/^## The crates/,/^## Where a rule/p' docs/ARCHITECTURE.md | grep '^|' | cut -d'|' -f2 | grep -qF "\`$name\`" || echo "$name"
 done)
-if [ -z "$missing" ]; then passed=$((passed + 1)); else wrong "the table of crates in docs/ARCHITECTURE.md: $(echo $missing)"; fi
-missing=$(for script in scripts/*.sh; do grep -qF "$script" README.md || echo "$script"; done)
-if [ -z "$missing" ]; then passed=$((passed + 1)); else wrong "the table of scripts in README.md: $(echo $missing)"; fi
+if [ -z "$missing" ]; then passed=$((passed + 1)); else wrong "the table of crates in docs/ARCHITECTURE.md: " $missing; fi
 page=$(MANWIDTH=1000 man -l docs/b67.1 2>/dev/null | col -b)
-for words in 'USAGE: b67 run' DECK ASM CODEFILE LOAD BIND IMAGE HALTED 'NO CORE' 'BACKING FULL' 'BACKING FAULT' 'READING FAULT' 'NO MEMORY'; do
+for words in 'USAGE: b67 run' DECK ASM CODEFILE LOAD BIND HALTED 'NO CORE' 'BACKING FULL' 'BACKING FAULT' 'READING FAULT' 'NO MEMORY'; do
     case $page in *"$words"*) passed=$((passed + 1)) ;; *) wrong "docs/b67.1: $words" ;; esac
 done
 echo "$passed passed, $failed failed, $skipped not run"

@@ -69,7 +69,6 @@ BEGIN {
 /^CODEFILE [0-9]+ REASON [0-9]+ BYTE [0-9]+$/ { look("CODEFILE:" $4, 2, "The bytes under card " $2 " "); next }
 /^LOAD [0-9]+ REASON [0-9]+ SEGMENT [0-9]+ AT [0-9]+:[0-9]$/ { look("LOAD:" $4, 2, "The program of the job that begins at card " $2 " "); next }
 /^BIND [0-9]+ REASON [0-9]+$/ { look("BIND:" $4, 2, "Pair " $2 " "); next }
-/^IMAGE [0-9]+ REASON [0-9]+$/ { look("IMAGE:" $4, 2, "Card " $2 " "); next }
 /^HALTED [0-9]+$/ { look("Statuses:3", 3); next }
 /^NO CORE [0-9]+ [0-9]+$/ { numbers["need"] = $3; numbers["core"] = $4; look("Statuses:4", 3); next }
 /^BACKING FULL [0-9]+ [0-9]+$/ { numbers["sum"] = $3; numbers["sectors"] = $4; look("Statuses:5", 3); next }
@@ -91,9 +90,6 @@ BEGIN {
     else look("Endings and faults:" name, 2)
     next
 }
-/^TASK [0-9]+\.[0-9]+ / { print "    A dump: task " $2 " lives. Its records follow, the bottom one first."; next }
-/^FRAME [0-9]+ / { print "    A dump: record " $2 " of the task. Its cells follow."; next }
-/^CELL [0-9]+ / { print "    A dump: cell " $2 " of the record."; next }
 /^\?IMAGE$/ { print "    Here begins the image of a machine that halted, up to ?END."; image = 1; next }
 /^\?END$/ && image { print "    Here the image ends."; image = 0; next }
 /^([0-9a-f][0-9a-f])+$/ {

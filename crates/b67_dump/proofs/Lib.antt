@@ -7,9 +7,3 @@ mod Session
 mod Counted
 mod Sought
 mod Slots
-mod Putting
-mod Printed
-mod Sorted
-mod Marked
-mod Tops
-mod Lined

@@ -1,10 +1,6 @@
 -- What is read off a machine is the dump of each session that it represents.
 use Rattle.std.proofs.Common.{◌≡◌, ℕ, ◌+◌, List, [], ◌∷◌, ◌++◌, map, refl, ◌∙◌, ap, subst, inl, inr}
-use Rattle.std.specs.Prelude.{flat_map, Result, Ok, Err, ⊤, OnOk, OnErr}
-use Rattle.b67_word.specs.declared.faults.Failed.{Failed}
-use Rattle.b67_task_tables.specs.declared.tables.Machine.{Machine}
-use Rattle.b67_layout_shown.specs.Machines.{sight_of}
-use Rattle.b67_dump.specs.Analysed.{ForEachShown}
+use Rattle.std.specs.Prelude.{flat_map}
 use Rattle.b67_lemmas.specs.Lists.{Has}
 use Rattle.b67_model.specs.Common.{SessionJob, Session, NumberedFrom, IsInOrderButPlaces}
 use Rattle.b67_stack.specs.declared.Cpu.{Cpu}
@@ -39,12 +35,3 @@ module _ (x : Storage) (cpu : Cpu) (plan : Placement) (s : Session) (tasks : Lis
 
 pub walks_dumped : WalksAreDumps
 walks_dumped x told k plan s ordered stands = session_walked x k.cpu plan s (map task_row k.tasks.rows.items) (map job_row k.tasks.jobs) (counts_of k.tasks) ordered stands.session stands.tables
-
--- what is said of that text is said of the dump of each session that the machine represents
-pub shown_whole : (r : Result ⊤ Failed) (k : Machine) (P : List ℕ → Type 0) → OnOk r (P (walk_text (sight_of k))) → OnOk r (ForEachShown k (λ s. P (dump_text s)))
-shown_whole (Ok done) k P p = λ x told plan s ordered stands. subst P (walks_dumped x told k plan s ordered stands) p
-shown_whole (Err failed) k P p = tt
-
-pub shown_part : (r : Result ⊤ Failed) (k : Machine) (P : List ℕ → Type 0) → OnErr r (P (walk_text (sight_of k))) → OnErr r (ForEachShown k (λ s. P (dump_text s)))
-shown_part (Ok done) k P p = tt
-shown_part (Err failed) k P p = λ x told plan s ordered stands. subst P (walks_dumped x told k plan s ordered stands) p

@@ -1,12 +1,9 @@
 -- Turns of the search for the row of a slot.
-use Rattle.std.proofs.Common.{◌≡◌, ◌≢◌, ℕ, [], ◌∷◌, true, false, map, ◌+◌, ◌<◌, ◌≤◌, Bool, List, Some, None, drop, length, get_or, refl, sym, ◌∙◌, ap}
-use Rattle.std.specs.Prelude.{if◌then◌else◌, ◌==◌, Option, option_map}
+use Rattle.std.proofs.Common.{◌≡◌, ◌≢◌, ℕ, ◌+◌, ◌<◌, ◌≤◌, Bool, List, Some, None, drop, length, get_or, refl, sym, ◌∙◌, ap}
+use Rattle.std.specs.Prelude.{if◌then◌else◌}
 use Rattle.std.proofs.lemmas.Bool.{ne_eqb, eq-eqb}
 use Rattle.std.proofs.lemmas.List.{at_drop_more, drop_all}
 use Rattle.b67_model.specs.Keyed.{keyed}
-use Rattle.b67_layout.specs.Rows as rows
-use Rattle.b67_task_tables.specs.declared.tables.TaskRow.{TaskRow}
-use Rattle.b67_task_tables.specs.Tables.{task_row}
 
 module _ {A : Type 0} (key : A → ℕ) where
   -- the row sought isn't before the one come to
@@ -26,12 +23,3 @@ module _ {A : Type 0} (key : A → ℕ) where
 
   pub none_left : (xs : List A) (n i : ℕ) → IsAhead xs n i → length xs ≤ i → None ≡ keyed key n xs
   none_left xs n i h past = sym (h.same ∙ ap (keyed key n) (drop_all i xs past))
-
--- the row of a slot, as the definitions see it
-pub slot_mapped : (xs : List TaskRow) (n : ℕ) (found : Option TaskRow) → found ≡ keyed (λ (r : TaskRow). r.slot) n xs → option_map task_row found ≡ keyed (λ (r : rows.TaskRow). r.slot) n (map task_row xs)
-slot_mapped [] n found e = ap (option_map task_row) e
-slot_mapped (x ∷ xs) n found e = ap (option_map task_row) e ∙ by (x.slot == n) (slot_mapped xs n (keyed (λ (r : TaskRow). r.slot) n xs) refl) where
-  by : (b : Bool) → option_map task_row (keyed (λ (r : TaskRow). r.slot) n xs) ≡ keyed (λ (r : rows.TaskRow). r.slot) n (map task_row xs)
-      → option_map task_row (if b then Some x else keyed (λ (r : TaskRow). r.slot) n xs) ≡ (if b then Some (task_row x) else keyed (λ (r : rows.TaskRow). r.slot) n (map task_row xs))
-  by true rest = refl
-  by false rest = rest

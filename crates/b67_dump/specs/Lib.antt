@@ -1,7 +1,4 @@
 pub mod Dump
 pub mod Walk
 pub mod Laws
-pub mod Records
-pub mod Put
-pub mod Analysed
 pub mod Example

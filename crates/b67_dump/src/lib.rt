@@ -2,10 +2,5 @@
 #![tactic(auto)]
 
 pub mod laws;
-mod lines;
-mod order;
-mod printing;
 pub mod rows;
-mod walking;
-
-pub use printing::analyse;
+pub mod walking;

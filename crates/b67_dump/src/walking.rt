@@ -1,19 +1,14 @@
 //! The marks of a stack, walked down.
 
-ghost use Rattle.std.specs.Prelude.{◌≡◌, ℕ, ◌+◌, ◌/◌, ◌%◌, ◌≤◌, ◌<◌, ◌^◌, [], ◌∷◌, length, map, get_or, slice_get, Some};
+ghost use Rattle.std.specs.Prelude.{◌≡◌, [], ◌∷◌, length};
 ghost use Rattle.b67_model.specs.Keyed.{keyed};
 ghost use Rattle.b67_task_tables.specs.declared.tables.TaskRow.{TaskRow};
 ghost use Rattle.b67_layout_shown.specs.Reading.{word_seen_at};
-ghost use Rattle.b67_task_tables.specs.Tables.{task_row};
-ghost use Rattle.b67_layout_shown.specs.Shown.{number_seen, top_in};
-ghost use Rattle.b67_layout_shown.specs.Machines.{sight_of};
-ghost use Rattle.b67_dump.specs.Records.{top_above};
-ghost use Rattle.b67_dump.specs.Walk.{marks_in, marks_under, offset_from, slot_start, top_mark_in};
+ghost use Rattle.b67_dump.specs.Walk.{marks_in, marks_under, offset_from};
 
-use arrayvec::ArrayVec;
 use b67_core::Core;
-use b67_task_tables::{Machine, TaskRow};
-use b67_word::{Place, Word};
+use b67_task_tables::TaskRow;
+use b67_word::Word;
 
 /// The word at an address: beyond the end of core one of tag 0 and no bits.
 pub fn word_or_zero(core: &Core, at: u64) -> Word
@@ -96,126 +91,4 @@ pub fn row_in_slot(rows: &[TaskRow], slot: u64) -> Option<TaskRow>
         }
     }
     None
-}
-
-/// The number of the task in a slot, 0 if there is none.
-pub fn number_in_slot(rows: &[TaskRow], slot: u64) -> u32
-    ensures { result ≡ number_seen (map task_row rows.now) slot }
-{
-    match row_in_slot(rows, slot) {
-        Some(row) => row.number,
-        None => 0,
-    }
-}
-
-/// The address of the word under the stack of a slot.
-pub fn slot_start(machine: &Machine, slot: u64) -> u64
-    requires { slot < 2 ^ 32 }
-    ensures at { result ≡ slot_start (sight_of machine.now) slot }
-    ensures near { result < 2 ^ 49 }
-{
-    u64::from(machine.cpu.regs.stacks) + slot * u64::from(machine.cpu.regs.stack_size)
-}
-
-/// The slot of an address that lies so far above the first slot.
-pub fn slot_over(machine: &Machine, above: u32) -> u32
-    ensures { result ≡ above / machine.now.cpu.regs.stack_size }
-{
-    let size = u32::from(machine.cpu.regs.stack_size);
-    if size == 0 { 0 } else { above / size }
-}
-
-/// The displacement in its slot of an address that lies so far above the first slot.
-pub fn disp_over(machine: &Machine, above: u32) -> u32
-    ensures { result ≡ above % machine.now.cpu.regs.stack_size }
-{
-    let size = u32::from(machine.cpu.regs.stack_size);
-    if size == 0 { above } else { above % size }
-}
-
-/// The addresses of a task's top word and of its topmost mark, and where it goes on.
-#[derive(Clone, Copy)]
-pub struct TaskTop {
-    pub s: u64,
-    pub f: u64,
-    pub segment: u16,
-    pub place: Place,
-}
-
-/// The top of a task: in the registers if it runs, or else in the word under its stack and in its row.
-pub fn top_of(machine: &Machine, row: TaskRow) -> TaskTop
-    ensures s { result.s ≡ (top_in (sight_of machine.now) (task_row row)).s }
-    ensures f { result.f ≡ (top_in (sight_of machine.now) (task_row row)).f }
-    ensures segment { result.segment ≡ (top_in (sight_of machine.now) (task_row row)).segment }
-    ensures place { result.place ≡ (top_in (sight_of machine.now) (task_row row)).place }
-    ensures near { (result.s < 2 ^ 50) × (result.f < 2 ^ 50) }
-{
-    let regs = machine.cpu.regs;
-    let base = slot_start(machine, u64::from(row.slot));
-    if row.slot == regs.slot {
-        return TaskTop {
-            s: u64::from(regs.s),
-            f: u64::from(regs.f),
-            segment: regs.segment,
-            place: regs.place,
-        };
-    }
-    let w = word_or_zero(&machine.cpu.core, base);
-    TaskTop {
-        s: base + w.part(20, 16),
-        f: base + w.part(0, 14),
-        segment: row.segment,
-        place: row.place,
-    }
-}
-
-/// The topmost mark of the task in a slot, 0 if there is none.
-pub fn top_mark_in(machine: &Machine, slot: u64) -> u64
-    ensures { result ≡ top_mark_in (sight_of machine.now) slot }
-{
-    match row_in_slot(machine.tasks.rows.as_slice(), slot) {
-        Some(row) => top_of(machine, row).f,
-        None => 0,
-    }
-}
-
-/// A slot has at most so many words, and so at most so many marks. Their list takes half a megabyte of the stack of the program.
-pub const MARKS: usize = 65535;
-
-/// The marks from one down, at most `turns`.
-pub fn marks_of(core: &Core, turns: u16, mark: u64) -> ArrayVec<u64, MARKS>
-    ensures marks { result.items ≡ marks_in core.now turns mark }
-    ensures near { (i : ℕ) → get_or result.items i 0 ≤ mark }
-{
-    let mut marks = ArrayVec::new();
-    let mut at = mark;
-    'down: for _turn in 0..turns {
-        marks.push(at);
-        let back = word_or_zero(core, at).part(0, 14);
-        if back == 0 {
-            break;
-        }
-        at = at.saturating_sub(back);
-    }
-    marks
-}
-
-/// A mark of a list.
-pub fn mark_at(marks: &[u64], at: usize) -> u64
-    requires { at < length marks.now }
-    ensures { slice_get marks.now at ≡ Some result }
-{
-    marks[at]
-}
-
-/// What a record reaches up to of whose marks so many stand above its own: the word under the next mark, or the top word.
-pub fn top_at(marks: &[u64], above: usize, top: u64) -> u64
-    requires { above ≤ length marks.now }
-    ensures { result ≡ top_above top marks.now above }
-{
-    if above == 0 {
-        top
-    } else {
-        mark_at(marks, above - 1).saturating_sub(1)
-    }
 }

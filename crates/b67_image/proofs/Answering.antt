@@ -12,23 +12,21 @@ use Rattle.b67_card.specs.declared.command.Refused.{Refused}
 use Rattle.b67_card.specs.declared.command.Refused.TheVariants as refused
 use Rattle.b67_model_text.specs.Answers.{◌>>=◌}
 use Rattle.b67_model_text.specs.Deck.{of_card}
-use Rattle.b67_backing.specs.Shelf.{Table, Shelf, IsShelf}
+use Rattle.b67_backing.specs.Shelf.{Table, IsShelf}
 use Rattle.b67_backing.specs.Links.{AreLinksOf, links_in, unlinked}
 use Rattle.b67_model_text.specs.declared.deck.Switch.{Switch}
 use Rattle.b67_task_tables.specs.declared.tables.TaskRow.{TaskRow}
 use Rattle.b67_task_tables.specs.declared.tables.JobRow.{JobRow}
 use Rattle.b67_task_tables.specs.declared.tables.Tasks.{Tasks}
 use Rattle.b67_task_tables.specs.declared.tables.Machine.{Machine}
-use Rattle.b67_image.specs.Parts.{ToldCounts, ImageParts, parts_of, told_counts}
+use Rattle.b67_image.specs.Parts.{ToldCounts, ImageParts, told_counts}
 use Rattle.b67_image.specs.declared.parts.Found.{Found}
 use Rattle.b67_image.specs.Found.{counts_found, found_parts, HaveTables}
 use Rattle.b67_image.specs.Text.{limit, within_image_limit, bytes_of}
 use Rattle.b67_image.specs.Cards.{AreBytes}
 use Rattle.b67_image.specs.declared.fault.ImageFault.{ImageFault}
 use Rattle.b67_image.specs.declared.fault.ImageFault.TheVariants.{Card, SourceFault, Memory}
-use Rattle.b67_layout_shown.specs.Machines.{RepresentsOne}
-use Rattle.b67_image.specs.Meaning.{IsTold, of_image, IsMeant, IsImageRead, ShowsNone, ShowsParts, parts_told, told_in}
-use Rattle.b67_image.proofs.Unseen.{none_linked, represents_one}
+use Rattle.b67_image.specs.Meaning.{IsTold, of_image, IsMeant, IsImageRead, ShowsParts, parts_told, told_in}
 
 first_of_all : {S : Type 0} (left : S → Option (List ℕ)) (old new : S) (count : ℕ) (text : List ℕ) → length text ≤ count → GaveAll left old new text → GaveFirst left count old new text
 first_of_all left old new count text le all = record {
@@ -96,39 +94,22 @@ unmeant sectors text Memory le e = tt
 
 -- ---- the machine of parts
 
--- the machine of parts that were found, over these sectors and tables
-abbrev pub machine_found : Found → Table → Tasks → Machine
-machine_found f s t = record { cpu = record { core = f.core; regs = f.regs; display = f.display; critical = f.critical }; areas = f.areas; sectors = s; tasks = t }
-
-pub parts_found : (f : Found) (s : Table) (t : Tasks) → links_in s ≡ f.links → HaveTables (counts_found f.counts) f.switches f.jobs f.rows.items t → parts_of (machine_found f s t) ≡ found_parts f
-parts_found f s t told h =
+pub made : (f : Found) (links : List ℕ) (s : Table) (t : Tasks) → links ≡ f.links → ((ks : List (List ℕ)) × AreLinksOf links ks)
+    → ((ks : List (List ℕ)) → AreLinksOf links ks → IsShelf s (record { free = unlinked 1 links; chains = ks })) → links_in s ≡ links
+    → HaveTables (counts_found f.counts) f.switches f.jobs f.rows.items t
+    → ShowsParts (found_parts f) (record { cpu = record { core = f.core; regs = f.regs; display = f.display; critical = f.critical }; areas = f.areas; sectors = s; tasks = t })
+made f links s t e some each told h =
     let of : List ℕ → ToldCounts → List Switch → List JobRow → List TaskRow → ImageParts =
     λ ls k ws js rs. record { core = f.core; regs = f.regs; display = f.display; critical = f.critical; areas = f.areas; links = ls; counts = k; switches = ws; jobs = js; rows = rs } in
-    ap (λ (ls : List ℕ). of ls (told_counts t) t.switches t.jobs t.rows.items) told
-    ∙ ap (λ (k : ToldCounts). of f.links k t.switches t.jobs t.rows.items) h.counts
-    ∙ ap (λ (ws : List Switch). of f.links (counts_found f.counts) ws t.jobs t.rows.items) h.switches
-    ∙ ap (λ (js : List JobRow). of f.links (counts_found f.counts) f.switches js t.rows.items) h.jobs
-    ∙ ap (λ (rs : List TaskRow). of f.links (counts_found f.counts) f.switches f.jobs rs) h.rows
-
--- what is known of the sectors of these links
-pub record AreSectorsOf (links : List ℕ) (s : Table) : Type 0 where
-  pub some : (ks : List (List ℕ)) × AreLinksOf links ks
-  pub each : (ks : List (List ℕ)) → AreLinksOf links ks → IsShelf s (record { free = unlinked 1 links; chains = ks })
-  pub told : links_in s ≡ links
-
--- they have a shelf
-pub shelf_of : (links : List ℕ) (s : Table) → AreSectorsOf links s → (st : Shelf) × IsShelf s st
-shelf_of links s a = (record { free = unlinked 1 links; chains = a.some.0 }, a.each a.some.0 a.some.1)
-
-pub sectors_of : (links found : List ℕ) (s : Table) → links ≡ found → ((ks : List (List ℕ)) × AreLinksOf links ks)
-    → ((ks : List (List ℕ)) → AreLinksOf links ks → IsShelf s (record { free = unlinked 1 links; chains = ks })) → links_in s ≡ links → AreSectorsOf found s
-sectors_of links found s e some each told = subst (λ (ls : List ℕ). AreSectorsOf ls s) e (record { some = some; each = each; told = told })
-
-pub made : (f : Found) (s : Table) (t : Tasks) → AreSectorsOf f.links s → HaveTables (counts_found f.counts) f.switches f.jobs f.rows.items t → RepresentsOne (machine_found f s t) → ShowsParts (found_parts f) (machine_found f s t)
-made f s t a h one = record { parts = parts_found f s t a.told h; stands = one; halt = h.halt; printed = h.printed; chains = a.some; sectors = a.each }
-
-pub none_made : (f : Found) (s : Table) (t : Tasks) → AreSectorsOf f.links s → HaveTables (counts_found f.counts) f.switches f.jobs f.rows.items t → (RepresentsOne (machine_found f s t) → ⊥) → ShowsNone (found_parts f)
-none_made f s t a h none m e one = none (represents_one (found_parts f) m (machine_found f s t) e (parts_found f s t a.told h) a.each one)
-
-pub none_found : (f : Found) (links : List ℕ) → links ≡ f.links → ((ks : List (List ℕ)) → AreLinksOf links ks → ⊥) → ShowsNone (found_parts f)
-none_found f links e none = none_linked (found_parts f) (subst (λ (ls : List ℕ). (ks : List (List ℕ)) → AreLinksOf ls ks → ⊥) e none)
+    record {
+      parts =
+          ap (λ (ls : List ℕ). of ls (told_counts t) t.switches t.jobs t.rows.items) (told ∙ e)
+          ∙ ap (λ (k : ToldCounts). of f.links k t.switches t.jobs t.rows.items) h.counts
+          ∙ ap (λ (ws : List Switch). of f.links (counts_found f.counts) ws t.jobs t.rows.items) h.switches
+          ∙ ap (λ (js : List JobRow). of f.links (counts_found f.counts) f.switches js t.rows.items) h.jobs
+          ∙ ap (λ (rs : List TaskRow). of f.links (counts_found f.counts) f.switches f.jobs rs) h.rows;
+      halt = h.halt;
+      printed = h.printed;
+      chains = subst (λ (ls : List ℕ). (ks : List (List ℕ)) × AreLinksOf ls ks) e some;
+      sectors = subst (λ (ls : List ℕ). (ks : List (List ℕ)) → AreLinksOf ls ks → IsShelf s (record { free = unlinked 1 ls; chains = ks })) e each;
+    }

@@ -1,5 +1,5 @@
 -- What is read is spelled so, and within its range.
-use Rattle.std.proofs.Common.{◌≡◌, ℕ, zero, suc, ◌+◌, ◌*◌, ◌/◌, ◌%◌, ◌^◌, ◌<◌, ◌≤◌, ℤ, Bool, true, false, cond, ◌&&◌, List, [], ◌∷◌, ◌++◌, length, get_or, take, drop, Option, Some, None, refl, ap, subst, ◌∙◌, append_assoc, arith, ltb, ⊎_elim, ◌==◌}
+use Rattle.std.proofs.Common.{◌≡◌, ℕ, zero, suc, ◌+◌, ◌*◌, ◌/◌, ◌%◌, ◌^◌, ◌<◌, ◌≤◌, ℤ, Bool, true, false, cond, ◌&&◌, List, [], ◌∷◌, ◌++◌, length, get_or, take, drop, Option, Some, None, refl, sym, ap, subst, ◌∙◌, append_assoc, arith, ltb, ⊎_elim, ◌==◌}
 use Rattle.std.specs.Prelude.{nat_abs, nat_le}
 use Rattle.std.specs.Int.{Width, w8, w16, w32, w64, byte_len, from_be_bytes, to_be_bytes, cast_signed, cast_unsigned}
 use Rattle.std.specs.List.{flat_map, AllByRecursion}
@@ -20,10 +20,10 @@ use Rattle.b67_task_tables.specs.declared.tables.TaskState.{TaskState}
 use Rattle.b67_task_tables.specs.declared.tables.TaskState.TheVariants.{Ready, Awaits, WaitsAt}
 use Rattle.b67_task_tables.specs.declared.tables.TaskRow.{TaskRow}
 use Rattle.b67_task_tables.specs.declared.tables.JobRow.{JobRow}
-use Rattle.b67_image.specs.Parts.{ToldCounts}
+use Rattle.b67_image.specs.Parts.{ToldCounts, ImageParts}
 use Rattle.b67_image.specs.Spelling.{one_byte, two_bytes, four_bytes, eight_bytes, listed_bytes, signed_bytes, tagged_bytes, place_bytes, regs_bytes, areas_bytes, counts_bytes, switch_bytes, name_bytes, job_bytes, state_bytes, task_row_bytes}
 use Rattle.b67_image.specs.Giving.{◌>>=◌, ItemReader, read_number}
-use Rattle.b67_image.specs.Reading.{if_passes, is_within, number_within, read_many, read_count, read_counted, read_word, read_place, read_regs, read_areas, read_counts, read_switch, read_bytes, read_name, read_signed, read_job, state_by_kind, read_state, read_row}
+use Rattle.b67_image.specs.Reading.{if_passes, is_within, number_within, read_many, read_count, read_counted, read_word, read_core, read_place, read_regs, read_areas, read_counts, read_switch, read_bytes, read_name, read_signed, read_job, state_by_kind, read_state, read_row}
 use Rattle.b67_image.specs.Within.{AreItems, IsPlaceInRange, AreRegs, AreAreas, AreCounts, IsSwitch, IsReadNumber, IsJob, IsState, IsRowInRange, IsFour, IsTwo}
 use Rattle.b67_image.proofs.Forms.{front_parts, row_parts}
 

@@ -10,7 +10,3 @@ pub mod Whole
 pub mod Answering
 pub mod Back
 pub mod Meant
-pub mod Unseen
-pub mod Running
-pub mod Codes
-pub mod Sizes

@@ -1,5 +1,5 @@
 -- What a text tells is within the ranges, and its bytes are those that it is spelled with.
-use Rattle.std.proofs.Common.{◌≡◌, ℕ, zero, suc, ◌-◌, ◌<◌, Bool, true, false, cond, ◌&&◌, List, [], ◌∷◌, ◌++◌, length, Option, Some, None, Result, Ok, Err, refl, sym, ap, subst, ◌∙◌, arith, ◌==◌, unwrap_or}
+use Rattle.std.proofs.Common.{◌≡◌, ℕ, zero, suc, ◌+◌, ◌*◌, ◌-◌, ◌<◌, ◌≤◌, Bool, true, false, cond, ◌&&◌, List, [], ◌∷◌, ◌++◌, length, get_or, Option, Some, None, Result, Ok, Err, refl, sym, ap, subst, ◌∙◌, arith, ◌==◌, unwrap_or}
 use Rattle.std.specs.Prelude.{nat_le, IfOk}
 use Rattle.std.specs.Int.{w16, w32, w64}
 use Rattle.std.specs.List.{flat_map}
@@ -11,22 +11,22 @@ use Rattle.b67_model_text.specs.declared.card.Card.{Card}
 use Rattle.b67_model_text.specs.Answers.{Answer, ◌>>=◌, ◌>>◌, needs, or_reason}
 use Rattle.b67_model_text.proofs.Contents.{same_Ok}
 use Rattle.b67_model_text.specs.Cards.{cards}
-use Rattle.b67_model_text.specs.Deck.{of_card}
-use Rattle.b67_model_text.specs.Hex.{digit_value, digit_bytes}
+use Rattle.b67_model_text.specs.Deck.{Refusal, of_card}
+use Rattle.b67_model_text.specs.Hex.{hex_digit, digit_value, digit_bytes}
 use Rattle.b67_task_tables.specs.declared.tables.Machine.{Machine}
 use Rattle.b67_image.specs.declared.fault.ImageFault.{ImageFault}
 use Rattle.b67_image.specs.Parts.{ImageParts, parts_of}
 use Rattle.b67_image.specs.Spelling.{two_bytes, four_bytes, eight_bytes, image_header, listed_bytes, tagged_bytes, regs_bytes, areas_bytes, counts_bytes, switch_bytes, job_bytes, task_row_bytes, image_bytes}
-use Rattle.b67_image.specs.Giving.{read_number}
-use Rattle.b67_image.specs.Reading.{read_many, read_counted, read_word, read_core, read_links, read_switch, read_switches, read_job, read_jobs, read_row, read_rows, read_parts, parts_in}
+use Rattle.b67_image.specs.Giving.{ItemReader, read_number}
+use Rattle.b67_image.specs.Reading.{if_passes, read_many, read_counted, read_word, read_core, read_regs, read_areas, read_links, read_counts, read_switch, read_switches, read_job, read_jobs, read_row, read_rows, read_parts, none_behind, parts_in}
 use Rattle.b67_image.specs.Shape.{is_header, has_header, has_shape}
 use Rattle.b67_image.specs.Text.{last_card, refused_card, within_image_limit, found_from, is_digits, bytes_from, bytes_of}
 use Rattle.b67_image.specs.Within.{AreItems, IsSwitch, IsJob, IsRowInRange, IsFour, IsTwo, ArePartsWithin}
-use Rattle.b67_image.specs.Meaning.{is_wanted, parts_told, told_in, IsMeant}
+use Rattle.b67_image.specs.Meaning.{is_wanted, parts_told, told_in, ShowsParts, IsMeant}
 use Rattle.b67_image.specs.Laws.{IsSpelled, ImagesAreReadAgain, ImagesAreSpelled}
 use Rattle.b67_image.proofs.Whole.{image_again}
-use Rattle.b67_image.proofs.Forms.{all_parts}
-use Rattle.b67_image.proofs.Back.{IsBytes, Backs, AreMany, passed, on, take_then, bind_some, two_back, four_back, eight_back, many_front, counted_back, word_back, regs_back, areas_back, counts_back, switch_back, job_back, row_back}
+use Rattle.b67_image.proofs.Forms.{flat_parts, all_parts}
+use Rattle.b67_image.proofs.Back.{IsBytes, IsFront, Backs, AreMany, passed, on, take_then, bind_some, two_back, four_back, eight_back, many_front, counted_back, word_back, regs_back, areas_back, counts_back, switch_back, job_back, row_back}
 
 -- ---- all parts
 
@@ -191,23 +191,8 @@ spelled_in sectors text card p e =
     let told = told_of sectors found.1 q raw (card_ok found.0 (parts_told sectors found.1) q e2) in
     subst (λ (t : ℕ × ImageParts). IsSpelled text t.0 t.1) same (record { within = told.fits; bytes = e1 ∙ ap (λ (bytes : List ℕ). Ok (found.0, bytes)) (sym told.spelled) })
 
--- it has as many sectors as are wanted
-pub wanted_in : (sectors : Option ℕ) (text : List ℕ) (card : ℕ) (p : ImageParts) → told_in sectors text ≡ Ok (card, p) → is_wanted sectors (length p.links) ≡ true
-unfolding parts_told
-wanted_in sectors text card p e =
-    let (u, e0, h0) = bind_ok (within_image_limit text) _ (card, p) e in
-    let (found, e1, h1) = bind_ok (bytes_of text) _ (card, p) h0 in
-    let (q, e2, h2) = bind_ok (of_card found.0 (parts_told sectors found.1)) _ (card, p) h1 in
-    let same : (found.0, q) ≡ (card, p) = same_Ok _ (card, p) h2 in
-    let h = needed (has_header found.1) 4 _ q (card_ok found.0 (parts_told sectors found.1) q e2) in
-    let s = needed (has_shape found.1) 5 _ q h.1 in
-    let (t, is, more) = given (parts_in found.1) 6 _ q s.1 in
-    let w = needed (is_wanted sectors (length t.links)) 7 (Ok t) q more in
-    let whole : t ≡ p = same_Ok t q w.1 ∙ ap (λ (f : ℕ × ImageParts). f.1) same in
-    subst (λ (r : ImageParts). is_wanted sectors (length r.links) ≡ true) whole w.0
-
 pub spelled_again : ImagesAreReadAgain
-spelled_again sectors text card m e le = image_again None m (record { within = (spelled_in sectors text card (parts_of m) e).within; short = le; wanted = refl })
+spelled_again sectors text card m e le = image_again m (spelled_in sectors text card (parts_of m) e).within le
 
 pub within_read : (sectors : Option ℕ) (text : List ℕ) (r : Result Machine ImageFault) → IsMeant r (told_in sectors text) → IfOk r (λ m. ArePartsWithin (parts_of m))
 within_read sectors text (Ok m) (found, told, shows) = subst ArePartsWithin (sym shows.parts) (spelled_in sectors text found.0 found.1 told).within

@@ -12,7 +12,6 @@ use Rattle.b67_task_tables.specs.declared.tables.TaskState.{TaskState}
 use Rattle.b67_task_tables.specs.declared.tables.TaskState.TheVariants.{Ready, Awaits, WaitsAt}
 use Rattle.b67_task_tables.specs.declared.tables.TaskRow.{TaskRow}
 use Rattle.b67_task_tables.specs.declared.tables.JobRow.{JobRow}
-use Rattle.b67_lemmas.proofs.Joins.{all_by}
 use Rattle.b67_image.proofs.Again.{IsByte}
 use Rattle.b67_image.specs.Parts.{ImageParts}
 use Rattle.b67_image.specs.Spelling.{one_byte, two_bytes, four_bytes, eight_bytes, image_header, listed_bytes, signed_bytes, tagged_bytes, regs_bytes, areas_bytes, counts_bytes, switch_bytes, name_bytes, job_front, job_numbers, job_bytes, state_bytes, task_row_bytes, cpu_bytes, tables_bytes, image_bytes}
@@ -82,14 +81,10 @@ name (b ∷ more) e =
     let inner = and_parts (is_ascii_uppercase b) (list_all (λ c. is_ascii_uppercase c || is_ascii_digit c) more) outer.0 in
     record { all = (first_char b inner.0, chars more inner.1) }
 
--- a job whose name is bytes
-abbrev pub HasNameBytes : JobRow → Type 0
-HasNameBytes j = Are j.name
-
-job : (j : JobRow) → HasNameBytes j → Are (job_bytes j)
+job : (j : JobRow) → IsJob j → Are (job_bytes j)
 job j h =
     both (name_bytes j.name) (job_front j ++ job_numbers j)
-    (both (one_byte (length j.name)) j.name (one (length j.name)) h)
+    (both (one_byte (length j.name)) j.name (one (length j.name)) (name j.name h.name))
     (both (job_front j) (job_numbers j)
     (both (four_bytes j.dict) _ (four j.dict) (both (two_bytes j.segments) _ (two j.segments) (both (two_bytes j.rows) _ (two j.rows) (both (eight_bytes j.limit) _ (eight j.limit) (both (eight_bytes j.made) (four_bytes j.next_task) (eight j.made) (four j.next_task))))))
     (both (listed_bytes signed_bytes j.numbers) (four_bytes j.next_number) (list signed_bytes (λ z. eight _) j.numbers) (four j.next_number)))
@@ -104,9 +99,9 @@ row r =
     both (one_byte r.job) _ (one r.job) (both (four_bytes r.number) _ (four r.number) (both (one_byte r.slot) _ (one r.slot) (both (one_byte r.parent) _ (one r.parent) (both (two_bytes r.critical) _ (two r.critical)
     (both (state_bytes r.state) _ (state r.state) (both (two_bytes r.segment) _ (two r.segment) (both (two_bytes r.place.word) (one_byte r.place.syllable) (two r.place.word) (one r.place.syllable))))))))
 
-pub octets_by : (p : ImageParts) → AllByRecursion HasNameBytes p.jobs → Are (image_bytes p)
+pub octets : (p : ImageParts) → ArePartsWithin p → Are (image_bytes p)
 unfolding image_bytes
-octets_by p h = both (eight_bytes image_header) _ (eight image_header) (both (cpu_bytes p) _ cpu (both (areas_bytes p.areas) _ (both (four_bytes p.areas.size) (four_bytes p.areas.low) (four p.areas.size) (four p.areas.low)) (both (listed_bytes four_bytes p.links) (tables_bytes p) (list four_bytes four p.links) tables)))
+octets p h = both (eight_bytes image_header) _ (eight image_header) (both (cpu_bytes p) _ cpu (both (areas_bytes p.areas) _ (both (four_bytes p.areas.size) (four_bytes p.areas.low) (four p.areas.size) (four p.areas.low)) (both (listed_bytes four_bytes p.links) (tables_bytes p) (list four_bytes four p.links) tables)))
   where
     regs : Are (regs_bytes p.regs)
     regs =
@@ -128,7 +123,4 @@ octets_by p h = both (eight_bytes image_header) _ (eight image_header) (both (cp
     tables : Are (tables_bytes p)
     tables =
         both (counts_bytes p.counts) _ counts (both (listed_bytes switch_bytes p.switches) _ (list switch_bytes (λ w. both (eight_bytes w.count) _ (eight w.count) (both (one_byte w.job) (four_bytes w.task) (one w.job) (four w.task))) p.switches)
-        (both (listed_bytes job_bytes p.jobs) (listed_bytes task_row_bytes p.rows) (both (four_bytes (length p.jobs)) (flat_map job_bytes p.jobs) (four (length p.jobs)) (many job_bytes HasNameBytes job p.jobs h)) (list task_row_bytes row p.rows)))
-
-pub octets : (p : ImageParts) → ArePartsWithin p → Are (image_bytes p)
-octets p h = octets_by p (all_by IsJob HasNameBytes (λ j own. name j.name own.name) p.jobs h.jobs.each)
+        (both (listed_bytes job_bytes p.jobs) (listed_bytes task_row_bytes p.rows) (both (four_bytes (length p.jobs)) (flat_map job_bytes p.jobs) (four (length p.jobs)) (many job_bytes IsJob job p.jobs h.jobs.each)) (list task_row_bytes row p.rows)))

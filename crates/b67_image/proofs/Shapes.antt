@@ -25,7 +25,7 @@ skip_again n xs rest len =
 more_is : (a width b m total : ℕ) → a ≡ width → b ≡ m → total ≡ m + width → a + b ≡ total
 more_is a width b m total e f g = omega (arith, e, f, g)
 
-pub flat_many : {X : Type 0} (spell : X → List ℕ) (width : ℕ) → ((x : X) → length (spell x) ≡ width) → (xs : List X) → length (flat_map spell xs) ≡ length xs * width
+flat_many : {X : Type 0} (spell : X → List ℕ) (width : ℕ) → ((x : X) → length (spell x) ≡ width) → (xs : List X) → length (flat_map spell xs) ≡ length xs * width
 flat_many spell width each [] = omega arith
 flat_many spell width each (x ∷ xs) =
     ap length (flat_map-cons spell x xs) ∙ length-append (spell x) (flat_map spell xs)
@@ -74,7 +74,7 @@ job_list_again jobs rest h =
     ap skipped_jobs regrouped ∙ rw (number_again w32 (2 ^ 32) wide32 (length jobs) (flat_map job_bytes jobs ++ rest) lt) (jobs_again jobs rest h.each)
 
 -- 21 bytes for each task
-pub row_width : (r : TaskRow) → length (task_row_bytes r) ≡ 21
+row_width : (r : TaskRow) → length (task_row_bytes r) ≡ 21
 row_width r = by_state r.state
   where
     by_state : (s : TaskState) → length (one_byte r.job ++ (four_bytes r.number ++ (one_byte r.slot ++ (one_byte r.parent ++ (two_bytes r.critical ++ (state_bytes s ++ (two_bytes r.segment ++ (two_bytes r.place.word ++ one_byte r.place.syllable)))))))) ≡ 21

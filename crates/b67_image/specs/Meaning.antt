@@ -1,8 +1,8 @@
 -- What reading an image answers.
-use Rattle.std.specs.Prelude.{◌≡◌, ◌⊎◌, ℕ, ◌+◌, ◌==◌, Bool, true, List, length, Option, Some, None, Result, Ok, Err}
+use Rattle.std.specs.Prelude.{◌≡◌, ◌⊎◌, ℕ, ◌+◌, ◌==◌, Bool, true, false, List, length, Option, Some, None, Result, Ok, Err}
 use Rattle.b67_io.specs.Told.{GaveAll}
 use Rattle.b67_io.specs.Causes.{Rose}
-use Rattle.b67_backing.specs.Shelf.{Table, IsShelf}
+use Rattle.b67_backing.specs.Shelf.{IsShelf}
 use Rattle.b67_backing.specs.Links.{AreLinksOf, unlinked}
 use Rattle.b67_card.specs.Reading.{GaveFirst}
 use Rattle.b67_card.specs.declared.command.Refused.{Refused}
@@ -10,8 +10,6 @@ use Rattle.b67_card.specs.declared.command.Refused.TheVariants as refused
 use Rattle.b67_model_text.specs.Answers.{Answer, ◌>>=◌, ◌>>◌, needs, or_reason}
 use Rattle.b67_model_text.specs.Deck.{Refusal, of_card}
 use Rattle.b67_task_tables.specs.declared.tables.Machine.{Machine}
-use Rattle.b67_task_tables.specs.Tables.{AreCountable}
-use Rattle.b67_layout_shown.specs.Machines.{RepresentsOne}
 use Rattle.b67_image.specs.Parts.{ImageParts, parts_of}
 use Rattle.b67_image.specs.Shape.{has_header, has_shape}
 use Rattle.b67_image.specs.Reading.{parts_in}
@@ -37,21 +35,20 @@ told_in sectors text = do
   p ← of_card found.0 (parts_told sectors found.1)
   Ok (found.0, p)
 
--- The machine has these parts, and represents a session. It has no count at which it stops, and nothing of a step that was
--- printed. Its sectors are in the chains that the links tell, and the others are free, in the order of their numbers
+-- The machine has these parts, no count at which it stops, and nothing of a step that was printed. Its sectors are in the chains
+-- that the links tell, and the others are free, in the order of their numbers
 pub record ShowsParts (p : ImageParts) (m : Machine) : Type 0 where
   pub parts : parts_of m ≡ p
-  pub stands : RepresentsOne m
   pub halt : m.tasks.halt ≡ None
   pub printed : m.tasks.printed ≡ 0
   pub chains : (ks : List (List ℕ)) × AreLinksOf p.links ks
   pub sectors : (ks : List (List ℕ)) → AreLinksOf p.links ks → IsShelf m.sectors (record { free = unlinked 1 p.links; chains = ks })
 
--- no machine with these parts represents a session
+-- no machine has these parts: the links are those of no chains
 abbrev pub ShowsNone : ImageParts → Type 0
-ShowsNone p = (m : Machine) → parts_of m ≡ p → RepresentsOne m → ⊥
+ShowsNone p = (ks : List (List ℕ)) → AreLinksOf p.links ks → ⊥
 
--- the machine is one of these parts, or no session stands behind them, or the parts are refused
+-- the machine is that of these parts, or there is none, or the parts are refused
 abbrev pub IsTold : Result Machine Refused → Answer ImageParts → Type 0
 IsTold (Ok m) told = (p : ImageParts) × (told ≡ Ok p) × ShowsParts p m
 IsTold (Err (refused.Reason r)) told = (told ≡ Err r) ⊎ ((r ≡ 8) × ((p : ImageParts) × (told ≡ Ok p) × ShowsNone p))
@@ -78,13 +75,3 @@ IsImageRead left faults old new sectors (Ok m) = (text : List ℕ) × GaveAll le
 IsImageRead left faults old new sectors (Err (Card card reason)) = (text : List ℕ) × GaveFirst left (limit + 1) old new text × IsMeant (Err (Card card reason)) (told_in sectors text)
 IsImageRead left faults old new sectors (Err SourceFault) = Rose faults old new
 IsImageRead left faults old new sectors (Err Memory) = Unit {0}
-
--- so many sectors beside number 0, or any number
-abbrev pub HasWanted : Option ℕ → Table → Type 0
-HasWanted None t = Unit {0}
-HasWanted (Some wanted) t = wanted + 1 ≡ length t.links
-
--- what a run asks of a machine beside the session: jobs whose numbers can be counted, and as many sectors as are wanted
-pub record CanBeRun (sectors : Option ℕ) (m : Machine) : Type 0 where
-  pub countable : AreCountable m.tasks.jobs
-  pub sized : HasWanted sectors m.sectors

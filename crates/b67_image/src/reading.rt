@@ -1,15 +1,14 @@
 //! Reading an image.
 
 ghost use Rattle.std.specs.Prelude.{◌≡◌, ◌≤◌, length, IfOk, None};
-ghost use Rattle.b67_image.specs.Text.{limit, bytes_of};
-ghost use Rattle.b67_image.specs.Cards.{AreBytes};
-ghost use Rattle.b67_image.specs.Meaning.{CanBeRun, IsTold, IsMeant, IsImageRead, is_wanted, of_image, parts_told, told_in};
+ghost use Rattle.b67_image.specs.Text.{limit};
+ghost use Rattle.b67_image.specs.Meaning.{IsTold, IsMeant, IsImageRead, is_wanted, of_image, parts_told, told_in};
 ghost use Rattle.b67_image.specs.Found.{counts_found, found_parts, HaveTables};
 ghost use Rattle.b67_image.specs.Parts.{parts_of};
 ghost use Rattle.b67_image.specs.Within.{ArePartsWithin};
 ghost use Rattle.b67_image.specs.Machines.{IsMachineOf};
 
-use crate::cards::{Spelled, bytes_of};
+use crate::cards::bytes_of;
 use crate::fault::ImageFault;
 use crate::flaw::Flaw;
 use crate::parts::{Found, TableCounts, parts_in};
@@ -17,12 +16,10 @@ use crate::shape::{has_header, has_shape};
 use arrayvec::ArrayVec;
 use b67_backing::Sectors;
 use b67_card::{ReadFault, Refused, read_up_to};
-use b67_image_shape::is_shaped;
 use b67_io::Source;
 use b67_model_text::Switches;
 use b67_stack::Cpu;
 use b67_task_tables::{JobRows, Machine, TaskRow, Tasks};
-use b67_word::Bytes;
 use std::alloc::Global;
 
 /// An image has at most so many bytes.
@@ -53,7 +50,7 @@ fn tasks_of(
     }
 }
 
-/// The machine of these parts. Reason 8 comes exactly if no machine with these parts represents a session.
+/// The machine of these parts. Reason 8 comes if their links are those of no chains.
 fn machine_of(alloc: Global, found: Found) -> Result<Machine, Refused>
     ensures { IsMachineOf result (found_parts found) }
 {
@@ -74,7 +71,7 @@ fn machine_of(alloc: Global, found: Found) -> Result<Machine, Refused>
         Ok(None) => return Err(Refused::Reason(8)),
         Err(_) => return Err(Refused::Memory),
     };
-    let machine = Machine {
+    Ok(Machine {
         cpu: Cpu {
             core,
             regs,
@@ -84,15 +81,7 @@ fn machine_of(alloc: Global, found: Found) -> Result<Machine, Refused>
         areas,
         sectors,
         tasks: tasks_of(counts, switches, jobs, rows),
-    };
-    let shaped = match is_shaped(alloc, &machine) {
-        Ok(shaped) => shaped,
-        Err(_) => return Err(Refused::Memory),
-    };
-    if !shaped {
-        return Err(Refused::Reason(8));
-    }
-    Ok(machine)
+    })
 }
 
 /// Whether so many sectors are wanted.
@@ -139,20 +128,12 @@ fn of_image(card: u32, told: Result<Machine, Refused>) -> Result<Machine, ImageF
     }
 }
 
-/// The bytes of a text's image. The text is given up, so that it isn't held beside the machine.
-fn spelled_in(alloc: Global, text: Bytes) -> Result<Spelled, ImageFault>
-    requires { length text ≤ limit }
-    ensures { AreBytes result (bytes_of text) }
-{
-    bytes_of(alloc, text.as_slice())
-}
-
 /// The machine that a text within the limit tells.
-fn image_in(alloc: Global, sectors: Option<u32>, text: Bytes) -> Result<Machine, ImageFault>
-    requires { length text ≤ limit }
-    ensures { IsMeant result (told_in sectors text) }
+fn image_in(alloc: Global, sectors: Option<u32>, text: &[u8]) -> Result<Machine, ImageFault>
+    requires { length text.now ≤ limit }
+    ensures { IsMeant result (told_in sectors text.now) }
 {
-    match spelled_in(alloc, text) {
+    match bytes_of(alloc, text) {
         Ok(spelled) => of_image(
             spelled.card,
             machine_in(alloc, sectors, spelled.bytes.as_slice()),
@@ -162,20 +143,17 @@ fn image_in(alloc: Global, sectors: Option<u32>, text: Bytes) -> Result<Machine,
 }
 
 /// Reads an image from a source, to its end or to the first byte past the limit of 67,108,864. The answer is a machine with the
-/// parts that the image tells, all of them within their ranges, which represents a session in order. It has no count at which it
-/// stops, and its free sectors are taken in the order of their numbers. A refusal names a card, counted from 1 (0 is none), and
-/// the lowest of these reasons, of which 9 is looked for first:
+/// parts that the image tells, all of them within their ranges; whether a session stands behind it isn't looked at yet. It has no
+/// count at which it stops, and its free sectors are taken in the order of their numbers. A refusal names a card, counted from 1
+/// (0 is none), and the lowest of these reasons, of which 9 is looked for first:
 ///
 /// | reason | the card |
 /// |---|---|
 /// | 1 | the last, where none is `?IMAGE` |
 /// | 2 | the first behind `?IMAGE` that is neither `?END` nor at most 64 hexadecimal digits, an even number |
 /// | 3 | the last, where no `?END` follows |
-/// | 4 to 8 | `?IMAGE`, where the bytes don't begin with B67IMAGE; end within an item or go on behind the last; have a number or a name out of its range; have another number of sectors than is wanted; or are those of no machine that represents a session |
+/// | 4 to 8 | `?IMAGE`, where the bytes don't begin with B67IMAGE; end within an item or go on behind the last; have a number or a name out of its range; have another number of sectors than is wanted; or have links of sectors that are those of no chains |
 /// | 9 | that of the first byte past the limit |
-///
-/// While the text is read and decoded, it and its bytes are held, which grow by doubling: at most three times the text. The text is
-/// given up before the machine is made, which takes less than the bytes.
 pub fn read_image<S: Source>(
     alloc: Global,
     source: &mut S,
@@ -183,11 +161,10 @@ pub fn read_image<S: Source>(
 ) -> Result<Machine, ImageFault>
     ensures answer { IsImageRead S.left S.faults source.old source.new sectors result }
     ensures within { IfOk result (λ m. ArePartsWithin (parts_of m)) }
-    ensures runs { IfOk result (λ m. CanBeRun sectors m) }
     ensures later { S.faults source.old ≤ S.faults source.new }
 {
     match read_up_to(alloc, source, LIMIT) {
-        Ok(text) => image_in(alloc, sectors, text),
+        Ok(bytes) => image_in(alloc, sectors, bytes.as_slice()),
         Err(ReadFault::TooLong { card }) => of_image(card, Err(Refused::Reason(9))),
         Err(ReadFault::SourceFault) => Err(ImageFault::SourceFault),
         Err(ReadFault::Memory) => Err(ImageFault::Memory),

@@ -1,4 +1,4 @@
-//! A small image, and what is refused of it.
+//! A small image by hand.
 
 use crate::{ImageFault, read_image, write_image};
 use b67_core::to_number;
@@ -11,53 +11,27 @@ use std::test::Fail;
 /// 32 bytes.
 const ZEROS: &str = "0000000000000000000000000000000000000000000000000000000000000000";
 
-/// The lines of an image of two tasks. Those that aren't told are of core, of the display and of the critical displacements.
+/// The lines of an image. Those that aren't told are of core, of the display and of the critical displacements.
 fn line(k: u32) -> &'static str {
     match k {
         0 => "?IMAGE",
-        // The text B67IMAGE, 368 words of core, and the first of them: the MCP's mark.
-        1 => "423637494d414745000001700003400000000000000000000000000000000000",
-        // The intrinsics.
-        3 => "0000000000000000000000000007000000080008000700000008000900070000",
-        4 => "0008000a000700000008000b000700000008000c000700000008000d00070000",
-        5 => "0008000e000700000008000f0007000000080010000700000008001100070000",
-        6 => "0008001200000000000000000000000000000000000000000000000000000000",
-        // The stack vector: task 1 of job 1 in slot 0, and its child in slot 1.
-        9 => "00000000000000000000000000037ff000010000000340000001000000000000",
-        // The head of the first hole.
-        39 => "000000000000000000000000000300000000012f000000000000000000000000",
-        // The dictionary, with the descriptors of two segments; slot 0, where task 1 stands at its call of WAIT.
-        41 => "0000000000000000000000000003c88000004000000000000000000200038000",
-        42 => "00500125000380000020012c00030000008080060003c8000000800000030000",
-        43 => "000000000000000000000000000700000000c003000000000000000200030000",
-        44 => "00000005000100000000000f0001000000001002000000000000000000000000",
-        // Slot 1, where the child has three numbers on its stack.
-        58 => "000000000000000000000000000300000040c0010003c0000010c00000030000",
-        59 => "0000000000000000000000070000000000000008000000000000000900030000",
-        60 => "005000010003c000085000000000000000000000000000000000000000000000",
-        // The areas of the two segments.
-        74 => "00000000000000000000000000038000005000a20003b0bfffffffff00030000",
-        75 => "0000c0030003ae400c5003ab0003ae400f5002ab0003a3ffffffffff00030000",
-        76 => "0050000100038000002000a30003b207b208b2090003a3ffffffffff00030000",
-        77 => "002000020003c000041000000000000000000000000000000000000000000000",
-        // S, F, BOSR, LOSR, slot, level and segment.
-        93 => "000000000000000000000000000000e9000000e5000000e40000012301030003",
+        // The text B67IMAGE, 256 words of core, and the first of them: tag 3 and number 5.
+        1 => "423637494d414745000001000003000000000005000000000000000000000000",
+        // The end of core; S, F, BOSR, LOSR, slot, level and segment.
+        65 => "000000000000000000000000000000aa000000a9000000a3000000e200020002",
         // Place, dictionary, its entries, stacks, 64 words a stack, the peak; the display.
-        94 => "000100000000a00002000000a400400200000000000000a0000000a5000000e5",
-        // The parent may not leave the mark at 1.
-        98 => "0000000000000000000000000000000000010000000000000000000000000000",
-        // Areas; four links, of two chains of a sector and of two free ones; a quantum of 2; 13 operators were made.
-        106 => "0000017000000124000000040000000100000002000000000000000000000002",
-        // The turn, the last task, the running row, the next switch; one switch.
-        107 => "000000000000000d000000010100000002010000000100000001000000000000",
-        // Its count, job and task; one job: its name A, dictionary, two segments, no data row, the limit of 1,000.
-        108 => "00070100000001000000010141000000a00002000000000000000003e8000000",
-        // What it made, its next task, one number for READ, which wasn't read; two rows.
-        109 => "000000000d0000000300000001fffffffffffffffb0000000000000002010000",
-        // Task 1 waits at its cell; its child runs.
-        110 => "000100ff000002000000a5000200020003050100000002010000010000000000",
-        111 => "00000003000004",
-        112 => "?END",
+        66 => "000204000000a00001000000a300400100000001000000000000000000000000",
+        // Areas; three links, the last of a free sector; a quantum of 2; 11 operators were made.
+        78 => "00000100000000a0000000030000000200000002000000000000000200000000",
+        // The turn, the last task, no row, the next switch; one switch.
+        79 => "0000000b000000010100000001ff000000000000000100000000000000070100",
+        // Its task; one job: its name A, dictionary, a segment, two data rows, the limit of 1,000.
+        80 => "000002000000010141000000a00001000200000000000003e800000000000000",
+        // What it made, its next task, one number for READ, which was read; one row.
+        81 => "0b0000000200000001fffffffffffffffb0000000100000001010000000100ff",
+        // It waits at a cell; segment and place.
+        82 => "000002000000b000030001000203",
+        83 => "?END",
         _ => ZEROS,
     }
 }
@@ -65,7 +39,7 @@ fn line(k: u32) -> &'static str {
 /// The image with another line in place of that of a number, on a tape.
 fn image(alloc: Global, at: u32, other: &str) -> Result<Bytes, AllocError> {
     let mut text = Bytes::new(alloc);
-    for k in 0..113u32 {
+    for k in 0..84u32 {
         let now = if k == at { other } else { line(k) };
         text.extend(now.as_bytes())?;
         text.extend(b"\n")?;
@@ -82,53 +56,32 @@ fn refusal(alloc: Global, at: u32, other: &str, sectors: u32) -> Result<Option<I
 #[test]
 fn refusals(rt: HostRuntime) -> Result<(), Fail> {
     let rows = [
-        (113, "", 4, 0, 0),
-        (0, "?IMAGES", 4, 113, 1),
-        (5, "000", 4, 6, 2),
-        (112, "00", 4, 113, 3),
+        (84, "", 3, 0, 0),
+        (0, "?IMAGES", 3, 84, 1),
+        (5, "000", 3, 6, 2),
+        (83, "00", 3, 84, 3),
         (
             1,
-            "433637494d414745000001700003400000000000000000000000000000000000",
-            4,
+            "433637494d414745000001000003000000000005000000000000000000000000",
+            3,
             1,
             4,
         ),
-        (111, "000000030000", 4, 1, 5),
-        (111, "0000000300000400", 4, 1, 5),
-        (108, "000701", 4, 1, 5),
+        (82, "000002000000b0000300010002", 3, 1, 5),
+        (82, "000002000000b00003000100020300", 3, 1, 5),
+        (80, "000002", 3, 1, 5),
         (
-            94,
-            "000100000000a00002000000a4003f0200000000000000a0000000a5000000e5",
-            4,
+            66,
+            "000204000000a00001000000a3003f0100000001000000000000000000000000",
+            3,
             1,
             6,
         ),
-        (113, "", 5, 1, 7),
+        (84, "", 4, 1, 7),
         (
-            106,
-            "0000017000000124000000040000000200000001000000000000000000000002",
-            4,
-            1,
-            8,
-        ),
-        (
-            94,
-            "000100000000a00002000000a400400200000000000000a0000000a5000000e4",
-            4,
-            1,
-            8,
-        ),
-        (
-            42,
-            "00500125000380000020012500030000008080060003c8000000800000030000",
-            4,
-            1,
-            8,
-        ),
-        (
-            110,
-            "000100ff000002000000a5000200020003050100000002000000010000000000",
-            4,
+            78,
+            "00000100000000a0000000030000000200000001000000000000000200000000",
+            3,
             1,
             8,
         ),
@@ -147,7 +100,7 @@ fn refusals(rt: HostRuntime) -> Result<(), Fail> {
 
 /// The machine of the image.
 fn machine(alloc: Global) -> Result<Machine, Fail> {
-    let mut source = Tape::new(image(alloc, 113, "")?, 4096, Numbers::new(alloc));
+    let mut source = Tape::new(image(alloc, 84, "")?, 4096, Numbers::new(alloc));
     match read_image(alloc, &mut source, None) {
         Ok(machine) => Ok(machine),
         Err(_) => Err(Fail::from("refused")),
@@ -158,11 +111,11 @@ fn machine(alloc: Global) -> Result<Machine, Fail> {
 fn core_and_registers_are_read(rt: HostRuntime) -> Result<(), Fail> {
     let machine = machine(rt.alloc())?;
     let regs = machine.cpu.regs;
-    assert_eq!(rt; machine.cpu.core.size(), 368);
-    assert_eq!(rt; to_number(machine.cpu.core.get(0)), 0x3_4000_0000_0000);
+    assert_eq!(rt; machine.cpu.core.size(), 256);
+    assert_eq!(rt; to_number(machine.cpu.core.get(0)), 0x3_0000_0000_0005);
     assert_eq!(rt;
-        (regs.s, regs.stack_size, machine.cpu.display[1]),
-        (233, 64, 160)
+        (regs.s, regs.stack_size, machine.cpu.display[0]),
+        (170, 64, 1)
     );
     assert_eq!(rt;
         (
@@ -170,7 +123,7 @@ fn core_and_registers_are_read(rt: HostRuntime) -> Result<(), Fail> {
             machine.areas.low,
             machine.sectors.count()
         ),
-        (368, 292, 4)
+        (256, 160, 3)
     );
     Ok(())
 }
@@ -178,19 +131,18 @@ fn core_and_registers_are_read(rt: HostRuntime) -> Result<(), Fail> {
 #[test]
 fn tables_are_read(rt: HostRuntime) -> Result<(), Fail> {
     let tasks = machine(rt.alloc())?.tasks;
-    assert_eq!(rt; (tasks.quantum, tasks.made, tasks.halt), (2, 13, None));
+    assert_eq!(rt; (tasks.quantum, tasks.made, tasks.halt), (2, 11, None));
     let jobs = tasks.jobs.as_slice();
     assert_eq!(rt; jobs.len(), 1);
     assert_eq!(rt; jobs[0].name.as_str(), "A");
     assert_eq!(rt; jobs[0].numbers.as_slice(), [-5i64].as_slice());
     let rows = tasks.rows.as_slice();
-    assert_eq!(rt; rows.len(), 2);
-    assert_eq!(rt; (rows[1].parent, rows[1].critical), (0, 1));
+    assert_eq!(rt; rows.len(), 1);
     assert_eq!(rt;
         rows[0].state,
         TaskState::WaitsAt {
-            mark: 165,
-            offset: 2
+            mark: 176,
+            offset: 3
         }
     );
     Ok(())
@@ -203,6 +155,6 @@ fn the_image_is_printed_again(rt: HostRuntime) -> Result<(), Fail> {
     let mut printer = Paper::new(alloc, 8000, Numbers::new(alloc))?;
     assert_eq!(rt; machine.tasks.printed, 0);
     assert!(rt; write_image(&machine, &mut printer).is_ok());
-    assert_eq!(rt; printer.bytes(), image(alloc, 113, "")?.as_slice());
+    assert_eq!(rt; printer.bytes(), image(alloc, 84, "")?.as_slice());
     Ok(())
 }

@@ -40,7 +40,7 @@ dictionary_fact core stacks at (r ∷ more) zero row d e = (let same : r ≡ row
 dictionary_fact core stacks at (r ∷ more) (suc i) row d e = dictionary_fact core stacks (at + (2 + (r.segments + r.rows))) more i row d.1 e
 
 -- the dictionary of a job, by the place of its row
-pub dictionary_at : (n : ℕ) (rows : List JobRow) (i : ℕ) (row : JobRow) → slice_get rows i ≡ Some row → dictionary_from rows n (n + i) ≡ row.dictionary
+dictionary_at : (n : ℕ) (rows : List JobRow) (i : ℕ) (row : JobRow) → slice_get rows i ≡ Some row → dictionary_from rows n (n + i) ≡ row.dictionary
 dictionary_at n [] i row e = absurd (let z : ⊥ = cc in z)
 dictionary_at n (r ∷ more) zero row e =
     let same : r ≡ row = cc in

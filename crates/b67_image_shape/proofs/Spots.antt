@@ -10,22 +10,22 @@ use Rattle.b67_lemmas.proofs.Members.{keyed_has, has_append_cases}
 use Rattle.b67_model.specs.Keyed.{keyed}
 use Rattle.b67_model.specs.Common.{Frame, Task, height, from_frame, frames_of_task, critical_of}
 use Rattle.b67_stack.specs.Common as stack
-use Rattle.b67_stack.specs.Common.{Locations, Head, StackPlace, Activation, stack_words}
+use Rattle.b67_stack.specs.Common.{Head, StackPlace, Activation, stack_words}
 use Rattle.b67_layout.specs.Common.{slot_of, spot_in, base_spot, outer_spots, spots, TaskRow, JobRow}
 use Rattle.b67_layout_shown.specs.Places.{named}
 use Rattle.b67_layout_shown.specs.Seen.{Seen, seen_in, from_disp, base_seen, seen_from, seen_by, RowsAreSound}
 use Rattle.b67_layout_shown.specs.Shown.{Sight, number_by, number_seen, frame_seen, array_homed, frames_of, stack_of_row, parents_by, critical_by, task_in, job_seen, placed}
 use Rattle.b67_image_shape.specs.TableFacts.{row_in_slot, BornBy, TableFacts}
-use Rattle.b67_image_shape.specs.Items.{EachTask, StackFactsBy}
+use Rattle.b67_image_shape.specs.Items.{EachTask, StackFacts}
 use Rattle.b67_image_shape.proofs.Rows.{of_row, row_fact, found_row, task_found, slot_is}
 use Rattle.b67_image_shape.proofs.EachTask.{task_at}
 use Rattle.b67_image_shape.proofs.Critical.{high_is}
 use Rattle.b67_image_shape.proofs.Sources.{number_some}
 
-module _ (held : Locations) (k : Sight) (facts : TableFacts k) (stacks : EachTask k (StackFactsBy held k)) (small : k.regs.stack_size < 2 ^ 14) where
+module _ (k : Sight) (facts : TableFacts k) (stacks : EachTask k (StackFacts k)) (small : k.regs.stack_size < 2 ^ 14) where
   -- ---- the tables of a job
 
-  pub job_low : (r : TaskRow) → Has k.tasks r → r.job < 9
+  job_low : (r : TaskRow) → Has k.tasks r → r.job < 9
   job_low r h =
       let o = of_row k facts r h in
       let some = (row_fact k facts r h).from_one in
@@ -37,19 +37,19 @@ module _ (held : Locations) (k : Sight) (facts : TableFacts k) (stacks : EachTas
         found_low (q ∷ rows) zero row e = omega arith
         found_low (q ∷ rows) (suc i) row e = (let low = found_low rows i row e in omega (arith, low))
 
-  pub slot_few : (r : TaskRow) → Has k.tasks r → r.slot < 120
+  slot_few : (r : TaskRow) → Has k.tasks r → r.slot < 120
   slot_few r h = (let s = (row_fact k facts r h).slot in let p = facts.peak in omega (arith, s, p))
 
   -- the job's row is that of each of its tasks
   pub one_row : (row : JobRow) (j : ℕ) → slice_get k.jobs (j - 1) ≡ Some row → (r : TaskRow) (h : Has k.tasks r) → r.job ≡ j → (of_row k facts r h).row ≡ row
   one_row row j found r h e = same_Some (of_row k facts r h).row row (sym (of_row k facts r h).found ∙ ap (λ i. slice_get k.jobs (i - 1)) e ∙ found)
 
-  pub found_task : (row : JobRow) (j : ℕ) → slice_get k.jobs (j - 1) ≡ Some row → (r : TaskRow) (h : Has k.tasks r) → r.job ≡ j → keyed (λ (t : Task). t.number) r.number (job_seen k row j).tasks ≡ Some (task_in k row j r)
+  found_task : (row : JobRow) (j : ℕ) → slice_get k.jobs (j - 1) ≡ Some row → (r : TaskRow) (h : Has k.tasks r) → r.job ≡ j → keyed (λ (t : Task). t.number) r.number (job_seen k row j).tasks ≡ Some (task_in k row j r)
   found_task row j found r h e =
       subst (λ i. keyed (λ (t : Task). t.number) r.number (job_seen k row i).tasks ≡ Some (task_in k row i r)) e
       (subst (λ (w : JobRow). keyed (λ (t : Task). t.number) r.number (job_seen k w r.job).tasks ≡ Some (task_in k w r.job r)) (one_row row j found r h e) (task_found k facts r h))
 
-  pub parent_job : (r p : TaskRow) → Has k.tasks r → row_in_slot k.tasks r.parent ≡ Some p → (p.job ≡ r.job) × (p.number < r.number)
+  parent_job : (r p : TaskRow) → Has k.tasks r → row_in_slot k.tasks r.parent ≡ Some p → (p.job ≡ r.job) × (p.number < r.number)
   parent_job r p h e = subst (BornBy r) e (row_fact k facts r h).born
 
   -- the tables are sound, as the law on reach asks
@@ -77,8 +77,8 @@ module _ (held : Locations) (k : Sight) (facts : TableFacts k) (stacks : EachTas
   pub mcp_name : (j : ℕ) → j < 9 → frame_seen k.tasks j (record { stack = 136; disp = 0 }) ≡ 0
   mcp_name j few = ap (λ (b : Bool). if b then 1 else 0) (ne_eqb 136 (127 + j) (λ e. omega (arith, e, few)))
 
-  pub short : (r : TaskRow) → Has k.tasks r → stack_words (stack_of_row k r) < 2 ^ 14
-  short r h = (let s = (task_at k facts (StackFactsBy held k) stacks r h).fits.fits in omega (arith, s, small))
+  short : (r : TaskRow) → Has k.tasks r → stack_words (stack_of_row k r) < 2 ^ 14
+  short r h = (let s = (task_at k facts (StackFacts k) stacks r h).fits.fits in omega (arith, s, small))
 
   -- ---- seen places of one stack
 
@@ -91,7 +91,7 @@ module _ (held : Locations) (k : Sight) (facts : TableFacts k) (stacks : EachTas
     by (stack.Entered level environment back) = omega arith
   seen_disp n (a ∷ below) s (inr h) = let (d, e, some, low) = seen_disp n below s h in (d, e, some, omega (arith, low))
 
-  pub from_words : (disp : ℕ) (acts : List Activation) → stack_words (from_disp disp acts) ≤ stack_words acts
+  from_words : (disp : ℕ) (acts : List Activation) → stack_words (from_disp disp acts) ≤ stack_words acts
   from_words disp [] = omega arith
   from_words disp (a ∷ below) = by (stack_words below + 1 == disp) (from_words disp below) where
     by : (b : Bool) → stack_words (from_disp disp below) ≤ stack_words below → stack_words (if b then a ∷ below else from_disp disp below) ≤ stack_words below + stack.size a

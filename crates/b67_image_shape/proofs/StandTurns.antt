@@ -35,7 +35,7 @@ job_at [] i row e = absurd (let z : ⊥ = cc in z)
 job_at (j ∷ more) zero row e = (omega arith, λ d. same_Some (job_row j) row e)
 job_at (j ∷ more) (suc i) row e = let (low, is) = job_at more i row e in (omega (arith, low), is)
 
-pub slot_inside : (stacks slot size peak low all : ℕ) → slot < peak → low ≡ stacks + peak * size → low ≤ all → stacks + slot * size + size ≤ all
+slot_inside : (stacks slot size peak low all : ℕ) → slot < peak → low ≡ stacks + peak * size → low ≤ all → stacks + slot * size + size ≤ all
 slot_inside stacks slot size peak low all s l i = let m = mul_more slot peak size s in omega (arith, l, i, m)
   where
     mul_more : (a b c : ℕ) → a < b → a * c + c ≤ b * c

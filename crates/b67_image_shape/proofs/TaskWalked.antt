@@ -50,7 +50,7 @@ module _ (c : JobConstants) (number : ℕ) (frame : stack.StackPlace → ℕ) (a
   in_returns [] r = tt
   in_returns (a ∷ below) r = (in_return a.head below r.0, in_returns below r.1)
 
-pub segments_long : (core : List Tagged) (at n : ℕ) → length (segments_from core at n) ≡ n
+segments_long : (core : List Tagged) (at n : ℕ) → length (segments_from core at n) ≡ n
 segments_long core at zero = refl
 segments_long core at (suc n) = ap suc (segments_long core (at + 1) n)
 

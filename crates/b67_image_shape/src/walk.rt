@@ -23,7 +23,7 @@ pub fn same(w: Word, v: Word) -> bool
 }
 
 /// What a word says as a data descriptor.
-pub fn desc_in(w: Word) -> DataDesc
+fn desc_in(w: Word) -> DataDesc
     ensures { result ≡ desc_in w }
 {
     DataDesc {
@@ -37,7 +37,7 @@ pub fn desc_in(w: Word) -> DataDesc
 }
 
 /// What a word says as a mark.
-pub fn mscw_in(w: Word) -> Mscw
+fn mscw_in(w: Word) -> Mscw
     ensures { result ≡ mscw_in w }
 {
     Mscw {

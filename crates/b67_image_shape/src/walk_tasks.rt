@@ -19,7 +19,7 @@ use b67_task_tables::{JobRow, Machine, TaskRow};
 use b67_word::{Place, Word};
 
 /// The address of a task's topmost mark.
-pub fn top_mark(machine: &Machine, row: TaskRow) -> u64
+fn top_mark(machine: &Machine, row: TaskRow) -> u64
     ensures value { result ≡ (top_in (sight_of machine.now) (task_row row)).f }
     ensures small { result < 2 ^ 34 }
 {

@@ -11,7 +11,6 @@ use Rattle.b67_model_text.specs.declared.deck.Deck.{Deck}
 use Rattle.b67_model.specs.Program.{Program}
 use Rattle.b67_model.specs.Schedule.{Session}
 use Rattle.b67_task_tables.specs.declared.tables.Machine.{Machine}
-use Rattle.b67_job_admit.specs.Admitting.{Prepared}
 use Rattle.b67_session_open.specs.declared.fault.OpenFault.{OpenFault}
 use Rattle.b67_session_open.specs.declared.fault.OpenFault.TheVariants as faults
 use Rattle.b67_session_open.specs.Decks.{session_of, DeckInRange, IsLoaded}
@@ -20,13 +19,13 @@ use Rattle.b67_layout_storage.specs.Machine.{Says, DeviceAfterCalls, content_aft
 use Rattle.b67_session.proofs.Shaping.{shaped}
 use Rattle.b67_session.specs.Slices.{StandsAt, IsOpen, Keeps, SliceMeets, StepsFit}
 use Rattle.b67_session_lines.specs.Ends.{EndsPrinting}
-use Rattle.b67_job.specs.Device.{Device, device_of}
+use Rattle.b67_job.specs.Device.{device_of}
 use Rattle.b67_job.specs.Lines.{no_core_line, backing_full_line}
 use Rattle.b67_job.specs.declared.summaries.Closing.{Closing}
 use Rattle.b67_job.specs.Texts.{only}
 use Rattle.b67_job.specs.Finishing.{refused_status, refused_line, SessionRan}
-use Rattle.b67_job.specs.Runs.{run_of, memory_refused, opening_wants_core, opening_wants_sectors, opening_fails, WasOpened, unopened, opened, DeckRunEnds, run_stops, step_is_cut, StepsEnd, steps_stop, next_is_cut}
-use Rattle.b67_job.proofs.Opened.{states_in_order, stays_ordered, says_after, stands_opened, stage_of, known_after, known_later}
+use Rattle.b67_job.specs.Runs.{memory_refused, opening_wants_core, opening_wants_sectors, opening_fails, unopened, DeckRunEnds, run_stops}
+use Rattle.b67_job.proofs.Opened.{states_in_order, says_after, stands_opened, stage_of, known_after, known_later}
 use Rattle.b67_job.proofs.Ran.{closes_only, ran}
 use Rattle.b67_job.proofs.Closings.{none_printed}
 
@@ -44,12 +43,6 @@ module _ {K B : Type 0} (taken : K → Option (List ℕ)) (failures : K → ℕ)
       let line : backing_full_line sum count ≡ backing_full_line (sectors_of_all d ps) (size b) = ap (λ n. backing_full_line n count) o.1 ∙ ap (λ n. backing_full_line (sectors_of_all d ps) n) o.2 in
       run_stops 5 _ (unopened refl (opening_wants_sectors o.4 o.0 o.3 refl (ap (λ (x : List ℕ). only (ended x)) line))) (closes_only ends)
   refused b b' faults.BackingFault old new answer o ends = run_stops 6 _ (unopened refl (opening_fails (o.0, o.1) o.2 refl refl)) (closes_only ends)
-
--- a session was opened, and its steps ended so
-deck_ends : {K B : Type 0} {taken : K → Option (List ℕ)} {faults : K → ℕ} {d : Device B} {core : ℕ} {p : Prepared} {closing : Closing} {k : Machine} {old new : K} {answer : ℕ} → WasOpened d core p k
-    → StepsEnd taken faults d core k.tasks.made (run_of p) closing k old new answer → DeckRunEnds taken faults d core p closing (Some k) old new answer
-deck_ends {k = k} opens (steps_stop status text none stops ends) = run_stops status text (opened k refl opens none stops) ends
-deck_ends {k = k} opens (next_is_cut text cut a rose part) = step_is_cut text k.tasks.printed (record { left = k; is = refl; opens = opens; counts = refl; cut = cut }) a rose part
 
 still_told : {B : Type 0} (holds : B → Option (List (List ℕ))) (b b' : B) → Changes holds b b' (λ before after. length after ≡ length before) → holds b ≢ None → holds b' ≢ None
 still_told holds b b' c some none = by_told (holds b) refl
@@ -106,29 +99,24 @@ module _ {K B : Type 0} (taken : K → Option (List ℕ)) (failures : K → ℕ)
       let same = first_calls.size in
       let again = more_calls.size in
       let later = first_calls.faults in
-      let device = device_of holds size broken b b'' in
-      let halt : k.tasks.halt ≡ d.halt = keeps.halt ∙ o.2.halt in
-      deck_ends
+      ran taken failures (device_of holds size broken b b'') core (d, map program_of fs) closing k
       (record {
         room = (o.0, o.1);
         in_order = states_in_order d fs k.tasks.made range loaded;
         fitted = λ told. subst (λ n. StepsFit n k.tasks.made first) o.2.core_size (subst (λ n. StepsFit (length k0.cpu.core) n first) (sym made) (r.slices.its (exact told)).fits);
         core_size = keeps.core ∙ o.2.core_size;
-        halt = halt;
+        halt = keeps.halt ∙ o.2.halt;
         names = keeps.names ∙ o.2.names;
         shaped = shaped (holds b'') k may_go_on;
         goes_on = may_go_on;
         sized = omega (arith, begun_links, links, again, same);
       })
-      (subst (λ n. StepsEnd taken failures device core n (run_of (d, map program_of fs)) closing k old new answer) (sym made)
-      (ran taken failures device core (run_of (d, map program_of fs)) closing k (said ≢ None) exact r.slices.steps r.slices.session r.slices.printed
-      (omega (arith, made)) (stays_ordered r.slices.steps first stands.ordered)
-      (λ i low e. r.slices.below i low (o.2.halt ∙ e ∙ ap Some (let z : i ≡ k0.tasks.made + i = omega (arith, begun) in z)))
-      (λ e. sym halt ∙ e ∙ ap Some made) (λ e. halt ∙ e ∙ ap Some (sym made)) (λ told. (r.slices.its (exact told)).leads)
+      (said ≢ None) exact r.slices.steps r.slices.session r.slices.printed
+      (λ i low e. r.slices.below i low (o.2.halt ∙ e ∙ ap Some (let z : i ≡ k0.tasks.made + i = omega (arith, begun) in z))) made (λ told. (r.slices.its (exact told)).leads)
       r.slices.was_due r.slices.is_due (λ told. (r.slices.its (exact told)).next) k0.tasks.printed o.2.printed
       r.answered old r.between new answer
       (subst (λ n. SliceMeets now (said ≢ None) n (size b) 800000000 r.slices.steps r.slices.session r.slices.is_due r.answered k) o.2.core_size
       (subst (λ n. SliceMeets now (said ≢ None) (length k0.cpu.core) n 800000000 r.slices.steps r.slices.session r.slices.is_due r.answered k) same r.slices.meets))
       r.finishes r.slices.prints (λ other. none_printed r.slices.steps k0 k old r.between o.2.printed (r.slices.texts other))
       (λ e. let rose = r.device_failed e in omega (arith, later, rose))
-      r.printer_failed r.later))
+      r.printer_failed r.later

@@ -6,8 +6,6 @@ pub mod Parts
 pub mod Reached
 pub mod Opened
 pub mod Ran
-pub mod Finished
-pub mod Going
 pub mod Closings
 pub mod Decks
 pub mod Served

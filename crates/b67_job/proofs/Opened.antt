@@ -1,12 +1,12 @@
 -- The session that a deck opens.
-use Rattle.std.proofs.Common.{◌≡◌, ◌≢◌, ◌⊎◌, inl, inr, ℕ, zero, suc, List, [], ◌∷◌, map, refl, sym, ◌∙◌, subst, Option, Some, None}
+use Rattle.std.proofs.Common.{◌≡◌, ◌≢◌, ◌⊎◌, inl, inr, ℕ, List, [], ◌∷◌, map, refl, sym, ◌∙◌, subst, Option, Some, None}
 use Rattle.std.specs.List.{AllByRecursion}
 use Rattle.b67_codefile.specs.declared.file.Codefile.{Codefile}
 use Rattle.b67_codefile.specs.Meaning.{program_of}
 use Rattle.b67_model_text.specs.declared.deck.Deck.{Deck}
-use Rattle.b67_model.specs.Common.{Session, RunLine, StepResult, after, after_from, next, lines, IsInOrderButPlaces}
+use Rattle.b67_model.specs.Common.{Session, RunLine, after, lines, IsInOrderButPlaces}
 use Rattle.b67_law_order.proofs.Opens.{opens_in_order}
-use Rattle.b67_law_order.proofs.RunSessions.{runs_stay_in_order, sessions_stay_in_order_but_places}
+use Rattle.b67_law_order.proofs.RunSessions.{runs_stay_in_order}
 use Rattle.b67_law_sessions.proofs.Makers.{runs_make_their_words}
 use Rattle.b67_law_order.proofs.Sessions.{starts_are_segments}
 use Rattle.b67_layout_storage.specs.Machine.{content_after, Says}
@@ -32,15 +32,6 @@ states_in_order d fs n range loaded = record {
   ordered = λ j low. runs_stay_in_order j d.stack d.quantum (map switch_of d.switches) (openings_of d.jobs (map program_of fs)) (deck_within d fs range loaded);
   made = λ j low m t f. runs_make_their_words j d.stack d.quantum (map switch_of d.switches) (openings_of d.jobs (map program_of fs)) m t f;
 }
-
--- steps keep a session in order but for places
-pub stays_ordered : (n : ℕ) (s : Session) → IsInOrderButPlaces s → IsInOrderButPlaces (after n s)
-stays_ordered zero s o = o
-stays_ordered (suc n) s o = by_next (λ s' o'. stays_ordered n s' o') (next s) refl
-  where
-    by_next : ((s' : Session) → IsInOrderButPlaces s' → IsInOrderButPlaces (after n s')) → (m : Option StepResult) → next s ≡ m → IsInOrderButPlaces (after_from (suc n) s m)
-    by_next rest None e = o
-    by_next rest (Some m) e = rest m.session (sessions_stay_in_order_but_places s m o e)
 
 -- and each job has run apart
 jobs_run_apart : (steps : ℕ) (first : Session) → JobsRunApart steps first (after steps first) (lines steps first)

@@ -1,5 +1,5 @@
 -- The steps of a session and the last line, as the run of its deck.
-use Rattle.std.proofs.Common.{◌≡◌, ◌≢◌, ℕ, ◌*◌, ◌<◌, ◌≤◌, ◌⊎◌, ⊎_elim, inl, inr, List, [], ◌∷◌, ◌++◌, length, take, append-nil, refl, sym, ap, ◌∙◌, subst, arith, Option, Some, None, Result, Ok, Err}
+use Rattle.std.proofs.Common.{◌≡◌, ◌≢◌, ℕ, ◌+◌, ◌*◌, ◌<◌, ◌≤◌, ◌⊎◌, ⊎_elim, inl, inr, List, [], ◌∷◌, ◌++◌, length, take, append-nil, refl, sym, ap, ◌∙◌, subst, arith, Option, Some, None, Result, Ok, Err}
 use Rattle.std.specs.Prelude.{IfSome, sum_by}
 use Rattle.std.proofs.lemmas.Bool.{cases_lt}
 use Rattle.std.proofs.lemmas.Option.{none-some}
@@ -10,9 +10,11 @@ use Rattle.b67_io.specs.Causes.{Rose}
 use Rattle.b67_io.proofs.Joined.{Took-then}
 use Rattle.b67_lemmas.specs.Lists.{Has}
 use Rattle.b67_lemmas.proofs.Members.{all_in, keyed_has}
-use Rattle.b67_model.specs.Common.{Task, SessionJob, need, run_text, Session, IsInOrderButPlaces, IsSegment, JobInOrder, RunLine, StepResult, lines, after, number_of}
+use Rattle.b67_model.specs.Common.{Task, SessionJob, need, run_text, Session, IsSegment, JobInOrder, RunLine, StepResult, lines, after, number_of}
+use Rattle.b67_job_admit.specs.Admitting.{Prepared}
 use Rattle.b67_session.specs.Stops.{Stop}
 use Rattle.b67_session.specs.Stops as stops
+use Rattle.b67_law_order.proofs.Sessions.{starts_are_segments}
 use Rattle.b67_law_sessions.specs.Turns.{IsNext}
 use Rattle.b67_law_sessions.proofs.Limits.{no_last}
 use Rattle.b67_law_sessions.proofs.TurnRuns.{Came}
@@ -24,14 +26,13 @@ use Rattle.b67_session.specs.Slices.{StandsAt, IsLimited, StepsReach, Prints, Sl
 use Rattle.b67_session.proofs.Texts.{run_text-append}
 use Rattle.b67_session.proofs.Tells.{tells_weaker}
 use Rattle.b67_session_lines.specs.Moments.{last_part, due}
-use Rattle.b67_session_lines.specs.Stops.{Run}
 use Rattle.b67_session_lines.specs.Ends.{EndsPrinting, all_printed, cut_off}
 use Rattle.b67_job.specs.Device.{Device, DeviceTells, Failed, known_now}
 use Rattle.b67_job.specs.Lines.{no_core_line, backing_full_line, backing_fault_line, summary, halted_text}
 use Rattle.b67_job.specs.declared.summaries.Closing.{Closing}
 use Rattle.b67_job.specs.Texts.{Text, only, PrintsAndAnswers, all_taken, cut_short}
 use Rattle.b67_job.proofs.Opened.{run_apart_to}
-use Rattle.b67_job.specs.Runs.{text_to, StandsAfter, IsBeforeHalt, IsWithinHalt, StopsInRun, IsCutInStep, IsCutInLimit, all_end, halt_comes, step_wants_core, step_wants_sectors, step_fails, IsPrintingNext, StepsEnd, steps_stop, next_is_cut}
+use Rattle.b67_job.specs.Runs.{run_of, text_to, StandsAfter, IsBeforeHalt, IsWithinHalt, StopsInRun, IsCutInStep, IsCutInLimit, WasOpened, StopsOpened, all_end, halt_comes, step_wants_core, step_wants_sectors, step_fails, opened, DeckRunEnds, run_stops, step_is_cut}
 use Rattle.b67_job.specs.Finishing.{FinishesRun}
 use Rattle.b67_job.proofs.Parts.{over_has_no_last}
 use Rattle.b67_job.proofs.Reached.{came_whole, came_limited, begins_step, ends_step}
@@ -86,7 +87,7 @@ fewer told k s m t stands n =
     omega (arith, counted, shown, sum, few)
 
 -- as many steps as eight jobs may make are no slice of a run
-most_is_no_end : (told : Option (List (List ℕ))) (k : Machine) (s : Session) (m : SessionJob) (t : Task) (steps : ℕ) → steps ≤ k.tasks.made → steps ≡ 800000000 → StandsAt told k s → IsNext s m t → ⊥
+most_is_no_end : (told : Option (List (List ℕ))) (k : Machine) (s : Session) (m : SessionJob) (t : Task) (steps : ℕ) → k.tasks.made ≡ steps → steps ≡ 800000000 → StandsAt told k s → IsNext s m t → ⊥
 most_is_no_end told k s m t steps made all stands n =
     let less = fewer told k s m t stands n in
     omega (arith, less, made, all)
@@ -103,14 +104,13 @@ before_halt (Some count) steps below other =
     let low : steps ≤ count = within (Some count) steps below in
     ⊎_elim (λ (less : steps < count). less) (λ (more : count ≤ steps). let same : count ≡ steps = omega (arith, low, more) in absurd (other (ap Some same))) (cases_lt steps count)
 
--- ---- how a session's steps ended, as a run from it
+-- ---- how a session's steps ended, as the run of its deck
 
-module _ {K B : Type 0} (taken : K → Option (List ℕ)) (faults : K → ℕ) (d : Device B) (core : ℕ) (r : Run) (closing : Closing) (k : Machine)
-    (E : Type 0) (exact : DeviceTells d → E) (steps : ℕ) (s : Session) (printed : List RunLine) (made : steps ≤ k.tasks.made) (ordered : IsInOrderButPlaces (after steps r.session))
-    (below_halt : (j : ℕ) → j < steps → r.halt ≢ Some j) (halted : k.tasks.halt ≡ Some k.tasks.made → r.halt ≡ Some steps) (unhalted : r.halt ≡ Some steps → k.tasks.halt ≡ Some k.tasks.made)
-    (leads : DeviceTells d → StepsReach r.session steps s printed) (was is : List ℕ) (due_is : DeviceTells d → is ≡ due s) (before : ℕ) (begun : before ≡ 0) where
+module _ {K B : Type 0} (taken : K → Option (List ℕ)) (faults : K → ℕ) (d : Device B) (core : ℕ) (p : Prepared) (closing : Closing) (k : Machine) (opens : WasOpened d core p k)
+    (E : Type 0) (exact : DeviceTells d → E) (steps : ℕ) (s : Session) (printed : List RunLine) (below_halt : (j : ℕ) → j < steps → p.0.halt ≢ Some j) (made : k.tasks.made ≡ steps)
+    (leads : DeviceTells d → StepsReach (run_of p).session steps s printed) (was is : List ℕ) (due_is : DeviceTells d → is ≡ due s) (before : ℕ) (begun : before ≡ 0) where
   abbrev first : Session
-  first = r.session
+  first = (run_of p).session
 
   abbrev said : Option (List (List ℕ))
   said = known_now d
@@ -121,27 +121,30 @@ module _ {K B : Type 0} (taken : K → Option (List ℕ)) (faults : K → ℕ) (
   none_due : StandsAt said k s → last_part s ≡ None
   none_due stands = no_last s stands.ordered
 
-  comes_to : last_part s ≡ None → StandsAfter d steps first s printed
+  same_lines : Came first steps s printed → printed ≡ lines k.tasks.made first
+  same_lines c = sym (ap (λ n. lines n first) made ∙ c.lines_are)
+
+  comes_to : last_part s ≡ None → StandsAfter d first k s printed
   comes_to none = record {
-    session = λ tells. sym (came tells none).session;
-    lines_are = λ tells. sym (came tells none).lines_are;
-    apart = λ tells. let c = came tells none in run_apart_to steps first s printed (sym c.session) (sym c.lines_are);
+    session = λ tells. sym (ap (λ n. after n first) made ∙ (came tells none).session);
+    lines_are = λ tells. same_lines (came tells none);
+    apart = λ tells. let c = came tells none in run_apart_to k.tasks.made first s printed (sym (ap (λ n. after n first) made ∙ c.session)) (same_lines c);
   }
 
-  abbrev stops_at : (m : SessionJob) (t : Task) → StandsAt said k s → IsNext s m t → StopsInRun d steps first k
+  abbrev stops_at : (m : SessionJob) (t : Task) → StandsAt said k s → IsNext s m t → StopsInRun d first k
   stops_at m t stands n = record { session = s; printed = printed; comes = comes_to (none_due stands); stands = stands; member = m; task = t; next = n }
 
-  within_halt : IsWithinHalt r steps
-  within_halt = within r.halt steps below_halt
+  within_halt : IsWithinHalt (run_of p) k.tasks.made
+  within_halt = subst (λ n. IsWithinHalt (run_of p) n) (sym made) (within p.0.halt steps below_halt)
 
-  is_due : k.tasks.halt ≢ Some k.tasks.made → IsBeforeHalt r steps
-  is_due other = before_halt r.halt steps below_halt (λ e. other (unhalted e))
+  is_due : k.tasks.halt ≢ Some k.tasks.made → IsBeforeHalt (run_of p) k.tasks.made
+  is_due other = subst (λ n. IsBeforeHalt (run_of p) n) (sym made) (before_halt p.0.halt steps below_halt (λ e. other (opens.halt ∙ e ∙ ap Some (sym made))))
 
   abbrev ending : List ℕ → Text
   ending line = record { front = run_text printed; last = ended line }
 
   -- the printer failed in the text of a step
-  in_step : k.tasks.printed < length is → (b : StopsBefore said 800000000 steps s k) → (E → need core s b.member b.task ≤ core) → IsCutInStep d core steps r k (record { front = run_text printed; last = is })
+  in_step : k.tasks.printed < length is → (b : StopsBefore said 800000000 steps s k) → (E → need core s b.member b.task ≤ core) → IsCutInStep d core (run_of p) k (record { front = run_text printed; last = is })
   in_step proper b room = record {
     stop = stops_at b.member b.task b.stands b.next;
     due = is_due b.halt;
@@ -153,10 +156,10 @@ module _ {K B : Type 0} (taken : K → Option (List ℕ)) (faults : K → ℕ) (
         let c = came tells none in
         let long : length is ≡ length (due s) = ap length (due_is tells) in
         let begins = begins_step first steps s printed c none (omega (arith, proper, long)) in
-        (begins.0, ap (λ (x : List ℕ). (run_text printed ++ x) ++ begins.0) (due_is tells) ∙ begins.1);
+        (begins.0, ap (λ (x : List ℕ). (run_text printed ++ x) ++ begins.0) (due_is tells) ∙ begins.1 ∙ ap (λ n. run_text (lines (n + 1) first)) (sym made));
   }
 
-  in_limit : (rest : StepResult) → IsLimited said k s rest → IsCutInLimit d steps r k (record { front = run_text printed; last = is })
+  in_limit : (rest : StepResult) → IsLimited said k s rest → IsCutInLimit d (run_of p) k (record { front = run_text printed; last = is })
   in_limit rest h = record {
     session = s;
     printed = printed;
@@ -165,12 +168,13 @@ module _ {K B : Type 0} (taken : K → Option (List ℕ)) (faults : K → ℕ) (
     within = within_halt;
     front = refl;
     exact = λ tells.
-        let l = came_limited first steps s printed ordered (λ none. none-some rest (sym none ∙ h.is)) (leads tells) in
+        let order = starts_are_segments (after steps first) (opens.in_order.ordered steps (omega (arith, made))) in
+        let l = came_limited first steps s printed order (λ none. none-some rest (sym none ∙ h.is)) (leads tells) in
         let front : run_text printed ≡ run_text (lines l.before first) ++ run_text l.part.lines = ap run_text (sym l.lines_are) ∙ run_text-append (lines l.before first) l.part.lines in
         let last : is ≡ due l.part.session = due_is tells ∙ ap due (sym l.session) in
         record {
           before = l.before;
-          counted = l.one_more;
+          counted = made ∙ l.one_more;
           part = l.part;
           is_first = l.is_first;
           session = sym l.session;
@@ -179,9 +183,12 @@ module _ {K B : Type 0} (taken : K → Option (List ℕ)) (faults : K → ℕ) (
           all = ap (λ (x : List ℕ). x ++ is) front
               ∙ ap (λ (x : List ℕ). (run_text (lines l.before first) ++ run_text l.part.lines) ++ x) last
               ∙ ends_step first l.before l.part l.is_first (subst (λ (z : Session). last_part z ≢ None) (sym l.session) l.some)
-              ∙ ap (λ n. run_text (lines n first)) (sym l.one_more);
+              ∙ ap (λ n. run_text (lines n first)) (sym (made ∙ l.one_more));
         };
   }
+
+  stopped : {old new : K} {answer status : ℕ} (y : Text) → k.tasks.printed ≡ 0 → StopsOpened d core p closing k status y → PrintsAndAnswers taken faults old new status y answer → DeckRunEnds taken faults d core p closing (Some k) old new answer
+  stopped {status = status} y none stops ends = run_stops status y (opened k refl opens none stops) ends
 
   -- by what the steps answered
   pub ran : (answered : Result Progress Stop) (old between new : K) (answer : ℕ)
@@ -189,23 +196,23 @@ module _ {K B : Type 0} (taken : K → Option (List ℕ)) (faults : K → ℕ) (
       → FinishesRun taken faults closing k answered between new answer
       → Prints taken old between was before printed is k.tasks.printed → (answered ≢ Err stops.PrintFault → k.tasks.printed ≡ 0)
       → (answered ≡ Err stops.BackingFault → Failed d) → (answered ≡ Err stops.PrintFault → Rose faults old between) → faults old ≤ faults between
-      → StepsEnd taken faults d core steps r closing k old new answer
+      → DeckRunEnds taken faults d core p closing (Some k) old new answer
   ran (Ok progress.Ended) old between new answer meets end prints unprinted failed rose later =
       let none = unprinted (λ e. cc) in
-      steps_stop 0 (record { front = run_text printed; last = summary closing k.tasks.made }) none
+      stopped (record { front = run_text printed; last = summary closing k.tasks.made }) none
       (all_end refl (record { session = s; printed = printed; comes = comes_to (over_has_no_last s meets.0.none); within = within_halt; rests = meets.0; ordered = meets.1; text_is = refl }))
       (closes_then (lines_took prints begun none) later end)
   ran (Ok progress.More) old between new answer meets end prints unprinted failed rose later =
       absurd (most_is_no_end said k s meets.2.1.0 meets.2.1.1 steps made meets.0 meets.2.0 meets.2.1.2)
   ran (Ok progress.Halted) old between new answer meets end prints unprinted failed rose later =
       let lives = meets.1.1 in
-      steps_stop 3 (record { front = run_text printed; last = halted_text closing k }) (unprinted (λ e. cc))
-      (halt_comes refl (record { stop = stops_at lives.0 lives.1 meets.1.0 lives.2; halt = halted meets.0; text_is = refl }))
+      stopped (record { front = run_text printed; last = halted_text closing k }) (unprinted (λ e. cc))
+      (halt_comes refl (record { stop = stops_at lives.0 lives.1 meets.1.0 lives.2; halt = sym opens.halt ∙ meets.0; text_is = refl }))
       (closes_then (lines_took prints begun (unprinted (λ e. cc))) later end)
   ran (Err (stops.NoCore words size)) old between new answer meets end prints unprinted failed rose later =
       let b = meets.0 in
       let line : no_core_line words size ≡ no_core_line (need core s b.member b.task) core = ap (λ n. no_core_line n size) meets.1 ∙ ap (λ n. no_core_line (need core s b.member b.task) n) meets.2 in
-      steps_stop 4 (ending (no_core_line words size)) (unprinted (λ e. cc))
+      stopped (ending (no_core_line words size)) (unprinted (λ e. cc))
       (step_wants_core refl (record {
         stop = stops_at b.member b.task b.stands b.next;
         due = is_due b.halt;
@@ -216,7 +223,7 @@ module _ {K B : Type 0} (taken : K → Option (List ℕ)) (faults : K → ℕ) (
   ran (Err (stops.BackingFull sum size)) old between new answer meets end prints unprinted failed rose later =
       let b = meets.0 in
       let line : backing_full_line sum size ≡ backing_full_line sum d.sectors = ap (λ n. backing_full_line sum n) meets.4 in
-      steps_stop 5 (ending (backing_full_line sum size)) (unprinted (λ e. cc))
+      stopped (ending (backing_full_line sum size)) (unprinted (λ e. cc))
       (step_wants_sectors refl (record {
         stop = stops_at b.member b.task b.stands b.next;
         due = is_due b.halt;
@@ -232,7 +239,7 @@ module _ {K B : Type 0} (taken : K → Option (List ℕ)) (faults : K → ℕ) (
       (closes_then (lines_took prints begun (unprinted (λ e. cc))) later end)
   ran (Err stops.BackingFault) old between new answer meets end prints unprinted failed rose later =
       let b = meets.0 in
-      steps_stop 6 (ending backing_fault_line) (unprinted (λ e. cc))
+      stopped (ending backing_fault_line) (unprinted (λ e. cc))
       (step_fails refl (failed refl) (record {
         stop = stops_at b.member b.task b.stands b.next;
         due = is_due b.halt;
@@ -241,12 +248,13 @@ module _ {K B : Type 0} (taken : K → Option (List ℕ)) (faults : K → ℕ) (
       }))
       (closes_then (lines_took prints begun (unprinted (λ e. cc))) later end)
   ran (Err stops.PrintFault) old between new answer meets end prints unprinted failed rose later =
-      next_is_cut (record { front = run_text printed; last = is }) (by_machine meets.1)
+      step_is_cut (record { front = run_text printed; last = is }) k.tasks.printed
+      (record { left = k; is = refl; opens = opens; counts = refl; cut = by_machine meets.1 })
       end.0
       (subst (λ (z : K). Rose faults old z) (sym end.1) (rose refl))
       (record { proper = meets.0; took = subst (λ (z : K). Took taken old z (run_text printed ++ take k.tasks.printed is)) (sym end.1) (front_took prints begun) })
     where
       by_machine : ((b : StopsBefore said 800000000 steps s k) × (E → need core s b.member b.task ≤ core)) ⊎ ((rest : StepResult) × IsLimited said k s rest)
-          → IsPrintingNext d core steps r k (record { front = run_text printed; last = is })
+          → IsCutInStep d core (run_of p) k (record { front = run_text printed; last = is }) ⊎ IsCutInLimit d (run_of p) k (record { front = run_text printed; last = is })
       by_machine (inl h) = inl (in_step meets.0 h.0 h.1)
       by_machine (inr h) = inr (in_limit h.0 h.1)

@@ -36,7 +36,7 @@ use Rattle.b67_job.proofs.Ran.{closes_only}
 use Rattle.b67_job.specs.Command.{command_line_of}
 use Rattle.b67_job.specs.declared.command.CommandLine.{CommandLine}
 use Rattle.b67_job.specs.declared.command.CommandLine.TheVariants as lines
-use Rattle.b67_job.specs.Judgement.{Refused, Runs, judgement, printed, asked, closing_of, reads_text, reads_deck}
+use Rattle.b67_job.specs.Judgement.{Refused, Runs, judgement, printed, asked, closing_of, reads_text}
 use Rattle.b67_job.specs.declared.summaries.Closing.{Closing}
 use Rattle.b67_job.specs.declared.summaries.Closing.TheVariants as closings
 use Rattle.b67_job.specs.Due.{WasGiven, CommandWasRead, ReadAll, ExerciseEnds, exercise_wants_memory, exercise_is_refused, exercise_runs, refusal_due, print_due, run_due, reading_due, memory_due, Answered, answered, cut_in_step, Serves, RunsWhatItReads, RefusalEnds, TextEnds, WritesText, reading_text}
@@ -68,18 +68,16 @@ take_first : (n : ℕ) (text : List ℕ) → take n (take (n + 1) text) ≡ take
 take_first n text = take-take n (n + 1) text (omega arith)
 
 -- a text past the limit is refused as its first bytes are, by a command that reads it
-pub asked_long : (command : CommandLine) (text : List ℕ) → reads_deck command ≡ true → limit < length text → asked command text ≡ Refused (too_long text)
+pub asked_long : (command : CommandLine) (text : List ℕ) → reads_text (Some command) ≡ true → limit < length text → asked command text ≡ Refused (too_long text)
 asked_long (lines.Run core) text r long = judged_long text long
 asked_long (lines.Image core) text r long = judged_long text long
-asked_long lines.Resume text r long = absurd (false≢true r)
-asked_long lines.Dump text r long = absurd (false≢true r)
 asked_long lines.Asm text r long = ap printed (asm_long text long)
 asked_long lines.Check text r long = ap printed (check_long text long)
 asked_long lines.Convert text r long = ap printed (convert_long text long)
 asked_long (lines.Bind pairs) text r long = ap printed (bind_long pairs text long)
 asked_long (lines.Exercise seed size core) text r long = absurd (false≢true r)
 
-asked_alike : (command : CommandLine) (text : List ℕ) → reads_deck command ≡ true → limit < length text → asked command (take (limit + 1) text) ≡ asked command text
+asked_alike : (command : CommandLine) (text : List ℕ) → reads_text (Some command) ≡ true → limit < length text → asked command (take (limit + 1) text) ≡ asked command text
 asked_alike command text r long =
     let l : length (take (limit + 1) text) ≡ min (limit + 1) (length text) = length-take (limit + 1) text in
     let longer : limit < length (take (limit + 1) text) = omega (arith, l, long) in
@@ -88,46 +86,30 @@ asked_alike command text r long =
     ∙ sym (asked_long command text r long)
 
 -- a command that reads has read what was given
-given_read : {S : Type 0} {left : S → Option (List ℕ)} {deck deck' : S} {bytes : List ℕ} (command : CommandLine) → reads_deck command ≡ true → WasGiven left deck deck' bytes → CommandWasRead command left deck deck' bytes
+given_read : {S : Type 0} {left : S → Option (List ℕ)} {deck deck' : S} {bytes : List ℕ} (command : CommandLine) → reads_text (Some command) ≡ true → WasGiven left deck deck' bytes → CommandWasRead command left deck deck' bytes
 given_read (lines.Run core) r given = given
 given_read (lines.Image core) r given = given
-given_read lines.Resume r given = given
-given_read lines.Dump r given = given
 given_read lines.Asm r given = given
 given_read lines.Check r given = given
 given_read lines.Convert r given = given
 given_read (lines.Bind pairs) r given = given
 given_read (lines.Exercise seed size core) r given = absurd (false≢true r)
 
-given_all : {S : Type 0} {left : S → Option (List ℕ)} {deck deck' : S} {bytes : List ℕ} (command : CommandLine) → reads_deck command ≡ true → GaveAll left deck deck' bytes → ReadAll command left deck deck' bytes
+given_all : {S : Type 0} {left : S → Option (List ℕ)} {deck deck' : S} {bytes : List ℕ} (command : CommandLine) → reads_text (Some command) ≡ true → GaveAll left deck deck' bytes → ReadAll command left deck deck' bytes
 given_all (lines.Run core) r given = given
 given_all (lines.Image core) r given = given
-given_all lines.Resume r given = given
-given_all lines.Dump r given = given
 given_all lines.Asm r given = given
 given_all lines.Check r given = given
 given_all lines.Convert r given = given
 given_all (lines.Bind pairs) r given = given
 given_all (lines.Exercise seed size core) r given = absurd (false≢true r)
 
--- which is a command that reads a text
-deck_is_text : (command : CommandLine) → reads_deck command ≡ true → reads_text (Some command) ≡ true
-deck_is_text (lines.Run core) r = refl
-deck_is_text (lines.Image core) r = refl
-deck_is_text lines.Resume r = refl
-deck_is_text lines.Dump r = refl
-deck_is_text lines.Asm r = refl
-deck_is_text lines.Check r = refl
-deck_is_text lines.Convert r = refl
-deck_is_text (lines.Bind pairs) r = refl
-deck_is_text (lines.Exercise seed size core) r = absurd (false≢true r)
-
 -- what was read, and is refused
 abbrev ReadAndRefused : {S : Type 0} → (S → Option (List ℕ)) → S → S → CommandLine → Refusal → Type 0
 ReadAndRefused left deck deck' command r = (bytes : List ℕ) × CommandWasRead command left deck deck' bytes × (asked command bytes ≡ Refused r)
 
 -- first bytes of a source are all that it had, or one more than a deck may have
-was_read : {S : Type 0} {left : S → Option (List ℕ)} {deck deck' : S} {bytes : List ℕ} (command : CommandLine) (r : Refusal) → reads_deck command ≡ true → GaveFirst left (limit + 1) deck deck' bytes → asked command bytes ≡ Refused r
+was_read : {S : Type 0} {left : S → Option (List ℕ)} {deck deck' : S} {bytes : List ℕ} (command : CommandLine) (r : Refusal) → reads_text (Some command) ≡ true → GaveFirst left (limit + 1) deck deck' bytes → asked command bytes ≡ Refused r
     → ReadAndRefused left deck deck' command r
 was_read {left = left} {deck = deck} {deck' = deck'} {bytes = bytes} command r is first refused = by_test (nat_lt limit (length bytes)) refl
   where
@@ -187,12 +169,12 @@ IsUnserved left source_faults deck deck' command admits.SourceFault = Rose sourc
 IsUnserved left source_faults deck deck' command admits.Memory = Unit {0}
 
 module _ {S B K : Type 0} {left : S → Option (List ℕ)} {source_faults : S → ℕ} {deck deck' : S} {taken : K → Option (List ℕ)} {faults : K → ℕ} {old new : K} where
-  unserved : (d : Device B) (command : CommandLine) (fault : AdmitFault) (answer : ℕ) → reads_deck command ≡ true → DeviceUnchanged d → IsUnserved left source_faults deck deck' command fault → RefusalEnds fault taken faults old new answer
+  unserved : (d : Device B) (command : CommandLine) (fault : AdmitFault) (answer : ℕ) → reads_text (Some command) ≡ true → DeviceUnchanged d → IsUnserved left source_faults deck deck' command fault → RefusalEnds fault taken faults old new answer
       → Serves command left source_faults deck deck' d None taken faults old new answer
   unserved d command (admits.Refused r) answer is same h ends = λ words e.
       let read = was_read command r is h.1 h.2 in
       answered 2 (only (refusal_text r)) (refusal_due command read.0 r e read.1 same read.2 refl refl refl) (closes_only ends)
-  unserved d command admits.SourceFault answer is same rose ends = λ words e. answered 7 (only reading_text) (reading_due (ap reads_text e ∙ deck_is_text command is) rose same refl refl refl) (closes_only ends)
+  unserved d command admits.SourceFault answer is same rose ends = λ words e. answered 7 (only reading_text) (reading_due (ap reads_text e ∙ is) rose same refl refl refl) (closes_only ends)
   unserved d command admits.Memory answer is same free ends = λ words e. answered 9 (only memory_text) (memory_due (commanded words command e) same refl refl refl) (closes_only ends)
 
   -- a deck that was loaded, or wasn't
@@ -219,7 +201,7 @@ module _ {S B K : Type 0} {left : S → Option (List ℕ)} {source_faults : S �
       by_fault admits.Memory h = h
 
   -- a text that was made, or wasn't
-  pub served_text : (d : Device B) (command : CommandLine) (verdict : List ℕ → Verdict) (answer : ℕ) → reads_deck command ≡ true → DeviceUnchanged d → ((bytes : List ℕ) → asked command bytes ≡ printed (verdict bytes))
+  pub served_text : (d : Device B) (command : CommandLine) (verdict : List ℕ → Verdict) (answer : ℕ) → reads_text (Some command) ≡ true → DeviceUnchanged d → ((bytes : List ℕ) → asked command bytes ≡ printed (verdict bytes))
       → WritesText verdict left source_faults deck deck' taken faults old new answer → Serves command left source_faults deck deck' d None taken faults old new answer
   served_text d command verdict answer is untouched same h = by_made h.0 h.1 h.2
     where

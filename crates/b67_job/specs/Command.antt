@@ -63,23 +63,12 @@ bind [] = None
 bind (word ∷ more) =
     if bytes_eq word.now (codes "bind") && nat_le 1 (length more) && nat_le (length more) 255 then option_map lines.Bind (pairs_in more) else None
 
--- the path that the words name, where they are `resume` and the one option
-abbrev pub resumed_path : List (Bor (List ℕ)) → Option (List ℕ)
-resumed_path (word ∷ option ∷ path ∷ []) =
-    if bytes_eq word.now (codes "resume") && bytes_eq option.now (codes "--backing") && is_path path.now then Some path.now else None
-resumed_path _ = None
-
--- what the words ask for, where they are so
-abbrev pub resume : List (Bor (List ℕ)) → Option CommandLine
-resume words = option_map (λ path. lines.Resume) (resumed_path words)
-
 -- the commands of one word
 abbrev pub one_word : List (Bor (List ℕ)) → Option CommandLine
 one_word (word ∷ []) =
     if bytes_eq word.now (codes "asm") then Some lines.Asm
     else (if bytes_eq word.now (codes "check") then Some lines.Check
-    else (if bytes_eq word.now (codes "convert") then Some lines.Convert
-    else (if bytes_eq word.now (codes "dump") then Some lines.Dump else None)))
+    else (if bytes_eq word.now (codes "convert") then Some lines.Convert else None))
 one_word _ = None
 
 -- the command that the words are
@@ -87,9 +76,8 @@ abbrev pub command_line_of : List (Bor (List ℕ)) → Option CommandLine
 command_line_of words =
     option_or (one_word words)
     (option_or (option_map (λ r. lines.Run r.core) (request (codes "run") words))
-    (option_or (option_map (λ r. lines.Image r.core) (request (codes "image") words)) (option_or (exercise words) (option_or (resume words) (bind words)))))
+    (option_or (option_map (λ r. lines.Image r.core) (request (codes "image") words)) (option_or (exercise words) (bind words))))
 
 -- the path that the words name
 abbrev pub backing_path : List (Bor (List ℕ)) → Option (List ℕ)
-backing_path words =
-    option_or (option_map (λ r. r.path) (request (codes "run") words)) (option_or (option_map (λ r. r.path) (request (codes "image") words)) (resumed_path words))
+backing_path words = option_or (option_map (λ r. r.path) (request (codes "run") words)) (option_map (λ r. r.path) (request (codes "image") words))

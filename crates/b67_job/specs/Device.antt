@@ -3,8 +3,8 @@ use Rattle.std.specs.Prelude.{◌≡◌, ◌≢◌, ℕ, List, Option, None}
 use Rattle.b67_io.specs.Causes.{Rose, Stayed}
 use Rattle.b67_layout_storage.specs.Machine.{content_after}
 
--- the device before the run and now; what is known of its sectors before, which is what it told, and what it tells now, how many
--- sectors it had and has, and how often it had failed before and has failed now
+-- the device before the run and now; what it told of its sectors before and what it tells now, how many sectors it had and
+-- has, and how often it had failed before and has failed now
 pub record Device (B : Type 0) : Type 0 where
   pub old : B
   pub new : B
@@ -26,10 +26,6 @@ device_of holds size faults old new = record {
   failed_before = faults old;
   failed_now = faults new;
 }
-
--- the same device, of which this is known before
-abbrev pub knowing : {B : Type 0} → Option (List (List ℕ)) → Device B → Device B
-knowing told d = record d { before = told }
 
 -- it told what its sectors hold
 abbrev pub DeviceTells : {B : Type 0} → Device B → Type 0

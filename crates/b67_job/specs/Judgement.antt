@@ -5,20 +5,17 @@ use Rattle.b67_job_admit.specs.Admitting.{Admission, Prepared, deck_prepared}
 use Rattle.b67_job_admit.specs.Verdicts.{Verdict, check_verdict, asm_verdict, convert_verdict, bind_verdict}
 use Rattle.b67_session_lines.specs.Stops.{run_status}
 use Rattle.b67_gen.specs.Generated.{generated_text}
-use Rattle.b67_model_text.specs.Deck as deck
-use Rattle.b67_image.specs.Text as image
 use Rattle.b67_job.specs.Runs.{run_of}
 use Rattle.b67_job.specs.declared.summaries.Closing.{Closing}
 use Rattle.b67_job.specs.declared.summaries.Closing.TheVariants as closings
 use Rattle.b67_job.specs.declared.command.CommandLine.{CommandLine}
 use Rattle.b67_job.specs.declared.command.CommandLine.TheVariants as lines
 
--- a refusal, or a deck with its programs runs, or a text is printed; or an image is read, and what its reading answers decides
+-- a refusal, or a deck with its programs runs, or a text is printed
 pub data Judgement : Type 0 where
   Refused : (refusal : Refusal) → Judgement
   Runs : (prepared : Prepared) → Judgement
   Prints : (text : List ℕ) → Judgement
-  OfImage : Judgement
 
 abbrev pub prepared_judgement : Admission Prepared → Judgement
 prepared_judgement (Ok p) = Runs p
@@ -36,8 +33,6 @@ printed (Err refusal) = Refused refusal
 abbrev pub asked : CommandLine → List ℕ → Judgement
 asked (lines.Run core) text = judgement text
 asked (lines.Image core) text = judgement text
-asked lines.Resume text = OfImage
-asked lines.Dump text = OfImage
 asked lines.Asm text = printed (asm_verdict text)
 asked lines.Check text = printed (check_verdict text)
 asked lines.Convert text = printed (convert_verdict text)
@@ -63,29 +58,7 @@ reads_text None = false
 reads_text (Some (lines.Exercise seed size core)) = false
 reads_text (Some _) = true
 
--- the most bytes that a command may read of its text, where it reads one: those of a deck, or of an image
-abbrev pub text_limit : Option CommandLine → Option ℕ
-text_limit None = None
-text_limit (Some (lines.Exercise seed size core)) = None
-text_limit (Some lines.Resume) = Some image.limit
-text_limit (Some lines.Dump) = Some image.limit
-text_limit (Some _) = Some deck.limit
-
--- the number of sectors of the image that a command reads over a device of so many: the same, or any
-abbrev pub image_sectors : ℕ → CommandLine → Option (Option ℕ)
-image_sectors count lines.Resume = Some (Some count)
-image_sectors count lines.Dump = Some None
-image_sectors count _ = None
-
--- it reads a deck, or cards of one program
-abbrev pub reads_deck : CommandLine → Bool
-reads_deck (lines.Exercise seed size core) = false
-reads_deck lines.Resume = false
-reads_deck lines.Dump = false
-reads_deck _ = true
-
 abbrev pub judged_status : Judgement → ℕ
 judged_status (Refused refusal) = 2
 judged_status (Runs p) = run_status (run_of p)
 judged_status (Prints text) = 0
-judged_status OfImage = 0

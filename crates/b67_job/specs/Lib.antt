@@ -7,7 +7,6 @@ pub mod Runs
 pub mod Finishing
 pub mod Command
 pub mod Seen
-pub mod Going
 pub mod Judgement
 pub mod Due
 pub mod Statuses

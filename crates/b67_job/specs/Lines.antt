@@ -3,7 +3,6 @@ use Rattle.std.specs.Prelude.{ℕ, List, [], ◌++◌, codes, decimal}
 use Rattle.b67_io.specs.Line.{ended}
 use Rattle.b67_task_tables.specs.declared.tables.Machine.{Machine}
 use Rattle.b67_image.specs.Image.{image_text}
-use Rattle.b67_job_admit.specs.Told.{card_text}
 use Rattle.b67_session_lines.specs.Stops.{halted_line}
 use Rattle.b67_job.specs.declared.summaries.Exercise.{Exercise}
 use Rattle.b67_job.specs.declared.summaries.Closing.{Closing}
@@ -23,10 +22,6 @@ memory_line = codes "NO MEMORY"
 
 abbrev pub memory_text : List ℕ
 memory_text = ended memory_line
-
--- the card of an image that is refused, and its reason
-abbrev pub refused_image_line : ℕ → ℕ → List ℕ
-refused_image_line card reason = card_text (codes "IMAGE ") card reason
 
 -- an exercise, and the operators that it made
 abbrev pub exercise_line : Exercise → ℕ → List ℕ

@@ -16,8 +16,6 @@ seen_request r = record { core = r.core; path = r.path.now }
 abbrev pub AreInRange : CommandLine → Type 0
 AreInRange (lines.Run core) = (256 ≤ core) × (core < 2 ^ 20)
 AreInRange (lines.Image core) = (256 ≤ core) × (core < 2 ^ 20)
-AreInRange lines.Resume = Unit {0}
-AreInRange lines.Dump = Unit {0}
 AreInRange lines.Asm = Unit {0}
 AreInRange lines.Check = Unit {0}
 AreInRange lines.Convert = Unit {0}

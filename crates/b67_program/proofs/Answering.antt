@@ -1,7 +1,6 @@
 -- How the parts of the program's call fit.
-use Rattle.std.proofs.Common.{◌≡◌, ◌⊎◌, ℕ, List, [], true, false, Result, Ok, Err, Option, Some, None, refl, sym, subst, ap, ◌∙◌, append-nil, arith}
+use Rattle.std.proofs.Common.{◌≡◌, ◌⊎◌, ℕ, List, [], Bool, true, false, Result, Ok, Err, Option, Some, None, refl, sym, subst, ap, ◌∙◌, append-nil, arith}
 use Rattle.std.proofs.lemmas.Bool.{false≢true}
-use Rattle.std.proofs.lemmas.Option.{none-some}
 use denote.Ref.{Bor}
 use Rattle.b67_io.specs.Causes.{Rose, Stayed}
 use Rattle.b67_io.specs.Free.{free_left, free_told, free_faults}
@@ -11,60 +10,33 @@ use Rattle.b67_model_text.proofs.Answers.{err-ok}
 use Rattle.b67_session_lines.specs.Ends.{EndsPrinting, all_printed, cut_off}
 use Rattle.b67_job.specs.Command.{command_line_of}
 use Rattle.b67_job.specs.declared.command.CommandLine.{CommandLine}
-use Rattle.b67_job.specs.declared.command.CommandLine.TheVariants as lines
 use Rattle.b67_job.specs.Device.{Device}
 use Rattle.b67_job.specs.Due.{Answered, Supplies, IsAmple, reading_text}
-use Rattle.b67_job.specs.Judgement.{asked, judged_status, reads_text, text_limit}
+use Rattle.b67_job.specs.Judgement.{asked, judged_status, reads_text}
 use Rattle.b67_job.specs.Lines.{memory_text}
 use Rattle.b67_job.specs.Statuses.{StatusMeans}
 use Rattle.b67_program.specs.declared.reading.InputFault.{InputFault}
 use Rattle.b67_program.specs.declared.reading.InputFault.TheVariants.{SourceFault, Memory}
 use Rattle.b67_program.specs.Input.{IsTakenIn}
 use Rattle.b67_program.specs.Opening.{Opens}
-use Rattle.b67_program.specs.Served.{IsAnswered, carried_out, reading_failed, text_wants_memory}
+use Rattle.b67_program.specs.Served.{IsCarriedOut, IsAnswered, carried_out, reading_failed, text_wants_memory}
 
--- a command has a limit where it reads a text
-limited : (o : Option CommandLine) (most : ℕ) → text_limit o ≡ Some most → reads_text o ≡ true
-limited None most e = absurd (none-some most e)
-limited (Some (lines.Exercise seed size core)) most e = absurd (none-some most e)
-limited (Some (lines.Run core)) most e = refl
-limited (Some (lines.Image core)) most e = refl
-limited (Some lines.Resume) most e = refl
-limited (Some lines.Dump) most e = refl
-limited (Some lines.Asm) most e = refl
-limited (Some lines.Check) most e = refl
-limited (Some lines.Convert) most e = refl
-limited (Some (lines.Bind pairs)) most e = refl
+pub unread_of : {S : Type 0} (b : Bool) (left : S → Option (List ℕ)) (faults : S → ℕ) (old new : S) (r : Result (List ℕ) InputFault) → IsTakenIn b left faults old new r → b ≡ false → new ≡ old
+unread_of true left faults old new r t e = absurd (false≢true (sym e))
+unread_of false left faults old new r t e = t.0
 
-module _ {S : Type 0} (o : Option CommandLine) (left : S → Option (List ℕ)) (faults : S → ℕ) (old new : S) (limit : Option ℕ) (is : limit ≡ text_limit o) where
-  taken_so : (r : Result (List ℕ) InputFault) → IsTakenIn limit left faults old new r → IsTakenIn (text_limit o) left faults old new r
-  taken_so r t = subst (λ (most : Option ℕ). IsTakenIn most left faults old new r) is t
+pub failed_of : {S : Type 0} (b : Bool) (left : S → Option (List ℕ)) (faults : S → ℕ) (old new : S) → IsTakenIn b left faults old new (Err SourceFault) → (b ≡ true) × Rose faults old new
+failed_of true left faults old new t = (refl, t)
+failed_of false left faults old new t = err-ok SourceFault [] _ t.1
 
-  pub unread_of : (r : Result (List ℕ) InputFault) → IsTakenIn limit left faults old new r → reads_text o ≡ false → new ≡ old
-  unread_of r t none = by_limit (text_limit o) refl (taken_so r t)
-    where
-      by_limit : (most : Option ℕ) → text_limit o ≡ most → IsTakenIn most left faults old new r → new ≡ old
-      by_limit (Some most) e t = absurd (false≢true (sym none ∙ limited o most e))
-      by_limit None e t = t.0
-
-  pub failed_of : IsTakenIn limit left faults old new (Err SourceFault) → (reads_text o ≡ true) × Rose faults old new
-  failed_of t = by_limit (text_limit o) refl (taken_so (Err SourceFault) t)
-    where
-      by_limit : (most : Option ℕ) → text_limit o ≡ most → IsTakenIn most left faults old new (Err SourceFault) → (reads_text o ≡ true) × Rose faults old new
-      by_limit (Some most) e t = (limited o most e, t)
-      by_limit None e t = err-ok SourceFault [] _ t.1
-
-  pub wanted_of : IsTakenIn limit left faults old new (Err Memory) → reads_text o ≡ true
-  wanted_of t = by_limit (text_limit o) refl (taken_so (Err Memory) t)
-    where
-      by_limit : (most : Option ℕ) → text_limit o ≡ most → IsTakenIn most left faults old new (Err Memory) → reads_text o ≡ true
-      by_limit (Some most) e t = limited o most e
-      by_limit None e t = err-ok Memory [] _ t.1
+wanted_of : {S : Type 0} (b : Bool) (left : S → Option (List ℕ)) (faults : S → ℕ) (old new : S) → IsTakenIn b left faults old new (Err Memory) → b ≡ true
+wanted_of true left faults old new t = refl
+wanted_of false left faults old new t = err-ok Memory [] _ t.1
 
 module _ {S B K : Type 0} {words : List (Bor (List ℕ))} {left : S → Option (List ℕ)} {source_faults : S → ℕ} {input input' : S} {d : Device B}
     {taken : K → Option (List ℕ)} {faults : K → ℕ} {old new : K} {answer : ℕ} where
   -- the command was carried out over what was read
-  pub carried : (limit : Option ℕ) (bytes : List ℕ) (deck deck' : FreeTape) (machine : Option Machine) → limit ≡ text_limit (command_line_of words) → IsTakenIn limit left source_faults input input' (Ok bytes)
+  pub carried : (b : Bool) (bytes : List ℕ) (deck deck' : FreeTape) (machine : Option Machine) → b ≡ reads_text (command_line_of words) → IsTakenIn b left source_faults input input' (Ok bytes)
       → free_left deck ≡ bytes → Answered words free_told free_faults deck deck' d machine taken faults old new answer
       → StatusMeans words free_told free_faults deck deck' d machine taken faults old new answer
       → ((command : CommandLine) → (text : List ℕ) → command_line_of words ≡ Some command
@@ -72,9 +44,9 @@ module _ {S B K : Type 0} {words : List (Bor (List ℕ))} {left : S → Option (
       → Stayed faults old new → Stayed (λ (count : ℕ). count) d.failed_before d.failed_now
       → (answer ≡ judged_status (asked command text)) ⊎ (answer ≡ 9))
       → IsAnswered words left source_faults input input' d taken faults old new answer
-  carried limit bytes deck deck' machine is t holds due means complete = carried_out (record {
+  carried b bytes deck deck' machine is t holds due means complete = carried_out (record {
     bytes = bytes;
-    given = subst (λ (most : Option ℕ). IsTakenIn most left source_faults input input' (Ok bytes)) is t;
+    given = subst (λ (b : Bool). IsTakenIn b left source_faults input input' (Ok bytes)) is t;
     deck = deck;
     deck_after = deck';
     holds = holds;
@@ -85,14 +57,15 @@ module _ {S B K : Type 0} {words : List (Bor (List ℕ))} {left : S → Option (
   })
 
   -- a read failed
-  pub failed : (limit : Option ℕ) → limit ≡ text_limit (command_line_of words) → IsTakenIn limit left source_faults input input' (Err SourceFault) → EndsPrinting taken faults old new 7 reading_text answer
+  pub failed : (b : Bool) → b ≡ reads_text (command_line_of words) → IsTakenIn b left source_faults input input' (Err SourceFault) → EndsPrinting taken faults old new 7 reading_text answer
       → IsAnswered words left source_faults input input' d taken faults old new answer
-  failed limit is t ends = let f = failed_of (command_line_of words) left source_faults input input' limit is t in reading_failed f.0 f.1 ends
+  failed b is t ends = let f = failed_of (reads_text (command_line_of words)) left source_faults input input' (subst (λ (b : Bool). IsTakenIn b left source_faults input input' (Err SourceFault)) is t) in
+      reading_failed f.0 f.1 ends
 
   -- memory was refused
-  pub wanted : (limit : Option ℕ) → limit ≡ text_limit (command_line_of words) → IsTakenIn limit left source_faults input input' (Err Memory) → EndsPrinting taken faults old new 9 memory_text answer
+  pub wanted : (b : Bool) → b ≡ reads_text (command_line_of words) → IsTakenIn b left source_faults input input' (Err Memory) → EndsPrinting taken faults old new 9 memory_text answer
       → IsAnswered words left source_faults input input' d taken faults old new answer
-  wanted limit is t ends = text_wants_memory (wanted_of (command_line_of words) left source_faults input input' limit is t) ends
+  wanted b is t ends = text_wants_memory (wanted_of (reads_text (command_line_of words)) left source_faults input input' (subst (λ (b : Bool). IsTakenIn b left source_faults input input' (Err Memory)) is t)) ends
 
   -- only a failed read has status 7: the tape in memory can't fail
   pub seven : IsAnswered words left source_faults input input' d taken faults old new answer → answer ≡ 7 → Rose source_faults input input'

@@ -1,7 +1,8 @@
 -- What is read into memory before a command is carried out.
-use Rattle.std.specs.Prelude.{◌≡◌, ◌≤◌, ◌+◌, ℕ, List, [], length, Option, Some, None, Result, Ok, Err}
+use Rattle.std.specs.Prelude.{◌≡◌, ◌≤◌, ◌+◌, ℕ, List, [], length, Option, Bool, true, false, Result, Ok, Err}
 use Rattle.b67_io.specs.Causes.{Rose}
 use Rattle.b67_io.specs.Told.{Gave, IsAtEnd}
+use Rattle.b67_model_text.specs.Deck.{limit}
 use Rattle.b67_program.specs.declared.reading.InputFault.{InputFault}
 use Rattle.b67_program.specs.declared.reading.InputFault.TheVariants.{SourceFault, Memory}
 
@@ -17,7 +18,11 @@ IsInputUpTo most left faults old new (Ok bytes) = WasReadUpTo most left old new 
 IsInputUpTo most left faults old new (Err SourceFault) = Rose faults old new
 IsInputUpTo most left faults old new (Err Memory) = Unit {0}
 
--- the same where a text is read; where none is, the source is left as it was, and there are no bytes
-abbrev pub IsTakenIn : {S : Type 0} → Option ℕ → (S → Option (List ℕ)) → (S → ℕ) → S → S → Result (List ℕ) InputFault → Type 0
-IsTakenIn (Some most) left faults old new result = IsInputUpTo most left faults old new result
-IsTakenIn None left faults old new result = (new ≡ old) × (result ≡ Ok [])
+-- the same of a text, of which a command reads so many bytes
+abbrev pub IsInput : {S : Type 0} → (S → Option (List ℕ)) → (S → ℕ) → S → S → Result (List ℕ) InputFault → Type 0
+IsInput left faults old new result = IsInputUpTo limit left faults old new result
+
+-- the same where a command reads a text; where it reads none the source is left as it was, and there are no bytes
+abbrev pub IsTakenIn : {S : Type 0} → Bool → (S → Option (List ℕ)) → (S → ℕ) → S → S → Result (List ℕ) InputFault → Type 0
+IsTakenIn true left faults old new result = IsInput left faults old new result
+IsTakenIn false left faults old new result = (new ≡ old) × (result ≡ Ok [])

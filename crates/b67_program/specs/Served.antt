@@ -13,7 +13,7 @@ use Rattle.b67_job.specs.Command.{command_line_of, backing_path}
 use Rattle.b67_job.specs.declared.command.CommandLine.{CommandLine}
 use Rattle.b67_job.specs.Device.{Device, device_of}
 use Rattle.b67_job.specs.Due.{Answered, Supplies, IsAmple, reading_text}
-use Rattle.b67_job.specs.Judgement.{asked, judged_status, reads_text, text_limit}
+use Rattle.b67_job.specs.Judgement.{asked, judged_status, reads_text}
 use Rattle.b67_job.specs.Lines.{memory_text}
 use Rattle.b67_job.specs.Statuses.{StatusMeans}
 use Rattle.b67_program.specs.Input.{IsTakenIn}
@@ -23,7 +23,7 @@ use Rattle.b67_program.specs.Input.{IsTakenIn}
 pub record IsCarriedOut {S B K : Type 0} (words : List (Bor (List ℕ))) (left : S → Option (List ℕ)) (source_faults : S → ℕ) (input input' : S) (d : Device B)
     (taken : K → Option (List ℕ)) (faults : K → ℕ) (old new : K) (status : ℕ) : Type 0 where
   pub bytes : List ℕ
-  pub given : IsTakenIn (text_limit (command_line_of words)) left source_faults input input' (Ok bytes)
+  pub given : IsTakenIn (reads_text (command_line_of words)) left source_faults input input' (Ok bytes)
   pub deck : FreeTape
   pub deck_after : FreeTape
   pub holds : free_left deck ≡ bytes

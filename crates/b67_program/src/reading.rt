@@ -1,11 +1,13 @@
-//! The bytes of a text, read into memory.
-
+// The bytes of a deck, read into memory.
 ghost use Rattle.std.specs.Prelude.{◌≤◌, ◌<◌, ◌^◌};
-ghost use Rattle.b67_program.specs.Input.{IsInputUpTo};
+ghost use Rattle.b67_program.specs.Input.{IsInput, IsInputUpTo};
 
 use b67_io::Source;
 use b67_word::Bytes;
 use std::alloc::Global;
+
+/// A deck has at most so many bytes.
+const LIMIT: usize = 4_194_304;
 
 /// How many bytes are asked for at once.
 pub(crate) const PIECE: usize = 4096;
@@ -19,12 +21,8 @@ pub enum InputFault {
     Memory,
 }
 
-/// Reads a source into memory: to its end, or up to the first byte past a limit. The first read that fails ends it.
-pub fn read_input<S: Source>(
-    alloc: Global,
-    source: &mut S,
-    limit: usize,
-) -> Result<Bytes, InputFault>
+/// Reads a source into memory: to its end, or up to the first byte past a limit.
+fn read_up_to<S: Source>(alloc: Global, source: &mut S, limit: usize) -> Result<Bytes, InputFault>
     requires { limit < 2 ^ 31 }
     ensures answer { IsInputUpTo limit S.left S.faults source.old source.new result }
     ensures later { S.faults source.old ≤ S.faults source.new }
@@ -43,4 +41,13 @@ pub fn read_input<S: Source>(
         }
     }
     Ok(bytes)
+}
+
+/// Reads a source into memory: to its end, or up to the first byte past the limit of a deck, 4,194,304 bytes. The first read
+/// that fails ends it.
+pub fn read_input<S: Source>(alloc: Global, source: &mut S) -> Result<Bytes, InputFault>
+    ensures answer { IsInput S.left S.faults source.old source.new result }
+    ensures later { S.faults source.old ≤ S.faults source.new }
+{
+    read_up_to(alloc, source, LIMIT)
 }

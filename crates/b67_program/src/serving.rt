@@ -1,13 +1,13 @@
 //! The call that the program makes.
 
-ghost use Rattle.std.specs.Prelude.{◌≡◌, ◌<◌, ◌^◌, false, IfOk, IfSome};
+ghost use Rattle.std.specs.Prelude.{◌≡◌, false, IfOk};
 ghost use Rattle.b67_io.specs.Causes.{Rose};
 ghost use Rattle.b67_backing.specs.Memory.{memory_sectors};
 ghost use Rattle.b67_backing.specs.Held.{blank};
 ghost use Rattle.b67_job.specs.Command.{command_line_of, backing_path};
 ghost use Rattle.b67_job.specs.Device.{device_of};
 ghost use Rattle.b67_job.specs.Due.{reading_text};
-ghost use Rattle.b67_job.specs.Judgement.{reads_text, text_limit};
+ghost use Rattle.b67_job.specs.Judgement.{reads_text};
 ghost use Rattle.b67_session_lines.specs.Ends.{EndsPrinting};
 ghost use Rattle.b67_program.specs.Opening.{Opens, paths_of};
 ghost use Rattle.b67_program.specs.Input.{IsTakenIn};
@@ -25,39 +25,25 @@ use std::alloc::{AllocError, Global};
 /// How many sectors a run has whose words name no file.
 const SECTORS: u32 = 4096;
 
-/// A deck has at most so many bytes, and so has the text of a program.
-const DECK_LIMIT: usize = 4_194_304;
-
-/// An image has at most so many bytes.
-const IMAGE_LIMIT: usize = 67_108_864;
-
-// How many bytes of a text the command of the words may read, where it reads one.
-fn text_limit(words: &[&str]) -> Option<usize>
-    ensures limit { result ≡ text_limit (command_line_of words.now) }
-    ensures small { IfSome result (λ most. most < 2 ^ 31) }
+// Whether the words ask for a command that reads a text.
+fn reads(words: &[&str]) -> bool
+    ensures { result ≡ reads_text (command_line_of words.now) }
 {
     match command_of(words) {
-        None => None,
-        Some(CommandLine::Exercise { .. }) => None,
-        Some(CommandLine::Resume) => Some(IMAGE_LIMIT),
-        Some(CommandLine::Dump) => Some(IMAGE_LIMIT),
-        Some(_) => Some(DECK_LIMIT),
+        None => false,
+        Some(CommandLine::Exercise { .. }) => false,
+        Some(_) => true,
     }
 }
 
 // The bytes of the text, or none if none is read.
-fn take_in<S: Source>(
-    alloc: Global,
-    limit: Option<usize>,
-    input: &mut S,
-) -> Result<Bytes, InputFault>
-    requires { IfSome limit (λ most. most < 2 ^ 31) }
-    ensures { IsTakenIn limit S.left S.faults input.old input.new result }
+fn take_in<S: Source>(alloc: Global, reads: bool, input: &mut S) -> Result<Bytes, InputFault>
+    ensures { IsTakenIn reads S.left S.faults input.old input.new result }
 {
-    match limit {
-        Some(limit) => read_input(alloc, input, limit),
-        None => Ok(Bytes::new(alloc)),
+    if !reads {
+        return Ok(Bytes::new(alloc));
     }
+    read_input(alloc, input)
 }
 
 fn say_reading_fault<K: Sink>(printer: &mut K) -> u8
@@ -79,7 +65,7 @@ fn answer<S: Source, K: Sink, B: Backing>(
     ensures unread { reads_text (command_line_of words.now) ≡ false → input.new ≡ input.old }
     ensures reading { result ≡ 7 → Rose S.faults input.old input.new }
 {
-    match take_in(alloc, text_limit(words), input) {
+    match take_in(alloc, reads(words), input) {
         Ok(bytes) => {
             let mut deck = FreeTape::new(bytes, PIECE);
             run(alloc, words, &mut deck, printer, backing).status
@@ -97,7 +83,7 @@ fn memory_backing(alloc: Global) -> Result<MemoryBacking, AllocError>
 }
 
 /// Carries out the command that the words are, and answers the program's exit status. The text that the command reads is read
-/// into memory first, to the first byte past the limit of a deck, or of an image, at most. The command runs over the file of the words' path; where
+/// into memory first, to the first byte past a deck's limit at most. The command runs over the file of the words' path; where
 /// they name none, over 4,096 sectors of zeros in memory.
 ///
 /// The status is that of `run`. A read that fails ends the call with `READING FAULT` and status 7, refused memory with `NO

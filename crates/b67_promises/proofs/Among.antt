@@ -1,6 +1,6 @@
 -- A printed image is read among other lines.
-use Rattle.std.proofs.Common.{◌≡◌, ℕ, zero, suc, ◌+◌, ◌-◌, ◌≤◌, Bool, true, false, cond, not, List, [], ◌∷◌, ◌++◌, length, take, map, Option, Result, Ok, refl, sym, ap, subst, ◌∙◌, append_assoc, append-nil}
-use Rattle.std.specs.Prelude.{filter, nat_lt, slice_index, ◌==◌}
+use Rattle.std.proofs.Common.{◌≡◌, ◌≢◌, ℕ, zero, suc, ◌+◌, ◌-◌, ◌≤◌, Bool, true, false, cond, not, List, [], ◌∷◌, ◌++◌, length, take, map, None, Result, Ok, Err, refl, sym, ap, subst, ◌∙◌, append_assoc, append-nil}
+use Rattle.std.specs.Prelude.{filter, nat_lt, slice_index, ◌==◌, ⊤}
 use Rattle.std.specs.List.{slice_split, enumerate_from, onto_first, flat_map, suffix_len, AllByRecursion}
 use Rattle.std.specs.Str.{bytes_eq}
 use Rattle.std.specs.Str.Lines.{lines, lines_of_parts, strip_carriage_return}
@@ -86,7 +86,7 @@ abbrev cards_at : ℕ → List (List ℕ) → List Card
 cards_at n ls = filter (λ (c : Card). not (is_empty c.text)) (map card_of (enumerate_from n ls))
 
 -- an image with these bytes is found among cards
-abbrev pub Finds : List ℕ → ℕ → List Card → Type 0
+abbrev Finds : List ℕ → ℕ → List Card → Type 0
 Finds bytes last cs = (f : ℕ × List Card) × (found_from last cs ≡ Ok f) × (bytes_from f.0 f.1 ≡ Ok bytes)
 
 abbrev numbered : ℕ → List ℕ → Card
@@ -140,7 +140,7 @@ found_again (l ∷ ls) more n m last last' bytes h = by_empty (λ a b f. found_a
 
 -- ---- an image with a text behind it
 
-pub found_image : (bytes tail : List ℕ) → AllByRecursion IsByte bytes → (k last : ℕ) → Finds bytes last (cards_from k (image_text_of bytes ++ tail))
+found_image : (bytes tail : List ℕ) → AllByRecursion IsByte bytes → (k last : ℕ) → Finds bytes last (cards_from k (image_text_of bytes ++ tail))
 found_image bytes tail all k last =
     let z : List ℕ = ended first_card ++ (card_lines bytes ++ last_card) in
     let one : image_text_of bytes ≡ z ++ 10 ∷ [] =
@@ -176,7 +176,7 @@ not_first : (t : List ℕ) → HasNoMark t → bytes_eq t first_card ≡ false
 not_first [] p = refl
 not_first (x ∷ t) p = rw (ne_eqb x 63 p.0.1) refl
 
-pub found_behind : (ts : List (List ℕ)) (rest bytes : List ℕ) → AllByRecursion HasNoMark ts → ((k last : ℕ) → Finds bytes last (cards_from k rest)) → (n last : ℕ) → Finds bytes last (cards_from n (flat_map ended ts ++ rest))
+found_behind : (ts : List (List ℕ)) (rest bytes : List ℕ) → AllByRecursion HasNoMark ts → ((k last : ℕ) → Finds bytes last (cards_from k rest)) → (n last : ℕ) → Finds bytes last (cards_from n (flat_map ended ts ++ rest))
 unfolding found_from
 found_behind [] rest bytes all h n last = h n last
 found_behind (t ∷ ts) rest bytes all h n last =
@@ -200,19 +200,12 @@ found_behind (t ∷ ts) rest bytes all h n last =
 few_enough : (text : List ℕ) → length text ≤ limit → within_image_limit text ≡ Ok tt
 few_enough text le = let short : nat_lt limit (length text) ≡ false = le-ltb limit (length text) le in rw short refl
 
-told_by : (sectors : Option ℕ) (text bytes : List ℕ) (p : ImageParts) (f : ℕ × List Card) → within_image_limit text ≡ Ok tt → found_from 0 (cards text) ≡ Ok f → bytes_from f.0 f.1 ≡ Ok bytes → parts_told sectors bytes ≡ Ok p
-    → told_in sectors text ≡ Ok (f.0, p)
-told_by sectors text bytes p f w e g h = rw (w, e, g, h) refl
+told_by : (text bytes : List ℕ) (p : ImageParts) (f : ℕ × List Card) → within_image_limit text ≡ Ok tt → found_from 0 (cards text) ≡ Ok f → bytes_from f.0 f.1 ≡ Ok bytes → parts_told None bytes ≡ Ok p → told_in None text ≡ Ok (f.0, p)
+told_by text bytes p f w e g h = rw (w, e, g, h) refl
 
-pub bytes_among : (ts : List (List ℕ)) (tail bytes : List ℕ) → AllByRecursion HasNoMark ts → AllByRecursion IsByte bytes
-    → (card : ℕ) × (bytes_of (flat_map ended ts ++ (image_text_of bytes ++ tail)) ≡ Ok (card, bytes))
-bytes_among ts tail bytes other all =
-    let f = found_behind ts (image_text_of bytes ++ tail) bytes other (found_image bytes tail all) 1 0 in
-    (f.0.0, rw (f.1, f.2) refl)
-
-pub told_among : (sectors : Option ℕ) (ts : List (List ℕ)) (tail bytes : List ℕ) (p : ImageParts) → AllByRecursion HasNoMark ts → AllByRecursion IsByte bytes → parts_told sectors bytes ≡ Ok p
-    → length (flat_map ended ts ++ (image_text_of bytes ++ tail)) ≤ limit → (card : ℕ) × (told_in sectors (flat_map ended ts ++ (image_text_of bytes ++ tail)) ≡ Ok (card, p))
-told_among sectors ts tail bytes p other all told few =
+pub told_among : (ts : List (List ℕ)) (tail bytes : List ℕ) (p : ImageParts) → AllByRecursion HasNoMark ts → AllByRecursion IsByte bytes → parts_told None bytes ≡ Ok p
+    → length (flat_map ended ts ++ (image_text_of bytes ++ tail)) ≤ limit → (card : ℕ) × (told_in None (flat_map ended ts ++ (image_text_of bytes ++ tail)) ≡ Ok (card, p))
+told_among ts tail bytes p other all told few =
     let text : List ℕ = flat_map ended ts ++ (image_text_of bytes ++ tail) in
     let f = found_behind ts (image_text_of bytes ++ tail) bytes other (found_image bytes tail all) 1 0 in
-    (f.0.0, told_by sectors text bytes p f.0 (few_enough text few) f.1 f.2 told)
+    (f.0.0, told_by text bytes p f.0 (few_enough text few) f.1 f.2 told)

@@ -10,16 +10,15 @@ use Rattle.b67_job_admit.specs.declared.refusal.Refusal.{Refusal}
 use Rattle.b67_job_admit.specs.Admitting.{Prepared}
 use Rattle.b67_session_lines.specs.Stops.{Run, live_after, halted_line, IsFinished, IsHalted, halted}
 use Rattle.b67_session_lines.proofs.Statuses.{finished-status, halted-status, stops-once}
-use Rattle.b67_job.specs.declared.command.CommandLine.TheVariants as commands
 use Rattle.b67_job.specs.declared.summaries.Exercise.{Exercise}
 use Rattle.b67_job.specs.declared.summaries.Closing.{Closing}
 use Rattle.b67_job.specs.Device.{Device, DeviceTells}
 use Rattle.b67_job.specs.Lines.{memory_line, backing_fault_line, summary, halted_text}
 use Rattle.b67_job.specs.Texts.{Text, whole_of, only, PrintsAndAnswers, all_taken, cut_short}
-use Rattle.b67_job.specs.Runs.{run_of, StandsAfter, IsWithinHalt, memory_refused, opening_wants_core, opening_wants_sectors, opening_fails, all_end, halt_comes, step_wants_core, step_wants_sectors, step_fails, RunStops, unopened, opened, IsPrintingNext, IsPrintingStep}
-use Rattle.b67_job.specs.Judgement.{Judgement, Refused, Runs, Prints, OfImage}
-use Rattle.b67_job.specs.Due.{IsDue, usage_due, refusal_due, print_due, image_due, dump_due, run_due, reading_due, memory_due, Answered, answered, cut_in_step, goes_on, usage_text, reading_text}
-use Rattle.b67_job.proofs.Finished.{is_halted}
+use Rattle.b67_job.specs.Runs.{run_of, StandsAfter, IsWithinHalt, memory_refused, opening_wants_core, opening_wants_sectors, opening_fails, all_end, halt_comes, step_wants_core, step_wants_sectors, step_fails, RunStops, unopened, opened, IsCutInStep, IsCutInLimit, IsPrintingStep}
+use Rattle.b67_job.specs.Judgement.{Judgement, Refused, Runs, Prints}
+use Rattle.b67_job.specs.Due.{IsDue, usage_due, refusal_due, print_due, run_due, reading_due, memory_due, Answered, answered, cut_in_step, usage_text, reading_text}
+use Rattle.b67_job.proofs.Status.{is_halted}
 use Rattle.b67_promises.specs.Paging.{IsWhole, IsOneLine, IsCutFrom}
 use Rattle.b67_promises.proofs.OneLines.{none_is_one, taken_is_one, halted_is_one, no_core_is_one, backing_full_is_one, backing_fault_is_one, memory_is_one, usage_is_one, reading_is_one, summary_is_one, refusal_is_one}
 use Rattle.b67_promises.proofs.Steps.{Begins, begins_then, begins_more, begins_over, same_session}
@@ -158,7 +157,7 @@ module _ {B : Type 0} (d : Device B) (tells : DeviceTells d) (core : ℕ) (p : P
   abbrev of_deck : Run
   of_deck = run_of p
 
-  stepped : (k : Machine) (s : Session) (printed : List RunLine) (text : Text) (line : List ℕ) → StandsAfter d k.tasks.made of_deck.session s printed → IsWithinHalt of_deck k.tasks.made → IsOneLine line
+  stepped : (k : Machine) (s : Session) (printed : List RunLine) (text : Text) (line : List ℕ) → StandsAfter d of_deck.session k s printed → IsWithinHalt of_deck k.tasks.made → IsOneLine line
       → text ≡ record { front = run_text printed; last = line } → TextShape of_deck text
   stepped k s printed text line comes within one is = subst (λ (x : Text). TextShape of_deck x) (sym is) (record {
     steps = k.tasks.made;
@@ -195,7 +194,7 @@ module _ {B : Type 0} (d : Device B) (tells : DeviceTells d) (core : ℕ) (p : P
           (ap whole_of h.text_is ∙ ap (λ (ls : List RunLine). run_text ls ++ summary (closing_by e) k.tasks.made) (h.comes.lines_are tells))
       by_stop (opened k is opens none (halt_comes s h)) shape =
           halt_came s (subst (λ (x : List ℕ). IsHalted of_deck (text.front ++ x)) (sym (ap (λ (x : Text). x.last) h.text_is ∙ halted_alone e k))
-          (is_halted d k.tasks.made of_deck (closing_by e) k text h tells))
+          (is_halted d p (closing_by e) k text h tells))
       by_stop (opened k is opens none (step_wants_core s h)) shape = fell_short (short_at status 4 s (inl (omega arith))) shape
       by_stop (opened k is opens none (step_wants_sectors s h)) shape = fell_short (short_at status 5 s (inl (omega arith))) shape
       by_stop (opened k is opens none (step_fails s failed h)) shape = fell_short (short_at status 6 s (inl (omega arith))) shape
@@ -217,7 +216,7 @@ module _ {B : Type 0} (d : Device B) (tells : DeviceTells d) (core : ℕ) (p : P
   printing_shape : (machine : Option Machine) (text : Text) (count : ℕ) → IsPrintingStep d core p machine text count → Shape of_deck (text.front ++ take count text.last)
   printing_shape machine text count h = by_cut h.cut
     where
-      by_cut : IsPrintingNext d core h.left.tasks.made of_deck h.left text → Shape of_deck (text.front ++ take count text.last)
+      by_cut : IsCutInStep d core of_deck h.left text ⊎ IsCutInLimit d of_deck h.left text → Shape of_deck (text.front ++ take count text.last)
       by_cut (inl c) = let b = c.begins tells in part_shape text count (h.left.tasks.made + 1) (within_next of_deck.halt h.left.tasks.made c.due) (b.0, sym b.1)
       by_cut (inr c) = part_shape text count h.left.tasks.made c.within ([], sym (c.exact tells).all ∙ sym (append-nil (whole_of text)))
 
@@ -233,7 +232,6 @@ abbrev pub prepared_in : Prepared → Judgement → Prepared
 prepared_in other (Refused refusal) = other
 prepared_in other (Runs p) = p
 prepared_in other (Prints text) = other
-prepared_in other OfImage = other
 
 pub not_refused : (j : Judgement) (p : Prepared) → j ≡ Runs p → (refusal : Refusal) → j ≡ Refused refusal → ⊥
 not_refused j p is refusal refused = let both : Runs p ≡ Refused refusal = sym is ∙ refused in cc
@@ -268,8 +266,6 @@ module _ {K : Type 0} (taken : K → Option (List ℕ)) (faults : K → ℕ) (ol
     by_due status text answer (usage_due c g same m s t) closes = short_call status text answer (short_at status 1 s (inr (omega arith, omega arith))) (λ r. lone r text usage_text usage_is_one t) closes
     by_due status text answer (refusal_due command b refusal c r same judged m s t) closes = short_call status text answer (short_at status 2 s (inr (omega arith, omega arith))) (λ r. lone r text _ (refusal_is_one refusal) t) closes
     by_due status text answer (print_due command b printed c r same judged m s t) closes = absurd (asks.no_text command b printed c judged)
-    by_due status text answer (image_due command sectors card reason c wanted r same m s t) closes = absurd (asks.no_image d.sectors command sectors c wanted)
-    by_due status text answer (dump_due image dump o same m s t) closes = absurd (asks.no_image d.sectors commands.Dump None o.is refl)
     by_due status text answer (run_due core p run stops) closes =
         let same = subst (λ (x : Closing). RunStops d core p x machine status text) (asks.closing_is core p run) stops in
         run_call p status text answer (asks.judged core p run) (stop_prints d tells core p e machine status text same) (stop_shape d tells core p e machine status text same) closes
@@ -284,4 +280,3 @@ module _ {K : Type 0} (taken : K → Option (List ℕ)) (faults : K → ℕ) (ol
       with_deck j e answer (text.front ++ take count text.last) p (asks.judged core p run)
           (fell_short (short_at answer 8 a (inl (omega arith))) (printing_shape d tells core p machine text count printing)),
     )
-    call_prints answer (goes_on g) = absurd (asks.no_image d.sectors commands.Resume (Some d.sectors) g.of.is refl)

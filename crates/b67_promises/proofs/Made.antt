@@ -15,12 +15,12 @@ use Rattle.b67_job.specs.Command.{command_line_of}
 use Rattle.b67_job.specs.Device.{Device}
 use Rattle.b67_job.specs.Texts.{Text, whole_of, only, PrintsAndAnswers, all_taken, cut_short}
 use Rattle.b67_job.specs.Runs.{run_of}
-use Rattle.b67_job.specs.Judgement.{Judgement, Refused, Runs, Prints, OfImage, judgement, printed, asked, core_asked, image_sectors}
-use Rattle.b67_job.specs.Due.{ReadAll, IsDue, usage_due, refusal_due, print_due, image_due, dump_due, run_due, reading_due, memory_due, Answered, answered, cut_in_step, goes_on}
+use Rattle.b67_job.specs.Judgement.{Judgement, Refused, Runs, Prints, judgement, printed, asked, core_asked}
+use Rattle.b67_job.specs.Due.{ReadAll, IsDue, usage_due, refusal_due, print_due, run_due, reading_due, memory_due, Answered, answered, cut_in_step}
 use Rattle.b67_promises.specs.Paging.{SameLines}
 use Rattle.b67_promises.specs.Sources.{AsksForAsm, AsksForConvert, HoldPrinted}
 use Rattle.b67_promises.proofs.Calls.{Printed, Shape, CallPrints, shape_of, cut_from, agree}
-use Rattle.b67_promises.proofs.Words.{head, no_print, no_image_asked}
+use Rattle.b67_promises.proofs.Words.{head, no_print}
 use Rattle.b67_promises.proofs.TurnCalls.{prepared_is}
 use Rattle.b67_promises.proofs.SourceDecks.{OneRun, asm_keeps, convert_keeps}
 
@@ -66,16 +66,12 @@ printed_so left deck deck' taken old new command text made r other bytes output 
     ap (asked command) all ∙ subst (λ (c : CommandLine). asked c bytes ≡ Prints output) same judged ∙ ap Prints (sym made_is)
 
 module _ {S B K : Type 0} {words : List (Bor (List ℕ))} {left : S → Option (List ℕ)} {source_faults : S → ℕ} {deck deck' : S} {d : Device B} {machine : Option Machine}
-    (taken : K → Option (List ℕ)) (faults : K → ℕ) (old new : K) (command : CommandLine) (is : command_line_of words ≡ Some command) (opens : core_asked command ≡ None) (no_image : image_sectors d.sectors command ≡ None)
+    (taken : K → Option (List ℕ)) (faults : K → ℕ) (old new : K) (command : CommandLine) (is : command_line_of words ≡ Some command) (opens : core_asked command ≡ None)
     (text made : List ℕ) (r : Reads left deck deck' taken old new command text made) where
   by_due : (status : ℕ) (t : Text) (answer : ℕ) → answer ≡ 0 → IsDue words left source_faults deck deck' d machine status t → PrintsAndAnswers taken faults old new status t answer → asked command text ≡ Prints made
   by_due status t answer zero (usage_due c g same m s x) closes = absurd (omega (arith, (done taken faults old new status t answer zero closes).0, s))
   by_due status t answer zero (refusal_due other b refusal c read same judged m s x) closes = absurd (omega (arith, (done taken faults old new status t answer zero closes).0, s))
   by_due status t answer zero (print_due other b output c read same judged m s x) closes = printed_so left deck deck' taken old new command text made r other b output t (same_command words command other is c) read judged x (done taken faults old new status t answer zero closes).1
-  by_due status t answer zero (image_due other sectors card reason c wanted read same m s x) closes = absurd (omega (arith, (done taken faults old new status t answer zero closes).0, s))
-  by_due status t answer zero (dump_due image dump o same m s x) closes =
-      let same : lines.Dump ≡ command = same_command words command lines.Dump is o.is in
-      absurd (none-some None (sym no_image ∙ sym (ap (image_sectors d.sectors) same)))
   by_due status t answer zero (run_due core p run stops) closes =
       let none : core_asked command ≡ Some core = subst (λ (c : CommandLine). core_asked c ≡ Some core) (same_command words command run.command is run.is) run.opens in
       absurd (none-some core (sym opens ∙ none))
@@ -85,9 +81,6 @@ module _ {S B K : Type 0} {words : List (Bor (List ℕ))} {left : S → Option (
   made_text : (answer : ℕ) → answer ≡ 0 → Answered words left source_faults deck deck' d machine taken faults old new answer → asked command text ≡ Prints made
   made_text answer zero (answered status t due closes) = by_due status t answer zero due closes
   made_text answer zero (cut_in_step core p t count run printing a rose part) = absurd (omega (arith, zero, a))
-  made_text answer zero (goes_on g) =
-      let same : lines.Resume ≡ command = same_command words command lines.Resume is g.of.is in
-      absurd (none-some (Some d.sectors) (sym no_image ∙ sym (ap (image_sectors d.sectors) same)))
 
 verdict_is : (v : Verdict) (text : List ℕ) → printed v ≡ Prints text → v ≡ Ok text
 verdict_is (Ok x) text e = let is : x ≡ text = cc in ap Ok is
@@ -97,10 +90,10 @@ module _ {S B K : Type 0} {words : List (Bor (List ℕ))} {left : S → Option (
     (taken : K → Option (List ℕ)) (faults : K → ℕ) (old new : K) (text made : List ℕ) (told : left deck ≡ Some text) (empty : taken old ≡ Some []) (full : taken new ≡ Some made) (answer : ℕ) (zero : answer ≡ 0)
     (call : Answered words left source_faults deck deck' d machine taken faults old new answer) where
   pub asm_made : AsksForAsm words → asm_verdict text ≡ Ok made
-  asm_made w = verdict_is (asm_verdict text) made (made_text taken faults old new lines.Asm (asm_command words w) refl refl text made (record { reads = λ bytes r. r; told = told; empty = empty; full = full }) answer zero call)
+  asm_made w = verdict_is (asm_verdict text) made (made_text taken faults old new lines.Asm (asm_command words w) refl text made (record { reads = λ bytes r. r; told = told; empty = empty; full = full }) answer zero call)
 
   pub convert_made : AsksForConvert words → convert_verdict text ≡ Ok made
-  convert_made w = verdict_is (convert_verdict text) made (made_text taken faults old new lines.Convert (convert_command words w) refl refl text made (record { reads = λ bytes r. r; told = told; empty = empty; full = full }) answer zero call)
+  convert_made w = verdict_is (convert_verdict text) made (made_text taken faults old new lines.Convert (convert_command words w) refl text made (record { reads = λ bytes r. r; told = told; empty = empty; full = full }) answer zero call)
 
 -- ---- two decks of one run
 
@@ -114,13 +107,11 @@ module _ {K L : Type 0} (taken : K → Option (List ℕ)) (old new : K) (status 
   first_shape q is (Runs p) js = subst (λ (r : Run). Shape r one.0) (sym (same p q js is)) (shape_of (run_of p) e status one.0 (one.2.prints p js))
   first_shape q is (Refused refusal) js = one.2.refused refusal js (run_of q)
   first_shape q is (Prints text) js = absurd (no_print bytes text js)
-  first_shape q is OfImage js = absurd (no_image_asked bytes js)
 
   second_shape : (p : Prepared) → judgement bytes ≡ Runs p → (j : Judgement) → judgement other ≡ j → Shape (run_of p) two.0
   second_shape p is (Runs q) js = subst (λ (r : Run). Shape r two.0) (same p q is js) (shape_of (run_of q) e status' two.0 (two.2.prints q js))
   second_shape p is (Refused refusal) js = two.2.refused refusal js (run_of p)
   second_shape p is (Prints text) js = absurd (no_print other text js)
-  second_shape p is OfImage js = absurd (no_image_asked other js)
 
   pub one_run_lines : SameLines taken old new status taken' old' new' status'
   one_run_lines = record {

@@ -1,5 +1,5 @@
 -- A call in more core ends as one in less does.
-use Rattle.std.proofs.Common.{◌≡◌, ◌≤◌, ◌<◌, ◌⊎◌, ⊎_elim, inl, inr, ℕ, Bool, true, false, List, refl, sym, ap, subst, ◌∙◌, arith, Option, Some, None, cond, ltb-true, ltb-false}
+use Rattle.std.proofs.Common.{◌≡◌, ◌≤◌, ◌<◌, ◌⊎◌, ⊎_elim, inl, inr, ℕ, Bool, true, false, List, refl, sym, ap, subst, ◌∙◌, arith, Option, Some, cond, ltb-true, ltb-false}
 use Rattle.std.specs.Prelude.{IfSome, nat_lt, option_map}
 use Rattle.std.proofs.lemmas.Bool.{cases_lt}
 use Rattle.std.proofs.lemmas.Option.{same_Some}
@@ -14,7 +14,6 @@ use Rattle.b67_session_open.specs.Opens.{need_of}
 use Rattle.b67_session_lines.specs.Stops.{live_after}
 use Rattle.b67_job_admit.specs.declared.refusal.Refusal.{Refusal}
 use Rattle.b67_job_admit.specs.Admitting.{Prepared}
-use Rattle.b67_job.specs.declared.command.CommandLine.TheVariants as commands
 use Rattle.b67_job.specs.declared.summaries.Exercise.{Exercise}
 use Rattle.b67_job.specs.declared.summaries.Closing.{Closing}
 use Rattle.b67_job.specs.Device.{Device, DeviceTells, Worked}
@@ -22,7 +21,7 @@ use Rattle.b67_job.specs.Texts.{Text, all_taken, cut_short}
 use Rattle.b67_job.specs.Runs.{run_of, WantsCore, memory_refused, opening_wants_core, opening_wants_sectors, opening_fails, all_end, halt_comes, step_wants_core, step_wants_sectors, step_fails, RunStops, unopened, opened, WasOpened}
 use Rattle.b67_job.specs.Command.{command_line_of}
 use Rattle.b67_job.specs.Judgement.{Judgement, Refused, Runs, closing_of}
-use Rattle.b67_job.specs.Due.{IsRun, IsDue, usage_due, refusal_due, print_due, image_due, dump_due, run_due, reading_due, memory_due, Answered, answered, cut_in_step, goes_on}
+use Rattle.b67_job.specs.Due.{IsRun, IsDue, usage_due, refusal_due, print_due, run_due, reading_due, memory_due, Answered, answered, cut_in_step}
 use Rattle.b67_promises.specs.Paging.{IsWhole}
 use Rattle.b67_promises.specs.MoreCore.{EndsToo, as_well, no_command, sectors_wanted, memory_wanted}
 use Rattle.b67_promises.proofs.Steps.{over_after}
@@ -83,8 +82,6 @@ module _ {S B : Type 0} {words : List (Bor (List ℕ))} {left : S → Option (Li
   whole_due j e status text asks w (usage_due c g same m s t) = absurd (short_at status 1 s (inr (omega arith, omega arith)) w)
   whole_due j e status text asks w (refusal_due command b refusal c r same judged m s t) = absurd (short_at status 2 s (inr (omega arith, omega arith)) w)
   whole_due j e status text asks w (print_due command b printed c r same judged m s t) = absurd (asks.no_text command b printed c judged)
-  whole_due j e status text asks w (image_due command sectors card reason c wanted r same m s t) = absurd (asks.no_image d.sectors command sectors c wanted)
-  whole_due j e status text asks w (dump_due image dump o same m s t) = absurd (asks.no_image d.sectors commands.Dump None o.is refl)
   whole_due j e status text asks w (run_due core p its_run stops) = whole_stop core p (closing_of (command_line_of words)) status text its_run w stops
   whole_due j e status text asks w (reading_due c r same m s t) = absurd (short_at status 7 s (inl (omega arith)) w)
   whole_due j e status text asks w (memory_due c same m s t) = absurd (short_at status 9 s (inl (omega arith)) w)
@@ -94,13 +91,12 @@ module _ {S B : Type 0} {words : List (Bor (List ℕ))} {left : S → Option (Li
   whole_run j e answer asks w (answered status text due (all_taken a took)) = whole_due j e status text asks (subst IsWhole a w) due
   whole_run j e answer asks w (answered status text due (cut_short count a rose part)) = absurd (short_at answer 8 a (inl (omega arith)) w)
   whole_run j e answer asks w (cut_in_step core p text count its_run printing a rose part) = absurd (short_at answer 8 a (inl (omega arith)) w)
-  whole_run j e answer asks w (goes_on g) = absurd (asks.no_image d.sectors commands.Resume (Some d.sectors) g.of.is refl)
 
 -- ---- beside it, in a core that is no smaller
 
 -- core is too small for the opening, or for a step
 abbrev pub WantsMore : {C : Type 0} → Device C → ℕ → Prepared → Type 0
-WantsMore d core p = (core < need_of p.0 p.1) ⊎ ((k : Machine) × (text : Text) × WantsCore d core k.tasks.made (run_of p) k text)
+WantsMore d core p = (core < need_of p.0 p.1) ⊎ ((k : Machine) × (text : Text) × WantsCore d core (run_of p) k text)
 
 module _ {B C : Type 0} (d : Device B) (tells : DeviceTells d) (d' : Device C) (tells' : DeviceTells d') where
   -- it isn't, where all steps of a whole run have fitted a smaller one
@@ -155,8 +151,6 @@ module _ {T C : Type 0} {words : List (Bor (List ℕ))} {left : T → Option (Li
   due_ends status text a (usage_due c g same m s t) = no_command (a ∙ s)
   due_ends status text a (refusal_due command b refusal c r same refused m s t) = let f = asks.refuses command b refusal c r refused in absurd (runs_not_refused f.0 f.1)
   due_ends status text a (print_due command b printed c r same prints m s t) = absurd (asks.no_text command b printed c prints)
-  due_ends status text a (image_due command sectors card reason c wanted r same m s t) = absurd (asks.no_image d.sectors command sectors c wanted)
-  due_ends status text a (dump_due image dump o same m s t) = absurd (asks.no_image d.sectors commands.Dump None o.is refl)
   due_ends status text a (run_due core q its_run stops) = stop_ends core q (closing_of (command_line_of words)) status text its_run a stops
   due_ends status text a (reading_due c r same m s t) = absurd (omega (arith, r, read))
   due_ends status text a (memory_due c same m s t) = memory_wanted (a ∙ s)
@@ -165,4 +159,3 @@ module _ {T C : Type 0} {words : List (Bor (List ℕ))} {left : T → Option (Li
   ends_too calm (answered status text due (all_taken a took)) = due_ends status text a due
   ends_too calm (answered status text due (cut_short count a rose part)) = absurd (omega (arith, rose, calm))
   ends_too calm (cut_in_step core q text count its_run printing a rose part) = absurd (omega (arith, rose, calm))
-  ends_too calm (goes_on g) = absurd (asks.no_image d.sectors commands.Resume (Some d.sectors) g.of.is refl)

@@ -1,5 +1,5 @@
 -- The lines of a run are no cards of an image.
-use Rattle.std.proofs.Common.{◌≡◌, ◌≢◌, ◌⊎◌, ◌<◌, ◌≤◌, ◌+◌, ℕ, length, Ok, zero, suc, true, false, not, List, [], ◌∷◌, ◌++◌, codes, decimal, inl, inr, refl, sym, ap, subst, ◌∙◌, arith, append_assoc, append-nil}
+use Rattle.std.proofs.Common.{◌≡◌, ◌≢◌, ◌⊎◌, ◌<◌, ◌≤◌, ◌+◌, ℕ, length, None, Ok, zero, suc, Bool, true, false, not, List, [], ◌∷◌, ◌++◌, codes, decimal, inl, inr, refl, sym, ap, subst, ◌∙◌, arith, append_assoc, append-nil}
 use Rattle.std.specs.Prelude.{ℤ, pos, negsuc, ◌==◌, ◌&&◌, ◌/◌, ◌%◌, nat_lt}
 use Rattle.std.specs.List.{list_all, flat_map, AllByRecursion}
 use Rattle.std.specs.Fmt.{digits, digits_onto, digit_glyph, signed_decimal}
@@ -21,7 +21,7 @@ use Rattle.b67_image.specs.Text.{limit, image_text_of}
 use Rattle.b67_image.specs.Meaning.{told_in}
 use Rattle.b67_image.specs.Image.{image_text}
 use Rattle.b67_image.proofs.Octets.{octets}
-use Rattle.b67_image.proofs.Whole.{read_as, told_again}
+use Rattle.b67_image.proofs.Whole.{told_again}
 use Rattle.b67_promises.specs.Images.{HasNoMark, AreOtherLines, LinesAreOther, ImagesOfRunsAreRead}
 use Rattle.b67_promises.proofs.Among.{told_among}
 
@@ -153,10 +153,9 @@ lines_other (l ∷ ls) =
 
 pub read_among : ImagesOfRunsAreRead
 unfolding image_text
-read_among sectors printed count m h wanted few =
+read_among printed count m h few =
     let o = lines_other printed in
     let bytes = image_bytes (parts_of m) in
     let tail = ended (halted_line count) in
-    let t = told_among sectors o.each tail bytes (parts_of m) o.other (octets (parts_of m) h).all (told_again sectors (parts_of m) wanted h) (subst (λ (x : List ℕ). length (x ++ (image_text_of bytes ++ tail)) ≤ limit) o.is few) in
-    let told : told_in sectors (run_text printed ++ (image_text_of bytes ++ tail)) ≡ Ok (t.0, parts_of m) = subst (λ (x : List ℕ). told_in sectors (x ++ (image_text_of bytes ++ tail)) ≡ Ok (t.0, parts_of m)) (sym o.is) t.1 in
-    record { card = t.0; told = told; taken = λ one result means. read_as t.0 m (told_in sectors (run_text printed ++ (image_text_of bytes ++ tail))) told one result means }
+    let t = told_among o.each tail bytes (parts_of m) o.other (octets (parts_of m) h).all (told_again (parts_of m) h) (subst (λ (x : List ℕ). length (x ++ (image_text_of bytes ++ tail)) ≤ limit) o.is few) in
+    (t.0, subst (λ (x : List ℕ). told_in None (x ++ (image_text_of bytes ++ tail)) ≡ Ok (t.0, parts_of m)) (sym o.is) t.1)

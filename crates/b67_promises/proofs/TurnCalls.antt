@@ -14,14 +14,14 @@ use Rattle.b67_law_order.specs.Opening.{opened_from}
 use Rattle.b67_job.specs.Device.{Device}
 use Rattle.b67_job.specs.declared.summaries.Exercise.{Exercise}
 use Rattle.b67_job.specs.Runs.{run_of}
-use Rattle.b67_job.specs.Judgement.{Judgement, Refused, Runs, Prints, OfImage, judgement, prepared_judgement}
+use Rattle.b67_job.specs.Judgement.{Judgement, Refused, Runs, Prints, judgement, prepared_judgement}
 use Rattle.b67_promises.specs.Paging.{IsWhole}
 use Rattle.b67_promises.specs.Switches.{DifferInTurns, NeverTwoReady, CallsProcess, IsOneTask}
 use Rattle.b67_promises.specs.TurnLines.{DifferInTurnLines}
 use Rattle.b67_promises.proofs.Calls.{Printed, fell_short, CallPrints, prepared_in, not_refused}
 use Rattle.b67_promises.proofs.Alike.{printed_alike}
 use Rattle.b67_promises.proofs.MoreCore.{WholeRun}
-use Rattle.b67_promises.proofs.Words.{no_print, no_image_asked}
+use Rattle.b67_promises.proofs.Words.{no_print}
 use Rattle.b67_promises.proofs.TurnCards.{SameButTurns, decks_differ}
 
 pub after : {A B : Type 0} (r : Admission A) (go : A → Admission B) (b : B) → (r >>= go) ≡ Ok b → (a : A) × (r ≡ Ok a) × (go a ≡ Ok b)
@@ -79,7 +79,6 @@ module _ {S B : Type 0} {words : List (Bor (List ℕ))} {left : S → Option (Li
       let none : IsWhole status → ⊥ = λ whole. let r = c.runs whole in not_refused (judgement other) r.0 r.1 refusal js in
       fell_short none (c.refused refusal js (run_of w.p))
   printed_by (Prints printed) js = absurd (no_print other printed js)
-  printed_by OfImage js = absurd (no_image_asked other js)
 
   -- a call of the other text prints as one of the first would
   pub prints_turned : CallPrints (judgement bytes) e status text

@@ -73,7 +73,7 @@ pub filled : (x : ℕ) (xs : List ℕ) → eqb (length (x ∷ xs)) 0 ≡ false
 filled x xs = grind arith
 
 -- the words of a text whose first three bytes are no spaces
-pub first_word : (a b c : ℕ) (t : List ℕ) → is_space a ≡ false → is_space b ≡ false → is_space c ≡ false → (y : List ℕ) × (more : List (List ℕ)) × (words_in_card (a ∷ b ∷ c ∷ t) ≡ (a ∷ b ∷ c ∷ y) ∷ more)
+first_word : (a b c : ℕ) (t : List ℕ) → is_space a ≡ false → is_space b ≡ false → is_space c ≡ false → (y : List ℕ) × (more : List (List ℕ)) × (words_in_card (a ∷ b ∷ c ∷ t) ≡ (a ∷ b ∷ c ∷ y) ∷ more)
 first_word a b c t na nb nc =
     let p = some_part t in
     let keep : List (List ℕ) → List (List ℕ) = λ ws. filter (λ w. not (is_empty w)) ws in
@@ -105,7 +105,7 @@ spaces_few (y ∷ ys) c zs n = by_test (is_space y) (spaces_few ys c zs n)
     by_test true le = omega (arith, le)
     by_test false le = omega arith
 
-pub trimmed_three : (a b c : ℕ) (r : List ℕ) → is_space c ≡ false → (t : List ℕ) × (trimmed (a ∷ b ∷ c ∷ r) ≡ a ∷ b ∷ c ∷ t)
+trimmed_three : (a b c : ℕ) (r : List ℕ) → is_space c ≡ false → (t : List ℕ) × (trimmed (a ∷ b ∷ c ∷ r) ≡ a ∷ b ∷ c ∷ t)
 trimmed_three a b c r n =
     let line = a ∷ b ∷ c ∷ r in
     let back : reverse line ≡ reverse r ++ c ∷ b ∷ a ∷ [] = reverse-append (a ∷ b ∷ c ∷ []) r in
@@ -159,7 +159,7 @@ turn_cards n (l ∷ ls) all = by_test (is_filled (card_of (n, l))) refl (turn_li
 
 -- ---- what cards say
 
-pub given : {A : Type 0} (number : ℕ) (r : Answer A) (a : A) → of_card number r ≡ Ok a → r ≡ Ok a
+given : {A : Type 0} (number : ℕ) (r : Answer A) (a : A) → of_card number r ≡ Ok a → r ≡ Ok a
 given number (Ok x) a e = let is : x ≡ a = cc in ap (λ y. Ok y) is
 given number (Err reason) a e = err-ok (record { card = number; reason = reason }) a _ e
 
@@ -192,7 +192,7 @@ all_said before a e = by_end (of_card (number_of_last before) (needs (is_between
     by_end (Err r) e = err-ok r a _ e
 
 -- the same cards behind different ones say the same
-pub say_same : (cs : List Card) (before before' a b : List Said) → sayings before cs ≡ Ok a → sayings before' cs ≡ Ok b → (tail : List Said) × (a ≡ reverse before ++ tail) × (b ≡ reverse before' ++ tail)
+say_same : (cs : List Card) (before before' a b : List Said) → sayings before cs ≡ Ok a → sayings before' cs ≡ Ok b → (tail : List Said) × (a ≡ reverse before ++ tail) × (b ≡ reverse before' ++ tail)
 say_same [] before before' a b e f = ([], all_said before a e ∙ sym (append-nil (reverse before)), all_said before' b f ∙ sym (append-nil (reverse before')))
 say_same (card ∷ cs) before before' a b e f =
     let s = first_said before card cs a e in

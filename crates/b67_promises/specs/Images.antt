@@ -1,18 +1,15 @@
 -- The image that a call prints is read among the lines before it and behind it.
-use Rattle.std.specs.Prelude.{◌≡◌, ◌≢◌, ◌≤◌, ℕ, true, List, [], ◌∷◌, ◌++◌, length, Option, Result, Ok}
+use Rattle.std.specs.Prelude.{◌≡◌, ◌≢◌, ◌≤◌, ℕ, List, [], ◌∷◌, ◌++◌, length, None, Ok}
 use Rattle.std.specs.List.{flat_map, AllByRecursion}
 use Rattle.b67_io.specs.Line.{ended}
 use Rattle.b67_model.specs.Common.{RunLine, run_text}
 use Rattle.b67_task_tables.specs.declared.tables.Machine.{Machine}
-use Rattle.b67_layout_shown.specs.Machines.{RepresentsOne}
 use Rattle.b67_session_lines.specs.Stops.{halted_line}
 use Rattle.b67_image.specs.Text.{limit}
 use Rattle.b67_image.specs.Parts.{parts_of}
 use Rattle.b67_image.specs.Within.{ArePartsWithin}
 use Rattle.b67_image.specs.Image.{image_text}
-use Rattle.b67_image.specs.declared.fault.ImageFault.{ImageFault}
-use Rattle.b67_image.specs.Meaning.{is_wanted, told_in, IsMeant}
-use Rattle.b67_image.specs.Laws.{IsReadAs}
+use Rattle.b67_image.specs.Meaning.{told_in}
 
 -- no byte of it is a question mark or ends a line
 abbrev pub HasNoMark : List ℕ → Type 0
@@ -29,20 +26,9 @@ pub record AreOtherLines (text : List ℕ) : Type 0 where
 abbrev pub LinesAreOther : Type 0
 LinesAreOther = (printed : List RunLine) → AreOtherLines (run_text printed)
 
--- what `image` prints of a run that halts: the lines of the steps, the image, and the line of the halt
-abbrev pub text_of_halt : List RunLine → Machine → ℕ → List ℕ
-text_of_halt printed m count = run_text printed ++ (image_text m ++ ended (halted_line count))
-
--- A text is read as this machine: it tells the machine's parts, and if the machine represents a session, no answer to it is a
--- refusal
-pub record IsReadIn (sectors : Option ℕ) (text : List ℕ) (m : Machine) : Type 0 where
-  pub card : ℕ
-  pub told : told_in sectors text ≡ Ok (card, parts_of m)
-  pub taken : RepresentsOne m → (result : Result Machine ImageFault) → IsMeant result (told_in sectors text) → IsReadAs m result
-
--- that text is read as the machine, if its numbers are within their ranges, the text within the limit, and it has as many sectors as
--- are wanted
+-- what `image` prints of a run that halts, the image between the lines of the steps and the line of the halt, is read as the parts of
+-- its machine, if these are within their ranges and the text within the limit
 abbrev pub ImagesOfRunsAreRead : Type 0
 ImagesOfRunsAreRead =
-    (sectors : Option ℕ) (printed : List RunLine) (count : ℕ) (m : Machine) → ArePartsWithin (parts_of m) → is_wanted sectors (length (parts_of m).links) ≡ true → length (text_of_halt printed m count) ≤ limit
-    → IsReadIn sectors (text_of_halt printed m count) m
+    (printed : List RunLine) (count : ℕ) (m : Machine) → ArePartsWithin (parts_of m) → length (run_text printed ++ (image_text m ++ ended (halted_line count))) ≤ limit
+    → (card : ℕ) × (told_in None (run_text printed ++ (image_text m ++ ended (halted_line count))) ≡ Ok (card, parts_of m))

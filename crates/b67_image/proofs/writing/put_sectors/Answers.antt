@@ -1,4 +1,4 @@
-use Rattle.std.proofs.Common.{length, Ok, Err, sym, ap, arith}
+use Rattle.std.proofs.Common.{◌∙◌, length, Ok, Err, sym, ap, arith}
 use Rattle.std.specs.List.{flat_map}
 use Rattle.b67_backing.specs.Links.{links_in}
 use Rattle.b67_backing.proofs.Linkings.{links_in-length}

@@ -1,4 +1,5 @@
-use Rattle.std.proofs.Common.{◌≡◌, ◌∙◌, ◌+◌, ◌<◌, ℕ, [], length, take, drop, nat_lt, Ok, Err, sym, ap, arith}
+use Rattle.std.proofs.Common.{◌≡◌, ◌∙◌, ◌+◌, ◌<◌, ℕ, [], length, take, drop, get_or, nat_lt, Ok, Err, sym, ap, arith}
+use Rattle.std.specs.List.{flat_map}
 use Rattle.b67_backing.specs.Shelf.{times}
 use Rattle.b67_backing.specs.Links.{free_sectors, links_in}
 use Rattle.b67_backing.proofs.Linkings.{links_in-length, links_in-at}

@@ -10,7 +10,6 @@ use Rattle.b67_job.specs.declared.command.CommandLine.TheVariants as lines
 use Rattle.b67_job.specs.Due.{answered, usage_due, usage_text}
 use Rattle.b67_job.proofs.Ran.{closes_only}
 use Rattle.b67_job.proofs.Served.{served_text, without, exercised}
-use Rattle.b67_job.proofs.Going.{served_dump}
 use Rattle.b67_job.proofs.top.answer.Goals as goal
 
 pub returns-in-Some-Run-clause-answered : goal.returns-in-Some-Run-clause-answered
@@ -23,21 +22,11 @@ returns-in-Some-Image-clause-answered g c =
     c.answer_run-in-Some-Image.ensures.serves (lines.Image c.in-Some-Image.core) (record { reads = refl; opens = refl; asks = λ text. refl; closes = refl })
     c.args.words.now (sym c.command_of.ensures.command ∙ c.in-Some-Image.is ∙ ap (λ x. Some x) c.in-Some-Image.field-0-is)
 
-pub returns-in-Some-Resume-clause-answered : goal.returns-in-Some-Resume-clause-answered
-returns-in-Some-Resume-clause-answered g c = c.answer_resume.ensures.serves c.args.words.now (sym c.command_of.ensures.command ∙ c.in-Some-Resume.is ∙ ap (λ x. Some x) c.in-Some-Resume.field-0-is)
-
-pub returns-in-Some-Dump-clause-answered : goal.returns-in-Some-Dump-clause-answered
-returns-in-Some-Dump-clause-answered g c =
-    let d = device_of g.B.Backing.holds g.B.Backing.size g.B.Backing.faults c.args.backing.now c.args.backing.now in
-    without c.args.words.now g.S.Source.left g.S.Source.faults c.args.deck.now c.answer_dump.new.deck d g.K.Sink.taken g.K.Sink.faults c.args.printer.now c.answer_dump.new.printer
-    c.without_machine.result.machine c.without_machine.result.status c.answer_dump.result c.without_machine.ensures.machine c.without_machine.ensures.status
-    (served_dump d c.answer_dump.result refl c.answer_dump.ensures c.args.words.now (sym c.command_of.ensures.command ∙ c.in-Some-Dump.is ∙ ap (λ x. Some x) c.in-Some-Dump.field-0-is))
-
 pub returns-in-Some-Asm-clause-answered : goal.returns-in-Some-Asm-clause-answered
 returns-in-Some-Asm-clause-answered g c =
     let d = device_of g.B.Backing.holds g.B.Backing.size g.B.Backing.faults c.args.backing.now c.args.backing.now in
     without c.args.words.now g.S.Source.left g.S.Source.faults c.args.deck.now c.answer_asm.new.deck d g.K.Sink.taken g.K.Sink.faults c.args.printer.now c.answer_asm.new.printer
-    c.without_machine-in-Some-Asm.result.machine c.without_machine-in-Some-Asm.result.status c.answer_asm.result c.without_machine-in-Some-Asm.ensures.machine c.without_machine-in-Some-Asm.ensures.status
+    c.without_machine.result.machine c.without_machine.result.status c.answer_asm.result c.without_machine.ensures.machine c.without_machine.ensures.status
     (served_text d lines.Asm asm_verdict c.answer_asm.result refl refl (λ bytes. refl) c.answer_asm.ensures c.args.words.now (sym c.command_of.ensures.command ∙ c.in-Some-Asm.is ∙ ap (λ x. Some x) c.in-Some-Asm.field-0-is))
 
 pub returns-in-Some-Check-clause-answered : goal.returns-in-Some-Check-clause-answered
@@ -74,9 +63,6 @@ returns-in-None-clause-answered g c =
     c.without_machine-in-None.result.machine c.without_machine-in-None.result.status c.say.result c.without_machine-in-None.ensures.machine c.without_machine-in-None.ensures.status
     (answered 1 (only usage_text) (usage_due (ap is_some (sym c.command_of.ensures.command ∙ c.in-None.is)) refl refl refl refl refl) (closes_only (rw c.line_of.ensures at c.say.ensures)))
 
-pub returns-in-Some-Dump-clause-device : goal.returns-in-Some-Dump-clause-device
-returns-in-Some-Dump-clause-device g c = uncalled g.B.Backing.holds g.B.Backing.size g.B.Backing.calls g.B.Backing.faults c.args.backing.now
-
 pub returns-in-Some-Asm-clause-device : goal.returns-in-Some-Asm-clause-device
 returns-in-Some-Asm-clause-device g c = uncalled g.B.Backing.holds g.B.Backing.size g.B.Backing.calls g.B.Backing.faults c.args.backing.now
 
@@ -97,12 +83,6 @@ returns-in-Some-Run-clause-unread g c = λ e. absurd (false≢true (sym e ∙ ap
 
 pub returns-in-Some-Image-clause-unread : goal.returns-in-Some-Image-clause-unread
 returns-in-Some-Image-clause-unread g c = λ e. absurd (false≢true (sym e ∙ ap reads_text (sym c.command_of.ensures.command ∙ c.in-Some-Image.is ∙ ap (λ x. Some x) c.in-Some-Image.field-0-is)))
-
-pub returns-in-Some-Resume-clause-unread : goal.returns-in-Some-Resume-clause-unread
-returns-in-Some-Resume-clause-unread g c = λ e. absurd (false≢true (sym e ∙ ap reads_text (sym c.command_of.ensures.command ∙ c.in-Some-Resume.is ∙ ap (λ x. Some x) c.in-Some-Resume.field-0-is)))
-
-pub returns-in-Some-Dump-clause-unread : goal.returns-in-Some-Dump-clause-unread
-returns-in-Some-Dump-clause-unread g c = λ e. absurd (false≢true (sym e ∙ ap reads_text (sym c.command_of.ensures.command ∙ c.in-Some-Dump.is ∙ ap (λ x. Some x) c.in-Some-Dump.field-0-is)))
 
 pub returns-in-Some-Asm-clause-unread : goal.returns-in-Some-Asm-clause-unread
 returns-in-Some-Asm-clause-unread g c = λ e. absurd (false≢true (sym e ∙ ap reads_text (sym c.command_of.ensures.command ∙ c.in-Some-Asm.is ∙ ap (λ x. Some x) c.in-Some-Asm.field-0-is)))

@@ -1,4 +1,4 @@
-use Rattle.std.proofs.Common.{ℕ, List, Option, sym, subst}
+use Rattle.std.proofs.Common.{◌≡◌, ℕ, List, Option, sym, subst}
 use Rattle.b67_program.specs.Opening.{Opens, paths_of}
 use Rattle.b67_program.specs.Served.{over_file, over_memory, sectors_want_memory}
 use Rattle.b67_program.proofs.Answering.{opens_none, not_seven}
