@@ -1,15 +1,25 @@
 //! A whole run: the command, the deck, its session and its status.
 #![tactic(auto)]
 
+#[cfg(test)]
+mod binding;
 mod command;
 #[cfg(test)]
+mod exercises;
+#[cfg(test)]
 mod failing;
+#[cfg(test)]
+mod lengths;
+#[cfg(test)]
+mod limits;
 mod lines;
 mod outcome;
 mod ranges;
 #[cfg(test)]
 mod resuming;
 mod runs;
+#[cfg(test)]
+mod stepwise;
 mod summaries;
 #[cfg(test)]
 mod tasks;
