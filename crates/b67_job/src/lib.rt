@@ -5,6 +5,8 @@
 mod binding;
 mod command;
 #[cfg(test)]
+mod dumps;
+#[cfg(test)]
 mod exercises;
 #[cfg(test)]
 mod failing;

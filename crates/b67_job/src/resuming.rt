@@ -60,30 +60,34 @@ fn resume_words(rt: HostRuntime) -> Result<(), Fail> {
     Ok(())
 }
 
-/// Runs a deck in so much core to its halt, and goes on with what that printed over the same sectors. Both statuses, and what is
-/// printed then.
-fn gone_on(
+/// Runs a deck in so much core to its halt, over these sectors: the status, and what `image` prints.
+pub(crate) fn image_of(
     alloc: Global,
     core: &str,
     cards: &str,
     job: &str,
-) -> Result<(u8, u8, Vec<u8>), AllocError> {
-    let mut backing = HonestBacking::new(alloc, 4096)?;
+    backing: &mut HonestBacking,
+) -> Result<(u8, Vec<u8>), AllocError> {
     let mut deck = bytes_of(alloc, cards.as_bytes())?;
     deck.extend(job.as_bytes())?;
     let mut tape = Tape::new(deck, 4096, numbers_of(alloc, &[])?);
-    let mut paper = Paper::new(alloc, 200_000, numbers_of(alloc, &[])?)?;
+    let mut paper = Paper::new(alloc, 2_000_000, numbers_of(alloc, &[])?)?;
     let words = ["image", "--core", core, "--backing", "b"];
-    let halted = run(alloc, &words, &mut tape, &mut paper, &mut backing);
-    let image = bytes_of(alloc, paper.bytes())?;
-    let mut tape = Tape::new(image, 4096, numbers_of(alloc, &[])?);
+    let outcome = run(alloc, &words, &mut tape, &mut paper, backing);
+    Ok((outcome.status, Vec::from_slice(alloc, paper.bytes())?))
+}
+
+/// What a command says of an image over these sectors: the status, and what is printed.
+pub(crate) fn said_of(
+    alloc: Global,
+    words: &[&str],
+    image: &[u8],
+    backing: &mut HonestBacking,
+) -> Result<(u8, Vec<u8>), AllocError> {
+    let mut tape = Tape::new(bytes_of(alloc, image)?, 4096, numbers_of(alloc, &[])?);
     let mut paper = Paper::new(alloc, 2000, numbers_of(alloc, &[])?)?;
-    let outcome = run(alloc, &RESUME, &mut tape, &mut paper, &mut backing);
-    Ok((
-        halted.status,
-        outcome.status,
-        Vec::from_slice(alloc, paper.bytes())?,
-    ))
+    let outcome = run(alloc, words, &mut tape, &mut paper, backing);
+    Ok((outcome.status, Vec::from_slice(alloc, paper.bytes())?))
 }
 
 // SUM before its line and behind it, and EIGHT in its least core, with arrays in the sectors.
@@ -102,10 +106,36 @@ fn halted_runs_go_on(rt: HostRuntime) -> Result<(), Fail> {
         ),
     ];
     for (core, cards, job, lines) in table {
-        let (halted, status, printed) = gone_on(alloc, core, cards, job)?;
+        let mut backing = HonestBacking::new(alloc, 4096)?;
+        let (halted, image) = image_of(alloc, core, cards, job, &mut backing)?;
+        let (status, printed) = said_of(alloc, &RESUME, image.as_slice(), &mut backing)?;
         assert_eq!(rt; halted, 3, "{cards}");
         assert_eq!(rt; status, 0, "{cards}");
         assert_eq!(rt; printed.as_slice(), lines.as_bytes(), "{cards}");
+    }
+    Ok(())
+}
+
+// EIGHT's image without its last two cards ends with its last card of bytes; over one sector less it is that of another device.
+#[test]
+fn another_image_is_refused(rt: HostRuntime) -> Result<(), Fail> {
+    let alloc = rt.alloc();
+    let eight = eight(alloc)?;
+    let mut backing = HonestBacking::new(alloc, 4096)?;
+    let cards = "?STACK 256\n?HALT 100\n";
+    let (_halted, image) = image_of(alloc, "910", cards, eight.as_str(), &mut backing)?;
+    let text = image.as_slice();
+    let end = b"?END\nHALTED 100\n".as_slice();
+    assert!(rt; text.ends_with(end));
+    let front = text.len().saturating_sub(end.len());
+    for (length, sectors, line) in [
+        (front, 4096, "IMAGE 758 REASON 3\n"),
+        (text.len(), 4095, "IMAGE 1 REASON 7\n"),
+    ] {
+        let mut other = HonestBacking::new(alloc, sectors)?;
+        let (status, printed) = said_of(alloc, &RESUME, &text[..length], &mut other)?;
+        assert_eq!(rt; status, 2, "{line}");
+        assert_eq!(rt; printed.as_slice(), line.as_bytes());
     }
     Ok(())
 }

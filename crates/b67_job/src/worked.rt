@@ -444,11 +444,12 @@ fn a_stopped_session_goes_on(rt: HostRuntime) -> Result<(), Fail> {
 // The calls of the device that the rules give, each for a sector of thirty words. LEAVE has two segments of one sector, and core
 // has room for everything: each sector is written at the opening and read once. TWO has a segment of one sector, which is
 // written and read, and two arrays of seven, of which core has room for one: the first is written when the second is touched,
-// and then, twice, one is written and the other is read.
+// and then, twice, one is written and the other is read. EIGHT_ALONE is like TWO with eight arrays: seven are written when the
+// next is touched, and then, eight times, one is written and another is read.
 #[test]
 fn calls_of_the_device(rt: HostRuntime) -> Result<(), Fail> {
     let alloc = rt.alloc();
-    let rows = [("4096", LEAVE, 4), ("630", TWO, 37)];
+    let rows = [("4096", LEAVE, 4), ("630", TWO, 37), ("649", EIGHT_ALONE, 163)];
     for (core, job, calls) in rows {
         let none = numbers_of(alloc, &[])?;
         let mut backing = MemoryBacking::new(alloc, 4096, none, numbers_of(alloc, &[])?)?;

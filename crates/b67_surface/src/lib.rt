@@ -20,6 +20,7 @@ mod core_rows;
 #[cfg(test)]
 mod ctl_rows;
 mod devices;
+mod images;
 #[cfg(test)]
 mod job_admit_rows;
 #[cfg(test)]
