@@ -21,7 +21,7 @@ use Rattle.b67_task_switch.specs.Counted.{choice_of}
 use Rattle.b67_task_switch.specs.Turns.{with_running}
 use Rattle.b67_session_ends.specs.Counts.{IsCounted}
 use Rattle.b67_session_ends.specs.Ends.{Finishes}
-use Rattle.b67_mcp.specs.Called.{IsCalled, HoldsOther, is_emptied, is_new}
+use Rattle.b67_mcp.specs.Called.{IsCalled, HoldsOther, is_emptied, is_resized, is_new}
 use Rattle.b67_session.specs.AttemptStops.{Stop}
 use Rattle.b67_session.specs.AttemptStops as stops
 use Rattle.b67_session.specs.declared.outcomes.Attempt.{Attempt}
@@ -47,16 +47,18 @@ no_more taken told (Some part) e result old new paper paper' f = absurd (none-so
 
 -- the running task's slot doesn't matter
 same_places : (slot : ℕ) (x y : Storage) (plan placed : Placement) (m : SessionJob) (t : Task) (job : Job) → KeepsAreas x y (with_running plan slot) placed m t job → KeepsAreas x y plan placed m t job
-same_places slot x y plan placed m t job keeps = λ no_process no_resize home some gone other. keeps no_process no_resize home some gone (λ held. other (held_there home held)) where
+same_places slot x y plan placed m t job keeps = λ no_process home some gone other. keeps no_process home some gone (λ held. other (held_there home held)) where
   held_there : (home : ℕ) → HoldsOther (with_running plan slot) placed m t job home → HoldsOther plan placed m t job home
   held_there home (is_emptied a called among is at) = is_emptied a called among is at
   held_there home (is_new called at) = is_new called at
+  held_there home (is_resized a called among touched at) = is_resized a called among touched at
 
 same_none : (slot : ℕ) (x y : Storage) (plan placed : Placement) (m : SessionJob) (t : Task) (job : Job) → AddsNoArea x y (with_running plan slot) placed m t job → AddsNoArea x y plan placed m t job
-same_none slot x y plan placed m t job adds = λ no_process no_resize home none gone other. adds no_process no_resize home none gone (λ held. other (held_there home held)) where
+same_none slot x y plan placed m t job adds = λ no_process home none gone other. adds no_process home none gone (λ held. other (held_there home held)) where
   held_there : (home : ℕ) → HoldsOther (with_running plan slot) placed m t job home → HoldsOther plan placed m t job home
   held_there home (is_emptied a called among is at) = is_emptied a called among is at
   held_there home (is_new called at) = is_new called at
+  held_there home (is_resized a called among touched at) = is_resized a called among touched at
 
 module _ {K : Type 0} (taken : K → Option (List ℕ)) (s : Session) (m : SessionJob) (t : Task) (c : Chosen) (o : IsInOrderButPlaces s) (n : IsNext s m t) (chosen : n.chosen ≡ choice_of c) (ready : t.condition ≡ Ready)
     (x : Storage) (slot : ℕ) (plan : Placement) (told : Option (List (List ℕ))) (before : ℕ) (new last : Machine) (tasks : Tasks) (paper paper' paper'' : K)

@@ -166,16 +166,16 @@ pub record UsesHole {A D : Type 0} (holds : D → Option (List (List ℕ))) (ans
   pub not_full : IsNotFull answered
 
 -- a step was made, and every area that was there is where it was, but those of arrays of a record that it leaves, and that of one
--- that DEALLOCATE empties. Of PROCESS and RESIZE that isn't said
+-- that DEALLOCATE empties or RESIZE gives another length. Of PROCESS that isn't said
 abbrev pub KeepsAreas : Storage → Storage → Placement → Placement → SessionJob → Task → Job → Type 0
 KeepsAreas x y plan after m t job =
-    called_in m t ≢ Some 12 → called_in m t ≢ Some 18 → (home : ℕ) → (x.held home).area ≢ None → (HasHome (objects_gone plan m job) home → ⊥) → (HoldsOther plan after m t job home → ⊥)
+    called_in m t ≢ Some 12 → (home : ℕ) → (x.held home).area ≢ None → (HasHome (objects_gone plan m job) home → ⊥) → (HoldsOther plan after m t job home → ⊥)
     → (y.held home).area ≡ (x.held home).area
 
 -- and nothing else is in an area
 abbrev pub AddsNoArea : Storage → Storage → Placement → Placement → SessionJob → Task → Job → Type 0
 AddsNoArea x y plan after m t job =
-    called_in m t ≢ Some 12 → called_in m t ≢ Some 18 → (home : ℕ) → (x.held home).area ≡ None → (HasHome (objects_gone plan m job) home → ⊥) → (HoldsOther plan after m t job home → ⊥)
+    called_in m t ≢ Some 12 → (home : ℕ) → (x.held home).area ≡ None → (HasHome (objects_gone plan m job) home → ⊥) → (HoldsOther plan after m t job home → ⊥)
     → (y.held home).area ≡ None
 
 abbrev pub CallKeepsAreas : {K : Type 0} → (K → Option (List ℕ)) → Storage → Option (List (List ℕ)) → ℕ → Placement → Session → SessionJob → Task → Machine → K → K → Type 0
