@@ -37,13 +37,13 @@ use Rattle.b67_session.proofs.Made.{half, half_ordered, half_stands}
 -- what the end of a step promises of each session between its parts
 abbrev pub EndsEach : {K : Type 0} → (K → Option (List ℕ)) → Result (Unit {0}) Stop → Machine → Machine → K → K → Type 0
 EndsEach taken answered mid last paper paper' =
-    (x : Storage) (told : Option (List (List ℕ))) (plan : Placement) (h : Session) → IsInOrderButLimit h → MachineRepresents x told mid plan h → EndsStep taken told h answered mid last paper paper'
+    (x : Storage) (told : Option (List (List ℕ))) (plan : Placement) (h : Session) → IsInOrderButLimit h → MachineRepresents x told mid plan h → EndsStep taken x told plan h answered mid last paper paper'
 
 -- where there is no last part, nothing is done
-no_more : {K : Type 0} (taken : K → Option (List ℕ)) (told : Option (List (List ℕ))) (o : Option StepResult) → o ≡ None → (result : Result (Unit {0}) Failed) (old new : Machine) (paper paper' : K) → Finishes taken told o result old new paper paper' → new ≡ old
-no_more taken told None e (Ok done) old new paper paper' f = f.0
-no_more taken told None e (Err failed) old new paper paper' f = absurd f
-no_more taken told (Some part) e result old new paper paper' f = absurd (none-some part (sym e))
+no_more : {K : Type 0} (taken : K → Option (List ℕ)) (x : Storage) (told : Option (List (List ℕ))) (plan : Placement) (h : Session) (o : Option StepResult) → o ≡ None → (result : Result (Unit {0}) Failed) (old new : Machine) (paper paper' : K) → Finishes taken x told plan h o result old new paper paper' → new ≡ old
+no_more taken x told plan h None e (Ok done) old new paper paper' f = f.0
+no_more taken x told plan h None e (Err failed) old new paper paper' f = absurd f
+no_more taken x told plan h (Some part) e result old new paper paper' f = absurd (none-some part (sym e))
 
 -- the running task's slot doesn't matter
 same_places : (slot : ℕ) (x y : Storage) (plan placed : Placement) (m : SessionJob) (t : Task) (job : Job) → KeepsAreas x y (with_running plan slot) placed m t job → KeepsAreas x y plan placed m t job
@@ -77,13 +77,13 @@ module _ {K : Type 0} (taken : K → Option (List ℕ)) (s : Session) (m : Sessi
   stands : MachineRepresents called.storage told (record new { tasks = tasks }) called.plan part.session
   stands = half_stands s m t c o n chosen ready called.job called.printed called.touched called.is keeps.0 keeps.1 called.storage new called.plan tasks counted called.stands
 
-  ended : EndsStep taken told part.session answered (record new { tasks = tasks }) last paper' paper''
+  ended : EndsStep taken called.storage told called.plan part.session answered (record new { tasks = tasks }) last paper' paper''
   ended = each called.storage told called.plan part.session (half_ordered s m t c o n chosen ready called.job called.printed called.touched called.is keeps.0 keeps.1) stands
 
   pub step_keeps_areas : (job : Job) → GoesOnAlone s m t job → StepKeepsAreas x plan s m t job last
   step_keeps_areas job alone =
       let none : last_part part.session ≡ None = alone.below part first in
-      let same : last ≡ record new { tasks = tasks } = no_more taken told (last_part part.session) none ended.result (record new { tasks = tasks }) last paper' paper'' ended.finishes in
+      let same : last ≡ record new { tasks = tasks } = no_more taken called.storage told called.plan part.session (last_part part.session) none ended.result (record new { tasks = tasks }) last paper' paper'' ended.finishes in
       let next_is : next s ≡ Some part = steps-have-parts s part first ∙ ap (λ (r : Option StepResult). Some (joined part r)) none in
       let is : Ok (Goes called.job called.printed called.touched) ≡ Ok (Goes job alone.printed alone.touched) = sym called.is ∙ alone.is in
       let job_is : called.job ≡ job = cc in

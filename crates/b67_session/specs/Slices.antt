@@ -16,6 +16,7 @@ use Rattle.b67_session.specs.AttemptPassed.{AreCountable, IsShortAt, CallsDevice
 use Rattle.b67_session.specs.Attempts.{IsLacking, WantsNothing, HoleFits, IsAtHand, UsesHole, KeepsAreas, AddsNoArea, CodeFits, TellsAfter, TellsSectors}
 use Rattle.b67_session.specs.AttemptStops.{Stop}
 use Rattle.b67_session.specs.AttemptStops as stops
+use Rattle.b67_session_ends.specs.Ends.{StandsInPlace}
 pub use Rattle.b67_session_ends.specs.Machines.{StandsAt, IsLimited, RepresentsWithoutTasks}
 use Rattle.b67_session.specs.declared.slices.Progress.{Progress}
 use Rattle.b67_session.specs.declared.slices.Progress.TheVariants as progress
@@ -138,15 +139,27 @@ pub record StepKeepsAreas (x : Storage) (plan : Placement) (s : Session) (m : Se
   pub areas : KeepsAreas x storage plan placed m t job
   pub none_new : WantsNothing x plan m t → AddsNoArea x storage plan placed m t job
 
+-- the step ends its task, or makes it wait
+abbrev pub EndsOrWaits : SessionJob → Task → Type 0
+EndsOrWaits m t = (job : Job) (printed : List Line) (touched : Option ℕ) → step m.constants m.progress.job t ≢ Ok (Goes job printed touched)
+
+-- the machine stands for the session after the next step, or for that before its last part where the printer failed in it. Each
+-- array, segment and data row of that session lies where it lay, in the same area and the same sectors, or in none
+pub data StepLeaves (x : Storage) (plan : Placement) (s : Session) (new : Machine) : Type 0 where
+  leaves_whole : (told : Option (List (List ℕ))) → StandsInPlace x told new plan s (after 1 s) → StepLeaves x plan s new
+  leaves_but_limit : (told : Option (List (List ℕ))) (part : StepResult) → first_part s ≡ Some part → last_part part.session ≢ None → StandsInPlace x told new plan s part.session → StepLeaves x plan s new
+
 -- The session's next step is looked at in a storage, where a slice of n steps sets out. Where its segment and its array are
 -- present, and it makes no array longer and starts no task, a slice of one step doesn't call the device; where one of them is
 -- absent and a hole has room for it, no sector is written, and too few free ones stop nothing. In both cases the areas stay
--- where they are if the step is made and goes on. Where both are present, a full device is told the sum after the step. Where
--- its segment is present, the device stops it only if core has room for it
+-- where they are if the step is made and goes on. Where both are present, all that is left after a step that ends tasks or makes
+-- one wait lies where it lay, and a full device is told the sum after the step. Where its segment is present, the device stops it
+-- only if core has room for it
 pub record IfPresent {A D : Type 0} (holds : D → Option (List (List ℕ))) (exact : Type 0) (core n : ℕ) (x : Storage) (plan : Placement) (s : Session) (m : SessionJob) (t : Task) (answered : Result A Stop) (old new : Machine) (device device' : D) : Type 0 where
   pub quiet : n ≤ 1 → WantsNothing x plan m t → (CallsDevice m t → ⊥) → device' ≡ device
   pub hole : exact → n ≤ 1 → HoleFits x plan m t → (CallsDevice m t → ⊥) → UsesHole holds answered device device'
   pub areas : (job : Job) → n ≤ 1 → GoesOnAlone s m t job → IsAtHand x plan m t → new.tasks.made ≡ old.tasks.made + 1 → StepKeepsAreas x plan s m t job new
+  pub left : n ≤ 1 → EndsOrWaits m t → WantsNothing x plan m t → new.tasks.made ≡ old.tasks.made + 1 → StepLeaves x plan s new
   pub sum : n ≤ 1 → WantsNothing x plan m t → (sum size : ℕ) → answered ≡ Err (stops.BackingFull sum size) → TellsAfter s m t sum
   pub room : exact → code_area x plan m t ≢ None → new.tasks.made ≡ old.tasks.made → StopsWithRoom core s m t answered
 
