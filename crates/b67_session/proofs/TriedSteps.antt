@@ -24,10 +24,10 @@ use Rattle.b67_session_ends.specs.Closing.{StandsChosen, ChoseSome, Closes}
 use Rattle.b67_session_ends.specs.Counts.{IsCounted}
 use Rattle.b67_session_ends.specs.Ends.{StandsBetween}
 use Rattle.b67_session_ends.specs.Holds.{waiting_step, HoldsSo, HoldsSome}
-use Rattle.b67_session.specs.Slices.{StandsAt, StopsWithRoom, GoesOnAlone, StepKeepsAreas, EndsOrWaits, StepLeaves, IfPresent}
+use Rattle.b67_session.specs.Slices.{StandsAt, StopsWithRoom, GoesOnAlone, StepKeepsAreas, StepLeaves, IfPresent}
 use Rattle.b67_session.specs.Steps.{StopOf, EndsStep, Steps}
-use Rattle.b67_session.proofs.AreasKept.{EndsEach, step_keeps_areas, goes_on_only, stop_made}
-use Rattle.b67_session.proofs.StepsLeave.{step_leaves}
+use Rattle.b67_session.proofs.AreasKept.{step_keeps_areas, goes_on_leaves, goes_on_only, stop_made}
+use Rattle.b67_session.proofs.StepsLeave.{EndsEach, step_leaves}
 use Rattle.b67_session.proofs.Between.{IsHalfMade, finished}
 use Rattle.b67_session.proofs.Halved.{ClosesSo, made_room, made_half, close_room, chosen_stands, close_half, ends_so, waits, wait_made, waits_so, holds_so, between_of, job_ordered, ends_first}
 use Rattle.b67_session.proofs.Rooms.{running_row}
@@ -103,7 +103,7 @@ module _ {D K : Type 0} {holds : D → Option (List (List ℕ))} {taken : K → 
         → (said ≢ None → code_area h.storage h.plan next_of.member next_of.task ≢ None → last.tasks.made ≡ k.tasks.made → StopsWithRoom (length k.cpu.core) s next_of.member next_of.task step)
         → (IsNotFull answered → IsNotFull step) → ((sum size : ℕ) → step ≡ Err (stops.BackingFull sum size) → answered ≡ Err (stops.BackingFull sum size))
         → ((job : Job) → GoesOnAlone s next_of.member next_of.task job → IsAtHand h.storage h.plan next_of.member next_of.task → last.tasks.made ≡ k.tasks.made + 1 → StepKeepsAreas h.storage h.plan s next_of.member next_of.task job last)
-        → (EndsOrWaits next_of.member next_of.task → WantsNothing h.storage h.plan next_of.member next_of.task → last.tasks.made ≡ k.tasks.made + 1 → StepLeaves h.storage h.plan s last)
+        → (WantsNothing h.storage h.plan next_of.member next_of.task → last.tasks.made ≡ k.tasks.made + 1 → StepLeaves h.storage h.plan s next_of.member next_of.task last)
         → IfPresent holds (said ≢ None) (length k.cpu.core) 1 h.storage h.plan s m t step k last device device'
     present_by m t next step last room fine full areas left =
         as_next s m next_of.member t next_of.task (λ (z : SessionJob) (v : Task). IfPresent holds (said ≢ None) (length k.cpu.core) 1 h.storage h.plan s z v step k last device device') next_of.next next
@@ -111,7 +111,7 @@ module _ {D K : Type 0} {holds : D → Option (List (List ℕ))} {taken : K → 
           quiet = λ one wants same. quiet_here x said s says h wants same;
           hole = λ tells one fits none. (let used = hole_here x said s says h tells fits none in record { written = used.written; not_full = fine used.not_full });
           areas = λ job one alone hand more. areas job alone hand more;
-          left = λ one ends wants more. left ends wants more;
+          left = λ one wants more. left wants more;
           sum = λ one wants sum size e. sum_here x said s says h wants sum size (full sum size e);
           room = room;
         })
@@ -150,7 +150,9 @@ module _ {D K : Type 0} {holds : D → Option (List (List ℕ))} {taken : K → 
             (λ job alone hand more.
             step_keeps_areas taken s z.member z.task c h.ordered z.next z.chosen z.ready h.storage (slot_here x said s says h) h.plan (content_after h.storage.device told') mid.tasks.printed new last tasks paper paper' paper''
             (areas_here x said s says h refl hand) counted answered each job alone)
-            (λ ends wants more. absurd (let called = areas_here x said s says h refl (inl wants) in ends called.0.job called.0.printed called.0.touched called.0.is))
+            (λ wants more.
+            goes_on_leaves taken s z.member z.task c h.ordered z.next z.chosen z.ready h.storage (slot_here x said s says h) h.plan (content_after h.storage.device told') mid.tasks.printed new last tasks paper paper' paper''
+            (areas_here x said s says h refl (inl wants)) counted answered each wants)
 
   -- the operator ends its task, or makes it wait: the attempt has left the tables as they were
   module _ (outcome : Attempt) (x : Tries holds taken told told' count k c mid (Ok outcome) new device device' paper paper') (stay : new.tasks ≡ mid.tasks) (said : Option (List (List ℕ))) (s : Session) (says : Says said told) (h : StandsAt said k s)
@@ -197,12 +199,12 @@ module _ {D K : Type 0} {holds : D → Option (List (List ℕ))} {taken : K → 
             → Steps taken (content_after said told') (said ≢ None) count s answered k last paper paper'''
         closed_row tables = finished taken (content_after said told') (said ≢ None) count s k closed last paper paper'' paper''' closed_half tables over.result over.finishes answered over.answer
 
-        pub closed_present : outcome ≢ attempts.Made → (WantsNothing h.storage h.plan (n x said s says h).member (n x said s says h).task → StepLeaves h.storage h.plan s last) → (m : SessionJob) (t : Task) → IsNext s m t → IfPresent holds (said ≢ None) (length k.cpu.core) 1 h.storage h.plan s m t answered k last device device'
+        pub closed_present : outcome ≢ attempts.Made → (WantsNothing h.storage h.plan (n x said s says h).member (n x said s says h).task → StepLeaves h.storage h.plan s (n x said s says h).member (n x said s says h).task last) → (m : SessionJob) (t : Task) → IsNext s m t → IfPresent holds (said ≢ None) (length k.cpu.core) 1 h.storage h.plan s m t answered k last device device'
         closed_present other left m t next =
             let z = n x said s says h in
             present_by (Ok outcome) x said s says h m t next answered last (λ tells code none. ended_room (length k.cpu.core) s z.member z.task over.result answered over.answer)
             (λ whole. ended_not_full over.result answered over.answer) (λ sum size e. absurd (ended_not_full over.result answered over.answer sum size e))
-            (λ job alone hand more. absurd (left_not other job alone hand)) (λ ends wants more. left wants)
+            (λ job alone hand more. absurd (left_not other job alone hand)) (λ wants more. left wants)
 
     -- the printer failed in them
     module _ (failed : Failed) (last : Machine) (paper'' : K) where
@@ -215,7 +217,7 @@ module _ {D K : Type 0} {holds : D → Option (List (List ℕ))} {taken : K → 
       cut_present other still m t next =
           present_by (Ok outcome) x said s says h m t next (Err stops.PrintFault) last (λ tells code none. tt) (λ whole sum size e. absurd cc) (λ sum size e. absurd cc)
           (λ job alone hand more. absurd (left_not other job alone hand))
-          (λ ends wants more. absurd (omega (arith, more, still, ap (λ (z : Tasks). z.made) stay, turned_made k.tasks mid.tasks c.row x.tables)))
+          (λ wants more. absurd (omega (arith, more, still, ap (λ (z : Tasks). z.made) stay, turned_made k.tasks mid.tasks c.row x.tables)))
 
   -- it ends its task
   module _ (ending : Ending) (x : Tries holds taken told told' count k c mid (Ok (attempts.Ends ending)) new device device' paper paper') (said : Option (List (List ℕ))) (s : Session) (says : Says said told) (h : StandsAt said k s) where
@@ -242,7 +244,7 @@ module _ {D K : Type 0} {holds : D → Option (List (List ℕ))} {taken : K → 
 
     -- where nothing is wanted, what is left lies where it lay
     pub ending_leaves : WantsNothing h.storage h.plan (n x said s says h).member (n x said s says h).task → (closed : Machine) (paper'' : K) → ClosesEach taken c ending (Ok tt) new closed paper' paper''
-        → (answered : Result (Unit {0}) Stop) (last : Machine) (paper''' : K) → EndsEach taken answered closed last paper'' paper''' → StepLeaves h.storage h.plan s last
+        → (answered : Result (Unit {0}) Stop) (last : Machine) (paper''' : K) → EndsEach taken answered closed last paper'' paper''' → StepLeaves h.storage h.plan s (n x said s says h).member (n x said s says h).task last
     ending_leaves wants closed paper'' closes answered last paper''' each =
         let z = n x said s says h in
         let told'' = content_after h.storage.device told' in
@@ -292,7 +294,7 @@ module _ {D K : Type 0} {holds : D → Option (List (List ℕ))} {taken : K → 
         (waits taken said (content_after said told') (length k.cpu.core) count k.tasks.printed s c new paper paper' state waiting).condition waiting_stands waiting_holds
 
     pub waiting_leaves : WantsNothing h.storage h.plan (n x said s says h).member (n x said s says h).task → (closed : Machine) (paper'' : K) → HoldsEach taken c state (Ok tt) new closed paper' paper''
-        → (answered : Result (Unit {0}) Stop) (last : Machine) (paper''' : K) → EndsEach taken answered closed last paper'' paper''' → StepLeaves h.storage h.plan s last
+        → (answered : Result (Unit {0}) Stop) (last : Machine) (paper''' : K) → EndsEach taken answered closed last paper'' paper''' → StepLeaves h.storage h.plan s (n x said s says h).member (n x said s says h).task last
     waiting_leaves wants closed paper'' holds answered last paper''' each =
         let z = n x said s says h in
         let told'' = content_after h.storage.device told' in
@@ -322,4 +324,4 @@ module _ {D K : Type 0} {holds : D → Option (List (List ℕ))} {taken : K → 
         let z = n x said s says h in
         present_by (Err stop) x said s says h m t next (Err stop) new (λ tells code none. stopped_room (length k.cpu.core) s z.member z.task h.storage h.plan stop (room_there x said s says h tells) code)
         (λ whole. not_full_as stop whole) (λ sum size e. ap (λ (z : Stop). Err z) (let is : stop ≡ stops.BackingFull sum size = cc in is))
-        (λ job alone hand more. absurd (not_counted more)) (λ ends wants more. absurd (not_counted more))
+        (λ job alone hand more. absurd (not_counted more)) (λ wants more. absurd (not_counted more))

@@ -77,7 +77,7 @@ turn-init g c = record {
   quiet = λ said s m t h says next few wants same. refl;
   written = λ said s m t h says next tells few fits none. record { told = λ all e. e };
   areas = λ said s m t h job says next few alone hand more. absurd (omega (arith, more));
-  left = λ said s m t h says next few ends wants more. absurd (omega (arith, more));
+  left = λ said s m t h says next few wants more. absurd (omega (arith, more));
 }
 
 pub step-requires-clause-due : goal.step-requires-clause-due
@@ -145,12 +145,12 @@ turn-preserved g c =
           let there = (present g a said s says h m t next (Ok progress.More) later (omega arith) (λ room. tt) (λ whole. not_full_ok progress.More) (λ sum size e. absurd cc)).areas job few alone hand
           (ap (λ (z : Machine). z.tasks.made) (sym same) ∙ counted) in
           subst (λ (z : Machine). StepKeepsAreas h.storage h.plan s m t job z) (sym same) there;
-      left = λ said s m t h says next few ends wants counted.
+      left = λ said s m t h says next few wants counted.
           let later = made_no_fewer (stepped g a said s says h (Ok tt) is) in
           let same : c.go_on_with_turn-more.new.machine ≡ c.step.new.machine = c.go_on_with_turn-more.ensures.rests (omega (arith, few)) in
-          let there = (present g a said s says h m t next (Ok progress.More) later (omega arith) (λ room. tt) (λ whole. not_full_ok progress.More) (λ sum size e. absurd cc)).left few ends wants
+          let there = (present g a said s says h m t next (Ok progress.More) later (omega arith) (λ room. tt) (λ whole. not_full_ok progress.More) (λ sum size e. absurd cc)).left few wants
           (ap (λ (z : Machine). z.tasks.made) (sym same) ∙ counted) in
-          subst (λ (z : Machine). StepLeaves h.storage h.plan s z) (sym same) there;
+          subst (λ (z : Machine). StepLeaves h.storage h.plan s m t z) (sym same) there;
     }
 
 -- ---- the answers
@@ -166,7 +166,7 @@ returns-in-Some-clause-present g c = λ said s m t says h next.
       quiet = λ few wants. c.turn.invariant.quiet said s m t h says next few wants;
       hole = λ tells few fits none. record { written = c.turn.invariant.written said s m t h says next tells few fits none; not_full = not_full_ok c.in-Some.progress };
       areas = λ job few alone hand more. c.turn.invariant.areas said s m t h job says next few alone hand more;
-      left = λ few ends wants more. c.turn.invariant.left said s m t h says next few ends wants more;
+      left = λ few wants more. c.turn.invariant.left said s m t h says next few wants more;
       sum = λ few wants sum size e. absurd (let b : ⊥ = cc in b);
       room = λ tells code none. tt;
     }
@@ -182,7 +182,7 @@ returns-in-Some-pause-clause-present g c = λ said s m t says h next.
       quiet = λ few wants. c.turn.invariant.quiet said s m t h says next few wants;
       hole = λ tells few fits none. record { written = c.turn.invariant.written said s m t h says next tells few fits none; not_full = not_full_ok c.in-Some-pause.progress };
       areas = λ job few alone hand more. c.turn.invariant.areas said s m t h job says next few alone hand more;
-      left = λ few ends wants more. c.turn.invariant.left said s m t h says next few ends wants more;
+      left = λ few wants more. c.turn.invariant.left said s m t h says next few wants more;
       sum = λ few wants sum size e. absurd (let b : ⊥ = cc in b);
       room = λ tells code none. tt;
     }
@@ -198,7 +198,7 @@ returns-in-None-clause-present g c = λ said s m t says h next.
       quiet = λ few wants. c.turn.invariant.quiet said s m t h says next few wants;
       hole = λ tells few fits none. record { written = c.turn.invariant.written said s m t h says next tells few fits none; not_full = not_full_ok progress.More };
       areas = λ job few alone hand more. c.turn.invariant.areas said s m t h job says next few alone hand more;
-      left = λ few ends wants more. c.turn.invariant.left said s m t h says next few ends wants more;
+      left = λ few wants more. c.turn.invariant.left said s m t h says next few wants more;
       sum = λ few wants sum size e. absurd (let b : ⊥ = cc in b);
       room = λ tells code none. tt;
     }
