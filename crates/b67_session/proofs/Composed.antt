@@ -95,10 +95,17 @@ module _ {B K : Type 0} (holds : B → Told) (taken : K → Option (List ℕ)) (
   at_once answered meets = record { jobs = s.jobs; others = others_same s o; same = λ e. refl; member = m; running = runs; meets = meets }
 
   -- the device wasn't called
-  silent : backing' ≡ backing → MachineRepresents x x.device new plan s → StillStands known new plan s
-  silent same k =
+  known_stands : backing' ≡ backing → MachineRepresents x x.device new plan s → MachineRepresents x known new plan s
+  known_stands same k =
       let says : Says x.device (holds backing') = subst (λ b. Says x.device (holds b)) (sym same) h.says in
-      (x, subst (λ d. MachineRepresents x d new plan s) (sym (told_is x.device (holds backing') says)) k)
+      subst (λ d. MachineRepresents x d new plan s) (sym (told_is x.device (holds backing') says)) k
+
+  silent : backing' ≡ backing → MachineRepresents x x.device new plan s → StillStands known new plan s
+  silent same k = (x, known_stands same k)
+
+  -- what has changed nothing has left everything where it was
+  pub still_once : backing' ≡ backing → new ≡ old → MachineRepresents x known new plan s
+  still_once quiet same = known_stands quiet (unchanged x x.device plan s old new same h.stands)
 
   pub made_once : Try (Ok tries.Made) → Whole (Ok attempts.Made)
   made_once meets = at_once (Ok attempts.Made) meets.0
