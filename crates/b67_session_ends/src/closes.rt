@@ -48,7 +48,8 @@ pub fn end_stuck(machine: &mut Machine, job: u8)
 }
 
 /// The chosen task ends so by itself: what isn't printed yet of the lines of the endings is printed, but LIMIT's; then the
-/// tasks end, and the step is counted. The areas of their arrays are free then, and all others stay where they are. If the printer fails, nothing changes but how much of them is printed.
+/// tasks end, and the step is counted. The areas of their arrays are free then, and all others stay where they are. If the
+/// printer fails, nothing changes but how much of them is printed.
 pub fn close<K: Sink>(
     machine: &mut Machine,
     chosen: Chosen,

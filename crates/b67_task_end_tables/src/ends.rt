@@ -22,8 +22,8 @@ use b67_task_switch::switch_to;
 use b67_task_tables::{Machine, NO_ROW};
 
 /// These tasks of a job end, each after those under it, as `endings` lists them. Their rows are gone, their slots are free,
-/// and the areas and sectors of their arrays are given back, and all others stay where they are; who awaited one is ready. The registers of no other task may be
-/// in use, and none are then. The tables' counts needn't be those of the session.
+/// the areas and sectors of their arrays are given back, and all others stay where they are; who awaited one is ready. The
+/// registers of no other task may be in use, and none are then. The tables' counts needn't be those of the session.
 fn end(machine: &mut Machine, job: u8, list: &[EndedTask])
     requires some { EndsSome machine.old job (ending_numbers (map pair_of list.now)) }
     requires few { length list.now ≤ 15 }
