@@ -61,11 +61,11 @@ same_none slot x y plan placed m t job adds = λ no_process home none gone other
 
 -- what is held in an area stays there, and nothing else comes into one
 same_area : (x y : Storage) (plan placed : Placement) (m : SessionJob) (t : Task) (job : Job) → KeepsAreas x y plan placed m t job → AddsNoArea x y plan placed m t job
-    → called_in m t ≢ Some 12 → called_in m t ≢ Some 18 → (home : ℕ) → (HasHome (objects_gone plan m job) home → ⊥) → (HoldsOther plan placed m t job home → ⊥) → (y.held home).area ≡ (x.held home).area
-same_area x y plan placed m t job keeps adds no_process no_resize home gone other = by (x.held home).area refl where
+    → called_in m t ≢ Some 12 → (home : ℕ) → (HasHome (objects_gone plan m job) home → ⊥) → (HoldsOther plan placed m t job home → ⊥) → (y.held home).area ≡ (x.held home).area
+same_area x y plan placed m t job keeps adds no_process home gone other = by (x.held home).area refl where
   by : (area : Option ℕ) → (x.held home).area ≡ area → (y.held home).area ≡ (x.held home).area
-  by None e = adds no_process no_resize home e gone other ∙ sym e
-  by (Some at) e = keeps no_process no_resize home (λ none. none-some at (sym none ∙ e)) gone other
+  by None e = adds no_process home e gone other ∙ sym e
+  by (Some at) e = keeps no_process home (λ none. none-some at (sym none ∙ e)) gone other
 
 module _ {K : Type 0} (taken : K → Option (List ℕ)) (s : Session) (m : SessionJob) (t : Task) (c : Chosen) (o : IsInOrderButPlaces s) (n : IsNext s m t) (chosen : n.chosen ≡ choice_of c) (ready : t.condition ≡ Ready)
     (x : Storage) (slot : ℕ) (plan : Placement) (told : Option (List (List ℕ))) (before : ℕ) (new last : Machine) (tasks : Tasks) (paper paper' paper'' : K)
@@ -106,9 +106,9 @@ module _ {K : Type 0} (taken : K → Option (List ℕ)) (s : Session) (m : Sessi
         is = r.is;
         stands = f.whole;
         placed = called.plan;
-        areas = λ no_process no_resize u i other.
+        areas = λ no_process u i other.
             ap (λ (z : Location). z.area) (f.left.held u i)
-            ∙ same_area x called.storage plan called.plan m t called.job stays adds no_process no_resize u.home (λ gone. other (of_record called.job goes gone)) (λ held. other (by_call called.job goes held));
+            ∙ same_area x called.storage plan called.plan m t called.job stays adds no_process u.home (λ gone. other (of_record called.job goes gone)) (λ held. other (by_call called.job goes held));
         ends = λ ends. absurd (ends called.job goes);
       }
 

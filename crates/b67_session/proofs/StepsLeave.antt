@@ -104,6 +104,6 @@ module _ {K : Type 0} (taken : K → Option (List ℕ)) (s : Session) (m : Sessi
         is = r.is;
         stands = f.whole;
         placed = plan;
-        areas = λ no_process no_resize u i other. ap (λ (z : Location). z.area) (all.held u i);
+        areas = λ no_process u i other. ap (λ (z : Location). z.area) (all.held u i);
         ends = λ ends. all;
       }

@@ -165,16 +165,16 @@ pub data IsStepOf (s stepped : Session) : Type 0 where
   but_its_limit : (part : StepResult) → first_part s ≡ Some part → last_part part.session ≢ None → part.session ≡ stepped → IsStepOf s stepped
 
 -- The machine stands for the session after the next step, or for that before its last part where the printer failed in it. Each
--- array, segment and data row that is left is in the area where it was, or in none as before, but one that DEALLOCATE empties and
--- one that is new; of PROCESS and RESIZE that isn't said. Where the step ends its task, or makes it wait, each of them is one of
--- those before, and is also in the same sectors
+-- array, segment and data row that is left is in the area where it was, or in none as before, but one that DEALLOCATE empties or
+-- RESIZE gives another length, and one that is new; of PROCESS that isn't said. Where the step ends its task, or makes it wait,
+-- each of them is one of those before, and is also in the same sectors
 pub record StepLeaves (x : Storage) (plan : Placement) (s : Session) (m : SessionJob) (t : Task) (new : Machine) : Type 0 where
   pub told : Option (List (List ℕ))
   pub session : Session
   pub is : IsStepOf s session
   pub stands : StandsForSession told new session
   pub placed : Placement
-  pub areas : called_in m t ≢ Some 12 → called_in m t ≢ Some 18 → (u : PagedObject) → Has (machine_view stands.plan session.jobs).objects u → (HeldAnew plan placed m t u.home → ⊥)
+  pub areas : called_in m t ≢ Some 12 → (u : PagedObject) → Has (machine_view stands.plan session.jobs).objects u → (HeldAnew plan placed m t u.home → ⊥)
       → (stands.storage.held u.home).area ≡ (x.held u.home).area
   pub ends : EndsOrWaits m t → LeavesInPlace x stands.storage plan stands.plan s session
 
