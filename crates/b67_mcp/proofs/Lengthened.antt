@@ -14,6 +14,7 @@ use Rattle.b67_lemmas.proofs.Members.{keyed_has}
 use Rattle.b67_model.specs.Common.{Array, Task, Job, SessionJob, with_array, all_zero, resized, number_of, sectors, Session}
 use Rattle.b67_stack.specs.declared.Cpu.{Cpu}
 use Rattle.b67_stack.specs.Common.{PagedObject, Storage, LowWordsStayed, TakesPlace}
+use Rattle.b67_stack.proofs.Helds.{held-other}
 use Rattle.b67_layout.specs.Common.{IsInOrderButCounts, Placement, array_object, objects_of, machine_view, IsRunning, with_job, area_held}
 use Rattle.b67_layout_storage.specs.Machine.{IsPresent, PagingKeeps, Says, content_after}
 use Rattle.b67_overlay.specs.Spans.{MachineCanPage}
@@ -136,7 +137,12 @@ module _ (x : Storage) (told : Option (List (List ℕ))) (k : Machine) (plan : P
     set_shorter at count now cpu areas table kept stayed says view =
         let y : Storage = shorter x (array_object plan m.constants.number a) at words in
         let new : Machine = record { cpu = cpu; areas = areas; sectors = table; tasks = k.tasks } in
-        ((y, subst (λ (d : Option (List (List ℕ))). MachineRepresents y d new plan (session_resized s m a words)) (sym h.storage.device ∙ sym (told_is told now says)) (stands_by y told cpu areas table kept stayed view)), refl)
+        record {
+          storage = y;
+          stands = subst (λ (d : Option (List (List ℕ))). MachineRepresents y d new plan (session_resized s m a words)) (sym h.storage.device ∙ sym (told_is told now says)) (stands_by y told cpu areas table kept stayed view);
+          others = λ q other. held-other x.held (plan.home m.constants.number a.identity) (record { area = Some at; chain = 0 }) q other;
+          tables = refl;
+        }
 
     same_session : length a.numbers ≡ words → session_resized s m a words ≡ s
     same_session e =
@@ -150,7 +156,12 @@ module _ (x : Storage) (told : Option (List (List ℕ))) (k : Machine) (plan : P
 
     pub set_same : (count : ℕ) (now : Option (List (List ℕ))) → length a.numbers ≡ words → Says told now → LengthSet (content_after told now) count x plan s m a words (Ok tt) k k
     set_same count now e says =
-        ((x, subst (λ (z : Session). MachineRepresents x (content_after told now) k plan z) (sym (same_session e)) (subst (λ (d : Option (List (List ℕ))). MachineRepresents x d k plan s) (sym (told_is told now says)) h)), refl)
+        record {
+          storage = x;
+          stands = subst (λ (z : Session). MachineRepresents x (content_after told now) k plan z) (sym (same_session e)) (subst (λ (d : Option (List (List ℕ))). MachineRepresents x d k plan s) (sym (told_is told now says)) h);
+          others = λ q other. refl;
+          tables = refl;
+        }
 
     module _ (count : ℕ) (now : Option (List (List ℕ))) (cpu : Cpu) (areas : Areas) (table : Table) (kept : PagingKeeps k.cpu cpu k.areas areas k.sectors table) (stayed : LowWordsStayed (machine_view plan s.jobs) k.cpu.core cpu.core) where
       abbrev new : Machine
@@ -162,7 +173,12 @@ module _ (x : Storage) (told : Option (List (List ℕ))) (k : Machine) (plan : P
       pub set_longer : length a.numbers < words → LengthenMeets x (machine_view plan s.jobs) (array_object plan m.constants.number a) words (Ok tt) cpu areas table now
           → LengthSet (content_after told now) count x plan s m a words (Ok tt) k (record { cpu = cpu; areas = areas; sectors = table; tasks = k.tasks })
       set_longer up (y, others, gone, stands) =
-          ((y, subst (λ (d : Option (List (List ℕ))). MachineRepresents y d new plan (session_resized s m a words)) (told_by y others) (stands_by y now cpu areas table kept stayed (stands objects_resized (grown_place up)))), refl)
+          record {
+            storage = y;
+            stands = subst (λ (d : Option (List (List ℕ))). MachineRepresents y d new plan (session_resized s m a words)) (told_by y others) (stands_by y now cpu areas table kept stayed (stands objects_resized (grown_place up)));
+            others = others.others;
+            tables = refl;
+          }
 
       left : (y : Storage) → OthersStay x y (plan.home m.constants.number a.identity) now → MachineCanPage y cpu areas table now (machine_view plan s.jobs)
           → MachineRepresents y (content_after told now) (record { cpu = cpu; areas = areas; sectors = table; tasks = k.tasks }) plan s

@@ -46,7 +46,7 @@ module _ {K : Type 0} (taken : K → Option (List ℕ)) (paper : K) (x : Storage
 
   -- RESIZE prints nothing either
   pub resize_meets : (answered : Result CallEnd Stop) (old new : Machine) → called_in m t ≡ Some 18 → live_tasks s.jobs ≤ s.peak → StaysMany m t → ResizeAnswers told count x plan s m t answered old new → CallMeets taken told count x plan s m t answered old new paper paper
-  resize_meets (Ok ends.Done) old new called low many h = (
+  resize_meets (Ok ends.Done) old new called low many (h, rest) = (
     record {
       job = h.job;
       printed = [];
@@ -58,7 +58,7 @@ module _ {K : Type 0} (taken : K → Option (List ℕ)) (paper : K) (x : Storage
       text = rest_none taken paper old.tasks.printed;
       reset = h.printed;
     },
-    λ no_process no_resize. absurd (no_resize called),
+    rest,
   )
   resize_meets (Ok (ends.Absent found)) old new called low many h = (h.0, h.1, refl)
   resize_meets (Ok (ends.Fault fault)) old new called low many h = (h.0, h.1, refl)

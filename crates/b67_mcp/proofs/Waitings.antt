@@ -35,7 +35,7 @@ module _ (x : Storage) (told : Option (List (List ℕ))) (plan : Placement) (s :
   made g =
       let step_is = is ∙ g.is in
       record {
-        meets = λ count. (record { job = g.job; is = step_is; storage = x; plan = plan; stands = stands_peak x told new plan s m g.job o.peak_low g.same g.stands; printed = g.printed }, λ no_process no_resize home none. refl);
+        meets = λ count. (record { job = g.job; is = step_is; storage = x; plan = plan; stands = stands_peak x told new plan s m g.job o.peak_low g.same g.stands; printed = g.printed }, λ no_process home none. refl);
         touches = made_untouched m t x plan g.job [] step_is;
         fits = λ (a : StartsTask m t). absurd (let both : g.job ≡ a.job = ap (job_in g.job) (sym step_is ∙ a.is) in let more = a.more in let z : ⊥ = omega (arith, ap (λ (j : Job). length j.tasks) both, more, g.same) in z);
       }

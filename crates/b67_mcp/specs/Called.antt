@@ -60,17 +60,19 @@ pub record IsCalled {K : Type 0} (taken : K → Option (List ℕ)) (paper paper'
   pub text : TookRest taken paper paper' (printed_text m t printed) before
   pub reset : new.tasks.printed ≡ printed_after printed before
 
--- at this address something else is held after the call: it is the original of an array that DEALLOCATE empties, or of one that
--- ARRAYDEC makes
+-- at this address something else is held after the call: it is the original of an array that DEALLOCATE empties, of the one that
+-- RESIZE gives another length, or of one that ARRAYDEC makes
 pub data HoldsOther (plan after : Placement) (m : SessionJob) (t : Task) (job : Job) (home : ℕ) : Type 0 where
   is_emptied : (a : Array) → called_in m t ≡ Some 17 → Has m.progress.job.arrays a → job.arrays ≡ (with_array m.progress.job a.identity all_zero).arrays
       → plan.home m.constants.number a.identity ≡ home → HoldsOther plan after m t job home
+  is_resized : (a : Array) → called_in m t ≡ Some 18 → Has m.progress.job.arrays a → touched_of m.constants m.progress.job t (step m.constants m.progress.job t) ≡ Some a.identity
+      → plan.home m.constants.number a.identity ≡ home → HoldsOther plan after m t job home
   is_new : called_in m t ≡ Some 8 → after.home m.constants.number m.progress.job.next_array ≡ home → HoldsOther plan after m t job home
 
--- everything else is held as it was: in the same areas, and in the same sectors. Of PROCESS and RESIZE that isn't said
+-- everything else is held as it was: in the same areas, and in the same sectors. Of PROCESS that isn't said
 abbrev pub StaysInPlace : Storage → Storage → Placement → Placement → SessionJob → Task → Job → Type 0
 StaysInPlace x y plan after m t job =
-    called_in m t ≢ Some 12 → called_in m t ≢ Some 18 → (home : ℕ) → (HoldsOther plan after m t job home → ⊥) → y.held home ≡ x.held home
+    called_in m t ≢ Some 12 → (home : ℕ) → (HoldsOther plan after m t job home → ⊥) → y.held home ≡ x.held home
 
 -- the call touches an array of its job, which is absent
 pub record TouchesAbsent (x : Storage) (plan : Placement) (m : SessionJob) (t : Task) (found : What) : Type 0 where

@@ -12,7 +12,7 @@ use Rattle.b67_task_tables.specs.declared.tables.Machine.{Machine}
 use Rattle.b67_task_tables.specs.Tables.{MachineRepresents}
 use Rattle.b67_task_tables.specs.Runs.{RunsTask, ForEachRun}
 use Rattle.b67_task_tables.specs.Shortage.{IsShortOf}
-use Rattle.b67_mcp.specs.Called.{TouchesAbsent, IsFull, IsRefused}
+use Rattle.b67_mcp.specs.Called.{StaysInPlace, TouchesAbsent, IsFull, IsRefused}
 use Rattle.b67_mcp.specs.declared.ends.CallEnd.{CallEnd}
 use Rattle.b67_mcp.specs.declared.ends.CallEnd.TheVariants as ends
 use Rattle.b67_mcp.specs.declared.ends.Stop.{Stop}
@@ -58,6 +58,13 @@ pub record StaysButArray (x : Storage) (told : Option (List (List ℕ))) (plan :
   pub others : (home : ℕ) → home ≢ plan.home m.constants.number a.identity → storage.held home ≡ x.held home
   pub tables : new.tasks ≡ old.tasks
 
+-- the machine stands for the session in which the array has so many words, and everything but the array is held as it was
+pub record HasLength (x : Storage) (told : Option (List (List ℕ))) (plan : Placement) (s : Session) (m : SessionJob) (a : Array) (words : ℕ) (old new : Machine) : Type 0 where
+  pub storage : Storage
+  pub stands : MachineRepresents storage told new plan (session_resized s m a words)
+  pub others : (home : ℕ) → home ≢ plan.home m.constants.number a.identity → storage.held home ≡ x.held home
+  pub tables : new.tasks ≡ old.tasks
+
 -- the chain of the array lacks so many sectors for so many words, and fewer are free
 pub record ChainLacks (y : Storage) (plan : Placement) (m : SessionJob) (a : Array) (words wants free : ℕ) : Type 0 where
   pub chain : (y.held (plan.home m.constants.number a.identity)).chain ≢ 0
@@ -79,7 +86,7 @@ pub record IsUnset (x : Storage) (told : Option (List (List ℕ))) (count : ℕ)
 
 -- by what was answered, over a device of so many sectors that tells this afterwards
 abbrev pub LengthSet : Option (List (List ℕ)) → ℕ → Storage → Placement → Session → SessionJob → Array → ℕ → Result (Unit {0}) Stop → Machine → Machine → Type 0
-LengthSet told count x plan s m a words (Ok done) old new = ((y : Storage) × MachineRepresents y told new plan (session_resized s m a words)) × (new.tasks ≡ old.tasks)
+LengthSet told count x plan s m a words (Ok done) old new = HasLength x told plan s m a words old new
 LengthSet told count x plan s m a words (Err (stops.BackingFull sum size)) old new = IsUnset x told count plan s m a words sum size old new
 LengthSet told count x plan s m a words (Err stops.BackingFault) old new = StaysButArray x told plan s m a old new
 LengthSet told count x plan s m a words (Err stop) old new = ⊥
@@ -96,7 +103,7 @@ pub record IsResized (told : Option (List (List ℕ))) (s : Session) (m : Sessio
 
 -- by what was answered, over a device of so many sectors that tells this afterwards
 abbrev pub ResizeAnswers : Option (List (List ℕ)) → ℕ → Storage → Placement → Session → SessionJob → Task → Result CallEnd Stop → Machine → Machine → Type 0
-ResizeAnswers told count x plan s m t (Ok ends.Done) old new = IsResized told s m t old new
+ResizeAnswers told count x plan s m t (Ok ends.Done) old new = (r : IsResized told s m t old new) × StaysInPlace x r.storage plan r.plan m t r.job
 ResizeAnswers told count x plan s m t (Ok (ends.Absent found)) old new = TouchesAbsent x plan m t found × (new ≡ old)
 ResizeAnswers told count x plan s m t (Ok (ends.Fault fault)) old new = (step m.constants m.progress.job t ≡ Err fault) × (new ≡ old)
 ResizeAnswers told count x plan s m t (Ok (ends.Waits state)) old new = ⊥

@@ -12,7 +12,10 @@ use Rattle.b67_law_sessions.proofs.Halves.{first_by}
 use Rattle.b67_session_lines.specs.Moments.{first_part, last_part, joined}
 use Rattle.b67_session_lines.proofs.Joins.{steps-have-parts}
 use Rattle.b67_stack.specs.Represents.{Storage}
-use Rattle.b67_layout.specs.Placement.{Placement}
+use Rattle.b67_stack.specs.Shapes.{Location}
+use Rattle.b67_layout.specs.Common.{Placement, objects_gone}
+use Rattle.b67_exec_cells.specs.Called.{called_in}
+use Rattle.b67_task_release.specs.Released.{HasHome}
 use Rattle.b67_task_tables.specs.declared.tables.Tasks.{Tasks}
 use Rattle.b67_task_tables.specs.declared.tables.Machine.{Machine}
 use Rattle.b67_task_tables.specs.Tables.{MachineRepresents}
@@ -21,42 +24,48 @@ use Rattle.b67_task_switch.specs.Counted.{choice_of}
 use Rattle.b67_task_switch.specs.Turns.{with_running}
 use Rattle.b67_session_ends.specs.Counts.{IsCounted}
 use Rattle.b67_session_ends.specs.Ends.{Finishes}
-use Rattle.b67_mcp.specs.Called.{IsCalled, HoldsOther, is_emptied, is_new}
+use Rattle.b67_mcp.specs.Called.{IsCalled, HoldsOther, is_emptied, is_resized, is_new}
 use Rattle.b67_session.specs.AttemptStops.{Stop}
 use Rattle.b67_session.specs.AttemptStops as stops
 use Rattle.b67_session.specs.declared.outcomes.Attempt.{Attempt}
 use Rattle.b67_session.specs.declared.outcomes.Attempt.TheVariants as attempts
 use Rattle.b67_session.specs.Tries.{EndsSo}
-use Rattle.b67_session.specs.Attempts.{KeepsAreas, AddsNoArea, CallKeepsAreas, EndsByRow, TablesStay}
-use Rattle.b67_session.specs.Slices.{GoesOnAlone, StepKeepsAreas}
+use Rattle.b67_session.specs.Attempts.{WantsNothing, KeepsAreas, AddsNoArea, CallKeepsAreas, EndsByRow, TablesStay}
+use Rattle.b67_session.specs.Slices.{GoesOnAlone, StepKeepsAreas, GoesOnWith, of_record, by_call, StepLeaves}
+use Rattle.b67_session.proofs.StepsLeave.{EndsEach, rests}
 use Rattle.b67_session.specs.Steps.{EndsStep}
 use Rattle.b67_session.proofs.Halved.{kept}
 use Rattle.b67_session.proofs.Lively.{Stays}
 use Rattle.b67_session.proofs.Made.{half, half_ordered, half_stands}
 
--- what the end of a step promises of each session between its parts
-abbrev pub EndsEach : {K : Type 0} → (K → Option (List ℕ)) → Result (Unit {0}) Stop → Machine → Machine → K → K → Type 0
-EndsEach taken answered mid last paper paper' =
-    (x : Storage) (told : Option (List (List ℕ))) (plan : Placement) (h : Session) → IsInOrderButLimit h → MachineRepresents x told mid plan h → EndsStep taken told h answered mid last paper paper'
-
 -- where there is no last part, nothing is done
-no_more : {K : Type 0} (taken : K → Option (List ℕ)) (told : Option (List (List ℕ))) (o : Option StepResult) → o ≡ None → (result : Result (Unit {0}) Failed) (old new : Machine) (paper paper' : K) → Finishes taken told o result old new paper paper' → new ≡ old
-no_more taken told None e (Ok done) old new paper paper' f = f.0
-no_more taken told None e (Err failed) old new paper paper' f = absurd f
-no_more taken told (Some part) e result old new paper paper' f = absurd (none-some part (sym e))
+no_more : {K : Type 0} (taken : K → Option (List ℕ)) (x : Storage) (told : Option (List (List ℕ))) (plan : Placement) (h : Session) (o : Option StepResult) → o ≡ None → (result : Result (Unit {0}) Failed) (old new : Machine) (paper paper' : K) → Finishes taken x told plan h o result old new paper paper' → new ≡ old
+no_more taken x told plan h None e (Ok done) old new paper paper' f = f.0
+no_more taken x told plan h None e (Err failed) old new paper paper' f = absurd f
+no_more taken x told plan h (Some part) e result old new paper paper' f = absurd (none-some part (sym e))
 
 -- the running task's slot doesn't matter
 same_places : (slot : ℕ) (x y : Storage) (plan placed : Placement) (m : SessionJob) (t : Task) (job : Job) → KeepsAreas x y (with_running plan slot) placed m t job → KeepsAreas x y plan placed m t job
-same_places slot x y plan placed m t job keeps = λ no_process no_resize home some gone other. keeps no_process no_resize home some gone (λ held. other (held_there home held)) where
+same_places slot x y plan placed m t job keeps = λ no_process home some gone other. keeps no_process home some gone (λ held. other (held_there home held)) where
   held_there : (home : ℕ) → HoldsOther (with_running plan slot) placed m t job home → HoldsOther plan placed m t job home
   held_there home (is_emptied a called among is at) = is_emptied a called among is at
   held_there home (is_new called at) = is_new called at
+  held_there home (is_resized a called among touched at) = is_resized a called among touched at
 
 same_none : (slot : ℕ) (x y : Storage) (plan placed : Placement) (m : SessionJob) (t : Task) (job : Job) → AddsNoArea x y (with_running plan slot) placed m t job → AddsNoArea x y plan placed m t job
-same_none slot x y plan placed m t job adds = λ no_process no_resize home none gone other. adds no_process no_resize home none gone (λ held. other (held_there home held)) where
+same_none slot x y plan placed m t job adds = λ no_process home none gone other. adds no_process home none gone (λ held. other (held_there home held)) where
   held_there : (home : ℕ) → HoldsOther (with_running plan slot) placed m t job home → HoldsOther plan placed m t job home
   held_there home (is_emptied a called among is at) = is_emptied a called among is at
   held_there home (is_new called at) = is_new called at
+  held_there home (is_resized a called among touched at) = is_resized a called among touched at
+
+-- what is held in an area stays there, and nothing else comes into one
+same_area : (x y : Storage) (plan placed : Placement) (m : SessionJob) (t : Task) (job : Job) → KeepsAreas x y plan placed m t job → AddsNoArea x y plan placed m t job
+    → called_in m t ≢ Some 12 → (home : ℕ) → (HasHome (objects_gone plan m job) home → ⊥) → (HoldsOther plan placed m t job home → ⊥) → (y.held home).area ≡ (x.held home).area
+same_area x y plan placed m t job keeps adds no_process home gone other = by (x.held home).area refl where
+  by : (area : Option ℕ) → (x.held home).area ≡ area → (y.held home).area ≡ (x.held home).area
+  by None e = adds no_process home e gone other ∙ sym e
+  by (Some at) e = keeps no_process home (λ none. none-some at (sym none ∙ e)) gone other
 
 module _ {K : Type 0} (taken : K → Option (List ℕ)) (s : Session) (m : SessionJob) (t : Task) (c : Chosen) (o : IsInOrderButPlaces s) (n : IsNext s m t) (chosen : n.chosen ≡ choice_of c) (ready : t.condition ≡ Ready)
     (x : Storage) (slot : ℕ) (plan : Placement) (told : Option (List (List ℕ))) (before : ℕ) (new last : Machine) (tasks : Tasks) (paper paper' paper'' : K)
@@ -77,13 +86,36 @@ module _ {K : Type 0} (taken : K → Option (List ℕ)) (s : Session) (m : Sessi
   stands : MachineRepresents called.storage told (record new { tasks = tasks }) called.plan part.session
   stands = half_stands s m t c o n chosen ready called.job called.printed called.touched called.is keeps.0 keeps.1 called.storage new called.plan tasks counted called.stands
 
-  ended : EndsStep taken told part.session answered (record new { tasks = tasks }) last paper' paper''
-  ended = each called.storage told called.plan part.session (half_ordered s m t c o n chosen ready called.job called.printed called.touched called.is keeps.0 keeps.1) stands
+  ordered : IsInOrderButLimit part.session
+  ordered = half_ordered s m t c o n chosen ready called.job called.printed called.touched called.is keeps.0 keeps.1
+
+  ended : EndsStep taken called.storage told called.plan part.session answered (record new { tasks = tasks }) last paper' paper''
+  ended = each called.storage told called.plan part.session ordered stands
+
+  -- where nothing is wanted, also if it meets its job's limit
+  pub goes_on_leaves : WantsNothing x plan m t → StepLeaves x plan s m t last
+  goes_on_leaves wants =
+      let r = rests taken s part first ordered called.storage told called.plan (record new { tasks = tasks }) last paper' paper'' answered stands each in
+      let f = r.stands in
+      let goes : GoesOnWith m t called.job = record { printed = called.printed; touched = called.touched; is = called.is } in
+      let stays = same_places slot x called.storage plan called.plan m t called.job call.1 in
+      let adds = same_none slot x called.storage plan called.plan m t called.job (call.2 (record { code = wants.code; array = wants.array })) in
+      record {
+        told = told;
+        session = r.session;
+        is = r.is;
+        stands = f.whole;
+        placed = called.plan;
+        areas = λ no_process u i other.
+            ap (λ (z : Location). z.area) (f.left.held u i)
+            ∙ same_area x called.storage plan called.plan m t called.job stays adds no_process u.home (λ gone. other (of_record called.job goes gone)) (λ held. other (by_call called.job goes held));
+        ends = λ ends. absurd (ends called.job goes);
+      }
 
   pub step_keeps_areas : (job : Job) → GoesOnAlone s m t job → StepKeepsAreas x plan s m t job last
   step_keeps_areas job alone =
       let none : last_part part.session ≡ None = alone.below part first in
-      let same : last ≡ record new { tasks = tasks } = no_more taken told (last_part part.session) none ended.result (record new { tasks = tasks }) last paper' paper'' ended.finishes in
+      let same : last ≡ record new { tasks = tasks } = no_more taken called.storage told called.plan part.session (last_part part.session) none ended.result (record new { tasks = tasks }) last paper' paper'' ended.finishes in
       let next_is : next s ≡ Some part = steps-have-parts s part first ∙ ap (λ (r : Option StepResult). Some (joined part r)) none in
       let is : Ok (Goes called.job called.printed called.touched) ≡ Ok (Goes job alone.printed alone.touched) = sym called.is ∙ alone.is in
       let job_is : called.job ≡ job = cc in

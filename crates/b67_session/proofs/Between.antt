@@ -15,7 +15,7 @@ use Rattle.b67_task_tables.specs.declared.tables.Tasks.{Tasks}
 use Rattle.b67_task_tables.specs.declared.tables.Machine.{Machine}
 use Rattle.b67_task_tables.specs.Tables.{MachineRepresents}
 use Rattle.b67_session.specs.AttemptStops.{Stop}
-use Rattle.b67_session_ends.specs.Ends.{Finishes, KeepsTables}
+use Rattle.b67_session_ends.specs.Ends.{Finishes}
 use Rattle.b67_session_ends.specs.Machines.{StandsAt}
 use Rattle.b67_session.specs.Slices.{Prints, NextFits}
 use Rattle.b67_session.specs.Steps.{StepGives, makes, halves, Steps, StopOf}
@@ -40,7 +40,7 @@ pub record IsHalfMade {K : Type 0} (taken : K → Option (List ℕ)) (told : Opt
   pub prints : (is_due : List ℕ) → Prints taken paper paper' was_due old.tasks.printed part.lines is_due 0
 
 module _ {K : Type 0} (taken : K → Option (List ℕ)) (told : Option (List (List ℕ))) (exact : Type 0) (count : ℕ) (s : Session) (old mid new : Machine) (paper paper' paper'' : K)
-    (x : IsHalfMade taken told exact s old mid paper paper') (keeps : KeepsTables mid new) where
+    (x : IsHalfMade taken told exact s old mid paper paper') (tables : new.tasks ≡ record mid.tasks { rows = new.tasks.rows; running = new.tasks.running; printed = new.tasks.printed }) where
   abbrev h : Session
   h = x.part.session
 
@@ -57,7 +57,7 @@ module _ {K : Type 0} (taken : K → Option (List ℕ)) (told : Option (List (Li
   }
 
   made_new : new.tasks.made ≡ old.tasks.made + 1
-  made_new = ap (λ (z : Tasks). z.made) keeps.tasks ∙ x.made
+  made_new = ap (λ (z : Tasks). z.made) tables ∙ x.made
 
   due_rest : (rest : StepResult) → last_part h ≡ Some rest → due h ≡ run_text rest.lines
   due_rest rest e = ap (λ (o : Option StepResult). text_of (option_or o (first_part h))) e
@@ -86,7 +86,7 @@ module _ {K : Type 0} (taken : K → Option (List ℕ)) (told : Option (List (Li
         meets = (refl, gives o e, ends);
       })
 
-  by_part : (o : Option StepResult) → last_part h ≡ o → (result : Result (Unit {0}) Failed) → Finishes taken told o result mid new paper' paper'' → (answered : Result (Unit {0}) Stop) → StopOf result answered
+  by_part : (o : Option StepResult) → last_part h ≡ o → (result : Result (Unit {0}) Failed) → Finishes taken x.storage told x.plan h o result mid new paper' paper'' → (answered : Result (Unit {0}) Stop) → StopOf result answered
       → Steps taken told exact count s answered old new paper paper''
   by_part None e (Ok done) (same, printer) answered is =
       let stands : StandsAt told new h = record { storage = x.storage; plan = x.plan; ordered = order_by None e; stands = subst (λ (k : Machine). MachineRepresents x.storage told k x.plan h) (sym same) x.stands } in
@@ -97,7 +97,7 @@ module _ {K : Type 0} (taken : K → Option (List ℕ)) (told : Option (List (Li
       let d = run_text rest.lines in
       let middle : Prints taken paper paper' x.was_due old.tasks.printed x.part.lines d mid.tasks.printed =
       subst (λ (n : ℕ). Prints taken paper paper' x.was_due old.tasks.printed x.part.lines d n) (sym x.unprinted) (x.prints d) in
-      whole_made (Some rest) e (record { storage = stands.storage; plan = stands.plan; ordered = order_by (Some rest) e; stands = stands.stands }) none
+      whole_made (Some rest) e (let w = stands.whole in record { storage = w.storage; plan = w.plan; ordered = order_by (Some rest) e; stands = w.stands }) none
       (λ is_due. prints_then taken paper paper' paper'' x.was_due d is_due old.tasks.printed mid.tasks.printed 0 x.part.lines rest.lines middle
       (prints_rest taken paper' paper'' d d is_due mid.tasks.printed 0 rest.lines refl refl refl text)) answered is
   by_part (Some rest) e (Err failed) (text, only) answered is =
@@ -133,5 +133,5 @@ module _ {K : Type 0} (taken : K → Option (List ℕ)) (told : Option (List (Li
       })
 
   -- whatever the last part is
-  pub finished : (result : Result (Unit {0}) Failed) → Finishes taken told (last_part h) result mid new paper' paper'' → (answered : Result (Unit {0}) Stop) → StopOf result answered → Steps taken told exact count s answered old new paper paper''
+  pub finished : (result : Result (Unit {0}) Failed) → Finishes taken x.storage told x.plan h (last_part h) result mid new paper' paper'' → (answered : Result (Unit {0}) Stop) → StopOf result answered → Steps taken told exact count s answered old new paper paper''
   finished result f answered is = by_part (last_part h) refl result f answered is

@@ -8,8 +8,6 @@ use Rattle.b67_task_tables.specs.Tables.{row_names}
 use Rattle.b67_session.specs.AttemptPassed.{CallCauses}
 use Rattle.b67_session.specs.AttemptStops.{Stop}
 use Rattle.b67_session.specs.AttemptStops as stops
-use Rattle.b67_task_tables.specs.Runs.{Kept}
-use Rattle.b67_session_ends.specs.Ends.{KeepsTables}
 use Rattle.b67_session.specs.Slices.{Keeps}
 
 -- an attempt that didn't stop, and a last part of which only the printer may fail
@@ -20,15 +18,6 @@ step_causes failed refused a b p q r answered one two rose other = record {
   device = λ e. absurd (other e);
 }
 
--- a step's parts one after the other
-pub keeps_then : (old mid last : Machine) → Keeps old mid → KeepsTables mid last → Keeps old last
-keeps_then old mid last a b = record {
-  core = b.core ∙ a.core;
-  sectors = b.sectors ∙ a.sectors;
-  halt = ap (λ (z : Tasks). z.halt) b.tasks ∙ a.halt;
-  names = ap (λ (z : Tasks). row_names z.jobs) b.tasks ∙ a.names;
-}
-
 -- the tables with another running row, and then an attempt
 pub turn_keeps : (old mid new : Machine) (row : ℕ) → mid.tasks ≡ record old.tasks { rows = mid.tasks.rows; running = row } → length mid.cpu.core ≡ length old.cpu.core → mid.sectors ≡ old.sectors → Keeps mid new → Keeps old new
 turn_keeps old mid new row tables core sectors k = record {
@@ -37,7 +26,3 @@ turn_keeps old mid new row tables core sectors k = record {
   halt = k.halt ∙ ap (λ (z : Tasks). z.halt) tables;
   names = k.names ∙ ap (λ (z : Tasks). row_names z.jobs) tables;
 }
-
--- and a task's end, or its wait
-pub close_keeps : (old mid new : Machine) → Keeps old mid → Kept mid new → Keeps old new
-close_keeps old mid new a b = record { core = b.keeps.core ∙ a.core; sectors = b.keeps.sectors ∙ a.sectors; halt = b.keeps.halt ∙ a.halt; names = b.keeps.names ∙ a.names }

@@ -95,10 +95,17 @@ module _ {B K : Type 0} (holds : B → Told) (taken : K → Option (List ℕ)) (
   at_once answered meets = record { jobs = s.jobs; others = others_same s o; same = λ e. refl; member = m; running = runs; meets = meets }
 
   -- the device wasn't called
-  silent : backing' ≡ backing → MachineRepresents x x.device new plan s → StillStands known new plan s
-  silent same k =
+  known_stands : backing' ≡ backing → MachineRepresents x x.device new plan s → MachineRepresents x known new plan s
+  known_stands same k =
       let says : Says x.device (holds backing') = subst (λ b. Says x.device (holds b)) (sym same) h.says in
-      (x, subst (λ d. MachineRepresents x d new plan s) (sym (told_is x.device (holds backing') says)) k)
+      subst (λ d. MachineRepresents x d new plan s) (sym (told_is x.device (holds backing') says)) k
+
+  silent : backing' ≡ backing → MachineRepresents x x.device new plan s → StillStands known new plan s
+  silent same k = (x, known_stands same k)
+
+  -- what has changed nothing has left everything where it was
+  pub still_once : backing' ≡ backing → new ≡ old → MachineRepresents x known new plan s
+  still_once quiet same = known_stands quiet (unchanged x x.device plan s old new same h.stands)
 
   pub made_once : Try (Ok tries.Made) → Whole (Ok attempts.Made)
   made_once meets = at_once (Ok attempts.Made) meets.0
@@ -398,8 +405,8 @@ pub keeps_areas : {K : Type 0} (taken : K → Option (List ℕ)) (x : Storage) (
     → (c : IsCalled taken paper paper' told s m t before new) × LeavesAreas x c.storage plan c.plan m t c.job → CallKeepsAreas taken x told before plan s m t new paper paper'
 keeps_areas taken x told before plan s m t new paper paper' (called, rest) = (
   called,
-  λ no_process no_resize home some gone other. ap (λ (l : Location). l.area) (rest no_process no_resize home gone other),
-  λ nothing no_process no_resize home none gone other. ap (λ (l : Location). l.area) (rest no_process no_resize home gone other) ∙ none,
+  λ no_process home some gone other. ap (λ (l : Location). l.area) (rest no_process home gone other),
+  λ nothing no_process home none gone other. ap (λ (l : Location). l.area) (rest no_process home gone other) ∙ none,
 )
 
 -- where something has a hole, something is wanted
@@ -419,8 +426,8 @@ module _ {K : Type 0} (taken : K → Option (List ℕ)) (x : Storage) (told afte
       let H : Told → Session → SessionJob → ℕ → K → Type 0 = λ d q v count p. CallKeepsAreas taken x d count plan q v t last p paper' in
       let it : H (content_after y.device after) (record s { jobs = b.again.jobs }) z printed first = (
         called,
-        λ no_process no_resize home some gone elsewhere.
-            rest no_process no_resize home (λ none. some (sym (stay home some) ∙ none)) gone elsewhere ∙ stay home some,
+        λ no_process home some gone elsewhere.
+            rest no_process home (λ none. some (sym (stay home some) ∙ none)) gone elsewhere ∙ stay home some,
         λ nothing. absurd (subst (λ (v : SessionJob). WantsNothing x plan v t → ⊥) (sym (member_is x told k plan s m t o runs found b same)) some_wanted nothing),
       ) in
       let there : H (content_after x.device after) (record s { jobs = b.again.jobs }) z printed first = subst (λ (d : Told). H d (record s { jobs = b.again.jobs }) z printed first) (retold_same taken x told after k 0 0 0 plan s t b.again tells) it in

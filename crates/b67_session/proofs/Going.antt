@@ -312,6 +312,7 @@ begun_present {A} {B} {D} holds told core' core n made k k' new s m t d d' e ste
   quiet = λ one wants. (first (omega (arith, one, few)) h).quiet (omega arith) wants;
   hole = λ tells one fits none. (let used = (first (omega (arith, one, few)) h).hole tells (omega arith) fits none in record { written = used.written; not_full = fine used.not_full });
   areas = λ job one alone hand more. (first (omega (arith, one, few)) h).areas job (omega arith) alone hand more;
+  left = λ one wants more. (first (omega (arith, one, few)) h).left (omega arith) wants more;
   sum = λ one wants sum size e. (first (omega (arith, one, few)) h).sum (omega arith) wants sum size (full sum size e);
   room = λ tells code none. same ((first (omega (arith, none, counted, later)) h).room tells code none);
 } where

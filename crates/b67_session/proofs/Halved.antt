@@ -66,7 +66,7 @@ module _ (s : Session) (m : SessionJob) (t : Task) (n : IsNext s m t) (o : IsInO
   pub due_first : (part : StepResult) → first_part s ≡ Some part → due s ≡ run_text part.lines
   due_first part is = ap (λ (q : Option StepResult). text_of (option_or q (first_part s))) (no_last s o) ∙ ap text_of is
 
-  ends_first : (ending : Ending) → EndsSo m t ending → first_part s ≡ Some (part_of s n.chosen m t (ends_with m.progress.job t.number ending))
+  pub ends_first : (ending : Ending) → EndsSo m t ending → first_part s ≡ Some (part_of s n.chosen m t (ends_with m.progress.job t.number ending))
   ends_first Ended e = first_by s m t n (Ok Leaves) e
   ends_first (Faulted fault) e = first_by s m t n (Err fault) e
   ends_first Parent e = absurd e

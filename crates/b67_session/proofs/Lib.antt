@@ -12,6 +12,7 @@ pub mod Halved
 pub mod Stopped
 pub mod Tabled
 pub mod AreasKept
+pub mod StepsLeave
 pub mod TriedSteps
 pub mod Caused
 pub mod Going

@@ -15,9 +15,9 @@ use Rattle.b67_session.specs.AttemptStops as stops
 use Rattle.b67_task_tables.specs.declared.tables.TaskRow.{TaskRow}
 use Rattle.b67_task_tables.specs.declared.tables.Tasks.{Tasks}
 use Rattle.b67_task_tables.specs.declared.tables.Machine.{Machine}
-use Rattle.b67_task_tables.specs.Tables.{task_row, row_names, TasksShow}
-use Rattle.b67_session_ends.specs.Ends.{LimitEnds, HasLimited, KeepsTables}
-use Rattle.b67_session.specs.Slices.{StandsAt, StandsSome, IsLimited, IsOpen, LivesOn, StandsLimited, HasNoTasks, RepresentsWithoutTasks, Keeps, Prints, IsCutAgain}
+use Rattle.b67_task_tables.specs.Tables.{task_row, TasksShow}
+use Rattle.b67_session_ends.specs.Ends.{LimitEnds, HasLimited}
+use Rattle.b67_session.specs.Slices.{StandsAt, StandsSome, IsLimited, IsOpen, LivesOn, StandsLimited, HasNoTasks, RepresentsWithoutTasks, Prints, IsCutAgain}
 use Rattle.b67_session.proofs.Next.{in_session, in_job}
 use Rattle.b67_session.proofs.Printing.{prints_rest, prints_more}
 use Rattle.b67_session.proofs.Rows.{no_row}
@@ -82,14 +82,6 @@ has_limited told k l = record {
   is_due = l.limited.is;
 }
 
-pub keeps_counts : (old new : Machine) → KeepsTables old new → Keeps old new
-keeps_counts old new k = record {
-  core = k.core;
-  sectors = k.sectors;
-  halt = ap (λ (z : Tasks). z.halt) k.tasks;
-  names = ap (λ (z : Tasks). row_names z.jobs) k.tasks;
-}
-
 module _ (told : Option (List (List ℕ))) (h : Session) (part : StepResult) (old : Machine) (l : IsLimited told old h part) where
   pub due_is : due h ≡ run_text part.lines
   due_is = ap (λ (o : Option StepResult). text_of (option_or o (first_part h))) l.is
@@ -98,14 +90,14 @@ module _ (told : Option (List (List ℕ))) (h : Session) (part : StepResult) (ol
   order = subst (OrderAfter h) l.is (last_parts_restore_order h l.ordered)
 
   module _ {K : Type 0} (taken : K → Option (List ℕ)) (new : Machine) (paper paper' : K) where
-    pub over_stands : LimitEnds taken told part (Ok tt) old new paper paper' → StandsAt told new part.session
-    over_stands (text, none, stands) = record { storage = stands.storage; plan = stands.plan; ordered = order; stands = stands.stands }
+    pub over_stands : LimitEnds taken l.storage told l.plan h part (Ok tt) old new paper paper' → StandsAt told new part.session
+    over_stands (text, none, stands) = let w = stands.whole in record { storage = w.storage; plan = w.plan; ordered = order; stands = w.stands }
 
-    pub over_prints : LimitEnds taken told part (Ok tt) old new paper paper' → Prints taken paper paper' (due h) old.tasks.printed part.lines [] 0
+    pub over_prints : LimitEnds taken l.storage told l.plan h part (Ok tt) old new paper paper' → Prints taken paper paper' (due h) old.tasks.printed part.lines [] 0
     over_prints (text, none, stands) = prints_rest taken paper paper' (run_text part.lines) (due h) [] old.tasks.printed 0 part.lines due_is refl refl text
 
     module _ (failed : Failed) where
-      pub cut_again : {D : Type 0} (device : D) → LimitEnds taken told part (Err failed) old new paper paper' → IsCutAgain taken h (Err stops.PrintFault) old new device device paper paper'
+      pub cut_again : {D : Type 0} (device : D) → LimitEnds taken l.storage told l.plan h part (Err failed) old new paper paper' → IsCutAgain taken h (Err stops.PrintFault) old new device device paper paper'
       cut_again device (text, only) = record {
         answer = refl;
         only = only;
@@ -114,7 +106,7 @@ module _ (told : Option (List (List ℕ))) (h : Session) (part : StepResult) (ol
         backing = refl;
       }
 
-      pub cut_limited : LimitEnds taken told part (Err failed) old new paper paper' → IsLimited told new h part
+      pub cut_limited : LimitEnds taken l.storage told l.plan h part (Err failed) old new paper paper' → IsLimited told new h part
       cut_limited (text, only) = subst (λ (k : Machine). IsLimited told k h part) (sym only) (record {
         storage = l.storage;
         plan = l.plan;

@@ -1,8 +1,8 @@
 -- A step, once its operator was tried: what it answers, prints and leaves.
-use Rattle.std.proofs.Common.{◌≡◌, ◌≢◌, ℕ, ◌+◌, List, length, Option, Some, None, Result, Ok, Err, refl, sym, ap, ◌∙◌, subst, arith}
+use Rattle.std.proofs.Common.{◌≡◌, ◌≢◌, ℕ, ◌+◌, List, length, Option, Some, None, Result, Ok, Err, refl, sym, ap, ◌∙◌, subst, arith, inl}
 use Rattle.b67_word.specs.declared.faults.Ending.{Ending}
 use Rattle.b67_word.specs.declared.faults.Failed.{Failed}
-use Rattle.b67_model.specs.Common.{Stepped, ends_with, StepResult, Condition, Task, Job, SessionJob, Session}
+use Rattle.b67_model.specs.Common.{Stepped, ends_with, StepResult, Condition, Task, Job, SessionJob, Session, Choice, Waits, IsInOrderButPlaces}
 use Rattle.b67_law_sessions.specs.Turns.{IsNext, part_of}
 use Rattle.b67_stack.specs.Represents.{Storage}
 use Rattle.b67_layout_storage.specs.Machine.{Says, content_after}
@@ -16,22 +16,32 @@ use Rattle.b67_task_switch.specs.Counted.{choice_of, CountsHaveRoom}
 use Rattle.b67_task_switch.specs.Turns.{with_running}
 use Rattle.b67_session.specs.AttemptStops.{Stop}
 use Rattle.b67_session.specs.AttemptStops as stops
-use Rattle.b67_session.specs.Attempts.{AttemptFits, IsNotFull, IsAtHand}
+use Rattle.b67_session.specs.Attempts.{WantsNothing, AttemptFits, IsNotFull, IsAtHand}
 use Rattle.b67_session.proofs.Composed.{not_full_as}
 use Rattle.b67_session.specs.declared.outcomes.Attempt.{Attempt}
 use Rattle.b67_session.specs.declared.outcomes.Attempt.TheVariants as attempts
 use Rattle.b67_session_ends.specs.Closing.{StandsChosen, ChoseSome, Closes}
 use Rattle.b67_session_ends.specs.Counts.{IsCounted}
-use Rattle.b67_session_ends.specs.Ends.{StandsBetween, KeepsTables}
+use Rattle.b67_session_ends.specs.Ends.{StandsBetween}
 use Rattle.b67_session_ends.specs.Holds.{waiting_step, HoldsSo, HoldsSome}
-use Rattle.b67_session.specs.Slices.{StandsAt, StopsWithRoom, GoesOnAlone, StepKeepsAreas, IfPresent}
+use Rattle.b67_session.specs.Slices.{StandsAt, StopsWithRoom, GoesOnAlone, StepKeepsAreas, StepLeaves, IfPresent}
 use Rattle.b67_session.specs.Steps.{StopOf, EndsStep, Steps}
-use Rattle.b67_session.proofs.AreasKept.{EndsEach, step_keeps_areas, goes_on_only, stop_made}
+use Rattle.b67_session.proofs.AreasKept.{step_keeps_areas, goes_on_leaves, goes_on_only, stop_made}
+use Rattle.b67_session.proofs.StepsLeave.{EndsEach, step_leaves}
 use Rattle.b67_session.proofs.Between.{IsHalfMade, finished}
-use Rattle.b67_session.proofs.Halved.{ClosesSo, made_room, made_half, close_room, chosen_stands, close_half, ends_so, waits, wait_made, waits_so, holds_so, between_of}
+use Rattle.b67_session.proofs.Halved.{ClosesSo, made_room, made_half, close_room, chosen_stands, close_half, ends_so, waits, wait_made, waits_so, holds_so, between_of, job_ordered, ends_first}
+use Rattle.b67_session.proofs.Rooms.{running_row}
+use Rattle.b67_session_ends.proofs.Waits.{waits_settle}
+use Rattle.b67_law_sessions.proofs.Settled.{ends_settle}
+use Rattle.b67_law_sessions.proofs.Halves.{first_by}
+use Rattle.b67_layout.proofs.Weaker.{but_counts}
+use Rattle.b67_session_lines.specs.Moments.{first_part}
+use Rattle.b67_session.specs.AttemptPassed.{WaitsSo}
+use Rattle.b67_layout.specs.Session.{IsRunning}
+use Rattle.b67_task_tables.specs.Tables.{MachineRepresents}
 use Rattle.b67_session.proofs.Next.{as_next}
 use Rattle.b67_session.proofs.Stopped.{cut_steps, stop_steps}
-use Rattle.b67_session.proofs.Turned.{NextOf, Tries, Attempted, attempted, n, quiet_here, hole_here, sum_here, slot_here, areas_here, outcome_here, room_there}
+use Rattle.b67_session.proofs.Turned.{NextOf, Tries, Attempted, attempted, n, quiet_here, hole_here, sum_here, slot_here, areas_here, outcome_here, still_here, running_here, room_there}
 use Rattle.b67_session.proofs.Tabled.{stop_printed, turned_printed, turned_made}
 
 -- ---- stops with room
@@ -55,13 +65,24 @@ module _ (core : ℕ) (s : Session) (m : SessionJob) (t : Task) where
 abbrev pub ClosesEach : {K : Type 0} → (K → Option (List ℕ)) → Chosen → Ending → Result (Unit {0}) Failed → Machine → Machine → K → K → Type 0
 ClosesEach taken c ending result old new paper paper' =
     (x : Storage) (told : Option (List (List ℕ))) (plan : Placement) (s : Session) (m : SessionJob) (t : Task) → StandsChosen x told old plan s m t c
-    → Closes taken told (part_of s (choice_of c) m t (ends_with m.progress.job t.number ending)) result old new paper paper'
+    → Closes taken x told plan s (part_of s (choice_of c) m t (ends_with m.progress.job t.number ending)) result old new paper paper'
 
 -- and `hold`
 abbrev pub HoldsEach : {K : Type 0} → (K → Option (List ℕ)) → Chosen → TaskState → Result (Unit {0}) Failed → Machine → Machine → K → K → Type 0
 HoldsEach taken c state result old new paper paper' =
     (x : Storage) (told : Option (List (List ℕ))) (plan : Placement) (s : Session) (m : SessionJob) (t : Task) (condition : Condition) → StandsChosen x told old plan s m t c → HoldsSo plan m t state condition
-    → Closes taken told (part_of s (choice_of c) m t (waiting_step m.progress.job t condition)) result old new paper paper'
+    → Closes taken x told plan s (part_of s (choice_of c) m t (waiting_step m.progress.job t condition)) result old new paper paper'
+
+-- the chosen task's row, where all is where it was
+chosen_by : {new : Machine} {c : Chosen} (m : SessionJob) (t : Task) (s : Session) (n : IsNext s m t) (x : Storage) (told : Option (List (List ℕ))) (plan : Placement) → n.chosen ≡ choice_of c → IsInOrderButPlaces s
+    → MachineRepresents x told new plan s → IsRunning plan s.jobs m t → new.tasks.running ≡ c.row → StandsChosen x told new plan s m t c
+chosen_by {new} {c} m t s n x told plan chosen o stands running runs = record {
+  ordered = o;
+  next = n;
+  chosen = chosen;
+  stands = stands;
+  row = running_row x new.cpu new.tasks plan s m t c.row (but_counts s o) stands.session stands.tables running runs;
+}
 
 -- ---- the step
 
@@ -82,13 +103,15 @@ module _ {D K : Type 0} {holds : D → Option (List (List ℕ))} {taken : K → 
         → (said ≢ None → code_area h.storage h.plan next_of.member next_of.task ≢ None → last.tasks.made ≡ k.tasks.made → StopsWithRoom (length k.cpu.core) s next_of.member next_of.task step)
         → (IsNotFull answered → IsNotFull step) → ((sum size : ℕ) → step ≡ Err (stops.BackingFull sum size) → answered ≡ Err (stops.BackingFull sum size))
         → ((job : Job) → GoesOnAlone s next_of.member next_of.task job → IsAtHand h.storage h.plan next_of.member next_of.task → last.tasks.made ≡ k.tasks.made + 1 → StepKeepsAreas h.storage h.plan s next_of.member next_of.task job last)
+        → (WantsNothing h.storage h.plan next_of.member next_of.task → last.tasks.made ≡ k.tasks.made + 1 → StepLeaves h.storage h.plan s next_of.member next_of.task last)
         → IfPresent holds (said ≢ None) (length k.cpu.core) 1 h.storage h.plan s m t step k last device device'
-    present_by m t next step last room fine full areas =
+    present_by m t next step last room fine full areas left =
         as_next s m next_of.member t next_of.task (λ (z : SessionJob) (v : Task). IfPresent holds (said ≢ None) (length k.cpu.core) 1 h.storage h.plan s z v step k last device device') next_of.next next
         (record {
           quiet = λ one wants same. quiet_here x said s says h wants same;
           hole = λ tells one fits none. (let used = hole_here x said s says h tells fits none in record { written = used.written; not_full = fine used.not_full });
           areas = λ job one alone hand more. areas job alone hand more;
+          left = λ one wants more. left wants more;
           sum = λ one wants sum size e. sum_here x said s says h wants sum size (full sum size e);
           room = room;
         })
@@ -112,11 +135,12 @@ module _ {D K : Type 0} {holds : D → Option (List (List ℕ))} {taken : K → 
       made_between = between_of taken (content_after said told') (said ≢ None) s k counts paper paper' halved
 
       module _ (answered : Result (Unit {0}) Stop) (last : Machine) (paper'' : K) (each : EndsEach taken answered counts last paper' paper'') where
-        abbrev ended : EndsStep taken (content_after said told') halved.part.session answered counts last paper' paper''
+        abbrev ended : EndsStep taken halved.storage (content_after said told') halved.plan halved.part.session answered counts last paper' paper''
         ended = each halved.storage (content_after said told') halved.plan halved.part.session halved.ordered halved.stands
 
-        pub made_row : KeepsTables counts last → Steps taken (content_after said told') (said ≢ None) count s answered k last paper paper''
-        made_row keeps = finished taken (content_after said told') (said ≢ None) count s k counts last paper paper' paper'' halved keeps ended.result ended.finishes answered ended.answer
+        pub made_row : last.tasks ≡ record counts.tasks { rows = last.tasks.rows; running = last.tasks.running; printed = last.tasks.printed }
+            → Steps taken (content_after said told') (said ≢ None) count s answered k last paper paper''
+        made_row tables = finished taken (content_after said told') (said ≢ None) count s k counts last paper paper' paper'' halved tables ended.result ended.finishes answered ended.answer
 
         pub made_present : (m : SessionJob) (t : Task) → IsNext s m t → IfPresent holds (said ≢ None) (length k.cpu.core) 1 h.storage h.plan s m t answered k last device device'
         made_present m t next =
@@ -126,6 +150,9 @@ module _ {D K : Type 0} {holds : D → Option (List (List ℕ))} {taken : K → 
             (λ job alone hand more.
             step_keeps_areas taken s z.member z.task c h.ordered z.next z.chosen z.ready h.storage (slot_here x said s says h) h.plan (content_after h.storage.device told') mid.tasks.printed new last tasks paper paper' paper''
             (areas_here x said s says h refl hand) counted answered each job alone)
+            (λ wants more.
+            goes_on_leaves taken s z.member z.task c h.ordered z.next z.chosen z.ready h.storage (slot_here x said s says h) h.plan (content_after h.storage.device told') mid.tasks.printed new last tasks paper paper' paper''
+            (areas_here x said s says h refl (inl wants)) counted answered each wants)
 
   -- the operator ends its task, or makes it wait: the attempt has left the tables as they were
   module _ (outcome : Attempt) (x : Tries holds taken told told' count k c mid (Ok outcome) new device device' paper paper') (stay : new.tasks ≡ mid.tasks) (said : Option (List (List ℕ))) (s : Session) (says : Says said told) (h : StandsAt said k s)
@@ -155,40 +182,42 @@ module _ {D K : Type 0} {holds : D → Option (List (List ℕ))} {taken : K → 
     the_part = part_of left.session (choice_of c) left.member left.task made
 
     -- the endings' lines were printed
-    module _ (closed : Machine) (paper'' : K) (closes : Closes taken (content_after said told') the_part (Ok tt) new closed paper' paper'') where
+    module _ (closed : Machine) (paper'' : K) (closes : Closes taken so.still.0 (content_after said told') left.plan left.session the_part (Ok tt) new closed paper' paper'') where
       closed_half : IsHalfMade taken (content_after said told') (said ≢ None) s k closed paper paper''
       closed_half =
           let (rest, none, counted, stands) = closes in
-          close_half taken said (content_after said told') (length k.cpu.core) count k.tasks.printed s c new paper paper' (Ok outcome) made left so k closed paper'' rest none counted stands h.stands.tables.counts.made refl printed_still refl
+          close_half taken said (content_after said told') (length k.cpu.core) count k.tasks.printed s c new paper paper' (Ok outcome) made left so k closed paper'' rest none counted stands.whole h.stands.tables.counts.made refl printed_still refl
 
       pub closed_between : StandsBetween closed
       closed_between = between_of taken (content_after said told') (said ≢ None) s k closed paper paper'' closed_half
 
       module _ (answered : Result (Unit {0}) Stop) (last : Machine) (paper''' : K) (each : EndsEach taken answered closed last paper'' paper''') where
-        abbrev over : EndsStep taken (content_after said told') closed_half.part.session answered closed last paper'' paper'''
+        abbrev over : EndsStep taken closed_half.storage (content_after said told') closed_half.plan closed_half.part.session answered closed last paper'' paper'''
         over = each closed_half.storage (content_after said told') closed_half.plan closed_half.part.session closed_half.ordered closed_half.stands
 
-        pub closed_row : KeepsTables closed last → Steps taken (content_after said told') (said ≢ None) count s answered k last paper paper'''
-        closed_row keeps = finished taken (content_after said told') (said ≢ None) count s k closed last paper paper'' paper''' closed_half keeps over.result over.finishes answered over.answer
+        pub closed_row : last.tasks ≡ record closed.tasks { rows = last.tasks.rows; running = last.tasks.running; printed = last.tasks.printed }
+            → Steps taken (content_after said told') (said ≢ None) count s answered k last paper paper'''
+        closed_row tables = finished taken (content_after said told') (said ≢ None) count s k closed last paper paper'' paper''' closed_half tables over.result over.finishes answered over.answer
 
-        pub closed_present : outcome ≢ attempts.Made → (m : SessionJob) (t : Task) → IsNext s m t → IfPresent holds (said ≢ None) (length k.cpu.core) 1 h.storage h.plan s m t answered k last device device'
-        closed_present other m t next =
+        pub closed_present : outcome ≢ attempts.Made → (WantsNothing h.storage h.plan (n x said s says h).member (n x said s says h).task → StepLeaves h.storage h.plan s (n x said s says h).member (n x said s says h).task last) → (m : SessionJob) (t : Task) → IsNext s m t → IfPresent holds (said ≢ None) (length k.cpu.core) 1 h.storage h.plan s m t answered k last device device'
+        closed_present other left m t next =
             let z = n x said s says h in
             present_by (Ok outcome) x said s says h m t next answered last (λ tells code none. ended_room (length k.cpu.core) s z.member z.task over.result answered over.answer)
             (λ whole. ended_not_full over.result answered over.answer) (λ sum size e. absurd (ended_not_full over.result answered over.answer sum size e))
-            (λ job alone hand more. absurd (left_not other job alone hand))
+            (λ job alone hand more. absurd (left_not other job alone hand)) (λ wants more. left wants)
 
     -- the printer failed in them
     module _ (failed : Failed) (last : Machine) (paper'' : K) where
-      pub cut_row : k.tasks.halt ≢ Some k.tasks.made → new.tasks.halt ≡ k.tasks.halt → Closes taken (content_after said told') the_part (Err failed) new last paper' paper'' → Steps taken (content_after said told') (said ≢ None) count s (Err stops.PrintFault) k last paper paper''
+      pub cut_row : k.tasks.halt ≢ Some k.tasks.made → new.tasks.halt ≡ k.tasks.halt → Closes taken so.still.0 (content_after said told') left.plan left.session the_part (Err failed) new last paper' paper'' → Steps taken (content_after said told') (said ≢ None) count s (Err stops.PrintFault) k last paper paper''
       cut_row due halt closes =
           let (more, only) = closes in
           cut_steps taken said (content_after said told') (length k.cpu.core) count k.tasks.printed s c new paper paper' (Ok outcome) made left so k last paper'' h.stands.tables.counts.made refl printed_still refl due halt more only
 
-      pub cut_present : outcome ≢ attempts.Made → (m : SessionJob) (t : Task) → IsNext s m t → IfPresent {A = Unit {0}} holds (said ≢ None) (length k.cpu.core) 1 h.storage h.plan s m t (Err stops.PrintFault) k last device device'
-      cut_present other m t next =
+      pub cut_present : outcome ≢ attempts.Made → (last.tasks.made ≡ new.tasks.made) → (m : SessionJob) (t : Task) → IsNext s m t → IfPresent {A = Unit {0}} holds (said ≢ None) (length k.cpu.core) 1 h.storage h.plan s m t (Err stops.PrintFault) k last device device'
+      cut_present other still m t next =
           present_by (Ok outcome) x said s says h m t next (Err stops.PrintFault) last (λ tells code none. tt) (λ whole sum size e. absurd cc) (λ sum size e. absurd cc)
           (λ job alone hand more. absurd (left_not other job alone hand))
+          (λ wants more. absurd (omega (arith, more, still, ap (λ (z : Tasks). z.made) stay, turned_made k.tasks mid.tasks c.row x.tables)))
 
   -- it ends its task
   module _ (ending : Ending) (x : Tries holds taken told told' count k c mid (Ok (attempts.Ends ending)) new device device' paper paper') (said : Option (List (List ℕ))) (s : Session) (says : Says said told) (h : StandsAt said k s) where
@@ -210,8 +239,23 @@ module _ {D K : Type 0} {holds : D → Option (List (List ℕ))} {taken : K → 
 
     -- what closing says of it
     pub ending_closes : (result : Result (Unit {0}) Failed) (closed : Machine) (paper'' : K) → ClosesEach taken c ending result new closed paper' paper''
-        → Closes taken (content_after said told') (the_part (attempts.Ends ending) x x.stay said s says h ending_made ending_so) result new closed paper' paper''
+        → Closes taken ending_so.still.0 (content_after said told') ending_left.plan ending_left.session (the_part (attempts.Ends ending) x x.stay said s says h ending_made ending_so) result new closed paper' paper''
     ending_closes result closed paper'' closes = closes ending_so.still.0 (content_after said told') ending_left.plan ending_left.session ending_left.member ending_left.task ending_stands
+
+    -- where nothing is wanted, what is left lies where it lay
+    pub ending_leaves : WantsNothing h.storage h.plan (n x said s says h).member (n x said s says h).task → (closed : Machine) (paper'' : K) → ClosesEach taken c ending (Ok tt) new closed paper' paper''
+        → (answered : Result (Unit {0}) Stop) (last : Machine) (paper''' : K) → EndsEach taken answered closed last paper'' paper''' → StepLeaves h.storage h.plan s (n x said s says h).member (n x said s says h).task last
+    ending_leaves wants closed paper'' closes answered last paper''' each =
+        let z = n x said s says h in
+        let told'' = content_after h.storage.device told' in
+        let slot = slot_here x said s says h in
+        let plan' = with_running h.plan slot in
+        let made = ends_with z.member.progress.job z.task.number ending in
+        let stands : MachineRepresents h.storage told'' new plan' s = still_here x said s says h wants in
+        let chosen : StandsChosen h.storage told'' new plan' s z.member z.task c = chosen_by z.member z.task s z.next h.storage told'' plan' z.chosen h.ordered stands (running_here x said s says h) (ap (λ (y : Tasks). y.running) x.stay ∙ ap (λ (y : Tasks). y.running) x.tables) in
+        let first = subst (λ (y : Choice). first_part s ≡ Some (part_of s y z.member z.task made)) z.chosen (ends_first s z.member z.task z.next h.ordered ending (outcome_here x said s says h (inl wants))) in
+        step_leaves taken s z.member z.task z.next h.ordered c z.chosen made (ends_settle z.member.constants z.member.progress z.task.number ending (job_ordered s z.member z.task z.next h.ordered).tasks) first
+        h.storage told'' h.plan slot closed last paper'' paper''' answered (closes h.storage told'' plan' s z.member z.task chosen).3 each
 
   -- it makes its task wait
   module _ (state : TaskState) (x : Tries holds taken told told' count k c mid (Ok (attempts.Waits state)) new device device' paper paper') (said : Option (List (List ℕ))) (s : Session) (says : Says said told) (h : StandsAt said k s) where
@@ -244,10 +288,26 @@ module _ {D K : Type 0} {holds : D → Option (List (List ℕ))} {taken : K → 
     }
 
     pub waiting_closes : (result : Result (Unit {0}) Failed) (closed : Machine) (paper'' : K) → HoldsEach taken c state result new closed paper' paper''
-        → Closes taken (content_after said told') (the_part (attempts.Waits state) x x.stay said s says h waiting_made waiting_so) result new closed paper' paper''
+        → Closes taken waiting_so.still.0 (content_after said told') waiting.plan waiting.session (the_part (attempts.Waits state) x x.stay said s says h waiting_made waiting_so) result new closed paper' paper''
     waiting_closes result closed paper'' holds =
         holds waiting_so.still.0 (content_after said told') waiting.plan waiting.session waiting.member waiting.task
         (waits taken said (content_after said told') (length k.cpu.core) count k.tasks.printed s c new paper paper' state waiting).condition waiting_stands waiting_holds
+
+    pub waiting_leaves : WantsNothing h.storage h.plan (n x said s says h).member (n x said s says h).task → (closed : Machine) (paper'' : K) → HoldsEach taken c state (Ok tt) new closed paper' paper''
+        → (answered : Result (Unit {0}) Stop) (last : Machine) (paper''' : K) → EndsEach taken answered closed last paper'' paper''' → StepLeaves h.storage h.plan s (n x said s says h).member (n x said s says h).task last
+    waiting_leaves wants closed paper'' holds answered last paper''' each =
+        let z = n x said s says h in
+        let told'' = content_after h.storage.device told' in
+        let slot = slot_here x said s says h in
+        let plan' = with_running h.plan slot in
+        let row : WaitsSo plan' z.member z.task state = outcome_here x said s says h (inl wants) in
+        let made = waiting_step z.member.progress.job z.task row.condition in
+        let stands : MachineRepresents h.storage told'' new plan' s = still_here x said s says h wants in
+        let chosen : StandsChosen h.storage told'' new plan' s z.member z.task c = chosen_by z.member z.task s z.next h.storage told'' plan' z.chosen h.ordered stands (running_here x said s says h) (ap (λ (y : Tasks). y.running) x.stay ∙ ap (λ (y : Tasks). y.running) x.tables) in
+        let first = subst (λ (y : Choice). first_part s ≡ Some (part_of s y z.member z.task made)) z.chosen (first_by s z.member z.task z.next (Ok (Waits row.condition)) row.is) in
+        let so : HoldsSo plan' z.member z.task state row.condition = record { is = row.is; shows = row.shows; runs = (running_here x said s says h).slot } in
+        step_leaves taken s z.member z.task z.next h.ordered c z.chosen made (waits_settle s z.member z.task row.condition h.ordered z.next row.is) first
+        h.storage told'' h.plan slot closed last paper'' paper''' answered (holds h.storage told'' plan' s z.member z.task row.condition chosen so).3 each
 
   -- it isn't made
   module _ (stop : Stop) (x : Tries holds taken told told' count k c mid (Err stop) new device device' paper paper') (said : Option (List (List ℕ))) (s : Session) (says : Says said told) (h : StandsAt said k s) where
@@ -264,4 +324,4 @@ module _ {D K : Type 0} {holds : D → Option (List (List ℕ))} {taken : K → 
         let z = n x said s says h in
         present_by (Err stop) x said s says h m t next (Err stop) new (λ tells code none. stopped_room (length k.cpu.core) s z.member z.task h.storage h.plan stop (room_there x said s says h tells) code)
         (λ whole. not_full_as stop whole) (λ sum size e. ap (λ (z : Stop). Err z) (let is : stop ≡ stops.BackingFull sum size = cc in is))
-        (λ job alone hand more. absurd (not_counted more))
+        (λ job alone hand more. absurd (not_counted more)) (λ wants more. absurd (not_counted more))

@@ -111,7 +111,7 @@ called_made taken paper x told plan s m t old new o runs none tables h = (
     text = record { rest = []; took = record { told = λ before e. e ∙ ap Some (sym (append-nil before)) }; same = nothing_left old.tasks.printed };
     reset = ap (λ (k : Tasks). k.printed) tables;
   },
-  λ no_process no_resize home gone other. h.released.others home gone,
+  λ no_process home gone other. h.released.others home gone,
 )
 
 -- an intrinsic's call is the try's
@@ -120,7 +120,7 @@ pub called_so : {K : Type 0} (taken : K → Option (List ℕ)) (x : Storage) (to
     → (c : IsCalled taken paper paper' told s m t first.tasks.printed new) × LeavesAreas x c.storage plan c.plan m t c.job
 called_so taken x told plan s m t first old new paper paper' same (called, rest) =
     let P : Machine → Type 0 = λ k. (c : IsCalled taken paper paper' told s m t k.tasks.printed new) × LeavesAreas x c.storage plan c.plan m t c.job in
-    subst P same (called, λ no_process no_resize home gone other. rest no_process no_resize home other)
+    subst P same (called, λ no_process home gone other. rest no_process home other)
 
 -- an intrinsic's stop is the try's
 pub stops_so : {K : Type 0} (taken : K → Option (List ℕ)) (told : Option (List (List ℕ))) (count : ℕ) (x : Storage) (plan : Placement) (s : Session) (m : SessionJob) (t : Task) (n : ℕ) (stop : Stop) (first old new : Machine) (paper paper' : K) → called_in m t ≡ Some n → old ≡ first

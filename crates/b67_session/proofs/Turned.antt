@@ -28,7 +28,7 @@ use Rattle.b67_session.specs.AttemptStops as stops
 use Rattle.b67_session.specs.declared.outcomes.Attempt.{Attempt}
 use Rattle.b67_session.specs.declared.outcomes.Attempt.TheVariants as attempts
 use Rattle.b67_session.specs.Tries.{EndsSo}
-use Rattle.b67_session.specs.Attempts.{RunsOver, ForEachOver, WantsNothing, HoleFits, segment_fits, array_fits, IsAtHand, UsesHole, CallKeepsAreas, TellsAfter, AttemptMeets, Attempts, AttemptFits, EndsByRow, AttemptRow, TablesStay}
+use Rattle.b67_session.specs.Attempts.{RunsOver, ForEachOver, WantsNothing, HoleFits, segment_fits, array_fits, IsAtHand, UsesHole, CallKeepsAreas, StandsAsBefore, TellsAfter, AttemptMeets, Attempts, AttemptFits, EndsByRow, AttemptRow, TablesStay}
 use Rattle.b67_session.proofs.Composed.{ends_exact}
 use Rattle.b67_session.specs.Slices.{StandsAt}
 use Rattle.b67_session.proofs.Next.{Chose, chose, runs_then, next_other}
@@ -255,6 +255,12 @@ module _ {D K : Type 0} {holds : D → Option (List (List ℕ))} {taken : K → 
       subst (λ (z : SessionJob). EndsSo z n.task ending) (member_same tells) (ends_exact (here.storage.device ≢ None) a.member n.task ending (device_told tells) meets.0)
   outcome_told (Ok (attempts.Waits state)) tells meets = subst (λ (z : SessionJob). WaitsSo here.plan z n.task state) (member_same tells) meets.0
   outcome_told (Err stop) tells meets = tt
+
+  pub still_here : WantsNothing h.storage h.plan n.member n.task → StandsAsBefore here.storage (content_after here.storage.device told') here.plan s answered new
+  still_here wants = promise.still (record { code = wants.code; array = wants.array })
+
+  pub running_here : IsRunning here.plan s.jobs n.member n.task
+  running_here = here.running
 
   pub outcome_here : IsAtHand h.storage h.plan n.member n.task → EndsByRow here.plan n.member n.task answered
   outcome_here (inl wants) = promise.outcome (record { code = wants.code; array = wants.array })

@@ -166,16 +166,16 @@ pub record UsesHole {A D : Type 0} (holds : D → Option (List (List ℕ))) (ans
   pub not_full : IsNotFull answered
 
 -- a step was made, and every area that was there is where it was, but those of arrays of a record that it leaves, and that of one
--- that DEALLOCATE empties. Of PROCESS and RESIZE that isn't said
+-- that DEALLOCATE empties or RESIZE gives another length. Of PROCESS that isn't said
 abbrev pub KeepsAreas : Storage → Storage → Placement → Placement → SessionJob → Task → Job → Type 0
 KeepsAreas x y plan after m t job =
-    called_in m t ≢ Some 12 → called_in m t ≢ Some 18 → (home : ℕ) → (x.held home).area ≢ None → (HasHome (objects_gone plan m job) home → ⊥) → (HoldsOther plan after m t job home → ⊥)
+    called_in m t ≢ Some 12 → (home : ℕ) → (x.held home).area ≢ None → (HasHome (objects_gone plan m job) home → ⊥) → (HoldsOther plan after m t job home → ⊥)
     → (y.held home).area ≡ (x.held home).area
 
 -- and nothing else is in an area
 abbrev pub AddsNoArea : Storage → Storage → Placement → Placement → SessionJob → Task → Job → Type 0
 AddsNoArea x y plan after m t job =
-    called_in m t ≢ Some 12 → called_in m t ≢ Some 18 → (home : ℕ) → (x.held home).area ≡ None → (HasHome (objects_gone plan m job) home → ⊥) → (HoldsOther plan after m t job home → ⊥)
+    called_in m t ≢ Some 12 → (home : ℕ) → (x.held home).area ≡ None → (HasHome (objects_gone plan m job) home → ⊥) → (HoldsOther plan after m t job home → ⊥)
     → (y.held home).area ≡ None
 
 abbrev pub CallKeepsAreas : {K : Type 0} → (K → Option (List ℕ)) → Storage → Option (List (List ℕ)) → ℕ → Placement → Session → SessionJob → Task → Machine → K → K → Type 0
@@ -193,10 +193,16 @@ EndsByRow plan m t (Ok (attempts.Ends ending)) = EndsSo m t ending
 EndsByRow plan m t (Ok (attempts.Waits state)) = WaitsSo plan m t state
 EndsByRow plan m t answered = Unit {0}
 
+-- a step that is to end its task or to make it wait leaves everything where it is
+abbrev pub StandsAsBefore : Storage → Option (List (List ℕ)) → Placement → Session → Result Attempt Stop → Machine → Type 0
+StandsAsBefore x told plan s (Ok (attempts.Ends ending)) new = MachineRepresents x told new plan s
+StandsAsBefore x told plan s (Ok (attempts.Waits state)) new = MachineRepresents x told new plan s
+StandsAsBefore x told plan s answered new = Unit {0}
+
 -- What an attempt answers and leaves. Over a device that tells what its sectors hold, core has room as said, and what is wanted
 -- goes into a hole if one has room for it. Where nothing is wanted, no array becomes longer and no task starts, the device isn't
 -- called; and if it is full, the sum is the one after the step. In both cases a step that is made leaves areas where they are;
--- where nothing is wanted none is new, and a task ends or waits only by its row
+-- where nothing is wanted none is new, and a task ends or waits only by its row, with all areas where they are
 pub record AttemptRow {D K : Type 0} (holds : D → Option (List (List ℕ))) (taken : K → Option (List ℕ)) (x : Storage) (told : Option (List (List ℕ))) (core count before : ℕ) (plan : Placement) (s : Session) (m : SessionJob) (t : Task) (answered : Result Attempt Stop) (new : Machine) (device device' : D) (paper paper' : K) : Type 0 where
   pub meets : Attempts taken x told core count before plan s t answered new paper paper'
   pub fits : x.device ≢ None → AttemptFits core x plan s m t answered
@@ -204,6 +210,7 @@ pub record AttemptRow {D K : Type 0} (holds : D → Option (List (List ℕ))) (t
   pub hole : x.device ≢ None → HoleFits x plan m t → (CallsDevice m t → ⊥) → UsesHole holds answered device device'
   pub areas : IsAtHand x plan m t → answered ≡ Ok attempts.Made → CallKeepsAreas taken x told before plan s m t new paper paper'
   pub outcome : WantsNothing x plan m t → EndsByRow plan m t answered
+  pub still : WantsNothing x plan m t → StandsAsBefore x told plan s answered new
   pub sum : WantsNothing x plan m t → (sum size : ℕ) → answered ≡ Err (stops.BackingFull sum size) → TellsAfter s m t sum
 
 -- the same of an attempt once the running segment is present: if nothing more is wanted, the device isn't called but by a step

@@ -1,5 +1,5 @@
 -- What bringing in answers and leaves that the next operator wants, with the numbers that a stop says.
-use Rattle.std.specs.Prelude.{◌≡◌, ◌≢◌, ℕ, ◌<◌, ◌≤◌, List, length, Option, None, Result, Ok, Err, OnOk}
+use Rattle.std.specs.Prelude.{◌≡◌, ◌≢◌, ℕ, ◌<◌, ◌≤◌, List, Option, None, Result, Ok, Err, OnOk}
 use Rattle.b67_model.specs.Common.{Task, SessionJob, need, Session}
 use Rattle.b67_stack.specs.declared.What.{What}
 use Rattle.b67_stack.specs.Represents.{Storage}
@@ -55,9 +55,3 @@ pub record BroughtRow {D : Type 0} (holds : D → Option (List (List ℕ))) (cor
   pub meets : IsWantedByStep plan m t found words → BroughtMeets x (holds device') core count plan s m t found answered new
   pub fits : IsWantedByStep plan m t found words → BroughtFits core x plan s m t answered
   pub hole : HasHole (words_wanted m t found words) x.spans → BroughtIntoHole holds x plan s m t found answered new device device'
-
--- the tables of tasks are as they were; core and the table of sectors have as many words and sectors
-pub record KeepsTasks (old new : Machine) : Type 0 where
-  pub tasks : new.tasks ≡ old.tasks
-  pub core : length new.cpu.core ≡ length old.cpu.core
-  pub sectors : length new.sectors.links ≡ length old.sectors.links

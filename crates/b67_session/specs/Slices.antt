@@ -3,10 +3,15 @@ use Rattle.std.specs.Prelude.{◌≡◌, ◌≢◌, ℕ, ◌+◌, ◌<◌, ◌�
 use Rattle.b67_io.specs.Told.{Took}
 use Rattle.b67_model.specs.Common.{Task, Job, SessionJob, Line, Goes, step, need, need_next, run_text, IsInOrderButPlaces, Session, RunLine, StepResult, after, lines, live_tasks}
 use Rattle.b67_session_lines.specs.Moments.{first_part, last_part, due}
+use Rattle.b67_lemmas.specs.Lists.{Has}
+use Rattle.b67_stack.specs.MachineView.{PagedObject}
 use Rattle.b67_stack.specs.Represents.{Storage}
 use Rattle.b67_layout_storage.specs.Machine.{Says}
-use Rattle.b67_layout.specs.Placement.{Placement}
+use Rattle.b67_layout.specs.Common.{Placement, machine_view, objects_gone}
+use Rattle.b67_exec_cells.specs.Called.{called_in}
 use Rattle.b67_exec_cells.specs.Running.{code_area}
+use Rattle.b67_task_release.specs.Released.{HasHome}
+use Rattle.b67_mcp.specs.Called.{HoldsOther}
 use Rattle.b67_law_sessions.specs.Turns.{IsNext}
 use Rattle.b67_task_tables.specs.declared.tables.Tasks.{Tasks}
 use Rattle.b67_task_tables.specs.declared.tables.Machine.{Machine}
@@ -16,6 +21,7 @@ use Rattle.b67_session.specs.AttemptPassed.{AreCountable, IsShortAt, CallsDevice
 use Rattle.b67_session.specs.Attempts.{IsLacking, WantsNothing, HoleFits, IsAtHand, UsesHole, KeepsAreas, AddsNoArea, CodeFits, TellsAfter, TellsSectors}
 use Rattle.b67_session.specs.AttemptStops.{Stop}
 use Rattle.b67_session.specs.AttemptStops as stops
+use Rattle.b67_session_ends.specs.Ends.{StandsForSession, LeavesInPlace}
 pub use Rattle.b67_session_ends.specs.Machines.{StandsAt, IsLimited, RepresentsWithoutTasks}
 use Rattle.b67_session.specs.declared.slices.Progress.{Progress}
 use Rattle.b67_session.specs.declared.slices.Progress.TheVariants as progress
@@ -138,15 +144,51 @@ pub record StepKeepsAreas (x : Storage) (plan : Placement) (s : Session) (m : Se
   pub areas : KeepsAreas x storage plan placed m t job
   pub none_new : WantsNothing x plan m t → AddsNoArea x storage plan placed m t job
 
+-- the step goes on with this job, whether that meets its limit or not
+pub record GoesOnWith (m : SessionJob) (t : Task) (job : Job) : Type 0 where
+  pub printed : List Line
+  pub touched : Option ℕ
+  pub is : step m.constants m.progress.job t ≡ Ok (Goes job printed touched)
+
+-- it ends its task, or makes it wait
+abbrev pub EndsOrWaits : SessionJob → Task → Type 0
+EndsOrWaits m t = (job : Job) → GoesOnWith m t job → ⊥
+
+-- a step that goes on leaves a record whose array has its original at this address, or something else is held there by its call
+pub data HeldAnew (plan placed : Placement) (m : SessionJob) (t : Task) (home : ℕ) : Type 0 where
+  of_record : (job : Job) → GoesOnWith m t job → HasHome (objects_gone plan m job) home → HeldAnew plan placed m t home
+  by_call : (job : Job) → GoesOnWith m t job → HoldsOther plan placed m t job home → HeldAnew plan placed m t home
+
+-- the session after the next step of a session, or that before its last part
+pub data IsStepOf (s stepped : Session) : Type 0 where
+  in_whole : after 1 s ≡ stepped → IsStepOf s stepped
+  but_its_limit : (part : StepResult) → first_part s ≡ Some part → last_part part.session ≢ None → part.session ≡ stepped → IsStepOf s stepped
+
+-- The machine stands for the session after the next step, or for that before its last part where the printer failed in it. Each
+-- array, segment and data row that is left is in the area where it was, or in none as before, but one that DEALLOCATE empties or
+-- RESIZE gives another length, and one that is new; of PROCESS that isn't said. Where the step ends its task, or makes it wait,
+-- each of them is one of those before, and is also in the same sectors
+pub record StepLeaves (x : Storage) (plan : Placement) (s : Session) (m : SessionJob) (t : Task) (new : Machine) : Type 0 where
+  pub told : Option (List (List ℕ))
+  pub session : Session
+  pub is : IsStepOf s session
+  pub stands : StandsForSession told new session
+  pub placed : Placement
+  pub areas : called_in m t ≢ Some 12 → (u : PagedObject) → Has (machine_view stands.plan session.jobs).objects u → (HeldAnew plan placed m t u.home → ⊥)
+      → (stands.storage.held u.home).area ≡ (x.held u.home).area
+  pub ends : EndsOrWaits m t → LeavesInPlace x stands.storage plan stands.plan s session
+
 -- The session's next step is looked at in a storage, where a slice of n steps sets out. Where its segment and its array are
 -- present, and it makes no array longer and starts no task, a slice of one step doesn't call the device; where one of them is
 -- absent and a hole has room for it, no sector is written, and too few free ones stop nothing. In both cases the areas stay
--- where they are if the step is made and goes on. Where both are present, a full device is told the sum after the step. Where
--- its segment is present, the device stops it only if core has room for it
+-- where they are if the step is made and goes on. Where both are present, all that is left after a step lies where it lay, also
+-- after one that ends tasks, and a full device is told the sum after the step. Where its segment is present, the device stops it
+-- only if core has room for it
 pub record IfPresent {A D : Type 0} (holds : D → Option (List (List ℕ))) (exact : Type 0) (core n : ℕ) (x : Storage) (plan : Placement) (s : Session) (m : SessionJob) (t : Task) (answered : Result A Stop) (old new : Machine) (device device' : D) : Type 0 where
   pub quiet : n ≤ 1 → WantsNothing x plan m t → (CallsDevice m t → ⊥) → device' ≡ device
   pub hole : exact → n ≤ 1 → HoleFits x plan m t → (CallsDevice m t → ⊥) → UsesHole holds answered device device'
   pub areas : (job : Job) → n ≤ 1 → GoesOnAlone s m t job → IsAtHand x plan m t → new.tasks.made ≡ old.tasks.made + 1 → StepKeepsAreas x plan s m t job new
+  pub left : n ≤ 1 → WantsNothing x plan m t → new.tasks.made ≡ old.tasks.made + 1 → StepLeaves x plan s m t new
   pub sum : n ≤ 1 → WantsNothing x plan m t → (sum size : ℕ) → answered ≡ Err (stops.BackingFull sum size) → TellsAfter s m t sum
   pub room : exact → code_area x plan m t ≢ None → new.tasks.made ≡ old.tasks.made → StopsWithRoom core s m t answered
 

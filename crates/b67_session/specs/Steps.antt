@@ -2,6 +2,8 @@
 use Rattle.std.specs.Prelude.{◌≡◌, ◌≢◌, ℕ, ◌+◌, ◌≤◌, List, [], length, Option, Some, None, Result, Ok, Err}
 use Rattle.b67_session_lines.specs.Moments.{first_part, last_part, due}
 use Rattle.b67_model.specs.Common.{RunLine, StepResult, next, after, lines, Session}
+use Rattle.b67_stack.specs.Represents.{Storage}
+use Rattle.b67_layout.specs.Placement.{Placement}
 use Rattle.b67_task_tables.specs.declared.tables.Machine.{Machine}
 use Rattle.b67_session.specs.AttemptStops.{Stop}
 use Rattle.b67_session.specs.AttemptStops as stops
@@ -58,9 +60,9 @@ StopOf (Ok done) answered = answered ≡ Ok tt
 StopOf (Err failed) answered = answered ≡ Err stops.PrintFault
 
 -- the last part of a step of a session, where one is due
-pub record EndsStep {K : Type 0} (taken : K → Option (List ℕ)) (told : Option (List (List ℕ))) (h : Session) (answered : Result (Unit {0}) Stop) (old new : Machine) (paper paper' : K) : Type 0 where
+pub record EndsStep {K : Type 0} (taken : K → Option (List ℕ)) (x : Storage) (told : Option (List (List ℕ))) (plan : Placement) (h : Session) (answered : Result (Unit {0}) Stop) (old new : Machine) (paper paper' : K) : Type 0 where
   pub result : Result (Unit {0}) Failed
-  pub finishes : Finishes taken told (last_part h) result old new paper paper'
+  pub finishes : Finishes taken x told plan h (last_part h) result old new paper paper'
   pub answer : StopOf result answered
 
 -- ---- a turn that goes on

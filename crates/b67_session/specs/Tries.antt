@@ -39,10 +39,10 @@ EndsSo m t (Faulted fault) = step m.constants m.progress.job t ≡ Err fault
 EndsSo m t _ = ⊥
 
 -- after a step that was made everything is held as it was, in the same areas and the same sectors, but the arrays of a record
--- that it leaves, and one that DEALLOCATE empties or ARRAYDEC makes. Of PROCESS and RESIZE that isn't said
+-- that it leaves, and one that DEALLOCATE empties, RESIZE gives another length or ARRAYDEC makes. Of PROCESS that isn't said
 abbrev pub LeavesAreas : Storage → Storage → Placement → Placement → SessionJob → Task → Job → Type 0
 LeavesAreas x y plan after m t job =
-    called_in m t ≢ Some 12 → called_in m t ≢ Some 18 → (home : ℕ) → (HasHome (objects_gone plan m job) home → ⊥) → (HoldsOther plan after m t job home → ⊥)
+    called_in m t ≢ Some 12 → (home : ℕ) → (HasHome (objects_gone plan m job) home → ⊥) → (HoldsOther plan after m t job home → ⊥)
     → y.held home ≡ x.held home
 
 -- By what was answered, over a device of so many sectors that tells this afterwards. Where the step wasn't made nothing has

@@ -9,9 +9,10 @@ ghost use Rattle.b67_stack.specs.Represents.{Storage};
 ghost use Rattle.b67_layout_storage.specs.Machine.{DeviceAfterCalls};
 ghost use Rattle.b67_layout.specs.Placement.{Placement};
 ghost use Rattle.b67_layout.specs.Session.{IsRunning};
+ghost use Rattle.b67_task_tables.specs.Runs.{Keeps};
 ghost use Rattle.b67_presence.specs.Bringing.{StandsOver, WantsSome, IsWanted};
 ghost use Rattle.b67_mcp.specs.declared.ends.Stop.TheVariants.{BackingFault, PrintFault};
-ghost use Rattle.b67_session.specs.Brought.{BroughtRow, KeepsTasks};
+ghost use Rattle.b67_session.specs.Brought.{BroughtRow};
 
 use b67_backing::Backing;
 use b67_mcp::{Stop, stop_for};
@@ -34,7 +35,8 @@ pub fn bring_wanted<B: Backing>(
         → BroughtRow B.holds (length machine.old.cpu.core) (B.size backing.old) x plan s m t wanted words result machine.new backing.old backing.new }
     ensures cause { result ≡ Err BackingFault → Rose B.faults backing.old backing.new }
     ensures silent { result ≢ Err PrintFault }
-    ensures keeps { KeepsTasks machine.old machine.new }
+    ensures tasks { machine.new.tasks ≡ machine.old.tasks }
+    ensures keeps { Keeps machine.old machine.new }
     ensures device { DeviceAfterCalls B.holds B.size B.calls B.faults backing.old backing.new }
 {
     match bring(machine, backing, wanted) {

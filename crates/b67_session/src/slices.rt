@@ -100,9 +100,12 @@ fn go_on<B: Backing, K: Sink>(
 /// `BackingFault` and `PrintFault` only if that device failed. A single step whose segment and array are present, and which
 /// is no such RESIZE and starts no task, doesn't call the backing; if one of the two is absent and a hole has room for it, no
 /// sector is written, and `BackingFull` isn't answered. In both cases, if that step is made, ends no task and makes none wait,
-/// and is neither PROCESS nor RESIZE, every area is where it was, but those of arrays of a record that it leaves, and that of
-/// one that DEALLOCATE empties; and no area is new where both are present. If nothing is known of what the device's sectors hold, the words that it gives back may be others, and as many. After `Ended`
-/// the machine represents the session without a task; if it was known what the sectors hold, the one after the steps.
+/// and is no PROCESS, every area is where it was, but those of arrays of a record that it leaves, and that of one that
+/// DEALLOCATE empties or RESIZE gives another length; and no area is new where both are present. Where both are, that holds of
+/// a step that ends tasks too, by LIMIT or otherwise, or makes one wait: but for the same, every array, segment and data row
+/// that is left is in the area where it was; and if its own task ends or waits, in the same sectors too. If nothing is known
+/// of what the device's sectors hold, the words that it gives back may be others, and as many. After `Ended` the machine
+/// represents the session without a task; if it was known what the sectors hold, the one after the steps.
 /// Whatever the device gives back, the machine then represents some session, in order but for places
 /// if a task lives or the slice set out from such a session.
 ///

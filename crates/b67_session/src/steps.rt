@@ -9,8 +9,9 @@ ghost use Rattle.b67_law_sessions.specs.Orders.{IsInOrderButLimit};
 ghost use Rattle.b67_law_sessions.specs.Turns.{IsNext};
 ghost use Rattle.b67_stack.specs.Represents.{Storage};
 ghost use Rattle.b67_layout.specs.Placement.{Placement};
+ghost use Rattle.b67_task_tables.specs.Runs.{Keeps};
 ghost use Rattle.b67_task_tables.specs.Tables.{MachineRepresents};
-ghost use Rattle.b67_session_ends.specs.Ends.{StandsBetween, KeepsTables};
+ghost use Rattle.b67_session_ends.specs.Ends.{StandsBetween};
 ghost use Rattle.b67_session.specs.AttemptStops as stops;
 ghost use Rattle.b67_session.specs.AttemptPassed.{CallCauses, Kept};
 ghost use Rattle.b67_session.specs.Slices.{IsStepDue, StandsAt, IfPresent};
@@ -31,11 +32,12 @@ use b67_task_tables::Machine;
 fn end_step<K: Sink>(machine: &mut Machine, paper: &mut K) -> Result<(), Stop>
     requires { StandsBetween machine.old }
     ensures finishes { (x : Storage) (told : Option (List (List ℕ))) (plan : Placement) (h : Session) → IsInOrderButLimit h → MachineRepresents x told machine.old plan h
-        → EndsStep K.taken told h result machine.old machine.new paper.old paper.new }
+        → EndsStep K.taken x told plan h result machine.old machine.new paper.old paper.new }
     ensures cause { result ≡ Err stops.PrintFault → Rose K.faults paper.old paper.new }
     ensures later { K.faults paper.old ≤ K.faults paper.new }
     ensures other { result ≢ Err stops.BackingFault }
-    ensures keeps { KeepsTables machine.old machine.new }
+    ensures tasks { machine.new.tasks ≡ record machine.old.tasks { rows = machine.new.tasks.rows; running = machine.new.tasks.running; printed = machine.new.tasks.printed } }
+    ensures keeps { Keeps machine.old machine.new }
 {
     match finish(machine, paper) {
         Ok(()) => Ok(()),

@@ -19,9 +19,10 @@ use Rattle.b67_task_tables.specs.declared.tables.Machine.{Machine}
 use Rattle.b67_task_tables.specs.Tables.{MachineRepresents}
 use Rattle.b67_task_end.specs.declared.families.EndedTask.{EndedTask}
 use Rattle.b67_task_end.specs.Family.{TablesHold, HasSomeHead, pair_of}
-use Rattle.b67_session_ends.specs.Ends.{StandsForSession, JobLives, Finishes}
+use Rattle.b67_session_ends.specs.Ends.{StandsInPlace, JobLives, Finishes}
 use Rattle.b67_session_ends.specs.Texts.{endings_text}
-use Rattle.b67_session_ends.proofs.Ended.{part_ended, stands_ended}
+use Rattle.b67_session_ends.proofs.Ended.{part_ended, stands_ended, view_ended}
+use Rattle.b67_session_ends.proofs.InPlace.{in_place_view}
 
 -- a session between the parts of a step is in order but for its counts
 jobs_but_counts : (last : ℕ) (jobs : List SessionJob) → AllByRecursion (JobInOrderButLimit last) jobs → AllByRecursion (λ (m : SessionJob). JobInOrderButCounts (IsSegment m.constants) m.constants m.progress) jobs
@@ -38,8 +39,9 @@ limit_but_counts h o = record { few = o.few; numbered = o.numbered; one_size = o
 pub reprinted : (x : Storage) (told : Option (List (List ℕ))) (k : Machine) (plan : Placement) (s : Session) (printed : ℕ) → MachineRepresents x told k plan s → MachineRepresents x told (record k { tasks = record k.tasks { printed = printed } }) plan s
 reprinted x told k plan s printed h = record { session = h.session; storage = h.storage; tables = h.tables }
 
-pub stands_reprinted : (told : Option (List (List ℕ))) (k : Machine) (s : Session) (printed : ℕ) → StandsForSession told k s → StandsForSession told (record k { tasks = record k.tasks { printed = printed } }) s
-stands_reprinted told k s printed f = record { storage = f.storage; plan = f.plan; stands = reprinted f.storage told k f.plan s printed f.stands }
+pub stands_reprinted : (x : Storage) (told : Option (List (List ℕ))) (k : Machine) (plan : Placement) (s after : Session) (printed : ℕ) → StandsInPlace x told k plan s after → StandsInPlace x told (record k { tasks = record k.tasks { printed = printed } }) plan s after
+stands_reprinted x told k plan s after printed f =
+    let w = f.whole in record { whole = record { storage = w.storage; plan = w.plan; stands = reprinted w.storage told k w.plan after printed w.stands }; left = f.left }
 
 module _ (x : Storage) (told : Option (List (List ℕ))) (k : Machine) (plan : Placement) (h : Session) (part : StepResult) (o : IsInOrderButLimit h) (is : last_part h ≡ Some part) (stands : MachineRepresents x told k plan h) where
   abbrev l : LimitOf h part
@@ -105,14 +107,17 @@ module _ (x : Storage) (told : Option (List (List ℕ))) (k : Machine) (plan : P
   -- the session after it
   pub after_part : (new : Machine) (printed : ℕ)
       → ((x : Storage) (told : Option (List (List ℕ))) (plan : Placement) (s : Session) (m : SessionJob) → IsInOrderButCounts s → MachineRepresents x told (record k { tasks = record k.tasks { printed = printed } }) plan s → Has s.jobs m → m.constants.number ≡ k.tasks.last_job → m.progress.job.tasks ≢ []
-      → StandsForSession told new (with_job s m (ends_each_if true Limit (unsettled m.progress.job)).job)) → StandsForSession told new part.session
+      → StandsInPlace x told new plan s (with_job s m (ends_each_if true Limit (unsettled m.progress.job)).job)) → StandsInPlace x told new plan h part.session
   after_part new printed ends =
       let f = ends x told plan h m (limit_but_counts h o) (reprinted x told k plan h printed stands) named.0 number l.lives in
       let found : keyed number_of m.constants.number h.jobs ≡ Some m = subst (λ (n : ℕ). keyed number_of n h.jobs ≡ Some m) (sym named.1) l.found in
-      let there : MachineRepresents f.storage told new f.plan whole.session =
-      stands_ended f.plan (with_job h m gone.job) whole.session.jobs (part_ended m.constants.number m gone.job gone.endings h.jobs found) f.storage told new f.stands in
-      let P : StepResult → Type 0 = λ p. MachineRepresents f.storage told new f.plan p.session in
-      record { storage = f.storage; plan = f.plan; stands = subst P part_is there }
+      let w = f.whole in
+      let ended = part_ended m.constants.number m gone.job gone.endings h.jobs found in
+      let all : StandsInPlace x told new plan h whole.session = record {
+        whole = record { storage = w.storage; plan = w.plan; stands = stands_ended w.plan (with_job h m gone.job) whole.session.jobs ended w.storage told new w.stands };
+        left = in_place_view x w.storage plan w.plan h (with_job h m gone.job) whole.session (view_ended w.plan (with_job h m gone.job) whole.session.jobs ended) f.left;
+      } in
+      subst (λ (p : StepResult). StandsInPlace x told new plan h p.session) part_is all
 
 -- ---- whether there is a last part
 
@@ -120,6 +125,7 @@ pub some_part : (o : Option StepResult) → true ≡ is_some o → (part : StepR
 some_part None e = absurd (true≢false e)
 some_part (Some part) e = (part, refl)
 
-pub finishes_none : {K : Type 0} (taken : K → Option (List ℕ)) (told : Option (List (List ℕ))) (o : Option StepResult) (k : Machine) (paper : K) → false ≡ is_some o → Finishes taken told o (Ok tt) k k paper paper
-finishes_none taken told None k paper e = (refl, refl)
-finishes_none taken told (Some part) k paper e = absurd (true≢false (sym e))
+pub finishes_none : {K : Type 0} (taken : K → Option (List ℕ)) (x : Storage) (told : Option (List (List ℕ))) (plan : Placement) (h : Session) (o : Option StepResult) (k : Machine) (paper : K) → false ≡ is_some o
+    → Finishes taken x told plan h o (Ok tt) k k paper paper
+finishes_none taken x told plan h None k paper e = (refl, refl)
+finishes_none taken x told plan h (Some part) k paper e = absurd (true≢false (sym e))

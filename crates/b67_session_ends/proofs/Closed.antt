@@ -24,13 +24,14 @@ use Rattle.b67_task_end.specs.declared.families.EndedTask.{EndedTask}
 use Rattle.b67_task_end.specs.Family.{TablesHold, HasSomeRow, HasSomeHead, pair_of, endings_of}
 use Rattle.b67_task_switch.specs.declared.counting.Chosen.{Chosen}
 use Rattle.b67_task_switch.specs.Counted.{choice_of, CountsHaveRoom}
-use Rattle.b67_task_tables.specs.Runs.{Kept}
+use Rattle.b67_task_tables.specs.Runs.{Keeps, Kept}
 use Rattle.b67_session_ends.specs.Closing.{HasJobOf, StandsChosen}
 use Rattle.b67_session_ends.specs.Counts.{IsCounted}
-use Rattle.b67_session_ends.specs.Ends.{StandsForSession, IsFamilyOf, EndsFamily}
+use Rattle.b67_session_ends.specs.Ends.{StandsForSession, StandsInPlace, LeavesInPlace, IsFamilyOf, EndsFamily}
 use Rattle.b67_session_ends.specs.Texts.{endings_text}
 use Rattle.b67_session_ends.proofs.ByLimit.{reprinted}
-use Rattle.b67_session_ends.proofs.Counted.{counted_stands}
+use Rattle.b67_session_ends.proofs.Counted.{counted_stands, counted_view}
+use Rattle.b67_session_ends.proofs.InPlace.{in_place_then, in_place_view}
 
 -- a session with another job, which is in order and has no more tasks
 module _ (s : Session) (m : SessionJob) (job : Job) (found : keyed number_of m.constants.number s.jobs ≡ Some m) (o : IsInOrderButCounts s) (g : TasksInOrder (IsSegment m.constants) m.constants job) (next : job.next_task ≡ m.progress.job.next_task) (fewer : length job.tasks ≤ length m.progress.job.tasks) where
@@ -102,7 +103,10 @@ module _ (x : Storage) (told : Option (List (List ℕ))) (k : Machine) (plan : P
     pub ends_family : (ending : Ending) (endings : List (ℕ × Ending)) → endings ≡ endings_of m.progress.job t.number ending → EndsFamily now c.row c.job endings
     ends_family ending endings listed = record { storage = x; told = told; plan = plan; session = s; member = m; task = t; ending = ending; family = is_family ending endings listed }
 
-    module _ (ending : Ending) (new : Machine) (e : StandsForSession told new (with_job s m (ends_task m.progress.job t.number ending).job)) where
+    module _ (ending : Ending) (new : Machine) (d : StandsInPlace x told new plan s (with_job s m (ends_task m.progress.job t.number ending).job)) where
+      abbrev e : StandsForSession told new (with_job s m (ends_task m.progress.job t.number ending).job)
+      e = d.whole
+
       abbrev gone : Settled
       gone = ends_task m.progress.job t.number ending
 
@@ -122,27 +126,39 @@ module _ (x : Storage) (told : Option (List (List ℕ))) (k : Machine) (plan : P
       has_job = record { storage = e.storage; told = told; plan = e.plan; session = with_job s m gone.job; member = left; ordered = left_ordered; stands = e.stands; among = left_among; number = own }
 
       -- and those that are deadlocked
-      module _ (last : Machine) (f : StandsForSession told last (with_job (with_job s m gone.job) left (deadlocked (unsettled gone.job)).job)) where
+      module _ (last : Machine) (g : StandsInPlace e.storage told last e.plan (with_job s m gone.job) (with_job (with_job s m gone.job) left (deadlocked (unsettled gone.job)).job)) where
+        abbrev f : StandsForSession told last (with_job (with_job s m gone.job) left (deadlocked (unsettled gone.job)).job)
+        f = g.whole
+
         abbrev made : Stepped
         made = ends_with m.progress.job t.number ending
 
-        stuck_stands : MachineRepresents f.storage told last f.plan (with_job s m made.settled.job)
-        stuck_stands =
+        -- all that end have ended
+        stuck_same : with_job (with_job s m gone.job) left (deadlocked (unsettled gone.job)).job ≡ with_job s m made.settled.job
+        stuck_same =
             let J : Job = (deadlocked (unsettled gone.job)).job in
             let twice : with_job (with_job s m gone.job) left J ≡ with_job s m J = ap (λ (js : List SessionJob). record s { jobs = js }) (course_twice s.jobs m.constants.number (record m.progress { job = gone.job }) (record m.progress { job = J })) in
             let same : made.settled.job ≡ J = settled_job (list_all (λ (u : Task). not (is_ready u)) gone.job.tasks) gone in
-            subst (λ (j : Job). MachineRepresents f.storage told last f.plan (with_job s m j)) (sym same) (subst (MachineRepresents f.storage told last f.plan) twice f.stands)
+            twice ∙ ap (with_job s m) (sym same)
 
-        pub closed : (counts : Tasks) → IsCounted c last.tasks counts → StandsForSession told (record last { tasks = counts }) (part_of s (choice_of c) m t made).session
+        stuck_stands : MachineRepresents f.storage told last f.plan (with_job s m made.settled.job)
+        stuck_stands = subst (MachineRepresents f.storage told last f.plan) stuck_same f.stands
+
+        pub closed : (counts : Tasks) → IsCounted c last.tasks counts → StandsInPlace x told (record last { tasks = counts }) plan s (part_of s (choice_of c) m t made).session
         closed counts counted =
             let moment : JobMoment = moment_with m.progress t made made.settled in
-            record { storage = f.storage; plan = f.plan; stands = counted_stands s c m moment w.ordered there refl f.storage told last f.plan counts refl counted stuck_stands }
+            let both = in_place_then x e.storage f.storage plan e.plan f.plan s (with_job s m gone.job) (with_job (with_job s m gone.job) left (deadlocked (unsettled gone.job)).job) d.left g.left in
+            record {
+              whole = record { storage = f.storage; plan = f.plan; stands = counted_stands s c m moment w.ordered there refl f.storage told last f.plan counts refl counted stuck_stands };
+              left = in_place_view x f.storage plan f.plan s (with_job s m made.settled.job) (part_of s (choice_of c) m t made).session (counted_view s c m moment w.ordered there refl f.plan)
+                  (subst (LeavesInPlace x f.storage plan f.plan s) stuck_same both);
+            }
 
       -- by what is promised of the call that ends them
       pub closed_by : (last : Machine)
           → ((x : Storage) (told : Option (List (List ℕ))) (plan : Placement) (s : Session) (m : SessionJob) → IsInOrderButCounts s → MachineRepresents x told new plan s → Has s.jobs m → m.constants.number ≡ c.job
-          → StandsForSession told last (with_job s m (deadlocked (unsettled m.progress.job)).job))
-          → (counts : Tasks) → IsCounted c last.tasks counts → StandsForSession told (record last { tasks = counts }) (part_of s (choice_of c) m t (ends_with m.progress.job t.number ending)).session
+          → StandsInPlace x told last plan s (with_job s m (deadlocked (unsettled m.progress.job)).job))
+          → (counts : Tasks) → IsCounted c last.tasks counts → StandsInPlace x told (record last { tasks = counts }) plan s (part_of s (choice_of c) m t (ends_with m.progress.job t.number ending)).session
       closed_by last ends counts counted = closed last (ends e.storage told e.plan (with_job s m gone.job) left left_ordered e.stands left_among own) counts counted
 
 -- but for the rows, the one that runs and how much is printed the tables are as before the tasks' ends
@@ -168,6 +184,10 @@ module _ (x : Storage) (told : Option (List (List ℕ))) (k : Machine) (plan : P
       ap (λ (l : List EndedTask). endings_text c.job (map pair_of l)) lent' ∙ ap (endings_text c.job) all_is
 
 -- ---- what stays
+
+-- by tables of which the rows, the one that runs and how much is printed are others
+pub keeps_rows : (old new : Machine) (printed : ℕ) → new.tasks ≡ record old.tasks { rows = new.tasks.rows; running = new.tasks.running; printed = printed } → length new.cpu.core ≡ length old.cpu.core → length new.sectors.links ≡ length old.sectors.links → Keeps old new
+keeps_rows old new printed same core sectors = record { core = core; sectors = sectors; halt = ap (λ (z : Tasks). z.halt) same; names = ap (λ (z : Tasks). row_names z.jobs) same }
 
 pub keeps_close : (c : Chosen) (old last : Machine) (counts : Tasks) (printed : ℕ) → last.tasks ≡ record old.tasks { rows = last.tasks.rows; running = last.tasks.running; printed = printed } → IsCounted c last.tasks counts
     → length last.cpu.core ≡ length old.cpu.core → length last.sectors.links ≡ length old.sectors.links → Kept old (record last { tasks = counts })

@@ -55,16 +55,22 @@ module _ (s : Session) (c : Chosen) (m : SessionJob) (moment : JobMoment) (o : I
       let own = total_has tasks_of s.jobs m k.0 in
       omega (arith, alive, own, sum_total tasks_of s.jobs, o.peak_low)
 
+  named : let own : JobProgress = record m.progress { job = moment.progress.job } in change_keyed number_of m.constants.number (put m.constants.number own moment.progress refl moment.progress) s.jobs ≡ after.jobs
+  named = ap (λ (n : ℕ). change_keyed number_of n (λ (y : SessionJob). record y { progress = moment.progress }) s.jobs) (keyed_has number_of c.job s.jobs m found).1
+
+  -- core shows no counts
+  pub counted_view : (plan : Placement) → machine_view plan after.jobs ≡ machine_view plan (with_job s m moment.progress.job).jobs
+  counted_view plan =
+      let before : Session = with_job s m moment.progress.job in
+      let own : JobProgress = record m.progress { job = moment.progress.job } in
+      same_machine_view plan before.jobs after.jobs (subst (λ (js : List SessionJob). SameJobs before.jobs js) named (changed_same m.constants.number own moment.progress refl s.jobs))
+
   session_stands : (x : Storage) (cpu : Cpu) (plan : Placement) → RepresentsSession x cpu plan (with_job s m moment.progress.job) → RepresentsSession x cpu plan after
   session_stands x cpu plan h =
       let before : Session = with_job s m moment.progress.job in
       let own : JobProgress = record m.progress { job = moment.progress.job } in
-      let number : c.job ≡ m.constants.number = sym (keyed_has number_of c.job s.jobs m found).1 in
-      let named : change_keyed number_of m.constants.number (put m.constants.number own moment.progress refl moment.progress) s.jobs ≡ after.jobs =
-      ap (λ (n : ℕ). change_keyed number_of n (λ (y : SessionJob). record y { progress = moment.progress }) s.jobs) (sym number) in
       let alike : AllAlike before.jobs after.jobs = subst (λ (js : List SessionJob). AllAlike before.jobs js) named (changed_alike m.constants.number own moment.progress refl s.jobs) in
-      let same : SameJobs before.jobs after.jobs = subst (λ (js : List SessionJob). SameJobs before.jobs js) named (changed_same m.constants.number own moment.progress refl s.jobs) in
-      let view : machine_view plan after.jobs ≡ machine_view plan before.jobs = same_machine_view plan before.jobs after.jobs same in
+      let view : machine_view plan after.jobs ≡ machine_view plan before.jobs = counted_view plan in
       RepresentsSession-over [] [] x x cpu cpu plan before after h alike same_peak refl refl refl
       (subst (λ (p : MachineView). Represents x cpu.core cpu.regs (with_objects [] p)) (sym view) h.holds.memory)
       (subst Calm (sym view) h.holds.settled)

@@ -24,8 +24,9 @@ use Rattle.b67_task_end_tables.specs.Deaths.{ending_numbers}
 use Rattle.b67_task_end.specs.declared.families.EndedTask.{EndedTask}
 use Rattle.b67_task_end.specs.Family.{TablesHold, pair_of}
 use Rattle.b67_session_ends.specs.Closing.{is_dead_of, left_ready, others_of}
-use Rattle.b67_session_ends.specs.Ends.{StandsForSession}
+use Rattle.b67_session_ends.specs.Ends.{StandsInPlace}
 use Rattle.b67_session_ends.proofs.AtLimits.{no_tasks, some_tasks}
+use Rattle.b67_session_ends.proofs.InPlace.{in_place_same}
 use Rattle.b67_session_ends.proofs.Stuck.{dead_is, rows_tell}
 
 -- ---- lists
@@ -165,16 +166,16 @@ module _ (x : Storage) (told : Option (List (List ℕ))) (k : Machine) (plan : P
   with_same : with_job s m job ≡ s
   with_same = ap (λ (js : List SessionJob). record s { jobs = js }) (change_same number_of m.constants.number (λ (y : SessionJob). record y { progress = m.progress }) s.jobs m (keyed_member 1 s.jobs m o.numbered inm) refl)
 
-  stands_same : (deadlocked (unsettled job)).job ≡ job → StandsForSession told k (with_job s m (deadlocked (unsettled job)).job)
-  stands_same e = subst (λ (j : Job). StandsForSession told k (with_job s m j)) (sym e) (subst (StandsForSession told k) (sym with_same) (record { storage = x; plan = plan; stands = h }))
+  stands_same : (deadlocked (unsettled job)).job ≡ job → StandsInPlace x told k plan s (with_job s m (deadlocked (unsettled job)).job)
+  stands_same e = subst (λ (j : Job). StandsInPlace x told k plan s (with_job s m j)) (sym e) (subst (StandsInPlace x told k plan s) (sym with_same) (record { whole = record { storage = x; plan = plan; stands = h }; left = in_place_same x plan s }))
 
   module _ (n : ℕ) (own : m.constants.number ≡ n) {b : Bool} where
     -- one is ready
-    pub goes_same : b ≡ true → b ≡ list_any (left_ready n []) k.tasks.rows.items → StandsForSession told k (with_job s m (deadlocked (unsettled job)).job)
+    pub goes_same : b ≡ true → b ≡ list_any (left_ready n []) k.tasks.rows.items → StandsInPlace x told k plan s (with_job s m (deadlocked (unsettled job)).job)
     goes_same t tells = stands_same (job_by false (wait_is n own ∙ ap not (sym tells ∙ t)))
 
     -- none lives
-    pub none_same : b ≡ false → b ≡ list_any (λ (r : TaskRow). r.job == n) k.tasks.rows.items → StandsForSession told k (with_job s m (deadlocked (unsettled job)).job)
+    pub none_same : b ≡ false → b ≡ list_any (λ (r : TaskRow). r.job == n) k.tasks.rows.items → StandsInPlace x told k plan s (with_job s m (deadlocked (unsettled job)).job)
     none_same t tells =
         let none : job.tasks ≡ [] = no_tasks plan s k.tasks o.numbered h.tables m inm (ap (λ (i : ℕ). list_any (λ (r : TaskRow). r.job == i) k.tasks.rows.items) own ∙ sym tells ∙ t) in
         let waits : all_wait ≡ true = ap (list_all (λ (u : Task). not (is_ready u))) none in
@@ -184,8 +185,8 @@ module _ (x : Storage) (told : Option (List (List ℕ))) (k : Machine) (plan : P
     pub lives_still : b ≡ true → b ≡ list_any (λ (r : TaskRow). r.job == n) k.tasks.rows.items → job.tasks ≢ []
     lives_still t tells = some_tasks plan s k.tasks o.numbered h.tables m inm (ap (λ (i : ℕ). list_any (λ (r : TaskRow). r.job == i) k.tasks.rows.items) own ∙ sym tells ∙ t)
 
-    pub all_gone : b ≡ false → b ≡ list_any (left_ready n []) k.tasks.rows.items → (new : Machine) → StandsForSession told new (with_job s m (ends_each_if true Limit (unsettled job)).job) → StandsForSession told new (with_job s m (deadlocked (unsettled job)).job)
+    pub all_gone : b ≡ false → b ≡ list_any (left_ready n []) k.tasks.rows.items → (new : Machine) → StandsInPlace x told new plan s (with_job s m (ends_each_if true Limit (unsettled job)).job) → StandsInPlace x told new plan s (with_job s m (deadlocked (unsettled job)).job)
     all_gone t tells new stands =
         let same : (deadlocked (unsettled job)).job ≡ (ends_each_if true Limit (unsettled job)).job =
         job_by true (wait_is n own ∙ ap not (sym tells ∙ t)) ∙ each_emptied (IsSegment m.constants) m.constants job order Deadlock ∙ sym (each_emptied (IsSegment m.constants) m.constants job order Limit) in
-        subst (λ (j : Job). StandsForSession told new (with_job s m j)) (sym same) stands
+        subst (λ (j : Job). StandsInPlace x told new plan s (with_job s m j)) (sym same) stands

@@ -121,9 +121,12 @@ module _ (plan : Placement) (s : Session) (jobs : List SessionJob) (e : AllEnded
     };
   }
 
+  pub view_ended : machine_view plan jobs ≡ machine_view plan s.jobs
+  view_ended = same_machine_view plan s.jobs jobs (same_of s.jobs jobs e)
+
   session_stands : (x : Storage) (cpu : Cpu) → RepresentsSession x cpu plan s → RepresentsSession x cpu plan after
   session_stands x cpu h =
-      let view : machine_view plan jobs ≡ machine_view plan s.jobs = same_machine_view plan s.jobs jobs (same_of s.jobs jobs e) in
+      let view : machine_view plan jobs ≡ machine_view plan s.jobs = view_ended in
       RepresentsSession-over [] [] x x cpu cpu plan s after h (alike_of s.jobs jobs e) refl refl refl refl
       (subst (λ (p : MachineView). Represents x cpu.core cpu.regs (with_objects [] p)) (sym view) h.holds.memory)
       (subst Calm (sym view) h.holds.settled)

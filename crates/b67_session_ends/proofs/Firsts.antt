@@ -21,7 +21,7 @@ use Rattle.b67_task_tables.specs.declared.tables.Machine.{Machine}
 use Rattle.b67_task_tables.specs.Tables.{task_row, MachineRepresents}
 use Rattle.b67_task_tables.specs.RowOf.{IsRowOf}
 use Rattle.b67_task_end.specs.Family.{TablesHold, HasSomeRow, endings_of}
-use Rattle.b67_session_ends.specs.Ends.{StandsForSession, IsFirstRow, IsFamilyOf, EndsFamily}
+use Rattle.b67_session_ends.specs.Ends.{StandsInPlace, IsFirstRow, IsFamilyOf, EndsFamily}
 
 module _ (x : Storage) (told : Option (List (List ℕ))) (k : Machine) (plan : Placement) (s : Session) (m : SessionJob) (o : IsInOrderButCounts s) (h : MachineRepresents x told k plan s) (among : Has s.jobs m) where
   order : TasksInOrder (IsSegment m.constants) m.constants m.progress.job
@@ -78,14 +78,14 @@ module _ (x : Storage) (told : Option (List (List ℕ))) (k : Machine) (plan : P
 
       -- once it has ended, all have
       pub all_ended : (new : Machine)
-          → ((x : Storage) (told : Option (List (List ℕ))) (plan : Placement) (s : Session) (m : SessionJob) (t : Task) (ending : Ending) → IsFamilyOf x told k plan s m t at job ending endings → StandsForSession told new (with_job s m (ends_task m.progress.job t.number ending).job))
-          → StandsForSession told new (with_job s m (ends_each_if true Limit (unsettled m.progress.job)).job)
+          → ((x : Storage) (told : Option (List (List ℕ))) (plan : Placement) (s : Session) (m : SessionJob) (t : Task) (ending : Ending) → IsFamilyOf x told k plan s m t at job ending endings → StandsInPlace x told new plan s (with_job s m (ends_task m.progress.job t.number ending).job))
+          → StandsInPlace x told new plan s (with_job s m (ends_each_if true Limit (unsettled m.progress.job)).job)
       all_ended new ends =
           let g = first_of at f in
           let same : (ends_task m.progress.job g.task.number Limit).job ≡ (ends_each_if true Limit (unsettled m.progress.job)).job =
           ap (λ (n : ℕ). (ends_task m.progress.job n Limit).job) g.one ∙ first_emptied (IsSegment m.constants) m.constants m.progress.job order Limit
           ∙ sym (each_emptied (IsSegment m.constants) m.constants m.progress.job order Limit) in
-          subst (λ (j : Job). StandsForSession told new (with_job s m j)) same (ends x told plan s m g.task Limit is_family)
+          subst (λ (j : Job). StandsInPlace x told new plan s (with_job s m j)) same (ends x told plan s m g.task Limit is_family)
 
 -- a row that is read
 pub read_row : (rs : List TaskRow) (job at i : ℕ) (d : TaskRow) → at ≡ i → IsFirstRow rs job i → ((get_or rs at d).job ≡ job) × ((get_or rs at d).number ≡ 1)

@@ -13,8 +13,9 @@ use Rattle.b67_model.specs.Common.{JobMoment, moment_with, Stepped, deadlocked, 
 use Rattle.b67_model.specs.Keyed.{keyed}
 use Rattle.b67_law_sessions.specs.Turns.{part_of}
 use Rattle.b67_session_lines.specs.Parts.{TookRest, TookMore}
+use Rattle.b67_stack.specs.MachineView.{PagedObject}
 use Rattle.b67_stack.specs.Represents.{Storage}
-use Rattle.b67_layout.specs.Common.{with_job, IsInOrderButCounts, Placement, RowState, TablesShow, IsRunning, RepresentsSession}
+use Rattle.b67_layout.specs.Common.{with_job, machine_view, IsInOrderButCounts, Placement, RowState, TablesShow, IsRunning, RepresentsSession}
 use Rattle.b67_layout.specs.Rows as rows
 use Rattle.b67_layout.proofs.Common.{fresh, member-same, IsFree, but_counts, with_job-twice, RepresentsSession-condition}
 use Rattle.b67_task_tables.specs.declared.tables.TaskRow.{TaskRow}
@@ -28,11 +29,12 @@ use Rattle.b67_task_switch.specs.declared.counting.Chosen.{Chosen}
 use Rattle.b67_task_switch.specs.Counted.{choice_of}
 use Rattle.b67_session_ends.specs.Closing.{HasJobOf, StandsChosen, Closes}
 use Rattle.b67_session_ends.specs.Counts.{IsCounted}
-use Rattle.b67_session_ends.specs.Ends.{StandsForSession}
+use Rattle.b67_session_ends.specs.Ends.{StandsInPlace, LeavesInPlace}
 use Rattle.b67_session_ends.specs.Texts.{endings_text}
 use Rattle.b67_session_ends.proofs.ByLimit.{reprinted}
 use Rattle.b67_session_ends.proofs.Closed.{same_tasks}
-use Rattle.b67_session_ends.proofs.Counted.{counted_stands}
+use Rattle.b67_session_ends.proofs.Counted.{counted_stands, counted_view}
+use Rattle.b67_session_ends.proofs.InPlace.{in_place_then, in_place_view, objects_kept}
 use Rattle.b67_session_ends.specs.Holds.{held, waiting_step, HoldsSo, HoldsSome, with_state}
 use Rattle.b67_session_ends.proofs.Shown.{moved, tables_held}
 use Rattle.b67_session_ends.proofs.Waits.{found, live, as_many, held_ordered}
@@ -122,6 +124,10 @@ module _ (k : Machine) (c : Chosen) (state : TaskState) (h : HoldsSome k c state
       let free : IsFree (with_task job t) job.next_frame = subst (λ (i : Job). IsFree i job.next_frame) (sym same_job) (fresh plan s m t o runs) in
       RepresentsSession-condition [] x k.cpu plan s m job t t.condition condition job.next_frame there_is run free
 
+  -- it has the same arrays
+  held_objects : (machine_view plan session.jobs).objects ≡ (machine_view plan s.jobs).objects
+  held_objects = objects_kept plan m.constants.number (λ (y : SessionJob). record y { progress = record m.progress { job = after } }) m s.jobs found_m refl
+
   pub inside : c.row < length k.tasks.rows.items
   inside = slice_get_within k.tasks.rows.items c.row row w.row.there
 
@@ -199,18 +205,26 @@ module _ (k : Machine) (c : Chosen) (state : TaskState) (h : HoldsSome k c state
 
       abbrev EndsStuck : Machine → Type 0
       EndsStuck last = (x : Storage) (told : Option (List (List ℕ))) (plan : Placement) (s : Session) (m : SessionJob) → IsInOrderButCounts s → MachineRepresents x told now plan s → Has s.jobs m → m.constants.number ≡ c.job
-          → StandsForSession told last (with_job s m (deadlocked (unsettled m.progress.job)).job)
+          → StandsInPlace x told last plan s (with_job s m (deadlocked (unsettled m.progress.job)).job)
 
-      held_stands : (last : Machine) → EndsStuck last → (counts : Tasks) → IsCounted c last.tasks counts → StandsForSession told (record last { tasks = counts }) part.session
+      held_stands : (last : Machine) → EndsStuck last → (counts : Tasks) → IsCounted c last.tasks counts → StandsInPlace x told (record last { tasks = counts }) plan s part.session
       held_stands last ends counts counted =
-          let f : StandsForSession told last (with_job session member made.settled.job) = ends x told plan session member ordered (still printed) in_session own in
+          let g : StandsInPlace x told last plan session (with_job session member made.settled.job) = ends x told plan session member ordered (still printed) in_session own in
+          let f = g.whole in
           let there : MachineRepresents f.storage told last f.plan (with_job s m made.settled.job) = subst (MachineRepresents f.storage told last f.plan) (with_job-twice s m after made.settled.job) f.stands in
           let moment : JobMoment = moment_with m.progress t made made.settled in
           let found_c : keyed number_of c.job s.jobs ≡ Some m = ap (λ (z : Choice). keyed number_of z.who.job s.jobs) (sym w.chosen) ∙ w.next.member in
-          record { storage = f.storage; plan = f.plan; stands = counted_stands s c m moment w.ordered found_c (as_many s m t condition w.ordered w.next so.is) f.storage told last f.plan counts refl counted there }
+          let many = as_many s m t condition w.ordered w.next so.is in
+          let waits : LeavesInPlace x x plan plan s session = record { were = λ u i. subst (λ (us : List PagedObject). Has us u) held_objects i; held = λ u i. refl } in
+          let both : LeavesInPlace x f.storage plan f.plan s (with_job session member made.settled.job) = in_place_then x x f.storage plan plan f.plan s session (with_job session member made.settled.job) waits g.left in
+          record {
+            whole = record { storage = f.storage; plan = f.plan; stands = counted_stands s c m moment w.ordered found_c many f.storage told last f.plan counts refl counted there };
+            left = in_place_view x f.storage plan f.plan s (with_job s m made.settled.job) part.session (counted_view s c m moment w.ordered found_c many f.plan)
+                (subst (LeavesInPlace x f.storage plan f.plan s) (with_job-twice s m after made.settled.job) both);
+          }
 
       pub held_closed : TookRest taken paper paper' (endings_text c.job (map pair_of lent)) tasks.printed → (last : Machine) → EndsStuck last → last.tasks ≡ record now.tasks { rows = last.tasks.rows; running = last.tasks.running }
-          → (counts : Tasks) → IsCounted c last.tasks counts → Closes taken told part (Ok tt) k (record last { tasks = counts }) paper paper'
+          → (counts : Tasks) → IsCounted c last.tasks counts → Closes taken x told plan s part (Ok tt) k (record last { tasks = counts }) paper paper'
       held_closed took last ends rest counts counted = (
         subst (TookRest taken paper paper' (run_text part.lines)) printed_set (subst (λ (l : List ℕ). TookRest taken paper paper' l tasks.printed) (text_is items lent stuck same) took),
         counted.printed,
@@ -218,9 +232,9 @@ module _ (k : Machine) (c : Chosen) (state : TaskState) (h : HoldsSome k c state
         held_stands last ends counts counted,
       )
 
-      pub held_cut : (failed : Failed) (back : Tasks) → back ≡ record k.tasks { printed = printed } → TookMore taken paper paper' (endings_text c.job (map pair_of lent)) tasks.printed printed → Closes taken told part (Err failed) k (record k { tasks = back }) paper paper'
+      pub held_cut : (failed : Failed) (back : Tasks) → back ≡ record k.tasks { printed = printed } → TookMore taken paper paper' (endings_text c.job (map pair_of lent)) tasks.printed printed → Closes taken x told plan s part (Err failed) k (record k { tasks = back }) paper paper'
       held_cut failed back is took =
           let text : TookMore taken paper paper' (run_text part.lines) tasks.printed printed = subst (λ (l : List ℕ). TookMore taken paper paper' l tasks.printed printed) (text_is items lent stuck same) took in
           let own : TookMore taken paper paper' (run_text part.lines) k.tasks.printed printed = subst (λ (n : ℕ). TookMore taken paper paper' (run_text part.lines) n printed) printed_set text in
-          let P : Tasks → Type 0 = λ z. Closes taken told part (Err failed) k (record k { tasks = z }) paper paper' in
+          let P : Tasks → Type 0 = λ z. Closes taken x told plan s part (Err failed) k (record k { tasks = z }) paper paper' in
           subst P (sym is) (own, refl)

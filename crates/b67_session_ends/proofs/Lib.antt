@@ -2,6 +2,7 @@ pub mod Endings
 pub mod AtLimits
 pub mod Counting
 pub mod Counted
+pub mod InPlace
 pub mod Ended
 pub mod Firsts
 pub mod ByLimit

@@ -10,7 +10,7 @@ use Rattle.b67_task_tables.specs.declared.tables.TaskState.TheVariants as states
 use Rattle.b67_task_tables.specs.declared.tables.TaskRow.{TaskRow}
 use Rattle.b67_task_tables.specs.declared.tables.Machine.{Machine}
 use Rattle.b67_task_tables.specs.Tables.{MachineRepresents}
-use Rattle.b67_session_ends.specs.Ends.{StandsForSession}
+use Rattle.b67_session_ends.specs.Ends.{StandsInPlace}
 use Rattle.b67_lemmas.specs.Lists.{Has}
 use Rattle.b67_stack.specs.Represents.{Storage}
 use Rattle.b67_layout.specs.Orders.{IsInOrderButCounts}
@@ -38,12 +38,12 @@ left_ready job dead r = (r.job == job) && (not (is_dead_of dead r.number) && rea
 abbrev pub others_of : List EndedTask → List ℕ → List ℕ
 others_of dead ns = filter (λ (n : ℕ). not (is_dead_of dead n)) ns
 
--- the rest of the lines was printed, the tasks have ended and the step is counted; or nothing has changed but how much of them
--- is printed
-abbrev pub Closes : {K : Type 0} → (K → Option (List ℕ)) → Option (List (List ℕ)) → StepResult → Result (Unit {0}) Failed → Machine → Machine → K → K → Type 0
-Closes taken told part (Ok done) old new paper paper' =
-    TookRest taken paper paper' (run_text part.lines) old.tasks.printed × (new.tasks.printed ≡ 0) × (new.tasks.made ≡ old.tasks.made + 1) × StandsForSession told new part.session
-Closes taken told part (Err failed) old new paper paper' =
+-- the rest of the lines was printed, the tasks have ended, with what is left of the session held as in this storage, and the
+-- step is counted; or nothing has changed but how much of them is printed
+abbrev pub Closes : {K : Type 0} → (K → Option (List ℕ)) → Storage → Option (List (List ℕ)) → Placement → Session → StepResult → Result (Unit {0}) Failed → Machine → Machine → K → K → Type 0
+Closes taken x told plan s part (Ok done) old new paper paper' =
+    TookRest taken paper paper' (run_text part.lines) old.tasks.printed × (new.tasks.printed ≡ 0) × (new.tasks.made ≡ old.tasks.made + 1) × StandsInPlace x told new plan s part.session
+Closes taken x told plan s part (Err failed) old new paper paper' =
     TookMore taken paper paper' (run_text part.lines) old.tasks.printed new.tasks.printed × (new ≡ record old { tasks = record old.tasks { printed = new.tasks.printed } })
 
 -- the machine stands for some session in order but for counts, with a job of this number

@@ -1,5 +1,5 @@
 -- The end of a step over the whole machine: what is printed, and for which session the machine stands then.
-use Rattle.std.specs.Prelude.{◌≡◌, ◌≢◌, ℕ, List, [], length, Option, Some, None, Result, Ok, Err, slice_get}
+use Rattle.std.specs.Prelude.{◌≡◌, ◌≢◌, ℕ, List, [], Option, Some, None, Result, Ok, Err, slice_get}
 use Rattle.b67_word.specs.declared.faults.Failed.{Failed}
 use Rattle.b67_model.specs.Common.{run_text, StepResult, Session, SessionJob}
 use Rattle.b67_lemmas.specs.Lists.{Has}
@@ -11,7 +11,8 @@ use Rattle.b67_layout.specs.Orders.{IsInOrderButCounts}
 use Rattle.b67_task_tables.specs.declared.tables.TaskRow.{TaskRow}
 use Rattle.b67_task_tables.specs.declared.tables.Machine.{Machine}
 use Rattle.b67_task_tables.specs.Tables.{MachineRepresents}
-pub use Rattle.b67_task_end_tables.specs.Families.{StandsForSession, IsFamilyOf, EndsFamily}
+pub use Rattle.b67_task_end_tables.specs.Deaths.{LeavesInPlace}
+pub use Rattle.b67_task_end_tables.specs.Families.{StandsForSession, StandsInPlace, IsFamilyOf, EndsFamily}
 use Rattle.b67_law_sessions.specs.Orders.{IsInOrderButLimit}
 
 -- the row of a job's first task
@@ -43,26 +44,19 @@ pub record StandsBetween (k : Machine) : Type 0 where
   pub ordered : IsInOrderButLimit session
   pub stands : MachineRepresents storage told k plan session
 
--- the last part of a step: what isn't printed yet of its lines was printed, and its tasks have ended; or nothing has changed
--- but how much of them is printed
-abbrev pub LimitEnds : {K : Type 0} → (K → Option (List ℕ)) → Option (List (List ℕ)) → StepResult → Result (Unit {0}) Failed → Machine → Machine → K → K → Type 0
-LimitEnds taken told part (Ok done) old new paper paper' =
-    TookRest taken paper paper' (run_text part.lines) old.tasks.printed × (new.tasks.printed ≡ 0) × StandsForSession told new part.session
-LimitEnds taken told part (Err failed) old new paper paper' =
+-- the last part of a step: what isn't printed yet of its lines was printed, and its tasks have ended, with what is left of the
+-- session held as in this storage; or nothing has changed but how much of them is printed
+abbrev pub LimitEnds : {K : Type 0} → (K → Option (List ℕ)) → Storage → Option (List (List ℕ)) → Placement → Session → StepResult → Result (Unit {0}) Failed → Machine → Machine → K → K → Type 0
+LimitEnds taken x told plan h part (Ok done) old new paper paper' =
+    TookRest taken paper paper' (run_text part.lines) old.tasks.printed × (new.tasks.printed ≡ 0) × StandsInPlace x told new plan h part.session
+LimitEnds taken x told plan h part (Err failed) old new paper paper' =
     TookMore taken paper paper' (run_text part.lines) old.tasks.printed new.tasks.printed × (new ≡ record old { tasks = record old.tasks { printed = new.tasks.printed } })
 
 -- where there is none, nothing is done
-abbrev pub Finishes : {K : Type 0} → (K → Option (List ℕ)) → Option (List (List ℕ)) → Option StepResult → Result (Unit {0}) Failed → Machine → Machine → K → K → Type 0
-Finishes taken told None (Ok done) old new paper paper' = (new ≡ old) × (paper' ≡ paper)
-Finishes taken told None (Err failed) old new paper paper' = ⊥
-Finishes taken told (Some part) answered old new paper paper' = LimitEnds taken told part answered old new paper paper'
-
--- but for the rows of tasks, the one that runs and how much is printed, the tables are as they were; core and the table of
--- sectors have as many words and sectors
-pub record KeepsTables (old new : Machine) : Type 0 where
-  pub tasks : new.tasks ≡ record old.tasks { rows = new.tasks.rows; running = new.tasks.running; printed = new.tasks.printed }
-  pub core : length new.cpu.core ≡ length old.cpu.core
-  pub sectors : length new.sectors.links ≡ length old.sectors.links
+abbrev pub Finishes : {K : Type 0} → (K → Option (List ℕ)) → Storage → Option (List (List ℕ)) → Placement → Session → Option StepResult → Result (Unit {0}) Failed → Machine → Machine → K → K → Type 0
+Finishes taken x told plan h None (Ok done) old new paper paper' = (new ≡ old) × (paper' ≡ paper)
+Finishes taken x told plan h None (Err failed) old new paper paper' = ⊥
+Finishes taken x told plan h (Some part) answered old new paper paper' = LimitEnds taken x told plan h part answered old new paper paper'
 
 -- the machine stands for some session whose last part is due
 pub record HasLimited (k : Machine) : Type 0 where

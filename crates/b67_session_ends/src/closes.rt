@@ -15,7 +15,7 @@ ghost use Rattle.b67_task_tables.specs.Tables.{MachineRepresents};
 ghost use Rattle.b67_task_switch.specs.Counted.{choice_of, CountsHaveRoom};
 ghost use Rattle.b67_task_tables.specs.Runs.{Kept};
 ghost use Rattle.b67_session_ends.specs.Closing.{HasJobOf, StandsChosen, ChoseSome, Closes};
-ghost use Rattle.b67_session_ends.specs.Ends.{StandsForSession};
+ghost use Rattle.b67_session_ends.specs.Ends.{StandsInPlace};
 
 use crate::counts::count_one;
 use crate::deaths::end_job;
@@ -29,11 +29,11 @@ use b67_task_switch::Chosen;
 use b67_task_tables::Machine;
 use b67_word::{Ending, Failed};
 
-/// If no task of a job is ready, all of them end.
+/// If no task of a job is ready, all of them end. What is left lies where it lay.
 pub fn end_stuck(machine: &mut Machine, job: u8)
     requires { HasJobOf machine.old job }
     ensures stands { (x : Storage) (told : Option (List (List ℕ))) (plan : Placement) (s : Session) (m : SessionJob) → IsInOrderButCounts s → MachineRepresents x told machine.old plan s
-        → Has s.jobs m → m.constants.number ≡ job → StandsForSession told machine.new (with_job s m (deadlocked (unsettled m.progress.job)).job) }
+        → Has s.jobs m → m.constants.number ≡ job → StandsInPlace x told machine.new plan s (with_job s m (deadlocked (unsettled m.progress.job)).job) }
     ensures tasks { machine.new.tasks ≡ record machine.old.tasks { rows = machine.new.tasks.rows; running = machine.new.tasks.running } }
     ensures len { length machine.new.cpu.core ≡ length machine.old.cpu.core }
     ensures count { length machine.new.sectors.links ≡ length machine.old.sectors.links }
@@ -48,7 +48,8 @@ pub fn end_stuck(machine: &mut Machine, job: u8)
 }
 
 /// The chosen task ends so by itself: what isn't printed yet of the lines of the endings is printed, but LIMIT's; then the
-/// tasks end, and the step is counted. If the printer fails, nothing changes but how much of them is printed.
+/// tasks end, and the step is counted. The areas of their arrays are free then, and all others stay where they are. If the
+/// printer fails, nothing changes but how much of them is printed.
 pub fn close<K: Sink>(
     machine: &mut Machine,
     chosen: Chosen,
@@ -58,7 +59,7 @@ pub fn close<K: Sink>(
     requires row { ChoseSome machine.old chosen }
     requires room { CountsHaveRoom machine.old.tasks chosen }
     ensures closes { (x : Storage) (told : Option (List (List ℕ))) (plan : Placement) (s : Session) (m : SessionJob) (t : Task) → StandsChosen x told machine.old plan s m t chosen
-        → Closes K.taken told (part_of s (choice_of chosen) m t (ends_with m.progress.job t.number ending)) result machine.old machine.new paper.old paper.new }
+        → Closes K.taken x told plan s (part_of s (choice_of chosen) m t (ends_with m.progress.job t.number ending)) result machine.old machine.new paper.old paper.new }
     ensures cause { HasCause K.faults paper.old paper.new result }
     ensures keeps { Kept machine.old machine.new }
 {

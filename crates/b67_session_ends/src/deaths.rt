@@ -12,7 +12,7 @@ ghost use Rattle.b67_layout.specs.Orders.{IsInOrderButCounts};
 ghost use Rattle.b67_layout.specs.Placement.{Placement};
 ghost use Rattle.b67_task_tables.specs.Tables.{MachineRepresents};
 ghost use Rattle.b67_task_end.specs.Family.{pair_of};
-ghost use Rattle.b67_session_ends.specs.Ends.{StandsForSession, IsFirstRow, JobLives};
+ghost use Rattle.b67_session_ends.specs.Ends.{StandsInPlace, IsFirstRow, JobLives};
 
 use arrayvec::ArrayVec;
 use b67_task_end::{EndedTask, endings};
@@ -55,7 +55,7 @@ pub(crate) fn end_job(machine: &mut Machine, job: u8)
     requires { JobLives machine.old job }
     ensures stands { (x : Storage) (told : Option (List (List ℕ))) (plan : Placement) (s : Session) (m : SessionJob) → IsInOrderButCounts s → MachineRepresents x told machine.old plan s
         → Has s.jobs m → m.constants.number ≡ job → m.progress.job.tasks ≢ []
-        → StandsForSession told machine.new (with_job s m (ends_each_if true variants.Limit (unsettled m.progress.job)).job) }
+        → StandsInPlace x told machine.new plan s (with_job s m (ends_each_if true variants.Limit (unsettled m.progress.job)).job) }
     ensures tasks { machine.new.tasks ≡ record machine.old.tasks { rows = machine.new.tasks.rows; running = machine.new.tasks.running } }
     ensures len { length machine.new.cpu.core ≡ length machine.old.cpu.core }
     ensures count { length machine.new.sectors.links ≡ length machine.old.sectors.links }

@@ -33,7 +33,7 @@ pub fn make_wait<K: Sink>(
     requires row { HoldsSome machine.old chosen state }
     requires room { CountsHaveRoom machine.old.tasks chosen }
     ensures holds { (x : Storage) (told : Option (List (List ℕ))) (plan : Placement) (s : Session) (m : SessionJob) (t : Task) (condition : Condition) → StandsChosen x told machine.old plan s m t chosen
-        → HoldsSo plan m t state condition → Closes K.taken told (part_of s (choice_of chosen) m t (waiting_step m.progress.job t condition)) result machine.old machine.new paper.old paper.new }
+        → HoldsSo plan m t state condition → Closes K.taken x told plan s (part_of s (choice_of chosen) m t (waiting_step m.progress.job t condition)) result machine.old machine.new paper.old paper.new }
     ensures cause { HasCause K.faults paper.old paper.new result }
     ensures keeps { Kept machine.old machine.new }
 {

@@ -13,7 +13,7 @@ ghost use Rattle.b67_task_switch.specs.Standing.{HasRow};
 ghost use Rattle.b67_task_tables.specs.Tables.{MachineRepresents};
 ghost use Rattle.b67_task_tables.specs.RowOf.{IsRowOf};
 ghost use Rattle.b67_task_end.specs.Family.{endings_of, pair_of};
-ghost use Rattle.b67_task_end_tables.specs.Families.{StandsForSession};
+ghost use Rattle.b67_task_end_tables.specs.Families.{StandsInPlace};
 
 use arrayvec::ArrayVec;
 use b67_task_end::{EndedTask, endings};
@@ -29,7 +29,7 @@ pub fn end(machine: &mut Machine, row: u8, ending: Ending) -> ArrayVec<EndedTask
     ensures list { (x : Storage) (told : Option (List (List ℕ))) (plan : Placement) (s : Session) (m : SessionJob) (t : Task) → IsInOrderButCounts s → MachineRepresents x told machine.old plan s
         → IsRowOf plan s machine.old.tasks.rows.items row m t → map pair_of result.items ≡ endings_of m.progress.job t.number ending }
     ensures stands { (x : Storage) (told : Option (List (List ℕ))) (plan : Placement) (s : Session) (m : SessionJob) (t : Task) → IsInOrderButCounts s → MachineRepresents x told machine.old plan s
-        → IsRowOf plan s machine.old.tasks.rows.items row m t → StandsForSession told machine.new (with_job s m (ends_task m.progress.job t.number ending).job) }
+        → IsRowOf plan s machine.old.tasks.rows.items row m t → StandsInPlace x told machine.new plan s (with_job s m (ends_task m.progress.job t.number ending).job) }
     ensures tasks { machine.new.tasks ≡ record machine.old.tasks { rows = machine.new.tasks.rows; running = machine.new.tasks.running } }
     ensures core { length machine.new.cpu.core ≡ length machine.old.cpu.core }
     ensures sectors { length machine.new.sectors.links ≡ length machine.old.sectors.links }

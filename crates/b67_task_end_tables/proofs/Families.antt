@@ -4,6 +4,7 @@ use Rattle.std.proofs.lemmas.Option.{slice_get_within}
 use Rattle.b67_word.specs.declared.faults.Ending.{Ending}
 use Rattle.b67_lemmas.specs.Lists.{Has}
 use Rattle.b67_lemmas.proofs.Members.{all_in, has_append_right, has_filter_in, has_map}
+use Rattle.b67_stack.specs.MachineView.{PagedObject}
 use Rattle.b67_model.specs.Common.{Task, SessionJob, among, descendants, ends_task, IsSegment, TasksInOrder, Session}
 use Rattle.b67_stack.specs.Represents.{Storage}
 use Rattle.b67_layout.specs.Common.{with_job, JobInOrderButCounts, Placement}
@@ -11,14 +12,15 @@ use Rattle.b67_task_tables.specs.declared.tables.Tasks.{Tasks}
 use Rattle.b67_task_tables.specs.declared.tables.Machine.{Machine}
 use Rattle.b67_task_tables.specs.Tables.{MachineRepresents}
 use Rattle.b67_task_switch.specs.Turns.{with_running}
+use Rattle.b67_task_switch.proofs.Replans.{objects-replan}
 use Rattle.b67_task_switch.specs.Standing.{HasRow}
 use Rattle.b67_task_end.specs.declared.families.EndedTask.{EndedTask}
 use Rattle.b67_task_tables.specs.RowOf.{IsRowOf}
 use Rattle.b67_task_end.specs.Family.{TablesHold, pair_of, endings_of}
 use Rattle.b67_task_end.proofs.Under.{deepest}
-use Rattle.b67_task_end_tables.specs.Deaths.{ending_numbers, without_tasks, job_after_endings, StandsWith, MayEnd, EndsSome, HasEnded}
+use Rattle.b67_task_end_tables.specs.Deaths.{ending_numbers, without_tasks, job_after_endings, StandsWith, MayEnd, EndsSome, LeavesInPlace, HasEnded}
 use Rattle.b67_task_end_tables.proofs.Family.{among_has, family, family_numbers, family_turn}
-use Rattle.b67_task_end_tables.specs.Families.{StandsForSession, IsFamilyOf}
+use Rattle.b67_task_end_tables.specs.Families.{StandsInPlace, IsFamilyOf}
 
 -- the same tables, but for the rows and the one that runs
 same_running : (old new : Tasks) (k : ℕ) → new ≡ record old { rows = new.rows; running = k } → new ≡ record old { rows = new.rows; running = new.running }
@@ -69,9 +71,11 @@ module _ (x : Storage) (told : Option (List (List ℕ))) (k : Machine) (plan : P
     pub ends_some : EndsSome mid job (ending_numbers endings)
     ends_some = record { tables = mid.tasks; storage = x; told = told; plan = turned; session = s; job_of = m; stands = with_tables; may = may; number = f.number }
 
-    pub ended_stands : (new : Machine) → HasEnded mid.tasks told turned s m endings new → new.tasks ≡ record mid.tasks { rows = new.tasks.rows; running = 255 } → StandsForSession told new (with_job s m (ends_task m.progress.job t.number ending).job)
+    pub ended_stands : (new : Machine) → HasEnded mid.tasks x told turned s m endings new → new.tasks ≡ record mid.tasks { rows = new.tasks.rows; running = 255 } → StandsInPlace x told new plan s (with_job s m (ends_task m.progress.job t.number ending).job)
     ended_stands new e tasks =
         let after : Placement = without_tasks turned m.constants.number (ending_numbers endings) in
         let T : Tasks → Type 0 = λ z. MachineRepresents e.storage told (record new { tasks = z }) after (with_job s m (job_after_endings m.progress.job endings)) in
         let J : List (ℕ × Ending) → Type 0 = λ l. MachineRepresents e.storage told new after (with_job s m (job_after_endings m.progress.job l)) in
-        record { storage = e.storage; plan = after; stands = subst J f.listed (subst T (sym (same_running mid.tasks new.tasks 255 tasks)) e.stands) }
+        let L : List (ℕ × Ending) → Type 0 = λ l. LeavesInPlace x e.storage plan after s (with_job s m (job_after_endings m.progress.job l)) in
+        let were : LeavesInPlace x e.storage plan after s (with_job s m (job_after_endings m.progress.job endings)) = record { were = λ u i. subst (λ (us : List PagedObject). Has us u) (objects-replan plan f.at.row.slot s.jobs) (e.left.were u i); held = e.left.held } in
+        record { whole = record { storage = e.storage; plan = after; stands = subst J f.listed (subst T (sym (same_running mid.tasks new.tasks 255 tasks)) e.stands) }; left = subst L f.listed were }

@@ -1,4 +1,5 @@
 pub mod Kept
+pub mod LeftInPlace
 pub mod Remains
 pub mod TopMarks
 pub mod Family

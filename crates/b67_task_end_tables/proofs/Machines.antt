@@ -29,8 +29,9 @@ use Rattle.b67_task_end.specs.declared.families.EndedTask.{EndedTask}
 use Rattle.b67_task_end.specs.Family.{pair_of}
 use Rattle.b67_task_end_tables.specs.Left.{ended_numbers, is_of, slot_shown, rows_left}
 use Rattle.b67_task_end_tables.specs.Marks.{ShowsMarks}
-use Rattle.b67_task_end_tables.specs.Deaths.{ending_numbers, is_gone, without_tasks, IsStopped, StandsWith, MayEnd, HasEnded}
+use Rattle.b67_task_end_tables.specs.Deaths.{ending_numbers, is_gone, without_tasks, IsStopped, StandsWith, MayEnd, LeavesInPlace, HasEnded}
 use Rattle.b67_task_end_tables.proofs.Family.{among_has, has_among}
+use Rattle.b67_task_end_tables.proofs.LeftInPlace.{left_in_place}
 use Rattle.b67_task_end_tables.proofs.Remains.{member', member_of, rows_fit, tables_left}
 use Rattle.b67_task_end_tables.proofs.TopMarks.{marks_show}
 
@@ -186,11 +187,11 @@ module _ (k : Machine) (u : Tasks) (x : Storage) (told : Option (List (List ℕ)
         h.stands.session.holds.fits.few good_left left_rows (map job_row u.jobs) (record (counts_of u) { running = 255 }) tables_then marks w
 
     pub has_ended : (cpu' : Cpu) (areas' : Areas) (sectors' : Table) (done : Tasks) (marks : List ℕ) (job : ℕ) (lent : List TaskRow) (y : Storage) (p : MachineView) (slots : List ℕ)
-        → m.constants.number ≡ job → lent ≡ k.tasks.rows.items → areas' ≡ k.areas → length cpu'.core ≡ length k.cpu.core
+        → slots_gone plan m numbers ≡ slots → m.constants.number ≡ job → lent ≡ k.tasks.rows.items → areas' ≡ k.areas → length cpu'.core ≡ length k.cpu.core
         → MachineRepresentsView y cpu' areas' sectors' told p → IsBuried y cpu'.core cpu'.regs plan s m numbers → GaveBack x y (machine_view plan s.jobs) k.cpu.core cpu'.core slots
         → done.rows.items ≡ rows_left job (ended_numbers list) lent → done.running ≡ 255 → ShowsMarks marks done.rows.items
-        → HasEnded u told plan s m (map pair_of list) (record k { cpu = record cpu' { critical = marks }; areas = areas'; sectors = sectors'; tasks = done })
-    has_ended cpu' areas' sectors' done marks job lent y p slots is same areas_are len v buried gave rows_are none tops =
+        → HasEnded u x told plan s m (map pair_of list) (record k { cpu = record cpu' { critical = marks }; areas = areas'; sectors = sectors'; tasks = done })
+    has_ended cpu' areas' sectors' done marks job lent y p slots emptied is same areas_are len v buried gave rows_are none tops =
         let rows_so : left_rows ≡ done.rows.items =
         ap (rows_left m.constants.number numbers) (row_items ∙ sym same)
         ∙ ap (λ (j : ℕ). rows_left j numbers lent) is
@@ -215,4 +216,6 @@ module _ (k : Machine) (u : Tasks) (x : Storage) (told : Option (List (List ℕ)
         record {
           storage = y;
           stands = subst (λ (q : Placement). MachineRepresents y told new q left_session) (sym (plan_is plan s m numbers may h.stands.session.holds.fits.rows)) all;
+          left = subst (λ (q : Placement). LeavesInPlace x y plan q s left_session) (sym (plan_is plan s m numbers may h.stands.session.holds.fits.rows))
+              (left_in_place x k.cpu.core k.cpu.regs k.cpu.critical plan s h.ordered h.stands.session.holds m may.member numbers may.stopped (closed plan s m numbers may) may_bury.room (live_task plan s m numbers may) y cpu'.core slots gave emptied);
         }

@@ -5,8 +5,9 @@ use Rattle.b67_word.specs.declared.faults.Ending.{Ending}
 use Rattle.b67_ctl.specs.declared.registers.TheConstants.{NO_SLOT}
 use Rattle.b67_lemmas.specs.Lists.{Has}
 use Rattle.b67_model.specs.Common.{Task, Job, SessionJob, among, ends_all, unsettled, Session}
+use Rattle.b67_stack.specs.MachineView.{PagedObject}
 use Rattle.b67_stack.specs.Represents.{Storage}
-use Rattle.b67_layout.specs.Common.{Slotted, Placement, with_job, IsInOrderButCounts}
+use Rattle.b67_layout.specs.Common.{Slotted, Placement, machine_view, with_job, IsInOrderButCounts}
 use Rattle.b67_task_tables.specs.declared.tables.Tasks.{Tasks}
 use Rattle.b67_task_tables.specs.declared.tables.Machine.{Machine}
 use Rattle.b67_task_tables.specs.Tables.{MachineRepresents}
@@ -68,8 +69,15 @@ pub record EndsSome (machine : Machine) (job : ℕ) (numbers : List ℕ) : Type 
   pub may : MayEnd plan session job_of numbers
   pub number : job_of.constants.number ≡ job
 
--- the machine stands for the session in which these tasks of a job have ended
-pub record HasEnded (u : Tasks) (told : Option (List (List ℕ))) (plan : Placement) (s : Session) (m : SessionJob) (endings : List (ℕ × Ending)) (new : Machine) : Type 0 where
+-- each array, segment and data row of the session afterwards is one of those before, and is held as it was: in the same area
+-- and the same sectors, or in none
+pub record LeavesInPlace (x y : Storage) (plan placed : Placement) (s after : Session) : Type 0 where
+  pub were : (t : PagedObject) → Has (machine_view placed after.jobs).objects t → Has (machine_view plan s.jobs).objects t
+  pub held : (t : PagedObject) → Has (machine_view placed after.jobs).objects t → y.held t.home ≡ x.held t.home
+
+-- the machine stands for the session in which these tasks of a job have ended, and what is left of it is held as in this storage
+pub record HasEnded (u : Tasks) (x : Storage) (told : Option (List (List ℕ))) (plan : Placement) (s : Session) (m : SessionJob) (endings : List (ℕ × Ending)) (new : Machine) : Type 0 where
   pub storage : Storage
   pub stands : MachineRepresents storage told (record new { tasks = record u { rows = new.tasks.rows; running = new.tasks.running } })
       (without_tasks plan m.constants.number (ending_numbers endings)) (with_job s m (job_after_endings m.progress.job endings))
+  pub left : LeavesInPlace x storage plan (without_tasks plan m.constants.number (ending_numbers endings)) s (with_job s m (job_after_endings m.progress.job endings))

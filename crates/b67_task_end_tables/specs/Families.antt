@@ -9,12 +9,18 @@ use Rattle.b67_task_tables.specs.declared.tables.Machine.{Machine}
 use Rattle.b67_task_tables.specs.Tables.{MachineRepresents}
 use Rattle.b67_task_tables.specs.RowOf.{IsRowOf}
 use Rattle.b67_task_end.specs.Family.{endings_of}
+use Rattle.b67_task_end_tables.specs.Deaths.{LeavesInPlace}
 
 -- the machine represents the session, in some storage and placement
 pub record StandsForSession (told : Option (List (List ℕ))) (k : Machine) (s : Session) : Type 0 where
   pub storage : Storage
   pub plan : Placement
   pub stands : MachineRepresents storage told k plan s
+
+-- and what is left of the session before is held as in this storage
+pub record StandsInPlace (x : Storage) (told : Option (List (List ℕ))) (k : Machine) (plan : Placement) (s after : Session) : Type 0 where
+  pub whole : StandsForSession told k after
+  pub left : LeavesInPlace x whole.storage plan whole.plan s after
 
 -- the machine represents a session in order but for counts, and these are the endings if the task of a row ends so by itself
 pub record IsFamilyOf (x : Storage) (told : Option (List (List ℕ))) (k : Machine) (plan : Placement) (s : Session) (m : SessionJob) (t : Task) (row job : ℕ) (ending : Ending) (endings : List (ℕ × Ending)) : Type 0 where

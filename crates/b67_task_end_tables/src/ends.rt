@@ -12,7 +12,7 @@ ghost use Rattle.b67_task_tables.specs.declared.tables.TheConstants.{NO_ROW};
 ghost use Rattle.b67_task_tables.specs.declared.tables.Tasks.{Tasks};
 ghost use Rattle.b67_task_end.specs.Family.{pair_of};
 ghost use Rattle.b67_task_end_tables.specs.Deaths.{ending_numbers, StandsWith, MayEnd, EndsSome, HasEnded};
-ghost use Rattle.b67_task_end_tables.specs.Families.{StandsForSession, IsFamilyOf, EndsFamily};
+ghost use Rattle.b67_task_end_tables.specs.Families.{StandsInPlace, IsFamilyOf, EndsFamily};
 
 use crate::marks::marks_of;
 use crate::rows::{rows_left, slots_of};
@@ -22,13 +22,13 @@ use b67_task_switch::switch_to;
 use b67_task_tables::{Machine, NO_ROW};
 
 /// These tasks of a job end, each after those under it, as `endings` lists them. Their rows are gone, their slots are free,
-/// and the areas and sectors of their arrays are given back; who awaited one is ready. The registers of no other task may be
-/// in use, and none are then. The tables' counts needn't be those of the session.
+/// the areas and sectors of their arrays are given back, and all others stay where they are; who awaited one is ready. The
+/// registers of no other task may be in use, and none are then. The tables' counts needn't be those of the session.
 fn end(machine: &mut Machine, job: u8, list: &[EndedTask])
     requires some { EndsSome machine.old job (ending_numbers (map pair_of list.now)) }
     requires few { length list.now ≤ 15 }
     ensures stands { (u : Tasks) (x : Storage) (told : Option (List (List ℕ))) (plan : Placement) (s : Session) (m : SessionJob) → StandsWith machine.old u x told plan s
-        → MayEnd plan s m (ending_numbers (map pair_of list.now)) → m.constants.number ≡ job → HasEnded u told plan s m (map pair_of list.now) machine.new }
+        → MayEnd plan s m (ending_numbers (map pair_of list.now)) → m.constants.number ≡ job → HasEnded u x told plan s m (map pair_of list.now) machine.new }
     ensures tasks { machine.new.tasks ≡ record machine.old.tasks { rows = machine.new.tasks.rows; running = NO_ROW } }
     ensures areas { machine.new.areas ≡ machine.old.areas }
     ensures len { length machine.new.cpu.core ≡ length machine.old.cpu.core }
@@ -48,12 +48,12 @@ fn end(machine: &mut Machine, job: u8, list: &[EndedTask])
 }
 
 /// The task of a row ends, with those under it, in the ways that `endings` lists. Whoever's registers were in use, none are
-/// then.
+/// then. All arrays, segments and data rows that are left lie in the same areas and the same sectors.
 pub fn end_family(machine: &mut Machine, row: u8, job: u8, list: &[EndedTask])
     requires some { EndsFamily machine.old row job (map pair_of list.now) }
     requires few { length list.now ≤ 15 }
     ensures stands { (x : Storage) (told : Option (List (List ℕ))) (plan : Placement) (s : Session) (m : SessionJob) (t : Task) (ending : Ending)
-        → IsFamilyOf x told machine.old plan s m t row job ending (map pair_of list.now) → StandsForSession told machine.new (with_job s m (ends_task m.progress.job t.number ending).job) }
+        → IsFamilyOf x told machine.old plan s m t row job ending (map pair_of list.now) → StandsInPlace x told machine.new plan s (with_job s m (ends_task m.progress.job t.number ending).job) }
     ensures tasks { machine.new.tasks ≡ record machine.old.tasks { rows = machine.new.tasks.rows; running = machine.new.tasks.running } }
     ensures len { length machine.new.cpu.core ≡ length machine.old.cpu.core }
     ensures count { length machine.new.sectors.links ≡ length machine.old.sectors.links }

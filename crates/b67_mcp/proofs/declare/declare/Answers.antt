@@ -76,7 +76,7 @@ returns-clause-row c = λ x told plan s m t o h runs code called.
         });
         printed = refl;
       },
-      λ no_process no_resize home none. held-other x.held cpu.regs.s nowhere home (λ e. none (is_new called (home_here plan m.constants.number m.progress.job.next_array cpu.regs.s ∙ sym e))),
+      λ no_process home none. held-other x.held cpu.regs.s nowhere home (λ e. none (is_new called (home_here plan m.constants.number m.progress.job.next_array cpu.regs.s ∙ sym e))),
     ))
 
 pub returns-clause-kept : goal.returns-clause-kept

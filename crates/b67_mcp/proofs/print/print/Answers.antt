@@ -53,7 +53,7 @@ returns-in-Ok-say_value-clause-row g c = λ x told plan s m t o h runs code call
         text = subst (λ (v : ℤ). TookRest g.K.Sink.taken c.args.paper.now c.say_value.new.paper (printed_text m t (Value v ∷ [])) c.args.machine.now.tasks.printed) (to_z-of_z w64 c.in-Ok.value f) (c.in-Ok-say_value.ensures.whole x told plan s m t o h runs code);
         reset = c.cut.ensures.printed;
       },
-      λ no_process no_resize home none. refl,
+      λ no_process home none. refl,
     ))
 
 pub returns-in-Err-clause-present : goal.returns-in-Err-clause-present

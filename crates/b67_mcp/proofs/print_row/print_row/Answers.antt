@@ -71,7 +71,7 @@ returns-in-Ok-say_words-clause-row g c = λ x told plan s m t o h runs code call
         text = c.in-Ok-say_words.ensures.whole x told plan s m t o h runs code row.values row.lies;
         reset = c.cut.ensures.printed;
       },
-      λ no_process no_resize home none. refl,
+      λ no_process home none. refl,
     ))
 
 pub returns-in-Err-say_words-clause-row : goal.returns-in-Err-say_words-clause-row

@@ -103,7 +103,7 @@ returns-clause-row c = λ x told plan s m t o h runs code called.
         });
         printed = ap (λ (z : Tasks). z.printed) c.take_number.ensures.rest;
       },
-      λ no_process no_resize home none. refl,
+      λ no_process home none. refl,
     ))
 
 pub returns-clause-kept : goal.returns-clause-kept

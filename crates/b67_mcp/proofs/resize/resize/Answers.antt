@@ -1,4 +1,4 @@
-use Rattle.std.proofs.Common.{◌<◌, List, length, Some, None, Ok, refl, ◌∙◌, ap, subst, ⊎_elim}
+use Rattle.std.proofs.Common.{◌<◌, List, length, Some, None, Ok, refl, sym, ◌∙◌, ap, subst, ⊎_elim}
 use Rattle.std.proofs.lemmas.Bool.{cases_lt}
 use Rattle.b67_word.specs.Tagged.{Tagged}
 use Rattle.b67_word.specs.declared.couples.Place.{Place}
@@ -14,6 +14,7 @@ use Rattle.b67_stack.specs.declared.What.TheVariants as what
 use Rattle.b67_task_tables.specs.declared.tables.Machine.{Machine}
 use Rattle.b67_task_tables.specs.declared.tables.Tasks.{Tasks}
 use Rattle.b67_task_tables.specs.Tables.{MachineRepresents}
+use Rattle.b67_mcp.specs.Called.{is_resized}
 use Rattle.b67_mcp.proofs.Callings.{calling, reads_of, call_some}
 use Rattle.b67_mcp.proofs.Cut.{one_behind}
 use Rattle.b67_mcp.proofs.Cutting.{resized_fit, order_changed, runs_changed, may_changed, cuts, stands_cut}
@@ -74,7 +75,7 @@ cut_call-requires-clause-call g c =
     let a = q.0.which.array in
     let n = c.in-Lengths.after in
     let set = c.in-Ok-set_length.ensures.row x None w.plan w.session w.member w.task w.ordered h w.running a q.0.which.among q.0.which.home q.0.which.writable q.1 q.2 tt in
-    cuts w.plan w.session w.member w.task w.ordered w.running a.identity (resized n) (resized_renumbers n) (resized_fit n q.0.some q.0.few) q.0.may set.0.0 None c.set_length.new.machine set.0.1
+    cuts w.plan w.session w.member w.task w.ordered w.running a.identity (resized n) (resized_renumbers n) (resized_fit n q.0.some q.0.few) q.0.may set.storage None c.set_length.new.machine set.stands
 
 pub returns-in-Ok-set_length-clause-row : goal.returns-in-Ok-set_length-clause-row
 returns-in-Ok-set_length-clause-row g c = λ x told plan s m t o h runs code called says.
@@ -84,7 +85,9 @@ returns-in-Ok-set_length-clause-row g c = λ x told plan s m t o h runs code cal
     let q = subst P c.in-Lengths.is (c.in-Ok.ensures.row x plan s m t o h.session runs k.reference k.arguments k.call) in
     let a = q.0.which.array in
     let n = c.in-Lengths.after in
-    let ((y, stands), tables) = c.in-Ok-set_length.ensures.row x told plan s m t o h runs a q.0.which.among q.0.which.home q.0.which.writable q.1 q.2 says in
+    let set = c.in-Ok-set_length.ensures.row x told plan s m t o h runs a q.0.which.among q.0.which.home q.0.which.writable q.1 q.2 says in
+    let y = set.storage in
+    let stands = set.stands in
     let f = resized n in
     let keeps = resized_renumbers n in
     let fits = resized_fit n q.0.some q.0.few in
@@ -98,16 +101,19 @@ returns-in-Ok-set_length-clause-row g c = λ x told plan s m t o h runs code cal
     let same = one_behind m t p k.next (c.next_place-next.ensures.behind x told plan s m t o h runs code) (Plain Entr, k.reading) in
     let new : Machine = record mid { cpu = c.cut_call.new.cpu } in
     let S : Place → Type 0 = λ z. MachineRepresents y d new plan (with_job s m (job_resized m t a.identity n z)) in
-    record {
-      job = job_resized m t a.identity n k.next;
-      touched = Some a.identity;
-      is = k.is ∙ q.0.makes k.next;
-      storage = y;
-      plan = plan;
-      stands = subst S same (stands_cut plan s m t o runs a.identity f keeps fits q.0.may y d mid stands c.cut_call.new.cpu p c.cut_call.ensures.core
-          (c.cut_call.ensures.stands y plan (with_job s m m1.progress.job) m1 t order stands.session runs1 may1));
-      printed = ap (λ (ts : Tasks). ts.printed) tables;
-    })
+    let touched = ap (λ (answer : Answer Done). touched_of m.constants m.progress.job t answer) (k.is ∙ q.0.makes k.next) in (
+      record {
+        job = job_resized m t a.identity n k.next;
+        touched = Some a.identity;
+        is = k.is ∙ q.0.makes k.next;
+        storage = y;
+        plan = plan;
+        stands = subst S same (stands_cut plan s m t o runs a.identity f keeps fits q.0.may y d mid stands c.cut_call.new.cpu p c.cut_call.ensures.core
+            (c.cut_call.ensures.stands y plan (with_job s m m1.progress.job) m1 t order stands.session runs1 may1));
+        printed = ap (λ (ts : Tasks). ts.printed) set.tables;
+      },
+      λ no_process home none. set.others home (λ e. none (is_resized a called q.0.which.among touched (sym e))),
+    ))
 
 pub returns-in-Ok-set_length-clause-present : goal.returns-in-Ok-set_length-clause-present
 returns-in-Ok-set_length-clause-present g c = λ x told plan s m t o h runs code called.

@@ -8,7 +8,7 @@ use Rattle.b67_mcp.specs.Running.{JobsHaveRoom}
 use Rattle.b67_session.specs.Attempts.{WantsNothing, HoleFits}
 use Rattle.b67_mcp.specs.declared.ends.Stop.TheVariants.{BackingFull}
 use Rattle.b67_session.specs.declared.outcomes.Attempt.TheVariants.{Made, Ends, Waits}
-use Rattle.b67_session.proofs.Composed.{made_once, ends_once, waits_once, stops_once, never, unchanged_over, goes_on_telling, stopped_attempt, runs_over, wants_some, tables_after_end, tables_after_wait, tables_after_want, tables_after_stop, tables_stay, tables_from, room_after_stop, may_call, stop_calls, attempt_as, same_needs, still_told, other, in_order, then_on, room_after_want, code_there, still_holds, held_from, held_till, not_full_as, not_full_ok, not_full_once, tells_once, hole_for, then_nothing, no_call, keeps_areas, areas_kept, hole_wants, not_made}
+use Rattle.b67_session.proofs.Composed.{made_once, ends_once, waits_once, still_once, stops_once, never, unchanged_over, goes_on_telling, stopped_attempt, runs_over, wants_some, tables_after_end, tables_after_wait, tables_after_want, tables_after_stop, tables_stay, tables_from, room_after_stop, may_call, stop_calls, attempt_as, same_needs, still_told, other, in_order, then_on, room_after_want, code_there, still_holds, held_from, held_till, not_full_as, not_full_ok, not_full_once, tells_once, hole_for, then_nothing, no_call, keeps_areas, areas_kept, hole_wants, not_made}
 use Rattle.b67_session.proofs.Runs.{ready_over, caused_none, caused_stop, caused_want, caused_later, kept_then, kept_tasks}
 use Rattle.b67_session.proofs.attempting.attempt.Goals as goal
 
@@ -47,6 +47,7 @@ returns-in-Ok-Made-clause-row g c = λ x plan s m t o h runs ready.
       hole = λ exact fits none. record { written = still_holds B.holds c.args.backing.now c.try_once.new.backing (tried.quiet (λ w. none (may_call x plan m t w))); not_full = not_full_ok Made };
       areas = λ nothing e. keeps_areas g.K.Sink.taken x (content_after x.device (B.holds c.try_once.new.backing)) c.args.machine.now.tasks.printed plan s m t c.try_once.new.machine c.args.paper.now c.try_once.new.paper (tried.row h.says);
       outcome = λ nothing. tt;
+      still = λ nothing. tt;
       sum = λ nothing sum size e. absurd (let b : ⊥ = cc in b);
     }
 
@@ -63,6 +64,7 @@ returns-in-Ok-Ends-clause-row g c = λ x plan s m t o h runs ready.
       hole = λ exact fits none. record { written = still_holds B.holds c.args.backing.now c.try_once.new.backing quiet; not_full = not_full_ok (Ends c.in-Ok-Ends.ending) };
       areas = λ nothing e. absurd (let b : ⊥ = cc in b);
       outcome = λ nothing. (tried.row h.says).0;
+      still = λ nothing. still_once B.holds g.K.Sink.taken c.args.backing.now c.try_once.new.backing x (B.size c.args.backing.now) plan s m t o runs c.args.machine.now c.try_once.new.machine h c.args.paper.now c.try_once.new.paper quiet (tried.row h.says).1;
       sum = λ nothing sum size e. absurd (let b : ⊥ = cc in b);
     }
 
@@ -79,6 +81,7 @@ returns-in-Ok-Waits-clause-row g c = λ x plan s m t o h runs ready.
       hole = λ exact fits none. record { written = still_holds B.holds c.args.backing.now c.try_once.new.backing quiet; not_full = not_full_ok (Waits c.in-Ok-Waits.state) };
       areas = λ nothing e. absurd (let b : ⊥ = cc in b);
       outcome = λ nothing. (tried.row h.says).0;
+      still = λ nothing. still_once B.holds g.K.Sink.taken c.args.backing.now c.try_once.new.backing x (B.size c.args.backing.now) plan s m t o runs c.args.machine.now c.try_once.new.machine h c.args.paper.now c.try_once.new.paper quiet (tried.row h.says).1;
       sum = λ nothing sum size e. absurd (let b : ⊥ = cc in b);
     }
 
@@ -99,6 +102,7 @@ returns-in-Err-clause-row g c = λ x plan s m t o h runs ready.
       };
       areas = λ nothing e. absurd (let b : ⊥ = cc in b);
       outcome = λ nothing. tt;
+      still = λ nothing. tt;
       sum = λ nothing sum size e.
           tells_once g.K.Sink.taken (content_after x.device (B.holds c.try_once.new.backing)) (B.size c.args.backing.now) x plan s m t c.args.machine.now c.try_once.new.machine c.args.paper.now c.try_once.new.paper c.in-Err.stop sum size (tried.row h.says)
           (let is : c.in-Err.stop ≡ BackingFull sum size = cc in is);
@@ -129,6 +133,7 @@ returns-in-Err-bring_wanted-clause-row g c = λ x plan s m t o h runs ready.
           record { written = held_from B.holds c.args.backing.now c.try_once.new.backing c.bring_wanted.new.backing same into.used.written; not_full = not_full_as c.in-Err-bring_wanted.stop into.used.not_full };
       areas = λ nothing e. absurd (not_made c.in-Err-bring_wanted.stop Made e);
       outcome = λ nothing. tt;
+      still = λ nothing. tt;
       sum = λ nothing. absurd (never g.K.Sink.taken (content_after x.device (B.holds c.try_once.new.backing)) (B.size c.args.backing.now) x plan s m t c.args.machine.now c.try_once.new.machine c.args.paper.now c.try_once.new.paper c.in-Ok-Absent.wanted nothing w);
     }
 
@@ -146,7 +151,7 @@ returns-in-Ok-clause-row g c = λ x plan s m t o h runs ready.
     let k = unchanged_over x told mid plan s c.args.machine.now c.try_once.new.machine w.3 (ap B.holds same) h in
     let brought = c.in-Ok.ensures.row x plan s m t w.0 o k runs w.1 in
     let b = brought.meets w.2 in
-    let printed = ap (λ (z : Tasks). z.printed) c.bring_wanted.ensures.keeps.tasks ∙ ap (λ (z : Machine). z.tasks.printed) w.3 in
+    let printed = ap (λ (z : Tasks). z.printed) c.bring_wanted.ensures.tasks ∙ ap (λ (z : Machine). z.tasks.printed) w.3 in
     let tells = goes_on_telling x.device mid told' k.says (still_tells B.holds B.size B.calls B.faults c.try_once.new.backing c.bring_wanted.new.backing c.bring_wanted.ensures.device) in
     let core = c.bring_wanted.ensures.keeps.core ∙ ap (λ (z : Machine). length z.cpu.core) w.3 in
     let r = other x told' new plan s m t o runs found b in
@@ -183,6 +188,7 @@ returns-in-Ok-clause-row g c = λ x plan s m t o h runs ready.
           (then_nothing x told' new plan s m t o runs found placed w.0 fits.1 w.1 w.2 into.in_place.areas fits.0) made))
           calm;
       outcome = λ nothing. absurd (never g.K.Sink.taken (content_after x.device mid) (B.size c.args.backing.now) x plan s m t c.args.machine.now c.try_once.new.machine c.args.paper.now c.try_once.new.paper found nothing w);
+      still = λ nothing. absurd (never g.K.Sink.taken (content_after x.device mid) (B.size c.args.backing.now) x plan s m t c.args.machine.now c.try_once.new.machine c.args.paper.now c.try_once.new.paper found nothing w);
       sum = λ nothing. absurd (never g.K.Sink.taken (content_after x.device mid) (B.size c.args.backing.now) x plan s m t c.args.machine.now c.try_once.new.machine c.args.paper.now c.try_once.new.paper found nothing w);
     }
 
@@ -236,7 +242,7 @@ returns-in-Err-bring_wanted-clause-tables g c =
     let r = c.requires.runs in
     let same = tables_after_want g.K.Sink.taken (content_after r.storage.device (B.holds c.try_once.new.backing)) (B.size c.args.backing.now) r.storage r.plan r.session r.member r.task c.args.machine.now c.try_once.new.machine c.args.paper.now c.try_once.new.paper c.in-Ok-Absent.wanted
     (((rw c.in-Ok-Absent.field-0-is at c.in-Ok-Absent.ensures.tried) r.storage r.storage.device r.plan r.session r.member r.task r.ordered r.stands.stands r.running r.ready).row r.stands.says) in
-    tables_stay c.in-Err-bring_wanted.stop c.args.machine.now.tasks c.bring_wanted.new.machine.tasks (λ e. c.in-Err-bring_wanted.ensures.silent (ap Err e)) (c.bring_wanted.ensures.keeps.tasks ∙ same)
+    tables_stay c.in-Err-bring_wanted.stop c.args.machine.now.tasks c.bring_wanted.new.machine.tasks (λ e. c.in-Err-bring_wanted.ensures.silent (ap Err e)) (c.bring_wanted.ensures.tasks ∙ same)
 
 pub returns-in-Ok-clause-tables : goal.returns-in-Ok-clause-tables
 returns-in-Ok-clause-tables g c =
@@ -244,15 +250,15 @@ returns-in-Ok-clause-tables g c =
     let r = c.requires.runs in
     let same = tables_after_want g.K.Sink.taken (content_after r.storage.device (B.holds c.try_once.new.backing)) (B.size c.args.backing.now) r.storage r.plan r.session r.member r.task c.args.machine.now c.try_once.new.machine c.args.paper.now c.try_once.new.paper c.in-Ok-Absent.wanted
     (((rw c.in-Ok-Absent.field-0-is at c.in-Ok-Absent.ensures.tried) r.storage r.storage.device r.plan r.session r.member r.task r.ordered r.stands.stands r.running r.ready).row r.stands.says) in
-    tables_from c.with_code.result c.args.machine.now.tasks c.bring_wanted.new.machine.tasks c.with_code.new.machine.tasks (c.bring_wanted.ensures.keeps.tasks ∙ same) c.with_code.ensures.tables
+    tables_from c.with_code.result c.args.machine.now.tasks c.bring_wanted.new.machine.tasks c.with_code.new.machine.tasks (c.bring_wanted.ensures.tasks ∙ same) c.with_code.ensures.tables
 
 pub returns-in-Err-bring_wanted-clause-kept : goal.returns-in-Err-bring_wanted-clause-kept
-returns-in-Err-bring_wanted-clause-kept g c = kept_then c.args.machine.now c.try_once.new.machine c.bring_wanted.new.machine (record { countable = λ k. c.try_once.ensures.countable; keeps = c.try_once.ensures.keeps }) (kept_tasks c.try_once.new.machine c.bring_wanted.new.machine c.bring_wanted.ensures.keeps.tasks c.bring_wanted.ensures.keeps.core c.bring_wanted.ensures.keeps.sectors)
+returns-in-Err-bring_wanted-clause-kept g c = kept_then c.args.machine.now c.try_once.new.machine c.bring_wanted.new.machine (record { countable = λ k. c.try_once.ensures.countable; keeps = c.try_once.ensures.keeps }) (kept_tasks c.try_once.new.machine c.bring_wanted.new.machine c.bring_wanted.ensures.tasks c.bring_wanted.ensures.keeps)
 
 pub returns-in-Ok-clause-kept : goal.returns-in-Ok-clause-kept
 returns-in-Ok-clause-kept g c =
     kept_then c.args.machine.now c.try_once.new.machine c.with_code.new.machine (record { countable = λ k. c.try_once.ensures.countable; keeps = c.try_once.ensures.keeps })
-    (kept_then c.try_once.new.machine c.bring_wanted.new.machine c.with_code.new.machine (kept_tasks c.try_once.new.machine c.bring_wanted.new.machine c.bring_wanted.ensures.keeps.tasks c.bring_wanted.ensures.keeps.core c.bring_wanted.ensures.keeps.sectors) c.with_code.ensures.kept)
+    (kept_then c.try_once.new.machine c.bring_wanted.new.machine c.with_code.new.machine (kept_tasks c.try_once.new.machine c.bring_wanted.new.machine c.bring_wanted.ensures.tasks c.bring_wanted.ensures.keeps) c.with_code.ensures.kept)
 
 pub returns-in-Err-bring_wanted-clause-device : goal.returns-in-Err-bring_wanted-clause-device
 returns-in-Err-bring_wanted-clause-device g c =
@@ -271,4 +277,4 @@ with_code-requires-clause-jobs g c =
     let r = c.requires.runs in
     let same = tables_after_want g.K.Sink.taken (content_after r.storage.device (B.holds c.try_once.new.backing)) (B.size c.args.backing.now) r.storage r.plan r.session r.member r.task c.args.machine.now c.try_once.new.machine c.args.paper.now c.try_once.new.paper c.in-Ok-Absent.wanted
     (((rw c.in-Ok-Absent.field-0-is at c.in-Ok-Absent.ensures.tried) r.storage r.storage.device r.plan r.session r.member r.task r.ordered r.stands.stands r.running r.ready).row r.stands.says) in
-    subst (λ (z : Tasks). JobsHaveRoom z.jobs) (sym (c.bring_wanted.ensures.keeps.tasks ∙ same)) c.requires.jobs
+    subst (λ (z : Tasks). JobsHaveRoom z.jobs) (sym (c.bring_wanted.ensures.tasks ∙ same)) c.requires.jobs

@@ -127,7 +127,7 @@ returns-in-Ok-clause-row g c = λ x plan s m t o h runs ready.
     let w = tried.row h.says in
     let k = unchanged_over x told mid plan s c.args.machine.now c.try_once.new.machine w.3 (ap B.holds same) h in
     let b = (c.in-Ok.ensures.row x plan s m t w.0 o k runs w.1).meets w.2 in
-    let printed = ap (λ (z : Tasks). z.printed) c.bring_wanted.ensures.keeps.tasks ∙ ap (λ (z : Machine). z.tasks.printed) w.3 in
+    let printed = ap (λ (z : Tasks). z.printed) c.bring_wanted.ensures.tasks ∙ ap (λ (z : Machine). z.tasks.printed) w.3 in
     let tells = goes_on_telling x.device mid told' k.says (still_tells B.holds B.size B.calls B.faults c.try_once.new.backing c.bring_wanted.new.backing c.bring_wanted.ensures.device) in
     let core = c.bring_wanted.ensures.keeps.core ∙ ap (λ (z : Machine). length z.cpu.core) w.3 in
     record {
@@ -197,7 +197,7 @@ returns-in-Err-bring_wanted-clause-tables g c =
     let r = c.requires.runs in
     let same = tables_after_want g.K.Sink.taken (content_after r.storage.device (B.holds c.try_once.new.backing)) (B.size c.args.backing.now) r.storage r.plan r.session r.member r.task c.args.machine.now c.try_once.new.machine c.args.paper.now c.try_once.new.paper c.in-Ok-Absent.wanted
     (((rw c.in-Ok-Absent.field-0-is at c.in-Ok-Absent.ensures.tried) r.storage r.storage.device r.plan r.session r.member r.task r.ordered r.stands.stands r.running r.ready).row r.stands.says) in
-    tables_stay c.in-Err-bring_wanted.stop c.args.machine.now.tasks c.bring_wanted.new.machine.tasks (λ e. c.in-Err-bring_wanted.ensures.silent (ap Err e)) (c.bring_wanted.ensures.keeps.tasks ∙ same)
+    tables_stay c.in-Err-bring_wanted.stop c.args.machine.now.tasks c.bring_wanted.new.machine.tasks (λ e. c.in-Err-bring_wanted.ensures.silent (ap Err e)) (c.bring_wanted.ensures.tasks ∙ same)
 
 pub returns-in-Ok-clause-tables : goal.returns-in-Ok-clause-tables
 returns-in-Ok-clause-tables g c =
@@ -205,15 +205,15 @@ returns-in-Ok-clause-tables g c =
     let r = c.requires.runs in
     let same = tables_after_want g.K.Sink.taken (content_after r.storage.device (B.holds c.try_once.new.backing)) (B.size c.args.backing.now) r.storage r.plan r.session r.member r.task c.args.machine.now c.try_once.new.machine c.args.paper.now c.try_once.new.paper c.in-Ok-Absent.wanted
     (((rw c.in-Ok-Absent.field-0-is at c.in-Ok-Absent.ensures.tried) r.storage r.storage.device r.plan r.session r.member r.task r.ordered r.stands.stands r.running r.ready).row r.stands.says) in
-    tables_from c.last_try.result c.args.machine.now.tasks c.bring_wanted.new.machine.tasks c.last_try.new.machine.tasks (c.bring_wanted.ensures.keeps.tasks ∙ same) c.last_try.ensures.tables
+    tables_from c.last_try.result c.args.machine.now.tasks c.bring_wanted.new.machine.tasks c.last_try.new.machine.tasks (c.bring_wanted.ensures.tasks ∙ same) c.last_try.ensures.tables
 
 pub returns-in-Err-bring_wanted-clause-kept : goal.returns-in-Err-bring_wanted-clause-kept
-returns-in-Err-bring_wanted-clause-kept g c = kept_then c.args.machine.now c.try_once.new.machine c.bring_wanted.new.machine (record { countable = λ k. c.try_once.ensures.countable; keeps = c.try_once.ensures.keeps }) (kept_tasks c.try_once.new.machine c.bring_wanted.new.machine c.bring_wanted.ensures.keeps.tasks c.bring_wanted.ensures.keeps.core c.bring_wanted.ensures.keeps.sectors)
+returns-in-Err-bring_wanted-clause-kept g c = kept_then c.args.machine.now c.try_once.new.machine c.bring_wanted.new.machine (record { countable = λ k. c.try_once.ensures.countable; keeps = c.try_once.ensures.keeps }) (kept_tasks c.try_once.new.machine c.bring_wanted.new.machine c.bring_wanted.ensures.tasks c.bring_wanted.ensures.keeps)
 
 pub returns-in-Ok-clause-kept : goal.returns-in-Ok-clause-kept
 returns-in-Ok-clause-kept g c =
     kept_then c.args.machine.now c.try_once.new.machine c.last_try.new.machine (record { countable = λ k. c.try_once.ensures.countable; keeps = c.try_once.ensures.keeps })
-    (kept_then c.try_once.new.machine c.bring_wanted.new.machine c.last_try.new.machine (kept_tasks c.try_once.new.machine c.bring_wanted.new.machine c.bring_wanted.ensures.keeps.tasks c.bring_wanted.ensures.keeps.core c.bring_wanted.ensures.keeps.sectors) c.last_try.ensures.kept)
+    (kept_then c.try_once.new.machine c.bring_wanted.new.machine c.last_try.new.machine (kept_tasks c.try_once.new.machine c.bring_wanted.new.machine c.bring_wanted.ensures.tasks c.bring_wanted.ensures.keeps) c.last_try.ensures.kept)
 
 pub returns-in-Err-bring_wanted-clause-device : goal.returns-in-Err-bring_wanted-clause-device
 returns-in-Err-bring_wanted-clause-device g c =
@@ -232,4 +232,4 @@ last_try-requires-clause-jobs g c =
     let r = c.requires.runs in
     let same = tables_after_want g.K.Sink.taken (content_after r.storage.device (B.holds c.try_once.new.backing)) (B.size c.args.backing.now) r.storage r.plan r.session r.member r.task c.args.machine.now c.try_once.new.machine c.args.paper.now c.try_once.new.paper c.in-Ok-Absent.wanted
     (((rw c.in-Ok-Absent.field-0-is at c.in-Ok-Absent.ensures.tried) r.storage r.storage.device r.plan r.session r.member r.task r.ordered r.stands.stands r.running r.ready).row r.stands.says) in
-    subst (λ (z : Tasks). JobsHaveRoom z.jobs) (sym (c.bring_wanted.ensures.keeps.tasks ∙ same)) c.requires.jobs
+    subst (λ (z : Tasks). JobsHaveRoom z.jobs) (sym (c.bring_wanted.ensures.tasks ∙ same)) c.requires.jobs

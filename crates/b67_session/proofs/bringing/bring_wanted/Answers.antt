@@ -3,6 +3,7 @@ use Rattle.b67_layout_step.proofs.OtherNumbers.{others_in_order}
 use Rattle.b67_backing.specs.declared.refusals.SpaceFault.TheVariants.{NoCore}
 use Rattle.b67_task_need.specs.Needing.{need_with}
 use Rattle.b67_mcp.specs.declared.ends.Stop.TheVariants.{BackingFull}
+use Rattle.b67_session.proofs.Runs.{keeps_tasks}
 use Rattle.b67_session.proofs.Stops.{stopped_so, stopped_fits, full_fault}
 use Rattle.b67_session.proofs.bringing.bring_wanted.Goals as goal
 
@@ -67,7 +68,7 @@ returns-in-Err-clause-row g c = λ x plan s m t words o h runs wanted.
     }
 
 pub returns-in-Ok-clause-keeps : goal.returns-in-Ok-clause-keeps
-returns-in-Ok-clause-keeps g c = record { tasks = c.bring.ensures.tasks; core = c.bring.ensures.keeps.len; sectors = c.bring.ensures.keeps.count }
+returns-in-Ok-clause-keeps g c = keeps_tasks c.args.machine.now c.bring.new.machine c.bring.ensures.tasks c.bring.ensures.keeps.len c.bring.ensures.keeps.count
 
 pub returns-in-Err-clause-keeps : goal.returns-in-Err-clause-keeps
-returns-in-Err-clause-keeps g c = record { tasks = c.bring.ensures.tasks; core = c.bring.ensures.keeps.len; sectors = c.bring.ensures.keeps.count }
+returns-in-Err-clause-keeps g c = keeps_tasks c.args.machine.now c.bring.new.machine c.bring.ensures.tasks c.bring.ensures.keeps.len c.bring.ensures.keeps.count

@@ -10,7 +10,7 @@ use Rattle.b67_session.proofs.Composed.{not_full_ok}
 use Rattle.b67_session.specs.declared.slices.Progress.{Progress}
 use Rattle.b67_session.specs.declared.slices.Progress.TheVariants as progress
 use Rattle.b67_task_tables.specs.declared.tables.Machine.{Machine}
-use Rattle.b67_session.specs.Slices.{StandsAt, Keeps, StopsWithRoom, StepKeepsAreas, IfPresent}
+use Rattle.b67_session.specs.Slices.{StandsAt, Keeps, StopsWithRoom, StepKeepsAreas, StepLeaves, IfPresent}
 use Rattle.b67_session.specs.Steps.{Steps}
 use Rattle.b67_session.proofs.Going.{Going, going-begins, going-lives, going-more, going-steps, going-stops, going-turn, keeps_on, begun_present, made_no_fewer, stop_rooms, stop_causes}
 use Rattle.b67_session.proofs.Pausing.{says_retold, still_told, known_still, retold_twice, pause_slices}
@@ -77,6 +77,7 @@ turn-init g c = record {
   quiet = λ said s m t h says next few wants same. refl;
   written = λ said s m t h says next tells few fits none. record { told = λ all e. e };
   areas = λ said s m t h job says next few alone hand more. absurd (omega (arith, more));
+  left = λ said s m t h says next few wants more. absurd (omega (arith, more));
 }
 
 pub step-requires-clause-due : goal.step-requires-clause-due
@@ -144,6 +145,12 @@ turn-preserved g c =
           let there = (present g a said s says h m t next (Ok progress.More) later (omega arith) (λ room. tt) (λ whole. not_full_ok progress.More) (λ sum size e. absurd cc)).areas job few alone hand
           (ap (λ (z : Machine). z.tasks.made) (sym same) ∙ counted) in
           subst (λ (z : Machine). StepKeepsAreas h.storage h.plan s m t job z) (sym same) there;
+      left = λ said s m t h says next few wants counted.
+          let later = made_no_fewer (stepped g a said s says h (Ok tt) is) in
+          let same : c.go_on_with_turn-more.new.machine ≡ c.step.new.machine = c.go_on_with_turn-more.ensures.rests (omega (arith, few)) in
+          let there = (present g a said s says h m t next (Ok progress.More) later (omega arith) (λ room. tt) (λ whole. not_full_ok progress.More) (λ sum size e. absurd cc)).left few wants
+          (ap (λ (z : Machine). z.tasks.made) (sym same) ∙ counted) in
+          subst (λ (z : Machine). StepLeaves h.storage h.plan s m t z) (sym same) there;
     }
 
 -- ---- the answers
@@ -159,6 +166,7 @@ returns-in-Some-clause-present g c = λ said s m t says h next.
       quiet = λ few wants. c.turn.invariant.quiet said s m t h says next few wants;
       hole = λ tells few fits none. record { written = c.turn.invariant.written said s m t h says next tells few fits none; not_full = not_full_ok c.in-Some.progress };
       areas = λ job few alone hand more. c.turn.invariant.areas said s m t h job says next few alone hand more;
+      left = λ few wants more. c.turn.invariant.left said s m t h says next few wants more;
       sum = λ few wants sum size e. absurd (let b : ⊥ = cc in b);
       room = λ tells code none. tt;
     }
@@ -174,6 +182,7 @@ returns-in-Some-pause-clause-present g c = λ said s m t says h next.
       quiet = λ few wants. c.turn.invariant.quiet said s m t h says next few wants;
       hole = λ tells few fits none. record { written = c.turn.invariant.written said s m t h says next tells few fits none; not_full = not_full_ok c.in-Some-pause.progress };
       areas = λ job few alone hand more. c.turn.invariant.areas said s m t h job says next few alone hand more;
+      left = λ few wants more. c.turn.invariant.left said s m t h says next few wants more;
       sum = λ few wants sum size e. absurd (let b : ⊥ = cc in b);
       room = λ tells code none. tt;
     }
@@ -189,6 +198,7 @@ returns-in-None-clause-present g c = λ said s m t says h next.
       quiet = λ few wants. c.turn.invariant.quiet said s m t h says next few wants;
       hole = λ tells few fits none. record { written = c.turn.invariant.written said s m t h says next tells few fits none; not_full = not_full_ok progress.More };
       areas = λ job few alone hand more. c.turn.invariant.areas said s m t h job says next few alone hand more;
+      left = λ few wants more. c.turn.invariant.left said s m t h says next few wants more;
       sum = λ few wants sum size e. absurd (let b : ⊥ = cc in b);
       room = λ tells code none. tt;
     }

@@ -5,7 +5,7 @@ use Rattle.b67_layout_storage.specs.Machine.{Says, DeviceAfterCalls, content_aft
 use Rattle.b67_law_sessions.specs.Turns.{IsNext}
 use Rattle.b67_session.specs.AttemptPassed.{AreCountable, CallsDevice}
 use Rattle.b67_session.specs.Attempts.{WantsNothing, HoleFits, IsAtHand}
-use Rattle.b67_session.specs.Slices.{StandsAt, Keeps, GoesOnAlone, StepKeepsAreas}
+use Rattle.b67_session.specs.Slices.{StandsAt, Keeps, GoesOnAlone, StepKeepsAreas, StepLeaves}
 use Rattle.b67_session.proofs.Going.{Going}
 use Rattle.b67_session.proofs.slices.go_on.Given as goal
 
@@ -27,6 +27,8 @@ invariant-turn g l = record {
       → told ≢ None → l.n ≤ 1 → HoleFits h.storage h.plan m t → (CallsDevice m t → ⊥) → Becomes g.B.Backing.holds l.initial.backing l.backing (λ all. all);
   areas : (told : Option (List (List ℕ))) (s : Session) (m : SessionJob) (t : Task) (h : StandsAt told l.initial.machine s) (job : Job) → Says told (g.B.Backing.holds l.initial.backing) → IsNext s m t
       → l.n ≤ 1 → GoesOnAlone s m t job → IsAtHand h.storage h.plan m t → l.machine.tasks.made ≡ l.initial.machine.tasks.made + 1 → StepKeepsAreas h.storage h.plan s m t job l.machine;
+  left : (told : Option (List (List ℕ))) (s : Session) (m : SessionJob) (t : Task) (h : StandsAt told l.initial.machine s) → Says told (g.B.Backing.holds l.initial.backing) → IsNext s m t
+      → l.n ≤ 1 → WantsNothing h.storage h.plan m t → l.machine.tasks.made ≡ l.initial.machine.tasks.made + 1 → StepLeaves h.storage h.plan s m t l.machine;
 }
 
 abbrev pub decreases-turn : goal.decreases-turn

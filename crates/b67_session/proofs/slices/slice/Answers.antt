@@ -9,7 +9,8 @@ use Rattle.b67_session.proofs.Shaping.{shaped}
 use Rattle.b67_session.proofs.Going.{Going, going-begins, going-ended}
 use Rattle.b67_session.proofs.Pausing.{says_retold}
 use Rattle.b67_session.proofs.Rows.{empty_rows, some_rows}
-use Rattle.b67_session.proofs.Resuming.{stands_not, limited_not, rests_not, next_row, limited_row, open_stands, open_limited, has_limited, keeps_counts, over_stands, over_prints, cut_again, cut_limited}
+use Rattle.b67_task_tables.proofs.Keeping.{keeps_then}
+use Rattle.b67_session.proofs.Resuming.{stands_not, limited_not, rests_not, next_row, limited_row, open_stands, open_limited, has_limited, over_stands, over_prints, cut_again, cut_limited}
 use Rattle.b67_session.proofs.Again.{open_again, limited}
 use Rattle.b67_session.proofs.Completing.{no_fault, completes}
 use Rattle.b67_session.proofs.slices.slice.Given.{Over}
@@ -70,7 +71,7 @@ go_on-requires-in-Ok-clause-begins g c =
         stands = over_stands l.said l.session l.part c.args.machine.now q g.K.Sink.taken c.end_by_limit.new.machine c.args.paper.now c.end_by_limit.new.paper
             (c.in-Ok.ensures.ends q.storage l.said q.plan l.session l.part q.ordered q.is q.stands);
       };
-      countable = subst (λ (z : Tasks). AreCountable z.jobs) (sym c.end_by_limit.ensures.keeps.tasks) c.requires.open.countable;
+      countable = subst (λ (z : Tasks). AreCountable z.jobs) (sym c.end_by_limit.ensures.tasks) c.requires.open.countable;
     }
 
 pub go_on-requires-in-Ok-clause-sized : goal.go_on-requires-in-Ok-clause-sized
@@ -90,9 +91,9 @@ returns-in-Ok-clause-resumed g c = λ said h part says l.
       middle = c.end_by_limit.new.machine;
       printer = c.end_by_limit.new.paper;
       stands = stands;
-      made = ap (λ (z : Tasks). z.made) c.end_by_limit.ensures.keeps.tasks;
+      made = ap (λ (z : Tasks). z.made) c.end_by_limit.ensures.tasks;
       unprinted = ends.1;
-      keeps = keeps_counts c.args.machine.now c.end_by_limit.new.machine c.end_by_limit.ensures.keeps;
+      keeps = c.end_by_limit.ensures.keeps;
       prints = over_prints said h part c.args.machine.now l g.K.Sink.taken c.end_by_limit.new.machine c.args.paper.now c.end_by_limit.new.paper ends;
       slices = c.go_on-in-Ok.ensures.row said part.session says stands;
       present = λ q m t n. c.go_on-in-Ok.ensures.present said part.session m t says q n;
@@ -108,9 +109,7 @@ returns-in-Ok-clause-complete g c = λ said s tells says sets ample calm quiet.
     let later = c.in-Ok.ensures.cause.later in
     completes g.B.Backing.holds g.K.Sink.taken said (content_after said (g.B.Backing.holds c.go_on-in-Ok.new.backing)) (g.B.Backing.size c.args.backing.now) c.args.n c.go_on-in-Ok.result c.args.machine.now c.go_on-in-Ok.new.machine
     c.args.backing.now c.go_on-in-Ok.new.backing c.args.paper.now c.go_on-in-Ok.new.paper
-    (λ s h. absurd (stands_not said c.args.machine.now s h c.is_at_limit.ensures c.if-not-is_at_limit.false)) (λ h part l. returns-in-Ok-clause-resumed g c said h part says l) (let first = keeps_counts c.args.machine.now c.end_by_limit.new.machine c.end_by_limit.ensures.keeps in
-    let rest = c.go_on-in-Ok.ensures.kept.keeps in
-    record { core = rest.core ∙ first.core; sectors = rest.sectors ∙ first.sectors; halt = rest.halt ∙ first.halt; names = rest.names ∙ first.names }) tells s sets ample
+    (λ s h. absurd (stands_not said c.args.machine.now s h c.is_at_limit.ensures c.if-not-is_at_limit.false)) (λ h part l. returns-in-Ok-clause-resumed g c said h part says l) (keeps_then c.args.machine.now c.end_by_limit.new.machine c.go_on-in-Ok.new.machine c.end_by_limit.ensures.keeps c.go_on-in-Ok.ensures.kept.keeps) tells s sets ample
     (λ e. (let rose = causes.device e in omega (arith, rose, calm)), λ e. (let rose = causes.printer.failed e in omega (arith, later, rose, quiet))))
 
 pub returns-in-Err-clause-row : goal.returns-in-Err-clause-row
@@ -162,14 +161,12 @@ returns-in-Ok-clause-leaves g c =
     let q = l.limited in
     let stands = over_stands l.said l.session l.part c.args.machine.now q g.K.Sink.taken c.end_by_limit.new.machine c.args.paper.now c.end_by_limit.new.paper (c.in-Ok.ensures.ends q.storage l.said q.plan l.session l.part q.ordered q.is q.stands) in
     open_again g.K.Sink.taken (content_after l.said (g.B.Backing.holds c.go_on-in-Ok.new.backing)) (g.B.Backing.holds c.go_on-in-Ok.new.backing) (l.said ≢ None) (g.B.Backing.size c.args.backing.now) c.args.n l.part.session c.go_on-in-Ok.result
-    c.end_by_limit.new.machine c.go_on-in-Ok.new.machine c.end_by_limit.new.paper c.go_on-in-Ok.new.paper (says_retold l.said (g.B.Backing.holds c.go_on-in-Ok.new.backing)) (c.go_on-in-Ok.ensures.kept.countable (subst (λ (z : Tasks). AreCountable z.jobs) (sym c.end_by_limit.ensures.keeps.tasks) c.requires.open.countable)) (c.go_on-in-Ok.ensures.row l.said l.part.session l.says stands)) in
+    c.end_by_limit.new.machine c.go_on-in-Ok.new.machine c.end_by_limit.new.paper c.go_on-in-Ok.new.paper (says_retold l.said (g.B.Backing.holds c.go_on-in-Ok.new.backing)) (c.go_on-in-Ok.ensures.kept.countable (subst (λ (z : Tasks). AreCountable z.jobs) (sym c.end_by_limit.ensures.tasks) c.requires.open.countable)) (c.go_on-in-Ok.ensures.row l.said l.part.session l.says stands)) in
     record {
       goes_on = goes_on;
       shaped = shaped _ _ goes_on;
       causes = search rules;
-      keeps = (let first = keeps_counts c.args.machine.now c.end_by_limit.new.machine c.end_by_limit.ensures.keeps in
-          let rest = c.go_on-in-Ok.ensures.kept.keeps in
-          record { core = rest.core ∙ first.core; sectors = rest.sectors ∙ first.sectors; halt = rest.halt ∙ first.halt; names = rest.names ∙ first.names });
+      keeps = keeps_then c.args.machine.now c.end_by_limit.new.machine c.go_on-in-Ok.new.machine c.end_by_limit.ensures.keeps c.go_on-in-Ok.ensures.kept.keeps;
       served = c.go_on-in-Ok.ensures.device;
     }
 
@@ -178,13 +175,13 @@ returns-in-Err-clause-leaves g c =
     let goes_on = (let l = context g (goal.at.returns-in-Err-clause-leaves g c).Else-not-is_at_limit in
     let q = l.limited in
     limited l.said (g.B.Backing.holds c.args.backing.now) c.end_by_limit.new.machine l.says
-    (subst (λ (z : Tasks). AreCountable z.jobs) (sym c.end_by_limit.ensures.keeps.tasks) c.requires.open.countable) l.session l.part
+    (subst (λ (z : Tasks). AreCountable z.jobs) (sym c.end_by_limit.ensures.tasks) c.requires.open.countable) l.session l.part
     (cut_limited l.said l.session l.part c.args.machine.now q g.K.Sink.taken c.end_by_limit.new.machine c.args.paper.now c.end_by_limit.new.paper c.in-Err._failed
     (c.in-Err.ensures.ends q.storage l.said q.plan l.session l.part q.ordered q.is q.stands))) in
     record {
       goes_on = goes_on;
       shaped = shaped _ _ goes_on;
       causes = search rules;
-      keeps = keeps_counts c.args.machine.now c.end_by_limit.new.machine c.end_by_limit.ensures.keeps;
+      keeps = c.end_by_limit.ensures.keeps;
       served = Served-none g.B.Backing.holds g.B.Backing.size g.B.Backing.calls g.B.Backing.faults c.args.backing.now;
     }

@@ -1,14 +1,16 @@
 use Rattle.std.proofs.Common.{◌≡◌, Ok, Err, sym, ap, ◌∙◌, subst, arith}
+use Rattle.b67_task_tables.specs.declared.tables.Machine.{Machine}
 use Rattle.b67_task_tables.specs.declared.tables.Tasks.{Tasks}
 use Rattle.b67_task_tables.specs.Runs.{Keeps}
 use Rattle.b67_session.specs.AttemptPassed.{AreCountable, JobsHaveRoom}
 use Rattle.b67_session.specs.declared.outcomes.Attempt.{Attempt}
 use Rattle.b67_session.specs.declared.outcomes.Attempt.TheVariants as attempts
 use Rattle.b67_session.proofs.Runs.{caused_stop}
-use Rattle.b67_session.proofs.Caused.{step_causes, keeps_then, close_keeps, turn_keeps}
+use Rattle.b67_task_tables.proofs.Keeping.{keeps_then}
+use Rattle.b67_session.proofs.Caused.{step_causes, turn_keeps}
 use Rattle.b67_session.proofs.Rooms.{can_number}
 use Rattle.b67_session.proofs.Turned.{Tries, who, has_row, turned, runs_over}
-use Rattle.b67_session.proofs.TriedSteps.{tries_as, made_counts, made_between, made_row, made_present, close_counts, closed_between, closed_row, closed_present, cut_row, cut_present, ending_made, ending_so, ending_chose, ending_closes, waiting_made, waiting_so, waiting_some, waiting_closes, stop_row, stop_present}
+use Rattle.b67_session.proofs.TriedSteps.{tries_as, made_counts, made_between, made_row, made_present, close_counts, closed_between, closed_row, closed_present, cut_row, cut_present, ending_made, ending_so, ending_chose, ending_closes, waiting_made, waiting_so, waiting_some, waiting_closes, stop_row, stop_present, ending_leaves, waiting_leaves}
 use Rattle.b67_session.proofs.steps.step.Given.{Over}
 use Rattle.b67_session.proofs.steps.step.Goals.{After-attempt}
 use Rattle.b67_session.proofs.steps.step.Goals as goal
@@ -65,7 +67,7 @@ end_step-requires g c =
 
 pub returns-in-Ok-Made-clause-row : goal.returns-in-Ok-Made-clause-row
 returns-in-Ok-Made-clause-row g c = λ said s says h.
-    made_row (tries_as c.attempt.result (Ok attempts.Made) (c.in-Ok-Made.is ∙ ap (λ (z : Attempt). Ok z) c.in-Ok-Made.field-0-is) (context g (goal.at.returns-in-Ok-Made-clause-row g c).After-attempt)) said s says h c.count_one.new.tasks c.count_one.ensures c.end_step.result c.end_step.new.machine c.end_step.new.paper c.end_step.ensures.finishes c.end_step.ensures.keeps
+    made_row (tries_as c.attempt.result (Ok attempts.Made) (c.in-Ok-Made.is ∙ ap (λ (z : Attempt). Ok z) c.in-Ok-Made.field-0-is) (context g (goal.at.returns-in-Ok-Made-clause-row g c).After-attempt)) said s says h c.count_one.new.tasks c.count_one.ensures c.end_step.result c.end_step.new.machine c.end_step.new.paper c.end_step.ensures.finishes c.end_step.ensures.tasks
 
 pub returns-in-Ok-Made-clause-present : goal.returns-in-Ok-Made-clause-present
 returns-in-Ok-Made-clause-present g c = λ said s m t says h next.
@@ -78,7 +80,7 @@ returns-in-Ok-Made-clause-causes g c =
 pub returns-in-Ok-Made-clause-kept : goal.returns-in-Ok-Made-clause-kept
 returns-in-Ok-Made-clause-kept g c =
     let a = (goal.at.returns-in-Ok-Made-clause-kept g c).After-attempt in
-    record { countable = λ few. subst (λ (z : Tasks). AreCountable z.jobs) (sym c.end_step.ensures.keeps.tasks) (c.count_one.ensures.countable (countable g a)); keeps = (let k = kept g a in let mid = record c.attempt.new.machine { tasks = c.count_one.new.tasks } in keeps_then c.args.machine.now mid c.end_step.new.machine (record { core = k.core; sectors = k.sectors; halt = c.count_one.ensures.halt ∙ k.halt; names = c.count_one.ensures.names ∙ k.names }) c.end_step.ensures.keeps) }
+    record { countable = λ few. subst (λ (z : Tasks). AreCountable z.jobs) (sym c.end_step.ensures.tasks) (c.count_one.ensures.countable (countable g a)); keeps = (let k = kept g a in let mid = record c.attempt.new.machine { tasks = c.count_one.new.tasks } in keeps_then c.args.machine.now mid c.end_step.new.machine (record { core = k.core; sectors = k.sectors; halt = c.count_one.ensures.halt ∙ k.halt; names = c.count_one.ensures.names ∙ k.names }) c.end_step.ensures.keeps) }
 
 pub close-requires-clause-row : goal.close-requires-clause-row
 close-requires-clause-row g c =
@@ -100,12 +102,13 @@ end_step-requires-in-Ok g c =
 pub returns-in-Ok-clause-row : goal.returns-in-Ok-clause-row
 returns-in-Ok-clause-row g c = λ said s says h.
     (let x = (tries_as c.attempt.result (Ok (attempts.Ends c.in-Ok-Ends.ending)) (c.in-Ok-Ends.is ∙ ap (λ (z : Attempt). Ok z) c.in-Ok-Ends.field-0-is) (context g (goal.at.returns-in-Ok-clause-row g c).After-attempt)) in
-    closed_row (attempts.Ends c.in-Ok-Ends.ending) x x.stay said s says h (ending_made c.in-Ok-Ends.ending x said s says h) (ending_so c.in-Ok-Ends.ending x said s says h) c.close.new.machine c.close.new.paper (ending_closes c.in-Ok-Ends.ending x said s says h (Ok tt) c.close.new.machine c.close.new.paper c.in-Ok.ensures.closes) c.end_step-in-Ok.result c.end_step-in-Ok.new.machine c.end_step-in-Ok.new.paper c.end_step-in-Ok.ensures.finishes c.end_step-in-Ok.ensures.keeps)
+    closed_row (attempts.Ends c.in-Ok-Ends.ending) x x.stay said s says h (ending_made c.in-Ok-Ends.ending x said s says h) (ending_so c.in-Ok-Ends.ending x said s says h) c.close.new.machine c.close.new.paper (ending_closes c.in-Ok-Ends.ending x said s says h (Ok tt) c.close.new.machine c.close.new.paper c.in-Ok.ensures.closes) c.end_step-in-Ok.result c.end_step-in-Ok.new.machine c.end_step-in-Ok.new.paper c.end_step-in-Ok.ensures.finishes c.end_step-in-Ok.ensures.tasks)
 
 pub returns-in-Ok-clause-present : goal.returns-in-Ok-clause-present
 returns-in-Ok-clause-present g c = λ said s m t says h next.
     (let x = (tries_as c.attempt.result (Ok (attempts.Ends c.in-Ok-Ends.ending)) (c.in-Ok-Ends.is ∙ ap (λ (z : Attempt). Ok z) c.in-Ok-Ends.field-0-is) (context g (goal.at.returns-in-Ok-clause-present g c).After-attempt)) in
-    closed_present (attempts.Ends c.in-Ok-Ends.ending) x x.stay said s says h (ending_made c.in-Ok-Ends.ending x said s says h) (ending_so c.in-Ok-Ends.ending x said s says h) c.close.new.machine c.close.new.paper (ending_closes c.in-Ok-Ends.ending x said s says h (Ok tt) c.close.new.machine c.close.new.paper c.in-Ok.ensures.closes) c.end_step-in-Ok.result c.end_step-in-Ok.new.machine c.end_step-in-Ok.new.paper c.end_step-in-Ok.ensures.finishes (λ e. let b : ⊥ = cc in b) m t next)
+    closed_present (attempts.Ends c.in-Ok-Ends.ending) x x.stay said s says h (ending_made c.in-Ok-Ends.ending x said s says h) (ending_so c.in-Ok-Ends.ending x said s says h) c.close.new.machine c.close.new.paper (ending_closes c.in-Ok-Ends.ending x said s says h (Ok tt) c.close.new.machine c.close.new.paper c.in-Ok.ensures.closes) c.end_step-in-Ok.result c.end_step-in-Ok.new.machine c.end_step-in-Ok.new.paper c.end_step-in-Ok.ensures.finishes (λ e. let b : ⊥ = cc in b)
+    (λ wants. ending_leaves c.in-Ok-Ends.ending x said s says h wants c.close.new.machine c.close.new.paper c.in-Ok.ensures.closes c.end_step-in-Ok.result c.end_step-in-Ok.new.machine c.end_step-in-Ok.new.paper c.end_step-in-Ok.ensures.finishes) m t next)
 
 pub returns-in-Ok-clause-causes : goal.returns-in-Ok-clause-causes
 returns-in-Ok-clause-causes g c =
@@ -114,7 +117,7 @@ returns-in-Ok-clause-causes g c =
 pub returns-in-Ok-clause-kept : goal.returns-in-Ok-clause-kept
 returns-in-Ok-clause-kept g c =
     let a = (goal.at.returns-in-Ok-clause-kept g c).After-attempt in
-    record { countable = λ few. subst (λ (z : Tasks). AreCountable z.jobs) (sym c.end_step-in-Ok.ensures.keeps.tasks) (c.close.ensures.keeps.countable (countable g a)); keeps = (keeps_then c.args.machine.now c.close.new.machine c.end_step-in-Ok.new.machine (close_keeps c.args.machine.now c.attempt.new.machine c.close.new.machine (kept g a) c.close.ensures.keeps) c.end_step-in-Ok.ensures.keeps) }
+    record { countable = λ few. subst (λ (z : Tasks). AreCountable z.jobs) (sym c.end_step-in-Ok.ensures.tasks) (c.close.ensures.keeps.countable (countable g a)); keeps = (keeps_then c.args.machine.now c.close.new.machine c.end_step-in-Ok.new.machine (keeps_then c.args.machine.now c.attempt.new.machine c.close.new.machine (kept g a) c.close.ensures.keeps.keeps) c.end_step-in-Ok.ensures.keeps) }
 
 pub returns-in-Err-close-clause-row : goal.returns-in-Err-close-clause-row
 returns-in-Err-close-clause-row g c = λ said s says h.
@@ -124,7 +127,8 @@ returns-in-Err-close-clause-row g c = λ said s says h.
 pub returns-in-Err-close-clause-present : goal.returns-in-Err-close-clause-present
 returns-in-Err-close-clause-present g c = λ said s m t says h next.
     (let x = (tries_as c.attempt.result (Ok (attempts.Ends c.in-Ok-Ends.ending)) (c.in-Ok-Ends.is ∙ ap (λ (z : Attempt). Ok z) c.in-Ok-Ends.field-0-is) (context g (goal.at.returns-in-Err-close-clause-present g c).After-attempt)) in
-    cut_present (attempts.Ends c.in-Ok-Ends.ending) x x.stay said s says h (ending_made c.in-Ok-Ends.ending x said s says h) (ending_so c.in-Ok-Ends.ending x said s says h) c.in-Err-close._failed c.close.new.machine c.close.new.paper (λ e. let b : ⊥ = cc in b) m t next)
+    cut_present (attempts.Ends c.in-Ok-Ends.ending) x x.stay said s says h (ending_made c.in-Ok-Ends.ending x said s says h) (ending_so c.in-Ok-Ends.ending x said s says h) c.in-Err-close._failed c.close.new.machine c.close.new.paper (λ e. let b : ⊥ = cc in b)
+    (ap (λ (k : Machine). k.tasks.made) (ending_closes c.in-Ok-Ends.ending x said s says h (Err c.in-Err-close._failed) c.close.new.machine c.close.new.paper c.in-Err-close.ensures.closes).1) m t next)
 
 pub returns-in-Err-close-clause-causes : goal.returns-in-Err-close-clause-causes
 returns-in-Err-close-clause-causes g c =
@@ -133,7 +137,7 @@ returns-in-Err-close-clause-causes g c =
 pub returns-in-Err-close-clause-kept : goal.returns-in-Err-close-clause-kept
 returns-in-Err-close-clause-kept g c =
     let a = (goal.at.returns-in-Err-close-clause-kept g c).After-attempt in
-    record { countable = λ few. c.close.ensures.keeps.countable (countable g a); keeps = (close_keeps c.args.machine.now c.attempt.new.machine c.close.new.machine (kept g a) c.close.ensures.keeps) }
+    record { countable = λ few. c.close.ensures.keeps.countable (countable g a); keeps = (keeps_then c.args.machine.now c.attempt.new.machine c.close.new.machine (kept g a) c.close.ensures.keeps.keeps) }
 
 pub make_wait-requires-clause-row : goal.make_wait-requires-clause-row
 make_wait-requires-clause-row g c =
@@ -155,12 +159,13 @@ end_step-requires-in-Ok-make_wait g c =
 pub returns-in-Ok-make_wait-clause-row : goal.returns-in-Ok-make_wait-clause-row
 returns-in-Ok-make_wait-clause-row g c = λ said s says h.
     (let x = (tries_as c.attempt.result (Ok (attempts.Waits c.in-Ok-Waits.state)) (c.in-Ok-Waits.is ∙ ap (λ (z : Attempt). Ok z) c.in-Ok-Waits.field-0-is) (context g (goal.at.returns-in-Ok-make_wait-clause-row g c).After-attempt)) in
-    closed_row (attempts.Waits c.in-Ok-Waits.state) x x.stay said s says h (waiting_made c.in-Ok-Waits.state x said s says h) (waiting_so c.in-Ok-Waits.state x said s says h) c.make_wait.new.machine c.make_wait.new.paper (waiting_closes c.in-Ok-Waits.state x said s says h (Ok tt) c.make_wait.new.machine c.make_wait.new.paper c.in-Ok-make_wait.ensures.holds) c.end_step-in-Ok-make_wait.result c.end_step-in-Ok-make_wait.new.machine c.end_step-in-Ok-make_wait.new.paper c.end_step-in-Ok-make_wait.ensures.finishes c.end_step-in-Ok-make_wait.ensures.keeps)
+    closed_row (attempts.Waits c.in-Ok-Waits.state) x x.stay said s says h (waiting_made c.in-Ok-Waits.state x said s says h) (waiting_so c.in-Ok-Waits.state x said s says h) c.make_wait.new.machine c.make_wait.new.paper (waiting_closes c.in-Ok-Waits.state x said s says h (Ok tt) c.make_wait.new.machine c.make_wait.new.paper c.in-Ok-make_wait.ensures.holds) c.end_step-in-Ok-make_wait.result c.end_step-in-Ok-make_wait.new.machine c.end_step-in-Ok-make_wait.new.paper c.end_step-in-Ok-make_wait.ensures.finishes c.end_step-in-Ok-make_wait.ensures.tasks)
 
 pub returns-in-Ok-make_wait-clause-present : goal.returns-in-Ok-make_wait-clause-present
 returns-in-Ok-make_wait-clause-present g c = λ said s m t says h next.
     (let x = (tries_as c.attempt.result (Ok (attempts.Waits c.in-Ok-Waits.state)) (c.in-Ok-Waits.is ∙ ap (λ (z : Attempt). Ok z) c.in-Ok-Waits.field-0-is) (context g (goal.at.returns-in-Ok-make_wait-clause-present g c).After-attempt)) in
-    closed_present (attempts.Waits c.in-Ok-Waits.state) x x.stay said s says h (waiting_made c.in-Ok-Waits.state x said s says h) (waiting_so c.in-Ok-Waits.state x said s says h) c.make_wait.new.machine c.make_wait.new.paper (waiting_closes c.in-Ok-Waits.state x said s says h (Ok tt) c.make_wait.new.machine c.make_wait.new.paper c.in-Ok-make_wait.ensures.holds) c.end_step-in-Ok-make_wait.result c.end_step-in-Ok-make_wait.new.machine c.end_step-in-Ok-make_wait.new.paper c.end_step-in-Ok-make_wait.ensures.finishes (λ e. let b : ⊥ = cc in b) m t next)
+    closed_present (attempts.Waits c.in-Ok-Waits.state) x x.stay said s says h (waiting_made c.in-Ok-Waits.state x said s says h) (waiting_so c.in-Ok-Waits.state x said s says h) c.make_wait.new.machine c.make_wait.new.paper (waiting_closes c.in-Ok-Waits.state x said s says h (Ok tt) c.make_wait.new.machine c.make_wait.new.paper c.in-Ok-make_wait.ensures.holds) c.end_step-in-Ok-make_wait.result c.end_step-in-Ok-make_wait.new.machine c.end_step-in-Ok-make_wait.new.paper c.end_step-in-Ok-make_wait.ensures.finishes (λ e. let b : ⊥ = cc in b)
+    (λ wants. waiting_leaves c.in-Ok-Waits.state x said s says h wants c.make_wait.new.machine c.make_wait.new.paper c.in-Ok-make_wait.ensures.holds c.end_step-in-Ok-make_wait.result c.end_step-in-Ok-make_wait.new.machine c.end_step-in-Ok-make_wait.new.paper c.end_step-in-Ok-make_wait.ensures.finishes) m t next)
 
 pub returns-in-Ok-make_wait-clause-causes : goal.returns-in-Ok-make_wait-clause-causes
 returns-in-Ok-make_wait-clause-causes g c =
@@ -169,7 +174,7 @@ returns-in-Ok-make_wait-clause-causes g c =
 pub returns-in-Ok-make_wait-clause-kept : goal.returns-in-Ok-make_wait-clause-kept
 returns-in-Ok-make_wait-clause-kept g c =
     let a = (goal.at.returns-in-Ok-make_wait-clause-kept g c).After-attempt in
-    record { countable = λ few. subst (λ (z : Tasks). AreCountable z.jobs) (sym c.end_step-in-Ok-make_wait.ensures.keeps.tasks) (c.make_wait.ensures.keeps.countable (countable g a)); keeps = (keeps_then c.args.machine.now c.make_wait.new.machine c.end_step-in-Ok-make_wait.new.machine (close_keeps c.args.machine.now c.attempt.new.machine c.make_wait.new.machine (kept g a) c.make_wait.ensures.keeps) c.end_step-in-Ok-make_wait.ensures.keeps) }
+    record { countable = λ few. subst (λ (z : Tasks). AreCountable z.jobs) (sym c.end_step-in-Ok-make_wait.ensures.tasks) (c.make_wait.ensures.keeps.countable (countable g a)); keeps = (keeps_then c.args.machine.now c.make_wait.new.machine c.end_step-in-Ok-make_wait.new.machine (keeps_then c.args.machine.now c.attempt.new.machine c.make_wait.new.machine (kept g a) c.make_wait.ensures.keeps.keeps) c.end_step-in-Ok-make_wait.ensures.keeps) }
 
 pub returns-in-Err-make_wait-clause-row : goal.returns-in-Err-make_wait-clause-row
 returns-in-Err-make_wait-clause-row g c = λ said s says h.
@@ -179,7 +184,8 @@ returns-in-Err-make_wait-clause-row g c = λ said s says h.
 pub returns-in-Err-make_wait-clause-present : goal.returns-in-Err-make_wait-clause-present
 returns-in-Err-make_wait-clause-present g c = λ said s m t says h next.
     (let x = (tries_as c.attempt.result (Ok (attempts.Waits c.in-Ok-Waits.state)) (c.in-Ok-Waits.is ∙ ap (λ (z : Attempt). Ok z) c.in-Ok-Waits.field-0-is) (context g (goal.at.returns-in-Err-make_wait-clause-present g c).After-attempt)) in
-    cut_present (attempts.Waits c.in-Ok-Waits.state) x x.stay said s says h (waiting_made c.in-Ok-Waits.state x said s says h) (waiting_so c.in-Ok-Waits.state x said s says h) c.in-Err-make_wait._failed c.make_wait.new.machine c.make_wait.new.paper (λ e. let b : ⊥ = cc in b) m t next)
+    cut_present (attempts.Waits c.in-Ok-Waits.state) x x.stay said s says h (waiting_made c.in-Ok-Waits.state x said s says h) (waiting_so c.in-Ok-Waits.state x said s says h) c.in-Err-make_wait._failed c.make_wait.new.machine c.make_wait.new.paper (λ e. let b : ⊥ = cc in b)
+    (ap (λ (k : Machine). k.tasks.made) (waiting_closes c.in-Ok-Waits.state x said s says h (Err c.in-Err-make_wait._failed) c.make_wait.new.machine c.make_wait.new.paper c.in-Err-make_wait.ensures.holds).1) m t next)
 
 pub returns-in-Err-make_wait-clause-causes : goal.returns-in-Err-make_wait-clause-causes
 returns-in-Err-make_wait-clause-causes g c =
@@ -188,7 +194,7 @@ returns-in-Err-make_wait-clause-causes g c =
 pub returns-in-Err-make_wait-clause-kept : goal.returns-in-Err-make_wait-clause-kept
 returns-in-Err-make_wait-clause-kept g c =
     let a = (goal.at.returns-in-Err-make_wait-clause-kept g c).After-attempt in
-    record { countable = λ few. c.make_wait.ensures.keeps.countable (countable g a); keeps = (close_keeps c.args.machine.now c.attempt.new.machine c.make_wait.new.machine (kept g a) c.make_wait.ensures.keeps) }
+    record { countable = λ few. c.make_wait.ensures.keeps.countable (countable g a); keeps = (keeps_then c.args.machine.now c.attempt.new.machine c.make_wait.new.machine (kept g a) c.make_wait.ensures.keeps.keeps) }
 
 pub returns-in-Err-clause-row : goal.returns-in-Err-clause-row
 returns-in-Err-clause-row g c = λ said s says h.

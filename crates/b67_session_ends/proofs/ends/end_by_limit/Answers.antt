@@ -1,5 +1,7 @@
-use Rattle.std.proofs.Common.{List, ℕ, refl, subst}
+use Rattle.std.proofs.Common.{List, ℕ, refl, ap, subst}
 use Rattle.b67_session_lines.specs.Parts.{TookRest, TookMore}
+use Rattle.b67_task_tables.specs.declared.tables.Tasks.{Tasks}
+use Rattle.b67_session_ends.proofs.Closed.{keeps_rows}
 use Rattle.b67_session_ends.proofs.ByLimit.{has_head, job_lives, text_by, after_part, stands_reprinted}
 use Rattle.b67_session_ends.proofs.ends.end_by_limit.Goals as goal
 
@@ -15,7 +17,7 @@ returns-clause-ends g c = λ x told plan h part o is stands. (
       (text_by x told c.args.machine.now plan h part o is stands c.live_of-live.result.items c.as_slice.result.now c.all_ended-ended.result.items c.as_slice-2.result.now c.live_of-live.ensures c.as_slice.ensures.value c.as_slice-2.ensures.value c.all_ended-ended.ensures)
       c.in-Ok.ensures.whole,
   refl,
-  stands_reprinted told c.end_job.new.machine part.session 0 (after_part x told c.args.machine.now plan h part o is stands c.end_job.new.machine c.put_endings.new.printed c.end_job.ensures.stands),
+  stands_reprinted x told c.end_job.new.machine plan h part.session 0 (after_part x told c.args.machine.now plan h part o is stands c.end_job.new.machine c.put_endings.new.printed c.end_job.ensures.stands),
 )
 
 pub returns-in-Err-clause-ends : goal.returns-in-Err-clause-ends
@@ -25,3 +27,11 @@ returns-in-Err-clause-ends g c = λ x told plan h part o is stands. (
       c.in-Err.ensures.part,
   refl,
 )
+
+pub returns-clause-keeps : goal.returns-clause-keeps
+returns-clause-keeps g c =
+    keeps_rows c.args.machine.now (record c.end_job.new.machine { tasks = record c.end_job.new.machine.tasks { printed = 0 } }) 0
+    (ap (λ (z : Tasks). record z { printed = 0 }) c.end_job.ensures.tasks) c.end_job.ensures.len c.end_job.ensures.count
+
+pub returns-in-Err-clause-keeps : goal.returns-in-Err-clause-keeps
+returns-in-Err-clause-keeps g c = keeps_rows c.args.machine.now (record c.args.machine.now { tasks = record c.args.machine.now.tasks { printed = c.put_endings.new.printed } }) c.put_endings.new.printed refl refl refl
