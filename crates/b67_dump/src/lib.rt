@@ -2,6 +2,7 @@
 #![tactic(auto)]
 
 pub mod laws;
+mod landmarks;
 mod lines;
 mod order;
 mod printing;
