@@ -83,8 +83,8 @@ next core home marks at n (suc back) h some past e =
     let all : suc n ≡ suc (length (marks_in core n (at - suc back))) = h.count ∙ ap (λ b. length (at ∷ marks_by b (λ d. marks_in core n (at - d)))) e in
     record {
       walk = λ turns many.
-        h.walk (suc turns) (omega (arith, many)) ∙ ap (λ b. marks_under home (at ∷ marks_by b (λ d. marks_in core turns (at - d)))) e
-        ∙ ap (λ (b : Bool). if b then at ∷ marks_in core turns (at - suc back) else marks_under home (marks_in core turns (at - suc back))) (lt-leb at home past);
+          h.walk (suc turns) (omega (arith, many)) ∙ ap (λ b. marks_under home (at ∷ marks_by b (λ d. marks_in core turns (at - d)))) e
+          ∙ ap (λ (b : Bool). if b then at ∷ marks_in core turns (at - suc back) else marks_under home (marks_in core turns (at - suc back))) (lt-leb at home past);
       count = omega (arith, all);
     }
 

@@ -5,7 +5,9 @@ ghost use Rattle.b67_layout_shown.specs.Machines.{sight_of};
 ghost use Rattle.b67_dump.specs.Walk.{marks_in, marks_under, offset_from};
 ghost use Rattle.b67_dump.specs.Landmarks.{IsKnown, IsLandmark, AreLandmarks, block_end, marks_of_slot};
 
-use crate::walking::{Owner, count_marks, offset_over, owner_of, slot_start, top_mark_in, word_or_zero};
+use crate::walking::{
+    Owner, count_marks, offset_over, owner_of, slot_start, top_mark_in, word_or_zero,
+};
 use arrayvec::ArrayVec;
 use b67_core::Core;
 use b67_task_tables::Machine;
@@ -115,11 +117,7 @@ fn known_under(machine: &Machine, landmarks: &[Landmark], slot: u64, home: u64) 
     if at >= landmarks.len() as u64 {
         return Landmark { mark: 0, number: 0 };
     }
-    down_to(
-        &machine.cpu.core,
-        landmark_at(landmarks, at as usize),
-        home,
-    )
+    down_to(&machine.cpu.core, landmark_at(landmarks, at as usize), home)
 }
 
 /// The number of the record whose mark has an address in a slot.

@@ -1,8 +1,8 @@
 //! The dump of a machine: the activation records of its live tasks, as text for people.
 #![tactic(auto)]
 
-pub mod laws;
 mod landmarks;
+pub mod laws;
 mod lines;
 mod order;
 mod printing;

@@ -87,7 +87,14 @@ fn with_place(line: Line, place: Place) -> Line
 }
 
 /// Appends the name of the activation record whose mark stands at a place, seen from a job.
-fn with_record(line: Line, machine: &Machine, landmarks: &[Landmark], job: u64, stack: u64, disp: u64) -> Line
+fn with_record(
+    line: Line,
+    machine: &Machine,
+    landmarks: &[Landmark],
+    job: u64,
+    stack: u64,
+    disp: u64,
+) -> Line
     requires known { AreLandmarks (sight_of machine.now) landmarks.now }
     requires near { job < 2 ^ 63 }
     requires small { disp < 2 ^ 32 }
@@ -112,7 +119,14 @@ fn with_record(line: Line, machine: &Machine, landmarks: &[Landmark], job: u64, 
 }
 
 /// Appends the name of the array whose original stands at an address.
-fn with_array(line: Line, machine: &Machine, landmarks: &[Landmark], row: &JobRow, job: u64, home: u32) -> Line
+fn with_array(
+    line: Line,
+    machine: &Machine,
+    landmarks: &[Landmark],
+    row: &JobRow,
+    job: u64,
+    home: u32,
+) -> Line
     requires known { AreLandmarks (sight_of machine.now) landmarks.now }
     requires room { length line ≤ 90 }
     ensures text { result ≡ line ++ array_at_home (sight_of machine.now) (job_row row.now) job home }
@@ -144,14 +158,28 @@ fn home_named(core: &Core, w: Word) -> u32
 }
 
 /// Appends what a copied descriptor names.
-fn with_copy(line: Line, machine: &Machine, landmarks: &[Landmark], row: &JobRow, job: u64, w: Word) -> Line
+fn with_copy(
+    line: Line,
+    machine: &Machine,
+    landmarks: &[Landmark],
+    row: &JobRow,
+    job: u64,
+    w: Word,
+) -> Line
     requires known { AreLandmarks (sight_of machine.now) landmarks.now }
     requires room { length line ≤ 60 }
     ensures { result ≡ line ++ shape_text (sight_of machine.now) (job_row row.now) job (descriptor_by machine.now.cpu.core 0 (desc_in w) true) }
 {
     let home = home_named(&machine.cpu.core, w);
     if w.part(45, 1) == 1 {
-        let line = with_array(with_text(line, "ELEMENT "), machine, landmarks, row, job, home);
+        let line = with_array(
+            with_text(line, "ELEMENT "),
+            machine,
+            landmarks,
+            row,
+            job,
+            home,
+        );
         with_number(with_text(line, " "), w.part(20, 20))
     } else {
         with_array(with_text(line, "ROW "), machine, landmarks, row, job, home)
@@ -167,7 +195,14 @@ fn with_reference(line: Line, machine: &Machine, landmarks: &[Landmark], job: u6
 {
     if w.part(46, 1) == 1 {
         let line = with_text(line, "REF ");
-        let line = with_record(line, machine, landmarks, job, w.part(36, 10), w.part(20, 16));
+        let line = with_record(
+            line,
+            machine,
+            landmarks,
+            job,
+            w.part(36, 10),
+            w.part(20, 16),
+        );
         with_number(with_text(line, " "), w.part(0, 13))
     } else {
         with_hex(with_text(line, "NAME "), 4, w.part(0, 14))
@@ -210,7 +245,14 @@ fn with_plain(line: Line, machine: &Machine, landmarks: &[Landmark], job: u64, w
 }
 
 /// Appends what the cell at an address holds.
-fn with_cell(line: Line, machine: &Machine, landmarks: &[Landmark], row: &JobRow, job: u64, at: u64) -> Line
+fn with_cell(
+    line: Line,
+    machine: &Machine,
+    landmarks: &[Landmark],
+    row: &JobRow,
+    job: u64,
+    at: u64,
+) -> Line
     requires known { AreLandmarks (sight_of machine.now) landmarks.now }
     requires near { job < 2 ^ 63 }
     requires room { length line ≤ 60 }
@@ -228,7 +270,14 @@ fn with_cell(line: Line, machine: &Machine, landmarks: &[Landmark], row: &JobRow
 }
 
 /// The line of a cell.
-pub fn cell_line(machine: &Machine, landmarks: &[Landmark], row: &JobRow, job: u64, offset: u64, at: u64) -> Line
+pub fn cell_line(
+    machine: &Machine,
+    landmarks: &[Landmark],
+    row: &JobRow,
+    job: u64,
+    offset: u64,
+    at: u64,
+) -> Line
     requires known { AreLandmarks (sight_of machine.now) landmarks.now }
     requires near { job < 2 ^ 63 }
     ensures { result ≡ beside (codes "CELL") (beside (decimal offset)
@@ -239,7 +288,13 @@ pub fn cell_line(machine: &Machine, landmarks: &[Landmark], row: &JobRow, job: u
 }
 
 /// The line of an activation record, by its mark.
-pub fn frame_line(machine: &Machine, landmarks: &[Landmark], job: u64, number: u64, mark: u64) -> Line
+pub fn frame_line(
+    machine: &Machine,
+    landmarks: &[Landmark],
+    job: u64,
+    number: u64,
+    mark: u64,
+) -> Line
     requires known { AreLandmarks (sight_of machine.now) landmarks.now }
     requires near { job < 2 ^ 63 }
     ensures { (top : ℕ) → result ≡ beside (codes "FRAME") (beside (decimal number)
@@ -251,7 +306,8 @@ pub fn frame_line(machine: &Machine, landmarks: &[Landmark], job: u64, number: u
         let line = with_number(with_text(line, "LEVEL "), w.part(14, 5));
         with_record(
             with_text(line, " ENV "),
-            machine, landmarks,
+            machine,
+            landmarks,
             job,
             w.part(36, 10),
             w.part(20, 16),
@@ -262,7 +318,14 @@ pub fn frame_line(machine: &Machine, landmarks: &[Landmark], job: u64, number: u
 }
 
 /// Appends the activation record whose mark has an address.
-fn with_waited(line: Line, machine: &Machine, landmarks: &[Landmark], row: &JobRow, job: u64, mark: u32) -> Line
+fn with_waited(
+    line: Line,
+    machine: &Machine,
+    landmarks: &[Landmark],
+    row: &JobRow,
+    job: u64,
+    mark: u32,
+) -> Line
     requires known { AreLandmarks (sight_of machine.now) landmarks.now }
     requires near { job < 2 ^ 63 }
     requires room { length line ≤ 110 }
@@ -273,7 +336,14 @@ fn with_waited(line: Line, machine: &Machine, landmarks: &[Landmark], row: &JobR
     if mark >= stacks {
         let slot = slot_over(machine, mark - stacks);
         let disp = disp_over(machine, mark - stacks);
-        return with_record(line, machine, landmarks, job, u64::from(slot), u64::from(disp));
+        return with_record(
+            line,
+            machine,
+            landmarks,
+            job,
+            u64::from(slot),
+            u64::from(disp),
+        );
     }
     if mark == row.dict {
         return with_record(line, machine, landmarks, job, DICTIONARIES + job, 0);
@@ -282,7 +352,14 @@ fn with_waited(line: Line, machine: &Machine, landmarks: &[Landmark], row: &JobR
 }
 
 /// Appends whether a task may go on.
-fn with_state(line: Line, machine: &Machine, landmarks: &[Landmark], row: &JobRow, job: u64, state: TaskState) -> Line
+fn with_state(
+    line: Line,
+    machine: &Machine,
+    landmarks: &[Landmark],
+    row: &JobRow,
+    job: u64,
+    state: TaskState,
+) -> Line
     requires known { AreLandmarks (sight_of machine.now) landmarks.now }
     requires near { job < 2 ^ 63 }
     requires room { length line ≤ 60 }
@@ -293,21 +370,42 @@ fn with_state(line: Line, machine: &Machine, landmarks: &[Landmark], row: &JobRo
         TaskState::Ready => with_text(line, "READY"),
         TaskState::Awaits(number) => with_number(with_text(line, "AWAITS "), u64::from(number)),
         TaskState::WaitsAt { mark, offset } => {
-            let line = with_waited(with_text(line, "WAITS "), machine, landmarks, row, job, mark);
+            let line = with_waited(
+                with_text(line, "WAITS "),
+                machine,
+                landmarks,
+                row,
+                job,
+                mark,
+            );
             with_number(with_text(line, " "), u64::from(offset))
         }
     }
 }
 
 /// The line of a task.
-pub fn task_line(machine: &Machine, landmarks: &[Landmark], row: &JobRow, job: u64, task: TaskRow, top: TaskTop) -> Line
+pub fn task_line(
+    machine: &Machine,
+    landmarks: &[Landmark],
+    row: &JobRow,
+    job: u64,
+    task: TaskRow,
+    top: TaskTop,
+) -> Line
     requires known { AreLandmarks (sight_of machine.now) landmarks.now }
     requires near { job < 2 ^ 63 }
     ensures { result ≡ beside (codes "TASK") (beside (task_name job task.number) (beside (state_text (sight_of machine.now) (job_row row.now) job (state_of task.state))
         (beside (decimal (top.segment - 1)) (place_text top.place)))) }
 {
     let line = with_task(line_of("TASK "), job, task.number);
-    let line = with_state(with_text(line, " "), machine, landmarks, row, job, task.state);
+    let line = with_state(
+        with_text(line, " "),
+        machine,
+        landmarks,
+        row,
+        job,
+        task.state,
+    );
     let segment = u64::from(top.segment.saturating_sub(1));
     let line = with_number(with_text(line, " "), segment);
     with_place(with_text(line, " "), top.place)

@@ -51,7 +51,10 @@ fn put_cells<K: Sink>(
 {
     let mut done = 0;
     'cells: while done < count {
-        match put(sink, &cell_line(machine, landmarks, row, job, 2 + done, from + done)) {
+        match put(
+            sink,
+            &cell_line(machine, landmarks, row, job, 2 + done, from + done),
+        ) {
             Ok(()) => {}
             Err(failed) => return Err(failed),
         }
@@ -85,7 +88,8 @@ fn put_record<K: Sink>(
     let from = mark + head;
     put_cells(
         sink,
-        machine, landmarks,
+        machine,
+        landmarks,
         row,
         job,
         from,
@@ -148,7 +152,13 @@ fn put_task<K: Sink>(
 }
 
 /// Puts the tasks of a job, the oldest one first.
-fn put_tasks<K: Sink>(sink: &mut K, machine: &Machine, landmarks: &[Landmark], row: &JobRow, job: u64) -> Result<(), Failed>
+fn put_tasks<K: Sink>(
+    sink: &mut K,
+    machine: &Machine,
+    landmarks: &[Landmark],
+    row: &JobRow,
+    job: u64,
+) -> Result<(), Failed>
     requires known { AreLandmarks (sight_of machine.now) landmarks.now }
     requires near { job < 2 ^ 63 }
     ensures { PutsText K.taken K.faults sink.old sink.new result

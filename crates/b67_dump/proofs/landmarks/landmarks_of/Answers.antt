@@ -27,9 +27,10 @@ each-preserved c =
     let k = sight_of c.args.machine.now in
     let x = c.next_landmark-next.result in
     let long = c.each.invariant.0 in
-    let more = ap (λ (xs : List Landmark). length xs) c.push.ensures.items ∙ length-append c.each.landmarks.items (x ∷ []) in
-    (omega (arith, long, more),
-     one_more k c.each.landmarks.items c.push.new.self.items x c.each.invariant.1 (subst (λ (xs : List Landmark). IsLandmark k (length xs) x) c.as_slice.ensures.value c.next_landmark-next.ensures) c.push.ensures.items)
+    let more = ap (λ (xs : List Landmark). length xs) c.push.ensures.items ∙ length-append c.each.landmarks.items (x ∷ []) in (
+      omega (arith, long, more),
+      one_more k c.each.landmarks.items c.push.new.self.items x c.each.invariant.1 (subst (λ (xs : List Landmark). IsLandmark k (length xs) x) c.as_slice.ensures.value c.next_landmark-next.ensures) c.push.ensures.items,
+    )
 
 pub returns : goal.returns
 returns c = c.each.invariant.1
