@@ -10,6 +10,8 @@ mod Slots
 mod Putting
 mod Printed
 mod Sorted
-mod Marked
 mod Tops
 mod Lined
+mod Stopped
+mod Nearest
+mod Landmarked

@@ -1,6 +1,7 @@
 //! The dump of a machine: the activation records of its live tasks, as text for people.
 #![tactic(auto)]
 
+mod landmarks;
 pub mod laws;
 mod lines;
 mod order;

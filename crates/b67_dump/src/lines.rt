@@ -12,12 +12,11 @@ ghost use Rattle.b67_layout_shown.specs.Shown.{place_seen, reference_by};
 ghost use Rattle.b67_layout_shown.specs.Machines.{sight_of};
 ghost use Rattle.b67_dump.specs.Dump.{beside, hex_number, place_text};
 ghost use Rattle.b67_dump.specs.Records.{activation_in};
+ghost use Rattle.b67_dump.specs.Landmarks.{AreLandmarks};
 ghost use Rattle.b67_dump.specs.Walk.{array_at_home, record_at, head_text, number_of_place, shape_text, state_text, word_text};
 
-use crate::walking::{
-    TaskTop, count_marks, disp_over, number_in_slot, owner_of, slot_over, slot_start, top_mark_in,
-    word_or_zero,
-};
+use crate::landmarks::{Landmark, number_at, owner_in};
+use crate::walking::{TaskTop, disp_over, number_in_slot, slot_over, slot_start, word_or_zero};
 use b67_core::Core;
 use b67_io::Line;
 use b67_session_lines::{line_of, with_number, with_text};
@@ -88,7 +87,15 @@ fn with_place(line: Line, place: Place) -> Line
 }
 
 /// Appends the name of the activation record whose mark stands at a place, seen from a job.
-fn with_record(line: Line, machine: &Machine, job: u64, stack: u64, disp: u64) -> Line
+fn with_record(
+    line: Line,
+    machine: &Machine,
+    landmarks: &[Landmark],
+    job: u64,
+    stack: u64,
+    disp: u64,
+) -> Line
+    requires known { AreLandmarks (sight_of machine.now) landmarks.now }
     requires near { job < 2 ^ 63 }
     requires small { disp < 2 ^ 32 }
     requires room { length line ≤ 110 }
@@ -98,11 +105,7 @@ fn with_record(line: Line, machine: &Machine, job: u64, stack: u64, disp: u64) -
     if stack < 120 {
         let number = number_in_slot(machine.tasks.rows.as_slice(), stack);
         let mark = slot_start(machine, stack) + disp;
-        let marks = count_marks(
-            &machine.cpu.core,
-            u32::from(machine.cpu.regs.stack_size),
-            mark,
-        );
+        let marks = number_at(machine, landmarks, stack, mark);
         return with_number(
             with_text(with_task(line, job, number), " "),
             u64::from(marks),
@@ -116,8 +119,16 @@ fn with_record(line: Line, machine: &Machine, job: u64, stack: u64, disp: u64) -
 }
 
 /// Appends the name of the array whose original stands at an address.
-fn with_array(line: Line, machine: &Machine, row: &JobRow, job: u64, home: u32) -> Line
-    requires { length line ≤ 90 }
+fn with_array(
+    line: Line,
+    machine: &Machine,
+    landmarks: &[Landmark],
+    row: &JobRow,
+    job: u64,
+    home: u32,
+) -> Line
+    requires known { AreLandmarks (sight_of machine.now) landmarks.now }
+    requires room { length line ≤ 90 }
     ensures text { result ≡ line ++ array_at_home (sight_of machine.now) (job_row row.now) job home }
     ensures short { length result ≤ length line + 73 }
 {
@@ -126,9 +137,8 @@ fn with_array(line: Line, machine: &Machine, row: &JobRow, job: u64, home: u32) 
         let line = with_text(with_number(with_text(line, "DICT "), job), " ");
         return with_number(line, u64::from(home.saturating_sub(row.dict)));
     }
-    let size = u32::from(machine.cpu.regs.stack_size);
     let slot = u64::from(slot_over(machine, home - stacks));
-    let owner = owner_of(&machine.cpu.core, size, top_mark_in(machine, slot), home);
+    let owner = owner_in(machine, landmarks, slot, home);
     let number = number_in_slot(machine.tasks.rows.as_slice(), slot);
     let line = with_text(with_task(line, job, number), " ");
     let line = with_text(with_number(line, u64::from(owner.number)), " ");
@@ -148,28 +158,51 @@ fn home_named(core: &Core, w: Word) -> u32
 }
 
 /// Appends what a copied descriptor names.
-fn with_copy(line: Line, machine: &Machine, row: &JobRow, job: u64, w: Word) -> Line
-    requires { length line ≤ 60 }
+fn with_copy(
+    line: Line,
+    machine: &Machine,
+    landmarks: &[Landmark],
+    row: &JobRow,
+    job: u64,
+    w: Word,
+) -> Line
+    requires known { AreLandmarks (sight_of machine.now) landmarks.now }
+    requires room { length line ≤ 60 }
     ensures { result ≡ line ++ shape_text (sight_of machine.now) (job_row row.now) job (descriptor_by machine.now.cpu.core 0 (desc_in w) true) }
 {
     let home = home_named(&machine.cpu.core, w);
     if w.part(45, 1) == 1 {
-        let line = with_array(with_text(line, "ELEMENT "), machine, row, job, home);
+        let line = with_array(
+            with_text(line, "ELEMENT "),
+            machine,
+            landmarks,
+            row,
+            job,
+            home,
+        );
         with_number(with_text(line, " "), w.part(20, 20))
     } else {
-        with_array(with_text(line, "ROW "), machine, row, job, home)
+        with_array(with_text(line, "ROW "), machine, landmarks, row, job, home)
     }
 }
 
 /// Appends a reference, or a couple that isn't one yet.
-fn with_reference(line: Line, machine: &Machine, job: u64, w: Word) -> Line
+fn with_reference(line: Line, machine: &Machine, landmarks: &[Landmark], job: u64, w: Word) -> Line
+    requires known { AreLandmarks (sight_of machine.now) landmarks.now }
     requires near { job < 2 ^ 63 }
     requires room { length line ≤ 60 }
     ensures { (row : layout.JobRow) → result ≡ line ++ word_text (sight_of machine.now) row job (reference_by w number_of_place (is_set w 46)) }
 {
     if w.part(46, 1) == 1 {
         let line = with_text(line, "REF ");
-        let line = with_record(line, machine, job, w.part(36, 10), w.part(20, 16));
+        let line = with_record(
+            line,
+            machine,
+            landmarks,
+            job,
+            w.part(36, 10),
+            w.part(20, 16),
+        );
         with_number(with_text(line, " "), w.part(0, 13))
     } else {
         with_hex(with_text(line, "NAME "), 4, w.part(0, 14))
@@ -192,7 +225,8 @@ fn with_procedure(line: Line, w: Word) -> Line
 }
 
 /// Appends what a word is that is no descriptor.
-fn with_plain(line: Line, machine: &Machine, job: u64, w: Word) -> Line
+fn with_plain(line: Line, machine: &Machine, landmarks: &[Landmark], job: u64, w: Word) -> Line
+    requires known { AreLandmarks (sight_of machine.now) landmarks.now }
     requires near { job < 2 ^ 63 }
     requires room { length line ≤ 60 }
     ensures { (row : layout.JobRow) → result ≡ line ++ shape_text (sight_of machine.now) row job (Is w) }
@@ -202,7 +236,7 @@ fn with_plain(line: Line, machine: &Machine, job: u64, w: Word) -> Line
         return with_hex(with_text(line, "NUM "), 12, w.bits());
     }
     if tag == 1 {
-        return with_reference(line, machine, job, w);
+        return with_reference(line, machine, landmarks, job, w);
     }
     if tag == 7 {
         return with_procedure(line, w);
@@ -211,34 +245,57 @@ fn with_plain(line: Line, machine: &Machine, job: u64, w: Word) -> Line
 }
 
 /// Appends what the cell at an address holds.
-fn with_cell(line: Line, machine: &Machine, row: &JobRow, job: u64, at: u64) -> Line
+fn with_cell(
+    line: Line,
+    machine: &Machine,
+    landmarks: &[Landmark],
+    row: &JobRow,
+    job: u64,
+    at: u64,
+) -> Line
+    requires known { AreLandmarks (sight_of machine.now) landmarks.now }
     requires near { job < 2 ^ 63 }
     requires room { length line ≤ 60 }
     ensures { result ≡ line ++ shape_text (sight_of machine.now) (job_row row.now) job (shape_in machine.now.cpu.core at (word_seen_at machine.now.cpu.core at)) }
 {
     let w = word_or_zero(&machine.cpu.core, at);
     if w.tag() != 5 {
-        return with_plain(line, machine, job, w);
+        return with_plain(line, machine, landmarks, job, w);
     }
     if w.part(46, 1) == 1 {
-        with_copy(line, machine, row, job, w)
+        with_copy(line, machine, landmarks, row, job, w)
     } else {
         with_number(with_text(line, "ARRAY "), w.part(20, 20))
     }
 }
 
 /// The line of a cell.
-pub fn cell_line(machine: &Machine, row: &JobRow, job: u64, offset: u64, at: u64) -> Line
+pub fn cell_line(
+    machine: &Machine,
+    landmarks: &[Landmark],
+    row: &JobRow,
+    job: u64,
+    offset: u64,
+    at: u64,
+) -> Line
+    requires known { AreLandmarks (sight_of machine.now) landmarks.now }
     requires near { job < 2 ^ 63 }
     ensures { result ≡ beside (codes "CELL") (beside (decimal offset)
         (shape_text (sight_of machine.now) (job_row row.now) job (shape_in machine.now.cpu.core at (word_seen_at machine.now.cpu.core at)))) }
 {
     let line = with_text(with_number(line_of("CELL "), offset), " ");
-    with_cell(line, machine, row, job, at)
+    with_cell(line, machine, landmarks, row, job, at)
 }
 
 /// The line of an activation record, by its mark.
-pub fn frame_line(machine: &Machine, job: u64, number: u64, mark: u64) -> Line
+pub fn frame_line(
+    machine: &Machine,
+    landmarks: &[Landmark],
+    job: u64,
+    number: u64,
+    mark: u64,
+) -> Line
+    requires known { AreLandmarks (sight_of machine.now) landmarks.now }
     requires near { job < 2 ^ 63 }
     ensures { (top : ℕ) → result ≡ beside (codes "FRAME") (beside (decimal number)
         (head_text (sight_of machine.now) job (activation_in machine.now.cpu.core mark top).head)) }
@@ -250,6 +307,7 @@ pub fn frame_line(machine: &Machine, job: u64, number: u64, mark: u64) -> Line
         with_record(
             with_text(line, " ENV "),
             machine,
+            landmarks,
             job,
             w.part(36, 10),
             w.part(20, 16),
@@ -260,7 +318,15 @@ pub fn frame_line(machine: &Machine, job: u64, number: u64, mark: u64) -> Line
 }
 
 /// Appends the activation record whose mark has an address.
-fn with_waited(line: Line, machine: &Machine, row: &JobRow, job: u64, mark: u32) -> Line
+fn with_waited(
+    line: Line,
+    machine: &Machine,
+    landmarks: &[Landmark],
+    row: &JobRow,
+    job: u64,
+    mark: u32,
+) -> Line
+    requires known { AreLandmarks (sight_of machine.now) landmarks.now }
     requires near { job < 2 ^ 63 }
     requires room { length line ≤ 110 }
     ensures text { result ≡ line ++ record_at (sight_of machine.now) job (place_seen machine.now.cpu.regs (job_row row.now) job mark) }
@@ -270,16 +336,31 @@ fn with_waited(line: Line, machine: &Machine, row: &JobRow, job: u64, mark: u32)
     if mark >= stacks {
         let slot = slot_over(machine, mark - stacks);
         let disp = disp_over(machine, mark - stacks);
-        return with_record(line, machine, job, u64::from(slot), u64::from(disp));
+        return with_record(
+            line,
+            machine,
+            landmarks,
+            job,
+            u64::from(slot),
+            u64::from(disp),
+        );
     }
     if mark == row.dict {
-        return with_record(line, machine, job, DICTIONARIES + job, 0);
+        return with_record(line, machine, landmarks, job, DICTIONARIES + job, 0);
     }
-    with_record(line, machine, job, MCP_STACK, 0)
+    with_record(line, machine, landmarks, job, MCP_STACK, 0)
 }
 
 /// Appends whether a task may go on.
-fn with_state(line: Line, machine: &Machine, row: &JobRow, job: u64, state: TaskState) -> Line
+fn with_state(
+    line: Line,
+    machine: &Machine,
+    landmarks: &[Landmark],
+    row: &JobRow,
+    job: u64,
+    state: TaskState,
+) -> Line
+    requires known { AreLandmarks (sight_of machine.now) landmarks.now }
     requires near { job < 2 ^ 63 }
     requires room { length line ≤ 60 }
     ensures text { result ≡ line ++ state_text (sight_of machine.now) (job_row row.now) job (state_of state) }
@@ -289,20 +370,42 @@ fn with_state(line: Line, machine: &Machine, row: &JobRow, job: u64, state: Task
         TaskState::Ready => with_text(line, "READY"),
         TaskState::Awaits(number) => with_number(with_text(line, "AWAITS "), u64::from(number)),
         TaskState::WaitsAt { mark, offset } => {
-            let line = with_waited(with_text(line, "WAITS "), machine, row, job, mark);
+            let line = with_waited(
+                with_text(line, "WAITS "),
+                machine,
+                landmarks,
+                row,
+                job,
+                mark,
+            );
             with_number(with_text(line, " "), u64::from(offset))
         }
     }
 }
 
 /// The line of a task.
-pub fn task_line(machine: &Machine, row: &JobRow, job: u64, task: TaskRow, top: TaskTop) -> Line
+pub fn task_line(
+    machine: &Machine,
+    landmarks: &[Landmark],
+    row: &JobRow,
+    job: u64,
+    task: TaskRow,
+    top: TaskTop,
+) -> Line
+    requires known { AreLandmarks (sight_of machine.now) landmarks.now }
     requires near { job < 2 ^ 63 }
     ensures { result ≡ beside (codes "TASK") (beside (task_name job task.number) (beside (state_text (sight_of machine.now) (job_row row.now) job (state_of task.state))
         (beside (decimal (top.segment - 1)) (place_text top.place)))) }
 {
     let line = with_task(line_of("TASK "), job, task.number);
-    let line = with_state(with_text(line, " "), machine, row, job, task.state);
+    let line = with_state(
+        with_text(line, " "),
+        machine,
+        landmarks,
+        row,
+        job,
+        task.state,
+    );
     let segment = u64::from(top.segment.saturating_sub(1));
     let line = with_number(with_text(line, " "), segment);
     with_place(with_text(line, " "), top.place)

@@ -1,12 +1,13 @@
 //! The marks of a stack, walked down.
 
-ghost use Rattle.std.specs.Prelude.{◌≡◌, ℕ, ◌+◌, ◌/◌, ◌%◌, ◌≤◌, ◌<◌, ◌^◌, [], ◌∷◌, length, map, get_or, slice_get, Some};
+ghost use Rattle.std.specs.Prelude.{◌≡◌, ℕ, ◌+◌, ◌/◌, ◌%◌, ◌≤◌, ◌<◌, ◌^◌, [], ◌∷◌, length, map, slice_get, Some};
 ghost use Rattle.b67_model.specs.Keyed.{keyed};
 ghost use Rattle.b67_task_tables.specs.declared.tables.TaskRow.{TaskRow};
 ghost use Rattle.b67_layout_shown.specs.Reading.{word_seen_at};
 ghost use Rattle.b67_task_tables.specs.Tables.{task_row};
 ghost use Rattle.b67_layout_shown.specs.Shown.{number_seen, top_in};
 ghost use Rattle.b67_layout_shown.specs.Machines.{sight_of};
+ghost use Rattle.b67_dump.specs.Landmarks.{AreStops, IsBelow};
 ghost use Rattle.b67_dump.specs.Records.{top_above};
 ghost use Rattle.b67_dump.specs.Walk.{marks_in, marks_under, offset_from, slot_start, top_mark_in};
 
@@ -50,7 +51,7 @@ pub struct Owner {
 }
 
 /// The offset of an address in the record of a mark.
-fn offset_over(core: &Core, mark: u64, home: u32) -> u64
+pub fn offset_over(core: &Core, mark: u64, home: u32) -> u64
     ensures { result ≡ offset_from core.now home (mark ∷ []) }
 {
     let gap = u64::from(home).saturating_sub(mark);
@@ -179,43 +180,66 @@ pub fn top_mark_in(machine: &Machine, slot: u64) -> u64
     }
 }
 
-/// A slot has at most so many words, and so at most so many marks. Their list takes half a megabyte of the stack of the program.
-pub const MARKS: usize = 65535;
+/// Every 64th mark of a stack stands in a list of so many, so that each mark is found in a few steps. A slot has at most 16,383
+/// words, so no session has more marks; those beyond the list are found from the top down.
+pub const STOPS: usize = 256;
 
-/// The marks from one down, at most `turns`.
-pub fn marks_of(core: &Core, turns: u16, mark: u64) -> ArrayVec<u64, MARKS>
-    ensures marks { result.items ≡ marks_in core.now turns mark }
-    ensures near { (i : ℕ) → get_or result.items i 0 ≤ mark }
+/// The mark that stands so many marks below one.
+fn mark_below(core: &Core, mark: u64, steps: u32) -> u64
+    ensures { IsBelow core.now mark steps result }
 {
-    let mut marks = ArrayVec::new();
     let mut at = mark;
-    'down: for _turn in 0..turns {
-        marks.push(at);
-        let back = word_or_zero(core, at).part(0, 14);
-        if back == 0 {
-            break;
-        }
-        at = at.saturating_sub(back);
+    'down: for _step in 0..steps {
+        at = at.saturating_sub(word_or_zero(core, at).part(0, 14));
     }
-    marks
+    at
 }
 
-/// A mark of a list.
-pub fn mark_at(marks: &[u64], at: usize) -> u64
-    requires { at < length marks.now }
-    ensures { slice_get marks.now at ≡ Some result }
+/// Every 64th of so many marks from one down.
+pub fn stops_of(core: &Core, count: u32, mark: u64) -> ArrayVec<u64, STOPS>
+    ensures { AreStops core.now mark result.items }
 {
-    marks[at]
+    let mut stops = ArrayVec::new();
+    let mut at = mark;
+    'each: for stop in 0..STOPS as u32 {
+        if 64 * stop >= count {
+            break;
+        }
+        stops.push(at);
+        at = mark_below(core, at, 64);
+    }
+    stops
+}
+
+/// A stop of a list.
+fn stop_at(stops: &[u64], at: usize) -> u64
+    requires { at < length stops.now }
+    ensures { slice_get stops.now at ≡ Some result }
+{
+    stops[at]
+}
+
+/// The mark that stands so many marks below one, by the stops from that one down.
+pub fn mark_at(core: &Core, stops: &[u64], mark: u64, below: u32) -> u64
+    requires { AreStops core.now mark stops.now }
+    ensures { IsBelow core.now mark below result }
+{
+    let stop = (below / 64) as usize;
+    if stop < stops.len() {
+        mark_below(core, stop_at(stops, stop), below % 64)
+    } else {
+        mark_below(core, mark, below)
+    }
 }
 
 /// What a record reaches up to of whose marks so many stand above its own: the word under the next mark, or the top word.
-pub fn top_at(marks: &[u64], above: usize, top: u64) -> u64
-    requires { above ≤ length marks.now }
-    ensures { result ≡ top_above top marks.now above }
+pub fn top_at(core: &Core, stops: &[u64], mark: u64, above: u32, top: u64) -> u64
+    requires { AreStops core.now mark stops.now }
+    ensures { (turns : ℕ) → above ≤ length (marks_in core.now turns mark) → result ≡ top_above top (marks_in core.now turns mark) above }
 {
     if above == 0 {
         top
     } else {
-        mark_at(marks, above - 1).saturating_sub(1)
+        mark_at(core, stops, mark, above - 1).saturating_sub(1)
     }
 }

@@ -7,7 +7,8 @@ use Rattle.b67_task_tables.specs.Tables.{task_row}
 use Rattle.b67_layout_shown.specs.Shown.{number_seen}
 use Rattle.b67_layout_shown.specs.Machines.{sight_of}
 use Rattle.b67_dump.specs.Dump.{beside}
-use Rattle.b67_dump.specs.Walk.{marks_in, marks_under, offset_from, top_mark_in}
+use Rattle.b67_dump.specs.Walk.{marks_under, offset_from}
+use Rattle.b67_dump.specs.Landmarks.{marks_of_slot}
 use Rattle.b67_dump.proofs.Lined.{four, five}
 use Rattle.b67_dump.proofs.lines.with_array.Goals as goal
 
@@ -24,13 +25,11 @@ returns-clause-text c =
     let slot = c.from-slot.ensures ∙ c.slot_over.ensures in
     let place = (c.args.home - k.regs.stacks) / k.regs.stack_size in
     let number = c.number_in_slot-number.ensures ∙ ap (λ (xs : List TaskRow). number_seen (map task_row xs) c.from-slot.result) c.as_slice.ensures.value ∙ ap (number_seen k.tasks) slot in
-    let mark = c.top_mark_in.ensures ∙ ap (top_mark_in k) slot in
-    let under = λ (n f : ℕ). marks_under c.args.home (marks_in k.core n f) in
-    let marks = ap (λ n. under n c.top_mark_in.result) c.from-size.ensures ∙ ap (λ f. under k.regs.stack_size f) mark in
-    let count = c.from-2.ensures ∙ c.owner_of-owner.ensures.number ∙ ap (λ (fs : List ℕ). length fs) marks in
-    let offset = c.owner_of-owner.ensures.offset ∙ ap (offset_from k.core c.args.home) marks in
-    rw b (five c.args.line (task_name c.args.job c.number_in_slot-number.result) (codes " ") (decimal c.from-2.result) (codes " ") (decimal c.owner_of-owner.result.offset) c.with_number-3.ensures.text c.with_text-line-3.ensures.text c.with_number-2.ensures.text c.with_text-line-2.ensures.text c.with_task.ensures.text
-    ∙ ap (λ (t : List ℕ). c.args.line ++ t) (sym (append_assoc (task_name c.args.job c.number_in_slot-number.result) (codes " " ++ decimal c.from-2.result) (codes " " ++ decimal c.owner_of-owner.result.offset)))
-    ∙ ap (λ n. c.args.line ++ beside (beside (task_name c.args.job n) (decimal c.from-2.result)) (decimal c.owner_of-owner.result.offset)) number
-    ∙ ap (λ n. c.args.line ++ beside (beside (task_name c.args.job (number_seen k.tasks place)) (decimal n)) (decimal c.owner_of-owner.result.offset)) count
-    ∙ ap (λ n. c.args.line ++ beside (beside (task_name c.args.job (number_seen k.tasks place)) (decimal (length (under k.regs.stack_size (top_mark_in k place))))) (decimal n)) offset)
+    let under = λ (n : ℕ). marks_under c.args.home (marks_of_slot k n) in
+    let count = c.from-2.ensures ∙ c.owner_in-owner.ensures.number ∙ ap (λ n. length (under n)) slot in
+    let offset = c.owner_in-owner.ensures.offset ∙ ap (λ n. offset_from k.core c.args.home (under n)) slot in
+    rw b (five c.args.line (task_name c.args.job c.number_in_slot-number.result) (codes " ") (decimal c.from-2.result) (codes " ") (decimal c.owner_in-owner.result.offset) c.with_number-3.ensures.text c.with_text-line-3.ensures.text c.with_number-2.ensures.text c.with_text-line-2.ensures.text c.with_task.ensures.text
+    ∙ ap (λ (t : List ℕ). c.args.line ++ t) (sym (append_assoc (task_name c.args.job c.number_in_slot-number.result) (codes " " ++ decimal c.from-2.result) (codes " " ++ decimal c.owner_in-owner.result.offset)))
+    ∙ ap (λ n. c.args.line ++ beside (beside (task_name c.args.job n) (decimal c.from-2.result)) (decimal c.owner_in-owner.result.offset)) number
+    ∙ ap (λ n. c.args.line ++ beside (beside (task_name c.args.job (number_seen k.tasks place)) (decimal n)) (decimal c.owner_in-owner.result.offset)) count
+    ∙ ap (λ n. c.args.line ++ beside (beside (task_name c.args.job (number_seen k.tasks place)) (decimal (length (under place)))) (decimal n)) offset)

@@ -15,10 +15,9 @@ returns-then-stack-lt120-clause-text c =
     let k = c.args.machine.now in
     let b : nat_lt c.args.stack 120 ≡ true = lt-ltb c.args.stack 120 c.if-stack-lt120.true in
     let number = c.number_in_slot-number.ensures ∙ ap (λ (xs : List TaskRow). number_seen (map task_row xs) c.args.stack) c.as_slice.ensures.value in
-    let count = c.from-then-stack-lt120.ensures ∙ c.count_marks-marks.ensures ∙ ap (λ n. length (marks_in k.cpu.core n (c.slot_start.result + c.args.disp))) c.from.ensures
-    ∙ ap (λ m. length (marks_in k.cpu.core k.cpu.regs.stack_size (m + c.args.disp))) c.slot_start.ensures.at in
-    rw b (three c.args.line (task_name c.args.job c.number_in_slot-number.result) (codes " ") (decimal c.from-then-stack-lt120.result) c.with_number.ensures.text c.with_text.ensures.text c.with_task.ensures.text
-    ∙ ap (λ n. c.args.line ++ beside (task_name c.args.job n) (decimal c.from-then-stack-lt120.result)) number
+    let count = c.from.ensures ∙ c.number_at-marks.ensures ∙ ap (λ m. length (marks_in k.cpu.core k.cpu.regs.stack_size (m + c.args.disp))) c.slot_start.ensures.at in
+    rw b (three c.args.line (task_name c.args.job c.number_in_slot-number.result) (codes " ") (decimal c.from.result) c.with_number.ensures.text c.with_text.ensures.text c.with_task.ensures.text
+    ∙ ap (λ n. c.args.line ++ beside (task_name c.args.job n) (decimal c.from.result)) number
     ∙ ap (λ n. c.args.line ++ beside (task_name c.args.job (number_seen (map task_row k.tasks.rows.items) c.args.stack)) (decimal n)) count)
 
 pub returns-then-stack-job-clause-text : goal.returns-then-stack-job-clause-text
