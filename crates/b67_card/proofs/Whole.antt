@@ -13,14 +13,14 @@ use Rattle.b67_card.specs.declared.reading.ReadFault.TheVariants as read
 use Rattle.b67_card.specs.declared.fault.DeckFault.{DeckFault}
 use Rattle.b67_card.specs.declared.fault.DeckFault.TheVariants.{Card, SourceFault, Memory}
 
-first_of_all : {S : Type 0} (left : S → Option (List ℕ)) (old new : S) (count : ℕ) (text : List ℕ) → length text ≤ count → GaveAll left old new text → GaveFirst left count old new text
+pub first_of_all : {S : Type 0} (left : S → Option (List ℕ)) (old new : S) (count : ℕ) (text : List ℕ) → length text ≤ count → GaveAll left old new text → GaveFirst left count old new text
 first_of_all left old new count text le all = record {
   told = λ before e.
       let h = all.told before e in
       (sym (take_all count text le) ∙ ap (take count) (sym h.0), h.1 ∙ ap Some (sym (drop_all count text le) ∙ ap (drop count) (sym h.0)));
 }
 
-first_and_more : {S : Type 0} (left : S → Option (List ℕ)) (old new : S) (count : ℕ) (front : List ℕ) → length front ≡ count → Gave left old new front → GaveFirst left count old new front
+pub first_and_more : {S : Type 0} (left : S → Option (List ℕ)) (old new : S) (count : ℕ) (front : List ℕ) → length front ≡ count → Gave left old new front → GaveFirst left count old new front
 first_and_more left old new count front len gave = record {
   told = λ before e.
       let h = gave.told before e in

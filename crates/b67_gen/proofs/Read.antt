@@ -1,28 +1,27 @@
 -- Each text of an exercise has a deck.
-use Rattle.std.proofs.Common.{◌≡◌, ℕ, zero, suc, ◌+◌, ◌-◌, ◌*◌, ◌/◌, ◌^◌, ◌<◌, ◌≤◌, Bool, true, false, cond, not, eqb, ltb, List, [], ◌∷◌, ◌++◌, length, get_or, take, drop, map, Some, None, Ok, refl, sym, ap, subst, ◌∙◌, append_assoc, arith}
-use Rattle.std.specs.Prelude.{nat_le, nat_lt, ◌&&◌, ◌==◌, position, codes, decimal, filter, reverse}
-use Rattle.std.specs.List.{AllByRecursion, list_all, flat_map, enumerate_from, position_or_len, suffix_len}
+use Rattle.std.proofs.Common.{◌≡◌, ℕ, zero, suc, ◌+◌, ◌-◌, ◌*◌, ◌/◌, ◌^◌, ◌<◌, ◌≤◌, true, false, ltb, List, [], ◌∷◌, ◌++◌, length, get_or, map, Ok, refl, sym, ap, ◌∙◌, append_assoc, arith}
+use Rattle.std.specs.Prelude.{nat_le, codes, decimal, reverse}
+use Rattle.std.specs.List.{AllByRecursion, list_all, flat_map}
 use Rattle.std.specs.Char.{is_ascii_digit}
 use Rattle.std.specs.Str.{all_ascii_digits}
-use Rattle.std.specs.Str.Lines.{lines, strip_carriage_return}
-use Rattle.std.proofs.Math.Seq.{take-append_seam, take-length, drop-append-add, get_or-append_right}
-use Rattle.std.proofs.lemmas.Bool.{and_parts, and_from, leb-true, le-leb, ltb-true, lt-ltb}
+use Rattle.std.specs.Str.Lines.{lines}
+use Rattle.std.proofs.Math.Seq.{get_or-append_right}
+use Rattle.std.proofs.lemmas.Bool.{and_parts, and_from, leb-true, le-leb, ltb-true}
 use Rattle.std.proofs.lemmas.List.{length-append}
 use Rattle.std.proofs.lemmas.Nat.{mod_below}
 use Rattle.std.proofs.Math.Nat.{mod-le, div-le_of_le-mul}
-use Rattle.std.proofs.lemmas.List.Folds.{list_all_at, list_all-append}
-use Rattle.std.proofs.lemmas.List.Sums.{suffix_len-take_no}
+use Rattle.std.proofs.lemmas.List.Folds.{list_all-append}
 use Rattle.std.proofs.lemmas.Fmt.{digits_decimal, decimal_nonempty, length-decimal-le}
 use Rattle.std.proofs.lemmas.Str.Parse.{tells_all_ascii_digits, numerals_by_value}
 use Rattle.b67_io.specs.Line.{ended}
 use Rattle.b67_model_text.specs.declared.card.Card.{Card}
 use Rattle.b67_model_text.specs.declared.deck.Stand.TheVariants.{InAsm}
-use Rattle.b67_model_text.specs.Cards.{card_of, is_empty, is_space, trimmed}
 use Rattle.b67_model_text.specs.Command.{is_command, is_printable, said, Stack, Job, Asm, End, Plain}
 use Rattle.b67_model_text.specs.Placing.{stand}
 use Rattle.b67_model_text.specs.Deck.{Said, command_in, said_after, sayings, limit, deck, deck_of}
 use Rattle.b67_model_text.specs.declared.deck.Deck.{Deck}
-use Rattle.b67_card.proofs.Lines.{cards_from, is_newline, lines_some}
+use Rattle.b67_card.proofs.Lines.{cards_from}
+use Rattle.b67_card.proofs.OwnLines.{IsWholeLine, card_of_line}
 use Rattle.b67_gen.specs.Generated.{drawn, below, after_draws, lengths, stores, literal_card, cell_card, making, storing, adding, front_cards, printing, end_cards, cards_over, on_lines, generated_text}
 use Rattle.b67_gen.specs.declared.stores.Store.{Store}
 use Rattle.b67_gen.proofs.Drawing.{lengths_many}
@@ -37,60 +36,12 @@ pub record IsLine (t : List ℕ) : Type 0 where
   pub printable : list_all is_printable t ≡ true
   pub last : 32 < get_or t (length t - 1) 0
 
-no_newline : (t rest : List ℕ) → list_all is_printable t ≡ true → position_or_len is_newline (t ++ 10 ∷ rest) ≡ length t
-no_newline [] rest p = refl
-no_newline (x ∷ t) rest p =
-    let both = and_parts (is_printable x) (list_all is_printable t) p in
-    let low : 32 ≤ x = leb-true 32 x (and_parts (nat_le 32 x) (nat_le x 126) both.0).0 in
-    let other : eqb x 10 ≡ false = grind arith in
-    by_test (is_newline x) other (no_newline t rest both.1)
-  where
-    by_test : (b : Bool) → b ≡ false → position_or_len is_newline (t ++ 10 ∷ rest) ≡ length t → cond (not b) (1 + position_or_len is_newline (t ++ 10 ∷ rest)) 0 ≡ suc (length t)
-    by_test true e h = absurd (let z : ⊥ = cc in z)
-    by_test false e h = omega (arith, h)
-
-ends_at : (t rest : List ℕ) → list_all is_printable t ≡ true → position is_newline (t ++ 10 ∷ rest) ≡ Some (length t)
-ends_at t rest p =
-    let e = no_newline t rest p in
-    let long : length t < length (t ++ 10 ∷ rest) = omega (arith, length-append t (10 ∷ rest)) in
-    rw (e, lt-ltb (length t) (length (t ++ 10 ∷ rest)) long) refl
-
-strips : (t : List ℕ) → IsLine t → strip_carriage_return t ≡ t
-strips t l =
-    let last = l.last in
-    let other : eqb (get_or t (length t - 1) 0) 13 ≡ false = grind arith in
-    rw other refl
-
-trims : (t : List ℕ) → IsLine t → trimmed t ≡ t
-trims t l =
-    let last = l.last in
-    let other : eqb (get_or t (length t - 1) 0) 32 ≡ false = grind arith in
-    let none : suffix_len is_space t ≡ 0 = ap (suffix_len is_space) (sym (take-length t)) ∙ suffix_len-take_no is_space t (length t) 0 l.some (omega arith) other in
-    let all : length t - suffix_len is_space t ≡ length t = omega (arith, none) in
-    ap (λ (n : ℕ). take n t) all ∙ take-length t
-
-first_line : (t rest : List ℕ) → IsLine t → lines (ended t ++ rest) ≡ t ∷ lines rest
-first_line t rest l =
-    let same : ended t ++ rest ≡ t ++ 10 ∷ rest = append_assoc t (10 ∷ []) rest in
-    ap lines same ∙ lines_some (t ++ 10 ∷ rest) (length t) (ends_at t rest l.printable)
-    ∙ ap (λ (xs : List ℕ). strip_carriage_return xs ∷ lines (drop (length t + 1) (t ++ 10 ∷ rest))) (take-append_seam t (10 ∷ rest))
-    ∙ ap (λ (xs : List ℕ). strip_carriage_return t ∷ lines xs) (drop-append-add t (10 ∷ rest) 1)
-    ∙ ap (λ (xs : List ℕ). xs ∷ lines rest) (strips t l)
-
-abbrev card_at : ℕ → List ℕ → Card
-card_at n t = record { number = n; text = t }
+whole_line : (t : List ℕ) → IsLine t → IsWholeLine t
+whole_line t l = record { some = l.some; printable = l.printable; last = l.last }
 
 -- it is the first card
 pub first_card : (n : ℕ) (t rest : List ℕ) → IsLine t → cards_from n (ended t ++ rest) ≡ record { number = n; text = t } ∷ cards_from (n + 1) rest
-first_card n t rest l =
-    let some = l.some in
-    let filled : eqb (length t) 0 ≡ false = grind arith in
-    ap (λ (ls : List (List ℕ)). filter (λ (c : Card). not (is_empty c.text)) (map card_of (enumerate_from n ls))) (first_line t rest l)
-    ∙ by_text (trimmed t) (trims t l) filled
-  where
-    by_text : (x : List ℕ) → x ≡ t → eqb (length t) 0 ≡ false
-        → cond (not (is_empty x)) (card_at n x ∷ cards_from (n + 1) rest) (cards_from (n + 1) rest) ≡ card_at n t ∷ cards_from (n + 1) rest
-    by_text x e filled = rw (e, filled) refl
+first_card n t rest l = card_of_line n t rest (whole_line t l)
 
 -- ---- what plain lines say
 

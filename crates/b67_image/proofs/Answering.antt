@@ -1,11 +1,10 @@
 -- What reading an image answers, from what its parts answer.
-use Rattle.std.proofs.Common.{◌≡◌, ◌≤◌, ◌+◌, ℕ, List, ◌++◌, length, take, drop, Option, Some, Result, Ok, Err, refl, sym, ap, subst, ◌∙◌, arith, inl, inr, false}
+use Rattle.std.proofs.Common.{◌≡◌, ◌≤◌, ◌+◌, ℕ, List, length, take, Option, Result, Ok, Err, refl, sym, ap, subst, ◌∙◌, arith, inl, inr, false}
 use Rattle.std.specs.Prelude.{count_by, ◌==◌, nat_lt}
 use Rattle.std.proofs.lemmas.Bool.{le-ltb}
-use Rattle.std.proofs.lemmas.List.{take_all, drop_all}
-use Rattle.std.proofs.Math.Seq.{take-append_seam, drop-append_seam}
 use Rattle.b67_io.specs.Told.{Gave, GaveAll}
-use Rattle.b67_card.specs.Reading.{IsAnswerUpTo, GaveFirst}
+use Rattle.b67_card.specs.Reading.{IsAnswerUpTo}
+use Rattle.b67_card.proofs.Whole.{first_of_all, first_and_more}
 use Rattle.b67_card.specs.declared.reading.ReadFault.{ReadFault}
 use Rattle.b67_card.specs.declared.reading.ReadFault.TheVariants.{TooLong}
 use Rattle.b67_card.specs.declared.command.Refused.{Refused}
@@ -29,26 +28,6 @@ use Rattle.b67_image.specs.declared.fault.ImageFault.TheVariants.{Card, SourceFa
 use Rattle.b67_layout_shown.specs.Machines.{RepresentsOne}
 use Rattle.b67_image.specs.Meaning.{IsTold, of_image, IsMeant, IsImageRead, ShowsNone, ShowsParts, parts_told, told_in}
 use Rattle.b67_image.proofs.Unseen.{none_linked, represents_one}
-
-first_of_all : {S : Type 0} (left : S → Option (List ℕ)) (old new : S) (count : ℕ) (text : List ℕ) → length text ≤ count → GaveAll left old new text → GaveFirst left count old new text
-first_of_all left old new count text le all = record {
-  told = λ before e.
-      let h = all.told before e in
-      (sym (take_all count text le) ∙ ap (take count) (sym h.0), h.1 ∙ ap Some (sym (drop_all count text le) ∙ ap (drop count) (sym h.0)));
-}
-
-first_and_more : {S : Type 0} (left : S → Option (List ℕ)) (old new : S) (count : ℕ) (front : List ℕ) → length front ≡ count → Gave left old new front → GaveFirst left count old new front
-first_and_more left old new count front len gave = record {
-  told = λ before e.
-      let h = gave.told before e in
-      (sym (taken h.0) ∙ ap (take count) (sym h.1), h.2 ∙ ap Some (sym (dropped h.0) ∙ ap (drop count) (sym h.1)));
-}
-  where
-    taken : (rest : List ℕ) → take count (front ++ rest) ≡ front
-    taken rest = ap (λ (n : ℕ). take n (front ++ rest)) (sym len) ∙ take-append_seam front rest
-
-    dropped : (rest : List ℕ) → drop count (front ++ rest) ≡ rest
-    dropped rest = ap (λ (n : ℕ). drop n (front ++ rest)) (sym len) ∙ drop-append_seam front rest
 
 too_long : (sectors : Option ℕ) (front : List ℕ) → length front ≡ limit + 1 → told_in sectors front ≡ Err (record { card = count_by (λ b. b == 10) (take limit front) + 1; reason = 9 })
 too_long sectors front len = rw len refl

@@ -27,7 +27,7 @@ use Rattle.b67_image_shape.specs.TaskWalk.{level_in}
 use Rattle.b67_image_shape.specs.RecordTable.{record_of_disp}
 use Rattle.b67_image_shape.specs.CellWalk.{row_holding}
 use Rattle.b67_image_shape.proofs.Members.{row_of_member}
-use Rattle.b67_image_shape.proofs.Sorted.{sorted_has}
+use Rattle.b67_layout_shown.proofs.Sorted.{sorted_has}
 use Rattle.b67_image_shape.proofs.Rows.{apart_cases, found_row}
 use Rattle.b67_image_shape.proofs.Sources.{dictionary_lies, row_array, name_is, home_is, home_row}
 use Rattle.b67_image_shape.proofs.RecordsSeen.{low_record, top_record, half_code}

@@ -18,7 +18,7 @@ use Rattle.b67_layout_shown.specs.Shown.{Sight, frame_seen, array_homed, standin
 use Rattle.b67_image_shape.specs.TableFacts.{row_in_slot, rows_in, BornBy, TableFacts}
 use Rattle.b67_image_shape.specs.FixedWords.{greatest}
 use Rattle.b67_image_shape.specs.Items.{EachTask, StackFacts, ReachFacts}
-use Rattle.b67_image_shape.proofs.Sorted.{sorted_has}
+use Rattle.b67_layout_shown.proofs.Sorted.{sorted_has}
 use Rattle.b67_image_shape.proofs.Rows.{of_row, row_fact, same_number, found_row, task_found}
 use Rattle.b67_image_shape.proofs.EachTask.{task_at}
 

@@ -19,7 +19,7 @@ use Rattle.b67_image_shape.specs.Held.{view_in}
 use Rattle.b67_image_shape.specs.Items.{JobObjectFacts}
 use Rattle.b67_image_shape.specs.ObjectMarks.{longest, AreLong}
 use Rattle.b67_image_shape.proofs.Members.{row_of_member, row_there}
-use Rattle.b67_image_shape.proofs.Sorted.{sorted_has}
+use Rattle.b67_layout_shown.proofs.Sorted.{sorted_has}
 use Rattle.b67_image_shape.proofs.Rows.{each_at, each_from}
 use Rattle.b67_image_shape.proofs.Sources.{number_some}
 

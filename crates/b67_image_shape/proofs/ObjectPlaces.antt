@@ -29,7 +29,7 @@ use Rattle.b67_image_shape.specs.Items.{EachTask, base_at, StackFactsBy}
 use Rattle.b67_image_shape.specs.ObjectMarks.{kind_code}
 use Rattle.b67_image_shape.specs.ObjectTable.{entry_mark, has_entry_at, mark_in_dictionary, is_original_word, is_stack_original, stack_mark, mark_at, ObjectsAreMarkedBy, ObjectsAreMarked}
 use Rattle.b67_image_shape.proofs.Members.{row_of_member, row_there}
-use Rattle.b67_image_shape.proofs.Sorted.{sorted_there}
+use Rattle.b67_layout_shown.proofs.Sorted.{sorted_there}
 use Rattle.b67_image_shape.proofs.Rows.{of_row, row_fact, found_row}
 use Rattle.b67_image_shape.proofs.EachTask.{task_at}
 use Rattle.b67_image_shape.proofs.Sources.{dictionary_lies, entry_kind, InDictionary, InStack, source_by, name_is, home_is, home_row}

@@ -8,20 +8,21 @@ use Rattle.std.proofs.lemmas.Option.{same_Some}
 use Rattle.std.proofs.lemmas.List.{length-map, reverse-append}
 use Rattle.b67_word.specs.Tagged.{Tagged}
 use Rattle.b67_lemmas.specs.Lists.{Has, Falls, total}
-use Rattle.b67_lemmas.proofs.Members.{all_from, falls_more, falls_once, total_append, has_map, has_map_back, has_filter, has_append_right, reverse_cons, length_filter}
+use Rattle.b67_lemmas.proofs.Members.{all_from, falls_more, falls_once, total_append, has_map, has_map_back, has_filter, has_append_right, length_filter}
 use Rattle.b67_model.specs.Words as Words
-use Rattle.b67_model.specs.Common.{Word, Original, Array, Task, SessionJob, is_ready, live_tasks, IsSegment, IsInOrderButPlaces, SettingInOrder, DictionaryWords, rows_after, EntryInOrder, TaskInOrder, TasksInOrder, JobInOrder, frames_in_job, originals_of}
+use Rattle.b67_model.specs.Common.{Array, Task, SessionJob, is_ready, live_tasks, IsSegment, IsInOrderButPlaces, SettingInOrder, DictionaryWords, rows_after, EntryInOrder, TaskInOrder, TasksInOrder, JobInOrder, frames_in_job, originals_of}
 use Rattle.b67_stack.specs.Common.{StackPlace, Activation, words, stack_words}
 use Rattle.b67_stack.proofs.Heights.{words-length}
 use Rattle.b67_layout.specs.Common.{TaskRow, JobRow, RowState, Differ}
 use Rattle.b67_layout_shown.specs.Places.{named}
 use Rattle.b67_layout_shown.specs.Shown.{Sight, frame_seen, array_homed, frames_of, place_seen, condition_in, array_shown, arrays_of, data_rows, row_cells, segment_cells, segments_from, stack_of_row, sorted, rows_of, task_in, constants_in, job_seen, member_in, members_from, shown}
+use Rattle.b67_layout_shown.proofs.Upward.{up_rows, up_segments, rows_turned, segments_turned}
 use Rattle.b67_image_shape.specs.TableFacts.{rows_in, JobGoesOn, JobFacts, TableFacts}
 use Rattle.b67_image_shape.specs.FixedWords.{SlotsHaveRoom, FixedFacts}
 use Rattle.b67_image_shape.specs.Held.{held_of}
 use Rattle.b67_image_shape.specs.Items.{EachTask, base_at, StackFacts, ReachFacts, CellFacts, JobObjectFacts, ObjectsFacts}
 use Rattle.b67_image_shape.proofs.Members.{member_numbered, members_long}
-use Rattle.b67_image_shape.proofs.Sorted.{sorted_has, sorted_there}
+use Rattle.b67_layout_shown.proofs.Sorted.{sorted_has, sorted_there}
 use Rattle.b67_image_shape.proofs.Rows.{of_row, row_fact, each_at, map_numbers, numbers_fall, slots_differ}
 use Rattle.b67_image_shape.proofs.EachTask.{task_at}
 use Rattle.b67_image_shape.proofs.TablesOf.{sorted_long, sum_from}
@@ -31,49 +32,11 @@ use Rattle.b67_image_shape.proofs.NamesBack.{names_in, names_fall, arrays_named,
 
 -- ---- the words of a dictionary
 
-up_rows : ℕ → ℕ → List Word
-up_rows i zero = []
-up_rows i (suc n) = Original i ∷ up_rows (i + 1) n
-
-up_segments : ℕ → ℕ → List Word
-up_segments i zero = []
-up_segments i (suc n) = Words.Segment i ∷ up_segments (i + 1) n
-
-more_rows : (n i : ℕ) → up_rows i n ++ (Original (i + n) ∷ []) ≡ up_rows i (suc n)
-unfolding up_rows
-more_rows zero i = let e : i + 0 ≡ i = omega arith in ap (λ k. Original k ∷ []) e
-more_rows (suc n) i =
-    let e : i + suc n ≡ i + 1 + n = omega arith in
-    ap (λ k. Original i ∷ (up_rows (i + 1) n ++ (Original k ∷ []))) e ∙ ap (λ ws. Original i ∷ ws) (more_rows n (i + 1))
-
-more_segments : (n i : ℕ) → up_segments i n ++ (Words.Segment (i + n) ∷ []) ≡ up_segments i (suc n)
-unfolding up_segments
-more_segments zero i = let e : i + 0 ≡ i = omega arith in ap (λ k. Words.Segment k ∷ []) e
-more_segments (suc n) i =
-    let e : i + suc n ≡ i + 1 + n = omega arith in
-    ap (λ k. Words.Segment i ∷ (up_segments (i + 1) n ++ (Words.Segment k ∷ []))) e ∙ ap (λ ws. Words.Segment i ∷ ws) (more_segments n (i + 1))
-
-rows_turned : (n : ℕ) → reverse (row_cells n) ≡ up_rows 1 n
-unfolding up_rows
-rows_turned zero = refl
-rows_turned (suc n) =
-    let e : suc n ≡ 1 + n = omega arith in
-    reverse_cons (Original (suc n)) (row_cells n) ∙ ap (λ ws. ws ++ (Original (suc n) ∷ [])) (rows_turned n) ∙ ap (λ k. up_rows 1 n ++ (Original k ∷ [])) e ∙ more_rows n 1
-
-segments_turned : (n : ℕ) → reverse (segment_cells n) ≡ up_segments 1 n
-unfolding up_segments
-segments_turned zero = refl
-segments_turned (suc n) =
-    let e : suc n ≡ 1 + n = omega arith in
-    reverse_cons (Words.Segment (suc n)) (segment_cells n) ∙ ap (λ ws. ws ++ (Words.Segment (suc n) ∷ [])) (segments_turned n) ∙ ap (λ k. up_segments 1 n ++ (Words.Segment k ∷ [])) e ∙ more_segments n 1
-
 rows_follow : (i n : ℕ) → rows_after i (up_rows i n)
-unfolding up_rows
 rows_follow i zero = tt
 rows_follow i (suc n) = (refl, rows_follow (i + 1) n)
 
 words_follow : (k : Sight) (i at segments rows : ℕ) → DictionaryWords i (segments_from k.core at segments) (up_segments i segments ++ up_rows 1 rows)
-unfolding up_segments
 words_follow k i at zero rows = rows_follow 1 rows
 words_follow k i at (suc n) rows = (refl, words_follow k (i + 1) (at + 1) n rows)
 

@@ -24,7 +24,7 @@ use Rattle.b67_image_shape.specs.Items.{base_at, EachTask, ReachFacts}
 use Rattle.b67_image_shape.specs.NearStacks.{NearStacks}
 use Rattle.b67_image_shape.specs.Reaching.{marked_at, is_kept, reached_at, waits_within, row_reaches, reaches, ReachesAreDecided}
 use Rattle.b67_image_shape.proofs.Deciding.{both, like, yes, less}
-use Rattle.b67_image_shape.proofs.Sorted.{sorted_there}
+use Rattle.b67_layout_shown.proofs.Sorted.{sorted_there}
 use Rattle.b67_image_shape.proofs.Rows.{of_row, row_fact, each_at, map_numbers, numbers_fall, slot_is}
 use Rattle.b67_image_shape.proofs.EachTask.{each_task, task_at}
 use Rattle.b67_image_shape.proofs.Sources.{number_some}

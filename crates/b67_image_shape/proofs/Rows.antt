@@ -15,7 +15,7 @@ use Rattle.b67_layout.proofs.Rows.{task_row}
 use Rattle.b67_layout_shown.specs.Shown.{Sight, rows_of, task_in, job_seen, member_in, shown, placed}
 use Rattle.b67_image_shape.specs.TableFacts.{row_in_slot, rows_in, EachJob, AreApart, RowsApart, IsRowOfJob, RowFacts, TableFacts}
 use Rattle.b67_image_shape.proofs.Members.{row_of_member, row_there, member_numbered, row_in}
-use Rattle.b67_image_shape.proofs.Sorted.{NumbersApart, sorted_has, sorted_there, sorted_falls}
+use Rattle.b67_layout_shown.proofs.Sorted.{NumbersApart, sorted_has, sorted_there, sorted_falls}
 
 abbrev pub image : TaskRow → Slotted
 image r = record { job = r.job; task = r.number; slot = r.slot }

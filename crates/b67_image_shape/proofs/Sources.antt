@@ -23,7 +23,7 @@ use Rattle.b67_image_shape.specs.FixedWords.{DictionariesStandIn, FixedFacts}
 use Rattle.b67_image_shape.specs.Held.{view_in, held_of}
 use Rattle.b67_image_shape.specs.Items.{EachTask, base_at, StackFactsBy, StackFacts}
 use Rattle.b67_image_shape.proofs.Members.{row_of_member}
-use Rattle.b67_image_shape.proofs.Sorted.{sorted_has}
+use Rattle.b67_layout_shown.proofs.Sorted.{sorted_has}
 use Rattle.b67_image_shape.proofs.Rows.{row_fact, found_row}
 use Rattle.b67_image_shape.proofs.EachTask.{task_at}
 

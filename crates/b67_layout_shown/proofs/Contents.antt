@@ -12,7 +12,6 @@ use Rattle.b67_area.specs.declared.Info.{Info}
 use Rattle.b67_area.specs.declared.Kind.TheVariants as kind
 use Rattle.b67_area.specs.Spans.{Span, Area, Hole, wide, end, area_at}
 use Rattle.b67_lemmas.specs.Lists.{Has}
-use Rattle.b67_lemmas.proofs.Members.{reverse_cons}
 use Rattle.b67_model.specs.Words as Words
 use Rattle.b67_model.specs.Common.{Word, Original, Array, Segment, SegmentInOrder, rows_after, DictionaryWords}
 use Rattle.b67_stack.specs.Common.{Location, LieUpward, PagedObject, MachineView, is_present, address_or, home_desc, home_word_of, tag_of, Storage, Represents, Content}
@@ -21,54 +20,17 @@ use Rattle.b67_layout_shown.specs.Reading.{word_seen_at, is_set, desc_in}
 use Rattle.b67_layout_shown.specs.Shown.{numbers_seen, contents_by, numbers_read, segments_from, row_cells, segment_cells}
 use Rattle.b67_layout_shown.proofs.Bits.{desc_read, seg_read}
 use Rattle.b67_layout_shown.proofs.Stacks.{word_is}
+use Rattle.b67_layout_shown.proofs.Upward.{up_rows, up_segments, rows_turned, segments_turned}
 
 -- ---- a dictionary's words
 
-up_rows : ℕ → ℕ → List Word
-up_rows i zero = []
-up_rows i (suc n) = Original i ∷ up_rows (i + 1) n
-
-up_segments : ℕ → ℕ → List Word
-up_segments i zero = []
-up_segments i (suc n) = Words.Segment i ∷ up_segments (i + 1) n
-
-more_rows : (n i : ℕ) → up_rows i n ++ (Original (i + n) ∷ []) ≡ up_rows i (suc n)
-unfolding up_rows
-more_rows zero i = let e : i + 0 ≡ i = omega arith in ap (λ k. Original k ∷ []) e
-more_rows (suc n) i =
-    let e : i + suc n ≡ i + 1 + n = omega arith in
-    ap (λ k. Original i ∷ (up_rows (i + 1) n ++ (Original k ∷ []))) e ∙ ap (λ ws. Original i ∷ ws) (more_rows n (i + 1))
-
-more_segments : (n i : ℕ) → up_segments i n ++ (Words.Segment (i + n) ∷ []) ≡ up_segments i (suc n)
-unfolding up_segments
-more_segments zero i = let e : i + 0 ≡ i = omega arith in ap (λ k. Words.Segment k ∷ []) e
-more_segments (suc n) i =
-    let e : i + suc n ≡ i + 1 + n = omega arith in
-    ap (λ k. Words.Segment i ∷ (up_segments (i + 1) n ++ (Words.Segment k ∷ []))) e ∙ ap (λ ws. Words.Segment i ∷ ws) (more_segments n (i + 1))
-
-rows_turned : (n : ℕ) → reverse (row_cells n) ≡ up_rows 1 n
-unfolding up_rows
-rows_turned zero = refl
-rows_turned (suc n) =
-    let e : suc n ≡ 1 + n = omega arith in
-    reverse_cons (Original (suc n)) (row_cells n) ∙ ap (λ ws. ws ++ (Original (suc n) ∷ [])) (rows_turned n) ∙ ap (λ k. up_rows 1 n ++ (Original k ∷ [])) e ∙ more_rows n 1
-
-segments_turned : (n : ℕ) → reverse (segment_cells n) ≡ up_segments 1 n
-unfolding up_segments
-segments_turned zero = refl
-segments_turned (suc n) =
-    let e : suc n ≡ 1 + n = omega arith in
-    reverse_cons (Words.Segment (suc n)) (segment_cells n) ∙ ap (λ ws. ws ++ (Words.Segment (suc n) ∷ [])) (segments_turned n) ∙ ap (λ k. up_segments 1 n ++ (Words.Segment k ∷ [])) e ∙ more_segments n 1
-
 rows_are : (i n : ℕ) (ws : List Word) → rows_after i ws → length ws ≡ n → ws ≡ up_rows i n
-unfolding up_rows
 rows_are i zero [] r e = refl
 rows_are i zero (w ∷ ws) r e = absurd (omega (arith, e))
 rows_are i (suc n) [] r e = absurd (omega (arith, e))
 rows_are i (suc n) (w ∷ ws) r e = ap (λ v. v ∷ ws) r.0 ∙ ap (λ vs. Original i ∷ vs) (rows_are (i + 1) n ws r.1 (omega (arith, e)))
 
 words_are : (i n : ℕ) (segments : List Segment) (ws : List Word) → DictionaryWords i segments ws → length ws ≡ n + length segments → ws ≡ up_segments i (length segments) ++ up_rows 1 n
-unfolding up_segments
 words_are i n [] ws d e = rows_are 1 n ws d (omega (arith, e))
 words_are i n (s ∷ more) [] d e = absurd d
 words_are i n (s ∷ more) (w ∷ ws) d e = ap (λ v. v ∷ ws) d.0 ∙ ap (λ vs. Words.Segment i ∷ vs) (words_are (i + 1) n more ws d.1 (omega (arith, e)))

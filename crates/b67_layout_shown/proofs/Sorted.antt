@@ -13,7 +13,7 @@ use Rattle.b67_layout_shown.specs.Shown.{insert_row, sorted, rows_of}
 
 -- ---- sorting
 
-abbrev number_in : TaskRow → ℕ
+abbrev pub number_in : TaskRow → ℕ
 number_in r = r.number
 
 insert_has : (r : TaskRow) (xs : List TaskRow) (q : TaskRow) → Has (insert_row r xs) q → (r ≡ q) ⊎ Has xs q
@@ -48,20 +48,20 @@ insert_falls bound r (x ∷ more) low other f = elim (cases_lt x.number r.number
 ]
 
 -- no number stands twice
-abbrev pub Apart : List TaskRow → Type 0
-Apart [] = Unit {0}
-Apart (r ∷ more) = ((q : TaskRow) → Has more q → q.number ≢ r.number) × Apart more
+abbrev pub NumbersApart : List TaskRow → Type 0
+NumbersApart [] = Unit {0}
+NumbersApart (r ∷ more) = ((q : TaskRow) → Has more q → q.number ≢ r.number) × NumbersApart more
 
-sorted_has : (xs : List TaskRow) (q : TaskRow) → Has (sorted xs) q → Has xs q
+pub sorted_has : (xs : List TaskRow) (q : TaskRow) → Has (sorted xs) q → Has xs q
 sorted_has [] q h = h
 sorted_has (r ∷ more) q h = elim (insert_has r (sorted more) q h) [ inl e ↦ inl e | inr k ↦ inr (sorted_has more q k) ]
 
-sorted_there : (xs : List TaskRow) (q : TaskRow) → Has xs q → Has (sorted xs) q
+pub sorted_there : (xs : List TaskRow) (q : TaskRow) → Has xs q → Has (sorted xs) q
 sorted_there [] q h = h
 sorted_there (r ∷ more) q (inl e) = insert_there r (sorted more) q (inl e)
 sorted_there (r ∷ more) q (inr h) = insert_there r (sorted more) q (inr (sorted_there more q h))
 
-sorted_falls : (bound : ℕ) (xs : List TaskRow) → ((q : TaskRow) → Has xs q → q.number < bound) → Apart xs → Falls bound (map number_in (sorted xs))
+pub sorted_falls : (bound : ℕ) (xs : List TaskRow) → ((q : TaskRow) → Has xs q → q.number < bound) → NumbersApart xs → Falls bound (map number_in (sorted xs))
 sorted_falls bound [] low apart = tt
 sorted_falls bound (r ∷ more) low apart = insert_falls bound r (sorted more) (low r (inl refl)) (λ q h. apart.0 q (sorted_has more q h)) (sorted_falls bound more (λ q h. low q (inr h)) apart.1)
 
@@ -133,18 +133,18 @@ module _ (plan : Placement) (s : Session) (m : SessionJob) (rows : List TaskRow)
       let b = shows_mine q hq eq in
       b.shows.slot ∙ ap (slot_of plan m.constants.number) (sym b.shows.number ∙ e ∙ a.shows.number) ∙ sym a.shows.slot
 
-  apart_rows : (xs : List TaskRow) → ((r : TaskRow) → Has xs r → Has rows r) → Differ (map (λ (r : TaskRow). r.slot) xs) → Apart (filter mine xs)
+  apart_rows : (xs : List TaskRow) → ((r : TaskRow) → Has xs r → Has rows r) → Differ (map (λ (r : TaskRow). r.slot) xs) → NumbersApart (filter mine xs)
   apart_rows [] inside differ = tt
   apart_rows (r ∷ more) inside differ = by (cases_Bool (mine r)) (apart_rows more (λ q h. inside q (inr h)) differ.1) where
-    by : (mine r ≡ true) ⊎ (mine r ≡ false) → Apart (filter mine more) → Apart (filter mine (r ∷ more))
-    by (inl t) rest = subst (λ (b : Bool). Apart (if b then r ∷ filter mine more else filter mine more)) (sym t) (
+    by : (mine r ≡ true) ⊎ (mine r ≡ false) → NumbersApart (filter mine more) → NumbersApart (filter mine (r ∷ more))
+    by (inl t) rest = subst (λ (b : Bool). NumbersApart (if b then r ∷ filter mine more else filter mine more)) (sym t) (
       (λ q h e.
           let f = has_filter mine more q h in
           let slot = slot_by_number r q (inside r (inl refl)) (inside q (inr f.0)) (eqb-true r.job m.constants.number t) (eqb-true q.job m.constants.number f.1) e in
           differ.0 (subst (Has (map (λ (r : TaskRow). r.slot) more)) slot (has_map (λ (r : TaskRow). r.slot) more q f.0))),
       rest,
     )
-    by (inr t) rest = subst (λ (b : Bool). Apart (if b then r ∷ filter mine more else filter mine more)) (sym t) rest
+    by (inr t) rest = subst (λ (b : Bool). NumbersApart (if b then r ∷ filter mine more else filter mine more)) (sym t) rest
 
   -- the rows have the numbers of the tasks, in their order
   pub same_numbers : map (λ (r : TaskRow). r.number) (rows_of rows m.constants.number) ≡ map (λ (t : Task). t.number) m.progress.job.tasks
