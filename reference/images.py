@@ -6,6 +6,7 @@ An image is what a halted run prints. Nothing here knows what its words mean;
 
 from __future__ import annotations
 
+import struct
 from dataclasses import dataclass, field
 
 from cards import HEXADECIMAL, NAME, RefusedError, lines_of
@@ -14,6 +15,7 @@ GREATEST_IMAGE = 67_108_864
 MOST_DIGITS = 64
 HEADER = b"B67IMAGE"
 WORD_BITS = 51
+FORMATS = {2: "H", 4: "I", 8: "Q"}  # of a number of so many bytes
 MOST_CORE = 1_048_575
 LEAST_CORE = 256
 REGISTERS = (
@@ -149,8 +151,7 @@ class Octets:
 
     def numbers(self, size: int, count: int) -> list[int]:
         """So many numbers of one size."""
-        data = self.take(size * count)
-        return [int.from_bytes(data[i : i + size], "big") for i in range(0, len(data), size)]
+        return list(struct.unpack(f">{count}{FORMATS[size]}", self.take(size * count)))
 
     def fields(self, names: tuple[tuple[str, int], ...]) -> dict[str, int]:
         """Numbers with names."""
@@ -276,8 +277,8 @@ def spelled(image: Image) -> bytes:
         out.extend((number % (1 << 8 * size)).to_bytes(size, "big"))
 
     def put_all(numbers: list[int], size: int) -> None:
-        for number in numbers:
-            put(number, size)
+        rest = [number % (1 << 8 * size) for number in numbers]
+        out.extend(struct.pack(f">{len(rest)}{FORMATS[size]}", *rest))
 
     put(len(image.core), 4)
     put_all(image.core, 8)
