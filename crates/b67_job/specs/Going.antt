@@ -30,7 +30,8 @@ pub record StepsFrom {B : Type 0} (d : Device B) (steps : ℕ) (first : Session)
   pub in_order : (j : ℕ) → j ≤ steps → IsInOrderButPlaces (after j first)
   pub fitted : DeviceTells d → StepsFit (length image.cpu.core) steps first
 
--- The machine of an image has gone on to this one. It has its core and its sectors, no halt, and the names of its jobs. Whatever
+-- The machine of an image has gone on to this one. It has its core and its sectors, no halt, and all
+-- that a deck gives. Whatever
 -- the device gave back, it represents some session. A slice may be called on it again, and its table of sectors has one for each
 -- of the device. And of the steps, in a core of so many words, this holds from each session that the machine of the image
 -- represents: over the content that the device tells, with that known, and over none, with nothing known.
