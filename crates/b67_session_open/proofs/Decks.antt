@@ -1,5 +1,5 @@
 -- Decks within the ranges of their cards open sessions within their limits.
-use Rattle.std.proofs.Common.{◌≡◌, ℕ, ◌+◌, ◌<◌, ◌≤◌, ◌^◌, List, [], ◌∷◌, ◌++◌, length, map, drop, Option, inl, inr, refl, sym, ◌∙◌, ap, subst, arith}
+use Rattle.std.proofs.Common.{◌≡◌, ℕ, ◌+◌, ◌<◌, ◌≤◌, ◌^◌, List, [], ◌∷◌, ◌++◌, length, map, drop, inl, inr, refl, sym, ◌∙◌, ap, subst, arith}
 use Rattle.std.specs.List.{AllByRecursion}
 use Rattle.std.proofs.lemmas.List.{drop_more, length-map}
 use Rattle.b67_word.specs.Tagged.{Tagged, contents}
@@ -22,8 +22,7 @@ use Rattle.b67_session_open.proofs.InitialTables.{tables_show}
 use Rattle.b67_task_tables.specs.declared.tables.JobRow as kept
 use Rattle.b67_task_tables.specs.declared.tables.TaskRow as task
 use Rattle.b67_task_tables.specs.Tables.{switch_of, task_row, JobGiven, Given}
-use Rattle.b67_task_tables.specs.declared.tables.Tasks.{Tasks}
-use Rattle.b67_session_open.specs.Decks.{openings_of, session_of, jobs_given, deck_given, rows_given, given_of, JobInRange, DeckInRange, IsLoaded, IsCountable}
+use Rattle.b67_session_open.specs.Decks.{openings_of, session_of, jobs_given, deck_given, rows_given, JobInRange, DeckInRange, IsLoaded, IsCountable}
 
 bits_fit : (tag : ℕ) (ws : List Tagged) → AllByRecursion (HasTag tag) ws → AllByRecursion (λ (n : ℕ). n < 2 ^ 48) (contents ws)
 bits_fit tag [] h = tt
@@ -91,12 +90,11 @@ tables_given d ps rows jobs switches range each is_rows is_jobs is_switches =
     (subst (λ (r : List JobRow). TablesShow (opening_plan d.stack ps) (session_of d ps) (first_rows 0 ps) r (opening_counts d.quantum (map switch_of d.switches))) (sym is_jobs) same))
 
 -- what tables have that take it over from a deck
-pub tables_have : (d : Deck) (t : Tasks) → t.halt ≡ d.halt → t.quantum ≡ d.quantum → t.switches ≡ d.switches → rows_given t.jobs ≡ jobs_given d.jobs → given_of t ≡ deck_given d
-tables_have d t halt quantum switches jobs =
-    ap (λ (h : Option ℕ). record (given_of t) { halt = h }) halt
-    ∙ ap (λ (q : ℕ). record (given_of t) { halt = d.halt; quantum = q }) quantum
-    ∙ ap (λ (ws : List text.Switch). record (given_of t) { halt = d.halt; quantum = d.quantum; switches = ws }) switches
-    ∙ ap (λ (js : List JobGiven). record { halt = d.halt; quantum = d.quantum; switches = d.switches; jobs = js }) jobs
+pub tables_have : (d : Deck) (ws : List text.Switch) (rows : List kept.JobRow) → ws ≡ d.switches → rows_given rows ≡ jobs_given d.jobs
+    → ◌≡◌ {A = Given} (record { halt = d.halt; quantum = d.quantum; switches = ws; jobs = rows_given rows }) (deck_given d)
+tables_have d ws rows switches jobs =
+    ap (λ (l : List text.Switch). record (deck_given d) { switches = l; jobs = rows_given rows }) switches
+    ∙ ap (λ (js : List JobGiven). record (deck_given d) { jobs = js }) jobs
 
 -- each row can be counted
 pub each_countable : (rows : List kept.JobRow) → AllByRecursion IsCountable rows → (r : kept.JobRow) → Has rows r → IsCountable r

@@ -1,4 +1,4 @@
-use Rattle.std.proofs.Common.{map, refl, ◌∙◌, ap}
+use Rattle.std.proofs.Common.{map, ◌∙◌, ap}
 use Rattle.std.proofs.lemmas.List.{length-map}
 use Rattle.b67_codefile.specs.Meaning.{program_of}
 use Rattle.b67_session_open.specs.Tables.{opening_rows}
@@ -15,4 +15,4 @@ returns-clause-shows c =
     c.in_ok-switches.ensures
 
 pub returns-clause-given : goal.returns-clause-given
-returns-clause-given c = tables_have c.args.deck.now _ refl refl c.in_ok-switches.ensures (c.in_ok-jobs.ensures.given ∙ ap jobs_given c.as_slice.ensures)
+returns-clause-given c = tables_have c.args.deck.now _ c.in_ok-jobs.jobs c.in_ok-switches.ensures (c.in_ok-jobs.ensures.given ∙ ap jobs_given c.as_slice.ensures)
