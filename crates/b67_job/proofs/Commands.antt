@@ -10,19 +10,23 @@ use Rattle.b67_model_text.specs.declared.deck.Keyword as keyword
 use Rattle.b67_model_text.specs.declared.deck.Keyword.TheVariants as keywords
 use Rattle.b67_model_text.specs.Answers.{or_reason}
 use Rattle.b67_model_text.specs.Cards.{words_in_card, natural, is_name, name_in, is_empty}
-use Rattle.b67_model_text.specs.Command.{Command, Stack, Quantum, Halt, Switch, Job, Limit, Asm, Hex, Data, End, Plain, keyword_of, number_in, one_number, target, switch, says, job_named, job, alone, command_of, is_command, plain_card, said}
+use Rattle.b67_model_text.specs.Command.{Command, Stack, Quantum, Halt, Switch, Job, Limit, Asm, Hex, Data, End, Plain, keyword_of, number_in, one_number, parted, target, switch, says, job_named, job, alone, command_of, is_command, plain_card, said}
 use Rattle.b67_model_text.proofs.Answers.{after_both, err-ok}
+use Rattle.b67_image.specs.Within.{IsSwitch}
 
 pub record NumberWithin (low high n : ℕ) : Type 0 where
   pub from : low ≤ n
   pub upto : n ≤ high
 
 pub record NameWithin (name : List ℕ) : Type 0 where
+  pub is : is_name name ≡ true
   pub short : length name ≤ 16
   pub ascii : IsTrue (list_all is_ascii name)
 
 abbrev pub CommandInRange : Command → Type 0
 CommandInRange (Stack n) = NumberWithin 64 16383 n
+CommandInRange (Quantum n) = NumberWithin 1 1000000 n
+CommandInRange (Switch count job task) = IsSwitch (record { count = count; job = job; task = task })
 CommandInRange (Job name) = NameWithin name
 CommandInRange (Limit n) = NumberWithin 1 100000000 n
 CommandInRange _ = Unit {0}
@@ -73,6 +77,7 @@ name_within name word e = by_test (is_name word) refl e
         let outer = and_parts (is_ascii_uppercase b && list_all (λ c. is_ascii_uppercase c || is_ascii_digit c) more) (nat_lt (length more) 16) t in
         let inner = and_parts (is_ascii_uppercase b) (list_all (λ c. is_ascii_uppercase c || is_ascii_digit c) more) outer.0 in
         record {
+          is = t;
           short = omega (arith, ltb-true (length more) 16 outer.1);
           ascii = and_from (is_ascii b) (list_all is_ascii more) (upper_ascii b inner.0) (letters_ascii more inner.1);
         }
@@ -101,19 +106,44 @@ job_in (word ∷ more) c e = by_test (is_empty more) e
     by_test true e = mapped Job NameWithin (name_in word) c (λ name i. name_within name word i) (λ name h. h) e
     by_test false e = absurd (none-some c e)
 
+-- whom a switch names
+record TargetWithin (t : ℕ × ℕ) : Type 0 where
+  pub job : NumberWithin 1 8 t.0
+  pub task : NumberWithin 1 100000000 t.1
+
+abbrev target_of : ℕ → ℕ → ℕ × ℕ
+target_of job = λ task. (job, task)
+
+by_task : (job : ℕ) (t : ℕ × ℕ) → NumberWithin 1 8 job → (o : Option ℕ) → ((n : ℕ) → o ≡ Some n → NumberWithin 1 100000000 n) → option_map (target_of job) o ≡ Some t → TargetWithin t
+by_task job t h None k e = absurd (none-some t e)
+by_task job t h (Some n) k e = subst TargetWithin (same_Some (target_of job n) t e) (record { job = h; task = k n refl })
+
+by_job : (word : List ℕ) (t : ℕ × ℕ) (o : Option ℕ) → ((n : ℕ) → o ≡ Some n → NumberWithin 1 8 n) → option_and_then (λ (job : ℕ). option_map (target_of job) (number_in 1 100000000 word)) o ≡ Some t → TargetWithin t
+by_job word t None k e = absurd (none-some t e)
+by_job word t (Some n) k e = by_task n t (k n refl) (number_in 1 100000000 word) (λ m i. number_within 1 100000000 m word i) e
+
+by_parts : (t : ℕ × ℕ) (o : Option (List ℕ × List ℕ)) → option_and_then (λ (p : List ℕ × List ℕ). option_and_then (λ (job : ℕ). option_map (target_of job) (number_in 1 100000000 p.1)) (number_in 1 8 p.0)) o ≡ Some t → TargetWithin t
+by_parts t None e = absurd (none-some t e)
+by_parts t (Some p) e = by_job p.1 t (number_in 1 8 p.0) (λ n i. number_within 1 8 n p.0 i) e
+
+target_within : (word : List ℕ) (t : ℕ × ℕ) → target word ≡ Some t → TargetWithin t
+target_within word t e = by_parts t (parted 46 word) e
+
 switch_in_range : (ps : List (List ℕ)) (c : Command) → switch ps ≡ Some c → CommandInRange c
 switch_in_range [] c e = absurd (none-some c e)
 switch_in_range (a ∷ []) c e = absurd (none-some c e)
-switch_in_range (a ∷ w ∷ []) c e = by_count (number_in 0 800000000 a) e
+switch_in_range (a ∷ w ∷ []) c e = by_count (number_in 0 800000000 a) (λ n i. number_within 0 800000000 n a i) e
   where
-    by_count : (o : Option ℕ) → option_and_then (λ (n : ℕ). option_map (λ (t : ℕ × ℕ). Switch n t.0 t.1) (target w)) o ≡ Some c → CommandInRange c
-    by_count None e = absurd (none-some c e)
-    by_count (Some n) e = mapped (λ (t : ℕ × ℕ). Switch n t.0 t.1) (λ t. Unit {0}) (target w) c (λ t i. tt) (λ t h. tt) e
+    by_count : (o : Option ℕ) → ((n : ℕ) → o ≡ Some n → NumberWithin 0 800000000 n) → option_and_then (λ (n : ℕ). option_map (λ (t : ℕ × ℕ). Switch n t.0 t.1) (target w)) o ≡ Some c → CommandInRange c
+    by_count None k e = absurd (none-some c e)
+    by_count (Some n) k e =
+        mapped (λ (t : ℕ × ℕ). Switch n t.0 t.1) TargetWithin (target w) c (λ t i. target_within w t i)
+        (λ t h. record { count = (k n refl).upto; job_low = h.job.from; job_high = h.job.upto; task_low = h.task.from; task_high = h.task.upto }) e
 switch_in_range (a ∷ w ∷ v ∷ more) c e = absurd (none-some c e)
 
 says_in_range : (k : keyword.Keyword) (ps : List (List ℕ)) (c : Command) → says k ps ≡ Some c → CommandInRange c
 says_in_range keywords.Stack ps c e = mapped Stack (NumberWithin 64 16383) (one_number 64 16383 ps) c (λ n i. one_within 64 16383 n ps i) (λ n h. h) e
-says_in_range keywords.Quantum ps c e = mapped Quantum (λ n. Unit {0}) (one_number 1 1000000 ps) c (λ n i. tt) (λ n h. tt) e
+says_in_range keywords.Quantum ps c e = mapped Quantum (NumberWithin 1 1000000) (one_number 1 1000000 ps) c (λ n i. one_within 1 1000000 n ps i) (λ n h. h) e
 says_in_range keywords.Halt ps c e = mapped Halt (λ n. Unit {0}) (one_number 1 800000000 ps) c (λ n i. tt) (λ n h. tt) e
 says_in_range keywords.Switch ps c e = switch_in_range ps c e
 says_in_range keywords.Job ps c e = job_in ps c e

@@ -14,7 +14,8 @@ use Rattle.b67_task_tables.specs.declared.tables.Machine.{Machine}
 use Rattle.b67_job_admit.specs.Admitting.{Prepared}
 use Rattle.b67_session_open.specs.declared.fault.OpenFault.{OpenFault}
 use Rattle.b67_session_open.specs.declared.fault.OpenFault.TheVariants as faults
-use Rattle.b67_session_open.specs.Decks.{session_of, DeckInRange, IsLoaded}
+use Rattle.b67_session_open.specs.Decks.{session_of, deck_given, given_of, DeckInRange, IsLoaded}
+use Rattle.b67_task_tables.specs.Tables.{Given}
 use Rattle.b67_session_open.specs.Opens.{need_of, sectors_of_all, IsOpened}
 use Rattle.b67_layout_storage.specs.Machine.{Says, DeviceAfterCalls, content_after}
 use Rattle.b67_session.proofs.Shaping.{shaped}
@@ -107,15 +108,16 @@ module _ {K B : Type 0} (taken : K → Option (List ℕ)) (failures : K → ℕ)
       let again = more_calls.size in
       let later = first_calls.faults in
       let device = device_of holds size broken b b'' in
-      let halt : k.tasks.halt ≡ d.halt = keeps.halt ∙ o.2.halt in
+      let given : given_of k.tasks ≡ deck_given d = keeps.given ∙ o.2.given in
+      let halt : k.tasks.halt ≡ d.halt = ap (λ (g : Given). g.halt) given in
+      let first_halt : k0.tasks.halt ≡ d.halt = ap (λ (g : Given). g.halt) o.2.given in
       deck_ends
       (record {
         room = (o.0, o.1);
         in_order = states_in_order d fs k.tasks.made range loaded;
         fitted = λ told. subst (λ n. StepsFit n k.tasks.made first) o.2.core_size (subst (λ n. StepsFit (length k0.cpu.core) n first) (sym made) (r.slices.its (exact told)).fits);
         core_size = keeps.core ∙ o.2.core_size;
-        halt = halt;
-        names = keeps.names ∙ o.2.names;
+        given = given;
         shaped = shaped (holds b'') k may_go_on;
         goes_on = may_go_on;
         sized = omega (arith, begun_links, links, again, same);
@@ -123,7 +125,7 @@ module _ {K B : Type 0} (taken : K → Option (List ℕ)) (failures : K → ℕ)
       (subst (λ n. StepsEnd taken failures device core n (run_of (d, map program_of fs)) closing k old new answer) (sym made)
       (ran taken failures device core (run_of (d, map program_of fs)) closing k (said ≢ None) exact r.slices.steps r.slices.session r.slices.printed
       (omega (arith, made)) (stays_ordered r.slices.steps first stands.ordered)
-      (λ i low e. r.slices.below i low (o.2.halt ∙ e ∙ ap Some (let z : i ≡ k0.tasks.made + i = omega (arith, begun) in z)))
+      (λ i low e. r.slices.below i low (first_halt ∙ e ∙ ap Some (let z : i ≡ k0.tasks.made + i = omega (arith, begun) in z)))
       (λ e. sym halt ∙ e ∙ ap Some made) (λ e. halt ∙ e ∙ ap Some (sym made)) (λ told. (r.slices.its (exact told)).leads)
       r.slices.was_due r.slices.is_due (λ told. (r.slices.its (exact told)).next) k0.tasks.printed o.2.printed
       r.answered old r.between new answer

@@ -12,6 +12,7 @@ use Rattle.b67_model.specs.Common.{Session}
 use Rattle.b67_model_text.specs.Deck.{Refusal}
 use Rattle.b67_task_tables.specs.declared.tables.Machine.{Machine}
 use Rattle.b67_task_tables.specs.Tables.{AreCountable}
+use Rattle.b67_task_tables.proofs.Keeping.{halt_kept}
 use Rattle.b67_layout_storage.specs.Machine.{Says, DeviceAfterCalls, content_after}
 use Rattle.b67_session_lines.specs.Stops.{Run, IsFinished}
 use Rattle.b67_session.specs.Slices.{StandsAt, IsOpen, Keeps}
@@ -67,7 +68,7 @@ module _ {K B : Type 0} (taken : K → Option (List ℕ)) (failures : K → ℕ)
       → (steps : ℕ) × StepsFrom (knowing told device) steps s image k × PlainEnd taken failures old new answer (knowing told device) (length image.cpu.core) steps (run_from s) k
   from_session told s stands r =
       let made : k.tasks.made ≡ image.tasks.made + r.slices.steps = r.slices.made in
-      let unhalted : k.tasks.halt ≡ None = keeps.halt ∙ halt in (
+      let unhalted : k.tasks.halt ≡ None = halt_kept image k keeps ∙ halt in (
         r.slices.steps,
         record { made = made; in_order = λ j low. stays_ordered j s stands.ordered; fitted = λ tells. (r.slices.its tells).fits },
         ran taken failures (knowing told device) (length image.cpu.core) (run_from s) closings.Plain k (told ≢ None) (λ tells. tells) r.slices.steps r.slices.session r.slices.printed
@@ -83,7 +84,7 @@ module _ {K B : Type 0} (taken : K → Option (List ℕ)) (failures : K → ℕ)
       → HasGoneOn device (PlainEnd taken failures old new answer) image k
   has_gone_on served sized may_go_on rans = record {
     keeps = keeps;
-    halt = keeps.halt ∙ halt;
+    halt = halt_kept image k keeps ∙ halt;
     shaped = shaped (holds b') k may_go_on;
     goes_on = may_go_on;
     sized = let same = served.size in let links = keeps.sectors in omega (arith, same, links, sized);

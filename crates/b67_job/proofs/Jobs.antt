@@ -6,15 +6,18 @@ use Rattle.std.specs.Option.{option_map, option_and_then, option_or, option_to_l
 use Rattle.std.proofs.lemmas.Option.{same_Some, none-some}
 use Rattle.b67_model_text.specs.declared.card.Card.{Card}
 use Rattle.b67_model_text.specs.declared.deck.Deck.{Deck}
-use Rattle.b67_model_text.specs.Cards.{cards, words_in_card, leading}
-use Rattle.b67_model_text.specs.Command.{Command, Stack, Job, Limit, Data, number_in}
-use Rattle.b67_model_text.specs.Placing.{stack_in, switch_in, name_in, first_found, operand_in, operands_in, numbers}
+use Rattle.b67_model_text.specs.declared.deck.Job as deck_job
+use Rattle.b67_model_text.specs.Cards.{cards, words_in_card, leading, is_name}
+use Rattle.b67_model_text.specs.Command.{Command, Stack, Quantum, Switch, Job, Limit, Data, number_in}
+use Rattle.b67_model_text.specs.Placing.{stack_in, quantum_in, switch_in, name_in, first_found, operand_in, operands_in, numbers}
 use Rattle.b67_model_text.specs.Answers.{◌>>=◌}
 use Rattle.b67_model_text.specs.Deck.{Said, command_in, within_limit, sayings, limit_in, body, numbers_in, numbers_at, data_numbers, limit_behind, job_of, is_job, own_cards, jobs, deck, deck_of}
 use Rattle.b67_model_text.proofs.Answers.{after_both}
 use Rattle.b67_session_open.specs.Decks.{JobInRange, DeckInRange}
+use Rattle.b67_image.specs.Within.{IsSwitch}
+use Rattle.b67_job.specs.Ranges.{CardsInRange}
 use Rattle.b67_job.proofs.Commands.{NumberWithin, NameWithin, CommandInRange, number_within}
-use Rattle.b67_job.proofs.Sayings.{Read, read, in_range_onto, follows_none, rise_onto, jobs_in, few_jobs, jobs_onto}
+use Rattle.b67_job.proofs.Sayings.{Read, read, in_range_onto, follows_none, rise_onto, switches_of, few_switches, switches_onto, jobs_in, few_jobs, jobs_onto}
 
 abbrev InRange : Said → Type 0
 InRange s = CommandInRange s.command
@@ -125,6 +128,33 @@ stack_within (s ∷ more) h = by_command s.command h.0 (stack_within more h.1)
     by_command (Stack n) h k = h
     by_command _ h k = k
 
+-- the length of turns
+quantum_within : (said : List Said) → AllByRecursion InRange said → NumberWithin 1 1000000 (unwrap_or (first_found (λ (s : Said). quantum_in s.command) said) 1000)
+quantum_within [] h = record { from = omega arith; upto = omega arith }
+quantum_within (s ∷ more) h = by_command s.command h.0 (quantum_within more h.1)
+  where
+    by_command : (c : Command) → CommandInRange c → NumberWithin 1 1000000 (unwrap_or (first_found (λ (s : Said). quantum_in s.command) more) 1000)
+        → NumberWithin 1 1000000 (unwrap_or (slice_get (cons_option (quantum_in c) (filter_map (λ (s : Said). quantum_in s.command) more)) 0) 1000)
+    by_command (Quantum n) h k = h
+    by_command _ h k = k
+
+switches_within : (said : List Said) → AllByRecursion InRange said → AllByRecursion IsSwitch (switches_of said)
+switches_within [] h = tt
+switches_within (s ∷ more) h = by_command s.command h.0 (switches_within more h.1)
+  where
+    by_command : (c : Command) → CommandInRange c → AllByRecursion IsSwitch (switches_of more) → AllByRecursion IsSwitch (cons_option (switch_in c) (switches_of more))
+    by_command (Switch count job task) h k = (h, k)
+    by_command _ h k = k
+
+names_are : (said : List Said) → AllByRecursion InRange said → AllByRecursion (λ (j : deck_job.Job). is_name j.name ≡ true) (jobs said)
+names_are [] h = tt
+names_are (s ∷ more) h = by_name (names_are more h.1) (name_in s.command) refl
+  where
+    by_name : AllByRecursion (λ (j : deck_job.Job). is_name j.name ≡ true) (jobs more) → (o : Option (List ℕ)) → name_in s.command ≡ o
+        → AllByRecursion (λ (j : deck_job.Job). is_name j.name ≡ true) (option_to_list (option_map (λ name. job_of s.number name (own_cards more)) o) ++ jobs more)
+    by_name rest None e = rest
+    by_name rest (Some name) e = ((named s.command name h.0 e).is, rest)
+
 of_read : (said : List Said) → Read said → DeckInRange (deck said)
 of_read said r = subst (λ (all : List Said). DeckInRange (deck all)) (sym r.is) (record {
   stack_low = (stack_within (reverse r.all) range).from;
@@ -137,9 +167,27 @@ of_read said r = subst (λ (all : List Said). DeckInRange (deck all)) (sym r.is)
     range : AllByRecursion InRange (reverse r.all)
     range = in_range_onto r.all [] r.stood tt
 
+cards_of_read : (said : List Said) → Read said → CardsInRange (deck said)
+cards_of_read said r = subst (λ (all : List Said). CardsInRange (deck all)) (sym r.is) (record {
+  quantum_low = (quantum_within (reverse r.all) range).from;
+  quantum_high = (quantum_within (reverse r.all) range).upto;
+  switches = record { some = omega arith; few = omega (arith, switches_onto r.all [], few_switches r.all r.stood); each = switches_within (reverse r.all) range };
+  names = names_are (reverse r.all) range;
+})
+  where
+    range : AllByRecursion InRange (reverse r.all)
+    range = in_range_onto r.all [] r.stood tt
+
 pub decks_in_range : (text : List ℕ) (d : Deck) → deck_of text ≡ Ok d → DeckInRange d
 decks_in_range text d e =
     let a = after_both (within_limit text) (λ u. sayings [] (cards text) >>= λ (said : List Said). Ok (deck said)) d e in
     let b = after_both (sayings [] (cards text)) (λ (said : List Said). Ok (deck said)) d a.2 in
     let is : deck b.0 ≡ d = cc in
     subst DeckInRange is (of_read b.0 (read [] (cards text) b.0 tt b.1))
+
+pub cards_in_range : (text : List ℕ) (d : Deck) → deck_of text ≡ Ok d → CardsInRange d
+cards_in_range text d e =
+    let a = after_both (within_limit text) (λ u. sayings [] (cards text) >>= λ (said : List Said). Ok (deck said)) d e in
+    let b = after_both (sayings [] (cards text)) (λ (said : List Said). Ok (deck said)) d a.2 in
+    let is : deck b.0 ≡ d = cc in
+    subst CardsInRange is (cards_of_read b.0 (read [] (cards text) b.0 tt b.1))

@@ -9,7 +9,8 @@ use Rattle.b67_model_text.specs.Deck.{deck_of}
 use Rattle.b67_model_text.proofs.Answers.{err-ok}
 use Rattle.b67_job_admit.specs.Admitting.{Admission, ◌>>=◌, of_deck, program_in, programs, admitted, prepared, Prepared, deck_prepared}
 use Rattle.b67_session_open.specs.Decks.{DeckInRange}
-use Rattle.b67_job.proofs.Jobs.{decks_in_range}
+use Rattle.b67_job.specs.Ranges.{CardsInRange}
+use Rattle.b67_job.proofs.Jobs.{decks_in_range, cards_in_range}
 
 after : {A B : Type 0} (r : Admission A) (go : A → Admission B) (b : B) → (r >>= go) ≡ Ok b → (a : A) × (r ≡ Ok a) × (go a ≡ Ok b)
 after (Ok a) go b e = (a, refl, e)
@@ -45,3 +46,12 @@ prepared_in_range text d ps e =
       subst DeckInRange same_deck (decks_in_range text a.0 (of_deck_ok (deck_of text) a.0 a.1)),
       ap length (sym same_programs) ∙ (prepared_many a.0.jobs b.0 b.1 ∙ ap (λ (x : Deck). length x.jobs) same_deck),
     )
+
+-- and what its cards say is in range
+pub prepared_cards : (text : List ℕ) (p : Prepared) → deck_prepared text ≡ Ok p → CardsInRange p.0
+unfolding deck_prepared
+prepared_cards text p e =
+    let a = after (of_deck (deck_of text)) (λ x. prepared x.jobs >>= λ qs. Ok (x, qs)) p e in
+    let b = after (prepared a.0.jobs) (λ qs. Ok (a.0, qs)) p a.2 in
+    let is : ◌≡◌ {A = Prepared} (a.0, b.0) p = cc in
+    subst CardsInRange (ap (λ (z : Prepared). z.0) is) (cards_in_range text a.0 (of_deck_ok (deck_of text) a.0 a.1))

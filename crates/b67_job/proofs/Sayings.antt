@@ -116,6 +116,29 @@ rise_onto (s ∷ before) acc h k f = by_switch (λ k f. rise_onto before (s ∷ 
         (subst (λ (o : Option text.Switch). Follows (first_found switch_in (map command_in before)) (cons_option o (switches_of acc))) (sym e)
         (follows (first_found switch_in (map command_in before)) w (switches_of acc) (above (map command_in before) s.command w h.0.rises e)))
 
+-- at most 100,000 of them
+switch_room : (before : List Command) (c : Command) (w : text.Switch) → has_room before c ≡ Ok tt → switch_in c ≡ Some w → length (filter_map switch_in before) < 100000
+switch_room before (Switch count job task) w h e = by_test (nat_lt (length (filter_map switch_in before)) 100000) refl h
+  where
+    by_test : (b : Bool) → nat_lt (length (filter_map switch_in before)) 100000 ≡ b → needs b 8 ≡ Ok tt → length (filter_map switch_in before) < 100000
+    by_test true t e = ltb-true (length (filter_map switch_in before)) 100000 t
+    by_test false t e = err-ok 8 tt _ e
+switch_room before _ w h e = absurd (none-some w e)
+
+same_switches : (before : List Said) → filter_map switch_in (map command_in before) ≡ switches_of before
+same_switches [] = refl
+same_switches (s ∷ before) = ap (λ ws. cons_option (switch_in s.command) ws) (same_switches before)
+
+pub few_switches : (before : List Said) → AllStood before → length (switches_of before) ≤ 100000
+few_switches [] h = omega arith
+few_switches (s ∷ before) h = by_switch (few_switches before h.1) (switch_in s.command) refl
+  where
+    by_switch : length (switches_of before) ≤ 100000 → (o : Option text.Switch) → switch_in s.command ≡ o → length (switches_of (s ∷ before)) ≤ 100000
+    by_switch few None e = subst (λ (o : Option text.Switch). length (cons_option o (switches_of before)) ≤ 100000) (sym e) few
+    by_switch few (Some w) e =
+        subst (λ (o : Option text.Switch). length (cons_option o (switches_of before)) ≤ 100000) (sym e)
+        (omega (arith, switch_room (map command_in before) s.command w h.0.room e, ap length (same_switches before)))
+
 -- at most eight jobs
 abbrev pub jobs_in : List Said → ℕ
 jobs_in said = length (filter_map (λ (s : Said). name_in s.command) said)
@@ -142,7 +165,7 @@ few_jobs (s ∷ before) h = by_name (few_jobs before h.1) (name_in s.command) re
         subst (λ (o : Option (List ℕ)). length (cons_option o (filter_map (λ (s : Said). name_in s.command) before)) ≤ 8) (sym e)
         (omega (arith, room_for (map command_in before) s.command name h.0.room e, ap length (same_names before)))
 
-one_longer : (o : Option (List ℕ)) (xs ys : List (List ℕ)) → length (cons_option o xs) + length ys ≡ length xs + length (cons_option o ys)
+one_longer : {A : Type 0} (o : Option A) (xs ys : List A) → length (cons_option o xs) + length ys ≡ length xs + length (cons_option o ys)
 one_longer None xs ys = refl
 one_longer (Some n) xs ys = omega arith
 
@@ -153,3 +176,7 @@ jobs_onto (s ∷ before) acc = omega (
   jobs_onto before (s ∷ acc),
   one_longer (name_in s.command) (filter_map (λ (s : Said). name_in s.command) before) (filter_map (λ (s : Said). name_in s.command) acc),
 )
+
+pub switches_onto : (before acc : List Said) → length (switches_of (reverse_aux before acc)) ≡ length (switches_of before) + length (switches_of acc)
+switches_onto [] acc = omega arith
+switches_onto (s ∷ before) acc = omega (arith, switches_onto before (s ∷ acc), one_longer (switch_in s.command) (switches_of before) (switches_of acc))

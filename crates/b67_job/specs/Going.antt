@@ -30,10 +30,11 @@ pub record StepsFrom {B : Type 0} (d : Device B) (steps : ℕ) (first : Session)
   pub in_order : (j : ℕ) → j ≤ steps → IsInOrderButPlaces (after j first)
   pub fitted : DeviceTells d → StepsFit (length image.cpu.core) steps first
 
--- The machine of an image has gone on to this one. It has its core and its sectors, no halt, and the names of its jobs. Whatever
--- the device gave back, it represents some session. A slice may be called on it again, and its table of sectors has one for each
--- of the device. And of the steps, in a core of so many words, this holds from each session that the machine of the image
--- represents: over the content that the device tells, with that known, and over none, with nothing known.
+-- The machine of an image has gone on to this one. It has its core and its sectors, no halt, and what else a deck gives: turns,
+-- switches, and the names, limits and numbers of its jobs. Whatever the device gave back, it represents some session. A slice may
+-- be called on it again, and its table of sectors has one for each of the device. And of the steps, in a core of so many words,
+-- this holds from each session that the machine of the image represents: over the content that the device tells, with that
+-- known, and over none, with nothing known.
 pub record HasGoneOn {B : Type 0} (d : Device B) (P : Device B → ℕ → ℕ → Run → Machine → Type 0) (image k : Machine) : Type 0 where
   pub keeps : Keeps image k
   pub halt : k.tasks.halt ≡ None

@@ -8,7 +8,7 @@ use Rattle.b67_exec_cells.specs.Running.{code_area}
 use Rattle.b67_law_sessions.specs.Turns.{IsNext}
 use Rattle.b67_session.specs.Passed.{IsLacking, IsShortAt, CodeFits, TellsSectors}
 use Rattle.b67_job_admit.specs.Admitting.{Prepared}
-use Rattle.b67_session_open.specs.Decks.{session_of, job_names, row_names}
+use Rattle.b67_session_open.specs.Decks.{session_of, deck_given, given_of}
 use Rattle.b67_session_open.specs.Opens.{need_of, sectors_of_all}
 use Rattle.b67_task_tables.specs.declared.tables.Machine.{Machine}
 use Rattle.b67_session.specs.Slices.{StandsAt, IsLimited}
@@ -158,16 +158,16 @@ pub data StopsUnopened {B : Type 0} (d : Device B) (core : ℕ) (p : Prepared) (
   opening_fails : RoomSuffices d core p → Failed d → status ≡ 6 → text ≡ only (ended backing_fault_line) → StopsUnopened d core p status text
 
 -- A session was opened, for which there is room. Each state up to the count of the machine is in order; and if the device
--- told what its sectors hold, none of the steps up to there needed more words than core has. The machine has that core, the
--- halt of the deck and the names of its jobs. Whatever the device gave back, the machine represents some session. A
--- slice may be called on it again, and its table of sectors has one for each of the device.
+-- told what its sectors hold, none of the steps up to there needed more words than core has. The machine has that core and
+-- what the deck gave: its halt, its turns' length, its switches, and the names, limits and numbers of its jobs. Whatever the
+-- device gave back, the machine represents some session. A slice may be called on it again, and its table of sectors has one
+-- for each of the device.
 pub record WasOpened {B : Type 0} (d : Device B) (core : ℕ) (p : Prepared) (k : Machine) : Type 0 where
   pub room : RoomSuffices d core p
   pub in_order : StatesInOrder k.tasks.made (run_of p).session
   pub fitted : DeviceTells d → StepsFit core k.tasks.made (run_of p).session
   pub core_size : length k.cpu.core ≡ core
-  pub halt : k.tasks.halt ≡ p.0.halt
-  pub names : row_names k.tasks.jobs ≡ job_names p.0.jobs
+  pub given : given_of k.tasks ≡ deck_given p.0
   pub shaped : IsShaped k
   pub goes_on : IsOpen d.now k
   pub sized : d.sectors_now + 1 ≡ length k.sectors.links

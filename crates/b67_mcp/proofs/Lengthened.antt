@@ -28,7 +28,7 @@ use Rattle.b67_task_need.specs.Needing.{StandsOrdered}
 use Rattle.b67_mcp_lengths.specs.Lengths.{IsArray, zeroed, cut_to, grown_to, emptied, shorter, OthersStay, LengthenMeets}
 use Rattle.b67_mcp.specs.declared.ends.Stop.{Stop}
 use Rattle.b67_mcp.specs.declared.ends.Stop.TheVariants as stops
-use Rattle.b67_mcp.specs.Running.{Kept}
+use Rattle.b67_mcp.specs.Running.{Keeps}
 use Rattle.b67_mcp.specs.Resizing.{session_resized, SumsTo, StopsAt, LengthSet}
 use Rattle.b67_mcp.proofs.Told.{told_is}
 use Rattle.b67_mcp.proofs.Renumbered.{found, takes, stands_renumbered, stands_moved}
@@ -45,8 +45,8 @@ area_of None n = absurd (n refl)
 area_of (Some at) n = (at, refl)
 
 -- what paging keeps of a machine
-pub kept_by : (k : Machine) (cpu : Cpu) (areas : Areas) (table : Table) → PagingKeeps k.cpu cpu k.areas areas k.sectors table → Kept k (record { cpu = cpu; areas = areas; sectors = table; tasks = k.tasks })
-kept_by k cpu areas table kept = record { countable = λ few. few; keeps = record { core = kept.len; sectors = kept.count; halt = refl; names = refl } }
+pub kept_by : (k : Machine) (cpu : Cpu) (areas : Areas) (table : Table) → PagingKeeps k.cpu cpu k.areas areas k.sectors table → Keeps k (record { cpu = cpu; areas = areas; sectors = table; tasks = k.tasks })
+kept_by k cpu areas table kept = record { core = kept.len; sectors = kept.count; given = refl }
 
 -- a stop for a want of space is one of two
 pub stop_faults : (k : Machine) (before after : ℕ) (fault : SpaceFault) (stop : Stop) → StopsAt k before after fault stop → stop ≡ stops.BackingFault → fault ≡ space.BackingFault

@@ -1,11 +1,10 @@
 -- The rows of jobs where READ took a number.
-use Rattle.std.proofs.Common.{◌≡◌, ℕ, zero, suc, ◌-◌, ◌<◌, ◌≤◌, ◌^◌, List, [], ◌∷◌, length, map, Some, Result, Ok, Err, refl, sym, ◌∙◌, ap, arith, inl, inr, ◌⊎◌, subst, slice_set}
+use Rattle.std.proofs.Common.{◌≡◌, ℕ, ◌-◌, ◌≤◌, List, [], ◌∷◌, map, Some, Result, Ok, Err, refl, sym, ◌∙◌, ap, arith, subst, slice_set}
 use Rattle.std.specs.List.{slice_get}
 use Rattle.b67_word.specs.Tagged.{Tagged}
 use Rattle.b67_word.specs.declared.faults.Fault.{Fault}
 use Rattle.b67_word.specs.declared.couples.Place.{Place}
-use Rattle.b67_lemmas.specs.Lists.{Has}
-use Rattle.b67_lemmas.proofs.Members.{has_get, keyed_has}
+use Rattle.b67_lemmas.proofs.Members.{keyed_has}
 use Rattle.b67_lemmas.proofs.Places.{at_mapped, map-slice_set, mapped_at, put_back}
 use Rattle.b67_model.specs.Common.{Word, Operand, Task, SessionJob, top, below_top, answered, read_from, number_of, Session}
 use Rattle.b67_layout.specs.Common.{IsInOrderButCounts, Placement, JobShows, TablesShow, IsRunning, here, with_job}
@@ -13,9 +12,8 @@ use Rattle.b67_layout.specs.Rows as rows
 use Rattle.b67_mcp_calls.specs.Reads.{job_read, NumberIsRead, ReadMeets}
 use Rattle.b67_task_tables.specs.declared.tables.JobRow.{JobRow}
 use Rattle.b67_task_tables.specs.declared.tables.Tasks.{Tasks}
-use Rattle.b67_task_tables.specs.Tables.{task_row, job_row, counts_of, TasksShow, row_names}
+use Rattle.b67_task_tables.specs.Tables.{task_row, job_row, counts_of, TasksShow, job_given}
 use Rattle.b67_layout.proofs.LiveTasks.{job_at}
-use Rattle.b67_mcp.specs.Called.{AreCountable}
 use Rattle.b67_mcp.proofs.Tables.{jobs_put, tables_after}
 use Rattle.b67_mcp.proofs.Frames.{replaces_answered, waits_answered}
 use Rattle.b67_law_order.proofs.Numbered.{numbered_low}
@@ -34,43 +32,14 @@ job_in tasks plan s m t o h runs =
     let (row, at, same) = mapped_at job_row tasks.jobs (m.constants.number - 1) b.row b.at in
     record { row = row; at = at; shows = subst (λ (r : rows.JobRow). JobShows plan m r) (sym same) b.shows; from_one = numbered_low 1 s.jobs m o.numbered inm }
 
-has_put : {A : Type 0} (xs : List A) (i : ℕ) (x z : A) → Has (slice_set xs i x) z → Has xs z ⊎ (x ≡ z)
-has_put [] i x z h = absurd h
-has_put (y ∷ ys) zero x z (inl e) = inr e
-has_put (y ∷ ys) zero x z (inr k) = inl (inr k)
-has_put (y ∷ ys) (suc i) x z (inl e) = inl (inl e)
-has_put (y ∷ ys) (suc i) x z (inr k) = elim (has_put ys i x z k) [ inl h ↦ inl (inr h) | inr e ↦ inr e ]
-
 pub tasks_same : (tasks tasks' : Tasks) (i : ℕ) (row new : JobRow) → slice_get tasks.jobs i ≡ Some row → tasks'.jobs ≡ slice_set tasks.jobs i new → new ≡ row → tasks' ≡ record tasks { jobs = tasks'.jobs } → tasks' ≡ tasks
 tasks_same tasks tasks' i row new at is same rest =
     rest ∙ ap (λ (l : List JobRow). record tasks { jobs = l }) (is ∙ ap (λ (r : JobRow). slice_set tasks.jobs i r) same ∙ put_back tasks.jobs i row at)
 
--- READ changes no list of numbers
-same_numbers : (plan : Placement) (m : SessionJob) (t : Task) (arguments : List Word) (old new : JobRow) (answer : Result Tagged Fault) → ReadMeets plan m t arguments old new answer → new.numbers ≡ old.numbers
-same_numbers plan m t arguments old new (Ok w) h = ap (λ (r : JobRow). r.numbers) h.same
-same_numbers plan m t arguments old new (Err fault) h = ap (λ (r : JobRow). r.numbers) h.1
-
-pub countable_read : (plan : Placement) (m : SessionJob) (t : Task) (arguments : List Word) (jobs jobs' : List JobRow) (i : ℕ) (old new : JobRow) (answer : Result Tagged Fault) → slice_get jobs i ≡ Some old → jobs' ≡ slice_set jobs i new
-    → ReadMeets plan m t arguments old new answer → AreCountable jobs → AreCountable jobs'
-countable_read plan m t arguments jobs jobs' i old new answer at is meets few = λ row h.
-    (elim (has_put jobs i new row (subst (λ (l : List JobRow). Has l row) is h)) [
-      | inl k ↦ few row k
-      | inr e ↦
-          let low : length old.numbers < 2 ^ 32 = few old (has_get jobs i old at) in
-          subst (λ (r : JobRow). length r.numbers < 2 ^ 32) e (omega (arith, low, ap length (same_numbers plan m t arguments old new answer meets)))
-    ])
-
--- and no name
-same_name : (plan : Placement) (m : SessionJob) (t : Task) (arguments : List Word) (old new : JobRow) (answer : Result Tagged Fault) → ReadMeets plan m t arguments old new answer → new.name ≡ old.name
-same_name plan m t arguments old new (Ok w) h = ap (λ (r : JobRow). r.name) h.same
-same_name plan m t arguments old new (Err fault) h = ap (λ (r : JobRow). r.name) h.1
-
-pub names_read : (plan : Placement) (m : SessionJob) (t : Task) (arguments : List Word) (jobs jobs' : List JobRow) (i : ℕ) (old new : JobRow) (answer : Result Tagged Fault) → slice_get jobs i ≡ Some old → jobs' ≡ slice_set jobs i new
-    → ReadMeets plan m t arguments old new answer → row_names jobs' ≡ row_names jobs
-names_read plan m t arguments jobs jobs' i old new answer at is meets =
-    let name : JobRow → List ℕ = λ r. r.name in
-    ap row_names is ∙ map-slice_set name jobs i new ∙ ap (slice_set (row_names jobs) i) (same_name plan m t arguments old new answer meets)
-    ∙ put_back (row_names jobs) i old.name (at_mapped name jobs i old at)
+-- READ changes nothing that was given
+pub same_given : (plan : Placement) (m : SessionJob) (t : Task) (arguments : List Word) (old new : JobRow) (answer : Result Tagged Fault) → ReadMeets plan m t arguments old new answer → job_given new ≡ job_given old
+same_given plan m t arguments old new (Ok w) h = ap job_given h.same
+same_given plan m t arguments old new (Err fault) h = ap job_given h.1
 
 module _ (plan : Placement) (s : Session) (m : SessionJob) (t : Task) (o : IsInOrderButCounts s) (runs : IsRunning plan s.jobs m t) (q : Place) (arguments : List Word) (tasks tasks' : Tasks) (h : TasksShow plan s tasks) (old new : JobRow) (w : Tagged)
     (at : slice_get tasks.jobs (m.constants.number - 1) ≡ Some old) (is : tasks'.jobs ≡ slice_set tasks.jobs (m.constants.number - 1) new) (rest : tasks' ≡ record tasks { jobs = tasks'.jobs }) (did : NumberIsRead plan m t arguments old new w) where

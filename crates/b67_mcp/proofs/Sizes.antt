@@ -7,17 +7,17 @@ use Rattle.b67_stack.specs.Represents.{Storage}
 use Rattle.b67_layout.specs.Placement.{Placement}
 use Rattle.b67_layout.specs.Session.{RepresentsSession}
 use Rattle.b67_task_tables.specs.declared.tables.Machine.{Machine}
-use Rattle.b67_task_tables.specs.Runs.{Kept}
-use Rattle.b67_task_tables.proofs.Keeping.{kept_same}
+use Rattle.b67_task_tables.specs.Runs.{Keeps}
+use Rattle.b67_task_tables.proofs.Keeping.{keeps_same}
 
 -- core has the size that the spans of its directory have
 pub same_size : (x y : Storage) (old new : Cpu) (plan there : Placement) (s z : Session) → RepresentsSession x old plan s → RepresentsSession y new there z → y.low ≡ x.low → y.spans ≡ x.spans → length new.core ≡ length old.core
 same_size x y old new plan there s z a b low spans =
     sym b.holds.memory.directory.all ∙ ap (λ (i : ℕ). end i y.spans) low ∙ ap (λ (ss : List Span). end x.low ss) spans ∙ a.holds.memory.directory.all
 
-pub kept_is : (old new : Machine) → new ≡ old → Kept old new
-kept_is old new e = subst (λ (k : Machine). Kept old k) (sym e) (kept_same old)
+pub kept_is : (old new : Machine) → new ≡ old → Keeps old new
+kept_is old new e = subst (λ (k : Machine). Keeps old k) (sym e) (keeps_same old)
 
 -- how much is printed is no part of it
-pub kept_printed : (old : Machine) (printed : ℕ) → Kept old (record old { tasks = record old.tasks { printed = printed } })
-kept_printed old printed = record { countable = λ few. few; keeps = record { core = refl; sectors = refl; halt = refl; names = refl } }
+pub kept_printed : (old : Machine) (printed : ℕ) → Keeps old (record old { tasks = record old.tasks { printed = printed } })
+kept_printed old printed = record { core = refl; sectors = refl; given = refl }

@@ -11,7 +11,7 @@ pub use Rattle.b67_mcp_process.specs.Process.{CanNumber}
 use Rattle.b67_task_tables.specs.declared.tables.JobRow.{JobRow}
 use Rattle.b67_task_tables.specs.declared.tables.Machine.{Machine}
 use Rattle.b67_task_tables.specs.Runs.{RunsTask, ForEachRun}
-pub use Rattle.b67_task_tables.specs.Runs.{Kept}
+pub use Rattle.b67_task_tables.specs.Runs.{Keeps}
 use Rattle.b67_exec_cells.specs.Called.{called_in}
 use Rattle.b67_io.specs.Causes.{Rose}
 use Rattle.b67_mcp.specs.declared.ends.Stop.{Stop}

@@ -2,7 +2,7 @@
 
 ghost use Rattle.b67_mcp.specs.Answers.{AnswerMeets};
 ghost use Rattle.b67_mcp.specs.Called.{CallsSome};
-ghost use Rattle.b67_mcp.specs.Running.{ForCalls, Kept};
+ghost use Rattle.b67_mcp.specs.Running.{ForCalls, Keeps};
 
 use crate::running::next_place;
 use b67_mcp_calls::{array_to_empty, cut_call};
@@ -15,7 +15,7 @@ use b67_word::Fault;
 pub(crate) fn deallocate(machine: &mut Machine) -> Result<(), Fault>
     requires { CallsSome machine.old 17 }
     ensures row { ForCalls machine.old 17 (λ x told plan s m t. AnswerMeets x told plan s m t result machine.old machine.new) }
-    ensures kept { Kept machine.old machine.new }
+    ensures kept { Keeps machine.old machine.new }
 {
     let original = match array_to_empty(&machine.cpu) {
         Ok(original) => original,

@@ -3,7 +3,7 @@
 ghost use Rattle.std.specs.Prelude.{◌≡◌};
 ghost use Rattle.b67_mcp.specs.Answers.{AnswerMeets};
 ghost use Rattle.b67_mcp.specs.Called.{CallsSome, ChangesStack};
-ghost use Rattle.b67_mcp.specs.Running.{ForCalls, Kept};
+ghost use Rattle.b67_mcp.specs.Running.{ForCalls, Keeps};
 
 use crate::running::next_place;
 use b67_mcp_calls::{answer_array, array_length};
@@ -14,7 +14,7 @@ use b67_word::Fault;
 pub(crate) fn declare(machine: &mut Machine) -> Result<(), Fault>
     requires { CallsSome machine.old 8 }
     ensures row { ForCalls machine.old 8 (λ x told plan s m t. AnswerMeets x told plan s m t result machine.old machine.new) }
-    ensures kept { Kept machine.old machine.new }
+    ensures kept { Keeps machine.old machine.new }
     ensures changed { ChangesStack machine.old machine.new }
     ensures sectors { machine.new.sectors ≡ machine.old.sectors }
 {

@@ -17,7 +17,7 @@ ghost use Rattle.std.specs.Prelude.{◌≡◌, ◌+◌, length};
 ghost use Rattle.b67_layout_storage.specs.Machine.{DeviceAfterCalls};
 ghost use Rattle.b67_mcp.specs.Called.{CallsSome, CallRow};
 ghost use Rattle.b67_mcp.specs.Answers.{call_end_of};
-ghost use Rattle.b67_mcp.specs.Running.{JobsHaveRoom, ForCalls, CallCauses, Kept};
+ghost use Rattle.b67_mcp.specs.Running.{JobsHaveRoom, ForCalls, CallCauses, Keeps};
 
 use crate::deallocate::deallocate;
 use crate::declare::declare;
@@ -67,7 +67,7 @@ pub fn intrinsic<B: Backing, K: Sink>(
     ensures call { ForCalls machine.old n (λ x told plan s m t.
         CallRow B.holds K.taken (B.size backing.old) x told plan s m t n result machine.old machine.new backing.old backing.new paper.old paper.new) }
     ensures causes { CallCauses B.faults K.faults backing.old backing.new paper.old paper.new result }
-    ensures kept { Kept machine.old machine.new }
+    ensures kept { Keeps machine.old machine.new }
     ensures device { DeviceAfterCalls B.holds B.size B.calls B.faults backing.old backing.new }
 {
     match n {

@@ -6,7 +6,7 @@ ghost use Rattle.b67_session_lines.specs.Parts.{TookRest, TookMore};
 ghost use Rattle.b67_model.specs.Steps.{Value};
 ghost use Rattle.b67_mcp.specs.declared.ends.Stop.TheVariants.{BackingFault};
 ghost use Rattle.b67_mcp.specs.Called.{printed_text, CallsSome, CallMeets, CallTouches, ChangesStack};
-ghost use Rattle.b67_mcp.specs.Running.{ForRuns, ForCalls, ReadsOperator, Kept, IsHeard};
+ghost use Rattle.b67_mcp.specs.Running.{ForRuns, ForCalls, ReadsOperator, Keeps, IsHeard};
 
 use crate::running::{cut, running_row};
 use crate::{CallEnd, Stop};
@@ -41,7 +41,7 @@ pub(crate) fn print<K: Sink>(machine: &mut Machine, paper: &mut K) -> Result<Cal
     ensures present { ForCalls machine.old 9 (λ x told plan s m t. CallTouches x plan m t result) }
     ensures cause { IsHeard K.faults paper.old paper.new result }
     ensures stops { result ≢ Err BackingFault }
-    ensures kept { Kept machine.old machine.new }
+    ensures kept { Keeps machine.old machine.new }
     ensures changed { ChangesStack machine.old machine.new }
     ensures sectors { machine.new.sectors ≡ machine.old.sectors }
 {

@@ -7,7 +7,7 @@ ghost use Rattle.b67_model.specs.Steps.{Values};
 ghost use Rattle.b67_mcp_calls.specs.Texts.{values_of};
 ghost use Rattle.b67_mcp.specs.declared.ends.Stop.TheVariants.{BackingFault};
 ghost use Rattle.b67_mcp.specs.Called.{printed_text, CallsSome, CallMeets, CallTouches, ChangesStack};
-ghost use Rattle.b67_mcp.specs.Running.{ForRuns, ForCalls, ReadsOperator, Kept, IsHeard};
+ghost use Rattle.b67_mcp.specs.Running.{ForRuns, ForCalls, ReadsOperator, Keeps, IsHeard};
 
 use crate::running::{cut, running_row};
 use crate::{CallEnd, Stop};
@@ -53,7 +53,7 @@ pub(crate) fn print_row<K: Sink>(machine: &mut Machine, paper: &mut K) -> Result
     ensures present { ForCalls machine.old 10 (λ x told plan s m t. CallTouches x plan m t result) }
     ensures cause { IsHeard K.faults paper.old paper.new result }
     ensures stops { result ≢ Err BackingFault }
-    ensures kept { Kept machine.old machine.new }
+    ensures kept { Keeps machine.old machine.new }
     ensures changed { ChangesStack machine.old machine.new }
     ensures sectors { machine.new.sectors ≡ machine.old.sectors }
 {

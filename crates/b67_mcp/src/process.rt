@@ -4,7 +4,7 @@ ghost use Rattle.std.specs.Prelude.{◌≡◌, ◌+◌, length};
 ghost use Rattle.b67_layout_storage.specs.Machine.{Says, DeviceAfterCalls, content_after};
 ghost use Rattle.b67_mcp.specs.Answers.{SilentMeets};
 ghost use Rattle.b67_mcp.specs.Called.{CallsSome, CallReaches};
-ghost use Rattle.b67_mcp.specs.Running.{CanNumber, ForCalls, Kept, SilentCauses};
+ghost use Rattle.b67_mcp.specs.Running.{CanNumber, ForCalls, Keeps, SilentCauses};
 
 use crate::running::next_place;
 use crate::stopping::stop_for;
@@ -24,7 +24,7 @@ pub(crate) fn start<B: Backing>(machine: &mut Machine, backing: &mut B) -> Resul
         → SilentMeets x (content_after told (B.holds backing.new)) (B.size backing.old) plan s m t result machine.old machine.new) }
     ensures reaches { ForCalls machine.old 12 (λ x told plan s m t. CallReaches (length machine.old.cpu.core) x plan s m t result backing.old backing.new) }
     ensures causes { SilentCauses B.faults backing.old backing.new result }
-    ensures kept { Kept machine.old machine.new }
+    ensures kept { Keeps machine.old machine.new }
     ensures device { DeviceAfterCalls B.holds B.size B.calls B.faults backing.old backing.new }
 {
     let next = next_place(machine);

@@ -5,7 +5,7 @@ ghost use Rattle.b67_task_tables.specs.declared.tables.JobRow.{JobRow};
 ghost use Rattle.b67_mcp_calls.specs.Reads.{ReadSome};
 ghost use Rattle.b67_mcp.specs.Answers.{AnswerMeets, Takes};
 ghost use Rattle.b67_mcp.specs.Called.{AreCountable, CallsSome, ChangesStack};
-ghost use Rattle.b67_mcp.specs.Running.{ForCalls, Kept};
+ghost use Rattle.b67_mcp.specs.Running.{ForCalls, Keeps};
 
 use crate::running::{next_place, running_row};
 use b67_mcp_calls::{answer_call, read_number};
@@ -35,7 +35,7 @@ pub(crate) fn read(machine: &mut Machine) -> Result<(), Fault>
     requires calls { CallsSome machine.old 11 }
     requires countable { AreCountable machine.old.tasks.jobs }
     ensures row { ForCalls machine.old 11 (λ x told plan s m t. AnswerMeets x told plan s m t result machine.old machine.new) }
-    ensures kept { Kept machine.old machine.new }
+    ensures kept { Keeps machine.old machine.new }
     ensures changed { ChangesStack machine.old machine.new }
     ensures sectors { machine.new.sectors ≡ machine.old.sectors }
 {

@@ -5,7 +5,7 @@ ghost use Rattle.b67_backing.specs.declared.refusals.SpaceFault.TheVariants.{NoC
 ghost use Rattle.b67_layout_storage.specs.Machine.{Says, DeviceAfterCalls, content_after};
 ghost use Rattle.b67_mcp.specs.Called.{CallsSome, CallTouches, CallWrites};
 ghost use Rattle.b67_mcp.specs.Resizing.{HasArray, ForArrays, StopsAt, LengthSet, ResizeAnswers};
-ghost use Rattle.b67_mcp.specs.Running.{ForCalls, Kept, SilentCauses};
+ghost use Rattle.b67_mcp.specs.Running.{ForCalls, Keeps, SilentCauses};
 ghost use Rattle.b67_task_need.specs.Needing.{StandsOrdered};
 
 use crate::running::next_place;
@@ -52,7 +52,7 @@ fn set_length<B: Backing>(
         → LengthSet (content_after told (B.holds backing.new)) (B.size backing.old) x plan s m a after result machine.old machine.new) }
     ensures quiet { after ≤ before → (result ≡ Ok tt) × (backing.new ≡ backing.old) }
     ensures causes { SilentCauses B.faults backing.old backing.new result }
-    ensures kept { Kept machine.old machine.new }
+    ensures kept { Keeps machine.old machine.new }
     ensures device { DeviceAfterCalls B.holds B.size B.calls B.faults backing.old backing.new }
 {
     if after < before {
@@ -91,7 +91,7 @@ pub(crate) fn resize<B: Backing>(machine: &mut Machine, backing: &mut B) -> Resu
     ensures present { ForCalls machine.old 18 (λ x told plan s m t. CallTouches x plan m t result) }
     ensures quiet { ForCalls machine.old 18 (λ x told plan s m t. (CallWrites x plan m t result → ⊥) → backing.new ≡ backing.old) }
     ensures causes { SilentCauses B.faults backing.old backing.new result }
-    ensures kept { Kept machine.old machine.new }
+    ensures kept { Keeps machine.old machine.new }
     ensures device { DeviceAfterCalls B.holds B.size B.calls B.faults backing.old backing.new }
 {
     let found = match array_to_resize(&machine.cpu) {

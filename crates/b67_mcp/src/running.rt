@@ -7,7 +7,7 @@ ghost use Rattle.b67_mcp_calls.specs.Calls.{MayCut, job_cut};
 ghost use Rattle.b67_word.specs.declared.couples.Place.{Place};
 ghost use Rattle.b67_task_tables.specs.Tables.{MachineRepresents};
 ghost use Rattle.b67_mcp.specs.Called.{ChangesStack};
-ghost use Rattle.b67_mcp.specs.Running.{ForRuns, IsBehind, ReadsOperator, CutsSome, Kept};
+ghost use Rattle.b67_mcp.specs.Running.{ForRuns, IsBehind, ReadsOperator, CutsSome, Keeps};
 
 use b67_exec_cells::reading;
 use b67_mcp_calls::cut_call;
@@ -45,7 +45,7 @@ pub(crate) fn cut(machine: &mut Machine)
     ensures stands { ForRuns machine.old (λ x told plan s m t. MayCut m t → (next : Place) → IsBehind m t next
         → MachineRepresents x told machine.new plan (with_job s m (job_cut m t next))) }
     ensures printed { machine.new.tasks.printed ≡ 0 }
-    ensures kept { Kept machine.old machine.new }
+    ensures kept { Keeps machine.old machine.new }
     ensures changed { ChangesStack machine.old machine.new }
     ensures sectors { machine.new.sectors ≡ machine.old.sectors }
 {

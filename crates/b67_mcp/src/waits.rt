@@ -3,7 +3,7 @@
 ghost use Rattle.std.specs.Prelude.{◌≡◌, ◌≤◌, ℕ, Ok, length};
 ghost use Rattle.b67_mcp.specs.Answers.{SilentMeets, waiting_end};
 ghost use Rattle.b67_mcp.specs.Called.{CallsSome, CallTouches, CallFits};
-ghost use Rattle.b67_mcp.specs.Running.{ForCalls, Kept};
+ghost use Rattle.b67_mcp.specs.Running.{ForCalls, Keeps};
 
 use crate::running::next_place;
 use crate::{CallEnd, silent};
@@ -32,7 +32,7 @@ pub(crate) fn wait_for(machine: &mut Machine, n: u8) -> CallEnd
     requires upto { n ≤ 16 }
     ensures row { ForCalls machine.old n (λ x told plan s m t. (count : ℕ) → SilentMeets x told count plan s m t (Ok result) machine.old machine.new) }
     ensures present { ForCalls machine.old n (λ x told plan s m t. CallTouches x plan m t (Ok result) × CallFits (length machine.old.cpu.core) s m t (Ok result)) }
-    ensures kept { Kept machine.old machine.new }
+    ensures kept { Keeps machine.old machine.new }
 {
     let next = next_place(machine);
     match n {

@@ -7,7 +7,7 @@ mod starting;
 ghost use Rattle.std.specs.Prelude.{◌≡◌, ◌+◌, length};
 ghost use Rattle.b67_ctl.specs.Layout.{IsPlace};
 ghost use Rattle.b67_mcp_call.specs.Calls.{StandsAtCall, ForCall};
-ghost use Rattle.b67_task_tables.specs.Runs.{Kept};
+ghost use Rattle.b67_task_tables.specs.Runs.{Keeps};
 ghost use Rattle.b67_mcp_process.specs.Process.{CanNumber, ProcessRow, ProcessFits, ProcessServed};
 
 use crate::asking::task_asked;
@@ -34,7 +34,7 @@ pub fn process<B: Backing>(
     requires same { B.size backing.old + 1 ≡ length machine.old.sectors.links }
     ensures row { ForCall machine.old (λ x told plan s m t arguments. ProcessRow B.holds told plan s m t next arguments result machine.old machine.new backing.old backing.new
         × ProcessFits (length machine.old.cpu.core) s m t next arguments result) }
-    ensures kept { Kept machine.old machine.new }
+    ensures kept { Keeps machine.old machine.new }
     ensures printed { machine.new.tasks.printed ≡ machine.old.tasks.printed }
     ensures device { ProcessServed B.holds B.size B.calls B.faults backing.old backing.new result }
 {

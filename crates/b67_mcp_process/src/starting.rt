@@ -14,7 +14,7 @@ ghost use Rattle.b67_layout.specs.Meets.{with_job};
 ghost use Rattle.b67_mcp_call.specs.Calls.{MayCut};
 ghost use Rattle.b67_mcp_call.specs.Answered.{job_answered};
 ghost use Rattle.b67_task_start.specs.Starts.{MayStart, child};
-ghost use Rattle.b67_task_tables.specs.Runs.{ForEachRun, Kept, RunsTask};
+ghost use Rattle.b67_task_tables.specs.Runs.{ForEachRun, Keeps, RunsTask};
 ghost use Rattle.b67_task_tables.specs.Tables.{MachineRepresents};
 ghost use Rattle.b67_mcp_process.specs.Asked.{Asks, job_started};
 ghost use Rattle.b67_mcp_process.specs.Begins.{counts_for, rows_of_job, AnswersSome, BeginsSome, AsksSome, StandsMoved};
@@ -66,7 +66,7 @@ pub(crate) fn answer(machine: &mut Machine, number: u32, next: Place)
     requires place { IsPlace next }
     ensures stands { ForEachRun machine.old (λ x told plan s m t. MayCut m t
         → MachineRepresents x told machine.new plan (with_job s m (job_answered m t (words.Operand number) next m.progress.job.numbers))) }
-    ensures kept { Kept machine.old machine.new }
+    ensures kept { Keeps machine.old machine.new }
     ensures printed { machine.new.tasks.printed ≡ machine.old.tasks.printed }
 {
     answer_call(&mut machine.cpu, Word::of(0, u64::from(number)), next);
@@ -80,7 +80,7 @@ fn begin(machine: &mut Machine, asked: Asked, next: Place)
     ensures stands { (x : Storage) (told : Option (List (List ℕ))) (plan : Placement) (s : Session) (m : SessionJob) (t : Task) (f segment level : ℕ) (place : Place) (slot : ℕ) → IsInOrderButCounts s
         → MachineRepresents x told machine.old plan s → IsRunning plan s.jobs m t → MayStart x plan m t (length machine.old.cpu.core) asked.cell asked.count f segment level place slot → MayCut m t
         → StandsMoved told s m (job_started m t (child m t asked.count f segment level place) next) 1 machine.new }
-    ensures kept { Kept machine.old machine.new }
+    ensures kept { Keeps machine.old machine.new }
     ensures printed { machine.new.tasks.printed ≡ machine.old.tasks.printed }
 {
     let number = start(machine, asked.cell, asked.count);
@@ -101,7 +101,7 @@ pub(crate) fn start_asked<B: Backing>(
     ensures row { ForEachRun machine.old (λ x told plan s m t. (arguments : List words.Word) → Asks plan m t arguments asked.cell asked.count
         → length m.progress.job.tasks < 15 → ProcessRow B.holds told plan s m t next arguments result machine.old machine.new backing.old backing.new) }
     ensures fits { ForEachRun machine.old (λ x told plan s m t. (arguments : List words.Word) → ProcessFits (length machine.old.cpu.core) s m t next arguments result) }
-    ensures kept { Kept machine.old machine.new }
+    ensures kept { Keeps machine.old machine.new }
     ensures printed { machine.new.tasks.printed ≡ machine.old.tasks.printed }
     ensures device { ProcessServed B.holds B.size B.calls B.faults backing.old backing.new result }
 {

@@ -4,7 +4,7 @@ ghost use Rattle.std.specs.Prelude.{◌≡◌};
 ghost use Rattle.b67_ctl.specs.Layout.{IsPlace};
 ghost use Rattle.b67_model.specs.Intrinsics as rows;
 ghost use Rattle.b67_mcp_call.specs.Calls.{StandsAtCall, ForCall};
-ghost use Rattle.b67_task_tables.specs.Runs.{Kept};
+ghost use Rattle.b67_task_tables.specs.Runs.{Keeps};
 ghost use Rattle.b67_mcp_waits.specs.Events.{WaitMeets, DoneMeets};
 
 use crate::cells::cell_given;
@@ -21,7 +21,7 @@ pub fn wait_at(machine: &mut Machine, next: Place) -> Result<Option<TaskState>, 
     requires call { StandsAtCall machine.old }
     requires place { IsPlace next }
     ensures row { ForCall machine.old (λ x told plan s m t arguments. WaitMeets rows.wait x told plan s m t next arguments result machine.old machine.new) }
-    ensures kept { Kept machine.old machine.new }
+    ensures kept { Keeps machine.old machine.new }
     ensures sectors { machine.new.sectors ≡ machine.old.sectors }
 {
     let found = match cell_given(&machine.cpu) {
@@ -46,7 +46,7 @@ pub fn cause(machine: &mut Machine, next: Place) -> Result<(), Fault>
     requires call { StandsAtCall machine.old }
     requires place { IsPlace next }
     ensures row { ForCall machine.old (λ x told plan s m t arguments. DoneMeets rows.cause x told plan s m t next arguments result machine.old machine.new) }
-    ensures kept { Kept machine.old machine.new }
+    ensures kept { Keeps machine.old machine.new }
     ensures sectors { machine.new.sectors ≡ machine.old.sectors }
 {
     let found = match cell_given(&machine.cpu) {

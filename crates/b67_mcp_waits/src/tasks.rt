@@ -9,7 +9,7 @@ ghost use Rattle.b67_task_tables.specs.Runs.{RunsTask, ForEachRun};
 ghost use Rattle.b67_task_tables.specs.declared.tables.TaskState.TheVariants.{Awaits};
 ghost use Rattle.b67_mcp_call.specs.Calls.{StandsAtCall, ForCall, CallSome, IsCall};
 ghost use Rattle.b67_mcp_waits.specs.Arguments.{number_given};
-ghost use Rattle.b67_task_tables.specs.Runs.{Kept};
+ghost use Rattle.b67_task_tables.specs.Runs.{Keeps};
 ghost use Rattle.b67_mcp_waits.specs.Events.{WaitMeets, DoneMeets};
 
 use b67_entry::is_critical;
@@ -53,7 +53,7 @@ pub fn await_task(machine: &mut Machine, next: Place) -> Result<Option<TaskState
     requires call { StandsAtCall machine.old }
     requires place { IsPlace next }
     ensures row { ForCall machine.old (λ x told plan s m t arguments. WaitMeets rows.await x told plan s m t next arguments result machine.old machine.new) }
-    ensures kept { Kept machine.old machine.new }
+    ensures kept { Keeps machine.old machine.new }
     ensures sectors { machine.new.sectors ≡ machine.old.sectors }
 {
     let number = match number_in(&machine.cpu) {
@@ -77,7 +77,7 @@ pub fn status_of(machine: &mut Machine, next: Place) -> Result<(), Fault>
     requires call { StandsAtCall machine.old }
     requires place { IsPlace next }
     ensures row { ForCall machine.old (λ x told plan s m t arguments. DoneMeets rows.status x told plan s m t next arguments result machine.old machine.new) }
-    ensures kept { Kept machine.old machine.new }
+    ensures kept { Keeps machine.old machine.new }
     ensures sectors { machine.new.sectors ≡ machine.old.sectors }
 {
     let number = match number_in(&machine.cpu) {

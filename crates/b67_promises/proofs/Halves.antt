@@ -2,7 +2,8 @@
 use Rattle.std.proofs.Common.{◌≡◌, ◌≢◌, ◌≤◌, ◌<◌, ◌+◌, ◌^◌, ℕ, zero, suc, Bool, true, false, not, cond, List, [], ◌∷◌, ◌++◌, length, take, map, append-nil, append_assoc, refl, sym, ap, subst, ◌∙◌, arith, Option, Some, None, Result, Ok, Err, inl, inr, ◌⊎◌, codes}
 use Rattle.std.specs.Prelude.{nat_lt, nat_le, count_by, ◌==◌, IsTrue, ⊤}
 use Rattle.std.specs.List.{AllByRecursion, list_all}
-use Rattle.std.specs.Option.{option_map, option_or}
+use Rattle.std.specs.Option.{option_map, option_and_then, option_or}
+use Rattle.std.specs.Str.{bytes_eq}
 use Rattle.std.specs.Char.{is_ascii}
 use Rattle.std.proofs.lemmas.Bool.{and_parts, ltb-true, ltb-false}
 use Rattle.std.proofs.lemmas.Option.{same_Some, none-some}
@@ -14,18 +15,19 @@ use Rattle.b67_model.specs.Common.{Session, run_text, lines, after, live_tasks, 
 use Rattle.b67_model_text.specs.declared.deck.Deck.{Deck}
 use Rattle.b67_model_text.specs.declared.deck.Job as deck_job
 use Rattle.b67_model_text.specs.declared.deck.Switch as deck_switch
+use Rattle.b67_model_text.specs.Command.{number_in}
 use Rattle.b67_model_text.specs.Answers.{◌>>=◌, ◌>>◌, needs}
 use Rattle.b67_model_text.specs.Deck.{Refusal, of_card, deck_of}
 use Rattle.b67_model_text.proofs.Answers.{after_both, err-ok}
 use Rattle.b67_layout_storage.specs.Machine.{Says, content_after, DeviceAfterCalls}
 use Rattle.b67_law_order.specs.Opening.{opening}
-use Rattle.b67_session_open.specs.Decks.{JobInRange, DeckInRange, session_of, openings_of, job_names}
+use Rattle.b67_session_open.specs.Decks.{JobInRange, DeckInRange, session_of, openings_of, jobs_given}
 use Rattle.b67_session_lines.specs.Stops.{Run, live_after, halted_line, IsFinished}
 use Rattle.b67_session_lines.proofs.Statuses.{after-add}
 use Rattle.b67_session.specs.Slices.{StandsAt}
 use Rattle.b67_task_tables.specs.declared.tables.Machine.{Machine}
 use Rattle.b67_task_tables.specs.declared.tables.JobRow.{JobRow}
-use Rattle.b67_task_tables.specs.Tables.{row_names, switch_of}
+use Rattle.b67_task_tables.specs.Tables.{JobGiven, rows_given, Given, switch_of}
 use Rattle.b67_job_admit.specs.Admitting.{Prepared, prepared, deck_prepared}
 use Rattle.b67_image.specs.Text.{limit, first_card, last_card, card_lines, image_text_of, within_image_limit, bytes_of}
 use Rattle.b67_image.specs.Image.{image_text}
@@ -35,7 +37,7 @@ use Rattle.b67_image.specs.Typed.{AreTyped, HaveShortNames}
 use Rattle.b67_image.specs.Meaning.{parts_told, told_in, ShowsParts, IsMeant}
 use Rattle.b67_image.specs.Laws.{PartsTellSessions}
 use Rattle.b67_image.proofs.Octets.{HasNameBytes, Are}
-use Rattle.b67_job.specs.Command.{Request, request, exercise, resume, bind, one_word, command_line_of}
+use Rattle.b67_job.specs.Command.{Request, Options, options, is_path, requested, request, exercise, resume, bind, one_word, command_line_of}
 use Rattle.b67_job.specs.declared.command.CommandLine.{CommandLine}
 use Rattle.b67_job.specs.declared.command.CommandLine.TheVariants as commands
 use Rattle.b67_job.specs.declared.summaries.Closing.{Closing}
@@ -48,12 +50,14 @@ use Rattle.b67_job.specs.Going.{run_from, StepsFrom, HasGoneOn, Resumed}
 use Rattle.b67_job.specs.Judgement.{Judgement, Runs, judgement, asked, closing_of}
 use Rattle.b67_job.specs.Due.{ReadAll, IsRun, Halts, IsAllDone, IsOpenedOrResumed}
 use Rattle.b67_job.specs.Statuses.{StatusMeans, Ran, WentOn, IsDumped}
+use Rattle.b67_job.proofs.Commands.{NumberWithin, number_within}
 use Rattle.b67_job.proofs.Prepared.{prepared_in_range}
 use Rattle.b67_promises.specs.Images.{AreOtherLines}
 use Rattle.b67_promises.specs.Halting.{AsksForImage, AsksForResume, DifferInHalt, PrintTogether}
 use Rattle.b67_promises.proofs.HaltCards.{SameButHalt, decks_without}
 use Rattle.b67_promises.proofs.OneImage.{HasNames, text_of_halt, parts_are}
 use Rattle.b67_promises.proofs.OtherLines.{lines_other}
+use Rattle.b67_promises.proofs.Ranges.{given_from}
 use Rattle.b67_promises.proofs.Steps.{lines_add, same_lines}
 use Rattle.b67_promises.proofs.TurnCalls.{parts, prepared_is, same_ok}
 use Rattle.b67_promises.proofs.Words.{head, no_word}
@@ -76,11 +80,38 @@ image_not_bind word more e = rw e refl
 image_not_resume : (word a b : Bor (List ℕ)) → word.now ≡ codes "image" → resume (word ∷ a ∷ b ∷ []) ≡ None
 image_not_resume word a b e = rw e refl
 
-by_image : (command : CommandLine) (o : Option Request) (x : Option CommandLine) → x ≡ None → option_or (option_map (λ (r : Request). commands.Image r.core) o) x ≡ Some command → (core : ℕ) × (command ≡ commands.Image core)
-by_image command None x none h = absurd (none-some command (sym none ∙ h))
-by_image command (Some r) x none h = (r.core, sym (same_Some (commands.Image r.core) command h))
+abbrev request_of : ℕ → List ℕ → Request
+request_of core path = record { core = core; path = path }
 
-image_words : (words : List (Bor (List ℕ))) → AsksForImage words → (command : CommandLine) → command_line_of words ≡ Some command → (core : ℕ) × (command ≡ commands.Image core)
+-- a core that may be asked for
+abbrev IsAsked : Request → Type 0
+IsAsked r = NumberWithin 256 1048575 r.core
+
+by_core : (path : List ℕ) (r : Request) (o : Option ℕ) → ((n : ℕ) → o ≡ Some n → NumberWithin 256 1048575 n) → option_map (λ (n : ℕ). request_of n path) o ≡ Some r → IsAsked r
+by_core path r None k e = absurd (none-some r e)
+by_core path r (Some n) k e = subst IsAsked (same_Some (request_of n path) r e) (k n refl)
+
+by_options : (r : Request) (o : Option Options) → option_and_then requested o ≡ Some r → IsAsked r
+by_options r None e = absurd (none-some r e)
+by_options r (Some o) e = by_path (is_path o.path) e
+  where
+    by_path : (b : Bool) → cond b (option_map (λ (n : ℕ). request_of n o.path) (number_in 256 1048575 o.core)) None ≡ Some r → IsAsked r
+    by_path true e = by_core o.path r (number_in 256 1048575 o.core) (λ n i. number_within 256 1048575 n o.core i) e
+    by_path false e = absurd (none-some r e)
+
+asked_core : (name : List ℕ) (word a b c d : Bor (List ℕ)) (r : Request) → request name (word ∷ a ∷ b ∷ c ∷ d ∷ []) ≡ Some r → IsAsked r
+asked_core name word a b c d r e = by_name (bytes_eq word.now name) e
+  where
+    by_name : (t : Bool) → cond t (option_and_then requested (options a.now b.now c.now d.now)) None ≡ Some r → IsAsked r
+    by_name true e = by_options r (options a.now b.now c.now d.now) e
+    by_name false e = absurd (none-some r e)
+
+by_image : (command : CommandLine) (o : Option Request) (x : Option CommandLine) → ((r : Request) → o ≡ Some r → IsAsked r) → x ≡ None → option_or (option_map (λ (r : Request). commands.Image r.core) o) x ≡ Some command
+    → (core : ℕ) × (command ≡ commands.Image core) × NumberWithin 256 1048575 core
+by_image command None x asked none h = absurd (none-some command (sym none ∙ h))
+by_image command (Some r) x asked none h = (r.core, sym (same_Some (commands.Image r.core) command h), asked r refl)
+
+pub image_words : (words : List (Bor (List ℕ))) → AsksForImage words → (command : CommandLine) → command_line_of words ≡ Some command → (core : ℕ) × (command ≡ commands.Image core) × NumberWithin 256 1048575 core
 image_words [] w command h = absurd (none-some command h)
 image_words (word ∷ []) w command h = absurd (no_word command (one_word (word ∷ [])) (bind (word ∷ [])) (image_not_one word (ap head w)) (image_not_bind word [] (ap head w)) h)
 image_words (word ∷ a ∷ []) w command h = absurd (none-some command (sym (image_not_bind word (a ∷ []) (ap head w)) ∙ h))
@@ -91,7 +122,7 @@ image_words (word ∷ a ∷ b ∷ c ∷ d ∷ []) w command h =
     let ws = word ∷ a ∷ b ∷ c ∷ d ∷ [] in
     let e = ap head w in
     let none : option_or (exercise ws) (bind ws) ≡ None = ap (λ (o : Option CommandLine). option_or o (bind ws)) (image_not_exercise word a b c d e) ∙ image_not_bind word (a ∷ b ∷ c ∷ d ∷ []) e in
-    by_image command (request (codes "image") ws) (option_or (exercise ws) (bind ws)) none
+    by_image command (request (codes "image") ws) (option_or (exercise ws) (bind ws)) (λ r i. asked_core (codes "image") word a b c d r i) none
     (sym (ap (λ (o : Option Request). option_or (option_map (λ (r : Request). commands.Run r.core) o) (option_or (option_map (λ (r : Request). commands.Image r.core) (request (codes "image") ws)) (option_or (exercise ws) (bind ws)))) (image_not_run word a b c d e)) ∙ h)
 image_words (word ∷ a ∷ b ∷ c ∷ d ∷ x ∷ more) w command h = absurd (none-some command (sym (image_not_bind word (a ∷ b ∷ c ∷ d ∷ x ∷ more) (ap head w)) ∙ h))
 
@@ -137,19 +168,6 @@ ascii_bytes : (name : List ℕ) → list_all is_ascii name ≡ true → AllByRec
 ascii_bytes [] e = tt
 ascii_bytes (b ∷ more) e = let both = and_parts (is_ascii b) (list_all is_ascii more) e in (omega (arith, ltb-true b 128 both.0), ascii_bytes more both.1)
 
-abbrev some_name : List (List ℕ) → List ℕ
-some_name [] = []
-some_name (n ∷ ns) = n
-
-abbrev other_names : List (List ℕ) → List (List ℕ)
-other_names [] = []
-other_names (n ∷ ns) = ns
-
-names_from : (P : List ℕ → Type 0) (ks : List JobRow) (js : List deck_job.Job) → row_names ks ≡ job_names js → AllByRecursion (λ (j : deck_job.Job). P j.name) js → AllByRecursion (λ (k : JobRow). P k.name) ks
-names_from P [] js e all = tt
-names_from P (k ∷ ks) [] e all = absurd (let z : ⊥ = cc in z)
-names_from P (k ∷ ks) (j ∷ js) e all = (subst P (sym (ap some_name e)) all.0, names_from P ks js (ap other_names e) all.1)
-
 short_names : (js : List deck_job.Job) → AllByRecursion JobInRange js → AllByRecursion (λ (j : deck_job.Job). length j.name < 2 ^ 8) js
 short_names [] all = tt
 short_names (j ∷ js) all = let short = all.0.name_short in (omega (arith, short), short_names js all.1)
@@ -158,8 +176,11 @@ byte_names : (js : List deck_job.Job) → AllByRecursion JobInRange js → AllBy
 byte_names [] all = tt
 byte_names (j ∷ js) all = (record { all = ascii_bytes j.name all.0.name_ascii }, byte_names js all.1)
 
-has_names : (d : Deck) (ks : List JobRow) → DeckInRange d → row_names ks ≡ job_names d.jobs → HasNames ks
-has_names d ks r e = record { short = names_from (λ (name : List ℕ). length name < 2 ^ 8) ks d.jobs e (short_names d.jobs r.each); bytes = names_from Are ks d.jobs e (byte_names d.jobs r.each) }
+has_names : (d : Deck) (ks : List JobRow) → DeckInRange d → rows_given ks ≡ jobs_given d.jobs → HasNames ks
+has_names d ks r e = record {
+  short = given_from (λ (g : JobGiven). length g.name < 2 ^ 8) ks d.jobs e (short_names d.jobs r.each);
+  bytes = given_from (λ (g : JobGiven). Are g.name) ks d.jobs e (byte_names d.jobs r.each);
+}
 
 -- ---- the first call
 
@@ -219,7 +240,7 @@ module _ {S B K : Type 0} (words : List (Bor (List ℕ))) (left : S → Option (
   pub names_of : (h : HaltedRun bytes text d machine) → IsOpenedOrResumed words left source_faults deck deck' d h.k → HasNames h.k.tasks.jobs
   names_of h (inl o) =
       let range = prepared_in_range bytes o.1.0 o.1.1 (the_deck o.0 o.1 o.2) in
-      has_names o.1.0 h.k.tasks.jobs range.0 o.3.names
+      has_names o.1.0 h.k.tasks.jobs range.0 (ap (λ (g : Given). g.jobs) o.3.given)
   names_of h (inr r) =
       let c = image_words words w commands.Resume r.of.is in
       absurd (let z : ⊥ = other c.0 c.1 in z)

@@ -1,5 +1,5 @@
 -- The image that a call prints is read among the lines before it and behind it.
-use Rattle.std.specs.Prelude.{◌≡◌, ◌≢◌, ◌≤◌, ℕ, true, List, [], ◌∷◌, ◌++◌, length, Option, Result, Ok}
+use Rattle.std.specs.Prelude.{◌≡◌, ◌≢◌, ◌≤◌, ℕ, true, List, [], ◌∷◌, ◌++◌, length, Option, Some, Result, Ok}
 use Rattle.std.specs.List.{flat_map, AllByRecursion}
 use Rattle.b67_io.specs.Line.{ended}
 use Rattle.b67_model.specs.Common.{RunLine, run_text}
@@ -46,3 +46,12 @@ abbrev pub ImagesOfRunsAreRead : Type 0
 ImagesOfRunsAreRead =
     (sectors : Option ℕ) (printed : List RunLine) (count : ℕ) (m : Machine) → ArePartsWithin (parts_of m) → is_wanted sectors (length (parts_of m).links) ≡ true → length (text_of_halt printed m count) ≤ limit
     → IsReadIn sectors (text_of_halt printed m count) m
+
+-- Read over a device of so many sectors, a text tells the parts of the machine that a call has left, and no answer to it is a
+-- refusal.
+pub record IsReadBack (sectors : ℕ) (text : List ℕ) (machine : Option Machine) : Type 0 where
+  pub m : Machine
+  pub is : machine ≡ Some m
+  pub card : ℕ
+  pub told : told_in (Some sectors) text ≡ Ok (card, parts_of m)
+  pub taken : (result : Result Machine ImageFault) → IsMeant result (told_in (Some sectors) text) → IsReadAs m result

@@ -16,7 +16,7 @@ use b67_job::{Outcome, run};
 use std::alloc::Global;
 
 /// Looks at each number of the machine that a call has left, if it left one: its type bounds it. Changes nothing.
-fn outcome_is_typed(outcome: &Outcome)
+pub(crate) fn outcome_is_typed(outcome: &Outcome)
     ensures { (k : Machine) → outcome.now.machine ≡ Some k → AreTyped (parts_of k) }
 {
     if let Some(machine) = &outcome.machine {

@@ -4,7 +4,7 @@ use Rattle.b67_backing.specs.Shelf.{Table}
 use Rattle.b67_io.specs.Causes.{Rose}
 use Rattle.b67_task_tables.specs.declared.tables.Tasks.{Tasks}
 use Rattle.b67_task_tables.specs.declared.tables.Machine.{Machine}
-use Rattle.b67_task_tables.specs.Tables.{row_names}
+use Rattle.b67_task_tables.specs.Tables.{given_of}
 use Rattle.b67_session.specs.AttemptPassed.{CallCauses}
 use Rattle.b67_session.specs.AttemptStops.{Stop}
 use Rattle.b67_session.specs.AttemptStops as stops
@@ -23,6 +23,5 @@ pub turn_keeps : (old mid new : Machine) (row : ℕ) → mid.tasks ≡ record ol
 turn_keeps old mid new row tables core sectors k = record {
   core = k.core ∙ core;
   sectors = k.sectors ∙ ap (λ (z : Table). length z.links) sectors;
-  halt = k.halt ∙ ap (λ (z : Tasks). z.halt) tables;
-  names = k.names ∙ ap (λ (z : Tasks). row_names z.jobs) tables;
+  given = k.given ∙ ap given_of tables;
 }

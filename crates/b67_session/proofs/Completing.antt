@@ -11,6 +11,7 @@ use Rattle.b67_session.specs.AttemptPassed.{CallCauses}
 use Rattle.b67_session.specs.AttemptStops.{Stop}
 use Rattle.b67_session.specs.AttemptStops as stops
 use Rattle.b67_session.specs.declared.slices.Progress.{Progress}
+use Rattle.b67_task_tables.proofs.Keeping.{halt_kept}
 use Rattle.b67_session.specs.Slices.{StandsAt, IsLimited, Keeps, StepsReach, in_whole_steps, but_limit, StopsBefore, SliceMeets, Slices, Resumes}
 use Rattle.b67_session.specs.Complete.{SetsOut, at_once, after_limit, IsToMake, Suffices}
 use Rattle.b67_session.proofs.Fitting.{below}
@@ -64,10 +65,10 @@ module _ {D K : Type 0} (holds : D → Option (List (List ℕ))) (taken : K → 
   pub goes_through_limit : Resumes holds taken said said' count n h part answered old new device device' paper paper' → said ≢ None → Keeps old new → Suffices (length old.cpu.core) count n old.tasks part.session → NoFault answered → IsOk answered
   goes_through_limit (inl cut) tells keeps ample calm = absurd (calm.1 cut.answer)
   goes_through_limit (inr g) tells keeps ample calm =
-      goes_through taken said' (said ≢ None) count n part.session answered g.middle new g.printer paper' g.slices tells (keeps.halt ∙ sym g.keeps.halt) still calm
+      goes_through taken said' (said ≢ None) count n part.session answered g.middle new g.printer paper' g.slices tells (halt_kept old new keeps ∙ sym (halt_kept old g.middle g.keeps)) still calm
     where
       due : (steps : ℕ) → IsToMake n g.middle.tasks steps → IsToMake n old.tasks steps
-      due steps d = record { few = d.few; before_halt = λ j low e. d.before_halt j low (g.keeps.halt ∙ e ∙ ap (λ (made : ℕ). Some (made + j)) (sym g.made)) }
+      due steps d = record { few = d.few; before_halt = λ j low e. d.before_halt j low (halt_kept old g.middle g.keeps ∙ e ∙ ap (λ (made : ℕ). Some (made + j)) (sym g.made)) }
 
       still : Suffices (length g.middle.cpu.core) count n g.middle.tasks part.session
       still = record {
@@ -82,7 +83,7 @@ pub completes : {D K : Type 0} (holds : D → Option (List (List ℕ))) (taken :
     → ((h : Session) (part : StepResult) → IsLimited said old h part → Resumes holds taken said said' count n h part answered old new device device' paper paper')
     → Keeps old new → said ≢ None → (s : Session) → SetsOut said old s → Suffices (length old.cpu.core) count n old.tasks s → NoFault answered → IsOk answered
 completes holds taken said said' count n answered old new device device' paper paper' row resumed keeps tells s (at_once stands) ample calm =
-    goes_through taken said' (said ≢ None) count n s answered old new paper paper' (row s stands) tells keeps.halt ample calm
+    goes_through taken said' (said ≢ None) count n s answered old new paper paper' (row s stands) tells (halt_kept old new keeps) ample calm
 completes holds taken said said' count n answered old new device device' paper paper' row resumed keeps tells s (after_limit h part l e) ample calm =
     goes_through_limit holds taken said said' count n h part answered old new device device' paper paper' (resumed h part l) tells keeps
     (subst (Suffices (length old.cpu.core) count n old.tasks) (sym e) ample) calm

@@ -12,7 +12,7 @@ use Rattle.b67_stack.specs.Represents.{Storage}
 use Rattle.b67_layout.proofs.Fresh.{running_in_order}
 use Rattle.b67_task_tables.specs.declared.tables.Machine.{Machine}
 use Rattle.b67_task_tables.specs.declared.tables.Tasks.{Tasks}
-use Rattle.b67_task_tables.specs.Tables.{TasksShow, task_row, job_row, counts_of, MachineRepresents, row_names}
+use Rattle.b67_task_tables.specs.Tables.{TasksShow, task_row, job_row, counts_of, MachineRepresents, given_of}
 use Rattle.b67_task_release.specs.Left.{IsLeft, AreReleased}
 use Rattle.b67_task_tables.specs.Runs.{RunsTask, Keeps}
 use Rattle.b67_session.specs.Makes.{OperatorMade, MakesInSegment}
@@ -129,7 +129,7 @@ module _ (old : Machine) (new : Cpu) (answered : Step) (left : Bool) (rows : Row
   kept_after r after areas tasks count released =
       let (left, x, told, plan, s, is, b) = asks r in
       let g = released left x told plan s is b in
-      record { core = sym g.beside.size ∙ ap (λ (a : Areas). a.size) areas ∙ r.stands.storage.size; sectors = count; halt = ap (λ (k : Tasks). k.halt) tasks; names = ap (λ (k : Tasks). row_names k.jobs) tasks }
+      record { core = sym g.beside.size ∙ ap (λ (a : Areas). a.size) areas ∙ r.stands.storage.size; sectors = count; given = ap given_of tasks }
 
   -- what is made
   pub gives : (after : Machine) → after.areas ≡ old.areas → after.tasks ≡ old.tasks → GivesBack old new after → (x : Storage) (told : Option (List (List ℕ))) (plan : Placement) (s : Session) (m : SessionJob) (t : Task) → IsInOrderButCounts s

@@ -24,6 +24,7 @@ use Rattle.b67_session.specs.declared.slices.Progress.{Progress}
 use Rattle.b67_session.specs.declared.slices.Progress.TheVariants as progress
 use Rattle.b67_session.specs.Attempts.{IsNotFull}
 use Rattle.b67_session.proofs.Tells.{tells_weaker}
+use Rattle.b67_task_tables.proofs.Keeping.{keeps_then, halt_kept}
 use Rattle.b67_session.specs.Slices.{StandsAt, LivesOn, RepresentsWithoutTasks, Keeps, StepsReach, in_whole_steps, but_limit, Prints, PrintsWhole, NextFits, StepsFit, StopsWithRoom, IfPresent, StopsBefore, SliceMeets, Slices}
 use Rattle.b67_session.specs.Steps.{StepGives, StepLeads, stays, makes, halves, Steps, GoesOnInTurn}
 use Rattle.b67_session.proofs.Printing.{prints_none, prints_then, prints_before}
@@ -209,7 +210,7 @@ module _ {K : Type 0} (taken : K → Option (List ℕ)) (exact : Type 0) (said :
   -- one step more was tried: the halt wasn't reached
   module _ (said' : Option (List (List ℕ))) (up : exact → said ≢ None) (new : Machine) (paper'' : K) (keeps : Keeps old now) (halt : now.tasks.halt ≢ Some now.tasks.made) where
     below_more : (more : ℕ) → more ≤ 1 → (j : ℕ) → j < steps + more → old.tasks.halt ≢ Some (old.tasks.made + j)
-    below_more more few = below_then old.tasks.halt now.tasks.halt old.tasks.made now.tasks.made steps more keeps.halt g.made few halt g.below
+    below_more more few = below_then old.tasks.halt now.tasks.halt old.tasks.made now.tasks.made steps more (halt_kept old now keeps) g.made few halt g.below
 
     pub going-steps : Steps taken said' (said ≢ None) count g.session (Ok tt) now new paper' paper'' → Going taken exact said' (steps + 1) first old new paper paper''
     going-steps s =
@@ -260,7 +261,7 @@ module _ {K : Type 0} (taken : K → Option (List ℕ)) (exact : Type 0) (said :
 
 -- two parts keep what each does
 pub keeps_on : (old mid new : Machine) → Keeps old mid → Keeps mid new → Keeps old new
-keeps_on old mid new a b = record { core = b.core ∙ a.core; sectors = b.sectors ∙ a.sectors; halt = b.halt ∙ a.halt; names = b.names ∙ a.names }
+keeps_on = keeps_then
 
 -- so many steps of a turn follow, which print nothing
 pub going-turn : {K : Type 0} (taken : K → Option (List ℕ)) (exact : Type 0) (told : Option (List (List ℕ))) (steps more total : ℕ) (first : Session) (old now new : Machine) (paper paper' : K) (g : Going taken exact told steps first old now paper paper')
@@ -275,7 +276,7 @@ going-turn {K} taken exact told steps more total first old now new paper paper' 
       below = λ j low. elim (cases_lt j steps) [
         | inl before ↦ g.below j before
         | inr up ↦ λ at.
-            t.below (j - steps) (omega (arith, low, up)) (keeps.halt ∙ at ∙ ap (λ (n : ℕ). Some n) (omega (arith, g.made, up)))
+            t.below (j - steps) (omega (arith, low, up)) (halt_kept old now keeps ∙ at ∙ ap (λ (n : ℕ). Some n) (omega (arith, g.made, up)))
       ];
       fits = λ tells k low. elim (cases_lt k steps) [
         | inl before ↦ g.fits tells k before

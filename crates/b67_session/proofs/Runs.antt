@@ -3,13 +3,12 @@ use Rattle.std.proofs.Common.{◌≡◌, ◌≢◌, ℕ, ◌≤◌, List, length
 use Rattle.b67_io.specs.Causes.{Rose}
 use Rattle.b67_mcp.specs.declared.ends.Stop.{Stop}
 use Rattle.b67_mcp.specs.declared.ends.Stop.TheVariants.{BackingFault, PrintFault}
-use Rattle.b67_mcp.specs.Called.{AreCountable}
 use Rattle.b67_mcp.specs.Running.{CallCauses}
-use Rattle.b67_task_tables.specs.Runs.{Keeps, Kept}
-pub use Rattle.b67_task_tables.proofs.Keeping.{kept_then}
+use Rattle.b67_task_tables.specs.Runs.{Keeps}
+pub use Rattle.b67_task_tables.proofs.Keeping.{keeps_then}
 use Rattle.b67_task_tables.specs.declared.tables.Machine.{Machine}
 use Rattle.b67_task_tables.specs.declared.tables.Tasks.{Tasks}
-use Rattle.b67_task_tables.specs.Tables.{row_names}
+use Rattle.b67_task_tables.specs.Tables.{given_of}
 use Rattle.b67_session.specs.Tries.{ReadyRuns}
 use Rattle.b67_session.specs.Attempts.{RunsOver}
 
@@ -62,7 +61,4 @@ caused_later failed unprinted old mid new paper first paper' answered a b h = re
 
 -- what a call keeps that leaves the tables
 pub keeps_tasks : (old new : Machine) → new.tasks ≡ old.tasks → length new.cpu.core ≡ length old.cpu.core → length new.sectors.links ≡ length old.sectors.links → Keeps old new
-keeps_tasks old new tasks core sectors = record { core = core; sectors = sectors; halt = ap (λ (z : Tasks). z.halt) tasks; names = ap (λ (z : Tasks). row_names z.jobs) tasks }
-
-pub kept_tasks : (old new : Machine) → new.tasks ≡ old.tasks → Keeps old new → Kept old new
-kept_tasks old new tasks keeps = record { countable = λ few. subst (λ (z : Tasks). AreCountable z.jobs) (sym tasks) few; keeps = keeps }
+keeps_tasks old new tasks core sectors = record { core = core; sectors = sectors; given = ap given_of tasks }

@@ -6,7 +6,7 @@ ghost use Rattle.b67_model.specs.State.{Task, SessionJob};
 ghost use Rattle.b67_model.specs.Schedule.{Session};
 ghost use Rattle.b67_io.specs.Causes.{Stayed};
 ghost use Rattle.b67_layout_storage.specs.Machine.{Says, DeviceAfterCalls, content_after};
-ghost use Rattle.b67_session.specs.AttemptPassed.{CallCauses, Kept};
+ghost use Rattle.b67_session.specs.AttemptPassed.{CallCauses, Keeps};
 ghost use Rattle.b67_model.specs.Run.{StepResult};
 ghost use Rattle.b67_law_sessions.specs.Turns.{IsNext};
 ghost use Rattle.b67_session.specs.Complete.{SetsOut, Suffices};
@@ -60,7 +60,7 @@ fn go_on<B: Backing, K: Sink>(
     ensures ended { (told : Option (List (List ℕ))) (s : Session) → RepresentsWithoutTasks told machine.old s
         → StaysEnded result machine.old machine.new backing.old backing.new paper.old paper.new }
     ensures causes { CallCauses B.faults K.faults backing.old backing.new paper.old paper.new result }
-    ensures kept { Kept machine.old machine.new }
+    ensures kept { Keeps machine.old machine.new }
     ensures device { DeviceAfterCalls B.holds B.size B.calls B.faults backing.old backing.new }
 {
     let mut made = 0;

@@ -13,7 +13,7 @@ ghost use Rattle.b67_task_tables.specs.Runs.{Keeps};
 ghost use Rattle.b67_task_tables.specs.Tables.{MachineRepresents};
 ghost use Rattle.b67_session_ends.specs.Ends.{StandsBetween};
 ghost use Rattle.b67_session.specs.AttemptStops as stops;
-ghost use Rattle.b67_session.specs.AttemptPassed.{CallCauses, Kept};
+ghost use Rattle.b67_session.specs.AttemptPassed.{CallCauses};
 ghost use Rattle.b67_session.specs.Slices.{IsStepDue, StandsAt, IfPresent};
 ghost use Rattle.b67_session.specs.Steps.{EndsStep, Steps};
 
@@ -61,7 +61,7 @@ pub(crate) fn step<B: Backing, K: Sink>(
     ensures present { (said : Option (List (List ℕ))) (s : Session) (m : SessionJob) (t : Task) → Says said (B.holds backing.old) → (h : StandsAt said machine.old s) → IsNext s m t
         → IfPresent B.holds (said ≢ None) (length machine.old.cpu.core) 1 h.storage h.plan s m t result machine.old machine.new backing.old backing.new }
     ensures causes { CallCauses B.faults K.faults backing.old backing.new paper.old paper.new result }
-    ensures kept { Kept machine.old machine.new }
+    ensures kept { Keeps machine.old machine.new }
     ensures device { DeviceAfterCalls B.holds B.size B.calls B.faults backing.old backing.new }
 {
     let chosen = match choose(&machine.tasks) {

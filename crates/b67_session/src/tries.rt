@@ -3,7 +3,6 @@
 ghost use Rattle.std.specs.Prelude.{◌≡◌, ◌+◌, length};
 ghost use Rattle.b67_layout_storage.specs.Machine.{DeviceAfterCalls};
 ghost use Rattle.b67_task_tables.specs.Runs.{Keeps};
-ghost use Rattle.b67_mcp.specs.Called.{AreCountable};
 ghost use Rattle.b67_mcp.specs.Running.{JobsHaveRoom, CallCauses};
 ghost use Rattle.b67_session.specs.Makes.{ForEachReady};
 ghost use Rattle.b67_session.specs.Tries.{ReadyRuns, TryRow};
@@ -46,7 +45,6 @@ pub fn try_once<B: Backing, K: Sink>(
     ensures tried { ForEachReady machine.old (λ x told plan s m t.
         TryRow B.holds K.taken (B.size backing.old) x told plan s m t result machine.old machine.new backing.old backing.new paper.old paper.new) }
     ensures causes { CallCauses B.faults K.faults backing.old backing.new paper.old paper.new result }
-    ensures countable { AreCountable machine.new.tasks.jobs }
     ensures keeps { Keeps machine.old machine.new }
     ensures device { DeviceAfterCalls B.holds B.size B.calls B.faults backing.old backing.new }
 {

@@ -11,7 +11,6 @@ ghost use Rattle.b67_task_tables.specs.declared.tables.TaskRow.{TaskRow};
 ghost use Rattle.b67_task_tables.specs.Tables.{MachineRepresents};
 ghost use Rattle.b67_task_switch.specs.Standing.{HasRow};
 ghost use Rattle.b67_task_switch.specs.Lasting.{TurnLasts};
-ghost use Rattle.b67_session.specs.AttemptPassed.{AreCountable};
 ghost use Rattle.b67_session.specs.Slices.{StandsAt, Keeps};
 ghost use Rattle.b67_session.specs.Steps.{IsInOrderFor, GoesOnInTurn};
 ghost use Rattle.b67_session.specs.InTurn.{TurnBegins, HasTurnLeft, TurnGoesOn, MadeInTurn};
@@ -131,7 +130,6 @@ pub(crate) fn go_on_with_turn(machine: &mut Machine, most: u64) -> u64
     ensures few { result ≤ most }
     ensures rests { most ≡ 0 → machine.new ≡ machine.old }
     ensures row { (said : Option (List (List ℕ))) (s : Session) → StandsAt said machine.old s → GoesOnInTurn said result s machine.old machine.new }
-    ensures countable { AreCountable machine.old.tasks.jobs → AreCountable machine.new.tasks.jobs }
     ensures keeps { Keeps machine.old machine.new }
 {
     let room = turn_room(&machine.tasks, most);

@@ -19,12 +19,12 @@ use Rattle.b67_layout.proofs.Sessions.{course_twice}
 use Rattle.b67_layout.proofs.Weaker.{but_counts}
 use Rattle.b67_task_tables.specs.declared.tables.Tasks.{Tasks}
 use Rattle.b67_task_tables.specs.declared.tables.Machine.{Machine}
-use Rattle.b67_task_tables.specs.Tables.{MachineRepresents, AreCountable, row_names}
+use Rattle.b67_task_tables.specs.Tables.{MachineRepresents, given_of}
 use Rattle.b67_task_end.specs.declared.families.EndedTask.{EndedTask}
 use Rattle.b67_task_end.specs.Family.{TablesHold, HasSomeRow, HasSomeHead, pair_of, endings_of}
 use Rattle.b67_task_switch.specs.declared.counting.Chosen.{Chosen}
 use Rattle.b67_task_switch.specs.Counted.{choice_of, CountsHaveRoom}
-use Rattle.b67_task_tables.specs.Runs.{Keeps, Kept}
+use Rattle.b67_task_tables.specs.Runs.{Keeps}
 use Rattle.b67_session_ends.specs.Closing.{HasJobOf, StandsChosen}
 use Rattle.b67_session_ends.specs.Counts.{IsCounted}
 use Rattle.b67_session_ends.specs.Ends.{StandsForSession, StandsInPlace, LeavesInPlace, IsFamilyOf, EndsFamily}
@@ -187,19 +187,11 @@ module _ (x : Storage) (told : Option (List (List ℕ))) (k : Machine) (plan : P
 
 -- by tables of which the rows, the one that runs and how much is printed are others
 pub keeps_rows : (old new : Machine) (printed : ℕ) → new.tasks ≡ record old.tasks { rows = new.tasks.rows; running = new.tasks.running; printed = printed } → length new.cpu.core ≡ length old.cpu.core → length new.sectors.links ≡ length old.sectors.links → Keeps old new
-keeps_rows old new printed same core sectors = record { core = core; sectors = sectors; halt = ap (λ (z : Tasks). z.halt) same; names = ap (λ (z : Tasks). row_names z.jobs) same }
+keeps_rows old new printed same core sectors = record { core = core; sectors = sectors; given = ap given_of same }
 
 pub keeps_close : (c : Chosen) (old last : Machine) (counts : Tasks) (printed : ℕ) → last.tasks ≡ record old.tasks { rows = last.tasks.rows; running = last.tasks.running; printed = printed } → IsCounted c last.tasks counts
-    → length last.cpu.core ≡ length old.cpu.core → length last.sectors.links ≡ length old.sectors.links → Kept old (record last { tasks = counts })
-keeps_close c old last counts printed same counted core sectors = record {
-  countable = λ all. counted.countable (subst (λ (z : Tasks). AreCountable z.jobs) (sym same) all);
-  keeps = record {
-    core = core;
-    sectors = sectors;
-    halt = counted.halt ∙ ap (λ (z : Tasks). z.halt) same;
-    names = counted.names ∙ ap (λ (z : Tasks). row_names z.jobs) same;
-  };
-}
+    → length last.cpu.core ≡ length old.cpu.core → length last.sectors.links ≡ length old.sectors.links → Keeps old (record last { tasks = counts })
+keeps_close c old last counts printed same counted core sectors = record { core = core; sectors = sectors; given = counted.given ∙ ap given_of same }
 
-pub keeps_cut : (old : Machine) (printed : ℕ) → Kept old (record old { tasks = record old.tasks { printed = printed } })
-keeps_cut old printed = record { countable = λ all. all; keeps = record { core = refl; sectors = refl; halt = refl; names = refl } }
+pub keeps_cut : (old : Machine) (printed : ℕ) → Keeps old (record old { tasks = record old.tasks { printed = printed } })
+keeps_cut old printed = record { core = refl; sectors = refl; given = refl }

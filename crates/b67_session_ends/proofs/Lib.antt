@@ -1,6 +1,5 @@
 pub mod Endings
 pub mod AtLimits
-pub mod Counting
 pub mod Counted
 pub mod InPlace
 pub mod Ended

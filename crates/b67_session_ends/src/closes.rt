@@ -13,7 +13,7 @@ ghost use Rattle.b67_layout.specs.Placement.{Placement};
 ghost use Rattle.b67_law_sessions.specs.Turns.{part_of};
 ghost use Rattle.b67_task_tables.specs.Tables.{MachineRepresents};
 ghost use Rattle.b67_task_switch.specs.Counted.{choice_of, CountsHaveRoom};
-ghost use Rattle.b67_task_tables.specs.Runs.{Kept};
+ghost use Rattle.b67_task_tables.specs.Runs.{Keeps};
 ghost use Rattle.b67_session_ends.specs.Closing.{HasJobOf, StandsChosen, ChoseSome, Closes};
 ghost use Rattle.b67_session_ends.specs.Ends.{StandsInPlace};
 
@@ -61,7 +61,7 @@ pub fn close<K: Sink>(
     ensures closes { (x : Storage) (told : Option (List (List ℕ))) (plan : Placement) (s : Session) (m : SessionJob) (t : Task) → StandsChosen x told machine.old plan s m t chosen
         → Closes K.taken x told plan s (part_of s (choice_of chosen) m t (ends_with m.progress.job t.number ending)) result machine.old machine.new paper.old paper.new }
     ensures cause { HasCause K.faults paper.old paper.new result }
-    ensures keeps { Kept machine.old machine.new }
+    ensures keeps { Keeps machine.old machine.new }
 {
     let dead = endings(&machine.tasks, chosen.row, ending);
     let all = with_stuck(&machine.tasks, chosen.job, dead.as_slice());

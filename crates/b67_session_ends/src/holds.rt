@@ -8,7 +8,7 @@ ghost use Rattle.b67_stack.specs.Represents.{Storage};
 ghost use Rattle.b67_layout.specs.Placement.{Placement};
 ghost use Rattle.b67_law_sessions.specs.Turns.{part_of};
 ghost use Rattle.b67_task_switch.specs.Counted.{choice_of, CountsHaveRoom};
-ghost use Rattle.b67_task_tables.specs.Runs.{Kept};
+ghost use Rattle.b67_task_tables.specs.Runs.{Keeps};
 ghost use Rattle.b67_session_ends.specs.Closing.{StandsChosen, Closes};
 ghost use Rattle.b67_session_ends.specs.Holds.{waiting_step, HoldsSo, HoldsSome};
 
@@ -35,7 +35,7 @@ pub fn make_wait<K: Sink>(
     ensures holds { (x : Storage) (told : Option (List (List ℕ))) (plan : Placement) (s : Session) (m : SessionJob) (t : Task) (condition : Condition) → StandsChosen x told machine.old plan s m t chosen
         → HoldsSo plan m t state condition → Closes K.taken x told plan s (part_of s (choice_of chosen) m t (waiting_step m.progress.job t condition)) result machine.old machine.new paper.old paper.new }
     ensures cause { HasCause K.faults paper.old paper.new result }
-    ensures keeps { Kept machine.old machine.new }
+    ensures keeps { Keeps machine.old machine.new }
 {
     let before = set_state(&mut machine.tasks, chosen.row, state);
     let ended = stuck(&machine.tasks, chosen.job);

@@ -21,8 +21,8 @@ use Rattle.b67_session_open.specs.Tables.{first_row, first_rows, opening_rows, o
 use Rattle.b67_session_open.proofs.InitialTables.{tables_show}
 use Rattle.b67_task_tables.specs.declared.tables.JobRow as kept
 use Rattle.b67_task_tables.specs.declared.tables.TaskRow as task
-use Rattle.b67_task_tables.specs.Tables.{switch_of, task_row}
-use Rattle.b67_session_open.specs.Decks.{openings_of, session_of, JobInRange, DeckInRange, IsLoaded, IsCountable}
+use Rattle.b67_task_tables.specs.Tables.{switch_of, task_row, JobGiven, Given}
+use Rattle.b67_session_open.specs.Decks.{openings_of, session_of, jobs_given, deck_given, rows_given, JobInRange, DeckInRange, IsLoaded, IsCountable}
 
 bits_fit : (tag : ℕ) (ws : List Tagged) → AllByRecursion (HasTag tag) ws → AllByRecursion (λ (n : ℕ). n < 2 ^ 48) (contents ws)
 bits_fit tag [] h = tt
@@ -88,6 +88,13 @@ tables_given d ps rows jobs switches range each is_rows is_jobs is_switches =
     subst (λ (ws : List text.Switch). TablesShow (opening_plan d.stack ps) (session_of d ps) rows jobs (opening_counts d.quantum (map switch_of ws))) (sym is_switches)
     (subst (λ (r : List TaskRow). TablesShow (opening_plan d.stack ps) (session_of d ps) r jobs (opening_counts d.quantum (map switch_of d.switches))) (sym is_rows)
     (subst (λ (r : List JobRow). TablesShow (opening_plan d.stack ps) (session_of d ps) (first_rows 0 ps) r (opening_counts d.quantum (map switch_of d.switches))) (sym is_jobs) same))
+
+-- what tables have that take it over from a deck
+pub tables_have : (d : Deck) (ws : List text.Switch) (rows : List kept.JobRow) → ws ≡ d.switches → rows_given rows ≡ jobs_given d.jobs
+    → ◌≡◌ {A = Given} (record { halt = d.halt; quantum = d.quantum; switches = ws; jobs = rows_given rows }) (deck_given d)
+tables_have d ws rows switches jobs =
+    ap (λ (l : List text.Switch). record (deck_given d) { switches = l; jobs = rows_given rows }) switches
+    ∙ ap (λ (js : List JobGiven). record (deck_given d) { jobs = js }) jobs
 
 -- each row can be counted
 pub each_countable : (rows : List kept.JobRow) → AllByRecursion IsCountable rows → (r : kept.JobRow) → Has rows r → IsCountable r

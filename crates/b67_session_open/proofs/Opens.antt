@@ -14,7 +14,7 @@ use Rattle.b67_session_open.specs.InitialOpens.{Opens}
 use Rattle.b67_task_tables.specs.declared.tables.JobRow.{JobRow}
 use Rattle.b67_task_tables.specs.declared.tables.Machine.{Machine}
 use Rattle.b67_task_tables.specs.Tables.{switch_of, TasksShow}
-use Rattle.b67_session_open.specs.Decks.{openings_of, session_of, job_names, row_names, DeckInRange, IsLoaded, IsCountable}
+use Rattle.b67_session_open.specs.Decks.{openings_of, session_of, deck_given, given_of, DeckInRange, IsLoaded, IsCountable}
 use Rattle.b67_session_open.specs.Opens.{OpensAs}
 use Rattle.b67_session_open.proofs.Decks.{deck_within, programs_back}
 
@@ -29,17 +29,16 @@ free_are t n is = is.count ∙ length-row 1 n
 pub machine_opens : (d : Deck) (fs : List Codefile) (told : Option (List (List ℕ))) (x : Storage) (k : Machine) (core sectors : ℕ) → DeckInRange d → length fs ≡ length d.jobs → AllByRecursion IsLoaded fs
     → Opens k.areas k.sectors told x k.cpu d.stack (map program_of fs)
     → TasksShow (opening_plan d.stack (map program_of fs)) (session_of d (map program_of fs)) k.tasks
-    → row_names k.tasks.jobs ≡ job_names d.jobs → k.tasks.halt ≡ d.halt → k.tasks.printed ≡ 0 → length k.cpu.core ≡ core
+    → given_of k.tasks ≡ deck_given d → k.tasks.printed ≡ 0 → length k.cpu.core ≡ core
     → length k.sectors.links ≡ sectors + 1 → ((r : JobRow) → Has k.tasks.jobs r → IsCountable r) → OpensAs told d (map program_of fs) core sectors k
-machine_opens d fs told x k core sectors range each loaded opens shows names halt printed len links countable = record {
+machine_opens d fs told x k core sectors range each loaded opens shows given printed len links countable = record {
   storage = x;
   stands = record {
     session = opens.session d.quantum (map switch_of d.switches) (openings_of d.jobs (map program_of fs)) (programs_are d fs each) (deck_within d fs range loaded);
     storage = opens.storage;
     tables = shows;
   };
-  names = names;
-  halt = halt;
+  given = given;
   printed = printed;
   core_size = len;
   sized = links;

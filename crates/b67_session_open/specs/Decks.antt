@@ -10,8 +10,8 @@ use Rattle.b67_codefile.specs.Meaning.{program_of}
 use Rattle.b67_model.specs.Common.{IsAdmitted, Program, Session, SwitchesRise}
 use Rattle.b67_law_order.specs.Opening.{Opening, opening}
 use Rattle.b67_task_tables.specs.declared.tables.JobRow.{JobRow}
-use Rattle.b67_task_tables.specs.Tables.{switch_of}
-pub use Rattle.b67_task_tables.specs.Tables.{IsCountable, row_names}
+use Rattle.b67_task_tables.specs.Tables.{switch_of, JobGiven, Given}
+pub use Rattle.b67_task_tables.specs.Tables.{IsCountable, job_given, rows_given, given_of}
 
 -- a job with its program
 abbrev pub opening_of : Job → Program → Opening
@@ -41,9 +41,15 @@ pub record DeckInRange (d : Deck) : Type 0 where
   pub few : length d.jobs ≤ 8
   pub each : AllByRecursion JobInRange d.jobs
 
--- the names of jobs
-abbrev pub job_names : List Job → List (List ℕ)
-job_names jobs = map (λ (j : Job). j.name) jobs
+-- what a deck gives its jobs, and its machine
+abbrev pub given_to : Job → JobGiven
+given_to j = record { name = j.name; limit = j.limit; numbers = j.numbers }
+
+abbrev pub jobs_given : List Job → List JobGiven
+jobs_given jobs = map given_to jobs
+
+abbrev pub deck_given : Deck → Given
+deck_given d = record { halt = d.halt; quantum = d.quantum; switches = d.switches; jobs = jobs_given d.jobs }
 
 -- a file as the loader admits it
 pub record IsLoaded (f : Codefile) : Type 0 where

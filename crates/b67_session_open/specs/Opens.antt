@@ -12,7 +12,7 @@ use Rattle.b67_task_tables.specs.declared.tables.Machine.{Machine}
 use Rattle.b67_task_tables.specs.Tables.{MachineRepresents}
 use Rattle.b67_session_open.specs.declared.fault.OpenFault.{OpenFault}
 use Rattle.b67_session_open.specs.declared.fault.OpenFault.TheVariants.{Memory, NoCore, BackingFull, BackingFault}
-use Rattle.b67_session_open.specs.Decks.{session_of, job_names, row_names, IsCountable}
+use Rattle.b67_session_open.specs.Decks.{session_of, deck_given, given_of, IsCountable}
 
 -- the opening's need of core, and the sectors of its programs
 abbrev pub need_of : Deck → List Program → ℕ
@@ -22,12 +22,11 @@ abbrev pub sectors_of_all : Deck → List Program → ℕ
 sectors_of_all d ps = sectors (session_of d ps).jobs
 
 -- the machine represents the opening state of a deck's session, in a core of so many words over a device of so many sectors,
--- of which this is known. A slice of steps may be called on it
+-- and has what the deck gives. A slice of steps may be called on it
 pub record OpensAs (told : Option (List (List ℕ))) (d : Deck) (ps : List Program) (core sectors : ℕ) (k : Machine) : Type 0 where
   pub storage : Storage
   pub stands : MachineRepresents storage told k (opening_plan d.stack ps) (session_of d ps)
-  pub names : row_names k.tasks.jobs ≡ job_names d.jobs
-  pub halt : k.tasks.halt ≡ d.halt
+  pub given : given_of k.tasks ≡ deck_given d
   pub printed : k.tasks.printed ≡ 0
   pub core_size : length k.cpu.core ≡ core
   pub sized : length k.sectors.links ≡ sectors + 1

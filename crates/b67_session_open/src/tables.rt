@@ -6,7 +6,7 @@ ghost use Rattle.b67_codefile.specs.Meaning.{program_of};
 ghost use Rattle.b67_session_open.specs.Opened.{opening_plan};
 ghost use Rattle.b67_session_open.specs.Tables.{first_row as first_row_of, first_rows as first_rows_of, opening_row as opening_row_of, opening_rows as opening_rows_of};
 ghost use Rattle.b67_task_tables.specs.Tables.{task_row, job_row, TasksShow};
-ghost use Rattle.b67_session_open.specs.Decks.{opening_of, openings_of, session_of, job_names, row_names, JobInRange, DeckInRange, IsLoaded, IsCountable};
+ghost use Rattle.b67_session_open.specs.Decks.{opening_of, openings_of, session_of, given_to, jobs_given, deck_given, job_given, rows_given, given_of, JobInRange, DeckInRange, IsLoaded, IsCountable};
 
 use crate::copies::{copied_name, copied_numbers, copied_switches};
 use crate::dictionaries::dictionary_words;
@@ -27,7 +27,7 @@ fn opening_row(
 ) -> Result<JobRow, AllocError>
     requires range { JobInRange job.now }
     ensures row { IfOk result (λ r. job_row r ≡ opening_row_of dict (opening_of job.now (program_of program.now))) }
-    ensures name { IfOk result (λ r. r.name ≡ job.now.name) }
+    ensures given { IfOk result (λ r. job_given r ≡ given_to job.now) }
     ensures countable { IfOk result IsCountable }
     ensures loaded { IsLoaded program.now }
 {
@@ -52,7 +52,7 @@ fn opening_rows(alloc: Global, jobs: &[Job], programs: &[Admitted]) -> Result<Jo
     requires few { length jobs.now ≤ 8 }
     requires each { length programs.now ≡ length jobs.now }
     ensures rows { IfOk result (λ rows. map job_row rows ≡ opening_rows_of FIRST_DICTIONARY (openings_of jobs.now (map program_of programs.now))) }
-    ensures names { IfOk result (λ rows. row_names rows ≡ job_names jobs.now) }
+    ensures given { IfOk result (λ rows. rows_given rows ≡ jobs_given jobs.now) }
     ensures countable { IfOk result (AllByRecursion IsCountable) }
     ensures loaded { OnOk result (AllByRecursion IsLoaded programs.now) }
 {
@@ -104,9 +104,8 @@ pub fn opening_tasks(alloc: Global, deck: &Deck, programs: &[Admitted]) -> Resul
     requires range { DeckInRange deck.now }
     requires each { length programs.now ≡ length deck.now.jobs }
     ensures shows { IfOk result (λ t. TasksShow (opening_plan deck.now.stack (map program_of programs.now)) (session_of deck.now (map program_of programs.now)) t) }
-    ensures names { IfOk result (λ t. row_names t.jobs ≡ job_names deck.now.jobs) }
+    ensures given { IfOk result (λ t. given_of t ≡ deck_given deck.now) }
     ensures loaded { OnOk result (AllByRecursion IsLoaded programs.now) }
-    ensures halt { IfOk result (λ t. t.halt ≡ deck.now.halt) }
     ensures printed { IfOk result (λ t. t.printed ≡ 0) }
     ensures countable { IfOk result (λ t. AllByRecursion IsCountable t.jobs) }
 {

@@ -4,9 +4,7 @@ use Rattle.std.specs.List.{slice_get}
 use Rattle.b67_area.specs.declared.Areas.{Areas}
 use Rattle.b67_ctl.specs.Layout.{IsPcw, pcw_word}
 use Rattle.b67_ctl.specs.declared.programs.Pcw.{Pcw}
-use Rattle.b67_lemmas.specs.Lists.{Has}
-use Rattle.b67_lemmas.proofs.Members.{has_get, keyed_has}
-use Rattle.b67_lemmas.proofs.Places.{map-slice_set, put_back, at_mapped}
+use Rattle.b67_lemmas.proofs.Members.{keyed_has}
 use Rattle.b67_model.specs.Run as Run
 use Rattle.b67_model.specs.Common.{Session, Task, Job, SessionJob}
 use Rattle.b67_stack.specs.declared.Cpu.{Cpu}
@@ -20,7 +18,8 @@ use Rattle.b67_task_tables.specs.declared.tables.Machine.{Machine}
 use Rattle.b67_task_tables.specs.declared.tables.TaskRow.{TaskRow}
 use Rattle.b67_task_tables.specs.declared.tables.Tasks.{Tasks}
 use Rattle.b67_task_tables.specs.Runs.{Keeps}
-use Rattle.b67_task_tables.specs.Tables.{state_of, row_names, IsCountable, AreCountable, MachineRepresents}
+use Rattle.b67_task_tables.specs.Tables.{state_of, given_of, MachineRepresents}
+use Rattle.b67_task_tables.proofs.Keeping.{rows_put, given_put}
 use Rattle.b67_task_start_stack.specs.Born.{with_peak, with_task_at}
 use Rattle.b67_task_start_stack.specs.Joining.{BuildsSome, MayBuild, session_joined}
 use Rattle.b67_task_start_stack.proofs.Building.{on_stack, two_marks}
@@ -28,26 +27,6 @@ use Rattle.b67_task_start.specs.Opening.{HasSlot, HasSomeSlot, SlotOpened}
 use Rattle.b67_task_start.specs.Starts.{StartsSome, IsStarted, HasRowRoom, child, with_child, with_next}
 use Rattle.b67_task_start.proofs.Rows.{job_row_of}
 use Rattle.b67_task_start.proofs.Begins.{may_open, job_row, first_job, row_room, seen, seen_procedure, seen_pcw, may_child, critical_is, started}
-
--- a job's name stays where its next task is counted
-pub names_same : (rows new : List JobRow) (i : ℕ) (r : JobRow) → slice_get rows i ≡ Some r → new ≡ slice_set rows i (with_next r) → row_names new ≡ row_names rows
-names_same rows new i r at is =
-    let name : JobRow → List ℕ = λ q. q.name in
-    ap row_names is ∙ map-slice_set name rows i (with_next r) ∙ put_back (row_names rows) i r.name (at_mapped name rows i r at)
-
-has_set : (xs : List JobRow) (i : ℕ) (y q : JobRow) → Has (slice_set xs i y) q → (y ≡ q) ⊎ Has xs q
-has_set [] i y q h = absurd h
-has_set (x ∷ xs) zero y q (inl e) = inl e
-has_set (x ∷ xs) zero y q (inr h) = inr (inr h)
-has_set (x ∷ xs) (suc i) y q (inl e) = inr (inl e)
-has_set (x ∷ xs) (suc i) y q (inr h) = elim (has_set xs i y q h) [ inl e ↦ inl e | inr k ↦ inr (inr k) ]
-
--- a job's numbers for READ stay there
-pub countable_next : (rows new : List JobRow) (i : ℕ) (r : JobRow) → slice_get rows i ≡ Some r → new ≡ slice_set rows i (with_next r) → AreCountable rows → AreCountable new
-countable_next rows new i r at is all q h = elim (has_set rows i (with_next r) q (subst (λ (xs : List JobRow). Has xs q) is h)) [
-  | inl e ↦ subst IsCountable e (all r (has_get rows i r at))
-  | inr k ↦ all q k
-]
 
 -- the number of the next task of the running task's job
 pub number_of : (k : Machine) (x : Storage) (told : Option (List (List ℕ))) (plan : Placement) (s : Session) (m : SessionJob) (t : Task) → IsInOrderButCounts s → MachineRepresents x told k plan s → IsRunning plan s.jobs m t
@@ -168,6 +147,5 @@ module _ (k : Machine) (at count : ℕ) (q : StartsSome k at count) where
       record {
         core = len;
         sectors = refl;
-        halt = ap (λ (z : Tasks). z.halt) rest;
-        names = names_same k.tasks.jobs tasks'.jobs (j - 1) r there (jobs_are r there);
+        given = given_put k.tasks tasks' (ap given_of rest) (rows_put k.tasks.jobs tasks'.jobs (j - 1) r (with_next r) there (jobs_are r there) refl);
       }

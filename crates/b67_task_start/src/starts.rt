@@ -12,7 +12,7 @@ ghost use Rattle.b67_layout.specs.Placement.{Placement};
 ghost use Rattle.b67_layout.specs.Session.{IsRunning};
 ghost use Rattle.b67_task_tables.specs.declared.tables.JobRow.{JobRow};
 ghost use Rattle.b67_task_tables.specs.Runs.{ForEachRun, Keeps, RunsTask};
-ghost use Rattle.b67_task_tables.specs.Tables.{AreCountable, MachineRepresents};
+ghost use Rattle.b67_task_tables.specs.Tables.{MachineRepresents};
 ghost use Rattle.b67_task_start.specs.Starts.{StartsSome, MayStart, IsStarted, child, HasRowRoom, with_next};
 
 use crate::opening::open_slot;
@@ -69,7 +69,6 @@ pub fn start(machine: &mut Machine, cell: u32, args: u32) -> u32
         → MachineRepresents x told machine.old plan s → IsRunning plan s.jobs m t → MayStart x plan m t (length machine.old.cpu.core) cell args f segment level place slot
         → IsStarted told plan s m (child m t args f segment level place) slot machine.new }
     ensures keeps { Keeps machine.old machine.new }
-    ensures countable { AreCountable machine.old.tasks.jobs → AreCountable machine.new.tasks.jobs }
     ensures tables { machine.new.tasks ≡ record machine.old.tasks { rows = machine.new.tasks.rows; jobs = machine.new.tasks.jobs } }
     ensures sectors { machine.new.sectors ≡ machine.old.sectors }
 {

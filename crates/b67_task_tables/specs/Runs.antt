@@ -4,7 +4,7 @@ use Rattle.b67_model.specs.Common.{Task, SessionJob, Session}
 use Rattle.b67_layout.specs.Common.{IsInOrderButCounts, Placement, IsRunning}
 use Rattle.b67_stack.specs.Represents.{Storage}
 use Rattle.b67_task_tables.specs.declared.tables.Machine.{Machine}
-use Rattle.b67_task_tables.specs.Tables.{MachineRepresents, row_names, AreCountable}
+use Rattle.b67_task_tables.specs.Tables.{MachineRepresents, given_of}
 
 -- the machine stands for some session in order, of which a task runs
 pub record RunsTask (k : Machine) : Type 0 where
@@ -24,14 +24,8 @@ ForEachRun k P =
     (x : Storage) (told : Option (List (List ℕ))) (plan : Placement) (s : Session) (m : SessionJob) (t : Task) → IsInOrderButCounts s → MachineRepresents x told k plan s
     → IsRunning plan s.jobs m t → P x told plan s m t
 
--- the machine has as many words of core, as many sectors, the same halt and jobs of the same names
+-- the machine has as many words of core, as many sectors, and what the deck gave
 pub record Keeps (old new : Machine) : Type 0 where
   pub core : length new.cpu.core ≡ length old.cpu.core
   pub sectors : length new.sectors.links ≡ length old.sectors.links
-  pub halt : new.tasks.halt ≡ old.tasks.halt
-  pub names : row_names new.tasks.jobs ≡ row_names old.tasks.jobs
-
--- the same, and where the jobs' numbers for READ could be counted, they still can
-pub record Kept (old new : Machine) : Type 0 where
-  pub countable : AreCountable old.tasks.jobs → AreCountable new.tasks.jobs
-  pub keeps : Keeps old new
+  pub given : given_of new.tasks ≡ given_of old.tasks

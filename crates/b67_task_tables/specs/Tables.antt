@@ -1,5 +1,5 @@
 -- When the machine with its tables stands for a session.
-use Rattle.std.specs.Prelude.{ℕ, ◌<◌, ◌^◌, List, length, map, Option}
+use Rattle.std.specs.Prelude.{ℕ, ℤ, ◌<◌, ◌^◌, List, length, map, Option}
 use Rattle.b67_lemmas.specs.Lists.{Has}
 use Rattle.b67_model_text.specs.declared.deck.Switch as text
 use Rattle.b67_model.specs.Schedule.{Switch, Session}
@@ -49,9 +49,27 @@ pub record MachineRepresents (x : Storage) (told : Option (List (List ℕ))) (k 
   pub storage : RepresentsStorage k.areas k.sectors told k.cpu.core x
   pub tables : TasksShow plan s k.tasks
 
--- the names of the jobs
-abbrev pub row_names : List JobRow → List (List ℕ)
-row_names rows = map (λ (r : JobRow). r.name) rows
+-- what the deck gives of a job and no step changes: its name, how many operators it may make, and its numbers for READ
+pub record JobGiven : Type 0 where
+  pub name : List ℕ
+  pub limit : ℕ
+  pub numbers : List ℤ
+
+abbrev pub job_given : JobRow → JobGiven
+job_given r = record { name = r.name; limit = r.limit; numbers = r.numbers }
+
+abbrev pub rows_given : List JobRow → List JobGiven
+rows_given rows = map job_given rows
+
+-- what the deck gives and no step changes: the halt, the operators of a turn, the switches, and this of each job
+pub record Given : Type 0 where
+  pub halt : Option ℕ
+  pub quantum : ℕ
+  pub switches : List text.Switch
+  pub jobs : List JobGiven
+
+abbrev pub given_of : Tasks → Given
+given_of t = record { halt = t.halt; quantum = t.quantum; switches = t.switches; jobs = rows_given t.jobs }
 
 -- a job with fewer numbers than the tables can count
 abbrev pub IsCountable : JobRow → Type 0

@@ -1,6 +1,6 @@
 use Rattle.std.proofs.Common.{◌≤◌, length, refl, arith}
 use Rattle.b67_layout_storage.proofs.Devices.{Served-none}
-use Rattle.b67_task_tables.proofs.Keeping.{kept_same}
+use Rattle.b67_task_tables.proofs.Keeping.{keeps_same}
 use Rattle.b67_mcp_process.proofs.Moved.{content_same}
 use Rattle.b67_mcp_process.proofs.Starts.{starts_none, answered_none}
 use Rattle.b67_mcp_process.proofs.process.Goals as goal
@@ -19,7 +19,7 @@ pub returns-in-Err-clause-row : goal.returns-in-Err-clause-row
 returns-in-Err-clause-row g c = λ x told plan s m t o h runs r arguments call. (record { meets = λ says. (c.in-Err.ensures x plan s m t o h.session runs r arguments call c.args.next, refl); quiet = λ never. refl }, tt)
 
 pub returns-in-Err-clause-kept : goal.returns-in-Err-clause-kept
-returns-in-Err-clause-kept g c = kept_same c.args.machine.now
+returns-in-Err-clause-kept g c = keeps_same c.args.machine.now
 
 pub returns-in-Err-clause-device : goal.returns-in-Err-clause-device
 returns-in-Err-clause-device g c = record { calls = Served-none g.B.Backing.holds g.B.Backing.size g.B.Backing.calls g.B.Backing.faults c.args.backing.now; cause = λ e. absurd (let b : ⊥ = cc in b) }

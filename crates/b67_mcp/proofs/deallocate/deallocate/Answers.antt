@@ -97,7 +97,4 @@ returns-clause-row c = λ x told plan s m t o h runs code called.
     ))
 
 pub returns-clause-kept : goal.returns-clause-kept
-returns-clause-kept c = record {
-  countable = λ few. few;
-  keeps = record { core = ap (λ (core : List Tagged). length core) c.cut_call.ensures.core ∙ c.empty_array.ensures.keeps.len; sectors = c.empty_array.ensures.keeps.count; halt = refl; names = refl };
-}
+returns-clause-kept c = record { core = ap (λ (core : List Tagged). length core) c.cut_call.ensures.core ∙ c.empty_array.ensures.keeps.len; sectors = c.empty_array.ensures.keeps.count; given = refl }

@@ -87,7 +87,7 @@ returns-clause-kept c =
     let k = calling q.member q.task 8 c.requires.called in
     let r = c.in-Ok.ensures.row q.storage q.plan q.session q.member q.task q.ordered q.stands.session q.running k.reference k.arguments k.call in
     let session = c.answer_array.ensures.stands q.storage q.plan q.session q.member q.task q.ordered q.stands.session q.running r.2 in
-    record { countable = λ few. few; keeps = record { core = same_size q.storage (storage_without q.storage cpu.regs.s) old.cpu cpu q.plan (with_home q.plan q.member.constants.number q.member.progress.job.next_array cpu.regs.s) q.session (with_job q.session q.member (job_declared q.member q.task c.in-Ok.length c.next_place-next.result)) q.stands.session session refl refl; sectors = refl; halt = refl; names = refl } }
+    record { core = same_size q.storage (storage_without q.storage cpu.regs.s) old.cpu cpu q.plan (with_home q.plan q.member.constants.number q.member.progress.job.next_array cpu.regs.s) q.session (with_job q.session q.member (job_declared q.member q.task c.in-Ok.length c.next_place-next.result)) q.stands.session session refl refl; sectors = refl; given = refl }
 
 pub returns-clause-changed : goal.returns-clause-changed
 returns-clause-changed c =

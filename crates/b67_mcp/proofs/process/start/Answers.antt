@@ -77,7 +77,7 @@ returns-in-Err-clause-row g c = λ x told plan s m t o h runs code called says.
     let same = one_behind m t c.next_place-next.result k.next (c.next_place-next.ensures.behind x told plan s m t o h runs code) (Plain Entr, k.reading) in
     let R : Place → Type 0 = λ z. ProcessMeets d plan s m t z k.arguments (Err c.in-Err.fault) old new in
     let row = subst R same ((c.in-Err.ensures.row x told plan s m t o h runs k.reference k.arguments k.call).0.meets says) in
-    process_stops x told old plan s m t o h runs k d (B.size c.args.backing.now) new c.in-Err.fault c.stop_for.result code (c.requires.same ∙ sym c.process.ensures.kept.keeps.sectors) c.stop_for.ensures row)
+    process_stops x told old plan s m t o h runs k d (B.size c.args.backing.now) new c.in-Err.fault c.stop_for.result code (c.requires.same ∙ sym c.process.ensures.kept.sectors) c.stop_for.ensures row)
 
 pub returns-in-Err-clause-reaches : goal.returns-in-Err-clause-reaches
 returns-in-Err-clause-reaches g c = λ x told plan s m t o h runs code called.

@@ -12,7 +12,9 @@ use Rattle.b67_task_tables.specs.Tables.{MachineRepresents}
 use Rattle.b67_mcp.proofs.Callings.{calling, reads_of, call_some}
 use Rattle.b67_mcp.proofs.Cut.{one_behind}
 use Rattle.b67_mcp.proofs.Sizes.{same_size, kept_is}
-use Rattle.b67_mcp.proofs.Numbers.{job_in, tasks_same, countable_read, names_read, tables_read}
+use Rattle.b67_mcp.proofs.Numbers.{job_in, tasks_same, same_given, tables_read}
+use Rattle.b67_task_tables.specs.Tables.{given_of}
+use Rattle.b67_task_tables.proofs.Keeping.{rows_put, given_put}
 use Rattle.b67_mcp.proofs.read.read.Goals as goal
 use Rattle.b67_lemmas.proofs.Members.{has_get}
 
@@ -119,13 +121,10 @@ returns-clause-kept c =
     let taken = read_from q.member.progress.job.numbers in
     let session = c.answer_call.ensures.stands q.storage q.plan q.session q.member q.task q.ordered q.stands.session q.running taken.0 taken.1 meets.may meets.is in
     record {
-      countable = countable_read q.plan q.member q.task k.arguments old.tasks.jobs c.take_number.new.tasks.jobs (c.running_row.result.job - 1) j.row did.new (Ok c.in-Ok.number) at did.is meets;
-      keeps = record {
-        core = same_size q.storage q.storage old.cpu cpu q.plan q.plan q.session (with_job q.session q.member (job_read q.member q.task c.next_place-next.result)) q.stands.session session refl refl;
-        sectors = refl;
-        halt = ap (λ (z : Tasks). z.halt) c.take_number.ensures.rest;
-        names = names_read q.plan q.member q.task k.arguments old.tasks.jobs c.take_number.new.tasks.jobs (c.running_row.result.job - 1) j.row did.new (Ok c.in-Ok.number) at did.is meets;
-      };
+      core = same_size q.storage q.storage old.cpu cpu q.plan q.plan q.session (with_job q.session q.member (job_read q.member q.task c.next_place-next.result)) q.stands.session session refl refl;
+      sectors = refl;
+      given = given_put old.tasks c.take_number.new.tasks (ap given_of c.take_number.ensures.rest)
+          (rows_put old.tasks.jobs c.take_number.new.tasks.jobs (c.running_row.result.job - 1) j.row did.new at did.is (same_given q.plan q.member q.task k.arguments j.row did.new (Ok c.in-Ok.number) meets));
     }
 
 pub returns-clause-changed : goal.returns-clause-changed

@@ -135,7 +135,7 @@ returns-in-Ok-set_length-clause-quiet g c = λ x told plan s m t o h runs code c
 pub returns-in-Ok-set_length-clause-kept : goal.returns-in-Ok-set_length-clause-kept
 returns-in-Ok-set_length-clause-kept g c =
     let k = c.set_length.ensures.kept in
-    record { countable = k.countable; keeps = record { core = ap (λ (core : List Tagged). length core) c.cut_call.ensures.core ∙ k.keeps.core; sectors = k.keeps.sectors; halt = k.keeps.halt; names = k.keeps.names } }
+    record { core = ap (λ (core : List Tagged). length core) c.cut_call.ensures.core ∙ k.core; sectors = k.sectors; given = k.given }
 
 pub returns-in-Err-set_length-clause-row : goal.returns-in-Err-set_length-clause-row
 returns-in-Err-set_length-clause-row g c = λ x told plan s m t o h runs code called says.

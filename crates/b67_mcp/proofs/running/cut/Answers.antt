@@ -26,7 +26,7 @@ returns-clause-stands c = λ x told plan s m t o h runs code may next behind.
     }))
 
 pub returns-clause-kept : goal.returns-clause-kept
-returns-clause-kept c = record { countable = λ few. few; keeps = record { core = ap (λ (l : List Tagged). length l) c.cut_call.ensures.core; sectors = refl; halt = refl; names = refl } }
+returns-clause-kept c = record { core = ap (λ (l : List Tagged). length l) c.cut_call.ensures.core; sectors = refl; given = refl }
 
 pub returns-clause-changed : goal.returns-clause-changed
 returns-clause-changed c = λ i. inl (ap (λ (l : List Tagged). slice_get l i) c.cut_call.ensures.core)

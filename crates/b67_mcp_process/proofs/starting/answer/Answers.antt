@@ -23,7 +23,4 @@ returns-clause-kept c =
     let k = c.args.machine.now in
     let m = q.member in
     let now = c.answer_call.ensures.stands q.storage q.plan q.session m q.task q.ordered q.stands.session q.running c.args.number m.progress.job.numbers may (c.of.ensures ∙ ap (word 0) c.from.ensures) in
-    record {
-      keeps = record { core = same_size q.storage q.storage k.cpu c.answer_call.new.cpu q.plan q.plan q.session (with_job q.session m (job_answered m q.task (Operand c.args.number) c.args.next m.progress.job.numbers)) q.stands.session now refl refl; sectors = refl; halt = refl; names = refl };
-      countable = λ all. all;
-    }
+    record { core = same_size q.storage q.storage k.cpu c.answer_call.new.cpu q.plan q.plan q.session (with_job q.session m (job_answered m q.task (Operand c.args.number) c.args.next m.progress.job.numbers)) q.stands.session now refl refl; sectors = refl; given = refl }

@@ -49,7 +49,7 @@ pub returns-clause-kept : goal.returns-clause-kept
 returns-clause-kept c =
     let a = c.start-number.ensures.keeps in
     let b = c.answer.ensures.kept in
-    record { countable = λ all. b.countable (c.start-number.ensures.countable all); keeps = keeps_then c.args.machine.now c.start-number.new.machine c.answer.new.machine a b.keeps }
+    keeps_then c.args.machine.now c.start-number.new.machine c.answer.new.machine a b
 
 pub returns-clause-printed : goal.returns-clause-printed
 returns-clause-printed c = c.answer.ensures.printed ∙ ap (λ (z : Tasks). z.printed) c.start-number.ensures.tables

@@ -5,7 +5,7 @@ use Rattle.b67_layout_storage.specs.Machine.{content_after}
 use Rattle.b67_layout_storage.proofs.Devices.{Served-none}
 use Rattle.b67_layout_storage.proofs.Untold.{untold}
 use Rattle.b67_task_need.proofs.Shortage.{short_of}
-use Rattle.b67_task_tables.proofs.Keeping.{kept_same}
+use Rattle.b67_task_tables.proofs.Keeping.{keeps_same}
 use Rattle.b67_mcp_process.proofs.Moved.{silent, seen_over, stands_moved}
 use Rattle.b67_mcp_process.proofs.Starts.{starts_one, processed, may_start, stopped, writes, fits_by, same_fault}
 use Rattle.b67_mcp_process.proofs.starting.start_asked.Goals as goal
@@ -21,7 +21,7 @@ returns-then-words-core-clause-row g c = λ x told plan s m t o h runs arguments
 }
 
 pub returns-then-words-core-clause-kept : goal.returns-then-words-core-clause-kept
-returns-then-words-core-clause-kept g c = kept_same c.args.machine.now
+returns-then-words-core-clause-kept g c = keeps_same c.args.machine.now
 
 pub returns-then-words-core-clause-device : goal.returns-then-words-core-clause-device
 returns-then-words-core-clause-device g c = record { calls = Served-none g.B.Backing.holds g.B.Backing.size g.B.Backing.calls g.B.Backing.faults c.args.backing.now; cause = λ e. absurd (let b : ⊥ = cc in b) }
@@ -103,7 +103,7 @@ pub returns-in-Ok-clause-kept : goal.returns-in-Ok-clause-kept
 returns-in-Ok-clause-kept g c =
     let a = c.claim.ensures.keeps in
     let b = c.begin.ensures.kept in
-    record { countable = b.countable; keeps = record { core = b.keeps.core ∙ a.len; sectors = b.keeps.sectors ∙ a.count; halt = b.keeps.halt; names = b.keeps.names } }
+    record { core = b.core ∙ a.len; sectors = b.sectors ∙ a.count; given = b.given }
 
 pub returns-in-Ok-clause-device : goal.returns-in-Ok-clause-device
 returns-in-Ok-clause-device g c = record { calls = c.claim.ensures.device; cause = λ e. absurd (let b : ⊥ = cc in b) }
@@ -138,7 +138,7 @@ returns-in-Err-clause-fits g c = λ x told plan s m t o h runs arguments.
 pub returns-in-Err-clause-kept : goal.returns-in-Err-clause-kept
 returns-in-Err-clause-kept g c =
     let a = c.claim.ensures.keeps in
-    record { countable = λ all. all; keeps = record { core = a.len; sectors = a.count; halt = refl; names = refl } }
+    record { core = a.len; sectors = a.count; given = refl }
 
 pub returns-in-Err-clause-device : goal.returns-in-Err-clause-device
 returns-in-Err-clause-device g c = record { calls = c.claim.ensures.device; cause = λ e. c.claim.ensures.cause (c.in-Err.is ∙ ap Err (same_fault c.in-Err.fault BackingFault e)) }

@@ -12,7 +12,7 @@ use Rattle.b67_mcp_waits.specs.Woken.{woken_row}
 use Rattle.b67_mcp_waits.proofs.Arguments.{cause_is, may_end}
 use Rattle.b67_mcp_waits.proofs.EndCells.{found_here, cause_fault}
 use Rattle.b67_mcp_waits.proofs.Made.{runs_some, call_some}
-use Rattle.b67_task_tables.proofs.Keeping.{kept_same}
+use Rattle.b67_task_tables.proofs.Keeping.{keeps_same}
 use Rattle.b67_mcp_waits.proofs.Caused.{m2, t2, s2, runs2, order2, stands_caused, may2, made, row_made, made_count, stands_made, row_critical}
 use Rattle.b67_mcp_waits.proofs.events.cause.Goals as goal
 
@@ -25,7 +25,7 @@ returns-in-Err-clause-row c = λ x told plan s m t o h runs r arguments call.
     (cause_is (here m t q) arguments ∙ cause_fault x c.args.machine.now.cpu plan s m t o h.session runs q c.in-Err.fault (end_given (here m t q) arguments) (c.in-Err.ensures x plan s m t o h.session runs r arguments call q), refl))
 
 pub returns-in-Err-clause-kept : goal.returns-in-Err-clause-kept
-returns-in-Err-clause-kept c = kept_same c.args.machine.now
+returns-in-Err-clause-kept c = keeps_same c.args.machine.now
 
 pub is_critical-requires : goal.is_critical-requires
 is_critical-requires c = runs_some c.args.machine.now c.requires.call.runs
@@ -41,7 +41,7 @@ returns-then-is_critical-clause-row c = λ x told plan s m t o h runs r argument
     ))
 
 pub returns-then-is_critical-clause-kept : goal.returns-then-is_critical-clause-kept
-returns-then-is_critical-clause-kept c = kept_same c.args.machine.now
+returns-then-is_critical-clause-kept c = keeps_same c.args.machine.now
 
 pub running_job-job-requires : goal.running_job-job-requires
 running_job-job-requires c = c.requires.call.runs
@@ -114,7 +114,4 @@ returns-clause-row c = λ x told plan s m t o h runs r arguments call.
     })
 
 pub returns-clause-kept : goal.returns-clause-kept
-returns-clause-kept c = record {
-  countable = λ few. few;
-  keeps = record { core = ap (λ (l : List Tagged). length l) c.cut_call.ensures.core ∙ c.set.ensures.len; sectors = refl; halt = refl; names = refl };
-}
+returns-clause-kept c = record { core = ap (λ (l : List Tagged). length l) c.cut_call.ensures.core ∙ c.set.ensures.len; sectors = refl; given = refl }

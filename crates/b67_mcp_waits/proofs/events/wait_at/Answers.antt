@@ -12,7 +12,7 @@ use Rattle.b67_mcp_waits.specs.Arguments.{end_given}
 use Rattle.b67_mcp_waits.proofs.Arguments.{wait_is, may_end}
 use Rattle.b67_mcp_waits.proofs.EndCells.{found_here, wait_fault, wait_zero, wait_other}
 use Rattle.b67_mcp_waits.proofs.Made.{runs_some, call_some, answers_critical, answers_cut}
-use Rattle.b67_task_tables.proofs.Keeping.{kept_same}
+use Rattle.b67_task_tables.proofs.Keeping.{keeps_same}
 use Rattle.b67_mcp_waits.proofs.events.wait_at.Goals as goal
 
 pub cell_given-requires : goal.cell_given-requires
@@ -24,7 +24,7 @@ returns-in-Err-clause-row c = λ x told plan s m t o h runs r arguments call.
     (wait_is (here m t q) arguments ∙ wait_fault x c.args.machine.now.cpu plan s m t o h.session runs q c.in-Err.fault (end_given (here m t q) arguments) (c.in-Err.ensures x plan s m t o h.session runs r arguments call q), refl))
 
 pub returns-in-Err-clause-kept : goal.returns-in-Err-clause-kept
-returns-in-Err-clause-kept c = kept_same c.args.machine.now
+returns-in-Err-clause-kept c = keeps_same c.args.machine.now
 
 pub get-requires : goal.get-requires
 get-requires c =
@@ -52,7 +52,7 @@ returns-then-bits-eq0-clause-row c = λ x told plan s m t o h runs r arguments c
     ))
 
 pub returns-then-bits-eq0-clause-kept : goal.returns-then-bits-eq0-clause-kept
-returns-then-bits-eq0-clause-kept c = kept_same c.args.machine.now
+returns-then-bits-eq0-clause-kept c = keeps_same c.args.machine.now
 
 pub is_critical-requires : goal.is_critical-requires
 is_critical-requires c = runs_some c.args.machine.now c.requires.call.runs
@@ -70,7 +70,7 @@ returns-then-is_critical-clause-row c = λ x told plan s m t o h runs r argument
     ))
 
 pub returns-then-is_critical-clause-kept : goal.returns-then-is_critical-clause-kept
-returns-then-is_critical-clause-kept c = kept_same c.args.machine.now
+returns-then-is_critical-clause-kept c = keeps_same c.args.machine.now
 
 pub cut_call-requires-clause-call : goal.cut_call-requires-clause-call
 cut_call-requires-clause-call c =
@@ -105,4 +105,4 @@ returns-clause-row c = λ x told plan s m t o h runs r arguments call.
     })
 
 pub returns-clause-kept : goal.returns-clause-kept
-returns-clause-kept c = record { countable = λ few. few; keeps = record { core = ap (λ (l : List Tagged). length l) c.cut_call.ensures.core; sectors = refl; halt = refl; names = refl } }
+returns-clause-kept c = record { core = ap (λ (l : List Tagged). length l) c.cut_call.ensures.core; sectors = refl; given = refl }

@@ -13,7 +13,7 @@ use Rattle.b67_mcp_call.proofs.Standing.{machine_cut}
 use Rattle.b67_mcp_waits.proofs.Arguments.{await_is, may_number}
 use Rattle.b67_mcp_waits.proofs.Awaited.{live_number, await_waits, await_free}
 use Rattle.b67_mcp_waits.proofs.Made.{runs_some, call_some, has_job, answers_critical, answers_cut}
-use Rattle.b67_task_tables.proofs.Keeping.{kept_same}
+use Rattle.b67_task_tables.proofs.Keeping.{keeps_same}
 use Rattle.b67_mcp_waits.proofs.tasks.await_task.Goals as goal
 
 pub number_in-requires : goal.number_in-requires
@@ -24,7 +24,7 @@ returns-in-Err-clause-row c = λ x told plan s m t o h runs r arguments call.
     (await_is (here m t c.args.next) arguments ∙ ap (λ (a : Answer ℤ). a >>= awaits (here m t c.args.next)) (sym (c.in-Err.ensures x plan s m t o h.session runs r arguments call)), refl)
 
 pub returns-in-Err-clause-kept : goal.returns-in-Err-clause-kept
-returns-in-Err-clause-kept c = kept_same c.args.machine.now
+returns-in-Err-clause-kept c = keeps_same c.args.machine.now
 
 pub running_job-job-requires : goal.running_job-job-requires
 running_job-job-requires c = c.requires.call.runs
@@ -64,7 +64,7 @@ returns-then-lives-clause-row c = λ x told plan s m t o h runs r arguments call
     ))
 
 pub returns-then-lives-clause-kept : goal.returns-then-lives-clause-kept
-returns-then-lives-clause-kept c = kept_same c.args.machine.now
+returns-then-lives-clause-kept c = keeps_same c.args.machine.now
 
 pub is_critical-requires : goal.is_critical-requires
 is_critical-requires c = runs_some c.args.machine.now c.requires.call.runs
@@ -80,7 +80,7 @@ returns-then-is_critical-clause-row c = λ x told plan s m t o h runs r argument
     (await_free (here m t c.args.next) arguments c.in-Ok.number given gone ∙ answers_critical m t c.args.next [] (sym (c.is_critical.ensures x plan s m t o h.session runs) ∙ c.if-is_critical.true), refl))
 
 pub returns-then-is_critical-clause-kept : goal.returns-then-is_critical-clause-kept
-returns-then-is_critical-clause-kept c = kept_same c.args.machine.now
+returns-then-is_critical-clause-kept c = keeps_same c.args.machine.now
 
 pub cut_call-requires-clause-call : goal.cut_call-requires-clause-call
 cut_call-requires-clause-call c =
@@ -111,4 +111,4 @@ returns-clause-row c = λ x told plan s m t o h runs r arguments call.
     })
 
 pub returns-clause-kept : goal.returns-clause-kept
-returns-clause-kept c = record { countable = λ few. few; keeps = record { core = ap (λ (l : List Tagged). length l) c.cut_call.ensures.core; sectors = refl; halt = refl; names = refl } }
+returns-clause-kept c = record { core = ap (λ (l : List Tagged). length l) c.cut_call.ensures.core; sectors = refl; given = refl }

@@ -9,7 +9,7 @@ use Rattle.b67_mcp_call.specs.Answered.{job_answered}
 use Rattle.b67_mcp_call.proofs.Standing.{machine_answered, same_size}
 use Rattle.b67_mcp_waits.proofs.Arguments.{status_is, may_number}
 use Rattle.b67_mcp_waits.proofs.Made.{runs_some, call_some, has_job, answers_critical, answers_one}
-use Rattle.b67_task_tables.proofs.Keeping.{kept_same}
+use Rattle.b67_task_tables.proofs.Keeping.{keeps_same}
 use Rattle.b67_mcp_waits.proofs.tasks.status_of.Goals as goal
 
 pub number_in-requires : goal.number_in-requires
@@ -20,7 +20,7 @@ returns-in-Err-clause-row c = λ x told plan s m t o h runs r arguments call.
     (status_is (here m t c.args.next) arguments ∙ ap (λ (a : Answer ℤ). a >>= λ n. answers (here m t c.args.next) m.progress.job (Operand (status_of m.progress.job n) ∷ []) [] None) (sym (c.in-Err.ensures x plan s m t o h.session runs r arguments call)), refl)
 
 pub returns-in-Err-clause-kept : goal.returns-in-Err-clause-kept
-returns-in-Err-clause-kept c = kept_same c.args.machine.now
+returns-in-Err-clause-kept c = keeps_same c.args.machine.now
 
 pub is_critical-requires : goal.is_critical-requires
 is_critical-requires c = runs_some c.args.machine.now c.requires.call.runs
@@ -34,7 +34,7 @@ returns-then-is_critical-clause-row c = λ x told plan s m t o h runs r argument
     ))
 
 pub returns-then-is_critical-clause-kept : goal.returns-then-is_critical-clause-kept
-returns-then-is_critical-clause-kept c = kept_same c.args.machine.now
+returns-then-is_critical-clause-kept c = keeps_same c.args.machine.now
 
 pub running_job-job-requires : goal.running_job-job-requires
 running_job-job-requires c = c.requires.call.runs
@@ -91,12 +91,8 @@ returns-clause-kept c =
     let free = sym (c.is_critical.ensures q.storage q.plan q.session q.member q.task q.ordered q.stands.session q.running) ∙ c.if-is_critical.false in
     let may = may_number q.member q.task k.reference k.arguments k.call c.in-Ok.number given free in
     record {
-      countable = λ few. few;
-      keeps = record {
-        core = same_size q.storage q.storage c.args.machine.now.cpu c.answer_call.new.cpu q.plan q.plan q.session (with_job q.session q.member (job_answered q.member q.task (Operand c.status-told.result) c.args.next q.member.progress.job.numbers)) q.stands.session
-            (c.answer_call.ensures.stands q.storage q.plan q.session q.member q.task q.ordered q.stands.session q.running c.status-told.result q.member.progress.job.numbers may (c.of.ensures ∙ ap (word 0) c.from.ensures)) refl refl;
-        sectors = refl;
-        halt = refl;
-        names = refl;
-      };
+      core = same_size q.storage q.storage c.args.machine.now.cpu c.answer_call.new.cpu q.plan q.plan q.session (with_job q.session q.member (job_answered q.member q.task (Operand c.status-told.result) c.args.next q.member.progress.job.numbers)) q.stands.session
+          (c.answer_call.ensures.stands q.storage q.plan q.session q.member q.task q.ordered q.stands.session q.running c.status-told.result q.member.progress.job.numbers may (c.of.ensures ∙ ap (word 0) c.from.ensures)) refl refl;
+      sectors = refl;
+      given = refl;
     }

@@ -9,7 +9,7 @@ use Rattle.b67_session.specs.Attempts.{WantsNothing, HoleFits}
 use Rattle.b67_mcp.specs.declared.ends.Stop.TheVariants.{BackingFull}
 use Rattle.b67_session.specs.declared.outcomes.Attempt.TheVariants.{Made, Ends, Waits}
 use Rattle.b67_session.proofs.Composed.{made_once, ends_once, waits_once, still_once, stops_once, never, unchanged_over, goes_on_telling, stopped_attempt, runs_over, wants_some, tables_after_end, tables_after_wait, tables_after_want, tables_after_stop, tables_stay, tables_from, room_after_stop, may_call, stop_calls, attempt_as, same_needs, still_told, other, in_order, then_on, room_after_want, code_there, still_holds, held_from, held_till, not_full_as, not_full_ok, not_full_once, tells_once, hole_for, then_nothing, no_call, keeps_areas, areas_kept, hole_wants, not_made}
-use Rattle.b67_session.proofs.Runs.{ready_over, caused_none, caused_stop, caused_want, caused_later, kept_then, kept_tasks}
+use Rattle.b67_session.proofs.Runs.{ready_over, caused_none, caused_stop, caused_want, caused_later, keeps_then}
 use Rattle.b67_session.proofs.attempting.attempt.Goals as goal
 
 pub try_once-requires-clause-runs : goal.try_once-requires-clause-runs
@@ -253,12 +253,12 @@ returns-in-Ok-clause-tables g c =
     tables_from c.with_code.result c.args.machine.now.tasks c.bring_wanted.new.machine.tasks c.with_code.new.machine.tasks (c.bring_wanted.ensures.tasks ∙ same) c.with_code.ensures.tables
 
 pub returns-in-Err-bring_wanted-clause-kept : goal.returns-in-Err-bring_wanted-clause-kept
-returns-in-Err-bring_wanted-clause-kept g c = kept_then c.args.machine.now c.try_once.new.machine c.bring_wanted.new.machine (record { countable = λ k. c.try_once.ensures.countable; keeps = c.try_once.ensures.keeps }) (kept_tasks c.try_once.new.machine c.bring_wanted.new.machine c.bring_wanted.ensures.tasks c.bring_wanted.ensures.keeps)
+returns-in-Err-bring_wanted-clause-kept g c = keeps_then c.args.machine.now c.try_once.new.machine c.bring_wanted.new.machine c.try_once.ensures.keeps c.bring_wanted.ensures.keeps
 
 pub returns-in-Ok-clause-kept : goal.returns-in-Ok-clause-kept
 returns-in-Ok-clause-kept g c =
-    kept_then c.args.machine.now c.try_once.new.machine c.with_code.new.machine (record { countable = λ k. c.try_once.ensures.countable; keeps = c.try_once.ensures.keeps })
-    (kept_then c.try_once.new.machine c.bring_wanted.new.machine c.with_code.new.machine (kept_tasks c.try_once.new.machine c.bring_wanted.new.machine c.bring_wanted.ensures.tasks c.bring_wanted.ensures.keeps) c.with_code.ensures.kept)
+    keeps_then c.args.machine.now c.try_once.new.machine c.with_code.new.machine c.try_once.ensures.keeps
+    (keeps_then c.try_once.new.machine c.bring_wanted.new.machine c.with_code.new.machine c.bring_wanted.ensures.keeps c.with_code.ensures.kept)
 
 pub returns-in-Err-bring_wanted-clause-device : goal.returns-in-Err-bring_wanted-clause-device
 returns-in-Err-bring_wanted-clause-device g c =

@@ -19,8 +19,7 @@ returns-then-not-made-clause-keeps c =
       core = operator_length r.storage r.plan r.session r.member r.task c.operate_in-made.result.step c.args.machine.now.cpu c.operate_in-made.new.cpu r.stands.session
           (c.operate_in-made.ensures.row r.storage r.plan r.session r.member r.task r.ordered r.stands.session r.running);
       sectors = refl;
-      halt = refl;
-      names = refl;
+      given = refl;
     }
 
 pub overflow_add-from : goal.overflow_add-from
@@ -60,8 +59,7 @@ returns-in_default c = record {
     core = operator_length r.storage r.plan r.session r.member r.task c.operate_in-made.result.step c.args.machine.now.cpu c.operate_in-made.new.cpu r.stands.session
         (c.operate_in-made.ensures.row r.storage r.plan r.session r.member r.task r.ordered r.stands.session r.running);
     sectors = refl;
-    halt = refl;
-    names = refl;
+    given = refl;
   });
   tasks = refl;
 }

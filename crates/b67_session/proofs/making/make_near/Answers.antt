@@ -21,6 +21,5 @@ pub returns-clause-keeps : goal.returns-clause-keeps
 returns-clause-keeps c = record {
   core = near_length c.args.machine.now c.operate_near.new.cpu c.args.reader.now c.operate_near.new.reader c.operate_near.result c.requires.runs c.operate_near.ensures;
   sectors = refl;
-  halt = refl;
-  names = refl;
+  given = refl;
 }

@@ -12,7 +12,8 @@ use Rattle.b67_session.specs.declared.slices.Progress.TheVariants as progress
 use Rattle.b67_task_tables.specs.declared.tables.Machine.{Machine}
 use Rattle.b67_session.specs.Slices.{StandsAt, Keeps, StopsWithRoom, StepKeepsAreas, StepLeaves, IfPresent}
 use Rattle.b67_session.specs.Steps.{Steps}
-use Rattle.b67_session.proofs.Going.{Going, going-begins, going-lives, going-more, going-steps, going-stops, going-turn, keeps_on, begun_present, made_no_fewer, stop_rooms, stop_causes}
+use Rattle.b67_task_tables.proofs.Keeping.{keeps_then, countable_kept}
+use Rattle.b67_session.proofs.Going.{Going, going-begins, going-lives, going-more, going-steps, going-stops, going-turn, begun_present, made_no_fewer, stop_rooms, stop_causes}
 use Rattle.b67_session.proofs.Pausing.{says_retold, still_told, known_still, retold_twice, pause_slices}
 use Rattle.b67_session.proofs.Rows.{stays_ended, went_on, none_made}
 use Rattle.b67_session.proofs.slices.go_on.Given.{Over}
@@ -23,12 +24,7 @@ use Rattle.b67_session.proofs.slices.go_on.Goals as goal
 
 module _ (g : Over) (c : After-step g) where
   keeps : Keeps c.args.machine.now c.step.new.machine
-  keeps = record {
-    core = c.step.ensures.kept.keeps.core ∙ c.turn.invariant.keeps.core;
-    sectors = c.step.ensures.kept.keeps.sectors ∙ c.turn.invariant.keeps.sectors;
-    halt = c.step.ensures.kept.keeps.halt ∙ c.turn.invariant.keeps.halt;
-    names = c.step.ensures.kept.keeps.names ∙ c.turn.invariant.keeps.names;
-  }
+  keeps = keeps_then c.args.machine.now c.turn.machine c.step.new.machine c.turn.invariant.keeps c.step.ensures.kept
 
   module _ (said : Option (List (List ℕ))) (s : Session) (says : Says said (g.B.Backing.holds c.args.backing.now)) (h : StandsAt said c.args.machine.now s) where
     abbrev going : Going g.K.Sink.taken (said ≢ None) (content_after said (g.B.Backing.holds c.turn.backing)) c.turn.made s c.args.machine.now c.turn.machine c.args.paper.now c.turn.paper
@@ -64,10 +60,9 @@ module _ (g : Over) (c : After-step g) where
 pub turn-init : goal.turn-init
 turn-init g c = record {
   few = omega arith;
-  countable = c.requires.begins.countable;
   later = omega arith;
   device = Served-none g.B.Backing.holds g.B.Backing.size g.B.Backing.calls g.B.Backing.faults c.args.backing.now;
-  keeps = record { core = refl; sectors = refl; halt = refl; names = refl };
+  keeps = record { core = refl; sectors = refl; given = refl };
   going = λ said s says h.
       let P : Option (List (List ℕ)) → Type 0 = λ d. Going g.K.Sink.taken (said ≢ None) d 0 s c.args.machine.now c.args.machine.now c.args.paper.now c.args.paper.now in
       subst P (sym (retold-same said (g.B.Backing.holds c.args.backing.now) says)) (going-begins g.K.Sink.taken (said ≢ None) said s c.args.machine.now c.args.paper.now h);
@@ -87,7 +82,7 @@ step-requires-clause-due g c =
       lives = going-lives g.K.Sink.taken (l.said ≢ None) (content_after l.said (g.B.Backing.holds c.turn.backing)) 0 c.args.n c.turn.made l.session c.args.machine.now c.turn.machine c.args.paper.now c.turn.paper
           (c.turn.invariant.going l.said l.session l.says l.stands) (g.B.Backing.holds c.turn.backing) (says_retold l.said (g.B.Backing.holds c.turn.backing)) c.in_default.ensures.0;
       before_halt = c.in_default.ensures.1;
-      countable = c.turn.invariant.countable;
+      countable = countable_kept c.args.machine.now c.turn.machine c.turn.invariant.keeps c.requires.begins.countable;
     }
 
 pub step-requires-clause-sized : goal.step-requires-clause-sized
@@ -122,10 +117,9 @@ turn-preserved g c =
     let total : c.turn.made + (1 + more) ≡ c.turn.made + 1 + more = omega arith in
     record {
       few = omega (arith, c.go_on_with_turn-more.ensures.few);
-      countable = c.go_on_with_turn-more.ensures.countable (c.step.ensures.kept.countable c.turn.invariant.countable);
       later = omega (arith, c.turn.invariant.later, c.step.ensures.causes.printer.later);
       device = Served-then g.B.Backing.holds g.B.Backing.size g.B.Backing.calls g.B.Backing.faults c.args.backing.now c.turn.backing c.step.new.backing c.turn.invariant.device c.step.ensures.device;
-      keeps = keeps_on c.args.machine.now c.step.new.machine c.go_on_with_turn-more.new.machine (keeps g a) c.go_on_with_turn-more.ensures.keeps;
+      keeps = keeps_then c.args.machine.now c.step.new.machine c.go_on_with_turn-more.new.machine (keeps g a) c.go_on_with_turn-more.ensures.keeps;
       going = λ said s says h.
           let one = one_more g a is c.in_default.ensures.1 said s says h in
           going-turn g.K.Sink.taken (said ≢ None) (content_after said (g.B.Backing.holds c.step.new.backing)) (c.turn.made + 1) more (c.turn.made + (1 + more)) s c.args.machine.now c.step.new.machine c.go_on_with_turn-more.new.machine c.args.paper.now c.step.new.paper
@@ -219,16 +213,16 @@ returns-in-Err-clause-present g c = λ said s m t says h next.
     (λ sum size e. c.in-Err.is ∙ ap Err (let is : c.in-Err.stop ≡ BackingFull sum size = cc in is))
 
 pub returns-in-Err-clause-kept : goal.returns-in-Err-clause-kept
-returns-in-Err-clause-kept g c = record { countable = λ few. c.step.ensures.kept.countable c.turn.invariant.countable; keeps = keeps g (goal.at.returns-in-Err-clause-kept g c).After-step }
+returns-in-Err-clause-kept g c = keeps g (goal.at.returns-in-Err-clause-kept g c).After-step
 
 pub returns-in-Some-clause-kept : goal.returns-in-Some-clause-kept
-returns-in-Some-clause-kept g c = record { countable = λ few. c.turn.invariant.countable; keeps = c.turn.invariant.keeps }
+returns-in-Some-clause-kept g c = c.turn.invariant.keeps
 
 pub returns-in-Some-pause-clause-kept : goal.returns-in-Some-pause-clause-kept
-returns-in-Some-pause-clause-kept g c = record { countable = λ few. c.turn.invariant.countable; keeps = c.turn.invariant.keeps }
+returns-in-Some-pause-clause-kept g c = c.turn.invariant.keeps
 
 pub returns-in-None-clause-kept : goal.returns-in-None-clause-kept
-returns-in-None-clause-kept g c = record { countable = λ few. c.turn.invariant.countable; keeps = c.turn.invariant.keeps }
+returns-in-None-clause-kept g c = c.turn.invariant.keeps
 
 pub returns-in-Err-clause-causes : goal.returns-in-Err-clause-causes
 returns-in-Err-clause-causes g c =

@@ -3,7 +3,7 @@ use Rattle.b67_model.specs.Common.{Task, Job, SessionJob, Session}
 use Rattle.b67_backing.specs.Held.{Becomes}
 use Rattle.b67_layout_storage.specs.Machine.{Says, DeviceAfterCalls, content_after}
 use Rattle.b67_law_sessions.specs.Turns.{IsNext}
-use Rattle.b67_session.specs.AttemptPassed.{AreCountable, CallsDevice}
+use Rattle.b67_session.specs.AttemptPassed.{CallsDevice}
 use Rattle.b67_session.specs.Attempts.{WantsNothing, HoleFits, IsAtHand}
 use Rattle.b67_session.specs.Slices.{StandsAt, Keeps, GoesOnAlone, StepKeepsAreas, StepLeaves}
 use Rattle.b67_session.proofs.Going.{Going}
@@ -12,7 +12,6 @@ use Rattle.b67_session.proofs.slices.go_on.Given as goal
 abbrev pub invariant-turn : goal.invariant-turn
 invariant-turn g l = record {
   few : l.made ≤ l.n;
-  countable : AreCountable l.machine.tasks.jobs;
   later : g.K.Sink.faults l.initial.paper ≤ g.K.Sink.faults l.paper;
   device : DeviceAfterCalls g.B.Backing.holds g.B.Backing.size g.B.Backing.calls g.B.Backing.faults l.initial.backing l.backing;
   keeps : Keeps l.initial.machine l.machine;

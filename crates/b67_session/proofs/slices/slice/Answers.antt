@@ -9,7 +9,7 @@ use Rattle.b67_session.proofs.Shaping.{shaped}
 use Rattle.b67_session.proofs.Going.{Going, going-begins, going-ended}
 use Rattle.b67_session.proofs.Pausing.{says_retold}
 use Rattle.b67_session.proofs.Rows.{empty_rows, some_rows}
-use Rattle.b67_task_tables.proofs.Keeping.{keeps_then}
+use Rattle.b67_task_tables.proofs.Keeping.{keeps_then, countable_kept}
 use Rattle.b67_session.proofs.Resuming.{stands_not, limited_not, rests_not, next_row, limited_row, open_stands, open_limited, has_limited, over_stands, over_prints, cut_again, cut_limited}
 use Rattle.b67_session.proofs.Again.{open_again, limited}
 use Rattle.b67_session.proofs.Completing.{no_fault, completes}
@@ -48,7 +48,7 @@ pub returns-then-not-is_at_limit-clause-complete : goal.returns-then-not-is_at_l
 returns-then-not-is_at_limit-clause-complete g c = λ said s tells says sets ample calm quiet.
     completes g.B.Backing.holds g.K.Sink.taken said (content_after said (g.B.Backing.holds c.go_on.new.backing)) (g.B.Backing.size c.args.backing.now) c.args.n c.go_on.result c.args.machine.now c.go_on.new.machine
     c.args.backing.now c.go_on.new.backing c.args.paper.now c.go_on.new.paper
-    (λ s h. c.go_on.ensures.row said s says h) (λ h part l. returns-then-not-is_at_limit-clause-resumed g c said h part says l) c.go_on.ensures.kept.keeps tells s sets ample
+    (λ s h. c.go_on.ensures.row said s says h) (λ h part l. returns-then-not-is_at_limit-clause-resumed g c said h part says l) c.go_on.ensures.kept tells s sets ample
     (no_fault g.B.Backing.faults g.K.Sink.faults c.args.backing.now c.go_on.new.backing c.args.paper.now c.go_on.new.paper c.go_on.result c.go_on.ensures.causes calm quiet)
 
 -- ---- the lines of LIMIT
@@ -109,7 +109,7 @@ returns-in-Ok-clause-complete g c = λ said s tells says sets ample calm quiet.
     let later = c.in-Ok.ensures.cause.later in
     completes g.B.Backing.holds g.K.Sink.taken said (content_after said (g.B.Backing.holds c.go_on-in-Ok.new.backing)) (g.B.Backing.size c.args.backing.now) c.args.n c.go_on-in-Ok.result c.args.machine.now c.go_on-in-Ok.new.machine
     c.args.backing.now c.go_on-in-Ok.new.backing c.args.paper.now c.go_on-in-Ok.new.paper
-    (λ s h. absurd (stands_not said c.args.machine.now s h c.is_at_limit.ensures c.if-not-is_at_limit.false)) (λ h part l. returns-in-Ok-clause-resumed g c said h part says l) (keeps_then c.args.machine.now c.end_by_limit.new.machine c.go_on-in-Ok.new.machine c.end_by_limit.ensures.keeps c.go_on-in-Ok.ensures.kept.keeps) tells s sets ample
+    (λ s h. absurd (stands_not said c.args.machine.now s h c.is_at_limit.ensures c.if-not-is_at_limit.false)) (λ h part l. returns-in-Ok-clause-resumed g c said h part says l) (keeps_then c.args.machine.now c.end_by_limit.new.machine c.go_on-in-Ok.new.machine c.end_by_limit.ensures.keeps c.go_on-in-Ok.ensures.kept) tells s sets ample
     (λ e. (let rose = causes.device e in omega (arith, rose, calm)), λ e. (let rose = causes.printer.failed e in omega (arith, later, rose, quiet))))
 
 pub returns-in-Err-clause-row : goal.returns-in-Err-clause-row
@@ -146,12 +146,12 @@ pub returns-then-not-is_at_limit-clause-leaves : goal.returns-then-not-is_at_lim
 returns-then-not-is_at_limit-clause-leaves g c =
     let goes_on = (let l = open_stands (g.B.Backing.holds c.args.backing.now) c.args.machine.now c.requires.open (some_rows c.args.machine.now.tasks c.if-is_empty.ensures) c.is_at_limit.ensures c.if-not-is_at_limit.true in
     open_again g.K.Sink.taken (content_after l.said (g.B.Backing.holds c.go_on.new.backing)) (g.B.Backing.holds c.go_on.new.backing) (l.said ≢ None) (g.B.Backing.size c.args.backing.now) c.args.n l.session c.go_on.result
-    c.args.machine.now c.go_on.new.machine c.args.paper.now c.go_on.new.paper (says_retold l.said (g.B.Backing.holds c.go_on.new.backing)) (c.go_on.ensures.kept.countable c.requires.open.countable) (c.go_on.ensures.row l.said l.session l.says l.stands)) in
+    c.args.machine.now c.go_on.new.machine c.args.paper.now c.go_on.new.paper (says_retold l.said (g.B.Backing.holds c.go_on.new.backing)) (countable_kept c.args.machine.now c.go_on.new.machine c.go_on.ensures.kept c.requires.open.countable) (c.go_on.ensures.row l.said l.session l.says l.stands)) in
     record {
       goes_on = goes_on;
       shaped = shaped _ _ goes_on;
       causes = c.go_on.ensures.causes;
-      keeps = c.go_on.ensures.kept.keeps;
+      keeps = c.go_on.ensures.kept;
       served = c.go_on.ensures.device;
     }
 
@@ -161,12 +161,12 @@ returns-in-Ok-clause-leaves g c =
     let q = l.limited in
     let stands = over_stands l.said l.session l.part c.args.machine.now q g.K.Sink.taken c.end_by_limit.new.machine c.args.paper.now c.end_by_limit.new.paper (c.in-Ok.ensures.ends q.storage l.said q.plan l.session l.part q.ordered q.is q.stands) in
     open_again g.K.Sink.taken (content_after l.said (g.B.Backing.holds c.go_on-in-Ok.new.backing)) (g.B.Backing.holds c.go_on-in-Ok.new.backing) (l.said ≢ None) (g.B.Backing.size c.args.backing.now) c.args.n l.part.session c.go_on-in-Ok.result
-    c.end_by_limit.new.machine c.go_on-in-Ok.new.machine c.end_by_limit.new.paper c.go_on-in-Ok.new.paper (says_retold l.said (g.B.Backing.holds c.go_on-in-Ok.new.backing)) (c.go_on-in-Ok.ensures.kept.countable (subst (λ (z : Tasks). AreCountable z.jobs) (sym c.end_by_limit.ensures.tasks) c.requires.open.countable)) (c.go_on-in-Ok.ensures.row l.said l.part.session l.says stands)) in
+    c.end_by_limit.new.machine c.go_on-in-Ok.new.machine c.end_by_limit.new.paper c.go_on-in-Ok.new.paper (says_retold l.said (g.B.Backing.holds c.go_on-in-Ok.new.backing)) (countable_kept c.end_by_limit.new.machine c.go_on-in-Ok.new.machine c.go_on-in-Ok.ensures.kept (subst (λ (z : Tasks). AreCountable z.jobs) (sym c.end_by_limit.ensures.tasks) c.requires.open.countable)) (c.go_on-in-Ok.ensures.row l.said l.part.session l.says stands)) in
     record {
       goes_on = goes_on;
       shaped = shaped _ _ goes_on;
       causes = search rules;
-      keeps = keeps_then c.args.machine.now c.end_by_limit.new.machine c.go_on-in-Ok.new.machine c.end_by_limit.ensures.keeps c.go_on-in-Ok.ensures.kept.keeps;
+      keeps = keeps_then c.args.machine.now c.end_by_limit.new.machine c.go_on-in-Ok.new.machine c.end_by_limit.ensures.keeps c.go_on-in-Ok.ensures.kept;
       served = c.go_on-in-Ok.ensures.device;
     }
 

@@ -2,11 +2,11 @@ use Rattle.std.proofs.Common.{◌≡◌, Ok, Err, sym, ap, ◌∙◌, subst, ari
 use Rattle.b67_task_tables.specs.declared.tables.Machine.{Machine}
 use Rattle.b67_task_tables.specs.declared.tables.Tasks.{Tasks}
 use Rattle.b67_task_tables.specs.Runs.{Keeps}
-use Rattle.b67_session.specs.AttemptPassed.{AreCountable, JobsHaveRoom}
+use Rattle.b67_session.specs.AttemptPassed.{JobsHaveRoom}
 use Rattle.b67_session.specs.declared.outcomes.Attempt.{Attempt}
 use Rattle.b67_session.specs.declared.outcomes.Attempt.TheVariants as attempts
 use Rattle.b67_session.proofs.Runs.{caused_stop}
-use Rattle.b67_task_tables.proofs.Keeping.{keeps_then}
+use Rattle.b67_task_tables.proofs.Keeping.{keeps_then, halt_kept}
 use Rattle.b67_session.proofs.Caused.{step_causes, turn_keeps}
 use Rattle.b67_session.proofs.Rooms.{can_number}
 use Rattle.b67_session.proofs.Turned.{Tries, who, has_row, turned, runs_over}
@@ -25,17 +25,14 @@ context g c = record {
   core = c.give_turn.ensures.len;
   row = c.attempt.ensures.row;
   stay = c.attempt.ensures.tables;
-  halt = c.attempt.ensures.kept.keeps.halt;
+  halt = halt_kept c.give_turn.new.machine c.attempt.new.machine c.attempt.ensures.kept;
 }
 
 halted : (g : Over) (c : After-attempt g) → c.attempt.new.machine.tasks.halt ≡ c.args.machine.now.tasks.halt
-halted g c = c.attempt.ensures.kept.keeps.halt ∙ ap (λ (z : Tasks). z.halt) c.give_turn.ensures.tables
-
-countable : (g : Over) (c : After-attempt g) → AreCountable c.attempt.new.machine.tasks.jobs
-countable g c = c.attempt.ensures.kept.countable (subst (λ (z : Tasks). AreCountable z.jobs) (sym c.give_turn.ensures.tables) c.requires.due.countable)
+halted g c = halt_kept c.give_turn.new.machine c.attempt.new.machine c.attempt.ensures.kept ∙ ap (λ (z : Tasks). z.halt) c.give_turn.ensures.tables
 
 kept : (g : Over) (c : After-attempt g) → Keeps c.args.machine.now c.attempt.new.machine
-kept g c = turn_keeps c.args.machine.now c.give_turn.new.machine c.attempt.new.machine c.in-Some.chosen.row c.give_turn.ensures.tables c.give_turn.ensures.len c.give_turn.ensures.sectors c.attempt.ensures.kept.keeps
+kept g c = turn_keeps c.args.machine.now c.give_turn.new.machine c.attempt.new.machine c.in-Some.chosen.row c.give_turn.ensures.tables c.give_turn.ensures.len c.give_turn.ensures.sectors c.attempt.ensures.kept
 
 pub give_turn-requires : goal.give_turn-requires
 give_turn-requires g c =
@@ -80,7 +77,7 @@ returns-in-Ok-Made-clause-causes g c =
 pub returns-in-Ok-Made-clause-kept : goal.returns-in-Ok-Made-clause-kept
 returns-in-Ok-Made-clause-kept g c =
     let a = (goal.at.returns-in-Ok-Made-clause-kept g c).After-attempt in
-    record { countable = λ few. subst (λ (z : Tasks). AreCountable z.jobs) (sym c.end_step.ensures.tasks) (c.count_one.ensures.countable (countable g a)); keeps = (let k = kept g a in let mid = record c.attempt.new.machine { tasks = c.count_one.new.tasks } in keeps_then c.args.machine.now mid c.end_step.new.machine (record { core = k.core; sectors = k.sectors; halt = c.count_one.ensures.halt ∙ k.halt; names = c.count_one.ensures.names ∙ k.names }) c.end_step.ensures.keeps) }
+    let k = kept g a in let mid = record c.attempt.new.machine { tasks = c.count_one.new.tasks } in keeps_then c.args.machine.now mid c.end_step.new.machine (record { core = k.core; sectors = k.sectors; given = c.count_one.ensures.given ∙ k.given }) c.end_step.ensures.keeps
 
 pub close-requires-clause-row : goal.close-requires-clause-row
 close-requires-clause-row g c =
@@ -117,7 +114,7 @@ returns-in-Ok-clause-causes g c =
 pub returns-in-Ok-clause-kept : goal.returns-in-Ok-clause-kept
 returns-in-Ok-clause-kept g c =
     let a = (goal.at.returns-in-Ok-clause-kept g c).After-attempt in
-    record { countable = λ few. subst (λ (z : Tasks). AreCountable z.jobs) (sym c.end_step-in-Ok.ensures.tasks) (c.close.ensures.keeps.countable (countable g a)); keeps = (keeps_then c.args.machine.now c.close.new.machine c.end_step-in-Ok.new.machine (keeps_then c.args.machine.now c.attempt.new.machine c.close.new.machine (kept g a) c.close.ensures.keeps.keeps) c.end_step-in-Ok.ensures.keeps) }
+    keeps_then c.args.machine.now c.close.new.machine c.end_step-in-Ok.new.machine (keeps_then c.args.machine.now c.attempt.new.machine c.close.new.machine (kept g a) c.close.ensures.keeps) c.end_step-in-Ok.ensures.keeps
 
 pub returns-in-Err-close-clause-row : goal.returns-in-Err-close-clause-row
 returns-in-Err-close-clause-row g c = λ said s says h.
@@ -137,7 +134,7 @@ returns-in-Err-close-clause-causes g c =
 pub returns-in-Err-close-clause-kept : goal.returns-in-Err-close-clause-kept
 returns-in-Err-close-clause-kept g c =
     let a = (goal.at.returns-in-Err-close-clause-kept g c).After-attempt in
-    record { countable = λ few. c.close.ensures.keeps.countable (countable g a); keeps = (keeps_then c.args.machine.now c.attempt.new.machine c.close.new.machine (kept g a) c.close.ensures.keeps.keeps) }
+    keeps_then c.args.machine.now c.attempt.new.machine c.close.new.machine (kept g a) c.close.ensures.keeps
 
 pub make_wait-requires-clause-row : goal.make_wait-requires-clause-row
 make_wait-requires-clause-row g c =
@@ -174,7 +171,7 @@ returns-in-Ok-make_wait-clause-causes g c =
 pub returns-in-Ok-make_wait-clause-kept : goal.returns-in-Ok-make_wait-clause-kept
 returns-in-Ok-make_wait-clause-kept g c =
     let a = (goal.at.returns-in-Ok-make_wait-clause-kept g c).After-attempt in
-    record { countable = λ few. subst (λ (z : Tasks). AreCountable z.jobs) (sym c.end_step-in-Ok-make_wait.ensures.tasks) (c.make_wait.ensures.keeps.countable (countable g a)); keeps = (keeps_then c.args.machine.now c.make_wait.new.machine c.end_step-in-Ok-make_wait.new.machine (keeps_then c.args.machine.now c.attempt.new.machine c.make_wait.new.machine (kept g a) c.make_wait.ensures.keeps.keeps) c.end_step-in-Ok-make_wait.ensures.keeps) }
+    keeps_then c.args.machine.now c.make_wait.new.machine c.end_step-in-Ok-make_wait.new.machine (keeps_then c.args.machine.now c.attempt.new.machine c.make_wait.new.machine (kept g a) c.make_wait.ensures.keeps) c.end_step-in-Ok-make_wait.ensures.keeps
 
 pub returns-in-Err-make_wait-clause-row : goal.returns-in-Err-make_wait-clause-row
 returns-in-Err-make_wait-clause-row g c = λ said s says h.
@@ -194,7 +191,7 @@ returns-in-Err-make_wait-clause-causes g c =
 pub returns-in-Err-make_wait-clause-kept : goal.returns-in-Err-make_wait-clause-kept
 returns-in-Err-make_wait-clause-kept g c =
     let a = (goal.at.returns-in-Err-make_wait-clause-kept g c).After-attempt in
-    record { countable = λ few. c.make_wait.ensures.keeps.countable (countable g a); keeps = (keeps_then c.args.machine.now c.attempt.new.machine c.make_wait.new.machine (kept g a) c.make_wait.ensures.keeps.keeps) }
+    keeps_then c.args.machine.now c.attempt.new.machine c.make_wait.new.machine (kept g a) c.make_wait.ensures.keeps
 
 pub returns-in-Err-clause-row : goal.returns-in-Err-clause-row
 returns-in-Err-clause-row g c = λ said s says h.
@@ -211,4 +208,4 @@ returns-in-Err-clause-causes g c =
 pub returns-in-Err-clause-kept : goal.returns-in-Err-clause-kept
 returns-in-Err-clause-kept g c =
     let a = (goal.at.returns-in-Err-clause-kept g c).After-attempt in
-    record { countable = λ few. countable g a; keeps = (kept g a) }
+    kept g a

@@ -1,8 +1,8 @@
-use Rattle.std.proofs.Common.{◌-◌, sym, ap, ◌∙◌, subst, arith}
+use Rattle.std.proofs.Common.{◌-◌, refl, sym, ap, ◌∙◌, subst, arith}
 use Rattle.b67_task_tables.specs.declared.tables.Tasks.{Tasks}
-use Rattle.b67_task_tables.specs.Tables.{AreCountable, row_names}
-use Rattle.b67_task_switch.specs.Counted.{TurnHasRoom}
-use Rattle.b67_session_ends.proofs.Counting.{countable_counted, names_counted}
+use Rattle.b67_task_tables.specs.Tables.{given_of}
+use Rattle.b67_task_tables.proofs.Keeping.{rows_put, given_put}
+use Rattle.b67_task_switch.specs.Counted.{TurnHasRoom, row_more}
 use Rattle.b67_session.proofs.Turning.{turn_fits, turn_goes_on, turn_rests}
 use Rattle.b67_session.proofs.turns.go_on_with_turn.Goals as goal
 
@@ -43,21 +43,14 @@ returns-clause-row c = λ said s h.
     c.make_in_turn-made.ensures.tables c.count_turn.ensures.shows c.count_turn.ensures.rest c.requires.unprinted
     (λ j low. c.turn_room-room.ensures.halt j (omega (arith, low, c.make_in_turn-made.ensures.few)))
 
-pub returns-clause-countable : goal.returns-clause-countable
-returns-clause-countable c = λ all.
-    let r = room c in
-    let before : AreCountable c.make_in_turn-made.new.machine.tasks.jobs = subst (λ (z : Tasks). AreCountable z.jobs) (sym c.make_in_turn-made.ensures.tables) all in
-    subst AreCountable (sym (c.count_turn.ensures.jobs r.job r.at))
-    (countable_counted c.make_in_turn-made.result c.make_in_turn-made.new.machine.tasks.jobs (c.make_in_turn-made.new.machine.tasks.last_job - 1) r.job r.at before)
-
 pub returns-clause-keeps : goal.returns-clause-keeps
 returns-clause-keeps c =
     let r = room c in
     let k = c.make_in_turn-made.ensures.keeps in
+    let mid = c.make_in_turn-made.new.machine.tasks in
     record {
       core = k.core;
       sectors = k.sectors;
-      halt = ap (λ (z : Tasks). z.halt) c.count_turn.ensures.rest ∙ k.halt;
-      names = ap row_names (c.count_turn.ensures.jobs r.job r.at)
-          ∙ names_counted c.make_in_turn-made.result c.make_in_turn-made.new.machine.tasks.jobs (c.make_in_turn-made.new.machine.tasks.last_job - 1) r.job r.at ∙ k.names;
+      given = given_put mid c.count_turn.new.tasks (ap given_of c.count_turn.ensures.rest)
+          (rows_put mid.jobs c.count_turn.new.tasks.jobs (mid.last_job - 1) r.job (row_more c.make_in_turn-made.result r.job) r.at (c.count_turn.ensures.jobs r.job r.at) refl) ∙ k.given;
     }

@@ -26,7 +26,7 @@ pub operator-init : goal.operator-init
 operator-init c = record {
   few = omega arith;
   tables = refl;
-  keeps = record { core = refl; sectors = refl; halt = refl; names = refl };
+  keeps = record { core = refl; sectors = refl; given = refl };
   stands = c.in-Some-reader_at.ensures;
   turn = λ said steps core s size h. turn_as said steps c.args.room s core c.args.machine.now h (steps + 0) (c.args.room - 0) (omega arith) (omega arith);
 }

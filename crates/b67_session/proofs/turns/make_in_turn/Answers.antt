@@ -8,7 +8,7 @@ pub segment-init : goal.segment-init
 segment-init c = record {
   few = omega arith;
   tables = refl;
-  keeps = record { core = refl; sectors = refl; halt = refl; names = refl };
+  keeps = record { core = refl; sectors = refl; given = refl };
   turn = λ x said plan s o h w. turn_begins said c.args.room x plan s c.args.machine.now o h w (c.args.room - 0) (omega arith);
 }
 

@@ -1,6 +1,6 @@
 use Rattle.std.proofs.Common.{sym, subst}
 use Rattle.b67_task_tables.specs.declared.tables.Tasks.{Tasks}
-use Rattle.b67_task_tables.specs.Runs.{Kept}
+use Rattle.b67_task_tables.specs.Runs.{Keeps}
 use Rattle.b67_session_ends.proofs.Closed.{room_still, keeps_close, keeps_cut}
 use Rattle.b67_session_ends.specs.Holds.{HoldsSome}
 use Rattle.b67_session_ends.proofs.Held.{inside, inside_set, set_head, rest_after, back_is, has_job, held_closed, held_cut}
@@ -45,4 +45,4 @@ returns-clause-keeps g c =
 pub returns-in-Err-clause-keeps : goal.returns-in-Err-clause-keeps
 returns-in-Err-clause-keeps g c =
     let back = back_is c.args.machine.now c.args.chosen c.args.state c.requires.row c.set_state-before.new.tasks c.set_state-before.ensures.set c.put_endings.new.printed c.set_state-before.result c.set_state-before.ensures.was c.set_state-held.new.tasks c.set_state-held.ensures.set in
-    subst (λ (z : Tasks). Kept c.args.machine.now (record c.args.machine.now { tasks = z })) (sym back) (keeps_cut c.args.machine.now c.put_endings.new.printed)
+    subst (λ (z : Tasks). Keeps c.args.machine.now (record c.args.machine.now { tasks = z })) (sym back) (keeps_cut c.args.machine.now c.put_endings.new.printed)

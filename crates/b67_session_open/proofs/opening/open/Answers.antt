@@ -43,7 +43,7 @@ returns-in-Ok-clause-opens g c =
           (record { cpu = c.in-Ok.initial.cpu; areas = c.in-Ok.initial.areas; sectors = c.set_up.new.sectors; tasks = c.in_ok-tasks.tasks })
           c.args.core_words (g.B.Backing.size c.args.backing.now) c.requires.range c.requires.each c.in_ok-tasks.ensures.loaded
           (c.in-Ok.ensures.opens (all_free c.sectors-count.result) c.in_ok-sectors.ensures.1 refl)
-          c.in_ok-tasks.ensures.shows c.in_ok-tasks.ensures.names c.in_ok-tasks.ensures.halt c.in_ok-tasks.ensures.printed
+          c.in_ok-tasks.ensures.shows c.in_ok-tasks.ensures.given c.in_ok-tasks.ensures.printed
           (c.in-Ok.ensures.len ∙ (ap length c.in_ok-core.ensures ∙ length-replicate c.args.core_words (word 0 0)))
           (c.set_up.ensures.count ∙ c.in_ok-sectors.ensures.0 ∙ ap (λ n. n + 1) c.sectors-count.ensures.value) (each_countable c.in_ok-tasks.tasks.jobs c.in_ok-tasks.ensures.countable),
     )

@@ -2,8 +2,8 @@ use Rattle.std.proofs.Common.{map, ◌∙◌, ap}
 use Rattle.std.proofs.lemmas.List.{length-map}
 use Rattle.b67_codefile.specs.Meaning.{program_of}
 use Rattle.b67_session_open.specs.Tables.{opening_rows}
-use Rattle.b67_session_open.specs.Decks.{openings_of}
-use Rattle.b67_session_open.proofs.Decks.{tables_given}
+use Rattle.b67_session_open.specs.Decks.{openings_of, jobs_given}
+use Rattle.b67_session_open.proofs.Decks.{tables_given, tables_have}
 use Rattle.b67_session_open.proofs.tables.opening_tasks.Goals as goal
 
 pub returns-clause-shows : goal.returns-clause-shows
@@ -13,3 +13,6 @@ returns-clause-shows c =
     c.first_rows.ensures
     (c.in_ok-jobs.ensures.rows ∙ ap (λ js. opening_rows 160 (openings_of js (map program_of c.args.programs.now))) c.as_slice.ensures)
     c.in_ok-switches.ensures
+
+pub returns-clause-given : goal.returns-clause-given
+returns-clause-given c = tables_have c.args.deck.now _ c.in_ok-jobs.jobs c.in_ok-switches.ensures (c.in_ok-jobs.ensures.given ∙ ap jobs_given c.as_slice.ensures)

@@ -4,7 +4,7 @@ use Rattle.b67_refer.specs.declared.activation.Activation.{Activation}
 use Rattle.b67_task_start_stack.specs.Born.{with_peak}
 use Rattle.b67_layout.specs.Peaks.{peak_with}
 use Rattle.b67_task_start.specs.Starts.{StartsSome}
-use Rattle.b67_task_start.proofs.Context.{countable_next, has, some_slot, next_row, number_of, room_for, context, procedure, program, stack_now, marked, builds, is_started, keeps}
+use Rattle.b67_task_start.proofs.Context.{has, some_slot, next_row, number_of, room_for, context, procedure, program, stack_now, marked, builds, is_started, keeps}
 use Rattle.b67_task_start.proofs.starts.start.Goals as goal
 
 pub next_number-number-requires : goal.next_number-number-requires
@@ -100,9 +100,3 @@ returns-clause-keeps c =
     keeps c.args.machine.now c.args.cell c.args.args q c.build_child.new.cpu c.open_slot-slot.new.areas c.add_row.new.tasks c.running_row-parent.result.job
     (c.running_row-parent.ensures q.storage q.told q.plan q.session q.member q.task q.ordered q.stands q.running).0
     (c.build_child.ensures.len ∙ c.open_slot-slot.ensures.len) c.add_row.ensures.jobs c.add_row.ensures.rest
-
-pub returns-clause-countable : goal.returns-clause-countable
-returns-clause-countable c =
-    let q = c.requires in
-    let (r, there, low) = next_row c.args.machine.now c.args.cell c.args.args q c.running_row-parent.result.job (c.running_row-parent.ensures q.storage q.told q.plan q.session q.member q.task q.ordered q.stands q.running).0 in
-    countable_next c.args.machine.now.tasks.jobs c.add_row.new.tasks.jobs (c.running_row-parent.result.job - 1) r there (c.add_row.ensures.jobs r there)
