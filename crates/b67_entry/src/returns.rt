@@ -30,17 +30,17 @@ fn put(cpu: &mut Cpu, regs: Regs, display: [u32; 32], word: Word)
     cpu.put(word);
 }
 
-/// Goes on with these registers, of whose environment is then the display, and a word more on the stack.
+/// Goes on with these registers, whose environment the display then shows, and a word more on the stack.
 #[inline(always)]
-fn settle(cpu: &mut Cpu, regs: Regs, word: Word)
+fn settle(cpu: &mut Cpu, regs: Regs, value: Word)
     requires run { RunningContext cpu.old.core regs }
     requires room { regs.s + 1 < length cpu.old.core }
     ensures shown { (a : RunningContext cpu.old.core regs) → IsShown a cpu.new.display }
-    ensures rest { cpu.new ≡ with_word cpu.old regs cpu.new.display word }
+    ensures rest { cpu.new ≡ with_word cpu.old regs cpu.new.display value }
 {
     cpu.regs = regs;
     rebuild(&cpu.core, &cpu.regs, &mut cpu.display);
-    cpu.put(word);
+    cpu.put(value);
 }
 
 /// Evaluates the word that is returned to a caller who wants a value, in the state without the top activation record.

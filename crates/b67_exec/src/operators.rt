@@ -202,6 +202,23 @@ fn far_apart(cpu: &mut Cpu, code: Code, next: Place) -> Step
     far_plain(cpu, code, next)
 }
 
+/// `far_plain`, directly where an activation record is left, and else behind a call.
+#[inline(always)]
+fn far_code(cpu: &mut Cpu, code: Code, next: Place) -> Step
+    requires runs { RunsSome cpu.old }
+    requires far { goes_far code ≡ true }
+    requires next { IsPlace next }
+    ensures row { ForEach cpu.old (λ x plan s m t. CallsOrMeets x plan s m result cpu.old cpu.new (called (Plain code) (here m t next)) (plain_row code (here m t next))) }
+    ensures cuts { is_leaving (Plain code) ≡ true → result ≡ Done → CutsRecord cpu.old cpu.new }
+{
+    match code {
+        Code::Exit => return exit(cpu),
+        Code::Retn => return retn(cpu),
+        _ => {}
+    }
+    far_apart(cpu, code, next)
+}
+
 /// A far operator.
 #[inline(always)]
 fn far(cpu: &mut Cpu, op: Op, next: Place) -> Step
@@ -213,7 +230,7 @@ fn far(cpu: &mut Cpu, op: Op, next: Place) -> Step
     ensures cuts { is_leaving op ≡ true → result ≡ Done → CutsRecord cpu.old cpu.new }
 {
     match op {
-        Op::Plain(code) => far_apart(cpu, code, next),
+        Op::Plain(code) => far_code(cpu, code, next),
         Op::Valc(couple) => evaluate(cpu, couple, next),
         Op::Mpcw(bits) => mpcw(cpu, bits, next),
         Op::Bset(n) => on_one(cpu, Unary::Bset(n), next),

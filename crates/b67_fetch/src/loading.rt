@@ -52,7 +52,7 @@ pub(crate) fn put_element(cpu: &mut Cpu, count: u32, original: u32, index: u32, 
 /// Puts the value at an end in the place of the `count` top cells, and goes on at `next`. INVALID OPERAND at an array and
 /// at an intrinsic, else STACK OVERFLOW. If an array is absent, nothing is changed.
 #[inline(always)]
-fn value(cpu: &mut Cpu, count: u32, end: End, next: Place) -> Step
+pub fn value(cpu: &mut Cpu, count: u32, end: End, next: Place) -> Step
     requires end { SomeEnd cpu.old end }
     requires cells { cpu.old.regs.f + count ≤ cpu.old.regs.s }
     ensures row { ForEach cpu.old (λ x plan s m t. (gone rest : List words.Word) (e : ModelEnd) → cells t ≡ gone ++ rest → length gone ≡ count → NoOriginals gone
