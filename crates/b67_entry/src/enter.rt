@@ -39,6 +39,7 @@ pub fn mkst(cpu: &mut Cpu, next: Place) -> Step
 }
 
 /// The program control word at an address.
+#[inline(always)]
 fn procedure_at(core: &Core, at: u32) -> Pcw
     requires { (p : Pcw) × IsPcw p × (slice_get core.now at ≡ Some (pcw_word p)) }
     ensures { (p : Pcw) → IsPcw p → slice_get core.now at ≡ Some (pcw_word p) → result ≡ p }
@@ -62,6 +63,7 @@ fn entered_mark(regs: &Regs, env: Activation, level: u8, value: bool, back: u16)
 }
 
 /// The task goes on at a procedure's first operator, in the environment of its top activation record.
+#[inline(always)]
 fn begin(cpu: &mut Cpu, procedure: Pcw)
     requires { RunningContext cpu.old.core (record cpu.old.regs { level = procedure.level; segment = procedure.segment; place = procedure.place }) }
     ensures display { (a : RunningContext cpu.old.core (record cpu.old.regs { level = procedure.level; segment = procedure.segment; place = procedure.place })) → IsShown a cpu.new.display }
@@ -78,6 +80,7 @@ fn begin(cpu: &mut Cpu, procedure: Pcw)
 ///
 /// INVALID OPERAND, with nothing changed, if the procedure's level isn't the next one above that of its cell's
 /// activation record.
+#[inline(always)]
 fn enter(cpu: &mut Cpu, cell: u32, next: Place) -> Step
     requires procedure { (a : RunningContext cpu.old.core cpu.old.regs) × (f : ℕ) × (segment : ℕ) × (level : ℕ) × (place : Place) × (reference : Word) × (arguments : List Word)
         × ReachesProc cpu.old a next cell f segment level place × CallsWith a.task reference arguments }

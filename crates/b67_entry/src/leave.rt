@@ -17,6 +17,7 @@ use b67_stack::{Cpu, Step};
 use b67_word::Fault;
 
 /// Whether a live task depends on the top activation record.
+#[inline(always)]
 pub fn is_critical(cpu: &Cpu) -> bool
     requires { RunsSome cpu.now }
     ensures { ForEach cpu.now (λ x plan s m t. result ≡ depended_on m.progress.job (top t.frames).identity) }
@@ -25,6 +26,7 @@ pub fn is_critical(cpu: &Cpu) -> bool
 }
 
 /// The registers without the top activation record, where the caller goes on.
+#[inline(always)]
 pub fn caller(cpu: &Cpu, mark: Mscw) -> Regs
     requires { (a : MayReturn cpu.now) × (mark ≡ top_mark_of cpu.now.regs.slot (a.top ∷ a.below)) }
     ensures { (a : MayReturn cpu.now) → mark ≡ top_mark_of cpu.now.regs.slot (a.top ∷ a.below)

@@ -57,6 +57,7 @@ fn copy_refusal(cpu: &Cpu, word: Word) -> Option<Fault>
 }
 
 /// Why the word at the top of the stack may not be returned.
+#[inline(always)]
 pub fn refusal(cpu: &Cpu, word: Word) -> Option<Fault>
     requires { (r : RunsSome cpu.now) × (v : Words.Word) × IsTopWord r.storage r.plan r.member r.task cpu.now v word }
     ensures { ForEach cpu.now (λ x plan s m t. (v : Words.Word) → IsTopWord x plan m t cpu.now v word

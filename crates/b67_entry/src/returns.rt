@@ -20,6 +20,7 @@ use b67_stack::{Cpu, Step, What};
 use b67_word::{Fault, Word};
 
 /// Goes on with these registers and this display, and a word more on the stack.
+#[inline(always)]
 fn put(cpu: &mut Cpu, regs: Regs, display: [u32; 32], word: Word)
     requires { regs.s + 1 < length cpu.old.core }
     ensures { cpu.new ≡ with_word cpu.old regs display word }
@@ -27,6 +28,19 @@ fn put(cpu: &mut Cpu, regs: Regs, display: [u32; 32], word: Word)
     cpu.regs = regs;
     cpu.display = display;
     cpu.put(word);
+}
+
+/// Goes on with these registers, whose environment the display then shows, and a word more on the stack.
+#[inline(always)]
+fn settle(cpu: &mut Cpu, regs: Regs, value: Word)
+    requires run { RunningContext cpu.old.core regs }
+    requires room { regs.s + 1 < length cpu.old.core }
+    ensures shown { (a : RunningContext cpu.old.core regs) → IsShown a cpu.new.display }
+    ensures rest { cpu.new ≡ with_word cpu.old regs cpu.new.display value }
+{
+    cpu.regs = regs;
+    rebuild(&cpu.core, &cpu.regs, &mut cpu.display);
+    cpu.put(value);
 }
 
 /// Evaluates the word that is returned to a caller who wants a value, in the state without the top activation record.
@@ -93,11 +107,11 @@ pub fn retn(cpu: &mut Cpu) -> Step
         return Step::Ended;
     }
     let regs = caller(cpu, mark);
-    let mut display = cpu.display;
-    rebuild(&cpu.core, &regs, &mut display);
     if mark.value && word.tag() != 0 {
+        let mut display = cpu.display;
+        rebuild(&cpu.core, &regs, &mut display);
         return evaluate(cpu, regs, display, word);
     }
-    put(cpu, regs, display, word);
+    settle(cpu, regs, word);
     Step::Done
 }

@@ -18,7 +18,7 @@ use Rattle.b67_refer.specs.declared.ends.End.TheVariants as end
 use Rattle.b67_refer.specs.RunningContext.{RunningContext}
 use Rattle.b67_refer.specs.Ends.{EndMeets, IsProcAt}
 use Rattle.b67_entry.specs.Procedures.{ReachesProc}
-use Rattle.b67_fetch.specs.Fetches.{is_procedure_end, enters_at, EntersOrMeets}
+use Rattle.b67_fetch.specs.Fetches.{IsEnd, FindsEnd, is_procedure_end, enters_at, EntersOrMeets}
 use Rattle.b67_fetch.proofs.Values.{here_scene, here_shown, followed_stands, couple_followed}
 use Rattle.b67_exec.specs.Procedures.{LeadsToProcedure}
 
@@ -61,6 +61,24 @@ met_by x plan s m r old new false answer other i = i
 pub called_by : (x : Storage) (plan : Placement) (s : Session) (m : SessionJob) (n : ℕ) (old new : Cpu) (b : Bool) (answer : Answer Done) → EntersOrMeets x plan s m (step.Call n) old new b answer → (b ≡ true) × (new ≡ old)
 called_by x plan s m n old new true answer i = (refl, i.1)
 called_by x plan s m n old new false answer i = absurd i
+
+-- an end that isn't a procedure's
+other_by : (plan : Placement) (m : SessionJob) (core : List Tagged) (found : End) (e : Chase.End) → IsEnd plan m core found e → ((cell : ℕ) → found ≢ end.Proc cell) → is_procedure_end e ≡ false
+other_by plan m core found (AtCell f offset bits) is other = refl
+other_by plan m core found (AtElement n i) is other = refl
+other_by plan m core found (AtArray n) is other = refl
+other_by plan m core found (AtIntrinsic n) is other = refl
+other_by plan m core (end.Proc cell) (AtProc f segment level place) is other = absurd (other cell refl)
+other_by plan m core (end.Cell at) (AtProc f segment level place) is other = absurd is
+other_by plan m core (end.Element original index) (AtProc f segment level place) is other = absurd is
+other_by plan m core (end.Array original) (AtProc f segment level place) is other = absurd is
+other_by plan m core (end.Intrinsic n) (AtProc f segment level place) is other = absurd is
+
+-- what is made at such an end
+pub met_at : (x : Storage) (plan : Placement) (s : Session) (m : SessionJob) (r : Step) (old new : Cpu) (found : End) (e : Answer Chase.End) (answer : Answer Done) → FindsEnd plan m old.core (Ok found) e → ((cell : ℕ) → found ≢ end.Proc cell)
+    → EntersOrMeets x plan s m r old new (enters_at e) answer → Meets x plan s m r old new answer
+met_at x plan s m r old new found (Ok e) answer is other i = subst (λ (b : Bool). EntersOrMeets x plan s m r old new b answer) (other_by plan m old.core found e is other) i
+met_at x plan s m r old new found (Err f) answer is other i = absurd is
 
 module _ (x : Storage) (cpu : Cpu) (plan : Placement) (s : Session) (m : SessionJob) (t : Task) (ordered : IsInOrderButCounts s) (h : RepresentsSession x cpu plan s) (runs : IsRunning plan s.jobs m t) where
   -- a couple that leads to a procedure

@@ -10,3 +10,4 @@ pub mod Nears
 pub mod Readers
 pub mod NearTable
 pub mod Through
+pub mod Dones

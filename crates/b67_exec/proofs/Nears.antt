@@ -15,6 +15,7 @@ use Rattle.b67_lemmas.specs.Lists.{Has}
 use Rattle.b67_lemmas.proofs.Keyed.{keyed-change_same}
 use Rattle.b67_lemmas.proofs.Members.{change_found, has_append_right, keyed_has}
 use Rattle.b67_lemmas.proofs.Places.{get_within}
+use Rattle.b67_lemmas.specs.Keyed.{keyed}
 use Rattle.b67_model.specs.declared.operators.Op.{Op}
 use Rattle.b67_model.specs.declared.operators.Op.TheVariants.{Valc, Namc, Lt8, Lt16, Lt48, Mpcw, Brun, Brtr, Brfl, Bset, Brst, Isol, Insr, Plain}
 use Rattle.b67_model.specs.declared.operators.Code.{Code}
@@ -160,20 +161,15 @@ same_desc a b p q e =
 
 -- ---- the segment
 
-module _ (x : Storage) (old new : Cpu) (plan : Placement) (s : Session) (m : SessionJob) (t : Task) (ordered : IsInOrderButCounts s) (h : RepresentsSession x old plan s) (runs : IsRunning plan s.jobs m t)
-    (left : List PagedObject) (cs : List Word) (q : Place) (stands : RepresentsSessionBut left x new plan (with_job s m (with_task m.progress.job (task_with t cs q)))) where
-  abbrev job : Job
-  job = with_task m.progress.job (task_with t cs q)
+-- the member with another job
+member_after : (s : Session) (m : SessionJob) (job : Job) → keyed number_of m.constants.number s.jobs ≡ Some m
+    → keyed number_of m.constants.number (with_job s m job).jobs ≡ Some (record m { progress = record m.progress { job = job } })
+member_after s m job there = keyed-change_same number_of m.constants.number (λ (y : SessionJob). record y { progress = record m.progress { job = job } }) (λ y. refl) s.jobs m there
 
+module _ (x : Storage) (old new : Cpu) (plan : Placement) (s : Session) (m : SessionJob) (t : Task) (ordered : IsInOrderButCounts s) (h : RepresentsSession x old plan s) (runs : IsRunning plan s.jobs m t)
+    (left : List PagedObject) (job : Job) (stands : RepresentsSessionBut left x new plan (with_job s m job)) (dict_is : new.regs.dict ≡ old.regs.dict) (segment_is : new.regs.segment ≡ old.regs.segment) where
   abbrev member : SessionJob
   member = record m { progress = record m.progress { job = job } }
-
-  pub found_member : IsRunning plan (with_job s m job).jobs member (task_with t cs q)
-  found_member = record {
-    member = keyed-change_same number_of m.constants.number (λ (y : SessionJob). record y { progress = record m.progress { job = job } }) (λ y. refl) s.jobs m runs.member;
-    task = change_found (λ (u : Task). u.number) t.number t (task_with t cs q) m.progress.job.tasks refl runs.task;
-    slot = runs.slot;
-  }
 
   segment : (g : Segment) × (slice_get m.constants.segments (t.segment - 1) ≡ Some g)
   segment = let o = (running_in_order plan s m t ordered runs).1.place in get_within m.constants.segments (t.segment - 1) (omega (arith, o.from_one, o.within))
@@ -188,15 +184,15 @@ module _ (x : Storage) (old new : Cpu) (plan : Placement) (s : Session) (m : Ses
   there =
       let o = (running_in_order plan s m t ordered runs).1.place in
       has_append_right left (flat_map (objects_of plan) (with_job s m job).jobs) object
-      (member_objects plan (with_job s m job).jobs member object (keyed_has number_of m.constants.number (with_job s m job).jobs member found_member.member).0
+      (member_objects plan (with_job s m job).jobs member object (keyed_has number_of m.constants.number (with_job s m job).jobs member (member_after s m job runs.member)).0
       (before (code_objects plan m.constants.number 1 m.constants.segments) (map (array_object plan m.constants.number) job.arrays) object
       (code_object plan m.constants.number 1 m.constants.segments (t.segment - 1) (plan.dictionary m.constants.number + 1 + t.segment) segment.0 segment.1 (omega (arith, o.from_one)))))
 
   -- the running segment's descriptor stands where it stood
   pub word_after : slice_get new.core (new.regs.dict + new.regs.segment) ≡ Some (seg_word (code_desc x plan m t))
   word_after =
-      let o = stands.holds.running member (task_with t cs q) found_member in
-      let at : new.regs.dict + new.regs.segment ≡ plan.dictionary m.constants.number + 1 + t.segment = omega (arith, o.dict, o.segment) in
+      let o = h.holds.running m t runs in
+      let at : new.regs.dict + new.regs.segment ≡ plan.dictionary m.constants.number + 1 + t.segment = omega (arith, o.dict, o.segment, dict_is, segment_is) in
       let d = code_desc x plan m t in
       ap (slice_get new.core) at ∙ (stands.holds.memory.objects object there).home
       ∙ ap (λ (n : ℕ). Some (seg_word (record { present = d.present; words = n; address = d.address }))) (ap length (sym code-is))
@@ -215,37 +211,57 @@ module _ (x : Storage) (old new : Cpu) (plan : Placement) (s : Session) (m : Ses
 
 -- ---- what stays
 
-module _ (old new : Cpu) (desc : SegDesc) (r : RunsSome old) (answer : Answer Done) (k : IsMade r.storage r.plan r.session r.member old new answer) (Goes_to : Place → Type 0)
-    (l : LeavesCells r.member r.task k.job [] k.touched Goes_to) (code : HoldsCode old desc) where
+-- where the segment is the same, so are its descriptor and its code
+module _ (old new : Cpu) (desc : SegDesc) (r : RunsSome old) (answer : Answer Done) (k : IsMade r.storage r.plan r.session r.member old new answer)
+    (dict_is : new.regs.dict ≡ old.regs.dict) (segment_is : new.regs.segment ≡ old.regs.segment) (code : HoldsCode old desc) where
   abbrev left : List PagedObject
   left = objects_gone r.plan r.member k.job
-
-  shows : RepresentsSessionBut left r.storage new r.plan (with_job r.session r.member (with_task r.member.progress.job (task_with r.task l.cells l.place)))
-  shows = let S : Job → Type 0 = λ j. RepresentsSessionBut left r.storage new r.plan (with_job r.session r.member j) in subst S l.is k.stands
 
   given : GivesSegment r.storage r.plan r.member r.task (Some desc)
   given = code r.storage r.plan r.session r.member r.task r.ordered r.stands r.running
 
-  -- the running segment's descriptor
   pub holds_on : HoldsCode new desc
   holds_on x plan s m t ordered h runs =
-      let before_is = word_after r.storage old new r.plan r.session r.member r.task r.ordered r.stands r.running left l.cells l.place shows in
+      let before_is = word_after r.storage old new r.plan r.session r.member r.task r.ordered r.stands r.running left k.job k.stands dict_is segment_is in
       let now_is = word-is x new plan s m t ordered h runs in
       let one : seg_word (code_desc r.storage r.plan r.member r.task) ≡ seg_word (code_desc x plan m t) = same_Some _ _ (sym before_is ∙ now_is) in
       (given.0 ∙ same_desc (code_desc r.storage r.plan r.member r.task) (code_desc x plan m t) (desc-fits r.storage old r.plan r.session r.member r.task r.ordered r.stands r.running) (desc-fits x new plan s m t ordered h runs) one, given.1)
 
-  -- its code
   pub code_on : (x : Storage) (plan : Placement) (s : Session) (m : SessionJob) (t : Task) → IsInOrderButCounts s → RepresentsSession x new plan s → IsRunning plan s.jobs m t → code_of r.member.constants r.task.segment ≡ code_of m.constants t.segment
   code_on x plan s m t ordered h runs =
       let now = holds_on x plan s m t ordered h runs in
       let words : List Tagged = slice_range new.core desc.address (desc.address + desc.words) in
       let length-is : words ≡ slice_range new.core desc.address (desc.address + length (code_of m.constants t.segment)) = ap (λ (n : ℕ). slice_range new.core desc.address (desc.address + n)) (ap (λ (d : SegDesc). d.words) now.0) in
-      sym (words_after r.storage old new r.plan r.session r.member r.task r.ordered r.stands r.running left l.cells l.place shows desc words given refl)
+      sym (words_after r.storage old new r.plan r.session r.member r.task r.ordered r.stands r.running left k.job k.stands dict_is segment_is desc words given refl)
       ∙ code-read x new plan s m t ordered h runs desc.address words (present x new plan s m t ordered h runs desc now.0 now.1) length-is
 
-  -- where the task goes on
+-- with other cells alone the task goes on in its segment
+module _ (old new : Cpu) (r : RunsSome old) (answer : Answer Done) (k : IsMade r.storage r.plan r.session r.member old new answer) (Goes_to : Place → Type 0)
+    (l : LeavesCells r.member r.task k.job [] k.touched Goes_to) where
+  abbrev task : Task
+  task = task_with r.task l.cells l.place
+
+  abbrev job : Job
+  job = with_task r.member.progress.job task
+
+  shows : RepresentsSessionBut (objects_gone r.plan r.member k.job) r.storage new r.plan (with_job r.session r.member job)
+  shows = let S : Job → Type 0 = λ j. RepresentsSessionBut (objects_gone r.plan r.member k.job) r.storage new r.plan (with_job r.session r.member j) in subst S l.is k.stands
+
+  found_member : IsRunning r.plan (with_job r.session r.member job).jobs (record r.member { progress = record r.member.progress { job = job } }) task
+  found_member = record {
+    member = member_after r.session r.member job r.running.member;
+    task = change_found (λ (u : Task). u.number) r.task.number r.task task r.member.progress.job.tasks refl r.running.task;
+    slot = r.running.slot;
+  }
+
   pub place_on : new.regs.place ≡ l.place
-  place_on = (shows.holds.running _ _ (found_member r.storage old new r.plan r.session r.member r.task r.ordered r.stands r.running left l.cells l.place shows)).place
+  place_on = (shows.holds.running _ _ found_member).place
+
+  pub dict_on : new.regs.dict ≡ old.regs.dict
+  dict_on = let now = shows.holds.running _ _ found_member in let before_it = r.stands.holds.running r.member r.task r.running in omega (arith, now.dict, before_it.dict)
+
+  pub segment_on : new.regs.segment ≡ old.regs.segment
+  segment_on = let now = shows.holds.running _ _ found_member in let before_it = r.stands.holds.running r.member r.task r.running in omega (arith, now.segment, before_it.segment)
 
 -- and so it is after any answer
 pub code_after : (old new : Cpu) (desc : SegDesc) (r : RunsSome old) (op : Op) (q : Place) (answered : Step) → is_far op ≡ false → HoldsCode old desc
@@ -257,7 +273,10 @@ code_after old new desc r op q answered near code rows = by answered (rows r.sto
   by : (a : Step) → CallsOrMeets r.storage r.plan r.session r.member a old new (called op (here r.member r.task q)) (row op (here r.member r.task q)) → HoldsCode new desc
   by answers.Done i =
       let k = made_near r.storage r.plan r.session r.member old new (called op (here r.member r.task q)) (row op (here r.member r.task q)) i in
-      holds_on old new desc r (row op (here r.member r.task q)) k (λ p. Unit {0}) (near_leaves r.member r.task k.job [] k.touched (λ p. Unit {0}) (λ p. tt) q op near k.is) code
+      let G : Place → Type 0 = λ p. Unit {0} in
+      let l = near_leaves r.member r.task k.job [] k.touched G (λ p. tt) q op near k.is in
+      let made = row op (here r.member r.task q) in
+      holds_on old new desc r made k (dict_on old new r made k G l) (segment_on old new r made k G l) code
   by (answers.Absent found) i = kept (unmade r.storage r.plan r.session r.member (answers.Absent found) old new (called op (here r.member r.task q)) (row op (here r.member r.task q)) (λ e. cc) i)
   by (answers.Call n) i = kept (unmade r.storage r.plan r.session r.member (answers.Call n) old new (called op (here r.member r.task q)) (row op (here r.member r.task q)) (λ e. cc) i)
   by (answers.Fault fault) i = kept (unmade r.storage r.plan r.session r.member (answers.Fault fault) old new (called op (here r.member r.task q)) (row op (here r.member r.task q)) (λ e. cc) i)

@@ -20,12 +20,13 @@ use Rattle.b67_exec_cells.proofs.Rows.{Drops, an_operand}
 use Rattle.b67_word.specs.Tagged.{Tagged}
 use Rattle.b67_exec_cells.proofs.Codes.{present}
 use Rattle.b67_entry.specs.Procedures.{CallsOrMeets}
+use Rattle.b67_layout_step.specs.Keeping.{is_leaving}
 use Rattle.b67_exec.specs.Operators.{OperatorMeets, leaves_record}
 use Rattle.b67_exec.specs.declared.reader.Reader.{Reader}
-use Rattle.b67_exec.specs.Near.{HoldsCode, ReaderAt, ReaderBehind, ReadsThrough, reader_place, is_straight, WentOn, NearMade, MadeNear, code_of_numbers, resting_code, branch_op}
+use Rattle.b67_exec.specs.Near.{HoldsCode, ReaderAt, ReaderBehind, ReadsThrough, reader_place, is_straight, WentOn, NearMade, MadeNear, FarMade, code_of_numbers, resting_code, branch_op}
 use Rattle.b67_exec.specs.declared.firsts.Near.{Near}
 use Rattle.b67_exec.specs.Firsts.{near_form}
-use Rattle.b67_exec.proofs.Nears.{unmet, LeavesCells, leaves, straight_leaves, straight_stays, straight_calls, branch_stays, branch_calls, holds_on, code_on, place_on}
+use Rattle.b67_exec.proofs.Nears.{unmet, made_near, LeavesCells, leaves, straight_leaves, straight_stays, straight_calls, branch_stays, branch_calls, holds_on, code_on, place_on, dict_on, segment_on}
 use Rattle.b67_exec.proofs.Readings.{operator_read}
 use Rattle.b67_exec.proofs.Readers.{top_is}
 
@@ -161,19 +162,26 @@ row_of old new before next op code read quiet x plan s m t ordered h runs k =
     let C : Option ℕ → Type 0 = λ o. CallsOrMeets x plan s m answers.Done old new o (row op (here m t next)) in
     operator_read x plan s m t answers.Done old new before.code.address (Ok (op, next)) (present x old plan s m t ordered h runs before.code given.0 given.1) (read x plan s m t ordered h runs) (subst C (sym (quiet (here m t next))) k)
 
--- a reader of the code, where the task has gone on to its place
-stands_there : (old new : Cpu) (r : RunsSome old) (answer : Answer Done) (k : IsMade r.storage r.plan r.session r.member old new answer) (G : Place → Type 0) (l : LeavesCells r.member r.task k.job [] k.touched G) (at : Reader) (n : ℕ)
+-- a reader of the code, where the task has gone on to its place in the same segment
+pub stands_there : (old new : Cpu) (r : RunsSome old) (answer : Answer Done) (k : IsMade r.storage r.plan r.session r.member old new answer) (at : Reader) (n : ℕ) → new.regs.dict ≡ old.regs.dict → new.regs.segment ≡ old.regs.segment
     → HoldsCode old at.code → ReaderAt at (code_of r.member.constants r.task.segment) n → new.regs.place ≡ reader_place at → ReaderBehind new at 0
-stands_there old new r answer k G l at n code a place = record {
-  code = holds_on old new at.code r answer k G l code;
+stands_there old new r answer k at n dict segment code a place = record {
+  code = holds_on old new at.code r answer k dict segment code;
   in_word = (let low : 6 - at.left < 6 = omega (arith, a.some, a.few) in subst (λ (p : Place). p.syllable < 6) (sym place) low);
   at = λ x plan s m t ordered h runs.
-      let same = code_on old new at.code r answer k G l code x plan s m t ordered h runs in
+      let same = code_on old new at.code r answer k dict segment code x plan s m t ordered h runs in
       let here_is : t.place ≡ reader_place at = sym (h.holds.running m t runs).place ∙ place in
       let count : n ≡ count_at (reader_place at) + 0 = omega (arith, a.at, a.some, a.few) in
       subst (λ (p : Place). ReaderAt at (code_of m.constants t.segment) (count_at p + 0)) (sym here_is)
       (subst (λ (i : ℕ). ReaderAt at (code_of m.constants t.segment) i) count (subst (λ (c : List ℕ). ReaderAt at c n) same a));
 }
+
+-- with other cells alone
+stands_with : (old new : Cpu) (r : RunsSome old) (answer : Answer Done) (k : IsMade r.storage r.plan r.session r.member old new answer) (at : Reader) (n : ℕ) → LeavesCells r.member r.task k.job [] k.touched (λ p. p ≡ reader_place at)
+    → HoldsCode old at.code → ReaderAt at (code_of r.member.constants r.task.segment) n → ReaderBehind new at 0
+stands_with old new r answer k at n l code a =
+    let G : Place → Type 0 = λ p. p ≡ reader_place at in
+    stands_there old new r answer k at n (dict_on old new r answer k G l) (segment_on old new r answer k G l) code a (place_on old new r answer k G l ∙ l.goes)
 
 -- the task goes on at a place, with fewer cells
 pub record GoesWith (x : Storage) (plan : Placement) (s : Session) (m : SessionJob) (t : Task) (old new : Cpu) (place : Place) : Type 0 where
@@ -217,7 +225,7 @@ straight_made old new before next after op answered true r b near read each w =
       row = λ x plan s m t ordered h runs. row_of old new before (reader_place next) op b.code read.reads (straight_calls op near) x plan s m t ordered h runs (done x plan s m t ordered h runs);
       left = λ x plan s m t ordered h runs. ap leaves_record (sym (read.reads x plan s m t ordered h runs)) ∙ straight_stays op near;
       stands = subst (λ (z : Reader). ReaderBehind new z 0) (sym w.1)
-          (stands_there old new r answer k G l next (count_at r.task.place + read.length) read.stands.code (read.stands.at r.storage r.plan r.session r.member r.task r.ordered r.stands r.running) (place_on old new next.code r answer k G l read.stands.code ∙ l.goes));
+          (stands_with old new r answer k next (count_at r.task.place + read.length) l read.stands.code (read.stands.at r.storage r.plan r.session r.member r.task r.ordered r.stands r.running));
     }
 straight_made old new before next after op answered false r b near read each w =
     (unmet r.storage r.plan r.session r.member answered old new (row op (here r.member r.task (reader_place next))) w.0 (each r.storage r.plan r.session r.member r.task r.ordered r.stands r.running), w.1)
@@ -228,12 +236,34 @@ pub branch_made : (old new : Cpu) (before at : Reader) (always wanted : Bool) (t
     → GoesWith r.storage r.plan r.session r.member r.task old new (reader_place at) → HoldsCode old at.code → (n : ℕ) → ReaderAt at (code_of r.member.constants r.task.segment) n → NearMade old new at
 branch_made old new before at always wanted target next r b read made g code n stands =
     let op : Op = branch_op always wanted target in
-    let G : Place → Type 0 = λ p. p ≡ reader_place at in
     record {
       row = λ x plan s m t ordered h runs. row_of old new before next op b.code read (branch_calls always wanted target) x plan s m t ordered h runs (made x plan s m t ordered h runs);
       left = λ x plan s m t ordered h runs. ap leaves_record (sym (read x plan s m t ordered h runs)) ∙ branch_stays always wanted target;
-      stands = stands_there old new r g.answer g.made G g.leaves at n code stands (place_on old new at.code r g.answer g.made G g.leaves code ∙ g.leaves.goes);
+      stands = stands_with old new r g.answer g.made at n g.leaves code stands;
     }
+
+-- a far operator that leaves no activation record
+module _ (old new : Cpu) (before next : Reader) (op : Op) (q : Place) (code : HoldsCode old before.code) (read : ReadsThrough old op next) (at : q ≡ reader_place next)
+    (made : ForEach old (λ x plan s m t. CallsOrMeets x plan s m answers.Done old new (called op (here m t q)) (row op (here m t q)))) (stays : is_leaving op ≡ false) where
+  pub far_made : FarMade old new
+  far_made = record {
+    row = λ x plan s m t ordered h runs.
+        let given = code x plan s m t ordered h runs in
+        let C : Place → Type 0 = λ p. CallsOrMeets x plan s m answers.Done old new (called op (here m t p)) (row op (here m t p)) in
+        operator_read x plan s m t answers.Done old new before.code.address (Ok (op, reader_place next)) (present x old plan s m t ordered h runs before.code given.0 given.1) (read.reads x plan s m t ordered h runs) (subst C at (made x plan s m t ordered h runs));
+    left = λ x plan s m t ordered h runs. ap leaves_record (sym (read.reads x plan s m t ordered h runs)) ∙ stays;
+  }
+
+  -- after which the task goes on behind it
+  pub far_on : RunsSome old → new.regs.dict ≡ old.regs.dict → new.regs.segment ≡ old.regs.segment → new.regs.place ≡ q → NearMade old new next
+  far_on r dict segment place =
+      let h = here r.member r.task q in
+      let k = made_near r.storage r.plan r.session r.member old new (called op h) (row op h) (made r.storage r.plan r.session r.member r.task r.ordered r.stands r.running) in
+      record {
+        row = far_made.row;
+        left = far_made.left;
+        stands = stands_there old new r (row op h) k next (count_at r.task.place + read.length) dict segment read.stands.code (read.stands.at r.storage r.plan r.session r.member r.task r.ordered r.stands r.running) (place ∙ at);
+      }
 
 -- ---- forms and rows
 

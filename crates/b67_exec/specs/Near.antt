@@ -17,6 +17,8 @@ use Rattle.b67_layout.specs.Meets.{ForEach}
 use Rattle.b67_exec_cells.specs.Running.{GivesSegment}
 use Rattle.b67_exec.specs.Operators.{goes_far, OperatorMeets, leaves_record}
 use Rattle.b67_exec.specs.declared.reader.Reader.{Reader}
+use Rattle.b67_exec.specs.declared.far.Went.{Went}
+use Rattle.b67_exec.specs.declared.far.Went.TheVariants as went
 
 -- the running segment is present, and this is its descriptor
 abbrev pub HoldsCode : Cpu → SegDesc → Type 0
@@ -90,3 +92,19 @@ abbrev pub branch_op : Bool → Bool → Place → Op
 branch_op true wanted = Brun
 branch_op false true = Brtr
 branch_op false false = Brfl
+
+-- whether the step was made
+abbrev pub SaysDone : Step → Bool → Type 0
+SaysDone step true = step ≡ Done
+SaysDone step false = step ≢ Done
+
+-- an operator was made that leaves no activation record
+pub record FarMade (old new : Cpu) : Type 0 where
+  pub row : ForEach old (λ x plan s m t. OperatorMeets x plan s m t Done old new)
+  pub left : ForEach old (λ x plan s m t. leaves_record (reading_of m.constants t) ≡ false)
+
+-- an operator was made, and the reader stands where the task goes on or the task went elsewhere; or nothing was changed
+abbrev pub WentFar : Cpu → Reader → Went → Cpu → Reader → Type 0
+WentFar old before went.On new after = NearMade old new after
+WentFar old before went.Away new after = FarMade old new
+WentFar old before went.Not new after = (new ≡ old) × (after ≡ before)

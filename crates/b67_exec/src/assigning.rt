@@ -19,6 +19,7 @@ use b67_stack::{Cpu, Step};
 use b67_word::{Place, Word};
 
 /// Enters the procedure to which the second cell from the top leads, where the value on top takes that cell's place.
+#[inline(always)]
 fn enter_under(cpu: &mut Cpu, lower: Word, upper: Word) -> Step
     requires { (a : RunsSome cpu.old) × (q : Place) × ValueOver cpu.old a.storage a.plan a.member a.task q lower upper }
     ensures row { ForEach cpu.old (λ x plan s m t. (q : Place) (keeps : Bool) → ValueOver cpu.old x plan m t q lower upper → Meets x plan s m result cpu.old cpu.new (rows.store keeps (here m t q) (cells t))) }
@@ -39,6 +40,7 @@ fn enter_under(cpu: &mut Cpu, lower: Word, upper: Word) -> Step
 }
 
 /// Enters the procedure to which one of the two top cells leads; the other one, a value, stays.
+#[inline(always)]
 fn enter(cpu: &mut Cpu) -> Step
     requires { StoresInProc cpu.old }
     ensures row { ForEach cpu.old (λ x plan s m t. (q : Place) (keeps : Bool) → enters_at (store_end (here m t q) (cells t)) ≡ true → Meets x plan s m result cpu.old cpu.new (rows.store keeps (here m t q) (cells t))) }

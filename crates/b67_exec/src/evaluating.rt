@@ -14,12 +14,13 @@ ghost use Rattle.b67_exec.specs.Procedures.{LeadsToProcedure, EntersTop};
 
 use b67_ctl::{Irw, Regs};
 use b67_entry::{accident, accident_on};
-use b67_fetch::valc;
+use b67_fetch::value;
 use b67_refer::{End, chase};
 use b67_stack::{Cpu, Step};
 use b67_word::{Place, Word};
 
 /// The core address of the cell of the procedure to which a word leads.
+#[inline(always)]
 pub fn procedure_cell(cpu: &Cpu, w: Word) -> u32
     requires { (a : RunningContext cpu.now.core cpu.now.regs) × (q : Place) × (f : ℕ) × (segment : ℕ) × (level : ℕ) × (place : Place) × LeadsToProcedure cpu.now a q w f segment level place }
     ensures { (a : RunningContext cpu.now.core cpu.now.regs) (q : Place) (f segment level : ℕ) (place : Place) → LeadsToProcedure cpu.now a q w f segment level place → IsProcAt a q result f segment level place }
@@ -43,17 +44,19 @@ pub fn evaluate(cpu: &mut Cpu, couple: u16, next: Place) -> Step
     requires next { IsPlace next }
     ensures row { ForEach cpu.old (λ x plan s m t. Meets x plan s m result cpu.old cpu.new (rows.valc (here m t next) couple)) }
 {
-    match valc(cpu, couple, next) {
-        Step::Call(_) => {
-            let cell = procedure_cell(cpu, Irw { couple }.word());
-            accident(cpu, cell, true, next)
-        }
-        step => step,
+    let end = match chase(&cpu.core, &cpu.regs, &cpu.display, Irw { couple }.word()) {
+        Ok(end) => end,
+        Err(fault) => return Step::Fault(fault),
+    };
+    match end {
+        End::Proc(cell) => accident(cpu, cell, true, next),
+        _ => value(cpu, 0, end, next),
     }
 }
 
 /// Enters the procedure to which the top cell leads, in that cell's place. It returns to the running operator. INVALID
 /// OPERAND if its level doesn't fit, STACK OVERFLOW.
+#[inline(always)]
 pub fn enter_in_place(cpu: &mut Cpu) -> Step
     requires { EntersTop cpu.old }
     ensures row { ForEach cpu.old (λ x plan s m t. (q : Place) → enters_at (top_end (here m t q) (cells t)) ≡ true → Meets x plan s m result cpu.old cpu.new (rows.load (here m t q) (cells t))) }

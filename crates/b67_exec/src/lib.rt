@@ -3,6 +3,7 @@
 
 mod assigning;
 mod evaluating;
+mod far;
 mod firsts;
 mod near;
 mod operators;
@@ -11,6 +12,7 @@ mod reader;
 pub use assigning::{stod, ston};
 pub use b67_entry::{exit, retn};
 pub use evaluating::{enter_in_place, evaluate, load, procedure_cell};
+pub use far::{Went, operate_far};
 pub use near::operate_near;
 pub use operators::{Executed, Performed, operate, operate_at, operate_in, operator};
 pub use reader::{Reader, reader_at};

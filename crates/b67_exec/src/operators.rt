@@ -84,7 +84,7 @@ fn goes_far(code: Code) -> bool
 
 /// Whether an operator is far.
 #[inline(always)]
-fn is_far(op: Op) -> bool
+pub(crate) fn is_far(op: Op) -> bool
     ensures { result ≡ is_far op }
 {
     match op {
@@ -146,7 +146,7 @@ fn stay(cpu: &mut Cpu, op: Op, next: Place) -> Step
 
 /// Whether an operator leaves an activation record.
 #[inline(always)]
-fn leaves(op: Op) -> bool
+pub(crate) fn leaves(op: Op) -> bool
     ensures { result ≡ is_leaving op }
 {
     match op {
@@ -156,9 +156,9 @@ fn leaves(op: Op) -> bool
 }
 
 /// A far operator without parameters. The task goes on at `next`, or where the entered procedure begins or the caller goes
-/// on. It isn't inlined, so that near operators keep their answers in registers.
-#[inline(never)]
-fn far_plain(cpu: &mut Cpu, code: Code, next: Place) -> Step
+/// on.
+#[inline(always)]
+pub(crate) fn far_plain(cpu: &mut Cpu, code: Code, next: Place) -> Step
     requires runs { RunsSome cpu.old }
     requires far { goes_far code ≡ true }
     requires next { IsPlace next }
@@ -190,6 +190,35 @@ fn far_plain(cpu: &mut Cpu, code: Code, next: Place) -> Step
     }
 }
 
+/// `far_plain` behind a call, so that near operators keep their answers in registers.
+#[inline(never)]
+fn far_apart(cpu: &mut Cpu, code: Code, next: Place) -> Step
+    requires runs { RunsSome cpu.old }
+    requires far { goes_far code ≡ true }
+    requires next { IsPlace next }
+    ensures row { ForEach cpu.old (λ x plan s m t. CallsOrMeets x plan s m result cpu.old cpu.new (called (Plain code) (here m t next)) (plain_row code (here m t next))) }
+    ensures cuts { is_leaving (Plain code) ≡ true → result ≡ Done → CutsRecord cpu.old cpu.new }
+{
+    far_plain(cpu, code, next)
+}
+
+/// `far_plain`, directly where an activation record is left, and else behind a call.
+#[inline(always)]
+fn far_code(cpu: &mut Cpu, code: Code, next: Place) -> Step
+    requires runs { RunsSome cpu.old }
+    requires far { goes_far code ≡ true }
+    requires next { IsPlace next }
+    ensures row { ForEach cpu.old (λ x plan s m t. CallsOrMeets x plan s m result cpu.old cpu.new (called (Plain code) (here m t next)) (plain_row code (here m t next))) }
+    ensures cuts { is_leaving (Plain code) ≡ true → result ≡ Done → CutsRecord cpu.old cpu.new }
+{
+    match code {
+        Code::Exit => return exit(cpu),
+        Code::Retn => return retn(cpu),
+        _ => {}
+    }
+    far_apart(cpu, code, next)
+}
+
 /// A far operator.
 #[inline(always)]
 fn far(cpu: &mut Cpu, op: Op, next: Place) -> Step
@@ -201,7 +230,7 @@ fn far(cpu: &mut Cpu, op: Op, next: Place) -> Step
     ensures cuts { is_leaving op ≡ true → result ≡ Done → CutsRecord cpu.old cpu.new }
 {
     match op {
-        Op::Plain(code) => far_plain(cpu, code, next),
+        Op::Plain(code) => far_code(cpu, code, next),
         Op::Valc(couple) => evaluate(cpu, couple, next),
         Op::Mpcw(bits) => mpcw(cpu, bits, next),
         Op::Bset(n) => on_one(cpu, Unary::Bset(n), next),

@@ -22,6 +22,7 @@ use b67_stack::{Cpu, Step};
 use b67_word::{Fault, Place, Word};
 
 /// The original's address of the array at an end. INVALID OPERAND at any other end.
+#[inline(always)]
 fn array_in(end: End) -> Result<u32, Fault>
     ensures { result ≡ array_in end }
 {
@@ -35,6 +36,7 @@ fn array_in(end: End) -> Result<u32, Fault>
 
 /// The original's address of the array that a reference or a row copy leads to. The faults of `chase`; INVALID OPERAND for
 /// any other word, and where a reference ends elsewhere.
+#[inline(always)]
 fn array_of(cpu: &Cpu, w: Word) -> Result<u32, Fault>
     requires { MayFollow cpu.now w }
     ensures { ForEach cpu.now (λ x plan s m t. (q : Place) (v : words.Word) → IsFollowed x plan m t w v → FindsArray plan m result (array_of_row (here m t q) v)) }
@@ -55,6 +57,7 @@ fn array_of(cpu: &Cpu, w: Word) -> Result<u32, Fault>
 
 /// The index that an operand is in an array of `length` elements. EXPONENT if it isn't whole, INVALID INDEX if it is
 /// none of them.
+#[inline(always)]
 fn index_below(index: Word, length: u32) -> Result<u32, Fault>
     requires { index.tag ≡ 0 }
     ensures { result ≡ index_in length index.bits }
@@ -91,6 +94,7 @@ fn item_at(cpu: &Cpu, reference: Word, index: Word) -> Result<(u32, u32), Fault>
 }
 
 /// The element that the two top cells give, in either order. STACK UNDERFLOW, the faults of `item_at`.
+#[inline(always)]
 fn top_item(cpu: &Cpu) -> Result<(u32, u32), Fault>
     requires { RunsSome cpu.now }
     ensures item { ForEach cpu.now (λ x plan s m t. (q : Place) → FindsTopItem plan m (here m t q) (cells_of (here m t q)) result) }
@@ -108,6 +112,7 @@ fn top_item(cpu: &Cpu) -> Result<(u32, u32), Fault>
 }
 
 /// The word of a copy of an array's descriptor, of one element.
+#[inline(always)]
 fn item_copy(cpu: &Cpu, original: u32, index: u32) -> Word
     requires { HoldsElement cpu.now original index }
     ensures { ForEach cpu.now (λ x plan s m t. (n at : ℕ) → original ≡ plan.home m.constants.number n → HasElement m.progress.job n index → IsWordOf x plan m t (Element n index) at result) }

@@ -23,6 +23,7 @@ use b67_stack::{Cpu, PROCEDURE, Step, What};
 use b67_word::{Fault, Place, Word};
 
 /// Where a word leads that the running task may follow.
+#[inline(always)]
 fn end_of(cpu: &Cpu, w: Word) -> Result<End, Fault>
     requires { MayFollow cpu.now w }
     ensures { ForEach cpu.now (λ x plan s m t. (q : Place) (v : words.Word) → IsFollowed x plan m t w v → FindsEnd plan m cpu.now.core result (follow (here m t q) v)) }
@@ -50,7 +51,8 @@ pub(crate) fn put_element(cpu: &mut Cpu, count: u32, original: u32, index: u32, 
 
 /// Puts the value at an end in the place of the `count` top cells, and goes on at `next`. INVALID OPERAND at an array and
 /// at an intrinsic, else STACK OVERFLOW. If an array is absent, nothing is changed.
-fn value(cpu: &mut Cpu, count: u32, end: End, next: Place) -> Step
+#[inline(always)]
+pub fn value(cpu: &mut Cpu, count: u32, end: End, next: Place) -> Step
     requires end { SomeEnd cpu.old end }
     requires cells { cpu.old.regs.f + count ≤ cpu.old.regs.s }
     ensures row { ForEach cpu.old (λ x plan s m t. (gone rest : List words.Word) (e : ModelEnd) → cells t ≡ gone ++ rest → length gone ≡ count → NoOriginals gone
@@ -69,6 +71,7 @@ fn value(cpu: &mut Cpu, count: u32, end: End, next: Place) -> Step
 
 /// Pushes the value to which a couple of 14 bits leads, and goes on at `next`. The faults of references, INVALID OPERAND
 /// if it ends at an array or an intrinsic, STACK OVERFLOW. If an array is absent, nothing is changed.
+#[inline(always)]
 pub fn valc(cpu: &mut Cpu, couple: u16, next: Place) -> Step
     requires runs { RunsSome cpu.old }
     requires couple { couple < 2 ^ 14 }

@@ -17,6 +17,7 @@ use b67_word::{Fault, Place, Word};
 
 /// The core address of an element that is to be stored into. Else what the operator answers: MEMORY PROTECT if the
 /// array is read-only, then that it is absent.
+#[inline(always)]
 fn element_address(cpu: &Cpu, original: u32, index: u32) -> Result<u32, Step>
     requires { HoldsElement cpu.now original index }
     ensures { ForEach cpu.now (λ x plan s m t. (n : ℕ) → original ≡ plan.home m.constants.number n → HasElement m.progress.job n index → ElementAt x plan m n original index result) }
@@ -32,6 +33,7 @@ fn element_address(cpu: &Cpu, original: u32, index: u32) -> Result<u32, Step>
 }
 
 /// Stores a word, takes the two top cells off, keeps the word in their place or not, and goes on at `next`.
+#[inline(always)]
 fn put(cpu: &mut Cpu, at: u32, w: Word, keeps: bool, next: Place)
     requires at { at < length cpu.old.core }
     requires top { cpu.old.regs.s < length cpu.old.core }

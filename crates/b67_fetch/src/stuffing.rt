@@ -11,12 +11,13 @@ ghost use Rattle.b67_refer.specs.Cells.{reach, view, frame_at_core};
 use b67_core::Core;
 use b67_ctl::{DICTIONARY_STACKS, Irw, MCP_STACK, Regs, STACK_VECTOR, Sirw, VectorWord};
 use b67_exec_cells::{branch_to, replace_cells, top_cell};
-use b67_refer::cell_of;
+use b67_refer::{cell_of, couple_at};
 use b67_stack::{Cpu, Step};
-use b67_word::{Fault, Place, couple_of};
+use b67_word::{Fault, Place};
 
 /// The stuffed reference to an offset of the activation record whose mark is at an address: in a slot, the dictionary's
 /// or the MCP's.
+#[inline(always)]
 fn stuffed(core: &Core, regs: &Regs, base: u32, offset: u16) -> Sirw
     requires frame { (a : RunningContext core.now regs.now) × (f : ℕ) × NamesEntered (reach a) f × (base ≡ frame_at_core a f) }
     requires offset { offset < 2 ^ 13 }
@@ -63,7 +64,7 @@ pub fn stff(cpu: &mut Cpu, next: Place) -> Step
         return Step::Fault(Fault::InvalidOperand);
     }
     let couple = match Irw::from_word(w) {
-        Some(name) => couple_of(name.couple, cpu.regs.level),
+        Some(name) => couple_at(name.couple, cpu.regs.level),
         None => return branch_to(cpu, next),
     };
     match cell_of(&cpu.core, &cpu.regs, &cpu.display, couple) {

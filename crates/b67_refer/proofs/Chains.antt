@@ -1,7 +1,8 @@
 -- The environment of the running task, level by level.
-use Rattle.std.proofs.Common.{◌≡◌, ◌≢◌, ℕ, zero, suc, ◌+◌, ◌-◌, ◌<◌, ◌≤◌, List, map, Some, refl, sym, ◌∙◌, ap, arith, subst, length, slice_set, ⊎_elim}
+use Rattle.std.proofs.Common.{◌≡◌, ◌≢◌, ℕ, zero, suc, ◌+◌, ◌-◌, ◌<◌, ◌≤◌, List, map, Some, refl, sym, ◌∙◌, ap, arith, subst, length, slice_set, ⊎_elim, inl, inr}
 use Rattle.std.specs.List.{slice_get}
-use Rattle.std.proofs.lemmas.Bool.{cases_eq}
+use Rattle.std.proofs.lemmas.Bool.{cases_eq, cases_lt}
+use Rattle.std.proofs.lemmas.List.{length-set}
 use Rattle.b67_core.proofs.Writes.{slice_get-set_same, slice_get-set_other}
 use Rattle.b67_word.specs.Tagged.{Tagged}
 use Rattle.b67_word.specs.declared.couples.Place.{Place}
@@ -10,15 +11,16 @@ use Rattle.b67_ctl.specs.declared.marks.Mscw.{Mscw}
 use Rattle.b67_ctl.specs.Layout.{mscw_word, IsMscw}
 use Rattle.b67_lemmas.specs.Lists.{Has}
 use Rattle.b67_lemmas.proofs.Members.{has_append_left, has_map}
-use Rattle.b67_model.specs.Common.{Frame, OperatorContext, frame, level_of_standing, level_of_frame, environment_of, running, running_level, outward, frame_at, Known, known_of, outer_of, reach_of, IsEntered, IsSegment}
+use Rattle.b67_model.specs.Common.{Frame, OperatorContext, frame, level_of_standing, level_of_frame, environment_of, running, running_level, outward, frame_at, Known, known_of, base as base_known, outer_of, reach_of, IsEntered, IsSegment}
 use Rattle.b67_stack.specs.Stacks as Stacks
 use Rattle.b67_stack.proofs.Tops.{level-small}
-use Rattle.b67_layout.specs.Common.{slot_of, outer_spots, address_of, frame_address, here}
+use Rattle.b67_layout.specs.Common.{slot_of, base_spot, outer_spots, address_of, frame_address, here}
 use Rattle.b67_layout.proofs.Frames.{level-is}
 use Rattle.b67_refer.specs.RunningContext.{RunningContext, IsShown, IsStackOf, live_of}
 use Rattle.b67_refer.proofs.Slots.{whole, registers}
 use Rattle.b67_refer.proofs.Seats.{has_task, order_of}
-use Rattle.b67_refer.proofs.Marks.{MarkOf, mark, frame_known}
+use Rattle.b67_refer.proofs.Bases.{dictionary_is}
+use Rattle.b67_refer.proofs.Marks.{MarkOf, mark, frame_known, high_frames, high_level, low_is, view_low, dictionary_address}
 use Rattle.b67_law_order.proofs.Chases.{running_in}
 
 -- the last link of a chain
@@ -105,6 +107,38 @@ module _ (core : List Tagged) (r : Regs) (a : RunningContext core r) where
       let g = registers core r (live_of a) in
       omega (arith, e, g.level, level-small _ w.part.heads)
 
+  -- a task's record is entered at level 2 or above
+  pub level_low : 2 ≤ level
+  level_low =
+      let o = order_of core r (live_of a) a.task (has_task core r (live_of a)) in
+      let b = running_in (IsSegment a.member.constants) a.task.frames o.returns o.some in
+      let run = run_level a.task.place in
+      high_level core r (live_of a) (running a.task.frames).identity (running a.task.frames).standing run.among run.entered
+      (high_frames core r (live_of a) a.task (has_task core r (live_of a)) (running a.task.frames) b.0)
+
+  -- below it there are the dictionary and the MCP alone
+  low_identity : (n : ℕ) (f : Frame) → Level a.task.place n f → n ≤ 1 → f.identity ≡ n
+  low_identity n f b low = ⊎_elim
+      (λ (high : 1 < f.identity). absurd (omega (arith, high_level core r (live_of a) f.identity f.standing b.among b.entered high, b.level, low)))
+      (λ (z : f.identity ≤ 1). by_base (low_is core r (live_of a) f.identity f.standing b.among z))
+      (cases_lt 1 f.identity) where
+        by_base : Has base_known (f.identity, f.standing) → f.identity ≡ n
+        by_base (inl e) = sym (ap (λ (k : Known). k.0) e) ∙ ap (λ (k : Known). level_of_standing k.1) e ∙ b.level
+        by_base (inr (inl e)) = sym (ap (λ (k : Known). k.0) e) ∙ ap (λ (k : Known). level_of_standing k.1) e ∙ b.level
+        by_base (inr (inr z)) = absurd z
+
+  address_low : (n : ℕ) → n ≤ 1 → address_at a.task.place n ≡ address_of a.plan (base_spot a.member.constants.number n)
+  address_low n low =
+      let f = frame_at (here a.member a.task a.task.place) n in
+      let i = low_identity n f (level_at a.task.place n (omega (arith, low, level_low))) low in
+      ap (frame_address a.plan a.member a.task) i ∙ ap (address_of a.plan) (view_low core r (live_of a) n low)
+
+  address_one : r.dict ≡ address_at a.task.place 1
+  address_one = dictionary_is core r (live_of a) ∙ sym (dictionary_address core r (live_of a)) ∙ sym (address_low 1 (omega arith))
+
+  address_zero : 0 ≡ address_at a.task.place 0
+  address_zero = sym (address_low 0 (omega arith))
+
   -- the display is written down to a level, and at is the address of that level's frame
   pub record Written (at n : ℕ) (display : List ℕ) : Type 0 where
     pub low : n ≤ level
@@ -143,6 +177,15 @@ module _ (core : List Tagged) (r : Regs) (a : RunningContext core r) where
     done = λ k low up. written_more at (suc n) display w len k (omega arith) up;
   }
 
+  -- the last three levels at once
+  pub written_all : (at n : ℕ) (display : List ℕ) → Written at n display → 2 ≤ n → n ≤ 2 → length display ≡ 32 → IsShown a (slice_set (slice_set (slice_set display 2 at) 1 r.dict) 0 0)
+  written_all at n display w low high len =
+      let two : n ≡ 2 = omega (arith, low, high) in
+      let one = written_next at 1 r.dict display (subst (λ (i : ℕ). Written at i display) two w) len address_one in
+      let len1 : length (slice_set display 2 at) ≡ 32 = length-set display 2 at ∙ len in
+      let none = written_next r.dict 0 0 (slice_set display 2 at) one len1 address_zero in
+      written_end 0 (slice_set (slice_set display 2 at) 1 r.dict) none (length-set (slice_set display 2 at) 1 r.dict ∙ len1)
+
   -- one turn: the mark at the address of a level above 0, and what is written and found next
   pub turn_mark : (at n : ℕ) (display : List ℕ) → Written at n display → n ≢ 0 → (m : Mscw) × IsMscw m × (slice_get core at ≡ Some (mscw_word m)) × IsStackOf (live_of a) m.env_stack × (address_of a.plan (let s : Stacks.StackPlace = record { stack = m.env_stack; disp = m.env_disp } in s) ≡ address_at a.task.place (n - 1))
   turn_mark at n display w some = written_mark at (n - 1) display (subst (λ (i : ℕ). Written at i display) (let e : n ≡ suc (n - 1) = omega (arith, some) in e) w)
@@ -157,6 +200,3 @@ module _ (core : List Tagged) (r : Regs) (a : RunningContext core r) where
   turn_next at n down display w some len d =
       let e : n ≡ suc (n - 1) = omega (arith, some) in
       subst (λ (i : ℕ). Written down (n - 1) (slice_set display i at)) (sym e) (written_next at (n - 1) down display (subst (λ (i : ℕ). Written at i display) e w) len d)
-
-  pub turn_end : (at n : ℕ) (display : List ℕ) → Written at n display → n ≡ 0 → length display ≡ 32 → IsShown a (slice_set display n at)
-  turn_end at n display w none len = subst (λ (i : ℕ). IsShown a (slice_set display i at)) (sym none) (written_end at display (subst (λ (i : ℕ). Written at i display) none w) len)

@@ -22,7 +22,7 @@ use Rattle.b67_refer.proofs.Slots.{mark_in, part_mark, base, acts}
 use Rattle.b67_refer.proofs.Seats.{spot_low, Seat, seat, has_task, order_of}
 
 module _ (core : List Tagged) (r : Regs) (a : LiveContext core r) where
-  high_frames : (u : Task) → Has a.member.progress.job.tasks u → (f : Frame) → Has u.frames f → 1 < f.identity
+  pub high_frames : (u : Task) → Has a.member.progress.job.tasks u → (f : Frame) → Has u.frames f → 1 < f.identity
   high_frames u h f m = above_one (IsSegment a.member.constants) a.member.constants a.member.progress.job a.ordered.tasks u h f m
 
   -- the dictionary and the MCP are no task's frames

@@ -23,6 +23,7 @@ pub struct Activation {
 
 /// The address of the mark under a cell of an entered activation record. The word over the mark has tag 3, the cells'
 /// have other tags.
+#[inline(always)]
 fn mark_under(core: &Core, regs: &Regs, cell: u32) -> u32
     requires { (a : RunningContext core.now regs.now) × (q : Place) × (f : ℕ) × (segment : ℕ) × (level : ℕ) × (place : Place) × IsProcAt a q cell f segment level place }
     ensures { (a : RunningContext core.now regs.now) (q : Place) (f segment level : ℕ) (place : Place) → IsProcAt a q cell f segment level place
@@ -38,6 +39,7 @@ fn mark_under(core: &Core, regs: &Regs, cell: u32) -> u32
 }
 
 /// The activation record in which the cell of a procedure lies: the environment of the procedure's activations.
+#[inline(always)]
 pub fn activation_of(core: &Core, regs: &Regs, cell: u32) -> Activation
     requires { (a : RunningContext core.now regs.now) × (q : Place) × (f : ℕ) × (segment : ℕ) × (level : ℕ) × (place : Place) × IsProcAt a q cell f segment level place }
     ensures { (a : RunningContext core.now regs.now) (q : Place) (f segment level : ℕ) (place : Place) → IsProcAt a q cell f segment level place

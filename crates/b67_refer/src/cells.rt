@@ -94,6 +94,7 @@ pub fn cell_of(core: &Core, regs: &Regs, display: &[u32; 32], c: Couple) -> Resu
 /// The core address of the cell that a stuffed reference names. It needs the reference's activation record alive, in the reach
 /// of any live task of the running task's job, and, where it is a dictionary, that of this job. INVALID ADDRESS exactly if
 /// there is no such cell.
+#[inline(always)]
 pub fn cell_at(core: &Core, regs: &Regs, r: Sirw) -> Result<u32, Fault>
     requires { (a : LiveContext core.now regs.now) × (f : ℕ) × NamesEntered (live.reach a) f × (live.view a f ≡ record { stack = r.stack; disp = r.disp }) }
     ensures { (a : LiveContext core.now regs.now) (q : Place) (f : ℕ) → NamesEntered (live.reach a) f → live.view a f ≡ record { stack = r.stack; disp = r.disp }

@@ -13,9 +13,10 @@ ghost use Rattle.b67_refer.specs.LiveEnds.{IsReference, EndMeets, LinkMeets};
 ghost use Rattle.b67_refer.specs.Ends.{IsCopyOf, HasTagAt};
 
 use crate::cells::{cell_at, cell_of};
+use crate::couples::couple_at;
 use b67_core::Core;
 use b67_ctl::{AreaHead, DataDesc, IntrinsicPcw, Irw, Regs, Sirw};
-use b67_word::{Fault, Word, couple_of};
+use b67_word::{Fault, Word};
 
 /// Where a reference ends: at the cell of an operand, at an element of an array, at an array, at the cell of a
 /// procedure, or at an intrinsic procedure. Cells are core addresses, and arrays the core addresses of their originals.
@@ -29,6 +30,7 @@ pub enum End {
 }
 
 /// The core address of the original of a copy: that in the head of its area, or its own where the copy is absent.
+#[inline(always)]
 pub fn owner(core: &Core, copy: DataDesc) -> u32
     requires { (home : ℕ) × IsCopyOf core.now copy home }
     ensures { (home : ℕ) → IsCopyOf core.now copy home → result ≡ home }
@@ -40,6 +42,7 @@ pub fn owner(core: &Core, copy: DataDesc) -> u32
 }
 
 /// The element of an array at an index. INVALID INDEX if the array, as it is now, is no longer than the index.
+#[inline(always)]
 fn element_at(core: &Core, regs: &Regs, original: u32, index: u32) -> Result<End, Fault>
     requires { (a : LiveContext core.now regs.now) × (n : ℕ) × (original ≡ a.plan.home a.member.constants.number n) × NamesArray a.member.progress.job.arrays (reach a) n }
     ensures { (a : LiveContext core.now regs.now) (q : Place) (n : ℕ) → original ≡ a.plan.home a.member.constants.number n
@@ -53,6 +56,7 @@ fn element_at(core: &Core, regs: &Regs, original: u32, index: u32) -> Result<End
 }
 
 /// The end at an array's descriptor in a cell.
+#[inline(always)]
 fn array_end(core: &Core, regs: &Regs, at: u32) -> Result<Option<End>, Fault>
     requires { (a : LiveContext core.now regs.now) × (q : Place) × (f : ℕ) × (offset : ℕ) × (w : Words.Word) × IsCellAt a q at f offset w × HasTagAt core.now at 5 }
     ensures { (a : LiveContext core.now regs.now) (q : Place) (f offset : ℕ) (w : Words.Word) → IsCellAt a q at f offset w → HasTagAt core.now at 5
@@ -74,6 +78,7 @@ fn array_end(core: &Core, regs: &Regs, at: u32) -> Result<Option<End>, Fault>
 
 /// What the word in a cell comes to: an end, or None if it is a reference. INVALID OPERAND exactly if it is
 /// neither.
+#[inline(always)]
 fn end_at(core: &Core, regs: &Regs, at: u32) -> Result<Option<End>, Fault>
     requires { (a : LiveContext core.now regs.now) × (q : Place) × (f : ℕ) × (offset : ℕ) × (w : Words.Word) × IsCellAt a q at f offset w }
     ensures { (a : LiveContext core.now regs.now) (q : Place) (f offset : ℕ) (w : Words.Word) → IsCellAt a q at f offset w
@@ -102,18 +107,20 @@ fn end_at(core: &Core, regs: &Regs, at: u32) -> Result<Option<End>, Fault>
 }
 
 /// The cell that a reference word names.
+#[inline(always)]
 fn named_cell(core: &Core, regs: &Regs, display: &[u32; 32], w: Word) -> Result<u32, Fault>
     requires { (a : LiveContext core.now regs.now) × IsShown (running_of a) display.now × (at : ℕ) × (owner : ℕ) × (v : Words.Word) × StandsFor a at owner w v × IsReference v }
     ensures { (a : LiveContext core.now regs.now) (q : Place) → IsShown (running_of a) display.now → (at owner : ℕ) (v : Words.Word) → StandsFor a at owner w v
         → IsReference v → FromEither (λ (b : LiveContext core.now regs.now). FindsCell b q result (place_of (here a.member a.runner q) v)) a }
 {
     match Irw::from_word(w) {
-        Some(r) => cell_of(core, regs, display, couple_of(r.couple, regs.level)),
+        Some(r) => cell_of(core, regs, display, couple_at(r.couple, regs.level)),
         None => cell_at(core, regs, Sirw::read(w)),
     }
 }
 
 /// Follows a chain of references, of at most 1,024 links.
+#[inline(always)]
 fn chase_reference(core: &Core, regs: &Regs, display: &[u32; 32], w: Word) -> Result<End, Fault>
     requires { (a : LiveContext core.now regs.now) × IsShown (running_of a) display.now × (at : ℕ) × (owner : ℕ) × (v : Words.Word) × StandsFor a at owner w v × IsReference v }
     ensures { (a : LiveContext core.now regs.now) (q : Place) → IsShown (running_of a) display.now → (at owner : ℕ) (v : Words.Word) → StandsFor a at owner w v
@@ -138,6 +145,7 @@ fn chase_reference(core: &Core, regs: &Regs, display: &[u32; 32], w: Word) -> Re
 /// if a reference names no cell, INVALID OPERAND if the chain comes to a word that is no end or if the word itself is
 /// neither a reference nor an element copy, and LOOP if a link after the 1,024th would be followed. The word is one of any
 /// live task of the running task's job, and couples are looked up in the running environment, which the display shows.
+#[inline(always)]
 pub fn chase(core: &Core, regs: &Regs, display: &[u32; 32], w: Word) -> Result<End, Fault>
     requires { (a : LiveContext core.now regs.now) × IsShown (running_of a) display.now × (at : ℕ) × (owner : ℕ) × (v : Words.Word) × StandsFor a at owner w v }
     ensures running { (a : RunningContext core.now regs.now) (q : Place) → IsShown a display.now → (at owner : ℕ) (v : Words.Word) → StandsFor (live_of a) at owner w v

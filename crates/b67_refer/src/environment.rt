@@ -22,6 +22,7 @@ pub(crate) fn mark_at(core: &Core, at: u32) -> Mscw
 }
 
 /// The core address of a stack's base word: a slot's, the running job's dictionary's or the MCP's.
+#[inline(always)]
 fn base_of(core: &Core, regs: &Regs, stack: u16) -> u32
     requires { (a : LiveContext core.now regs.now) × IsStackOf a stack }
     ensures value { (a : LiveContext core.now regs.now) → IsStackOf a stack → result ≡ base_of_stack a.plan stack }
@@ -37,6 +38,7 @@ fn base_of(core: &Core, regs: &Regs, stack: u16) -> u32
 }
 
 /// The core address of a displacement in a stack.
+#[inline(always)]
 pub(crate) fn address_of(core: &Core, regs: &Regs, stack: u16, disp: u16) -> u32
     requires { (a : LiveContext core.now regs.now) × IsStackOf a stack }
     ensures { (a : LiveContext core.now regs.now) → IsStackOf a stack → result ≡ address_of_spot a.plan (record { stack = stack; disp = disp }) }
@@ -45,6 +47,7 @@ pub(crate) fn address_of(core: &Core, regs: &Regs, stack: u16, disp: u16) -> u32
 }
 
 /// The address of the running activation record's mark.
+#[inline(always)]
 fn running(core: &Core, regs: &Regs) -> u32
     requires { RunningContext core.now regs.now }
     ensures { (a : RunningContext core.now regs.now) → result ≡ frame_address a.plan a.member a.task (running_frame a.task.frames).identity }
@@ -60,20 +63,21 @@ fn running(core: &Core, regs: &Regs) -> u32
 }
 
 /// Writes the display: at each level up to the running one, the address of the activation record that the running
-/// environment has there.
+/// environment has there. Level 1 is the job's dictionary and level 0 the MCP, in each environment.
+#[inline(always)]
 pub fn rebuild(core: &Core, regs: &Regs, display: &mut [u32; 32])
     requires { RunningContext core.now regs.now }
     ensures { (a : RunningContext core.now regs.now) → IsShown a display.new }
 {
     let mut at = running(core, regs);
     let mut level = regs.level;
-    'out: loop {
+    'out: while level > 2 {
         display[level as usize] = at;
-        if level == 0 {
-            return;
-        }
         let m = mark_at(core, at);
         at = address_of(core, regs, m.env_stack, m.env_disp);
         level -= 1;
     }
+    display[2] = at;
+    display[1] = regs.dict;
+    display[0] = 0;
 }

@@ -3,10 +3,12 @@
 
 mod activation;
 mod cells;
+mod couples;
 mod ends;
 mod environment;
 
 pub use activation::{Activation, activation_of};
 pub use cells::{cell_at, cell_of};
+pub use couples::couple_at;
 pub use ends::{End, chase, owner};
 pub use environment::rebuild;

@@ -1,13 +1,14 @@
 //! The operator at the running place, with the arrays given back of an activation record that it leaves.
 
-ghost use Rattle.std.specs.Prelude.{◌≡◌, true, false};
+ghost use Rattle.std.specs.Prelude.{◌≡◌, ◌≢◌, true, false};
 ghost use Rattle.b67_stack.specs.declared.Step.TheVariants.{Done};
 ghost use Rattle.b67_exec.specs.Near.{HoldsCode, ReaderBehind};
+ghost use Rattle.b67_exec.specs.declared.far.Went.TheVariants.{Away, Not};
 ghost use Rattle.b67_task_tables.specs.Runs.{RunsTask, Keeps};
 ghost use Rattle.b67_session.specs.Makes.{MakesInSegment, ForEachReady};
 
 use b67_ctl::SegDesc;
-use b67_exec::{Reader, operate_at, operate_in, operate_near};
+use b67_exec::{Reader, Went, operate_at, operate_far, operate_in, operate_near};
 use b67_exec_cells::present_segment;
 use b67_stack::{Step, What};
 use b67_task_release::release;
@@ -67,6 +68,22 @@ pub fn make_near(machine: &mut Machine, reader: &mut Reader) -> bool
     ensures tasks { machine.new.tasks ≡ machine.old.tasks }
 {
     operate_near(&mut machine.cpu, reader)
+}
+
+/// Makes the operator at the running place, at which the reader stands, as `make`, if it is far, leaves no activation record and
+/// its answer is `Done`. Where the task goes on behind it, in the segment, the reader then stands there. At `Not` nothing is
+/// changed.
+#[inline(always)]
+pub fn make_far(machine: &mut Machine, reader: &mut Reader) -> Went
+    requires runs { RunsTask machine.old }
+    requires stands { ReaderBehind machine.old.cpu reader.old 0 }
+    ensures row { result ≢ Not → ForEachReady machine.old (λ x told plan s m t. MakesInSegment x told plan s m t Done machine.old machine.new) }
+    ensures rest { result ≡ Not → machine.new ≡ machine.old }
+    ensures stands { result ≢ Away → ReaderBehind machine.new.cpu reader.new 0 }
+    ensures keeps { Keeps machine.old machine.new }
+    ensures tasks { machine.new.tasks ≡ machine.old.tasks }
+{
+    operate_far(&mut machine.cpu, reader)
 }
 
 /// Makes the operator at the running place, at which the reader stands, as `make`. `near` is as of `make_in`.

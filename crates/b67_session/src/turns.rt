@@ -15,8 +15,8 @@ ghost use Rattle.b67_session.specs.Slices.{StandsAt, Keeps};
 ghost use Rattle.b67_session.specs.Steps.{IsInOrderFor, GoesOnInTurn};
 ghost use Rattle.b67_session.specs.InTurn.{TurnBegins, HasTurnLeft, TurnGoesOn, MadeInTurn};
 
-use crate::making::{make_at, make_near};
-use b67_exec::reader_at;
+use crate::making::{make_at, make_far, make_near};
+use b67_exec::{Went, reader_at};
 use b67_exec_cells::present_segment;
 use b67_stack::Step;
 use b67_task_switch::{count_turn, switch_to, turn_room};
@@ -45,8 +45,14 @@ struct InSegment {
     goes: bool,
 }
 
+/// No operator was made.
+const NONE_MADE: InSegment = InSegment {
+    made: 0,
+    goes: false,
+};
+
 /// Makes operators of the running task, up to `room`, and reads the segment's descriptor once, and its words one by one. It stops
-/// behind one that isn't near; and before one that prints, ends its task, wants something that is absent, or stands outside the
+/// behind one that may leave the segment; and before one that prints, ends its task, wants something that is absent, or stands outside the
 /// segment: then the turn doesn't go on.
 #[inline(always)]
 fn make_in_segment(machine: &mut Machine, room: u64) -> InSegment
@@ -60,27 +66,28 @@ fn make_in_segment(machine: &mut Machine, room: u64) -> InSegment
 {
     let code = match present_segment(&machine.cpu) {
         Some(code) => code,
-        None => {
-            return InSegment {
-                made: 0,
-                goes: false,
-            };
-        }
+        None => return NONE_MADE,
     };
     let mut reader = match reader_at(&machine.cpu, code) {
         Some(reader) => reader,
-        None => {
-            return InSegment {
-                made: 0,
-                goes: false,
-            };
-        }
+        None => return NONE_MADE,
     };
     let mut made = 0;
     'operator: while made < room {
         if make_near(machine, &mut reader) {
             made += 1;
             continue 'operator;
+        }
+        match make_far(machine, &mut reader) {
+            Went::On => {
+                made += 1;
+                continue 'operator;
+            }
+            Went::Away => return InSegment {
+                made: made + 1,
+                goes: true,
+            },
+            Went::Not => {}
         }
         let next = make_at(machine, reader);
         match next.step {

@@ -43,6 +43,7 @@ fn release_word(cpu: &mut Cpu, areas: &mut Areas, sectors: &mut Sectors, at: u32
 }
 
 /// Gives back the arrays whose originals lie from an address up to another, not included.
+#[inline(always)]
 pub fn release_words(cpu: &mut Cpu, areas: &mut Areas, sectors: &mut Sectors, from: u32, upto: u32)
     requires left { (x : Storage) × (told : Option (List (List ℕ))) × (p : MachineView) × (left : List PagedObject)
         × MachineRepresentsView x cpu.old areas.old sectors.old told (with_objects left p) × AreLeft p cpu.old.core from upto left }

@@ -108,8 +108,13 @@ returns-then-tag-ne0 c = record {
       (omega arith, omega arith);
 }
 
-pub put-requires : goal.put-requires
-put-requires c =
+pub settle-requires-clause-run : goal.settle-requires-clause-run
+settle-requires-clause-run c =
+    let k = context c.args.cpu.now c.top_mark-mark.result c.top_mark-mark.ensures c.if-not-mark.false c.get-word.result c.get-word.ensures c.if-cpu.false c.refusal.result c.refusal.ensures c.in-None.is c.is_critical.result c.is_critical.ensures c.if-is_critical.false c.if-mark-eq0.false c.requires in
+    context_left c.args.cpu.now c.top_mark-mark.result c.get-word.result c.requires k c.caller-regs.result c.caller-regs.ensures
+
+pub settle-requires-clause-room : goal.settle-requires-clause-room
+settle-requires-clause-room c =
     let r = c.requires in
     let k = context c.args.cpu.now c.top_mark-mark.result c.top_mark-mark.ensures c.if-not-mark.false c.get-word.result c.get-word.ensures c.if-cpu.false c.refusal.result c.refusal.ensures c.in-None.is c.is_critical.result c.is_critical.ensures c.if-is_critical.false c.if-mark-eq0.false r in
     room_left r.storage c.args.cpu.now r.plan r.session r.member r.task r.ordered r.stands r.running k.leaver c.caller-regs.result (regs_are c.args.cpu.now c.top_mark-mark.result c.get-word.result r k c.caller-regs.result c.caller-regs.ensures)
@@ -123,12 +128,12 @@ returns c = record {
         | else-mark-via-then-mark+else-tag-ne0 w ↦ inr (operand_is x c.args.cpu.now plan s m t o h runs k.value c.get-word.result k.word.word (sym w.tag.ensures.value ∙ w.if-tag-ne0.false))
         | else-mark-via-else-mark w ↦ inl (sym k.wants ∙ w.if-mark.false)
       ] in
-      put_done x c.args.cpu.now plan s m t o h runs k.leaver k.value c.get-word.result k.word next c.caller-regs.result c.rebuild.new.display c.put.new.cpu once
-      (regs_are c.args.cpu.now c.top_mark-mark.result c.get-word.result r k c.caller-regs.result c.caller-regs.ensures) c.rebuild.ensures c.put.ensures);
-  above = λ i low. put_above c.args.cpu.now c.caller-regs.result c.rebuild.new.display c.get-word.result c.put.new.cpu c.put.ensures i low;
+      put_done x c.args.cpu.now plan s m t o h runs k.leaver k.value c.get-word.result k.word next c.caller-regs.result c.settle.new.cpu.display c.settle.new.cpu once
+      (regs_are c.args.cpu.now c.top_mark-mark.result c.get-word.result r k c.caller-regs.result c.caller-regs.ensures) c.settle.ensures.shown c.settle.ensures.rest);
+  above = λ i low. put_above c.args.cpu.now c.caller-regs.result c.settle.new.cpu.display c.get-word.result c.settle.new.cpu c.settle.ensures.rest i low;
   top = λ e.
       let k = context c.args.cpu.now c.top_mark-mark.result c.top_mark-mark.ensures c.if-not-mark.false c.get-word.result c.get-word.ensures c.if-cpu.false c.refusal.result c.refusal.ensures c.in-None.is c.is_critical.result c.is_critical.ensures c.if-is_critical.false c.if-mark-eq0.false c.requires in
       let low = top_low c.args.cpu.now c.top_mark-mark.result c.get-word.result c.requires k c.caller-regs.result c.caller-regs.ensures in
-      let higher : c.put.new.cpu.regs.s ≡ c.caller-regs.result.s + 1 = ap (λ (v : Cpu). v.regs.s) c.put.ensures in
+      let higher : c.settle.new.cpu.regs.s ≡ c.caller-regs.result.s + 1 = ap (λ (v : Cpu). v.regs.s) c.settle.ensures.rest in
       (omega arith, omega arith);
 }

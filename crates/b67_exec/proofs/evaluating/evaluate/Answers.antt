@@ -1,73 +1,106 @@
-use Rattle.std.proofs.Common.{sym, subst, true}
-use Rattle.b67_model.specs.Common.{Name, chase, AtProc, accident, back_to, cells_of}
-use Rattle.b67_model.specs.Rows as rows
-use Rattle.b67_stack.specs.declared.Cpu.{Cpu}
-use Rattle.b67_layout.specs.Common.{RepresentsSession, here, Meets}
-use Rattle.b67_fetch.specs.Fetches.{enters_at}
-use Rattle.b67_fetch.proofs.Values.{here_scene}
-use Rattle.b67_exec.proofs.Entered.{at_procedure, met_by, called_by, couple_leads, reaches, valc_enters}
+use Rattle.std.proofs.Common.{[], refl, ap, ◌∙◌, arith, subst, true, Ok, Err, Result}
+use Rattle.b67_word.specs.declared.faults.Fault.{Fault}
+use Rattle.b67_model.specs.Common.{Answer, ◌>>=◌, Name, follow, evaluates, AtProc, accident, back_to, cells_of, Done}
+use Rattle.b67_model.specs.Chase as Chase
+use Rattle.b67_layout.specs.Common.{here, cells, Meets}
+use Rattle.b67_refer.specs.declared.ends.End.{End}
+use Rattle.b67_refer.specs.declared.ends.End.TheVariants as end
+use Rattle.b67_refer.specs.RunningContext.{live_of}
+use Rattle.b67_refer.specs.Ends.{EndMeets}
+use Rattle.b67_entry.proofs.Evaluating.{fault_end, proc_end}
+use Rattle.b67_exec_cells.proofs.Put.{room}
+use Rattle.b67_fetch.proofs.Values.{here_scene, here_shown, followed_stands, couple_followed, finds_end, some_end, valc_row}
+use Rattle.b67_exec.proofs.Entered.{reaches, valc_enters, met_at}
 use Rattle.b67_exec.proofs.evaluating.evaluate.Goals as goal
 
-pub procedure_cell-cell-requires : goal.procedure_cell-cell-requires
-procedure_cell-cell-requires c =
+pub chase-requires : goal.chase-requires
+chase-requires c =
     let q = c.requires.runs in
-    let old = c.args.cpu.now in
-    let h = here q.member q.task c.args.next in
-    let i = called_by q.storage q.plan q.session q.member c.in-Call.field-0 old c.valc.new.cpu (enters_at (chase h (Name c.args.couple))) (rows.valc h c.args.couple) (c.in-Call.ensures.row q.storage q.plan q.session q.member q.task q.ordered q.stands q.running) in
-    let S : Cpu → Type 0 = λ z. RepresentsSession q.storage z q.plan q.session in
-    let stands = subst S (sym i.1) q.stands in
-    let p = at_procedure (chase h (Name c.args.couple)) i.0 in (
-      here_scene q.storage c.valc.new.cpu q.plan q.session q.member q.task q.ordered stands q.running,
-      c.args.next,
-      p.frame,
-      p.segment,
-      p.level,
-      p.place,
-      couple_leads q.storage c.valc.new.cpu q.plan q.session q.member q.task q.ordered stands q.running c.args.next c.args.couple c.word.result c.requires.couple c.word.ensures p,
+    let i = couple_followed q.storage q.plan q.member q.task c.args.couple c.word.result c.requires.couple c.word.ensures in (
+      live_of (here_scene q.storage c.args.cpu.now q.plan q.session q.member q.task q.ordered q.stands q.running),
+      here_shown q.storage c.args.cpu.now q.plan q.session q.member q.task q.ordered q.stands q.running,
+      i.at,
+      i.owner,
+      Name c.args.couple,
+      followed_stands q.storage c.args.cpu.now q.plan q.session q.member q.task q.ordered q.stands q.running c.word.result (Name c.args.couple) i,
     )
+
+pub returns-in-Err : goal.returns-in-Err
+returns-in-Err c = record {
+  row = λ x plan s m t ordered h runs.
+      let cpu = c.args.cpu.now in
+      let next = c.args.next in
+      let hh = here m t next in
+      let a = here_scene x cpu plan s m t ordered h runs in
+      let i = couple_followed x plan m t c.args.couple c.word.result c.requires.couple c.word.ensures in
+      let w = followed_stands x cpu plan s m t ordered h runs c.word.result (Name c.args.couple) i in
+      let M : Result End Fault → Type 0 = λ z. EndMeets a next z (follow hh (Name c.args.couple)) in
+      let k = subst M c.in-Err.is (c.chase.ensures.running a next (here_shown x cpu plan s m t ordered h runs) i.at i.owner (Name c.args.couple) w) in
+      (ap (λ (e : Answer Chase.End). e >>= λ f. evaluates hh f) (fault_end a next c.in-Err.fault (follow hh (Name c.args.couple)) k), refl);
+}
+
+-- ---- a procedure
 
 pub accident-requires-clause-procedure : goal.accident-requires-clause-procedure
 accident-requires-clause-procedure c =
     let q = c.requires.runs in
-    let old = c.args.cpu.now in
-    let new = c.valc.new.cpu in
-    let h = here q.member q.task c.args.next in
-    let i = called_by q.storage q.plan q.session q.member c.in-Call.field-0 old new (enters_at (chase h (Name c.args.couple))) (rows.valc h c.args.couple) (c.in-Call.ensures.row q.storage q.plan q.session q.member q.task q.ordered q.stands q.running) in
-    let S : Cpu → Type 0 = λ z. RepresentsSession q.storage z q.plan q.session in
-    let stands = subst S (sym i.1) q.stands in
-    let p = at_procedure (chase h (Name c.args.couple)) i.0 in
-    let a = here_scene q.storage new q.plan q.session q.member q.task q.ordered stands q.running in
-    let l = couple_leads q.storage new q.plan q.session q.member q.task q.ordered stands q.running c.args.next c.args.couple c.word.result c.requires.couple c.word.ensures p in (
-      a,
-      c.args.next,
-      p.frame,
-      p.segment,
-      p.level,
-      p.place,
-      reaches q.storage new q.plan q.session q.member q.task q.ordered stands q.running c.args.next c.procedure_cell-cell.result p.frame p.segment p.level p.place (c.procedure_cell-cell.ensures a c.args.next p.frame p.segment p.level p.place l),
-    )
+    let cpu = c.args.cpu.now in
+    let next = c.args.next in
+    let a = here_scene q.storage cpu q.plan q.session q.member q.task q.ordered q.stands q.running in
+    let i = couple_followed q.storage q.plan q.member q.task c.args.couple c.word.result c.requires.couple c.word.ensures in
+    let w = followed_stands q.storage cpu q.plan q.session q.member q.task q.ordered q.stands q.running c.word.result (Name c.args.couple) i in
+    let E = follow (here q.member q.task next) (Name c.args.couple) in
+    let M : Result End Fault → Type 0 = λ z. EndMeets a next z E in
+    let k = subst M (c.in-Ok.is ∙ ap Ok c.in-Proc.is) (c.chase.ensures.running a next (here_shown q.storage cpu q.plan q.session q.member q.task q.ordered q.stands q.running) i.at i.owner (Name c.args.couple) w) in
+    let (f, segment, level, place, e, p) = proc_end a next c.in-Proc.cell E k in
+    (a, next, f, segment, level, place, reaches q.storage cpu q.plan q.session q.member q.task q.ordered q.stands q.running next c.in-Proc.cell f segment level place p)
 
-pub returns-in-Call : goal.returns-in-Call
-returns-in-Call c = record {
+pub returns-in-Proc : goal.returns-in-Proc
+returns-in-Proc c = record {
   row = λ x plan s m t ordered h runs.
-      let old = c.args.cpu.now in
-      let new = c.valc.new.cpu in
-      let hh = here m t c.args.next in
-      let i = called_by x plan s m c.in-Call.field-0 old new (enters_at (chase hh (Name c.args.couple))) (rows.valc hh c.args.couple) (c.in-Call.ensures.row x plan s m t ordered h runs) in
-      let S : Cpu → Type 0 = λ z. RepresentsSession x z plan s in
-      let stands = subst S (sym i.1) h in
-      let p = at_procedure (chase hh (Name c.args.couple)) i.0 in
-      let a = here_scene x new plan s m t ordered stands runs in
-      let l = couple_leads x new plan s m t ordered stands runs c.args.next c.args.couple c.word.result c.requires.couple c.word.ensures p in
-      let k = c.procedure_cell-cell.ensures a c.args.next p.frame p.segment p.level p.place l in
-      let made = c.accident.ensures.row a c.args.next p.frame p.segment p.level p.place (reaches x new plan s m t ordered stands runs c.args.next c.procedure_cell-cell.result p.frame p.segment p.level p.place k) in
-      let P : Cpu → Type 0 = λ z. Meets x plan s m c.accident.result z c.accident.new.cpu (accident hh (cells_of hh) (back_to hh true c.args.next) (AtProc p.frame p.segment p.level p.place)) in
-      valc_enters x old plan s m t ordered h runs c.args.next c.args.couple c.accident.result c.accident.new.cpu p (subst P i.1 made);
+      let cpu = c.args.cpu.now in
+      let next = c.args.next in
+      let a = here_scene x cpu plan s m t ordered h runs in
+      let i = couple_followed x plan m t c.args.couple c.word.result c.requires.couple c.word.ensures in
+      let w = followed_stands x cpu plan s m t ordered h runs c.word.result (Name c.args.couple) i in
+      let E = follow (here m t next) (Name c.args.couple) in
+      let M : Result End Fault → Type 0 = λ z. EndMeets a next z E in
+      let k = subst M (c.in-Ok.is ∙ ap Ok c.in-Proc.is) (c.chase.ensures.running a next (here_shown x cpu plan s m t ordered h runs) i.at i.owner (Name c.args.couple) w) in
+      let (f, segment, level, place, e, p) = proc_end a next c.in-Proc.cell E k in
+      valc_enters x cpu plan s m t ordered h runs next c.args.couple c.accident.result c.accident.new.cpu (record { frame = f; segment = segment; level = level; place = place; is = e })
+      (c.accident.ensures.row a next f segment level place (reaches x cpu plan s m t ordered h runs next c.in-Proc.cell f segment level place p));
 }
+
+-- ---- a value
+
+pub value-requires-clause-end : goal.value-requires-clause-end
+value-requires-clause-end c =
+    let q = c.requires.runs in
+    let cpu = c.args.cpu.now in
+    let next = c.args.next in
+    let a = here_scene q.storage cpu q.plan q.session q.member q.task q.ordered q.stands q.running in
+    let i = couple_followed q.storage q.plan q.member q.task c.args.couple c.word.result c.requires.couple c.word.ensures in
+    let w = followed_stands q.storage cpu q.plan q.session q.member q.task q.ordered q.stands q.running c.word.result (Name c.args.couple) i in
+    let E = follow (here q.member q.task next) (Name c.args.couple) in
+    let M : Result End Fault → Type 0 = λ z. EndMeets a next z E in
+    let k = subst M c.in-Ok.is (c.chase.ensures.running a next (here_shown q.storage cpu q.plan q.session q.member q.task q.ordered q.stands q.running) i.at i.owner (Name c.args.couple) w) in
+    some_end cpu q c.in-Ok.end E (finds_end q.storage cpu q.plan q.session q.member q.task q.ordered q.stands q.running next (Ok c.in-Ok.end) E k)
+
+pub value-requires-clause-cells : goal.value-requires-clause-cells
+value-requires-clause-cells c = let q = c.requires.runs in let r = (room q.storage c.args.cpu.now q.plan q.session q.member q.task q.ordered q.stands q.running).top in omega (arith, r)
 
 pub returns-in_default : goal.returns-in_default
 returns-in_default c = record {
   row = λ x plan s m t ordered h runs.
-      let hh = here m t c.args.next in
-      met_by x plan s m c.valc.result c.args.cpu.now c.valc.new.cpu (enters_at (chase hh (Name c.args.couple))) (rows.valc hh c.args.couple) c.in_default.not-Call (c.valc.ensures.row x plan s m t ordered h runs);
+      let cpu = c.args.cpu.now in
+      let next = c.args.next in
+      let a = here_scene x cpu plan s m t ordered h runs in
+      let i = couple_followed x plan m t c.args.couple c.word.result c.requires.couple c.word.ensures in
+      let w = followed_stands x cpu plan s m t ordered h runs c.word.result (Name c.args.couple) i in
+      let E = follow (here m t next) (Name c.args.couple) in
+      let M : Result End Fault → Type 0 = λ z. EndMeets a next z E in
+      let k = subst M c.in-Ok.is (c.chase.ensures.running a next (here_shown x cpu plan s m t ordered h runs) i.at i.owner (Name c.args.couple) w) in
+      let found = finds_end x cpu plan s m t ordered h runs next (Ok c.in-Ok.end) E k in
+      met_at x plan s m c.value.result cpu c.value.new.cpu c.in-Ok.end E (E >>= λ f. evaluates (here m t next) f) found c.in_default.not-Proc
+      (valc_row x plan s m t next cpu c.value.result c.value.new.cpu c.in-Ok.end E found (λ f is. c.value.ensures.row x plan s m t ordered h runs [] (cells t) f refl refl tt is));
 }

@@ -22,8 +22,8 @@ returns-then-tag-ne1 c = record {
       stff_refused x c.args.cpu.now plan s m t ordered h runs c.args.next c.in-Ok.word top (λ e. c.if-tag-ne1.true (c.tag.ensures.value ∙ e));
 }
 
-pub couple_of-couple-requires-clause-level : goal.couple_of-couple-requires-clause-level
-couple_of-couple-requires-clause-level c =
+pub couple_at-couple-requires-clause-level : goal.couple_at-couple-requires-clause-level
+couple_at-couple-requires-clause-level c =
     let q = c.requires in
     let a = here_scene q.storage c.args.cpu.now q.plan q.session q.member q.task q.ordered q.stands q.running in
     omega (arith, level_is c.args.cpu.now.core c.args.cpu.now.regs a, level_small c.args.cpu.now.core c.args.cpu.now.regs a)
@@ -49,9 +49,9 @@ stuffed-reference-requires-clause-frame c =
     let a = here_scene q.storage cpu q.plan q.session q.member q.task q.ordered q.stands q.running in
     let top = top_followed q.storage cpu q.plan q.session q.member q.task c.in-Ok.word q.ordered q.running (c.in-Ok.ensures.cell q.storage q.plan q.session q.member q.task q.ordered q.stands q.running) in
     let one = sym c.tag.ensures.value ∙ c.if-tag-ne1.false in
-    let k = c.couple_of-couple.result in
-    let low = level_low q.storage cpu q.plan q.session q.member q.task q.ordered q.stands q.running n c.in-Ok.word top one c.in-Some.name c.in-Some.ensures.some.0 c.in-Some.ensures.some.1 k c.couple_of-couple.ensures c.in-Ok-cell_of.field-0 (c.in-Ok-cell_of.ensures a n (here_shown q.storage cpu q.plan q.session q.member q.task q.ordered q.stands q.running)) in
-    let f = frame_named q.storage cpu q.plan q.session q.member q.task q.ordered q.stands q.running n c.in-Ok.word top one c.in-Some.name c.in-Some.ensures.some.0 c.in-Some.ensures.some.1 k c.couple_of-couple.ensures low in
+    let k = c.couple_at-couple.result in
+    let low = level_low q.storage cpu q.plan q.session q.member q.task q.ordered q.stands q.running n c.in-Ok.word top one c.in-Some.name c.in-Some.ensures.some.0 c.in-Some.ensures.some.1 k c.couple_at-couple.ensures c.in-Ok-cell_of.field-0 (c.in-Ok-cell_of.ensures a n (here_shown q.storage cpu q.plan q.session q.member q.task q.ordered q.stands q.running)) in
+    let f = frame_named q.storage cpu q.plan q.session q.member q.task q.ordered q.stands q.running n c.in-Ok.word top one c.in-Some.name c.in-Some.ensures.some.0 c.in-Some.ensures.some.1 k c.couple_at-couple.ensures low in
     (a, (frame_at (here q.member q.task n) k.level).identity, f.0, ap (λ (i : ℕ). get_or cpu.display i 0) c.from.ensures ∙ f.1)
 
 pub returns-in-Ok-cell_of : goal.returns-in-Ok-cell_of
@@ -62,12 +62,12 @@ returns-in-Ok-cell_of c = record {
       let a = here_scene x cpu plan s m t ordered h runs in
       let top = top_followed x cpu plan s m t c.in-Ok.word ordered runs (c.in-Ok.ensures.cell x plan s m t ordered h runs) in
       let one = sym c.tag.ensures.value ∙ c.if-tag-ne1.false in
-      let k = c.couple_of-couple.result in
+      let k = c.couple_at-couple.result in
       let i = c.in-Ok-cell_of.ensures a n (here_shown x cpu plan s m t ordered h runs) in
-      let low = level_low x cpu plan s m t ordered h runs n c.in-Ok.word top one c.in-Some.name c.in-Some.ensures.some.0 c.in-Some.ensures.some.1 k c.couple_of-couple.ensures c.in-Ok-cell_of.field-0 i in
-      let f = frame_named x cpu plan s m t ordered h runs n c.in-Ok.word top one c.in-Some.name c.in-Some.ensures.some.0 c.in-Some.ensures.some.1 k c.couple_of-couple.ensures low in
+      let low = level_low x cpu plan s m t ordered h runs n c.in-Ok.word top one c.in-Some.name c.in-Some.ensures.some.0 c.in-Some.ensures.some.1 k c.couple_at-couple.ensures c.in-Ok-cell_of.field-0 i in
+      let f = frame_named x cpu plan s m t ordered h runs n c.in-Ok.word top one c.in-Some.name c.in-Some.ensures.some.0 c.in-Some.ensures.some.1 k c.couple_at-couple.ensures low in
       let spot = c.stuffed-reference.ensures.spot a (frame_at (here m t n) k.level).identity f.0 (ap (λ (z : ℕ). get_or cpu.display z 0) c.from.ensures ∙ f.1) in
-      stff_done x cpu plan s m t ordered h runs n c.in-Ok.word top one c.in-Some.name c.in-Some.ensures.some.0 c.in-Some.ensures.some.1 k c.couple_of-couple.ensures c.replace_cells.result c.replace_cells.new.cpu c.in-Ok-cell_of.field-0 c.stuffed-reference.result c.word.result i spot c.word.ensures
+      stff_done x cpu plan s m t ordered h runs n c.in-Ok.word top one c.in-Some.name c.in-Some.ensures.some.0 c.in-Some.ensures.some.1 k c.couple_at-couple.ensures c.replace_cells.result c.replace_cells.new.cpu c.in-Ok-cell_of.field-0 c.stuffed-reference.result c.word.result i spot c.word.ensures
       (c.replace_cells.ensures.row x plan s m t ordered h runs);
 }
 
@@ -78,6 +78,6 @@ returns-in-Err-cell_of c = record {
       let n = c.args.next in
       let a = here_scene x cpu plan s m t ordered h runs in
       let top = top_followed x cpu plan s m t c.in-Ok.word ordered runs (c.in-Ok.ensures.cell x plan s m t ordered h runs) in
-      stff_fault x cpu plan s m t ordered h runs n c.in-Ok.word top (sym c.tag.ensures.value ∙ c.if-tag-ne1.false) c.in-Some.name c.in-Some.ensures.some.0 c.in-Some.ensures.some.1 c.couple_of-couple.result c.couple_of-couple.ensures c.in-Err-cell_of.fault
+      stff_fault x cpu plan s m t ordered h runs n c.in-Ok.word top (sym c.tag.ensures.value ∙ c.if-tag-ne1.false) c.in-Some.name c.in-Some.ensures.some.0 c.in-Some.ensures.some.1 c.couple_at-couple.result c.couple_at-couple.ensures c.in-Err-cell_of.fault
       (c.in-Err-cell_of.ensures a n (here_shown x cpu plan s m t ordered h runs));
 }

@@ -10,8 +10,8 @@ use Rattle.b67_refer.proofs.Chains.{level_is, level_small}
 use Rattle.b67_refer.proofs.Names.{irw_is, stuffed, finds_name, finds_ref}
 use Rattle.b67_refer.proofs.ends.named_cell.Goals as goal
 
-pub couple_of-requires-clause-level : goal.couple_of-requires-clause-level
-couple_of-requires-clause-level c = let a = running_of c.requires.0 in omega (arith, level_is c.args.core.now c.args.regs.now a, level_small c.args.core.now c.args.regs.now a)
+pub couple_at-requires-clause-level : goal.couple_at-requires-clause-level
+couple_at-requires-clause-level c = let a = running_of c.requires.0 in omega (arith, level_is c.args.core.now c.args.regs.now a, level_small c.args.core.now c.args.regs.now a)
 
 pub cell_at-requires : goal.cell_at-requires
 cell_at-requires c =
@@ -27,7 +27,7 @@ cell_of-requires c = let (a, shown, at, owner, v, stands, ref) = c.requires in (
 pub returns-in-Some : goal.returns-in-Some
 returns-in-Some c = λ a q shown at owner v stands ref.
     let e = irw_is c.args.core.now c.args.regs.now a at owner c.args.w v c.in-Some.r stands ref c.in-Some.ensures.some.0 c.in-Some.ensures.some.1 in
-    inr (finds_name c.args.core.now c.args.regs.now a q v c.in-Some.r.couple c.couple_of.result c.cell_of.result e c.couple_of.ensures (c.cell_of.ensures (running_of a) q shown))
+    inr (finds_name c.args.core.now c.args.regs.now a q v c.in-Some.r.couple c.couple_at.result c.cell_of.result e c.couple_at.ensures (c.cell_of.ensures (running_of a) q shown))
 
 pub returns-in-None : goal.returns-in-None
 returns-in-None c = λ a q shown at owner v stands ref.

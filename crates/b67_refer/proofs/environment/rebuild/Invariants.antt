@@ -1,4 +1,4 @@
-use Rattle.std.proofs.Common.{◌≡◌, ◌<◌, length}
+use Rattle.std.proofs.Common.{◌≡◌, ◌<◌, ◌≤◌, length}
 use Rattle.b67_refer.specs.RunningContext.{RunningContext}
 use Rattle.b67_refer.proofs.Chains.{Written}
 use Rattle.b67_refer.proofs.environment.rebuild.Given as goal
@@ -6,6 +6,7 @@ use Rattle.b67_refer.proofs.environment.rebuild.Given as goal
 abbrev pub invariant-out : goal.invariant-out
 invariant-out l = record {
   len : length l.display ≡ 32;
+  low : 2 ≤ l.level;
   high : l.level < 32;
   written : (a : RunningContext l.core l.regs) → Written l.core l.regs a l.at l.level l.display;
 }
