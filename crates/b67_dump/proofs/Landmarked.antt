@@ -19,7 +19,7 @@ one_more k xs more x h l is = subst (AreLandmarks k) (sym is) (record {
 })
 
 -- the landmark above it is of the same slot, and of a higher block
-pub slot_above : (at : ℕ) → at % 128 ≢ 0 → (at - 1) / 128 ≡ at / 128
+slot_above : (at : ℕ) → at % 128 ≢ 0 → (at - 1) / 128 ≡ at / 128
 slot_above at some = omega (arith, some)
 
 pub end_above : (k : Sight) (at : ℕ) → at % 128 ≢ 0 → block_end k at ≤ block_end k (at - 1)

@@ -10,7 +10,7 @@ use Rattle.b67_dump.specs.Landmarks.{IsNearest}
 
 -- ---- turns
 
-pub marks_few : (core : List Tagged) (n f : ℕ) → length (marks_in core n f) ≤ n
+marks_few : (core : List Tagged) (n f : ℕ) → length (marks_in core n f) ≤ n
 unfolding marks_in
 marks_few core zero f = omega arith
 marks_few core (suc n) f = by (bits_at (word_seen_at core f) 0 14) (λ d. marks_few core n (f - d)) where
@@ -19,7 +19,7 @@ marks_few core (suc n) f = by (bits_at (word_seen_at core f) 0 14) (λ d. marks_
   by (suc d) rest = let r = rest (suc d) in omega (arith, r)
 
 -- where fewer marks than turns are met, as many turns as marks are enough
-pub settled : (core : List Tagged) (n f : ℕ) → length (marks_in core n f) < n → (m : ℕ) → length (marks_in core n f) ≤ m → marks_in core n f ≡ marks_in core m f
+settled : (core : List Tagged) (n f : ℕ) → length (marks_in core n f) < n → (m : ℕ) → length (marks_in core n f) ≤ m → marks_in core n f ≡ marks_in core m f
 unfolding marks_in
 settled core zero f low m many = absurd (omega (arith, low))
 settled core (suc n) f low zero many = absurd (omega (arith, many))

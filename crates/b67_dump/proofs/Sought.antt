@@ -14,10 +14,10 @@ pub none_passed : (core : List Tagged) (turns mark home : ℕ) → IsSought core
 none_passed core turns mark home = let all : turns ≡ turns - 0 = omega arith in record { same = ap (λ n. marks_under home (marks_in core n mark)) all }
 
 -- the marks below one
-abbrev pub under : List Tagged → ℕ → ℕ → ℕ → ℕ → List ℕ
+abbrev under : List Tagged → ℕ → ℕ → ℕ → ℕ → List ℕ
 under core turns turn at back = marks_by back (λ d. marks_in core (turns - (turn + 1)) (at - d))
 
-pub marks_are : (core : List Tagged) (turns turn at back : ℕ) → turn < turns → bits_at (word_seen_at core at) 0 14 ≡ back → marks_in core (turns - turn) at ≡ at ∷ under core turns turn at back
+marks_are : (core : List Tagged) (turns turn at back : ℕ) → turn < turns → bits_at (word_seen_at core at) 0 14 ≡ back → marks_in core (turns - turn) at ≡ at ∷ under core turns turn at back
 unfolding marks_in
 marks_are core turns turn at back low e =
     let next : turns - turn ≡ suc (turns - (turn + 1)) = omega arith in
