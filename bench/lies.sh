@@ -11,7 +11,7 @@ usage() {
 [ $# = 1 ] || [ $# = 2 ] || usage "a program, and a number of seeds if you like"
 program=$1
 seeds=${2:-1000}
-command -v "$program" >/dev/null || usage "$program: not a program that can be run"
+command -v "$program" >/dev/null && [ ! -d "$program" ] || usage "$program: not a program that can be run"
 case $seeds in '' | *[!0-9]* | 0* | ???????*) usage "$seeds: not a number of seeds from 1 to 999999" ;; esac
 command -v gcc >/dev/null || usage "gcc isn't on the path"
 bench=$(cd "$(dirname "$0")" && pwd)

@@ -10,7 +10,7 @@ usage() {
 }
 [ $# = 1 ] || usage "one program"
 program=$1
-command -v "$program" >/dev/null || usage "$program: not a program that can be run"
+command -v "$program" >/dev/null && [ ! -d "$program" ] || usage "$program: not a program that can be run"
 command -v gcc >/dev/null || usage "gcc isn't on the path"
 bench=$(cd "$(dirname "$0")" && pwd)
 room=$(mktemp -d)

@@ -12,7 +12,7 @@ usage() {
     exit 2
 }
 [ $# -le 1 ] || usage "one program at most"
-command -v "$program" >/dev/null || usage "$program: not a program that can be run"
+command -v "$program" >/dev/null && [ ! -d "$program" ] || usage "$program: not a program that can be run"
 command -v valgrind >/dev/null || usage "valgrind isn't on the path"
 room=$(mktemp -d)
 trap 'rm -rf "$room"' EXIT

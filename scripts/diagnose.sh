@@ -22,7 +22,7 @@ scripts) tracer=reference/trace.py ;;
 *) tracer=$(dirname "$0")/../reference/trace.py ;;
 esac
 [ -f "$deck" ] && [ -r "$deck" ] || usage "$deck: not a file that can be read"
-command -v "$program" >/dev/null || usage "$program: not a program that can be run"
+command -v "$program" >/dev/null && [ ! -d "$program" ] || usage "$program: not a program that can be run"
 job=
 room=$(mktemp -d)
 trap 'rm -rf "$room"' EXIT

@@ -61,6 +61,7 @@ function couple(digits,   n, width, i, level) {
 function row(text) { rows[now]++; said[now, rows[now]] = text; if (length(text) > wide[task]) wide[task] = length(text) }
 function arrow(kind, from, to) { arrows++; is[arrows] = kind; comes[arrows] = from; goes[arrows] = to; wanted[to]; sub(/#.*/, "", to); wanted[to] }
 { sub(/\r$/, "") }
+NR == 1 && /^(IMAGE|USAGE:|READING|NO MEMORY)/ { fail("dump printed no dump, but: " $0) }
 /^TASK / {
     if ($2 !~ /^[0-9]+\.[0-9]+$/) stray()
     task = $2
@@ -159,7 +160,7 @@ function sides(   j, key, n) {
         key = j == 0 ? "MCP" : "DICT/" j
         if (key in rows) box(key, 60, wide["side"] * letter + 16)
     }
-    if (wide["side"]) across = 60 + wide["side"] * letter + 16 + gap
+    if (wide["side"]) across = 60 + wide["side"] * letter + 16
 }
 # the record of a cell, of a mark, or of what is written under a stack
 function key_of(cell) {
@@ -172,27 +173,74 @@ function height(cell) {
     if (cell ~ /^task /) return base + 14
     return low[key_of(cell)] - ((cell in row_of ? row_of[cell] : 1) - 0.5) * line
 }
-# Each arrow sets out and comes in level, and arrows go behind boxes: the higher, the more columns they pass.
-function draw_arrow(a, b, kind,   from, to, passed, x, y, to_x, to_y, way, way_in, bend, rise) {
-    from = key_of(a)
-    to = key_of(b)
-    y = height(a)
-    to_y = height(b)
-    # the side from which it sets out, and that at which it comes in: 1 is the right one
-    way = column[to] > column[from] || (column[to] == column[from] && kind != "link") ? 1 : -1
-    way_in = column[to] < column[from] || (column[to] == column[from] && kind != "link") ? 1 : -1
-    x = way > 0 ? from_right[from] : from_left[from]
-    to_x = way_in > 0 ? from_right[to] : from_left[to]
-    passed = (column[to] - column[from]) * way - 1
-    rise = passed > 0 ? 10 + 8 * passed : 0
-    bend = column[to] == column[from] ? (y > to_y ? y - to_y : to_y - y) / 4 + 14 : (x > to_x ? x - to_x : to_x - x) / 3
-    if (column[to] == column[from] && bend > gap * 0.8) bend = gap * 0.8
-    behind_boxes[++curves] = sprintf("<path class=\"%s\" d=\"M%.1f %.1fC%.1f %.1f %.1f %.1f %.1f %.1f\"/>", kind, x, y, x + way * bend, y - rise, to_x + way_in * (7 + bend), to_y - rise, to_x + way_in * 7, to_y)
-    put(sprintf("<path class=\"%s head\" d=\"M%.1f %.1fl%d -4v8z\"/>", kind, to_x, to_y, way_in * 7))
+# the side at which an arrow sets out from a column, and that at which it comes in: 1 is the right one
+function way_out(n) { return to_column[n] > from_column[n] || (to_column[n] == from_column[n] && is[n] != "link") ? 1 : -1 }
+function way_in(n) { return to_column[n] < from_column[n] || (to_column[n] == from_column[n] && is[n] != "link") ? 1 : -1 }
+# An arrow that passes a column goes below all stacks, in a lane that it shares with those of its kind that lead to the
+# same cell. It goes down and up in gaps, each time in a place of its own: on the left those of the column before the
+# gap, on the right those of the column after it.
+function place_arrow(n,   from, to, way, lane) {
+    from = key_of(comes[n])
+    to = key_of(goes[n])
+    if (!(to in rows)) fail("no record " named(to) " stands in the dump")
+    from_column[n] = column[from] + 0
+    to_column[n] = column[to] + 0
+    way = way_out(n)
+    if ((to_column[n] - from_column[n]) * way < 2) return
+    lane = is[n] SUBSEP goes[n] SUBSEP way
+    if (!(lane in lanes)) {
+        lanes[lane] = ++count
+        to_gap[lane] = way > 0 ? to_column[n] : to_column[n] + 1
+        to_place[lane] = way > 0 ? ++places[to_gap[lane]] : ++places_before[to_gap[lane]]
+    }
+    lane_of[n] = lane
+    from_gap[n] = way > 0 ? from_column[n] + 1 : from_column[n]
+    from_place[n] = way < 0 ? ++places[from_gap[n]] : ++places_before[from_gap[n]]
+    if (!(lane in first) || (from_gap[n] - from_gap[first[lane]]) * way < 0 || (from_gap[n] == from_gap[first[lane]] && way < 0)) first[lane] = n
+}
+# how wide the gap before a column is
+function gap_before(n,   all) {
+    all = 42 + 6 * (places[n] + places_before[n])
+    return all > gap ? all : gap
+}
+# where in a gap a place is, of the column after the gap or of that before it
+function gap_at(n, nth, before) { return lefts[n] - 12 - 6 * (places[n] - nth + 1 + (before ? places_before[n] : 0)) }
+function depth(lane) { return base + 42 + 8 * lanes[lane] }
+# where an arrow sets out: from a box, or from the words under a stack
+function start_of(n, way,   from) {
+    from = key_of(comes[n])
+    if (is[n] == "wait" && way > 0) return title_end[from]
+    return way > 0 ? from_right[from] : from_left[from]
+}
+function draw_arrow(n,   to, x, y, to_x, to_y, way, in_way, bend) {
+    to = key_of(goes[n])
+    y = height(comes[n])
+    to_y = height(goes[n])
+    way = way_out(n)
+    in_way = way_in(n)
+    x = start_of(n, way)
+    to_x = in_way > 0 ? from_right[to] : from_left[to]
+    if (n in lane_of) {
+        draw_lane(n, lane_of[n], x, y, to_x + in_way * 7, to_y)
+        if (first[lane_of[n]] != n) return
+    } else {
+        bend = to_column[n] == from_column[n] ? (y > to_y ? y - to_y : to_y - y) / 4 + 14 : (x > to_x ? x - to_x : to_x - x) / 3
+        if (to_column[n] == from_column[n] && bend > gap * 0.8) bend = gap * 0.8
+        behind_boxes[++curves] = sprintf("<path class=\"%s\" d=\"M%.1f %.1fC%.1f %.1f %.1f %.1f %.1f %.1f\"/>", is[n], x, y, x + way * bend, y, to_x + in_way * (7 + bend), to_y, to_x + in_way * 7, to_y)
+    }
+    put(sprintf("<path class=\"%s head\" d=\"M%.1f %.1fl%d -4v8z\"/>", is[n], to_x, to_y, in_way * 7))
+}
+# the way of an arrow to its lane; the outermost goes on to where the lane leads, and the others end there in a dot
+function draw_lane(n, lane, x, y, to_x, to_y,   down, path) {
+    down = gap_at(from_gap[n], from_place[n], way_out(n) > 0)
+    path = sprintf("M%.1f %.1fH%.1fV%.1f", x, y, down, depth(lane))
+    if (first[lane] == n) path = path sprintf("H%.1fV%.1fH%.1f", gap_at(to_gap[lane], to_place[lane], way_out(n) < 0), to_y, to_x)
+    else put(sprintf("<circle class=\"%s head\" cx=\"%.1f\" cy=\"%.1f\" r=\"2.5\"/>", is[n], down, depth(lane)))
+    behind_boxes[++curves] = sprintf("<path class=\"%s\" d=\"%s\"/>", is[n], path)
 }
 function legend(x, kind, words) {
-    put(sprintf("<path class=\"%s\" d=\"M%.1f %.1fh30\"/>", kind, x, base + 54))
-    write(x + 36, base + 58, words, "")
+    put(sprintf("<path class=\"%s\" d=\"M%.1f %.1fh30\"/>", kind, x, bottom + 54))
+    write(x + 36, bottom + 58, words, "")
     return x + 36 + length(words) * letter + 24
 }
 END {
@@ -204,23 +252,25 @@ END {
     across = 60
     highest = -40
     sides()
+    for (n = 1; n <= tasks; n++)
+        for (k = 1; k <= records[names[n]]; k++) column[names[n] "/" k] = n
+    for (n = 1; n <= arrows; n++) place_arrow(n)
+    bottom = base + (count ? 8 * count + 2 : 0)
     for (n = 1; n <= tasks; n++) {
         task = names[n]
         floor = base
-        for (k = 1; k <= records[task]; k++) {
-            column[task "/" k] = n
-            box(task "/" k, across, wide[task] * letter + 16)
-        }
+        if (across > 60) across += gap_before(n)
+        lefts[n] = across
+        for (k = 1; k <= records[task]; k++) box(task "/" k, across, wide[task] * letter + 16)
         write(across, base + 18, "task " task ", " state[task], " class=\"mark\"")
         write(across, base + 33, goes_on[task], "")
         wide_title = length("task , " task state[task])
+        title_end[task "/1"] = across + wide_title * letter + 4
         if (wide[task] < wide_title) wide[task] = wide_title
-        across += wide[task] * letter + 16 + gap
+        across += wide[task] * letter + 16
     }
-    for (n = 1; n <= arrows; n++) {
-        if (!(key_of(goes[n]) in low)) fail("no record " named(key_of(goes[n])) " stands in the dump")
-        draw_arrow(comes[n], goes[n], is[n])
-    }
+    across += gap
+    for (n = 1; n <= arrows; n++) draw_arrow(n)
     if (tasks == 0) write(60, base, "No task lives.", "")
     x = legend(60, "link", "static link")
     x = legend(x, "ref", "reference")
@@ -228,7 +278,7 @@ END {
     x = legend(x, "wait", "waits at")
     if (across < x) across = x
     wide_all = across + 20
-    high_all = base + 94 - highest
+    high_all = bottom + 94 - highest
     print "<svg xmlns=\"http://www.w3.org/2000/svg\" xml:space=\"preserve\" width=\"" int(wide_all) "\" height=\"" int(high_all) "\" viewBox=\"0 " int(highest - 20) " " int(wide_all) " " int(high_all) "\">"
     print "<style>text{font:12px monospace;fill:#222}.mark{font-weight:bold}rect{fill:#fff;stroke:#555}path{fill:none;stroke-width:1.3}"
     print ".rule{stroke:#ddd;stroke-width:1}.link{stroke:#444}.ref{stroke:#15c;stroke-dasharray:6 3}.copy{stroke:#083;stroke-dasharray:2 3}"

@@ -15,7 +15,7 @@ usage() {
 deck=$1
 program=${2:-b67}
 [ -f "$deck" ] && [ -r "$deck" ] || usage "$deck: not a file that can be read"
-command -v "$program" >/dev/null || usage "$program: not a program that can be run"
+command -v "$program" >/dev/null && [ ! -d "$program" ] || usage "$program: not a program that can be run"
 room=$(mktemp -d)
 trap 'rm -rf "$room"' EXIT
 core=256

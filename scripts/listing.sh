@@ -47,7 +47,7 @@ prefix=$(cat "$room/prefix" 2>/dev/null)
 : >"$room/cards"
 : >"$room/names"
 if [ "$(cat "$room/kind")" = ASM ]; then
-    command -v "$program" >/dev/null || usage "$program: not a program that can be run"
+    command -v "$program" >/dev/null && [ ! -d "$program" ] || usage "$program: not a program that can be run"
     "$program" asm <"$room/body" >"$room/hex" || { cat "$room/hex" >&2; exit 1; }
     # operators alone: number, segment, mnemonic, text; and the names of segments and rows, with their cards
     awk -v names="$room/names" '

@@ -17,7 +17,7 @@ deck=$1
 shift
 program=${B67:-b67}
 [ -f "$deck" ] && [ -r "$deck" ] || usage "$deck: not a file that can be read"
-command -v "$program" >/dev/null || usage "$program: not a program that can be run"
+command -v "$program" >/dev/null && [ ! -d "$program" ] || usage "$program: not a program that can be run"
 command -v strace >/dev/null || usage "strace isn't installed, and nothing else here counts the sectors"
 for core in "$@"; do
     case $core in

@@ -23,7 +23,7 @@ for count in "$from" "$to"; do
 done
 [ "$from" -le "$to" ] || usage "$from comes after $to"
 [ -f "$deck" ] && [ -r "$deck" ] || usage "$deck: not a file that can be read"
-command -v "$program" >/dev/null || usage "$program: not a program that can be run"
+command -v "$program" >/dev/null && [ ! -d "$program" ] || usage "$program: not a program that can be run"
 room=$(mktemp -d)
 trap 'rm -rf "$room"' EXIT
 "$program" check <"$deck" >"$room/checked" || { tail -n 1 "$room/checked" >&2; exit 2; }
