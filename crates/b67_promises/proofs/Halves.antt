@@ -201,7 +201,7 @@ cut_front (x ∷ a) b c e = cut_front a b c (ap rest e)
     rest [] = []
     rest (y ∷ ys) = ys
 
-one_text : {K : Type 0} (taken : K → Option (List ℕ)) (old new : K) (before a b : List ℕ) → taken old ≡ Some before → taken new ≡ Some (before ++ a) → Took taken old new b → a ≡ b
+pub one_text : {K : Type 0} (taken : K → Option (List ℕ)) (old new : K) (before a b : List ℕ) → taken old ≡ Some before → taken new ≡ Some (before ++ a) → Took taken old new b → a ≡ b
 one_text taken old new before a b e f t = cut_front before a b (same_Some (before ++ a) (before ++ b) (sym f ∙ t.told before e))
 
 module _ {S B K : Type 0} (words : List (Bor (List ℕ))) (left : S → Option (List ℕ)) (source_faults : S → ℕ) (deck deck' : S) (d : Device B) (machine : Option Machine) (taken : K → Option (List ℕ)) (faults : K → ℕ) (old new : K)

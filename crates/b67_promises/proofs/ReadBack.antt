@@ -67,9 +67,9 @@ module _ {S B K : Type 0} (words : List (Bor (List ℕ))) (left : S → Option (
   within core p q k run opened stop typed rows =
       let text = the_deck core p run in
       let size = opened.core_size in
-      let asked = the_core core p run in
-      let low = asked.from in
-      let high = asked.upto in
+      let wide = the_core core p run in
+      let low = wide.from in
+      let high = wide.upto in
       parts_within p.0 (prepared_in_range text.0 p.0 p.1 text.1).0 (prepared_cards text.0 p text.1) k opened.given opened.shaped.countable typed
       stop.stands.storage (known_now d) stop.stands.plan stop.session stop.member stop.stands.ordered stop.stands.stands (keyed_has number_of stop.next.chosen.who.job stop.session.jobs stop.member stop.next.member).0
       rows (omega (arith, size, low)) (omega (arith, size, high))
