@@ -21,6 +21,5 @@ pub returns-clause-keeps : goal.returns-clause-keeps
 returns-clause-keeps c = record {
   core = far_length c.args.machine.now c.operate_far.new.cpu c.args.reader.now c.operate_far.new.reader c.operate_far.result c.requires.runs c.operate_far.ensures;
   sectors = refl;
-  halt = refl;
-  names = refl;
+  given = refl;
 }
