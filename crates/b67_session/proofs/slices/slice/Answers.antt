@@ -1,4 +1,4 @@
-use Rattle.std.proofs.Common.{rules, ◌≢◌, ℕ, List, Option, None, sym, ap, ◌∙◌, subst, inl, inr, arith}
+use Rattle.std.proofs.Common.{rules, ◌≢◌, ℕ, List, Option, None, sym, ap, subst, inl, inr, arith}
 use Rattle.b67_layout_storage.specs.Machine.{content_after}
 use Rattle.b67_layout_storage.proofs.Devices.{Served-none}
 use Rattle.b67_layout_storage.proofs.Retold.{retold-same}
