@@ -1,9 +1,8 @@
 -- Ends at procedures, and what entering them makes.
-use Rattle.std.proofs.Common.{◌≡◌, ◌≢◌, ℕ, ◌<◌, ◌^◌, List, Ok, Err, refl, sym, Bool, true, false, subst}
+use Rattle.std.proofs.Common.{◌≡◌, ◌≢◌, ℕ, List, Ok, Err, refl, sym, Bool, true, false, subst}
 use Rattle.b67_word.specs.Tagged.{Tagged}
 use Rattle.b67_word.specs.declared.couples.Place.{Place}
 use Rattle.b67_word.specs.declared.faults.Fault.{Fault}
-use Rattle.b67_ctl.specs.Layout.{irw_word}
 use Rattle.b67_ctl.specs.declared.registers.Regs.{Regs}
 use Rattle.b67_model.specs.Common.{Answer, ◌>>=◌, AtCell, AtElement, AtArray, AtProc, AtIntrinsic, chase, Name, accident, back_to, evaluates, Task, SessionJob, Done, cells_of, Session}
 use Rattle.b67_model.specs.Chase as Chase
@@ -19,8 +18,7 @@ use Rattle.b67_refer.specs.RunningContext.{RunningContext}
 use Rattle.b67_refer.specs.Ends.{EndMeets, IsProcAt}
 use Rattle.b67_entry.specs.Procedures.{ReachesProc}
 use Rattle.b67_fetch.specs.Fetches.{IsEnd, FindsEnd, is_procedure_end, enters_at, EntersOrMeets}
-use Rattle.b67_fetch.proofs.Values.{here_scene, here_shown, followed_stands, couple_followed}
-use Rattle.b67_exec.specs.Procedures.{LeadsToProcedure}
+use Rattle.b67_fetch.proofs.Values.{here_scene}
 
 -- an end that is a procedure's
 pub record AtProcedure (e : Answer Chase.End) : Type 0 where
@@ -81,13 +79,6 @@ met_at x plan s m r old new found (Ok e) answer is other i = subst (λ (b : Bool
 met_at x plan s m r old new found (Err f) answer is other i = absurd is
 
 module _ (x : Storage) (cpu : Cpu) (plan : Placement) (s : Session) (m : SessionJob) (t : Task) (ordered : IsInOrderButCounts s) (h : RepresentsSession x cpu plan s) (runs : IsRunning plan s.jobs m t) where
-  -- a couple that leads to a procedure
-  pub couple_leads : (q : Place) (couple : ℕ) (w : Tagged) → couple < 2 ^ 14 → w ≡ irw_word (record { couple = couple }) → (p : AtProcedure (chase (here m t q) (Name couple)))
-      → LeadsToProcedure cpu (here_scene x cpu plan s m t ordered h runs) q w p.frame p.segment p.level p.place
-  couple_leads q couple w small is p =
-      let i = couple_followed x plan m t couple w small is in
-      record { shown = here_shown x cpu plan s m t ordered h runs; at = i.at; owner = i.owner; word = Name couple; stands = followed_stands x cpu plan s m t ordered h runs w (Name couple) i; ends = p.is }
-
   pub reaches : (q : Place) (cell f segment level : ℕ) (place : Place) → IsProcAt (here_scene x cpu plan s m t ordered h runs) q cell f segment level place → ReachesProc cpu (here_scene x cpu plan s m t ordered h runs) q cell f segment level place
   reaches q cell f segment level place i = record { ordered = ordered; stands = h; procedure = i }
 

@@ -1,10 +1,9 @@
-use Rattle.std.proofs.Common.{[], refl, ap, ◌∙◌, arith, subst, true, Ok, Err, Result}
+use Rattle.std.proofs.Common.{[], refl, ap, ◌∙◌, arith, subst, Ok, Result}
 use Rattle.b67_word.specs.declared.faults.Fault.{Fault}
-use Rattle.b67_model.specs.Common.{Answer, ◌>>=◌, Name, follow, evaluates, AtProc, accident, back_to, cells_of, Done}
+use Rattle.b67_model.specs.Common.{Answer, ◌>>=◌, Name, follow, evaluates}
 use Rattle.b67_model.specs.Chase as Chase
-use Rattle.b67_layout.specs.Common.{here, cells, Meets}
+use Rattle.b67_layout.specs.Common.{here, cells}
 use Rattle.b67_refer.specs.declared.ends.End.{End}
-use Rattle.b67_refer.specs.declared.ends.End.TheVariants as end
 use Rattle.b67_refer.specs.RunningContext.{live_of}
 use Rattle.b67_refer.specs.Ends.{EndMeets}
 use Rattle.b67_entry.proofs.Evaluating.{fault_end, proc_end}
