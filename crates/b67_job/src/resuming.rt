@@ -124,7 +124,10 @@ fn another_image_is_refused(rt: HostRuntime) -> Result<(), Fail> {
     let mut backing = HonestBacking::new(alloc, 4096)?;
     let cards = "?STACK 256\n?HALT 100\n";
     let (_halted, image) = image_of(alloc, "910", cards, eight.as_str(), &mut backing)?;
-    let Some(front) = image.as_slice().strip_suffix(b"?END\nHALTED 100\n".as_slice()) else {
+    let Some(front) = image
+        .as_slice()
+        .strip_suffix(b"?END\nHALTED 100\n".as_slice())
+    else {
         return Err(Fail::from("no image was printed"));
     };
     let rows = [

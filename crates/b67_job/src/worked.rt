@@ -449,7 +449,11 @@ fn a_stopped_session_goes_on(rt: HostRuntime) -> Result<(), Fail> {
 #[test]
 fn calls_of_the_device(rt: HostRuntime) -> Result<(), Fail> {
     let alloc = rt.alloc();
-    let rows = [("4096", LEAVE, 4), ("630", TWO, 37), ("649", EIGHT_ALONE, 163)];
+    let rows = [
+        ("4096", LEAVE, 4),
+        ("630", TWO, 37),
+        ("649", EIGHT_ALONE, 163),
+    ];
     for (core, job, calls) in rows {
         let none = numbers_of(alloc, &[])?;
         let mut backing = MemoryBacking::new(alloc, 4096, none, numbers_of(alloc, &[])?)?;
