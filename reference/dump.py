@@ -187,6 +187,9 @@ def dumped(text: bytes) -> list[str]:
 
 def main() -> int:
     """Prints the dump of standard input."""
+    if len(sys.argv) > 1:
+        print("usage: python3 dump.py < IMAGE", file=sys.stderr)
+        return 2
     try:
         lines = dumped(sys.stdin.buffer.read())
     except RefusedError as refused:

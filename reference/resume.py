@@ -28,7 +28,7 @@ from machine import (
     sectors_of,
 )
 from session import Session
-from shape import DICTIONARY_STACKS, SLOTS, Shown, ShownFrame, ShownTask, bits, tag
+from shape import ARRAY, DICTIONARY_STACKS, SLOTS, Shown, ShownFrame, ShownTask, bits, tag
 from words import (
     WORD_MASK,
     Element,
@@ -76,21 +76,24 @@ class Restored:
         self.frames: dict[int, Frame] = {}
         self.arrays: dict[int, Array] = {}
         self.tasks: dict[int, Task] = {}
+        self.agrees = True  # core and sectors agree on code and data rows
 
     # --- what is held
 
     def words_of(self, home: int) -> list[int]:
-        """The 48 bits of each word of an object: of its area, or else of its chain."""
-        _, length = self.shown.objects[home]
+        """The 48 bits of each word of an object: of its area, or else of its chain.
+
+        Code and data rows leave core without being written, so a session has them in both.
+        """
+        kind, length = self.shown.objects[home]
         word = self.image.core[home]
         address = bits(word, 0, 20)
-        if bits(word, 47, 1):
-            held = self.image.core[address : address + length]
-        elif address == 0:
-            return [0] * length
-        else:
-            held = self.words_of_chain(address, length)
-        return [each & WORD_MASK for each in held]
+        if not bits(word, 47, 1):
+            return self.words_of_chain(address, length) if address else [0] * length
+        held = [each & WORD_MASK for each in self.image.core[address : address + length]]
+        if kind != ARRAY:
+            self.agrees &= held == self.words_of_chain(self.shown.areas[address][3], length)
+        return held
 
     def words_of_chain(self, first: int, length: int) -> list[int]:
         """The words in a chain of sectors."""
@@ -99,7 +102,7 @@ class Restored:
         for _ in range(sectors_of(length)):
             held += self.read(sector)
             sector = self.image.links[sector - 1]
-        return held[:length]
+        return [each & WORD_MASK for each in held[:length]]
 
     def codefile(self, job: ImageJob) -> Codefile:
         """The program of a job, with the levels and entries that its MPCWs tell."""
@@ -253,7 +256,9 @@ def session_from(
     deck = Deck(stack=image.stack_size, quantum=image.quantum, switches=switches)
     session = Session(deck, [], len(image.core), len(image.links), put)
     session.next_switch = image.next_switch
-    Restored(shown, read).fill_machine(session.machine)
+    restored = Restored(shown, read)
+    restored.fill_machine(session.machine)
+    session.agrees = restored.agrees
     return session
 
 
@@ -261,8 +266,8 @@ def session_from(
 
 
 def is_sound(session: Session) -> bool:
-    """Whether all programs are admitted, and all places are starts of operators."""
-    return all(is_admitted(job) and all(map(stands, job.tasks)) for job in session.machine.jobs)
+    """Whether core and sectors agree, all programs are admitted, and all places are starts of operators."""
+    return session.agrees and all(is_admitted(job) and all(map(stands, job.tasks)) for job in session.machine.jobs)
 
 
 def is_admitted(job: Job) -> bool:

@@ -46,6 +46,7 @@ class Session:
         self.put = put
         self.lines_put = 0
         self.next_switch = 0
+        self.agrees = True  # core and sectors, of a session that goes on from an image
         mcp = mcp_frame()
         for number, (job, (file, listings)) in enumerate(zip(deck.jobs, programs), start=1):
             dictionary = dictionary_frame(file, mcp)
