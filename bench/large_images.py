@@ -34,15 +34,14 @@ print(os.waitstatus_to_exitcode(status), used.ru_utime + used.ru_stime, used.ru_
 CHILD = {
     # each record has a reference to the cell of the record below it
     "references": "MKST\nNAMC 2,2\nNAMC 3,2\nSTFF\nENTR\nEXIT\n",
-    # each record has a copy of the array that the record below it has made
-    "copies": "MKST\nNAMC 0,8\nONE\nENTR\nMKST\nNAMC 2,2\nNAMC 3,3\nLOAD\nENTR\nEXIT\n",
-    # arrays of one word, one after the other
-    "arrays": "L: MKST\nNAMC 0,8\nONE\nENTR\nBRUN L\n",
+    # each record has a present array of one word, a copy of its element, and a copy of the array of the record below it
+    "arrays": "MKST\nNAMC 0,8\nONE\nENTR\nONE\nNAMC 3,3\nZERO\nINDX\nSTOD\nNAMC 3,3\nZERO\nINDX\nMKST\nNAMC 2,2\nNAMC 3,3\nLOAD\nENTR\nEXIT\n",
     # numbers alone
     "operands": "L: ONE\nBRUN L\n",
     # references to a cell of the parent, on whose stack many records lie above it
     "far references": "L: NAMC 2,3\nSTFF\nBRUN L\n",
 }
+KINDS = (("references", 1.6, 1.0), ("far references", 2.6, 1.0), ("references high up", 2.6, 1.0), ("operands", 1.9, 1.0), ("arrays", 3.4, 1.7))
 DEEPER = "SEGMENT Q 3\n" + "NOOP\n" * 6 + "MKST\nNAMC 2,4\nONE\nENTR\nEXIT\n"  # the parent's own records, in 2,4
 
 
@@ -126,7 +125,7 @@ class Measured:
         status, printed, took, memory = self.run(["dump"], text)
         last = printed[-60:].decode("latin-1").splitlines()[-1] if status else f"{len(printed)} bytes"
         size = len(text) / 1e6
-        print(f"{what:34} {size:7.2f} {took:8.3f} {took / size:8.3f} {memory:7.1f} {memory / size:6.1f}  {last}", flush=True)
+        print(f"{what:40} {size:7.2f} {took:8.3f} {took / size:8.3f} {memory:7.1f} {memory / size:6.1f}  {last}", flush=True)
 
 
 def spread(text: bytes, width: int) -> bytes:
@@ -159,18 +158,17 @@ def main() -> int:
         return 2
     with tempfile.TemporaryDirectory() as folder:
         measured = Measured(Path(sys.argv[1]).resolve(), Path(folder))
-        print(f"{'image':34} {'MB':>7} {'seconds':>8} {'s / MB':>8} {'MB used':>7} {'times':>6}  dump")
+        print(f"{'image':40} {'MB':>7} {'seconds':>8} {'s / MB':>8} {'MB used':>7} {'times':>6}  dump")
         least = read_image(measured.image(deck_of("operands", 64, 40, 1, 0), 4_096), None)
         sectors = 16_384
         while sectors <= int(most):
             measured.show(f"{sectors} sectors, nearly all free", with_links(least, sectors))
             sectors = min(2 * sectors, int(most)) if sectors < int(most) else sectors + 1
-        # how many operators fill a word of a stack, and how much of it they may fill
-        for kind, turns in (("references", 1.6), ("far references", 2.6), ("references high up", 2.6), ("copies", 2.0), ("operands", 1.9), ("arrays", 4.5)):
-            for stack in (1_000, 2_000, 4_000, 8_000):
-                words = stack // 4 if kind in ("copies", "arrays") else stack * 9 // 10
-                count = 120 * (40 + int(turns * words)) + (24 * stack if "high" in kind else 0)
-                core = min(CORE, 160 + 8 * 1_100 + 120 * stack * (1 if words > stack // 2 else 2))
+        # how many operators fill a word of a stack, and how much core it takes
+        for kind, turns, room in KINDS:
+            for stack in (600, 1_250, 2_500, 5_000):
+                count = 120 * (40 + int(turns * stack * 9 // 10)) + (24 * stack if "high" in kind else 0)
+                core = 160 + 8 * 1_100 + int(120 * stack * room)
                 measured.show(f"{kind}, 120 stacks of {stack}", few(measured.image(deck_of(kind, stack, count, 8, 14), core)))
         job = least.jobs[0]
         room = GREATEST_IMAGE - 10_000 - len(with_links(least, 2_000))

@@ -41,7 +41,7 @@ while [ "$from" -le "$to" ]; do
     fi
     # the lines of tasks, of which those before are shown already
     grep '^[0-9]*\.[0-9]* ' "$room/printed" >"$room/lines"
-    [ $status = 3 ] && echo "after $from:"
+    case $status in 0 | 3) echo "after $from:" ;; esac
     tail -n "+$(($(wc -l <"$room/before") + 1))" "$room/lines"
     if [ $status = 0 ]; then
         echo "no task lives"
