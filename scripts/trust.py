@@ -22,6 +22,7 @@ THEOREMS = [
     ("b67_promises::run_under_switches", ["decks"]),
     ("b67_promises::run_source_and_printed", []),
     ("b67_promises::run_halted_then_resumed", ["together"]),
+    ("b67_promises::run_to_image", ["read"]),
     ("b67_promises::run_one_session", []),
     ("b67_promises::codefiles_hold_programs", []),
     ("b67_promises::converting_keeps_programs", []),
@@ -193,7 +194,7 @@ def rests_on(function, clauses):
 
     def follow(within, lines):
         for found in named(within, lines):
-            if id(found) not in reached and not re.match(r"(pub )?fn ", found.text[0]):
+            if id(found) not in reached and not re.match(r"(pub(\(crate\))? )?fn ", found.text[0]):
                 reached.add(id(found))
                 follow(found, found.text)
                 order.append(found)
