@@ -139,7 +139,7 @@ by_resume : (command : CommandLine) (o : Option (List ℕ)) (x : Option CommandL
 by_resume command None x none h = absurd (none-some command (sym none ∙ h))
 by_resume command (Some path) x none h = sym (same_Some commands.Resume command h)
 
-resume_words : (words : List (Bor (List ℕ))) → AsksForResume words → (command : CommandLine) → command_line_of words ≡ Some command → command ≡ commands.Resume
+pub resume_words : (words : List (Bor (List ℕ))) → AsksForResume words → (command : CommandLine) → command_line_of words ≡ Some command → command ≡ commands.Resume
 resume_words [] w command h = absurd (none-some command h)
 resume_words (word ∷ []) w command h = absurd (no_word command (one_word (word ∷ [])) (bind (word ∷ [])) (resume_not_one word (ap head w)) (resume_not_bind word [] (ap head w)) h)
 resume_words (word ∷ a ∷ []) w command h = absurd (none-some command (sym (resume_not_bind word (a ∷ []) (ap head w)) ∙ h))

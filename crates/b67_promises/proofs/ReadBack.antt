@@ -1,6 +1,7 @@
 -- What `image` prints of a run that halts is read over the same device as the machine that the run leaves.
-use Rattle.std.proofs.Common.{◌≡◌, ◌+◌, ◌<◌, ◌≤◌, ℕ, true, List, ◌++◌, length, Option, Some, None, Ok, refl, sym, ap, subst, ◌∙◌, arith, inl, inr, ◌⊎◌, codes}
+use Rattle.std.proofs.Common.{◌≡◌, ◌+◌, ◌<◌, ◌≤◌, ℕ, true, List, ◌++◌, length, Option, Some, None, Ok, Err, refl, sym, ap, subst, ◌∙◌, arith, inl, inr, ⊎_elim, ◌⊎◌, codes}
 use Rattle.std.proofs.lemmas.Bool.{eq-eqb}
+use Rattle.std.proofs.lemmas.List.{take_all}
 use Rattle.std.proofs.lemmas.Option.{same_Some}
 use denote.Ref.{Bor}
 use Rattle.b67_lemmas.proofs.Members.{keyed_has}
@@ -16,7 +17,8 @@ use Rattle.b67_image.specs.Text.{limit}
 use Rattle.b67_image.specs.Parts.{parts_of}
 use Rattle.b67_image.specs.Within.{ArePartsWithin}
 use Rattle.b67_image.specs.Typed.{AreTyped}
-use Rattle.b67_image.specs.Meaning.{is_wanted}
+use Rattle.b67_image.specs.Meaning.{is_wanted, told_in, IsMeant}
+use Rattle.b67_image.specs.declared.fault.ImageFault.TheVariants.{Card}
 use Rattle.b67_job.specs.Command.{command_line_of}
 use Rattle.b67_job.specs.declared.command.CommandLine.{CommandLine}
 use Rattle.b67_job.specs.declared.command.CommandLine.TheVariants as commands
@@ -25,14 +27,14 @@ use Rattle.b67_job.specs.declared.summaries.Closing.TheVariants as closings
 use Rattle.b67_job.specs.Device.{Device, known_now}
 use Rattle.b67_job.specs.Texts.{Text, whole_of}
 use Rattle.b67_job.specs.Runs.{run_of, IsHaltedAt, StopsInRun, WasOpened}
-use Rattle.b67_job.specs.Judgement.{Runs, asked, core_asked, closing_of}
-use Rattle.b67_job.specs.Due.{IsRun, Halts, IsOpenedOrResumed}
+use Rattle.b67_job.specs.Judgement.{Runs, Refused, asked, core_asked, closing_of, image_sectors}
+use Rattle.b67_job.specs.Due.{IsRun, Halts, IsOpenedOrResumed, TextIsRefused, ImageIsRefused}
 use Rattle.b67_job.specs.Statuses.{StatusMeans}
 use Rattle.b67_job.proofs.Commands.{NumberWithin}
 use Rattle.b67_job.proofs.Prepared.{prepared_in_range, prepared_cards}
-use Rattle.b67_promises.specs.Halting.{AsksForImage}
+use Rattle.b67_promises.specs.Halting.{AsksForImage, AsksForResume}
 use Rattle.b67_promises.specs.Images.{IsReadIn, IsReadBack, text_of_halt}
-use Rattle.b67_promises.proofs.Halves.{image_words, one_text}
+use Rattle.b67_promises.proofs.Halves.{image_words, resume_words, one_text}
 use Rattle.b67_promises.proofs.OtherLines.{read_among}
 use Rattle.b67_promises.proofs.Ranges.{parts_within}
 use Rattle.b67_promises.proofs.TurnCalls.{prepared_is}
@@ -95,3 +97,26 @@ module _ {S B K : Type 0} (words : List (Bor (List ℕ))) (left : S → Option (
         let r = means.halted refl in
         let closed = subst (λ (x : Closing). Halts d r.1 x machine r.2) (the_closing r.0 r.1 r.3) r.4 in
         read_at r.1 closed.0 r.2 closed.1 closed.3.0 r.5 (opened closed.0 closed.1) (typed closed.0 closed.1) (rows closed.0 closed.1)
+
+-- ---- and a call that goes on from it doesn't refuse it
+
+module _ {S B K : Type 0} (words : List (Bor (List ℕ))) (left : S → Option (List ℕ)) (source_faults : S → ℕ) (deck deck' : S) (d : Device B) (machine : Option Machine) (taken : K → Option (List ℕ)) (faults : K → ℕ) (old new : K)
+    (w : AsksForResume words) (text : List ℕ) (given : left deck ≡ Some text) (few : length text ≤ limit) (printed : Option Machine) (back : IsReadBack d.sectors text printed) where
+  no_text : (t : Text) → TextIsRefused words left deck deck' d machine t → ⊥
+  no_text t h =
+      let c = resume_words words w h.0 h.3 in
+      let e : asked commands.Resume h.1 ≡ Refused h.2 = subst (λ (x : CommandLine). asked x h.1 ≡ Refused h.2) c h.6 in
+      let z : ⊥ = cc in z
+
+  no_image : (t : Text) → ImageIsRefused words left source_faults deck deck' d machine t → ⊥
+  no_image t h =
+      let c = resume_words words w h.0 h.4 in
+      let e : image_sectors d.sectors commands.Resume ≡ Some h.1 = subst (λ (x : CommandLine). image_sectors d.sectors x ≡ Some h.1) c h.5 in
+      let wanted : Some d.sectors ≡ h.1 = same_Some (Some d.sectors) h.1 e in
+      let read = h.6 in
+      let whole : read.0 ≡ text = (read.1.told text given).0 ∙ take_all (limit + 1) text (omega (arith, few)) in
+      back.taken (Err (Card h.2 h.3))
+      (subst (λ (o : Option ℕ). IsMeant (Err (Card h.2 h.3)) (told_in o text)) (sym wanted) (subst (λ (x : List ℕ). IsMeant (Err (Card h.2 h.3)) (told_in h.1 x)) whole read.2))
+
+  pub not_refused : StatusMeans words left source_faults deck deck' d machine taken faults old new 2 → ⊥
+  not_refused means = let r = means.refused refl in ⊎_elim (no_text r.0) (no_image r.0) r.1

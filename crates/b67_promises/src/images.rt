@@ -22,7 +22,7 @@ pub fn images_of_runs_are_read()
 {}
 
 /// Looks at the table of tasks of the machine that a call has left, if it left one: its type bounds it. Changes nothing.
-fn tasks_are_few(outcome: &Outcome)
+pub(crate) fn tasks_are_few(outcome: &Outcome)
     ensures { (k : Machine) → outcome.now.machine ≡ Some k → length k.tasks.rows.items ≤ 120 }
 {
     if let Some(machine) = &outcome.machine {

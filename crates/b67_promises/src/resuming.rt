@@ -1,7 +1,8 @@
 //! A run that halts and is resumed prints what it would have printed.
 
-ghost use Rattle.std.specs.Prelude.{◌≡◌, ◌≢◌, ◌++◌, ℕ, List, Option, Some, None};
+ghost use Rattle.std.specs.Prelude.{◌≡◌, ◌≢◌, ◌≤◌, ◌++◌, ℕ, List, length, Option, Some, None};
 ghost use Rattle.b67_task_tables.specs.declared.tables.Machine.{Machine};
+ghost use Rattle.b67_image.specs.Text.{limit};
 ghost use Rattle.b67_image.specs.Parts.{parts_of};
 ghost use Rattle.b67_image.specs.Typed.{AreTyped};
 ghost use Rattle.b67_job.specs.Device.{device_of};
@@ -9,6 +10,7 @@ ghost use Rattle.b67_job.specs.Due.{Answered};
 ghost use Rattle.b67_promises.specs.Paging.{AsksForRun};
 ghost use Rattle.b67_promises.specs.Halting.{AsksForImage, AsksForResume, DifferInHalt, ResumePrints};
 
+use crate::images::tasks_are_few;
 use b67_backing::Backing;
 use b67_image::{machine_is_typed, parts_tell_sessions};
 use b67_io::{Sink, Source};
@@ -28,7 +30,7 @@ pub(crate) fn outcome_is_typed(outcome: &Outcome)
 /// without its halt by `run`, over a backing of its own. Answers the three statuses.
 ///
 /// If the first run halts (3) and the other two end (0), the lines of the halted run and of the resumed one are together those of
-/// the whole run.
+/// the whole run. The second is no 2 then: an image that a run prints is never refused, if it isn't too long.
 pub fn run_halted_then_resumed<
     S: Source,
     K: Sink,
@@ -59,6 +61,11 @@ pub fn run_halted_then_resumed<
         → result.0 ≡ 3 → result.1 ≡ 0 → result.2 ≡ 0
         → ResumePrints text L.taken resume_printer.old resume_printer.new M.taken whole_printer.old whole_printer.new }
 
+    // The image isn't refused, if all that the first call printed is no longer than an image may be.
+    ensures accepted { (before text : List ℕ) → AsksForImage words.now → AsksForResume resume_words.now
+        → K.taken printer.old ≡ Some before → K.taken printer.new ≡ Some (before ++ text) → I.left image.old ≡ Some text → length text ≤ limit
+        → result.0 ≡ 3 → result.1 ≢ 2 }
+
     // The first two statuses are those of calls of `run`, the second over the backing as the first has left it.
     ensures calls { (middle : B)
         × ((machine : Option Machine) × Answered words.now S.left S.faults deck.old deck.new (device_of B.holds B.size B.faults backing.old middle)
@@ -73,6 +80,7 @@ pub fn run_halted_then_resumed<
     parts_tell_sessions();
     let halted = run(alloc, words, deck, printer, backing);
     outcome_is_typed(&halted);
+    tasks_are_few(&halted);
     let resumed = run(alloc, resume_words, image, resume_printer, backing);
     let whole = run(alloc, whole_words, whole_deck, whole_printer, whole_backing);
     (halted.status, resumed.status, whole.status)

@@ -11,6 +11,7 @@ use Rattle.b67_promises.proofs.Words.{asks_run}
 use Rattle.b67_promises.proofs.Calls.{call_prints}
 use Rattle.b67_promises.proofs.OneImage.{parts_are}
 use Rattle.b67_promises.proofs.Halves as halves
+use Rattle.b67_promises.proofs.ReadBack.{read_back, not_refused}
 use Rattle.b67_promises.proofs.resuming.run_halted_then_resumed.Goals as goal
 
 pub returns-clause-together : goal.returns-clause-together
@@ -42,6 +43,17 @@ returns-clause-together g c = λ bytes other before text w w' w'' told told' dif
       printed' = call.1;
       parts = halves.printed_together made rest.2.steps all.steps s0 h.k text rest.0 call.0 rest.2.over (ap (λ (x : Session). halves.lives all.steps x) (sym same) ∙ all.over) h.printed rest.2.printed (all.printed ∙ ap (λ (x : Session). halves.text_of all.steps x) same);
     }
+
+pub returns-clause-accepted : goal.returns-clause-accepted
+returns-clause-accepted g c = λ before text w w' took took' given few three two.
+    let one = device_of g.B.Backing.holds g.B.Backing.size g.B.Backing.faults c.args.backing.now c.run-halted.new.backing in
+    let next = device_of g.B.Backing.holds g.B.Backing.size g.B.Backing.faults c.run-halted.new.backing c.run-resumed.new.backing in
+    let back = read_back c.args.words.now g.S.Source.left g.S.Source.faults c.args.deck.now c.run-halted.new.deck one c.run-halted.result.machine g.K.Sink.taken g.K.Sink.faults c.args.printer.now c.run-halted.new.printer w before text took took' few
+    (subst (λ (n : ℕ). StatusMeans c.args.words.now g.S.Source.left g.S.Source.faults c.args.deck.now c.run-halted.new.deck one c.run-halted.result.machine g.K.Sink.taken g.K.Sink.faults c.args.printer.now c.run-halted.new.printer n) three c.run-halted.ensures.status)
+    c.run-halted.ensures.opened c.outcome_is_typed.ensures c.tasks_are_few.ensures in
+    not_refused c.args.resume_words.now g.I.Source.left g.I.Source.faults c.args.image.now c.run-resumed.new.deck next c.run-resumed.result.machine g.L.Sink.taken g.L.Sink.faults c.args.resume_printer.now c.run-resumed.new.printer
+    w' text given few c.run-halted.result.machine back
+    (subst (λ (n : ℕ). StatusMeans c.args.resume_words.now g.I.Source.left g.I.Source.faults c.args.image.now c.run-resumed.new.deck next c.run-resumed.result.machine g.L.Sink.taken g.L.Sink.faults c.args.resume_printer.now c.run-resumed.new.printer n) two c.run-resumed.ensures.status)
 
 pub returns-clause-calls : goal.returns-clause-calls
 returns-clause-calls g c = (c.run-halted.new.backing, (c.run-halted.result.machine, c.run-halted.ensures.due), (c.run-resumed.result.machine, c.run-resumed.ensures.due))
