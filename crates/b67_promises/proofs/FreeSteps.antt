@@ -1,19 +1,19 @@
 -- The steps of a run keep that no word names the MCP's cell 12.
 use Rattle.std.proofs.lemmas.Option.{same_Some}
-use Rattle.std.proofs.Common.{◌≡◌, ℕ, zero, suc, ◌+◌, ◌-◌, ◌<◌, ◌≤◌, ◌⊎◌, inl, inr, Bool, true, false, not, eqb, List, [], ◌∷◌, map, filter, Option, Some, None, Ok, Err, refl, sym, ap, subst, ◌∙◌, arith}
+use Rattle.std.proofs.Common.{◌≡◌, ℕ, zero, suc, ◌+◌, ◌-◌, ◌≤◌, inl, inr, Bool, true, false, not, eqb, List, [], ◌∷◌, map, filter, Option, Some, None, Ok, Err, refl, sym, ap, subst, ◌∙◌, arith}
 use Rattle.b67_word.specs.declared.couples.Place.{Place}
 use Rattle.b67_word.specs.declared.faults.Ending.{Ending}
 use Rattle.b67_word.specs.declared.faults.Ending.TheVariants.{Ended, Deadlock, Limit, Faulted}
 use Rattle.b67_model.specs.declared.operators.Op.{Op}
 use Rattle.b67_model.specs.declared.operators.Op.TheVariants.{Namc}
-use Rattle.b67_model.specs.Keyed.{keyed, change_keyed}
-use Rattle.b67_model.specs.Common.{Answer, Word, Frame, Task, Segment, JobConstants, Job, JobProgress, SessionJob, Session, Choice, choice, StepResult, with_task, called, Line, Done, Goes, Leaves, Waits, Reading, OperatorContext, cells_of, row, reading_of, step_by, step, Settled, among, released, ends_all, ends_task, ends_each_if, unsettled, settles, stepped, by_task, step_of, number_of, of_job, with_moment, moment_by, moment_for, next, after, after_from, Program, At, listing, operator_at, origin, Ready, IsStart, IsSegment, TaskInOrder, JobInOrder, IsInOrder}
+use Rattle.b67_model.specs.Keyed.{keyed}
+use Rattle.b67_model.specs.Common.{Answer, Task, JobConstants, Job, JobProgress, SessionJob, Session, Choice, choice, StepResult, with_task, called, Line, Done, Goes, Leaves, Waits, Reading, reading_of, step_by, step, Settled, among, released, ends_all, ends_task, ends_each_if, unsettled, settles, stepped, by_task, step_of, number_of, of_job, with_moment, moment_by, moment_for, next, after, At, listing, operator_at, origin, Ready, IsStart, IsSegment, TaskInOrder, JobInOrder, IsInOrder}
 use Rattle.b67_lemmas.specs.Lists.{Has}
 use Rattle.b67_lemmas.proofs.Members.{all_in, has_filter, has_map_back, has_get, keyed_has}
-use Rattle.b67_law_order.specs.Opening.{Opening, opening, opened_from}
+use Rattle.b67_law_order.specs.Opening.{Opening, opened_from}
 use Rattle.b67_law_order.proofs.Kept.{here}
 use Rattle.b67_law_order.proofs.Looks.{Run}
-use Rattle.b67_law_order.proofs.Readings.{OpBits, ReadFits}
+use Rattle.b67_law_order.proofs.Readings.{ReadFits}
 use Rattle.b67_law_order.proofs.Segments.{reading_fits}
 use Rattle.b67_law_order.proofs.Admitted.{entered}
 use Rattle.b67_law_order.proofs.Sessions.{starts_are_segments}

@@ -1,21 +1,19 @@
 -- The decks of two texts that differ in a ?HALT card.
-use Rattle.std.proofs.Common.{◌≡◌, ◌+◌, ℕ, Bool, true, false, cond, not, List, [], ◌∷◌, ◌++◌, length, map, reverse, refl, sym, ap, subst, ◌∙◌, Option, Some, None, Result, Ok, Err, codes}
-use Rattle.std.specs.Prelude.{slice_get, unwrap_or, ⊤, ◌||◌, ◌&&◌, if◌then◌else◌}
-use Rattle.std.specs.List.{AllByRecursion, filter_map, cons_option}
+use Rattle.std.proofs.Common.{◌≡◌, ◌+◌, ℕ, Bool, true, false, cond, not, List, [], ◌∷◌, ◌++◌, length, map, reverse, refl, sym, ap, subst, ◌∙◌, Option, Some, None, Ok, codes}
+use Rattle.std.specs.Prelude.{slice_get, unwrap_or, ⊤, ◌||◌, if◌then◌else◌}
+use Rattle.std.specs.List.{filter_map, cons_option}
 use Rattle.std.specs.Option.{option_map, option_to_list}
 use Rattle.std.specs.Str.{bytes_eq}
-use Rattle.std.specs.Str.Lines.{lines}
 use Rattle.std.proofs.lemmas.List.Elements.{filter_map-append}
 use Rattle.b67_model_text.specs.declared.card.Card.{Card}
 use Rattle.b67_model_text.specs.declared.deck.Deck.{Deck}
-use Rattle.b67_model_text.specs.declared.deck.Switch as deck_switch
 use Rattle.b67_model_text.specs.declared.deck.Stand.{Stand}
 use Rattle.b67_model_text.specs.declared.deck.Stand.TheVariants.{Front, Begun, Limited, InAsm, InHex, InData, Ended}
 use Rattle.b67_model_text.specs.declared.deck.Keyword.TheVariants as keywords
 use Rattle.b67_model_text.specs.Answers.{Answer, ◌>>=◌, ◌>>◌, needs, or_reason}
-use Rattle.b67_model_text.specs.Cards.{card_of, cards, is_empty, trimmed, words_in_card}
+use Rattle.b67_model_text.specs.Cards.{card_of, cards, is_empty, words_in_card}
 use Rattle.b67_model_text.specs.Command.{Command, Stack, Quantum, Halt, Switch, Job, Limit, Asm, Hex, Data, End, Plain, one_number, says, command_of, plain_card, said}
-use Rattle.b67_model_text.specs.Placing.{stand, stand_after, may_stand, lacks_program, is_repeated, rises, has_room, arranged, is_well_formed, placed_card, stack_in, quantum_in, switch_in, name_in}
+use Rattle.b67_model_text.specs.Placing.{stand, stand_after, may_stand, lacks_program, arranged, is_well_formed, placed_card, stack_in, quantum_in, switch_in, name_in}
 use Rattle.b67_model_text.specs.Deck.{Said, command_in, of_card, said_after, sayings, job_of, own_cards, jobs, deck, deck_of}
 use Rattle.b67_model_text.proofs.Answers.{after_both, err-ok}
 use Rattle.b67_promises.specs.Halting.{DifferInHalt}

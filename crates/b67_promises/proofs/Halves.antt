@@ -1,6 +1,6 @@
 -- A halted run and its resumed rest print what the whole run prints.
-use Rattle.std.proofs.Common.{◌≡◌, ◌≢◌, ◌≤◌, ◌<◌, ◌+◌, ◌^◌, ℕ, zero, suc, Bool, true, false, not, cond, List, [], ◌∷◌, ◌++◌, length, take, map, append-nil, append_assoc, refl, sym, ap, subst, ◌∙◌, arith, Option, Some, None, Result, Ok, Err, inl, inr, ◌⊎◌, codes}
-use Rattle.std.specs.Prelude.{nat_lt, nat_le, count_by, ◌==◌, IsTrue, ⊤}
+use Rattle.std.proofs.Common.{◌≡◌, ◌≢◌, ◌≤◌, ◌<◌, ◌+◌, ◌^◌, ℕ, Bool, true, false, not, cond, List, [], ◌∷◌, ◌++◌, length, map, append-nil, append_assoc, refl, sym, ap, subst, ◌∙◌, arith, Option, Some, None, Ok, inl, inr, ◌⊎◌, codes}
+use Rattle.std.specs.Prelude.{nat_lt, ⊤}
 use Rattle.std.specs.List.{AllByRecursion, list_all}
 use Rattle.std.specs.Option.{option_map, option_and_then, option_or}
 use Rattle.std.specs.Str.{bytes_eq}
@@ -10,14 +10,14 @@ use Rattle.std.proofs.lemmas.Option.{same_Some, none-some}
 use Rattle.std.proofs.lemmas.Grind.{flat_map-append}
 use denote.Ref.{Bor}
 use Rattle.b67_io.specs.Line.{ended}
-use Rattle.b67_io.specs.Told.{Took, GaveAll}
+use Rattle.b67_io.specs.Told.{Took}
 use Rattle.b67_model.specs.Common.{Session, run_text, lines, after, live_tasks, Program}
 use Rattle.b67_model_text.specs.declared.deck.Deck.{Deck}
 use Rattle.b67_model_text.specs.declared.deck.Job as deck_job
 use Rattle.b67_model_text.specs.declared.deck.Switch as deck_switch
 use Rattle.b67_model_text.specs.Command.{number_in}
-use Rattle.b67_model_text.specs.Answers.{◌>>=◌, ◌>>◌, needs}
-use Rattle.b67_model_text.specs.Deck.{Refusal, of_card, deck_of}
+use Rattle.b67_model_text.specs.Answers.{◌>>=◌, needs}
+use Rattle.b67_model_text.specs.Deck.{of_card}
 use Rattle.b67_model_text.proofs.Answers.{after_both, err-ok}
 use Rattle.b67_layout_storage.specs.Machine.{Says, content_after, DeviceAfterCalls}
 use Rattle.b67_law_order.specs.Opening.{opening}
@@ -29,33 +29,29 @@ use Rattle.b67_task_tables.specs.declared.tables.Machine.{Machine}
 use Rattle.b67_task_tables.specs.declared.tables.JobRow.{JobRow}
 use Rattle.b67_task_tables.specs.Tables.{JobGiven, rows_given, Given, switch_of}
 use Rattle.b67_job_admit.specs.Admitting.{Prepared, prepared, deck_prepared}
-use Rattle.b67_image.specs.Text.{limit, first_card, last_card, card_lines, image_text_of, within_image_limit, bytes_of}
+use Rattle.b67_image.specs.Text.{limit, first_card, last_card, card_lines, within_image_limit, bytes_of}
 use Rattle.b67_image.specs.Image.{image_text}
 use Rattle.b67_image.specs.Spelling.{image_bytes}
 use Rattle.b67_image.specs.Parts.{ImageParts, parts_of}
-use Rattle.b67_image.specs.Typed.{AreTyped, HaveShortNames}
 use Rattle.b67_image.specs.Meaning.{parts_told, told_in, ShowsParts, IsMeant}
 use Rattle.b67_image.specs.Laws.{PartsTellSessions}
-use Rattle.b67_image.proofs.Octets.{HasNameBytes, Are}
+use Rattle.b67_image.proofs.Octets.{Are}
 use Rattle.b67_job.specs.Command.{Request, Options, options, is_path, requested, request, exercise, resume, bind, one_word, command_line_of}
 use Rattle.b67_job.specs.declared.command.CommandLine.{CommandLine}
 use Rattle.b67_job.specs.declared.command.CommandLine.TheVariants as commands
 use Rattle.b67_job.specs.declared.summaries.Closing.{Closing}
 use Rattle.b67_job.specs.declared.summaries.Closing.TheVariants as closings
-use Rattle.b67_job.specs.Device.{Device, DeviceTells, known_now, knowing}
+use Rattle.b67_job.specs.Device.{Device, DeviceTells, known_now}
 use Rattle.b67_job.specs.Texts.{Text, whole_of}
-use Rattle.b67_job.specs.Lines.{summary, halted_text}
-use Rattle.b67_job.specs.Runs.{run_of, IsDone, IsHaltedAt, WasOpened}
-use Rattle.b67_job.specs.Going.{run_from, StepsFrom, HasGoneOn, Resumed}
-use Rattle.b67_job.specs.Judgement.{Judgement, Runs, judgement, asked, closing_of}
+use Rattle.b67_job.specs.Runs.{run_of, IsDone, IsHaltedAt}
+use Rattle.b67_job.specs.Judgement.{Runs, judgement, asked, closing_of}
 use Rattle.b67_job.specs.Due.{ReadAll, IsRun, Halts, IsAllDone, IsOpenedOrResumed}
-use Rattle.b67_job.specs.Statuses.{StatusMeans, Ran, WentOn, IsDumped}
+use Rattle.b67_job.specs.Statuses.{StatusMeans, WentOn, IsDumped}
 use Rattle.b67_job.proofs.Commands.{NumberWithin, number_within}
 use Rattle.b67_job.proofs.Prepared.{prepared_in_range}
-use Rattle.b67_promises.specs.Images.{AreOtherLines}
 use Rattle.b67_promises.specs.Halting.{AsksForImage, AsksForResume, DifferInHalt, PrintTogether}
-use Rattle.b67_promises.proofs.HaltCards.{SameButHalt, decks_without}
-use Rattle.b67_promises.proofs.OneImage.{HasNames, text_of_halt, parts_are}
+use Rattle.b67_promises.proofs.HaltCards.{decks_without}
+use Rattle.b67_promises.proofs.OneImage.{HasNames}
 use Rattle.b67_promises.proofs.OtherLines.{lines_other}
 use Rattle.b67_promises.proofs.Ranges.{given_from}
 use Rattle.b67_promises.proofs.Steps.{lines_add, same_lines}

@@ -1,9 +1,8 @@
 -- A program that names no PROCESS calls none.
-use Rattle.std.proofs.Common.{◌≡◌, ℕ, zero, suc, ◌+◌, ◌-◌, ◌^◌, ◌%◌, ◌<◌, ◌≤◌, ◌⊎◌, ⊎_elim, inl, inr, Bool, true, false, eqb, ltb, leb, List, [], ◌∷◌, ◌++◌, map, reverse, length, Option, Some, None, unwrap_or, Ok, Err, refl, sym, ap, subst, ◌∙◌, arith}
-use Rattle.std.specs.Prelude.{flat_map, ⊤, slice_get}
+use Rattle.std.proofs.Common.{◌≡◌, ℕ, zero, suc, ◌+◌, ◌-◌, ◌^◌, ◌%◌, ◌<◌, ◌≤◌, ◌⊎◌, ⊎_elim, inl, inr, ltb, leb, List, [], ◌∷◌, map, reverse, length, Option, Some, None, unwrap_or, Ok, Err, refl, sym, ap, subst, ◌∙◌, arith}
+use Rattle.std.specs.Prelude.{flat_map, slice_get}
 use Rattle.std.specs.Option.{ok_or}
 use Rattle.std.proofs.lemmas.Bool.{cases_Bool, cases_lt, leb-true, ltb-false}
-use Rattle.b67_word.specs.declared.couples.Place.{Place}
 use Rattle.b67_word.specs.declared.faults.Fault.TheVariants.{InvalidAddress, InvalidIndex}
 use Rattle.b67_word.specs.Couples.{couple, level_of}
 use Rattle.b67_model.specs.declared.operators.Op.{Op}
@@ -11,7 +10,7 @@ use Rattle.b67_model.specs.declared.operators.Op.TheVariants.{Namc, Plain}
 use Rattle.b67_model.specs.declared.operators.Code.TheVariants.{Entr, Stff}
 use Rattle.b67_model.specs.Keyed.{keyed}
 use Rattle.b67_model.specs.Words as Words
-use Rattle.b67_model.specs.Common.{Answer, Word, Operand, Name, Ref, Row, Element, Original, Proc, Intrinsic, Frame, Standing, Marked, Entered, Task, Job, Line, OperatorContext, mcp, no_frame, frame, all_frames, level_of_standing, level_of_frame, environment_of, running, running_level, outward, frame_at, first_offset, cell_of, cell, named, place_of, End, AtCell, AtElement, AtArray, AtProc, AtIntrinsic, array, Link, Stops, Leads, element_end, link_at, link_in, link_from, link, chase_on, follow_reference, called, called_at, called_by, called_on, top_of, cells_of, CellRow, on_cells, stff_word, stff, row, Goes, Starts, Known, known_of, outer_reach, outer_of, from_frame, frames_of_task, critical_of, IsEntered, EntryInOrder}
+use Rattle.b67_model.specs.Common.{Answer, Word, Operand, Name, Ref, Row, Element, Original, Proc, Intrinsic, Frame, Standing, Marked, Entered, Task, Job, Line, OperatorContext, mcp, no_frame, frame, all_frames, level_of_standing, level_of_frame, environment_of, running, running_level, outward, cell_of, cell, named, place_of, End, AtCell, AtElement, AtArray, AtProc, AtIntrinsic, array, Link, Stops, Leads, element_end, link_at, link_in, link_from, link, chase_on, follow_reference, called, called_at, called_by, called_on, top_of, cells_of, stff_word, stff, row, Goes, Starts, known_of, outer_reach, outer_of, from_frame, frames_of_task, critical_of, IsEntered, EntryInOrder}
 use Rattle.b67_lemmas.specs.Lists.{Has}
 use Rattle.b67_lemmas.proofs.Members.{all_in, has_append_cases, has_append_right, has_flat_back, has_reverse_back, keyed_has}
 use Rattle.b67_law_order.proofs.Posts.{Post, post_ok, post_err, post_bind, post_any, post_if_is, post_at}

@@ -1,20 +1,18 @@
 -- The machine whose image a call printed is the one that is read of the whole text.
-use Rattle.std.proofs.Common.{◌≡◌, ◌<◌, ◌≤◌, ◌+◌, ◌*◌, ◌/◌, ◌^◌, ℕ, zero, suc, List, [], ◌∷◌, ◌++◌, length, take, drop, map, Option, Ok, Result, refl, sym, ap, subst, ◌∙◌, arith}
+use Rattle.std.proofs.Common.{◌≡◌, ◌<◌, ◌≤◌, ◌+◌, ◌*◌, ◌/◌, ◌^◌, ℕ, zero, suc, List, [], ◌∷◌, ◌++◌, length, take, drop, map, Option, Ok, Result, refl, sym, ap, ◌∙◌, arith}
 use Rattle.std.specs.List.{flat_map, AllByRecursion, range_with_len}
 use Rattle.std.proofs.lemmas.List.{length-append, length-take, length-drop}
 use Rattle.std.proofs.lemmas.List.Concat.{flat_map-cons}
 use Rattle.b67_io.specs.Line.{ended}
 use Rattle.b67_model.specs.Common.{RunLine, run_text}
-use Rattle.b67_model_text.specs.Hex.{hex_char, hex_text, hex_cards}
-use Rattle.b67_model_text.specs.Answers.{◌>>=◌}
+use Rattle.b67_model_text.specs.Hex.{hex_text}
 use Rattle.b67_model_text.specs.Deck.{Refusal}
-use Rattle.b67_model_text.proofs.Answers.{after_both}
 use Rattle.b67_session_lines.specs.Stops.{halted_line}
 use Rattle.b67_task_tables.specs.declared.tables.Machine.{Machine}
 use Rattle.b67_task_tables.specs.declared.tables.JobRow.{JobRow}
 use Rattle.b67_image.specs.Parts.{ImageParts, parts_of}
 use Rattle.b67_image.specs.Spelling.{image_bytes}
-use Rattle.b67_image.specs.Text.{limit, first_card, last_card, card_lines, image_text_of, within_image_limit, bytes_of}
+use Rattle.b67_image.specs.Text.{limit, first_card, last_card, card_lines, image_text_of, bytes_of}
 use Rattle.b67_image.specs.Image.{image_text}
 use Rattle.b67_image.specs.Typed.{AreTyped, HaveShortNames}
 use Rattle.b67_image.specs.Meaning.{told_in}

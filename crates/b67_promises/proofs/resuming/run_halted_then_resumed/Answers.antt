@@ -1,4 +1,4 @@
-use Rattle.std.proofs.Common.{◌≡◌, ℕ, List, Option, None, Some, sym, ap, subst, inl, ◌∙◌}
+use Rattle.std.proofs.Common.{ℕ, List, Option, None, sym, ap, subst, inl, ◌∙◌}
 use Rattle.b67_model.specs.Common.{Session, lines, after}
 use Rattle.b67_session.specs.Slices.{StandsAt}
 use Rattle.b67_job.specs.Device.{device_of}
