@@ -21,7 +21,7 @@ THEOREMS = [
     ("b67_promises::run_under_switches", ["one_job"]),
     ("b67_promises::run_under_switches", ["decks"]),
     ("b67_promises::run_source_and_printed", []),
-    ("b67_promises::run_halted_then_resumed", ["together"]),
+    ("b67_promises::run_halted_then_resumed", ["together", "accepted"]),
     ("b67_promises::run_to_image", ["read"]),
     ("b67_promises::run_one_session", []),
     ("b67_promises::codefiles_hold_programs", []),
