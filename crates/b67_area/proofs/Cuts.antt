@@ -1,11 +1,9 @@
-use Rattle.std.proofs.Common.{◌≡◌, ◌≢◌, ℕ, zero, suc, ◌+◌, ◌-◌, ◌<◌, ◌≤◌, ◌^◌, List, [], ◌∷◌, length, Some, None, refl, sym, ◌∙◌, ap, arith, inl, inr, ⊎_elim, ◌⊎◌, ◌==◌, nat_le, slice_set}
+use Rattle.std.proofs.Common.{◌≡◌, ◌≢◌, ℕ, ◌+◌, ◌<◌, ◌≤◌, List, [], ◌∷◌, Some, refl, ◌∙◌, arith, inl, inr, ⊎_elim, ◌⊎◌}
 use Rattle.std.specs.List.{slice_get}
-use Rattle.std.proofs.lemmas.Option.{slice_get_within}
 use Rattle.b67_word.specs.Tagged.{Tagged}
-use Rattle.b67_area.specs.declared.kinds.Info.{Info}
-use Rattle.b67_area.specs.Spans.{Span, Area, Hole, wide, end, first_hole, InHole}
-use Rattle.b67_area.specs.Words.{link_word, hole_high, head_word, tail_word}
-use Rattle.b67_area.specs.Directory.{IsInfo, NoHole, AreSpans, Laid}
+use Rattle.b67_area.specs.Spans.{Span, Area, Hole, end, first_hole, InHole}
+use Rattle.b67_area.specs.Words.{link_word, hole_high}
+use Rattle.b67_area.specs.Directory.{NoHole, AreSpans, Laid}
 use Rattle.b67_area.specs.Walk.{unzip, spans_top, link_place, link_high, Below}
 
 -- the words of spans cut in two, and back

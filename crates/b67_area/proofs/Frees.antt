@@ -1,15 +1,15 @@
-use Rattle.std.proofs.Common.{◌≡◌, ◌≢◌, ℕ, zero, suc, ◌+◌, ◌-◌, ◌<◌, ◌≤◌, ◌^◌, List, [], ◌∷◌, length, Some, None, refl, sym, ◌∙◌, ap, arith, inl, inr, ⊎_elim, ◌⊎◌, ◌==◌, eqb, subst, slice_set}
+use Rattle.std.proofs.Common.{◌≡◌, ◌≢◌, ℕ, zero, suc, ◌+◌, ◌<◌, ◌≤◌, ◌^◌, List, [], ◌∷◌, length, Some, refl, sym, ◌∙◌, ap, arith, inl, ⊎_elim, ◌⊎◌, ◌==◌, slice_set}
 use Rattle.std.specs.List.{slice_get}
-use Rattle.std.proofs.lemmas.Bool.{cases_Bool, cond-true, cond-false, eq-eqb, ne_eqb}
+use Rattle.std.proofs.lemmas.Bool.{cond-true, cond-false, eq-eqb, ne_eqb}
 use Rattle.std.proofs.Math.ListN.{length-set}
 use Rattle.b67_word.specs.Tagged.{Tagged}
 use Rattle.b67_area.specs.declared.kinds.Info.{Info}
 use Rattle.b67_area.specs.declared.search.Links.{Links}
-use Rattle.b67_area.specs.Spans.{Span, Area, Hole, wide, end, first_hole, area_at, join, without, left, InHole}
+use Rattle.b67_area.specs.Spans.{Span, Area, Hole, end, first_hole, join, without, left}
 use Rattle.b67_area.proofs.Holes.{link_to, with_hole-length, with_hole-other, with_hole-link, with_hole-hole, Laid-left}
-use Rattle.b67_area.specs.Words.{link_word, hole_high, head_word, tail_word}
-use Rattle.b67_area.specs.Directory.{IsInfo, NoHole, AreSpans, Laid, IsDirectory, OnlyHoles}
-use Rattle.b67_area.specs.Walk.{unzip, spans_top, link_place, link_high, link_room, front, behind, Below, Found, Around, Climbed, IsArea, IsAbove, LeavesHole, Vacates, with_hole}
+use Rattle.b67_area.specs.Words.{link_word, hole_high}
+use Rattle.b67_area.specs.Directory.{NoHole, AreSpans, Laid, IsDirectory, OnlyHoles}
+use Rattle.b67_area.specs.Walk.{unzip, spans_top, link_place, link_high, link_room, front, behind, Below, Around, IsAbove, LeavesHole, Vacates, with_hole}
 use Rattle.b67_area.specs.declared.search.Vacancy.{Vacancy}
 use Rattle.b67_area.proofs.Walks.{next-lt, low_end}
 use Rattle.b67_area.proofs.Climbs.{first_hole-low, is_above}

@@ -1,13 +1,13 @@
-use Rattle.std.proofs.Common.{◌≡◌, ◌≢◌, ℕ, zero, suc, ◌+◌, ◌-◌, ◌<◌, ◌≤◌, ◌^◌, List, [], ◌∷◌, length, Some, None, Option, refl, sym, ◌∙◌, ap, arith, inl, inr, ⊎_elim, ◌⊎◌, ◌==◌, nat_le, leb, cond, subst, Bool, true, false, slice_set}
+use Rattle.std.proofs.Common.{◌≡◌, ◌≢◌, ℕ, zero, suc, ◌+◌, ◌<◌, ◌≤◌, List, [], ◌∷◌, length, Some, None, refl, sym, ◌∙◌, ap, arith, leb, slice_set}
 use Rattle.std.specs.List.{slice_get}
-use Rattle.std.proofs.lemmas.Bool.{cond-true, cond-false, eq-eqb, ne_eqb, eqb-true, cases_lt, cases_Bool, le-leb, lt-leb}
+use Rattle.std.proofs.lemmas.Bool.{cond-false, lt-leb}
 use Rattle.std.proofs.Math.ListN.{length-set}
 use Rattle.b67_word.specs.Tagged.{Tagged}
 use Rattle.b67_area.specs.declared.kinds.Info.{Info}
-use Rattle.b67_area.specs.Spans.{Span, Area, Hole, wide, end, first_hole, InHole, left, fill, spot}
-use Rattle.b67_area.specs.Words.{link_word, hole_high, head_word, tail_word}
-use Rattle.b67_area.specs.Directory.{IsInfo, NoHole, AreSpans, Laid, IsDirectory}
-use Rattle.b67_area.specs.Walk.{unzip, spans_top, link_place, link_high, Below, NoFit, with_hole}
+use Rattle.b67_area.specs.Spans.{Span, Area, Hole, end, first_hole, left, fill, spot}
+use Rattle.b67_area.specs.Words.{link_word, hole_high}
+use Rattle.b67_area.specs.Directory.{NoHole, AreSpans, Laid}
+use Rattle.b67_area.specs.Walk.{unzip, spans_top, NoFit, with_hole}
 use Rattle.b67_area.proofs.Cuts.{Laid-move}
 use Rattle.b67_core.proofs.Writes.{slice_get-set_same, slice_get-set_other}
 

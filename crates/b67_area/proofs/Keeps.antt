@@ -1,4 +1,4 @@
-use Rattle.std.proofs.Common.{◌≡◌, ◌≢◌, ℕ, zero, suc, ◌+◌, ◌-◌, ◌*◌, ◌/◌, ◌%◌, ◌<◌, ◌≤◌, ◌^◌, List, [], ◌∷◌, length, Option, Some, None, refl, sym, ◌∙◌, ap, arith, inl, inr, ⊎_elim, ◌⊎◌, ◌==◌, subst, slice_set}
+use Rattle.std.proofs.Common.{◌≡◌, ◌≢◌, ℕ, ◌+◌, ◌-◌, ◌*◌, ◌<◌, ◌≤◌, ◌^◌, List, [], ◌∷◌, length, Some, None, refl, sym, ◌∙◌, ap, arith, inr, ⊎_elim, ◌⊎◌, ◌==◌, subst, slice_set}
 use Rattle.std.specs.List.{slice_get}
 use Rattle.std.proofs.lemmas.Bool.{cond-true, cond-false, eq-eqb, ne_eqb, cases_lt}
 use Rattle.std.proofs.lemmas.Option.{same_Some, slice_get_within}
@@ -7,10 +7,10 @@ use Rattle.b67_word.specs.Tagged.{Tagged, word, bits_at}
 use Rattle.b67_area.specs.declared.kinds.Info.{Info}
 use Rattle.b67_area.specs.declared.kinds.Kind.{Kind}
 use Rattle.b67_area.specs.declared.kinds.Kind.TheVariants.{Array, Row, Code}
-use Rattle.b67_area.specs.Spans.{Span, Area, Hole, wide, end, first_hole, first_area, area_at, area_after, keeping}
-use Rattle.b67_area.specs.Words.{link_word, hole_high, kind_number, head_word, tail_word}
-use Rattle.b67_area.specs.Directory.{IsInfo, NoHole, AreSpans, Laid, IsDirectory}
-use Rattle.b67_area.specs.Walk.{unzip, spans_top, link_place, link_high, Found, IsArea, IsAbove, front, behind, Around, link_room}
+use Rattle.b67_area.specs.Spans.{Span, Area, Hole, end, first_hole, first_area, area_at, area_after, keeping}
+use Rattle.b67_area.specs.Words.{link_word, hole_high, kind_number, head_word}
+use Rattle.b67_area.specs.Directory.{NoHole, AreSpans, Laid, IsDirectory}
+use Rattle.b67_area.specs.Walk.{unzip, spans_top, link_place, link_high, Found, IsArea, IsAbove}
 use Rattle.b67_area.proofs.Cuts.{opened, closed, end-unzip, spans_opened, spans_closed, pending, low_top, link_place_low, Below-same, Laid-move}
 use Rattle.b67_core.proofs.Writes.{slice_get-set_same, slice_get-set_other}
 use Rattle.b67_area.proofs.Walks.{low_end, next-lt}

@@ -1,14 +1,14 @@
-use Rattle.std.proofs.Common.{◌≡◌, ◌≢◌, ℕ, zero, suc, ◌+◌, ◌-◌, ◌<◌, ◌≤◌, ◌^◌, List, [], ◌∷◌, length, Some, None, refl, sym, ◌∙◌, ap, arith, inl, inr, ⊎_elim, ◌⊎◌, subst, leb, slice_set}
+use Rattle.std.proofs.Common.{◌≡◌, ◌≢◌, ℕ, ◌+◌, ◌-◌, ◌<◌, ◌≤◌, List, ◌∷◌, length, Some, sym, ◌∙◌, ap, arith, inl, inr, ⊎_elim, ◌⊎◌, leb, slice_set}
 use Rattle.std.specs.List.{slice_get}
 use Rattle.std.proofs.lemmas.Bool.{cond-true, le-leb, cases_lt}
 use Rattle.std.proofs.Math.ListN.{length-set}
-use Rattle.b67_word.specs.Tagged.{Tagged, word}
+use Rattle.b67_word.specs.Tagged.{Tagged}
 use Rattle.b67_area.specs.declared.kinds.Info.{Info}
 use Rattle.b67_area.specs.declared.search.Fit.{Fit}
-use Rattle.b67_area.specs.Spans.{Span, Area, Hole, wide, end, first_hole, InHole, left, fill, spot}
+use Rattle.b67_area.specs.Spans.{Span, Area, Hole, end, first_hole, left, fill, spot}
 use Rattle.b67_area.specs.Words.{link_word, hole_high, head_word, tail_word}
-use Rattle.b67_area.specs.Directory.{IsInfo, NoHole, AreSpans, Laid, IsDirectory, OnlyHoles}
-use Rattle.b67_area.specs.Walk.{unzip, spans_top, link_place, link_high, Below, NoFit, with_hole, FitsHole, Facts}
+use Rattle.b67_area.specs.Directory.{IsInfo, Laid, IsDirectory, OnlyHoles}
+use Rattle.b67_area.specs.Walk.{unzip, spans_top, link_place, link_high, with_hole, FitsHole, Facts}
 use Rattle.b67_area.proofs.Cuts.{closed, end-unzip, spans_closed, Below-same, link_place_low, InHole-above, InHole-link}
 use Rattle.b67_core.proofs.Writes.{slice_get-set_same, slice_get-set_other}
 use Rattle.b67_area.proofs.Walks.{AtHole, at_hole, next-lt}

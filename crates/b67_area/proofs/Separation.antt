@@ -1,14 +1,14 @@
 -- which writes keep the directory: into an area, and below `low` but for words 152 to 159
-use Rattle.std.proofs.Common.{◌≡◌, ◌≢◌, ℕ, zero, suc, ◌+◌, ◌-◌, ◌<◌, ◌≤◌, ◌^◌, List, [], ◌∷◌, length, Some, refl, sym, ◌∙◌, ap, arith, inl, inr, ⊎_elim, ◌⊎◌, ◌==◌, slice_set}
+use Rattle.std.proofs.Common.{◌≡◌, ℕ, ◌+◌, ◌<◌, ◌≤◌, List, [], ◌∷◌, length, Some, refl, sym, ◌∙◌, ap, arith, inl, inr, ⊎_elim, ◌⊎◌, ◌==◌, slice_set}
 use Rattle.std.specs.List.{slice_get}
 use Rattle.std.proofs.lemmas.Bool.{cases_Bool, cases_lt, eqb-true}
-use Rattle.std.proofs.lemmas.Option.{same_Some, none-some}
+use Rattle.std.proofs.lemmas.Option.{same_Some}
 use Rattle.std.proofs.Math.ListN.{length-set}
 use Rattle.b67_word.specs.Tagged.{Tagged}
 use Rattle.b67_area.specs.declared.kinds.Info.{Info}
 use Rattle.b67_area.specs.Spans.{Span, Area, Hole, area_at}
-use Rattle.b67_area.specs.Words.{link_word, hole_high}
-use Rattle.b67_area.specs.Directory.{AreSpans, Laid, IsDirectory}
+use Rattle.b67_area.specs.Words.{hole_high}
+use Rattle.b67_area.specs.Directory.{Laid, IsDirectory}
 use Rattle.b67_area.proofs.Climbs.{area_at-low}
 use Rattle.b67_core.proofs.Writes.{slice_get-set_other}
 

@@ -2,20 +2,18 @@
 use Rattle.std.proofs.Common.{◌≡◌, ◌≢◌, ℕ, zero, suc, ◌+◌, ◌-◌, ◌<◌, ◌≤◌, ◌^◌, List, [], ◌∷◌, length, Option, Some, None, refl, sym, ◌∙◌, ap, arith, inl, inr, ⊎_elim, ◌⊎◌, ◌==◌, Bool, true, false, slice_set}
 use Rattle.std.specs.List.{slice_get}
 use Rattle.std.proofs.lemmas.Bool.{true≢false, cond-true, cond-false, eq-eqb, ne_eqb, eqb-true, cases_Bool}
-use Rattle.std.proofs.lemmas.Option.{same_Some}
 use Rattle.std.proofs.Math.ListN.{length-set}
 use Rattle.b67_word.specs.Tagged.{Tagged}
 use Rattle.b67_core.proofs.Writes.{slice_get-set_same, slice_get-set_other}
 use Rattle.b67_area.specs.declared.kinds.Info.{Info}
 use Rattle.b67_area.specs.declared.search.Vacancy.{Vacancy}
-use Rattle.b67_area.specs.Spans.{Span, Area, Hole, wide, end, first_hole, area_at, join, left, spaced, shortened, with_words, InHole}
+use Rattle.b67_area.specs.Spans.{Span, Area, Hole, end, first_hole, area_at, left, spaced, shortened, with_words, InHole}
 use Rattle.b67_area.specs.Words.{link_word, hole_high, head_word, tail_word}
-use Rattle.b67_area.specs.Directory.{IsInfo, NoHole, AreSpans, Laid, IsDirectory}
+use Rattle.b67_area.specs.Directory.{AreSpans, Laid, IsDirectory}
 use Rattle.b67_area.specs.Walk.{unzip, spans_top, link_place, link_high, front, behind, with_hole, LeavesHole, Vacates}
-use Rattle.b67_area.proofs.Cuts.{closed, end-unzip, spans_closed, low_top, link_place_low, Below-same, InHole-above, InHole-link}
+use Rattle.b67_area.proofs.Cuts.{closed, end-unzip, spans_closed, Below-same, InHole-above, InHole-link}
 use Rattle.b67_area.proofs.Holes.{link_to, with_hole-length, with_hole-other, with_hole-link, with_hole-hole, Laid-left, end-left, AreSpans-left}
 use Rattle.b67_area.proofs.Frees.{join-front, opened_here, spans_here, facts, place_below, rest_laid, rest_spans, rest_end}
-use Rattle.b67_area.proofs.Climbs.{area_at-low}
 use Rattle.b67_area.proofs.Laws.{area_at-join}
 
 -- an area there that has so many words or more, seen from its place

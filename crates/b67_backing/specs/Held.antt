@@ -1,5 +1,5 @@
 -- What a call did to the sectors of a device, where it tells them.
-use Rattle.std.specs.Prelude.{◌≡◌, ℕ, zero, suc, Result, replicate, ◌+◌, ◌-◌, ◌%◌, ◌^◌, ◌<◌, ◌≤◌, ◌⊎◌, List, [], ◌∷◌, length, Option, Some, slice_get}
+use Rattle.std.specs.Prelude.{◌≡◌, ℕ, zero, suc, Result, replicate, ◌+◌, ◌%◌, ◌^◌, ◌<◌, ◌≤◌, ◌⊎◌, List, [], ◌∷◌, length, Option, Some, slice_get}
 use Rattle.b67_word.specs.Tagged.{Tagged, word}
 use Rattle.b67_io.specs.Causes.{HasCause}
 pub use Rattle.b67_backing.specs.Device.{Tells, Becomes, Changes, Counts, sector, SameBut, Sets}

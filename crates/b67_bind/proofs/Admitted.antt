@@ -1,8 +1,8 @@
 -- A bound file is within the limits, and breaks no rule.
-use Rattle.std.proofs.Common.{◌≡◌, ℕ, zero, suc, ◌+◌, ◌-◌, ◌*◌, ◌/◌, ◌%◌, ◌^◌, ◌<◌, ◌≤◌, Bool, true, false, not, cond, eqb, ltb, ◌&&◌, ◌||◌, List, [], ◌∷◌, length, map, Option, Some, None, Err, refl, sym, ap, subst, ◌∙◌, arith, ◌⊎◌, inl, inr}
-use Rattle.std.specs.Prelude.{slice_get, is_none}
+use Rattle.std.proofs.Common.{◌≡◌, ℕ, zero, suc, ◌+◌, ◌-◌, ◌%◌, ◌^◌, ◌<◌, ◌≤◌, Bool, true, false, cond, eqb, ◌||◌, List, [], ◌∷◌, length, map, Option, Some, None, Err, refl, sym, ap, subst, ◌∙◌, arith, ◌⊎◌, inl, inr}
+use Rattle.std.specs.Prelude.{slice_get}
 use Rattle.std.specs.List.{AllByRecursion, list_any}
-use Rattle.std.proofs.lemmas.Bool.{true≢false, eqb-true, eqb-false, cases_Bool, or_parts, or_cases}
+use Rattle.std.proofs.lemmas.Bool.{eqb-false, or_parts}
 use Rattle.std.proofs.lemmas.Option.{same_Some, none-some, slice_get_within}
 use Rattle.std.proofs.lemmas.List.{length-map}
 use Rattle.b67_word.specs.Tagged.{Tagged, contents}
@@ -10,7 +10,7 @@ use Rattle.b67_lemmas.specs.Lists.{Has}
 use Rattle.b67_lemmas.proofs.Members.{any_none, keyed_has, all_in, all_from, has_get}
 use Rattle.b67_lemmas.proofs.Places.{get_within, at_mapped}
 use Rattle.b67_model.specs.State as state
-use Rattle.b67_model.specs.Common.{Program, Entry, At, Break, listing, broken_in, first_of, Listed, Refusal, IsAdmitted}
+use Rattle.b67_model.specs.Common.{Program, Entry, At, Break, broken_in, first_of, Listed, Refusal, IsAdmitted}
 use Rattle.b67_model.specs.declared.operators.Op.{Op}
 use Rattle.b67_model.specs.declared.operators.Op.TheVariants as op
 use Rattle.b67_load_verify.specs.declared.fault.LoadFault.TheVariants.{Refused}
@@ -18,7 +18,7 @@ use Rattle.b67_load_verify.specs.Broken.{Finds}
 use Rattle.b67_word.specs.declared.couples.Place.{Place}
 use Rattle.b67_codefile.specs.declared.file.Segment.{Segment}
 use Rattle.b67_codefile.specs.declared.file.Codefile.{Codefile}
-use Rattle.b67_codefile.specs.Spelling.{HasTag, AreWordsOfTag, IsFileSegment, HasNoEntries, IsWithin}
+use Rattle.b67_codefile.specs.Spelling.{HasTag, IsFileSegment, HasNoEntries, IsWithin}
 use Rattle.b67_codefile.specs.Meaning.{segment_of, program_of}
 use Rattle.b67_bind.specs.declared.pairs.Pair.{Pair}
 use Rattle.b67_bind.specs.Reasons.{Binding, binding, numbered, pair_at, pair_named, entries_in, names_unpaired, first_refusal}
@@ -26,9 +26,9 @@ use Rattle.b67_bind.specs.Bound.{by_pair, rebound, rebound_word, changed_at, cha
 use Rattle.b67_bind.specs.Laws.{IsGood}
 use Rattle.b67_bind.proofs.Literals.{literals-length}
 use Rattle.b67_bind.proofs.Rebound.{rebound-listing}
-use Rattle.b67_bind.proofs.Rules.{AllFalse, listed_in, IsClean, level-clean, program-clean, some-segments, clean-program, Alike, ProcGoesOver, alike-clean}
+use Rattle.b67_bind.proofs.Rules.{AllFalse, listed_in, IsClean, level-clean, program-clean, some-segments, clean-program, Alike, alike-clean}
 use Rattle.b67_bind.proofs.Passing.{Passes, pairs-pass, Fits, each-fits}
-use Rattle.b67_bind.proofs.Procs.{ProcFits, proc-fits, fits-proc, numbered-get, bound-get, bound-length, bound-at, paired-is, kept-fits, rebound-fits}
+use Rattle.b67_bind.proofs.Procs.{proc-fits, fits-proc, numbered-get, bound-length, bound-at, paired-is, kept-fits, rebound-fits}
 
 -- ---- within the limits
 

@@ -1,29 +1,24 @@
 -- A file that is bound into itself.
-use Rattle.std.proofs.Common.{◌≡◌, ℕ, zero, suc, ◌+◌, ◌-◌, ◌*◌, ◌/◌, ◌%◌, ◌^◌, ◌<◌, ◌≤◌, Bool, true, false, not, cond, eqb, ltb, ◌||◌, List, [], ◌∷◌, ◌++◌, length, map, Option, Some, None, Ok, Err, refl, sym, ap, subst, ◌∙◌, arith, ◌⊎◌, inl, inr}
-use Rattle.std.specs.Prelude.{slice_get, slice_index, is_none, option_map}
+use Rattle.std.proofs.Common.{◌≡◌, ℕ, zero, suc, ◌+◌, ◌-◌, ◌*◌, ◌/◌, ◌%◌, ◌^◌, ◌<◌, ◌≤◌, Bool, false, not, cond, eqb, ◌||◌, List, [], ◌∷◌, ◌++◌, length, Option, Some, None, refl, sym, ap, subst, ◌∙◌, arith, ◌⊎◌, inl, inr}
+use Rattle.std.specs.Prelude.{slice_get, is_none, option_map}
 use Rattle.std.specs.List.{AllByRecursion, list_any}
 use Rattle.std.proofs.lemmas.Bool.{cases_eq, eq-eqb, ne_eqb, or_from, not_from_true}
 use Rattle.std.proofs.lemmas.List.{length-map}
 use Rattle.std.proofs.Math.Nat.{le_refl}
-use Rattle.std.proofs.lemmas.Option.{same_Some, none-some, slice_get-get_or, slice_get_within}
-use Rattle.b67_word.specs.declared.couples.Place.{Place}
+use Rattle.std.proofs.lemmas.Option.{same_Some, none-some, slice_get_within}
 use Rattle.b67_word.specs.Tagged.{Tagged, contents}
 use Rattle.b67_lemmas.specs.Lists.{Has}
 use Rattle.b67_lemmas.specs.Keyed.{keyed}
 use Rattle.b67_lemmas.proofs.Joins.{all_append, all_by}
-use Rattle.b67_lemmas.proofs.Members.{all_in, all_from, has_get, has_append_cases}
-use Rattle.b67_lemmas.proofs.Places.{mapped_at, at_mapped}
-use Rattle.b67_model.specs.declared.operators.Op.{Op}
-use Rattle.b67_model.specs.declared.operators.Undecodable.TheVariants.{BadPlace, NotAdmitted, PastEnd}
-use Rattle.b67_model.specs.State as state
-use Rattle.b67_model.specs.Common.{Program, Reading, operator_at, Entry, At, Break, entries_from, origin, listing, place_of_entry, proc_bits, holds_of, has_stray_bits, breaks_rule_8, broken_at, Listed, refused, refusals_of}
+use Rattle.b67_lemmas.proofs.Members.{all_in}
+use Rattle.b67_lemmas.proofs.Places.{at_mapped}
+use Rattle.b67_model.specs.Common.{Entry, At, Break, place_of_entry, proc_bits, holds_of, has_stray_bits, breaks_rule_8, broken_at, Listed, refused, refusals_of}
 use Rattle.b67_codefile.specs.declared.file.Segment.{Segment}
 use Rattle.b67_codefile.specs.declared.file.Codefile.{Codefile}
-use Rattle.b67_codefile.specs.Spelling.{IsWithin}
 use Rattle.b67_codefile.specs.Meaning.{segment_of, program_of}
 use Rattle.b67_load_verify.specs.Broken.{rules_at}
 use Rattle.b67_bind.specs.declared.pairs.Pair.{Pair}
-use Rattle.b67_bind.specs.Reasons.{Binding, numbered, pair_at, pair_named, entries_in, proc_in, kept_procs, procs_from, is_taken, names_unpaired, has_level_1, enters_elsewhere, reasons, first_refusal}
+use Rattle.b67_bind.specs.Reasons.{Binding, numbered, pair_at, pair_named, entries_in, proc_in, procs_from, is_taken, names_unpaired, has_level_1, reasons, first_refusal}
 use Rattle.b67_bind.specs.Bound.{by_pair, rebound, rebound_word, literal_of, changed_at, change_one, change_literals, rebound_segment, from_part, placed_segment, bound_segments, bound}
 use Rattle.b67_bind.specs.Laws.{IsGood, same_pairs, HasNoLevel1, into_itself}
 use Rattle.b67_bind.proofs.Relisted.{HoldsLiteral, listing-literals}

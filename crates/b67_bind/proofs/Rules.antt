@@ -1,16 +1,15 @@
 -- A segment that breaks no rule, and one that is alike but for the PCWs of its MPCWs.
-use Rattle.std.proofs.Common.{◌≡◌, ℕ, zero, suc, ◌+◌, ◌*◌, ◌/◌, ◌%◌, ◌^◌, ◌<◌, ◌≤◌, Bool, true, false, not, cond, eqb, ltb, ◌&&◌, lit<, List, [], ◌∷◌, ◌++◌, length, map, filter, Option, Some, None, Err, Ok, refl, sym, ap, subst, ◌∙◌, arith, inl, inr}
+use Rattle.std.proofs.Common.{◌≡◌, ℕ, zero, suc, ◌+◌, ◌*◌, ◌≤◌, Bool, true, false, not, cond, eqb, ltb, ◌&&◌, lit<, List, [], ◌∷◌, ◌++◌, length, map, filter, Option, Some, None, Err, Ok, refl, sym, ap, subst, ◌∙◌, arith, inl, inr}
 use Rattle.std.specs.Prelude.{option_map, slice_get}
-use Rattle.std.specs.List.{AllByRecursion, list_any}
+use Rattle.std.specs.List.{AllByRecursion}
 use Rattle.std.proofs.lemmas.Option.{none-some}
 use Rattle.b67_word.specs.declared.couples.Place.{Place}
-use Rattle.b67_word.specs.Operands.{bit}
 use Rattle.b67_word.specs.Couples.{couple}
 use Rattle.b67_lemmas.specs.Lists.{Has}
 use Rattle.b67_model.specs.declared.operators.Op.{Op}
 use Rattle.b67_model.specs.declared.operators.Op.TheVariants as op
 use Rattle.b67_model.specs.declared.operators.Undecodable.TheVariants.{BadPlace, NotAdmitted, PastEnd}
-use Rattle.b67_model.specs.Common.{Segment, Reading, operator_at, place_of_bits, Program, Entry, At, Break, entries_from, listing, origin, place_of_entry, same_place, is_start, is_last, is_outside, target_of, couple_bits, proc_bits, may_be_last, holds_of, holds_at, has_stray_bits, breaks_rule_8, broken_at, broken_in, Listed, Refusal, refused, refusals_of, wrong_entries, refusals_from, refusals, IsAdmitted}
+use Rattle.b67_model.specs.Common.{Segment, Reading, operator_at, place_of_bits, Program, Entry, At, Break, entries_from, listing, origin, place_of_entry, same_place, is_start, is_last, is_outside, target_of, couple_bits, proc_bits, may_be_last, holds_of, holds_at, has_stray_bits, breaks_rule_8, broken_at, broken_in, Listed, Refusal, refused, refusals_of, wrong_entries, refusals_from, IsAdmitted}
 use Rattle.b67_load_verify.specs.Broken.{rules_at}
 use Rattle.b67_load_verify.proofs.Operator.{operator_at-reads}
 use Rattle.b67_bind.specs.Reasons.{proc_in}

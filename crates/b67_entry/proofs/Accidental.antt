@@ -9,7 +9,7 @@ use Rattle.b67_ctl.specs.declared.marks.Mscw.{Mscw}
 use Rattle.b67_ctl.specs.declared.marks.Rcw.{Rcw}
 use Rattle.b67_ctl.specs.Layout.{IsPlace, IsMscw, mscw_word, IsRcw, rcw_word}
 use Rattle.b67_model.specs.State as State
-use Rattle.b67_model.specs.Common.{Frame, Return, Ready, Segment, Task, JobConstants, Job, SessionJob, OperatorContext, top, height, with_top_cells, frame, level_of_frame, AtProc, cells_of, accident, back_to, IsSegment, NamesEntered, TasksInOrder, TaskInOrder, EnvironmentInOrder, outer_of, reach_of, known_of}
+use Rattle.b67_model.specs.Common.{Frame, Return, Ready, Task, Job, top, height, with_top_cells, frame, level_of_frame, AtProc, cells_of, accident, back_to, IsSegment, NamesEntered, TasksInOrder, TaskInOrder, EnvironmentInOrder, outer_of, reach_of, known_of}
 use Rattle.b67_stack.specs.declared.Cpu.{Cpu}
 use Rattle.b67_stack.specs.Common.{StackPlace, Activation, Entered, HeadFits, IsStack, mark_of, return_of, stack_level, words, CopiesName, RepresentsRunning}
 use Rattle.b67_stack.proofs.Slots.{running_slot, running_fits}

@@ -5,7 +5,7 @@ use Rattle.std.proofs.lemmas.Bool.{cases_eq, le-leb}
 use Rattle.b67_word.specs.declared.couples.Place.{Place}
 use Rattle.b67_word.specs.declared.faults.Fault.{Fault}
 use Rattle.b67_word.specs.declared.faults.Fault.TheVariants.{InvalidOperand}
-use Rattle.b67_model.specs.Common.{Answer, ◌>>=◌, Word, Standing, Return, Ready, Frame, Array, Condition, Task, Job, OperatorContext, SessionJob, frame, head_words, height, with_top_cells, with_task, level_of_frame, AtProc, follow, accident, back_to, evaluates, returned, Done, Goes, cells_of, without_arrays_of, Session}
+use Rattle.b67_model.specs.Common.{Answer, ◌>>=◌, Word, Return, Ready, Frame, Condition, Task, Job, OperatorContext, SessionJob, frame, head_words, height, with_top_cells, with_task, level_of_frame, AtProc, follow, accident, back_to, evaluates, returned, Done, Goes, cells_of, without_arrays_of, Session}
 use Rattle.b67_lemmas.specs.Lists.{Has}
 use Rattle.b67_lemmas.proofs.Members.{change_twice, change_found, keyed_has}
 use Rattle.b67_model.specs.State as State

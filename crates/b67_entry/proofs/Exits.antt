@@ -3,7 +3,7 @@ use Rattle.std.proofs.Common.{◌≡◌, ℕ, ◌≤◌, List, [], ◌∷◌, Op
 use Rattle.std.proofs.lemmas.Bool.{le-leb}
 use Rattle.b67_word.specs.declared.couples.Place.{Place}
 use Rattle.b67_word.specs.declared.faults.Fault.TheVariants.{MarkPending, CriticalBlock}
-use Rattle.b67_model.specs.Common.{Answer, Standing, Return, Frame, Condition, Task, Job, OperatorContext, SessionJob, height, top, with_task, Done, Goes, Leaves, top_of, result, is_critical, without_arrays_of, left, leaves, exit}
+use Rattle.b67_model.specs.Common.{Answer, Standing, Return, Frame, Task, Job, OperatorContext, SessionJob, height, top, with_task, Done, Goes, Leaves, top_of, result, is_critical, without_arrays_of, left, leaves, exit}
 use Rattle.b67_model.specs.State as State
 use Rattle.b67_layout.specs.Meets.{here}
 use Rattle.b67_layout_records.proofs.Leaves.{task_at}

@@ -4,7 +4,7 @@ use Rattle.std.proofs.lemmas.Bool.{le-leb}
 use Rattle.b67_word.specs.declared.couples.Place.{Place}
 use Rattle.b67_word.specs.declared.faults.Fault.{Fault}
 use Rattle.b67_word.specs.declared.faults.Fault.TheVariants.{MarkPending, StackUnderflow}
-use Rattle.b67_model.specs.Common.{Answer, ◌>>=◌, Word, Operand, Name, Ref, Row, Element, Original, Proc, Intrinsic, Standing, Return, Frame, Condition, Task, Job, OperatorContext, SessionJob, height, top, with_top_cells, with_task, Goes, top_of, is_critical, without_arrays_of, pushes, returnable, returned, leaves, retn_word, retn}
+use Rattle.b67_model.specs.Common.{Answer, ◌>>=◌, Word, Operand, Name, Ref, Row, Element, Original, Proc, Intrinsic, Standing, Return, Frame, Task, Job, OperatorContext, SessionJob, height, top, with_top_cells, with_task, Goes, top_of, is_critical, without_arrays_of, pushes, returnable, returned, leaves, retn_word, retn}
 use Rattle.b67_model.specs.Words as Words
 use Rattle.b67_model.specs.State as State
 use Rattle.b67_layout.specs.Meets.{here}

@@ -1,5 +1,5 @@
 -- Drawing one item after the other, as a loop does.
-use Rattle.std.proofs.Common.{◌≡◌, ℕ, zero, suc, ◌+◌, ◌-◌, ◌<◌, ◌≤◌, List, [], ◌∷◌, ◌++◌, refl, sym, ap, ◌∙◌, subst, append_assoc, append-nil, length, arith}
+use Rattle.std.proofs.Common.{◌≡◌, ℕ, zero, suc, ◌+◌, ◌-◌, ◌<◌, ◌≤◌, List, [], ◌∷◌, ◌++◌, refl, sym, ap, ◌∙◌, append_assoc, append-nil, length, arith}
 use Rattle.std.specs.List.{AllByRecursion}
 use Rattle.b67_gen.specs.declared.stores.Store.{Store}
 use Rattle.b67_gen.specs.Generated.{drawn, below, after_draws, lengths, drawn_store, stores}

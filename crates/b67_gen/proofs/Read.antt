@@ -4,7 +4,6 @@ use Rattle.std.specs.Prelude.{nat_le, codes, decimal, reverse}
 use Rattle.std.specs.List.{AllByRecursion, list_all, flat_map}
 use Rattle.std.specs.Char.{is_ascii_digit}
 use Rattle.std.specs.Str.{all_ascii_digits}
-use Rattle.std.specs.Str.Lines.{lines}
 use Rattle.std.proofs.Math.Seq.{get_or-append_right}
 use Rattle.std.proofs.lemmas.Bool.{and_parts, and_from, leb-true, le-leb, ltb-true}
 use Rattle.std.proofs.lemmas.List.{length-append}

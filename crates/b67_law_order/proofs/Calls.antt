@@ -6,7 +6,7 @@ use Rattle.std.proofs.lemmas.Bool.{true≢false, ltb-true}
 use Rattle.b67_lemmas.specs.Lists.{Has, how_many}
 use Rattle.b67_lemmas.proofs.Members.{all_in, falls_low, has_change, has_map, none_pass, total_zero}
 use Rattle.b67_model.specs.Words as Words
-use Rattle.b67_model.specs.Common.{Word, Operand, Name, Ref, Row, Element, Original, Proc, Intrinsic, Frame, Array, Condition, Ready, Awaits, WaitsAt, Task, JobConstants, Job, OperatorContext, top, below_top, with_top_cells, height, with_task, array, End, AtCell, AtElement, AtArray, AtProc, AtIntrinsic, follow_reference, Waits, top_of, is_critical, Starts, Known, known_of, outer_of, OwnsArray, WordInOrder, FramesInOrder, ConditionInOrder, TaskInOrder, is_original_of, originals_in, originals_of, TasksInOrder, operand, cell, with_cell, answered, answers, array_length, arraydec, read_from, read, waits_at, wait, woken_at, causes, cause, number, is_copy_of, EntryInOrder}
+use Rattle.b67_model.specs.Common.{Word, Operand, Name, Ref, Row, Element, Original, Proc, Intrinsic, Frame, Array, Condition, Ready, Awaits, WaitsAt, Task, JobConstants, Job, OperatorContext, top, below_top, with_top_cells, height, with_task, array, End, AtCell, AtElement, AtArray, AtProc, AtIntrinsic, follow_reference, Waits, top_of, is_critical, Starts, Known, known_of, outer_of, OwnsArray, WordInOrder, FramesInOrder, ConditionInOrder, TaskInOrder, is_original_of, originals_in, originals_of, TasksInOrder, cell, with_cell, answered, answers, array_length, arraydec, read_from, read, waits_at, wait, woken_at, causes, cause, number, is_copy_of, EntryInOrder}
 use Rattle.b67_law_order.proofs.Reaches.{Stays}
 use Rattle.b67_law_order.proofs.Looks.{reach, own_order, own_high, running_cells}
 use Rattle.b67_law_order.proofs.Changes.{Change, outside, change_arrays, change_cells, run_replaced}

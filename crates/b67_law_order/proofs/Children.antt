@@ -8,7 +8,7 @@ use Rattle.b67_model.specs.Keyed.{keyed}
 use Rattle.b67_lemmas.specs.Lists.{Has, Falls}
 use Rattle.b67_lemmas.proofs.Members.{all_from, all_in, any_none, change_found, falls_low, has_map, has_reverse_back, keyed_has, length_change, none_pass}
 use Rattle.b67_model.specs.Words as Words
-use Rattle.b67_model.specs.Common.{Word, Operand, Name, Ref, Row, Element, Original, Proc, Intrinsic, Frame, Standing, Marked, Entered, Array, Ready, Task, JobConstants, Job, OperatorContext, frame, top, below_top, with_top_cells, height, with_task, level_of_frame, array, top_of, cells_of, is_critical, is_original, Starts, Known, known_of, from_frame, outer_reach, outer_of, reach_of, known_numbers, identities, IsEntered, WordInOrder, EnvironmentInOrder, CopiesAbove, FramesInOrder, TaskInOrder, is_original_of, originals_in, originals_of, TasksInOrder, operand, answered, child_of, number, BirthInOrder}
+use Rattle.b67_model.specs.Common.{Word, Operand, Name, Ref, Row, Element, Original, Proc, Intrinsic, Frame, Standing, Marked, Entered, Array, Ready, Task, JobConstants, Job, OperatorContext, frame, top, below_top, with_top_cells, height, with_task, level_of_frame, array, top_of, cells_of, is_critical, is_original, Starts, Known, known_of, from_frame, outer_reach, outer_of, reach_of, known_numbers, identities, IsEntered, WordInOrder, EnvironmentInOrder, CopiesAbove, FramesInOrder, TaskInOrder, is_original_of, originals_in, originals_of, TasksInOrder, answered, child_of, number, BirthInOrder}
 use Rattle.b67_law_order.proofs.Reaches.{Alike, alike_has, alike_same, Wider, word_wider, names_entered, names_array, alike_under, alike_numbers, Follows, Births, outer_alike}
 use Rattle.b67_law_order.proofs.Looks.{Run, reach, below_marked, known_cells, some_cells}
 use Rattle.b67_law_order.proofs.Changes.{outside}

@@ -7,7 +7,7 @@ use Rattle.b67_model.specs.Keyed.{change_keyed}
 use Rattle.b67_lemmas.specs.Lists.{Has, how_many, Falls}
 use Rattle.b67_lemmas.proofs.Members.{all_from, all_in, has_map_back, keyed_has, keyed_map, map_map_key, reverse_cons, total_map, total_same}
 use Rattle.b67_model.specs.Words as Words
-use Rattle.b67_model.specs.Common.{Word, Operand, Name, Ref, Row, Element, Original, Proc, Intrinsic, Frame, Standing, Marked, Entered, Return, Array, Condition, Ready, Awaits, WaitsAt, Task, JobConstants, Job, words_of, height, level_of_frame, running, running_from, with_cell_of, with_cell, Starts, Known, known_of, from_frame, outer_of, reach_of, known_numbers, identities, WordInOrder, StandsInOrder, is_copy_of, NoCopyUnder, CellsInOrder, FramesInOrder, StackInOrder, ReturnsInOrder, BirthInOrder, ConditionInOrder, TaskInOrder, is_original_of, originals_in, originals_of, frames_named, TasksInOrder}
+use Rattle.b67_model.specs.Common.{Word, Operand, Name, Ref, Row, Element, Original, Proc, Intrinsic, Frame, Standing, Marked, Entered, Array, Ready, Task, JobConstants, Job, height, level_of_frame, running, running_from, with_cell_of, with_cell, Starts, Known, known_of, from_frame, outer_of, reach_of, known_numbers, identities, WordInOrder, StandsInOrder, is_copy_of, NoCopyUnder, CellsInOrder, FramesInOrder, StackInOrder, ReturnsInOrder, BirthInOrder, ConditionInOrder, TaskInOrder, is_original_of, originals_in, originals_of, frames_named, TasksInOrder}
 use Rattle.b67_model.specs.Environment as Environment
 use Rattle.b67_model.specs.State as State
 use Rattle.b67_law_order.proofs.Reaches.{Alike, alike_same, Follows}

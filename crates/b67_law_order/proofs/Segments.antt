@@ -5,7 +5,7 @@ use Rattle.std.proofs.lemmas.Bool.{ltb-true, and_parts}
 use Rattle.b67_model.specs.declared.operators.Op.{Op}
 use Rattle.b67_model.specs.declared.operators.Op.TheVariants.{Valc, Namc, Lt8, Lt16, Lt48, Mpcw, Brun, Brtr, Brfl, Bset, Brst, Isol, Insr, Plain}
 use Rattle.b67_model.specs.State as State
-use Rattle.b67_model.specs.Common.{Task, JobConstants, Job, OperatorContext, code_of, reading_of, is_proc, proc_of, IsSegment, SegmentInOrder, SettingInOrder, TaskInOrder}
+use Rattle.b67_model.specs.Common.{Task, JobConstants, OperatorContext, code_of, reading_of, is_proc, proc_of, IsSegment, SegmentInOrder, SettingInOrder, TaskInOrder}
 use Rattle.b67_law_order.specs.Parameters.{StartsAt, ParametersFit}
 use Rattle.b67_law_order.specs.Laws.{RowsKeepOrderButPlaces}
 use Rattle.b67_law_order.proofs.Readings.{OpBits, ReadFits, operator_fits}

@@ -3,7 +3,6 @@ use Rattle.std.proofs.Common.{◌≡◌, ℕ, Bool, true, false, not, List, [], 
 use Rattle.std.specs.Prelude.{◌==◌, ◌&&◌, ◌||◌, nat_lt, find, flat_map}
 use Rattle.std.specs.List.{list_any}
 use Rattle.std.proofs.lemmas.Option.{same_Some}
-use Rattle.b67_lemmas.specs.Lists.{Has}
 use Rattle.b67_lemmas.proofs.Members.{all_in, keyed_falls}
 use Rattle.b67_model.specs.Common.{Ready, Task, SessionJob, Who, Session, Choice, is_same, is_before, ready_of, ready, afresh, switched, first, choice_by, choice, number_of, IsSegment, JobInOrder, IsInOrderButPlaces}
 use Rattle.b67_model.specs.Keyed.{keyed}

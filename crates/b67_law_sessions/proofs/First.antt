@@ -1,13 +1,12 @@
 -- All tasks of a job stand under its first one, and end with it.
-use Rattle.std.proofs.Common.{◌≡◌, ◌≢◌, ℕ, Bool, true, false, not, List, [], ◌∷◌, ◌++◌, map, filter, Some, refl, sym, ap, ◌∙◌, subst, inl, inr, ◌⊎◌}
+use Rattle.std.proofs.Common.{◌≡◌, ◌≢◌, ℕ, Bool, true, false, not, List, [], ◌∷◌, ◌++◌, map, filter, refl, sym, ap, ◌∙◌, subst, inl, inr}
 use Rattle.std.specs.Prelude.{◌==◌}
 use Rattle.std.proofs.lemmas.Bool.{true≢false, eq-eqb}
 use Rattle.b67_word.specs.declared.faults.Ending.{Ending}
 use Rattle.b67_word.specs.declared.faults.Ending.TheVariants.{Parent}
 use Rattle.b67_lemmas.specs.Lists.{Has}
 use Rattle.b67_lemmas.proofs.Members.{all_in, any_some, filter_none, has_append_right, has_filter, has_filter_in, has_map, has_map_back, keyed_has}
-use Rattle.b67_model.specs.Common.{Array, Task, JobConstants, Job, Settled, among, released, is_owned_by, all_with, deepest_first, descendants, ends_all, ends_each_if, ends_task, unsettled, Starts, BirthInOrder, ParentInOrder, TaskInOrder, TasksInOrder}
-use Rattle.b67_model.specs.Keyed.{keyed}
+use Rattle.b67_model.specs.Common.{Array, Task, JobConstants, Job, among, released, is_owned_by, all_with, deepest_first, descendants, ends_all, ends_each_if, ends_task, unsettled, Starts, BirthInOrder, ParentInOrder, TaskInOrder, TasksInOrder}
 use Rattle.b67_law_order.proofs.Deaths.{ends_task_good, all_among}
 
 -- a task's line of parents ends with the job's first task

@@ -1,8 +1,7 @@
 -- What the attempt at an operator leaves, once it is counted: a step whose first part was made.
-use Rattle.std.proofs.Common.{◌≡◌, ◌≢◌, ℕ, ◌+◌, ◌≤◌, List, [], ◌∷◌, ◌++◌, length, map, Option, Some, None, Ok, Err, refl, sym, ap, ◌∙◌, subst, append-nil}
-use Rattle.b67_model.specs.Common.{Answer, JobMoment, moment_with, Settled, Stepped, stepped, settles, deadlocked, unsettled, run_text, step, RunLine, StepResult, number_of, of_job, Session, Choice, choice, Task, Job, SessionJob, Line, Done, Goes}
+use Rattle.std.proofs.Common.{◌≡◌, ℕ, List, map, Option, Some, ap, ◌∙◌, append-nil}
+use Rattle.b67_model.specs.Common.{Answer, moment_with, Settled, stepped, settles, deadlocked, unsettled, step, of_job, Session, Task, Job, SessionJob, Line, Done}
 use Rattle.b67_model.specs.Endings.{goes_on}
-use Rattle.b67_model.specs.Keyed.{keyed}
 use Rattle.b67_session_lines.specs.Moments.{first_part, first_part_by, first_part_in, first_part_of}
 use Rattle.b67_law_sessions.specs.Turns.{IsNext, part_of}
 

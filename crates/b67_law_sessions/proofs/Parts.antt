@@ -1,17 +1,17 @@
 -- The order of a session after the first part of a step.
-use Rattle.std.proofs.Common.{◌≡◌, ◌≢◌, ℕ, ◌+◌, ◌-◌, ◌<◌, ◌≤◌, max, List, [], ◌∷◌, length, Some, refl, sym, subst, inl, inr, ◌⊎◌, arith}
+use Rattle.std.proofs.Common.{◌≡◌, ◌≢◌, ℕ, ◌+◌, ◌-◌, ◌<◌, ◌≤◌, max, List, [], ◌∷◌, length, sym, subst, inl, inr, ◌⊎◌, arith}
 use Rattle.std.specs.List.{AllByRecursion, sum_by}
-use Rattle.b67_model.specs.Keyed.{keyed, change_keyed}
+use Rattle.b67_model.specs.Keyed.{change_keyed}
 use Rattle.b67_lemmas.specs.Lists.{Has}
 use Rattle.b67_lemmas.proofs.Members.{all_in, keyed_has, length_change, total_change, total_has}
 use Rattle.b67_lemmas.proofs.Keyed.{all_change, change_is}
 use Rattle.b67_lemmas.proofs.Sums.{sum_total}
-use Rattle.b67_model.specs.Common.{Task, JobProgress, SessionJob, Stepped, JobMoment, moment_with, Session, Choice, number_of, IsSegment, JobInOrder, IsInOrderButPlaces}
+use Rattle.b67_model.specs.Common.{Task, SessionJob, JobMoment, moment_with, Session, Choice, number_of, IsSegment, JobInOrder}
 use Rattle.b67_law_order.proofs.Chosen.{chosen}
 use Rattle.b67_law_order.proofs.Totals.{others_fifteen, peak_low_of, peak_high_of}
 use Rattle.b67_law_order.proofs.Numbered.{numbered_change, made_of, tasks_of}
-use Rattle.b67_law_sessions.specs.Orders.{JobInOrderButLimit, IsInOrderButLimit, SettlesInOrder}
-use Rattle.b67_law_sessions.specs.Turns.{part_of, IsNext, FirstPartsKeepOrder}
+use Rattle.b67_law_sessions.specs.Orders.{JobInOrderButLimit, IsInOrderButLimit}
+use Rattle.b67_law_sessions.specs.Turns.{FirstPartsKeepOrder}
 
 abbrev Good : SessionJob → Type 0
 Good m = JobInOrder (IsSegment m.constants) m.constants m.progress

@@ -1,13 +1,13 @@
 -- A job whose tasks end, or are deadlocked, stays in order.
-use Rattle.std.proofs.Common.{◌≡◌, ◌≢◌, ℕ, ◌+◌, ◌≤◌, Bool, true, false, not, List, [], ◌∷◌, map, filter, length, Option, IsTrue, refl, sym, ap, ◌∙◌, subst, inl, inr, arith}
+use Rattle.std.proofs.Common.{◌≡◌, ◌≢◌, ℕ, ◌+◌, ◌≤◌, Bool, true, false, not, List, [], ◌∷◌, map, filter, length, Option, IsTrue, refl, ap, inl, inr, arith}
 use Rattle.std.specs.List.{list_all}
 use Rattle.std.proofs.lemmas.Bool.{cases_Bool, true≢false}
 use Rattle.std.proofs.lemmas.List.{length-map}
 use Rattle.b67_word.specs.declared.faults.Ending.{Ending}
-use Rattle.b67_word.specs.declared.faults.Ending.TheVariants.{Deadlock, Limit}
+use Rattle.b67_word.specs.declared.faults.Ending.TheVariants.{Deadlock}
 use Rattle.b67_lemmas.specs.Lists.{Has}
 use Rattle.b67_lemmas.proofs.Members.{filter_none, length_filter}
-use Rattle.b67_model.specs.Common.{Task, JobConstants, Job, JobProgress, Line, Goes, Settled, Stepped, among, released, all_with, deepest_first, is_ready, ends_all, ends_each_if, ends_task, ends_with, deadlocked, unsettled, Starts, IsSegment, TasksInOrder, JobInOrder}
+use Rattle.b67_model.specs.Common.{Task, JobConstants, Job, JobProgress, Line, Settled, among, released, all_with, deepest_first, is_ready, ends_all, ends_each_if, ends_task, ends_with, deadlocked, unsettled, Starts, IsSegment, TasksInOrder}
 use Rattle.b67_model.specs.Endings.{goes_on}
 use Rattle.b67_law_order.proofs.Deaths.{ends_good, ends_task_good, all_closed, all_among}
 use Rattle.b67_law_sessions.specs.Orders.{SettlesInOrder}

@@ -1,5 +1,5 @@
 -- The task that makes the next step, and the laws of this crate.
-use Rattle.std.specs.Prelude.{◌≡◌, ℕ, List, map, Option, Some, None}
+use Rattle.std.specs.Prelude.{◌≡◌, List, map, Option, Some, None}
 use Rattle.b67_model.specs.Common.{JobMoment, moment_with, Stepped, IsInOrderButPlaces, Line, RunLine, StepResult, with_moment, of_job, number_of, Session, Choice, choice, Ready, Task, SessionJob}
 use Rattle.b67_model.specs.Keyed.{keyed}
 use Rattle.b67_law_order.specs.Weaker.{AllOtherNumbers}

@@ -7,7 +7,7 @@ use Rattle.b67_word.specs.Tagged.{Tagged, word}
 use Rattle.b67_ctl.specs.declared.registers.Regs.{Regs}
 use Rattle.b67_lemmas.specs.Lists.{Has}
 use Rattle.b67_model.specs.State as State
-use Rattle.b67_model.specs.Common.{Frame, JobConstants, Task, Job, JobProgress, SessionJob, OperatorContext, all_frames, frame, environment_of, outward, running_level, running, frame_at, from_frame, frames_of_task, critical_of, number_of}
+use Rattle.b67_model.specs.Common.{Frame, Task, Job, SessionJob, OperatorContext, all_frames, frame, environment_of, outward, running_level, running, frame_at, from_frame, frames_of_task, critical_of, number_of}
 use Rattle.b67_model.specs.Keyed.{keyed}
 use Rattle.b67_stack.specs.Stacks.{StackPlace}
 use Rattle.b67_layout.specs.Common.{Placement, slot_of, spot_in, outer_spots, spots, address_of, RowsFit, DictionariesFollow, RowHomes, RepresentsDictionary, RepresentsTask, IsRunning, ShowsDisplay, critical_mark}

@@ -5,7 +5,7 @@ use Rattle.std.proofs.lemmas.Bool.{cases_Bool}
 use Rattle.std.proofs.lemmas.List.{map-append}
 use Rattle.std.proofs.lemmas.Option.{same_Some}
 use Rattle.b67_model.specs.State as State
-use Rattle.b67_model.specs.Common.{Frame, Standing, Task, Job, JobProgress, SessionJob, OperatorContext, all_frames, frame, no_frame, with_top_cells, level_of_standing, environment_of, level_of_frame, running_from, running, outward, running_level, frame_at, Known, known_of}
+use Rattle.b67_model.specs.Common.{Frame, Standing, Task, JobProgress, SessionJob, OperatorContext, all_frames, frame, no_frame, level_of_standing, environment_of, level_of_frame, running_from, running, outward, running_level, frame_at, Known, known_of}
 use Rattle.b67_model.specs.Keyed.{keyed, change_keyed}
 use Rattle.b67_stack.specs.Stacks.{StackPlace}
 use Rattle.b67_layout.specs.Common.{Placement, spots, address_of, ShowsDisplay}

@@ -7,7 +7,7 @@ use Rattle.b67_word.specs.declared.couples.Place.{Place}
 use Rattle.b67_ctl.specs.declared.registers.Regs.{Regs}
 use Rattle.b67_ctl.specs.Layout.{mscw_word, rcw_word}
 use Rattle.b67_core.proofs.Writes.{slice_get-set_other}
-use Rattle.b67_model.specs.Common.{Word, Frame, Return, Condition, Ready, Task, Job, SessionJob, top, below_top, height, with_task, from_frame, Session, number_of}
+use Rattle.b67_model.specs.Common.{Word, Frame, Return, Condition, Ready, Task, Job, SessionJob, top, below_top, with_task, from_frame, Session, number_of}
 use Rattle.b67_model.specs.State as State
 use Rattle.b67_stack.specs.Common.{Shape, Original, StackPlace, Head, Marked, Entered, Activation, HeadFits, stack_level, mark_of, return_of, RunsOn, Storage, RepresentsRunning, Represents, with_stack}
 use Rattle.b67_stack.proofs.Slots.{running_slot}

@@ -6,7 +6,7 @@ use Rattle.b67_word.specs.declared.couples.Place.{Place}
 use Rattle.b67_lemmas.specs.Lists.{Has}
 use Rattle.b67_lemmas.proofs.Members.{keyed_has}
 use Rattle.b67_model.specs.State as State
-use Rattle.b67_model.specs.Common.{Frame, Task, JobConstants, Job, SessionJob, OperatorContext, mcp, no_frame, all_frames, frame, with_task, frame_at, IsSegment, SettingInOrder, TasksInOrder, Session}
+use Rattle.b67_model.specs.Common.{Frame, Task, Job, SessionJob, OperatorContext, mcp, no_frame, frame, with_task, frame_at, IsSegment, SettingInOrder, TasksInOrder, Session}
 use Rattle.b67_stack.specs.declared.Cpu.{Cpu}
 use Rattle.b67_stack.specs.Common.{StackPlace, NoOriginalAboveTop, Storage, Represents, with_stack, new_mark}
 use Rattle.b67_layout.specs.Common.{Placement, slot_of, spot_in, outer_spots, spots, address_of, stack_of_task, machine_view, with_job, IsRunning, ShowsDisplay, SessionHolds, RepresentsSession}

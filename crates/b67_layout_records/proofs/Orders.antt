@@ -8,7 +8,7 @@ use Rattle.b67_model.specs.Keyed.{keyed}
 use Rattle.b67_lemmas.specs.Lists.{Has, Falls, total}
 use Rattle.b67_lemmas.proofs.Members.{all_in, falls_low, keyed_has, total_append}
 use Rattle.b67_model.specs.Words as Words
-use Rattle.b67_model.specs.Common.{Word, Operand, Name, Ref, Row, Element, Original, Proc, Intrinsic, Frame, Standing, Marked, Entered, Return, Array, Ready, Task, JobConstants, Job, OperatorContext, top, below_top, head_words, height, with_task, level_of_frame, running, Starts, Known, WordInOrder, NoCopyUnder, CopiesAbove, is_copy_of, is_original_of, known_numbers, known_of, from_frame, outer_of, EnvironmentInOrder, StandsInOrder, ReturnsInOrder, CellsInOrder, TaskInOrder, originals_in, originals_of, TasksInOrder}
+use Rattle.b67_model.specs.Common.{Word, Operand, Name, Ref, Row, Element, Original, Proc, Intrinsic, Frame, Standing, Marked, Entered, Return, Array, Ready, Task, JobConstants, Job, OperatorContext, top, below_top, head_words, height, with_task, level_of_frame, running, Starts, Known, WordInOrder, NoCopyUnder, CopiesAbove, is_copy_of, is_original_of, known_numbers, known_of, from_frame, outer_of, EnvironmentInOrder, StandsInOrder, ReturnsInOrder, CellsInOrder, TaskInOrder, originals_in, TasksInOrder}
 use Rattle.b67_law_order.proofs.Reaches.{alike_same, known_number}
 use Rattle.b67_law_order.proofs.Replaced.{replaced}
 use Rattle.b67_law_order.proofs.Changes.{Change, fresh_frame, change_cells, change_enter, change_replaces}

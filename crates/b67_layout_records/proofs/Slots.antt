@@ -1,6 +1,6 @@
 -- A task is replaced by one of whose frames others see the same: the view changes in that task's slot, and its objects are
 -- those of before.
-use Rattle.std.proofs.Common.{◌≡◌, ◌≢◌, ℕ, List, ◌++◌, map, Option, Some, None, refl, sym, ◌∙◌, ap, Bool, ⊎_elim, inr, ◌⊎◌, subst}
+use Rattle.std.proofs.Common.{◌≡◌, ◌≢◌, ℕ, List, ◌++◌, map, Option, Some, None, refl, sym, ◌∙◌, ap, Bool, ⊎_elim, inr, subst}
 use Rattle.std.specs.Prelude.{if◌then◌else◌, flat_map, ◌==◌}
 use Rattle.std.proofs.lemmas.Bool.{cases_eq, eq-eqb}
 use Rattle.b67_word.specs.Tagged.{Tagged}

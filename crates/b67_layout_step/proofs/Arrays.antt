@@ -1,5 +1,5 @@
 -- A job with another number in an array: its stacks look the same, and of its objects one is replaced.
-use Rattle.std.proofs.Common.{◌≡◌, ℕ, List, [], ◌∷◌, map, length, Option, Some, None, refl, sym, ◌∙◌, ap, Bool, true, false, not, ◌==◌, ⊎_elim}
+use Rattle.std.proofs.Common.{◌≡◌, ℕ, List, [], ◌∷◌, map, Option, Some, None, refl, sym, ◌∙◌, ap, Bool, true, false, not, ◌==◌, ⊎_elim}
 use Rattle.std.specs.Prelude.{if◌then◌else◌, unwrap_or}
 use Rattle.std.proofs.lemmas.Bool.{cases_Bool, cases_eq}
 use Rattle.b67_model.specs.Keyed.{keyed, change_keyed}

@@ -15,7 +15,7 @@ use Rattle.b67_area.proofs.Laws.{area_inside, areas_apart}
 use Rattle.b67_area.proofs.Separation.{IsDirectory-set_area}
 use Rattle.b67_lemmas.specs.Lists.{Has}
 use Rattle.b67_ctl.specs.declared.registers.Regs.{Regs}
-use Rattle.b67_stack.specs.Common.{Fits, LieUpward, stack_words, words, PagedObject, MachineView, Slot, Free, Running, Waiting, stack_of, slot_base, SlotFits, CopiesName, IsArrayAt, IsLaidOut, NoOriginalAboveTop, home_word, object_words, tag_of, Storage, RepresentsSlot, RepresentsObject, Content, KeptChain, Represents, info_of}
+use Rattle.b67_stack.specs.Common.{Fits, LieUpward, stack_words, words, PagedObject, MachineView, Slot, Free, Running, Waiting, stack_of, slot_base, SlotFits, IsArrayAt, IsLaidOut, home_word, object_words, tag_of, Storage, RepresentsSlot, RepresentsObject, Content, KeptChain, Represents, info_of}
 use Rattle.b67_stack.proofs.Bases.{base-apart}
 use Rattle.b67_stack.proofs.Lies.{Lie-same, Upward-same}
 use Rattle.b67_stack.proofs.Heights.{words-length}

@@ -7,7 +7,7 @@ use Rattle.std.proofs.lemmas.List.{map-append}
 use Rattle.b67_lemmas.specs.Lists.{Has}
 use Rattle.b67_lemmas.proofs.Members.{has_map, has_map_back, found-has, keyed_has}
 use Rattle.b67_model.specs.Keyed.{keyed}
-use Rattle.b67_model.specs.Common.{Word, Frame, Standing, Array, Task, Job, JobProgress, SessionJob, OperatorContext, height, all_frames, level_of_standing, level_of_frame, running, frame_at, is_critical, number_of, Known, known_of, identities, from_frame, frames_of_task, critical_of, frames_named, frames_in_job}
+use Rattle.b67_model.specs.Common.{Word, Frame, Task, Job, JobProgress, SessionJob, OperatorContext, height, all_frames, level_of_standing, level_of_frame, running, frame_at, is_critical, number_of, Known, known_of, identities, from_frame, frames_of_task, critical_of, frames_named, frames_in_job}
 use Rattle.b67_model.specs.State as State
 use Rattle.b67_stack.specs.Common.{StackPlace, Activation, PagedObject, Slot, Running, Waiting, MachineView, with_slot}
 use Rattle.b67_stack.proofs.Slots.{slot-same, slot-other}

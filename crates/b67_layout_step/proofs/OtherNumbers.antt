@@ -1,7 +1,7 @@
 -- Other numbers in segments and arrays keep the order of a session but for its counts.
-use Rattle.std.proofs.Common.{◌≡◌, ℕ, List, [], ◌∷◌, length, refl, sym, subst, arith}
+use Rattle.std.proofs.Common.{List, [], ◌∷◌, length, refl, sym, subst, arith}
 use Rattle.std.specs.List.{AllByRecursion}
-use Rattle.b67_model.specs.Common.{Array, Segment, SessionJob, Session, IsSegment}
+use Rattle.b67_model.specs.Common.{SessionJob, Session, IsSegment}
 use Rattle.b67_law_order.specs.Weaker.{AllOtherNumbers}
 use Rattle.b67_law_order.proofs.Sessions.{setting_up, tasks_up, numbered_up, sizes_up, count_up, sum_up}
 use Rattle.b67_layout.specs.Orders.{JobInOrderButCounts, IsInOrderButCounts}

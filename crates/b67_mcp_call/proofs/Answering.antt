@@ -5,7 +5,7 @@ use Rattle.std.proofs.lemmas.Bool.{cases_eq}
 use Rattle.b67_core.proofs.Writes.{slice_get-set_other}
 use Rattle.b67_word.specs.Tagged.{Tagged}
 use Rattle.b67_word.specs.declared.couples.Place.{Place}
-use Rattle.b67_model.specs.Common.{Word, Frame, Task, Job, SessionJob, height, top, below_top, with_top_cells, answered, Session}
+use Rattle.b67_model.specs.Common.{Word, Frame, Task, SessionJob, height, top, below_top, with_top_cells, answered, Session}
 use Rattle.b67_model.specs.State as State
 use Rattle.b67_layout.specs.Common.{IsInOrderButCounts, Placement, outer_spots, machine_view, IsRunning, RepresentsSession, here, with_job, IsInStack}
 use Rattle.b67_stack.specs.declared.Cpu.{Cpu}

@@ -4,7 +4,7 @@ use Rattle.std.specs.List.{AllByRecursion}
 use Rattle.b67_word.specs.declared.couples.Place.{Place}
 use Rattle.b67_ctl.specs.Layout.{IsPlace}
 use Rattle.b67_ctl.specs.declared.registers.Regs.{Regs}
-use Rattle.b67_model.specs.Common.{Word, Frame, Array, Condition, Ready, Task, Job, SessionJob, height, top, below_top, with_task, level_of_frame, running, is_original, number_of, is_critical, Session, IsSegment, ReturnsInOrder, StackInOrder, TaskInOrder, TasksInOrder}
+use Rattle.b67_model.specs.Common.{Word, Frame, Array, Condition, Ready, Task, Job, SessionJob, top, below_top, with_task, level_of_frame, running, is_original, number_of, is_critical, Session, IsSegment, ReturnsInOrder, StackInOrder, TaskInOrder, TasksInOrder}
 use Rattle.b67_model.specs.State as State
 use Rattle.b67_layout.specs.Common.{IsInOrderButCounts, Placement, spot_in, outer_spots, shape, head, activations, machine_view, RepresentsTask, IsRunning, ShowsDisplay, RepresentsSession, SessionHoldsBut, RepresentsSessionBut, objects_gone, with_job}
 use Rattle.b67_stack.specs.declared.Cpu.{Cpu}

@@ -1,19 +1,15 @@
 -- What PRINT makes of its arguments.
-use Rattle.std.proofs.Common.{◌≡◌, ◌≢◌, ℕ, suc, ◌≤◌, ℤ, List, [], ◌∷◌, reverse, length, Result, Ok, Err, refl, sym, ◌∙◌, ap, arith, true, false, subst}
+use Rattle.std.proofs.Common.{◌≡◌, ◌≢◌, ℕ, suc, ◌≤◌, ℤ, List, [], ◌∷◌, length, Result, Ok, Err, refl, sym, ◌∙◌, ap, arith, true, false, subst}
 use Rattle.std.specs.List.{AllByRecursion}
 use Rattle.std.specs.Result.{is_ok}
 use Rattle.std.proofs.lemmas.Bool.{le-leb}
-use Rattle.std.proofs.lemmas.List.{length-reverse}
 use Rattle.b67_word.specs.Tagged.{Tagged}
 use Rattle.b67_word.specs.declared.faults.Fault.{Fault}
 use Rattle.b67_word.specs.declared.faults.Fault.TheVariants.{InvalidOperand, CriticalBlock}
 use Rattle.b67_model.specs.Common.{Answer, ◌>>=◌, Word, operand, number, Frame, Task, SessionJob, height, top, below_top, is_critical, is_original, print}
 use Rattle.b67_model.specs.Words.{whole}
-use Rattle.b67_stack.specs.declared.Cpu.{Cpu}
-use Rattle.b67_stack.specs.Represents.{Storage}
-use Rattle.b67_layout.specs.Common.{Placement, here, cells, GivesTop}
+use Rattle.b67_layout.specs.Common.{here, cells}
 use Rattle.b67_layout.proofs.PlainOperands.{plain_operand}
-use Rattle.b67_exec_cells.proofs.Rows.{operand_seen}
 use Rattle.b67_mcp_call.proofs.Ones.{count, one}
 use Rattle.b67_mcp_calls.specs.Calls.{IsCall, PrintMeets, operand_number}
 

@@ -3,9 +3,8 @@ use Rattle.std.proofs.Common.{◌≡◌, ℕ, ◌+◌, ℤ, List, [], ◌∷◌,
 use Rattle.std.specs.Prelude.{if◌then◌else◌}
 use Rattle.std.specs.List.{slice_range}
 use Rattle.std.proofs.lemmas.List.{length-map}
-use Rattle.b67_word.specs.Common.{word, is_whole, number_of}
+use Rattle.b67_word.specs.Common.{word, is_whole}
 use Rattle.b67_word.specs.declared.faults.Fault.TheVariants.{Exponent}
-use Rattle.b67_area.specs.declared.Kind.TheVariants as kind
 use Rattle.b67_model.specs.Common.{Answer, ◌>>=◌, number, array, Array, Task, SessionJob, numbers_of, number_of as number_of_member, Session}
 use Rattle.b67_layout.specs.Common.{IsInOrderButCounts, Placement, array_object, IsRunning, RepresentsSession, area_held}
 use Rattle.b67_stack.specs.declared.Cpu.{Cpu}

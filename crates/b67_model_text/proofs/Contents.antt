@@ -1,5 +1,5 @@
 -- What the cards of a segment add, card by card, and where their labels stand.
-use Rattle.std.proofs.Common.{◌⊎◌, inl, inr, ◌≡◌, ℕ, ◌+◌, ◌-◌, ◌*◌, ◌/◌, ◌%◌, ◌≤◌, ◌<◌, Bool, true, false, not, refl, sym, ◌∙◌, ap, subst, arith, cond, Option, Some, None, List, [], ◌∷◌, ◌++◌, length, replicate, min, Result, Ok, Err}
+use Rattle.std.proofs.Common.{◌⊎◌, inl, inr, ◌≡◌, ℕ, ◌+◌, ◌-◌, ◌*◌, ◌/◌, ◌%◌, ◌≤◌, ◌<◌, Bool, true, false, not, refl, sym, ◌∙◌, ap, subst, arith, cond, Option, Some, None, List, [], ◌∷◌, ◌++◌, length, min, Result, Ok, Err}
 use Rattle.std.specs.Prelude.{nat_le, nat_lt, ◌&&◌, ◌==◌}
 use Rattle.std.specs.Option.{option_map, option_and_then}
 use Rattle.std.specs.List.{cons_option, list_any}
@@ -20,9 +20,9 @@ use Rattle.b67_model_text.specs.declared.assembly.Sketch.TheVariants.{Whole, Out
 use Rattle.b67_model_text.specs.declared.assembly.Statement as statement
 use Rattle.b67_model_text.specs.declared.assembly.Statement.TheVariants as statements
 use Rattle.b67_model_text.specs.declared.assembly.Line.{Line}
-use Rattle.b67_model_text.specs.Answers.{Answer, ◌>>=◌, ◌>>◌, needs}
+use Rattle.b67_model_text.specs.Answers.{Answer, ◌>>=◌}
 use Rattle.b67_model_text.specs.Deck.{of_card}
-use Rattle.b67_model_text.specs.Encoding.{filling, six_syllables, laid_one}
+use Rattle.b67_model_text.specs.Encoding.{filling, six_syllables}
 use Rattle.b67_model_text.specs.Asm.{Scope, Added, AddedOperator, AddedEntry, SegmentContent, after_sketch, is_in_range, pcw_in, pcw_at, label_in, row_in, call_operator, branch_to, denoted, is_first_label, has_names, has_label, has_entry, misplaced, fitted, entered, after_operator, card_operator, entry_added, added_by, syllable_behind, entries_behind, with_added, content_of, meaning, labels, label_at, syllable_after_card}
 use Rattle.b67_model_text.proofs.Answers.{after_both, after_needs, err-ok}
 

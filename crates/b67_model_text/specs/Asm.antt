@@ -4,8 +4,6 @@ use Rattle.std.specs.List.{list_any, cons_option}
 use Rattle.std.specs.Option.{option_map, option_and_then}
 use Rattle.std.specs.Str.{bytes_eq}
 use Rattle.std.specs.Map.{lookup}
-use Rattle.b67_word.specs.declared.couples.Couple.{Couple}
-use Rattle.b67_word.specs.declared.couples.Place.{Place}
 use Rattle.b67_word.specs.Couples.{couple_bits}
 use Rattle.b67_model.specs.declared.operators.Op.{Op}
 use Rattle.b67_model.specs.declared.operators.Op.TheVariants.{Valc, Namc, Mpcw, Brun, Brtr, Brfl}

@@ -1,5 +1,5 @@
 -- Assembly: what a card says by itself.
-use Rattle.std.specs.Prelude.{ℕ, zero, suc, ◌+◌, ◌-◌, ◌*◌, ◌%◌, ◌^◌, ◌==◌, ◌&&◌, nat_le, Bool, true, false, is_some, unwrap_or, List, [], ◌∷◌, fold, take, length, slice_index, Option, Some, None, Result, Ok, Err, if◌then◌else◌, codes}
+use Rattle.std.specs.Prelude.{ℕ, zero, suc, ◌+◌, ◌-◌, ◌*◌, ◌%◌, ◌^◌, ◌==◌, ◌&&◌, nat_le, Bool, true, false, is_some, unwrap_or, List, [], ◌∷◌, fold, take, length, slice_index, Option, Some, None, Ok, Err, if◌then◌else◌, codes}
 use Rattle.std.specs.List.{filter_map, list_all}
 use Rattle.std.specs.Option.{option_map, option_and_then}
 use Rattle.std.specs.Str.{bytes_eq}
@@ -21,7 +21,7 @@ use Rattle.b67_model_text.specs.declared.assembly.Statement.TheVariants as state
 use Rattle.b67_model_text.specs.declared.assembly.Kind as kind
 use Rattle.b67_model_text.specs.declared.assembly.Kind.TheVariants as kinds
 use Rattle.b67_model_text.specs.declared.assembly.Line.{Line}
-use Rattle.b67_model_text.specs.Answers.{Answer, ◌>>=◌, ◌>>◌, needs, or_reason}
+use Rattle.b67_model_text.specs.Answers.{Answer, ◌>>=◌, or_reason}
 use Rattle.b67_model_text.specs.Cards.{words_in_card, natural, name_in, is_empty}
 use Rattle.b67_model_text.specs.Hex.{hex_digit, digit_value}
 use Rattle.b67_model_text.specs.Command.{row_of, parted}

@@ -14,7 +14,7 @@ use Rattle.b67_ctl.specs.Descriptors.{IsDataDesc}
 use Rattle.b67_area.specs.declared.Kind.{Kind}
 use Rattle.b67_area.specs.declared.Kind.TheVariants as kind
 use Rattle.b67_area.proofs.Laws.{area_inside}
-use Rattle.b67_model.specs.Common.{Answer, Word, Operand, Name, Ref, Row, Element, Original, Proc, Intrinsic, Frame, Entered, Segment, mcp, first_offset, cell_of, cell, OwnsArray, EntryInOrder, DictionaryWords}
+use Rattle.b67_model.specs.Common.{Answer, Word, Original, Intrinsic, Frame, Entered, Segment, mcp, first_offset, cell_of, cell, OwnsArray, EntryInOrder, DictionaryWords}
 use Rattle.b67_lemmas.specs.Lists.{Has}
 use Rattle.b67_lemmas.proofs.Members.{all_in, has_append_left, has_append_right, has_flat, has_get, has_map, has_reverse_back, keyed_has}
 use Rattle.b67_lemmas.proofs.Places.{get_within}

@@ -14,7 +14,7 @@ use Rattle.b67_ctl.specs.Layout.{sirw_word}
 use Rattle.b67_lemmas.specs.Lists.{Has}
 use Rattle.b67_lemmas.proofs.Members.{all_in, has_get, has_map, has_reverse_back, reverse_cons}
 use Rattle.b67_lemmas.proofs.Places.{same_test}
-use Rattle.b67_model.specs.Common.{Answer, Word, Operand, Name, Ref, Row, Element, Original, Proc, Intrinsic, Frame, Standing, Array, Job, height, frame, first_offset, cell_of, cell, Starts, Known, known_of, known_numbers, reach_of, IsEntered, IsSegment, WordInOrder}
+use Rattle.b67_model.specs.Common.{Answer, Word, Operand, Name, Ref, Row, Element, Original, Proc, Intrinsic, Frame, Standing, Array, Job, height, first_offset, cell_of, cell, Starts, Known, known_of, known_numbers, reach_of, IsEntered, IsSegment, WordInOrder}
 use Rattle.b67_model.specs.Words as Words
 use Rattle.b67_model.specs.State as State
 use Rattle.b67_law_order.proofs.Reaches.{Wider, word_wider}

@@ -9,7 +9,7 @@ use Rattle.b67_ctl.specs.Layout.{mscw_word, IsMscw}
 use Rattle.b67_lemmas.specs.Lists.{Has, Falls}
 use Rattle.b67_lemmas.proofs.Members.{falls_low}
 use Rattle.b67_model.specs.State as State
-use Rattle.b67_model.specs.Common.{Frame, Standing, Task, height, running, running_from, known_of, known_numbers, outer_of, IsSegment, TaskInOrder, StackInOrder, ReturnsInOrder}
+use Rattle.b67_model.specs.Common.{Frame, Standing, height, running, running_from, known_of, known_numbers, outer_of, IsSegment, TaskInOrder, StackInOrder, ReturnsInOrder}
 use Rattle.b67_stack.specs.Stacks.{StackPlace, Activation, mark_of, top_size, mark_place}
 use Rattle.b67_layout.specs.Common.{slot_of, spot_in, outer_spots, spots, address_of, head, frame_address}
 use Rattle.b67_layout.proofs.Frames.{height-is, size-is}

@@ -7,7 +7,7 @@ use Rattle.b67_ctl.specs.declared.map.TheConstants.{FIRST_INTRINSIC, LAST_INTRIN
 use Rattle.b67_ctl.specs.declared.registers.Regs.{Regs}
 use Rattle.b67_ctl.specs.declared.marks.Toscw.{Toscw}
 use Rattle.b67_ctl.specs.Layout.{intrinsic_word, toscw_word, IsToscw}
-use Rattle.b67_model.specs.Common.{Answer, Word, Operand, Name, Ref, Row, Element, Original, Proc, Intrinsic, Known, reach_of, IsSegment, NamesEntered, WordInOrder, cell}
+use Rattle.b67_model.specs.Common.{Answer, Word, Intrinsic, Known, reach_of, IsSegment, NamesEntered, WordInOrder, cell}
 use Rattle.b67_model.specs.Words as Words
 use Rattle.b67_stack.specs.Stacks.{StackPlace}
 use Rattle.b67_stack.specs.Shapes.{Fits}

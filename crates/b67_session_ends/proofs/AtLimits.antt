@@ -11,7 +11,7 @@ use Rattle.b67_model.specs.Common.{Task, SessionJob, number_of, Session, Numbere
 use Rattle.b67_model.specs.Keyed.{keyed}
 use Rattle.b67_law_order.proofs.Numbered.{numbered_low, keyed_member}
 use Rattle.b67_session_lines.specs.Moments.{has_tasks, is_at_limit, last_part, last_part_by, last_part_if}
-use Rattle.b67_layout.specs.Common.{Placement, TaskShows, JobShows, JobsShow}
+use Rattle.b67_layout.specs.Common.{Placement, JobShows, JobsShow}
 use Rattle.b67_layout.specs.Rows as rows
 use Rattle.b67_layout.proofs.LiveTasks.{job_at}
 use Rattle.b67_task_tables.specs.declared.tables.TaskRow.{TaskRow}

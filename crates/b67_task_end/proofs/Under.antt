@@ -9,7 +9,7 @@ use Rattle.std.proofs.lemmas.Simd.{map-map}
 use Rattle.b67_lemmas.specs.Lists.{Has, Falls}
 use Rattle.b67_lemmas.proofs.Members.{any_has, any_some, falls_low, falls_same, has_append_cases, has_append_left, has_append_right, has_filter, has_filter_in, has_map, has_map_back, has_reverse, has_reverse_back, reverse_cons}
 use Rattle.b67_model.specs.Common.{Task, SessionJob, among, at_depth, deepest_below, Session, IsSegment}
-use Rattle.b67_layout.specs.Common.{Placement, slot_of, parent_slot, Differ, TaskShows}
+use Rattle.b67_layout.specs.Common.{Placement, slot_of, parent_slot, Differ}
 use Rattle.b67_layout.specs.Rows as rows
 use Rattle.b67_layout.proofs.Rows.{task_row}
 use Rattle.b67_layout.proofs.Counting.{not_more}

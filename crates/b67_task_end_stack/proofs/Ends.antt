@@ -7,7 +7,7 @@ use Rattle.std.proofs.lemmas.Option.{same_Some}
 use Rattle.b67_word.specs.Tagged.{Tagged}
 use Rattle.b67_ctl.specs.declared.registers.Regs.{Regs}
 use Rattle.b67_lemmas.specs.Lists.{Has}
-use Rattle.b67_model.specs.Common.{Frame, Array, Task, Job, SessionJob, array, among, released, is_owned_by, Session, identities}
+use Rattle.b67_model.specs.Common.{Frame, Array, Task, Job, SessionJob, among, released, is_owned_by, Session, identities}
 use Rattle.b67_model.specs.Keyed.{keyed}
 use Rattle.b67_lemmas.proofs.Members.{has_map, has_map_back, has_filter, has_filter_in, any_some, any_has, falls_same}
 use Rattle.b67_stack.specs.Represents.{Storage}

@@ -15,7 +15,7 @@ use Rattle.b67_model.specs.Keyed.{keyed}
 use Rattle.b67_law_order.proofs.Looks.{above_one}
 use Rattle.b67_lemmas.proofs.Members.{has_reverse, has_map, has_map_back, keyed_has, keyed_falls, falls_same, all_in}
 use Rattle.b67_stack.specs.Shapes as Shapes
-use Rattle.b67_stack.specs.Common.{Shape, Is, Copy, Copied, Fits, LieDownward, IsOriginal, StackPlace, Activation, stack_words, words, Running, Waiting, stack_of, MachineView, slot_base, Storage}
+use Rattle.b67_stack.specs.Common.{Shape, Copy, Copied, Fits, LieDownward, IsOriginal, StackPlace, Activation, stack_words, words, Running, Waiting, stack_of, MachineView, slot_base, Storage}
 use Rattle.b67_stack.proofs.Bases.{base-apart}
 use Rattle.b67_stack.proofs.Heights.{words-length}
 use Rattle.b67_layout.specs.Common.{Slotted, Placement, slot_of, outer_spots, shape, stack_of_task, slot_with, slot_in, slot_by, slot_at, machine_view, DictionariesFollow, SessionHolds, JobInOrderButCounts, IsInOrderButCounts}

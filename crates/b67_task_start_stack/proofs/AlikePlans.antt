@@ -1,6 +1,6 @@
 -- Two plans and two states of a job that show the same of some tasks. What a view shows of these is the same, whatever
 -- tasks, slots and arrays were born or died beside them, whichever task's registers are in use, and who waits.
-use Rattle.std.proofs.Common.{◌≡◌, ◌≢◌, ℕ, ◌+◌, List, [], ◌∷◌, ◌++◌, map, length, not, Option, Some, None, refl, sym, ◌∙◌, ap, Bool, true, false, ◌==◌, inl, inr}
+use Rattle.std.proofs.Common.{◌≡◌, ℕ, List, [], ◌∷◌, map, not, Option, Some, None, refl, ◌∙◌, ap, Bool, ◌==◌, inl, inr}
 use Rattle.std.specs.Prelude.{if◌then◌else◌}
 use Rattle.std.specs.List.{AllByRecursion}
 use Rattle.b67_lemmas.specs.Lists.{Has}
@@ -8,7 +8,7 @@ use Rattle.b67_model.specs.Words as Words
 use Rattle.b67_model.specs.Common.{Word, Operand, Name, Ref, Row, Element, Original, Proc, Intrinsic, Frame, Array, Task, Job, array, from_frame, frames_of_task, critical_of}
 use Rattle.b67_model.specs.Keyed.{keyed}
 use Rattle.b67_stack.specs.Shapes as Shapes
-use Rattle.b67_stack.specs.Common.{Shape, Copied, Copy, StackPlace, Activation, Slot, Free, Running, Waiting}
+use Rattle.b67_stack.specs.Common.{Shape, Copy, StackPlace, Activation, Slot, Running, Waiting}
 use Rattle.b67_layout.specs.Common.{Placement, slot_of, spot_in, outer_spots, spots, shape, head, activations, stack_of_task, slot_with}
 use Rattle.b67_task_start_stack.specs.Likes.{SameStack, Like}
 

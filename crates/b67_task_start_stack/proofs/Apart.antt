@@ -1,5 +1,5 @@
 -- No two live tasks of a job have a frame of one identity.
-use Rattle.std.proofs.Common.{◌≡◌, ◌≢◌, ℕ, ◌+◌, ◌<◌, ◌≤◌, List, [], ◌∷◌, refl, sym, ◌∙◌, ap, arith, inl, inr}
+use Rattle.std.proofs.Common.{◌≡◌, ◌≢◌, ℕ, ◌+◌, ◌≤◌, List, [], ◌∷◌, refl, sym, ◌∙◌, ap, arith, inl, inr}
 use Rattle.std.proofs.lemmas.Bool.{eq-eqb}
 use Rattle.b67_lemmas.specs.Lists.{Has, total}
 use Rattle.b67_model.specs.Common.{Frame, Task, JobConstants, Job, Starts, TasksInOrder, frames_named}

@@ -1,6 +1,6 @@
 -- The machine stands for the session with a new task, once its stack waits in its slot.
-use Rattle.std.proofs.Common.{◌≡◌, ◌≢◌, ℕ, ◌+◌, ◌-◌, ◌*◌, ◌^◌, ◌<◌, ◌≤◌, List, [], ◌∷◌, ◌++◌, length, Option, Some, None, refl, sym, ◌∙◌, ap, arith, Bool, true, false, ◌==◌, inl, inr, ◌⊎◌, ⊎_elim, subst, unwrap_or}
-use Rattle.std.specs.Prelude.{if◌then◌else◌, ◌||◌, flat_map}
+use Rattle.std.proofs.Common.{◌≡◌, ◌≢◌, ℕ, ◌+◌, ◌*◌, ◌^◌, ◌<◌, ◌≤◌, List, [], ◌∷◌, ◌++◌, length, Some, refl, sym, ◌∙◌, ap, arith, Bool, true, false, ◌==◌, inl, inr, ◌⊎◌, ⊎_elim, subst, unwrap_or}
+use Rattle.std.specs.Prelude.{if◌then◌else◌, flat_map}
 use Rattle.std.specs.List.{slice_get, list_any}
 use Rattle.std.proofs.lemmas.Bool.{cases_eq, cases_Bool, eq-eqb, ne_eqb, eqb-true}
 use Rattle.std.proofs.lemmas.Option.{same_Some}
@@ -8,16 +8,16 @@ use Rattle.b67_word.specs.Tagged.{Tagged, word}
 use Rattle.b67_ctl.specs.declared.registers.Regs.{Regs}
 use Rattle.b67_lemmas.specs.Lists.{Has}
 use Rattle.b67_model.specs.State as State
-use Rattle.b67_model.specs.Common.{Frame, Task, Job, JobProgress, SessionJob, OperatorContext, all_frames, frame, no_frame, height, number_of, is_critical, Session, frame_at, running, level_of_frame, IsSegment, NumberedFrom, SettingInOrder, TasksInOrder}
+use Rattle.b67_model.specs.Common.{Frame, Task, Job, JobProgress, SessionJob, OperatorContext, frame, no_frame, height, number_of, is_critical, Session, frame_at, IsSegment, NumberedFrom, SettingInOrder, TasksInOrder}
 use Rattle.b67_model.specs.Keyed.{keyed}
-use Rattle.b67_stack.specs.Common.{StackPlace, MachineView, NoOriginalAboveTop, Storage, Represents}
-use Rattle.b67_layout.specs.Common.{Placement, Slotted, slot_of, spots, address_of, machine_view, RowsFit, DictionariesFollow, RowHomes, PlanFits, RepresentsDictionary, vector_word, critical_mark, RepresentsTask, IsRunning, ShowsDisplay, SessionHolds, RepresentsSession}
+use Rattle.b67_stack.specs.Common.{StackPlace, NoOriginalAboveTop, Storage, Represents}
+use Rattle.b67_layout.specs.Common.{Placement, Slotted, slot_of, spots, address_of, machine_view, RowsFit, DictionariesFollow, RowHomes, PlanFits, RepresentsDictionary, vector_word, critical_mark, RepresentsTask, IsRunning, ShowsDisplay, SessionHolds}
 use Rattle.b67_layout.proofs.Common.{with_course, member-same, task_row, slot_below, dictionary_below, running_only}
 use Rattle.b67_law_order.proofs.LowNames.{frame_at_same}
 use Rattle.b67_task_start_stack.specs.Born.{with_task_at}
 use Rattle.b67_task_start_stack.specs.Joining.{Joins}
 use Rattle.b67_lemmas.proofs.Members.{keyed_has}
-use Rattle.b67_task_start_stack.proofs.OneMore.{slot_of-other, slot_of-new, plan_more, course_more, jobs_more, keyed_child, keyed_old, spots_own}
+use Rattle.b67_task_start_stack.proofs.OneMore.{slot_of-other, slot_of-new, keyed_old, spots_own}
 
 -- jobs are numbered in order, so one job has a number
 numbered_low : (k : ℕ) (jobs : List SessionJob) (y : SessionJob) → NumberedFrom k jobs → Has jobs y → k ≤ y.constants.number

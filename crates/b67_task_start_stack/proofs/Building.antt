@@ -1,26 +1,24 @@
 -- What the code that builds a stack finds and makes, by the session that the machine stands for.
-use Rattle.std.proofs.Common.{◌≡◌, ◌≢◌, ℕ, suc, ◌+◌, ◌-◌, ◌*◌, ◌^◌, ◌<◌, ◌≤◌, List, [], ◌∷◌, ◌++◌, length, not, Option, Some, None, refl, sym, ◌∙◌, ap, arith, Bool, true, false, ◌==◌, inl, inr, ◌⊎◌, ⊎_elim, subst, slice_set}
+use Rattle.std.proofs.Common.{◌≡◌, ◌≢◌, ℕ, suc, ◌+◌, ◌-◌, ◌*◌, ◌^◌, ◌<◌, ◌≤◌, List, [], ◌∷◌, length, not, Some, None, refl, sym, ◌∙◌, ap, arith, true, false, ◌==◌, inl, inr, ◌⊎◌, ⊎_elim, subst, slice_set}
 use Rattle.std.specs.Prelude.{max}
 use Rattle.std.specs.List.{slice_get}
 use Rattle.b67_word.specs.Tagged.{Tagged, word}
 use Rattle.b67_core.proofs.Writes.{slice_get-set_same, slice_get-set_other}
 use Rattle.b67_ctl.specs.declared.marks.Mscw.{Mscw}
 use Rattle.b67_ctl.specs.declared.marks.Toscw.{Toscw}
-use Rattle.b67_ctl.specs.declared.registers.Regs.{Regs}
-use Rattle.b67_ctl.specs.Layout.{mscw_word, rcw_word, toscw_word}
+use Rattle.b67_ctl.specs.Layout.{mscw_word, toscw_word}
 use Rattle.b67_lemmas.specs.Lists.{Has}
 use Rattle.b67_model.specs.Common.{Task, Job, SessionJob, Session, NumberedFrom}
-use Rattle.b67_model.specs.Keyed.{keyed}
 use Rattle.b67_stack.specs.declared.Cpu.{Cpu}
-use Rattle.b67_stack.specs.Common.{StackPlace, Activation, Entered, mark_of, mark_place, activations_below, RunsOn, slot_base, Storage, Represents}
+use Rattle.b67_stack.specs.Common.{StackPlace, Entered, mark_of, mark_place, activations_below, RunsOn, slot_base, Storage}
 use Rattle.b67_stack.proofs.Pushes.{room_of}
 use Rattle.b67_layout.specs.Common.{Placement, slot_of, machine_view, stack_of_task, vector_word, critical_mark, RepresentsSession}
 use Rattle.b67_layout.proofs.Starts.{runs_here}
 use Rattle.b67_task_start_stack.specs.Born.{with_task_at}
-use Rattle.b67_task_start_stack.specs.Joining.{Joins, Calls, MayBuild, session_joined}
+use Rattle.b67_task_start_stack.specs.Joining.{MayBuild, session_joined}
 use Rattle.b67_task_start_stack.proofs.OneMore.{slot_of-other}
 use Rattle.b67_lemmas.proofs.Members.{keyed_has}
-use Rattle.b67_task_start_stack.proofs.Started.{Built, slot_apart, enough, slot_room, slot_low, running_small, below_some, under_place, mark_now, RepresentsSession-started}
+use Rattle.b67_task_start_stack.proofs.Started.{Built, slot_apart, enough, slot_low, running_small, below_some, under_place, mark_now, RepresentsSession-started}
 
 numbered_high : (k : ℕ) (jobs : List SessionJob) (y : SessionJob) → NumberedFrom k jobs → Has jobs y → y.constants.number < k + length jobs
 numbered_high k [] y n h = absurd h

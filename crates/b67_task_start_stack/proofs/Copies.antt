@@ -1,18 +1,17 @@
 -- The words of a new task's stack: its arguments are copied from the top of its parent's.
-use Rattle.std.proofs.Common.{◌≡◌, ◌≢◌, ℕ, suc, ◌+◌, ◌<◌, ◌≤◌, List, [], ◌∷◌, ◌++◌, map, length, Option, Some, None, refl, sym, ◌∙◌, ap, arith, Bool, true, false, not, ◌==◌, inl, inr, subst}
-use Rattle.std.specs.Prelude.{if◌then◌else◌}
-use Rattle.std.specs.List.{slice_get, AllByRecursion}
+use Rattle.std.proofs.Common.{◌≡◌, ◌≢◌, ℕ, suc, ◌+◌, ◌<◌, List, [], ◌∷◌, ◌++◌, map, length, Some, None, refl, sym, ◌∙◌, ap, arith, false, inl, inr, subst}
+use Rattle.std.specs.List.{slice_get}
 use Rattle.std.proofs.lemmas.Bool.{eq-eqb, ne_eqb}
 use Rattle.std.proofs.lemmas.List.{length-map, length-append}
-use Rattle.b67_word.specs.Tagged.{Tagged, word}
+use Rattle.b67_word.specs.Tagged.{Tagged}
 use Rattle.b67_ctl.specs.Layout.{mscw_word, rcw_word}
-use Rattle.b67_lemmas.specs.Lists.{Has, Falls}
+use Rattle.b67_lemmas.specs.Lists.{Has}
 use Rattle.b67_model.specs.Words as Words
-use Rattle.b67_model.specs.Common.{Word, Operand, Name, Ref, Row, Element, Original, Proc, Intrinsic, Frame, Task, Job, top, below_top, is_original, from_frame}
+use Rattle.b67_model.specs.Common.{Word, Operand, Name, Ref, Row, Element, Original, Proc, Intrinsic, Frame, Job, is_original, from_frame}
 use Rattle.b67_stack.specs.Shapes as Shapes
-use Rattle.b67_stack.specs.Common.{Locations, Shape, Is, Copy, Fits, LieDownward, StackPlace, Head, Entered, Activation, mark_of, return_of, headed, words}
+use Rattle.b67_stack.specs.Common.{Locations, Shape, Is, Copy, Fits, LieDownward, StackPlace, Head, Entered, mark_of, return_of, headed}
 use Rattle.b67_task_start_stack.specs.Joining.{Sees}
-use Rattle.b67_layout.specs.Common.{Placement, slot_of, spot_in, outer_spots, shape, activations}
+use Rattle.b67_layout.specs.Common.{Placement, spot_in, shape}
 
 -- words that were copied lie elsewhere with other shapes that they fit too
 pub LieDownward-copied : (R : Shape → ℕ → Tagged → Type 0) (core new : List Tagged) (from to : ℕ) (sh sh' : Word → Shape) (xs : List Word) (ys zs : List Shape)

@@ -1,5 +1,5 @@
 -- One slot more behind those used so far: the machine stands for the same view with that slot.
-use Rattle.std.proofs.Common.{◌≡◌, ◌≢◌, ℕ, suc, ◌+◌, ◌*◌, ◌<◌, ◌≤◌, List, [], ◌∷◌, length, Option, Some, None, refl, sym, ◌∙◌, ap, arith, inl, inr, ◌⊎◌, ⊎_elim, subst}
+use Rattle.std.proofs.Common.{◌≡◌, ◌≢◌, ℕ, suc, ◌+◌, ◌<◌, ◌≤◌, List, length, Some, refl, sym, ◌∙◌, ap, arith, ⊎_elim, subst}
 use Rattle.std.specs.List.{slice_get}
 use Rattle.std.proofs.lemmas.Bool.{cases_lt}
 use Rattle.b67_word.specs.Tagged.{Tagged, word}
@@ -7,8 +7,7 @@ use Rattle.b67_area.specs.declared.Info.{Info}
 use Rattle.b67_area.specs.Spans.{Span, area_at}
 use Rattle.b67_area.specs.Directory.{IsDirectory}
 use Rattle.b67_ctl.specs.declared.registers.Regs.{Regs}
-use Rattle.b67_lemmas.specs.Lists.{Has}
-use Rattle.b67_stack.specs.Common.{Fits, LieDownward, Activation, stack_words, words, PagedObject, Slot, Free, Running, Waiting, stack_of, MachineView, slot_base, SlotFits, IsLaidOut, Storage, RepresentsRunning, RepresentsSlot, RepresentsRegs, RepresentsSlots, StacksLie, RepresentsObjects, Owned, Represents, info_of}
+use Rattle.b67_stack.specs.Common.{Fits, LieDownward, stack_words, words, PagedObject, Slot, Free, Running, Waiting, stack_of, MachineView, slot_base, SlotFits, IsLaidOut, Storage, RepresentsSlot, StacksLie, RepresentsObjects, Represents, info_of}
 use Rattle.b67_stack.proofs.Bases.{base-step, base-apart}
 use Rattle.b67_stack.proofs.Heights.{words-length}
 use Rattle.b67_stack.proofs.Lies.{Lie-same}

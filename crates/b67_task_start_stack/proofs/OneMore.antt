@@ -1,18 +1,17 @@
 -- The session with one live task more, which nobody depends on: every other task, slot and object looks as it did.
 -- Births read it forwards; the death of a task without descendants reads it backwards.
-use Rattle.std.proofs.Common.{◌≡◌, ◌≢◌, ℕ, ◌+◌, ◌<◌, ◌≤◌, List, [], ◌∷◌, ◌++◌, map, Option, Some, None, refl, sym, ◌∙◌, ap, arith, Bool, true, false, ◌==◌, inl, inr, ◌⊎◌, ⊎_elim, subst}
+use Rattle.std.proofs.Common.{◌≡◌, ◌≢◌, ℕ, ◌+◌, List, [], ◌∷◌, ◌++◌, map, Option, Some, None, refl, sym, ◌∙◌, ap, Bool, inl, inr, ⊎_elim, subst}
 use Rattle.std.specs.Prelude.{if◌then◌else◌, flat_map}
 use Rattle.std.proofs.lemmas.Bool.{cases_eq, eq-eqb, ne_eqb}
 use Rattle.std.proofs.lemmas.Bool.Decides.{eqb_tells}
 use Rattle.b67_area.specs.declared.Kind.TheVariants as kind
 use Rattle.b67_lemmas.specs.Lists.{Has}
-use Rattle.b67_model.specs.Words as Words
-use Rattle.b67_model.specs.Common.{Word, Operand, Name, Ref, Row, Element, Original, Proc, Intrinsic, Frame, Array, Segment, Task, Job, JobProgress, SessionJob, array, number_of, from_frame, frames_of_task, critical_of}
+use Rattle.b67_model.specs.Common.{Array, Segment, Task, Job, JobProgress, SessionJob, array, number_of}
 use Rattle.b67_model.specs.Keyed.{keyed}
-use Rattle.b67_stack.specs.Common.{Shape, StackPlace, Activation, PagedObject, Slot, Free, Running, Waiting, MachineView, with_slot}
+use Rattle.b67_stack.specs.Common.{PagedObject, Slot, Running, Waiting, MachineView, with_slot}
 use Rattle.b67_stack.proofs.Slots.{slot-same, slot-other}
-use Rattle.b67_layout.specs.Common.{Placement, Slotted, slot_of, spot_in, outer_spots, spots, shape, head, activations, stack_of_task, slot_with, slot_in, slot_by, slot_at, code_objects, array_object, objects_of, machine_view, RowsFit}
-use Rattle.b67_layout.proofs.Common.{shape-job, with_course, member-same, member-other}
+use Rattle.b67_layout.specs.Common.{Placement, Slotted, slot_of, outer_spots, spots, activations, stack_of_task, slot_with, slot_in, slot_by, slot_at, code_objects, array_object, objects_of, machine_view}
+use Rattle.b67_layout.proofs.Common.{with_course, member-same, member-other}
 use Rattle.b67_layout.proofs.MachineViews.{objects-after}
 use Rattle.b67_task_start_stack.specs.Born.{with_task_at}
 use Rattle.b67_task_start_stack.specs.Joining.{Joins}

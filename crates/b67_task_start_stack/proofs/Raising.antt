@@ -1,5 +1,5 @@
 -- What raising the areas and writing a base word makes of core.
-use Rattle.std.proofs.Common.{◌≡◌, ◌≢◌, ℕ, ◌+◌, ◌-◌, ◌<◌, ◌≤◌, List, length, Option, Some, refl, sym, ◌∙◌, ap, arith, subst, slice_set, inl, inr, ◌⊎◌}
+use Rattle.std.proofs.Common.{◌≡◌, ◌≢◌, ℕ, ◌+◌, ◌-◌, ◌<◌, ◌≤◌, List, length, Some, sym, ◌∙◌, ap, arith, subst, slice_set, inr, ◌⊎◌}
 use Rattle.std.specs.List.{slice_get}
 use Rattle.b67_word.specs.Tagged.{Tagged, word}
 use Rattle.b67_core.proofs.Writes.{slice_get-set_same, slice_get-set_other}
@@ -10,7 +10,7 @@ use Rattle.b67_area.specs.Directory.{IsDirectory, OnlyHoles}
 use Rattle.b67_area.proofs.Laws.{OnlyHoles-area, OnlyHoles-below, area_inside}
 use Rattle.b67_area.proofs.Separation.{IsDirectory-set_below}
 use Rattle.b67_ctl.specs.declared.registers.Regs.{Regs}
-use Rattle.b67_stack.specs.Common.{MachineView, slot_base, Storage, Represents}
+use Rattle.b67_stack.specs.Common.{MachineView, Storage, Represents}
 use Rattle.b67_task_start_stack.specs.Slots.{grown, raised, HasRoom}
 use Rattle.b67_task_start_stack.proofs.Grown.{Represents-grown}
 

@@ -2,21 +2,21 @@
 use Rattle.std.proofs.Common.{◌≡◌, ◌≢◌, ℕ, suc, ◌+◌, ◌-◌, ◌<◌, ◌≤◌, List, [], ◌∷◌, ◌++◌, map, length, Option, Some, None, refl, sym, ◌∙◌, ap, arith, Bool, true, false, ◌==◌, inl, inr, ◌⊎◌, ⊎_elim, subst}
 use Rattle.std.specs.Prelude.{if◌then◌else◌, max, ◌||◌}
 use Rattle.std.specs.List.{slice_get, list_any}
-use Rattle.std.proofs.lemmas.Bool.{cases_eq, cases_lt, cases_Bool, eq-eqb, ne_eqb, eqb-true}
+use Rattle.std.proofs.lemmas.Bool.{cases_lt, cases_Bool, eq-eqb, ne_eqb, eqb-true}
 use Rattle.std.proofs.lemmas.List.{length-map, length-append, map-append, append_assoc}
-use Rattle.b67_word.specs.Tagged.{Tagged, word}
+use Rattle.b67_word.specs.Tagged.{word}
 use Rattle.b67_ctl.specs.declared.registers.Regs.{Regs}
-use Rattle.b67_ctl.specs.Layout.{mscw_word, rcw_word, toscw_word}
+use Rattle.b67_ctl.specs.Layout.{mscw_word, toscw_word}
 use Rattle.b67_lemmas.specs.Lists.{Has, Falls}
 use Rattle.b67_model.specs.Words as Words
-use Rattle.b67_model.specs.Common.{Word, Frame, Task, Job, SessionJob, height, is_original, is_critical, Session, IsSegment, from_frame, frames_of_task, critical_of}
+use Rattle.b67_model.specs.Common.{Word, Frame, Task, Job, SessionJob, height, is_critical, Session, IsSegment, from_frame, frames_of_task, critical_of}
 use Rattle.b67_model.specs.InOrder as InOrder
 use Rattle.b67_model.specs.State as State
 use Rattle.b67_model.specs.Keyed.{keyed}
-use Rattle.b67_layout.specs.Common.{IsInOrderButCounts, JobInOrderButCounts, Placement, Slotted, slot_of, spot_in, outer_spots, shape, head, activations, stack_of_task, slot_by, slot_at, machine_view, IsRunning, ShowsDisplay, vector_word, critical_mark, SessionHolds, RepresentsSession, RowsFit}
+use Rattle.b67_layout.specs.Common.{IsInOrderButCounts, JobInOrderButCounts, Placement, Slotted, slot_of, spot_in, outer_spots, shape, head, activations, stack_of_task, slot_by, slot_at, machine_view, IsRunning, ShowsDisplay, vector_word, critical_mark, SessionHolds, RepresentsSession}
 use Rattle.b67_lemmas.proofs.Members.{has_append_left, has_append_cases, has_map, has_map_back, keyed_falls, keyed_has, found-has}
 use Rattle.b67_stack.specs.declared.Cpu.{Cpu}
-use Rattle.b67_stack.specs.Common.{Locations, Shape, Copy, Copied, Is, Fits, LieDownward, StackPlace, Head, Marked, Entered, Activation, HeadFits, IsStack, stack_words, mark_of, return_of, headed, mark_place, words, toscw_of, MachineView, Free, Waiting, RunsOn, IsArrayAt, CopiesName, slot_base, with_slot, NoOriginalAboveTop, Storage, Represents, activations_below}
+use Rattle.b67_stack.specs.Common.{Shape, Copy, Fits, LieDownward, StackPlace, Head, Entered, Activation, IsStack, stack_words, mark_of, headed, mark_place, words, MachineView, Free, Waiting, RunsOn, CopiesName, slot_base, with_slot, NoOriginalAboveTop, Storage, Represents, activations_below}
 use Rattle.b67_stack.proofs.Heights.{words-length}
 use Rattle.b67_stack.proofs.Bases.{base-apart}
 use Rattle.b67_stack.proofs.Slots.{running_slot, running_fits, running_lies}

@@ -1,15 +1,15 @@
 -- The tables show the session with a new task once its row is appended.
-use Rattle.std.proofs.Common.{◌≡◌, ◌≢◌, ℕ, zero, suc, ◌+◌, ◌<◌, ◌≤◌, List, [], ◌∷◌, ◌++◌, map, length, Option, Some, None, refl, sym, ◌∙◌, ap, arith, inl, inr, ◌⊎◌, ⊎_elim, subst}
+use Rattle.std.proofs.Common.{◌≡◌, ◌≢◌, ℕ, zero, suc, List, [], ◌∷◌, ◌++◌, map, Option, Some, refl, sym, ◌∙◌, ap, inl, inr, ⊎_elim, subst}
 use Rattle.std.specs.List.{slice_get}
 use Rattle.std.proofs.lemmas.Bool.{cases_eq}
 use Rattle.std.proofs.lemmas.Option.{same_Some, none-some}
 use Rattle.std.proofs.lemmas.List.{map-append}
 use Rattle.b67_lemmas.specs.Lists.{Has}
-use Rattle.b67_model.specs.Common.{Condition, Ready, Awaits, WaitsAt, Task, Job, JobProgress, SessionJob, number_of, Session, NumberedFrom, frames_of_task}
+use Rattle.b67_model.specs.Common.{Condition, Ready, Awaits, WaitsAt, Task, Job, SessionJob, number_of, Session, NumberedFrom, frames_of_task}
 use Rattle.b67_model.specs.Keyed.{keyed}
 use Rattle.b67_lemmas.proofs.Members.{has_append_left, has_append_right, has_append_cases, keyed_has}
 use Rattle.b67_stack.specs.Stacks.{StackPlace}
-use Rattle.b67_layout.specs.Common.{Placement, slot_of, spot_in, base_spot, spots, address_of, RowState, WaitsAtCell, TaskRow, JobRow, JobCounts, shown, parent_slot, critical_disp, TaskShows, JobsShow, RunningRow, CountsShow, Differ, TablesShow, RowsFit}
+use Rattle.b67_layout.specs.Common.{Placement, slot_of, spot_in, base_spot, spots, address_of, WaitsAtCell, TaskRow, JobRow, JobCounts, shown, parent_slot, critical_disp, TaskShows, JobsShow, RunningRow, Differ, TablesShow}
 use Rattle.b67_layout.proofs.MachineViews.{with_course}
 use Rattle.b67_layout.proofs.Rows.{task_row}
 use Rattle.b67_task_start_stack.specs.Born.{with_task_at}

@@ -1,8 +1,7 @@
 -- The machine with one slot more stands for the session whose peak is one higher.
-use Rattle.std.proofs.Common.{◌≡◌, ◌≢◌, ℕ, ◌+◌, ◌<◌, ◌≤◌, List, [], ◌∷◌, ◌++◌, map, length, Option, Some, None, refl, sym, ◌∙◌, ap, arith, ◌==◌, inl, inr, ◌⊎◌, ⊎_elim, subst}
-use Rattle.std.specs.Prelude.{if◌then◌else◌, flat_map}
+use Rattle.std.proofs.Common.{◌≡◌, ◌≢◌, ℕ, ◌+◌, ◌<◌, ◌≤◌, List, [], ◌∷◌, ◌++◌, map, length, Option, Some, None, refl, sym, ◌∙◌, ap, arith, inl, inr, subst}
+use Rattle.std.specs.Prelude.{flat_map}
 use Rattle.std.specs.List.{slice_get}
-use Rattle.b67_word.specs.Tagged.{Tagged}
 use Rattle.b67_area.specs.declared.Kind.TheVariants as kind
 use Rattle.b67_ctl.specs.declared.registers.Regs.{Regs}
 use Rattle.b67_lemmas.specs.Lists.{Has}
@@ -10,10 +9,9 @@ use Rattle.b67_model.specs.Common.{Segment, Task, Job, SessionJob, frame_at, num
 use Rattle.b67_model.specs.Keyed.{keyed}
 use Rattle.b67_stack.specs.declared.Cpu.{Cpu}
 use Rattle.b67_stack.specs.Common.{StackPlace, PagedObject, Slot, MachineView, NoOriginalAboveTop, Storage, Represents}
-use Rattle.b67_layout.specs.Common.{Placement, Slotted, slot_of, spots, address_of, slot_in, slot_by, slot_at, code_objects, array_object, objects_of, machine_view, RowsFit, DictionariesFollow, PlanFits, RepresentsDictionary, vector_word, IsRunning, SessionHolds, RepresentsSession}
+use Rattle.b67_layout.specs.Common.{Placement, Slotted, slot_of, spots, address_of, slot_in, slot_by, slot_at, code_objects, array_object, objects_of, machine_view, DictionariesFollow, RepresentsDictionary, vector_word, IsRunning, SessionHolds, RepresentsSession}
 use Rattle.b67_layout.proofs.Rows.{slot_below}
 use Rattle.b67_layout.proofs.Sessions.{dictionary_below}
-use Rattle.b67_task_start_stack.specs.Slots.{grown}
 use Rattle.b67_task_start_stack.specs.Born.{with_peak}
 use Rattle.b67_task_start_stack.proofs.AlikePlans.{like_same, name_all, slot_with-twin, spots-twin}
 

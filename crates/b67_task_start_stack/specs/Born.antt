@@ -1,6 +1,6 @@
 -- The plan once a task was started.
 use Rattle.std.specs.Prelude.{ℕ, ◌∷◌}
-use Rattle.b67_layout.specs.Placement.{Slotted, Placement}
+use Rattle.b67_layout.specs.Placement.{Placement}
 
 -- the plan with a live task more, of a job and with a number, in slot k, where so many slots were used so far
 abbrev pub with_task_at : Placement → ℕ → ℕ → ℕ → ℕ → Placement

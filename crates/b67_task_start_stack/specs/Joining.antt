@@ -1,5 +1,5 @@
 -- A task that joins a job, and the call from which it is started.
-use Rattle.std.specs.Prelude.{◌≡◌, ◌≢◌, ℕ, ◌+◌, ◌<◌, ◌≤◌, List, [], ◌∷◌, ◌++◌, length, Option, Some, None, false}
+use Rattle.std.specs.Prelude.{◌≡◌, ◌≢◌, ℕ, ◌+◌, ◌<◌, ◌≤◌, List, [], ◌∷◌, ◌++◌, length, Some, None, false}
 use Rattle.b67_lemmas.specs.Lists.{Has}
 use Rattle.b67_model.specs.Words as Words
 use Rattle.b67_model.specs.Common.{Word, Operand, Name, Ref, Row, Element, Original, Proc, Intrinsic, Frame, Task, Job, SessionJob, number_of, is_original, Session}
@@ -8,7 +8,6 @@ use Rattle.b67_model.specs.Keyed.{keyed}
 use Rattle.b67_layout.specs.Common.{IsInOrderButCounts, Slotted, Placement, outer_spots, RowsFit, IsRunning, RepresentsSession, with_job}
 use Rattle.b67_stack.specs.declared.Cpu.{Cpu}
 use Rattle.b67_stack.specs.Common.{StackPlace, Entered, HeadFits, Storage}
-use Rattle.b67_task_start_stack.specs.Born.{with_task_at}
 
 -- a new task of a job: its number is new, and so is its slot's row; no live task has it above
 pub record Joins (plan : Placement) (jobs : List SessionJob) (m : SessionJob) (job' : Job) (child : Task) (k peak : ℕ) : Type 0 where

@@ -6,7 +6,7 @@ use Rattle.b67_area.specs.declared.Info.{Info}
 use Rattle.b67_area.specs.Spans.{area_at, cut}
 use Rattle.b67_ctl.specs.declared.registers.Regs.{Regs}
 use Rattle.b67_ctl.specs.Layout.{toscw_word}
-use Rattle.b67_stack.specs.Common.{Fits, LieDownward, Activation, IsStack, words, toscw_of, MachineView, Free, Waiting, CopiesName, slot_base, with_slot, Storage}
+use Rattle.b67_stack.specs.Common.{Fits, LieDownward, Activation, IsStack, words, toscw_of, MachineView, Free, CopiesName, slot_base, Storage}
 
 -- the view with one slot more, which no task has yet
 abbrev pub grown : MachineView → MachineView

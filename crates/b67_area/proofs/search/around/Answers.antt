@@ -1,5 +1,5 @@
-use Rattle.std.proofs.Common.{◌≡◌, ℕ, ◌+◌, ◌-◌, ◌<◌, ◌≤◌, List, [], length, refl, sym, ◌∙◌, arith, ap, inl, inr}
-use Rattle.b67_area.specs.Spans.{Span, first_hole}
+use Rattle.std.proofs.Common.{◌+◌, [], refl, arith, inl, inr}
+use Rattle.b67_area.specs.Spans.{first_hole}
 use Rattle.b67_area.specs.Words.{hole_high}
 use Rattle.b67_area.specs.Walk.{spans_top}
 use Rattle.b67_area.proofs.Walks.{first}

@@ -1,10 +1,9 @@
-use Rattle.std.proofs.Common.{◌≡◌, ℕ, ◌+◌, ◌-◌, ◌<◌, ◌≤◌, List, [], length, refl, sym, ◌∙◌, arith, ap}
+use Rattle.std.proofs.Common.{◌≡◌, ℕ, ◌+◌, List, [], refl, sym, ◌∙◌, arith, ap}
 use Rattle.b67_area.specs.Spans.{Span, first_hole}
 use Rattle.b67_area.specs.Words.{hole_high}
 use Rattle.b67_area.specs.Directory.{IsDirectory}
 use Rattle.b67_area.specs.Walk.{spans_top, FitsHole}
-use Rattle.b67_area.proofs.Cuts.{pending}
-use Rattle.b67_area.proofs.Walks.{first, on, turn, turn_end, turn_next, turn_word, NoFit-unzip, NoFit-none, low_positive}
+use Rattle.b67_area.proofs.Walks.{first, on, turn, turn_next, turn_word, NoFit-unzip, NoFit-none, low_positive}
 use Rattle.b67_area.proofs.Places.{hole_facts}
 use Rattle.b67_area.proofs.search.find_hole.Goals.{Then-from}
 use Rattle.b67_area.proofs.search.find_hole.Goals as goal

@@ -1,4 +1,4 @@
-use Rattle.std.proofs.Common.{◌≡◌, ℕ, ◌+◌, ◌-◌, List, length}
+use Rattle.std.proofs.Common.{ℕ, ◌+◌, ◌-◌, List, length}
 use Rattle.b67_area.specs.Spans.{Span}
 use Rattle.b67_area.specs.Directory.{IsDirectory}
 use Rattle.b67_area.specs.Walk.{WalkedHoles}

@@ -1,8 +1,8 @@
-use Rattle.std.proofs.Common.{◌≡◌, ℕ, ◌+◌, ◌-◌, ◌<◌, ◌≤◌, List, [], length, refl, sym, ◌∙◌, arith, ap, inl, inr}
+use Rattle.std.proofs.Common.{◌+◌}
 use Rattle.b67_area.specs.Spans.{first_hole}
 use Rattle.b67_area.specs.Words.{hole_high}
 use Rattle.b67_area.specs.Walk.{front, behind}
-use Rattle.b67_area.proofs.Frees.{front_hole, front_none}
+use Rattle.b67_area.proofs.Frees.{front_hole}
 use Rattle.b67_area.proofs.search.hole_at.Goals as goal
 
 pub room_of-requires : goal.room_of-requires

@@ -1,5 +1,4 @@
-use Rattle.std.proofs.Common.{◌≡◌, ◌≢◌, ◌∙◌, ap, ◌-◌, ◌+◌, ◌≤◌, ◌<◌, sym, arith, Some, List, length, ℕ}
-use Rattle.std.specs.List.{slice_get}
+use Rattle.std.proofs.Common.{◌≡◌, ◌∙◌, ap, ◌+◌, sym, arith, Some, ℕ}
 use Rattle.b67_area.proofs.Keeps.{next_in, next_end, next_area_here, next_hole_here}
 use Rattle.b67_area.proofs.search.next_area.Goals as goal
 

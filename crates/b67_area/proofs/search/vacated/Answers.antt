@@ -1,10 +1,9 @@
-use Rattle.std.proofs.Common.{◌≡◌, ℕ, ◌+◌, ◌-◌, ◌<◌, ◌≤◌, List, [], Some, length, refl, sym, ◌∙◌, arith, ap, inl, inr, subst}
+use Rattle.std.proofs.Common.{◌≡◌, ℕ, ◌+◌, ◌-◌, List, Some, sym, ◌∙◌, arith, ap, subst}
 use Rattle.b67_area.specs.declared.kinds.Info.{Info}
-use Rattle.b67_area.specs.declared.search.Vacancy.{Vacancy}
 use Rattle.b67_area.specs.Spans.{Span, first_hole, area_at}
 use Rattle.b67_area.specs.Directory.{IsDirectory}
-use Rattle.b67_area.specs.Walk.{Around, LeavesHole, IsArea, IsAbove, front, behind, link_place, link_high}
-use Rattle.b67_area.proofs.Climbs.{area_at-low, find_area, is_area, is_above, found_area}
+use Rattle.b67_area.specs.Walk.{Around, LeavesHole, IsAbove, front, behind, link_place, link_high}
+use Rattle.b67_area.proofs.Climbs.{area_at-low, is_above, found_area}
 use Rattle.b67_area.proofs.Frees.{front_next, leaves, vacates}
 use Rattle.b67_area.proofs.search.vacated.Goals.{After-around-r, After-hole_at-t}
 use Rattle.b67_area.proofs.search.vacated.Goals as goal

@@ -1,6 +1,5 @@
 use Rattle.std.proofs.Common.{◌≡◌, ℕ, sym, ◌∙◌, ap, subst, refl, inl, inr, Ok, Err, ◌∷◌, arith}
 use Rattle.b67_word.specs.Tagged.{Tagged, word}
-use Rattle.b67_word.specs.declared.faults.Fault.{Fault}
 use Rattle.b67_word.specs.declared.faults.Fault.TheVariants.{MemoryProtect}
 use Rattle.std.specs.Prelude.{if◌then◌else◌}
 use Rattle.b67_model.specs.Common.{◌>>=◌, Operand, store_at, in_order, follow}

@@ -1,5 +1,4 @@
-use Rattle.std.proofs.Common.{ℕ, List, ◌≡◌, ◌∙◌, ap, sym}
-use Rattle.b67_gen.proofs.Drawing.{lengths_go_on, lengths_end}
+use Rattle.b67_gen.proofs.Drawing.{lengths_go_on}
 use Rattle.b67_gen.proofs.stores.draw_lengths.Goals as goal
 
 pub arrays-preserved : goal.arrays-preserved

@@ -1,4 +1,4 @@
-use Rattle.std.proofs.Common.{◌+◌, ◌-◌, refl, ◌∙◌, ap}
+use Rattle.std.proofs.Common.{◌+◌, refl, ◌∙◌, ap}
 use Rattle.b67_layout.specs.Layout.{machine_view}
 use Rattle.b67_refer.specs.declared.activation.Activation.{Activation}
 use Rattle.b67_task_start_stack.specs.Born.{with_peak}

@@ -1,6 +1,4 @@
-use Rattle.std.proofs.Common.{sym, ◌∙◌, ap, arith, ℕ, subst}
-use Rattle.b67_stack.specs.Represents.{RepresentsRunning}
-use Rattle.b67_stack.proofs.Slots.{running_slot}
+use Rattle.std.proofs.Common.{ap, arith}
 use Rattle.b67_stack.proofs.Tops.{mark_before}
 use Rattle.b67_task_start_stack.proofs.children.mark_disp.Goals as goal
 

@@ -1,6 +1,6 @@
-use Rattle.std.proofs.Common.{◌≡◌, ◌∙◌, ap, ◌-◌, ◌+◌, ◌≤◌, sym, subst, ℕ, List}
+use Rattle.std.proofs.Common.{◌≡◌, ◌∙◌, ap, ◌+◌, sym, subst, ℕ}
 use Rattle.b67_area.specs.Walk.{IsAbove}
-use Rattle.b67_area.specs.Spans.{first_area, Span}
+use Rattle.b67_area.specs.Spans.{first_area}
 use Rattle.b67_area.proofs.Keeps.{area_here, above_here}
 use Rattle.b67_area.proofs.directory.Areas.after.Goals as goal
 

@@ -1,6 +1,5 @@
-use Rattle.std.proofs.Common.{◌≡◌, ◌≢◌, ◌∙◌, ap, ◌-◌, ◌+◌, ◌≤◌, sym, arith, List, length}
+use Rattle.std.proofs.Common.{◌≡◌, ◌-◌, arith, length}
 use Rattle.b67_area.specs.Spans.{first_hole}
-use Rattle.b67_area.specs.Directory.{IsDirectory}
 use Rattle.b67_area.proofs.Walks.{first}
 use Rattle.b67_area.proofs.Raises.{low_inside, cleared, clear_other}
 use Rattle.b67_area.proofs.directory.Areas.clear.Goals as goal

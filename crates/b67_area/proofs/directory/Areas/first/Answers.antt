@@ -1,5 +1,3 @@
-use Rattle.b67_area.specs.Spans.{Span}
-use Rattle.b67_area.specs.Directory.{IsDirectory}
 use Rattle.b67_area.proofs.Keeps.{all_above}
 use Rattle.b67_area.proofs.directory.Areas.first.Goals as goal
 

@@ -1,9 +1,4 @@
-use Rattle.std.proofs.Common.{◌≡◌, ℕ, ◌+◌, ◌-◌, ◌<◌, ◌≤◌, ◌^◌, List, [], Some, length, refl, sym, ◌∙◌, arith, ap, inl, inr, subst, slice_set}
-use Rattle.b67_area.specs.declared.kinds.Info.{Info}
-use Rattle.b67_area.specs.Spans.{Span, first_hole, area_at, without}
-use Rattle.b67_area.specs.Words.{link_word, hole_high}
-use Rattle.b67_area.specs.Directory.{IsDirectory}
-use Rattle.b67_area.specs.Walk.{link_high, with_hole, LeavesHole}
+use Rattle.b67_area.specs.Walk.{link_high}
 use Rattle.b67_area.proofs.Frees.{below_hole, leaves_link, freed_alone, outside_alone, freed_joined, outside_joined}
 use Rattle.b67_area.proofs.Laws.{area_at-without}
 use Rattle.b67_area.proofs.directory.Areas.free.Goals as goal

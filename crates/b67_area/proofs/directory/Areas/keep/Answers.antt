@@ -1,7 +1,3 @@
-use Rattle.std.proofs.Common.{◌≡◌, ◌∙◌, ap, ◌-◌, ◌+◌, ◌≤◌, slice_set, List}
-use Rattle.b67_word.specs.Tagged.{Tagged}
-use Rattle.b67_area.specs.declared.kinds.Info.{Info}
-use Rattle.b67_area.specs.Words.{link_word}
 use Rattle.b67_area.proofs.Keeps.{area_here, keeps, keeps_outside}
 use Rattle.b67_area.proofs.Laws.{area_at-keeping}
 use Rattle.b67_area.proofs.directory.Areas.keep.Goals as goal

@@ -1,6 +1,6 @@
-use Rattle.std.proofs.Common.{◌≡◌, ℕ, ◌+◌, ◌-◌, ◌<◌, ◌≤◌, List, length, refl, sym, ◌∙◌, ap, arith, Some, None, slice_set, lit<}
-use Rattle.b67_area.specs.Spans.{Span, address, fresh, spot, fill}
-use Rattle.b67_area.specs.Words.{link_word, head_word, tail_word}
+use Rattle.std.proofs.Common.{◌≡◌, ◌+◌, ◌-◌, List, sym, ap, arith, slice_set, lit<}
+use Rattle.b67_area.specs.Spans.{Span, address, fresh}
+use Rattle.b67_area.specs.Words.{head_word, tail_word}
 use Rattle.b67_area.specs.Directory.{IsDirectory, IsInfo}
 use Rattle.b67_area.specs.Walk.{link_high, with_hole}
 use Rattle.b67_area.proofs.Holes.{spot-none, fill-none}

@@ -1,10 +1,8 @@
-use Rattle.std.proofs.Common.{◌≡◌, ◌≢◌, ◌∙◌, ap, ◌-◌, ◌+◌, ◌≤◌, ◌<◌, ◌^◌, sym, arith, List, length, refl, ℕ}
-use Rattle.b67_word.specs.Tagged.{Tagged}
-use Rattle.b67_area.specs.Spans.{Span, first_hole}
-use Rattle.b67_area.specs.Words.{link_word, hole_high}
-use Rattle.b67_area.specs.Directory.{IsDirectory}
+use Rattle.std.proofs.Common.{◌≡◌, ◌∙◌, ap, ◌-◌, ◌+◌, arith, ℕ}
+use Rattle.b67_area.specs.Spans.{first_hole}
+use Rattle.b67_area.specs.Words.{hole_high}
 use Rattle.b67_area.specs.Walk.{with_hole}
-use Rattle.b67_area.proofs.Raises.{Free, Front, front_here, raised, raise_outside}
+use Rattle.b67_area.proofs.Raises.{front_here, raised, raise_outside}
 use Rattle.b67_area.proofs.Laws.{area_at-raised}
 use Rattle.b67_area.proofs.directory.Areas.raise.Goals as goal
 

@@ -1,12 +1,10 @@
-use Rattle.std.proofs.Common.{◌≡◌, ◌≢◌, ℕ, ◌+◌, ◌-◌, ◌^◌, ◌<◌, ◌≤◌, ◌∙◌, sym, ap, subst, arith, Some, List, length, slice_set}
-use Rattle.std.specs.List.{slice_get}
+use Rattle.std.proofs.Common.{◌≡◌, ◌+◌, ◌-◌, ◌^◌, ◌<◌, ◌≤◌, ◌∙◌, sym, ap, arith, Some, List, length, slice_set}
 use Rattle.b67_area.specs.declared.kinds.Info.{Info}
 use Rattle.b67_area.specs.Spans.{Span, area_at}
 use Rattle.b67_area.specs.Directory.{IsDirectory}
 use Rattle.std.proofs.lemmas.Option.{same_Some}
 use Rattle.b67_area.specs.Words.{head_word, tail_word}
 use Rattle.b67_area.specs.Walk.{link_high, with_hole}
-use Rattle.b67_area.proofs.Climbs.{area_at-low}
 use Rattle.b67_area.proofs.Keeps.{area_here}
 use Rattle.b67_area.proofs.Frees.{leaves_link}
 use Rattle.b67_area.proofs.Shrinks.{bounds, shrinks, shrinks_outside, area_at-shortened}
