@@ -8,7 +8,7 @@ use Rattle.b67_area.specs.declared.Kind.TheVariants.{Code}
 use Rattle.b67_ctl.specs.declared.registers.Regs.{Regs}
 use Rattle.b67_lemmas.specs.Lists.{Has}
 use Rattle.b67_model.specs.Words as Words
-use Rattle.b67_model.specs.Common.{Word, Operand, Name, Ref, Element, Original, Proc, Intrinsic, Frame, Task, Job, SessionJob, top, with_top_cells, height, is_original}
+use Rattle.b67_model.specs.Common.{Word, Operand, Name, Ref, Element, Original, Proc, Intrinsic, Frame, Job, SessionJob, top, with_top_cells, height, is_original}
 use Rattle.b67_model.specs.State as State
 use Rattle.b67_stack.specs.Shapes as Shapes
 use Rattle.b67_stack.specs.Common.{Shape, Fits, StackPlace, Activation, PagedObject, MachineView, NoOriginalAboveTop, RunsOn, IsArrayAt, Storage, Represents, with_stack, stack_with_cells, top_cells, MayPush}

@@ -9,7 +9,6 @@ use Rattle.std.proofs.lemmas.List.{length-map, reverse-append}
 use Rattle.b67_word.specs.Tagged.{Tagged}
 use Rattle.b67_lemmas.specs.Lists.{Has, Falls, total}
 use Rattle.b67_lemmas.proofs.Members.{all_from, falls_more, falls_once, total_append, has_map, has_map_back, has_filter, has_append_right, length_filter}
-use Rattle.b67_model.specs.Words as Words
 use Rattle.b67_model.specs.Common.{Array, Task, SessionJob, is_ready, live_tasks, IsSegment, IsInOrderButPlaces, SettingInOrder, DictionaryWords, rows_after, EntryInOrder, TaskInOrder, TasksInOrder, JobInOrder, frames_in_job, originals_of}
 use Rattle.b67_stack.specs.Common.{StackPlace, Activation, words, stack_words}
 use Rattle.b67_stack.proofs.Heights.{words-length}

@@ -12,7 +12,7 @@ use Rattle.b67_model.specs.Common.{Word, Operand, Name, Ref, Row, Element, Origi
 use Rattle.b67_law_order.proofs.Looks.{above_one}
 use Rattle.b67_law_order.proofs.Numbered.{keyed_member}
 use Rattle.b67_stack.specs.Shapes as Shapes
-use Rattle.b67_stack.specs.Common.{Shape, Copied, Fits, LieDownward, StackPlace, Head, Marked, Entered, Activation, stack_words, headed, words, MachineView, stack_of, slot_base, Storage, Represents}
+use Rattle.b67_stack.specs.Common.{Shape, Fits, LieDownward, StackPlace, Head, Marked, Entered, Activation, stack_words, headed, words, MachineView, stack_of, slot_base, Storage, Represents}
 use Rattle.b67_stack.proofs.Bases.{base-apart}
 use Rattle.b67_stack.proofs.Heights.{words-length}
 use Rattle.b67_stack.proofs.Lies.{Lie-under}

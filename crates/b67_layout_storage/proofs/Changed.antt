@@ -1,5 +1,5 @@
 -- A machine in which one object has other numbers, as many or not, and is held otherwise.
-use Rattle.std.proofs.Common.{◌≡◌, ◌≢◌, ℕ, ◌+◌, ◌<◌, ◌≤◌, ◌^◌, List, [], length, map, Option, Some, None, refl, sym, ◌∙◌, ap, arith, inl, inr, ◌⊎◌, ⊎_elim, subst}
+use Rattle.std.proofs.Common.{◌≡◌, ◌≢◌, ℕ, ◌<◌, ◌≤◌, ◌^◌, List, [], length, Option, Some, sym, ◌∙◌, ap, arith, inl, inr, ◌⊎◌, ⊎_elim, subst}
 use Rattle.std.specs.List.{slice_get}
 use Rattle.std.proofs.lemmas.Bool.{cases_eq}
 use Rattle.std.proofs.lemmas.Option.{same_Some}
@@ -11,9 +11,9 @@ use Rattle.b67_area.specs.Directory.{IsDirectory}
 use Rattle.b67_backing.specs.Shelf.{Shelf, chain_of}
 use Rattle.b67_lemmas.specs.Lists.{Has}
 use Rattle.b67_ctl.specs.declared.registers.Regs.{Regs}
-use Rattle.b67_stack.specs.Common.{Location, PagedObject, MachineView, Slot, Free, Running, Waiting, SlotFits, IsArrayAt, IsLaidOut, slot_base, home_word, Storage, RepresentsSlot, RepresentsSlots, StacksLie, RepresentsObjects, RepresentsObject, Content, Owned, info_of, Represents, with_held, TakesPlace}
+use Rattle.b67_stack.specs.Common.{Location, PagedObject, MachineView, Slot, Free, Running, Waiting, SlotFits, IsArrayAt, IsLaidOut, slot_base, home_word, Storage, RepresentsSlot, StacksLie, RepresentsObjects, RepresentsObject, Content, Owned, info_of, Represents, with_held, TakesPlace}
 use Rattle.b67_stack.proofs.Helds.{held-other, held-same}
-use Rattle.b67_stack.proofs.Reheld.{slot_same, ObjectStays, Content-stays, storage_with, info_with}
+use Rattle.b67_stack.proofs.Reheld.{ObjectStays, Content-stays, storage_with, info_with}
 
 -- what is to be shown
 pub record Changed (x : Storage) (core new : List Tagged) (p : MachineView) (t t' : PagedObject) (h : Location) (spans : List Span) (shelf : Shelf) (device : Option (List (List ℕ))) : Type 0 where

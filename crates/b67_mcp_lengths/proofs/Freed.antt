@@ -1,5 +1,5 @@
 -- The hole that an area leaves has room for it.
-use Rattle.std.proofs.Common.{◌≡◌, ℕ, ◌+◌, ◌≤◌, ◌==◌, Bool, true, false, List, [], ◌∷◌, Option, Some, None, inl, inr, ⊎_elim, refl, sym, ap, arith, subst}
+use Rattle.std.proofs.Common.{◌≡◌, ℕ, ◌+◌, ◌≤◌, ◌==◌, Bool, true, false, List, [], ◌∷◌, Some, inl, inr, ⊎_elim, arith, subst}
 use Rattle.std.specs.Prelude.{if◌then◌else◌}
 use Rattle.b67_area.specs.declared.kinds.Info.{Info}
 use Rattle.b67_area.specs.Spans.{Span, Area, Hole, join, without, area_at}

@@ -11,7 +11,7 @@ use Rattle.b67_lemmas.proofs.Members.{has_flat, has_flat_back, has_map, has_map_
 use Rattle.b67_model.specs.Common.{Task, SessionJob, number_of, Session}
 use Rattle.b67_model.specs.Keyed.{keyed}
 use Rattle.b67_law_order.proofs.Numbered.{keyed_member}
-use Rattle.b67_layout.specs.Common.{IsInOrderButCounts, Placement, slot_of, Differ, TablesShow, RowsFit}
+use Rattle.b67_layout.specs.Common.{IsInOrderButCounts, Placement, slot_of, Differ, RowsFit}
 use Rattle.b67_layout.specs.Rows as rows
 use Rattle.b67_layout.proofs.Common.{not_more, slots_of, jobs_differ}
 use Rattle.b67_task_tables.specs.declared.tables.TaskRow.{TaskRow}

@@ -2,7 +2,6 @@
 use Rattle.std.proofs.Common.{◌≡◌, ◌≢◌, ◌≤◌, ℕ, length, Result, Err, ap, ◌∙◌, arith}
 use Rattle.b67_backing.specs.Shelf.{Table}
 use Rattle.b67_io.specs.Causes.{Rose}
-use Rattle.b67_task_tables.specs.declared.tables.Tasks.{Tasks}
 use Rattle.b67_task_tables.specs.declared.tables.Machine.{Machine}
 use Rattle.b67_task_tables.specs.Tables.{given_of}
 use Rattle.b67_session.specs.AttemptPassed.{CallCauses}

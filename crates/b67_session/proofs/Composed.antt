@@ -5,7 +5,7 @@ use Rattle.b67_word.specs.declared.faults.Ending.{Ending}
 use Rattle.b67_word.specs.declared.faults.Ending.TheVariants.{Faulted}
 use Rattle.b67_word.specs.declared.faults.Fault.TheVariants.{InvalidOperator}
 use Rattle.b67_backing.specs.Held.{Becomes}
-use Rattle.b67_model.specs.Common.{Answer, Done, Ready, Task, SessionJob, touched_of, sectors, need, number_of, Session}
+use Rattle.b67_model.specs.Common.{Answer, Done, Ready, Task, SessionJob, touched_of, need, number_of, Session}
 use Rattle.b67_model.specs.Keyed.{keyed}
 use Rattle.b67_layout.specs.Common.{IsInOrderButCounts, Placement, IsRunning, area_held}
 use Rattle.b67_stack.specs.declared.What.{What}

@@ -27,7 +27,7 @@ use Rattle.b67_task_switch.specs.Counted.{choice_of, CountsHaveRoom}
 use Rattle.b67_law_order.proofs.FewMade.{made_few, all_few}
 use Rattle.b67_session.specs.AttemptPassed.{IsCalled, WaitsSo, printed_text}
 use Rattle.b67_session.specs.Tries.{EndsSo}
-use Rattle.b67_session.specs.Attempts.{EndsWithin, StillStands}
+use Rattle.b67_session.specs.Attempts.{StillStands}
 use Rattle.b67_session.proofs.Composed.{ends_exact}
 use Rattle.b67_session.specs.AttemptStops.{Stop}
 use Rattle.b67_session.specs.declared.outcomes.Attempt.{Attempt}

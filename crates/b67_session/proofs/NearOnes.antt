@@ -1,6 +1,5 @@
 -- A near operator that was made by its reader, or not.
 use Rattle.std.proofs.Common.{◌≡◌, ◌≢◌, length, Bool, true, false, refl, sym, ap, subst}
-use Rattle.b67_layout.specs.Common.{ForEach}
 use Rattle.b67_stack.specs.declared.Cpu.{Cpu}
 use Rattle.b67_stack.specs.declared.Step.TheVariants as answers
 use Rattle.b67_exec.specs.declared.reader.Reader.{Reader}

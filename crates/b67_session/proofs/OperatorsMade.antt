@@ -1,5 +1,5 @@
 -- What an operator answered and left, in the whole machine.
-use Rattle.std.proofs.Common.{◌≡◌, ◌≢◌, ℕ, List, [], map, length, Option, Some, None, Ok, Err, refl, sym, ◌∙◌, ap, ◌+◌, false, inl, inr, ⊎_elim, subst}
+use Rattle.std.proofs.Common.{◌≡◌, ◌≢◌, ℕ, List, [], map, length, Option, Some, None, Ok, Err, refl, sym, ◌∙◌, ap, false, inl, inr, ⊎_elim, subst}
 use Rattle.std.proofs.lemmas.Option.{none-some}
 use Rattle.b67_word.specs.declared.couples.Place.{Place}
 use Rattle.b67_model.specs.declared.operators.Op.{Op}

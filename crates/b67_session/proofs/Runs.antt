@@ -1,5 +1,5 @@
 -- A machine of which a ready task runs; and causes of what two calls answered.
-use Rattle.std.proofs.Common.{◌≡◌, ◌≢◌, ℕ, ◌≤◌, List, length, Option, Result, Ok, Err, sym, ◌∙◌, arith, ap, subst}
+use Rattle.std.proofs.Common.{◌≡◌, ◌≢◌, ℕ, ◌≤◌, List, length, Option, Result, Ok, Err, ◌∙◌, arith, ap}
 use Rattle.b67_io.specs.Causes.{Rose}
 use Rattle.b67_mcp.specs.declared.ends.Stop.{Stop}
 use Rattle.b67_mcp.specs.declared.ends.Stop.TheVariants.{BackingFault, PrintFault}
@@ -7,7 +7,6 @@ use Rattle.b67_mcp.specs.Running.{CallCauses}
 use Rattle.b67_task_tables.specs.Runs.{Keeps}
 pub use Rattle.b67_task_tables.proofs.Keeping.{keeps_then}
 use Rattle.b67_task_tables.specs.declared.tables.Machine.{Machine}
-use Rattle.b67_task_tables.specs.declared.tables.Tasks.{Tasks}
 use Rattle.b67_task_tables.specs.Tables.{given_of}
 use Rattle.b67_session.specs.Tries.{ReadyRuns}
 use Rattle.b67_session.specs.Attempts.{RunsOver}

@@ -3,7 +3,7 @@ use Rattle.std.proofs.Common.{◌≢◌, ◌⊎◌, inl, inr, List, [], ◌∷�
 use Rattle.b67_model.specs.Schedule.{Session}
 use Rattle.b67_task_tables.specs.declared.tables.TaskRow.{TaskRow}
 use Rattle.b67_task_tables.specs.declared.tables.Machine.{Machine}
-use Rattle.b67_session.specs.Slices.{StandsAt, LivesOn, StandsLimited, HasNoTasks, IsOpen}
+use Rattle.b67_session.specs.Slices.{StandsAt, LivesOn, StandsLimited, HasNoTasks}
 use Rattle.b67_session.specs.Shaped.{IsShaped}
 use Rattle.b67_session.proofs.Shaping.{stands_untold}
 

@@ -54,7 +54,7 @@ use Rattle.b67_session.proofs.Still.{operator_many, operator_starts}
 use Rattle.b67_session.proofs.Trying.{was_made}
 use Rattle.b67_session_ends.proofs.Counted.{alike_refl, same_refl}
 use Rattle.b67_session.specs.InTurn.{HasTurnLeft, MadeInTurn}
-use Rattle.b67_session.specs.Slices.{StandsAt, NextFits, StepsFit}
+use Rattle.b67_session.specs.Slices.{StandsAt, NextFits}
 use Rattle.b67_session.specs.Steps.{GoesOnInTurn}
 use Rattle.b67_session.proofs.Fitting.{fits_more}
 use Rattle.b67_session.proofs.Halved.{kept}

@@ -12,7 +12,7 @@ abbrev pub IsShaped : Machine → Type 0
 IsShaped k = IsOpen None k
 
 -- What every slice leaves, whatever it answers: another slice may be asked for; the machine represents some session, also if
--- the device gave back what was never written; its size, the halt and the jobs' names are as they were. Each failure
+-- the device gave back what was never written; its size and what the deck gave are as they were. Each failure
 -- has its cause, and the device is as calls leave it
 pub record SliceLeaves {A D K : Type 0} (holds : D → Option (List (List ℕ))) (size calls faults : D → ℕ) (failed : K → ℕ) (answered : Result A Stop) (old new : Machine) (device device' : D) (paper paper' : K) : Type 0 where
   pub goes_on : IsOpen (holds device') new

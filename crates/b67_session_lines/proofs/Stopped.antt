@@ -1,5 +1,5 @@
 -- A run that has come so far, and how it stops.
-use Rattle.std.proofs.Common.{◌≡◌, ◌+◌, ◌-◌, ℕ, suc, List, [], ◌++◌, arith}
+use Rattle.std.proofs.Common.{◌≡◌, ◌+◌, ℕ, suc, List, ◌++◌, arith}
 use Rattle.b67_model.specs.Common.{Session, run_text, lines, after}
 use Rattle.b67_session_lines.specs.Stops.{Run, StopsWith}
 

@@ -1,5 +1,5 @@
 -- The session that a deck and its programs open.
-use Rattle.std.specs.Prelude.{ℕ, ℤ, ◌^◌, ◌<◌, ◌≤◌, nat_abs, IsTrue, List, [], ◌∷◌, length, map}
+use Rattle.std.specs.Prelude.{ℤ, ◌^◌, ◌<◌, ◌≤◌, nat_abs, IsTrue, List, [], ◌∷◌, length, map}
 use Rattle.std.specs.List.{AllByRecursion, list_all}
 use Rattle.std.specs.Char.{is_ascii}
 use Rattle.b67_model_text.specs.declared.deck.Deck.{Deck}
@@ -9,7 +9,6 @@ use Rattle.b67_codefile.specs.Spelling.{IsWithin}
 use Rattle.b67_codefile.specs.Meaning.{program_of}
 use Rattle.b67_model.specs.Common.{IsAdmitted, Program, Session, SwitchesRise}
 use Rattle.b67_law_order.specs.Opening.{Opening, opening}
-use Rattle.b67_task_tables.specs.declared.tables.JobRow.{JobRow}
 use Rattle.b67_task_tables.specs.Tables.{switch_of, JobGiven, Given}
 pub use Rattle.b67_task_tables.specs.Tables.{IsCountable, job_given, rows_given, given_of}
 

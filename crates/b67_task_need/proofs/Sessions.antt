@@ -16,7 +16,7 @@ use Rattle.b67_model.specs.Keyed.{keyed}
 use Rattle.b67_layout.specs.Common.{IsInOrderButCounts, Slotted, Placement, slot_of, spot_in, outer_spots, shape, head, activations, stack_of_task, slot_by, slot_at, array_object, code_objects, objects_of, machine_view, DictionariesFollow, RepresentsSession}
 use Rattle.b67_stack.specs.declared.Cpu.{Cpu}
 use Rattle.b67_stack.specs.Shapes as Shapes
-use Rattle.b67_stack.specs.Common.{Location, StackPlace, Activation, Head, headed, stack_words, words, PagedObject, stack_of, slot_base, address_or, Storage, info_of}
+use Rattle.b67_stack.specs.Common.{StackPlace, Activation, Head, headed, stack_words, words, PagedObject, stack_of, slot_base, address_or, Storage, info_of}
 use Rattle.b67_stack.proofs.Heights.{words-length}
 use Rattle.b67_stack.proofs.Homes.{chain_small}
 use Rattle.b67_layout.proofs.Common.{task_row, slot_below, job_in_order, follow-up, stack_in_slot, entry_number, slots_of, jobs_differ}

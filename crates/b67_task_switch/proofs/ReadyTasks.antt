@@ -8,7 +8,7 @@ use Rattle.b67_lemmas.proofs.Members.{all_in, falls_low, has_append_cases, has_f
 use Rattle.b67_lemmas.proofs.Places.{at_mapped, has_at, mapped_at}
 use Rattle.b67_model.specs.Common.{Condition, Ready, Awaits, WaitsAt, Task, Job, SessionJob, Who, Session, is_before, ready_of, ready, JobInOrder, IsSegment, NumberedFrom, IsInOrderButPlaces}
 use Rattle.b67_model.specs.Endings as model
-use Rattle.b67_layout.specs.Common.{Placement, IsReady, AwaitsTask, WaitsAtCell, shown, TaskShows, TablesShow}
+use Rattle.b67_layout.specs.Common.{Placement, shown, TablesShow}
 use Rattle.b67_layout.specs.Rows as rows
 use Rattle.b67_task_tables.specs.declared.tables.TaskState.{TaskState}
 use Rattle.b67_task_tables.specs.declared.tables.TaskState.TheVariants as code

@@ -1,5 +1,5 @@
 -- What calls keep, one after the other, and what is kept where nothing has changed.
-use Rattle.std.proofs.Common.{◌≡◌, ℕ, ◌<◌, ◌^◌, List, length, Some, refl, sym, ◌∙◌, ap, subst, slice_set, arith}
+use Rattle.std.proofs.Common.{◌≡◌, ℕ, ◌<◌, ◌^◌, List, length, Some, refl, ◌∙◌, ap, subst, slice_set, arith}
 use Rattle.std.specs.List.{slice_get}
 use Rattle.b67_lemmas.specs.Lists.{Has}
 use Rattle.b67_lemmas.proofs.Members.{has_map, has_map_back}

@@ -1,9 +1,6 @@
-use Rattle.std.proofs.Common.{◌≡◌, ◌≢◌, ◌+◌, ◌-◌, length, refl, sym, ◌∙◌, subst, arith}
+use Rattle.std.proofs.Common.{◌≡◌, ◌≢◌, ◌+◌, ◌-◌, refl, ◌∙◌, arith}
 use Rattle.std.proofs.lemmas.Bool.{not-false}
-use Rattle.b67_task_tables.specs.declared.tables.Machine.{Machine}
 use Rattle.b67_exec.specs.declared.far.Went.TheVariants as wents
-use Rattle.b67_session.specs.InTurn.{HasTurnLeft}
-use Rattle.b67_session.specs.Slices.{Keeps}
 use Rattle.b67_session.proofs.Going.{keeps_on}
 use Rattle.b67_session.proofs.Turning.{turn_as, some_runs, turn_runs, turn_made, turn_stays, turn_same, turn_next, done_row}
 use Rattle.b67_session.proofs.turns.make_in_segment.Goals as goal
