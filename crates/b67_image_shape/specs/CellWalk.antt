@@ -1,6 +1,7 @@
 -- Whether cells and static links are in order, each by its word and what the tables of records and of marks have at the place that it names.
 use Rattle.std.specs.Prelude.{ℕ, zero, suc, ◌+◌, ◌-◌, ◌*◌, ◌/◌, ◌^◌, ◌<◌, ◌==◌, Bool, true, false, ◌&&◌, ◌||◌, not, nat_lt, nat_le, List, [], ◌∷◌, Option, Some, None, slice_get, slice_index, if◌then◌else◌}
 use Rattle.std.specs.List.{list_all}
+use Rattle.b67_model.specs.declared.intrinsics.TheConstants.{MOST_TASKS}
 use Rattle.b67_word.specs.Tagged.{Tagged, bits_at}
 use Rattle.b67_lemmas.specs.Lists.{Has}
 use Rattle.b67_ctl.specs.declared.marks.Mscw.{Mscw}
@@ -47,7 +48,7 @@ enters_outside k records p (suc n) disp (Some q) =
 
 -- an entered mark at a place, seen by a task from a displacement of its stack down
 unfoldable pub is_in_sight : Sight → List ℕ → TaskRow → ℕ → StackPlace → Bool
-is_in_sight k records r disp p = is_outermost r.job p || (enters_below k records p disp r || enters_outside k records p 15 r.critical (row_in_slot k.tasks r.parent))
+is_in_sight k records r disp p = is_outermost r.job p || (enters_below k records p disp r || enters_outside k records p MOST_TASKS r.critical (row_in_slot k.tasks r.parent))
 
 -- ---- cells
 

@@ -1,6 +1,7 @@
 -- What the tables of a machine and its registers keep among themselves. No word of core is spoken of.
 use Rattle.std.specs.Prelude.{◌≡◌, ◌≢◌, ℕ, ◌+◌, ◌-◌, ◌^◌, ◌<◌, ◌≤◌, ◌==◌, nat_abs, List, [], ◌∷◌, length, filter, take, drop, Option, Some, None, slice_get}
 use Rattle.std.specs.List.{AllByRecursion}
+use Rattle.b67_model.specs.declared.intrinsics.TheConstants.{MOST_TASKS}
 use Rattle.b67_lemmas.specs.Lists.{Has, total}
 use Rattle.b67_model.specs.Keyed.{keyed}
 use Rattle.b67_model.specs.Common.{Switch, SwitchesRise}
@@ -34,7 +35,7 @@ JobGoesOn row (r ∷ more) = (row.made < row.limit) × ((q : TaskRow) × Has (r 
 
 -- a job's own counts
 pub record JobFacts (tasks : List TaskRow) (job : ℕ) (row : JobRow) : Type 0 where
-  pub few : length (rows_in tasks job) ≤ 15
+  pub few : length (rows_in tasks job) ≤ MOST_TASKS
   pub reads : AllByRecursion (λ n. nat_abs n < 2 ^ 39) (drop row.next_number row.numbers)
   pub limit : row.limit ≤ 100000000
   pub next : row.next_task ≤ row.made + 2

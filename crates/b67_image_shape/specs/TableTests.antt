@@ -1,6 +1,7 @@
 -- Tests of the tables and registers.
 use Rattle.std.specs.Prelude.{ℕ, ℤ, ◌+◌, ◌-◌, ◌^◌, ◌==◌, Bool, true, false, ◌&&◌, ◌||◌, not, nat_lt, nat_le, nat_abs, List, [], ◌∷◌, length, take, drop, Option, Some, None, slice_get}
 use Rattle.std.specs.List.{list_any, list_all}
+use Rattle.b67_model.specs.declared.intrinsics.TheConstants.{MOST_TASKS}
 use Rattle.b67_lemmas.specs.Lists.{total}
 use Rattle.b67_model.specs.Common.{Switch}
 use Rattle.b67_layout.specs.Rows.{RowState, IsReady, AwaitsTask, WaitsAtCell, TaskRow, JobRow, no_row}
@@ -36,7 +37,7 @@ is_read n = nat_lt (nat_abs n) (2 ^ 39)
 
 abbrev pub job_test : List TaskRow → ℕ → JobRow → Bool
 job_test tasks job row =
-    nat_le (length (rows_in tasks job)) 15
+    nat_le (length (rows_in tasks job)) MOST_TASKS
     && (list_all is_read (drop row.next_number row.numbers)
     && (nat_le row.limit 100000000 && (nat_le row.next_task (row.made + 2) && (nat_le row.made row.limit && may_go_on row (rows_in tasks job)))))
 

@@ -1,5 +1,6 @@
 -- What made each word, mark and return of a state.
 use Rattle.std.specs.Prelude.{◌≡◌, ℕ, ◌⊎◌, List, Option, Some, None, Ok}
+use Rattle.b67_model.specs.declared.intrinsics.TheConstants.{ARRAYDEC, PROCESS}
 use Rattle.b67_model.specs.declared.operators.Op.{Op}
 use Rattle.b67_model.specs.declared.operators.Op.TheVariants.{Valc, Namc, Mpcw, Plain}
 use Rattle.b67_model.specs.declared.operators.Code.TheVariants.{Mkst, Entr, Retn, Stff, Load, Indx, Stod, Ston}
@@ -15,7 +16,7 @@ OperatorMakes op call (Name couple) = op ≡ Namc couple
 OperatorMakes op call (Ref frame offset) = op ≡ Plain Stff
 OperatorMakes op call (Row array) = op ≡ Plain Load
 OperatorMakes op call (Element array index) = op ≡ Plain Indx
-OperatorMakes op call (Original array) = (op ≡ Plain Entr) × (call ≡ Some 8)
+OperatorMakes op call (Original array) = (op ≡ Plain Entr) × (call ≡ Some ARRAYDEC)
 OperatorMakes op call (Proc segment level place) = (bits : ℕ) × (op ≡ Mpcw bits) × (proc_of bits ≡ Proc segment level place)
 OperatorMakes op call (Intrinsic number) = ⊥
 OperatorMakes op call (Words.Segment number) = ⊥
@@ -25,7 +26,7 @@ OperatorMakes op call (Words.Segment number) = ⊥
 pub data MakesMark (op : Op) (call : Option ℕ) : Standing → Type 0 where
   by_mkst : op ≡ Plain Mkst → MakesMark op call Marked
   by_entr : {level environment : ℕ} {back : Return} → op ≡ Plain Entr → call ≡ None → MakesMark op call (Entered level environment (Some back))
-  by_process : {level environment : ℕ} → op ≡ Plain Entr → call ≡ Some 12 → MakesMark op call (Entered level environment None)
+  by_process : {level environment : ℕ} → op ≡ Plain Entr → call ≡ Some PROCESS → MakesMark op call (Entered level environment None)
   by_retn : {level environment : ℕ} {back : Return} → op ≡ Plain Retn → MakesMark op call (Entered level environment (Some back))
   by_load : {level environment : ℕ} {back : Return} → op ≡ Plain Load → MakesMark op call (Entered level environment (Some back))
   by_stod : {level environment : ℕ} {back : Return} → op ≡ Plain Stod → MakesMark op call (Entered level environment (Some back))

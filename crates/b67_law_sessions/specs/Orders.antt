@@ -1,6 +1,7 @@
 -- The order of a session between the two parts of a step: the job that made the last operator may stand at its limit.
 use Rattle.std.specs.Prelude.{◌≡◌, ◌≢◌, ℕ, ◌+◌, ◌≤◌, [], length, sum_by, IsTrue}
 use Rattle.std.specs.List.{AllByRecursion}
+use Rattle.b67_model.specs.declared.intrinsics.TheConstants.{MOST_TASKS}
 use Rattle.b67_lemmas.specs.Lists.{Has}
 use Rattle.b67_model.specs.Common.{Task, JobConstants, JobProgress, SessionJob, Settled, is_ready, Session, live_tasks, IsSegment, SettingInOrder, TasksInOrder, CountsInOrder, BelowLimit, NumberedFrom, SwitchesRise}
 
@@ -27,6 +28,6 @@ pub record IsInOrderButLimit (s : Session) : Type 0 where
 pub record SettlesInOrder (constants : JobConstants) (c : JobProgress) (alive : ℕ) (made : Settled) : Type 0 where
   pub tasks : TasksInOrder (IsSegment constants) constants made.job
   pub next : made.job.next_task ≤ c.job.next_task + 1
-  pub few : alive ≤ 15
+  pub few : alive ≤ MOST_TASKS
   pub fewer : length made.job.tasks ≤ alive
   pub ready : made.job.tasks ≢ [] → (t : Task) × Has made.job.tasks t × IsTrue (is_ready t)

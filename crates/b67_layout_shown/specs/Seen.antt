@@ -1,5 +1,6 @@
 -- The marks in a task's reach, as places in the machine's stacks: what a test looks at.
 use Rattle.std.specs.Prelude.{◌≡◌, ℕ, zero, suc, ◌+◌, ◌<◌, ◌==◌, List, [], ◌∷◌, ◌++◌, map, Option, Some, None, if◌then◌else◌}
+use Rattle.b67_model.specs.declared.intrinsics.TheConstants.{MOST_TASKS}
 use Rattle.b67_lemmas.specs.Lists.{Has}
 use Rattle.b67_model.specs.Keyed.{keyed}
 use Rattle.b67_model.specs.Common.{Task, Known, reach_of}
@@ -34,7 +35,7 @@ seen_from k job (suc n) disp (Some p) =
     seen_in p.slot (from_disp disp (stack_of_row k p)) ++ seen_from k job n p.critical (keyed (λ (q : TaskRow). q.slot) p.parent k.tasks)
 
 abbrev pub seen_by : Sight → TaskRow → List Seen
-seen_by k r = seen_in r.slot (stack_of_row k r) ++ seen_from k r.job 15 r.critical (keyed (λ (q : TaskRow). q.slot) r.parent k.tasks)
+seen_by k r = seen_in r.slot (stack_of_row k r) ++ seen_from k r.job MOST_TASKS r.critical (keyed (λ (q : TaskRow). q.slot) r.parent k.tasks)
 
 -- by their names
 abbrev pub known_seen : Sight → ℕ → Seen → Known

@@ -2,6 +2,7 @@
 -- number and its mark's displacement in the slot, an array by those of its original, a data row by its place in the dictionary.
 -- What the machine doesn't say is 0: levels and entries of segments, code and numbers that aren't in core, how tasks ended.
 use Rattle.std.specs.Prelude.{ℕ, zero, suc, ◌+◌, ◌-◌, ◌*◌, ◌/◌, ◌%◌, ◌^◌, ◌==◌, Bool, true, false, nat_lt, List, [], ◌∷◌, ◌++◌, map, filter, flat_map, drop, replicate, Option, Some, None, if◌then◌else◌}
+use Rattle.b67_model.specs.declared.intrinsics.TheConstants.{MOST_TASKS}
 use Rattle.b67_word.specs.Tagged.{Tagged, bits_at}
 use Rattle.b67_word.specs.declared.couples.Place.{Place}
 use Rattle.b67_ctl.specs.declared.registers.Regs.{Regs}
@@ -114,7 +115,7 @@ parents_by tasks (suc n) None = []
 parents_by tasks (suc n) (Some r) = r.number ∷ parents_by tasks n (keyed (λ (r : TaskRow). r.slot) r.parent tasks)
 
 abbrev pub parents_in : List TaskRow → ℕ → List ℕ
-parents_in tasks parent = parents_by tasks 15 (keyed (λ (r : TaskRow). r.slot) parent tasks)
+parents_in tasks parent = parents_by tasks MOST_TASKS (keyed (λ (r : TaskRow). r.slot) parent tasks)
 
 -- the name of the activation record that the parent may not leave
 abbrev pub critical_by : List TaskRow → ℕ → Option TaskRow → ℕ

@@ -1,6 +1,7 @@
 -- What the call of an intrinsic answers, prints and leaves.
 use Rattle.std.specs.Prelude.{◌≡◌, ◌≢◌, ℕ, ◌+◌, ◌-◌, ◌<◌, ◌≤◌, ◌⊎◌, List, [], ◌∷◌, length, slice_get, Option, Some, None, Result, Ok, Err}
 use Rattle.b67_lemmas.specs.Lists.{Has}
+use Rattle.b67_model.specs.declared.intrinsics.TheConstants.{ARRAYDEC, PROCESS, DEALLOCATE, RESIZE}
 use Rattle.b67_model.specs.Common.{Array, Condition, Task, Job, SessionJob, with_array, all_zero, Line, Goes, Waits, step, touched_of, need, sectors, run_text, Session}
 use Rattle.b67_stack.specs.declared.What.{What}
 use Rattle.b67_stack.specs.declared.What.TheVariants as what
@@ -63,16 +64,16 @@ pub record IsCalled {K : Type 0} (taken : K → Option (List ℕ)) (paper paper'
 -- at this address something else is held after the call: it is the original of an array that DEALLOCATE empties, of the one that
 -- RESIZE gives another length, or of one that ARRAYDEC makes
 pub data HoldsOther (plan after : Placement) (m : SessionJob) (t : Task) (job : Job) (home : ℕ) : Type 0 where
-  is_emptied : (a : Array) → called_in m t ≡ Some 17 → Has m.progress.job.arrays a → job.arrays ≡ (with_array m.progress.job a.identity all_zero).arrays
+  is_emptied : (a : Array) → called_in m t ≡ Some DEALLOCATE → Has m.progress.job.arrays a → job.arrays ≡ (with_array m.progress.job a.identity all_zero).arrays
       → plan.home m.constants.number a.identity ≡ home → HoldsOther plan after m t job home
-  is_resized : (a : Array) → called_in m t ≡ Some 18 → Has m.progress.job.arrays a → touched_of m.constants m.progress.job t (step m.constants m.progress.job t) ≡ Some a.identity
+  is_resized : (a : Array) → called_in m t ≡ Some RESIZE → Has m.progress.job.arrays a → touched_of m.constants m.progress.job t (step m.constants m.progress.job t) ≡ Some a.identity
       → plan.home m.constants.number a.identity ≡ home → HoldsOther plan after m t job home
-  is_new : called_in m t ≡ Some 8 → after.home m.constants.number m.progress.job.next_array ≡ home → HoldsOther plan after m t job home
+  is_new : called_in m t ≡ Some ARRAYDEC → after.home m.constants.number m.progress.job.next_array ≡ home → HoldsOther plan after m t job home
 
 -- everything else is held as it was: in the same areas, and in the same sectors. Of PROCESS that isn't said
 abbrev pub StaysInPlace : Storage → Storage → Placement → Placement → SessionJob → Task → Job → Type 0
 StaysInPlace x y plan after m t job =
-    called_in m t ≢ Some 12 → (home : ℕ) → (HoldsOther plan after m t job home → ⊥) → y.held home ≡ x.held home
+    called_in m t ≢ Some PROCESS → (home : ℕ) → (HoldsOther plan after m t job home → ⊥) → y.held home ≡ x.held home
 
 -- the call touches an array of its job, which is absent
 pub record TouchesAbsent (x : Storage) (plan : Placement) (m : SessionJob) (t : Task) (found : What) : Type 0 where

@@ -1,6 +1,7 @@
 //! ARRAYDEC.
 
 ghost use Rattle.std.specs.Prelude.{◌≡◌};
+ghost use Rattle.b67_model.specs.declared.intrinsics.TheConstants.{ARRAYDEC};
 ghost use Rattle.b67_mcp.specs.Answers.{AnswerMeets};
 ghost use Rattle.b67_mcp.specs.Called.{CallsSome, ChangesStack};
 ghost use Rattle.b67_mcp.specs.Running.{ForCalls, Keeps};
@@ -12,8 +13,8 @@ use b67_word::Fault;
 
 /// ARRAYDEC: the call is cut and answers with the original of a new array. Its fault changes nothing.
 pub(crate) fn declare(machine: &mut Machine) -> Result<(), Fault>
-    requires { CallsSome machine.old 8 }
-    ensures row { ForCalls machine.old 8 (λ x told plan s m t. AnswerMeets x told plan s m t result machine.old machine.new) }
+    requires { CallsSome machine.old ARRAYDEC }
+    ensures row { ForCalls machine.old ARRAYDEC (λ x told plan s m t. AnswerMeets x told plan s m t result machine.old machine.new) }
     ensures kept { Keeps machine.old machine.new }
     ensures changed { ChangesStack machine.old machine.new }
     ensures sectors { machine.new.sectors ≡ machine.old.sectors }

@@ -1,6 +1,7 @@
 //! PRINT.
 
 ghost use Rattle.std.specs.Prelude.{◌≡◌, ◌≢◌, ℕ, OnOk, OnErr, Err, ◌∷◌, []};
+ghost use Rattle.b67_model.specs.declared.intrinsics.TheConstants.{PRINT};
 ghost use Rattle.b67_io.specs.Causes.{HasCause};
 ghost use Rattle.b67_session_lines.specs.Parts.{TookRest, TookMore};
 ghost use Rattle.b67_model.specs.Steps.{Value};
@@ -36,9 +37,9 @@ fn say_value<K: Sink>(
 /// PRINT: what isn't printed yet of its line is printed, and then the call is cut. Where the printer fails nothing is changed
 /// but how much is printed.
 pub(crate) fn print<K: Sink>(machine: &mut Machine, paper: &mut K) -> Result<CallEnd, Stop>
-    requires { CallsSome machine.old 9 }
-    ensures row { ForCalls machine.old 9 (λ x told plan s m t. (count : ℕ) → CallMeets K.taken told count x plan s m t result machine.old machine.new paper.old paper.new) }
-    ensures present { ForCalls machine.old 9 (λ x told plan s m t. CallTouches x plan m t result) }
+    requires { CallsSome machine.old PRINT }
+    ensures row { ForCalls machine.old PRINT (λ x told plan s m t. (count : ℕ) → CallMeets K.taken told count x plan s m t result machine.old machine.new paper.old paper.new) }
+    ensures present { ForCalls machine.old PRINT (λ x told plan s m t. CallTouches x plan m t result) }
     ensures cause { IsHeard K.faults paper.old paper.new result }
     ensures stops { result ≢ Err BackingFault }
     ensures kept { Keeps machine.old machine.new }

@@ -1,6 +1,7 @@
 //! PRINTROW.
 
 ghost use Rattle.std.specs.Prelude.{◌≡◌, ◌≢◌, ℕ, Err, ◌≤◌, ◌+◌, ℤ, List, [], ◌∷◌, length, Some, OnOk, OnErr, slice_range};
+ghost use Rattle.b67_model.specs.declared.intrinsics.TheConstants.{PRINTROW};
 ghost use Rattle.b67_io.specs.Causes.{HasCause};
 ghost use Rattle.b67_session_lines.specs.Parts.{TookRest, TookMore};
 ghost use Rattle.b67_model.specs.Steps.{Values};
@@ -48,9 +49,9 @@ fn say_words<K: Sink>(
 /// PRINTROW: what isn't printed yet of its lines is printed, and then the call is cut. Where its array is absent nothing is
 /// changed, and where the printer fails nothing but how much is printed.
 pub(crate) fn print_row<K: Sink>(machine: &mut Machine, paper: &mut K) -> Result<CallEnd, Stop>
-    requires { CallsSome machine.old 10 }
-    ensures row { ForCalls machine.old 10 (λ x told plan s m t. (count : ℕ) → CallMeets K.taken told count x plan s m t result machine.old machine.new paper.old paper.new) }
-    ensures present { ForCalls machine.old 10 (λ x told plan s m t. CallTouches x plan m t result) }
+    requires { CallsSome machine.old PRINTROW }
+    ensures row { ForCalls machine.old PRINTROW (λ x told plan s m t. (count : ℕ) → CallMeets K.taken told count x plan s m t result machine.old machine.new paper.old paper.new) }
+    ensures present { ForCalls machine.old PRINTROW (λ x told plan s m t. CallTouches x plan m t result) }
     ensures cause { IsHeard K.faults paper.old paper.new result }
     ensures stops { result ≢ Err BackingFault }
     ensures kept { Keeps machine.old machine.new }

@@ -1,6 +1,7 @@
 //! READ.
 
 ghost use Rattle.std.specs.Prelude.{◌≡◌, ◌<◌, ◌^◌, length, Some, slice_get};
+ghost use Rattle.b67_model.specs.declared.intrinsics.TheConstants.{READ};
 ghost use Rattle.b67_task_tables.specs.declared.tables.JobRow.{JobRow};
 ghost use Rattle.b67_mcp_calls.specs.Reads.{ReadSome};
 ghost use Rattle.b67_mcp.specs.Answers.{AnswerMeets, Takes};
@@ -32,9 +33,9 @@ fn take_number(cpu: &Cpu, tasks: &mut Tasks, at: usize) -> Result<Word, Fault>
 
 /// READ: the call is cut and answers with the job's next number. Its fault changes nothing.
 pub(crate) fn read(machine: &mut Machine) -> Result<(), Fault>
-    requires calls { CallsSome machine.old 11 }
+    requires calls { CallsSome machine.old READ }
     requires countable { AreCountable machine.old.tasks.jobs }
-    ensures row { ForCalls machine.old 11 (λ x told plan s m t. AnswerMeets x told plan s m t result machine.old machine.new) }
+    ensures row { ForCalls machine.old READ (λ x told plan s m t. AnswerMeets x told plan s m t result machine.old machine.new) }
     ensures kept { Keeps machine.old machine.new }
     ensures changed { ChangesStack machine.old machine.new }
     ensures sectors { machine.new.sectors ≡ machine.old.sectors }

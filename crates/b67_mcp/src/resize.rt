@@ -1,6 +1,7 @@
 //! RESIZE.
 
 ghost use Rattle.std.specs.Prelude.{◌≡◌, ◌≢◌, ℕ, ◌+◌, ◌^◌, ◌<◌, ◌≤◌, Ok, Err, length};
+ghost use Rattle.b67_model.specs.declared.intrinsics.TheConstants.{RESIZE};
 ghost use Rattle.b67_backing.specs.declared.refusals.SpaceFault.TheVariants.{NoCore};
 ghost use Rattle.b67_layout_storage.specs.Machine.{Says, DeviceAfterCalls, content_after};
 ghost use Rattle.b67_mcp.specs.Called.{CallsSome, CallTouches, CallWrites};
@@ -84,12 +85,12 @@ fn set_length<B: Backing>(
 /// RESIZE: the array has another length, and the call is cut. Where its array is absent, or the call faults, nothing is
 /// changed; where too few sectors are free or the device fails, the machine represents the same session.
 pub(crate) fn resize<B: Backing>(machine: &mut Machine, backing: &mut B) -> Result<CallEnd, Stop>
-    requires calls { CallsSome machine.old 18 }
+    requires calls { CallsSome machine.old RESIZE }
     requires same { B.size backing.old + 1 ≡ length machine.old.sectors.links }
-    ensures row { ForCalls machine.old 18 (λ x told plan s m t. Says told (B.holds backing.old)
+    ensures row { ForCalls machine.old RESIZE (λ x told plan s m t. Says told (B.holds backing.old)
         → ResizeAnswers (content_after told (B.holds backing.new)) (B.size backing.old) x plan s m t result machine.old machine.new) }
-    ensures present { ForCalls machine.old 18 (λ x told plan s m t. CallTouches x plan m t result) }
-    ensures quiet { ForCalls machine.old 18 (λ x told plan s m t. (CallWrites x plan m t result → ⊥) → backing.new ≡ backing.old) }
+    ensures present { ForCalls machine.old RESIZE (λ x told plan s m t. CallTouches x plan m t result) }
+    ensures quiet { ForCalls machine.old RESIZE (λ x told plan s m t. (CallWrites x plan m t result → ⊥) → backing.new ≡ backing.old) }
     ensures causes { SilentCauses B.faults backing.old backing.new result }
     ensures kept { Keeps machine.old machine.new }
     ensures device { DeviceAfterCalls B.holds B.size B.calls B.faults backing.old backing.new }

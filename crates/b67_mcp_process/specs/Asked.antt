@@ -1,5 +1,6 @@
 -- The task that a call of PROCESS asks for.
 use Rattle.std.specs.Prelude.{◌≡◌, ℕ, ◌+◌, ◌≤◌, nat_lt, nat_le, Bool, false, List, [], ◌∷◌, reverse, take, length, None, Result, Ok, Err, if◌then◌else◌}
+use Rattle.b67_model.specs.declared.intrinsics.TheConstants.{MOST_TASKS}
 use Rattle.b67_word.specs.declared.couples.Place.{Place}
 use Rattle.b67_word.specs.declared.faults.Fault.{Fault}
 use Rattle.b67_word.specs.declared.faults.Fault.TheVariants.{StackOverflow}
@@ -51,7 +52,7 @@ pub record Asks (plan : Placement) (m : SessionJob) (t : Task) (arguments : List
   pub proc : IsProcCell plan m t cell f segment level place
   pub room : 3 + count ≤ m.constants.stack_size
   pub may : MayCut m t
-  pub makes : (next : Place) → process (here m t next) arguments ≡ answer_by (nat_lt (length m.progress.job.tasks) 15) m t (child m t count f segment level place) next
+  pub makes : (next : Place) → process (here m t next) arguments ≡ answer_by (nat_lt (length m.progress.job.tasks) MOST_TASKS) m t (child m t count f segment level place) next
 
 -- or it faults as its row does
 abbrev pub AskMeets : Placement → SessionJob → Task → List Word → Result Asked Fault → Type 0

@@ -1,5 +1,6 @@
 -- The parts of PROCESS: the tasks of the running job, the call that is answered, the task that is started.
 use Rattle.std.specs.Prelude.{◌==◌, ℕ, ◌<◌, List, length, Option, if◌then◌else◌}
+use Rattle.b67_model.specs.declared.intrinsics.TheConstants.{MOST_TASKS}
 use Rattle.b67_lemmas.specs.Lists.{total}
 use Rattle.b67_word.specs.declared.couples.Place.{Place}
 use Rattle.b67_ctl.specs.Layout.{IsPlace}
@@ -37,7 +38,7 @@ pub record AsksSome (k : Machine) (cell count : ℕ) (next : Place) : Type 0 whe
   pub runs : RunsTask k
   pub arguments : List Word
   pub asks : Asks runs.plan runs.member runs.task arguments cell count
-  pub few : length runs.member.progress.job.tasks < 15
+  pub few : length runs.member.progress.job.tasks < MOST_TASKS
   pub place : IsPlace next
 
 -- the machine stands for the session with another job, whose tasks count for the peak

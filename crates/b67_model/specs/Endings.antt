@@ -3,6 +3,7 @@ use Rattle.std.specs.Prelude.{ℕ, zero, suc, ◌==◌, not, Bool, true, false, 
 use Rattle.std.specs.List.{list_any, list_all}
 use Rattle.b67_word.specs.declared.faults.Ending.{Ending}
 use Rattle.b67_word.specs.declared.faults.Ending.TheVariants.{Ended, Parent, Deadlock, Limit, Faulted}
+use Rattle.b67_model.specs.declared.intrinsics.TheConstants.{MOST_TASKS}
 use Rattle.b67_model.specs.Answers.{Answer}
 use Rattle.b67_model.specs.State.{Array, Condition, Ready, Awaits, WaitsAt, Task, JobConstants, Job, with_task}
 use Rattle.b67_model.specs.Steps.{Line, Ends, Done, Goes, Leaves, Waits}
@@ -20,7 +21,7 @@ deepest_below zero tasks = []
 deepest_below (suc depth) tasks = at_depth depth tasks ++ deepest_below depth tasks
 
 abbrev pub deepest_first : List Task → List ℕ
-deepest_first tasks = deepest_below 15 tasks
+deepest_first tasks = deepest_below MOST_TASKS tasks
 
 -- the tasks under one
 abbrev pub descendants : Job → ℕ → List Task

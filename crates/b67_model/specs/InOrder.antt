@@ -5,6 +5,7 @@
 use Rattle.std.specs.Prelude.{◌≡◌, ◌≢◌, ◌↔◌, ℕ, ◌+◌, ◌-◌, ◌^◌, ◌<◌, ◌≤◌, ◌==◌, Bool, false, nat_abs, List, [], ◌∷◌, ◌++◌, map, reverse, length, sum_by, Option, Some, None, IsTrue, if◌then◌else◌, slice_get}
 use Rattle.std.specs.List.{AllByRecursion}
 use Rattle.b67_word.specs.declared.couples.Place.{Place}
+use Rattle.b67_model.specs.declared.intrinsics.TheConstants.{MOST_TASKS}
 use Rattle.b67_model.specs.declared.operators.Op.{Op}
 use Rattle.b67_model.specs.Keyed.{keyed}
 use Rattle.b67_lemmas.specs.Lists.{Has, total, how_many, Falls}
@@ -269,7 +270,7 @@ pub record TasksInOrder (P : Starts) (constants : JobConstants) (job : Job) : Ty
   pub entries : AllByRecursion (EntryInOrder job.arrays) constants.dictionary.cells
   pub numbers : Falls job.next_task (map (λ t. t.number) job.tasks)
   pub names : Falls job.next_array (map (λ a. a.identity) job.arrays)
-  pub few : length job.tasks ≤ 15
+  pub few : length job.tasks ≤ MOST_TASKS
   pub reads : AllByRecursion (λ n. nat_abs n < 2 ^ 39) job.numbers
 
 -- the counts of a job but for its limit, as they stand before a step's last item of endings too

@@ -1,8 +1,9 @@
--- The intrinsics 8 to 18.
+-- The intrinsics of the MCP.
 use Rattle.std.specs.Prelude.{ℕ, ◌+◌, ◌==◌, ◌&&◌, nat_lt, nat_le, not, Bool, true, false, ℤ, pos, negsuc, List, [], ◌∷◌, reverse, replicate, length, find, map, Option, Some, None, Ok, Err, if◌then◌else◌}
 use Rattle.std.specs.List.{list_any}
 use Rattle.b67_word.specs.declared.faults.Fault.TheVariants.{StackOverflow, InvalidOperand, InvalidIndex, MemoryProtect, CriticalBlock}
 use Rattle.b67_word.specs.declared.couples.Place.{Place}
+use Rattle.b67_model.specs.declared.intrinsics.TheConstants.{ARRAYDEC, PRINT, PRINTROW, READ, PROCESS, AWAIT, STATUS, WAIT, CAUSE, DEALLOCATE, RESIZE, MOST_TASKS}
 use Rattle.b67_model.specs.Answers.{Answer, ◌>>=◌, ◌>>◌, needs}
 use Rattle.b67_word.specs.Operands.{bits_of}
 use Rattle.b67_model.specs.Words.{Word, Operand, Row, Original, number, whole}
@@ -99,7 +100,7 @@ starts h words (AtProc environment segment level place) = do
     next_task = h.job.next_task + 1;
     next_frame = h.job.next_frame + 1;
   }
-  if nat_lt (length h.job.tasks) 15 then answers h started (Operand h.job.next_task ∷ []) [] None else answers h h.job (Operand 0 ∷ []) [] None
+  if nat_lt (length h.job.tasks) MOST_TASKS then answers h started (Operand h.job.next_task ∷ []) [] None else answers h h.job (Operand 0 ∷ []) [] None
 starts h words _ = Err InvalidOperand
 
 abbrev pub process : OperatorContext → List Word → Answer Done
@@ -207,7 +208,9 @@ abbrev pub Call : Type 0
 Call = OperatorContext → List Word → Answer Done
 
 abbrev pub calls : List (ℕ × Call)
-calls = (8, arraydec) ∷ (9, print) ∷ (10, printrow) ∷ (11, read) ∷ (12, process) ∷ (13, await) ∷ (14, status) ∷ (15, wait) ∷ (16, cause) ∷ (17, deallocate) ∷ (18, resize) ∷ []
+calls =
+    (ARRAYDEC, arraydec) ∷ (PRINT, print) ∷ (PRINTROW, printrow) ∷ (READ, read) ∷ (PROCESS, process) ∷ (AWAIT, await) ∷
+    (STATUS, status) ∷ (WAIT, wait) ∷ (CAUSE, cause) ∷ (DEALLOCATE, deallocate) ∷ (RESIZE, resize) ∷ []
 
 -- the call of this number, with the cells after the reference as its arguments
 abbrev pub call_in : List (ℕ × Call) → ℕ → OperatorContext → List Word → Answer Done

@@ -1,5 +1,6 @@
 -- The core that a step needs.
 use Rattle.std.specs.Prelude.{ℕ, ◌+◌, ◌-◌, ◌*◌, max, ◌==◌, nat_lt, List, [], ◌∷◌, length, reverse, sum_by, Option, Some, None, Ok, Err, if◌then◌else◌, option_map}
+use Rattle.b67_model.specs.declared.intrinsics.TheConstants.{PRINTROW}
 use Rattle.b67_model.specs.declared.operators.Op.TheVariants.{Plain}
 use Rattle.b67_model.specs.declared.operators.Code.TheVariants.{Entr}
 use Rattle.b67_model.specs.Answers.{Answer}
@@ -23,7 +24,7 @@ need_at_opening stack jobs = fixed jobs + length jobs * stack
 
 -- the array of a PRINTROW, whose last faults come after the touch; no other row has a fault after its touch
 abbrev pub touched_by_call : List Word → Answer End → Option ℕ
-touched_by_call (r ∷ Row a ∷ []) (Ok (AtIntrinsic n)) = if n == 10 then Some a else None
+touched_by_call (r ∷ Row a ∷ []) (Ok (AtIntrinsic n)) = if n == PRINTROW then Some a else None
 touched_by_call _ _ = None
 
 -- the call of the marked frame on top, from its first cell up

@@ -1,7 +1,8 @@
 -- The state of the machine: activation records, here frames, with fresh identities; arrays; tasks and jobs.
-use Rattle.std.specs.Prelude.{ℕ, ◌+◌, Bool, ℤ, List, [], ◌∷◌, ◌++◌, Option, None, flat_map, length, unwrap_or}
+use Rattle.std.specs.Prelude.{ℕ, ◌+◌, Bool, ℤ, List, [], ◌∷◌, ◌++◌, map, Option, None, flat_map, length, unwrap_or}
 use Rattle.b67_word.specs.declared.couples.Place.{Place}
 use Rattle.b67_word.specs.declared.faults.Ending.{Ending}
+use Rattle.b67_model.specs.declared.intrinsics.TheConstants.{ARRAYDEC, PRINT, PRINTROW, READ, PROCESS, AWAIT, STATUS, WAIT, CAUSE, DEALLOCATE, RESIZE}
 use Rattle.b67_model.specs.Keyed.{keyed, change_keyed}
 use Rattle.b67_model.specs.Words.{Word, Intrinsic}
 
@@ -91,7 +92,7 @@ pub record OperatorContext : Type 0 where
 -- identity 0 is the frame of the MCP in each job, and 1 the job's dictionary. The MCP's frame has no environment beside
 -- itself
 abbrev pub mcp : Frame
-mcp = record { identity = 0; standing = Entered 0 0 None; cells = Intrinsic 18 ∷ Intrinsic 17 ∷ Intrinsic 16 ∷ Intrinsic 15 ∷ Intrinsic 14 ∷ Intrinsic 13 ∷ Intrinsic 12 ∷ Intrinsic 11 ∷ Intrinsic 10 ∷ Intrinsic 9 ∷ Intrinsic 8 ∷ [] }
+mcp = record { identity = 0; standing = Entered 0 0 None; cells = map Intrinsic (RESIZE ∷ DEALLOCATE ∷ CAUSE ∷ WAIT ∷ STATUS ∷ AWAIT ∷ PROCESS ∷ READ ∷ PRINTROW ∷ PRINT ∷ ARRAYDEC ∷ []) }
 
 -- what stands for a frame that no identity names
 abbrev pub no_frame : Frame

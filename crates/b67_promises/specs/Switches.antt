@@ -2,6 +2,7 @@
 use Rattle.std.specs.Prelude.{ℕ, ◌≡◌, ◌≤◌, ◌<◌, List, [], ◌∷◌, length, Some, Ok}
 use Rattle.b67_word.specs.declared.couples.Place.{Place}
 use Rattle.b67_lemmas.specs.Lists.{Has}
+use Rattle.b67_model.specs.declared.intrinsics.TheConstants.{PROCESS}
 use Rattle.b67_model.specs.declared.operators.Op.TheVariants.{Namc}
 use Rattle.b67_model.specs.Common.{Session, Segment, ready, lines, after, Program, At, listing}
 use Rattle.b67_model_text.specs.declared.deck.Deck.{Deck}
@@ -41,7 +42,7 @@ pub record DecksDifferInTurns (bytes other : List ℕ) : Type 0 where
 
 -- one of so many first steps of a run was that of a task of the job, and called PROCESS, intrinsic 12
 abbrev pub CallsProcess : Session → ℕ → ℕ → Type 0
-CallsProcess first steps job = EarlierStep first steps job (λ op call. call ≡ Some 12)
+CallsProcess first steps job = EarlierStep first steps job (λ op call. call ≡ Some PROCESS)
 
 -- a text's deck has one job, and no step of its run calls PROCESS
 pub record IsOneTask (bytes : List ℕ) : Type 0 where

@@ -7,6 +7,7 @@ use Rattle.b67_lemmas.specs.Lists.{Has}
 use Rattle.b67_backing.specs.Held.{Becomes}
 use Rattle.b67_layout_storage.specs.Machine.{HasHole}
 use Rattle.b67_task_need.specs.Needing.{need_with}
+use Rattle.b67_model.specs.declared.intrinsics.TheConstants.{PROCESS}
 use Rattle.b67_model.specs.Common.{Array, Ready, Task, Job, SessionJob, code_of, sectors, touched_of, need, step, Session}
 use Rattle.b67_layout.specs.Common.{IsInOrderButCounts, Placement, IsRunning, area_held, with_job, objects_gone}
 use Rattle.b67_exec_cells.specs.Called.{called_in}
@@ -169,13 +170,13 @@ pub record UsesHole {A D : Type 0} (holds : D → Option (List (List ℕ))) (ans
 -- that DEALLOCATE empties or RESIZE gives another length. Of PROCESS that isn't said
 abbrev pub KeepsAreas : Storage → Storage → Placement → Placement → SessionJob → Task → Job → Type 0
 KeepsAreas x y plan after m t job =
-    called_in m t ≢ Some 12 → (home : ℕ) → (x.held home).area ≢ None → (HasHome (objects_gone plan m job) home → ⊥) → (HoldsOther plan after m t job home → ⊥)
+    called_in m t ≢ Some PROCESS → (home : ℕ) → (x.held home).area ≢ None → (HasHome (objects_gone plan m job) home → ⊥) → (HoldsOther plan after m t job home → ⊥)
     → (y.held home).area ≡ (x.held home).area
 
 -- and nothing else is in an area
 abbrev pub AddsNoArea : Storage → Storage → Placement → Placement → SessionJob → Task → Job → Type 0
 AddsNoArea x y plan after m t job =
-    called_in m t ≢ Some 12 → (home : ℕ) → (x.held home).area ≡ None → (HasHome (objects_gone plan m job) home → ⊥) → (HoldsOther plan after m t job home → ⊥)
+    called_in m t ≢ Some PROCESS → (home : ℕ) → (x.held home).area ≡ None → (HasHome (objects_gone plan m job) home → ⊥) → (HoldsOther plan after m t job home → ⊥)
     → (y.held home).area ≡ None
 
 abbrev pub CallKeepsAreas : {K : Type 0} → (K → Option (List ℕ)) → Storage → Option (List (List ℕ)) → ℕ → Placement → Session → SessionJob → Task → Machine → K → K → Type 0

@@ -1,6 +1,7 @@
 -- What a slice of a run answers, prints and leaves: a session of any jobs and tasks.
 use Rattle.std.specs.Prelude.{◌≡◌, ◌≢◌, ℕ, ◌+◌, ◌<◌, ◌≤◌, ◌⊎◌, List, [], ◌++◌, length, take, Option, Some, None, Result, Ok, Err}
 use Rattle.b67_io.specs.Told.{Took}
+use Rattle.b67_model.specs.declared.intrinsics.TheConstants.{PROCESS}
 use Rattle.b67_model.specs.Common.{Task, Job, SessionJob, Line, Goes, step, need, need_next, run_text, IsInOrderButPlaces, Session, RunLine, StepResult, after, lines, live_tasks}
 use Rattle.b67_session_lines.specs.Moments.{first_part, last_part, due}
 use Rattle.b67_lemmas.specs.Lists.{Has}
@@ -174,7 +175,7 @@ pub record StepLeaves (x : Storage) (plan : Placement) (s : Session) (m : Sessio
   pub is : IsStepOf s session
   pub stands : StandsForSession told new session
   pub placed : Placement
-  pub areas : called_in m t ≢ Some 12 → (u : PagedObject) → Has (machine_view stands.plan session.jobs).objects u → (HeldAnew plan placed m t u.home → ⊥)
+  pub areas : called_in m t ≢ Some PROCESS → (u : PagedObject) → Has (machine_view stands.plan session.jobs).objects u → (HeldAnew plan placed m t u.home → ⊥)
       → (stands.storage.held u.home).area ≡ (x.held u.home).area
   pub ends : EndsOrWaits m t → LeavesInPlace x stands.storage plan stands.plan s session
 

@@ -3,6 +3,7 @@ use Rattle.std.specs.Prelude.{◌≡◌, ◌≢◌, ℕ, ◌≤◌, ◌⊎◌, L
 use Rattle.b67_word.specs.declared.faults.Ending.{Ending}
 use Rattle.b67_word.specs.declared.faults.Ending.TheVariants.{Ended, Faulted}
 use Rattle.b67_lemmas.specs.Lists.{Has}
+use Rattle.b67_model.specs.declared.intrinsics.TheConstants.{PROCESS}
 use Rattle.b67_model.specs.Common.{Array, Ready, Task, Job, SessionJob, Leaves, step, touched_of, need, Session}
 use Rattle.b67_stack.specs.declared.What.{What}
 use Rattle.b67_stack.specs.declared.What.TheVariants as what
@@ -42,7 +43,7 @@ EndsSo m t _ = ⊥
 -- that it leaves, and one that DEALLOCATE empties, RESIZE gives another length or ARRAYDEC makes. Of PROCESS that isn't said
 abbrev pub LeavesAreas : Storage → Storage → Placement → Placement → SessionJob → Task → Job → Type 0
 LeavesAreas x y plan after m t job =
-    called_in m t ≢ Some 12 → (home : ℕ) → (HasHome (objects_gone plan m job) home → ⊥) → (HoldsOther plan after m t job home → ⊥)
+    called_in m t ≢ Some PROCESS → (home : ℕ) → (HasHome (objects_gone plan m job) home → ⊥) → (HoldsOther plan after m t job home → ⊥)
     → y.held home ≡ x.held home
 
 -- By what was answered, over a device of so many sectors that tells this afterwards. Where the step wasn't made nothing has

@@ -1,6 +1,7 @@
 -- The task that is started, and where.
 use Rattle.std.specs.Prelude.{◌≡◌, ℕ, ◌+◌, ◌-◌, ◌^◌, ◌<◌, ◌≤◌, List, ◌∷◌, length, take, reverse, Option, Ok, Some, false, slice_get}
 use Rattle.std.specs.List.{AllByRecursion}
+use Rattle.b67_model.specs.declared.intrinsics.TheConstants.{MOST_TASKS}
 use Rattle.b67_word.specs.declared.couples.Place.{Place}
 use Rattle.b67_ctl.specs.declared.map.TheConstants.{SLOTS}
 use Rattle.b67_area.specs.declared.Info.{Info}
@@ -36,7 +37,7 @@ pub record MayStart (x : Storage) (plan : Placement) (m : SessionJob) (t : Task)
   pub enough : count ≤ length (top t.frames).cells
   pub plain : AllByRecursion (λ (w : Word). is_original w ≡ false) (arguments t count)
   pub proc : IsProcCell plan m t at f segment level place
-  pub few : length m.progress.job.tasks < 15
+  pub few : length m.progress.job.tasks < MOST_TASKS
   pub number : m.progress.job.next_task + 1 < 2 ^ 32
   pub room : 3 + count ≤ m.constants.stack_size
   pub lowest : IsLowestFree plan k
