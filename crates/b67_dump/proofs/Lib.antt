@@ -1,7 +1,7 @@
-mod Unnamed
 mod Shown
 mod Marks
 mod Listed
+mod Unnamed
 mod Walked
 mod Session
 mod Counted

@@ -20,6 +20,7 @@ use Rattle.b67_layout_shown.proofs.Reach.{from_by}
 use Rattle.b67_layout_shown.proofs.Order.{same_name}
 use Rattle.b67_layout_shown.proofs.Owned.{own_task, owned_in, entry_owned, entry_named, kept, names_apart, names_fall, is_listed, found_array}
 use Rattle.b67_layout_shown.proofs.Apart.{live_high, live_apart}
+use Rattle.b67_dump.proofs.Listed.{is_there, own_or_outer}
 use Rattle.b67_dump.specs.Dump.{beside, LiveRecord, record_by, record_among, name_of_record, record_name, cells_of_record, offset_of_original, array_found, name_of_array, array_name, length_of_array, cell_text, cells_text, standing_text, records_text, condition_text, place_text, task_text, tasks_text}
 
 -- ---- lists of records
@@ -35,19 +36,6 @@ none_renamed rename relabel c (f ∷ below) h =
     ap (λ (b : Bool). if b then map (frame_by rename relabel) (f ∷ below) else from_frame c (map (frame_by rename relabel) below)) (ne_eqb (rename f.identity) c (h f.identity (inl refl)))
     ∙ none_renamed rename relabel c below (λ d k. h d (inr k))
 
-is_there : (c : ℕ) (fs : List Frame) → Has (identities fs) c ⊎ ((d : ℕ) → Has (identities fs) d → d ≢ c)
-is_there c [] = inr (λ d h. absurd h)
-is_there c (f ∷ below) = elim (eqb_tells f.identity c) [
-  | inl q ↦ inl (inl q.1)
-  | inr q ↦ elim (is_there c below) [
-    | inl h ↦ inl (inr h)
-    | inr n ↦ inr (differ q.1 n)
-  ]
-] where
-  differ : f.identity ≢ c → ((d : ℕ) → Has (identities below) d → d ≢ c) → (d : ℕ) → Has (identities (f ∷ below)) d → d ≢ c
-  differ ne n d (inl e) = λ z. ne (e ∙ z)
-  differ ne n d (inr h) = n d h
-
 from_inside : (c : ℕ) (fs : List Frame) (g : Frame) → Has (from_frame c fs) g → Has fs g
 from_inside c [] g h = absurd h
 from_inside c (f ∷ below) g h = by (f.identity == c) h (λ k. from_inside c below g k) where
@@ -61,11 +49,6 @@ from_known c (f ∷ below) d h = by (f.identity == c) h (λ k. from_known c belo
   by : (b : Bool) → Has (identities (if b then f ∷ below else from_frame c below)) d → (Has (identities (from_frame c below)) d → Has (identities below) d) → Has (identities (f ∷ below)) d
   by true k rest = k
   by false k rest = inr (rest k)
-
-own_or_outer : (fs : List Frame) (outer : List Known) (k : Known) → Has (map known_of fs ++ outer) k → Has (identities fs) k.0 ⊎ Has outer k
-own_or_outer [] outer k h = inr h
-own_or_outer (f ∷ below) outer k (inl e) = inl (inl (ap (λ (z : Known). z.0) e))
-own_or_outer (f ∷ below) outer k (inr h) = elim (own_or_outer below outer k h) [ inl i ↦ inl (inr i) | inr o ↦ inr o ]
 
 -- ---- a job
 

@@ -2,6 +2,7 @@
 
 ghost use Rattle.std.specs.Prelude.{◌≡◌, ℕ, List, ◌+◌, ◌-◌, ◌<◌, ◌≤◌, ◌^◌, length, slice_get, Some};
 ghost use Rattle.b67_layout_shown.specs.Machines.{sight_of};
+ghost use Rattle.b67_dump.specs.declared.landmarks.TheConstants.{LANDMARKS};
 ghost use Rattle.b67_dump.specs.Walk.{marks_in, marks_under, offset_from};
 ghost use Rattle.b67_dump.specs.Landmarks.{IsKnown, IsLandmark, AreLandmarks, block_end, marks_of_slot};
 
@@ -61,7 +62,7 @@ fn top_landmark(machine: &Machine, slot: u64) -> Landmark
 
 /// The last address for which the landmark at a place of the table is told.
 fn block_end(machine: &Machine, at: usize) -> u64
-    requires { at < 15360 }
+    requires { at < LANDMARKS }
     ensures { result ≡ block_end (sight_of machine.now) at }
 {
     let words = 128 * (128 - at as u64 % 128) - 1;
@@ -79,7 +80,7 @@ fn landmark_at(landmarks: &[Landmark], at: usize) -> Landmark
 /// The landmark that stands behind some in the table.
 fn next_landmark(machine: &Machine, before: &[Landmark]) -> Landmark
     requires known { AreLandmarks (sight_of machine.now) before.now }
-    requires few { length before.now < 15360 }
+    requires few { length before.now < LANDMARKS }
     ensures { IsLandmark (sight_of machine.now) (length before.now) result }
 {
     let at = before.len();

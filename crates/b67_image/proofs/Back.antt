@@ -202,6 +202,9 @@ pass_then {spell = spell} {bytes = bytes} Q b n front q f y e go =
     let p = passed b n m is in
     go m (subst (λ (x : ℕ × List ℕ). IsFront spell Q bytes x) p.1 (record { spelled = front.spelled; fits = q p.0; raw = front.raw })) more
 
+below_16 : (n : ℕ) → n ≤ 16383 → n < 2 ^ 16
+below_16 n most = omega (arith, most)
+
 regs_front : (bytes : List ℕ) (found : Regs × List ℕ) → IsBytes bytes → read_regs bytes ≡ Some found → IsFront regs_bytes AreRegs bytes found
 unfolding read_regs
 regs_front bytes found raw e =
@@ -219,7 +222,7 @@ regs_front bytes found raw e =
     take_then two_back stacks.1 _ found f10.raw h10 (λ size f11 h11.
     within_then 64 16383 size f11 _ found h11 (λ stack_size f12 h12.
     take_then one_back stack_size.1 _ found f12.raw h12 (λ peak f13 h13.
-    subst (λ (t : Regs × List ℕ). IsFront regs_bytes AreRegs bytes t) (same_Some (record { s = s.0; f = f.0; bosr = bosr.0; losr = losr.0; slot = slot.0; level = level.0; segment = segment.0; place = place.0; dict = dict.0; entries = entries.0; stacks = stacks.0; stack_size = stack_size.0; peak = peak.0 }, peak.1) found h13) (record { spelled = on f0 (on f1 (on f2 (on f3 (on f4 (on f5 (on f6 (on f7 (on f8 (on f9 (on f10 (on f12 f13.spelled))))))))))); fits = record { s = f0.fits; f = f1.fits; bosr = f2.fits; losr = f3.fits; slot = f4.fits; level = f5.fits; segment = f6.fits; place = f7.fits; dict = f8.fits; entries = f9.fits; stacks = f10.fits; stack_low = f12.fits.least; stack_high = f12.fits.most; peak = f13.fits }; raw = f13.raw })))))))))))))))
+    subst (λ (t : Regs × List ℕ). IsFront regs_bytes AreRegs bytes t) (same_Some (record { s = s.0; f = f.0; bosr = bosr.0; losr = losr.0; slot = slot.0; level = level.0; segment = segment.0; place = place.0; dict = dict.0; entries = entries.0; stacks = stacks.0; stack_size = stack_size.0; peak = peak.0 }, peak.1) found h13) (record { spelled = on f0 (on f1 (on f2 (on f3 (on f4 (on f5 (on f6 (on f7 (on f8 (on f9 (on f10 (on f12 f13.spelled))))))))))); fits = record { typed = record { s = f0.fits; f = f1.fits; bosr = f2.fits; losr = f3.fits; slot = f4.fits; level = f5.fits; segment = f6.fits; place = f7.fits; dict = f8.fits; entries = f9.fits; stacks = f10.fits; stack_size = below_16 stack_size.0 f12.fits.most; peak = f13.fits }; stack_low = f12.fits.least; stack_high = f12.fits.most }; raw = f13.raw })))))))))))))))
 
 pub regs_back : Backs read_regs regs_bytes AreRegs
 regs_back = record { back = regs_front }

@@ -21,7 +21,7 @@ use Rattle.b67_task_tables.specs.declared.tables.JobRow.{JobRow}
 use Rattle.b67_image.specs.Parts.{ToldCounts, ImageParts}
 use Rattle.b67_image.specs.Giving.{read_number}
 use Rattle.b67_image.specs.Spelling.{one_byte, two_bytes, four_bytes, eight_bytes, image_header, listed_bytes, signed_bytes, tagged_bytes, place_bytes, regs_bytes, areas_bytes, counts_bytes, switch_bytes, name_bytes, job_front, job_numbers, job_bytes, state_bytes, task_row_bytes, cpu_bytes, tables_bytes, image_bytes}
-use Rattle.b67_image.specs.Within.{IsPlaceInRange, AreRegs, AreAreas, AreCounts, IsSwitch, IsReadNumber, IsJob, IsState, IsRowInRange, IsFour, IsTwo, ArePartsWithin}
+use Rattle.b67_image.specs.Within.{IsPlaceInRange, AreAreas, AreCounts, IsSwitch, IsReadNumber, IsJob, IsState, IsRowInRange, IsFour, IsTwo, ArePartsWithin}
 use Rattle.b67_image.specs.Typed.{AreTypedRegs, AreTypedCounts, IsTypedSwitch, IsTypedNumber, IsTypedJob, AreTyped, HaveShortNames, ImagesTellOne}
 use Rattle.b67_image.proofs.Loops.{small_fits}
 use Rattle.b67_lemmas.proofs.Joins.{all_by}
@@ -332,23 +332,6 @@ images_tell_one p q a b s z lt e =
 
 -- ---- what is within its ranges is so
 
-within_regs : (r : Regs) → AreRegs r → AreTypedRegs r
-within_regs r h = let size : r.stack_size < 2 ^ 16 = omega (arith, h.stack_high) in record {
-  s = h.s;
-  f = h.f;
-  bosr = h.bosr;
-  losr = h.losr;
-  slot = h.slot;
-  level = h.level;
-  segment = h.segment;
-  place = h.place;
-  dict = h.dict;
-  entries = h.entries;
-  stacks = h.stacks;
-  stack_size = size;
-  peak = h.peak;
-}
-
 within_counts : (c : ToldCounts) → AreCounts c → AreTypedCounts c
 within_counts c h = record { quantum = omega (arith, h.quantum_high); made = h.made; turn = h.turn; last_job = h.last_job; last_number = h.last_number; running = h.running; next_switch = h.next_switch }
 
@@ -383,7 +366,7 @@ pub within_typed : (p : ImageParts) → ArePartsWithin p → AreTyped p × HaveS
 within_typed p h = (
   record {
     core = h.core.each;
-    regs = within_regs p.regs h.regs;
+    regs = h.regs.typed;
     display = h.display;
     display_many = h.display_many;
     critical = h.critical;

@@ -105,23 +105,23 @@ place_again p rest h =
 regs_again : (r : Regs) (rest : List ℕ) → AreRegs r → read_regs (regs_bytes r ++ rest) ≡ Some (r, rest)
 unfolding read_regs
 regs_again r rest h =
-    let size : r.stack_size < 2 ^ 16 = omega (arith, h.stack_high) in
+    let t = h.typed in
     let regrouped : regs_bytes r ++ rest ≡ four_bytes r.s ++ (four_bytes r.f ++ (four_bytes r.bosr ++ (four_bytes r.losr ++ (one_byte r.slot ++ (one_byte r.level ++ (two_bytes r.segment ++ (place_bytes r.place ++ (four_bytes r.dict ++ (two_bytes r.entries ++ (four_bytes r.stacks ++ (two_bytes r.stack_size ++ (one_byte r.peak ++ rest)))))))))))) = refl in
     ap read_regs regrouped ∙ rw (
-      number_again w32 (2 ^ 32) wide32 r.s (four_bytes r.f ++ (four_bytes r.bosr ++ (four_bytes r.losr ++ (one_byte r.slot ++ (one_byte r.level ++ (two_bytes r.segment ++ (place_bytes r.place ++ (four_bytes r.dict ++ (two_bytes r.entries ++ (four_bytes r.stacks ++ (two_bytes r.stack_size ++ (one_byte r.peak ++ rest)))))))))))) h.s,
-      number_again w32 (2 ^ 32) wide32 r.f (four_bytes r.bosr ++ (four_bytes r.losr ++ (one_byte r.slot ++ (one_byte r.level ++ (two_bytes r.segment ++ (place_bytes r.place ++ (four_bytes r.dict ++ (two_bytes r.entries ++ (four_bytes r.stacks ++ (two_bytes r.stack_size ++ (one_byte r.peak ++ rest))))))))))) h.f,
-      number_again w32 (2 ^ 32) wide32 r.bosr (four_bytes r.losr ++ (one_byte r.slot ++ (one_byte r.level ++ (two_bytes r.segment ++ (place_bytes r.place ++ (four_bytes r.dict ++ (two_bytes r.entries ++ (four_bytes r.stacks ++ (two_bytes r.stack_size ++ (one_byte r.peak ++ rest)))))))))) h.bosr,
-      number_again w32 (2 ^ 32) wide32 r.losr (one_byte r.slot ++ (one_byte r.level ++ (two_bytes r.segment ++ (place_bytes r.place ++ (four_bytes r.dict ++ (two_bytes r.entries ++ (four_bytes r.stacks ++ (two_bytes r.stack_size ++ (one_byte r.peak ++ rest))))))))) h.losr,
-      number_again w8 (2 ^ 8) wide8 r.slot (one_byte r.level ++ (two_bytes r.segment ++ (place_bytes r.place ++ (four_bytes r.dict ++ (two_bytes r.entries ++ (four_bytes r.stacks ++ (two_bytes r.stack_size ++ (one_byte r.peak ++ rest)))))))) h.slot,
-      number_again w8 (2 ^ 8) wide8 r.level (two_bytes r.segment ++ (place_bytes r.place ++ (four_bytes r.dict ++ (two_bytes r.entries ++ (four_bytes r.stacks ++ (two_bytes r.stack_size ++ (one_byte r.peak ++ rest))))))) h.level,
-      number_again w16 (2 ^ 16) wide16 r.segment (place_bytes r.place ++ (four_bytes r.dict ++ (two_bytes r.entries ++ (four_bytes r.stacks ++ (two_bytes r.stack_size ++ (one_byte r.peak ++ rest)))))) h.segment,
-      place_again r.place (four_bytes r.dict ++ (two_bytes r.entries ++ (four_bytes r.stacks ++ (two_bytes r.stack_size ++ (one_byte r.peak ++ rest))))) h.place,
-      number_again w32 (2 ^ 32) wide32 r.dict (two_bytes r.entries ++ (four_bytes r.stacks ++ (two_bytes r.stack_size ++ (one_byte r.peak ++ rest)))) h.dict,
-      number_again w16 (2 ^ 16) wide16 r.entries (four_bytes r.stacks ++ (two_bytes r.stack_size ++ (one_byte r.peak ++ rest))) h.entries,
-      number_again w32 (2 ^ 32) wide32 r.stacks (two_bytes r.stack_size ++ (one_byte r.peak ++ rest)) h.stacks,
-      number_again w16 (2 ^ 16) wide16 r.stack_size (one_byte r.peak ++ rest) size,
+      number_again w32 (2 ^ 32) wide32 r.s (four_bytes r.f ++ (four_bytes r.bosr ++ (four_bytes r.losr ++ (one_byte r.slot ++ (one_byte r.level ++ (two_bytes r.segment ++ (place_bytes r.place ++ (four_bytes r.dict ++ (two_bytes r.entries ++ (four_bytes r.stacks ++ (two_bytes r.stack_size ++ (one_byte r.peak ++ rest)))))))))))) t.s,
+      number_again w32 (2 ^ 32) wide32 r.f (four_bytes r.bosr ++ (four_bytes r.losr ++ (one_byte r.slot ++ (one_byte r.level ++ (two_bytes r.segment ++ (place_bytes r.place ++ (four_bytes r.dict ++ (two_bytes r.entries ++ (four_bytes r.stacks ++ (two_bytes r.stack_size ++ (one_byte r.peak ++ rest))))))))))) t.f,
+      number_again w32 (2 ^ 32) wide32 r.bosr (four_bytes r.losr ++ (one_byte r.slot ++ (one_byte r.level ++ (two_bytes r.segment ++ (place_bytes r.place ++ (four_bytes r.dict ++ (two_bytes r.entries ++ (four_bytes r.stacks ++ (two_bytes r.stack_size ++ (one_byte r.peak ++ rest)))))))))) t.bosr,
+      number_again w32 (2 ^ 32) wide32 r.losr (one_byte r.slot ++ (one_byte r.level ++ (two_bytes r.segment ++ (place_bytes r.place ++ (four_bytes r.dict ++ (two_bytes r.entries ++ (four_bytes r.stacks ++ (two_bytes r.stack_size ++ (one_byte r.peak ++ rest))))))))) t.losr,
+      number_again w8 (2 ^ 8) wide8 r.slot (one_byte r.level ++ (two_bytes r.segment ++ (place_bytes r.place ++ (four_bytes r.dict ++ (two_bytes r.entries ++ (four_bytes r.stacks ++ (two_bytes r.stack_size ++ (one_byte r.peak ++ rest)))))))) t.slot,
+      number_again w8 (2 ^ 8) wide8 r.level (two_bytes r.segment ++ (place_bytes r.place ++ (four_bytes r.dict ++ (two_bytes r.entries ++ (four_bytes r.stacks ++ (two_bytes r.stack_size ++ (one_byte r.peak ++ rest))))))) t.level,
+      number_again w16 (2 ^ 16) wide16 r.segment (place_bytes r.place ++ (four_bytes r.dict ++ (two_bytes r.entries ++ (four_bytes r.stacks ++ (two_bytes r.stack_size ++ (one_byte r.peak ++ rest)))))) t.segment,
+      place_again r.place (four_bytes r.dict ++ (two_bytes r.entries ++ (four_bytes r.stacks ++ (two_bytes r.stack_size ++ (one_byte r.peak ++ rest))))) t.place,
+      number_again w32 (2 ^ 32) wide32 r.dict (two_bytes r.entries ++ (four_bytes r.stacks ++ (two_bytes r.stack_size ++ (one_byte r.peak ++ rest)))) t.dict,
+      number_again w16 (2 ^ 16) wide16 r.entries (four_bytes r.stacks ++ (two_bytes r.stack_size ++ (one_byte r.peak ++ rest))) t.entries,
+      number_again w32 (2 ^ 32) wide32 r.stacks (two_bytes r.stack_size ++ (one_byte r.peak ++ rest)) t.stacks,
+      number_again w16 (2 ^ 16) wide16 r.stack_size (one_byte r.peak ++ rest) t.stack_size,
       within_again 64 16383 (r.stack_size, (one_byte r.peak ++ rest)) h.stack_low h.stack_high,
-      number_again w8 (2 ^ 8) wide8 r.peak rest h.peak,
+      number_again w8 (2 ^ 8) wide8 r.peak rest t.peak,
     ) refl
 
 areas_again : (a : Areas) (rest : List ℕ) → AreAreas a → read_areas (areas_bytes a ++ rest) ≡ Some (a, rest)

@@ -4,27 +4,12 @@ use Rattle.std.specs.List.{AllByRecursion}
 use Rattle.std.specs.Int.{w64}
 use mir.Val.{SFits}
 use Rattle.b67_word.specs.Tagged.{IsWord}
-use Rattle.b67_ctl.specs.declared.registers.Regs.{Regs}
 use Rattle.b67_model_text.specs.declared.deck.Switch.{Switch}
 use Rattle.b67_task_tables.specs.declared.tables.JobRow.{JobRow}
 use Rattle.b67_image.specs.Parts.{ToldCounts, ImageParts}
 use Rattle.b67_image.specs.Spelling.{image_bytes}
-use Rattle.b67_image.specs.Within.{IsPlaceInRange, AreAreas, IsRowInRange, IsFour, IsTwo}
-
-pub record AreTypedRegs (r : Regs) : Type 0 where
-  pub s : r.s < 2 ^ 32
-  pub f : r.f < 2 ^ 32
-  pub bosr : r.bosr < 2 ^ 32
-  pub losr : r.losr < 2 ^ 32
-  pub slot : r.slot < 2 ^ 8
-  pub level : r.level < 2 ^ 8
-  pub segment : r.segment < 2 ^ 16
-  pub place : IsPlaceInRange r.place
-  pub dict : r.dict < 2 ^ 32
-  pub entries : r.entries < 2 ^ 16
-  pub stacks : r.stacks < 2 ^ 32
-  pub stack_size : r.stack_size < 2 ^ 16
-  pub peak : r.peak < 2 ^ 8
+pub use Rattle.b67_image.specs.Within.{AreTypedRegs}
+use Rattle.b67_image.specs.Within.{AreAreas, IsRowInRange, IsFour, IsTwo}
 
 pub record AreTypedCounts (c : ToldCounts) : Type 0 where
   pub quantum : c.quantum < 2 ^ 32

@@ -51,19 +51,16 @@ StopsAt k before after (space.NoCore words size) stop = ⊥
 abbrev pub session_resized : Session → SessionJob → Array → ℕ → Session
 session_resized s m a words = with_job s m (with_array m.progress.job a.identity (resized words))
 
--- the machine stands for the session as it was, and everything but the array is held as it was
+-- the machine stands for this session, and everything but the array is held as it was
 pub record StaysButArray (x : Storage) (told : Option (List (List ℕ))) (plan : Placement) (s : Session) (m : SessionJob) (a : Array) (old new : Machine) : Type 0 where
   pub storage : Storage
   pub stands : MachineRepresents storage told new plan s
   pub others : (home : ℕ) → home ≢ plan.home m.constants.number a.identity → storage.held home ≡ x.held home
   pub tables : new.tasks ≡ old.tasks
 
--- the machine stands for the session in which the array has so many words, and everything but the array is held as it was
-pub record HasLength (x : Storage) (told : Option (List (List ℕ))) (plan : Placement) (s : Session) (m : SessionJob) (a : Array) (words : ℕ) (old new : Machine) : Type 0 where
-  pub storage : Storage
-  pub stands : MachineRepresents storage told new plan (session_resized s m a words)
-  pub others : (home : ℕ) → home ≢ plan.home m.constants.number a.identity → storage.held home ≡ x.held home
-  pub tables : new.tasks ≡ old.tasks
+-- and it is the session in which the array has so many words
+abbrev pub HasLength : Storage → Option (List (List ℕ)) → Placement → Session → SessionJob → Array → ℕ → Machine → Machine → Type 0
+HasLength x told plan s m a words old new = StaysButArray x told plan (session_resized s m a words) m a old new
 
 -- the chain of the array lacks so many sectors for so many words, and fewer are free
 pub record ChainLacks (y : Storage) (plan : Placement) (m : SessionJob) (a : Array) (words wants free : ℕ) : Type 0 where

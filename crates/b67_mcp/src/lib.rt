@@ -29,6 +29,7 @@ use crate::resize::resize;
 use crate::waits::wait_for;
 use b67_backing::Backing;
 use b67_io::Sink;
+use b67_model::{ARRAYDEC, DEALLOCATE, PRINT, PRINTROW, PROCESS, READ, RESIZE};
 use b67_task_tables::Machine;
 use b67_word::Fault;
 pub use ends::{CallEnd, Stop};
@@ -71,13 +72,13 @@ pub fn intrinsic<B: Backing, K: Sink>(
     ensures device { DeviceAfterCalls B.holds B.size B.calls B.faults backing.old backing.new }
 {
     match n {
-        8 => Ok(silent(declare(machine))),
-        9 => print(machine, paper),
-        10 => print_row(machine, paper),
-        11 => Ok(silent(read(machine))),
-        12 => start(machine, backing),
-        17 => Ok(silent(deallocate(machine))),
-        18 => resize(machine, backing),
+        ARRAYDEC => Ok(silent(declare(machine))),
+        PRINT => print(machine, paper),
+        PRINTROW => print_row(machine, paper),
+        READ => Ok(silent(read(machine))),
+        PROCESS => start(machine, backing),
+        DEALLOCATE => Ok(silent(deallocate(machine))),
+        RESIZE => resize(machine, backing),
         _ => Ok(wait_for(machine, n)),
     }
 }

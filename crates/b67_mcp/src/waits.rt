@@ -1,6 +1,7 @@
 //! AWAIT, STATUS, WAIT and CAUSE.
 
 ghost use Rattle.std.specs.Prelude.{◌≡◌, ◌≤◌, ℕ, Ok, length};
+ghost use Rattle.b67_model.specs.declared.intrinsics.TheConstants.{AWAIT, CAUSE};
 ghost use Rattle.b67_mcp.specs.Answers.{SilentMeets, waiting_end};
 ghost use Rattle.b67_mcp.specs.Called.{CallsSome, CallTouches, CallFits};
 ghost use Rattle.b67_mcp.specs.Running.{ForCalls, Keeps};
@@ -8,6 +9,7 @@ ghost use Rattle.b67_mcp.specs.Running.{ForCalls, Keeps};
 use crate::running::next_place;
 use crate::{CallEnd, silent};
 use b67_mcp_waits::{await_task, cause, status_of, wait_at};
+use b67_model::{AWAIT, STATUS, WAIT};
 use b67_task_tables::{Machine, TaskState};
 use b67_word::Fault;
 
@@ -28,17 +30,17 @@ fn waiting(done: Result<Option<TaskState>, Fault>) -> CallEnd
 /// anything changed.
 pub(crate) fn wait_for(machine: &mut Machine, n: u8) -> CallEnd
     requires calls { CallsSome machine.old n }
-    requires from { 13 ≤ n }
-    requires upto { n ≤ 16 }
+    requires from { AWAIT ≤ n }
+    requires upto { n ≤ CAUSE }
     ensures row { ForCalls machine.old n (λ x told plan s m t. (count : ℕ) → SilentMeets x told count plan s m t (Ok result) machine.old machine.new) }
     ensures present { ForCalls machine.old n (λ x told plan s m t. CallTouches x plan m t (Ok result) × CallFits (length machine.old.cpu.core) s m t (Ok result)) }
     ensures kept { Keeps machine.old machine.new }
 {
     let next = next_place(machine);
     match n {
-        13 => waiting(await_task(machine, next)),
-        14 => silent(status_of(machine, next)),
-        15 => waiting(wait_at(machine, next)),
+        AWAIT => waiting(await_task(machine, next)),
+        STATUS => silent(status_of(machine, next)),
+        WAIT => waiting(wait_at(machine, next)),
         _ => silent(cause(machine, next)),
     }
 }

@@ -105,22 +105,7 @@ module _ (d : Deck) (range : DeckInRange d) (cards : CardsInRange d) (k : Machin
         let size : k.cpu.regs.stack_size ≡ m.constants.stack_size = stands.session.holds.memory.slots.regs.size ∙ sym (stands.session.holds.fits.sizes m there) in
         let low = set.stack_low in
         let high = set.stack_high in
-        record {
-          s = t.s;
-          f = t.f;
-          bosr = t.bosr;
-          losr = t.losr;
-          slot = t.slot;
-          level = t.level;
-          segment = t.segment;
-          place = t.place;
-          dict = t.dict;
-          entries = t.entries;
-          stacks = t.stacks;
-          stack_low = omega (arith, size, low);
-          stack_high = omega (arith, size, high);
-          peak = t.peak;
-        }
+        record { typed = t; stack_low = omega (arith, size, low); stack_high = omega (arith, size, high) }
 
     links : AreItems 1 1048575 (λ (n : ℕ). n < 2 ^ 32) (links_in k.sectors)
     links =
