@@ -7,7 +7,7 @@ use std::alloc::Global;
 use std::process::Abort;
 use std::test::Fail;
 
-/// Takes all sectors of so many as one chain, and gives them back.
+/// Takes all `count` sectors as one chain, and gives them back.
 fn one_chain(rt: &impl Abort, alloc: Global, count: u32) -> Result<(), Fail>
     requires low { 1 ≤ count }
     requires high { count < 2 ^ 20 }

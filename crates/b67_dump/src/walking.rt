@@ -180,7 +180,7 @@ pub fn top_mark_in(machine: &Machine, slot: u64) -> u64
     }
 }
 
-/// Every 64th mark of a stack stands in a list of so many, so that each mark is found in a few steps. A slot has at most 16,383
+/// The length of the list of every 64th mark of a stack, by which each mark is found in a few steps. A slot has at most 16,383
 /// words, so no session has more marks; those beyond the list are found from the top down.
 pub const STOPS: usize = 256;
 
@@ -195,7 +195,7 @@ fn mark_below(core: &Core, mark: u64, steps: u32) -> u64
     at
 }
 
-/// Every 64th of so many marks from one down.
+/// Every 64th of `count` marks, from one down.
 pub fn stops_of(core: &Core, count: u32, mark: u64) -> ArrayVec<u64, STOPS>
     ensures { AreStops core.now mark result.items }
 {

@@ -39,7 +39,7 @@ fn put_cell(array: u32, into: &mut Bytes) -> Result<(), AllocError>
     put_numbered("NAMC 2,", u64::from(array) + 2, into)
 }
 
-// An array of so many words.
+// An array of `words` words.
 fn put_making(words: u32, into: &mut Bytes) -> Result<(), AllocError>
     ensures { OnOk result (into.new ≡ into.old ++ on_lines (making words)) }
 {

@@ -163,7 +163,7 @@ fn reference_stands(machine: &Machine, records: &[u16], row: TaskRow, high: u64,
             ))
 }
 
-/// Whether a word is a program word of one of so many segments.
+/// Whether a word is a program word of one of `segments` segments.
 #[tactic(auto, unfolding(crate::specs::CellWalk::procedure_stands))]
 fn procedure_stands(segments: u16, w: Word) -> bool
     ensures { result ≡ procedure_stands segments w }
@@ -173,7 +173,7 @@ fn procedure_stands(segments: u16, w: Word) -> bool
         && (w.part(36, 12) == 0 && (1 < entry && entry.saturating_sub(1) <= u64::from(segments)))
 }
 
-/// Whether one of so many data rows, behind so many segments, stands at an address.
+/// Whether one of `rows` data rows, after `segments` segments, stands at an address.
 fn is_row_of(dict: u32, segments: u16, rows: u16, home: u64) -> bool
     ensures { result ≡ (nat_lt (dict + 1 + segments) home && nat_le home (dict + 1 + (segments + rows))) }
 {

@@ -65,7 +65,7 @@ fn is_head(links: &[u32], led: &[bool], n: usize) -> bool
     true
 }
 
-/// Whether a chain of so many sectors begins with that one.
+/// Whether a chain of `many` sectors begins with sector `first`.
 pub fn is_chain(links: &[u32], led: &[bool], first: usize, many: u32) -> bool
     requires inside { AreInside links.now }
     requires led { AreLed links.now led.now }

@@ -126,7 +126,7 @@ fn chain_at(core: &Core, at: u32) -> u32
     w.part(0, 20) as u32
 }
 
-/// Whether an object of so many words has the chain that it must have. An array may have none.
+/// Whether an object of `words` words has the chain that it must have. An array may have none.
 fn has_chain(links: &[u32], led: &[bool], kind: Kind, first: u32, words: u32) -> bool
     requires inside { AreInside links.now }
     requires led { AreLed links.now led.now }

@@ -8,7 +8,7 @@ ghost use Rattle.b67_job_admit.specs.Verdicts.{hex_lines};
 use b67_word::Bytes;
 use std::alloc::AllocError;
 
-/// A card has the digits of so many bytes at most.
+/// The greatest number of bytes whose digits one card has.
 const CARD: usize = 32;
 
 fn hex_char(digit: u8) -> u8

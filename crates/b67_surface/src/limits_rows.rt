@@ -70,7 +70,7 @@ fn cards_at_their_edges(rt: HostRuntime) -> Result<(), Fail> {
     Ok(())
 }
 
-/// A codefile of so many segments and so many data rows, each of as many words as is said.
+/// A codefile with the given numbers of segments and of data rows, and of words in each.
 fn codefile(
     alloc: Global,
     segments: (u8, u16),
