@@ -1,5 +1,5 @@
 -- The search from a procedure's cell down to its frame's mark.
-use Rattle.std.proofs.Common.{◌≡◌, ℕ, ◌+◌, ◌-◌, ◌*◌, ◌/◌, ◌%◌, ◌<◌, ◌≤◌, ◌^◌, List, Some, sym, ◌∙◌, ap, arith, length, ⊎_elim}
+use Rattle.std.proofs.Common.{◌≡◌, ℕ, ◌+◌, ◌-◌, ◌*◌, ◌/◌, ◌%◌, ◌<◌, ◌≤◌, ◌^◌, List, Some, refl, sym, ◌∙◌, ap, arith, length, ⊎_elim}
 use Rattle.std.specs.List.{slice_get}
 use Rattle.std.proofs.lemmas.Bool.{cases_lt}
 use Rattle.std.proofs.lemmas.Nat.{div-mul-add, mod-mul-add}
@@ -89,11 +89,12 @@ module _ (core : List Tagged) (r : Regs) (a : RunningContext core r) (q : Place)
       let m = mark core r (live_of a) f n.standing n.among n.entered (omega (arith, low)) in
       (m.mark, m.fits, m.there, m.level ∙ ap (λ (k : Known). level_of_standing k.1) (sym (frame_known core r (live_of a) q f n.standing n.among)))
 
-  -- the same for the address that was found
-  pub found_spot : (m size : ℕ) → m ≡ frame_at_core a f → size ≡ r.stack_size → ((m - r.stacks) / size ≡ (view a f).stack) × ((m - r.stacks) % size ≡ (view a f).disp) × (0 < size) × ((view a f).stack < 120) × ((view a f).disp < 2 ^ 14)
-  found_spot m size e z =
-      let s = spot_is size z in
-      (ap (λ n. (n - r.stacks) / size) e ∙ s.0, ap (λ n. (n - r.stacks) % size) e ∙ s.1, s.2, s.3, s.4)
+  -- the same for the slot and the displacement that were found
+  pub found_spot : (m slot disp : ℕ) → m ≡ frame_at_core a f → r.stacks + slot * r.stack_size + disp ≡ m → disp < r.stack_size → (slot ≡ (view a f).stack) × (disp ≡ (view a f).disp) × ((view a f).stack < 120) × ((view a f).disp < 2 ^ 14)
+  found_spot m slot disp e at low =
+      let s = spot_is r.stack_size refl in
+      let d : frame_at_core a f - r.stacks ≡ slot * r.stack_size + disp = omega (arith, e, at) in
+      (sym (ap (λ n. n / r.stack_size) d ∙ div-mul-add slot r.stack_size disp low) ∙ s.0, sym (ap (λ n. n % r.stack_size) d ∙ mod-mul-add slot r.stack_size disp low) ∙ s.1, s.3, s.4)
 
   pub found_mark : (m : ℕ) → m ≡ frame_at_core a f → (k : Mscw) × IsMscw k × (slice_get core m ≡ Some (mscw_word k)) × (k.level ≡ level_of_frame (frame (here a.member a.task q) f))
   found_mark m e = let k = mark_there in (k.0, k.1, ap (slice_get core) e ∙ k.2, k.3)

@@ -15,7 +15,7 @@ use Rattle.b67_stack.proofs.Heights.{words-length}
 use Rattle.b67_stack.proofs.Tops.{level-small, mark-fits, mark_high, top_size-high}
 use Rattle.b67_layout.specs.Common.{Placement, Slotted, slot_of, spot_in, outer_spots, shape, head, activations, stack_of_task, slot_with, slot_in, slot_by, slot_at, machine_view, RowsFit, with_objects}
 use Rattle.b67_layout.proofs.Common.{finds, task_row, height-is}
-use Rattle.b67_refer.specs.RunningContext.{LiveContext}
+use Rattle.b67_refer.specs.RunningContext.{LiveContext, HasSlot}
 use Rattle.b67_refer.specs.LiveCells.{IsTop}
 use Rattle.b67_lemmas.proofs.Members.{keyed_has}
 
@@ -138,3 +138,17 @@ module _ (core : List Tagged) (r : Regs) (a : LiveContext core r) where
       let runs : (k == a.plan.running) ≡ true = eq-eqb k a.plan.running (sym a.running.slot) in
       let here : slot_at a.plan a.session.jobs k ≡ Running stack = s.1 ∙ ap (λ (b : Bool). if b then Running stack else Waiting stack) runs in
       subst S here (a.holds.memory.slots.slots k s.0)
+
+  pub has_slot : HasSlot r
+  has_slot =
+      let g = registers in
+      let k = slot_of a.plan a.member.constants.number a.runner.number in
+      let size : r.stack_size ≡ a.plan.size = a.holds.memory.slots.regs.size in
+      let stacks : r.stacks ≡ a.plan.stacks = a.holds.memory.slots.regs.stacks in
+      let first : r.stacks + r.slot * r.stack_size ≡ a.plan.stacks + k * a.plan.size =
+      ap (λ n. n + r.slot * r.stack_size) stacks ∙ ap (λ n. a.plan.stacks + n * r.stack_size) g.slot ∙ ap (λ n. a.plan.stacks + k * n) size in
+      let own : a.member.constants.stack_size ≡ a.plan.size = a.holds.fits.sizes a.member (keyed_has (λ (m : SessionJob). m.constants.number) a.member.constants.number a.session.jobs a.member a.running.member).0 in
+      let low = a.ordered.constants.stack_low in
+      let from = g.first in
+      let to = g.last in
+      record { first = from ∙ sym first; last = omega (arith, from, to, size); some = omega (arith, low, own, size) }

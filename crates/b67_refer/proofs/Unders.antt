@@ -40,18 +40,28 @@ module _ (core : List Tagged) (r : Regs) (a : LiveContext core r) where
       let d : from - r.stacks ≡ u.slot * a.plan.size + u.disp = omega (arith, k, at) in
       ap (λ n. n / size) d ∙ ap (λ n. (u.slot * a.plan.size + u.disp) / n) z ∙ div-mul-add u.slot a.plan.size u.disp u.low
 
-  pub top_running : (from top size : ℕ) (u : IsUnder a from top) → size ≡ r.stack_size → (from - r.stacks) / size ≡ r.slot → r.s ≡ top
-  top_running from top size u e runs = ⊎_elim (λ b. b.1) (λ b. absurd (b.0 (sym runs ∙ slot_found from top size u e))) u.is.by
+  -- the slot that was found
+  spot_slot : (from top slot disp : ℕ) (u : IsUnder a from top) → r.stacks + slot * r.stack_size + disp ≡ from → disp < r.stack_size → slot ≡ u.slot
+  spot_slot from top slot disp u at low =
+      let d : from - r.stacks ≡ slot * r.stack_size + disp = omega (arith, at) in
+      sym (ap (λ n. n / r.stack_size) d ∙ div-mul-add slot r.stack_size disp low) ∙ slot_found from top r.stack_size u refl
 
-  pub top_waiting : (from top size : ℕ) (u : IsUnder a from top) → size ≡ r.stack_size → ((from - r.stacks) / size ≡ r.slot → ⊥)
-      → (w : Toscw) × IsToscw w × (slice_get core (r.stacks + (from - r.stacks) / size * size) ≡ Some (toscw_word w)) × (r.stacks + (from - r.stacks) / size * size + w.s ≡ top)
-  top_waiting from top size u e runs =
-      let first : r.stacks + (from - r.stacks) / size * size ≡ a.plan.stacks + u.slot * a.plan.size =
-      ap (λ n. r.stacks + n * size) (slot_found from top size u e) ∙ ap (λ n. r.stacks + u.slot * n) (e ∙ size_is core r a) ∙ ap (λ n. n + u.slot * a.plan.size) (stacks_is core r a) in
+  pub top_running : (from top slot disp : ℕ) (u : IsUnder a from top) → r.stacks + slot * r.stack_size + disp ≡ from → disp < r.stack_size → slot ≡ r.slot → r.s ≡ top
+  top_running from top slot disp u at low runs = ⊎_elim (λ b. b.1) (λ b. absurd (b.0 (sym runs ∙ spot_slot from top slot disp u at low))) u.is.by
+
+  pub top_waiting : (from top slot disp : ℕ) (u : IsUnder a from top) → r.stacks + slot * r.stack_size + disp ≡ from → disp < r.stack_size → (slot ≡ r.slot → ⊥)
+      → (w : Toscw) × IsToscw w × (slice_get core (r.stacks + slot * r.stack_size) ≡ Some (toscw_word w)) × (r.stacks + slot * r.stack_size + w.s ≡ top)
+  top_waiting from top slot disp u at low runs =
+      let found = spot_slot from top slot disp u at low in
+      let first : r.stacks + slot * r.stack_size ≡ a.plan.stacks + u.slot * a.plan.size =
+      ap (λ n. r.stacks + n * r.stack_size) found ∙ ap (λ n. r.stacks + u.slot * n) (size_is core r a) ∙ ap (λ n. n + u.slot * a.plan.size) (stacks_is core r a) in
       ⊎_elim
-      (λ b. absurd (runs (slot_found from top size u e ∙ sym b.0)))
+      (λ b. absurd (runs (found ∙ sym b.0)))
       (λ b. (b.1.0, b.1.1, ap (slice_get core) first ∙ b.1.2, ap (λ n. n + b.1.0.s) first ∙ b.1.3))
       u.is.by
+
+  pub slots_under : (from top : ℕ) → IsUnder a from top → r.stacks ≤ from
+  slots_under from top u = let k = stacks_is core r a in let at = u.at in omega (arith, k, at)
 
   -- a frame of a task is under its stack's top
   pub under : (f : ℕ) (n : NamesEntered (reach_of a.member.progress.job a.task) f) (own : 1 < f) → IsUnder a (frame_address a.plan a.member a.task f) (seat core r a f n.standing n.among own).top

@@ -1,5 +1,5 @@
 -- The session that core and registers stand for, with its running task, whatever the display shows.
-use Rattle.std.specs.Prelude.{◌≡◌, ℕ, ◌+◌, ◌<◌, ◌≤◌, ◌⊎◌, List, Some}
+use Rattle.std.specs.Prelude.{◌≡◌, ℕ, ◌+◌, ◌*◌, ◌<◌, ◌≤◌, ◌⊎◌, List, Some}
 use Rattle.b67_word.specs.Tagged.{Tagged}
 use Rattle.b67_ctl.specs.declared.map.TheConstants.{DICTIONARY_STACKS, MCP_STACK}
 use Rattle.b67_ctl.specs.declared.registers.Regs.{Regs}
@@ -42,6 +42,12 @@ pub record LiveContext (core : List Tagged) (r : Regs) : Type 0 where
   pub live : keyed (λ (u : Task). u.number) task.number member.progress.job.tasks ≡ Some task
   pub runner : Task
   pub running : IsRunning plan session.jobs member runner
+
+-- the running task's slot is one of the slots, which follow each other
+pub record HasSlot (r : Regs) : Type 0 where
+  pub first : r.bosr ≡ r.stacks + r.slot * r.stack_size
+  pub last : r.losr + 1 ≡ r.bosr + r.stack_size
+  pub some : 0 < r.stack_size
 
 -- from the running task itself
 abbrev pub live_of : {core : List Tagged} {r : Regs} → RunningContext core r → LiveContext core r

@@ -10,6 +10,7 @@ ghost use Rattle.b67_refer.specs.Cells.{view, frame_at_core};
 ghost use Rattle.b67_refer.specs.Ends.{IsProcAt};
 
 use crate::environment::mark_at;
+use crate::spots::spot_of;
 use b67_core::Core;
 use b67_ctl::Regs;
 
@@ -46,11 +47,10 @@ pub fn activation_of(core: &Core, regs: &Regs, cell: u32) -> Activation
         → result ≡ record { stack = (view a f).stack; disp = (view a f).disp; level = level_of_frame (frame (here a.member a.task q) f) } }
 {
     let mark = mark_under(core, regs, cell);
-    let distance = mark - regs.stacks;
-    let size = u32::from(regs.stack_size);
+    let spot = spot_of(regs, mark);
     Activation {
-        stack: (distance / size) as u16,
-        disp: (distance % size) as u16,
+        stack: spot.slot as u16,
+        disp: spot.disp as u16,
         level: mark_at(core, mark).level,
     }
 }

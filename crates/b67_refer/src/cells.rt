@@ -11,6 +11,7 @@ ghost use Rattle.b67_refer.specs.LiveCells as live;
 ghost use Rattle.b67_refer.specs.Cells.{FindsCell};
 
 use crate::environment::address_of;
+use crate::spots::spot_of;
 use b67_core::Core;
 use b67_ctl::{FIRST_INTRINSIC, LAST_INTRINSIC, Regs, Sirw, Toscw};
 use b67_word::{Couple, Fault};
@@ -21,12 +22,11 @@ fn top_of(core: &Core, regs: &Regs, base: u32) -> u32
     requires { (a : LiveContext core.now regs.now) × (top : ℕ) × live.IsUnder a base top }
     ensures { (a : LiveContext core.now regs.now) (top : ℕ) → live.IsUnder a base top → result ≡ top }
 {
-    let size = u32::from(regs.stack_size);
-    let slot = (base - regs.stacks) / size;
+    let slot = spot_of(regs, base).slot;
     if slot == u32::from(regs.slot) {
         return regs.s;
     }
-    let first = regs.stacks + slot * size;
+    let first = regs.stacks + slot * u32::from(regs.stack_size);
     let top = Toscw::read(core.get(first));
     first + u32::from(top.s)
 }

@@ -6,9 +6,11 @@ mod cells;
 mod couples;
 mod ends;
 mod environment;
+mod spots;
 
 pub use activation::{Activation, activation_of};
 pub use cells::{cell_at, cell_of};
 pub use couples::couple_at;
 pub use ends::{End, chase, owner};
 pub use environment::rebuild;
+pub use spots::{Spot, spot_of};

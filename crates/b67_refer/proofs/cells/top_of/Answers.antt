@@ -1,15 +1,28 @@
-use Rattle.std.proofs.Common.{◌∙◌, ◌+◌, ◌*◌, ◌/◌, ◌-◌, ap, sym, ℕ}
+use Rattle.std.proofs.Common.{◌∙◌, ◌+◌, ◌*◌, ap, sym, ℕ}
+use Rattle.std.specs.List.{slice_get}
 use Rattle.std.proofs.lemmas.Option.{same_Some}
 use Rattle.b67_ctl.specs.declared.marks.Toscw.{Toscw}
-use Rattle.b67_refer.proofs.Unders.{top_running, top_waiting}
+use Rattle.b67_refer.proofs.Slots.{has_slot}
+use Rattle.b67_refer.proofs.Unders.{top_running, top_waiting, slots_under}
 use Rattle.b67_refer.proofs.cells.top_of.Goals as goal
 
+pub spot_of-slot-requires-clause-slot : goal.spot_of-slot-requires-clause-slot
+spot_of-slot-requires-clause-slot c = has_slot c.args.core.now c.args.regs.now c.requires.0
+
+pub spot_of-slot-requires-clause-above : goal.spot_of-slot-requires-clause-above
+spot_of-slot-requires-clause-above c = let (a, top, u) = c.requires in slots_under c.args.core.now c.args.regs.now a c.args.base top u
+
 pub returns-then-slot-from : goal.returns-then-slot-from
-returns-then-slot-from c = λ a top u. top_running c.args.core.now c.args.regs.now a c.args.base top c.from-size.result u c.from-size.ensures (c.if-slot-from.true ∙ c.from.ensures)
+returns-then-slot-from c = λ a top u.
+    let s = c.spot_of-slot.result in
+    top_running c.args.core.now c.args.regs.now a c.args.base top s.slot s.disp u c.spot_of-slot.ensures.at c.spot_of-slot.ensures.low (c.if-slot-from.true ∙ c.from.ensures)
 
 pub returns : goal.returns
 returns c = λ a top u.
-    let w = top_waiting c.args.core.now c.args.regs.now a c.args.base top c.from-size.result u c.from-size.ensures (λ z. c.if-slot-from.false (z ∙ sym c.from.ensures)) in
-    let is = same_Some _ _ (sym c.get.ensures ∙ w.2) in
+    let s = c.spot_of-slot.result in
+    let r = c.args.regs.now in
+    let w = top_waiting c.args.core.now r a c.args.base top s.slot s.disp u c.spot_of-slot.ensures.at c.spot_of-slot.ensures.low (λ z. c.if-slot-from.false (z ∙ sym c.from.ensures)) in
+    let size = ap (λ (n : ℕ). r.stacks + s.slot * n) c.from-2.ensures in
+    let is = same_Some _ _ (sym c.get.ensures ∙ ap (slice_get c.args.core.now) size ∙ w.2) in
     let same = c.read-top.ensures w.0 w.1 is in
-    ap (λ (n : ℕ). c.args.regs.now.stacks + (c.args.base - c.args.regs.now.stacks) / c.from-size.result * c.from-size.result + n) (c.from-2.ensures ∙ ap (λ (x : Toscw). x.s) same) ∙ w.3
+    ap (λ (n : ℕ). n + c.from-3.result) size ∙ ap (λ (n : ℕ). r.stacks + s.slot * r.stack_size + n) (c.from-3.ensures ∙ ap (λ (x : Toscw). x.s) same) ∙ w.3
