@@ -1,7 +1,7 @@
 //! The cells of the running task's top activation record: the top ones as words, and others in their place. What
 //! operators on these cells, and pushes, have in common.
 
-ghost use Rattle.std.specs.Prelude.{◌≡◌, ℕ, ◌+◌, ◌-◌, ◌<◌, ◌≤◌, IfOk, OnOk, List, length, ◌++◌, ◌∷◌, None};
+ghost use Rattle.std.specs.Prelude.{◌≡◌, ℕ, ◌+◌, ◌-◌, ◌<◌, ◌≤◌, OnOk, List, length, ◌++◌, ◌∷◌, None, true, false};
 ghost use Rattle.b67_model.specs.Words as words;
 ghost use Rattle.b67_model.specs.Steps.{leaves_cells};
 ghost use Rattle.b67_layout.specs.Meets.{here, Meets, IsMade, RunsSome, ForEach};
@@ -17,16 +17,19 @@ pub fn count_cells(cpu: &Cpu) -> u32
     requires { RunsSome cpu.now }
     ensures count { ForEach cpu.now (λ x plan s m t. result ≡ length (cells_of t)) }
     ensures above { cpu.now.regs.f + result ≤ cpu.now.regs.s }
+    ensures near { cpu.now.regs.s ≤ cpu.now.regs.f + result + 1 }
 {
     let entered = cpu.is_top_entered();
     cpu.regs.s - cpu.regs.f - u32::from(entered)
 }
 
-/// Whether the top activation record has as many cells. Only where it has just as many, or too few, is its mark read.
+/// Whether the top activation record has as many cells. Its mark is read only if it has just as many, or one fewer.
 #[inline]
 fn has_cells(cpu: &Cpu, count: u32) -> bool
     requires { RunsSome cpu.now }
-    ensures { ForEach cpu.now (λ x plan s m t. result ≡ nat_le count (length (cells_of t))) }
+    ensures enough { result ≡ true → ForEach cpu.now (λ x plan s m t. count ≤ length (cells_of t)) }
+    ensures few { result ≡ false → ForEach cpu.now (λ x plan s m t. length (cells_of t) < count) }
+    ensures above { result ≡ true → cpu.now.regs.f + count ≤ cpu.now.regs.s }
 {
     if cpu.regs.s - cpu.regs.f > count {
         return true;
@@ -60,7 +63,7 @@ pub fn two_cells(cpu: &Cpu) -> Result<(Word, Word), Fault>
     Ok((cpu.core.get(cpu.regs.s - 1), cpu.core.get(cpu.regs.s)))
 }
 
-/// Writes the running place field by field, without the byte that fills it up.
+/// The running task goes on at `next`. Field by field, since a place has a byte that needn't be written.
 #[inline(always)]
 pub(crate) fn go_on_at(cpu: &mut Cpu, next: Place)
     ensures { cpu.new ≡ record cpu.old { regs = record cpu.old.regs { place = next } } }
