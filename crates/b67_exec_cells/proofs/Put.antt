@@ -1,6 +1,6 @@
 -- What `drop_cells` and `replace_cells` leave is what the rows on cells make.
 use Rattle.std.proofs.Common.{◌≡◌, ◌≢◌, ℕ, suc, ◌+◌, ◌-◌, ◌<◌, ◌≤◌, List, [], ◌∷◌, ◌++◌, map, length, Ok, Err, None, refl, sym, ◌∙◌, ap, arith, inl, inr, true, false, slice_set, subst, length-append, ◌⊎◌, ⊎_elim, Some}
-use Rattle.std.specs.Prelude.{nat_le}
+use Rattle.std.specs.Prelude.{Bool, nat_le}
 use Rattle.std.specs.List.{slice_get}
 use Rattle.std.proofs.lemmas.Bool.{cases_eq}
 use Rattle.std.proofs.lemmas.Option.{same_Some}
@@ -24,6 +24,10 @@ use Rattle.b67_layout.proofs.Starts as Starts
 use Rattle.b67_exec_cells.specs.Tops.{GivesTwo, MayStand, NoOriginals}
 use Rattle.b67_exec_cells.proofs.Replaced.{cells-are, height-with, shapes_plain, may_push, Represents-less, Represents-put, word_under}
 use Rattle.b67_lemmas.proofs.Members.{keyed_has}
+
+pub flag_low : (b : Bool) → flag_bit b ≤ 1
+flag_low true = omega arith
+flag_low false = omega arith
 
 module _ (x : Storage) (old : Cpu) (plan : Placement) (s : Session) (m : SessionJob) (t : Task) (ordered : IsInOrderButCounts s) (h : RepresentsSession x old plan s) (runs : IsRunning plan s.jobs m t) where
   -- the running stack, and the shapes of its top cells
@@ -182,6 +186,14 @@ module _ (x : Storage) (old : Cpu) (plan : Placement) (s : Session) (m : Session
       cells_above x old.core old.regs (machine_view plan s.jobs) old.regs.slot stack h.holds.memory (Starts.runs_here x old plan s m t h runs)
       ∙ ap (λ (i : ℕ). old.regs.f + i + length (top_cells stack)) (sym (e ∙ ap (λ (w : Mscw). flag_bit w.entered) is))
       ∙ ap (λ (i : ℕ). old.regs.f + n + i) (ap length (cells-are plan m.constants.number m.progress.job plan.running (outer_spots plan m.constants.number m.progress.job t.critical t.parents) t.frames) ∙ length-map (cells t) shaped)
+
+  -- all words above the mark but one are cells
+  pub counted_near : old.regs.s ≤ old.regs.f + length (cells t) + 1
+  counted_near =
+      let mark = top_mark old.regs.slot stack in
+      let e = counted mark (flag_bit mark.entered) refl refl in
+      let low = flag_low mark.entered in
+      omega (arith, e, low)
 
   -- a word that is read is that of the cell there
   read_at : (above : List Word) (w : Word) (rest : List Word) (i : ℕ) (v : Tagged) → cells t ≡ above ++ w ∷ rest → old.regs.s - length above ≡ i → slice_get old.core i ≡ Some v → IsAt x plan m t old.core w i v

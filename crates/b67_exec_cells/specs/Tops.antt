@@ -2,6 +2,7 @@
 use Rattle.std.specs.Prelude.{◌≡◌, ℕ, ◌-◌, false, List, [], ◌∷◌, Result, Ok, Err}
 use Rattle.std.specs.List.{AllByRecursion}
 use Rattle.b67_word.specs.Tagged.{Tagged}
+use Rattle.b67_word.specs.declared.couples.Place.{Place}
 use Rattle.b67_word.specs.declared.faults.Fault.{Fault}
 use Rattle.b67_word.specs.declared.faults.Fault.TheVariants.{StackUnderflow}
 use Rattle.b67_lemmas.specs.Lists.{Has}
@@ -18,6 +19,12 @@ GivesTwo x plan m t cpu [] answer = answer ≡ Err StackUnderflow
 GivesTwo x plan m t cpu (b ∷ []) answer = answer ≡ Err StackUnderflow
 GivesTwo x plan m t cpu (b ∷ a ∷ rest) answer =
     (u v : Tagged) × (answer ≡ Ok (u, v)) × IsAt x plan m t cpu.core a (cpu.regs.s - 1) u × IsAt x plan m t cpu.core b cpu.regs.s v
+
+-- the running task goes on at a place of its segment
+pub record StaysInSegment (old new : Cpu) (next : Place) : Type 0 where
+  pub dict : new.regs.dict ≡ old.regs.dict
+  pub segment : new.regs.segment ≡ old.regs.segment
+  pub place : new.regs.place ≡ next
 
 -- an array of the job
 pub record IsLive (job : Job) (array : ℕ) : Type 0 where

@@ -3,7 +3,7 @@ use Rattle.b67_ctl.specs.Layout.{flag_bit}
 use Rattle.b67_stack.specs.Stacks.{top_mark}
 use Rattle.b67_layout.proofs.Starts.{meets_runs, runs_here}
 use Rattle.b67_layout.specs.Layout.{machine_view, stack_of_task}
-use Rattle.b67_exec_cells.proofs.Put.{room, counted}
+use Rattle.b67_exec_cells.proofs.Put.{room, counted, flag_low}
 use Rattle.b67_exec_cells.proofs.cells.count_cells.Goals as goal
 
 pub is_top_entered-entered-requires : goal.is_top_entered-entered-requires
@@ -29,3 +29,11 @@ returns-clause-count c = λ x plan s m t ordered h runs.
 
 pub returns-clause-above : goal.returns-clause-above
 returns-clause-above c = let q = c.requires in let f = (room q.storage c.args.cpu.now q.plan q.session q.member q.task q.ordered q.stands q.running).top in omega (arith, f)
+
+pub returns-clause-near : goal.returns-clause-near
+returns-clause-near c =
+    let q = c.requires in
+    let n : c.from.result ≡ flag_bit c.is_top_entered-entered.result = search (rules, c.from.ensures) in
+    let low = flag_low c.is_top_entered-entered.result in
+    let f = (room q.storage c.args.cpu.now q.plan q.session q.member q.task q.ordered q.stands q.running).top in
+    omega (arith, n, low, f)

@@ -3,10 +3,10 @@ use Rattle.b67_layout.specs.Tops.{cells}
 use Rattle.b67_exec_cells.proofs.Put.{room, two_given, one_given}
 use Rattle.b67_exec_cells.proofs.cells.two_cells.Goals as goal
 
-pub returns-then-count_cells-lt2-clause-cells : goal.returns-then-count_cells-lt2-clause-cells
-returns-then-count_cells-lt2-clause-cells c = λ x plan s m t ordered h runs.
-    let n = c.count_cells.ensures.count x plan s m t ordered h runs in
-    one_given x c.args.cpu.now plan m t (cells t) (omega (arith, n, c.if-count_cells-lt2.true))
+pub returns-then-not-has_cells-clause-cells : goal.returns-then-not-has_cells-clause-cells
+returns-then-not-has_cells-clause-cells c = λ x plan s m t ordered h runs.
+    let few = c.has_cells.ensures.few c.if-not-has_cells.true x plan s m t ordered h runs in
+    one_given x c.args.cpu.now plan m t (cells t) (omega (arith, few))
 
 pub get-requires : goal.get-requires
 get-requires c = let q = c.requires in let r = room q.storage c.args.cpu.now q.plan q.session q.member q.task q.ordered q.stands q.running in omega (arith, r.last, r.under, r.inside)
@@ -16,5 +16,5 @@ get-requires-2 c = let q = c.requires in let r = room q.storage c.args.cpu.now q
 
 pub returns-clause-cells : goal.returns-clause-cells
 returns-clause-cells c = λ x plan s m t ordered h runs.
-    let n = c.count_cells.ensures.count x plan s m t ordered h runs in
-    two_given x c.args.cpu.now plan s m t ordered h runs c.get.result c.get-2.result c.get.ensures c.get-2.ensures (omega (arith, n, c.if-count_cells-lt2.false))
+    let enough = c.has_cells.ensures.enough c.if-not-has_cells.false x plan s m t ordered h runs in
+    two_given x c.args.cpu.now plan s m t ordered h runs c.get.result c.get-2.result c.get.ensures c.get-2.ensures (omega (arith, enough))
