@@ -1,5 +1,5 @@
 -- The element that two words give.
-use Rattle.std.proofs.Common.{◌≡◌, ◌≢◌, ℕ, ◌-◌, ◌<◌, ℤ, pos, negsuc, List, [], ◌∷◌, ◌++◌, map, length, Result, Ok, Err, refl, sym, ◌∙◌, ap, arith, Bool, true, false, subst}
+use Rattle.std.proofs.Common.{◌≡◌, ◌≢◌, ℕ, ◌-◌, ◌<◌, ℤ, pos, negsuc, List, [], ◌∷◌, ◌++◌, map, length, Result, Ok, Err, refl, sym, ◌∙◌, ap, arith, Bool, true, false, subst, inl, inr}
 use Rattle.std.specs.Prelude.{nat_lt, if◌then◌else◌}
 use Rattle.std.specs.List.{AllByRecursion}
 use Rattle.std.proofs.lemmas.Bool.Decides.{nat_tests}
@@ -20,7 +20,9 @@ use Rattle.b67_exec_cells.specs.Tops.{GivesTwo, NoOriginals}
 use Rattle.b67_layout.proofs.PlainOperands.{plain_operand}
 use Rattle.b67_exec_cells.specs.Elements.{HasElement, HoldsElement, original_desc}
 use Rattle.b67_exec_cells.proofs.Arrays.{array_is}
-use Rattle.b67_fetch.specs.Fetches.{IsFollowed}
+use Rattle.b67_exec_cells.proofs.Rows.{operand_seen}
+use Rattle.b67_fetch.specs.Fetches.{IsFollowed, MayFollow}
+use Rattle.b67_fetch.proofs.Words.{Choice}
 use Rattle.b67_fetch.specs.Indexes.{FindsArray, index_in, FindsItem, FindsTopItem}
 
 abbrev pair : ℕ → ℕ → Answer (ℕ × ℕ)
@@ -259,6 +261,16 @@ module _ (x : Storage) (plan : Placement) (m : SessionJob) (t : Task) where
       → FindsItem plan m found (indexed (here m t q) two.upper two.lower) → FindsTopItem plan m (here m t q) (cells t) found
   below q found u v two z i = by_order q found u v two (two.upper, two.lower) (index_below_it v two.upper two.lower two.top.at two.top.is z) i
 
+  -- the one that was chosen is followed, and the other is the index
+  pub chosen_item : (q : Place) (found : Result (ℕ × ℕ) Fault) (words chosen : Tagged × Tagged) (two : TwoFollowed x plan m t words.0 words.1) → Choice words chosen
+      → ((v i : Word) → IsFollowed x plan m t chosen.0 v → operand_bits chosen.1 ≡ operand i → FindsItem plan m found (indexed (here m t q) v i)) → FindsTopItem plan m (here m t q) (cells t) found
+  chosen_item q found words chosen two (inl (z, same)) each =
+      let E : Tagged × Tagged → Type 0 = λ p. (v i : Word) → IsFollowed x plan m t p.0 v → operand_bits p.1 ≡ operand i → FindsItem plan m found (indexed (here m t q) v i) in
+      above q found words.0 words.1 two z (subst E same each two.lower two.upper two.second (operand_seen x plan m t two.top.at words.1 two.upper two.top.is))
+  chosen_item q found words chosen two (inr (z, same)) each =
+      let E : Tagged × Tagged → Type 0 = λ p. (v i : Word) → IsFollowed x plan m t p.0 v → operand_bits p.1 ≡ operand i → FindsItem plan m found (indexed (here m t q) v i) in
+      below q found words.0 words.1 two z (subst E same each two.upper two.lower two.top (operand_seen x plan m t two.second.at words.0 two.lower two.second.is))
+
   pub fewer : (q : Place) (cpu : Cpu) (fault : Fault) → GivesTwo x plan m t cpu (cells t) (Err fault) → FindsTopItem plan m (here m t q) (cells t) (Err fault)
   fewer q cpu fault given = by (cells t) given
     where
@@ -266,6 +278,10 @@ module _ (x : Storage) (plan : Placement) (m : SessionJob) (t : Task) where
       by [] g = let same : fault ≡ StackUnderflow = (let e = g in cc) in rw same refl
       by (b ∷ []) g = let same : fault ≡ StackUnderflow = (let e = g in cc) in rw same refl
       by (b ∷ a ∷ rest) g = absurd (let e = g.2 in let z : ⊥ = cc in z)
+
+pub follows_one : (cpu : Cpu) (q : RunsSome cpu) (words chosen : Tagged × Tagged) → TwoFollowed q.storage q.plan q.member q.task words.0 words.1 → Choice words chosen → MayFollow cpu chosen.0
+follows_one cpu q words chosen two (inl (z, same)) = subst (λ (p : Tagged × Tagged). MayFollow cpu p.0) (sym same) (record { runs = q; word = two.lower; followed = two.second })
+follows_one cpu q words chosen two (inr (z, same)) = subst (λ (p : Tagged × Tagged). MayFollow cpu p.0) (sym same) (record { runs = q; word = two.upper; followed = two.top })
 
 pub holds_item : (cpu : Cpu) (runs : RunsSome cpu) (q : Place) (found : ℕ × ℕ) → FindsTopItem runs.plan runs.member (here runs.member runs.task q) (cells runs.task) (Ok found) → HoldsElement cpu found.0 found.1
 holds_item cpu runs q found f =

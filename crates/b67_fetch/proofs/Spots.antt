@@ -64,8 +64,8 @@ module _ (core : List Tagged) (r : Regs) (a : RunningContext core r) (f base off
       ap (λ (k : ℕ). let z : Sirw = record { stack = 127 + k; disp = 0; offset = offset } in z) j ∙ ap (λ (z : StackPlace). let k : Sirw = record { stack = z.stack; disp = z.disp; offset = offset } in k) (sym spot)
 
   -- in a slot
-  pub in_slot : (size : ℕ) → base ≢ 0 → base ≢ r.dict → size ≡ r.stack_size → (r.stacks ≤ base) × ((base - r.stacks) / size ≡ (view a f).stack) × ((base - r.stacks) % size ≡ (view a f).disp) × (0 < size) × ((view a f).stack < 120) × ((view a f).disp < 2 ^ 14)
-  in_slot size some other is =
+  by_division : (size : ℕ) → base ≢ 0 → base ≢ r.dict → size ≡ r.stack_size → (r.stacks ≤ base) × ((base - r.stacks) / size ≡ (view a f).stack) × ((base - r.stacks) % size ≡ (view a f).disp) × (0 < size) × ((view a f).stack < 120) × ((view a f).disp < 2 ^ 14)
+  by_division size some other is =
       let own = is_task core r (live_of a) f base n e some other in
       let b = seat core r (live_of a) f n.standing n.among own in
       let at = seat_address core r (live_of a) a.task.place f n.standing b n.entered own in
@@ -86,7 +86,17 @@ module _ (core : List Tagged) (r : Regs) (a : RunningContext core r) (f base off
         (let y : (view a f).disp ≡ height b.below = ap (λ (y : StackPlace). y.disp) sp in omega (arith, y, low, small)),
       )
 
-  pub slot_spot : (size : ℕ) → base ≢ 0 → base ≢ r.dict → size ≡ r.stack_size → ◌≡◌ {A = Sirw} (record { stack = (base - r.stacks) / size; disp = (base - r.stacks) % size; offset = offset }) (record { stack = (view a f).stack; disp = (view a f).disp; offset = offset })
-  slot_spot size some other is =
-      let i = in_slot size some other is in
-      ap (λ (k : ℕ). let z : Sirw = record { stack = k; disp = (base - r.stacks) % size; offset = offset } in z) i.1 ∙ ap (λ (k : ℕ). let z : Sirw = record { stack = (view a f).stack; disp = k; offset = offset } in z) i.2
+  pub in_slots : base ≢ 0 → base ≢ r.dict → r.stacks ≤ base
+  in_slots some other = (by_division r.stack_size some other refl).0
+
+  -- the slot and the displacement that were found
+  pub in_slot : (slot disp : ℕ) → base ≢ 0 → base ≢ r.dict → r.stacks + slot * r.stack_size + disp ≡ base → disp < r.stack_size → (slot ≡ (view a f).stack) × (disp ≡ (view a f).disp) × ((view a f).stack < 120) × ((view a f).disp < 2 ^ 14)
+  in_slot slot disp some other at low =
+      let s = by_division r.stack_size some other refl in
+      let d : base - r.stacks ≡ slot * r.stack_size + disp = omega (arith, at) in
+      (sym (ap (λ m. m / r.stack_size) d ∙ div-mul-add slot r.stack_size disp low) ∙ s.1, sym (ap (λ m. m % r.stack_size) d ∙ mod-mul-add slot r.stack_size disp low) ∙ s.2, s.4, s.5)
+
+  pub slot_spot : (slot disp : ℕ) → base ≢ 0 → base ≢ r.dict → r.stacks + slot * r.stack_size + disp ≡ base → disp < r.stack_size → ◌≡◌ {A = Sirw} (record { stack = slot; disp = disp; offset = offset }) (record { stack = (view a f).stack; disp = (view a f).disp; offset = offset })
+  slot_spot slot disp some other at low =
+      let i = in_slot slot disp some other at low in
+      ap (λ (k : ℕ). let z : Sirw = record { stack = k; disp = disp; offset = offset } in z) i.0 ∙ ap (λ (k : ℕ). let z : Sirw = record { stack = (view a f).stack; disp = k; offset = offset } in z) i.1

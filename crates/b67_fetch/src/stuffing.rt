@@ -13,7 +13,7 @@ ghost use Rattle.b67_refer.specs.Cells.{reach, view, frame_at_core};
 use b67_core::Core;
 use b67_ctl::{DICTIONARY_STACKS, Irw, MCP_STACK, Regs, STACK_VECTOR, Sirw, VectorWord};
 use b67_exec_cells::{branch_to, replace_cells, top_cell};
-use b67_refer::{cell_of, couple_at};
+use b67_refer::{cell_of, couple_at, spot_of};
 use b67_stack::{Cpu, Step};
 use b67_word::{Fault, Place};
 
@@ -42,18 +42,17 @@ fn stuffed(core: &Core, regs: &Regs, base: u32, offset: u16) -> Sirw
             offset,
         };
     }
-    let distance = base - regs.stacks;
-    let size = u32::from(regs.stack_size);
+    let spot = spot_of(regs, base);
     Sirw {
-        stack: (distance / size) as u16,
-        disp: (distance % size) as u16,
+        stack: spot.slot as u16,
+        disp: spot.disp as u16,
         offset,
     }
 }
 
 /// Puts the stuffed reference of the cell that the couple on top names in its place, and goes on at `next`. A stuffed
 /// one stays. STACK UNDERFLOW, INVALID OPERAND if it is no reference, INVALID ADDRESS.
-#[inline(never)]
+#[inline(always)]
 pub fn stff(cpu: &mut Cpu, next: Place) -> Step
     requires { RunsSome cpu.old }
     ensures row { ForEach cpu.old (λ x plan s m t. let h = here m t next in Meets x plan s m result cpu.old cpu.new (rows.on_cells (rows.stff h) h)) }

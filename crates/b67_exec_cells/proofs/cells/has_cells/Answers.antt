@@ -1,4 +1,4 @@
-use Rattle.std.proofs.Common.{refl, arith}
+use Rattle.std.proofs.Common.{arith}
 use Rattle.b67_exec_cells.proofs.Put.{room, counted_near}
 use Rattle.b67_exec_cells.proofs.cells.has_cells.Goals as goal
 
