@@ -9,7 +9,7 @@ use Rattle.b67_model_text.specs.declared.assembly.Statement.TheVariants as state
 use Rattle.b67_model_text.specs.declared.assembly.Line.{Line}
 use Rattle.b67_model_text.specs.Answers.{Answer, ◌>>=◌, ◌>>◌, needs}
 use Rattle.b67_model_text.specs.Deck.{Refusal, of_card}
-use Rattle.b67_model_text.specs.Asm.{Scope, SegmentContent, after_sketch, after_operator, syllable_after_card, placed_cards, denoted, card_operator, entry_syllable, entry_syllables, check_entry, check_card, check_cards, operator_of, operators_of, inserted_in_order, content_of}
+use Rattle.b67_model_text.specs.Asm.{Scope, SegmentContent, after_sketch, after_operator, syllable_after_card, placed_cards, denoted, card_operator, entry_syllable, entry_syllables, check_entry, check_card, check_cards, denoted_operator, denoted_operators, inserted_in_order, content_of}
 use Rattle.b67_model_text.specs.Pass.{Added, AddedOperator, AddedEntry, entry_added, added_by, syllable_behind, entries_behind, with_added, pass_content}
 use Rattle.b67_model_text.proofs.Contents.{taken_of, behind_is}
 
@@ -51,7 +51,7 @@ same_with n ns ms same = record {
 
 -- the content of these cards behind these entries
 abbrev content_behind : Scope → List ℕ → List Line → SegmentContent
-content_behind x entries lines = record { operators = operators_of x lines; entries = fold (λ sorted n. inserted_in_order n sorted) entries (entry_syllables x lines) }
+content_behind x entries lines = record { operators = denoted_operators x lines; entries = fold (λ sorted n. inserted_in_order n sorted) entries (entry_syllables x lines) }
 
 abbrev answer : SegmentContent → Result SegmentContent Refusal
 answer content = Ok content
@@ -70,20 +70,20 @@ IsPassed x before more = (n : ℕ) (entries : List ℕ) → AreSame entries (ent
 
 operator_passed : (x : Scope) (n : ℕ) (before : List Line) (entries : List ℕ) (l : Line) (more : List Line) (label : Option (List ℕ)) (own : sketch.Sketch) → l.says ≡ Ok (statements.Operator label own) → AreSame entries (entry_syllables x before) → IsPassed x (l ∷ before) more
     → (o : Answer Op) → card_operator x n label own ≡ o
-    → ((of_card l.number (o >>= λ op. Ok tt) >> check_cards x (l ∷ before) (placed_cards (after_sketch own n) more)) >> answer (record { operators = cons_option (denoted x own) (operators_of x more); entries = fold (λ sorted n. inserted_in_order n sorted) entries (entry_syllables x more) }))
+    → ((of_card l.number (o >>= λ op. Ok tt) >> check_cards x (l ∷ before) (placed_cards (after_sketch own n) more)) >> answer (record { operators = cons_option (denoted x own) (denoted_operators x more); entries = fold (λ sorted n. inserted_in_order n sorted) entries (entry_syllables x more) }))
     ≡ (of_card l.number (o >>= λ op. Ok (AddedOperator op)) >>= rest_of x n entries more)
 operator_passed x n before entries l more label own says same go (Err reason) e = refl
 operator_passed x n before entries l more label own says same go (Ok op) e =
     let t = taken_of x n label own op e in
     let here : AreSame entries (entry_syllables x (l ∷ before)) = subst (λ (a : Answer statement.Statement). AreSame entries (cons_option (entry_syllable x a) (entry_syllables x before))) (sym says) same in
-    ap (λ (o : Option Op). check_cards x (l ∷ before) (placed_cards (after_sketch own n) more) >> answer (record { operators = cons_option o (operators_of x more); entries = fold (λ sorted n. inserted_in_order n sorted) entries (entry_syllables x more) })) t.denotes
+    ap (λ (o : Option Op). check_cards x (l ∷ before) (placed_cards (after_sketch own n) more) >> answer (record { operators = cons_option o (denoted_operators x more); entries = fold (λ sorted n. inserted_in_order n sorted) entries (entry_syllables x more) })) t.denotes
     ∙ ap (λ (k : ℕ). check_cards x (l ∷ before) (placed_cards k more) >> answer (with_added (AddedOperator op) (content_behind x entries more))) (behind_is x own op n t.denotes)
     ∙ added_last (check_cards x (l ∷ before) (placed_cards (after_operator n op) more)) (AddedOperator op) (content_behind x entries more)
     ∙ ap (λ (r : Result SegmentContent Refusal). r >>= λ rest. Ok (with_added (AddedOperator op) rest)) (go (after_operator n op) entries here)
 
 entry_passed : (x : Scope) (n : ℕ) (before : List Line) (entries : List ℕ) (l : Line) (more : List Line) (label : List ℕ) → l.says ≡ Ok (statements.Entry label) → AreSame entries (entry_syllables x before) → IsPassed x (l ∷ before) more
     → (o : Option ℕ) → x.labels label ≡ o
-    → ((of_card l.number (check_entry (entry_syllables x before) o) >> check_cards x (l ∷ before) (placed_cards n more)) >> answer (record { operators = operators_of x more; entries = fold (λ sorted n. inserted_in_order n sorted) entries (cons_option o (entry_syllables x more)) }))
+    → ((of_card l.number (check_entry (entry_syllables x before) o) >> check_cards x (l ∷ before) (placed_cards n more)) >> answer (record { operators = denoted_operators x more; entries = fold (λ sorted n. inserted_in_order n sorted) entries (cons_option o (entry_syllables x more)) }))
     ≡ (of_card l.number (entry_added entries o) >>= rest_of x n entries more)
 entry_passed x n before entries l more label says same go None e = refl
 entry_passed x n before entries l more label says same go (Some m) e =
@@ -114,7 +114,7 @@ entry_passed x n before entries l more label says same go (Some m) e =
 
 card_passed : (x : Scope) (n : ℕ) (before : List Line) (entries : List ℕ) (l : Line) (more : List Line) → AreSame entries (entry_syllables x before) → IsPassed x (l ∷ before) more
     → (a : Answer statement.Statement) → l.says ≡ a
-    → ((of_card l.number (a >>= check_card x before n) >> check_cards x (l ∷ before) (placed_cards (syllable_after_card n a) more)) >> answer (record { operators = cons_option (operator_of x a) (operators_of x more); entries = fold (λ sorted n. inserted_in_order n sorted) entries (cons_option (entry_syllable x a) (entry_syllables x more)) }))
+    → ((of_card l.number (a >>= check_card x before n) >> check_cards x (l ∷ before) (placed_cards (syllable_after_card n a) more)) >> answer (record { operators = cons_option (denoted_operator x a) (denoted_operators x more); entries = fold (λ sorted n. inserted_in_order n sorted) entries (cons_option (entry_syllable x a) (entry_syllables x more)) }))
     ≡ (of_card l.number (a >>= added_by x n entries) >>= rest_of x n entries more)
 card_passed x n before entries l more same go (Err reason) e = refl
 card_passed x n before entries l more same go (Ok (statements.Segment name level)) e = refl

@@ -37,12 +37,12 @@ definition s r (Ok (statements.Segment name level)) = Some (name, means.Segment 
 definition s r (Ok (statements.Row name)) = Some (name, means.Row r)
 definition s r _ = None
 
--- how many segments there are with a card's, of so many before it
+-- how many segments begin up to a card, if so many begin before it
 abbrev pub segments_behind : ℕ → Answer statement.Statement → ℕ
 segments_behind s (Ok (statements.Segment name level)) = s + 1
 segments_behind s _ = s
 
--- how many data rows there are with a card's, of so many before it
+-- how many data rows begin up to a card, if so many begin before it
 abbrev pub rows_behind : ℕ → Answer statement.Statement → ℕ
 rows_behind r (Ok (statements.Row name)) = r + 1
 rows_behind r _ = r
@@ -52,7 +52,7 @@ abbrev pub definitions : ℕ → ℕ → List Line → List (List ℕ × named.N
 definitions s r [] = []
 definitions s r (l ∷ more) = cons_option (definition s r l.says) (definitions (segments_behind s l.says) (rows_behind r l.says) more)
 
--- how many segments there are with those of these cards
+-- how many segments begin up to the last of these cards, if so many begin before them
 abbrev pub segment_count : ℕ → List Line → ℕ
 segment_count s [] = s
 segment_count s (l ∷ more) = segment_count (segments_behind s l.says) more
@@ -272,7 +272,7 @@ abbrev pub check_entry : List ℕ → Option ℕ → Answer ⊤
 check_entry others None = Err 5
 check_entry others (Some n) = needs (not (n == 0) && not (list_any (λ m. m == n) others) && nat_lt (length others) 255) 10
 
--- why a card of a segment is refused that stands at syllable n, behind these cards
+-- what is refused of a segment's card that stands at syllable n, behind these cards
 abbrev pub check_card : Scope → (before : List Line) (n : ℕ) → statement.Statement → Answer ⊤
 check_card x before n (statements.Operator label sketch) = card_operator x n label sketch >>= λ op. Ok tt
 check_card x before n (statements.Entry label) = check_entry (entry_syllables x before) (x.labels label)
@@ -284,13 +284,13 @@ check_cards x before [] = Ok tt
 check_cards x before (c ∷ more) = of_card c.card.number (c.card.says >>= check_card x before c.syllable) >> check_cards x (c.card ∷ before) more
 
 -- the operator that a card denotes
-abbrev pub operator_of : Scope → Answer statement.Statement → Option Op
-operator_of x (Ok (statements.Operator label sketch)) = denoted x sketch
-operator_of x _ = None
+abbrev pub denoted_operator : Scope → Answer statement.Statement → Option Op
+denoted_operator x (Ok (statements.Operator label sketch)) = denoted x sketch
+denoted_operator x _ = None
 
 -- the operators of cards, in card order
-abbrev pub operators_of : Scope → List Line → List Op
-operators_of x lines = filter_map (λ (l : Line). operator_of x l.says) lines
+abbrev pub denoted_operators : Scope → List Line → List Op
+denoted_operators x lines = filter_map (λ (l : Line). denoted_operator x l.says) lines
 
 -- a number among numbers in order
 abbrev pub inserted_in_order : ℕ → List ℕ → List ℕ
@@ -308,7 +308,7 @@ pub record SegmentContent : Type 0 where
 
 -- the content of a segment's cards, or the first refused card
 abbrev pub content_of : Scope → List Line → Result SegmentContent Refusal
-content_of x lines = check_cards x [] (placed_cards 0 lines) >> Ok (record { operators = operators_of x lines; entries = in_rising_order (entry_syllables x lines) })
+content_of x lines = check_cards x [] (placed_cards 0 lines) >> Ok (record { operators = denoted_operators x lines; entries = in_rising_order (entry_syllables x lines) })
 
 -- ---- the cards of a data row
 
