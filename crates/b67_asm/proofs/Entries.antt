@@ -7,7 +7,9 @@ use Rattle.b67_codefile.specs.Spelling.{entry_count, EntriesRise, AreEntries}
 use Rattle.b67_model_text.specs.declared.assembly.Line.{Line}
 use Rattle.b67_model_text.specs.Deck.{Refusal}
 use Rattle.b67_model_text.specs.Asm as asm
+use Rattle.b67_model_text.specs.Pass as pass
 use Rattle.b67_model_text.proofs.Contents.{AddsEntry, headed, same_Ok, label_small}
+use Rattle.b67_model_text.proofs.Pass.{content_is}
 use Rattle.b67_asm.specs.Putting.{put_behind}
 use Rattle.b67_asm.specs.Blocks.{has_entry_card}
 use Rattle.b67_asm.specs.Scope.{scope_at}
@@ -58,26 +60,26 @@ record Fit (entries : List ℕ) : Type 0 where
 abbrev AreLow : (List ℕ → Option ℕ) → Type 0
 AreLow labels = (q : List ℕ) (m : ℕ) → labels q ≡ Some m → m ≤ 6 * 8191
 
-entry_fits : (x : asm.Scope) (entries : List ℕ) (l : Line) (added : asm.Added) → AreLow x.labels → Fit entries → AddsEntry x entries l added → Fit (asm.entries_behind entries added)
-entry_fits x entries l added low fit a = subst (λ (added : asm.Added). Fit (asm.entries_behind entries added)) a.is (record {
+entry_fits : (x : asm.Scope) (entries : List ℕ) (l : Line) (added : pass.Added) → AreLow x.labels → Fit entries → AddsEntry x entries l added → Fit (pass.entries_behind entries added)
+entry_fits x entries l added low fit a = subst (λ (added : pass.Added). Fit (pass.entries_behind entries added)) a.is (record {
   rise = rises_in 0 a.syllable entries fit.rise a.above a.fresh;
   few = omega (arith, length_in a.syllable entries, a.few);
   low = all_low a.syllable entries fit.low (low a.label a.syllable a.found);
 })
 
-same_entries : (added : asm.Added) (rest : asm.SegmentContent) → (asm.with_added added rest).entries ≡ rest.entries
-same_entries (asm.AddedOperator op) rest = refl
-same_entries (asm.AddedEntry n) rest = refl
+same_entries : (added : pass.Added) (rest : asm.SegmentContent) → (pass.with_added added rest).entries ≡ rest.entries
+same_entries (pass.AddedOperator op) rest = refl
+same_entries (pass.AddedEntry n) rest = refl
 
-content_fits : (x : asm.Scope) (n : ℕ) (entries : List ℕ) (lines : List Line) (content : asm.SegmentContent) → AreLow x.labels → Fit entries → asm.content_of x n entries lines ≡ Ok content → Fit content.entries
+content_fits : (x : asm.Scope) (n : ℕ) (entries : List ℕ) (lines : List Line) (content : asm.SegmentContent) → AreLow x.labels → Fit entries → pass.pass_content x n entries lines ≡ Ok content → Fit content.entries
 content_fits x n entries [] content low fit e = subst (λ (c : asm.SegmentContent). Fit c.entries) (same_Ok (record { operators = []; entries = entries }) content e) fit
 content_fits x n entries (l ∷ more) content low fit e =
     let h = headed x n entries l more content e in
-    let behind : Fit (asm.entries_behind entries h.added) = elim h.adds [
-      | inl a ↦ subst (λ (added : asm.Added). Fit (asm.entries_behind entries added)) a.is fit
+    let behind : Fit (pass.entries_behind entries h.added) = elim h.adds [
+      | inl a ↦ subst (λ (added : pass.Added). Fit (pass.entries_behind entries added)) a.is fit
       | inr a ↦ entry_fits x entries l h.added low fit a
     ] in
-    let rest = content_fits x (asm.syllable_behind n h.added) (asm.entries_behind entries h.added) more h.rest low behind h.behind_it in
+    let rest = content_fits x (pass.syllable_behind n h.added) (pass.entries_behind entries h.added) more h.rest low behind h.behind_it in
     subst (λ (c : asm.SegmentContent). Fit c.entries) h.all (subst Fit (sym (same_entries h.added h.rest)) rest)
 
 count_is : (n : ℕ) → n ≤ 6 * 8191 → entry_count (asm.syllable_bits n) ≡ n
@@ -107,34 +109,36 @@ content_found (Ok content) syllables entries e = (content, refl, ap entries_in e
 content_found (Err refusal) syllables entries e = absurd (let z : ⊥ = cc in z)
 
 -- the entries of a segment are those of a codefile
-pub entries_fit : (names : asm.Names) (segments l : ℕ) (lines : List Line) (syllables entries own : List ℕ) → put_behind [] (asm.content_of (scope_at names segments l lines) 0 [] lines) ≡ Ok (syllables, entries) → own ≡ map asm.syllable_bits entries → AreEntries own
+pub entries_fit : (names : asm.Names) (segments l : ℕ) (lines : List Line) (syllables entries own : List ℕ) → put_behind [] (asm.content_of (scope_at names segments l lines) lines) ≡ Ok (syllables, entries) → own ≡ map asm.syllable_bits entries → AreEntries own
 entries_fit names segments l lines syllables entries own e is =
     let x = scope_at names segments l lines in
-    let found = content_found (asm.content_of x 0 [] lines) syllables entries e in
+    let found = content_found (asm.content_of x lines) syllables entries e in
+    let passed : pass.pass_content x 0 [] lines ≡ Ok found.0 = sym (content_is x lines) ∙ found.1 in
     let none : Fit [] = record { rise = tt; few = omega arith; low = tt } in
-    let fit = content_fits x 0 [] lines found.0 (λ q m there. label_small x 0 [] lines found.0 q m found.1 there) none found.1 in
+    let fit = content_fits x 0 [] lines found.0 (λ q m there. label_small x 0 [] lines found.0 q m passed there) none passed in
     let here : Fit entries = subst Fit found.2 fit in
     subst AreEntries (sym is) (record { few = omega (arith, here.few, length_bits entries); rise = bits_rise 0 entries here.rise here.low })
 
 -- ---- without ENTRY cards there are no entries
 
-plain_content : (x : asm.Scope) (n : ℕ) (entries : List ℕ) (lines : List Line) (content : asm.SegmentContent) → has_entry_card lines ≡ false → asm.content_of x n entries lines ≡ Ok content → content.entries ≡ entries
+plain_content : (x : asm.Scope) (n : ℕ) (entries : List ℕ) (lines : List Line) (content : asm.SegmentContent) → has_entry_card lines ≡ false → pass.pass_content x n entries lines ≡ Ok content → content.entries ≡ entries
 plain_content x n entries [] content none e = ap (λ (c : asm.SegmentContent). c.entries) (sym (same_Ok (record { operators = []; entries = entries }) content e))
 plain_content x n entries (l ∷ more) content none e =
     let h = headed x n entries l more content e in
     let parts = or_parts (asm.says_entry l.says) (has_entry_card more) none in
-    let stay : asm.entries_behind entries h.added ≡ entries = elim h.adds [
-      | inl a ↦ ap (asm.entries_behind entries) (sym a.is)
+    let stay : pass.entries_behind entries h.added ≡ entries = elim h.adds [
+      | inl a ↦ ap (pass.entries_behind entries) (sym a.is)
       | inr a ↦ absurd (let no : true ≡ false = sym (ap asm.says_entry a.says) ∙ parts.0 in let z : ⊥ = cc in z)
     ] in
-    let rest = plain_content x (asm.syllable_behind n h.added) (asm.entries_behind entries h.added) more h.rest parts.1 h.behind_it in
+    let rest = plain_content x (pass.syllable_behind n h.added) (pass.entries_behind entries h.added) more h.rest parts.1 h.behind_it in
     ap (λ (c : asm.SegmentContent). c.entries) (sym h.all) ∙ same_entries h.added h.rest ∙ rest ∙ stay
 
-pub no_entries : (names : asm.Names) (segments l : ℕ) (lines : List Line) (syllables entries own : List ℕ) → put_behind [] (asm.content_of (scope_at names segments l lines) 0 [] lines) ≡ Ok (syllables, entries) → own ≡ map asm.syllable_bits entries → has_entry_card lines ≡ false → own ≡ []
+pub no_entries : (names : asm.Names) (segments l : ℕ) (lines : List Line) (syllables entries own : List ℕ) → put_behind [] (asm.content_of (scope_at names segments l lines) lines) ≡ Ok (syllables, entries) → own ≡ map asm.syllable_bits entries → has_entry_card lines ≡ false → own ≡ []
 no_entries names segments l lines syllables entries own e is none =
     let x = scope_at names segments l lines in
-    let found = content_found (asm.content_of x 0 [] lines) syllables entries e in
-    let here : entries ≡ [] = sym found.2 ∙ plain_content x 0 [] lines found.0 none found.1 in
+    let found = content_found (asm.content_of x lines) syllables entries e in
+    let passed : pass.pass_content x 0 [] lines ≡ Ok found.0 = sym (content_is x lines) ∙ found.1 in
+    let here : entries ≡ [] = sym found.2 ∙ plain_content x 0 [] lines found.0 none passed in
     is ∙ ap (map asm.syllable_bits) here
 
 -- ---- the own cards of a segment or row

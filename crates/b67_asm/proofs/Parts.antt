@@ -16,7 +16,7 @@ use Rattle.b67_codefile.specs.declared.file.Segment.{Segment}
 use Rattle.b67_codefile.specs.declared.file.Codefile.{Codefile}
 
 abbrev segment_rest : asm.Names → ℕ → List Line → ℕ → Result asm.Part Refusal
-segment_rest names segments lines l = asm.content_of (scope_at names segments l lines) 0 [] lines >>= λ content. Ok (asm.CodePart (record { level = l; entries = map asm.syllable_bits content.entries; code = code_words content.operators }))
+segment_rest names segments lines l = asm.content_of (scope_at names segments l lines) lines >>= λ content. Ok (asm.CodePart (record { level = l; entries = map asm.syllable_bits content.entries; code = code_words content.operators }))
 
 -- a segment is its card's level and its code
 pub segment_is : (names : asm.Names) (segments s r number : ℕ) (name : List ℕ) (level : Option ℕ) (lines : List Line) → asm.segment_part names segments s r number name level lines ≡ (of_card number (segment_head names s r name level lines) >>= segment_rest names segments lines)
@@ -54,9 +54,9 @@ code_part (Ok content) l syllables entries own code e o h =
     ∙ ap (λ (es : List ℕ). Ok (asm.CodePart (record { level = l; entries = es; code = code }))) (ap (map asm.syllable_bits) listed ∙ sym o)
 code_part (Err refusal) l syllables entries own code e o h = absurd (let z : ⊥ = cc in z)
 
-pub segment_ok : (names : asm.Names) (segments s r number l : ℕ) (name : List ℕ) (level : Option ℕ) (lines : List Line) (syllables entries own code : List ℕ) → segment_head names s r name level lines ≡ Ok l → put_behind [] (asm.content_of (scope_at names segments l lines) 0 [] lines) ≡ Ok (syllables, entries) → own ≡ map asm.syllable_bits entries → code ≡ packed_words syllables → asm.segment_part names segments s r number name level lines ≡ Ok (asm.CodePart (record { level = l; entries = own; code = code }))
+pub segment_ok : (names : asm.Names) (segments s r number l : ℕ) (name : List ℕ) (level : Option ℕ) (lines : List Line) (syllables entries own code : List ℕ) → segment_head names s r name level lines ≡ Ok l → put_behind [] (asm.content_of (scope_at names segments l lines) lines) ≡ Ok (syllables, entries) → own ≡ map asm.syllable_bits entries → code ≡ packed_words syllables → asm.segment_part names segments s r number name level lines ≡ Ok (asm.CodePart (record { level = l; entries = own; code = code }))
 segment_ok names segments s r number l name level lines syllables entries own code head e o h =
-    segment_is names segments s r number name level lines ∙ ap (λ (a : Answer ℕ). of_card number a >>= segment_rest names segments lines) head ∙ code_part (asm.content_of (scope_at names segments l lines) 0 [] lines) l syllables entries own code e o h
+    segment_is names segments s r number name level lines ∙ ap (λ (a : Answer ℕ). of_card number a >>= segment_rest names segments lines) head ∙ code_part (asm.content_of (scope_at names segments l lines) lines) l syllables entries own code e o h
 
 pub any_some : {A : Type 0} (p : A → Bool) (xs : List A) → list_any p xs ≡ true → 1 ≤ length xs
 any_some p [] e = absurd cc
@@ -83,7 +83,7 @@ all_plain old new s own grows plain none same is one =
     subst (AllByRecursion HasNoEntries) (sym is) (all_one HasNoEntries old.segments s (grows.plain first) (none (plain first)))
 
 -- a segment that was made of its own cards
-pub segment_made : (names : asm.Names) (segments s r number l : ℕ) (name : List ℕ) (level : Option ℕ) (lines : List Line) (syllables entries own : List ℕ) (code : List Tagged) → segment_head names s r name level lines ≡ Ok l → l < 2 ^ 8 → 1 ≤ code_count lines → put_behind [] (asm.content_of (scope_at names segments l lines) 0 [] lines) ≡ Ok (syllables, entries) → IsSegmentCode code syllables (code_count lines) → own ≡ map asm.syllable_bits entries
+pub segment_made : (names : asm.Names) (segments s r number l : ℕ) (name : List ℕ) (level : Option ℕ) (lines : List Line) (syllables entries own : List ℕ) (code : List Tagged) → segment_head names s r name level lines ≡ Ok l → l < 2 ^ 8 → 1 ≤ code_count lines → put_behind [] (asm.content_of (scope_at names segments l lines) lines) ≡ Ok (syllables, entries) → IsSegmentCode code syllables (code_count lines) → own ≡ map asm.syllable_bits entries
     → SegmentPut (Ok (record { level = l; entries = own; code = code })) (asm.segment_part names segments s r number name level lines) lines
 segment_made names segments s r number l name level lines syllables entries own code head small some e is o = (
   segment_ok names segments s r number l name level lines syllables entries own (contents code) head e o is.code,

@@ -1,5 +1,5 @@
 -- Definitions and labels, card by card.
-use Rattle.std.proofs.Common.{◌≡◌, ◌<◌, ◌≤◌, ◌+◌, ◌-◌, ℕ, zero, suc, Bool, true, false, List, [], ◌∷◌, length, take, drop, get_or, ◌||◌, ◌&&◌, not, ◌++◌, Option, Result, Ok, Err, append_assoc, refl, sym, ap, subst, ◌∙◌, arith}
+use Rattle.std.proofs.Common.{◌≡◌, ◌<◌, ◌≤◌, ◌+◌, ◌-◌, ◌*◌, ℕ, zero, suc, Bool, true, false, List, [], ◌∷◌, length, take, drop, get_or, ◌||◌, ◌&&◌, not, ◌++◌, Option, Result, Ok, Err, append_assoc, refl, sym, ap, subst, ◌∙◌, arith}
 use Rattle.std.specs.Prelude.{slice_get, unwrap_or}
 use Rattle.std.proofs.Math.Seq.{drop-cons}
 use Rattle.std.proofs.lemmas.List.{append-nil, length-append}
@@ -10,9 +10,11 @@ use Rattle.b67_model_text.specs.declared.assembly.Named.{Named}
 use Rattle.b67_model_text.specs.declared.assembly.Statement as statement
 use Rattle.b67_model_text.specs.declared.assembly.Statement.TheVariants as statements
 use Rattle.b67_model_text.specs.Answers.{Answer, ◌>>=◌}
-use Rattle.b67_model_text.specs.Asm.{meaning, definition, definitions, segments_behind, rows_behind, labels, label_at, syllable_after_card, names_entry, with_cards, cards_of_segments, own, is_entry, is_place, Scope, SegmentContent, Added, AddedOperator, AddedEntry, syllable_behind, entries_behind, with_added, content_of, after_operator}
+use Rattle.b67_model_text.specs.Asm.{meaning, definition, definitions, segments_behind, rows_behind, labels, label_at, syllable_after_card, names_entry, with_cards, cards_of_segments, own, is_entry, is_place, Scope, SegmentContent, content_of, after_operator}
+use Rattle.b67_model_text.specs.Pass.{Added, AddedOperator, AddedEntry, syllable_behind, entries_behind, with_added, pass_content}
 use Rattle.b67_model_text.specs.Deck.{Refusal, of_card}
 use Rattle.b67_model_text.specs.Encoding.{laid_one, laid}
+use Rattle.b67_model_text.proofs.Pass.{content_is}
 use Rattle.b67_asm.specs.Putting.{laid_added, line_added, put_behind, code_weight, code_count}
 use Rattle.b67_asm.specs.Names.{label_entries}
 use Rattle.b67_asm.specs.declared.names.Labels.{Labels}
@@ -117,16 +119,24 @@ put_rest (AddedOperator op) out new e (Err refusal) = refl
 put_rest (AddedEntry m) out new e (Err refusal) = refl
 
 pub line_put : (x : Scope) (lines : List Line) (item : Line) (i : ℕ) (out new entries entries' : List ℕ) (added : Added) (all : Result (List ℕ × List ℕ) Refusal) → i < length lines → item ≡ get_or lines i item → line_added x (length out) entries item ≡ Ok added → new ≡ out ++ laid_added (length out) added → entries' ≡ entries_behind entries added
-    → put_behind out (content_of x (length out) entries (drop i lines)) ≡ all → put_behind new (content_of x (length new) entries' (drop (i + 1) lines)) ≡ all
+    → put_behind out (pass_content x (length out) entries (drop i lines)) ≡ all → put_behind new (pass_content x (length new) entries' (drop (i + 1) lines)) ≡ all
 line_put x lines item i out new entries entries' added all lt is e n s before =
     let more = drop (i + 1) lines in
     let cons = drop_item lines i item lt is in
-    ap (λ (k : ℕ). put_behind new (content_of x k entries' more)) (behind_length added out new n)
-    ∙ ap (λ (z : List ℕ). put_behind new (content_of x (syllable_behind (length out) added) z more)) s
-    ∙ sym (put_rest added out new n (content_of x (syllable_behind (length out) added) (entries_behind entries added) more))
-    ∙ ap (λ (a : Answer Added). put_behind out (of_card item.number a >>= λ added. content_of x (syllable_behind (length out) added) (entries_behind entries added) more >>= λ rest. Ok (with_added added rest))) (sym e)
-    ∙ ap (λ (ls : List Line). put_behind out (content_of x (length out) entries ls)) (sym cons)
+    ap (λ (k : ℕ). put_behind new (pass_content x k entries' more)) (behind_length added out new n)
+    ∙ ap (λ (z : List ℕ). put_behind new (pass_content x (syllable_behind (length out) added) z more)) s
+    ∙ sym (put_rest added out new n (pass_content x (syllable_behind (length out) added) (entries_behind entries added) more))
+    ∙ ap (λ (a : Answer Added). put_behind out (of_card item.number a >>= λ added. pass_content x (syllable_behind (length out) added) (entries_behind entries added) more >>= λ rest. Ok (with_added added rest))) (sym e)
+    ∙ ap (λ (ls : List Line). put_behind out (pass_content x (length out) entries ls)) (sym cons)
     ∙ before
+
+-- nothing is written yet
+pub first_put : (x : Scope) (lines : List Line) (out entries : List ℕ) → out ≡ [] → entries ≡ [] → (length out ≤ 6 * 8191) × (code_count lines ≤ length out + code_count lines) × (put_behind out (pass_content x (length out) entries lines) ≡ put_behind [] (content_of x lines))
+first_put x lines out entries o e = (
+  omega (arith, ap length o),
+  omega arith,
+  ap (λ (z : List ℕ). put_behind z (pass_content x (length z) entries lines)) o ∙ ap (λ (z : List ℕ). put_behind [] (pass_content x 0 z lines)) e ∙ ap (put_behind []) (sym (content_is x lines)),
+)
 
 pub count_put : (lines : List Line) (item : Line) (i n m : ℕ) → i < length lines → item ≡ get_or lines i item → n + code_weight item ≤ m → code_count lines ≤ n + code_count (drop i lines) → code_count lines ≤ m + code_count (drop (i + 1) lines)
 count_put lines item i n m lt is grows before = omega (arith, ap code_count (drop_item lines i item lt is), grows, before)

@@ -11,6 +11,7 @@ use Rattle.b67_model_text.specs.Answers.{Answer, ◌>>=◌}
 use Rattle.b67_model_text.specs.Deck.{Refusal}
 use Rattle.b67_model_text.specs.Encoding.{laid_one, laid, filling, packed_words}
 use Rattle.b67_model_text.specs.Asm as asm
+use Rattle.b67_model_text.specs.Pass as pass
 use Rattle.b67_asm.specs.declared.fault.AsmFault.{AsmFault}
 use Rattle.b67_asm.specs.declared.fault.AsmFault.TheVariants as faults
 use Rattle.b67_asm.specs.declared.fault.Refused.{Refused}
@@ -24,15 +25,15 @@ OperatorPut (Err (Reason r)) answer old new = answer ≡ Err r
 OperatorPut (Err Memory) answer old new = Unit {0}
 
 -- the entry is put among the others, or the card is refused
-abbrev pub EntryPut : Result ⊤ Refused → Answer asm.Added → List ℕ → List ℕ → Type 0
-EntryPut (Ok done) answer old new = (n : ℕ) × (answer ≡ Ok (asm.AddedEntry n)) × (new ≡ asm.inserted_in_order n old)
+abbrev pub EntryPut : Result ⊤ Refused → Answer pass.Added → List ℕ → List ℕ → Type 0
+EntryPut (Ok done) answer old new = (n : ℕ) × (answer ≡ Ok (pass.AddedEntry n)) × (new ≡ asm.inserted_in_order n old)
 EntryPut (Err (Reason r)) answer old new = answer ≡ Err r
 EntryPut (Err Memory) answer old new = Unit {0}
 
 -- the syllables that a card adds from syllable n on
-abbrev pub laid_added : ℕ → asm.Added → List ℕ
-laid_added n (asm.AddedOperator op) = laid_one n op
-laid_added n (asm.AddedEntry m) = []
+abbrev pub laid_added : ℕ → pass.Added → List ℕ
+laid_added n (pass.AddedOperator op) = laid_one n op
+laid_added n (pass.AddedEntry m) = []
 
 -- the least that a card adds to the code that it is written to
 abbrev pub least : statement.Statement → ℕ
@@ -40,13 +41,13 @@ least (statements.Entry label) = 0
 least _ = 1
 
 -- what a card adds is written, or it is refused
-abbrev pub AddedPut : Result ⊤ Refused → Answer asm.Added → statement.Statement → (old new : List ℕ) (entries entries' : List ℕ) → Type 0
-AddedPut (Ok done) answer s old new entries entries' = (added : asm.Added) × (answer ≡ Ok added) × (new ≡ old ++ laid_added (length old) added) × (entries' ≡ asm.entries_behind entries added) × (length new ≤ 6 * 8191) × (length old + least s ≤ length new)
+abbrev pub AddedPut : Result ⊤ Refused → Answer pass.Added → statement.Statement → (old new : List ℕ) (entries entries' : List ℕ) → Type 0
+AddedPut (Ok done) answer s old new entries entries' = (added : pass.Added) × (answer ≡ Ok added) × (new ≡ old ++ laid_added (length old) added) × (entries' ≡ pass.entries_behind entries added) × (length new ≤ 6 * 8191) × (length old + least s ≤ length new)
 AddedPut (Err (Reason r)) answer s old new entries entries' = answer ≡ Err r
 AddedPut (Err Memory) answer s old new entries entries' = Unit {0}
 
-abbrev pub line_added : asm.Scope → ℕ → List ℕ → Line → Answer asm.Added
-line_added x n entries l = l.says >>= asm.added_by x n entries
+abbrev pub line_added : asm.Scope → ℕ → List ℕ → Line → Answer pass.Added
+line_added x n entries l = l.says >>= pass.added_by x n entries
 
 abbrev pub code_weight : Line → ℕ
 code_weight l = if asm.is_code l then 1 else 0
@@ -56,8 +57,8 @@ abbrev pub code_count : List Line → ℕ
 code_count [] = 0
 code_count (l ∷ more) = code_weight l + code_count more
 
-abbrev pub LinePut : Result ⊤ Refused → Answer asm.Added → Line → (old new : List ℕ) (entries entries' : List ℕ) → Type 0
-LinePut (Ok done) answer l old new entries entries' = (added : asm.Added) × (answer ≡ Ok added) × (new ≡ old ++ laid_added (length old) added) × (entries' ≡ asm.entries_behind entries added) × (length new ≤ 6 * 8191) × (length old + code_weight l ≤ length new)
+abbrev pub LinePut : Result ⊤ Refused → Answer pass.Added → Line → (old new : List ℕ) (entries entries' : List ℕ) → Type 0
+LinePut (Ok done) answer l old new entries entries' = (added : pass.Added) × (answer ≡ Ok added) × (new ≡ old ++ laid_added (length old) added) × (entries' ≡ pass.entries_behind entries added) × (length new ≤ 6 * 8191) × (length old + code_weight l ≤ length new)
 LinePut (Err (Reason r)) answer l old new entries entries' = answer ≡ Err r
 LinePut (Err Memory) answer l old new entries entries' = Unit {0}
 

@@ -136,7 +136,7 @@ fn segment_code<'a>(
     own: &'a [Line],
 ) -> Result<Coded, AsmFault>
     requires { length own.now < 2 ^ 31 }
-    ensures { CodePut result (put_behind [] (asm.content_of (scope_at (names_in names.now) segments level own.now) 0 [] own.now)) (code_count own.now) }
+    ensures { CodePut result (put_behind [] (asm.content_of (scope_at (names_in names.now) segments level own.now) own.now)) (code_count own.now) }
 {
     let labels = labels_of(alloc, own)?;
     let scope = Scope {

@@ -1,5 +1,5 @@
 // Numbers on assembly cards.
-ghost use Rattle.std.specs.Prelude.{◌≡◌, ◌+◌, ◌*◌, ◌%◌, ◌^◌, ◌<◌, ◌≤◌, IfSome};
+ghost use Rattle.std.specs.Prelude.{◌≡◌, ◌+◌, ◌*◌, ◌^◌, ◌<◌, ◌≤◌, length, IfSome};
 ghost use Rattle.b67_model_text.specs.Hex.{digit_value};
 ghost use Rattle.b67_model_text.specs.Statements.{numeral_up_to, negative_bits, digit_bits, hex_bits, literal_bits};
 ghost use Rattle.b67_asm_read.specs.Bounds.{IfInRange};
@@ -31,12 +31,13 @@ fn negative_bits(magnitude: Option<u64>) -> Option<Option<u64>>
 }
 
 fn digit_bits(digits: &[u8]) -> u64
+    requires { length digits.now ≤ 12 }
     ensures exact { result ≡ digit_bits digits.now }
     ensures within { result < 2 ^ 48 }
 {
     let mut bits: u64 = 0;
     for digit in digits {
-        bits = (16 * bits + u64::from(digit_value(*digit))) % 0x1_0000_0000_0000;
+        bits = 16 * bits + u64::from(digit_value(*digit));
     }
     bits
 }

@@ -22,15 +22,17 @@ use Rattle.b67_model_text.specs.declared.assembly.Named.TheVariants as means
 use Rattle.b67_model_text.specs.declared.assembly.Line.{Line}
 use Rattle.b67_model_text.specs.Answers.{Answer}
 use Rattle.b67_model_text.specs.Encoding.{code_words}
-use Rattle.b67_model_text.specs.Asm.{Names, Scope, Added, AddedOperator, SegmentContent, is_place, is_first_label, pcw_in, label_in, syllable_bits, pcw_at, branch_to, denoted, after_operator, syllable_behind, entries_behind, with_added, content_of, meaning, labels, label_at}
+use Rattle.b67_model_text.specs.Asm.{Names, Scope, SegmentContent, is_place, is_first_label, pcw_in, label_in, syllable_bits, pcw_at, branch_to, denoted, after_operator, content_of, meaning, labels, label_at}
+use Rattle.b67_model_text.specs.Pass.{Added, AddedOperator, syllable_behind, entries_behind, with_added, pass_content}
 use Rattle.b67_model_text.proofs.Contents.{same_Ok, mapped, Adds, headed, labels_behind, label_small}
+use Rattle.b67_model_text.proofs.Pass.{content_is}
 use Rattle.b67_law_listing.specs.Operators.{AllHaveBits, filled, listed_entries}
 use Rattle.b67_law_listing.specs.Listing.{begins_at, HasLabel, Labels, IsLabelled, IsListed, LabelStandsAt, GoesTo, IsFilled, AreFilled, Reads, AreRead}
 use Rattle.b67_law_listing.proofs.Laying.{listing_is}
 use Rattle.b67_law_listing.proofs.Denoting.{AreSmall, pcw_small, at_label, denoted_bits}
 use Rattle.b67_law_listing.proofs.Entries.{are_entered}
 
-operators_bits : (x : Scope) (n : ℕ) (entries : List ℕ) (lines : List Line) (content : SegmentContent) → AreSmall x.names → content_of x n entries lines ≡ Ok content → AllHaveBits content.operators
+operators_bits : (x : Scope) (n : ℕ) (entries : List ℕ) (lines : List Line) (content : SegmentContent) → AreSmall x.names → pass_content x n entries lines ≡ Ok content → AllHaveBits content.operators
 operators_bits x n entries [] content small e = subst (λ (c : SegmentContent). AllHaveBits c.operators) (same_Ok _ content e) tt
 operators_bits x n entries (l ∷ more) content small e =
     let h = headed x n entries l more content e in
@@ -120,7 +122,7 @@ filling_is n = record { few = omega (arith, filling_few ((6 - n % 6) % 6) n); ea
 abbrev listed : ℕ → SegmentContent → List Entry
 listed n content = listed_entries n (filled n content.operators)
 
-are_read : (x : Scope) (n : ℕ) (entries : List ℕ) (lines : List Line) (content : SegmentContent) → AreSmall x.names → AllLabelsAreSmall x.names → LabelsAreSmall x.labels → content_of x n entries lines ≡ Ok content → AreRead x lines (listed n content)
+are_read : (x : Scope) (n : ℕ) (entries : List ℕ) (lines : List Line) (content : SegmentContent) → AreSmall x.names → AllLabelsAreSmall x.names → LabelsAreSmall x.labels → pass_content x n entries lines ≡ Ok content → AreRead x lines (listed n content)
 are_read x n entries [] content small all own e = subst (λ (c : SegmentContent). AreRead x [] (listed n c)) (same_Ok _ content e) (filling_is n)
 are_read x n entries (l ∷ more) content small all own e =
     let h = headed x n entries l more content e in
@@ -149,7 +151,7 @@ are_read x n entries (l ∷ more) content small all own e =
         (subst (λ (s : Answer statement.Statement). Reads x l s (listed n rest) (AreRead x more)) (sym a.says) there)
 
 -- a label that means a place stands on a card that is read there
-labelled : (x : Scope) (n : ℕ) (entries : List ℕ) (lines : List Line) (content : SegmentContent) (q : List ℕ) (m : ℕ) → content_of x n entries lines ≡ Ok content → meaning (labels n lines) q ≡ Some m → IsLabelled q (place_at m) lines (listed n content)
+labelled : (x : Scope) (n : ℕ) (entries : List ℕ) (lines : List Line) (content : SegmentContent) (q : List ℕ) (m : ℕ) → pass_content x n entries lines ≡ Ok content → meaning (labels n lines) q ≡ Some m → IsLabelled q (place_at m) lines (listed n content)
 labelled x n entries [] content q m e is = absurd (none-some m is)
 labelled x n entries (l ∷ more) content q m e is =
     let h = headed x n entries l more content e in
@@ -188,9 +190,10 @@ labelled x n entries (l ∷ more) content q m e is =
         (subst (λ (s : Answer statement.Statement). Labels q (place_at m) l s (listed n rest) (IsLabelled q (place_at m) more)) (sym a.says) (go' is'))
 
 -- a segment's cards
-pub segment_read : (x : Scope) (lines : List Line) (content : SegmentContent) → AreSmall x.names → AllLabelsAreSmall x.names → x.labels ≡ (λ label. meaning (labels 0 lines) label) → content_of x 0 [] lines ≡ Ok content
+pub segment_read : (x : Scope) (lines : List Line) (content : SegmentContent) → AreSmall x.names → AllLabelsAreSmall x.names → x.labels ≡ (λ label. meaning (labels 0 lines) label) → content_of x lines ≡ Ok content
     → IsListed x lines (record { level = x.level; entries = map syllable_bits content.entries; code = code_words content.operators })
-segment_read x lines content small all same e =
+segment_read x lines content small all same is =
+    let e : pass_content x 0 [] lines ≡ Ok content = sym (content_is x lines) ∙ is in
     let known : (q : List ℕ) (m : ℕ) → x.labels q ≡ Some m → meaning (labels 0 lines) q ≡ Some m = λ q m is. sym (ap (λ (f : List ℕ → Option ℕ). f q) same) ∙ is in
     let own : LabelsAreSmall x.labels = λ q m is. label_small x 0 [] lines content q m e (known q m is) in
     let code : listing (code_words content.operators) ≡ listed 0 content = listing_is content.operators (operators_bits x 0 [] lines content small e) in

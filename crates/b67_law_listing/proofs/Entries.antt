@@ -11,7 +11,8 @@ use Rattle.b67_model_text.specs.declared.assembly.Line.{Line}
 use Rattle.b67_model_text.specs.declared.assembly.Sketch as sketch
 use Rattle.b67_model_text.specs.Answers.{Answer}
 use Rattle.b67_model_text.specs.declared.assembly.Statement as statement
-use Rattle.b67_model_text.specs.Asm.{Scope, Added, SegmentContent, syllable_bits, syllable_behind, inserted_in_order, entries_behind, with_added, content_of}
+use Rattle.b67_model_text.specs.Asm.{Scope, SegmentContent, syllable_bits, inserted_in_order}
+use Rattle.b67_model_text.specs.Pass.{Added, syllable_behind, entries_behind, with_added, pass_content}
 use Rattle.b67_model_text.proofs.Contents.{same_Ok, Adds, headed}
 use Rattle.b67_law_listing.specs.Listing.{IsEntryLabel, Rise, AreEntered}
 
@@ -91,7 +92,7 @@ same_entry a b e = cc
 no_entry : (l : Line) (label : List ℕ) (text : Option (List ℕ)) (own : sketch.Sketch) → l.says ≡ Ok (statements.Operator text own) → l.says ≡ Ok (statements.Entry label) → ⊥
 no_entry l label text own e f = let g : ◌≡◌ {A = Answer statement.Statement} (Ok (statements.Operator text own)) (Ok (statements.Entry label)) = sym e ∙ f in cc
 
-enters : (x : Scope) (n : ℕ) (before : List ℕ) (lines : List Line) (content : SegmentContent) → Rise before → content_of x n before lines ≡ Ok content → Enters x before lines content.entries
+enters : (x : Scope) (n : ℕ) (before : List ℕ) (lines : List Line) (content : SegmentContent) → Rise before → pass_content x n before lines ≡ Ok content → Enters x before lines content.entries
 enters x n before [] content rise e =
     subst (λ (c : SegmentContent). Enters x before [] c.entries) (same_Ok _ content e)
     (record { rise = rise; kept = λ n h. h; named = λ label h. absurd h.among; only = λ n h. inl h })
@@ -146,7 +147,7 @@ places_back [] few = refl
 places_back (n ∷ ns) few =
     ap (λ (p : Place). p ∷ map place_of_bits (map syllable_bits ns)) (place_back n (few n (inl refl))) ∙ ap (λ (ps : List Place). place_at n ∷ ps) (places_back ns (λ m h. few m (inr h)))
 
-pub are_entered : (x : Scope) (lines : List Line) (content : SegmentContent) → ((q : List ℕ) (m : ℕ) → x.labels q ≡ Some m → m ≤ 6 * 8191) → content_of x 0 [] lines ≡ Ok content → AreEntered x.labels lines (map syllable_bits content.entries)
+pub are_entered : (x : Scope) (lines : List Line) (content : SegmentContent) → ((q : List ℕ) (m : ℕ) → x.labels q ≡ Some m → m ≤ 6 * 8191) → pass_content x 0 [] lines ≡ Ok content → AreEntered x.labels lines (map syllable_bits content.entries)
 are_entered x lines content small e =
     let r = enters x 0 [] lines content tt e in
     let only : (n : ℕ) → Has content.entries n → (label : List ℕ) × IsEntryLabel label lines × (x.labels label ≡ Some n) = λ n h. elim (r.only n h) [ inl b ↦ absurd b | inr k ↦ k ] in

@@ -1,5 +1,5 @@
 -- What is read for a program's cards.
-use Rattle.std.proofs.Common.{◌≡◌, ℕ, zero, suc, ◌+◌, ◌<◌, Bool, true, false, refl, sym, subst, arith, cond, Option, Some, None, List, [], ◌∷◌, length, map, take, Result, Ok, Err}
+use Rattle.std.proofs.Common.{◌≡◌, ℕ, zero, suc, ◌+◌, ◌<◌, Bool, true, false, refl, sym, ◌∙◌, subst, arith, cond, Option, Some, None, List, [], ◌∷◌, length, map, take, Result, Ok, Err}
 use Rattle.std.specs.Prelude.{nat_lt, ◌-◌, ⊤, slice_get, unwrap_or}
 use Rattle.std.specs.Option.{option_map, option_and_then}
 use Rattle.std.specs.List.{AllByRecursion, cons_option, list_any}
@@ -26,6 +26,7 @@ use Rattle.b67_model_text.specs.Statements.{mnemonics, sketch_of, literal_bits, 
 use Rattle.b67_model_text.specs.Asm.{Names, names_of, Scope, SegmentContent, content_of, syllable_bits, Part, CodePart, RowPart, meaning, definition, definitions, segments_behind, rows_behind, segment_count, labels, misplaced, is_head, is_code, is_numbers, own, with_cards, cards_of_segments, is_segment_number, is_row_number, segment_part, row_part, program_part, row_words, with_part, program_from, no_strays, assembled}
 use Rattle.b67_model_text.proofs.Answers.{after_both, err-ok}
 use Rattle.b67_model_text.proofs.Contents.{same_Ok, label_small}
+use Rattle.b67_model_text.proofs.Pass.{content_is}
 use Rattle.b67_law_listing.specs.Listing.{scope_in, SegmentsAreListed}
 use Rattle.b67_law_listing.proofs.Denoting.{IsSmall, AreSmall}
 use Rattle.b67_law_listing.proofs.Cards.{LabelsAreSmall, AllLabelsAreSmall, segment_read}
@@ -110,7 +111,7 @@ lines_known (card ∷ more) = one_known card.number (words_in_card (without_comm
 record IsSegment (names : Names) (segments s r : ℕ) (lines : List Line) (part : Part) : Type 0 where
   level : ℕ
   content : SegmentContent
-  taken : content_of (record { names = names; segments = segments; level = level; labels = λ label. meaning (labels 0 lines) label }) 0 [] lines ≡ Ok content
+  taken : content_of (record { names = names; segments = segments; level = level; labels = λ label. meaning (labels 0 lines) label }) lines ≡ Ok content
   is : CodePart (record { level = level; entries = map syllable_bits content.entries; code = code_words content.operators }) ≡ part
   few : s + r < 255
 
@@ -123,11 +124,11 @@ segment_is names segments s r number name None lines part e = err-ok (record { c
 segment_is names segments s r number name (Some level) lines part e =
     let scope : Scope = record { names = names; segments = segments; level = level; labels = λ label. meaning (labels 0 lines) label } in
     let part_with : SegmentContent → Part = λ content. CodePart (record { level = level; entries = map syllable_bits content.entries; code = code_words content.operators }) in
-    let put : Result Part Refusal = content_of scope 0 [] lines >>= λ content. Ok (part_with content) in
+    let put : Result Part Refusal = content_of scope lines >>= λ content. Ok (part_with content) in
     let a = after_card number (is_segment_number s (names.means name)) 4 (of_card number (needs (list_any is_code lines) 7) >> (of_card number (needs (nat_lt (s + r) 255) 9) >> put)) part e in
     let b = after_card number (list_any is_code lines) 7 (of_card number (needs (nat_lt (s + r) 255) 9) >> put) part a.1 in
     let c = after_card number (nat_lt (s + r) 255) 9 put part b.1 in
-    let d = after_both (content_of scope 0 [] lines) (λ content. Ok (part_with content)) part c.1 in
+    let d = after_both (content_of scope lines) (λ content. Ok (part_with content)) part c.1 in
     record { level = level; content = d.0; taken = d.1; is = same_Ok (part_with d.0) part d.2; few = ltb-true (s + r) 255 c.0 }
 
 row_is : (names : Names) (s r number : ℕ) (name : List ℕ) (lines : List Line) (part : Part) → row_part names s r number name lines ≡ Ok part → (words : List ℕ) × (RowPart words ≡ part)
@@ -212,7 +213,8 @@ head_cards_small : (names : Names) (segments s r number : ℕ) (says : Answer st
     → (rest : List (List Line)) → AllByRecursion CardsAreSmall rest → AllByRecursion CardsAreSmall (with_cards says lines rest)
 head_cards_small names segments s r number (Ok (statements.Segment name level)) lines part e rest h =
     let i = segment_is names segments s r number name level lines part e in
-    ((λ q m is. label_small (record { names = names; segments = segments; level = i.level; labels = λ label. meaning (labels 0 lines) label }) 0 [] lines i.content q m i.taken is), h)
+    let scope : Scope = record { names = names; segments = segments; level = i.level; labels = λ label. meaning (labels 0 lines) label } in
+    ((λ q m is. label_small scope 0 [] lines i.content q m (sym (content_is scope lines) ∙ i.taken) is), h)
 head_cards_small names segments s r number (Ok (statements.Row name)) lines part e rest h = h
 head_cards_small names segments s r number (Ok (statements.Values first more)) lines part e rest h = h
 head_cards_small names segments s r number (Ok (statements.Operator label own)) lines part e rest h = h

@@ -23,7 +23,8 @@ use Rattle.b67_model_text.specs.declared.assembly.Line.{Line}
 use Rattle.b67_model_text.specs.Answers.{Answer, ◌>>=◌}
 use Rattle.b67_model_text.specs.Deck.{of_card}
 use Rattle.b67_model_text.specs.Encoding.{filling, six_syllables}
-use Rattle.b67_model_text.specs.Asm.{Scope, Added, AddedOperator, AddedEntry, SegmentContent, after_sketch, is_in_range, pcw_in, pcw_at, label_in, row_in, call_operator, branch_to, denoted, is_first_label, has_names, has_label, has_entry, misplaced, fitted, entered, after_operator, card_operator, entry_added, added_by, syllable_behind, entries_behind, with_added, content_of, meaning, labels, label_at, syllable_after_card}
+use Rattle.b67_model_text.specs.Asm.{Scope, SegmentContent, after_sketch, is_in_range, pcw_in, pcw_at, label_in, row_in, call_operator, branch_to, denoted, is_first_label, has_names, has_label, has_entry, misplaced, fitted, entered, after_operator, card_operator, meaning, labels, label_at, syllable_after_card}
+use Rattle.b67_model_text.specs.Pass.{Added, AddedOperator, AddedEntry, entry_added, added_by, syllable_behind, entries_behind, with_added, pass_content}
 use Rattle.b67_model_text.proofs.Answers.{after_both, after_needs, err-ok}
 
 pub same_Ok : {A R : Type 0} (a b : A) → ◌≡◌ {A = Result A R} (Ok a) (Ok b) → a ≡ b
@@ -124,13 +125,13 @@ pub record Headed (x : Scope) (n : ℕ) (entries : List ℕ) (l : Line) (more : 
   pub added : Added
   pub rest : SegmentContent
   pub adds : Adds x n entries l added
-  pub behind_it : content_of x (syllable_behind n added) (entries_behind entries added) more ≡ Ok rest
+  pub behind_it : pass_content x (syllable_behind n added) (entries_behind entries added) more ≡ Ok rest
   pub all : with_added added rest ≡ content
 
-pub headed : (x : Scope) (n : ℕ) (entries : List ℕ) (l : Line) (more : List Line) (content : SegmentContent) → content_of x n entries (l ∷ more) ≡ Ok content → Headed x n entries l more content
+pub headed : (x : Scope) (n : ℕ) (entries : List ℕ) (l : Line) (more : List Line) (content : SegmentContent) → pass_content x n entries (l ∷ more) ≡ Ok content → Headed x n entries l more content
 headed x n entries l more content e =
-    let a = after_both (of_card l.number (l.says >>= added_by x n entries)) (λ added. content_of x (syllable_behind n added) (entries_behind entries added) more >>= λ rest. Ok (with_added added rest)) content e in
-    let b = after_both (content_of x (syllable_behind n a.0) (entries_behind entries a.0) more) (λ rest. Ok (with_added a.0 rest)) content a.2 in
+    let a = after_both (of_card l.number (l.says >>= added_by x n entries)) (λ added. pass_content x (syllable_behind n added) (entries_behind entries added) more >>= λ rest. Ok (with_added added rest)) content e in
+    let b = after_both (pass_content x (syllable_behind n a.0) (entries_behind entries a.0) more) (λ rest. Ok (with_added a.0 rest)) content a.2 in
     let c = after_both l.says (added_by x n entries) a.0 (of_card_ok l.number (l.says >>= added_by x n entries) a.0 a.1) in
     record { added = a.0; rest = b.0; adds = adds_of x n entries l c.0 a.0 c.1 c.2; behind_it = b.1; all = same_Ok (with_added a.0 b.0) content b.2 }
 
@@ -219,7 +220,7 @@ here_small x n entries l added (inl a) =
     subst (λ (s : Answer statement.Statement). label_at n s ≡ None ⊎ ((text : List ℕ) × (label_at n s ≡ Some (text, n)) × (n ≤ 6 * 8191))) (sym a.says) (label_of n a.label (omega (arith, a.taken.room)))
 here_small x n entries l added (inr a) = inl (ap (label_at n) a.says)
 
-pub label_small : (x : Scope) (n : ℕ) (entries : List ℕ) (lines : List Line) (content : SegmentContent) (q : List ℕ) (m : ℕ) → content_of x n entries lines ≡ Ok content → meaning (labels n lines) q ≡ Some m → m ≤ 6 * 8191
+pub label_small : (x : Scope) (n : ℕ) (entries : List ℕ) (lines : List Line) (content : SegmentContent) (q : List ℕ) (m : ℕ) → pass_content x n entries lines ≡ Ok content → meaning (labels n lines) q ≡ Some m → m ≤ 6 * 8191
 label_small x n entries [] content q m e is = absurd (none-some m is)
 label_small x n entries (l ∷ more) content q m e is =
     let h = headed x n entries l more content e in

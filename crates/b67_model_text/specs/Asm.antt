@@ -1,6 +1,6 @@
 -- Assembly: the program that cards denote, or the first refused card with its lowest reason.
-use Rattle.std.specs.Prelude.{ℕ, ◌+◌, ◌*◌, ◌/◌, ◌^◌, ◌==◌, ◌&&◌, not, nat_le, nat_lt, min, Bool, true, false, List, [], ◌∷◌, ◌++◌, length, map, slice_get, unwrap_or, Option, Some, None, is_some, Result, Ok, Err, if◌then◌else◌, ⊤}
-use Rattle.std.specs.List.{list_any, cons_option}
+use Rattle.std.specs.Prelude.{ℕ, ◌+◌, ◌*◌, ◌/◌, ◌^◌, ◌==◌, ◌&&◌, not, nat_le, nat_lt, min, Bool, true, false, List, [], ◌∷◌, ◌++◌, fold, length, map, slice_get, unwrap_or, Option, Some, None, is_some, Result, Ok, Err, if◌then◌else◌, ⊤}
+use Rattle.std.specs.List.{list_any, cons_option, filter_map}
 use Rattle.std.specs.Option.{option_map, option_and_then}
 use Rattle.std.specs.Str.{bytes_eq}
 use Rattle.std.specs.Map.{lookup}
@@ -31,15 +31,18 @@ use Rattle.b67_model_text.specs.Statements.{lines_of}
 
 -- ---- names
 
+-- the name that a card defines, behind so many segments and data rows
 abbrev pub definition : ℕ → ℕ → Answer statement.Statement → Option (List ℕ × named.Named)
 definition s r (Ok (statements.Segment name level)) = Some (name, means.Segment s level)
 definition s r (Ok (statements.Row name)) = Some (name, means.Row r)
 definition s r _ = None
 
+-- how many segments begin up to a card, if so many begin before it
 abbrev pub segments_behind : ℕ → Answer statement.Statement → ℕ
 segments_behind s (Ok (statements.Segment name level)) = s + 1
 segments_behind s _ = s
 
+-- how many data rows begin up to a card, if so many begin before it
 abbrev pub rows_behind : ℕ → Answer statement.Statement → ℕ
 rows_behind r (Ok (statements.Row name)) = r + 1
 rows_behind r _ = r
@@ -49,6 +52,7 @@ abbrev pub definitions : ℕ → ℕ → List Line → List (List ℕ × named.N
 definitions s r [] = []
 definitions s r (l ∷ more) = cons_option (definition s r l.says) (definitions (segments_behind s l.says) (rows_behind r l.says) more)
 
+-- how many segments begin up to the last of these cards, if so many begin before them
 abbrev pub segment_count : ℕ → List Line → ℕ
 segment_count s [] = s
 segment_count s (l ∷ more) = segment_count (segments_behind s l.says) more
@@ -81,10 +85,19 @@ abbrev pub syllable_after_card : ℕ → Answer statement.Statement → ℕ
 syllable_after_card n (Ok (statements.Operator label sketch)) = after_sketch sketch n
 syllable_after_card n _ = n
 
+-- a card, and the syllable at which it stands
+pub record PlacedCard : Type 0 where
+  pub card : Line
+  pub syllable : ℕ
+
+-- a segment's cards, each where it stands, the first at syllable n
+abbrev pub placed_cards : ℕ → List Line → List PlacedCard
+placed_cards n [] = []
+placed_cards n (l ∷ more) = record { card = l; syllable = n } ∷ placed_cards (syllable_after_card n l.says) more
+
 -- the labels of a segment's cards from syllable n on, with their places
 abbrev pub labels : ℕ → List Line → List (List ℕ × ℕ)
-labels n [] = []
-labels n (l ∷ more) = cons_option (label_at n l.says) (labels (syllable_after_card n l.says) more)
+labels n lines = filter_map (λ (c : PlacedCard). label_at c.syllable c.card.says) (placed_cards n lines)
 
 -- an ENTRY card names this label
 abbrev pub names_entry : List ℕ → Answer statement.Statement → Bool
@@ -245,51 +258,57 @@ card_operator x n label sketch = do
   op ← fitted n (denoted x sketch)
   entered x.names sketch op
 
--- what a segment's card adds: an operator, or the syllable of an entry
-pub data Added : Type 0 where
-  AddedOperator : Op → Added
-  AddedEntry : ℕ → Added
+-- the syllable of the label that an ENTRY card names
+abbrev pub entry_syllable : Scope → Answer statement.Statement → Option ℕ
+entry_syllable x (Ok (statements.Entry label)) = x.labels label
+entry_syllable x _ = None
 
--- an entry at a label, behind those in this list: it isn't at 0:0, nor an entry already, nor number 256
-abbrev pub entry_added : List ℕ → Option ℕ → Answer Added
-entry_added entries None = Err 5
-entry_added entries (Some n) = needs (not (n == 0) && not (list_any (λ m. m == n) entries) && nat_lt (length entries) 255) 10 >> Ok (AddedEntry n)
+-- the syllables of the labels that ENTRY cards name, in card order
+abbrev pub entry_syllables : Scope → List Line → List ℕ
+entry_syllables x lines = filter_map (λ (l : Line). entry_syllable x l.says) lines
 
--- what a segment's card adds that stands at syllable n behind the cards of these entries
-abbrev pub added_by : Scope → (n : ℕ) (entries : List ℕ) → statement.Statement → Answer Added
-added_by x n entries (statements.Operator label sketch) = card_operator x n label sketch >>= λ op. Ok (AddedOperator op)
-added_by x n entries (statements.Entry label) = entry_added entries (x.labels label)
-added_by x n entries other = Err (misplaced x.names other)
+-- an entry at a label, besides those at these syllables: it isn't at 0:0, nor an entry already, nor number 256
+abbrev pub check_entry : List ℕ → Option ℕ → Answer ⊤
+check_entry others None = Err 5
+check_entry others (Some n) = needs (not (n == 0) && not (list_any (λ m. m == n) others) && nat_lt (length others) 255) 10
 
-abbrev pub syllable_behind : ℕ → Added → ℕ
-syllable_behind n (AddedOperator op) = after_operator n op
-syllable_behind n (AddedEntry m) = n
+-- what is refused of a segment's card that stands at syllable n, behind these cards
+abbrev pub check_card : Scope → (before : List Line) (n : ℕ) → statement.Statement → Answer ⊤
+check_card x before n (statements.Operator label sketch) = card_operator x n label sketch >>= λ op. Ok tt
+check_card x before n (statements.Entry label) = check_entry (entry_syllables x before) (x.labels label)
+check_card x before n other = Err (misplaced x.names other)
+
+-- each card is checked where it stands, behind those before it, the nearest first
+abbrev pub check_cards : Scope → (before : List Line) → List PlacedCard → Result ⊤ Refusal
+check_cards x before [] = Ok tt
+check_cards x before (c ∷ more) = of_card c.card.number (c.card.says >>= check_card x before c.syllable) >> check_cards x (c.card ∷ before) more
+
+-- the operator that a card denotes
+abbrev pub denoted_operator : Scope → Answer statement.Statement → Option Op
+denoted_operator x (Ok (statements.Operator label sketch)) = denoted x sketch
+denoted_operator x _ = None
+
+-- the operators of cards, in card order
+abbrev pub denoted_operators : Scope → List Line → List Op
+denoted_operators x lines = filter_map (λ (l : Line). denoted_operator x l.says) lines
 
 -- a number among numbers in order
 abbrev pub inserted_in_order : ℕ → List ℕ → List ℕ
 inserted_in_order n [] = n ∷ []
 inserted_in_order n (m ∷ more) = if nat_lt n m then n ∷ m ∷ more else m ∷ inserted_in_order n more
 
-abbrev pub entries_behind : List ℕ → Added → List ℕ
-entries_behind entries (AddedOperator op) = entries
-entries_behind entries (AddedEntry n) = inserted_in_order n entries
+-- numbers put in order
+abbrev pub in_rising_order : List ℕ → List ℕ
+in_rising_order numbers = fold (λ sorted n. inserted_in_order n sorted) [] numbers
 
 -- the operators of a segment, in card order, and the syllables of its entries, in order
 pub record SegmentContent : Type 0 where
   pub operators : List Op
   pub entries : List ℕ
 
-abbrev pub with_added : Added → SegmentContent → SegmentContent
-with_added (AddedOperator op) content = record { operators = op ∷ content.operators; entries = content.entries }
-with_added (AddedEntry n) content = content
-
--- the content of a segment's cards from syllable n on, behind these entries
-abbrev pub content_of : Scope → (n : ℕ) (entries : List ℕ) → List Line → Result SegmentContent Refusal
-content_of x n entries [] = Ok (record { operators = []; entries = entries })
-content_of x n entries (l ∷ more) = do
-  added ← of_card l.number (l.says >>= added_by x n entries)
-  rest ← content_of x (syllable_behind n added) (entries_behind entries added) more
-  Ok (with_added added rest)
+-- the content of a segment's cards, or the first refused card
+abbrev pub content_of : Scope → List Line → Result SegmentContent Refusal
+content_of x lines = check_cards x [] (placed_cards 0 lines) >> Ok (record { operators = denoted_operators x lines; entries = in_rising_order (entry_syllables x lines) })
 
 -- ---- the cards of a data row
 
@@ -347,7 +366,7 @@ segment_part names segments s r number name level lines = do
   of_card number (needs (is_segment_number s (names.means name)) 4)
   of_card number (needs (list_any is_code lines) 7)
   of_card number (needs (nat_lt (s + r) 255) 9)
-  content ← content_of (record { names = names; segments = segments; level = l; labels = λ label. meaning (labels 0 lines) label }) 0 [] lines
+  content ← content_of (record { names = names; segments = segments; level = l; labels = λ label. meaning (labels 0 lines) label }) lines
   Ok (CodePart (record { level = l; entries = map syllable_bits content.entries; code = code_words content.operators }))
 
 abbrev pub row_part : Names → (s r number : ℕ) (name : List ℕ) → List Line → Result Part Refusal

@@ -1,5 +1,5 @@
 -- Assembly: what a card says by itself.
-use Rattle.std.specs.Prelude.{ℕ, zero, suc, ◌+◌, ◌-◌, ◌*◌, ◌%◌, ◌^◌, ◌==◌, ◌&&◌, nat_le, Bool, true, false, is_some, unwrap_or, List, [], ◌∷◌, fold, take, length, slice_index, Option, Some, None, Ok, Err, if◌then◌else◌, codes}
+use Rattle.std.specs.Prelude.{ℕ, zero, suc, ◌+◌, ◌-◌, ◌*◌, ◌^◌, ◌==◌, ◌&&◌, nat_le, Bool, true, false, is_some, unwrap_or, List, [], ◌∷◌, fold, take, length, slice_index, Option, Some, None, Ok, Err, if◌then◌else◌, codes}
 use Rattle.std.specs.List.{filter_map, list_all}
 use Rattle.std.specs.Option.{option_map, option_and_then}
 use Rattle.std.specs.Str.{bytes_eq}
@@ -90,9 +90,9 @@ negative_bits (Some (suc n)) = Some (Some (2 ^ 46 + suc n))
 abbrev pub are_hex : List ℕ → Bool
 are_hex text = list_all (λ b. is_some (hex_digit b)) text
 
--- the 48 bits of twelve hexadecimal digits
+-- the number of hexadecimal digits
 abbrev pub digit_bits : List ℕ → ℕ
-digit_bits digits = fold (λ n d. (16 * n + digit_value d) % 2 ^ 48) 0 digits
+digit_bits digits = fold (λ n d. 16 * n + digit_value d) 0 digits
 
 abbrev pub hex_bits : List ℕ → Option (Option ℕ)
 hex_bits digits = if (length digits == 12) && are_hex digits then Some (Some (digit_bits digits)) else None

@@ -16,9 +16,11 @@ use Rattle.b67_model_text.specs.Command.{is_command, plain_card}
 use Rattle.b67_model_text.specs.Deck.{of_card, hexadecimal, all_hexadecimal}
 use Rattle.b67_model_text.specs.Hex.{is_hex}
 use Rattle.b67_model_text.specs.Statements.{statement_of, kind_of, line_of, line_with, lines_of, without_comment, is_label, with_label, operator}
-use Rattle.b67_model_text.specs.Asm.{Names, names_of, Scope, SegmentContent, content_of, added_by, syllable_behind, entries_behind, with_added, row_values, row_words, Part, CodePart, RowPart, segments_behind, rows_behind, segment_count, misplaced, syllable_bits, is_head, is_code, is_numbers, own, is_segment_number, is_row_number, segment_part, row_part, program_part, with_part, program_from, no_strays, assembled}
+use Rattle.b67_model_text.specs.Asm.{Names, names_of, Scope, SegmentContent, content_of, row_values, row_words, Part, CodePart, RowPart, segments_behind, rows_behind, segment_count, misplaced, syllable_bits, is_head, is_code, is_numbers, own, is_segment_number, is_row_number, segment_part, row_part, program_part, with_part, program_from, no_strays, assembled}
 use Rattle.b67_model_text.specs.Encoding.{code_words}
+use Rattle.b67_model_text.specs.Pass.{added_by, syllable_behind, entries_behind, with_added, pass_content}
 use Rattle.b67_model_text.proofs.Answers.{after_both, err-ok}
+use Rattle.b67_model_text.proofs.Pass.{content_is}
 use Rattle.b67_asm.specs.Scope.{scope_at}
 use Rattle.b67_promises.proofs.TurnCards.{filled, some_part, cards_at}
 use Rattle.b67_promises.proofs.Renumbered.{texts_of}
@@ -37,11 +39,11 @@ AllSay ls = AllByRecursion (λ (l : Line). Says l.says) ls
 says_so : (a : Answer statement.Statement) (s : statement.Statement) → a ≡ Ok s → Says a
 says_so a s e = subst Says (sym e) tt
 
-content_says : (x : Scope) (n : ℕ) (entries : List ℕ) (ls : List Line) (c : SegmentContent) → content_of x n entries ls ≡ Ok c → AllSay ls
+content_says : (x : Scope) (n : ℕ) (entries : List ℕ) (ls : List Line) (c : SegmentContent) → pass_content x n entries ls ≡ Ok c → AllSay ls
 content_says x n entries [] c e = tt
 content_says x n entries (l ∷ more) c e =
-    let a = after_both (of_card l.number (l.says >>= added_by x n entries)) (λ added. content_of x (syllable_behind n added) (entries_behind entries added) more >>= λ rest. Ok (with_added added rest)) c e in
-    let b = after_both (content_of x (syllable_behind n a.0) (entries_behind entries a.0) more) (λ rest. Ok (with_added a.0 rest)) c a.2 in
+    let a = after_both (of_card l.number (l.says >>= added_by x n entries)) (λ added. pass_content x (syllable_behind n added) (entries_behind entries added) more >>= λ rest. Ok (with_added added rest)) c e in
+    let b = after_both (pass_content x (syllable_behind n a.0) (entries_behind entries a.0) more) (λ rest. Ok (with_added a.0 rest)) c a.2 in
     let d = after_both l.says (added_by x n entries) a.0 (of_card_ok l.number (l.says >>= added_by x n entries) a.0 a.1) in
     (says_so l.says d.0 d.1, content_says x (syllable_behind n a.0) (entries_behind entries a.0) more b.0 b.1)
 
@@ -58,12 +60,12 @@ segment_says names segments s r number name None ls part e = err-ok (record { ca
 segment_says names segments s r number name (Some level) ls part e =
     let scope : Scope = scope_at names segments level ls in
     let part_with : SegmentContent → Part = λ content. CodePart (record { level = level; entries = map syllable_bits content.entries; code = code_words content.operators }) in
-    let put = content_of scope 0 [] ls >>= λ content. Ok (part_with content) in
+    let put = content_of scope ls >>= λ content. Ok (part_with content) in
     let a = after_card number (is_segment_number s (names.means name)) 4 (of_card number (needs (list_any is_code ls) 7) >> (of_card number (needs (nat_lt (s + r) 255) 9) >> put)) part e in
     let b = after_card number (list_any is_code ls) 7 (of_card number (needs (nat_lt (s + r) 255) 9) >> put) part a.1 in
     let c = after_card number (nat_lt (s + r) 255) 9 put part b.1 in
-    let d = after_both (content_of scope 0 [] ls) (λ content. Ok (part_with content)) part c.1 in
-    content_says scope 0 [] ls d.0 d.1
+    let d = after_both (content_of scope ls) (λ content. Ok (part_with content)) part c.1 in
+    content_says scope 0 [] ls d.0 (sym (content_is scope ls) ∙ d.1)
 
 row_says : (names : Names) (s r number : ℕ) (name : List ℕ) (ls : List Line) (part : Part) → row_part names s r number name ls ≡ Ok part → AllSay ls
 row_says names s r number name ls part e =

@@ -12,7 +12,9 @@ use Rattle.b67_model_text.specs.Answers.{Answer, ◌>>=◌, ◌>>◌, needs, or_
 use Rattle.b67_model_text.specs.Cards.{words_in_card}
 use Rattle.b67_model_text.specs.Deck.{Refusal, of_card}
 use Rattle.b67_model_text.specs.Statements.{kind_of, statement_of, line_with, lines_of, without_comment}
-use Rattle.b67_model_text.specs.Asm.{definition, segments_behind, rows_behind, definitions, segment_count, meaning, label_at, syllable_after_card, labels, names_entry, is_place, is_entry, is_head, own, with_cards, cards_of_segments, cards_of, Names, names_of, Scope, Added, added_by, syllable_behind, entries_behind, SegmentContent, content_of, row_values, row_words, is_numbers, is_code, is_segment_number, is_row_number, Part, segment_part, row_part, misplaced, program_part, with_part, program_from, no_strays, assembled, says_entry, version_in, version_of}
+use Rattle.b67_model_text.specs.Asm.{definition, segments_behind, rows_behind, definitions, segment_count, meaning, label_at, syllable_after_card, labels, names_entry, is_place, is_entry, is_head, own, with_cards, cards_of_segments, cards_of, Names, names_of, Scope, SegmentContent, content_of, row_values, row_words, is_numbers, is_code, is_segment_number, is_row_number, Part, segment_part, row_part, misplaced, program_part, with_part, program_from, no_strays, assembled, says_entry, version_in, version_of}
+use Rattle.b67_model_text.specs.Pass.{Added, added_by, syllable_behind, entries_behind, pass_content}
+use Rattle.b67_model_text.proofs.Pass.{content_is}
 
 -- ---- answers without the cards of refusals
 
@@ -112,10 +114,13 @@ names_bare ls = λ j. record {
 
 -- ---- what they denote
 
-content_bare : (x : Scope) (n : ℕ) (entries : List ℕ) (ls : List Line) → answer_of (content_of x n entries (bare ls)) ≡ answer_of (content_of x n entries ls)
-content_bare x n entries [] = refl
-content_bare x n entries (l ∷ more) = then_same _ _ _ _ (of_any_card 0 l.number (l.says >>= added_by x n entries))
-    (λ (added : Added). then_same _ _ _ _ (content_bare x (syllable_behind n added) (entries_behind entries added) more) (λ (rest : SegmentContent). refl))
+pass_bare : (x : Scope) (n : ℕ) (entries : List ℕ) (ls : List Line) → answer_of (pass_content x n entries (bare ls)) ≡ answer_of (pass_content x n entries ls)
+pass_bare x n entries [] = refl
+pass_bare x n entries (l ∷ more) = then_same _ _ _ _ (of_any_card 0 l.number (l.says >>= added_by x n entries))
+    (λ (added : Added). then_same _ _ _ _ (pass_bare x (syllable_behind n added) (entries_behind entries added) more) (λ (rest : SegmentContent). refl))
+
+content_bare : (x : Scope) (ls : List Line) → answer_of (content_of x (bare ls)) ≡ answer_of (content_of x ls)
+content_bare x ls = ap answer_of (content_is x (bare ls)) ∙ pass_bare x 0 [] ls ∙ sym (ap answer_of (content_is x ls))
 
 row_words_bare : (names : Names) (n : ℕ) (ls : List Line) → answer_of (row_words names n (bare ls)) ≡ answer_of (row_words names n ls)
 row_words_bare names n [] = refl
@@ -136,9 +141,9 @@ segment_bare names segments s r n m name level ls = then_same _ _ _ _ (of_any_ca
     (after_same _ _ _ _ (of_any_card n m (needs (nat_lt (s + r) 255) 9))
     (then_same _ _ _ _ (content_same l) (λ (content : SegmentContent). refl)))))
   where
-    content_same : (l : ℕ) → answer_of (content_of (record { names = names; segments = segments; level = l; labels = λ label. meaning (labels 0 (bare ls)) label }) 0 [] (bare ls)) ≡ answer_of (content_of (record { names = names; segments = segments; level = l; labels = λ label. meaning (labels 0 ls) label }) 0 [] ls)
-    content_same l = ap (λ (x : Scope). answer_of (content_of x 0 [] (bare ls))) (scope_same names segments l ls)
-        ∙ content_bare (record { names = names; segments = segments; level = l; labels = λ label. meaning (labels 0 ls) label }) 0 [] ls
+    content_same : (l : ℕ) → answer_of (content_of (record { names = names; segments = segments; level = l; labels = λ label. meaning (labels 0 (bare ls)) label }) (bare ls)) ≡ answer_of (content_of (record { names = names; segments = segments; level = l; labels = λ label. meaning (labels 0 ls) label }) ls)
+    content_same l = ap (λ (x : Scope). answer_of (content_of x (bare ls))) (scope_same names segments l ls)
+        ∙ content_bare (record { names = names; segments = segments; level = l; labels = λ label. meaning (labels 0 ls) label }) ls
 
 row_bare : (names : Names) (s r n m : ℕ) (name : List ℕ) (ls : List Line) → answer_of (row_part names s r n name (bare ls)) ≡ answer_of (row_part names s r m name ls)
 row_bare names s r n m name ls = after_same _ _ _ _ (of_any_card n m (needs (is_row_number r (names.means name)) 4))

@@ -26,7 +26,8 @@ use Rattle.b67_model_text.specs.declared.assembly.Line.{Line}
 use Rattle.b67_model_text.specs.Answers.{Answer}
 use Rattle.b67_model_text.specs.Encoding.{filling, six_syllables, literal_part, laid_one, laid, packed_words, code_words}
 use Rattle.b67_model_text.specs.Statements.{segment, row}
-use Rattle.b67_model_text.specs.Asm.{Scope, Added, AddedOperator, AddedEntry, SegmentContent, content_of, with_added, syllable_behind, entries_behind, after_operator, is_in_range, call_operator, branch_to, pcw_in, pcw_at, label_in, row_in, denoted, is_code, is_numbers, is_entry_card, own}
+use Rattle.b67_model_text.specs.Asm.{Scope, SegmentContent, after_operator, is_in_range, call_operator, branch_to, pcw_in, pcw_at, label_in, row_in, denoted, is_code, is_numbers, is_entry_card, own}
+use Rattle.b67_model_text.specs.Pass.{Added, AddedOperator, AddedEntry, with_added, syllable_behind, entries_behind, pass_content}
 use Rattle.b67_model_text.proofs.Contents.{same_Ok, mapped, Adds, headed}
 use Rattle.b67_law_listing.proofs.Packing.{packed_length}
 use Rattle.b67_law_listing.proofs.Laying.{laid_whole}
@@ -123,7 +124,7 @@ pub record IsLaidIn (n : ℕ) (ops : List Op) : Type 0 where
   bytes : Bytes (laid n ops)
   low : n + length (laid n ops) ≤ 6 * 8191
 
-pub content_laid : (x : Scope) (n : ℕ) (entries : List ℕ) (lines : List Line) (content : SegmentContent) → n ≤ 6 * 8191 → content_of x n entries lines ≡ Ok content → IsLaidIn n content.operators
+pub content_laid : (x : Scope) (n : ℕ) (entries : List ℕ) (lines : List Line) (content : SegmentContent) → n ≤ 6 * 8191 → pass_content x n entries lines ≡ Ok content → IsLaidIn n content.operators
 content_laid x n entries [] content low e =
     subst (λ (c : SegmentContent). IsLaidIn n c.operators) (same_Ok _ content e)
     (record { bytes = bytes_replicate ((6 - n % 6) % 6); low = omega (arith, low, length-replicate {A = ℕ} ((6 - n % 6) % 6) 0xFF) })
@@ -149,7 +150,7 @@ no_fewer (AddedOperator op) rest = omega arith
 no_fewer (AddedEntry m) rest = omega arith
 
 -- a card that isn't a NUM nor an ENTRY has an operator
-pub some_operators : (x : Scope) (n : ℕ) (entries : List ℕ) (lines : List Line) (content : SegmentContent) → content_of x n entries lines ≡ Ok content → list_any is_code lines ≡ true → 1 ≤ length content.operators
+pub some_operators : (x : Scope) (n : ℕ) (entries : List ℕ) (lines : List Line) (content : SegmentContent) → pass_content x n entries lines ≡ Ok content → list_any is_code lines ≡ true → 1 ≤ length content.operators
 some_operators x n entries [] content e t = absurd (let z : ⊥ = cc in z)
 some_operators x n entries (l ∷ more) content e t =
     let h = headed x n entries l more content e in

@@ -1,5 +1,5 @@
 -- Assembled cards make a codefile within its limits.
-use Rattle.std.proofs.Common.{◌⊎◌, inl, inr, ◌≡◌, ℕ, ◌+◌, ◌*◌, ◌^◌, ◌<◌, ◌≤◌, Bool, true, false, not, cond, refl, ap, subst, arith, Option, Some, None, List, [], ◌∷◌, ◌++◌, length, map, eqb, Result, Ok, Err}
+use Rattle.std.proofs.Common.{◌⊎◌, inl, inr, ◌≡◌, ℕ, ◌+◌, ◌*◌, ◌^◌, ◌<◌, ◌≤◌, Bool, true, false, not, cond, refl, sym, ap, subst, ◌∙◌, arith, Option, Some, None, List, [], ◌∷◌, ◌++◌, length, map, eqb, Result, Ok, Err}
 use Rattle.std.specs.Prelude.{nat_lt, nat_le, IfSome, ⊤}
 use Rattle.std.specs.Int.{w8, w16, w64, to_be_bytes}
 use Rattle.std.specs.List.{AllByRecursion, flat_map, list_any}
@@ -20,7 +20,9 @@ use Rattle.b67_model_text.specs.Encoding.{laid, code_words}
 use Rattle.b67_model_text.specs.Statements.{segment, lines_of}
 use Rattle.b67_model_text.specs.Asm.{Names, names_of, Scope, SegmentContent, content_of, syllable_bits, is_word, value_in, row_values, row_words, Part, CodePart, RowPart, segments_behind, rows_behind, segment_count, misplaced, is_head, is_code, is_numbers, own, is_segment_number, is_row_number, segment_part, row_part, program_part, with_part, program_from, no_strays, assembled, says_entry, version_of}
 use Rattle.b67_model_text.proofs.Answers.{after_both, after_needs, err-ok}
+use Rattle.b67_model_text.specs.Pass.{pass_content}
 use Rattle.b67_model_text.proofs.Contents.{same_Ok}
+use Rattle.b67_model_text.proofs.Pass.{content_is}
 use Rattle.b67_asm.specs.Putting.{put_behind}
 use Rattle.b67_asm.specs.Scope.{scope_at}
 use Rattle.b67_asm.proofs.Entries.{entries_fit, no_entries, plain_rest}
@@ -145,19 +147,20 @@ segment_in names segments s r number name None lines part small e = err-ok (reco
 segment_in names segments s r number name (Some level) lines part small e =
     let scope : Scope = scope_at names segments level lines in
     let part_with : SegmentContent → Part = λ content. CodePart (record { level = level; entries = map syllable_bits content.entries; code = code_words content.operators }) in
-    let put : Result Part Refusal = content_of scope 0 [] lines >>= λ content. Ok (part_with content) in
+    let put : Result Part Refusal = content_of scope lines >>= λ content. Ok (part_with content) in
     let a = after_card number (is_segment_number s (names.means name)) 4 (of_card number (needs (list_any is_code lines) 7) >> (of_card number (needs (nat_lt (s + r) 255) 9) >> put)) part e in
     let b = after_card number (list_any is_code lines) 7 (of_card number (needs (nat_lt (s + r) 255) 9) >> put) part a.1 in
     let c = after_card number (nat_lt (s + r) 255) 9 put part b.1 in
-    let d = after_both (content_of scope 0 [] lines) (λ content. Ok (part_with content)) part c.1 in
+    let d = after_both (content_of scope lines) (λ content. Ok (part_with content)) part c.1 in
     let content : SegmentContent = d.0 in
-    let behind : put_behind [] (content_of scope 0 [] lines) ≡ Ok (laid 0 content.operators, content.entries) = ap (put_behind []) d.1 in
+    let passed : pass_content scope 0 [] lines ≡ Ok content = sym (content_is scope lines) ∙ d.1 in
+    let behind : put_behind [] (content_of scope lines) ≡ Ok (laid 0 content.operators, content.entries) = ap (put_behind []) d.1 in
     subst (PartIn s r (s + 1) r lines) (same_Ok (part_with content) part d.2) (record {
       few = ltb-true (s + r) 255 c.0;
       fits = record {
         level = small;
         entries = entries_fit names segments level lines (laid 0 content.operators) content.entries (map syllable_bits content.entries) behind refl;
-        code = code_fits content.operators (some_operators scope 0 [] lines content d.1 b.0) (content_laid scope 0 [] lines content (omega arith) d.1);
+        code = code_fits content.operators (some_operators scope 0 [] lines content passed b.0) (content_laid scope 0 [] lines content (omega arith) passed);
       };
       plain = λ none. no_entries names segments level lines (laid 0 content.operators) content.entries (map syllable_bits content.entries) behind refl none;
       counts = (refl, refl);
