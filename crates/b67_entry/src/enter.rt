@@ -25,7 +25,7 @@ use b67_stack::{Cpu, Step};
 use b67_word::{Fault, Place};
 
 /// MKST: puts a mark on the stack, or faults if the stack is as high as its slot. The task goes on at `next`.
-#[inline(never)]
+#[inline]
 pub fn mkst(cpu: &mut Cpu, next: Place) -> Step
     requires { RunsSome cpu.old }
     ensures row { ForEach cpu.old (λ x plan s m t. Meets x plan s m result cpu.old cpu.new (rows.mkst (here m t next))) }
@@ -50,6 +50,7 @@ fn procedure_at(core: &Core, at: u32) -> Pcw
 }
 
 /// The mark of an activation record that is entered at a level in an environment.
+#[inline(always)]
 fn entered_mark(regs: &Regs, env: Activation, level: u8, value: bool, back: u16) -> Mscw
     ensures { result ≡ record { far = not (env.stack == regs.now.slot); entered = true; env_stack = env.stack; env_disp = env.disp; value = value; level = level; back = back } }
 {
@@ -139,6 +140,7 @@ pub fn entr(cpu: &mut Cpu, next: Place) -> Step
 
 /// As `accident`, with these registers in place of the machine's. The two words over their top are the new ones, and
 /// nothing above these changes.
+#[inline(always)]
 pub fn accident_on(cpu: &mut Cpu, regs: Regs, cell: u32, value: bool, back: Place) -> Step
     requires procedure { (a : RunningContext cpu.old.core regs) × (q : Place) × (f : ℕ) × (segment : ℕ) × (level : ℕ) × (place : Place) × CanEnter cpu.old regs a q cell f segment level place }
     requires back { IsPlace back }
@@ -178,6 +180,7 @@ pub fn accident_on(cpu: &mut Cpu, regs: Regs, cell: u32, value: bool, back: Plac
 ///
 /// INVALID OPERAND if the procedure's level isn't the next one above that of its cell's activation record, then
 /// STACK OVERFLOW if two words don't fit; nothing is changed then.
+#[inline(always)]
 pub fn accident(cpu: &mut Cpu, cell: u32, value: bool, back: Place) -> Step
     requires procedure { (a : RunningContext cpu.old.core cpu.old.regs) × (q : Place) × (f : ℕ) × (segment : ℕ) × (level : ℕ) × (place : Place) × ReachesProc cpu.old a q cell f segment level place }
     requires back { IsPlace back }

@@ -44,6 +44,7 @@ fn settle(cpu: &mut Cpu, regs: Regs, value: Word)
 }
 
 /// Evaluates the word that is returned to a caller who wants a value, in the state without the top activation record.
+#[inline(always)]
 fn evaluate(cpu: &mut Cpu, regs: Regs, display: [u32; 32], word: Word) -> Step
     requires run { (r : RunsSome cpu.old) × (a : Returns r.member r.task) × (v : Words.Word) × ReturnsWord r.storage r.plan r.member r.task cpu.old a v word
         × (regs ≡ caller_regs cpu.old.regs (caller_stack r.plan r.member r.task a) a.back) }
