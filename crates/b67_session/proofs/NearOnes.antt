@@ -1,14 +1,13 @@
 -- An operator that was made at a reader.
-use Rattle.std.proofs.Common.{◌≡◌, ℕ, ◌+◌, ◌^◌, ◌<◌, ◌≤◌, List, length, Option, true, refl, sym, ◌∙◌, arith, subst}
-use Rattle.b67_area.specs.declared.Areas.{Areas}
-use Rattle.b67_model.specs.Common.{Session, reading_of}
-use Rattle.b67_layout.specs.Common.{Placement, ForEach, RepresentsStorage}
+use Rattle.std.proofs.Common.{◌≡◌, ℕ, ◌+◌, ◌^◌, ◌<◌, ◌≤◌, List, length, Option, true, refl, sym, arith, subst}
+use Rattle.b67_model.specs.Common.{Session}
+use Rattle.b67_layout.specs.Common.{Placement, RepresentsStorage}
 use Rattle.b67_stack.specs.declared.Cpu.{Cpu}
 use Rattle.b67_stack.specs.declared.Step.TheVariants.{Done}
 use Rattle.b67_stack.specs.MachineView.{PagedObject}
 use Rattle.b67_stack.specs.Represents.{Storage}
 use Rattle.b67_exec.specs.declared.reader.Reader.{Reader}
-use Rattle.b67_exec.specs.Operators.{OperatorMeets, CutsRecord}
+use Rattle.b67_exec.specs.Operators.{CutsRecord}
 use Rattle.b67_exec.specs.Near.{HoldsCode, ReaderBehind, FarMade, LeftMade}
 use Rattle.b67_task_release.specs.Left.{IsLeft, AreReleased}
 use Rattle.b67_task_tables.specs.declared.tables.Machine.{Machine}
