@@ -1,52 +1,75 @@
--- A near operator that was made by its reader, or not.
-use Rattle.std.proofs.Common.{◌≡◌, ◌≢◌, length, Bool, true, false, refl, sym, ap, subst}
+-- An operator that was made at a reader.
+use Rattle.std.proofs.Common.{◌≡◌, ℕ, ◌+◌, ◌^◌, ◌<◌, ◌≤◌, List, length, Option, true, refl, sym, arith, subst}
+use Rattle.b67_model.specs.Common.{Session}
+use Rattle.b67_layout.specs.Common.{Placement, RepresentsStorage}
 use Rattle.b67_stack.specs.declared.Cpu.{Cpu}
-use Rattle.b67_stack.specs.declared.Step.TheVariants as answers
+use Rattle.b67_stack.specs.declared.Step.TheVariants.{Done}
+use Rattle.b67_stack.specs.MachineView.{PagedObject}
+use Rattle.b67_stack.specs.Represents.{Storage}
 use Rattle.b67_exec.specs.declared.reader.Reader.{Reader}
-use Rattle.b67_exec.specs.declared.far.Went.{Went}
-use Rattle.b67_exec.specs.declared.far.Went.TheVariants as wents
-use Rattle.b67_exec.specs.Near.{ReaderBehind, NearMade, MadeNear, FarMade, WentFar}
+use Rattle.b67_exec.specs.Operators.{CutsRecord}
+use Rattle.b67_exec.specs.Near.{HoldsCode, ReaderBehind, FarMade, LeftMade}
+use Rattle.b67_task_release.specs.Left.{IsLeft, AreReleased}
 use Rattle.b67_task_tables.specs.declared.tables.Machine.{Machine}
-use Rattle.b67_task_tables.specs.Runs.{RunsTask}
-use Rattle.b67_session.proofs.OperatorsMade.{operator_length}
+use Rattle.b67_task_tables.specs.Runs.{RunsTask, Keeps}
+use Rattle.b67_session.specs.Makes.{MakesInSegment, ForEachReady}
+use Rattle.b67_session.proofs.Gives.{Lefts, upto_fits, asks, in_turn, kept_after, gives}
+use Rattle.b67_session.proofs.OperatorsMade.{operator_made, operator_length}
 
-pub near_row : (old new : Cpu) (before after : Reader) (made : Bool) → made ≡ true → MadeNear old before made new after → NearMade old new after
-near_row old new before after true is h = h
-near_row old new before after false is h = absurd (let z : ⊥ = cc in z)
+-- one that leaves no record
+pub stays_made : (old : Machine) (new : Cpu) → FarMade old.cpu new → ForEachReady old (λ x told plan s m t. MakesInSegment x told plan s m t Done old (record old { cpu = new }))
+stays_made old new made x told plan s m t o h runs ready =
+    operator_made x told plan s m t old o h runs ready new Done (λ code. made.left x plan s m t o h.session runs) (made.row x plan s m t o h.session runs)
 
-pub near_rest : (old new : Cpu) (before after : Reader) (made : Bool) → made ≡ false → MadeNear old before made new after → new ≡ old
-near_rest old new before after true is h = absurd (let z : ⊥ = cc in z)
-near_rest old new before after false is h = h.0
+pub stays_keeps : (old : Machine) (new : Cpu) → RunsTask old → FarMade old.cpu new → Keeps old (record old { cpu = new })
+stays_keeps old new r made = record {
+  core = operator_length r.storage r.plan r.session r.member r.task Done old.cpu new r.stands.session (made.row r.storage r.plan r.session r.member r.task r.ordered r.stands.session r.running);
+  sectors = refl;
+  given = refl;
+}
 
-pub near_stands : (old new : Cpu) (before after : Reader) (made : Bool) → ReaderBehind old before 0 → MadeNear old before made new after → ReaderBehind new after 0
-near_stands old new before after true b h = h.stands
-near_stands old new before after false b h = subst (λ (z : Cpu). ReaderBehind z after 0) (sym h.0) (subst (λ (z : Reader). ReaderBehind old z 0) (sym h.1) b)
+-- what giving back its arrays, up to an address, says of a machine
+abbrev pub GivesUpto : Machine → Cpu → ℕ → Machine → Type 0
+GivesUpto old new high after =
+    (left : List PagedObject) (x : Storage) (told : Option (List (List ℕ))) (plan : Placement) (s : Session)
+    → IsLeft left x new plan s (new.regs.s + 1) high → RepresentsStorage old.areas old.sectors told new.core x
+    → AreReleased left x new after.cpu after.areas after.sectors told plan s
 
--- core is as long as it was
-pub near_length : (old : Machine) (new : Cpu) (before after : Reader) (made : Bool) → RunsTask old → MadeNear old.cpu before made new after → length new.core ≡ length old.cpu.core
-near_length old new before after true r h =
-    operator_length r.storage r.plan r.session r.member r.task answers.Done old.cpu new r.stands.session (h.row r.storage r.plan r.session r.member r.task r.ordered r.stands.session r.running)
-near_length old new before after false r h = ap (λ (z : Cpu). length z.core) h.0
+-- one that leaves a record
+module _ (old : Machine) (new : Cpu) (high : ℕ) (made : LeftMade old.cpu new high) where
+  lefts : Lefts old.cpu true
+  lefts x plan s m t o h runs code = sym (made.left x plan s m t o h runs)
 
--- a far one that was made, or not
-pub far_row : (old new : Cpu) (before after : Reader) (went : Went) → went ≢ wents.Not → WentFar old before went new after → FarMade old new
-far_row old new before after wents.On made h = record { row = h.row; left = h.left }
-far_row old new before after wents.Away made h = h
-far_row old new before after wents.Not made h = absurd (made refl)
+  cuts : true ≡ true → Done ≡ Done → CutsRecord old.cpu new
+  cuts leaves done = made.cuts
 
-pub far_rest : (old new : Cpu) (before after : Reader) (went : Went) → went ≡ wents.Not → WentFar old before went new after → new ≡ old
-far_rest old new before after wents.On is h = absurd (let z : ⊥ = cc in z)
-far_rest old new before after wents.Away is h = absurd (let z : ⊥ = cc in z)
-far_rest old new before after wents.Not is h = h.0
+  -- the new top's address fits
+  pub left_fits : RunsTask old → new.regs.s + 1 < 2 ^ 20
+  left_fits r = omega (arith, in_turn old new Done true made.row lefts cuts refl refl r, upto_fits old r)
 
-pub far_stands : (old new : Cpu) (before after : Reader) (went : Went) → went ≢ wents.Away → ReaderBehind old before 0 → WentFar old before went new after → ReaderBehind new after 0
-far_stands old new before after wents.On here b h = h.stands
-far_stands old new before after wents.Away here b h = absurd (here refl)
-far_stands old new before after wents.Not here b h = subst (λ (z : Cpu). ReaderBehind z after 0) (sym h.0) (subst (λ (z : Reader). ReaderBehind old z 0) (sym h.1) b)
+  -- what is asked of giving back
+  pub left_asks : RunsTask old → (left : List PagedObject) × (x : Storage) × (told : Option (List (List ℕ))) × (plan : Placement) × (s : Session)
+      × IsLeft left x new plan s (new.regs.s + 1) high × RepresentsStorage old.areas old.sectors told new.core x
+  left_asks r =
+      let P : ℕ → Type 0 = λ n. (left : List PagedObject) × (x : Storage) × (told : Option (List (List ℕ))) × (plan : Placement) × (s : Session)
+          × IsLeft left x new plan s (new.regs.s + 1) n × RepresentsStorage old.areas old.sectors told new.core x in
+      subst P (sym made.upto) (asks old new Done true made.row lefts cuts refl refl r)
 
-pub far_length : (old : Machine) (new : Cpu) (before after : Reader) (went : Went) → RunsTask old → WentFar old.cpu before went new after → length new.core ≡ length old.cpu.core
-far_length old new before after wents.On r h =
-    operator_length r.storage r.plan r.session r.member r.task answers.Done old.cpu new r.stands.session (h.row r.storage r.plan r.session r.member r.task r.ordered r.stands.session r.running)
-far_length old new before after wents.Away r h =
-    operator_length r.storage r.plan r.session r.member r.task answers.Done old.cpu new r.stands.session (h.row r.storage r.plan r.session r.member r.task r.ordered r.stands.session r.running)
-far_length old new before after wents.Not r h = ap (λ (z : Cpu). length z.core) h.0
+  pub left_in_turn : RunsTask old → new.regs.s + 1 ≤ high
+  left_in_turn r = omega (arith, in_turn old new Done true made.row lefts cuts refl refl r, made.upto)
+
+  module _ (after : Machine) (areas : after.areas ≡ old.areas) (tasks : after.tasks ≡ old.tasks) (given : GivesUpto old new high after) where
+    back : GivesUpto old new (old.cpu.regs.s + 1) after
+    back = subst (λ (n : ℕ). GivesUpto old new n after) made.upto given
+
+    -- what is made
+    pub left_made : ForEachReady old (λ x told plan s m t. MakesInSegment x told plan s m t Done old after)
+    left_made = gives old new Done true made.row lefts cuts refl refl after areas tasks back
+
+    pub left_keeps : RunsTask old → length after.sectors.links ≡ length old.sectors.links → Keeps old after
+    left_keeps r count = kept_after old new Done true made.row lefts cuts refl refl r after areas tasks count back
+
+-- a reader of a machine that is as it was has its descriptor
+pub reader_code : (old new : Machine) (before after : Reader) → ReaderBehind old.cpu before 0 → (new ≡ old) × (after ≡ before) → HoldsCode new.cpu after.code
+reader_code old new before after stands same =
+    subst (λ (z : Machine). HoldsCode z.cpu after.code) (sym same.0) (subst (λ (z : Reader). HoldsCode old.cpu z.code) (sym same.1) stands.code)

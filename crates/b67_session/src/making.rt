@@ -1,14 +1,14 @@
 //! The operator at the running place, with the arrays given back of an activation record that it leaves.
 
-ghost use Rattle.std.specs.Prelude.{◌≡◌, ◌≢◌, true, false};
+ghost use Rattle.std.specs.Prelude.{◌≡◌, ◌≢◌, true};
 ghost use Rattle.b67_stack.specs.declared.Step.TheVariants.{Done};
 ghost use Rattle.b67_exec.specs.Near.{HoldsCode, ReaderBehind};
-ghost use Rattle.b67_exec.specs.declared.far.Went.TheVariants.{Away, Not};
+ghost use Rattle.b67_exec.specs.declared.far.Went.TheVariants.{On, Not};
 ghost use Rattle.b67_task_tables.specs.Runs.{RunsTask, Keeps};
 ghost use Rattle.b67_session.specs.Makes.{MakesInSegment, ForEachReady};
 
 use b67_ctl::SegDesc;
-use b67_exec::{Reader, Went, operate_at, operate_far, operate_in, operate_near};
+use b67_exec::{Made, Reader, Went, operate_in, operate_near};
 use b67_exec_cells::present_segment;
 use b67_stack::{Step, What};
 use b67_task_release::release;
@@ -55,69 +55,41 @@ pub fn make_in(machine: &mut Machine, desc: SegDesc) -> Operated
     }
 }
 
-/// Makes the operator at the running place, at which the reader stands, as `make`, if it is near and its answer is `Done`: the
-/// reader then stands at the new place. Else nothing is changed, and the answer is false.
+/// Makes the operator at the running place, at which the reader stands, as `make`, if its answer is `Done`. Where the task goes on
+/// in the segment the reader then stands there. At `Not` nothing is changed.
 #[inline(always)]
-pub fn make_near(machine: &mut Machine, reader: &mut Reader) -> bool
-    requires runs { RunsTask machine.old }
-    requires stands { ReaderBehind machine.old.cpu reader.old 0 }
-    ensures row { result ≡ true → ForEachReady machine.old (λ x told plan s m t. MakesInSegment x told plan s m t Done machine.old machine.new) }
-    ensures rest { result ≡ false → machine.new ≡ machine.old }
-    ensures stands { ReaderBehind machine.new.cpu reader.new 0 }
-    ensures keeps { Keeps machine.old machine.new }
-    ensures tasks { machine.new.tasks ≡ machine.old.tasks }
-{
-    operate_near(&mut machine.cpu, reader)
-}
-
-/// Makes the operator at the running place, at which the reader stands, as `make`, if it is far, leaves no activation record and
-/// its answer is `Done`. Where the task goes on behind it, in the segment, the reader then stands there. At `Not` nothing is
-/// changed.
-#[inline(always)]
-pub fn make_far(machine: &mut Machine, reader: &mut Reader) -> Went
+pub fn make_near(machine: &mut Machine, reader: &mut Reader) -> Went
     requires runs { RunsTask machine.old }
     requires stands { ReaderBehind machine.old.cpu reader.old 0 }
     ensures row { result ≢ Not → ForEachReady machine.old (λ x told plan s m t. MakesInSegment x told plan s m t Done machine.old machine.new) }
-    ensures rest { result ≡ Not → machine.new ≡ machine.old }
-    ensures stands { result ≢ Away → ReaderBehind machine.new.cpu reader.new 0 }
+    ensures rest { result ≡ Not → (machine.new ≡ machine.old) × (reader.new ≡ reader.old) }
+    ensures stands { result ≡ On → ReaderBehind machine.new.cpu reader.new 0 }
     ensures keeps { Keeps machine.old machine.new }
     ensures tasks { machine.new.tasks ≡ machine.old.tasks }
 {
-    operate_far(&mut machine.cpu, reader)
-}
-
-/// Makes the operator at the running place, at which the reader stands, as `make`. `near` is as of `make_in`.
-#[inline(always)]
-pub fn make_at(machine: &mut Machine, reader: Reader) -> Operated
-    requires runs { RunsTask machine.old }
-    requires stands { ReaderBehind machine.old.cpu reader 0 }
-    ensures row { ForEachReady machine.old (λ x told plan s m t. MakesInSegment x told plan s m t result.step machine.old machine.new) }
-    ensures code { result.near ≡ true → HoldsCode machine.new.cpu reader.code }
-    ensures keeps { Keeps machine.old machine.new }
-    ensures tasks { machine.new.tasks ≡ machine.old.tasks }
-{
-    let high = machine.cpu.regs.s + 1;
-    let made = operate_at(&mut machine.cpu, reader);
-    if !made.left {
-        return Operated {
-            step: made.step,
-            near: made.near,
-        };
-    }
-    match made.step {
-        Step::Done => {
+    match operate_near(&mut machine.cpu, reader) {
+        Made::On => Went::On,
+        Made::Away => Went::Away,
+        Made::Left(high) => {
             let low = machine.cpu.regs.s + 1;
             release(machine, low, high);
-            Operated {
-                step: Step::Done,
-                near: false,
-            }
+            Went::Away
         }
-        other => Operated {
-            step: other,
-            near: false,
-        },
+        Made::Not => Went::Not,
     }
+}
+
+/// `make_in` behind a call, so that the loop of a turn doesn't hold it.
+#[inline(never)]
+pub fn make_apart(machine: &mut Machine, desc: SegDesc) -> Operated
+    requires runs { RunsTask machine.old }
+    requires code { HoldsCode machine.old.cpu desc }
+    ensures row { ForEachReady machine.old (λ x told plan s m t. MakesInSegment x told plan s m t result.step machine.old machine.new) }
+    ensures code { result.near ≡ true → HoldsCode machine.new.cpu desc }
+    ensures keeps { Keeps machine.old machine.new }
+    ensures tasks { machine.new.tasks ≡ machine.old.tasks }
+{
+    make_in(machine, desc)
 }
 
 /// Makes the operator at the running place. Where it leaves an activation record, the areas and chains of that record's

@@ -15,7 +15,7 @@ ghost use Rattle.b67_session.specs.Slices.{StandsAt, Keeps};
 ghost use Rattle.b67_session.specs.Steps.{IsInOrderFor, GoesOnInTurn};
 ghost use Rattle.b67_session.specs.InTurn.{TurnBegins, HasTurnLeft, TurnGoesOn, MadeInTurn};
 
-use crate::making::{make_at, make_far, make_near};
+use crate::making::{make_apart, make_near};
 use b67_exec::{Went, reader_at};
 use b67_exec_cells::present_segment;
 use b67_stack::Step;
@@ -74,11 +74,7 @@ fn make_in_segment(machine: &mut Machine, room: u64) -> InSegment
     };
     let mut made = 0;
     'operator: while made < room {
-        if make_near(machine, &mut reader) {
-            made += 1;
-            continue 'operator;
-        }
-        match make_far(machine, &mut reader) {
+        match make_near(machine, &mut reader) {
             Went::On => {
                 made += 1;
                 continue 'operator;
@@ -89,7 +85,7 @@ fn make_in_segment(machine: &mut Machine, room: u64) -> InSegment
             },
             Went::Not => {}
         }
-        let next = make_at(machine, reader);
+        let next = make_apart(machine, reader.code);
         match next.step {
             Step::Done => {}
             _ => return InSegment { made, goes: false },
