@@ -13,6 +13,7 @@ ghost use Rattle.b67_model.specs.Entry.{back_to};
 ghost use Rattle.b67_model.specs.Rows as operators;
 ghost use Rattle.b67_stack.specs.declared.Step.TheVariants.{Done};
 ghost use Rattle.b67_layout.specs.Meets.{RunsSome, ForEach, Meets, here};
+ghost use Rattle.b67_exec_cells.specs.Tops.{StaysInSegment};
 ghost use Rattle.b67_refer.specs.RunningContext.{RunningContext, IsShown};
 ghost use Rattle.b67_entry.specs.Procedures.{ReachesProc, CanEnter, EntersOrFaults, CallsWith, CallsOrMeets};
 ghost use Rattle.b67_model.specs.Words.{Word};
@@ -28,6 +29,7 @@ use b67_word::{Fault, Place};
 pub fn mkst(cpu: &mut Cpu, next: Place) -> Step
     requires { RunsSome cpu.old }
     ensures row { ForEach cpu.old (λ x plan s m t. Meets x plan s m result cpu.old cpu.new (rows.mkst (here m t next))) }
+    ensures stays { result ≡ Done → StaysInSegment cpu.old cpu.new next }
 {
     match cpu.mark() {
         Ok(()) => {

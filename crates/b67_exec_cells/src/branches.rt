@@ -1,9 +1,11 @@
 //! Going on, at the next operator or elsewhere.
 
-ghost use Rattle.std.specs.Prelude.{None};
+ghost use Rattle.std.specs.Prelude.{◌≡◌, None};
 ghost use Rattle.b67_model.specs.Steps.{cells_of, leaves_cells};
 ghost use Rattle.b67_model.specs.Rows as rows;
+ghost use Rattle.b67_stack.specs.declared.Step.TheVariants.{Done};
 ghost use Rattle.b67_layout.specs.Meets.{here, Meets, RunsSome, ForEach};
+ghost use Rattle.b67_exec_cells.specs.Tops.{StaysInSegment};
 
 use crate::cells::{drop_cells, top_cell};
 use b67_stack::{Cpu, Step};
@@ -14,6 +16,7 @@ use b67_word::{Fault, Place};
 pub fn branch_to(cpu: &mut Cpu, next: Place) -> Step
     requires { RunsSome cpu.old }
     ensures row { ForEach cpu.old (λ x plan s m t. let h = here m t next in Meets x plan s m result cpu.old cpu.new (leaves_cells h (cells_of h) None)) }
+    ensures stays { result ≡ Done → StaysInSegment cpu.old cpu.new next }
 {
     drop_cells(cpu, 0, next);
     Step::Done

@@ -4,9 +4,10 @@
 ghost use Rattle.std.specs.Prelude.{◌≡◌, ℕ, ◌+◌, ◌-◌, ◌<◌, ◌≤◌, OnOk, List, length, ◌++◌, ◌∷◌, None, true, false};
 ghost use Rattle.b67_model.specs.Words as words;
 ghost use Rattle.b67_model.specs.Steps.{leaves_cells};
+ghost use Rattle.b67_stack.specs.declared.Step.TheVariants.{Done};
 ghost use Rattle.b67_layout.specs.Meets.{here, Meets, IsMade, RunsSome, ForEach};
 ghost use Rattle.b67_layout.specs.Tops.{IsWordOf, cells as cells_of, GivesTop};
-ghost use Rattle.b67_exec_cells.specs.Tops.{GivesTwo, MayStand, NoOriginals};
+ghost use Rattle.b67_exec_cells.specs.Tops.{GivesTwo, MayStand, NoOriginals, StaysInSegment};
 
 use b67_stack::{Cpu, Step};
 use b67_word::{Fault, Place, Word};
@@ -79,6 +80,7 @@ pub fn drop_cells(cpu: &mut Cpu, count: u32, next: Place)
     requires cells { cpu.old.regs.f + count ≤ cpu.old.regs.s }
     ensures row { ForEach cpu.old (λ x plan s m t. (gone rest : List words.Word) → cells_of t ≡ gone ++ rest → length gone ≡ count
         → NoOriginals gone → IsMade x plan s m cpu.old cpu.new (leaves_cells (here m t next) rest None)) }
+    ensures stays { StaysInSegment cpu.old cpu.new next }
 {
     cpu.regs.s -= count;
     go_on_at(cpu, next);
@@ -93,6 +95,7 @@ pub fn replace_cells(cpu: &mut Cpu, count: u32, w: Word, next: Place) -> Step
     ensures row { ForEach cpu.old (λ x plan s m t. (gone rest : List words.Word) (v : words.Word) → cells_of t ≡ gone ++ rest → length gone ≡ count
         → NoOriginals gone → MayStand m.progress.job v → IsWordOf x plan m t v (cpu.old.regs.s - count + 1) w
         → Meets x plan s m result cpu.old cpu.new (leaves_cells (here m t next) (v ∷ rest) None)) }
+    ensures stays { result ≡ Done → StaysInSegment cpu.old cpu.new next }
 {
     let at = cpu.regs.s - count + 1;
     if at > cpu.regs.losr {

@@ -4,8 +4,10 @@ ghost use Rattle.std.specs.Prelude.{◌≡◌};
 ghost use Rattle.b67_model.specs.Rows as rows;
 ghost use Rattle.b67_arith.specs.Numerics.{of_numbers};
 ghost use Rattle.b67_arith.specs.OnWords.{on_word, on_words};
+ghost use Rattle.b67_stack.specs.declared.Step.TheVariants.{Done};
 ghost use Rattle.b67_layout.specs.Meets.{here, Meets, RunsSome, ForEach};
 ghost use Rattle.b67_exec_cells.specs.Meanings.{of_one, of_two};
+ghost use Rattle.b67_exec_cells.specs.Tops.{StaysInSegment};
 
 use crate::cells::{replace_cells, top_cell, two_cells};
 use b67_arith::{
@@ -90,6 +92,7 @@ pub fn on_numbers(cpu: &mut Cpu, op: Numeric, next: Place) -> Step
 pub fn on_two(cpu: &mut Cpu, op: Binary, next: Place) -> Step
     requires { RunsSome cpu.old }
     ensures row { ForEach cpu.old (λ x plan s m t. Meets x plan s m result cpu.old cpu.new (rows.on_cells (rows.on_two (of_two op)) (here m t next))) }
+    ensures stays { result ≡ Done → StaysInSegment cpu.old cpu.new next }
 {
     let (a, b) = match two_cells(cpu) {
         Ok(words) => words,
@@ -107,6 +110,7 @@ pub fn on_two(cpu: &mut Cpu, op: Binary, next: Place) -> Step
 pub fn on_one(cpu: &mut Cpu, op: Unary, next: Place) -> Step
     requires { RunsSome cpu.old }
     ensures row { ForEach cpu.old (λ x plan s m t. Meets x plan s m result cpu.old cpu.new (rows.on_cells (rows.on_one (of_one op)) (here m t next))) }
+    ensures stays { result ≡ Done → StaysInSegment cpu.old cpu.new next }
 {
     let a = match top_cell(cpu) {
         Ok(word) => word,

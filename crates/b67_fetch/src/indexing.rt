@@ -8,9 +8,11 @@ ghost use Rattle.b67_model.specs.Indexing.{array_of as array_of_row, indexed as 
 ghost use Rattle.b67_model.specs.Rows as rows;
 ghost use Rattle.b67_model.specs.Steps.{cells_of};
 ghost use Rattle.b67_arith.specs.OnWords.{operand_bits};
+ghost use Rattle.b67_stack.specs.declared.Step.TheVariants.{Done};
 ghost use Rattle.b67_layout.specs.Meets.{here, Meets, RunsSome, ForEach};
 ghost use Rattle.b67_layout.specs.Tops.{IsWordOf};
 ghost use Rattle.b67_exec_cells.specs.Elements.{HasElement, HoldsElement};
+ghost use Rattle.b67_exec_cells.specs.Tops.{StaysInSegment};
 ghost use Rattle.b67_fetch.specs.Fetches.{IsFollowed, MayFollow};
 ghost use Rattle.b67_fetch.specs.Indexes.{array_in, FindsArray, index_in, FindsItem, FindsTopItem};
 
@@ -143,6 +145,7 @@ fn item_copy(cpu: &Cpu, original: u32, index: u32) -> Word
 pub fn indx(cpu: &mut Cpu, next: Place) -> Step
     requires { RunsSome cpu.old }
     ensures row { ForEach cpu.old (λ x plan s m t. let h = here m t next in Meets x plan s m result cpu.old cpu.new (rows.indx h (cells_of h))) }
+    ensures stays { result ≡ Done → StaysInSegment cpu.old cpu.new next }
 {
     match top_item(cpu) {
         Ok((original, index)) => {
@@ -158,6 +161,7 @@ pub fn indx(cpu: &mut Cpu, next: Place) -> Step
 pub fn nxlv(cpu: &mut Cpu, next: Place) -> Step
     requires { RunsSome cpu.old }
     ensures row { ForEach cpu.old (λ x plan s m t. let h = here m t next in Meets x plan s m result cpu.old cpu.new (rows.nxlv h (cells_of h))) }
+    ensures stays { result ≡ Done → StaysInSegment cpu.old cpu.new next }
 {
     match top_item(cpu) {
         Ok((original, index)) => put_element(cpu, 2, original, index, next),

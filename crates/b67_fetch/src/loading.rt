@@ -10,9 +10,10 @@ ghost use Rattle.b67_model.specs.Arrays.{element as element_of};
 ghost use Rattle.b67_model.specs.Chase.{End as ModelEnd, chase as chase_of, follow};
 ghost use Rattle.b67_model.specs.Steps.{leaves_cells, cells_of};
 ghost use Rattle.b67_model.specs.Rows as rows;
+ghost use Rattle.b67_stack.specs.declared.Step.TheVariants.{Done};
 ghost use Rattle.b67_layout.specs.Meets.{here, Meets, RunsSome, ForEach};
 ghost use Rattle.b67_layout.specs.Tops.{cells};
-ghost use Rattle.b67_exec_cells.specs.Tops.{NoOriginals};
+ghost use Rattle.b67_exec_cells.specs.Tops.{NoOriginals, StaysInSegment};
 ghost use Rattle.b67_exec_cells.specs.Elements.{HasElement, HoldsElement};
 ghost use Rattle.b67_fetch.specs.Fetches.{IsFollowed, MayFollow, IsEnd, FindsEnd, SomeEnd, value_at_end, is_procedure_end, enters_at, EntersOrMeets, top_end};
 
@@ -39,6 +40,7 @@ pub(crate) fn put_element(cpu: &mut Cpu, count: u32, original: u32, index: u32, 
     ensures row { ForEach cpu.old (λ x plan s m t. (gone rest : List words.Word) (n : ℕ) → cells t ≡ gone ++ rest → length gone ≡ count → NoOriginals gone
         → original ≡ plan.home m.constants.number n → HasElement m.progress.job n index
         → Meets x plan s m result cpu.old cpu.new (leaves_cells (here m t next) (Operand (element_of m.progress.job n index) ∷ rest) (Some n))) }
+    ensures stays { result ≡ Done → StaysInSegment cpu.old cpu.new next }
 {
     if cpu.regs.s - count >= cpu.regs.losr {
         return Step::Fault(Fault::StackOverflow);
@@ -57,6 +59,7 @@ pub fn value(cpu: &mut Cpu, count: u32, end: End, next: Place) -> Step
     requires cells { cpu.old.regs.f + count ≤ cpu.old.regs.s }
     ensures row { ForEach cpu.old (λ x plan s m t. (gone rest : List words.Word) (e : ModelEnd) → cells t ≡ gone ++ rest → length gone ≡ count → NoOriginals gone
         → IsEnd plan m cpu.old.core end e → EntersOrMeets x plan s m result cpu.old cpu.new (is_procedure_end e) (value_at_end (here m t next) rest e)) }
+    ensures stays { result ≡ Done → StaysInSegment cpu.old cpu.new next }
 {
     match end {
         End::Cell(at) => {
@@ -76,6 +79,7 @@ pub fn valc(cpu: &mut Cpu, couple: u16, next: Place) -> Step
     requires runs { RunsSome cpu.old }
     requires couple { couple < 2 ^ 14 }
     ensures row { ForEach cpu.old (λ x plan s m t. let h = here m t next in EntersOrMeets x plan s m result cpu.old cpu.new (enters_at (chase_of h (Name couple))) (rows.valc h couple)) }
+    ensures stays { result ≡ Done → StaysInSegment cpu.old cpu.new next }
 {
     match end_of(cpu, Irw { couple }.word()) {
         Ok(end) => value(cpu, 0, end, next),
@@ -89,6 +93,7 @@ pub fn valc(cpu: &mut Cpu, couple: u16, next: Place) -> Step
 pub fn load(cpu: &mut Cpu, next: Place) -> Step
     requires { RunsSome cpu.old }
     ensures row { ForEach cpu.old (λ x plan s m t. let h = here m t next in EntersOrMeets x plan s m result cpu.old cpu.new (enters_at (top_end h (cells_of h))) (rows.load h (cells_of h))) }
+    ensures stays { result ≡ Done → StaysInSegment cpu.old cpu.new next }
 {
     let w = match top_cell(cpu) {
         Ok(word) => word,

@@ -5,8 +5,10 @@
 ghost use Rattle.std.specs.Prelude.{◌≡◌, ℕ, ◌+◌, ◌-◌, ◌<◌, ◌≤◌, length, true, false};
 ghost use Rattle.b67_model.specs.Steps.{cells_of};
 ghost use Rattle.b67_model.specs.Rows as rows;
+ghost use Rattle.b67_stack.specs.declared.Step.TheVariants.{Done};
 ghost use Rattle.b67_layout.specs.Meets.{here, RunsSome, ForEach};
 ghost use Rattle.b67_exec_cells.specs.Elements.{HasElement, HoldsElement};
+ghost use Rattle.b67_exec_cells.specs.Tops.{StaysInSegment};
 ghost use Rattle.b67_fetch.specs.Fetches.{enters_at, EntersOrMeets};
 ghost use Rattle.b67_fetch.specs.Stores.{store_end, ElementAt, stored};
 
@@ -56,6 +58,7 @@ fn put(cpu: &mut Cpu, at: u32, w: Word, keeps: bool, next: Place)
 fn store(cpu: &mut Cpu, keeps: bool, next: Place) -> Step
     requires { RunsSome cpu.old }
     ensures row { ForEach cpu.old (λ x plan s m t. let h = here m t next in EntersOrMeets x plan s m result cpu.old cpu.new (enters_at (store_end h (cells_of h))) (rows.store keeps h (cells_of h))) }
+    ensures stays { result ≡ Done → StaysInSegment cpu.old cpu.new next }
 {
     let (lower, upper) = match two_cells(cpu) {
         Ok(two) => two,
@@ -92,6 +95,7 @@ fn store(cpu: &mut Cpu, keeps: bool, next: Place) -> Step
 pub fn stod(cpu: &mut Cpu, next: Place) -> Step
     requires { RunsSome cpu.old }
     ensures row { ForEach cpu.old (λ x plan s m t. let h = here m t next in EntersOrMeets x plan s m result cpu.old cpu.new (enters_at (store_end h (cells_of h))) (rows.store false h (cells_of h))) }
+    ensures stays { result ≡ Done → StaysInSegment cpu.old cpu.new next }
 {
     store(cpu, false, next)
 }
@@ -100,6 +104,7 @@ pub fn stod(cpu: &mut Cpu, next: Place) -> Step
 pub fn ston(cpu: &mut Cpu, next: Place) -> Step
     requires { RunsSome cpu.old }
     ensures row { ForEach cpu.old (λ x plan s m t. let h = here m t next in EntersOrMeets x plan s m result cpu.old cpu.new (enters_at (store_end h (cells_of h))) (rows.store true h (cells_of h))) }
+    ensures stays { result ≡ Done → StaysInSegment cpu.old cpu.new next }
 {
     store(cpu, true, next)
 }

@@ -4,7 +4,9 @@ ghost use Rattle.std.specs.Prelude.{◌≡◌, ℕ, ◌^◌, ◌<◌};
 ghost use Rattle.b67_ctl.specs.Layout.{IsSirw};
 ghost use Rattle.b67_model.specs.InOrder.{NamesEntered};
 ghost use Rattle.b67_model.specs.Rows as rows;
+ghost use Rattle.b67_stack.specs.declared.Step.TheVariants.{Done};
 ghost use Rattle.b67_layout.specs.Meets.{here, Meets, RunsSome, ForEach};
+ghost use Rattle.b67_exec_cells.specs.Tops.{StaysInSegment};
 ghost use Rattle.b67_refer.specs.RunningContext.{RunningContext};
 ghost use Rattle.b67_refer.specs.Cells.{reach, view, frame_at_core};
 
@@ -55,6 +57,7 @@ fn stuffed(core: &Core, regs: &Regs, base: u32, offset: u16) -> Sirw
 pub fn stff(cpu: &mut Cpu, next: Place) -> Step
     requires { RunsSome cpu.old }
     ensures row { ForEach cpu.old (λ x plan s m t. let h = here m t next in Meets x plan s m result cpu.old cpu.new (rows.on_cells (rows.stff h) h)) }
+    ensures stays { result ≡ Done → StaysInSegment cpu.old cpu.new next }
 {
     let w = match top_cell(cpu) {
         Ok(word) => word,

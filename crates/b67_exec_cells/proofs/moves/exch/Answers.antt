@@ -2,6 +2,7 @@ use Rattle.std.proofs.Common.{List, refl, sym, ◌∙◌, arith, subst, inl, inr
 use Rattle.b67_word.specs.Tagged.{Tagged}
 use Rattle.b67_model.specs.Rows as rows
 use Rattle.b67_layout.specs.Meets.{here, IsMade}
+use Rattle.b67_stack.specs.declared.Cpu.{Cpu}
 use Rattle.b67_exec_cells.proofs.Put.{room}
 use Rattle.b67_exec_cells.proofs.Rows.{two_missing}
 use Rattle.b67_exec_cells.proofs.Exchanges.{exchanges, exchange_refused}
@@ -38,7 +39,8 @@ returns c = record {
       let old = c.args.cpu.now in
       let P : List Tagged → Type 0 = λ core. IsMade x plan s m old (record old { core = core; regs = record old.regs { place = c.args.next } }) (rows.on_cells rows.exch (here m t c.args.next)) in
       let Q : List Tagged → Type 0 = λ core. IsMade x plan s m old (record old { core = slice_set core old.regs.s c.in-Ok.words.0; regs = record old.regs { place = c.args.next } }) (rows.on_cells rows.exch (here m t c.args.next)) in
-      subst P (sym c.set-2.ensures.value) (subst Q (sym c.set.ensures.value)
+      let R : Cpu → Type 0 = λ now. IsMade x plan s m old now (rows.on_cells rows.exch (here m t c.args.next)) in
+      subst R (sym c.go_on_at.ensures) (subst P (sym c.set-2.ensures.value) (subst Q (sym c.set.ensures.value)
       (exchanges x old plan s m t ordered h runs c.in-Ok.words.0 c.in-Ok.words.1 c.args.next (c.in-Ok.ensures.cells x plan s m t ordered h runs) c.in-Ok.ensures.above
-      (λ v at f. sym (c.is_original.ensures x plan m t v at f) ∙ c.if-is_original.false) (λ v at f. sym (c.is_original-else-is_original.ensures x plan m t v at f) ∙ c.if-is_original-2.false)));
+      (λ v at f. sym (c.is_original.ensures x plan m t v at f) ∙ c.if-is_original.false) (λ v at f. sym (c.is_original-else-is_original.ensures x plan m t v at f) ∙ c.if-is_original-2.false))));
 }

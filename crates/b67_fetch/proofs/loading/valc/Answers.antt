@@ -20,17 +20,13 @@ value-requires-clause-end c =
 pub value-requires-clause-cells : goal.value-requires-clause-cells
 value-requires-clause-cells c = let q = c.requires.runs in let r = (room q.storage c.args.cpu.now q.plan q.session q.member q.task q.ordered q.stands q.running).top in omega (arith, r)
 
-pub returns-in-Ok : goal.returns-in-Ok
-returns-in-Ok c = record {
-  row = λ x plan s m t ordered h runs.
-      let i = couple_followed x plan m t c.args.couple c.word.result c.requires.couple c.word.ensures in
-      valc_row x plan s m t c.args.next c.args.cpu.now c.value.result c.value.new.cpu c.in-Ok.end (follow (here m t c.args.next) (Name c.args.couple)) (c.in-Ok.ensures x plan s m t ordered h runs c.args.next (Name c.args.couple) i)
-      (λ f is. c.value.ensures.row x plan s m t ordered h runs [] (cells t) f refl refl tt is);
-}
+pub returns-in-Ok-clause-row : goal.returns-in-Ok-clause-row
+returns-in-Ok-clause-row c = λ x plan s m t ordered h runs.
+    let i = couple_followed x plan m t c.args.couple c.word.result c.requires.couple c.word.ensures in
+    valc_row x plan s m t c.args.next c.args.cpu.now c.value.result c.value.new.cpu c.in-Ok.end (follow (here m t c.args.next) (Name c.args.couple)) (c.in-Ok.ensures x plan s m t ordered h runs c.args.next (Name c.args.couple) i)
+    (λ f is. c.value.ensures.row x plan s m t ordered h runs [] (cells t) f refl refl tt is)
 
-pub returns-in-Err : goal.returns-in-Err
-returns-in-Err c = record {
-  row = λ x plan s m t ordered h runs.
-      let i = couple_followed x plan m t c.args.couple c.word.result c.requires.couple c.word.ensures in
-      refused x plan s m t c.args.next c.args.cpu.now (λ f. evaluates (here m t c.args.next) f) c.in-Err.fault (follow (here m t c.args.next) (Name c.args.couple)) (c.in-Err.ensures x plan s m t ordered h runs c.args.next (Name c.args.couple) i);
-}
+pub returns-in-Err-clause-row : goal.returns-in-Err-clause-row
+returns-in-Err-clause-row c = λ x plan s m t ordered h runs.
+    let i = couple_followed x plan m t c.args.couple c.word.result c.requires.couple c.word.ensures in
+    refused x plan s m t c.args.next c.args.cpu.now (λ f. evaluates (here m t c.args.next) f) c.in-Err.fault (follow (here m t c.args.next) (Name c.args.couple)) (c.in-Err.ensures x plan s m t ordered h runs c.args.next (Name c.args.couple) i)
