@@ -1,5 +1,5 @@
 -- A far operator that was read and made behind a call, and where the reader then stands.
-use Rattle.std.proofs.Common.{◌≡◌, ℕ, ◌/◌, ◌^◌, Bool, true, false, Some, Ok, refl, sym, ◌∙◌, ap, subst}
+use Rattle.std.proofs.Common.{◌≡◌, ℕ, ◌+◌, ◌/◌, ◌^◌, ◌<◌, Bool, true, false, Some, Ok, refl, sym, ◌∙◌, ap, subst, arith}
 use Rattle.b67_word.specs.declared.couples.Place.{Place}
 use Rattle.b67_ctl.specs.Layout.{IsPlace}
 use Rattle.b67_model.specs.declared.operators.Op.{Op}
@@ -12,6 +12,7 @@ use Rattle.b67_stack.specs.declared.Step.TheVariants as answers
 use Rattle.b67_layout.specs.Common.{RunsSome}
 use Rattle.b67_layout.proofs.Fresh.{running_in_order}
 use Rattle.b67_exec_cells.proofs.Codes.{present}
+use Rattle.b67_exec_cells.proofs.Put.{room}
 use Rattle.b67_layout_step.specs.Keeping.{is_leaving}
 use Rattle.b67_exec.specs.Operators.{is_on_top, goes_behind, may_enter, leaves_record}
 use Rattle.b67_exec.specs.declared.reader.Reader.{Reader}
@@ -20,7 +21,7 @@ use Rattle.b67_exec.specs.declared.far.Went.TheVariants as wents
 use Rattle.b67_exec.specs.declared.near.Made.{Made}
 use Rattle.b67_exec.specs.declared.near.Made.TheVariants as outcome
 use Rattle.b67_exec.specs.Near.{ReaderBehind, reader_place, NearMade, MadeNear, FarMade, LeftMade, Makes, outcome_of}
-use Rattle.b67_exec.specs.Far.{MadeOn, MadeAway, MadeWent, LeavesBy, LeadsTo}
+use Rattle.b67_exec.specs.Far.{MadeOn, MadeAway, MadeWent, MadeLeaving, LeavesBy, LeadsTo}
 use Rattle.b67_exec.proofs.Readings.{read_fits, operator_read}
 use Rattle.b67_exec.proofs.Through.{ReadsThrough, far_made, far_on, lone_to, one_on}
 
@@ -75,7 +76,18 @@ pub away_rest : (op : Op) (q : Place) (old new : Cpu) (made : Bool) → made ≡
 away_rest op q old new true is m = absurd (let z : ⊥ = cc in z)
 away_rest op q old new false is m = m
 
--- it leaves an activation record
+-- it leaves an activation record, whose words go up to the top of the stack
+pub leaving_made : (op : Op) (old new : Cpu) (made : Bool) → made ≡ true → MadeLeaving op old made new → LeavesBy op old (outcome.Left (old.regs.s + 1)) new
+leaving_made op old new true is m = (m.0, m.1, refl)
+leaving_made op old new false is m = absurd (let z : ⊥ = cc in z)
+
+pub leaving_rest : (op : Op) (old new : Cpu) (made : Bool) → made ≡ false → MadeLeaving op old made new → new ≡ old
+leaving_rest op old new true is m = absurd (let z : ⊥ = cc in z)
+leaving_rest op old new false is m = m
+
+pub top_fits : (old : Cpu) → RunsSome old → old.regs.s + 1 < 2 ^ 20
+top_fits old r = let g = room r.storage old r.plan r.session r.member r.task r.ordered r.stands r.running in omega (arith, g.last, g.under, g.inside, g.bound)
+
 pub left_made : (old new : Cpu) (before : Reader) (code : Code) (made : Made) → ReaderBehind old before 0 → form_of (before.bits / 2 ^ 56) ≡ Some (Alone code) → is_leaving (Plain code) ≡ true → LeavesBy (Plain code) old made new → Makes old before made new before
 left_made old new before code (outcome.Left upto) b begins leaving m =
     let read = lone_to old before b code begins in
