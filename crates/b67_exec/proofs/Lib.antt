@@ -11,3 +11,5 @@ pub mod Readers
 pub mod NearTable
 pub mod Through
 pub mod Dones
+pub mod Fars
+pub mod Mades

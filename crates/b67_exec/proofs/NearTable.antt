@@ -1,10 +1,14 @@
 -- The table of first syllables against the operators of the machine.
-use Rattle.std.proofs.Common.{◌≡◌, ℕ, zero, suc, ◌+◌, List, [], ◌∷◌, Option, Some, None, refl, sym, ◌∙◌, subst, arith}
+use Rattle.std.proofs.Common.{◌≡◌, ℕ, zero, suc, ◌+◌, Bool, true, ◌&&◌, List, [], ◌∷◌, Option, Some, None, refl, sym, ◌∙◌, subst, arith}
 use Rattle.std.specs.Prelude.{slice_get}
+use Rattle.std.proofs.lemmas.Bool.{and_parts}
 use Rattle.std.proofs.lemmas.Option.{same_Some, none-some}
+use Rattle.b67_model.specs.declared.operators.Code.{Code}
 use Rattle.b67_model.specs.Operators.{Form, form_of}
 use Rattle.b67_exec.specs.declared.firsts.Near.{Near}
+use Rattle.b67_exec.specs.declared.firsts.Near.TheVariants as nears
 use Rattle.b67_exec.specs.declared.firsts.TheConstants.{NEARS}
+use Rattle.b67_exec.specs.Operators.{is_on_top}
 use Rattle.b67_exec.specs.Firsts.{near_form}
 
 -- a row says the form of its syllable, or nothing
@@ -34,3 +38,20 @@ says_form (Some g) first f h e = h ∙ e
 
 pub near_says : (first : ℕ) (n : Near) (f : Form) → slice_get NEARS first ≡ Some n → near_form n first ≡ Some f → form_of first ≡ Some f
 near_says first n f at e = says_form (near_form n first) first f (row_says 0 NEARS first n all_say at first (omega arith)) e
+
+-- a far row is on the top cells
+abbrev is_far_row : Near → Bool
+is_far_row (nears.Far code) = is_on_top code
+is_far_row _ = true
+
+abbrev all_far : List Near → Bool
+all_far [] = true
+all_far (n ∷ ns) = is_far_row n && all_far ns
+
+row_far : (ns : List Near) (i : ℕ) (n : Near) → all_far ns ≡ true → slice_get ns i ≡ Some n → is_far_row n ≡ true
+row_far [] i n all e = absurd (none-some n e)
+row_far (m ∷ ns) zero n all e = let P : Near → Type 0 = λ z. is_far_row z ≡ true in subst P (same_Some m n e) (and_parts (is_far_row m) (all_far ns) all).0
+row_far (m ∷ ns) (suc i) n all e = row_far ns i n (and_parts (is_far_row m) (all_far ns) all).1 e
+
+pub far_says : (first : ℕ) (n : Near) (code : Code) → slice_get NEARS first ≡ Some n → n ≡ nears.Far code → is_on_top code ≡ true
+far_says first n code at is = let P : Near → Type 0 = λ z. is_far_row z ≡ true in subst P is (row_far NEARS first n refl at)

@@ -19,11 +19,12 @@ use Rattle.b67_layout.proofs.PlainOperands.{plain_operand}
 use Rattle.b67_exec_cells.proofs.Rows.{Drops, an_operand}
 use Rattle.b67_word.specs.Tagged.{Tagged}
 use Rattle.b67_exec_cells.proofs.Codes.{present}
+use Rattle.b67_exec_cells.specs.Tops.{StaysInSegment}
 use Rattle.b67_entry.specs.Procedures.{CallsOrMeets}
 use Rattle.b67_layout_step.specs.Keeping.{is_leaving}
 use Rattle.b67_exec.specs.Operators.{OperatorMeets, leaves_record}
 use Rattle.b67_exec.specs.declared.reader.Reader.{Reader}
-use Rattle.b67_exec.specs.Near.{HoldsCode, ReaderAt, ReaderBehind, ReadsThrough, reader_place, is_straight, WentOn, NearMade, MadeNear, FarMade, code_of_numbers, resting_code, branch_op}
+use Rattle.b67_exec.specs.Near.{HoldsCode, ReaderAt, ReaderBehind, reader_place, is_straight, WentOn, NearMade, MadeNear, FarMade, code_of_numbers, resting_code, branch_op}
 use Rattle.b67_exec.specs.declared.firsts.Near.{Near}
 use Rattle.b67_exec.specs.Firsts.{near_form}
 use Rattle.b67_exec.proofs.Nears.{unmet, made_near, LeavesCells, leaves, straight_leaves, straight_stays, straight_calls, branch_stays, branch_calls, holds_on, code_on, place_on, dict_on, segment_on}
@@ -88,6 +89,11 @@ module _ (code : List ℕ) (at : Place) (r : Reader) (in_word : at.syllable < 6)
       begins (TwoMore op) is ∙ ap (λ (z : ℕ). ends_at code (count_at at + 3) (op z (syllable code (count_at at + 2)))) (sym (syllable_at second code (count_at at + 1) b))
       ∙ ap (λ (z : ℕ). ends_at code (count_at at + 3) (op (second.bits / 2 ^ 56) z)) (sym (syllable_at third code (count_at at + 2) c)) ∙ ends_before next code (count_at at + 3) (op (second.bits / 2 ^ 56) (third.bits / 2 ^ 56)) d
 
+  lone_behind : (op : Code) → form_of (r.bits / 2 ^ 56) ≡ Some (Alone op) → operator_at code at ≡ Ok (Plain op, place_at (count_at at + 0 + 1))
+  lone_behind op is =
+      let more : count_at at + 1 ≡ count_at at + 0 + 1 = omega arith in
+      begins (Alone op) is ∙ ap (λ (z : ℕ). ends_at code z (Plain op)) more ∙ ends_behind r code (count_at at + 0) (Plain op) a
+
   triple_behind : (op : ℕ → ℕ → Op) (second third : Reader) → form_of (r.bits / 2 ^ 56) ≡ Some (TwoMore op) → ReaderAt second code (count_at at + 1) → ReaderAt third code (count_at at + 2)
       → operator_at code at ≡ Ok (op (second.bits / 2 ^ 56) (third.bits / 2 ^ 56), place_at (count_at at + 2 + 1))
   triple_behind op second third is b c =
@@ -96,11 +102,20 @@ module _ (code : List ℕ) (at : Place) (r : Reader) (in_word : at.syllable < 6)
       ∙ ap (λ (z : ℕ). ends_at code (count_at at + 3) (op (second.bits / 2 ^ 56) z)) (sym (syllable_at third code (count_at at + 2) c))
       ∙ ap (λ (z : ℕ). ends_at code z (op (second.bits / 2 ^ 56) (third.bits / 2 ^ 56))) more ∙ ends_behind third code (count_at at + 2) (op (second.bits / 2 ^ 56) (third.bits / 2 ^ 56)) c
 
+-- the operator at the running place was read, and a reader stands behind it
+pub record ReadsThrough (cpu : Cpu) (op : Op) (next : Reader) : Type 0 where
+  pub reads : ForEach cpu (λ x plan s m t. ◌≡◌ {A = Reading} (Ok (op, reader_place next)) (reading_of m.constants t))
+  pub length : ℕ
+  pub stands : ReaderBehind cpu next length
+
 -- the operator at the running place was read, and it ends before another place
 abbrev pub ReadsTo : Cpu → Op → Place → Type 0
 ReadsTo cpu op next = ForEach cpu (λ x plan s m t. ◌≡◌ {A = Reading} (Ok (op, next)) (reading_of m.constants t))
 
--- the place behind an operator of three syllables
+-- the place behind an operator of one syllable, and of three
+abbrev pub one_on : Cpu → Place
+one_on cpu = place_at (count_at cpu.regs.place + 0 + 1)
+
 abbrev pub three_on : Cpu → Place
 three_on cpu = place_at (count_at cpu.regs.place + 2 + 1)
 
@@ -116,6 +131,13 @@ module _ (cpu : Cpu) (r : Reader) (b : ReaderBehind cpu r 0) where
     length = 0 + 1;
     stands = c;
   }
+
+  -- one behind which no reader need stand
+  pub lone_to : (op : Code) → form_of (r.bits / 2 ^ 56) ≡ Some (Alone op) → ReadsTo cpu (Plain op) (one_on cpu)
+  lone_to op is = λ x plan s m t ordered h runs.
+      let read = sym (lone_behind (code_of m.constants t.segment) t.place r (in_its_word x plan s m t h runs) (b.at x plan s m t ordered h runs) op is) in
+      let P : Place → Type 0 = λ p. ◌≡◌ {A = Reading} (Ok (Plain op, place_at (count_at p + 0 + 1))) (reading_of m.constants t) in
+      subst P (sym (h.holds.running m t runs).place) read
 
   -- one with a syllable
   pub pair_through : (op : ℕ → Op) (second next : Reader) (low : ℕ) (made : Op) → form_of (r.bits / 2 ^ 56) ≡ Some (OneMore op) → ReaderBehind cpu second (0 + 1) → ReaderBehind cpu next (0 + 1 + 1) → low ≡ second.bits / 2 ^ 56 → made ≡ op low → ReadsThrough cpu made next
@@ -255,14 +277,14 @@ module _ (old new : Cpu) (before next : Reader) (op : Op) (q : Place) (code : Ho
   }
 
   -- after which the task goes on behind it
-  pub far_on : RunsSome old → new.regs.dict ≡ old.regs.dict → new.regs.segment ≡ old.regs.segment → new.regs.place ≡ q → NearMade old new next
-  far_on r dict segment place =
+  pub far_on : RunsSome old → StaysInSegment old new q → NearMade old new next
+  far_on r there =
       let h = here r.member r.task q in
       let k = made_near r.storage r.plan r.session r.member old new (called op h) (row op h) (made r.storage r.plan r.session r.member r.task r.ordered r.stands r.running) in
       record {
         row = far_made.row;
         left = far_made.left;
-        stands = stands_there old new r (row op h) k next (count_at r.task.place + read.length) dict segment read.stands.code (read.stands.at r.storage r.plan r.session r.member r.task r.ordered r.stands r.running) (place ∙ at);
+        stands = stands_there old new r (row op h) k next (count_at r.task.place + read.length) there.dict there.segment read.stands.code (read.stands.at r.storage r.plan r.session r.member r.task r.ordered r.stands r.running) (there.place ∙ at);
       }
 
 -- ---- forms and rows

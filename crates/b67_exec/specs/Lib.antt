@@ -3,3 +3,4 @@ pub mod Stores
 pub mod Operators
 pub mod Near
 pub mod Firsts
+pub mod Far

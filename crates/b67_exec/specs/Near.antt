@@ -1,5 +1,5 @@
 -- The code of the running segment, and a reader of it.
-use Rattle.std.specs.Prelude.{◌≡◌, ◌≢◌, ℕ, Bool, true, false, not, ◌+◌, ◌-◌, ◌*◌, ◌%◌, ◌^◌, ◌<◌, ◌≤◌, List, length, slice_index, Some, Ok}
+use Rattle.std.specs.Prelude.{◌≡◌, ◌≢◌, ℕ, Bool, true, false, not, ◌+◌, ◌-◌, ◌*◌, ◌%◌, ◌^◌, ◌<◌, ◌≤◌, List, length, slice_index, Some}
 use Rattle.b67_ctl.specs.declared.descriptors.SegDesc.{SegDesc}
 use Rattle.b67_word.specs.declared.couples.Place.{Place}
 use Rattle.b67_model.specs.declared.operators.Op.{Op}
@@ -8,17 +8,17 @@ use Rattle.b67_model.specs.declared.operators.Code.{Code}
 use Rattle.b67_model.specs.declared.operators.Code.TheVariants as codes
 use Rattle.b67_arith.specs.declared.numerics.Numeric.{Numeric}
 use Rattle.b67_arith.specs.declared.numerics.Numeric.TheVariants as numeric
-use Rattle.b67_model.specs.Operators.{count_at, Reading}
+use Rattle.b67_model.specs.Operators.{count_at}
 use Rattle.b67_model.specs.Rows.{code_of, reading_of}
 use Rattle.b67_stack.specs.declared.Cpu.{Cpu}
 use Rattle.b67_stack.specs.declared.Step.{Step}
 use Rattle.b67_stack.specs.declared.Step.TheVariants.{Done}
 use Rattle.b67_layout.specs.Meets.{ForEach}
 use Rattle.b67_exec_cells.specs.Running.{GivesSegment}
-use Rattle.b67_exec.specs.Operators.{goes_far, OperatorMeets, leaves_record}
+use Rattle.b67_exec.specs.Operators.{goes_far, OperatorMeets, leaves_record, CutsRecord}
 use Rattle.b67_exec.specs.declared.reader.Reader.{Reader}
-use Rattle.b67_exec.specs.declared.far.Went.{Went}
-use Rattle.b67_exec.specs.declared.far.Went.TheVariants as went
+use Rattle.b67_exec.specs.declared.near.Made.{Made}
+use Rattle.b67_exec.specs.declared.near.Made.TheVariants as outcome
 
 -- the running segment is present, and this is its descriptor
 abbrev pub HoldsCode : Cpu → SegDesc → Type 0
@@ -41,12 +41,6 @@ pub record ReaderBehind (cpu : Cpu) (r : Reader) (n : ℕ) : Type 0 where
 -- the place of a reader's syllable
 abbrev pub reader_place : Reader → Place
 reader_place r = record { word = r.word; syllable = 6 - r.left }
-
--- the operator at the running place was read, and a reader stands behind it
-pub record ReadsThrough (cpu : Cpu) (op : Op) (next : Reader) : Type 0 where
-  pub reads : ForEach cpu (λ x plan s m t. ◌≡◌ {A = Reading} (Ok (op, reader_place next)) (reading_of m.constants t))
-  pub length : ℕ
-  pub stands : ReaderBehind cpu next length
 
 -- the near operators that aren't branches: the task goes on behind them
 abbrev pub is_straight : Op → Bool
@@ -103,8 +97,20 @@ pub record FarMade (old new : Cpu) : Type 0 where
   pub row : ForEach old (λ x plan s m t. OperatorMeets x plan s m t Done old new)
   pub left : ForEach old (λ x plan s m t. leaves_record (reading_of m.constants t) ≡ false)
 
--- an operator was made, and the reader stands where the task goes on or the task went elsewhere; or nothing was changed
-abbrev pub WentFar : Cpu → Reader → Went → Cpu → Reader → Type 0
-WentFar old before went.On new after = NearMade old new after
-WentFar old before went.Away new after = FarMade old new
-WentFar old before went.Not new after = (new ≡ old) × (after ≡ before)
+-- an operator was made that leaves an activation record, whose words go up to below an address
+pub record LeftMade (old new : Cpu) (high : ℕ) : Type 0 where
+  pub row : ForEach old (λ x plan s m t. OperatorMeets x plan s m t Done old new)
+  pub left : ForEach old (λ x plan s m t. leaves_record (reading_of m.constants t) ≡ true)
+  pub cuts : CutsRecord old new
+  pub upto : high ≡ old.regs.s + 1
+
+-- an operator was made, and the reader stands where the task goes on, or the task went elsewhere; or nothing was changed
+abbrev pub Makes : Cpu → Reader → Made → Cpu → Reader → Type 0
+Makes old before outcome.On new after = NearMade old new after
+Makes old before outcome.Away new after = FarMade old new
+Makes old before (outcome.Left upto) new after = LeftMade old new upto
+Makes old before outcome.Not new after = (new ≡ old) × (after ≡ before)
+
+abbrev pub outcome_of : Bool → Made
+outcome_of true = outcome.On
+outcome_of false = outcome.Not

@@ -1,25 +1,26 @@
-//! Far operators between near ones, behind calls that answer by one bit.
+//! Far operators that are read syllable after syllable, each behind a call of its own that answers by a bit or two.
 
-ghost use Rattle.std.specs.Prelude.{◌≡◌, ◌^◌, ◌<◌, true, false};
+ghost use Rattle.std.specs.Prelude.{◌≡◌, ◌^◌, ◌<◌, true};
 ghost use Rattle.b67_ctl.specs.Layout.{IsPlace};
-ghost use Rattle.b67_model.specs.declared.operators.Op.TheVariants.{Plain};
-ghost use Rattle.b67_model.specs.Rows.{row, plain as plain_row, valc as valc_row};
-ghost use Rattle.b67_model.specs.Called.{called};
-ghost use Rattle.b67_stack.specs.declared.Step.TheVariants.{Done};
-ghost use Rattle.b67_layout.specs.Meets.{here, Meets, RunsSome, ForEach};
-ghost use Rattle.b67_entry.specs.Procedures.{CallsOrMeets};
-ghost use Rattle.b67_exec.specs.Operators.{ParametersHaveBits, goes_far, is_far};
-ghost use Rattle.b67_exec.specs.Near.{SaysDone, ReaderBehind, WentFar};
+ghost use Rattle.b67_model.specs.declared.operators.Op.TheVariants.{Plain, Valc};
+ghost use Rattle.b67_model.specs.declared.operators.Code.TheVariants as codes;
+ghost use Rattle.b67_layout.specs.Meets.{RunsSome};
+ghost use Rattle.b67_exec.specs.Operators.{is_on_top};
+ghost use Rattle.b67_exec.specs.Near.{SaysDone};
+ghost use Rattle.b67_exec.specs.Far.{MadeOn, MadeAway, MadeWent, MadeLeaving, SaysOn, SaysAway};
 
-use crate::evaluating::evaluate;
-use crate::near::read_far;
-use crate::operators::{far_plain, is_far, leaves};
-use crate::reader::{Reader, place};
-use b67_model::{Code, Op};
+use crate::assigning::enter;
+use crate::evaluating::enter_in_place;
+use crate::operators::on_top;
+use b67_ctl::Irw;
+use b67_entry::{accident, entr, exit, retn};
+use b67_fetch::{indx, nxlv, stff, value};
+use b67_model::Code;
+use b67_refer::{End, chase};
 use b67_stack::{Cpu, Step};
 use b67_word::Place;
 
-/// What became of a far operator: it was made, and its task goes on behind it or elsewhere; or it wasn't made.
+/// What became of an operator: it was made, and its task goes on behind it in the segment, or elsewhere; or it wasn't made.
 #[derive(Clone, Copy, Debug, PartialEq, Eq)]
 pub enum Went {
     On,
@@ -29,7 +30,7 @@ pub enum Went {
 
 /// Whether a step was made.
 #[inline(always)]
-fn is_done(step: Step) -> bool
+pub(crate) fn is_done(step: Step) -> bool
     ensures { SaysDone step result }
 {
     match step {
@@ -38,77 +39,150 @@ fn is_done(step: Step) -> bool
     }
 }
 
-/// Executes a far operator without parameters, and says whether its answer is `Done`. Else nothing is changed.
-#[inline(never)]
-fn makes_plain(cpu: &mut Cpu, code: Code, next: Place) -> bool
-    requires runs { RunsSome cpu.old }
-    requires far { goes_far code ≡ true }
-    requires next { IsPlace next }
-    ensures row { result ≡ true → ForEach cpu.old (λ x plan s m t. CallsOrMeets x plan s m Done cpu.old cpu.new (called (Plain code) (here m t next)) (plain_row code (here m t next))) }
-    ensures rest { result ≡ false → cpu.new ≡ cpu.old }
+/// Whether a step was made after which the task goes on behind the operator.
+#[inline(always)]
+fn stayed(step: Step) -> Went
+    ensures { SaysOn step result }
 {
-    let step = far_plain(cpu, code, next);
+    match step {
+        Step::Done => Went::On,
+        _ => Went::Not,
+    }
+}
+
+/// Whether a step was made that entered a procedure.
+#[inline(always)]
+fn entered(step: Step) -> Went
+    ensures { SaysAway step result }
+{
+    match step {
+        Step::Done => Went::Away,
+        _ => Went::Not,
+    }
+}
+
+/// An operator without parameters on the top cells.
+#[inline(never)]
+pub(crate) fn makes_plain(cpu: &mut Cpu, code: Code, next: Place) -> bool
+    requires runs { RunsSome cpu.old }
+    requires top { is_on_top code ≡ true }
+    ensures { MadeOn (Plain code) next cpu.old result cpu.new }
+{
+    let step = on_top(cpu, code, next);
     is_done(step)
 }
 
-/// Executes VALC, and says whether its answer is `Done`. Else nothing is changed.
+/// INDX.
 #[inline(never)]
-fn makes_valc(cpu: &mut Cpu, couple: u16, next: Place) -> bool
+pub(crate) fn makes_indx(cpu: &mut Cpu, next: Place) -> bool
+    requires { RunsSome cpu.old }
+    ensures { MadeOn (Plain codes.Indx) next cpu.old result cpu.new }
+{
+    let step = indx(cpu, next);
+    is_done(step)
+}
+
+/// NXLV.
+#[inline(never)]
+pub(crate) fn makes_nxlv(cpu: &mut Cpu, next: Place) -> bool
+    requires { RunsSome cpu.old }
+    ensures { MadeOn (Plain codes.Nxlv) next cpu.old result cpu.new }
+{
+    let step = nxlv(cpu, next);
+    is_done(step)
+}
+
+/// STFF.
+#[inline(never)]
+pub(crate) fn makes_stff(cpu: &mut Cpu, next: Place) -> bool
+    requires { RunsSome cpu.old }
+    ensures { MadeOn (Plain codes.Stff) next cpu.old result cpu.new }
+{
+    let step = stff(cpu, next);
+    is_done(step)
+}
+
+/// VALC.
+#[inline(never)]
+pub(crate) fn makes_valc(cpu: &mut Cpu, couple: u16, next: Place) -> Went
     requires runs { RunsSome cpu.old }
     requires couple { couple < 2 ^ 14 }
     requires next { IsPlace next }
-    ensures row { result ≡ true → ForEach cpu.old (λ x plan s m t. Meets x plan s m Done cpu.old cpu.new (valc_row (here m t next) couple)) }
-    ensures rest { result ≡ false → cpu.new ≡ cpu.old }
+    ensures { MadeWent (Valc couple) next cpu.old result cpu.new }
 {
-    let step = evaluate(cpu, couple, next);
+    let end = match chase(&cpu.core, &cpu.regs, &cpu.display, Irw { couple }.word()) {
+        Ok(end) => end,
+        Err(_) => return Went::Not,
+    };
+    match end {
+        End::Proc(cell) => entered(accident(cpu, cell, true, next)),
+        _ => stayed(value(cpu, 0, end, next)),
+    }
+}
+
+/// LOAD.
+#[inline(never)]
+pub(crate) fn makes_load(cpu: &mut Cpu, next: Place) -> Went
+    requires { RunsSome cpu.old }
+    ensures { MadeWent (Plain codes.Load) next cpu.old result cpu.new }
+{
+    match b67_fetch::load(cpu, next) {
+        Step::Call(_) => entered(enter_in_place(cpu)),
+        step => stayed(step),
+    }
+}
+
+/// STOD.
+#[inline(never)]
+pub(crate) fn makes_stod(cpu: &mut Cpu, next: Place) -> Went
+    requires { RunsSome cpu.old }
+    ensures { MadeWent (Plain codes.Stod) next cpu.old result cpu.new }
+{
+    match b67_fetch::stod(cpu, next) {
+        Step::Call(_) => entered(enter(cpu)),
+        step => stayed(step),
+    }
+}
+
+/// STON.
+#[inline(never)]
+pub(crate) fn makes_ston(cpu: &mut Cpu, next: Place) -> Went
+    requires { RunsSome cpu.old }
+    ensures { MadeWent (Plain codes.Ston) next cpu.old result cpu.new }
+{
+    match b67_fetch::ston(cpu, next) {
+        Step::Call(_) => entered(enter(cpu)),
+        step => stayed(step),
+    }
+}
+
+/// ENTR.
+#[inline(never)]
+pub(crate) fn makes_entr(cpu: &mut Cpu, next: Place) -> bool
+    requires runs { RunsSome cpu.old }
+    requires next { IsPlace next }
+    ensures { MadeAway (Plain codes.Entr) next cpu.old result cpu.new }
+{
+    let step = entr(cpu, next);
     is_done(step)
 }
 
-/// Executes a far operator without parameters or VALC, and says whether its answer is `Done`. Else nothing is changed.
-#[inline(always)]
-fn makes(cpu: &mut Cpu, op: Op, next: Place) -> bool
-    requires runs { RunsSome cpu.old }
-    requires far { is_far op ≡ true }
-    requires parameters { ParametersHaveBits op }
-    requires next { IsPlace next }
-    ensures row { result ≡ true → ForEach cpu.old (λ x plan s m t. CallsOrMeets x plan s m Done cpu.old cpu.new (called op (here m t next)) (row op (here m t next))) }
-    ensures rest { result ≡ false → cpu.new ≡ cpu.old }
+/// EXIT.
+#[inline(never)]
+pub(crate) fn makes_exit(cpu: &mut Cpu) -> bool
+    requires { RunsSome cpu.old }
+    ensures { MadeLeaving (Plain codes.Exit) cpu.old result cpu.new }
 {
-    match op {
-        Op::Plain(code) => makes_plain(cpu, code, next),
-        Op::Valc(couple) => makes_valc(cpu, couple, next),
-        _ => false,
-    }
+    let step = exit(cpu);
+    is_done(step)
 }
 
-/// Executes the operator at the running place, at which the reader stands, if it is far, leaves no activation record and its
-/// answer is `Done`. Where the task goes on behind it, in the segment, the reader then stands there. At `Not` nothing is changed.
-#[inline(always)]
-pub fn operate_far(cpu: &mut Cpu, reader: &mut Reader) -> Went
-    requires runs { RunsSome cpu.old }
-    requires stands { ReaderBehind cpu.old reader.old 0 }
-    ensures { WentFar cpu.old reader.old result cpu.new reader.new }
+/// RETN.
+#[inline(never)]
+pub(crate) fn makes_retn(cpu: &mut Cpu) -> bool
+    requires { RunsSome cpu.old }
+    ensures { MadeLeaving (Plain codes.Retn) cpu.old result cpu.new }
 {
-    let (op, next) = match read_far(cpu, *reader) {
-        Some(read) => read,
-        None => return Went::Not,
-    };
-    if leaves(op) || !is_far(op) {
-        return Went::Not;
-    }
-    let dict = cpu.regs.dict;
-    let segment = cpu.regs.segment;
-    let to = place(next);
-    if !makes(cpu, op, to) {
-        return Went::Not;
-    }
-    let now = cpu.regs.place;
-    if cpu.regs.dict != dict || cpu.regs.segment != segment {
-        return Went::Away;
-    }
-    if now.word != to.word || now.syllable != to.syllable {
-        return Went::Away;
-    }
-    *reader = next;
-    Went::On
+    let step = retn(cpu);
+    is_done(step)
 }

@@ -1,13 +1,16 @@
 //! What a first syllable begins.
 
-ghost use Rattle.std.specs.Prelude.{◌≡◌, ◌<◌, Some, slice_get, length};
+ghost use Rattle.std.specs.Prelude.{◌≡◌, ◌<◌, Some, slice_get, length, true};
+ghost use Rattle.b67_model.specs.declared.operators.Code.{Code};
 ghost use Rattle.b67_model.specs.Operators.{Form, form_of};
+ghost use Rattle.b67_exec.specs.declared.firsts.Near.TheVariants as near;
+ghost use Rattle.b67_exec.specs.Operators.{is_on_top};
 ghost use Rattle.b67_exec.specs.Firsts.{near_form};
 
 use b67_model::Code;
 
-/// An operator by its first syllable: the near ones that are read syllable after syllable, far ones without parameters, and VALC.
-/// `Other` is for all else, also for what is no operator.
+/// An operator by its first syllable, where it is read syllable after syllable. `Far` is for those on the top cells that stand
+/// behind one call, and `Other` for all else, also for what is no operator.
 #[derive(Clone, Copy)]
 pub enum Near {
     Other,
@@ -33,6 +36,16 @@ pub enum Near {
     Brfl,
     Brtr,
     Brun,
+    Indx,
+    Nxlv,
+    Mkst,
+    Stff,
+    Stod,
+    Ston,
+    Load,
+    Entr,
+    Exit,
+    Retn,
 }
 
 /// By the first syllable.
@@ -200,19 +213,19 @@ const NEARS: [Near; 256] = [
     Near::Brfl,
     Near::Brtr,
     Near::Brun,
-    Near::Far(Code::Exit),
+    Near::Exit,
     Near::Other,
     Near::Other,
-    Near::Far(Code::Indx),
-    Near::Far(Code::Retn),
+    Near::Indx,
+    Near::Retn,
     Near::Other,
     Near::Other,
     Near::Other,
-    Near::Far(Code::Entr),
+    Near::Entr,
     Near::Other,
-    Near::Far(Code::Nxlv),
-    Near::Far(Code::Mkst),
-    Near::Far(Code::Stff),
+    Near::Nxlv,
+    Near::Mkst,
+    Near::Stff,
     Near::Zero,
     Near::One,
     Near::Lt8,
@@ -221,12 +234,12 @@ const NEARS: [Near; 256] = [
     Near::Dlet,
     Near::Exch,
     Near::Dupl,
-    Near::Far(Code::Stod),
-    Near::Far(Code::Ston),
+    Near::Stod,
+    Near::Ston,
     Near::Other,
     Near::Other,
     Near::Other,
-    Near::Far(Code::Load),
+    Near::Load,
     Near::Other,
     Near::Other,
     Near::Other,
@@ -306,7 +319,8 @@ fn near_in(nears: &[Near], i: u8) -> Near
 /// What a first syllable begins.
 #[inline(always)]
 pub fn near_of(first: u8) -> Near
-    ensures { (f : Form) → near_form result first ≡ Some f → form_of first ≡ Some f }
+    ensures form { (f : Form) → near_form result first ≡ Some f → form_of first ≡ Some f }
+    ensures far { (code : Code) → result ≡ near.Far code → is_on_top code ≡ true }
 {
     near_in(&NEARS, first)
 }

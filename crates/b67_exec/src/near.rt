@@ -1,21 +1,38 @@
 //! Near operators, read syllable after syllable.
 
-ghost use Rattle.std.specs.Prelude.{◌≡◌, ◌/◌, ◌^◌, ◌*◌, ◌+◌, ◌%◌, Some, IfSome, true, false};
+ghost use Rattle.std.specs.Prelude.{◌≡◌, ◌/◌, ◌^◌, ◌*◌, ◌+◌, ◌%◌, Some, true, false};
 ghost use Rattle.b67_model.specs.declared.operators.Op.TheVariants as ops;
 ghost use Rattle.b67_model.specs.declared.operators.Code.TheVariants as codes;
 ghost use Rattle.b67_model.specs.Operators.{form_of, Alone, OneMore, branch};
 ghost use Rattle.b67_layout.specs.Meets.{RunsSome};
-ghost use Rattle.b67_exec.specs.Near.{ReaderBehind, ReadsThrough, WentOn, MadeNear, code_of_numbers, resting_code, branch_op};
+ghost use Rattle.b67_exec.specs.Operators.{is_on_top, goes_behind, may_enter};
+ghost use Rattle.b67_exec.specs.Near.{ReaderBehind, WentOn, MadeNear, Makes, outcome_of, code_of_numbers, resting_code, branch_op};
+ghost use Rattle.b67_exec.specs.Far.{MadeOn, MadeWent, LeavesBy, LeadsTo};
 
+use crate::far::{
+    Went, is_done, makes_entr, makes_exit, makes_indx, makes_load, makes_nxlv, makes_plain,
+    makes_retn, makes_stff, makes_stod, makes_ston, makes_valc,
+};
 use crate::firsts::{Near, near_of};
 use crate::reader::{Reader, behind, first, place, reader_to};
 use b67_arith::Numeric;
+use b67_entry::mkst;
 use b67_exec_cells::{
     branch_to, dlet, drop_cells, dupl, exch, literal, namc, on_numbers, top_cell,
 };
-use b67_model::Op;
+use b67_model::Code;
 use b67_stack::{Cpu, Step};
 use b67_word::Place;
+
+/// What became of an operator: it was made, and its task goes on in the segment, or elsewhere, or elsewhere with an activation
+/// record left, whose words go up to below an address; or it wasn't made.
+#[derive(Clone, Copy, Debug, PartialEq, Eq)]
+pub enum Made {
+    On,
+    Away,
+    Left(u32),
+    Not,
+}
 
 /// Whether an operator was made. The reader then goes on behind it.
 #[inline(always)]
@@ -269,61 +286,225 @@ fn branches(cpu: &mut Cpu, reader: &mut Reader, wanted: bool) -> bool
     true
 }
 
-/// Executes the operator at the running place, at which the reader stands, if it is near and its answer is `Done`: the reader
-/// then stands at the new place. Else nothing is changed, and the answer is false.
+/// An operator without parameters on the top cells.
 #[inline(always)]
-pub fn operate_near(cpu: &mut Cpu, reader: &mut Reader) -> bool
+fn computes(cpu: &mut Cpu, reader: &mut Reader, code: Code) -> bool
     requires runs { RunsSome cpu.old }
     requires stands { ReaderBehind cpu.old reader.old 0 }
+    requires begins { form_of (reader.old.bits / 2 ^ 56) ≡ Some (Alone code) }
+    requires top { is_on_top code ≡ true }
     ensures { MadeNear cpu.old reader.old result cpu.new reader.new }
 {
-    match near_of(first(*reader)) {
-        Near::Other | Near::Far(_) | Near::Valc => false,
-        Near::Namc => names(cpu, reader),
-        Near::Lt8 => literal_8(cpu, reader),
-        Near::Zero => pushes_zero(cpu, reader),
-        Near::One => pushes_one(cpu, reader),
-        Near::Add => numbers(cpu, reader, Numeric::Add),
-        Near::Subt => numbers(cpu, reader, Numeric::Subt),
-        Near::Less => numbers(cpu, reader, Numeric::Less),
-        Near::Greq => numbers(cpu, reader, Numeric::Greq),
-        Near::Grtr => numbers(cpu, reader, Numeric::Grtr),
-        Near::Lseq => numbers(cpu, reader, Numeric::Lseq),
-        Near::Equl => numbers(cpu, reader, Numeric::Equl),
-        Near::Neql => numbers(cpu, reader, Numeric::Neql),
-        Near::Push => rests(cpu, reader, true),
-        Near::Noop => rests(cpu, reader, false),
-        Near::Dlet => deletes(cpu, reader),
-        Near::Exch => exchanges(cpu, reader),
-        Near::Dupl => doubles(cpu, reader),
-        Near::Brfl => branches(cpu, reader, false),
-        Near::Brtr => branches(cpu, reader, true),
-        Near::Brun => jumps(cpu, reader),
+    let next = match behind(cpu, *reader) {
+        Some(next) => next,
+        None => return false,
+    };
+    if !makes_plain(cpu, code, place(next)) {
+        return false;
+    }
+    *reader = next;
+    true
+}
+
+/// INDX, NXLV, MKST or STFF, and whether it was made.
+#[inline(always)]
+fn makes_behind(cpu: &mut Cpu, code: Code, next: Place) -> bool
+    requires runs { RunsSome cpu.old }
+    requires behind { goes_behind code ≡ true }
+    ensures { MadeOn (ops.Plain code) next cpu.old result cpu.new }
+{
+    match code {
+        Code::Indx => makes_indx(cpu, next),
+        Code::Nxlv => makes_nxlv(cpu, next),
+        Code::Mkst => is_done(mkst(cpu, next)),
+        Code::Stff => makes_stff(cpu, next),
+        _ => unreachable!(),
     }
 }
 
-/// A far operator without parameters, or VALC, at the running place, at which the reader stands, and a reader behind it. None for
-/// all else, and at the end of the code.
+/// INDX, NXLV, MKST or STFF.
 #[inline(always)]
-pub(crate) fn read_far(cpu: &Cpu, reader: Reader) -> Option<(Op, Reader)>
-    requires runs { RunsSome cpu.now }
-    requires stands { ReaderBehind cpu.now reader 0 }
-    ensures { IfSome result (λ p. ReadsThrough cpu.now p.0 p.1) }
+fn stays(cpu: &mut Cpu, reader: &mut Reader, code: Code) -> bool
+    requires runs { RunsSome cpu.old }
+    requires stands { ReaderBehind cpu.old reader.old 0 }
+    requires begins { form_of (reader.old.bits / 2 ^ 56) ≡ Some (Alone code) }
+    requires behind { goes_behind code ≡ true }
+    ensures { MadeNear cpu.old reader.old result cpu.new reader.new }
 {
-    let begins = first(reader);
-    let near = near_of(begins);
+    let next = match behind(cpu, *reader) {
+        Some(next) => next,
+        None => return false,
+    };
+    if !makes_behind(cpu, code, place(next)) {
+        return false;
+    }
+    *reader = next;
+    true
+}
+
+/// Where an operator leads that was made. Where its task goes on behind it the reader does too.
+#[inline(always)]
+fn goes(went: Went, reader: &mut Reader, next: Reader) -> Made
+    ensures { LeadsTo went reader.old next result reader.new }
+{
+    match went {
+        Went::On => {
+            *reader = next;
+            Made::On
+        }
+        Went::Away => Made::Away,
+        Went::Not => Made::Not,
+    }
+}
+
+/// VALC.
+#[inline(always)]
+fn evaluates(cpu: &mut Cpu, reader: &mut Reader) -> Made
+    requires runs { RunsSome cpu.old }
+    requires stands { ReaderBehind cpu.old reader.old 0 }
+    requires begins { form_of (reader.old.bits / 2 ^ 56) ≡ Some (OneMore (λ low. ops.Valc (reader.old.bits / 2 ^ 56 % 64 * 256 + low))) }
+    ensures { Makes cpu.old reader.old result cpu.new reader.new }
+{
+    let second = match behind(cpu, *reader) {
+        Some(second) => second,
+        None => return Made::Not,
+    };
+    let next = match behind(cpu, second) {
+        Some(next) => next,
+        None => return Made::Not,
+    };
+    let went = makes_valc(cpu, couple(first(*reader), first(second)), place(next));
+    goes(went, reader, next)
+}
+
+/// LOAD, STOD or STON, and what became of it.
+#[inline(always)]
+fn makes_fetch(cpu: &mut Cpu, code: Code, next: Place) -> Went
+    requires runs { RunsSome cpu.old }
+    requires enters { may_enter code ≡ true }
+    ensures { MadeWent (ops.Plain code) next cpu.old result cpu.new }
+{
+    match code {
+        Code::Load => makes_load(cpu, next),
+        Code::Stod => makes_stod(cpu, next),
+        Code::Ston => makes_ston(cpu, next),
+        _ => unreachable!(),
+    }
+}
+
+/// LOAD, STOD or STON.
+#[inline(always)]
+fn fetches(cpu: &mut Cpu, reader: &mut Reader, code: Code) -> Made
+    requires runs { RunsSome cpu.old }
+    requires stands { ReaderBehind cpu.old reader.old 0 }
+    requires begins { form_of (reader.old.bits / 2 ^ 56) ≡ Some (Alone code) }
+    requires enters { may_enter code ≡ true }
+    ensures { Makes cpu.old reader.old result cpu.new reader.new }
+{
+    let next = match behind(cpu, *reader) {
+        Some(next) => next,
+        None => return Made::Not,
+    };
+    let went = makes_fetch(cpu, code, place(next));
+    goes(went, reader, next)
+}
+
+/// ENTR.
+#[inline(always)]
+fn enters(cpu: &mut Cpu, reader: Reader) -> Made
+    requires runs { RunsSome cpu.old }
+    requires stands { ReaderBehind cpu.old reader 0 }
+    requires begins { form_of (reader.bits / 2 ^ 56) ≡ Some (Alone codes.Entr) }
+    ensures { Makes cpu.old reader result cpu.new reader }
+{
     let next = match behind(cpu, reader) {
         Some(next) => next,
-        None => return None,
+        None => return Made::Not,
     };
-    match near {
-        Near::Far(code) => return Some((Op::Plain(code), next)),
-        Near::Valc => {}
-        _ => return None,
+    if makes_entr(cpu, place(next)) {
+        Made::Away
+    } else {
+        Made::Not
     }
-    let last = match behind(cpu, next) {
-        Some(last) => last,
-        None => return None,
-    };
-    Some((Op::Valc(couple(begins, first(next))), last))
+}
+
+/// EXIT.
+#[inline(always)]
+fn exits(cpu: &mut Cpu) -> Made
+    requires { RunsSome cpu.old }
+    ensures { LeavesBy (ops.Plain codes.Exit) cpu.old result cpu.new }
+{
+    let upto = cpu.regs.s + 1;
+    if makes_exit(cpu) {
+        Made::Left(upto)
+    } else {
+        Made::Not
+    }
+}
+
+/// RETN.
+#[inline(always)]
+fn returns(cpu: &mut Cpu) -> Made
+    requires { RunsSome cpu.old }
+    ensures { LeavesBy (ops.Plain codes.Retn) cpu.old result cpu.new }
+{
+    let upto = cpu.regs.s + 1;
+    if makes_retn(cpu) {
+        Made::Left(upto)
+    } else {
+        Made::Not
+    }
+}
+
+/// An operator after which its task goes on in the segment.
+#[inline(always)]
+fn on(made: bool) -> Made
+    ensures { result ≡ outcome_of made }
+{
+    if made { Made::On } else { Made::Not }
+}
+
+/// Executes the operator at the running place, at which the reader stands, if its first syllable is known and its answer is `Done`.
+/// Where the task goes on in the segment, the reader then stands at the new place. At `Not` nothing is changed.
+#[inline(always)]
+pub fn operate_near(cpu: &mut Cpu, reader: &mut Reader) -> Made
+    requires runs { RunsSome cpu.old }
+    requires stands { ReaderBehind cpu.old reader.old 0 }
+    ensures { Makes cpu.old reader.old result cpu.new reader.new }
+{
+    match near_of(first(*reader)) {
+        Near::Other => Made::Not,
+        Near::Far(code) => on(computes(cpu, reader, code)),
+        Near::Valc => evaluates(cpu, reader),
+        Near::Namc => on(names(cpu, reader)),
+        Near::Lt8 => on(literal_8(cpu, reader)),
+        Near::Zero => on(pushes_zero(cpu, reader)),
+        Near::One => on(pushes_one(cpu, reader)),
+        Near::Add => on(numbers(cpu, reader, Numeric::Add)),
+        Near::Subt => on(numbers(cpu, reader, Numeric::Subt)),
+        Near::Less => on(numbers(cpu, reader, Numeric::Less)),
+        Near::Greq => on(numbers(cpu, reader, Numeric::Greq)),
+        Near::Grtr => on(numbers(cpu, reader, Numeric::Grtr)),
+        Near::Lseq => on(numbers(cpu, reader, Numeric::Lseq)),
+        Near::Equl => on(numbers(cpu, reader, Numeric::Equl)),
+        Near::Neql => on(numbers(cpu, reader, Numeric::Neql)),
+        Near::Push => on(rests(cpu, reader, true)),
+        Near::Noop => on(rests(cpu, reader, false)),
+        Near::Dlet => on(deletes(cpu, reader)),
+        Near::Exch => on(exchanges(cpu, reader)),
+        Near::Dupl => on(doubles(cpu, reader)),
+        Near::Brfl => on(branches(cpu, reader, false)),
+        Near::Brtr => on(branches(cpu, reader, true)),
+        Near::Brun => on(jumps(cpu, reader)),
+        Near::Indx => on(stays(cpu, reader, Code::Indx)),
+        Near::Nxlv => on(stays(cpu, reader, Code::Nxlv)),
+        Near::Mkst => on(stays(cpu, reader, Code::Mkst)),
+        Near::Stff => on(stays(cpu, reader, Code::Stff)),
+        Near::Stod => fetches(cpu, reader, Code::Stod),
+        Near::Ston => fetches(cpu, reader, Code::Ston),
+        Near::Load => fetches(cpu, reader, Code::Load),
+        Near::Entr => enters(cpu, *reader),
+        Near::Exit => exits(cpu),
+        Near::Retn => returns(cpu),
+    }
 }

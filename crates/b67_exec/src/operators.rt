@@ -9,14 +9,13 @@ ghost use Rattle.b67_stack.specs.declared.Step.TheVariants.{Done};
 ghost use Rattle.b67_layout.specs.Meets.{here, RunsSome, ForEach};
 ghost use Rattle.b67_layout_step.specs.Keeping.{is_leaving};
 ghost use Rattle.b67_exec_cells.specs.Running.{code_area};
+ghost use Rattle.b67_exec_cells.specs.Tops.{StaysInSegment};
 ghost use Rattle.b67_entry.specs.Procedures.{CallsOrMeets};
-ghost use Rattle.b67_exec.specs.Operators.{ParametersHaveBits, goes_far, is_far, OperatorMeets, leaves_record, CutsRecord};
-ghost use Rattle.b67_exec.specs.Near.{HoldsCode, ReaderBehind};
+ghost use Rattle.b67_exec.specs.Operators.{ParametersHaveBits, goes_far, is_far, is_on_top, OperatorMeets, leaves_record, CutsRecord};
+ghost use Rattle.b67_exec.specs.Near.{HoldsCode};
 
 use crate::assigning::{stod, ston};
 use crate::evaluating::{evaluate, load};
-use crate::near::read_far;
-use crate::reader::{Reader, place};
 use b67_arith::Numeric;
 use b67_ctl::SegDesc;
 use b67_entry::{entr, exit, mkst, retn};
@@ -84,7 +83,7 @@ fn goes_far(code: Code) -> bool
 
 /// Whether an operator is far.
 #[inline(always)]
-pub(crate) fn is_far(op: Op) -> bool
+fn is_far(op: Op) -> bool
     ensures { result ≡ is_far op }
 {
     match op {
@@ -146,7 +145,7 @@ fn stay(cpu: &mut Cpu, op: Op, next: Place) -> Step
 
 /// Whether an operator leaves an activation record.
 #[inline(always)]
-pub(crate) fn leaves(op: Op) -> bool
+fn leaves(op: Op) -> bool
     ensures { result ≡ is_leaving op }
 {
     match op {
@@ -155,10 +154,33 @@ pub(crate) fn leaves(op: Op) -> bool
     }
 }
 
-/// A far operator without parameters. The task goes on at `next`, or where the entered procedure begins or the caller goes
-/// on.
+/// A far operator without parameters that is on the top cells alone, after which the task goes on at `next`.
 #[inline(always)]
-pub(crate) fn far_plain(cpu: &mut Cpu, code: Code, next: Place) -> Step
+pub(crate) fn on_top(cpu: &mut Cpu, code: Code, next: Place) -> Step
+    requires runs { RunsSome cpu.old }
+    requires top { is_on_top code ≡ true }
+    ensures row { ForEach cpu.old (λ x plan s m t. CallsOrMeets x plan s m result cpu.old cpu.new (called (Plain code) (here m t next)) (plain_row code (here m t next))) }
+    ensures stays { result ≡ Done → StaysInSegment cpu.old cpu.new next }
+{
+    match code {
+        Code::Mult => on_two(cpu, Binary::Mult, next),
+        Code::Idiv => on_two(cpu, Binary::Idiv, next),
+        Code::Rdiv => on_two(cpu, Binary::Rdiv, next),
+        Code::Chsn => on_one(cpu, Unary::Chsn, next),
+        Code::Land => on_two(cpu, Binary::Land, next),
+        Code::Lor => on_two(cpu, Binary::Lor, next),
+        Code::Leqv => on_two(cpu, Binary::Leqv, next),
+        Code::Lnot => on_one(cpu, Unary::Lnot, next),
+        Code::Same => on_two(cpu, Binary::Same, next),
+        Code::Nvld => Step::Fault(Fault::InvalidOperator),
+        _ => unreachable!(),
+    }
+}
+
+/// A far operator without parameters, behind a call, so that near operators keep their answers in registers. The task goes on at
+/// `next`, or where the entered procedure begins or the caller goes on.
+#[inline(never)]
+fn far_plain(cpu: &mut Cpu, code: Code, next: Place) -> Step
     requires runs { RunsSome cpu.old }
     requires far { goes_far code ≡ true }
     requires next { IsPlace next }
@@ -176,47 +198,8 @@ pub(crate) fn far_plain(cpu: &mut Cpu, code: Code, next: Place) -> Step
         Code::Load => load(cpu, next),
         Code::Exit => exit(cpu),
         Code::Retn => retn(cpu),
-        Code::Mult => on_two(cpu, Binary::Mult, next),
-        Code::Idiv => on_two(cpu, Binary::Idiv, next),
-        Code::Rdiv => on_two(cpu, Binary::Rdiv, next),
-        Code::Chsn => on_one(cpu, Unary::Chsn, next),
-        Code::Land => on_two(cpu, Binary::Land, next),
-        Code::Lor => on_two(cpu, Binary::Lor, next),
-        Code::Leqv => on_two(cpu, Binary::Leqv, next),
-        Code::Lnot => on_one(cpu, Unary::Lnot, next),
-        Code::Same => on_two(cpu, Binary::Same, next),
-        Code::Nvld => Step::Fault(Fault::InvalidOperator),
-        _ => unreachable!(),
+        _ => on_top(cpu, code, next),
     }
-}
-
-/// `far_plain` behind a call, so that near operators keep their answers in registers.
-#[inline(never)]
-fn far_apart(cpu: &mut Cpu, code: Code, next: Place) -> Step
-    requires runs { RunsSome cpu.old }
-    requires far { goes_far code ≡ true }
-    requires next { IsPlace next }
-    ensures row { ForEach cpu.old (λ x plan s m t. CallsOrMeets x plan s m result cpu.old cpu.new (called (Plain code) (here m t next)) (plain_row code (here m t next))) }
-    ensures cuts { is_leaving (Plain code) ≡ true → result ≡ Done → CutsRecord cpu.old cpu.new }
-{
-    far_plain(cpu, code, next)
-}
-
-/// `far_plain`, directly where an activation record is left, and else behind a call.
-#[inline(always)]
-fn far_code(cpu: &mut Cpu, code: Code, next: Place) -> Step
-    requires runs { RunsSome cpu.old }
-    requires far { goes_far code ≡ true }
-    requires next { IsPlace next }
-    ensures row { ForEach cpu.old (λ x plan s m t. CallsOrMeets x plan s m result cpu.old cpu.new (called (Plain code) (here m t next)) (plain_row code (here m t next))) }
-    ensures cuts { is_leaving (Plain code) ≡ true → result ≡ Done → CutsRecord cpu.old cpu.new }
-{
-    match code {
-        Code::Exit => return exit(cpu),
-        Code::Retn => return retn(cpu),
-        _ => {}
-    }
-    far_apart(cpu, code, next)
 }
 
 /// A far operator.
@@ -230,7 +213,7 @@ fn far(cpu: &mut Cpu, op: Op, next: Place) -> Step
     ensures cuts { is_leaving op ≡ true → result ≡ Done → CutsRecord cpu.old cpu.new }
 {
     match op {
-        Op::Plain(code) => far_code(cpu, code, next),
+        Op::Plain(code) => far_plain(cpu, code, next),
         Op::Valc(couple) => evaluate(cpu, couple, next),
         Op::Mpcw(bits) => mpcw(cpu, bits, next),
         Op::Bset(n) => on_one(cpu, Unary::Bset(n), next),
@@ -294,42 +277,6 @@ pub fn operate_in(cpu: &mut Cpu, desc: SegDesc) -> Performed
             near: true,
         },
     }
-}
-
-/// `operate_in` behind a call, for what a reader doesn't read.
-#[inline(never)]
-fn operate_apart(cpu: &mut Cpu, desc: SegDesc) -> Performed
-    requires runs { RunsSome cpu.old }
-    requires code { HoldsCode cpu.old desc }
-    ensures row { ForEach cpu.old (λ x plan s m t. OperatorMeets x plan s m t result.step cpu.old cpu.new) }
-    ensures left { ForEach cpu.old (λ x plan s m t. code_area x plan m t ≢ None → result.left ≡ leaves_record (reading_of m.constants t)) }
-    ensures cuts { result.left ≡ true → result.step ≡ Done → CutsRecord cpu.old cpu.new }
-    ensures code { result.near ≡ true → HoldsCode cpu.new desc }
-{
-    operate_in(cpu, desc)
-}
-
-/// Executes the operator at the running place, at which the reader stands, as `operate_in`.
-#[inline(always)]
-pub fn operate_at(cpu: &mut Cpu, reader: Reader) -> Performed
-    requires runs { RunsSome cpu.old }
-    requires stands { ReaderBehind cpu.old reader 0 }
-    ensures row { ForEach cpu.old (λ x plan s m t. OperatorMeets x plan s m t result.step cpu.old cpu.new) }
-    ensures left { ForEach cpu.old (λ x plan s m t. code_area x plan m t ≢ None → result.left ≡ leaves_record (reading_of m.constants t)) }
-    ensures cuts { result.left ≡ true → result.step ≡ Done → CutsRecord cpu.old cpu.new }
-    ensures code { result.near ≡ true → HoldsCode cpu.new reader.code }
-{
-    let (op, next) = match read_far(cpu, reader) {
-        Some(read) => read,
-        None => return operate_apart(cpu, reader.code),
-    };
-    if is_far(op) {
-        let step = far(cpu, op, place(next));
-        let left = leaves(op);
-        let near = false;
-        return Performed { step, left, near };
-    }
-    operate_apart(cpu, reader.code)
 }
 
 /// Executes the operator at the running place, as `operator`, and says whether it leaves an activation record.
