@@ -6,9 +6,8 @@ use Rattle.b67_stack.specs.declared.Cpu.{Cpu}
 use Rattle.b67_stack.specs.declared.Step.TheVariants.{Done}
 use Rattle.b67_stack.specs.MachineView.{PagedObject}
 use Rattle.b67_stack.specs.Represents.{Storage}
-use Rattle.b67_exec.specs.declared.reader.Reader.{Reader}
 use Rattle.b67_exec.specs.Operators.{CutsRecord}
-use Rattle.b67_exec.specs.Near.{HoldsCode, ReaderBehind, FarMade, LeftMade}
+use Rattle.b67_exec.specs.Near.{FarMade, LeftMade}
 use Rattle.b67_task_release.specs.Left.{IsLeft, AreReleased}
 use Rattle.b67_task_tables.specs.declared.tables.Machine.{Machine}
 use Rattle.b67_task_tables.specs.Runs.{RunsTask, Keeps}
@@ -68,8 +67,3 @@ module _ (old : Machine) (new : Cpu) (high : ℕ) (made : LeftMade old.cpu new h
 
     pub left_keeps : RunsTask old → length after.sectors.links ≡ length old.sectors.links → Keeps old after
     left_keeps r count = kept_after old new Done true made.row lefts cuts refl refl r after areas tasks count back
-
--- a reader of a machine that is as it was has its descriptor
-pub reader_code : (old new : Machine) (before after : Reader) → ReaderBehind old.cpu before 0 → (new ≡ old) × (after ≡ before) → HoldsCode new.cpu after.code
-reader_code old new before after stands same =
-    subst (λ (z : Machine). HoldsCode z.cpu after.code) (sym same.0) (subst (λ (z : Reader). HoldsCode old.cpu z.code) (sym same.1) stands.code)

@@ -436,17 +436,15 @@ turn_same told steps left first core k new same h = subst (λ (z : Machine). Has
 pub done_row : (k new : Machine) (answered : Step) → answered ≡ answers.Done → ForEachReady k (λ x told plan s m t. MakesInSegment x told plan s m t answered k new) → ForEachReady k (λ x told plan s m t. MakesInSegment x told plan s m t answers.Done k new)
 done_row k new answered is each x told plan s m t o h runs ready = subst (λ (z : Step). MakesInSegment x told plan s m t z k new) is (each x told plan s m t o h runs ready)
 
--- one operator more, where a try before it changed nothing
-pub turn_next : (told : Option (List (List ℕ))) (steps made room : ℕ) (first : Session) (core : ℕ) (k tried new : Machine) → made < room → tried ≡ k → length k.cpu.core ≡ core → HasTurnLeft told (steps + made) (room - made) first core k
-    → ForEachReady tried (λ x told plan s m t. MakesInSegment x told plan s m t answers.Done tried new) → HasTurnLeft told (steps + (made + 1)) (room - (made + 1)) first core new
-turn_next told steps made room first core k tried new low same size h each =
-    let some : 1 ≤ room - made = omega (arith, low) in
+-- one operator more of those still to be made, where a try before it changed nothing
+pub turn_next : (told : Option (List (List ℕ))) (steps most room : ℕ) (first : Session) (core : ℕ) (k tried new : Machine) → 0 < room → room ≤ most → tried ≡ k → length k.cpu.core ≡ core → HasTurnLeft told (steps + (most - room)) room first core k
+    → ForEachReady tried (λ x told plan s m t. MakesInSegment x told plan s m t answers.Done tried new) → HasTurnLeft told (steps + (most - (room - 1))) (room - 1) first core new
+turn_next told steps most room first core k tried new some few same size h each =
     let long : length tried.cpu.core ≡ core = ap (λ (z : Machine). length z.cpu.core) same ∙ size in
-    let fewer : room - (made + 1) ≡ room - made - 1 = omega arith in
-    let more : steps + (made + 1) ≡ steps + made + 1 = omega arith in
-    turn_as told (steps + made + 1) (room - (made + 1)) first core new
-    (turn_made told (steps + made) (room - made) first core tried (turn_same told (steps + made) (room - made) first core k tried same h) some new each long (room - (made + 1)) fewer)
-    (steps + (made + 1)) (room - (made + 1)) more refl
+    let more : steps + (most - (room - 1)) ≡ steps + (most - room) + 1 = omega (arith, some, few) in
+    turn_as told (steps + (most - room) + 1) (room - 1) first core new
+    (turn_made told (steps + (most - room)) room first core tried (turn_same told (steps + (most - room)) room first core k tried same h) some new each long (room - 1) refl)
+    (steps + (most - (room - 1))) (room - 1) more refl
 
 -- the running task of a turn, over the registers
 pub some_runs : (k : Machine) → RunsTask k → RunsSome k.cpu

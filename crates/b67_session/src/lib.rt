@@ -18,7 +18,7 @@ pub use b67_mcp::Stop;
 pub use b67_session_open::OpenFault;
 pub use b67_task_switch::schedule;
 pub use fits::{made_fits, present_fits};
-pub use making::{Operated, make, make_in};
+pub use making::make;
 pub use opened::open;
 pub use outcomes::Attempt;
 pub use running::Session;

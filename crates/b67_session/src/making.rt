@@ -1,8 +1,9 @@
 //! The operator at the running place, with the arrays given back of an activation record that it leaves.
 
-ghost use Rattle.std.specs.Prelude.{◌≡◌, ◌≢◌, true};
+ghost use Rattle.std.specs.Prelude.{◌≡◌, ◌≢◌};
+ghost use Rattle.b67_stack.specs.declared.Step.{Step};
 ghost use Rattle.b67_stack.specs.declared.Step.TheVariants.{Done};
-ghost use Rattle.b67_exec.specs.Near.{HoldsCode, ReaderBehind};
+ghost use Rattle.b67_exec.specs.Near.{HoldsCode, ReaderBehind, SaysDone};
 ghost use Rattle.b67_exec.specs.declared.far.Went.TheVariants.{On, Not};
 ghost use Rattle.b67_task_tables.specs.Runs.{RunsTask, Keeps};
 ghost use Rattle.b67_session.specs.Makes.{MakesInSegment, ForEachReady};
@@ -14,44 +15,27 @@ use b67_stack::{Step, What};
 use b67_task_release::release;
 use b67_task_tables::Machine;
 
-/// What an operator came to. `near` is whether the running segment and its descriptor are as they were.
-#[derive(Clone, Copy, Debug, PartialEq, Eq)]
-pub struct Operated {
-    pub step: Step,
-    pub near: bool,
-}
-
 /// Makes the operator at the running place, as `make`, where the running segment is present and this is its descriptor.
 #[inline(always)]
-pub fn make_in(machine: &mut Machine, desc: SegDesc) -> Operated
+fn make_in(machine: &mut Machine, desc: SegDesc) -> Step
     requires runs { RunsTask machine.old }
     requires code { HoldsCode machine.old.cpu desc }
-    ensures row { ForEachReady machine.old (λ x told plan s m t. MakesInSegment x told plan s m t result.step machine.old machine.new) }
-    ensures code { result.near ≡ true → HoldsCode machine.new.cpu desc }
+    ensures row { ForEachReady machine.old (λ x told plan s m t. MakesInSegment x told plan s m t result machine.old machine.new) }
     ensures keeps { Keeps machine.old machine.new }
     ensures tasks { machine.new.tasks ≡ machine.old.tasks }
 {
     let upto = machine.cpu.regs.s + 1;
     let made = operate_in(&mut machine.cpu, desc);
     if !made.left {
-        return Operated {
-            step: made.step,
-            near: made.near,
-        };
+        return made.step;
     }
     match made.step {
         Step::Done => {
             let from = machine.cpu.regs.s + 1;
             release(machine, from, upto);
-            Operated {
-                step: Step::Done,
-                near: false,
-            }
+            Step::Done
         }
-        other => Operated {
-            step: other,
-            near: false,
-        },
+        other => other,
     }
 }
 
@@ -62,7 +46,7 @@ pub fn make_near(machine: &mut Machine, reader: &mut Reader) -> Went
     requires runs { RunsTask machine.old }
     requires stands { ReaderBehind machine.old.cpu reader.old 0 }
     ensures row { result ≢ Not → ForEachReady machine.old (λ x told plan s m t. MakesInSegment x told plan s m t Done machine.old machine.new) }
-    ensures rest { result ≡ Not → (machine.new ≡ machine.old) × (reader.new ≡ reader.old) }
+    ensures rest { result ≡ Not → machine.new ≡ machine.old }
     ensures stands { result ≡ On → ReaderBehind machine.new.cpu reader.new 0 }
     ensures keeps { Keeps machine.old machine.new }
     ensures tasks { machine.new.tasks ≡ machine.old.tasks }
@@ -77,19 +61,6 @@ pub fn make_near(machine: &mut Machine, reader: &mut Reader) -> Went
         }
         Made::Not => Went::Not,
     }
-}
-
-/// `make_in` behind a call, so that the loop of a turn doesn't hold it.
-#[inline(never)]
-pub fn make_apart(machine: &mut Machine, desc: SegDesc) -> Operated
-    requires runs { RunsTask machine.old }
-    requires code { HoldsCode machine.old.cpu desc }
-    ensures row { ForEachReady machine.old (λ x told plan s m t. MakesInSegment x told plan s m t result.step machine.old machine.new) }
-    ensures code { result.near ≡ true → HoldsCode machine.new.cpu desc }
-    ensures keeps { Keeps machine.old machine.new }
-    ensures tasks { machine.new.tasks ≡ machine.old.tasks }
-{
-    make_in(machine, desc)
 }
 
 /// Makes the operator at the running place. Where it leaves an activation record, the areas and chains of that record's
@@ -110,5 +81,20 @@ pub fn make(machine: &mut Machine) -> Step
     match present_segment(&machine.cpu) {
         Some(desc) => make_in(machine, desc).step,
         None => Step::Absent(What::Code(machine.cpu.regs.segment)),
+    }
+}
+
+/// Makes the operator at the running place, as `make`, behind a call, so that the loop of a turn doesn't hold it. Whether it was
+/// made: if not, nothing has changed.
+#[inline(never)]
+pub fn make_apart(machine: &mut Machine) -> bool
+    requires runs { RunsTask machine.old }
+    ensures made { (step : Step) × SaysDone step result × ForEachReady machine.old (λ x told plan s m t. MakesInSegment x told plan s m t step machine.old machine.new) }
+    ensures keeps { Keeps machine.old machine.new }
+    ensures tasks { machine.new.tasks ≡ machine.old.tasks }
+{
+    match make(machine) {
+        Step::Done => true,
+        _ => false,
     }
 }

@@ -1,6 +1,6 @@
 //! A turn: the chosen task runs, and makes operators.
 
-ghost use Rattle.std.specs.Prelude.{◌≡◌, ℕ, ◌+◌, ◌-◌, ◌≤◌, List, length, Option, Some, slice_get, true};
+ghost use Rattle.std.specs.Prelude.{◌≡◌, ℕ, ◌+◌, ◌-◌, ◌≤◌, ◌<◌, List, length, Option, Some, slice_get, true};
 ghost use Rattle.b67_model.specs.InOrder.{IsInOrderButPlaces};
 ghost use Rattle.b67_model.specs.Schedule.{Session};
 ghost use Rattle.b67_layout.specs.Orders.{IsInOrderButCounts};
@@ -18,7 +18,6 @@ ghost use Rattle.b67_session.specs.InTurn.{TurnBegins, HasTurnLeft, TurnGoesOn, 
 use crate::making::{make_apart, make_near};
 use b67_exec::{Went, reader_at};
 use b67_exec_cells::present_segment;
-use b67_stack::Step;
 use b67_task_switch::{count_turn, switch_to, turn_room};
 use b67_task_tables::Machine;
 
@@ -38,68 +37,56 @@ pub(crate) fn give_turn(machine: &mut Machine, row: u8)
     }
 }
 
-/// How many operators were made, and whether the turn goes on behind them, in this segment or another.
+/// How many operators are still to be made, and whether the turn goes on with them, in this segment or another.
 #[derive(Clone, Copy)]
-struct InSegment {
-    made: u64,
+struct StillToMake {
+    room: u64,
     goes: bool,
 }
 
-/// No operator was made.
-const NONE_MADE: InSegment = InSegment {
-    made: 0,
-    goes: false,
-};
-
-/// Makes operators of the running task, up to `room`, and reads the segment's descriptor once, and its words one by one. It stops
-/// behind one that may leave the segment; and before one that prints, ends its task, wants something that is absent, or stands outside the
-/// segment: then the turn doesn't go on.
+/// Makes operators of the running task, up to `most`, and reads the segment's descriptor once, and its words one by one. It stops
+/// after one that may leave the segment, or that a reader doesn't read; and before one that prints, ends its task, wants something
+/// that is absent, or stands outside the segment: then the turn doesn't go on.
 #[inline(always)]
-fn make_in_segment(machine: &mut Machine, room: u64) -> InSegment
-    requires { TurnGoesOn machine.old room }
-    ensures few { result.made ≤ room }
-    ensures some { result.goes ≡ true → 1 ≤ result.made }
-    ensures row { (said : Option (List (List ℕ))) (steps core : ℕ) (s : Session) → length machine.old.cpu.core ≡ core → HasTurnLeft said steps room s core machine.old
-        → HasTurnLeft said (steps + result.made) (room - result.made) s core machine.new }
+fn make_in_segment(machine: &mut Machine, most: u64) -> StillToMake
+    requires { TurnGoesOn machine.old most }
+    ensures few { result.room ≤ most }
+    ensures some { result.goes ≡ true → result.room < most }
+    ensures row { (said : Option (List (List ℕ))) (steps core : ℕ) (s : Session) → length machine.old.cpu.core ≡ core → HasTurnLeft said steps most s core machine.old
+        → HasTurnLeft said (steps + (most - result.room)) result.room s core machine.new }
     ensures tables { machine.new.tasks ≡ machine.old.tasks }
     ensures keeps { Keeps machine.old machine.new }
 {
+    let mut room = most;
     let code = match present_segment(&machine.cpu) {
         Some(code) => code,
-        None => return NONE_MADE,
+        None => return StillToMake { room, goes: false },
     };
     let mut reader = match reader_at(&machine.cpu, code) {
         Some(reader) => reader,
-        None => return NONE_MADE,
+        None => return StillToMake { room, goes: false },
     };
-    let mut made = 0;
-    'operator: while made < room {
+    'operator: while room > 0 {
         match make_near(machine, &mut reader) {
             Went::On => {
-                made += 1;
+                room -= 1;
                 continue 'operator;
             }
-            Went::Away => return InSegment {
-                made: made + 1,
+            Went::Away => return StillToMake {
+                room: room - 1,
                 goes: true,
             },
             Went::Not => {}
         }
-        let next = make_apart(machine, reader.code);
-        match next.step {
-            Step::Done => {}
-            _ => return InSegment { made, goes: false },
+        if !make_apart(machine) {
+            return StillToMake { room, goes: false };
         }
-        made += 1;
-        if !next.near || made == room {
-            return InSegment { made, goes: true };
-        }
-        reader = match reader_at(&machine.cpu, reader.code) {
-            Some(reader) => reader,
-            None => return InSegment { made, goes: false },
+        return StillToMake {
+            room: room - 1,
+            goes: true,
         };
     }
-    InSegment { made, goes: true }
+    StillToMake { room, goes: true }
 }
 
 /// Makes operators of the running task, up to `room`, and answers how many. It stops before one that prints, ends its task or
@@ -113,15 +100,15 @@ fn make_in_turn(machine: &mut Machine, room: u64) -> u64
     ensures tables { machine.new.tasks ≡ machine.old.tasks }
     ensures keeps { Keeps machine.old machine.new }
 {
-    let mut made = 0;
-    'segment: while made < room {
-        let next = make_in_segment(machine, room - made);
-        made += next.made;
+    let mut left = room;
+    'segment: while left > 0 {
+        let next = make_in_segment(machine, left);
+        left = next.room;
         if !next.goes {
-            return made;
+            return room - left;
         }
     }
-    made
+    room - left
 }
 
 /// Goes on with the turn of the last task: makes operators of it, each a whole step, up to `most`, and answers how many. It

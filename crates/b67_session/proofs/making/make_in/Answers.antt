@@ -54,7 +54,6 @@ returns-in-Done-clause-keeps c =
 pub returns-in_default : goal.returns-in_default
 returns-in_default c = record {
   row = λ x told plan s m t o h runs ready. not_made x told plan s m t c.args.machine.now o h runs ready c.operate_in-made.new.cpu c.operate_in-made.result.step c.in_default.not-Done (c.operate_in-made.ensures.row x plan s m t o h.session runs);
-  code = λ near. absurd (let z : ⊥ = cc in z);
   keeps = (let r = c.requires.runs in record {
     core = operator_length r.storage r.plan r.session r.member r.task c.operate_in-made.result.step c.args.machine.now.cpu c.operate_in-made.new.cpu r.stands.session
         (c.operate_in-made.ensures.row r.storage r.plan r.session r.member r.task r.ordered r.stands.session r.running);

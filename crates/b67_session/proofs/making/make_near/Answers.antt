@@ -54,7 +54,7 @@ returns-in-Not c =
     let e = c.in-Not.ensures in
     record {
       row = λ other. absurd (other refl);
-      rest = λ none. (ap (λ (z : Cpu). record c.args.machine.now { cpu = z }) e.0, e.1);
+      rest = λ none. ap (λ (z : Cpu). record c.args.machine.now { cpu = z }) e.0;
       stands = λ here. absurd (let z : ⊥ = cc in z);
       keeps = record { core = ap (λ (z : Cpu). length z.core) e.0; sectors = refl; given = refl };
       tasks = refl;

@@ -9,7 +9,7 @@ segment-init c = record {
   few = omega arith;
   tables = refl;
   keeps = record { core = refl; sectors = refl; given = refl };
-  turn = λ x said plan s o h w. turn_begins said c.args.room x plan s c.args.machine.now o h w (c.args.room - 0) (omega arith);
+  turn = λ x said plan s o h w. turn_as said 0 c.args.room s (length c.args.machine.now.cpu.core) c.args.machine.now (turn_begins said c.args.room x plan s c.args.machine.now o h w c.args.room refl) (c.args.room - c.args.room) c.args.room (omega arith) refl;
 }
 
 pub make_in_segment-next-requires : goal.make_in_segment-next-requires
@@ -17,22 +17,24 @@ make_in_segment-next-requires c =
     let q = c.requires in
     record {
       said = q.said;
-      steps = c.segment.made;
+      steps = c.args.room - c.segment.left;
       first = q.session;
       core = length c.args.machine.now.cpu.core;
       size = c.segment.invariant.keeps.core;
       turn = c.segment.invariant.turn q.storage q.said q.plan q.session q.ordered q.stands q.lasts;
-      some = omega arith;
+      some = omega (arith, c.segment-test.true);
     }
 
 pub returns-then-not-next : goal.returns-then-not-next
 returns-then-not-next c =
     let next = c.make_in_segment-next.ensures in
+    let left = c.make_in_segment-next.result.room in
     record {
-      few = omega (arith, next.few);
+      few = omega arith;
       row = λ x said plan s o h w.
-          made_in_turn said (c.segment.made + c.make_in_segment-next.result.made) (c.args.room - c.segment.made - c.make_in_segment-next.result.made) s (length c.args.machine.now.cpu.core) c.make_in_segment-next.new.machine
-          (next.row said c.segment.made (length c.args.machine.now.cpu.core) s c.segment.invariant.keeps.core (c.segment.invariant.turn x said plan s o h w));
+          made_in_turn said (c.args.room - left) left s (length c.args.machine.now.cpu.core) c.make_in_segment-next.new.machine
+          (turn_as said (c.args.room - c.segment.left + (c.segment.left - left)) left s (length c.args.machine.now.cpu.core) c.make_in_segment-next.new.machine
+          (next.row said (c.args.room - c.segment.left) (length c.args.machine.now.cpu.core) s c.segment.invariant.keeps.core (c.segment.invariant.turn x said plan s o h w)) (c.args.room - left) left (omega (arith, next.few, c.segment.invariant.few)) refl);
       tables = next.tables ∙ c.segment.invariant.tables;
       keeps = keeps_on c.args.machine.now c.segment.machine c.make_in_segment-next.new.machine c.segment.invariant.keeps next.keeps;
     }
@@ -40,19 +42,18 @@ returns-then-not-next c =
 pub segment-preserved : goal.segment-preserved
 segment-preserved c =
     let next = c.make_in_segment-next.ensures in
-    let made = c.segment.made + c.make_in_segment-next.result.made in
-    let left = c.args.room - c.segment.made - c.make_in_segment-next.result.made in
+    let left = c.make_in_segment-next.result.room in
     record {
-      few = omega (arith, next.few);
+      few = omega (arith, next.few, c.segment.invariant.few);
       tables = next.tables ∙ c.segment.invariant.tables;
       keeps = keeps_on c.args.machine.now c.segment.machine c.make_in_segment-next.new.machine c.segment.invariant.keeps next.keeps;
       turn = λ x said plan s o h w.
-          turn_as said made left s (length c.args.machine.now.cpu.core) c.make_in_segment-next.new.machine
-          (next.row said c.segment.made (length c.args.machine.now.cpu.core) s c.segment.invariant.keeps.core (c.segment.invariant.turn x said plan s o h w)) made (c.args.room - made) refl (omega (arith, next.few));
+          turn_as said (c.args.room - c.segment.left + (c.segment.left - left)) left s (length c.args.machine.now.cpu.core) c.make_in_segment-next.new.machine
+          (next.row said (c.args.room - c.segment.left) (length c.args.machine.now.cpu.core) s c.segment.invariant.keeps.core (c.segment.invariant.turn x said plan s o h w)) (c.args.room - left) left (omega (arith, next.few, c.segment.invariant.few)) refl;
     }
 
 pub segment-smaller : goal.segment-smaller
-segment-smaller c = let next = c.make_in_segment-next.ensures in omega (arith, next.few, next.some (not-false _ c.if-not-next.false))
+segment-smaller c = c.make_in_segment-next.ensures.some (not-false _ c.if-not-next.false)
 
 pub returns-clause-row : goal.returns-clause-row
-returns-clause-row c = λ x said plan s o h w. made_in_turn said c.segment.made (c.args.room - c.segment.made) s (length c.args.machine.now.cpu.core) c.segment.machine (c.segment.invariant.turn x said plan s o h w)
+returns-clause-row c = λ x said plan s o h w. made_in_turn said (c.args.room - c.segment.left) c.segment.left s (length c.args.machine.now.cpu.core) c.segment.machine (c.segment.invariant.turn x said plan s o h w)

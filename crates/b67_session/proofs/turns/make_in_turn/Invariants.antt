@@ -11,12 +11,12 @@ use Rattle.b67_session.proofs.turns.make_in_turn.Given as goal
 
 abbrev pub invariant-segment : goal.invariant-segment
 invariant-segment l = record {
-  few : l.made ≤ l.room;
+  few : l.left ≤ l.room;
   tables : l.machine.tasks ≡ l.initial.machine.tasks;
   keeps : Keeps l.initial.machine l.machine;
   turn : (x : Storage) (told : Option (List (List ℕ))) (plan : Placement) (s : Session) → IsInOrderButPlaces s → MachineRepresents x told l.initial.machine plan s → TurnLasts plan s l.room
-      → HasTurnLeft told l.made (l.room - l.made) s (length l.initial.machine.cpu.core) l.machine;
+      → HasTurnLeft told (l.room - l.left) l.left s (length l.initial.machine.cpu.core) l.machine;
 }
 
 abbrev pub decreases-segment : goal.decreases-segment
-decreases-segment l = l.room - l.made
+decreases-segment l = l.left
