@@ -79,7 +79,7 @@ pub fn make(machine: &mut Machine) -> Step
     ensures tasks { machine.new.tasks ≡ machine.old.tasks }
 {
     match present_segment(&machine.cpu) {
-        Some(desc) => make_in(machine, desc).step,
+        Some(desc) => make_in(machine, desc),
         None => Step::Absent(What::Code(machine.cpu.regs.segment)),
     }
 }
