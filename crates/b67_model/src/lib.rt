@@ -5,6 +5,7 @@ mod intrinsics;
 mod operators;
 
 pub use intrinsics::{
-    ARRAYDEC, AWAIT, CAUSE, DEALLOCATE, MOST_TASKS, PRINT, PRINTROW, PROCESS, READ, RESIZE, STATUS, WAIT,
+    ARRAYDEC, AWAIT, CAUSE, DEALLOCATE, MOST_TASKS, PRINT, PRINTROW, PROCESS, READ, RESIZE, STATUS,
+    WAIT,
 };
 pub use operators::{Code, Op, Undecodable};

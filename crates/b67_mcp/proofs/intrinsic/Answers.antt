@@ -10,10 +10,10 @@ use Rattle.b67_mcp.proofs.Callings.{calling}
 use Rattle.b67_mcp.proofs.Present.{silent_untouched}
 use Rattle.b67_mcp.proofs.intrinsic.Goals as goal
 
-pub returns-in-ARRAYDEC-clause-call : goal.returns-in-ARRAYDEC-clause-call
-returns-in-ARRAYDEC-clause-call g c = λ x told plan s m t o h runs code called.
+pub returns-in-8-clause-call : goal.returns-in-8-clause-call
+returns-in-8-clause-call g c = λ x told plan s m t o h runs code called.
     let B = g.B.Backing in
-    let is = called ∙ ap Some c.in-ARRAYDEC.is in
+    let is = called ∙ ap Some c.in-8.is in
     let k = calling m t 8 is in
     let row = c.declare.ensures.row x told plan s m t o h runs code is in
     let M : CallEnd → Option (List (List ℕ)) → Type 0 = λ e d. CallMeets g.K.Sink.taken d (B.size c.args.backing.now) x plan s m t (Ok e) c.args.machine.now c.declare.new.machine c.args.paper.now c.args.paper.now in
@@ -29,10 +29,10 @@ returns-in-ARRAYDEC-clause-call g c = λ x told plan s m t o h runs code called.
       quiet = λ none. refl;
     }
 
-pub returns-in-PRINT-clause-call : goal.returns-in-PRINT-clause-call
-returns-in-PRINT-clause-call g c = λ x told plan s m t o h runs code called.
+pub returns-in-9-clause-call : goal.returns-in-9-clause-call
+returns-in-9-clause-call g c = λ x told plan s m t o h runs code called.
     let B = g.B.Backing in
-    let is = called ∙ ap Some c.in-PRINT.is in
+    let is = called ∙ ap Some c.in-9.is in
     let M : Option (List (List ℕ)) → Type 0 = λ d. CallMeets g.K.Sink.taken d (B.size c.args.backing.now) x plan s m t c.print.result c.args.machine.now c.print.new.machine c.args.paper.now c.print.new.paper in
     record {
       row = λ says.
@@ -43,13 +43,13 @@ returns-in-PRINT-clause-call g c = λ x told plan s m t o h runs code called.
       quiet = λ none. refl;
     }
 
-pub returns-in-PRINT-clause-causes : goal.returns-in-PRINT-clause-causes
-returns-in-PRINT-clause-causes g c = record { printer = c.print.ensures.cause; device = λ e. absurd (c.print.ensures.stops e) }
+pub returns-in-9-clause-causes : goal.returns-in-9-clause-causes
+returns-in-9-clause-causes g c = record { printer = c.print.ensures.cause; device = λ e. absurd (c.print.ensures.stops e) }
 
-pub returns-in-PRINTROW-clause-call : goal.returns-in-PRINTROW-clause-call
-returns-in-PRINTROW-clause-call g c = λ x told plan s m t o h runs code called.
+pub returns-in-10-clause-call : goal.returns-in-10-clause-call
+returns-in-10-clause-call g c = λ x told plan s m t o h runs code called.
     let B = g.B.Backing in
-    let is = called ∙ ap Some c.in-PRINTROW.is in
+    let is = called ∙ ap Some c.in-10.is in
     let M : Option (List (List ℕ)) → Type 0 = λ d. CallMeets g.K.Sink.taken d (B.size c.args.backing.now) x plan s m t c.print_row.result c.args.machine.now c.print_row.new.machine c.args.paper.now c.print_row.new.paper in
     record {
       row = λ says.
@@ -60,32 +60,32 @@ returns-in-PRINTROW-clause-call g c = λ x told plan s m t o h runs code called.
       quiet = λ none. refl;
     }
 
-pub returns-in-PRINTROW-clause-causes : goal.returns-in-PRINTROW-clause-causes
-returns-in-PRINTROW-clause-causes g c = record { printer = c.print_row.ensures.cause; device = λ e. absurd (c.print_row.ensures.stops e) }
+pub returns-in-10-clause-causes : goal.returns-in-10-clause-causes
+returns-in-10-clause-causes g c = record { printer = c.print_row.ensures.cause; device = λ e. absurd (c.print_row.ensures.stops e) }
 
-pub returns-in-READ-clause-call : goal.returns-in-READ-clause-call
-returns-in-READ-clause-call g c = λ x told plan s m t o h runs code called.
+pub returns-in-11-clause-call : goal.returns-in-11-clause-call
+returns-in-11-clause-call g c = λ x told plan s m t o h runs code called.
     let B = g.B.Backing in
-    let is = called ∙ ap Some c.in-READ.is in
+    let is = called ∙ ap Some c.in-11.is in
     let k = calling m t 11 is in
     let row = c.read.ensures.row x told plan s m t o h runs code is in
     let M : CallEnd → Option (List (List ℕ)) → Type 0 = λ e d. CallMeets g.K.Sink.taken d (B.size c.args.backing.now) x plan s m t (Ok e) c.args.machine.now c.read.new.machine c.args.paper.now c.args.paper.now in
     let P : CallEnd → Type 0 = λ e. CallTouches x plan m t (Ok e) in
     record {
       row = λ says.
-          subst (M c.silent-in-READ.result) (sym (told_is told (B.holds c.args.backing.now) says))
-          (subst (λ e. M e told) (sym c.silent-in-READ.ensures)
+          subst (M c.silent-in-11.result) (sym (told_is told (B.holds c.args.backing.now) says))
+          (subst (λ e. M e told) (sym c.silent-in-11.ensures)
           (silent_meets g.K.Sink.taken c.args.paper.now x told (B.size c.args.backing.now) plan s m t c.read.result c.args.machine.now c.read.new.machine o.peak_low (as_many m t 11 k (inl (omega arith))) row));
-      present = subst P (sym c.silent-in-READ.ensures) (silent_untouched m t x plan 11 (λ e. absurd cc) k told s c.args.machine.now c.read.new.machine c.read.result row);
-      fits = fits_never (length c.args.machine.now.cpu.core) s m t (never_starts m t (call_starts m t 11 k (inl (omega arith)))) (Ok c.silent-in-READ.result);
+      present = subst P (sym c.silent-in-11.ensures) (silent_untouched m t x plan 11 (λ e. absurd cc) k told s c.args.machine.now c.read.new.machine c.read.result row);
+      fits = fits_never (length c.args.machine.now.cpu.core) s m t (never_starts m t (call_starts m t 11 k (inl (omega arith)))) (Ok c.silent-in-11.result);
       outside = λ few. c.read.ensures.changed;
       quiet = λ none. refl;
     }
 
-pub returns-in-PROCESS-clause-call : goal.returns-in-PROCESS-clause-call
-returns-in-PROCESS-clause-call g c = λ x told plan s m t o h runs code called.
+pub returns-in-12-clause-call : goal.returns-in-12-clause-call
+returns-in-12-clause-call g c = λ x told plan s m t o h runs code called.
     let B = g.B.Backing in
-    let is = called ∙ ap Some c.in-PROCESS.is in
+    let is = called ∙ ap Some c.in-12.is in
     let there = c.start.ensures.reaches x told plan s m t o h runs code is in
     record {
       row = λ says.
@@ -93,36 +93,36 @@ returns-in-PROCESS-clause-call g c = λ x told plan s m t o h runs code called.
           (c.start.ensures.row x told plan s m t o h runs code is says);
       present = there.present;
       fits = there.fits;
-      outside = λ few. absurd (omega (arith, few, c.in-PROCESS.is));
+      outside = λ few. absurd (omega (arith, few, c.in-12.is));
       quiet = there.quiet;
     }
 
-pub returns-in-PROCESS-clause-causes : goal.returns-in-PROCESS-clause-causes
-returns-in-PROCESS-clause-causes g c = record { printer = record { later = omega arith; failed = λ e. absurd (c.start.ensures.causes.silent e) }; device = c.start.ensures.causes.device }
+pub returns-in-12-clause-causes : goal.returns-in-12-clause-causes
+returns-in-12-clause-causes g c = record { printer = record { later = omega arith; failed = λ e. absurd (c.start.ensures.causes.silent e) }; device = c.start.ensures.causes.device }
 
-pub returns-in-DEALLOCATE-clause-call : goal.returns-in-DEALLOCATE-clause-call
-returns-in-DEALLOCATE-clause-call g c = λ x told plan s m t o h runs code called.
+pub returns-in-17-clause-call : goal.returns-in-17-clause-call
+returns-in-17-clause-call g c = λ x told plan s m t o h runs code called.
     let B = g.B.Backing in
-    let is = called ∙ ap Some c.in-DEALLOCATE.is in
+    let is = called ∙ ap Some c.in-17.is in
     let k = calling m t 17 is in
     let row = c.deallocate.ensures.row x told plan s m t o h runs code is in
     let M : CallEnd → Option (List (List ℕ)) → Type 0 = λ e d. CallMeets g.K.Sink.taken d (B.size c.args.backing.now) x plan s m t (Ok e) c.args.machine.now c.deallocate.new.machine c.args.paper.now c.args.paper.now in
     let P : CallEnd → Type 0 = λ e. CallTouches x plan m t (Ok e) in
     record {
       row = λ says.
-          subst (M c.silent-in-DEALLOCATE.result) (sym (told_is told (B.holds c.args.backing.now) says))
-          (subst (λ e. M e told) (sym c.silent-in-DEALLOCATE.ensures)
+          subst (M c.silent-in-17.result) (sym (told_is told (B.holds c.args.backing.now) says))
+          (subst (λ e. M e told) (sym c.silent-in-17.ensures)
           (silent_meets g.K.Sink.taken c.args.paper.now x told (B.size c.args.backing.now) plan s m t c.deallocate.result c.args.machine.now c.deallocate.new.machine o.peak_low (as_many m t 17 k (inr (omega arith))) row));
-      present = subst P (sym c.silent-in-DEALLOCATE.ensures) (silent_untouched m t x plan 17 (λ e. absurd cc) k told s c.args.machine.now c.deallocate.new.machine c.deallocate.result row);
-      fits = fits_never (length c.args.machine.now.cpu.core) s m t (never_starts m t (call_starts m t 17 k (inr (omega arith)))) (Ok c.silent-in-DEALLOCATE.result);
-      outside = λ few. absurd (omega (arith, few, c.in-DEALLOCATE.is));
+      present = subst P (sym c.silent-in-17.ensures) (silent_untouched m t x plan 17 (λ e. absurd cc) k told s c.args.machine.now c.deallocate.new.machine c.deallocate.result row);
+      fits = fits_never (length c.args.machine.now.cpu.core) s m t (never_starts m t (call_starts m t 17 k (inr (omega arith)))) (Ok c.silent-in-17.result);
+      outside = λ few. absurd (omega (arith, few, c.in-17.is));
       quiet = λ none. refl;
     }
 
-pub returns-in-RESIZE-clause-call : goal.returns-in-RESIZE-clause-call
-returns-in-RESIZE-clause-call g c = λ x told plan s m t o h runs code called.
+pub returns-in-18-clause-call : goal.returns-in-18-clause-call
+returns-in-18-clause-call g c = λ x told plan s m t o h runs code called.
     let B = g.B.Backing in
-    let is = called ∙ ap Some c.in-RESIZE.is in
+    let is = called ∙ ap Some c.in-18.is in
     let k = calling m t 18 is in
     record {
       row = λ says.
@@ -130,12 +130,12 @@ returns-in-RESIZE-clause-call g c = λ x told plan s m t o h runs code called.
           is o.peak_low (as_many m t 18 k (inr (omega arith))) (c.resize.ensures.row x told plan s m t o h runs code is says);
       present = c.resize.ensures.present x told plan s m t o h runs code is;
       fits = fits_never (length c.args.machine.now.cpu.core) s m t (never_starts m t (call_starts m t 18 k (inr (omega arith)))) c.resize.result;
-      outside = λ few. absurd (omega (arith, few, c.in-RESIZE.is));
+      outside = λ few. absurd (omega (arith, few, c.in-18.is));
       quiet = λ none. c.resize.ensures.quiet x told plan s m t o h runs code is none;
     }
 
-pub returns-in-RESIZE-clause-causes : goal.returns-in-RESIZE-clause-causes
-returns-in-RESIZE-clause-causes g c = record { printer = record { later = omega arith; failed = λ e. absurd (c.resize.ensures.causes.silent e) }; device = c.resize.ensures.causes.device }
+pub returns-in-18-clause-causes : goal.returns-in-18-clause-causes
+returns-in-18-clause-causes g c = record { printer = record { later = omega arith; failed = λ e. absurd (c.resize.ensures.causes.silent e) }; device = c.resize.ensures.causes.device }
 
 pub wait_for-requires-clause-from : goal.wait_for-requires-clause-from
 wait_for-requires-clause-from g c =

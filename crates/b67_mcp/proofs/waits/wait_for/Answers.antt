@@ -33,59 +33,59 @@ wait_at-requires-clause-call c = stands_at c.args.machine.now c.args.n c.require
 pub cause-requires-clause-call : goal.cause-requires-clause-call
 cause-requires-clause-call c = stands_at c.args.machine.now c.args.n c.requires.calls
 
-pub returns-in-AWAIT-clause-row : goal.returns-in-AWAIT-clause-row
-returns-in-AWAIT-clause-row c = λ x told plan s m t o h runs code called count.
-    (let k = calling m t 13 (called ∙ ap Some c.in-AWAIT.is) in
+pub returns-in-13-clause-row : goal.returns-in-13-clause-row
+returns-in-13-clause-row c = λ x told plan s m t o h runs code called count.
+    (let k = calling m t 13 (called ∙ ap Some c.in-13.is) in
     let same = one_behind m t c.next_place-next.result k.next (c.next_place-next.ensures.behind x told plan s m t o h runs code) (Plain Entr, k.reading) in
     (waits_at x told plan s m t o c.args.machine.now c.await_task.new.machine (length c.args.machine.now.cpu.core) 13 k (λ e. absurd cc) await k.is c.next_place-next.result same c.await_task.result c.waiting.result c.waiting.ensures
     (c.await_task.ensures.row x told plan s m t o h runs k.reference k.arguments k.call)).meets count)
 
-pub returns-in-AWAIT-clause-present : goal.returns-in-AWAIT-clause-present
-returns-in-AWAIT-clause-present c = λ x told plan s m t o h runs code called.
-    (let k = calling m t 13 (called ∙ ap Some c.in-AWAIT.is) in
+pub returns-in-13-clause-present : goal.returns-in-13-clause-present
+returns-in-13-clause-present c = λ x told plan s m t o h runs code called.
+    (let k = calling m t 13 (called ∙ ap Some c.in-13.is) in
     let same = one_behind m t c.next_place-next.result k.next (c.next_place-next.ensures.behind x told plan s m t o h runs code) (Plain Entr, k.reading) in
     let a = waits_at x told plan s m t o c.args.machine.now c.await_task.new.machine (length c.args.machine.now.cpu.core) 13 k (λ e. absurd cc) await k.is c.next_place-next.result same c.await_task.result c.waiting.result c.waiting.ensures
     (c.await_task.ensures.row x told plan s m t o h runs k.reference k.arguments k.call) in
     (a.touches, a.fits))
 
-pub returns-in-AWAIT-clause-kept : goal.returns-in-AWAIT-clause-kept
-returns-in-AWAIT-clause-kept c = c.await_task.ensures.kept
+pub returns-in-13-clause-kept : goal.returns-in-13-clause-kept
+returns-in-13-clause-kept c = c.await_task.ensures.kept
 
-pub returns-in-STATUS-clause-row : goal.returns-in-STATUS-clause-row
-returns-in-STATUS-clause-row c = λ x told plan s m t o h runs code called count.
-    (let k = calling m t 14 (called ∙ ap Some c.in-STATUS.is) in
+pub returns-in-14-clause-row : goal.returns-in-14-clause-row
+returns-in-14-clause-row c = λ x told plan s m t o h runs code called count.
+    (let k = calling m t 14 (called ∙ ap Some c.in-14.is) in
     let same = one_behind m t c.next_place-next.result k.next (c.next_place-next.ensures.behind x told plan s m t o h runs code) (Plain Entr, k.reading) in
     (done_at x told plan s m t o c.args.machine.now c.status_of.new.machine (length c.args.machine.now.cpu.core) 14 k (λ e. absurd cc) status k.is c.next_place-next.result same c.status_of.result c.silent.result c.silent.ensures
     (c.status_of.ensures.row x told plan s m t o h runs k.reference k.arguments k.call)).meets count)
 
-pub returns-in-STATUS-clause-present : goal.returns-in-STATUS-clause-present
-returns-in-STATUS-clause-present c = λ x told plan s m t o h runs code called.
-    (let k = calling m t 14 (called ∙ ap Some c.in-STATUS.is) in
+pub returns-in-14-clause-present : goal.returns-in-14-clause-present
+returns-in-14-clause-present c = λ x told plan s m t o h runs code called.
+    (let k = calling m t 14 (called ∙ ap Some c.in-14.is) in
     let same = one_behind m t c.next_place-next.result k.next (c.next_place-next.ensures.behind x told plan s m t o h runs code) (Plain Entr, k.reading) in
     let a = done_at x told plan s m t o c.args.machine.now c.status_of.new.machine (length c.args.machine.now.cpu.core) 14 k (λ e. absurd cc) status k.is c.next_place-next.result same c.status_of.result c.silent.result c.silent.ensures
     (c.status_of.ensures.row x told plan s m t o h runs k.reference k.arguments k.call) in
     (a.touches, a.fits))
 
-pub returns-in-STATUS-clause-kept : goal.returns-in-STATUS-clause-kept
-returns-in-STATUS-clause-kept c = c.status_of.ensures.kept
+pub returns-in-14-clause-kept : goal.returns-in-14-clause-kept
+returns-in-14-clause-kept c = c.status_of.ensures.kept
 
-pub returns-in-WAIT-clause-row : goal.returns-in-WAIT-clause-row
-returns-in-WAIT-clause-row c = λ x told plan s m t o h runs code called count.
-    (let k = calling m t 15 (called ∙ ap Some c.in-WAIT.is) in
+pub returns-in-15-clause-row : goal.returns-in-15-clause-row
+returns-in-15-clause-row c = λ x told plan s m t o h runs code called count.
+    (let k = calling m t 15 (called ∙ ap Some c.in-15.is) in
     let same = one_behind m t c.next_place-next.result k.next (c.next_place-next.ensures.behind x told plan s m t o h runs code) (Plain Entr, k.reading) in
-    (waits_at x told plan s m t o c.args.machine.now c.wait_at.new.machine (length c.args.machine.now.cpu.core) 15 k (λ e. absurd cc) wait k.is c.next_place-next.result same c.wait_at.result c.waiting-in-WAIT.result c.waiting-in-WAIT.ensures
+    (waits_at x told plan s m t o c.args.machine.now c.wait_at.new.machine (length c.args.machine.now.cpu.core) 15 k (λ e. absurd cc) wait k.is c.next_place-next.result same c.wait_at.result c.waiting-in-15.result c.waiting-in-15.ensures
     (c.wait_at.ensures.row x told plan s m t o h runs k.reference k.arguments k.call)).meets count)
 
-pub returns-in-WAIT-clause-present : goal.returns-in-WAIT-clause-present
-returns-in-WAIT-clause-present c = λ x told plan s m t o h runs code called.
-    (let k = calling m t 15 (called ∙ ap Some c.in-WAIT.is) in
+pub returns-in-15-clause-present : goal.returns-in-15-clause-present
+returns-in-15-clause-present c = λ x told plan s m t o h runs code called.
+    (let k = calling m t 15 (called ∙ ap Some c.in-15.is) in
     let same = one_behind m t c.next_place-next.result k.next (c.next_place-next.ensures.behind x told plan s m t o h runs code) (Plain Entr, k.reading) in
-    let a = waits_at x told plan s m t o c.args.machine.now c.wait_at.new.machine (length c.args.machine.now.cpu.core) 15 k (λ e. absurd cc) wait k.is c.next_place-next.result same c.wait_at.result c.waiting-in-WAIT.result c.waiting-in-WAIT.ensures
+    let a = waits_at x told plan s m t o c.args.machine.now c.wait_at.new.machine (length c.args.machine.now.cpu.core) 15 k (λ e. absurd cc) wait k.is c.next_place-next.result same c.wait_at.result c.waiting-in-15.result c.waiting-in-15.ensures
     (c.wait_at.ensures.row x told plan s m t o h runs k.reference k.arguments k.call) in
     (a.touches, a.fits))
 
-pub returns-in-WAIT-clause-kept : goal.returns-in-WAIT-clause-kept
-returns-in-WAIT-clause-kept c = c.wait_at.ensures.kept
+pub returns-in-15-clause-kept : goal.returns-in-15-clause-kept
+returns-in-15-clause-kept c = c.wait_at.ensures.kept
 
 pub returns-in_default-clause-row : goal.returns-in_default-clause-row
 returns-in_default-clause-row c = λ x told plan s m t o h runs code called count.
