@@ -13,3 +13,4 @@ pub mod Through
 pub mod Dones
 pub mod Fars
 pub mod Mades
+pub mod Valcs
