@@ -6,7 +6,7 @@ use Rattle.b67_model.specs.Rows as rows
 use Rattle.b67_stack.specs.declared.Cpu.{Cpu}
 use Rattle.b67_stack.specs.declared.Step.{Step}
 use Rattle.b67_stack.specs.declared.Step.TheVariants as step
-use Rattle.b67_layout.specs.Common.{RepresentsSession, RunsSome, ForEach, here, Meets, cells}
+use Rattle.b67_layout.specs.Common.{RepresentsSession, RunsSome, ForEach, here, Meets}
 use Rattle.b67_fetch.specs.Fetches.{enters_at, top_end, EntersOrMeets}
 use Rattle.b67_fetch.specs.Stores.{store_end}
 use Rattle.b67_exec.specs.Procedures.{EntersTop}

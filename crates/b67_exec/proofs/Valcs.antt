@@ -1,5 +1,5 @@
 -- VALC: where its couple leads, and what is made there.
-use Rattle.std.proofs.Common.{◌≡◌, ◌≢◌, ℕ, ◌+◌, ◌^◌, ◌<◌, List, [], ◌++◌, length, true, Result, Ok, Err, refl, ap, subst}
+use Rattle.std.proofs.Common.{◌≡◌, ◌≢◌, ℕ, ◌^◌, ◌<◌, List, [], ◌++◌, length, true, Result, Ok, Err, refl, ap, subst}
 use Rattle.b67_word.specs.Tagged.{Tagged}
 use Rattle.b67_word.specs.declared.couples.Place.{Place}
 use Rattle.b67_word.specs.declared.faults.Fault.{Fault}
@@ -14,9 +14,9 @@ use Rattle.b67_stack.specs.Represents.{Storage}
 use Rattle.b67_layout.specs.Common.{IsInOrderButCounts, Placement, IsRunning, RepresentsSession, RunsSome, ForEach, here, Meets, cells}
 use Rattle.b67_refer.specs.declared.ends.End.{End}
 use Rattle.b67_refer.specs.declared.ends.End.TheVariants as end
-use Rattle.b67_refer.specs.RunningContext.{RunningContext, IsShown, live_of}
+use Rattle.b67_refer.specs.RunningContext.{RunningContext, IsShown}
 use Rattle.b67_refer.specs.Cells.{StandsFor}
-use Rattle.b67_refer.specs.Ends.{EndMeets, IsProcAt}
+use Rattle.b67_refer.specs.Ends.{EndMeets}
 use Rattle.b67_entry.specs.Procedures.{ReachesProc}
 use Rattle.b67_entry.proofs.Evaluating.{fault_end, proc_end}
 use Rattle.b67_exec_cells.specs.Tops.{NoOriginals}
