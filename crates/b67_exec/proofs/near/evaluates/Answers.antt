@@ -1,8 +1,6 @@
 use Rattle.std.proofs.Common.{ℕ, ◌≡◌, ◌+◌, ◌*◌, ◌/◌, ◌^◌, ◌%◌, refl, ap, ◌∙◌, arith}
 use Rattle.b67_model.specs.declared.operators.Op.{Op}
 use Rattle.b67_model.specs.declared.operators.Op.TheVariants.{Valc}
-use Rattle.b67_stack.specs.declared.Cpu.{Cpu}
-use Rattle.b67_exec.specs.declared.reader.Reader.{Reader}
 use Rattle.b67_exec.proofs.Through.{pair_through}
 use Rattle.b67_exec.proofs.Mades.{went_made, place_behind}
 use Rattle.b67_exec.proofs.near.evaluates.Goals as goal
