@@ -13,3 +13,5 @@ pub mod Through
 pub mod Dones
 pub mod Fars
 pub mod Mades
+pub mod Calls
+pub mod Valcs

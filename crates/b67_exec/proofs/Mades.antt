@@ -1,5 +1,5 @@
 -- A far operator that was read and made behind a call, and where the reader then stands.
-use Rattle.std.proofs.Common.{◌≡◌, ℕ, ◌+◌, ◌/◌, ◌^◌, ◌<◌, Bool, true, false, Some, Ok, refl, sym, ◌∙◌, ap, subst, arith}
+use Rattle.std.proofs.Common.{◌≡◌, ◌+◌, ◌/◌, ◌^◌, ◌<◌, Bool, true, false, Some, Ok, refl, sym, ◌∙◌, ap, subst, arith}
 use Rattle.b67_word.specs.declared.couples.Place.{Place}
 use Rattle.b67_ctl.specs.Layout.{IsPlace}
 use Rattle.b67_model.specs.declared.operators.Op.{Op}
@@ -20,7 +20,7 @@ use Rattle.b67_exec.specs.declared.far.Went.{Went}
 use Rattle.b67_exec.specs.declared.far.Went.TheVariants as wents
 use Rattle.b67_exec.specs.declared.near.Made.{Made}
 use Rattle.b67_exec.specs.declared.near.Made.TheVariants as outcome
-use Rattle.b67_exec.specs.Near.{ReaderBehind, reader_place, NearMade, MadeNear, FarMade, LeftMade, Makes, outcome_of}
+use Rattle.b67_exec.specs.Near.{ReaderBehind, reader_place, NearMade, MadeNear, FarMade, Makes, outcome_of}
 use Rattle.b67_exec.specs.Far.{MadeOn, MadeAway, MadeWent, MadeLeaving, LeavesBy, LeadsTo}
 use Rattle.b67_exec.proofs.Readings.{read_fits, operator_read}
 use Rattle.b67_exec.proofs.Through.{ReadsThrough, far_made, far_on, lone_to, one_on}

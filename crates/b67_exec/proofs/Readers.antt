@@ -16,38 +16,38 @@ use Rattle.b67_exec_cells.proofs.Codes.{present, desc-inside, code-read}
 use Rattle.b67_exec.specs.declared.reader.Reader.{Reader}
 use Rattle.b67_exec.specs.Near.{ReaderAt}
 
--- one to six
-by_six : (P : ℕ → Type 0) → P 1 → P 2 → P 3 → P 4 → P 5 → P 6 → (n : ℕ) → 1 ≤ n → n ≤ 6 → P n
-by_six P a b c d e f n low high = elim (cases_eq n 1) [
+-- below six
+by_six : (P : ℕ → Type 0) → P 0 → P 1 → P 2 → P 3 → P 4 → P 5 → (n : ℕ) → n < 6 → P n
+by_six P a b c d e f n low = elim (cases_eq n 0) [
   | inl k ↦ subst P (sym k) a
-  | inr n1 ↦ elim (cases_eq n 2) [
+  | inr n0 ↦ elim (cases_eq n 1) [
     | inl k ↦ subst P (sym k) b
-    | inr n2 ↦ elim (cases_eq n 3) [
+    | inr n1 ↦ elim (cases_eq n 2) [
       | inl k ↦ subst P (sym k) c
-      | inr n3 ↦ elim (cases_eq n 4) [
+      | inr n2 ↦ elim (cases_eq n 3) [
         | inl k ↦ subst P (sym k) d
-        | inr n4 ↦ elim (cases_eq n 5) [
+        | inr n3 ↦ elim (cases_eq n 4) [
           | inl k ↦ subst P (sym k) e
-          | inr n5 ↦ let k : n ≡ 6 = omega (arith, low, high, n1, n2, n3, n4, n5) in subst P (sym k) f
+          | inr n4 ↦ let k : n ≡ 5 = omega (arith, low, n0, n1, n2, n3, n4) in subst P (sym k) f
         ]
       ]
     ]
   ]
 ]
 
--- the first of the syllables that are left, by the word
-pub top_is : (w left : ℕ) → 1 ≤ left → left ≤ 6 → (w % 2 ^ (8 * left) * 2 ^ (64 - 8 * left)) / 2 ^ 56 ≡ w / 256 ^ (left - 1) % 256
-top_is w left low high = by_six (λ l. (w % 2 ^ (8 * l) * 2 ^ (64 - 8 * l)) / 2 ^ 56 ≡ w / 256 ^ (l - 1) % 256) (omega arith) (omega arith) (omega arith) (omega arith) (omega arith) (omega arith) left low high
+-- the first of the syllables from syllable k on, by the word
+pub top_is : (w k : ℕ) → k < 6 → (w % 2 ^ (48 - 8 * k) * 2 ^ (16 + 8 * k)) / 2 ^ 56 ≡ w / 256 ^ (5 - k) % 256
+top_is w k low = by_six (λ l. (w % 2 ^ (48 - 8 * l) * 2 ^ (16 + 8 * l)) / 2 ^ 56 ≡ w / 256 ^ (5 - l) % 256) (omega arith) (omega arith) (omega arith) (omega arith) (omega arith) (omega arith) k low
 
--- one fewer
-pub shifted_is : (w left : ℕ) → 2 ≤ left → left ≤ 6 → (w % 2 ^ (8 * left) * 2 ^ (64 - 8 * left)) * 2 ^ 8 % 2 ^ 64 ≡ w % 2 ^ (8 * (left - 1)) * 2 ^ (64 - 8 * (left - 1))
-shifted_is w left low high =
-    let P : ℕ → Type 0 = λ l. 2 ≤ l → (w % 2 ^ (8 * l) * 2 ^ (64 - 8 * l)) * 2 ^ 8 % 2 ^ 64 ≡ w % 2 ^ (8 * (l - 1)) * 2 ^ (64 - 8 * (l - 1)) in
-    by_six P (λ k. absurd (omega (arith, k))) (λ k. omega arith) (λ k. omega arith) (λ k. omega arith) (λ k. omega arith) (λ k. omega arith) left (omega (arith, low)) high low
+-- those from the next one on
+pub shifted_is : (w k : ℕ) → k < 5 → (w % 2 ^ (48 - 8 * k) * 2 ^ (16 + 8 * k)) * 2 ^ 8 % 2 ^ 64 ≡ w % 2 ^ (48 - 8 * (k + 1)) * 2 ^ (16 + 8 * (k + 1))
+shifted_is w k low =
+    let P : ℕ → Type 0 = λ l. l < 5 → (w % 2 ^ (48 - 8 * l) * 2 ^ (16 + 8 * l)) * 2 ^ 8 % 2 ^ 64 ≡ w % 2 ^ (48 - 8 * (l + 1)) * 2 ^ (16 + 8 * (l + 1)) in
+    by_six P (λ z. omega arith) (λ z. omega arith) (λ z. omega arith) (λ z. omega arith) (λ z. omega arith) (λ z. absurd (omega (arith, z))) k (omega (arith, low)) low
 
 -- those from a syllable on, of a whole word
-pub from_is : (w left : ℕ) → 1 ≤ left → left ≤ 6 → w < 2 ^ 48 → w * 2 ^ 16 * 2 ^ (8 * (6 - left)) % 2 ^ 64 ≡ w % 2 ^ (8 * left) * 2 ^ (64 - 8 * left)
-from_is w left low high small = by_six (λ l. w * 2 ^ 16 * 2 ^ (8 * (6 - l)) % 2 ^ 64 ≡ w % 2 ^ (8 * l) * 2 ^ (64 - 8 * l)) (omega (arith, small)) (omega (arith, small)) (omega (arith, small)) (omega (arith, small)) (omega (arith, small)) (omega (arith, small)) left low high
+pub from_is : (w k : ℕ) → k < 6 → w < 2 ^ 48 → w * 2 ^ 16 * 2 ^ (8 * k) % 2 ^ 64 ≡ w % 2 ^ (48 - 8 * k) * 2 ^ (16 + 8 * k)
+from_is w k low small = by_six (λ l. w * 2 ^ 16 * 2 ^ (8 * l) % 2 ^ 64 ≡ w % 2 ^ (48 - 8 * l) * 2 ^ (16 + 8 * l)) (omega (arith, small)) (omega (arith, small)) (omega (arith, small)) (omega (arith, small)) (omega (arith, small)) (omega (arith, small)) k low
 
 module _ (x : Storage) (cpu : Cpu) (plan : Placement) (s : Session) (m : SessionJob) (t : Task) (ordered : IsInOrderButCounts s) (h : RepresentsSession x cpu plan s) (runs : IsRunning plan s.jobs m t)
     (desc : SegDesc) (given : GivesSegment x plan m t (Some desc)) where
@@ -73,37 +73,33 @@ module _ (x : Storage) (cpu : Cpu) (plan : Placement) (s : Session) (m : Session
       omega (arith, words-are, ap length c, length-map words (λ (v : Tagged). v.bits))
 
 -- the next syllable of the word
-pub stepped : (r : Reader) (code : List ℕ) (k : ℕ) → ReaderAt r code k → 1 < r.left → (more : ℕ) → more ≡ k + 1 → ReaderAt (record r { left = r.left - 1; bits = r.bits * 2 ^ 8 % 2 ^ 64 }) code more
+pub stepped : (r : Reader) (code : List ℕ) (k : ℕ) → ReaderAt r code k → r.syllable < 5 → (more : ℕ) → more ≡ k + 1 → ReaderAt (record r { syllable = r.syllable + 1; bits = r.bits * 2 ^ 8 % 2 ^ 64 }) code more
 stepped r code k a some more is = record {
-  some = omega (arith, some);
-  few = omega (arith, a.few);
-  at = omega (arith, a.at, is, some);
+  in_word = omega (arith, some);
+  at = omega (arith, a.at, is);
   inside = a.inside;
-  bits = ap (λ (z : ℕ). z * 2 ^ 8 % 2 ^ 64) a.bits ∙ shifted_is (slice_index code r.word) r.left (omega (arith, some)) a.few;
+  bits = ap (λ (z : ℕ). z * 2 ^ 8 % 2 ^ 64) a.bits ∙ shifted_is (slice_index code r.word) r.syllable some;
 }
 
 -- the first one of the next word
-pub crossed : (r : Reader) (code : List ℕ) (k : ℕ) → ReaderAt r code k → r.left ≤ 1 → r.word + 1 < length code → (bits : ℕ) → bits ≡ slice_index code (r.word + 1) * 2 ^ 16 → bits < 2 ^ 64 → (more : ℕ) → more ≡ k + 1
-    → ReaderAt (record { code = r.code; word = r.word + 1; left = 6; bits = bits }) code more
-crossed r code k a one inside bits is small more more_is = record {
-  some = omega arith;
-  few = omega arith;
-  at = omega (arith, a.at, a.some, one, more_is);
+pub crossed : (r : Reader) (code : List ℕ) (k : ℕ) → ReaderAt r code k → 5 ≤ r.syllable → r.word + 1 < length code → (bits : ℕ) → bits ≡ slice_index code (r.word + 1) * 2 ^ 16 → bits < 2 ^ 64 → (more : ℕ) → more ≡ k + 1
+    → ReaderAt (record { code = r.code; word = r.word + 1; syllable = 0; bits = bits }) code more
+crossed r code k a last inside bits is small more more_is = record {
+  in_word = omega arith;
+  at = omega (arith, a.at, a.in_word, last, more_is);
   inside = inside;
   bits = omega (arith, is, small);
 }
 
 -- the one at a place
 pub begun : (desc : SegDesc) (code : List ℕ) (place : Place) (word bits by : ℕ) → place.syllable < 6 → place.word < length code → word ≡ slice_index code place.word * 2 ^ 16 → word < 2 ^ 64 → by ≡ place.syllable → bits ≡ word * 2 ^ (8 * by) % 2 ^ 64
-    → ReaderAt (record { code = desc; word = place.word; left = 6 - place.syllable; bits = bits }) code (count_at place + 0)
+    → ReaderAt (record { code = desc; word = place.word; syllable = place.syllable; bits = bits }) code (count_at place + 0)
 begun desc code place word bits by in_word inside word_is small by_is bits_is =
     let w : ℕ = slice_index code place.word in
-    let back : by ≡ 6 - (6 - place.syllable) = omega (arith, by_is, in_word) in
     let low : w < 2 ^ 48 = omega (arith, word_is, small) in
     record {
-      some = omega (arith, in_word);
-      few = omega arith;
-      at = omega (arith, in_word);
+      in_word = in_word;
+      at = omega arith;
       inside = inside;
-      bits = bits_is ∙ ap (λ (z : ℕ). z * 2 ^ (8 * by) % 2 ^ 64) word_is ∙ ap (λ (z : ℕ). w * 2 ^ 16 * 2 ^ (8 * z) % 2 ^ 64) back ∙ from_is w (6 - place.syllable) (omega (arith, in_word)) (omega arith) low;
+      bits = bits_is ∙ ap (λ (z : ℕ). z * 2 ^ (8 * by) % 2 ^ 64) word_is ∙ ap (λ (z : ℕ). w * 2 ^ 16 * 2 ^ (8 * z) % 2 ^ 64) by_is ∙ from_is w place.syllable in_word low;
     }

@@ -41,35 +41,35 @@ same_place p q word syllable = by p.word p.syllable word syllable where
 -- the syllable on top of a reader
 syllable_at : (r : Reader) (code : List ℕ) (k : ℕ) → ReaderAt r code k → r.bits / 2 ^ 56 ≡ syllable code k
 syllable_at r code k a =
-    let word : k / 6 ≡ r.word = omega (arith, a.at, a.some, a.few) in
-    let rest : 5 - k % 6 ≡ r.left - 1 = omega (arith, a.at, a.some, a.few) in
-    ap (λ (z : ℕ). z / 2 ^ 56) a.bits ∙ top_is (slice_index code r.word) r.left a.some a.few
+    let word : k / 6 ≡ r.word = omega (arith, a.at, a.in_word) in
+    let rest : 5 - k % 6 ≡ 5 - r.syllable = omega (arith, a.at, a.in_word) in
+    ap (λ (z : ℕ). z / 2 ^ 56) a.bits ∙ top_is (slice_index code r.word) r.syllable a.in_word
     ∙ ap (λ (z : ℕ). slice_index code r.word / 256 ^ z % 256) (sym rest) ∙ ap (λ (z : ℕ). slice_index code z / 256 ^ (5 - k % 6) % 256) (sym word)
 
 -- its place
 place_is : (r : Reader) (code : List ℕ) (k : ℕ) → ReaderAt r code k → place_at k ≡ reader_place r
 place_is r code k a =
-    let word : k / 6 ≡ r.word = omega (arith, a.at, a.some, a.few) in
-    let rest : k % 6 ≡ 6 - r.left = omega (arith, a.at, a.some, a.few) in
+    let word : k / 6 ≡ r.word = omega (arith, a.at, a.in_word) in
+    let rest : k % 6 ≡ r.syllable = omega (arith, a.at, a.in_word) in
     rw (word, rest) refl
 
 -- the code goes on up to it
 ends_before : (next : Reader) (code : List ℕ) (k : ℕ) (op : Op) → ReaderAt next code k → ends_at code k op ≡ Ok (op, reader_place next)
 ends_before next code k op a =
-    let test : nat_le k (6 * length code) ≡ true = (let low : k ≤ 6 * length code = omega (arith, a.at, a.some, a.inside) in grind (arith, nat_tests)) in
+    let test : nat_le k (6 * length code) ≡ true = (let low : k ≤ 6 * length code = omega (arith, a.at, a.in_word, a.inside) in grind (arith, nat_tests)) in
     rw test (ap (λ (p : Place). Ok (op, p)) (place_is next code k a))
 
 -- or ends behind its last syllable
 ends_behind : (last : Reader) (code : List ℕ) (k : ℕ) (op : Op) → ReaderAt last code k → ends_at code (k + 1) op ≡ Ok (op, place_at (k + 1))
 ends_behind last code k op a =
-    let test : nat_le (k + 1) (6 * length code) ≡ true = (let low : k + 1 ≤ 6 * length code = omega (arith, a.at, a.some, a.inside) in grind (arith, nat_tests)) in
+    let test : nat_le (k + 1) (6 * length code) ≡ true = (let low : k + 1 ≤ 6 * length code = omega (arith, a.at, a.in_word, a.inside) in grind (arith, nat_tests)) in
     rw test refl
 
 module _ (code : List ℕ) (at : Place) (r : Reader) (in_word : at.syllable < 6) (a : ReaderAt r code (count_at at + 0)) where
   begins : (f : Form) → form_of (r.bits / 2 ^ 56) ≡ Some f → operator_at code at ≡ reads code (count_at at) (Some f)
   begins f is =
       let one : nat_lt at.syllable 6 ≡ true = grind (arith, nat_tests) in
-      let inside : at.word < length code = omega (arith, a.at, a.some, a.few, a.inside, in_word) in
+      let inside : at.word < length code = omega (arith, a.at, a.in_word, a.inside, in_word) in
       let two : nat_lt at.word (length code) ≡ true = grind (arith, nat_tests) in
       let same : count_at at + 0 ≡ count_at at = omega arith in
       let first : r.bits / 2 ^ 56 ≡ syllable code (count_at at) = syllable_at r code (count_at at + 0) a ∙ ap (syllable code) same in
@@ -189,11 +189,11 @@ pub stands_there : (old new : Cpu) (r : RunsSome old) (answer : Answer Done) (k 
     → HoldsCode old at.code → ReaderAt at (code_of r.member.constants r.task.segment) n → new.regs.place ≡ reader_place at → ReaderBehind new at 0
 stands_there old new r answer k at n dict segment code a place = record {
   code = holds_on old new at.code r answer k dict segment code;
-  in_word = (let low : 6 - at.left < 6 = omega (arith, a.some, a.few) in subst (λ (p : Place). p.syllable < 6) (sym place) low);
+  in_word = subst (λ (p : Place). p.syllable < 6) (sym place) a.in_word;
   at = λ x plan s m t ordered h runs.
       let same = code_on old new at.code r answer k dict segment code x plan s m t ordered h runs in
       let here_is : t.place ≡ reader_place at = sym (h.holds.running m t runs).place ∙ place in
-      let count : n ≡ count_at (reader_place at) + 0 = omega (arith, a.at, a.some, a.few) in
+      let count : n ≡ count_at (reader_place at) + 0 = omega (arith, a.at) in
       subst (λ (p : Place). ReaderAt at (code_of m.constants t.segment) (count_at p + 0)) (sym here_is)
       (subst (λ (i : ℕ). ReaderAt at (code_of m.constants t.segment) i) count (subst (λ (c : List ℕ). ReaderAt at c n) same a));
 }
@@ -322,11 +322,8 @@ pub each_as : (old new : Cpu) (answered : Step) (op : Op) (p q : Place) (f : Ope
 each_as old new answered op p q f same is each x plan s m t ordered h runs =
     subst (λ (z : Answer Done). Meets x plan s m answered old new z) (ap (λ (z : Place). f (here m t z)) same ∙ is (here m t q)) (each x plan s m t ordered h runs)
 
-pub left_fits : (cpu : Cpu) (r : Reader) (n : ℕ) → RunsSome cpu → ReaderBehind cpu r n → r.left ≤ 6
-left_fits cpu r n q b = (b.at q.storage q.plan q.session q.member q.task q.ordered q.stands q.running).few
-
 -- a reader at a place of the code
 pub aimed : (cpu : Cpu) (aim : Reader) (target : Place) → RunsSome cpu → target.syllable < 6 → ForEach cpu (λ x plan s m t. ReaderAt aim (code_of m.constants t.segment) (count_at target + 0)) → reader_place aim ≡ target
 aimed cpu aim target q in_word aims =
     let a = aims q.storage q.plan q.session q.member q.task q.ordered q.stands q.running in
-    same_place (reader_place aim) target (omega (arith, a.at, a.some, a.few, in_word)) (omega (arith, a.at, a.some, a.few, in_word))
+    same_place (reader_place aim) target (omega (arith, a.at, a.in_word, in_word)) (omega (arith, a.at, a.in_word, in_word))

@@ -1,5 +1,5 @@
 -- The code of the running segment, and a reader of it.
-use Rattle.std.specs.Prelude.{◌≡◌, ◌≢◌, ℕ, Bool, true, false, not, ◌+◌, ◌-◌, ◌*◌, ◌%◌, ◌^◌, ◌<◌, ◌≤◌, List, length, slice_index, Some}
+use Rattle.std.specs.Prelude.{◌≡◌, ◌≢◌, ℕ, Bool, true, false, not, ◌+◌, ◌-◌, ◌*◌, ◌%◌, ◌^◌, ◌<◌, List, length, slice_index, Some}
 use Rattle.b67_ctl.specs.declared.descriptors.SegDesc.{SegDesc}
 use Rattle.b67_word.specs.declared.couples.Place.{Place}
 use Rattle.b67_model.specs.declared.operators.Op.{Op}
@@ -26,11 +26,10 @@ HoldsCode cpu desc = ForEach cpu (λ x plan s m t. GivesSegment x plan m t (Some
 
 -- a reader stands at a syllable of code: it has the syllables of the word from this one on
 pub record ReaderAt (r : Reader) (code : List ℕ) (n : ℕ) : Type 0 where
-  pub some : 1 ≤ r.left
-  pub few : r.left ≤ 6
-  pub at : n + r.left ≡ 6 * r.word + 6
+  pub in_word : r.syllable < 6
+  pub at : n ≡ 6 * r.word + r.syllable
   pub inside : r.word < length code
-  pub bits : r.bits ≡ slice_index code r.word % 2 ^ (8 * r.left) * 2 ^ (64 - 8 * r.left)
+  pub bits : r.bits ≡ slice_index code r.word % 2 ^ (48 - 8 * r.syllable) * 2 ^ (16 + 8 * r.syllable)
 
 -- a reader of the running segment stands so many syllables behind the running place
 pub record ReaderBehind (cpu : Cpu) (r : Reader) (n : ℕ) : Type 0 where
@@ -40,7 +39,7 @@ pub record ReaderBehind (cpu : Cpu) (r : Reader) (n : ℕ) : Type 0 where
 
 -- the place of a reader's syllable
 abbrev pub reader_place : Reader → Place
-reader_place r = record { word = r.word; syllable = 6 - r.left }
+reader_place r = record { word = r.word; syllable = r.syllable }
 
 -- the near operators that aren't branches: the task goes on behind them
 abbrev pub is_straight : Op → Bool

@@ -5,9 +5,10 @@ ghost use Rattle.b67_model.specs.declared.operators.Op.TheVariants as ops;
 ghost use Rattle.b67_model.specs.declared.operators.Code.TheVariants as codes;
 ghost use Rattle.b67_model.specs.Operators.{form_of, Alone, OneMore, branch};
 ghost use Rattle.b67_layout.specs.Meets.{RunsSome};
+ghost use Rattle.b67_layout_step.specs.Keeping.{is_leaving};
 ghost use Rattle.b67_exec.specs.Operators.{is_on_top, goes_behind, may_enter};
 ghost use Rattle.b67_exec.specs.Near.{ReaderBehind, WentOn, MadeNear, Makes, outcome_of, code_of_numbers, resting_code, branch_op};
-ghost use Rattle.b67_exec.specs.Far.{MadeOn, MadeWent, LeavesBy, LeadsTo};
+ghost use Rattle.b67_exec.specs.Far.{MadeOn, MadeWent, MadeLeaving, LeavesBy, LeadsTo};
 
 use crate::far::{
     Went, is_done, makes_entr, makes_exit, makes_indx, makes_load, makes_nxlv, makes_plain,
@@ -428,28 +429,29 @@ fn enters(cpu: &mut Cpu, reader: Reader) -> Made
     }
 }
 
-/// EXIT.
+/// EXIT or RETN, and whether it was made.
 #[inline(always)]
-fn exits(cpu: &mut Cpu) -> Made
-    requires { RunsSome cpu.old }
-    ensures { LeavesBy (ops.Plain codes.Exit) cpu.old result cpu.new }
+fn makes_leaving(cpu: &mut Cpu, code: Code) -> bool
+    requires runs { RunsSome cpu.old }
+    requires leaves { is_leaving (ops.Plain code) ≡ true }
+    ensures { MadeLeaving (ops.Plain code) cpu.old result cpu.new }
 {
-    let upto = cpu.regs.s + 1;
-    if makes_exit(cpu) {
-        Made::Left(upto)
-    } else {
-        Made::Not
+    match code {
+        Code::Exit => makes_exit(cpu),
+        Code::Retn => makes_retn(cpu),
+        _ => unreachable!(),
     }
 }
 
-/// RETN.
+/// EXIT or RETN.
 #[inline(always)]
-fn returns(cpu: &mut Cpu) -> Made
-    requires { RunsSome cpu.old }
-    ensures { LeavesBy (ops.Plain codes.Retn) cpu.old result cpu.new }
+fn exits(cpu: &mut Cpu, code: Code) -> Made
+    requires runs { RunsSome cpu.old }
+    requires leaves { is_leaving (ops.Plain code) ≡ true }
+    ensures { LeavesBy (ops.Plain code) cpu.old result cpu.new }
 {
     let upto = cpu.regs.s + 1;
-    if makes_retn(cpu) {
+    if makes_leaving(cpu, code) {
         Made::Left(upto)
     } else {
         Made::Not
@@ -504,7 +506,7 @@ pub fn operate_near(cpu: &mut Cpu, reader: &mut Reader) -> Made
         Near::Ston => fetches(cpu, reader, Code::Ston),
         Near::Load => fetches(cpu, reader, Code::Load),
         Near::Entr => enters(cpu, *reader),
-        Near::Exit => exits(cpu),
-        Near::Retn => returns(cpu),
+        Near::Exit => exits(cpu, Code::Exit),
+        Near::Retn => exits(cpu, Code::Retn),
     }
 }

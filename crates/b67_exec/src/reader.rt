@@ -17,9 +17,9 @@ pub struct Reader {
     pub code: SegDesc,
     /// The number of the syllable's word in the segment.
     pub word: u16,
-    /// How many syllables of that word are left, with this one: 1 to 6.
-    pub left: u8,
-    /// These syllables, from the highest bit down.
+    /// Which syllable of that word it is: 0 to 5.
+    pub syllable: u8,
+    /// The syllables of that word from this one on, from the highest bit down.
     pub bits: u64,
 }
 
@@ -46,12 +46,11 @@ pub fn first(r: Reader) -> u8
 /// The place of the syllable.
 #[inline(always)]
 pub fn place(r: Reader) -> Place
-    requires { r.left ≤ 6 }
-    ensures { result ≡ record { word = r.word; syllable = 6 - r.left } }
+    ensures { result ≡ record { word = r.word; syllable = r.syllable } }
 {
     Place {
         word: r.word,
-        syllable: 6 - r.left,
+        syllable: r.syllable,
     }
 }
 
@@ -62,11 +61,11 @@ pub fn behind(cpu: &Cpu, r: Reader) -> Option<Reader>
     requires stands { (n : ℕ) × ReaderBehind cpu.now r n }
     ensures { (n : ℕ) → ReaderBehind cpu.now r n → IfSome result (λ next. ReaderBehind cpu.now next (n + 1)) }
 {
-    if r.left > 1 {
+    if r.syllable < 5 {
         return Some(Reader {
             code: r.code,
             word: r.word,
-            left: r.left - 1,
+            syllable: r.syllable + 1,
             bits: r.bits << 8,
         });
     }
@@ -77,7 +76,7 @@ pub fn behind(cpu: &Cpu, r: Reader) -> Option<Reader>
     Some(Reader {
         code: r.code,
         word,
-        left: 6,
+        syllable: 0,
         bits: loaded(cpu, r.code, word),
     })
 }
@@ -96,7 +95,7 @@ pub fn reader_to(cpu: &Cpu, code: SegDesc, at: Place) -> Reader
     Reader {
         code,
         word: at.word,
-        left: 6 - at.syllable,
+        syllable: at.syllable,
         bits: word << (8 * u32::from(at.syllable)),
     }
 }

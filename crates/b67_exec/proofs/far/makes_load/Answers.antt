@@ -1,41 +1,18 @@
-use Rattle.std.proofs.Common.{sym, subst}
 use Rattle.b67_model.specs.declared.operators.Op.TheVariants.{Plain}
 use Rattle.b67_model.specs.declared.operators.Code.TheVariants as codes
-use Rattle.b67_model.specs.Rows as rows
-use Rattle.b67_model.specs.Steps.{cells_of}
-use Rattle.b67_stack.specs.declared.Cpu.{Cpu}
-use Rattle.b67_layout.specs.Common.{RepresentsSession, here, Meets}
-use Rattle.b67_fetch.specs.Fetches.{enters_at, top_end}
-use Rattle.b67_exec.proofs.Entered.{met_by, called_by}
+use Rattle.b67_exec.proofs.Calls.{met_each, entered_each, load_enters, load_row, load_due}
 use Rattle.b67_exec.proofs.Fars.{stayed_by, entered_by}
 use Rattle.b67_exec.proofs.far.makes_load.Goals as goal
 
 pub enter_in_place-requires : goal.enter_in_place-requires
-enter_in_place-requires c =
-    let q = c.requires in
-    let h = here q.member q.task c.args.next in
-    let i = called_by q.storage q.plan q.session q.member c.in-Call.field-0 c.args.cpu.now c.load.new.cpu (enters_at (top_end h (cells_of h))) (rows.load h (cells_of h)) (c.in-Call.ensures.row q.storage q.plan q.session q.member q.task q.ordered q.stands q.running) in
-    let S : Cpu → Type 0 = λ z. RepresentsSession q.storage z q.plan q.session in
-    record {
-      runs = record { storage = q.storage; plan = q.plan; session = q.session; member = q.member; task = q.task; ordered = q.ordered; stands = subst S (sym i.1) q.stands; running = q.running };
-      place = c.args.next;
-      enters = i.0;
-    }
+enter_in_place-requires c = load_due c.args.cpu.now c.load.new.cpu c.args.next c.in-Call.field-0 c.in-Call.ensures.row c.requires
 
 pub returns-in-Call : goal.returns-in-Call
 returns-in-Call c =
     entered_by (Plain codes.Load) c.args.next c.args.cpu.now c.enter_in_place.new.cpu c.requires c.enter_in_place.result c.entered.result c.entered.ensures
-    (λ x plan s m t ordered h runs.
-    let hh = here m t c.args.next in
-    let i = called_by x plan s m c.in-Call.field-0 c.args.cpu.now c.load.new.cpu (enters_at (top_end hh (cells_of hh))) (rows.load hh (cells_of hh)) (c.in-Call.ensures.row x plan s m t ordered h runs) in
-    let S : Cpu → Type 0 = λ z. RepresentsSession x z plan s in
-    let made = c.enter_in_place.ensures.row x plan s m t ordered (subst S (sym i.1) h) runs c.args.next i.0 in
-    let P : Cpu → Type 0 = λ z. Meets x plan s m c.enter_in_place.result z c.enter_in_place.new.cpu (rows.load hh (cells_of hh)) in
-    subst P i.1 made)
+    (entered_each c.args.cpu.now c.load.new.cpu (load_enters c.args.next) (load_row c.args.next) c.in-Call.field-0 c.in-Call.ensures.row c.enter_in_place.result c.enter_in_place.new.cpu (λ x plan s m t ordered h runs due. c.enter_in_place.ensures.row x plan s m t ordered h runs c.args.next due))
 
 pub returns-in_default : goal.returns-in_default
 returns-in_default c =
     stayed_by (Plain codes.Load) c.args.next c.args.cpu.now c.load.new.cpu c.requires c.load.result c.stayed.result c.stayed.ensures
-    (λ x plan s m t ordered h runs.
-    let hh = here m t c.args.next in
-    met_by x plan s m c.load.result c.args.cpu.now c.load.new.cpu (enters_at (top_end hh (cells_of hh))) (rows.load hh (cells_of hh)) c.in_default.not-Call (c.load.ensures.row x plan s m t ordered h runs)) c.load.ensures.stays
+    (met_each c.args.cpu.now c.load.new.cpu (load_enters c.args.next) (load_row c.args.next) c.load.result c.in_default.not-Call c.load.ensures.row) c.load.ensures.stays

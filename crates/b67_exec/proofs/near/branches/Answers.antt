@@ -7,7 +7,7 @@ use Rattle.b67_layout.specs.Common.{here, IsMade}
 use Rattle.b67_exec_cells.proofs.Rows.{Drops}
 use Rattle.b67_exec_cells.proofs.Targets.{branch_taken, branch_passed}
 use Rattle.b67_exec.specs.Near.{HoldsCode, branch_op, reader_place}
-use Rattle.b67_exec.proofs.Through.{three_on, triple_to, triple_through, drops_operand, goes_to, branch_made, branch_row, left_fits, aimed}
+use Rattle.b67_exec.proofs.Through.{three_on, triple_to, triple_through, drops_operand, goes_to, branch_made, branch_row, aimed}
 use Rattle.b67_exec.proofs.near.branches.Goals as goal
 
 pub behind-requires-2-clause-stands : goal.behind-requires-2-clause-stands
@@ -48,9 +48,6 @@ returns-then-bits-wanted c =
 
 pub behind-requires-3-clause-stands : goal.behind-requires-3-clause-stands
 behind-requires-3-clause-stands c = (0 + 1 + 1, c.in-Some-behind.ensures (0 + 1) (c.in-Some.ensures 0 c.requires.stands))
-
-pub place-requires : goal.place-requires
-place-requires c = left_fits c.args.cpu.now c.in-Some-behind-2.next (0 + 1 + 1 + 1) c.requires.runs (c.in-Some-behind-2.ensures (0 + 1 + 1) (c.in-Some-behind.ensures (0 + 1) (c.in-Some.ensures 0 c.requires.stands)))
 
 pub drop_cells-requires-2-clause-cells : goal.drop_cells-requires-2-clause-cells
 drop_cells-requires-2-clause-cells c = c.in-Ok.ensures.above

@@ -1,12 +1,9 @@
-use Rattle.std.proofs.Common.{◌+◌, refl}
+use Rattle.std.proofs.Common.{refl}
 use Rattle.b67_model.specs.declared.operators.Op.TheVariants.{Plain}
 use Rattle.b67_model.specs.declared.operators.Code.TheVariants as codes
-use Rattle.b67_exec.proofs.Through.{lone_through, left_fits}
+use Rattle.b67_exec.proofs.Through.{lone_through}
 use Rattle.b67_exec.proofs.Mades.{away_made, away_rest, place_behind}
 use Rattle.b67_exec.proofs.near.enters.Goals as goal
-
-pub place-requires : goal.place-requires
-place-requires c = left_fits c.args.cpu.now c.in-Some.next (0 + 1) c.requires.runs (c.in-Some.ensures 0 c.requires.stands)
 
 pub makes_entr-requires-clause-next : goal.makes_entr-requires-clause-next
 makes_entr-requires-clause-next c =

@@ -1,17 +1,12 @@
 use Rattle.std.proofs.Common.{ℕ, ◌≡◌, ◌+◌, ◌*◌, ◌/◌, ◌^◌, ◌%◌, refl, ap, ◌∙◌, arith}
 use Rattle.b67_model.specs.declared.operators.Op.{Op}
 use Rattle.b67_model.specs.declared.operators.Op.TheVariants.{Valc}
-use Rattle.b67_stack.specs.declared.Cpu.{Cpu}
-use Rattle.b67_exec.specs.declared.reader.Reader.{Reader}
-use Rattle.b67_exec.proofs.Through.{pair_through, left_fits}
+use Rattle.b67_exec.proofs.Through.{pair_through}
 use Rattle.b67_exec.proofs.Mades.{went_made, place_behind}
 use Rattle.b67_exec.proofs.near.evaluates.Goals as goal
 
 pub behind-requires-2-clause-stands : goal.behind-requires-2-clause-stands
 behind-requires-2-clause-stands c = (0 + 1, c.in-Some.ensures 0 c.requires.stands)
-
-pub place-requires : goal.place-requires
-place-requires c = left_fits c.args.cpu.now c.in-Some-behind.next (0 + 1 + 1) c.requires.runs (c.in-Some-behind.ensures (0 + 1) (c.in-Some.ensures 0 c.requires.stands))
 
 pub makes_valc-went-requires-clause-couple : goal.makes_valc-went-requires-clause-couple
 makes_valc-went-requires-clause-couple c = omega (arith, c.couple.ensures, c.first-2.type_inv)

@@ -1,13 +1,10 @@
-use Rattle.std.proofs.Common.{◌+◌, refl}
+use Rattle.std.proofs.Common.{refl}
 use Rattle.b67_model.specs.declared.operators.Op.TheVariants.{Plain}
 use Rattle.b67_model.specs.declared.operators.Code.TheVariants as codes
 use Rattle.b67_model.specs.Common.{on_cells, exch}
 use Rattle.b67_exec.specs.Near.{reader_place}
-use Rattle.b67_exec.proofs.Through.{lone_through, straight_made, each_as, left_fits}
+use Rattle.b67_exec.proofs.Through.{lone_through, straight_made, each_as}
 use Rattle.b67_exec.proofs.near.exchanges.Goals as goal
-
-pub place-requires : goal.place-requires
-place-requires c = left_fits c.args.cpu.now c.in-Some.next (0 + 1) c.requires.runs (c.in-Some.ensures 0 c.requires.stands)
 
 pub returns : goal.returns
 returns c =

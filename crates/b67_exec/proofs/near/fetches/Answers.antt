@@ -1,11 +1,7 @@
-use Rattle.std.proofs.Common.{◌+◌}
 use Rattle.b67_model.specs.declared.operators.Op.TheVariants.{Plain}
-use Rattle.b67_exec.proofs.Through.{lone_through, left_fits}
+use Rattle.b67_exec.proofs.Through.{lone_through}
 use Rattle.b67_exec.proofs.Mades.{went_made, entering_stays}
 use Rattle.b67_exec.proofs.near.fetches.Goals as goal
-
-pub place-requires : goal.place-requires
-place-requires c = left_fits c.args.cpu.now c.in-Some.next (0 + 1) c.requires.runs (c.in-Some.ensures 0 c.requires.stands)
 
 pub returns : goal.returns
 returns c =

@@ -2,14 +2,11 @@ use Rattle.std.proofs.Common.{◌+◌, None, refl, ◌∙◌}
 use Rattle.b67_model.specs.declared.operators.Op.TheVariants.{Lt8}
 use Rattle.b67_model.specs.Common.{Operand, pushes}
 use Rattle.b67_exec.specs.Near.{reader_place}
-use Rattle.b67_exec.proofs.Through.{pair_through, straight_made, each_as, left_fits}
+use Rattle.b67_exec.proofs.Through.{pair_through, straight_made, each_as}
 use Rattle.b67_exec.proofs.near.literal_8.Goals as goal
 
 pub behind-requires-2-clause-stands : goal.behind-requires-2-clause-stands
 behind-requires-2-clause-stands c = (0 + 1, c.in-Some.ensures 0 c.requires.stands)
-
-pub place-requires : goal.place-requires
-place-requires c = left_fits c.args.cpu.now c.in-Some-behind.next (0 + 1 + 1) c.requires.runs (c.in-Some-behind.ensures (0 + 1) (c.in-Some.ensures 0 c.requires.stands))
 
 pub returns : goal.returns
 returns c =

@@ -1,13 +1,9 @@
-use Rattle.std.proofs.Common.{◌+◌}
 use Rattle.b67_model.specs.declared.operators.Op.TheVariants.{Plain}
 use Rattle.b67_model.specs.Common.{on_cells, on_two}
 use Rattle.b67_arith.specs.Numerics.{of_numbers}
 use Rattle.b67_exec.specs.Near.{code_of_numbers, reader_place}
-use Rattle.b67_exec.proofs.Through.{lone_through, straight_made, each_as, left_fits, numbers_row, numbers_straight}
+use Rattle.b67_exec.proofs.Through.{lone_through, straight_made, each_as, numbers_row, numbers_straight}
 use Rattle.b67_exec.proofs.near.numbers.Goals as goal
-
-pub place-requires : goal.place-requires
-place-requires c = left_fits c.args.cpu.now c.in-Some.next (0 + 1) c.requires.runs (c.in-Some.ensures 0 c.requires.stands)
 
 pub returns : goal.returns
 returns c =

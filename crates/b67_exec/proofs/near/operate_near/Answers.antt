@@ -184,5 +184,5 @@ returns-in-Exit c =
 
 pub returns-in-Retn : goal.returns-in-Retn
 returns-in-Retn c =
-    left_made c.args.cpu.now c.returns.new.cpu c.args.reader.now codes.Retn c.returns.result c.requires.stands
-    (form_is c.near_of.result nears.Retn c.first.result (c.args.reader.now.bits / 2 ^ 56) (Alone codes.Retn) c.near_of.ensures.form c.first.ensures c.in-Retn.is refl) refl c.returns.ensures
+    left_made c.args.cpu.now c.exits-in-Retn.new.cpu c.args.reader.now codes.Retn c.exits-in-Retn.result c.requires.stands
+    (form_is c.near_of.result nears.Retn c.first.result (c.args.reader.now.bits / 2 ^ 56) (Alone codes.Retn) c.near_of.ensures.form c.first.ensures c.in-Retn.is refl) refl c.exits-in-Retn.ensures

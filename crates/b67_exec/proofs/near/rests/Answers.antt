@@ -1,12 +1,9 @@
-use Rattle.std.proofs.Common.{◌+◌, None}
+use Rattle.std.proofs.Common.{None}
 use Rattle.b67_model.specs.declared.operators.Op.TheVariants.{Plain}
 use Rattle.b67_model.specs.Common.{leaves_cells, cells_of}
 use Rattle.b67_exec.specs.Near.{resting_code, reader_place}
-use Rattle.b67_exec.proofs.Through.{lone_through, straight_made, each_as, left_fits, resting_row, resting_straight}
+use Rattle.b67_exec.proofs.Through.{lone_through, straight_made, each_as, resting_row, resting_straight}
 use Rattle.b67_exec.proofs.near.rests.Goals as goal
-
-pub place-requires : goal.place-requires
-place-requires c = left_fits c.args.cpu.now c.in-Some.next (0 + 1) c.requires.runs (c.in-Some.ensures 0 c.requires.stands)
 
 pub returns : goal.returns
 returns c =

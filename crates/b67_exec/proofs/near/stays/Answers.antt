@@ -1,11 +1,8 @@
-use Rattle.std.proofs.Common.{◌+◌, refl}
+use Rattle.std.proofs.Common.{refl}
 use Rattle.b67_model.specs.declared.operators.Op.TheVariants.{Plain}
-use Rattle.b67_exec.proofs.Through.{lone_through, left_fits}
+use Rattle.b67_exec.proofs.Through.{lone_through}
 use Rattle.b67_exec.proofs.Mades.{on_made, on_rest, behind_stays}
 use Rattle.b67_exec.proofs.near.stays.Goals as goal
-
-pub place-requires : goal.place-requires
-place-requires c = left_fits c.args.cpu.now c.in-Some.next (0 + 1) c.requires.runs (c.in-Some.ensures 0 c.requires.stands)
 
 pub returns-then-not-makes_behind : goal.returns-then-not-makes_behind
 returns-then-not-makes_behind c = (on_rest (Plain c.args.code) c.place.result c.args.cpu.now c.makes_behind.new.cpu c.makes_behind.result c.if-not-makes_behind.true c.makes_behind.ensures, refl)

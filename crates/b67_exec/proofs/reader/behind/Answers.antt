@@ -4,11 +4,11 @@ use Rattle.b67_exec_cells.proofs.Codes.{short}
 use Rattle.b67_exec.proofs.Readers.{words-are, stepped, crossed}
 use Rattle.b67_exec.proofs.reader.behind.Goals as goal
 
-pub returns-then-r-gt1 : goal.returns-then-r-gt1
-returns-then-r-gt1 c = λ n b. record {
+pub returns-then-r-lt5 : goal.returns-then-r-lt5
+returns-then-r-lt5 c = λ n b. record {
   code = b.code;
   in_word = b.in_word;
-  at = λ x plan s m t ordered h runs. stepped c.args.r (code_of m.constants t.segment) (count_at t.place + n) (b.at x plan s m t ordered h runs) c.if-r-gt1.true (count_at t.place + (n + 1)) (omega arith);
+  at = λ x plan s m t ordered h runs. stepped c.args.r (code_of m.constants t.segment) (count_at t.place + n) (b.at x plan s m t ordered h runs) c.if-r-lt5.true (count_at t.place + (n + 1)) (omega arith);
 }
 
 pub overflow_add-word : goal.overflow_add-word
@@ -25,6 +25,6 @@ returns c = λ n b. record {
   in_word = b.in_word;
   at = λ x plan s m t ordered h runs.
       let same = words-are x c.args.cpu.now plan s m t ordered h runs c.args.r.code (b.code x plan s m t ordered h runs) in
-      crossed c.args.r (code_of m.constants t.segment) (count_at t.place + n) (b.at x plan s m t ordered h runs) (omega (arith, c.if-r-gt1.false)) (omega (arith, same, c.if-from-r.false, c.from.ensures))
+      crossed c.args.r (code_of m.constants t.segment) (count_at t.place + n) (b.at x plan s m t ordered h runs) (omega (arith, c.if-r-lt5.false)) (omega (arith, same, c.if-from-r.false, c.from.ensures))
       c.loaded.result (c.loaded.ensures x plan s m t ordered h runs) c.loaded.type_inv (count_at t.place + (n + 1)) (omega arith);
 }
