@@ -1,4 +1,4 @@
-use Rattle.std.proofs.Common.{◌+◌, refl}
+use Rattle.std.proofs.Common.{refl}
 use Rattle.b67_model.specs.declared.operators.Op.TheVariants.{Plain}
 use Rattle.b67_exec.proofs.Through.{lone_through}
 use Rattle.b67_exec.proofs.Mades.{on_made, on_rest, top_stays}

@@ -1,4 +1,3 @@
-use Rattle.std.proofs.Common.{◌+◌}
 use Rattle.b67_model.specs.declared.operators.Op.TheVariants.{Plain}
 use Rattle.b67_exec.proofs.Through.{lone_through}
 use Rattle.b67_exec.proofs.Mades.{went_made, entering_stays}

@@ -1,4 +1,3 @@
-use Rattle.std.proofs.Common.{◌+◌}
 use Rattle.b67_model.specs.declared.operators.Op.TheVariants.{Plain}
 use Rattle.b67_model.specs.Common.{on_cells, on_two}
 use Rattle.b67_arith.specs.Numerics.{of_numbers}

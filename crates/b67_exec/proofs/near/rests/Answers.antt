@@ -1,4 +1,4 @@
-use Rattle.std.proofs.Common.{◌+◌, None}
+use Rattle.std.proofs.Common.{None}
 use Rattle.b67_model.specs.declared.operators.Op.TheVariants.{Plain}
 use Rattle.b67_model.specs.Common.{leaves_cells, cells_of}
 use Rattle.b67_exec.specs.Near.{resting_code, reader_place}
