@@ -226,42 +226,55 @@ fn far(cpu: &mut Cpu, op: Op, next: Place) -> Step
 
 /// An operator, after which the task goes on at `next`.
 #[inline(always)]
-fn perform(cpu: &mut Cpu, op: Op, next: Place) -> Executed
+fn perform(cpu: &mut Cpu, op: Op, next: Place) -> Performed
     requires runs { RunsSome cpu.old }
     requires parameters { ParametersHaveBits op }
     requires next { IsPlace next }
     ensures row { ForEach cpu.old (λ x plan s m t. CallsOrMeets x plan s m result.step cpu.old cpu.new (called op (here m t next)) (row op (here m t next))) }
     ensures left { result.left ≡ is_leaving op }
     ensures cuts { result.left ≡ true → result.step ≡ Done → CutsRecord cpu.old cpu.new }
+    ensures near { result.near ≡ true → is_far op ≡ false }
 {
     if is_far(op) {
         let step = far(cpu, op, next);
-        return Executed {
+        return Performed {
             step,
             left: leaves(op),
+            near: false,
         };
     }
-    Executed {
+    Performed {
         step: stay(cpu, op, next),
         left: false,
+        near: true,
     }
 }
 
+/// As `Executed`, and whether the operator is near: if so, the running segment and its descriptor are as they were.
+#[derive(Clone, Copy, Debug, PartialEq, Eq)]
+pub struct Performed {
+    pub step: Step,
+    pub left: bool,
+    pub near: bool,
+}
+
 /// Executes the operator at the running place, as `operate`, where the running segment is present and this is its
-/// descriptor.
+/// descriptor. `near` is whether the segment still runs, with this descriptor.
 #[inline(always)]
-pub fn operate_in(cpu: &mut Cpu, desc: SegDesc) -> Executed
+pub fn operate_in(cpu: &mut Cpu, desc: SegDesc) -> Performed
     requires runs { RunsSome cpu.old }
     requires code { HoldsCode cpu.old desc }
     ensures row { ForEach cpu.old (λ x plan s m t. OperatorMeets x plan s m t result.step cpu.old cpu.new) }
     ensures left { ForEach cpu.old (λ x plan s m t. code_area x plan m t ≢ None → result.left ≡ leaves_record (reading_of m.constants t)) }
     ensures cuts { result.left ≡ true → result.step ≡ Done → CutsRecord cpu.old cpu.new }
+    ensures code { result.near ≡ true → HoldsCode cpu.new desc }
 {
     match read_in(cpu, desc) {
         Ok((op, next)) => perform(cpu, op, next),
-        Err(_) => Executed {
+        Err(_) => Performed {
             step: Step::Fault(Fault::InvalidOperator),
             left: false,
+            near: true,
         },
     }
 }
@@ -287,7 +300,11 @@ pub fn operate(cpu: &mut Cpu) -> Executed
             };
         }
     };
-    operate_in(cpu, desc)
+    let made = operate_in(cpu, desc);
+    Executed {
+        step: made.step,
+        left: made.left,
+    }
 }
 
 /// Executes the operator at the running place.

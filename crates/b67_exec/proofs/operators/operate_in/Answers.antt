@@ -1,6 +1,7 @@
 use Rattle.std.proofs.Common.{refl, sym, ap, ◌∙◌, Ok, Err}
 use Rattle.b67_layout.proofs.Fresh.{running_in_order}
 use Rattle.b67_exec.specs.Operators.{leaves_record}
+use Rattle.b67_exec.proofs.Nears.{code_after}
 use Rattle.b67_exec.proofs.Readings.{read_fits, operator_read}
 use Rattle.b67_exec.proofs.operators.operate_in.Goals as goal
 
@@ -38,3 +39,6 @@ returns-in-Err-clause-left c = λ x plan s m t ordered h runs code.
 
 pub read_in-requires-clause-segment : goal.read_in-requires-clause-segment
 read_in-requires-clause-segment c = c.requires.code
+
+pub returns-in-Ok-clause-code : goal.returns-in-Ok-clause-code
+returns-in-Ok-clause-code c = λ near. code_after c.args.cpu.now c.perform.new.cpu c.args.desc c.requires.runs c.in-Ok.op c.in-Ok.next c.perform.result.step (c.perform.ensures.near near) c.requires.code c.perform.ensures.row
