@@ -51,7 +51,7 @@ module _ (old : Machine) (new : Cpu) (high : ℕ) (made : LeftMade old.cpu new h
       × IsLeft left x new plan s (new.regs.s + 1) high × RepresentsStorage old.areas old.sectors told new.core x
   left_asks r =
       let P : ℕ → Type 0 = λ n. (left : List PagedObject) × (x : Storage) × (told : Option (List (List ℕ))) × (plan : Placement) × (s : Session)
-          × IsLeft left x new plan s (new.regs.s + 1) n × RepresentsStorage old.areas old.sectors told new.core x in
+      × IsLeft left x new plan s (new.regs.s + 1) n × RepresentsStorage old.areas old.sectors told new.core x in
       subst P (sym made.upto) (asks old new Done true made.row lefts cuts refl refl r)
 
   pub left_in_turn : RunsTask old → new.regs.s + 1 ≤ high
