@@ -15,7 +15,7 @@ use Rattle.b67_stack.proofs.Heights.{words-length}
 use Rattle.b67_stack.proofs.Tops.{level-small, mark-fits, mark_high, top_size-high}
 use Rattle.b67_layout.specs.Common.{Placement, Slotted, slot_of, spot_in, outer_spots, shape, head, activations, stack_of_task, slot_with, slot_in, slot_by, slot_at, machine_view, RowsFit, with_objects}
 use Rattle.b67_layout.proofs.Common.{finds, task_row, height-is}
-use Rattle.b67_refer.specs.RunningContext.{LiveContext, HasSlot}
+use Rattle.b67_refer.specs.RunningContext.{LiveContext, RunsInSlot}
 use Rattle.b67_refer.specs.LiveCells.{IsTop}
 use Rattle.b67_lemmas.proofs.Members.{keyed_has}
 
@@ -139,7 +139,7 @@ module _ (core : List Tagged) (r : Regs) (a : LiveContext core r) where
       let here : slot_at a.plan a.session.jobs k ≡ Running stack = s.1 ∙ ap (λ (b : Bool). if b then Running stack else Waiting stack) runs in
       subst S here (a.holds.memory.slots.slots k s.0)
 
-  pub has_slot : HasSlot r
+  pub has_slot : RunsInSlot r
   has_slot =
       let g = registers in
       let k = slot_of a.plan a.member.constants.number a.runner.number in

@@ -44,7 +44,7 @@ pub record LiveContext (core : List Tagged) (r : Regs) : Type 0 where
   pub running : IsRunning plan session.jobs member runner
 
 -- the running task's slot is one of the slots, which follow each other
-pub record HasSlot (r : Regs) : Type 0 where
+pub record RunsInSlot (r : Regs) : Type 0 where
   pub first : r.bosr ≡ r.stacks + r.slot * r.stack_size
   pub last : r.losr + 1 ≡ r.bosr + r.stack_size
   pub some : 0 < r.stack_size

@@ -1,7 +1,7 @@
 //! The slot in which an address lies.
 
 ghost use Rattle.std.specs.Prelude.{◌≡◌, ◌+◌, ◌*◌, ◌<◌, ◌≤◌};
-ghost use Rattle.b67_refer.specs.RunningContext.{HasSlot};
+ghost use Rattle.b67_refer.specs.RunningContext.{RunsInSlot};
 
 use b67_ctl::Regs;
 
@@ -15,7 +15,7 @@ pub struct Spot {
 /// The slot in which an address lies, and its displacement there. It divides only if that isn't the running task's slot.
 #[inline(always)]
 pub fn spot_of(regs: &Regs, at: u32) -> Spot
-    requires slot { HasSlot regs.now }
+    requires slot { RunsInSlot regs.now }
     requires above { regs.now.stacks ≤ at }
     ensures at { regs.now.stacks + result.slot * regs.now.stack_size + result.disp ≡ at }
     ensures low { result.disp < regs.now.stack_size }

@@ -1,4 +1,4 @@
-use Rattle.std.proofs.Common.{◌+◌, ℕ, sym, ◌∙◌, ap, arith, refl}
+use Rattle.std.proofs.Common.{◌+◌, ℕ, sym, ◌∙◌, ap, arith}
 use Rattle.std.specs.List.{slice_get}
 use Rattle.b67_fetch.proofs.Spots.{at_mcp, vector_inside, job_is, at_dictionary, in_slots, in_slot, slot_spot}
 use Rattle.b67_refer.specs.RunningContext.{live_of}

@@ -1,5 +1,4 @@
 use Rattle.std.proofs.Common.{◌≡◌, ◌≢◌, ◌<◌, ◌+◌, ◌-◌, refl, ◌∙◌, arith}
-use Rattle.std.proofs.lemmas.Bool.{not-false}
 use Rattle.b67_exec.specs.declared.far.Went.TheVariants as wents
 use Rattle.b67_exec.proofs.Dones.{done_is, done_not}
 use Rattle.b67_session.proofs.Going.{keeps_on}
@@ -40,8 +39,8 @@ make_near-requires-clause-runs c =
 pub make_near-requires-clause-stands : goal.make_near-requires-clause-stands
 make_near-requires-clause-stands c = c.operator.invariant.stands
 
-pub operator-preserved-in-On : goal.operator-preserved-in-On
-operator-preserved-in-On c =
+pub operator-preserved : goal.operator-preserved
+operator-preserved c =
     let other : c.make_near.result ≢ wents.Not = λ e. let is = c.in-On.is in let z : ⊥ = cc in z in
     record {
       few = omega (arith, c.operator.invariant.few);
@@ -72,8 +71,10 @@ pub make_apart-requires : goal.make_apart-requires
 make_apart-requires c =
     let q = c.requires in
     let done = q.steps + (c.args.most - c.operator.room) in
-    turn_runs q.said done c.operator.room q.first q.core c.make_near.new.machine
-    (turn_same q.said done c.operator.room q.first q.core c.operator.machine c.make_near.new.machine (c.make_near.ensures.rest c.in-Not.is) (c.operator.invariant.turn q.said q.steps q.core q.first q.size q.turn)) (omega (arith, c.operator-test.true))
+    record {
+      runs = turn_runs q.said done c.operator.room q.first q.core c.make_near.new.machine
+          (turn_same q.said done c.operator.room q.first q.core c.operator.machine c.make_near.new.machine (c.make_near.ensures.rest c.in-Not.is) (c.operator.invariant.turn q.said q.steps q.core q.first q.size q.turn)) (omega (arith, c.operator-test.true));
+    }
 
 pub returns-then-not-make_apart : goal.returns-then-not-make_apart
 returns-then-not-make_apart c =
@@ -101,7 +102,7 @@ returns-in-operator c =
       some = λ e. omega (arith, c.operator.invariant.few, c.operator-test.true);
       row = λ said steps core s size h.
           turn_next said steps c.args.most c.operator.room s core c.operator.machine c.make_near.new.machine c.make_apart.new.machine c.operator-test.true c.operator.invariant.few (c.make_near.ensures.rest c.in-Not.is) (c.operator.invariant.keeps.core ∙ size) (c.operator.invariant.turn said steps core s size h)
-          (done_row c.make_near.new.machine c.make_apart.new.machine step (done_is step c.make_apart.result says (not-false _ c.if-not-make_apart.false)) each);
+          (done_row c.make_near.new.machine c.make_apart.new.machine step (done_is step c.make_apart.result says c.if-not-make_apart.false) each);
       tables = c.make_apart.ensures.tasks ∙ c.make_near.ensures.tasks ∙ c.operator.invariant.tables;
       keeps = keeps_on c.args.machine.now c.make_near.new.machine c.make_apart.new.machine (keeps_on c.args.machine.now c.operator.machine c.make_near.new.machine c.operator.invariant.keeps c.make_near.ensures.keeps) c.make_apart.ensures.keeps;
     }
