@@ -22,6 +22,18 @@ pub fn count_cells(cpu: &Cpu) -> u32
     cpu.regs.s - cpu.regs.f - u32::from(entered)
 }
 
+/// Whether the top activation record has as many cells. Only where it has just as many, or too few, is its mark read.
+#[inline]
+fn has_cells(cpu: &Cpu, count: u32) -> bool
+    requires { RunsSome cpu.now }
+    ensures { ForEach cpu.now (λ x plan s m t. result ≡ nat_le count (length (cells_of t))) }
+{
+    if cpu.regs.s - cpu.regs.f > count {
+        return true;
+    }
+    count_cells(cpu) >= count
+}
+
 /// The top cell. STACK UNDERFLOW if the top activation record has none.
 #[inline(always)]
 pub fn top_cell(cpu: &Cpu) -> Result<Word, Fault>
@@ -29,7 +41,7 @@ pub fn top_cell(cpu: &Cpu) -> Result<Word, Fault>
     ensures cell { ForEach cpu.now (λ x plan s m t. GivesTop x plan m t cpu.now (cells_of t) result) }
     ensures above { OnOk result (cpu.now.regs.f + 1 ≤ cpu.now.regs.s) }
 {
-    if count_cells(cpu) < 1 {
+    if !has_cells(cpu, 1) {
         return Err(Fault::StackUnderflow);
     }
     Ok(cpu.core.get(cpu.regs.s))
@@ -42,10 +54,19 @@ pub fn two_cells(cpu: &Cpu) -> Result<(Word, Word), Fault>
     ensures cells { ForEach cpu.now (λ x plan s m t. GivesTwo x plan m t cpu.now (cells_of t) result) }
     ensures above { OnOk result (cpu.now.regs.f + 2 ≤ cpu.now.regs.s) }
 {
-    if count_cells(cpu) < 2 {
+    if !has_cells(cpu, 2) {
         return Err(Fault::StackUnderflow);
     }
     Ok((cpu.core.get(cpu.regs.s - 1), cpu.core.get(cpu.regs.s)))
+}
+
+/// Writes the running place field by field, without the byte that fills it up.
+#[inline(always)]
+pub(crate) fn go_on_at(cpu: &mut Cpu, next: Place)
+    ensures { cpu.new ≡ record cpu.old { regs = record cpu.old.regs { place = next } } }
+{
+    cpu.regs.place.word = next.word;
+    cpu.regs.place.syllable = next.syllable;
 }
 
 /// Takes the `count` top cells off, and goes on at `next`.
@@ -57,7 +78,7 @@ pub fn drop_cells(cpu: &mut Cpu, count: u32, next: Place)
         → NoOriginals gone → IsMade x plan s m cpu.old cpu.new (leaves_cells (here m t next) rest None)) }
 {
     cpu.regs.s -= count;
-    cpu.regs.place = next;
+    go_on_at(cpu, next);
 }
 
 /// Puts a word in the place of the `count` top cells, and goes on at `next`. STACK OVERFLOW if the stack would be
@@ -76,6 +97,6 @@ pub fn replace_cells(cpu: &mut Cpu, count: u32, w: Word, next: Place) -> Step
     }
     cpu.core.set(at, w);
     cpu.regs.s = at;
-    cpu.regs.place = next;
+    go_on_at(cpu, next);
     Step::Done
 }

@@ -10,7 +10,7 @@ ghost use Rattle.b67_layout.specs.Placement.{Placement};
 ghost use Rattle.b67_layout.specs.Meets.{here, Meets, RunsSome, ForEach};
 ghost use Rattle.b67_layout.specs.Tops.{IsWordOf};
 
-use crate::cells::{drop_cells, replace_cells, top_cell, two_cells};
+use crate::cells::{drop_cells, go_on_at, replace_cells, top_cell, two_cells};
 use b67_ctl::DataDesc;
 use b67_stack::{Cpu, Step};
 use b67_word::{Fault, Place, Word};
@@ -55,7 +55,7 @@ pub fn exch(cpu: &mut Cpu, next: Place) -> Step
     }
     cpu.core.set(cpu.regs.s - 1, b);
     cpu.core.set(cpu.regs.s, a);
-    cpu.regs.place = next;
+    go_on_at(cpu, next);
     Step::Done
 }
 
