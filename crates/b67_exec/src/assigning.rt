@@ -41,7 +41,7 @@ fn enter_under(cpu: &mut Cpu, lower: Word, upper: Word) -> Step
 
 /// Enters the procedure to which one of the two top cells leads; the other one, a value, stays.
 #[inline(always)]
-fn enter(cpu: &mut Cpu) -> Step
+pub(crate) fn enter(cpu: &mut Cpu) -> Step
     requires { StoresInProc cpu.old }
     ensures row { ForEach cpu.old (λ x plan s m t. (q : Place) (keeps : Bool) → enters_at (store_end (here m t q) (cells t)) ≡ true → Meets x plan s m result cpu.old cpu.new (rows.store keeps (here m t q) (cells t))) }
 {

@@ -11,11 +11,14 @@ ghost use Rattle.b67_entry.specs.Procedures.{CallsOrMeets};
 ghost use Rattle.b67_exec.specs.Operators.{ParametersHaveBits, goes_far, is_far};
 ghost use Rattle.b67_exec.specs.Near.{SaysDone, ReaderBehind, WentFar};
 
-use crate::evaluating::evaluate;
-use crate::near::read_far;
-use crate::operators::{far_plain, is_far, leaves};
-use crate::reader::{Reader, place};
-use b67_model::{Code, Op};
+use crate::assigning::enter;
+use crate::evaluating::enter_in_place;
+use crate::operators::far_plain;
+use b67_ctl::Irw;
+use b67_entry::{accident, entr, exit, retn};
+use b67_fetch::{indx, nxlv, stff, value};
+use b67_model::Code;
+use b67_refer::{End, chase};
 use b67_stack::{Cpu, Step};
 use b67_word::Place;
 
@@ -40,7 +43,7 @@ fn is_done(step: Step) -> bool
 
 /// Executes a far operator without parameters, and says whether its answer is `Done`. Else nothing is changed.
 #[inline(never)]
-fn makes_plain(cpu: &mut Cpu, code: Code, next: Place) -> bool
+pub(crate) fn makes_plain(cpu: &mut Cpu, code: Code, next: Place) -> bool
     requires runs { RunsSome cpu.old }
     requires far { goes_far code ≡ true }
     requires next { IsPlace next }
@@ -51,64 +54,90 @@ fn makes_plain(cpu: &mut Cpu, code: Code, next: Place) -> bool
     is_done(step)
 }
 
-/// Executes VALC, and says whether its answer is `Done`. Else nothing is changed.
+/// INDX.
 #[inline(never)]
-fn makes_valc(cpu: &mut Cpu, couple: u16, next: Place) -> bool
-    requires runs { RunsSome cpu.old }
-    requires couple { couple < 2 ^ 14 }
-    requires next { IsPlace next }
-    ensures row { result ≡ true → ForEach cpu.old (λ x plan s m t. Meets x plan s m Done cpu.old cpu.new (valc_row (here m t next) couple)) }
-    ensures rest { result ≡ false → cpu.new ≡ cpu.old }
-{
-    let step = evaluate(cpu, couple, next);
-    is_done(step)
+pub(crate) fn makes_indx(cpu: &mut Cpu, next: Place) -> bool {
+    is_done(indx(cpu, next))
 }
 
-/// Executes a far operator without parameters or VALC, and says whether its answer is `Done`. Else nothing is changed.
-#[inline(always)]
-fn makes(cpu: &mut Cpu, op: Op, next: Place) -> bool
-    requires runs { RunsSome cpu.old }
-    requires far { is_far op ≡ true }
-    requires parameters { ParametersHaveBits op }
-    requires next { IsPlace next }
-    ensures row { result ≡ true → ForEach cpu.old (λ x plan s m t. CallsOrMeets x plan s m Done cpu.old cpu.new (called op (here m t next)) (row op (here m t next))) }
-    ensures rest { result ≡ false → cpu.new ≡ cpu.old }
-{
-    match op {
-        Op::Plain(code) => makes_plain(cpu, code, next),
-        Op::Valc(couple) => makes_valc(cpu, couple, next),
-        _ => false,
-    }
+/// NXLV.
+#[inline(never)]
+pub(crate) fn makes_nxlv(cpu: &mut Cpu, next: Place) -> bool {
+    is_done(nxlv(cpu, next))
 }
 
-/// Executes the operator at the running place, at which the reader stands, if it is far, leaves no activation record and its
-/// answer is `Done`. Where the task goes on behind it, in the segment, the reader then stands there. At `Not` nothing is changed.
+/// STFF.
+#[inline(never)]
+pub(crate) fn makes_stff(cpu: &mut Cpu, next: Place) -> bool {
+    is_done(stff(cpu, next))
+}
+
+/// ENTR.
+#[inline(never)]
+pub(crate) fn makes_entr(cpu: &mut Cpu, next: Place) -> bool {
+    is_done(entr(cpu, next))
+}
+
+/// EXIT.
+#[inline(never)]
+pub(crate) fn makes_exit(cpu: &mut Cpu) -> bool {
+    is_done(exit(cpu))
+}
+
+/// RETN.
+#[inline(never)]
+pub(crate) fn makes_retn(cpu: &mut Cpu) -> bool {
+    is_done(retn(cpu))
+}
+
+/// Where a procedure was entered.
 #[inline(always)]
-pub fn operate_far(cpu: &mut Cpu, reader: &mut Reader) -> Went
-    requires runs { RunsSome cpu.old }
-    requires stands { ReaderBehind cpu.old reader.old 0 }
-    ensures { WentFar cpu.old reader.old result cpu.new reader.new }
-{
-    let (op, next) = match read_far(cpu, *reader) {
-        Some(read) => read,
-        None => return Went::Not,
+pub(crate) fn entered(step: Step) -> Went {
+    if is_done(step) { Went::Away } else { Went::Not }
+}
+
+/// Where the task goes on behind the operator.
+#[inline(always)]
+pub(crate) fn stayed(step: Step) -> Went {
+    if is_done(step) { Went::On } else { Went::Not }
+}
+
+/// VALC.
+#[inline(never)]
+pub(crate) fn makes_valc(cpu: &mut Cpu, couple: u16, next: Place) -> Went {
+    let end = match chase(&cpu.core, &cpu.regs, &cpu.display, Irw { couple }.word()) {
+        Ok(end) => end,
+        Err(_) => return Went::Not,
     };
-    if leaves(op) || !is_far(op) {
-        return Went::Not;
+    match end {
+        End::Proc(cell) => entered(accident(cpu, cell, true, next)),
+        _ => stayed(value(cpu, 0, end, next)),
     }
-    let dict = cpu.regs.dict;
-    let segment = cpu.regs.segment;
-    let to = place(next);
-    if !makes(cpu, op, to) {
-        return Went::Not;
+}
+
+/// LOAD.
+#[inline(never)]
+pub(crate) fn makes_load(cpu: &mut Cpu, next: Place) -> Went {
+    match b67_fetch::load(cpu, next) {
+        Step::Call(_) => entered(enter_in_place(cpu)),
+        step => stayed(step),
     }
-    let now = cpu.regs.place;
-    if cpu.regs.dict != dict || cpu.regs.segment != segment {
-        return Went::Away;
+}
+
+/// STOD.
+#[inline(never)]
+pub(crate) fn makes_stod(cpu: &mut Cpu, next: Place) -> Went {
+    match b67_fetch::stod(cpu, next) {
+        Step::Call(_) => entered(enter(cpu)),
+        step => stayed(step),
     }
-    if now.word != to.word || now.syllable != to.syllable {
-        return Went::Away;
+}
+
+/// STON.
+#[inline(never)]
+pub(crate) fn makes_ston(cpu: &mut Cpu, next: Place) -> Went {
+    match b67_fetch::ston(cpu, next) {
+        Step::Call(_) => entered(enter(cpu)),
+        step => stayed(step),
     }
-    *reader = next;
-    Went::On
 }

@@ -7,13 +7,18 @@ ghost use Rattle.b67_model.specs.Operators.{form_of, Alone, OneMore, branch};
 ghost use Rattle.b67_layout.specs.Meets.{RunsSome};
 ghost use Rattle.b67_exec.specs.Near.{ReaderBehind, ReadsThrough, WentOn, MadeNear, code_of_numbers, resting_code, branch_op};
 
+use crate::far::{
+    Went, makes_entr, makes_exit, makes_indx, makes_load, makes_nxlv, makes_plain, makes_retn,
+    makes_stff, makes_stod, makes_ston, makes_valc,
+};
 use crate::firsts::{Near, near_of};
 use crate::reader::{Reader, behind, first, place, reader_to};
 use b67_arith::Numeric;
 use b67_exec_cells::{
     branch_to, dlet, drop_cells, dupl, exch, literal, namc, on_numbers, top_cell,
 };
-use b67_model::Op;
+use b67_entry::mkst;
+use b67_model::Code;
 use b67_stack::{Cpu, Step};
 use b67_word::Place;
 
@@ -269,61 +274,220 @@ fn branches(cpu: &mut Cpu, reader: &mut Reader, wanted: bool) -> bool
     true
 }
 
-/// Executes the operator at the running place, at which the reader stands, if it is near and its answer is `Done`: the reader
-/// then stands at the new place. Else nothing is changed, and the answer is false.
+/// A far operator that goes on behind itself, without parameters.
 #[inline(always)]
-pub fn operate_near(cpu: &mut Cpu, reader: &mut Reader) -> bool
+fn stays_plain(cpu: &mut Cpu, reader: &mut Reader, code: Code) -> bool {
+    let next = match behind(cpu, *reader) {
+        Some(next) => next,
+        None => return false,
+    };
+    if !makes_plain(cpu, code, place(next)) {
+        return false;
+    }
+    *reader = next;
+    true
+}
+
+/// INDX.
+#[inline(always)]
+fn indexes(cpu: &mut Cpu, reader: &mut Reader) -> bool {
+    let next = match behind(cpu, *reader) {
+        Some(next) => next,
+        None => return false,
+    };
+    if !makes_indx(cpu, place(next)) {
+        return false;
+    }
+    *reader = next;
+    true
+}
+
+/// NXLV.
+#[inline(always)]
+fn takes_element(cpu: &mut Cpu, reader: &mut Reader) -> bool {
+    let next = match behind(cpu, *reader) {
+        Some(next) => next,
+        None => return false,
+    };
+    if !makes_nxlv(cpu, place(next)) {
+        return false;
+    }
+    *reader = next;
+    true
+}
+
+/// MKST.
+#[inline(always)]
+fn marks(cpu: &mut Cpu, reader: &mut Reader) -> bool {
+    let next = match behind(cpu, *reader) {
+        Some(next) => next,
+        None => return false,
+    };
+    let step = mkst(cpu, place(next));
+    went_on(step, reader, next)
+}
+
+/// STFF.
+#[inline(always)]
+fn stuffs(cpu: &mut Cpu, reader: &mut Reader) -> bool {
+    let next = match behind(cpu, *reader) {
+        Some(next) => next,
+        None => return false,
+    };
+    if !makes_stff(cpu, place(next)) {
+        return false;
+    }
+    *reader = next;
+    true
+}
+
+/// Where a made operator leads.
+#[inline(always)]
+fn went(went: Went, reader: &mut Reader, next: Reader) -> Made {
+    match went {
+        Went::On => {
+            *reader = next;
+            Made::On
+        }
+        Went::Away => Made::Away,
+        Went::Not => Made::Not,
+    }
+}
+
+/// STOD, or STON.
+#[inline(always)]
+fn stores(cpu: &mut Cpu, reader: &mut Reader, keeps: bool) -> Made {
+    let next = match behind(cpu, *reader) {
+        Some(next) => next,
+        None => return Made::Not,
+    };
+    let made = if keeps {
+        makes_ston(cpu, place(next))
+    } else {
+        makes_stod(cpu, place(next))
+    };
+    went(made, reader, next)
+}
+
+/// LOAD.
+#[inline(always)]
+fn loads(cpu: &mut Cpu, reader: &mut Reader) -> Made {
+    let next = match behind(cpu, *reader) {
+        Some(next) => next,
+        None => return Made::Not,
+    };
+    let made = makes_load(cpu, place(next));
+    went(made, reader, next)
+}
+
+/// VALC.
+#[inline(always)]
+fn evaluates(cpu: &mut Cpu, reader: &mut Reader) -> Made {
+    let second = match behind(cpu, *reader) {
+        Some(second) => second,
+        None => return Made::Not,
+    };
+    let next = match behind(cpu, second) {
+        Some(next) => next,
+        None => return Made::Not,
+    };
+    let made = makes_valc(cpu, couple(first(*reader), first(second)), place(next));
+    went(made, reader, next)
+}
+
+/// ENTR.
+#[inline(always)]
+fn enters(cpu: &mut Cpu, reader: Reader) -> Made {
+    let next = match behind(cpu, reader) {
+        Some(next) => next,
+        None => return Made::Not,
+    };
+    if makes_entr(cpu, place(next)) {
+        Made::Away
+    } else {
+        Made::Not
+    }
+}
+
+/// EXIT.
+#[inline(always)]
+fn exits(cpu: &mut Cpu) -> Made {
+    let upto = cpu.regs.s + 1;
+    if makes_exit(cpu) {
+        Made::Left(upto)
+    } else {
+        Made::Not
+    }
+}
+
+/// RETN.
+#[inline(always)]
+fn returns(cpu: &mut Cpu) -> Made {
+    let upto = cpu.regs.s + 1;
+    if makes_retn(cpu) {
+        Made::Left(upto)
+    } else {
+        Made::Not
+    }
+}
+
+/// What became of an operator: it was made, and its task goes on behind it in the segment, or elsewhere, or elsewhere with the
+/// activation record left whose words go up to an address; or it wasn't made.
+#[derive(Clone, Copy, Debug, PartialEq, Eq)]
+pub enum Made {
+    On,
+    Away,
+    Left(u32),
+    Not,
+}
+
+/// That an operator was made that goes on behind itself.
+#[inline(always)]
+fn on(made: bool) -> Made {
+    if made { Made::On } else { Made::Not }
+}
+
+/// Executes the operator at the running place, at which the reader stands, if its answer is `Done`. Where the task goes on in the
+/// segment the reader then stands at the new place.
+#[inline(always)]
+pub fn operate_near(cpu: &mut Cpu, reader: &mut Reader) -> Made
     requires runs { RunsSome cpu.old }
     requires stands { ReaderBehind cpu.old reader.old 0 }
     ensures { MadeNear cpu.old reader.old result cpu.new reader.new }
 {
     match near_of(first(*reader)) {
-        Near::Other | Near::Far(_) | Near::Valc => false,
-        Near::Namc => names(cpu, reader),
-        Near::Lt8 => literal_8(cpu, reader),
-        Near::Zero => pushes_zero(cpu, reader),
-        Near::One => pushes_one(cpu, reader),
-        Near::Add => numbers(cpu, reader, Numeric::Add),
-        Near::Subt => numbers(cpu, reader, Numeric::Subt),
-        Near::Less => numbers(cpu, reader, Numeric::Less),
-        Near::Greq => numbers(cpu, reader, Numeric::Greq),
-        Near::Grtr => numbers(cpu, reader, Numeric::Grtr),
-        Near::Lseq => numbers(cpu, reader, Numeric::Lseq),
-        Near::Equl => numbers(cpu, reader, Numeric::Equl),
-        Near::Neql => numbers(cpu, reader, Numeric::Neql),
-        Near::Push => rests(cpu, reader, true),
-        Near::Noop => rests(cpu, reader, false),
-        Near::Dlet => deletes(cpu, reader),
-        Near::Exch => exchanges(cpu, reader),
-        Near::Dupl => doubles(cpu, reader),
-        Near::Brfl => branches(cpu, reader, false),
-        Near::Brtr => branches(cpu, reader, true),
-        Near::Brun => jumps(cpu, reader),
+        Near::Other => Made::Not,
+        Near::Far(code) => on(stays_plain(cpu, reader, code)),
+        Near::Valc => evaluates(cpu, reader),
+        Near::Namc => on(names(cpu, reader)),
+        Near::Lt8 => on(literal_8(cpu, reader)),
+        Near::Zero => on(pushes_zero(cpu, reader)),
+        Near::One => on(pushes_one(cpu, reader)),
+        Near::Add => on(numbers(cpu, reader, Numeric::Add)),
+        Near::Subt => on(numbers(cpu, reader, Numeric::Subt)),
+        Near::Less => on(numbers(cpu, reader, Numeric::Less)),
+        Near::Greq => on(numbers(cpu, reader, Numeric::Greq)),
+        Near::Grtr => on(numbers(cpu, reader, Numeric::Grtr)),
+        Near::Lseq => on(numbers(cpu, reader, Numeric::Lseq)),
+        Near::Equl => on(numbers(cpu, reader, Numeric::Equl)),
+        Near::Neql => on(numbers(cpu, reader, Numeric::Neql)),
+        Near::Push => on(rests(cpu, reader, true)),
+        Near::Noop => on(rests(cpu, reader, false)),
+        Near::Dlet => on(deletes(cpu, reader)),
+        Near::Exch => on(exchanges(cpu, reader)),
+        Near::Dupl => on(doubles(cpu, reader)),
+        Near::Brfl => on(branches(cpu, reader, false)),
+        Near::Brtr => on(branches(cpu, reader, true)),
+        Near::Brun => on(jumps(cpu, reader)),
+        Near::Indx => on(indexes(cpu, reader)),
+        Near::Nxlv => on(takes_element(cpu, reader)),
+        Near::Mkst => on(marks(cpu, reader)),
+        Near::Stff => on(stuffs(cpu, reader)),
+        Near::Stod => stores(cpu, reader, false),
+        Near::Ston => stores(cpu, reader, true),
+        Near::Load => loads(cpu, reader),
+        Near::Entr => enters(cpu, *reader),
+        Near::Exit => exits(cpu),
+        Near::Retn => returns(cpu),
     }
-}
-
-/// A far operator without parameters, or VALC, at the running place, at which the reader stands, and a reader behind it. None for
-/// all else, and at the end of the code.
-#[inline(always)]
-pub(crate) fn read_far(cpu: &Cpu, reader: Reader) -> Option<(Op, Reader)>
-    requires runs { RunsSome cpu.now }
-    requires stands { ReaderBehind cpu.now reader 0 }
-    ensures { IfSome result (λ p. ReadsThrough cpu.now p.0 p.1) }
-{
-    let begins = first(reader);
-    let near = near_of(begins);
-    let next = match behind(cpu, reader) {
-        Some(next) => next,
-        None => return None,
-    };
-    match near {
-        Near::Far(code) => return Some((Op::Plain(code), next)),
-        Near::Valc => {}
-        _ => return None,
-    }
-    let last = match behind(cpu, next) {
-        Some(last) => last,
-        None => return None,
-    };
-    Some((Op::Valc(couple(begins, first(next))), last))
 }

@@ -15,8 +15,6 @@ ghost use Rattle.b67_exec.specs.Near.{HoldsCode, ReaderBehind};
 
 use crate::assigning::{stod, ston};
 use crate::evaluating::{evaluate, load};
-use crate::near::read_far;
-use crate::reader::{Reader, place};
 use b67_arith::Numeric;
 use b67_ctl::SegDesc;
 use b67_entry::{entr, exit, mkst, retn};
@@ -298,7 +296,7 @@ pub fn operate_in(cpu: &mut Cpu, desc: SegDesc) -> Performed
 
 /// `operate_in` behind a call, for what a reader doesn't read.
 #[inline(never)]
-fn operate_apart(cpu: &mut Cpu, desc: SegDesc) -> Performed
+pub fn operate_apart(cpu: &mut Cpu, desc: SegDesc) -> Performed
     requires runs { RunsSome cpu.old }
     requires code { HoldsCode cpu.old desc }
     ensures row { ForEach cpu.old (λ x plan s m t. OperatorMeets x plan s m t result.step cpu.old cpu.new) }
@@ -307,29 +305,6 @@ fn operate_apart(cpu: &mut Cpu, desc: SegDesc) -> Performed
     ensures code { result.near ≡ true → HoldsCode cpu.new desc }
 {
     operate_in(cpu, desc)
-}
-
-/// Executes the operator at the running place, at which the reader stands, as `operate_in`.
-#[inline(always)]
-pub fn operate_at(cpu: &mut Cpu, reader: Reader) -> Performed
-    requires runs { RunsSome cpu.old }
-    requires stands { ReaderBehind cpu.old reader 0 }
-    ensures row { ForEach cpu.old (λ x plan s m t. OperatorMeets x plan s m t result.step cpu.old cpu.new) }
-    ensures left { ForEach cpu.old (λ x plan s m t. code_area x plan m t ≢ None → result.left ≡ leaves_record (reading_of m.constants t)) }
-    ensures cuts { result.left ≡ true → result.step ≡ Done → CutsRecord cpu.old cpu.new }
-    ensures code { result.near ≡ true → HoldsCode cpu.new reader.code }
-{
-    let (op, next) = match read_far(cpu, reader) {
-        Some(read) => read,
-        None => return operate_apart(cpu, reader.code),
-    };
-    if is_far(op) {
-        let step = far(cpu, op, place(next));
-        let left = leaves(op);
-        let near = false;
-        return Performed { step, left, near };
-    }
-    operate_apart(cpu, reader.code)
 }
 
 /// Executes the operator at the running place, as `operator`, and says whether it leaves an activation record.

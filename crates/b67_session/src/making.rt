@@ -3,12 +3,11 @@
 ghost use Rattle.std.specs.Prelude.{◌≡◌, ◌≢◌, true, false};
 ghost use Rattle.b67_stack.specs.declared.Step.TheVariants.{Done};
 ghost use Rattle.b67_exec.specs.Near.{HoldsCode, ReaderBehind};
-ghost use Rattle.b67_exec.specs.declared.far.Went.TheVariants.{Away, Not};
 ghost use Rattle.b67_task_tables.specs.Runs.{RunsTask, Keeps};
 ghost use Rattle.b67_session.specs.Makes.{MakesInSegment, ForEachReady};
 
 use b67_ctl::SegDesc;
-use b67_exec::{Reader, Went, operate_at, operate_far, operate_in, operate_near};
+use b67_exec::{Made, Reader, operate_apart, operate_in, operate_near};
 use b67_exec_cells::present_segment;
 use b67_stack::{Step, What};
 use b67_task_release::release;
@@ -55,49 +54,35 @@ pub fn make_in(machine: &mut Machine, desc: SegDesc) -> Operated
     }
 }
 
-/// Makes the operator at the running place, at which the reader stands, as `make`, if it is near and its answer is `Done`: the
-/// reader then stands at the new place. Else nothing is changed, and the answer is false.
+/// Makes the operator at the running place, at which the reader stands, as `make`, if its answer is `Done`. Where the task goes
+/// on in the segment the reader then stands at the new place. At `Not` nothing is changed.
 #[inline(always)]
-pub fn make_near(machine: &mut Machine, reader: &mut Reader) -> bool
-    requires runs { RunsTask machine.old }
-    requires stands { ReaderBehind machine.old.cpu reader.old 0 }
-    ensures row { result ≡ true → ForEachReady machine.old (λ x told plan s m t. MakesInSegment x told plan s m t Done machine.old machine.new) }
-    ensures rest { result ≡ false → machine.new ≡ machine.old }
-    ensures stands { ReaderBehind machine.new.cpu reader.new 0 }
-    ensures keeps { Keeps machine.old machine.new }
-    ensures tasks { machine.new.tasks ≡ machine.old.tasks }
-{
-    operate_near(&mut machine.cpu, reader)
+pub fn make_near(machine: &mut Machine, reader: &mut Reader) -> Went {
+    match operate_near(&mut machine.cpu, reader) {
+        Made::On => Went::On,
+        Made::Away => Went::Away,
+        Made::Left(high) => {
+            let low = machine.cpu.regs.s + 1;
+            release(machine, low, high);
+            Went::Away
+        }
+        Made::Not => Went::Not,
+    }
 }
 
-/// Makes the operator at the running place, at which the reader stands, as `make`, if it is far, leaves no activation record and
-/// its answer is `Done`. Where the task goes on behind it, in the segment, the reader then stands there. At `Not` nothing is
-/// changed.
-#[inline(always)]
-pub fn make_far(machine: &mut Machine, reader: &mut Reader) -> Went
-    requires runs { RunsTask machine.old }
-    requires stands { ReaderBehind machine.old.cpu reader.old 0 }
-    ensures row { result ≢ Not → ForEachReady machine.old (λ x told plan s m t. MakesInSegment x told plan s m t Done machine.old machine.new) }
-    ensures rest { result ≡ Not → machine.new ≡ machine.old }
-    ensures stands { result ≢ Away → ReaderBehind machine.new.cpu reader.new 0 }
-    ensures keeps { Keeps machine.old machine.new }
-    ensures tasks { machine.new.tasks ≡ machine.old.tasks }
-{
-    operate_far(&mut machine.cpu, reader)
+/// What became of an operator: it was made, and its task goes on in the segment or elsewhere; or it wasn't made.
+#[derive(Clone, Copy, Debug, PartialEq, Eq)]
+pub enum Went {
+    On,
+    Away,
+    Not,
 }
 
-/// Makes the operator at the running place, at which the reader stands, as `make`. `near` is as of `make_in`.
-#[inline(always)]
-pub fn make_at(machine: &mut Machine, reader: Reader) -> Operated
-    requires runs { RunsTask machine.old }
-    requires stands { ReaderBehind machine.old.cpu reader 0 }
-    ensures row { ForEachReady machine.old (λ x told plan s m t. MakesInSegment x told plan s m t result.step machine.old machine.new) }
-    ensures code { result.near ≡ true → HoldsCode machine.new.cpu reader.code }
-    ensures keeps { Keeps machine.old machine.new }
-    ensures tasks { machine.new.tasks ≡ machine.old.tasks }
-{
+/// Makes the operator at the running place, as `make_in`, behind a call.
+#[inline(never)]
+pub fn make_apart(machine: &mut Machine, code: SegDesc) -> Operated {
     let high = machine.cpu.regs.s + 1;
-    let made = operate_at(&mut machine.cpu, reader);
+    let made = operate_apart(&mut machine.cpu, code);
     if !made.left {
         return Operated {
             step: made.step,

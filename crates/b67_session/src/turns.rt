@@ -15,8 +15,8 @@ ghost use Rattle.b67_session.specs.Slices.{StandsAt, Keeps};
 ghost use Rattle.b67_session.specs.Steps.{IsInOrderFor, GoesOnInTurn};
 ghost use Rattle.b67_session.specs.InTurn.{TurnBegins, HasTurnLeft, TurnGoesOn, MadeInTurn};
 
-use crate::making::{make_at, make_far, make_near};
-use b67_exec::{Went, reader_at};
+use crate::making::{Went, make_apart, make_near};
+use b67_exec::reader_at;
 use b67_exec_cells::present_segment;
 use b67_stack::Step;
 use b67_task_switch::{count_turn, switch_to, turn_room};
@@ -74,22 +74,20 @@ fn make_in_segment(machine: &mut Machine, room: u64) -> InSegment
     };
     let mut made = 0;
     'operator: while made < room {
-        if make_near(machine, &mut reader) {
-            made += 1;
-            continue 'operator;
-        }
-        match make_far(machine, &mut reader) {
+        match make_near(machine, &mut reader) {
             Went::On => {
                 made += 1;
                 continue 'operator;
             }
-            Went::Away => return InSegment {
-                made: made + 1,
-                goes: true,
-            },
+            Went::Away => {
+                return InSegment {
+                    made: made + 1,
+                    goes: true,
+                };
+            }
             Went::Not => {}
         }
-        let next = make_at(machine, reader);
+        let next = make_apart(machine, code);
         match next.step {
             Step::Done => {}
             _ => return InSegment { made, goes: false },
@@ -98,7 +96,7 @@ fn make_in_segment(machine: &mut Machine, room: u64) -> InSegment
         if !next.near || made == room {
             return InSegment { made, goes: true };
         }
-        reader = match reader_at(&machine.cpu, reader.code) {
+        reader = match reader_at(&machine.cpu, code) {
             Some(reader) => reader,
             None => return InSegment { made, goes: false },
         };
