@@ -109,7 +109,7 @@ fn enter(cpu: &mut Cpu, cell: u32, next: Place) -> Step
 
 /// ENTR: enters the procedure that the first cell of the marked activation record on top refers to. Its caller goes on
 /// at `next`. If the reference ends at an intrinsic, the answer is its number, with nothing changed.
-#[inline(never)]
+#[inline(always)]
 pub fn entr(cpu: &mut Cpu, next: Place) -> Step
     requires runs { RunsSome cpu.old }
     requires next { IsPlace next }

@@ -46,7 +46,7 @@ pub fn caller(cpu: &Cpu, mark: Mscw) -> Regs
 /// EXIT: leaves the running activation record: the stack's top is below its mark, and no word changes. Its arrays are gone,
 /// and are left to release. Faults if the top one is only marked, or if a live task depends on it. `Ended`, with
 /// nothing changed, if it is the task's outermost.
-#[inline(never)]
+#[inline(always)]
 pub fn exit(cpu: &mut Cpu) -> Step
     requires { RunsSome cpu.old }
     ensures row { ForEach cpu.old (λ x plan s m t. (next : Place) → Meets x plan s m result cpu.old cpu.new (rows.exit (here m t next))) }

@@ -81,7 +81,7 @@ fn evaluate(cpu: &mut Cpu, regs: Regs, display: [u32; 32], word: Word) -> Step
 /// Faults if the top record is only marked, has no word, or may not be left with that word, and if the
 /// evaluation does. `Ended`, with nothing changed, if it is the task's outermost. `Absent`, with nothing changed,
 /// if the value is an element of an absent array.
-#[inline(never)]
+#[inline(always)]
 pub fn retn(cpu: &mut Cpu) -> Step
     requires { RunsSome cpu.old }
     ensures row { ForEach cpu.old (λ x plan s m t. (next : Place) → Meets x plan s m result cpu.old cpu.new (rows.retn (here m t next))) }

@@ -13,7 +13,7 @@ ghost use Rattle.b67_exec.specs.Near.{SaysDone, ReaderBehind, WentFar};
 
 use crate::assigning::enter;
 use crate::evaluating::enter_in_place;
-use crate::operators::far_plain;
+use crate::operators::on_top;
 use b67_ctl::Irw;
 use b67_entry::{accident, entr, exit, retn};
 use b67_fetch::{indx, nxlv, stff, value};
@@ -50,7 +50,7 @@ pub(crate) fn makes_plain(cpu: &mut Cpu, code: Code, next: Place) -> bool
     ensures row { result ≡ true → ForEach cpu.old (λ x plan s m t. CallsOrMeets x plan s m Done cpu.old cpu.new (called (Plain code) (here m t next)) (plain_row code (here m t next))) }
     ensures rest { result ≡ false → cpu.new ≡ cpu.old }
 {
-    let step = far_plain(cpu, code, next);
+    let step = on_top(cpu, code, next);
     is_done(step)
 }
 

@@ -153,6 +153,25 @@ pub(crate) fn leaves(op: Op) -> bool
     }
 }
 
+/// A far operator without parameters on the top cells.
+#[inline(always)]
+pub(crate) fn on_top(cpu: &mut Cpu, code: Code, next: Place) -> Step
+{
+    match code {
+        Code::Mult => on_two(cpu, Binary::Mult, next),
+        Code::Idiv => on_two(cpu, Binary::Idiv, next),
+        Code::Rdiv => on_two(cpu, Binary::Rdiv, next),
+        Code::Chsn => on_one(cpu, Unary::Chsn, next),
+        Code::Land => on_two(cpu, Binary::Land, next),
+        Code::Lor => on_two(cpu, Binary::Lor, next),
+        Code::Leqv => on_two(cpu, Binary::Leqv, next),
+        Code::Lnot => on_one(cpu, Unary::Lnot, next),
+        Code::Same => on_two(cpu, Binary::Same, next),
+        Code::Nvld => Step::Fault(Fault::InvalidOperator),
+        _ => unreachable!(),
+    }
+}
+
 /// A far operator without parameters. The task goes on at `next`, or where the entered procedure begins or the caller goes
 /// on.
 #[inline(always)]
@@ -174,17 +193,7 @@ pub(crate) fn far_plain(cpu: &mut Cpu, code: Code, next: Place) -> Step
         Code::Load => load(cpu, next),
         Code::Exit => exit(cpu),
         Code::Retn => retn(cpu),
-        Code::Mult => on_two(cpu, Binary::Mult, next),
-        Code::Idiv => on_two(cpu, Binary::Idiv, next),
-        Code::Rdiv => on_two(cpu, Binary::Rdiv, next),
-        Code::Chsn => on_one(cpu, Unary::Chsn, next),
-        Code::Land => on_two(cpu, Binary::Land, next),
-        Code::Lor => on_two(cpu, Binary::Lor, next),
-        Code::Leqv => on_two(cpu, Binary::Leqv, next),
-        Code::Lnot => on_one(cpu, Unary::Lnot, next),
-        Code::Same => on_two(cpu, Binary::Same, next),
-        Code::Nvld => Step::Fault(Fault::InvalidOperator),
-        _ => unreachable!(),
+        _ => on_top(cpu, code, next),
     }
 }
 
@@ -200,23 +209,6 @@ fn far_apart(cpu: &mut Cpu, code: Code, next: Place) -> Step
     far_plain(cpu, code, next)
 }
 
-/// `far_plain`, directly where an activation record is left, and else behind a call.
-#[inline(always)]
-fn far_code(cpu: &mut Cpu, code: Code, next: Place) -> Step
-    requires runs { RunsSome cpu.old }
-    requires far { goes_far code ≡ true }
-    requires next { IsPlace next }
-    ensures row { ForEach cpu.old (λ x plan s m t. CallsOrMeets x plan s m result cpu.old cpu.new (called (Plain code) (here m t next)) (plain_row code (here m t next))) }
-    ensures cuts { is_leaving (Plain code) ≡ true → result ≡ Done → CutsRecord cpu.old cpu.new }
-{
-    match code {
-        Code::Exit => return exit(cpu),
-        Code::Retn => return retn(cpu),
-        _ => {}
-    }
-    far_apart(cpu, code, next)
-}
-
 /// A far operator.
 #[inline(always)]
 fn far(cpu: &mut Cpu, op: Op, next: Place) -> Step
@@ -228,7 +220,7 @@ fn far(cpu: &mut Cpu, op: Op, next: Place) -> Step
     ensures cuts { is_leaving op ≡ true → result ≡ Done → CutsRecord cpu.old cpu.new }
 {
     match op {
-        Op::Plain(code) => far_code(cpu, code, next),
+        Op::Plain(code) => far_apart(cpu, code, next),
         Op::Valc(couple) => evaluate(cpu, couple, next),
         Op::Mpcw(bits) => mpcw(cpu, bits, next),
         Op::Bset(n) => on_one(cpu, Unary::Bset(n), next),

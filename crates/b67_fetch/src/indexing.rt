@@ -104,11 +104,12 @@ fn top_item(cpu: &Cpu) -> Result<(u32, u32), Fault>
         Ok(words) => words,
         Err(fault) => return Err(fault),
     };
-    if upper.tag() == 0 {
-        item_at(cpu, lower, upper)
+    let (reference, index) = if upper.tag() == 0 {
+        (lower, upper)
     } else {
-        item_at(cpu, upper, lower)
-    }
+        (upper, lower)
+    };
+    item_at(cpu, reference, index)
 }
 
 /// The word of a copy of an array's descriptor, of one element.
@@ -139,7 +140,7 @@ fn item_copy(cpu: &Cpu, original: u32, index: u32) -> Word
 }
 
 /// INDX: an element's copy of its array's descriptor, in the place of the two top cells, goes on at `next`.
-#[inline(never)]
+#[inline(always)]
 pub fn indx(cpu: &mut Cpu, next: Place) -> Step
     requires { RunsSome cpu.old }
     ensures row { ForEach cpu.old (λ x plan s m t. let h = here m t next in Meets x plan s m result cpu.old cpu.new (rows.indx h (cells_of h))) }
@@ -154,7 +155,7 @@ pub fn indx(cpu: &mut Cpu, next: Place) -> Step
 }
 
 /// NXLV: an element in the place of the two top cells, goes on at `next`. If its array is absent, nothing is changed.
-#[inline(never)]
+#[inline(always)]
 pub fn nxlv(cpu: &mut Cpu, next: Place) -> Step
     requires { RunsSome cpu.old }
     ensures row { ForEach cpu.old (λ x plan s m t. let h = here m t next in Meets x plan s m result cpu.old cpu.new (rows.nxlv h (cells_of h))) }

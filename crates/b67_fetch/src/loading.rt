@@ -86,6 +86,7 @@ pub fn valc(cpu: &mut Cpu, couple: u16, next: Place) -> Step
 /// Puts the value or the row copy to which the top cell leads in its place, and goes on at `next`. STACK UNDERFLOW, the
 /// faults of references, INVALID OPERAND if it ends at an intrinsic. If an element's array is absent, nothing is
 /// changed.
+#[inline(always)]
 pub fn load(cpu: &mut Cpu, next: Place) -> Step
     requires { RunsSome cpu.old }
     ensures row { ForEach cpu.old (λ x plan s m t. let h = here m t next in EntersOrMeets x plan s m result cpu.old cpu.new (enters_at (top_end h (cells_of h))) (rows.load h (cells_of h))) }

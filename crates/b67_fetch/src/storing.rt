@@ -89,6 +89,7 @@ fn store(cpu: &mut Cpu, keeps: bool, next: Place) -> Step
 /// Stores the operand of the two top cells where the other one leads, takes both off, and goes on at `next`. STACK
 /// UNDERFLOW, INVALID OPERAND if none of the two is an operand, the faults of references, MEMORY PROTECT if it ends
 /// at a read-only element, an array or an intrinsic. If an element's array is absent, nothing is changed.
+#[inline(always)]
 pub fn stod(cpu: &mut Cpu, next: Place) -> Step
     requires { RunsSome cpu.old }
     ensures row { ForEach cpu.old (λ x plan s m t. let h = here m t next in EntersOrMeets x plan s m result cpu.old cpu.new (enters_at (store_end h (cells_of h))) (rows.store false h (cells_of h))) }
@@ -97,6 +98,7 @@ pub fn stod(cpu: &mut Cpu, next: Place) -> Step
 }
 
 /// Stores as STOD does, but the operand stays on the stack.
+#[inline(always)]
 pub fn ston(cpu: &mut Cpu, next: Place) -> Step
     requires { RunsSome cpu.old }
     ensures row { ForEach cpu.old (λ x plan s m t. let h = here m t next in EntersOrMeets x plan s m result cpu.old cpu.new (enters_at (store_end h (cells_of h))) (rows.store true h (cells_of h))) }

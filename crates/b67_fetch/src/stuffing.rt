@@ -51,7 +51,7 @@ fn stuffed(core: &Core, regs: &Regs, base: u32, offset: u16) -> Sirw
 
 /// Puts the stuffed reference of the cell that the couple on top names in its place, and goes on at `next`. A stuffed
 /// one stays. STACK UNDERFLOW, INVALID OPERAND if it is no reference, INVALID ADDRESS.
-#[inline(never)]
+#[inline(always)]
 pub fn stff(cpu: &mut Cpu, next: Place) -> Step
     requires { RunsSome cpu.old }
     ensures row { ForEach cpu.old (λ x plan s m t. let h = here m t next in Meets x plan s m result cpu.old cpu.new (rows.on_cells (rows.stff h) h)) }
