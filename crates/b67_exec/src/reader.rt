@@ -17,9 +17,9 @@ pub struct Reader {
     pub code: SegDesc,
     /// The number of the syllable's word in the segment.
     pub word: u16,
-    /// How many syllables of that word are left, with this one: 1 to 6.
-    pub left: u8,
-    /// These syllables, from the highest bit down.
+    /// Which of that word's six syllables it is, from 0.
+    pub syllable: u8,
+    /// This syllable and those of the word behind it, from the highest bit down.
     pub bits: u64,
 }
 
@@ -51,7 +51,7 @@ pub fn place(r: Reader) -> Place
 {
     Place {
         word: r.word,
-        syllable: 6 - r.left,
+        syllable: r.syllable,
     }
 }
 
@@ -62,11 +62,11 @@ pub fn behind(cpu: &Cpu, r: Reader) -> Option<Reader>
     requires stands { (n : ℕ) × ReaderBehind cpu.now r n }
     ensures { (n : ℕ) → ReaderBehind cpu.now r n → IfSome result (λ next. ReaderBehind cpu.now next (n + 1)) }
 {
-    if r.left > 1 {
+    if r.syllable < 5 {
         return Some(Reader {
             code: r.code,
             word: r.word,
-            left: r.left - 1,
+            syllable: r.syllable + 1,
             bits: r.bits << 8,
         });
     }
@@ -77,7 +77,7 @@ pub fn behind(cpu: &Cpu, r: Reader) -> Option<Reader>
     Some(Reader {
         code: r.code,
         word,
-        left: 6,
+        syllable: 0,
         bits: loaded(cpu, r.code, word),
     })
 }
@@ -96,7 +96,7 @@ pub fn reader_to(cpu: &Cpu, code: SegDesc, at: Place) -> Reader
     Reader {
         code,
         word: at.word,
-        left: 6 - at.syllable,
+        syllable: at.syllable,
         bits: word << (8 * u32::from(at.syllable)),
     }
 }
