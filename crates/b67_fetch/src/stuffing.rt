@@ -40,6 +40,13 @@ fn stuffed(core: &Core, regs: &Regs, base: u32, offset: u16) -> Sirw
             offset,
         };
     }
+    if base >= regs.bosr && base <= regs.losr {
+        return Sirw {
+            stack: u16::from(regs.slot),
+            disp: (base - regs.bosr) as u16,
+            offset,
+        };
+    }
     let distance = base - regs.stacks;
     let size = u32::from(regs.stack_size);
     Sirw {

@@ -46,6 +46,13 @@ pub fn activation_of(core: &Core, regs: &Regs, cell: u32) -> Activation
         → result ≡ record { stack = (view a f).stack; disp = (view a f).disp; level = level_of_frame (frame (here a.member a.task q) f) } }
 {
     let mark = mark_under(core, regs, cell);
+    if mark >= regs.bosr && mark <= regs.losr {
+        return Activation {
+            stack: u16::from(regs.slot),
+            disp: (mark - regs.bosr) as u16,
+            level: mark_at(core, mark).level,
+        };
+    }
     let distance = mark - regs.stacks;
     let size = u32::from(regs.stack_size);
     Activation {

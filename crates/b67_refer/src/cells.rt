@@ -21,11 +21,11 @@ fn top_of(core: &Core, regs: &Regs, base: u32) -> u32
     requires { (a : LiveContext core.now regs.now) × (top : ℕ) × live.IsUnder a base top }
     ensures { (a : LiveContext core.now regs.now) (top : ℕ) → live.IsUnder a base top → result ≡ top }
 {
-    let size = u32::from(regs.stack_size);
-    let slot = (base - regs.stacks) / size;
-    if slot == u32::from(regs.slot) {
+    if base >= regs.bosr && base <= regs.losr {
         return regs.s;
     }
+    let size = u32::from(regs.stack_size);
+    let slot = (base - regs.stacks) / size;
     let first = regs.stacks + slot * size;
     let top = Toscw::read(core.get(first));
     first + u32::from(top.s)
