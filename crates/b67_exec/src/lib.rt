@@ -13,5 +13,5 @@ pub use assigning::{stod, ston};
 pub use b67_entry::{exit, retn};
 pub use evaluating::{enter_in_place, evaluate, load, procedure_cell};
 pub use near::{Made, operate_near};
-pub use operators::{Executed, Performed, operate, operate_apart, operate_in, operator};
+pub use operators::{Executed, Performed, operate, operate_in, operator};
 pub use reader::{Reader, reader_at};

@@ -286,19 +286,6 @@ pub fn operate_in(cpu: &mut Cpu, desc: SegDesc) -> Performed
     }
 }
 
-/// `operate_in` behind a call, for what a reader doesn't read.
-#[inline(never)]
-pub fn operate_apart(cpu: &mut Cpu, desc: SegDesc) -> Performed
-    requires runs { RunsSome cpu.old }
-    requires code { HoldsCode cpu.old desc }
-    ensures row { ForEach cpu.old (λ x plan s m t. OperatorMeets x plan s m t result.step cpu.old cpu.new) }
-    ensures left { ForEach cpu.old (λ x plan s m t. code_area x plan m t ≢ None → result.left ≡ leaves_record (reading_of m.constants t)) }
-    ensures cuts { result.left ≡ true → result.step ≡ Done → CutsRecord cpu.old cpu.new }
-    ensures code { result.near ≡ true → HoldsCode cpu.new desc }
-{
-    operate_in(cpu, desc)
-}
-
 /// Executes the operator at the running place, as `operator`, and says whether it leaves an activation record.
 ///
 /// If the running segment is present, `left` is true exactly if EXIT or RETN stands at the running place. After its

