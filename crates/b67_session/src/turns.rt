@@ -38,10 +38,10 @@ pub(crate) fn give_turn(machine: &mut Machine, row: u8)
     }
 }
 
-/// How many operators were made, and whether the turn goes on behind them, in this segment or another.
+/// How many operators may still be made, and whether the turn goes on behind those that were, in this segment or another.
 #[derive(Clone, Copy)]
 struct InSegment {
-    made: u64,
+    room: u64,
     goes: bool,
 }
 
@@ -49,42 +49,42 @@ struct InSegment {
 /// behind one that may leave the segment; and before one that prints, ends its task, wants something that is absent, or stands outside the
 /// segment: then the turn doesn't go on.
 #[inline(always)]
-fn make_in_segment(machine: &mut Machine, begun: u64, room: u64) -> InSegment {
-    let mut made = begun;
+fn make_in_segment(machine: &mut Machine, most: u64) -> InSegment {
+    let mut room = most;
     let code = match present_segment(&machine.cpu) {
         Some(code) => code,
-        None => return InSegment { made, goes: false },
+        None => return InSegment { room, goes: false },
     };
     let mut reader = match reader_at(&machine.cpu, code) {
         Some(reader) => reader,
-        None => return InSegment { made, goes: false },
+        None => return InSegment { room, goes: false },
     };
-    'operator: while made < room {
+    'operator: while room > 0 {
         match make_near(machine, &mut reader) {
             Went::On => {
-                made += 1;
+                room -= 1;
                 continue 'operator;
             }
             Went::Away => {
-                made += 1;
-                return InSegment { made, goes: true };
+                room -= 1;
+                return InSegment { room, goes: true };
             }
             Went::Not => {}
         }
         match make_apart(machine) {
-            Went::On => made += 1,
+            Went::On => room -= 1,
             Went::Away => {
-                made += 1;
-                return InSegment { made, goes: true };
+                room -= 1;
+                return InSegment { room, goes: true };
             }
-            Went::Not => return InSegment { made, goes: false },
+            Went::Not => return InSegment { room, goes: false },
         }
         reader = match reader_at(&machine.cpu, code) {
             Some(reader) => reader,
-            None => return InSegment { made, goes: false },
+            None => return InSegment { room, goes: false },
         };
     }
-    InSegment { made, goes: true }
+    InSegment { room, goes: true }
 }
 
 /// Makes operators of the running task, up to `room`, and answers how many. It stops before one that prints, ends its task or
@@ -92,15 +92,15 @@ fn make_in_segment(machine: &mut Machine, begun: u64, room: u64) -> InSegment {
 #[inline(never)]
 fn make_in_turn(machine: &mut Machine, room: u64) -> u64
 {
-    let mut made = 0;
-    'segment: while made < room {
-        let next = make_in_segment(machine, made, room);
-        made = next.made;
+    let mut rest = room;
+    'segment: while rest > 0 {
+        let next = make_in_segment(machine, rest);
+        rest = next.room;
         if !next.goes {
-            return made;
+            return room - rest;
         }
     }
-    made
+    room - rest
 }
 
 /// Goes on with the turn of the last task: makes operators of it, each a whole step, up to `most`, and answers how many. It
