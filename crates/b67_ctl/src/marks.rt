@@ -44,6 +44,7 @@ pub struct Toscw {
 
 impl Mscw {
     /// The word of a mark that fits.
+    #[inline]
     pub fn word(self) -> Word
         requires { IsMscw self }
         ensures { result ≡ mscw_word self }

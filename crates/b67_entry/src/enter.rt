@@ -24,7 +24,7 @@ use b67_stack::{Cpu, Step};
 use b67_word::{Fault, Place};
 
 /// MKST: puts a mark on the stack, or faults if the stack is as high as its slot. The task goes on at `next`.
-#[inline(never)]
+#[inline]
 pub fn mkst(cpu: &mut Cpu, next: Place) -> Step
     requires { RunsSome cpu.old }
     ensures row { ForEach cpu.old (λ x plan s m t. Meets x plan s m result cpu.old cpu.new (rows.mkst (here m t next))) }

@@ -97,6 +97,7 @@ impl Cpu {
     }
 
     /// Puts a word on the stack. Refused, with nothing changed, exactly if the stack's top is its slot's last word.
+    #[inline]
     pub fn push(&mut self, w: Word) -> Result<(), StackOverflow>
         requires { Runs self.old }
         ensures full { IsErr result ↔ (self.old.regs.s ≡ self.old.regs.losr) }
@@ -136,6 +137,7 @@ impl Cpu {
 
     /// Puts a mark on the stack, linked to the last one. Refused, with nothing changed, exactly if the stack's top is
     /// its slot's last word.
+    #[inline]
     pub fn mark(&mut self) -> Result<(), StackOverflow>
         requires { Runs self.old }
         ensures full { IsErr result ↔ (self.old.regs.s ≡ self.old.regs.losr) }
