@@ -11,20 +11,18 @@ ghost use Rattle.b67_fetch.specs.Stores.{store_end};
 ghost use Rattle.b67_refer.specs.Ends.{IsProcAt};
 ghost use Rattle.b67_exec.specs.Stores.{ValueOver, StoresInProc};
 
-use crate::evaluating::{enter_in_place, evaluate, load, procedure_cell};
+use crate::evaluating::enter_in_place;
 use b67_ctl::Regs;
 use b67_entry::accident_on;
 use b67_exec_cells::two_cells;
+use b67_fetch::{store_at, store_cells};
+use b67_refer::{End, chase};
 use b67_stack::{Cpu, Step};
 use b67_word::{Place, Word};
 
-/// Enters the procedure to which the second cell from the top leads, where the value on top takes that cell's place.
+/// Enters the procedure of a cell to which the second cell from the top leads, where the value on top takes that cell's place.
 #[inline(always)]
-fn enter_under(cpu: &mut Cpu, lower: Word, upper: Word) -> Step
-    requires { (a : RunsSome cpu.old) × (q : Place) × ValueOver cpu.old a.storage a.plan a.member a.task q lower upper }
-    ensures row { ForEach cpu.old (λ x plan s m t. (q : Place) (keeps : Bool) → ValueOver cpu.old x plan m t q lower upper → Meets x plan s m result cpu.old cpu.new (rows.store keeps (here m t q) (cells t))) }
-{
-    let cell = procedure_cell(cpu, lower);
+fn enter_under(cpu: &mut Cpu, cell: u32, lower: Word, upper: Word) -> Step {
     cpu.core.set(cpu.regs.s - 1, upper);
     let without = Regs {
         s: cpu.regs.s - 1,
@@ -39,20 +37,50 @@ fn enter_under(cpu: &mut Cpu, lower: Word, upper: Word) -> Step
     }
 }
 
-/// Enters the procedure to which one of the two top cells leads; the other one, a value, stays.
+/// Enters the procedure of a cell to which one of the two top cells leads; the other one, a value, stays.
 #[inline(always)]
-pub(crate) fn enter(cpu: &mut Cpu) -> Step
-    requires { StoresInProc cpu.old }
-    ensures row { ForEach cpu.old (λ x plan s m t. (q : Place) (keeps : Bool) → enters_at (store_end (here m t q) (cells t)) ≡ true → Meets x plan s m result cpu.old cpu.new (rows.store keeps (here m t q) (cells t))) }
-{
+fn enter(cpu: &mut Cpu, cell: u32) -> Step {
     let (lower, upper) = match two_cells(cpu) {
         Ok(two) => two,
         Err(_) => unreachable!(),
     };
     if upper.tag() == 0 {
-        enter_under(cpu, lower, upper)
+        enter_under(cpu, cell, lower, upper)
     } else {
-        enter_in_place(cpu)
+        enter_in_place(cpu, cell)
+    }
+}
+
+/// STOD, or STON where the operand is kept, and whether the task goes on behind it.
+#[inline(always)]
+pub(crate) fn assign(cpu: &mut Cpu, keeps: bool, next: Place) -> Assigned {
+    let (reference, value) = match store_cells(cpu) {
+        Ok(cells) => cells,
+        Err(fault) => return Assigned::Stayed(Step::Fault(fault)),
+    };
+    let end = match chase(&cpu.core, &cpu.regs, &cpu.display, reference) {
+        Ok(end) => end,
+        Err(fault) => return Assigned::Stayed(Step::Fault(fault)),
+    };
+    match end {
+        End::Proc(cell) => Assigned::Entered(enter(cpu, cell)),
+        _ => Assigned::Stayed(store_at(cpu, end, value, keeps, next)),
+    }
+}
+
+/// What an operator came to that may enter a procedure.
+#[derive(Clone, Copy, Debug, PartialEq, Eq)]
+pub(crate) enum Assigned {
+    Stayed(Step),
+    Entered(Step),
+}
+
+/// The answer alone.
+#[inline(always)]
+pub(crate) fn step_of(assigned: Assigned) -> Step {
+    match assigned {
+        Assigned::Stayed(step) => step,
+        Assigned::Entered(step) => step,
     }
 }
 
@@ -66,10 +94,7 @@ pub fn stod(cpu: &mut Cpu, next: Place) -> Step
     requires { RunsSome cpu.old }
     ensures row { ForEach cpu.old (λ x plan s m t. let h = here m t next in Meets x plan s m result cpu.old cpu.new (rows.store false h (cells_of h))) }
 {
-    match b67_fetch::stod(cpu, next) {
-        Step::Call(_) => enter(cpu),
-        step => step,
-    }
+    step_of(assign(cpu, false, next))
 }
 
 /// Stores as STOD does, but the operand stays on the stack.
@@ -78,8 +103,5 @@ pub fn ston(cpu: &mut Cpu, next: Place) -> Step
     requires { RunsSome cpu.old }
     ensures row { ForEach cpu.old (λ x plan s m t. let h = here m t next in Meets x plan s m result cpu.old cpu.new (rows.store true h (cells_of h))) }
 {
-    match b67_fetch::ston(cpu, next) {
-        Step::Call(_) => enter(cpu),
-        step => step,
-    }
+    step_of(assign(cpu, true, next))
 }

@@ -14,25 +14,12 @@ ghost use Rattle.b67_exec.specs.Procedures.{LeadsToProcedure, EntersTop};
 
 use b67_ctl::{Irw, Regs};
 use b67_entry::{accident, accident_on};
-use b67_fetch::value;
+use b67_exec_cells::top_cell;
+use b67_fetch::{load_at, value};
+use crate::assigning::{Assigned, step_of};
 use b67_refer::{End, chase};
 use b67_stack::{Cpu, Step};
 use b67_word::{Place, Word};
-
-/// The core address of the cell of the procedure to which a word leads.
-#[inline(always)]
-pub fn procedure_cell(cpu: &Cpu, w: Word) -> u32
-    requires { (a : RunningContext cpu.now.core cpu.now.regs) × (q : Place) × (f : ℕ) × (segment : ℕ) × (level : ℕ) × (place : Place) × LeadsToProcedure cpu.now a q w f segment level place }
-    ensures { (a : RunningContext cpu.now.core cpu.now.regs) (q : Place) (f segment level : ℕ) (place : Place) → LeadsToProcedure cpu.now a q w f segment level place → IsProcAt a q result f segment level place }
-{
-    match chase(&cpu.core, &cpu.regs, &cpu.display, w) {
-        Ok(end) => match end {
-            End::Proc(cell) => cell,
-            _ => unreachable!(),
-        },
-        Err(_) => unreachable!(),
-    }
-}
 
 /// Pushes the value to which a couple of 14 bits leads, and goes on at `next`; a procedure there is entered, and its
 /// value pushed when it returns. The faults of references, INVALID OPERAND if it ends at an array or an intrinsic or
@@ -54,19 +41,32 @@ pub fn evaluate(cpu: &mut Cpu, couple: u16, next: Place) -> Step
     }
 }
 
-/// Enters the procedure to which the top cell leads, in that cell's place. It returns to the running operator. INVALID
+/// Enters the procedure of a cell to which the top cell leads, in that cell's place. It returns to the running operator. INVALID
 /// OPERAND if its level doesn't fit, STACK OVERFLOW.
 #[inline(always)]
-pub fn enter_in_place(cpu: &mut Cpu) -> Step
-    requires { EntersTop cpu.old }
-    ensures row { ForEach cpu.old (λ x plan s m t. (q : Place) → enters_at (top_end (here m t q) (cells t)) ≡ true → Meets x plan s m result cpu.old cpu.new (rows.load (here m t q) (cells t))) }
-{
-    let cell = procedure_cell(cpu, cpu.core.get(cpu.regs.s));
+pub fn enter_in_place(cpu: &mut Cpu, cell: u32) -> Step {
     let without = Regs {
         s: cpu.regs.s - 1,
         ..cpu.regs
     };
     accident_on(cpu, without, cell, false, cpu.regs.place)
+}
+
+/// LOAD, and whether the task goes on behind it.
+#[inline(always)]
+pub(crate) fn fetch(cpu: &mut Cpu, next: Place) -> Assigned {
+    let w = match top_cell(cpu) {
+        Ok(word) => word,
+        Err(fault) => return Assigned::Stayed(Step::Fault(fault)),
+    };
+    let end = match chase(&cpu.core, &cpu.regs, &cpu.display, w) {
+        Ok(end) => end,
+        Err(fault) => return Assigned::Stayed(Step::Fault(fault)),
+    };
+    match end {
+        End::Proc(cell) => Assigned::Entered(enter_in_place(cpu, cell)),
+        _ => Assigned::Stayed(load_at(cpu, end, next)),
+    }
 }
 
 /// Puts the value or the row copy to which the top cell leads in its place, and goes on at `next`; a procedure there is
@@ -78,8 +78,5 @@ pub fn load(cpu: &mut Cpu, next: Place) -> Step
     requires { RunsSome cpu.old }
     ensures row { ForEach cpu.old (λ x plan s m t. let h = here m t next in Meets x plan s m result cpu.old cpu.new (rows.load h (cells_of h))) }
 {
-    match b67_fetch::load(cpu, next) {
-        Step::Call(_) => enter_in_place(cpu),
-        step => step,
-    }
+    step_of(fetch(cpu, next))
 }

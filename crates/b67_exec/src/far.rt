@@ -11,8 +11,8 @@ ghost use Rattle.b67_entry.specs.Procedures.{CallsOrMeets};
 ghost use Rattle.b67_exec.specs.Operators.{ParametersHaveBits, goes_far, is_far};
 ghost use Rattle.b67_exec.specs.Near.{SaysDone, ReaderBehind, WentFar};
 
-use crate::assigning::enter;
-use crate::evaluating::enter_in_place;
+use crate::assigning::{Assigned, assign};
+use crate::evaluating::fetch;
 use crate::operators::on_top;
 use b67_ctl::Irw;
 use b67_entry::{accident, entr, exit, retn};
@@ -115,29 +115,29 @@ pub(crate) fn makes_valc(cpu: &mut Cpu, couple: u16, next: Place) -> Went {
     }
 }
 
+/// Whether an operator was made, and where its task goes on.
+#[inline(always)]
+fn led(assigned: Assigned) -> Went {
+    match assigned {
+        Assigned::Stayed(step) => stayed(step),
+        Assigned::Entered(step) => entered(step),
+    }
+}
+
 /// LOAD.
 #[inline(never)]
 pub(crate) fn makes_load(cpu: &mut Cpu, next: Place) -> Went {
-    match b67_fetch::load(cpu, next) {
-        Step::Call(_) => entered(enter_in_place(cpu)),
-        step => stayed(step),
-    }
+    led(fetch(cpu, next))
 }
 
 /// STOD.
 #[inline(never)]
 pub(crate) fn makes_stod(cpu: &mut Cpu, next: Place) -> Went {
-    match b67_fetch::stod(cpu, next) {
-        Step::Call(_) => entered(enter(cpu)),
-        step => stayed(step),
-    }
+    led(assign(cpu, false, next))
 }
 
 /// STON.
 #[inline(never)]
 pub(crate) fn makes_ston(cpu: &mut Cpu, next: Place) -> Went {
-    match b67_fetch::ston(cpu, next) {
-        Step::Call(_) => entered(enter(cpu)),
-        step => stayed(step),
-    }
+    led(assign(cpu, true, next))
 }

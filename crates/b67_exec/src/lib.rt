@@ -11,7 +11,7 @@ mod reader;
 
 pub use assigning::{stod, ston};
 pub use b67_entry::{exit, retn};
-pub use evaluating::{enter_in_place, evaluate, load, procedure_cell};
+pub use evaluating::{enter_in_place, evaluate, load};
 pub use near::{Made, operate_near};
 pub use operators::{Executed, Performed, operate, operate_in, operator};
 pub use reader::{Reader, reader_at};

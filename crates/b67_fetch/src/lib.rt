@@ -8,6 +8,6 @@ mod stuffing;
 
 pub use b67_exec_cells::namc;
 pub use indexing::{indx, nxlv};
-pub use loading::{load, valc, value};
-pub use storing::{stod, ston};
+pub use loading::{load, load_at, valc, value};
+pub use storing::{stod, store_at, store_cells, ston};
 pub use stuffing::stff;

@@ -95,10 +95,15 @@ pub fn load(cpu: &mut Cpu, next: Place) -> Step
         Ok(word) => word,
         Err(fault) => return Step::Fault(fault),
     };
-    let end = match end_of(cpu, w) {
-        Ok(end) => end,
-        Err(fault) => return Step::Fault(fault),
-    };
+    match end_of(cpu, w) {
+        Ok(end) => load_at(cpu, end, next),
+        Err(fault) => Step::Fault(fault),
+    }
+}
+
+/// Puts the value or the row copy at an end in the place of the top cell.
+#[inline(always)]
+pub fn load_at(cpu: &mut Cpu, end: End, next: Place) -> Step {
     match end {
         End::Array(original) => {
             let copy = row_copy(cpu, original);

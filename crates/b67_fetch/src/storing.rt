@@ -50,16 +50,12 @@ fn put(cpu: &mut Cpu, at: u32, w: Word, keeps: bool, next: Place)
     cpu.regs.place = next;
 }
 
-/// Stores the operand of the two top cells where the other one leads, and takes both off, or only the reference if
-/// the operand is kept.
+/// The two top cells as a reference and the operand that is stored by it. STACK UNDERFLOW; INVALID OPERAND if none is an operand.
 #[inline(always)]
-fn store(cpu: &mut Cpu, keeps: bool, next: Place) -> Step
-    requires { RunsSome cpu.old }
-    ensures row { ForEach cpu.old (λ x plan s m t. let h = here m t next in EntersOrMeets x plan s m result cpu.old cpu.new (enters_at (store_end h (cells_of h))) (rows.store keeps h (cells_of h))) }
-{
+pub fn store_cells(cpu: &Cpu) -> Result<(Word, Word), Fault> {
     let (lower, upper) = match two_cells(cpu) {
         Ok(two) => two,
-        Err(fault) => return Step::Fault(fault),
+        Err(fault) => return Err(fault),
     };
     let (reference, value) = if upper.tag() == 0 {
         (lower, upper)
@@ -67,12 +63,15 @@ fn store(cpu: &mut Cpu, keeps: bool, next: Place) -> Step
         (upper, lower)
     };
     if value.tag() != 0 {
-        return Step::Fault(Fault::InvalidOperand);
+        return Err(Fault::InvalidOperand);
     }
-    let end = match chase(&cpu.core, &cpu.regs, &cpu.display, reference) {
-        Ok(end) => end,
-        Err(fault) => return Step::Fault(fault),
-    };
+    Ok((reference, value))
+}
+
+/// Stores the operand of the two top cells at the end to which the other one leads, and takes both off, or only the reference if
+/// the operand is kept.
+#[inline(always)]
+pub fn store_at(cpu: &mut Cpu, end: End, value: Word, keeps: bool, next: Place) -> Step {
     let at = match end {
         End::Cell(at) => at,
         End::Element { original, index } => match element_address(cpu, original, index) {
@@ -84,6 +83,20 @@ fn store(cpu: &mut Cpu, keeps: bool, next: Place) -> Step
     };
     put(cpu, at, value, keeps, next);
     Step::Done
+}
+
+/// Stores the operand of the two top cells where the other one leads, and takes both off, or only the reference if
+/// the operand is kept.
+#[inline(always)]
+fn store(cpu: &mut Cpu, keeps: bool, next: Place) -> Step {
+    let (reference, value) = match store_cells(cpu) {
+        Ok(cells) => cells,
+        Err(fault) => return Step::Fault(fault),
+    };
+    match chase(&cpu.core, &cpu.regs, &cpu.display, reference) {
+        Ok(end) => store_at(cpu, end, value, keeps, next),
+        Err(fault) => Step::Fault(fault),
+    }
 }
 
 /// Stores the operand of the two top cells where the other one leads, takes both off, and goes on at `next`. STACK
