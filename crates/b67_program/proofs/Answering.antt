@@ -12,7 +12,7 @@ use Rattle.b67_session_lines.specs.Ends.{EndsPrinting, all_printed, cut_off}
 use Rattle.b67_job.specs.Command.{command_line_of}
 use Rattle.b67_job.specs.declared.command.CommandLine.{CommandLine}
 use Rattle.b67_job.specs.declared.command.CommandLine.TheVariants as lines
-use Rattle.b67_job.specs.Device.{Device}
+use Rattle.b67_job.specs.Device.{Device, DeviceUnchanged}
 use Rattle.b67_job.specs.Due.{Answered, Supplies, IsAmple, reading_text}
 use Rattle.b67_job.specs.Judgement.{asked, judged_status, reads_text, text_limit}
 use Rattle.b67_job.specs.Lines.{memory_text}
@@ -85,21 +85,21 @@ module _ {S B K : Type 0} {words : List (Bor (List ℕ))} {left : S → Option (
   })
 
   -- a read failed
-  pub failed : (limit : Option ℕ) → limit ≡ text_limit (command_line_of words) → IsTakenIn limit left source_faults input input' (Err SourceFault) → EndsPrinting taken faults old new 7 reading_text answer
+  pub failed : (limit : Option ℕ) → limit ≡ text_limit (command_line_of words) → IsTakenIn limit left source_faults input input' (Err SourceFault) → DeviceUnchanged d → EndsPrinting taken faults old new 7 reading_text answer
       → IsAnswered words left source_faults input input' d taken faults old new answer
-  failed limit is t ends = let f = failed_of (command_line_of words) left source_faults input input' limit is t in reading_failed f.0 f.1 ends
+  failed limit is t same ends = let f = failed_of (command_line_of words) left source_faults input input' limit is t in reading_failed f.0 f.1 same ends
 
   -- memory was refused
-  pub wanted : (limit : Option ℕ) → limit ≡ text_limit (command_line_of words) → IsTakenIn limit left source_faults input input' (Err Memory) → EndsPrinting taken faults old new 9 memory_text answer
+  pub wanted : (limit : Option ℕ) → limit ≡ text_limit (command_line_of words) → IsTakenIn limit left source_faults input input' (Err Memory) → DeviceUnchanged d → EndsPrinting taken faults old new 9 memory_text answer
       → IsAnswered words left source_faults input input' d taken faults old new answer
-  wanted limit is t ends = text_wants_memory (wanted_of (command_line_of words) left source_faults input input' limit is t) ends
+  wanted limit is t same ends = text_wants_memory (wanted_of (command_line_of words) left source_faults input input' limit is t) same ends
 
   -- only a failed read has status 7: the tape in memory can't fail
   pub seven : IsAnswered words left source_faults input input' d taken faults old new answer → answer ≡ 7 → Rose source_faults input input'
   seven (carried_out r) e = absurd (omega (arith, (r.means.reading_fault e).1))
-  seven (reading_failed r rose ends) e = rose
-  seven (text_wants_memory r (all_printed a t)) e = absurd (omega (arith, a, e))
-  seven (text_wants_memory r (cut_off a f t)) e = absurd (omega (arith, a, e))
+  seven (reading_failed r rose same ends) e = rose
+  seven (text_wants_memory r same (all_printed a t)) e = absurd (omega (arith, a, e))
+  seven (text_wants_memory r same (cut_off a f t)) e = absurd (omega (arith, a, e))
 
 pub not_seven : {K : Type 0} (taken : K → Option (List ℕ)) (faults : K → ℕ) (old new : K) (answer : ℕ) (P : Type 0) → EndsPrinting taken faults old new 9 memory_text answer → answer ≡ 7 → P
 not_seven taken faults old new answer P (all_printed a t) e = absurd (omega (arith, a, e))

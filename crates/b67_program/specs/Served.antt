@@ -1,17 +1,17 @@
 -- How the program's call ends.
-use Rattle.std.specs.Prelude.{◌≡◌, ◌⊎◌, ℕ, List, length, Option, Some, None, Ok, true}
+use Rattle.std.specs.Prelude.{◌≡◌, ◌⊎◌, ℕ, List, [], length, Option, Some, None, Ok, true}
 use denote.Ref.{Bor}
 use Rattle.b67_io.specs.Causes.{Rose, Stayed}
 use Rattle.b67_io.specs.Free.{free_left, free_told, free_faults}
 use Rattle.b67_io.specs.declared.free.FreeTape.{FreeTape}
-use Rattle.b67_backing.specs.Memory.{memory_sectors, memory_told, memory_faults}
+use Rattle.b67_backing.specs.Memory.{memory_sectors, memory_told, memory_faults, failing_reads, failing_writes}
 use Rattle.b67_backing.specs.Held.{blank}
 use Rattle.b67_backing.specs.declared.memory.MemoryBacking.{MemoryBacking}
 use Rattle.b67_task_tables.specs.declared.tables.Machine.{Machine}
 use Rattle.b67_session_lines.specs.Ends.{EndsPrinting}
 use Rattle.b67_job.specs.Command.{command_line_of, backing_path}
 use Rattle.b67_job.specs.declared.command.CommandLine.{CommandLine}
-use Rattle.b67_job.specs.Device.{Device, device_of}
+use Rattle.b67_job.specs.Device.{Device, device_of, DeviceUnchanged}
 use Rattle.b67_job.specs.Due.{Answered, Supplies, IsAmple, reading_text}
 use Rattle.b67_job.specs.Judgement.{asked, judged_status, reads_text, text_limit}
 use Rattle.b67_job.specs.Lines.{memory_text}
@@ -41,16 +41,16 @@ pub record IsCarriedOut {S B K : Type 0} (words : List (Bor (List ℕ))) (left :
 pub data IsAnswered {S B K : Type 0} (words : List (Bor (List ℕ))) (left : S → Option (List ℕ)) (source_faults : S → ℕ) (input input' : S) (d : Device B)
     (taken : K → Option (List ℕ)) (faults : K → ℕ) (old new : K) (answer : ℕ) : Type 0 where
   carried_out : IsCarriedOut words left source_faults input input' d taken faults old new answer → IsAnswered words left source_faults input input' d taken faults old new answer
-  reading_failed : reads_text (command_line_of words) ≡ true → Rose source_faults input input' → EndsPrinting taken faults old new 7 reading_text answer
+  reading_failed : reads_text (command_line_of words) ≡ true → Rose source_faults input input' → DeviceUnchanged d → EndsPrinting taken faults old new 7 reading_text answer
       → IsAnswered words left source_faults input input' d taken faults old new answer
-  text_wants_memory : reads_text (command_line_of words) ≡ true → EndsPrinting taken faults old new 9 memory_text answer → IsAnswered words left source_faults input input' d taken faults old new answer
+  text_wants_memory : reads_text (command_line_of words) ≡ true → DeviceUnchanged d → EndsPrinting taken faults old new 9 memory_text answer → IsAnswered words left source_faults input input' d taken faults old new answer
 
--- over a file if the words name a path; over 4,096 sectors of zeros in memory if they don't, unless memory is refused for these
-pub data IsServed {S B K : Type 0} (words : List (Bor (List ℕ))) (left : S → Option (List ℕ)) (source_faults : S → ℕ) (input input' : S) (device : B → B → Device B)
+-- over a file if the words name a path, from what it was found to hold to what it is left to hold; over 4,096 sectors of zeros in memory if they don't, unless memory is refused for these
+pub data IsServed {S B K : Type 0} (words : List (Bor (List ℕ))) (left : S → Option (List ℕ)) (source_faults : S → ℕ) (input input' : S) (finds leaves : List ℕ → B → Type 0) (device : B → B → Device B)
     (taken : K → Option (List ℕ)) (faults : K → ℕ) (old new : K) (answer : ℕ) : Type 0 where
-  over_file : (path : List ℕ) (file file' : B) → backing_path words ≡ Some path → IsAnswered words left source_faults input input' (device file file') taken faults old new answer
-      → IsServed words left source_faults input input' device taken faults old new answer
-  over_memory : (held held' : MemoryBacking) → backing_path words ≡ None → memory_sectors held ≡ blank 4096 → held.faults ≡ 0
+  over_file : (path : List ℕ) (file file' : B) → backing_path words ≡ Some path → finds path file → leaves path file' → IsAnswered words left source_faults input input' (device file file') taken faults old new answer
+      → IsServed words left source_faults input input' finds leaves device taken faults old new answer
+  over_memory : (held held' : MemoryBacking) → backing_path words ≡ None → memory_sectors held ≡ blank 4096 → failing_reads held ≡ [] → failing_writes held ≡ [] → held.faults ≡ 0
       → IsAnswered words left source_faults input input' (device_of memory_told (λ b. length (memory_sectors b)) memory_faults held held') taken faults old new answer
-      → IsServed words left source_faults input input' device taken faults old new answer
-  sectors_want_memory : backing_path words ≡ None → EndsPrinting taken faults old new 9 memory_text answer → IsServed words left source_faults input input' device taken faults old new answer
+      → IsServed words left source_faults input input' finds leaves device taken faults old new answer
+  sectors_want_memory : backing_path words ≡ None → EndsPrinting taken faults old new 9 memory_text answer → IsServed words left source_faults input input' finds leaves device taken faults old new answer

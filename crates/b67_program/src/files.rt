@@ -1,7 +1,7 @@
 //! The files that a run may page to.
 
-ghost use Rattle.std.specs.Prelude.{List, ℕ, Option, None, [], ◌∷◌};
-ghost use Rattle.b67_program.specs.Opening.{Opens};
+ghost use Rattle.std.specs.Prelude.{◌≡◌, List, ℕ, Option, None, [], ◌∷◌};
+ghost use Rattle.b67_program.specs.Opening.{Opens, Finds, Leaves};
 
 use b67_backing::{Backing, FileBacking};
 use b67_word::Failed;
@@ -16,9 +16,18 @@ pub trait Devices {
     /// The paths that were opened, the first one first, if it tells them.
     ghost opened: { Self → Option (List (List ℕ)) };
 
+    /// What the sectors of a path's file hold, if it tells it.
+    ghost kept: { Self → List ℕ → Option (List (List ℕ)) };
+
     /// The backing at a path. If it can't be had, every call of it fails.
     fn open(&mut self, path: &str) -> Self::File
-        ensures { Opens opened self.old self.new (path.now ∷ []) };
+        ensures opens { Opens opened self.old self.new (path.now ∷ []) }
+        ensures finds { Finds kept Self.File.holds self.old path.now result };
+
+    /// The backing at a path is used no more: the path's file holds what it held.
+    fn close(&mut self, path: &str, file: Self::File)
+        ensures same { opened self.new ≡ opened self.old }
+        ensures leaves { Leaves kept Self.File.holds self.new path.now file };
 }
 
 // Whether standard output is the file at a path, as far as the system says: then lines would be printed into its sectors.
@@ -66,10 +75,14 @@ impl Devices for HostRuntime {
 
     ghost opened = { λ _. None };
 
+    ghost kept = { λ _ _. None };
+
     fn open(&mut self, path: &str) -> SystemFile {
         let path = if prints_into(self, path) { "" } else { path };
         SystemFile {
             sectors: FileBacking::at(self, path),
         }
     }
+
+    fn close(&mut self, _path: &str, _file: SystemFile) {}
 }

@@ -1,15 +1,15 @@
 //! The call that the program makes.
 
-ghost use Rattle.std.specs.Prelude.{◌≡◌, ◌<◌, ◌^◌, false, IfOk, IfSome};
+ghost use Rattle.std.specs.Prelude.{◌≡◌, ◌<◌, ◌^◌, [], false, IfOk, IfSome};
 ghost use Rattle.b67_io.specs.Causes.{Rose};
-ghost use Rattle.b67_backing.specs.Memory.{memory_sectors};
+ghost use Rattle.b67_backing.specs.Memory.{memory_sectors, failing_reads, failing_writes};
 ghost use Rattle.b67_backing.specs.Held.{blank};
 ghost use Rattle.b67_job.specs.Command.{command_line_of, backing_path};
 ghost use Rattle.b67_job.specs.Device.{device_of};
 ghost use Rattle.b67_job.specs.Due.{reading_text};
 ghost use Rattle.b67_job.specs.Judgement.{reads_text, text_limit};
 ghost use Rattle.b67_session_lines.specs.Ends.{EndsPrinting};
-ghost use Rattle.b67_program.specs.Opening.{Opens, paths_of};
+ghost use Rattle.b67_program.specs.Opening.{Opens, Finds, Leaves, paths_of};
 ghost use Rattle.b67_program.specs.Input.{IsTakenIn};
 ghost use Rattle.b67_program.specs.Served.{IsAnswered, IsServed};
 
@@ -91,6 +91,7 @@ fn answer<S: Source, K: Sink, B: Backing>(
 
 fn memory_backing(alloc: Global) -> Result<MemoryBacking, AllocError>
     ensures zeros { IfOk result (λ b. memory_sectors b ≡ blank 4096) }
+    ensures calm { IfOk result (λ b. (failing_reads b ≡ []) × (failing_writes b ≡ [])) }
     ensures faults { IfOk result (λ b. b.faults ≡ 0) }
 {
     MemoryBacking::new(alloc, SECTORS, Numbers::new(alloc), Numbers::new(alloc))
@@ -114,7 +115,7 @@ pub fn serve<R: Devices, S: Source, K: Sink>(
 
     // The status is that of `run` over the bytes that were read, and over that file or 4,096 sectors of zeros; or a read failed,
     // or memory was refused.
-    ensures served { IsServed words.now S.left S.faults input.old input.new (device_of R.File.holds R.File.size R.File.faults)
+    ensures served { IsServed words.now S.left S.faults input.old input.new (Finds R.kept R.File.holds devices.old) (Leaves R.kept R.File.holds devices.new) (device_of R.File.holds R.File.size R.File.faults)
         K.taken K.faults printer.old printer.new result }
 
     // A command that reads no text, and words that are no command, leave the input as it was.
@@ -126,7 +127,9 @@ pub fn serve<R: Devices, S: Source, K: Sink>(
     match backing_path(words) {
         Some(path) => {
             let mut backing = devices.open(path);
-            answer(alloc, words, input, printer, &mut backing)
+            let status = answer(alloc, words, input, printer, &mut backing);
+            devices.close(path, backing);
+            status
         }
         None => match memory_backing(alloc) {
             Ok(mut backing) => answer(alloc, words, input, printer, &mut backing),

@@ -131,16 +131,16 @@ agree r e status status' text text' one (fell_short short shape) w w' = absurd (
 -- ---- the text that is due
 
 -- its front begins what some steps print, and its last part is at most one line
-record TextShape (r : Run) (text : Text) : Type 0 where
+pub record TextShape (r : Run) (text : Text) : Type 0 where
   pub steps : ℕ
   pub within : IsWithinHalt r steps
   pub begins : Begins text.front (run_text (lines steps r.session))
   pub one : IsOneLine text.last
 
-whole_shape : (r : Run) (text : Text) → TextShape r text → Shape r (whole_of text)
+pub whole_shape : (r : Run) (text : Text) → TextShape r text → Shape r (whole_of text)
 whole_shape r text s = record { steps = s.steps; within = s.within; front = text.front; line = text.last; begins = s.begins; one = s.one; is = refl }
 
-cut_shape : (r : Run) (text : Text) (count : ℕ) → TextShape r text → Shape r (text.front ++ take count text.last)
+pub cut_shape : (r : Run) (text : Text) (count : ℕ) → TextShape r text → Shape r (text.front ++ take count text.last)
 cut_shape r text count s = record { steps = s.steps; within = s.within; front = text.front; line = take count text.last; begins = s.begins; one = taken_is_one count text.last s.one; is = refl }
 
 -- of a run and of an exercise that halt the line alone is printed
@@ -151,7 +151,7 @@ halted_alone (Some e) k = refl
 abbrev behind : List RunLine → List ℕ → Text
 behind printed last = record { front = run_text printed; last = last }
 
-lone : (r : Run) (text : Text) (line : List ℕ) → IsOneLine line → text ≡ only line → TextShape r text
+pub lone : (r : Run) (text : Text) (line : List ℕ) → IsOneLine line → text ≡ only line → TextShape r text
 lone r text line one is = subst (λ (x : Text). TextShape r x) (sym is) (record { steps = 0; within = within_none r.halt; begins = (run_text (lines 0 r.session), refl); one = one })
 
 module _ {B : Type 0} (d : Device B) (tells : DeviceTells d) (core : ℕ) (p : Prepared) where
@@ -250,7 +250,7 @@ module _ {K : Type 0} (taken : K → Option (List ℕ)) (faults : K → ℕ) (ol
   Prints_so answer = (text : List ℕ) × Took taken old new text × CallPrints j e answer text
 
   -- a call that isn't whole, whatever its deck
-  short_call : (status : ℕ) (text : Text) (answer : ℕ) → (IsWhole status → ⊥) → ((r : Run) → TextShape r text) → PrintsAndAnswers taken faults old new status text answer → Prints_so answer
+  pub short_call : (status : ℕ) (text : Text) (answer : ℕ) → (IsWhole status → ⊥) → ((r : Run) → TextShape r text) → PrintsAndAnswers taken faults old new status text answer → Prints_so answer
   short_call status text answer short shape (all_taken a took) =
       let none : IsWhole answer → ⊥ = λ w. short (subst IsWhole a w) in
       (whole_of text, took, record { runs = λ w. absurd (none w); prints = λ p is. fell_short none (whole_shape (run_of p) text (shape (run_of p))); refused = λ refusal is r. whole_shape r text (shape r) })

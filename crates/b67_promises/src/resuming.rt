@@ -1,6 +1,7 @@
 //! A run that halts and is resumed prints what it would have printed.
 
-ghost use Rattle.std.specs.Prelude.{◌≡◌, ◌≢◌, ◌≤◌, ◌++◌, ℕ, List, length, Option, Some, None};
+ghost use Rattle.std.specs.Prelude.{◌≡◌, ◌≢◌, ◌≤◌, ◌<◌, ◌^◌, ◌++◌, ℕ, List, length, Option, Some, None};
+ghost use Rattle.b67_io.specs.Causes.{Stayed};
 ghost use Rattle.b67_task_tables.specs.declared.tables.Machine.{Machine};
 ghost use Rattle.b67_image.specs.Text.{limit};
 ghost use Rattle.b67_image.specs.Parts.{parts_of};
@@ -8,7 +9,8 @@ ghost use Rattle.b67_image.specs.Typed.{AreTyped};
 ghost use Rattle.b67_job.specs.Device.{device_of};
 ghost use Rattle.b67_job.specs.Due.{Answered};
 ghost use Rattle.b67_promises.specs.Paging.{AsksForRun};
-ghost use Rattle.b67_promises.specs.Halting.{AsksForImage, AsksForResume, DifferInHalt, ResumePrints};
+ghost use Rattle.b67_promises.specs.MoreCore.{AsksForRunIn, EndsToo};
+ghost use Rattle.b67_promises.specs.Halting.{AsksForImage, AsksForImageIn, AsksForResume, DifferInHalt, ResumePrints, ResumeBegins};
 
 use crate::images::tasks_are_few;
 use b67_backing::Backing;
@@ -65,6 +67,22 @@ pub fn run_halted_then_resumed<
     ensures accepted { (before text : List ℕ) → AsksForImage words.now → AsksForResume resume_words.now
         → K.taken printer.old ≡ Some before → K.taken printer.new ≡ Some (before ++ text) → I.left image.old ≡ Some text → length text ≤ limit
         → result.0 ≡ 3 → result.1 ≢ 2 }
+
+    // Whatever the second status is: the lines of the halted run and what the second call printed are a beginning of what the whole
+    // run printed, and at most one line.
+    ensures begins { (bytes other before text : List ℕ) → AsksForImage words.now → AsksForResume resume_words.now → AsksForRun whole_words.now
+        → S.left deck.old ≡ Some bytes → T.left whole_deck.old ≡ Some other → DifferInHalt bytes other
+        → K.taken printer.old ≡ Some before → K.taken printer.new ≡ Some (before ++ text) → I.left image.old ≡ Some text → B.holds backing.old ≢ None → C.holds whole_backing.old ≢ None
+        → result.0 ≡ 3 → result.2 ≡ 0
+        → ResumeBegins text L.taken resume_printer.old resume_printer.new M.taken whole_printer.old whole_printer.new }
+
+    // If the whole run ends in a core that is no greater than the image's, the resumed one ends, too, unless a device or its printer
+    // fails, or sectors or memory run out.
+    ensures ends_too { (bytes other before text : List ℕ) → (core less : ℕ) → AsksForImageIn core words.now → AsksForResume resume_words.now → AsksForRunIn less whole_words.now → less ≤ core → core < 2 ^ 20
+        → S.left deck.old ≡ Some bytes → T.left whole_deck.old ≡ Some other → DifferInHalt bytes other
+        → K.taken printer.old ≡ Some before → K.taken printer.new ≡ Some (before ++ text) → I.left image.old ≡ Some text → length text ≤ limit → B.holds backing.old ≢ None → C.holds whole_backing.old ≢ None
+        → Stayed I.faults image.old image.new → Stayed L.faults resume_printer.old resume_printer.new → Stayed B.faults backing.old backing.new
+        → result.0 ≡ 3 → result.2 ≡ 0 → EndsToo 0 result.1 }
 
     // The first two statuses are those of calls of `run`, the second over the backing as the first has left it.
     ensures calls { (middle : B)

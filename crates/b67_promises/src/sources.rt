@@ -1,6 +1,9 @@
 //! A program is its codefile, over texts.
 
-ghost use Rattle.std.specs.Prelude.{◌≡◌, ◌≢◌, ℕ, List, [], Some, None, codes};
+ghost use Rattle.std.specs.Prelude.{◌≡◌, ◌≢◌, ℕ, List, [], Option, Some, None, codes};
+ghost use Rattle.b67_task_tables.specs.declared.tables.Machine.{Machine};
+ghost use Rattle.b67_job.specs.Device.{device_of};
+ghost use Rattle.b67_job.specs.Due.{Answered};
 ghost use Rattle.b67_promises.specs.Paging.{AsksForRun, SameLines};
 ghost use Rattle.b67_promises.specs.Sources.{AsksForAsm, AsksForConvert, HoldPrinted};
 
@@ -49,6 +52,18 @@ pub fn run_source_and_printed<
         → HoldPrinted (codes "?HEX") bytes other text printed → AsksForRun words.now → AsksForRun other_words.now
         → S.left deck.old ≡ Some bytes → T.left other_deck.old ≡ Some other → B.holds backing.old ≢ None → C.holds other_backing.old ≢ None
         → SameLines K.taken printer.old printer.new result.1 L.taken other_printer.old other_printer.new result.2 }
+
+    // The first status is that of a call of `run` on the source, the cards and the spare backing.
+    ensures made_call { (machine : Option Machine) × Answered made_words.now R.left R.faults source.old source.new (device_of A.holds A.size A.faults spare.old spare.new)
+        machine P.taken P.faults cards.old cards.new result.0 }
+
+    // The second status is that of a call on the words, the deck, the printer and the backing.
+    ensures call { (machine : Option Machine) × Answered words.now S.left S.faults deck.old deck.new (device_of B.holds B.size B.faults backing.old backing.new)
+        machine K.taken K.faults printer.old printer.new result.1 }
+
+    // The third status is that of a call on the others.
+    ensures other_call { (machine : Option Machine) × Answered other_words.now T.left T.faults other_deck.old other_deck.new (device_of C.holds C.size C.faults other_backing.old other_backing.new)
+        machine L.taken L.faults other_printer.old other_printer.new result.2 }
 {
     let made = run(alloc, made_words, source, cards, spare);
     let one = run(alloc, words, deck, printer, backing);

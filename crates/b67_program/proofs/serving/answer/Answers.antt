@@ -1,4 +1,4 @@
-use Rattle.std.proofs.Common.{Err, subst}
+use Rattle.std.proofs.Common.{Err, refl, subst}
 use Rattle.b67_program.specs.Input.{IsTakenIn}
 use Rattle.b67_program.specs.declared.reading.InputFault.{InputFault}
 use Rattle.b67_program.proofs.Answering.{unread_of, failed_of, carried, failed, wanted, seven, not_seven}
@@ -16,7 +16,7 @@ returns-in-Ok-clause-reading g c = λ e.
     seven (carried c.text_limit.result c.in-Ok.bytes c.new-deck.result c.run.new.deck c.run.result.machine c.text_limit.ensures.limit c.in-Ok.ensures c.new-deck.ensures.left c.run.ensures.due c.run.ensures.status c.run.ensures.complete) e
 
 pub returns-in-Err-SourceFault-clause-answered : goal.returns-in-Err-SourceFault-clause-answered
-returns-in-Err-SourceFault-clause-answered g c = failed c.text_limit.result c.text_limit.ensures.limit (subst (λ (f : InputFault). IsTakenIn c.text_limit.result g.S.Source.left g.S.Source.faults c.args.input.now c.take_in.new.input (Err f)) c.in-Err-SourceFault.field-0-is c.in-Err-SourceFault.ensures) c.say_reading_fault.ensures
+returns-in-Err-SourceFault-clause-answered g c = failed c.text_limit.result c.text_limit.ensures.limit (subst (λ (f : InputFault). IsTakenIn c.text_limit.result g.S.Source.left g.S.Source.faults c.args.input.now c.take_in.new.input (Err f)) c.in-Err-SourceFault.field-0-is c.in-Err-SourceFault.ensures) refl c.say_reading_fault.ensures
 
 pub returns-in-Err-SourceFault-clause-unread : goal.returns-in-Err-SourceFault-clause-unread
 returns-in-Err-SourceFault-clause-unread g c = λ e. unread_of _ _ _ _ _ _ c.text_limit.ensures.limit _ c.in-Err-SourceFault.ensures e
@@ -25,7 +25,7 @@ pub returns-in-Err-SourceFault-clause-reading : goal.returns-in-Err-SourceFault-
 returns-in-Err-SourceFault-clause-reading g c = λ e. (failed_of _ g.S.Source.left g.S.Source.faults c.args.input.now c.take_in.new.input _ c.text_limit.ensures.limit (subst (λ (f : InputFault). IsTakenIn c.text_limit.result g.S.Source.left g.S.Source.faults c.args.input.now c.take_in.new.input (Err f)) c.in-Err-SourceFault.field-0-is c.in-Err-SourceFault.ensures)).1
 
 pub returns-in-Err-Memory-clause-answered : goal.returns-in-Err-Memory-clause-answered
-returns-in-Err-Memory-clause-answered g c = wanted c.text_limit.result c.text_limit.ensures.limit (subst (λ (f : InputFault). IsTakenIn c.text_limit.result g.S.Source.left g.S.Source.faults c.args.input.now c.take_in.new.input (Err f)) c.in-Err-Memory.field-0-is c.in-Err-Memory.ensures) c.refuse_memory.ensures.ends
+returns-in-Err-Memory-clause-answered g c = wanted c.text_limit.result c.text_limit.ensures.limit (subst (λ (f : InputFault). IsTakenIn c.text_limit.result g.S.Source.left g.S.Source.faults c.args.input.now c.take_in.new.input (Err f)) c.in-Err-Memory.field-0-is c.in-Err-Memory.ensures) refl c.refuse_memory.ensures.ends
 
 pub returns-in-Err-Memory-clause-unread : goal.returns-in-Err-Memory-clause-unread
 returns-in-Err-Memory-clause-unread g c = λ e. unread_of _ _ _ _ _ _ c.text_limit.ensures.limit _ c.in-Err-Memory.ensures e

@@ -20,3 +20,12 @@ returns-clause-convert g c = λ text printed bytes other made_w gave empty full 
     let second = call_prints g.L.Sink.taken g.L.Sink.faults c.args.other_printer.now c.run-other.new.printer (judgement other) None (asks_run c.args.other_words.now g.T.Source.left c.args.other_deck.now c.run-other.new.deck other w' told') tells' c.run-other.result.status c.run-other.ensures.due in
     one_run_lines g.K.Sink.taken c.args.printer.now c.run-one.new.printer c.run-one.result.status g.L.Sink.taken c.args.other_printer.now c.run-other.new.printer c.run-other.result.status bytes other None
     (λ p q is is'. convert_run bytes other text printed p q is is' h made) one second
+
+pub returns-clause-made_call : goal.returns-clause-made_call
+returns-clause-made_call g c = (c.run-made.result.machine, c.run-made.ensures.due)
+
+pub returns-clause-call : goal.returns-clause-call
+returns-clause-call g c = (c.run-one.result.machine, c.run-one.ensures.due)
+
+pub returns-clause-other_call : goal.returns-clause-other_call
+returns-clause-other_call g c = (c.run-other.result.machine, c.run-other.ensures.due)
