@@ -14,7 +14,7 @@ use Rattle.b67_image_shape.specs.TableMarks.{IsTable}
 use Rattle.b67_image_shape.specs.Items.{ShownItems}
 use Rattle.b67_image_shape.specs.ObjectLaws.{ObjectsAreTested}
 use Rattle.b67_image_shape.specs.ObjectMarks.{AreMarked}
-use Rattle.b67_image_shape.specs.Shape.{front_test, FitsBut, IsTestable, ShowsRunning, ShapeIsDecided, DisplaysAreTold}
+use Rattle.b67_image_shape.specs.Shape.{front_test, FitsBut, IsTestable, ShowsRunning, ShapeIsDecided}
 use Rattle.b67_image_shape.proofs.Fits.{both, pair}
 use Rattle.b67_image_shape.proofs.Tables.{tables_decided}
 use Rattle.b67_image_shape.proofs.Fixed.{fixed_decided, critical_decided}
@@ -107,6 +107,3 @@ module _ (stacks : StacksAreRead) (areas : DirectoriesAreRead) (objects : Object
 
 pub shape_decided : StacksAreRead → DirectoriesAreRead → ObjectsAreTested → ShapeIsDecided
 shape_decided stacks areas objects k kinds told = shape_by stacks areas objects k kinds told
-
-pub displays_told : StacksAreRead → DirectoriesAreRead → ObjectsAreTested → DisplaysAreTold
-displays_told stacks areas objects k kinds told f = display_told k (items_but stacks areas objects k kinds told f)

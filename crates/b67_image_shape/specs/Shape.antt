@@ -49,6 +49,3 @@ ShapeIsDecided =
 pub record IsToldDisplay (k : Machine) : Type 0 where
   pub none : k.cpu.regs.slot ≡ NO_SLOT → ShowsRunning k
   pub some : k.cpu.regs.slot ≢ NO_SLOT → (a : RunningContext k.cpu.core k.cpu.regs) × (IsShown a k.cpu.display → ShowsRunning k) × (ShowsRunning k → IsShown a k.cpu.display)
-
-abbrev pub DisplaysAreTold : Type 0
-DisplaysAreTold = (k : Machine) (kinds : List ℕ) → IsTestable k kinds → FitsBut k kinds → IsToldDisplay k

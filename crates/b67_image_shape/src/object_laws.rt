@@ -1,7 +1,6 @@
 //! What the test of objects, areas and chains tells of a machine.
 
 ghost use Rattle.b67_image_shape.specs.ObjectLaws.{ObjectsAreTested};
-ghost use Rattle.b67_image_shape.specs.ObjectTable.{ObjectsAreMarked};
 
 use b67_backing::sectors_tell_chains;
 
@@ -13,7 +12,3 @@ pub fn objects_are_tested()
     sectors_tell_chains();
 }
 
-/// Over tables, fixed words and stacks as they should be, the table of marks marks the objects that a machine shows.
-pub fn objects_are_marked()
-    ensures { ObjectsAreMarked }
-{}

@@ -1,6 +1,6 @@
 //! All tests together.
 
-ghost use Rattle.b67_image_shape.specs.Shape.{ShapeIsDecided, DisplaysAreTold};
+ghost use Rattle.b67_image_shape.specs.Shape.{ShapeIsDecided};
 
 use crate::object_laws::objects_are_tested;
 use b67_layout_shown::laws::{directories_are_read, stacks_are_read};
@@ -14,11 +14,3 @@ pub fn shape_is_decided()
     objects_are_tested();
 }
 
-/// Whether the display is that of the running task can be told once the other tests pass.
-pub fn displays_are_told()
-    ensures { DisplaysAreTold }
-{
-    stacks_are_read();
-    directories_are_read();
-    objects_are_tested();
-}

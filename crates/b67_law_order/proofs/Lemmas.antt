@@ -12,7 +12,7 @@ use Rattle.b67_model.specs.Common.{Answer, ◌>>=◌, add, subt, mult, idiv, rdi
 use Rattle.b67_model.specs.Words.{whole}
 use Rattle.b67_model.specs.Keyed.{keyed, change_keyed}
 use Rattle.b67_law_order.proofs.Posts.{Post, post_ok, post_err, post_any, post_then, post_at}
-use Rattle.b67_law_order.specs.Profiles.{Profile, profile, profiles, RowsKeepProfiles, PrintKeepsProfiles}
+use Rattle.b67_law_order.specs.Profiles.{Profile, profile, profiles, RowsKeepProfiles}
 
 -- another task of the same profile in a task's place
 pub profiles_put : (n : ℕ) (t : Task) (ts : List Task) → keyed (λ (p : Profile). p.number) n (profiles ts) ≡ Some (profile t)
@@ -219,11 +219,6 @@ module _ (none : Type 0) (first : List Profile) (own : Profile) (known : keyed (
   row_good (Insr high width) h s e = on_cells_good (on_two (insr high width)) h s
   row_good (Plain code) h s e = plain_good code h s e
 
-  print_good : (h : OperatorContext) (arguments : List Word) → Source h → Good (print h arguments)
-  print_good h [] s = post_err Keeps _
-  print_good h (w ∷ []) s = post_any Keeps (whole w) _ (λ n. post_then Keeps _ _ (result_good h h.job (answered h []) (Value n ∷ []) None s.tasks s.task s.arrays))
-  print_good h (w ∷ v ∷ more) s = post_err Keeps _
-
 abbrev NoArrays : OperatorContext → Type 0
 NoArrays h = h.job.arrays ≡ []
 
@@ -231,8 +226,3 @@ pub rows_keep : RowsKeepProfiles
 rows_keep op h known e after printed touched is =
     post_at (Keeps (NoArrays h) (profiles h.job.tasks) (profile h.task) known) (row op h) (Goes after printed touched) is
     (row_good (NoArrays h) (profiles h.job.tasks) (profile h.task) known op h (record { tasks = refl; task = refl; arrays = λ n. n }) e)
-
-pub print_keeps : PrintKeepsProfiles
-print_keeps h arguments known after printed touched is =
-    post_at (Keeps (NoArrays h) (profiles h.job.tasks) (profile h.task) known) (print h arguments) (Goes after printed touched) is
-    (print_good (NoArrays h) (profiles h.job.tasks) (profile h.task) known h arguments (record { tasks = refl; task = refl; arrays = λ n. n }))

@@ -26,10 +26,3 @@ RowsKeepProfiles =
     (op : Op) (h : OperatorContext) → IsKnown h → called op h ≡ None →
     (after : Job) (printed : List Line) (touched : Option ℕ) → row op h ≡ Ok (Goes after printed touched) →
     (profiles after.tasks ≡ profiles h.job.tasks) × (h.job.arrays ≡ [] → after.arrays ≡ [])
-
--- nor does PRINT
-abbrev pub PrintKeepsProfiles : Type 0
-PrintKeepsProfiles =
-    (h : OperatorContext) (arguments : List Word) → IsKnown h →
-    (after : Job) (printed : List Line) (touched : Option ℕ) → print h arguments ≡ Ok (Goes after printed touched) →
-    (profiles after.tasks ≡ profiles h.job.tasks) × (h.job.arrays ≡ [] → after.arrays ≡ [])

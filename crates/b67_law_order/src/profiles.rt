@@ -1,6 +1,6 @@
 //! What a step leaves of all tasks.
 
-ghost use Rattle.b67_law_order.specs.Profiles.{RowsKeepProfiles, PrintKeepsProfiles};
+ghost use Rattle.b67_law_order.specs.Profiles.{RowsKeepProfiles};
 
 /// An operator that calls no intrinsic leaves each task its number, its parents, its critical activation record and its
 /// condition, starts and ends none, and makes no array.
@@ -8,7 +8,3 @@ pub fn rows_keep_profiles()
     ensures { RowsKeepProfiles }
 {}
 
-/// So does PRINT.
-pub fn print_keeps_profiles()
-    ensures { PrintKeepsProfiles }
-{}

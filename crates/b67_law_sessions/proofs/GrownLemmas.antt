@@ -5,7 +5,7 @@ use Rattle.b67_word.specs.declared.faults.Ending.TheVariants.{Ended, Faulted}
 use Rattle.b67_model.specs.Common.{Answer, Task, JobConstants, Job, JobProgress, with_task, Done, Goes, Leaves, Waits, read, reading_of, step_by, step, Reading, Settled, ends_all, ends_task, ends_each_if, unsettled, settles, stepped, by_task, step_of}
 use Rattle.b67_model.specs.Keyed.{keyed}
 use Rattle.b67_model.specs.Alone.{whole}
-use Rattle.b67_law_sessions.specs.Grown.{Grown, RowsGrow, StepsGrow}
+use Rattle.b67_law_sessions.specs.Grown.{Grown, StepsGrow}
 use Rattle.b67_law_order.proofs.Posts.{Post, post_err}
 use Rattle.b67_law_order.proofs.Identities.{Grown as RowGrown, Keeps, Good, row_good}
 
@@ -15,11 +15,6 @@ of_row g = record { frames = g.frames; arrays = g.arrays; tasks = g.tasks }
 
 same : (job : Job) → Grown job job
 same job = record { frames = omega arith; arrays = omega arith; tasks = omega arith }
-
-pub rows_grow : RowsGrow
-rows_grow op h after printed touched e =
-    let good : Good h (Ok (Goes after printed touched)) = subst (λ (a : Answer Done). Good h a) e (row_good op h) in
-    of_row good.by
 
 -- the endings of a step take no identity back
 ends_grown : (s : Settled) (endings : List (ℕ × Ending)) → Grown s.job (ends_all s endings).job

@@ -6,11 +6,9 @@ pub mod FaultRows
 mod GrownLemmas
 pub mod Keeping
 pub mod Literals
-mod LookLemmas
 pub mod Makers
 pub mod Nvld
 pub mod Opened
-mod PlaceLemmas
 pub mod Rows
 pub mod States
 pub mod Steps

@@ -9,11 +9,6 @@ pub record Grown (before after : Job) : Type 0 where
   pub arrays : before.next_array ≤ after.next_array
   pub tasks : before.next_task ≤ after.next_task
 
--- after the row of any operator
-abbrev pub RowsGrow : Type 0
-RowsGrow =
-    (op : Op) (h : OperatorContext) (after : Job) (printed : List Line) (touched : Option ℕ) → row op h ≡ Ok (Goes after printed touched) → Grown h.job after
-
 -- after a whole step of any task
 abbrev pub StepsGrow : Type 0
 StepsGrow = (constants : JobConstants) (c : JobProgress) (number : ℕ) → Grown c.job (step_of constants c number).progress.job

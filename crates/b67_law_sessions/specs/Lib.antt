@@ -2,10 +2,8 @@ pub mod Ended
 pub mod Faults
 pub mod Grown
 pub mod JobsApart
-pub mod Looks
 pub mod Made
 pub mod Opened
-pub mod Places
 pub mod RunFaults
 pub mod RunMade
 pub mod Orders

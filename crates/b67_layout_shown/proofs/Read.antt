@@ -14,7 +14,6 @@ use Rattle.b67_layout.proofs.Common.{task_row, stack_in_slot, original_of, entry
 use Rattle.b67_layout_shown.specs.Reading.{stack_seen}
 use Rattle.b67_layout_shown.specs.Places.{name_among, array_among, frame_by}
 use Rattle.b67_layout_shown.specs.Shown.{number_by, number_seen, frame_seen, array_homed, frames_of}
-use Rattle.b67_layout_shown.specs.Laws.{TasksAreRead}
 use Rattle.b67_layout_shown.proofs.Stacks.{stacks_read}
 use Rattle.b67_layout_shown.proofs.Tasks.{row_in, callers, task_read}
 use Rattle.b67_layout_shown.proofs.Arrays.{under_there, tasks_home, at_slot, at_dictionary, among_none, dictionary_under}
@@ -107,6 +106,3 @@ module _ (x : Storage) (cpu : Cpu) (plan : Placement) (s : Session) (m : Session
         longer : (fs : List Frame) → length (activations plan m.constants.number m.progress.job (slot_of plan m.constants.number t.number) (outer_spots plan m.constants.number m.progress.job t.critical t.parents) fs) ≡ length fs
         longer [] = refl
         longer (f ∷ below) = ap suc (longer below)
-
-pub tasks_read : TasksAreRead
-tasks_read x cpu plan s m t tasks jobs row c ordered stands tables in_session there shows n many = frames_are x cpu plan s m tasks jobs row c ordered stands tables in_session shows t there n many

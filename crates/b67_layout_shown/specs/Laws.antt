@@ -28,34 +28,6 @@ StacksAreRead =
     (x : Storage) (core : List Tagged) (r : Regs) (p : MachineView) → Represents x core r p → (k : ℕ) → k < p.peak → (stack : List Activation) → stack_of (p.slots k) ≡ stack →
     stack ≢ [] → HaveCallers stack → (n : ℕ) → length stack ≤ n → stack_seen core n (slot_base p k + mark_place stack) (slot_base p k + stack_words stack) ≡ stack
 
--- The frames that are read of a live task of a session in order, from its topmost mark down, are its own, under names by place
-abbrev pub TasksAreRead : Type 0
-TasksAreRead =
-    (x : Storage) (cpu : Cpu) (plan : Placement) (s : Session) (m : SessionJob) (t : Task) (tasks : List TaskRow) (jobs : List JobRow) (row : JobRow) (c : JobCounts) →
-    IsInOrderButCounts s → RepresentsSession x cpu plan s → TablesShow plan s tasks jobs c → Has s.jobs m → Has m.progress.job.tasks t → JobShows plan m row → (n : ℕ) → length t.frames ≤ n →
-    let stack = stack_of_task plan m.constants.number m.progress.job (slot_of plan m.constants.number t.number) t in
-    let base = cpu.regs.stacks + slot_of plan m.constants.number t.number * cpu.regs.stack_size in
-    frames_of t.number (frame_seen tasks m.constants.number) (array_homed cpu.regs tasks row) (stack_seen cpu.core n (base + mark_place stack) (base + stack_words stack))
-    ≡ map (frame_by (name_among m.progress.job.tasks) (array_among m.progress.job.tasks)) t.frames
-
--- The tasks and arrays of a job in order are in order under names by place, whatever numbers of 48 bits its arrays hold, and whatever
--- levels, entries and code its segments have
-abbrev pub PlacesKeepOrder : Type 0
-PlacesKeepOrder =
-    (constants constants' : JobConstants) (job : Job) (numbers : ℕ → List ℕ) (rows : ℕ) → SettingInOrder constants → TasksInOrder (IsSegment constants) constants job →
-    rows + length constants.segments ≡ length constants.dictionary.cells → length constants'.segments ≡ length constants.segments → constants'.dictionary ≡ constants.dictionary →
-    constants'.stack_size ≡ constants.stack_size →
-    ((a : Array) → Has job.arrays a → (length (numbers a.identity) ≡ length a.numbers) × AllByRecursion (λ n. n < 2 ^ 48) (numbers a.identity)) →
-    TasksInOrder (IsSegment constants') constants' (job_placed rows numbers job)
-
--- A job that a machine shows of a session in order is the session's, under names by place and with the numbers that are in core
-abbrev pub JobsAreShown : Type 0
-JobsAreShown =
-    (x : Storage) (cpu : Cpu) (plan : Placement) (s : Session) (m : SessionJob) (tasks : List TaskRow) (jobs : List JobRow) (row : JobRow) (c : JobCounts) →
-    IsInOrderButCounts s → RepresentsSession x cpu plan s → TablesShow plan s tasks jobs c → Has s.jobs m → JobShows plan m row →
-    job_seen (record { core = cpu.core; regs = cpu.regs; tasks = tasks; jobs = jobs; counts = c }) row m.constants.number
-    ≡ job_placed row.rows (numbers_read cpu.core (plan.home m.constants.number)) m.progress.job
-
 -- What a machine shows that represents a session in order but for places is in order but for places
 abbrev pub ShownIsInOrder : Type 0
 ShownIsInOrder =
