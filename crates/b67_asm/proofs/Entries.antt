@@ -13,6 +13,7 @@ use Rattle.b67_model_text.proofs.Pass.{content_is}
 use Rattle.b67_asm.specs.Putting.{put_behind}
 use Rattle.b67_asm.specs.Blocks.{has_entry_card}
 use Rattle.b67_asm.specs.Scope.{scope_at}
+use Rattle.b67_model.specs.declared.limits.TheConstants.{MOST_SEGMENT, MOST_ENTRIES}
 
 abbrev Rises : ℕ → List ℕ → Type 0
 Rises low [] = Unit {0}
@@ -41,7 +42,7 @@ length_in n (m ∷ more) = by_test (length_in n more) (nat_lt n m)
     by_test rest false = omega (arith, rest)
 
 abbrev IsLow : ℕ → Type 0
-IsLow n = n ≤ 6 * 8191
+IsLow n = n ≤ 6 * MOST_SEGMENT
 
 all_low : (n : ℕ) (xs : List ℕ) → AllByRecursion IsLow xs → IsLow n → AllByRecursion IsLow (asm.inserted_in_order n xs)
 all_low n [] h low = (low, tt)
@@ -54,11 +55,11 @@ all_low n (m ∷ more) h low = by_test (all_low n more h.1 low) (nat_lt n m)
 -- syllables of entries
 record Fit (entries : List ℕ) : Type 0 where
   rise : Rises 0 entries
-  few : length entries ≤ 255
+  few : length entries ≤ MOST_ENTRIES
   low : AllByRecursion IsLow entries
 
 abbrev AreLow : (List ℕ → Option ℕ) → Type 0
-AreLow labels = (q : List ℕ) (m : ℕ) → labels q ≡ Some m → m ≤ 6 * 8191
+AreLow labels = (q : List ℕ) (m : ℕ) → labels q ≡ Some m → m ≤ 6 * MOST_SEGMENT
 
 entry_fits : (x : asm.Scope) (entries : List ℕ) (l : Line) (added : pass.Added) → AreLow x.labels → Fit entries → AddsEntry x entries l added → Fit (pass.entries_behind entries added)
 entry_fits x entries l added low fit a = subst (λ (added : pass.Added). Fit (pass.entries_behind entries added)) a.is (record {
@@ -82,7 +83,7 @@ content_fits x n entries (l ∷ more) content low fit e =
     let rest = content_fits x (pass.syllable_behind n h.added) (pass.entries_behind entries h.added) more h.rest low behind h.behind_it in
     subst (λ (c : asm.SegmentContent). Fit c.entries) h.all (subst Fit (sym (same_entries h.added h.rest)) rest)
 
-count_is : (n : ℕ) → n ≤ 6 * 8191 → entry_count (asm.syllable_bits n) ≡ n
+count_is : (n : ℕ) → n ≤ 6 * MOST_SEGMENT → entry_count (asm.syllable_bits n) ≡ n
 count_is n low = omega (arith, low)
 
 syllable_fits : (n : ℕ) → asm.syllable_bits n / 2 ^ 13 < 6

@@ -14,6 +14,7 @@ use Rattle.b67_asm.proofs.Entries.{entries_fit, no_entries}
 use Rattle.b67_codefile.specs.Spelling.{HasNoEntries}
 use Rattle.b67_codefile.specs.declared.file.Segment.{Segment}
 use Rattle.b67_codefile.specs.declared.file.Codefile.{Codefile}
+use Rattle.b67_model.specs.declared.limits.TheConstants.{MOST_PARTS}
 
 abbrev segment_rest : asm.Names → ℕ → List Line → ℕ → Result asm.Part Refusal
 segment_rest names segments lines l = asm.content_of (scope_at names segments l lines) lines >>= λ content. Ok (asm.CodePart (record { level = l; entries = map asm.syllable_bits content.entries; code = code_words content.operators }))
@@ -21,7 +22,7 @@ segment_rest names segments lines l = asm.content_of (scope_at names segments l 
 -- a segment is its card's level and its code
 pub segment_is : (names : asm.Names) (segments s r number : ℕ) (name : List ℕ) (level : Option ℕ) (lines : List Line) → asm.segment_part names segments s r number name level lines ≡ (of_card number (segment_head names s r name level lines) >>= segment_rest names segments lines)
 segment_is names segments s r number name None lines = refl
-segment_is names segments s r number name (Some l) lines = tests (asm.is_segment_number s (names.means name)) (list_any asm.is_code lines) (nat_lt (s + r) 255)
+segment_is names segments s r number name (Some l) lines = tests (asm.is_segment_number s (names.means name)) (list_any asm.is_code lines) (nat_lt (s + r) MOST_PARTS)
   where
     tests : (a b c : Bool) → (of_card number (needs a 4) >> (of_card number (needs b 7) >> (of_card number (needs c 9) >> segment_rest names segments lines l))) ≡ (of_card number (needs a 4 >> (needs b 7 >> (needs c 9 >> Ok l))) >>= segment_rest names segments lines)
     tests false b c = refl
@@ -30,7 +31,7 @@ segment_is names segments s r number name (Some l) lines = tests (asm.is_segment
     tests true true true = refl
 
 pub row_is : (names : asm.Names) (s r number : ℕ) (name : List ℕ) (lines : List Line) → asm.row_part names s r number name lines ≡ (of_card number (row_head names s r name lines) >>= λ done. asm.row_words names 0 lines >>= λ words. Ok (asm.RowPart words))
-row_is names s r number name lines = tests (asm.is_row_number r (names.means name)) (list_any (λ l. asm.is_numbers l.kind) lines) (nat_lt (s + r) 255)
+row_is names s r number name lines = tests (asm.is_row_number r (names.means name)) (list_any (λ l. asm.is_numbers l.kind) lines) (nat_lt (s + r) MOST_PARTS)
   where
     tests : (a b c : Bool) → (of_card number (needs a 4) >> (of_card number (needs b 7) >> (of_card number (needs c 9) >> (asm.row_words names 0 lines >>= λ words. Ok (asm.RowPart words))))) ≡ (of_card number (needs a 4 >> (needs b 7 >> needs c 9)) >>= λ done. asm.row_words names 0 lines >>= λ words. Ok (asm.RowPart words))
     tests false b c = refl

@@ -21,6 +21,7 @@ use Rattle.b67_asm.specs.declared.names.Labels.{Labels}
 use Rattle.b67_asm.specs.Scope.{begins_segment, HoldsLabels, HoldLabels, label_syllable, is_entry_of}
 use Rattle.b67_asm.proofs.NamesLaw.{grown, or_rest}
 use Rattle.b67_asm.proofs.Program.{rest_is}
+use Rattle.b67_model.specs.declared.limits.TheConstants.{MOST_SEGMENT}
 
 pub drop_item : {A : Type 0} (xs : List A) (i : ℕ) (x : A) → i < length xs → x ≡ get_or xs i x → drop i xs ≡ x ∷ drop (i + 1) xs
 drop_item xs i x lt e =
@@ -131,7 +132,7 @@ line_put x lines item i out new entries entries' added all lt is e n s before =
     ∙ before
 
 -- nothing is written yet
-pub first_put : (x : Scope) (lines : List Line) (out entries : List ℕ) → out ≡ [] → entries ≡ [] → (length out ≤ 6 * 8191) × (code_count lines ≤ length out + code_count lines) × (put_behind out (pass_content x (length out) entries lines) ≡ put_behind [] (content_of x lines))
+pub first_put : (x : Scope) (lines : List Line) (out entries : List ℕ) → out ≡ [] → entries ≡ [] → (length out ≤ 6 * MOST_SEGMENT) × (code_count lines ≤ length out + code_count lines) × (put_behind out (pass_content x (length out) entries lines) ≡ put_behind [] (content_of x lines))
 first_put x lines out entries o e = (
   omega (arith, ap length o),
   omega arith,

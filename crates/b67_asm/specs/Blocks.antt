@@ -14,6 +14,7 @@ use Rattle.b67_model_text.specs.Deck.{Refusal}
 use Rattle.b67_model_text.specs.Asm as asm
 use Rattle.b67_asm.specs.declared.fault.AsmFault.{AsmFault}
 use Rattle.b67_asm.specs.declared.fault.AsmFault.TheVariants.{Card, Memory}
+use Rattle.b67_model.specs.declared.limits.TheConstants.{MOST_PARTS}
 
 -- what is refused of a segment's card, and its level
 abbrev pub segment_head : asm.Names → (s r : ℕ) (name : List ℕ) (level : Option ℕ) → List Line → Answer ℕ
@@ -21,7 +22,7 @@ segment_head names s r name level lines = do
   l ← or_reason level 3
   needs (asm.is_segment_number s (names.means name)) 4
   needs (list_any asm.is_code lines) 7
-  needs (nat_lt (s + r) 255) 9
+  needs (nat_lt (s + r) MOST_PARTS) 9
   Ok l
 
 -- what is refused of a data row's card
@@ -29,7 +30,7 @@ abbrev pub row_head : asm.Names → (s r : ℕ) (name : List ℕ) → List Line 
 row_head names s r name lines = do
   needs (asm.is_row_number r (names.means name)) 4
   needs (list_any (λ l. asm.is_numbers l.kind) lines) 7
-  needs (nat_lt (s + r) 255) 9
+  needs (nat_lt (s + r) MOST_PARTS) 9
 
 abbrev pub has_entry_card : List Line → Bool
 has_entry_card lines = list_any (λ l. asm.says_entry l.says) lines
@@ -48,7 +49,7 @@ RowPartPut (Err Memory) answer = Unit {0}
 -- a codefile that grows
 pub record Grows (f : Codefile) : Type 0 where
   pub version : (f.version ≡ 1) ⊎ (f.version ≡ 2)
-  pub count : length f.segments + length f.rows ≤ 255
+  pub count : length f.segments + length f.rows ≤ MOST_PARTS
   pub segments : AllByRecursion IsFileSegment f.segments
   pub rows : AllByRecursion IsRow f.rows
   pub plain : f.version ≡ 1 → AllByRecursion HasNoEntries f.segments

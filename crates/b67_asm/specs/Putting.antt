@@ -17,10 +17,11 @@ use Rattle.b67_asm.specs.declared.fault.AsmFault.TheVariants as faults
 use Rattle.b67_asm.specs.declared.fault.Refused.{Refused}
 use Rattle.b67_asm.specs.declared.fault.Refused.TheVariants.{Reason, Memory}
 use Rattle.b67_asm.specs.declared.segment.Coded.{Coded}
+use Rattle.b67_model.specs.declared.limits.TheConstants.{MOST_SEGMENT}
 
 -- the operator is written behind the syllables, or the card is refused
 abbrev pub OperatorPut : Result ⊤ Refused → Answer Op → List ℕ → List ℕ → Type 0
-OperatorPut (Ok done) answer old new = (op : Op) × (answer ≡ Ok op) × (new ≡ old ++ laid_one (length old) op) × (length new ≤ 6 * 8191) × (length old < length new)
+OperatorPut (Ok done) answer old new = (op : Op) × (answer ≡ Ok op) × (new ≡ old ++ laid_one (length old) op) × (length new ≤ 6 * MOST_SEGMENT) × (length old < length new)
 OperatorPut (Err (Reason r)) answer old new = answer ≡ Err r
 OperatorPut (Err Memory) answer old new = Unit {0}
 
@@ -42,7 +43,7 @@ least _ = 1
 
 -- what a card adds is written, or it is refused
 abbrev pub AddedPut : Result ⊤ Refused → Answer pass.Added → statement.Statement → (old new : List ℕ) (entries entries' : List ℕ) → Type 0
-AddedPut (Ok done) answer s old new entries entries' = (added : pass.Added) × (answer ≡ Ok added) × (new ≡ old ++ laid_added (length old) added) × (entries' ≡ pass.entries_behind entries added) × (length new ≤ 6 * 8191) × (length old + least s ≤ length new)
+AddedPut (Ok done) answer s old new entries entries' = (added : pass.Added) × (answer ≡ Ok added) × (new ≡ old ++ laid_added (length old) added) × (entries' ≡ pass.entries_behind entries added) × (length new ≤ 6 * MOST_SEGMENT) × (length old + least s ≤ length new)
 AddedPut (Err (Reason r)) answer s old new entries entries' = answer ≡ Err r
 AddedPut (Err Memory) answer s old new entries entries' = Unit {0}
 
@@ -58,7 +59,7 @@ code_count [] = 0
 code_count (l ∷ more) = code_weight l + code_count more
 
 abbrev pub LinePut : Result ⊤ Refused → Answer pass.Added → Line → (old new : List ℕ) (entries entries' : List ℕ) → Type 0
-LinePut (Ok done) answer l old new entries entries' = (added : pass.Added) × (answer ≡ Ok added) × (new ≡ old ++ laid_added (length old) added) × (entries' ≡ pass.entries_behind entries added) × (length new ≤ 6 * 8191) × (length old + code_weight l ≤ length new)
+LinePut (Ok done) answer l old new entries entries' = (added : pass.Added) × (answer ≡ Ok added) × (new ≡ old ++ laid_added (length old) added) × (entries' ≡ pass.entries_behind entries added) × (length new ≤ 6 * MOST_SEGMENT) × (length old + code_weight l ≤ length new)
 LinePut (Err (Reason r)) answer l old new entries entries' = answer ≡ Err r
 LinePut (Err Memory) answer l old new entries entries' = Unit {0}
 
@@ -69,7 +70,7 @@ put_behind out (Err refusal) = Err refusal
 
 -- all cards are written, or this is the first refused card
 abbrev pub ContentPut : Result ⊤ AsmFault → Result (List ℕ × List ℕ) Refusal → ℕ → (out entries : List ℕ) → Type 0
-ContentPut (Ok done) answer count out entries = (answer ≡ Ok (out ++ filling (length out), entries)) × (length out ≤ 6 * 8191) × (count ≤ length out)
+ContentPut (Ok done) answer count out entries = (answer ≡ Ok (out ++ filling (length out), entries)) × (length out ≤ 6 * MOST_SEGMENT) × (count ≤ length out)
 ContentPut (Err (faults.Card card reason)) answer count out entries = answer ≡ Err (record { card = card; reason = reason })
 ContentPut (Err faults.Memory) answer count out entries = Unit {0}
 
@@ -77,7 +78,7 @@ ContentPut (Err faults.Memory) answer count out entries = Unit {0}
 pub record IsSegmentCode (words : List Tagged) (syllables : List ℕ) (count : ℕ) : Type 0 where
   pub code : contents words ≡ packed_words syllables
   pub tags : AllByRecursion (HasTag 3) words
-  pub few : length words ≤ 8191
+  pub few : length words ≤ MOST_SEGMENT
   pub some : 1 ≤ count → 1 ≤ length words
 
 abbrev pub CodePut : Result Coded AsmFault → Result (List ℕ × List ℕ) Refusal → ℕ → Type 0

@@ -5,6 +5,7 @@ ghost use Rattle.b67_model_text.specs.Asm as asm;
 ghost use Rattle.b67_asm.specs.Scope.{names_in, scope_at};
 ghost use Rattle.b67_asm.specs.Putting.{CodePut, put_behind, code_count};
 ghost use Rattle.b67_asm.specs.Blocks.{segment_head, row_head, SegmentPut, RowPartPut, SegmentAdded, RowAdded, PartPut, Grows, has_entry_card};
+ghost use Rattle.b67_model.specs.declared.limits.TheConstants.{MOST_PARTS};
 
 use crate::fault::AsmFault;
 use crate::names::{Names, labels_of, meaning_of};
@@ -12,6 +13,7 @@ use crate::operator::{Scope, misplaced};
 use crate::row::words_in;
 use crate::segment::{Coded, code_in};
 use b67_codefile::{Codefile, Segment};
+use b67_model::MOST_PARTS;
 use b67_model_text::{Kind, Line, Named, Statement};
 use b67_word::Words;
 use std::alloc::Global;
@@ -83,10 +85,10 @@ fn is_row_number(count: usize, named: Option<Named>) -> bool
 
 #[tactic(auto, using(crate::proofs::Parts::code_some))]
 fn level_of<'a>(names: &Names<'a>, block: &Block<'a>, level: Option<u8>) -> Result<u8, u8>
-    requires { block.now.segments + block.now.rows ≤ 255 }
+    requires { block.now.segments + block.now.rows ≤ MOST_PARTS }
     ensures exact { result ≡ segment_head (names_in names.now) block.now.segments block.now.rows block.now.name.now level block.now.own.now }
     ensures small { IfOk result (λ l. l < 2 ^ 8) }
-    ensures room { OnOk result (block.now.segments + block.now.rows < 255) }
+    ensures room { OnOk result (block.now.segments + block.now.rows < MOST_PARTS) }
     ensures some { OnOk result (1 ≤ code_count block.now.own.now) }
 {
     match level {
@@ -98,7 +100,7 @@ fn level_of<'a>(names: &Names<'a>, block: &Block<'a>, level: Option<u8>) -> Resu
             if !has_code(block.own) {
                 return Err(7);
             }
-            if block.segments + block.rows < 255 {
+            if block.segments + block.rows < MOST_PARTS as usize {
                 Ok(level)
             } else {
                 Err(9)
@@ -109,9 +111,9 @@ fn level_of<'a>(names: &Names<'a>, block: &Block<'a>, level: Option<u8>) -> Resu
 
 #[tactic(auto, using(crate::proofs::Parts::any_some))]
 fn check_row<'a>(names: &Names<'a>, block: &Block<'a>) -> Result<(), u8>
-    requires { block.now.segments + block.now.rows ≤ 255 }
+    requires { block.now.segments + block.now.rows ≤ MOST_PARTS }
     ensures exact { result ≡ row_head (names_in names.now) block.now.segments block.now.rows block.now.name.now block.now.own.now }
-    ensures room { OnOk result (block.now.segments + block.now.rows < 255) }
+    ensures room { OnOk result (block.now.segments + block.now.rows < MOST_PARTS) }
     ensures some { OnOk result (1 ≤ length block.now.own.now) }
 {
     if !is_row_number(block.rows, meaning_of(&names.meanings, block.name)) {
@@ -120,7 +122,7 @@ fn check_row<'a>(names: &Names<'a>, block: &Block<'a>) -> Result<(), u8>
     if !has_numbers(block.own) {
         return Err(7);
     }
-    if block.segments + block.rows < 255 {
+    if block.segments + block.rows < MOST_PARTS as usize {
         Ok(())
     } else {
         Err(9)
@@ -155,10 +157,10 @@ fn segment_in<'a>(
     block: &Block<'a>,
     level: Option<u8>,
 ) -> Result<Segment, AsmFault>
-    requires counts { block.now.segments + block.now.rows ≤ 255 }
+    requires counts { block.now.segments + block.now.rows ≤ MOST_PARTS }
     requires small { length block.now.own.now < 2 ^ 31 }
     ensures exact { SegmentPut result (asm.segment_part (names_in names.now) segments block.now.segments block.now.rows block.now.number block.now.name.now level block.now.own.now) block.now.own.now }
-    ensures room { OnOk result (block.now.segments + block.now.rows < 255) }
+    ensures room { OnOk result (block.now.segments + block.now.rows < MOST_PARTS) }
 {
     match level_of(names, block, level) {
         Ok(level) => match segment_code(alloc, names, segments, level, block.own) {
@@ -177,9 +179,9 @@ fn segment_in<'a>(
 }
 
 fn row_in<'a>(alloc: Global, names: &Names<'a>, block: &Block<'a>) -> Result<Words, AsmFault>
-    requires { block.now.segments + block.now.rows ≤ 255 }
+    requires { block.now.segments + block.now.rows ≤ MOST_PARTS }
     ensures exact { RowPartPut result (asm.row_part (names_in names.now) block.now.segments block.now.rows block.now.number block.now.name.now block.now.own.now) }
-    ensures room { OnOk result (block.now.segments + block.now.rows < 255) }
+    ensures room { OnOk result (block.now.segments + block.now.rows < MOST_PARTS) }
 {
     match check_row(names, block) {
         Ok(()) => match words_in(alloc, names, block.own) {

@@ -5,6 +5,7 @@ ghost use Rattle.std.specs.List.{AllByRecursion};
 ghost use Rattle.b67_codefile.specs.Spelling.{HasTag};
 ghost use Rattle.b67_model.specs.Encoding.{has_bits};
 ghost use Rattle.b67_model_text.specs.Encoding.{filling, literal_part, laid_one, packed_words};
+ghost use Rattle.b67_model.specs.declared.limits.TheConstants.{MOST_SEGMENT};
 
 use arrayvec::ArrayVec;
 use b67_model::Op;
@@ -17,7 +18,7 @@ pub fn fill(out: &mut Vec<u8>) -> Result<(), AllocError>
     ensures filled { OnOk result (out.new.items ≡ out.old.items ++ filling (length out.old.items)) }
     ensures whole { OnOk result (length out.new.items % 6 ≡ 0) }
     ensures more { OnOk result (length out.old.items ≤ length out.new.items) }
-    ensures few { OnOk result (length out.old.items ≤ 6 * 8191 → length out.new.items ≤ 6 * 8191) }
+    ensures few { OnOk result (length out.old.items ≤ 6 * MOST_SEGMENT → length out.new.items ≤ 6 * MOST_SEGMENT) }
 {
     while out.len() % 6 != 0 {
         out.push(0xFF)?;

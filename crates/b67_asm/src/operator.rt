@@ -9,9 +9,10 @@ ghost use Rattle.std.specs.Option.{option_map, option_and_then};
 ghost use Rattle.b67_model.specs.Operators.{place_at};
 ghost use Rattle.b67_asm.specs.Names.{label_entries};
 ghost use Rattle.b67_asm.specs.Scope.{names_in, scope_of, IsOperator};
+ghost use Rattle.b67_model.specs.declared.limits.TheConstants.{MOST_SEGMENT};
 
 use crate::names::{Names, is_entry, label_of, meaning_of, place_of};
-use b67_model::Op;
+use b67_model::{MOST_SEGMENT, Op};
 use b67_model_text::{Branch, Call, Name, Named, Sketch, Statement, Values};
 use b67_word::{Couple, Place, bits_of};
 use std::collections::BTreeMap;
@@ -68,7 +69,7 @@ fn entry_in<'a>(names: &Names<'a>, named: Option<Named>, label: &'a [u8]) -> boo
 pub fn place_bits(syllable: u64) -> u16
     ensures { result ≡ asm.syllable_bits syllable }
 {
-    let place = place_at(syllable.min(6 * 8_191));
+    let place = place_at(syllable.min(6 * (MOST_SEGMENT as u64)));
     u16::from(place.syllable) * 0x2000 + place.word
 }
 
@@ -172,7 +173,7 @@ fn called(call: Call, bits: u16) -> Op
 }
 
 fn place_at(syllable: u64) -> Place
-    requires { syllable ≤ 6 * 8191 }
+    requires { syllable ≤ 6 * MOST_SEGMENT }
     ensures { result ≡ place_at syllable }
 {
     Place {
@@ -185,7 +186,7 @@ fn branch_to(branch: Branch, syllable: u64) -> Op
     ensures exact { result ≡ asm.branch_to branch syllable }
     ensures fits { IsTrue (has_bits result) }
 {
-    let place = place_at(syllable.min(6 * 8_191));
+    let place = place_at(syllable.min(6 * (MOST_SEGMENT as u64)));
     match branch {
         Branch::Always => Op::Brun(place),
         Branch::IfTrue => Op::Brtr(place),

@@ -6,10 +6,12 @@ ghost use Rattle.b67_codefile.specs.Spelling.{HasTag};
 ghost use Rattle.b67_model_text.specs.Asm as asm;
 ghost use Rattle.b67_asm.specs.Scope.{names_in};
 ghost use Rattle.b67_asm.specs.RowPutting.{WordsPut, RowPut, line_words, checked_values};
+ghost use Rattle.b67_model.specs.declared.limits.TheConstants.{MOST_ARRAY};
 
 use crate::fault::{AsmFault, Refused};
 use crate::names::Names;
 use crate::operator::{is_bad, misplaced};
+use b67_model::MOST_ARRAY;
 use b67_model_text::{Line, Statement};
 use b67_word::{Word, Words};
 use std::alloc::{AllocError, Global};
@@ -50,7 +52,7 @@ fn put_statement<'a>(
     statement: &'a Statement,
     into: &mut Words,
 ) -> Result<(), Refused>
-    requires { length into.old ≤ 65535 }
+    requires { length into.old ≤ MOST_ARRAY }
     ensures { WordsPut result (asm.row_values (names_in names.now) (length into.old) statement.now) into.old into.new }
 {
     match statement {
@@ -60,13 +62,13 @@ fn put_statement<'a>(
 }
 
 fn put_checked(first: Option<u64>, more: &[Option<u64>], into: &mut Words) -> Result<(), Refused>
-    requires { length into.old ≤ 65535 }
+    requires { length into.old ≤ MOST_ARRAY }
     ensures { WordsPut result (checked_values (length into.old) (first ∷ more.now)) into.old into.new }
 {
     if is_bad(first, more) {
         return Err(Refused::Reason(3));
     }
-    if more.len() >= 65_535 - into.as_slice().len() {
+    if more.len() >= (MOST_ARRAY as usize) - into.as_slice().len() {
         return Err(Refused::Reason(7));
     }
     put_values(first, more, into)?;
@@ -74,7 +76,7 @@ fn put_checked(first: Option<u64>, more: &[Option<u64>], into: &mut Words) -> Re
 }
 
 fn put_line<'a>(names: &Names<'a>, line: &'a Line, into: &mut Words) -> Result<(), Refused>
-    requires { length into.old ≤ 65535 }
+    requires { length into.old ≤ MOST_ARRAY }
     ensures { WordsPut result (line_words (names_in names.now) (length into.old) line.now) into.old into.new }
 {
     match &line.says {

@@ -5,6 +5,7 @@ ghost use Rattle.b67_model_text.specs.Statements.{numeral_up_to, negative_bits, 
 ghost use Rattle.b67_asm_read.specs.Bounds.{IfInRange};
 
 use b67_card::{are_hex_digits, digit_value, natural};
+use b67_model::GREATEST;
 
 // A numeral, and its number where that is within the range.
 pub fn numeral_up_to(word: &[u8], high: u64) -> Option<Option<u64>>
@@ -61,10 +62,10 @@ pub fn bits_in(word: &[u8]) -> Option<Option<u64>>
     match word {
         [] => None,
         [b'#', digits @ ..] => hex_bits(digits),
-        [b'-', digits @ ..] => match numeral_up_to(digits, 549_755_813_887) {
+        [b'-', digits @ ..] => match numeral_up_to(digits, GREATEST) {
             Some(magnitude) => negative_bits(magnitude),
             None => None,
         },
-        _ => numeral_up_to(word, 549_755_813_887),
+        _ => numeral_up_to(word, GREATEST),
     }
 }

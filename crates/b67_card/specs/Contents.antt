@@ -14,6 +14,7 @@ use Rattle.b67_model_text.specs.Deck.{Said, command_in}
 use Rattle.b67_card.specs.declared.command.Refused.{Refused}
 use Rattle.b67_card.specs.declared.command.Refused.TheVariants.{Reason, Memory}
 use Rattle.b67_card.specs.declared.contents.Contents.{Contents}
+use Rattle.b67_model.specs.declared.limits.TheConstants.{USUAL_LIMIT}
 
 abbrev pub to_newest : (declared.Job → declared.Job) → List declared.Job → List declared.Job
 to_newest f [] = []
@@ -21,7 +22,7 @@ to_newest f (job ∷ older) = f job ∷ older
 
 -- a job that is just begun
 abbrev pub new_job : ℕ → List ℕ → declared.Job
-new_job number name = record { name = name; limit = 1000000; card = number; body_card = 0; program = Cards []; numbers = [] }
+new_job number name = record { name = name; limit = USUAL_LIMIT; card = number; body_card = 0; program = Cards []; numbers = [] }
 
 abbrev pub with_card : Card → Body → Body
 with_card card (Cards cards) = Cards (cards ++ card ∷ [])

@@ -10,6 +10,9 @@ ghost use Rattle.b67_card.specs.Said.{CardSays, IsPlain, said_command};
 ghost use Rattle.b67_card.specs.declared.command.Refused.TheVariants.{Memory};
 
 use crate::word::{name, number_in, parted, words};
+use b67_model::{
+    LEAST_STACK, MOST_JOBS, MOST_LIMIT, MOST_MADE, MOST_NUMBER, MOST_QUANTUM, MOST_STACK,
+};
 use b67_model_text::{Keyword, Name, Switch, Text};
 use std::alloc::{AllocError, Global};
 
@@ -84,7 +87,7 @@ fn one_number(parameters: &[&[u8]], low: u64, high: u64) -> Option<u64>
 fn stack(parameters: &[&[u8]]) -> Option<Command>
     ensures { option_map said_command result ≡ card.says keywords.Stack (map (λ w. w.now) parameters.now) }
 {
-    match one_number(parameters, 64, 16_383) {
+    match one_number(parameters, LEAST_STACK as u64, MOST_STACK as u64) {
         Some(n) => Some(Command::Stack(n as u16)),
         None => None,
     }
@@ -93,7 +96,7 @@ fn stack(parameters: &[&[u8]]) -> Option<Command>
 fn quantum(parameters: &[&[u8]]) -> Option<Command>
     ensures { option_map said_command result ≡ card.says keywords.Quantum (map (λ w. w.now) parameters.now) }
 {
-    match one_number(parameters, 1, 1_000_000) {
+    match one_number(parameters, 1, MOST_QUANTUM as u64) {
         Some(n) => Some(Command::Quantum(n as u32)),
         None => None,
     }
@@ -102,7 +105,7 @@ fn quantum(parameters: &[&[u8]]) -> Option<Command>
 fn halt(parameters: &[&[u8]]) -> Option<Command>
     ensures { option_map said_command result ≡ card.says keywords.Halt (map (λ w. w.now) parameters.now) }
 {
-    match one_number(parameters, 1, 800_000_000) {
+    match one_number(parameters, 1, MOST_MADE) {
         Some(n) => Some(Command::Halt(n)),
         None => None,
     }
@@ -111,7 +114,7 @@ fn halt(parameters: &[&[u8]]) -> Option<Command>
 fn limit(parameters: &[&[u8]]) -> Option<Command>
     ensures { option_map said_command result ≡ card.says keywords.Limit (map (λ w. w.now) parameters.now) }
 {
-    match one_number(parameters, 1, 100_000_000) {
+    match one_number(parameters, 1, MOST_LIMIT) {
         Some(n) => Some(Command::Limit(n)),
         None => None,
     }
@@ -122,15 +125,15 @@ fn target(word: &[u8]) -> Option<(u8, u32)>
     ensures { option_map (λ t. (t.0, t.1)) result ≡ card.target word.now }
 {
     let (job, task) = parted(word, b'.')?;
-    let job = number_in(job, 1, 8)?;
-    let task = number_in(task, 1, 100_000_000)?;
+    let job = number_in(job, 1, MOST_JOBS as u64)?;
+    let task = number_in(task, 1, MOST_NUMBER as u64)?;
     Some((job as u8, task as u32))
 }
 
 fn switch_at(count: &[u8], word: &[u8]) -> Option<Command>
     ensures { option_map said_command result ≡ card.switch (count.now ∷ word.now ∷ []) }
 {
-    let count = number_in(count, 0, 800_000_000)?;
+    let count = number_in(count, 0, MOST_MADE)?;
     let (job, task) = target(word)?;
     Some(Command::Switch(Switch { count, job, task }))
 }

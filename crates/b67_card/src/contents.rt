@@ -10,6 +10,7 @@ ghost use Rattle.b67_card.specs.Contents.{HoldsJobs, AddsCard, Filled, Appended,
 use crate::command::{Command, Refused};
 use crate::hex::{is_hex, put_digits};
 use crate::word::{operand_in, words};
+use b67_model::USUAL_LIMIT;
 use b67_model_text::{Body, Card, Cards, Job, Jobs, Name, Stand};
 use b67_word::{Bytes, Numbers};
 use std::alloc::{AllocError, Global};
@@ -95,7 +96,7 @@ impl Contents {
         self.close()?;
         self.newest = Some(Job {
             name,
-            limit: 1_000_000,
+            limit: USUAL_LIMIT,
             card: number,
             body_card: 0,
             program: Body::Cards(Cards::new(alloc)),

@@ -6,6 +6,7 @@ ghost use Rattle.b67_card.specs.Said.{said_command};
 ghost use Rattle.b67_card.specs.Shape.{Shows, Placed, deck_shaped};
 
 use crate::command::{Command, Refused};
+use b67_model::MOST_SWITCHES;
 use b67_model_text::{Deck, Jobs, Stand, Switch, Switches};
 use std::alloc::Global;
 
@@ -65,7 +66,7 @@ impl Shape {
         if !is_above_last(self.switches.as_slice(), switch.count) {
             return Err(Refused::Reason(7));
         }
-        if self.switches.as_slice().len() >= 100_000 {
+        if self.switches.as_slice().len() >= MOST_SWITCHES as usize {
             return Err(Refused::Reason(8));
         }
         self.switches.push(switch)?;

@@ -8,6 +8,7 @@ ghost use Rattle.b67_codefile.specs.Reading.{Gives, Answers, number_read, word_a
 
 use crate::fault::{BadFile, FormatError, ReadError};
 use crate::file::{Codefile, Entries, Rows, Segment, Segments};
+use b67_model::{MOST_ARRAY, MOST_PARTS, MOST_SEGMENT};
 use b67_word::{Word, Words};
 use std::alloc::Global;
 
@@ -151,7 +152,7 @@ fn segment_of(alloc: Global, version: u8, bytes: &[u8]) -> Result<(Segment, &[u8
         Ok(found) => found,
         Err(e) => return Err(e),
     };
-    let (code, rest) = match words_of(alloc, 3, 8191, rest) {
+    let (code, rest) = match words_of(alloc, 3, MOST_SEGMENT, rest) {
         Ok(found) => found,
         Err(e) => return Err(e),
     };
@@ -192,7 +193,7 @@ fn rows_of(alloc: Global, count: u16, bytes: &[u8]) -> Result<(Rows, &[u8]), Rea
     let mut rows = Rows::new(alloc);
     let mut rest = bytes;
     'rows: for _ in 0..count {
-        let (row, after) = match words_of(alloc, 0, 65535, rest) {
+        let (row, after) = match words_of(alloc, 0, MOST_ARRAY, rest) {
             Ok(found) => found,
             Err(e) => return Err(e),
         };
@@ -221,7 +222,7 @@ fn counts_of(bytes: &[u8]) -> Result<((u16, u16), &[u8]), ReadError>
 {
     let (segments, rest) = u16_at(bytes)?;
     let (rows, rest) = u16_at(rest)?;
-    if u32::from(segments) + u32::from(rows) > 255 {
+    if u32::from(segments) + u32::from(rows) > MOST_PARTS as u32 {
         return Err(ReadError::Format(FormatError::TooMany {
             remaining: bytes.len(),
         }));

@@ -26,6 +26,7 @@ use Rattle.b67_image.specs.Giving.{◌>>=◌, ItemReader, read_number}
 use Rattle.b67_image.specs.Reading.{if_passes, is_within, number_within, read_many, read_count, read_counted, read_word, read_place, read_regs, read_areas, read_counts, read_switch, read_bytes, read_name, read_signed, read_job, state_by_kind, read_state, read_row}
 use Rattle.b67_image.specs.Within.{AreItems, IsPlaceInRange, AreRegs, AreAreas, AreCounts, IsSwitch, IsReadNumber, IsJob, IsState, IsRowInRange, IsFour, IsTwo}
 use Rattle.b67_image.proofs.Forms.{front_parts, row_parts}
+use Rattle.b67_model.specs.declared.limits.TheConstants.{LEAST_STACK, MOST_STACK, MOST_PARTS, GREATEST, MOST_QUANTUM, MOST_LIMIT, MOST_NUMBER, MOST_MADE}
 
 abbrev pub IsBytes : List ℕ → Type 0
 IsBytes bytes = (i : ℕ) → get_or bytes i 0 < 256
@@ -202,7 +203,7 @@ pass_then {spell = spell} {bytes = bytes} Q b n front q f y e go =
     let p = passed b n m is in
     go m (subst (λ (x : ℕ × List ℕ). IsFront spell Q bytes x) p.1 (record { spelled = front.spelled; fits = q p.0; raw = front.raw })) more
 
-below_16 : (n : ℕ) → n ≤ 16383 → n < 2 ^ 16
+below_16 : (n : ℕ) → n ≤ MOST_STACK → n < 2 ^ 16
 below_16 n most = omega (arith, most)
 
 regs_front : (bytes : List ℕ) (found : Regs × List ℕ) → IsBytes bytes → read_regs bytes ≡ Some found → IsFront regs_bytes AreRegs bytes found
@@ -220,7 +221,7 @@ regs_front bytes found raw e =
     take_then two_back dict.1 _ found f8.raw h8 (λ entries f9 h9.
     take_then four_back entries.1 _ found f9.raw h9 (λ stacks f10 h10.
     take_then two_back stacks.1 _ found f10.raw h10 (λ size f11 h11.
-    within_then 64 16383 size f11 _ found h11 (λ stack_size f12 h12.
+    within_then LEAST_STACK MOST_STACK size f11 _ found h11 (λ stack_size f12 h12.
     take_then one_back stack_size.1 _ found f12.raw h12 (λ peak f13 h13.
     subst (λ (t : Regs × List ℕ). IsFront regs_bytes AreRegs bytes t) (same_Some (record { s = s.0; f = f.0; bosr = bosr.0; losr = losr.0; slot = slot.0; level = level.0; segment = segment.0; place = place.0; dict = dict.0; entries = entries.0; stacks = stacks.0; stack_size = stack_size.0; peak = peak.0 }, peak.1) found h13) (record { spelled = on f0 (on f1 (on f2 (on f3 (on f4 (on f5 (on f6 (on f7 (on f8 (on f9 (on f10 (on f12 f13.spelled))))))))))); fits = record { typed = record { s = f0.fits; f = f1.fits; bosr = f2.fits; losr = f3.fits; slot = f4.fits; level = f5.fits; segment = f6.fits; place = f7.fits; dict = f8.fits; entries = f9.fits; stacks = f10.fits; stack_size = below_16 stack_size.0 f12.fits.most; peak = f13.fits }; stack_low = f12.fits.least; stack_high = f12.fits.most }; raw = f13.raw })))))))))))))))
 
@@ -241,7 +242,7 @@ counts_front : (bytes : List ℕ) (found : ToldCounts × List ℕ) → IsBytes b
 unfolding read_counts
 counts_front bytes found raw e =
     take_then four_back bytes _ found raw e (λ q f0 h0.
-    within_then 1 1000000 q f0 _ found h0 (λ quantum f1 h1.
+    within_then 1 MOST_QUANTUM q f0 _ found h0 (λ quantum f1 h1.
     take_then eight_back quantum.1 _ found f1.raw h1 (λ made_ f2 h2.
     take_then four_back made_.1 _ found f2.raw h2 (λ turn f3 h3.
     take_then one_back turn.1 _ found f3.raw h3 (λ last_job f4 h4.
@@ -257,11 +258,11 @@ switch_front : (bytes : List ℕ) (found : Switch × List ℕ) → IsBytes bytes
 unfolding read_switch
 switch_front bytes found raw e =
     take_then eight_back bytes _ found raw e (λ c f0 h0.
-    within_then 0 800000000 c f0 _ found h0 (λ count f1 h1.
+    within_then 0 MOST_MADE c f0 _ found h0 (λ count f1 h1.
     take_then one_back count.1 _ found f1.raw h1 (λ j f2 h2.
     within_then 1 8 j f2 _ found h2 (λ job f3 h3.
     take_then four_back job.1 _ found f3.raw h3 (λ k f4 h4.
-    within_then 1 100000000 k f4 _ found h4 (λ task f5 h5.
+    within_then 1 MOST_NUMBER k f4 _ found h4 (λ task f5 h5.
     subst (λ (t : Switch × List ℕ). IsFront switch_bytes IsSwitch bytes t) (same_Some (record { count = count.0; job = job.0; task = task.0 }, task.1) found h5) (record { spelled = on f1 (on f3 f5.spelled); fits = record { count = f1.fits.most; job_low = f3.fits.least; job_high = f3.fits.most; task_low = f5.fits.least; task_high = f5.fits.most }; raw = f5.raw })))))))
 
 pub switch_back : Backs read_switch switch_bytes IsSwitch
@@ -272,7 +273,7 @@ unfolding read_signed
 signed_front bytes found raw e =
     let (n, e1, h1) = bind_some (read_number w64 bytes) _ found e in
     let a = eight_back.back bytes n raw e1 in
-    let p = passed (nat_le (nat_abs (cast_signed w64 n.0)) 549755813887) (cast_signed w64 n.0, n.1) found h1 in
+    let p = passed (nat_le (nat_abs (cast_signed w64 n.0)) GREATEST) (cast_signed w64 n.0, n.1) found h1 in
     let same : cast_unsigned w64 (cast_signed w64 n.0) ≡ n.0 = of_z-to_z w64 n.0 a.fits in
     subst (λ (t : ℤ × List ℕ). IsFront signed_bytes IsReadNumber bytes t) p.1 (record { spelled = ap (λ (k : ℕ). eight_bytes k ++ n.1) same ∙ a.spelled; fits = record { small = leb-true _ _ p.0 }; raw = a.raw })
 
@@ -319,9 +320,9 @@ job_front bytes found raw e =
     take_then four_back name.1 _ found f0.raw h0 (λ dict f1 h1.
     take_then two_back dict.1 _ found f1.raw h1 (λ segments f2 h2.
     take_then two_back segments.1 _ found f2.raw h2 (λ r f3 h3.
-    pass_then (λ k. segments.0 + k ≤ 255) (nat_le (segments.0 + r.0) 255) r f3 (λ t. leb-true _ _ t) _ found h3 (λ rows f4 h4.
+    pass_then (λ k. segments.0 + k ≤ MOST_PARTS) (nat_le (segments.0 + r.0) MOST_PARTS) r f3 (λ t. leb-true _ _ t) _ found h3 (λ rows f4 h4.
     take_then eight_back rows.1 _ found f4.raw h4 (λ l f5 h5.
-    within_then 1 100000000 l f5 _ found h5 (λ limit f6 h6.
+    within_then 1 MOST_LIMIT l f5 _ found h5 (λ limit f6 h6.
     take_then eight_back limit.1 _ found f6.raw h6 (λ made_ f7 h7.
     take_then four_back made_.1 _ found f7.raw h7 (λ next_task f8 h8.
     take_then numbers_back next_task.1 _ found f8.raw h8 (λ numbers f9 h9.

@@ -28,6 +28,7 @@ use Rattle.b67_image.specs.Spelling.{one_byte, two_bytes, four_bytes, eight_byte
 use Rattle.b67_image.specs.Giving.{ItemReader, read_number}
 use Rattle.b67_image.specs.Reading.{is_within, number_within, read_many, read_count, read_counted, read_word, read_core, read_place, read_regs, read_areas, read_links, read_counts, read_switch, read_switches, read_bytes, read_name, read_signed, read_job, read_jobs, read_state, read_row, read_rows, read_parts, parts_in}
 use Rattle.b67_image.specs.Within.{AreItems, IsPlaceInRange, AreRegs, AreAreas, AreCounts, IsSwitch, IsReadNumber, IsJob, IsState, IsRowInRange, IsFour, IsTwo, ArePartsWithin}
+use Rattle.b67_model.specs.declared.limits.TheConstants.{LEAST_CORE, MOST_CORE, MOST_SECTORS, LEAST_STACK, MOST_STACK, MOST_JOBS, MOST_PARTS, GREATEST, MOST_QUANTUM, MOST_LIMIT, MOST_NUMBER, MOST_MADE, MOST_SWITCHES}
 
 -- ---- numbers
 
@@ -120,7 +121,7 @@ regs_again r rest h =
       number_again w16 (2 ^ 16) wide16 r.entries (four_bytes r.stacks ++ (two_bytes r.stack_size ++ (one_byte r.peak ++ rest))) t.entries,
       number_again w32 (2 ^ 32) wide32 r.stacks (two_bytes r.stack_size ++ (one_byte r.peak ++ rest)) t.stacks,
       number_again w16 (2 ^ 16) wide16 r.stack_size (one_byte r.peak ++ rest) t.stack_size,
-      within_again 64 16383 (r.stack_size, (one_byte r.peak ++ rest)) h.stack_low h.stack_high,
+      within_again LEAST_STACK MOST_STACK (r.stack_size, (one_byte r.peak ++ rest)) h.stack_low h.stack_high,
       number_again w8 (2 ^ 8) wide8 r.peak rest t.peak,
     ) refl
 
@@ -140,7 +141,7 @@ counts_again k rest h =
     let regrouped : counts_bytes k ++ rest ≡ four_bytes k.quantum ++ (eight_bytes k.made ++ (four_bytes k.turn ++ (one_byte k.last_job ++ (four_bytes k.last_number ++ (one_byte k.running ++ (four_bytes k.next_switch ++ rest)))))) = refl in
     ap read_counts regrouped ∙ rw (
       number_again w32 (2 ^ 32) wide32 k.quantum (eight_bytes k.made ++ (four_bytes k.turn ++ (one_byte k.last_job ++ (four_bytes k.last_number ++ (one_byte k.running ++ (four_bytes k.next_switch ++ rest)))))) quantum,
-      within_again 1 1000000 (k.quantum, (eight_bytes k.made ++ (four_bytes k.turn ++ (one_byte k.last_job ++ (four_bytes k.last_number ++ (one_byte k.running ++ (four_bytes k.next_switch ++ rest))))))) h.quantum_low h.quantum_high,
+      within_again 1 MOST_QUANTUM (k.quantum, (eight_bytes k.made ++ (four_bytes k.turn ++ (one_byte k.last_job ++ (four_bytes k.last_number ++ (one_byte k.running ++ (four_bytes k.next_switch ++ rest))))))) h.quantum_low h.quantum_high,
       number_again w64 (2 ^ 64) wide64 k.made (four_bytes k.turn ++ (one_byte k.last_job ++ (four_bytes k.last_number ++ (one_byte k.running ++ (four_bytes k.next_switch ++ rest))))) h.made,
       number_again w32 (2 ^ 32) wide32 k.turn (one_byte k.last_job ++ (four_bytes k.last_number ++ (one_byte k.running ++ (four_bytes k.next_switch ++ rest)))) h.turn,
       number_again w8 (2 ^ 8) wide8 k.last_job (four_bytes k.last_number ++ (one_byte k.running ++ (four_bytes k.next_switch ++ rest))) h.last_job,
@@ -158,11 +159,11 @@ switch_again w rest h =
     let regrouped : switch_bytes w ++ rest ≡ eight_bytes w.count ++ (one_byte w.job ++ (four_bytes w.task ++ rest)) = refl in
     ap read_switch regrouped ∙ rw (
       number_again w64 (2 ^ 64) wide64 w.count (one_byte w.job ++ (four_bytes w.task ++ rest)) count,
-      within_again 0 800000000 (w.count, (one_byte w.job ++ (four_bytes w.task ++ rest))) (omega arith) h.count,
+      within_again 0 MOST_MADE (w.count, (one_byte w.job ++ (four_bytes w.task ++ rest))) (omega arith) h.count,
       number_again w8 (2 ^ 8) wide8 w.job (four_bytes w.task ++ rest) job,
-      within_again 1 8 (w.job, (four_bytes w.task ++ rest)) h.job_low h.job_high,
+      within_again 1 MOST_JOBS (w.job, (four_bytes w.task ++ rest)) h.job_low h.job_high,
       number_again w32 (2 ^ 32) wide32 w.task rest task,
-      within_again 1 100000000 (w.task, rest) h.task_low h.task_high,
+      within_again 1 MOST_NUMBER (w.task, rest) h.task_low h.task_high,
     ) refl
 
 bytes_again : (xs rest : List ℕ) → read_bytes (length xs) (xs ++ rest) ≡ Some (xs, rest)
@@ -189,7 +190,7 @@ signed_again z rest h =
     let fits : SFits w64 z = small_fits z h.small in
     let lt : cast_unsigned w64 z < 2 ^ 64 = (Fits-of_z {w = w64} {z = z} fits).fits in
     let back : cast_signed w64 (cast_unsigned w64 z) ≡ z = to_z-of_z w64 z fits in
-    rw (number_again w64 (2 ^ 64) wide64 (cast_unsigned w64 z) rest lt, back, le-leb (nat_abs z) 549755813887 h.small) refl
+    rw (number_again w64 (2 ^ 64) wide64 (cast_unsigned w64 z) rest lt, back, le-leb (nat_abs z) GREATEST h.small) refl
 
 pub front_parts : (j : JobRow) (rest : List ℕ) → job_bytes j ++ rest
     ≡ name_bytes j.name ++ (four_bytes j.dict ++ (two_bytes j.segments ++ (two_bytes j.rows ++ (eight_bytes j.limit ++ (eight_bytes j.made ++ (four_bytes j.next_task ++ (listed_bytes signed_bytes j.numbers ++ (four_bytes j.next_number ++ rest))))))))
@@ -216,9 +217,9 @@ job_again j rest h =
       number_again w32 (2 ^ 32) wide32 j.dict g h.dict,
       number_again w16 (2 ^ 16) wide16 j.segments f segments,
       number_again w16 (2 ^ 16) wide16 j.rows e rows,
-      le-leb (j.segments + j.rows) 255 h.few,
+      le-leb (j.segments + j.rows) MOST_PARTS h.few,
       number_again w64 (2 ^ 64) wide64 j.limit d limit,
-      within_again 1 100000000 (j.limit, d) h.limit_low h.limit_high,
+      within_again 1 MOST_LIMIT (j.limit, d) h.limit_low h.limit_high,
       number_again w64 (2 ^ 64) wide64 j.made c h.made,
       number_again w32 (2 ^ 32) wide32 j.next_task b h.next_task,
       counted_again 0 4294967295 read_signed signed_bytes IsReadNumber (omega arith) signed_again j.numbers a h.numbers,
@@ -287,14 +288,14 @@ parts_again p h =
     let critical : read_many (read_number w16) 120 g ≡ Some (p.critical, f) = ap (λ (n : ℕ). read_many (read_number w16) n g) (sym h.critical_many) ∙ many_again (read_number w16) two_bytes IsTwo two_again p.critical f h.critical in
     ap parts_in (all_parts p) ∙ rw (
       number_again w64 (2 ^ 64) wide64 image_header (listed_bytes tagged_bytes p.core ++ j) (omega arith),
-      counted_again 256 1048575 read_word tagged_bytes IsWord (omega arith) word_again p.core j h.core,
+      counted_again LEAST_CORE MOST_CORE read_word tagged_bytes IsWord (omega arith) word_again p.core j h.core,
       regs_again p.regs i h.regs,
       display,
       critical,
       areas_again p.areas e h.areas,
-      counted_again 1 1048575 (read_number w32) four_bytes IsFour (omega arith) four_again p.links d h.links,
+      counted_again 1 MOST_SECTORS (read_number w32) four_bytes IsFour (omega arith) four_again p.links d h.links,
       counts_again p.counts c h.counts,
-      counted_again 0 100000 read_switch switch_bytes IsSwitch (omega arith) switch_again p.switches b h.switches,
+      counted_again 0 MOST_SWITCHES read_switch switch_bytes IsSwitch (omega arith) switch_again p.switches b h.switches,
       counted_again 0 8 read_job job_bytes IsJob (omega arith) job_again p.jobs a h.jobs,
       counted_again 0 120 read_row task_row_bytes IsRowInRange (omega arith) row_again p.rows [] h.rows,
     ) refl

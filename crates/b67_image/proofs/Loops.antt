@@ -9,6 +9,7 @@ use Rattle.b67_image.specs.declared.flaw.Flaw.TheVariants.{Bad, Memory}
 use Rattle.b67_image.specs.Giving.{◌>>=◌, ReadingFails, ItemReader}
 use Rattle.b67_image.specs.Reading.{read_many}
 use Rattle.b67_image.specs.Shape.{Skip, skipped_many}
+use Rattle.b67_model.specs.declared.limits.TheConstants.{GREATEST}
 
 -- what was read before, and what is still read
 abbrev pub with_front : {X : Type 0} → List X → Option (List X × List ℕ) → Option (List X × List ℕ)
@@ -97,6 +98,6 @@ skips_end skip count i bytes total le c =
 
 -- ---- a number for READ
 
-pub small_fits : (z : ℤ) → nat_abs z ≤ 549755813887 → SFits w64 z
+pub small_fits : (z : ℤ) → nat_abs z ≤ GREATEST → SFits w64 z
 small_fits (pos n) le = record { sfits = omega arith }
 small_fits (negsuc n) le = record { sfits = omega arith }

@@ -27,6 +27,7 @@ use Rattle.b67_image.specs.Laws.{IsSpelled, ImagesAreReadAgain, ImagesAreSpelled
 use Rattle.b67_image.proofs.Whole.{image_again}
 use Rattle.b67_image.proofs.Forms.{all_parts}
 use Rattle.b67_image.proofs.Back.{IsBytes, Backs, AreMany, passed, on, take_then, bind_some, two_back, four_back, eight_back, many_front, counted_back, word_back, regs_back, areas_back, counts_back, switch_back, job_back, row_back}
+use Rattle.b67_model.specs.declared.limits.TheConstants.{LEAST_CORE, MOST_CORE, MOST_SECTORS, MOST_JOBS, MOST_SWITCHES}
 
 -- ---- all parts
 
@@ -41,16 +42,16 @@ display_back = record { back = many_front (read_number w32) four_bytes IsFour fo
 critical_back : Backs (read_many (read_number w16) 120) (flat_map two_bytes) (AreMany IsTwo 120)
 critical_back = record { back = many_front (read_number w16) two_bytes IsTwo two_back 120 }
 
-core_back : Backs (read_counted 256 1048575 read_word) (listed_bytes tagged_bytes) (AreItems 256 1048575 IsWord)
-core_back = counted_back 256 1048575 read_word tagged_bytes IsWord word_back
+core_back : Backs (read_counted LEAST_CORE MOST_CORE read_word) (listed_bytes tagged_bytes) (AreItems LEAST_CORE MOST_CORE IsWord)
+core_back = counted_back LEAST_CORE MOST_CORE read_word tagged_bytes IsWord word_back
 
-links_back : Backs (read_counted 1 1048575 (read_number w32)) (listed_bytes four_bytes) (AreItems 1 1048575 IsFour)
-links_back = counted_back 1 1048575 (read_number w32) four_bytes IsFour four_back
+links_back : Backs (read_counted 1 MOST_SECTORS (read_number w32)) (listed_bytes four_bytes) (AreItems 1 MOST_SECTORS IsFour)
+links_back = counted_back 1 MOST_SECTORS (read_number w32) four_bytes IsFour four_back
 
-switches_back : Backs (read_counted 0 100000 read_switch) (listed_bytes switch_bytes) (AreItems 0 100000 IsSwitch)
-switches_back = counted_back 0 100000 read_switch switch_bytes IsSwitch switch_back
+switches_back : Backs (read_counted 0 MOST_SWITCHES read_switch) (listed_bytes switch_bytes) (AreItems 0 MOST_SWITCHES IsSwitch)
+switches_back = counted_back 0 MOST_SWITCHES read_switch switch_bytes IsSwitch switch_back
 
-jobs_back : Backs (read_counted 0 8 read_job) (listed_bytes job_bytes) (AreItems 0 8 IsJob)
+jobs_back : Backs (read_counted 0 MOST_JOBS read_job) (listed_bytes job_bytes) (AreItems 0 MOST_JOBS IsJob)
 jobs_back = counted_back 0 8 read_job job_bytes IsJob job_back
 
 rows_back : Backs (read_counted 0 120 read_row) (listed_bytes task_row_bytes) (AreItems 0 120 IsRowInRange)

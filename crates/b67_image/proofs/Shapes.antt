@@ -15,6 +15,7 @@ use Rattle.b67_image.specs.Spelling.{one_byte, two_bytes, four_bytes, eight_byte
 use Rattle.b67_image.specs.Shape.{skipped, skipped_list, skipped_job, skipped_many, skipped_jobs, skipped_all, has_shape, has_header}
 use Rattle.b67_image.specs.Within.{AreItems, IsJob, ArePartsWithin}
 use Rattle.b67_image.proofs.Forms.{wide8, wide32, wide64, number_again, name_short, flat_parts, all_parts}
+use Rattle.b67_model.specs.declared.limits.TheConstants.{MOST_JOBS}
 
 skip_again : (n : ℕ) (xs rest : List ℕ) → length xs ≡ n → skipped n (xs ++ rest) ≡ Some rest
 skip_again n xs rest len =
@@ -67,7 +68,7 @@ jobs_again (j ∷ jobs) rest h =
     let regrouped : flat_map job_bytes (j ∷ jobs) ++ rest ≡ job_bytes j ++ (flat_map job_bytes jobs ++ rest) = ap (λ (t : List ℕ). t ++ rest) (flat_map-cons job_bytes j jobs) ∙ append_assoc (job_bytes j) (flat_map job_bytes jobs) rest in
     ap (skipped_many skipped_job (suc (length jobs))) regrouped ∙ rw (job_again j (flat_map job_bytes jobs ++ rest) h.0) (jobs_again jobs rest h.1)
 
-job_list_again : (jobs : List JobRow) (rest : List ℕ) → AreItems 0 8 IsJob jobs → skipped_jobs (listed_bytes job_bytes jobs ++ rest) ≡ Some rest
+job_list_again : (jobs : List JobRow) (rest : List ℕ) → AreItems 0 MOST_JOBS IsJob jobs → skipped_jobs (listed_bytes job_bytes jobs ++ rest) ≡ Some rest
 job_list_again jobs rest h =
     let regrouped : listed_bytes job_bytes jobs ++ rest ≡ four_bytes (length jobs) ++ (flat_map job_bytes jobs ++ rest) = append_assoc (four_bytes (length jobs)) (flat_map job_bytes jobs) rest in
     let lt : length jobs < 2 ^ 32 = omega (arith, h.few) in

@@ -15,6 +15,7 @@ use Rattle.b67_image.specs.Image.{image_text}
 use Rattle.b67_image.specs.Laws.{ImagesAreShort, numbers_for_read}
 use Rattle.b67_image.proofs.Forms.{name_short, all_parts}
 use Rattle.b67_image.proofs.Shapes.{flat_many, row_width}
+use Rattle.b67_model.specs.declared.limits.TheConstants.{MOST_JOBS, MOST_SWITCHES}
 
 -- ---- lines
 
@@ -75,7 +76,7 @@ jobs_most (j ∷ jobs) h =
     let rest = jobs_most jobs h.1 in
     omega (arith, whole, one, name, rest)
 
-bytes_most : (p : ImageParts) → ArePartsWithin p → numbers_for_read p.jobs ≤ 2097152 → length (image_bytes p) ≤ 30663600
+bytes_most : (p : ImageParts) → ArePartsWithin p → numbers_for_read p.jobs ≤ 2097152 → length (image_bytes p) ≤ 29363600 + 13 * MOST_SWITCHES
 bytes_most p h many =
     let i : List ℕ = listed_bytes task_row_bytes p.rows ++ [] in
     let g : List ℕ = listed_bytes job_bytes p.jobs ++ i in
@@ -88,7 +89,7 @@ bytes_most p h many =
     let r : List ℕ = regs_bytes p.regs ++ a in
     let tail : length i ≤ 2524 = let z = length-append (listed_bytes task_row_bytes p.rows) [] in let n = list_long task_row_bytes 21 row_width p.rows in let few = h.rows.few in omega (arith, z, n, few) in
     let jobs : length g ≤ 16777644 + length i = let z = length-append (listed_bytes job_bytes p.jobs) i in let y = length-append (four_bytes (length p.jobs)) (flat_map job_bytes p.jobs) in jobs_fit p.jobs i z y (jobs_most p.jobs h.jobs.each) h.jobs.few many in
-    let switches : length f ≤ 1300004 + length g = let z = length-append (listed_bytes switch_bytes p.switches) g in let n = list_long switch_bytes 13 (λ w. refl) p.switches in let few = h.switches.few in omega (arith, z, n, few) in
+    let switches : length f ≤ 4 + 13 * MOST_SWITCHES + length g = let z = length-append (listed_bytes switch_bytes p.switches) g in let n = list_long switch_bytes 13 (λ w. refl) p.switches in let few = h.switches.few in omega (arith, z, n, few) in
     let counts : length e ≡ 26 + length f = length-append (counts_bytes p.counts) f in
     let links : length d ≤ 4194304 + length e = let z = length-append (listed_bytes four_bytes p.links) e in let n = list_long four_bytes 4 (λ k. refl) p.links in let few = h.links.few in omega (arith, z, n, few) in
     let areas : length c ≡ 8 + length d = length-append (areas_bytes p.areas) d in
@@ -100,7 +101,7 @@ bytes_most p h many =
     omega (arith, tail, jobs, switches, counts, links, areas, critical, display, regs, core, whole)
   where
     jobs_fit : (jobs : List JobRow) (rest : List ℕ) → length (listed_bytes job_bytes jobs ++ rest) ≡ length (listed_bytes job_bytes jobs) + length rest → length (listed_bytes job_bytes jobs) ≡ 4 + length (flat_map job_bytes jobs)
-        → length (flat_map job_bytes jobs) ≤ 53 * length jobs + 8 * numbers_for_read jobs → length jobs ≤ 8 → numbers_for_read jobs ≤ 2097152 → length (listed_bytes job_bytes jobs ++ rest) ≤ 16777644 + length rest
+        → length (flat_map job_bytes jobs) ≤ 53 * length jobs + 8 * numbers_for_read jobs → length jobs ≤ MOST_JOBS → numbers_for_read jobs ≤ 2097152 → length (listed_bytes job_bytes jobs ++ rest) ≤ 16777644 + length rest
     jobs_fit jobs rest z y most few many = omega (arith, z, y, most, few, many)
 
 pub image_short : ImagesAreShort

@@ -14,6 +14,7 @@ use Rattle.b67_task_tables.specs.declared.tables.TaskRow.{TaskRow}
 use Rattle.b67_task_tables.specs.declared.tables.JobRow.{JobRow}
 use Rattle.b67_image.specs.Parts.{ToldCounts, ImageParts}
 use Rattle.b67_image.specs.Giving.{◌>>=◌, ItemReader, read_number}
+use Rattle.b67_model.specs.declared.limits.TheConstants.{LEAST_CORE, MOST_CORE, MOST_SECTORS, LEAST_STACK, MOST_STACK, MOST_JOBS, MOST_PARTS, GREATEST, MOST_QUANTUM, MOST_LIMIT, MOST_NUMBER, MOST_MADE, MOST_SWITCHES}
 
 -- what passes a test
 abbrev pub if_passes : {A : Type 0} → Bool → A → Option A
@@ -47,7 +48,7 @@ unfoldable pub read_word : ItemReader Tagged
 read_word bytes = read_number w64 bytes >>= λ n. if_passes (nat_lt n.0 (2 ^ 51)) (word_of n.0, n.1)
 
 unfoldable pub read_core : ItemReader (List Tagged)
-read_core bytes = read_counted 256 1048575 read_word bytes
+read_core bytes = read_counted LEAST_CORE MOST_CORE read_word bytes
 
 unfoldable pub read_place : ItemReader Place
 read_place bytes = do
@@ -70,7 +71,7 @@ read_regs bytes = do
   entries ← read_number w16 dict.1
   stacks ← read_number w32 entries.1
   found ← read_number w16 stacks.1
-  stack_size ← number_within 64 16383 found
+  stack_size ← number_within LEAST_STACK MOST_STACK found
   peak ← read_number w8 stack_size.1
   Some (
     record {
@@ -98,13 +99,13 @@ read_areas bytes = do
   Some (record { size = size.0; low = low.0 }, low.1)
 
 unfoldable pub read_links : ItemReader (List ℕ)
-read_links bytes = read_counted 1 1048575 (read_number w32) bytes
+read_links bytes = read_counted 1 MOST_SECTORS (read_number w32) bytes
 
 -- a turn has 1 to 1,000,000 operators
 unfoldable pub read_counts : ItemReader ToldCounts
 read_counts bytes = do
   found ← read_number w32 bytes
-  quantum ← number_within 1 1000000 found
+  quantum ← number_within 1 MOST_QUANTUM found
   made ← read_number w64 quantum.1
   turn ← read_number w32 made.1
   last_job ← read_number w8 turn.1
@@ -117,15 +118,15 @@ read_counts bytes = do
 unfoldable pub read_switch : ItemReader Switch
 read_switch bytes = do
   count ← read_number w64 bytes
-  count ← number_within 0 800000000 count
+  count ← number_within 0 MOST_MADE count
   job ← read_number w8 count.1
-  job ← number_within 1 8 job
+  job ← number_within 1 MOST_JOBS job
   task ← read_number w32 job.1
-  task ← number_within 1 100000000 task
+  task ← number_within 1 MOST_NUMBER task
   Some (record { count = count.0; job = job.0; task = task.0 }, task.1)
 
 unfoldable pub read_switches : ItemReader (List Switch)
-read_switches bytes = read_counted 0 100000 read_switch bytes
+read_switches bytes = read_counted 0 MOST_SWITCHES read_switch bytes
 
 -- so many bytes
 abbrev pub read_bytes : ℕ → ItemReader (List ℕ)
@@ -140,7 +141,7 @@ read_name bytes = do
 
 -- a number for READ
 unfoldable pub read_signed : ItemReader ℤ
-read_signed bytes = read_number w64 bytes >>= λ n. if_passes (nat_le (nat_abs (cast_signed w64 n.0)) 549755813887) (cast_signed w64 n.0, n.1)
+read_signed bytes = read_number w64 bytes >>= λ n. if_passes (nat_le (nat_abs (cast_signed w64 n.0)) GREATEST) (cast_signed w64 n.0, n.1)
 
 -- at most 255 segments and data rows together, and a limit as a card may write it
 unfoldable pub read_job : ItemReader JobRow
@@ -149,9 +150,9 @@ read_job bytes = do
   dict ← read_number w32 name.1
   segments ← read_number w16 dict.1
   rows ← read_number w16 segments.1
-  rows ← if_passes (nat_le (segments.0 + rows.0) 255) rows
+  rows ← if_passes (nat_le (segments.0 + rows.0) MOST_PARTS) rows
   limit ← read_number w64 rows.1
-  limit ← number_within 1 100000000 limit
+  limit ← number_within 1 MOST_LIMIT limit
   made ← read_number w64 limit.1
   next_task ← read_number w32 made.1
   numbers ← read_counted 0 4294967295 read_signed next_task.1
@@ -172,7 +173,7 @@ read_job bytes = do
   )
 
 unfoldable pub read_jobs : ItemReader (List JobRow)
-read_jobs bytes = read_counted 0 8 read_job bytes
+read_jobs bytes = read_counted 0 MOST_JOBS read_job bytes
 
 -- the state of a kind, a number and an offset, of which a ready task has none and one that awaits a task no offset
 abbrev pub state_by_kind : (kind number offset : ℕ) → Option TaskState

@@ -8,6 +8,7 @@ use Rattle.b67_model_text.specs.Answers.{◌>>=◌, needs}
 use Rattle.b67_model_text.specs.Cards.{cards}
 use Rattle.b67_model_text.specs.Deck.{Refusal, of_card}
 use Rattle.b67_model_text.specs.Hex.{is_hex, digit_bytes, hex_cards}
+use Rattle.b67_model.specs.declared.limits.TheConstants.{IMAGE_BYTES}
 
 -- the card that begins an image, and the one that ends it
 abbrev pub first_card : List ℕ
@@ -28,7 +29,7 @@ image_text_of bytes = ended first_card ++ (card_lines bytes ++ ended last_card)
 
 -- a text may have so many bytes
 abbrev pub limit : ℕ
-limit = 67108864
+limit = IMAGE_BYTES
 
 abbrev pub refused_card : {A : Type 0} → ℕ → ℕ → Result A Refusal
 refused_card card reason = Err (record { card = card; reason = reason })

@@ -19,6 +19,7 @@ use b67_backing::Sectors;
 use b67_card::{ReadFault, Refused, read_up_to};
 use b67_image_shape::is_shaped;
 use b67_io::Source;
+use b67_model::IMAGE_BYTES;
 use b67_model_text::Switches;
 use b67_stack::Cpu;
 use b67_task_tables::{JobRows, Machine, TaskRow, Tasks};
@@ -26,7 +27,7 @@ use b67_word::Bytes;
 use std::alloc::Global;
 
 /// An image has at most so many bytes.
-const LIMIT: usize = 67_108_864;
+const LIMIT: usize = IMAGE_BYTES;
 
 /// The tables of these numbers and lists, with no count at which the run stops, and nothing printed.
 fn tasks_of(

@@ -3,11 +3,15 @@
 ghost use Rattle.std.specs.Prelude.{◌≡◌, ◌≤◌, ◌<◌, ◌^◌, ◌+◌, nat_abs, IfOk};
 ghost use Rattle.b67_image.specs.Giving.{GivesItem};
 ghost use Rattle.b67_image.specs.Reading.{read_many, read_count, read_counted, read_switch, read_switches, read_name, read_signed, read_job, read_jobs, state_by_kind, read_state, read_row, read_rows};
+ghost use Rattle.b67_model.specs.declared.limits.TheConstants.{GREATEST};
 
 use crate::flaw::Flaw;
 use crate::numbers::{read_eight, read_four, read_one, read_place, read_two};
 use arrayvec::ArrayVec;
 use b67_card::name;
+use b67_model::{
+    GREATEST, MOST_JOBS, MOST_LIMIT, MOST_MADE, MOST_NUMBER, MOST_PARTS, MOST_SWITCHES,
+};
 use b67_model_text::{Name, Switch, Switches};
 use b67_task_tables::{JobRow, JobRows, TaskRow, TaskState};
 use b67_word::Numbers;
@@ -31,15 +35,15 @@ fn read_switch(bytes: &[u8]) -> Result<(Switch, &[u8]), Flaw>
     ensures { GivesItem (λ x. (x.0, x.1.now)) result (read_switch bytes.now) }
 {
     let (count, rest) = read_eight(bytes)?;
-    if count > 800_000_000 {
+    if count > MOST_MADE {
         return Err(Flaw::Bad);
     }
     let (job, rest) = read_one(rest)?;
-    if job < 1 || job > 8 {
+    if job < 1 || job > MOST_JOBS {
         return Err(Flaw::Bad);
     }
     let (task, rest) = read_four(rest)?;
-    if task < 1 || task > 100_000_000 {
+    if task < 1 || task > MOST_NUMBER {
         return Err(Flaw::Bad);
     }
     Ok((Switch { count, job, task }, rest))
@@ -65,7 +69,7 @@ fn many_switches(alloc: Global, count: u32, bytes: &[u8]) -> Result<(Switches, &
 pub fn read_switches(alloc: Global, bytes: &[u8]) -> Result<(Switches, &[u8]), Flaw>
     ensures { GivesItem (λ x. (x.0, x.1.now)) result (read_switches bytes.now) }
 {
-    let (count, rest) = read_count(0, 100_000, bytes)?;
+    let (count, rest) = read_count(0, MOST_SWITCHES, bytes)?;
     many_switches(alloc, count, rest)
 }
 
@@ -88,11 +92,11 @@ fn read_name(bytes: &[u8]) -> Result<(Name, &[u8]), Flaw>
 #[tactic(auto, unfolding(crate::specs::Reading::read_signed))]
 fn read_signed(bytes: &[u8]) -> Result<(i64, &[u8]), Flaw>
     ensures row { GivesItem (λ x. (x.0, x.1.now)) result (read_signed bytes.now) }
-    ensures small { IfOk result (λ x. nat_abs x.0 ≤ 549755813887) }
+    ensures small { IfOk result (λ x. nat_abs x.0 ≤ GREATEST) }
 {
     let (number, rest) = read_eight(bytes)?;
     let number = number.cast_signed();
-    if number.unsigned_abs() > 549_755_813_887 {
+    if number.unsigned_abs() > GREATEST {
         return Err(Flaw::Bad);
     }
     Ok((number, rest))
@@ -133,11 +137,11 @@ fn read_job(alloc: Global, bytes: &[u8]) -> Result<(JobRow, &[u8]), Flaw>
     let (dict, rest) = read_four(rest)?;
     let (segments, rest) = read_two(rest)?;
     let (rows, rest) = read_two(rest)?;
-    if u32::from(segments) + u32::from(rows) > 255 {
+    if u32::from(segments) + u32::from(rows) > MOST_PARTS as u32 {
         return Err(Flaw::Bad);
     }
     let (limit, rest) = read_eight(rest)?;
-    if limit < 1 || limit > 100_000_000 {
+    if limit < 1 || limit > MOST_LIMIT {
         return Err(Flaw::Bad);
     }
     let (made, rest) = read_eight(rest)?;
@@ -181,7 +185,7 @@ fn many_jobs(alloc: Global, count: u32, bytes: &[u8]) -> Result<(JobRows, &[u8])
 pub fn read_jobs(alloc: Global, bytes: &[u8]) -> Result<(JobRows, &[u8]), Flaw>
     ensures { GivesItem (λ x. (x.0, x.1.now)) result (read_jobs bytes.now) }
 {
-    let (count, rest) = read_count(0, 8, bytes)?;
+    let (count, rest) = read_count(0, MOST_JOBS as u32, bytes)?;
     many_jobs(alloc, count, rest)
 }
 

@@ -44,6 +44,7 @@ use Rattle.b67_image_shape.proofs.RecordsSeen.{half_low}
 use Rattle.b67_image_shape.proofs.SightSeen.{SeesEntered, in_sight}
 use Rattle.b67_image_shape.proofs.SightNames.{place_of, place_small, same_place, names_seen, seen_named, words_small}
 use Rattle.b67_image_shape.proofs.CellsRead.{StandsIn, RowIn, words_low, array_from, held, one_slot, holds, original_marked, array_here}
+use Rattle.b67_model.specs.declared.limits.TheConstants.{MOST_PARTS}
 
 -- ---- numbers
 
@@ -172,7 +173,7 @@ module _ (k : Sight) (facts : TableFacts k) (low size : ℕ) (fixed : FixedFacts
   from_arrays : (a : Array) → Has job.arrays a → RowIn mine (home_of k r.job a.identity) a ⊎ StandsIn k r.job (home_of k r.job a.identity) a
   from_arrays a g = array_from k facts low size fixed near (of_row k facts r h).row r.job (of_row k facts r h).found tables_are.0 tables_are.1 a g
 
-  rows_few : mine.segments + mine.rows ≤ 255
+  rows_few : mine.segments + mine.rows ≤ MOST_PARTS
   rows_few = (dictionary_lies k.core k.regs.stacks 160 k.jobs (r.job - 1) (of_row k facts r h).row fixed.dictionaries (of_row k facts r h).found).few
 
   rows_low : mine.dictionary + (2 + (mine.segments + mine.rows)) ≤ k.regs.stacks

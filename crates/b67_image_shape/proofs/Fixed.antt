@@ -14,6 +14,7 @@ use Rattle.b67_image_shape.specs.FixedTests.{found_number, found_word, word_is, 
 use Rattle.b67_image_shape.specs.Laws.{FixedWordsAreTested, CriticalMarksAreTested}
 use Rattle.b67_image_shape.proofs.Deciding.{same_number, less, at_most, both, like, yes, nothing}
 use Rattle.b67_image_shape.proofs.Fits.{same_is, is_same}
+use Rattle.b67_model.specs.declared.limits.TheConstants.{MOST_PARTS}
 
 pub found_number_is : (o : Option ℕ) (n : ℕ) → Decides (found_number o n) (o ≡ Some n)
 found_number_is None n = nothing (λ e. let z : ⊥ = cc in z)
@@ -51,8 +52,8 @@ dictionary core at row =
     let m = word 3 (2 ^ 47 + 2 ^ 46 + 136 * 2 ^ 36 + 1 * 2 ^ 14) in
     let n = word 0 (row.segments + row.rows) in
     like (dictionary_test core at row) (λ (a, (b, (c, d))). record { place = a; few = b; mark = c; entries = d }) (λ h. (h.place, (h.few, (h.mark, h.entries))))
-    (both (row.dictionary == at) (nat_le (row.segments + row.rows) 255 && (word_is core at m && word_is core (at + 1) n)) (same_number row.dictionary at)
-    (both (nat_le (row.segments + row.rows) 255) (word_is core at m && word_is core (at + 1) n) (at_most (row.segments + row.rows) 255)
+    (both (row.dictionary == at) (nat_le (row.segments + row.rows) MOST_PARTS && (word_is core at m && word_is core (at + 1) n)) (same_number row.dictionary at)
+    (both (nat_le (row.segments + row.rows) MOST_PARTS) (word_is core at m && word_is core (at + 1) n) (at_most (row.segments + row.rows) MOST_PARTS)
     (both (word_is core at m) (word_is core (at + 1) n) (word_there core at m) (word_there core (at + 1) n))))
 
 dictionaries : (core : List Tagged) (stacks at : ℕ) (rows : List JobRow) → Decides (dictionaries_test core stacks at rows) (DictionariesStandIn core stacks at rows)

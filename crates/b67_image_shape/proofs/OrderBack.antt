@@ -28,6 +28,7 @@ use Rattle.b67_image_shape.proofs.TablesOf.{sorted_long, sum_from}
 use Rattle.b67_image_shape.proofs.Critical.{high_is}
 use Rattle.b67_image_shape.proofs.Sources.{Lies, dictionary_lies, name_is, number_some}
 use Rattle.b67_image_shape.proofs.NamesBack.{names_in, names_fall, arrays_named, all_fall, tasks_count, entries_count, name_once, frames_few}
+use Rattle.b67_model.specs.declared.limits.TheConstants.{LEAST_STACK}
 
 -- ---- the words of a dictionary
 
@@ -242,7 +243,7 @@ module _ (k : Sight) (facts : TableFacts k) (low size : ℕ) (fixed : FixedFacts
           stands = refl;
           dictionary = dictionary_words k (row.dictionary + 2) row.segments row.rows;
         } where
-          room : (rows : List JobRow) → slice_get rows i ≡ Some row → SlotsHaveRoom k.regs.stack_size rows → 64 ≤ k.regs.stack_size
+          room : (rows : List JobRow) → slice_get rows i ≡ Some row → SlotsHaveRoom k.regs.stack_size rows → LEAST_STACK ≤ k.regs.stack_size
           room [] e h = absurd (let z : ⊥ = cc in z)
           room (r ∷ more) e h = h
 

@@ -26,6 +26,7 @@ use Rattle.b67_image_shape.proofs.Members.{row_of_member}
 use Rattle.b67_layout_shown.proofs.Sorted.{sorted_has}
 use Rattle.b67_image_shape.proofs.Rows.{row_fact, found_row}
 use Rattle.b67_image_shape.proofs.EachTask.{task_at}
+use Rattle.b67_model.specs.declared.limits.TheConstants.{MOST_PARTS}
 
 -- the numbers of the object whose descriptor stands at an address
 abbrev pub contents_at : List Tagged → ℕ → List ℕ
@@ -40,7 +41,7 @@ dictionaries_low core stacks at (row ∷ more) d = let low = dictionaries_low co
 pub record Lies (stacks at : ℕ) (row : JobRow) : Type 0 where
   pub low : at ≤ row.dictionary
   pub high : row.dictionary + (2 + (row.segments + row.rows)) ≤ stacks
-  pub few : row.segments + row.rows ≤ 255
+  pub few : row.segments + row.rows ≤ MOST_PARTS
 
 pub dictionary_lies : (core : List Tagged) (stacks at : ℕ) (rows : List JobRow) (i : ℕ) (row : JobRow) → DictionariesStandIn core stacks at rows → slice_get rows i ≡ Some row → Lies stacks at row
 dictionary_lies core stacks at [] i row d e = absurd (let z : ⊥ = cc in z)

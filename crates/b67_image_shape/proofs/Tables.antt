@@ -12,6 +12,7 @@ use Rattle.b67_image_shape.specs.TableFacts.{row_in_slot, rows_in, AreApart, Row
 use Rattle.b67_image_shape.specs.TableTests.{jobs_pass, are_apart, rows_apart, state_ready, row_ready, may_go_on, is_read, job_test, born_test, of_job_test, row_test, rise_test, running_test, counts_test, tables_test}
 use Rattle.b67_image_shape.specs.Laws.{TablesAreTested}
 use Rattle.b67_image_shape.proofs.Deciding.{same_number, other_number, less, at_most, both, like, yes, nothing, if_so, each, some, each_job}
+use Rattle.b67_model.specs.declared.limits.TheConstants.{MOST_JOBS, MOST_LIMIT}
 
 -- ---- rows of tasks
 
@@ -56,9 +57,9 @@ goes_on row (r ∷ more) = both (nat_lt row.made row.limit) (list_any row_ready 
 pub job_decided : (tasks : List TaskRow) (job : ℕ) (row : JobRow) → Decides (job_test tasks job row) (JobFacts tasks job row)
 job_decided tasks job row =
     like (job_test tasks job row) (λ (a, (b, (c, (d, (e, f))))). record { few = a; reads = b; limit = c; next = d; within = e; goes_on = f }) (λ h. (h.few, (h.reads, (h.limit, (h.next, (h.within, h.goes_on))))))
-    (both (nat_le (length (rows_in tasks job)) 15) (list_all is_read (drop row.next_number row.numbers) && (nat_le row.limit 100000000 && (nat_le row.next_task (row.made + 2) && (nat_le row.made row.limit && may_go_on row (rows_in tasks job))))) (at_most (length (rows_in tasks job)) 15)
-    (both (list_all is_read (drop row.next_number row.numbers)) (nat_le row.limit 100000000 && (nat_le row.next_task (row.made + 2) && (nat_le row.made row.limit && may_go_on row (rows_in tasks job)))) (each is_read (λ (n : ℤ). nat_abs n < 2 ^ 39) (λ n. less (nat_abs n) (2 ^ 39)) (drop row.next_number row.numbers))
-    (both (nat_le row.limit 100000000) (nat_le row.next_task (row.made + 2) && (nat_le row.made row.limit && may_go_on row (rows_in tasks job))) (at_most row.limit 100000000)
+    (both (nat_le (length (rows_in tasks job)) 15) (list_all is_read (drop row.next_number row.numbers) && (nat_le row.limit MOST_LIMIT && (nat_le row.next_task (row.made + 2) && (nat_le row.made row.limit && may_go_on row (rows_in tasks job))))) (at_most (length (rows_in tasks job)) 15)
+    (both (list_all is_read (drop row.next_number row.numbers)) (nat_le row.limit MOST_LIMIT && (nat_le row.next_task (row.made + 2) && (nat_le row.made row.limit && may_go_on row (rows_in tasks job)))) (each is_read (λ (n : ℤ). nat_abs n < 2 ^ 39) (λ n. less (nat_abs n) (2 ^ 39)) (drop row.next_number row.numbers))
+    (both (nat_le row.limit MOST_LIMIT) (nat_le row.next_task (row.made + 2) && (nat_le row.made row.limit && may_go_on row (rows_in tasks job))) (at_most row.limit MOST_LIMIT)
     (both (nat_le row.next_task (row.made + 2)) (nat_le row.made row.limit && may_go_on row (rows_in tasks job)) (at_most row.next_task (row.made + 2))
     (both (nat_le row.made row.limit) (may_go_on row (rows_in tasks job)) (at_most row.made row.limit) (goes_on row (rows_in tasks job)))))))
 
@@ -89,7 +90,7 @@ counts_decided k =
 pub tables_decided : TablesAreTested
 tables_decided k =
     like (tables_test k) (λ (a, (b, (c, (d, (e, f))))). record { few_jobs = a; apart = b; peak = c; rows = d; jobs = e; counts = f }) (λ h. (h.few_jobs, (h.apart, (h.peak, (h.rows, (h.jobs, h.counts))))))
-    (both (nat_le (length k.jobs) 8) (rows_apart k.tasks && (nat_le k.regs.peak 120 && (list_all (row_test k) k.tasks && (jobs_pass (job_test k.tasks) 1 k.jobs && counts_test k)))) (at_most (length k.jobs) 8)
+    (both (nat_le (length k.jobs) MOST_JOBS) (rows_apart k.tasks && (nat_le k.regs.peak 120 && (list_all (row_test k) k.tasks && (jobs_pass (job_test k.tasks) 1 k.jobs && counts_test k)))) (at_most (length k.jobs) MOST_JOBS)
     (both (rows_apart k.tasks) (nat_le k.regs.peak 120 && (list_all (row_test k) k.tasks && (jobs_pass (job_test k.tasks) 1 k.jobs && counts_test k))) (apart k.tasks)
     (both (nat_le k.regs.peak 120) (list_all (row_test k) k.tasks && (jobs_pass (job_test k.tasks) 1 k.jobs && counts_test k)) (at_most k.regs.peak 120)
     (both (list_all (row_test k) k.tasks) (jobs_pass (job_test k.tasks) 1 k.jobs && counts_test k) (each (row_test k) (RowFacts k) (row_decided k) k.tasks)

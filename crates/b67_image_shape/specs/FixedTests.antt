@@ -6,6 +6,7 @@ use Rattle.b67_layout_shown.specs.Shown.{Sight}
 use Rattle.b67_image_shape.specs.Fitting.{same}
 use Rattle.b67_image_shape.specs.TableFacts.{row_in_slot}
 use Rattle.b67_image_shape.specs.FixedWords.{vector_of, greatest}
+use Rattle.b67_model.specs.declared.limits.TheConstants.{LEAST_STACK, MOST_PARTS}
 
 -- a number or a word that was found is this one
 abbrev pub found_number : Option ℕ → ℕ → Bool
@@ -33,7 +34,7 @@ mcp_test core = word_is core 0 (word 3 (2 ^ 46)) && all_below (is_intrinsic core
 abbrev pub dictionary_test : List Tagged → ℕ → JobRow → Bool
 dictionary_test core at row =
     (row.dictionary == at)
-    && (nat_le (row.segments + row.rows) 255
+    && (nat_le (row.segments + row.rows) MOST_PARTS
     && (word_is core at (word 3 (2 ^ 47 + 2 ^ 46 + 136 * 2 ^ 36 + 1 * 2 ^ 14)) && word_is core (at + 1) (word 0 (row.segments + row.rows))))
 
 abbrev pub dictionaries_test : List Tagged → ℕ → ℕ → List JobRow → Bool
@@ -52,7 +53,7 @@ base_test k n = free_test k.core (k.regs.stacks + n * k.regs.stack_size) (row_in
 
 abbrev pub room_test : ℕ → List JobRow → Bool
 room_test size [] = true
-room_test size (row ∷ more) = nat_le 64 size
+room_test size (row ∷ more) = nat_le LEAST_STACK size
 
 abbrev pub fixed_test : Sight → ℕ → ℕ → Bool
 fixed_test k low size =

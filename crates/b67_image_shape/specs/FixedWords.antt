@@ -8,11 +8,12 @@ use Rattle.b67_layout.specs.Rows.{TaskRow, JobRow}
 use Rattle.b67_layout.specs.Session.{RepresentsMcp}
 use Rattle.b67_layout_shown.specs.Shown.{Sight}
 use Rattle.b67_image_shape.specs.TableFacts.{row_in_slot}
+use Rattle.b67_model.specs.declared.limits.TheConstants.{LEAST_STACK, MOST_PARTS}
 
 -- dictionaries follow each other, up to slot 0
 pub record DictionaryFacts (core : List Tagged) (at : ℕ) (row : JobRow) : Type 0 where
   pub place : row.dictionary ≡ at
-  pub few : row.segments + row.rows ≤ 255
+  pub few : row.segments + row.rows ≤ MOST_PARTS
   pub mark : slice_get core at ≡ Some (word 3 (2 ^ 47 + 2 ^ 46 + MCP_STACK * 2 ^ 36 + 1 * 2 ^ 14))
   pub entries : slice_get core (at + 1) ≡ Some (word 0 (row.segments + row.rows))
 
@@ -37,7 +38,7 @@ FreeSlot core base (Some r) = Unit {0}
 -- slots have 64 words or more, where there are jobs
 abbrev pub SlotsHaveRoom : ℕ → List JobRow → Type 0
 SlotsHaveRoom size [] = Unit {0}
-SlotsHaveRoom size (row ∷ more) = 64 ≤ size
+SlotsHaveRoom size (row ∷ more) = LEAST_STACK ≤ size
 
 pub record FixedFacts (k : Sight) (low size : ℕ) : Type 0 where
   pub stack_low : SlotsHaveRoom k.regs.stack_size k.jobs

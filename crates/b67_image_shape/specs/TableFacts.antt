@@ -7,6 +7,7 @@ use Rattle.b67_model.specs.Keyed.{keyed}
 use Rattle.b67_model.specs.Common.{Switch, SwitchesRise}
 use Rattle.b67_layout.specs.Rows.{IsReady, TaskRow, JobRow, RunningRow}
 use Rattle.b67_layout_shown.specs.Shown.{Sight, placed}
+use Rattle.b67_model.specs.declared.limits.TheConstants.{MOST_JOBS, MOST_LIMIT}
 
 -- the row of the task in a slot, and the rows of a job's tasks
 abbrev pub row_in_slot : List TaskRow → ℕ → Option TaskRow
@@ -37,7 +38,7 @@ JobGoesOn row (r ∷ more) = (row.made < row.limit) × ((q : TaskRow) × Has (r 
 pub record JobFacts (tasks : List TaskRow) (job : ℕ) (row : JobRow) : Type 0 where
   pub few : length (rows_in tasks job) ≤ MOST_TASKS
   pub reads : AllByRecursion (λ n. nat_abs n < 2 ^ 39) (drop row.next_number row.numbers)
-  pub limit : row.limit ≤ 100000000
+  pub limit : row.limit ≤ MOST_LIMIT
   pub next : row.next_task ≤ row.made + 2
   pub within : row.made ≤ row.limit
   pub goes_on : JobGoesOn row (rows_in tasks job)
@@ -68,7 +69,7 @@ pub record CountFacts (k : Sight) : Type 0 where
   pub running : RunningRow (placed k) (slice_get k.tasks k.counts.running) k.counts.running
 
 pub record TableFacts (k : Sight) : Type 0 where
-  pub few_jobs : length k.jobs ≤ 8
+  pub few_jobs : length k.jobs ≤ MOST_JOBS
   pub apart : RowsApart k.tasks
   pub peak : k.regs.peak ≤ 120
   pub rows : AllByRecursion (RowFacts k) k.tasks

@@ -7,6 +7,7 @@ use Rattle.b67_model.specs.Common.{Switch}
 use Rattle.b67_layout.specs.Rows.{RowState, IsReady, AwaitsTask, WaitsAtCell, TaskRow, JobRow, no_row}
 use Rattle.b67_layout_shown.specs.Shown.{Sight}
 use Rattle.b67_image_shape.specs.TableFacts.{row_in_slot, rows_in}
+use Rattle.b67_model.specs.declared.limits.TheConstants.{MOST_JOBS, MOST_LIMIT}
 
 -- all jobs' rows, with their numbers
 abbrev pub jobs_pass : (ℕ → JobRow → Bool) → ℕ → List JobRow → Bool
@@ -39,7 +40,7 @@ abbrev pub job_test : List TaskRow → ℕ → JobRow → Bool
 job_test tasks job row =
     nat_le (length (rows_in tasks job)) MOST_TASKS
     && (list_all is_read (drop row.next_number row.numbers)
-    && (nat_le row.limit 100000000 && (nat_le row.next_task (row.made + 2) && (nat_le row.made row.limit && may_go_on row (rows_in tasks job)))))
+    && (nat_le row.limit MOST_LIMIT && (nat_le row.next_task (row.made + 2) && (nat_le row.made row.limit && may_go_on row (rows_in tasks job)))))
 
 abbrev pub born_test : TaskRow → Option TaskRow → Bool
 born_test r None = (r.number == 1) && ((r.parent == 255) && (r.critical == 0))
@@ -77,5 +78,5 @@ counts_test k =
 
 abbrev pub tables_test : Sight → Bool
 tables_test k =
-    nat_le (length k.jobs) 8
+    nat_le (length k.jobs) MOST_JOBS
     && (rows_apart k.tasks && (nat_le k.regs.peak 120 && (list_all (row_test k) k.tasks && (jobs_pass (job_test k.tasks) 1 k.jobs && counts_test k))))

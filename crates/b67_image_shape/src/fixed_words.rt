@@ -12,6 +12,7 @@ use crate::areas::is_word;
 use crate::table::find_row;
 use b67_core::Core;
 use b67_ctl::{FIRST_TASK, Regs};
+use b67_model::{LEAST_STACK, MOST_PARTS};
 use b67_task_tables::{JobRow, Machine, TaskRow};
 
 /// Whether the word at an address has this tag and these bits.
@@ -54,7 +55,7 @@ fn dictionary_stands(core: &Core, at: u64, row: &JobRow) -> bool
 {
     let entries = u64::from(row.segments) + u64::from(row.rows);
     u64::from(row.dict) == at
-        && (entries <= 255
+        && (entries <= MOST_PARTS as u64
             && (word_is(core, at, 3, 0xC880_0000_4000) && word_is(core, at + 1, 0, entries)))
 }
 
@@ -158,7 +159,7 @@ fn have_room(size: u16, jobs: &[JobRow]) -> bool
 {
     match jobs {
         [] => true,
-        [_, ..] => 64 <= size,
+        [_, ..] => LEAST_STACK <= size,
     }
 }
 

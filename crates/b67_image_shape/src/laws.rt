@@ -26,4 +26,3 @@ pub fn items_are_exact()
     stacks_are_read();
     directories_are_read();
 }
-

@@ -11,4 +11,3 @@ pub fn objects_are_tested()
 {
     sectors_tell_chains();
 }
-

@@ -13,4 +13,3 @@ pub fn shape_is_decided()
     directories_are_read();
     objects_are_tested();
 }
-

@@ -13,7 +13,9 @@ use crate::cells::are_cells_in_order;
 use crate::critical_marks::critical_passes;
 use crate::display::display_passes;
 use crate::fixed_words::fixed_passes;
-use crate::laws::{critical_marks_are_tested, fixed_words_are_tested, items_are_exact, tables_are_tested};
+use crate::laws::{
+    critical_marks_are_tested, fixed_words_are_tested, items_are_exact, tables_are_tested,
+};
 use crate::links::links_of;
 use crate::object_laws::objects_are_tested;
 use crate::objects::are_kept;

@@ -13,6 +13,7 @@ use Rattle.b67_model_text.specs.Cards.{words_in_card, natural, is_name, name_in,
 use Rattle.b67_model_text.specs.Command.{Command, Stack, Quantum, Halt, Switch, Job, Limit, Asm, Hex, Data, End, Plain, keyword_of, number_in, one_number, parted, target, switch, says, job_named, job, alone, command_of, is_command, plain_card, said}
 use Rattle.b67_model_text.proofs.Answers.{after_both, err-ok}
 use Rattle.b67_image.specs.Within.{IsSwitch}
+use Rattle.b67_model.specs.declared.limits.TheConstants.{LEAST_STACK, MOST_STACK, MOST_JOBS, MOST_QUANTUM, MOST_LIMIT, MOST_NUMBER, MOST_MADE}
 
 pub record NumberWithin (low high n : ℕ) : Type 0 where
   pub from : low ≤ n
@@ -24,11 +25,11 @@ pub record NameWithin (name : List ℕ) : Type 0 where
   pub ascii : IsTrue (list_all is_ascii name)
 
 abbrev pub CommandInRange : Command → Type 0
-CommandInRange (Stack n) = NumberWithin 64 16383 n
-CommandInRange (Quantum n) = NumberWithin 1 1000000 n
+CommandInRange (Stack n) = NumberWithin LEAST_STACK MOST_STACK n
+CommandInRange (Quantum n) = NumberWithin 1 MOST_QUANTUM n
 CommandInRange (Switch count job task) = IsSwitch (record { count = count; job = job; task = task })
 CommandInRange (Job name) = NameWithin name
-CommandInRange (Limit n) = NumberWithin 1 100000000 n
+CommandInRange (Limit n) = NumberWithin 1 MOST_LIMIT n
 CommandInRange _ = Unit {0}
 
 pub number_within : (low high n : ℕ) (text : List ℕ) → number_in low high text ≡ Some n → NumberWithin low high n
@@ -108,23 +109,23 @@ job_in (word ∷ more) c e = by_test (is_empty more) e
 
 -- whom a switch names
 record TargetWithin (t : ℕ × ℕ) : Type 0 where
-  pub job : NumberWithin 1 8 t.0
-  pub task : NumberWithin 1 100000000 t.1
+  pub job : NumberWithin 1 MOST_JOBS t.0
+  pub task : NumberWithin 1 MOST_NUMBER t.1
 
 abbrev target_of : ℕ → ℕ → ℕ × ℕ
 target_of job = λ task. (job, task)
 
-by_task : (job : ℕ) (t : ℕ × ℕ) → NumberWithin 1 8 job → (o : Option ℕ) → ((n : ℕ) → o ≡ Some n → NumberWithin 1 100000000 n) → option_map (target_of job) o ≡ Some t → TargetWithin t
+by_task : (job : ℕ) (t : ℕ × ℕ) → NumberWithin 1 MOST_JOBS job → (o : Option ℕ) → ((n : ℕ) → o ≡ Some n → NumberWithin 1 MOST_NUMBER n) → option_map (target_of job) o ≡ Some t → TargetWithin t
 by_task job t h None k e = absurd (none-some t e)
 by_task job t h (Some n) k e = subst TargetWithin (same_Some (target_of job n) t e) (record { job = h; task = k n refl })
 
-by_job : (word : List ℕ) (t : ℕ × ℕ) (o : Option ℕ) → ((n : ℕ) → o ≡ Some n → NumberWithin 1 8 n) → option_and_then (λ (job : ℕ). option_map (target_of job) (number_in 1 100000000 word)) o ≡ Some t → TargetWithin t
+by_job : (word : List ℕ) (t : ℕ × ℕ) (o : Option ℕ) → ((n : ℕ) → o ≡ Some n → NumberWithin 1 MOST_JOBS n) → option_and_then (λ (job : ℕ). option_map (target_of job) (number_in 1 MOST_NUMBER word)) o ≡ Some t → TargetWithin t
 by_job word t None k e = absurd (none-some t e)
-by_job word t (Some n) k e = by_task n t (k n refl) (number_in 1 100000000 word) (λ m i. number_within 1 100000000 m word i) e
+by_job word t (Some n) k e = by_task n t (k n refl) (number_in 1 MOST_NUMBER word) (λ m i. number_within 1 MOST_NUMBER m word i) e
 
-by_parts : (t : ℕ × ℕ) (o : Option (List ℕ × List ℕ)) → option_and_then (λ (p : List ℕ × List ℕ). option_and_then (λ (job : ℕ). option_map (target_of job) (number_in 1 100000000 p.1)) (number_in 1 8 p.0)) o ≡ Some t → TargetWithin t
+by_parts : (t : ℕ × ℕ) (o : Option (List ℕ × List ℕ)) → option_and_then (λ (p : List ℕ × List ℕ). option_and_then (λ (job : ℕ). option_map (target_of job) (number_in 1 MOST_NUMBER p.1)) (number_in 1 MOST_JOBS p.0)) o ≡ Some t → TargetWithin t
 by_parts t None e = absurd (none-some t e)
-by_parts t (Some p) e = by_job p.1 t (number_in 1 8 p.0) (λ n i. number_within 1 8 n p.0 i) e
+by_parts t (Some p) e = by_job p.1 t (number_in 1 MOST_JOBS p.0) (λ n i. number_within 1 MOST_JOBS n p.0 i) e
 
 target_within : (word : List ℕ) (t : ℕ × ℕ) → target word ≡ Some t → TargetWithin t
 target_within word t e = by_parts t (parted 46 word) e
@@ -132,9 +133,9 @@ target_within word t e = by_parts t (parted 46 word) e
 switch_in_range : (ps : List (List ℕ)) (c : Command) → switch ps ≡ Some c → CommandInRange c
 switch_in_range [] c e = absurd (none-some c e)
 switch_in_range (a ∷ []) c e = absurd (none-some c e)
-switch_in_range (a ∷ w ∷ []) c e = by_count (number_in 0 800000000 a) (λ n i. number_within 0 800000000 n a i) e
+switch_in_range (a ∷ w ∷ []) c e = by_count (number_in 0 MOST_MADE a) (λ n i. number_within 0 MOST_MADE n a i) e
   where
-    by_count : (o : Option ℕ) → ((n : ℕ) → o ≡ Some n → NumberWithin 0 800000000 n) → option_and_then (λ (n : ℕ). option_map (λ (t : ℕ × ℕ). Switch n t.0 t.1) (target w)) o ≡ Some c → CommandInRange c
+    by_count : (o : Option ℕ) → ((n : ℕ) → o ≡ Some n → NumberWithin 0 MOST_MADE n) → option_and_then (λ (n : ℕ). option_map (λ (t : ℕ × ℕ). Switch n t.0 t.1) (target w)) o ≡ Some c → CommandInRange c
     by_count None k e = absurd (none-some c e)
     by_count (Some n) k e =
         mapped (λ (t : ℕ × ℕ). Switch n t.0 t.1) TargetWithin (target w) c (λ t i. target_within w t i)
@@ -142,12 +143,12 @@ switch_in_range (a ∷ w ∷ []) c e = by_count (number_in 0 800000000 a) (λ n 
 switch_in_range (a ∷ w ∷ v ∷ more) c e = absurd (none-some c e)
 
 says_in_range : (k : keyword.Keyword) (ps : List (List ℕ)) (c : Command) → says k ps ≡ Some c → CommandInRange c
-says_in_range keywords.Stack ps c e = mapped Stack (NumberWithin 64 16383) (one_number 64 16383 ps) c (λ n i. one_within 64 16383 n ps i) (λ n h. h) e
-says_in_range keywords.Quantum ps c e = mapped Quantum (NumberWithin 1 1000000) (one_number 1 1000000 ps) c (λ n i. one_within 1 1000000 n ps i) (λ n h. h) e
-says_in_range keywords.Halt ps c e = mapped Halt (λ n. Unit {0}) (one_number 1 800000000 ps) c (λ n i. tt) (λ n h. tt) e
+says_in_range keywords.Stack ps c e = mapped Stack (NumberWithin LEAST_STACK MOST_STACK) (one_number LEAST_STACK MOST_STACK ps) c (λ n i. one_within LEAST_STACK MOST_STACK n ps i) (λ n h. h) e
+says_in_range keywords.Quantum ps c e = mapped Quantum (NumberWithin 1 MOST_QUANTUM) (one_number 1 MOST_QUANTUM ps) c (λ n i. one_within 1 MOST_QUANTUM n ps i) (λ n h. h) e
+says_in_range keywords.Halt ps c e = mapped Halt (λ n. Unit {0}) (one_number 1 MOST_MADE ps) c (λ n i. tt) (λ n h. tt) e
 says_in_range keywords.Switch ps c e = switch_in_range ps c e
 says_in_range keywords.Job ps c e = job_in ps c e
-says_in_range keywords.Limit ps c e = mapped Limit (NumberWithin 1 100000000) (one_number 1 100000000 ps) c (λ n i. one_within 1 100000000 n ps i) (λ n h. h) e
+says_in_range keywords.Limit ps c e = mapped Limit (NumberWithin 1 MOST_LIMIT) (one_number 1 MOST_LIMIT ps) c (λ n i. one_within 1 MOST_LIMIT n ps i) (λ n h. h) e
 says_in_range keywords.Asm ps c e = alone_in Asm c ps tt e
 says_in_range keywords.Hex ps c e = alone_in Hex c ps tt e
 says_in_range keywords.Data ps c e = alone_in Data c ps tt e

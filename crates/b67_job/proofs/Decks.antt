@@ -30,6 +30,7 @@ use Rattle.b67_job.specs.Runs.{run_of, memory_refused, opening_wants_core, openi
 use Rattle.b67_job.proofs.Opened.{states_in_order, stays_ordered, says_after, stands_opened, stage_of, known_after, known_later}
 use Rattle.b67_job.proofs.Ran.{closes_only, ran}
 use Rattle.b67_job.proofs.Closings.{none_printed}
+use Rattle.b67_model.specs.declared.limits.TheConstants.{MOST_MADE}
 
 -- ---- the run of a deck
 
@@ -92,11 +93,11 @@ module _ {K B : Type 0} (taken : K → Option (List ℕ)) (failures : K → ℕ)
   pub deck_run : (old new : K) (answer : ℕ) → DeviceAfterCalls holds size calls broken b b' → DeviceAfterCalls holds size calls broken b' b''
       → IsOpen (holds b'') k → Keeps k0 k
       → ((x : Option (List (List ℕ))) (s : Session) → Says x (holds b') → StandsAt x k0 s
-      → SessionRan taken failures closing (content_after x (holds b'')) (x ≢ None) (Rose broken b' b'') (size b') 800000000 s k0 k old new answer)
+      → SessionRan taken failures closing (content_after x (holds b'')) (x ≢ None) (Rose broken b' b'') (size b') MOST_MADE s k0 k old new answer)
       → DeckRunEnds taken failures (device_of holds size broken b b'') core (d, map program_of fs) closing (Some k) old new answer
   deck_run old new answer first_calls more_calls may_go_on keeps rans =
       let still = still_told holds b b' first_calls.tells in
-      let r = subst (λ (x : Option (List (List ℕ))). SessionRan taken failures closing x (said ≢ None) (Rose broken b' b'') (size b') 800000000 first k0 k old new answer) (known_later (holds b) (holds b') (holds b'') still)
+      let r = subst (λ (x : Option (List (List ℕ))). SessionRan taken failures closing x (said ≢ None) (Rose broken b' b'') (size b') MOST_MADE first k0 k old new answer) (known_later (holds b) (holds b') (holds b'') still)
       (rans said first (says_after (holds b) (holds b')) stands) in
       let now = content_after (holds b) (holds b'') in
       let begun : k0.tasks.made ≡ 0 = o.2.stands.tables.counts.made in
@@ -129,8 +130,8 @@ module _ {K B : Type 0} (taken : K → Option (List ℕ)) (failures : K → ℕ)
       (λ e. sym halt ∙ e ∙ ap Some made) (λ e. halt ∙ e ∙ ap Some (sym made)) (λ told. (r.slices.its (exact told)).leads)
       r.slices.was_due r.slices.is_due (λ told. (r.slices.its (exact told)).next) k0.tasks.printed o.2.printed
       r.answered old r.between new answer
-      (subst (λ n. SliceMeets now (said ≢ None) n (size b) 800000000 r.slices.steps r.slices.session r.slices.is_due r.answered k) o.2.core_size
-      (subst (λ n. SliceMeets now (said ≢ None) (length k0.cpu.core) n 800000000 r.slices.steps r.slices.session r.slices.is_due r.answered k) same r.slices.meets))
+      (subst (λ n. SliceMeets now (said ≢ None) n (size b) MOST_MADE r.slices.steps r.slices.session r.slices.is_due r.answered k) o.2.core_size
+      (subst (λ n. SliceMeets now (said ≢ None) (length k0.cpu.core) n MOST_MADE r.slices.steps r.slices.session r.slices.is_due r.answered k) same r.slices.meets))
       r.finishes r.slices.prints (λ other. none_printed r.slices.steps k0 k old r.between o.2.printed (r.slices.texts other))
       (λ e. let rose = r.device_failed e in omega (arith, later, rose))
       r.printer_failed r.later))

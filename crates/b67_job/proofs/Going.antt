@@ -42,6 +42,7 @@ use Rattle.b67_job.proofs.Opened.{stays_ordered, stage_of}
 use Rattle.b67_job.proofs.Closings.{none_printed}
 use Rattle.b67_job.proofs.Ran.{ran, closes_only}
 use Rattle.b67_job.proofs.Finished.{is_finished}
+use Rattle.b67_model.specs.declared.limits.TheConstants.{MOST_MADE}
 
 -- ---- the machine of an image
 
@@ -61,7 +62,7 @@ module _ {K B : Type 0} (taken : K → Option (List ℕ)) (failures : K → ℕ)
   device = device_of holds size broken b b'
 
   abbrev Ran : Option (List (List ℕ)) → Session → Type 0
-  Ran told s = SessionRan taken failures closings.Plain (content_after told (holds b')) (told ≢ None) (Rose broken b b') (size b) 800000000 s image k old new answer
+  Ran told s = SessionRan taken failures closings.Plain (content_after told (holds b')) (told ≢ None) (Rose broken b b') (size b) MOST_MADE s image k old new answer
 
   -- from a session that it stands for
   from_session : (told : Option (List (List ℕ))) (s : Session) → StandsAt told image s → Ran told s

@@ -18,6 +18,7 @@ use Rattle.b67_image.specs.Within.{IsSwitch}
 use Rattle.b67_job.specs.Ranges.{CardsInRange}
 use Rattle.b67_job.proofs.Commands.{NumberWithin, NameWithin, CommandInRange, number_within}
 use Rattle.b67_job.proofs.Sayings.{Read, read, in_range_onto, follows_none, rise_onto, switches_of, few_switches, switches_onto, jobs_in, few_jobs, jobs_onto}
+use Rattle.b67_model.specs.declared.limits.TheConstants.{LEAST_STACK, MOST_STACK, GREATEST, MOST_QUANTUM, MOST_LIMIT, USUAL_LIMIT}
 
 abbrev InRange : Said → Type 0
 InRange s = CommandInRange s.command
@@ -26,7 +27,7 @@ abbrev Small : ℤ → Type 0
 Small v = nat_abs v < 2 ^ 39
 
 -- numbers on cards are small
-negative_small : (n : ℕ) → n ≤ 549755813887 → Small (neg_ℤ (pos n))
+negative_small : (n : ℕ) → n ≤ GREATEST → Small (neg_ℤ (pos n))
 negative_small zero h = omega arith
 negative_small (suc n) h = omega arith
 
@@ -34,17 +35,17 @@ operand_small : (text : List ℕ) (v : ℤ) → operand_in text ≡ Some v → S
 operand_small [] v e = absurd (none-some v e)
 operand_small (b ∷ more) v e = by_test (b == 45) e
   where
-    low : (o : Option ℕ) → ((n : ℕ) → o ≡ Some n → n ≤ 549755813887) → option_map (λ (n : ℕ). neg_ℤ (pos n)) o ≡ Some v → Small v
+    low : (o : Option ℕ) → ((n : ℕ) → o ≡ Some n → n ≤ GREATEST) → option_map (λ (n : ℕ). neg_ℤ (pos n)) o ≡ Some v → Small v
     low None h e = absurd (none-some v e)
     low (Some n) h e = subst Small (same_Some (neg_ℤ (pos n)) v e) (negative_small n (h n refl))
 
-    high : (o : Option ℕ) → ((n : ℕ) → o ≡ Some n → n ≤ 549755813887) → option_map pos o ≡ Some v → Small v
+    high : (o : Option ℕ) → ((n : ℕ) → o ≡ Some n → n ≤ GREATEST) → option_map pos o ≡ Some v → Small v
     high None h e = absurd (none-some v e)
     high (Some n) h e = subst Small (same_Some (pos n) v e) (omega (arith, h n refl))
 
-    by_test : (t : Bool) → cond t (option_map (λ (n : ℕ). neg_ℤ (pos n)) (number_in 1 549755813887 more)) (option_map pos (number_in 0 549755813887 (b ∷ more))) ≡ Some v → Small v
-    by_test true e = low (number_in 1 549755813887 more) (λ n i. (number_within 1 549755813887 n more i).upto) e
-    by_test false e = high (number_in 0 549755813887 (b ∷ more)) (λ n i. (number_within 0 549755813887 n (b ∷ more) i).upto) e
+    by_test : (t : Bool) → cond t (option_map (λ (n : ℕ). neg_ℤ (pos n)) (number_in 1 GREATEST more)) (option_map pos (number_in 0 GREATEST (b ∷ more))) ≡ Some v → Small v
+    by_test true e = low (number_in 1 GREATEST more) (λ n i. (number_within 1 GREATEST n more i).upto) e
+    by_test false e = high (number_in 0 GREATEST (b ∷ more)) (λ n i. (number_within 0 GREATEST n (b ∷ more) i).upto) e
 
 operands_small : (ws : List (List ℕ)) (vs : List ℤ) → operands_in ws ≡ Some vs → AllByRecursion Small vs
 operands_small [] vs e = subst (AllByRecursion Small) (same_Some [] vs e) tt
@@ -77,11 +78,11 @@ data_small (s ∷ more) = by_command s.command (data_small more)
     by_command _ h = h
 
 -- a job's limit and name
-limit_within : (own : List Said) → AllByRecursion InRange own → NumberWithin 1 100000000 (limit_behind 1000000 own)
+limit_within : (own : List Said) → AllByRecursion InRange own → NumberWithin 1 MOST_LIMIT (limit_behind USUAL_LIMIT own)
 limit_within [] h = record { from = omega arith; upto = omega arith }
 limit_within (s ∷ more) h = by_command s.command h.0
   where
-    by_command : (c : Command) → CommandInRange c → NumberWithin 1 100000000 (unwrap_or (limit_in c) 1000000)
+    by_command : (c : Command) → CommandInRange c → NumberWithin 1 MOST_LIMIT (unwrap_or (limit_in c) USUAL_LIMIT)
     by_command (Limit n) h = h
     by_command _ h = record { from = omega arith; upto = omega arith }
 
@@ -119,22 +120,22 @@ jobs_count (s ∷ more) = by_name (jobs_count more) (name_in s.command)
     by_name rest (Some name) = ap suc rest
 
 -- the size of stacks
-stack_within : (said : List Said) → AllByRecursion InRange said → NumberWithin 64 16383 (unwrap_or (first_found (λ (s : Said). stack_in s.command) said) 512)
+stack_within : (said : List Said) → AllByRecursion InRange said → NumberWithin LEAST_STACK MOST_STACK (unwrap_or (first_found (λ (s : Said). stack_in s.command) said) 512)
 stack_within [] h = record { from = omega arith; upto = omega arith }
 stack_within (s ∷ more) h = by_command s.command h.0 (stack_within more h.1)
   where
-    by_command : (c : Command) → CommandInRange c → NumberWithin 64 16383 (unwrap_or (first_found (λ (s : Said). stack_in s.command) more) 512)
-        → NumberWithin 64 16383 (unwrap_or (slice_get (cons_option (stack_in c) (filter_map (λ (s : Said). stack_in s.command) more)) 0) 512)
+    by_command : (c : Command) → CommandInRange c → NumberWithin LEAST_STACK MOST_STACK (unwrap_or (first_found (λ (s : Said). stack_in s.command) more) 512)
+        → NumberWithin LEAST_STACK MOST_STACK (unwrap_or (slice_get (cons_option (stack_in c) (filter_map (λ (s : Said). stack_in s.command) more)) 0) 512)
     by_command (Stack n) h k = h
     by_command _ h k = k
 
 -- the length of turns
-quantum_within : (said : List Said) → AllByRecursion InRange said → NumberWithin 1 1000000 (unwrap_or (first_found (λ (s : Said). quantum_in s.command) said) 1000)
+quantum_within : (said : List Said) → AllByRecursion InRange said → NumberWithin 1 MOST_QUANTUM (unwrap_or (first_found (λ (s : Said). quantum_in s.command) said) 1000)
 quantum_within [] h = record { from = omega arith; upto = omega arith }
 quantum_within (s ∷ more) h = by_command s.command h.0 (quantum_within more h.1)
   where
-    by_command : (c : Command) → CommandInRange c → NumberWithin 1 1000000 (unwrap_or (first_found (λ (s : Said). quantum_in s.command) more) 1000)
-        → NumberWithin 1 1000000 (unwrap_or (slice_get (cons_option (quantum_in c) (filter_map (λ (s : Said). quantum_in s.command) more)) 0) 1000)
+    by_command : (c : Command) → CommandInRange c → NumberWithin 1 MOST_QUANTUM (unwrap_or (first_found (λ (s : Said). quantum_in s.command) more) 1000)
+        → NumberWithin 1 MOST_QUANTUM (unwrap_or (slice_get (cons_option (quantum_in c) (filter_map (λ (s : Said). quantum_in s.command) more)) 0) 1000)
     by_command (Quantum n) h k = h
     by_command _ h k = k
 

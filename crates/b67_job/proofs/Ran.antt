@@ -35,6 +35,7 @@ use Rattle.b67_job.specs.Runs.{text_to, StandsAfter, IsBeforeHalt, IsWithinHalt,
 use Rattle.b67_job.specs.Finishing.{FinishesRun}
 use Rattle.b67_job.proofs.Parts.{over_has_no_last}
 use Rattle.b67_job.proofs.Reached.{came_whole, came_limited, begins_step, ends_step}
+use Rattle.b67_model.specs.declared.limits.TheConstants.{MOST_JOBS, MOST_LIMIT, MOST_MADE}
 
 -- ---- what is printed
 
@@ -59,34 +60,34 @@ module _ {K : Type 0} {taken : K → Option (List ℕ)} {old between : K} {was i
 
 -- ---- the steps that a session may make
 
-sum_upto : (jobs : List SessionJob) → ((y : SessionJob) → Has jobs y → y.progress.made ≤ 100000000) → sum_by (λ (y : SessionJob). y.progress.made) jobs ≤ length jobs * 100000000
+sum_upto : (jobs : List SessionJob) → ((y : SessionJob) → Has jobs y → y.progress.made ≤ MOST_LIMIT) → sum_by (λ (y : SessionJob). y.progress.made) jobs ≤ length jobs * MOST_LIMIT
 sum_upto [] each = omega arith
 sum_upto (x ∷ more) each = omega (arith, sum_by-cons (λ (y : SessionJob). y.progress.made) x more, each x (inl refl), sum_upto more (λ y k. each y (inr k)))
 
-sum_below : (jobs : List SessionJob) (m : SessionJob) → Has jobs m → m.progress.made < 100000000 → ((y : SessionJob) → Has jobs y → y.progress.made ≤ 100000000) → sum_by (λ (y : SessionJob). y.progress.made) jobs < length jobs * 100000000
+sum_below : (jobs : List SessionJob) (m : SessionJob) → Has jobs m → m.progress.made < MOST_LIMIT → ((y : SessionJob) → Has jobs y → y.progress.made ≤ MOST_LIMIT) → sum_by (λ (y : SessionJob). y.progress.made) jobs < length jobs * MOST_LIMIT
 sum_below [] m has low each = absurd has
 sum_below (x ∷ more) m (inl e) low each =
-    let own : x.progress.made < 100000000 = subst (λ (y : SessionJob). y.progress.made < 100000000) (sym e) low in
+    let own : x.progress.made < MOST_LIMIT = subst (λ (y : SessionJob). y.progress.made < MOST_LIMIT) (sym e) low in
     omega (arith, sum_by-cons (λ (y : SessionJob). y.progress.made) x more, own, sum_upto more (λ y k. each y (inr k)))
 sum_below (x ∷ more) m (inr has) low each =
     omega (arith, sum_by-cons (λ (y : SessionJob). y.progress.made) x more, each x (inl refl), sum_below more m has low (λ y k. each y (inr k)))
 
 -- a session of which a task makes the next step has made fewer operators than eight jobs may make
-fewer : (told : Option (List (List ℕ))) (k : Machine) (s : Session) (m : SessionJob) (t : Task) → StandsAt told k s → IsNext s m t → k.tasks.made < 800000000
+fewer : (told : Option (List (List ℕ))) (k : Machine) (s : Session) (m : SessionJob) (t : Task) → StandsAt told k s → IsNext s m t → k.tasks.made < MOST_MADE
 fewer told k s m t stands n =
     let inm : Has s.jobs m = (keyed_has number_of n.chosen.who.job s.jobs m n.member).0 in
     let int : Has m.progress.job.tasks t = (keyed_has (λ (u : Task). u.number) n.chosen.who.task m.progress.job.tasks t n.task).0 in
     let j = all_in (λ (y : SessionJob). JobInOrder (IsSegment y.constants) y.constants y.progress) s.jobs m stands.ordered.jobs inm in
     let some : m.progress.made < m.constants.limit = j.below_limit (λ none. subst (λ (ts : List Task). Has ts t) none int) in
-    let most : m.constants.limit ≤ 100000000 = j.unchanging.limit in
+    let most : m.constants.limit ≤ MOST_LIMIT = j.unchanging.limit in
     let sum = sum_below s.jobs m inm (omega (arith, some, most)) (made_few s stands.ordered) in
-    let few : length s.jobs ≤ 8 = stands.ordered.few in
+    let few : length s.jobs ≤ MOST_JOBS = stands.ordered.few in
     let counted : s.made ≡ sum_by (λ (y : SessionJob). y.progress.made) s.jobs = stands.ordered.counted in
     let shown : k.tasks.made ≡ s.made = stands.stands.tables.counts.made in
     omega (arith, counted, shown, sum, few)
 
 -- as many steps as eight jobs may make are no slice of a run
-most_is_no_end : (told : Option (List (List ℕ))) (k : Machine) (s : Session) (m : SessionJob) (t : Task) (steps : ℕ) → steps ≤ k.tasks.made → steps ≡ 800000000 → StandsAt told k s → IsNext s m t → ⊥
+most_is_no_end : (told : Option (List (List ℕ))) (k : Machine) (s : Session) (m : SessionJob) (t : Task) (steps : ℕ) → steps ≤ k.tasks.made → steps ≡ MOST_MADE → StandsAt told k s → IsNext s m t → ⊥
 most_is_no_end told k s m t steps made all stands n =
     let less = fewer told k s m t stands n in
     omega (arith, less, made, all)
@@ -141,7 +142,7 @@ module _ {K B : Type 0} (taken : K → Option (List ℕ)) (faults : K → ℕ) (
   ending line = record { front = run_text printed; last = ended line }
 
   -- the printer failed in the text of a step
-  in_step : k.tasks.printed < length is → (b : StopsBefore said 800000000 steps s k) → (E → need core s b.member b.task ≤ core) → IsCutInStep d core steps r k (record { front = run_text printed; last = is })
+  in_step : k.tasks.printed < length is → (b : StopsBefore said MOST_MADE steps s k) → (E → need core s b.member b.task ≤ core) → IsCutInStep d core steps r k (record { front = run_text printed; last = is })
   in_step proper b room = record {
     stop = stops_at b.member b.task b.stands b.next;
     due = is_due b.halt;
@@ -185,7 +186,7 @@ module _ {K B : Type 0} (taken : K → Option (List ℕ)) (faults : K → ℕ) (
 
   -- by what the steps answered
   pub ran : (answered : Result Progress Stop) (old between new : K) (answer : ℕ)
-      → SliceMeets said E core d.sectors 800000000 steps s is answered k
+      → SliceMeets said E core d.sectors MOST_MADE steps s is answered k
       → FinishesRun taken faults closing k answered between new answer
       → Prints taken old between was before printed is k.tasks.printed → (answered ≢ Err stops.PrintFault → k.tasks.printed ≡ 0)
       → (answered ≡ Err stops.BackingFault → Failed d) → (answered ≡ Err stops.PrintFault → Rose faults old between) → faults old ≤ faults between
@@ -246,7 +247,7 @@ module _ {K B : Type 0} (taken : K → Option (List ℕ)) (faults : K → ℕ) (
       (subst (λ (z : K). Rose faults old z) (sym end.1) (rose refl))
       (record { proper = meets.0; took = subst (λ (z : K). Took taken old z (run_text printed ++ take k.tasks.printed is)) (sym end.1) (front_took prints begun) })
     where
-      by_machine : ((b : StopsBefore said 800000000 steps s k) × (E → need core s b.member b.task ≤ core)) ⊎ ((rest : StepResult) × IsLimited said k s rest)
+      by_machine : ((b : StopsBefore said MOST_MADE steps s k) × (E → need core s b.member b.task ≤ core)) ⊎ ((rest : StepResult) × IsLimited said k s rest)
           → IsPrintingNext d core steps r k (record { front = run_text printed; last = is })
       by_machine (inl h) = inl (in_step meets.0 h.0 h.1)
       by_machine (inr h) = inr (in_limit h.0 h.1)

@@ -15,6 +15,7 @@ use Rattle.b67_model_text.proofs.Answers.{after_both, after_needs, err-ok}
 use Rattle.b67_model.specs.InOrder.{SwitchesRise}
 use Rattle.b67_task_tables.specs.Tables.{switch_of}
 use Rattle.b67_job.proofs.Commands.{CommandInRange, said_in_range}
+use Rattle.b67_model.specs.declared.limits.TheConstants.{MOST_JOBS, MOST_SWITCHES}
 
 -- a card behind those before it
 pub record Stood (before : List Command) (c : Command) : Type 0 where
@@ -117,11 +118,11 @@ rise_onto (s ∷ before) acc h k f = by_switch (λ k f. rise_onto before (s ∷ 
         (follows (first_found switch_in (map command_in before)) w (switches_of acc) (above (map command_in before) s.command w h.0.rises e)))
 
 -- at most 100,000 of them
-switch_room : (before : List Command) (c : Command) (w : text.Switch) → has_room before c ≡ Ok tt → switch_in c ≡ Some w → length (filter_map switch_in before) < 100000
-switch_room before (Switch count job task) w h e = by_test (nat_lt (length (filter_map switch_in before)) 100000) refl h
+switch_room : (before : List Command) (c : Command) (w : text.Switch) → has_room before c ≡ Ok tt → switch_in c ≡ Some w → length (filter_map switch_in before) < MOST_SWITCHES
+switch_room before (Switch count job task) w h e = by_test (nat_lt (length (filter_map switch_in before)) MOST_SWITCHES) refl h
   where
-    by_test : (b : Bool) → nat_lt (length (filter_map switch_in before)) 100000 ≡ b → needs b 8 ≡ Ok tt → length (filter_map switch_in before) < 100000
-    by_test true t e = ltb-true (length (filter_map switch_in before)) 100000 t
+    by_test : (b : Bool) → nat_lt (length (filter_map switch_in before)) MOST_SWITCHES ≡ b → needs b 8 ≡ Ok tt → length (filter_map switch_in before) < MOST_SWITCHES
+    by_test true t e = ltb-true (length (filter_map switch_in before)) MOST_SWITCHES t
     by_test false t e = err-ok 8 tt _ e
 switch_room before _ w h e = absurd (none-some w e)
 
@@ -129,14 +130,14 @@ same_switches : (before : List Said) → filter_map switch_in (map command_in be
 same_switches [] = refl
 same_switches (s ∷ before) = ap (λ ws. cons_option (switch_in s.command) ws) (same_switches before)
 
-pub few_switches : (before : List Said) → AllStood before → length (switches_of before) ≤ 100000
+pub few_switches : (before : List Said) → AllStood before → length (switches_of before) ≤ MOST_SWITCHES
 few_switches [] h = omega arith
 few_switches (s ∷ before) h = by_switch (few_switches before h.1) (switch_in s.command) refl
   where
-    by_switch : length (switches_of before) ≤ 100000 → (o : Option text.Switch) → switch_in s.command ≡ o → length (switches_of (s ∷ before)) ≤ 100000
-    by_switch few None e = subst (λ (o : Option text.Switch). length (cons_option o (switches_of before)) ≤ 100000) (sym e) few
+    by_switch : length (switches_of before) ≤ MOST_SWITCHES → (o : Option text.Switch) → switch_in s.command ≡ o → length (switches_of (s ∷ before)) ≤ MOST_SWITCHES
+    by_switch few None e = subst (λ (o : Option text.Switch). length (cons_option o (switches_of before)) ≤ MOST_SWITCHES) (sym e) few
     by_switch few (Some w) e =
-        subst (λ (o : Option text.Switch). length (cons_option o (switches_of before)) ≤ 100000) (sym e)
+        subst (λ (o : Option text.Switch). length (cons_option o (switches_of before)) ≤ MOST_SWITCHES) (sym e)
         (omega (arith, switch_room (map command_in before) s.command w h.0.room e, ap length (same_switches before)))
 
 -- at most eight jobs
@@ -144,10 +145,10 @@ abbrev pub jobs_in : List Said → ℕ
 jobs_in said = length (filter_map (λ (s : Said). name_in s.command) said)
 
 room_for : (before : List Command) (c : Command) (name : List ℕ) → has_room before c ≡ Ok tt → name_in c ≡ Some name → length (filter_map name_in before) < 8
-room_for before (Job n) name h e = by_test (nat_lt (length (filter_map name_in before)) 8) refl h
+room_for before (Job n) name h e = by_test (nat_lt (length (filter_map name_in before)) MOST_JOBS) refl h
   where
-    by_test : (b : Bool) → nat_lt (length (filter_map name_in before)) 8 ≡ b → needs b 9 ≡ Ok tt → length (filter_map name_in before) < 8
-    by_test true t e = ltb-true (length (filter_map name_in before)) 8 t
+    by_test : (b : Bool) → nat_lt (length (filter_map name_in before)) MOST_JOBS ≡ b → needs b 9 ≡ Ok tt → length (filter_map name_in before) < MOST_JOBS
+    by_test true t e = ltb-true (length (filter_map name_in before)) MOST_JOBS t
     by_test false t e = err-ok 9 tt _ e
 room_for before _ name h e = absurd (none-some name e)
 
@@ -155,7 +156,7 @@ same_names : (before : List Said) → filter_map name_in (map command_in before)
 same_names [] = refl
 same_names (s ∷ before) = ap (λ ns. cons_option (name_in s.command) ns) (same_names before)
 
-pub few_jobs : (before : List Said) → AllStood before → jobs_in before ≤ 8
+pub few_jobs : (before : List Said) → AllStood before → jobs_in before ≤ MOST_JOBS
 few_jobs [] h = omega arith
 few_jobs (s ∷ before) h = by_name (few_jobs before h.1) (name_in s.command) refl
   where

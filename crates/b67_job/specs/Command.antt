@@ -7,6 +7,7 @@ use Rattle.b67_model_text.specs.Command.{number_in, parted}
 use Rattle.b67_bind.specs.declared.pairs.Pair.{Pair}
 use Rattle.b67_job.specs.declared.command.CommandLine.{CommandLine}
 use Rattle.b67_job.specs.declared.command.CommandLine.TheVariants as lines
+use Rattle.b67_model.specs.declared.limits.TheConstants.{LEAST_CORE, MOST_CORE}
 
 -- what a run is asked for: its words of core, and the path of its backing
 pub record Request : Type 0 where
@@ -30,7 +31,7 @@ is_path [] = false
 is_path (b ∷ more) = not (b == 45)
 
 abbrev pub requested : Options → Option Request
-requested o = if is_path o.path then option_map (λ n. record { core = n; path = o.path }) (number_in 256 1048575 o.core) else None
+requested o = if is_path o.path then option_map (λ n. record { core = n; path = o.path }) (number_in LEAST_CORE MOST_CORE o.core) else None
 
 -- what the words ask for, where they are this name and both options
 abbrev pub request : List ℕ → List (Bor (List ℕ)) → Option Request
@@ -41,7 +42,7 @@ request name _ = None
 -- an exercise of this seed and size, over these words of core
 abbrev pub exercise_by : List ℕ → List ℕ → List ℕ → Option CommandLine
 exercise_by seed size core =
-    option_and_then (λ s. option_and_then (λ n. option_map (lines.Exercise s n) (number_in 256 1048575 core)) (number_in 1 500 size)) (number_in 0 2147483647 seed)
+    option_and_then (λ s. option_and_then (λ n. option_map (lines.Exercise s n) (number_in LEAST_CORE MOST_CORE core)) (number_in 1 500 size)) (number_in 0 2147483647 seed)
 
 -- what the words ask for, where they are `exercise`, a seed and a size, and the option
 abbrev pub exercise : List (Bor (List ℕ)) → Option CommandLine

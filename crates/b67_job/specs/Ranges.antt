@@ -9,6 +9,7 @@ use Rattle.b67_model_text.specs.Deck.{deck_of}
 use Rattle.b67_job_admit.specs.Admitting.{deck_prepared}
 use Rattle.b67_session_open.specs.Decks.{DeckInRange}
 use Rattle.b67_image.specs.Within.{AreItems, IsSwitch}
+use Rattle.b67_model.specs.declared.limits.TheConstants.{MOST_QUANTUM, MOST_SWITCHES}
 
 abbrev pub DecksInRange : Type 0
 DecksInRange = (text : List ℕ) (d : Deck) → deck_of text ≡ Ok d → DeckInRange d
@@ -21,6 +22,6 @@ PreparedInRange =
 -- what its cards say besides: how long turns are, how many switches there are and for whom, and names of jobs
 pub record CardsInRange (d : Deck) : Type 0 where
   pub quantum_low : 1 ≤ d.quantum
-  pub quantum_high : d.quantum ≤ 1000000
-  pub switches : AreItems 0 100000 IsSwitch d.switches
+  pub quantum_high : d.quantum ≤ MOST_QUANTUM
+  pub switches : AreItems 0 MOST_SWITCHES IsSwitch d.switches
   pub names : AllByRecursion (λ (j : Job). is_name j.name ≡ true) d.jobs

@@ -31,6 +31,7 @@ use Rattle.b67_law_listing.specs.Listing.{begins_at, HasLabel, Labels, IsLabelle
 use Rattle.b67_law_listing.proofs.Laying.{listing_is}
 use Rattle.b67_law_listing.proofs.Denoting.{AreSmall, pcw_small, at_label, denoted_bits}
 use Rattle.b67_law_listing.proofs.Entries.{are_entered}
+use Rattle.b67_model.specs.declared.limits.TheConstants.{MOST_SEGMENT}
 
 operators_bits : (x : Scope) (n : ℕ) (entries : List ℕ) (lines : List Line) (content : SegmentContent) → AreSmall x.names → pass_content x n entries lines ≡ Ok content → AllHaveBits content.operators
 operators_bits x n entries [] content small e = subst (λ (c : SegmentContent). AllHaveBits c.operators) (same_Ok _ content e) tt
@@ -44,7 +45,7 @@ operators_bits x n entries (l ∷ more) content small e =
     by added rest (inr a) h = subst (λ (z : Added). AllHaveBits (with_added z rest).operators) a.is h
 
 abbrev pub LabelsAreSmall : (List ℕ → Option ℕ) → Type 0
-LabelsAreSmall labels = (q : List ℕ) (m : ℕ) → labels q ≡ Some m → m ≤ 6 * 8191
+LabelsAreSmall labels = (q : List ℕ) (m : ℕ) → labels q ≡ Some m → m ≤ 6 * MOST_SEGMENT
 
 -- the labels of all segments
 abbrev pub AllLabelsAreSmall : Names → Type 0
@@ -58,10 +59,10 @@ stands_at : (labels : List ℕ → Option ℕ) (n : ℕ) (label : Option (List �
 stands_at labels n None e = tt
 stands_at labels n (Some text) e = stands_there n (labels text) e
 
-branch_target : (b : branch.Branch) (n : ℕ) → n ≤ 6 * 8191 → target_of (branch_to b n) ≡ Some (place_at n)
+branch_target : (b : branch.Branch) (n : ℕ) → n ≤ 6 * MOST_SEGMENT → target_of (branch_to b n) ≡ Some (place_at n)
 branch_target b n h = by_branch b
   where
-    same : min n (6 * 8191) ≡ n
+    same : min n (6 * MOST_SEGMENT) ≡ n
     same = omega arith
 
     by_branch : (b : branch.Branch) → target_of (branch_to b n) ≡ Some (place_at n)
@@ -76,14 +77,14 @@ place_is a b w s = λ i. record { word = w i; syllable = s i }
 first_place : (bits : ℕ) → bits < 2 ^ 19 → place_of_bits (bits / 2 ^ 20) ≡ origin
 first_place bits low = place_is (place_of_bits (bits / 2 ^ 20)) origin (omega (arith, low)) (omega (arith, low))
 
-label_place : (own n bits : ℕ) → own < 2 ^ 19 → n ≤ 6 * 8191 → own + syllable_bits n * 2 ^ 20 ≡ bits → place_of_bits (bits / 2 ^ 20) ≡ place_at n
+label_place : (own n bits : ℕ) → own < 2 ^ 19 → n ≤ 6 * MOST_SEGMENT → own + syllable_bits n * 2 ^ 20 ≡ bits → place_of_bits (bits / 2 ^ 20) ≡ place_at n
 label_place own n bits low few is =
-    let same : min n (6 * 8191) ≡ n = omega (arith, few) in
+    let same : min n (6 * MOST_SEGMENT) ≡ n = omega (arith, few) in
     let place : syllable_bits n ≡ n % 6 * 2 ^ 13 + n / 6 = ap (λ (k : ℕ). k % 6 * 2 ^ 13 + k / 6) same in
     let bits_is : bits / 2 ^ 20 ≡ n % 6 * 2 ^ 13 + n / 6 = omega (arith, low, is, place) in
     place_is (place_of_bits (bits / 2 ^ 20)) (place_at n) (omega (arith, bits_is, few)) (omega (arith, bits_is, few))
 
-label_in_small : (names : Names) (o : Option named.Named) (label : List ℕ) (n : ℕ) → AllLabelsAreSmall names → label_in names o label ≡ Some n → n ≤ 6 * 8191
+label_in_small : (names : Names) (o : Option named.Named) (label : List ℕ) (n : ℕ) → AllLabelsAreSmall names → label_in names o label ≡ Some n → n ≤ 6 * MOST_SEGMENT
 label_in_small names None label n all e = absurd (none-some n e)
 label_in_small names (Some (means.Row number)) label n all e = absurd (none-some n e)
 label_in_small names (Some (means.Segment number level)) label n all e = all number label n e

@@ -20,6 +20,7 @@ use Rattle.b67_model_text.specs.declared.assembly.Named.TheVariants as means
 use Rattle.b67_model_text.specs.Asm.{Names, Scope, is_in_range, pcw_in, label_in, syllable_bits, pcw_at, row_in, call_operator, branch_to, denoted}
 use Rattle.b67_model_text.proofs.Contents.{mapped}
 use Rattle.b67_law_listing.specs.Operators.{HasBits}
+use Rattle.b67_model.specs.declared.limits.TheConstants.{MOST_SEGMENT}
 
 chained : {A B : Type 0} (f : A → Option B) (o : Option A) (b : B) → option_and_then f o ≡ Some b → (a : A) × (o ≡ Some a) × (f a ≡ Some b)
 chained f None b e = absurd (none-some b e)
@@ -89,13 +90,13 @@ called_bits : (c : call.Call) (bits : ℕ) → bits < 2 ^ 14 → HasBits (call_o
 called_bits calls.Value bits h = lt-ltb bits (2 ^ 14) h
 called_bits calls.Name bits h = lt-ltb bits (2 ^ 14) h
 
-target_bits : (n : ℕ) → n ≤ 6 * 8191 → (nat_lt (n % 6) 8 && nat_lt (n / 6) (2 ^ 13)) ≡ true
+target_bits : (n : ℕ) → n ≤ 6 * MOST_SEGMENT → (nat_lt (n % 6) 8 && nat_lt (n / 6) (2 ^ 13)) ≡ true
 target_bits n h = and_from (nat_lt (n % 6) 8) (nat_lt (n / 6) (2 ^ 13)) (lt-ltb (n % 6) 8 (omega arith)) (lt-ltb (n / 6) (2 ^ 13) (omega arith))
 
 branch_bits : (b : branch.Branch) (n : ℕ) → HasBits (branch_to b n)
-branch_bits branches.Always n = target_bits (min n (6 * 8191)) (omega arith)
-branch_bits branches.IfTrue n = target_bits (min n (6 * 8191)) (omega arith)
-branch_bits branches.IfFalse n = target_bits (min n (6 * 8191)) (omega arith)
+branch_bits branches.Always n = target_bits (min n (6 * MOST_SEGMENT)) (omega arith)
+branch_bits branches.IfTrue n = target_bits (min n (6 * MOST_SEGMENT)) (omega arith)
+branch_bits branches.IfFalse n = target_bits (min n (6 * MOST_SEGMENT)) (omega arith)
 
 pub denoted_bits : (x : Scope) (s : sketch.Sketch) (op : Op) → AreSmall x.names → is_in_range s ≡ true → denoted x s ≡ Some op → HasBits op
 denoted_bits x (Whole own) op small h e = subst HasBits (same_Some own op e) h

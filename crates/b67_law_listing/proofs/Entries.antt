@@ -15,6 +15,7 @@ use Rattle.b67_model_text.specs.Asm.{Scope, SegmentContent, syllable_bits, inser
 use Rattle.b67_model_text.specs.Pass.{Added, syllable_behind, entries_behind, with_added, pass_content}
 use Rattle.b67_model_text.proofs.Contents.{same_Ok, Adds, headed}
 use Rattle.b67_law_listing.specs.Listing.{IsEntryLabel, Rise, AreEntered}
+use Rattle.b67_model.specs.declared.limits.TheConstants.{MOST_SEGMENT}
 
 -- ---- a number among numbers in order
 
@@ -134,20 +135,20 @@ enters x n before (l ∷ more) content rise e =
         })
 
 -- a place's 16 bits
-place_back : (n : ℕ) → n ≤ 6 * 8191 → place_of_bits (syllable_bits n) ≡ place_at n
+place_back : (n : ℕ) → n ≤ 6 * MOST_SEGMENT → place_of_bits (syllable_bits n) ≡ place_at n
 place_back n few =
-    let same : min n (6 * 8191) ≡ n = omega (arith, few) in
+    let same : min n (6 * MOST_SEGMENT) ≡ n = omega (arith, few) in
     let place : syllable_bits n ≡ n % 6 * 2 ^ 13 + n / 6 = ap (λ (k : ℕ). k % 6 * 2 ^ 13 + k / 6) same in
     let word : syllable_bits n % 2 ^ 13 ≡ n / 6 = omega (arith, place, few) in
     let syllable : syllable_bits n / 2 ^ 13 ≡ n % 6 = omega (arith, place, few) in
     λ i. record { word = word i; syllable = syllable i }
 
-places_back : (ns : List ℕ) → ((n : ℕ) → Has ns n → n ≤ 6 * 8191) → map place_of_bits (map syllable_bits ns) ≡ map place_at ns
+places_back : (ns : List ℕ) → ((n : ℕ) → Has ns n → n ≤ 6 * MOST_SEGMENT) → map place_of_bits (map syllable_bits ns) ≡ map place_at ns
 places_back [] few = refl
 places_back (n ∷ ns) few =
     ap (λ (p : Place). p ∷ map place_of_bits (map syllable_bits ns)) (place_back n (few n (inl refl))) ∙ ap (λ (ps : List Place). place_at n ∷ ps) (places_back ns (λ m h. few m (inr h)))
 
-pub are_entered : (x : Scope) (lines : List Line) (content : SegmentContent) → ((q : List ℕ) (m : ℕ) → x.labels q ≡ Some m → m ≤ 6 * 8191) → pass_content x 0 [] lines ≡ Ok content → AreEntered x.labels lines (map syllable_bits content.entries)
+pub are_entered : (x : Scope) (lines : List Line) (content : SegmentContent) → ((q : List ℕ) (m : ℕ) → x.labels q ≡ Some m → m ≤ 6 * MOST_SEGMENT) → pass_content x 0 [] lines ≡ Ok content → AreEntered x.labels lines (map syllable_bits content.entries)
 are_entered x lines content small e =
     let r = enters x 0 [] lines content tt e in
     let only : (n : ℕ) → Has content.entries n → (label : List ℕ) × IsEntryLabel label lines × (x.labels label ≡ Some n) = λ n h. elim (r.only n h) [ inl b ↦ absurd b | inr k ↦ k ] in

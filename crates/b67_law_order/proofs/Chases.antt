@@ -14,6 +14,7 @@ use Rattle.b67_model.specs.Words as Words
 use Rattle.b67_law_order.specs.Ends.{IsElement, EndInOrder}
 use Rattle.b67_law_order.proofs.Looks.{SeenWord, Run, reach, own_order, see, closed, level_low, own_high}
 use Rattle.b67_law_order.proofs.Posts.{Post, post_ok, post_err, post_bind, post_any, post_if_is}
+use Rattle.b67_model.specs.declared.limits.TheConstants.{MOST_LINKS}
 
 -- what a reference may be
 abbrev pub RefInOrder : List Known → Word → Type 0
@@ -145,7 +146,7 @@ module _ (P : Starts) (h : OperatorContext) (run : Run P h) where
   chase_links (suc links) (Leads w) g = chase_links links (link h w) (link_place (place_of h w) (place_in w g))
 
   pub chase_in : (w : Word) → RefInOrder (reach h) w → Post (EndInOrder P h) (chase h w)
-  chase_in w g = chase_links 1024 (Leads w) g
+  chase_in w g = chase_links MOST_LINKS (Leads w) g
 
   pub follow_in : (owner : ℕ) (w : Word) → WordInOrder P h.job.arrays (reach h) owner w → Post (EndInOrder P h) (follow h w)
   follow_in owner (Name couple) g = chase_in (Name couple) g

@@ -7,6 +7,7 @@ use Rattle.b67_word.specs.declared.faults.Fault.TheVariants.{InvalidAddress, Inv
 use Rattle.b67_model.specs.Common.{Answer, Word, Operand, Name, Ref, Row, Element, Original, Proc, Intrinsic, Frame, Array, OperatorContext, no_frame, all_frames, frame, no_array, environment_of, level_of_frame, running, outward, running_level, frame_at, cell_of, cell, named, place_of, End, AtElement, Link, Stops, Leads, element_end, link_at, link_in, link_from, link, chase_on, follow}
 use Rattle.b67_model.specs.Keyed.{keyed}
 use Rattle.b67_model.specs.Words as Words
+use Rattle.b67_model.specs.declared.limits.TheConstants.{MOST_LINKS}
 
 module _ (h k : OperatorContext) (frames : all_frames h ≡ all_frames k) (own : h.task.frames ≡ k.task.frames) where
   pub frame_same : (id : ℕ) → frame h id ≡ frame k id
@@ -76,8 +77,8 @@ module _ (h k : OperatorContext) (frames : all_frames h ≡ all_frames k) (own :
     on_same (suc links) (Leads w) = ap (chase_on h links) (link_same w) ∙ on_same links (link k w)
 
     pub follow_same : (w : Word) → follow h w ≡ follow k w
-    follow_same (Name bits) = on_same 1024 (Leads (Name bits))
-    follow_same (Ref f offset) = on_same 1024 (Leads (Ref f offset))
+    follow_same (Name bits) = on_same MOST_LINKS (Leads (Name bits))
+    follow_same (Ref f offset) = on_same MOST_LINKS (Leads (Ref f offset))
     follow_same (Element a index) = item_same a index
     follow_same (Operand bits) = refl
     follow_same (Row a) = refl

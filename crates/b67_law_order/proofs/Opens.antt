@@ -7,6 +7,7 @@ use Rattle.b67_model.specs.Common.{Entered, Array, Task, Ready, Segment, Session
 use Rattle.b67_law_order.specs.Opening.{Opening, OpeningWithin, opened_from, OpensInOrder}
 use Rattle.b67_law_order.proofs.OpenedRows.{dictionary_words, entries_count, arrays_good, names_fall, one_original, each_once, entries_good}
 use Rattle.b67_law_order.proofs.First.{first_stands}
+use Rattle.b67_model.specs.declared.limits.TheConstants.{LEAST_STACK}
 
 abbrev first_task : Task
 first_task = record {
@@ -20,7 +21,7 @@ first_task = record {
 }
 
 -- an opening of a job whose program has a first segment
-setting_good : (number stack : ℕ) (o : Opening) → 64 ≤ stack → stack < 2 ^ 14 → OpeningWithin o → SettingInOrder (opened number o.program stack o.limit o.numbers).constants
+setting_good : (number stack : ℕ) (o : Opening) → LEAST_STACK ≤ stack → stack < 2 ^ 14 → OpeningWithin o → SettingInOrder (opened number o.program stack o.limit o.numbers).constants
 setting_good number stack o low high within = record {
   limit = within.limit_high;
   stack_low = low;
@@ -48,7 +49,7 @@ starts number stack o within = by_segments o.program.segments refl
         let first = first_stands s more rows good.0.length_low admitted in
         record { from_one = lit< tt; code = s; found = rw is refl; of_level = first.level; op = first.op; stands = first.stands }
 
-task_good : (number stack : ℕ) (o : Opening) → 64 ≤ stack → OpeningWithin o →
+task_good : (number stack : ℕ) (o : Opening) → LEAST_STACK ≤ stack → OpeningWithin o →
     let m = opened number o.program stack o.limit o.numbers in TaskInOrder (IsStart m.constants) m.constants m.progress.job first_task
 task_good number stack o low within = record {
   frames = ((tt, tt), record { low = lit≤ tt; high = lit≤ tt; standing = Entered 1 0 None; among = inl refl; entered = tt; level_below = refl }, tt);
@@ -75,7 +76,7 @@ once_good number stack o =
     each_once (λ (a : Array). originals_of a.identity m.constants m.progress.job ≡ 1) o.program.rows
     (λ a low high. omega (arith, one_original a.identity o.program.segments o.program.rows low high))
 
-tasks_good : (number stack : ℕ) (o : Opening) → 64 ≤ stack → OpeningWithin o →
+tasks_good : (number stack : ℕ) (o : Opening) → LEAST_STACK ≤ stack → OpeningWithin o →
     let m = opened number o.program stack o.limit o.numbers in TasksInOrder (IsStart m.constants) m.constants m.progress.job
 tasks_good number stack o low within = record {
   tasks = (task_good number stack o low within, tt);
@@ -96,7 +97,7 @@ counts_good number stack o within = record {
   goes_on = λ some. (first_task, inl refl, refl);
 }
 
-job_good : (number stack : ℕ) (o : Opening) → 64 ≤ stack → stack < 2 ^ 14 → OpeningWithin o →
+job_good : (number stack : ℕ) (o : Opening) → LEAST_STACK ≤ stack → stack < 2 ^ 14 → OpeningWithin o →
     let m = opened number o.program stack o.limit o.numbers in JobInOrder (IsStart m.constants) m.constants m.progress
 job_good number stack o low high within = record {
   unchanging = setting_good number stack o low high within;
@@ -105,7 +106,7 @@ job_good number stack o low high within = record {
   below_limit = λ some. within.limit_low;
 }
 
-jobs_good : (number stack : ℕ) (openings : List Opening) → 64 ≤ stack → stack < 2 ^ 14 → AllByRecursion OpeningWithin openings →
+jobs_good : (number stack : ℕ) (openings : List Opening) → LEAST_STACK ≤ stack → stack < 2 ^ 14 → AllByRecursion OpeningWithin openings →
     AllByRecursion (λ (m : SessionJob). JobInOrder (IsStart m.constants) m.constants m.progress) (opened_from number stack openings)
 jobs_good number stack [] low high each = tt
 jobs_good number stack (o ∷ more) low high each = (job_good number stack o low high each.0, jobs_good (number + 1) stack more low high each.1)

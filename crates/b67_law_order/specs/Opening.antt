@@ -2,6 +2,7 @@
 use Rattle.std.specs.Prelude.{ℕ, ◌+◌, ◌^◌, ◌<◌, ◌≤◌, ℤ, nat_abs, List, [], ◌∷◌, length}
 use Rattle.std.specs.List.{AllByRecursion}
 use Rattle.b67_model.specs.Common.{SessionJob, Program, opened, IsAdmitted, Switch, Session, start, SegmentInOrder, SwitchesRise, IsInOrder}
+use Rattle.b67_model.specs.declared.limits.TheConstants.{LEAST_STACK, MOST_JOBS, MOST_PARTS, MOST_LIMIT}
 
 -- the words of a data row
 pub record RowWithin (row : List ℕ) : Type 0 where
@@ -20,9 +21,9 @@ pub record OpeningWithin (o : Opening) : Type 0 where
   pub admitted : IsAdmitted o.program
   pub segments : AllByRecursion SegmentInOrder o.program.segments
   pub rows : AllByRecursion RowWithin o.program.rows
-  pub few : length o.program.segments + length o.program.rows ≤ 255
+  pub few : length o.program.segments + length o.program.rows ≤ MOST_PARTS
   pub limit_low : 0 < o.limit
-  pub limit_high : o.limit ≤ 100000000
+  pub limit_high : o.limit ≤ MOST_LIMIT
   pub numbers : AllByRecursion (λ (v : ℤ). nat_abs v < 2 ^ 39) o.numbers
 
 -- the jobs of a session from a number on
@@ -35,10 +36,10 @@ opening stack quantum switches openings = start (opened_from 1 stack openings) s
 
 -- what a deck within its limits asks for
 pub record DeckWithin (stack : ℕ) (switches : List Switch) (openings : List Opening) : Type 0 where
-  pub stack_low : 64 ≤ stack
+  pub stack_low : LEAST_STACK ≤ stack
   pub stack_high : stack < 2 ^ 14
   pub rise : SwitchesRise switches
-  pub few : length openings ≤ 8
+  pub few : length openings ≤ MOST_JOBS
   pub each : AllByRecursion OpeningWithin openings
 
 -- the opening state of each deck whose programs are admitted is in order

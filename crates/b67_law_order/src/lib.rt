@@ -14,5 +14,8 @@ pub use keeping::each_row_keeps_order;
 pub use opening::opening_is_in_order;
 pub use profiles::rows_keep_profiles;
 pub use runs::runs_stay_in_order;
-pub use steps::{places_have_operators, rows_keep_order, rows_keep_order_but_places, steps_keep_order, steps_keep_order_but_places};
+pub use steps::{
+    places_have_operators, rows_keep_order, rows_keep_order_but_places, steps_keep_order,
+    steps_keep_order_but_places,
+};
 pub use weaker::starts_are_segments;

@@ -7,4 +7,3 @@ ghost use Rattle.b67_law_order.specs.Profiles.{RowsKeepProfiles};
 pub fn rows_keep_profiles()
     ensures { RowsKeepProfiles }
 {}
-

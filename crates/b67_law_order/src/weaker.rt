@@ -6,4 +6,3 @@ ghost use Rattle.b67_law_order.specs.Weaker.{StartsAreSegments};
 pub fn starts_are_segments()
     ensures { StartsAreSegments }
 {}
-

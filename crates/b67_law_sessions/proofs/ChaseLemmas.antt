@@ -2,6 +2,7 @@
 use Rattle.std.proofs.Common.{◌≡◌, ℕ, zero, suc, ◌≤◌, refl, sym, ◌∙◌, ap, subst, arith, ◌⊎◌, inl, inr, Err}
 use Rattle.b67_word.specs.declared.faults.Fault.TheVariants.{Loop}
 use Rattle.b67_model.specs.Common.{Answer, Word, OperatorContext, End, Link, Stops, Leads, link, Chain, last, onward, Path, here, further, ComesTo, ends, loops, chase_on, chase, ChaseIsRelation}
+use Rattle.b67_model.specs.declared.limits.TheConstants.{MOST_LINKS}
 
 -- a chain that isn't too long gives its end
 chain_gives : (h : OperatorContext) {w : Word} {end : Answer End} {n : ℕ} → Chain h w end n → (k : ℕ) → n ≤ k → chase_on h k (Leads w) ≡ end
@@ -16,7 +17,7 @@ path_gives h here = refl
 path_gives h (further {links = k} e p) = ap (chase_on h k) e ∙ path_gives h p
 
 pub comes_gives : (h : OperatorContext) (w : Word) (end : Answer End) → ComesTo h w end → chase h w ≡ end
-comes_gives h w end (ends e n le c) = chain_gives h c 1024 le
+comes_gives h w end (ends e n le c) = chain_gives h c MOST_LINKS le
 comes_gives h w end (loops v p) = path_gives h p
 
 -- what the function with k links left shows
@@ -38,7 +39,7 @@ shows h (suc k) w = go (λ v. shows h k v) (link h w) refl
     go rest (Stops end) e = record { by = inl (1, omega arith, last e) }
     go rest (Leads v) e = more h k w v (chase_on h k (Leads v)) e (rest v)
 
-loops_at : (h : OperatorContext) (w : Word) (end : Answer End) → Shown h w end 1024 → ComesTo h w end
+loops_at : (h : OperatorContext) (w : Word) (end : Answer End) → Shown h w end MOST_LINKS → ComesTo h w end
 loops_at h w end s =
     elim s.by [
       | inl c ↦ ends end c.0 c.1 c.2
@@ -46,7 +47,7 @@ loops_at h w end s =
     ]
 
 pub gives_comes : (h : OperatorContext) (w : Word) (end : Answer End) → chase h w ≡ end → ComesTo h w end
-gives_comes h w end e = subst (ComesTo h w) e (loops_at h w (chase h w) (shows h 1024 w))
+gives_comes h w end e = subst (ComesTo h w) e (loops_at h w (chase h w) (shows h MOST_LINKS w))
 
 pub chase_is_relation : ChaseIsRelation
 chase_is_relation h w end = (comes_gives h w end, gives_comes h w end)

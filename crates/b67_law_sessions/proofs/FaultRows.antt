@@ -13,6 +13,7 @@ use Rattle.b67_model.specs.Common.{Answer, ◌>>=◌, ◌>>◌, needs, Word, Ope
 use Rattle.b67_model.specs.Words as Words
 use Rattle.b67_model.specs.Words.{whole}
 use Rattle.b67_law_sessions.specs.Faults.{InvalidOperatorIsNvld}
+use Rattle.b67_model.specs.declared.limits.TheConstants.{MOST_LINKS}
 
 -- any answer but that fault
 abbrev Apart : {A : Type 0} → Answer A → Type 0
@@ -169,7 +170,7 @@ links_o h zero (Leads w) g = o_err _ loop_ne
 links_o h (suc links) (Leads w) g = links_o h links (link h w) (from_o h (place_of h w) (place_o h w))
 
 chase_o : (h : OperatorContext) (w : Word) → Other (chase h w)
-chase_o h w = links_o h 1024 (Leads w) tt
+chase_o h w = links_o h MOST_LINKS (Leads w) tt
 
 follow_o : (h : OperatorContext) (w : Word) → Other (follow h w)
 follow_o h (Name couple) = chase_o h (Name couple)

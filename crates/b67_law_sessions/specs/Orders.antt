@@ -4,6 +4,7 @@ use Rattle.std.specs.List.{AllByRecursion}
 use Rattle.b67_model.specs.declared.intrinsics.TheConstants.{MOST_TASKS}
 use Rattle.b67_lemmas.specs.Lists.{Has}
 use Rattle.b67_model.specs.Common.{Task, JobConstants, JobProgress, SessionJob, Settled, is_ready, Session, live_tasks, IsSegment, SettingInOrder, TasksInOrder, CountsInOrder, BelowLimit, NumberedFrom, SwitchesRise}
+use Rattle.b67_model.specs.declared.limits.TheConstants.{MOST_JOBS}
 
 -- a job in order but for places, which is below its limit unless it made the last operator
 pub record JobInOrderButLimit (last : ℕ) (m : SessionJob) : Type 0 where
@@ -14,7 +15,7 @@ pub record JobInOrderButLimit (last : ℕ) (m : SessionJob) : Type 0 where
 
 -- the session
 pub record IsInOrderButLimit (s : Session) : Type 0 where
-  pub few : length s.jobs ≤ 8
+  pub few : length s.jobs ≤ MOST_JOBS
   pub numbered : NumberedFrom 1 s.jobs
   pub one_size : (stack : ℕ) × AllByRecursion (λ (m : SessionJob). m.constants.stack_size ≡ stack) s.jobs
   pub jobs : AllByRecursion (JobInOrderButLimit s.last.job) s.jobs

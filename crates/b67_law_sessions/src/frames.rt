@@ -12,4 +12,3 @@ pub fn chase_follows_chains()
 pub fn identities_grow_by_steps()
     ensures { StepsGrow }
 {}
-

@@ -11,6 +11,12 @@ mod words;
 pub use apart::{jobs_print_apart, jobs_stay_apart};
 pub use faults::invalid_operator_is_nvld;
 pub use frames::{chase_follows_chains, identities_grow_by_steps};
-pub use runs::{invalid_operator_exactly_at_nvld, openings_are_made_by_the_loader, runs_end_exactly_at_nvld, runs_fault_exactly_at_nvld, runs_make_their_words, sessions_fault_exactly_at_nvld};
-pub use turns::{choice_ignores_numbers, chosen_tasks_are_ready, first_parts_keep_order, last_parts_restore_order};
+pub use runs::{
+    invalid_operator_exactly_at_nvld, openings_are_made_by_the_loader, runs_end_exactly_at_nvld,
+    runs_fault_exactly_at_nvld, runs_make_their_words, sessions_fault_exactly_at_nvld,
+};
+pub use turns::{
+    choice_ignores_numbers, chosen_tasks_are_ready, first_parts_keep_order,
+    last_parts_restore_order,
+};
 pub use words::each_row_makes_its_words;

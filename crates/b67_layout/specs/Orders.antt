@@ -3,6 +3,7 @@
 use Rattle.std.specs.Prelude.{◌≡◌, ℕ, ◌^◌, ◌<◌, ◌≤◌, length}
 use Rattle.std.specs.List.{AllByRecursion}
 use Rattle.b67_model.specs.Common.{JobConstants, JobProgress, SessionJob, Session, live_tasks, Starts, IsSegment, SettingInOrder, TasksInOrder, NumberedFrom}
+use Rattle.b67_model.specs.declared.limits.TheConstants.{MOST_JOBS}
 
 -- a job's constants, tasks and arrays are in order, whatever its counts of operators are. An operand can number its tasks
 pub record JobInOrderButCounts (P : Starts) (constants : JobConstants) (c : JobProgress) : Type 0 where
@@ -12,7 +13,7 @@ pub record JobInOrderButCounts (P : Starts) (constants : JobConstants) (c : JobP
 
 -- the session, by what a place must be in each job
 pub record SessionInOrderButCounts (P : JobConstants → Starts) (s : Session) : Type 0 where
-  pub few : length s.jobs ≤ 8
+  pub few : length s.jobs ≤ MOST_JOBS
   pub numbered : NumberedFrom 1 s.jobs
   pub one_size : (stack : ℕ) × AllByRecursion (λ (m : SessionJob). m.constants.stack_size ≡ stack) s.jobs
   pub jobs : AllByRecursion (λ (m : SessionJob). JobInOrderButCounts (P m.constants) m.constants m.progress) s.jobs

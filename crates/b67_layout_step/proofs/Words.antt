@@ -8,6 +8,7 @@ use Rattle.b67_lemmas.proofs.Members.{all_in, has_append_cases, keyed_has, has_f
 use Rattle.b67_model.specs.Words as Words
 use Rattle.b67_law_order.proofs.Posts.{Post, post_ok, post_err, post_bind, post_any, post_if}
 use Rattle.b67_law_order.proofs.Chases.{cell_has}
+use Rattle.b67_model.specs.declared.limits.TheConstants.{MOST_LINKS}
 
 -- a task put in the place of another
 pub has_put : (n : ℕ) (new : Task) (ts : List Task) (t : Task) → Has (change_keyed (λ (u : Task). u.number) n (λ (u : Task). new) ts) t → (new ≡ t) ⊎ Has ts t
@@ -106,7 +107,7 @@ module _ (T : ℕ → Type 0) where
     chase_links (suc links) (Leads w) g = chase_links links (link h w) (link_place (place_of h w))
 
     pub chase_names : (w : Word) → Post EndNames (chase h w)
-    chase_names w = chase_links 1024 (Leads w) tt
+    chase_names w = chase_links MOST_LINKS (Leads w) tt
 
     pub follow_names : (w : Word) → Names w → Post EndNames (follow h w)
     follow_names (Name couple) g = chase_names (Name couple)

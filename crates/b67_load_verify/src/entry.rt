@@ -6,6 +6,7 @@ ghost use Rattle.b67_word.specs.Tagged.{contents};
 ghost use Rattle.b67_model.specs.Operators.{count_at};
 ghost use Rattle.b67_model.specs.Loader.{listing, same_place};
 ghost use Rattle.b67_load_verify.specs.Listing.{seen, IsInside, Marks};
+ghost use Rattle.b67_model.specs.declared.limits.TheConstants.{MOST_SEGMENT};
 
 use b67_syllable::{Op, Undecodable, decode};
 use b67_word::{Place, Word};
@@ -39,7 +40,7 @@ pub(crate) fn count_at(place: Place) -> usize
 
 /// The listing of a segment's code.
 pub fn entries_of(alloc: Global, code: &[Word]) -> Result<Vec<Entry>, AllocError>
-    requires { length code.now ≤ 8191 }
+    requires { length code.now ≤ MOST_SEGMENT }
     ensures { IfOk result (λ entries. map seen entries.items ≡ listing (contents code.now)) }
 {
     let mut entries = Vec::new(alloc);
@@ -71,7 +72,7 @@ pub(crate) fn starts_of(
     words: usize,
     entries: &[Entry],
 ) -> Result<Vec<bool>, AllocError>
-    requires few { words ≤ 8191 }
+    requires few { words ≤ MOST_SEGMENT }
     requires inside { AllByRecursion (IsInside words) (map seen entries.now) }
     ensures { IfOk result (λ starts. Marks starts.items (map seen entries.now)) }
 {

@@ -5,6 +5,7 @@ ghost use Rattle.std.specs.List.{AllByRecursion};
 ghost use Rattle.b67_word.specs.Tagged.{contents};
 ghost use Rattle.b67_model.specs.Loader.{listing, is_start, is_last};
 ghost use Rattle.b67_load_verify.specs.Listing.{seen, CouplesFit};
+ghost use Rattle.b67_model.specs.declared.limits.TheConstants.{MOST_SEGMENT};
 
 use crate::entry::{Entry, count_at, entries_of, same_place, starts_of};
 use b67_word::{Place, Word};
@@ -33,7 +34,7 @@ impl Model for Listing {
 impl Listing {
     /// The listing of a segment's code.
     pub fn new(alloc: Global, code: &[Word]) -> Result<Listing, AllocError>
-        requires { length code.now ≤ 8191 }
+        requires { length code.now ≤ MOST_SEGMENT }
         ensures { IfOk result (λ entries. entries ≡ listing (contents code.now)) }
     {
         let entries = entries_of(alloc, code)?;

@@ -11,6 +11,7 @@ use Rattle.b67_layout.proofs.Fresh.{running_in_order}
 use Rattle.b67_exec_cells.specs.Called.{called_in}
 use Rattle.b67_mcp.proofs.Callings.{calling}
 use Rattle.b67_law_order.proofs.Chases.{cell_has}
+use Rattle.b67_model.specs.declared.limits.TheConstants.{MOST_LINKS}
 
 abbrev IsLow : Word → Type 0
 IsLow (Intrinsic n) = (8 ≤ n) × (n ≤ 18)
@@ -103,8 +104,8 @@ module _ (constants : JobConstants) (h : OperatorContext) (same : h.constants �
   chased (suc links) (Leads w) g = chased links (link h w) (at_place (place_of h w))
 
   followed : (w : Word) → EndLow (follow_reference h w)
-  followed (Name c) = chased 1024 (Leads (Name c)) tt
-  followed (Ref f offset) = chased 1024 (Leads (Ref f offset)) tt
+  followed (Name c) = chased MOST_LINKS (Leads (Name c)) tt
+  followed (Ref f offset) = chased MOST_LINKS (Leads (Ref f offset)) tt
   followed (Operand bits) = tt
   followed (Row a) = tt
   followed (Element a i) = tt

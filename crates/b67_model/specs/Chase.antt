@@ -7,6 +7,7 @@ use Rattle.b67_model.specs.Words.{Word, Operand, Name, Ref, Row, Element, Origin
 use Rattle.b67_model.specs.State.{OperatorContext}
 use Rattle.b67_model.specs.Cells.{cell, place_of}
 use Rattle.b67_model.specs.Arrays.{array}
+use Rattle.b67_model.specs.declared.limits.TheConstants.{MOST_LINKS}
 
 pub data End : Type 0 where
   AtCell : (frame offset bits : ℕ) → End
@@ -59,8 +60,8 @@ pub data Path (h : OperatorContext) : Word → Word → ℕ → Type 0 where
 
 -- the end of a reference: of a chain of at most 1,024 links, or LOOP where one more would be followed
 pub data ComesTo (h : OperatorContext) (w : Word) : Answer End → Type 0 where
-  ends : (end : Answer End) (links : ℕ) → links ≤ 1024 → Chain h w end links → ComesTo h w end
-  loops : (v : Word) → Path h w v 1024 → ComesTo h w (Err Loop)
+  ends : (end : Answer End) (links : ℕ) → links ≤ MOST_LINKS → Chain h w end links → ComesTo h w end
+  loops : (v : Word) → Path h w v MOST_LINKS → ComesTo h w (Err Loop)
 
 -- the end after at most so many more links
 abbrev pub chase_on : OperatorContext → ℕ → Link → Answer End
@@ -69,7 +70,7 @@ chase_on h zero (Leads w) = Err Loop
 chase_on h (suc links) (Leads w) = chase_on h links (link h w)
 
 abbrev pub chase : OperatorContext → Word → Answer End
-chase h w = chase_on h 1024 (Leads w)
+chase h w = chase_on h MOST_LINKS (Leads w)
 
 -- the end of a reference or an element copy
 abbrev pub follow : OperatorContext → Word → Answer End

@@ -17,6 +17,7 @@ use Rattle.b67_model.specs.Endings.{is_ready}
 use Rattle.b67_model.specs.Loader.{listing, At}
 use Rattle.b67_model.specs.Schedule.{Switch, Session}
 use Rattle.b67_model.specs.Run.{live_tasks}
+use Rattle.b67_model.specs.declared.limits.TheConstants.{LEAST_STACK, MOST_JOBS, MOST_PARTS, MOST_LIMIT}
 
 -- what a place of a segment must be, for an activation of a level that goes on there
 abbrev pub Starts : Type 1
@@ -239,11 +240,11 @@ pub record SegmentInOrder (s : Segment) : Type 0 where
   pub words : AllByRecursion (λ (n : ℕ). n < 2 ^ 48) s.code
 
 pub record SettingInOrder (constants : JobConstants) : Type 0 where
-  pub limit : constants.limit ≤ 100000000
-  pub stack_low : 64 ≤ constants.stack_size
+  pub limit : constants.limit ≤ MOST_LIMIT
+  pub stack_low : LEAST_STACK ≤ constants.stack_size
   pub stack_high : constants.stack_size < 2 ^ 14
   pub segments : AllByRecursion SegmentInOrder constants.segments
-  pub entries : length constants.dictionary.cells ≤ 255
+  pub entries : length constants.dictionary.cells ≤ MOST_PARTS
   pub named : constants.dictionary.identity ≡ 1
   pub stands : constants.dictionary.standing ≡ Entered 1 0 None
   pub dictionary : DictionaryWords 1 constants.segments (reverse constants.dictionary.cells)
@@ -301,7 +302,7 @@ NumberedFrom n (m ∷ more) = (m.constants.number ≡ n) × NumberedFrom (n + 1)
 
 -- the whole session, by what a place must be in each job
 pub record SessionInOrder (P : JobConstants → Starts) (s : Session) : Type 0 where
-  pub few : length s.jobs ≤ 8
+  pub few : length s.jobs ≤ MOST_JOBS
   pub numbered : NumberedFrom 1 s.jobs
   pub one_size : (stack : ℕ) × AllByRecursion (λ (m : SessionJob). m.constants.stack_size ≡ stack) s.jobs
   pub jobs : AllByRecursion (λ (m : SessionJob). JobInOrder (P m.constants) m.constants m.progress) s.jobs

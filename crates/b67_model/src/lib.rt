@@ -2,10 +2,16 @@
 #![tactic(auto)]
 
 mod intrinsics;
+mod limits;
 mod operators;
 
 pub use intrinsics::{
     ARRAYDEC, AWAIT, CAUSE, DEALLOCATE, MOST_TASKS, PRINT, PRINTROW, PROCESS, READ, RESIZE, STATUS,
     WAIT,
+};
+pub use limits::{
+    DECK_BYTES, GREATEST, IMAGE_BYTES, LEAST_CORE, LEAST_STACK, MOST_ARRAY, MOST_CORE,
+    MOST_ENTRIES, MOST_JOBS, MOST_LIMIT, MOST_LINKS, MOST_MADE, MOST_NUMBER, MOST_PARTS,
+    MOST_QUANTUM, MOST_SECTORS, MOST_SEGMENT, MOST_STACK, MOST_SWITCHES, USUAL_LIMIT,
 };
 pub use operators::{Code, Op, Undecodable};

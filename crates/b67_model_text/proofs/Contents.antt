@@ -26,6 +26,7 @@ use Rattle.b67_model_text.specs.Encoding.{filling, six_syllables}
 use Rattle.b67_model_text.specs.Asm.{Scope, SegmentContent, after_sketch, is_in_range, pcw_in, pcw_at, label_in, row_in, call_operator, branch_to, denoted, is_first_label, has_names, has_label, has_entry, misplaced, fitted, entered, after_operator, card_operator, meaning, labels, label_at, syllable_after_card}
 use Rattle.b67_model_text.specs.Pass.{Added, AddedOperator, AddedEntry, entry_added, added_by, syllable_behind, entries_behind, with_added, pass_content}
 use Rattle.b67_model_text.proofs.Answers.{after_both, after_needs, err-ok}
+use Rattle.b67_model.specs.declared.limits.TheConstants.{MOST_SEGMENT}
 
 pub same_Ok : {A R : Type 0} (a b : A) → ◌≡◌ {A = Result A R} (Ok a) (Ok b) → a ≡ b
 same_Ok a b e = cc
@@ -45,15 +46,15 @@ pub record Taken (x : Scope) (n : ℕ) (label : Option (List ℕ)) (own : sketch
   pub in_range : is_in_range own ≡ true
   pub first : is_first_label x.labels n label ≡ true
   pub denotes : denoted x own ≡ Some op
-  pub room : after_operator n op ≤ 6 * 8191
+  pub room : after_operator n op ≤ 6 * MOST_SEGMENT
   pub enters : has_entry x.names own ≡ true
 
-fits_there : (n : ℕ) (o : Option Op) (op : Op) → fitted n o ≡ Ok op → (o ≡ Some op) × (after_operator n op ≤ 6 * 8191)
-fits_there n None op e = err-ok 8 op _ (after_needs (nat_le (n + 2) (6 * 8191)) 7 (Err 8) op e).1
+fits_there : (n : ℕ) (o : Option Op) (op : Op) → fitted n o ≡ Ok op → (o ≡ Some op) × (after_operator n op ≤ 6 * MOST_SEGMENT)
+fits_there n None op e = err-ok 8 op _ (after_needs (nat_le (n + 2) (6 * MOST_SEGMENT)) 7 (Err 8) op e).1
 fits_there n (Some own) op e =
-    let t = after_needs (nat_le (after_operator n own) (6 * 8191)) 7 (Ok own) op e in
+    let t = after_needs (nat_le (after_operator n own) (6 * MOST_SEGMENT)) 7 (Ok own) op e in
     let is : own ≡ op = same_Ok own op t.1 in
-    (ap (λ o. Some o) is, subst (λ o. after_operator n o ≤ 6 * 8191) is (leb-true (after_operator n own) (6 * 8191) t.0))
+    (ap (λ o. Some o) is, subst (λ o. after_operator n o ≤ 6 * MOST_SEGMENT) is (leb-true (after_operator n own) (6 * MOST_SEGMENT) t.0))
 
 pub taken_of : (x : Scope) (n : ℕ) (label : Option (List ℕ)) (own : sketch.Sketch) (op : Op) → card_operator x n label own ≡ Ok op → Taken x n label own op
 taken_of x n label own op e =
@@ -203,24 +204,24 @@ labels_behind x n entries l more added (inr a) =
 
 -- ---- labels stand within the longest segment
 
-one_small : (n : ℕ) (o : Option (List ℕ × ℕ)) (rest : List (List ℕ × ℕ)) (q : List ℕ) (m : ℕ) → o ≡ None ⊎ ((text : List ℕ) × (o ≡ Some (text, n)) × (n ≤ 6 * 8191)) → (meaning rest q ≡ Some m → m ≤ 6 * 8191) → meaning (cons_option o rest) q ≡ Some m → m ≤ 6 * 8191
+one_small : (n : ℕ) (o : Option (List ℕ × ℕ)) (rest : List (List ℕ × ℕ)) (q : List ℕ) (m : ℕ) → o ≡ None ⊎ ((text : List ℕ) × (o ≡ Some (text, n)) × (n ≤ 6 * MOST_SEGMENT)) → (meaning rest q ≡ Some m → m ≤ 6 * MOST_SEGMENT) → meaning (cons_option o rest) q ≡ Some m → m ≤ 6 * MOST_SEGMENT
 one_small n o rest q m (inl none) go e = go (subst (λ (o : Option (List ℕ × ℕ)). meaning (cons_option o rest) q ≡ Some m) none e)
 one_small n o rest q m (inr some) go e = by_test (bytes_eq q some.0) (subst (λ (o : Option (List ℕ × ℕ)). meaning (cons_option o rest) q ≡ Some m) some.1 e)
   where
-    by_test : (b : Bool) → cond b (Some n) (meaning rest q) ≡ Some m → m ≤ 6 * 8191
+    by_test : (b : Bool) → cond b (Some n) (meaning rest q) ≡ Some m → m ≤ 6 * MOST_SEGMENT
     by_test true e = omega (arith, same_Some n m e, some.2)
     by_test false e = go e
 
-label_of : (n : ℕ) (label : Option (List ℕ)) → n ≤ 6 * 8191 → option_map {U = List ℕ × ℕ} (λ text. (text, n)) label ≡ None ⊎ ((text : List ℕ) × (option_map {U = List ℕ × ℕ} (λ text. (text, n)) label ≡ Some (text, n)) × (n ≤ 6 * 8191))
+label_of : (n : ℕ) (label : Option (List ℕ)) → n ≤ 6 * MOST_SEGMENT → option_map {U = List ℕ × ℕ} (λ text. (text, n)) label ≡ None ⊎ ((text : List ℕ) × (option_map {U = List ℕ × ℕ} (λ text. (text, n)) label ≡ Some (text, n)) × (n ≤ 6 * MOST_SEGMENT))
 label_of n None low = inl refl
 label_of n (Some text) low = inr (text, refl, low)
 
-here_small : (x : Scope) (n : ℕ) (entries : List ℕ) (l : Line) (added : Added) → Adds x n entries l added → label_at n l.says ≡ None ⊎ ((text : List ℕ) × (label_at n l.says ≡ Some (text, n)) × (n ≤ 6 * 8191))
+here_small : (x : Scope) (n : ℕ) (entries : List ℕ) (l : Line) (added : Added) → Adds x n entries l added → label_at n l.says ≡ None ⊎ ((text : List ℕ) × (label_at n l.says ≡ Some (text, n)) × (n ≤ 6 * MOST_SEGMENT))
 here_small x n entries l added (inl a) =
-    subst (λ (s : Answer statement.Statement). label_at n s ≡ None ⊎ ((text : List ℕ) × (label_at n s ≡ Some (text, n)) × (n ≤ 6 * 8191))) (sym a.says) (label_of n a.label (omega (arith, a.taken.room)))
+    subst (λ (s : Answer statement.Statement). label_at n s ≡ None ⊎ ((text : List ℕ) × (label_at n s ≡ Some (text, n)) × (n ≤ 6 * MOST_SEGMENT))) (sym a.says) (label_of n a.label (omega (arith, a.taken.room)))
 here_small x n entries l added (inr a) = inl (ap (label_at n) a.says)
 
-pub label_small : (x : Scope) (n : ℕ) (entries : List ℕ) (lines : List Line) (content : SegmentContent) (q : List ℕ) (m : ℕ) → pass_content x n entries lines ≡ Ok content → meaning (labels n lines) q ≡ Some m → m ≤ 6 * 8191
+pub label_small : (x : Scope) (n : ℕ) (entries : List ℕ) (lines : List Line) (content : SegmentContent) (q : List ℕ) (m : ℕ) → pass_content x n entries lines ≡ Ok content → meaning (labels n lines) q ≡ Some m → m ≤ 6 * MOST_SEGMENT
 label_small x n entries [] content q m e is = absurd (none-some m is)
 label_small x n entries (l ∷ more) content q m e is =
     let h = headed x n entries l more content e in

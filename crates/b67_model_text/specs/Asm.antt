@@ -28,6 +28,7 @@ use Rattle.b67_model_text.specs.Cards.{leading}
 use Rattle.b67_model_text.specs.Deck.{Refusal, of_card}
 use Rattle.b67_model_text.specs.Encoding.{laid_one, code_words}
 use Rattle.b67_model_text.specs.Statements.{lines_of}
+use Rattle.b67_model.specs.declared.limits.TheConstants.{MOST_PARTS, MOST_SEGMENT, MOST_ARRAY, MOST_ENTRIES}
 
 -- ---- names
 
@@ -182,7 +183,7 @@ entry_in names _ label = false
 
 -- a place's 16 bits; none past the longest segment comes to code
 abbrev pub syllable_bits : ℕ → ℕ
-syllable_bits n = target_bits (place_at (min n (6 * 8191)))
+syllable_bits n = target_bits (place_at (min n (6 * MOST_SEGMENT)))
 
 -- a procedure's bits, from the place of a label of it
 abbrev pub pcw_at : Option ℕ → Option ℕ → Option ℕ
@@ -215,9 +216,9 @@ call_operator calls.Name bits = Namc bits
 
 -- to a syllable's place; none past the longest segment comes to code
 abbrev pub branch_to : branch.Branch → ℕ → Op
-branch_to branches.Always n = Brun (place_at (min n (6 * 8191)))
-branch_to branches.IfTrue n = Brtr (place_at (min n (6 * 8191)))
-branch_to branches.IfFalse n = Brfl (place_at (min n (6 * 8191)))
+branch_to branches.Always n = Brun (place_at (min n (6 * MOST_SEGMENT)))
+branch_to branches.IfTrue n = Brtr (place_at (min n (6 * MOST_SEGMENT)))
+branch_to branches.IfFalse n = Brfl (place_at (min n (6 * MOST_SEGMENT)))
 
 -- the operator, where its couple fits the split at the segment's level, 31 for levels above
 abbrev pub denoted : Scope → sketch.Sketch → Option Op
@@ -242,8 +243,8 @@ misplaced names _ = 6
 
 -- an operator that begins at syllable n, in 8,191 words; a couple that doesn't fit has two syllables too
 abbrev pub fitted : ℕ → Option Op → Answer Op
-fitted n None = needs (nat_le (n + 2) (6 * 8191)) 7 >> Err 8
-fitted n (Some op) = needs (nat_le (after_operator n op) (6 * 8191)) 7 >> Ok op
+fitted n None = needs (nat_le (n + 2) (6 * MOST_SEGMENT)) 7 >> Err 8
+fitted n (Some op) = needs (nat_le (after_operator n op) (6 * MOST_SEGMENT)) 7 >> Ok op
 
 -- an operator, unless it is an MPCW whose label is no entry
 abbrev pub entered : Names → sketch.Sketch → Op → Answer Op
@@ -270,7 +271,7 @@ entry_syllables x lines = filter_map (λ (l : Line). entry_syllable x l.says) li
 -- an entry at a label, besides those at these syllables: it isn't at 0:0, nor an entry already, nor number 256
 abbrev pub check_entry : List ℕ → Option ℕ → Answer ⊤
 check_entry others None = Err 5
-check_entry others (Some n) = needs (not (n == 0) && not (list_any (λ m. m == n) others) && nat_lt (length others) 255) 10
+check_entry others (Some n) = needs (not (n == 0) && not (list_any (λ m. m == n) others) && nat_lt (length others) MOST_ENTRIES) 10
 
 -- what is refused of a segment's card that stands at syllable n, behind these cards
 abbrev pub check_card : Scope → (before : List Line) (n : ℕ) → statement.Statement → Answer ⊤
@@ -319,7 +320,7 @@ value_in v = unwrap_or v 0
 abbrev pub row_values : Names → ℕ → statement.Statement → Answer (List ℕ)
 row_values names n (statements.Values first more) = do
   needs (not (list_any (λ v. not (is_word v)) (first ∷ more))) 3
-  needs (nat_le (n + length (first ∷ more)) 65535) 7
+  needs (nat_le (n + length (first ∷ more)) MOST_ARRAY) 7
   Ok (map value_in (first ∷ more))
 row_values names n other = Err (misplaced names other)
 
@@ -365,7 +366,7 @@ segment_part names segments s r number name level lines = do
   l ← of_card number (or_reason level 3)
   of_card number (needs (is_segment_number s (names.means name)) 4)
   of_card number (needs (list_any is_code lines) 7)
-  of_card number (needs (nat_lt (s + r) 255) 9)
+  of_card number (needs (nat_lt (s + r) MOST_PARTS) 9)
   content ← content_of (record { names = names; segments = segments; level = l; labels = λ label. meaning (labels 0 lines) label }) lines
   Ok (CodePart (record { level = l; entries = map syllable_bits content.entries; code = code_words content.operators }))
 
@@ -373,7 +374,7 @@ abbrev pub row_part : Names → (s r number : ℕ) (name : List ℕ) → List Li
 row_part names s r number name lines = do
   of_card number (needs (is_row_number r (names.means name)) 4)
   of_card number (needs (list_any (λ l. is_numbers l.kind) lines) 7)
-  of_card number (needs (nat_lt (s + r) 255) 9)
+  of_card number (needs (nat_lt (s + r) MOST_PARTS) 9)
   words ← row_words names 0 lines
   Ok (RowPart words)
 

@@ -7,6 +7,7 @@ use Rattle.b67_model_text.specs.declared.deck.Keyword as keyword
 use Rattle.b67_model_text.specs.declared.deck.Keyword.TheVariants as keywords
 use Rattle.b67_model_text.specs.Answers.{Answer, ◌>>=◌, ◌>>◌, needs, or_reason}
 use Rattle.b67_model_text.specs.Cards.{words_in_card, natural, name_in, is_empty}
+use Rattle.b67_model.specs.declared.limits.TheConstants.{LEAST_STACK, MOST_STACK, MOST_JOBS, MOST_QUANTUM, MOST_LIMIT, MOST_NUMBER, MOST_MADE}
 
 pub data Command : Type 0 where
   Stack : (words : ℕ) → Command
@@ -51,10 +52,10 @@ one_number low high (word ∷ more) = if is_empty more then number_in low high w
 
 -- task t of job j, which is written j.t
 abbrev pub target : List ℕ → Option (ℕ × ℕ)
-target word = option_and_then (λ p. option_and_then (λ job. option_map (λ task. (job, task)) (number_in 1 100000000 p.1)) (number_in 1 8 p.0)) (parted 46 word)
+target word = option_and_then (λ p. option_and_then (λ job. option_map (λ task. (job, task)) (number_in 1 MOST_NUMBER p.1)) (number_in 1 MOST_JOBS p.0)) (parted 46 word)
 
 abbrev pub switch : List (List ℕ) → Option Command
-switch (count ∷ word ∷ []) = option_and_then (λ n. option_map (λ t. Switch n t.0 t.1) (target word)) (number_in 0 800000000 count)
+switch (count ∷ word ∷ []) = option_and_then (λ n. option_map (λ t. Switch n t.0 t.1) (target word)) (number_in 0 MOST_MADE count)
 switch _ = None
 
 abbrev pub job_named : List ℕ → Option Command
@@ -69,12 +70,12 @@ alone command parameters = if is_empty parameters then Some command else None
 
 -- what a keyword says with these parameters
 abbrev pub says : keyword.Keyword → List (List ℕ) → Option Command
-says keywords.Stack parameters = option_map Stack (one_number 64 16383 parameters)
-says keywords.Quantum parameters = option_map Quantum (one_number 1 1000000 parameters)
-says keywords.Halt parameters = option_map Halt (one_number 1 800000000 parameters)
+says keywords.Stack parameters = option_map Stack (one_number LEAST_STACK MOST_STACK parameters)
+says keywords.Quantum parameters = option_map Quantum (one_number 1 MOST_QUANTUM parameters)
+says keywords.Halt parameters = option_map Halt (one_number 1 MOST_MADE parameters)
 says keywords.Switch parameters = switch parameters
 says keywords.Job parameters = job parameters
-says keywords.Limit parameters = option_map Limit (one_number 1 100000000 parameters)
+says keywords.Limit parameters = option_map Limit (one_number 1 MOST_LIMIT parameters)
 says keywords.Asm parameters = alone Asm parameters
 says keywords.Hex parameters = alone Hex parameters
 says keywords.Data parameters = alone Data parameters

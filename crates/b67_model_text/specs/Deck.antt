@@ -14,6 +14,7 @@ use Rattle.b67_model_text.specs.Cards.{cards, leading}
 use Rattle.b67_model_text.specs.Hex.{digit_bytes, is_hex}
 use Rattle.b67_model_text.specs.Command.{Command, Limit, Asm, Hex, Data, Plain, plain_card, said}
 use Rattle.b67_model_text.specs.Placing.{stand, placed_card, stack_in, quantum_in, halt_in, switch_in, name_in, first_found, numbers}
+use Rattle.b67_model.specs.declared.limits.TheConstants.{USUAL_LIMIT, DECK_BYTES}
 
 pub record Said : Type 0 where
   pub number : ℕ
@@ -112,7 +113,7 @@ abbrev pub job_of : ℕ → List ℕ → List Said → declared.Job
 job_of number name own = record {
   name = name;
   card = number;
-  limit = limit_behind 1000000 own;
+  limit = limit_behind USUAL_LIMIT own;
   body_card = (unwrap_or (program own) (0, Cards [])).0;
   program = (unwrap_or (program own) (0, Cards [])).1;
   numbers = unwrap_or (data_numbers own) [];
@@ -142,7 +143,7 @@ deck said = record {
 
 -- a text may have so many bytes
 abbrev pub limit : ℕ
-limit = 4194304
+limit = DECK_BYTES
 
 -- the card with the first byte past the limit is refused before all else
 abbrev pub within_limit : List ℕ → Result ⊤ Refusal

@@ -9,6 +9,7 @@ use Rattle.b67_model_text.specs.declared.assembly.Line.{Line}
 use Rattle.b67_model_text.specs.Answers.{Answer, ◌>>=◌, ◌>>◌, needs}
 use Rattle.b67_model_text.specs.Deck.{Refusal, of_card}
 use Rattle.b67_model_text.specs.Asm.{Scope, SegmentContent, after_operator, card_operator, misplaced, inserted_in_order}
+use Rattle.b67_model.specs.declared.limits.TheConstants.{MOST_ENTRIES}
 
 -- what a segment's card adds: an operator, or the syllable of an entry
 pub data Added : Type 0 where
@@ -18,7 +19,7 @@ pub data Added : Type 0 where
 -- an entry at a label, behind those in this list
 abbrev pub entry_added : List ℕ → Option ℕ → Answer Added
 entry_added entries None = Err 5
-entry_added entries (Some n) = needs (not (n == 0) && not (list_any (λ m. m == n) entries) && nat_lt (length entries) 255) 10 >> Ok (AddedEntry n)
+entry_added entries (Some n) = needs (not (n == 0) && not (list_any (λ m. m == n) entries) && nat_lt (length entries) MOST_ENTRIES) 10 >> Ok (AddedEntry n)
 
 -- what a segment's card adds that stands at syllable n behind the cards of these entries
 abbrev pub added_by : Scope → (n : ℕ) (entries : List ℕ) → statement.Statement → Answer Added

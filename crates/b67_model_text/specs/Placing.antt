@@ -9,6 +9,7 @@ use Rattle.b67_model_text.specs.Answers.{Answer, ◌>>=◌, ◌>>◌, needs}
 use Rattle.b67_model_text.specs.Cards.{words_in_card}
 use Rattle.b67_model_text.specs.Hex.{hex_bytes}
 use Rattle.b67_model_text.specs.Command.{number_in, Command, Stack, Quantum, Halt, Switch, Job, Limit, Asm, Hex, Data, End, Plain}
+use Rattle.b67_model.specs.declared.limits.TheConstants.{MOST_JOBS, GREATEST, MOST_SWITCHES}
 
 -- where a card stands: by the nearest command before it
 abbrev pub stand_after : Stand → Command → Stand
@@ -102,14 +103,14 @@ rises before (Switch count job task) = is_above (first_found switch_in before) c
 rises before _ = true
 
 abbrev pub has_room : List Command → Command → Answer ⊤
-has_room before (Switch count job task) = needs (nat_lt (length (filter_map switch_in before)) 100000) 8
-has_room before (Job name) = needs (nat_lt (length (filter_map name_in before)) 8) 9
+has_room before (Switch count job task) = needs (nat_lt (length (filter_map switch_in before)) MOST_SWITCHES) 8
+has_room before (Job name) = needs (nat_lt (length (filter_map name_in before)) MOST_JOBS) 9
 has_room before _ = Ok tt
 
 -- a whole number of magnitude 549,755,813,887 at most, with a minus sign before anything but 0
 abbrev pub operand_in : List ℕ → Option ℤ
 operand_in [] = None
-operand_in (b ∷ more) = if b == 45 then option_map (λ n. neg_ℤ (pos n)) (number_in 1 549755813887 more) else option_map pos (number_in 0 549755813887 (b ∷ more))
+operand_in (b ∷ more) = if b == 45 then option_map (λ n. neg_ℤ (pos n)) (number_in 1 GREATEST more) else option_map pos (number_in 0 GREATEST (b ∷ more))
 
 abbrev pub operands_in : List (List ℕ) → Option (List ℤ)
 operands_in [] = Some []

@@ -25,6 +25,7 @@ use Rattle.b67_model_text.specs.Answers.{Answer, ◌>>=◌, or_reason}
 use Rattle.b67_model_text.specs.Cards.{words_in_card, natural, name_in, is_empty}
 use Rattle.b67_model_text.specs.Hex.{hex_digit, digit_value}
 use Rattle.b67_model_text.specs.Command.{row_of, parted}
+use Rattle.b67_model.specs.declared.limits.TheConstants.{GREATEST}
 
 -- a numeral, and its number where that is within the range
 abbrev pub numeral_up_to : ℕ → List ℕ → Option (Option ℕ)
@@ -102,8 +103,8 @@ abbrev pub literal_bits : List ℕ → Option (Option ℕ)
 literal_bits [] = None
 literal_bits (b ∷ more) =
     if b == 35 then hex_bits more
-    else (if b == 45 then option_and_then negative_bits (numeral_up_to 549755813887 more)
-    else numeral_up_to 549755813887 (b ∷ more))
+    else (if b == 45 then option_and_then negative_bits (numeral_up_to GREATEST more)
+    else numeral_up_to GREATEST (b ∷ more))
 
 -- an operator with one word behind its name
 abbrev pub with_operand : Mnemonic → List ℕ → Option sketch.Sketch

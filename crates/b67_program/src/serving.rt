@@ -18,6 +18,7 @@ use crate::reading::{InputFault, PIECE, read_input};
 use b67_backing::{Backing, MemoryBacking};
 use b67_io::{FreeTape, Sink, Source};
 use b67_job::{CommandLine, backing_path, command_of, refuse_memory, run};
+use b67_model::{DECK_BYTES, IMAGE_BYTES};
 use b67_session_lines::{line_of, say};
 use b67_word::{Bytes, Numbers};
 use std::alloc::{AllocError, Global};
@@ -26,10 +27,10 @@ use std::alloc::{AllocError, Global};
 const SECTORS: u32 = 4096;
 
 /// A deck has at most so many bytes, and so has the text of a program.
-const DECK_LIMIT: usize = 4_194_304;
+const DECK_LIMIT: usize = DECK_BYTES;
 
 /// An image has at most so many bytes.
-const IMAGE_LIMIT: usize = 67_108_864;
+const IMAGE_LIMIT: usize = IMAGE_BYTES;
 
 // How many bytes of a text the command of the words may read, where it reads one.
 fn text_limit(words: &[&str]) -> Option<usize>

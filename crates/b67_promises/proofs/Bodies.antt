@@ -16,6 +16,7 @@ use Rattle.b67_model_text.specs.Command.{Command, Asm, Hex, Data, Plain}
 use Rattle.b67_model_text.specs.Placing.{stack_in, quantum_in, halt_in, switch_in, name_in, numbers}
 use Rattle.b67_model_text.specs.Deck.{Said, command_in, limit_in, text_in, card_in, is_plain, body, bytes_in, numbers_in, program_at, program, numbers_at, data_numbers, limit_behind, job_of, is_job, own_cards, jobs, deck}
 use Rattle.b67_promises.proofs.Renumbered.{texts_of}
+use Rattle.b67_model.specs.declared.limits.TheConstants.{USUAL_LIMIT}
 
 -- ---- cards that say the same, whatever their numbers
 
@@ -108,7 +109,7 @@ module _ (R : Relation) where
 
   pub job_alike : (n m : ℕ) (name : List ℕ) (xs ys : List Said) → OwnAlike xs ys → JobsAlike (job_of n name xs) (job_of m name ys)
   job_alike n m name xs ys h = record {
-    limit = h.limit 1000000;
+    limit = h.limit USUAL_LIMIT;
     numbers = ap (λ (o : Option (List ℤ)). unwrap_or o []) h.numbers;
     program = by_program (program xs) (program ys) h.program;
   }

@@ -18,6 +18,7 @@ use Rattle.b67_model_text.specs.Deck.{Said, command_in, of_card, said_after, say
 use Rattle.b67_model_text.proofs.Answers.{after_both, err-ok}
 use Rattle.b67_promises.specs.Halting.{DifferInHalt}
 use Rattle.b67_promises.proofs.TurnCards.{cards_at, is_filled, cards-append, filled, first_word, trimmed_three, given, first_said, say_same, reverse_cons, deck_said}
+use Rattle.b67_model.specs.declared.limits.TheConstants.{MOST_MADE}
 
 -- ---- a card of a halt
 
@@ -30,7 +31,7 @@ halt_says None c e = err-ok 4 c _ e
 halt_says (Some n) c e = let is : Halt n ≡ c = cc in subst IsHaltCommand is tt
 
 by_halt : (b : Bool) (parameters : List (List ℕ)) (c : Command) → (or_reason (if b then Some keywords.Halt else None) 3 >>= λ keyword. or_reason (says keyword parameters) 4) ≡ Ok c → IsHaltCommand c
-by_halt true parameters c e = halt_says (one_number 1 800000000 parameters) c e
+by_halt true parameters c e = halt_says (one_number 1 MOST_MADE parameters) c e
 by_halt false parameters c e = err-ok 3 c _ e
 
 halt_key : (y : List ℕ) (parameters : List (List ℕ)) (c : Command) → command_of ((63 ∷ 72 ∷ 65 ∷ y) ∷ parameters) ≡ Ok c → IsHaltCommand c

@@ -20,6 +20,7 @@ use Rattle.b67_law_order.proofs.Chases.{running_known, some_ok, cell_has}
 use Rattle.b67_law_sessions.specs.Made.{OperatorMakes, StandsIn}
 use Rattle.b67_law_sessions.proofs.Steps as S
 use Rattle.b67_law_sessions.proofs.Rows.{each_row_makes_its_words}
+use Rattle.b67_model.specs.declared.limits.TheConstants.{MOST_LINKS}
 
 -- ---- words that don't name the MCP's cell 12
 
@@ -272,8 +273,8 @@ module _ (P : Starts) (h : OperatorContext) (run : Run P h) where
     chase_free (suc links) (Leads w) g e = chase_free links (link h w) (place_link (place_of h w) (place_free w g)) e
 
     reference_free : (w : Word) → IsFree w → follow_reference h w ≡ Ok (AtIntrinsic 12) → ⊥
-    reference_free (Name couple) g e = chase_free 1024 (Leads (Name couple)) g e
-    reference_free (Ref f offset) g e = chase_free 1024 (Leads (Ref f offset)) g e
+    reference_free (Name couple) g e = chase_free MOST_LINKS (Leads (Name couple)) g e
+    reference_free (Ref f offset) g e = chase_free MOST_LINKS (Leads (Ref f offset)) g e
     reference_free (Operand bits) g e = let z : ⊥ = cc in z
     reference_free (Row array) g e = let z : ⊥ = cc in z
     reference_free (Element array index) g e = let z : ⊥ = cc in z

@@ -19,6 +19,7 @@ use Rattle.b67_promises.specs.TurnLines.{HoldsOneStack}
 use Rattle.b67_promises.proofs.Steps.{over_after}
 use Rattle.b67_promises.proofs.MoreCore.{WholeRun}
 use denote.Ref.{Bor}
+use Rattle.b67_model.specs.declared.limits.TheConstants.{LEAST_STACK}
 
 -- ---- no more tasks are ready than live
 
@@ -61,9 +62,9 @@ fits_base core base full fits = by_test (nat_lt core base) refl fits
     by_test true t fits = fits
     by_test false t fits = ltb-false core base t
 
-one_of : (peak stack : ℕ) → 64 ≤ stack → peak * stack < 2 * 64 → peak ≤ 1
+one_of : (peak stack : ℕ) → LEAST_STACK ≤ stack → peak * stack < 2 * LEAST_STACK → peak ≤ 1
 one_of peak stack low few = ⊎_elim
-    (λ (less : 1 < peak). let more : 2 * 64 ≤ peak * stack = mul-le 2 64 peak stack (omega (arith, less)) low in absurd (omega (arith, more, few)))
+    (λ (less : 1 < peak). let more : 2 * LEAST_STACK ≤ peak * stack = mul-le 2 LEAST_STACK peak stack (omega (arith, less)) low in absurd (omega (arith, more, few)))
     (λ (le : peak ≤ 1). le) (cases_lt 1 peak)
 
 -- a session whose next step fits such a core

@@ -25,13 +25,14 @@ use Rattle.b67_image.specs.Parts.{parts_of}
 use Rattle.b67_image.specs.Within.{AreItems, AreRegs, IsSwitch, IsReadNumber, IsJob, ArePartsWithin}
 use Rattle.b67_image.specs.Typed.{IsTypedJob, AreTyped}
 use Rattle.b67_job.specs.Ranges.{CardsInRange}
+use Rattle.b67_model.specs.declared.limits.TheConstants.{LEAST_CORE, MOST_CORE, MOST_LIMIT, MOST_SWITCHES}
 
 -- ---- what a deck gives its jobs
 
 pub record IsGivenInRange (g : JobGiven) : Type 0 where
   pub name : is_name g.name ≡ true
   pub limit_low : 1 ≤ g.limit
-  pub limit_high : g.limit ≤ 100000000
+  pub limit_high : g.limit ≤ MOST_LIMIT
   pub numbers : AllByRecursion (λ (v : ℤ). nat_abs v < 2 ^ 39) g.numbers
 
 abbrev first_given : List JobGiven → JobGiven
@@ -107,7 +108,7 @@ module _ (d : Deck) (range : DeckInRange d) (cards : CardsInRange d) (k : Machin
         let high = set.stack_high in
         record { typed = t; stack_low = omega (arith, size, low); stack_high = omega (arith, size, high) }
 
-    links : AreItems 1 1048575 (λ (n : ℕ). n < 2 ^ 32) (links_in k.sectors)
+    links : AreItems 1 MOST_CORE (λ (n : ℕ). n < 2 ^ 32) (links_in k.sectors)
     links =
         let shelf = stands.storage.shelf in
         let some = shelf.some in
@@ -117,7 +118,7 @@ module _ (d : Deck) (range : DeckInRange d) (cards : CardsInRange d) (k : Machin
         record { some = omega (arith, some, long); few = omega (arith, some, small, long); each = typed.links }
 
     -- a machine of at most 120 tasks, in a core that may be asked for
-    pub parts_within : length k.tasks.rows.items ≤ 120 → 256 ≤ length k.cpu.core → length k.cpu.core ≤ 1048575 → ArePartsWithin (parts_of k)
+    pub parts_within : length k.tasks.rows.items ≤ 120 → LEAST_CORE ≤ length k.cpu.core → length k.cpu.core ≤ MOST_CORE → ArePartsWithin (parts_of k)
     parts_within tasks low high =
         let quantum : k.tasks.quantum ≡ d.quantum = ap (λ (g : Given). g.quantum) given in
         let quantum_low = cards.quantum_low in
@@ -142,7 +143,7 @@ module _ (d : Deck) (range : DeckInRange d) (cards : CardsInRange d) (k : Machin
             running = c.running;
             next_switch = c.next_switch;
           };
-          switches = subst (λ (ws : List Switch). AreItems 0 100000 IsSwitch ws) (sym (ap (λ (g : Given). g.switches) given)) cards.switches;
+          switches = subst (λ (ws : List Switch). AreItems 0 MOST_SWITCHES IsSwitch ws) (sym (ap (λ (g : Given). g.switches) given)) cards.switches;
           jobs = record {
             some = omega arith;
             few = few_jobs;

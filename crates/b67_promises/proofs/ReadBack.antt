@@ -38,6 +38,7 @@ use Rattle.b67_promises.proofs.Halves.{image_words, resume_words, one_text}
 use Rattle.b67_promises.proofs.OtherLines.{read_among}
 use Rattle.b67_promises.proofs.Ranges.{parts_within}
 use Rattle.b67_promises.proofs.TurnCalls.{prepared_is}
+use Rattle.b67_model.specs.declared.limits.TheConstants.{LEAST_CORE, MOST_CORE}
 
 not_image : (core : ℕ) → commands.Resume ≡ commands.Image core → ⊥
 not_image core e = cc
@@ -59,11 +60,11 @@ module _ {S B K : Type 0} (words : List (Bor (List ℕ))) (left : S → Option (
       let judged = subst (λ (x : CommandLine). asked x run.bytes ≡ Runs p) c.1 run.judged in
       (run.bytes, prepared_is run.bytes p judged)
 
-  the_core : (core : ℕ) (p : Prepared) → IsRun words left deck deck' core p → NumberWithin 256 1048575 core
+  the_core : (core : ℕ) (p : Prepared) → IsRun words left deck deck' core p → NumberWithin LEAST_CORE MOST_CORE core
   the_core core p run =
       let c = image_words words w run.command run.is in
       let same : c.0 ≡ core = same_Some c.0 core (sym (ap core_asked c.1) ∙ run.opens) in
-      subst (λ (n : ℕ). NumberWithin 256 1048575 n) same c.2
+      subst (λ (n : ℕ). NumberWithin LEAST_CORE MOST_CORE n) same c.2
 
   within : (core : ℕ) (p q : Prepared) (k : Machine) → IsRun words left deck deck' core p → WasOpened d core p k → StopsInRun d k.tasks.made (run_of q).session k → AreTyped (parts_of k) → length k.tasks.rows.items ≤ 120 → ArePartsWithin (parts_of k)
   within core p q k run opened stop typed rows =

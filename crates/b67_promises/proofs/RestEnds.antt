@@ -36,6 +36,7 @@ use Rattle.b67_promises.proofs.Halves.{resume_words, image_not_run, image_not_ex
 use Rattle.b67_promises.proofs.MoreCore.{need_more, next_need, not_over}
 use Rattle.b67_promises.proofs.Steps.{over_after}
 use Rattle.b67_promises.proofs.Words.{head, tail, no_word}
+use Rattle.b67_model.specs.declared.limits.TheConstants.{LEAST_CORE, MOST_CORE}
 
 -- ---- the core that the words of an image name
 
@@ -66,7 +67,7 @@ image_in n small (word ∷ a ∷ b ∷ c ∷ d ∷ []) w command h =
     let number : b.now ≡ decimal n = ap (λ (xs : List (List ℕ)). head (tail (tail xs))) w in
     let is = request_is word a b c d e (ap (λ (xs : List (List ℕ)). head (tail xs)) w) (ap (λ (xs : List (List ℕ)). head (tail (tail (tail xs)))) w) in
     let none : option_or (exercise ws) (bind ws) ≡ None = ap (λ (o : Option CommandLine). option_or o (bind ws)) (image_not_exercise word a b c d e) ∙ image_not_bind word (a ∷ b ∷ c ∷ d ∷ []) e in
-    by_requested command n d.now (is_path d.now) (number_in 256 1048575 b.now) (λ k e. number_is 256 1048575 k n small (sym (ap (number_in 256 1048575) number) ∙ e))
+    by_requested command n d.now (is_path d.now) (number_in LEAST_CORE MOST_CORE b.now) (λ k e. number_is LEAST_CORE MOST_CORE k n small (sym (ap (number_in LEAST_CORE MOST_CORE) number) ∙ e))
     (request (codes "image") ws) is (option_or (exercise ws) (bind ws)) none
     (sym (ap (λ (o : Option Request). option_or (option_map (λ (r : Request). commands.Run r.core) o) (option_or (option_map (λ (r : Request). commands.Image r.core) (request (codes "image") ws)) (option_or (exercise ws) (bind ws)))) (image_not_run word a b c d e)) ∙ h)
 image_in n small (word ∷ a ∷ b ∷ c ∷ d ∷ x ∷ more) w command h = absurd (none-some command (sym (image_not_bind word (a ∷ b ∷ c ∷ d ∷ x ∷ more) (ap head w)) ∙ h))

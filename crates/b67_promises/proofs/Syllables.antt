@@ -32,6 +32,7 @@ use Rattle.b67_model_text.proofs.Contents.{same_Ok, mapped, Adds, headed}
 use Rattle.b67_law_listing.proofs.Packing.{packed_length}
 use Rattle.b67_law_listing.proofs.Laying.{laid_whole}
 use Rattle.b67_promises.proofs.HexBack.{IsByte}
+use Rattle.b67_model.specs.declared.limits.TheConstants.{MOST_SEGMENT}
 
 abbrev pub Bytes : List ℕ → Type 0
 Bytes xs = AllByRecursion IsByte xs
@@ -122,9 +123,9 @@ some_syllable _ = omega arith
 -- they are bytes, and end within the longest segment
 pub record IsLaidIn (n : ℕ) (ops : List Op) : Type 0 where
   bytes : Bytes (laid n ops)
-  low : n + length (laid n ops) ≤ 6 * 8191
+  low : n + length (laid n ops) ≤ 6 * MOST_SEGMENT
 
-pub content_laid : (x : Scope) (n : ℕ) (entries : List ℕ) (lines : List Line) (content : SegmentContent) → n ≤ 6 * 8191 → pass_content x n entries lines ≡ Ok content → IsLaidIn n content.operators
+pub content_laid : (x : Scope) (n : ℕ) (entries : List ℕ) (lines : List Line) (content : SegmentContent) → n ≤ 6 * MOST_SEGMENT → pass_content x n entries lines ≡ Ok content → IsLaidIn n content.operators
 content_laid x n entries [] content low e =
     subst (λ (c : SegmentContent). IsLaidIn n c.operators) (same_Ok _ content e)
     (record { bytes = bytes_replicate ((6 - n % 6) % 6); low = omega (arith, low, length-replicate {A = ℕ} ((6 - n % 6) % 6) 0xFF) })
@@ -133,16 +134,16 @@ content_laid x n entries (l ∷ more) content low e =
     subst (λ (c : SegmentContent). IsLaidIn n c.operators) h.all
     (by h.added h.rest h.adds (λ low. content_laid x (syllable_behind n h.added) (entries_behind entries h.added) more h.rest low h.behind_it))
   where
-    by : (added : Added) (rest : SegmentContent) → Adds x n entries l added → (syllable_behind n added ≤ 6 * 8191 → IsLaidIn (syllable_behind n added) rest.operators) → IsLaidIn n (with_added added rest).operators
+    by : (added : Added) (rest : SegmentContent) → Adds x n entries l added → (syllable_behind n added ≤ 6 * MOST_SEGMENT → IsLaidIn (syllable_behind n added) rest.operators) → IsLaidIn n (with_added added rest).operators
     by added rest (inl a) go =
-        let go' : after_operator n a.op ≤ 6 * 8191 → IsLaidIn (after_operator n a.op) rest.operators = subst (λ (z : Added). syllable_behind n z ≤ 6 * 8191 → IsLaidIn (syllable_behind n z) rest.operators) (sym a.is) go in
+        let go' : after_operator n a.op ≤ 6 * MOST_SEGMENT → IsLaidIn (after_operator n a.op) rest.operators = subst (λ (z : Added). syllable_behind n z ≤ 6 * MOST_SEGMENT → IsLaidIn (syllable_behind n z) rest.operators) (sym a.is) go in
         let there = go' a.taken.room in
         subst (λ (z : Added). IsLaidIn n (with_added z rest).operators) a.is (record {
           bytes = bytes_append (laid_one n a.op) (laid (after_operator n a.op) rest.operators) (one_bytes n a.op (denoted_bytes x a.own a.op a.taken.in_range a.taken.denotes)) there.bytes;
           low = omega (arith, length-append (laid_one n a.op) (laid (after_operator n a.op) rest.operators), there.low);
         })
     by added rest (inr a) go =
-        let go' : n ≤ 6 * 8191 → IsLaidIn n rest.operators = subst (λ (z : Added). syllable_behind n z ≤ 6 * 8191 → IsLaidIn (syllable_behind n z) rest.operators) (sym a.is) go in
+        let go' : n ≤ 6 * MOST_SEGMENT → IsLaidIn n rest.operators = subst (λ (z : Added). syllable_behind n z ≤ 6 * MOST_SEGMENT → IsLaidIn (syllable_behind n z) rest.operators) (sym a.is) go in
         subst (λ (z : Added). IsLaidIn n (with_added z rest).operators) a.is (go' low)
 
 no_fewer : (added : Added) (rest : SegmentContent) → length rest.operators ≤ length (with_added added rest).operators
@@ -198,7 +199,7 @@ some_laid [] some = absurd (omega arith)
 some_laid (op ∷ more) some =
     omega (arith, some_syllable op, length-append (syllables op) (literal_part (literal op) (0 + length (syllables op))), length-append (laid_one 0 op) (laid (0 + length (laid_one 0 op)) more))
 
-pub code_fits : (ops : List Op) → 1 ≤ length ops → IsLaidIn 0 ops → AreWordsOfTag 3 8191 (map (word 3) (code_words ops))
+pub code_fits : (ops : List Op) → 1 ≤ length ops → IsLaidIn 0 ops → AreWordsOfTag 3 MOST_SEGMENT (map (word 3) (code_words ops))
 code_fits ops some l =
     let whole : length (laid 0 ops) % 6 ≡ 0 = omega (arith, laid_whole 0 ops) in
     let size = packed_length (laid 0 ops) whole in

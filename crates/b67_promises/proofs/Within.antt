@@ -29,6 +29,7 @@ use Rattle.b67_asm.proofs.Entries.{entries_fit, no_entries, plain_rest}
 use Rattle.b67_job_admit.specs.Verdicts.{segment_file, codefile_of}
 use Rattle.b67_promises.proofs.Syllables.{Bytes, bytes_append, content_laid, some_operators, code_fits, IsSmallWord, have_tag}
 use Rattle.b67_promises.proofs.Levels.{SmallLevel, IsSmallLine, lines_small}
+use Rattle.b67_model.specs.declared.limits.TheConstants.{MOST_ARRAY}
 
 -- ---- data rows
 
@@ -49,16 +50,16 @@ values_small (Some n ∷ vs) e =
 
 -- words of a row behind so many
 record RowFits (n : ℕ) (ws : List ℕ) : Type 0 where
-  few : n + length ws ≤ 65535
+  few : n + length ws ≤ MOST_ARRAY
   small : AllByRecursion IsSmallWord ws
 
 card_fits : (names : Names) (n : ℕ) (s : statement.Statement) (ws : List ℕ) → row_values names n s ≡ Ok ws → RowFits n ws × (1 ≤ length ws)
 card_fits names n (statements.Values first more) ws e =
     let vs : List (Option ℕ) = first ∷ more in
-    let a = after_needs (not (list_any (λ v. not (is_word v)) vs)) 3 (needs (nat_le (n + length vs) 65535) 7 >> Ok (map value_in vs)) ws e in
-    let b = after_needs (nat_le (n + length vs) 65535) 7 (Ok (map value_in vs)) ws a.1 in
+    let a = after_needs (not (list_any (λ v. not (is_word v)) vs)) 3 (needs (nat_le (n + length vs) MOST_ARRAY) 7 >> Ok (map value_in vs)) ws e in
+    let b = after_needs (nat_le (n + length vs) MOST_ARRAY) 7 (Ok (map value_in vs)) ws a.1 in
     let size = length-map vs value_in in
-    let most = leb-true (n + length vs) 65535 b.0 in
+    let most = leb-true (n + length vs) MOST_ARRAY b.0 in
     subst (λ (xs : List ℕ). RowFits n xs × (1 ≤ length xs)) (same_Ok (map value_in vs) ws b.1)
     (record { few = omega (arith, size, most); small = values_small vs (not_true _ a.0) }, omega (arith, size))
 card_fits names n (statements.Segment name level) ws e = err-ok (misplaced names (statements.Segment name level)) ws _ e
@@ -91,7 +92,7 @@ row_headed names n l more ws e =
     let d = card_fits names n c.0 a.0 c.2 in
     record { first = a.0; rest = b.0; first_fits = d.0; some = d.1; behind = b.1; all = same_Ok (a.0 ++ b.0) ws b.2 }
 
-row_fits : (names : Names) (n : ℕ) (lines : List Line) (ws : List ℕ) → n ≤ 65535 → row_words names n lines ≡ Ok ws → RowFits n ws
+row_fits : (names : Names) (n : ℕ) (lines : List Line) (ws : List ℕ) → n ≤ MOST_ARRAY → row_words names n lines ≡ Ok ws → RowFits n ws
 row_fits names n [] ws low e = subst (RowFits n) (same_Ok [] ws e) (record { few = omega (arith, low); small = tt })
 row_fits names n (l ∷ more) ws low e =
     let h = row_headed names n l more ws e in

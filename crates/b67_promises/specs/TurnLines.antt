@@ -2,6 +2,7 @@
 use Rattle.std.specs.Prelude.{ℕ, ◌≡◌, ◌<◌, ◌+◌, ◌*◌, List, [], ◌++◌, length, take, codes}
 use Rattle.std.specs.List.{AllByRecursion}
 use Rattle.std.specs.Str.Lines.{lines}
+use Rattle.b67_model.specs.declared.limits.TheConstants.{LEAST_STACK}
 
 -- a line that begins as a card of the quantum or of a switch, or an empty one
 pub data IsTurnLine (line : List ℕ) : Type 0 where
@@ -22,7 +23,7 @@ pub record DifferInTurnLines (bytes other : List ℕ) : Type 0 where
 
 -- beside the 160 words of the operating system the core has no room for two stacks, each of 64 words at least
 abbrev pub HoldsOneStack : ℕ → Type 0
-HoldsOneStack core = core < 160 + 2 * 64
+HoldsOneStack core = core < 160 + 2 * LEAST_STACK
 
 -- each line is one of task 1 of job 1
 abbrev pub AreOfOneTask : List ℕ → Type 0

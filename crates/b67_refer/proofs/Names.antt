@@ -26,6 +26,7 @@ use Rattle.b67_refer.proofs.Unders.{seat_low}
 use Rattle.b67_refer.proofs.Marks.{stack_known, view_low}
 use Rattle.b67_refer.proofs.Chains.{level_is}
 use Rattle.b67_refer.proofs.SeenFrom.{eye, seen, either}
+use Rattle.b67_model.specs.declared.limits.TheConstants.{MOST_LINKS}
 
 module _ (core : List Tagged) (r : Regs) (a : LiveContext core r) where
   -- the fields of a reference's spot fit its word
@@ -164,9 +165,9 @@ module _ (core : List Tagged) (r : Regs) (a : LiveContext core r) where
       pub word : Word
       pub stands : StandsFor a at owner w word
       pub reference : IsReference word
-      pub same : chase_on (here a.member a.runner q) 1024 (Leads first) ≡ chase_on (here a.member a.runner q) links (Leads word)
+      pub same : chase_on (here a.member a.runner q) MOST_LINKS (Leads first) ≡ chase_on (here a.member a.runner q) links (Leads word)
 
-    pub turn_on : (n at : ℕ) (first word : Word) (v : Tagged) → chase_on (here a.member a.runner q) 1024 (Leads first) ≡ chase_on (here a.member a.runner q) n (Leads word) → (t : Turn at word) → 0 < n
+    pub turn_on : (n at : ℕ) (first word : Word) (v : Tagged) → chase_on (here a.member a.runner q) MOST_LINKS (Leads first) ≡ chase_on (here a.member a.runner q) n (Leads word) → (t : Turn at word) → 0 < n
         → LinkMeets a q (Ok None) (link_at (here a.member a.runner q) t.frame t.offset t.word) → slice_get core at ≡ Some v → Rest (n - 1) first v
     turn_on zero at first word v same t some h there = absurd (omega (arith, some))
     turn_on (suc n) at first word v same t some h there =
@@ -183,7 +184,7 @@ module _ (core : List Tagged) (r : Regs) (a : LiveContext core r) where
           same = same ∙ ap (chase_on (here a.member a.runner q) n) (t.is ∙ k.1) ∙ ap (λ i. chase_on (here a.member a.runner q) i (Leads t.word)) m;
         }
 
-    pub turn_last : (n : ℕ) (first : Word) (w : Tagged) → n ≡ 0 → Rest n first w → EndMeets a q (Err Loop) (chase_on (here a.member a.runner q) 1024 (Leads first))
+    pub turn_last : (n : ℕ) (first : Word) (w : Tagged) → n ≡ 0 → Rest n first w → EndMeets a q (Err Loop) (chase_on (here a.member a.runner q) MOST_LINKS (Leads first))
     turn_last n first w none l =
         let P : Answer Rattle.b67_model.specs.Chase.End → Type 0 = λ y. EndMeets a q (Err Loop) y in
         subst P (sym (l.same ∙ ap (λ i. chase_on (here a.member a.runner q) i (Leads l.word)) none)) refl

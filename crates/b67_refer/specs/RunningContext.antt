@@ -8,11 +8,12 @@ use Rattle.b67_model.specs.Common.{Task, Job, SessionJob, Session, IsSegment, Se
 use Rattle.b67_stack.specs.MachineView.{PagedObject}
 use Rattle.b67_stack.specs.Represents.{Storage}
 use Rattle.b67_layout.specs.Common.{Placement, IsRunning, SessionHoldsBut, ShowsDisplay}
+use Rattle.b67_model.specs.declared.limits.TheConstants.{MOST_JOBS}
 
 -- what references rest on in a job's order
 pub record MemberInOrder (m : SessionJob) : Type 0 where
   pub from_one : 1 ≤ m.constants.number
-  pub few : m.constants.number ≤ 8
+  pub few : m.constants.number ≤ MOST_JOBS
   pub constants : SettingInOrder m.constants
   pub tasks : TasksInOrder (IsSegment m.constants) m.constants m.progress.job
 

@@ -16,6 +16,7 @@ use crate::cells::{cell_at, cell_of};
 use crate::couples::couple_at;
 use b67_core::Core;
 use b67_ctl::{AreaHead, DataDesc, IntrinsicPcw, Irw, Regs, Sirw};
+use b67_model::MOST_LINKS;
 use b67_word::{Fault, Word};
 
 /// Where a reference ends: at the cell of an operand, at an element of an array, at an array, at the cell of a
@@ -127,7 +128,7 @@ fn chase_reference(core: &Core, regs: &Regs, display: &[u32; 32], w: Word) -> Re
         → IsReference v → FromEither (λ (b : LiveContext core.now regs.now). EndMeets b q result (chase_of (here a.member a.runner q) v)) a }
 {
     let mut w = w;
-    for _i in 0..1024u32 {
+    for _i in 0..MOST_LINKS {
         let at = match named_cell(core, regs, display, w) {
             Ok(at) => at,
             Err(fault) => return Err(fault),

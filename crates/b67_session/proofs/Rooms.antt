@@ -18,10 +18,11 @@ use Rattle.b67_task_tables.specs.Tables.{task_row, job_row, switch_of, TasksShow
 use Rattle.b67_task_tables.specs.RowOf.{IsRowOf}
 use Rattle.b67_task_switch.specs.declared.counting.Chosen.{Chosen}
 use Rattle.b67_task_switch.specs.Counted.{CountsHaveRoom}
+use Rattle.b67_model.specs.declared.limits.TheConstants.{MOST_LIMIT, MOST_MADE}
 
 -- the tables show some session with a job of these counts
 pub room_for : (plan : Placement) (shown : Session) (y : SessionJob) (tasks : Tasks) (c : Chosen) → NumberedFrom 1 shown.jobs → TasksShow plan shown tasks → Has shown.jobs y → y.constants.number ≡ c.job
-    → y.progress.made ≤ 100000000 → shown.made ≤ 800000000 → c.turn + 1 < 2 ^ 32 → CountsHaveRoom tasks c
+    → y.progress.made ≤ MOST_LIMIT → shown.made ≤ MOST_MADE → c.turn + 1 < 2 ^ 32 → CountsHaveRoom tasks c
 room_for plan shown y tasks c numbered shows among number few all turn =
     let b = job_at plan 1 shown.jobs (map job_row tasks.jobs) y numbered shows.jobs among in
     let (j, at, same) = mapped_at job_row tasks.jobs (y.constants.number - 1) b.row b.at in

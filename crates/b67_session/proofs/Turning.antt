@@ -61,6 +61,7 @@ use Rattle.b67_session.proofs.Halved.{kept}
 use Rattle.b67_session.proofs.Lively.{Stays}
 use Rattle.b67_session.proofs.Made.{half, half_ordered, half_lines, open_job}
 use Rattle.b67_session.proofs.Next.{in_session, found, task_found, next_fits}
+use Rattle.b67_model.specs.declared.limits.TheConstants.{MOST_LIMIT}
 
 abbrev number : Task → ℕ
 number t = t.number
@@ -460,8 +461,8 @@ turn_fits plan s tasks room made o shows w few =
     let number : m.constants.number ≡ tasks.last_job = named ∙ sym shows.counts.last_job in
     let b = job_at plan 1 s.jobs (map job_row tasks.jobs) m o.numbered shows.jobs inm in
     let (r, at, same) = mapped_at job_row tasks.jobs (m.constants.number - 1) b.row b.at in
-    let limit : m.constants.limit ≤ 100000000 = (all_in (λ (y : SessionJob). JobInOrder (IsSegment y.constants) y.constants y.progress) s.jobs m o.jobs inm).unchanging.limit in
-    let low : made < 100000000 = omega (arith, few, w.lasts.below, limit) in
+    let limit : m.constants.limit ≤ MOST_LIMIT = (all_in (λ (y : SessionJob). JobInOrder (IsSegment y.constants) y.constants y.progress) s.jobs m o.jobs inm).unchanging.limit in
+    let low : made < MOST_LIMIT = omega (arith, few, w.lasts.below, limit) in
     record {
       job = r;
       from_one = omega (arith, number, numbered_low 1 s.jobs m o.numbered inm);

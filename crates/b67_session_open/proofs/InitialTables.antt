@@ -14,6 +14,7 @@ use Rattle.b67_session_open.proofs.Members.{member, has_member}
 use Rattle.b67_session_open.proofs.Objects.{dictionary_is}
 use Rattle.b67_session_open.proofs.Slots.{slot_number}
 use Rattle.b67_session_open.proofs.Plans.{first_task, for_tasks, count_is}
+use Rattle.b67_model.specs.declared.limits.TheConstants.{MOST_JOBS}
 
 for_rows : (P : TaskRow → Type 0) (n : ℕ) (programs : List Program) → ((k s : ℕ) (p : Program) → slice_get programs k ≡ Some p → s ≡ n + k → P (first_row s)) → (row : TaskRow) → Has (first_rows n programs) row → P row
 for_rows P n [] h row i = absurd i
@@ -55,7 +56,7 @@ jobs_show plan stack n at (o ∷ more) h = (
   jobs_show plan stack (n + 1) (at + dictionary_words o.program) more (λ k j q f g. omega (arith, h (suc k) j q f (omega (arith, g)))),
 )
 
-module _ (stack quantum : ℕ) (switches : List Switch) (openings : List Opening) (few : length openings ≤ 8) where
+module _ (stack quantum : ℕ) (switches : List Switch) (openings : List Opening) (few : length openings ≤ MOST_JOBS) where
   shows : (k : ℕ) (o : Opening) → slice_get openings k ≡ Some o → TaskShows (opening_plan stack (programs_of openings)) (member stack (k + 1) o) first_task (first_row k)
   shows k o e = record {
     job = refl;

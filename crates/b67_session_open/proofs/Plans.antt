@@ -13,6 +13,7 @@ use Rattle.b67_layout.specs.Common.{Slotted, Placement, RowsFit, DictionariesFol
 use Rattle.b67_session_open.specs.Opened.{dictionary_words, dictionaries, opening_plan, programs_of}
 use Rattle.b67_session_open.proofs.Members.{member, for_members, has_member, slotted, for_slots, has_slot}
 use Rattle.b67_session_open.proofs.Objects.{dictionary_is, home_is}
+use Rattle.b67_model.specs.declared.limits.TheConstants.{MOST_JOBS}
 
 abbrev pub first_task : Task
 first_task = record { number = 1; parents = []; critical = 0; frames = record { identity = 2; standing = Entered 2 1 None; cells = [] } ∷ []; segment = 1; place = record { word = 0; syllable = 0 }; condition = Ready }
@@ -63,7 +64,7 @@ follow plan stack n at (o ∷ more) h e = (
 pub count_is : (openings : List Opening) → length (programs_of openings) ≡ length openings
 count_is openings = length-map openings (λ (o : Opening). o.program)
 
-pub plan_fits : (stack quantum : ℕ) (switches : List Switch) (openings : List Opening) → length openings ≤ 8 → PlanFits (opening_plan stack (programs_of openings)) (opening stack quantum switches openings)
+pub plan_fits : (stack quantum : ℕ) (switches : List Switch) (openings : List Opening) → length openings ≤ MOST_JOBS → PlanFits (opening_plan stack (programs_of openings)) (opening stack quantum switches openings)
 plan_fits stack quantum switches openings few = record {
   rows = rows_fit stack openings;
   peak = count_is openings ∙ sym (jobs_count 1 stack openings);

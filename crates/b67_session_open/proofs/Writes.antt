@@ -4,6 +4,7 @@ use Rattle.std.specs.List.{slice_get, slice_set}
 use Rattle.b67_core.proofs.Writes.{slice_get-set_same, slice_get-set_other}
 use Rattle.b67_word.specs.Tagged.{Tagged, word}
 use Rattle.b67_session_open.specs.Words.{first_vector_word, FirstTaskLies}
+use Rattle.b67_model.specs.declared.limits.TheConstants.{MOST_JOBS}
 
 -- a word is written
 pub record Puts (old new : List Tagged) (at : ℕ) (w : Tagged) : Type 0 where
@@ -16,7 +17,7 @@ at_put old new at i w v p e f = ap (slice_get new) e ∙ (ap (λ c. slice_get c 
 off_put : (old new : List Tagged) (at i : ℕ) (w : Tagged) → Puts old new at w → i ≢ at → slice_get new i ≡ slice_get old i
 off_put old new at i w p e = ap (λ c. slice_get c i) p.is ∙ slice_get-set_other old at i w e
 
-module _ (a b c d e : List Tagged) (at k j : ℕ) (v t m z : Tagged) (first : Puts a b j v) (second : Puts b c at t) (third : Puts c d (at + 1) m) (fourth : Puts d e (at + 2) z) (place : j ≡ 32 + k) (above : 160 ≤ at) (few : k < 8) where
+module _ (a b c d e : List Tagged) (at k j : ℕ) (v t m z : Tagged) (first : Puts a b j v) (second : Puts b c at t) (third : Puts c d (at + 1) m) (fourth : Puts d e (at + 2) z) (place : j ≡ 32 + k) (above : 160 ≤ at) (few : k < MOST_JOBS) where
   pub task_lies : v ≡ first_vector_word (k + 1) → t ≡ word 3 (2 * 2 ^ 20 + 2 * 2 ^ 14 + 1) → m ≡ word 3 (2 ^ 47 + 2 ^ 46 + (127 + (k + 1)) * 2 ^ 36 + 2 * 2 ^ 14) → z ≡ word 3 0 → FirstTaskLies e at k
   task_lies vector top mark back = record {
     slot = record {

@@ -11,6 +11,7 @@ use Rattle.b67_model.specs.Common.{IsAdmitted, Program, Session, SwitchesRise}
 use Rattle.b67_law_order.specs.Opening.{Opening, opening}
 use Rattle.b67_task_tables.specs.Tables.{switch_of, JobGiven, Given}
 pub use Rattle.b67_task_tables.specs.Tables.{IsCountable, job_given, rows_given, given_of}
+use Rattle.b67_model.specs.declared.limits.TheConstants.{LEAST_STACK, MOST_JOBS, MOST_LIMIT}
 
 -- a job with its program
 abbrev pub opening_of : Job → Program → Opening
@@ -30,14 +31,14 @@ pub record JobInRange (j : Job) : Type 0 where
   pub name_short : length j.name ≤ 16
   pub name_ascii : IsTrue (list_all is_ascii j.name)
   pub limit_low : 0 < j.limit
-  pub limit_high : j.limit ≤ 100000000
+  pub limit_high : j.limit ≤ MOST_LIMIT
   pub numbers : AllByRecursion (λ (v : ℤ). nat_abs v < 2 ^ 39) j.numbers
 
 pub record DeckInRange (d : Deck) : Type 0 where
-  pub stack_low : 64 ≤ d.stack
+  pub stack_low : LEAST_STACK ≤ d.stack
   pub stack_high : d.stack < 2 ^ 14
   pub rise : SwitchesRise (map switch_of d.switches)
-  pub few : length d.jobs ≤ 8
+  pub few : length d.jobs ≤ MOST_JOBS
   pub each : AllByRecursion JobInRange d.jobs
 
 -- what a deck gives its jobs, and its machine

@@ -9,6 +9,7 @@ use Rattle.b67_layout.specs.Session.{RepresentsMcp}
 use Rattle.b67_load.specs.StoredObjects.{dictionary_mark}
 use Rattle.b67_load.specs.Writing.{Parts, Writes}
 use Rattle.b67_session_open.specs.Opened.{dictionary_words, objects_from}
+use Rattle.b67_model.specs.declared.limits.TheConstants.{LEAST_STACK, MOST_JOBS}
 
 -- the slot of a first task that hasn't run: the top of its stack, the mark of its outer block on the job's dictionary,
 -- and a return to nowhere
@@ -47,9 +48,9 @@ pub record InstalledAll {D : Type 0} (tell : D → Option (List (List ℕ))) (pr
 
 -- at most eight slots of 64 words or more, which fit core from an address on
 pub record SlotsFit (core : List Tagged) (at size jobs : ℕ) : Type 0 where
-  pub few : jobs ≤ 8
+  pub few : jobs ≤ MOST_JOBS
   pub above : FIRST_DICTIONARY ≤ at
-  pub long : 64 ≤ size
+  pub long : LEAST_STACK ≤ size
   pub inside : at + jobs * size ≤ length core
 
 -- core of zeros, in which that many words of dictionaries fit and the slots after them

@@ -13,6 +13,7 @@ ghost use Rattle.b67_model.specs.Sectors.{sectors};
 ghost use Rattle.b67_law_order.specs.Opening.{Opening, opened_from};
 ghost use Rattle.b67_load.specs.Objects.{sectors_of_program};
 ghost use Rattle.b67_session_open.specs.Opened.{dictionaries, programs_of};
+ghost use Rattle.b67_model.specs.declared.limits.TheConstants.{MOST_PARTS};
 
 use crate::dictionaries::dictionary_words;
 use b67_backing::sectors_needed;
@@ -39,7 +40,7 @@ pub fn opening_need(stack: u16, programs: &[Admitted]) -> u32
 /// The sectors of segments.
 fn sectors_of_segments(segments: &[Segment]) -> u32
     requires within { AllByRecursion IsFileSegment segments.now }
-    requires few { length segments.now ≤ 255 }
+    requires few { length segments.now ≤ MOST_PARTS }
     ensures value { result ≡ total (λ (s : ModelSegment). sectors_for (length s.code)) (map segment_of segments.now) }
     ensures few { result ≤ length segments.now * 2185 }
 {
@@ -53,7 +54,7 @@ fn sectors_of_segments(segments: &[Segment]) -> u32
 /// The sectors of data rows.
 fn sectors_of_rows(rows: &[Words]) -> u32
     requires within { AllByRecursion IsRow rows.now }
-    requires few { length rows.now ≤ 255 }
+    requires few { length rows.now ≤ MOST_PARTS }
     ensures value { result ≡ total (λ (r : List ℕ). sectors_for (length r)) (map contents rows.now) }
     ensures few { result ≤ length rows.now * 2185 }
 {

@@ -5,6 +5,7 @@ ghost use Rattle.b67_codefile.specs.Meaning.{program_of};
 ghost use Rattle.b67_layout_storage.specs.Machine.{DeviceAfterCalls};
 ghost use Rattle.b67_session_open.specs.Decks.{DeckInRange};
 ghost use Rattle.b67_session_open.specs.Opens.{IsOpened};
+ghost use Rattle.b67_model.specs.declared.limits.TheConstants.{LEAST_CORE};
 
 use crate::fault::OpenFault;
 use crate::needs::{opening_need, opening_sectors};
@@ -32,7 +33,7 @@ pub fn open<B: Backing>(
 ) -> Result<Machine, OpenFault>
     requires range { DeckInRange deck.now }
     requires each { length programs.now ≡ length deck.now.jobs }
-    requires core_low { 256 ≤ core_words }
+    requires core_low { LEAST_CORE ≤ core_words }
     requires core_high { core_words < 2 ^ 20 }
     ensures opens { IsOpened B.holds B.size B.faults deck.now (map program_of programs.now) core_words backing.old backing.new result }
     ensures device { DeviceAfterCalls B.holds B.size B.calls B.faults backing.old backing.new }

@@ -7,6 +7,7 @@ ghost use Rattle.b67_session_open.specs.Opened.{opening_plan};
 ghost use Rattle.b67_session_open.specs.Tables.{first_row as first_row_of, first_rows as first_rows_of, opening_row as opening_row_of, opening_rows as opening_rows_of};
 ghost use Rattle.b67_task_tables.specs.Tables.{task_row, job_row, TasksShow};
 ghost use Rattle.b67_session_open.specs.Decks.{opening_of, openings_of, session_of, given_to, jobs_given, deck_given, job_given, rows_given, given_of, JobInRange, DeckInRange, IsLoaded, IsCountable};
+ghost use Rattle.b67_model.specs.declared.limits.TheConstants.{MOST_JOBS};
 
 use crate::copies::{copied_name, copied_numbers, copied_switches};
 use crate::dictionaries::dictionary_words;
@@ -49,7 +50,7 @@ fn opening_row(
 /// The rows of jobs that haven't begun, each with its program.
 fn opening_rows(alloc: Global, jobs: &[Job], programs: &[Admitted]) -> Result<JobRows, AllocError>
     requires range { AllByRecursion JobInRange jobs.now }
-    requires few { length jobs.now ≤ 8 }
+    requires few { length jobs.now ≤ MOST_JOBS }
     requires each { length programs.now ≡ length jobs.now }
     ensures rows { IfOk result (λ rows. map job_row rows ≡ opening_rows_of FIRST_DICTIONARY (openings_of jobs.now (map program_of programs.now))) }
     ensures given { IfOk result (λ rows. rows_given rows ≡ jobs_given jobs.now) }

@@ -1,9 +1,10 @@
 use Rattle.b67_job.proofs.Closings.{halted_unprinted}
 use Rattle.b67_job.proofs.runs.run_session.Goals as goal
+use Rattle.b67_model.specs.declared.limits.TheConstants.{MOST_MADE}
 
 pub finish-requires : goal.finish-requires
 finish-requires g c =
-    halted_unprinted g.B.Backing.holds g.K.Sink.taken (g.B.Backing.size c.args.backing.now) 800000000 c.slice-answered.result c.args.machine.now c.slice-answered.new.machine
+    halted_unprinted g.B.Backing.holds g.K.Sink.taken (g.B.Backing.size c.args.backing.now) MOST_MADE c.slice-answered.result c.args.machine.now c.slice-answered.new.machine
     c.args.backing.now c.slice-answered.new.backing c.args.printer.now c.slice-answered.new.paper c.requires.open c.requires.unprinted
     c.slice-answered.ensures.row c.slice-answered.ensures.resumed c.slice-answered.ensures.ended
 

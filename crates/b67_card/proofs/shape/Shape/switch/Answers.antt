@@ -11,8 +11,8 @@ returns-then-not-is_above_last c = λ before shows.
     let low = above_is c.as_slice.result.now before c.args.switch.count c.is_above_last.result (c.as_slice.ensures ∙ shows.switches) c.is_above_last.ensures in
     too_low before _ _ _ front (low ∙ c.if-not-is_above_last.true)
 
-pub returns-then-as_slice-ge100000 : goal.returns-then-as_slice-ge100000
-returns-then-as_slice-ge100000 c = λ before shows.
+pub returns-then-as_slice : goal.returns-then-as_slice
+returns-then-as_slice c = λ before shows.
     let front : deck.stand before ≡ Front = search rules in
     let high = above_is c.as_slice.result.now before c.args.switch.count c.is_above_last.result (c.as_slice.ensures ∙ shows.switches) c.is_above_last.ensures in
     let many = count_is c.as_slice-2.result.now before (c.as_slice-2.ensures ∙ shows.switches) in
