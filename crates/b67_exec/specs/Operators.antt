@@ -3,7 +3,7 @@ use Rattle.std.specs.Prelude.{◌≡◌, ℕ, ◌+◌, ◌^◌, ◌<◌, ◌≤�
 use Rattle.b67_model.specs.declared.operators.Op.{Op}
 use Rattle.b67_model.specs.declared.operators.Op.TheVariants.{Valc, Namc, Lt8, Lt16, Lt48, Brun, Brtr, Brfl, Plain}
 use Rattle.b67_model.specs.declared.operators.Code.{Code}
-use Rattle.b67_model.specs.declared.operators.Code.TheVariants.{Add, Subt, Less, Greq, Grtr, Lseq, Equl, Neql, Zero, One, Push, Noop, Dlet, Exch, Dupl, Mult, Idiv, Rdiv, Chsn, Land, Lor, Leqv, Lnot, Same, Nvld, Indx, Nxlv, Mkst, Stff, Load, Stod, Ston}
+use Rattle.b67_model.specs.declared.operators.Code.TheVariants as codes
 use Rattle.b67_model.specs.Common.{Reading, step, Task, SessionJob, Session}
 use Rattle.b67_stack.specs.declared.Cpu.{Cpu}
 use Rattle.b67_stack.specs.declared.What.TheVariants as what
@@ -25,50 +25,50 @@ ParametersHaveBits _ = Unit {0}
 
 -- operators without parameters that are near: sums, differences, comparisons, and those that push, move or take off cells
 abbrev pub goes_far : Code → Bool
-goes_far Add = false
-goes_far Subt = false
-goes_far Less = false
-goes_far Greq = false
-goes_far Grtr = false
-goes_far Lseq = false
-goes_far Equl = false
-goes_far Neql = false
-goes_far Zero = false
-goes_far One = false
-goes_far Push = false
-goes_far Noop = false
-goes_far Dlet = false
-goes_far Exch = false
-goes_far Dupl = false
+goes_far codes.Add = false
+goes_far codes.Subt = false
+goes_far codes.Less = false
+goes_far codes.Greq = false
+goes_far codes.Grtr = false
+goes_far codes.Lseq = false
+goes_far codes.Equl = false
+goes_far codes.Neql = false
+goes_far codes.Zero = false
+goes_far codes.One = false
+goes_far codes.Push = false
+goes_far codes.Noop = false
+goes_far codes.Dlet = false
+goes_far codes.Exch = false
+goes_far codes.Dupl = false
 goes_far _ = true
 
 -- those that are far but on the top cells alone, or no operator
 abbrev pub is_on_top : Code → Bool
-is_on_top Mult = true
-is_on_top Idiv = true
-is_on_top Rdiv = true
-is_on_top Chsn = true
-is_on_top Land = true
-is_on_top Lor = true
-is_on_top Leqv = true
-is_on_top Lnot = true
-is_on_top Same = true
-is_on_top Nvld = true
+is_on_top codes.Mult = true
+is_on_top codes.Idiv = true
+is_on_top codes.Rdiv = true
+is_on_top codes.Chsn = true
+is_on_top codes.Land = true
+is_on_top codes.Lor = true
+is_on_top codes.Leqv = true
+is_on_top codes.Lnot = true
+is_on_top codes.Same = true
+is_on_top codes.Nvld = true
 is_on_top _ = false
 
 -- other far ones behind which the task goes on
 abbrev pub goes_behind : Code → Bool
-goes_behind Indx = true
-goes_behind Nxlv = true
-goes_behind Mkst = true
-goes_behind Stff = true
+goes_behind codes.Indx = true
+goes_behind codes.Nxlv = true
+goes_behind codes.Mkst = true
+goes_behind codes.Stff = true
 goes_behind _ = false
 
 -- those that enter a procedure where a reference ends at one, and else go on behind them
 abbrev pub may_enter : Code → Bool
-may_enter Load = true
-may_enter Stod = true
-may_enter Ston = true
+may_enter codes.Load = true
+may_enter codes.Stod = true
+may_enter codes.Ston = true
 may_enter _ = false
 
 -- the others that are near push a literal or a reference, or branch

@@ -19,7 +19,7 @@ use Rattle.std.proofs.lemmas.List.{reverse-reverse}
 use Rattle.b67_model.specs.declared.operators.Op.{Op}
 use Rattle.b67_model.specs.declared.operators.Op.TheVariants.{Valc, Namc, Lt8, Lt16, Lt48, Mpcw, Brun, Brtr, Brfl, Bset, Brst, Isol, Insr, Plain}
 use Rattle.b67_model.specs.declared.operators.Code.{Code}
-use Rattle.b67_model.specs.declared.operators.Code.TheVariants.{Add, Subt, Mult, Idiv, Rdiv, Less, Greq, Grtr, Lseq, Equl, Neql, Chsn, Land, Lor, Leqv, Lnot, Same, Exit, Indx, Retn, Entr, Nxlv, Mkst, Stff, Zero, One, Push, Dlet, Exch, Dupl, Stod, Ston, Load, Noop, Nvld}
+use Rattle.b67_model.specs.declared.operators.Code.TheVariants as codes
 use Rattle.std.specs.Prelude.{int_div, int_rem}
 use Rattle.b67_law_order.specs.Parameters.{ParametersFit}
 use Rattle.b67_law_order.specs.Keeping.{AfterFits}
@@ -199,41 +199,41 @@ module _ (P : Starts) (h : OperatorContext) (start : Run P (branches h h.at)) (n
   still_good run = cells_good P h (cells_of h) None run (own_fit P h run) (own_copies P h run) (λ n. refl)
 
   plain_good : (code : Code) → AfterFits P h (Plain code) → Good P h (plain code h)
-  plain_good Add after = two_good Add (on_numbers (λ x y. Ok (x +ℤ y))) (Bounds.numbers_fit (λ x y. Ok (x +ℤ y))) after refl
-  plain_good Subt after = two_good Subt (on_numbers (λ x y. Ok (x +ℤ neg_ℤ y))) (Bounds.numbers_fit (λ x y. Ok (x +ℤ neg_ℤ y))) after refl
-  plain_good Mult after = two_good Mult (on_numbers (λ x y. Ok (x *ℤ y))) (Bounds.numbers_fit (λ x y. Ok (x *ℤ y))) after refl
-  plain_good Idiv after = two_good Idiv (on_numbers (divided int_div)) (Bounds.numbers_fit (divided int_div)) after refl
-  plain_good Rdiv after = two_good Rdiv (on_numbers (divided int_rem)) (Bounds.numbers_fit (divided int_rem)) after refl
-  plain_good Less after = two_good Less _ (Bounds.compared_fit _) after refl
-  plain_good Greq after = two_good Greq _ (Bounds.compared_fit _) after refl
-  plain_good Grtr after = two_good Grtr _ (Bounds.compared_fit _) after refl
-  plain_good Lseq after = two_good Lseq _ (Bounds.compared_fit _) after refl
-  plain_good Equl after = two_good Equl _ (Bounds.compared_fit _) after refl
-  plain_good Neql after = two_good Neql _ (Bounds.compared_fit _) after refl
-  plain_good Chsn after = on_cells_good P h _ (on_good Chsn after refl) (one_keeps P h chsn Bounds.chsn_fits)
-  plain_good Land after = two_good Land _ Bounds.land_fits after refl
-  plain_good Lor after = two_good Lor _ Bounds.lor_fits after refl
-  plain_good Leqv after = two_good Leqv _ Bounds.leqv_fits after refl
-  plain_good Lnot after = on_cells_good P h _ (on_good Lnot after refl) (one_keeps P h lnot Bounds.lnot_fits)
-  plain_good Same after = two_good Same _ Bounds.same_fits after refl
-  plain_good Exit after = exit_good P (branches h h.at) start
-  plain_good Indx after = indx_good P h (cells_of h) (on_good Indx after refl) refl
-  plain_good Retn after = retn_good P (branches h h.at) start
-  plain_good Entr after = entr_good P h (on_good Entr after refl) next (top_of h).standing refl
-  plain_good Nxlv after = nxlv_good P h (cells_of h) (on_good Nxlv after refl) refl
-  plain_good Mkst after = mkst_good P h (on_good Mkst after refl)
-  plain_good Stff after = on_cells_good P h (stff h) (on_good Stff after refl) (stff_keeps P h (on_good Stff after refl))
-  plain_good Zero after = push_operand 0 (omega arith) (on_good Zero after refl)
-  plain_good One after = push_operand 1 (omega arith) (on_good One after refl)
-  plain_good Push after = still_good (on_good Push after refl)
-  plain_good Dlet after = on_cells_good P h dlet (on_good Dlet after refl) (dlet_keeps P h)
-  plain_good Exch after = on_cells_good P h exch (on_good Exch after refl) (exch_keeps P h)
-  plain_good Dupl after = on_cells_good P h dupl (on_good Dupl after refl) (dupl_keeps P h)
-  plain_good Stod after = store_good P false h (cells_of h) (on_good Stod after refl) start.place refl
-  plain_good Ston after = store_good P true h (cells_of h) (on_good Ston after refl) start.place refl
-  plain_good Load after = load_good P h (cells_of h) (on_good Load after refl) start.place refl
-  plain_good Noop after = still_good (on_good Noop after refl)
-  plain_good Nvld after = post_err (Keeps P h) _
+  plain_good codes.Add after = two_good codes.Add (on_numbers (λ x y. Ok (x +ℤ y))) (Bounds.numbers_fit (λ x y. Ok (x +ℤ y))) after refl
+  plain_good codes.Subt after = two_good codes.Subt (on_numbers (λ x y. Ok (x +ℤ neg_ℤ y))) (Bounds.numbers_fit (λ x y. Ok (x +ℤ neg_ℤ y))) after refl
+  plain_good codes.Mult after = two_good codes.Mult (on_numbers (λ x y. Ok (x *ℤ y))) (Bounds.numbers_fit (λ x y. Ok (x *ℤ y))) after refl
+  plain_good codes.Idiv after = two_good codes.Idiv (on_numbers (divided int_div)) (Bounds.numbers_fit (divided int_div)) after refl
+  plain_good codes.Rdiv after = two_good codes.Rdiv (on_numbers (divided int_rem)) (Bounds.numbers_fit (divided int_rem)) after refl
+  plain_good codes.Less after = two_good codes.Less _ (Bounds.compared_fit _) after refl
+  plain_good codes.Greq after = two_good codes.Greq _ (Bounds.compared_fit _) after refl
+  plain_good codes.Grtr after = two_good codes.Grtr _ (Bounds.compared_fit _) after refl
+  plain_good codes.Lseq after = two_good codes.Lseq _ (Bounds.compared_fit _) after refl
+  plain_good codes.Equl after = two_good codes.Equl _ (Bounds.compared_fit _) after refl
+  plain_good codes.Neql after = two_good codes.Neql _ (Bounds.compared_fit _) after refl
+  plain_good codes.Chsn after = on_cells_good P h _ (on_good codes.Chsn after refl) (one_keeps P h chsn Bounds.chsn_fits)
+  plain_good codes.Land after = two_good codes.Land _ Bounds.land_fits after refl
+  plain_good codes.Lor after = two_good codes.Lor _ Bounds.lor_fits after refl
+  plain_good codes.Leqv after = two_good codes.Leqv _ Bounds.leqv_fits after refl
+  plain_good codes.Lnot after = on_cells_good P h _ (on_good codes.Lnot after refl) (one_keeps P h lnot Bounds.lnot_fits)
+  plain_good codes.Same after = two_good codes.Same _ Bounds.same_fits after refl
+  plain_good codes.Exit after = exit_good P (branches h h.at) start
+  plain_good codes.Indx after = indx_good P h (cells_of h) (on_good codes.Indx after refl) refl
+  plain_good codes.Retn after = retn_good P (branches h h.at) start
+  plain_good codes.Entr after = entr_good P h (on_good codes.Entr after refl) next (top_of h).standing refl
+  plain_good codes.Nxlv after = nxlv_good P h (cells_of h) (on_good codes.Nxlv after refl) refl
+  plain_good codes.Mkst after = mkst_good P h (on_good codes.Mkst after refl)
+  plain_good codes.Stff after = on_cells_good P h (stff h) (on_good codes.Stff after refl) (stff_keeps P h (on_good codes.Stff after refl))
+  plain_good codes.Zero after = push_operand 0 (omega arith) (on_good codes.Zero after refl)
+  plain_good codes.One after = push_operand 1 (omega arith) (on_good codes.One after refl)
+  plain_good codes.Push after = still_good (on_good codes.Push after refl)
+  plain_good codes.Dlet after = on_cells_good P h dlet (on_good codes.Dlet after refl) (dlet_keeps P h)
+  plain_good codes.Exch after = on_cells_good P h exch (on_good codes.Exch after refl) (exch_keeps P h)
+  plain_good codes.Dupl after = on_cells_good P h dupl (on_good codes.Dupl after refl) (dupl_keeps P h)
+  plain_good codes.Stod after = store_good P false h (cells_of h) (on_good codes.Stod after refl) start.place refl
+  plain_good codes.Ston after = store_good P true h (cells_of h) (on_good codes.Ston after refl) start.place refl
+  plain_good codes.Load after = load_good P h (cells_of h) (on_good codes.Load after refl) start.place refl
+  plain_good codes.Noop after = still_good (on_good codes.Noop after refl)
+  plain_good codes.Nvld after = post_err (Keeps P h) _
 
   -- the operators but plain ones go on after themselves, or by a branch
   on : P h.task.segment (level_of_frame (running h.task.frames)) h.task.place → Run P h

@@ -8,7 +8,7 @@ use Rattle.b67_word.specs.declared.faults.Fault.{Fault}
 use Rattle.b67_word.specs.declared.faults.Fault.TheVariants.{InvalidOperator, InvalidOperand, InvalidAddress, InvalidIndex, Loop, Exponent, IntegerOverflow, DivideByZero, MemoryProtect, MarkPending, Uplevel, CriticalBlock, StackUnderflow, StackOverflow}
 use Rattle.b67_model.specs.declared.operators.Op.TheVariants.{Valc, Namc, Lt8, Lt16, Lt48, Mpcw, Brun, Brtr, Brfl, Bset, Brst, Isol, Insr, Plain}
 use Rattle.b67_model.specs.declared.operators.Code.{Code}
-use Rattle.b67_model.specs.declared.operators.Code.TheVariants.{Add, Subt, Mult, Idiv, Rdiv, Less, Greq, Grtr, Lseq, Equl, Neql, Chsn, Land, Lor, Leqv, Lnot, Same, Exit, Indx, Retn, Entr, Nxlv, Mkst, Stff, Zero, One, Push, Dlet, Exch, Dupl, Stod, Ston, Load, Noop, Nvld}
+use Rattle.b67_model.specs.declared.operators.Code.TheVariants as codes
 use Rattle.b67_model.specs.Common.{Answer, ◌>>=◌, ◌>>◌, needs, Word, Operand, Name, Ref, Row, Element, Original, Proc, Intrinsic, operand, number, to_operand, Standing, Marked, Entered, Return, Task, Job, OperatorContext, place_of, cell, End, AtCell, AtElement, AtArray, AtProc, AtIntrinsic, Link, Stops, Leads, element_end, link_at, link_in, link_from, link, chase_on, chase, follow, follow_reference, array, array_at, array_of, index_below, indexed, in_order, Binary, on_numbers, compared, divided, add, subt, mult, idiv, rdiv, less, greq, grtr, lseq, equl, neql, land, lor, leqv, same, chsn, lnot, bset, brst, isol, insr, Line, Done, top_of, cells_of, result, with_cells, leaves_cells, pushes, accident, evaluates, enters, leaves, exit, returnable, returned, retn_word, answers, array_length, arraydec, print, row_copy, numbers_of, printrow, read, starts, process, awaits, await, status, waits_at, wait, causes, cause, deallocate, resize, intrinsic, CellRow, on_one, on_two, movable, dlet, exch, dupl, on_cells, branches, branch_if, valc, stff_word, stff, load_at, load, indx, nxlv, store_at, store, entr_at, entr_with, entr, is_proc, proc_of, plain}
 use Rattle.b67_model.specs.Words as Words
 use Rattle.b67_model.specs.Words.{whole}
@@ -415,49 +415,49 @@ one_at h f each = on_cells_o (on_one f) h (one_o f each (cells_of h))
 two_at : (h : OperatorContext) (f : Binary) → ((x y : ℕ) → Other (f x y)) → Other (on_cells (on_two f) h)
 two_at h f each = on_cells_o (on_two f) h (two_o f each (cells_of h))
 
-plain_o : (code : Code) (h : OperatorContext) → code ≢ Nvld → Other (plain code h)
-plain_o Add h ne = two_at h add (numbers_o (λ x y. Ok (x +ℤ y)) (λ x y. o_ok _))
-plain_o Subt h ne = two_at h subt (numbers_o (λ x y. Ok (x +ℤ neg_ℤ y)) (λ x y. o_ok _))
-plain_o Mult h ne = two_at h mult (numbers_o (λ x y. Ok (x *ℤ y)) (λ x y. o_ok _))
-plain_o Idiv h ne = two_at h idiv (numbers_o (divided int_div) (divided_o int_div))
-plain_o Rdiv h ne = two_at h rdiv (numbers_o (divided int_rem) (divided_o int_rem))
-plain_o Less h ne = two_at h less (compared_o _)
-plain_o Greq h ne = two_at h greq (compared_o _)
-plain_o Grtr h ne = two_at h grtr (compared_o _)
-plain_o Lseq h ne = two_at h lseq (compared_o _)
-plain_o Equl h ne = two_at h equl (compared_o _)
-plain_o Neql h ne = two_at h neql (compared_o _)
-plain_o Chsn h ne = one_at h chsn (λ x. o_bind (number x) _ (number_o x) (λ v. o_ok _))
-plain_o Land h ne = two_at h land (λ x y. o_ok _)
-plain_o Lor h ne = two_at h lor (λ x y. o_ok _)
-plain_o Leqv h ne = two_at h leqv (λ x y. o_ok _)
-plain_o Lnot h ne = one_at h lnot (λ x. o_ok _)
-plain_o Same h ne = two_at h same (λ x y. o_ok _)
-plain_o Exit h ne = exit_o h
-plain_o Indx h ne = indx_o h (cells_of h)
-plain_o Retn h ne = retn_o h (top_of h).standing (cells_of h)
-plain_o Entr h ne = entr_o h (top_of h).standing
-plain_o Nxlv h ne = nxlv_o h (cells_of h)
-plain_o Mkst h ne = search steps
-plain_o Stff h ne = on_cells_o (stff h) h (stff_o h (cells_of h))
-plain_o Dlet h ne = on_cells_o dlet h (dlet_o (cells_of h))
-plain_o Exch h ne = on_cells_o exch h (exch_o (cells_of h))
-plain_o Dupl h ne = on_cells_o dupl h (dupl_o (cells_of h))
-plain_o Stod h ne = store_o false h (cells_of h)
-plain_o Ston h ne = store_o true h (cells_of h)
-plain_o Load h ne = load_o h (cells_of h)
-plain_o Nvld h ne = absurd (ne refl)
-plain_o Zero h ne = search steps
-plain_o One h ne = search steps
-plain_o Push h ne = search steps
-plain_o Noop h ne = search steps
+plain_o : (code : Code) (h : OperatorContext) → code ≢ codes.Nvld → Other (plain code h)
+plain_o codes.Add h ne = two_at h add (numbers_o (λ x y. Ok (x +ℤ y)) (λ x y. o_ok _))
+plain_o codes.Subt h ne = two_at h subt (numbers_o (λ x y. Ok (x +ℤ neg_ℤ y)) (λ x y. o_ok _))
+plain_o codes.Mult h ne = two_at h mult (numbers_o (λ x y. Ok (x *ℤ y)) (λ x y. o_ok _))
+plain_o codes.Idiv h ne = two_at h idiv (numbers_o (divided int_div) (divided_o int_div))
+plain_o codes.Rdiv h ne = two_at h rdiv (numbers_o (divided int_rem) (divided_o int_rem))
+plain_o codes.Less h ne = two_at h less (compared_o _)
+plain_o codes.Greq h ne = two_at h greq (compared_o _)
+plain_o codes.Grtr h ne = two_at h grtr (compared_o _)
+plain_o codes.Lseq h ne = two_at h lseq (compared_o _)
+plain_o codes.Equl h ne = two_at h equl (compared_o _)
+plain_o codes.Neql h ne = two_at h neql (compared_o _)
+plain_o codes.Chsn h ne = one_at h chsn (λ x. o_bind (number x) _ (number_o x) (λ v. o_ok _))
+plain_o codes.Land h ne = two_at h land (λ x y. o_ok _)
+plain_o codes.Lor h ne = two_at h lor (λ x y. o_ok _)
+plain_o codes.Leqv h ne = two_at h leqv (λ x y. o_ok _)
+plain_o codes.Lnot h ne = one_at h lnot (λ x. o_ok _)
+plain_o codes.Same h ne = two_at h same (λ x y. o_ok _)
+plain_o codes.Exit h ne = exit_o h
+plain_o codes.Indx h ne = indx_o h (cells_of h)
+plain_o codes.Retn h ne = retn_o h (top_of h).standing (cells_of h)
+plain_o codes.Entr h ne = entr_o h (top_of h).standing
+plain_o codes.Nxlv h ne = nxlv_o h (cells_of h)
+plain_o codes.Mkst h ne = search steps
+plain_o codes.Stff h ne = on_cells_o (stff h) h (stff_o h (cells_of h))
+plain_o codes.Dlet h ne = on_cells_o dlet h (dlet_o (cells_of h))
+plain_o codes.Exch h ne = on_cells_o exch h (exch_o (cells_of h))
+plain_o codes.Dupl h ne = on_cells_o dupl h (dupl_o (cells_of h))
+plain_o codes.Stod h ne = store_o false h (cells_of h)
+plain_o codes.Ston h ne = store_o true h (cells_of h)
+plain_o codes.Load h ne = load_o h (cells_of h)
+plain_o codes.Nvld h ne = absurd (ne refl)
+plain_o codes.Zero h ne = search steps
+plain_o codes.One h ne = search steps
+plain_o codes.Push h ne = search steps
+plain_o codes.Noop h ne = search steps
 
 never : {A : Type 0} (a : Answer A) → Other a → a ≡ Err InvalidOperator → ⊥
 never (Ok x) g e = absurd (let z : ⊥ = cc in z)
 never (Err fault) g e = g.by (let same : fault ≡ InvalidOperator = cc in same)
 
 pub invalid_operator_is_nvld : InvalidOperatorIsNvld
-invalid_operator_is_nvld (Plain Nvld) h e = inl refl
+invalid_operator_is_nvld (Plain codes.Nvld) h e = inl refl
 invalid_operator_is_nvld (Plain code) h e = absurd (never (plain code h) (plain_o code h (λ s. cc)) e)
 invalid_operator_is_nvld (Mpcw bits) h e = elim (cases_Bool (is_proc h bits)) [
   | inl t ↦ let pushed : pushes h (proc_of bits) None ≡ Err InvalidOperator = rw t at e in absurd (never (pushes h (proc_of bits) None) (search steps) pushed)

@@ -4,7 +4,7 @@ use Rattle.b67_word.specs.declared.couples.Place.{Place}
 use Rattle.b67_model.specs.declared.operators.Op.{Op}
 use Rattle.b67_model.specs.declared.operators.Op.TheVariants.{Valc, Namc, Lt8, Lt16, Lt48, Mpcw, Brun, Brtr, Brfl, Bset, Brst, Isol, Insr, Plain}
 use Rattle.b67_model.specs.declared.operators.Code.{Code}
-use Rattle.b67_model.specs.declared.operators.Code.TheVariants.{Add, Subt, Mult, Idiv, Rdiv, Less, Greq, Grtr, Lseq, Equl, Neql, Chsn, Land, Lor, Leqv, Lnot, Same, Exit, Indx, Retn, Entr, Nxlv, Mkst, Stff, Zero, One, Push, Dlet, Exch, Dupl, Stod, Ston, Load, Noop, Nvld}
+use Rattle.b67_model.specs.declared.operators.Code.TheVariants as codes
 use Rattle.b67_model.specs.Common.{Answer, needs, Binary, add, subt, mult, idiv, rdiv, less, greq, grtr, lseq, equl, neql, land, lor, leqv, same, chsn, lnot, bset, brst, isol, insr, Word, Operand, Name, Ref, Row, Element, Original, operand, Return, Frame, Standing, Marked, Entered, Task, OperatorContext, top, below_top, with_task, called, called_on, called_by, called_at, place_of, cell, with_cell, array, element, with_element, with_array, all_zero, resized, indexed, in_order, End, AtCell, AtElement, AtArray, AtProc, AtIntrinsic, chase, follow, follow_reference, Line, Value, Values, Done, Goes, top_of, cells_of, with_cells, leaves_cells, pushes, back_to, needs_level, answered, answers, array_length, arraydec, print, row_copy, numbers_of, printrow, read_from, read, child_of, starts, process, awaits, await, status_of, status, waits_at, wait, causes, cause, needs_writable, deallocate, resize, intrinsic, on_one, on_two, dlet, exch, dupl, on_cells, branches, branch_if, stff_word, stff, load_at, load, indx, nxlv, store_at, store, entr_at, entr_with, entr, proc_of, plain, row}
 use Rattle.b67_lemmas.specs.Lists.{Has}
 use Rattle.b67_lemmas.proofs.Members.{has_reverse_back}
@@ -246,7 +246,7 @@ module _ (op : Op) (h : OperatorContext) (found : Task) (live : Has h.job.tasks 
   enters_by : ((level environment : ℕ) (back : Return) → MakesMark op (called op h) (Entered level environment (Some back))) → S.Enters (WordOf op h) (MarkOf op h) operands
   enters_by by n level environment back = inr (by level environment back)
 
-  calls_by : op ≡ Plain Entr → Calls (WordOf op h) (MarkOf op h) operands (called op h)
+  calls_by : op ≡ Plain codes.Entr → Calls (WordOf op h) (MarkOf op h) operands (called op h)
   calls_by e = record {
     arraydec = λ is a. inr (e, is);
     process = λ is n level environment. inr (by_process e is);
@@ -269,41 +269,41 @@ module _ (op : Op) (h : OperatorContext) (found : Task) (live : Has h.job.tasks 
   on_two_good f = S.on_cells_good (WordOf op h) (MarkOf op h) operands h (on_two f) source (S.two_keeps (WordOf op h) (MarkOf op h) operands f)
 
   by_code : (code : Code) → op ≡ Plain code → Ok' (plain code h)
-  by_code Add e = on_two_good add
-  by_code Subt e = on_two_good subt
-  by_code Mult e = on_two_good mult
-  by_code Idiv e = on_two_good idiv
-  by_code Rdiv e = on_two_good rdiv
-  by_code Less e = on_two_good less
-  by_code Greq e = on_two_good greq
-  by_code Grtr e = on_two_good grtr
-  by_code Lseq e = on_two_good lseq
-  by_code Equl e = on_two_good equl
-  by_code Neql e = on_two_good neql
-  by_code Chsn e = on_one_good chsn
-  by_code Land e = on_two_good land
-  by_code Lor e = on_two_good lor
-  by_code Leqv e = on_two_good leqv
-  by_code Lnot e = on_one_good lnot
-  by_code Same e = on_two_good same
-  by_code Exit e = S.exit_good (WordOf op h) (MarkOf op h) operands h source
-  by_code Indx e = indx_good (WordOf op h) (MarkOf op h) operands h (cells_of h) source (λ a index. inr e) words'
-  by_code Retn e = S.retn_good (WordOf op h) (MarkOf op h) operands h (top_of h).standing (cells_of h) source (enters_by (λ level environment back. by_retn e)) words'
-  by_code Entr e = entr_good (WordOf op h) (MarkOf op h) operands h (top_of h).standing (called op h) (ap (λ o. called o h) e) source (calls_by e)
-  by_code Nxlv e = nxlv_good (WordOf op h) (MarkOf op h) operands h (cells_of h) source words'
-  by_code Mkst e = S.mkst_good (WordOf op h) (MarkOf op h) operands h source (λ n. inr (by_mkst e))
-  by_code Stff e = S.on_cells_good (WordOf op h) (MarkOf op h) operands h (stff h) source (stff_keeps (WordOf op h) (MarkOf op h) operands h (λ f offset. inr e))
-  by_code Zero e = push (Operand 0) (inr tt)
-  by_code One e = push (Operand 1) (inr tt)
-  by_code Push e = still
-  by_code Dlet e = S.on_cells_good (WordOf op h) (MarkOf op h) operands h dlet source (S.dlet_keeps (WordOf op h) (MarkOf op h) operands)
-  by_code Exch e = S.on_cells_good (WordOf op h) (MarkOf op h) operands h exch source (S.exch_keeps (WordOf op h) (MarkOf op h) operands)
-  by_code Dupl e = S.on_cells_good (WordOf op h) (MarkOf op h) operands h dupl source (S.dupl_keeps (WordOf op h) (MarkOf op h) operands)
-  by_code Stod e = store_good (WordOf op h) (MarkOf op h) operands false h (cells_of h) source (enters_by (λ level environment back. by_stod e)) words'
-  by_code Ston e = store_good (WordOf op h) (MarkOf op h) operands true h (cells_of h) source (enters_by (λ level environment back. by_ston e)) words'
-  by_code Load e = load_good (WordOf op h) (MarkOf op h) operands h (cells_of h) source (enters_by (λ level environment back. by_load e)) (λ a. inr e) words'
-  by_code Noop e = still
-  by_code Nvld e = post_err (S.Kept (WordOf op h) (MarkOf op h) operands) _
+  by_code codes.Add e = on_two_good add
+  by_code codes.Subt e = on_two_good subt
+  by_code codes.Mult e = on_two_good mult
+  by_code codes.Idiv e = on_two_good idiv
+  by_code codes.Rdiv e = on_two_good rdiv
+  by_code codes.Less e = on_two_good less
+  by_code codes.Greq e = on_two_good greq
+  by_code codes.Grtr e = on_two_good grtr
+  by_code codes.Lseq e = on_two_good lseq
+  by_code codes.Equl e = on_two_good equl
+  by_code codes.Neql e = on_two_good neql
+  by_code codes.Chsn e = on_one_good chsn
+  by_code codes.Land e = on_two_good land
+  by_code codes.Lor e = on_two_good lor
+  by_code codes.Leqv e = on_two_good leqv
+  by_code codes.Lnot e = on_one_good lnot
+  by_code codes.Same e = on_two_good same
+  by_code codes.Exit e = S.exit_good (WordOf op h) (MarkOf op h) operands h source
+  by_code codes.Indx e = indx_good (WordOf op h) (MarkOf op h) operands h (cells_of h) source (λ a index. inr e) words'
+  by_code codes.Retn e = S.retn_good (WordOf op h) (MarkOf op h) operands h (top_of h).standing (cells_of h) source (enters_by (λ level environment back. by_retn e)) words'
+  by_code codes.Entr e = entr_good (WordOf op h) (MarkOf op h) operands h (top_of h).standing (called op h) (ap (λ o. called o h) e) source (calls_by e)
+  by_code codes.Nxlv e = nxlv_good (WordOf op h) (MarkOf op h) operands h (cells_of h) source words'
+  by_code codes.Mkst e = S.mkst_good (WordOf op h) (MarkOf op h) operands h source (λ n. inr (by_mkst e))
+  by_code codes.Stff e = S.on_cells_good (WordOf op h) (MarkOf op h) operands h (stff h) source (stff_keeps (WordOf op h) (MarkOf op h) operands h (λ f offset. inr e))
+  by_code codes.Zero e = push (Operand 0) (inr tt)
+  by_code codes.One e = push (Operand 1) (inr tt)
+  by_code codes.Push e = still
+  by_code codes.Dlet e = S.on_cells_good (WordOf op h) (MarkOf op h) operands h dlet source (S.dlet_keeps (WordOf op h) (MarkOf op h) operands)
+  by_code codes.Exch e = S.on_cells_good (WordOf op h) (MarkOf op h) operands h exch source (S.exch_keeps (WordOf op h) (MarkOf op h) operands)
+  by_code codes.Dupl e = S.on_cells_good (WordOf op h) (MarkOf op h) operands h dupl source (S.dupl_keeps (WordOf op h) (MarkOf op h) operands)
+  by_code codes.Stod e = store_good (WordOf op h) (MarkOf op h) operands false h (cells_of h) source (enters_by (λ level environment back. by_stod e)) words'
+  by_code codes.Ston e = store_good (WordOf op h) (MarkOf op h) operands true h (cells_of h) source (enters_by (λ level environment back. by_ston e)) words'
+  by_code codes.Load e = load_good (WordOf op h) (MarkOf op h) operands h (cells_of h) source (enters_by (λ level environment back. by_load e)) (λ a. inr e) words'
+  by_code codes.Noop e = still
+  by_code codes.Nvld e = post_err (S.Kept (WordOf op h) (MarkOf op h) operands) _
 
   by_op : (o : Op) → op ≡ o → Ok' (row o h)
   by_op (Valc couple) e = post_any (S.Kept (WordOf op h) (MarkOf op h) operands) (chase h (Name couple)) _ (λ end. S.evaluates_good (WordOf op h) (MarkOf op h) operands h end source (enters_by (λ level environment back. by_valc couple e)))

@@ -7,7 +7,7 @@ use Rattle.b67_word.specs.declared.couples.Place.{Place}
 use Rattle.b67_model.specs.declared.operators.Op.{Op}
 use Rattle.b67_model.specs.declared.operators.Op.TheVariants.{Valc, Namc, Lt8, Lt16, Lt48, Mpcw, Brun, Brtr, Brfl, Bset, Brst, Isol, Insr, Plain}
 use Rattle.b67_model.specs.declared.operators.Code.{Code}
-use Rattle.b67_model.specs.declared.operators.Code.TheVariants.{Add, Subt, Mult, Idiv, Rdiv, Less, Greq, Grtr, Lseq, Equl, Neql, Chsn, Land, Lor, Leqv, Lnot, Same, Exit, Indx, Retn, Entr, Nxlv, Mkst, Stff, Zero, One, Push, Dlet, Exch, Dupl, Stod, Ston, Load, Noop, Nvld}
+use Rattle.b67_model.specs.declared.operators.Code.TheVariants as codes
 use Rattle.b67_model.specs.Common.{Answer, needs, add, subt, mult, idiv, rdiv, less, greq, grtr, lseq, equl, neql, land, lor, leqv, same, chsn, lnot, bset, brst, isol, insr, Word, Operand, Name, Ref, Row, Element, Original, Proc, Intrinsic, operand, Frame, Standing, Marked, Entered, Return, Array, Task, Job, OperatorContext, below_top, with_top_cells, top, array, element, with_number, with_element, with_array, all_zero, resized, indexed, in_order, End, AtCell, AtElement, AtArray, AtProc, AtIntrinsic, chase, follow, follow_reference, Line, Value, Values, Done, Goes, Leaves, Waits, top_of, cells_of, result, with_cells, leaves_cells, pushes, accident, needs_level, back_to, evaluates, enters, left, leaves, returnable, returned, retn_word, answered, needs_free, answers, array_length, arraydec, print, row_copy, numbers_of, printrow, read_from, read, child_of, starts, process, awaits, await, status_of, status, waits_at, wait, causes, cause, needs_writable, deallocate, resize, intrinsic, CellRow, on_one, on_two, dlet, exch, dupl, on_cells, branches, branch_if, stff, load_at, load, indx, nxlv, store_at, store, entr_at, entr_with, entr, proc_of, plain, row}
 use Rattle.b67_model.specs.Keyed.{change_keyed}
 use Rattle.b67_lemmas.specs.Lists.{Has}
@@ -332,43 +332,43 @@ module _ (T : ℕ → Type 0) (first : List Array) (keeps : Type 0) where
 
   -- an operator whose step keeps the arrays leaves no record
   plain_good : (code : Code) (h : OperatorContext) → Source h → (keeps → is_leaving (Plain code) ≡ false) → Good (plain code h)
-  plain_good Exit h s e = leaves_good h (top_of h).standing _ (λ back. let k = left_source h back s (λ x. let f = e x in absurd cc) in result_good (left h back) (left h back).job (left h back).task [] None tt k.arrays)
-  plain_good Retn h s e = retn_good h (top_of h).standing (cells_of h) s (λ x. let f = e x in absurd cc) (own_names h s)
-  plain_good Entr h s e = entr_good h (top_of h).standing s
-  plain_good Indx h s e = indx_good h (cells_of h) s
-  plain_good Nxlv h s e = nxlv_good h (cells_of h) s (own_names h s)
-  plain_good Mkst h s e =
+  plain_good codes.Exit h s e = leaves_good h (top_of h).standing _ (λ back. let k = left_source h back s (λ x. let f = e x in absurd cc) in result_good (left h back) (left h back).job (left h back).task [] None tt k.arrays)
+  plain_good codes.Retn h s e = retn_good h (top_of h).standing (cells_of h) s (λ x. let f = e x in absurd cc) (own_names h s)
+  plain_good codes.Entr h s e = entr_good h (top_of h).standing s
+  plain_good codes.Indx h s e = indx_good h (cells_of h) s
+  plain_good codes.Nxlv h s e = nxlv_good h (cells_of h) s (own_names h s)
+  plain_good codes.Mkst h s e =
       let marked : Frame = record { identity = h.job.next_frame; standing = Marked; cells = [] } in
       result_good h (record h.job { next_frame = h.job.next_frame + 1 }) (record h.task { frames = marked ∷ h.task.frames }) [] None tt s.arrays
-  plain_good Zero h s e = push_good h _ s
-  plain_good One h s e = push_good h _ s
-  plain_good Push h s e = cells_good h _ None s tt
-  plain_good Noop h s e = cells_good h _ None s tt
-  plain_good Stod h s e = store_good false h (cells_of h) s (own_names h s)
-  plain_good Ston h s e = store_good true h (cells_of h) s (own_names h s)
-  plain_good Load h s e = load_good h (cells_of h) s (own_names h s)
-  plain_good Nvld h s e = post_err Keeps _
-  plain_good Add h s e = on_cells_good (on_two add) h s
-  plain_good Subt h s e = on_cells_good (on_two subt) h s
-  plain_good Mult h s e = on_cells_good (on_two mult) h s
-  plain_good Idiv h s e = on_cells_good (on_two idiv) h s
-  plain_good Rdiv h s e = on_cells_good (on_two rdiv) h s
-  plain_good Less h s e = on_cells_good (on_two less) h s
-  plain_good Greq h s e = on_cells_good (on_two greq) h s
-  plain_good Grtr h s e = on_cells_good (on_two grtr) h s
-  plain_good Lseq h s e = on_cells_good (on_two lseq) h s
-  plain_good Equl h s e = on_cells_good (on_two equl) h s
-  plain_good Neql h s e = on_cells_good (on_two neql) h s
-  plain_good Land h s e = on_cells_good (on_two land) h s
-  plain_good Lor h s e = on_cells_good (on_two lor) h s
-  plain_good Leqv h s e = on_cells_good (on_two leqv) h s
-  plain_good Same h s e = on_cells_good (on_two same) h s
-  plain_good Chsn h s e = on_cells_good (on_one chsn) h s
-  plain_good Lnot h s e = on_cells_good (on_one lnot) h s
-  plain_good Dlet h s e = on_cells_good dlet h s
-  plain_good Exch h s e = on_cells_good exch h s
-  plain_good Dupl h s e = on_cells_good dupl h s
-  plain_good Stff h s e = on_cells_good (stff h) h s
+  plain_good codes.Zero h s e = push_good h _ s
+  plain_good codes.One h s e = push_good h _ s
+  plain_good codes.Push h s e = cells_good h _ None s tt
+  plain_good codes.Noop h s e = cells_good h _ None s tt
+  plain_good codes.Stod h s e = store_good false h (cells_of h) s (own_names h s)
+  plain_good codes.Ston h s e = store_good true h (cells_of h) s (own_names h s)
+  plain_good codes.Load h s e = load_good h (cells_of h) s (own_names h s)
+  plain_good codes.Nvld h s e = post_err Keeps _
+  plain_good codes.Add h s e = on_cells_good (on_two add) h s
+  plain_good codes.Subt h s e = on_cells_good (on_two subt) h s
+  plain_good codes.Mult h s e = on_cells_good (on_two mult) h s
+  plain_good codes.Idiv h s e = on_cells_good (on_two idiv) h s
+  plain_good codes.Rdiv h s e = on_cells_good (on_two rdiv) h s
+  plain_good codes.Less h s e = on_cells_good (on_two less) h s
+  plain_good codes.Greq h s e = on_cells_good (on_two greq) h s
+  plain_good codes.Grtr h s e = on_cells_good (on_two grtr) h s
+  plain_good codes.Lseq h s e = on_cells_good (on_two lseq) h s
+  plain_good codes.Equl h s e = on_cells_good (on_two equl) h s
+  plain_good codes.Neql h s e = on_cells_good (on_two neql) h s
+  plain_good codes.Land h s e = on_cells_good (on_two land) h s
+  plain_good codes.Lor h s e = on_cells_good (on_two lor) h s
+  plain_good codes.Leqv h s e = on_cells_good (on_two leqv) h s
+  plain_good codes.Same h s e = on_cells_good (on_two same) h s
+  plain_good codes.Chsn h s e = on_cells_good (on_one chsn) h s
+  plain_good codes.Lnot h s e = on_cells_good (on_one lnot) h s
+  plain_good codes.Dlet h s e = on_cells_good dlet h s
+  plain_good codes.Exch h s e = on_cells_good exch h s
+  plain_good codes.Dupl h s e = on_cells_good dupl h s
+  plain_good codes.Stff h s e = on_cells_good (stff h) h s
 
   pub row_good : (op : Op) (h : OperatorContext) → Source h → (keeps → is_leaving op ≡ false) → Good (row op h)
   row_good (Valc couple) h s e = post_bind (W.EndNames T) Keeps (chase h (Name couple)) _ (W.chase_names T h s.words (Name couple)) (λ end g. evaluates_good h end s g)

@@ -5,45 +5,45 @@ use Rattle.b67_word.specs.declared.couples.Place.{Place}
 use Rattle.b67_model.specs.declared.operators.Op.{Op}
 use Rattle.b67_model.specs.declared.operators.Op.TheVariants.{Valc, Namc, Lt8, Lt16, Lt48, Mpcw, Brun, Brtr, Brfl, Bset, Brst, Isol, Insr, Plain}
 use Rattle.b67_model.specs.declared.operators.Code.{Code}
-use Rattle.b67_model.specs.declared.operators.Code.TheVariants.{Add, Subt, Mult, Idiv, Rdiv, Less, Greq, Grtr, Lseq, Equl, Neql, Chsn, Land, Lor, Leqv, Lnot, Same, Exit, Indx, Retn, Entr, Nxlv, Mkst, Stff, Zero, One, Push, Dlet, Exch, Dupl, Stod, Ston, Load, Noop, Nvld}
+use Rattle.b67_model.specs.declared.operators.Code.TheVariants as codes
 use Rattle.b67_model.specs.Operators.{syllable, place_at, count_at, operator_at}
 
 abbrev pub syllable_of : Code → ℕ
-syllable_of Add = 0x80
-syllable_of Subt = 0x81
-syllable_of Mult = 0x82
-syllable_of Idiv = 0x84
-syllable_of Rdiv = 0x85
-syllable_of Less = 0x88
-syllable_of Greq = 0x89
-syllable_of Grtr = 0x8A
-syllable_of Lseq = 0x8B
-syllable_of Equl = 0x8C
-syllable_of Neql = 0x8D
-syllable_of Chsn = 0x8E
-syllable_of Land = 0x90
-syllable_of Lor = 0x91
-syllable_of Lnot = 0x92
-syllable_of Leqv = 0x93
-syllable_of Same = 0x94
-syllable_of Exit = 0xA3
-syllable_of Indx = 0xA6
-syllable_of Retn = 0xA7
-syllable_of Entr = 0xAB
-syllable_of Nxlv = 0xAD
-syllable_of Mkst = 0xAE
-syllable_of Stff = 0xAF
-syllable_of Zero = 0xB0
-syllable_of One = 0xB1
-syllable_of Push = 0xB4
-syllable_of Dlet = 0xB5
-syllable_of Exch = 0xB6
-syllable_of Dupl = 0xB7
-syllable_of Stod = 0xB8
-syllable_of Ston = 0xB9
-syllable_of Load = 0xBD
-syllable_of Noop = 0xFE
-syllable_of Nvld = 0xFF
+syllable_of codes.Add = 0x80
+syllable_of codes.Subt = 0x81
+syllable_of codes.Mult = 0x82
+syllable_of codes.Idiv = 0x84
+syllable_of codes.Rdiv = 0x85
+syllable_of codes.Less = 0x88
+syllable_of codes.Greq = 0x89
+syllable_of codes.Grtr = 0x8A
+syllable_of codes.Lseq = 0x8B
+syllable_of codes.Equl = 0x8C
+syllable_of codes.Neql = 0x8D
+syllable_of codes.Chsn = 0x8E
+syllable_of codes.Land = 0x90
+syllable_of codes.Lor = 0x91
+syllable_of codes.Lnot = 0x92
+syllable_of codes.Leqv = 0x93
+syllable_of codes.Same = 0x94
+syllable_of codes.Exit = 0xA3
+syllable_of codes.Indx = 0xA6
+syllable_of codes.Retn = 0xA7
+syllable_of codes.Entr = 0xAB
+syllable_of codes.Nxlv = 0xAD
+syllable_of codes.Mkst = 0xAE
+syllable_of codes.Stff = 0xAF
+syllable_of codes.Zero = 0xB0
+syllable_of codes.One = 0xB1
+syllable_of codes.Push = 0xB4
+syllable_of codes.Dlet = 0xB5
+syllable_of codes.Exch = 0xB6
+syllable_of codes.Dupl = 0xB7
+syllable_of codes.Stod = 0xB8
+syllable_of codes.Ston = 0xB9
+syllable_of codes.Load = 0xBD
+syllable_of codes.Noop = 0xFE
+syllable_of codes.Nvld = 0xFF
 
 -- sixteen bits after the first syllable
 abbrev pub with_16 : ℕ → ℕ → List ℕ

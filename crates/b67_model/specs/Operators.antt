@@ -4,7 +4,7 @@ use Rattle.b67_word.specs.declared.couples.Place.{Place}
 use Rattle.b67_model.specs.declared.operators.Op.{Op}
 use Rattle.b67_model.specs.declared.operators.Op.TheVariants.{Valc, Namc, Lt8, Lt16, Lt48, Mpcw, Brun, Brtr, Brfl, Bset, Brst, Isol, Insr, Plain}
 use Rattle.b67_model.specs.declared.operators.Code.{Code}
-use Rattle.b67_model.specs.declared.operators.Code.TheVariants.{Add, Subt, Mult, Idiv, Rdiv, Less, Greq, Grtr, Lseq, Equl, Neql, Chsn, Land, Lor, Leqv, Lnot, Same, Exit, Indx, Retn, Entr, Nxlv, Mkst, Stff, Zero, One, Push, Dlet, Exch, Dupl, Stod, Ston, Load, Noop, Nvld}
+use Rattle.b67_model.specs.declared.operators.Code.TheVariants as codes
 use Rattle.b67_model.specs.declared.operators.Undecodable.{Undecodable}
 use Rattle.b67_model.specs.declared.operators.Undecodable.TheVariants.{BadPlace, NotAdmitted, PastEnd}
 
@@ -21,16 +21,16 @@ branch op = TwoMore (λ high low. op (record { word = (high % 32) * 256 + low; s
 
 abbrev pub operators : List (ℕ × Form)
 operators =
-    (0x80, Alone Add) ∷ (0x81, Alone Subt) ∷ (0x82, Alone Mult) ∷ (0x84, Alone Idiv) ∷ (0x85, Alone Rdiv) ∷
-    (0x88, Alone Less) ∷ (0x89, Alone Greq) ∷ (0x8A, Alone Grtr) ∷ (0x8B, Alone Lseq) ∷ (0x8C, Alone Equl) ∷
-    (0x8D, Alone Neql) ∷ (0x8E, Alone Chsn) ∷ (0x90, Alone Land) ∷ (0x91, Alone Lor) ∷ (0x92, Alone Lnot) ∷
-    (0x93, Alone Leqv) ∷ (0x94, Alone Same) ∷ (0x96, OneMore Bset) ∷ (0x9A, TwoMore Isol) ∷
+    (0x80, Alone codes.Add) ∷ (0x81, Alone codes.Subt) ∷ (0x82, Alone codes.Mult) ∷ (0x84, Alone codes.Idiv) ∷ (0x85, Alone codes.Rdiv) ∷
+    (0x88, Alone codes.Less) ∷ (0x89, Alone codes.Greq) ∷ (0x8A, Alone codes.Grtr) ∷ (0x8B, Alone codes.Lseq) ∷ (0x8C, Alone codes.Equl) ∷
+    (0x8D, Alone codes.Neql) ∷ (0x8E, Alone codes.Chsn) ∷ (0x90, Alone codes.Land) ∷ (0x91, Alone codes.Lor) ∷ (0x92, Alone codes.Lnot) ∷
+    (0x93, Alone codes.Leqv) ∷ (0x94, Alone codes.Same) ∷ (0x96, OneMore Bset) ∷ (0x9A, TwoMore Isol) ∷
     (0x9C, TwoMore Insr) ∷ (0x9E, OneMore Brst) ∷ (0xA0, branch Brfl) ∷ (0xA1, branch Brtr) ∷
-    (0xA2, branch Brun) ∷ (0xA3, Alone Exit) ∷ (0xA6, Alone Indx) ∷ (0xA7, Alone Retn) ∷ (0xAB, Alone Entr) ∷
-    (0xAD, Alone Nxlv) ∷ (0xAE, Alone Mkst) ∷ (0xAF, Alone Stff) ∷ (0xB0, Alone Zero) ∷ (0xB1, Alone One) ∷
-    (0xB2, OneMore Lt8) ∷ (0xB3, TwoMore (λ high low. Lt16 (high * 256 + low))) ∷ (0xB4, Alone Push) ∷
-    (0xB5, Alone Dlet) ∷ (0xB6, Alone Exch) ∷ (0xB7, Alone Dupl) ∷ (0xB8, Alone Stod) ∷ (0xB9, Alone Ston) ∷
-    (0xBD, Alone Load) ∷ (0xBE, Literal Lt48) ∷ (0xBF, Literal Mpcw) ∷ (0xFE, Alone Noop) ∷ (0xFF, Alone Nvld) ∷ []
+    (0xA2, branch Brun) ∷ (0xA3, Alone codes.Exit) ∷ (0xA6, Alone codes.Indx) ∷ (0xA7, Alone codes.Retn) ∷ (0xAB, Alone codes.Entr) ∷
+    (0xAD, Alone codes.Nxlv) ∷ (0xAE, Alone codes.Mkst) ∷ (0xAF, Alone codes.Stff) ∷ (0xB0, Alone codes.Zero) ∷ (0xB1, Alone codes.One) ∷
+    (0xB2, OneMore Lt8) ∷ (0xB3, TwoMore (λ high low. Lt16 (high * 256 + low))) ∷ (0xB4, Alone codes.Push) ∷
+    (0xB5, Alone codes.Dlet) ∷ (0xB6, Alone codes.Exch) ∷ (0xB7, Alone codes.Dupl) ∷ (0xB8, Alone codes.Stod) ∷ (0xB9, Alone codes.Ston) ∷
+    (0xBD, Alone codes.Load) ∷ (0xBE, Literal Lt48) ∷ (0xBF, Literal Mpcw) ∷ (0xFE, Alone codes.Noop) ∷ (0xFF, Alone codes.Nvld) ∷ []
 
 abbrev pub form_in : List (ℕ × Form) → ℕ → Option Form
 form_in [] first = None

@@ -5,7 +5,7 @@ use Rattle.b67_word.specs.declared.couples.Place.{Place}
 use Rattle.b67_model.specs.declared.operators.Op.{Op}
 use Rattle.b67_model.specs.declared.operators.Op.TheVariants.{Valc, Namc, Lt8, Lt16, Lt48, Mpcw, Brun, Brtr, Brfl, Bset, Brst, Isol, Insr, Plain}
 use Rattle.b67_model.specs.declared.operators.Code.{Code}
-use Rattle.b67_model.specs.declared.operators.Code.TheVariants.{Add, Subt, Mult, Idiv, Rdiv, Less, Greq, Grtr, Lseq, Equl, Neql, Chsn, Land, Lor, Leqv, Lnot, Same, Exit, Indx, Retn, Entr, Nxlv, Mkst, Stff, Zero, One, Push, Dlet, Exch, Dupl, Stod, Ston, Load, Noop, Nvld}
+use Rattle.b67_model.specs.declared.operators.Code.TheVariants as codes
 use Rattle.b67_model.specs.Answers.{Answer, ◌>>=◌, ◌>>◌, needs}
 use Rattle.b67_word.specs.Operands.{bit}
 use Rattle.b67_model.specs.Words.{Word, Operand, Name, Ref, Row, Element, Proc, operand}
@@ -183,41 +183,41 @@ mpcw h bits = do
   pushes h (proc_of bits) None
 
 abbrev pub plain : Code → OperatorContext → Answer Done
-plain Add h = on_cells (on_two add) h
-plain Subt h = on_cells (on_two subt) h
-plain Mult h = on_cells (on_two mult) h
-plain Idiv h = on_cells (on_two idiv) h
-plain Rdiv h = on_cells (on_two rdiv) h
-plain Less h = on_cells (on_two less) h
-plain Greq h = on_cells (on_two greq) h
-plain Grtr h = on_cells (on_two grtr) h
-plain Lseq h = on_cells (on_two lseq) h
-plain Equl h = on_cells (on_two equl) h
-plain Neql h = on_cells (on_two neql) h
-plain Chsn h = on_cells (on_one chsn) h
-plain Land h = on_cells (on_two land) h
-plain Lor h = on_cells (on_two lor) h
-plain Leqv h = on_cells (on_two leqv) h
-plain Lnot h = on_cells (on_one lnot) h
-plain Same h = on_cells (on_two same) h
-plain Exit h = exit h
-plain Indx h = indx h (cells_of h)
-plain Retn h = retn h
-plain Entr h = entr h (top_of h).standing
-plain Nxlv h = nxlv h (cells_of h)
-plain Mkst h = mkst h
-plain Stff h = on_cells (stff h) h
-plain Zero h = pushes h (Operand 0) None
-plain One h = pushes h (Operand 1) None
-plain Push h = leaves_cells h (cells_of h) None
-plain Dlet h = on_cells dlet h
-plain Exch h = on_cells exch h
-plain Dupl h = on_cells dupl h
-plain Stod h = store false h (cells_of h)
-plain Ston h = store true h (cells_of h)
-plain Load h = load h (cells_of h)
-plain Noop h = leaves_cells h (cells_of h) None
-plain Nvld h = Err InvalidOperator
+plain codes.Add h = on_cells (on_two add) h
+plain codes.Subt h = on_cells (on_two subt) h
+plain codes.Mult h = on_cells (on_two mult) h
+plain codes.Idiv h = on_cells (on_two idiv) h
+plain codes.Rdiv h = on_cells (on_two rdiv) h
+plain codes.Less h = on_cells (on_two less) h
+plain codes.Greq h = on_cells (on_two greq) h
+plain codes.Grtr h = on_cells (on_two grtr) h
+plain codes.Lseq h = on_cells (on_two lseq) h
+plain codes.Equl h = on_cells (on_two equl) h
+plain codes.Neql h = on_cells (on_two neql) h
+plain codes.Chsn h = on_cells (on_one chsn) h
+plain codes.Land h = on_cells (on_two land) h
+plain codes.Lor h = on_cells (on_two lor) h
+plain codes.Leqv h = on_cells (on_two leqv) h
+plain codes.Lnot h = on_cells (on_one lnot) h
+plain codes.Same h = on_cells (on_two same) h
+plain codes.Exit h = exit h
+plain codes.Indx h = indx h (cells_of h)
+plain codes.Retn h = retn h
+plain codes.Entr h = entr h (top_of h).standing
+plain codes.Nxlv h = nxlv h (cells_of h)
+plain codes.Mkst h = mkst h
+plain codes.Stff h = on_cells (stff h) h
+plain codes.Zero h = pushes h (Operand 0) None
+plain codes.One h = pushes h (Operand 1) None
+plain codes.Push h = leaves_cells h (cells_of h) None
+plain codes.Dlet h = on_cells dlet h
+plain codes.Exch h = on_cells exch h
+plain codes.Dupl h = on_cells dupl h
+plain codes.Stod h = store false h (cells_of h)
+plain codes.Ston h = store true h (cells_of h)
+plain codes.Load h = load h (cells_of h)
+plain codes.Noop h = leaves_cells h (cells_of h) None
+plain codes.Nvld h = Err InvalidOperator
 
 abbrev pub row : Op → OperatorContext → Answer Done
 row (Valc couple) h = valc h couple

@@ -7,7 +7,7 @@ use Rattle.b67_word.specs.declared.couples.Place.{Place}
 use Rattle.b67_model.specs.declared.operators.Op.{Op}
 use Rattle.b67_model.specs.declared.operators.Op.TheVariants.{Valc, Namc, Lt8, Lt16, Lt48, Mpcw, Brun, Brtr, Brfl, Bset, Brst, Isol, Insr, Plain}
 use Rattle.b67_model.specs.declared.operators.Code.{Code}
-use Rattle.b67_model.specs.declared.operators.Code.TheVariants.{Add, Subt, Mult, Idiv, Rdiv, Less, Greq, Grtr, Lseq, Equl, Neql, Chsn, Land, Lor, Leqv, Lnot, Same as SameBits, Exit, Indx, Retn, Entr, Nxlv, Mkst, Stff, Zero, One, Push, Dlet, Exch, Dupl, Stod, Ston, Load, Noop, Nvld}
+use Rattle.b67_model.specs.declared.operators.Code.TheVariants as codes
 use Rattle.b67_model.specs.Common.{Answer, ◌>>=◌, add, subt, mult, idiv, rdiv, less, greq, grtr, lseq, equl, neql, land, lor, leqv, same, chsn, lnot, bset, brst, isol, insr, Word, Operand, Name, operand, Frame, Standing, Marked, Entered, Return, Task, Job, SessionJob, OperatorContext, with_task, below_top, top, with_top_cells, End, AtCell, AtElement, AtArray, AtProc, AtIntrinsic, chase, follow, follow_reference, with_element, indexed, in_order, Line, Done, Goes, Leaves, Waits, top_of, cells_of, result, with_cells, leaves_cells, pushes, is_critical, without_arrays_of, accident, needs_level, back_to, evaluates, enters, left, leaves, returnable, returned, retn_word, CellRow, on_one, on_two, dlet, exch, dupl, on_cells, branches, branch_if, stff, load_at, load, indx, nxlv, store_at, store, entr_at, entr_with, entr, plain, row, from_frame, called_at, called_by, called_on, called}
 use Rattle.b67_model.specs.Keyed.{keyed, change_keyed}
 use Rattle.b67_law_order.proofs.Posts.{Post, post_ok, post_err, post_any, post_then, post_needs, post_at}
@@ -198,43 +198,43 @@ module _ (D : ℕ → Type 0) (first : List Task) (own : Task) (known : keyed (�
   entr_good h (Entered level environment back) some s e = post_err K _
 
   plain_good : (code : Code) (h : OperatorContext) → h.task.frames ≢ [] → Apart h → Source h → called (Plain code) h ≡ None → Good (plain code h)
-  plain_good Exit h some apart s e = leaves_good h (top_of h).standing _ apart s (λ k value from. result_good k k.job k.task [] None from.job from.task)
-  plain_good Retn h some apart s e = retn_good h (top_of h).standing (cells_of h) apart s
-  plain_good Entr h some apart s e = entr_good h (top_of h).standing some s e
-  plain_good Indx h some apart s e = indx_good h (cells_of h) s
-  plain_good Nxlv h some apart s e = nxlv_good h (cells_of h) s
-  plain_good Mkst h some apart s e =
+  plain_good codes.Exit h some apart s e = leaves_good h (top_of h).standing _ apart s (λ k value from. result_good k k.job k.task [] None from.job from.task)
+  plain_good codes.Retn h some apart s e = retn_good h (top_of h).standing (cells_of h) apart s
+  plain_good codes.Entr h some apart s e = entr_good h (top_of h).standing some s e
+  plain_good codes.Indx h some apart s e = indx_good h (cells_of h) s
+  plain_good codes.Nxlv h some apart s e = nxlv_good h (cells_of h) s
+  plain_good codes.Mkst h some apart s e =
       let marked : Frame = record { identity = h.job.next_frame; standing = Marked; cells = [] } in
       result_good h (record h.job { next_frame = h.job.next_frame + 1 }) (record h.task { frames = marked ∷ h.task.frames }) [] None (more h.job s.job) (pushed h.job h.task marked refl s.job s.task)
-  plain_good Zero h some apart s e = push_good h _ None s
-  plain_good One h some apart s e = push_good h _ None s
-  plain_good Push h some apart s e = cells_good h _ None s
-  plain_good Noop h some apart s e = cells_good h _ None s
-  plain_good Stod h some apart s e = store_good false h (cells_of h) s
-  plain_good Ston h some apart s e = store_good true h (cells_of h) s
-  plain_good Load h some apart s e = load_good h (cells_of h) s
-  plain_good Nvld h some apart s e = post_err K _
-  plain_good Add h some apart s e = on_cells_good (on_two add) h s
-  plain_good Subt h some apart s e = on_cells_good (on_two subt) h s
-  plain_good Mult h some apart s e = on_cells_good (on_two mult) h s
-  plain_good Idiv h some apart s e = on_cells_good (on_two idiv) h s
-  plain_good Rdiv h some apart s e = on_cells_good (on_two rdiv) h s
-  plain_good Less h some apart s e = on_cells_good (on_two less) h s
-  plain_good Greq h some apart s e = on_cells_good (on_two greq) h s
-  plain_good Grtr h some apart s e = on_cells_good (on_two grtr) h s
-  plain_good Lseq h some apart s e = on_cells_good (on_two lseq) h s
-  plain_good Equl h some apart s e = on_cells_good (on_two equl) h s
-  plain_good Neql h some apart s e = on_cells_good (on_two neql) h s
-  plain_good Land h some apart s e = on_cells_good (on_two land) h s
-  plain_good Lor h some apart s e = on_cells_good (on_two lor) h s
-  plain_good Leqv h some apart s e = on_cells_good (on_two leqv) h s
-  plain_good SameBits h some apart s e = on_cells_good (on_two same) h s
-  plain_good Chsn h some apart s e = on_cells_good (on_one chsn) h s
-  plain_good Lnot h some apart s e = on_cells_good (on_one lnot) h s
-  plain_good Dlet h some apart s e = on_cells_good dlet h s
-  plain_good Exch h some apart s e = on_cells_good exch h s
-  plain_good Dupl h some apart s e = on_cells_good dupl h s
-  plain_good Stff h some apart s e = on_cells_good (stff h) h s
+  plain_good codes.Zero h some apart s e = push_good h _ None s
+  plain_good codes.One h some apart s e = push_good h _ None s
+  plain_good codes.Push h some apart s e = cells_good h _ None s
+  plain_good codes.Noop h some apart s e = cells_good h _ None s
+  plain_good codes.Stod h some apart s e = store_good false h (cells_of h) s
+  plain_good codes.Ston h some apart s e = store_good true h (cells_of h) s
+  plain_good codes.Load h some apart s e = load_good h (cells_of h) s
+  plain_good codes.Nvld h some apart s e = post_err K _
+  plain_good codes.Add h some apart s e = on_cells_good (on_two add) h s
+  plain_good codes.Subt h some apart s e = on_cells_good (on_two subt) h s
+  plain_good codes.Mult h some apart s e = on_cells_good (on_two mult) h s
+  plain_good codes.Idiv h some apart s e = on_cells_good (on_two idiv) h s
+  plain_good codes.Rdiv h some apart s e = on_cells_good (on_two rdiv) h s
+  plain_good codes.Less h some apart s e = on_cells_good (on_two less) h s
+  plain_good codes.Greq h some apart s e = on_cells_good (on_two greq) h s
+  plain_good codes.Grtr h some apart s e = on_cells_good (on_two grtr) h s
+  plain_good codes.Lseq h some apart s e = on_cells_good (on_two lseq) h s
+  plain_good codes.Equl h some apart s e = on_cells_good (on_two equl) h s
+  plain_good codes.Neql h some apart s e = on_cells_good (on_two neql) h s
+  plain_good codes.Land h some apart s e = on_cells_good (on_two land) h s
+  plain_good codes.Lor h some apart s e = on_cells_good (on_two lor) h s
+  plain_good codes.Leqv h some apart s e = on_cells_good (on_two leqv) h s
+  plain_good codes.Same h some apart s e = on_cells_good (on_two same) h s
+  plain_good codes.Chsn h some apart s e = on_cells_good (on_one chsn) h s
+  plain_good codes.Lnot h some apart s e = on_cells_good (on_one lnot) h s
+  plain_good codes.Dlet h some apart s e = on_cells_good dlet h s
+  plain_good codes.Exch h some apart s e = on_cells_good exch h s
+  plain_good codes.Dupl h some apart s e = on_cells_good dupl h s
+  plain_good codes.Stff h some apart s e = on_cells_good (stff h) h s
 
   row_good : (op : Op) (h : OperatorContext) → h.task.frames ≢ [] → Apart h → Source h → called op h ≡ None → Good (row op h)
   row_good (Valc couple) h some apart s e = post_any K (chase h (Name couple)) _ (λ end. evaluates_good h end s)
