@@ -27,7 +27,7 @@ use Rattle.b67_image_shape.specs.FixedWords.{DictionariesStandIn, FixedFacts}
 use Rattle.b67_image_shape.specs.Held.{view_in, held_of}
 use Rattle.b67_image_shape.specs.Items.{EachTask, base_at, StackFactsBy}
 use Rattle.b67_image_shape.specs.ObjectMarks.{kind_code}
-use Rattle.b67_image_shape.specs.ObjectTable.{entry_mark, has_entry_at, mark_in_dictionary, is_original_word, is_stack_original, stack_mark, mark_at, ObjectsAreMarkedBy, ObjectsAreMarked}
+use Rattle.b67_image_shape.specs.ObjectTable.{entry_mark, has_entry_at, mark_in_dictionary, is_original_word, is_stack_original, stack_mark, mark_at, ObjectsAreMarkedBy}
 use Rattle.b67_image_shape.proofs.Members.{row_of_member, row_there}
 use Rattle.b67_layout_shown.proofs.Sorted.{sorted_there}
 use Rattle.b67_image_shape.proofs.Rows.{of_row, row_fact, found_row}
@@ -390,6 +390,3 @@ objects_marked_by held k low size kinds facts fixed stacks many marks = record {
   where
     at_mark : (i : ℕ) → mark_at k i ≡ 0 → get_or kinds i 0 ≡ 0
     at_mark i z = ⊎_elim (λ lt. marks i lt ∙ z) (λ past. get_or_past kinds i 0 (omega (arith, many, past))) (cases_lt i (length k.core))
-
-pub objects_marked : ObjectsAreMarked
-objects_marked k low size kinds facts fixed stacks many marks = objects_marked_by (held_of k) k low size kinds facts fixed stacks many marks

@@ -41,9 +41,3 @@ abbrev pub ObjectsAreMarkedBy : Type 0
 ObjectsAreMarkedBy =
     (held : Locations) (k : Sight) (low size : ℕ) (kinds : List ℕ) → TableFacts k → FixedFacts k low size → EachTask k (StackFactsBy held k) → length kinds ≡ length k.core
     → ((i : ℕ) → i < length k.core → slice_index kinds i ≡ mark_at k i) → AreMarked k.core kinds (view_in k).objects
-
--- over tables, fixed words and stacks as they should be, this table marks the objects that are shown
-abbrev pub ObjectsAreMarked : Type 0
-ObjectsAreMarked =
-    (k : Sight) (low size : ℕ) (kinds : List ℕ) → TableFacts k → FixedFacts k low size → EachTask k (StackFacts k) → length kinds ≡ length k.core
-    → ((i : ℕ) → i < length k.core → slice_index kinds i ≡ mark_at k i) → AreMarked k.core kinds (view_in k).objects
