@@ -61,6 +61,7 @@ impl Backing for CrookedBacking {
         ensures same { Becomes crooked_told self.old self.new (λ all. all) }
         ensures size { crooked_size self.new ≡ crooked_size self.old }
         ensures calls { Counts crooked_calls self.old self.new }
+        ensures calm { OnOk result (crooked_faults self.new ≡ crooked_faults self.old) }
         ensures cause { HasCause crooked_faults self.old self.new result }
     {
         self.calls = self.calls.saturating_add(1);
@@ -76,6 +77,7 @@ impl Backing for CrookedBacking {
         ensures leaves { OnErr result (Changes crooked_told self.old self.new (SameBut (n ∷ []))) }
         ensures size { crooked_size self.new ≡ crooked_size self.old }
         ensures calls { Counts crooked_calls self.old self.new }
+        ensures calm { OnOk result (crooked_faults self.new ≡ crooked_faults self.old) }
         ensures cause { HasCause crooked_faults self.old self.new result }
     {
         self.calls = self.calls.saturating_add(1);

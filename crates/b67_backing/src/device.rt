@@ -34,6 +34,7 @@ pub trait Backing {
         ensures same { Becomes holds self.old self.new (λ all. all) }
         ensures size { size self.new ≡ size self.old }
         ensures calls { Counts calls self.old self.new }
+        ensures calm { OnOk result (faults self.new ≡ faults self.old) }
         ensures cause { HasCause faults self.old self.new result };
 
     /// Writes sector n, and no other. A failed write leaves open what that sector holds.
@@ -44,5 +45,6 @@ pub trait Backing {
         ensures leaves { OnErr result (Changes holds self.old self.new (SameBut (n ∷ []))) }
         ensures size { size self.new ≡ size self.old }
         ensures calls { Counts calls self.old self.new }
+        ensures calm { OnOk result (faults self.new ≡ faults self.old) }
         ensures cause { HasCause faults self.old self.new result };
 }

@@ -119,6 +119,7 @@ impl Backing for MemoryBacking {
         ensures same { Becomes memory_told self.old self.new (λ all. all) }
         ensures size { length (memory_sectors self.new) ≡ length (memory_sectors self.old) }
         ensures calls { Counts memory_calls self.old self.new }
+        ensures calm { OnOk result (memory_faults self.new ≡ memory_faults self.old) }
         ensures cause { HasCause memory_faults self.old self.new result }
     {
         self.calls = self.calls.saturating_add(1);
@@ -143,6 +144,7 @@ impl Backing for MemoryBacking {
         ensures leaves { OnErr result (Changes memory_told self.old self.new (SameBut (n ∷ []))) }
         ensures size { length (memory_sectors self.new) ≡ length (memory_sectors self.old) }
         ensures calls { Counts memory_calls self.old self.new }
+        ensures calm { OnOk result (memory_faults self.new ≡ memory_faults self.old) }
         ensures cause { HasCause memory_faults self.old self.new result }
     {
         self.calls = self.calls.saturating_add(1);

@@ -36,13 +36,13 @@ first_and_more left old new count front len gave = record {
 pub too_long : (front : List ℕ) → length front ≡ limit + 1 → within_limit front ≡ Err (record { card = count_by (λ b. b == 10) (take limit front) + 1; reason = 14 })
 too_long front len = rw len refl
 
-pub read_to_end : {S A : Type 0} (left : S → Option (List ℕ)) (faults : S → ℕ) (old new : S) (meaning : List ℕ → Result A Refusal) (text : List ℕ) (result : Result A DeckFault) → GaveAll left old new text → length text ≤ limit → IsMeaning result (meaning text) → IsRead left faults old new meaning result
-read_to_end left faults old new meaning text (Ok a) all le e = (text, all, e)
-read_to_end left faults old new meaning text (Err (Card card reason)) all le e = (text, first_of_all left old new (limit + 1) text (omega arith) all, e)
-read_to_end left faults old new meaning text (Err SourceFault) all le e = absurd e
-read_to_end left faults old new meaning text (Err Memory) all le e = tt
+pub read_to_end : {S A : Type 0} (left : S → Option (List ℕ)) (faults : S → ℕ) (old new : S) (meaning : List ℕ → Result A Refusal) (text : List ℕ) (result : Result A DeckFault) → GaveAll left old new text → length text ≤ limit → faults new ≡ faults old → IsMeaning result (meaning text) → IsRead left faults old new meaning result
+read_to_end left faults old new meaning text (Ok a) all le calm e = (text, all, e, calm)
+read_to_end left faults old new meaning text (Err (Card card reason)) all le calm e = (text, first_of_all left old new (limit + 1) text (omega arith) all, e, calm)
+read_to_end left faults old new meaning text (Err SourceFault) all le calm e = absurd e
+read_to_end left faults old new meaning text (Err Memory) all le calm e = calm
 
 pub read_failed : {S A : Type 0} (left : S → Option (List ℕ)) (faults : S → ℕ) (old new : S) (meaning : List ℕ → Result A Refusal) (fault : ReadFault) → ((text : List ℕ) (r : Refusal) → within_limit text ≡ Err r → meaning text ≡ Err r) → IsAnswer left faults old new (Err fault) → IsRead left faults old new meaning (Err (fault_of fault))
-read_failed left faults old new meaning (read.TooLong card) first h = (h.0, first_and_more left old new (limit + 1) h.0 h.2 h.1, first h.0 _ (too_long h.0 h.2) ∙ ap (λ (n : ℕ). Err (record { card = n; reason = 14 })) (sym h.3))
+read_failed left faults old new meaning (read.TooLong card) first h = (h.0, first_and_more left old new (limit + 1) h.0 h.2 h.1, first h.0 _ (too_long h.0 h.2) ∙ ap (λ (n : ℕ). Err (record { card = n; reason = 14 })) (sym h.3), h.4)
 read_failed left faults old new meaning read.SourceFault first h = h
-read_failed left faults old new meaning read.Memory first h = tt
+read_failed left faults old new meaning read.Memory first h = h

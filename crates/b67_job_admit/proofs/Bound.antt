@@ -55,7 +55,7 @@ judged left faults old new list text d (Err admits.Memory) all e m = tt
 pub not_judged : {S : Type 0} (left : S → Option (List ℕ)) (faults : S → ℕ) (old new : S) (list : List Pair) (f : DeckFault) → IsRead left faults old new deck_of (Err f) → IsJudged left faults old new (bind_verdict list) (Err (of_deck_fault f))
 not_judged left faults old new list (fault.Card card reason) h = (h.0, h.1, refused_card list h.0 (record { card = card; reason = reason }) h.2)
 not_judged left faults old new list fault.SourceFault h = h
-not_judged left faults old new list fault.Memory h = h
+not_judged left faults old new list fault.Memory h = tt
 
 -- a text past the limit
 pub bind_long : (list : List Pair) (text : List ℕ) → limit < length text → bind_verdict list text ≡ Err (too_long text)

@@ -83,7 +83,7 @@ first_of_all left old new text cards e all = first_bytes left old new text (with
 pub not_read : {S : Type 0} (left : S → Option (List ℕ)) (faults : S → ℕ) (old new : S) (f : DeckFault) → IsRead left faults old new plain_cards (Err f) → IsJudged left faults old new asm_verdict (Err (of_deck_fault f))
 not_read left faults old new (fault.Card card reason) h = (h.0, h.1, refused_card h.0 (record { card = card; reason = reason }) h.2)
 not_read left faults old new fault.SourceFault h = h
-not_read left faults old new fault.Memory h = h
+not_read left faults old new fault.Memory h = tt
 
 -- ---- convert
 
@@ -110,7 +110,7 @@ first_of_hexadecimal left old new text cards e all = first_bytes left old new te
 pub not_read_hexadecimal : {S : Type 0} (left : S → Option (List ℕ)) (faults : S → ℕ) (old new : S) (f : DeckFault) → IsRead left faults old new hexadecimal_cards (Err f) → IsJudged left faults old new convert_verdict (Err (of_deck_fault f))
 not_read_hexadecimal left faults old new (fault.Card card reason) h = (h.0, h.1, refused_hexadecimal h.0 (record { card = card; reason = reason }) h.2)
 not_read_hexadecimal left faults old new fault.SourceFault h = h
-not_read_hexadecimal left faults old new fault.Memory h = h
+not_read_hexadecimal left faults old new fault.Memory h = tt
 
 -- ---- texts past the limit
 

@@ -68,7 +68,7 @@ first_of_all left old new text d e all =
 pub handed_on : {S : Type 0} (left : S → Option (List ℕ)) (faults : S → ℕ) (old new : S) (f : DeckFault) → IsRead left faults old new deck_of (Err f) → LoadsDeck left faults old new (Err (of_deck_fault f))
 handed_on left faults old new (fault.Card card reason) h = (h.0, h.1, refused_card h.0 (record { card = card; reason = reason }) h.2)
 handed_on left faults old new fault.SourceFault h = h
-handed_on left faults old new fault.Memory h = h
+handed_on left faults old new fault.Memory h = tt
 
 -- the deck of a text, with its programs or their refusal
 pub loads : {S : Type 0} (left : S → Option (List ℕ)) (faults : S → ℕ) (old new : S) (text : List ℕ) (d : Deck) (r : Result Loaded AdmitFault) → GaveAll left old new text → deck_of text ≡ Ok d

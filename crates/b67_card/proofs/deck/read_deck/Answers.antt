@@ -11,7 +11,7 @@ first text r e = rw e refl
 
 pub returns-in-Ok-clause-answer : goal.returns-in-Ok-clause-answer
 returns-in-Ok-clause-answer g c =
-    read_to_end g.S.Source.left g.S.Source.faults c.args.source.now c.read_all.new.source deck_of c.in-Ok.bytes c.deck_of.result c.in-Ok.ensures.answer.0 c.in-Ok.ensures.answer.1 (subst (λ (text : List ℕ). IsMeaning c.deck_of.result (deck_of text)) c.as_slice.ensures c.deck_of.ensures)
+    read_to_end g.S.Source.left g.S.Source.faults c.args.source.now c.read_all.new.source deck_of c.in-Ok.bytes c.deck_of.result c.in-Ok.ensures.answer.0 c.in-Ok.ensures.answer.1 c.in-Ok.ensures.answer.2 (subst (λ (text : List ℕ). IsMeaning c.deck_of.result (deck_of text)) c.as_slice.ensures c.deck_of.ensures)
 
 pub returns-in-Err-clause-answer : goal.returns-in-Err-clause-answer
 returns-in-Err-clause-answer g c =

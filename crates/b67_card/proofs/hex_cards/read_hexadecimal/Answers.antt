@@ -11,7 +11,7 @@ first text r e = rw e refl
 
 pub returns-in-Ok-clause-answer : goal.returns-in-Ok-clause-answer
 returns-in-Ok-clause-answer g c =
-    read_to_end g.S.Source.left g.S.Source.faults c.args.source.now c.read_all.new.source hexadecimal_cards c.in-Ok.bytes c.hexadecimal_cards.result c.in-Ok.ensures.answer.0 c.in-Ok.ensures.answer.1 (subst (λ (text : List ℕ). IsMeaning c.hexadecimal_cards.result (hexadecimal_cards text)) c.as_slice.ensures c.hexadecimal_cards.ensures)
+    read_to_end g.S.Source.left g.S.Source.faults c.args.source.now c.read_all.new.source hexadecimal_cards c.in-Ok.bytes c.hexadecimal_cards.result c.in-Ok.ensures.answer.0 c.in-Ok.ensures.answer.1 c.in-Ok.ensures.answer.2 (subst (λ (text : List ℕ). IsMeaning c.hexadecimal_cards.result (hexadecimal_cards text)) c.as_slice.ensures c.hexadecimal_cards.ensures)
 
 pub returns-in-Err-clause-answer : goal.returns-in-Err-clause-answer
 returns-in-Err-clause-answer g c =

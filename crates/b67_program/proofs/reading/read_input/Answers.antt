@@ -1,4 +1,4 @@
-use Rattle.std.proofs.Common.{◌≡◌, ◌++◌, ◌+◌, arith, ap, length-take, length, take}
+use Rattle.std.proofs.Common.{◌≡◌, ◌++◌, ◌+◌, arith, ap, ◌∙◌, length-take, length, take}
 use Rattle.b67_io.proofs.Joined.{Gave-then}
 use Rattle.b67_card.proofs.Pieces.{read_part, read_length}
 use Rattle.b67_program.proofs.reading.read_input.Goals as goal
@@ -8,4 +8,4 @@ read-preserved g c =
     let into = c.read-in-read.new.into in
     let read : c.extend.new.self ≡ c.read.bytes ++ take c.in-Ok.count into = read_part c.read.bytes into _ c.extend.new.self c.in-Ok.count c.in-Ok.ensures.count c.in-Ok-extend.ensures.ok in
     let grown : length c.extend.new.self ≡ length c.read.bytes + c.in-Ok.count = read_length c.read.bytes into c.extend.new.self c.in-Ok.count c.in-Ok.ensures.count read in
-    (rw read (Gave-then c.read.invariant.0 c.in-Ok.ensures.bytes), omega (arith, c.in-Ok.ensures.cause.later), omega (arith, grown, c.in-Ok.ensures.count, ap length c.as_slice.ensures, ap length c.as_slice-in-read.ensures, c.min-room.ensures, c.read-in-read.auto.into, length-take c.min-room.result c.read.piece))
+    (rw read (Gave-then c.read.invariant.0 c.in-Ok.ensures.bytes), c.in-Ok.ensures.calm ∙ c.read.invariant.1, omega (arith, grown, c.in-Ok.ensures.count, ap length c.as_slice.ensures, ap length c.as_slice-in-read.ensures, c.min-room.ensures, c.read-in-read.auto.into, length-take c.min-room.result c.read.piece))
