@@ -1,9 +1,10 @@
 -- The words of a command.
-use Rattle.std.specs.Prelude.{ℕ, ◌==◌, ◌&&◌, nat_le, not, Bool, false, List, [], ◌∷◌, length, codes, Option, Some, None, if◌then◌else◌}
+use Rattle.std.specs.Prelude.{ℕ, ◌&&◌, nat_le, List, [], ◌∷◌, length, codes, Option, Some, None, if◌then◌else◌}
 use Rattle.std.specs.Option.{option_map, option_and_then, option_or}
 use Rattle.std.specs.Str.{bytes_eq}
 use denote.Ref.{Bor}
 use Rattle.b67_model_text.specs.Command.{number_in, parted}
+pub use Rattle.b67_job_admit.specs.Told.{is_path}
 use Rattle.b67_bind.specs.declared.pairs.Pair.{Pair}
 use Rattle.b67_job.specs.declared.command.CommandLine.{CommandLine}
 use Rattle.b67_job.specs.declared.command.CommandLine.TheVariants as lines
@@ -24,11 +25,6 @@ abbrev pub options : List ℕ → List ℕ → List ℕ → List ℕ → Option 
 options first a second b =
     if bytes_eq first (codes "--core") && bytes_eq second (codes "--backing") then Some (record { core = a; path = b })
     else (if bytes_eq first (codes "--backing") && bytes_eq second (codes "--core") then Some (record { core = b; path = a }) else None)
-
--- it isn't empty and doesn't begin with a minus sign
-abbrev pub is_path : List ℕ → Bool
-is_path [] = false
-is_path (b ∷ more) = not (b == 45)
 
 abbrev pub requested : Options → Option Request
 requested o = if is_path o.path then option_map (λ n. record { core = n; path = o.path }) (number_in LEAST_CORE MOST_CORE o.core) else None

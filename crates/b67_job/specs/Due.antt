@@ -13,6 +13,7 @@ use Rattle.b67_job_admit.specs.declared.fault.AdmitFault.{AdmitFault}
 use Rattle.b67_job_admit.specs.declared.fault.AdmitFault.TheVariants as admits
 use Rattle.b67_job_admit.specs.Admitting.{Prepared}
 use Rattle.b67_job_admit.specs.CommandMeets.{IsJudged}
+pub use Rattle.b67_job_admit.specs.Told.{reading_text}
 use Rattle.b67_job_admit.specs.Told.{refusal_text}
 use Rattle.b67_job_admit.specs.Verdicts.{Verdict}
 use Rattle.b67_session_lines.specs.Ends.{EndsPrinting}
@@ -40,9 +41,6 @@ use Rattle.b67_image.specs.declared.fault.ImageFault.TheVariants as images
 
 abbrev pub usage_text : List ℕ
 usage_text = ended (codes "USAGE: b67 run --core N --backing PATH")
-
-abbrev pub reading_text : List ℕ
-reading_text = ended (codes "READING FAULT")
 
 -- the command read these bytes of its source, which are all; an exercise reads nothing
 abbrev pub ReadAll : {S : Type 0} → CommandLine → (S → Option (List ℕ)) → S → S → List ℕ → Type 0

@@ -3,26 +3,12 @@ use Rattle.std.specs.Prelude.{ℕ, List, [], ◌++◌, codes, decimal}
 use Rattle.b67_io.specs.Line.{ended}
 use Rattle.b67_task_tables.specs.declared.tables.Machine.{Machine}
 use Rattle.b67_image.specs.Image.{image_text}
+pub use Rattle.b67_job_admit.specs.Told.{no_core_line, backing_full_line, backing_fault_line, memory_line, memory_text}
 use Rattle.b67_job_admit.specs.Told.{card_text}
 use Rattle.b67_session_lines.specs.Stops.{halted_line}
 use Rattle.b67_job.specs.declared.summaries.Exercise.{Exercise}
 use Rattle.b67_job.specs.declared.summaries.Closing.{Closing}
 use Rattle.b67_job.specs.declared.summaries.Closing.TheVariants as closings
-
-abbrev pub no_core_line : ℕ → ℕ → List ℕ
-no_core_line need core = codes "NO CORE " ++ decimal need ++ codes " " ++ decimal core
-
-abbrev pub backing_full_line : ℕ → ℕ → List ℕ
-backing_full_line sum sectors = codes "BACKING FULL " ++ decimal sum ++ codes " " ++ decimal sectors
-
-abbrev pub backing_fault_line : List ℕ
-backing_fault_line = codes "BACKING FAULT"
-
-abbrev pub memory_line : List ℕ
-memory_line = codes "NO MEMORY"
-
-abbrev pub memory_text : List ℕ
-memory_text = ended memory_line
 
 -- the card of an image that is refused, and its reason
 abbrev pub refused_image_line : ℕ → ℕ → List ℕ

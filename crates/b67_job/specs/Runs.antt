@@ -1,14 +1,16 @@
 -- How the run of a deck over core stops: with which status and text, after how many steps of the session that the deck
 -- opens, and with which machine.
-use Rattle.std.specs.Prelude.{◌≡◌, ℕ, ◌+◌, ◌<◌, ◌≤◌, ◌⊎◌, List, ◌++◌, length, Option, Some, None, IfSome}
+use Rattle.std.specs.Prelude.{◌≡◌, ℕ, ◌+◌, ◌<◌, ◌≤◌, ◌⊎◌, List, ◌++◌, length, Option, Some, None}
 use Rattle.b67_io.specs.Line.{ended}
 use Rattle.b67_io.specs.Causes.{Rose}
 use Rattle.b67_model.specs.Common.{Task, SessionJob, need, run_text, IsInOrderButPlaces, Session, RunLine, StepResult, lines, after}
+pub use Rattle.b67_model.specs.Common.{IsBeforeHalt, IsWithinHalt}
 use Rattle.b67_exec_cells.specs.Running.{code_area}
 use Rattle.b67_law_sessions.specs.Turns.{IsNext}
 use Rattle.b67_session.specs.Passed.{IsLacking, IsShortAt, CodeFits, TellsSectors}
 use Rattle.b67_job_admit.specs.Admitting.{Prepared}
-use Rattle.b67_session_open.specs.Decks.{session_of, deck_given, given_of}
+pub use Rattle.b67_job_admit.specs.Admitting.{run_of}
+use Rattle.b67_session_open.specs.Decks.{deck_given, given_of}
 use Rattle.b67_session_open.specs.Opens.{need_of, sectors_of_all}
 use Rattle.b67_task_tables.specs.declared.tables.Machine.{Machine}
 use Rattle.b67_session.specs.Slices.{StandsAt, IsLimited}
@@ -21,10 +23,6 @@ use Rattle.b67_job.specs.Lines.{no_core_line, backing_full_line, backing_fault_l
 use Rattle.b67_job.specs.declared.summaries.Closing.{Closing}
 use Rattle.b67_job.specs.Texts.{Text, whole_of, only, TookUpTo, PrintsAndAnswers}
 use Rattle.b67_job.specs.States.{StatesInOrder, JobsRunApart}
-
--- the run that a deck with its programs asks for: the session that it opens, and its halt
-abbrev pub run_of : Prepared → Run
-run_of p = record { session = session_of p.0 p.1; halt = p.0.halt }
 
 -- lines of steps, and a last line
 abbrev pub text_to : List RunLine → List ℕ → Text
@@ -39,13 +37,6 @@ pub record StandsAfter {B : Type 0} (d : Device B) (steps : ℕ) (first s : Sess
   pub session : DeviceTells d → s ≡ after steps first
   pub lines_are : DeviceTells d → printed ≡ lines steps first
   pub apart : DeviceTells d → JobsRunApart steps first s printed
-
--- so many steps are fewer than the halt's count, or not more
-abbrev pub IsBeforeHalt : Run → ℕ → Type 0
-IsBeforeHalt r steps = IfSome r.halt (λ count. steps < count)
-
-abbrev pub IsWithinHalt : Run → ℕ → Type 0
-IsWithinHalt r steps = IfSome r.halt (λ count. steps ≤ count)
 
 -- no task lives any more, and the halt isn't passed; the machine represents the session without a task, in order but for
 -- places. An exercise has its line after the lines of the steps

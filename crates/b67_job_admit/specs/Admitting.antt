@@ -5,7 +5,7 @@ use Rattle.b67_codefile.specs.declared.fault.BadFile.TheVariants as bad
 use Rattle.b67_codefile.specs.declared.file.Codefile.{Codefile}
 use Rattle.b67_codefile.specs.Reading.{file_of}
 use Rattle.b67_codefile.specs.Meaning.{program_of}
-use Rattle.b67_model.specs.Common.{Program, refusals, first_of}
+use Rattle.b67_model.specs.Common.{Program, Run, refusals, first_of}
 pub use Rattle.b67_model.specs.Answers.{◌>>=◌}
 use Rattle.b67_model.specs.Loader as loader
 use Rattle.b67_model_text.specs.declared.deck.Body.{Body}
@@ -14,6 +14,7 @@ use Rattle.b67_model_text.specs.declared.deck.Job.{Job}
 use Rattle.b67_model_text.specs.declared.deck.Deck.{Deck}
 use Rattle.b67_model_text.specs.Deck as deck
 use Rattle.b67_model_text.specs.Deck.{deck_of}
+use Rattle.b67_model_text.specs.Opening.{session_of}
 use Rattle.b67_model_text.specs.Asm.{assembled}
 use Rattle.b67_job_admit.specs.declared.refusal.Refusal.{Refusal}
 use Rattle.b67_job_admit.specs.declared.refusal.Refusal.TheVariants as refusal
@@ -90,6 +91,10 @@ prepared jobs = do
 -- a deck and its programs, one for each job
 abbrev pub Prepared : Type 0
 Prepared = Deck × List Program
+
+-- the run that a deck with its programs asks for: the session that it opens, and its halt
+abbrev pub run_of : Prepared → Run
+run_of p = record { session = session_of p.0 p.1; halt = p.0.halt }
 
 -- a deck with its programs, or the first refusal of these
 abbrev pub with_programs : Deck → Admission Prepared

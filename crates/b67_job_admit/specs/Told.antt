@@ -1,5 +1,5 @@
--- How a refusal is told.
-use Rattle.std.specs.Prelude.{ℕ, List, ◌++◌, codes, decimal}
+-- How a refusal is told, with what last line a call ends, and which words are paths.
+use Rattle.std.specs.Prelude.{ℕ, ◌==◌, not, Bool, false, List, [], ◌∷◌, ◌++◌, codes, decimal}
 use Rattle.b67_io.specs.Line.{ended}
 use Rattle.b67_job_admit.specs.declared.refusal.Refusal.{Refusal}
 use Rattle.b67_job_admit.specs.declared.refusal.Refusal.TheVariants as refusal
@@ -19,3 +19,30 @@ refusal_line (refusal.Bind pair reason) = card_text (codes "BIND ") pair reason
 
 abbrev pub refusal_text : Refusal → List ℕ
 refusal_text r = ended (refusal_line r)
+
+-- ---- the last lines of calls, without their ends
+
+abbrev pub no_core_line : ℕ → ℕ → List ℕ
+no_core_line need core = codes "NO CORE " ++ decimal need ++ codes " " ++ decimal core
+
+abbrev pub backing_full_line : ℕ → ℕ → List ℕ
+backing_full_line sum sectors = codes "BACKING FULL " ++ decimal sum ++ codes " " ++ decimal sectors
+
+abbrev pub backing_fault_line : List ℕ
+backing_fault_line = codes "BACKING FAULT"
+
+abbrev pub memory_line : List ℕ
+memory_line = codes "NO MEMORY"
+
+abbrev pub memory_text : List ℕ
+memory_text = ended memory_line
+
+abbrev pub reading_text : List ℕ
+reading_text = ended (codes "READING FAULT")
+
+-- ---- the words of a command
+
+-- a path isn't empty and doesn't begin with a minus sign
+abbrev pub is_path : List ℕ → Bool
+is_path [] = false
+is_path (b ∷ more) = not (b == 45)

@@ -1,7 +1,8 @@
 -- The opening of a session, within the limits of a deck.
-use Rattle.std.specs.Prelude.{ℕ, ◌+◌, ◌^◌, ◌<◌, ◌≤◌, ℤ, nat_abs, List, [], ◌∷◌, length}
+use Rattle.std.specs.Prelude.{ℕ, ◌+◌, ◌^◌, ◌<◌, ◌≤◌, ℤ, nat_abs, List, length}
 use Rattle.std.specs.List.{AllByRecursion}
-use Rattle.b67_model.specs.Common.{SessionJob, Program, opened, IsAdmitted, Switch, Session, start, SegmentInOrder, SwitchesRise, IsInOrder}
+pub use Rattle.b67_model.specs.Common.{Opening, opened_from, opening}
+use Rattle.b67_model.specs.Common.{IsAdmitted, Switch, SegmentInOrder, SwitchesRise, IsInOrder}
 use Rattle.b67_model.specs.declared.limits.TheConstants.{LEAST_STACK, MOST_JOBS, MOST_PARTS, MOST_LIMIT}
 
 -- the words of a data row
@@ -9,12 +10,6 @@ pub record RowWithin (row : List ℕ) : Type 0 where
   pub length_low : 0 < length row
   pub length_high : length row < 2 ^ 16
   pub words : AllByRecursion (λ (n : ℕ). n < 2 ^ 48) row
-
--- a job of a deck: its program, its limit of operators and its numbers for READ
-pub record Opening : Type 0 where
-  pub program : Program
-  pub limit : ℕ
-  pub numbers : List ℤ
 
 -- an admitted program and numbers within their limits
 pub record OpeningWithin (o : Opening) : Type 0 where
@@ -25,14 +20,6 @@ pub record OpeningWithin (o : Opening) : Type 0 where
   pub limit_low : 0 < o.limit
   pub limit_high : o.limit ≤ MOST_LIMIT
   pub numbers : AllByRecursion (λ (v : ℤ). nat_abs v < 2 ^ 39) o.numbers
-
--- the jobs of a session from a number on
-abbrev pub opened_from : ℕ → ℕ → List Opening → List SessionJob
-opened_from number stack [] = []
-opened_from number stack (o ∷ more) = opened number o.program stack o.limit o.numbers ∷ opened_from (number + 1) stack more
-
-abbrev pub opening : ℕ → ℕ → List Switch → List Opening → Session
-opening stack quantum switches openings = start (opened_from 1 stack openings) switches quantum
 
 -- what a deck within its limits asks for
 pub record DeckWithin (stack : ℕ) (switches : List Switch) (openings : List Opening) : Type 0 where

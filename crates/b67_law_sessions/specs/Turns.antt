@@ -1,17 +1,10 @@
--- The task that makes the next step, and the laws of this crate.
+-- A step of the task that makes the next one, and the laws of this crate.
 use Rattle.std.specs.Prelude.{◌≡◌, List, map, Option, Some, None}
-use Rattle.b67_model.specs.Common.{JobMoment, moment_with, Stepped, IsInOrderButPlaces, Line, RunLine, StepResult, with_moment, of_job, number_of, Session, Choice, choice, Ready, Task, SessionJob}
-use Rattle.b67_model.specs.Keyed.{keyed}
+use Rattle.b67_model.specs.Common.{JobMoment, moment_with, Stepped, IsInOrderButPlaces, Line, RunLine, StepResult, with_moment, of_job, Session, Choice, choice, Ready, Task, SessionJob}
+pub use Rattle.b67_model.specs.Common.{IsNext}
 use Rattle.b67_law_order.specs.Weaker.{AllOtherNumbers}
 use Rattle.b67_session_lines.specs.Moments.{last_part}
 use Rattle.b67_law_sessions.specs.Orders.{IsInOrderButLimit, SettlesInOrder}
-
--- the task that makes the next step
-pub record IsNext (s : Session) (m : SessionJob) (t : Task) : Type 0 where
-  pub chosen : Choice
-  pub is : choice s ≡ Some chosen
-  pub member : keyed number_of chosen.who.job s.jobs ≡ Some m
-  pub task : keyed (λ (u : Task). u.number) chosen.who.task m.progress.job.tasks ≡ Some t
 
 -- the first part of a step whose operator made this, or ended its task so
 abbrev pub part_of : Session → Choice → SessionJob → Task → Stepped → StepResult

@@ -4,8 +4,8 @@ use Rattle.std.specs.List.{list_any}
 use Rattle.b67_word.specs.declared.couples.Place.{Place}
 use Rattle.b67_ctl.specs.declared.registers.Regs.{Regs}
 use Rattle.b67_lemmas.specs.Lists.{Has}
-use Rattle.b67_model.specs.Common.{Answer, Frame, Array, Task, Job, SessionJob, OperatorContext, head_words, array, Done, Goes, Leaves, number_of, Session}
-use Rattle.b67_model.specs.Keyed.{change_keyed}
+use Rattle.b67_model.specs.Common.{Answer, Frame, Array, Task, Job, SessionJob, OperatorContext, head_words, array, Done, Goes, Leaves, Session}
+pub use Rattle.b67_model.specs.Common.{with_job}
 use Rattle.b67_layout.specs.Orders.{IsInOrderButCounts}
 use Rattle.b67_stack.specs.declared.Cpu.{Cpu}
 use Rattle.b67_stack.specs.declared.What.{What}
@@ -21,11 +21,6 @@ use Rattle.b67_layout.specs.Session.{IsRunning, frame_address, RepresentsSession
 -- where a task makes its operator, behind which it stands at the place `next`
 abbrev pub here : SessionJob → Task → Place → OperatorContext
 here m t next = record { constants = m.constants; job = m.progress.job; task = record t { place = next }; at = t.place }
-
--- the session with another job of a member
-abbrev pub with_job : Session → SessionJob → Job → Session
-with_job s m job =
-    record s { jobs = change_keyed number_of m.constants.number (λ (y : SessionJob). record y { progress = record m.progress { job = job } }) s.jobs }
 
 -- the arrays that a job has no more, and their objects
 abbrev pub gone : Job → Job → List Array

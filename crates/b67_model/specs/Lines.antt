@@ -55,3 +55,7 @@ line_text job line = text_of (task_name job line.0) line.1
 -- the text of a run's lines
 abbrev pub run_text : List (ℕ × ℕ × Line) → List ℕ
 run_text lines = flat_map (λ (line : ℕ × ℕ × Line). line_text line.0 (line.1, line.2)) lines
+
+-- the last line of a run that halts, without its end
+abbrev pub halted_line : ℕ → List ℕ
+halted_line count = codes "HALTED " ++ decimal count

@@ -1,5 +1,5 @@
 -- The core that a step needs.
-use Rattle.std.specs.Prelude.{ℕ, ◌+◌, ◌-◌, ◌*◌, max, ◌==◌, nat_lt, List, [], ◌∷◌, length, reverse, sum_by, Option, Some, None, Ok, Err, if◌then◌else◌, option_map}
+use Rattle.std.specs.Prelude.{◌≡◌, ℕ, ◌<◌, ◌≤◌, ◌+◌, ◌-◌, ◌*◌, max, ◌==◌, nat_lt, List, [], ◌∷◌, length, reverse, sum_by, Option, Some, None, Ok, Err, if◌then◌else◌, option_map}
 use Rattle.b67_model.specs.declared.intrinsics.TheConstants.{PRINTROW}
 use Rattle.b67_model.specs.declared.operators.Op.TheVariants.{Plain}
 use Rattle.b67_model.specs.declared.operators.Code.TheVariants.{Entr}
@@ -13,7 +13,7 @@ use Rattle.b67_model.specs.Operators.{Reading}
 use Rattle.b67_model.specs.Steps.{Done, Goes, Leaves, Waits}
 use Rattle.b67_model.specs.Rows.{code_of, reading_of, step}
 use Rattle.b67_model.specs.Schedule.{Session, Choice, choice}
-use Rattle.b67_model.specs.Run.{live_tasks, number_of}
+use Rattle.b67_model.specs.Run.{live_tasks, number_of, after}
 
 -- the MCP's words and all dictionaries, each of two words and its entries
 abbrev pub fixed : List SessionJob → ℕ
@@ -73,3 +73,13 @@ need_by core s (Some c) = need_of_job core s c.who.task (keyed number_of c.who.j
 
 abbrev pub need_next : ℕ → Session → Option ℕ
 need_next core s = need_by core s (choice s)
+
+-- core has the words that the session's next step needs
+pub record NextFits (core : ℕ) (s : Session) : Type 0 where
+  pub words : ℕ
+  pub needs : need_next core s ≡ Some words
+  pub fits : words ≤ core
+
+-- and those of each of so many steps from a session on
+abbrev pub StepsFit : ℕ → ℕ → Session → Type 0
+StepsFit core steps first = (k : ℕ) → k < steps → NextFits core (after k first)

@@ -1,7 +1,8 @@
--- The run of a session: its steps, their lines, and its states.
-use Rattle.std.specs.Prelude.{ℕ, zero, suc, ◌+◌, ◌-◌, max, List, [], ◌∷◌, ◌++◌, map, length, sum_by, Option, Some, None}
+-- The run of a session: its steps, their lines, its states, and its halt.
+use Rattle.std.specs.Prelude.{ℕ, zero, suc, ◌+◌, ◌-◌, max, List, [], ◌∷◌, ◌++◌, map, length, sum_by, ◌<◌, ◌≤◌, Option, Some, None, IfSome}
 use Rattle.b67_model.specs.Keyed.{keyed, change_keyed}
 use Rattle.b67_model.specs.State.{SessionJob}
+pub use Rattle.b67_model.specs.State.{number_of}
 use Rattle.b67_model.specs.Steps.{Line}
 use Rattle.b67_model.specs.Alone.{JobMoment, step_of}
 use Rattle.b67_model.specs.Schedule.{Switch, Session, Choice, choice}
@@ -19,9 +20,6 @@ of_job job lines = map (λ line. (job, line.0, line.1)) lines
 
 abbrev pub live_tasks : List SessionJob → ℕ
 live_tasks jobs = sum_by (λ m. length m.progress.job.tasks) jobs
-
-abbrev pub number_of : SessionJob → ℕ
-number_of m = m.constants.number
 
 -- the session after a step of a job: with one operator more, and the peak that the step reached before its endings
 abbrev pub with_moment : Session → Choice → SessionJob → JobMoment → Session
@@ -88,3 +86,19 @@ start jobs switches quantum = record {
   quantum = quantum;
   peak = length jobs;
 }
+
+-- a run that is asked for: the session at its opening, and the count of operators at which it halts, if there is one
+pub record Run : Type 0 where
+  pub session : Session
+  pub halt : Option ℕ
+
+-- so many steps are fewer than the halt's count, or not more
+abbrev pub IsBeforeHalt : Run → ℕ → Type 0
+IsBeforeHalt r steps = IfSome r.halt (λ count. steps < count)
+
+abbrev pub IsWithinHalt : Run → ℕ → Type 0
+IsWithinHalt r steps = IfSome r.halt (λ count. steps ≤ count)
+
+-- the tasks that live after so many steps
+abbrev pub live_after : ℕ → Session → ℕ
+live_after steps s = live_tasks (after steps s).jobs

@@ -82,6 +82,9 @@ pub record SessionJob : Type 0 where
   pub constants : JobConstants
   pub progress : JobProgress
 
+abbrev pub number_of : SessionJob → ℕ
+number_of m = m.constants.number
+
 -- where an operator is made: in a job, by a task that stands past the operator, which is at this place
 pub record OperatorContext : Type 0 where
   pub constants : JobConstants

@@ -9,6 +9,7 @@ use Rattle.b67_layout_storage.specs.Machine.{HasHole}
 use Rattle.b67_task_need.specs.Needing.{need_with}
 use Rattle.b67_model.specs.declared.intrinsics.TheConstants.{PROCESS}
 use Rattle.b67_model.specs.Common.{Array, Ready, Task, Job, SessionJob, code_of, sectors, touched_of, need, step, Session}
+pub use Rattle.b67_model.specs.Common.{TakesSectors}
 use Rattle.b67_layout.specs.Common.{IsInOrderButCounts, Placement, IsRunning, area_held, with_job, objects_gone}
 use Rattle.b67_exec_cells.specs.Called.{called_in}
 use Rattle.b67_task_release.specs.Released.{HasHome}
@@ -97,10 +98,6 @@ pub data TellsSectors (exact : Type 0) (x : Storage) (plan : Placement) (s : Ses
   for_want : (exact → LacksRoom x plan m t) → sum ≡ sectors s.jobs → TellsSectors exact x plan s m t sum
   for_task : StartsTask m t → sum ≡ sectors s.jobs → TellsSectors exact x plan s m t sum
   for_length : (l : Lengthens m t) → (LacksRoom x plan m t → ⊥) → sum ≡ sectors (with_job s m l.job).jobs → TellsSectors exact x plan s m t sum
-
--- the session takes so many sectors, or does once the step has made its array longer
-abbrev pub TakesSectors : Session → SessionJob → Task → ℕ → Type 0
-TakesSectors s m t sum = (sum ≡ sectors s.jobs) ⊎ ((l : Lengthens m t) × (sum ≡ sectors (with_job s m l.job).jobs))
 
 -- the machine stands for the session, whose next step lacks its segment or its array, makes it longer or starts a task. Core has
 -- room for its segment, and for the whole step if the segment is present. `exact` is as below

@@ -2,7 +2,8 @@
 use Rattle.std.specs.Prelude.{◌≡◌, ◌≢◌, ℕ, ◌+◌, ◌<◌, ◌≤◌, ◌⊎◌, List, [], ◌++◌, length, take, Option, Some, None, Result, Ok, Err}
 use Rattle.b67_io.specs.Told.{Took}
 use Rattle.b67_model.specs.declared.intrinsics.TheConstants.{PROCESS}
-use Rattle.b67_model.specs.Common.{Task, Job, SessionJob, Line, Goes, step, need, need_next, run_text, IsInOrderButPlaces, Session, RunLine, StepResult, after, lines, live_tasks}
+use Rattle.b67_model.specs.Common.{Task, Job, SessionJob, Line, Goes, step, need, run_text, IsInOrderButPlaces, Session, RunLine, StepResult, after, lines, live_tasks}
+pub use Rattle.b67_model.specs.Common.{NextFits, StepsFit}
 use Rattle.b67_session_lines.specs.Moments.{first_part, last_part, due}
 use Rattle.b67_lemmas.specs.Lists.{Has}
 use Rattle.b67_stack.specs.MachineView.{PagedObject}
@@ -104,16 +105,6 @@ pub record PrintsWhole {K : Type 0} (steps : ℕ) (old new : Machine) (paper pap
   pub none : steps ≡ 0 → (new.tasks.printed ≡ old.tasks.printed) × (paper' ≡ paper)
 
 -- ---- core
-
--- core has the words that the session's next step needs
-pub record NextFits (core : ℕ) (s : Session) : Type 0 where
-  pub words : ℕ
-  pub needs : need_next core s ≡ Some words
-  pub fits : words ≤ core
-
--- and those of each of so many steps from a session on
-abbrev pub StepsFit : ℕ → ℕ → Session → Type 0
-StepsFit core steps first = (k : ℕ) → k < steps → NextFits core (after k first)
 
 -- the next step lacks its segment or its array, makes it longer, or starts a task. Core has room for its segment, and for the
 -- whole step if the segment is present

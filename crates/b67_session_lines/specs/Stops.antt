@@ -1,18 +1,8 @@
 -- How a run stops, and what it prints.
-use Rattle.std.specs.Prelude.{ℕ, ◌≡◌, ◌<◌, ◌≤◌, ◌==◌, List, ◌++◌, codes, decimal, Option, Some, None, IfSome, if◌then◌else◌}
+use Rattle.std.specs.Prelude.{ℕ, ◌≡◌, ◌<◌, ◌≤◌, ◌==◌, List, ◌++◌, Option, Some, None, IfSome, if◌then◌else◌}
 use Rattle.b67_io.specs.Line.{ended}
-use Rattle.b67_model.specs.Common.{Session, run_text, live_tasks, lines, after}
-
--- a run that is asked for: the session at its opening, and the count of operators at which it halts, where there is one
-pub record Run : Type 0 where
-  pub session : Session
-  pub halt : Option ℕ
-
-abbrev pub live_after : ℕ → Session → ℕ
-live_after steps s = live_tasks (after steps s).jobs
-
-abbrev pub halted_line : ℕ → List ℕ
-halted_line count = codes "HALTED " ++ decimal count
+use Rattle.b67_model.specs.Common.{run_text, lines}
+pub use Rattle.b67_model.specs.Common.{Run, live_after, halted_line}
 
 -- The whole text of a run: after so many steps no task lives, and this is what they print. That isn't past the halt.
 pub record IsFinished (r : Run) (text : List ℕ) : Type 0 where

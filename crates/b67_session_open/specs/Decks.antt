@@ -1,5 +1,5 @@
--- The session that a deck and its programs open.
-use Rattle.std.specs.Prelude.{ℤ, ◌^◌, ◌<◌, ◌≤◌, nat_abs, IsTrue, List, [], ◌∷◌, length, map}
+-- What a deck gives the session that it opens, within the ranges of cards.
+use Rattle.std.specs.Prelude.{ℤ, ◌^◌, ◌<◌, ◌≤◌, nat_abs, IsTrue, List, length, map}
 use Rattle.std.specs.List.{AllByRecursion, list_all}
 use Rattle.std.specs.Char.{is_ascii}
 use Rattle.b67_model_text.specs.declared.deck.Deck.{Deck}
@@ -7,24 +7,12 @@ use Rattle.b67_model_text.specs.declared.deck.Job.{Job}
 use Rattle.b67_codefile.specs.declared.file.Codefile.{Codefile}
 use Rattle.b67_codefile.specs.Spelling.{IsWithin}
 use Rattle.b67_codefile.specs.Meaning.{program_of}
-use Rattle.b67_model.specs.Common.{IsAdmitted, Program, Session, SwitchesRise}
-use Rattle.b67_law_order.specs.Opening.{Opening, opening}
-use Rattle.b67_task_tables.specs.Tables.{switch_of, JobGiven, Given}
+use Rattle.b67_model.specs.Common.{IsAdmitted, SwitchesRise}
+pub use Rattle.b67_model_text.specs.Opening.{opening_of, openings_of, session_of}
+use Rattle.b67_model_text.specs.Opening.{switch_of}
+use Rattle.b67_task_tables.specs.Tables.{JobGiven, Given}
 pub use Rattle.b67_task_tables.specs.Tables.{IsCountable, job_given, rows_given, given_of}
 use Rattle.b67_model.specs.declared.limits.TheConstants.{LEAST_STACK, MOST_JOBS, MOST_LIMIT}
-
--- a job with its program
-abbrev pub opening_of : Job → Program → Opening
-opening_of j p = record { program = p; limit = j.limit; numbers = j.numbers }
-
-abbrev pub openings_of : List Job → List Program → List Opening
-openings_of [] ps = []
-openings_of (j ∷ js) [] = []
-openings_of (j ∷ js) (p ∷ ps) = opening_of j p ∷ openings_of js ps
-
--- the state in which a deck's session opens, with a program for each job
-abbrev pub session_of : Deck → List Program → Session
-session_of d ps = opening d.stack d.quantum (map switch_of d.switches) (openings_of d.jobs ps)
 
 -- within the ranges of cards
 pub record JobInRange (j : Job) : Type 0 where

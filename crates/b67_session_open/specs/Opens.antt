@@ -3,7 +3,8 @@ use Rattle.std.specs.Prelude.{◌≡◌, ℕ, ◌+◌, ◌<◌, ◌≤◌, List,
 use Rattle.b67_io.specs.Causes.{Rose}
 use Rattle.b67_lemmas.specs.Lists.{Has}
 use Rattle.b67_model_text.specs.declared.deck.Deck.{Deck}
-use Rattle.b67_model.specs.Common.{Program, need_at_opening, sectors}
+pub use Rattle.b67_model_text.specs.Opening.{need_of, sectors_of_all}
+use Rattle.b67_model.specs.Common.{Program}
 use Rattle.b67_stack.specs.Represents.{Storage}
 use Rattle.b67_session_open.specs.Opened.{opening_plan}
 use Rattle.b67_layout_storage.specs.Machine.{content_after}
@@ -13,13 +14,6 @@ use Rattle.b67_task_tables.specs.Tables.{MachineRepresents}
 use Rattle.b67_session_open.specs.declared.fault.OpenFault.{OpenFault}
 use Rattle.b67_session_open.specs.declared.fault.OpenFault.TheVariants.{Memory, NoCore, BackingFull, BackingFault}
 use Rattle.b67_session_open.specs.Decks.{session_of, deck_given, given_of, IsCountable}
-
--- the opening's need of core, and the sectors of its programs
-abbrev pub need_of : Deck → List Program → ℕ
-need_of d ps = need_at_opening d.stack (session_of d ps).jobs
-
-abbrev pub sectors_of_all : Deck → List Program → ℕ
-sectors_of_all d ps = sectors (session_of d ps).jobs
 
 -- the machine represents the opening state of a deck's session, in a core of so many words over a device of so many sectors,
 -- and has what the deck gives. A slice of steps may be called on it

@@ -1,7 +1,8 @@
 -- A machine that is short of sectors: for an array that is present, or for one that the running step makes longer.
-use Rattle.std.specs.Prelude.{◌≡◌, ◌≢◌, ℕ, ◌+◌, ◌<◌, ◌⊎◌, List, [], length, Option, None, Ok}
+use Rattle.std.specs.Prelude.{◌≡◌, ◌≢◌, ℕ, ◌+◌, ◌<◌, ◌⊎◌, List, length, None}
 use Rattle.b67_lemmas.specs.Lists.{Has}
-use Rattle.b67_model.specs.Common.{Array, Task, Job, SessionJob, Goes, step}
+use Rattle.b67_model.specs.Common.{Array, Task, SessionJob}
+pub use Rattle.b67_model.specs.Common.{Lengthens}
 use Rattle.b67_backing.specs.Held.{sectors_for}
 use Rattle.b67_stack.specs.Represents.{Storage}
 use Rattle.b67_layout.specs.Placement.{Placement}
@@ -18,18 +19,6 @@ pub record IsShortOf (x : Storage) (plan : Placement) (jobs : List SessionJob) (
   pub wants_is : wants ≡ sectors_for (length array.numbers)
   pub free_is : free ≡ length x.shelf.free
   pub fewer : free < wants
-
--- the step of a task makes an array of its job longer: it is a RESIZE to a greater length
-pub record Lengthens (m : SessionJob) (t : Task) : Type 0 where
-  pub job : Job
-  pub touched : Option ℕ
-  pub is : step m.constants m.progress.job t ≡ Ok (Goes job [] touched)
-  pub array : Array
-  pub after : Array
-  pub among : Has m.progress.job.arrays array
-  pub still : Has job.arrays after
-  pub same : after.identity ≡ array.identity
-  pub longer : length array.numbers < length after.numbers
 
 -- the running step makes an array longer that has a chain; the chain lacks so many sectors, and fewer are free
 pub record LacksSectors (x : Storage) (plan : Placement) (m : SessionJob) (t : Task) (wants free : ℕ) : Type 0 where

@@ -2,7 +2,8 @@
 use Rattle.std.specs.Prelude.{ℕ, ℤ, ◌<◌, ◌^◌, List, length, map, Option}
 use Rattle.b67_lemmas.specs.Lists.{Has}
 use Rattle.b67_model_text.specs.declared.deck.Switch as text
-use Rattle.b67_model.specs.Schedule.{Switch, Session}
+pub use Rattle.b67_model_text.specs.Opening.{switch_of}
+use Rattle.b67_model.specs.Schedule.{Session}
 use Rattle.b67_stack.specs.Represents.{Storage}
 use Rattle.b67_layout.specs.Common.{Placement, RowState, IsReady, AwaitsTask, WaitsAtCell, JobCounts, TablesShow, RepresentsSession, RepresentsStorage}
 use Rattle.b67_layout.specs.Rows as rows
@@ -23,9 +24,6 @@ task_row r = record { job = r.job; number = r.number; slot = r.slot; parent = r.
 
 abbrev pub job_row : JobRow → rows.JobRow
 job_row r = record { dictionary = r.dict; segments = r.segments; rows = r.rows; limit = r.limit; made = r.made; next_task = r.next_task; numbers = r.numbers; next_number = r.next_number }
-
-abbrev pub switch_of : text.Switch → Switch
-switch_of w = record { count = w.count; to = record { job = w.job; task = w.task } }
 
 abbrev pub counts_of : Tasks → JobCounts
 counts_of t = record {
