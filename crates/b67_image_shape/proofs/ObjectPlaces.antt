@@ -24,7 +24,7 @@ use Rattle.b67_layout_shown.proofs.Bits.{desc_read}
 use Rattle.b67_layout_shown.proofs.Stacks.{word_is}
 use Rattle.b67_image_shape.specs.TableFacts.{row_in_slot, rows_in, TableFacts}
 use Rattle.b67_image_shape.specs.FixedWords.{DictionariesStandIn, FixedFacts}
-use Rattle.b67_image_shape.specs.Held.{view_in, held_of}
+use Rattle.b67_image_shape.specs.Held.{view_in}
 use Rattle.b67_image_shape.specs.Items.{EachTask, base_at, StackFactsBy}
 use Rattle.b67_image_shape.specs.ObjectMarks.{kind_code}
 use Rattle.b67_image_shape.specs.ObjectTable.{entry_mark, has_entry_at, mark_in_dictionary, is_original_word, is_stack_original, stack_mark, mark_at, ObjectsAreMarkedBy}

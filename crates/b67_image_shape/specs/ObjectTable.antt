@@ -8,7 +8,7 @@ use Rattle.b67_layout_shown.specs.Shown.{Sight, top_in}
 use Rattle.b67_image_shape.specs.TableFacts.{row_in_slot, TableFacts}
 use Rattle.b67_image_shape.specs.FixedWords.{FixedFacts}
 use Rattle.b67_image_shape.specs.Held.{view_in}
-use Rattle.b67_image_shape.specs.Items.{EachTask, StackFactsBy, StackFacts, base_at}
+use Rattle.b67_image_shape.specs.Items.{EachTask, StackFactsBy, base_at}
 use Rattle.b67_image_shape.specs.ObjectMarks.{AreMarked}
 
 -- entry i of a dictionary of so many segments

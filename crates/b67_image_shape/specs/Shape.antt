@@ -1,18 +1,10 @@
--- When a machine represents a session in order but for places, as tests.
-use Rattle.std.specs.Prelude.{◌≡◌, ◌≢◌, ℕ, ◌^◌, ◌<◌, Bool, true, ◌&&◌, List}
-use Rattle.b67_word.specs.Tagged.{Tagged}
+-- When the display shows the frames of the running task, and how that is told.
+use Rattle.std.specs.Prelude.{◌≡◌, ◌≢◌}
 use Rattle.b67_ctl.specs.declared.registers.TheConstants.{NO_SLOT}
-use Rattle.b67_backing.specs.Shelf.{Shelf, IsShelf}
-use Rattle.b67_backing.specs.Links.{links_in}
-use Rattle.b67_lemmas.specs.Lists.{Has}
 use Rattle.b67_task_tables.specs.declared.tables.Machine.{Machine}
 use Rattle.b67_refer.specs.RunningContext.{RunningContext, IsShown}
-use Rattle.b67_layout_shown.specs.Machines.{sight_of, RepresentsShown}
-use Rattle.b67_image_shape.specs.TableTests.{tables_test}
-use Rattle.b67_image_shape.specs.FixedTests.{fixed_test, critical_test}
+use Rattle.b67_layout_shown.specs.Machines.{sight_of}
 use Rattle.b67_image_shape.specs.Items.{DisplayFacts}
-use Rattle.b67_image_shape.specs.TableMarks.{IsTable}
-use Rattle.b67_image_shape.specs.ObjectMarks.{AreKept}
 
 abbrev pub ShowsRunning : Machine → Type 0
 ShowsRunning k = DisplayFacts (sight_of k) k.cpu.display
