@@ -13,4 +13,5 @@ pub mod Decks
 pub mod Served
 pub mod Status
 pub mod Causes
+pub mod Passed
 mod Goes

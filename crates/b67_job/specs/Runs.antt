@@ -7,13 +7,14 @@ use Rattle.b67_model.specs.Common.{Task, SessionJob, need, run_text, IsInOrderBu
 pub use Rattle.b67_model.specs.Common.{IsBeforeHalt, IsWithinHalt}
 use Rattle.b67_exec_cells.specs.Running.{code_area}
 use Rattle.b67_law_sessions.specs.Turns.{IsNext}
-use Rattle.b67_session.specs.Passed.{IsLacking, IsShortAt, CodeFits, TellsSectors}
+use Rattle.b67_session.specs.Passed.{IsLacking, IsShortAt, CodeFits}
+pub use Rattle.b67_session.specs.Attempts.{TellsSectors, for_want, for_task, for_length}
 use Rattle.b67_job_admit.specs.Admitting.{Prepared}
 pub use Rattle.b67_job_admit.specs.Admitting.{run_of}
 use Rattle.b67_session_open.specs.Decks.{deck_given, given_of}
 use Rattle.b67_session_open.specs.Opens.{need_of, sectors_of_all}
 use Rattle.b67_task_tables.specs.declared.tables.Machine.{Machine}
-use Rattle.b67_session.specs.Slices.{StandsAt, IsLimited}
+pub use Rattle.b67_session.specs.Slices.{StandsAt, IsLimited}
 pub use Rattle.b67_session.specs.Slices.{IsOpen, RepresentsWithoutTasks, StepsFit}
 pub use Rattle.b67_session.specs.Shaped.{IsShaped}
 use Rattle.b67_session_lines.specs.Moments.{first_part, due as due_text}

@@ -10,7 +10,7 @@ use Rattle.b67_lemmas.specs.Lists.{Has}
 use Rattle.b67_lemmas.proofs.Members.{all_in, keyed_has, length_filter}
 use Rattle.b67_model.specs.Keyed.{keyed}
 use Rattle.b67_model.specs.Common.{need, need_of_job, need_by, need_next, Task, SessionJob, Session, Who, Choice, choice, after, live_tasks, number_of, ready, ready_of, is_ready, IsInOrder}
-use Rattle.b67_session.specs.Slices.{NextFits}
+use Rattle.b67_model.specs.Common.{NextFits}
 use Rattle.b67_session_lines.specs.Stops.{live_after}
 use Rattle.b67_job.specs.Device.{Device, DeviceTells}
 use Rattle.b67_job.specs.Runs.{run_of}

@@ -8,7 +8,7 @@ use denote.Ref.{Bor}
 use Rattle.b67_io.specs.Causes.{Stayed}
 use Rattle.b67_model.specs.Common.{need, need_next, Session, after, live_tasks}
 use Rattle.b67_model_text.specs.Command.{number_in}
-use Rattle.b67_session.specs.Slices.{StandsAt}
+use Rattle.b67_job.specs.Runs.{StandsAt}
 use Rattle.b67_session_lines.specs.Stops.{live_after}
 use Rattle.b67_session_lines.proofs.Statuses.{after-add}
 use Rattle.b67_task_tables.specs.declared.tables.Machine.{Machine}

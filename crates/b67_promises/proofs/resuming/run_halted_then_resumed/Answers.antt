@@ -1,6 +1,6 @@
 use Rattle.std.proofs.Common.{ℕ, List, Option, None, sym, ap, subst, inl, ◌∙◌, arith}
 use Rattle.b67_model.specs.Common.{Session, lines, after}
-use Rattle.b67_session.specs.Slices.{StandsAt}
+use Rattle.b67_job.specs.Runs.{StandsAt}
 use Rattle.b67_job.specs.Device.{device_of}
 use Rattle.b67_job.specs.Statuses.{StatusMeans}
 use Rattle.b67_job.specs.Runs.{run_of}

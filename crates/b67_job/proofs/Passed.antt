@@ -1,0 +1,3 @@
+-- Lemmas of the crates below, for the crates above.
+pub use Rattle.b67_session.proofs.Rows.{none_of}
+pub use Rattle.b67_session.proofs.Shaping.{stands_untold}
