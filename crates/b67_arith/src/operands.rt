@@ -49,9 +49,6 @@ pub fn numbers(a: Word, b: Word) -> Result<(i64, i64), Fault>
     ensures value { result ≡ numbers_of_two a b }
     ensures small { IfOk result (λ p. (nat_abs p.0 < 2 ^ 39) × (nat_abs p.1 < 2 ^ 39)) }
 {
-    if a.is_natural() && b.is_natural() {
-        return Ok((a.bits() as i64, b.bits() as i64));
-    }
     if a.tag() != 0 || b.tag() != 0 {
         return Err(Fault::InvalidOperand);
     }

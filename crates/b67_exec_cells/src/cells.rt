@@ -106,3 +106,21 @@ pub fn replace_cells(cpu: &mut Cpu, count: u32, w: Word, next: Place) -> Step
     go_on_at(cpu, next);
     Step::Done
 }
+
+/// Puts a word in the place of the `count` top cells, one at least, and goes on at `next`.
+#[inline(always)]
+pub fn put_over(cpu: &mut Cpu, count: u32, w: Word, next: Place) -> Step
+    requires runs { RunsSome cpu.old }
+    requires some { 1 ≤ count }
+    requires cells { cpu.old.regs.f + count ≤ cpu.old.regs.s }
+    ensures row { ForEach cpu.old (λ x plan s m t. (gone rest : List words.Word) (v : words.Word) → cells_of t ≡ gone ++ rest → length gone ≡ count
+        → NoOriginals gone → MayStand m.progress.job v → IsWordOf x plan m t v (cpu.old.regs.s - count + 1) w
+        → Meets x plan s m result cpu.old cpu.new (leaves_cells (here m t next) (v ∷ rest) None)) }
+    ensures stays { result ≡ Done → StaysInSegment cpu.old cpu.new next }
+{
+    let at = cpu.regs.s - count + 1;
+    cpu.core.set(at, w);
+    cpu.regs.s = at;
+    go_on_at(cpu, next);
+    Step::Done
+}

@@ -11,7 +11,7 @@ mod procedures;
 mod pushes;
 
 pub use branches::{branch_if, branch_to};
-pub use cells::{count_cells, drop_cells, replace_cells, top_cell, two_cells};
+pub use cells::{count_cells, drop_cells, put_over, replace_cells, top_cell, two_cells};
 pub use code::{descriptor, present_segment, read_in, reading};
 pub use elements::{array_descriptor, element, row_copy};
 pub use moves::{dlet, dupl, exch};

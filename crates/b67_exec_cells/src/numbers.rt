@@ -9,7 +9,7 @@ ghost use Rattle.b67_layout.specs.Meets.{here, Meets, RunsSome, ForEach};
 ghost use Rattle.b67_exec_cells.specs.Meanings.{of_one, of_two};
 ghost use Rattle.b67_exec_cells.specs.Tops.{StaysInSegment};
 
-use crate::cells::{replace_cells, top_cell, two_cells};
+use crate::cells::{put_over, top_cell, two_cells};
 use b67_arith::{
     Numeric, brst, bset, chsn, combine, idiv, insr, isol, land, leqv, lnot, lor, mult, rdiv, same,
 };
@@ -81,7 +81,7 @@ pub fn on_numbers(cpu: &mut Cpu, op: Numeric, next: Place) -> Step
         Err(fault) => return Step::Fault(fault),
     };
     match combine(op, a, b) {
-        Ok(number) => replace_cells(cpu, 2, number, next),
+        Ok(number) => put_over(cpu, 2, number, next),
         Err(fault) => Step::Fault(fault),
     }
 }
@@ -99,7 +99,7 @@ pub fn on_two(cpu: &mut Cpu, op: Binary, next: Place) -> Step
         Err(fault) => return Step::Fault(fault),
     };
     match compute(op, a, b) {
-        Ok(w) => replace_cells(cpu, 2, w, next),
+        Ok(w) => put_over(cpu, 2, w, next),
         Err(fault) => Step::Fault(fault),
     }
 }
@@ -117,7 +117,7 @@ pub fn on_one(cpu: &mut Cpu, op: Unary, next: Place) -> Step
         Err(fault) => return Step::Fault(fault),
     };
     match change(op, a) {
-        Ok(w) => replace_cells(cpu, 1, w, next),
+        Ok(w) => put_over(cpu, 1, w, next),
         Err(fault) => Step::Fault(fault),
     }
 }

@@ -18,7 +18,7 @@ ghost use Rattle.b67_fetch.specs.Indexes.{array_in, FindsArray, index_in, FindsI
 
 use crate::loading::put_element;
 use b67_ctl::DataDesc;
-use b67_exec_cells::{array_descriptor, replace_cells, two_cells};
+use b67_exec_cells::{array_descriptor, put_over, two_cells};
 use b67_refer::{End, chase, owner};
 use b67_stack::{Cpu, Step};
 use b67_word::{Fault, Place, Word};
@@ -151,7 +151,7 @@ pub fn indx(cpu: &mut Cpu, next: Place) -> Step
     match top_item(cpu) {
         Ok((original, index)) => {
             let copy = item_copy(cpu, original, index);
-            replace_cells(cpu, 2, copy, next)
+            put_over(cpu, 2, copy, next)
         }
         Err(fault) => Step::Fault(fault),
     }

@@ -12,7 +12,7 @@ ghost use Rattle.b67_refer.specs.Cells.{reach, view, frame_at_core};
 
 use b67_core::Core;
 use b67_ctl::{DICTIONARY_STACKS, Irw, MCP_STACK, Regs, STACK_VECTOR, Sirw, VectorWord};
-use b67_exec_cells::{branch_to, replace_cells, top_cell};
+use b67_exec_cells::{branch_to, put_over, top_cell};
 use b67_refer::{cell_of, couple_at, spot_of};
 use b67_stack::{Cpu, Step};
 use b67_word::{Fault, Place};
@@ -73,7 +73,7 @@ pub fn stff(cpu: &mut Cpu, next: Place) -> Step
         Ok(_) => {
             let base = cpu.display[usize::from(couple.level)];
             let reference = stuffed(&cpu.core, &cpu.regs, base, couple.disp);
-            replace_cells(cpu, 1, reference.word(), next)
+            put_over(cpu, 1, reference.word(), next)
         }
         Err(fault) => Step::Fault(fault),
     }

@@ -71,6 +71,10 @@ pub fn turn_room(tasks: &Tasks, most: u64) -> u64
     ensures halt { BeforeHalt tasks.now.halt tasks.now.made result }
     ensures lasts { (plan : Placement) (s : Session) → IsInOrderButPlaces s → TasksShow plan s tasks.now → 1 ≤ result → TurnLasts plan s result }
 {
+    let rules = before_choice(tasks);
+    if rules == 0 {
+        return 0;
+    }
     let last = Who {
         job: tasks.last_job,
         task: tasks.last_number,
@@ -80,6 +84,5 @@ pub fn turn_room(tasks: &Tasks, most: u64) -> u64
     }
     let halt = before_halt(tasks.halt, tasks.made, most);
     let limit = before_limit(tasks.jobs.as_slice(), tasks.last_job);
-    let rules = before_choice(tasks);
     halt.min(limit).min(rules)
 }

@@ -13,8 +13,8 @@ returns-in-Err c = record {
 pub returns-in-Ok-combine : goal.returns-in-Ok-combine
 returns-in-Ok-combine c = record {
   row = λ x plan s m t ordered h runs.
-      two_done x c.args.cpu.now plan s m t c.args.next c.replace_cells.result c.replace_cells.new.cpu (of_numbers c.args.op) c.in-Ok.words.0 c.in-Ok.words.1 c.in-Ok-combine.number (c.in-Ok.ensures.cells x plan s m t ordered h runs)
-      (sym c.in-Ok-combine.is ∙ c.combine.ensures) (c.replace_cells.ensures.row x plan s m t ordered h runs);
+      two_done x c.args.cpu.now plan s m t c.args.next c.put_over.result c.put_over.new.cpu (of_numbers c.args.op) c.in-Ok.words.0 c.in-Ok.words.1 c.in-Ok-combine.number (c.in-Ok.ensures.cells x plan s m t ordered h runs)
+      (sym c.in-Ok-combine.is ∙ c.combine.ensures) (c.put_over.ensures.row x plan s m t ordered h runs);
 }
 
 pub returns-in-Err-combine : goal.returns-in-Err-combine

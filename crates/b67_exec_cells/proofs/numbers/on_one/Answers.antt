@@ -10,8 +10,8 @@ returns-in-Err-clause-row c = λ x plan s m t ordered h runs.
 
 pub returns-in-Ok-change-clause-row : goal.returns-in-Ok-change-clause-row
 returns-in-Ok-change-clause-row c = λ x plan s m t ordered h runs.
-    one_done x c.args.cpu.now plan s m t c.args.next c.replace_cells.result c.replace_cells.new.cpu (of_one c.args.op) c.in-Ok.word c.in-Ok-change.w (c.in-Ok.ensures.cell x plan s m t ordered h runs)
-    (sym c.in-Ok-change.is ∙ c.change.ensures) (c.replace_cells.ensures.row x plan s m t ordered h runs)
+    one_done x c.args.cpu.now plan s m t c.args.next c.put_over.result c.put_over.new.cpu (of_one c.args.op) c.in-Ok.word c.in-Ok-change.w (c.in-Ok.ensures.cell x plan s m t ordered h runs)
+    (sym c.in-Ok-change.is ∙ c.change.ensures) (c.put_over.ensures.row x plan s m t ordered h runs)
 
 pub returns-in-Err-change-clause-row : goal.returns-in-Err-change-clause-row
 returns-in-Err-change-clause-row c = λ x plan s m t ordered h runs.

@@ -10,8 +10,8 @@ returns-in-Err-clause-row c = λ x plan s m t ordered h runs.
 
 pub returns-in-Ok-compute-clause-row : goal.returns-in-Ok-compute-clause-row
 returns-in-Ok-compute-clause-row c = λ x plan s m t ordered h runs.
-    two_done x c.args.cpu.now plan s m t c.args.next c.replace_cells.result c.replace_cells.new.cpu (of_two c.args.op) c.in-Ok.words.0 c.in-Ok.words.1 c.in-Ok-compute.w (c.in-Ok.ensures.cells x plan s m t ordered h runs)
-    (sym c.in-Ok-compute.is ∙ c.compute.ensures) (c.replace_cells.ensures.row x plan s m t ordered h runs)
+    two_done x c.args.cpu.now plan s m t c.args.next c.put_over.result c.put_over.new.cpu (of_two c.args.op) c.in-Ok.words.0 c.in-Ok.words.1 c.in-Ok-compute.w (c.in-Ok.ensures.cells x plan s m t ordered h runs)
+    (sym c.in-Ok-compute.is ∙ c.compute.ensures) (c.put_over.ensures.row x plan s m t ordered h runs)
 
 pub returns-in-Err-compute-clause-row : goal.returns-in-Err-compute-clause-row
 returns-in-Err-compute-clause-row c = λ x plan s m t ordered h runs.

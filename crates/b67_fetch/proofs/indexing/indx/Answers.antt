@@ -20,8 +20,8 @@ returns-in-Ok-clause-row c = λ x plan s m t o h runs.
     let i = item_on_top plan m t q found (c.in-Ok.ensures.item x plan s m t o h runs q) in
     let e = subst (HasElement m.progress.job i.item.0) (sym i.index) i.element in
     let fits = subst (λ (k : ℕ). IsWordOf x plan m t (Element i.item.0 k) (old.regs.s - 2 + 1) c.item_copy-copy.result) i.index (c.item_copy-copy.ensures x plan s m t o h runs i.item.0 (old.regs.s - 2 + 1) i.home e) in
-    row_at_item plan m t q x s old c.replace_cells.new.cpu c.replace_cells.result (rows.indx (here m t q)) (λ (at : ℕ × ℕ) (rest : List Word). leaves_cells (here m t q) (Element at.0 at.1 ∷ rest) None) found i (λ b a rest. refl)
-    (c.replace_cells.ensures.row x plan s m t o h runs (i.upper ∷ i.lower ∷ []) i.rest (Element i.item.0 i.item.1) i.is refl i.plain (record { item = e.item; live = e.live; named = e.named }) fits)
+    row_at_item plan m t q x s old c.put_over.new.cpu c.put_over.result (rows.indx (here m t q)) (λ (at : ℕ × ℕ) (rest : List Word). leaves_cells (here m t q) (Element at.0 at.1 ∷ rest) None) found i (λ b a rest. refl)
+    (c.put_over.ensures.row x plan s m t o h runs (i.upper ∷ i.lower ∷ []) i.rest (Element i.item.0 i.item.1) i.is refl i.plain (record { item = e.item; live = e.live; named = e.named }) fits)
 
 pub returns-in-Err-clause-row : goal.returns-in-Err-clause-row
 returns-in-Err-clause-row c = λ x plan s m t o h runs.

@@ -60,8 +60,8 @@ returns-in-Ok-cell_of-clause-row c = λ x plan s m t ordered h runs.
     let low = level_low x cpu plan s m t ordered h runs n c.in-Ok.word top one c.in-Some.name c.in-Some.ensures.some.0 c.in-Some.ensures.some.1 k c.couple_at-couple.ensures c.in-Ok-cell_of.field-0 i in
     let f = frame_named x cpu plan s m t ordered h runs n c.in-Ok.word top one c.in-Some.name c.in-Some.ensures.some.0 c.in-Some.ensures.some.1 k c.couple_at-couple.ensures low in
     let spot = c.stuffed-reference.ensures.spot a (frame_at (here m t n) k.level).identity f.0 (ap (λ (z : ℕ). get_or cpu.display z 0) c.from.ensures ∙ f.1) in
-    stff_done x cpu plan s m t ordered h runs n c.in-Ok.word top one c.in-Some.name c.in-Some.ensures.some.0 c.in-Some.ensures.some.1 k c.couple_at-couple.ensures c.replace_cells.result c.replace_cells.new.cpu c.in-Ok-cell_of.field-0 c.stuffed-reference.result c.word.result i spot c.word.ensures
-    (c.replace_cells.ensures.row x plan s m t ordered h runs)
+    stff_done x cpu plan s m t ordered h runs n c.in-Ok.word top one c.in-Some.name c.in-Some.ensures.some.0 c.in-Some.ensures.some.1 k c.couple_at-couple.ensures c.put_over.result c.put_over.new.cpu c.in-Ok-cell_of.field-0 c.stuffed-reference.result c.word.result i spot c.word.ensures
+    (c.put_over.ensures.row x plan s m t ordered h runs)
 
 pub returns-in-Err-cell_of-clause-row : goal.returns-in-Err-cell_of-clause-row
 returns-in-Err-cell_of-clause-row c = λ x plan s m t ordered h runs.
