@@ -1,4 +1,5 @@
 pub mod Chunks
+pub mod Fields
 pub mod Gathers
 pub mod Again
 pub mod Joining

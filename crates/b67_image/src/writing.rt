@@ -20,8 +20,7 @@ use b67_backing::Sectors;
 use b67_core::{Core, to_number};
 use b67_io::Sink;
 use b67_model_text::Switch;
-use b67_stack::Cpu;
-use b67_task_tables::{JobRow, Machine, TaskRow, Tasks};
+use b67_task_tables::{JobRow, Machine, TaskRow};
 use b67_word::Failed;
 
 /// The text B67IMAGE.
@@ -177,44 +176,18 @@ fn put_numbers<K: Sink>(sink: &mut K, hand: &mut Hand, numbers: &[i64]) -> Resul
     Ok(())
 }
 
-fn put_name<K: Sink>(sink: &mut K, hand: &mut Hand, name: &[u8]) -> Result<(), Failed>
-    ensures row { Punched K.taken sink.old sink.new hand.old hand.new result (name_bytes name.now) }
-    ensures cause { HasCause K.faults sink.old sink.new result }
-{
-    match hand.punch(sink, length_item(name.len()).as_slice()) {
-        Ok(()) => hand.punch(sink, name),
-        Err(failed) => Err(failed),
-    }
-}
-
+/// The name, the numbers of the tables, the numbers for READ, and which of them is next.
 fn put_job<K: Sink>(sink: &mut K, hand: &mut Hand, job: &JobRow) -> Result<(), Failed>
     ensures row { Punched K.taken sink.old sink.new hand.old hand.new result (job_bytes job.now) }
     ensures cause { HasCause K.faults sink.old sink.new result }
 {
-    match put_name(sink, hand, job.name.as_str().as_bytes()) {
-        Ok(()) => put_job_items(sink, hand, job),
-        Err(failed) => Err(failed),
-    }
-}
-
-fn put_job_items<K: Sink>(sink: &mut K, hand: &mut Hand, job: &JobRow) -> Result<(), Failed>
-    ensures row { Punched K.taken sink.old sink.new hand.old hand.new result (job_front job.now ++ job_numbers job.now) }
-    ensures cause { HasCause K.faults sink.old sink.new result }
-{
-    match hand.punch(sink, job_item(job).as_slice()) {
-        Ok(()) => put_job_end(sink, hand, job),
-        Err(failed) => Err(failed),
-    }
-}
-
-fn put_job_end<K: Sink>(sink: &mut K, hand: &mut Hand, job: &JobRow) -> Result<(), Failed>
-    ensures row { Punched K.taken sink.old sink.new hand.old hand.new result (job_numbers job.now) }
-    ensures cause { HasCause K.faults sink.old sink.new result }
-{
-    match put_numbers(sink, hand, job.numbers.as_slice()) {
-        Ok(()) => hand.punch(sink, &job.next_number.to_be_bytes()),
-        Err(failed) => Err(failed),
-    }
+    let name = job.name.as_str().as_bytes();
+    hand.punch(sink, length_item(name.len()).as_slice())?;
+    hand.punch(sink, name)?;
+    hand.punch(sink, job_item(job).as_slice())?;
+    put_numbers(sink, hand, job.numbers.as_slice())?;
+    hand.punch(sink, &job.next_number.to_be_bytes())?;
+    Ok(())
 }
 
 fn put_jobs<K: Sink>(sink: &mut K, hand: &mut Hand, jobs: &[JobRow]) -> Result<(), Failed>
@@ -251,109 +224,26 @@ fn put_rows<K: Sink>(sink: &mut K, hand: &mut Hand, rows: &[TaskRow]) -> Result<
     Ok(())
 }
 
-fn put_marks<K: Sink>(sink: &mut K, hand: &mut Hand, cpu: &Cpu) -> Result<(), Failed>
-    ensures row { Punched K.taken sink.old sink.new hand.old hand.new result (flat_map four_bytes cpu.now.display ++ flat_map two_bytes cpu.now.critical) }
-    ensures cause { HasCause K.faults sink.old sink.new result }
-{
-    match put_display(sink, hand, &cpu.display) {
-        Ok(()) => put_critical(sink, hand, &cpu.critical),
-        Err(failed) => Err(failed),
-    }
-}
-
-fn put_registers<K: Sink>(sink: &mut K, hand: &mut Hand, cpu: &Cpu) -> Result<(), Failed>
-    ensures row { Punched K.taken sink.old sink.new hand.old hand.new result
-        (regs_bytes cpu.now.regs ++ (flat_map four_bytes cpu.now.display ++ flat_map two_bytes cpu.now.critical)) }
-    ensures cause { HasCause K.faults sink.old sink.new result }
-{
-    match hand.punch(sink, regs_item(cpu.regs).as_slice()) {
-        Ok(()) => put_marks(sink, hand, cpu),
-        Err(failed) => Err(failed),
-    }
-}
-
-fn put_cpu<K: Sink>(sink: &mut K, hand: &mut Hand, machine: &Machine) -> Result<(), Failed>
-    ensures row { Punched K.taken sink.old sink.new hand.old hand.new result (cpu_bytes (parts_of machine.now)) }
-    ensures cause { HasCause K.faults sink.old sink.new result }
-{
-    match put_core(sink, hand, &machine.cpu.core) {
-        Ok(()) => put_registers(sink, hand, &machine.cpu),
-        Err(failed) => Err(failed),
-    }
-}
-
-fn put_job_tables<K: Sink>(sink: &mut K, hand: &mut Hand, tasks: &Tasks) -> Result<(), Failed>
-    ensures row { Punched K.taken sink.old sink.new hand.old hand.new result (listed_bytes job_bytes tasks.now.jobs ++ listed_bytes task_row_bytes tasks.now.rows.items) }
-    ensures cause { HasCause K.faults sink.old sink.new result }
-{
-    match put_jobs(sink, hand, tasks.jobs.as_slice()) {
-        Ok(()) => put_rows(sink, hand, tasks.rows.as_slice()),
-        Err(failed) => Err(failed),
-    }
-}
-
-fn put_lists<K: Sink>(sink: &mut K, hand: &mut Hand, tasks: &Tasks) -> Result<(), Failed>
-    ensures row { Punched K.taken sink.old sink.new hand.old hand.new result
-        (listed_bytes switch_bytes tasks.now.switches ++ (listed_bytes job_bytes tasks.now.jobs ++ listed_bytes task_row_bytes tasks.now.rows.items)) }
-    ensures cause { HasCause K.faults sink.old sink.new result }
-{
-    match put_switches(sink, hand, tasks.switches.as_slice()) {
-        Ok(()) => put_job_tables(sink, hand, tasks),
-        Err(failed) => Err(failed),
-    }
-}
-
-fn put_tables<K: Sink>(sink: &mut K, hand: &mut Hand, machine: &Machine) -> Result<(), Failed>
-    ensures row { Punched K.taken sink.old sink.new hand.old hand.new result (tables_bytes (parts_of machine.now)) }
-    ensures cause { HasCause K.faults sink.old sink.new result }
-{
-    match hand.punch(sink, counts_item(&machine.tasks).as_slice()) {
-        Ok(()) => put_lists(sink, hand, &machine.tasks),
-        Err(failed) => Err(failed),
-    }
-}
-
-fn put_links<K: Sink>(sink: &mut K, hand: &mut Hand, machine: &Machine) -> Result<(), Failed>
-    ensures row { Punched K.taken sink.old sink.new hand.old hand.new result (listed_bytes four_bytes (links_in machine.now.sectors) ++ tables_bytes (parts_of machine.now)) }
-    ensures cause { HasCause K.faults sink.old sink.new result }
-{
-    match put_sectors(sink, hand, &machine.sectors) {
-        Ok(()) => put_tables(sink, hand, machine),
-        Err(failed) => Err(failed),
-    }
-}
-
-fn put_areas<K: Sink>(sink: &mut K, hand: &mut Hand, machine: &Machine) -> Result<(), Failed>
-    ensures row { Punched K.taken sink.old sink.new hand.old hand.new result
-        (areas_bytes machine.now.areas ++ (listed_bytes four_bytes (links_in machine.now.sectors) ++ tables_bytes (parts_of machine.now))) }
-    ensures cause { HasCause K.faults sink.old sink.new result }
-{
-    match hand.punch(sink, areas_item(machine.areas).as_slice()) {
-        Ok(()) => put_links(sink, hand, machine),
-        Err(failed) => Err(failed),
-    }
-}
-
-fn put_items<K: Sink>(sink: &mut K, hand: &mut Hand, machine: &Machine) -> Result<(), Failed>
-    ensures row { Punched K.taken sink.old sink.new hand.old hand.new result
-        (cpu_bytes (parts_of machine.now) ++ (areas_bytes machine.now.areas ++ (listed_bytes four_bytes (links_in machine.now.sectors) ++ tables_bytes (parts_of machine.now)))) }
-    ensures cause { HasCause K.faults sink.old sink.new result }
-{
-    match put_cpu(sink, hand, machine) {
-        Ok(()) => put_areas(sink, hand, machine),
-        Err(failed) => Err(failed),
-    }
-}
-
+/// The fields of an image, in their order.
 #[tactic(auto, unfolding(crate::specs::Spelling::image_bytes))]
 fn put_machine<K: Sink>(sink: &mut K, hand: &mut Hand, machine: &Machine) -> Result<(), Failed>
     ensures row { Punched K.taken sink.old sink.new hand.old hand.new result (image_bytes (parts_of machine.now)) }
     ensures cause { HasCause K.faults sink.old sink.new result }
 {
-    match hand.punch(sink, &HEADER.to_be_bytes()) {
-        Ok(()) => put_items(sink, hand, machine),
-        Err(failed) => Err(failed),
-    }
+    let cpu = &machine.cpu;
+    let tasks = &machine.tasks;
+    hand.punch(sink, &HEADER.to_be_bytes())?;
+    put_core(sink, hand, &cpu.core)?;
+    hand.punch(sink, regs_item(cpu.regs).as_slice())?;
+    put_display(sink, hand, &cpu.display)?;
+    put_critical(sink, hand, &cpu.critical)?;
+    hand.punch(sink, areas_item(machine.areas).as_slice())?;
+    put_sectors(sink, hand, &machine.sectors)?;
+    hand.punch(sink, counts_item(tasks).as_slice())?;
+    put_switches(sink, hand, tasks.switches.as_slice())?;
+    put_jobs(sink, hand, tasks.jobs.as_slice())?;
+    put_rows(sink, hand, tasks.rows.as_slice())?;
+    Ok(())
 }
 
 fn put_cards<K: Sink>(sink: &mut K, machine: &Machine) -> Result<(), Failed>
