@@ -20,7 +20,7 @@ first_none at [] e b i f = none-some i f
 first_none at (Area a ∷ ss) e b i f = none-some (at + 1) (sym e)
 first_none at (Hole n ∷ ss) e b i f = first_none (at + n) ss e b i f
 
-first_some : (at : ℕ) (ss : List Span) (z x : ℕ) → x ≤ at → first_area at ss ≡ Some z → IsNext at ss x z
+pub first_some : (at : ℕ) (ss : List Span) (z x : ℕ) → x ≤ at → first_area at ss ≡ Some z → IsNext at ss x z
 first_some at [] z x h e = absurd (none-some z e)
 first_some at (Area a ∷ ss) z x h e =
     let is = same_Some (at + 1) z e in
@@ -37,7 +37,7 @@ first_some at (Hole n ∷ ss) z x h e =
     let r = first_some (at + n) ss z x (omega arith) e in
     record { info = r.info; there = r.there; above = r.above; others = r.others }
 
-after_some : (at : ℕ) (ss : List Span) (x z : ℕ) (a : Info) → area_at at ss x ≡ Some a → area_after at ss x ≡ Some z → IsNext at ss x z
+pub after_some : (at : ℕ) (ss : List Span) (x z : ℕ) (a : Info) → area_at at ss x ≡ Some a → area_after at ss x ≡ Some z → IsNext at ss x z
 after_some at [] x z a e f = absurd (none-some a e)
 after_some at (Hole n ∷ ss) x z a e f =
     let r = after_some (at + n) ss x z a e f in

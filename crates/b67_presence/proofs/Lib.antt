@@ -3,6 +3,7 @@ pub mod Placing
 pub mod Contents
 pub mod Paged
 pub mod Ways
+pub mod Firsts
 pub mod Rooms
 pub mod Resort
 pub mod Forcing

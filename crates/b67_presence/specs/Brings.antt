@@ -1,8 +1,8 @@
 -- Objects that are brought into core where other areas give way.
-use Rattle.std.specs.Prelude.{◌≡◌, ◌≢◌, ◌↔◌, ℕ, ◌+◌, ◌⊎◌, List, length, Option, Some, None, Bool, true, false, Result, Ok, Err, OnOk, OnErr, IsOk}
+use Rattle.std.specs.Prelude.{◌≡◌, ◌≢◌, ◌↔◌, ⊤, ℕ, ◌+◌, ◌⊎◌, List, length, Option, Some, None, Bool, true, false, Result, Ok, Err, OnOk, OnErr, IsOk}
 use Rattle.b67_area.specs.declared.Areas.{Areas}
 use Rattle.b67_area.specs.declared.Info.{Info}
-use Rattle.b67_area.specs.Spans.{area_at}
+use Rattle.b67_area.specs.Spans.{Span, area_at}
 use Rattle.b67_area.specs.declared.Kind.TheVariants.{Code}
 use Rattle.b67_backing.specs.Shelf.{Table}
 use Rattle.b67_backing.specs.Held.{Becomes}
@@ -30,6 +30,11 @@ pub record ReadBack (x : Storage) (p q : MachineView) (t : PagedObject) : Type 0
   pub bits : AreBits t.numbers → AreBits numbers
   pub is : q ≡ renumbered p t.home numbers
   pub same : x.device ≢ None → q ≡ p
+
+-- the address, if there is one, is an area's
+abbrev pub PointsAtArea : ℕ → List Span → Option ℕ → Type 0
+PointsAtArea low spans None = ⊤
+PointsAtArea low spans (Some at) = (a : Info) × (area_at low spans at ≡ Some a)
 
 -- the machine stands, where the object was placed and read, and no area moved
 pub record ReadIn (x : Storage) (p : MachineView) (t : PagedObject) (cpu : Cpu) (areas : Areas) (table : Table) (told : Option (List (List ℕ))) : Type 0 where
@@ -128,6 +133,17 @@ pub record EvictsArea (x : Storage) (p : MachineView) (t u : PagedObject) (at sp
   pub refused : OnErr result (StandsEvicted x p spare cpu areas table told)
   pub full : (wants free : ℕ) → result ≡ Err (BackingFull wants free)
       → (w : StandsEvicted x p spare cpu areas table told) × IsShortBy w.storage p wants free × (w.storage.spans ≡ x.spans)
+
+-- areas but the one at `spare` may be evicted for an absent object, which is placed then or still waits. Too few free sectors
+-- refuse it only while no hole has room
+pub record EvictsSome (x : Storage) (p : MachineView) (t : PagedObject) (spare : ℕ)
+    (result : Result Bool SpaceFault) (old cpu : Cpu) (areas : Areas) (table : Table) (told : Option (List (List ℕ))) : Type 0 where
+  pub outside : LowWordsStayed p old.core cpu.core
+  pub came : result ≡ Ok true → IsReadable x p → PlacedAfterEviction x p t spare cpu areas table told
+  pub waits : result ≡ Ok false → (w : StandsEvicted x p spare cpu areas table told) × NoHoleStill (length t.numbers + 2) x w.storage
+  pub refused : OnErr result (StandsEvicted x p spare cpu areas table told)
+  pub full : (wants free : ℕ) → result ≡ Err (BackingFull wants free)
+      → (w : StandsEvicted x p spare cpu areas table told) × IsShortBy w.storage p wants free × NoHoleStill (length t.numbers + 2) x w.storage
 
 -- areas but the one at `spare` are evicted for an absent object until it is placed, or none of them is left. Too few free
 -- sectors refuse it only while no hole has room

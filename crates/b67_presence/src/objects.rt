@@ -87,6 +87,7 @@ fn force_code<B: Backing>(
     sectors: &mut Sectors,
     backing: &mut B,
     code: u32,
+    start: u32,
 ) -> Result<(), SpaceFault>
     requires machine { (x : Storage) × (p : MachineView) × (t : PagedObject) × MachineCanPage x cpu.old areas.old sectors.old (B.holds backing.old) p × IsAbsent x p code t × (need_one x t ≤ length cpu.old.core) }
     requires same { B.size backing.old + 1 ≡ length sectors.old.links }
@@ -97,7 +98,7 @@ fn force_code<B: Backing>(
     ensures device { DeviceAfterCalls B.holds B.size B.calls B.faults backing.old backing.new }
     ensures cause { result ≡ Err BackingFault → Rose B.faults backing.old backing.new }
 {
-    match make_way(cpu, areas, sectors, backing, code, 0) {
+    match make_way(cpu, areas, sectors, backing, code, 0, start) {
         Ok(true) => Ok(()),
         Ok(false) => page_in_room(cpu, areas, sectors, backing, code),
         Err(fault) => Err(fault),
@@ -114,6 +115,7 @@ fn force_data<B: Backing>(
     home: u32,
     code: u32,
     spare: u32,
+    start: u32,
 ) -> Result<(), SpaceFault>
     requires machine { (x : Storage) × (p : MachineView) × (t : PagedObject) × (c : PagedObject) × MachineCanPage x cpu.old areas.old sectors.old (B.holds backing.old) p × IsAbsent x p home t × IsCode x p code spare c
         × (need_both x c t ≤ length cpu.old.core) }
@@ -127,7 +129,7 @@ fn force_data<B: Backing>(
     ensures device { DeviceAfterCalls B.holds B.size B.calls B.faults backing.old backing.new }
     ensures cause { result ≡ Err BackingFault → Rose B.faults backing.old backing.new }
 {
-    match make_way(cpu, areas, sectors, backing, home, spare) {
+    match make_way(cpu, areas, sectors, backing, home, spare, start) {
         Ok(true) => Ok(()),
         Ok(false) => evict_code(cpu, areas, sectors, backing, home, code, spare),
         Err(fault) => Err(fault),
@@ -135,8 +137,8 @@ fn force_data<B: Backing>(
 }
 
 /// Brings the code of an absent segment descriptor into core, which has the words that the stacks and the code need. If a
-/// hole has room for it, no area moves and nothing is written to the device; else areas are written out, from the lowest
-/// up, until one has. Refused if an array that must be written out finds too few free sectors, or if the device failed.
+/// hole has room for it, no area moves and nothing is written to the device; else areas are written out, the first one from
+/// `start` on and then from the lowest up, until one has. Refused if an array that must be written out finds too few free sectors, or if the device failed.
 /// After a refusal the machine represents the same view, and if a hole has room, no area has moved.
 pub fn bring_code<B: Backing>(
     cpu: &mut Cpu,
@@ -144,6 +146,7 @@ pub fn bring_code<B: Backing>(
     sectors: &mut Sectors,
     backing: &mut B,
     code: u32,
+    start: u32,
 ) -> Result<(), SpaceFault>
     requires machine { (x : Storage) × (p : MachineView) × (t : PagedObject) × MachineCanPage x cpu.old areas.old sectors.old (B.holds backing.old) p × IsAbsent x p code t
         × (need_one x t ≤ length cpu.old.core) }
@@ -160,13 +163,13 @@ pub fn bring_code<B: Backing>(
     match page_in(cpu, areas, sectors, backing, code) {
         Ok(()) => Ok(()),
         Err(PagingRefusal::BackingFault) => Err(SpaceFault::BackingFault),
-        Err(PagingRefusal::NoHole) => force_code(cpu, areas, sectors, backing, code),
+        Err(PagingRefusal::NoHole) => force_code(cpu, areas, sectors, backing, code, start),
     }
 }
 
 /// Brings the array or data row of an absent original into core beside the running code, which is there; core has the words
 /// that the stacks, the code and the array need. If a hole has room for it, no area moves and nothing is written to the
-/// device; else areas are written out, from the lowest up, until one has; at last the running code is evicted too and comes
+/// device; else areas are written out, the first one from `start` on and then from the lowest up, until one has; at last the running code is evicted too and comes
 /// back after the array. Refused if an array that must be written out finds too few free sectors, or if the device failed.
 /// After a refusal the machine represents the same view, and the array or the running code is absent. An array of zeros that
 /// was never touched is never refused if a hole has room, and calls no device.
@@ -177,6 +180,7 @@ pub fn bring_data<B: Backing>(
     backing: &mut B,
     home: u32,
     code: u32,
+    start: u32,
 ) -> Result<(), SpaceFault>
     requires machine { (x : Storage) × (p : MachineView) × (t : PagedObject) × (c : PagedObject) × (at : ℕ) × MachineCanPage x cpu.old areas.old sectors.old (B.holds backing.old) p × IsAbsent x p home t × IsCode x p code at c
         × (need_both x c t ≤ length cpu.old.core) }
@@ -195,7 +199,16 @@ pub fn bring_data<B: Backing>(
         Ok(()) => Ok(()),
         Err(PagingRefusal::BackingFault) => Err(SpaceFault::BackingFault),
         Err(PagingRefusal::NoHole) => {
-            force_data(cpu, areas, sectors, backing, home, code, segment.address)
+            force_data(
+                cpu,
+                areas,
+                sectors,
+                backing,
+                home,
+                code,
+                segment.address,
+                start,
+            )
         }
     }
 }

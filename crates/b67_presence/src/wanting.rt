@@ -14,6 +14,7 @@ ghost use Rattle.b67_presence.specs.Bringing.{StandsOver, WantsSome, IsWanted, B
 
 use crate::objects::{bring_code, bring_data};
 use crate::paging::AbsentObject;
+use crate::way::start_of;
 use b67_backing::{Backing, SpaceFault};
 use b67_stack::What;
 use b67_task_need::need;
@@ -62,6 +63,7 @@ pub fn bring<B: Backing>(
     if needed > core {
         return Err(SpaceFault::NoCore { need: needed, core });
     }
+    let start = start_of(machine.tasks.made, core);
     match absent {
         What::Code(displacement) => {
             let code = machine.cpu.regs.dict + u32::from(displacement);
@@ -71,6 +73,7 @@ pub fn bring<B: Backing>(
                 &mut machine.sectors,
                 backing,
                 code,
+                start,
             )
         }
         What::Array(original) => {
@@ -82,6 +85,7 @@ pub fn bring<B: Backing>(
                 backing,
                 original,
                 code,
+                start,
             )
         }
     }

@@ -15,7 +15,7 @@ use Rattle.b67_area.specs.Spans.{Span}
 use Rattle.b67_layout_storage.specs.Machine.{HasHole}
 use Rattle.b67_presence.specs.Brings.{StandsEvicted, NoHoleStill}
 use Rattle.b67_presence.proofs.Ways.{absent_after, readable_after, Came-before, Waits-before}
-use Rattle.b67_presence.proofs.way.make_way.Goals as goal
+use Rattle.b67_presence.proofs.way.evict_upward.Goals as goal
 
 pub areas-init : goal.areas-init
 areas-init g c = record {

@@ -5,7 +5,7 @@ use Rattle.b67_overlay.specs.Spans.{MachineCanPage}
 use Rattle.b67_overlay.specs.AreasEvicted.{AreasEvicted, Remains}
 use Rattle.b67_overlay.proofs.Visits.{left_of}
 use Rattle.b67_presence.specs.Brings.{NoHoleStill}
-use Rattle.b67_presence.proofs.way.make_way.Given as goal
+use Rattle.b67_presence.proofs.way.evict_upward.Given as goal
 
 abbrev pub invariant-areas : goal.invariant-areas
 invariant-areas g l =
