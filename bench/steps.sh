@@ -37,6 +37,14 @@ for core in 4096 1048575; do
     row calls "$here/calls.deck" $core
     row elements "$here/elements.deck" $core
     row thunks "$here/thunks.deck" $core
+    row locals "$here/locals.deck" $core
+    row array-loop "$here/array-loop.deck" $core
+    row array-calls "$here/array-calls.deck" $core
+done
+# each operator is a turn of its own
+for deck in count calls; do
+    sed 's/^?JOB/?QUANTUM 1\n?JOB/' "$here/$deck.deck" >"$room/turns"
+    row $deck-quantum-1 "$room/turns" 4096
 done
 # the outer block calls its procedure again and again
 sed -e '0,/^MKST$/s//L: MKST/' -e '0,/^EXIT$/s//BRUN L/' -e 's/^?ASM/?LIMIT 1\n?ASM/' "$here/../decks/manboy/stdin" >"$room/manboy"
