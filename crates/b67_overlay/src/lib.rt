@@ -1,4 +1,6 @@
 //! Areas that are given back: what they hold goes to sectors, and their descriptors' copies become absent.
+//!
+//! Begin with `overlay`, whose clause `row` says what an evicted area leaves, and `search_span`.
 #![tactic(auto)]
 
 mod claims;

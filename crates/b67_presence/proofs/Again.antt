@@ -1,4 +1,4 @@
--- The machine stands for a session again, after objects came and went in the view.
+-- The machine represents a session again, after objects came and went in the view.
 use Rattle.std.proofs.Common.{◌≡◌, ◌≢◌, ℕ, List, [], length, Option, Some, None, refl, sym, ◌∙◌, ap, subst}
 use Rattle.std.proofs.lemmas.Option.{none-some}
 use Rattle.b67_area.specs.declared.Areas.{Areas}

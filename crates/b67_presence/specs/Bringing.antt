@@ -38,7 +38,7 @@ abbrev pub IsWanted : Storage → Placement → SessionJob → Task → What →
 IsWanted x plan m t (what.Code displacement) words = (displacement ≡ t.segment + 1) × (code_area x plan m t ≡ None) × (words ≡ 0)
 IsWanted x plan m t (what.Array home) words = IsArrayWanted x plan m t home words
 
--- the machine stands for some session in order, of whose running task this is wanted
+-- the machine represents some session in order, of whose running task this is wanted
 pub record WantsSome (k : Machine) (told : Option (List (List ℕ))) (absent : What) : Type 0 where
   pub storage : Storage
   pub plan : Placement
@@ -51,7 +51,7 @@ pub record WantsSome (k : Machine) (told : Option (List (List ℕ))) (absent : W
   pub running : IsRunning plan session.jobs member task
   pub wanted : IsWanted storage plan member task absent words
 
--- the machine stands for a session again. Where the storage says nothing of the sectors, that may have other numbers in its
+-- the machine represents a session again. Where the storage says nothing of the sectors, that may have other numbers in its
 -- segments and arrays: what the device gave back
 pub record StandsAgain (x : Storage) (told : Option (List (List ℕ))) (k : Machine) (plan : Placement) (s : Session) : Type 0 where
   pub storage : Storage
@@ -77,7 +77,7 @@ abbrev pub Lacks : Storage → What → Placement → SessionJob → Task → Ty
 Lacks x (what.Code displacement) plan m t = code_area x plan m t ≡ None
 Lacks x (what.Array home) plan m t = (code_area x plan m t ≡ None) ⊎ ((x.held home).area ≡ None)
 
--- the machine stands for the session again, and in it the running segment or what was wanted is absent
+-- the machine represents the session again, and in it the running segment or what was wanted is absent
 pub record StillLacks (x : Storage) (told : Option (List (List ℕ))) (k : Machine) (plan : Placement) (s : Session) (m : SessionJob) (t : Task) (absent : What) : Type 0 where
   pub again : StandsAgain x told k plan s
   pub lacks : Lacks again.storage absent plan m t
@@ -92,7 +92,7 @@ abbrev pub HasNoRoom : Storage → What → ℕ → Placement → SessionJob →
 HasNoRoom x (what.Code displacement) words plan m t = (code_area x plan m t ≡ None) × (HasHole (length (code_of m.constants t.segment) + 2) x.spans → ⊥)
 HasNoRoom x (what.Array home) words plan m t = (code_area x plan m t ≢ None) × ((x.held home).area ≡ None) × (HasHole (words + 2) x.spans → ⊥)
 
--- the machine that a want of sectors leaves: it stands for the session, no hole has room for what is wanted, and it is short
+-- the machine that a want of sectors leaves: it represents the session, no hole has room for what is wanted, and it is short
 -- of sectors by these numbers
 pub record RefusedFull (x : Storage) (told : Option (List (List ℕ))) (k : Machine) (plan : Placement) (s : Session) (m : SessionJob) (t : Task) (absent : What) (words wants free : ℕ) : Type 0 where
   pub refused : StillLacks x told k plan s m t absent
@@ -103,7 +103,7 @@ pub record RefusedFull (x : Storage) (told : Option (List (List ℕ))) (k : Mach
 abbrev pub AreasStay : Storage → Storage → Type 0
 AreasStay x y = (home : ℕ) → (x.held home).area ≢ None → (y.held home).area ≡ (x.held home).area
 
--- the machine stands for the session again, and no area has moved
+-- the machine represents the session again, and no area has moved
 pub record StaysIn (x : Storage) (told : Option (List (List ℕ))) (k : Machine) (plan : Placement) (s : Session) : Type 0 where
   pub again : StandsAgain x told k plan s
   pub areas : AreasStay x again.storage

@@ -1,4 +1,6 @@
 //! The running segment or the array that is touched is brought in; too few free sectors are answered exactly.
+//!
+//! Begin with `bring`: `row`, `unchanged`.
 #![tactic(auto)]
 
 mod can_page;

@@ -157,9 +157,6 @@ pub fn make_way<B: Backing>(
     ensures device { DeviceAfterCalls B.holds B.size B.calls B.faults backing.old backing.new }
     ensures cause { result ≡ Err BackingFault → Rose B.faults backing.old backing.new }
 {
-    if start == 0 {
-        return evict_upward(cpu, areas, sectors, backing, home, spare);
-    }
     match evict_one(cpu, areas, sectors, backing, home, spare, start) {
         Ok(true) => Ok(true),
         Ok(false) => evict_upward(cpu, areas, sectors, backing, home, spare),

@@ -6,7 +6,7 @@ use Rattle.b67_presence.specs.Brings.{PointsAtArea}
 use Rattle.b67_presence.proofs.way.area_from.Given as goal
 
 abbrev pub invariant-areas : goal.invariant-areas
-invariant-areas g l = (ss : List Span) → IsDirectory l.core.now l.areas.now.low ss → PointsAtArea l.areas.now.low ss l.next
+invariant-areas l = (ss : List Span) → IsDirectory l.core l.areas.low ss → PointsAtArea l.areas.low ss l.next
 
 abbrev pub decreases-areas : goal.decreases-areas
-decreases-areas g l = left_of l.next
+decreases-areas l = left_of l.next
