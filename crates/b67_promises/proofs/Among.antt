@@ -18,7 +18,7 @@ use Rattle.b67_image.specs.Text.{limit, first_card, last_card, card_lines, image
 use Rattle.b67_image.specs.Parts.{ImageParts}
 use Rattle.b67_image.specs.Meaning.{parts_told, told_in}
 use Rattle.b67_image.proofs.Again.{IsByte, text_again}
-use Rattle.b67_promises.specs.Images.{HasNoMark}
+use Rattle.b67_promises.specs.Halts.{HasNoMark}
 
 -- ---- lines of two texts
 

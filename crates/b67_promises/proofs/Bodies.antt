@@ -87,6 +87,7 @@ module _ (R : Relation) where
   ProgramsAlike _ _ = ⊥
 
   pub record JobsAlike (j k : declared.Job) : Type 0 where
+    pub name : k.name ≡ j.name
     pub limit : k.limit ≡ j.limit
     pub numbers : k.numbers ≡ j.numbers
     pub program : R.alike j.program k.program
@@ -109,6 +110,7 @@ module _ (R : Relation) where
 
   pub job_alike : (n m : ℕ) (name : List ℕ) (xs ys : List Said) → OwnAlike xs ys → JobsAlike (job_of n name xs) (job_of m name ys)
   job_alike n m name xs ys h = record {
+    name = refl;
     limit = h.limit USUAL_LIMIT;
     numbers = ap (λ (o : Option (List ℤ)). unwrap_or o []) h.numbers;
     program = by_program (program xs) (program ys) h.program;

@@ -6,7 +6,7 @@ use Rattle.b67_codefile.specs.Reading.{told}
 use Rattle.b67_codefile.proofs.Forms.{reading_again}
 use Rattle.b67_codefile.proofs.Found.{is_found}
 use Rattle.b67_job_admit.specs.Admitting.{of_file}
-use Rattle.b67_promises.specs.Codefiles.{ConvertingKeepsPrograms}
+use Rattle.b67_promises.specs.Cards.{ConvertingKeepsPrograms}
 
 in_second : (f : Codefile) → IsWithin f → IsWithin (record f { version = 2 })
 in_second f h = record { version = inr refl; count = h.count; segments = h.segments; rows = h.rows; plain = λ one. let z : ⊥ = cc in absurd z }

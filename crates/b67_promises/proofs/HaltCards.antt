@@ -15,9 +15,9 @@ use Rattle.b67_model_text.specs.Cards.{card_of, cards, is_empty, words_in_card}
 use Rattle.b67_model_text.specs.Command.{Command, Stack, Quantum, Halt, Switch, Job, Limit, Asm, Hex, Data, End, Plain, one_number, says, command_of, plain_card, said}
 use Rattle.b67_model_text.specs.Placing.{stand, stand_after, may_stand, lacks_program, arranged, is_well_formed, placed_card, stack_in, quantum_in, switch_in, name_in}
 use Rattle.b67_model_text.specs.Deck.{Said, command_in, of_card, said_after, sayings, job_of, own_cards, jobs, deck, deck_of}
-use Rattle.b67_model_text.proofs.Answers.{after_both, err-ok}
-use Rattle.b67_promises.specs.Halting.{DifferInHalt}
-use Rattle.b67_promises.proofs.TurnCards.{cards_at, is_filled, cards-append, filled, first_word, trimmed_three, given, first_said, say_same, reverse_cons, deck_said}
+use Rattle.b67_model_text.proofs.Answers.{after_both, after_needs, err-ok}
+use Rattle.b67_promises.specs.Halts.{DifferInHalt}
+use Rattle.b67_promises.proofs.TurnCards.{cards_at, is_filled, cards-append, filled, first_word, trimmed_three, placed_first, first_said, say_same, reverse_cons, deck_said}
 use Rattle.b67_model.specs.declared.limits.TheConstants.{MOST_MADE}
 
 -- ---- a card of a halt
@@ -55,14 +55,10 @@ halt_in_front InHex n e = absurd (let z : ⊥ = cc in z)
 halt_in_front InData n e = absurd (let z : ⊥ = cc in z)
 halt_in_front Ended n e = absurd (let z : ⊥ = cc in z)
 
-needed : {A : Type 0} (b : Bool) (reason : ℕ) (rest : Answer A) (a : A) → (needs b reason >> rest) ≡ Ok a → b ≡ true
-needed true reason rest a e = refl
-needed false reason rest a e = err-ok reason a _ e
-
 stands_in_front : (before : List Command) (c : Command) (u : ⊤) → IsHaltCommand c → placed_card before c ≡ Ok u → stand before ≡ Front
 stands_in_front before (Halt n) u is e =
     let a = after_both (arranged before (Halt n)) (λ (v : ⊤). is_well_formed (stand before) (Halt n)) u e in
-    halt_in_front (stand before) n (needed (may_stand (stand before) (Halt n) || lacks_program (stand before) (Halt n)) 5 _ a.0 a.1)
+    halt_in_front (stand before) n (after_needs (may_stand (stand before) (Halt n) || lacks_program (stand before) (Halt n)) 5 _ a.0 a.1).0
 stands_in_front before _ u is e = absurd is
 
 -- what stands in front names no job
@@ -140,15 +136,6 @@ say_front (card ∷ cs) more more' before a b e f =
     let same : t.0 ≡ s.0 = let z : ◌≡◌ {A = Answer Command} (Ok t.0) (Ok s.0) = sym t.1 ∙ s.1 in cc in
     say_front cs more more' (record { number = card.number; command = s.0 } ∷ before) a b s.2
     (subst (λ (c : Command). sayings (record { number = card.number; command = c } ∷ before) (cs ++ more') ≡ Ok b) same t.2)
-
--- a card is placed
-placed_first : (before : List Said) (card : Card) (more : List Card) (a : List Said) → sayings before (card ∷ more) ≡ Ok a
-    → (c : Command) × (said card.text ≡ Ok c) × (u : ⊤) × (placed_card (map command_in before) c ≡ Ok u)
-placed_first before card more a e =
-    let s = after_both (of_card card.number (said_after before card)) (λ (s : Said). sayings (s ∷ before) more) a e in
-    let c = after_both (said card.text) (λ (c : Command). placed_card (map command_in before) c >>= λ (u : ⊤). Ok (record { number = card.number; command = c })) s.0 (given card.number (said_after before card) s.0 s.1) in
-    let p = after_both (placed_card (map command_in before) c.0) (λ (u : ⊤). Ok (record { number = card.number; command = c.0 })) s.0 c.2 in
-    (c.0, c.1, p.0, p.1)
 
 without_halt : (behind a b : List Said) (card : Card) (more : List Card) → ((c : Command) → said card.text ≡ Ok c → IsHaltCommand c) → sayings behind (card ∷ more) ≡ Ok a → sayings behind more ≡ Ok b
     → SameButHalt (deck a) (deck b)

@@ -1,24 +1,30 @@
 -- Calls that print a program, and calls of two decks that hold it.
-use Rattle.std.proofs.Common.{◌≡◌, ℕ, List, [], ◌∷◌, Option, Some, None, refl, sym, ap, subst, ◌∙◌, arith, codes, Ok, Err}
+use Rattle.std.proofs.Common.{◌≡◌, ◌⊎◌, inl, inr, ℕ, Bool, true, false, cond, List, [], ◌∷◌, length, Option, Some, None, refl, sym, ap, subst, ◌∙◌, arith, codes, Ok, Err}
+use Rattle.std.specs.Prelude.{is_some, nat_le, ◌&&◌}
+use Rattle.std.specs.Option.{option_map}
+use Rattle.std.specs.Str.{bytes_eq}
 use Rattle.std.proofs.lemmas.Option.{same_Some, none-some}
 use denote.Ref.{Bor}
 use Rattle.b67_io.specs.Told.{Took, GaveAll}
+use Rattle.b67_io.specs.Causes.{Rose}
 use Rattle.b67_model.specs.Common.{Session}
 use Rattle.b67_task_tables.specs.declared.tables.Machine.{Machine}
+use Rattle.b67_bind.specs.declared.pairs.Pair.{Pair}
+use Rattle.b67_job_admit.specs.declared.refusal.Refusal.{Refusal}
 use Rattle.b67_job_admit.specs.Admitting.{Prepared}
-use Rattle.b67_job_admit.specs.Verdicts.{Verdict, asm_verdict, convert_verdict}
+use Rattle.b67_job_admit.specs.Verdicts.{Verdict, asm_verdict, convert_verdict, bind_verdict}
 use Rattle.b67_session_lines.specs.Stops.{Run}
 use Rattle.b67_job.specs.declared.summaries.Exercise.{Exercise}
 use Rattle.b67_job.specs.declared.command.CommandLine.{CommandLine}
 use Rattle.b67_job.specs.declared.command.CommandLine.TheVariants as lines
-use Rattle.b67_job.specs.Command.{command_line_of}
+use Rattle.b67_job.specs.Command.{pairs_in, bind, command_line_of}
 use Rattle.b67_job.specs.Device.{Device}
 use Rattle.b67_job.specs.Texts.{Text, whole_of, only, PrintsAndAnswers, all_taken, cut_short}
 use Rattle.b67_job.specs.Runs.{run_of}
 use Rattle.b67_job.specs.Judgement.{Judgement, Refused, Runs, Prints, OfImage, judgement, printed, asked, core_asked, image_sectors}
-use Rattle.b67_job.specs.Due.{ReadAll, IsDue, usage_due, refusal_due, print_due, image_due, dump_due, run_due, reading_due, memory_due, Answered, answered, cut_in_step, goes_on}
+use Rattle.b67_job.specs.Due.{ReadAll, CommandWasRead, WasGiven, IsRun, IsDue, usage_due, refusal_due, print_due, image_due, dump_due, run_due, reading_due, memory_due, Answered, answered, cut_in_step, goes_on}
 use Rattle.b67_promises.specs.Paging.{SameLines}
-use Rattle.b67_promises.specs.Sources.{AsksForAsm, AsksForConvert, HoldPrinted}
+use Rattle.b67_promises.specs.Cards.{AsksForAsm, AsksForConvert, AsksForBind, AsksForCheck, HoldPrinted}
 use Rattle.b67_promises.proofs.Calls.{Printed, Shape, CallPrints, shape_of, cut_from, agree}
 use Rattle.b67_promises.proofs.Words.{head, no_print, no_image_asked}
 use Rattle.b67_promises.proofs.TurnCalls.{prepared_is}
@@ -40,67 +46,136 @@ convert_command [] w = absurd (let z : ⊥ = cc in z)
 convert_command (word ∷ []) w = let first : word.now ≡ codes "convert" = ap head w in rw first refl
 convert_command (word ∷ other ∷ more) w = absurd (let z : other.now ∷ _ ≡ [] = ap lone w in let no : ⊥ = cc in no)
 
--- ---- a call that answered 0
+bind_command : (words : List (Bor (List ℕ))) → AsksForBind words → command_line_of words ≡ bind words
+bind_command [] w = refl
+bind_command (word ∷ []) w = let first : word.now ≡ codes "bind" = ap head w in rw first refl
+bind_command (word ∷ a ∷ []) w = refl
+bind_command (word ∷ a ∷ b ∷ []) w = let first : word.now ≡ codes "bind" = ap head w in rw first refl
+bind_command (word ∷ a ∷ b ∷ c ∷ []) w = refl
+bind_command (word ∷ a ∷ b ∷ c ∷ e ∷ []) w = let first : word.now ≡ codes "bind" = ap head w in rw first refl
+bind_command (word ∷ a ∷ b ∷ c ∷ e ∷ f ∷ more) w = refl
 
-done : {K : Type 0} (taken : K → Option (List ℕ)) (faults : K → ℕ) (old new : K) (status : ℕ) (t : Text) (answer : ℕ) → answer ≡ 0 → PrintsAndAnswers taken faults old new status t answer → (status ≡ 0) × Took taken old new (whole_of t)
-done taken faults old new status t answer zero (all_taken a took) = (sym a ∙ zero, took)
-done taken faults old new status t answer zero (cut_short count a rose part) = absurd (omega (arith, zero, a))
+bind_pairs : (words : List (Bor (List ℕ))) (command : CommandLine) → bind words ≡ Some command → (pairs : List Pair) × (command ≡ lines.Bind pairs)
+bind_pairs [] command e = absurd (none-some command e)
+bind_pairs (word ∷ more) command e = by_test (bytes_eq word.now (codes "bind") && nat_le 1 (length more) && nat_le (length more) 255) (pairs_in more) e
+  where
+    by_test : (b : Bool) (o : Option (List Pair)) → cond b (option_map lines.Bind o) None ≡ Some command → (pairs : List Pair) × (command ≡ lines.Bind pairs)
+    by_test true (Some pairs) e = (pairs, sym (same_Some (lines.Bind pairs) command e))
+    by_test true None e = absurd (none-some command e)
+    by_test false o e = absurd (none-some command e)
+
+check_command : (words : List (Bor (List ℕ))) → AsksForCheck words → command_line_of words ≡ Some lines.Check
+check_command [] w = absurd (let z : ⊥ = cc in z)
+check_command (word ∷ []) w = let first : word.now ≡ codes "check" = ap head w in rw first refl
+check_command (word ∷ other ∷ more) w = absurd (let z : other.now ∷ _ ≡ [] = ap lone w in let no : ⊥ = cc in no)
+
+-- ---- a call whose command prints a text
+
+-- its command reads a text and prints another one; it opens no session and reads no image
+record PrintsText (command : CommandLine) : Type 1 where
+  opens : core_asked command ≡ None
+  no_image : (count : ℕ) → image_sectors count command ≡ None
+  reads : {S : Type 0} (left : S → Option (List ℕ)) (deck deck' : S) (bytes : List ℕ) → ReadAll command left deck deck' bytes → GaveAll left deck deck' bytes
+  was_read : {S : Type 0} (left : S → Option (List ℕ)) (deck deck' : S) (bytes : List ℕ) → CommandWasRead command left deck deck' bytes → WasGiven left deck deck' bytes
+
+-- how such a call ends
+pub data CallComes {S K : Type 0} (left : S → Option (List ℕ)) (source_faults : S → ℕ) (deck deck' : S) (taken : K → Option (List ℕ)) (faults : K → ℕ) (old new : K) (command : CommandLine) (text : List ℕ) (answer : ℕ) : Type 0 where
+  prints : (output : List ℕ) → answer ≡ 0 → asked command text ≡ Prints output → Took taken old new output → CallComes left source_faults deck deck' taken faults old new command text answer
+  refuses : (bytes : List ℕ) (refusal : Refusal) → answer ≡ 2 → WasGiven left deck deck' bytes → asked command bytes ≡ Refused refusal → CallComes left source_faults deck deck' taken faults old new command text answer
+  reading_fails : answer ≡ 7 → Rose source_faults deck deck' → CallComes left source_faults deck deck' taken faults old new command text answer
+  printing_fails : answer ≡ 8 → Rose faults old new → CallComes left source_faults deck deck' taken faults old new command text answer
+  memory_is_wanted : answer ≡ 9 → CallComes left source_faults deck deck' taken faults old new command text answer
 
 same_command : (words : List (Bor (List ℕ))) (command other : CommandLine) → command_line_of words ≡ Some command → command_line_of words ≡ Some other → other ≡ command
 same_command words command other is e = same_Some other command (sym e ∙ is)
 
--- a source that was read to its end, and a printer that had taken nothing
-record Reads {S K : Type 0} (left : S → Option (List ℕ)) (deck deck' : S) (taken : K → Option (List ℕ)) (old new : K) (command : CommandLine) (text made : List ℕ) : Type 0 where
-  reads : (bytes : List ℕ) → ReadAll command left deck deck' bytes → GaveAll left deck deck' bytes
-  told : left deck ≡ Some text
-  empty : taken old ≡ Some []
-  full : taken new ≡ Some made
+-- the printer takes a text, or fails
+closes : {K C : Type 0} (taken : K → Option (List ℕ)) (faults : K → ℕ) (old new : K) (status : ℕ) (t : Text) (answer : ℕ) → PrintsAndAnswers taken faults old new status t answer
+    → (answer ≡ 8 → Rose faults old new → C) → (answer ≡ status → Took taken old new (whole_of t) → C) → C
+closes taken faults old new status t answer (all_taken a took) fails goes = goes a took
+closes taken faults old new status t answer (cut_short count a rose part) fails goes = fails a rose
 
-printed_so : {S K : Type 0} (left : S → Option (List ℕ)) (deck deck' : S) (taken : K → Option (List ℕ)) (old new : K) (command : CommandLine) (text made : List ℕ) → Reads left deck deck' taken old new command text made
-    → (other : CommandLine) (bytes output : List ℕ) (t : Text) → other ≡ command → ReadAll other left deck deck' bytes → asked other bytes ≡ Prints output → t ≡ only output → Took taken old new (whole_of t) → asked command text ≡ Prints made
-printed_so left deck deck' taken old new command text made r other bytes output t same read judged only_is took =
-    let gave = r.reads bytes (subst (λ (c : CommandLine). ReadAll c left deck deck' bytes) same read) in
-    let all : text ≡ bytes = (gave.told text r.told).0 in
-    let taken_is : ◌≡◌ {A = Option (List ℕ)} (Some made) (Some output) = sym r.full ∙ took.told [] r.empty ∙ ap (λ (x : Text). Some (whole_of x)) only_is in
-    let made_is : made ≡ output = same_Some made output taken_is in
-    ap (asked command) all ∙ subst (λ (c : CommandLine). asked c bytes ≡ Prints output) same judged ∙ ap Prints (sym made_is)
+no_run : {S : Type 0} (words : List (Bor (List ℕ))) (left : S → Option (List ℕ)) (deck deck' : S) (command : CommandLine) → command_line_of words ≡ Some command → PrintsText command → (core : ℕ) (p : Prepared) → IsRun words left deck deck' core p → ⊥
+no_run words left deck deck' command is c core p r =
+    let asked_core : core_asked command ≡ Some core = subst (λ (x : CommandLine). core_asked x ≡ Some core) (same_command words command r.command is r.is) r.opens in
+    none-some core (sym c.opens ∙ asked_core)
+
+no_image_read : (words : List (Bor (List ℕ))) (command : CommandLine) → command_line_of words ≡ Some command → PrintsText command → (count : ℕ) (other : CommandLine) (sectors : Option ℕ) → command_line_of words ≡ Some other → image_sectors count other ≡ Some sectors → ⊥
+no_image_read words command is c count other sectors e wanted = none-some sectors (sym (c.no_image count) ∙ ap (image_sectors count) (sym (same_command words command other is e)) ∙ wanted)
 
 module _ {S B K : Type 0} {words : List (Bor (List ℕ))} {left : S → Option (List ℕ)} {source_faults : S → ℕ} {deck deck' : S} {d : Device B} {machine : Option Machine}
-    (taken : K → Option (List ℕ)) (faults : K → ℕ) (old new : K) (command : CommandLine) (is : command_line_of words ≡ Some command) (opens : core_asked command ≡ None) (no_image : image_sectors d.sectors command ≡ None)
-    (text made : List ℕ) (r : Reads left deck deck' taken old new command text made) where
-  by_due : (status : ℕ) (t : Text) (answer : ℕ) → answer ≡ 0 → IsDue words left source_faults deck deck' d machine status t → PrintsAndAnswers taken faults old new status t answer → asked command text ≡ Prints made
-  by_due status t answer zero (usage_due c g same m s x) closes = absurd (omega (arith, (done taken faults old new status t answer zero closes).0, s))
-  by_due status t answer zero (refusal_due other b refusal c read same judged m s x) closes = absurd (omega (arith, (done taken faults old new status t answer zero closes).0, s))
-  by_due status t answer zero (print_due other b output c read same judged m s x) closes = printed_so left deck deck' taken old new command text made r other b output t (same_command words command other is c) read judged x (done taken faults old new status t answer zero closes).1
-  by_due status t answer zero (image_due other sectors card reason c wanted read same m s x) closes = absurd (omega (arith, (done taken faults old new status t answer zero closes).0, s))
-  by_due status t answer zero (dump_due image dump o same m s x) closes =
-      let same : lines.Dump ≡ command = same_command words command lines.Dump is o.is in
-      absurd (none-some None (sym no_image ∙ sym (ap (image_sectors d.sectors) same)))
-  by_due status t answer zero (run_due core p run stops) closes =
-      let none : core_asked command ≡ Some core = subst (λ (c : CommandLine). core_asked c ≡ Some core) (same_command words command run.command is run.is) run.opens in
-      absurd (none-some core (sym opens ∙ none))
-  by_due status t answer zero (reading_due c read same m s x) closes = absurd (omega (arith, (done taken faults old new status t answer zero closes).0, s))
-  by_due status t answer zero (memory_due c same m s x) closes = absurd (omega (arith, (done taken faults old new status t answer zero closes).0, s))
+    (taken : K → Option (List ℕ)) (faults : K → ℕ) (old new : K) (command : CommandLine) (is : command_line_of words ≡ Some command) (c : PrintsText command) (text : List ℕ) (told : left deck ≡ Some text) where
+  by_due : (status : ℕ) (t : Text) (answer : ℕ) → IsDue words left source_faults deck deck' d machine status t → PrintsAndAnswers taken faults old new status t answer → CallComes left source_faults deck deck' taken faults old new command text answer
+  by_due status t answer (usage_due none same kept m s x) end = absurd (let z : true ≡ false = ap is_some (sym is) ∙ none in let no : ⊥ = cc in no)
+  by_due status t answer (refusal_due other bytes refusal e read same judged m s x) end =
+      let command_is = same_command words command other is e in
+      closes taken faults old new status t answer end (λ a rose. printing_fails a rose)
+      (λ a took. refuses bytes refusal (a ∙ s) (c.was_read left deck deck' bytes (subst (λ (y : CommandLine). CommandWasRead y left deck deck' bytes) command_is read))
+      (subst (λ (y : CommandLine). asked y bytes ≡ Refused refusal) command_is judged))
+  by_due status t answer (print_due other bytes output e read same judged m s x) end =
+      let command_is = same_command words command other is e in
+      let gave = c.reads left deck deck' bytes (subst (λ (y : CommandLine). ReadAll y left deck deck' bytes) command_is read) in
+      closes taken faults old new status t answer end (λ a rose. printing_fails a rose)
+      (λ a took. prints output (a ∙ s) (ap (asked command) (gave.told text told).0 ∙ subst (λ (y : CommandLine). asked y bytes ≡ Prints output) command_is judged)
+      (subst (λ (y : Text). Took taken old new (whole_of y)) x took))
+  by_due status t answer (image_due other sectors card reason e wanted read same m s x) end = absurd (no_image_read words command is c d.sectors other sectors e wanted)
+  by_due status t answer (dump_due image dump o same m s x) end = absurd (no_image_read words command is c d.sectors lines.Dump None o.is refl)
+  by_due status t answer (run_due core p run stops) end = absurd (no_run words left deck deck' command is c core p run)
+  by_due status t answer (reading_due r rose same m s x) end = closes taken faults old new status t answer end (λ a rose. printing_fails a rose) (λ a took. reading_fails (a ∙ s) rose)
+  by_due status t answer (memory_due r same m s x) end = closes taken faults old new status t answer end (λ a rose. printing_fails a rose) (λ a took. memory_is_wanted (a ∙ s))
 
-  made_text : (answer : ℕ) → answer ≡ 0 → Answered words left source_faults deck deck' d machine taken faults old new answer → asked command text ≡ Prints made
-  made_text answer zero (answered status t due closes) = by_due status t answer zero due closes
-  made_text answer zero (cut_in_step core p t count run printing a rose part) = absurd (omega (arith, zero, a))
-  made_text answer zero (goes_on g) =
-      let same : lines.Resume ≡ command = same_command words command lines.Resume is g.of.is in
-      absurd (none-some (Some d.sectors) (sym no_image ∙ sym (ap (image_sectors d.sectors) same)))
+  call_comes : (answer : ℕ) → Answered words left source_faults deck deck' d machine taken faults old new answer → CallComes left source_faults deck deck' taken faults old new command text answer
+  call_comes answer (answered status t due end) = by_due status t answer due end
+  call_comes answer (cut_in_step core p t count run printing a rose part) = absurd (no_run words left deck deck' command is c core p run)
+  call_comes answer (goes_on g) = absurd (no_image_read words command is c d.sectors lines.Resume (Some d.sectors) g.of.is refl)
 
-verdict_is : (v : Verdict) (text : List ℕ) → printed v ≡ Prints text → v ≡ Ok text
+pub verdict_is : (v : Verdict) (text : List ℕ) → printed v ≡ Prints text → v ≡ Ok text
 verdict_is (Ok x) text e = let is : x ≡ text = cc in ap Ok is
 verdict_is (Err r) text e = absurd (let z : ⊥ = cc in z)
 
-module _ {S B K : Type 0} {words : List (Bor (List ℕ))} {left : S → Option (List ℕ)} {source_faults : S → ℕ} {deck deck' : S} {d : Device B} {machine : Option Machine}
-    (taken : K → Option (List ℕ)) (faults : K → ℕ) (old new : K) (text made : List ℕ) (told : left deck ≡ Some text) (empty : taken old ≡ Some []) (full : taken new ≡ Some made) (answer : ℕ) (zero : answer ≡ 0)
-    (call : Answered words left source_faults deck deck' d machine taken faults old new answer) where
-  pub asm_made : AsksForAsm words → asm_verdict text ≡ Ok made
-  asm_made w = verdict_is (asm_verdict text) made (made_text taken faults old new lines.Asm (asm_command words w) refl refl text made (record { reads = λ bytes r. r; told = told; empty = empty; full = full }) answer zero call)
+-- ---- the commands of one word, and `bind`
 
-  pub convert_made : AsksForConvert words → convert_verdict text ≡ Ok made
-  convert_made w = verdict_is (convert_verdict text) made (made_text taken faults old new lines.Convert (convert_command words w) refl refl text made (record { reads = λ bytes r. r; told = told; empty = empty; full = full }) answer zero call)
+module _ {S B K : Type 0} {words : List (Bor (List ℕ))} {left : S → Option (List ℕ)} {source_faults : S → ℕ} {deck deck' : S} {d : Device B} {machine : Option Machine}
+    (taken : K → Option (List ℕ)) (faults : K → ℕ) (old new : K) (text : List ℕ) (told : left deck ≡ Some text) (answer : ℕ) (call : Answered words left source_faults deck deck' d machine taken faults old new answer) where
+  pub check_comes : AsksForCheck words → CallComes left source_faults deck deck' taken faults old new lines.Check text answer
+  check_comes w = call_comes taken faults old new lines.Check (check_command words w) (record { opens = refl; no_image = λ n. refl; reads = λ l a b bytes r. r; was_read = λ l a b bytes r. r }) text told answer call
+
+  -- what a call printed that answered 0
+  module _ (made : List ℕ) (empty : taken old ≡ Some []) (full : taken new ≡ Some made) (zero : answer ≡ 0) where
+    made_text : (command : CommandLine) → CallComes left source_faults deck deck' taken faults old new command text answer → asked command text ≡ Prints made
+    made_text command (prints output none is took) =
+        let same : ◌≡◌ {A = Option (List ℕ)} (Some output) (Some made) = sym (took.told [] empty) ∙ full in
+        is ∙ ap Prints (same_Some output made same)
+    made_text command (refuses bytes refusal two was is) = absurd (omega (arith, zero, two))
+    made_text command (reading_fails seven rose) = absurd (omega (arith, zero, seven))
+    made_text command (printing_fails eight rose) = absurd (omega (arith, zero, eight))
+    made_text command (memory_is_wanted nine) = absurd (omega (arith, zero, nine))
+
+    pub asm_made : AsksForAsm words → asm_verdict text ≡ Ok made
+    asm_made w =
+        verdict_is (asm_verdict text) made (made_text lines.Asm
+        (call_comes taken faults old new lines.Asm (asm_command words w) (record { opens = refl; no_image = λ n. refl; reads = λ l a b bytes r. r; was_read = λ l a b bytes r. r }) text told answer call))
+
+    pub convert_made : AsksForConvert words → convert_verdict text ≡ Ok made
+    convert_made w =
+        verdict_is (convert_verdict text) made (made_text lines.Convert
+        (call_comes taken faults old new lines.Convert (convert_command words w) (record { opens = refl; no_image = λ n. refl; reads = λ l a b bytes r. r; was_read = λ l a b bytes r. r }) text told answer call))
+
+    pub bind_made : (is_some (command_line_of words) ≡ false → (answer ≡ 1) ⊎ (answer ≡ 8)) → AsksForBind words → (pairs : List Pair) × (bind_verdict pairs text ≡ Ok made)
+    bind_made none w = by_command (command_line_of words) refl
+      where
+        no_answer : (answer ≡ 1) ⊎ (answer ≡ 8) → ⊥
+        no_answer (inl one) = omega (arith, zero, one)
+        no_answer (inr eight) = omega (arith, zero, eight)
+
+        by_command : (o : Option CommandLine) → command_line_of words ≡ o → (pairs : List Pair) × (bind_verdict pairs text ≡ Ok made)
+        by_command None e = absurd (no_answer (none (ap is_some e)))
+        by_command (Some command) e =
+            let p = bind_pairs words command (sym (bind_command words w) ∙ e) in (
+              p.0,
+              verdict_is (bind_verdict p.0 text) made (made_text (lines.Bind p.0)
+                  (call_comes taken faults old new (lines.Bind p.0) (e ∙ ap Some p.1) (record { opens = refl; no_image = λ n. refl; reads = λ l a b bytes r. r; was_read = λ l a b bytes r. r }) text told answer call)),
+            )
 
 -- ---- two decks of one run
 

@@ -12,8 +12,7 @@ use Rattle.b67_session_lines.specs.Stops.{live_after}
 use Rattle.b67_session_lines.proofs.Statuses.{after-add}
 use Rattle.b67_job.specs.Device.{Device}
 use Rattle.b67_job.specs.Runs.{run_of}
-use Rattle.b67_promises.specs.Switches.{NeverTwoReady}
-use Rattle.b67_promises.specs.TurnLines.{AreOfOneTask}
+use Rattle.b67_promises.specs.Switches.{NeverTwoReady, AreOfOneTask}
 use Rattle.b67_promises.proofs.Steps.{lines_add}
 use Rattle.b67_promises.proofs.Calls.{Printed, all_ended, halt_came, fell_short}
 use Rattle.b67_promises.proofs.OneStack.{ready_live, none_later}

@@ -14,8 +14,7 @@ use Rattle.b67_model.specs.Common.{NextFits}
 use Rattle.b67_session_lines.specs.Stops.{live_after}
 use Rattle.b67_job.specs.Device.{Device, DeviceTells}
 use Rattle.b67_job.specs.Runs.{run_of}
-use Rattle.b67_promises.specs.Switches.{NeverTwoReady}
-use Rattle.b67_promises.specs.TurnLines.{HoldsOneStack}
+use Rattle.b67_promises.specs.Switches.{NeverTwoReady, HoldsOneStack}
 use Rattle.b67_promises.proofs.Steps.{over_after}
 use Rattle.b67_promises.proofs.MoreCore.{WholeRun}
 use denote.Ref.{Bor}

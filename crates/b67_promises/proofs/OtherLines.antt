@@ -2,7 +2,7 @@
 use Rattle.std.proofs.Common.{◌≡◌, ◌≢◌, ◌⊎◌, ◌<◌, ◌≤◌, ◌+◌, ℕ, length, Ok, zero, suc, true, false, not, List, [], ◌∷◌, ◌++◌, codes, decimal, inl, inr, refl, sym, ap, subst, ◌∙◌, arith, append_assoc, append-nil}
 use Rattle.std.specs.Prelude.{ℤ, pos, negsuc, ◌==◌, ◌&&◌, ◌/◌, ◌%◌, nat_lt}
 use Rattle.std.specs.List.{list_all, flat_map, AllByRecursion}
-use Rattle.std.specs.Fmt.{digits, digits_onto, digit_glyph, signed_decimal}
+use Rattle.std.specs.Fmt.{signed_decimal}
 use Rattle.std.proofs.lemmas.Bool.{cases_Bool, and_parts, eq-eqb, lt-ltb, false≢true}
 use Rattle.std.proofs.lemmas.Grind.{flat_map-append}
 use Rattle.std.proofs.lemmas.List.Concat.{flat_map-cons}
@@ -22,14 +22,17 @@ use Rattle.b67_image.specs.Meaning.{told_in}
 use Rattle.b67_image.specs.Image.{image_text}
 use Rattle.b67_image.proofs.Octets.{octets}
 use Rattle.b67_image.proofs.Whole.{read_as, told_again}
-use Rattle.b67_promises.specs.Images.{HasNoMark, AreOtherLines, LinesAreOther, ImagesOfRunsAreRead}
+use Rattle.b67_promises.specs.Halts.{HasNoMark, AreOtherLines, LinesAreOther, ImagesOfRunsAreRead}
+use Rattle.b67_promises.proofs.Numerals.{all_joined, numeral_all}
 use Rattle.b67_promises.proofs.Among.{told_among}
 
 -- ---- texts without a mark
 
+abbrev IsNoMark : ℕ → Type 0
+IsNoMark b = (b ≢ 10) × (b ≢ 63)
+
 joined : (xs ys : List ℕ) → HasNoMark xs → HasNoMark ys → HasNoMark (xs ++ ys)
-joined [] ys p q = q
-joined (x ∷ xs) ys p q = (p.0, joined xs ys p.1 q)
+joined xs ys p q = all_joined IsNoMark xs ys p q
 
 tested : (xs : List ℕ) → list_all (λ b. not (b == 10) && not (b == 63)) xs ≡ true → HasNoMark xs
 tested [] e = tt
@@ -40,29 +43,8 @@ tested (x ∷ xs) e =
       tested xs both.1,
     )
 
-glyph : (d c : ℕ) → d < 10 → (c ≡ 10) ⊎ (c ≡ 63) → digit_glyph false d ≢ c
-glyph d c low marks e = elim (cases_Bool (nat_lt d 10)) [
-  | inl t ↦ let f : 48 + d ≡ c = rw t at e in by f marks
-  | inr z ↦ absurd (false≢true (sym z ∙ lt-ltb d 10 low))
-]
-  where
-    by : 48 + d ≡ c → (c ≡ 10) ⊎ (c ≡ 63) → ⊥
-    by f (inl t) = absurd (omega (arith, f, t))
-    by f (inr t) = absurd (omega (arith, f, t, low))
-
-onto : (k n : ℕ) (acc : List ℕ) → HasNoMark acc → HasNoMark (digits_onto k 10 false n acc)
-onto zero n acc p = p
-onto (suc k) n acc p =
-    let low : n % 10 < 10 = omega arith in
-    let one : (digit_glyph false (n % 10) ≢ 10) × (digit_glyph false (n % 10) ≢ 63) = (glyph (n % 10) 10 low (inl refl), glyph (n % 10) 63 low (inr refl)) in
-    elim (cases_Bool (n / 10 == 0)) [
-      | inl t ↦ rw t (one, p)
-      | inr z ↦ rw z (onto k (n / 10) (digit_glyph false (n % 10) ∷ acc) (one, p))
-    ]
-
 numeral : (n : ℕ) → HasNoMark (decimal n)
-unfolding digits
-numeral n = onto 64 n [] tt
+numeral n = numeral_all IsNoMark (λ b low high. ((λ e. absurd (omega (arith, low, e))), (λ e. absurd (omega (arith, high, e))))) n
 
 signed : (v : ℤ) → HasNoMark (signed_decimal v)
 signed (pos n) = numeral n
@@ -113,15 +95,11 @@ one_more line text p h = record {
 one_alone : (line : List ℕ) → HasNoMark line → AreOtherLines (ended line)
 one_alone line p = subst AreOtherLines (append-nil (ended line)) (one_more line [] p none_other)
 
-both_all : (xs ys : List (List ℕ)) → AllByRecursion HasNoMark xs → AllByRecursion HasNoMark ys → AllByRecursion HasNoMark (xs ++ ys)
-both_all [] ys p q = q
-both_all (x ∷ xs) ys p q = (p.0, both_all xs ys p.1 q)
-
 both_other : (a b : List ℕ) → AreOtherLines a → AreOtherLines b → AreOtherLines (a ++ b)
 both_other a b p q = record {
   each = p.each ++ q.each;
   is = ap (λ (t : List ℕ). t ++ b) p.is ∙ ap (λ (t : List ℕ). flat_map ended p.each ++ t) q.is ∙ sym (flat_map-append ended p.each q.each);
-  other = both_all p.each q.each p.other q.other;
+  other = all_joined HasNoMark p.each q.each p.other q.other;
 }
 
 -- a row of values behind what stands on the line

@@ -1,7 +1,7 @@
 -- Cards that are assembled, or read as hexadecimal ones, begin with no question mark.
 use Rattle.std.proofs.Common.{◌≡◌, ℕ, zero, suc, ◌+◌, ◌-◌, ◌%◌, Bool, true, false, not, cond, eqb, List, [], ◌∷◌, ◌++◌, length, map, take, drop, filter, refl, sym, ap, subst, ◌∙◌, arith, Option, Some, None, unwrap_or, Ok, Err}
 use Rattle.std.specs.Prelude.{◌==◌, nat_lt, ⊤}
-use Rattle.std.specs.List.{AllByRecursion, cons_option, slice_split, list_any, position_or_len}
+use Rattle.std.specs.List.{AllByRecursion, cons_option, slice_split, list_any, position_or_len, suffix_len}
 use Rattle.std.specs.Option.{option_map}
 use Rattle.std.specs.Str.Lines.{lines}
 use Rattle.std.proofs.lemmas.Bool.{eqb-true, and_parts}
@@ -11,7 +11,7 @@ use Rattle.b67_model_text.specs.declared.assembly.Statement as statement
 use Rattle.b67_model_text.specs.declared.assembly.Statement.TheVariants as statements
 use Rattle.b67_model_text.specs.declared.assembly.Line.{Line}
 use Rattle.b67_model_text.specs.Answers.{Answer, ◌>>=◌, ◌>>◌, needs}
-use Rattle.b67_model_text.specs.Cards.{cards, is_empty, is_space, words_in_card, name_in}
+use Rattle.b67_model_text.specs.Cards.{card_of, cards, is_empty, is_space, trimmed, words_in_card, name_in}
 use Rattle.b67_model_text.specs.Command.{is_command, plain_card}
 use Rattle.b67_model_text.specs.Deck.{of_card, hexadecimal, all_hexadecimal}
 use Rattle.b67_model_text.specs.Hex.{is_hex}
@@ -22,10 +22,12 @@ use Rattle.b67_model_text.specs.Pass.{added_by, syllable_behind, entries_behind,
 use Rattle.b67_model_text.proofs.Answers.{after_both, err-ok}
 use Rattle.b67_model_text.proofs.Pass.{content_is}
 use Rattle.b67_asm.specs.Scope.{scope_at}
-use Rattle.b67_promises.proofs.TurnCards.{filled, some_part, cards_at}
+use Rattle.b67_promises.specs.Cards.{BeginsCommand}
+use Rattle.b67_promises.proofs.TurnCards.{filled, some_part, is_filled, cards_at}
 use Rattle.b67_promises.proofs.Renumbered.{texts_of}
 use Rattle.b67_promises.proofs.Within.{of_card_ok, after_card, go_on}
 use Rattle.b67_promises.proofs.BodyCards.{IsNoCommand, same_lines}
+use Rattle.b67_promises.proofs.DeckParts.{marked_words}
 
 -- ---- each card of an assembled text says something
 
@@ -127,14 +129,6 @@ marked_label y more false = refl
 marked_word : (y : List ℕ) (more : List (List ℕ)) → statement_of ((63 ∷ y) ∷ more) ≡ Err 1
 marked_word y more = marked_label y more (is_label (63 ∷ y))
 
-marked_words : (t : List ℕ) → (y : List ℕ) × (more : List (List ℕ)) × (words_in_card (63 ∷ t) ≡ (63 ∷ y) ∷ more)
-marked_words t =
-    let p = some_part t in
-    let keep : List (List ℕ) → List (List ℕ) = λ ws. filter (λ w. not (is_empty w)) ws in
-    let cut : slice_split is_space (63 ∷ t) ≡ (63 ∷ p.0) ∷ p.1 = rw p.2 refl in
-    let one : keep ((63 ∷ p.0) ∷ p.1) ≡ (63 ∷ p.0) ∷ keep p.1 = rw (filled 63 p.0) refl in
-    (p.0, keep p.1, ap keep cut ∙ one)
-
 abbrev before_mark : List ℕ → Option ℕ → List ℕ
 before_mark text o = unwrap_or (option_map (λ (p : List ℕ × List ℕ). p.0) (option_map (λ at. (take at text, drop (at + 1) text)) o)) text
 
@@ -220,3 +214,23 @@ hex_cards_plain (c ∷ cs) u e =
 -- no card of a source that is read as hexadecimal cards begins so
 pub hexadecimal_plain : (source : List ℕ) (u : ⊤) → all_hexadecimal (cards source) ≡ Ok u → (n : ℕ) → AllByRecursion IsNoCommand (texts_of (cards_at n (lines source)))
 hexadecimal_plain source u e = at_each_number source (hex_cards_plain (cards source) u e)
+
+-- ---- lines of which none is a command
+
+taken_mark : (line : List ℕ) (n : ℕ) (t : List ℕ) → take n line ≡ 63 ∷ t → BeginsCommand line
+taken_mark [] zero t e = absurd (let z : ⊥ = cc in z)
+taken_mark [] (suc n) t e = absurd (let z : ⊥ = cc in z)
+taken_mark (b ∷ line) zero t e = absurd (let z : ⊥ = cc in z)
+taken_mark (b ∷ line) (suc n) t e = let is : b ≡ 63 = cc in ap (λ (x : ℕ). x ∷ []) is
+
+pub uncommanded : (n : ℕ) (ls : List (List ℕ)) → AllByRecursion (λ (line : List ℕ). BeginsCommand line → ⊥) ls → AllByRecursion IsNoCommand (texts_of (cards_at n ls))
+uncommanded n [] all = tt
+uncommanded n (l ∷ ls) all = by_test (is_filled (card_of (n, l))) (uncommanded (n + 1) ls all.1)
+  where
+    by_mark : (b : Bool) → is_command (trimmed l) ≡ b → IsNoCommand (trimmed l)
+    by_mark false e = e
+    by_mark true e = let m = mark_of (trimmed l) e in absurd (all.0 (taken_mark l (length l - suffix_len is_space l) m.0 m.1))
+
+    by_test : (b : Bool) → AllByRecursion IsNoCommand (texts_of (cards_at (n + 1) ls)) → AllByRecursion IsNoCommand (texts_of (cond b (card_of (n, l) ∷ cards_at (n + 1) ls) (cards_at (n + 1) ls)))
+    by_test true rest = (by_mark (is_command (trimmed l)) refl, rest)
+    by_test false rest = rest

@@ -32,8 +32,7 @@ use Rattle.b67_job.specs.Due.{IsRun, Halts, IsOpenedOrResumed, TextIsRefused, Im
 use Rattle.b67_job.specs.Statuses.{StatusMeans}
 use Rattle.b67_job.proofs.Commands.{NumberWithin}
 use Rattle.b67_job.proofs.Prepared.{prepared_in_range, prepared_cards}
-use Rattle.b67_promises.specs.Halting.{AsksForImage, AsksForResume}
-use Rattle.b67_promises.specs.Images.{IsReadIn, IsReadBack, text_of_halt}
+use Rattle.b67_promises.specs.Halts.{AsksForImage, AsksForResume, IsReadIn, IsReadBack, text_of_halt}
 use Rattle.b67_promises.proofs.Halves.{image_words, resume_words, one_text}
 use Rattle.b67_promises.proofs.OtherLines.{read_among}
 use Rattle.b67_promises.proofs.Ranges.{parts_within}

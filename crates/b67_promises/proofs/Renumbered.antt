@@ -216,13 +216,20 @@ same_lines (c ∷ cs) (d ∷ ds) e =
     one_line c.number d.number (words_in_card (without_comment c.text)) (lines_of cs) (lines_of ds) (same_lines cs ds rest)
     ∙ ap (λ (text : List ℕ). bare (cons_option (line_with d.number (words_in_card (without_comment text))) (lines_of ds))) first
 
--- cards of the same texts denote one program
-pub one_program : (cs ds : List Card) (p q : Program) → texts_of cs ≡ texts_of ds → assembled cs ≡ Ok p → assembled ds ≡ Ok q → p ≡ q
-one_program cs ds p q e a b =
+answered : {A R : Type 0} (r : Result A R) (a : A) → answer_of r ≡ Some a → r ≡ Ok a
+answered (Ok x) a e = ap (λ y. Ok y) (same_Some x a e)
+answered (Err r) a e = absurd (none-some a e)
+
+-- cards of the same texts denote the same program
+pub same_program : (cs ds : List Card) (p : Program) → texts_of cs ≡ texts_of ds → assembled cs ≡ Ok p → assembled ds ≡ Ok p
+same_program cs ds p e a =
     let same : answer_of (assembled cs) ≡ answer_of (assembled ds) =
     sym (of_lines_bare (lines_of cs)) ∙ ap (λ (ls : List Line). answer_of (program_of_lines ls)) (same_lines cs ds e) ∙ of_lines_bare (lines_of ds)
     in
-    same_Some p q (sym (ap answer_of a) ∙ same ∙ ap answer_of b)
+    answered (assembled ds) p (sym same ∙ ap answer_of a)
+
+pub one_program : (cs ds : List Card) (p q : Program) → texts_of cs ≡ texts_of ds → assembled cs ≡ Ok p → assembled ds ≡ Ok q → p ≡ q
+one_program cs ds p q e a b = same_Some p q (sym (ap answer_of (same_program cs ds p e a)) ∙ ap answer_of b)
 
 pub one_version : (cs ds : List Card) → texts_of cs ≡ texts_of ds → version_of cs ≡ version_of ds
 one_version cs ds e =

@@ -26,7 +26,7 @@ use Rattle.b67_job.specs.Going.{run_from}
 use Rattle.b67_job.specs.Judgement.{Prints, asked, core_asked}
 use Rattle.b67_job.specs.Due.{IsDue, usage_due, refusal_due, print_due, image_due, dump_due, run_due, reading_due, memory_due, Answered, answered, cut_in_step, goes_on, usage_text, reading_text}
 use Rattle.b67_promises.specs.Paging.{IsOneLine, IsCutFrom}
-use Rattle.b67_promises.specs.Halting.{AsksForResume, ResumeBegins}
+use Rattle.b67_promises.specs.Halts.{AsksForResume, ResumeBegins}
 use Rattle.b67_promises.proofs.Calls.{Shape, TextShape, whole_shape, cut_shape, lone}
 use Rattle.b67_promises.proofs.Halves.{resume_words, stands_again, says_self}
 use Rattle.b67_promises.proofs.OneLines.{none_is_one, no_core_is_one, backing_full_is_one, backing_fault_is_one, memory_is_one, usage_is_one, reading_is_one, summary_is_one, refusal_is_one, image_refusal_is_one}

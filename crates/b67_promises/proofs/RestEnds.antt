@@ -27,9 +27,8 @@ use Rattle.b67_job.specs.Runs.{run_of, WantsCore, WasOpened, StopsOpened, all_en
 use Rattle.b67_job.specs.Going.{run_from}
 use Rattle.b67_job.specs.Judgement.{core_asked}
 use Rattle.b67_job.specs.Due.{IsOpenedOrResumed, IsDue, usage_due, refusal_due, print_due, image_due, dump_due, run_due, reading_due, memory_due, Answered, answered, cut_in_step, goes_on}
-use Rattle.b67_promises.specs.Paging.{texts}
-use Rattle.b67_promises.specs.MoreCore.{EndsToo, as_well, no_command, sectors_wanted, memory_wanted}
-use Rattle.b67_promises.specs.Halting.{AsksForImage, AsksForImageIn, AsksForResume}
+use Rattle.b67_promises.specs.Paging.{texts, EndsToo, as_well, no_command, sectors_wanted, memory_wanted}
+use Rattle.b67_promises.specs.Halts.{AsksForImage, AsksForImageIn, AsksForResume}
 use Rattle.b67_promises.proofs.Calls.{Printed, all_ended, halt_came, fell_short}
 use Rattle.b67_promises.proofs.Cores.{number_is}
 use Rattle.b67_promises.proofs.Halves.{resume_words, image_not_run, image_not_exercise, image_not_one, image_not_bind, image_not_resume, stands_again, told_short, says_self}

@@ -8,7 +8,7 @@ use Rattle.b67_model_text.specs.declared.card.Card.{Card}
 use Rattle.b67_model_text.specs.declared.deck.Deck.{Deck}
 use Rattle.b67_model_text.specs.declared.deck.Job.{Job}
 use Rattle.b67_model_text.specs.declared.deck.Switch as deck_switch
-use Rattle.b67_model_text.specs.declared.deck.Body.TheVariants.{Bytes}
+use Rattle.b67_model_text.specs.declared.deck.Body.TheVariants.{Cards, Bytes}
 use Rattle.b67_model_text.specs.Answers as answers
 use Rattle.b67_model_text.specs.Cards.{cards}
 use Rattle.b67_model_text.specs.Command.{Asm, Hex}
@@ -29,7 +29,7 @@ use Rattle.b67_task_tables.specs.Tables.{switch_of}
 use Rattle.b67_promises.proofs.Renumbered.{texts_of, one_program}
 use Rattle.b67_promises.proofs.HexBack.{cards_are_lines, cards_are_bytes, cards_no_commands, all_digits_bytes, byte_at, texts_on_lines}
 use Rattle.b67_promises.proofs.Within.{assembled_within, spelled_bytes}
-use Rattle.b67_promises.specs.Sources.{HoldPrinted}
+use Rattle.b67_promises.specs.Cards.{HoldPrinted}
 use Rattle.b67_promises.proofs.TurnCards.{cards_at}
 use Rattle.b67_promises.proofs.TurnCalls.{after, of_deck_ok, parts}
 use Rattle.b67_promises.proofs.Held.{codefiles_hold_programs}
@@ -47,15 +47,18 @@ pub of_cards_ok : {A : Type 0} (r : Result A deck.Refusal) (a : A) → of_cards 
 of_cards_ok (Ok x) a e = let is : x ≡ a = cc in ap (λ y. Ok y) is
 of_cards_ok (Err r) a e = absurd (let z : ⊥ = cc in z)
 
-codefile_ok : (card : ℕ) (r : Result Codefile BadFile) (f : Codefile) → codefile_in card r ≡ Ok f → r ≡ Ok f
+pub codefile_ok : (card : ℕ) (r : Result Codefile BadFile) (f : Codefile) → codefile_in card r ≡ Ok f → r ≡ Ok f
 codefile_ok card (Ok x) f e = let is : x ≡ f = cc in ap (λ y. Ok y) is
 codefile_ok card (Err r) f e = absurd (let z : ⊥ = cc in z)
 
 -- ---- the programs of two bodies are one
 
+pub file_again : (n m : ℕ) (r : Result Codefile BadFile) (x : Program) → of_file n r ≡ Ok x → of_file m r ≡ Ok x
+file_again n m (Ok f) x e = e
+file_again n m (Err r) x e = absurd (let z : ⊥ = cc in z)
+
 pub one_file : (n m : ℕ) (r : Result Codefile BadFile) (x y : Program) → of_file n r ≡ Ok x → of_file m r ≡ Ok y → x ≡ y
-one_file n m (Ok f) x y e k = same_ok x y (sym e ∙ k)
-one_file n m (Err r) x y e k = absurd (let z : ⊥ = cc in z)
+one_file n m r x y e k = same_ok x y (sym (file_again n m r x e) ∙ k)
 
 abbrev pub OneProgram : Relation
 OneProgram = record {
@@ -114,21 +117,21 @@ one_run p q e f h = record {
 
 -- ---- the cards that are printed of bytes
 
-printed_texts : (bytes : List ℕ) → AllByRecursion (λ (b : ℕ). b < 256) bytes → (n : ℕ) → texts_of (cards_at n (lines (hex_lines bytes))) ≡ hex_cards bytes
+pub printed_texts : (bytes : List ℕ) → AllByRecursion (λ (b : ℕ). b < 256) bytes → (n : ℕ) → texts_of (cards_at n (lines (hex_lines bytes))) ≡ hex_cards bytes
 printed_texts bytes small n = texts_on_lines n (hex_cards bytes) (cards_are_lines bytes small)
 
-printed_plain : (bytes : List ℕ) → AllByRecursion (λ (b : ℕ). b < 256) bytes → (n : ℕ) → AllByRecursion IsNoCommand (texts_of (cards_at n (lines (hex_lines bytes))))
+pub printed_plain : (bytes : List ℕ) → AllByRecursion (λ (b : ℕ). b < 256) bytes → (n : ℕ) → AllByRecursion IsNoCommand (texts_of (cards_at n (lines (hex_lines bytes))))
 printed_plain bytes small n = subst (λ (ts : List (List ℕ)). AllByRecursion IsNoCommand ts) (sym (printed_texts bytes small n)) (cards_no_commands bytes)
 
-printed_bytes : (bytes : List ℕ) → AllByRecursion (λ (b : ℕ). b < 256) bytes → (ys : List Said) → texts_of (body ys) ≡ texts_of (cards_at 1 (lines (hex_lines bytes))) → bytes_in (body ys) ≡ bytes
+pub printed_bytes : (bytes : List ℕ) → AllByRecursion (λ (b : ℕ). b < 256) bytes → (ys : List Said) → texts_of (body ys) ≡ texts_of (cards_at 1 (lines (hex_lines bytes))) → bytes_in (body ys) ≡ bytes
 printed_bytes bytes small ys e = bytes_by_text (body ys) ∙ ap (flat_map digit_bytes) (e ∙ printed_texts bytes small 1) ∙ cards_are_bytes bytes small
 
 -- ---- asm
 
-record Assembles (source printed : List ℕ) : Type 0 where
-  p : Program
-  assembles : assembled (cards source) ≡ Ok p
-  is : printed ≡ hex_lines (spelling (codefile_of (version_of (cards source)) p))
+pub record Assembles (source printed : List ℕ) : Type 0 where
+  pub p : Program
+  pub assembles : assembled (cards source) ≡ Ok p
+  pub is : printed ≡ hex_lines (spelling (codefile_of (version_of (cards source)) p))
 
 cards_are : (source : List ℕ) (cs : List Card) → plain_cards source ≡ Ok cs → cs ≡ cards source
 cards_are source cs e =
@@ -136,7 +139,7 @@ cards_are source cs e =
     let b = after_both (all_plain (cards source)) (λ (v : ⊤). Ok (cards source)) cs a.2 in
     sym (same_ok (cards source) cs b.2)
 
-assembles : (source printed : List ℕ) → asm_verdict source ≡ Ok printed → Assembles source printed
+pub assembles : (source printed : List ℕ) → asm_verdict source ≡ Ok printed → Assembles source printed
 unfolding asm_verdict
 assembles source printed e =
     let a = after (of_deck (plain_cards source)) asm_of printed e in
@@ -145,22 +148,30 @@ assembles source printed e =
     let b = after (of_cards (assembled (cards source))) (λ p. Ok (hex_lines (spelling (codefile_of (version_of (cards source)) p)))) printed f in
     record { p = b.0; assembles = of_cards_ok (assembled (cards source)) b.0 b.1; is = sym (same_ok (hex_lines (spelling (codefile_of (version_of (cards source)) b.0))) printed b.2) }
 
-asm_bodies : (source printed : List ℕ) → Assembles source printed → BodiesOf OneProgram Asm Hex (lines source) (lines printed)
-asm_bodies source printed h xs ys e f n m x y one other =
+-- a body of these cards, and one of those that are printed
+abbrev pub TwoBodies : (source printed : List ℕ) (xs ys : List Said) → Type 0
+TwoBodies source printed xs ys = (texts_of (body xs) ≡ texts_of (cards_at 1 (lines source))) × (texts_of (body ys) ≡ texts_of (cards_at 1 (lines printed)))
+
+-- hold one program
+pub asm_holds : (source printed : List ℕ) → Assembles source printed → (xs ys : List Said) → TwoBodies source printed xs ys → (n m : ℕ) (x : Program) → program_in n (Cards (body xs)) ≡ Ok x → program_in m (Bytes (bytes_in (body ys))) ≡ Ok x
+asm_holds source printed h xs ys both n m x one =
     let file : Codefile = codefile_of (version_of (cards source)) h.p in
     let bytes = spelling file in
-    let here : x ≡ h.p = one_program (body xs) (cards source) x h.p e (of_cards_ok (assembled (body xs)) x one) h.assembles in
-    let given : bytes_in (body ys) ≡ bytes = printed_bytes bytes (spelled_bytes file) ys (f ∙ ap (λ (t : List ℕ). texts_of (cards_at 1 (lines t))) h.is) in
+    let here : x ≡ h.p = one_program (body xs) (cards source) x h.p both.0 (of_cards_ok (assembled (body xs)) x one) h.assembles in
+    let given : bytes_in (body ys) ≡ bytes = printed_bytes bytes (spelled_bytes file) ys (both.1 ∙ ap (λ (t : List ℕ). texts_of (cards_at 1 (lines t))) h.is) in
     let there : program_in m (Bytes (bytes_in (body ys))) ≡ Ok h.p = ap (λ (bs : List ℕ). program_in m (Bytes bs)) given ∙ codefiles_hold_programs (version_of (cards source)) m h.p (assembled_within (cards source) h.p h.assembles) in
-    here ∙ same_ok h.p y (sym there ∙ other)
+    there ∙ ap Ok (sym here)
+
+asm_bodies : (source printed : List ℕ) → Assembles source printed → BodiesOf OneProgram Asm Hex (lines source) (lines printed)
+asm_bodies source printed h xs ys e f n m x y one other = same_ok x y (sym (asm_holds source printed h xs ys (e, f) n m x one) ∙ other)
 
 -- ---- convert
 
-record Converts (source printed : List ℕ) : Type 0 where
-  file : Codefile
-  plain : (n : ℕ) → AllByRecursion IsNoCommand (texts_of (cards_at n (lines source)))
-  holds : file_of (bytes_in (cards source)) ≡ Ok file
-  is : printed ≡ hex_lines (spelling (record file { version = 2 }))
+pub record Converts (source printed : List ℕ) : Type 0 where
+  pub file : Codefile
+  pub plain : (n : ℕ) → AllByRecursion IsNoCommand (texts_of (cards_at n (lines source)))
+  pub holds : file_of (bytes_in (cards source)) ≡ Ok file
+  pub is : printed ≡ hex_lines (spelling (record file { version = 2 }))
 
 hexadecimal_are : (source : List ℕ) (cs : List Card) → hexadecimal_cards source ≡ Ok cs → (u : ⊤) × (all_hexadecimal (cards source) ≡ Ok u) × (cs ≡ cards source)
 hexadecimal_are source cs e =
@@ -168,7 +179,7 @@ hexadecimal_are source cs e =
     let b = after_both (all_hexadecimal (cards source)) (λ (v : ⊤). Ok (cards source)) cs a.2 in
     (b.0, b.1, sym (same_ok (cards source) cs b.2))
 
-converts : (source printed : List ℕ) → convert_verdict source ≡ Ok printed → Converts source printed
+pub converts : (source printed : List ℕ) → convert_verdict source ≡ Ok printed → Converts source printed
 unfolding convert_verdict
 converts source printed e =
     let a = after (of_deck (hexadecimal_cards source)) converted_of printed e in
@@ -178,16 +189,19 @@ converts source printed e =
     let b = after (codefile_in (first_number (cards source)) (file_of (bytes_in (cards source)))) (λ file. Ok (hex_lines (spelling (record file { version = 2 })))) printed f in
     record { file = b.0; plain = hexadecimal_plain source read.0 read.1; holds = codefile_ok (first_number (cards source)) (file_of (bytes_in (cards source))) b.0 b.1; is = sym (same_ok (hex_lines (spelling (record b.0 { version = 2 }))) printed b.2) }
 
-convert_bodies : (source printed : List ℕ) → Converts source printed → BodiesOf OneProgram Hex Hex (lines source) (lines printed)
-convert_bodies source printed h xs ys e f n m x y one other =
+pub convert_holds : (source printed : List ℕ) → Converts source printed → (xs ys : List Said) → TwoBodies source printed xs ys → (n m : ℕ) (x : Program) → program_in n (Bytes (bytes_in (body xs))) ≡ Ok x → program_in m (Bytes (bytes_in (body ys))) ≡ Ok x
+convert_holds source printed h xs ys both n m x one =
     let second : Codefile = record h.file { version = 2 } in
     let bytes = spelling second in
     let old = bytes_in (cards source) in
-    let same : bytes_in (body xs) ≡ old = bytes_by_text (body xs) ∙ ap (flat_map digit_bytes) e ∙ sym (bytes_by_text (cards source)) in
-    let given : bytes_in (body ys) ≡ bytes = printed_bytes bytes (spelled_bytes second) ys (f ∙ ap (λ (t : List ℕ). texts_of (cards_at 1 (lines t))) h.is) in
+    let same : bytes_in (body xs) ≡ old = bytes_by_text (body xs) ∙ ap (flat_map digit_bytes) both.0 ∙ sym (bytes_by_text (cards source)) in
+    let given : bytes_in (body ys) ≡ bytes = printed_bytes bytes (spelled_bytes second) ys (both.1 ∙ ap (λ (t : List ℕ). texts_of (cards_at 1 (lines t))) h.is) in
     let small : (i : ℕ) → get_or old i 0 < 256 = subst (λ (bs : List ℕ). (i : ℕ) → get_or bs i 0 < 256) (sym (bytes_by_text (cards source))) (byte_at (flat_map digit_bytes (texts_of (cards source))) (all_digits_bytes (texts_of (cards source)))) in
     let kept : program_in m (Bytes bytes) ≡ program_in m (Bytes old) = converting_keeps_programs m old h.file small h.holds in
-    one_file n m (file_of old) x y (ap (λ (bs : List ℕ). program_in n (Bytes bs)) (sym same) ∙ one) (sym kept ∙ ap (λ (bs : List ℕ). program_in m (Bytes bs)) (sym given) ∙ other)
+    ap (λ (bs : List ℕ). program_in m (Bytes bs)) given ∙ kept ∙ file_again n m (file_of old) x (ap (λ (bs : List ℕ). program_in n (Bytes bs)) (sym same) ∙ one)
+
+convert_bodies : (source printed : List ℕ) → Converts source printed → BodiesOf OneProgram Hex Hex (lines source) (lines printed)
+convert_bodies source printed h xs ys e f n m x y one other = same_ok x y (sym (convert_holds source printed h xs ys (e, f) n m x one) ∙ other)
 
 -- ---- the decks of such texts
 

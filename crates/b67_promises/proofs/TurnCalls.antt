@@ -16,8 +16,7 @@ use Rattle.b67_job.specs.declared.summaries.Exercise.{Exercise}
 use Rattle.b67_job.specs.Runs.{run_of}
 use Rattle.b67_job.specs.Judgement.{Judgement, Refused, Runs, Prints, OfImage, judgement, prepared_judgement}
 use Rattle.b67_promises.specs.Paging.{IsWhole}
-use Rattle.b67_promises.specs.Switches.{DifferInTurns, NeverTwoReady, CallsProcess, IsOneTask}
-use Rattle.b67_promises.specs.TurnLines.{DifferInTurnLines}
+use Rattle.b67_promises.specs.Switches.{DifferInTurns, NeverTwoReady, CallsProcess, IsOneTask, DifferInTurnLines}
 use Rattle.b67_promises.proofs.Calls.{Printed, fell_short, CallPrints, prepared_in, not_refused}
 use Rattle.b67_promises.proofs.Alike.{printed_alike}
 use Rattle.b67_promises.proofs.MoreCore.{WholeRun}

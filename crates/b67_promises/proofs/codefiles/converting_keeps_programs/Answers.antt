@@ -1,5 +1,0 @@
-use Rattle.b67_promises.proofs.Converted as law
-use Rattle.b67_promises.proofs.codefiles.converting_keeps_programs.Goals as goal
-
-pub returns : goal.returns
-returns c = law.converting_keeps_programs

@@ -1,5 +1,0 @@
-use Rattle.b67_promises.proofs.OtherLines.{read_among}
-use Rattle.b67_promises.proofs.images.images_of_runs_are_read.Goals as goal
-
-pub returns : goal.returns
-returns c = read_among
