@@ -1,3 +1,5 @@
 pub mod Input
 pub mod Opening
 pub mod Served
+pub mod Started
+pub mod Words

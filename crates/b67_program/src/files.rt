@@ -9,6 +9,9 @@ use std::fs;
 use std::fs::File;
 use std::os::unix::fs::MetadataExt;
 
+/// The file that is printed into: lines would go into the sectors of a backing at a path that leads there.
+const PRINTED: &str = "/dev/stdout";
+
 /// What hands out the backing of a path.
 pub trait Devices {
     type File: Backing + Drop;
@@ -30,12 +33,10 @@ pub trait Devices {
         ensures leaves { Leaves kept Self.File.holds self.new path.now file };
 }
 
-// Whether standard output is the file at a path, as far as the system says: then lines would be printed into its sectors.
-fn prints_into(rt: &HostRuntime, path: &str) -> bool {
-    match (fs::metadata(rt, "/dev/stdout"), fs::metadata(rt, path)) {
-        (Ok(printed), Ok(backing)) => {
-            printed.dev() == backing.dev() && printed.ino() == backing.ino()
-        }
+/// Whether two paths lead to one file, as far as the system says.
+pub(crate) fn lead_to_one_file(rt: &HostRuntime, path: &str, other: &str) -> bool {
+    match (fs::metadata(rt, path), fs::metadata(rt, other)) {
+        (Ok(one), Ok(two)) => one.dev() == two.dev() && one.ino() == two.ino(),
         _ => false,
     }
 }
@@ -78,7 +79,11 @@ impl Devices for HostRuntime {
     ghost kept = { λ _ _. None };
 
     fn open(&mut self, path: &str) -> SystemFile {
-        let path = if prints_into(self, path) { "" } else { path };
+        let path = if lead_to_one_file(self, PRINTED, path) {
+            ""
+        } else {
+            path
+        };
         SystemFile {
             sectors: FileBacking::at(self, path),
         }

@@ -1,6 +1,7 @@
 //! The call that the program makes.
 
 ghost use Rattle.std.specs.Prelude.{◌≡◌, ◌<◌, ◌^◌, [], false, IfOk, IfSome};
+ghost use Rattle.std.specs.Process.{exit_status};
 ghost use Rattle.b67_io.specs.Causes.{Rose};
 ghost use Rattle.b67_backing.specs.Memory.{memory_sectors, failing_reads, failing_writes};
 ghost use Rattle.b67_backing.specs.Held.{blank};
@@ -22,6 +23,7 @@ use b67_model::{DECK_BYTES, IMAGE_BYTES};
 use b67_session_lines::{line_of, say};
 use b67_word::{Bytes, Numbers};
 use std::alloc::{AllocError, Global};
+use std::process::ExitCode;
 
 /// How many sectors a run has whose words name no file.
 const SECTORS: u32 = 4096;
@@ -98,7 +100,7 @@ fn memory_backing(alloc: Global) -> Result<MemoryBacking, AllocError>
     MemoryBacking::new(alloc, SECTORS, Numbers::new(alloc), Numbers::new(alloc))
 }
 
-/// Carries out the command that the words are, and answers the program's exit status. The text that the command reads is read
+/// Carries out the command that the words are, and answers with what the program is to end. The text that the command reads is read
 /// into memory first, to the first byte past the limit of a deck, or of an image, at most. The command runs over the file of the words' path; where
 /// they name none, over 4,096 sectors of zeros in memory.
 ///
@@ -110,31 +112,33 @@ pub fn serve<R: Devices, S: Source, K: Sink>(
     devices: &mut R,
     input: &mut S,
     printer: &mut K,
-) -> u8
+) -> ExitCode
     // The file of the words' path is opened, and no other.
     ensures opened { Opens R.opened devices.old devices.new (paths_of (backing_path words.now)) }
 
     // The status is that of `run` over the bytes that were read, and over that file or 4,096 sectors of zeros; or a read failed,
     // or memory was refused.
     ensures served { IsServed words.now S.left S.faults input.old input.new (Finds R.kept R.File.holds devices.old) (Leaves R.kept R.File.holds devices.new) (device_of R.File.holds R.File.size R.File.faults)
-        K.taken K.faults printer.old printer.new result }
+        K.taken K.faults printer.old printer.new (exit_status result) }
 
     // A command that reads no text, and words that are no command, leave the input as it was.
     ensures unread { reads_text (command_line_of words.now) ≡ false → input.new ≡ input.old }
 
     // Status 7 is that a read of the input failed.
-    ensures reading { result ≡ 7 → Rose S.faults input.old input.new }
+    ensures reading { exit_status result ≡ 7 → Rose S.faults input.old input.new }
 {
     match backing_path(words) {
         Some(path) => {
             let mut backing = devices.open(path);
             let status = answer(alloc, words, input, printer, &mut backing);
             devices.close(path, backing);
-            status
+            ExitCode::from(status)
         }
         None => match memory_backing(alloc) {
-            Ok(mut backing) => answer(alloc, words, input, printer, &mut backing),
-            Err(_) => refuse_memory(printer).status,
+            Ok(mut backing) => {
+                ExitCode::from(answer(alloc, words, input, printer, &mut backing))
+            }
+            Err(_) => ExitCode::from(refuse_memory(printer).status),
         },
     }
 }

@@ -1,9 +1,11 @@
 //! The program's call, over a source and a printer in memory and the system's files.
 
+use crate::files::lead_to_one_file;
 use crate::serve;
 use b67_io::{Paper, Tape};
 use b67_word::{Bytes, Numbers};
 use std::fs;
+use std::process::ExitCode;
 use std::test::Fail;
 
 /// MKST / NAMC 0,9 / LT8 2 / LT8 3 / ADD / ENTR / EXIT.
@@ -47,10 +49,13 @@ fn serves(mut rt: HostRuntime) -> Result<(), Fail> {
         let mut tape = Tape::new(bytes, 7, bad_reads);
         let mut paper = Paper::new(alloc, 1000, Numbers::new(alloc))?;
         let was = serve(alloc, words, &mut rt, &mut tape, &mut paper);
-        assert_eq!(rt; was, status, "{lines}");
+        assert_eq!(rt; was, ExitCode::from(status), "{lines}");
         assert_eq!(rt; paper.bytes(), lines.as_bytes(), "{lines}");
     }
     assert_eq!(rt; fs::metadata(&rt, PATH)?.len(), 15_728_640);
+    assert!(rt; lead_to_one_file(&rt, PATH, PATH));
+    assert!(rt; !lead_to_one_file(&rt, PATH, "/dev/stdout"));
     fs::remove_file(&rt, PATH)?;
+    assert!(rt; !lead_to_one_file(&rt, PATH, PATH));
     Ok(())
 }
