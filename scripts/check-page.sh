@@ -1,0 +1,31 @@
+#!/bin/sh
+# Tries the page, web/b67.html, in headless Chromium: from the top of the repository
+#
+#     sh scripts/check-page.sh [PROGRAM [FOLDER]]
+#
+# PROGRAM is `b67` on the path if it isn't given. Each deck of decks/ is opened, run and stepped through, and every key is pressed.
+# After each the state on the page is compared with what PROGRAM's `image` and `dump` print at that count. Bad input is tried, too.
+# Any complaint of the browser's console counts as a difference. With FOLDER pictures of the page are written there. Some minutes.
+#
+# The last line is `N the same, M different`. Status 1 if anything differs, 2 if something is missing. No part of the gate.
+set -eu
+usage() {
+    echo "usage: sh scripts/check-page.sh [PROGRAM [FOLDER]]" >&2
+    exit 2
+}
+missing() {
+    echo "check-page.sh: $1" >&2
+    exit 2
+}
+[ $# -le 2 ] || usage
+case ${1-} in -*) usage ;; esac
+top=$(cd "$(dirname "$0")/.." && pwd)
+program=$(command -v "${1:-b67}") || missing "${1:-b67}: no such program"
+[ -f "$top/web/b67.html" ] || missing "web/b67.html isn't there: sh scripts/web.sh"
+command -v node >/dev/null || missing "node isn't on the path"
+chromium=
+for name in chromium chromium-browser google-chrome; do
+    [ -n "$chromium" ] || chromium=$(command -v $name) || true
+done
+[ -n "$chromium" ] || missing "Chromium isn't on the path"
+exec node "$top/web/check/page.mjs" "$chromium" "$top/web/b67.html" "$program" "$top/decks" ${2+"$2"}

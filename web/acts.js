@@ -1,0 +1,66 @@
+// What each key and each button of the steps does.
+import {byId} from './elements.js';
+import {cardKey} from './search.js';
+
+const [SMALLEST, LARGEST] = [11, 28];
+
+function resize(page, by) {
+  page.view.size = Math.max(SMALLEST, Math.min(LARGEST, page.view.size + by));
+  document.documentElement.style.fontSize = `${page.view.size}px`;
+  page.redraw();
+}
+
+export function toggleLessons(page) {
+  const panel = byId('lessons');
+  panel.hidden = !panel.hidden;
+  byId('lessons-button').setAttribute('aria-pressed', String(!panel.hidden));
+  if (!panel.hidden) panel.querySelector('a')?.focus();
+  page.redraw();
+}
+
+function toggleTwo(page) {
+  return page.guard(async () => {
+    if (!page.session?.state || document.body.dataset.view !== 'step') return page.step(undefined, page.core('other'));
+    page.session.other = page.session.other === null ? page.core('other') : null;
+    await page.goTo(page.session.state.count);
+  });
+}
+
+// Acts that need no machine.
+const ALWAYS = {
+  larger: page => resize(page, 1),
+  smaller: page => resize(page, -1),
+  lessons: page => toggleLessons(page),
+  help: () => byId('help').showModal(),
+  two: page => toggleTwo(page),
+  edit: page => page.show('deck'),
+};
+
+// Acts over the moment that is shown.
+const STEPS = {
+  forth: page => page.guard(() => page.goTo(page.session.wanted + 1)),
+  back: page => page.guard(() => page.goTo(page.session.wanted - 1)),
+  tenForth: page => page.guard(() => page.goTo(page.session.wanted + 10)),
+  tenBack: page => page.guard(() => page.goTo(page.session.wanted - 10)),
+  first: page => page.guard(() => page.goTo(0)),
+  last: page => page.guard(async () => page.goTo(await page.ask('end', {}))),
+  before: page => page.guard(async () => page.goTo(await page.ask('firstFault', {}) - 1)),
+  over: (page, way) => page.find('over', way),
+  out: (page, way) => page.find('out', way),
+  line: (page, way) => page.find('line', way),
+  paging: (page, way) => page.find('paging', way),
+  task: (page, way) => page.find('task', way),
+  fault: (page, way) => page.find('fault', way),
+  stopped: (page, way) => page.find('stopped', way),
+  stoppedBack: page => page.find('stopped', -1),
+  stop: page => page.toggle(cardKey(page.session.state.next ?? page.session.state.operator)),
+  play: page => page.play(),
+  fold: page => { page.view.folds = !page.view.folds; page.redraw(); },
+  arrows: page => { page.view.allArrows = !page.view.allArrows; page.redraw(); },
+  wide: page => { document.body.classList.toggle('wide'); page.redraw(); },
+};
+
+export function perform(page, act, way) {
+  if (ALWAYS[act]) return ALWAYS[act](page);
+  if (page.session?.state && document.body.dataset.view === 'step') return STEPS[act]?.(page, way);
+}

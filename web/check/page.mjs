@@ -1,0 +1,225 @@
+// The page in headless Chromium: node page.mjs CHROMIUM PAGE PROGRAM DECKS [FOLDER], called by scripts/check-page.sh.
+//
+// Opens each deck, runs it, steps through it, and presses every key that the page lists; after each the state that the page shows is
+// compared with what the native program's `image` and `dump` print at that count. Then two cores side by side, and bad input. With
+// FOLDER it also writes pictures there. Prints each difference, each complaint of the console, and at last `N the same, M different`.
+import fs from 'node:fs';
+import os from 'node:os';
+import path from 'node:path';
+import {pathToFileURL} from 'node:url';
+import {Browser} from './browser.mjs';
+import {callNative} from './module.mjs';
+
+const STEPS = 12; // of each deck
+const KEYED = ['two', 'dining']; // in these every key is pressed
+const [chromium, page, program, folder, pictures] = process.argv.slice(2);
+const room = fs.mkdtempSync(path.join(os.tmpdir(), 'b67-'));
+const file = path.join(room, 'backing');
+let same = 0, different = 0, browser;
+
+function wants(holds, what) {
+  if (holds) same++;
+  else different++;
+  if (!holds) console.log(what);
+}
+
+function told(text) {
+  if (typeof text !== 'string') return String(text);
+  return JSON.stringify(text.length > 200 ? `${text.slice(0, 100)} .. ${text.slice(-100)}` : text);
+}
+
+// ---------------------------------------------------------------- the native program
+
+const seen = new Map();
+
+// What the program shows of a deck after so many operators: its status, the lines, and the dump if the run halts there.
+function nativeAt(text, core, count) {
+  const name = `${core} ${count} ${text}`;
+  if (!seen.has(name)) {
+    const body = text.replace(/^\?HALT.*\n/gm, '');
+    const {status, bytes} = callNative(program, file, ['image', '--core', String(core), '--backing', 'BACKING'], `?HALT ${count}\n${body}`);
+    const lines = bytes.toString('latin1').split(/^\?IMAGE\n/m)[0];
+    const dump = status === 3 ? callNative(program, file, ['dump'], bytes).bytes.toString('latin1') : null;
+    seen.set(name, {status, lines, dump});
+  }
+  return seen.get(name);
+}
+
+// ---------------------------------------------------------------- the page
+
+async function stateNow() {
+  await browser.value('b67.idle()');
+  return JSON.parse(await browser.value('JSON.stringify(b67.state())'));
+}
+
+// Compares what is shown with the program at the same count; of two cores both.
+function compares(name, state, text) {
+  if (state.count === 0) {
+    wants(state.printed === '' && state.dump !== undefined, `${name}: at operator 0 ${told(state.printed)} is printed`);
+    return;
+  }
+  for (const one of [state, ...(state.other ? [state.other] : [])]) {
+    const native = nativeAt(text, one.core, state.count);
+    const where = `${name}, core ${one.core}, count ${state.count}`;
+    wants(one.printed === native.lines, `${where}: printed ${told(one.printed)}, natively ${told(native.lines)}`);
+    if (native.dump !== null) wants(one.dump === native.dump, `${where}: the state is ${told(one.dump)}, by dump ${told(native.dump)}`);
+    else wants(one.end === native.status, `${where}: the end is ${one.end}, natively ${native.status}`);
+  }
+}
+
+async function opens(hash) {
+  await browser.value(`new Promise(goes => { addEventListener('hashchange', goes, {once: true});
+    if (location.hash === '#${hash}') dispatchEvent(new HashChangeEvent('hashchange'));
+    else location.hash = '${hash}'; }).then(() => 0)`);
+  return stateNow();
+}
+
+async function starts(script) {
+  browser = await Browser.started(chromium);
+  if (script) await browser.call('Page.addScriptToEvaluateOnNewDocument', {source: script});
+  await browser.call('Page.navigate', {url: `${pathToFileURL(page)}?compare`});
+  await browser.until('window.b67?.ready');
+  await browser.value('b67.ready');
+}
+
+async function ends() {
+  for (const error of browser.errors) wants(false, `console: ${error}`);
+  await browser.ends();
+}
+
+async function pressed(name, text, key, shift = false) {
+  await browser.press(key, shift);
+  const state = await stateNow();
+  if (state.view === 'step' && state.count !== null) compares(`${name}, key ${shift ? 'shift ' : ''}${key}`, state, text);
+  return state;
+}
+
+// ---------------------------------------------------------------- what is tried
+
+async function runs(name, text, core) {
+  await opens(`${name},${core}`);
+  await browser.click('#run');
+  const {ran} = await stateNow();
+  const native = callNative(program, file, ['run', '--core', String(core), '--backing', 'BACKING'], text);
+  wants(ran && ran.status === native.status && ran.text === native.bytes.toString('latin1'), `${name}: Run gives ${ran?.status} ${told(ran?.text)}`);
+}
+
+// Forth by keys, to the end at once, and back from there.
+async function steps(name, text, core) {
+  let state = await opens(`${name},${core},0`);
+  wants(state.view === 'step' && state.count === 0, `${name}: operator 0 isn't shown, but ${state.view} ${state.count}: ${state.message}`);
+  for (let k = 0; k < STEPS && state.end === null; k++) {
+    const {count} = state;
+    state = await pressed(name, text, 'ArrowRight');
+    wants(state.count === count + 1, `${name}: a step from ${count} leads to ${state.count}`);
+  }
+  const last = await pressed(name, text, 'End');
+  wants(last.end !== null, `${name}: End shows no end`);
+  const before = await pressed(name, text, 'ArrowLeft');
+  wants(before.count === last.count - 1, `${name}: a step back from ${last.count} leads to ${before.count}`);
+}
+
+// Every key of the list, there and with shift, from the middle; what opens a panel is pressed twice, and a way out is at hand.
+async function keys(name, text, core) {
+  const list = await browser.value('b67.keys');
+  for (const {key, shift} of list) for (const with_shift of shift ? [false, true] : [false]) {
+    await opens(`${name},${core},9`);
+    let state = await pressed(name, text, key, with_shift);
+    if (state.count === 9) state = await pressed(name, text, key, with_shift);
+    await browser.press('Escape');
+  }
+}
+
+async function two_cores() {
+  for (const [name, core, other] of [['two', 630, 4096], ['rivals', 505, 1048575], ['ten', 533, 4096]]) {
+    const text = deckOf(name);
+    for (const count of [5, 20, 26]) {
+      const state = await opens(`${name},${core},${count},${other}`);
+      wants(state.other?.core === other, `${name}: no second core is shown`);
+      compares(`${name}, two cores`, state, text);
+    }
+  }
+}
+
+// Writes a deck into the editor, as a hand does.
+async function writes(text, core) {
+  await opens('sum,4096');
+  await browser.value(`for (const [id, value] of ${JSON.stringify([['deck', text], ['core', String(core)]])}) {
+    const it = document.getElementById(id); it.value = value; for (const name of ['input', 'change']) it.dispatchEvent(new Event(name, {bubbles: true})); } 0`);
+}
+
+const LOOP = '?JOB LOOP\n?ASM\nSEGMENT MAIN 2\nTOP: BRUN TOP\n?END\n';
+const LOOPS = LOOP.replace('?ASM', '?LIMIT 100000000\n?ASM').repeat(8); // some ten seconds
+const PRINTS = '?JOB PRINTS\n?LIMIT 100000000\n?ASM\nSEGMENT MAIN 2\nTOP: MKST\nNAMC 0,9\nLT48 12345678901\nENTR\nBRUN TOP\n?END\n';
+
+async function bad_input() {
+  await writes('?JOB A\n?ASM\nSEGMENT MAIN 2\nADDD\n?END\n', 4096);
+  await browser.click('#run');
+  let state = await stateNow();
+  wants(state.ran?.status === 2 && state.shown.includes(state.ran.text.trim()), `a refused deck: ${told(state.shown)}`);
+  await writes(LOOP, 12);
+  await browser.click('#run');
+  wants((await stateNow()).message, 'a core of 12 words: no sentence');
+  await writes(LOOP, 4096);
+  await browser.click('#run');
+  wants((await stateNow()).ran?.text === '1.1 LIMIT\n', 'an endless loop to its limit');
+  await writes(LOOPS, 65536);
+  await browser.click('#run');
+  await browser.until("document.getElementById('stop').offsetParent", 20);
+  await browser.click('#stop');
+  wants(/^Stopped/.test((await stateNow()).message), 'an endless loop that is stopped: no sentence');
+  await writes(PRINTS, 4096);
+  await browser.click('#run');
+  state = await stateNow();
+  wants(state.ran?.status === 8 && state.message, `a deck that prints without end: ${state.ran?.status} ${state.message}`);
+}
+
+async function without_memory64() {
+  await starts('WebAssembly.validate = () => false; WebAssembly.compile = () => Promise.reject(new WebAssembly.CompileError("no"));');
+  const state = await stateNow();
+  wants(state.message, 'a browser without memories of 64 bits: no sentence');
+  await ends();
+}
+
+function deckOf(name) {
+  return fs.readFileSync(path.join(folder, name, 'stdin'), 'latin1');
+}
+
+async function takes_pictures() {
+  fs.mkdirSync(pictures, {recursive: true});
+  for (const [width, height] of [[1024, 768], [1900, 1000]]) for (const dark of [false, true]) {
+    await browser.size(width, height);
+    await browser.dark(dark);
+    for (const hash of ['sum,4096', 'two,630,20', 'two,630,20,4096', 'jensen,4096,60', 'dining,3258,200']) {
+      await opens(hash);
+      await browser.picture(path.join(pictures, `${hash.replaceAll(',', '-')}-${width}${dark ? '-dark' : ''}.png`));
+    }
+  }
+}
+
+async function tries_all() {
+  await starts();
+  for (const name of fs.readdirSync(folder).sort()) {
+    const args = path.join(folder, name, 'args'), words = fs.existsSync(args) ? fs.readFileSync(args, 'latin1').split('\n') : [];
+    if (words[0] !== 'run') continue;
+    const text = deckOf(name), core = Number(words[2]);
+    await runs(name, text, core);
+    await steps(name, text, core);
+    if (KEYED.includes(name)) await keys(name, text, core);
+  }
+  await two_cores();
+  await bad_input();
+  if (pictures) await takes_pictures();
+  await ends();
+  await without_memory64();
+}
+
+try {
+  await tries_all();
+} catch (error) {
+  wants(false, String(error.stack));
+  await browser?.ends();
+}
+fs.rmSync(room, {recursive: true});
+console.log(`${same} the same, ${different} different`);
+process.exitCode = different ? 1 : 0;

@@ -1,0 +1,58 @@
+// How long the page takes: node web/check/times.mjs CHROMIUM PAGE PROGRAM DECKS. For some decks the milliseconds of Run natively and on
+// the page, and of a step forth, a step back and a jump to the middle, least and median; the last is a deck of 100,000 operators.
+import fs from 'node:fs';
+import os from 'node:os';
+import path from 'node:path';
+import {pathToFileURL} from 'node:url';
+import {Browser} from './browser.mjs';
+import {callNative} from './module.mjs';
+
+const [chromium, page, program, folder] = process.argv.slice(2);
+const TIMES = 15;
+const room = fs.mkdtempSync(path.join(os.tmpdir(), 'b67-'));
+const LONG = '?JOB LONG\n?LIMIT 100000\n?ASM\nSEGMENT MAIN 2\nZERO\nTOP: VALC 2,2\nONE\nADD\nNAMC 2,2\nSTOD\nBRUN TOP\n?END\n';
+const MILLION = LONG.replace('?LIMIT 100000\n', '');
+
+function told(numbers) {
+  const sorted = numbers.sort((a, b) => a - b);
+  return `${sorted[0].toFixed(0)} ${sorted[sorted.length >> 1].toFixed(0)}`;
+}
+
+async function many(work) {
+  const found = [];
+  for (let k = 0; k < TIMES; k++) found.push(await work());
+  return told(found);
+}
+
+const browser = await Browser.started(chromium);
+await browser.call('Page.navigate', {url: pathToFileURL(page).href});
+await browser.until('window.b67?.ready');
+await browser.value('b67.ready');
+await browser.value(`window.timed = async act => { const t = performance.now(); act(); await b67.idle(); return performance.now() - t; };
+  window.key = name => document.dispatchEvent(new KeyboardEvent('keydown', {key: name, bubbles: true}));
+  window.counted = count => { const it = document.getElementById('count'); it.value = count; it.dispatchEvent(new Event('change')); }; 0`);
+
+async function measured(name, text, core, middle) {
+  await browser.value(`for (const [id, value] of ${JSON.stringify([['deck', text], ['core', core]])}) { const it = document.getElementById(id);
+    it.value = value; for (const kind of ['input', 'change']) it.dispatchEvent(new Event(kind, {bubbles: true})); } 0`);
+  const native = await many(() => {
+    const begun = performance.now();
+    callNative(program, path.join(room, 'backing'), ['run', '--core', core, '--backing', 'BACKING'], Buffer.from(text, 'latin1'));
+    return performance.now() - begun;
+  });
+  const run = await many(() => browser.value("timed(() => document.getElementById('run').click())"));
+  await browser.value("timed(() => document.getElementById('step').click())");
+  let count = middle;
+  const jump = await many(() => browser.value(`timed(() => counted(${count += 7}))`));
+  const forth = await many(() => browser.value("timed(() => key('ArrowRight'))"));
+  const back = await many(() => browser.value("timed(() => key('ArrowLeft'))"));
+  const again = await many(() => browser.value(`timed(() => counted(${count -= 11}))`));
+  console.log(`${name.padEnd(10)} Run natively ${native}, on the page ${run}; forth ${forth}, back ${back}, to a count ${jump}, to an earlier one ${again}`);
+}
+
+for (const [name, core, middle] of [['two', '630', 1], ['jensen', '4096', 20], ['dining', '3258', 100], ['manboy', '32768', 500], ['crowd', '1234', 50]])
+  await measured(name, fs.readFileSync(path.join(folder, name, 'stdin'), 'latin1'), core, middle);
+await measured('long', LONG, '4096', 50000);
+await measured('million', MILLION, '4096', 500000);
+await browser.ends();
+fs.rmSync(room, {recursive: true});

@@ -1,0 +1,86 @@
+// The view of the deck: the editor, the commands, and what they print.
+import {byId, element, put} from './elements.js';
+import {cardsOf, jobsOf} from './cards.js';
+import {lineRow} from './draw-cards.js';
+import {explained, statusText} from './messages.js';
+
+const [MOST_LINES, LAST_LINES] = [2000, 200];
+
+// What status 0 means, by command.
+const DONE = {
+  run: 'All tasks have ended. A task that ended by a fault also gives 0: read its line.',
+  check: 'The deck is admitted: each job with its segments and data rows.',
+  resume: 'All tasks have ended. These are the lines that the run had still to print.',
+  exercise: 'All tasks have ended.',
+  bind: 'These digits are the codefile of the bound program.',
+  image: 'All tasks ended before that count, so there is no image.',
+};
+
+// The numbers of a job's ?DATA cards.
+export function numbersForRead(deck, job) {
+  let [at, inside, found] = [0, false, []];
+  for (const card of cardsOf(deck)) {
+    if (card.startsWith('?JOB')) at++;
+    if (card.startsWith('?')) inside = card.startsWith('?DATA') && at === job;
+    else if (inside) found.push(card.trim());
+  }
+  return found.filter(Boolean).join(' ');
+}
+
+// The deck with other numbers for a job, on cards of at most 80 characters; without numbers the job has no ?DATA.
+export function withNumbers(deck, job, numbers) {
+  const data = numbers.trim().split(/[\s,]+/).filter(Boolean).join(' ').match(/.{1,80}(?: |$)/g) ?? [];
+  let [at, inside] = [0, false];
+  const cards = cardsOf(deck).flatMap(card => {
+    if (card.startsWith('?JOB')) at++;
+    if (card.startsWith('?')) inside = card.startsWith('?DATA') && at === job;
+    if (inside) return [];
+    return card.startsWith('?END') && at === job && data.length ? ['?DATA', ...data.map(it => it.trim()), card] : [card];
+  });
+  return `${cards.join('\n')}\n`;
+}
+
+// The numbers beside the cards; the refused card's is marked.
+export function showNumbers(deck, refused) {
+  put(byId('gutter'), cardsOf(deck || ' ').map((_, k) => element('div', {class: k + 1 === refused ? 'refused' : ''}, String(k + 1))));
+}
+
+// Selects a card in the editor and brings it into view.
+function markCard(card) {
+  const area = byId('deck'), before = area.value.split('\n').slice(0, card - 1).join('\n').length + (card > 1 ? 1 : 0);
+  const end = area.value.indexOf('\n', before);
+  area.focus({preventScroll: true});
+  area.setSelectionRange(before, end < 0 ? area.value.length : end);
+  const height = area.scrollHeight / Math.max(1, area.value.split('\n').length);
+  area.scrollTop = Math.max(0, (card - 4) * height);
+  byId('gutter').scrollTop = area.scrollTop;
+}
+
+// What a command has given: its status with its meaning, the lines, and what a refusal or a fault means.
+export function showResult(rows, {words, status, text, milliseconds, place}, refusedOf = 'deck') {
+  const lines = text.split('\n').slice(0, -1), last = lines.at(-1) ?? '', said = status === 2 ? explained(rows, last) : null;
+  const {means, advice} = said ?? (status ? statusText(rows, status, last) : {means: DONE[words[0]], advice: ''});
+  put(byId('outcome'), element('p', {class: status ? 'status bad' : 'status'},
+    element('strong', {}, said ? `${last}. ` : `${words[0]}: status ${status}. `), means, ' ', advice,
+    place?.[0] ? ` It is card ${place[0]}: ${place[1]}.` : '', element('span', {class: 'dim'}, ` ${Math.ceil(milliseconds)} ms`)));
+  put(byId('ran'), resultRows(lines, said ? null : rows));
+  const card = refusedOf === 'deck' ? place?.[0] || said?.card || 0 : 0;
+  showNumbers(byId('deck').value, card);
+  if (card) markCard(card);
+}
+
+// The lines, and of very many the first and the last ones.
+function resultRows(lines, rows) {
+  const hidden = lines.length - MOST_LINES, gap = MOST_LINES - LAST_LINES;
+  if (hidden <= 0) return lines.map(line => lineRow(line, rows, false));
+  const note = element('div', {class: 'dim'}, `… ${hidden.toLocaleString('en')} lines …`);
+  return [lines.slice(0, gap), lines.slice(-LAST_LINES)].flatMap((part, k) => [k ? note : null, ...part.map(line => lineRow(line, rows, false))]);
+}
+
+// The jobs of the deck in the list beside READ's numbers.
+export function showJobs(deck) {
+  const list = byId('job'), kept = Number(list.value) || 1, jobs = jobsOf(deck);
+  put(list, (jobs.length ? jobs : ['']).map((name, k) => element('option', {value: k + 1}, `${k + 1} ${name}`)));
+  list.value = String(Math.min(kept, Math.max(1, jobs.length)));
+  byId('numbers').value = numbersForRead(deck, Number(list.value));
+}

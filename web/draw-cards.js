@@ -1,0 +1,74 @@
+// The cards of the deck with the one just made and the next, and the lines that were printed.
+import {element, put, taskClass} from './elements.js';
+import {cardsOf} from './cards.js';
+import {cardKey} from './search.js';
+import {explained} from './messages.js';
+
+// A row: the button that sets a breakpoint, and a text.
+function row(key, kind, shown, said, text, toggle) {
+  const button = element('button', {type: 'button', tabindex: -1, class: 'stop', 'aria-pressed': 'false',
+    'aria-label': `breakpoint at ${said}`, onclick: () => toggle(key)}, shown);
+  return element('li', {'data-key': key, class: kind}, button, element('span', {class: 'card', onclick: () => toggle(key)}, text));
+}
+
+// A card as a row, with its comment apart.
+function cardRow(card, number, toggle) {
+  const command = card.startsWith('?'), at = command ? -1 : card.indexOf(';');
+  const kind = command ? 'command' : /^(SEGMENT|ROW)/.test(card) ? 'heading' : '';
+  const text = at >= 0 ? [card.slice(0, at), element('span', {class: 'comment'}, card.slice(at))] : [card || ' '];
+  return row(String(number), kind, String(number), `card ${number}`, text, toggle);
+}
+
+// A program without cards: its operators, by their places.
+function operatorRows(operators, job, toggle) {
+  return Object.entries(operators).map(([place, [, text]]) => row(`${job}/${place}`, '', place, place, text, toggle));
+}
+
+export function showCards(box, deck, operators, toggle) {
+  const rows = cardsOf(deck).map((card, k) => cardRow(card, k + 1, toggle));
+  const without = operators.flatMap((table, k) => (Object.values(table).some(([card]) => card) ? [] : operatorRows(table, k + 1, toggle)));
+  put(box, rows, without);
+}
+
+function rowOf(box, key) {
+  return key ? box.querySelector(`[data-key="${key}"]`) : null;
+}
+
+function markStop(row, stops) {
+  if (!row) return; // an operator of the filling has no card
+  row.classList.toggle('stopped', stops);
+  row.firstChild.setAttribute('aria-pressed', String(stops));
+}
+
+// Marks the card just made, the next one and the breakpoints, and brings the first one into view.
+export function markCards(box, state, stops) {
+  for (const row of box.querySelectorAll('.now, .next')) {
+    row.classList.remove('now', 'next');
+    row.removeAttribute('aria-current');
+  }
+  const now = rowOf(box, cardKey(state.operator)), next = rowOf(box, cardKey(state.next));
+  now?.classList.add('now');
+  now?.setAttribute('aria-current', 'step');
+  next?.classList.add('next');
+  for (const row of box.querySelectorAll('.stopped')) if (!stops.has(row.dataset.key)) markStop(row, false);
+  for (const key of stops) markStop(rowOf(box, key), true);
+  const shown = now ?? next;
+  if (!shown) return;
+  const {offsetTop} = shown, {scrollTop, clientHeight} = box;
+  if (offsetTop < scrollTop + 20 || offsetTop > scrollTop + clientHeight - 60) box.scrollTop = offsetTop - clientHeight / 2;
+}
+
+// A line, in the colour of its task; the meaning of a fault below it.
+export function lineRow(line, rows, fresh) {
+  const task = /^\d+\.\d+ /.test(line) ? taskClass(line.split(' ')[0]) : '';
+  const said = rows && /^\d+\.\d+ ENDED$/.test(line) ? null : rows && explained(rows, line);
+  return [element('div', {class: `line ${task} ${fresh ? 'fresh' : ''}`}, line), said ? element('div', {class: 'meaning'}, said.means, ' ', said.advice) : null];
+}
+
+export function showPrinted(box, {total, shown}, fresh) {
+  const hidden = total - shown.length;
+  put(box, hidden ? element('div', {class: 'dim'}, `… ${hidden.toLocaleString('en')} lines before …`) : null,
+    shown.map((line, k) => lineRow(line, null, k >= shown.length - fresh)),
+    total ? null : element('div', {class: 'dim'}, 'Nothing yet.'));
+  box.scrollTop = box.scrollHeight;
+}

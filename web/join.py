@@ -1,0 +1,100 @@
+"""Puts the page's parts into one file: `python3 web/join.py MODULE.wasm OUT.html`, called by scripts/web.sh.
+
+Five lines of page.html are placeholders. Each is replaced by a text, and nothing else is changed:
+- @STYLE@: page.css;
+- @DECKS@: for each deck of decks/ that is run, a line `#DECK NAME CORE`, a line `#ABOUT` with the first line of its README, and its cards;
+- @MESSAGES@: the headings and the rows of tables of docs/MESSAGES.md;
+- @MODULE@: the module, in base64;
+- @SCRIPT@: the modules that modules.txt lists, in its order, without their import lines and the word `export`.
+
+The script is one, so no two modules may declare the same name at the top, and a module is listed after those that it imports."""
+
+import base64
+import pathlib
+import re
+import sys
+
+HERE = pathlib.Path(__file__).resolve().parent
+TOP = HERE.parent
+IMPORT = re.compile(r"import \{ ?[\w$]+(?:, [\w$]+)* ?\} from '\./([\w-]+\.js)';")
+EXPORT = re.compile(r"export (?=(?:async )?function\b|class\b|const\b|let\b)")
+DECLARES = re.compile(r"^(?:export )?(?:async )?(?:function\*?|class|const|let|var) (?:([\w$]+)|[{\[]([^=]*)[}\]] =)", re.M)
+
+
+def stop(why):
+    sys.exit(print(f"join.py: {why}", file=sys.stderr) or 1)
+
+
+def styles():
+    return (HERE / "page.css").read_text(encoding="utf-8")
+
+
+def decks():
+    """The decks whose first word is `run`, in the order of their names."""
+    parts = []
+    for folder in sorted((TOP / "decks").iterdir()):
+        words = (folder / "args").read_text(encoding="utf-8").split() if (folder / "args").is_file() else []
+        if words[:2] == ["run", "--core"]:
+            about = (folder / "README").read_text(encoding="utf-8").split("\n")[0]
+            cards = (folder / "stdin").read_text(encoding="utf-8")
+            parts.append(f"#DECK {folder.name} {words[2]}\n#ABOUT {about}\n{cards}" + "\n" * (not cards.endswith("\n")))
+    return "".join(parts)
+
+
+def messages():
+    lines = (TOP / "docs/MESSAGES.md").read_text(encoding="utf-8").splitlines(keepends=True)
+    return "".join(line for line in lines if line.startswith(("## ", "|")))
+
+
+def names_in(text):
+    """The names that a module declares at its top."""
+    return [name for one, many in DECLARES.findall(text) for name in ([one] if one else re.findall(r"[\w$]+", many))]
+
+
+def script():
+    """The listed modules as one script."""
+    parts, seen = [], {}
+    for name in (HERE / "modules.txt").read_text(encoding="utf-8").split():
+        text = (HERE / name).read_text(encoding="utf-8")
+        body = []
+        for number, line in enumerate(text.splitlines(), 1):
+            found = IMPORT.fullmatch(line)
+            if found and found[1] not in seen.values():
+                stop(f"web/{name}:{number}: {found[1]} isn't listed before it in modules.txt")
+            if not found and line.startswith("import"):
+                stop(f"web/{name}:{number}: an import is one line `import {{a, b}} from './NAME.js';`")
+            if line.startswith("export") and not EXPORT.match(line):
+                stop(f"web/{name}:{number}: an export is the word `export` before a function, a class or a constant")
+            if not found:
+                body.append(EXPORT.sub("", line))
+        for it in names_in(text):
+            if it in seen:
+                stop(f"web/{name}: {it} is declared in {seen[it]}, too")
+            seen[it] = name
+        seen[f"./{name}"] = name
+        parts.append(f"// {name}\n" + "\n".join(body).strip("\n") + "\n")
+    return "\n".join(parts)
+
+
+def put(page, mark, text):
+    """The page with the text in place of the line that is the mark."""
+    if page.count(f"\n{mark}\n") != 1:
+        stop(f"web/page.html: {mark} must stand once, alone on its line")
+    if found := re.search(r"</(?:script|style)|<!--", text, re.I):
+        stop(f"what is put in place of {mark} holds {found[0]}")
+    before, after = page.split(f"\n{mark}\n")
+    return f"{before}\n{text.rstrip(chr(10))}\n{after}"
+
+
+def main():
+    if len(sys.argv) != 3:
+        sys.exit(print("usage: python3 web/join.py MODULE.wasm OUT.html", file=sys.stderr) or 2)
+    module = base64.b64encode(pathlib.Path(sys.argv[1]).read_bytes()).decode()
+    page = (HERE / "page.html").read_text(encoding="utf-8")
+    texts = {"@STYLE@": styles(), "@DECKS@": decks(), "@MESSAGES@": messages(), "@SCRIPT@": script(), "@MODULE@": module}
+    for mark, text in texts.items():
+        page = put(page, mark, text)
+    pathlib.Path(sys.argv[2]).write_text(page, encoding="utf-8", newline="\n")
+
+
+main()

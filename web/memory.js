@@ -1,0 +1,98 @@
+// What the page shows of core and of the backing: what lies where, and each array with its numbers.
+import {bits, numberText, POWERS, SECTOR} from './words.js';
+
+const MOST_NUMBERS = 400;
+
+// The name of an area's owner, from the cell of its original or descriptor.
+function ownerName(image, address, names) {
+  const [first, second, third] = image.cellAt(address).split(' ');
+  if (first === 'DICT') {
+    const job = image.jobs[second - 1], several = image.jobs.length > 1 ? ` of job ${second}` : '';
+    const name = names[second - 1]?.[third - 2];
+    return Number(third) < 2 + job.segments ? `segment ${third - 1}${name ? `, ${name}` : ''}${several}` : `data row 1,${third}${several}`;
+  }
+  const task = image.tasks.find(it => it.name === first), record = task.records[second - 1];
+  return `array ${record.entered ? `${record.level},${third}` : `cell ${third}`} of task ${first}, record ${second}`;
+}
+
+// Each thing that can be in core or out of it: segments, data rows, and the arrays that the records own.
+function owners(image) {
+  const found = [];
+  for (const job of image.jobs) {
+    for (let n = 0; n < job.segments + job.rows; n++) found.push([job.dictionary + 2 + n, n < job.segments ? 'code' : 'row']);
+  }
+  for (const task of image.tasks) for (const record of task.records) for (let at = record.first; at <= record.last; at++) {
+    if (image.tag(at) === 5 && !bits(image.content(at), 46, 46)) found.push([at, 'array']);
+  }
+  return found;
+}
+
+function fixedAreas(image) {
+  const areas = [{at: 0, words: 160, kind: 'mcp', text: 'the MCP'}];
+  image.jobs.forEach((job, k) => {
+    areas.push({at: job.dictionary, words: 2 + job.segments + job.rows, kind: 'dictionary', text: `dictionary of job ${k + 1}, ${job.name}`});
+  });
+  for (let slot = 0; slot < image.peak; slot++) {
+    const task = image.bySlot.get(slot), at = image.baseOf(slot), used = task ? image.topOf(task)[0] - at + 1 : 0;
+    areas.push({at, words: image.stackWords, kind: 'stack', text: task ? `stack of task ${task.name}` : 'stack of no task', used});
+  }
+  return areas;
+}
+
+// Areas and holes from the first word above the stacks; `present` learns where each owner's words are.
+function freeAreas(image, present, names) {
+  const areas = [];
+  for (let at = image.low; at < image.coreWords;) {
+    const head = image.content(at), kind = bits(head, 47, 46), hole = kind === 3;
+    const words = bits(head, 39, 20) + (hole ? 0 : 2), owner = bits(head, 19, 0);
+    if (!hole) present.set(owner, at + 1);
+    areas.push({at, words, kind: ['array', 'row', 'code', 'hole'][kind], text: hole ? 'hole' : ownerName(image, owner, names)});
+    if (!words) throw new Error('an area of no words');
+    at += words;
+  }
+  return areas;
+}
+
+// The words of an array, from core or from its sectors, as pairs of index and number where they aren't 0.
+function numbersOf(read, words) {
+  const numbers = [];
+  for (let n = 0; n < words && numbers.length <= MOST_NUMBERS; n++) {
+    const word = read(n);
+    if (word % POWERS[48] !== 0) numbers.push([n, numberText(word % POWERS[48])]);
+  }
+  return numbers;
+}
+
+function readerOfSectors(chain, sectors) {
+  const view = new DataView(sectors.buffer, sectors.byteOffset, sectors.byteLength);
+  return n => {
+    const sector = chain[Math.floor(n / SECTOR)];
+    return sector === undefined ? 0 : Number(view.getBigUint64(((sector - 1) * SECTOR + n % SECTOR) * 8, true));
+  };
+}
+
+function thingOf(image, {sectors, present, copies, names}, [address, kind]) {
+  const word = image.content(address), words = bits(word, 39, 20), cell = image.cellAt(address), at = present.get(address) ?? 0;
+  const chain = image.chain(at ? bits(image.content(at + words), 19, 0) : bits(word, 19, 0));
+  const read = at ? n => image.core[at + n] : readerOfSectors(chain, sectors);
+  return {cell, kind, text: ownerName(image, address, names), words, at, chain, numbers: kind === 'code' ? [] : numbersOf(read, words), copies: copies.get(cell) ?? []};
+}
+
+export function memoryOf(image, sectors, copies, names) {
+  const present = new Map();
+  const areas = [...fixedAreas(image), ...freeAreas(image, present, names)];
+  const things = owners(image).map(owner => thingOf(image, {sectors, present, copies, names}, owner));
+  const used = image.links.reduce((sum, link) => sum + (link ? 1 : 0), 0);
+  return {areas, things, sectorsUsed: used};
+}
+
+// Sector numbers as spans: 2 to 8, 11.
+export function spansText(chain) {
+  const spans = [];
+  for (const sector of chain) {
+    const last = spans.at(-1);
+    if (last && last[1] === sector - 1) last[1] = sector;
+    else spans.push([sector, sector]);
+  }
+  return spans.map(([first, last]) => (first === last ? `${first}` : `${first} to ${last}`)).join(', ');
+}

@@ -1,0 +1,364 @@
+// The page: what the controls and the keys do, with what is open now.
+import {byId, element, put} from './elements.js';
+import {Client} from './client.js';
+import {decksOf} from './decks.js';
+import {tablesOf} from './messages.js';
+import {hashOf, momentOf} from './address.js';
+import {helpLine, helpTable} from './keys.js';
+import {perform} from './acts.js';
+import {lessonsList} from './lessons.js';
+import {showJobs, showNumbers, showResult} from './deck-view.js';
+import {showDeck, showLine, showMoment} from './step-view.js';
+
+const [LEAST_CORE, USUAL_CORE, MOST_CORE, MOST_FILLED, PLAY_MILLISECONDS] = [256, 4096, 1048575, 65536, 500];
+const NO_BROWSER = 'This browser can’t run the machine, which needs WebAssembly with memories of 64 bits: open this page in a Chrome, Edge or Firefox of 2025 or later.';
+
+export class Page {
+  constructor() {
+    this.decks = decksOf(byId('decks').textContent.trim() + '\n');
+    this.rows = tablesOf(byId('messages').textContent);
+    this.view = {size: parseFloat(getComputedStyle(document.documentElement).fontSize), folds: true, allArrows: false};
+    this.session = null;
+    this.ran = null;
+    this.turn = 0;
+    this.working = 0;
+    this.name = '';
+  }
+
+  // Starts the worker, or says why it can't run.
+  async begin() {
+    const bytes = Uint8Array.from(atob(byId('module').textContent.replace(/\s/g, '')), c => c.charCodeAt(0));
+    this.client = new Client(byId('script').textContent, bytes, {
+      compares: /[?&]compare/.test(location.search), hear: it => this.hear(it), busy: many => this.busy(many),
+    });
+    this.lists();
+    try {
+      if (!WebAssembly.validate(bytes)) throw new Error('no memory64');
+      await this.client.start();
+    } catch {
+      this.disabled = true;
+      this.say(NO_BROWSER);
+    }
+    await this.follow();
+  }
+
+  lists() {
+    put(byId('pick'), [...this.decks.keys()].map(name => element('option', {value: name}, name)));
+    put(byId('part'), [...this.decks.keys()].map(name => element('option', {value: name, selected: name === 'library'}, name)));
+    put(byId('lessons'), element('h2', {}, 'Lessons'), lessonsList());
+    put(byId('help-line'), helpLine((act, way) => perform(this, act, way)));
+    const close = element('button', {type: 'button', class: 'close', onclick: () => byId('help').close()}, 'Close');
+    put(byId('help'), close, ...helpPicture(), element('h2', {}, 'Keys'), helpTable());
+  }
+
+  // ------------------------------------------------------------ what is told
+
+  say(text) {
+    byId('message').textContent = text;
+    byId('message').hidden = !text;
+  }
+
+  busy(many) {
+    clearInterval(this.clock);
+    byId('busy').hidden = true;
+    this.progress = '';
+    if (!many) return;
+    const begun = performance.now();
+    this.clock = setInterval(() => {
+      const seconds = Math.floor((performance.now() - begun) / 1000);
+      byId('busy').hidden = false;
+      byId('progress').textContent = this.progress || (seconds < 3 ? 'computing' : `computing for ${seconds} s; an endless loop ends at its ?LIMIT, or by Stop`);
+    }, 200);
+  }
+
+  // What the worker tells unasked: progress, and briefs for the time line.
+  hear({progress, briefs, end, deck, core}) {
+    if (progress) this.progress = progress;
+    const {session} = this;
+    if (progress || !session?.state || session.text !== deck || session.core !== core) return;
+    for (const brief of briefs) session.briefs.set(brief.count, brief);
+    session.end = end ?? session.end;
+    this.later();
+  }
+
+  // Draws the time line soon, once for many briefs.
+  later() {
+    this.drawing ??= setTimeout(() => {
+      this.drawing = null;
+      if (this.session?.state && document.body.dataset.view === 'step') showLine(this.session);
+    }, 60);
+  }
+
+  // Carries out something that may fail; the reason is one sentence on the page.
+  async guard(work) {
+    if (this.disabled) return;
+    this.say('');
+    this.working++;
+    try {
+      return await work();
+    } catch (problem) {
+      this.say(problem.message === 'stopped' ? 'Stopped. Change the deck or the count and go on.' : problem.message);
+    } finally {
+      this.working--;
+    }
+  }
+
+  core(id = 'core') {
+    const core = Number(byId(id).value);
+    if (Number.isInteger(core) && core >= LEAST_CORE && core <= MOST_CORE) return core;
+    throw new Error(`Core has ${LEAST_CORE} to ${MOST_CORE.toLocaleString('en')} words: type a number in this range.`);
+  }
+
+  // ------------------------------------------------------------ the deck
+
+  choose(name) {
+    const deck = this.decks.get(name);
+    if (!deck) return;
+    if (this.name === 'edited') this.keep();
+    byId('pick').value = name;
+    byId('core').value = deck.core;
+    this.edited(deck.text, name, deck.about);
+  }
+
+  // Keeps the deck that was edited, under a name of its own in the list.
+  keep() {
+    if (!this.decks.has('edited')) byId('pick').append(element('option', {value: 'edited'}, 'edited'));
+    this.decks.set('edited', {name: 'edited', core: byId('core').value, about: 'The deck that was edited.', text: byId('deck').value});
+  }
+
+  // Another text is in the editor.
+  edited(text, name, about) {
+    byId('deck').value = text;
+    this.name = name;
+    put(byId('about'), about);
+    put(byId('outcome'));
+    put(byId('ran'));
+    byId('take').disabled = byId('resume').disabled = true;
+    showNumbers(text, 0);
+    showJobs(text);
+  }
+
+  typed() {
+    const {value} = byId('deck');
+    const deck = this.decks.get(byId('pick').value);
+    this.name = deck?.text === value ? deck.name : 'edited';
+    put(byId('about'), this.name === 'edited' ? 'This deck was edited.' : deck.about);
+    showNumbers(value, 0);
+    showJobs(value);
+  }
+
+  async command(words, {text = byId('deck').value, refusedOf, sectors, resumes} = {}) {
+    const result = await this.client.ask('call', {words, text, sectors, resumes});
+    this.ran = {status: result.status, text: result.text};
+    if (result.status === 2 && !refusedOf) result.place = await this.placeOf(text, result.text);
+    showResult(this.rows, {words, ...result, text: words[0] === 'image' ? withoutImage(result.text) : result.text}, refusedOf);
+    if (result.status === 8) this.say('More is printed than the page takes, which is 16 MB: give the job a lower ?LIMIT, or let it print less.');
+    return result;
+  }
+
+  // The operator that the loader refuses, with its card.
+  async placeOf(deck, text) {
+    const found = /^LOAD (\d+) REASON \d+ SEGMENT (\d+) AT (\S+)/.exec(text);
+    if (!found) return null;
+    const job = deck.split('\n').slice(0, Number(found[1])).filter(card => card.startsWith('?JOB')).length;
+    return this.client.ask('operatorAt', {deck, job, place: `${found[2]}@${found[3]}`});
+  }
+
+  run() {
+    this.show('deck');
+    return this.guard(() => this.command(['run', '--core', String(this.core()), '--backing', 'b']));
+  }
+  check() {
+    this.show('deck');
+    return this.guard(() => this.command(['check'], {sectors: 1}));
+  }
+
+  image() {
+    return this.guard(async () => {
+      const text = `?HALT ${Number(byId('halt').value)}\n${byId('deck').value.split('\n').filter(card => !card.startsWith('?HALT')).join('\n')}`;
+      const {status} = await this.command(['image', '--core', String(this.core()), '--backing', 'b'], {text, refusedOf: 'halted'});
+      byId('resume').disabled = status !== 3;
+    });
+  }
+  resume() {
+    return this.guard(() => this.command(['resume', '--backing', 'b'], {text: '', resumes: true, refusedOf: 'image'}));
+  }
+  exercise() {
+    return this.guard(() => this.command(['exercise', byId('seed').value, byId('size').value, '--core', String(this.core())], {text: '', refusedOf: 'none'}));
+  }
+  bind() {
+    return this.guard(async () => {
+      const text = byId('deck').value + this.decks.get(byId('part').value).text;
+      const result = await this.command(['bind', ...byId('pairs').value.trim().split(/\s+/)], {text, sectors: 1, refusedOf: 'both'});
+      this.bound = result.status === 0 ? result.text : '';
+      byId('take').disabled = !this.bound;
+    });
+  }
+  take() {
+    this.edited(`?JOB BOUND\n?HEX\n${this.bound}?END\n`, 'edited', 'The codefile that bind has made.');
+  }
+
+  async open(file) {
+    const bytes = new Uint8Array(await file.arrayBuffer());
+    this.show('deck');
+    byId('core').value = USUAL_CORE;
+    this.edited(new TextDecoder('latin1').decode(bytes).replace(/\r\n/g, '\n'), 'edited', `The file ${file.name}.`);
+  }
+
+  // ------------------------------------------------------------ steps
+
+  show(view) {
+    document.body.dataset.view = view;
+    byId('deck-view').hidden = view !== 'deck';
+    byId('step-view').hidden = view !== 'step';
+    byId('edit').setAttribute('aria-pressed', String(view === 'deck'));
+    byId('step').setAttribute('aria-pressed', String(view === 'step'));
+    if (view === 'deck') this.play(false);
+  }
+
+  // Steps through the deck of the editor: at a count, or where it was left if deck and core are the same.
+  step(count, other) {
+    return this.guard(async () => {
+      const core = this.core(), text = byId('deck').value, kept = this.session?.text === text && this.session.core === core;
+      if (!kept) {
+        const {status} = await this.command(['check'], {sectors: 1});
+        if (status) return this.show('deck');
+        if (!/^\?JOB/m.test(text)) throw new Error('This deck has no job: nothing would run. Choose a deck, or write ?JOB and its cards.');
+        this.session = {text, core, name: this.name, stops: new Set(), briefs: new Map(), end: null, other: null};
+        const begun = await this.client.ask('operators', {deck: text, core});
+        Object.assign(this.session, begun);
+        if (begun.refused) return this.notBegun(begun.refused);
+      }
+      if (other !== undefined) this.session.other = other;
+      await this.goTo(count ?? this.session.state?.count ?? 0);
+    });
+  }
+
+  // A run that stops before its first operator has no machine to be looked at.
+  notBegun(refused) {
+    this.session = null;
+    this.ran = {status: refused.status, text: refused.text};
+    this.show('deck');
+    showResult(this.rows, {words: ['step'], milliseconds: 0, ...refused}, 'none');
+  }
+
+  ask(name, data, core = this.session.core) {
+    return this.client.ask(name, {deck: this.session.text, core, ...data});
+  }
+
+  // Shows the state at a count, unless another one is asked for meanwhile.
+  async goTo(count) {
+    const mine = ++this.turn;
+    this.session.wanted = Math.max(0, count);
+    await this.showState(mine, await this.ask('state', {count: Math.max(0, count), end: this.session.end}));
+  }
+
+  async showState(mine, state) {
+    const {session} = this;
+    const otherState = session.other === null ? null : await this.ask('state', {count: state.count}, session.other);
+    if (mine !== this.turn || session !== this.session) return;
+    if (!session.state) showDeck(session, key => this.toggle(key));
+    this.show('step');
+    Object.assign(session, {state, otherState, wanted: state.count, end: state.end ?? session.end});
+    session.briefs.set(state.count, state.brief);
+    document.body.dataset.compared = state.compared;
+    byId('two').setAttribute('aria-pressed', String(session.other !== null));
+    showMoment(session, this.view, this.rows);
+    history.replaceState(null, '', location.search + hashOf({deck: session.name, core: session.core, count: state.count, other: session.other}));
+    const {from, to} = session.window;
+    if (session.core <= MOST_FILLED) this.ask('fill', {from, to: Math.min(to, session.end ?? to)}).catch(() => {});
+  }
+
+  find(kind, way) {
+    return this.guard(async () => {
+      if (kind === 'stopped' && !this.session.stops.size) throw new Error('No breakpoint is set: click a card, or press b.');
+      const mine = ++this.turn;
+      await this.showState(mine, await this.ask('find', {kind, from: this.session.state.count, way, stops: [...this.session.stops], end: this.session.end}));
+    });
+  }
+
+  // Goes to the moment that the address names, or shows the first deck.
+  async follow() {
+    const moment = momentOf(location.hash);
+    if (!moment) return this.name ? undefined : this.choose('two');
+    const {session} = this;
+    const shown = session?.state && document.body.dataset.view === 'step' && session.name === moment.deck && session.core === moment.core
+      && session.state.count === moment.count && session.other === moment.other;
+    if (!shown) await this.guard(() => this.openAt(moment));
+  }
+  async openAt({deck, core, count, other}) {
+    if (!this.decks.has(deck) && this.name !== deck) return this.say(`There is no deck ${deck} in this page: choose one from the list.`);
+    if (this.name !== deck) this.choose(deck);
+    if (core) byId('core').value = core;
+    if (other) byId('other').value = other;
+    byId('two').setAttribute('aria-pressed', String(Boolean(other)));
+    if (count === null) return this.show('deck');
+    await this.step(count, other);
+  }
+
+  async stopped() {
+    this.turn++;
+    this.play(false);
+    await this.client.stop();
+    if (this.session?.state) this.session.wanted = this.session.state.count;
+  }
+
+  // A promise that nothing is under way.
+  async idle() {
+    do await new Promise(resolve => { setTimeout(resolve, 3); });
+    while (this.working || this.client.asked.size);
+  }
+
+  // What is shown, for tests.
+  told() {
+    const {state, otherState, other} = this.session ?? {}, steps = document.body.dataset.view === 'step' && state;
+    return {
+      view: document.body.dataset.view, deck: this.name === 'edited' ? '' : this.name, core: Number(byId('core').value),
+      text: byId('deck').value, count: steps ? state.count : null, ...toldOf(steps ? state : null),
+      ran: this.ran, message: byId('message').textContent, shown: `${byId('outcome').innerText}\n${byId('ran').innerText}`,
+      ...(steps && otherState ? {other: {core: other, ...toldOf(otherState)}} : {}),
+    };
+  }
+
+  toggle(key) {
+    const {stops} = this.session;
+    if (!stops.delete(key)) stops.add(key);
+    this.redraw();
+  }
+
+  play(on = !this.playing) {
+    clearInterval(this.playing);
+    this.playing = on ? setInterval(() => {
+      const {state, wanted} = this.session;
+      if (state.status !== undefined) this.play(false);
+      else if (wanted === state.count) this.guard(() => this.goTo(state.count + 1));
+    }, PLAY_MILLISECONDS) : null;
+    byId('play').textContent = on ? 'pause' : 'play';
+  }
+
+  redraw() {
+    if (this.session?.state && document.body.dataset.view === 'step') showMoment(this.session, this.view, this.rows);
+  }
+}
+
+// Of a state what tests compare.
+function toldOf(state) {
+  if (!state) return {image: null, dump: null, printed: null, end: null};
+  return {image: state.image ?? null, dump: state.dump ?? null, printed: state.lines.shown.map(line => `${line}\n`).join(''), end: state.status ?? null};
+}
+
+// What `image` prints without the cards of the image.
+function withoutImage(text) {
+  return text.replace(/\?IMAGE\n[^?]*\?END\n/, cards => `?IMAGE\n(${(cards.split('\n').length - 3).toLocaleString('en')} cards)\n?END\n`);
+}
+
+function helpPicture() {
+  const lines = [
+    'The column of a task is its stack; it grows upwards, and a child’s stack stands on the record to which its static link leads.',
+    'A box is an activation record: at its foot its number, level and static link, then the place to which it returns, then its cells. A dashed box is a record that MKST has begun.',
+    'The small number in a cell is its tag: 0 a number, 1 a reference, 5 an array or a copy of one, 7 the entry of a procedure. D[3] is the display register of level 3.',
+    'Yellow is what the last operator changed. A copy of an array leads into core, or to the array’s original if the words were not in core.',
+    'On the line of time each column is an operator in the colour of its task; a dot is a printed line, a cross a fault, a green triangle words that came into core, a red one words that left it.',
+  ];
+  return [element('h2', {}, 'The picture'), ...lines.map(line => element('p', {}, line))];
+}

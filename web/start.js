@@ -1,0 +1,89 @@
+// Wires the controls to the page, and starts it; the same script is the worker's.
+import {byId, put} from './elements.js';
+import {serve} from './worker.js';
+import {Page} from './page.js';
+import {perform, toggleLessons} from './acts.js';
+import {actOf, KEYS} from './keys.js';
+import {countAt} from './timeline.js';
+import {numbersForRead, withNumbers} from './deck-view.js';
+
+function onKey(page, event) {
+  const {target, key, shiftKey} = event;
+  if (key === 'Escape' && !byId('lessons').hidden && !byId('help').open) toggleLessons(page);
+  if (event.ctrlKey || event.metaKey || event.altKey || byId('help').open) return;
+  if (/^(INPUT|TEXTAREA|SELECT)$/.test(target.tagName)) return;
+  if ((key === ' ' || key === 'Enter') && /^(BUTTON|A|SUMMARY)$/.test(target.tagName)) return;
+  const found = actOf(key, shiftKey);
+  if (!found || key === ' ' && shiftKey) return;
+  event.preventDefault();
+  perform(page, found.act, found.way);
+}
+
+function listenToDeck(page) {
+  const clicks = {
+    run: () => page.run(), check: () => page.check(), step: () => page.step(), edit: () => page.show('deck'),
+    image: () => page.image(), resume: () => page.resume(), exercise: () => page.exercise(), bind: () => page.bind(),
+    take: () => page.take(), two: () => perform(page, 'two'), 'help-button': () => perform(page, 'help'),
+    'lessons-button': () => toggleLessons(page), 'put-numbers': () => putNumbers(page), stop: () => page.guard(() => page.stopped()),
+  };
+  for (const [id, act] of Object.entries(clicks)) byId(id).onclick = act;
+  byId('pick').onchange = () => { page.show('deck'); page.choose(byId('pick').value); };
+  byId('file').onchange = () => byId('file').files[0] && page.guard(() => page.open(byId('file').files[0]));
+  byId('deck').oninput = () => page.typed();
+  byId('deck').onscroll = () => { byId('gutter').scrollTop = byId('deck').scrollTop; };
+  byId('job').onchange = () => { byId('numbers').value = numbersForRead(byId('deck').value, Number(byId('job').value)); };
+}
+
+function putNumbers(page) {
+  byId('deck').value = withNumbers(byId('deck').value, Number(byId('job').value), byId('numbers').value);
+  page.typed();
+}
+
+function listenToSteps(page) {
+  for (const button of document.querySelectorAll('[data-act]')) button.onclick = () => perform(page, button.dataset.act, 1);
+  byId('count').onchange = () => {
+    byId('count').blur();
+    page.guard(() => page.goTo(Math.floor(Number(byId('count').value)) || 0));
+  };
+  byId('core').onchange = () => { if (document.body.dataset.view === 'step') page.step(page.session.state.count, page.session.other); };
+  byId('other').onchange = () => page.guard(() => {
+    if (page.session?.other === null || document.body.dataset.view !== 'step') return;
+    page.session.other = page.core('other');
+    return page.goTo(page.session.state.count);
+  });
+  byId('line').onclick = event => page.guard(() => page.goTo(countAt(byId('line'), page.session.window, event.clientX)));
+  byId('cards').addEventListener('keydown', moveInCards);
+  document.addEventListener('keydown', event => onKey(page, event));
+  window.addEventListener('hashchange', () => page.follow());
+  window.addEventListener('resize', () => page.redraw());
+}
+
+// What tests ask of the page.
+function hooks(page, ready) {
+  return {
+    ready, keys: KEYS.map(({key, shift, what}) => ({key, shift: Boolean(shift), what})),
+    idle: () => page.idle(), state: () => page.told(), open: (deck, core, count) => page.openAt({deck, core, count, other: null}),
+  };
+}
+
+// Up and down in the cards lead from number to number, whose button sets a breakpoint.
+function moveInCards(event) {
+  if (event.key !== 'ArrowDown' && event.key !== 'ArrowUp') return;
+  const row = document.activeElement.closest('#cards li'), list = byId('cards');
+  const next = row ? (event.key === 'ArrowDown' ? row.nextElementSibling : row.previousElementSibling) : list.querySelector('.next') ?? list.firstElementChild;
+  next?.querySelector('button')?.focus();
+  event.preventDefault();
+}
+
+async function start() {
+  const page = new Page();
+  listenToDeck(page);
+  listenToSteps(page);
+  const ready = page.begin();
+  window.b67 = hooks(page, ready);
+  await ready;
+  document.body.dataset.ready = '1';
+}
+
+if (typeof document === 'undefined') serve();
+else start();

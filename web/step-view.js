@@ -1,0 +1,134 @@
+// The view of a moment: all that is drawn of a state, and of two states side by side.
+import {byId, element, put, taskClass} from './elements.js';
+import {countOf} from './words.js';
+import {INTRINSICS, MEANINGS} from './operators.js';
+import {endingOf} from './changes.js';
+import {showCards, markCards, showPrinted, lineRow} from './draw-cards.js';
+import {showStacks} from './draw-stacks.js';
+import {changesList, showMemory} from './draw-memory.js';
+import {showTimeline, windowOf} from './timeline.js';
+import {statusText} from './messages.js';
+
+// The operator's name and operands, without a label.
+function operatorText(operator) {
+  return operator.text.replace(/^[A-Z][A-Z0-9]*: */, '');
+}
+
+// What the operator just made did, in a sentence.
+function whatItDid(state, rows) {
+  const ends = endsText(state.fresh.map(endingOf).filter(Boolean));
+  if (state.status !== undefined) return endText(state, rows, ends);
+  if (!state.operator) return 'before the first operator: nothing has run yet';
+  if (ends) return ends;
+  const [name, operand] = operatorText(state.operator).split(' ');
+  const intrinsic = /^0,(\d+)$/.exec(operand ?? '');
+  if (name === 'NAMC' && intrinsic) return `pushes the couple of the intrinsic ${INTRINSICS[intrinsic[1]]}`;
+  return callText(name, state) ?? MEANINGS[name] ?? '';
+}
+
+// A call: of an intrinsic, or by accident, where an operator meets a procedure.
+function callText(name, state) {
+  const then = state.before?.tasks.find(task => task.name === state.operator.task), now = state.tasks.find(task => task.name === state.operator.task);
+  if (!then) return null;
+  const top = then.records.at(-1), called = /^0,(\d+)$/.exec(top.cells[0]?.text ?? '');
+  if (name === 'ENTR' && top.level < 0 && called) return `calls ${INTRINSICS[called[1]]}${now && now.condition !== 'ready' ? `: its task ${now.condition}` : ''}`;
+  const entered = now && now.records.length > then.records.length && ['VALC', 'STOD', 'STON', 'LOAD', 'RETN'].includes(name);
+  if (entered) return 'meets a procedure and enters it: an accidental entry';
+  return null;
+}
+
+// The tasks that the operator ended, each with its ending.
+function endsText(endings) {
+  if (!endings.length) return '';
+  const [{name}] = endings, one = endings.every(it => it.name === name), tasks = endings.map(it => it.task).join(', ');
+  const how = name === 'ENDED' ? tasks : `${tasks}: ${name}`;
+  return `ends task${endings.length > 1 ? 's' : ''} ${one ? how : endings.map(it => `${it.task} ${it.name}`).join(', ')}`;
+}
+
+function endText(state, rows, ends) {
+  if (state.status === 0) return `${ends}. No task lives any more`;
+  const {means, advice} = statusText(rows, state.status, state.lines.shown.at(-1));
+  return `the run stops here. ${means} ${advice}`;
+}
+
+function showOperator(state, rows) {
+  const {operator} = state;
+  const place = operator && (operator.card ? `card ${operator.card}` : operator.place);
+  put(byId('what'), operator ? [element('span', {class: taskClass(operator.task)}, operator.task), ` ${place} `, element('strong', {}, operatorText(operator))]
+    : element('strong', {}, 'operator 0'));
+  byId('what').className = state.status === 4 || state.status === 5 ? 'undone' : '';
+  put(byId('why'), whatItDid(state, rows));
+}
+
+function showCount(session) {
+  const {state, end} = session;
+  if (document.activeElement !== byId('count')) byId('count').value = state.count;
+  put(byId('of'), end === null ? 'operators' : `of ${end.toLocaleString('en')} operators`);
+}
+
+export function showLine(session) {
+  session.window = windowOf(session.state.count, session.end, session.window);
+  const {state, window, briefs, stops, end} = session, line = byId('line');
+  showTimeline(line, {count: state.count, window, briefs, stops});
+  line.setAttribute('aria-valuenow', state.count);
+  line.setAttribute('aria-valuemin', 0);
+  line.setAttribute('aria-valuemax', end ?? window.to);
+  const part = byId('part-shown'), whole = byId('whole'), all = end ?? window.to;
+  whole.hidden = window.from === 0 && window.to >= all;
+  part.style.left = `${window.from / all * 100}%`;
+  part.style.width = `${Math.max(0.5, (window.to - window.from) / all * 100)}%`;
+}
+
+export function showDeck(session, toggle) {
+  showCards(byId('cards'), session.text, session.operators, toggle);
+}
+
+// Draws all of a session's state.
+export function showMoment(session, view, rows) {
+  const {state, stops} = session;
+  document.body.classList.toggle('two', Boolean(session.otherState));
+  byId('pair').hidden = !session.otherState;
+  byId('right').hidden = Boolean(session.otherState);
+  showStacks(byId('stacks'), state, session.operators, view);
+  showCount(session);
+  showOperator(state, rows);
+  markCards(byId('cards'), state, stops);
+  showPrinted(byId('printed'), state.lines, state.fresh.length);
+  if (session.otherState) showPair(session);
+  else {
+    put(byId('changed'), changesList(state));
+    showMemory(byId('memory'), state);
+    put(byId('dump'), state.dump || 'No task lives.');
+  }
+  showLine(session);
+}
+
+// One of two cores: what changed, core, and the lines.
+function showOne(box, state) {
+  const memory = element('div', {class: 'memory'}), lines = state.lines.shown.slice(-12);
+  showMemory(memory, state);
+  const printed = lines.length ? lines.map(line => lineRow(line, null, false)) : element('span', {class: 'dim'}, 'Nothing yet.');
+  put(box, element('h2', {}, 'Printed'), element('div', {class: 'printed'}, printed),
+    element('h2', {}, 'What changed'), changesList(state), memory);
+}
+
+// The sentence above two cores: what is the same, by comparison.
+function theoremText(one, other) {
+  const lines = one.lines.total === other.lines.total && one.lines.sum === other.lines.sum;
+  if (one.count !== other.count || one.status !== other.status) return 'One of the two runs has stopped before this moment: see its last line.';
+  if (!lines || one.dump !== other.dump) return 'The two differ: please report this deck and this count.';
+  if (one.status !== undefined) return 'Both runs have ended, with the same lines: paging never changes a printed line.';
+  const same = countOf(one.dump.split('\n').length - 1, 'line');
+  return `With ${outText(one)}, with ${outText(other)}. The lines are the same, and so are the stacks: dump prints the same ${same} of both.`;
+}
+
+function outText(state) {
+  const out = state.things.filter(thing => thing.kind === 'array' && !thing.at && thing.chain.length).length;
+  return `${countOf(state.coreWords, 'word')} ${countOf(out, 'array is', 'arrays are')} out of core`;
+}
+
+function showPair({state, otherState}) {
+  put(byId('theorem'), theoremText(state, otherState));
+  showOne(byId('first'), state);
+  showOne(byId('second'), otherState);
+}

@@ -1,0 +1,89 @@
+// The page's other parts, by data: expected values stand here, never from the program.
+import assert from 'node:assert/strict';
+import {readFileSync} from 'node:fs';
+import {test} from 'node:test';
+import {hashOf, momentOf} from '../address.js';
+import {cardsOf} from '../cards.js';
+import {endingOf} from '../changes.js';
+import {numbersForRead, withNumbers} from '../deck-view.js';
+import {decksOf} from '../decks.js';
+import {actOf, KEYS} from '../keys.js';
+import {momentsOfLessons} from '../lessons.js';
+import {least} from '../machine.js';
+import {spansText} from '../memory.js';
+import {explained, statusText, tablesOf} from '../messages.js';
+import {coupleText, numberText} from '../words.js';
+import {decks} from './native.js';
+
+const rows = tablesOf(readFileSync(new URL('../../docs/MESSAGES.md', import.meta.url), 'utf8'));
+
+test('addresses', () => {
+  assert.deepEqual(momentOf('#two,630,20'), {deck: 'two', core: 630, count: 20, other: null});
+  assert.deepEqual(momentOf('#two,630,20,4096'), {deck: 'two', core: 630, count: 20, other: 4096});
+  assert.deepEqual(momentOf('#two'), {deck: 'two', core: undefined, count: null, other: null});
+  assert.equal(momentOf('#<b>'), null);
+  assert.equal(hashOf({deck: 'two', core: 630, count: 0, other: null}), '#two,630,0');
+});
+
+test('couples by the running level, and numbers', () => {
+  for (const [number, level, text] of [[0x1005, 2, '2,5'], [0x0009, 2, '0,9'], [0x2002, 2, '1,2'], [0x3002, 3, '3,2'], [0x0402, 8, '8,2']]) assert.equal(coupleText(number, level), text);
+  for (const [word, text] of [[5, '5'], [2 ** 46 + 5, '-5'], [2 ** 47, '#800000000000']]) assert.equal(numberText(word), text);
+});
+
+test('spans of sectors', () => {
+  for (const [chain, text] of [[[1], '1'], [[2, 3, 4], '2 to 4'], [[2, 3, 9], '2 to 3, 9'], [[], '']]) assert.equal(spansText(chain), text);
+});
+
+test('the least count', () => {
+  for (const wanted of [1, 2, 3, 7, 64, 65, 1000003]) assert.equal(least(count => count >= wanted), wanted);
+  assert.equal(least(count => count >= 20, 15), 20);
+});
+
+test('endings', () => {
+  assert.deepEqual(endingOf('1.2 ENDED'), {task: '1.2', name: 'ENDED', bad: false});
+  assert.deepEqual(endingOf('1.1 INVALID INDEX'), {task: '1.1', name: 'INVALID INDEX', bad: true});
+  assert.equal(endingOf('1.1 23'), null);
+});
+
+test('numbers for READ are put on cards of 80 characters, before ?END', () => {
+  const deck = '?JOB A\n?ASM\nEXIT\n?DATA\n1 2\n?END\n?JOB B\n?ASM\nEXIT\n?END\n';
+  assert.equal(numbersForRead(deck, 1), '1 2');
+  assert.equal(withNumbers(deck, 1, ' 3,4  -5 '), '?JOB A\n?ASM\nEXIT\n?DATA\n3 4 -5\n?END\n?JOB B\n?ASM\nEXIT\n?END\n');
+  assert.equal(withNumbers(deck, 1, ''), '?JOB A\n?ASM\nEXIT\n?END\n?JOB B\n?ASM\nEXIT\n?END\n');
+  assert.equal(withNumbers(deck, 2, '7'), '?JOB A\n?ASM\nEXIT\n?DATA\n1 2\n?END\n?JOB B\n?ASM\nEXIT\n?DATA\n7\n?END\n');
+  const long = withNumbers(deck, 2, Array(100).fill('1234567').join(' '));
+  assert.ok(cardsOf(long).every(card => card.length <= 80));
+  assert.equal(numbersForRead(long, 2), Array(100).fill('1234567').join(' '));
+});
+
+test('the words of MESSAGES', () => {
+  assert.deepEqual(explained(rows, 'ASM 35 REASON 1').card, 35);
+  assert.match(explained(rows, 'ASM 35 REASON 1').means, /^Card 35 has an unknown mnemonic/);
+  assert.match(explained(rows, '1.1 STACK UNDERFLOW').means, /more words than the top record has/);
+  assert.equal(explained(rows, '1.1 23'), null);
+  assert.equal(statusText(rows, 4, 'NO CORE 630 629').means, 'The next operator, or the opening, needs 630 words, and core has 629 words.');
+  assert.match(statusText(rows, 4, 'NO CORE 630 629').advice, /^Give --core at least 630 /);
+});
+
+test('decks in the page', () => {
+  const found = decksOf('#DECK a 256\n#ABOUT It does nothing.\n?JOB A\n?ASM\nEXIT\n?END\n#DECK b 700\n#ABOUT Nor this.\n?JOB B\n');
+  assert.deepEqual(found.get('a'), {name: 'a', core: 256, about: 'It does nothing.', text: '?JOB A\n?ASM\nEXIT\n?END\n'});
+  assert.deepEqual([...found.keys()], ['a', 'b']);
+});
+
+test('each key does one thing', () => {
+  assert.equal(new Set(KEYS.map(it => it.key)).size, KEYS.length);
+  assert.deepEqual(actOf('o', true), {act: 'line', way: -1});
+  assert.deepEqual(actOf('O', true), {act: 'line', way: -1});
+  assert.deepEqual(actOf('ArrowLeft', false), {act: 'back', way: 1});
+  assert.equal(actOf('x', false), null);
+});
+
+test('lessons lead to moments of decks that are there', () => {
+  const names = new Map(decks().map(deck => [deck.name, deck.core]));
+  for (const address of momentsOfLessons()) {
+    const moment = momentOf(address);
+    assert.ok(names.has(moment.deck) && moment.count !== null, address);
+    assert.equal(moment.core, names.get(moment.deck), address);
+  }
+});

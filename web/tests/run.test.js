@@ -1,0 +1,68 @@
+// Searches and changes over runs that docs/TOUR.md describes: stops 4, 7 and 9. B67 names the native program.
+import assert from 'node:assert/strict';
+import {after, test} from 'node:test';
+import {setImmediate as turn} from 'node:timers/promises';
+import {Native, decks} from './native.js';
+import {Machine} from '../machine.js';
+import {Search} from '../search.js';
+
+const native = new Native(process.env.B67 ?? 'b67');
+after(() => native.close());
+
+function searchOf(name) {
+  const {text, core} = decks().find(deck => deck.name === name);
+  return new Search(new Machine(native, text, core, false), () => {});
+}
+
+// From a count, by a search and a way, to a count.
+const FOUND = {
+  two: [['paging', 1, 1, 17], ['paging', 17, 1, 20], ['paging', 20, 1, 23], ['paging', 23, -1, 20], ['line', 0, 1, 26], ['line', 26, 1, 27],
+    ['line', 26, -1, 0], ['fault', 0, 1, 27], ['task', 1, 1, 27]],
+  switched: [['task', 1, 1, 8], ['task', 8, 1, 14], ['task', 14, -1, 8], ['fault', 0, 1, 13]],
+  jensen: [['out', 17, 1, 20], ['over', 16, 1, 20], ['out', 20, -1, 12]],
+  fault: [['fault', 0, 1, 69], ['line', 69, -1, 59]],
+};
+
+for (const [name, searches] of Object.entries(FOUND)) {
+  test(`${name}: searches`, async () => {
+    await turn();
+    const search = searchOf(name);
+    for (const [kind, from, way, to] of searches) assert.equal(search.find(kind, from, way, []), to, `${kind} from ${from}`);
+  });
+}
+
+// What a count changed, and the card of its operator.
+const CHANGED = [
+  ['two', 20, 25, /^array 2,2 .* to sectors 2 to 8, which it takes now\. No copy led into core, so none is turned$/],
+  ['two', 23, 28, /^array 2,3 .* to sectors 9 to 15, which it takes now\./],
+  ['two', 20, 25, /^element 6 of array 2,3 .*: 0 becomes 12$/],
+  ['switched', 8, 29, /^task 1\.2 runs, after 1\.1$/],
+  ['switched', 12, 33, /^cell 2,2, in record 1 of task 1\.1: 0 becomes 1$/],
+  ['switched', 17, 18, /^cell 2,2, in record 1 of task 1\.1: 1 is stored, and it was 1 already$/],
+  ['jensen', 21, 24, /^cell 2,2, in record 1 of task 1\.1: 0 becomes 1$/],
+];
+
+test('what an operator changed', async () => {
+  for (const [name, count, card, text] of CHANGED) {
+    await turn();
+    const {changes, operator} = searchOf(name).machine.state(count);
+    assert.equal(operator.card, card);
+    assert.ok(changes.some(change => text.test(change.text)), `${name} ${count}: ${JSON.stringify(changes)}`);
+  }
+});
+
+test('a copy that leads into core is turned when its array leaves', async () => {
+  const {text} = decks().find(deck => deck.name === 'two');
+  const machine = new Machine(native, text.replace('STOD\nLT8 12', 'STOD\nNAMC 2,2\nLT8 5\nINDX\nLT8 12'), 632, false);
+  const turned = machine.state(23).changes.filter(change => change.kind === 'turn');
+  assert.deepEqual(turned.map(change => change.cell), ['1.1 1 6']);
+});
+
+test('the end of a run, and the operator before its first fault', async () => {
+  for (const [name, end, fault] of [['two', 27, 27], ['fault', 69, 69], ['jensen', 322, 322]]) {
+    await turn();
+    const search = searchOf(name);
+    assert.equal(search.machine.end(), end, name);
+    assert.equal(search.firstFault(), fault, name);
+  }
+});

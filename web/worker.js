@@ -1,0 +1,112 @@
+// The worker's side: all that computes. It answers what the page asks, and makes states ahead for the time line meanwhile.
+import {programOf, textOf} from './program.js';
+import {operatorsOf} from './cards.js';
+import {Machine} from './machine.js';
+import {Search} from './search.js';
+
+const MOST_SHOWN = 1 << 24; // bytes that a command may print
+const MOST_OF_IMAGE = 1 << 26;
+const SOON = 100000; // operators, within which the end is looked for at once
+
+class Desk {
+  constructor(post) {
+    Object.assign(this, {post, searches: new Map(), deck: null, wanted: null, left: null});
+  }
+
+  async start({bytes, compares}) {
+    this.compares = compares;
+    this.ready = programOf(bytes);
+    this.program = await this.ready;
+  }
+
+  // Carries out a command; `resumes`: over the text and the sectors that the last image has left.
+  call({words, text, room = MOST_SHOWN, sectors = 65536, resumes}) {
+    const begun = performance.now();
+    const over = resumes ? this.left.sectors : sectors;
+    const called = this.program.call(words, resumes ? this.left.bytes : text, {room: words[0] === 'image' ? MOST_OF_IMAGE : room, sectors: over});
+    const {status, bytes} = called;
+    if (words[0] === 'image') this.left = status === 3 ? {bytes: bytes.slice(), sectors: called.sectors.slice()} : null;
+    return {status, text: textOf(bytes), milliseconds: performance.now() - begun};
+  }
+
+  // The card and the text of the operator at a place of a job.
+  operatorAt({deck, job, place}) {
+    return operatorsOf(this.program, deck, job)[place] ?? [0, ''];
+  }
+
+  // The searches of a deck in a core; those of another deck are given up.
+  search(deck, core) {
+    if (this.deck !== deck) this.searches.clear();
+    this.deck = deck;
+    if (!this.searches.has(core)) {
+      const machine = new Machine(this.program, deck, core, this.compares);
+      this.searches.set(core, new Search(machine, text => this.post({progress: text})));
+    }
+    return this.searches.get(core);
+  }
+
+  // The state at a count and the machine before it. `end` is what the page knows of the run's end, after Stop for example.
+  state({deck, core, count, end}) {
+    const search = this.search(deck, core), {machine} = search;
+    machine.last ??= end ?? undefined;
+    const state = machine.state(count);
+    const before = state.count ? {...machine.machine(state.count - 1), image: null} : null;
+    return {...state, before, end: machine.last ?? null, compared: machine.compared, brief: search.brief(state.count)};
+  }
+  // What the page needs to begin with a deck: the operators of its jobs, where it ends if that is soon said, and why it
+  // can't begin.
+  operators({deck, core}) {
+    const {machine, sent} = this.search(deck, core);
+    sent.clear();
+    this.wanted = null;
+    const {status, bytes} = machine.run('run', 1);
+    return {operators: machine.operators, end: machine.endWithin(SOON), refused: status > 3 ? {status, text: textOf(bytes)} : null};
+  }
+
+  find({deck, core, kind, from, way, stops, end}) {
+    return this.state({deck, core, end, count: this.search(deck, core).find(kind, from, way, stops)});
+  }
+  end({deck, core}) {
+    return this.search(deck, core).machine.end();
+  }
+  firstFault({deck, core}) {
+    return this.search(deck, core).firstFault();
+  }
+
+  // Asks for the briefs of these counts, made when nothing else is to be done.
+  fill({deck, core, from, to}) {
+    this.wanted = {deck, core, from, to};
+    if (!this.ticks) setTimeout(() => this.tick());
+    this.ticks = true;
+  }
+
+  // Makes some briefs, for eight milliseconds, and sends those that the page hasn't.
+  tick() {
+    this.ticks = Boolean(this.wanted);
+    if (!this.wanted) return;
+    const {deck, core, from, to} = this.wanted, search = this.search(deck, core), until = performance.now() + 8, briefs = [];
+    let count = from;
+    while (count <= to && (search.briefs.has(count) || performance.now() < until)) {
+      const brief = search.brief(count);
+      if (!search.sent.has(count)) briefs.push(brief);
+      search.sent.add(count);
+      count = brief.status === undefined ? count + 1 : to + 1;
+    }
+    this.post({deck, core, briefs, end: search.machine.last ?? null});
+    this.wanted = count > to ? null : {deck, core, from: count, to};
+    setTimeout(() => this.tick());
+  }
+}
+
+// Answers the page's messages, each with its number.
+export function serve() {
+  const desk = new Desk(message => postMessage(message));
+  self.onmessage = async ({data: {id, ask, data}}) => {
+    try {
+      if (ask !== 'start') await desk.ready;
+      postMessage({id, result: await desk[ask](data)});
+    } catch (problem) {
+      postMessage({id, problem: String(problem.message ?? problem)});
+    }
+  };
+}
