@@ -43,7 +43,7 @@ def closure_cards(rng: random.Random, parameters: range, *, procedures: bool) ->
 
 
 def value_cards(rng: random.Random, cell: int, *, procedures: bool) -> list[str]:
-    """What a parameter stands for: a call of it, or its value."""
+    """What a parameter represents: a call of it, or its value."""
     if procedures and rng.random() < 0.6:
         return ["MKST", f"NAMC 3,{cell}", "ENTR"]
     return [f"VALC 3,{cell}"]

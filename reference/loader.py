@@ -52,7 +52,7 @@ def listing_of(code: list[int]) -> Listing:
 
 
 def proc_of_literal(bits: int) -> Proc:
-    """The procedure word that an MPCW's literal stands for."""
+    """The procedure word that an MPCW's literal represents."""
     return Proc(bits & 0x3FFF, bits >> 14 & 0x1F, Place(bits >> 20 & 0x1FFF, bits >> 33 & 7))
 
 

@@ -18,6 +18,7 @@ from __future__ import annotations
 
 import re
 import sys
+import time
 from collections import defaultdict, deque
 from collections.abc import Callable
 from dataclasses import dataclass
@@ -26,7 +27,7 @@ from pathlib import Path
 from asm import read_line
 from b67ref import FILE_SECTORS, programs_of
 from cards import Deck, RefusedError, read_deck
-from machine import FIRST_OFFSET, Frame, Machine, Ready, Task
+from machine import FIRST_OFFSET, Array, Frame, Machine, Ready, Task
 from session import Session
 from syllables import OPERATORS, Form, Operator
 from words import (
@@ -49,6 +50,8 @@ from words import (
 
 MOST_CELLS = 6
 MOST_OPERATORS = 20
+SILENT_SECONDS = 2.0
+OPERATORS_A_LOOK = 250
 GREATEST_CORE = 1_048_575
 COUNT = re.compile(r"[0-9]{1,9}")
 
@@ -71,6 +74,23 @@ def frame_text(frame: Frame, machine: Machine) -> str:
     return "MCP" if frame.level == 0 else "dictionary"
 
 
+def array_text(array: Array, machine: Machine) -> str:
+    """An array by its original, as a dump names it: its record, and the cell there."""
+    for job in machine.jobs:
+        if array.owner is job.dictionary:
+            return f"DICT {job.number} {cell_of_original(array)}"
+    return f"{frame_text(array.owner, machine)} {cell_of_original(array)}"
+
+
+def cell_of_original(array: Array) -> int:
+    """The offset of the cell that holds the original of an array."""
+    return next(
+        offset
+        for offset, cell in enumerate(array.owner.cells, start=array.owner.first_offset)
+        if isinstance(cell, Original) and cell.array is array
+    )
+
+
 def word_text(word: Word, running: Frame, machine: Machine) -> str:
     """A word, its tag before it."""
     match word:
@@ -83,9 +103,9 @@ def word_text(word: Word, running: Frame, machine: Machine) -> str:
         case Original():
             return f"5: array of {len(word.array.numbers)}"
         case Row():
-            return f"5: copy of an array of {len(word.array.numbers)}"
+            return f"5: copy of array {array_text(word.array, machine)}"
         case Element():
-            return f"5: element {word.index}"
+            return f"5: element {word.index} of {array_text(word.array, machine)}"
         case Proc():
             return f"7: segment {word.segment - 1} at {word.place}"
         case Intrinsic():
@@ -164,11 +184,32 @@ class Made:
         print("\n".join([self.line, *self.printed]))
 
 
+class Clock:
+    """Says on standard error how far a run has come, if nothing was shown for a while."""
+
+    def __init__(self) -> None:
+        self.since = time.monotonic()
+        self.has_spoken = False
+
+    def look(self, made: int) -> None:
+        """Looks at the time after so many operators."""
+        if made % OPERATORS_A_LOOK == 0 and time.monotonic() - self.since > SILENT_SECONDS:
+            hint = "" if self.has_spoken else "; sh scripts/where.sh DECK says at once where a run goes wrong"
+            print(f"trace.py: {made} operators so far{hint}", file=sys.stderr, flush=True)
+            self.has_spoken = True
+            self.since = time.monotonic()
+
+    def shown(self) -> None:
+        """Something was shown."""
+        self.since = time.monotonic()
+
+
 class Traced(Session):
     """A session that shows each of its operators."""
 
     def __init__(self, deck: Deck, show: Callable[[Made], None]) -> None:
         self.show = show
+        self.clock = Clock()
         self.printed: list[str] = []
         programs = programs_of(deck)
         super().__init__(deck, programs, GREATEST_CORE, FILE_SECTORS, self.printed.append)
@@ -190,6 +231,7 @@ class Traced(Session):
         line = f"{made:6} {task.label} {where:8} card {card:>4}  {text:17} {self.after(task)}"
         self.show(Made(made, task.label, line, self.printed[:]))
         self.printed.clear()
+        self.clock.look(made)
 
     def after(self, task: Task) -> str:
         """The record on top of the task's stack."""
@@ -241,9 +283,17 @@ def draw(deck: Deck, count: int) -> None:
 
 
 def trace(deck: Deck, first: int, end: float) -> None:
-    """Prints the operators from `first` to `end`."""
-    session = Traced(deck, lambda made: made.show() if first <= made.count <= end else None)
-    print(ending_of(session), end="")
+    """Prints the operators from `first` to `end`, and makes none after them."""
+    session = Traced(deck, lambda made: show(made) if first <= made.count else None)
+
+    def show(made: Made) -> None:
+        made.show()
+        session.clock.shown()
+
+    while session.lives() and session.machine.made != session.halt and session.machine.made < end:
+        session.step()
+    if session.machine.made < end or session.machine.made == session.halt:
+        print(ending_of(session), end="")
 
 
 def trace_last(deck: Deck) -> None:

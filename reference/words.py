@@ -144,7 +144,7 @@ def is_whole(bits: int) -> bool:
 
 
 def value_of(bits: int) -> int:
-    """The number that a whole operand stands for. Minus zero is 0."""
+    """The number that a whole operand represents. Minus zero is 0."""
     magnitude = bits & MAGNITUDE_MASK
     return -magnitude if bits & SIGN_BIT else magnitude
 

@@ -4,16 +4,21 @@
 #
 #     bash scripts/check-docs.sh PROGRAM [DOCUMENT..]
 #
-# In README.md, docs/, bench/README.md and decks/README.md
+# In the pages at the top, in docs/ and in the README of bench, decks, reference and web
 # - a block that begins with ```console holds commands after `$ ` and, after each, exactly what it prints;
 # - a block that begins with ```sh holds commands without their output: each must end with status 0;
-# - a block that begins with a `?` card is the deck of a folder of decks/, and a block of lines that begin with `1.1 `
-#   or `1.2 ` after it is that deck's stdout;
+# - a block that begins with a `?` card is the deck of a folder of decks/, and a block of lines that begin with a
+#   task's name after it is that deck's stdout;
 # - cards in a sentence, as `ZERO / EXIT` gives `1.1 ENDED`, are the outer block of a deck that prints this first.
-# A block after a line <!-- check-docs: skip, WHY --> isn't run, and is listed as such. The program is found as `b67`
-# and as crates/b67/out/b67. The two lines with a status that `rt try` adds are left out of the comparison. Beside that,
-# each link must lead to a file and a heading, the table of decks must name each folder of decks/, that of crates each
-# crate, that of scripts each script, and the manual page each status's line.
+# A block after a line <!-- check-docs: skip, WHY --> isn't run, and is listed as such; one that needs strace is run if
+# strace can be. The program is found as `b67` and as crates/b67/out/b67. The two lines with a status that `rt try` adds
+# are left out of the comparison. Beside that
+# - each link must lead to a file and a heading, and each name of a file or a crate to one (scripts/links.py);
+# - the table of decks must name each folder of decks/, that of crates each crate, some page each script;
+# - the manual page must name each status's line, and its examples must end with status 0 and print something;
+# - each number of lines in README.md and docs/PROOF.md must be one that scripts/trust.py or scripts/sizes.py prints;
+# - docs/TRUST.md must name each public function of b67_promises, docs/TESTED.md the number of rows, README.md that of decks,
+#   docs/ARCHITECTURE.md that of crates.
 set -u
 usage() {
     echo "$1" >&2
@@ -36,7 +41,8 @@ done
 export PATH="$room/bin:$PATH" HOME="$room/home"
 mkdir -p "$HOME"
 cd "$room/clone" || exit 2
-[ $# -gt 0 ] || set -- README.md CHANGES.md docs/*.md bench/README.md decks/README.md reference/README.md
+[ $# -gt 0 ] || set -- *.md docs/*.md bench/README.md decks/README.md reference/README.md web/README.md
+if strace -o "$room/traced" true 2>/dev/null; then strace=1; else strace=; fi
 for document in "$@"; do
     [ -f "$document" ] || usage "$document: not a document of the repository"
 done
@@ -51,7 +57,8 @@ wrong() {
 for document in "$@"; do
     rm -f "$room"/blocks/*
     # each block into a file NUMBER.KIND that begins with the number of its first line
-    awk -v folder="$room/blocks" '
+    awk -v folder="$room/blocks" -v strace="$strace" '
+    /^<!-- check-docs: skip.*needs strace/ && strace { next }
     /^<!-- check-docs: skip/ { skip = $0; next }
     /^```/ && !inside { inside = 1; kind = substr($0, 4); if (kind == "") kind = "plain"; if (skip != "") kind = "skip"
         n++; file = sprintf("%s/%04d.%s", folder, n, kind); print NR ": " skip > file; skip = ""; next }
@@ -91,19 +98,11 @@ for document in "$@"; do
                     if cmp -s "$folder/stdin" "$room/text"; then deck=$folder; fi
                 done
                 if [ -n "$deck" ]; then passed=$((passed + 1)); else wrong "$name: no deck of decks/"; fi
-            elif head -1 "$room/text" | grep -q '^1\.[12] '; then
+            elif head -1 "$room/text" | grep -q '^1\.[1-9] '; then
                 if [ -n "$deck" ] && cmp -s "$deck/stdout" "$room/text"; then passed=$((passed + 1)); else wrong "$name: not what ${deck:-no deck} prints"; fi
             fi
             ;;
         esac
-    done
-    for link in $(grep -oE '\]\([^) ]+\)' "$document" | sed 's/^](//; s/)$//' | grep -v '^http'); do
-        target=${link%%#*}
-        if [ -z "$target" ]; then target=$document; else target=$(dirname "$document")/$target; fi
-        case $link in
-        *'#'*) sed -n 's/^##* //p' "$target" 2>/dev/null | tr '[:upper:]' '[:lower:]' | sed "s/[^a-z0-9 _-]//g; s/ /-/g" | grep -qxF -- "${link#*#}" ;;
-        *) [ -e "$target" ] ;;
-        esac || wrong "$document: the link $link"
     done
     grep -oE '`[A-Z0-9,: ]+( / [A-Z0-9,: ]+)+` gives `[^`]+`' "$document" | sed 's/`//g; s/ gives /\t/' >"$room/sentences"
     while IFS="$(printf '\t')" read -r cards printed; do
@@ -114,7 +113,7 @@ for document in "$@"; do
     done <"$room/sentences"
 done
 
-if [ "$(ls -d decks/*/ | sed 's:decks/::; s:/::' | sort)" = "$(sed -n '/^## The decks/,$s/^| `\([a-z]*\)` .*/\1/p' docs/ASSEMBLER.md | sort)" ]; then
+if [ "$(ls -d decks/*/ | sed 's:decks/::; s:/::' | sort)" = "$(sed -n '/^## The decks/,$s/^| `\([a-z0-9]*\)` .*/\1/p' docs/ASSEMBLER.md | sort)" ]; then
     passed=$((passed + 1))
 else wrong 'the table of decks in docs/ASSEMBLER.md'; fi
 missing=$(for crate in crates/*/; do
@@ -122,11 +121,40 @@ missing=$(for crate in crates/*/; do
     sed -n '/^## The crates/,/^## Where a rule/p' docs/ARCHITECTURE.md | grep '^|' | cut -d'|' -f2 | grep -qF "\`$name\`" || echo "$name"
 done)
 if [ -z "$missing" ]; then passed=$((passed + 1)); else wrong "the table of crates in docs/ARCHITECTURE.md: $(echo $missing)"; fi
-missing=$(for script in scripts/*.sh; do grep -qF "$script" README.md || echo "$script"; done)
-if [ -z "$missing" ]; then passed=$((passed + 1)); else wrong "the table of scripts in README.md: $(echo $missing)"; fi
+missing=$(for script in scripts/*.sh scripts/*.py; do grep -qF "$(basename "$script")" *.md docs/*.md */README.md || echo "$script"; done)
+if [ -z "$missing" ]; then passed=$((passed + 1)); else wrong "scripts that no page names: $(echo $missing)"; fi
+python3 scripts/trust.py >"$room/sizes"
+python3 scripts/sizes.py >>"$room/sizes"
+missing=$(grep -ohE '[0-9][0-9,]* lines' README.md docs/PROOF.md | sed 's/ lines//; s/,//g' | sort -u | while read -r number; do
+    grep -qw "$number" "$room/sizes" || echo "$number"
+done)
+if [ -z "$missing" ]; then passed=$((passed + 1)); else wrong "numbers of lines that no script prints: $(echo $missing)"; fi
+missing=$(tr '\n' ' ' <crates/b67_promises/src/lib.rt | grep -oE 'pub use [^;]*;' | sed 's/.*:://' | grep -oE '[a-z_]+' | while read -r name; do
+    grep -qE "::$name( |\$)" "$room/sizes" && grep -qF "\`$name\`" docs/TRUST.md || echo "$name"
+done)
+if [ -z "$missing" ]; then passed=$((passed + 1)); else wrong "theorems that docs/TRUST.md or scripts/trust.py leaves out: $(echo $missing)"; fi
+rows=$(tail -1 crates/b67_rows/stdout | cut -d' ' -f1)
+if grep -qF "$rows rows" docs/TESTED.md; then passed=$((passed + 1)); else wrong "docs/TESTED.md: there are $rows rows"; fi
+crates=$(ls -d crates/*/ | wc -l)
+if grep -qF "There are $crates crates" docs/ARCHITECTURE.md; then passed=$((passed + 1)); else wrong "docs/ARCHITECTURE.md: there are $crates crates"; fi
+decks=$(ls -d decks/*/ | wc -l)
+if grep -qF "the $decks decks" README.md; then passed=$((passed + 1)); else wrong "README.md: there are $decks decks"; fi
 page=$(MANWIDTH=1000 man -l docs/b67.1 2>/dev/null | col -b)
 for words in 'USAGE: b67 run' DECK ASM CODEFILE LOAD BIND IMAGE HALTED 'NO CORE' 'BACKING FULL' 'BACKING FAULT' 'READING FAULT' 'NO MEMORY'; do
     case $page in *"$words"*) passed=$((passed + 1)) ;; *) wrong "docs/b67.1: $words" ;; esac
+done
+if python3 scripts/links.py "$@" >"$room/printed"; then passed=$((passed + 1)); else
+    wrong links
+    cat "$room/printed"
+fi
+cp decks/halt/stdin deck
+sed -n '/^\.SH EXAMPLES/,/^\.SH SEE/p' docs/b67.1 | awk -v folder="$room" '/^\.nf/ { n++; inside = 1; next } /^\.fi/ { inside = 0 }
+    inside { gsub(/\\-/, "-"); gsub(/\\e/, "\\"); sub(/^ */, ""); print > (folder "/example." n) }'
+for example in "$room"/example.*; do
+    if bash "$example" >"$room/printed" 2>&1 </dev/null && [ -s "$room/printed" ]; then passed=$((passed + 1)); else
+        wrong "docs/b67.1: $(cat "$example")"
+        cat "$room/printed"
+    fi
 done
 echo "$passed passed, $failed failed, $skipped not run"
 [ $failed = 0 ]

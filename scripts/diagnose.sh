@@ -15,12 +15,6 @@ usage() {
 deck=$1
 program=${2:-b67}
 here=$(cd "$(dirname "$0")" && pwd)
-# the tracer, as it is called from the folder in which this is called
-case $(dirname "$0") in
-scripts) tracer=reference/trace.py ;;
-*/scripts) tracer=$(dirname "$(dirname "$0")")/reference/trace.py ;;
-*) tracer=$(dirname "$0")/../reference/trace.py ;;
-esac
 [ -f "$deck" ] && [ -r "$deck" ] || usage "$deck: not a file that can be read"
 command -v "$program" >/dev/null && [ ! -d "$program" ] || usage "$program: not a program that can be run"
 job=
@@ -33,9 +27,27 @@ if [ $status = 0 ]; then
     cat "$room/lines"
     [ -n "$line" ] || echo "    The deck is empty, or has empty cards alone."
     echo "    Nothing is refused. It may still fault: run it, and pipe its lines to sh $(dirname "$0")/explain.sh."
-    echo "    Where a fault comes from: python3 $tracer $deck last"
+    case $deck in *[!A-Za-z0-9_./-]*) deck="'$deck'" ;; esac
+    echo "    Where it goes wrong then: sh $(dirname "$0")/where.sh $deck"
     exit 0
 fi
+# a text that is no deck at all, by its first cards
+head -c 100000 "$deck" | tr '\000' '\001' | LC_ALL=C awk '
+    { sub(/[ \r]+$/, "") }
+    /[\001-\010\013\014\016-\037\177]/ { say = "This is no text file."; exit }
+    /\r/ { say = "Its lines end by CR alone, as on an old Mac: tr \047\\r\047 \047\\n\047 < FILE makes a deck of it."; exit }
+    $0 == "" { next }
+    /^\?IMAGE$/ { say = "This is an image, as image prints it: b67 dump < FILE prints its stacks, and resume goes on from it."; exit }
+    /^423637494[dD]414745/ && !cards { say = "This is hexadecimal: an image without its card ?IMAGE."; exit }
+    /^TASK [0-9]+\.[0-9]+ / { say = "This is a dump: sh scripts/plain.sh FILE prints it in plain words, and sh scripts/draw.sh FILE draws it."; exit }
+    /^\?/ { exit }
+    /^([0-9a-fA-F][0-9a-fA-F])+$/ { cards += 1; next }
+    { cards += 1; other = 1 }
+    END {
+        if (say == "" && cards && !other) say = "This is hexadecimal, as asm, bind and convert print it: put ?JOB NAME and ?HEX before it, and ?END after it."
+        if (say == "" && other && NR > 1 && !/^\?/) say = "No ? card stands before these cards: if they are assembly, give them to asm, or put ?JOB NAME and ?ASM before them, and ?END after them."
+        if (say != "") print "    " say
+    }'
 case $line in
 DECK* | ASM* | CODEFILE*)
     card=$(echo "$line" | cut -d' ' -f2)

@@ -4,7 +4,9 @@
 #
 #     sh scripts/draw.sh [DUMP] > stacks.svg
 #
-# DUMP is a file with what `dump` printed, or standard input if it isn't given. Any browser shows an SVG.
+# DUMP is a file with what `dump` printed, or standard input if it isn't given. Any browser shows an SVG. Of more than
+# fifteen records those are drawn as one box that stand below the last three of a stack and that nothing drawn refers to.
+# References and copies then also say to what in words, since their arrows may end at such a box.
 # Nothing here is proved, and it is no part of the gate.
 set -u
 usage() {
@@ -59,28 +61,34 @@ function couple(digits,   n, width, i, level) {
     return level "," n % 2 ^ (14 - width)
 }
 function row(text) { rows[now]++; said[now, rows[now]] = text; if (length(text) > wide[task]) wide[task] = length(text) }
+# a row that leads to a cell or an array: its words, and those that say to what too
+function leads(text, to) { row(text); in_full[now, rows[now]] = text to }
+function spaced(cell) { gsub(/[\/#]/, " ", cell); return cell }
 function arrow(kind, from, to) { arrows++; is[arrows] = kind; comes[arrows] = from; goes[arrows] = to; wanted[to]; sub(/#.*/, "", to); wanted[to] }
 { sub(/\r$/, "") }
 NR == 1 && /^(IMAGE|USAGE:|READING|NO MEMORY)/ { fail("dump printed no dump, but: " $0) }
 /^TASK / {
     if ($2 !~ /^[0-9]+\.[0-9]+$/) stray()
     task = $2
+    whom = ""
     if ($3 == "READY") { at = 4; what = "ready" }
-    else if ($3 == "AWAITS" && number($4)) { at = 5; what = "awaits task " $4 }
+    else if ($3 == "AWAITS" && number($4)) { at = 5; what = "awaits"; whom = "task " $2; sub(/[0-9]+$/, $4, whom) }
     else if ($3 == "WAITS") {
         to = cell_of(4)
         at = behind
-        what = to
-        sub(/.*#/, "", what)
-        what = "waits at cell " what " of " named(key_of(to))
+        whom = to
+        sub(/.*#/, "", whom)
+        whom = "cell " whom " of " named(key_of(to))
+        what = "waits at"
         arrow("wait", "task " task, to)
     } else stray()
     if (!number($at) || !place($(at + 1)) || NF != at + 1) stray()
     names[++tasks] = task
-    state[task] = what
-    goes_on[task] = "segment " $at " at " $(at + 1)
-    wide[task] = length(goes_on[task])
-    if (length(what) > wide[task]) wide[task] = length(what)
+    # three lines below the stack; those of a task that is ready are two
+    title[task, 1] = "task " task ", " what
+    title[task, 2] = whom
+    title[task, whom == "" ? 2 : 3] = "segment " $at " at " $(at + 1)
+    for (i = 1; i <= 3; i++) if (length(title[task, i]) > wide[task]) wide[task] = length(title[task, i])
     running = 2
     now = ""
     next
@@ -113,12 +121,19 @@ NR == 1 && /^(IMAGE|USAGE:|READING|NO MEMORY)/ { fail("dump printed no dump, but
         row(name "procedure: segment " $4 ($5 == "0:0" ? "" : " at " $5))
         at = 7
     }
-    else if ($3 == "REF") { to = cell_of(4); at = behind; row(name "reference"); arrow("ref", here, to) }
-    else if ($3 == "ROW") { to = cell_of(4); at = behind; row(name "copy of an array"); arrow("copy", here, to) }
+    else if ($3 == "REF") {
+        to = cell_of(4)
+        at = behind
+        whom = to
+        sub(/.*#/, "", whom)
+        leads(name "reference", " to cell " whom " of " named(key_of(to)))
+        arrow("ref", here, to)
+    }
+    else if ($3 == "ROW") { to = cell_of(4); at = behind; leads(name "copy of an array", " " spaced(to)); arrow("copy", here, to) }
     else if ($3 == "ELEMENT") {
         to = cell_of(4)
         if (!number($behind)) stray()
-        row(name "element " $behind)
+        leads(name "element " $behind, " of " spaced(to))
         at = behind + 1
         arrow("copy", here, to)
     } else stray()
@@ -162,16 +177,62 @@ function sides(   j, key, n) {
     }
     if (wide["side"]) across = 60 + wide["side"] * letter + 16
 }
-# the record of a cell, of a mark, or of what is written under a stack
+# the record of a cell, of a mark, or of what is written under a stack; or the box that has it with others
 function key_of(cell) {
     if (cell ~ /^task /) return substr(cell, 6) "/1"
     sub(/#.*/, "", cell)
-    return cell
+    return cell in folded ? folded[cell] : cell
+}
+# which records are drawn by themselves, and which as one box: drawn[task, 1] to drawn[task, boxes[task]]
+function fold(   n, k, i, all, key, last) {
+    for (n = 1; n <= tasks; n++) all += records[names[n]]
+    is_large = all > 15
+    if (is_large) {
+        for (n = 1; n <= tasks; n++) {
+            drawn_by_itself[names[n] "/1"]
+            for (k = records[names[n]] - 2; k <= records[names[n]]; k++) drawn_by_itself[names[n] "/" k]
+        }
+        # what is at a child, and what waits, stays too; and then what all these refer to
+        for (n = 1; n <= arrows; n++) {
+            key = comes[n]
+            sub(/\/.*/, "", key)
+            if (is[n] == "wait" || (is[n] == "link" && index(goes[n], key "/") != 1)) drawn_by_itself[key_of(goes[n])]
+        }
+        for (n = 1; n <= arrows; n++) if (key_of(comes[n]) in drawn_by_itself) referred_to[key_of(goes[n])]
+        for (key in referred_to) drawn_by_itself[key]
+    }
+    for (n = 1; n <= tasks; n++) {
+        task = names[n]
+        wide[task] = 0
+        for (i = 1; i <= 3; i++) if (length(title[task, i]) > wide[task]) wide[task] = length(title[task, i])
+        for (k = 1; k <= records[task]; k = last + 1) {
+            last = k
+            if (is_large) while (last < records[task] && !((task "/" k) in drawn_by_itself) && !((task "/" last + 1) in drawn_by_itself)) last++
+            key = task "/" k
+            drawn[task, ++boxes[task]] = key
+            if (last > k) {
+                for (i = k; i <= last; i++) folded[task "/" i] = key
+                rows[key] = 1
+                said[key, 1] = last - k + 1 " records, " k " to " last
+                is_box[key]
+            }
+            for (i = 1; i <= rows[key]; i++) {
+                if (is_large && (key, i) in in_full) said[key, i] = in_full[key, i]
+                if (length(said[key, i]) > wide[task]) wide[task] = length(said[key, i])
+            }
+        }
+    }
+}
+# whether an arrow sets out from a record that is drawn by itself
+function is_drawn(n,   from) {
+    from = comes[n]
+    sub(/#.*/, "", from)
+    return !(from in folded)
 }
 # what has no row of its own, as a cell of a dictionary, is at the mark
 function height(cell) {
-    if (cell ~ /^task /) return base + 14
-    return low[key_of(cell)] - ((cell in row_of ? row_of[cell] : 1) - 0.5) * line
+    if (cell ~ /^task /) return base + 29
+    return low[key_of(cell)] - ((cell in row_of && !(key_of(cell) in is_box) ? row_of[cell] : 1) - 0.5) * line
 }
 # the side at which an arrow sets out from a column, and that at which it comes in: 1 is the right one
 function way_out(n) { return to_column[n] > from_column[n] || (to_column[n] == from_column[n] && is[n] != "link") ? 1 : -1 }
@@ -205,7 +266,7 @@ function gap_before(n,   all) {
 }
 # where in a gap a place is, of the column after the gap or of that before it
 function gap_at(n, nth, before) { return lefts[n] - 12 - 6 * (places[n] - nth + 1 + (before ? places_before[n] : 0)) }
-function depth(lane) { return base + 42 + 8 * lanes[lane] }
+function depth(lane) { return base + 57 + 8 * lanes[lane] }
 # where an arrow sets out: from a box, or from the words under a stack
 function start_of(n, way,   from) {
     from = key_of(comes[n])
@@ -239,38 +300,37 @@ function draw_lane(n, lane, x, y, to_x, to_y,   down, path) {
     behind_boxes[++curves] = sprintf("<path class=\"%s\" d=\"%s\"/>", is[n], path)
 }
 function legend(x, kind, words) {
-    put(sprintf("<path class=\"%s\" d=\"M%.1f %.1fh30\"/>", kind, x, bottom + 54))
-    write(x + 36, bottom + 58, words, "")
+    put(sprintf("<path class=\"%s\" d=\"M%.1f %.1fh30\"/>", kind, x, bottom + 69))
+    write(x + 36, bottom + 73, words, "")
     return x + 36 + length(words) * letter + 24
 }
 END {
     if (failed) exit 2
     letter = 7.4
     line = 18
-    gap = 90
+    gap = 70
     base = 0
     across = 60
     highest = -40
     sides()
+    fold()
     for (n = 1; n <= tasks; n++)
         for (k = 1; k <= records[names[n]]; k++) column[names[n] "/" k] = n
-    for (n = 1; n <= arrows; n++) place_arrow(n)
+    for (n = 1; n <= arrows; n++) if (is_drawn(n)) place_arrow(n)
     bottom = base + (count ? 8 * count + 2 : 0)
     for (n = 1; n <= tasks; n++) {
         task = names[n]
         floor = base
         if (across > 60) across += gap_before(n)
         lefts[n] = across
-        for (k = 1; k <= records[task]; k++) box(task "/" k, across, wide[task] * letter + 16)
-        write(across, base + 18, "task " task ", " state[task], " class=\"mark\"")
-        write(across, base + 33, goes_on[task], "")
-        wide_title = length("task , " task state[task])
-        title_end[task "/1"] = across + wide_title * letter + 4
-        if (wide[task] < wide_title) wide[task] = wide_title
+        for (k = 1; k <= boxes[task]; k++) box(drawn[task, k], across, wide[task] * letter + 16)
+        write(across, base + 18, title[task, 1], " class=\"mark\"")
+        for (k = 2; k <= 3; k++) if (title[task, k] != "") write(across, base + 3 + 15 * k, title[task, k], "")
+        title_end[task "/1"] = across + length(title[task, 2]) * letter + 4
         across += wide[task] * letter + 16
     }
     across += gap
-    for (n = 1; n <= arrows; n++) draw_arrow(n)
+    for (n = 1; n <= arrows; n++) if (is_drawn(n)) draw_arrow(n)
     if (tasks == 0) write(60, base, "No task lives.", "")
     x = legend(60, "link", "static link")
     x = legend(x, "ref", "reference")
@@ -278,7 +338,7 @@ END {
     x = legend(x, "wait", "waits at")
     if (across < x) across = x
     wide_all = across + 20
-    high_all = bottom + 94 - highest
+    high_all = bottom + 109 - highest
     print "<svg xmlns=\"http://www.w3.org/2000/svg\" xml:space=\"preserve\" width=\"" int(wide_all) "\" height=\"" int(high_all) "\" viewBox=\"0 " int(highest - 20) " " int(wide_all) " " int(high_all) "\">"
     print "<style>text{font:12px monospace;fill:#222}.mark{font-weight:bold}rect{fill:#fff;stroke:#555}path{fill:none;stroke-width:1.3}"
     print ".rule{stroke:#ddd;stroke-width:1}.link{stroke:#444}.ref{stroke:#15c;stroke-dasharray:6 3}.copy{stroke:#083;stroke-dasharray:2 3}"

@@ -1,6 +1,17 @@
 #!/usr/bin/env python3
-"""Counts what keeps the house in order, and prints one line for each count. usage: house.py [TOP]"""
+"""Counts what keeps the house in order, prints one line for each count, and ends with status 1 if a count is above its bound.
+usage: house.py [TOP]"""
 import collections, os, re, sys
+
+# The most of each. A change that lowers a count lowers its bound; one that must raise it says so in its commit.
+BOUNDS = {
+    'crates': 68,
+    'longest chain': 15,
+    'ways down crates.txt': 317718,
+    'definition names in two crates': 42,
+    'longest function outside tests': 37,
+    'contracts over eight clauses': 14,
+}
 
 
 def crates(top):
@@ -103,13 +114,22 @@ def main():
     twice = sorted(name for name, homes in where.items() if len(homes) > 1)
     longest = max(found, key=lambda f: f[3])
     over = sorted((f for f in found if f[4] > 8), key=lambda f: -f[4])
-    print('crates: %d' % len(rows))
-    print('longest chain: %d' % chain)
-    print('ways down crates.txt: %d' % ways)
-    print('definition names in two crates: %d of %d: %s' % (len(twice), len(where), ' '.join(twice)))
-    print('longest function outside tests: %d lines: %s:%d %s' % (longest[3], longest[0], longest[2], longest[1]))
-    print('contracts over eight clauses: %d of %d: %s' % (
-        len(over), len(found), ', '.join('%s:%d %s (%d)' % (f[0], f[2], f[1], f[4]) for f in over)))
+    counts = {
+        'crates': (len(rows), ''),
+        'longest chain': (chain, ''),
+        'ways down crates.txt': (ways, ''),
+        'definition names in two crates': (len(twice), ' of %d: %s' % (len(where), ' '.join(twice))),
+        'longest function outside tests': (longest[3], ' lines: %s:%d %s' % (longest[0], longest[2], longest[1])),
+        'contracts over eight clauses': (len(over), ' of %d: %s' % (
+            len(found), ', '.join('%s:%d %s (%d)' % (f[0], f[2], f[1], f[4]) for f in over))),
+    }
+    for name, (count, rest) in counts.items():
+        print('%s: %d%s' % (name, count, rest))
+    above = ['%s: %d, at most %d' % (name, counts[name][0], most) for name, most in BOUNDS.items() if counts[name][0] > most]
+    for line in above:
+        print('ABOVE ITS BOUND: ' + line)
+    if above:
+        return 1
     return 0
 
 

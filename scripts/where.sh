@@ -1,12 +1,14 @@
 #!/bin/sh
-# Where a deck first faults: the least count of operators after which a task has ended by a fault, the operator that did
-# it with its place and card, and the activation record that it found on top.
+# Where a run first goes wrong. For a fault: the least count of operators after which the task has ended, the operator
+# that did it with its place and card, and the activation record that it found on top. For DEADLOCK and LIMIT: each live
+# task of the job before it, what it waits for, and the card of its next operator.
 #
 #     sh scripts/where.sh DECK [PROGRAM]
 #
 # DECK is a file of cards; a ?HALT of its own is left out. PROGRAM is `b67` on the path if it isn't given. The deck is run
-# some fifty times at most, to a count that is halved each time; then `image` and `dump` tell the machine before the
-# fault. Status 1: no task ends by a fault. Nothing here is proved, and it is no part of the gate.
+# some forty times at most, to counts between which the ending lies ever more closely. Then `image` and `dump` read the
+# machine before the ending, plain.sh prints it, and explain.sh says what the ending means. Status 1: no task ends by a
+# fault, DEADLOCK or LIMIT. Nothing here is proved, and it is no part of the gate.
 set -u
 usage() {
     echo "$1" >&2
@@ -22,14 +24,17 @@ command -v "$program" >/dev/null && [ ! -d "$program" ] || usage "$program: not 
 room=$(mktemp -d)
 trap 'rm -rf "$room"' EXIT
 "$program" check <"$deck" >"$room/checked" || { tail -n 1 "$room/checked" >&2; exit 2; }
-grep -v '^?HALT' "$deck" >"$room/whole"
+grep -v '^?HALT' <"$deck" >"$room/whole"
+# the same after a card ?HALT, whose count is written over in place: spaces at a card's end don't count
+{ echo '?HALT 1          '; cat "$room/whole"; } >"$room/halting"
 
 # runs the deck by command $1 to count $2, if it is given, into `printed`, in a core that has room for it
 core=16384
 go() {
     while :; do
-        { [ $# = 1 ] || echo "?HALT $2"; cat "$room/whole"; } |
-            "$program" "$1" --core "$core" --backing "$room/b" >"$room/printed"
+        cards=$room/whole
+        [ $# = 1 ] || { cards=$room/halting; printf '?HALT %-11s\n' "$2" 1<>"$cards"; }
+        "$program" "$1" --core "$core" --backing "$room/b" <"$cards" >"$room/printed"
         status=$?
         [ $status = 4 ] && [ "$core" -lt 1048575 ] || break
         core=$((core * 8 > 1048575 ? 1048575 : core * 8))
@@ -38,14 +43,16 @@ go() {
 # whether the first fault has come after count $1
 has_faulted() {
     go run "$1"
-    [ "$(grep -c '^[0-9]*\.[0-9]* ' "$room/printed")" -ge "$line" ]
+    grep -c '^[0-9]*\.[0-9]* ' "$room/printed" >"$room/count"
+    read -r count <"$room/count"
+    [ "$count" -ge "$line" ]
 }
 
 go run
-first=$(grep -n '^[0-9]*\.[0-9]* [A-Z]' "$room/printed" | grep -vE ' (ENDED|PARENT|DEADLOCK|LIMIT)$' | head -n 1)
+first=$(grep -n '^[0-9]*\.[0-9]* [A-Z]' "$room/printed" | grep -vE ' (ENDED|PARENT)$' | head -n 1)
 if [ -z "$first" ]; then
     last=$(tail -n 1 "$room/printed")
-    echo "no task ends by a fault${last:+; the last line: $last}"
+    echo "no task ends by a fault, DEADLOCK or LIMIT${last:+; the last line: $last}"
     exit 1
 fi
 line=${first%%:*}
@@ -54,13 +61,23 @@ task=${fault%% *}
 high=1
 low=0
 most=800000000
+# one job alone reaches its limit at just that count, so no other need be tried
+case $fault in
+*' LIMIT')
+    if [ "$(wc -l <"$room/checked")" = 1 ]; then
+        high=$(sed -n 's/^?LIMIT *\([0-9]*\).*/\1/p' "$deck")
+        high=${high:-1000000}
+        if has_faulted $((high - 1)); then high=1; else low=$((high - 1)); fi
+    fi
+    ;;
+esac
 while ! has_faulted "$high"; do
     if [ "$high" -ge "$most" ]; then
         echo "where.sh: after $high operators: $(tail -n 1 "$room/printed")" >&2
         exit 1
     fi
     low=$high
-    high=$((high * 2 > most ? most : high * 2))
+    high=$((high * 8 > most ? most : high * 8))
 done
 while [ $((high - low)) -gt 1 ]; do
     middle=$(((low + high) / 2))
@@ -74,19 +91,46 @@ else
     go image "$low"
     "$program" dump <"$room/printed" >"$room/dump" || { echo "where.sh: dump: $(tail -n 1 "$room/dump")" >&2; exit 1; }
 fi
+sh "$here/listing.sh" "$deck" "$program" "${task%%.*}" >"$room/listing" || exit 1
+# the heading of segment $1 and the operator at place $2 of it, from the listing
+operator() {
+    awk -v segment="$1" -v place="$2" -v heading="$3" '
+        /^(job [^:]*: )?segment / { text = $0; sub(/^job [^:]*: /, ""); now = $2 + 0; if (now == segment && heading) print "    " text; next }
+        now == segment && $1 == place && /^ / { print "  " $0; found = 1 }
+        END { if (!found) print "       " place "  in the filling after its last operator" }' "$room/listing"
+}
+# what MESSAGES.md says of the ending
+causes() { sh "$here/explain.sh" "$fault" | sed '1s/.*/What it means, and the usual causes:/'; }
+echo "$fault, by operator $high:"
+case $fault in
+*' DEADLOCK' | *' LIMIT')
+    echo "The live tasks of job ${task%%.*} before it, each with its next operator:"
+    grep "^TASK ${task%%.*}\." "$room/dump" | while read -r line; do
+        echo "$line" | sh "$here/plain.sh" | sed 's/^/    /'
+        operator $(echo "$line" | awk '{ print $(NF - 1), $NF }') ''
+    done
+    causes
+    exit 0
+    ;;
+esac
 set -- $(grep "^TASK $task " "$room/dump")
 [ $# -ge 5 ] || { echo "where.sh: the dump at $low has no task $task" >&2; exit 1; }
-segment=$4
-place=$5
-echo "$fault, by operator $high:"
-sh "$here/listing.sh" "$deck" "$program" "${task%%.*}" |
-    awk -v segment="$segment" -v place="$place" '
-        /^(job [^:]*: )?segment / { heading = $0; sub(/^job [^:]*: /, ""); now = $2 + 0; if (now == segment) print "    " heading; next }
-        now == segment && $1 == place && /^ / { print "  " $0; found = 1 }
-        END { if (!found) print "       " place "  in the filling behind its last operator" }'
+operator "$4" "$5" 1
 echo "The record on top before it:"
 awk -v task="$task" '
-    /^TASK / { mine = $2 == task; next }
-    mine && /^FRAME / { text = "    " $0; next }
-    mine { text = text "\n    " $0 }
-    END { print text }' "$room/dump"
+    /^TASK / { mine = $2 == task; if (mine) print; next }
+    mine && /^FRAME / { level = ($4 ~ /^[0-9]+$/) ? $0 : level; text = $0; next }
+    mine { text = text "\n" $0 }
+    END { if (text ~ /MARKED/ && level != "") print level; print text }' "$room/dump" | sh "$here/plain.sh" |
+    awk '/^task / { next } { if (/^  record /) { text = $0; next } text = text "\n" $0 } END { print text }' | sed 's/^/  /' >"$room/record"
+cat "$room/record"
+# the one cause of several that the record shows: an intrinsic that wants a row copy, and has a reference
+case $fault in
+*' INVALID OPERAND')
+    awk '
+        NR == 1 { marked = / marked for a call$/ }
+        NR == 2 && marked && $1 == "couple" && $3 ~ /^(PRINTROW|DEALLOCATE|RESIZE)$/ { name = $3 }
+        NR == 3 && name != "" && ($1 == "couple" || $1 == "reference") { print name " wants a copy of a whole array, and has a reference: LOAD is missing after NAMC." }' "$room/record"
+    ;;
+esac
+causes

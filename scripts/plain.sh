@@ -1,0 +1,85 @@
+#!/bin/sh
+# Reads a dump and prints it for people: numbers in decimal, each cell under the couple that names it, couples as
+# level,displacement, intrinsics by their names.
+#
+#     sh scripts/plain.sh [DUMP]
+#     b67 dump < halted | sh scripts/plain.sh
+#
+# DUMP is a file with what `dump` printed, or standard input if it isn't given. Records and arrays have the names of the
+# dump: `1.1 2` is record 2 of task 1.1, and array `1.1 2 3` is that of the original in its cell 3. A place is written
+# as the tracer writes it, segment@word:syllable. Lines that are none of a dump are passed on. Nothing here is proved.
+set -u
+usage() {
+    echo "$1" >&2
+    echo "usage: sh scripts/plain.sh [DUMP]" >&2
+    exit 2
+}
+[ $# -le 1 ] || usage "one dump, or none to read standard input"
+if [ $# = 1 ]; then
+    case $1 in -*) usage "$1: there are no options" ;; esac
+    [ -f "$1" ] && [ -r "$1" ] || usage "$1: not a file that can be read"
+    exec <"$1"
+elif [ -t 0 ]; then
+    usage "a dump is missing"
+fi
+LC_ALL=C exec awk '
+function hex(text,   i, n) {
+    n = 0
+    for (i = 1; i <= length(text); i++) n = n * 16 + index("0123456789abcdef", substr(text, i, 1)) - 1
+    return n
+}
+function bits(value, low, width) { return int(value / 2 ^ low) % 2 ^ width }
+function whole(digits,   n) {
+    if (digits == "800000000000") return "#800000000000, as READ gives when no number is left"
+    n = hex(digits)
+    if (bits(n, 39, 7) || bits(n, 47, 1)) return "#" digits
+    return (bits(n, 46, 1) && n % 2 ^ 39 ? "-" : "") sprintf("%.0f", n % 2 ^ 39)
+}
+# a couple of 14 bits as the running level reads it
+function couple(digits,   n, width, i, level, at) {
+    n = hex(digits)
+    width = running < 4 ? 2 : running < 8 ? 3 : running < 16 ? 4 : 5
+    level = 0
+    for (i = 0; i < width; i++) level += bits(n, 13 - i, 1) * 2 ^ i
+    at = n % 2 ^ (14 - width)
+    return level "," at (level == 0 && at in intrinsic ? " " intrinsic[at] : "")
+}
+# the record that fields from `at` on name; the field after it is `next_field`
+function record(at) {
+    if ($at == "MCP") { next_field = at + 1; return "MCP" }
+    next_field = at + 2
+    return $at " " $(at + 1)
+}
+# a cell of such a record
+function cell(   r) { r = record(4); return "cell " $next_field " of " r }
+# the array whose original such a cell is
+function array(   r) { r = record(4); return "array " r " " $next_field }
+function show(text) { printf "    %-6s%s\n", is_entered ? running "," $2 : "", text }
+BEGIN {
+    n = split("ARRAYDEC PRINT PRINTROW READ PROCESS AWAIT STATUS WAIT CAUSE DEALLOCATE RESIZE", names, " ")
+    for (i = 1; i <= n; i++) intrinsic[i + 7] = names[i]
+}
+{ sub(/\r$/, "") }
+/^\?IMAGE *$/ { print "plain.sh: this is an image: give it to b67 dump first" > "/dev/stderr"; exit 2 }
+/^TASK [0-9]+\.[0-9]+ (READY|AWAITS|WAITS) / {
+    what = $3 == "READY" ? "ready" : $3 == "AWAITS" ? "awaits the end of task " $2 : "waits at " cell()
+    if ($3 == "AWAITS") sub(/[0-9]+$/, $4, what)
+    print "task " $2 ", " what ", next " $(NF - 1) "@" $NF
+    running = 2
+    next
+}
+/^FRAME [0-9]+ MARKED$/ { is_entered = 0; print "  record " $2 ", marked for a call"; next }
+/^FRAME [0-9]+ LEVEL [0-9]+ ENV / {
+    is_entered = 1
+    running = $4
+    print "  record " $2 ", level " $4 ", static link to " record(6)
+    next
+}
+/^CELL [0-9]+ NUM / { show(whole($4)); next }
+/^CELL [0-9]+ NAME / { show("couple " couple($4)); next }
+/^CELL [0-9]+ REF / { show("reference to " cell()); next }
+/^CELL [0-9]+ ARRAY / { show("array of " $4); next }
+/^CELL [0-9]+ ROW / { show("copy of " array()); next }
+/^CELL [0-9]+ ELEMENT / { what = array(); show("element " $(next_field + 1) " of " what); next }
+/^CELL [0-9]+ PROC / { show("procedure: segment " $4 ($5 == "0:0" ? "" : " at " $5)); next }
+{ print }'

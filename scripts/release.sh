@@ -1,0 +1,87 @@
+#!/usr/bin/env bash
+# Makes one archive of what a class needs: the built program, the page b67.html if there is one, the manual page, decks,
+# documents, scripts, the tracer, and a sum of each file. Nothing in it needs the toolchain. The same tree and program give
+# the same bytes: files are in the order of their names, and their time is the version's date. Needs git and GNU tar.
+#
+#     bash scripts/release.sh PROGRAM FILE.tar.gz [PAGE]
+#
+# PROGRAM is a built program, as crates/b67/out/b67. PAGE is the machine in a page, web/b67.html if it isn't named and is
+# there. Files are those that git knows, as they are now. The version is that of CITATION.cff.
+[ -n "${BASH_VERSION:-}" ] || { echo "usage: bash scripts/release.sh PROGRAM FILE.tar.gz [PAGE]" >&2; exit 2; }
+set -euo pipefail
+usage() {
+    printf '%s\nusage: bash scripts/release.sh PROGRAM FILE.tar.gz [PAGE]\n' "$1" >&2
+    exit 2
+}
+[ $# -ge 2 ] && [ $# -le 3 ] || usage 'a program and a file to write are wanted'
+[ -f "$1" ] && [ -x "$1" ] || usage "$1: not a program that can be run"
+case $2 in -* | */) usage "$2: not a file to write" ;; *.tar.gz) ;; *) usage "$2: doesn't end in .tar.gz" ;; esac
+[ -d "$(dirname "$2")" ] || usage "$2: its folder is missing"
+program=$(cd "$(dirname "$1")" && pwd)/$(basename "$1")
+archive=$(cd "$(dirname "$2")" && pwd)/$(basename "$2")
+top=$(cd "$(dirname "$0")/.." && pwd)
+page=$top/web/b67.html
+if [ $# -eq 3 ]; then
+    [ -f "$3" ] || usage "$3: no such page"
+    page=$(cd "$(dirname "$3")" && pwd)/$(basename "$3")
+fi
+cd "$top"
+git rev-parse -q --verify HEAD >/dev/null 2>&1 || usage "$top: not a repository of git"
+version=$(sed -n 's/^version: //p' CITATION.cff)
+date=$(sed -n 's/^date-released: //p' CITATION.cff)
+room=$(mktemp -d)
+trap 'rm -rf "$room"' EXIT
+name=b67-$version
+out=$room/$name
+mkdir -p "$out/bin" "$out/man/man1"
+
+# put FILE.. : each under the name that it has here
+put() {
+    local file
+    for file in "$@"; do
+        mkdir -p "$out/$(dirname "$file")"
+        cp "$file" "$out/$file"
+    done
+}
+cp "$program" "$out/bin/b67"
+cp docs/b67.1 "$out/man/man1/b67.1"
+[ ! -f "$page" ] || cp "$page" "$out/b67.html"
+mapfile -t files < <(git ls-files README.md CHANGES.md CITATION.cff CONTRIBUTING.md docs bench/README.md web/README.md reference)
+put "${files[@]}"
+# of the scripts those that need only the program, sh, awk and Python; the others work on the repository
+for file in $(git ls-files scripts); do
+    case $file in
+    */check-docs.sh | */check-trace.sh | */before-landing.sh | */release.sh | *.py) ;;
+    *) put "$file" ;;
+    esac
+done
+mkdir -p "$out/decks"
+for file in $(git ls-files crates/b67_rows/data/decks); do
+    under=${file#crates/b67_rows/data/decks/}
+    mkdir -p "$out/decks/$(dirname "$under")"
+    cp "$file" "$out/decks/$under"
+done
+
+{
+    printf 'b67 %s, %s\n\n' "$version" "$date"
+    cat <<'TEXT'
+A stack machine after the Burroughs B6700, proved before it was built.
+
+    PATH=$PWD/bin:$PATH
+    b67 run --core 4096 --backing b < decks/sum/stdin
+
+prints 1.1 5 and 1.1 ENDED. The program needs Linux on x86-64 with the GNU C library; it is built, so skip what the documents
+say of rt. From here: docs/TOUR.md, three lessons with commands; docs/TEACHING.md, six lessons for whoever gives a course;
+man -l man/man1/b67.1, the commands. The scripts need sh and awk, the tracer (reference/trace.py) Python 3.11.
+TEXT
+    [ ! -f "$out/b67.html" ] || echo 'b67.html is the machine in a page: open it in a browser.'
+    printf '\nEach file has its sum in SHA256SUMS: sha256sum -c SHA256SUMS\n'
+} >"$out/START.txt"
+(cd "$out" && find . -type f ! -name SHA256SUMS | LC_ALL=C sort | sed 's:^\./::' | xargs -d '\n' sha256sum >SHA256SUMS)
+find "$out" -type d -exec chmod 755 {} +
+find "$out" -type f -exec chmod 644 {} +
+chmod 755 "$out/bin/b67"
+find "$out" -name '*.sh' -exec chmod 755 {} +
+tar -C "$room" --sort=name --format=ustar --owner=0 --group=0 --numeric-owner --mtime="$date 00:00:00Z" -cf - "$name" |
+    gzip -9n >"$archive"
+printf '%s: %d files, %d bytes\n' "$(basename "$archive")" "$(find "$out" -type f | wc -l)" "$(stat -c %s "$archive")"
