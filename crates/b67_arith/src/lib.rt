@@ -1,6 +1,8 @@
 //! Arithmetic, comparisons and operations on bits, each on words of the stack.
 //!
 //! A word that isn't an operand is INVALID OPERAND, for all words before EXPONENT for an operand that isn't whole.
+//!
+//! Begin with `combine`: each call is its row for all pairs of words.
 #![tactic(auto)]
 
 mod bits;

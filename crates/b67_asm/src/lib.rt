@@ -1,4 +1,6 @@
 //! The assembler: the codefile that cards denote.
+//!
+//! Begin with `assemble`, and with `assembled` of the model, which it answers.
 #![tactic(auto)]
 
 mod assembly;

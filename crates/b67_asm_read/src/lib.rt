@@ -1,4 +1,6 @@
 //! Cards of assembly read: each card's statement, with its numbers.
+//!
+//! Begin with `lines_of`.
 #![tactic(auto)]
 
 mod number;

@@ -1,4 +1,6 @@
 //! Sectors in chains, and the devices that hold them.
+//!
+//! Begin with the trait `Backing` and its clauses, then `Sectors::take` with `row` and `chains`.
 #![tactic(auto)]
 
 mod access;

@@ -1,4 +1,6 @@
 //! Codefiles: programs of segments and data rows, and their bytes.
+//!
+//! Begin with `read`: `found`, `only` and `exact`.
 #![tactic(auto)]
 
 mod converting;

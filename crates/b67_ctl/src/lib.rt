@@ -2,6 +2,8 @@
 //!
 //! `word` gives the word of fields that fit the layout, and `to_word` tests them first. `from_word` tests whether a word
 //! is on the layout: bits that the layout doesn't name are zero. `read` is for a word that is known to be on it.
+//!
+//! Begin with `to_word` (`fits`, `value`) and `from_word` (`some`, `known`) of one word.
 #![tactic(auto)]
 
 mod areas;

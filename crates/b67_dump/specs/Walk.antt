@@ -74,7 +74,7 @@ number_of_place p = p.stack * 2 ^ 16 + p.disp
 abbrev pub place_of_number : ℕ → StackPlace
 place_of_number n = record { stack = n / 2 ^ 16; disp = n % 2 ^ 16 }
 
--- what a word holds, in which places stand for records, and addresses of originals for arrays
+-- what a word holds, in which places represent records, and addresses of originals for arrays
 abbrev pub word_text : Sight → JobRow → ℕ → Word → List ℕ
 word_text k row job (Operand bits) = beside (codes "NUM") (hex_number 12 bits)
 word_text k row job (Name couple) = beside (codes "NAME") (hex_number 4 couple)

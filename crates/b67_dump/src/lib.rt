@@ -1,4 +1,6 @@
 //! The dump of a machine: the activation records of its live tasks, as text for people.
+//!
+//! Begin with `analyse`: `whole`, `part`, `cause`.
 #![tactic(auto)]
 
 mod landmarks;

@@ -1,4 +1,4 @@
--- The machine with the caller's registers stands for the session without the top frame.
+-- The machine with the caller's registers represents the session without the top frame.
 use Rattle.std.proofs.Common.{◌≡◌, ◌≢◌, ℕ, ◌+◌, ◌≤◌, List, [], ◌∷◌, map, None, refl, sym, ◌∙◌, ap, arith, inl, subst}
 use Rattle.b67_word.specs.declared.couples.Place.{Place}
 use Rattle.b67_ctl.specs.declared.registers.Regs.{Regs}

@@ -98,7 +98,7 @@ module _ (x : Storage) (old : Cpu) (plan : Placement) (s : Session) (m : Session
   abbrev pub new_shape : Word → Shape
   new_shape v = shape plan m.constants.number m.progress.job (spot_in plan.running (outer x old plan s m t o h runs a) (a.next ∷ a.more)) v
 
-  -- a word that may be put there, and the word of core that stands for it
+  -- a word that may be put there, and the word of core that represents it
   pub record Puts (v : Word) (w : Tagged) : Type 0 where
     pub fits : (i : ℕ) → Fits x.held (new_shape v) i w
     pub may : MayPush (machine_view plan s.jobs).objects (new_shape v)

@@ -1,4 +1,4 @@
--- RETN: what its tests have told, step by step, of whichever session the machine stands for.
+-- RETN: what its tests have told, step by step, of whichever session the machine represents.
 use Rattle.std.proofs.Common.{◌≡◌, ◌≢◌, ◌+◌, ◌∷◌, List, Bool, true, false, not, Option, Some, None, Ok, Err, sym, ◌∙◌, ap, subst}
 use Rattle.std.specs.List.{slice_get}
 use Rattle.std.proofs.lemmas.Bool.{not-false, not-true}

@@ -1,4 +1,4 @@
--- The top record is left, and a word is put on the stack below: what core and registers stand for.
+-- The top record is left, and a word is put on the stack below: what core and registers represent.
 use Rattle.std.proofs.Common.{◌≡◌, ◌≢◌, ℕ, suc, ◌+◌, ◌<◌, ◌≤◌, List, ◌∷◌, length, Some, sym, ◌∙◌, ap, arith, ⊎_elim, slice_set, subst}
 use Rattle.std.proofs.Math.ListN.{length-set}
 use Rattle.b67_word.specs.Tagged.{Tagged}

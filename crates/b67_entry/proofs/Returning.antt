@@ -1,4 +1,4 @@
--- The frame is left and a word is put on the caller's: the machine stands for the session afterwards.
+-- The frame is left and a word is put on the caller's: the machine represents the session afterwards.
 use Rattle.std.proofs.Common.{◌≡◌, ◌≢◌, ℕ, List, ◌∷◌, map, Ok, refl, sym, ◌∙◌, ap, Bool, true, false, not, inl, inr, subst}
 use Rattle.std.specs.Prelude.{◌==◌}
 use Rattle.std.proofs.lemmas.Bool.{true≢false}

@@ -20,7 +20,7 @@ pub record CanEnter (cpu : Cpu) (r : Regs) (a : RunningContext cpu.core r) (q : 
   pub clear : r.s + 2 ≤ r.losr → (t : PagedObject) → Has (a.left ++ (machine_view a.plan a.session.jobs).objects) t → (t.home ≢ r.s + 1) × (t.home ≢ r.s + 2)
   pub procedure : IsProcAt a q at f segment level place
 
--- the record was entered: the machine stands for what the row makes, but for what was left to release, and the two words
+-- the record was entered: the machine represents what the row makes, but for what was left to release, and the two words
 -- over the top alone have changed
 pub record RecordEntered {core : List Tagged} {r : Regs} (a : RunningContext core r) (new : Cpu) (answer : Answer Done) : Type 0 where
   pub job : Job
@@ -37,7 +37,7 @@ EntersOrFaults a step.Done old new answer = RecordEntered a new answer
 EntersOrFaults a (step.Fault fault) old new answer = (answer ≡ Err fault) × (new ≡ old)
 EntersOrFaults a _ old new answer = ⊥
 
--- the machine stands for a session in order, and at an address is a procedure's cell that the running task can reach
+-- the machine represents a session in order, and at an address is a procedure's cell that the running task can reach
 pub record ReachesProc (cpu : Cpu) (a : RunningContext cpu.core cpu.regs) (q : Place) (at f segment level : ℕ) (place : Place) : Type 0 where
   pub ordered : IsInOrderButCounts a.session
   pub stands : RepresentsSession a.storage cpu a.plan a.session

@@ -8,7 +8,7 @@ use Rattle.b67_stack.specs.Shapes.{Fits}
 use Rattle.b67_stack.specs.Represents.{Storage}
 use Rattle.b67_layout.specs.Common.{Placement, spot_in, outer_spots, shape}
 
--- the top word of the running task's stack, and what it stands for in the top frame
+-- the top word of the running task's stack, and what it represents in the top frame
 pub record IsTopWord (x : Storage) (plan : Placement) (m : SessionJob) (t : Task) (cpu : Cpu) (v : Word) (w : Tagged) : Type 0 where
   pub frame : Frame
   pub below : List Frame

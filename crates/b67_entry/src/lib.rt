@@ -1,4 +1,6 @@
 //! Activation records: marked, entered through a reference or in place, and left by EXIT and RETN, with the words that may not be returned.
+//!
+//! Begin with `exit` and `retn`, each with the clause `row`.
 #![tactic(auto)]
 
 mod enter;

@@ -1,4 +1,6 @@
 //! The operator at the running place.
+//!
+//! Begin with `operate`: `row` is the rule of each operator, for every session that the machine represents.
 #![tactic(auto)]
 
 mod assigning;

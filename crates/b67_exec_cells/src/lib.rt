@@ -1,4 +1,6 @@
 //! What an operator reads and writes: the cells on top, the elements of arrays, the code at the running place; and the operators on the top cells alone.
+//!
+//! Begin with `top_cell` (`cell`) and `replace_cells` (`row`).
 #![tactic(auto)]
 
 mod branches;

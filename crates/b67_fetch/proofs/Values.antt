@@ -30,7 +30,7 @@ use Rattle.b67_exec_cells.specs.Elements.{HasElement, HoldsElement}
 use Rattle.b67_exec_cells.proofs.Put.{fitting}
 use Rattle.b67_fetch.specs.Fetches.{IsFollowed, IsEnd, SomeEnd, FindsEnd, value_at_end, is_procedure_end, enters_at, EntersOrMeets, top_end}
 
--- the scene of a machine that stands for a session
+-- the scene of a machine that represents a session
 module _ (x : Storage) (cpu : Cpu) (plan : Placement) (s : Session) (m : SessionJob) (t : Task) (ordered : IsInOrderButCounts s) (h : RepresentsSession x cpu plan s) (runs : IsRunning plan s.jobs m t) where
   abbrev pub here_scene : RunningContext cpu.core cpu.regs
   here_scene = scene [] x cpu.core cpu.regs cpu.critical plan s m t ordered h.holds runs

@@ -1,4 +1,6 @@
 //! References: LOAD and VALC, INDX and NXLV, STFF, STOD and STON.
+//!
+//! Begin with `valc`, whose clause `row` is the rule of VALC.
 #![tactic(auto)]
 
 mod indexing;

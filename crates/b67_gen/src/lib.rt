@@ -1,4 +1,6 @@
 //! The deck of an exercise, drawn from a seed.
+//!
+//! Begin with `deck_of`, then the law `texts_have_decks`.
 #![tactic(auto)]
 
 mod deck;

@@ -1,4 +1,4 @@
--- What the display is told by, once all other items hold: the machine then stands for what it shows but for its display, so the
+-- What the display is told by, once all other items hold: the machine then represents what it shows but for its display, so the
 -- running task's display can be made again and compared.
 use Rattle.std.proofs.Common.{◌≡◌, ◌≢◌, ℕ, ◌-◌, List, [], Option, Some, None, refl, sym, ◌∙◌, ap, subst, arith}
 use Rattle.std.specs.List.{slice_get}

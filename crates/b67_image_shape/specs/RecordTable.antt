@@ -8,7 +8,7 @@ use Rattle.b67_layout_shown.specs.Reading.{word_seen_at}
 use Rattle.b67_layout_shown.specs.Shown.{Sight, top_in, stack_of_row}
 use Rattle.b67_image_shape.specs.Items.{base_at}
 
--- what stands for a record: twice the displacement of its mark, and one more where it is entered
+-- what represents a record: twice the displacement of its mark, and one more where it is entered
 abbrev pub record_code : ℕ → Head → ℕ
 record_code d Marked = d * 2
 record_code d (Entered level environment back) = d * 2 + 1

@@ -37,7 +37,7 @@ fn fill_range(records: &mut [u16], from: u64, many: u64, value: u16)
     }
 }
 
-/// What stands for the record of the mark at f, by its word.
+/// What represents the record of the mark at f, by its word.
 fn code_by(base: u64, f: u64, w: Word) -> u16
     ensures { result ≡ code_by base f w }
 {

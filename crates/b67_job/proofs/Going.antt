@@ -46,7 +46,7 @@ use Rattle.b67_model.specs.declared.limits.TheConstants.{MOST_MADE}
 
 -- ---- the machine of an image
 
--- it stands for some session, with nothing known of the device
+-- it represents some session, with nothing known of the device
 pub image_stands : (p : ImageParts) (image : Machine) → ShowsParts p image → (s : Session) × StandsAt None image s
 image_stands p image shows = let r = shows.stands in (r.session, record { storage = r.storage; plan = r.plan; ordered = r.ordered; stands = r.stands })
 
@@ -64,7 +64,7 @@ module _ {K B : Type 0} (taken : K → Option (List ℕ)) (failures : K → ℕ)
   abbrev Ran : Option (List (List ℕ)) → Session → Type 0
   Ran told s = SessionRan taken failures closings.Plain (content_after told (holds b')) (told ≢ None) (Rose broken b b') (size b) MOST_MADE s image k old new answer
 
-  -- from a session that it stands for
+  -- from a session that it represents
   from_session : (told : Option (List (List ℕ))) (s : Session) → StandsAt told image s → Ran told s
       → (steps : ℕ) × StepsFrom (knowing told device) steps s image k × PlainEnd taken failures old new answer (knowing told device) (length image.cpu.core) steps (run_from s) k
   from_session told s stands r =

@@ -61,7 +61,7 @@ says_after None now = tt
 says_after (Some all) None = tt
 says_after (Some all) (Some other) = refl
 
--- the machine that opens stands for the deck's session
+-- the machine that opens represents the deck's session
 pub stands_opened : (d : Deck) (fs : List Codefile) (told : Option (List (List ℕ))) (core sectors : ℕ) (k : Machine) → DeckInRange d → AllByRecursion IsLoaded fs → OpensAs told d (map program_of fs) core sectors k
     → StandsAt told k (session_of d (map program_of fs))
 stands_opened d fs told core sectors k range loaded o = record {
@@ -71,7 +71,7 @@ stands_opened d fs told core sectors k range loaded o = record {
   stands = o.stands;
 }
 
--- a slice may be called on a machine that stands for a session
+-- a slice may be called on a machine that represents a session
 pub stage_of : (said told : Option (List (List ℕ))) (k : Machine) (s : Session) → Says said told → StandsAt said k s → LivesOn told k ⊎ (StandsLimited told k ⊎ HasNoTasks told k)
 stage_of said told k s says stands = by k.tasks.rows.items refl
   where

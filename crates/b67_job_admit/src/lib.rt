@@ -1,4 +1,6 @@
 //! From the bytes of a deck to admitted programs, and what asm, bind, check and convert print of a text.
+//!
+//! Begin with `admit`, whose clause `answer` names the first refusal of all.
 #![tactic(auto)]
 
 mod admission;

@@ -1,4 +1,6 @@
 //! What is assembled is what the machine reads.
+//!
+//! Begin with `operators_are_read`.
 #![tactic(auto)]
 
 ghost use Rattle.b67_law_listing.specs.Operators.{OperatorsAreRead};

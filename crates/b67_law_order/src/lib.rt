@@ -1,4 +1,6 @@
 //! States in order: every row, every whole step and every run keeps them, and so the opening of an admitted deck is in order with all that follows.
+//!
+//! Begin with `runs_stay_in_order`.
 #![tactic(auto)]
 
 mod couples_end;

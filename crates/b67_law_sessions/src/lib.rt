@@ -1,4 +1,6 @@
 //! Laws of runs: who made each word, where INVALID OPERATOR occurs, jobs apart, chains followed to their ends, and the choice of a turn.
+//!
+//! Begin with `jobs_print_apart` and `runs_make_their_words`.
 #![tactic(auto)]
 
 mod apart;

@@ -1,4 +1,4 @@
--- What the machine stands for doesn't depend on what the running task waits for.
+-- What the machine represents doesn't depend on what the running task waits for.
 use Rattle.std.proofs.Common.{◌≡◌, ℕ, List, refl, sym, ◌∙◌, ap, subst, true, false, ◌==◌, ⊎_elim}
 use Rattle.std.proofs.lemmas.Bool.{cases_Bool, eqb-true}
 use Rattle.b67_model.specs.Keyed.{change_keyed}

@@ -24,7 +24,7 @@ pub record SameObjects (old new : List PagedObject) : Type 0 where
 abbrev pub of_objects : MachineView → List PagedObject → MachineView
 of_objects p objects = record { stacks = p.stacks; size = p.size; peak = p.peak; slots = p.slots; objects = objects }
 
--- a machine stands for a view whatever the order of its objects
+-- a machine represents a view whatever the order of its objects
 module _ (x : Storage) (core : List Tagged) (r : Regs) (p : MachineView) (new : List PagedObject) (same : SameObjects p.objects new) where
   fits : (k : ℕ) (s : Slot) → SlotFits p k s → SlotFits (of_objects p new) k s
   fits k Free f = f

@@ -1,4 +1,4 @@
--- A task is replaced by one of whose frames others see the same: what the machine stands for beside the view.
+-- A task is replaced by one of whose frames others see the same: what the machine represents beside the view.
 use Rattle.std.proofs.Common.{◌≡◌, ℕ, ◌+◌, ◌<◌, ◌≤◌, List, [], ◌∷◌, length, Some, refl, sym, ◌∙◌, ap, arith, Bool, true, false, ◌==◌, ⊎_elim, inl, inr, ◌⊎◌, subst, zero, suc}
 use Rattle.std.specs.Prelude.{if◌then◌else◌, ◌||◌}
 use Rattle.std.specs.List.{slice_get, list_any}
@@ -94,7 +94,7 @@ running_only plan jobs m y t u P fit a b h =
     let Q : Task → Type 0 = λ v. P y v in let R : SessionJob → Type 0 = λ z. P z t in
     subst Q (sym eu) (subst R (sym ey) h)
 
--- a task is replaced: what else the machine stands for stays
+-- a task is replaced: what else the machine represents stays
 module _ (before left : List PagedObject) (x : Storage) (core new : List Tagged) (r r' : Regs) (marks : List ℕ) (plan : Placement) (s : Session) (m : SessionJob) (c : JobProgress) (t t' : Task)
     (h : SessionHoldsBut before x core r marks plan s) (runs : IsRunning plan s.jobs m t) (by : Replaces m.progress.job c.job t t') where
   abbrev pub moved : SessionJob

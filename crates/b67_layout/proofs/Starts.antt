@@ -1,4 +1,4 @@
--- A machine that stands for a session with a running task meets what push, pop, mark and cut ask for.
+-- A machine that represents a session with a running task meets what push, pop, mark and cut ask for.
 use Rattle.std.proofs.Common.{◌≡◌, ℕ, sym, ◌∙◌, subst}
 use Rattle.b67_model.specs.Common.{Task, SessionJob, number_of, Session}
 use Rattle.b67_stack.specs.declared.Cpu.{Cpu}

@@ -62,7 +62,7 @@ IsTouched x plan m (Some a) i =
 abbrev pub MayChange : Storage → Placement → SessionJob → Regs → Option ℕ → ℕ → Type 0
 MayChange x plan m r touched i = IsInStack r i ⊎ (IsLiveCell plan m i ⊎ IsTouched x plan m touched i)
 
--- the operator was made: what it touches is present, the machine stands for what its row makes, and only words that it
+-- the operator was made: what it touches is present, the machine represents what its row makes, and only words that it
 -- may change have changed. Where a frame was left, its arrays are still to be released
 pub record IsMade (x : Storage) (plan : Placement) (s : Session) (m : SessionJob) (old new : Cpu) (answer : Answer Done) : Type 0 where
   pub job : Job
@@ -88,7 +88,7 @@ Meets x plan s m (step.Call n) old new answer = ⊥
 Meets x plan s m (step.Fault fault) old new answer = (answer ≡ Err fault) × (new ≡ old)
 Meets x plan s m step.Ended old new answer = (answer ≡ Ok Leaves) × (new ≡ old)
 
--- the machine stands for some session in order but for places, and a task of it runs
+-- the machine represents some session in order but for places, and a task of it runs
 pub record RunsSome (cpu : Cpu) : Type 0 where
   pub storage : Storage
   pub plan : Placement
@@ -99,7 +99,7 @@ pub record RunsSome (cpu : Cpu) : Type 0 where
   pub stands : RepresentsSession storage cpu plan session
   pub running : IsRunning plan session.jobs member task
 
--- for each session in order that the machine stands for, with its running task
+-- for each session in order that the machine represents, with its running task
 abbrev pub ForEach : Cpu → (Storage → Placement → Session → SessionJob → Task → Type 0) → Type 0
 ForEach cpu P =
     (x : Storage) (plan : Placement) (s : Session) (m : SessionJob) (t : Task) → IsInOrderButCounts s → RepresentsSession x cpu plan s

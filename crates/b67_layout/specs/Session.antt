@@ -1,4 +1,4 @@
--- When a machine stands for a session's state.
+-- When a machine represents a session's state.
 use Rattle.std.specs.Prelude.{◌≡◌, ◌≢◌, ℕ, ◌+◌, ◌*◌, ◌^◌, ◌<◌, ◌≤◌, List, [], ◌∷◌, ◌++◌, length, Option, Some, None, slice_get, if◌then◌else◌}
 use Rattle.b67_word.specs.Tagged.{Tagged, word}
 use Rattle.b67_ctl.specs.declared.vector.TheConstants.{FIRST_TASK}
@@ -117,12 +117,12 @@ pub record SessionHoldsBut (left : List PagedObject) (x : Storage) (core : List 
 abbrev pub SessionHolds : Storage → List Tagged → Regs → List ℕ → Placement → Session → Type 0
 SessionHolds = SessionHoldsBut []
 
--- the machine stands for the session, but for what is left to release
+-- the machine represents the session, but for what is left to release
 pub record RepresentsSessionBut (left : List PagedObject) (x : Storage) (cpu : Cpu) (plan : Placement) (s : Session) : Type 0 where
   pub holds : SessionHoldsBut left x cpu.core cpu.regs cpu.critical plan s
   pub shows : (m : SessionJob) (t : Task) → IsRunning plan s.jobs m t → ShowsDisplay cpu.display plan m t
 
--- the machine stands for the session
+-- the machine represents the session
 abbrev pub RepresentsSession : Storage → Cpu → Placement → Session → Type 0
 RepresentsSession = RepresentsSessionBut []
 
@@ -134,7 +134,7 @@ pub record RepresentsStorage (areas : Areas) (table : Table) (told : Option (Lis
   pub shelf : IsShelf table x.shelf
   pub device : told ≡ x.device
 
--- the machine stands for some session of an order, whatever its sectors hold
+-- the machine represents some session of an order, whatever its sectors hold
 pub record RepresentsSome (IsInOrder : Session → Type 0) (cpu : Cpu) : Type 0 where
   pub storage : Storage
   pub plan : Placement

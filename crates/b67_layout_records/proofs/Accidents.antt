@@ -1,4 +1,4 @@
--- A frame without cells is entered at once on the running task's stack: what core and registers stand for then.
+-- A frame without cells is entered at once on the running task's stack: what core and registers represent then.
 use Rattle.std.proofs.Common.{◌≡◌, ◌≢◌, ℕ, ◌+◌, ◌≤◌, ◌-◌, List, [], ◌∷◌, Some, refl, ◌∙◌, ap, arith, Bool, slice_set, subst}
 use Rattle.std.specs.Prelude.{if◌then◌else◌}
 use Rattle.b67_word.specs.Tagged.{Tagged}

@@ -1,4 +1,4 @@
--- The running task's marked top frame is entered: what core and registers stand for then, and what it needs for it.
+-- The running task's marked top frame is entered: what core and registers represent then, and what it needs for it.
 use Rattle.std.proofs.Common.{◌≡◌, ◌≢◌, ℕ, ◌+◌, ◌≤◌, List, [], ◌∷◌, ◌++◌, map, Some, refl, sym, ◌∙◌, ap, arith, ⊎_elim, slice_set, subst, length-append, ◌==◌}
 use Rattle.std.proofs.lemmas.Bool.{cases_Bool}
 use Rattle.std.proofs.lemmas.List.{map-append}

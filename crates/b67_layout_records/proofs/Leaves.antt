@@ -1,4 +1,4 @@
--- The running task leaves its top frame: the machine stands for the session afterwards, where the memory does.
+-- The running task leaves its top frame: the machine represents the session afterwards, where the memory does.
 use Rattle.std.proofs.Common.{◌≡◌, ◌≢◌, ℕ, ◌<◌, ◌≤◌, List, [], ◌∷◌, map, refl, sym, ◌∙◌, ap, arith, Bool, false, inl, inr, subst}
 use Rattle.std.specs.Prelude.{if◌then◌else◌}
 use Rattle.std.specs.List.{slice_get}

@@ -1,4 +1,4 @@
--- A mark more on the running task's stack: the machine stands for the session with it, the display as it was.
+-- A mark more on the running task's stack: the machine represents the session with it, the display as it was.
 use Rattle.std.proofs.Common.{◌≡◌, ℕ, ◌+◌, ◌<◌, List, [], ◌∷◌, Some, refl, sym, ◌∙◌, ap, arith, subst, unwrap_or}
 use Rattle.std.specs.List.{slice_get}
 use Rattle.std.proofs.lemmas.Bool.{ne_eqb}

@@ -80,7 +80,7 @@ module _ (plan : Placement) (jobs : List SessionJob) (m : SessionJob) (c : JobPr
       (λ (e : i ≡ k → ⊥). slot-there i e ∙ sym (slot-other (machine_view plan jobs) k (Running (stack_of_task plan m.constants.number c.job k t')) i e))
       (cases_eq i k)
 
-  -- the machine stands for the view afterwards, where the arrays of an owner are gone and their objects are left
+  -- the machine represents the view afterwards, where the arrays of an owner are gone and their objects are left
   pub memory-after : (x : Storage) (core : List Tagged) (r : Regs) (owner bound : ℕ) → Falls bound (map (λ (a : Array). a.identity) m.progress.job.arrays) → c.job.arrays ≡ others owner m.progress.job.arrays
       → Represents x core r (with_stack (machine_view plan jobs) k (stack_of_task plan m.constants.number c.job k t'))
       → Represents x core r (with_objects (objects_gone plan m c.job) (machine_view plan (with_course jobs m.constants.number c)))

@@ -11,7 +11,7 @@ use Rattle.b67_overlay.specs.AreasEvicted.{IsShortBy}
 use Rattle.b67_layout.specs.Placement.{Placement}
 use Rattle.b67_layout.specs.Layout.{machine_view}
 
--- over a machine that stands for a session, and a device of so many sectors: where a present array keeps no chain and needs
+-- over a machine that represents a session, and a device of so many sectors: where a present array keeps no chain and needs
 -- more sectors than are free, the session takes more sectors than there are
 abbrev pub ShortIsFull : Type 0
 ShortIsFull =

@@ -236,7 +236,7 @@ settled_renumbered p home ns s t int k used low up =
     let (u, inu, e) = renumbered_from home ns p.objects t int in
     subst (λ (a : ℕ). a ≤ slot_base p k + stack_words (stack_of (p.slots k))) (sym e) (s u inu k used (subst (λ (a : ℕ). slot_base p k ≤ a) e low) (subst (λ (a : ℕ). a < slot_base p k + p.size) e up))
 
--- the session that the machine then stands for
+-- the session that the machine then represents
 abbrev pub session_renumbered : Placement → ℕ → List ℕ → Session → Session
 session_renumbered plan home ns s = record s { jobs = map (member_with plan home ns) s.jobs }
 

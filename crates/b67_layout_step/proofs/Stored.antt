@@ -1,4 +1,4 @@
--- A number stored into a cell that the running task names: the machine stands for the session with that cell changed.
+-- A number stored into a cell that the running task names: the machine represents the session with that cell changed.
 use Rattle.std.proofs.Common.{◌≡◌, ◌≢◌, ℕ, suc, ◌+◌, ◌-◌, ◌*◌, ◌<◌, ◌≤◌, List, [], ◌∷◌, flat_map, length, Some, unwrap_or, refl, sym, ◌∙◌, ap, arith, Bool, true, false, ◌==◌, ⊎_elim, inl, inr, subst, slice_set}
 use Rattle.std.specs.Prelude.{if◌then◌else◌}
 use Rattle.std.specs.List.{slice_get}

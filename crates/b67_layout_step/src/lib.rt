@@ -1,4 +1,6 @@
 //! The session that stands after a step or a store: lemmas, and two laws on the arrays that rows keep and touch.
+//!
+//! Begin with the law `steps_touch_arrays`.
 #![tactic(auto)]
 
 ghost use Rattle.b67_layout_step.specs.Keeping.{RowsKeepArrays, StepsTouchArrays};

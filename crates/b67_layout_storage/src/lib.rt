@@ -1,3 +1,5 @@
 //! A machine with its areas, sectors and device, as the storage of a view; and what stands where one array, data row or
 //! segment is held otherwise: definitions and lemmas.
+//!
+//! Begin with the definition `MachineRepresentsView` (`specs/Machine`).
 #![tactic(auto)]

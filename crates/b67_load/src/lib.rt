@@ -1,4 +1,6 @@
 //! Installing admitted programs: their dictionaries in core, their code and data rows in sectors.
+//!
+//! Begin with `install`: `installed`, `spares`, `refusal`.
 #![tactic(auto)]
 
 mod installing;

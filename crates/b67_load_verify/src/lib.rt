@@ -1,4 +1,6 @@
 //! Admitting programs: the eleven rules of the loader.
+//!
+//! Begin with `verify`: `exact`, `least`, `kept`.
 #![tactic(auto)]
 
 mod admission;

@@ -30,6 +30,6 @@ module _ (plan : Placement) (s : Session) (m : SessionJob) (t : Task) (o : IsInO
       (jobs_kept plan m.constants.number m (record m.progress { job = job_cut m t q }) s.jobs (map job_row tasks.jobs) runs.member
       (λ row w. record { dictionary = w.dictionary; segments = w.segments; rows = w.rows; limit = w.limit; made = w.made; next_task = w.next_task; numbers = w.numbers }) h.jobs)
 
--- the storage stands for another core of the same size
+-- the storage represents another core of the same size
 pub storage_same : (x : Storage) (told : Option (List (List ℕ))) (k : Machine) (core : List Tagged) → core ≡ k.cpu.core → RepresentsStorage k.areas k.sectors told k.cpu.core x → RepresentsStorage k.areas k.sectors told core x
 storage_same x told k core e h = subst (λ (c : List Tagged). RepresentsStorage k.areas k.sectors told c x) (sym e) h

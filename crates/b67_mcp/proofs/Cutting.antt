@@ -1,4 +1,4 @@
--- A call whose array was changed first: its machine stands for the session with that array, and then for what its row makes.
+-- A call whose array was changed first: its machine represents the session with that array, and then for what its row makes.
 use Rattle.std.proofs.Common.{◌≡◌, ℕ, zero, suc, ◌^◌, ◌<◌, ◌-◌, List, [], ◌∷◌, ◌++◌, length, take, replicate, Option, refl, subst}
 use Rattle.std.specs.List.{AllByRecursion}
 use Rattle.b67_word.specs.declared.couples.Place.{Place}

@@ -238,7 +238,7 @@ module _ (x : Storage) (told : Option (List (List ℕ))) (k : Machine) (plan : P
           subst S (sym is) (record { storage = y; stands = left y others view; others = others.others; tables = refl })
       set_refused before (space.NoCore need core) stop e up size l is writable = absurd is
 
-      -- the machine stands for some session then
+      -- the machine represents some session then
       pub stands_after : (fault : SpaceFault) → LengthenMeets x (machine_view plan s.jobs) (array_object plan m.constants.number a) words (Err fault) cpu areas table now → StandsOrdered (record { cpu = cpu; areas = areas; sectors = table; tasks = k.tasks })
       stands_after (space.BackingFull wants free) (y, others, view, lacking, room) =
           record { storage = y; told = content_after told now; plan = plan; session = s; ordered = o; stands = left y others view }

@@ -1,4 +1,4 @@
--- The machine stands for the session of which an array has other numbers, and for the same session with pages moved.
+-- The machine represents the session of which an array has other numbers, and for the same session with pages moved.
 use Rattle.std.proofs.Common.{◌≡◌, ℕ, ◌<◌, ◌^◌, List, [], ◌∷◌, map, flat_map, length, Option, Some, None, refl, sym, ◌∙◌, ap, arith, inl, inr, subst, ⊎_elim}
 use Rattle.std.proofs.lemmas.Bool.Decides.{eqb_tells}
 use Rattle.std.proofs.lemmas.Option.{same_Some}

@@ -39,7 +39,7 @@ unkept_kind y t kind.Array first c e = refl
 unkept_kind y t kind.Row first c e = absurd (omega (arith, c.chain.some, e))
 unkept_kind y t kind.Code first c e = absurd (omega (arith, c.chain.some, e))
 
--- a machine that is short of sectors for such an array stands for a session that takes more than the device has
+-- a machine that is short of sectors for such an array represents a session that takes more than the device has
 short_of : (y : Storage) (told : Option (List (List ℕ))) (k : Machine) (plan : Placement) (s : Session) (wants free count : ℕ) → MachineRepresents y told k plan s → IsShortOf y plan s.jobs wants free → count + 1 ≡ length k.sectors.links → count < sectors s.jobs
 short_of y told k plan s wants free count h w links =
     let object : PagedObject = array_object plan w.member.constants.number w.array in
@@ -81,7 +81,7 @@ module _ (x : Storage) (told : Option (List (List ℕ))) (k : Machine) (plan : P
       ∙ ap (λ (n : ℕ). need_with s m t n (touched_words m.progress.job touched)) one
       ∙ ap (λ (q : Option ℕ). need_with s m t 1 (touched_words m.progress.job q)) none
 
-  -- the machine stands for some session where the task wasn't started
+  -- the machine represents some session where the task wasn't started
   pub process_stands : (next : Place) (arguments : List Word) (after : Option (List (List ℕ))) (new : Machine) (fault : SpaceFault) → ProcessMeets after plan s m t next arguments (Err fault) k new → StandsOrdered new
   process_stands next arguments after new (space.NoCore words size) g = subst StandsOrdered (sym g.1) (record { storage = x; told = told; plan = plan; session = s; ordered = o; stands = h })
   process_stands next arguments after new (space.BackingFull wants free) g = record { storage = g.stopped.storage; told = after; plan = plan; session = s; ordered = o; stands = g.stopped.stands }

@@ -82,7 +82,7 @@ module _ (m : SessionJob) (t : Task) (n : ℕ) (k : Calling m t n) (apart : IsAp
 pub never_starts : (m : SessionJob) (t : Task) → started_by m.progress.job (step m.constants m.progress.job t) ≡ 0 → StartsTask m t → ⊥
 never_starts m t none a = let one = ap (started_by m.progress.job) a.is in omega (arith, none, one, a.more)
 
--- the machine stands for the session whose peak counts the tasks
+-- the machine represents the session whose peak counts the tasks
 pub stands_peak : (x : Storage) (told : Option (List (List ℕ))) (k : Machine) (plan : Placement) (s : Session) (m : SessionJob) (job : Job) → live_tasks s.jobs ≤ s.peak → length job.tasks ≡ length m.progress.job.tasks
     → MachineRepresents x told k plan (with_job s m job) → MachineRepresents x told k plan (session_moved s m job (length job.tasks - length m.progress.job.tasks))
 stands_peak x told k plan s m job low same h =

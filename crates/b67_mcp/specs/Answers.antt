@@ -18,7 +18,7 @@ use Rattle.b67_mcp.specs.declared.ends.CallEnd.TheVariants as ends
 use Rattle.b67_mcp.specs.declared.ends.Stop.{Stop}
 use Rattle.b67_mcp.specs.declared.ends.Stop.TheVariants as stops
 
--- the call was made, and the machine stands for what its row makes; how much of the next text is printed stays
+-- the call was made, and the machine represents what its row makes; how much of the next text is printed stays
 pub record IsAnswered (told : Option (List (List ℕ))) (s : Session) (m : SessionJob) (t : Task) (old new : Machine) : Type 0 where
   pub job : Job
   pub is : step m.constants m.progress.job t ≡ Ok (Goes job [] None)

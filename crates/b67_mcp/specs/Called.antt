@@ -49,7 +49,7 @@ printed_after [] before = before
 printed_after (line ∷ more) before = 0
 
 -- the call was made and the rest of its text was taken, of which so many first bytes were printed before, and the machine
--- stands for what its row makes. A new array has its home in the plan, and a task that is started counts for the peak
+-- represents what its row makes. A new array has its home in the plan, and a task that is started counts for the peak
 pub record IsCalled {K : Type 0} (taken : K → Option (List ℕ)) (paper paper' : K) (told : Option (List (List ℕ))) (s : Session) (m : SessionJob) (t : Task) (before : ℕ) (new : Machine) : Type 0 where
   pub job : Job
   pub printed : List Line
@@ -117,7 +117,7 @@ CallWrites x plan m t (Err (stops.BackingFull sum size)) = MayWrite x plan m t
 CallWrites x plan m t (Err stops.BackingFault) = MayWrite x plan m t
 CallWrites x plan m t answered = ⊥
 
--- The call was to make an array longer, and isn't made: the machine stands for the same session. The array may be absent now,
+-- The call was to make an array longer, and isn't made: the machine represents the same session. The array may be absent now,
 -- and everything else is held as it was
 pub record IsRefused (x : Storage) (told : Option (List (List ℕ))) (plan : Placement) (s : Session) (m : SessionJob) (t : Task) (old new : Machine) : Type 0 where
   pub longer : Lengthens m t
@@ -140,7 +140,7 @@ pub record IsFull (x : Storage) (told : Option (List (List ℕ))) (count : ℕ) 
   pub size_is : size ≡ count
   pub exceeds : count < sum
 
--- The call was to start a task, and doesn't: the machine stands for the same session. Areas may have been evicted
+-- The call was to start a task, and doesn't: the machine represents the same session. Areas may have been evicted
 pub record IsUnstarted (told : Option (List (List ℕ))) (plan : Placement) (s : Session) (m : SessionJob) (t : Task) (old new : Machine) : Type 0 where
   pub starts : StartsTask m t
   pub storage : Storage
@@ -186,7 +186,7 @@ CallFits core s m t (Err (stops.BackingFull sum size)) = StartsTask m t → need
 CallFits core s m t (Err stops.BackingFault) = StartsTask m t → need core s m t ≤ core
 CallFits core s m t answered = Unit {0}
 
--- the machine stands for some session in order, whose running task's operator calls this intrinsic
+-- the machine represents some session in order, whose running task's operator calls this intrinsic
 pub record CallsSome (k : Machine) (n : ℕ) : Type 0 where
   pub runs : RunsTask k
   pub code : code_area runs.storage runs.plan runs.member runs.task ≢ None

@@ -18,7 +18,7 @@ use Rattle.b67_mcp.specs.declared.ends.CallEnd.TheVariants as ends
 use Rattle.b67_mcp.specs.declared.ends.Stop.{Stop}
 use Rattle.b67_mcp.specs.declared.ends.Stop.TheVariants as stops
 
--- the machine stands for a session in order, of which a task runs; a writable array of its job is present, with so many words,
+-- the machine represents a session in order, of which a task runs; a writable array of its job is present, with so many words,
 -- and its original has this address
 pub record HasArray (k : Machine) (original words : ℕ) : Type 0 where
   pub runs : RunsTask k
@@ -35,7 +35,7 @@ ForArrays k original words P =
     ForEachRun k (λ x told plan s m t. (a : Array) → Has m.progress.job.arrays a → original ≡ plan.home m.constants.number a.identity → a.writable ≡ true → length a.numbers ≡ words
     → area_held x plan m.constants.number a.identity ≢ None → P x told plan s m a)
 
--- so many sectors are those of each session in order that the machine stands for, where an array of so many words gets so many
+-- so many sectors are those of each session in order that the machine represents, where an array of so many words gets so many
 abbrev pub SumsTo : Machine → ℕ → ℕ → ℕ → Type 0
 SumsTo k before after sum =
     (x : Storage) (told : Option (List (List ℕ))) (plan : Placement) (s : Session) → IsInOrderButCounts s → MachineRepresents x told k plan s
@@ -51,7 +51,7 @@ StopsAt k before after (space.NoCore words size) stop = ⊥
 abbrev pub session_resized : Session → SessionJob → Array → ℕ → Session
 session_resized s m a words = with_job s m (with_array m.progress.job a.identity (resized words))
 
--- the machine stands for this session, and everything but the array is held as it was
+-- the machine represents this session, and everything but the array is held as it was
 pub record StaysButArray (x : Storage) (told : Option (List (List ℕ))) (plan : Placement) (s : Session) (m : SessionJob) (a : Array) (old new : Machine) : Type 0 where
   pub storage : Storage
   pub stands : MachineRepresents storage told new plan s
@@ -88,7 +88,7 @@ LengthSet told count x plan s m a words (Err (stops.BackingFull sum size)) old n
 LengthSet told count x plan s m a words (Err stops.BackingFault) old new = StaysButArray x told plan s m a old new
 LengthSet told count x plan s m a words (Err stop) old new = ⊥
 
--- the call was made, and the machine stands for what its row makes; how much of the next text is printed stays
+-- the call was made, and the machine represents what its row makes; how much of the next text is printed stays
 pub record IsResized (told : Option (List (List ℕ))) (s : Session) (m : SessionJob) (t : Task) (old new : Machine) : Type 0 where
   pub job : Job
   pub touched : Option ℕ

@@ -18,7 +18,7 @@ use Rattle.b67_mcp.specs.declared.ends.Stop.{Stop}
 use Rattle.b67_mcp.specs.declared.ends.Stop.TheVariants.{BackingFault, PrintFault}
 use Rattle.b67_mcp.specs.Called.{AreCountable}
 
--- for each session in order that the machine stands for, with its running task, whose segment is present
+-- for each session in order that the machine represents, with its running task, whose segment is present
 abbrev pub ForRuns : Machine → (Storage → Option (List (List ℕ)) → Placement → Session → SessionJob → Task → Type 0) → Type 0
 ForRuns k P = ForEachRun k (λ x told plan s m t. code_area x plan m t ≢ None → P x told plan s m t)
 
@@ -30,7 +30,7 @@ ForCalls k n P = ForRuns k (λ x told plan s m t. called_in m t ≡ Some n → P
 abbrev pub IsBehind : SessionJob → Task → Place → Type 0
 IsBehind m t next = (op : Op) × (reading_of m.constants t ≡ Ok (op, next))
 
--- the machine stands for some session in order, and an operator is read at its running place
+-- the machine represents some session in order, and an operator is read at its running place
 pub record ReadsOperator (k : Machine) : Type 0 where
   pub runs : RunsTask k
   pub code : code_area runs.storage runs.plan runs.member runs.task ≢ None

@@ -12,7 +12,7 @@ use Rattle.b67_task_tables.specs.Tables.{MachineRepresents}
 use Rattle.b67_mcp.specs.declared.ends.Stop.{Stop}
 use Rattle.b67_mcp.specs.declared.ends.Stop.TheVariants as stops
 
--- the sectors of each session that the machine stands for are so many
+-- the sectors of each session that the machine represents are so many
 abbrev pub SumsTo : Machine → ℕ → Type 0
 SumsTo k sum =
     (x : Storage) (told : Option (List (List ℕ))) (plan : Placement) (s : Session) → IsInOrderButCounts s → MachineRepresents x told k plan s → sum ≡ sectors s.jobs

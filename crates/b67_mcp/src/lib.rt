@@ -1,4 +1,6 @@
 //! The call of an intrinsic by the running task.
+//!
+//! Begin with `intrinsic`, whose clause `call` holds the row of each intrinsic.
 #![tactic(auto)]
 
 mod deallocate;

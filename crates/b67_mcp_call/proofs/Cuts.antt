@@ -1,4 +1,4 @@
--- The machine without a call on its running stack stands for the session without it.
+-- The machine without a call on its running stack represents the session without it.
 use Rattle.std.proofs.Common.{◌≡◌, ◌≢◌, ℕ, ◌+◌, List, [], ◌∷◌, map, refl, sym, ap, arith, false, subst}
 use Rattle.std.specs.List.{AllByRecursion}
 use Rattle.b67_word.specs.declared.couples.Place.{Place}

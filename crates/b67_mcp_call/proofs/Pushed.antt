@@ -28,7 +28,7 @@ module _ (x : Storage) (cpu : Cpu) (plan : Placement) (s : Session) (m : Session
   pub room : Room x cpu.core cpu.regs (machine_view plan s.jobs) plan.running stack
   room = room_of x cpu.core cpu.regs (machine_view plan s.jobs) plan.running stack h.holds.memory on_slot
 
-  -- where there is room, the machine stands for the session with the word
+  -- where there is room, the machine represents the session with the word
   module _ (n : ℕ) (v : Word) (w : Tagged) (job : Job) (free : IsFree m.progress.job n) (arrays : job.arrays ≡ m.progress.job.arrays)
       (tasks : job.tasks ≡ change_keyed (λ (u : Task). u.number) t.number (λ (u : Task). record t { frames = with_top_cells t.frames (v ∷ cells t) }) m.progress.job.tasks) where
     abbrev task_pushed : Task

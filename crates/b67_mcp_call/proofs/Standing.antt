@@ -1,4 +1,4 @@
--- The whole machine once a call is cut or answered: it stands for the session without the call.
+-- The whole machine once a call is cut or answered: it represents the session without the call.
 use Rattle.std.proofs.Common.{◌≡◌, ℕ, List, [], ◌∷◌, map, length, Option, refl, sym, ◌∙◌, ap, subst}
 use Rattle.b67_area.specs.Spans.{Span, end}
 use Rattle.b67_word.specs.Tagged.{Tagged}
@@ -20,7 +20,7 @@ pub same_size : (x y : Storage) (old new : Cpu) (plan there : Placement) (s z : 
 same_size x y old new plan there s z a b low spans =
     sym b.holds.memory.directory.all ∙ ap (λ (i : ℕ). end i y.spans) low ∙ ap (λ (ss : List Span). end x.low ss) spans ∙ a.holds.memory.directory.all
 
--- the storage stands for another core of the same size
+-- the storage represents another core of the same size
 pub storage_same : (x : Storage) (told : Option (List (List ℕ))) (k : Machine) (core : List Tagged) → core ≡ k.cpu.core → RepresentsStorage k.areas k.sectors told k.cpu.core x → RepresentsStorage k.areas k.sectors told core x
 storage_same x told k core e h = subst (λ (c : List Tagged). RepresentsStorage k.areas k.sectors told c x) (sym e) h
 

@@ -50,7 +50,7 @@ OnlyCell x plan m t cpu cs (Err fault) = (length cs ≢ 2) × (fault ≡ Invalid
 abbrev pub operand_number : Tagged → Answer ℤ
 operand_number w = operand_bits w >>= number
 
--- the machine stands for some session in order, whose running task stands at the call of an intrinsic
+-- the machine represents some session in order, whose running task stands at the call of an intrinsic
 pub record StandsAtCall (k : Machine) : Type 0 where
   pub runs : RunsTask k
   pub reference : Word

@@ -1,4 +1,6 @@
 //! A call of an intrinsic on the running stack: its one argument, and the call that is cut or answered.
+//!
+//! Begin with `cut_call` and its clause `stands`.
 #![tactic(auto)]
 
 mod answer;

@@ -1,4 +1,4 @@
-//! The number that an argument stands for.
+//! The number that an argument represents.
 
 ghost use Rattle.std.specs.Prelude.{◌≡◌};
 ghost use Rattle.b67_mcp_call.specs.Calls.{operand_number};

@@ -1,4 +1,4 @@
--- A machine stands for a view with one array more, of which nothing is held, where the word of its original stands.
+-- A machine represents a view with one array more, of which nothing is held, where the word of its original stands.
 use Rattle.std.proofs.Common.{◌≡◌, ◌≢◌, ℕ, ◌<◌, ◌≤◌, ◌^◌, List, length, Some, sym, ◌∙◌, ap, arith, inl, inr, ◌⊎◌, subst, refl}
 use Rattle.std.specs.List.{slice_get}
 use Rattle.b67_word.specs.Tagged.{Tagged}

@@ -135,7 +135,7 @@ module _ (plan : Placement) (j n at : ℕ) where
           row_homes = λ y i k low high. home_other y.constants.number k (λ e. rows y i e k low high) ∙ f.row_homes y i k low high;
         }
 
-    -- the machine stands for the session by that plan too
+    -- the machine represents the session by that plan too
     pub stands-there : RepresentsSession x cpu (with_home plan j n at) s
     stands-there =
         let o = h.holds in

@@ -16,7 +16,7 @@ use Rattle.b67_mcp_calls.specs.Answered.{job_answered}
 abbrev pub left_in : JobRow → List ℤ
 left_in row = drop row.next_number row.numbers
 
--- numbers that operands stand for
+-- numbers that operands represent
 abbrev pub AreOperands : List ℤ → Type 0
 AreOperands numbers = AllByRecursion (λ (v : ℤ). nat_abs v < 2 ^ 39) numbers
 

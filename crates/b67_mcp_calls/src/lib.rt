@@ -1,5 +1,7 @@
 //! The intrinsics on the running stack: PRINT, READ, ARRAYDEC, PRINTROW, DEALLOCATE, RESIZE, and the call that is cut or
 //! answered.
+//!
+//! Begin with `row_to_print`: `row`, `present`.
 #![tactic(auto)]
 
 mod declare;

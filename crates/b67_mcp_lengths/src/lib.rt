@@ -1,4 +1,6 @@
 //! Arrays of other lengths, and arrays that are given back: what DEALLOCATE and RESIZE do to core and sectors.
+//!
+//! Begin with `lengthen_array`: `row`, `outside`.
 #![tactic(auto)]
 
 mod emptying;

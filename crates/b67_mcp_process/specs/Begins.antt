@@ -41,7 +41,7 @@ pub record AsksSome (k : Machine) (cell count : ℕ) (next : Place) : Type 0 whe
   pub few : length runs.member.progress.job.tasks < MOST_TASKS
   pub place : IsPlace next
 
--- the machine stands for the session with another job, whose tasks count for the peak
+-- the machine represents the session with another job, whose tasks count for the peak
 pub record StandsMoved (told : Option (List (List ℕ))) (s : Session) (m : SessionJob) (job : Job) (more : ℕ) (k : Machine) : Type 0 where
   pub storage : Storage
   pub plan : Placement

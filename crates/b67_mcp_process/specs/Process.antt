@@ -26,7 +26,7 @@ pub record StartsOne (m : SessionJob) (t : Task) (next : Place) (arguments : Lis
   pub is : process (here m t next) arguments ≡ Ok (Goes job [] None)
   pub more : length job.tasks ≡ length m.progress.job.tasks + 1
 
--- the call was made: the machine stands for the job that its row makes, whose tasks count for the peak
+-- the call was made: the machine represents the job that its row makes, whose tasks count for the peak
 pub record IsProcessed (told : Option (List (List ℕ))) (s : Session) (m : SessionJob) (t : Task) (next : Place) (arguments : List Word) (new : Machine) : Type 0 where
   pub job : Job
   pub is : process (here m t next) arguments ≡ Ok (Goes job [] None)
@@ -34,7 +34,7 @@ pub record IsProcessed (told : Option (List (List ℕ))) (s : Session) (m : Sess
   pub plan : Placement
   pub stands : MachineRepresents storage told new plan (session_moved s m job (length job.tasks - length m.progress.job.tasks))
 
--- the row starts a task, which isn't started: the machine stands for the same session, of which areas may have been evicted
+-- the row starts a task, which isn't started: the machine represents the same session, of which areas may have been evicted
 pub record StartIsStopped (told : Option (List (List ℕ))) (plan : Placement) (s : Session) (m : SessionJob) (t : Task) (next : Place) (arguments : List Word) (old new : Machine) : Type 0 where
   pub starts : StartsOne m t next arguments
   pub storage : Storage

@@ -1,4 +1,6 @@
 //! The intrinsic PROCESS.
+//!
+//! Begin with `process`: `row`, `device`.
 #![tactic(auto)]
 
 mod asking;

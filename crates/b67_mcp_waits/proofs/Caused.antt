@@ -1,4 +1,4 @@
--- CAUSE over the whole machine: once the number is stored and its waiters' rows are ready, it stands for the session with both,
+-- CAUSE over the whole machine: once the number is stored and its waiters' rows are ready, it represents the session with both,
 -- and then for that without the call.
 use Rattle.std.proofs.Common.{◌≡◌, ◌≢◌, ℕ, ◌+◌, ◌-◌, ◌<◌, List, [], ◌∷◌, ◌++◌, map, length, Option, None, Ok, Err, refl, sym, ◌∙◌, ap, arith, true, false, inl, inr, subst, slice_set}
 use Rattle.std.specs.Prelude.{option_map}

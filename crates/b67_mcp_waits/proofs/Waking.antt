@@ -1,4 +1,4 @@
--- What the machine stands for doesn't depend on who waits for what.
+-- What the machine represents doesn't depend on who waits for what.
 use Rattle.std.proofs.Common.{◌≡◌, ℕ, ◌+◌, List, [], ◌∷◌, ◌++◌, map, flat_map, length, Option, Some, None, refl, sym, ◌∙◌, ap, Bool, true, false, ◌==◌, ⊎_elim, subst}
 use Rattle.std.specs.Prelude.{if◌then◌else◌, option_map, ◌||◌}
 use Rattle.std.specs.List.{slice_get, list_any}
@@ -190,7 +190,7 @@ module _ (x : Storage) (cpu : Cpu) (plan : Placement) (s : Session) (m : Session
     none = h.holds.none;
   }
 
-  -- the machine stands for the session in which each task of the job has another condition
+  -- the machine represents the session in which each task of the job has another condition
   pub RepresentsSession-wake : RepresentsSession x cpu plan (with_job s m (wake_job g m.progress.job))
   RepresentsSession-wake = record {
     holds = holds;

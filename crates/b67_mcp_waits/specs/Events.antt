@@ -9,7 +9,7 @@ use Rattle.b67_task_tables.specs.declared.tables.TaskState.{TaskState}
 use Rattle.b67_task_tables.specs.declared.tables.Machine.{Machine}
 use Rattle.b67_task_tables.specs.Tables.{MachineRepresents, state_of}
 
--- the call was made, by this row: the machine stands for what it makes, with as many tasks. How much of the next text is
+-- the call was made, by this row: the machine represents what it makes, with as many tasks. How much of the next text is
 -- printed stays
 pub record GoesOn (row : Call) (x : Storage) (told : Option (List (List ℕ))) (plan : Placement) (s : Session) (m : SessionJob) (t : Task) (next : Place) (arguments : List Word) (old new : Machine) : Type 0 where
   pub job : Job

@@ -1,4 +1,6 @@
 //! The intrinsics by which tasks wait for each other: AWAIT, STATUS, WAIT and CAUSE.
+//!
+//! Begin with `wait_at`, whose clause `row` is the rule of WAIT.
 #![tactic(auto)]
 
 mod cells;

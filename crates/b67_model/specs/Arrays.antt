@@ -3,7 +3,7 @@ use Rattle.std.specs.Prelude.{ℕ, ◌-◌, ◌++◌, false, [], length, take, r
 use Rattle.b67_model.specs.Keyed.{keyed, change_keyed}
 use Rattle.b67_model.specs.State.{Array, Job}
 
--- what stands for an array that no identity names
+-- what represents an array that no identity names
 abbrev pub no_array : Array
 no_array = record { identity = 0; owner = 0; writable = false; numbers = [] }
 

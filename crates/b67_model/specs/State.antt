@@ -97,7 +97,7 @@ pub record OperatorContext : Type 0 where
 abbrev pub mcp : Frame
 mcp = record { identity = 0; standing = Entered 0 0 None; cells = map Intrinsic (RESIZE ∷ DEALLOCATE ∷ CAUSE ∷ WAIT ∷ STATUS ∷ AWAIT ∷ PROCESS ∷ READ ∷ PRINTROW ∷ PRINT ∷ ARRAYDEC ∷ []) }
 
--- what stands for a frame that no identity names
+-- what represents a frame that no identity names
 abbrev pub no_frame : Frame
 no_frame = record { identity = 0; standing = Marked; cells = [] }
 

@@ -1,4 +1,4 @@
--- The words of a cell, and the whole numbers that operands stand for.
+-- The words of a cell, and the whole numbers that operands represent.
 use Rattle.std.specs.Prelude.{ℕ, ◌^◌, ℤ, nat_abs, Bool, nat_lt, if◌then◌else◌, Ok, Err}
 use Rattle.b67_word.specs.declared.faults.Fault.TheVariants.{InvalidOperand, Exponent, IntegerOverflow}
 use Rattle.b67_word.specs.declared.couples.Place.{Place}

@@ -1,4 +1,6 @@
 //! The definitions of the machine, in `specs/`, and the operators that they and the code share.
+//!
+//! Begin with `specs/State`, then `Rows`, `Intrinsics`, `Schedule` and `Run`; the limits are in `src/limits.rt`.
 #![tactic(auto)]
 
 mod intrinsics;

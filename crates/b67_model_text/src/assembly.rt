@@ -4,7 +4,7 @@ use crate::text::Name;
 use b67_model::{Code, Op};
 use b67_word::{Couple, List};
 
-/// What an operator's name stands for.
+/// What an operator's name represents.
 #[derive(Clone, Copy, Debug)]
 pub enum Mnemonic {
     Plain(Code),

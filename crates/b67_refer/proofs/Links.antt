@@ -41,7 +41,7 @@ module _ (core : List Tagged) (r : Regs) (a : LiveContext core r) where
   pub copy_of : (c : Copied) (home : ℕ) (v : Tagged) (d : DataDesc) → IsDataDesc d → v ≡ data_word d → IsCopy a.storage.held c home v → IsCopyOf core d home
   copy_of c home v d fits e is = record { storage = a.storage; registers = r; machine_view = viewed core r a; stands = a.holds.memory; copied = c; fits = fits; is = subst (λ (w : Tagged). IsCopy a.storage.held c home w) e is }
 
-  -- a data descriptor among the words that stand for something: an original, a row copy or an element copy
+  -- a data descriptor among the words that represent something: an original, a row copy or an element copy
   pub data Described (at owner : ℕ) (w : Word) (d : DataDesc) : Type 0 where
     own : (array : ℕ) → w ≡ Original array → d.copy ≡ false → at ≡ a.plan.home a.member.constants.number array → OwnsArray a.member.progress.job.arrays owner array → Described at owner w d
     row : (array : ℕ) → w ≡ Row array → d.copy ≡ true → d.indexed ≡ false → IsCopyOf core d (a.plan.home a.member.constants.number array) → NamesArray a.member.progress.job.arrays (reach a) array → Described at owner w d

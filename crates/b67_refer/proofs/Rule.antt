@@ -106,7 +106,7 @@ same_shape P arrays reach owner plan j job spot spot' (Intrinsic n) o same = ref
 same_shape P arrays reach owner plan j job spot spot' (Words.Segment n) o same = refl
 
 module _ (core : List Tagged) (r : Regs) (a : LiveContext core r) where
-  -- a word in order stands for itself
+  -- a word in order represents itself
   pub word_stands : (at owner : ℕ) (v : Tagged) (w : Word) → Fits a.storage.held (shape a.plan a.member.constants.number a.member.progress.job (spots a.plan a.member.constants.number a.member.progress.job a.task) w) at v
       → WordInOrder (IsSegment a.member.constants) a.member.progress.job.arrays (reach_of a.member.progress.job a.task) owner w → StandsFor a at owner v w
   word_stands at owner v (Operand bits) f o = (f, o)

@@ -1,4 +1,4 @@
--- The session that core and registers stand for, with its running task, whatever the display shows.
+-- The session that core and registers represent, with its running task, whatever the display shows.
 use Rattle.std.specs.Prelude.{◌≡◌, ℕ, ◌+◌, ◌*◌, ◌<◌, ◌≤◌, ◌⊎◌, List, Some}
 use Rattle.b67_word.specs.Tagged.{Tagged}
 use Rattle.b67_ctl.specs.declared.map.TheConstants.{DICTIONARY_STACKS, MCP_STACK}

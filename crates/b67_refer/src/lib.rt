@@ -1,4 +1,6 @@
 //! The running environment, and where references lead.
+//!
+//! Begin with `chase`, which follows a reference to its end.
 #![tactic(auto)]
 
 mod activation;

@@ -78,7 +78,7 @@ numbered_with s m job numbered there =
     let put : SessionJob → SessionJob = λ y. record y { progress = record m.progress { job = job } } in
     subst (NumberedFrom 1) (sym (change_is number_of m.constants.number put m s.jobs there)) (numbered_change 1 m.constants.number (put m) s.jobs numbered refl)
 
--- A task ends, or comes to wait, with this outcome of its step, and the machine stands for the session before it still, with
+-- A task ends, or comes to wait, with this outcome of its step, and the machine represents the session before it still, with
 -- nothing printed
 pub record ClosesSo {K : Type 0} (said said' : Option (List (List ℕ))) (core : ℕ) (k : Machine) (paper paper' : K) (plan : Placement) (s : Session) (m : SessionJob) (t : Task) (chosen : Choice) (made : Stepped) : Type 0 where
   pub still : StillStands said' k plan s

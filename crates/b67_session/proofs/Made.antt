@@ -106,7 +106,7 @@ module _ (s : Session) (m : SessionJob) (t : Task) (c : Chosen) (o : IsInOrderBu
   pub half_lines : half.lines ≡ of_job n.chosen.who.job (map (λ line. (t.number, line)) printed)
   half_lines = open_lines s m t n job printed touched open_job
 
-  -- the counted machine stands for it
+  -- the counted machine represents it
   pub half_stands : {told : Option (List (List ℕ))} (x : _) (k : Machine) (plan : _) (tasks : Tasks) → IsCounted c k.tasks tasks → MachineRepresents x told k plan (session_moved s m job (length job.tasks - length m.progress.job.tasks))
       → MachineRepresents x told (record k { tasks = tasks }) plan half.session
   half_stands {told} x k plan tasks counted h =

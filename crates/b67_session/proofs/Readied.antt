@@ -1,4 +1,4 @@
--- The session in which the running task is ready: it is in order, and the machine stands for it.
+-- The session in which the running task is ready: it is in order, and the machine represents it.
 use Rattle.std.proofs.Common.{◌≡◌, List, [], map, Some, refl, sym, ◌∙◌, ap, arith, inl, subst}
 use Rattle.b67_model.specs.Keyed.{keyed}
 use Rattle.b67_lemmas.specs.Lists.{Has}

@@ -1,4 +1,4 @@
--- A machine may make steps exactly if it stands for a session, or for one whose last part is due.
+-- A machine may make steps exactly if it represents a session, or for one whose last part is due.
 use Rattle.std.proofs.Common.{◌≢◌, ◌⊎◌, inl, inr, List, [], ◌∷◌, None}
 use Rattle.b67_model.specs.Schedule.{Session}
 use Rattle.b67_task_tables.specs.declared.tables.TaskRow.{TaskRow}

@@ -35,7 +35,7 @@ EndsEach taken answered mid last paper paper' =
 
 -- ---- the last part of a step
 
--- the machine stands for the session after it, or for that before it, and what is left is held as in this storage
+-- the machine represents the session after it, or for that before it, and what is left is held as in this storage
 pub record Rests (x : Storage) (told : Option (List (List ℕ))) (plan : Placement) (s : Session) (part : StepResult) (last : Machine) : Type 0 where
   pub session : Session
   pub is : IsStepOf s session

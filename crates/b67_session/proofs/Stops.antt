@@ -78,7 +78,7 @@ module _ (x : Storage) (told told' : Option (List (List ℕ))) (old new : Machin
     other : RunsOther plan again.jobs m t
     other = others_running plan s.jobs again.jobs again.others m t runs
 
-    -- the same of the session that the machine stands for, where the device tells
+    -- the same of the session that the machine represents, where the device tells
     lacks_again : Lacks again.storage found plan m t → x.device ≢ None → IsLacking again.storage plan other.member t
     lacks_again absent n =
         let M : SessionJob → Type 0 = λ z. IsLacking again.storage plan z t in

@@ -42,7 +42,7 @@ runs_already x told k plan s r h at =
     let is : plan ≡ with_running plan r.slot = ap (with_running plan) (sym runs.1) in
     subst (λ (p : Placement). MachineRepresents x told k p s) is h
 
--- the machine stands for the session with the chosen task running
+-- the machine represents the session with the chosen task running
 pub record Turned (told : Option (List (List ℕ))) (k : Machine) (s : Session) (m : SessionJob) (t : Task) (c : Chosen) : Type 0 where
   pub storage : Storage
   pub plan : Placement
@@ -118,7 +118,7 @@ pub record Attempted {K : Type 0} (taken : K → Option (List ℕ)) (said said' 
   pub meets : AttemptMeets taken said' (said ≢ None) core count before plan session member task answered k paper paper'
   pub room : said ≢ None → AttemptFits core storage plan session member task answered
 
--- the chosen task's row, and what the machine then stands for
+-- the chosen task's row, and what the machine then represents
 abbrev pub GivesTurn : Machine → ℕ → Machine → Type 0
 GivesTurn k row new =
     (x : Storage) (told : Option (List (List ℕ))) (plan : Placement) (s : Session) (r : TaskRow) → IsInOrderButCounts s → MachineRepresents x told k plan s → slice_get k.tasks.rows.items row ≡ Some r → MachineRepresents x told new (with_running plan r.slot) s

@@ -27,7 +27,7 @@ use Rattle.b67_session.specs.declared.outcomes.Attempt.{Attempt}
 use Rattle.b67_session.specs.declared.outcomes.Attempt.TheVariants as attempts
 use Rattle.b67_session.specs.Tries.{EndsSo}
 
--- the machine stands for some session in order over a device that tells this, and a ready task of it runs
+-- the machine represents some session in order over a device that tells this, and a ready task of it runs
 pub record RunsOver (k : Machine) (told : Option (List (List ℕ))) : Type 0 where
   pub storage : Storage
   pub plan : Placement
@@ -39,13 +39,13 @@ pub record RunsOver (k : Machine) (told : Option (List (List ℕ))) : Type 0 whe
   pub running : IsRunning plan session.jobs member task
   pub ready : task.condition ≡ Ready
 
--- for each session in order that the machine stands for over a device that tells this, of which a ready task runs
+-- for each session in order that the machine represents over a device that tells this, of which a ready task runs
 abbrev pub ForEachOver : Machine → Option (List (List ℕ)) → (Storage → Placement → Session → SessionJob → Task → Type 0) → Type 0
 ForEachOver k told P =
     (x : Storage) (plan : Placement) (s : Session) (m : SessionJob) (t : Task) → IsInOrderButCounts s → StandsOver x told k plan s → IsRunning plan s.jobs m t → t.condition ≡ Ready
     → P x plan s m t
 
--- the machine stands for the session, in some storage
+-- the machine represents the session, in some storage
 abbrev pub StillStands : Option (List (List ℕ)) → Machine → Placement → Session → Type 0
 StillStands told k plan s = (x : Storage) × MachineRepresents x told k plan s
 
@@ -99,7 +99,7 @@ pub data TellsSectors (exact : Type 0) (x : Storage) (plan : Placement) (s : Ses
   for_task : StartsTask m t → sum ≡ sectors s.jobs → TellsSectors exact x plan s m t sum
   for_length : (l : Lengthens m t) → (LacksRoom x plan m t → ⊥) → sum ≡ sectors (with_job s m l.job).jobs → TellsSectors exact x plan s m t sum
 
--- the machine stands for the session, whose next step lacks its segment or its array, makes it longer or starts a task. Core has
+-- the machine represents the session, whose next step lacks its segment or its array, makes it longer or starts a task. Core has
 -- room for its segment, and for the whole step if the segment is present. `exact` is as below
 pub record StandsLacking (exact : Type 0) (told : Option (List (List ℕ))) (core : ℕ) (k : Machine) (plan : Placement) (s : Session) (m : SessionJob) (t : Task) : Type 0 where
   pub storage : Storage

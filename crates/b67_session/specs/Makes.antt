@@ -20,7 +20,7 @@ use Rattle.b67_task_tables.specs.Runs.{ForEachRun}
 abbrev pub MayFree : Storage → ℕ → Type 0
 MayFree x i = (i ≡ 152) ⊎ InHole x.low x.spans i
 
--- the operator was made, and the machine stands for what its row makes. The arrays of a record that was left are given
+-- the operator was made, and the machine represents what its row makes. The arrays of a record that was left are given
 -- back, and every other array, segment and data row is held as it was. Only words have changed that the operator may
 -- change and, where a record was left, words of the directory and of holes
 pub record OperatorMade (x : Storage) (told : Option (List (List ℕ))) (plan : Placement) (s : Session) (m : SessionJob) (t : Task) (old new : Machine) : Type 0 where
@@ -54,6 +54,6 @@ MakesAt x told plan s m t answered old new (Some at) = CallsOrMakes x told plan 
 abbrev pub MakesInSegment : Storage → Option (List (List ℕ)) → Placement → Session → SessionJob → Task → Step → Machine → Machine → Type 0
 MakesInSegment x told plan s m t answered old new = MakesAt x told plan s m t answered old new (code_area x plan m t)
 
--- for each session in order that the machine stands for, with its running task, which is ready
+-- for each session in order that the machine represents, with its running task, which is ready
 abbrev pub ForEachReady : Machine → (Storage → Option (List (List ℕ)) → Placement → Session → SessionJob → Task → Type 0) → Type 0
 ForEachReady k P = ForEachRun k (λ x told plan s m t. t.condition ≡ Ready → P x told plan s m t)

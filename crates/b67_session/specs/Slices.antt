@@ -30,7 +30,7 @@ use Rattle.b67_session.specs.declared.slices.Progress.TheVariants as progress
 
 -- ---- machines
 
--- the machine stands for some session in order, over a device that tells this
+-- the machine represents some session in order, over a device that tells this
 pub record StandsSome (told : Option (List (List ℕ))) (k : Machine) : Type 0 where
   pub said : Option (List (List ℕ))
   pub says : Says said told
@@ -44,7 +44,7 @@ pub record LivesOn (told : Option (List (List ℕ))) (k : Machine) : Type 0 wher
   pub task : Task
   pub next : IsNext some.session member task
 
--- a slice of steps may begin: it stands for some session in order, and each job's numbers can be counted
+-- a slice of steps may begin: it represents some session in order, and each job's numbers can be counted
 pub record SetsOutSome (told : Option (List (List ℕ))) (k : Machine) : Type 0 where
   pub stands : StandsSome told k
   pub countable : AreCountable k.tasks.jobs
@@ -126,7 +126,7 @@ pub record GoesOnAlone (s : Session) (m : SessionJob) (t : Task) (job : Job) : T
   pub is : step m.constants m.progress.job t ≡ Ok (Goes job printed touched)
   pub below : (part : StepResult) → first_part s ≡ Some part → last_part part.session ≡ None
 
--- the machine stands for the session after the next step, and every area that was there is where it was, as said of the step;
+-- the machine represents the session after the next step, and every area that was there is where it was, as said of the step;
 -- and none is new, if nothing was wanted
 pub record StepKeepsAreas (x : Storage) (plan : Placement) (s : Session) (m : SessionJob) (t : Task) (job : Job) (new : Machine) : Type 0 where
   pub told : Option (List (List ℕ))
@@ -156,7 +156,7 @@ pub data IsStepOf (s stepped : Session) : Type 0 where
   in_whole : after 1 s ≡ stepped → IsStepOf s stepped
   but_its_limit : (part : StepResult) → first_part s ≡ Some part → last_part part.session ≢ None → part.session ≡ stepped → IsStepOf s stepped
 
--- The machine stands for the session after the next step, or for that before its last part where the printer failed in it. Each
+-- The machine represents the session after the next step, or for that before its last part where the printer failed in it. Each
 -- array, segment and data row that is left is in the area where it was, or in none as before, but one that DEALLOCATE empties or
 -- RESIZE gives another length, and one that is new; of PROCESS that isn't said. Where the step ends its task, or makes it wait,
 -- each of them is one of those before, and is also in the same sectors
@@ -187,7 +187,7 @@ pub record IfPresent {A D : Type 0} (holds : D → Option (List (List ℕ))) (ex
 -- ---- what is answered
 
 -- a slice of n steps stopped after so many of them, before one that was due: they are not all made, and the halt isn't
--- reached. The machine stands for the session before that step, which this task makes
+-- reached. The machine represents the session before that step, which this task makes
 pub record StopsBefore (told : Option (List (List ℕ))) (n steps : ℕ) (s : Session) (new : Machine) : Type 0 where
   pub left : steps < n
   pub halt : new.tasks.halt ≢ Some new.tasks.made
@@ -196,7 +196,7 @@ pub record StopsBefore (told : Option (List (List ℕ))) (n steps : ℕ) (s : Se
   pub task : Task
   pub next : IsNext s member task
 
--- the machine stands for the session, of which a task lives
+-- the machine represents the session, of which a task lives
 abbrev pub StandsLive : Option (List (List ℕ)) → Session → Machine → Type 0
 StandsLive said s new = StandsAt said new s × ((m : SessionJob) × (t : Task) × IsNext s m t)
 
@@ -253,7 +253,7 @@ pub record IsCutAgain {D K : Type 0} (taken : K → Option (List ℕ)) (h : Sess
   pub prints : Prints taken paper paper' (due h) old.tasks.printed [] (due h) new.tasks.printed
   pub backing : device' ≡ device
 
--- the rest of these lines was printed and the tasks have ended: a machine stands for the session after the last part, and from
+-- the rest of these lines was printed and the tasks have ended: a machine represents the session after the last part, and from
 -- there a slice was made
 pub record GoesOnAfter {D K : Type 0} (holds : D → Option (List (List ℕ))) (taken : K → Option (List ℕ)) (said said' : Option (List (List ℕ))) (count n : ℕ) (h : Session) (part : StepResult) (answered : Result Progress Stop) (old new : Machine) (device device' : D) (paper paper' : K) : Type 0 where
   pub middle : Machine

@@ -21,7 +21,7 @@ use Rattle.b67_mcp.specs.declared.ends.Stop.TheVariants as stops
 use Rattle.b67_session.specs.declared.tries.Tried.{Tried}
 use Rattle.b67_session.specs.declared.tries.Tried.TheVariants as tries
 
--- the machine stands for some session in order, of which a ready task runs
+-- the machine represents some session in order, of which a ready task runs
 pub record ReadyRuns (k : Machine) : Type 0 where
   pub runs : RunsTask k
   pub ready : runs.task.condition ≡ Ready

@@ -1,4 +1,6 @@
 //! Sessions: a step is tried, what it lacks is brought in, and it is made; turns of steps, slices, and how they stop and go on.
+//!
+//! Begin with `slice`, then `attempt`, the try of one operator.
 #![tactic(auto)]
 
 mod attempting;

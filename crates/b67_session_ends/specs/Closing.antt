@@ -46,7 +46,7 @@ Closes taken x told plan s part (Ok done) old new paper paper' =
 Closes taken x told plan s part (Err failed) old new paper paper' =
     TookMore taken paper paper' (run_text part.lines) old.tasks.printed new.tasks.printed × (new ≡ record old { tasks = record old.tasks { printed = new.tasks.printed } })
 
--- the machine stands for some session in order but for counts, with a job of this number
+-- the machine represents some session in order but for counts, with a job of this number
 pub record HasJobOf (k : Machine) (job : ℕ) : Type 0 where
   pub storage : Storage
   pub told : Option (List (List ℕ))
@@ -58,7 +58,7 @@ pub record HasJobOf (k : Machine) (job : ℕ) : Type 0 where
   pub among : Has session.jobs member
   pub number : member.constants.number ≡ job
 
--- the machine stands for a session in order, and the chosen row is that of the task that makes its next step
+-- the machine represents a session in order, and the chosen row is that of the task that makes its next step
 pub record StandsChosen (x : Storage) (told : Option (List (List ℕ))) (k : Machine) (plan : Placement) (s : Session) (m : SessionJob) (t : Task) (c : Chosen) : Type 0 where
   pub ordered : IsInOrderButPlaces s
   pub next : IsNext s m t

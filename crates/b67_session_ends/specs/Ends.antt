@@ -22,7 +22,7 @@ pub record IsFirstRow (rows : List TaskRow) (job at : ℕ) : Type 0 where
   pub of_job : row.job ≡ job
   pub first : row.number ≡ 1
 
--- the machine stands for some session in order but for counts, a job of which has live tasks
+-- the machine represents some session in order but for counts, a job of which has live tasks
 pub record JobLives (k : Machine) (job : ℕ) : Type 0 where
   pub storage : Storage
   pub told : Option (List (List ℕ))
@@ -35,7 +35,7 @@ pub record JobLives (k : Machine) (job : ℕ) : Type 0 where
   pub number : member.constants.number ≡ job
   pub lives : member.progress.job.tasks ≢ []
 
--- the machine stands for some session between the parts of a step
+-- the machine represents some session between the parts of a step
 pub record StandsBetween (k : Machine) : Type 0 where
   pub storage : Storage
   pub told : Option (List (List ℕ))
@@ -58,7 +58,7 @@ Finishes taken x told plan h None (Ok done) old new paper paper' = (new ≡ old)
 Finishes taken x told plan h None (Err failed) old new paper paper' = ⊥
 Finishes taken x told plan h (Some part) answered old new paper paper' = LimitEnds taken x told plan h part answered old new paper paper'
 
--- the machine stands for some session whose last part is due
+-- the machine represents some session whose last part is due
 pub record HasLimited (k : Machine) : Type 0 where
   pub between : StandsBetween k
   pub part : StepResult

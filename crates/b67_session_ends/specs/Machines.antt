@@ -1,4 +1,4 @@
--- Which machines stand for a session before a step, between its parts, and once no task is left.
+-- Which machines represent a session before a step, between its parts, and once no task is left.
 use Rattle.std.specs.Prelude.{◌≡◌, ℕ, List, Option, Some}
 use Rattle.b67_model.specs.Common.{IsInOrderButPlaces, StepResult, live_tasks, Session}
 use Rattle.b67_session_lines.specs.Moments.{last_part}
@@ -8,14 +8,14 @@ use Rattle.b67_task_tables.specs.declared.tables.Machine.{Machine}
 use Rattle.b67_task_tables.specs.Tables.{MachineRepresents}
 use Rattle.b67_law_sessions.specs.Orders.{IsInOrderButLimit}
 
--- the machine stands for a session in order, and this is known of what the device's sectors hold
+-- the machine represents a session in order, and this is known of what the device's sectors hold
 pub record StandsAt (told : Option (List (List ℕ))) (k : Machine) (s : Session) : Type 0 where
   pub storage : Storage
   pub plan : Placement
   pub ordered : IsInOrderButPlaces s
   pub stands : MachineRepresents storage told k plan s
 
--- the machine stands for a session in which the job that made the last operator stands at its limit with live tasks. All of
+-- the machine represents a session in which the job that made the last operator stands at its limit with live tasks. All of
 -- these are to end by LIMIT, deepest first, which is this last part of the step
 pub record IsLimited (told : Option (List (List ℕ))) (k : Machine) (h : Session) (part : StepResult) : Type 0 where
   pub storage : Storage
@@ -24,7 +24,7 @@ pub record IsLimited (told : Option (List (List ℕ))) (k : Machine) (h : Sessio
   pub is : last_part h ≡ Some part
   pub stands : MachineRepresents storage told k plan h
 
--- the machine stands for a session that no task is left of, and this is known of what the device's sectors hold
+-- the machine represents a session that no task is left of, and this is known of what the device's sectors hold
 pub record RepresentsWithoutTasks (told : Option (List (List ℕ))) (k : Machine) (s : Session) : Type 0 where
   pub storage : Storage
   pub plan : Placement

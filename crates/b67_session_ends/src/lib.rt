@@ -1,4 +1,6 @@
 //! The end of a step: its operator is counted, the lines of endings are printed, and tasks wait or end.
+//!
+//! Begin with `close`: `closes`, `cause`, `keeps`.
 #![tactic(auto)]
 
 mod closes;

@@ -1,4 +1,6 @@
 //! The lines that a run prints, and how a call ends that prints.
+//!
+//! Begin with the law `steps_have_parts`, then `put_rest` (`text`, `whole`, `part`).
 #![tactic(auto)]
 
 mod laws;

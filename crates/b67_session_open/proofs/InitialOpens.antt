@@ -1,4 +1,4 @@
--- The machine that was set up stands for the sessions of its programs.
+-- The machine that was set up represents the sessions of its programs.
 use Rattle.std.proofs.Common.{◌≡◌, ℕ, zero, suc, ◌+◌, ◌-◌, ◌*◌, ◌<◌, ◌≤◌, List, [], length, replicate, Option, Some, refl, sym, ◌∙◌, ap, subst, arith, inl}
 use Rattle.std.specs.List.{slice_get}
 use Rattle.b67_word.specs.Tagged.{Tagged, word}

@@ -1,4 +1,4 @@
--- The machine that was set up, with its tables, stands for the opening state of a deck's session.
+-- The machine that was set up, with its tables, represents the opening state of a deck's session.
 use Rattle.std.proofs.Common.{◌+◌, ◌≡◌, ℕ, List, length, map, Option, ◌∙◌}
 use Rattle.std.specs.List.{AllByRecursion}
 use Rattle.std.proofs.lemmas.List.{length-map}

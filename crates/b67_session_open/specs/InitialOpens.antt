@@ -1,4 +1,4 @@
--- When a machine stands for the sessions that programs open.
+-- When a machine represents the sessions that programs open.
 use Rattle.std.specs.Prelude.{◌≡◌, ℕ, List, Option}
 use Rattle.b67_area.specs.declared.Areas.{Areas}
 use Rattle.b67_backing.specs.Shelf.{Table}

@@ -1,4 +1,6 @@
 //! The opening of a deck: its refusals in their order, else the machine that stands.
+//!
+//! Begin with `open` and the clause `opens` of `set_up`.
 #![tactic(auto)]
 
 mod copies;

@@ -8,7 +8,7 @@ use Rattle.b67_stack.specs.Stacks.{Activation, Marked, stack_words, mark_place, 
 use Rattle.b67_stack.specs.MachineView.{PagedObject, MachineView, Running, with_slot, RunsOn, IsArrayAt}
 use Rattle.b67_stack.specs.Represents.{Storage, Represents}
 
--- a task runs on a stack of some view that the machine stands for
+-- a task runs on a stack of some view that the machine represents
 pub record Runs (cpu : Cpu) : Type 0 where
   pub storage : Storage
   pub machine_view : MachineView

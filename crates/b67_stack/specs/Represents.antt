@@ -1,4 +1,4 @@
--- When a machine stands for a view.
+-- When a machine represents a view.
 use Rattle.std.specs.Prelude.{◌≡◌, ◌≢◌, ℕ, suc, ◌+◌, ◌<◌, ◌≤◌, ◌^◌, ◌⊎◌, List, [], length, map, Option, Some, None, slice_get}
 use Rattle.b67_word.specs.Common.{Tagged, word, number}
 use Rattle.b67_ctl.specs.Layout.{toscw_word}
@@ -109,7 +109,7 @@ pub record Owned (x : Storage) (objects : List PagedObject) : Type 0 where
   pub one_chain : (t u : PagedObject) → Has objects t → Has objects u → 0 < (x.held t.home).chain
       → (x.held t.home).chain ≡ (x.held u.home).chain → t.home ≡ u.home
 
--- the machine stands for a view
+-- the machine represents a view
 pub record Represents (x : Storage) (core : List Tagged) (r : Regs) (p : MachineView) : Type 0 where
   pub slots : RepresentsSlots core r x.low p
   pub stacks : StacksLie x.held core p

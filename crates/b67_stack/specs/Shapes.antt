@@ -1,4 +1,4 @@
--- What a word of a stack stands for, and when a word of core is such a word.
+-- What a word of a stack represents, and when a word of core is such a word.
 use Rattle.std.specs.Prelude.{◌≡◌, ◌≢◌, ℕ, Bool, true, false, ◌+◌, ◌<◌, ◌^◌, List, [], ◌∷◌, length, Option, Some, None, MatchBool, slice_get, None}
 use Rattle.b67_word.specs.Tagged.{Tagged}
 use Rattle.b67_ctl.specs.declared.descriptors.DataDesc.{DataDesc}

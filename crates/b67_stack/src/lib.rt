@@ -1,4 +1,6 @@
 //! The machine's registers over core, and the running stack: push, pop, mark and cut.
+//!
+//! Begin with the definition `Represents` (`specs/Represents`), then `push` and its clause `stands`.
 #![tactic(auto)]
 
 ghost use Rattle.std.specs.Prelude.{◌≡◌, ◌≢◌, ◌↔◌, ℕ, ◌+◌, ◌-◌, ◌<◌, ◌≤◌, IsErr, IsOk, OnOk, OnErr, IfOk, [], ◌∷◌, List, length, slice_get, Some};

@@ -1,4 +1,6 @@
 //! Operators as the syllables of code.
+//!
+//! Begin with `decode` (`exact`) and `encode` (`again`).
 #![tactic(auto)]
 
 mod decoding;

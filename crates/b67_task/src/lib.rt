@@ -1,5 +1,7 @@
 //! Tasks: their start and their end, who ends with one, the records that they depend on, and the calls below that concern
 //! them.
+//!
+//! Begin with `end`: `list`, `stands`.
 #![tactic(auto)]
 
 mod deaths;

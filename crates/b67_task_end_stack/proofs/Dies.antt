@@ -97,7 +97,7 @@ module _ (x : Storage) (cpu : Cpu) (p : MachineView) (k : ℕ) (gone rest : List
           (by_test cpu.regs k);
     }
 
-    -- the machine stands for the view without the task, with its arrays left
+    -- the machine represents the view without the task, with its arrays left
     pub left_stands : Represents x new.core new.regs (with_objects gone (died p k rest))
     left_stands =
         let same : SameObjects p.objects (gone ++ rest) = record { there = may.there; back = may.back } in

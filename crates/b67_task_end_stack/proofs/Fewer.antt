@@ -237,7 +237,7 @@ module _ (x : Storage) (core : List Tagged) (r : Regs) (marks : List ℕ) (plan 
                 in_left m_left (keyed_has number_of m.constants.number jobs_left m_left left_found).0 u (in_m_left (subst (λ (v : SessionJob). Has (objects_of plan v) u) is i))
             by y in_y i (inr n) = in_left y (member_there y in_y n) u i
 
-      -- a machine that stands for the view after the deaths stands for that of the session afterwards
+      -- a machine that represents the view after the deaths represents that of the session afterwards
       pub Represents-left : (y : Storage) (new : List Tagged) (r' : Regs) → Represents y new r' (pic x core r marks plan s o h m in_m some f ts) → Represents y new r' (machine_view plan_left jobs_left)
       Represents-left y new r' st =
           let us = flat_map (objects_of plan_left) jobs_left in

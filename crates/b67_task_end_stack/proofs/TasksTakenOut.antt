@@ -1,4 +1,4 @@
--- Several tasks of a session die: before, their slots may be emptied in turn; afterwards, the machine stands for the session
+-- Several tasks of a session die: before, their slots may be emptied in turn; afterwards, the machine represents the session
 -- that the endings leave.
 use Rattle.std.proofs.Common.{◌≡◌, ◌≢◌, ℕ, ◌<◌, List, [], ◌∷◌, map, refl, sym, ◌∙◌, ap, arith, inl, inr, ◌⊎◌, ⊎_elim, subst}
 use Rattle.std.specs.Prelude.{◌==◌, filter}

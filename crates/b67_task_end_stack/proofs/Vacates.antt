@@ -1,4 +1,4 @@
--- A machine of which one slot was vacated stands for the view without its task, with the same objects.
+-- A machine of which one slot was vacated represents the view without its task, with the same objects.
 use Rattle.std.proofs.Common.{◌≡◌, ◌≢◌, ℕ, suc, ◌+◌, ◌<◌, ◌≤◌, List, [], ◌∷◌, length, sym, ◌∙◌, ap, arith, ⊎_elim, subst}
 use Rattle.std.specs.List.{slice_get}
 use Rattle.std.proofs.lemmas.Bool.{cases_eq, cases_lt}

@@ -38,7 +38,7 @@ session_without s m numbers = record s {
   jobs = change_keyed number_of m.constants.number (λ (z : SessionJob). record z { progress = record m.progress { job = job_without m.progress.job numbers } }) s.jobs;
 }
 
--- the machine stands for the session without them, when its critical marks do
+-- the machine represents the session without them, when its critical marks do
 abbrev pub IsBuried : Storage → List Tagged → Regs → Placement → Session → SessionJob → List ℕ → Type 0
 IsBuried y new r plan s m numbers =
     (marks : List ℕ) → RepresentsCritical marks (plan_without plan m numbers) (session_without s m numbers).jobs → SessionHolds y new r marks (plan_without plan m numbers) (session_without s m numbers)

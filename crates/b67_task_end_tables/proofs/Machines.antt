@@ -1,4 +1,4 @@
--- The machine stands for the session without the tasks that ended, once their slots are free, their rows are gone and the
+-- The machine represents the session without the tasks that ended, once their slots are free, their rows are gone and the
 -- marks are those of the rows.
 use Rattle.std.proofs.Common.{◌≡◌, ◌≢◌, ℕ, ◌+◌, ◌≤◌, List, [], ◌∷◌, map, length, Option, true, false, refl, sym, ◌∙◌, ap, arith, inl, inr, ◌⊎◌, ⊎_elim, subst, ◌==◌}
 use Rattle.std.specs.Prelude.{◌&&◌, if◌then◌else◌, unwrap_or, option_map}

@@ -43,7 +43,7 @@ pub record HasRowsOf (machine : Machine) (u : Tasks) : Type 0 where
   pub rows : u.rows ≡ machine.tasks.rows
   pub running : u.running ≡ machine.tasks.running
 
--- the machine, with the counts of these tables, stands for a session in order but for counts
+-- the machine, with the counts of these tables, represents a session in order but for counts
 pub record StandsWith (machine : Machine) (u : Tasks) (x : Storage) (told : Option (List (List ℕ))) (plan : Placement) (s : Session) : Type 0 where
   pub same : HasRowsOf machine u
   pub ordered : IsInOrderButCounts s
@@ -57,7 +57,7 @@ pub record MayEnd (plan : Placement) (s : Session) (m : SessionJob) (numbers : L
   pub turn : InTurn m.progress.job.tasks [] todo
   pub stopped : IsStopped plan m numbers
 
--- the machine stands for some session, of whose job these may end
+-- the machine represents some session, of whose job these may end
 pub record EndsSome (machine : Machine) (job : ℕ) (numbers : List ℕ) : Type 0 where
   pub tables : Tasks
   pub storage : Storage
@@ -75,7 +75,7 @@ pub record LeavesInPlace (x y : Storage) (plan placed : Placement) (s after : Se
   pub were : (t : PagedObject) → Has (machine_view placed after.jobs).objects t → Has (machine_view plan s.jobs).objects t
   pub held : (t : PagedObject) → Has (machine_view placed after.jobs).objects t → y.held t.home ≡ x.held t.home
 
--- the machine stands for the session in which these tasks of a job have ended, and what is left of it is held as in this storage
+-- the machine represents the session in which these tasks of a job have ended, and what is left of it is held as in this storage
 pub record HasEnded (u : Tasks) (x : Storage) (told : Option (List (List ℕ))) (plan : Placement) (s : Session) (m : SessionJob) (endings : List (ℕ × Ending)) (new : Machine) : Type 0 where
   pub storage : Storage
   pub stands : MachineRepresents storage told (record new { tasks = record u { rows = new.tasks.rows; running = new.tasks.running } })

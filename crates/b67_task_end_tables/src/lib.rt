@@ -1,4 +1,6 @@
 //! The end of tasks over the whole machine.
+//!
+//! Begin with `end_family` and its clause `stands`.
 #![tactic(auto)]
 
 mod ends;

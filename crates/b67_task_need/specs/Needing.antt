@@ -27,7 +27,7 @@ abbrev pub HasWords : Job → Option ℕ → Type 0
 HasWords job None = Unit {0}
 HasWords job (Some a) = touched_words job (Some a) ≢ 0
 
--- the machine stands for some session in order
+-- the machine represents some session in order
 pub record StandsOrdered (k : Machine) : Type 0 where
   pub storage : Storage
   pub told : Option (List (List ℕ))

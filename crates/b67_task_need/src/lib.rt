@@ -1,4 +1,6 @@
 //! What the next operator needs of core, and the sectors that a state takes.
+//!
+//! Begin with `need`, which is the number of the model.
 #![tactic(auto)]
 
 mod needing;

@@ -39,7 +39,7 @@ words_descriptor k (e ∷ below) a n h = ⊎_elim
     let r : IsCell (e ∷ below) a = record { activation = q.activation; among = inr q.among; cell = q.cell } in r)
     (has_append_cases e.cells (headed k e.head below (words k below)) a h)
 
--- the word of a frame that it stands for
+-- the word of a frame that it represents
 pub record IsWord (plan : Placement) (j : ℕ) (job : Job) (frames : List Frame) (a : Shape) : Type 0 where
   pub frame : Frame
   pub among : Has frames frame

@@ -1,4 +1,4 @@
--- A session whose machine has arrays left: they lie above the top, and without them the machine stands for the session.
+-- A session whose machine has arrays left: they lie above the top, and without them the machine represents the session.
 use Rattle.std.proofs.Common.{◌≡◌, ◌≢◌, ℕ, ◌+◌, ◌<◌, List, [], ◌∷◌, length, Option, Some, None, refl, sym, ◌∙◌, ap, arith, subst}
 use Rattle.b67_area.specs.declared.Areas.{Areas}
 use Rattle.b67_backing.specs.Shelf.{Table}

@@ -12,7 +12,7 @@ use Rattle.b67_stack.specs.Common.{IsOriginal, PagedObject, Storage}
 use Rattle.b67_layout.specs.Common.{Placement, RepresentsSession, RepresentsSessionBut, RepresentsStorage}
 use Rattle.b67_task_release.specs.Released.{HasHome, Released, SameBelow}
 
--- the machine stands for a session but for arrays whose originals lie in a part of the running slot above the stack's top,
+-- the machine represents a session but for arrays whose originals lie in a part of the running slot above the stack's top,
 -- and each original there is that of one of them. The tasks' frames are in order
 pub record IsLeft (left : List PagedObject) (x : Storage) (cpu : Cpu) (plan : Placement) (s : Session) (from upto : ℕ) : Type 0 where
   pub frames : (m : SessionJob) (t : Task) → Has s.jobs m → Has m.progress.job.tasks t → FramesInOrder (IsSegment m.constants) m.progress.job.arrays (outer_of m.progress.job t) t.frames
@@ -24,7 +24,7 @@ pub record IsLeft (left : List PagedObject) (x : Storage) (cpu : Cpu) (plan : Pl
   pub among : (t : PagedObject) → Has left t → (from ≤ t.home) × (t.home < upto)
   pub each : (i : ℕ) (w : Tagged) → from ≤ i → i < upto → slice_get cpu.core i ≡ Some w → IsOriginal w → HasHome left i
 
--- the machine stands for the session, over the storage without those arrays. No other word below the areas has changed
+-- the machine represents the session, over the storage without those arrays. No other word below the areas has changed
 -- but the directory's
 pub record AreReleased (left : List PagedObject) (x : Storage) (old cpu : Cpu) (areas : Areas) (table : Table) (told : Option (List (List ℕ))) (plan : Placement) (s : Session) : Type 0 where
   pub storage : Storage

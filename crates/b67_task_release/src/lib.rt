@@ -1,4 +1,6 @@
 //! The arrays of an activation record that was left are given back: their areas and their chains of sectors.
+//!
+//! Begin with `release`: `stands`, `released`.
 #![tactic(auto)]
 
 mod leftovers;

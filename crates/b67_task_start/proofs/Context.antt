@@ -1,4 +1,4 @@
--- What the code that starts a task finds and makes, by the session that the machine stands for.
+-- What the code that starts a task finds and makes, by the session that the machine represents.
 use Rattle.std.proofs.Common.{◌≡◌, ◌≢◌, ℕ, ◌+◌, ◌-◌, ◌≤◌, List, [], ◌∷◌, ◌++◌, length, Option, Some, refl, sym, ◌∙◌, ap, arith, slice_set}
 use Rattle.std.specs.List.{slice_get}
 use Rattle.b67_area.specs.declared.Areas.{Areas}

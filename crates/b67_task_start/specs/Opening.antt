@@ -23,7 +23,7 @@ pub record IsLowestFree (plan : Placement) (k : ℕ) : Type 0 where
 abbrev pub slot_end : Placement → ℕ → ℕ
 slot_end plan k = plan.stacks + (k + 1) * plan.size
 
--- core and registers stand for some session
+-- core and registers represent some session
 pub record HoldsOne (core : List Tagged) (r : Regs) : Type 0 where
   pub storage : Storage
   pub marks : List ℕ
@@ -31,7 +31,7 @@ pub record HoldsOne (core : List Tagged) (r : Regs) : Type 0 where
   pub session : Session
   pub holds : SessionHolds storage core r marks plan session
 
--- the machine stands for some session
+-- the machine represents some session
 pub record HasSome (cpu : Cpu) : Type 0 where
   pub storage : Storage
   pub plan : Placement
@@ -46,7 +46,7 @@ pub record HasSlot (x : Storage) (plan : Placement) (s : Session) (core k : ℕ)
   pub inside : slot_end plan k ≤ core
   pub clear : (at : ℕ) (a : Info) → area_at x.low x.spans at ≡ Some a → slot_end plan k < at
 
--- the machine stands for some session in order, which has such a slot
+-- the machine represents some session in order, which has such a slot
 pub record HasSomeSlot (cpu : Cpu) (areas : Areas) : Type 0 where
   pub storage : Storage
   pub plan : Placement
@@ -57,7 +57,7 @@ pub record HasSomeSlot (cpu : Cpu) (areas : Areas) : Type 0 where
   pub low : areas.low ≡ storage.low
   pub has : HasSlot storage plan session (length cpu.core) slot
 
--- the machine stands for the session whose peak counts one live task more. What the sectors hold is as it was
+-- the machine represents the session whose peak counts one live task more. What the sectors hold is as it was
 pub record SlotOpened (x : Storage) (plan : Placement) (s : Session) (cpu : Cpu) (areas : Areas) : Type 0 where
   pub storage : Storage
   pub stands : RepresentsSession storage cpu (with_peak plan (peak_with s 1)) (record s { peak = peak_with s 1 })

@@ -51,7 +51,7 @@ child m t count f segment level place = child_of (here m t t.place) (reverse (ar
 abbrev pub with_child : Job → Task → Job
 with_child job t = record job { tasks = t ∷ job.tasks; next_task = job.next_task + 1; next_frame = job.next_frame + 1 }
 
--- the machine stands for some session in order, whose running task may start one so
+-- the machine represents some session in order, whose running task may start one so
 pub record StartsSome (k : Machine) (at count : ℕ) : Type 0 where
   pub storage : Storage
   pub told : Option (List (List ℕ))

@@ -1,4 +1,4 @@
--- The machine stands for the session with a new task, once its stack waits in its slot.
+-- The machine represents the session with a new task, once its stack waits in its slot.
 use Rattle.std.proofs.Common.{◌≡◌, ◌≢◌, ℕ, ◌+◌, ◌*◌, ◌^◌, ◌<◌, ◌≤◌, List, [], ◌∷◌, ◌++◌, length, Some, refl, sym, ◌∙◌, ap, arith, Bool, true, false, ◌==◌, inl, inr, ◌⊎◌, ⊎_elim, subst, unwrap_or}
 use Rattle.std.specs.Prelude.{if◌then◌else◌, flat_map}
 use Rattle.std.specs.List.{slice_get, list_any}

@@ -1,4 +1,4 @@
--- What the code that builds a stack finds and makes, by the session that the machine stands for.
+-- What the code that builds a stack finds and makes, by the session that the machine represents.
 use Rattle.std.proofs.Common.{◌≡◌, ◌≢◌, ℕ, suc, ◌+◌, ◌-◌, ◌*◌, ◌^◌, ◌<◌, ◌≤◌, List, [], ◌∷◌, length, not, Some, None, refl, sym, ◌∙◌, ap, arith, true, false, ◌==◌, inl, inr, ◌⊎◌, ⊎_elim, subst, slice_set}
 use Rattle.std.specs.Prelude.{max}
 use Rattle.std.specs.List.{slice_get}

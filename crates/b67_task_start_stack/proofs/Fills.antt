@@ -1,4 +1,4 @@
--- A stack in a slot in which no task lived: the machine stands for the view with that stack waiting there.
+-- A stack in a slot in which no task lived: the machine represents the view with that stack waiting there.
 use Rattle.std.proofs.Common.{◌≡◌, ◌≢◌, ℕ, suc, ◌+◌, ◌<◌, ◌≤◌, List, [], ◌∷◌, ◌∙◌, arith, inl, inr, ⊎_elim, subst}
 use Rattle.std.specs.List.{slice_get}
 use Rattle.std.proofs.lemmas.Bool.{cases_lt}

@@ -1,4 +1,4 @@
--- One slot more behind those used so far: the machine stands for the same view with that slot.
+-- One slot more behind those used so far: the machine represents the same view with that slot.
 use Rattle.std.proofs.Common.{◌≡◌, ◌≢◌, ℕ, suc, ◌+◌, ◌<◌, ◌≤◌, List, length, Some, refl, sym, ◌∙◌, ap, arith, ⊎_elim, subst}
 use Rattle.std.specs.List.{slice_get}
 use Rattle.std.proofs.lemmas.Bool.{cases_lt}

@@ -1,4 +1,4 @@
--- A task was started in a slot that was used before: the machine stands for the session with it.
+-- A task was started in a slot that was used before: the machine represents the session with it.
 use Rattle.std.proofs.Common.{◌≡◌, ◌≢◌, ℕ, suc, ◌+◌, ◌-◌, ◌<◌, ◌≤◌, List, [], ◌∷◌, ◌++◌, map, length, Option, Some, None, refl, sym, ◌∙◌, ap, arith, Bool, true, false, ◌==◌, inl, inr, ◌⊎◌, ⊎_elim, subst}
 use Rattle.std.specs.Prelude.{if◌then◌else◌, max, ◌||◌}
 use Rattle.std.specs.List.{slice_get, list_any}

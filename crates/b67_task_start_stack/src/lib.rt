@@ -1,4 +1,6 @@
 //! A slot more, and the new task's stack in its slot.
+//!
+//! Begin with `build_child` and its clause `stands`.
 #![tactic(auto)]
 
 mod children;

@@ -1,4 +1,4 @@
--- What the machine stands for before and after its registers go to another task.
+-- What the machine represents before and after its registers go to another task.
 use Rattle.std.specs.Prelude.{◌≡◌, ℕ, ◌<◌, List, length, Option}
 use Rattle.b67_word.specs.Tagged.{Tagged}
 use Rattle.b67_ctl.specs.declared.registers.TheConstants.{NO_SLOT}
@@ -10,7 +10,7 @@ use Rattle.b67_task_tables.specs.declared.tables.Tasks.{Tasks}
 use Rattle.b67_task_tables.specs.declared.tables.Machine.{Machine}
 use Rattle.b67_task_tables.specs.Tables.{TasksShow, MachineRepresents}
 
--- the machine stands for some session in order, and has a row of this number
+-- the machine represents some session in order, and has a row of this number
 pub record HasRow (k : Machine) (row : ℕ) : Type 0 where
   pub storage : Storage
   pub told : Option (List (List ℕ))

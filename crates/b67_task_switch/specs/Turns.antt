@@ -23,7 +23,7 @@ pub record IsTurnOf (plan : Placement) (jobs : List SessionJob) (m : SessionJob)
   pub segment : turn.segment ≡ t.segment + 1
   pub place : turn.place ≡ t.place
 
--- the machine stands for some session in order, of which this is a live task
+-- the machine represents some session in order, of which this is a live task
 pub record HasTurn (cpu : Cpu) (turn : Turn) : Type 0 where
   pub storage : Storage
   pub plan : Placement
@@ -34,7 +34,7 @@ pub record HasTurn (cpu : Cpu) (turn : Turn) : Type 0 where
   pub stands : RepresentsSession storage cpu plan session
   pub waits : IsTurnOf plan session.jobs member task turn
 
--- it stands for some session
+-- it represents some session
 pub record StandsForOne (cpu : Cpu) : Type 0 where
   pub storage : Storage
   pub plan : Placement

@@ -1,4 +1,6 @@
 //! Which task makes the next operator, the counts of operators, and the switch from one task to another.
+//!
+//! Begin with `choose` (`choice`) and `switch_to` (`stands`).
 #![tactic(auto)]
 
 mod choosing;

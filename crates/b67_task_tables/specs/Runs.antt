@@ -6,7 +6,7 @@ use Rattle.b67_stack.specs.Represents.{Storage}
 use Rattle.b67_task_tables.specs.declared.tables.Machine.{Machine}
 use Rattle.b67_task_tables.specs.Tables.{MachineRepresents, given_of}
 
--- the machine stands for some session in order, of which a task runs
+-- the machine represents some session in order, of which a task runs
 pub record RunsTask (k : Machine) : Type 0 where
   pub storage : Storage
   pub told : Option (List (List ℕ))
@@ -18,7 +18,7 @@ pub record RunsTask (k : Machine) : Type 0 where
   pub stands : MachineRepresents storage told k plan session
   pub running : IsRunning plan session.jobs member task
 
--- for each session in order that the machine stands for, with its running task
+-- for each session in order that the machine represents, with its running task
 abbrev pub ForEachRun : Machine → (Storage → Option (List (List ℕ)) → Placement → Session → SessionJob → Task → Type 0) → Type 0
 ForEachRun k P =
     (x : Storage) (told : Option (List (List ℕ))) (plan : Placement) (s : Session) (m : SessionJob) (t : Task) → IsInOrderButCounts s → MachineRepresents x told k plan s

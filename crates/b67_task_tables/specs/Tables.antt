@@ -1,4 +1,4 @@
--- When the machine with its tables stands for a session.
+-- When the machine with its tables represents a session.
 use Rattle.std.specs.Prelude.{ℕ, ℤ, ◌<◌, ◌^◌, List, length, map, Option}
 use Rattle.b67_lemmas.specs.Lists.{Has}
 use Rattle.b67_model_text.specs.declared.deck.Switch as text

@@ -1,4 +1,6 @@
 //! The machine with the tables of its tasks and jobs.
+//!
+//! Begin with the definition `MachineRepresents` (`specs/Tables`).
 #![tactic(auto)]
 
 pub mod tables;

@@ -1,4 +1,4 @@
--- The whole numbers that operands stand for.
+-- The whole numbers that operands represent.
 use Rattle.std.specs.Prelude.{ℕ, ◌+◌, ◌/◌, ◌%◌, ◌^◌, nat_lt, ℤ, pos, neg_ℤ, nat_abs, int_lt, Bool, ◌==◌, ◌&&◌, if◌then◌else◌, Option, Some, None}
 use Rattle.b67_word.specs.Tagged.{Tagged, word}
 

@@ -1,4 +1,6 @@
 //! Words, couples, places, faults, endings and the small lists that all crates of the machine share.
+//!
+//! Begin with `Word::new` (`fits`, `value`) and `couple_of`.
 #![tactic(auto)]
 
 mod couples;
