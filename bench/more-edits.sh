@@ -4,6 +4,7 @@
 # have some, and prints a line for each crate and each edit that the prover didn't refuse by a clause. It ends with status 1
 # if an edit was proved, couldn't be read or couldn't be tried. What checks of the same crates kept on this machine is taken
 # over, so run it where the crates have just passed.
+[ -n "${BASH_VERSION:-}" ] || { echo "usage: bash bench/more-edits.sh [NAME..]" >&2; exit 2; }
 set -euo pipefail
 top=$(cd "$(dirname "$0")/.." && pwd)
 room=$(mktemp -d)
