@@ -27,7 +27,8 @@ use Rattle.b67_job.specs.declared.summaries.Closing.{Closing}
 use Rattle.b67_job.specs.Texts.{only}
 use Rattle.b67_job.specs.Finishing.{refused_status, refused_line, SessionRan}
 use Rattle.b67_job.specs.Runs.{run_of, memory_refused, opening_wants_core, opening_wants_sectors, opening_fails, WasOpened, unopened, opened, DeckRunEnds, run_stops, step_is_cut, StepsEnd, steps_stop, next_is_cut}
-use Rattle.b67_job.proofs.Opened.{states_in_order, stays_ordered, says_after, stands_opened, stage_of, known_after, known_later}
+use Rattle.b67_session.proofs.Openings.{says_after, stands_opened, opens_open}
+use Rattle.b67_job.proofs.Opened.{states_in_order, stays_ordered, known_after, known_later}
 use Rattle.b67_job.proofs.Ran.{closes_only, ran}
 use Rattle.b67_job.proofs.Closings.{none_printed}
 use Rattle.b67_model.specs.declared.limits.TheConstants.{MOST_MADE}
@@ -88,7 +89,7 @@ module _ {K B : Type 0} (taken : K → Option (List ℕ)) (failures : K → ℕ)
   stands = stands_opened d fs said core (size b) k0 range loaded o.2
 
   pub is_open : IsOpen (holds b') k0
-  is_open = record { stage = stage_of said (holds b') k0 first (says_after (holds b) (holds b')) stands; countable = o.2.countable }
+  is_open = opens_open d fs (holds b) (holds b') core (size b) k0 range loaded o.2
 
   pub deck_run : (old new : K) (answer : ℕ) → DeviceAfterCalls holds size calls broken b b' → DeviceAfterCalls holds size calls broken b' b''
       → IsOpen (holds b'') k → Keeps k0 k

@@ -38,7 +38,8 @@ use Rattle.b67_dump.specs.Laws.{DumpsAreShown}
 use Rattle.b67_session_lines.specs.Ends.{EndsPrinting}
 use Rattle.b67_job.specs.declared.command.CommandLine.TheVariants as lines
 use Rattle.b67_job.specs.Due.{Serves, answered, image_due, dump_due, DumpEnds, is_dumped, isnt_read, reading_due, memory_due, reading_text, ImageRefusalEnds}
-use Rattle.b67_job.proofs.Opened.{stays_ordered, stage_of}
+use Rattle.b67_session.proofs.Openings.{stands_open}
+use Rattle.b67_job.proofs.Opened.{stays_ordered}
 use Rattle.b67_job.proofs.Closings.{none_printed}
 use Rattle.b67_job.proofs.Ran.{ran, closes_only}
 use Rattle.b67_job.proofs.Finished.{is_finished}
@@ -52,7 +53,7 @@ image_stands p image shows = let r = shows.stands in (r.session, record { storag
 
 -- so a slice may be called on it
 pub image_is_open : (told : Option (List (List ℕ))) (image : Machine) → (s : Session) × StandsAt None image s → AreCountable image.tasks.jobs → IsOpen told image
-image_is_open told image some countable = record { stage = stage_of None told image some.0 tt some.1; countable = countable }
+image_is_open told image some countable = stands_open None told image some.0 tt some.1 countable
 
 -- ---- its steps
 
