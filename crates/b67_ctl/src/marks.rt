@@ -44,7 +44,7 @@ pub struct Toscw {
 
 impl Mscw {
     /// The word of a mark that fits.
-    #[inline]
+    #[inline(always)]
     pub fn word(self) -> Word
         requires { IsMscw self }
         ensures { result ≡ mscw_word self }
@@ -121,6 +121,7 @@ impl Mscw {
 
 impl Rcw {
     /// The word of a return that fits.
+    #[inline(always)]
     pub fn word(self) -> Word
         requires { IsRcw self }
         ensures { result ≡ rcw_word self }

@@ -46,7 +46,7 @@ fn is_described(core: &Core, at: u32, kind: Kind) -> bool
 {
     let w = core.get(at);
     let again = described(kind, w);
-    if !is_word(w, again.tag(), again.bits()) {
+    if !is_word(w, again.tag() as u8, again.bits()) {
         return false;
     }
     true
@@ -82,7 +82,7 @@ fn have_tag(core: &Core, at: u32, words: u32, tag: u8) -> bool
 {
     let _size = core.size();
     'each: for j in 0..words {
-        if core.get(at + j).tag() != tag {
+        if core.get(at + j).tag() as u8 != tag {
             return false;
         }
     }

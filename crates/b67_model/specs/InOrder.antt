@@ -2,7 +2,7 @@
 -- Each item that speaks of a place of code takes what such a place must be as a parameter: `IsStart`, that an operator
 -- stands there, gives the whole order, and `IsSegment`, that its segment is one of the job, gives the items that any
 -- code words keep.
-use Rattle.std.specs.Prelude.{◌≡◌, ◌≢◌, ◌↔◌, ℕ, ◌+◌, ◌-◌, ◌^◌, ◌<◌, ◌≤◌, ◌==◌, Bool, false, nat_abs, List, [], ◌∷◌, ◌++◌, map, reverse, length, sum_by, Option, Some, None, IsTrue, if◌then◌else◌, slice_get}
+use Rattle.std.specs.Prelude.{◌≡◌, ◌≢◌, ◌↔◌, ℕ, ◌+◌, ◌-◌, ◌*◌, ◌^◌, ◌<◌, ◌≤◌, ◌==◌, Bool, false, nat_abs, List, [], ◌∷◌, ◌++◌, map, reverse, length, sum_by, Option, Some, None, IsTrue, if◌then◌else◌, slice_get}
 use Rattle.std.specs.List.{AllByRecursion}
 use Rattle.b67_word.specs.declared.couples.Place.{Place}
 use Rattle.b67_model.specs.declared.intrinsics.TheConstants.{MOST_TASKS}
@@ -17,7 +17,7 @@ use Rattle.b67_model.specs.Endings.{is_ready}
 use Rattle.b67_model.specs.Loader.{listing, At}
 use Rattle.b67_model.specs.Schedule.{Switch, Session}
 use Rattle.b67_model.specs.Run.{live_tasks}
-use Rattle.b67_model.specs.declared.limits.TheConstants.{LEAST_STACK, MOST_JOBS, MOST_PARTS, MOST_LIMIT}
+use Rattle.b67_model.specs.declared.limits.TheConstants.{LEAST_STACK, MOST_STACK, MOST_JOBS, MOST_PARTS, MOST_SEGMENT, MOST_ARRAY, MOST_LIMIT}
 
 -- what a place of a segment must be, for an activation of a level that goes on there
 abbrev pub Starts : Type 1
@@ -220,7 +220,7 @@ frames_in_job identity job = total (λ (t : Task). frames_named identity t.frame
 
 pub record ArrayInOrder (a : Array) : Type 0 where
   pub length_low : 0 < length a.numbers
-  pub length_high : length a.numbers < 2 ^ 16
+  pub length_high : length a.numbers < MOST_ARRAY + 1
   pub words : AllByRecursion (λ (n : ℕ). n < 2 ^ 48) a.numbers
   pub writes : (a.writable ≡ false) ↔ (a.owner ≡ 1)
 
@@ -236,13 +236,13 @@ DictionaryWords n (s ∷ more) (w ∷ words) = (w ≡ Words.Segment n) × Dictio
 
 pub record SegmentInOrder (s : Segment) : Type 0 where
   pub length_low : 0 < length s.code
-  pub length_high : length s.code < 2 ^ 13
+  pub length_high : length s.code < MOST_SEGMENT + 1
   pub words : AllByRecursion (λ (n : ℕ). n < 2 ^ 48) s.code
 
 pub record SettingInOrder (constants : JobConstants) : Type 0 where
   pub limit : constants.limit ≤ MOST_LIMIT
   pub stack_low : LEAST_STACK ≤ constants.stack_size
-  pub stack_high : constants.stack_size < 2 ^ 14
+  pub stack_high : constants.stack_size < MOST_STACK + 1
   pub segments : AllByRecursion SegmentInOrder constants.segments
   pub entries : length constants.dictionary.cells ≤ MOST_PARTS
   pub named : constants.dictionary.identity ≡ 1
@@ -308,7 +308,7 @@ pub record SessionInOrder (P : JobConstants → Starts) (s : Session) : Type 0 w
   pub jobs : AllByRecursion (λ (m : SessionJob). JobInOrder (P m.constants) m.constants m.progress) s.jobs
   pub switches : SwitchesRise s.switches
   pub peak_low : live_tasks s.jobs ≤ s.peak
-  pub peak_high : s.peak ≤ 120
+  pub peak_high : s.peak ≤ MOST_JOBS * MOST_TASKS
   pub counted : s.made ≡ sum_by (λ (m : SessionJob). m.progress.made) s.jobs
   pub turn : s.turn ≤ s.made
 

@@ -3,6 +3,7 @@ use Rattle.std.specs.Prelude.{ℕ, ◌+◌, ◌==◌, ◌&&◌, nat_lt, nat_le, 
 use Rattle.std.specs.List.{list_any}
 use Rattle.b67_word.specs.declared.faults.Fault.TheVariants.{StackOverflow, InvalidOperand, InvalidIndex, MemoryProtect, CriticalBlock}
 use Rattle.b67_word.specs.declared.couples.Place.{Place}
+use Rattle.b67_model.specs.declared.limits.TheConstants.{MOST_ARRAY}
 use Rattle.b67_model.specs.declared.intrinsics.TheConstants.{ARRAYDEC, PRINT, PRINTROW, READ, PROCESS, AWAIT, STATUS, WAIT, CAUSE, DEALLOCATE, RESIZE, MOST_TASKS}
 use Rattle.b67_model.specs.Answers.{Answer, ◌>>=◌, ◌>>◌, needs}
 use Rattle.b67_word.specs.Operands.{bits_of}
@@ -30,7 +31,7 @@ answers h job words printed touched = do
   result h job (answered h words) printed touched
 
 abbrev pub array_length : ℤ → Answer ℕ
-array_length (pos n) = if nat_lt 0 n && nat_lt n 65536 then Ok n else Err InvalidIndex
+array_length (pos n) = if nat_lt 0 n && nat_lt n (MOST_ARRAY + 1) then Ok n else Err InvalidIndex
 array_length (negsuc n) = Err InvalidIndex
 
 abbrev pub arraydec : OperatorContext → List Word → Answer Done

@@ -50,11 +50,11 @@ impl Word {
         Word(u64::from(tag) * TAG_WEIGHT + bits)
     }
 
-    pub fn tag(self) -> u8
+    pub fn tag(self) -> u16
         ensures value { result ≡ self.tag }
         ensures small { result < 8 }
     {
-        (self.0 / TAG_WEIGHT) as u8
+        (self.0 / TAG_WEIGHT) as u16
     }
 
     pub fn bits(self) -> u64
