@@ -6,8 +6,8 @@ import collections, os, re, sys
 # The most of each. A change that lowers a count lowers its bound; one that must raise it says so in its commit.
 BOUNDS = {
     'crates': 68,
-    'longest chain': 15,
-    'ways down crates.txt': 317718,
+    'longest chain': 14,
+    'ways down crates.txt': 218030,
     'definition names in two crates': 42,
     'longest function outside tests': 37,
     'contracts over eight clauses': 14,

@@ -69,8 +69,8 @@ ten_words =
     operators_times 44 (NVLD ∷ []) ++ []) ∷ []
 
 -- eight arrays, of each of which an element is raised by a child
-abbrev pub eight : List Segment
-eight =
+abbrev pub eight_arrays : List Segment
+eight_arrays =
     segment 2 (MPCW 2 3 ∷ operators_times 8 (MKST ∷ NAMC 0 8 ∷ LT8 200 ∷ ENTR ∷ []) ++ NAMC 2 3 ∷ LT8 0 ∷ INDX ∷ NAMC 2 4 ∷
     LT8 1 ∷ INDX ∷ NAMC 2 5 ∷ LT8 2 ∷ INDX ∷ NAMC 2 6 ∷ LT8 3 ∷ INDX ∷ NAMC 2 7 ∷ LT8 4 ∷ INDX ∷ NAMC 2 8 ∷
     LT8 5 ∷ INDX ∷ NAMC 2 9 ∷ LT8 6 ∷ INDX ∷ NAMC 2 10 ∷ LT8 7 ∷ INDX ∷ LT8 11 ∷ NAMC 2 11 ∷ STOD ∷ LT8 12 ∷

@@ -5,7 +5,7 @@ ghost use Rattle.b67_model_text.specs.Cards.{cards};
 ghost use Rattle.b67_model_text.specs.Asm.{version_of};
 ghost use Rattle.b67_law_examples.specs.Cards.{assembly, refused_with};
 ghost use Rattle.b67_law_examples.specs.LongPrograms.{manboy};
-ghost use Rattle.b67_law_examples.specs.Programs.{eight, jensen, leave, sum};
+ghost use Rattle.b67_law_examples.specs.Programs.{eight_arrays, jensen, leave, sum};
 ghost use Rattle.b67_law_examples.specs.Sessions.{without_rows};
 ghost use Rattle.b67_law_examples.specs.CardTexts.{eight_cards, jensen_cards, leave_cards, manboy_cards, small_segments, sum_cards, text_of_cards};
 
@@ -27,7 +27,7 @@ pub fn manboy_is_assembled()
 
 /// The cards with eight arrays denote their program.
 pub fn eight_is_assembled()
-    ensures { assembly (text_of_cards eight_cards) ≡ Ok (without_rows eight) }
+    ensures { assembly (text_of_cards eight_cards) ≡ Ok (without_rows eight_arrays) }
 {}
 
 /// The cards with a procedure's own array denote their program.

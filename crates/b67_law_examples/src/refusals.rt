@@ -4,7 +4,7 @@ ghost use Rattle.std.specs.Prelude.{◌≡◌, [], ◌∷◌, map};
 ghost use Rattle.b67_word.specs.Couples.{couple};
 ghost use Rattle.b67_model.specs.Loader.{refusals, first_of};
 ghost use Rattle.b67_law_examples.specs.Sessions.{branching, first_at, refused_at, rule_of, without_rows};
-ghost use Rattle.b67_law_examples.specs.Programs.{eight, enters_at_0_1, counted_entries, exercise_program, into_a_literal, jensen, leave, names_itself, names_none, one_word_segment, outer_of_level_3, popped_cell, sum, thirty_levels, two, two_tasks, with_entries};
+ghost use Rattle.b67_law_examples.specs.Programs.{eight_arrays, enters_at_0_1, counted_entries, exercise_program, into_a_literal, jensen, leave, names_itself, names_none, one_word_segment, outer_of_level_3, popped_cell, sum, thirty_levels, two, two_tasks, with_entries};
 
 /// At level 2 the couple of level 2 and displacement 5 is 1005 in hexadecimal, and that of level 0 and 9 is 9.
 pub fn couple_in_reversed_bits()
@@ -42,7 +42,7 @@ pub fn rows_programs_are_admitted()
     ensures sum { refusals (without_rows sum) ≡ [] }
     ensures jensen { refusals (without_rows jensen) ≡ [] }
     ensures two_tasks { refusals (without_rows two_tasks) ≡ [] }
-    ensures eight { refusals (without_rows eight) ≡ [] }
+    ensures eight { refusals (without_rows eight_arrays) ≡ [] }
     ensures leave { refusals (without_rows leave) ≡ [] }
     ensures two { refusals (without_rows two) ≡ [] }
     ensures thirty_levels { refusals (without_rows thirty_levels) ≡ [] }

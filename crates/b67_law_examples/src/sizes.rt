@@ -6,7 +6,7 @@ ghost use Rattle.b67_word.specs.declared.faults.Ending.TheVariants.{Ended, Limit
 ghost use Rattle.b67_model.specs.Run.{after, lines};
 ghost use Rattle.b67_model.specs.Need.{need_at_opening, need_next};
 ghost use Rattle.b67_law_examples.specs.Sessions.{line_of_ending, faults, most_need, most_sectors, one_job, refused_row_program, row_with_bits_program, line_of_value, limited_job, job_with_stack};
-ghost use Rattle.b67_law_examples.specs.Programs.{critical_block, eight, leave, ten_words, three_segments, two};
+ghost use Rattle.b67_law_examples.specs.Programs.{critical_block, eight_arrays, leave, ten_words, three_segments, two};
 ghost use Rattle.b67_law_examples.specs.TaskPrograms.{awaited};
 
 /// One array under ten words of code with stacks of 256 words.
@@ -17,9 +17,9 @@ pub fn ten_words_need_533()
 
 /// Need is greatest after the AWAIT, and the sectors are those of two segments and eight arrays.
 pub fn eight_needs_910()
-    ensures most { most_need 200 (job_with_stack 256 eight) ≡ 910 }
-    ensures there { need_next 0x100000 (after 157 (job_with_stack 256 eight)) ≡ Some 910 }
-    ensures sectors { most_sectors 200 (job_with_stack 256 eight) ≡ 58 }
+    ensures most { most_need 200 (job_with_stack 256 eight_arrays) ≡ 910 }
+    ensures there { need_next 0x100000 (after 157 (job_with_stack 256 eight_arrays)) ≡ Some 910 }
+    ensures sectors { most_sectors 200 (job_with_stack 256 eight_arrays) ≡ 58 }
 {}
 
 /// An array of a left activation record takes no sectors.

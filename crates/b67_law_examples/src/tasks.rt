@@ -6,7 +6,7 @@ ghost use Rattle.b67_word.specs.declared.faults.Ending.TheVariants.{Deadlock, En
 ghost use Rattle.b67_model.specs.Steps.{Ends};
 ghost use Rattle.b67_model.specs.Run.{after, lines, live_tasks};
 ghost use Rattle.b67_law_examples.specs.Sessions.{job_alone, line_of_ending, faults, one_job, switch_to_task, session_of_two, line_of_value, job_with_stack, without_rows};
-ghost use Rattle.b67_law_examples.specs.Programs.{critical_block, critical_program, eight, event, fifteen, leave, never_started, popped_cell, three_segments, two, two_tasks, wait_at_zero};
+ghost use Rattle.b67_law_examples.specs.Programs.{critical_block, critical_program, eight_arrays, event, fifteen, leave, never_started, popped_cell, three_segments, two, two_tasks, wait_at_zero};
 ghost use Rattle.b67_law_examples.specs.TaskPrograms.{family, faulting_parent, in_turns, left_by_value, stuck_beside_a_loop, watched};
 
 /// Without a switch the parent stores first, and both additions count.
@@ -31,9 +31,9 @@ pub fn critical_mark_may_not_be_cut()
 
 /// Eight arrays and a child: 174 operators.
 pub fn eight_is_printed()
-    ensures printed { lines 200 (job_with_stack 256 eight) ≡ line_of_ending 2 Ended ∷ line_of_value 1 (pos 916) ∷ line_of_ending 1 Ended ∷ [] }
-    ensures made { (after 200 (job_with_stack 256 eight)).made ≡ 174 }
-    ensures halted { live_tasks (after 100 (job_with_stack 256 eight)).jobs ≡ 2 }
+    ensures printed { lines 200 (job_with_stack 256 eight_arrays) ≡ line_of_ending 2 Ended ∷ line_of_value 1 (pos 916) ∷ line_of_ending 1 Ended ∷ [] }
+    ensures made { (after 200 (job_with_stack 256 eight_arrays)).made ≡ 174 }
+    ensures halted { live_tasks (after 100 (job_with_stack 256 eight_arrays)).jobs ≡ 2 }
 {}
 
 /// An array of a left activation record is gone.

@@ -20,7 +20,7 @@ use Rattle.b67_job.specs.Statuses.{StatusMeans}
 use Rattle.b67_program.specs.declared.reading.InputFault.{InputFault}
 use Rattle.b67_program.specs.declared.reading.InputFault.TheVariants.{SourceFault, Memory}
 use Rattle.b67_program.specs.Input.{IsTakenIn}
-use Rattle.b67_program.specs.Opening.{Opens}
+use Rattle.b67_program.specs.Opening.{OpensPaths}
 use Rattle.b67_program.specs.Served.{IsAnswered, carried_out, reading_failed, text_wants_memory}
 
 -- a command has a limit where it reads a text
@@ -106,5 +106,5 @@ not_seven taken faults old new answer P (all_printed a t) e = absurd (omega (ari
 not_seven taken faults old new answer P (cut_off a f t) e = absurd (omega (arith, a, e))
 
 -- nothing was opened
-pub opens_none : {R : Type 0} (opened : R → Option (List (List ℕ))) (now : R) → Opens opened now now []
+pub opens_none : {R : Type 0} (opened : R → Option (List (List ℕ))) (now : R) → OpensPaths opened now now []
 opens_none opened now = record { told = λ before e. e ∙ ap Some (sym (append-nil before)) }

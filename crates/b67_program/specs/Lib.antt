@@ -1,4 +1,6 @@
+pub mod InMemory
 pub mod Input
+pub mod Lent
 pub mod Opening
 pub mod Served
 pub mod Started

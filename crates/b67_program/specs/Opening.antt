@@ -2,7 +2,7 @@
 use Rattle.std.specs.Prelude.{◌≡◌, ℕ, List, [], ◌∷◌, ◌++◌, Option, Some, None}
 
 -- these paths were opened, in this order, and no others
-pub record Opens {R : Type 0} (opened : R → Option (List (List ℕ))) (old new : R) (paths : List (List ℕ)) : Type 0 where
+pub record OpensPaths {R : Type 0} (opened : R → Option (List (List ℕ))) (old new : R) (paths : List (List ℕ)) : Type 0 where
   pub told : (before : List (List ℕ)) → opened old ≡ Some before → opened new ≡ Some (before ++ paths)
 
 -- what the file of a path holds, if that is told, is what its sectors tell

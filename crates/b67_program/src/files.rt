@@ -1,7 +1,7 @@
 //! The files that a run may page to.
 
 ghost use Rattle.std.specs.Prelude.{◌≡◌, List, ℕ, Option, None, [], ◌∷◌};
-ghost use Rattle.b67_program.specs.Opening.{Opens, Finds, Leaves};
+ghost use Rattle.b67_program.specs.Opening.{OpensPaths, Finds, Leaves};
 
 use b67_backing::{Backing, FileBacking};
 use b67_word::Failed;
@@ -24,7 +24,7 @@ pub trait Devices {
 
     /// The backing at a path. If it can't be had, every call of it fails.
     fn open(&mut self, path: &str) -> Self::File
-        ensures opens { Opens opened self.old self.new (path.now ∷ []) }
+        ensures opens { OpensPaths opened self.old self.new (path.now ∷ []) }
         ensures finds { Finds kept Self.File.holds self.old path.now result };
 
     /// The backing at a path is used no more: the path's file holds what it held.

@@ -10,7 +10,7 @@ ghost use Rattle.b67_job.specs.Device.{device_of};
 ghost use Rattle.b67_job.specs.Due.{reading_text};
 ghost use Rattle.b67_job.specs.Judgement.{reads_text, text_limit};
 ghost use Rattle.b67_session_lines.specs.Ends.{EndsPrinting};
-ghost use Rattle.b67_program.specs.Opening.{Opens, Finds, Leaves, paths_of};
+ghost use Rattle.b67_program.specs.Opening.{OpensPaths, Finds, Leaves, paths_of};
 ghost use Rattle.b67_program.specs.Input.{IsTakenIn};
 ghost use Rattle.b67_program.specs.Served.{IsAnswered, IsServed};
 
@@ -114,7 +114,7 @@ pub fn serve<R: Devices, S: Source, K: Sink>(
     printer: &mut K,
 ) -> ExitCode
     // The file of the words' path is opened, and no other.
-    ensures opened { Opens R.opened devices.old devices.new (paths_of (backing_path words.now)) }
+    ensures opened { OpensPaths R.opened devices.old devices.new (paths_of (backing_path words.now)) }
 
     // The status is that of `run` over the bytes that were read, and over that file or 4,096 sectors of zeros; or a read failed,
     // or memory was refused.

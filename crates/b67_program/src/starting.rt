@@ -3,7 +3,7 @@
 ghost use Rattle.std.specs.Prelude.{◌≡◌, IfOk, map, string_bytes};
 ghost use Rattle.std.specs.Process.{exit_status};
 ghost use Rattle.b67_io.specs.Causes.{Rose};
-ghost use Rattle.b67_program.specs.Started.{IsStarted};
+ghost use Rattle.b67_program.specs.Started.{IsProcessServed};
 ghost use Rattle.b67_program.specs.Words.{texts_of};
 
 use crate::files::Devices;
@@ -37,7 +37,7 @@ pub fn serve_process<R: Words + Devices, S: Source, K: Sink>(
     printer: &mut K,
 ) -> ExitCode
     // The process's words were served, or memory was refused for them.
-    ensures started { IsStarted R.given R.opened R.kept R.File.holds R.File.size R.File.faults process.old process.new S.left S.faults input.old input.new
+    ensures started { IsProcessServed R.given R.opened R.kept R.File.holds R.File.size R.File.faults process.old process.new S.left S.faults input.old input.new
         K.taken K.faults printer.old printer.new (exit_status result) }
 
     // Status 7 is that a read of the input failed.

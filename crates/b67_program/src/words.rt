@@ -1,7 +1,7 @@
 //! The words of a program.
 
 ghost use Rattle.std.specs.Prelude.{List, ℕ, Option, None, IfOk, map, string_bytes};
-ghost use Rattle.b67_program.specs.Words.{AreWords};
+ghost use Rattle.b67_program.specs.Words.{TellsWords};
 
 use std::alloc::{AllocError, Global};
 use std::env;
@@ -14,7 +14,7 @@ pub trait Words {
 
     /// These words. Only refused memory is an error.
     fn words(&self, alloc: Global) -> Result<Vec<String>, AllocError>
-        ensures given { IfOk result (λ words. AreWords given self.now (map string_bytes words.items)) };
+        ensures given { IfOk result (λ words. TellsWords given self.now (map string_bytes words.items)) };
 }
 
 /// The words that the system gives, which it doesn't tell. If one of them isn't text there are none, and none are no command.
