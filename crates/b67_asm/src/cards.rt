@@ -5,6 +5,7 @@ ghost use Rattle.b67_asm.specs.Blocks.{has_entry_card};
 
 use b67_model_text::{Kind, Line};
 
+/// Whether a card of this kind begins a segment or a data row.
 pub fn is_head(kind: Kind) -> bool
     ensures { result ≡ asm.is_head kind }
 {
@@ -23,7 +24,7 @@ fn rest_from(lines: &[Line], from: usize) -> &[Line]
     &lines[from..]
 }
 
-// The cards of the segment or row at the front of these.
+/// The cards of the segment or row at the front of these.
 pub fn own_of(lines: &[Line]) -> &[Line]
     ensures own { result.now ≡ asm.own lines.now }
     ensures short { length result.now ≤ length lines.now }
@@ -35,7 +36,7 @@ pub fn own_of(lines: &[Line]) -> &[Line]
     &lines[..count]
 }
 
-// The cards of the segment or row whose own card stands before a place.
+/// The cards of the segment or row whose own card stands before a place.
 pub fn own_from(lines: &[Line], from: usize) -> &[Line]
     requires { from ≤ length lines.now }
     ensures own { result.now ≡ asm.own (drop from lines.now) }

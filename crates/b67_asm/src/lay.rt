@@ -13,7 +13,7 @@ use b67_syllable::encode;
 use b67_word::{Word, Words};
 use std::alloc::{AllocError, Global};
 
-// Fills up to the next whole word.
+/// Fills up to the next whole word.
 pub fn fill(out: &mut Vec<u8>) -> Result<(), AllocError>
     ensures filled { OnOk result (out.new.items ≡ out.old.items ++ filling (length out.old.items)) }
     ensures whole { OnOk result (length out.new.items % 6 ≡ 0) }
@@ -38,7 +38,7 @@ fn put_literal(out: &mut Vec<u8>, literal: Option<u64>) -> Result<(), AllocError
     }
 }
 
-// Appends an operator and its literal.
+/// Appends an operator and its literal.
 #[tactic(auto, using(crate::proofs::Laid::some_syllable))]
 pub fn put(out: &mut Vec<u8>, op: Op) -> Result<(), AllocError>
     requires { IsTrue (has_bits op) }
@@ -61,7 +61,7 @@ fn word_bits(a: u8, b: u8, c: u8, d: u8, e: u8, f: u8) -> u64
         + u64::from(f)
 }
 
-// The words of code, six syllables to a word.
+/// The words of code, six syllables to a word.
 #[tactic(auto, using(crate::proofs::Six::six_more, crate::proofs::Six::no_six))]
 pub fn pack(alloc: Global, syllables: &[u8]) -> Result<Words, AllocError>
     ensures code { IfOk result (λ words. contents words ≡ packed_words syllables.now) }

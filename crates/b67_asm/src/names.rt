@@ -28,21 +28,21 @@ pub struct Names<'a> {
     pub segments: Vec<Labels<'a>>,
 }
 
-// What a name means.
+/// What a name means.
 pub fn meaning_of(names: &IndexMap<&[u8], Named>, name: &[u8]) -> Option<Named>
     ensures { result ≡ meaning (name_entries names.now.entries) name.now }
 {
     names.get(name).copied()
 }
 
-// A label's syllable.
+/// A label's syllable.
 pub fn place_of<'a>(labels: &BTreeMap<&'a [u8], u64>, label: &'a [u8]) -> Option<u64>
     ensures { result ≡ meaning (label_entries labels.now.entries) label.now }
 {
     labels.get(&label).copied()
 }
 
-// The syllable of a segment's label.
+/// The syllable of a segment's label.
 pub fn label_of<'a>(names: &Names<'a>, number: u32, label: &'a [u8]) -> Option<u64>
     ensures { result ≡ (names_in names.now).label number label.now }
 {
@@ -52,7 +52,7 @@ pub fn label_of<'a>(names: &Names<'a>, number: u32, label: &'a [u8]) -> Option<u
     }
 }
 
-// Whether a segment's label is an entry of it.
+/// Whether a segment's label is an entry of it.
 pub fn is_entry<'a>(names: &Names<'a>, number: u32, label: &'a [u8]) -> bool
     ensures { result ≡ (names_in names.now).entry number label.now }
 {

@@ -118,6 +118,7 @@ fn is_in_range(sketch: &Sketch) -> bool
     }
 }
 
+/// Whether every name of an operator means what the operator needs.
 pub fn has_names<'a>(names: &Names<'a>, sketch: &'a Sketch) -> bool
     ensures { result ≡ asm.has_names (names_in names.now) sketch.now }
 {

@@ -7,7 +7,7 @@ ghost use Rattle.b67_asm_read.specs.Bounds.{IfInRange};
 use b67_card::{are_hex_digits, digit_value, natural};
 use b67_model::GREATEST;
 
-// A numeral, and its number where that is within the range.
+/// A numeral, and its number where that is within the range.
 pub fn numeral_up_to(word: &[u8], high: u64) -> Option<Option<u64>>
     requires { high < 2 ^ 60 }
     ensures exact { result ≡ numeral_up_to high word.now }
@@ -54,7 +54,7 @@ fn hex_bits(digits: &[u8]) -> Option<Option<u64>>
     }
 }
 
-// The bits of a whole number, or of # and twelve hexadecimal digits.
+/// The bits of a whole number, or of # and twelve hexadecimal digits.
 pub fn bits_in(word: &[u8]) -> Option<Option<u64>>
     ensures exact { result ≡ literal_bits word.now }
     ensures within { IfInRange result (λ n. n < 2 ^ 48) }

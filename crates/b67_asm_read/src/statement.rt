@@ -497,7 +497,7 @@ fn line_of(alloc: Global, card: &Card) -> Result<Option<Line>, AllocError>
     line_with(alloc, card.number, words.as_slice())
 }
 
-// The cards that aren't ignored, with what each says.
+/// The cards that aren't ignored, with what each says.
 pub fn lines_of(alloc: Global, cards: &[Card]) -> Result<Lines, AllocError>
     ensures { IfOk result (λ lines. lines ≡ spec.lines_of cards.now) }
 {

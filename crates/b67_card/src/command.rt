@@ -220,7 +220,7 @@ fn are_printable(text: &[u8]) -> bool
     text.iter().all(|b| b' ' <= *b && *b <= b'~')
 }
 
-// What is refused of any card: 1 a text that is too long, 2 a character outside space to tilde.
+/// What is refused of any card: 1 a text that is too long, 2 a character outside space to tilde.
 pub fn plain(text: &[u8]) -> Result<Text, Refused>
     ensures { IsPlain result text.now (card.plain_card text.now) }
 {

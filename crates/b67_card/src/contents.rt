@@ -71,6 +71,7 @@ fn fill(alloc: Global, stand: Stand, card: Card, job: &mut Job) -> Result<(), Re
 }
 
 impl Contents {
+    /// The contents of no card.
     pub fn new(alloc: Global) -> Self
         ensures { HoldsJobs result [] }
     {

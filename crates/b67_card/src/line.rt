@@ -41,7 +41,7 @@ pub fn first_line(text: &[u8]) -> (&[u8], &[u8])
     }
 }
 
-// How many lines end in a text.
+/// How many lines end in a text.
 pub fn newlines(text: &[u8]) -> usize
     ensures count { result ≡ count_by (λ b. b == 10) text.now }
     ensures within { result ≤ length text.now }

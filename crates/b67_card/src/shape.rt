@@ -31,6 +31,7 @@ fn is_above_last(switches: &[Switch], count: u64) -> bool
 }
 
 impl Shape {
+    /// The shape of a deck of which no card was seen yet.
     pub fn new(alloc: Global) -> Self
         ensures { Shows result [] }
     {

@@ -11,6 +11,7 @@ pub struct Draws {
 }
 
 impl Draws {
+    /// The draws that begin with a seed below 2^31.
     pub fn new(seed: u32) -> Self
         requires { seed < 2 ^ 31 }
         ensures { result.state ≡ seed }

@@ -42,6 +42,7 @@ impl Listing {
         Ok(Listing { entries, starts })
     }
 
+    /// The operators of the segment, in order, each with its place.
     pub fn entries(&self) -> &[Entry]
         ensures same { map seen result.now ≡ self.now }
         ensures couples { AllByRecursion CouplesFit self.now }

@@ -35,6 +35,7 @@ impl Text {
         Text { characters }
     }
 
+    /// The characters.
     pub fn as_str(&self) -> &str
         ensures { result.now ≡ self.now }
     {
@@ -70,6 +71,7 @@ impl Name {
         Name { characters }
     }
 
+    /// The characters.
     pub fn as_str(&self) -> &str
         ensures { result.now ≡ self.now }
     {

@@ -42,6 +42,7 @@ impl Session {
         Session { machine }
     }
 
+    /// The machine that represents the session.
     #[inline(always)]
     pub fn machine(&self) -> &Machine
         ensures { result.now ≡ self.now }
@@ -49,6 +50,7 @@ impl Session {
         &self.machine
     }
 
+    /// The machine, of which the session is no longer needed.
     #[inline(always)]
     pub fn into_machine(self) -> Machine
         ensures { result ≡ self }

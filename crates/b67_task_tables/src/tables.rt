@@ -108,6 +108,7 @@ impl JobRows {
         Ok(())
     }
 
+    /// The jobs, in the order of their numbers.
     pub fn as_slice(&self) -> &[JobRow]
         ensures { result.now ≡ self.now }
     {

@@ -39,6 +39,7 @@ impl<T: Drop> List<T> {
         Ok(())
     }
 
+    /// The items, in order.
     pub fn as_slice(&self) -> &[T]
         ensures { result.now ≡ self.now }
     {
@@ -94,6 +95,7 @@ impl Bytes {
         Ok(())
     }
 
+    /// The bytes, in order.
     pub fn as_slice(&self) -> &[u8]
         ensures { result.now ≡ self.now }
     {

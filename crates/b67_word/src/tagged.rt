@@ -50,6 +50,7 @@ impl Word {
         Word(u64::from(tag) * TAG_WEIGHT + bits)
     }
 
+    /// The tag, below 8.
     pub fn tag(self) -> u16
         ensures value { result ≡ self.tag }
         ensures small { result < 8 }
@@ -57,6 +58,7 @@ impl Word {
         (self.0 / TAG_WEIGHT) as u16
     }
 
+    /// The 48 bits of the word, as a number.
     pub fn bits(self) -> u64
         ensures value { result ≡ self.bits }
         ensures small { result < 2 ^ 48 }
