@@ -10,6 +10,7 @@ ghost use Rattle.b67_image_shape.specs.TableTests.{are_apart, rows_apart, state_
 use crate::table::find_row;
 use crate::table_counts::counts_pass;
 use b67_ctl::Regs;
+use b67_model::MOST_LIMIT;
 use b67_task_tables::{JobRow, Machine, NO_PARENT, TaskRow, TaskState};
 
 /// Whether two rows are of different slots and of different tasks.
@@ -132,7 +133,7 @@ fn job_passes(rows: &[TaskRow], job: u8, row: &JobRow) -> bool
 {
     live_of(rows, job) <= 15
         && (left_read(row.numbers.as_slice(), row.next_number)
-            && (row.limit <= 100_000_000
+            && (row.limit <= MOST_LIMIT
                 && (next_fits(row.next_task, row.made)
                     && (row.made <= row.limit && may_go_on(row, rows, job)))))
 }
