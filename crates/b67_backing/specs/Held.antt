@@ -1,8 +1,9 @@
 -- What a call did to the sectors of a device, where it tells them.
-use Rattle.std.specs.Prelude.{◌≡◌, ℕ, zero, suc, Result, replicate, ◌+◌, ◌%◌, ◌^◌, ◌<◌, ◌≤◌, ◌⊎◌, List, [], ◌∷◌, length, Option, Some, slice_get}
-use Rattle.b67_word.specs.Tagged.{Tagged, word}
+use Rattle.std.specs.Prelude.{◌≡◌, ℕ, zero, suc, Result, replicate, ◌+◌, ◌^◌, ◌<◌, ◌≤◌, ◌⊎◌, List, [], ◌∷◌, length, Option, Some, slice_get}
+use Rattle.b67_word.specs.Tagged.{Tagged}
 use Rattle.b67_io.specs.Causes.{HasCause}
 pub use Rattle.b67_backing.specs.Device.{Tells, Becomes, Changes, Counts, sector, SameBut, Sets}
+pub use Rattle.b67_core.specs.Numbers.{under}
 pub use Rattle.b67_word.specs.Sectors.{sectors_for}
 
 -- a device after one call or more: it has as many sectors, and its counts of calls and of failures are right
@@ -48,10 +49,6 @@ Fills all (c ∷ cs) at numbers =
 pub record Stores (chain numbers : List ℕ) (old new : List (List ℕ)) : Type 0 where
   pub same : SameBut chain old new
   pub holds : Fills new chain 0 numbers
-
--- the word of a number's low 48 bits under a tag
-abbrev pub under : ℕ → ℕ → Tagged
-under tag number = word tag (number % 2 ^ 48)
 
 -- the words of core from an address on have this tag and the 48 bits of a word
 pub record AreTagged (core : List Tagged) (at words tag : ℕ) : Type 0 where

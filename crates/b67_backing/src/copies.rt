@@ -6,7 +6,7 @@ ghost use Rattle.b67_word.specs.Numbers.{number};
 ghost use Rattle.b67_backing.specs.Held.{under, blank, number_at};
 
 use b67_core::{Core, to_number};
-use b67_word::{TAG_WEIGHT, Word};
+use b67_word::Word;
 use std::alloc::{AllocError, Global};
 
 /// So many sectors of zeros.
@@ -20,25 +20,14 @@ pub fn zeros(alloc: Global, sectors: u32) -> Result<Vec<[u64; 30]>, AllocError>
     Ok(held)
 }
 
-/// The number of a word at a place, 0 past the end.
-fn number_in(from: &[Word], at: usize) -> u64
-    ensures { result ≡ number_at (map number from.now) at }
-{
-    if at < from.len() {
-        to_number(from[at])
-    } else {
-        0
-    }
-}
-
 /// The numbers of 30 words from a place on, with 0 past their end.
 pub fn pack(from: &[Word], start: usize) -> [u64; 30]
     requires { start + 30 < 2 ^ 64 }
     ensures { (i : ℕ) → i < 30 → slice_get result i ≡ Some (number_at (map number from.now) (start + i)) }
 {
     let mut buffer = [0u64; 30];
-    for i in 0..30usize {
-        buffer[i] = number_in(from, start + i);
+    for i in 0..from.len().saturating_sub(start).min(30) {
+        buffer[i] = to_number(from[start + i]);
     }
     buffer
 }
@@ -54,8 +43,5 @@ pub fn unpack(core: &mut Core, at: u32, n: u32, tag: u8, from: &[u64; 30])
     ensures outside { (i : ℕ) → (i < at) ⊎ (at + n ≤ i) → slice_get core.new i ≡ slice_get core.old i }
     ensures len { length core.new ≡ length core.old }
 {
-    let _size = core.size();
-    for i in 0..n {
-        core.set(at + i, Word::of(tag, from[i as usize] % TAG_WEIGHT));
-    }
+    core.copy_under(at, tag, &from[..n as usize]);
 }

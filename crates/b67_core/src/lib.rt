@@ -4,11 +4,11 @@
 ghost use Rattle.std.specs.Prelude.{◌≡◌, ◌⊎◌, ℕ, ◌+◌, ◌<◌, ◌≤◌, ◌^◌, length, slice_get, slice_set, slice_range, Some, IfOk, replicate, option_map};
 ghost use Rattle.b67_word.specs.Tagged.{word};
 ghost use Rattle.b67_word.specs.Numbers.{number};
-ghost use Rattle.b67_core.specs.Numbers.{word_of, AreWords};
+ghost use Rattle.b67_core.specs.Numbers.{word_of, AreWords, under};
 
 mod numbers;
 
-use b67_word::Word;
+use b67_word::{TAG_WEIGHT, Word};
 pub use numbers::{from_number, to_number};
 use std::alloc::{AllocError, Global};
 use std::marker::Model;
@@ -28,6 +28,26 @@ impl Model for Core {
     ghost view = { λ c. c.words.items };
 
     ghost invariant = { λ c. length c.words.items < 2 ^ 20 };
+}
+
+/// Writes one word to every place.
+fn fill_words(into: &mut [Word], w: Word)
+    ensures { (i : ℕ) → i < length into.old → slice_get into.new i ≡ Some w }
+{
+    for i in 0..into.len() {
+        into[i] = w;
+    }
+}
+
+/// Writes the low 48 bits of each number under a tag.
+fn put_under(into: &mut [Word], tag: u8, from: &[u64])
+    requires same { length into.old ≡ length from.now }
+    requires tag { tag < 8 }
+    ensures { (i : ℕ) → i < length from.now → slice_get into.new i ≡ option_map (under tag) (slice_get from.now i) }
+{
+    for i in 0..from.len() {
+        into[i] = Word::of(tag, from[i] % TAG_WEIGHT);
+    }
 }
 
 impl Core {
@@ -83,9 +103,7 @@ impl Core {
         ensures len { length self.new ≡ length self.old }
     {
         let _size = self.size();
-        for i in at..at + n {
-            self.set(i, w);
-        }
+        fill_words(&mut self.words[at as usize..(at + n) as usize], w);
     }
 
     /// Writes the words of these numbers, each tag × 2^48 + bits, from an address on. No other is changed.
@@ -100,6 +118,19 @@ impl Core {
         for i in 0..from.len() as u32 {
             self.set(at + i, from_number(from[i as usize]));
         }
+    }
+
+    /// Writes the words of the low 48 bits of these numbers under a tag, from an address on. No other is changed.
+    pub fn copy_under(&mut self, at: u32, tag: u8, from: &[u64])
+        requires inside { at + length from.now ≤ length self.old }
+        requires tag { tag < 8 }
+        ensures value { (i : ℕ) → i < length from.now → slice_get self.new (at + i) ≡ option_map (under tag) (slice_get from.now i) }
+        ensures outside { (i : ℕ) → (i < at) ⊎ (at + length from.now ≤ i) → slice_get self.new i ≡ slice_get self.old i }
+        ensures len { length self.new ≡ length self.old }
+    {
+        let _size = self.size();
+        let first = at as usize;
+        put_under(&mut self.words[first..first + from.len()], tag, from);
     }
 
     /// Reads as many words as there are places, from an address on, each as the number tag × 2^48 + bits.

@@ -1,0 +1,44 @@
+-- Numbers are put into a sector of zeros, one after the other.
+use Rattle.std.proofs.Common.{◌≡◌, ℕ, zero, suc, ◌+◌, ◌<◌, ◌≤◌, List, length, replicate, Some, refl, sym, ◌∙◌, ap, arith, ⊎_elim, subst}
+use Rattle.std.specs.List.{slice_get}
+use Rattle.std.specs.Prelude.{slice_set}
+use Rattle.std.proofs.lemmas.List.{length-replicate, length-set}
+use Rattle.std.proofs.lemmas.Bool.{cases_lt}
+use Rattle.b67_core.proofs.Writes.{slice_get-set_same, slice_get-set_other}
+use Rattle.b67_backing.specs.Held.{number_at}
+use Rattle.b67_backing.proofs.Fills.{number_at-past}
+
+-- the first n places of a sector have these numbers, from a place of the list on, and the others 0
+pub record Packs (numbers : List ℕ) (start n : ℕ) (sector : List ℕ) : Type 0 where
+  pub size : length sector ≡ 30
+  pub put : (k : ℕ) → k < n → slice_get sector k ≡ Some (number_at numbers (start + k))
+  pub blank : (k : ℕ) → n ≤ k → k < 30 → slice_get sector k ≡ Some 0
+
+-- nothing is put yet
+pub packs_none : (numbers : List ℕ) (start : ℕ) → Packs numbers start 0 (replicate {A = ℕ} 30 0)
+packs_none numbers start = record { size = length-replicate {A = ℕ} 30 0; put = λ k h. absurd (omega (arith, h)); blank = λ k _ h. zero_at 30 k h } where
+  zero_at : (n k : ℕ) → k < n → slice_get (replicate {A = ℕ} n 0) k ≡ Some 0
+  zero_at zero k h = absurd (omega arith)
+  zero_at (suc n) zero h = refl
+  zero_at (suc n) (suc k) h = zero_at n k (omega arith)
+
+-- one more is put
+pub packs_more : (numbers : List ℕ) (start n number : ℕ) (sector : List ℕ) → Packs numbers start n sector → n < 30 → number ≡ number_at numbers (start + n) → Packs numbers start (n + 1) (slice_set sector n number)
+packs_more numbers start n number sector p small is =
+    let inside : n < length sector = omega (arith, small, p.size) in
+    let here : slice_get (slice_set sector n number) n ≡ Some (number_at numbers (start + n)) = slice_get-set_same sector n number inside ∙ ap Some is in
+    record {
+      size = length-set sector n number ∙ p.size;
+      put = λ k h. ⊎_elim
+          (λ less. slice_get-set_other sector n k number (λ e. omega (arith, e, less)) ∙ p.put k less)
+          (λ more. subst (λ (m : ℕ). slice_get (slice_set sector n number) m ≡ Some (number_at numbers (start + m))) (omega (arith, h, more)) here)
+          (cases_lt k n);
+      blank = λ k h less. slice_get-set_other sector n k number (λ e. omega (arith, e, h)) ∙ p.blank k (omega (arith, h)) less;
+    }
+
+-- what isn't put lies past the end of the list
+pub packs_all : (numbers : List ℕ) (start n : ℕ) (sector : List ℕ) → Packs numbers start n sector → ((k : ℕ) → n ≤ k → k < 30 → length numbers ≤ start + k) → (k : ℕ) → k < 30 → slice_get sector k ≡ Some (number_at numbers (start + k))
+packs_all numbers start n sector p past k h = ⊎_elim
+    (λ less. p.put k less)
+    (λ more. p.blank k more h ∙ ap Some (sym (number_at-past numbers (start + k) (past k more h))))
+    (cases_lt k n)
