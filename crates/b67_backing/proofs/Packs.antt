@@ -37,8 +37,9 @@ packs_more numbers start n number sector p small is =
     }
 
 -- what isn't put lies past the end of the list
-pub packs_all : (numbers : List ℕ) (start n : ℕ) (sector : List ℕ) → Packs numbers start n sector → ((k : ℕ) → n ≤ k → k < 30 → length numbers ≤ start + k) → (k : ℕ) → k < 30 → slice_get sector k ≡ Some (number_at numbers (start + k))
-packs_all numbers start n sector p past k h = ⊎_elim
-    (λ less. p.put k less)
-    (λ more. p.blank k more h ∙ ap Some (sym (number_at-past numbers (start + k) (past k more h))))
+pub packs_all : (numbers : List ℕ) (start n : ℕ) (sector : List ℕ) → ((k : ℕ) → k < n → slice_get sector k ≡ Some (number_at numbers (start + k))) → ((k : ℕ) → n ≤ k → k < 30 → slice_get sector k ≡ Some 0)
+    → ((k : ℕ) → n ≤ k → k < 30 → length numbers ≤ start + k) → (k : ℕ) → k < 30 → slice_get sector k ≡ Some (number_at numbers (start + k))
+packs_all numbers start n sector put blank past k h = ⊎_elim
+    (λ less. put k less)
+    (λ more. blank k more h ∙ ap Some (sym (number_at-past numbers (start + k) (past k more h))))
     (cases_lt k n)

@@ -1,6 +1,6 @@
 //! Words as numbers of a sector, and back.
 
-ghost use Rattle.std.specs.Prelude.{◌≡◌, ◌⊎◌, ℕ, ◌+◌, ◌<◌, ◌≤◌, ◌^◌, length, map, slice_get, Some, option_map, IfOk};
+ghost use Rattle.std.specs.Prelude.{◌≡◌, ◌⊎◌, ℕ, ◌+◌, ◌-◌, ◌<◌, ◌≤◌, ◌^◌, length, map, slice_get, Some, option_map, IfOk};
 ghost use Rattle.b67_word.specs.Tagged.{Tagged};
 ghost use Rattle.b67_word.specs.Numbers.{number};
 ghost use Rattle.b67_backing.specs.Held.{under, blank, number_at};
@@ -20,16 +20,31 @@ pub fn zeros(alloc: Global, sectors: u32) -> Result<Vec<[u64; 30]>, AllocError>
     Ok(held)
 }
 
+/// The numbers of n words from a place on, with 0 after them.
+#[inline(always)]
+fn pack_words(from: &[Word], start: usize, n: usize) -> [u64; 30]
+    requires inside { n ≤ length from.now - start }
+    requires few { n ≤ 30 }
+    ensures put { (i : ℕ) → i < n → slice_get result i ≡ Some (number_at (map number from.now) (start + i)) }
+    ensures zeros { (i : ℕ) → n ≤ i → i < 30 → slice_get result i ≡ Some 0 }
+{
+    let mut buffer = [0u64; 30];
+    for i in 0..n {
+        buffer[i] = to_number(from[start + i]);
+    }
+    buffer
+}
+
 /// The numbers of 30 words from a place on, with 0 past their end.
 pub fn pack(from: &[Word], start: usize) -> [u64; 30]
     requires { start + 30 < 2 ^ 64 }
     ensures { (i : ℕ) → i < 30 → slice_get result i ≡ Some (number_at (map number from.now) (start + i)) }
 {
-    let mut buffer = [0u64; 30];
-    for i in 0..from.len().saturating_sub(start).min(30) {
-        buffer[i] = to_number(from[start + i]);
+    if start + 30 <= from.len() {
+        // most sectors are full: a loop of known length is unrolled, and nothing is cleared first
+        return pack_words(from, start, 30);
     }
-    buffer
+    pack_words(from, start, from.len().saturating_sub(start))
 }
 
 /// Puts the first n numbers into core, each as the word of its low 48 bits under a tag.
