@@ -9,7 +9,7 @@ ghost use Rattle.b67_mcp_waits.specs.Events.{WaitMeets, DoneMeets};
 
 use crate::cells::cell_given;
 use crate::tasks::running_job;
-use crate::woken::woken_rows;
+use crate::woken::wake_rows;
 use b67_entry::is_critical;
 use b67_mcp_call::cut_call;
 use b67_task_tables::{Machine, TaskState};
@@ -58,7 +58,7 @@ pub fn cause(machine: &mut Machine, next: Place) -> Result<(), Fault>
     }
     let job = running_job(machine);
     machine.cpu.core.set(found.at, Word::of(0, 1));
-    machine.tasks.rows = woken_rows(machine.tasks.rows.as_slice(), job, found.mark, found.offset);
+    wake_rows(&mut machine.tasks.rows, job, found.mark, found.offset);
     cut_call(&mut machine.cpu, next);
     Ok(())
 }

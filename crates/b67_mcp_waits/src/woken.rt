@@ -1,6 +1,6 @@
 //! The rows of tasks once a cell is caused.
 
-ghost use Rattle.std.specs.Prelude.{◌≡◌, ◌≤◌, length, map};
+ghost use Rattle.std.specs.Prelude.{◌≡◌, map};
 ghost use Rattle.b67_mcp_waits.specs.Woken as woken;
 
 use arrayvec::ArrayVec;
@@ -37,19 +37,18 @@ fn woken_row(row: TaskRow, job: u8, mark: u32, offset: u16) -> TaskRow
     after
 }
 
-/// The rows once a cell of a job is caused, by the address of its activation record's mark and its offset.
-pub(crate) fn woken_rows(
-    rows: &[TaskRow],
-    job: u8,
-    mark: u32,
-    offset: u16,
-) -> ArrayVec<TaskRow, 120>
-    requires { length rows.now ≤ 120 }
-    ensures { result.items ≡ map (woken.woken_row job mark offset) rows.now }
+/// Makes each row what it is once a cell of a job is caused.
+fn wake_each(rows: &mut [TaskRow], job: u8, mark: u32, offset: u16)
+    ensures { rows.new ≡ map (woken.woken_row job mark offset) rows.old }
 {
-    let mut after = ArrayVec::new();
-    for at in 0..rows.len() as u8 {
-        after.push(woken_row(rows[at as usize], job, mark, offset));
+    for at in 0..rows.len() {
+        rows[at] = woken_row(rows[at], job, mark, offset);
     }
-    after
+}
+
+/// Makes the rows what they are once a cell of a job is caused, by the address of its activation record's mark and its offset.
+pub(crate) fn wake_rows(rows: &mut ArrayVec<TaskRow, 120>, job: u8, mark: u32, offset: u16)
+    ensures { rows.new.items ≡ map (woken.woken_row job mark offset) rows.old.items }
+{
+    wake_each(rows.as_mut_slice(), job, mark, offset);
 }

@@ -84,9 +84,6 @@ keep_out f p done x t = rw t (sym (append-nil done))
 pub keep_in : {A B : Type 0} (f : A → B) (p : A → Bool) (done : List B) (x : A) → p x ≡ true → done ++ f x ∷ [] ≡ done ++ map f (filter p (x ∷ []))
 keep_in f p done x t = rw t refl
 
-pub keep_one : {A B : Type 0} (f : A → B) (p : A → Bool) (x : A) → length (map f (filter p (x ∷ []))) ≤ 1
-keep_one f p x = kept_length f p (x ∷ [])
-
 pub any_map : {A B : Type 0} (f : A → B) (p : B → Bool) (xs : List A) → list_any (λ (x : A). p (f x)) xs ≡ list_any p (map f xs)
 any_map f p [] = refl
 any_map f p (x ∷ xs) = ap (λ (b : Bool). p (f x) || b) (any_map f p xs)

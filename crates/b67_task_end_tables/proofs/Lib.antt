@@ -1,4 +1,5 @@
 pub mod Kept
+pub mod Moves
 pub mod LeftInPlace
 pub mod Remains
 pub mod TopMarks

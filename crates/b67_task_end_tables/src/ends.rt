@@ -15,7 +15,7 @@ ghost use Rattle.b67_task_end_tables.specs.Deaths.{ending_numbers, StandsWith, M
 ghost use Rattle.b67_task_end_tables.specs.Families.{StandsInPlace, IsFamilyOf, EndsFamily};
 
 use crate::marks::marks_of;
-use crate::rows::{rows_left, slots_of};
+use crate::rows::{leave_rows, slots_of};
 use b67_task_end::EndedTask;
 use b67_task_end_stack::take_out;
 use b67_task_switch::switch_to;
@@ -41,9 +41,8 @@ fn end(machine: &mut Machine, job: u8, list: &[EndedTask])
         &mut machine.sectors,
         slots.as_slice(),
     );
-    let rows = rows_left(machine.tasks.rows.as_slice(), job, list);
-    machine.cpu.critical = marks_of(rows.as_slice());
-    machine.tasks.rows = rows;
+    leave_rows(&mut machine.tasks.rows, job, list);
+    machine.cpu.critical = marks_of(machine.tasks.rows.as_slice());
     machine.tasks.running = NO_ROW;
 }
 

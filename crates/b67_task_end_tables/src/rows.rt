@@ -1,6 +1,6 @@
 //! The rows of those who stay when tasks end, and the slots of those who go.
 
-ghost use Rattle.std.specs.Prelude.{◌≡◌, ◌<◌, ◌≤◌, [], ◌∷◌, ◌++◌, length, map};
+ghost use Rattle.std.specs.Prelude.{◌≡◌, ◌≤◌, length, map, take};
 ghost use Rattle.b67_task_end.specs.declared.families.EndedTask.{EndedTask};
 ghost use Rattle.b67_task_end_tables.specs.Left as left;
 ghost use Rattle.b67_task_end_tables.specs.Left.{ended_numbers, slot_shown};
@@ -41,27 +41,28 @@ fn freed(row: TaskRow, job: u8, list: &[EndedTask]) -> TaskRow
     }
 }
 
-/// Keeps a row, as it is then, if it stays.
-fn keep(rows: &mut ArrayVec<TaskRow, 120>, row: TaskRow, job: u8, list: &[EndedTask])
-    requires { length rows.old.items < 120 }
-    ensures { rows.new.items ≡ rows.old.items ++ left.rows_left job (ended_numbers list.now) (row ∷ []) }
+/// The rows that stay once these tasks of a job have ended come to lie at the front, each as it is then, and are counted.
+fn move_up(rows: &mut [TaskRow], job: u8, list: &[EndedTask]) -> usize
+    ensures { take result rows.new ≡ left.rows_left job (ended_numbers list.now) rows.old }
 {
-    if !stays(row, job, list) {
-        return;
-    }
-    rows.push(freed(row, job, list));
-}
-
-/// The rows once these tasks of a job have ended.
-pub fn rows_left(rows: &[TaskRow], job: u8, list: &[EndedTask]) -> ArrayVec<TaskRow, 120>
-    requires { length rows.now ≤ 120 }
-    ensures { result.items ≡ left.rows_left job (ended_numbers list.now) rows.now }
-{
-    let mut kept = ArrayVec::new();
-    for at in 0..rows.len() as u8 {
-        keep(&mut kept, rows[at as usize], job, list);
+    let mut kept = 0usize;
+    for at in 0..rows.len() {
+        let row = rows[at];
+        if !stays(row, job, list) {
+            continue;
+        }
+        rows[kept] = freed(row, job, list);
+        kept += 1;
     }
     kept
+}
+
+/// Leaves the rows that stay once these tasks of a job have ended, each as it is then.
+pub fn leave_rows(rows: &mut ArrayVec<TaskRow, 120>, job: u8, list: &[EndedTask])
+    ensures { rows.new.items ≡ left.rows_left job (ended_numbers list.now) rows.old.items }
+{
+    let kept = move_up(rows.as_mut_slice(), job, list);
+    rows.truncate(kept);
 }
 
 /// Whether a row is that of a job's task of a number.

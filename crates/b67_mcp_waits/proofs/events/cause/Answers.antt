@@ -4,7 +4,6 @@ use Rattle.b67_word.specs.Tagged.{Tagged, word}
 use Rattle.b67_model.specs.Common.{Answer, ◌>>=◌, End, AtCell, causes}
 use Rattle.b67_layout.specs.Session.{RepresentsSession}
 use Rattle.b67_layout.specs.Meets.{here}
-use Rattle.b67_task_tables.specs.declared.tables.TaskRow.{TaskRow}
 use Rattle.b67_task_tables.specs.declared.tables.Tasks.{Tasks}
 use Rattle.b67_mcp_call.specs.Calls.{CutSome}
 use Rattle.b67_mcp_waits.specs.Arguments.{end_given}
@@ -56,9 +55,6 @@ set-requires c =
     let e = found_here g.storage cpu g.plan g.session g.member g.task g.ordered g.stands.session g.running q c.in-Ok.found (end_given (here g.member g.task q) k.arguments) found in
     slice_get_within cpu.core c.in-Ok.found.at (word 0 e.bits) e.cell.there
 
-pub woken_rows-machine-requires : goal.woken_rows-machine-requires
-woken_rows-machine-requires c = c.as_slice.ensures.fits
-
 pub cut_call-requires-clause-call : goal.cut_call-requires-clause-call
 cut_call-requires-clause-call c =
     let k = c.requires.call in
@@ -69,8 +65,8 @@ cut_call-requires-clause-call c =
     let e = found_here g.storage old.cpu g.plan g.session g.member g.task g.ordered g.stands.session g.running q c.in-Ok.found (end_given (here g.member g.task q) k.arguments) found in
     let may = may_end g.member g.task k.reference k.arguments k.call (here g.member g.task q) (AtCell e.f e.offset e.bits) e.is
     (sym (c.is_critical.ensures g.storage g.plan g.session g.member g.task g.ordered g.stands.session g.running) ∙ c.if-is_critical.false) in
-    let tasks : Tasks = record old.tasks { rows = c.woken_rows-machine.result } in
-    let items = c.woken_rows-machine.ensures ∙ ap (λ (l : List TaskRow). map (woken_row c.running_job-job.result c.in-Ok.found.mark c.in-Ok.found.offset) l) c.as_slice.ensures.value
+    let tasks : Tasks = record old.tasks { rows = c.wake_rows.new.rows } in
+    let items = c.wake_rows.ensures
     ∙ ap (λ (n : ℕ). map (woken_row n c.in-Ok.found.mark c.in-Ok.found.offset) old.tasks.rows.items) (c.running_job-job.ensures g.storage g.told g.plan g.session g.member g.task g.ordered g.stands g.running) in
     let caused = stands_caused g.storage g.told old g.plan g.session g.member g.task g.ordered g.stands g.running q c.in-Ok.found e.f e.offset e.bits e.cell tasks refl items in
     let core = c.set.ensures.value ∙ ap (slice_set old.cpu.core c.in-Ok.found.at) c.of.ensures in
@@ -96,8 +92,8 @@ returns-clause-row c = λ x told plan s m t o h runs r arguments call.
     let f = c.in-Ok.found in
     let e = found_here x old.cpu plan s m t o h.session runs q c.in-Ok.found (end_given (here m t q) arguments) (c.in-Ok.ensures x plan s m t o h.session runs r arguments call q) in
     let may = may_end m t r arguments call (here m t q) (AtCell e.f e.offset e.bits) e.is (sym (c.is_critical.ensures x plan s m t o h.session runs) ∙ c.if-is_critical.false) in
-    let tasks : Tasks = record old.tasks { rows = c.woken_rows-machine.result } in
-    let items = c.woken_rows-machine.ensures ∙ ap (λ (l : List TaskRow). map (woken_row c.running_job-job.result f.mark f.offset) l) c.as_slice.ensures.value
+    let tasks : Tasks = record old.tasks { rows = c.wake_rows.new.rows } in
+    let items = c.wake_rows.ensures
     ∙ ap (λ (n : ℕ). map (woken_row n f.mark f.offset) old.tasks.rows.items) (c.running_job-job.ensures x told plan s m t o h runs) in
     let caused = stands_caused x told old plan s m t o h runs q f e.f e.offset e.bits e.cell tasks refl items in
     let core = c.set.ensures.value ∙ ap (slice_set old.cpu.core f.at) c.of.ensures in

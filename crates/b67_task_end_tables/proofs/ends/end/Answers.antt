@@ -30,6 +30,6 @@ returns-clause-stands c = λ u x told plan s m h may number.
     let e = c.take_out.ensures in
     let slots = slots_are k u x told plan s m list h may c.args.job number c.as_slice.result.now c.as_slice.ensures.value c.as_slice-2.result.now (c.as_slice-2.ensures.value ∙ c.slots_of-slots.ensures) in
     let (y, p, v, buried, gave) = e.stands x told plan s m (ending_numbers (map pair_of list)) (view k u x told plan s m list h may) (may_bury k u x told plan s m list h may) slots in
-    has_ended k u x told plan s m list h may few c.take_out.new.cpu c.take_out.new.areas c.take_out.new.sectors (record k.tasks { rows = c.rows_left-rows.result; running = 255 }) c.marks_of-machine.result c.args.job
-    c.as_slice-3.result.now y p c.as_slice-2.result.now slots number c.as_slice-3.ensures.value e.areas e.len v buried gave c.rows_left-rows.ensures refl
-    (subst (ShowsMarks c.marks_of-machine.result) c.as_slice-4.ensures.value c.marks_of-machine.ensures)
+    has_ended k u x told plan s m list h may few c.take_out.new.cpu c.take_out.new.areas c.take_out.new.sectors (record k.tasks { rows = c.leave_rows.new.rows; running = 255 }) c.marks_of-machine.result c.args.job
+    k.tasks.rows.items y p c.as_slice-2.result.now slots number refl e.areas e.len v buried gave c.leave_rows.ensures refl
+    (subst (ShowsMarks c.marks_of-machine.result) c.as_slice-3.ensures.value c.marks_of-machine.ensures)
