@@ -1,5 +1,5 @@
 -- Identities only grow: from the rows to whole steps.
-use Rattle.std.proofs.Common.{subst, ℕ, Bool, true, false, List, Option, Some, None, Ok, Err, arith}
+use Rattle.std.proofs.Common.{ℕ, Bool, true, false, List, Option, Some, None, Ok, Err, arith}
 use Rattle.b67_word.specs.declared.faults.Ending.{Ending}
 use Rattle.b67_word.specs.declared.faults.Ending.TheVariants.{Ended, Faulted}
 use Rattle.b67_model.specs.Common.{Answer, Task, JobConstants, Job, JobProgress, with_task, Done, Goes, Leaves, Waits, read, reading_of, step_by, step, Reading, Settled, ends_all, ends_task, ends_each_if, unsettled, settles, stepped, by_task, step_of}
@@ -7,7 +7,7 @@ use Rattle.b67_model.specs.Keyed.{keyed}
 use Rattle.b67_model.specs.Alone.{whole}
 use Rattle.b67_law_sessions.specs.Grown.{Grown, StepsGrow}
 use Rattle.b67_law_order.proofs.Posts.{Post, post_err}
-use Rattle.b67_law_order.proofs.Identities.{Grown as RowGrown, Keeps, Good, row_good}
+use Rattle.b67_law_order.proofs.Identities.{Grown as RowGrown, Keeps, row_good}
 
 -- a row's law, as what a job's law says
 of_row : {a b : Job} → RowGrown a b → Grown a b

@@ -8,8 +8,8 @@ use Rattle.b67_lemmas.proofs.Members.{keyed_has}
 use Rattle.b67_model.specs.Common.{Word, Standing, Entered, Task, SessionJob, called, reading_of, step_of, Session, Choice, choice, StepResult, number_of, of_job, with_moment, moment_by, moment_for, next, after_from, after}
 use Rattle.b67_law_order.specs.Opening.{opening}
 use Rattle.b67_law_order.proofs.Kept.{here}
-use Rattle.b67_law_sessions.specs.Made.{OperatorMakes, MakesMark}
-use Rattle.b67_law_sessions.specs.RunMade.{MakesOperator, context, EarlierStep, RunsMakeTheirWords}
+use Rattle.b67_law_sessions.specs.Made.{OperatorMakes, MakesMark, StandsIn, HasWord, HasMark}
+use Rattle.b67_law_sessions.specs.RunMade.{MakesOperator, context, EarlierStep, RunsMakeTheirWords, HoldsOfJob, SessionsKeepOrMakeTheirWords}
 use Rattle.b67_law_sessions.proofs.Opened.{openings_are_made_by_the_loader}
 use Rattle.b67_law_sessions.proofs.Keeping.{has_changed, TasksMade, Maker, step_kept}
 
@@ -24,12 +24,13 @@ after_more (suc k) first s m is e = by (λ from. after_more k from s m) (next fi
         let none : Some m ≡ None = sym e ∙ ap next (sym stays) ∙ f in absurd (let z : ⊥ = cc in z)
     by rest (Some n) f = let later : after k n.session ≡ s = rw f at is in rw f (rest n.session later e)
 
-module _ (first : Session) (total : ℕ) where
+-- from a session in which these words and marks of each job stand
+module _ (first : Session) (total : ℕ) (WordStood : ℕ → Word → Type 0) (MarkStood : ℕ → ℕ → Standing → Type 0) where
   abbrev pub WordOf : ℕ → Word → Type 0
-  WordOf job w = EarlierStep first total job (λ op call. OperatorMakes op call w)
+  WordOf job w = WordStood job w ⊎ EarlierStep first total job (λ op call. OperatorMakes op call w)
 
   abbrev pub MarkOf : ℕ → ℕ → Standing → Type 0
-  MarkOf job identity standing = ((identity ≡ 2) × (standing ≡ Entered 2 1 None)) ⊎ EarlierStep first total job (λ op call. MakesMark op call standing)
+  MarkOf job identity standing = MarkStood job identity standing ⊎ EarlierStep first total job (λ op call. MakesMark op call standing)
 
   abbrev pub JobMade : ℕ → List Task → Type 0
   JobMade job tasks = TasksMade (WordOf job) (MarkOf job) tasks
@@ -40,7 +41,7 @@ module _ (first : Session) (total : ℕ) where
   maker : (k : ℕ) (s : Session) (c : Choice) (m : SessionJob) (task : Task) (op : Op) (place : Place) → after k first ≡ s → k < total → choice s ≡ Some c →
       keyed number_of c.who.job s.jobs ≡ Some m → keyed (λ t. t.number) c.who.task m.progress.job.tasks ≡ Some task → reading_of m.constants task ≡ Ok (op, place) → Maker (WordOf c.who.job) (MarkOf c.who.job) op (called op (here m.constants m.progress.job task place))
   maker k s c m task op place is below chooses found live reads = record {
-    words = λ w made. at (λ o call. OperatorMakes o call w) made;
+    words = λ w made. inr (at (λ o call. OperatorMakes o call w) made);
     marks = λ identity standing made. inr (at (λ o call. MakesMark o call standing) made);
   }
     where
@@ -83,13 +84,29 @@ module _ (first : Session) (total : ℕ) where
       by rest None e = all
       by rest (Some m) e = rest m.session (after_more k first s m is e) (omega (arith, sum)) (next_made k s m is (omega (arith, sum)) all e)
 
+-- the opening session has no words, and the marks that the loader made
 pub runs_make_their_words : RunsMakeTheirWords
 runs_make_their_words n stack quantum switches openings m task f among live of_task =
     let s = opening stack quantum switches openings in
-    let start : SessionMade s n s = λ m' among' t h g has.
+    let no_word : ℕ → Word → Type 0 = λ job w. ⊥ in
+    let outer_mark : ℕ → ℕ → Standing → Type 0 = λ job identity standing. (identity ≡ 2) × (standing ≡ Entered 2 1 None) in
+    let start : SessionMade s n no_word outer_mark s = λ m' among' t h g has.
     let o = openings_are_made_by_the_loader stack quantum switches openings m' among' in (
       λ w word. absurd (subst (λ (ws : List Word). Has ws w) (o.made.no_words t g h has) word),
       inl (o.made.outer_block t g h has, o.made.mark t g h has),
     ) in
-    let made = follows s n n 0 s refl (omega arith) start m among task live f of_task in
+    let made = follows s n no_word outer_mark n 0 s refl (omega arith) start m among task live f of_task in
+    record { words = λ w word. elim (made.0 w word) [ inl none ↦ absurd none | inr step ↦ step ]; mark = made.1 }
+
+-- any other has those that it has
+pub sessions_keep_or_make_their_words : SessionsKeepOrMakeTheirWords
+sessions_keep_or_make_their_words n s m task f among live of_task =
+    let has_word : ℕ → Word → Type 0 = λ job w. HoldsOfJob s job (λ tasks. HasWord tasks w) in
+    let has_mark : ℕ → ℕ → Standing → Type 0 = λ job identity standing. HoldsOfJob s job (λ tasks. HasMark tasks identity standing) in
+    let start : SessionMade s n has_word has_mark s = λ m' among' t h g has.
+    let stands : StandsIn m'.progress.job.tasks g = record { task = t; live = h; among = has } in (
+      λ w word. inl (record { member = m'; among = among'; numbered = refl; holds = record { frame = g; stands = stands; among = word } }),
+      inl (record { member = m'; among = among'; numbered = refl; holds = record { frame = g; stands = stands; identity_is = refl; standing_is = refl } }),
+    ) in
+    let made = follows s n has_word has_mark n 0 s refl (omega arith) start m among task live f of_task in
     record { words = made.0; mark = made.1 }

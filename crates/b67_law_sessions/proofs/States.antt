@@ -39,15 +39,19 @@ sessions_fault_exactly_at_nvld s order admitted = record {
         let a = all_in RunsAdmitted s.jobs m admitted among in
         task_faults a.program m.constants m.progress.job task a.admitted a.segments (job_good m among).tasks live
 
--- so is each state that follows
-follows : (n : ℕ) (s : Session) → IsInOrder s → AllByRecursion RunsAdmitted s.jobs → StateFaultsAtNvld (after n s)
-follows zero s o a = sessions_fault_exactly_at_nvld s o a
-follows (suc n) s o a = go (λ s' o' a'. follows n s' o' a') (next s) refl
+-- what holds of each session in order over admitted programs holds of each state that follows one
+follows : (P : Session → Type 0) → ((s : Session) → IsInOrder s → AllByRecursion RunsAdmitted s.jobs → P s) → (n : ℕ) (s : Session) → IsInOrder s → AllByRecursion RunsAdmitted s.jobs → P (after n s)
+follows P holds zero s o a = holds s o a
+follows P holds (suc n) s o a = go (λ s' o' a'. follows P holds n s' o' a') (next s) refl
   where
-    go : ((s' : Session) → IsInOrder s' → AllByRecursion RunsAdmitted s'.jobs → StateFaultsAtNvld (after n s')) → (m : Option StepResult) → next s ≡ m → StateFaultsAtNvld (after_from (suc n) s m)
-    go rest None e = sessions_fault_exactly_at_nvld s o a
+    go : ((s' : Session) → IsInOrder s' → AllByRecursion RunsAdmitted s'.jobs → P (after n s')) → (m : Option StepResult) → next s ≡ m → P (after_from (suc n) s m)
+    go rest None e = holds s o a
     go rest (Some m) e = let both = sessions_stay_in_order s m o a e in rest m.session both.0 both.1
 
 pub runs_fault_exactly_at_nvld : RunsFaultExactlyAtNvld
 runs_fault_exactly_at_nvld n stack quantum switches openings within =
-    follows n (opening stack quantum switches openings) (opens_in_order stack quantum switches openings within) (opened_admitted 1 stack openings within.each)
+    follows StateFaultsAtNvld sessions_fault_exactly_at_nvld n (opening stack quantum switches openings) (opens_in_order stack quantum switches openings within) (opened_admitted 1 stack openings within.each)
+
+-- it is in order itself
+pub in_order_after : (n : ℕ) (s : Session) → IsInOrder s → AllByRecursion RunsAdmitted s.jobs → IsInOrder (after n s)
+in_order_after = follows IsInOrder (λ s o a. o)

@@ -1,7 +1,6 @@
 -- Identities are counted up and never used again.
-use Rattle.std.specs.Prelude.{◌≡◌, ℕ, ◌≤◌, List, Option, Ok}
-use Rattle.b67_model.specs.declared.operators.Op.{Op}
-use Rattle.b67_model.specs.Common.{JobConstants, Job, JobProgress, OperatorContext, Line, Goes, row, step_of}
+use Rattle.std.specs.Prelude.{ℕ, ◌≤◌}
+use Rattle.b67_model.specs.Common.{JobConstants, Job, JobProgress, step_of}
 
 -- the next identities of frames and arrays, and the next number of a task, are the same or higher
 pub record Grown (before after : Job) : Type 0 where

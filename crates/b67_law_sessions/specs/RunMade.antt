@@ -6,7 +6,7 @@ use Rattle.b67_model.specs.Keyed.{keyed}
 use Rattle.b67_lemmas.specs.Lists.{Has}
 use Rattle.b67_model.specs.Common.{Word, Frame, Entered, Task, SessionJob, OperatorContext, called, reading_of, Switch, Session, Choice, choice, number_of, after}
 use Rattle.b67_law_order.specs.Opening.{Opening, opening}
-use Rattle.b67_law_sessions.specs.Made.{OperatorMakes, MakesMark}
+use Rattle.b67_law_sessions.specs.Made.{OperatorMakes, MakesMark, HasWord, HasMark}
 
 -- a task of a job makes the next step of a session, and stands at this operator
 pub record MakesOperator (s : Session) (job number : ℕ) (op : Op) : Type 0 where
@@ -46,3 +46,21 @@ abbrev pub RunsMakeTheirWords : Type 0
 RunsMakeTheirWords =
     (n stack quantum : ℕ) (switches : List Switch) (openings : List Opening) (m : SessionJob) (task : Task) (f : Frame) → let s = opening stack quantum switches openings in
     Has (after n s).jobs m → Has m.progress.job.tasks task → Has task.frames f → FrameMadeInRun s n (number_of m) f
+
+-- the job of this number has live tasks of which this holds
+pub record HoldsOfJob (s : Session) (job : ℕ) (P : List Task → Type 0) : Type 0 where
+  pub member : SessionJob
+  pub among : Has s.jobs member
+  pub numbered : number_of member ≡ job
+  pub holds : P member.progress.job.tasks
+
+-- Since a session, from which n steps were made: each word of a frame stood there in a live task of its job, unchanged, or was
+-- made by one of these steps of its job. So did its mark, with its return and of the same frame, or so was it
+pub record FrameKeptOrMade (s : Session) (n job : ℕ) (f : Frame) : Type 0 where
+  pub words : (w : Word) → Has f.cells w → HoldsOfJob s job (λ tasks. HasWord tasks w) ⊎ EarlierStep s n job (λ op call. OperatorMakes op call w)
+  pub mark : HoldsOfJob s job (λ tasks. HasMark tasks f.identity f.standing) ⊎ EarlierStep s n job (λ op call. MakesMark op call f.standing)
+
+-- each frame of a live task, after any number of steps from any session
+abbrev pub SessionsKeepOrMakeTheirWords : Type 0
+SessionsKeepOrMakeTheirWords =
+    (n : ℕ) (s : Session) (m : SessionJob) (task : Task) (f : Frame) → Has (after n s).jobs m → Has m.progress.job.tasks task → Has task.frames f → FrameKeptOrMade s n (number_of m) f

@@ -16,6 +16,7 @@ pub use frames::{chase_follows_chains, identities_grow_by_steps};
 pub use runs::{
     invalid_operator_exactly_at_nvld, openings_are_made_by_the_loader, runs_end_exactly_at_nvld,
     runs_fault_exactly_at_nvld, runs_make_their_words, sessions_fault_exactly_at_nvld,
+    sessions_keep_or_make_their_words,
 };
 pub use turns::{
     choice_ignores_numbers, chosen_tasks_are_ready, first_parts_keep_order,

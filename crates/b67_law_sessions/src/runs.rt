@@ -2,7 +2,7 @@
 
 ghost use Rattle.b67_law_sessions.specs.RunFaults.{InvalidOperatorExactlyAtNvld, SessionsFaultExactlyAtNvld, RunsFaultExactlyAtNvld};
 ghost use Rattle.b67_law_sessions.specs.Opened.{OpeningsMadeByLoader};
-ghost use Rattle.b67_law_sessions.specs.RunMade.{RunsMakeTheirWords};
+ghost use Rattle.b67_law_sessions.specs.RunMade.{RunsMakeTheirWords, SessionsKeepOrMakeTheirWords};
 ghost use Rattle.b67_law_sessions.specs.Ended.{RunsEndExactlyAtNvld};
 
 /// Over an admitted program an operator stands at the place of each live task, and the task's step
@@ -33,6 +33,12 @@ pub fn openings_are_made_by_the_loader()
 /// of an earlier step of its job, but for the mark of the outer block, which the loader made.
 pub fn runs_make_their_words()
     ensures { RunsMakeTheirWords }
+{}
+
+/// After any number of steps from any session, each word, mark and return of a live frame stood in its job before these
+/// steps, unchanged, or was made by the operator of one of them.
+pub fn sessions_keep_or_make_their_words()
+    ensures { SessionsKeepOrMakeTheirWords }
 {}
 
 /// In any state of a deck's run a task has ended with INVALID OPERATOR exactly if one of its steps

@@ -1,13 +1,13 @@
 -- What the call of an intrinsic answers, prints and leaves.
-use Rattle.std.specs.Prelude.{◌≡◌, ◌≢◌, ℕ, ◌+◌, ◌-◌, ◌<◌, ◌≤◌, ◌⊎◌, List, [], ◌∷◌, length, slice_get, Option, Some, None, Result, Ok, Err}
+use Rattle.std.specs.Prelude.{◌≡◌, ◌≢◌, ℕ, ◌+◌, ◌-◌, ◌<◌, ◌≤◌, ◌⊎◌, List, [], ◌∷◌, length, take, slice_get, Option, Some, None, Result, Ok, Err}
 use Rattle.b67_lemmas.specs.Lists.{Has}
 use Rattle.b67_model.specs.declared.intrinsics.TheConstants.{ARRAYDEC, PROCESS, DEALLOCATE, RESIZE}
-use Rattle.b67_model.specs.Common.{Array, Condition, Task, Job, SessionJob, with_array, all_zero, Line, Goes, Waits, step, touched_of, need, sectors, run_text, Session}
+use Rattle.b67_model.specs.Common.{Array, Row, Condition, Task, Job, SessionJob, Line, Goes, Waits, step, touched_of, need, sectors, run_text, Session}
 use Rattle.b67_stack.specs.declared.What.{What}
 use Rattle.b67_stack.specs.declared.What.TheVariants as what
 use Rattle.b67_stack.specs.Represents.{Storage}
 use Rattle.b67_layout_storage.specs.Machine.{Says, content_after, HasHole}
-use Rattle.b67_layout.specs.Common.{Placement, with_job, area_held, IsInStack, shown, session_moved}
+use Rattle.b67_layout.specs.Common.{Placement, with_job, area_held, cells, IsInStack, shown, session_moved}
 use Rattle.b67_exec_cells.specs.Running.{code_area}
 use Rattle.b67_exec_cells.specs.Called.{called_in}
 use Rattle.b67_law_sessions.specs.Turns.{task_lines}
@@ -61,10 +61,10 @@ pub record IsCalled {K : Type 0} (taken : K → Option (List ℕ)) (paper paper'
   pub text : TookRest taken paper paper' (printed_text m t printed) before
   pub reset : new.tasks.printed ≡ printed_after printed before
 
--- at this address something else is held after the call: it is the original of an array that DEALLOCATE empties, of the one that
--- RESIZE gives another length, or of one that ARRAYDEC makes
+-- at this address something else is held after the call: it is the original of the array that DEALLOCATE empties, which the row copy
+-- on top of the marked record names; of the one that RESIZE gives another length; or of one that ARRAYDEC makes
 pub data HoldsOther (plan after : Placement) (m : SessionJob) (t : Task) (job : Job) (home : ℕ) : Type 0 where
-  is_emptied : (a : Array) → called_in m t ≡ Some DEALLOCATE → Has m.progress.job.arrays a → job.arrays ≡ (with_array m.progress.job a.identity all_zero).arrays
+  is_emptied : (a : Array) → called_in m t ≡ Some DEALLOCATE → Has m.progress.job.arrays a → take 1 (cells t) ≡ Row a.identity ∷ []
       → plan.home m.constants.number a.identity ≡ home → HoldsOther plan after m t job home
   is_resized : (a : Array) → called_in m t ≡ Some RESIZE → Has m.progress.job.arrays a → touched_of m.constants m.progress.job t (step m.constants m.progress.job t) ≡ Some a.identity
       → plan.home m.constants.number a.identity ≡ home → HoldsOther plan after m t job home

@@ -1,5 +1,5 @@
 -- The array whose whole copy is an argument, and what DEALLOCATE and RESIZE make of it.
-use Rattle.std.proofs.Common.{◌≡◌, ◌≢◌, ℕ, suc, ◌<◌, ◌≤◌, ◌^◌, List, [], ◌∷◌, reverse, length, Some, Ok, Err, refl, sym, ◌∙◌, ap, arith, true, false, subst}
+use Rattle.std.proofs.Common.{◌≡◌, ◌≢◌, ℕ, suc, ◌<◌, ◌≤◌, ◌^◌, List, [], ◌∷◌, reverse, length, Some, Ok, Err, refl, sym, ◌∙◌, ap, arith, true, false, subst, take}
 use Rattle.std.specs.List.{AllByRecursion}
 use Rattle.std.proofs.lemmas.Bool.{le-leb, not-false, not-true}
 use Rattle.std.proofs.lemmas.Option.{none-some}
@@ -163,6 +163,7 @@ module _ (m : SessionJob) (t : Task) (r : Word) (arguments : List Word) (call : 
             let P : List Word → Type 0 = λ ws. AllByRecursion (λ (w : Word). is_original w ≡ false) ws in
             record {
               which = record { array = k.item; among = k.live; home = k.home; writable = which_writable off };
+              named = ap (λ (ws : List Word). take 1 ws) only.cells_are ∙ ap (λ (w : Word). w ∷ []) k.is;
               may = record { marked = call.marked; free = z; plain = subst P (sym only.cells_are) (ap is_original k.is, (call.plain, tt)) };
               makes = λ next. emptied next ∙ rw (writable off) (rw z (rw (le-leb (height (below_top t.frames)) m.constants.stack_size (low fits)) refl));
             }

@@ -1,11 +1,11 @@
 -- Calls of DEALLOCATE and RESIZE: the array that is emptied, or that gets another length.
-use Rattle.std.specs.Prelude.{◌≡◌, ◌≢◌, ℕ, ◌<◌, ◌^◌, true, List, [], length, Some, None, Result, Ok, Err}
+use Rattle.std.specs.Prelude.{◌≡◌, ◌≢◌, ℕ, ◌<◌, ◌^◌, true, List, [], ◌∷◌, length, take, Some, None, Result, Ok, Err}
 use Rattle.b67_word.specs.declared.couples.Place.{Place}
 use Rattle.b67_word.specs.declared.faults.Fault.{Fault}
 use Rattle.b67_lemmas.specs.Lists.{Has}
-use Rattle.b67_model.specs.Common.{Word, Array, Task, Job, SessionJob, with_task, with_array, all_zero, resized, Goes, answered, deallocate, resize}
+use Rattle.b67_model.specs.Common.{Word, Row, Array, Task, Job, SessionJob, with_task, with_array, all_zero, resized, Goes, answered, deallocate, resize}
 use Rattle.b67_stack.specs.Represents.{Storage}
-use Rattle.b67_layout.specs.Common.{Placement, here, area_held}
+use Rattle.b67_layout.specs.Common.{Placement, here, area_held, cells}
 use Rattle.b67_mcp_calls.specs.Calls.{MayCut}
 use Rattle.b67_mcp_calls.specs.declared.resize.Resizing.{Resizing}
 use Rattle.b67_mcp_calls.specs.declared.resize.Resizing.TheVariants as resizing
@@ -24,9 +24,10 @@ job_emptied m t a next = with_task (with_array m.progress.job a all_zero) (answe
 abbrev pub job_resized : SessionJob → Task → ℕ → ℕ → Place → Job
 job_resized m t a words next = with_task (with_array m.progress.job a (resized words)) (answered (here m t next) [])
 
--- DEALLOCATE empties this array, and its call may be cut off
+-- DEALLOCATE empties this array, which the row copy on top of the marked record names, and its call may be cut off
 pub record Empties (plan : Placement) (m : SessionJob) (t : Task) (arguments : List Word) (original : ℕ) : Type 0 where
   pub which : IsWritable plan m original
+  pub named : take 1 (cells t) ≡ Row which.array.identity ∷ []
   pub may : MayCut m t
   pub makes : (next : Place) → deallocate (here m t next) arguments ≡ Ok (Goes (job_emptied m t which.array.identity next) [] None)
 

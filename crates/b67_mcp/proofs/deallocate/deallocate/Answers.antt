@@ -93,7 +93,7 @@ returns-clause-row c = λ x told plan s m t o h runs code called.
             (c.cut_call.ensures.stands y plan (with_job s m m1.progress.job) m1 t order stands.session runs1 may1));
         printed = refl;
       },
-      λ no_process home none. held-other x.held object.home nowhere home (λ e. none (is_emptied a called r.which.among refl (sym e))),
+      λ no_process home none. held-other x.held object.home nowhere home (λ e. none (is_emptied a called r.which.among r.named (sym e))),
     ))
 
 pub returns-clause-kept : goal.returns-clause-kept
