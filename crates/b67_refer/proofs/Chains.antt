@@ -116,6 +116,17 @@ module _ (core : List Tagged) (r : Regs) (a : RunningContext core r) where
       high_level core r (live_of a) (running a.task.frames).identity (running a.task.frames).standing run.among run.entered
       (high_frames core r (live_of a) a.task (has_task core r (live_of a)) (running a.task.frames) b.0)
 
+  -- from there up there are tasks' frames alone
+  pub own_level : (q : Place) (n : ℕ) → 2 ≤ n → n ≤ level → 1 < (frame_at (here a.member a.task q) n).identity
+  own_level q n high up = by_level (frame_at (here a.member a.task q) n) (level_at q n up) where
+    by_base : (f : Frame) → Level q n f → Has base_known (f.identity, f.standing) → ⊥
+    by_base f b (inl e) = let l = ap (λ (k : Known). level_of_standing k.1) e in omega (arith, l, b.level, high)
+    by_base f b (inr (inl e)) = let l = ap (λ (k : Known). level_of_standing k.1) e in omega (arith, l, b.level, high)
+    by_base f b (inr (inr z)) = z
+
+    by_level : (f : Frame) → Level q n f → 1 < f.identity
+    by_level f b = ⊎_elim (λ (own : 1 < f.identity). own) (λ (z : f.identity ≤ 1). absurd (by_base f b (low_is core r (live_of a) f.identity f.standing b.among z))) (cases_lt 1 f.identity)
+
   -- below it there are the dictionary and the MCP alone
   low_identity : (n : ℕ) (f : Frame) → Level a.task.place n f → n ≤ 1 → f.identity ≡ n
   low_identity n f b low = ⊎_elim
@@ -126,6 +137,12 @@ module _ (core : List Tagged) (r : Regs) (a : RunningContext core r) where
         by_base (inl e) = sym (ap (λ (k : Known). k.0) e) ∙ ap (λ (k : Known). level_of_standing k.1) e ∙ b.level
         by_base (inr (inl e)) = sym (ap (λ (k : Known). k.0) e) ∙ ap (λ (k : Known). level_of_standing k.1) e ∙ b.level
         by_base (inr (inr z)) = absurd z
+
+  pub base_level : (q : Place) (n : ℕ) → n ≤ 1 → (frame_at (here a.member a.task q) n).identity ≤ 1
+  base_level q n low =
+      let e = ap (λ (f : Frame). f.identity) (frame_at_same q a.task.place n) in
+      let i = low_identity n (frame_at (here a.member a.task a.task.place) n) (level_at a.task.place n (omega (arith, low, level_low))) low in
+      omega (arith, e, i, low)
 
   address_low : (n : ℕ) → n ≤ 1 → address_at a.task.place n ≡ address_of a.plan (base_spot a.member.constants.number n)
   address_low n low =

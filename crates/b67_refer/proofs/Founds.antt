@@ -1,5 +1,5 @@
 -- What the search for a cell finds, by the address of the frame's mark.
-use Rattle.std.proofs.Common.{◌≡◌, ℕ, ◌+◌, ◌<◌, ◌≤◌, ◌^◌, List, ◌∷◌, Some, Ok, Err, refl, sym, ◌∙◌, ap, arith, ◌⊎◌, ⊎_elim, inl, inr, subst, length}
+use Rattle.std.proofs.Common.{◌≡◌, ℕ, ◌+◌, ◌<◌, ◌≤◌, ◌^◌, List, ◌∷◌, Bool, true, false, Some, Ok, Err, refl, sym, ◌∙◌, ap, arith, ◌⊎◌, ⊎_elim, inl, inr, subst, length}
 use Rattle.std.specs.List.{slice_get}
 use Rattle.b67_word.specs.Tagged.{Tagged}
 use Rattle.b67_word.specs.declared.couples.Place.{Place}
@@ -8,14 +8,14 @@ use Rattle.b67_ctl.specs.declared.registers.Regs.{Regs}
 use Rattle.b67_model.specs.Common.{Answer, Word, cell, reach_of, NamesEntered}
 use Rattle.b67_layout.specs.Common.{frame_address, here, spot_in}
 use Rattle.b67_refer.specs.RunningContext.{LiveContext}
-use Rattle.b67_refer.specs.LiveCells.{CellMeets}
+use Rattle.b67_refer.specs.LiveCells.{CellMeets, IsUnder, IsPlain, cell_or_none}
 use Rattle.b67_refer.proofs.Bases.{slot_inside, dictionary_is, dictionary_low, slot_zero}
 use Rattle.b67_refer.proofs.Seats.{seat}
 use Rattle.b67_refer.proofs.Rule.{misses, marks, lands, lands_last, seat_address}
-use Rattle.b67_refer.proofs.Unders.{is_mcp, is_dictionary, entries_is, high_address, last_slot, one_word}
 use Rattle.b67_refer.proofs.Slots.{base, acts}
 use Rattle.b67_stack.specs.Stacks.{stack_words}
 use Rattle.b67_layout.proofs.Frames.{height-is}
+use Rattle.b67_refer.proofs.Unders.{under, is_mcp, is_dictionary, entries_is, high_address, last_slot, one_word}
 use Rattle.b67_refer.proofs.Fixed.{mcp_misses, mcp_lands, dictionary_misses, dictionary_lands}
 
 module _ (core : List Tagged) (r : Regs) (a : LiveContext core r) (q : Place) (f from offset : ℕ) (n : NamesEntered (reach_of a.member.progress.job a.task) f) (e : from ≡ frame_address a.plan a.member a.task f) where
@@ -25,6 +25,9 @@ module _ (core : List Tagged) (r : Regs) (a : LiveContext core r) (q : Place) (f
   module _ (own : 1 < f) where
     abbrev pub top : ℕ
     top = (seat core r a f n.standing n.among own).top
+
+    pub under_top : IsUnder a from top
+    under_top = let U : ℕ → Type 0 = λ x. IsUnder a x top in subst U (sym e) (under core r a f n own)
 
     pub task_misses : (offset < 2) ⊎ (top < from + offset) → CellMeets a q f offset (Err InvalidAddress) (cell (here a.member a.task q) f offset)
     task_misses far = refused (misses core r a q f n.standing (seat core r a f n.standing n.among own) n.entered own offset (⊎_elim inl (λ z. inr (omega (arith, z, e))) far))
@@ -38,6 +41,10 @@ module _ (core : List Tagged) (r : Regs) (a : LiveContext core r) (q : Place) (f
         let l = lands core r a q f n.standing (seat core r a f n.standing n.among own) n.entered own offset low (omega (arith, up, e)) (λ k w d u there tag. plain k w (omega (arith, d, e)) (omega (arith, u, e)) there tag) in
         let F : ℕ → Type 0 = λ x. CellMeets a q f offset (Ok (x + offset)) (cell (here a.member a.task q) f offset) in
         subst F (sym e) l
+
+    pub task_plain : 2 ≤ offset → from + offset ≤ top → (b : Bool) → IsPlain core (from + 2) (from + offset) b → CellMeets a q f offset (cell_or_none b (from + offset)) (cell (here a.member a.task q) f offset)
+    task_plain low up true plain = task_lands low up (λ k w d u there tag. plain k w d (omega (arith, u)) there tag)
+    task_plain low up false found = let (k, w, d, u, there, tag) = found in task_marks k w d u there tag
 
     -- in the running stack's last frame
     pub task_tops : from ≡ r.f → 2 ≤ offset → from + offset ≤ top → CellMeets a q f offset (Ok (from + offset)) (cell (here a.member a.task q) f offset)

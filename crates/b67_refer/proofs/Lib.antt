@@ -17,3 +17,5 @@ pub mod SeenFrom
 pub mod Names
 pub mod Follows
 pub mod Scans
+pub mod Walks
+pub mod Splits

@@ -123,6 +123,22 @@ module _ (core : List Tagged) (r : Regs) (a : LiveContext core r) where
         by_base true = inr (inl refl)
         by_base false = inr (inr refl)
 
+  -- in a slot there are a task's frames alone
+  pub own_stack : (id : ℕ) → (spots a.plan a.member.constants.number a.member.progress.job a.task id).stack < 120 → 1 < id
+  own_stack id few = ⊎_elim
+      (λ (high : 1 < id). high)
+      (λ (low : id ≤ 1). absurd (let v = ap (λ (z : StackPlace). z.stack) (view_low id low) in let b = by_base (id == 1) in omega (arith, few, v, b)))
+      (cases_lt 1 id) where
+        by_base : (b : Bool) → 120 ≤ (let z : StackPlace = if b then record { stack = 127 + a.member.constants.number; disp = 0 } else record { stack = 136; disp = 0 } in z).stack
+        by_base true = omega arith
+        by_base false = omega arith
+
+  pub base_stack : (id : ℕ) (s : Standing) → Has (reach_of a.member.progress.job a.task) (id, s) → 120 ≤ (spots a.plan a.member.constants.number a.member.progress.job a.task id).stack → id ≤ 1
+  base_stack id s m far = ⊎_elim
+      (λ (high : 1 < id). absurd (let b = seat core r a id s m high in let v = ap (λ (z : StackPlace). z.stack) b.spot in let used = b.top_is.used in let few = a.holds.fits.few in omega (arith, far, v, used, few)))
+      (λ (low : id ≤ 1). low)
+      (cases_lt 1 id)
+
   -- the address of a spot in a slot
   pub slot_address : (k d : ℕ) → k < a.plan.peak → address_of a.plan (record { stack = k; disp = d }) ≡ base core r a k + d
   slot_address k d used =

@@ -44,7 +44,7 @@ get_last [] y (suc i) = let t = ne_eqb (suc i) 0 (λ e. omega (arith, e)) in rw 
 get_last (x ∷ xs) y zero = let t = ne_eqb 0 (suc (length xs)) (λ e. omega (arith, e)) in rw t refl
 get_last (x ∷ xs) y (suc i) = get_last xs y i ∙ ap (λ b. if b then Some y else slice_get xs i) (same_test i (length xs))
 
-get_reverse : {A : Type 0} (xs : List A) (i : ℕ) → slice_get (reverse xs) i ≡ from_end xs i
+pub get_reverse : {A : Type 0} (xs : List A) (i : ℕ) → slice_get (reverse xs) i ≡ from_end xs i
 get_reverse [] i = refl
 get_reverse (x ∷ xs) i =
     ap (λ ys. slice_get ys i) (reverse_cons x xs) ∙ get_last (reverse xs) x i
@@ -66,7 +66,7 @@ end_none (x ∷ xs) i high =
     rw ne (end_none xs i (omega (arith, stack_words)))
 
 -- the word of a cell that lies over others
-end_lies : {A : Type 0} (R : Shape → ℕ → Tagged → Type 0) (core : List Tagged) (from : ℕ) (g : A → Shape) (xs : List A) (under : List Shape) (i : ℕ) (x : A) → LieDownward R core from (map g xs ++ under) → from_end xs i ≡ Some x
+pub end_lies : {A : Type 0} (R : Shape → ℕ → Tagged → Type 0) (core : List Tagged) (from : ℕ) (g : A → Shape) (xs : List A) (under : List Shape) (i : ℕ) (x : A) → LieDownward R core from (map g xs ++ under) → from_end xs i ≡ Some x
     → (v : Tagged) × (slice_get core (from + length under + i) ≡ Some v) × R (g x) (from + length under + i) v
 end_lies R core from g [] under i x l e = absurd (none-some x e)
 end_lies R core from g (y ∷ xs) under i x l e = ⊎_elim
@@ -79,7 +79,7 @@ end_lies R core from g (y ∷ xs) under i x l e = ⊎_elim
     (cases_Bool (i == length xs))
 
 -- no word that a cell may hold has tag 3
-word_tag : (P : Starts) (arrays : List Array) (reach : List Known) (owner : ℕ) (held : Locations) (plan : Placement) (j : ℕ) (job : Job) (spot : ℕ → StackPlace) (w : Word) (i : ℕ) (v : Tagged) → WordInOrder P arrays reach owner w → Fits held (shape plan j job spot w) i v → v.tag ≡ 3 → ⊥
+pub word_tag : (P : Starts) (arrays : List Array) (reach : List Known) (owner : ℕ) (held : Locations) (plan : Placement) (j : ℕ) (job : Job) (spot : ℕ → StackPlace) (w : Word) (i : ℕ) (v : Tagged) → WordInOrder P arrays reach owner w → Fits held (shape plan j job spot w) i v → v.tag ≡ 3 → ⊥
 word_tag P arrays reach owner held plan j job spot (Operand bits) i v o f e = let z = ap (λ (x : Tagged). x.tag) f.0 in absurd (omega (arith, z, e))
 word_tag P arrays reach owner held plan j job spot (Name couple) i v o f e = let z = ap (λ (x : Tagged). x.tag) f.0 in absurd (omega (arith, z, e))
 word_tag P arrays reach owner held plan j job spot (Ref g d) i v o f e = let z = ap (λ (x : Tagged). x.tag) f.0 in absurd (omega (arith, z, e))

@@ -28,7 +28,7 @@ entered_only : (k : ℕ) (spot : ℕ → StackPlace) (s : Standing) (below : Lis
 entered_only k spot State.Marked below f next e = absurd (let z : ⊥ = cc in z)
 entered_only k spot (State.Entered level environment back) below f next e = refl
 
-back_of : (k : ℕ) (spot : ℕ → StackPlace) (s : Standing) (below : List Activation) → (mark_of k (head spot s) below).back ≡ top_size below
+pub back_of : (k : ℕ) (spot : ℕ → StackPlace) (s : Standing) (below : List Activation) → (mark_of k (head spot s) below).back ≡ top_size below
 back_of k spot State.Marked below = refl
 back_of k spot (State.Entered level environment back) below = refl
 

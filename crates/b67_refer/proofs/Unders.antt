@@ -3,7 +3,7 @@ use Rattle.std.proofs.Common.{◌≡◌, ℕ, ◌+◌, ◌-◌, ◌*◌, ◌/◌
 use Rattle.std.specs.Prelude.{nat_le}
 use Rattle.std.specs.List.{slice_get}
 use Rattle.std.proofs.lemmas.Nat.{div-mul-add}
-use Rattle.std.proofs.lemmas.Bool.{cases_lt, lt-leb, le-leb}
+use Rattle.std.proofs.lemmas.Bool.{cases_eq, cases_lt, lt-leb, le-leb}
 use Rattle.std.proofs.lemmas.Option.{get_or_from_slice_get}
 use Rattle.b67_word.specs.Tagged.{Tagged}
 use Rattle.b67_word.specs.declared.couples.Place.{Place}
@@ -15,17 +15,17 @@ use Rattle.b67_word.specs.declared.faults.Fault.TheVariants.{InvalidAddress}
 use Rattle.b67_model.specs.State as State
 use Rattle.b67_model.specs.Common.{Frame, Standing, height, reach_of, NamesEntered, frame_at, named}
 use Rattle.b67_stack.specs.Stacks.{StackPlace, head_size, stack_words, mark_place}
-use Rattle.b67_stack.proofs.Tops.{mark_high}
 use Rattle.b67_layout.specs.Common.{slot_of, spot_in, head, stack_of_task, frame_address, here}
+use Rattle.b67_stack.proofs.Tops.{mark_high}
+use Rattle.b67_refer.proofs.Slots.{registers, whole}
 use Rattle.b67_layout.proofs.Frames.{height-is}
 use Rattle.b67_refer.specs.RunningContext.{RunningContext, LiveContext, IsShown}
 use Rattle.b67_refer.specs.LiveCells.{IsUnder}
 use Rattle.b67_refer.proofs.Bases.{stacks_is, size_is, slot_inside, dictionary_is, dictionary_low}
 use Rattle.b67_refer.proofs.Seats.{seat}
-use Rattle.b67_refer.proofs.Slots.{registers, whole}
 use Rattle.b67_refer.proofs.Rule.{seat_address}
 use Rattle.b67_refer.proofs.Fixed.{mcp_address, dictionary_home, dictionary_high}
-use Rattle.b67_refer.proofs.Chains.{level, level_is, level_at, frame_at_same}
+use Rattle.b67_refer.proofs.Chains.{level, level_is, level_at, own_level, base_level, frame_at_same}
 
 pub one_word : (spot : ℕ → StackPlace) (s : Standing) → 1 ≤ head_size (head spot s)
 one_word spot State.Marked = omega arith
@@ -76,6 +76,13 @@ module _ (core : List Tagged) (r : Regs) (a : LiveContext core r) where
         at = seat_address core r a a.task.place f n.standing b n.entered own;
         is = b.top_is;
       }
+
+  -- a frame's stack is known by its mark's address
+  pub same_slot : (f : ℕ) (n : NamesEntered (reach_of a.member.progress.job a.task) f) (own : 1 < f) (from top : ℕ) (u : IsUnder a from top) → frame_address a.plan a.member a.task f ≡ from → u.slot ≡ (seat core r a f n.standing n.among own).slot
+  unfolding under
+  same_slot f n own from top u e =
+      sym (slot_found from top r.stack_size u refl) ∙ ap (λ x. (x - r.stacks) / r.stack_size) (sym e)
+      ∙ slot_found (frame_address a.plan a.member a.task f) (seat core r a f n.standing n.among own).top r.stack_size (under f n own) refl
 
   -- where the frame's mark is the last one of the running stack, it lies in that stack
   pub last_slot : (f : ℕ) (n : NamesEntered (reach_of a.member.progress.job a.task) f) (own : 1 < f) → frame_address a.plan a.member a.task f ≡ r.f → r.slot ≡ (seat core r a f n.standing n.among own).slot
@@ -134,6 +141,9 @@ module _ (core : List Tagged) (r : Regs) (a : LiveContext core r) where
       (cases_lt f 1))
       (cases_lt 1 f)
 
+  pub is_base : (f from : ℕ) → NamesEntered (reach_of a.member.progress.job a.task) f → from ≡ frame_address a.plan a.member a.task f → f ≤ 1 → (from ≡ 0 → ⊥) → from ≡ r.dict
+  is_base f from n e low some = ⊎_elim (λ z. z) (λ other. absurd (let own = is_task f from n e some other in omega (arith, own, low))) (cases_eq from r.dict)
+
   -- the number of a dictionary's entries
   pub entries_is : r.entries ≡ length a.member.constants.dictionary.cells
   entries_is = (a.holds.running a.member a.runner a.running).entries
@@ -152,6 +162,12 @@ module _ (core : List Tagged) (r : Regs) (a : RunningContext core r) where
         let e = level_is core r a in
         let k = level_at core r a q c.level (omega (arith, e, low)) in
         record { standing = (frame_at (here a.member a.task q) c.level).standing; among = k.among; entered = k.entered }
+
+    pub names_own : 1 < c.level → c.level ≤ r.level → 1 < (frame_at (here a.member a.task q) c.level).identity
+    names_own high low = let e = level_is core r a in own_level core r a q c.level (omega (arith, high)) (omega (arith, e, low))
+
+    pub names_base : c.level ≤ 1 → (frame_at (here a.member a.task q) c.level).identity ≤ 1
+    names_base few = base_level core r a q c.level few
 
     pub display_at : c.level ≤ r.level → get_or display c.level 0 ≡ frame_address a.plan a.member a.task (frame_at (here a.member a.task q) c.level).identity
     display_at low =

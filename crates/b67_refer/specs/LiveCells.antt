@@ -1,8 +1,9 @@
 -- The cells of frames in core, seen from a live task.
-use Rattle.std.specs.Prelude.{◌≡◌, ◌≢◌, ℕ, ◌+◌, ◌*◌, ◌<◌, ◌≤◌, ◌⊎◌, List, Some, Result, Ok, Err, slice_get}
+use Rattle.std.specs.Prelude.{◌≡◌, ◌≢◌, ℕ, Bool, true, false, ◌+◌, ◌*◌, ◌<◌, ◌≤◌, ◌⊎◌, List, Some, Result, Ok, Err, slice_get}
 use Rattle.b67_word.specs.Tagged.{Tagged}
 use Rattle.b67_word.specs.declared.couples.Place.{Place}
 use Rattle.b67_word.specs.declared.faults.Fault.{Fault}
+use Rattle.b67_word.specs.declared.faults.Fault.TheVariants.{InvalidAddress}
 use Rattle.b67_ctl.specs.declared.map.TheConstants.{FIRST_INTRINSIC, LAST_INTRINSIC}
 use Rattle.b67_ctl.specs.declared.registers.Regs.{Regs}
 use Rattle.b67_ctl.specs.declared.marks.Toscw.{Toscw}
@@ -13,6 +14,16 @@ use Rattle.b67_stack.specs.Stacks.{StackPlace}
 use Rattle.b67_stack.specs.Shapes.{Fits}
 use Rattle.b67_layout.specs.Common.{spots, shape, frame_address, here}
 use Rattle.b67_refer.specs.RunningContext.{LiveContext}
+
+-- a cell's address, if there is the cell
+abbrev pub cell_or_none : Bool → ℕ → Result ℕ Fault
+cell_or_none true at = Ok at
+cell_or_none false at = Err InvalidAddress
+
+-- whether no word from an address up to another has the tag of marks
+abbrev pub IsPlain : List Tagged → (from to : ℕ) → Bool → Type 0
+IsPlain core from to true = (k : ℕ) (w : Tagged) → from ≤ k → k ≤ to → slice_get core k ≡ Some w → w.tag ≡ 3 → ⊥
+IsPlain core from to false = (k : ℕ) × (w : Tagged) × (from ≤ k) × (k ≤ to) × (slice_get core k ≡ Some w) × (w.tag ≡ 3)
 
 module _ {core : List Tagged} {r : Regs} (a : LiveContext core r) where
   -- what the task may name, and where the frames are

@@ -1,6 +1,6 @@
 //! The cells that references name.
 
-ghost use Rattle.std.specs.Prelude.{◌≡◌, ℕ, ◌<◌, List, Result};
+ghost use Rattle.std.specs.Prelude.{◌≡◌, ℕ, ◌+◌, ◌^◌, ◌<◌, ◌≤◌, List, Result, length};
 ghost use Rattle.b67_word.specs.declared.couples.Place.{Place};
 ghost use Rattle.b67_model.specs.InOrder.{NamesEntered};
 ghost use Rattle.b67_model.specs.Cells.{cell, named};
@@ -10,11 +10,18 @@ ghost use Rattle.b67_refer.specs.RunningContext.{RunningContext, LiveContext, Is
 ghost use Rattle.b67_refer.specs.LiveCells as live;
 ghost use Rattle.b67_refer.specs.Cells.{FindsCell};
 
-use crate::environment::address_of;
+use crate::environment::{address_of, mark_at};
 use crate::spots::spot_of;
 use b67_core::Core;
-use b67_ctl::{FIRST_INTRINSIC, LAST_INTRINSIC, Regs, Sirw, Toscw};
+use b67_ctl::{FIRST_INTRINSIC, LAST_INTRINSIC, Regs, SLOTS, Sirw, Toscw};
 use b67_word::{Couple, Fault};
+
+/// How many of the running stack's activation records, from the last one down, are told by their marks. Each ends where the
+/// next one's mark stands, so their cells need no search.
+const NEAR_RECORDS: u32 = 3;
+
+/// Below this offset a cell deep in a stack is looked for from below alone.
+const FEW_CELLS: u16 = 16;
 
 /// The address of the top word of the stack in which an address of a slot is.
 #[inline(always)]
@@ -31,34 +38,87 @@ fn top_of(core: &Core, regs: &Regs, base: u32) -> u32
     first + u32::from(top.s)
 }
 
-/// The cell at an offset of an activation record whose mark is at an address of a slot: no mark lies between. Over the running
-/// stack's last mark there is none.
+/// Whether no word from an address up to another, with both, is a mark or a return word.
+#[inline(always)]
+fn is_plain(core: &Core, from: u32, to: u32) -> bool
+    requires inside { to < length core.now }
+    requires small { length core.now < 2 ^ 20 }
+    ensures { live.IsPlain core.now from to result }
+{
+    for k in from..to + 1 {
+        if core.get(k).tag() == 3 {
+            return false;
+        }
+    }
+    true
+}
+
+/// Whether an activation record deep in a stack has a cell at an offset: no mark lies between. Of the running stack, cells are
+/// looked at from the record's first one up, and marks from the last one down, in turns: so it takes the fewer of both. Of
+/// other stacks, and if there are few, the cells alone.
+#[inline(never)]
+fn has_deep_cell(core: &Core, regs: &Regs, base: u32, offset: u16) -> bool
+    requires { (a : LiveContext core.now regs.now) × (f : ℕ) × NamesEntered (live.reach a) f × (1 < f) × (base ≡ live.frame_at_core a f) × (2 ≤ offset) }
+    ensures { (a : LiveContext core.now regs.now) (q : Place) (f : ℕ) → NamesEntered (live.reach a) f → 1 < f → base ≡ live.frame_at_core a f → 2 ≤ offset
+        → live.CellMeets a q f offset (live.cell_or_none result (base + offset)) (cell (here a.member a.task q) f offset) }
+{
+    let at = base + u32::from(offset);
+    if at > top_of(core, regs, base) {
+        return false;
+    }
+    if offset < FEW_CELLS || base < regs.bosr || base > regs.losr {
+        return is_plain(core, base + 2, at);
+    }
+    let mut mark = regs.f;
+    let mut past = regs.s + 1;
+    for k in base + 2..at + 1 {
+        if mark == base {
+            return at < past;
+        }
+        if core.get(k).tag() == 3 {
+            return false;
+        }
+        past = mark;
+        mark -= u32::from(mark_at(core, mark).back);
+    }
+    true
+}
+
+/// The cell at an offset of an activation record whose mark is at an address of a slot. The last records of the running stack
+/// end where the next one's mark stands, or at the top.
 #[inline(always)]
 fn slot_cell(core: &Core, regs: &Regs, base: u32, offset: u16) -> Result<u32, Fault>
     requires { (a : LiveContext core.now regs.now) × (f : ℕ) × NamesEntered (live.reach a) f × (1 < f) × (base ≡ live.frame_at_core a f) }
     ensures { (a : LiveContext core.now regs.now) (q : Place) (f : ℕ) → NamesEntered (live.reach a) f → 1 < f → base ≡ live.frame_at_core a f
         → live.CellMeets a q f offset result (cell (here a.member a.task q) f offset) }
 {
-    let at = base + u32::from(offset);
-    if offset < 2 || at > top_of(core, regs, base) {
+    if offset < 2 {
         return Err(Fault::InvalidAddress);
     }
-    if base == regs.f {
+    let at = base + u32::from(offset);
+    let mut mark = regs.f;
+    let mut past = regs.s + 1;
+    for _turn in 0..NEAR_RECORDS {
+        if mark == base {
+            if at >= past {
+                return Err(Fault::InvalidAddress);
+            }
+            return Ok(at);
+        }
+        past = mark;
+        mark -= u32::from(mark_at(core, mark).back);
+    }
+    if has_deep_cell(core, regs, base, offset) {
         return Ok(at);
     }
-    for k in base + 2..at + 1 {
-        if core.get(k).tag() == 3 {
-            return Err(Fault::InvalidAddress);
-        }
-    }
-    Ok(at)
+    Err(Fault::InvalidAddress)
 }
 
-/// The cell at an offset of the activation record whose mark is at an address: in a slot, the dictionary's or the MCP's.
+/// The cell at an offset of the dictionary, or of the MCP, whose mark is at address 0.
 #[inline(always)]
-fn cell_in(core: &Core, regs: &Regs, base: u32, offset: u16) -> Result<u32, Fault>
-    requires { (a : LiveContext core.now regs.now) × (f : ℕ) × NamesEntered (live.reach a) f × (base ≡ live.frame_at_core a f) }
-    ensures { (a : LiveContext core.now regs.now) (q : Place) (f : ℕ) → NamesEntered (live.reach a) f → base ≡ live.frame_at_core a f
+fn base_cell(core: &Core, regs: &Regs, base: u32, offset: u16) -> Result<u32, Fault>
+    requires { (a : LiveContext core.now regs.now) × (f : ℕ) × NamesEntered (live.reach a) f × (f ≤ 1) × (base ≡ live.frame_at_core a f) }
+    ensures { (a : LiveContext core.now regs.now) (q : Place) (f : ℕ) → NamesEntered (live.reach a) f → f ≤ 1 → base ≡ live.frame_at_core a f
         → live.CellMeets a q f offset result (cell (here a.member a.task q) f offset) }
 {
     if base == 0 {
@@ -67,13 +127,10 @@ fn cell_in(core: &Core, regs: &Regs, base: u32, offset: u16) -> Result<u32, Faul
         }
         return Ok(u32::from(offset));
     }
-    if base == regs.dict {
-        if offset < 2 || u32::from(offset) > 1 + u32::from(regs.entries) {
-            return Err(Fault::InvalidAddress);
-        }
-        return Ok(base + u32::from(offset));
+    if offset < 2 || u32::from(offset) > 1 + u32::from(regs.entries) {
+        return Err(Fault::InvalidAddress);
     }
-    slot_cell(core, regs, base, offset)
+    Ok(base + u32::from(offset))
 }
 
 /// The core address of the cell that a couple names in the running environment. INVALID ADDRESS exactly if the level
@@ -88,7 +145,11 @@ pub fn cell_of(core: &Core, regs: &Regs, display: &[u32; 32], c: Couple) -> Resu
     if c.level > regs.level {
         return Err(Fault::InvalidAddress);
     }
-    cell_in(core, regs, display[c.level as usize], c.disp)
+    let base = display[c.level as usize];
+    if c.level > 1 {
+        return slot_cell(core, regs, base, c.disp);
+    }
+    base_cell(core, regs, base, c.disp)
 }
 
 /// The core address of the cell that a stuffed reference names. It needs the reference's activation record alive, in the reach
@@ -101,5 +162,8 @@ pub fn cell_at(core: &Core, regs: &Regs, r: Sirw) -> Result<u32, Fault>
         → live.CellMeets a q f r.offset result (cell (here a.member a.task q) f r.offset) }
 {
     let base = address_of(core, regs, r.stack, r.disp);
-    cell_in(core, regs, base, r.offset)
+    if r.stack < u16::from(SLOTS) {
+        return slot_cell(core, regs, base, r.offset);
+    }
+    base_cell(core, regs, base, r.offset)
 }

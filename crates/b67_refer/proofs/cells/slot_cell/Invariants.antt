@@ -1,7 +1,6 @@
-use Rattle.std.proofs.Common.{◌≡◌, ℕ, ◌+◌, ◌<◌, ◌≤◌, Some}
-use Rattle.std.specs.List.{slice_get}
-use Rattle.b67_word.specs.Tagged.{Tagged}
+use Rattle.b67_refer.specs.RunningContext.{LiveContext}
+use Rattle.b67_refer.proofs.Walks.{Walk}
 use Rattle.b67_refer.proofs.cells.slot_cell.Given as goal
 
-abbrev pub invariant-loop-k : goal.invariant-loop-k
-invariant-loop-k l = (j : ℕ) (w : Tagged) → l.base + 2 ≤ j → j < l.k → slice_get l.core j ≡ Some w → w.tag ≡ 3 → ⊥
+abbrev pub invariant-loop-turn : goal.invariant-loop-turn
+invariant-loop-turn l = (a : LiveContext l.core l.regs) → Walk l.core l.regs a l.base l.mark l.past
