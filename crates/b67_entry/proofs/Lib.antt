@@ -28,3 +28,4 @@ pub mod Accidental
 pub mod Segments
 pub mod Sites
 pub mod Entering
+pub mod Environments

@@ -14,6 +14,8 @@ use Rattle.b67_stack.specs.Common.{Activation, top_mark, MachineView, RunsOn, St
 use Rattle.b67_layout.specs.Common.{machine_view, stack_of_task, RunsSome, ForEach, here}
 use Rattle.b67_layout.proofs.Starts.{runs_here}
 use Rattle.b67_refer.specs.RunningContext.{RunningContext}
+use Rattle.b67_refer.specs.Displays.{HoldsEnvironment}
+use Rattle.b67_entry.proofs.Environments.{plain, holds_now, caller_slots}
 use Rattle.b67_entry.specs.Left.{MayReturn, Returns, caller_regs, caller_stack}
 use Rattle.b67_entry.specs.Words.{IsTopWord, Refuses}
 use Rattle.b67_entry.specs.Returned.{ReturnsWord}
@@ -105,6 +107,10 @@ module _ (cpu : Cpu) (mark : Mscw) (w : Tagged) (r : RunsSome cpu) (k : Context 
 
     pub context_left : RunningContext cpu.core regs
     context_left = subst (λ (z : Regs). RunningContext cpu.core z) (sym regs_are) (scene_left r.storage cpu r.plan r.session r.member r.task r.ordered r.stands r.running k.leaver)
+
+    -- the display holds the environment that is left
+    pub held_left : HoldsEnvironment cpu.core regs cpu.display cpu.regs.level
+    held_left = holds_now cpu (plain r.storage cpu r.plan r.session r.member r.task r.ordered r.stands r.running) (r.stands.shows r.member r.task r.running) regs (caller_slots cpu regs (caller_stack r.plan r.member r.task k.leaver) k.leaver.back regs_are)
 
     -- the caller's top is below the mark that is left
     pub top_low : regs.s + 1 ≡ cpu.regs.f

@@ -12,6 +12,7 @@ use Rattle.b67_stack.specs.declared.Step.TheVariants as step
 use Rattle.b67_stack.specs.MachineView.{PagedObject}
 use Rattle.b67_stack.specs.Represents.{Storage}
 use Rattle.b67_refer.specs.RunningContext.{RunningContext}
+use Rattle.b67_refer.specs.Displays.{HoldsEnvironment}
 use Rattle.b67_refer.specs.Ends.{IsProcAt, IsReference}
 
 -- a procedure's cell is reached on these registers, and no original stands on the two words over their top
@@ -19,6 +20,11 @@ pub record CanEnter (cpu : Cpu) (r : Regs) (a : RunningContext cpu.core r) (q : 
   pub marks : cpu.critical ≡ a.marks
   pub clear : r.s + 2 ≤ r.losr → (t : PagedObject) → Has (a.left ++ (machine_view a.plan a.session.jobs).objects) t → (t.home ≢ r.s + 1) × (t.home ≢ r.s + 2)
   pub procedure : IsProcAt a q at f segment level place
+
+-- whatever two words are put over the top of these registers, the display holds an environment up to a level
+abbrev pub HoldsUnder : Cpu → Regs → ℕ → Type 0
+HoldsUnder cpu r known =
+    r.s + 2 ≤ r.losr → (core : List Tagged) → ((i : ℕ) → i ≢ r.s + 1 → i ≢ r.s + 2 → slice_get core i ≡ slice_get cpu.core i) → HoldsEnvironment core r cpu.display known
 
 -- the record was entered: the machine represents what the row makes, but for what was left to release, and the two words
 -- over the top alone have changed

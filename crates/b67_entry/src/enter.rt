@@ -15,12 +15,13 @@ ghost use Rattle.b67_stack.specs.declared.Step.TheVariants.{Done};
 ghost use Rattle.b67_layout.specs.Meets.{RunsSome, ForEach, Meets, here};
 ghost use Rattle.b67_exec_cells.specs.Tops.{StaysInSegment};
 ghost use Rattle.b67_refer.specs.RunningContext.{RunningContext, IsShown};
-ghost use Rattle.b67_entry.specs.Procedures.{ReachesProc, CanEnter, EntersOrFaults, CallsWith, CallsOrMeets};
+ghost use Rattle.b67_refer.specs.Displays.{HoldsEnvironment};
+ghost use Rattle.b67_entry.specs.Procedures.{ReachesProc, CanEnter, EntersOrFaults, HoldsUnder, CallsWith, CallsOrMeets};
 ghost use Rattle.b67_model.specs.Words.{Word};
 
 use b67_core::Core;
 use b67_ctl::{Mscw, Pcw, Rcw, Regs};
-use b67_refer::{Activation, End, activation_of, chase, rebuild};
+use b67_refer::{Activation, End, activation_of, chase, rebuild_known};
 use b67_stack::{Cpu, Step};
 use b67_word::{Fault, Place};
 
@@ -65,17 +66,19 @@ fn entered_mark(regs: &Regs, env: Activation, level: u8, value: bool, back: u16)
     }
 }
 
-/// The task goes on at a procedure's first operator, in the environment of its top activation record.
+/// The task goes on at a procedure's first operator, in the environment of its top activation record. The display holds an
+/// environment up to level `known`.
 #[inline(always)]
-fn begin(cpu: &mut Cpu, procedure: Pcw)
-    requires { RunningContext cpu.old.core (record cpu.old.regs { level = procedure.level; segment = procedure.segment; place = procedure.place }) }
+fn begin(cpu: &mut Cpu, procedure: Pcw, known: u8)
+    requires run { RunningContext cpu.old.core (record cpu.old.regs { level = procedure.level; segment = procedure.segment; place = procedure.place }) }
+    requires known { HoldsEnvironment cpu.old.core cpu.old.regs cpu.old.display known }
     ensures display { (a : RunningContext cpu.old.core (record cpu.old.regs { level = procedure.level; segment = procedure.segment; place = procedure.place })) → IsShown a cpu.new.display }
     ensures rest { cpu.new ≡ record cpu.old { regs = record cpu.old.regs { level = procedure.level; segment = procedure.segment; place = procedure.place }; display = cpu.new.display } }
 {
     cpu.regs.level = procedure.level;
     cpu.regs.segment = procedure.segment;
     cpu.regs.place = procedure.place;
-    rebuild(&cpu.core, &cpu.regs, &mut cpu.display);
+    rebuild_known(&cpu.core, &cpu.regs, &mut cpu.display, known);
 }
 
 /// The top activation record, which is marked, enters the procedure of a cell that its first cell refers to: that cell
@@ -106,7 +109,7 @@ fn enter(cpu: &mut Cpu, cell: u32, next: Place) -> Step
     };
     cpu.core.set(cpu.regs.f, mark.word());
     cpu.core.set(cpu.regs.f + 1, caller.word());
-    begin(cpu, procedure);
+    begin(cpu, procedure, cpu.regs.level);
     Step::Done
 }
 
@@ -139,11 +142,19 @@ pub fn entr(cpu: &mut Cpu, next: Place) -> Step
 }
 
 /// As `accident`, with these registers in place of the machine's. The two words over their top are the new ones, and
-/// nothing above these changes.
+/// nothing above these changes. Whatever these two are, the display holds an environment up to level `known`.
 #[inline(always)]
-pub fn accident_on(cpu: &mut Cpu, regs: Regs, cell: u32, value: bool, back: Place) -> Step
+pub fn accident_on(
+    cpu: &mut Cpu,
+    regs: Regs,
+    known: u8,
+    cell: u32,
+    value: bool,
+    back: Place,
+) -> Step
     requires procedure { (a : RunningContext cpu.old.core regs) × (q : Place) × (f : ℕ) × (segment : ℕ) × (level : ℕ) × (place : Place) × CanEnter cpu.old regs a q cell f segment level place }
     requires back { IsPlace back }
+    requires known { HoldsUnder cpu.old regs known }
     ensures row { (a : RunningContext cpu.old.core regs) (q : Place) (f segment level : ℕ) (place : Place) → CanEnter cpu.old regs a q cell f segment level place
         → EntersOrFaults a result cpu.old cpu.new (rows.accident (here a.member a.task q) (cells_of (here a.member a.task q)) (back_to (here a.member a.task q) value back) (AtProc f segment level place)) }
     ensures above { (i : ℕ) → cpu.new.regs.s < i → slice_get cpu.new.core i ≡ slice_get cpu.old.core i }
@@ -171,7 +182,7 @@ pub fn accident_on(cpu: &mut Cpu, regs: Regs, cell: u32, value: bool, back: Plac
         f: regs.s + 1,
         ..regs
     };
-    begin(cpu, procedure);
+    begin(cpu, procedure, known);
     Step::Done
 }
 
@@ -188,5 +199,5 @@ pub fn accident(cpu: &mut Cpu, cell: u32, value: bool, back: Place) -> Step
         → Meets a.storage a.plan a.session a.member result cpu.old cpu.new (rows.accident (here a.member a.task q) (cells_of (here a.member a.task q)) (back_to (here a.member a.task q) value back) (AtProc f segment level place)) }
 {
     let regs = cpu.regs;
-    accident_on(cpu, regs, cell, value, back)
+    accident_on(cpu, regs, regs.level, cell, value, back)
 }

@@ -12,7 +12,7 @@ ghost use Rattle.b67_layout.specs.Meets.{RunsSome, ForEach, Meets, here};
 ghost use Rattle.b67_entry.specs.Left.{MayReturn, caller_regs};
 
 use b67_ctl::{Mscw, Rcw, Regs};
-use b67_refer::rebuild;
+use b67_refer::rebuild_known;
 use b67_stack::{Cpu, Step};
 use b67_word::Fault;
 
@@ -63,7 +63,8 @@ pub fn exit(cpu: &mut Cpu) -> Step
     if mark.back == 0 {
         return Step::Ended;
     }
+    let known = cpu.regs.level;
     cpu.regs = caller(cpu, mark);
-    rebuild(&cpu.core, &cpu.regs, &mut cpu.display);
+    rebuild_known(&cpu.core, &cpu.regs, &mut cpu.display, known);
     Step::Done
 }

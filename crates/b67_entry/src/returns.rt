@@ -7,6 +7,7 @@ ghost use Rattle.b67_model.specs.Entry as rows;
 ghost use Rattle.b67_stack.specs.declared.Step.TheVariants.{Done};
 ghost use Rattle.b67_layout.specs.Meets.{RunsSome, ForEach, Meets, here};
 ghost use Rattle.b67_refer.specs.RunningContext.{RunningContext, IsShown};
+ghost use Rattle.b67_refer.specs.Displays.{HoldsEnvironment};
 ghost use Rattle.b67_entry.specs.Left.{Returns, caller_regs, caller_stack, here_left};
 ghost use Rattle.b67_entry.specs.Returned.{ReturnsWord, with_word};
 
@@ -15,7 +16,7 @@ use crate::leave::{caller, is_critical};
 use crate::refusals::refusal;
 use b67_ctl::Regs;
 use b67_exec_cells::element;
-use b67_refer::{End, chase, rebuild};
+use b67_refer::{End, chase, rebuild_known};
 use b67_stack::{Cpu, Step, What};
 use b67_word::{Fault, Word};
 
@@ -34,12 +35,14 @@ fn put(cpu: &mut Cpu, regs: Regs, display: [u32; 32], word: Word)
 #[inline(always)]
 fn settle(cpu: &mut Cpu, regs: Regs, value: Word)
     requires run { RunningContext cpu.old.core regs }
+    requires known { HoldsEnvironment cpu.old.core regs cpu.old.display cpu.old.regs.level }
     requires room { regs.s + 1 < length cpu.old.core }
     ensures shown { (a : RunningContext cpu.old.core regs) → IsShown a cpu.new.display }
     ensures rest { cpu.new ≡ with_word cpu.old regs cpu.new.display value }
 {
+    let known = cpu.regs.level;
     cpu.regs = regs;
-    rebuild(&cpu.core, &cpu.regs, &mut cpu.display);
+    rebuild_known(&cpu.core, &cpu.regs, &mut cpu.display, known);
     cpu.put(value);
 }
 
@@ -69,7 +72,7 @@ fn evaluate(cpu: &mut Cpu, regs: Regs, display: [u32; 32], word: Word) -> Step
             }
             None => Step::Absent(What::Array(original)),
         },
-        Ok(End::Proc(cell)) => accident_on(cpu, regs, cell, true, regs.place),
+        Ok(End::Proc(cell)) => accident_on(cpu, regs, cpu.regs.level - 1, cell, true, regs.place),
         Ok(End::Array(_)) => Step::Fault(Fault::InvalidOperand),
         Ok(End::Intrinsic(_)) => Step::Fault(Fault::InvalidOperand),
         Err(fault) => Step::Fault(fault),
@@ -110,7 +113,7 @@ pub fn retn(cpu: &mut Cpu) -> Step
     let regs = caller(cpu, mark);
     if mark.value && word.tag() != 0 {
         let mut display = cpu.display;
-        rebuild(&cpu.core, &regs, &mut display);
+        rebuild_known(&cpu.core, &regs, &mut display, cpu.regs.level);
         return evaluate(cpu, regs, display, word);
     }
     settle(cpu, regs, word);

@@ -18,7 +18,9 @@ use Rattle.b67_layout.proofs.Common.{task_with, running_in_order, cells_in_order
 use Rattle.b67_exec_cells.proofs.Put.{room, top_given, dropped_stands, dropped-fits}
 use Rattle.b67_refer.specs.RunningContext.{RunningContext}
 use Rattle.b67_refer.specs.Ends.{IsProcAt}
-use Rattle.b67_entry.specs.Procedures.{CanEnter, EntersOrFaults}
+use Rattle.b67_entry.specs.Procedures.{CanEnter, EntersOrFaults, HoldsUnder}
+use Rattle.b67_entry.proofs.Unasked.{rooms}
+use Rattle.b67_entry.proofs.Environments.{holds_over}
 use Rattle.b67_fetch.specs.Fetches.{enters_at, top_end}
 use Rattle.b67_fetch.proofs.Values.{TopFollowed, top_followed, followed_plain, here_scene, here_shown, followed_stands}
 use Rattle.b67_exec.proofs.Entries.{EntersOver, scene0, member0, task0, proc_moves, can_enter, entered}
@@ -114,6 +116,11 @@ module _ (x : Storage) (cpu : Cpu) (plan : Placement) (s : Session) (m : Session
         (proc_moves x cpu plan s m t ordered h runs top_is.rest ordered_without cpu (cpu.regs.s - 1) refl holds_without q (top_is.word ∷ []) top_is.rest [] cell at_end.frame at_end.segment at_end.level at_end.place top_is.is refl
         (λ g l p k. ⊎_elim (λ (e : top_is.word ≡ Proc g l p). not_proc m t q top_is.word (AtProc at_end.frame at_end.segment at_end.level at_end.place) g l p at_end.is e) (λ z. z) k)
         (λ i v e tag. e) i)
+
+    pub held_without : (cell : ℕ) → IsProcAt (here_scene x cpu plan s m t ordered h runs) q cell at_end.frame at_end.segment at_end.level at_end.place → HoldsUnder cpu (record cpu.regs { s = cpu.regs.s - 1 }) cpu.regs.level
+    held_without cell i =
+        holds_over cpu (here_scene x cpu plan s m t ordered h runs) (here_shown x cpu plan s m t ordered h runs) cpu (record cpu.regs { s = cpu.regs.s - 1 }) (record { stacks = refl; size = refl; dictionary = refl; last = refl })
+        (rooms cpu (record cpu.regs { s = cpu.regs.s - 1 }) scene_without q cell at_end.frame at_end.segment at_end.level at_end.place (enters_without cell i).procedure).top refl (λ k out. refl)
 
     pub accident_without : (r : Step) (new : Cpu)
         → EntersOrFaults scene_without r cpu new (accident (here (member0 x cpu plan s m t ordered h runs top_is.rest ordered_without cpu (cpu.regs.s - 1) refl holds_without) (task0 x cpu plan s m t ordered h runs top_is.rest ordered_without cpu (cpu.regs.s - 1) refl holds_without) q)

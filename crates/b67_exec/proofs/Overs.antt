@@ -1,6 +1,7 @@
 -- The entry where the value stands over the reference, by what was read.
-use Rattle.std.proofs.Common.{◌≡◌, ◌≢◌, ℕ, ◌-◌, ◌<◌, ◌≤◌, List, [], ◌∷◌, ◌++◌, map, length, Err, sym, ◌∙◌, ap, arith, Bool, false, subst, slice_set}
-use Rattle.std.specs.List.{AllByRecursion}
+use Rattle.std.proofs.Common.{◌≡◌, ◌≢◌, ℕ, ◌+◌, ◌-◌, ◌<◌, ◌≤◌, List, [], ◌∷◌, ◌++◌, map, length, Err, refl, sym, ◌∙◌, ap, arith, Bool, false, subst, slice_set}
+use Rattle.std.specs.List.{AllByRecursion, slice_get}
+use Rattle.b67_core.proofs.Writes.{slice_get-set_other}
 use Rattle.b67_word.specs.Tagged.{Tagged}
 use Rattle.b67_word.specs.declared.couples.Place.{Place}
 use Rattle.b67_word.specs.declared.faults.Fault.{Fault}
@@ -17,7 +18,8 @@ use Rattle.b67_layout.proofs.Fresh.{running_in_order}
 use Rattle.b67_exec_cells.proofs.Put.{room}
 use Rattle.b67_refer.specs.RunningContext.{RunningContext}
 use Rattle.b67_refer.specs.Ends.{IsProcAt}
-use Rattle.b67_entry.specs.Procedures.{CanEnter, EntersOrFaults}
+use Rattle.b67_entry.specs.Procedures.{CanEnter, EntersOrFaults, HoldsUnder}
+use Rattle.b67_entry.proofs.Environments.{holds_over}
 use Rattle.b67_fetch.specs.Fetches.{IsFollowed}
 use Rattle.b67_fetch.proofs.Values.{here_scene, here_shown, followed_stands}
 use Rattle.b67_exec.specs.Procedures.{LeadsToProcedure}
@@ -75,6 +77,13 @@ module _ (x : Storage) (cpu : Cpu) (plan : Placement) (s : Session) (m : Session
         o.place,
         under_enters x cpu plan s m t ordered h runs q o.bits o.reference o.rest o.is proc_of u v o.under o.over o.enough cell i,
       )
+
+  pub held_under : (core : List Tagged) → core ≡ slice_set cpu.core (cpu.regs.s - 1) v → HoldsUnder (record cpu { core = core }) (record cpu.regs { s = cpu.regs.s - 1 }) cpu.regs.level
+  held_under core is =
+      let e = o.enough in
+      let r = room x cpu plan s m t ordered h runs in
+      holds_over cpu (here_scene x cpu plan s m t ordered h runs) (here_shown x cpu plan s m t ordered h runs) (record cpu { core = core }) (record cpu.regs { s = cpu.regs.s - 1 }) (record { stacks = refl; size = refl; dictionary = refl; last = refl })
+      (omega (arith, e)) refl (λ i out. ap (λ (k : List Tagged). slice_get k i) is ∙ slice_get-set_other cpu.core (cpu.regs.s - 1) i v (λ z. out (omega (arith, z, e)) (omega (arith, z, r.last))))
 
   module _ (cell : ℕ) (core : List Tagged) (set : core ≡ slice_set cpu.core (cpu.regs.s - 1) v) (proc : IsProcAt (here_scene x cpu plan s m t ordered h runs) q cell o.frame o.segment o.level o.place) (new : Cpu) where
     pub stored_made : (keeps : Bool) (r : Step) → ((n : Fault) → r ≢ step.Fault n) → Enters (record cpu { core = core }) (record cpu.regs { s = cpu.regs.s - 1 }) cell cpu.regs.place r new → Meets x plan s m r cpu new (rows.store keeps (here m t q) (cells t))

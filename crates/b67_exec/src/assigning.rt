@@ -30,7 +30,7 @@ fn enter_under(cpu: &mut Cpu, lower: Word, upper: Word) -> Step
         s: cpu.regs.s - 1,
         ..cpu.regs
     };
-    match accident_on(cpu, without, cell, false, cpu.regs.place) {
+    match accident_on(cpu, without, cpu.regs.level, cell, false, cpu.regs.place) {
         Step::Fault(fault) => {
             cpu.core.set(cpu.regs.s - 1, lower);
             Step::Fault(fault)

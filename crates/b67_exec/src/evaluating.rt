@@ -66,7 +66,7 @@ pub fn enter_in_place(cpu: &mut Cpu) -> Step
         s: cpu.regs.s - 1,
         ..cpu.regs
     };
-    accident_on(cpu, without, cell, false, cpu.regs.place)
+    accident_on(cpu, without, cpu.regs.level, cell, false, cpu.regs.place)
 }
 
 /// Puts the value or the row copy to which the top cell leads in its place, and goes on at `next`; a procedure there is

@@ -1,5 +1,5 @@
 -- The environment of the running task, level by level.
-use Rattle.std.proofs.Common.{◌≡◌, ◌≢◌, ℕ, zero, suc, ◌+◌, ◌-◌, ◌<◌, ◌≤◌, List, map, Some, refl, sym, ◌∙◌, ap, arith, subst, length, slice_set, ⊎_elim, inl, inr}
+use Rattle.std.proofs.Common.{◌≡◌, ◌≢◌, ℕ, zero, suc, ◌+◌, ◌-◌, ◌*◌, ◌<◌, ◌≤◌, List, map, Some, refl, sym, ◌∙◌, ap, arith, subst, length, slice_set, ⊎_elim, inl, inr}
 use Rattle.std.specs.List.{slice_get}
 use Rattle.std.proofs.lemmas.Bool.{cases_eq, cases_lt}
 use Rattle.std.proofs.lemmas.List.{length-set}
@@ -19,7 +19,7 @@ use Rattle.b67_layout.proofs.Frames.{level-is}
 use Rattle.b67_refer.specs.RunningContext.{RunningContext, IsShown, IsStackOf, live_of}
 use Rattle.b67_refer.proofs.Slots.{whole, registers}
 use Rattle.b67_refer.proofs.Seats.{has_task, order_of}
-use Rattle.b67_refer.proofs.Bases.{dictionary_is}
+use Rattle.b67_refer.proofs.Bases.{dictionary_is, of_slot}
 use Rattle.b67_refer.proofs.Marks.{MarkOf, mark, frame_known, high_frames, high_level, low_is, view_low, dictionary_address}
 use Rattle.b67_law_order.proofs.Chases.{running_in}
 
@@ -150,10 +150,10 @@ module _ (core : List Tagged) (r : Regs) (a : RunningContext core r) where
       let i = low_identity n f (level_at a.task.place n (omega (arith, low, level_low))) low in
       ap (frame_address a.plan a.member a.task) i ∙ ap (address_of a.plan) (view_low core r (live_of a) n low)
 
-  address_one : r.dict ≡ address_at a.task.place 1
+  pub address_one : r.dict ≡ address_at a.task.place 1
   address_one = dictionary_is core r (live_of a) ∙ sym (dictionary_address core r (live_of a)) ∙ sym (address_low 1 (omega arith))
 
-  address_zero : 0 ≡ address_at a.task.place 0
+  pub address_zero : 0 ≡ address_at a.task.place 0
   address_zero = sym (address_low 0 (omega arith))
 
   -- the display is written down to a level, and at is the address of that level's frame
@@ -217,3 +217,14 @@ module _ (core : List Tagged) (r : Regs) (a : RunningContext core r) where
   turn_next at n down display w some len d =
       let e : n ≡ suc (n - 1) = omega (arith, some) in
       subst (λ (i : ℕ). Written down (n - 1) (slice_set display i at)) (sym e) (written_next at (n - 1) down display (subst (λ (i : ℕ). Written at i display) e w) len d)
+
+  -- above level 2 the environment of a record lies in a slot
+  pub slot_below : (n : ℕ) (up : suc n ≤ level) → 2 ≤ n → ((mark_of_level a.task.place n up).mark.env_stack < a.plan.peak)
+      × (r.stacks + (mark_of_level a.task.place n up).mark.env_stack * r.stack_size + (mark_of_level a.task.place n up).mark.env_disp ≡ address_at a.task.place n)
+  slot_below n up two =
+      let m = mark_of_level a.task.place n up in
+      let b = level_at a.task.place (suc n) up in
+      let slot = m.slotted (omega (arith, two, m.level_below, b.level)) in
+      let few = a.holds.fits.few in
+      let base = of_slot core r (live_of a) m.mark.env_stack (inl slot) (omega (arith, slot, few)) in
+      (slot, ap (λ (i : ℕ). i + m.mark.env_disp) base.0 ∙ next_address a.task.place n up)

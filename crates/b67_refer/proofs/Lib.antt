@@ -4,6 +4,7 @@ pub mod Seats
 pub mod Bases
 pub mod Marks
 pub mod Chains
+pub mod Displays
 pub mod Turns
 pub mod Rule
 pub mod Fixed

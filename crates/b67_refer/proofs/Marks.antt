@@ -111,6 +111,7 @@ module _ (core : List Tagged) (r : Regs) (a : LiveContext core r) where
     pub entered : IsEntered standing
     pub level_below : level_of_standing standing + 1 ≡ level_of_standing s
     pub stack : IsStackOf a mark.env_stack
+    pub slotted : 2 ≤ level_of_standing standing → mark.env_stack < a.plan.peak
     pub address : address_of a.plan (record { stack = mark.env_stack; disp = mark.env_disp }) ≡ frame_address a.plan a.member a.task (environment_of s)
 
   -- the stack of a spot that the task may name
@@ -138,6 +139,17 @@ module _ (core : List Tagged) (r : Regs) (a : LiveContext core r) where
       (λ (high : 1 < id). absurd (let b = seat core r a id s m high in let v = ap (λ (z : StackPlace). z.stack) b.spot in let used = b.top_is.used in let few = a.holds.fits.few in omega (arith, far, v, used, few)))
       (λ (low : id ≤ 1). low)
       (cases_lt 1 id)
+
+  -- that of a record entered above the dictionary is a slot
+  slot_known : (id : ℕ) (s : Standing) → Has (reach_of a.member.progress.job a.task) (id, s) → 2 ≤ level_of_standing s → (spots a.plan a.member.constants.number a.member.progress.job a.task id).stack < a.plan.peak
+  slot_known id s m two = ⊎_elim
+      (λ (high : 1 < id). let b = seat core r a id s m high in subst (λ (z : StackPlace). z.stack < a.plan.peak) (sym b.spot) b.top_is.used)
+      (λ (low : id ≤ 1). absurd (by_base (low_is id s m low)))
+      (cases_lt 1 id) where
+        by_base : Has base_known (id, s) → ⊥
+        by_base (inl e) = omega (arith, two, ap (λ (k : Known). level_of_standing k.1) e)
+        by_base (inr (inl e)) = omega (arith, two, ap (λ (k : Known). level_of_standing k.1) e)
+        by_base (inr (inr z)) = absurd z
 
   -- the address of a spot in a slot
   pub slot_address : (k d : ℕ) → k < a.plan.peak → address_of a.plan (record { stack = k; disp = d }) ≡ base core r a k + d
@@ -180,6 +192,7 @@ module _ (core : List Tagged) (r : Regs) (a : LiveContext core r) where
         entered = order.entered;
         level_below = order.level_below;
         stack = subst (λ (z : StackPlace). IsStackOf a z.stack) seen (stack_known environment order.standing under);
+        slotted = λ two. subst (λ (z : StackPlace). z.stack < a.plan.peak) seen (slot_known environment order.standing under two);
         address = ap (address_of a.plan) (sym seen);
       }
 
@@ -205,6 +218,7 @@ module _ (core : List Tagged) (r : Regs) (a : LiveContext core r) where
     entered = tt;
     level_below = refl;
     stack = inr (inr refl);
+    slotted = λ two. absurd (omega (arith, two));
     address = ap (address_of a.plan) (sym (view_low 0 (omega arith)));
   })
   mark_low id s (inr (inl e)) low = absurd (omega (arith, low, ap (λ (k : Known). level_of_standing k.1) e))

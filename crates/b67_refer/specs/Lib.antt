@@ -1,4 +1,5 @@
 pub mod RunningContext
+pub mod Displays
 pub mod LiveCells
 pub mod Cells
 pub mod LiveEnds

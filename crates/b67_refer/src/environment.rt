@@ -1,6 +1,6 @@
 //! The running environment, and the display that shows it.
 
-ghost use Rattle.std.specs.Prelude.{◌≡◌, ℕ, ◌<◌, ◌^◌, Some, slice_get};
+ghost use Rattle.std.specs.Prelude.{◌≡◌, ℕ, ◌+◌, ◌*◌, ◌<◌, ◌^◌, Some, slice_get};
 ghost use Rattle.b67_ctl.specs.declared.marks.Mscw.{Mscw};
 ghost use Rattle.b67_ctl.specs.Layout.{mscw_word, IsMscw};
 ghost use Rattle.b67_model.specs.Environment.{running as running_frame};
@@ -8,6 +8,7 @@ ghost use Rattle.b67_stack.specs.Stacks.{StackPlace};
 ghost use Rattle.b67_layout.specs.Placement.{base_of as base_of_stack, address_of as address_of_spot};
 ghost use Rattle.b67_layout.specs.Session.{frame_address};
 ghost use Rattle.b67_refer.specs.RunningContext.{RunningContext, LiveContext, IsShown, IsStackOf};
+ghost use Rattle.b67_refer.specs.Displays.{HoldsEnvironment};
 
 use b67_core::Core;
 use b67_ctl::{MCP_STACK, Mscw, Regs, SLOTS};
@@ -80,4 +81,35 @@ pub fn rebuild(core: &Core, regs: &Regs, display: &mut [u32; 32])
     display[2] = at;
     display[1] = regs.dict;
     display[0] = 0;
+}
+
+/// The core address of a displacement in a slot.
+#[inline(always)]
+fn address_in_slot(core: &Core, regs: &Regs, slot: u16, disp: u16) -> u32
+    requires { (a : LiveContext core.now regs.now) × (slot < a.plan.peak) }
+    ensures { result ≡ regs.now.stacks + slot * regs.now.stack_size + disp }
+{
+    regs.stacks + u32::from(slot) * u32::from(regs.stack_size) + u32::from(disp)
+}
+
+/// As `rebuild`, where the display holds an environment up to level `known`, whichever it is. It is written from the running
+/// level down to the first level at which it agrees: below that it is right already.
+#[inline(always)]
+pub fn rebuild_known(core: &Core, regs: &Regs, display: &mut [u32; 32], known: u8)
+    requires run { RunningContext core.now regs.now }
+    requires known { HoldsEnvironment core.now regs.now display.old known }
+    ensures { (a : RunningContext core.now regs.now) → IsShown a display.new }
+{
+    let mut at = running(core, regs);
+    let mut level = regs.level;
+    'out: while level > 2 {
+        if level <= known && display[level as usize] == at {
+            return;
+        }
+        display[level as usize] = at;
+        let m = mark_at(core, at);
+        at = address_in_slot(core, regs, m.env_stack, m.env_disp);
+        level -= 1;
+    }
+    display[2] = at;
 }

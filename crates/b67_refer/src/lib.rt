@@ -14,5 +14,5 @@ pub use activation::{Activation, activation_of};
 pub use cells::{cell_at, cell_of};
 pub use couples::couple_at;
 pub use ends::{End, chase, owner};
-pub use environment::rebuild;
+pub use environment::{rebuild, rebuild_known};
 pub use spots::{Spot, spot_of};

@@ -1,4 +1,4 @@
-use Rattle.std.proofs.Common.{◌≡◌, ℕ, ◌+◌, ◌<◌, ◌≤◌, List, refl, sym, ◌∙◌, ap, arith, slice_set, subst}
+use Rattle.std.proofs.Common.{◌≡◌, ◌≢◌, ℕ, ◌+◌, ◌<◌, ◌≤◌, List, refl, sym, ◌∙◌, ap, arith, slice_set, subst}
 use Rattle.std.specs.List.{slice_get}
 use Rattle.b67_word.specs.Tagged.{Tagged}
 use Rattle.b67_core.proofs.Writes.{slice_get-set_other}
@@ -9,14 +9,19 @@ use Rattle.b67_model.specs.Environment.{level_of_frame}
 use Rattle.b67_stack.specs.declared.Cpu.{Cpu}
 use Rattle.b67_layout.specs.Meets.{here}
 use Rattle.b67_refer.specs.declared.activation.Activation.{Activation}
+use Rattle.b67_refer.proofs.Displays.{holds_on}
 use Rattle.b67_entry.proofs.Unasked as Unasked
 use Rattle.b67_entry.proofs.Unasked.{pcw_there, pcw_fits, level_small, rooms}
 use Rattle.b67_entry.proofs.enter.accident_on.Goals as goal
 
--- two words were written over a top: those above them stay
+-- two words were written over a top: the others stay
+others : (s : ℕ) (core one two : List Tagged) (v w : Tagged) → one ≡ slice_set core (s + 1) v → two ≡ slice_set one (s + 2) w → (i : ℕ) → i ≢ s + 1 → i ≢ s + 2 → slice_get two i ≡ slice_get core i
+others s core one two v w e1 e2 i a b =
+    ap (λ (k : List Tagged). slice_get k i) e2 ∙ slice_get-set_other one (s + 2) i w b ∙ ap (λ (k : List Tagged). slice_get k i) e1 ∙ slice_get-set_other core (s + 1) i v a
+
+-- so do those above them
 over : (s : ℕ) (core one two : List Tagged) (v w : Tagged) → one ≡ slice_set core (s + 1) v → two ≡ slice_set one (s + 2) w → (i : ℕ) → s + 2 < i → slice_get two i ≡ slice_get core i
-over s core one two v w e1 e2 i low =
-    ap (λ (k : List Tagged). slice_get k i) e2 ∙ slice_get-set_other one (s + 2) i w (λ z. omega arith) ∙ ap (λ (k : List Tagged). slice_get k i) e1 ∙ slice_get-set_other core (s + 1) i v (λ z. omega arith)
+over s core one two v w e1 e2 i low = others s core one two v w e1 e2 i (λ z. omega (arith, z, low)) (λ z. omega (arith, z, low))
 
 pub procedure_at-procedure-requires : goal.procedure_at-procedure-requires
 procedure_at-procedure-requires c =
@@ -83,8 +88,8 @@ returns-then-regs-lt2 c = record {
   top = λ e. cc;
 }
 
-pub begin-requires : goal.begin-requires
-begin-requires c =
+pub begin-requires-clause-run : goal.begin-requires-clause-run
+begin-requires-clause-run c =
     let (a, q, f, segment, level, place, e) = c.requires.procedure in
     let env = c.activation_of-env.ensures a q f segment level place e.procedure in
     let pcw = c.procedure_at-procedure.ensures (Unasked.pcw c.args.cpu.now c.args.regs a q c.args.cell f segment level place e.procedure) (pcw_fits c.args.cpu.now c.args.regs a q c.args.cell f segment level place e.procedure) (pcw_there c.args.cpu.now c.args.regs a q c.args.cell f segment level place e.procedure) in
@@ -95,6 +100,14 @@ begin-requires c =
     let test : level_of_frame (frame (here a.member a.task q) f) + 1 ≡ level = omega (arith, one, two, c.if-env-procedure.false) in
     let room : c.args.regs.s + 2 ≤ c.args.regs.losr = omega (arith, c.if-regs-lt2.false, (rooms c.args.cpu.now c.args.regs a q c.args.cell f segment level place e.procedure).last) in
     Unasked.scene_with c.args.cpu.now c.args.regs a q c.args.cell f segment level place e.procedure c.args.value c.args.back c.requires.back test room (e.clear room) c.set-2.new.self c.procedure_at-procedure.result core pcw
+
+pub begin-requires-clause-known : goal.begin-requires-clause-known
+begin-requires-clause-known c =
+    let (a, q, f, segment, level, place, e) = c.requires.procedure in
+    let r = c.args.regs in
+    let room : r.s + 2 ≤ r.losr = omega (arith, c.if-regs-lt2.false, (rooms c.args.cpu.now r a q c.args.cell f segment level place e.procedure).last) in
+    holds_on c.set-2.new.self r (record r { s = r.s + 2; f = r.s + 1 }) c.args.cpu.now.display c.args.known refl refl refl
+    (c.requires.known room c.set-2.new.self (λ i one two. others r.s c.args.cpu.now.core c.set.new.self c.set-2.new.self c.word.result c.word-2.result c.set.ensures.value c.set-2.ensures.value i one two))
 
 pub returns : goal.returns
 returns c = record {

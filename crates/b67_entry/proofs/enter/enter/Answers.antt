@@ -9,6 +9,7 @@ use Rattle.b67_refer.specs.declared.activation.Activation.{Activation}
 use Rattle.b67_entry.proofs.Unasked as Unasked
 use Rattle.b67_entry.proofs.Unasked.{pcw_there, pcw_fits, level_small, rooms}
 use Rattle.b67_entry.proofs.Called as Called
+use Rattle.b67_entry.proofs.Environments.{holds_entered}
 use Rattle.b67_entry.proofs.enter.enter.Goals as goal
 
 pub procedure_at-procedure-requires : goal.procedure_at-procedure-requires
@@ -71,8 +72,8 @@ returns-then-env-procedure c = record {
       (Called.refused c.args.cpu.now a c.args.next c.requires.next c.args.cell f segment level place reference arguments e w (λ z. c.if-env-procedure.true (omega (arith, one, two, z))), refl);
 }
 
-pub begin-requires : goal.begin-requires
-begin-requires c =
+pub begin-requires-clause-run : goal.begin-requires-clause-run
+begin-requires-clause-run c =
     let (a, f, segment, level, place, reference, arguments, e, w) = c.requires.procedure in
     let env = c.activation_of-env.ensures a c.args.next f segment level place e.procedure in
     let pcw = c.procedure_at-procedure.ensures (Unasked.pcw c.args.cpu.now c.args.cpu.now.regs a c.args.next c.args.cell f segment level place e.procedure) (pcw_fits c.args.cpu.now c.args.cpu.now.regs a c.args.next c.args.cell f segment level place e.procedure) (pcw_there c.args.cpu.now c.args.cpu.now.regs a c.args.next c.args.cell f segment level place e.procedure) in
@@ -83,6 +84,12 @@ begin-requires c =
     let two : c.procedure_at-procedure.result.level ≡ level = ap (λ (z : Pcw). z.level) pcw in
     let test : level_of_frame (frame (here a.member a.task c.args.next) f) + 1 ≡ level = omega (arith, one, two, c.if-env-procedure.false) in
     Called.scene_with c.args.cpu.now a c.args.next c.requires.next c.args.cell f segment level place reference arguments e w test c.set-2.new.self c.procedure_at-procedure.result core pcw
+
+pub begin-requires-clause-known : goal.begin-requires-clause-known
+begin-requires-clause-known c =
+    let (a, f, segment, level, place, reference, arguments, e, w) = c.requires.procedure in
+    let two = Called.two_words c.args.cpu.now a c.args.next c.requires.next c.args.cell f segment level place reference arguments e w in
+    holds_entered c.args.cpu.now a (e.stands.shows a.member a.task a.running) w.some w.marked two.1 c.set.new.self c.set-2.new.self c.word.result c.word-2.result c.set.ensures.value c.set-2.ensures.value
 
 pub returns : goal.returns
 returns c = record {

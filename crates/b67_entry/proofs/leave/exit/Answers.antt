@@ -8,6 +8,7 @@ use Rattle.b67_entry.proofs.Callers.{below_mark}
 use Rattle.b67_entry.proofs.Exits.{leaves_pending, leaves_critical, leaves_last}
 use Rattle.b67_entry.proofs.Leaving.{under, on_top, on_stack, may_return, scene_left, exit_done}
 use Rattle.b67_entry.proofs.Sorted.{is_pending, is_entered, is_last, returns_of}
+use Rattle.b67_entry.proofs.Environments.{plain, holds_now, caller_slots}
 use Rattle.b67_entry.proofs.leave.exit.Goals as goal
 
 pub top_mark-mark-requires : goal.top_mark-mark-requires
@@ -64,8 +65,8 @@ caller-cpu-requires c =
       c.top_mark-mark.ensures r.storage (machine_view r.plan r.session.jobs) (top ∷ below) r.stands.holds.memory (on_stack r.storage cpu r.plan r.session m t r.ordered r.stands r.running a),
     )
 
-pub rebuild-requires : goal.rebuild-requires
-rebuild-requires c =
+pub rebuild_known-requires-clause-run : goal.rebuild_known-requires-clause-run
+rebuild_known-requires-clause-run c =
     let r = c.requires in
     let cpu = c.args.cpu.now in
     let m = r.member in
@@ -79,6 +80,21 @@ rebuild-requires c =
     (c.top_mark-mark.ensures r.storage (machine_view r.plan r.session.jobs) (top ∷ below) r.stands.holds.memory (on_stack r.storage cpu r.plan r.session m t r.ordered r.stands r.running a)) in
     subst (λ (v : Regs). RunningContext cpu.core v) (sym is) (scene_left r.storage cpu r.plan r.session m t r.ordered r.stands r.running a)
 
+pub rebuild_known-requires-clause-known : goal.rebuild_known-requires-clause-known
+rebuild_known-requires-clause-known c =
+    let r = c.requires in
+    let cpu = c.args.cpu.now in
+    let m = r.member in
+    let t = r.task in
+    let a = returns_of r.plan m t r.plan.running cpu.regs.slot (outer_spots r.plan m.constants.number m.progress.job t.critical t.parents) (running_in_order r.plan r.session m t r.ordered r.running).1 c.top_mark-mark.result
+    (c.top_mark-mark.ensures r.storage (machine_view r.plan r.session.jobs) (stack_of_task r.plan m.constants.number m.progress.job r.plan.running t) r.stands.holds.memory (runs_here r.storage cpu r.plan r.session m t r.stands r.running))
+    (not-false _ c.if-not-mark.false) c.if-mark-eq0.false (sym (c.is_critical.ensures r.storage r.plan r.session m t r.ordered r.stands r.running) ∙ c.if-is_critical.false) in
+    let top = on_top r.storage cpu r.plan r.session m t r.ordered r.stands r.running a in
+    let below = under r.storage cpu r.plan r.session m t r.ordered r.stands r.running a in
+    let is = c.caller-cpu.ensures (may_return r.storage cpu r.plan r.session m t r.ordered r.stands r.running a)
+    (c.top_mark-mark.ensures r.storage (machine_view r.plan r.session.jobs) (top ∷ below) r.stands.holds.memory (on_stack r.storage cpu r.plan r.session m t r.ordered r.stands r.running a)) in
+    holds_now cpu (plain r.storage cpu r.plan r.session m t r.ordered r.stands r.running) (r.stands.shows m t r.running) c.caller-cpu.result (caller_slots cpu c.caller-cpu.result below a.back is)
+
 pub returns : goal.returns
 returns c = record {
   row = λ x plan s m t o h runs next.
@@ -88,7 +104,7 @@ returns c = record {
       (not-false _ c.if-not-mark.false) c.if-mark-eq0.false (sym (c.is_critical.ensures x plan s m t o h runs) ∙ c.if-is_critical.false) in
       let is = c.caller-cpu.ensures (may_return x cpu plan s m t o h runs a)
       (c.top_mark-mark.ensures x (machine_view plan s.jobs) (on_top x cpu plan s m t o h runs a ∷ under x cpu plan s m t o h runs a) h.holds.memory (on_stack x cpu plan s m t o h runs a)) in
-      exit_done x cpu plan s m t o h runs a next c.caller-cpu.result c.rebuild.new.display is c.rebuild.ensures);
+      exit_done x cpu plan s m t o h runs a next c.caller-cpu.result c.rebuild_known.new.display is c.rebuild_known.ensures);
   core = refl;
   top = λ e.
       let r = c.requires in

@@ -1,4 +1,4 @@
-use Rattle.std.proofs.Common.{Option, Result, Ok, ◌∙◌, ap, arith, refl, subst}
+use Rattle.std.proofs.Common.{ℕ, ◌+◌, ◌∷◌, Some, Option, Result, Ok, ◌∙◌, ap, arith, refl, subst}
 use Rattle.b67_word.specs.Tagged.{Tagged}
 use Rattle.b67_word.specs.declared.faults.Fault.{Fault}
 use Rattle.b67_model.specs.Chase.{follow}
@@ -11,6 +11,12 @@ use Rattle.b67_entry.proofs.Retning.{not_operand}
 use Rattle.b67_entry.proofs.Putting.{room_left, put_above, put_top}
 use Rattle.b67_entry.proofs.Evaluating.{scene, seen, element_end, proc_end, cell_inside, cell_made, element_there, element_made, element_absent, array_refused, intrinsic_refused, fault_refused}
 use Rattle.b67_entry.proofs.Calling.{proc_meets}
+use Rattle.b67_entry.proofs.Callers.{below_mark}
+use Rattle.b67_entry.proofs.Leaving.{may_return}
+use Rattle.b67_entry.proofs.Environments.{plain, holds_left, caller_slots}
+use Rattle.b67_entry.specs.Left.{caller_stack}
+use Rattle.b67_refer.proofs.Chains.{level_is, level_low}
+use Rattle.b67_ctl.specs.declared.registers.Regs.{Regs}
 use Rattle.b67_entry.proofs.Candidates.{shown_there, follows_there, found_end, made_there, enters_there, entered_there}
 use Rattle.b67_entry.proofs.returns.evaluate.Goals as goal
 
@@ -108,6 +114,19 @@ accident_on-requires-clause-procedure c =
     let k : EndMeets (scene x cpu plan s m t o h runs a) a.back.place (Ok (end.Proc c.in-Ok-Proc.cell)) (follow (seen x cpu plan s m t o h runs a) v) = subst (λ (z : Result End Fault). EndMeets (scene x cpu plan s m t o h runs a) a.back.place z (follow (seen x cpu plan s m t o h runs a) v)) (c.in-Ok-Proc.is ∙ ap Ok c.in-Ok-Proc.field-0-is) E in
     let (f, segment, level, place, e, p) = proc_end (scene x cpu plan s m t o h runs a) a.back.place c.in-Ok-Proc.cell (follow (seen x cpu plan s m t o h runs a) v) k in
     enters_there x cpu plan s m t o h runs a c.args.regs is c.in-Ok-Proc.cell f segment level place p
+
+pub overflow_sub-cpu : goal.overflow_sub-cpu
+overflow_sub-cpu c =
+    let (run, a, v, b, is) = c.requires.run in
+    let here = plain run.storage c.args.cpu.now run.plan run.session run.member run.task run.ordered run.stands run.running in
+    omega (arith, level_is c.args.cpu.now.core c.args.cpu.now.regs here, level_low c.args.cpu.now.core c.args.cpu.now.regs here)
+
+pub accident_on-requires-clause-known : goal.accident_on-requires-clause-known
+accident_on-requires-clause-known c =
+    let (run, a, v, b, is) = c.requires.run in
+    let cpu = c.args.cpu.now in
+    holds_left cpu (plain run.storage cpu run.plan run.session run.member run.task run.ordered run.stands run.running) (run.stands.shows run.member run.task run.running) a.f (a.next ∷ a.more) a.level a.environment (Some a.back) a.frames a.entered
+    c.args.regs (caller_slots cpu c.args.regs (caller_stack run.plan run.member run.task a) a.back is) (ap (λ (z : Regs). z.s + 1) is ∙ below_mark cpu (may_return run.storage cpu run.plan run.session run.member run.task run.ordered run.stands run.running a))
 
 pub returns-in-Ok-Cell : goal.returns-in-Ok-Cell
 returns-in-Ok-Cell c = record {

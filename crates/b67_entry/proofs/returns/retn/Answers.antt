@@ -3,7 +3,7 @@ use Rattle.b67_stack.specs.declared.Cpu.{Cpu}
 use Rattle.b67_layout.specs.Meets.{RunsSome}
 use Rattle.b67_layout.proofs.Starts.{meets_runs}
 use Rattle.b67_entry.proofs.Retning.{room, operand_is}
-use Rattle.b67_entry.proofs.RetnContext.{is_pending, is_empty, top_word, is_refused, is_held, is_outermost, context, returning, regs_are, context_left, top_low}
+use Rattle.b67_entry.proofs.RetnContext.{is_pending, is_empty, top_word, is_refused, is_held, is_outermost, context, returning, regs_are, context_left, held_left, top_low}
 use Rattle.b67_law_order.proofs.Maps.{IsOperand}
 use Rattle.b67_entry.proofs.Putting.{room_left, put_above, put_done, evaluated}
 use Rattle.b67_entry.proofs.returns.retn.Goals as goal
@@ -83,10 +83,15 @@ caller-regs-requires c =
     let k = context c.args.cpu.now c.top_mark-mark.result c.top_mark-mark.ensures c.if-not-mark.false c.get-word.result c.get-word.ensures c.if-cpu.false c.refusal.result c.refusal.ensures c.in-None.is c.is_critical.result c.is_critical.ensures c.if-is_critical.false c.if-mark-eq0.false c.requires in
     (returning c.args.cpu.now c.top_mark-mark.result c.get-word.result c.requires k, k.mark_is)
 
-pub rebuild-requires : goal.rebuild-requires
-rebuild-requires c =
+pub rebuild_known-requires-clause-run : goal.rebuild_known-requires-clause-run
+rebuild_known-requires-clause-run c =
     let k = context c.args.cpu.now c.top_mark-mark.result c.top_mark-mark.ensures c.if-not-mark.false c.get-word.result c.get-word.ensures c.if-cpu.false c.refusal.result c.refusal.ensures c.in-None.is c.is_critical.result c.is_critical.ensures c.if-is_critical.false c.if-mark-eq0.false c.requires in
     context_left c.args.cpu.now c.top_mark-mark.result c.get-word.result c.requires k c.caller-regs.result c.caller-regs.ensures
+
+pub rebuild_known-requires-clause-known : goal.rebuild_known-requires-clause-known
+rebuild_known-requires-clause-known c =
+    let k = context c.args.cpu.now c.top_mark-mark.result c.top_mark-mark.ensures c.if-not-mark.false c.get-word.result c.get-word.ensures c.if-cpu.false c.refusal.result c.refusal.ensures c.in-None.is c.is_critical.result c.is_critical.ensures c.if-is_critical.false c.if-mark-eq0.false c.requires in
+    held_left c.args.cpu.now c.top_mark-mark.result c.get-word.result c.requires k c.caller-regs.result c.caller-regs.ensures
 
 pub evaluate-requires-clause-run : goal.evaluate-requires-clause-run
 evaluate-requires-clause-run c =
@@ -112,6 +117,11 @@ pub settle-requires-clause-run : goal.settle-requires-clause-run
 settle-requires-clause-run c =
     let k = context c.args.cpu.now c.top_mark-mark.result c.top_mark-mark.ensures c.if-not-mark.false c.get-word.result c.get-word.ensures c.if-cpu.false c.refusal.result c.refusal.ensures c.in-None.is c.is_critical.result c.is_critical.ensures c.if-is_critical.false c.if-mark-eq0.false c.requires in
     context_left c.args.cpu.now c.top_mark-mark.result c.get-word.result c.requires k c.caller-regs.result c.caller-regs.ensures
+
+pub settle-requires-clause-known : goal.settle-requires-clause-known
+settle-requires-clause-known c =
+    let k = context c.args.cpu.now c.top_mark-mark.result c.top_mark-mark.ensures c.if-not-mark.false c.get-word.result c.get-word.ensures c.if-cpu.false c.refusal.result c.refusal.ensures c.in-None.is c.is_critical.result c.is_critical.ensures c.if-is_critical.false c.if-mark-eq0.false c.requires in
+    held_left c.args.cpu.now c.top_mark-mark.result c.get-word.result c.requires k c.caller-regs.result c.caller-regs.ensures
 
 pub settle-requires-clause-room : goal.settle-requires-clause-room
 settle-requires-clause-room c =

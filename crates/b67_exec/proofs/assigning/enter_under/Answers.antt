@@ -1,7 +1,7 @@
 use Rattle.std.proofs.Common.{◌≡◌, ◌-◌, ◌≤◌, ◌<◌, length, sym, ap, arith, subst, true}
 use Rattle.b67_stack.specs.declared.Cpu.{Cpu}
 use Rattle.b67_fetch.proofs.Values.{here_scene}
-use Rattle.b67_exec.proofs.Overs.{leads_under, bounds, place_fits, may_enter, stored_made, stored_fault, restored}
+use Rattle.b67_exec.proofs.Overs.{leads_under, bounds, place_fits, may_enter, held_under, stored_made, stored_fault, restored}
 use Rattle.b67_exec.proofs.assigning.enter_under.Goals as goal
 
 pub procedure_cell-cell-requires : goal.procedure_cell-cell-requires
@@ -29,6 +29,11 @@ accident_on-requires-clause-procedure c =
 
 pub accident_on-requires-clause-back : goal.accident_on-requires-clause-back
 accident_on-requires-clause-back c = let (a, q, o) = c.requires in place_fits a.storage c.args.cpu.now a.plan a.session a.member a.task a.ordered a.stands a.running q c.args.lower c.args.upper o
+
+pub accident_on-requires-clause-known : goal.accident_on-requires-clause-known
+accident_on-requires-clause-known c =
+    let (a, q, o) = c.requires in
+    held_under a.storage c.args.cpu.now a.plan a.session a.member a.task a.ordered a.stands a.running q c.args.lower c.args.upper o c.set.new.self c.set.ensures.value
 
 pub overflow_sub-cpu-in-Fault : goal.overflow_sub-cpu-in-Fault
 overflow_sub-cpu-in-Fault c =

@@ -1,4 +1,4 @@
-use Rattle.b67_exec.proofs.Loads.{bounds, place_fits, at_end, leads, scene_without, enters_without, accident_without, load_row}
+use Rattle.b67_exec.proofs.Loads.{bounds, place_fits, at_end, leads, scene_without, enters_without, held_without, accident_without, load_row}
 use Rattle.b67_fetch.proofs.Values.{here_scene}
 use Rattle.b67_exec.proofs.evaluating.enter_in_place.Goals as goal
 
@@ -44,6 +44,18 @@ accident_on-requires-clause-procedure c =
 
 pub accident_on-requires-clause-back : goal.accident_on-requires-clause-back
 accident_on-requires-clause-back c = let q = c.requires.runs in place_fits q.storage c.args.cpu.now q.plan q.session q.member q.task q.ordered q.stands q.running c.requires.place c.requires.enters
+
+pub accident_on-requires-clause-known : goal.accident_on-requires-clause-known
+accident_on-requires-clause-known c =
+    let q = c.requires.runs in
+    let cpu = c.args.cpu.now in
+    let n = c.requires.place in
+    let i = c.requires.enters in
+    let w = c.get.result in
+    let e = at_end q.storage cpu q.plan q.session q.member q.task q.ordered q.stands q.running n i w c.get.ensures in
+    let l = leads q.storage cpu q.plan q.session q.member q.task q.ordered q.stands q.running n i w c.get.ensures in
+    held_without q.storage cpu q.plan q.session q.member q.task q.ordered q.stands q.running n i w c.get.ensures c.procedure_cell-cell.result
+    (c.procedure_cell-cell.ensures (here_scene q.storage cpu q.plan q.session q.member q.task q.ordered q.stands q.running) n e.frame e.segment e.level e.place l)
 
 pub returns : goal.returns
 returns c = record {
