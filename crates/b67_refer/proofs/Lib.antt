@@ -20,3 +20,4 @@ pub mod Follows
 pub mod Scans
 pub mod Walks
 pub mod Splits
+pub mod Enclosures

@@ -30,7 +30,7 @@ module _ (core : List Tagged) (r : Regs) (a : RunningContext core r) (q : Place)
     pub high : steps ≤ p.offset
     pub is : at ≡ frame_at_core a f + steps
 
-  bounds : (2 ≤ p.offset) × (p.offset < 2 + length (seat core r (live_of a) f p.cell.names.standing p.cell.names.among p.own).frame.cells)
+  pub bounds : (2 ≤ p.offset) × (p.offset < 2 + length (seat core r (live_of a) f p.cell.names.standing p.cell.names.among p.own).frame.cells)
   bounds = inside core r (live_of a) q f p.cell.names.standing (seat core r (live_of a) f p.cell.names.standing p.cell.names.among p.own) p.cell.names.entered p.own p.offset (Proc segment level place) p.cell.found
 
   pub over_start : Over cell

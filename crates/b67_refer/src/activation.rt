@@ -23,7 +23,8 @@ pub struct Activation {
 }
 
 /// The address of the mark under a cell of an entered activation record. The word over the mark has tag 3, the cells'
-/// have other tags.
+/// have other tags. Words are looked at from the cell down, and the running stack's marks from its last one down, in turns: so
+/// it takes the fewer of both.
 #[inline(always)]
 fn mark_under(core: &Core, regs: &Regs, cell: u32) -> u32
     requires { (a : RunningContext core.now regs.now) × (q : Place) × (f : ℕ) × (segment : ℕ) × (level : ℕ) × (place : Place) × IsProcAt a q cell f segment level place }
@@ -31,11 +32,18 @@ fn mark_under(core: &Core, regs: &Regs, cell: u32) -> u32
         → result ≡ frame_at_core a f }
 {
     let mut at = cell;
+    let mut mark = regs.f;
+    let mut past = regs.s + 1;
     'down: loop {
+        if mark < cell && cell < past && core.get(mark + 1).tag() == 3 {
+            return mark;
+        }
         if core.get(at).tag() == 3 {
             return at - 1;
         }
         at -= 1;
+        past = mark;
+        mark -= u32::from(mark_at(core, mark).back);
     }
 }
 
