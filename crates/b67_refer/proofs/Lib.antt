@@ -17,3 +17,4 @@ pub mod SeenFrom
 pub mod Names
 pub mod Follows
 pub mod Scans
+pub mod Owns
