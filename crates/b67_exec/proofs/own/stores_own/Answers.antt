@@ -13,6 +13,6 @@ returns-in-Stod c =
 
 pub returns-in-Ston : goal.returns-in-Ston
 returns-in-Ston c =
-    let P : Code → Type 0 = λ k. MadeOn (Plain k) c.args.next c.args.cpu.now c.store_own.result c.store_own.new.cpu in
-    let e = c.store_own.ensures in
-    subst P (sym c.in-Ston.is) (ston_made c.args.next c.args.cpu.now c.store_own.new.cpu c.store_own.result e.row e.stays e.rest)
+    let P : Code → Type 0 = λ k. MadeOn (Plain k) c.args.next c.args.cpu.now c.store_own-in-Ston.result c.store_own-in-Ston.new.cpu in
+    let e = c.store_own-in-Ston.ensures in
+    subst P (sym c.in-Ston.is) (ston_made c.args.next c.args.cpu.now c.store_own-in-Ston.new.cpu c.store_own-in-Ston.result e.row e.stays e.rest)
