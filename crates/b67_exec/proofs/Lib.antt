@@ -15,3 +15,4 @@ pub mod Fars
 pub mod Mades
 pub mod Calls
 pub mod Valcs
+pub mod Owns

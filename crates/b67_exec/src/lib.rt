@@ -9,6 +9,7 @@ mod far;
 mod firsts;
 mod near;
 mod operators;
+mod own;
 mod reader;
 
 pub use assigning::{stod, ston};

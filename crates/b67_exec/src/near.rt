@@ -15,6 +15,7 @@ use crate::far::{
     makes_retn, makes_stff, makes_stod, makes_ston, makes_valc,
 };
 use crate::firsts::{Near, near_of};
+use crate::own::{stores_own, values_own};
 use crate::reader::{Reader, behind, first, place, reader_to};
 use b67_arith::Numeric;
 use b67_entry::mkst;
@@ -374,7 +375,12 @@ fn evaluates(cpu: &mut Cpu, reader: &mut Reader) -> Made
         Some(next) => next,
         None => return Made::Not,
     };
-    let went = makes_valc(cpu, couple(first(*reader), first(second)), place(next));
+    let named = couple(first(*reader), first(second));
+    if values_own(cpu, named, place(next)) {
+        *reader = next;
+        return Made::On;
+    }
+    let went = makes_valc(cpu, named, place(next));
     goes(went, reader, next)
 }
 
@@ -406,6 +412,10 @@ fn fetches(cpu: &mut Cpu, reader: &mut Reader, code: Code) -> Made
         Some(next) => next,
         None => return Made::Not,
     };
+    if stores_own(cpu, code, place(next)) {
+        *reader = next;
+        return Made::On;
+    }
     let went = makes_fetch(cpu, code, place(next));
     goes(went, reader, next)
 }

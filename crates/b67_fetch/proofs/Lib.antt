@@ -10,3 +10,4 @@ pub mod Elements
 pub mod Words
 pub mod Stores
 pub mod StoreContext
+pub mod Owns

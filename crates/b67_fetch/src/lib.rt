@@ -5,11 +5,13 @@
 
 mod indexing;
 mod loading;
+mod own;
 mod storing;
 mod stuffing;
 
 pub use b67_exec_cells::namc;
 pub use indexing::{indx, nxlv};
 pub use loading::{load, valc, value};
+pub use own::store_own;
 pub use storing::{stod, ston};
 pub use stuffing::stff;

@@ -36,7 +36,7 @@ fn element_address(cpu: &Cpu, original: u32, index: u32) -> Result<u32, Step>
 
 /// Stores a word, takes the two top cells off, keeps the word in their place or not, and goes on at `next`.
 #[inline(always)]
-fn put(cpu: &mut Cpu, at: u32, w: Word, keeps: bool, next: Place)
+pub(crate) fn put(cpu: &mut Cpu, at: u32, w: Word, keeps: bool, next: Place)
     requires at { at < length cpu.old.core }
     requires top { cpu.old.regs.s < length cpu.old.core }
     requires cells { 2 ≤ cpu.old.regs.s }

@@ -21,3 +21,4 @@ pub mod Scans
 pub mod Walks
 pub mod Splits
 pub mod Enclosures
+pub mod Owns

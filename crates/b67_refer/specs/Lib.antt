@@ -4,3 +4,4 @@ pub mod LiveCells
 pub mod Cells
 pub mod LiveEnds
 pub mod Ends
+pub mod Own

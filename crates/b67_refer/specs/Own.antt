@@ -1,0 +1,22 @@
+-- References to cells of the running stack's top activation record.
+use Rattle.std.specs.Prelude.{ℕ, List, Ok}
+use Rattle.b67_word.specs.Tagged.{Tagged}
+use Rattle.b67_word.specs.declared.couples.Place.{Place}
+use Rattle.b67_ctl.specs.declared.registers.Regs.{Regs}
+use Rattle.b67_model.specs.Common.{Word, place_of, follow}
+use Rattle.b67_layout.specs.Meets.{here}
+use Rattle.b67_refer.specs.declared.ends.End.{End}
+use Rattle.b67_refer.specs.RunningContext.{RunningContext, IsShown}
+use Rattle.b67_refer.specs.Cells.{StandsFor, FindsCell}
+use Rattle.b67_refer.specs.LiveEnds.{IsReference}
+use Rattle.b67_refer.specs.Ends.{HasTagAt, EndMeets}
+
+-- a reference's word names the cell at an address, whose word has a tag
+abbrev pub NamesCell : (core : List Tagged) (r : Regs) (display : List ℕ) (w : Tagged) (tag cell : ℕ) → Type 0
+NamesCell core r display w tag cell = (a : RunningContext core r) (q : Place) → IsShown a display → (at owner : ℕ) (v : Word) → StandsFor a at owner w v
+    → IsReference v × FindsCell a q (Ok cell) (place_of (here a.member a.task q) v) × HasTagAt core cell tag
+
+-- a word leads to an end
+abbrev pub LeadsTo : (core : List Tagged) (r : Regs) (display : List ℕ) (w : Tagged) → End → Type 0
+LeadsTo core r display w end = (a : RunningContext core r) (q : Place) → IsShown a display → (at owner : ℕ) (v : Word) → StandsFor a at owner w v
+    → EndMeets a q (Ok end) (follow (here a.member a.task q) v)

@@ -1,0 +1,49 @@
+//! References to cells of the running stack's top activation record, as most are.
+
+ghost use Rattle.std.specs.Prelude.{◌≡◌, ◌≢◌};
+ghost use Rattle.b67_refer.specs.RunningContext.{RunningContext, IsShown};
+ghost use Rattle.b67_refer.specs.Own.{NamesCell, LeadsTo};
+ghost use Rattle.b67_refer.specs.declared.ends.End.TheVariants as end;
+
+use crate::couples::couple_at;
+use b67_core::Core;
+use b67_ctl::{Irw, Regs};
+use b67_word::Word;
+
+/// The core address of the cell of the running stack's top activation record that a couple's word names, if the word there has
+/// this tag. Else 0.
+#[inline(always)]
+fn own_cell(core: &Core, regs: &Regs, display: &[u32; 32], w: Word, tag: u16) -> u32
+    requires { (a : RunningContext core.now regs.now) × IsShown a display.now }
+    ensures names { result ≢ 0 → NamesCell core.now regs.now display.now w tag result }
+    ensures couple { result ≢ 0 → w.tag ≡ 1 }
+{
+    let name = match Irw::from_word(w) {
+        Some(name) => name,
+        None => return 0,
+    };
+    let c = couple_at(name.couple, regs.level);
+    if c.level > regs.level || c.disp < 2 {
+        return 0;
+    }
+    let base = display[c.level as usize];
+    if base != regs.f {
+        return 0;
+    }
+    let at = base + u32::from(c.disp);
+    if at > regs.s || core.get(at).tag() != tag {
+        return 0;
+    }
+    at
+}
+
+/// The core address of the operand's cell to which a word leads, if the word is that of a couple that names this cell, one of the
+/// running stack's top activation record. Else 0: the word may lead anywhere.
+#[inline(always)]
+pub fn own_operand(core: &Core, regs: &Regs, display: &[u32; 32], w: Word) -> u32
+    requires { (a : RunningContext core.now regs.now) × IsShown a display.now }
+    ensures leads { result ≢ 0 → LeadsTo core.now regs.now display.now w (end.Cell result) }
+    ensures couple { result ≢ 0 → w.tag ≡ 1 }
+{
+    own_cell(core, regs, display, w, 0)
+}
