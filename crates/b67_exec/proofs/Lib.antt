@@ -10,8 +10,8 @@ pub mod Nears
 pub mod Readers
 pub mod NearTable
 pub mod Through
-pub mod Dones
 pub mod Fars
+pub mod Unknown
 pub mod Mades
 pub mod Calls
 pub mod Valcs

@@ -17,5 +17,5 @@ pub use b67_entry::{exit, retn};
 pub use evaluating::{enter_in_place, evaluate, load, procedure_cell};
 pub use far::Went;
 pub use near::{Made, operate_near};
-pub use operators::{Executed, Performed, operate, operate_in, operator};
+pub use operators::{Executed, Performed, operate, operate_in, operate_unknown, operator};
 pub use reader::{Reader, reader_at};

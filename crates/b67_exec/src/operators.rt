@@ -12,7 +12,7 @@ ghost use Rattle.b67_exec_cells.specs.Running.{code_area};
 ghost use Rattle.b67_exec_cells.specs.Tops.{StaysInSegment};
 ghost use Rattle.b67_entry.specs.Procedures.{CallsOrMeets};
 ghost use Rattle.b67_exec.specs.Operators.{ParametersHaveBits, goes_far, is_far, is_on_top, OperatorMeets, leaves_record, CutsRecord};
-ghost use Rattle.b67_exec.specs.Near.{HoldsCode};
+ghost use Rattle.b67_exec.specs.Near.{HoldsCode, FarMade};
 
 use crate::assigning::{stod, ston};
 use crate::evaluating::{evaluate, load};
@@ -276,6 +276,41 @@ pub fn operate_in(cpu: &mut Cpu, desc: SegDesc) -> Performed
             left: false,
             near: true,
         },
+    }
+}
+
+/// Whether a reader knows an operator, and so was asked to make it.
+#[inline(always)]
+fn is_known(op: Op) -> bool
+    ensures { result ≡ false → is_leaving op ≡ false }
+{
+    match op {
+        Op::Lt16(_) | Op::Lt48(_) | Op::Mpcw(_) => false,
+        Op::Bset(_) | Op::Brst(_) | Op::Isol(_, _) | Op::Insr(_, _) => false,
+        _ => true,
+    }
+}
+
+/// Executes the operator at the running place, as `operator`, if no reader knows it and its answer is `Done`, and says whether it
+/// did. If not, nothing has changed.
+#[inline(always)]
+pub fn operate_unknown(cpu: &mut Cpu, desc: SegDesc) -> bool
+    requires runs { RunsSome cpu.old }
+    requires code { HoldsCode cpu.old desc }
+    ensures made { result ≡ true → FarMade cpu.old cpu.new }
+    ensures rest { result ≡ false → cpu.new ≡ cpu.old }
+{
+    match read_in(cpu, desc) {
+        Ok((op, next)) => {
+            if is_known(op) {
+                return false;
+            }
+            match perform(cpu, op, next).step {
+                Step::Done => true,
+                _ => false,
+            }
+        }
+        Err(_) => false,
     }
 }
 

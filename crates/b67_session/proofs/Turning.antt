@@ -27,7 +27,6 @@ use Rattle.b67_law_sessions.proofs.Halves.{first_by}
 use Rattle.b67_law_sessions.proofs.Limits.{last_parts_restore_order}
 use Rattle.b67_law_sessions.proofs.TurnRuns.{Came, came-more}
 use Rattle.b67_stack.specs.declared.Cpu.{Cpu}
-use Rattle.b67_stack.specs.declared.Step.{Step}
 use Rattle.b67_stack.specs.declared.Step.TheVariants as answers
 use Rattle.b67_stack.specs.Common.{MachineView, NoOriginalAboveTop as Calm, Storage, Represents}
 use Rattle.b67_layout.specs.Common.{machine_view, here, with_job, JobInOrderButCounts, IsInOrderButCounts, Placement, slot_of, IsRunning, RunsSome, RepresentsSession, with_objects}
@@ -40,7 +39,7 @@ use Rattle.b67_task_tables.specs.declared.tables.Tasks.{Tasks}
 use Rattle.b67_task_tables.specs.declared.tables.Machine.{Machine}
 use Rattle.b67_task_tables.specs.Runs.{RunsTask}
 use Rattle.b67_task_tables.specs.Tables.{job_row, TasksShow, MachineRepresents}
-use Rattle.b67_session.specs.Makes.{OperatorMade, StepMakes, CallsOrMakes, MakesAt, MakesInSegment, ForEachReady}
+use Rattle.b67_session.specs.Makes.{OperatorMade, MakesInSegment, ForEachReady}
 use Rattle.b67_task_switch.specs.declared.counting.Chosen.{Chosen}
 use Rattle.b67_task_switch.specs.Counted.{counted_more, counted_by, TurnHasRoom}
 use Rattle.b67_task_switch.specs.Lasting.{RulesLeave, Lasts, TurnLasts, BeforeHalt}
@@ -211,24 +210,6 @@ counted_none s =
 
 -- ---- one operator
 
--- after every answer but Done nothing has changed
-unmade : (x : Storage) (told : Option (List (List ℕ))) (plan : Placement) (s : Session) (m : SessionJob) (t : Task) (answered : Step) (old new : Machine) → answered ≢ answers.Done → MakesInSegment x told plan s m t answered old new → new ≡ old
-unmade x told plan s m t answered old new other row = by_area (code_area x plan m t) row where
-  by_answer : (a : Step) → a ≢ answers.Done → StepMakes x told plan s m t a old new → new ≡ old
-  by_answer answers.Done no_step h = absurd (no_step refl)
-  by_answer (answers.Absent what) no_step h = h.1
-  by_answer (answers.Call n) no_step h = absurd h
-  by_answer (answers.Fault fault) no_step h = h.1
-  by_answer answers.Ended no_step h = h.1
-
-  by_call : (called : Option ℕ) → CallsOrMakes x told plan s m t answered old new called → new ≡ old
-  by_call (Some n) h = h.1
-  by_call None h = by_answer answered other h
-
-  by_area : (area : Option ℕ) → MakesAt x told plan s m t answered old new area → new ≡ old
-  by_area None h = h.1
-  by_area (Some at) h = by_call (called_in m t) h
-
 module _ (said : Option (List (List ℕ))) (steps left : ℕ) (first : Session) (core : ℕ) (k : Machine) (h : HasTurnLeft said steps left first core k) (some : 1 ≤ left) where
   abbrev u : Session
   u = h.bare
@@ -259,10 +240,6 @@ module _ (said : Option (List (List ℕ))) (steps left : ℕ) (first : Session) 
 
   pub turn_runs : RunsTask k
   turn_runs = record { storage = h.storage; told = said; plan = h.plan; session = u; member = h.member; task = t; ordered = order; stands = h.stands; running = runs }
-
-  -- where an operator wasn't made nothing has changed
-  pub turn_stays : (answered : Step) (new : Machine) → answered ≢ answers.Done → ForEachReady k (λ x told plan s m t. MakesInSegment x told plan s m t answered k new) → new ≡ k
-  turn_stays answered new other row = unmade h.storage said h.plan u h.member t answered k new other (row h.storage said h.plan u h.member t order h.stands runs h.lasts.ready)
 
   module _ (new : Machine) (each : ForEachReady k (λ x told plan s m t. MakesInSegment x told plan s m t answers.Done k new)) where
     abbrev row : MakesInSegment h.storage said h.plan u h.member t answers.Done k new
@@ -432,10 +409,6 @@ turn_as told steps left first core k h more fewer same_more same_fewer =
 -- of a machine that is as it was
 pub turn_same : (told : Option (List (List ℕ))) (steps left : ℕ) (first : Session) (core : ℕ) (k new : Machine) → new ≡ k → HasTurnLeft told steps left first core k → HasTurnLeft told steps left first core new
 turn_same told steps left first core k new same h = subst (λ (z : Machine). HasTurnLeft told steps left first core z) (sym same) h
-
--- an answer that is Done
-pub done_row : (k new : Machine) (answered : Step) → answered ≡ answers.Done → ForEachReady k (λ x told plan s m t. MakesInSegment x told plan s m t answered k new) → ForEachReady k (λ x told plan s m t. MakesInSegment x told plan s m t answers.Done k new)
-done_row k new answered is each x told plan s m t o h runs ready = subst (λ (z : Step). MakesInSegment x told plan s m t z k new) is (each x told plan s m t o h runs ready)
 
 -- one operator more of those still to be made, where a try before it changed nothing
 pub turn_next : (told : Option (List (List ℕ))) (steps most room : ℕ) (first : Session) (core : ℕ) (k tried new : Machine) → 0 < room → room ≤ most → tried ≡ k → length k.cpu.core ≡ core → HasTurnLeft told (steps + (most - room)) room first core k

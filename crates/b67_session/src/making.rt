@@ -1,15 +1,15 @@
 //! The operator at the running place, with the arrays given back of an activation record that it leaves.
 
-ghost use Rattle.std.specs.Prelude.{◌≡◌, ◌≢◌};
+ghost use Rattle.std.specs.Prelude.{◌≡◌, ◌≢◌, true, false};
 ghost use Rattle.b67_stack.specs.declared.Step.{Step};
 ghost use Rattle.b67_stack.specs.declared.Step.TheVariants.{Done};
-ghost use Rattle.b67_exec.specs.Near.{HoldsCode, ReaderBehind, SaysDone};
+ghost use Rattle.b67_exec.specs.Near.{HoldsCode, ReaderBehind};
 ghost use Rattle.b67_exec.specs.declared.far.Went.TheVariants.{On, Not};
 ghost use Rattle.b67_task_tables.specs.Runs.{RunsTask, Keeps};
 ghost use Rattle.b67_session.specs.Makes.{MakesInSegment, ForEachReady};
 
 use b67_ctl::SegDesc;
-use b67_exec::{Made, Reader, Went, operate_in, operate_near};
+use b67_exec::{Made, Reader, Went, operate_in, operate_near, operate_unknown};
 use b67_exec_cells::present_segment;
 use b67_stack::{Step, What};
 use b67_task_release::release;
@@ -84,17 +84,18 @@ pub fn make(machine: &mut Machine) -> Step
     }
 }
 
-/// Makes the operator at the running place, as `make`, behind a call, so that the loop of a turn doesn't hold it. Whether it was
-/// made: if not, nothing has changed.
+/// Makes the operator at the running place, as `make`, if no reader knows it and its answer is `Done`, behind a call, so that the
+/// loop of a turn doesn't hold it. Whether it was made: if not, nothing has changed.
 #[inline(never)]
-pub fn make_apart(machine: &mut Machine) -> bool
+pub fn make_unknown(machine: &mut Machine) -> bool
     requires runs { RunsTask machine.old }
-    ensures made { (step : Step) × SaysDone step result × ForEachReady machine.old (λ x told plan s m t. MakesInSegment x told plan s m t step machine.old machine.new) }
+    ensures row { result ≡ true → ForEachReady machine.old (λ x told plan s m t. MakesInSegment x told plan s m t Done machine.old machine.new) }
+    ensures rest { result ≡ false → machine.new ≡ machine.old }
     ensures keeps { Keeps machine.old machine.new }
     ensures tasks { machine.new.tasks ≡ machine.old.tasks }
 {
-    match make(machine) {
-        Step::Done => true,
-        _ => false,
+    match present_segment(&machine.cpu) {
+        Some(desc) => operate_unknown(&mut machine.cpu, desc),
+        None => false,
     }
 }

@@ -15,7 +15,7 @@ ghost use Rattle.b67_session.specs.Slices.{StandsAt, Keeps};
 ghost use Rattle.b67_session.specs.Steps.{IsInOrderFor, GoesOnInTurn};
 ghost use Rattle.b67_session.specs.InTurn.{TurnBegins, HasTurnLeft, TurnGoesOn, MadeInTurn};
 
-use crate::making::{make_apart, make_near};
+use crate::making::{make_near, make_unknown};
 use b67_exec::{Went, reader_at};
 use b67_exec_cells::present_segment;
 use b67_task_switch::{count_turn, switch_to, turn_room};
@@ -78,7 +78,7 @@ fn make_in_segment(machine: &mut Machine, most: u64) -> StillToMake
             },
             Went::Not => {}
         }
-        if !make_apart(machine) {
+        if !make_unknown(machine) {
             return StillToMake { room, goes: false };
         }
         return StillToMake {

@@ -16,10 +16,10 @@ use Rattle.b67_task_tables.specs.Tables.{task_row, switch_of}
 use Rattle.b67_model_text.specs.declared.deck.Switch as text
 use Rattle.b67_task_switch.specs.declared.counting.Chosen.{Chosen}
 use Rattle.b67_task_switch.specs.Counted.{Past, choice_of}
-use Rattle.b67_task_switch.specs.Chosen.{IsReadyAt, ReadyRow, IsNextAt, NextRow, RowOf, GoesOnAt, SwitchesTo, Chooses, turn_lasts}
+use Rattle.b67_task_switch.specs.Chosen.{IsReadyAt, ReadyRow, NextRow, is_sooner, RowOf, GoesOnAt, SwitchesTo, Chooses, turn_lasts}
 use Rattle.b67_task_switch.proofs.Rising.{is_named, nobody_named, is_named_one, named_one}
-use Rattle.b67_task_switch.proofs.Orders.{same_is, is_self, before_job}
-use Rattle.b67_task_switch.proofs.ReadyTasks.{Rises, ready_rises, from_one, row_ready, ready_row}
+use Rattle.b67_task_switch.proofs.Orders.{same_is, is_self, after_too, after_neither, before_neither}
+use Rattle.b67_task_switch.proofs.ReadyTasks.{Rises, ready_rises, row_ready, ready_row}
 
 -- the first of a part of a list in order
 pub first_passing : (p : Who → Bool) (xs : List Who) (w : Who) → Rises xs → Has xs w → p w ≡ true → ((x : Who) → Has xs x → p x ≡ true → is_before x w ≡ false) → first (filter p xs) ≡ Some w
@@ -47,28 +47,27 @@ filter_rest : (p : Who → Bool) (xs : List Who) → ((x : Who) → Has xs x →
 filter_rest p [] none = refl
 filter_rest p (x ∷ xs) none = let t = none x (inl refl) in rw t (ap (λ l. x ∷ l) (filter_rest p xs (λ y k. none y (inr k))))
 
-filter_all : (p : Who → Bool) (xs : List Who) → ((x : Who) → Has xs x → p x ≡ true) → filter p xs ≡ xs
-filter_all p [] all = refl
-filter_all p (x ∷ xs) all = let t = all x (inl refl) in rw t (ap (λ l. x ∷ l) (filter_all p xs (λ y k. all y (inr k))))
+first_of : (xs : List Who) (w : Who) → Rises xs → Has xs w → ((x : Who) → Has xs x → is_before x w ≡ false) → first xs ≡ Some w
+first_of [] w r h least = absurd h
+first_of (x ∷ xs) w r (inl is) least = ap Some is
+first_of (x ∷ xs) w r (inr k) least = absurd (true≢false (sym (r.0 w k) ∙ least x (inl refl)))
 
 abbrev pub cyclic : Who → List Who → Option Who
 cyclic last xs = first (filter (is_before last) xs ++ filter (λ who. not (is_before last who)) xs)
 
--- the next one of a list in order, after the last one, or the first of all
-pub cyclic_after : (last : Who) (xs : List Who) (w : Who) → Rises xs → Has xs w → is_before last w ≡ true → ((x : Who) → Has xs x → is_before last x ≡ true → is_before x w ≡ false) → cyclic last xs ≡ Some w
-cyclic_after last xs w r h t least = first_append (filter (is_before last) xs) (filter (λ who. not (is_before last who)) xs) w (first_passing (is_before last) xs w r h t least)
+-- the next one of a list in order: the first in the circle behind the last one
+pub cyclic_is : (last : Who) (xs : List Who) (w : Who) → Rises xs → Has xs w → ((x : Who) → Has xs x → is_sooner last x w ≡ false) → cyclic last xs ≡ Some w
+cyclic_is last xs w r h least = elim (cases_Bool (is_before last w)) [
+  | inl t ↦ first_append (filter (is_before last) xs) (filter (λ who. not (is_before last who)) xs) w (first_passing (is_before last) xs w r h t (λ x k b. after_too last x w b t (least x k)))
+  | inr t ↦
+      ap (λ (l : List Who). first (l ++ filter (λ who. not (is_before last who)) xs)) (filter_none (is_before last) xs (λ x k. after_neither last x w t (least x k)))
+      ∙ ap first (filter_rest (is_before last) xs (λ x k. after_neither last x w t (least x k)))
+      ∙ first_of xs w r h (λ x k. before_neither last x w t (least x k))
+]
 
-around : (last : Who) (xs : List Who) → ((x : Who) → Has xs x → is_before last x ≡ false) → cyclic last xs ≡ first xs
-around last xs none = ap (λ (l : List Who). first (l ++ filter (λ who. not (is_before last who)) xs)) (filter_none (is_before last) xs none) ∙ ap first (filter_rest (is_before last) xs none)
-
-pub cyclic_first : (last before : Who) (xs : List Who) (w : Who) → Rises xs → ((x : Who) → Has xs x → is_before last x ≡ false) → ((x : Who) → Has xs x → is_before before x ≡ true)
-    → Has xs w → ((x : Who) → Has xs x → is_before before x ≡ true → is_before x w ≡ false) → cyclic last xs ≡ Some w
-cyclic_first last before xs w r none all h least =
-    around last xs none ∙ ap first (sym (filter_all (is_before before) xs all)) ∙ first_passing (is_before before) xs w r h (all w h) least
-
-pub cyclic_none : (last before : Who) (xs : List Who) → ((x : Who) → Has xs x → is_before last x ≡ false) → ((x : Who) → Has xs x → is_before before x ≡ true) → ((x : Who) → Has xs x → is_before before x ≡ false) → cyclic last xs ≡ None
-cyclic_none last before [] none all q = refl
-cyclic_none last before (x ∷ xs) none all q = absurd (true≢false (sym (all x (inl refl)) ∙ q x (inl refl)))
+pub cyclic_none : (last : Who) (xs : List Who) → ((x : Who) → Has xs x → ⊥) → cyclic last xs ≡ None
+cyclic_none last [] none = refl
+cyclic_none last (x ∷ xs) none = absurd (none x (inl refl))
 
 -- the choice by its rules
 pub choice_is : (s : Session) (o : Option Who) (b : Bool) → switched s ≡ o → goes_on s ≡ b → choice s ≡ choice_by s o b
@@ -123,25 +122,10 @@ module _ (plan : Placement) (s : Session) (o : IsInOrderButPlaces s) (task_rows 
     within : (i : ℕ) (w : Who) → IsReadyAt task_rows i w → i < n
     within i w a = omega (arith, all, slice_get_within task_rows i a.row a.at)
 
-    least : (last : Who) (i : ℕ) (h : IsNextAt n task_rows last i) (x : Who) → Has (ready s) x → is_before last x ≡ true → is_before x h.who ≡ false
-    least last i h x k b = let (j, a) = row_in x k in h.first j x (within j x a) a b
-
-    none_after : (last : Who) → NextRow n task_rows last None → (x : Who) → Has (ready s) x → is_before last x ≡ false
-    none_after last h x k = let (j, a) = row_in x k in h j x (within j x a) a
-
-    pub next_at : (last : Who) (i : ℕ) → last ≡ s.last → IsNextAt n task_rows last i → RowOf task_rows (Some i) (next_after s)
-    next_at last i is h =
-        (h.who, h.at, subst (λ (v : Who). cyclic v (ready s) ≡ Some h.who) is (cyclic_after last (ready s) h.who rises (in_row i h.who h.at) h.after (least last i h)))
-
-    pub next_around : (last before : Who) (i : Option ℕ) → last ≡ s.last → before.job ≡ 0 → NextRow n task_rows last None → NextRow n task_rows before i → RowOf task_rows i (next_after s)
-    next_around last before None is low none h =
-        subst (λ (v : Who). cyclic v (ready s) ≡ None) is (cyclic_none last before (ready s) (none_after last none) (λ x k. before_job before x (omega (arith, low, from_one plan s o x k))) (none_after before h))
-    next_around last before (Some i) is low none h = (
-      h.who,
-      h.at,
-      subst (λ (v : Who). cyclic v (ready s) ≡ Some h.who) is
-          (cyclic_first last before (ready s) h.who rises (none_after last none) (λ x k. before_job before x (omega (arith, low, from_one plan s o x k))) (in_row i h.who h.at) (least before i h)),
-    )
+    pub next_at : (last : Who) (i : Option ℕ) → last ≡ s.last → NextRow n task_rows last i → RowOf task_rows i (next_after s)
+    next_at last None is none = subst (λ (v : Who). cyclic v (ready s) ≡ None) is (cyclic_none last (ready s) (λ x k. let (j, a) = row_in x k in none j x (within j x a) a))
+    next_at last (Some i) is h =
+        (h.who, h.at, subst (λ (v : Who). cyclic v (ready s) ≡ Some h.who) is (cyclic_is last (ready s) h.who rises (in_row i h.who h.at) (λ x k. let (j, a) = row_in x k in h.first j x (within j x a) a)))
 
 pub ready_inside : (task_rows : List TaskRow) (who : Who) (i : Option ℕ) → ReadyRow task_rows who i → IfSome i (λ k. k < length task_rows)
 ready_inside task_rows who None h = tt

@@ -1,13 +1,26 @@
--- The first ready task after another, among more and more rows.
-use Rattle.std.proofs.Common.{◌≡◌, ℕ, ◌+◌, ◌<◌, true, false, List, length, Option, Some, None, refl, sym, ◌∙◌, ap, arith, inl, inr, subst, get_or}
+-- The first ready task behind another, among more and more rows.
+use Rattle.std.proofs.Common.{◌≡◌, ℕ, ◌+◌, ◌-◌, ◌^◌, ◌≤◌, ◌<◌, ◌⊎◌, true, false, List, length, Option, Some, None, refl, sym, ◌∙◌, ap, arith, inl, inr, subst, get_or}
 use Rattle.std.specs.List.{slice_get}
-use Rattle.std.proofs.lemmas.Option.{same_Some, get_or_from_slice_get}
+use Rattle.std.proofs.lemmas.Option.{same_Some, get_or_from_slice_get, slice_get_within}
 use Rattle.std.proofs.lemmas.Bool.{cases_lt, cases_Bool, true≢false}
-use Rattle.b67_model.specs.Schedule.{Who, is_before, is_same}
+use Rattle.b67_model.specs.Schedule.{Who, is_same}
+use Rattle.b67_task_tables.specs.declared.tables.TheConstants.{NO_ROW}
 use Rattle.b67_task_tables.specs.declared.tables.TaskRow.{TaskRow}
-use Rattle.b67_task_switch.specs.Chosen.{who_of, is_ready_state, comes, is_ready_row_of, IsReadyAt, IsNextAt, NextRow}
-use Rattle.b67_task_switch.proofs.Orders.{before_same, before_after, is_self}
+use Rattle.b67_task_switch.specs.Chosen.{who_of, is_ready_state, is_ready_row_of, is_sooner, IsReadyAt, IsNextAt, NextRow, IsDistance}
+use Rattle.b67_task_switch.proofs.Orders.{is_self, never_sooner, no_sooner, not_sooner}
 use Rattle.b67_lemmas.proofs.Places.{get_within}
+
+-- the nearest ready task among the first n rows, with its distance
+pub record Found (n : ℕ) (rows : List TaskRow) (last : Who) (far best : ℕ) : Type 0 where
+  pub next : IsNextAt n rows last best
+  pub distance : IsDistance last next.who far
+
+-- none of them is that of a ready task, or this one is the nearest
+abbrev pub Nearest : ℕ → List TaskRow → Who → ℕ → ℕ → Type 0
+Nearest n rows last far best = ((best ≡ NO_ROW) × (far ≡ 2 ^ 64 - 1) × ((k : ℕ) (w : Who) → k < n → IsReadyAt rows k w → ⊥)) ⊎ Found n rows last far best
+
+pub nearest_as : (n : ℕ) (rows : List TaskRow) (last : Who) (far best m i : ℕ) → m ≡ far → i ≡ best → Nearest n rows last far best → Nearest n rows last m i
+nearest_as n rows last far best m i e f h = subst (λ (v : ℕ). Nearest n rows last m v) (sym f) (subst (λ (v : ℕ). Nearest n rows last v best) (sym e) h)
 
 -- the item that is read at a place within a list
 pub seen : {A : Type 0} (xs : List A) (i : ℕ) (d : A) → i < length xs → slice_get xs i ≡ Some (get_or xs i d)
@@ -19,90 +32,53 @@ module _ (rows : List TaskRow) (k : ℕ) (row : TaskRow) (e : slice_get rows k �
       let same : a.row ≡ row = same_Some a.row row (sym a.at ∙ e) in
       (ap (λ (r : TaskRow). is_ready_state r.state) (sym same) ∙ a.ready, ap who_of (sym same) ∙ a.is)
 
-  -- a row that doesn't come
-  out : (last w : Who) → comes last row ≡ false → IsReadyAt rows k w → is_before last w ≡ false
-  out last w q a =
-      let (ready, is) = same_row w a in
-      let b : is_before last (who_of row) ≡ false = rw ready at q in
-      subst (λ (v : Who). is_before last v ≡ false) is b
+  ready_here : is_ready_state row.state ≡ true → IsReadyAt rows k (who_of row)
+  ready_here t = record { row = row; at = e; ready = t; is = refl }
 
-  comes_parts : (last : Who) → comes last row ≡ true → (is_ready_state row.state ≡ true) × (is_before last (who_of row) ≡ true)
-  comes_parts last p = elim (cases_Bool (is_ready_state row.state)) [
-    | inl t ↦ (t, rw t at p)
-    | inr t ↦ let q : false ≡ true = rw t at p in absurd (true≢false (sym q))
+  nobody : (w : Who) → is_ready_state row.state ≡ false → IsReadyAt rows k w → ⊥
+  nobody w q a = true≢false (sym (same_row w a).0 ∙ q)
+
+  -- what holds of the ready rows before k, and of this one, holds of all up to it
+  one_more : (P : Who → Type 0) → ((j : ℕ) (w : Who) → j < k → IsReadyAt rows j w → P w) → ((w : Who) → IsReadyAt rows k w → P w) → (j : ℕ) (w : Who) → j < k + 1 → IsReadyAt rows j w → P w
+  one_more P before here j w lt a = elim (cases_lt j k) [
+    | inl low ↦ before j w low a
+    | inr high ↦ let is : j ≡ k = omega (arith, high, lt) in here w (subst (λ (n : ℕ). IsReadyAt rows n w) is a)
   ]
 
-  here : (last : Who) → comes last row ≡ true → IsReadyAt rows k (who_of row)
-  here last p = record { row = row; at = e; ready = (comes_parts last p).0; is = refl }
+  -- the row at k is looked at: it isn't that of a ready task
+  pub passes : (last : Who) (far best : ℕ) → is_ready_state row.state ≡ false → Nearest k rows last far best → Nearest (k + 1) rows last far best
+  passes last far best q (inl (none, most, h)) = inl (none, most, one_more (λ w. ⊥) h (λ w a. nobody w q a))
+  passes last far best q (inr f) = inr (record {
+    next = record { who = f.next.who; at = f.next.at; first = one_more (λ w. is_sooner last w f.next.who ≡ false) f.next.first (λ w a. absurd (nobody w q a)) };
+    distance = f.distance;
+  })
 
-  -- the row at k is looked at
-  pub stays : (last : Who) (best : Option ℕ) → comes last row ≡ false → NextRow k rows last best → NextRow (k + 1) rows last best
-  stays last None q h = λ j w lt a. elim (cases_lt j k) [
-    | inl low ↦ h j w low a
-    | inr high ↦ let is : j ≡ k = omega (arith, high, lt) in out last w q (subst (λ (n : ℕ). IsReadyAt rows n w) is a)
-  ]
-  stays last (Some i) q h = record {
-    who = h.who;
-    at = h.at;
-    after = h.after;
-    first = λ j w lt a b. elim (cases_lt j k) [
-      | inl low ↦ h.first j w low a b
-      | inr high ↦
-          let is : j ≡ k = omega (arith, high, lt) in
-          absurd (true≢false (sym b ∙ out last w q (subst (λ (n : ℕ). IsReadyAt rows n w) is a)))
-    ];
-  }
+  -- it is farther than the nearest one
+  pub stays : (last : Who) (far best more : ℕ) → far < more → IsDistance last (who_of row) more → Nearest k rows last far best → Nearest (k + 1) rows last far best
+  stays last far best more lt d (inl (none, most, h)) = absurd (omega (arith, lt, d.is, most))
+  stays last far best more lt d (inr f) = inr (record {
+    next = record {
+      who = f.next.who;
+      at = f.next.at;
+      first = one_more (λ w. is_sooner last w f.next.who ≡ false) f.next.first (λ w a. subst (λ (v : Who). is_sooner last v f.next.who ≡ false) (same_row w a).1 (no_sooner last f.next.who (who_of row) far more f.distance d (omega (arith, lt))));
+    };
+    distance = f.distance;
+  })
 
-  pub alone : (last : Who) → comes last row ≡ true → NextRow k rows last None → IsNextAt (k + 1) rows last k
-  alone last p h = record {
-    who = who_of row;
-    at = here last p;
-    after = (comes_parts last p).1;
-    first = λ j w lt a b. elim (cases_lt j k) [
-      | inl low ↦ absurd (true≢false (sym b ∙ h j w low a))
-      | inr high ↦
-          let is : j ≡ k = omega (arith, high, lt) in
-          let same = (same_row w (subst (λ (n : ℕ). IsReadyAt rows n w) is a)).1 in
-          subst (λ (v : Who). is_before v (who_of row) ≡ false) same (before_same (who_of row))
-    ];
-  }
-
-  module _ (last : Who) (i : ℕ) (h : IsNextAt k rows last i) (other : TaskRow) (at : slice_get rows i ≡ Some other) where
-    who_is_other : who_of other ≡ h.who
-    who_is_other = ap who_of (same_Some other h.at.row (sym at ∙ h.at.at)) ∙ h.at.is
-
-    pub sooner : comes last row ≡ true → is_before (who_of row) (who_of other) ≡ true → IsNextAt (k + 1) rows last k
-    sooner p before =
-        let before_who : is_before (who_of row) h.who ≡ true = ap (λ (v : Who). is_before (who_of row) v) (sym who_is_other) ∙ before in
-        record {
-          who = who_of row;
-          at = here last p;
-          after = (comes_parts last p).1;
-          first = λ j w lt a b. elim (cases_lt j k) [
-            | inl low ↦ elim (cases_Bool (is_before w (who_of row))) [
-              | inl t ↦ absurd (true≢false (sym (before_after w (who_of row) h.who t before_who) ∙ h.first j w low a b))
-              | inr t ↦ t
-            ]
-            | inr high ↦
-                let is : j ≡ k = omega (arith, high, lt) in
-                let same = (same_row w (subst (λ (n : ℕ). IsReadyAt rows n w) is a)).1 in
-                subst (λ (v : Who). is_before v (who_of row) ≡ false) same (before_same (who_of row))
-          ];
-        }
-
-    pub later : is_before (who_of row) (who_of other) ≡ false → IsNextAt (k + 1) rows last i
-    later not_before = record {
-      who = h.who;
-      at = h.at;
-      after = h.after;
-      first = λ j w lt a b. elim (cases_lt j k) [
-        | inl low ↦ h.first j w low a b
-        | inr high ↦
-            let is : j ≡ k = omega (arith, high, lt) in
-            let same = (same_row w (subst (λ (n : ℕ). IsReadyAt rows n w) is a)).1 in
-            subst (λ (v : Who). is_before v h.who ≡ false) same (ap (λ (v : Who). is_before (who_of row) v) (sym who_is_other) ∙ not_before)
-      ];
-    }
+  -- it is nearer
+  pub takes : (last : Who) (far best less : ℕ) → is_ready_state row.state ≡ true → less ≤ far → IsDistance last (who_of row) less → Nearest k rows last far best → Nearest (k + 1) rows last less k
+  takes last far best less t le d n = inr (record {
+    next = record {
+      who = who_of row;
+      at = ready_here t;
+      first = one_more (λ w. is_sooner last w (who_of row) ≡ false) (before n) (λ w a. subst (λ (v : Who). is_sooner last v (who_of row) ≡ false) (same_row w a).1 (never_sooner last (who_of row)));
+    };
+    distance = d;
+  })
+    where
+      before : Nearest k rows last far best → (j : ℕ) (w : Who) → j < k → IsReadyAt rows j w → is_sooner last w (who_of row) ≡ false
+      before (inl (none, most, h)) j w lt a = absurd (h j w lt a)
+      before (inr f) j w lt a = not_sooner last w f.next.who (who_of row) (f.next.first j w lt a) (no_sooner last (who_of row) f.next.who less far d f.distance le)
 
   -- the row at k is not that of a ready task of this name
   pub not_here : (who : Who) → is_ready_row_of who row ≡ false → ((j : ℕ) → j < k → IsReadyAt rows j who → ⊥) → (j : ℕ) → j < k + 1 → IsReadyAt rows j who → ⊥
@@ -115,3 +91,12 @@ module _ (rows : List TaskRow) (k : ℕ) (row : TaskRow) (e : slice_get rows k �
         let c : is_same who who ≡ false = subst (λ (v : Who). is_same v who ≡ false) same b in
         true≢false (sym (is_self who) ∙ c)
   ]
+
+-- the row that is answered
+pub no_row : (rows : List TaskRow) (last : Who) (far best : ℕ) → length rows ≤ 255 → best ≡ NO_ROW → Nearest (length rows) rows last far best → NextRow (length rows) rows last None
+no_row rows last far best few is (inl (none, most, h)) = h
+no_row rows last far best few is (inr f) = absurd (omega (arith, few, is, slice_get_within rows best f.next.at.row f.next.at.at))
+
+pub one_row : (rows : List TaskRow) (last : Who) (far best : ℕ) → (best ≡ NO_ROW → ⊥) → Nearest (length rows) rows last far best → NextRow (length rows) rows last (Some best)
+one_row rows last far best is (inl (none, most, h)) = absurd (is none)
+one_row rows last far best is (inr f) = f.next

@@ -106,12 +106,6 @@ module _ (plan : Placement) (s : Session) (o : IsInOrderButPlaces s) where
   pub ready_rises : Rises (ready s)
   ready_rises = members_rise 1 s.jobs o.numbered (λ m k. (all_in (λ (y : SessionJob). JobInOrder (IsSegment y.constants) y.constants y.progress) s.jobs m o.jobs k).tasks.numbers)
 
-  pub from_one : (w : Who) → Has (ready s) w → 1 ≤ w.job
-  from_one w h =
-      let (m, inm, k) = among_members s.jobs w h in
-      let (t, int, r, e) = among_tasks m.constants.number m.progress.job.tasks w k in
-      omega (arith, numbered_low 1 s.jobs m o.numbered inm, ap (λ (v : Who). v.job) e)
-
   module _ (task_rows : List TaskRow) (job_rows : List rows.JobRow) (c : rows.JobCounts) (shows : TablesShow plan s (map task_row task_rows) job_rows c) where
     -- a ready task's row is one of a ready task of the session
     pub row_ready : (i : ℕ) (w : Who) → IsReadyAt task_rows i w → Has (ready s) w

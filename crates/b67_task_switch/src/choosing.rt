@@ -63,11 +63,7 @@ fn row_after(tasks: &Tasks) -> Option<u8>
     ensures row { (plan : Placement) (s : Session) → IsInOrderButPlaces s → TasksShow plan s tasks.now → RowOf tasks.now.rows.items result (next_after s) }
     ensures inside { IfSome result (λ row. row < length tasks.now.rows.items) }
 {
-    let rows = tasks.rows.as_slice();
-    match next_row(rows, last_of(tasks)) {
-        Some(row) => Some(row),
-        None => next_row(rows, Who { job: 0, task: 0 }),
-    }
+    next_row(tasks.rows.as_slice(), last_of(tasks))
 }
 
 /// The task of a row, with how many operators of its turn it has made.

@@ -1,24 +1,16 @@
 //! The rows of ready tasks.
 
-ghost use Rattle.std.specs.Prelude.{◌≡◌, ℕ, ◌+◌, ◌≤◌, ◌<◌, length};
-ghost use Rattle.b67_model.specs.Schedule as schedule;
+ghost use Rattle.std.specs.Prelude.{◌≡◌, ◌≤◌, length};
 ghost use Rattle.b67_task_switch.specs.Chosen as rows;
-ghost use Rattle.b67_task_switch.specs.Chosen.{who_is, who_of, IsReadyAt, ReadyRow, NextRow};
+ghost use Rattle.b67_task_switch.specs.Chosen.{who_is, ReadyRow, NextRow, FitsTypes, IsDistance};
 
-use b67_task_tables::{TaskRow, TaskState};
+use b67_task_tables::{NO_ROW, TaskRow, TaskState};
 
 /// A task of a job, by their numbers.
 #[derive(Clone, Copy, Debug, PartialEq, Eq)]
 pub(crate) struct Who {
     pub job: u8,
     pub task: u32,
-}
-
-#[inline(always)]
-fn is_before(a: Who, b: Who) -> bool
-    ensures { result ≡ schedule.is_before (who_is a) (who_is b) }
-{
-    a.job < b.job || (a.job == b.job && a.task < b.task)
 }
 
 #[inline(always)]
@@ -39,14 +31,6 @@ fn who_of(row: TaskRow) -> Who
         job: row.job,
         task: row.number,
     }
-}
-
-/// Whether a row is that of a ready task after the last one.
-#[inline(always)]
-fn comes(row: TaskRow, last: Who) -> bool
-    ensures { result ≡ rows.comes (who_is last) row }
-{
-    is_ready(row.state) && is_before(last, who_of(row))
 }
 
 /// Whether a row is that of a task which is ready.
@@ -84,38 +68,40 @@ pub(crate) fn ready_row_near(rows: &[TaskRow], near: u8, who: Who) -> Option<u8>
     ready_row(rows, who)
 }
 
-/// The first of two rows in order, where the second is that of a ready task after the last one.
+/// A task's place in the order of jobs and numbers.
 #[inline(always)]
-fn nearer(rows: &[TaskRow], last: Who, best: Option<u8>, at: u8) -> Option<u8>
-    requires inside { at < length rows.now }
-    requires before { NextRow at rows.now (who_is last) best }
-    ensures { NextRow (at + 1) rows.now (who_is last) result }
+fn place_of(who: Who) -> u64
+    ensures is { result ≡ rows.place_of (who_is who) }
+    ensures fits { FitsTypes (who_is who) }
 {
-    let row = rows[at as usize];
-    if !comes(row, last) {
-        return best;
-    }
-    match best {
-        Some(other) => {
-            if is_before(who_of(row), who_of(rows[other as usize])) {
-                Some(at)
-            } else {
-                Some(other)
-            }
-        }
-        None => Some(at),
-    }
+    u64::from(who.job) * 0x1_0000_0000 + u64::from(who.task)
 }
 
-/// The row of the first ready task after another, by job and number.
+/// How far a task stands behind another, in the circle of all tasks in order: this one itself stands farthest.
+#[inline(always)]
+fn distance(last: Who, who: Who) -> u64
+    ensures { IsDistance (who_is last) (who_is who) result }
+{
+    place_of(who).wrapping_sub(place_of(last) + 1)
+}
+
+/// The row of the first ready task in the circle that begins behind another.
 #[inline(always)]
 pub(crate) fn next_row(rows: &[TaskRow], last: Who) -> Option<u8>
     requires { length rows.now ≤ 255 }
     ensures { NextRow (length rows.now) rows.now (who_is last) result }
 {
-    let mut best = None;
+    let mut nearest = u64::MAX;
+    let mut best = NO_ROW;
     for at in 0..rows.len() as u8 {
-        best = nearer(rows, last, best, at);
+        let row = rows[at as usize];
+        if is_ready(row.state) {
+            let far = distance(last, who_of(row));
+            if far <= nearest {
+                nearest = far;
+                best = at;
+            }
+        }
     }
-    best
+    if best == NO_ROW { None } else { Some(best) }
 }

@@ -1,8 +1,7 @@
 use Rattle.std.proofs.Common.{◌≡◌, ◌≢◌, ◌<◌, ◌+◌, ◌-◌, refl, ◌∙◌, arith}
 use Rattle.b67_exec.specs.declared.far.Went.TheVariants as wents
-use Rattle.b67_exec.proofs.Dones.{done_is, done_not}
 use Rattle.b67_session.proofs.Going.{keeps_on}
-use Rattle.b67_session.proofs.Turning.{turn_as, some_runs, turn_runs, turn_stays, turn_same, turn_next, done_row}
+use Rattle.b67_session.proofs.Turning.{turn_as, some_runs, turn_runs, turn_same, turn_next}
 use Rattle.b67_session.proofs.turns.make_in_segment.Goals as goal
 
 pub present_segment-requires : goal.present_segment-requires
@@ -67,8 +66,8 @@ returns-in-Away c =
 
 -- ---- another one, before which the machine is as it was
 
-pub make_apart-requires : goal.make_apart-requires
-make_apart-requires c =
+pub make_unknown-requires : goal.make_unknown-requires
+make_unknown-requires c =
     let q = c.requires in
     let done = q.steps + (c.args.most - c.operator.room) in
     record {
@@ -76,35 +75,28 @@ make_apart-requires c =
           (turn_same q.said done c.operator.room q.first q.core c.operator.machine c.make_near.new.machine (c.make_near.ensures.rest c.in-Not.is) (c.operator.invariant.turn q.said q.steps q.core q.first q.size q.turn)) (omega (arith, c.operator-test.true));
     }
 
-pub returns-then-not-make_apart : goal.returns-then-not-make_apart
-returns-then-not-make_apart c =
-    let q = c.requires in
-    let (step, says, each) = c.make_apart.ensures.made in
+pub returns-then-not-make_unknown : goal.returns-then-not-make_unknown
+returns-then-not-make_unknown c =
     let tried : c.make_near.new.machine ≡ c.operator.machine = c.make_near.ensures.rest c.in-Not.is in
-    let done = q.steps + (c.args.most - c.operator.room) in
-    let same : c.make_apart.new.machine ≡ c.make_near.new.machine =
-    turn_stays q.said done c.operator.room q.first q.core c.make_near.new.machine
-    (turn_same q.said done c.operator.room q.first q.core c.operator.machine c.make_near.new.machine tried (c.operator.invariant.turn q.said q.steps q.core q.first q.size q.turn)) (omega (arith, c.operator-test.true))
-    step c.make_apart.new.machine (done_not step c.make_apart.result says c.if-not-make_apart.true) each in
+    let same : c.make_unknown.new.machine ≡ c.make_near.new.machine = c.make_unknown.ensures.rest c.if-not-make_unknown.true in
     record {
       few = c.operator.invariant.few;
       some = λ e. absurd (let z : ⊥ = cc in z);
-      row = λ said steps core s size h. turn_same said (steps + (c.args.most - c.operator.room)) c.operator.room s core c.operator.machine c.make_apart.new.machine (same ∙ tried) (c.operator.invariant.turn said steps core s size h);
-      tables = c.make_apart.ensures.tasks ∙ c.make_near.ensures.tasks ∙ c.operator.invariant.tables;
-      keeps = keeps_on c.args.machine.now c.make_near.new.machine c.make_apart.new.machine (keeps_on c.args.machine.now c.operator.machine c.make_near.new.machine c.operator.invariant.keeps c.make_near.ensures.keeps) c.make_apart.ensures.keeps;
+      row = λ said steps core s size h. turn_same said (steps + (c.args.most - c.operator.room)) c.operator.room s core c.operator.machine c.make_unknown.new.machine (same ∙ tried) (c.operator.invariant.turn said steps core s size h);
+      tables = c.make_unknown.ensures.tasks ∙ c.make_near.ensures.tasks ∙ c.operator.invariant.tables;
+      keeps = keeps_on c.args.machine.now c.make_near.new.machine c.make_unknown.new.machine (keeps_on c.args.machine.now c.operator.machine c.make_near.new.machine c.operator.invariant.keeps c.make_near.ensures.keeps) c.make_unknown.ensures.keeps;
     }
 
 pub returns-in-operator : goal.returns-in-operator
 returns-in-operator c =
-    let (step, says, each) = c.make_apart.ensures.made in
     record {
       few = omega (arith, c.operator.invariant.few);
       some = λ e. omega (arith, c.operator.invariant.few, c.operator-test.true);
       row = λ said steps core s size h.
-          turn_next said steps c.args.most c.operator.room s core c.operator.machine c.make_near.new.machine c.make_apart.new.machine c.operator-test.true c.operator.invariant.few (c.make_near.ensures.rest c.in-Not.is) (c.operator.invariant.keeps.core ∙ size) (c.operator.invariant.turn said steps core s size h)
-          (done_row c.make_near.new.machine c.make_apart.new.machine step (done_is step c.make_apart.result says c.if-not-make_apart.false) each);
-      tables = c.make_apart.ensures.tasks ∙ c.make_near.ensures.tasks ∙ c.operator.invariant.tables;
-      keeps = keeps_on c.args.machine.now c.make_near.new.machine c.make_apart.new.machine (keeps_on c.args.machine.now c.operator.machine c.make_near.new.machine c.operator.invariant.keeps c.make_near.ensures.keeps) c.make_apart.ensures.keeps;
+          turn_next said steps c.args.most c.operator.room s core c.operator.machine c.make_near.new.machine c.make_unknown.new.machine c.operator-test.true c.operator.invariant.few (c.make_near.ensures.rest c.in-Not.is) (c.operator.invariant.keeps.core ∙ size) (c.operator.invariant.turn said steps core s size h)
+          (c.make_unknown.ensures.row c.if-not-make_unknown.false);
+      tables = c.make_unknown.ensures.tasks ∙ c.make_near.ensures.tasks ∙ c.operator.invariant.tables;
+      keeps = keeps_on c.args.machine.now c.make_near.new.machine c.make_unknown.new.machine (keeps_on c.args.machine.now c.operator.machine c.make_near.new.machine c.operator.invariant.keeps c.make_near.ensures.keeps) c.make_unknown.ensures.keeps;
     }
 
 pub returns-clause-some : goal.returns-clause-some
