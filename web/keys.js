@@ -10,6 +10,8 @@ export const KEYS = [
   {key: 'o', act: 'line', shift: true, what: 'next line printed', short: 'next line'},
   {key: 'g', act: 'paging', shift: true, what: 'next paging: words come into core or leave it', short: 'paging'},
   {key: 't', act: 'task', shift: true, what: 'next change of task', short: 'task'},
+  {key: 'n', act: 'store', shift: true, what: 'next store into the cell or the array that is followed', short: 'store'},
+  {key: 'v', act: 'follow', shift: true, what: 'follow the next cell or array (a click on it does the same)', short: 'follow'},
   {key: 'f', act: 'fault', shift: true, what: 'next fault or end of a task', short: 'fault or end'},
   {key: 'e', act: 'before', what: 'before the end: the last operator before the first fault, or before the end', short: 'before the end'},
   {key: 'b', act: 'stop', what: 'breakpoint at the next card, or none there (a click on a card does the same)', short: 'breakpoint'},

@@ -5,6 +5,7 @@ import {Page} from './page.js';
 import {perform, toggleLessons} from './acts.js';
 import {actOf, KEYS} from './keys.js';
 import {countAt} from './timeline.js';
+import {cellAt} from './draw-stacks.js';
 import {numbersForRead, withNumbers} from './deck-view.js';
 
 function onKey(page, event) {
@@ -53,6 +54,15 @@ function listenToSteps(page) {
   });
   byId('line').onclick = event => page.guard(() => page.goTo(countAt(byId('line'), page.session.window, event.clientX)));
   byId('cards').addEventListener('keydown', moveInCards);
+  byId('stacks').onclick = event => {
+    const name = cellAt(byId('stacks'), event);
+    if (name && page.session?.state) page.follows(name);
+  };
+  for (const id of ['right', 'pair']) byId(id).addEventListener('click', event => {
+    const button = event.target.closest('[data-follow]');
+    if (button) page.follows(button.dataset.follow);
+  });
+  byId('unfollow').onclick = () => page.follows('');
   document.addEventListener('keydown', event => onKey(page, event));
   window.addEventListener('hashchange', () => page.follow());
   window.addEventListener('resize', () => page.redraw());
