@@ -5,6 +5,7 @@ import {arrowsOf, drawArrows, legend} from './draw-arrows.js';
 
 const LEAST_SCALE = 0.85;
 const [ROW, CHARACTER, LEFT, GAP, MOST_ROWS] = [20, 7.9, 34, 56, 46];
+const [MOST_CELLS, LOWEST, TOPMOST] = [40, 8, 24]; // of a record; of more the lowest and the topmost ones are drawn
 
 function textAt(x, y, kind, ...text) {
   return drawn('text', {x, y, class: kind}, ...text);
@@ -83,7 +84,7 @@ class StacksDrawing {
 
   // The records of a task; of a long stack those that nothing near the top needs are put together.
   folded(task) {
-    const rows = task.records.reduce((sum, record) => sum + record.cells.length + 2, 0);
+    const rows = task.records.reduce((sum, record) => sum + Math.min(record.cells.length, MOST_CELLS) + 2, 0);
     if (!this.view.folds || rows <= MOST_ROWS) return task.records;
     const top = task.records.length, last = task.records.slice(-3);
     const wanted = new Set(last.flatMap(record => [record.link, ...record.cells.map(cell => cell.to.split(' ').slice(0, 2).join(' '))]));
@@ -108,21 +109,39 @@ class StacksDrawing {
     return 28;
   }
 
-  // Draws a record whose foot is at y; gives its height.
-  drawRecord(task, record, column, x, y, width) {
-    const id = `${task.name} ${record.number}`, open = record.level < 0, foot = open ? 1 : 2;
-    this.records.set(id, {x, width, y: y - ROW / 2, column});
-    record.cells.forEach((cell, k) => this.cells.set(`${id} ${cell.at}`, {x, width, y: y - (foot + k + 0.5) * ROW, column}));
-    const running = task.runs && !open && !task.records.some(it => it.level >= 0 && it.number > record.number);
-    const shown = {id, number: record.number, level: record.level, display: record.display, link: this.linkLine(task, record), width, foot,
-      kind: `record ${open ? 'open' : ''} ${running ? taskClass(task.name) : ''}`, fresh: this.fresh.has(id),
-      cells: record.cells.map(cell => this.shownCell(cell, `${id} ${cell.at}`))};
-    this.add(JSON.stringify(shown), x, y, () => recordParts(shown));
-    return (record.cells.length + foot) * ROW + 6;
+  // The cells of a record as rows from the bottom up; of very many those in the middle are one row.
+  rowsOf(record, id) {
+    const {cells} = record, hidden = cells.length - LOWEST - TOPMOST;
+    if (!this.view.folds || cells.length <= MOST_CELLS) return cells;
+    return cells.reduce((rows, cell, k) => {
+      const name = `${id} ${cell.at}`, seen = k < LOWEST || k >= LOWEST + hidden || name === this.view.followed || this.fresh.has(name);
+      if (seen) rows.push(cell);
+      else if (rows.at(-1)?.folded) rows.at(-1).folded.push(cell);
+      else rows.push({folded: [cell]});
+      return rows;
+    }, []);
   }
 
-  shownCell(cell, id) {
-    return {at: cell.at, tag: cell.tag, text: shownText(cell), fresh: this.fresh.has(id), followed: this.view.followed === id};
+  // Draws a record whose foot is at y; gives its height.
+  drawRecord(task, record, column, x, y, width) {
+    const id = `${task.name} ${record.number}`, open = record.level < 0, foot = open ? 1 : 2, rows = this.rowsOf(record, id);
+    this.records.set(id, {x, width, y: y - ROW / 2, column});
+    rows.forEach((row, k) => {
+      const at = {x, width, y: y - (foot + k + 0.5) * ROW, column};
+      if (row.folded) for (const cell of row.folded) this.cells.set(`${id} ${cell.at}`, {...at, folded: true});
+      else this.cells.set(`${id} ${row.at}`, at);
+    });
+    const running = task.runs && !open && !task.records.some(it => it.level >= 0 && it.number > record.number);
+    const shown = {id, number: record.number, level: record.level, display: record.display, link: this.linkLine(task, record), width, foot,
+      kind: `record ${open ? 'open' : ''} ${running ? taskClass(task.name) : ''}`, fresh: this.fresh.has(id), rows: rows.map(row => this.shownRow(row, id))};
+    this.add(JSON.stringify(shown), x, y, () => recordParts(shown));
+    return (rows.length + foot) * ROW + 6;
+  }
+
+  shownRow(row, id) {
+    if (row.folded) return {folded: row.folded.length};
+    const name = `${id} ${row.at}`;
+    return {at: row.at, tag: row.tag, text: shownText(row), fresh: this.fresh.has(name), followed: this.view.followed === name};
   }
 
   // S, the top word, and F, the topmost mark.
@@ -135,15 +154,19 @@ class StacksDrawing {
 }
 
 // A record over its foot at the origin: its title, where it leads and returns to, and its cells.
-function recordParts({number, level, display, link, width, foot, kind, fresh, cells}) {
-  const height = (cells.length + foot) * ROW;
+function recordParts({number, level, display, link, width, foot, kind, fresh, rows}) {
+  const height = (rows.length + foot) * ROW;
   return [drawn('rect', {y: -height, width, height, rx: 4, class: kind}),
     drawn('rect', {x: 1, y: -ROW, width: width - 2, height: ROW - 1, class: fresh ? 'fresh' : 'head'}),
     textAt(6, -5.5, 'strong', foot === 1 ? `record ${number}, open` : `record ${number}, level ${level}`),
     display.map((at, k) => [drawn('rect', {x: width - 42 - 40 * k, y: 2 - ROW, width: 38, height: 16, rx: 8, class: 'display'}),
       textAt(width - 37 - 40 * k, -5.5, 'display-text', `D[${at}]`)]),
     foot === 2 ? textAt(6, -ROW - 5.5, 'dim', link) : null,
-    cells.map((cell, k) => cellParts(cell, foot === 1 ? '' : `${level},${cell.at}`, -(foot + k + 1) * ROW, width))];
+    rows.map((row, k) => (row.folded ? foldParts(row.folded, -(foot + k + 1) * ROW, width) : cellParts(row, foot === 1 ? '' : `${level},${row.at}`, -(foot + k + 1) * ROW, width)))];
+}
+
+function foldParts(many, y, width) {
+  return [drawn('rect', {x: 1, y: y + 1, width: width - 2, height: ROW - 1, class: 'fold'}), textAt(8, y + 14.5, 'dim', `… ${many} cells (z shows them) …`)];
 }
 
 function cellParts({tag, text, fresh, followed}, name, y, width) {

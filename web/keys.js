@@ -23,7 +23,7 @@ export const KEYS = [
   {key: 'PageDown', act: 'tenForth', what: 'ten operators'},
   {key: 'PageUp', act: 'tenBack', what: 'ten operators back'},
   {key: 'c', act: 'two', what: 'two cores side by side, or one', short: 'two cores'},
-  {key: 'z', act: 'fold', what: 'fold long stacks, or show all records'},
+  {key: 'z', act: 'fold', what: 'fold long stacks, or show all records and cells'},
   {key: 'a', act: 'arrows', what: 'all arrows, or those of the running task'},
   {key: 'w', act: 'wide', what: 'the stacks alone, or all', short: 'stacks alone'},
   {key: '+', act: 'larger', what: 'larger letters', short: 'larger'},
