@@ -27,6 +27,12 @@ function toggleTwo(page) {
   });
 }
 
+// Stops what is computed; where nothing is, closes the lessons.
+function escape(page) {
+  if (!byId('busy').hidden) return page.guard(() => page.stopped());
+  if (!byId('lessons').hidden) toggleLessons(page);
+}
+
 // Acts that need no machine.
 const ALWAYS = {
   larger: page => resize(page, 1),
@@ -35,6 +41,7 @@ const ALWAYS = {
   help: () => byId('help').showModal(),
   two: page => toggleTwo(page),
   edit: page => page.show('deck'),
+  escape,
 };
 
 // Acts over the moment that is shown.

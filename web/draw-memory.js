@@ -75,14 +75,15 @@ function changedIn(thing, old) {
 
 // An array's name is a button, by which it is followed.
 function nameOf(thing, followed) {
-  if (thing.kind === 'code') return element('strong', {}, thing.text);
-  return element('button', {type: 'button', class: 'name', 'data-follow': thing.cell + thing.kind, 'aria-pressed': String(followed), title: 'follow it: key n goes to the next store'}, thing.text);
+  const texts = [element('strong', {}, thing.text), `, ${countOf(thing.words, 'word')} `];
+  if (thing.kind === 'code') return texts;
+  return element('button', {type: 'button', class: 'name', 'data-follow': thing.cell + thing.kind, 'aria-pressed': String(followed), title: 'follow it: key n goes to the next store'}, texts);
 }
 
 function thingRow(thing, changed, followed) {
   const place = thing.at ? chip('in', `in core at ${thing.at}`) : chip(thing.chain.length ? 'out' : 'quiet', thing.chain.length ? 'out of core' : 'never used');
   const sectors = thing.chain.length ? chip('quiet', `${thing.chain.length > 1 ? 'sectors' : 'sector'} ${spansText(thing.chain)}`) : null;
-  return element('li', {}, nameOf(thing, followed), `, ${countOf(thing.words, 'word')} `, place, ' ', sectors,
+  return element('li', {}, nameOf(thing, followed), ' ', place, ' ', sectors,
     thing.kind === 'code' ? null : element('div', {class: 'numbers'}, numbersText(thing, changed)), copiesLine(thing));
 }
 

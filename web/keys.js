@@ -30,6 +30,7 @@ export const KEYS = [
   {key: '-', act: 'smaller', what: 'smaller letters'},
   {key: 'l', act: 'lessons', what: 'lessons', short: 'lessons'},
   {key: 'd', act: 'edit', what: 'back to the deck', short: 'deck'},
+  {key: 'Escape', sign: 'Esc', act: 'escape', what: 'Stop, while something is computed; else close the lessons'},
   {key: '?', act: 'help', what: 'all keys, and how to read the picture', short: 'help'},
 ];
 

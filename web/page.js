@@ -14,6 +14,7 @@ import {showDeck, showLine, showMoment} from './step-view.js';
 const [LEAST_CORE, USUAL_CORE, MOST_CORE, MOST_FILLED, PLAY_MILLISECONDS] = [256, 4096, 1048575, 65536, 500];
 const [STATES_KEPT, AHEAD, ADDRESS_MILLISECONDS] = [60, [1, 2, -1, 3, -2, 4], 200]; // of states: how many are kept, and which are made ahead
 const NO_BROWSER = 'This browser can’t run the machine, which needs WebAssembly with memories of 64 bits: open this page in a Chrome, Edge or Firefox of 2025 or later.';
+const NO_JOB = 'This deck has no job, so nothing runs: choose a deck, or write ?JOB and its cards.';
 
 export class Page {
   constructor() {
@@ -157,6 +158,7 @@ export class Page {
     this.ran = {status: result.status, text: result.text};
     if (result.status === 2 && !refusedOf) result.place = await this.placeOf(text, result.text);
     showResult(this.rows, {words, ...result, text: words[0] === 'image' ? withoutImage(result.text) : result.text}, refusedOf);
+    if (result.status === 0 && /run|check/.test(words[0]) && !hasJob(text)) this.say(NO_JOB);
     if (result.status === 8) this.say('More is printed than the page takes, which is 16 MB: give the job a lower ?LIMIT, or let it print less.');
     return result;
   }
@@ -228,7 +230,7 @@ export class Page {
       if (!kept) {
         const {status} = await this.command(['check'], {sectors: 1});
         if (status) return this.show('deck');
-        if (!/^\?JOB/m.test(text)) throw new Error('This deck has no job: nothing would run. Choose a deck, or write ?JOB and its cards.');
+        if (!hasJob(text)) throw new Error(NO_JOB);
         this.session = {text, core, name: this.name, stops: new Set(), briefs: new Map(), states: new Map(), end: null, other: null, wanted: null, way: 1};
         this.view.followed = '';
         const begun = await this.client.ask('operators', {deck: text, core});
@@ -308,7 +310,7 @@ export class Page {
   prepare() {
     const {session} = this, {from, to} = session.window, most = session.end ?? Infinity, filled = session.core <= MOST_FILLED;
     const counts = AHEAD.map(by => session.state.count + by * session.way).filter(count => count >= 0 && count <= most);
-    const cores = session.other === null ? [session.core] : [session.core, session.other];
+    const cores = [session.core, session.other].filter(core => core !== null && core <= MOST_FILLED);
     const ahead = counts.flatMap(count => cores.map(core => ({core, count}))).filter(({core, count}) => !session.states.has(`${core} ${count}`));
     this.ask('soon', {ahead, from, to: filled ? Math.min(to, most) : from - 1}).catch(() => {});
   }
@@ -334,8 +336,10 @@ export class Page {
   }
 
   // Goes to the moment that the address names, or shows the first deck.
-  async follow() {
-    const moment = momentOf(location.hash);
+  async follow(hash = location.hash) {
+    clearTimeout(this.addresses);
+    this.addresses = null;
+    const moment = momentOf(hash);
     if (!moment) return this.name ? undefined : this.choose('two');
     const {session} = this;
     const shown = session?.state && document.body.dataset.view === 'step' && session.name === moment.deck && session.core === moment.core
@@ -347,6 +351,7 @@ export class Page {
     if (this.name !== deck) this.choose(deck);
     if (core) byId('core').value = core;
     if (other) byId('other').value = other;
+    if (other) this.core('other');
     byId('two').setAttribute('aria-pressed', String(Boolean(other)));
     if (count === null) return this.show('deck');
     await this.step(count, other);
@@ -403,6 +408,10 @@ function keepState({states}, core, state) {
   states.set(key, state);
   if (states.size > STATES_KEPT) states.delete(states.keys().next().value);
   return state;
+}
+
+function hasJob(deck) {
+  return /^\?JOB/m.test(deck);
 }
 
 // Of a state what tests compare.

@@ -10,9 +10,8 @@ import {numbersForRead, withNumbers} from './deck-view.js';
 
 function onKey(page, event) {
   const {target, key, shiftKey} = event;
-  if (key === 'Escape' && !byId('lessons').hidden && !byId('help').open) toggleLessons(page);
   if (event.ctrlKey || event.metaKey || event.altKey || byId('help').open) return;
-  if (/^(INPUT|TEXTAREA|SELECT)$/.test(target.tagName)) return;
+  if (key !== 'Escape' && /^(INPUT|TEXTAREA|SELECT)$/.test(target.tagName)) return;
   if ((key === ' ' || key === 'Enter') && /^(BUTTON|A|SUMMARY)$/.test(target.tagName)) return;
   const found = actOf(key, shiftKey);
   if (!found || key === ' ' && shiftKey) return;
@@ -25,7 +24,7 @@ function listenToDeck(page) {
     run: () => page.run(), check: () => page.check(), step: () => page.step(), edit: () => page.show('deck'),
     image: () => page.image(), resume: () => page.resume(), exercise: () => page.exercise(), bind: () => page.bind(),
     take: () => page.take(), two: () => perform(page, 'two'), 'help-button': () => perform(page, 'help'),
-    'lessons-button': () => toggleLessons(page), 'put-numbers': () => putNumbers(page), stop: () => page.guard(() => page.stopped()),
+    'lessons-button': () => toggleLessons(page), 'put-numbers': () => putNumbers(page), stop: () => perform(page, 'escape'),
   };
   for (const [id, act] of Object.entries(clicks)) byId(id).onclick = act;
   byId('pick').onchange = () => { page.show('deck'); page.choose(byId('pick').value); };
@@ -64,7 +63,7 @@ function listenToSteps(page) {
   });
   byId('unfollow').onclick = () => page.follows('');
   document.addEventListener('keydown', event => onKey(page, event));
-  window.addEventListener('hashchange', () => page.follow());
+  window.addEventListener('hashchange', event => page.follow(event.newURL ? new URL(event.newURL).hash : location.hash));
   window.addEventListener('resize', () => page.redraw());
 }
 

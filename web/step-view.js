@@ -72,6 +72,7 @@ export function showLine(session, width = byId('line').clientWidth || 1000) {
   const {state, window, briefs, stops, end} = session, line = byId('line'), all = end ?? window.to;
   showTimeline(line, {count: state.count, window, briefs, stops, width});
   for (const [name, value] of [['now', state.count], ['min', 0], ['max', all]]) set(line, `aria-value${name}`, value);
+  set(line, 'aria-valuetext', `${state.count} of ${end ?? 'many'} operators`);
   const part = byId('part-shown');
   byId('whole').hidden = window.from === 0 && window.to >= all;
   part.style.left = `${window.from / all * 100}%`;
