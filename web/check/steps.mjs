@@ -1,4 +1,4 @@
-// How long a step takes in Chromium: node web/check/steps.mjs CHROMIUM PAGE DECKS [DECK..].
+// How long a step takes in a browser: node web/check/steps.mjs BROWSER PAGE DECKS [DECK..]. BROWSER is Chromium's program, or Firefox's.
 //
 // At some counts of each deck: steps forth and back, from the key to the picture laid out. By hand: a pause of 100 ms before each key.
 // Held: each key as soon as the last one is answered. Prints milliseconds, median and 95th percentile, and the slowest one.
@@ -6,17 +6,21 @@ import fs from 'node:fs';
 import path from 'node:path';
 import {pathToFileURL} from 'node:url';
 import {Browser} from './browser.mjs';
+import {Firefox} from './firefox.mjs';
 
-const [chromium, page, folder, ...only] = process.argv.slice(2);
+const [program, page, folder, ...only] = process.argv.slice(2);
 const [STEPS, PAUSE, PLACES] = [4, 100, [0, 0.3, 0.6, 0.95]];
 const LONG = '?JOB LONG\n?LIMIT 100000\n?ASM\nSEGMENT MAIN 2\nZERO\nTOP: VALC 2,2\nONE\nADD\nNAMC 2,2\nSTOD\nBRUN TOP\n?END\n';
 
 // In the page: presses a key, and gives the milliseconds until its moment is drawn and laid out.
 const PRESSED = `window.pressed = (key, pause) => new Promise(goes => setTimeout(() => {
-  const line = document.getElementById('line'), begun = performance.now();
-  const old = line.getAttribute("aria-valuenow");
-  new MutationObserver((_, seen) => { if (line.getAttribute("aria-valuenow") === old) return; seen.disconnect(); document.getElementById('stacks').getBoundingClientRect(); goes(performance.now() - begun); })
-    .observe(line, {attributeFilter: ['aria-valuenow']});
+  const line = document.getElementById('line'), old = line.getAttribute('aria-valuenow'), begun = performance.now();
+  new MutationObserver((_, seen) => {
+    if (line.getAttribute('aria-valuenow') === old) return;
+    seen.disconnect();
+    document.getElementById('stacks').getBoundingClientRect();
+    goes(performance.now() - begun);
+  }).observe(line, {attributeFilter: ['aria-valuenow']});
   document.dispatchEvent(new KeyboardEvent('keydown', {key, bubbles: true}));
 }, pause)); 0`;
 
@@ -62,8 +66,8 @@ async function measured(name, text, core) {
   return found;
 }
 
-const browser = await Browser.started(chromium);
-await browser.call('Page.navigate', {url: pathToFileURL(page).href});
+const browser = await (path.basename(program).startsWith('firefox') ? Firefox : Browser).started(program);
+await browser.opens(pathToFileURL(page).href);
 await browser.until('window.b67?.ready');
 await browser.value('b67.ready');
 await browser.value(PRESSED);
