@@ -1,11 +1,13 @@
 #!/bin/sh
-# Tries the page, web/b67.html, in headless Chromium: from the top of the repository
+# Tries the page, web/b67.html, in headless Chromium, or in the Firefox that BROWSER names: from the top of the repository
 #
 #     sh scripts/check-page.sh [PROGRAM [FOLDER]]
+#     BROWSER=firefox-esr sh scripts/check-page.sh [PROGRAM [FOLDER]]
 #
 # PROGRAM is `b67` on the path if it isn't given. Each deck of decks/ is opened, run and stepped through, and every key is pressed.
 # After each the state on the page is compared with what PROGRAM's `image` and `dump` print at that count. Bad input is tried, too.
-# Any complaint of the browser's console counts as a difference. With FOLDER pictures of the page are written there. Some minutes.
+# Any complaint of the browser's console counts as a difference. With FOLDER pictures of the page are written there. Two minutes on a
+# machine that does nothing else.
 #
 # The last line is `N the same, M different`. Status 1 if anything differs, 2 if something is missing. No part of the gate.
 set -eu
@@ -23,9 +25,9 @@ top=$(cd "$(dirname "$0")/.." && pwd)
 program=$(command -v "${1:-b67}") || missing "${1:-b67}: no such program"
 [ -f "$top/web/b67.html" ] || missing "web/b67.html isn't there: sh scripts/web.sh"
 command -v node >/dev/null || missing "node isn't on the path"
-chromium=
-for name in chromium chromium-browser google-chrome; do
-    [ -n "$chromium" ] || chromium=$(command -v $name) || true
+browser=
+for name in ${BROWSER:-chromium chromium-browser google-chrome}; do
+    [ -n "$browser" ] || browser=$(command -v "$name") || true
 done
-[ -n "$chromium" ] || missing "Chromium isn't on the path"
-exec node "$top/web/check/page.mjs" "$chromium" "$top/web/b67.html" "$program" "$top/decks" ${2+"$2"}
+[ -n "$browser" ] || missing "${BROWSER:-Chromium} isn't on the path"
+exec node "$top/web/check/page.mjs" "$browser" "$top/web/b67.html" "$program" "$top/decks" ${2+"$2"}

@@ -3,11 +3,15 @@
 #
 #     sh scripts/check-web.sh [PROGRAM]
 #
-# PROGRAM is `b67` on the path if it isn't given. Each deck of decks/ is run by each command in both; statuses, all that is printed,
-# and the sectors are compared. The page's reader of images is tested by node's own runner. If the kit is here, the module's heap is
-# tried by itself; and if the crates are proved, the page is made again by scripts/web.sh, and its bytes are compared. Some minutes.
+# PROGRAM is `b67` on the path if it isn't given. Four parts, and each line says how long one took:
 #
-# The last line is `N the same, M different`. Status 1 if anything differs, 2 if something is missing. No part of the gate.
+# heap      the heap of the module by itself, built by the kit's clang
+# reader    the page's reader of images and its other parts, by node's own test runner
+# page      made again by scripts/web.sh from the proved crates, with the same bytes as web/b67.html
+# module    each deck of decks/ by each command in the page's module and in PROGRAM: statuses, all that is printed, and the sectors
+#
+# The last line is `check-web: all the same`, or names the parts that differ or can't be tried. Four minutes on a machine that does
+# nothing else. Status 1 if anything differs, 2 if something is missing: then what can be tried is tried. No part of the gate.
 set -eu
 usage() {
     echo "usage: sh scripts/check-web.sh [PROGRAM]" >&2
@@ -30,34 +34,48 @@ $run --input-type=module -e "import {has64} from '$top/web/check/module.mjs'; pr
     missing "this node has no memories of 64 bits: take node 20 or later"
 room=$(mktemp -d)
 trap 'rm -rf "$room"' EXIT
-failed=0
-
 kit=$(command -v rt >/dev/null && dirname "$(dirname "$(readlink -f "$(command -v rt)")")")/toolchain/bin
-if [ -x "$kit/clang" ]; then
+
+heap() {
+    [ -x "$kit/clang" ] || { echo "the kit isn't here"; return 2; }
     "$kit/clang" --target=wasm64-unknown-unknown -mcpu=lime1 --no-default-config -O3 -Wall -Wextra -Werror -ffreestanding -nostdinc \
-        -c -x c "$top/web/heap.c" -o "$room/heap.o"
-    "$kit/ld.lld" -flavor wasm -mwasm64 --no-entry --stack-first --max-memory=67108864 --fatal-warnings --threads=1 --export=room \
-        --export=rattle_alloc --export=rattle_realloc --export=rattle_dealloc --export=__multi3 -o "$room/heap.wasm" "$room/heap.o"
-    $run "$top/web/check/heap.mjs" "$room/heap.wasm" || failed=1
-else
-    echo "heap: not tried, since the kit isn't here"
-fi
-
-if B67=$program $run --test --test-reporter=tap "$top"/web/tests/*.test.js >"$room/tests" 2>&1; then
-    echo "reader: $(sed -n 's/^# pass //p' "$room/tests") tests passed"
-else
-    cat "$room/tests"
-    failed=1
-fi
-
-if sh "$top/scripts/web.sh" "$room/b67.html" >"$room/said" 2>&1; then
-    if cmp -s "$room/b67.html" "$page"; then echo "page: made again, with the same bytes"; else
-        echo "page: made again, with OTHER bytes than web/b67.html"
-        failed=1
+        -c -x c "$top/web/heap.c" -o "$room/heap.o" &&
+        "$kit/ld.lld" -flavor wasm -mwasm64 --no-entry --stack-first --max-memory=67108864 --fatal-warnings --threads=1 --export=room \
+            --export=rattle_alloc --export=rattle_realloc --export=rattle_dealloc --export=__multi3 -o "$room/heap.wasm" "$room/heap.o" &&
+        $run "$top/web/check/heap.mjs" "$room/heap.wasm"
+}
+reader() {
+    B67=$program $run --test --test-reporter=tap "$top"/web/tests/*.test.js >"$room/tests" 2>&1 || { cat "$room/tests"; return 1; }
+    echo "$(sed -n 's/^# pass //p' "$room/tests") tests passed"
+}
+page() {
+    sh "$top/scripts/web.sh" "$room/b67.html" || return
+    if cmp -s "$room/b67.html" "$page"; then echo 'made again, with the same bytes'; else
+        echo 'made again, with OTHER bytes than web/b67.html'
+        return 1
     fi
-else
-    echo "page: not made again: $(tail -1 "$room/said")"
-fi
+}
+module() {
+    $run "$top/web/check/compare.mjs" "$page" "$program" "$top/decks"
+}
 
-$run "$top/web/check/compare.mjs" "$page" "$program" "$top/decks" || failed=1
-[ $failed = 0 ]
+differ='' lacking='' begun=$(date +%s)
+for part in heap reader page module; do
+    since=$(date +%s) status=0
+    $part >"$room/said" 2>&1 || status=$?
+    case $status in
+    0) ;;
+    2) lacking="$lacking $part" ;;
+    *) differ="$differ $part" && sed '$d' "$room/said" ;;
+    esac
+    printf '%-7s %s (%d s)\n' "$part" "$(tail -1 "$room/said")" $(($(date +%s) - since))
+done
+took="$(($(date +%s) - begun)) s"
+if [ -n "$differ" ]; then
+    echo "check-web: DIFFERENT:$differ${lacking:+; not tried:$lacking} ($took)"
+    exit 1
+elif [ -n "$lacking" ]; then
+    echo "check-web: the same, but not tried:$lacking ($took)"
+    exit 2
+fi
+echo "check-web: all the same ($took)"

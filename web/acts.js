@@ -1,6 +1,7 @@
 // What each key and each button of the steps does.
 import {byId} from './elements.js';
 import {cardKey} from './search.js';
+import {nextChoice} from './follow.js';
 
 const [SMALLEST, LARGEST] = [11, 28];
 
@@ -26,6 +27,12 @@ function toggleTwo(page) {
   });
 }
 
+// Stops what is computed; where nothing is, closes the lessons.
+function escape(page) {
+  if (!byId('busy').hidden) return page.guard(() => page.stopped());
+  if (!byId('lessons').hidden) toggleLessons(page);
+}
+
 // Acts that need no machine.
 const ALWAYS = {
   larger: page => resize(page, 1),
@@ -34,14 +41,15 @@ const ALWAYS = {
   help: () => byId('help').showModal(),
   two: page => toggleTwo(page),
   edit: page => page.show('deck'),
+  escape,
 };
 
 // Acts over the moment that is shown.
 const STEPS = {
-  forth: page => page.guard(() => page.goTo(page.session.wanted + 1)),
-  back: page => page.guard(() => page.goTo(page.session.wanted - 1)),
-  tenForth: page => page.guard(() => page.goTo(page.session.wanted + 10)),
-  tenBack: page => page.guard(() => page.goTo(page.session.wanted - 10)),
+  forth: page => page.goBy(1),
+  back: page => page.goBy(-1),
+  tenForth: page => page.goBy(10),
+  tenBack: page => page.goBy(-10),
   first: page => page.guard(() => page.goTo(0)),
   last: page => page.guard(async () => page.goTo(await page.ask('end', {}))),
   before: page => page.guard(async () => page.goTo(await page.ask('firstFault', {}) - 1)),
@@ -50,6 +58,8 @@ const STEPS = {
   line: (page, way) => page.find('line', way),
   paging: (page, way) => page.find('paging', way),
   task: (page, way) => page.find('task', way),
+  store: (page, way) => page.find('store', way),
+  follow: (page, way) => page.follows(nextChoice(page.session.state, page.view.followed, way)),
   fault: (page, way) => page.find('fault', way),
   stopped: (page, way) => page.find('stopped', way),
   stoppedBack: page => page.find('stopped', -1),

@@ -25,6 +25,7 @@ function wentOut(thing, before) {
 // A name for a cell as couples name it, with its record.
 export function cellName(copy) {
   const [task, record, at] = copy.cell.split(' ');
+  if (copy.level < -1) return `cell ${at} of record ${record} of task ${task}`;
   return copy.level < 0 ? `cell ${at} of the open record ${record} of task ${task}` : `cell ${copy.level},${at}, in record ${record} of task ${task}`;
 }
 
@@ -72,13 +73,13 @@ function cellsByName(state) {
   return cells;
 }
 
-// Cells that hold something else than before, but for the result on top of the stack.
+// Cells that hold something else than before, but for the result on top of the stack. `into` names the cell, or the array of an element.
 function stored(before, after) {
   const old = cellsByName(before), running = after.tasks.find(task => task.name === after.last)?.records.at(-1), top = running?.cells.at(-1);
   return [...cellsByName(after)].flatMap(([name, cell]) => {
     const was = old.get(name);
     if (!was || cell.address === top?.address || cell.tag === 5 || was.text === cell.text && was.tag === cell.tag) return [];
-    return [{kind: 'cell', text: `${cellName(cell)}: ${was.text} becomes ${cell.text}`}];
+    return [{kind: 'cell', into: cell.cell, text: `${cellName(cell)}: ${was.text} becomes ${cell.text}`}];
   });
 }
 
@@ -93,7 +94,7 @@ function storedAgain(before, after) {
   const cell = found?.record.cells.find(it => it.at === Number(by.kind === 'NAME' ? at : by.to.split(' ').pop()));
   const was = cell && cellsByName(before).get(`${found.task} ${found.record.number} ${found.record.level} ${cell.at}`);
   if (cell?.kind !== 'NUM' || was?.text !== cell.text) return [];
-  return [{kind: 'cell', text: `${cellName(was)}: ${cell.text} is stored, and it was ${cell.text} already`}];
+  return [{kind: 'cell', into: was.cell, text: `${cellName(was)}: ${cell.text} is stored, and it was ${cell.text} already`}];
 }
 
 // The cells and the records that are new or hold something else: their names, for the drawing.
@@ -121,7 +122,7 @@ function elements(before, after) {
     const then = new Map(was.numbers);
     const now = new Map(thing.numbers);
     return [...new Set([...then.keys(), ...now.keys()])].filter(n => then.get(n) !== now.get(n))
-      .map(n => ({kind: 'cell', text: `element ${n} of ${thing.text}: ${then.get(n) ?? 0} becomes ${now.get(n) ?? 0}`}));
+      .map(n => ({kind: 'cell', into: thing.cell + thing.kind, text: `element ${n} of ${thing.text}: ${then.get(n) ?? 0} becomes ${now.get(n) ?? 0}`}));
   });
 }
 

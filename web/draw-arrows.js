@@ -52,10 +52,11 @@ function below(arrow, from, to, lanes, drawing) {
   return {d, tip: joins ? null : [end, to.y, 1], dot: joins ? [x, lane.y] : null};
 }
 
+// A part of the drawing, by its key.
 function path(kind, {d, tip, dot}) {
-  return drawn('g', {class: `arrow ${kind}`}, drawn('path', {d}),
+  return [`${kind} ${d} ${tip} ${dot}`, () => drawn('g', {class: `arrow ${kind}`}, drawn('path', {d}),
     tip && drawn('path', {class: 'tip', d: `M${tip[0]} ${tip[1]}l${tip[2] * 8} -4.5v9z`}),
-    dot && drawn('circle', {class: 'tip', cx: dot[0], cy: dot[1], r: 2.6}));
+    dot && drawn('circle', {class: 'tip', cx: dot[0], cy: dot[1], r: 2.6}))];
 }
 
 export function drawArrows(arrows, drawing) {
@@ -70,11 +71,12 @@ export function drawArrows(arrows, drawing) {
   return {paths: paths.filter(Boolean), lowest: drawing.lowest + 7 * lanes.size, shown: shown.length};
 }
 
-export function legend(x, y, shown, all) {
+// What the four kinds look like, below the picture's origin.
+export function legend(shown, all) {
   const parts = ARROWS.map(([kind, name], k) => {
-    const left = x + 190 * (k % 2), at = y + 20 * Math.floor(k / 2);
+    const left = 190 * (k % 2), at = 20 * Math.floor(k / 2);
     return drawn('g', {class: `arrow ${kind}`}, drawn('path', {d: `M${left} ${at}h26`}), drawn('text', {x: left + 32, y: at + 4.5, class: 'dim small'}, name));
   });
-  const note = shown < all ? drawn('text', {x, y: y + 44.5, class: 'warn small'}, `${shown} of ${all} arrows are drawn (key a: all)`) : null;
-  return drawn('g', {}, ...parts, ...(note ? [note] : []));
+  const note = shown < all ? drawn('text', {x: 0, y: 44.5, class: 'warn small'}, `${shown} of ${all} arrows are drawn (key a: all)`) : null;
+  return drawn('g', {}, parts, note);
 }

@@ -1,5 +1,5 @@
 // The cards of the deck with the one just made and the next, and the lines that were printed.
-import {element, put, taskClass} from './elements.js';
+import {element, put, putKept, taskClass} from './elements.js';
 import {cardsOf} from './cards.js';
 import {cardKey} from './search.js';
 import {explained} from './messages.js';
@@ -42,20 +42,18 @@ function markStop(row, stops) {
 
 // Marks the card just made, the next one and the breakpoints, and brings the first one into view.
 export function markCards(box, state, stops) {
+  const now = rowOf(box, cardKey(state.operator)), next = rowOf(box, cardKey(state.next)), shown = now ?? next;
+  const {scrollTop, clientHeight} = box, at = shown?.offsetTop; // asked before anything changes
   for (const row of box.querySelectorAll('.now, .next')) {
     row.classList.remove('now', 'next');
     row.removeAttribute('aria-current');
   }
-  const now = rowOf(box, cardKey(state.operator)), next = rowOf(box, cardKey(state.next));
   now?.classList.add('now');
   now?.setAttribute('aria-current', 'step');
   next?.classList.add('next');
   for (const row of box.querySelectorAll('.stopped')) if (!stops.has(row.dataset.key)) markStop(row, false);
   for (const key of stops) markStop(rowOf(box, key), true);
-  const shown = now ?? next;
-  if (!shown) return;
-  const {offsetTop} = shown, {scrollTop, clientHeight} = box;
-  if (offsetTop < scrollTop + 20 || offsetTop > scrollTop + clientHeight - 60) box.scrollTop = offsetTop - clientHeight / 2;
+  if (shown && (at < scrollTop + 20 || at > scrollTop + clientHeight - 60)) box.scrollTop = at - clientHeight / 2;
 }
 
 // A line, in the colour of its task; the meaning of a fault below it.
@@ -65,10 +63,14 @@ export function lineRow(line, rows, fresh) {
   return [element('div', {class: `line ${task} ${fresh ? 'fresh' : ''}`}, line), said ? element('div', {class: 'meaning'}, said.means, ' ', said.advice) : null];
 }
 
+// The lines that were printed, the last one in view.
 export function showPrinted(box, {total, shown}, fresh) {
-  const hidden = total - shown.length;
-  put(box, hidden ? element('div', {class: 'dim'}, `… ${hidden.toLocaleString('en')} lines before …`) : null,
-    shown.map((line, k) => lineRow(line, null, k >= shown.length - fresh)),
-    total ? null : element('div', {class: 'dim'}, 'Nothing yet.'));
-  box.scrollTop = box.scrollHeight;
+  const hidden = total - shown.length, last = box.lastChild;
+  const lines = shown.map((line, k) => {
+    const isFresh = k >= shown.length - fresh;
+    return [`${hidden + k} ${isFresh} ${line}`, () => lineRow(line, null, isFresh)[0]];
+  });
+  putKept(box, [...(hidden ? [[`hidden ${hidden}`, () => element('div', {class: 'dim'}, `… ${hidden.toLocaleString('en')} lines before …`)]] : []),
+    ...lines, ...(total ? [] : [['none', () => element('div', {class: 'dim'}, 'Nothing yet.')]])]);
+  if (box.lastChild !== last) box.scrollTop = box.scrollHeight;
 }

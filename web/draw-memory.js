@@ -1,5 +1,5 @@
 // Core and backing as a bar, a table, and each array with its place and its numbers.
-import {chip, drawn, element, put} from './elements.js';
+import {chip, drawn, element, putKept} from './elements.js';
 import {countOf} from './words.js';
 import {cellName} from './changes.js';
 import {spansText} from './memory.js';
@@ -18,16 +18,19 @@ export function changesList({changes, status, count}) {
 }
 
 // The bar: each part is as wide as the root of its words, so that small ones are seen.
-function bar(state) {
-  const sum = state.areas.reduce((all, area) => all + Math.sqrt(area.words), 0);
+function barParts(areas) {
+  const sum = areas.reduce((all, area) => all + Math.sqrt(area.words), 0);
   let x = 0;
-  const parts = state.areas.flatMap(area => {
+  return areas.map(area => {
     const width = Math.sqrt(area.words) / sum * 1000, at = x;
     x += width;
-    const box = drawn('rect', {x: at, y: 1, width: Math.max(1.5, width - 1.5), height: 28, class: `area ${area.kind}`}, drawn('title', {}, areaText(area)));
-    return area.used ? [box, drawn('rect', {x: at, y: 1, width: Math.max(2, (width - 1.5) * area.used / area.words), height: 28, class: 'area used'})] : [box];
+    return [JSON.stringify([area, at, width]), () => areaBox(area, at, width)];
   });
-  return drawn('svg', {class: 'bar', viewBox: '0 0 1000 30', preserveAspectRatio: 'none', role: 'img', 'aria-label': `Core of ${state.coreWords} words`}, ...parts);
+}
+
+function areaBox(area, x, width) {
+  return drawn('g', {}, drawn('rect', {x, y: 1, width: Math.max(1.5, width - 1.5), height: 28, class: `area ${area.kind}`}, drawn('title', {}, areaText(area))),
+    area.used ? drawn('rect', {x, y: 1, width: Math.max(2, (width - 1.5) * area.used / area.words), height: 28, class: 'area used'}) : null);
 }
 
 function areaText(area) {
@@ -40,18 +43,17 @@ function areaRow(area) {
     element('td', {}, element('span', {class: `swatch ${area.kind}`}), ` ${area.text}, ${size}`));
 }
 
-// The table of core; of many areas the last ones.
-function areaTable(state) {
-  const many = state.areas.length - MOST_AREAS, shown = many > 0 ? [...state.areas.slice(0, 4), ...state.areas.slice(4 + many)] : state.areas;
-  const rows = shown.map(areaRow);
-  if (many > 0) rows.splice(4, 0, element('tr', {}, element('td', {colspan: 3, class: 'dim'}, `… ${many} more …`)));
-  return element('table', {}, element('caption', {class: 'unseen'}, 'What lies in core'), rows);
+// The rows of the table of core; of many areas the last ones.
+function areaRows(areas) {
+  const many = areas.length - MOST_AREAS, shown = many > 0 ? [...areas.slice(0, 4), ...areas.slice(4 + many)] : areas;
+  const rows = shown.map(area => [JSON.stringify(area), () => areaRow(area)]);
+  if (many > 0) rows.splice(4, 0, [`more ${many}`, () => element('tr', {}, element('td', {colspan: 3, class: 'dim'}, `… ${many} more …`))]);
+  return rows;
 }
 
 // The numbers of an array: all of a short one, else those that aren't 0, each with its index.
-function numbersText(thing, old) {
-  const before = new Map(old?.numbers ?? thing.numbers), now = new Map(thing.numbers), changed = n => old && before.get(n) !== now.get(n);
-  const mark = (n, text) => (changed(n) ? element('mark', {}, text) : text);
+function numbersText(thing, changed) {
+  const now = new Map(thing.numbers), mark = (n, text) => (changed.has(n) ? element('mark', {}, text) : text);
   if (thing.words <= SHORT_ARRAY) return Array.from({length: thing.words}, (_, n) => [n ? ' ' : '', mark(n, now.get(n) ?? '0')]);
   if (!thing.numbers.length) return 'all 0';
   const shown = thing.numbers.slice(0, NUMBERS_SHOWN).map(([n, number]) => [element('span', {class: 'dim'}, `[${n}] `), mark(n, number), '  ']);
@@ -64,24 +66,39 @@ function copiesLine(thing) {
   return element('div', {class: 'small dim'}, `${thing.copies.length === 1 ? 'copy in' : 'copies in'} ${texts.join('; ')}${thing.copies.length > 6 ? '; …' : ''}`);
 }
 
-function thingRow(thing, old) {
-  const place = thing.at ? chip('in', `in core at ${thing.at}`) : chip(thing.chain.length ? 'out' : 'quiet', thing.chain.length ? 'out of core' : 'never used');
-  const sectors = thing.chain.length ? chip('quiet', `${thing.chain.length > 1 ? 'sectors' : 'sector'} ${spansText(thing.chain)}`) : null;
-  return element('li', {}, element('strong', {}, thing.text), `, ${countOf(thing.words, 'word')} `, place, ' ', sectors,
-    thing.kind === 'code' ? null : element('div', {class: 'numbers'}, numbersText(thing, old)), copiesLine(thing));
+// The indexes at which an array holds another number than before.
+function changedIn(thing, old) {
+  if (!old) return new Set();
+  const then = new Map(old.numbers), now = new Map(thing.numbers);
+  return new Set([...then.keys(), ...now.keys()].filter(n => then.get(n) !== now.get(n)));
 }
 
-function sectorMap(state) {
-  const owner = new Map(state.things.flatMap((thing, k) => thing.chain.map(sector => [sector, {thing, k}])));
+// An array's name is a button, by which it is followed.
+function nameOf(thing, followed) {
+  const texts = [element('strong', {}, thing.text), `, ${countOf(thing.words, 'word')} `];
+  if (thing.kind === 'code') return texts;
+  return element('button', {type: 'button', class: 'name', 'data-follow': thing.cell + thing.kind, 'aria-pressed': String(followed), title: 'follow it: key n goes to the next store'}, texts);
+}
+
+function thingRow(thing, changed, followed) {
+  const place = thing.at ? chip('in', `in core at ${thing.at}`) : chip(thing.chain.length ? 'out' : 'quiet', thing.chain.length ? 'out of core' : 'never used');
+  const sectors = thing.chain.length ? chip('quiet', `${thing.chain.length > 1 ? 'sectors' : 'sector'} ${spansText(thing.chain)}`) : null;
+  return element('li', {}, nameOf(thing, followed), ' ', place, ' ', sectors,
+    thing.kind === 'code' ? null : element('div', {class: 'numbers'}, numbersText(thing, changed)), copiesLine(thing));
+}
+
+// The sectors, those in use with a letter for each thing.
+function sectorMap(things, used) {
+  const owner = new Map(things.flatMap((thing, k) => thing.chain.map(sector => [sector, {thing, k}])));
   const last = Math.min(480, Math.ceil(Math.max(1, ...owner.keys()) / SECTORS_IN_ROW) * SECTORS_IN_ROW);
   const parts = Array.from({length: last}, (_, n) => {
     const found = owner.get(n + 1), x = n % SECTORS_IN_ROW * 40, y = Math.floor(n / SECTORS_IN_ROW) * 36;
     const title = drawn('title', {}, `sector ${n + 1}: ${found ? found.thing.text : 'free'}`);
     return [drawn('rect', {x: x + 1, y: y + 1, width: 38, height: 33, class: `area ${found?.thing.kind ?? 'hole'}`}, title),
       found ? drawn('text', {x: x + 12, y: y + 25, class: 'letter'}, String.fromCharCode(97 + found.k % 26)) : null];
-  }).flat();
-  const height = Math.ceil(last / SECTORS_IN_ROW) * 36, label = `${state.sectorsUsed} sectors of the backing are in use`;
-  return drawn('svg', {class: 'sectors', viewBox: `0 0 960 ${height}`, role: 'img', 'aria-label': label}, ...parts);
+  });
+  const height = Math.ceil(last / SECTORS_IN_ROW) * 36, label = `${used} sectors of the backing are in use`;
+  return drawn('svg', {class: 'sectors', viewBox: `0 0 960 ${height}`, role: 'img', 'aria-label': label}, parts);
 }
 
 function readRow({job, numbers, next}) {
@@ -90,18 +107,38 @@ function readRow({job, numbers, next}) {
   return element('div', {class: 'numbers'}, `job ${job}:${from ? ' …' : ''}`, shown, next < numbers.length ? '' : ' (all are read)');
 }
 
-// Fills a box with the memory of a state; what differs from the state before it is marked.
-export function showMemory(box, state) {
+// A list of things as a part, filled when it stands in the box.
+function listPart(key, title, things) {
+  return things.length ? [[`${key} title`, () => element('h2', {}, title)], [key, () => element('ul', {class: 'things'})]] : [];
+}
+
+function thingParts(things, old, followed) {
+  return things.map(thing => {
+    const changed = changedIn(thing, old.get(thing.cell + thing.kind)), is = thing.cell + thing.kind === followed;
+    return [JSON.stringify([thing, [...changed], is]), () => thingRow(thing, changed, is)];
+  });
+}
+
+// Fills a box with the memory of a state; what differs from the state before it is marked, and what didn't change stays as it is.
+export function showMemory(box, state, followed) {
+  const title = `Core of ${countOf(state.coreWords, 'word')}`;
   if (!state.areas.length) {
-    put(box, element('h2', {}, `Core of ${countOf(state.coreWords, 'word')}`), element('p', {class: 'dim'}, 'No machine is left.'));
+    putKept(box, [[title, () => element('h2', {}, title)], ['none', () => element('p', {class: 'dim'}, 'No machine is left.')]]);
     return;
   }
-  const old = new Map((state.before?.things ?? []).map(thing => [thing.cell + thing.kind, thing]));
+  const old = new Map((state.before?.things ?? []).map(thing => [thing.cell + thing.kind, thing])), used = state.sectorsUsed;
   const arrays = state.things.filter(thing => thing.kind !== 'code'), code = state.things.filter(thing => thing.kind === 'code');
-  const list = things => element('ul', {class: 'things'}, things.map(thing => thingRow(thing, old.get(thing.cell + thing.kind))));
-  put(box, element('h2', {}, `Core of ${countOf(state.coreWords, 'word')}`), bar(state), areaTable(state),
-    arrays.length ? [element('h2', {}, 'Arrays and data rows'), list(arrays)] : null,
-    state.numbers.length ? [element('h2', {}, 'Numbers for READ'), state.numbers.map(readRow)] : null,
-    element('h2', {}, `Backing: ${countOf(state.sectorsUsed, 'sector')} in use`), sectorMap(state),
-    element('h2', {}, 'Segments'), list(code));
+  const chains = JSON.stringify(state.things.map(thing => [thing.text, thing.chain]));
+  const sectors = `Backing: ${countOf(used, 'sector')} in use`;
+  const nodes = putKept(box, [[title, () => element('h2', {}, title)],
+    ['bar', () => drawn('svg', {class: 'bar', viewBox: '0 0 1000 30', preserveAspectRatio: 'none', role: 'img', 'aria-label': title})],
+    ['areas', () => element('table', {}, element('caption', {class: 'unseen'}, 'What lies in core'), element('tbody'))],
+    ...listPart('arrays', 'Arrays and data rows', arrays),
+    ...(state.numbers.length ? [['numbers', () => element('h2', {}, 'Numbers for READ')]] : []),
+    ...state.numbers.map(job => [JSON.stringify(job), () => readRow(job)]),
+    [sectors, () => element('h2', {}, sectors)], [chains, () => sectorMap(state.things, used)], ...listPart('code', 'Segments', code)]);
+  putKept(nodes[1], barParts(state.areas));
+  putKept(nodes[2].lastChild, areaRows(state.areas));
+  if (arrays.length) putKept(nodes[4], thingParts(arrays, old, followed));
+  if (code.length) putKept(nodes.at(-1), thingParts(code, old, ''));
 }

@@ -1,10 +1,11 @@
 // The drawing of the stacks: a column of records for each task, from the bottom up; arrows are drawn by draw-arrows.js.
-import {drawn, taskClass} from './elements.js';
+import {drawn, put, putKept, set, taskClass} from './elements.js';
 import {INTRINSICS} from './operators.js';
 import {arrowsOf, drawArrows, legend} from './draw-arrows.js';
 
 const LEAST_SCALE = 0.85;
 const [ROW, CHARACTER, LEFT, GAP, MOST_ROWS] = [20, 7.9, 34, 56, 46];
+const [MOST_CELLS, LOWEST, TOPMOST] = [40, 8, 24]; // of a record; of more the lowest and the topmost ones are drawn
 
 function textAt(x, y, kind, ...text) {
   return drawn('text', {x, y, class: kind}, ...text);
@@ -22,39 +23,46 @@ function linkText(record) {
 }
 
 class StacksDrawing {
-  // `view` says what is folded and which arrows are drawn; `operators` name the cards of return words.
+  // `view` says what is folded and followed, and which arrows are drawn; `operators` name the cards of return words.
   constructor(state, operators, view) {
-    Object.assign(this, {state, operators, view, parts: [], records: new Map(), cells: new Map(), widths: [], lowest: 40, highest: 0});
+    Object.assign(this, {state, operators, view, parts: [], records: new Map(), cells: new Map(), lowest: 40, highest: 0});
     this.fresh = new Set(state.freshCells);
     this.tasks = [...state.tasks].sort((a, b) => a.name.localeCompare(b.name, 'en', {numeric: true}));
+  }
+
+  // Adds a part: what makes it at the origin, by a key that says all it depends on, and its place.
+  add(key, x, y, make) {
+    this.parts.push({key, place: `translate(${x} ${y})`, make: () => drawn('g', {}, make())});
   }
 
   draw() {
     let x = LEFT;
     this.tasks.forEach((task, column) => {
       const width = this.widthOf(task);
-      this.widths.push(width);
       this.drawTask(task, column, x, width);
       x += Math.max(width, task.condition.length * CHARACTER - 10) + GAP;
     });
     const arrows = arrowsOf(this.tasks);
     const {paths, lowest, shown} = drawArrows(arrows, this);
     const width = Math.max(x, 400), top = this.highest - 14, height = lowest + 80 - top;
-    return {width, height, top, parts: [...this.parts, ...paths, legend(LEFT, lowest + 20, shown, arrows.length)]};
+    this.add(`legend ${shown} ${arrows.length}`, LEFT, lowest + 20, () => legend(shown, arrows.length));
+    return {width, height, top, paths};
   }
 
+  // A width of whole steps, so that it is seldom another one.
   widthOf(task) {
     const texts = task.records.flatMap(record => [20 + 5.2 * record.display.length, this.linkLine(task, record).length + 2,
       ...record.cells.map(cell => shownText(cell).length + 11)]);
-    return Math.max(this.tasks.length > 2 ? 170 : 230, Math.max(...texts) * CHARACTER);
+    return Math.ceil(Math.max(this.tasks.length > 2 ? 170 : 230, Math.max(...texts) * CHARACTER) / 10) * 10;
   }
 
   // The stack of a child stands on the record to which its bottom record's static link leads.
   drawTask(task, column, x, width) {
     let y = (column && this.records.get(task.records[0].link)?.y) || 0;
     this.lowest = Math.max(this.lowest, y + 62);
-    this.parts.push(textAt(x, y + 19, `title ${taskClass(task.name)}`, `task ${task.name}${task.runs ? ' · runs' : ''}`),
-      textAt(x, y + 36, 'dim', task.condition), textAt(x, y + 53, 'dim', `next: ${this.placeText(task.name, task.next)}`));
+    const next = `next: ${this.placeText(task.name, task.next)}`, title = `task ${task.name}${task.runs ? ' · runs' : ''}`;
+    this.add([title, task.condition, next].join('|'), x, y, () => [textAt(0, 19, `title ${taskClass(task.name)}`, title),
+      textAt(0, 36, 'dim', task.condition), textAt(0, 53, 'dim', next)]);
     this.cells.set(`task ${task.name}`, {x, width, y: y + 15, column});
     for (const part of this.folded(task)) {
       y -= Array.isArray(part) ? this.drawFold(task, part, column, x, y, width) : this.drawRecord(task, part, column, x, y, width);
@@ -76,7 +84,7 @@ class StacksDrawing {
 
   // The records of a task; of a long stack those that nothing near the top needs are put together.
   folded(task) {
-    const rows = task.records.reduce((sum, record) => sum + record.cells.length + 2, 0);
+    const rows = task.records.reduce((sum, record) => sum + Math.min(record.cells.length, MOST_CELLS) + 2, 0);
     if (!this.view.folds || rows <= MOST_ROWS) return task.records;
     const top = task.records.length, last = task.records.slice(-3);
     const wanted = new Set(last.flatMap(record => [record.link, ...record.cells.map(cell => cell.to.split(' ').slice(0, 2).join(' '))]));
@@ -92,75 +100,120 @@ class StacksDrawing {
 
   drawFold(task, records, column, x, y, width) {
     const at = {x, width, y: y - 10, column};
-    this.parts.push(drawn('rect', {x, y: y - 24, width, height: 21, rx: 3, class: 'fold'}), textAt(x + 8, y - 9, 'dim', `… ${records.length} records (z shows them) …`));
+    this.add(`fold ${task.name} ${records.length} ${width}`, x, y, () => [drawn('rect', {y: -24, width, height: 21, rx: 3, class: 'fold'}),
+      textAt(8, -9, 'dim', `… ${records.length} records (z shows them) …`)]);
     for (const record of records) {
       this.records.set(`${task.name} ${record.number}`, at);
-      for (const cell of record.cells) this.cells.set(`${task.name} ${record.number} ${cell.at}`, at);
+      for (const cell of record.cells) this.cells.set(`${task.name} ${record.number} ${cell.at}`, {...at, folded: true});
     }
     return 28;
   }
 
+  // The cells of a record as rows from the bottom up; of very many those in the middle are one row.
+  rowsOf(record, id) {
+    const {cells} = record, hidden = cells.length - LOWEST - TOPMOST;
+    if (!this.view.folds || cells.length <= MOST_CELLS) return cells;
+    return cells.reduce((rows, cell, k) => {
+      const name = `${id} ${cell.at}`, seen = k < LOWEST || k >= LOWEST + hidden || name === this.view.followed || this.fresh.has(name);
+      if (seen) rows.push(cell);
+      else if (rows.at(-1)?.folded) rows.at(-1).folded.push(cell);
+      else rows.push({folded: [cell]});
+      return rows;
+    }, []);
+  }
+
   // Draws a record whose foot is at y; gives its height.
   drawRecord(task, record, column, x, y, width) {
-    const open = record.level < 0, height = (record.cells.length + (open ? 1 : 2)) * ROW, id = `${task.name} ${record.number}`;
-    const running = task.runs && !open && !task.records.some(it => it.level >= 0 && it.number > record.number);
-    this.parts.push(drawn('rect', {x, y: y - height, width, height, rx: 4, class: `record ${open ? 'open' : ''} ${running ? taskClass(task.name) : ''}`}));
+    const id = `${task.name} ${record.number}`, open = record.level < 0, foot = open ? 1 : 2, rows = this.rowsOf(record, id);
     this.records.set(id, {x, width, y: y - ROW / 2, column});
-    this.drawTitle(record, x, y - ROW, width, this.fresh.has(id));
-    let at = y - ROW;
-    if (!open) {
-      at -= ROW;
-      this.parts.push(textAt(x + 6, at + 14.5, 'dim', this.linkLine(task, record)));
-    }
-    for (const cell of record.cells) {
-      at -= ROW;
-      this.cells.set(`${id} ${cell.at}`, {x, width, y: at + ROW / 2, column});
-      this.drawCell(cell, open ? '' : `${record.level},${cell.at}`, x, at, width, this.fresh.has(`${id} ${cell.at}`));
-    }
-    return height + 6;
+    rows.forEach((row, k) => {
+      const at = {x, width, y: y - (foot + k + 0.5) * ROW, column};
+      if (row.folded) for (const cell of row.folded) this.cells.set(`${id} ${cell.at}`, {...at, folded: true});
+      else this.cells.set(`${id} ${row.at}`, at);
+    });
+    const running = task.runs && !open && !task.records.some(it => it.level >= 0 && it.number > record.number);
+    const shown = {id, number: record.number, level: record.level, display: record.display, link: this.linkLine(task, record), width, foot,
+      kind: `record ${open ? 'open' : ''} ${running ? taskClass(task.name) : ''}`, fresh: this.fresh.has(id), rows: rows.map(row => this.shownRow(row, id))};
+    this.add(JSON.stringify(shown), x, y, () => recordParts(shown));
+    return (rows.length + foot) * ROW + 6;
   }
 
-  drawTitle(record, x, y, width, fresh) {
-    const open = record.level < 0;
-    this.parts.push(drawn('rect', {x: x + 1, y, width: width - 2, height: ROW - 1, class: fresh ? 'fresh' : 'head'}),
-      textAt(x + 6, y + 14.5, 'strong', open ? `record ${record.number}, open` : `record ${record.number}, level ${record.level}`));
-    record.display.forEach((level, k) => this.parts.push(
-      drawn('rect', {x: x + width - 42 - 40 * k, y: y + 2, width: 38, height: 16, rx: 8, class: 'display'}),
-      textAt(x + width - 37 - 40 * k, y + 14.5, 'display-text', `D[${level}]`)));
-  }
-
-  drawCell(cell, name, x, y, width, fresh) {
-    if (fresh) this.parts.push(drawn('rect', {x: x + 1, y: y + 1, width: width - 2, height: ROW - 1, class: 'fresh'}));
-    this.parts.push(drawn('path', {d: `M${x} ${y + ROW}h${width}`, class: 'rule'}), textAt(x + 6, y + 14.5, 'dim', name),
-      drawn('rect', {x: x + 52, y: y + 3, width: 15, height: 14, rx: 2, class: `tag tag-${cell.tag}`}), textAt(x + 55.5, y + 14.5, 'tag-text', String(cell.tag)),
-      textAt(x + 74, y + 14.5, '', shownText(cell)));
+  shownRow(row, id) {
+    if (row.folded) return {folded: row.folded.length};
+    const name = `${id} ${row.at}`;
+    return {at: row.at, tag: row.tag, text: shownText(row), fresh: this.fresh.has(name), followed: this.view.followed === name};
   }
 
   // S, the top word, and F, the topmost mark.
   drawRegisters(task, x, y) {
     const mark = this.records.get(`${task.name} ${task.records.length}`).y, together = Math.abs(mark - y - 10) < 4;
-    this.parts.push(textAt(x, y + 15, 'dim small', together ? '◂ S, F' : '◂ S'));
-    if (!together) this.parts.push(textAt(x, mark + 5, 'dim small', '◂ F'));
+    const text = together ? '◂ S, F' : '◂ S';
+    this.add(`S ${task.name} ${text}`, x, y, () => textAt(0, 15, 'dim small', text));
+    if (!together) this.add(`F ${task.name}`, x, mark, () => textAt(0, 5, 'dim small', '◂ F'));
   }
 }
 
-// Puts the drawing into its box, at the size that the letters have, with the running stack in view.
-export function showStacks(box, state, operators, view) {
-  if (!state.tasks.length) {
-    box.replaceChildren(noMachine(state));
-    return;
-  }
-  const {clientWidth, clientHeight, scrollLeft, scrollTop} = box;
-  const drawing = new StacksDrawing(state, operators, view), {width, height, top, parts} = drawing.draw();
+// A record over its foot at the origin: its title, where it leads and returns to, and its cells.
+function recordParts({number, level, display, link, width, foot, kind, fresh, rows}) {
+  const height = (rows.length + foot) * ROW;
+  return [drawn('rect', {y: -height, width, height, rx: 4, class: kind}),
+    drawn('rect', {x: 1, y: -ROW, width: width - 2, height: ROW - 1, class: fresh ? 'fresh' : 'head'}),
+    textAt(6, -5.5, 'strong', foot === 1 ? `record ${number}, open` : `record ${number}, level ${level}`),
+    display.map((at, k) => [drawn('rect', {x: width - 42 - 40 * k, y: 2 - ROW, width: 38, height: 16, rx: 8, class: 'display'}),
+      textAt(width - 37 - 40 * k, -5.5, 'display-text', `D[${at}]`)]),
+    foot === 2 ? textAt(6, -ROW - 5.5, 'dim', link) : null,
+    rows.map((row, k) => (row.folded ? foldParts(row.folded, -(foot + k + 1) * ROW, width) : cellParts(row, foot === 1 ? '' : `${level},${row.at}`, -(foot + k + 1) * ROW, width)))];
+}
+
+function foldParts(many, y, width) {
+  return [drawn('rect', {x: 1, y: y + 1, width: width - 2, height: ROW - 1, class: 'fold'}), textAt(8, y + 14.5, 'dim', `… ${many} cells (z shows them) …`)];
+}
+
+function cellParts({tag, text, fresh, followed}, name, y, width) {
+  return [fresh ? drawn('rect', {x: 1, y: y + 1, width: width - 2, height: ROW - 1, class: 'fresh'}) : null,
+    drawn('path', {d: `M0 ${y + ROW}h${width}`, class: 'rule'}), textAt(6, y + 14.5, 'dim', name),
+    drawn('rect', {x: 52, y: y + 3, width: 15, height: 14, rx: 2, class: `tag tag-${tag}`}), textAt(55.5, y + 14.5, 'tag-text', String(tag)),
+    textAt(74, y + 14.5, '', text),
+    followed ? drawn('rect', {x: 1.5, y: y + 1.5, width: width - 3, height: ROW - 3, class: 'followed'}) : null];
+}
+
+const pictures = new WeakMap(); // by its box: the picture's element, what is drawn, and its size
+
+// The picture of a box, empty at first.
+function pictureOf(box) {
+  const kept = pictures.get(box);
+  if (kept?.svg.parentNode === box) return kept;
+  const made = {svg: drawn('svg', {role: 'img'}, drawn('g'), drawn('g'))};
+  put(box, made.svg);
+  pictures.set(box, made);
+  return made;
+}
+
+// Puts the drawing into its box, at the size that the letters have, with the running stack in view. What the box measures was asked
+// before anything was drawn, since an answer in between costs a layout of the page.
+export function showStacks(box, state, operators, view, {clientWidth, clientHeight, scrollLeft, scrollTop}) {
+  if (!state.tasks.length) return put(box, noMachine(state));
+  const drawing = new StacksDrawing(state, operators, view), {width, height, top, paths} = drawing.draw();
   const size = Math.min(1, Math.max(LEAST_SCALE, (clientWidth - 26) / width)) * view.size / 14;
   const full = Math.max(height, (clientHeight - 24) / size), above = top - (full - height);
-  const picture = drawn('svg', {width: width * size, height: full * size, viewBox: `0 ${above} ${width} ${full}`, role: 'img',
-    'aria-label': spoken(state)}, ...parts);
-  box.replaceChildren(picture);
+  const picture = pictureOf(box), {svg} = picture;
+  Object.assign(picture, {cells: drawing.cells, size, above});
+  for (const [name, value] of Object.entries({width: width * size, height: full * size, viewBox: `0 ${above} ${width} ${full}`})) set(svg, name, value);
+  svg.setAttribute('aria-label', spoken(state));
+  putKept(svg.firstChild, drawing.parts.map(({key, make}) => [key, make])).forEach((node, k) => set(node, 'transform', drawing.parts[k].place));
+  putKept(svg.lastChild, paths);
   const running = drawing.tasks.find(task => task.runs), at = running && drawing.records.get(`${running.name} 1`);
   const inView = at && at.x * size >= scrollLeft && (at.x + at.width) * size <= scrollLeft + clientWidth;
   if (at && !inView) box.scrollLeft = Math.max(0, at.x * size - 60);
   if (scrollTop) box.scrollTop = 0;
+}
+
+// The name of the cell at a place of the window; null if there is none.
+export function cellAt(box, {clientX, clientY}) {
+  const {svg, cells, size, above} = pictureOf(box), corner = svg.getBoundingClientRect();
+  const x = (clientX - corner.left) / size, y = (clientY - corner.top) / size + above;
+  const found = [...(cells ?? [])].find(([name, it]) => !it.folded && !name.startsWith('task') && Math.abs(it.y - y) <= ROW / 2 && x >= it.x && x <= it.x + it.width);
+  return found ? found[0] : null;
 }
 
 function noMachine(state) {

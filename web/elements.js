@@ -25,6 +25,29 @@ export function put(box, ...children) {
   box.replaceChildren(...children.flat(Infinity).filter(child => child !== null && child !== undefined && child !== false));
 }
 
+const keys = new WeakMap(); // of each node that putKept has made
+
+// Puts parts into a box, each a key and what makes its node. A node whose key is wanted again stays as it is, so of a picture only
+// that is drawn which has changed. Gives the nodes.
+export function putKept(box, parts) {
+  const old = new Map([...box.childNodes].map(node => [keys.get(node), node]));
+  const nodes = parts.map(([key, make]) => {
+    const found = old.get(key) ?? make();
+    old.delete(key);
+    keys.set(found, key);
+    return found;
+  });
+  const kept = new Set(nodes);
+  for (const node of [...box.childNodes]) if (!kept.has(node)) node.remove();
+  nodes.forEach((node, k) => { if (box.childNodes[k] !== node) box.insertBefore(node, box.childNodes[k] ?? null); });
+  return nodes;
+}
+
+// Sets an attribute that differs.
+export function set(node, name, value) {
+  if (node.getAttribute(name) !== String(value)) node.setAttribute(name, value);
+}
+
 export function chip(kind, text, title) {
   return element('span', {class: `chip ${kind}`, title}, text);
 }

@@ -5,7 +5,7 @@ import {openedText} from './opened.js';
 import {operatorsOf, cardsOf, jobsOf, segmentNames} from './cards.js';
 import {stateOf} from './state.js';
 import {changesOf, freshCells} from './changes.js';
-import {bytesOf, textOf} from './program.js';
+import {textOf} from './program.js';
 
 export const MOST_OPERATORS = 800000000;
 const [HALTED, BACKING_FULL, NO_OUTPUT] = [3, 5, 8];
@@ -38,12 +38,6 @@ export function least(test, from = 1) {
   return high;
 }
 
-// The cards of the image alone, for the comparison in tests.
-function textOfImage(printed) {
-  const text = textOf(bytesOf(printed)), start = startOfImage(bytesOf(printed));
-  return text.slice(start, text.indexOf('?END', start) + 5);
-}
-
 function linesOf(bytes) {
   return textOf(bytes).split('\n').slice(0, -1);
 }
@@ -62,7 +56,7 @@ function endOfLines(bytes) {
 export class Machine {
   // Each image is compared with what the proved `dump` prints of it, in a core above 65,536 words only in tests.
   constructor(program, deck, core, tests) {
-    Object.assign(this, {program, deck, core, tests, compares: tests || core <= MOST_COMPARED, compared: 0});
+    Object.assign(this, {program, deck, core, compares: tests || core <= MOST_COMPARED, compared: 0});
     Object.assign(this, {sectors: FEWEST_SECTORS, room: LEAST_ROOM, kept: new Map(), last: undefined});
     this.body = cardsOf(deck).filter(card => !card.startsWith('?HALT')).join('\n');
     this.operators = jobsOf(deck).map((_, k) => operatorsOf(program, deck, k + 1));
@@ -154,7 +148,7 @@ export class Machine {
     if (this.compares) this.compare(printed, dump);
     const task = nextTask(image), place = image.placeOf(task).join('@');
     const last = image.lastTask ? `${image.lastJob}.${image.lastTask}` : '';
-    return {count, lines, dump, last, image: this.tests ? textOfImage(printed) : null, ...stateOf(image, sectors, this.names),
+    return {count, lines, dump, last, ...stateOf(image, sectors, this.names),
       next: {task: task.name, place, ...this.operatorAt(task.job, place)}};
   }
 

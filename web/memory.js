@@ -53,29 +53,34 @@ function freeAreas(image, present, names) {
   return areas;
 }
 
-// The words of an array, from core or from its sectors, as pairs of index and number where they aren't 0.
-function numbersOf(read, words) {
+// The words of an array that aren't 0, as pairs of index and number: from core.
+function numbersInCore(image, at, words) {
   const numbers = [];
   for (let n = 0; n < words && numbers.length <= MOST_NUMBERS; n++) {
-    const word = read(n);
-    if (word % POWERS[48] !== 0) numbers.push([n, numberText(word % POWERS[48])]);
+    const word = image.content(at + n);
+    if (word) numbers.push([n, numberText(word)]);
   }
   return numbers;
 }
 
-function readerOfSectors(chain, sectors) {
-  const view = new DataView(sectors.buffer, sectors.byteOffset, sectors.byteLength);
-  return n => {
-    const sector = chain[Math.floor(n / SECTOR)];
-    return sector === undefined ? 0 : Number(view.getBigUint64(((sector - 1) * SECTOR + n % SECTOR) * 8, true));
-  };
+// The same from a chain of sectors, where a word has 8 bytes, the lowest first: two halves.
+function numbersInSectors(sectors, chain, words) {
+  const halves = new Uint32Array(sectors.buffer, sectors.byteOffset, sectors.byteLength / 4), numbers = [];
+  chain.forEach((sector, k) => {
+    const first = 2 * SECTOR * (sector - 1), many = Math.min(SECTOR, words - SECTOR * k);
+    for (let n = 0; n < many && numbers.length <= MOST_NUMBERS; n++) {
+      const low = halves[first + 2 * n], high = halves[first + 2 * n + 1] & 0xffff; // above 48 bits is the tag
+      if (low || high) numbers.push([SECTOR * k + n, numberText(low + high * POWERS[32])]);
+    }
+  });
+  return numbers;
 }
 
 function thingOf(image, {sectors, present, copies, names}, [address, kind]) {
   const word = image.content(address), words = bits(word, 39, 20), cell = image.cellAt(address), at = present.get(address) ?? 0;
   const chain = image.chain(at ? bits(image.content(at + words), 19, 0) : bits(word, 19, 0));
-  const read = at ? n => image.core[at + n] : readerOfSectors(chain, sectors);
-  return {cell, kind, text: ownerName(image, address, names), words, at, chain, numbers: kind === 'code' ? [] : numbersOf(read, words), copies: copies.get(cell) ?? []};
+  const numbers = kind === 'code' ? [] : at ? numbersInCore(image, at, words) : numbersInSectors(sectors, chain, words);
+  return {cell, kind, text: ownerName(image, address, names), words, at, chain, numbers, copies: copies.get(cell) ?? []};
 }
 
 export function memoryOf(image, sectors, copies, names) {

@@ -8,19 +8,23 @@ import {helpLine, helpTable} from './keys.js';
 import {perform} from './acts.js';
 import {lessonsList} from './lessons.js';
 import {showJobs, showNumbers, showResult} from './deck-view.js';
+import {nameOfFollowed} from './follow.js';
 import {showDeck, showLine, showMoment} from './step-view.js';
 
 const [LEAST_CORE, USUAL_CORE, MOST_CORE, MOST_FILLED, PLAY_MILLISECONDS] = [256, 4096, 1048575, 65536, 500];
+const [STATES_KEPT, AHEAD, ADDRESS_MILLISECONDS] = [60, [1, 2, -1, 3, -2, 4], 200]; // of states: how many are kept, and which are made ahead
 const NO_BROWSER = 'This browser can’t run the machine, which needs WebAssembly with memories of 64 bits: open this page in a Chrome, Edge or Firefox of 2025 or later.';
+const NO_JOB = 'This deck has no job, so nothing runs: choose a deck, or write ?JOB and its cards.';
 
 export class Page {
   constructor() {
     this.decks = decksOf(byId('decks').textContent.trim() + '\n');
     this.rows = tablesOf(byId('messages').textContent);
-    this.view = {size: parseFloat(getComputedStyle(document.documentElement).fontSize), folds: true, allArrows: false};
+    this.view = {size: parseFloat(getComputedStyle(document.documentElement).fontSize), folds: true, allArrows: false, followed: ''};
     this.session = null;
     this.ran = null;
     this.turn = 0;
+    this.going = null;
     this.working = 0;
     this.name = '';
   }
@@ -71,11 +75,13 @@ export class Page {
     }, 200);
   }
 
-  // What the worker tells unasked: progress, and briefs for the time line.
-  hear({progress, briefs, end, deck, core}) {
+  // What the worker tells unasked: progress, states made ahead, and briefs for the time line.
+  hear({progress, state, briefs, end, deck, core}) {
     if (progress) this.progress = progress;
     const {session} = this;
-    if (progress || !session?.state || session.text !== deck || session.core !== core) return;
+    if (progress || !session?.state || session.text !== deck) return;
+    if (state) return keepState(session, core, state);
+    if (session.core !== core) return;
     for (const brief of briefs) session.briefs.set(brief.count, brief);
     session.end = end ?? session.end;
     this.later();
@@ -152,6 +158,7 @@ export class Page {
     this.ran = {status: result.status, text: result.text};
     if (result.status === 2 && !refusedOf) result.place = await this.placeOf(text, result.text);
     showResult(this.rows, {words, ...result, text: words[0] === 'image' ? withoutImage(result.text) : result.text}, refusedOf);
+    if (result.status === 0 && /run|check/.test(words[0]) && !hasJob(text)) this.say(NO_JOB);
     if (result.status === 8) this.say('More is printed than the page takes, which is 16 MB: give the job a lower ?LIMIT, or let it print less.');
     return result;
   }
@@ -223,8 +230,9 @@ export class Page {
       if (!kept) {
         const {status} = await this.command(['check'], {sectors: 1});
         if (status) return this.show('deck');
-        if (!/^\?JOB/m.test(text)) throw new Error('This deck has no job: nothing would run. Choose a deck, or write ?JOB and its cards.');
-        this.session = {text, core, name: this.name, stops: new Set(), briefs: new Map(), end: null, other: null};
+        if (!hasJob(text)) throw new Error(NO_JOB);
+        this.session = {text, core, name: this.name, stops: new Set(), briefs: new Map(), states: new Map(), end: null, other: null, wanted: null, way: 1};
+        this.view.followed = '';
         const begun = await this.client.ask('operators', {deck: text, core});
         Object.assign(this.session, begun);
         if (begun.refused) return this.notBegun(begun.refused);
@@ -246,40 +254,92 @@ export class Page {
     return this.client.ask(name, {deck: this.session.text, core, ...data});
   }
 
-  // Shows the state at a count, unless another one is asked for meanwhile.
-  async goTo(count) {
-    const mine = ++this.turn;
-    this.session.wanted = Math.max(0, count);
-    await this.showState(mine, await this.ask('state', {count: Math.max(0, count), end: this.session.end}));
+  // The state at a count: one that was sent, or one that the worker makes now.
+  async stateAt(count, core) {
+    const {session} = this, {states, end} = session;
+    return states.get(`${core} ${Math.min(count, end ?? count)}`) ?? keepState(session, core, await this.ask('state', {count, end}, core));
   }
 
-  async showState(mine, state) {
-    const {session} = this;
-    const otherState = session.other === null ? null : await this.ask('state', {count: state.count}, session.other);
-    if (mine !== this.turn || session !== this.session) return;
+  // Shows the state at a count. While one is on its way a later wish replaces an earlier one, and the last one is shown.
+  goTo(count) {
+    this.turn++;
+    this.session.wanted = Math.max(0, count);
+    this.going ??= this.goes().finally(() => { this.going = null; });
+    return this.going;
+  }
+  async goes() {
+    try {
+      while (this.session && this.session.wanted !== null) {
+        const {session} = this, count = session.wanted, state = await this.stateAt(count, session.core);
+        if (session === this.session) await this.showState(state);
+        if (session.wanted === count) session.wanted = null;
+      }
+    } finally {
+      if (this.session) this.session.wanted = null;
+    }
+  }
+
+  // Goes so many operators forth or back, from where the last wish leads.
+  goBy(count) {
+    return this.guard(() => this.goTo((this.session.wanted ?? this.session.state.count) + count));
+  }
+
+  async showState(state) {
+    const {session} = this, {other} = session, otherState = other === null ? null : await this.stateAt(state.count, other);
+    if (session !== this.session) return;
     if (!session.state) showDeck(session, key => this.toggle(key));
+    session.way = session.state && state.count < session.state.count ? -1 : 1;
     this.show('step');
-    Object.assign(session, {state, otherState, wanted: state.count, end: state.end ?? session.end});
+    Object.assign(session, {state, otherState, end: state.end ?? session.end});
     session.briefs.set(state.count, state.brief);
     document.body.dataset.compared = state.compared;
-    byId('two').setAttribute('aria-pressed', String(session.other !== null));
+    byId('two').setAttribute('aria-pressed', String(other !== null));
     showMoment(session, this.view, this.rows);
-    history.replaceState(null, '', location.search + hashOf({deck: session.name, core: session.core, count: state.count, other: session.other}));
-    const {from, to} = session.window;
-    if (session.core <= MOST_FILLED) this.ask('fill', {from, to: Math.min(to, session.end ?? to)}).catch(() => {});
+    this.addresses ??= setTimeout(() => this.address(), ADDRESS_MILLISECONDS);
+    this.prepare();
   }
 
+  // Puts the moment that is shown into the address.
+  address() {
+    this.addresses = null;
+    const {name, core, state, other} = this.session ?? {};
+    if (state && document.body.dataset.view === 'step') history.replaceState(null, '', location.search + hashOf({deck: name, core, count: state.count, other}));
+  }
+
+  // Asks for the states around the one that is shown, first in the way that was gone, and for what the time line needs.
+  prepare() {
+    const {session} = this, {from, to} = session.window, most = session.end ?? Infinity, filled = session.core <= MOST_FILLED;
+    const counts = AHEAD.map(by => session.state.count + by * session.way).filter(count => count >= 0 && count <= most);
+    const cores = [session.core, session.other].filter(core => core !== null && core <= MOST_FILLED);
+    const ahead = counts.flatMap(count => cores.map(core => ({core, count}))).filter(({core, count}) => !session.states.has(`${core} ${count}`));
+    this.ask('soon', {ahead, from, to: filled ? Math.min(to, most) : from - 1}).catch(() => {});
+  }
+
+  // Goes to what a search finds; where there is nothing the page says so, and stays.
   find(kind, way) {
     return this.guard(async () => {
-      if (kind === 'stopped' && !this.session.stops.size) throw new Error('No breakpoint is set: click a card, or press b.');
+      const {session, view} = this, from = session.state.count;
+      if (kind === 'stopped' && !session.stops.size) throw new Error('No breakpoint is set: click a card, or press b.');
+      if (kind === 'store' && !view.followed) throw new Error('Nothing is followed yet: click a cell or the name of an array, or press v until it is marked; n then goes to the next store.');
       const mine = ++this.turn;
-      await this.showState(mine, await this.ask('find', {kind, from: this.session.state.count, way, stops: [...this.session.stops], end: this.session.end}));
+      const state = await this.ask('find', {kind, from, way, what: kind === 'store' ? view.followed : [...session.stops], end: session.end});
+      if (mine !== this.turn || session !== this.session) return;
+      if (!state) throw new Error(nothingFound(kind, way, session.state, view.followed));
+      await this.showState(keepState(session, session.core, state));
     });
   }
 
+  // Follows a cell or an array, or no longer if it is followed already.
+  follows(name) {
+    this.view.followed = this.view.followed === name ? '' : name;
+    this.redraw();
+  }
+
   // Goes to the moment that the address names, or shows the first deck.
-  async follow() {
-    const moment = momentOf(location.hash);
+  async follow(hash = location.hash) {
+    clearTimeout(this.addresses);
+    this.addresses = null;
+    const moment = momentOf(hash);
     if (!moment) return this.name ? undefined : this.choose('two');
     const {session} = this;
     const shown = session?.state && document.body.dataset.view === 'step' && session.name === moment.deck && session.core === moment.core
@@ -291,6 +351,7 @@ export class Page {
     if (this.name !== deck) this.choose(deck);
     if (core) byId('core').value = core;
     if (other) byId('other').value = other;
+    if (other) this.core('other');
     byId('two').setAttribute('aria-pressed', String(Boolean(other)));
     if (count === null) return this.show('deck');
     await this.step(count, other);
@@ -300,7 +361,7 @@ export class Page {
     this.turn++;
     this.play(false);
     await this.client.stop();
-    if (this.session?.state) this.session.wanted = this.session.state.count;
+    if (this.session) this.session.wanted = null;
   }
 
   // A promise that nothing is under way.
@@ -329,9 +390,8 @@ export class Page {
   play(on = !this.playing) {
     clearInterval(this.playing);
     this.playing = on ? setInterval(() => {
-      const {state, wanted} = this.session;
-      if (state.status !== undefined) this.play(false);
-      else if (wanted === state.count) this.guard(() => this.goTo(state.count + 1));
+      if (this.session.state.status !== undefined) this.play(false);
+      else if (!this.going) this.goBy(1);
     }, PLAY_MILLISECONDS) : null;
     byId('play').textContent = on ? 'pause' : 'play';
   }
@@ -341,10 +401,30 @@ export class Page {
   }
 }
 
+// Keeps a state among those of a session that were sent last, and gives it.
+function keepState({states}, core, state) {
+  const key = `${core} ${state.count}`;
+  states.delete(key);
+  states.set(key, state);
+  if (states.size > STATES_KEPT) states.delete(states.keys().next().value);
+  return state;
+}
+
+function hasJob(deck) {
+  return /^\?JOB/m.test(deck);
+}
+
 // Of a state what tests compare.
 function toldOf(state) {
-  if (!state) return {image: null, dump: null, printed: null, end: null};
-  return {image: state.image ?? null, dump: state.dump ?? null, printed: state.lines.shown.map(line => `${line}\n`).join(''), end: state.status ?? null};
+  if (!state) return {dump: null, printed: null, end: null};
+  return {dump: state.dump ?? null, printed: state.lines.shown.map(line => `${line}\n`).join(''), end: state.status ?? null};
+}
+
+// What was looked for in vain, in a sentence.
+function nothingFound(kind, way, state, followed) {
+  const things = {line: 'No line is printed', paging: 'There is no paging', task: 'No other task runs', fault: 'No task ends', stopped: 'No breakpoint is met',
+    store: `Nothing is stored into ${followed && nameOfFollowed(state, followed)}`, over: 'No operator is made', out: 'No operator is made'};
+  return `${things[kind]} ${way > 0 ? 'after' : 'before'} this moment, so the page stays here.`;
 }
 
 // What `image` prints without the cards of the image.

@@ -5,13 +5,13 @@ import {Page} from './page.js';
 import {perform, toggleLessons} from './acts.js';
 import {actOf, KEYS} from './keys.js';
 import {countAt} from './timeline.js';
+import {cellAt} from './draw-stacks.js';
 import {numbersForRead, withNumbers} from './deck-view.js';
 
 function onKey(page, event) {
   const {target, key, shiftKey} = event;
-  if (key === 'Escape' && !byId('lessons').hidden && !byId('help').open) toggleLessons(page);
   if (event.ctrlKey || event.metaKey || event.altKey || byId('help').open) return;
-  if (/^(INPUT|TEXTAREA|SELECT)$/.test(target.tagName)) return;
+  if (key !== 'Escape' && /^(INPUT|TEXTAREA|SELECT)$/.test(target.tagName)) return;
   if ((key === ' ' || key === 'Enter') && /^(BUTTON|A|SUMMARY)$/.test(target.tagName)) return;
   const found = actOf(key, shiftKey);
   if (!found || key === ' ' && shiftKey) return;
@@ -24,7 +24,7 @@ function listenToDeck(page) {
     run: () => page.run(), check: () => page.check(), step: () => page.step(), edit: () => page.show('deck'),
     image: () => page.image(), resume: () => page.resume(), exercise: () => page.exercise(), bind: () => page.bind(),
     take: () => page.take(), two: () => perform(page, 'two'), 'help-button': () => perform(page, 'help'),
-    'lessons-button': () => toggleLessons(page), 'put-numbers': () => putNumbers(page), stop: () => page.guard(() => page.stopped()),
+    'lessons-button': () => toggleLessons(page), 'put-numbers': () => putNumbers(page), stop: () => perform(page, 'escape'),
   };
   for (const [id, act] of Object.entries(clicks)) byId(id).onclick = act;
   byId('pick').onchange = () => { page.show('deck'); page.choose(byId('pick').value); };
@@ -53,8 +53,17 @@ function listenToSteps(page) {
   });
   byId('line').onclick = event => page.guard(() => page.goTo(countAt(byId('line'), page.session.window, event.clientX)));
   byId('cards').addEventListener('keydown', moveInCards);
+  byId('stacks').onclick = event => {
+    const name = cellAt(byId('stacks'), event);
+    if (name && page.session?.state) page.follows(name);
+  };
+  for (const id of ['right', 'pair']) byId(id).addEventListener('click', event => {
+    const button = event.target.closest('[data-follow]');
+    if (button) page.follows(button.dataset.follow);
+  });
+  byId('unfollow').onclick = () => page.follows('');
   document.addEventListener('keydown', event => onKey(page, event));
-  window.addEventListener('hashchange', () => page.follow());
+  window.addEventListener('hashchange', event => page.follow(event.newURL ? new URL(event.newURL).hash : location.hash));
   window.addEventListener('resize', () => page.redraw());
 }
 

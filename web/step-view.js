@@ -1,5 +1,5 @@
 // The view of a moment: all that is drawn of a state, and of two states side by side.
-import {byId, element, put, taskClass} from './elements.js';
+import {byId, element, put, putKept, set, taskClass} from './elements.js';
 import {countOf} from './words.js';
 import {INTRINSICS, MEANINGS} from './operators.js';
 import {endingOf} from './changes.js';
@@ -7,6 +7,7 @@ import {showCards, markCards, showPrinted, lineRow} from './draw-cards.js';
 import {showStacks} from './draw-stacks.js';
 import {changesList, showMemory} from './draw-memory.js';
 import {showTimeline, windowOf} from './timeline.js';
+import {followedText} from './follow.js';
 import {statusText} from './messages.js';
 
 // The operator's name and operands, without a label.
@@ -30,9 +31,9 @@ function whatItDid(state, rows) {
 function callText(name, state) {
   const then = state.before?.tasks.find(task => task.name === state.operator.task), now = state.tasks.find(task => task.name === state.operator.task);
   if (!then) return null;
-  const top = then.records.at(-1), called = /^0,(\d+)$/.exec(top.cells[0]?.text ?? '');
+  const {top} = then, called = /^0,(\d+)$/.exec(top.first ?? '');
   if (name === 'ENTR' && top.level < 0 && called) return `calls ${INTRINSICS[called[1]]}${now && now.condition !== 'ready' ? `: its task ${now.condition}` : ''}`;
-  const entered = now && now.records.length > then.records.length && ['VALC', 'STOD', 'STON', 'LOAD', 'RETN'].includes(name);
+  const entered = now && now.records.length > then.records && ['VALC', 'STOD', 'STON', 'LOAD', 'RETN'].includes(name);
   if (entered) return 'meets a procedure and enters it: an accidental entry';
   return null;
 }
@@ -66,15 +67,14 @@ function showCount(session) {
   put(byId('of'), end === null ? 'operators' : `of ${end.toLocaleString('en')} operators`);
 }
 
-export function showLine(session) {
+export function showLine(session, width = byId('line').clientWidth || 1000) {
   session.window = windowOf(session.state.count, session.end, session.window);
-  const {state, window, briefs, stops, end} = session, line = byId('line');
-  showTimeline(line, {count: state.count, window, briefs, stops});
-  line.setAttribute('aria-valuenow', state.count);
-  line.setAttribute('aria-valuemin', 0);
-  line.setAttribute('aria-valuemax', end ?? window.to);
-  const part = byId('part-shown'), whole = byId('whole'), all = end ?? window.to;
-  whole.hidden = window.from === 0 && window.to >= all;
+  const {state, window, briefs, stops, end} = session, line = byId('line'), all = end ?? window.to;
+  showTimeline(line, {count: state.count, window, briefs, stops, width});
+  for (const [name, value] of [['now', state.count], ['min', 0], ['max', all]]) set(line, `aria-value${name}`, value);
+  set(line, 'aria-valuetext', `${state.count} of ${end ?? 'many'} operators`);
+  const part = byId('part-shown');
+  byId('whole').hidden = window.from === 0 && window.to >= all;
   part.style.left = `${window.from / all * 100}%`;
   part.style.width = `${Math.max(0.5, (window.to - window.from) / all * 100)}%`;
 }
@@ -83,33 +83,52 @@ export function showDeck(session, toggle) {
   showCards(byId('cards'), session.text, session.operators, toggle);
 }
 
+// What the boxes measure. It is asked once, before anything is drawn.
+function measured() {
+  const {clientWidth, clientHeight, scrollLeft, scrollTop} = byId('stacks');
+  return {stacks: {clientWidth, clientHeight, scrollLeft, scrollTop}, line: byId('line').clientWidth || 1000};
+}
+
 // Draws all of a session's state.
 export function showMoment(session, view, rows) {
   const {state, stops} = session;
   document.body.classList.toggle('two', Boolean(session.otherState));
   byId('pair').hidden = !session.otherState;
   byId('right').hidden = Boolean(session.otherState);
-  showStacks(byId('stacks'), state, session.operators, view);
-  showCount(session);
-  showOperator(state, rows);
+  const {stacks, line} = measured();
   markCards(byId('cards'), state, stops);
   showPrinted(byId('printed'), state.lines, state.fresh.length);
-  if (session.otherState) showPair(session);
+  showStacks(byId('stacks'), state, session.operators, view, stacks);
+  showCount(session);
+  showOperator(state, rows);
+  if (session.otherState) showPair(session, view);
   else {
-    put(byId('changed'), changesList(state));
-    showMemory(byId('memory'), state);
-    put(byId('dump'), state.dump || 'No task lives.');
+    putKept(byId('changed'), changesPart(state));
+    showMemory(byId('memory'), state, view.followed);
+    byId('dump').textContent = state.dump || 'No task lives.';
   }
-  showLine(session);
+  showFollowed(state, view);
+  showLine(session, line);
+}
+
+// The list of changes as a part, which stays if the next operator says the same.
+function changesPart(state) {
+  return [[JSON.stringify([state.changes, state.status, state.count === 0]), () => changesList(state)]];
+}
+
+// The cell or the array that is followed, and what it holds.
+function showFollowed(state, {followed}) {
+  byId('followed').hidden = !followed;
+  if (followed) put(byId('followed-text'), followedText(state, followed));
 }
 
 // One of two cores: what changed, core, and the lines.
-function showOne(box, state) {
-  const memory = element('div', {class: 'memory'}), lines = state.lines.shown.slice(-12);
-  showMemory(memory, state);
-  const printed = lines.length ? lines.map(line => lineRow(line, null, false)) : element('span', {class: 'dim'}, 'Nothing yet.');
-  put(box, element('h2', {}, 'Printed'), element('div', {class: 'printed'}, printed),
-    element('h2', {}, 'What changed'), changesList(state), memory);
+function showOne(box, state, {followed}) {
+  const shown = state.lines.shown.slice(-12);
+  const printed = () => element('div', {class: 'printed'}, shown.length ? shown.map(line => lineRow(line, null, false)) : element('span', {class: 'dim'}, 'Nothing yet.'));
+  const nodes = putKept(box, [['printed', () => element('h2', {}, 'Printed')], [JSON.stringify(shown), printed],
+    ['changed', () => element('h2', {}, 'What changed')], ...changesPart(state), ['memory', () => element('div', {class: 'memory'})]]);
+  showMemory(nodes.at(-1), state, followed);
 }
 
 // The sentence above two cores: what is the same, by comparison.
@@ -127,8 +146,8 @@ function outText(state) {
   return `${countOf(state.coreWords, 'word')} ${countOf(out, 'array is', 'arrays are')} out of core`;
 }
 
-function showPair({state, otherState}) {
-  put(byId('theorem'), theoremText(state, otherState));
-  showOne(byId('first'), state);
-  showOne(byId('second'), otherState);
+function showPair({state, otherState}, view) {
+  byId('theorem').textContent = theoremText(state, otherState);
+  showOne(byId('first'), state, view);
+  showOne(byId('second'), otherState, view);
 }

@@ -1,8 +1,8 @@
 // The line of time: a column for each operator of a window of the run, with its task, its lines, its paging and its fault.
-import {drawn, put, taskClass} from './elements.js';
+import {drawn, put, set, taskClass} from './elements.js';
 
 const [WHOLE, WINDOW] = [700, 400];
-const pictures = new WeakMap(); // what each picture shows
+const shownIn = new WeakMap(); // what each picture shows
 
 // The counts that the line shows: the whole of a short run, else a window around the count.
 export function windowOf(count, end, old) {
@@ -22,24 +22,23 @@ function column(brief, x, width, stopped) {
   return parts;
 }
 
-// Draws the window; if nothing but the count is new, the cursor alone is moved.
-export function showTimeline(picture, {count, window, briefs, stops}) {
-  const width = picture.clientWidth || 1000, step = width / (window.to - window.from + 1);
-  const cursor = `M${(count - window.from + 0.5) * step} 0v38`;
-  const drawnNow = [window.from, window.to, width, briefs.size, ...stops].join();
-  const shown = pictures.get(picture);
-  if (shown?.briefs === briefs && shown.drawnNow === drawnNow) {
-    picture.lastChild.setAttribute('d', cursor);
-    return;
+// Draws the window in a picture of this width. While window and breakpoints stay, only new columns are added and the cursor moved.
+export function showTimeline(picture, {count, window, briefs, stops, width}) {
+  const step = width / (window.to - window.from + 1), frame = [window.from, window.to, width, ...stops].join();
+  let shown = shownIn.get(picture);
+  if (shown?.briefs !== briefs || shown.frame !== frame) {
+    shown = {briefs, frame, counts: new Set(), columns: drawn('g'), cursor: drawn('path', {class: 'cursor'})};
+    shownIn.set(picture, shown);
+    set(picture, 'viewBox', `0 0 ${width} 38`);
+    put(picture, shown.columns, shown.cursor);
   }
-  const parts = [];
   for (let at = window.from; at <= window.to; at++) {
     const brief = briefs.get(at);
-    if (brief) parts.push(...column(brief, (at - window.from) * step, step, stops.has(brief.card)));
+    if (!brief || shown.counts.has(at)) continue;
+    shown.counts.add(at);
+    shown.columns.append(...column(brief, (at - window.from) * step, step, stops.has(brief.card)));
   }
-  picture.setAttribute('viewBox', `0 0 ${width} 38`);
-  put(picture, parts, drawn('path', {d: cursor, class: 'cursor'}));
-  pictures.set(picture, {briefs, drawnNow});
+  set(shown.cursor, 'd', `M${(count - window.from + 0.5) * step} 0v38`);
 }
 
 // The count at a place of the line.

@@ -1,4 +1,5 @@
-// The worker's side: all that computes. It answers what the page asks, and makes states ahead for the time line meanwhile.
+// The worker's side: all that computes. It answers what the page asks. When nothing is asked it makes states that will be asked for
+// soon, one after the other, and then what the time line needs.
 import {programOf, textOf} from './program.js';
 import {operatorsOf} from './cards.js';
 import {Machine} from './machine.js';
@@ -10,7 +11,7 @@ const SOON = 100000; // operators, within which the end is looked for at once
 
 class Desk {
   constructor(post) {
-    Object.assign(this, {post, searches: new Map(), deck: null, wanted: null, left: null});
+    Object.assign(this, {post, searches: new Map(), deck: null, ahead: [], wanted: null, left: null});
   }
 
   async start({bytes, compares}) {
@@ -45,26 +46,30 @@ class Desk {
     return this.searches.get(core);
   }
 
-  // The state at a count and the machine before it. `end` is what the page knows of the run's end, after Stop for example.
+  // The state at a count, and of the machine before it what the page shows. `end` is what the page knows of the run's end, after Stop
+  // for example.
   state({deck, core, count, end}) {
     const search = this.search(deck, core), {machine} = search;
     machine.last ??= end ?? undefined;
     const state = machine.state(count);
-    const before = state.count ? {...machine.machine(state.count - 1), image: null} : null;
+    const before = state.count ? shownOfBefore(machine.machine(state.count - 1)) : null;
     return {...state, before, end: machine.last ?? null, compared: machine.compared, brief: search.brief(state.count)};
   }
+
   // What the page needs to begin with a deck: the operators of its jobs, where it ends if that is soon said, and why it
   // can't begin.
   operators({deck, core}) {
     const {machine, sent} = this.search(deck, core);
     sent.clear();
-    this.wanted = null;
+    Object.assign(this, {ahead: [], wanted: null});
     const {status, bytes} = machine.run('run', 1);
     return {operators: machine.operators, end: machine.endWithin(SOON), refused: status > 3 ? {status, text: textOf(bytes)} : null};
   }
 
-  find({deck, core, kind, from, way, stops, end}) {
-    return this.state({deck, core, end, count: this.search(deck, core).find(kind, from, way, stops)});
+  // The state that a search comes to; null if there is none.
+  find({deck, core, kind, from, way, what, end}) {
+    const count = this.search(deck, core).find(kind, from, way, what);
+    return count === null ? null : this.state({deck, core, end, count});
   }
   end({deck, core}) {
     return this.search(deck, core).machine.end();
@@ -73,17 +78,33 @@ class Desk {
     return this.search(deck, core).firstFault();
   }
 
-  // Asks for the briefs of these counts, made when nothing else is to be done.
-  fill({deck, core, from, to}) {
-    this.wanted = {deck, core, from, to};
+  // Asks for states, each a core and a count, and for the briefs of the counts from..to, all to be made when nothing else is asked.
+  soon({deck, core, ahead, from, to}) {
+    Object.assign(this, {ahead: ahead.map(it => ({...it, deck})), wanted: {deck, core, from, to}});
     if (!this.ticks) setTimeout(() => this.tick());
     this.ticks = true;
   }
 
-  // Makes some briefs, for eight milliseconds, and sends those that the page hasn't.
+  // Makes one state, or some briefs; questions come in between.
   tick() {
-    this.ticks = Boolean(this.wanted);
-    if (!this.wanted) return;
+    this.ticks = Boolean(this.ahead.length || this.wanted);
+    if (!this.ticks) return;
+    if (this.ahead.length) this.makeAhead(this.ahead.shift());
+    else this.makeBriefs();
+    setTimeout(() => this.tick());
+  }
+
+  // Sends a state that the page may want. What fails here is told when it is asked for.
+  makeAhead({deck, core, count}) {
+    try {
+      this.post({deck, core, state: this.state({deck, core, count})});
+    } catch {
+      this.ahead = [];
+    }
+  }
+
+  // Makes some briefs, for eight milliseconds, and sends those that the page hasn't.
+  makeBriefs() {
     const {deck, core, from, to} = this.wanted, search = this.search(deck, core), until = performance.now() + 8, briefs = [];
     let count = from;
     while (count <= to && (search.briefs.has(count) || performance.now() < until)) {
@@ -94,8 +115,16 @@ class Desk {
     }
     this.post({deck, core, briefs, end: search.machine.last ?? null});
     this.wanted = count > to ? null : {deck, core, from: count, to};
-    setTimeout(() => this.tick());
   }
+}
+
+// Of the machine before an operator what the page shows with it: how many records each task had, the topmost one, and the numbers of
+// the arrays.
+function shownOfBefore({tasks, things}) {
+  return {
+    tasks: tasks.map(({name, records}) => ({name, records: records.length, top: {level: records.at(-1).level, first: records.at(-1).cells[0]?.text}})),
+    things: things.map(({cell, kind, numbers}) => ({cell, kind, numbers})),
+  };
 }
 
 // Answers the page's messages, each with its number.

@@ -62,6 +62,15 @@ export class Browser {
     return new Promise((answers, fails) => this.waiting.set(id, [answers, fails]));
   }
 
+  opens(url) {
+    return this.call('Page.navigate', {url});
+  }
+
+  // Lets a script run before those of each page.
+  before(source) {
+    return this.call('Page.addScriptToEvaluateOnNewDocument', {source});
+  }
+
   // The value of an expression in the page, waited for if it is a promise.
   async value(expression) {
     const {result, exceptionDetails: wrong} = await this.call('Runtime.evaluate', {expression, awaitPromise: true, returnByValue: true});

@@ -1,4 +1,5 @@
-// The page in headless Chromium: node page.mjs CHROMIUM PAGE PROGRAM DECKS [FOLDER], called by scripts/check-page.sh.
+// The page in a browser without a window: node page.mjs BROWSER PAGE PROGRAM DECKS [FOLDER], called by scripts/check-page.sh. BROWSER is
+// Chromium's program, or Firefox's.
 //
 // Opens each deck, runs it, steps through it, and presses every key that the page lists; after each the state that the page shows is
 // compared with what the native program's `image` and `dump` print at that count. Then two cores side by side, and bad input. With
@@ -8,11 +9,13 @@ import os from 'node:os';
 import path from 'node:path';
 import {pathToFileURL} from 'node:url';
 import {Browser} from './browser.mjs';
+import {Firefox} from './firefox.mjs';
 import {callNative} from './module.mjs';
 
 const STEPS = 12; // of each deck
 const KEYED = ['two', 'dining']; // in these every key is pressed
-const [chromium, page, program, folder, pictures] = process.argv.slice(2);
+const [browsers, page, program, folder, pictures] = process.argv.slice(2);
+const isFirefox = path.basename(browsers).startsWith('firefox');
 const room = fs.mkdtempSync(path.join(os.tmpdir(), 'b67-'));
 const file = path.join(room, 'backing');
 let same = 0, different = 0, browser;
@@ -75,16 +78,16 @@ async function opens(hash) {
 }
 
 async function starts(script) {
-  browser = await Browser.started(chromium);
-  if (script) await browser.call('Page.addScriptToEvaluateOnNewDocument', {source: script});
-  await browser.call('Page.navigate', {url: `${pathToFileURL(page)}?compare`});
+  browser = await (isFirefox ? Firefox : Browser).started(browsers);
+  if (script) await browser.before(script);
+  await browser.opens(`${pathToFileURL(page)}?compare`);
   await browser.until('window.b67?.ready');
   await browser.value('b67.ready');
 }
 
 async function ends() {
-  for (const error of browser.errors) wants(false, `console: ${error}`);
   await browser.ends();
+  for (const error of browser.errors) wants(false, `console: ${error}`);
 }
 
 async function pressed(name, text, key, shift = false) {
@@ -141,6 +144,28 @@ async function two_cores() {
   }
 }
 
+// What is followed, and the next store into it; a search that finds nothing stays and says so.
+async function follows() {
+  const shown = () => browser.value("document.getElementById('followed').hidden ? '' : document.getElementById('followed').innerText");
+  await opens('switched,685,6');
+  await browser.press('v');
+  wants(/^follows cell 2,2, in record 1 of task 1\.1: 0/.test(await shown()), `v follows ${told(await shown())}`);
+  for (const [key, shift, count] of [['n', false, 12], ['n', false, 17], ['n', false, 17], ['n', true, 12]]) {
+    const from = (await stateNow()).count, state = await pressed('switched', deckOf('switched'), key, shift);
+    wants(state.count === count && Boolean(state.message) === (from === count), `${key} from ${from} leads to ${state.count}: ${state.message}`);
+  }
+  await browser.click('#stacks .followed');
+  wants(await shown() === '', 'a click on the cell that is followed: it still is');
+  await browser.click('#stacks .tag-7');
+  wants(/^follows cell 2,3/.test(await shown()), `a click on cell 2,3 follows ${told(await shown())}`);
+  await opens('two,630,20');
+  await browser.click('#memory [data-follow]');
+  wants(/^follows array 2,2/.test(await shown()), `a click on an array follows ${told(await shown())}`);
+  await opens('two,630,24');
+  const last = await pressed('two', deckOf('two'), 'g');
+  wants(last.count === 24 && last.message, `with no paging left g leads to ${last.count}: ${last.message}`);
+}
+
 // Writes a deck into the editor, as a hand does.
 async function writes(text, core) {
   await opens('sum,4096');
@@ -168,6 +193,18 @@ async function bad_input() {
   await browser.until("document.getElementById('stop').offsetParent", 20);
   await browser.click('#stop');
   wants(/^Stopped/.test((await stateNow()).message), 'an endless loop that is stopped: no sentence');
+  await browser.click('#step');
+  await stateNow();
+  await browser.press('End');
+  await browser.until("document.getElementById('stop').offsetParent", 20);
+  await browser.press('Escape');
+  state = await stateNow();
+  wants(/^Stopped/.test(state.message) && state.count === 0, `the end of a long run, stopped by a key: ${state.count} ${state.message}`);
+  await writes('', 4096);
+  await browser.click('#run');
+  wants(/no job/.test((await stateNow()).message), 'an empty deck: no sentence');
+  await opens('two,630,3,5');
+  wants(/^Core has/.test((await stateNow()).message), 'a second core of 5 words: no sentence');
   await writes(PRINTS, 4096);
   await browser.click('#run');
   state = await stateNow();
@@ -208,10 +245,11 @@ async function tries_all() {
     if (KEYED.includes(name)) await keys(name, text, core);
   }
   await two_cores();
+  await follows();
   await bad_input();
   if (pictures) await takes_pictures();
   await ends();
-  await without_memory64();
+  if (!isFirefox) await without_memory64();
 }
 
 try {

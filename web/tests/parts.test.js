@@ -5,6 +5,7 @@ import {test} from 'node:test';
 import {hashOf, momentOf} from '../address.js';
 import {cardsOf} from '../cards.js';
 import {endingOf} from '../changes.js';
+import {followedText, nextChoice} from '../follow.js';
 import {numbersForRead, withNumbers} from '../deck-view.js';
 import {decksOf} from '../decks.js';
 import {actOf, KEYS} from '../keys.js';
@@ -77,6 +78,19 @@ test('each key does one thing', () => {
   assert.deepEqual(actOf('O', true), {act: 'line', way: -1});
   assert.deepEqual(actOf('ArrowLeft', false), {act: 'back', way: 1});
   assert.equal(actOf('x', false), null);
+});
+
+test('what is followed', () => {
+  const cells = [{at: 2, text: '7'}, {at: 3, text: 'array of 5'}];
+  const state = {tasks: [{name: '1.1', records: [{number: 1, level: 2, cells}, {number: 2, level: -1, cells: [{at: 2, text: '1'}]}]}],
+    things: [{cell: '1.1 1 3', kind: 'array', text: 'array 2,3'}, {cell: 'DICT 1 2', kind: 'code', text: 'segment 1'}]};
+  const order = ['', '1.1 1 2', '1.1 1 3', '1.1 1 3array'];
+  order.forEach((it, k) => {
+    assert.equal(nextChoice(state, it, 1), order[(k + 1) % 4]);
+    assert.equal(nextChoice(state, it, -1), order.at(k - 1));
+  });
+  for (const [followed, text] of [['1.1 1 2', 'cell 2,2, in record 1 of task 1.1: 7'], ['1.1 1 3array', 'array 2,3'],
+    ['1.2 1 2', 'cell 2 of record 1 of task 1.2 isn’t there now'], ['1.1 1 4array', 'the array isn’t there now']]) assert.equal(followedText(state, followed), text);
 });
 
 test('lessons lead to moments of decks that are there', () => {

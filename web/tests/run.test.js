@@ -14,11 +14,13 @@ function searchOf(name) {
   return new Search(new Machine(native, text, core, false), () => {});
 }
 
-// From a count, by a search and a way, to a count.
+// From a count, by a search and a way, to a count; null where there is none. A store is one into a cell or an array.
 const FOUND = {
   two: [['paging', 1, 1, 17], ['paging', 17, 1, 20], ['paging', 20, 1, 23], ['paging', 23, -1, 20], ['line', 0, 1, 26], ['line', 26, 1, 27],
-    ['line', 26, -1, 0], ['fault', 0, 1, 27], ['task', 1, 1, 27]],
-  switched: [['task', 1, 1, 8], ['task', 8, 1, 14], ['task', 14, -1, 8], ['fault', 0, 1, 13]],
+    ['line', 26, -1, null], ['fault', 0, 1, 27],
+    ['task', 1, 1, null], ['paging', 24, 1, null], ['paging', 27, -1, 24], ['store', 0, 1, 20, '1.1 1 3array'], ['store', 20, 1, null, '1.1 1 3array']],
+  switched: [['task', 1, 1, 8], ['task', 8, 1, 14], ['task', 14, -1, 8], ['fault', 0, 1, 13], ['store', 0, 1, 12, '1.1 1 2'],
+    ['store', 12, 1, 17, '1.1 1 2'], ['store', 17, -1, 12, '1.1 1 2'], ['store', 17, 1, null, '1.1 1 2']],
   jensen: [['out', 17, 1, 20], ['over', 16, 1, 20], ['out', 20, -1, 12]],
   fault: [['fault', 0, 1, 69], ['line', 69, -1, 59]],
 };
@@ -27,7 +29,7 @@ for (const [name, searches] of Object.entries(FOUND)) {
   test(`${name}: searches`, async () => {
     await turn();
     const search = searchOf(name);
-    for (const [kind, from, way, to] of searches) assert.equal(search.find(kind, from, way, []), to, `${kind} from ${from}`);
+    for (const [kind, from, way, to, what] of searches) assert.equal(search.find(kind, from, way, what ?? []), to, `${kind} from ${from}`);
   });
 }
 

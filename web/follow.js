@@ -1,0 +1,45 @@
+// What is followed: a cell, named by its task, its record and its place, or an array, named by its cell and its kind.
+import {cellName} from './changes.js';
+
+// Whether the name is a cell's: an array's ends with its kind.
+function isCell(followed) {
+  return /^\d+\.\d+ \d+ \d+$/.test(followed);
+}
+
+function cellFollowed(state, followed) {
+  const [task, record, at] = followed.split(' ');
+  const found = state.tasks.find(it => it.name === task)?.records[record - 1];
+  const cell = found?.cells.find(it => it.at === Number(at));
+  return cell && {...cell, level: found.level};
+}
+
+function thingFollowed(state, followed) {
+  return state.things.find(thing => thing.cell + thing.kind === followed);
+}
+
+// What is followed, in words.
+export function nameOfFollowed(state, followed) {
+  if (!isCell(followed)) return thingFollowed(state, followed)?.text ?? 'the array';
+  return cellName({cell: followed, level: cellFollowed(state, followed)?.level ?? -2});
+}
+
+// What is followed, and what it holds now.
+export function followedText(state, followed) {
+  const name = nameOfFollowed(state, followed);
+  if (!isCell(followed)) return thingFollowed(state, followed) ? name : `${name} isn’t there now`;
+  const cell = cellFollowed(state, followed);
+  return cell ? `${name}: ${cell.text}` : `${name} isn’t there now`;
+}
+
+// All that can be followed, in the order in which the key chooses: the cells of each task from the bottom up, then the arrays.
+function choices(state) {
+  const cells = state.tasks.flatMap(task => task.records.filter(record => record.level >= 0)
+    .flatMap(record => record.cells.map(cell => `${task.name} ${record.number} ${cell.at}`)));
+  return [...cells, ...state.things.filter(thing => thing.kind !== 'code').map(thing => thing.cell + thing.kind)];
+}
+
+// The choice after the one that is followed, or before it; none after the last one.
+export function nextChoice(state, followed, way) {
+  const all = ['', ...choices(state)], at = Math.max(0, all.indexOf(followed));
+  return all.at((at + way) % all.length);
+}
