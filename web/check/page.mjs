@@ -227,7 +227,7 @@ async function takes_pictures() {
   for (const [width, height] of [[1024, 768], [1900, 1000]]) for (const dark of [false, true]) {
     await browser.size(width, height);
     await browser.dark(dark);
-    for (const hash of ['sum,4096', 'two,630,20', 'two,630,20,4096', 'jensen,4096,60', 'dining,3258,200']) {
+    for (const hash of ['sum,4096', 'two,630,20', 'two,630,20,4096', 'jensen,4096,60', 'dining,3258,120']) {
       await opens(hash);
       await browser.picture(path.join(pictures, `${hash.replaceAll(',', '-')}-${width}${dark ? '-dark' : ''}.png`));
     }
