@@ -15,7 +15,7 @@ use crate::far::{
     makes_retn, makes_stff, makes_stod, makes_ston, makes_valc,
 };
 use crate::firsts::{Near, near_of};
-use crate::own::{stores_own, values_own};
+use crate::own::{reaches_own, stores_own, values_own};
 use crate::reader::{Reader, behind, first, place, reader_to};
 use b67_arith::Numeric;
 use b67_entry::mkst;
@@ -337,6 +337,10 @@ fn stays(cpu: &mut Cpu, reader: &mut Reader, code: Code) -> bool
         Some(next) => next,
         None => return false,
     };
+    if reaches_own(cpu, code, place(next)) {
+        *reader = next;
+        return true;
+    }
     if !makes_behind(cpu, code, place(next)) {
         return false;
     }

@@ -1,0 +1,44 @@
+use Rattle.std.proofs.Common.{◌≡◌, ℕ, sym, subst, ◌∙◌, Ok}
+use Rattle.std.proofs.lemmas.Option.{same_Some}
+use Rattle.b67_model.specs.Common.{array_of, indexed}
+use Rattle.b67_layout.specs.Meets.{here}
+use Rattle.b67_fetch.specs.Indexes.{FindsItem}
+use Rattle.b67_fetch.proofs.Values.{here_scene, here_shown}
+use Rattle.b67_fetch.proofs.Items.{holds_found, found_index}
+use Rattle.b67_fetch.proofs.Owns.{own_finds_array}
+use Rattle.b67_fetch.proofs.indexing.own_item_at.Goals as goal
+
+pub returns-then-tag-ne0 : goal.returns-then-tag-ne0
+returns-then-tag-ne0 c = λ found e. absurd (let z : ⊥ = cc in z)
+
+pub own_array-original-requires : goal.own_array-original-requires
+own_array-original-requires c =
+    let q = c.requires.runs in (
+      here_scene q.storage c.args.cpu.now q.plan q.session q.member q.task q.ordered q.stands q.running,
+      here_shown q.storage c.args.cpu.now q.plan q.session q.member q.task q.ordered q.stands q.running,
+    )
+
+pub returns-then-original-eq0 : goal.returns-then-original-eq0
+returns-then-original-eq0 c = λ found e. absurd (let z : ⊥ = cc in z)
+
+pub array_descriptor-requires : goal.array_descriptor-requires
+array_descriptor-requires c =
+    let q = c.requires.runs in
+    let a = c.own_array-original.ensures in
+    let p = q.task.place in (
+      0,
+      holds_found q.plan q.member q.task p c.args.cpu.now q c.own_array-original.result (array_of (here q.member q.task p) c.requires.word)
+          (own_finds_array q.storage c.args.cpu.now q.plan q.session q.member q.task q.ordered q.stands q.running p c.args.reference c.own_array-original.result (a.leads c.if-original-eq0.false) (a.couple c.if-original-eq0.false) c.requires.word c.requires.followed),
+    )
+
+pub returns-in-Ok : goal.returns-in-Ok
+returns-in-Ok c = λ found is x plan s m t o h runs q v i followed same.
+    let a = c.own_array-original.ensures in
+    let F : ℕ × ℕ → Type 0 = λ f. FindsItem plan m (Ok f) (indexed (here m t q) v i) in
+    subst F (same_Some _ _ is)
+    (found_index plan m t q x c.args.cpu.now s o h runs v i c.args.index c.own_array-original.result c.array_descriptor.result (sym c.tag.ensures.value ∙ c.if-tag-ne0.false) same
+    (own_finds_array x c.args.cpu.now plan s m t o h runs q c.args.reference c.own_array-original.result (a.leads c.if-original-eq0.false) (a.couple c.if-original-eq0.false) v followed)
+    (λ n k home e. c.array_descriptor.ensures x plan s m t o h runs n k home e) c.in-Ok.n (sym c.in-Ok.is ∙ c.index_below.ensures))
+
+pub returns-in-Err : goal.returns-in-Err
+returns-in-Err c = λ found e. absurd (let z : ⊥ = cc in z)
