@@ -28,6 +28,10 @@ done_made : (x : Storage) (plan : Placement) (s : Session) (m : SessionJob) (old
 done_made x plan s m old new true answer i = absurd (let e = i.0 in let z : ⊥ = cc in z)
 done_made x plan s m old new false answer i = i
 
+-- a store through a couple of an operand's cell goes to this cell
+pub operand_through : (cpu : Cpu) (w : Tagged) (at : ℕ) → w.tag ≡ 1 → LeadsTo cpu.core cpu.regs cpu.display w (end.Cell at) → StoresThrough cpu w at
+operand_through cpu w at one leads = record { other = λ z. omega (arith, z, one); end = end.Cell at; leads = leads; there = refl }
+
 module _ (x : Storage) (old : Cpu) (plan : Placement) (s : Session) (m : SessionJob) (t : Task) (o : IsInOrderButCounts s) (h : RepresentsSession x old plan s) (runs : IsRunning plan s.jobs m t) (q : Place) (keeps : Bool)
     (lower upper : Tagged) (found : GivesTwo x plan m t old (cells t) (Ok (lower, upper))) (zero : lower.tag ≡ 0) (at : ℕ) (through : StoresThrough old upper at) where
   its_context : Context x old plan s m t o h runs q (upper, lower) (Ok through.end)

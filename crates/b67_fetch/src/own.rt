@@ -14,15 +14,15 @@ use b67_refer::{End, chase, own_operand};
 use b67_stack::Cpu;
 use b67_word::{Place, Word};
 
-/// The core address into which a store through a word goes, if the word is a couple of an operand's cell of the top activation
-/// record, or an element copy of a present array that may be written. Else 0.
+/// The core address of the element into which a store through a word goes, if the word is a copy of a present array that may be
+/// written. Else 0.
 #[inline(always)]
-fn own_place(cpu: &Cpu, reference: Word) -> u32
+fn own_element(cpu: &Cpu, reference: Word) -> u32
     requires { MayFollow cpu.now reference }
     ensures { result ≢ 0 → StoresThrough cpu.now reference result }
 {
     if reference.tag() != 5 {
-        return own_operand(&cpu.core, &cpu.regs, &cpu.display, reference);
+        return 0;
     }
     let end = match chase(&cpu.core, &cpu.regs, &cpu.display, reference) {
         Ok(end) => end,
@@ -35,6 +35,30 @@ fn own_place(cpu: &Cpu, reference: Word) -> u32
         },
         _ => 0,
     }
+}
+
+/// Stores as STOD does, or as STON if the operand is kept, where the cell under the top one is an operand, and the top one a copy
+/// of a present array's element that may be written. Else nothing is changed. Whether it was made.
+#[inline(never)]
+fn store_element(cpu: &mut Cpu, keeps: bool, next: Place) -> bool
+    requires { RunsSome cpu.old }
+    ensures row { result ≡ true → ForEach cpu.old (λ x plan s m t. let h = here m t next in IsMade x plan s m cpu.old cpu.new (rows.store keeps h (cells_of h))) }
+    ensures stays { result ≡ true → StaysInSegment cpu.old cpu.new next }
+    ensures rest { result ≡ false → cpu.new ≡ cpu.old }
+{
+    let (lower, upper) = match two_cells(cpu) {
+        Ok(two) => two,
+        Err(_) => return false,
+    };
+    if lower.tag() != 0 {
+        return false;
+    }
+    let at = own_element(cpu, upper);
+    if at == 0 {
+        return false;
+    }
+    put(cpu, at, lower, keeps, next);
+    true
 }
 
 /// Stores as STOD does, or as STON if the operand is kept, where the cell under the top one is an operand, and the top one a
@@ -53,10 +77,13 @@ pub fn store_own(cpu: &mut Cpu, keeps: bool, next: Place) -> bool
     if lower.tag() != 0 {
         return false;
     }
-    let at = own_place(cpu, upper);
-    if at == 0 {
+    if upper.tag() == 5 {
+        return store_element(cpu, keeps, next);
+    }
+    let cell = own_operand(&cpu.core, &cpu.regs, &cpu.display, upper);
+    if cell == 0 {
         return false;
     }
-    put(cpu, at, lower, keeps, next);
+    put(cpu, cell, lower, keeps, next);
     true
 }

@@ -1,4 +1,4 @@
-use Rattle.std.proofs.Common.{◌≡◌, ℕ, refl, sym, ap, subst, ◌∙◌, arith, false, Ok, Result}
+use Rattle.std.proofs.Common.{ℕ, refl, sym, ap, subst, ◌∙◌, arith, false, Ok, Result}
 use Rattle.b67_word.specs.declared.faults.Fault.{Fault}
 use Rattle.b67_model.specs.Chase.{follow}
 use Rattle.b67_layout.specs.Meets.{here}
@@ -10,22 +10,10 @@ use Rattle.b67_refer.specs.Ends.{EndMeets}
 use Rattle.b67_fetch.specs.Stores.{ElementAt}
 use Rattle.b67_fetch.proofs.Values.{here_scene, here_shown, followed_stands}
 use Rattle.b67_fetch.proofs.Stores.{holds}
-use Rattle.b67_fetch.proofs.own.own_place.Goals as goal
-
-pub own_operand-requires : goal.own_operand-requires
-own_operand-requires c =
-    let q = c.requires.runs in (
-      here_scene q.storage c.args.cpu.now q.plan q.session q.member q.task q.ordered q.stands q.running,
-      here_shown q.storage c.args.cpu.now q.plan q.session q.member q.task q.ordered q.stands q.running,
-    )
+use Rattle.b67_fetch.proofs.own.own_element.Goals as goal
 
 pub returns-then-tag-ne5 : goal.returns-then-tag-ne5
-returns-then-tag-ne5 c = λ some. record {
-  other = λ z. (let one = c.own_operand.ensures.couple some in omega (arith, z, one));
-  end = end.Cell c.own_operand.result;
-  leads = c.own_operand.ensures.leads some;
-  there = refl;
-}
+returns-then-tag-ne5 c = λ some. absurd (some refl)
 
 pub chase-requires : goal.chase-requires
 chase-requires c =
