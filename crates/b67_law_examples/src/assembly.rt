@@ -69,6 +69,13 @@ pub fn malformed_numbers_are_refused()
     ensures minus_zero { assembly (codes "SEGMENT A 2\nLT48 -0\n") ≡ refused_with 2 2 }
 {}
 
+/// Reason 2: a malformed name, or a row's name at a level above 1.
+pub fn names_are_refused()
+    ensures bad_name { assembly (codes "SEGMENT a 2\n") ≡ refused_with 1 2 }
+    ensures two_names { assembly (codes "ROW TWO X\n") ≡ refused_with 1 2 }
+    ensures row_at_2 { assembly (codes "SEGMENT A 2\nVALC 2,R\nROW R\nNUM 1\n") ≡ refused_with 2 2 }
+{}
+
 /// Reason 2: an operand that is missing, one too many, or malformed otherwise.
 pub fn operands_are_refused()
     ensures no_operand { assembly (codes "SEGMENT A 2\nLT8\n") ≡ refused_with 2 2 }
@@ -77,9 +84,6 @@ pub fn operands_are_refused()
     ensures spaced_pair { assembly (codes "SEGMENT A 2\nVALC 2, 2\n") ≡ refused_with 2 2 }
     ensures three_in_a_pair { assembly (codes "SEGMENT A 2\nVALC 2,2,2\n") ≡ refused_with 2 2 }
     ensures bad_literal { assembly (codes "SEGMENT A 2\nLT48 #12345678901\n") ≡ refused_with 2 2 }
-    ensures bad_name { assembly (codes "SEGMENT a 2\n") ≡ refused_with 1 2 }
-    ensures two_names { assembly (codes "ROW TWO X\n") ≡ refused_with 1 2 }
-    ensures row_at_2 { assembly (codes "SEGMENT A 2\nVALC 2,R\nROW R\nNUM 1\n") ≡ refused_with 2 2 }
 {}
 
 /// Reason 3: a number out of its range.

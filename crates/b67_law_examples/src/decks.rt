@@ -59,14 +59,18 @@ pub fn parameters_are_refused()
     ensures switch_dots { deck_of (codes "?SWITCH 1 1.1.1") ≡ refused_with 1 4 }
 {}
 
+/// Reason 5: a card of a job that the job has already.
+pub fn second_job_cards_are_refused()
+    ensures limit_twice { deck_of (codes "?JOB A\n?LIMIT 5\n?LIMIT 6") ≡ refused_with 3 5 }
+    ensures asm_twice { deck_of (codes "?JOB A\n?ASM\n?ASM") ≡ refused_with 3 5 }
+    ensures data_twice { deck_of (codes "?JOB A\n?ASM\n?DATA\n?DATA") ≡ refused_with 4 5 }
+{}
+
 /// Reason 5: a card out of order, or a plain card outside a body.
 pub fn cards_out_of_order_are_refused()
     ensures run_card_late { deck_of (codes "?JOB A\n?HEX\n00\n?END\n?STACK 64") ≡ refused_with 5 5 }
     ensures plain_first { deck_of (codes "X") ≡ refused_with 1 5 }
     ensures plain_after { deck_of (codes "?JOB A\n?HEX\n00\n?END\nX") ≡ refused_with 5 5 }
-    ensures limit_twice { deck_of (codes "?JOB A\n?LIMIT 5\n?LIMIT 6") ≡ refused_with 3 5 }
-    ensures asm_twice { deck_of (codes "?JOB A\n?ASM\n?ASM") ≡ refused_with 3 5 }
-    ensures data_twice { deck_of (codes "?JOB A\n?ASM\n?DATA\n?DATA") ≡ refused_with 4 5 }
     ensures job_in_job { deck_of (codes "?JOB A\n?JOB B") ≡ refused_with 2 5 }
     ensures end_first { deck_of (codes "?END") ≡ refused_with 1 5 }
     ensures end_after { deck_of (codes "?JOB A\n?HEX\n00\n?END\n?END") ≡ refused_with 5 5 }

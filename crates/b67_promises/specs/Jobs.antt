@@ -34,7 +34,7 @@ pub data IsRunLine (line : List ℕ) : Type 0 where
   empty_line : line ≡ [] → IsRunLine line
 
 -- the lines of one job: the first one begins it, and no other does
-pub record IsJob (ls : List (List ℕ)) : Type 0 where
+pub record AreJobLines (ls : List (List ℕ)) : Type 0 where
   pub head : List ℕ
   pub body : List (List ℕ)
   pub is : ls ≡ head ∷ body
@@ -42,11 +42,11 @@ pub record IsJob (ls : List (List ℕ)) : Type 0 where
   pub others : AllByRecursion (λ (line : List ℕ). BeginsJob line → ⊥) body
 
 -- the lines of a text are these, and then those of jobs, of which the one of this number has its own
-pub record HasJob (text : List ℕ) (front : List (List ℕ)) (number : ℕ) (own : List (List ℕ)) : Type 0 where
+pub record HasOwnJob (text : List ℕ) (front : List (List ℕ)) (number : ℕ) (own : List (List ℕ)) : Type 0 where
   pub before : List (List (List ℕ))
   pub later : List (List (List ℕ))
   pub is : text_lines text ≡ front ++ flat_map (λ job. job) (before ++ own ∷ later)
-  pub jobs : AllByRecursion IsJob (before ++ own ∷ later)
+  pub jobs : AllByRecursion AreJobLines (before ++ own ∷ later)
   pub at : number ≡ length before + 1
 
 -- two texts begin with the same run cards, without a ?SWITCH, and the i-th job of the one is the j-th job of the other
@@ -54,12 +54,12 @@ pub record ShareJob (i j : ℕ) (bytes other : List ℕ) : Type 0 where
   pub front : List (List ℕ)
   pub own : List (List ℕ)
   pub plain : AllByRecursion IsRunLine front
-  pub one : HasJob bytes front i own
-  pub two : HasJob other front j own
+  pub one : HasOwnJob bytes front i own
+  pub two : HasOwnJob other front j own
 
 -- the other text holds no other job
-abbrev pub IsAlone : {i j : ℕ} {bytes other : List ℕ} → ShareJob i j bytes other → Type 0
-IsAlone h = (h.two.before ≡ []) × (h.two.later ≡ [])
+abbrev pub IsLoneJob : {i j : ℕ} {bytes other : List ℕ} → ShareJob i j bytes other → Type 0
+IsLoneJob h = (h.two.before ≡ []) × (h.two.later ≡ [])
 
 -- lines begin others
 abbrev pub BeginLines : List (List ℕ) → List (List ℕ) → Type 0
@@ -91,8 +91,8 @@ pub record ShareJobInTurns (i j : ℕ) (bytes other : List ℕ) : Type 0 where
   pub turns : AllByRecursion IsTurnLine first
   pub other_turns : AllByRecursion IsTurnLine other_first
   pub plain : AllByRecursion IsRunLine rest
-  pub one : HasJob bytes (first ++ rest) i own
-  pub two : HasJob other (other_first ++ rest) j own
+  pub one : HasOwnJob bytes (first ++ rest) i own
+  pub two : HasOwnJob other (other_first ++ rest) j own
 
 -- each line of a job is one of its task 1
 abbrev pub IsOfTaskOne : List (List ℕ) → Type 0

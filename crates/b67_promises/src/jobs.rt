@@ -6,7 +6,7 @@ ghost use Rattle.b67_task_tables.specs.declared.tables.Machine.{Machine};
 ghost use Rattle.b67_job.specs.Device.{device_of};
 ghost use Rattle.b67_job.specs.Due.{Answered};
 ghost use Rattle.b67_promises.specs.Paging.{AsksForRun, AsksForRunIn, EndsToo};
-ghost use Rattle.b67_promises.specs.Jobs.{JobsNeedNoOthers, ShareJob, IsAlone, SameOfJob, printed_by_job, ShareJobInTurns, IsOfTaskOne};
+ghost use Rattle.b67_promises.specs.Jobs.{JobsNeedNoOthers, ShareJob, IsLoneJob, SameOfJob, printed_by_job, ShareJobInTurns, IsOfTaskOne};
 
 use b67_backing::Backing;
 use b67_io::{Sink, Source};
@@ -43,7 +43,7 @@ pub fn run_apart<S: Source, K: Sink, B: Backing, T: Source, L: Sink, C: Backing>
         → SameOfJob i j K.taken printer.old printer.new result.0 L.taken other_printer.old other_printer.new result.1 }
 
     // The other deck holds the job alone, and runs in a core of no fewer words, over devices and a printer that don't fail.
-    ensures more_core { (bytes other : List ℕ) → (i j core more : ℕ) → (h : ShareJob i j bytes other) → IsAlone h → AsksForRunIn core words.now → AsksForRunIn more other_words.now → core ≤ more → more < 2 ^ 20
+    ensures more_core { (bytes other : List ℕ) → (i j core more : ℕ) → (h : ShareJob i j bytes other) → IsLoneJob h → AsksForRunIn core words.now → AsksForRunIn more other_words.now → core ≤ more → more < 2 ^ 20
         → S.left deck.old ≡ Some bytes → T.left other_deck.old ≡ Some other → B.holds backing.old ≢ None → C.holds other_backing.old ≢ None
         → Stayed T.faults other_deck.old other_deck.new → Stayed L.faults other_printer.old other_printer.new → Stayed C.faults other_backing.old other_backing.new
         → result.0 ≡ 0 → result.1 ≢ 2 → EndsToo result.0 result.1 }
