@@ -50,3 +50,4 @@ pub mod Holes
 pub mod OperatorsMade
 pub mod NearOnes
 pub mod Gives
+pub mod Openings

@@ -12,3 +12,4 @@ pub mod Brought
 pub mod AttemptStops
 pub mod AttemptPassed
 pub mod Makes
+pub mod Openings

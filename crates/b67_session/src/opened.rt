@@ -1,9 +1,12 @@
 //! Opening a session that runs.
 
-ghost use Rattle.std.specs.Prelude.{◌≡◌, ◌<◌, ◌≤◌, ◌^◌, length, map};
+ghost use Rattle.std.specs.Prelude.{◌≡◌, ◌<◌, ◌≤◌, ◌^◌, length, map, IfOk};
+ghost use Rattle.std.specs.List.{AllByRecursion};
 ghost use Rattle.b67_codefile.specs.Meaning.{program_of};
 ghost use Rattle.b67_layout_storage.specs.Machine.{DeviceAfterCalls};
-ghost use Rattle.b67_session_open.specs.Decks.{DeckInRange};
+ghost use Rattle.b67_session.specs.Openings.{MachinesAreOpen};
+ghost use Rattle.b67_session.specs.Slices.{IsOpen};
+ghost use Rattle.b67_session_open.specs.Decks.{DeckInRange, IsLoaded};
 ghost use Rattle.b67_session_open.specs.Opens.{IsOpened};
 ghost use Rattle.b67_model.specs.declared.limits.TheConstants.{LEAST_CORE};
 
@@ -13,6 +16,15 @@ use b67_load_verify::Admitted;
 use b67_model_text::Deck;
 use b67_session_open::{OpenFault, open as open_machine};
 use std::alloc::Global;
+
+// What the type of admitted programs says of each.
+fn know_programs(programs: &[Admitted])
+    ensures { AllByRecursion IsLoaded programs.now }
+{
+    'programs: for program in programs {
+        let _file = program.file();
+    }
+}
 
 /// Opens a deck's session with a program for each job, in a core of `core` words over a device: its machine represents the
 /// opening state, and a slice of steps may be called. Refused in this order: if memory is refused; with `NoCore` exactly if
@@ -30,10 +42,17 @@ pub fn open<B: Backing>(
     requires core_low { LEAST_CORE ≤ core_words }
     requires core_high { core_words < 2 ^ 20 }
     ensures opens { IsOpened B.holds B.size B.faults deck.now (map program_of programs.now) core_words backing.old backing.new result }
+    ensures open { IfOk result (λ k. IsOpen (B.holds backing.new) k) }
     ensures device { DeviceAfterCalls B.holds B.size B.calls B.faults backing.old backing.new }
 {
+    know_programs(programs);
     match open_machine(alloc, deck, programs, core_words, backing) {
         Ok(machine) => Ok(Session::of(machine)),
         Err(fault) => Err(fault),
     }
 }
+
+/// A slice may be called on each machine that represents a session, as that of an image does whatever its device holds.
+pub fn machines_are_open()
+    ensures { MachinesAreOpen }
+{}
