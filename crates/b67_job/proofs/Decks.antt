@@ -27,7 +27,9 @@ use Rattle.b67_job.specs.declared.summaries.Closing.{Closing}
 use Rattle.b67_job.specs.Texts.{only}
 use Rattle.b67_job.specs.Finishing.{refused_status, refused_line, SessionRan}
 use Rattle.b67_job.specs.Runs.{run_of, memory_refused, opening_wants_core, opening_wants_sectors, opening_fails, WasOpened, unopened, opened, DeckRunEnds, run_stops, step_is_cut, StepsEnd, steps_stop, next_is_cut}
-use Rattle.b67_job.proofs.Opened.{states_in_order, stays_ordered, says_after, stands_opened, stage_of, known_after, known_later}
+use Rattle.b67_session.proofs.Openings.{stands_opened}
+use Rattle.b67_session.proofs.Pausing.{says_retold}
+use Rattle.b67_job.proofs.Opened.{states_in_order, stays_ordered, known_after, known_later}
 use Rattle.b67_job.proofs.Ran.{closes_only, ran}
 use Rattle.b67_job.proofs.Closings.{none_printed}
 use Rattle.b67_model.specs.declared.limits.TheConstants.{MOST_MADE}
@@ -87,9 +89,6 @@ module _ {K B : Type 0} (taken : K → Option (List ℕ)) (failures : K → ℕ)
   stands : StandsAt said k0 first
   stands = stands_opened d fs said core (size b) k0 range loaded o.2
 
-  pub is_open : IsOpen (holds b') k0
-  is_open = record { stage = stage_of said (holds b') k0 first (says_after (holds b) (holds b')) stands; countable = o.2.countable }
-
   pub deck_run : (old new : K) (answer : ℕ) → DeviceAfterCalls holds size calls broken b b' → DeviceAfterCalls holds size calls broken b' b''
       → IsOpen (holds b'') k → Keeps k0 k
       → ((x : Option (List (List ℕ))) (s : Session) → Says x (holds b') → StandsAt x k0 s
@@ -98,7 +97,7 @@ module _ {K B : Type 0} (taken : K → Option (List ℕ)) (failures : K → ℕ)
   deck_run old new answer first_calls more_calls may_go_on keeps rans =
       let still = still_told holds b b' first_calls.tells in
       let r = subst (λ (x : Option (List (List ℕ))). SessionRan taken failures closing x (said ≢ None) (Rose broken b' b'') (size b') MOST_MADE first k0 k old new answer) (known_later (holds b) (holds b') (holds b'') still)
-      (rans said first (says_after (holds b) (holds b')) stands) in
+      (rans said first (says_retold (holds b) (holds b')) stands) in
       let now = content_after (holds b) (holds b'') in
       let begun : k0.tasks.made ≡ 0 = o.2.stands.tables.counts.made in
       let made : k.tasks.made ≡ r.slices.steps = from_none k.tasks.made k0.tasks.made r.slices.steps begun r.slices.made in

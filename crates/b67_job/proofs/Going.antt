@@ -16,6 +16,7 @@ use Rattle.b67_task_tables.proofs.Keeping.{halt_kept}
 use Rattle.b67_layout_storage.specs.Machine.{Says, DeviceAfterCalls, content_after}
 use Rattle.b67_session_lines.specs.Stops.{Run, IsFinished}
 use Rattle.b67_session.specs.Slices.{StandsAt, IsOpen, Keeps}
+use Rattle.b67_session.proofs.Openings.{stands_open}
 use Rattle.b67_session.proofs.Shaping.{shaped}
 use Rattle.b67_image.specs.Parts.{ImageParts}
 use Rattle.b67_image.specs.Text.{limit}
@@ -38,7 +39,7 @@ use Rattle.b67_dump.specs.Laws.{DumpsAreShown}
 use Rattle.b67_session_lines.specs.Ends.{EndsPrinting}
 use Rattle.b67_job.specs.declared.command.CommandLine.TheVariants as lines
 use Rattle.b67_job.specs.Due.{Serves, answered, image_due, dump_due, DumpEnds, is_dumped, isnt_read, reading_due, memory_due, reading_text, ImageRefusalEnds}
-use Rattle.b67_job.proofs.Opened.{stays_ordered, stage_of}
+use Rattle.b67_job.proofs.Opened.{stays_ordered, states_follow}
 use Rattle.b67_job.proofs.Closings.{none_printed}
 use Rattle.b67_job.proofs.Ran.{ran, closes_only}
 use Rattle.b67_job.proofs.Finished.{is_finished}
@@ -52,7 +53,7 @@ image_stands p image shows = let r = shows.stands in (r.session, record { storag
 
 -- so a slice may be called on it
 pub image_is_open : (told : Option (List (List ℕ))) (image : Machine) → (s : Session) × StandsAt None image s → AreCountable image.tasks.jobs → IsOpen told image
-image_is_open told image some countable = record { stage = stage_of None told image some.0 tt some.1; countable = countable }
+image_is_open told image some countable = stands_open None told image some.0 tt some.1 countable
 
 -- ---- its steps
 
@@ -71,7 +72,7 @@ module _ {K B : Type 0} (taken : K → Option (List ℕ)) (failures : K → ℕ)
       let made : k.tasks.made ≡ image.tasks.made + r.slices.steps = r.slices.made in
       let unhalted : k.tasks.halt ≡ None = halt_kept image k keeps ∙ halt in (
         r.slices.steps,
-        record { made = made; in_order = λ j low. stays_ordered j s stands.ordered; fitted = λ tells. (r.slices.its tells).fits },
+        record { made = made; in_order = states_follow r.slices.steps s stands.ordered; fitted = λ tells. (r.slices.its tells).fits },
         ran taken failures (knowing told device) (length image.cpu.core) (run_from s) closings.Plain k (told ≢ None) (λ tells. tells) r.slices.steps r.slices.session r.slices.printed
             (omega (arith, made)) (stays_ordered r.slices.steps s stands.ordered)
             (λ j low e. none-some j e) (λ e. absurd (none-some k.tasks.made (sym unhalted ∙ e))) (λ e. absurd (none-some r.slices.steps e))

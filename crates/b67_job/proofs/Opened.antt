@@ -1,30 +1,19 @@
--- The session that a deck opens.
-use Rattle.std.proofs.Common.{◌≡◌, ◌≢◌, ◌⊎◌, inl, inr, ℕ, zero, suc, List, [], ◌∷◌, map, refl, sym, ◌∙◌, subst, Option, Some, None}
+-- The states of a run.
+use Rattle.std.proofs.Common.{◌≡◌, ◌≢◌, ℕ, ◌≤◌, zero, suc, List, map, refl, sym, subst, Option, Some, None}
 use Rattle.std.specs.List.{AllByRecursion}
 use Rattle.b67_codefile.specs.declared.file.Codefile.{Codefile}
 use Rattle.b67_codefile.specs.Meaning.{program_of}
 use Rattle.b67_model_text.specs.declared.deck.Deck.{Deck}
-use Rattle.b67_model.specs.Common.{Session, RunLine, StepResult, after, after_from, next, lines, IsInOrderButPlaces}
-use Rattle.b67_law_order.proofs.Opens.{opens_in_order}
-use Rattle.b67_law_order.proofs.RunSessions.{runs_stay_in_order, sessions_stay_in_order_but_places}
-use Rattle.b67_law_sessions.proofs.Makers.{runs_make_their_words}
-use Rattle.b67_law_order.proofs.Sessions.{starts_are_segments}
-use Rattle.b67_layout_storage.specs.Machine.{content_after, Says}
-use Rattle.b67_session_open.specs.Opened.{opening_plan}
-use Rattle.b67_task_tables.specs.declared.tables.TaskRow.{TaskRow}
-use Rattle.b67_task_tables.specs.declared.tables.Machine.{Machine}
+use Rattle.b67_model.specs.Common.{Session, RunLine, StepResult, after, after_from, next, lines, IsInOrder, IsInOrderButPlaces}
+use Rattle.b67_law_order.specs.Runs.{RunsAdmitted}
+use Rattle.b67_law_order.proofs.RunSessions.{runs_stay_in_order, sessions_stay_in_order, sessions_stay_in_order_but_places}
+use Rattle.b67_law_sessions.proofs.Makers.{runs_make_their_words, sessions_keep_or_make_their_words}
+use Rattle.b67_layout_storage.specs.Machine.{content_after}
 use Rattle.b67_task_tables.specs.Tables.{switch_of}
 use Rattle.b67_session_open.specs.Decks.{openings_of, session_of, DeckInRange, IsLoaded}
-use Rattle.b67_session_open.specs.Opens.{OpensAs}
 use Rattle.b67_session_open.proofs.Decks.{deck_within}
-use Rattle.b67_session.specs.Slices.{StandsAt, LivesOn, StandsLimited, HasNoTasks}
-use Rattle.b67_session.proofs.Going.{rests_now, next_now}
 use Rattle.b67_law_sessions.proofs.ApartLemmas.{jobs_apart, states_apart}
-use Rattle.b67_job.specs.States.{StatesInOrder, JobsRunApart}
-
-pub ordered_opens : (d : Deck) (fs : List Codefile) → DeckInRange d → AllByRecursion IsLoaded fs → IsInOrderButPlaces (session_of d (map program_of fs))
-ordered_opens d fs range loaded =
-    starts_are_segments (session_of d (map program_of fs)) (opens_in_order d.stack d.quantum (map switch_of d.switches) (openings_of d.jobs (map program_of fs)) (deck_within d fs range loaded))
+use Rattle.b67_job.specs.States.{StatesInOrder, StatesFollow, JobsRunApart}
 
 -- every state of the run is in order, and its words were made by operators or by the loader
 pub states_in_order : (d : Deck) (fs : List Codefile) (n : ℕ) → DeckInRange d → AllByRecursion IsLoaded fs → StatesInOrder n (session_of d (map program_of fs))
@@ -33,7 +22,7 @@ states_in_order d fs n range loaded = record {
   made = λ j low m t f. runs_make_their_words j d.stack d.quantum (map switch_of d.switches) (openings_of d.jobs (map program_of fs)) m t f;
 }
 
--- steps keep a session in order but for places
+-- steps keep a session in order but for its places
 pub stays_ordered : (n : ℕ) (s : Session) → IsInOrderButPlaces s → IsInOrderButPlaces (after n s)
 stays_ordered zero s o = o
 stays_ordered (suc n) s o = by_next (λ s' o'. stays_ordered n s' o') (next s) refl
@@ -41,6 +30,22 @@ stays_ordered (suc n) s o = by_next (λ s' o'. stays_ordered n s' o') (next s) r
     by_next : ((s' : Session) → IsInOrderButPlaces s' → IsInOrderButPlaces (after n s')) → (m : Option StepResult) → next s ≡ m → IsInOrderButPlaces (after_from (suc n) s m)
     by_next rest None e = o
     by_next rest (Some m) e = rest m.session (sessions_stay_in_order_but_places s m o e)
+
+-- and in order, if its jobs run admitted programs
+stays_placed : (n : ℕ) (s : Session) → IsInOrder s → AllByRecursion RunsAdmitted s.jobs → IsInOrder (after n s)
+stays_placed zero s o admitted = o
+stays_placed (suc n) s o admitted = by_next (λ s' o' admitted'. stays_placed n s' o' admitted') (next s) refl
+  where
+    by_next : ((s' : Session) → IsInOrder s' → AllByRecursion RunsAdmitted s'.jobs → IsInOrder (after n s')) → (m : Option StepResult) → next s ≡ m → IsInOrder (after_from (suc n) s m)
+    by_next rest None e = o
+    by_next rest (Some m) e = let kept = sessions_stay_in_order s m o admitted e in rest m.session kept.0 kept.1
+
+pub states_follow : (steps : ℕ) (first : Session) → IsInOrderButPlaces first → StatesFollow steps first
+states_follow steps first o = record {
+  in_order = λ j low. stays_ordered j first o;
+  places = λ ordered admitted j low. stays_placed j first ordered admitted;
+  made = λ j low m t f. sessions_keep_or_make_their_words j first m t f;
+}
 
 -- and each job has run apart
 jobs_run_apart : (steps : ℕ) (first : Session) → JobsRunApart steps first (after steps first) (lines steps first)
@@ -51,35 +56,6 @@ pub run_apart_to : (steps : ℕ) (first s : Session) (printed : List RunLine) �
 run_apart_to steps first s printed e f =
     let at : JobsRunApart steps first (after steps first) printed = subst (λ (ls : List RunLine). JobsRunApart steps first (after steps first) ls) (sym f) (jobs_run_apart steps first) in
     subst (λ (z : Session). JobsRunApart steps first z printed) (sym e) at
-
-not_empty : (row : TaskRow) (rows : List TaskRow) → row ∷ rows ≢ []
-not_empty row rows e = cc
-
--- what is known of the sectors is what the device tells, if anything is known
-pub says_after : (before now : Option (List (List ℕ))) → Says (content_after before now) now
-says_after None now = tt
-says_after (Some all) None = tt
-says_after (Some all) (Some other) = refl
-
--- the machine that opens represents the deck's session
-pub stands_opened : (d : Deck) (fs : List Codefile) (told : Option (List (List ℕ))) (core sectors : ℕ) (k : Machine) → DeckInRange d → AllByRecursion IsLoaded fs → OpensAs told d (map program_of fs) core sectors k
-    → StandsAt told k (session_of d (map program_of fs))
-stands_opened d fs told core sectors k range loaded o = record {
-  storage = o.storage;
-  plan = opening_plan d.stack (map program_of fs);
-  ordered = ordered_opens d fs range loaded;
-  stands = o.stands;
-}
-
--- a slice may be called on a machine that represents a session
-pub stage_of : (said told : Option (List (List ℕ))) (k : Machine) (s : Session) → Says said told → StandsAt said k s → LivesOn told k ⊎ (StandsLimited told k ⊎ HasNoTasks told k)
-stage_of said told k s says stands = by k.tasks.rows.items refl
-  where
-    by : (rows : List TaskRow) → k.tasks.rows.items ≡ rows → LivesOn told k ⊎ (StandsLimited told k ⊎ HasNoTasks told k)
-    by [] e = inr (inr (record { said = said; says = says; session = s; ordered = stands.ordered; rests = rests_now said k s stands e }))
-    by (row ∷ rows) e =
-        let n = next_now said k s stands (λ none. not_empty row rows (sym e ∙ none)) in
-        inl (record { some = record { said = said; says = says; session = s; stands = stands }; member = n.0; task = n.1; next = n.2 })
 
 -- where the device told its sectors, and still does, these are known, and then known again
 pub known_after : (before now : Option (List (List ℕ))) → before ≢ None → now ≢ None → content_after before now ≢ None

@@ -1,7 +1,7 @@
 -- How a run goes on from the machine of an image.
 use Rattle.std.specs.Prelude.{◌≡◌, ℕ, ◌+◌, ◌≤◌, List, length, Option, Some, None, Ok}
 use denote.Ref.{Bor}
-use Rattle.b67_model.specs.Common.{IsInOrderButPlaces, Session, after}
+use Rattle.b67_model.specs.Common.{Session}
 use Rattle.b67_layout_storage.specs.Machine.{Says}
 use Rattle.b67_session_lines.specs.Stops.{Run}
 use Rattle.b67_session.specs.Slices.{StandsAt, Keeps}
@@ -12,6 +12,7 @@ use Rattle.b67_job.specs.declared.summaries.Closing.TheVariants as closings
 use Rattle.b67_job.specs.Command.{command_line_of}
 use Rattle.b67_job.specs.Device.{Device, DeviceTells, knowing}
 use Rattle.b67_job.specs.Runs.{IsOpen, IsShaped, StepsFit, StepsEnd}
+use Rattle.b67_job.specs.States.{StatesFollow}
 
 -- a run from a session on, to no halt
 abbrev pub run_from : Session → Run
@@ -23,11 +24,11 @@ pub record IsImageOf {S : Type 0} (words : List (Bor (List ℕ))) (left : S → 
   pub is : command_line_of words ≡ Some lines.Resume
   pub read : IsImageRead left source_faults deck deck' (Some sectors) (Ok image)
 
--- The machine of an image has made so many steps from a session, which are counted on. Each state up to there is in order; and if it
--- is known what the device's sectors hold, none of the steps needed more words than core has.
+-- The machine of an image has made so many steps from a session, which are counted on. Each state up to there follows from it, in
+-- order; and if it is known what the device's sectors hold, none of the steps needed more words than core has.
 pub record StepsFrom {B : Type 0} (d : Device B) (steps : ℕ) (first : Session) (image k : Machine) : Type 0 where
   pub made : k.tasks.made ≡ image.tasks.made + steps
-  pub in_order : (j : ℕ) → j ≤ steps → IsInOrderButPlaces (after j first)
+  pub in_order : StatesFollow steps first
   pub fitted : DeviceTells d → StepsFit (length image.cpu.core) steps first
 
 -- The machine of an image has gone on to this one. It has its core and its sectors, no halt, and what else a deck gives: turns,

@@ -1,10 +1,12 @@
 -- The states of a run: in order, with what made their words, and each job apart.
 use Rattle.std.specs.Prelude.{◌≡◌, ℕ, ◌≤◌, List, Some}
 use Rattle.b67_lemmas.specs.Lists.{Has}
-use Rattle.b67_model.specs.Common.{alone_lines, lines_of_job, makers_from, tasks_of_job, Frame, Task, SessionJob, Session, IsInOrder, RunLine, number_of, after, next}
+use Rattle.std.specs.List.{AllByRecursion}
+use Rattle.b67_model.specs.Common.{alone_lines, lines_of_job, makers_from, tasks_of_job, Frame, Task, SessionJob, Session, IsInOrder, IsInOrderButPlaces, RunLine, number_of, after, next}
 use Rattle.b67_model.specs.Keyed.{keyed}
 use Rattle.b67_law_sessions.specs.JobsApart.{alone_after}
-use Rattle.b67_law_sessions.specs.RunMade.{FrameMadeInRun}
+use Rattle.b67_law_order.specs.Runs.{RunsAdmitted}
+use Rattle.b67_law_sessions.specs.RunMade.{FrameMadeInRun, FrameKeptOrMade}
 
 -- After so many steps each word, mark and return of a live frame was made by the operator of an earlier step of its job, but
 -- for the mark of the outer block's frame, which the loader made.
@@ -16,6 +18,19 @@ IsMadeByOperators steps first =
 pub record StatesInOrder (steps : ℕ) (first : Session) : Type 0 where
   pub ordered : (j : ℕ) → j ≤ steps → IsInOrder (after j first)
   pub made : (j : ℕ) → j ≤ steps → IsMadeByOperators j first
+
+-- After so many steps each word of a live frame stood in a live task of its job before them, or was made by the operator of one
+-- of them of its job; so was its mark, with its return.
+abbrev pub IsKeptOrMade : ℕ → Session → Type 0
+IsKeptOrMade steps first =
+    (m : SessionJob) (t : Task) (f : Frame) → Has (after steps first).jobs m → Has m.progress.job.tasks t → Has t.frames f → FrameKeptOrMade first steps (number_of m) f
+
+-- so it is in each state, from any session up to that after so many steps; each is in order but for its places, and in order if
+-- the first one is and its jobs run admitted programs
+pub record StatesFollow (steps : ℕ) (first : Session) : Type 0 where
+  pub in_order : (j : ℕ) → j ≤ steps → IsInOrderButPlaces (after j first)
+  pub places : IsInOrder first → AllByRecursion RunsAdmitted first.jobs → (j : ℕ) → j ≤ steps → IsInOrder (after j first)
+  pub made : (j : ℕ) → j ≤ steps → IsKeptOrMade j first
 
 -- After so many steps, of which these lines were printed and which led to this session: each job has printed the lines, and
 -- has come to the state with the endings of its tasks, that its own steps alone give, in their order, whatever the other jobs

@@ -21,7 +21,7 @@ pub use b67_session_open::OpenFault;
 pub use b67_task_switch::schedule;
 pub use fits::{made_fits, present_fits};
 pub use making::make;
-pub use opened::{machines_are_open, open};
+pub use opened::{know_programs, machines_are_open, open};
 pub use outcomes::Attempt;
 pub use running::Session;
 pub use slices::{Progress, slice};

@@ -17,8 +17,8 @@ use b67_model_text::Deck;
 use b67_session_open::{OpenFault, open as open_machine};
 use std::alloc::Global;
 
-// What the type of admitted programs says of each.
-fn know_programs(programs: &[Admitted])
+/// What the type of admitted programs says of each; it does nothing, and is there for proofs.
+pub fn know_programs(programs: &[Admitted])
     ensures { AllByRecursion IsLoaded programs.now }
 {
     'programs: for program in programs {

@@ -1,8 +1,5 @@
 use Rattle.std.proofs.Common.{arith}
-use Rattle.b67_io.specs.Paper.{paper_told, paper_faults}
 use Rattle.b67_io.specs.Tape.{tape_told, tape_faults}
-use Rattle.b67_job.specs.declared.summaries.Closing.TheVariants as closings
-use Rattle.b67_job.proofs.Decks.{is_open}
 use Rattle.b67_job.proofs.Served.{loaded_in_range}
 use Rattle.b67_job.proofs.failing.two_slices.Goals as goal
 
@@ -13,10 +10,7 @@ pub open-requires-clause-each : goal.open-requires-clause-each
 open-requires-clause-each g c = rw c.as_slice-programs.ensures (loaded_in_range tape_told tape_faults c.new-tape.result c.admit.new.source c.in-Ok.loaded c.in-Ok.ensures.answer).1
 
 pub slice-first-requires-clause-open : goal.slice-first-requires-clause-open
-slice-first-requires-clause-open g c =
-    is_open paper_told paper_faults g.B.Backing.holds g.B.Backing.size g.B.Backing.calls g.B.Backing.faults c.in-Ok.loaded.deck c.as_slice-programs.result.now c.args.core closings.Plain
-    (loaded_in_range tape_told tape_faults c.new-tape.result c.admit.new.source c.in-Ok.loaded c.in-Ok.ensures.answer).0 c.know_programs.ensures
-    c.args.backing.now c.open.new.backing c.open.new.backing c.in-Ok-open.session c.in-Ok-open.session c.in-Ok-open.ensures.opens
+slice-first-requires-clause-open g c = c.in-Ok-open.ensures.open
 
 pub slice-first-requires-clause-sized : goal.slice-first-requires-clause-sized
 slice-first-requires-clause-sized g c = let links = c.in-Ok-open.ensures.opens.2.sized in omega (arith, links, c.open.ensures.device.size)

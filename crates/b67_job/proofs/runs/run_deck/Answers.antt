@@ -1,6 +1,7 @@
 use Rattle.std.proofs.Common.{map, arith}
 use Rattle.b67_codefile.specs.Meaning.{program_of}
-use Rattle.b67_job.proofs.Decks.{refused, is_open, deck_run, after_more}
+use Rattle.b67_session.proofs.Openings.{opens_open}
+use Rattle.b67_job.proofs.Decks.{refused, deck_run, after_more}
 use Rattle.b67_job.proofs.runs.run_deck.Goals as goal
 
 pub returns-in-Err-clause-ends : goal.returns-in-Err-clause-ends
@@ -10,8 +11,8 @@ returns-in-Err-clause-ends g c =
 
 pub run_session-status-requires-clause-open : goal.run_session-status-requires-clause-open
 run_session-status-requires-clause-open g c =
-    is_open g.K.Sink.taken g.K.Sink.faults g.B.Backing.holds g.B.Backing.size g.B.Backing.calls g.B.Backing.faults c.args.deck.now c.args.programs.now c.args.core c.args.closing
-    c.requires.range c.know_programs.ensures c.args.backing.now c.open.new.backing c.open.new.backing c.in-Ok.machine c.in-Ok.machine c.in-Ok.ensures.opens
+    opens_open c.args.deck.now c.args.programs.now (g.B.Backing.holds c.args.backing.now) (g.B.Backing.holds c.open.new.backing) c.args.core (g.B.Backing.size c.args.backing.now) c.in-Ok.machine
+    c.requires.range c.know_programs.ensures c.in-Ok.ensures.opens.2
 
 pub run_session-status-requires-clause-sized : goal.run_session-status-requires-clause-sized
 run_session-status-requires-clause-sized g c =
