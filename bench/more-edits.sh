@@ -1,28 +1,39 @@
 #!/usr/bin/env bash
 # Tries the edits of crates/NAME/more-edits, which the gate leaves out: each crate's edits cost it another check from
 # nothing. It works on a clone of what is committed, in the temporary folder, for the crates that are named, or for all that
-# have some, and prints a line for each crate and each edit that the prover didn't refuse by a clause. It ends with status 1
-# if an edit was proved, couldn't be read or couldn't be tried. What checks of the same crates kept on this machine is taken
-# over, so run it where the crates have just passed.
-[ -n "${BASH_VERSION:-}" ] || { echo "usage: bash bench/more-edits.sh [NAME..]" >&2; exit 2; }
+# have some; NAME/EDIT tries one edit alone, of more-edits or of the gate's. It prints a line for each crate and each edit that
+# the prover didn't refuse by a clause. It ends with status 1 if an edit was proved, couldn't be read or couldn't be tried.
+# What checks of the same crates kept on this machine is taken over, so run it where the crates have just passed.
+[ -n "${BASH_VERSION:-}" ] || { echo "usage: bash bench/more-edits.sh [NAME|NAME/EDIT..]" >&2; exit 2; }
 set -euo pipefail
 top=$(cd "$(dirname "$0")/.." && pwd)
 room=$(mktemp -d)
 trap 'rm -rf "$room"' EXIT
 git clone -q "$top" "$room/b67"
 cd "$room/b67"
-names=("$@")
-if [ ${#names[@]} -eq 0 ]; then
-    mapfile -t names < <(for folder in crates/*/more-edits; do basename "$(dirname "$folder")"; done)
+wanted=("$@")
+if [ ${#wanted[@]} -eq 0 ]; then
+    mapfile -t wanted < <(for folder in crates/*/more-edits; do basename "$(dirname "$folder")"; done)
 fi
-for name in "${names[@]}"; do
-    compgen -G "crates/$name/more-edits/*.edit" > /dev/null || {
-        printf '%s has no more-edits\nusage: bash bench/more-edits.sh [NAME..]\n' "$name" >&2
+mapfile -t names < <(printf '%s\n' "${wanted[@]%%/*}" | awk '!seen[$0]++')
+for word in "${wanted[@]}"; do
+    name=${word%%/*}
+    edit='*'
+    [ "$word" = "$name" ] || edit=${word#*/}
+    places=("crates/$name/more-edits")
+    [ "$edit" = '*' ] || places+=("crates/$name/must-fail")
+    mapfile -t found < <(find "${places[@]}" -name "$edit.edit" 2>/dev/null)
+    if [ ${#found[@]} -eq 0 ]; then
+        printf '%s: no such edit\nusage: bash bench/more-edits.sh [NAME|NAME/EDIT..]\n' "$word" >&2
         exit 2
-    }
+    fi
+    mkdir -p "$room/tried/$name"
+    cp "${found[@]}" "$room/tried/$name/"
+done
+for name in "${names[@]}"; do
     # the gate tries those of must-fail
     rm -rf "crates/$name/must-fail"
-    cp -r "crates/$name/more-edits" "crates/$name/must-fail"
+    cp -r "$room/tried/$name" "crates/$name/must-fail"
 done
 
 # what a crate's log says: the line of the table, and the edits that need a look
