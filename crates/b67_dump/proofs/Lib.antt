@@ -6,11 +6,9 @@ mod Walked
 mod Session
 mod Counted
 mod Sought
-mod Slots
 mod Putting
 mod Printed
 mod Sorted
-mod Tops
 mod Lined
 mod Stopped
 mod Nearest

@@ -1,6 +1,7 @@
 -- The text of a dump as it is read off a machine: marks are walked down, and places and addresses go back to records.
 use Rattle.std.specs.Prelude.{ℕ, zero, suc, ◌+◌, ◌-◌, ◌*◌, ◌/◌, ◌%◌, ◌^◌, ◌==◌, nat_lt, nat_le, List, [], ◌∷◌, ◌++◌, length, Option, Some, None, codes, decimal, if◌then◌else◌}
 use Rattle.b67_word.specs.Tagged.{Tagged, bits_at}
+use Rattle.b67_ctl.specs.declared.map.TheConstants.{DICTIONARY_STACKS, SLOTS}
 use Rattle.b67_io.specs.Line.{ended}
 use Rattle.b67_model.specs.Lines.{task_name}
 use Rattle.b67_model.specs.Keyed.{keyed}
@@ -38,8 +39,8 @@ slot_start k slot = k.regs.stacks + slot * k.regs.stack_size
 -- the record whose mark stands at a place, seen from a job
 abbrev pub record_at : Sight → ℕ → StackPlace → List ℕ
 record_at k job p =
-    if nat_lt p.stack 120 then beside (task_name job (number_seen k.tasks p.stack)) (decimal (length (marks_in k.core k.regs.stack_size (slot_start k p.stack + p.disp))))
-    else (if p.stack == 127 + job then beside (codes "DICT") (decimal job) else codes "MCP")
+    if nat_lt p.stack SLOTS then beside (task_name job (number_seen k.tasks p.stack)) (decimal (length (marks_in k.core k.regs.stack_size (slot_start k p.stack + p.disp))))
+    else (if p.stack == DICTIONARY_STACKS + job then beside (codes "DICT") (decimal job) else codes "MCP")
 
 -- the topmost mark of the task in a slot
 abbrev pub top_mark_by : Sight → Option TaskRow → ℕ

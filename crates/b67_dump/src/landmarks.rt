@@ -6,15 +6,18 @@ ghost use Rattle.b67_dump.specs.declared.landmarks.TheConstants.{LANDMARKS};
 ghost use Rattle.b67_dump.specs.Walk.{marks_in, marks_under, offset_from};
 ghost use Rattle.b67_dump.specs.Landmarks.{IsKnown, IsLandmark, AreLandmarks, block_end, marks_of_slot};
 
-use crate::walking::{
-    Owner, count_marks, offset_over, owner_of, slot_start, top_mark_in, word_or_zero,
-};
+use crate::walking::{Owner, count_marks, offset_over, owner_of, top_mark_in};
 use arrayvec::ArrayVec;
 use b67_core::Core;
+use b67_ctl::SLOTS;
+use b67_layout_shown::seeing::{slot_start, word_seen_at};
 use b67_task_tables::Machine;
 
-/// Each of 120 slots has 128 landmarks, one for every 128 words. They take 120 kilobytes of the stack of the program.
-pub const LANDMARKS: usize = 15360;
+/// How many landmarks a slot has: one for every 128 words.
+pub const SLOT_LANDMARKS: usize = 128;
+
+/// The landmarks of all slots. They take 120 kilobytes of the stack of the program.
+pub const LANDMARKS: usize = SLOTS as usize * SLOT_LANDMARKS;
 
 /// A mark and its number from the bottom of its stack; one of number 0 tells nothing.
 #[derive(Clone, Copy, Default)]
@@ -33,7 +36,7 @@ fn down_to(core: &Core, from: Landmark, home: u64) -> Landmark
         if u64::from(mark) <= home {
             return Landmark { mark, number: left };
         }
-        let back = word_or_zero(core, u64::from(mark)).part(0, 14);
+        let back = word_seen_at(core, u64::from(mark)).part(0, 14);
         mark = mark.saturating_sub(back as u32);
         left -= 1;
     }
@@ -66,7 +69,7 @@ fn block_end(machine: &Machine, at: usize) -> u64
     ensures { result ≡ block_end (sight_of machine.now) at }
 {
     let words = 128 * (128 - at as u64 % 128) - 1;
-    slot_start(machine, at as u64 / 128) + words
+    slot_start(machine.cpu.regs, at as u64 / 128) + words
 }
 
 /// A landmark of a list.
@@ -110,7 +113,7 @@ fn known_under(machine: &Machine, landmarks: &[Landmark], slot: u64, home: u64) 
     requires near { slot < 2 ^ 32 }
     ensures { IsKnown machine.now.cpu.core home (marks_of_slot (sight_of machine.now) slot) result }
 {
-    let block = home.saturating_sub(slot_start(machine, slot)) / 128;
+    let block = home.saturating_sub(slot_start(machine.cpu.regs, slot)) / 128;
     if block >= 128 {
         return Landmark { mark: 0, number: 0 };
     }

@@ -16,18 +16,14 @@ ghost use Rattle.b67_dump.specs.Landmarks.{AreLandmarks};
 ghost use Rattle.b67_dump.specs.Walk.{array_at_home, record_at, head_text, number_of_place, shape_text, state_text, word_text};
 
 use crate::landmarks::{Landmark, number_at, owner_in};
-use crate::walking::{TaskTop, disp_over, number_in_slot, slot_over, slot_start, word_or_zero};
+use crate::walking::{disp_over, number_in_slot, slot_over};
 use b67_core::Core;
+use b67_ctl::{DICTIONARY_STACKS, MCP_STACK, SLOTS};
 use b67_io::Line;
+use b67_layout_shown::seeing::{TaskTop, slot_start, word_seen_at};
 use b67_session_lines::{line_of, with_number, with_text};
 use b67_task_tables::{JobRow, Machine, TaskRow, TaskState};
 use b67_word::{Place, Word};
-
-/// The dictionary of job 1 stands at this number of a stack more than the job's.
-const DICTIONARIES: u64 = 127;
-
-/// The number of the MCP's stack.
-const MCP_STACK: u64 = 136;
 
 /// Appends a task's name.
 fn with_task(line: Line, job: u64, number: u32) -> Line
@@ -102,16 +98,16 @@ fn with_record(
     ensures text { result ≡ line ++ record_at (sight_of machine.now) job (record { stack = stack; disp = disp }) }
     ensures short { length result ≤ length line + 52 }
 {
-    if stack < 120 {
+    if stack < SLOTS as u64 {
         let number = number_in_slot(machine.tasks.rows.as_slice(), stack);
-        let mark = slot_start(machine, stack) + disp;
+        let mark = slot_start(machine.cpu.regs, stack) + disp;
         let marks = number_at(machine, landmarks, stack, mark);
         return with_number(
             with_text(with_task(line, job, number), " "),
             u64::from(marks),
         );
     }
-    if stack == DICTIONARIES + job {
+    if stack == DICTIONARY_STACKS as u64 + job {
         with_number(with_text(line, "DICT "), job)
     } else {
         with_text(line, "MCP")
@@ -151,7 +147,7 @@ fn home_named(core: &Core, w: Word) -> u32
 {
     let address = w.part(0, 20);
     if w.part(47, 1) == 1 {
-        word_or_zero(core, address.saturating_sub(1)).part(0, 20) as u32
+        word_seen_at(core, address.saturating_sub(1)).part(0, 20) as u32
     } else {
         address as u32
     }
@@ -258,7 +254,7 @@ fn with_cell(
     requires room { length line ≤ 60 }
     ensures { result ≡ line ++ shape_text (sight_of machine.now) (job_row row.now) job (shape_in machine.now.cpu.core at (word_seen_at machine.now.cpu.core at)) }
 {
-    let w = word_or_zero(&machine.cpu.core, at);
+    let w = word_seen_at(&machine.cpu.core, at);
     if w.tag() != 5 {
         return with_plain(line, machine, landmarks, job, w);
     }
@@ -300,7 +296,7 @@ pub fn frame_line(
     ensures { (top : ℕ) → result ≡ beside (codes "FRAME") (beside (decimal number)
         (head_text (sight_of machine.now) job (activation_in machine.now.cpu.core mark top).head)) }
 {
-    let w = word_or_zero(&machine.cpu.core, mark);
+    let w = word_seen_at(&machine.cpu.core, mark);
     let line = with_text(with_number(line_of("FRAME "), number), " ");
     if w.part(46, 1) == 1 {
         let line = with_number(with_text(line, "LEVEL "), w.part(14, 5));
@@ -346,9 +342,16 @@ fn with_waited(
         );
     }
     if mark == row.dict {
-        return with_record(line, machine, landmarks, job, DICTIONARIES + job, 0);
+        return with_record(
+            line,
+            machine,
+            landmarks,
+            job,
+            DICTIONARY_STACKS as u64 + job,
+            0,
+        );
     }
-    with_record(line, machine, landmarks, job, MCP_STACK, 0)
+    with_record(line, machine, landmarks, job, MCP_STACK as u64, 0)
 }
 
 /// Appends whether a task may go on.

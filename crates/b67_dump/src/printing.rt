@@ -18,8 +18,9 @@ ghost use Rattle.b67_dump.specs.Records.{record_text};
 use crate::landmarks::{Landmark, landmarks_of};
 use crate::lines::{cell_line, frame_line, task_line};
 use crate::order::{row_at, rows_of};
-use crate::walking::{TaskTop, count_marks, mark_at, stops_of, top_at, top_of, word_or_zero};
+use crate::walking::{count_marks, mark_at, stops_of, top_at};
 use b67_io::{Line, Sink, put_line};
+use b67_layout_shown::seeing::{TaskTop, top_of, word_seen_at};
 use b67_task_tables::{JobRow, Machine, TaskRow};
 use b67_word::Failed;
 
@@ -84,7 +85,7 @@ fn put_record<K: Sink>(
         Ok(()) => {}
         Err(failed) => return Err(failed),
     }
-    let head = 1 + word_or_zero(&machine.cpu.core, mark).part(46, 1);
+    let head = 1 + word_seen_at(&machine.cpu.core, mark).part(46, 1);
     let from = mark + head;
     put_cells(
         sink,

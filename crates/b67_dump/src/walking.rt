@@ -1,31 +1,18 @@
 //! The marks of a stack, walked down.
 
 ghost use Rattle.std.specs.Prelude.{◌≡◌, ℕ, ◌+◌, ◌/◌, ◌%◌, ◌≤◌, ◌<◌, ◌^◌, [], ◌∷◌, length, map, slice_get, Some};
-ghost use Rattle.b67_model.specs.Keyed.{keyed};
-ghost use Rattle.b67_task_tables.specs.declared.tables.TaskRow.{TaskRow};
 ghost use Rattle.b67_layout_shown.specs.Reading.{word_seen_at};
 ghost use Rattle.b67_task_tables.specs.Tables.{task_row};
-ghost use Rattle.b67_layout_shown.specs.Shown.{number_seen, top_in};
+ghost use Rattle.b67_layout_shown.specs.Shown.{number_seen};
 ghost use Rattle.b67_layout_shown.specs.Machines.{sight_of};
 ghost use Rattle.b67_dump.specs.Landmarks.{AreStops, IsBelow};
 ghost use Rattle.b67_dump.specs.Records.{top_above};
-ghost use Rattle.b67_dump.specs.Walk.{marks_in, marks_under, offset_from, slot_start, top_mark_in};
+ghost use Rattle.b67_dump.specs.Walk.{marks_in, marks_under, offset_from, top_mark_in};
 
 use arrayvec::ArrayVec;
 use b67_core::Core;
+use b67_layout_shown::seeing::{row_in_slot, top_of, word_seen_at};
 use b67_task_tables::{Machine, TaskRow};
-use b67_word::{Place, Word};
-
-/// The word at an address: beyond the end of core one of tag 0 and no bits.
-pub fn word_or_zero(core: &Core, at: u64) -> Word
-    ensures { result ≡ word_seen_at core.now at }
-{
-    if at < u64::from(core.size()) {
-        core.get(at as u32)
-    } else {
-        Word::of(0, 0)
-    }
-}
 
 /// How many marks stand from one down, at most `turns`.
 pub fn count_marks(core: &Core, turns: u32, mark: u64) -> u32
@@ -33,7 +20,7 @@ pub fn count_marks(core: &Core, turns: u32, mark: u64) -> u32
 {
     let mut at = mark;
     'down: for turn in 0..turns {
-        let back = word_or_zero(core, at).part(0, 14);
+        let back = word_seen_at(core, at).part(0, 14);
         if back == 0 {
             return turn + 1;
         }
@@ -55,7 +42,7 @@ pub fn offset_over(core: &Core, mark: u64, home: u32) -> u64
     ensures { result ≡ offset_from core.now home (mark ∷ []) }
 {
     let gap = u64::from(home).saturating_sub(mark);
-    if word_or_zero(core, mark).part(46, 1) == 1 {
+    if word_seen_at(core, mark).part(46, 1) == 1 {
         gap
     } else {
         gap + 1
@@ -75,7 +62,7 @@ pub fn owner_of(core: &Core, turns: u32, mark: u64, home: u32) -> Owner
                 offset: offset_over(core, at, home),
             };
         }
-        let back = word_or_zero(core, at).part(0, 14);
+        let back = word_seen_at(core, at).part(0, 14);
         if back == 0 {
             break;
         }
@@ -87,18 +74,6 @@ pub fn owner_of(core: &Core, turns: u32, mark: u64, home: u32) -> Owner
     }
 }
 
-/// The row of the task in a slot, None if there is none.
-pub fn row_in_slot(rows: &[TaskRow], slot: u64) -> Option<TaskRow>
-    ensures { result ≡ keyed (λ (r : TaskRow). r.slot) slot rows.now }
-{
-    'each: for row in rows {
-        if u64::from(row.slot) == slot {
-            return Some(*row);
-        }
-    }
-    None
-}
-
 /// The number of the task in a slot, 0 if there is none.
 pub fn number_in_slot(rows: &[TaskRow], slot: u64) -> u32
     ensures { result ≡ number_seen (map task_row rows.now) slot }
@@ -107,15 +82,6 @@ pub fn number_in_slot(rows: &[TaskRow], slot: u64) -> u32
         Some(row) => row.number,
         None => 0,
     }
-}
-
-/// The address of the word under the stack of a slot.
-pub fn slot_start(machine: &Machine, slot: u64) -> u64
-    requires { slot < 2 ^ 32 }
-    ensures at { result ≡ slot_start (sight_of machine.now) slot }
-    ensures near { result < 2 ^ 49 }
-{
-    u64::from(machine.cpu.regs.stacks) + slot * u64::from(machine.cpu.regs.stack_size)
 }
 
 /// The slot of an address that lies so far above the first slot.
@@ -132,42 +98,6 @@ pub fn disp_over(machine: &Machine, above: u32) -> u32
 {
     let size = u32::from(machine.cpu.regs.stack_size);
     if size == 0 { above } else { above % size }
-}
-
-/// The addresses of a task's top word and of its topmost mark, and where it goes on.
-#[derive(Clone, Copy)]
-pub struct TaskTop {
-    pub s: u64,
-    pub f: u64,
-    pub segment: u16,
-    pub place: Place,
-}
-
-/// The top of a task: in the registers if it runs, or else in the word under its stack and in its row.
-pub fn top_of(machine: &Machine, row: TaskRow) -> TaskTop
-    ensures s { result.s ≡ (top_in (sight_of machine.now) (task_row row)).s }
-    ensures f { result.f ≡ (top_in (sight_of machine.now) (task_row row)).f }
-    ensures segment { result.segment ≡ (top_in (sight_of machine.now) (task_row row)).segment }
-    ensures place { result.place ≡ (top_in (sight_of machine.now) (task_row row)).place }
-    ensures near { (result.s < 2 ^ 50) × (result.f < 2 ^ 50) }
-{
-    let regs = machine.cpu.regs;
-    let base = slot_start(machine, u64::from(row.slot));
-    if row.slot == regs.slot {
-        return TaskTop {
-            s: u64::from(regs.s),
-            f: u64::from(regs.f),
-            segment: regs.segment,
-            place: regs.place,
-        };
-    }
-    let w = word_or_zero(&machine.cpu.core, base);
-    TaskTop {
-        s: base + w.part(20, 16),
-        f: base + w.part(0, 14),
-        segment: row.segment,
-        place: row.place,
-    }
 }
 
 /// The topmost mark of the task in a slot, 0 if there is none.
@@ -190,7 +120,7 @@ fn mark_below(core: &Core, mark: u64, steps: u32) -> u64
 {
     let mut at = mark;
     'down: for _step in 0..steps {
-        at = at.saturating_sub(word_or_zero(core, at).part(0, 14));
+        at = at.saturating_sub(word_seen_at(core, at).part(0, 14));
     }
     at
 }

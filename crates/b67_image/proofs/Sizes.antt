@@ -5,6 +5,7 @@ use Rattle.std.proofs.lemmas.List.{length-append}
 use Rattle.std.proofs.lemmas.List.Concat.{flat_map-cons}
 use Rattle.std.proofs.lemmas.List.FromFn.{length-range_with_len}
 use Rattle.b67_io.specs.Line.{ended}
+use Rattle.b67_ctl.specs.declared.map.TheConstants.{SLOTS}
 use Rattle.b67_model_text.specs.Hex.{hex_char, hex_text}
 use Rattle.b67_task_tables.specs.declared.tables.JobRow.{JobRow}
 use Rattle.b67_image.specs.Parts.{ImageParts, parts_of}
@@ -15,7 +16,7 @@ use Rattle.b67_image.specs.Image.{image_text}
 use Rattle.b67_image.specs.Laws.{ImagesAreShort, numbers_for_read}
 use Rattle.b67_image.proofs.Forms.{name_short, all_parts}
 use Rattle.b67_image.proofs.Shapes.{flat_many, row_width}
-use Rattle.b67_model.specs.declared.limits.TheConstants.{MOST_JOBS, MOST_SWITCHES}
+use Rattle.b67_model.specs.declared.limits.TheConstants.{MOST_CORE, MOST_SECTORS, MOST_JOBS, MOST_SWITCHES}
 
 -- ---- lines
 
@@ -76,7 +77,11 @@ jobs_most (j ∷ jobs) h =
     let rest = jobs_most jobs h.1 in
     omega (arith, whole, one, name, rest)
 
-bytes_most : (p : ImageParts) → ArePartsWithin p → numbers_for_read p.jobs ≤ 2097152 → length (image_bytes p) ≤ 29363600 + 13 * MOST_SWITCHES
+-- the fields in their order: the header, core, what stands behind it, links, counts, switches, jobs with the numbers of a deck, rows
+abbrev whole_most : ℕ
+whole_most = 8 + (4 + 8 * MOST_CORE) + 412 + (4 + 4 * MOST_SECTORS) + 26 + (4 + 13 * MOST_SWITCHES) + (4 + 53 * MOST_JOBS + 8 * 2097152) + (4 + 21 * SLOTS)
+
+bytes_most : (p : ImageParts) → ArePartsWithin p → numbers_for_read p.jobs ≤ 2097152 → length (image_bytes p) ≤ whole_most
 bytes_most p h many =
     let i : List ℕ = listed_bytes task_row_bytes p.rows ++ [] in
     let g : List ℕ = listed_bytes job_bytes p.jobs ++ i in
@@ -87,21 +92,21 @@ bytes_most p h many =
     let b : List ℕ = flat_map two_bytes p.critical ++ c in
     let a : List ℕ = flat_map four_bytes p.display ++ b in
     let r : List ℕ = regs_bytes p.regs ++ a in
-    let tail : length i ≤ 2524 = let z = length-append (listed_bytes task_row_bytes p.rows) [] in let n = list_long task_row_bytes 21 row_width p.rows in let few = h.rows.few in omega (arith, z, n, few) in
-    let jobs : length g ≤ 16777644 + length i = let z = length-append (listed_bytes job_bytes p.jobs) i in let y = length-append (four_bytes (length p.jobs)) (flat_map job_bytes p.jobs) in jobs_fit p.jobs i z y (jobs_most p.jobs h.jobs.each) h.jobs.few many in
+    let tail : length i ≤ 4 + 21 * SLOTS = let z = length-append (listed_bytes task_row_bytes p.rows) [] in let n = list_long task_row_bytes 21 row_width p.rows in let few = h.rows.few in omega (arith, z, n, few) in
+    let jobs : length g ≤ 4 + 53 * MOST_JOBS + 8 * 2097152 + length i = let z = length-append (listed_bytes job_bytes p.jobs) i in let y = length-append (four_bytes (length p.jobs)) (flat_map job_bytes p.jobs) in jobs_fit p.jobs i z y (jobs_most p.jobs h.jobs.each) h.jobs.few many in
     let switches : length f ≤ 4 + 13 * MOST_SWITCHES + length g = let z = length-append (listed_bytes switch_bytes p.switches) g in let n = list_long switch_bytes 13 (λ w. refl) p.switches in let few = h.switches.few in omega (arith, z, n, few) in
     let counts : length e ≡ 26 + length f = length-append (counts_bytes p.counts) f in
-    let links : length d ≤ 4194304 + length e = let z = length-append (listed_bytes four_bytes p.links) e in let n = list_long four_bytes 4 (λ k. refl) p.links in let few = h.links.few in omega (arith, z, n, few) in
+    let links : length d ≤ 4 + 4 * MOST_SECTORS + length e = let z = length-append (listed_bytes four_bytes p.links) e in let n = list_long four_bytes 4 (λ k. refl) p.links in let few = h.links.few in omega (arith, z, n, few) in
     let areas : length c ≡ 8 + length d = length-append (areas_bytes p.areas) d in
     let critical : length b ≡ 240 + length c = let z = length-append (flat_map two_bytes p.critical) c in let n = flat_many two_bytes 2 (λ k. refl) p.critical in let is = h.critical_many in omega (arith, z, n, is) in
     let display : length a ≡ 128 + length b = let z = length-append (flat_map four_bytes p.display) b in let n = flat_many four_bytes 4 (λ k. refl) p.display in let is = h.display_many in omega (arith, z, n, is) in
     let regs : length r ≡ 36 + length a = length-append (regs_bytes p.regs) a in
-    let core : length (listed_bytes tagged_bytes p.core ++ r) ≤ 8388604 + length r = let z = length-append (listed_bytes tagged_bytes p.core) r in let n = list_long tagged_bytes 8 (λ w. refl) p.core in let few = h.core.few in omega (arith, z, n, few) in
+    let core : length (listed_bytes tagged_bytes p.core ++ r) ≤ 4 + 8 * MOST_CORE + length r = let z = length-append (listed_bytes tagged_bytes p.core) r in let n = list_long tagged_bytes 8 (λ w. refl) p.core in let few = h.core.few in omega (arith, z, n, few) in
     let whole : length (image_bytes p) ≡ 8 + length (listed_bytes tagged_bytes p.core ++ r) = ap length (all_parts p) ∙ length-append (eight_bytes image_header) (listed_bytes tagged_bytes p.core ++ r) in
     omega (arith, tail, jobs, switches, counts, links, areas, critical, display, regs, core, whole)
   where
     jobs_fit : (jobs : List JobRow) (rest : List ℕ) → length (listed_bytes job_bytes jobs ++ rest) ≡ length (listed_bytes job_bytes jobs) + length rest → length (listed_bytes job_bytes jobs) ≡ 4 + length (flat_map job_bytes jobs)
-        → length (flat_map job_bytes jobs) ≤ 53 * length jobs + 8 * numbers_for_read jobs → length jobs ≤ MOST_JOBS → numbers_for_read jobs ≤ 2097152 → length (listed_bytes job_bytes jobs ++ rest) ≤ 16777644 + length rest
+        → length (flat_map job_bytes jobs) ≤ 53 * length jobs + 8 * numbers_for_read jobs → length jobs ≤ MOST_JOBS → numbers_for_read jobs ≤ 2097152 → length (listed_bytes job_bytes jobs ++ rest) ≤ 4 + 53 * MOST_JOBS + 8 * 2097152 + length rest
     jobs_fit jobs rest z y most few many = omega (arith, z, y, most, few, many)
 
 pub image_short : ImagesAreShort

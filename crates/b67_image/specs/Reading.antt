@@ -4,6 +4,7 @@ use Rattle.std.specs.Int.{w8, w16, w32, w64, cast_signed}
 use Rattle.b67_word.specs.Tagged.{Tagged}
 use Rattle.b67_word.specs.declared.couples.Place.{Place}
 use Rattle.b67_core.specs.Numbers.{word_of}
+use Rattle.b67_ctl.specs.declared.map.TheConstants.{SLOTS}
 use Rattle.b67_ctl.specs.declared.registers.Regs.{Regs}
 use Rattle.b67_area.specs.declared.directory.Areas.{Areas}
 use Rattle.b67_model_text.specs.Cards.{is_name}
@@ -203,7 +204,7 @@ read_row bytes = do
   Some (record { job = job.0; number = number.0; slot = slot.0; parent = parent.0; critical = critical.0; state = state.0; segment = segment.0; place = place.0 }, place.1)
 
 unfoldable pub read_rows : ItemReader (List TaskRow)
-read_rows bytes = read_counted 0 120 read_row bytes
+read_rows bytes = read_counted 0 SLOTS read_row bytes
 
 -- all of the items, behind the header
 unfoldable pub read_parts : ItemReader ImageParts
@@ -211,7 +212,7 @@ read_parts bytes = do
   core ← read_core bytes
   regs ← read_regs core.1
   display ← read_many (read_number w32) 32 regs.1
-  critical ← read_many (read_number w16) 120 display.1
+  critical ← read_many (read_number w16) SLOTS display.1
   areas ← read_areas critical.1
   links ← read_links areas.1
   counts ← read_counts links.1

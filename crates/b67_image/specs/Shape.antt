@@ -2,6 +2,7 @@
 use Rattle.std.specs.Prelude.{ℕ, zero, suc, ◌+◌, ◌*◌, ◌==◌, nat_lt, Bool, false, List, length, drop, Option, Some, None, if◌then◌else◌}
 use Rattle.b67_image.specs.Giving.{◌>>=◌, read_number}
 use Rattle.std.specs.Int.{w8, w32, w64}
+use Rattle.b67_image.specs.declared.widths.TheConstants.{BEHIND_CORE, COUNTS, JOB_FRONT, SWITCH, TASK_ROW}
 use Rattle.b67_image.specs.Spelling.{image_header}
 
 -- what lies behind bytes: none where there are fewer
@@ -15,11 +16,11 @@ skipped n bytes = if nat_lt (length bytes) n then None else Some (drop n bytes)
 unfoldable pub skipped_list : ℕ → Skip
 skipped_list width bytes = read_number w32 bytes >>= λ n. skipped (n.0 * width) n.1
 
--- a job: the length of its name and the name; 28 bytes of numbers; its numbers for READ; a number more
+-- a job: the length of its name and the name; the numbers in front; its numbers for READ; a number more
 unfoldable pub skipped_job : Skip
 skipped_job bytes = do
   n ← read_number w8 bytes
-  a ← skipped (n.0 + 28) n.1
+  a ← skipped (n.0 + JOB_FRONT) n.1
   b ← skipped_list 8 a
   skipped 4 b
 
@@ -36,12 +37,12 @@ unfoldable pub skipped_all : Skip
 skipped_all bytes = do
   a ← skipped 8 bytes
   b ← skipped_list 8 a
-  c ← skipped 412 b
+  c ← skipped BEHIND_CORE b
   d ← skipped_list 4 c
-  e ← skipped 26 d
-  f ← skipped_list 13 e
+  e ← skipped COUNTS d
+  f ← skipped_list SWITCH e
   g ← skipped_jobs f
-  skipped_list 21 g
+  skipped_list TASK_ROW g
 
 -- nothing lies behind it
 abbrev pub is_end : Option (List ℕ) → Bool

@@ -4,6 +4,7 @@ use Rattle.std.specs.List.{AllByRecursion}
 use Rattle.std.specs.Int.{w64}
 use mir.Val.{SFits}
 use Rattle.b67_word.specs.Tagged.{IsWord}
+use Rattle.b67_ctl.specs.declared.map.TheConstants.{SLOTS}
 use Rattle.b67_model_text.specs.declared.deck.Switch.{Switch}
 use Rattle.b67_task_tables.specs.declared.tables.JobRow.{JobRow}
 use Rattle.b67_image.specs.Parts.{ToldCounts, ImageParts}
@@ -45,7 +46,7 @@ pub record AreTyped (p : ImageParts) : Type 0 where
   pub display : AllByRecursion IsFour p.display
   pub display_many : length p.display ≡ 32
   pub critical : AllByRecursion IsTwo p.critical
-  pub critical_many : length p.critical ≡ 120
+  pub critical_many : length p.critical ≡ SLOTS
   pub areas : AreAreas p.areas
   pub links : AllByRecursion IsFour p.links
   pub counts : AreTypedCounts p.counts

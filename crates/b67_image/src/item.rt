@@ -28,6 +28,7 @@ impl Model for Item {
 }
 
 impl Item {
+    /// No bytes.
     pub fn new() -> Self
         ensures { result ≡ [] }
     {
@@ -36,12 +37,14 @@ impl Item {
         }
     }
 
+    /// The bytes.
     pub fn as_slice(&self) -> &[u8]
         ensures { result.now ≡ self.now }
     {
         self.bytes.as_slice()
     }
 
+    /// Appends bytes.
     pub fn put(&mut self, bytes: &[u8])
         requires { length self.old + length bytes.now ≤ 64 }
         ensures { self.new ≡ self.old ++ bytes.now }
@@ -49,6 +52,7 @@ impl Item {
         let _ = self.bytes.try_extend_from_slice(bytes);
     }
 
+    /// Appends a number in one byte.
     pub fn one(&mut self, n: u8)
         requires { length self.old + 1 ≤ 64 }
         ensures { self.new ≡ self.old ++ one_byte n }
@@ -56,6 +60,7 @@ impl Item {
         self.put(&n.to_be_bytes());
     }
 
+    /// Appends a number in two bytes.
     pub fn two(&mut self, n: u16)
         requires { length self.old + 2 ≤ 64 }
         ensures { self.new ≡ self.old ++ two_bytes n }
@@ -63,6 +68,7 @@ impl Item {
         self.put(&n.to_be_bytes());
     }
 
+    /// Appends a number in four bytes.
     pub fn four(&mut self, n: u32)
         requires { length self.old + 4 ≤ 64 }
         ensures { self.new ≡ self.old ++ four_bytes n }
@@ -70,6 +76,7 @@ impl Item {
         self.put(&n.to_be_bytes());
     }
 
+    /// Appends a number in eight bytes.
     pub fn eight(&mut self, n: u64)
         requires { length self.old + 8 ≤ 64 }
         ensures { self.new ≡ self.old ++ eight_bytes n }
@@ -77,6 +84,7 @@ impl Item {
         self.put(&n.to_be_bytes());
     }
 
+    /// Appends a place of code: its word in two bytes and its syllable in one.
     pub fn place(&mut self, p: Place)
         requires { length self.old + 3 ≤ 64 }
         ensures { self.new ≡ self.old ++ place_bytes p }
@@ -85,6 +93,7 @@ impl Item {
         self.one(p.syllable);
     }
 
+    /// Appends whether a task may go on: the kind in one byte, a number in four and an offset in two.
     pub fn state(&mut self, state: TaskState)
         requires { length self.old + 7 ≤ 64 }
         ensures { self.new ≡ self.old ++ state_bytes state }
@@ -118,6 +127,7 @@ pub fn length_item(length: usize) -> Item
     item
 }
 
+/// The registers.
 pub fn regs_item(r: Regs) -> Item
     ensures { result ≡ regs_bytes r }
 {
@@ -138,6 +148,7 @@ pub fn regs_item(r: Regs) -> Item
     item
 }
 
+/// Where areas begin and end.
 pub fn areas_item(areas: Areas) -> Item
     ensures { result ≡ areas_bytes areas }
 {
@@ -147,6 +158,7 @@ pub fn areas_item(areas: Areas) -> Item
     item
 }
 
+/// The numbers of the tables.
 pub fn counts_item(tasks: &Tasks) -> Item
     ensures { result ≡ counts_bytes (told_counts tasks.now) }
 {
@@ -161,6 +173,7 @@ pub fn counts_item(tasks: &Tasks) -> Item
     item
 }
 
+/// A switch.
 pub fn switch_item(switch: Switch) -> Item
     ensures { result ≡ switch_bytes switch }
 {
@@ -185,6 +198,7 @@ pub fn job_item(job: &JobRow) -> Item
     item
 }
 
+/// A task's row.
 pub fn row_item(row: TaskRow) -> Item
     ensures { result ≡ task_row_bytes row }
 {

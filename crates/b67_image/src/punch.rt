@@ -70,6 +70,7 @@ fn card_of(bytes: &[u8]) -> ArrayVec<u8, 65>
 }
 
 impl Hand {
+    /// No bytes in hand.
     pub fn new() -> Self
         ensures { result ≡ [] }
     {

@@ -3,12 +3,14 @@
 ghost use Rattle.std.specs.Prelude.{◌≡◌, ◌≤◌, ◌<◌, ◌^◌, ◌+◌, nat_abs, IfOk};
 ghost use Rattle.b67_image.specs.Giving.{GivesItem};
 ghost use Rattle.b67_image.specs.Reading.{read_many, read_count, read_counted, read_switch, read_switches, read_name, read_signed, read_job, read_jobs, state_by_kind, read_state, read_row, read_rows};
+ghost use Rattle.b67_ctl.specs.declared.map.TheConstants.{SLOTS};
 ghost use Rattle.b67_model.specs.declared.limits.TheConstants.{GREATEST};
 
 use crate::flaw::Flaw;
 use crate::numbers::{read_eight, read_four, read_one, read_place, read_two};
 use arrayvec::ArrayVec;
 use b67_card::name;
+use b67_ctl::SLOTS;
 use b67_model::{
     GREATEST, MOST_JOBS, MOST_LIMIT, MOST_MADE, MOST_NUMBER, MOST_PARTS, MOST_SWITCHES,
 };
@@ -30,6 +32,7 @@ pub fn read_count(low: u32, high: u32, bytes: &[u8]) -> Result<(u32, &[u8]), Fla
     Ok((count, rest))
 }
 
+/// A switch, and what lies behind.
 #[tactic(auto, unfolding(crate::specs::Reading::read_switch))]
 fn read_switch(bytes: &[u8]) -> Result<(Switch, &[u8]), Flaw>
     ensures { GivesItem (λ x. (x.0, x.1.now)) result (read_switch bytes.now) }
@@ -49,6 +52,7 @@ fn read_switch(bytes: &[u8]) -> Result<(Switch, &[u8]), Flaw>
     Ok((Switch { count, job, task }, rest))
 }
 
+/// So many switches, and what lies behind.
 fn many_switches(alloc: Global, count: u32, bytes: &[u8]) -> Result<(Switches, &[u8]), Flaw>
     ensures { GivesItem (λ x. (x.0, x.1.now)) result (read_many read_switch count bytes.now) }
 {
@@ -65,6 +69,7 @@ fn many_switches(alloc: Global, count: u32, bytes: &[u8]) -> Result<(Switches, &
     Ok((switches, rest))
 }
 
+/// The counted switches, and what lies behind.
 #[tactic(auto, unfolding(crate::specs::Reading::read_switches, crate::specs::Reading::read_counted))]
 pub fn read_switches(alloc: Global, bytes: &[u8]) -> Result<(Switches, &[u8]), Flaw>
     ensures { GivesItem (λ x. (x.0, x.1.now)) result (read_switches bytes.now) }
@@ -73,6 +78,7 @@ pub fn read_switches(alloc: Global, bytes: &[u8]) -> Result<(Switches, &[u8]), F
     many_switches(alloc, count, rest)
 }
 
+/// A name, and what lies behind.
 #[tactic(auto, unfolding(crate::specs::Reading::read_name))]
 fn read_name(bytes: &[u8]) -> Result<(Name, &[u8]), Flaw>
     ensures { GivesItem (λ x. (x.0, x.1.now)) result (read_name bytes.now) }
@@ -102,6 +108,7 @@ fn read_signed(bytes: &[u8]) -> Result<(i64, &[u8]), Flaw>
     Ok((number, rest))
 }
 
+/// So many numbers for READ, and what lies behind.
 fn many_numbers(alloc: Global, count: u32, bytes: &[u8]) -> Result<(Numbers, &[u8]), Flaw>
     ensures { GivesItem (λ x. (x.0, x.1.now)) result (read_many read_signed count bytes.now) }
 {
@@ -118,6 +125,7 @@ fn many_numbers(alloc: Global, count: u32, bytes: &[u8]) -> Result<(Numbers, &[u
     Ok((numbers, rest))
 }
 
+/// The counted numbers for READ, and what lies behind.
 #[tactic(auto, unfolding(crate::specs::Reading::read_counted))]
 fn numbers_at(alloc: Global, bytes: &[u8]) -> Result<(Numbers, &[u8]), Flaw>
     ensures { GivesItem (λ x. (x.0, x.1.now)) result (read_counted 0 4294967295 read_signed bytes.now) }
@@ -126,6 +134,7 @@ fn numbers_at(alloc: Global, bytes: &[u8]) -> Result<(Numbers, &[u8]), Flaw>
     many_numbers(alloc, count, rest)
 }
 
+/// A job, and what lies behind.
 #[tactic(auto, unfolding(crate::specs::Reading::read_job))]
 fn read_job(alloc: Global, bytes: &[u8]) -> Result<(JobRow, &[u8]), Flaw>
     ensures { GivesItem (λ x. (x.0, x.1.now)) result (read_job bytes.now) }
@@ -165,6 +174,7 @@ fn read_job(alloc: Global, bytes: &[u8]) -> Result<(JobRow, &[u8]), Flaw>
     Ok((job, rest))
 }
 
+/// So many jobs, and what lies behind.
 fn many_jobs(alloc: Global, count: u32, bytes: &[u8]) -> Result<(JobRows, &[u8]), Flaw>
     ensures { GivesItem (λ x. (x.0, x.1.now)) result (read_many read_job count bytes.now) }
 {
@@ -181,6 +191,7 @@ fn many_jobs(alloc: Global, count: u32, bytes: &[u8]) -> Result<(JobRows, &[u8])
     Ok((jobs, rest))
 }
 
+/// The counted jobs, and what lies behind.
 #[tactic(auto, unfolding(crate::specs::Reading::read_jobs, crate::specs::Reading::read_counted))]
 pub fn read_jobs(alloc: Global, bytes: &[u8]) -> Result<(JobRows, &[u8]), Flaw>
     ensures { GivesItem (λ x. (x.0, x.1.now)) result (read_jobs bytes.now) }
@@ -204,6 +215,7 @@ fn state_by_kind(kind: u8, number: u32, offset: u16) -> Option<TaskState>
     }
 }
 
+/// Whether a task may go on, and what lies behind.
 #[tactic(auto, unfolding(crate::specs::Reading::read_state))]
 fn read_state(bytes: &[u8]) -> Result<(TaskState, &[u8]), Flaw>
     ensures { GivesItem (λ x. (x.0, x.1.now)) result (read_state bytes.now) }
@@ -217,6 +229,7 @@ fn read_state(bytes: &[u8]) -> Result<(TaskState, &[u8]), Flaw>
     }
 }
 
+/// A task's row, and what lies behind.
 #[tactic(auto, unfolding(crate::specs::Reading::read_row))]
 fn read_row(bytes: &[u8]) -> Result<(TaskRow, &[u8]), Flaw>
     ensures { GivesItem (λ x. (x.0, x.1.now)) result (read_row bytes.now) }
@@ -242,8 +255,9 @@ fn read_row(bytes: &[u8]) -> Result<(TaskRow, &[u8]), Flaw>
     Ok((row, rest))
 }
 
+/// So many rows of tasks, and what lies behind.
 fn many_rows(count: u32, bytes: &[u8]) -> Result<(ArrayVec<TaskRow, 120>, &[u8]), Flaw>
-    requires { count ≤ 120 }
+    requires { count ≤ SLOTS }
     ensures { GivesItem (λ x. (x.0.items, x.1.now)) result (read_many read_row count bytes.now) }
 {
     let mut rows = ArrayVec::<TaskRow, 120>::new();
@@ -259,10 +273,11 @@ fn many_rows(count: u32, bytes: &[u8]) -> Result<(ArrayVec<TaskRow, 120>, &[u8])
     Ok((rows, rest))
 }
 
+/// The counted rows of tasks, and what lies behind.
 #[tactic(auto, unfolding(crate::specs::Reading::read_rows, crate::specs::Reading::read_counted))]
 pub fn read_rows(bytes: &[u8]) -> Result<(ArrayVec<TaskRow, 120>, &[u8]), Flaw>
     ensures { GivesItem (λ x. (x.0.items, x.1.now)) result (read_rows bytes.now) }
 {
-    let (count, rest) = read_count(0, 120, bytes)?;
+    let (count, rest) = read_count(0, SLOTS as u32, bytes)?;
     many_rows(count, rest)
 }

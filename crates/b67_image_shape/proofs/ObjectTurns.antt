@@ -154,6 +154,13 @@ or_chain links Array first words ne (inr c) = c
 or_chain links Row first words ne c = c
 or_chain links Code first words ne c = c
 
+-- the chain that an object must have, by numbers that were read
+pub chain_told : (core : List Tagged) (links : List ℕ) (i : ℕ) (kind : Kind) (first words : ℕ) → first ≡ (location_in core i).chain → (desc_at core i).length ≡ words → HasChainOr links kind first words → HasChainOr links kind (location_in core i).chain (desc_at core i).length
+chain_told core links i kind first words e n h = subst (λ k. HasChainOr links kind k (desc_at core i).length) e (subst (HasChainOr links kind first) (sym n) h)
+
+pub chain_of_told : (core : List Tagged) (links : List ℕ) (i : ℕ) (kind : Kind) (first words : ℕ) → first ≡ (location_in core i).chain → (desc_at core i).length ≡ words → HasChainOr links kind (location_in core i).chain (desc_at core i).length → HasChainOr links kind first words
+chain_of_told core links i kind first words e n h = subst (HasChainOr links kind first) n (subst (λ k. HasChainOr links kind k (desc_at core i).length) (sym e) h)
+
 pub first_inside : (core : List Tagged) (low : ℕ) (links : List ℕ) (i : ℕ) (kind : Kind) (first : ℕ) → first ≡ (location_in core i).chain → first ≢ 0 → ObjectFits core low links i kind → first ≤ length links
 first_inside core low links i kind first e some f =
     let c = or_chain links kind first (desc_at core i).length some (subst (λ n. HasChainOr links kind n (desc_at core i).length) (sym e) f.chain) in

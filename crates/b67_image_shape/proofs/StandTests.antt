@@ -6,7 +6,7 @@ use Rattle.b67_word.specs.Tagged.{Tagged, bits_at}
 use Rattle.b67_ctl.specs.Layout.{toscw_word}
 use Rattle.b67_layout.specs.Rows.{TaskRow}
 use Rattle.b67_layout_shown.specs.Reading.{word_seen_at}
-use Rattle.b67_layout_shown.specs.Shown.{Sight, top_by, top_in}
+use Rattle.b67_layout_shown.specs.Shown.{Sight, top_in}
 use Rattle.b67_image_shape.specs.Items.{base_at}
 use Rattle.b67_image_shape.specs.StackWalk.{walk_test}
 use Rattle.b67_image_shape.specs.TaskWalk.{toscw_in, level_by, level_in, TopStands, registers_fit, is_toscw, top_fits_by, top_fits, is_segment_place, TaskStands}
@@ -26,15 +26,6 @@ no_both b e f = let z : true ≡ false = sym f ∙ e in let y : ⊥ = cc in y
 module _ (k : Sight) (r : TaskRow) where
   -- ---- what is read of the top
 
-  pub mark_runs : (f : ℕ) → f ≡ k.regs.f → r.slot ≡ k.regs.slot → f ≡ (top_in k r).f
-  mark_runs f is e = is ∙ sym (ap (λ (b : Bool). (top_by k r (base_at k r) b).f) (eq-eqb r.slot k.regs.slot e))
-
-  pub mark_waits : (base part : ℕ) (w : Tagged) → r.slot ≢ k.regs.slot → base ≡ base_at k r → w ≡ word_seen_at k.core base → part ≡ bits_at w 0 14 → base + part ≡ (top_in k r).f
-  mark_waits base part w ne b e p =
-      ap (λ (n : ℕ). base + n) (p ∙ ap (λ (v : Tagged). bits_at v 0 14) e)
-      ∙ ap (λ (n : ℕ). n + bits_at (word_seen_at k.core n) 0 14) b
-      ∙ sym (ap (λ (t : Bool). (top_by k r (base_at k r) t).f) (ne_eqb r.slot k.regs.slot ne))
-
   pub level_runs : r.slot ≡ k.regs.slot → k.regs.level ≡ level_in k r
   level_runs e = sym (ap (level_by k r) (eq-eqb r.slot k.regs.slot e))
 
@@ -48,12 +39,6 @@ module _ (k : Sight) (r : TaskRow) where
 
   pub top_waits_fit : (base : ℕ) (w : Tagged) (b : Bool) → r.slot ≢ k.regs.slot → base ≡ base_at k r → w ≡ word_seen_at k.core base → b ≡ is_toscw w → b ≡ top_fits k r
   top_waits_fit base w b ne at e is = is ∙ ap is_toscw e ∙ ap (λ n. is_toscw (word_seen_at k.core n)) at ∙ sym (ap (top_fits_by k r) (ne_eqb r.slot k.regs.slot ne))
-
-  pub place_runs : (segments : ℕ) (b : Bool) → r.slot ≡ k.regs.slot → b ≡ is_segment_place segments (k.regs.segment - 1) k.regs.place → b ≡ is_segment_place segments ((top_in k r).segment - 1) (top_in k r).place
-  place_runs segments b e is = is ∙ sym (ap (λ (t : Bool). is_segment_place segments ((top_by k r (base_at k r) t).segment - 1) (top_by k r (base_at k r) t).place) (eq-eqb r.slot k.regs.slot e))
-
-  pub place_waits : (segments : ℕ) (b : Bool) → r.slot ≢ k.regs.slot → b ≡ is_segment_place segments (r.segment - 1) r.place → b ≡ is_segment_place segments ((top_in k r).segment - 1) (top_in k r).place
-  place_waits segments b ne is = is ∙ sym (ap (λ (t : Bool). is_segment_place segments ((top_by k r (base_at k r) t).segment - 1) (top_by k r (base_at k r) t).place) (ne_eqb r.slot k.regs.slot ne))
 
   -- ---- the top
 

@@ -2,9 +2,9 @@
 use Rattle.std.proofs.Common.{◌≡◌, ◌≢◌, ℕ, ◌+◌, ◌-◌, ◌*◌, ◌/◌, ◌<◌, ◌≤◌, Bool, true, false, List, ◌∷◌, map, length, drop, get_or, slice_set, Option, Some, None, refl, sym, ◌∙◌, ap, subst, arith, ⊎_elim, lt-ltb, le-ltb}
 use Rattle.std.specs.Prelude.{◌&&◌, nat_lt, nat_le, option_map, unwrap_or, if◌then◌else◌}
 use Rattle.std.specs.List.{slice_get}
-use Rattle.std.proofs.lemmas.Bool.{cases_eq, cases_lt, le-leb, lt-leb, eq-eqb, ne_eqb}
+use Rattle.std.proofs.lemmas.Bool.{cases_eq, cases_lt, le-leb, lt-leb}
 use Rattle.std.proofs.lemmas.List.{at_drop_more, get_or-set_same, get_or-set_other}
-use Rattle.b67_word.specs.Tagged.{Tagged, word, bits_at}
+use Rattle.b67_word.specs.Tagged.{Tagged, word}
 use Rattle.b67_lemmas.specs.Lists.{Has}
 use Rattle.b67_lemmas.proofs.Members.{keyed_has}
 use Rattle.b67_layout.specs.Rows as rows
@@ -12,7 +12,7 @@ use Rattle.b67_task_tables.specs.declared.tables.TaskRow.{TaskRow}
 use Rattle.b67_task_tables.specs.declared.tables.JobRow.{JobRow}
 use Rattle.b67_task_tables.specs.Tables.{task_row, job_row}
 use Rattle.b67_layout_shown.specs.Reading.{word_seen_at}
-use Rattle.b67_layout_shown.specs.Shown.{Sight, top_by, top_in}
+use Rattle.b67_layout_shown.specs.Shown.{Sight, top_in}
 use Rattle.b67_image_shape.specs.TableFacts.{row_in_slot}
 use Rattle.b67_image_shape.specs.Items.{base_at}
 use Rattle.b67_image_shape.specs.ObjectTable.{entry_mark, has_entry_at, mark_in_dictionary, is_original_word, stack_mark, mark_at}
@@ -26,28 +26,7 @@ filled_next F xs i x low before e n h = ⊎_elim
     (λ (ne : n ≢ i). get_or-set_other xs i n x 0 ne ∙ before n (⊎_elim (λ lt. lt) (λ le. absurd (ne (omega (arith, le, h)))) (cases_lt n i)))
     (cases_eq n i)
 
--- ---- the row of a slot
-
-pub row_found : (rs : List TaskRow) (slot i : ℕ) (d : TaskRow) → i < length rs → row_in_slot (map task_row rs) slot ≡ row_in_slot (map task_row (drop i rs)) slot → (get_or rs i d).slot ≡ slot → Some (task_row (get_or rs i d)) ≡ row_in_slot (map task_row rs) slot
-row_found rs slot i d low inv e =
-    sym (inv ∙ at_drop_more (λ xs. row_in_slot (map task_row xs) slot) rs i d low
-    ∙ ap (λ (b : Bool). if b then Some (task_row (get_or rs i d)) else row_in_slot (map task_row (drop (i + 1) rs)) slot) (eq-eqb (get_or rs i d).slot slot e))
-
-pub row_later : (rs : List TaskRow) (slot i : ℕ) (d : TaskRow) → i < length rs → row_in_slot (map task_row rs) slot ≡ row_in_slot (map task_row (drop i rs)) slot → (get_or rs i d).slot ≢ slot → row_in_slot (map task_row rs) slot ≡ row_in_slot (map task_row (drop (i + 1) rs)) slot
-row_later rs slot i d low inv ne =
-    inv ∙ at_drop_more (λ xs. row_in_slot (map task_row xs) slot) rs i d low
-    ∙ ap (λ (b : Bool). if b then Some (task_row (get_or rs i d)) else row_in_slot (map task_row (drop (i + 1) rs)) slot) (ne_eqb (get_or rs i d).slot slot ne)
-
--- ---- tops
-
-pub top_runs : (k : Sight) (r : rows.TaskRow) (s : ℕ) → s ≡ k.regs.s → r.slot ≡ k.regs.slot → s ≡ (top_in k r).s
-top_runs k r s is e = is ∙ sym (ap (λ (b : Bool). (top_by k r (base_at k r) b).s) (eq-eqb r.slot k.regs.slot e))
-
-pub top_waits : (k : Sight) (r : rows.TaskRow) (stacks slot size part : ℕ) (w : Tagged) → r.slot ≢ k.regs.slot → stacks ≡ k.regs.stacks → slot ≡ r.slot → size ≡ k.regs.stack_size → w ≡ word_seen_at k.core (stacks + slot * size) → part ≡ bits_at w 20 16 → stacks + slot * size + part ≡ (top_in k r).s
-top_waits k r stacks slot size part w ne a b c e p =
-    ap (λ (n : ℕ). stacks + slot * size + n) (p ∙ ap (λ (v : Tagged). bits_at v 20 16) e)
-    ∙ ap (λ (n : ℕ). n + bits_at (word_seen_at k.core n) 20 16) (rw (a, b, c) refl)
-    ∙ sym (ap (λ (b : Bool). (top_by k r (base_at k r) b).s) (ne_eqb r.slot k.regs.slot ne))
+-- ---- ends
 
 pub end_found : (k : Sight) (s : ℕ) (o : Option TaskRow) (q : Option rows.TaskRow) (r : TaskRow) → option_map task_row o ≡ q → o ≡ Some r → s ≡ (top_in k (task_row r)).s → s + 1 ≡ end_by k q
 end_found k s o q r e is t = ap (λ n. n + 1) t ∙ ap (end_by k) (ap (λ (p : Option TaskRow). option_map task_row p) (sym is) ∙ e)

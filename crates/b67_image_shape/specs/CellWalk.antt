@@ -1,6 +1,7 @@
 -- Whether cells and static links are in order, each by its word and what the tables of records and of marks have at the place that it names.
 use Rattle.std.specs.Prelude.{ℕ, zero, suc, ◌+◌, ◌-◌, ◌*◌, ◌/◌, ◌^◌, ◌<◌, ◌==◌, Bool, true, false, ◌&&◌, ◌||◌, not, nat_lt, nat_le, List, [], ◌∷◌, Option, Some, None, slice_get, slice_index, if◌then◌else◌}
 use Rattle.std.specs.List.{list_all}
+use Rattle.b67_ctl.specs.declared.map.TheConstants.{DICTIONARY_STACKS, MCP_STACK}
 use Rattle.b67_model.specs.declared.intrinsics.TheConstants.{MOST_TASKS}
 use Rattle.b67_word.specs.Tagged.{Tagged, bits_at}
 use Rattle.b67_lemmas.specs.Lists.{Has}
@@ -25,7 +26,7 @@ place stack disp = record { stack = stack; disp = disp }
 
 -- the mark of a dictionary of a job, or that of the MCP
 abbrev pub is_outermost : ℕ → StackPlace → Bool
-is_outermost job p = (p.disp == 0) && ((p.stack == 127 + job) || (p.stack == 136))
+is_outermost job p = (p.disp == 0) && ((p.stack == DICTIONARY_STACKS + job) || (p.stack == MCP_STACK))
 
 -- an entered mark at a place of a task's stack, up to a displacement
 abbrev pub enters_below : Sight → List ℕ → StackPlace → ℕ → TaskRow → Bool
@@ -103,7 +104,7 @@ cells_stand k records kinds row r disp s from (suc n) = cell_stands k records ki
 
 -- the level of a mark at a place that is in sight
 abbrev pub level_at : Sight → ℕ → StackPlace → Bool → ℕ
-level_at k job p true = if p.stack == 136 then 0 else 1
+level_at k job p true = if p.stack == MCP_STACK then 0 else 1
 level_at k job p false = bits_at (word_seen_at k.core (k.regs.stacks + p.stack * k.regs.stack_size + p.disp)) 14 5
 
 -- an entered mark of a displacement has its environment in sight below it, of the level below

@@ -1,12 +1,13 @@
 -- Tests of the words of core that the tables and registers tell, and of the greatest critical displacements.
 use Rattle.std.specs.Prelude.{ℕ, zero, suc, ◌+◌, ◌*◌, ◌^◌, ◌==◌, Bool, true, false, ◌&&◌, nat_lt, nat_le, List, [], ◌∷◌, length, Option, Some, None, slice_get}
 use Rattle.b67_word.specs.Tagged.{Tagged, word}
+use Rattle.b67_ctl.specs.declared.map.TheConstants.{FIRST_DICTIONARY, MCP_STACK, SLOTS, STACK_VECTOR}
 use Rattle.b67_layout.specs.Rows.{TaskRow, JobRow}
 use Rattle.b67_layout_shown.specs.Shown.{Sight}
 use Rattle.b67_image_shape.specs.Fitting.{same}
 use Rattle.b67_image_shape.specs.TableFacts.{row_in_slot}
 use Rattle.b67_image_shape.specs.FixedWords.{vector_of, greatest}
-use Rattle.b67_model.specs.declared.limits.TheConstants.{LEAST_STACK, MOST_PARTS}
+use Rattle.b67_model.specs.declared.limits.TheConstants.{LEAST_STACK, MOST_PARTS, MOST_STACK}
 
 -- a number or a word that was found is this one
 abbrev pub found_number : Option ℕ → ℕ → Bool
@@ -35,14 +36,14 @@ abbrev pub dictionary_test : List Tagged → ℕ → JobRow → Bool
 dictionary_test core at row =
     (row.dictionary == at)
     && (nat_le (row.segments + row.rows) MOST_PARTS
-    && (word_is core at (word 3 (2 ^ 47 + 2 ^ 46 + 136 * 2 ^ 36 + 1 * 2 ^ 14)) && word_is core (at + 1) (word 0 (row.segments + row.rows))))
+    && (word_is core at (word 3 (2 ^ 47 + 2 ^ 46 + MCP_STACK * 2 ^ 36 + 1 * 2 ^ 14)) && word_is core (at + 1) (word 0 (row.segments + row.rows))))
 
 abbrev pub dictionaries_test : List Tagged → ℕ → ℕ → List JobRow → Bool
 dictionaries_test core stacks at [] = at == stacks
 dictionaries_test core stacks at (row ∷ more) = dictionary_test core at row && dictionaries_test core stacks (at + (2 + (row.segments + row.rows))) more
 
 abbrev pub slot_test : List Tagged → List TaskRow → ℕ → Bool
-slot_test core tasks n = word_is core (32 + n) (vector_of tasks (row_in_slot tasks n))
+slot_test core tasks n = word_is core (STACK_VECTOR + n) (vector_of tasks (row_in_slot tasks n))
 
 abbrev pub free_test : List Tagged → ℕ → Option TaskRow → Bool
 free_test core base None = word_is core base (word 0 0)
@@ -58,15 +59,15 @@ room_test size (row ∷ more) = nat_le LEAST_STACK size
 abbrev pub fixed_test : Sight → ℕ → ℕ → Bool
 fixed_test k low size =
     room_test k.regs.stack_size k.jobs
-    && (nat_lt k.regs.stack_size (2 ^ 14)
+    && (nat_lt k.regs.stack_size (MOST_STACK + 1)
     && ((low == k.regs.stacks + k.regs.peak * k.regs.stack_size)
     && (nat_le low (length k.core)
     && ((size == length k.core)
     && (mcp_test k.core
-    && (dictionaries_test k.core k.regs.stacks 160 k.jobs && (all_below (slot_test k.core k.tasks) 120 && all_below (base_test k) k.regs.peak)))))))
+    && (dictionaries_test k.core k.regs.stacks FIRST_DICTIONARY k.jobs && (all_below (slot_test k.core k.tasks) SLOTS && all_below (base_test k) k.regs.peak)))))))
 
 abbrev pub mark_test : List ℕ → List TaskRow → ℕ → Bool
 mark_test critical tasks n = found_number (slice_get critical n) (greatest tasks n)
 
 abbrev pub critical_test : List ℕ → List TaskRow → Bool
-critical_test critical tasks = all_below (mark_test critical tasks) 120
+critical_test critical tasks = all_below (mark_test critical tasks) SLOTS

@@ -8,7 +8,7 @@ use Rattle.b67_layout.specs.Rows.{TaskRow, JobRow}
 use Rattle.b67_layout.specs.Session.{RepresentsMcp}
 use Rattle.b67_layout_shown.specs.Shown.{Sight}
 use Rattle.b67_image_shape.specs.TableFacts.{row_in_slot}
-use Rattle.b67_model.specs.declared.limits.TheConstants.{LEAST_STACK, MOST_PARTS}
+use Rattle.b67_model.specs.declared.limits.TheConstants.{LEAST_STACK, MOST_PARTS, MOST_STACK}
 
 -- dictionaries follow each other, up to slot 0
 pub record DictionaryFacts (core : List Tagged) (at : ℕ) (row : JobRow) : Type 0 where
@@ -42,7 +42,7 @@ SlotsHaveRoom size (row ∷ more) = LEAST_STACK ≤ size
 
 pub record FixedFacts (k : Sight) (low size : ℕ) : Type 0 where
   pub stack_low : SlotsHaveRoom k.regs.stack_size k.jobs
-  pub stack_high : k.regs.stack_size < 2 ^ 14
+  pub stack_high : k.regs.stack_size < MOST_STACK + 1
   pub begins : low ≡ k.regs.stacks + k.regs.peak * k.regs.stack_size
   pub inside : low ≤ length k.core
   pub all : size ≡ length k.core

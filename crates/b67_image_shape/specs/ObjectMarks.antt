@@ -1,6 +1,6 @@
 -- What is asked of objects, areas and chains, by a table that says at which addresses of core an original or a segment descriptor
 -- stands. Nothing else of core is spoken of but the words of areas' heads, tails and holes, and the tags in present objects' areas.
-use Rattle.std.specs.Prelude.{◌≡◌, ◌≢◌, ◌⊎◌, ℕ, ◌+◌, ◌^◌, ◌<◌, Bool, false, true, List, length, Some, slice_index, slice_index_or}
+use Rattle.std.specs.Prelude.{◌≡◌, ◌≢◌, ◌⊎◌, ℕ, ◌+◌, ◌<◌, Bool, false, true, List, length, Some, slice_index, slice_index_or}
 use Rattle.b67_word.specs.Tagged.{Tagged}
 use Rattle.b67_ctl.specs.declared.descriptors.DataDesc.{DataDesc}
 use Rattle.b67_ctl.specs.Descriptors.{data_word, seg_word}
@@ -10,6 +10,7 @@ use Rattle.b67_area.specs.declared.Kind.TheVariants.{Array, Row, Code}
 use Rattle.b67_area.specs.Spans.{area_at}
 use Rattle.b67_area.specs.Directory.{IsDirectory}
 use Rattle.b67_backing.specs.Held.{sectors_for}
+use Rattle.b67_model.specs.declared.limits.TheConstants.{MOST_ARRAY, MOST_SEGMENT}
 use Rattle.b67_lemmas.specs.Lists.{Has}
 use Rattle.b67_stack.specs.Common.{PagedObject, tag_of}
 use Rattle.b67_layout_shown.specs.Reading.{word_seen_at, desc_in}
@@ -48,9 +49,9 @@ described Row d = data_word (record { present = d.present; copy = false; indexed
 described Code d = seg_word (record { present = d.present; words = d.length; address = d.address })
 
 abbrev pub longest : Kind → ℕ
-longest Array = 2 ^ 16
-longest Row = 2 ^ 16
-longest Code = 2 ^ 13
+longest Array = MOST_ARRAY + 1
+longest Row = MOST_ARRAY + 1
+longest Code = MOST_SEGMENT + 1
 
 -- what the head and tail of an object's area say
 abbrev pub info_at : List Tagged → ℕ → Kind → Info

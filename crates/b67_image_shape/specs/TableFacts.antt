@@ -1,6 +1,7 @@
 -- What the tables of a machine and its registers keep among themselves. No word of core is spoken of.
 use Rattle.std.specs.Prelude.{◌≡◌, ◌≢◌, ℕ, ◌+◌, ◌-◌, ◌^◌, ◌<◌, ◌≤◌, ◌==◌, nat_abs, List, [], ◌∷◌, length, filter, take, drop, Option, Some, None, slice_get}
 use Rattle.std.specs.List.{AllByRecursion}
+use Rattle.b67_ctl.specs.declared.map.TheConstants.{SLOTS}
 use Rattle.b67_model.specs.declared.intrinsics.TheConstants.{MOST_TASKS}
 use Rattle.b67_lemmas.specs.Lists.{Has, total}
 use Rattle.b67_model.specs.Keyed.{keyed}
@@ -71,7 +72,7 @@ pub record CountFacts (k : Sight) : Type 0 where
 pub record TableFacts (k : Sight) : Type 0 where
   pub few_jobs : length k.jobs ≤ MOST_JOBS
   pub apart : RowsApart k.tasks
-  pub peak : k.regs.peak ≤ 120
+  pub peak : k.regs.peak ≤ SLOTS
   pub rows : AllByRecursion (RowFacts k) k.tasks
   pub jobs : EachJob (JobFacts k.tasks) 1 k.jobs
   pub counts : CountFacts k

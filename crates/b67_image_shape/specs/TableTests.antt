@@ -1,6 +1,7 @@
 -- Tests of the tables and registers.
 use Rattle.std.specs.Prelude.{ℕ, ℤ, ◌+◌, ◌-◌, ◌^◌, ◌==◌, Bool, true, false, ◌&&◌, ◌||◌, not, nat_lt, nat_le, nat_abs, List, [], ◌∷◌, length, take, drop, Option, Some, None, slice_get}
 use Rattle.std.specs.List.{list_any, list_all}
+use Rattle.b67_ctl.specs.declared.map.TheConstants.{SLOTS}
 use Rattle.b67_model.specs.declared.intrinsics.TheConstants.{MOST_TASKS}
 use Rattle.b67_lemmas.specs.Lists.{total}
 use Rattle.b67_model.specs.Common.{Switch}
@@ -79,4 +80,4 @@ counts_test k =
 abbrev pub tables_test : Sight → Bool
 tables_test k =
     nat_le (length k.jobs) MOST_JOBS
-    && (rows_apart k.tasks && (nat_le k.regs.peak 120 && (list_all (row_test k) k.tasks && (jobs_pass (job_test k.tasks) 1 k.jobs && counts_test k))))
+    && (rows_apart k.tasks && (nat_le k.regs.peak SLOTS && (list_all (row_test k) k.tasks && (jobs_pass (job_test k.tasks) 1 k.jobs && counts_test k))))

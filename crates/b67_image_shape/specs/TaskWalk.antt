@@ -5,6 +5,7 @@ use Rattle.b67_word.specs.declared.couples.Place.{Place}
 use Rattle.b67_ctl.specs.Layout.{toscw_word}
 use Rattle.b67_ctl.specs.declared.marks.Toscw.{Toscw}
 use Rattle.b67_ctl.specs.declared.registers.Regs.{Regs}
+use Rattle.b67_model.specs.declared.limits.TheConstants.{MOST_STACK}
 use Rattle.b67_layout.specs.Rows.{TaskRow, JobRow}
 use Rattle.b67_layout_shown.specs.Reading.{word_seen_at}
 use Rattle.b67_layout_shown.specs.Shown.{Sight, top_in, stack_of_row}
@@ -57,5 +58,5 @@ pub record TaskStands (k : Sight) (segments : ℕ) (r : TaskRow) : Type 0 where
 -- that is what is asked of it
 abbrev pub TasksStand : Type 0
 TasksStand =
-    (k : Sight) (row : JobRow) (job : ℕ) (r : TaskRow) → k.regs.stack_size < 2 ^ 14 → base_at k r + k.regs.stack_size ≤ length k.core
+    (k : Sight) (row : JobRow) (job : ℕ) (r : TaskRow) → k.regs.stack_size < MOST_STACK + 1 → base_at k r + k.regs.stack_size ≤ length k.core
     → (TaskStands k row.segments r → StackFactsBy (location_in k.core) k row job r) × (StackFactsBy (location_in k.core) k row job r → TaskStands k row.segments r)

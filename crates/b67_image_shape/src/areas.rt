@@ -33,10 +33,7 @@ pub fn is_word(w: Word, tag: u8, bits: u64) -> bool
     if w.tag() as u8 != tag {
         return false;
     }
-    if w.bits() != bits {
-        return false;
-    }
-    true
+    w.bits() == bits
 }
 
 /// Whether the word at an address leads to that one.
@@ -47,10 +44,7 @@ fn is_link(core: &Core, before: u32, high: u64, next: u32) -> bool
     ensures yes { OnTrue result (slice_get core.now before ≡ Some (link_word high next)) }
     ensures not { OnFalse result (slice_get core.now before ≡ Some (link_word high next) → ⊥) }
 {
-    if !is_word(core.get(before), 3, high * 0x10_0000 + u64::from(next)) {
-        return false;
-    }
-    true
+    is_word(core.get(before), 3, high * 0x10_0000 + u64::from(next))
 }
 
 /// Behind the hole at the place of the walk, if one stands there.
@@ -162,10 +156,7 @@ fn area_fits(core: &Core, kinds: &[u8], at: u32, a: Info) -> bool
     if d.part(0, 20) as u32 != at {
         return false;
     }
-    if d.part(20, 20) as u32 != a.words {
-        return false;
-    }
-    true
+    d.part(20, 20) as u32 == a.words
 }
 
 /// Past the area or hole at the place of the walk. The owner of an area is marked.
@@ -239,8 +230,5 @@ pub fn walk_areas(core: &Core, low: u32, kinds: &[u8], housed: &mut [bool]) -> b
             None => return false,
         }
     }
-    if !is_link(core, w.before, w.high, 0) {
-        return false;
-    }
-    true
+    is_link(core, w.before, w.high, 0)
 }

@@ -15,11 +15,12 @@ ghost use Rattle.b67_image_shape.specs.CellWalk.{place, is_outermost, enters_bel
 use crate::fixed_words::base_of;
 use crate::records::records_of;
 use crate::small_words::words_are_small;
-use crate::table::{find_row, top_of, word_seen_at};
+use crate::table::find_row;
 use crate::walk::{desc_in, mscw_in};
-use crate::walk_tasks::top_mark;
-use b67_ctl::{DataDesc, Mscw, Regs};
+use b67_ctl::{DICTIONARY_STACKS, DataDesc, MCP_STACK, Mscw, Regs};
 use b67_layout_shown::laws::reach_is_seen;
+use b67_layout_shown::seeing::{top_of, word_seen_at};
+use b67_model::MOST_TASKS;
 use b67_task_tables::{JobRow, Machine, TaskRow};
 use b67_word::Word;
 use std::alloc::{AllocError, Global};
@@ -48,7 +49,8 @@ fn marked(kinds: &[u8], at: u64) -> u8
 fn is_outermost(job: u8, stack: u16, disp: u16) -> bool
     ensures { result ≡ is_outermost job (place stack disp) }
 {
-    disp == 0 && (u32::from(stack) == 127 + u32::from(job) || stack == 136)
+    disp == 0
+        && (u32::from(stack) == DICTIONARY_STACKS as u32 + u32::from(job) || stack == MCP_STACK)
 }
 
 /// Whether an entered mark stands at a place of a task's stack, up to a displacement.
@@ -143,7 +145,15 @@ fn is_in_sight(
 {
     is_outermost(row.job, stack, disp)
         || (enters_below(machine, records, stack, disp, high, row)
-            || enters_outside(machine, records, stack, disp, 15, row.critical, row.parent))
+            || enters_outside(
+                machine,
+                records,
+                stack,
+                disp,
+                MOST_TASKS as u32,
+                row.critical,
+                row.parent,
+            ))
 }
 
 /// Whether a word is a reference to an entered mark in sight.
@@ -217,7 +227,7 @@ fn array_in_sight(
 
 /// Whether an address is in the slot of this base.
 fn is_from(regs: Regs, base: u64, at: u64) -> bool
-    requires { base < 2 ^ 33 }
+    requires { base < 2 ^ 49 }
     ensures { result ≡ (nat_le base at && nat_lt at (base + regs.stack_size)) }
 {
     base <= at && at < base + u64::from(regs.stack_size)
@@ -253,83 +263,55 @@ fn home_by(machine: &Machine, d: DataDesc) -> u64
     u64::from(d.address)
 }
 
+/// What a task's cells are judged by: the machine, in which record each address is, which object stands there, the task's job,
+/// and its row.
+#[derive(Clone, Copy)]
+pub struct TaskCells<'a> {
+    machine: &'a Machine,
+    records: &'a [u16],
+    kinds: &'a [u8],
+    job: &'a JobRow,
+    row: TaskRow,
+}
+
 /// Whether a copy at an address below s names a data row, or an array in sight whose original doesn't stand above it up to s.
 #[tactic(auto, unfolding(crate::specs::CellWalk::copy_stands))]
-fn copy_stands(
-    machine: &Machine,
-    records: &[u16],
-    kinds: &[u8],
-    job: &JobRow,
-    row: TaskRow,
-    high: u64,
-    s: u64,
-    at: u64,
-    d: DataDesc,
-) -> bool
-    ensures { result ≡ copy_stands (sight_of machine.now) records.now kinds.now (job_row job.now) (task_row row) high s at d }
+fn copy_stands(task: &TaskCells<'_>, high: u64, s: u64, at: u64, d: DataDesc) -> bool
+    ensures { result ≡ copy_stands (sight_of task.now.machine.now) task.now.records.now task.now.kinds.now (job_row task.now.job.now) (task_row task.now.row) high s at d }
 {
-    let home = home_by(machine, d);
-    let owner = row_holding(machine, home, machine.tasks.rows.as_slice());
-    (d.read_only && is_data_row(job, home))
+    let home = home_by(task.machine, d);
+    let owner = row_holding(task.machine, home, task.machine.tasks.rows.as_slice());
+    (d.read_only && is_data_row(task.job, home))
         || (!d.read_only
-            && (marked(kinds, home) == 1
+            && (marked(task.kinds, home) == 1
                 && ((home <= at || s < home)
-                    && array_in_sight(machine, records, row, high, home, owner))))
+                    && array_in_sight(task.machine, task.records, task.row, high, home, owner))))
 }
 
 /// Whether a cell is in order, in a record that reaches up to s and whose mark has this displacement.
 #[tactic(auto, unfolding(crate::specs::CellWalk::cell_stands))]
-fn cell_stands(
-    machine: &Machine,
-    records: &[u16],
-    kinds: &[u8],
-    job: &JobRow,
-    row: TaskRow,
-    high: u64,
-    s: u64,
-    at: u64,
-) -> bool
-    ensures { result ≡ cell_stands (sight_of machine.now) records.now kinds.now (job_row job.now) (task_row row) high s at (word_seen_at machine.now.cpu.core at) }
+fn cell_stands(task: &TaskCells<'_>, high: u64, s: u64, at: u64) -> bool
+    ensures { result ≡ cell_stands (sight_of task.now.machine.now) task.now.records.now task.now.kinds.now (job_row task.now.job.now) (task_row task.now.row) high s at (word_seen_at task.now.machine.now.cpu.core at) }
 {
-    let w = word_seen_at(&machine.cpu.core, at);
+    let w = word_seen_at(&task.machine.cpu.core, at);
     w.tag() == 0
         || ((w.tag() == 1
-            && (w.bits() < 0x4000 || reference_stands(machine, records, row, high, w)))
-            || ((w.tag() == 7 && procedure_stands(job.segments, w))
+            && (w.bits() < 0x4000
+                || reference_stands(task.machine, task.records, task.row, high, w)))
+            || ((w.tag() == 7 && procedure_stands(task.job.segments, w))
                 || (w.tag() == 5
-                    && (w.part(46, 1) != 1
-                        || copy_stands(
-                            machine,
-                            records,
-                            kinds,
-                            job,
-                            row,
-                            high,
-                            s,
-                            at,
-                            desc_in(w),
-                        )))))
+                    && (w.part(46, 1) != 1 || copy_stands(task, high, s, at, desc_in(w))))))
 }
 
 /// Whether so many cells from an address up are in order.
-fn cells_stand(
-    machine: &Machine,
-    records: &[u16],
-    kinds: &[u8],
-    job: &JobRow,
-    row: TaskRow,
-    high: u64,
-    s: u64,
-    from: u64,
-    many: u64,
-) -> bool
+fn cells_stand(task: &TaskCells<'_>, high: u64, s: u64, from: u64, many: u64) -> bool
     requires { from + many < 2 ^ 63 }
-    ensures { result ≡ cells_stand (sight_of machine.now) records.now kinds.now (job_row job.now) (task_row row) high s from many }
+    ensures { result ≡ cells_stand (sight_of task.now.machine.now) task.now.records.now task.now.kinds.now (job_row task.now.job.now) (task_row task.now.row) high s from many }
 {
     let mut left = many;
     'down: while 0 < left {
         left -= 1;
-        if !cell_stands(machine, records, kinds, job, row, high, s, from + left) {
+        if !cell_stands(task, high, s, from + left) {
             return false;
         }
     }
@@ -349,7 +331,7 @@ fn level_at(machine: &Machine, job: u8, stack: u16, disp: u16) -> u64
     ensures small { result < 32 }
 {
     if is_outermost(job, stack, disp) {
-        if stack == 136 {
+        if stack == MCP_STACK {
             return 0;
         }
         return 1;
@@ -376,72 +358,33 @@ fn link_stands(machine: &Machine, records: &[u16], row: TaskRow, high: u64, m: M
 
 /// Whether the record of the mark at f, which reaches up to s, is in order.
 #[tactic(auto, unfolding(crate::specs::CellWalk::record_stands))]
-fn record_stands(
-    machine: &Machine,
-    records: &[u16],
-    kinds: &[u8],
-    job: &JobRow,
-    row: TaskRow,
-    base: u64,
-    f: u64,
-    s: u64,
-) -> bool
+fn record_stands(task: &TaskCells<'_>, base: u64, f: u64, s: u64) -> bool
     requires small { f < 2 ^ 60 }
     requires top { s < 2 ^ 60 }
-    ensures { result ≡ record_stands (sight_of machine.now) records.now kinds.now (job_row job.now) (task_row row) base f s }
+    ensures { result ≡ record_stands (sight_of task.now.machine.now) task.now.records.now task.now.kinds.now (job_row task.now.job.now) (task_row task.now.row) base f s }
 {
-    let m = mscw_in(word_seen_at(&machine.cpu.core, f));
+    let m = mscw_in(word_seen_at(&task.machine.cpu.core, f));
     let high = f.saturating_sub(base);
     if !m.entered {
-        return cells_stand(
-            machine,
-            records,
-            kinds,
-            job,
-            row,
-            high,
-            s,
-            f + 1,
-            s.saturating_sub(f),
-        );
+        return cells_stand(task, high, s, f + 1, s.saturating_sub(f));
     }
-    link_stands(machine, records, row, high, m)
-        && cells_stand(
-            machine,
-            records,
-            kinds,
-            job,
-            row,
-            high,
-            s,
-            f + 2,
-            s.saturating_sub(f + 1),
-        )
+    link_stands(task.machine, task.records, task.row, high, m)
+        && cells_stand(task, high, s, f + 2, s.saturating_sub(f + 1))
 }
 
 /// Whether the records from the mark at f down are in order, of which the first reaches up to s.
-fn records_stand(
-    machine: &Machine,
-    records: &[u16],
-    kinds: &[u8],
-    job: &JobRow,
-    row: TaskRow,
-    base: u64,
-    turns: u32,
-    mark: u64,
-    high: u64,
-) -> bool
+fn records_stand(task: &TaskCells<'_>, base: u64, turns: u32, mark: u64, high: u64) -> bool
     requires mark { mark < 2 ^ 60 }
     requires high { high < 2 ^ 60 }
-    ensures { result ≡ records_stand (sight_of machine.now) records.now kinds.now (job_row job.now) (task_row row) base turns mark high }
+    ensures { result ≡ records_stand (sight_of task.now.machine.now) task.now.records.now task.now.kinds.now (job_row task.now.job.now) (task_row task.now.row) base turns mark high }
 {
     let mut f = mark;
     let mut s = high;
     'down: for _turn in 0..turns {
-        if !record_stands(machine, records, kinds, job, row, base, f, s) {
+        if !record_stands(task, base, f, s) {
             return false;
         }
-        let back = word_seen_at(&machine.cpu.core, f).part(0, 14);
+        let back = word_seen_at(&task.machine.cpu.core, f).part(0, 14);
         if back == 0 {
             return true;
         }
@@ -466,17 +409,20 @@ fn row_stands(
         return false;
     }
     let regs = machine.cpu.regs;
-    let base = base_of(regs, row.slot);
-    records_stand(
+    let top = top_of(machine, row);
+    let task = TaskCells {
         machine,
         records,
         kinds,
-        &jobs[i],
+        job: &jobs[i],
         row,
-        base,
+    };
+    records_stand(
+        &task,
+        base_of(regs, row.slot),
         u32::from(regs.stack_size),
-        top_mark(machine, row),
-        top_of(machine, row),
+        top.f,
+        top.s,
     )
 }
 

@@ -2,6 +2,7 @@
 
 ghost use Rattle.std.specs.Prelude.{◌≡◌, ◌≢◌, ℕ, ◌+◌, ◌<◌, ◌≤◌, true, length, IfOk, slice_index_or, slice_index};
 ghost use Rattle.std.specs.Bool.{OnTrue, OnFalse};
+ghost use Rattle.b67_model.specs.declared.limits.TheConstants.{MOST_SECTORS};
 ghost use Rattle.b67_backing.specs.Links.{AreInside, AreLed};
 ghost use Rattle.b67_image_shape.specs.Chains.{IsChainHead, IsSectorChain, run_test, AreClaimed};
 
@@ -10,7 +11,7 @@ use std::alloc::{AllocError, Global};
 /// Which sectors follow another one.
 pub fn led_to(alloc: Global, links: &[u32]) -> Result<Vec<bool>, AllocError>
     requires inside { AreInside links.now }
-    requires few { length links.now < 1048576 }
+    requires few { length links.now < MOST_SECTORS + 1 }
     ensures { IfOk result (λ led. AreLed links.now led.items) }
 {
     let mut led = vec![in alloc; false; links.len() + 1]?;
@@ -24,7 +25,7 @@ pub fn led_to(alloc: Global, links: &[u32]) -> Result<Vec<bool>, AllocError>
 }
 
 /// Whether so many sectors behind one are the rest of its chain.
-fn do_run(links: &[u32], first: usize, behind: u32) -> bool
+fn runs_on(links: &[u32], first: usize, behind: u32) -> bool
     requires inside { AreInside links.now }
     requires low { 1 ≤ first }
     requires high { first ≤ length links.now }
@@ -59,10 +60,7 @@ fn is_head(links: &[u32], led: &[bool], n: usize) -> bool
     if links[n - 1] == 0 {
         return false;
     }
-    if led[n] {
-        return false;
-    }
-    true
+    !led[n]
 }
 
 /// Whether a chain of `many` sectors begins with sector `first`.
@@ -76,10 +74,7 @@ pub fn is_chain(links: &[u32], led: &[bool], first: usize, many: u32) -> bool
     if !is_head(links, led, first) {
         return false;
     }
-    if !do_run(links, first, many - 1) {
-        return false;
-    }
-    true
+    runs_on(links, first, many - 1)
 }
 
 /// Whether each sector that begins a chain is marked.

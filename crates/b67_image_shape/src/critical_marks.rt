@@ -1,10 +1,12 @@
 //! Whether the greatest critical displacements are as they should be.
 
 ghost use Rattle.std.specs.Prelude.{◌≡◌, ◌≤◌, ◌<◌, length, map};
+ghost use Rattle.b67_ctl.specs.declared.map.TheConstants.{SLOTS};
 ghost use Rattle.b67_task_tables.specs.Tables.{task_row};
 ghost use Rattle.b67_image_shape.specs.FixedTests.{all_below, mark_test, critical_test};
 ghost use Rattle.b67_image_shape.specs.FixedWords.{greatest};
 
+use b67_ctl::SLOTS;
 use b67_task_tables::TaskRow;
 
 /// Whether no critical displacement of the tasks whose parent lives in a slot is greater than a number.
@@ -23,8 +25,8 @@ fn greatest_of(rows: &[TaskRow], n: u8) -> u16
 }
 
 /// Whether the greatest critical displacements of the first slots are as they should be.
-fn marks_are(critical: &[u16; 120], rows: &[TaskRow], many: u8) -> bool
-    requires { many ≤ 120 }
+fn marks_are(critical: &[u16; SLOTS as usize], rows: &[TaskRow], many: u8) -> bool
+    requires { many ≤ SLOTS }
     ensures { result ≡ all_below (mark_test critical.now (map task_row rows.now)) many }
 {
     let mut n = many;
@@ -38,8 +40,8 @@ fn marks_are(critical: &[u16; 120], rows: &[TaskRow], many: u8) -> bool
 }
 
 /// Whether the greatest critical displacements are as they should be.
-pub fn critical_passes(critical: &[u16; 120], rows: &[TaskRow]) -> bool
+pub fn critical_passes(critical: &[u16; SLOTS as usize], rows: &[TaskRow]) -> bool
     ensures { result ≡ critical_test critical.now (map task_row rows.now) }
 {
-    marks_are(critical, rows, 120)
+    marks_are(critical, rows, SLOTS)
 }

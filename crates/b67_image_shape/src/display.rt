@@ -35,10 +35,7 @@ fn is_display(core: &Core, regs: &Regs, display: &[u32; 32]) -> bool
 {
     let mut shown = [0u32; 32];
     rebuild(core, regs, &mut shown);
-    if !are_alike(display, &shown, regs.level + 1) {
-        return false;
-    }
-    true
+    are_alike(display, &shown, regs.level + 1)
 }
 
 /// Whether the display is that of the running task, if one runs.
@@ -50,8 +47,5 @@ pub fn display_passes(machine: &Machine) -> bool
     if machine.cpu.regs.slot == NO_SLOT {
         return true;
     }
-    if !is_display(&machine.cpu.core, &machine.cpu.regs, &machine.cpu.display) {
-        return false;
-    }
-    true
+    is_display(&machine.cpu.core, &machine.cpu.regs, &machine.cpu.display)
 }

@@ -2,6 +2,7 @@
 
 ghost use Rattle.std.specs.Prelude.{◌≡◌, ◌+◌, ◌*◌, ◌<◌, ◌≤◌, ◌^◌, length, map};
 ghost use Rattle.b67_word.specs.Tagged.{word};
+ghost use Rattle.b67_ctl.specs.declared.map.TheConstants.{FIRST_DICTIONARY, SLOTS};
 ghost use Rattle.b67_layout_shown.specs.Machines.{sight_of};
 ghost use Rattle.b67_task_tables.specs.Tables.{task_row, job_row};
 ghost use Rattle.b67_image_shape.specs.TableFacts.{row_in_slot};
@@ -11,8 +12,9 @@ ghost use Rattle.b67_image_shape.specs.FixedTests.{word_is, all_below, is_intrin
 use crate::areas::is_word;
 use crate::table::find_row;
 use b67_core::Core;
-use b67_ctl::{FIRST_TASK, Regs};
-use b67_model::{LEAST_STACK, MOST_PARTS};
+use b67_ctl::{FIRST_DICTIONARY, FIRST_TASK, Regs, SLOTS, STACK_VECTOR};
+use b67_layout_shown::seeing::slot_start;
+use b67_model::{LEAST_STACK, MOST_PARTS, MOST_STACK};
 use b67_task_tables::{JobRow, Machine, TaskRow};
 
 /// Whether the word at an address has this tag and these bits.
@@ -61,9 +63,9 @@ fn dictionary_stands(core: &Core, at: u64, row: &JobRow) -> bool
 
 /// Whether the dictionaries stand from the first address for one up to the slots.
 fn dictionaries_stand(core: &Core, stacks: u32, jobs: &[JobRow]) -> bool
-    ensures { result ≡ dictionaries_test core.now stacks 160 (map job_row jobs.now) }
+    ensures { result ≡ dictionaries_test core.now stacks FIRST_DICTIONARY (map job_row jobs.now) }
 {
-    let mut at = 160u64;
+    let mut at = u64::from(FIRST_DICTIONARY);
     let mut left = jobs;
     'each: while let [row, more @ ..] = left {
         if !dictionary_stands(core, at, row) {
@@ -88,10 +90,10 @@ fn link_to(rows: &[TaskRow], parent: u8) -> u64
 
 /// Whether the word of a slot in the vector of stacks stands.
 fn slot_stands(core: &Core, rows: &[TaskRow], n: u8) -> bool
-    requires { n < 120 }
+    requires { n < SLOTS }
     ensures { result ≡ slot_test core.now (map task_row rows.now) n }
 {
-    let at = 32 + u64::from(n);
+    let at = STACK_VECTOR as u64 + u64::from(n);
     match find_row(rows, n) {
         None => word_is(core, at, 0, 0),
         Some(r) => word_is(
@@ -107,7 +109,7 @@ fn slot_stands(core: &Core, rows: &[TaskRow], n: u8) -> bool
 
 /// Whether the words of the first slots in the vector of stacks stand.
 fn slots_stand(core: &Core, rows: &[TaskRow], many: u8) -> bool
-    requires { many ≤ 120 }
+    requires { many ≤ SLOTS }
     ensures { result ≡ all_below (slot_test core.now (map task_row rows.now)) many }
 {
     let mut n = many;
@@ -123,9 +125,9 @@ fn slots_stand(core: &Core, rows: &[TaskRow], many: u8) -> bool
 /// The address of the first word of a slot.
 pub fn base_of(regs: Regs, n: u8) -> u64
     ensures value { result ≡ regs.stacks + n * regs.stack_size }
-    ensures small { result < 2 ^ 33 }
+    ensures small { result < 2 ^ 49 }
 {
-    u64::from(regs.stacks) + u64::from(n) * u64::from(regs.stack_size)
+    slot_start(regs, u64::from(n))
 }
 
 /// Whether the base word of a slot is zero, if no task lives there.
@@ -174,12 +176,12 @@ pub fn fixed_passes(machine: &Machine) -> bool
     let low = machine.areas.low;
     let end = base_of(regs, regs.peak);
     have_room(regs.stack_size, jobs)
-        && (regs.stack_size < 16384
+        && (regs.stack_size < MOST_STACK + 1
             && (u64::from(low) == end
                 && (low <= core.size()
                     && (machine.areas.size == core.size()
                         && (has_mcp(core)
                             && (dictionaries_stand(core, regs.stacks, jobs)
-                                && (slots_stand(core, rows, 120)
+                                && (slots_stand(core, rows, SLOTS)
                                     && bases_stand(machine, regs.peak))))))))
 }

@@ -3,12 +3,13 @@
 ghost use Rattle.std.specs.Prelude.{◌≡◌, ◌≢◌, ℕ, ◌+◌, ◌<◌, ◌≤◌, ◌^◌, true, false, length, Some, None, IfSome, IfNone, IfOk, slice_get, slice_index, slice_index_or};
 ghost use Rattle.std.specs.Bool.{OnTrue, OnFalse};
 ghost use Rattle.b67_ctl.specs.declared.map.TheConstants.{FIRST_DICTIONARY};
+ghost use Rattle.b67_model.specs.declared.limits.TheConstants.{MOST_SECTORS};
 ghost use Rattle.b67_backing.specs.Links.{AreInside, AreLed};
 ghost use Rattle.b67_stack.specs.MachineView.{tag_of};
 ghost use Rattle.b67_layout_shown.specs.Reading.{word_seen_at, desc_in};
 ghost use Rattle.b67_image_shape.specs.Held.{location_in};
 ghost use Rattle.b67_image_shape.specs.ObjectMarks.{kind_code, desc_at, described, longest, HasArea, HasChainOr, ObjectFits, AreKept, HaveTag, ObjectsClaim};
-ghost use Rattle.b67_image_shape.specs.AreaWalk.{AreasWalked};
+ghost use Rattle.b67_image_shape.specs.Judged.{AreJudged};
 
 use crate::areas::{is_word, walk_areas};
 use crate::chains::{are_claimed, is_chain, led_to};
@@ -16,6 +17,7 @@ use b67_area::Kind;
 use b67_backing::sectors_needed;
 use b67_core::Core;
 use b67_ctl::{DataDesc, SegDesc};
+use b67_model::{MOST_ARRAY, MOST_SEGMENT};
 use b67_word::Word;
 use std::alloc::{AllocError, Global};
 
@@ -38,6 +40,18 @@ fn described(kind: Kind, w: Word) -> Word
     }
 }
 
+/// What the objects of a machine are judged by: core, the lowest address of areas, which object stands at each address, which
+/// of them have areas, the links of the sectors from 1 on, and which sectors follow another one.
+#[derive(Clone, Copy)]
+pub struct Objects<'a> {
+    core: &'a Core,
+    low: u32,
+    kinds: &'a [u8],
+    housed: &'a [bool],
+    links: &'a [u32],
+    led: &'a [bool],
+}
+
 /// Whether the word at an address is the descriptor of an object of a kind.
 fn is_described(core: &Core, at: u32, kind: Kind) -> bool
     requires { at < length core.now }
@@ -46,10 +60,7 @@ fn is_described(core: &Core, at: u32, kind: Kind) -> bool
 {
     let w = core.get(at);
     let again = described(kind, w);
-    if !is_word(w, again.tag() as u8, again.bits()) {
-        return false;
-    }
-    true
+    is_word(w, again.tag() as u8, again.bits())
 }
 
 /// The tag of the words of an object.
@@ -68,9 +79,9 @@ fn longest(kind: Kind) -> u32
     ensures { result ≡ longest kind }
 {
     match kind {
-        Kind::Array => 0x1_0000,
-        Kind::Row => 0x1_0000,
-        Kind::Code => 0x2000,
+        Kind::Array => MOST_ARRAY as u32 + 1,
+        Kind::Row => MOST_ARRAY as u32 + 1,
+        Kind::Code => MOST_SEGMENT as u32 + 1,
     }
 }
 
@@ -90,24 +101,21 @@ fn have_tag(core: &Core, at: u32, words: u32, tag: u8) -> bool
 }
 
 /// Whether a present object has the area that its descriptor names.
-fn has_area(core: &Core, low: u32, kinds: &[u8], housed: &[bool], at: u32, kind: Kind) -> bool
-    requires inside { at < length core.now }
-    requires walked { AreasWalked core.now low kinds.now housed.now }
-    requires marked { slice_index kinds.now at ≡ kind_code kind }
-    requires present { (desc_at core.now at).present ≡ true }
-    ensures yes { OnTrue result (HasArea core.now low at kind) }
-    ensures not { OnFalse result (HasArea core.now low at kind → ⊥) }
+fn has_area(objects: &Objects<'_>, at: u32, kind: Kind) -> bool
+    requires inside { at < length objects.now.core.now }
+    requires judged { AreJudged objects.now }
+    requires marked { slice_index objects.now.kinds.now at ≡ kind_code kind }
+    requires present { (desc_at objects.now.core.now at).present ≡ true }
+    ensures yes { OnTrue result (HasArea objects.now.core.now objects.now.low at kind) }
+    ensures not { OnFalse result (HasArea objects.now.core.now objects.now.low at kind → ⊥) }
 {
-    if !housed[at as usize] {
+    if !objects.housed[at as usize] {
         return false;
     }
-    let w = core.get(at);
+    let w = objects.core.get(at);
     let address = w.part(0, 20) as u32;
     let words = w.part(20, 20) as u32;
-    if !have_tag(core, address, words, tag_of(kind)) {
-        return false;
-    }
-    true
+    have_tag(objects.core, address, words, tag_of(kind))
 }
 
 /// The first sector of an object's chain, 0 for none.
@@ -142,94 +150,62 @@ fn has_chain(links: &[u32], led: &[bool], kind: Kind, first: u32, words: u32) ->
             Kind::Code => false,
         };
     }
-    if !is_chain(links, led, first as usize, sectors_needed(words)) {
-        return false;
-    }
-    true
+    is_chain(links, led, first as usize, sectors_needed(words))
 }
 
 /// Whether an object has its area, if it is present.
-fn is_held(core: &Core, low: u32, kinds: &[u8], housed: &[bool], at: u32, kind: Kind) -> bool
-    requires inside { at < length core.now }
-    requires walked { AreasWalked core.now low kinds.now housed.now }
-    requires marked { slice_index kinds.now at ≡ kind_code kind }
-    ensures yes { OnTrue result ((desc_at core.now at).present ≡ true → HasArea core.now low at kind) }
-    ensures not { OnFalse result (((desc_at core.now at).present ≡ true → HasArea core.now low at kind) → ⊥) }
+fn is_held(objects: &Objects<'_>, at: u32, kind: Kind) -> bool
+    requires inside { at < length objects.now.core.now }
+    requires judged { AreJudged objects.now }
+    requires marked { slice_index objects.now.kinds.now at ≡ kind_code kind }
+    ensures yes { OnTrue result ((desc_at objects.now.core.now at).present ≡ true → HasArea objects.now.core.now objects.now.low at kind) }
+    ensures not { OnFalse result (((desc_at objects.now.core.now at).present ≡ true → HasArea objects.now.core.now objects.now.low at kind) → ⊥) }
 {
-    if core.get(at).part(47, 1) != 1 {
+    if objects.core.get(at).part(47, 1) != 1 {
         return true;
     }
-    if !has_area(core, low, kinds, housed, at, kind) {
-        return false;
-    }
-    true
+    has_area(objects, at, kind)
 }
 
 /// Whether an object has what it must have: its descriptor, its area and its chain.
-fn object_fits(
-    core: &Core,
-    low: u32,
-    kinds: &[u8],
-    housed: &[bool],
-    links: &[u32],
-    led: &[bool],
-    at: u32,
-    kind: Kind,
-) -> bool
-    requires inside { at < length core.now }
-    requires walked { AreasWalked core.now low kinds.now housed.now }
-    requires marked { slice_index kinds.now at ≡ kind_code kind }
-    requires links { AreInside links.now }
-    requires led { AreLed links.now led.now }
-    ensures yes { OnTrue result (ObjectFits core.now low links.now at kind) }
-    ensures not { OnFalse result (ObjectFits core.now low links.now at kind → ⊥) }
+fn object_fits(objects: &Objects<'_>, at: u32, kind: Kind) -> bool
+    requires inside { at < length objects.now.core.now }
+    requires judged { AreJudged objects.now }
+    requires marked { slice_index objects.now.kinds.now at ≡ kind_code kind }
+    ensures yes { OnTrue result (ObjectFits objects.now.core.now objects.now.low objects.now.links.now at kind) }
+    ensures not { OnFalse result (ObjectFits objects.now.core.now objects.now.low objects.now.links.now at kind → ⊥) }
 {
-    if !is_described(core, at, kind) {
+    if !is_described(objects.core, at, kind) {
         return false;
     }
-    let words = core.get(at).part(20, 20) as u32;
+    let words = objects.core.get(at).part(20, 20) as u32;
     if words == 0 {
         return false;
     }
     if words >= longest(kind) {
         return false;
     }
-    if !is_held(core, low, kinds, housed, at, kind) {
+    if !is_held(objects, at, kind) {
         return false;
     }
-    let first = chain_at(core, at);
-    if !has_chain(links, led, kind, first, words) {
-        return false;
-    }
-    true
+    let first = chain_at(objects.core, at);
+    has_chain(objects.links, objects.led, kind, first, words)
 }
 
 /// Whether an object has what it must have, and no object before it has its chain, which is marked then.
-fn take_object(
-    core: &Core,
-    low: u32,
-    kinds: &[u8],
-    housed: &[bool],
-    links: &[u32],
-    led: &[bool],
-    at: u32,
-    kind: Kind,
-    claimed: &mut [bool],
-) -> bool
-    requires inside { at < length core.now }
-    requires walked { AreasWalked core.now low kinds.now housed.now }
-    requires marked { slice_index kinds.now at ≡ kind_code kind }
-    requires links { AreInside links.now }
-    requires led { AreLed links.now led.now }
-    requires many { length claimed.old ≡ length links.now + 1 }
-    ensures yes { OnTrue result (ObjectsClaim core.now low kinds.now links.now at claimed.old → ObjectsClaim core.now low kinds.now links.now (at + 1) claimed.new) }
-    ensures not { OnFalse result (ObjectsClaim core.now low kinds.now links.now at claimed.old → AreKept core.now low kinds.now links.now → ⊥) }
+fn take_object(objects: &Objects<'_>, at: u32, kind: Kind, claimed: &mut [bool]) -> bool
+    requires inside { at < length objects.now.core.now }
+    requires judged { AreJudged objects.now }
+    requires marked { slice_index objects.now.kinds.now at ≡ kind_code kind }
+    requires many { length claimed.old ≡ length objects.now.links.now + 1 }
+    ensures yes { OnTrue result (ObjectsClaim objects.now.core.now objects.now.low objects.now.kinds.now objects.now.links.now at claimed.old → ObjectsClaim objects.now.core.now objects.now.low objects.now.kinds.now objects.now.links.now (at + 1) claimed.new) }
+    ensures not { OnFalse result (ObjectsClaim objects.now.core.now objects.now.low objects.now.kinds.now objects.now.links.now at claimed.old → AreKept objects.now.core.now objects.now.low objects.now.kinds.now objects.now.links.now → ⊥) }
     ensures len { length claimed.new ≡ length claimed.old }
 {
-    if !object_fits(core, low, kinds, housed, links, led, at, kind) {
+    if !object_fits(objects, at, kind) {
         return false;
     }
-    let first = chain_at(core, at) as usize;
+    let first = chain_at(objects.core, at) as usize;
     if first == 0 {
         return true;
     }
@@ -241,119 +217,56 @@ fn take_object(
 }
 
 /// The same for whatever stands at an address.
-fn take_at(
-    core: &Core,
-    low: u32,
-    kinds: &[u8],
-    housed: &[bool],
-    links: &[u32],
-    led: &[bool],
-    at: u32,
-    claimed: &mut [bool],
-) -> bool
-    requires inside { at < length core.now }
-    requires codes { slice_index kinds.now at ≤ 3 }
-    requires kinds { length kinds.now ≡ length core.now }
-    requires walked { AreasWalked core.now low kinds.now housed.now }
-    requires links { AreInside links.now }
-    requires led { AreLed links.now led.now }
-    requires many { length claimed.old ≡ length links.now + 1 }
-    ensures yes { OnTrue result (ObjectsClaim core.now low kinds.now links.now at claimed.old → ObjectsClaim core.now low kinds.now links.now (at + 1) claimed.new) }
-    ensures not { OnFalse result (ObjectsClaim core.now low kinds.now links.now at claimed.old → AreKept core.now low kinds.now links.now → ⊥) }
+fn take_at(objects: &Objects<'_>, at: u32, claimed: &mut [bool]) -> bool
+    requires inside { at < length objects.now.core.now }
+    requires judged { AreJudged objects.now }
+    requires many { length claimed.old ≡ length objects.now.links.now + 1 }
+    ensures yes { OnTrue result (ObjectsClaim objects.now.core.now objects.now.low objects.now.kinds.now objects.now.links.now at claimed.old → ObjectsClaim objects.now.core.now objects.now.low objects.now.kinds.now objects.now.links.now (at + 1) claimed.new) }
+    ensures not { OnFalse result (ObjectsClaim objects.now.core.now objects.now.low objects.now.kinds.now objects.now.links.now at claimed.old → AreKept objects.now.core.now objects.now.low objects.now.kinds.now objects.now.links.now → ⊥) }
     ensures len { length claimed.new ≡ length claimed.old }
 {
-    let mark = kinds[at as usize];
+    let mark = objects.kinds[at as usize];
     if mark == 0 {
         return true;
     }
     if mark == 1 {
-        return take_object(
-            core,
-            low,
-            kinds,
-            housed,
-            links,
-            led,
-            at,
-            Kind::Array,
-            claimed,
-        );
+        return take_object(objects, at, Kind::Array, claimed);
     }
     if mark == 2 {
-        return take_object(core, low, kinds, housed, links, led, at, Kind::Row, claimed);
+        return take_object(objects, at, Kind::Row, claimed);
     }
-    take_object(
-        core,
-        low,
-        kinds,
-        housed,
-        links,
-        led,
-        at,
-        Kind::Code,
-        claimed,
-    )
+    take_object(objects, at, Kind::Code, claimed)
 }
 
 /// The same for all of core.
-fn take_objects(
-    core: &Core,
-    low: u32,
-    kinds: &[u8],
-    housed: &[bool],
-    links: &[u32],
-    led: &[bool],
-    claimed: &mut [bool],
-) -> bool
-    requires codes { (i : ℕ) → slice_index kinds.now i ≤ 3 }
-    requires kinds { length kinds.now ≡ length core.now }
-    requires walked { AreasWalked core.now low kinds.now housed.now }
-    requires links { AreInside links.now }
-    requires led { AreLed links.now led.now }
-    requires many { length claimed.old ≡ length links.now + 1 }
+fn take_objects(objects: &Objects<'_>, claimed: &mut [bool]) -> bool
+    requires judged { AreJudged objects.now }
+    requires many { length claimed.old ≡ length objects.now.links.now + 1 }
     requires none { (i : ℕ) → slice_index_or claimed.old i false ≡ false }
-    ensures yes { OnTrue result (ObjectsClaim core.now low kinds.now links.now (length core.now) claimed.new) }
-    ensures not { OnFalse result (AreKept core.now low kinds.now links.now → ⊥) }
+    ensures yes { OnTrue result (ObjectsClaim objects.now.core.now objects.now.low objects.now.kinds.now objects.now.links.now (length objects.now.core.now) claimed.new) }
+    ensures not { OnFalse result (AreKept objects.now.core.now objects.now.low objects.now.kinds.now objects.now.links.now → ⊥) }
 {
-    'each: for at in 0..core.size() {
-        if !take_at(core, low, kinds, housed, links, led, at, claimed) {
+    'each: for at in 0..objects.core.size() {
+        if !take_at(objects, at, claimed) {
             return false;
         }
     }
     true
 }
 
-/// Whether objects, areas and chains belong together, with tables of marks of which none is set.
-fn do_keep(
-    core: &Core,
-    low: u32,
-    kinds: &[u8],
-    links: &[u32],
-    led: &[bool],
-    housed: &mut [bool],
-    claimed: &mut [bool],
-) -> bool
-    requires low { FIRST_DICTIONARY ≤ low }
-    requires inside { low ≤ length core.now }
-    requires codes { (i : ℕ) → slice_index kinds.now i ≤ 3 }
-    requires kinds { length kinds.now ≡ length core.now }
-    requires links { AreInside links.now }
-    requires led { AreLed links.now led.now }
-    requires housed { (length housed.old ≡ length core.now) × ((i : ℕ) → slice_index_or housed.old i false ≡ false) }
-    requires claimed { (length claimed.old ≡ length links.now + 1) × ((i : ℕ) → slice_index_or claimed.old i false ≡ false) }
-    ensures yes { OnTrue result (AreKept core.now low kinds.now links.now) }
-    ensures not { OnFalse result (AreKept core.now low kinds.now links.now → ⊥) }
+/// Whether each object has what it must have and each chain is an object's, with a table of claimed chains of which none is
+/// marked.
+fn kept_by_marks(objects: &Objects<'_>, claimed: &mut [bool]) -> bool
+    requires judged { AreJudged objects.now }
+    requires many { length claimed.old ≡ length objects.now.links.now + 1 }
+    requires none { (i : ℕ) → slice_index_or claimed.old i false ≡ false }
+    ensures yes { OnTrue result (AreKept objects.now.core.now objects.now.low objects.now.kinds.now objects.now.links.now) }
+    ensures not { OnFalse result (AreKept objects.now.core.now objects.now.low objects.now.kinds.now objects.now.links.now → ⊥) }
 {
-    if !walk_areas(core, low, kinds, housed) {
+    if !take_objects(objects, claimed) {
         return false;
     }
-    if !take_objects(core, low, kinds, housed, links, led, claimed) {
-        return false;
-    }
-    if !are_claimed(links, led, claimed) {
-        return false;
-    }
-    true
+    are_claimed(objects.links, objects.led, claimed)
 }
 
 /// Whether objects, areas and chains belong together, by a table that says where objects stand: 1 an array's original, 2 a
@@ -370,20 +283,23 @@ pub fn are_kept(
     requires codes { (i : ℕ) → slice_index kinds.now i ≤ 3 }
     requires kinds { length kinds.now ≡ length core.now }
     requires links { AreInside links.now }
-    requires few { length links.now < 1048576 }
+    requires few { length links.now < MOST_SECTORS + 1 }
     ensures yes { IfOk result (λ b. OnTrue b (AreKept core.now low kinds.now links.now)) }
     ensures not { IfOk result (λ b. OnFalse b (AreKept core.now low kinds.now links.now → ⊥)) }
 {
     let led = led_to(alloc, links)?;
     let mut housed = vec![in alloc; false; core.size() as usize]?;
     let mut claimed = vec![in alloc; false; links.len() + 1]?;
-    Ok(do_keep(
+    if !walk_areas(core, low, kinds, housed.as_mut_slice()) {
+        return Ok(false);
+    }
+    let objects = Objects {
         core,
         low,
         kinds,
+        housed: housed.as_slice(),
         links,
-        led.as_slice(),
-        housed.as_mut_slice(),
-        claimed.as_mut_slice(),
-    ))
+        led: led.as_slice(),
+    };
+    Ok(kept_by_marks(&objects, claimed.as_mut_slice()))
 }

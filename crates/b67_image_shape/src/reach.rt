@@ -9,10 +9,11 @@ ghost use Rattle.b67_image_shape.specs.TableFacts.{row_in_slot};
 ghost use Rattle.b67_image_shape.specs.Reaching.{has_mark, marked_at, entered_at, kept_at, outside_at, is_dictionary, reached_at, is_kept, waits_within, row_reaches, reaches, ReachesAreDecided};
 
 use crate::fixed_words::base_of;
-use crate::table::{find_row, word_seen_at};
-use crate::walk_tasks::top_mark;
+use crate::table::find_row;
 use b67_core::Core;
 use b67_layout_shown::laws::reach_is_seen;
+use b67_layout_shown::seeing::{top_of, word_seen_at};
+use b67_model::MOST_TASKS;
 use b67_task_tables::{JobRow, Machine, TaskRow, TaskState};
 
 /// Whether one of at most so many marks from the one at f down stands at an address.
@@ -40,7 +41,7 @@ fn marked_at(machine: &Machine, row: TaskRow, at: u64) -> bool
     ensures { result ≡ marked_at (sight_of machine.now) (task_row row) at }
 {
     let size = u32::from(machine.cpu.regs.stack_size);
-    has_mark(&machine.cpu.core, size, top_mark(machine, row), at)
+    has_mark(&machine.cpu.core, size, top_of(machine, row).f, at)
 }
 
 /// Whether an entered mark of a task's stack stands at an address.
@@ -99,7 +100,7 @@ fn reached_at(machine: &Machine, row: TaskRow, at: u64) -> bool
     at == 0
         || (is_dictionary(machine.tasks.jobs.as_slice(), row.job, at)
             || (entered_at(machine, row, at)
-                || outside_at(machine, 15, row.critical, row.parent, at)))
+                || outside_at(machine, MOST_TASKS as u32, row.critical, row.parent, at)))
 }
 
 /// Whether a task's critical mark stands in its parent's stack.

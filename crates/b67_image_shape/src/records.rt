@@ -9,9 +9,8 @@ ghost use Rattle.b67_image_shape.specs.NearStacks.{NearStacks};
 ghost use Rattle.b67_image_shape.specs.RecordTable.{IsRecordTable, filled_range, code_by, records_down, records_of_row, records_of_rows};
 
 use crate::fixed_words::base_of;
-use crate::table::{top_of, word_seen_at};
-use crate::walk_tasks::top_mark;
 use b67_core::Core;
+use b67_layout_shown::seeing::{top_of, word_seen_at};
 use b67_task_tables::{Machine, TaskRow};
 use b67_word::Word;
 use std::alloc::{AllocError, Global};
@@ -70,14 +69,13 @@ fn fill_row(machine: &Machine, row: TaskRow, records: &mut [u16])
 {
     let regs = machine.cpu.regs;
     let base = base_of(regs, row.slot);
-    let f = top_mark(machine, row);
-    let s = top_of(machine, row);
+    let top = top_of(machine, row);
     fill_down(
         &machine.cpu.core,
         base,
         u32::from(regs.stack_size),
-        f,
-        s,
+        top.f,
+        top.s,
         records,
     );
 }

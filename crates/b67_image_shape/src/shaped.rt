@@ -99,8 +99,5 @@ pub fn is_shaped(alloc: Global, machine: &Machine) -> Result<bool, AllocError>
     if !kept {
         return Ok(false);
     }
-    if !display_passes(machine) {
-        return Ok(false);
-    }
-    Ok(true)
+    Ok(display_passes(machine))
 }

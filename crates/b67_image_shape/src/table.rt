@@ -1,53 +1,24 @@
 //! The table of marks: which object stands at each address of core.
 
 ghost use Rattle.std.specs.Prelude.{◌≡◌, ℕ, ◌+◌, ◌*◌, ◌<◌, ◌≤◌, ◌^◌, length, map, option_map, IfOk, slice_index};
-ghost use Rattle.b67_layout_shown.specs.Reading.{word_seen_at};
 ghost use Rattle.b67_layout_shown.specs.Machines.{sight_of};
-ghost use Rattle.b67_layout_shown.specs.Shown.{top_in};
 ghost use Rattle.b67_task_tables.specs.Tables.{task_row, job_row};
 ghost use Rattle.b67_image_shape.specs.TableFacts.{row_in_slot};
 ghost use Rattle.b67_image_shape.specs.ObjectTable.{mark_in_dictionary, mark_at, is_original_word, has_entry_at};
 ghost use Rattle.b67_image_shape.specs.TableMarks.{end_by, AreEnds, HaveSlots, IsTable};
 
 use b67_core::Core;
+use b67_ctl::SLOTS;
+use b67_layout_shown::seeing::{row_in_slot, top_of};
 use b67_task_tables::{JobRow, Machine, TaskRow};
 use b67_word::Word;
 use std::alloc::{AllocError, Global};
-
-/// The word at an address, zero where core has none.
-pub fn word_seen_at(core: &Core, at: u64) -> Word
-    ensures { result ≡ word_seen_at core.now at }
-{
-    if at < u64::from(core.size()) {
-        return core.get(at as u32);
-    }
-    Word::of(0, 0)
-}
 
 /// The row of the task in a slot.
 pub fn find_row(rows: &[TaskRow], slot: u8) -> Option<TaskRow>
     ensures { option_map task_row result ≡ row_in_slot (map task_row rows.now) slot }
 {
-    'each: for i in 0..rows.len() {
-        if rows[i].slot == slot {
-            return Some(rows[i]);
-        }
-    }
-    None
-}
-
-/// The address of a task's topmost word.
-pub fn top_of(machine: &Machine, row: TaskRow) -> u64
-    ensures value { result ≡ (top_in (sight_of machine.now) (task_row row)).s }
-    ensures small { result < 2 ^ 33 }
-{
-    let regs = machine.cpu.regs;
-    if row.slot == regs.slot {
-        return u64::from(regs.s);
-    }
-    let base = u64::from(regs.stacks) + u64::from(row.slot) * u64::from(regs.stack_size);
-    let w = word_seen_at(&machine.cpu.core, base);
-    base + w.part(20, 16)
+    row_in_slot(rows, u64::from(slot))
 }
 
 /// Behind the topmost word of the task in a slot, 0 for none.
@@ -55,7 +26,7 @@ fn end_of(machine: &Machine, slot: u8) -> u64
     ensures { result ≡ end_by (sight_of machine.now) (row_in_slot (map task_row machine.now.tasks.rows.items) slot) }
 {
     match find_row(machine.tasks.rows.as_slice(), slot) {
-        Some(row) => top_of(machine, row) + 1,
+        Some(row) => top_of(machine, row).s + 1,
         None => 0,
     }
 }
@@ -64,8 +35,8 @@ fn end_of(machine: &Machine, slot: u8) -> u64
 fn ends_of(alloc: Global, machine: &Machine) -> Result<Vec<u64>, AllocError>
     ensures { IfOk result (λ ends. AreEnds (sight_of machine.now) ends.items) }
 {
-    let mut ends = vec![in alloc; 0u64; 120]?;
-    'each: for slot in 0..120u8 {
+    let mut ends = vec![in alloc; 0u64; SLOTS as usize]?;
+    'each: for slot in 0..SLOTS {
         ends[slot as usize] = end_of(machine, slot);
     }
     Ok(ends)
@@ -124,7 +95,7 @@ fn mark_of(machine: &Machine, ends: &[u64], at: u32) -> u8
         return 0;
     }
     let slot = (at - regs.stacks) / size;
-    if slot >= 120 {
+    if slot >= SLOTS as u32 {
         return 0;
     }
     if u64::from(at) <= u64::from(regs.stacks) + u64::from(slot) * u64::from(regs.stack_size) {

@@ -2,6 +2,8 @@
 
 ghost use Rattle.std.specs.Prelude.{◌≡◌, ◌-◌, ◌+◌, ◌<◌, ◌≤◌, ◌==◌, ◌&&◌, ◌||◌, not, nat_lt, nat_le, length, map, drop, slice_get};
 ghost use Rattle.std.specs.List.{list_all, list_any};
+ghost use Rattle.b67_model.specs.declared.limits.TheConstants.{MOST_JOBS};
+ghost use Rattle.b67_ctl.specs.declared.map.TheConstants.{SLOTS};
 ghost use Rattle.b67_layout_shown.specs.Machines.{sight_of};
 ghost use Rattle.b67_task_tables.specs.Tables.{state_of, task_row, job_row};
 ghost use Rattle.b67_image_shape.specs.TableFacts.{row_in_slot, rows_in};
@@ -9,8 +11,8 @@ ghost use Rattle.b67_image_shape.specs.TableTests.{are_apart, rows_apart, state_
 
 use crate::table::find_row;
 use crate::table_counts::counts_pass;
-use b67_ctl::Regs;
-use b67_model::MOST_LIMIT;
+use b67_ctl::{Regs, SLOTS};
+use b67_model::{MOST_JOBS, MOST_LIMIT, MOST_TASKS};
 use b67_task_tables::{JobRow, Machine, NO_PARENT, TaskRow, TaskState};
 
 /// Whether two rows are of different slots and of different tasks.
@@ -60,7 +62,7 @@ fn state_ready(state: TaskState) -> bool
 
 /// How many tasks of a job live.
 fn live_of(rows: &[TaskRow], job: u8) -> u8
-    requires { length rows.now ≤ 120 }
+    requires { length rows.now ≤ SLOTS }
     ensures { result ≡ length (rows_in (map task_row rows.now) job) }
 {
     let mut live = 0u8;
@@ -90,7 +92,7 @@ fn any_ready(rows: &[TaskRow], job: u8) -> bool
 
 /// Whether a job goes on, if tasks of it live.
 fn may_go_on(row: &JobRow, rows: &[TaskRow], job: u8) -> bool
-    requires { length rows.now ≤ 120 }
+    requires { length rows.now ≤ SLOTS }
     ensures { result ≡ may_go_on (job_row row.now) (rows_in (map task_row rows.now) job) }
 {
     if live_of(rows, job) == 0 {
@@ -128,10 +130,10 @@ fn next_fits(next: u32, made: u64) -> bool
 
 /// Whether a job's counts are as they should be.
 fn job_passes(rows: &[TaskRow], job: u8, row: &JobRow) -> bool
-    requires { length rows.now ≤ 120 }
+    requires { length rows.now ≤ SLOTS }
     ensures { result ≡ job_test (map task_row rows.now) job (job_row row.now) }
 {
-    live_of(rows, job) <= 15
+    live_of(rows, job) <= MOST_TASKS
         && (left_read(row.numbers.as_slice(), row.next_number)
             && (row.limit <= MOST_LIMIT
                 && (next_fits(row.next_task, row.made)
@@ -140,8 +142,8 @@ fn job_passes(rows: &[TaskRow], job: u8, row: &JobRow) -> bool
 
 /// Whether all jobs' counts are as they should be.
 fn jobs_pass(rows: &[TaskRow], jobs: &[JobRow]) -> bool
-    requires rows { length rows.now ≤ 120 }
-    requires jobs { length jobs.now ≤ 8 }
+    requires rows { length rows.now ≤ SLOTS }
+    requires jobs { length jobs.now ≤ MOST_JOBS }
     ensures { result ≡ jobs_pass (job_test (map task_row rows.now)) 1 (map job_row jobs.now) }
 {
     let mut job = 1u8;
@@ -218,8 +220,8 @@ pub fn tables_pass(machine: &Machine) -> bool
 {
     let rows = machine.tasks.rows.as_slice();
     let jobs = machine.tasks.jobs.as_slice();
-    jobs.len() <= 8
+    jobs.len() <= MOST_JOBS as usize
         && (rows_apart(rows)
-            && (machine.cpu.regs.peak <= 120
+            && (machine.cpu.regs.peak <= SLOTS
                 && (rows_pass(machine) && (jobs_pass(rows, jobs) && counts_pass(machine)))))
 }

@@ -10,9 +10,10 @@ ghost use Rattle.b67_layout_shown.specs.Reading.{return_by};
 ghost use Rattle.b67_stack.specs.Common.{Marked};
 ghost use Rattle.b67_ctl.specs.Layout.{mscw_word};
 
-use crate::table::word_seen_at;
 use b67_core::Core;
 use b67_ctl::{DataDesc, Mscw, Rcw};
+use b67_layout_shown::seeing::word_seen_at;
+use b67_model::MOST_ARRAY;
 use b67_word::{Place, Word};
 
 /// Whether two words are the same.
@@ -71,7 +72,7 @@ fn copy_fits(core: &Core, w: Word) -> bool
     ensures { result ≡ copy_fits (location_in core.now) (record { index = index_by (desc_in w).length (desc_in w).indexed; read_only = (desc_in w).read_only }) (home_by core.now (desc_in w).address (desc_in w).present) w (desc_in w) }
 {
     let d = desc_in(w);
-    if !d.indexed && (d.length == 0 || d.length >= 0x1_0000) {
+    if !d.indexed && (d.length == 0 || d.length > MOST_ARRAY as u32) {
         return false;
     }
     if !same(w, d.word()) {
@@ -203,7 +204,7 @@ fn level_under(core: &Core, level: u8, f: u64) -> u8
 }
 
 /// Whether the activation records from the mark at f down, of which the first reaches up to s, are as they should be.
-pub fn do_walk(
+pub fn walk_down(
     core: &Core,
     base: u64,
     slot: u8,

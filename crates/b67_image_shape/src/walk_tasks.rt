@@ -2,6 +2,7 @@
 
 ghost use Rattle.std.specs.Prelude.{◌≡◌, ◌+◌, ◌-◌, ◌<◌, ◌≤◌, ◌^◌, length};
 ghost use Rattle.std.specs.Bool.{OnTrue, OnFalse};
+ghost use Rattle.b67_model.specs.declared.limits.TheConstants.{MOST_STACK};
 ghost use Rattle.b67_layout_shown.specs.Machines.{sight_of};
 ghost use Rattle.b67_layout_shown.specs.Shown.{top_in};
 ghost use Rattle.b67_task_tables.specs.Tables.{task_row, job_row};
@@ -12,25 +13,11 @@ ghost use Rattle.b67_image_shape.specs.Items.{base_at};
 ghost use Rattle.b67_image_shape.specs.TaskWalk.{level_in, registers_fit, is_toscw, top_fits, is_segment_place, TaskStands};
 
 use crate::fixed_words::base_of;
-use crate::table::{top_of, word_seen_at};
-use crate::walk::{do_walk, same};
+use crate::walk::{same, walk_down};
 use b67_ctl::{Regs, Toscw};
+use b67_layout_shown::seeing::{top_of, word_seen_at};
 use b67_task_tables::{JobRow, Machine, TaskRow};
 use b67_word::{Place, Word};
-
-/// The address of a task's topmost mark.
-pub fn top_mark(machine: &Machine, row: TaskRow) -> u64
-    ensures value { result ≡ (top_in (sight_of machine.now) (task_row row)).f }
-    ensures small { result < 2 ^ 34 }
-{
-    let regs = machine.cpu.regs;
-    if row.slot == regs.slot {
-        return u64::from(regs.f);
-    }
-    let base = base_of(regs, row.slot);
-    let w = word_seen_at(&machine.cpu.core, base);
-    base + w.part(0, 14)
-}
 
 /// The level at a task's top.
 fn level_of(machine: &Machine, row: TaskRow) -> u8
@@ -47,7 +34,7 @@ fn level_of(machine: &Machine, row: TaskRow) -> u8
 
 /// Whether the registers have the slot of a base.
 fn registers_fit(regs: Regs, base: u64) -> bool
-    requires { base < 2 ^ 33 }
+    requires { base < 2 ^ 49 }
     ensures { result ≡ registers_fit regs base }
 {
     u64::from(regs.bosr) == base && u64::from(regs.losr) + 1 == base + u64::from(regs.stack_size)
@@ -91,52 +78,45 @@ fn is_segment_place(segments: u16, entry: u16, place: Place) -> bool
 fn goes_on(machine: &Machine, segments: u16, row: TaskRow) -> bool
     ensures { result ≡ is_segment_place segments ((top_in (sight_of machine.now) (task_row row)).segment - 1) (top_in (sight_of machine.now) (task_row row)).place }
 {
-    let regs = machine.cpu.regs;
-    if row.slot == regs.slot {
-        return is_segment_place(segments, regs.segment, regs.place);
-    }
-    is_segment_place(segments, row.segment, row.place)
+    let top = top_of(machine, row);
+    is_segment_place(segments, top.segment, top.place)
 }
 
 /// Whether the stack of a task of a job with so many segments stands.
 pub fn task_stands(machine: &Machine, segments: u16, row: TaskRow) -> bool
     requires inside { base_at (sight_of machine.now) (task_row row) + machine.now.cpu.regs.stack_size ≤ length machine.now.cpu.core }
-    requires room { machine.now.cpu.regs.stack_size < 2 ^ 14 }
+    requires room { machine.now.cpu.regs.stack_size < MOST_STACK + 1 }
     ensures yes { OnTrue result (TaskStands (sight_of machine.now) segments (task_row row)) }
     ensures not { OnFalse result (TaskStands (sight_of machine.now) segments (task_row row) → ⊥) }
 {
     let regs = machine.cpu.regs;
     let base = base_of(regs, row.slot);
     let size = regs.stack_size;
-    let s = top_of(machine, row);
-    if s >= base + u64::from(size) {
+    let top = top_of(machine, row);
+    if top.s >= base + u64::from(size) {
         return false;
     }
     if !top_fits(machine, row) {
         return false;
     }
-    let f = top_mark(machine, row);
     let level = level_of(machine, row);
-    if !do_walk(
+    if !walk_down(
         &machine.cpu.core,
         base,
         row.slot,
         segments,
         u32::from(size),
         level,
-        f,
-        s,
+        top.f,
+        top.s,
     ) {
         return false;
     }
-    if !goes_on(machine, segments, row) {
-        return false;
-    }
-    true
+    goes_on(machine, segments, row)
 }
 
 /// The same for all of these rows, by their jobs' rows.
-fn do_stand(machine: &Machine, rows: &[TaskRow], jobs: &[JobRow]) -> bool
+fn each_stands(machine: &Machine, rows: &[TaskRow], jobs: &[JobRow]) -> bool
     requires rows { rows.now ≡ machine.now.tasks.rows.items }
     requires jobs { jobs.now ≡ machine.now.tasks.jobs }
     requires tables { TableFacts (sight_of machine.now) }
@@ -161,9 +141,9 @@ pub fn stacks_stand(machine: &Machine) -> bool
     ensures yes { OnTrue result (NearStacks (sight_of machine.now)) }
     ensures not { OnFalse result (NearStacks (sight_of machine.now) → ⊥) }
 {
-    let rows = machine.tasks.rows.as_slice();
-    if !do_stand(machine, rows, machine.tasks.jobs.as_slice()) {
-        return false;
-    }
-    true
+    each_stands(
+        machine,
+        machine.tasks.rows.as_slice(),
+        machine.tasks.jobs.as_slice(),
+    )
 }

@@ -5,7 +5,7 @@ use Rattle.b67_word.specs.Tagged.{Tagged}
 use Rattle.b67_ctl.specs.declared.registers.Regs.{Regs}
 use Rattle.b67_area.specs.declared.Info.{Info}
 use Rattle.b67_area.specs.declared.Kind.TheVariants as kind
-use Rattle.b67_backing.specs.Held.{sectors_for}
+use Rattle.b67_word.specs.Sectors.{sectors_for}
 use Rattle.b67_lemmas.specs.Lists.{Has}
 use Rattle.b67_stack.specs.Common.{PagedObject, Slot, Free, Running, Waiting, MachineView, is_present, address_or, home_word_of, tag_of, slot_base, IsArrayAt, SlotFits, IsLaidOut, AreZero, Storage, RepresentsSlot, RepresentsObject, ObjectHasChain, Content, Told, info_of, Represents}
 use Rattle.b67_layout_shown.specs.Shown.{contents_by}

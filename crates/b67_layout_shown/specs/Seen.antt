@@ -1,5 +1,6 @@
 -- The marks in a task's reach, as places in the machine's stacks: what a test looks at.
 use Rattle.std.specs.Prelude.{◌≡◌, ℕ, zero, suc, ◌+◌, ◌<◌, ◌==◌, List, [], ◌∷◌, ◌++◌, map, Option, Some, None, if◌then◌else◌}
+use Rattle.b67_ctl.specs.declared.map.TheConstants.{DICTIONARY_STACKS, MCP_STACK, SLOTS}
 use Rattle.b67_model.specs.declared.intrinsics.TheConstants.{MOST_TASKS}
 use Rattle.b67_lemmas.specs.Lists.{Has}
 use Rattle.b67_model.specs.Keyed.{keyed}
@@ -24,8 +25,8 @@ from_disp disp (a ∷ below) = if stack_words below + 1 == disp then a ∷ below
 -- a job's dictionary and the MCP
 abbrev pub base_seen : ℕ → List Seen
 base_seen job =
-    (record { stack = 127 + job; disp = 0 }, Entered 1 (record { stack = 136; disp = 0 }) None)
-    ∷ (record { stack = 136; disp = 0 }, Entered 0 (record { stack = 136; disp = 0 }) None) ∷ []
+    (record { stack = DICTIONARY_STACKS + job; disp = 0 }, Entered 1 (record { stack = MCP_STACK; disp = 0 }) None)
+    ∷ (record { stack = MCP_STACK; disp = 0 }, Entered 0 (record { stack = MCP_STACK; disp = 0 }) None) ∷ []
 
 -- what is seen in the parents' stacks, each from the critical mark down, at most n
 abbrev pub seen_from : Sight → ℕ → ℕ → ℕ → Option TaskRow → List Seen
@@ -41,11 +42,11 @@ seen_by k r = seen_in r.slot (stack_of_row k r) ++ seen_from k r.job MOST_TASKS 
 abbrev pub known_seen : Sight → ℕ → Seen → Known
 known_seen k job s = (frame_seen k.tasks job s.0, standing_of (frame_seen k.tasks job) s.1)
 
--- the tables of a job are sound: slots lie below 120, the row of each slot is found, each row's task by its number, and each parent
+-- the tables of a job are sound: slots are some of those that there are, the row of each slot is found, each row's task by its number, and each parent
 -- is of the same job
 pub record RowsAreSound (k : Sight) (row : JobRow) (job : ℕ) : Type 0 where
   pub few : job < 9
-  pub low : (r : TaskRow) → Has k.tasks r → r.slot < 120
+  pub low : (r : TaskRow) → Has k.tasks r → r.slot < SLOTS
   pub found : (r : TaskRow) → Has k.tasks r → keyed (λ (q : TaskRow). q.slot) r.slot k.tasks ≡ Some r
   pub task : (r : TaskRow) → Has k.tasks r → r.job ≡ job → keyed (λ (t : Task). t.number) r.number (job_seen k row job).tasks ≡ Some (task_in k row job r)
   pub same : (r p : TaskRow) → Has k.tasks r → r.job ≡ job → keyed (λ (q : TaskRow). q.slot) r.parent k.tasks ≡ Some p → p.job ≡ job

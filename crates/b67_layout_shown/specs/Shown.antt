@@ -5,6 +5,7 @@ use Rattle.std.specs.Prelude.{ℕ, zero, suc, ◌+◌, ◌-◌, ◌*◌, ◌/◌
 use Rattle.b67_model.specs.declared.intrinsics.TheConstants.{MOST_TASKS}
 use Rattle.b67_word.specs.Tagged.{Tagged, bits_at}
 use Rattle.b67_word.specs.declared.couples.Place.{Place}
+use Rattle.b67_ctl.specs.declared.map.TheConstants.{DICTIONARY_STACKS, MCP_STACK, SLOTS}
 use Rattle.b67_ctl.specs.declared.registers.Regs.{Regs}
 use Rattle.b67_model.specs.Words as Words
 use Rattle.b67_model.specs.Common.{Word, Operand, Name, Ref, Row, Element, Original, Proc, Intrinsic, Standing, Frame, Array, Condition, Ready, Awaits, WaitsAt, Task, Segment, JobConstants, Job, SessionJob, Session}
@@ -37,12 +38,12 @@ number_seen tasks k = number_by (keyed (λ (r : TaskRow). r.slot) k tasks)
 -- the name of the activation record whose mark stands at a place, seen from a job: its own dictionary is 1, the MCP is 0
 abbrev pub frame_seen : List TaskRow → ℕ → StackPlace → ℕ
 frame_seen tasks job p =
-    if nat_lt p.stack 120 then named (number_seen tasks p.stack) p.disp else (if p.stack == 127 + job then 1 else 0)
+    if nat_lt p.stack SLOTS then named (number_seen tasks p.stack) p.disp else (if p.stack == DICTIONARY_STACKS + job then 1 else 0)
 
 -- the place of an address: in a slot, or in the dictionary of a job or the MCP
 abbrev pub place_seen : Regs → JobRow → ℕ → ℕ → StackPlace
 place_seen r row job address =
-    if nat_lt address r.stacks then (if address == row.dictionary then record { stack = 127 + job; disp = 0 } else record { stack = 136; disp = 0 })
+    if nat_lt address r.stacks then (if address == row.dictionary then record { stack = DICTIONARY_STACKS + job; disp = 0 } else record { stack = MCP_STACK; disp = 0 })
     else record { stack = (address - r.stacks) / r.stack_size; disp = (address - r.stacks) % r.stack_size }
 
 -- the name of the array whose original stands at an address

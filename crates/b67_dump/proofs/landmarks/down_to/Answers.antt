@@ -13,7 +13,7 @@ returns-then-from-home c = λ marks upper le known some.
 
 pub down-preserved : goal.down-preserved
 down-preserved c = λ marks upper le known some.
-    let back = c.part-back.ensures.value ∙ ap (λ w. bits_at w 0 14) (c.word_or_zero.ensures ∙ ap (word_seen_at c.args.core.now) c.from-in-down.ensures) in
+    let back = c.part-back.ensures.value ∙ ap (λ w. bits_at w 0 14) (c.word_seen_at.ensures ∙ ap (word_seen_at c.args.core.now) c.from-in-down.ensures) in
     subst (λ at. IsDown c.args.core.now c.args.home marks at (c.down.left - 1)) (sym c.saturating_sub-mark.ensures)
     (further c.args.core.now c.args.home marks c.down.mark c.down.left c.part-back.result (c.down.invariant marks upper le known c.down-test.true) some (omega (arith, c.if-from-home.false, c.from.ensures)) (sym back))
 

@@ -24,7 +24,7 @@ returns g c =
     let k = sight_of c.args.machine.now in
     let text = λ (cs : List Shape). shapes_text k (job_row c.args.row.now) c.args.job cs in
     let cells = cells_are k.core c.args.mark c.args.top c.part-head.result (c.args.mark + (1 + c.part-head.result)) (c.args.top + 1 - (c.args.mark + (1 + c.part-head.result)))
-    (sym (c.part-head.ensures.value ∙ ap (λ w. bits_at w 46 1) c.word_or_zero.ensures)) c.part-head.ensures.small refl refl in
+    (sym (c.part-head.ensures.value ∙ ap (λ w. bits_at w 46 1) c.word_seen_at.ensures)) c.part-head.ensures.small refl refl in
     puts_as g.K.Sink.taken g.K.Sink.faults c.args.sink.now c.put_cells.new.sink c.put_cells.result _ _
     (ap (λ (l : List ℕ). ended l ++ text (cells_in k.core (c.args.mark + (1 + c.part-head.result)) c.saturating_sub.result)) (c.frame_line.ensures c.args.top) ∙ ap (λ cs. ended (beside (codes "FRAME") (beside (decimal c.args.number) (head_text k c.args.job (activation_in k.core c.args.mark c.args.top).head))) ++ text cs) (ap (cells_in k.core (c.args.mark + (1 + c.part-head.result))) c.saturating_sub.ensures ∙ sym cells))
     (puts_then g.K.Sink.taken g.K.Sink.faults c.args.sink.now c.put.new.sink c.put_cells.new.sink c.put_cells.result (ended c.frame_line.result) _ c.in-Ok.ensures c.put_cells.ensures)

@@ -10,7 +10,7 @@ down-init c = below_same c.args.core.now c.args.mark
 pub down-preserved : goal.down-preserved
 down-preserved c =
     subst (IsBelow c.args.core.now c.args.mark (c.down._step + 1)) (sym c.saturating_sub-at.ensures)
-    (one_below c.args.core.now c.args.mark c.down._step c.down.at c.part.result c.down.invariant (sym (c.part.ensures.value ∙ ap (λ w. bits_at w 0 14) c.word_or_zero.ensures)))
+    (one_below c.args.core.now c.args.mark c.down._step c.down.at c.part.result c.down.invariant (sym (c.part.ensures.value ∙ ap (λ w. bits_at w 0 14) c.word_seen_at.ensures)))
 
 pub returns : goal.returns
 returns c = let end : c.down._step ≡ c.args.steps = omega (arith, c.down.auto._step-end, c.down-test.false) in subst (λ n. IsBelow c.args.core.now c.args.mark n c.down.at) end c.down.invariant

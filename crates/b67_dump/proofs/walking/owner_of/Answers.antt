@@ -21,7 +21,7 @@ pub down-preserved : goal.down-preserved
 down-preserved c =
     subst (IsSought c.args.core.now c.args.turns c.args.mark c.args.home (c.down.turn + 1)) (sym c.saturating_sub-at.ensures)
     (one_down c.args.core.now c.args.turns c.args.mark c.args.home c.down.turn c.down.at c.part-back.result c.down.invariant c.down-test.true
-    (omega (arith, c.if-at-from.false, c.from.ensures)) (sym (c.part-back.ensures.value ∙ ap (λ w. bits_at w 0 14) c.word_or_zero.ensures)) (omega (arith, c.if-back-eq0.false)))
+    (omega (arith, c.if-at-from.false, c.from.ensures)) (sym (c.part-back.ensures.value ∙ ap (λ w. bits_at w 0 14) c.word_seen_at.ensures)) (omega (arith, c.if-back-eq0.false)))
 
 pub returns-after-down-clause-number : goal.returns-after-down-clause-number
 returns-after-down-clause-number c =
@@ -34,9 +34,9 @@ returns-after-down-clause-offset c =
 pub returns-then-back-eq0-clause-number : goal.returns-then-back-eq0-clause-number
 returns-then-back-eq0-clause-number c =
     ap (λ (fs : List ℕ). length fs) (none_below c.args.core.now c.args.turns c.args.mark c.args.home c.down.turn c.down.at c.part-back.result c.down.invariant c.down-test.true
-    (omega (arith, c.if-at-from.false, c.from.ensures)) (sym (c.part-back.ensures.value ∙ ap (λ w. bits_at w 0 14) c.word_or_zero.ensures)) c.if-back-eq0.true)
+    (omega (arith, c.if-at-from.false, c.from.ensures)) (sym (c.part-back.ensures.value ∙ ap (λ w. bits_at w 0 14) c.word_seen_at.ensures)) c.if-back-eq0.true)
 
 pub returns-then-back-eq0-clause-offset : goal.returns-then-back-eq0-clause-offset
 returns-then-back-eq0-clause-offset c =
     ap (offset_from c.args.core.now c.args.home) (none_below c.args.core.now c.args.turns c.args.mark c.args.home c.down.turn c.down.at c.part-back.result c.down.invariant c.down-test.true
-    (omega (arith, c.if-at-from.false, c.from.ensures)) (sym (c.part-back.ensures.value ∙ ap (λ w. bits_at w 0 14) c.word_or_zero.ensures)) c.if-back-eq0.true)
+    (omega (arith, c.if-at-from.false, c.from.ensures)) (sym (c.part-back.ensures.value ∙ ap (λ w. bits_at w 0 14) c.word_seen_at.ensures)) c.if-back-eq0.true)

@@ -1,5 +1,6 @@
 use Rattle.std.proofs.Common.{◌<◌, ◌-◌, length, arith}
 use Rattle.b67_image_shape.proofs.AreaSteps.{walk_starts, walk_ends, no_end, none_fits}
+use Rattle.b67_image_shape.proofs.Deciding.{on_true, on_false}
 use Rattle.b67_image_shape.proofs.areas.walk_areas.Goals as goal
 
 pub returns-then-not-are_zeros-clause-not : goal.returns-then-not-are_zeros-clause-not
@@ -20,12 +21,16 @@ up-preserved c = c.in-Some.ensures.some c.args.low c.up.invariant
 pub returns-in-None-clause-not : goal.returns-in-None-clause-not
 returns-in-None-clause-not c = none_fits c.args.core.now c.args.kinds.now c.args.low (c.in-None.ensures.none c.args.low c.up.invariant)
 
-pub returns-then-not-is_link-clause-not : goal.returns-then-not-is_link-clause-not
-returns-then-not-is_link-clause-not c =
-    none_fits c.args.core.now c.args.kinds.now c.args.low
-    (no_end c.args.core.now c.args.kinds.now c.args.low c.up.w c.up.housed c.up.invariant (let inside = c.up.invariant.inside in omega (arith, inside, c.up-test.false, c.size-size.ensures.value)) c.if-not-is_link.ensures.not)
-
 pub returns-clause-yes : goal.returns-clause-yes
 returns-clause-yes c =
-    walk_ends c.args.core.now c.args.kinds.now c.args.low c.up.w c.up.housed (omega (arith, c.size-size.ensures.value, c.size-size.ensures.small)) c.requires.low c.if-not-are_zeros.ensures.yes c.up.invariant
-    (let inside = c.up.invariant.inside in omega (arith, inside, c.up-test.false, c.size-size.ensures.value)) c.if-not-is_link.ensures.yes
+    let inside = c.up.invariant.inside in
+    on_true c.is_link.result
+    (walk_ends c.args.core.now c.args.kinds.now c.args.low c.up.w c.up.housed (omega (arith, c.size-size.ensures.value, c.size-size.ensures.small)) c.requires.low c.if-not-are_zeros.ensures.yes c.up.invariant
+    (omega (arith, inside, c.up-test.false, c.size-size.ensures.value))) c.is_link.ensures.yes
+
+pub returns-clause-not : goal.returns-clause-not
+returns-clause-not c =
+    let inside = c.up.invariant.inside in
+    on_false c.is_link.result
+    (λ never. none_fits c.args.core.now c.args.kinds.now c.args.low
+    (no_end c.args.core.now c.args.kinds.now c.args.low c.up.w c.up.housed c.up.invariant (omega (arith, inside, c.up-test.false, c.size-size.ensures.value)) never)) c.is_link.ensures.not

@@ -7,7 +7,7 @@ use Rattle.b67_image_shape.proofs.cells.cells_stand.Given as goal
 abbrev pub invariant-down : goal.invariant-down
 invariant-down l =
     (l.left ≤ l.many)
-    × (cells_stand (sight_of l.machine) l.records l.kinds (job_row l.job) (task_row l.row) l.high l.s l.from l.many ≡ cells_stand (sight_of l.machine) l.records l.kinds (job_row l.job) (task_row l.row) l.high l.s l.from l.left)
+    × (cells_stand (sight_of l.task.machine.now) l.task.records.now l.task.kinds.now (job_row l.task.job.now) (task_row l.task.row) l.high l.s l.from l.many ≡ cells_stand (sight_of l.task.machine.now) l.task.records.now l.task.kinds.now (job_row l.task.job.now) (task_row l.task.row) l.high l.s l.from l.left)
 
 abbrev pub decreases-down : goal.decreases-down
 decreases-down l = l.left

@@ -8,4 +8,4 @@ abbrev pub invariant-down : goal.invariant-down
 invariant-down l =
     (l.f < 2 ^ 60)
     × ((l.s < 2 ^ 60)
-    × (records_stand (sight_of l.machine) l.records l.kinds (job_row l.job) (task_row l.row) l.base l.turns l.mark l.high ≡ records_stand (sight_of l.machine) l.records l.kinds (job_row l.job) (task_row l.row) l.base (l.turns - l._turn) l.f l.s))
+    × (records_stand (sight_of l.task.machine.now) l.task.records.now l.task.kinds.now (job_row l.task.job.now) (task_row l.task.row) l.base l.turns l.mark l.high ≡ records_stand (sight_of l.task.machine.now) l.task.records.now l.task.kinds.now (job_row l.task.job.now) (task_row l.task.row) l.base (l.turns - l._turn) l.f l.s))

@@ -2,6 +2,7 @@ use Rattle.std.proofs.Common.{sym, subst}
 use Rattle.b67_layout_shown.specs.Machines.{sight_of, RepresentsOne}
 use Rattle.b67_image_shape.specs.TableMarks.{IsTable}
 use Rattle.b67_image_shape.proofs.Shaping.{items, one_front, one_kept, but_display, told, one_stands, granted, denied}
+use Rattle.b67_image_shape.proofs.Deciding.{on_true, on_false}
 use Rattle.b67_image_shape.proofs.shaped.is_shaped.Goals as goal
 
 pub returns-then-not-front_stands-clause-none : goal.returns-then-not-front_stands-clause-none
@@ -44,11 +45,12 @@ display_passes-requires c =
     told c.args.machine.now
     (but_display c.args.machine.now c.near_stacks_suffice.ensures c.words_are_small.ensures (granted c.front_stands.result c.front_stands.ensures c.if-not-front_stands.false) (granted _ c.in_ok-ordered.ensures c.if-not-ordered.false) (granted _ c.in_ok-kept.ensures c.if-not-kept.false))
 
-pub returns-then-not-display_passes-clause-none : goal.returns-then-not-display_passes-clause-none
-returns-then-not-display_passes-clause-none c = λ (one : RepresentsOne c.args.machine.now). c.if-not-display_passes.ensures.not (items c.machines_are_shown.ensures c.items_are_exact.ensures c.args.machine.now one).display
-
 pub returns-clause-some : goal.returns-clause-some
 returns-clause-some c =
-    one_stands c.machines_are_shown.ensures c.items_are_exact.ensures c.args.machine.now
-    (but_display c.args.machine.now c.near_stacks_suffice.ensures c.words_are_small.ensures (granted c.front_stands.result c.front_stands.ensures c.if-not-front_stands.false) (granted _ c.in_ok-ordered.ensures c.if-not-ordered.false) (granted _ c.in_ok-kept.ensures c.if-not-kept.false))
-    c.if-not-display_passes.ensures.yes
+    on_true c.display_passes.result
+    (one_stands c.machines_are_shown.ensures c.items_are_exact.ensures c.args.machine.now
+    (but_display c.args.machine.now c.near_stacks_suffice.ensures c.words_are_small.ensures (granted c.front_stands.result c.front_stands.ensures c.if-not-front_stands.false) (granted _ c.in_ok-ordered.ensures c.if-not-ordered.false) (granted _ c.in_ok-kept.ensures c.if-not-kept.false)))
+    c.display_passes.ensures.yes
+
+pub returns-clause-none : goal.returns-clause-none
+returns-clause-none c = on_false c.display_passes.result (λ never (one : RepresentsOne c.args.machine.now). never (items c.machines_are_shown.ensures c.items_are_exact.ensures c.args.machine.now one).display) c.display_passes.ensures.not

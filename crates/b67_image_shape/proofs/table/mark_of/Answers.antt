@@ -15,19 +15,19 @@ returns-then-at-regs c = below_slots (sight_of c.args.machine.now) c.args.at _ c
 pub returns-then-size-eq0 : goal.returns-then-size-eq0
 returns-then-size-eq0 c = no_slots (sight_of c.args.machine.now) c.args.at c.requires.slots (omega (arith, c.if-at-regs.false)) (omega (arith, c.if-size-eq0.true, c.from-size.ensures))
 
-pub returns-then-slot-ge120 : goal.returns-then-slot-ge120
-returns-then-slot-ge120 c = past_slots (sight_of c.args.machine.now) c.args.at c.requires.slots (omega (arith, c.if-at-regs.false)) (subst (λ n. 120 ≤ n) (slot_is (sight_of c.args.machine.now) c.args.at c.from-size.result c.from-size.ensures) (omega (arith, c.if-slot-ge120.true)))
+pub returns-then-slot : goal.returns-then-slot
+returns-then-slot c = past_slots (sight_of c.args.machine.now) c.args.at c.requires.slots (omega (arith, c.if-at-regs.false)) (subst (λ n. 120 ≤ n) (slot_is (sight_of c.args.machine.now) c.args.at c.from-size.result c.from-size.ensures) (omega (arith, c.if-slot.true)))
 
 pub returns-then-from : goal.returns-then-from
 returns-then-from c = low_mark (sight_of c.args.machine.now) c.args.at c.from.result c.from-2.result c.from-3.result c.from-4.result (omega (arith, c.if-at-regs.false)) c.from.ensures c.from-2.ensures (c.from-3.ensures ∙ (slot_is (sight_of c.args.machine.now) c.args.at c.from-size.result c.from-size.ensures)) c.from-4.ensures (omega (arith, c.if-from.true))
 
 pub returns-then-from-ends : goal.returns-then-from-ends
-returns-then-from-ends c = high_mark (sight_of c.args.machine.now) c.args.at c.from-5.result _ (omega (arith, c.if-at-regs.false)) c.from-5.ensures (c.requires.ends.1 _ (omega (arith, c.if-slot-ge120.false)) ∙ ap (λ n. end_by (sight_of c.args.machine.now) (row_in_slot (map task_row c.args.machine.now.tasks.rows.items) n)) (slot_is (sight_of c.args.machine.now) c.args.at c.from-size.result c.from-size.ensures)) (omega (arith, c.if-from-ends.true))
+returns-then-from-ends c = high_mark (sight_of c.args.machine.now) c.args.at c.from-5.result _ (omega (arith, c.if-at-regs.false)) c.from-5.ensures (c.requires.ends.1 _ (omega (arith, c.if-slot.false)) ∙ ap (λ n. end_by (sight_of c.args.machine.now) (row_in_slot (map task_row c.args.machine.now.tasks.rows.items) n)) (slot_is (sight_of c.args.machine.now) c.args.at c.from-size.result c.from-size.ensures)) (omega (arith, c.if-from-ends.true))
 
 pub returns-then-not-is_original_word : goal.returns-then-not-is_original_word
 returns-then-not-is_original_word c = other_mark (sight_of c.args.machine.now) c.args.at (omega (arith, c.if-at-regs.false)) (ap is_original_word (sym (word_read c.args.machine.now.cpu.core c.args.at c.get.result c.get.ensures)) ∙ sym c.is_original_word.ensures ∙ c.if-not-is_original_word.true)
 
 pub returns : goal.returns
 returns c = here_mark (sight_of c.args.machine.now) c.args.at c.from.result c.from-2.result c.from-3.result c.from-4.result c.from-5.result _ (omega (arith, c.if-at-regs.false)) c.from.ensures c.from-2.ensures (c.from-3.ensures ∙ (slot_is (sight_of c.args.machine.now) c.args.at c.from-size.result c.from-size.ensures)) c.from-4.ensures (omega (arith, c.if-from.false)) c.from-5.ensures
-    (c.requires.ends.1 _ (omega (arith, c.if-slot-ge120.false)) ∙ ap (λ n. end_by (sight_of c.args.machine.now) (row_in_slot (map task_row c.args.machine.now.tasks.rows.items) n)) (slot_is (sight_of c.args.machine.now) c.args.at c.from-size.result c.from-size.ensures)) (omega (arith, c.if-from-ends.false))
+    (c.requires.ends.1 _ (omega (arith, c.if-slot.false)) ∙ ap (λ n. end_by (sight_of c.args.machine.now) (row_in_slot (map task_row c.args.machine.now.tasks.rows.items) n)) (slot_is (sight_of c.args.machine.now) c.args.at c.from-size.result c.from-size.ensures)) (omega (arith, c.if-from-ends.false))
     (ap is_original_word (sym (word_read c.args.machine.now.cpu.core c.args.at c.get.result c.get.ensures)) ∙ sym c.is_original_word.ensures ∙ c.if-not-is_original_word.false)

@@ -1,6 +1,6 @@
 use Rattle.std.proofs.Common.{arith}
 use Rattle.b67_image_shape.proofs.ChainTests.{run_starts, run_ends, run_stops, run_on, run_done}
-use Rattle.b67_image_shape.proofs.chains.do_run.Goals as goal
+use Rattle.b67_image_shape.proofs.chains.runs_on.Goals as goal
 
 pub walk-init : goal.walk-init
 walk-init c = run_starts c.args.links.now c.args.first c.args.behind c.requires.low c.requires.high

@@ -1,8 +1,8 @@
 use Rattle.std.proofs.Common.{rules}
 use Rattle.b67_task_tables.specs.Tables.{task_row}
 use Rattle.b67_layout_shown.specs.Machines.{sight_of}
-use Rattle.b67_dump.proofs.Tops.{top_running, top_resting}
-use Rattle.b67_dump.proofs.walking.top_of.Goals as goal
+use Rattle.b67_layout_shown.proofs.Tops.{top_running, top_resting}
+use Rattle.b67_layout_shown.proofs.seeing.top_of.Goals as goal
 
 pub returns-then-row-regs-clause-s : goal.returns-then-row-regs-clause-s
 returns-then-row-regs-clause-s c = rw (top_running (sight_of c.args.machine.now) (task_row c.args.row) c.if-row-regs.true) (search rules)

@@ -1,7 +1,7 @@
 use Rattle.std.proofs.Common.{◌+◌, sym, ◌∙◌, arith}
 use Rattle.std.proofs.lemmas.Bool.{ne_eqb}
 use Rattle.b67_image_shape.proofs.WalkTurns.{walk_low, walk_unfit, walk_bottom, walk_above, walk_far, walk_next, walk_ends, walk_starts}
-use Rattle.b67_image_shape.proofs.walk.do_walk.Goals as goal
+use Rattle.b67_image_shape.proofs.walk.walk_down.Goals as goal
 
 pub down-init : goal.down-init
 down-init c = walk_starts c.args.core.now c.args.base c.args.slot c.args.segments c.args.turns c.args.top c.args.mark c.args.high c.requires.small c.requires.top

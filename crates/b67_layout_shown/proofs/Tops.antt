@@ -1,5 +1,5 @@
--- Turns of the search for the row of a slot.
-use Rattle.std.proofs.Common.{◌≡◌, ◌≢◌, ℕ, [], ◌∷◌, true, false, map, ◌+◌, ◌<◌, ◌≤◌, Bool, List, Some, None, drop, length, get_or, refl, sym, ◌∙◌, ap}
+-- What is seen of a machine: the row of a slot and the top of a task.
+use Rattle.std.proofs.Common.{◌≡◌, ◌≢◌, ℕ, [], ◌∷◌, true, false, map, ◌+◌, ◌*◌, ◌<◌, ◌≤◌, Bool, List, Some, None, drop, length, get_or, refl, sym, ◌∙◌, ap}
 use Rattle.std.specs.Prelude.{if◌then◌else◌, ◌==◌, Option, option_map}
 use Rattle.std.proofs.lemmas.Bool.{ne_eqb, eq-eqb}
 use Rattle.std.proofs.lemmas.List.{at_drop_more, drop_all}
@@ -7,6 +7,7 @@ use Rattle.b67_model.specs.Keyed.{keyed}
 use Rattle.b67_layout.specs.Rows as rows
 use Rattle.b67_task_tables.specs.declared.tables.TaskRow.{TaskRow}
 use Rattle.b67_task_tables.specs.Tables.{task_row}
+use Rattle.b67_layout_shown.specs.Shown.{Sight, top_by, top_in}
 
 module _ {A : Type 0} (key : A → ℕ) where
   -- the row sought isn't before the one come to
@@ -35,3 +36,10 @@ slot_mapped (x ∷ xs) n found e = ap (option_map task_row) e ∙ by (x.slot == 
       → option_map task_row (if b then Some x else keyed (λ (r : TaskRow). r.slot) n xs) ≡ (if b then Some (task_row x) else keyed (λ (r : rows.TaskRow). r.slot) n (map task_row xs))
   by true rest = refl
   by false rest = rest
+
+-- the top of a task, which runs or doesn't
+pub top_running : (k : Sight) (r : rows.TaskRow) → r.slot ≡ k.regs.slot → top_in k r ≡ top_by k r (k.regs.stacks + r.slot * k.regs.stack_size) true
+top_running k r e = ap (top_by k r (k.regs.stacks + r.slot * k.regs.stack_size)) (eq-eqb r.slot k.regs.slot e)
+
+pub top_resting : (k : Sight) (r : rows.TaskRow) → r.slot ≢ k.regs.slot → top_in k r ≡ top_by k r (k.regs.stacks + r.slot * k.regs.stack_size) false
+top_resting k r e = ap (top_by k r (k.regs.stacks + r.slot * k.regs.stack_size)) (ne_eqb r.slot k.regs.slot e)
