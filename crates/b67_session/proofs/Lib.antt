@@ -51,3 +51,5 @@ pub mod OperatorsMade
 pub mod NearOnes
 pub mod Gives
 pub mod Openings
+pub mod Begins
+pub mod DoneTries

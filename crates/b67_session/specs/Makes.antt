@@ -57,3 +57,7 @@ MakesInSegment x told plan s m t answered old new = MakesAt x told plan s m t an
 -- for each session in order that the machine represents, with its running task, which is ready
 abbrev pub ForEachReady : Machine → (Storage → Option (List (List ℕ)) → Placement → Session → SessionJob → Task → Type 0) → Type 0
 ForEachReady k P = ForEachRun k (λ x told plan s m t. t.condition ≡ Ready → P x told plan s m t)
+
+-- the operator at the running place was made
+abbrev pub MakesOne : Machine → Machine → Type 0
+MakesOne old new = ForEachReady old (λ x told plan s m t. MakesInSegment x told plan s m t answers.Done old new)

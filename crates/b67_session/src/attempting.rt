@@ -8,6 +8,7 @@ ghost use Rattle.b67_session.specs.Attempts.{RunsOver, ForEachOver, AttemptRow, 
 use crate::bringing::bring_wanted;
 use crate::outcomes::Attempt;
 use crate::tries::{Tried, try_once};
+use crate::turns::make_one;
 use b67_backing::Backing;
 use b67_io::Sink;
 use b67_mcp::Stop;
@@ -114,4 +115,29 @@ pub fn attempt<B: Backing, K: Sink>(
         },
         Err(stop) => Err(stop),
     }
+}
+
+/// Executes the next operator as `attempt` does. If `near`, it is first tried as in a turn, which most operators are made by.
+#[inline(always)]
+pub(crate) fn attempt_near<B: Backing, K: Sink>(
+    machine: &mut Machine,
+    near: bool,
+    backing: &mut B,
+    paper: &mut K,
+) -> Result<Attempt, Stop>
+    requires runs { RunsOver machine.old (B.holds backing.old) }
+    requires jobs { JobsHaveRoom machine.old.tasks.jobs }
+    requires same { B.size backing.old + 1 ≡ length machine.old.sectors.links }
+    ensures row { ForEachOver machine.old (B.holds backing.old) (λ x plan s m t.
+        AttemptRow B.holds K.taken x (content_after x.device (B.holds backing.new)) (length machine.old.cpu.core) (B.size backing.old) machine.old.tasks.printed plan s m t result machine.new
+        backing.old backing.new paper.old paper.new) }
+    ensures causes { CallCauses B.faults K.faults backing.old backing.new paper.old paper.new result }
+    ensures kept { Keeps machine.old machine.new }
+    ensures tables { TablesStay result machine.old.tasks machine.new.tasks }
+    ensures device { DeviceAfterCalls B.holds B.size B.calls B.faults backing.old backing.new }
+{
+    if make_one(machine, near) {
+        return Ok(Attempt::Made);
+    }
+    attempt(machine, backing, paper)
 }

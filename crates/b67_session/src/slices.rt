@@ -64,16 +64,18 @@ fn go_on<B: Backing, K: Sink>(
     ensures device { DeviceAfterCalls B.holds B.size B.calls B.faults backing.old backing.new }
 {
     let mut made = 0;
+    let mut near = true;
     'turn: while made < n {
         if let Some(progress) = pause(&machine.tasks, machine.tasks.halt) {
             return Ok(progress);
         }
-        match step(machine, backing, paper) {
+        match step(machine, near, backing, paper) {
             Ok(()) => {}
             Err(stop) => return Err(stop),
         }
         let more = go_on_with_turn(machine, n - made - 1);
-        made += 1 + more;
+        made += 1 + more.made;
+        near = !more.stopped;
     }
     match pause(&machine.tasks, machine.tasks.halt) {
         Some(progress) => Ok(progress),

@@ -17,7 +17,7 @@ ghost use Rattle.b67_session.specs.AttemptPassed.{CallCauses};
 ghost use Rattle.b67_session.specs.Slices.{IsStepDue, StandsAt, IfPresent};
 ghost use Rattle.b67_session.specs.Steps.{EndsStep, Steps};
 
-use crate::attempting::attempt;
+use crate::attempting::attempt_near;
 use crate::outcomes::Attempt;
 use crate::turns::give_turn;
 use b67_backing::Backing;
@@ -47,10 +47,11 @@ fn end_step<K: Sink>(machine: &mut Machine, paper: &mut K) -> Result<(), Stop>
 
 /// Makes one step of a session of which a task lives, with its text printed and its operator counted. After a `Stop` it isn't
 /// counted, and the machine represents the state before it; but if the printer failed in the lines of LIMIT, the step is made
-/// and counted but for these lines and the tasks' ends.
+/// and counted but for these lines and the tasks' ends. If `near`, the operator is first tried as in a turn; the step is the same.
 #[inline(always)]
 pub(crate) fn step<B: Backing, K: Sink>(
     machine: &mut Machine,
+    near: bool,
     backing: &mut B,
     paper: &mut K,
 ) -> Result<(), Stop>
@@ -69,7 +70,7 @@ pub(crate) fn step<B: Backing, K: Sink>(
         None => unreachable!(),
     };
     give_turn(machine, chosen.row);
-    match attempt(machine, backing, paper) {
+    match attempt_near(machine, near, backing, paper) {
         Ok(Attempt::Made) => {
             count_one(&mut machine.tasks, chosen);
             end_step(machine, paper)

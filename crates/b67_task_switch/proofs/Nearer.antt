@@ -1,8 +1,8 @@
 -- The first ready task behind another, among more and more rows.
-use Rattle.std.proofs.Common.{◌≡◌, ℕ, ◌+◌, ◌-◌, ◌^◌, ◌≤◌, ◌<◌, ◌⊎◌, true, false, List, length, Option, Some, None, refl, sym, ◌∙◌, ap, arith, inl, inr, subst, get_or}
+use Rattle.std.proofs.Common.{◌≡◌, ℕ, ◌+◌, ◌-◌, ◌^◌, ◌≤◌, ◌<◌, ◌⊎◌, true, false, List, length, Some, None, refl, sym, ◌∙◌, ap, arith, inl, inr, subst, get_or}
 use Rattle.std.specs.List.{slice_get}
 use Rattle.std.proofs.lemmas.Option.{same_Some, get_or_from_slice_get, slice_get_within}
-use Rattle.std.proofs.lemmas.Bool.{cases_lt, cases_Bool, true≢false}
+use Rattle.std.proofs.lemmas.Bool.{cases_lt, true≢false}
 use Rattle.b67_model.specs.Schedule.{Who, is_same}
 use Rattle.b67_task_tables.specs.declared.tables.TheConstants.{NO_ROW}
 use Rattle.b67_task_tables.specs.declared.tables.TaskRow.{TaskRow}
@@ -79,6 +79,18 @@ module _ (rows : List TaskRow) (k : ℕ) (row : TaskRow) (e : slice_get rows k �
       before : Nearest k rows last far best → (j : ℕ) (w : Who) → j < k → IsReadyAt rows j w → is_sooner last w (who_of row) ≡ false
       before (inl (none, most, h)) j w lt a = absurd (h j w lt a)
       before (inr f) j w lt a = not_sooner last w f.next.who (who_of row) (f.next.first j w lt a) (no_sooner last (who_of row) f.next.who less far d f.distance le)
+
+  -- the only row is that of a ready task
+  pub alone : (last : Who) → k ≡ 0 → is_ready_state row.state ≡ true → NextRow 1 rows last (Some k)
+  alone last first t = record {
+    who = who_of row;
+    at = ready_here t;
+    first = λ j w lt a. let is : j ≡ k = omega (arith, lt, first) in subst (λ (v : Who). is_sooner last v (who_of row) ≡ false) (same_row w (subst (λ (n : ℕ). IsReadyAt rows n w) is a)).1 (never_sooner last (who_of row));
+  }
+
+  -- or it isn't
+  pub alone_not : (last : Who) → k ≡ 0 → is_ready_state row.state ≡ false → NextRow 1 rows last None
+  alone_not last first q = λ j w lt a. let is : j ≡ k = omega (arith, lt, first) in nobody w q (subst (λ (n : ℕ). IsReadyAt rows n w) is a)
 
   -- the row at k is not that of a ready task of this name
   pub not_here : (who : Who) → is_ready_row_of who row ≡ false → ((j : ℕ) → j < k → IsReadyAt rows j who → ⊥) → (j : ℕ) → j < k + 1 → IsReadyAt rows j who → ⊥

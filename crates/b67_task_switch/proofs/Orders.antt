@@ -103,6 +103,20 @@ no_sooner last a b m n h k le =
     let t : is_sooner last b a ≡ false = rw (x, y, z) (places_in_circle (place_of last) (place_of a) (place_of b) m n (below_40 last h.last_fits) (below_40 a h.fits) (below_40 b k.fits) h.is k.is le) in
     t
 
+-- nobody comes before the task of the next number
+not_between : (x y before : Bool) → y ≡ true → (x ≡ true → before ≡ false) → in_circle x y before ≡ false
+not_between true true before e h = h refl
+not_between false true before e h = refl
+not_between x false before e h = absurd (true≢false (sym e))
+
+behind_both : (last a : Who) → is_before last a ≡ true → is_before a (record { job = last.job; task = last.task + 1 }) ≡ false
+behind_both last a h = grind (arith, nat_tests, h)
+
+pub none_sooner : (last a : Who) → is_sooner last a (record { job = last.job; task = last.task + 1 }) ≡ false
+none_sooner last a =
+    let next : Who = record { job = last.job; task = last.task + 1 } in
+    not_between (is_before last a) (is_before last next) (is_before a next) (before_task last next refl (omega arith)) (behind_both last a)
+
 pub same_is : (a b : Who) → is_same a b ≡ true → a ≡ b
 same_is a b h = elim (eqb_tells a.job b.job) [
   | inl t ↦

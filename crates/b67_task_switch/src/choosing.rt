@@ -10,7 +10,7 @@ ghost use Rattle.b67_task_switch.specs.Counted.{choice_of, CountsHaveRoom};
 ghost use Rattle.b67_task_switch.specs.Chosen.{who_is, turn_lasts, IsReadyAt, RowOf, GoesOnAt, Chooses};
 
 use crate::counting::Chosen;
-use crate::ready::{Who, next_row, ready_row, ready_row_near};
+use crate::ready::{Who, next_row_near, ready_row, ready_row_near};
 use crate::switches::{due_switch, is_left};
 use b67_task_tables::Tasks;
 
@@ -63,7 +63,13 @@ fn row_after(tasks: &Tasks) -> Option<u8>
     ensures row { (plan : Placement) (s : Session) → IsInOrderButPlaces s → TasksShow plan s tasks.now → RowOf tasks.now.rows.items result (next_after s) }
     ensures inside { IfSome result (λ row. row < length tasks.now.rows.items) }
 {
-    next_row(tasks.rows.as_slice(), last_of(tasks))
+    let jobs = tasks.jobs.as_slice();
+    next_row_near(
+        tasks.rows.as_slice(),
+        jobs.len(),
+        tasks.running,
+        last_of(tasks),
+    )
 }
 
 /// The task of a row, with how many operators of its turn it has made.

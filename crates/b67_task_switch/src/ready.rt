@@ -1,8 +1,9 @@
 //! The rows of ready tasks.
 
-ghost use Rattle.std.specs.Prelude.{◌≡◌, ◌≤◌, length};
+ghost use Rattle.std.specs.Prelude.{◌≡◌, ◌≤◌, ◌+◌, length, IfSome};
+ghost use Rattle.b67_model.specs.Schedule as who;
 ghost use Rattle.b67_task_switch.specs.Chosen as rows;
-ghost use Rattle.b67_task_switch.specs.Chosen.{who_is, ReadyRow, NextRow, FitsTypes, IsDistance};
+ghost use Rattle.b67_task_switch.specs.Chosen.{who_is, IsReadyAt, ReadyRow, NextRow, FitsTypes, IsDistance};
 
 use b67_task_tables::{NO_ROW, TaskRow, TaskState};
 
@@ -87,7 +88,7 @@ fn distance(last: Who, who: Who) -> u64
 
 /// The row of the first ready task in the circle that begins behind another.
 #[inline(always)]
-pub(crate) fn next_row(rows: &[TaskRow], last: Who) -> Option<u8>
+fn next_row(rows: &[TaskRow], last: Who) -> Option<u8>
     requires { length rows.now ≤ 255 }
     ensures { NextRow (length rows.now) rows.now (who_is last) result }
 {
@@ -104,4 +105,54 @@ pub(crate) fn next_row(rows: &[TaskRow], last: Who) -> Option<u8>
         }
     }
     if best == NO_ROW { None } else { Some(best) }
+}
+
+/// The only row, where it is that of a ready task.
+#[inline(always)]
+fn only_row(rows: &[TaskRow]) -> Option<u8>
+    requires { length rows.now ≡ 1 }
+    ensures { (last : who.Who) → NextRow 1 rows.now last result }
+{
+    if is_ready(rows[0].state) {
+        return Some(0);
+    }
+    None
+}
+
+/// The row of the ready task of a job that has the number after the last one's, looked for behind one place: a job's later tasks
+/// stand behind its earlier ones. None without a look where the jobs are as many as the rows, since few have a second task then.
+#[inline(always)]
+fn follower_row(rows: &[TaskRow], jobs: usize, near: u8, last: Who) -> Option<u8>
+    requires { length rows.now ≤ 255 }
+    ensures { IfSome result (λ row. IsReadyAt rows.now row (record { job = last.job; task = last.task + 1 })) }
+{
+    if rows.len() <= jobs {
+        return None;
+    }
+    let who = Who {
+        job: last.job,
+        task: last.task.checked_add(1)?,
+    };
+    for at in near.saturating_add(1)..rows.len() as u8 {
+        if is_row_of(rows[at as usize], who) {
+            return Some(at);
+        }
+    }
+    None
+}
+
+/// The row of the first ready task in the circle that begins behind another, of so many jobs. The task of the next number in its
+/// job comes first: that one is looked for behind one place before all rows are looked at.
+#[inline(always)]
+pub(crate) fn next_row_near(rows: &[TaskRow], jobs: usize, near: u8, last: Who) -> Option<u8>
+    requires { length rows.now ≤ 255 }
+    ensures { NextRow (length rows.now) rows.now (who_is last) result }
+{
+    if rows.len() == 1 {
+        return only_row(rows);
+    }
+    match follower_row(rows, jobs, near, last) {
+        Some(row) => Some(row),
+        None => next_row(rows, last),
+    }
 }

@@ -113,7 +113,7 @@ pub turn-preserved : goal.turn-preserved
 turn-preserved g c =
     let a = (goal.at.turn-preserved g c).After-step in
     let is : c.step.result ≡ Ok tt = c.in-Ok.is in
-    let more = c.go_on_with_turn-more.result in
+    let more = c.go_on_with_turn-more.result.made in
     let total : c.turn.made + (1 + more) ≡ c.turn.made + 1 + more = omega arith in
     record {
       few = omega (arith, c.go_on_with_turn-more.ensures.few);

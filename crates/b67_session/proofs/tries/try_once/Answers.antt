@@ -10,14 +10,13 @@ use Rattle.b67_task_tables.specs.declared.tables.Machine.{Machine}
 use Rattle.b67_task_tables.specs.declared.tables.Tasks.{Tasks}
 use Rattle.b67_task_tables.specs.Tables.{MachineRepresents}
 use Rattle.b67_session.specs.declared.tries.Tried.TheVariants.{Made}
-use Rattle.b67_session.specs.Tries.{TryFits, LeavesAreas}
-use Rattle.b67_mcp.specs.Called.{IsCalled}
+use Rattle.b67_session.specs.Tries.{TryFits}
 use Rattle.b67_mcp.specs.Running.{JobsHaveRoom}
-use Rattle.b67_mcp.proofs.Told.{told_is}
 use Rattle.b67_session.proofs.Runs.{caused_stop}
+use Rattle.b67_session.proofs.DoneTries.{done_tries}
 use Rattle.b67_session.proofs.Untold.{machine_untold}
-use Rattle.b67_session.proofs.Trying.{wants_array, was_made, was_fault, was_ended, was_call, was_absent, called_made, called_so, stops_so, writes_so}
-use Rattle.b67_session.proofs.AttemptFits.{was_operator, fault_touches, leaves_touches, made_touches, operator_fits, call_fits, fault_fits, waits_fit, stop_fits}
+use Rattle.b67_session.proofs.Trying.{wants_array, was_fault, was_ended, was_call, was_absent, called_so, stops_so, writes_so}
+use Rattle.b67_session.proofs.AttemptFits.{was_operator, fault_touches, leaves_touches, operator_fits, call_fits, fault_fits, waits_fit, stop_fits}
 use Rattle.b67_session.proofs.tries.try_once.Goals as goal
 
 -- the machine after an operator that calls an intrinsic
@@ -49,17 +48,8 @@ intrinsic-requires-clause-jobs g c = subst (λ (z : Tasks). JobsHaveRoom z.jobs)
 
 pub returns-in-Done-clause-tried : goal.returns-in-Done-clause-tried
 returns-in-Done-clause-tried g c = λ x told plan s m t o h runs ready.
-    let old = c.args.machine.now in
-    let new = c.make.new.machine in
-    let row = c.in-Done.ensures.row x told plan s m t o h runs ready in
-    let is = was_operator x told plan s m t answers.Done old new (code_area x plan m t) refl (λ e. absurd cc) (λ n e. absurd cc) row in
-    let made = was_made x told plan s m t old new (code_area x plan m t) row in
-    let P : Option (List (List ℕ)) → Type 0 = λ d. (q : IsCalled g.K.Sink.taken c.args.paper.now c.args.paper.now d s m t old.tasks.printed new) × LeavesAreas x q.storage plan q.plan m t q.job in
-    record {
-      row = λ says. subst P (sym (told_is told (g.B.Backing.holds c.args.backing.now) says)) (called_made g.K.Sink.taken c.args.paper.now x told plan s m t old new o runs is.1 c.make.ensures.tasks made);
-      fits = operator_fits x told plan s m t o runs old h is (made_touches x told plan s m t o runs old new made);
-      quiet = λ none. refl;
-    }
+    done_tries g.B.Backing.holds g.K.Sink.taken (g.B.Backing.size c.args.backing.now) c.args.backing.now c.args.paper.now x told plan s m t c.args.machine.now c.make.new.machine o h runs c.make.ensures.tasks
+    (c.in-Done.ensures.row x told plan s m t o h runs ready)
 
 pub returns-in-Absent-clause-tried : goal.returns-in-Absent-clause-tried
 returns-in-Absent-clause-tried g c = λ x told plan s m t o h runs ready.

@@ -1,16 +1,24 @@
-use Rattle.std.proofs.Common.{◌-◌, refl, sym, ap, ◌∙◌, subst, arith}
+use Rattle.std.proofs.Common.{◌-◌, length, refl, sym, ap, ◌∙◌, subst, arith}
 use Rattle.b67_task_tables.specs.declared.tables.Tasks.{Tasks}
 use Rattle.b67_task_tables.specs.Tables.{given_of}
 use Rattle.b67_task_tables.proofs.Keeping.{rows_put, given_put}
 use Rattle.b67_task_switch.specs.Counted.{TurnHasRoom, row_more}
-use Rattle.b67_session.proofs.Turning.{turn_fits, turn_goes_on, turn_rests}
+use Rattle.b67_session.proofs.Turning.{turn_begins, turn_fits, turn_goes_on, turn_rests, turn_runs}
 use Rattle.b67_session.proofs.turns.go_on_with_turn.Goals as goal
 
 pub returns-then-room-eq0-clause-row : goal.returns-then-room-eq0-clause-row
 returns-then-room-eq0-clause-row c = λ said s h. turn_rests said s c.args.machine.now h c.requires.unprinted
 
-pub make_in_turn-made-requires : goal.make_in_turn-made-requires
-make_in_turn-made-requires c =
+pub make_in_turn-made-requires-clause-runs : goal.make_in_turn-made-requires-clause-runs
+make_in_turn-made-requires-clause-runs c =
+    let i = c.requires.stands in
+    let room = c.turn_room-room.result in
+    let core = length c.args.machine.now.cpu.core in
+    turn_runs i.said 0 room i.session core c.args.machine.now
+    (turn_begins i.said room i.stands.storage i.stands.plan i.session c.args.machine.now i.stands.ordered i.stands.stands (c.turn_room-room.ensures.lasts i.stands.plan i.session i.stands.ordered i.stands.stands.tables (omega arith)) room refl) (omega arith)
+
+pub make_in_turn-made-requires-clause-begins : goal.make_in_turn-made-requires-clause-begins
+make_in_turn-made-requires-clause-begins c = λ two.
     let i = c.requires.stands in
     record {
       storage = i.stands.storage;

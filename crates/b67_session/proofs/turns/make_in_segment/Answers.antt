@@ -1,17 +1,22 @@
-use Rattle.std.proofs.Common.{◌≡◌, ◌≢◌, ◌<◌, ◌+◌, ◌-◌, refl, ◌∙◌, arith}
+use Rattle.std.proofs.Common.{◌≡◌, ◌≢◌, ◌+◌, ◌-◌, refl, sym, ◌∙◌, subst, arith}
 use Rattle.b67_exec.specs.declared.far.Went.TheVariants as wents
+use Rattle.b67_task_tables.specs.Runs.{RunsTask}
+use Rattle.b67_session.proofs.Begins.{begins_none, begins_same, begins_more, begins_runs}
 use Rattle.b67_session.proofs.Going.{keeps_on}
 use Rattle.b67_session.proofs.Turning.{turn_as, some_runs, turn_runs, turn_same, turn_next}
 use Rattle.b67_session.proofs.turns.make_in_segment.Goals as goal
 
 pub present_segment-requires : goal.present_segment-requires
-present_segment-requires c = let q = c.requires in some_runs c.args.machine.now (turn_runs q.said q.steps c.args.most q.first q.core c.args.machine.now q.turn q.some)
+present_segment-requires c = some_runs c.args.machine.now c.requires.runs
 
 pub returns-in-None-clause-row : goal.returns-in-None-clause-row
 returns-in-None-clause-row c = λ said steps core s size h. turn_as said steps c.args.most s core c.args.machine.now h (steps + (c.args.most - c.args.most)) c.args.most (omega arith) refl
 
+pub returns-in-None-clause-first : goal.returns-in-None-clause-first
+returns-in-None-clause-first c = begins_none (c.args.most - c.args.most) c.args.machine.now (omega arith)
+
 pub reader_at-requires-clause-runs : goal.reader_at-requires-clause-runs
-reader_at-requires-clause-runs c = let q = c.requires in some_runs c.args.machine.now (turn_runs q.said q.steps c.args.most q.first q.core c.args.machine.now q.turn q.some)
+reader_at-requires-clause-runs c = some_runs c.args.machine.now c.requires.runs
 
 pub reader_at-requires-clause-code : goal.reader_at-requires-clause-code
 reader_at-requires-clause-code c = c.in-Some.ensures
@@ -19,12 +24,16 @@ reader_at-requires-clause-code c = c.in-Some.ensures
 pub returns-in-None-reader_at-clause-row : goal.returns-in-None-reader_at-clause-row
 returns-in-None-reader_at-clause-row c = λ said steps core s size h. turn_as said steps c.args.most s core c.args.machine.now h (steps + (c.args.most - c.args.most)) c.args.most (omega arith) refl
 
+pub returns-in-None-reader_at-clause-first : goal.returns-in-None-reader_at-clause-first
+returns-in-None-reader_at-clause-first c = begins_none (c.args.most - c.args.most) c.args.machine.now (omega arith)
+
 pub operator-init : goal.operator-init
 operator-init c = record {
   few = omega arith;
   tables = refl;
   keeps = record { core = refl; sectors = refl; given = refl };
   stands = c.in-Some-reader_at.ensures;
+  first = begins_none (c.args.most - c.args.most) c.args.machine.now (omega arith);
   turn = λ said steps core s size h. turn_as said steps c.args.most s core c.args.machine.now h (steps + (c.args.most - c.args.most)) c.args.most (omega arith) refl;
 }
 
@@ -32,8 +41,9 @@ operator-init c = record {
 
 pub make_near-requires-clause-runs : goal.make_near-requires-clause-runs
 make_near-requires-clause-runs c =
-    let q = c.requires in
-    turn_runs q.said (q.steps + (c.args.most - c.operator.room)) c.operator.room q.first q.core c.operator.machine (c.operator.invariant.turn q.said q.steps q.core q.first q.size q.turn) (omega (arith, c.operator-test.true))
+    begins_runs c.args.most c.operator.room c.args.machine.now c.operator.machine (omega (arith, c.operator-test.true)) c.operator.invariant.few c.operator.invariant.first c.requires.runs
+    (λ two. let q = c.requires.goes two in
+    turn_runs q.said (q.steps + (c.args.most - c.operator.room)) c.operator.room q.first q.core c.operator.machine (c.operator.invariant.turn q.said q.steps q.core q.first q.size q.turn) (omega (arith, c.operator-test.true)))
 
 pub make_near-requires-clause-stands : goal.make_near-requires-clause-stands
 make_near-requires-clause-stands c = c.operator.invariant.stands
@@ -46,6 +56,8 @@ operator-preserved c =
       tables = c.make_near.ensures.tasks ∙ c.operator.invariant.tables;
       keeps = keeps_on c.args.machine.now c.operator.machine c.make_near.new.machine c.operator.invariant.keeps c.make_near.ensures.keeps;
       stands = c.make_near.ensures.stands c.in-On.is;
+      first = begins_more (c.args.most - c.operator.room) (c.args.most - (c.operator.room - 1)) c.args.machine.now c.operator.machine c.operator.machine c.make_near.new.machine (omega (arith, c.operator.invariant.few, c.operator-test.true)) refl
+          (c.make_near.ensures.row other) c.operator.invariant.first;
       turn = λ said steps core s size h.
           turn_next said steps c.args.most c.operator.room s core c.operator.machine c.operator.machine c.make_near.new.machine c.operator-test.true c.operator.invariant.few refl (c.operator.invariant.keeps.core ∙ size) (c.operator.invariant.turn said steps core s size h)
           (c.make_near.ensures.row other);
@@ -57,6 +69,8 @@ returns-in-Away c =
     record {
       few = omega (arith, c.operator.invariant.few);
       some = λ e. omega (arith, c.operator.invariant.few, c.operator-test.true);
+      first = begins_more (c.args.most - c.operator.room) (c.args.most - (c.operator.room - 1)) c.args.machine.now c.operator.machine c.operator.machine c.make_near.new.machine (omega (arith, c.operator.invariant.few, c.operator-test.true)) refl
+          (c.make_near.ensures.row other) c.operator.invariant.first;
       row = λ said steps core s size h.
           turn_next said steps c.args.most c.operator.room s core c.operator.machine c.operator.machine c.make_near.new.machine c.operator-test.true c.operator.invariant.few refl (c.operator.invariant.keeps.core ∙ size) (c.operator.invariant.turn said steps core s size h)
           (c.make_near.ensures.row other);
@@ -68,11 +82,11 @@ returns-in-Away c =
 
 pub make_unknown-requires : goal.make_unknown-requires
 make_unknown-requires c =
-    let q = c.requires in
-    let done = q.steps + (c.args.most - c.operator.room) in
     record {
-      runs = turn_runs q.said done c.operator.room q.first q.core c.make_near.new.machine
-          (turn_same q.said done c.operator.room q.first q.core c.operator.machine c.make_near.new.machine (c.make_near.ensures.rest c.in-Not.is) (c.operator.invariant.turn q.said q.steps q.core q.first q.size q.turn)) (omega (arith, c.operator-test.true));
+      runs = subst RunsTask (sym (c.make_near.ensures.rest c.in-Not.is))
+          (begins_runs c.args.most c.operator.room c.args.machine.now c.operator.machine (omega (arith, c.operator-test.true)) c.operator.invariant.few c.operator.invariant.first c.requires.runs
+          (λ two. let q = c.requires.goes two in
+          turn_runs q.said (q.steps + (c.args.most - c.operator.room)) c.operator.room q.first q.core c.operator.machine (c.operator.invariant.turn q.said q.steps q.core q.first q.size q.turn) (omega (arith, c.operator-test.true))));
     }
 
 pub returns-then-not-make_unknown : goal.returns-then-not-make_unknown
@@ -82,6 +96,7 @@ returns-then-not-make_unknown c =
     record {
       few = c.operator.invariant.few;
       some = λ e. absurd (let z : ⊥ = cc in z);
+      first = begins_same (c.args.most - c.operator.room) c.args.machine.now c.operator.machine c.make_unknown.new.machine (same ∙ tried) c.operator.invariant.first;
       row = λ said steps core s size h. turn_same said (steps + (c.args.most - c.operator.room)) c.operator.room s core c.operator.machine c.make_unknown.new.machine (same ∙ tried) (c.operator.invariant.turn said steps core s size h);
       tables = c.make_unknown.ensures.tasks ∙ c.make_near.ensures.tasks ∙ c.operator.invariant.tables;
       keeps = keeps_on c.args.machine.now c.make_near.new.machine c.make_unknown.new.machine (keeps_on c.args.machine.now c.operator.machine c.make_near.new.machine c.operator.invariant.keeps c.make_near.ensures.keeps) c.make_unknown.ensures.keeps;
@@ -92,6 +107,8 @@ returns-in-operator c =
     record {
       few = omega (arith, c.operator.invariant.few);
       some = λ e. omega (arith, c.operator.invariant.few, c.operator-test.true);
+      first = begins_more (c.args.most - c.operator.room) (c.args.most - (c.operator.room - 1)) c.args.machine.now c.operator.machine c.make_near.new.machine c.make_unknown.new.machine (omega (arith, c.operator.invariant.few, c.operator-test.true)) (c.make_near.ensures.rest c.in-Not.is)
+          (c.make_unknown.ensures.row c.if-not-make_unknown.false) c.operator.invariant.first;
       row = λ said steps core s size h.
           turn_next said steps c.args.most c.operator.room s core c.operator.machine c.make_near.new.machine c.make_unknown.new.machine c.operator-test.true c.operator.invariant.few (c.make_near.ensures.rest c.in-Not.is) (c.operator.invariant.keeps.core ∙ size) (c.operator.invariant.turn said steps core s size h)
           (c.make_unknown.ensures.row c.if-not-make_unknown.false);
@@ -101,3 +118,6 @@ returns-in-operator c =
 
 pub returns-clause-some : goal.returns-clause-some
 returns-clause-some c = λ e. let q = c.requires in omega (arith, q.some, c.operator-test.false)
+
+pub returns-clause-first : goal.returns-clause-first
+returns-clause-first c = c.operator.invariant.first

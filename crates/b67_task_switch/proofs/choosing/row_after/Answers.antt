@@ -7,12 +7,12 @@ use Rattle.b67_task_switch.proofs.choosing.row_after.Goals as goal
 pub returns-clause-row : goal.returns-clause-row
 returns-clause-row c = λ plan s o shows.
     let tasks = c.args.tasks.now in
-    next_at plan s o tasks.rows.items (map job_row tasks.jobs) (counts_of tasks) shows (length tasks.rows.items) (omega arith) (who_is c.last_of.result) c.next_row.result
+    next_at plan s o tasks.rows.items (map job_row tasks.jobs) (counts_of tasks) shows (length tasks.rows.items) (omega arith) (who_is c.last_of.result) c.next_row_near.result
     (c.last_of.ensures ∙ last_is plan s o tasks.rows.items (map job_row tasks.jobs) (counts_of tasks) shows)
-    (lent_next c.as_slice.result.now tasks.rows.items (who_is c.last_of.result) c.next_row.result c.as_slice.ensures.value c.next_row.ensures)
+    (lent_next c.as_slice.result.now tasks.rows.items (who_is c.last_of.result) c.next_row_near.result c.as_slice.ensures.value c.next_row_near.ensures)
 
 pub returns-clause-inside : goal.returns-clause-inside
 returns-clause-inside c =
     let tasks = c.args.tasks.now in
-    next_inside (length tasks.rows.items) tasks.rows.items (who_is c.last_of.result) c.next_row.result
-    (lent_next c.as_slice.result.now tasks.rows.items (who_is c.last_of.result) c.next_row.result c.as_slice.ensures.value c.next_row.ensures)
+    next_inside (length tasks.rows.items) tasks.rows.items (who_is c.last_of.result) c.next_row_near.result
+    (lent_next c.as_slice.result.now tasks.rows.items (who_is c.last_of.result) c.next_row_near.result c.as_slice.ensures.value c.next_row_near.ensures)

@@ -1,0 +1,40 @@
+-- The first operator of a turn, alone or with others behind it.
+use Rattle.std.proofs.Common.{◌≡◌, ℕ, ◌+◌, ◌-◌, ◌≤◌, refl, sym, ◌∙◌, subst, arith, inl, inr}
+use Rattle.std.proofs.lemmas.Bool.{cases_lt}
+use Rattle.b67_task_tables.specs.declared.tables.Machine.{Machine}
+use Rattle.b67_task_tables.specs.Runs.{RunsTask}
+use Rattle.b67_session.specs.Makes.{MakesOne}
+use Rattle.b67_session.specs.InTurn.{BeginsWith}
+
+pub begins_none : (made : ℕ) (k : Machine) → made ≡ 0 → BeginsWith made k k
+begins_none made k e = record { none = λ z. refl; one = λ z. absurd (omega (arith, e, z)) }
+
+pub begins_as : (made other : ℕ) (old new : Machine) → other ≡ made → BeginsWith made old new → BeginsWith other old new
+begins_as made other old new e b = subst (λ (n : ℕ). BeginsWith n old new) (sym e) b
+
+pub begins_same : (made : ℕ) (old now new : Machine) → new ≡ now → BeginsWith made old now → BeginsWith made old new
+begins_same made old now new same b = subst (λ (k : Machine). BeginsWith made old k) (sym same) b
+
+-- one operator more, where a try before it changed nothing
+pub begins_more : (made more : ℕ) (old now tried new : Machine) → more ≡ made + 1 → tried ≡ now → MakesOne tried new → BeginsWith made old now → BeginsWith more old new
+begins_more made more old now tried new e same h b = record {
+  none = λ z. absurd (omega (arith, e, z));
+  one = λ z. let first : tried ≡ old = same ∙ b.none (omega (arith, e, z)) in subst (λ (k : Machine). MakesOne k new) first h;
+}
+
+-- two parts of a turn
+pub begins_then : (made more : ℕ) (old now new : Machine) → BeginsWith made old now → BeginsWith more now new → BeginsWith (made + more) old new
+begins_then made more old now new b c = record {
+  none = λ z. c.none (omega (arith, z)) ∙ b.none (omega (arith, z));
+  one = λ z. elim (cases_lt 0 made) [
+    | inl some ↦ subst (λ (k : Machine). MakesOne old k) (sym (c.none (omega (arith, z, some)))) (b.one (omega (arith, z, some)))
+    | inr none ↦ subst (λ (k : Machine). MakesOne k new) (b.none (omega (arith, none))) (c.one (omega (arith, z, none)))
+  ];
+}
+
+-- a task runs before each operator of a turn: before the first one, and then while the turn lasts
+pub begins_runs : (most left : ℕ) (old now : Machine) → 1 ≤ left → left ≤ most → BeginsWith (most - left) old now → RunsTask old → (2 ≤ most → RunsTask now) → RunsTask now
+begins_runs most left old now some few b runs later = elim (cases_lt 1 most) [
+  | inl two ↦ later (omega (arith, two))
+  | inr one ↦ subst RunsTask (sym (b.none (omega (arith, one, some, few)))) runs
+]
