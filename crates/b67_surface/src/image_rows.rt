@@ -1,7 +1,7 @@
-//! A small image, and what is refused of it.
+//! A small image: the machine that is read of it, and that it is printed again. What is refused of it are rows of `b67_rows`.
 
-use crate::{ImageFault, read_image, write_image};
 use b67_core::to_number;
+use b67_image::{read_image, write_image};
 use b67_io::{Paper, Tape};
 use b67_task_tables::{Machine, TaskState};
 use b67_word::{Bytes, Numbers};
@@ -62,92 +62,19 @@ fn line(k: u32) -> &'static str {
     }
 }
 
-/// The image with another line in place of that of a number, on a tape.
-fn image(alloc: Global, at: u32, other: &str) -> Result<Bytes, AllocError> {
+/// The image.
+fn image(alloc: Global) -> Result<Bytes, AllocError> {
     let mut text = Bytes::new(alloc);
     for k in 0..113u32 {
-        let now = if k == at { other } else { line(k) };
-        text.extend(now.as_bytes())?;
+        text.extend(line(k).as_bytes())?;
         text.extend(b"\n")?;
     }
     Ok(text)
 }
 
-fn refusal(alloc: Global, at: u32, other: &str, sectors: u32) -> Result<Option<ImageFault>, Fail> {
-    let text = image(alloc, at, other)?;
-    let mut source = Tape::new(text, 4096, Numbers::new(alloc));
-    Ok(read_image(alloc, &mut source, Some(sectors)).err())
-}
-
-#[test]
-fn refusals(rt: HostRuntime) -> Result<(), Fail> {
-    let rows = [
-        (113, "", 4, 0, 0),
-        (0, "?IMAGES", 4, 113, 1),
-        (5, "000", 4, 6, 2),
-        (112, "00", 4, 113, 3),
-        (
-            1,
-            "433637494d414745000001700003400000000000000000000000000000000000",
-            4,
-            1,
-            4,
-        ),
-        (111, "000000030000", 4, 1, 5),
-        (111, "0000000300000400", 4, 1, 5),
-        (108, "000701", 4, 1, 5),
-        (
-            94,
-            "000100000000a00002000000a4003f0200000000000000a0000000a5000000e5",
-            4,
-            1,
-            6,
-        ),
-        (113, "", 5, 1, 7),
-        (
-            106,
-            "0000017000000124000000040000000200000001000000000000000000000002",
-            4,
-            1,
-            8,
-        ),
-        (
-            94,
-            "000100000000a00002000000a400400200000000000000a0000000a5000000e4",
-            4,
-            1,
-            8,
-        ),
-        (
-            42,
-            "00500125000380000020012500030000008080060003c8000000800000030000",
-            4,
-            1,
-            8,
-        ),
-        (
-            110,
-            "000100ff000002000000a5000200020003050100000002000000010000000000",
-            4,
-            1,
-            8,
-        ),
-    ];
-    for (at, other, sectors, card, reason) in rows {
-        let wanted = if reason == 0 {
-            None
-        } else {
-            Some(ImageFault::Card { card, reason })
-        };
-        let told = refusal(rt.alloc(), at, other, sectors)?;
-        assert_eq!(rt; told, wanted, "where line {at} is {other}");
-    }
-    Ok(())
-}
-
 /// The machine of the image.
 fn machine(alloc: Global) -> Result<Machine, Fail> {
-    let mut source = Tape::new(image(alloc, 113, "")?, 4096, Numbers::new(alloc));
+    let mut source = Tape::new(image(alloc)?, 4096, Numbers::new(alloc));
     match read_image(alloc, &mut source, None) {
         Ok(machine) => Ok(machine),
         Err(_) => Err(Fail::from("refused")),
@@ -203,6 +130,6 @@ fn the_image_is_printed_again(rt: HostRuntime) -> Result<(), Fail> {
     let mut printer = Paper::new(alloc, 8000, Numbers::new(alloc))?;
     assert_eq!(rt; machine.tasks.printed, 0);
     assert!(rt; write_image(&machine, &mut printer).is_ok());
-    assert_eq!(rt; printer.bytes(), image(alloc, 113, "")?.as_slice());
+    assert_eq!(rt; printer.bytes(), image(alloc)?.as_slice());
     Ok(())
 }
