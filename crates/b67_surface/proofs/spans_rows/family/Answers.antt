@@ -1,5 +1,5 @@
 use Rattle.b67_overlay.proofs.Example.{set_then, is_family}
-use Rattle.b67_overlay.proofs.tests.family.Goals as goal
+use Rattle.b67_surface.proofs.spans_rows.family.Goals as goal
 
 pub returns : goal.returns
 returns c =

@@ -1,6 +1,8 @@
+//! Sectors and devices in memory.
+
 ghost use Rattle.std.specs.Prelude.{◌<◌, ◌≤◌, ◌^◌, length};
 
-use super::*;
+use b67_backing::{Backing, CrookedBacking, HonestBacking, MemoryBacking, Sectors};
 use b67_core::Core;
 use b67_word::{Failed, Numbers, Word};
 use std::alloc::Global;

@@ -1,6 +1,6 @@
 //! A file of sectors over real files, in folders that the tests make where they run.
 
-use super::*;
+use b67_backing::{Backing, FileBacking};
 use std::alloc::Global;
 use std::fs::{File, OpenFile, OpenOptions, Permissions};
 use std::os::unix::fs::PermissionsExt;
@@ -15,7 +15,7 @@ const LENGTH: u64 = 15_728_640;
 /// An empty folder for one test.
 fn folder(rt: &HostRuntime, test: &str) -> Result<String, Fail> {
     let id = std::process::id(rt.process());
-    let name = format!(in rt.alloc(); "b67_backing_{test}_{id}")?;
+    let name = format!(in rt.alloc(); "b67_surface_{test}_{id}")?;
     let _ = fs::remove_dir_all(rt, name.as_str());
     fs::create_dir(rt, name.as_str())?;
     Ok(name)

@@ -1,9 +1,11 @@
+//! Where copies can be, over a core made by hand.
+
 ghost use Rattle.std.specs.Prelude.{◌≡◌, ◌<◌, ℕ, IfOk};
 ghost use Rattle.b67_overlay.specs.Examples.{IsFamily};
 
-use super::*;
 use b67_core::Core;
 use b67_ctl::{Regs, Toscw};
+use b67_overlay::{Span, search_span};
 use b67_stack::Cpu;
 use b67_word::{Place, Word};
 use std::alloc::{AllocError, Global};

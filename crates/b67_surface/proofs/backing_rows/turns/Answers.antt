@@ -1,6 +1,6 @@
 use Rattle.std.proofs.Common.{ap, length, arith}
 use Rattle.b67_backing.specs.Shelf.{all_free, taken}
-use Rattle.b67_backing.proofs.tests.turns.Goals as goal
+use Rattle.b67_surface.proofs.backing_rows.turns.Goals as goal
 
 pub save-saved-requires-clause-chain : goal.save-saved-requires-clause-chain
 save-saved-requires-clause-chain g c = (taken 2 (all_free 3), c.in-Some.ensures.chain (all_free 3) c.in_ok-sectors.ensures.1)

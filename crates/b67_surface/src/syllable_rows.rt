@@ -3,8 +3,8 @@
 ghost use Rattle.std.specs.Prelude.{◌≡◌, IsTrue};
 ghost use Rattle.b67_model.specs.Encoding.{has_bits};
 
-use super::*;
 use arrayvec::ArrayVec;
+use b67_syllable::{Code, Op, Undecodable, decode, encode};
 use b67_word::{Place, Word};
 use std::process::Abort;
 
