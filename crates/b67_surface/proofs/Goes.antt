@@ -4,7 +4,7 @@ use Rattle.std.proofs.lemmas.Option.{same_Some}
 use denote.Ref.{Bor}
 use Rattle.b67_task_tables.specs.declared.tables.Machine.{Machine}
 use Rattle.b67_job.specs.Device.{Device}
-use Rattle.b67_job.specs.Runs.{IsOpen}
+use Rattle.b67_session.specs.Slices.{IsOpen}
 use Rattle.b67_job.specs.Due.{IsOpenedOrResumed}
 
 module _ {S B : Type 0} {words : List (Bor (List ℕ))} {left : S → Option (List ℕ)} {source_faults : S → ℕ} {deck deck' : S} (d : Device B) where

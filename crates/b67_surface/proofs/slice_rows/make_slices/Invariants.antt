@@ -1,6 +1,6 @@
 use Rattle.std.proofs.Common.{◌≡◌, ◌+◌, length}
-use Rattle.b67_job.specs.Runs.{IsOpen}
-use Rattle.b67_job.proofs.stepwise.make_slices.Given as goal
+use Rattle.b67_session.specs.Slices.{IsOpen}
+use Rattle.b67_surface.proofs.slice_rows.make_slices.Given as goal
 
 abbrev pub invariant-turns : goal.invariant-turns
 invariant-turns g l = record {

@@ -1,5 +1,5 @@
 use Rattle.std.proofs.Common.{arith}
-use Rattle.b67_job.proofs.stepwise.make_slices.Goals as goal
+use Rattle.b67_surface.proofs.slice_rows.make_slices.Goals as goal
 
 pub turns-preserved : goal.turns-preserved
 turns-preserved g c = record {
