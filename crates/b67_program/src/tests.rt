@@ -52,18 +52,29 @@ fn serves_so(
     Ok(())
 }
 
+const RUN: [&str; 5] = ["run", "--core", "4096", "--backing", "b"];
+
+const CHECK: [&str; 1] = ["check"];
+
+const NO_COMMAND: [&str; 1] = ["ru"];
+
+/// What each deck or command prints.
+const LINES: &str = "1.1 5\n1.1 ENDED\n";
+
+const ADMITTED: &str = "SUM ADMITTED 1 0\n";
+
+const REFUSED: &str = "DECK 1 REASON 4\n";
+
+const USAGE: &str = "USAGE: b67 run --core N --backing PATH\n";
+
 // The words, the text, the number of sectors, the room, the status and what is printed.
 #[test]
 fn serves_in_memory(rt: HostRuntime) -> Result<(), Fail> {
     let alloc = rt.alloc();
-    let run = ["run", "--core", "4096", "--backing", "b"];
-    let sum = "1.1 5\n1.1 ENDED\n";
-    serves_so(&rt, alloc, &run, SUM, 9, 99, 0, sum)?;
-    serves_so(&rt, alloc, &run, SUM, 0, 99, 255, "")?;
-    serves_so(&rt, alloc, &run, SUM, 9, 6, 8, "1.1 5\n")?;
-    serves_so(&rt, alloc, &run, "?JOB a\n", 9, 99, 2, "DECK 1 REASON 4\n")?;
-    let admitted = "SUM ADMITTED 1 0\n";
-    serves_so(&rt, alloc, &["check"], SUM, 1, 99, 0, admitted)?;
-    let usage = "USAGE: b67 run --core N --backing PATH\n";
-    serves_so(&rt, alloc, &["ru"], SUM, 1, 99, 1, usage)
+    serves_so(&rt, alloc, &RUN, SUM, 9, 99, 0, LINES)?;
+    serves_so(&rt, alloc, &RUN, SUM, 0, 99, 255, "")?;
+    serves_so(&rt, alloc, &RUN, SUM, 9, 6, 8, "1.1 5\n")?;
+    serves_so(&rt, alloc, &RUN, "?JOB a\n", 9, 99, 2, REFUSED)?;
+    serves_so(&rt, alloc, &CHECK, SUM, 1, 99, 0, ADMITTED)?;
+    serves_so(&rt, alloc, &NO_COMMAND, SUM, 1, 99, 1, USAGE)
 }

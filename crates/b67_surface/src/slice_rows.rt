@@ -287,7 +287,12 @@ fn each_put_fails_once(rt: HostRuntime) -> Result<(), Fail> {
     put_fails(&rt, alloc, LOOP, 10, 2, false, [5, 5], "1.1 LIMIT\n")
 }
 
-/// Runs a deck in so much core, and what it prints.
+/// The words of a run in so much core. No other function holds them one by one.
+fn run_words<'a>(core: &'a str) -> [&'a str; 5] {
+    ["run", "--core", core, "--backing", "b"]
+}
+
+/// Runs a deck in so much core.
 fn run_over<B: Backing>(
     alloc: Global,
     core: &str,
@@ -296,8 +301,7 @@ fn run_over<B: Backing>(
 ) -> Result<Outcome, AllocError> {
     let mut tape = Tape::new(text, 4096, Numbers::new(alloc));
     let mut paper = Paper::new(alloc, 1000, Numbers::new(alloc))?;
-    let words = ["run", "--core", core, "--backing", "b"];
-    Ok(run(alloc, &words, &mut tape, &mut paper, backing))
+    Ok(run(alloc, &run_words(core), &mut tape, &mut paper, backing))
 }
 
 /// Runs `slices` slices of `steps` steps each. True if none of them stopped.
@@ -401,8 +405,7 @@ fn stopped<B: Backing>(
         Numbers::new(alloc),
     );
     let mut paper = Paper::new(alloc, 1000, Numbers::new(alloc))?;
-    let words = ["run", "--core", core, "--backing", "b"];
-    let outcome = run(alloc, &words, &mut tape, &mut paper, backing);
+    let outcome = run(alloc, &run_words(core), &mut tape, &mut paper, backing);
     if outcome.status != 6 {
         return Ok(None);
     }
