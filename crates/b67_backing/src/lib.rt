@@ -9,14 +9,10 @@ mod copies;
 mod crooked;
 mod device;
 mod file;
-#[cfg(test)]
-mod file_tests;
 mod honest;
 mod memory;
 mod refusals;
 mod sectors;
-#[cfg(test)]
-mod tests;
 mod windows;
 
 pub use access::RandomAccess;

@@ -14,4 +14,3 @@ pub mod Served
 pub mod Status
 pub mod Causes
 pub mod Passed
-mod Goes

@@ -7,8 +7,6 @@ mod claims;
 mod overlays;
 mod search;
 mod spans;
-#[cfg(test)]
-mod tests;
 mod writing;
 
 pub use claims::claim;

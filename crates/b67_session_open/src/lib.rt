@@ -10,11 +10,7 @@ mod laying;
 mod needs;
 mod opening;
 mod setting;
-#[cfg(test)]
-mod setting_tests;
 mod tables;
-#[cfg(test)]
-mod tests;
 
 pub use dictionaries::dictionary_words;
 pub use fault::OpenFault;

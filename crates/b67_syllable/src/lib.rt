@@ -10,6 +10,3 @@ mod kinds;
 pub use b67_model::{Code, Op, Undecodable};
 pub use decoding::{decode, decode_in_segment};
 pub use encoding::encode;
-
-#[cfg(test)]
-mod tests;

@@ -1,8 +1,0 @@
-use Rattle.std.proofs.Common.{arith}
-use Rattle.b67_job.proofs.stepwise.make_slices.Goals as goal
-
-pub turns-preserved : goal.turns-preserved
-turns-preserved g c = record {
-  goes_on = c.slice.ensures.leaves.goes_on;
-  sized = omega (arith, c.turns.invariant.sized, c.slice.ensures.leaves.served.size, c.slice.ensures.leaves.keeps.sectors);
-}

@@ -1,0 +1,5 @@
+use Rattle.std.proofs.Common.{arith}
+use Rattle.b67_surface.proofs.slice_rows.open_deck.Goals as goal
+
+pub returns-in-Ok-clause-sized : goal.returns-in-Ok-clause-sized
+returns-in-Ok-clause-sized g c = omega (arith, c.in-Ok.ensures.opens.2.sized, c.open.ensures.device.size)
