@@ -12,6 +12,7 @@ ghost use Rattle.b67_exec.specs.Far.{MadeOn, MadeAway, MadeWent, MadeLeaving, Sa
 use crate::assigning::enter;
 use crate::evaluating::enter_in_place;
 use crate::operators::on_top;
+use crate::own::{indexes_own, takes_own};
 use b67_ctl::Irw;
 use b67_entry::{accident, entr, exit, retn};
 use b67_fetch::{indx, nxlv, stff, value};
@@ -72,9 +73,9 @@ pub(crate) fn makes_plain(cpu: &mut Cpu, code: Code, next: Place) -> bool
     is_done(step)
 }
 
-/// INDX.
+/// INDX of any array.
 #[inline(never)]
-pub(crate) fn makes_indx(cpu: &mut Cpu, next: Place) -> bool
+fn makes_far_indx(cpu: &mut Cpu, next: Place) -> bool
     requires { RunsSome cpu.old }
     ensures { MadeOn (Plain codes.Indx) next cpu.old result cpu.new }
 {
@@ -82,14 +83,38 @@ pub(crate) fn makes_indx(cpu: &mut Cpu, next: Place) -> bool
     is_done(step)
 }
 
-/// NXLV.
+/// INDX, first as of an array whose original is in the top activation record: so no register need be kept for the general case.
 #[inline(never)]
-pub(crate) fn makes_nxlv(cpu: &mut Cpu, next: Place) -> bool
+pub(crate) fn makes_indx(cpu: &mut Cpu, next: Place) -> bool
+    requires { RunsSome cpu.old }
+    ensures { MadeOn (Plain codes.Indx) next cpu.old result cpu.new }
+{
+    if indexes_own(cpu, next) {
+        return true;
+    }
+    makes_far_indx(cpu, next)
+}
+
+/// NXLV of any array.
+#[inline(never)]
+fn makes_far_nxlv(cpu: &mut Cpu, next: Place) -> bool
     requires { RunsSome cpu.old }
     ensures { MadeOn (Plain codes.Nxlv) next cpu.old result cpu.new }
 {
     let step = nxlv(cpu, next);
     is_done(step)
+}
+
+/// NXLV, first as of an array whose original is in the top activation record: so no register need be kept for the general case.
+#[inline(never)]
+pub(crate) fn makes_nxlv(cpu: &mut Cpu, next: Place) -> bool
+    requires { RunsSome cpu.old }
+    ensures { MadeOn (Plain codes.Nxlv) next cpu.old result cpu.new }
+{
+    if takes_own(cpu, next) {
+        return true;
+    }
+    makes_far_nxlv(cpu, next)
 }
 
 /// STFF.

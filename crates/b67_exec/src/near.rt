@@ -24,7 +24,7 @@ use b67_exec_cells::{
 };
 use b67_model::Code;
 use b67_stack::{Cpu, Step};
-use b67_word::Place;
+use b67_word::{Place, Word};
 
 /// What became of an operator: it was made, and its task goes on in the segment, or elsewhere, or elsewhere with an activation
 /// record left, whose words go up to below an address; or it wasn't made.
@@ -384,6 +384,18 @@ fn evaluates(cpu: &mut Cpu, reader: &mut Reader) -> Made
     goes(went, reader, next)
 }
 
+/// Whether a store is refused that wasn't made without a search: the cell on top is an array's descriptor.
+#[inline(always)]
+fn is_refused(code: Code, top: Word) -> bool
+    ensures { result ≡ true → top.tag ≡ 5 }
+{
+    match code {
+        Code::Stod => top.tag() == 5,
+        Code::Ston => top.tag() == 5,
+        _ => false,
+    }
+}
+
 /// LOAD, STOD or STON, and what became of it.
 #[inline(always)]
 fn makes_fetch(cpu: &mut Cpu, code: Code, next: Place) -> Went
@@ -415,6 +427,10 @@ fn fetches(cpu: &mut Cpu, reader: &mut Reader, code: Code) -> Made
     if stores_own(cpu, code, place(next)) {
         *reader = next;
         return Made::On;
+    }
+    let top = cpu.core.get(cpu.regs.s);
+    if is_refused(code, top) {
+        return Made::Not;
     }
     let went = makes_fetch(cpu, code, place(next));
     goes(went, reader, next)

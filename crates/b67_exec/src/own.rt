@@ -1,14 +1,16 @@
-//! Operators whose reference is a couple of the running stack's top activation record: no chain is followed.
+//! Operators whose reference needs no search: a couple of the running stack's top activation record, or an element copy.
 
 ghost use Rattle.std.specs.Prelude.{◌≡◌, ◌^◌, ◌<◌, true};
 ghost use Rattle.b67_model.specs.declared.operators.Op.TheVariants.{Plain, Valc};
+ghost use Rattle.b67_model.specs.declared.operators.Code.TheVariants as codes;
 ghost use Rattle.b67_layout.specs.Meets.{RunsSome};
 ghost use Rattle.b67_exec.specs.Operators.{may_enter};
 ghost use Rattle.b67_exec.specs.Far.{MadeOn};
 
 use crate::far::is_done;
 use b67_ctl::Irw;
-use b67_fetch::{store_own, value};
+use b67_exec_cells::top_cell;
+use b67_fetch::{indx_at, nxlv_at, own_item, store_own, value};
 use b67_model::Code;
 use b67_refer::{End, own_operand};
 use b67_stack::Cpu;
@@ -28,7 +30,24 @@ pub(crate) fn values_own(cpu: &mut Cpu, couple: u16, next: Place) -> bool
     is_done(value(cpu, 0, End::Cell(at), next))
 }
 
-/// STOD or STON of an operand into an operand's cell of the top activation record, and whether it was made. LOAD is not.
+/// LOAD of an operand whose cell is in the top activation record, and whether it was made.
+#[inline(always)]
+fn loads_own(cpu: &mut Cpu, next: Place) -> bool
+    requires { RunsSome cpu.old }
+    ensures { MadeOn (Plain codes.Load) next cpu.old result cpu.new }
+{
+    let w = match top_cell(cpu) {
+        Ok(word) => word,
+        Err(_) => return false,
+    };
+    let at = own_operand(&cpu.core, &cpu.regs, &cpu.display, w);
+    if at == 0 {
+        return false;
+    }
+    is_done(value(cpu, 1, End::Cell(at), next))
+}
+
+/// LOAD, or STOD or STON of an operand, through such a reference, and whether it was made.
 #[inline(always)]
 pub(crate) fn stores_own(cpu: &mut Cpu, code: Code, next: Place) -> bool
     requires runs { RunsSome cpu.old }
@@ -36,9 +55,33 @@ pub(crate) fn stores_own(cpu: &mut Cpu, code: Code, next: Place) -> bool
     ensures { MadeOn (Plain code) next cpu.old result cpu.new }
 {
     match code {
-        Code::Load => false,
+        Code::Load => loads_own(cpu, next),
         Code::Stod => store_own(cpu, false, next),
         Code::Ston => store_own(cpu, true, next),
         _ => unreachable!(),
+    }
+}
+
+/// INDX of an element of an array whose original is in the top activation record, and whether it was made.
+#[inline(always)]
+pub(crate) fn indexes_own(cpu: &mut Cpu, next: Place) -> bool
+    requires { RunsSome cpu.old }
+    ensures { MadeOn (Plain codes.Indx) next cpu.old result cpu.new }
+{
+    match own_item(cpu) {
+        Some((original, index)) => is_done(indx_at(cpu, original, index, next)),
+        None => false,
+    }
+}
+
+/// NXLV of an element of an array whose original is in the top activation record, and whether it was made.
+#[inline(always)]
+pub(crate) fn takes_own(cpu: &mut Cpu, next: Place) -> bool
+    requires { RunsSome cpu.old }
+    ensures { MadeOn (Plain codes.Nxlv) next cpu.old result cpu.new }
+{
+    match own_item(cpu) {
+        Some((original, index)) => is_done(nxlv_at(cpu, original, index, next)),
+        None => false,
     }
 }

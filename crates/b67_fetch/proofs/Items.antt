@@ -1,12 +1,12 @@
 -- The element that two words give.
 use Rattle.std.proofs.Common.{◌≡◌, ◌≢◌, ℕ, ◌-◌, ◌<◌, ℤ, pos, negsuc, List, [], ◌∷◌, ◌++◌, map, length, Result, Ok, Err, refl, sym, ◌∙◌, ap, arith, Bool, true, false, subst, inl, inr}
-use Rattle.std.specs.Prelude.{nat_lt, if◌then◌else◌}
+use Rattle.std.specs.Prelude.{nat_lt, neg_ℤ, ◌/◌, ◌%◌, ◌^◌, ◌==◌, ◌&&◌, if◌then◌else◌}
 use Rattle.std.specs.List.{AllByRecursion}
 use Rattle.std.proofs.lemmas.Bool.Decides.{nat_tests}
 use Rattle.b67_word.specs.Tagged.{Tagged, word}
 use Rattle.b67_word.specs.declared.couples.Place.{Place}
 use Rattle.b67_word.specs.declared.faults.Fault.{Fault}
-use Rattle.b67_word.specs.declared.faults.Fault.TheVariants.{StackUnderflow, InvalidIndex}
+use Rattle.b67_word.specs.declared.faults.Fault.TheVariants.{StackUnderflow, InvalidIndex, Exponent}
 use Rattle.b67_arith.specs.OnWords.{operand_bits}
 use Rattle.b67_model.specs.Common.{Answer, ◌>>=◌, Word, Operand, Name, Ref, Row, Element, Original, Proc, Intrinsic, operand, number, array, array_of, index_below, indexed, in_order, is_original, Array, Frame, Task, SessionJob, top, Session, Done, Starts, IsSegment, Known, known_of, outer_of, FramesInOrder, WordInOrder}
 use Rattle.b67_model.specs.Words as Words
@@ -68,6 +68,22 @@ index_err len n bits f e = by (number bits) e
     by : (nz : Answer ℤ) → Err f ≡ (nz >>= index_below len) → (nz >>= λ z. index_below len z >>= pair n) ≡ Err f
     by (Err g) e = let same : f ≡ g = cc in refused f g same
     by (Ok z) e = by_answer (index_below len z) e
+
+-- a natural number below the length is its index
+whole_small : (bits x y z w : ℕ) → x ≡ 0 → y ≡ 0 → z ≡ 0 → w ≡ bits → ◌≡◌ {A = Answer ℤ} (if (x == 0) && (y == 0) then Ok (if z == 0 then pos w else neg_ℤ (pos w)) else Err Exponent) (Ok (pos bits))
+whole_small bits x y z w a b c d = rw a (rw b (rw c (rw d refl)))
+
+number_small : (bits : ℕ) → bits < 2 ^ 39 → number bits ≡ Ok (pos bits)
+number_small bits low =
+    whole_small bits ((bits / 2 ^ 47) % 2) ((bits / 2 ^ 39) % 2 ^ 7) ((bits / 2 ^ 46) % 2) (bits % 2 ^ 39)
+    (omega (arith, low)) (omega (arith, low)) (omega (arith, low)) (omega (arith, low))
+
+pub index_natural : (len bits : ℕ) → bits < 2 ^ 39 → bits < len → Ok bits ≡ index_in len bits
+index_natural len bits low below = subst (λ (n : Answer ℤ). Ok bits ≡ (n >>= index_below len)) (sym (number_small bits low)) (by (nat_lt bits len) refl)
+  where
+    by : (b : Bool) → nat_lt bits len ≡ b → ◌≡◌ {A = Answer ℕ} (Ok bits) (if b then Ok bits else Err InvalidIndex)
+    by true e = refl
+    by false e = absurd (let z : ⊥ = grind (arith, nat_tests) in z)
 
 module _ (plan : Placement) (m : SessionJob) (t : Task) (q : Place) where
   abbrev row : Answer ℕ → Answer ℕ → Answer (ℕ × ℕ)

@@ -1,11 +1,14 @@
 -- The array and the index that two words give.
-use Rattle.std.specs.Prelude.{◌≡◌, ℕ, List, [], ◌∷◌, Result, Ok, Err}
+use Rattle.std.specs.Prelude.{◌≡◌, ◌≤◌, ◌+◌, ℕ, List, [], ◌∷◌, Result, Ok, Err}
+use Rattle.b67_word.specs.declared.couples.Place.{Place}
 use Rattle.b67_word.specs.declared.faults.Fault.{Fault}
 use Rattle.b67_word.specs.declared.faults.Fault.TheVariants.{StackUnderflow, InvalidOperand}
-use Rattle.b67_model.specs.Common.{Answer, ◌>>=◌, Word, number, SessionJob, OperatorContext, index_below, indexed, in_order}
+use Rattle.b67_model.specs.Common.{Answer, ◌>>=◌, Word, number, SessionJob, OperatorContext, cells_of, index_below, indexed, in_order}
 use Rattle.b67_refer.specs.declared.ends.End.{End}
 use Rattle.b67_refer.specs.declared.ends.End.TheVariants as end
+use Rattle.b67_stack.specs.declared.Cpu.{Cpu}
 use Rattle.b67_layout.specs.Placement.{Placement}
+use Rattle.b67_layout.specs.Meets.{here, ForEach}
 use Rattle.b67_exec_cells.specs.Elements.{HasElement}
 
 -- the array at an end
@@ -34,3 +37,8 @@ abbrev pub FindsTopItem : Placement → SessionJob → OperatorContext → List 
 FindsTopItem plan m h [] found = found ≡ Err StackUnderflow
 FindsTopItem plan m h (b ∷ []) found = found ≡ Err StackUnderflow
 FindsTopItem plan m h (b ∷ a ∷ rest) found = let two = in_order b a in FindsItem plan m found (indexed h two.0 two.1)
+
+-- the two top cells give an element, by the address of its array's original
+pub record IsTopItem (cpu : Cpu) (found : ℕ × ℕ) : Type 0 where
+  pub item : ForEach cpu (λ x plan s m t. (q : Place) → FindsTopItem plan m (here m t q) (cells_of (here m t q)) (Ok found))
+  pub above : cpu.regs.f + 2 ≤ cpu.regs.s

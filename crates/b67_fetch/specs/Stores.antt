@@ -1,5 +1,5 @@
 -- Stores through references.
-use Rattle.std.specs.Prelude.{◌≡◌, ℕ, ◌+◌, ◌-◌, Bool, true, false, List, [], ◌∷◌, Some, None, Result, Ok, Err, slice_set}
+use Rattle.std.specs.Prelude.{◌≡◌, ◌≢◌, ℕ, ◌+◌, ◌-◌, Bool, true, false, List, [], ◌∷◌, Some, None, Result, Ok, Err, slice_set}
 use Rattle.b67_word.specs.Tagged.{Tagged}
 use Rattle.b67_word.specs.declared.couples.Place.{Place}
 use Rattle.b67_word.specs.declared.faults.Fault.TheVariants.{StackUnderflow, MemoryProtect}
@@ -10,7 +10,11 @@ use Rattle.b67_stack.specs.declared.Step.TheVariants as step
 use Rattle.b67_stack.specs.declared.What.TheVariants as what
 use Rattle.b67_stack.specs.Represents.{Storage}
 use Rattle.b67_layout.specs.Placement.{Placement}
-use Rattle.b67_layout.specs.Meets.{area_held}
+use Rattle.b67_layout.specs.Meets.{area_held, ForEach}
+use Rattle.b67_refer.specs.declared.ends.End.{End as EndAt}
+use Rattle.b67_refer.specs.declared.ends.End.TheVariants as end
+use Rattle.b67_refer.specs.Own.{LeadsTo}
+use Rattle.b67_exec_cells.specs.Elements.{HasElement}
 
 -- where a number among these cells is to be stored: where the other of the top two leads
 abbrev pub store_end : OperatorContext → List Word → Answer End
@@ -35,3 +39,16 @@ abbrev pub stored : Cpu → (at : ℕ) → Tagged → (keeps : Bool) → Place �
 stored cpu at w false next = record cpu { core = slice_set cpu.core at w; regs = record cpu.regs { s = cpu.regs.s - 2; place = next } }
 stored cpu at w true next =
     record cpu { core = slice_set (slice_set cpu.core at w) (cpu.regs.s - 1) w; regs = record cpu.regs { s = cpu.regs.s - 1; place = next } }
+
+-- a store at an end goes to this core address
+abbrev pub StoresTo : Cpu → EndAt → (at : ℕ) → Type 0
+StoresTo cpu (end.Cell cell) at = cell ≡ at
+StoresTo cpu (end.Element original index) at = ForEach cpu (λ x plan s m t. (n : ℕ) → original ≡ plan.home m.constants.number n → HasElement m.progress.job n index → ElementAt x plan m n original index (Ok at))
+StoresTo cpu _ at = ⊥
+
+-- a store through a word that is no operand's goes to this core address
+pub record StoresThrough (cpu : Cpu) (w : Tagged) (at : ℕ) : Type 0 where
+  pub other : w.tag ≢ 0
+  pub end : EndAt
+  pub leads : LeadsTo cpu.core cpu.regs cpu.display w end
+  pub there : StoresTo cpu end at

@@ -1,6 +1,6 @@
 //! Operators that index arrays.
 
-ghost use Rattle.std.specs.Prelude.{◌≡◌, ℕ, ◌+◌, ◌<◌, ◌≤◌, OnOk};
+ghost use Rattle.std.specs.Prelude.{◌≡◌, ℕ, ◌+◌, ◌<◌, ◌≤◌, OnOk, Ok, Some};
 ghost use Rattle.b67_word.specs.declared.couples.Place.{Place};
 ghost use Rattle.b67_model.specs.Words as words;
 ghost use Rattle.b67_model.specs.Words.{Element, operand};
@@ -14,13 +14,12 @@ ghost use Rattle.b67_layout.specs.Tops.{IsWordOf};
 ghost use Rattle.b67_exec_cells.specs.Elements.{HasElement, HoldsElement};
 ghost use Rattle.b67_exec_cells.specs.Tops.{StaysInSegment};
 ghost use Rattle.b67_fetch.specs.Fetches.{IsFollowed, MayFollow};
-ghost use Rattle.b67_fetch.specs.Indexes.{array_in, FindsArray, index_in, FindsItem, FindsTopItem};
+ghost use Rattle.b67_fetch.specs.Indexes.{array_in, FindsArray, index_in, FindsItem, FindsTopItem, IsTopItem};
 
-use crate::loading::put_element;
 use b67_ctl::DataDesc;
-use b67_exec_cells::{array_descriptor, put_over, two_cells};
-use b67_refer::{End, chase, owner};
-use b67_stack::{Cpu, Step};
+use b67_exec_cells::{array_descriptor, element, put_over, two_cells};
+use b67_refer::{End, chase, own_array, owner};
+use b67_stack::{Cpu, Step, What};
 use b67_word::{Fault, Place, Word};
 
 /// The original's address of the array at an end. INVALID OPERAND at any other end.
@@ -114,6 +113,47 @@ fn top_item(cpu: &Cpu) -> Result<(u32, u32), Fault>
     item_at(cpu, reference, index)
 }
 
+/// The original and the index of the element that a couple of an original of the top activation record and an operand give, if
+/// they do.
+#[inline(always)]
+fn own_item_at(cpu: &Cpu, reference: Word, index: Word) -> Option<(u32, u32)>
+    requires { MayFollow cpu.now reference }
+    ensures { (found : ℕ × ℕ) → result ≡ Some found → ForEach cpu.now (λ x plan s m t. (q : Place) (v i : words.Word) → IsFollowed x plan m t reference v → operand_bits index ≡ operand i
+        → FindsItem plan m (Ok found) (indexed_row (here m t q) v i)) }
+{
+    if !index.is_natural() {
+        return None;
+    }
+    let original = own_array(&cpu.core, &cpu.regs, &cpu.display, reference);
+    if original == 0 {
+        return None;
+    }
+    let length = array_descriptor(cpu, original).length;
+    let at = index.bits();
+    if at >= u64::from(length) {
+        return None;
+    }
+    Some((original, at as u32))
+}
+
+/// The element that the two top cells give, in either order, where its array's original is in the top activation record.
+#[inline(always)]
+pub fn own_item(cpu: &Cpu) -> Option<(u32, u32)>
+    requires { RunsSome cpu.now }
+    ensures { (found : ℕ × ℕ) → result ≡ Some found → IsTopItem cpu.now found }
+{
+    let (second, top) = match two_cells(cpu) {
+        Ok(words) => words,
+        Err(_) => return None,
+    };
+    let (reference, index) = if top.tag() == 0 {
+        (second, top)
+    } else {
+        (top, second)
+    };
+    own_item_at(cpu, reference, index)
+}
+
 /// The word of a copy of an array's descriptor, of one element.
 #[inline(always)]
 fn item_copy(cpu: &Cpu, original: u32, index: u32) -> Word
@@ -141,6 +181,18 @@ fn item_copy(cpu: &Cpu, original: u32, index: u32) -> Word
     }
 }
 
+/// INDX of the element that the two top cells give.
+#[inline(always)]
+pub fn indx_at(cpu: &mut Cpu, original: u32, index: u32, next: Place) -> Step
+    requires runs { RunsSome cpu.old }
+    requires item { IsTopItem cpu.old (original, index) }
+    ensures row { ForEach cpu.old (λ x plan s m t. let h = here m t next in Meets x plan s m result cpu.old cpu.new (rows.indx h (cells_of h))) }
+    ensures stays { result ≡ Done → StaysInSegment cpu.old cpu.new next }
+{
+    let copy = item_copy(cpu, original, index);
+    put_over(cpu, 2, copy, next)
+}
+
 /// INDX: an element's copy of its array's descriptor, in the place of the two top cells, goes on at `next`.
 #[inline(always)]
 pub fn indx(cpu: &mut Cpu, next: Place) -> Step
@@ -149,11 +201,22 @@ pub fn indx(cpu: &mut Cpu, next: Place) -> Step
     ensures stays { result ≡ Done → StaysInSegment cpu.old cpu.new next }
 {
     match top_item(cpu) {
-        Ok((original, index)) => {
-            let copy = item_copy(cpu, original, index);
-            put_over(cpu, 2, copy, next)
-        }
+        Ok((original, index)) => indx_at(cpu, original, index, next),
         Err(fault) => Step::Fault(fault),
+    }
+}
+
+/// NXLV of the element that the two top cells give. If its array is absent, nothing is changed.
+#[inline(always)]
+pub fn nxlv_at(cpu: &mut Cpu, original: u32, index: u32, next: Place) -> Step
+    requires runs { RunsSome cpu.old }
+    requires item { IsTopItem cpu.old (original, index) }
+    ensures row { ForEach cpu.old (λ x plan s m t. let h = here m t next in Meets x plan s m result cpu.old cpu.new (rows.nxlv h (cells_of h))) }
+    ensures stays { result ≡ Done → StaysInSegment cpu.old cpu.new next }
+{
+    match element(cpu, original, index) {
+        Some(w) => put_over(cpu, 2, w, next),
+        None => Step::Absent(What::Array(original)),
     }
 }
 
@@ -165,7 +228,7 @@ pub fn nxlv(cpu: &mut Cpu, next: Place) -> Step
     ensures stays { result ≡ Done → StaysInSegment cpu.old cpu.new next }
 {
     match top_item(cpu) {
-        Ok((original, index)) => put_element(cpu, 2, original, index, next),
+        Ok((original, index)) => nxlv_at(cpu, original, index, next),
         Err(fault) => Step::Fault(fault),
     }
 }

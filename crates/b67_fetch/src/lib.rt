@@ -10,7 +10,7 @@ mod storing;
 mod stuffing;
 
 pub use b67_exec_cells::namc;
-pub use indexing::{indx, nxlv};
+pub use indexing::{indx, indx_at, nxlv, nxlv_at, own_item};
 pub use loading::{load, valc, value};
 pub use own::store_own;
 pub use storing::{stod, ston};

@@ -34,7 +34,7 @@ fn end_of(cpu: &Cpu, w: Word) -> Result<End, Fault>
 
 /// Puts an element in the place of the `count` top cells, and goes on at `next`. STACK OVERFLOW. If the array is absent,
 /// nothing is changed.
-pub(crate) fn put_element(cpu: &mut Cpu, count: u32, original: u32, index: u32, next: Place) -> Step
+fn put_element(cpu: &mut Cpu, count: u32, original: u32, index: u32, next: Place) -> Step
     requires holds { HoldsElement cpu.old original index }
     requires cells { cpu.old.regs.f + count ≤ cpu.old.regs.s }
     ensures row { ForEach cpu.old (λ x plan s m t. (gone rest : List words.Word) (n : ℕ) → cells t ≡ gone ++ rest → length gone ≡ count → NoOriginals gone

@@ -1,19 +1,42 @@
-//! Stores into cells of the running stack's top activation record, whose reference needs no search.
+//! Stores whose reference needs no search: a couple of the running stack's top activation record, or an element copy.
 
-ghost use Rattle.std.specs.Prelude.{◌≡◌, true, false};
+ghost use Rattle.std.specs.Prelude.{◌≡◌, ◌≢◌, true, false};
 ghost use Rattle.b67_model.specs.Steps.{cells_of};
 ghost use Rattle.b67_model.specs.Rows as rows;
 ghost use Rattle.b67_layout.specs.Meets.{here, IsMade, RunsSome, ForEach};
 ghost use Rattle.b67_exec_cells.specs.Tops.{StaysInSegment};
+ghost use Rattle.b67_fetch.specs.Fetches.{MayFollow};
+ghost use Rattle.b67_fetch.specs.Stores.{StoresThrough};
 
-use crate::storing::put;
+use crate::storing::{element_address, put};
 use b67_exec_cells::two_cells;
-use b67_refer::own_operand;
+use b67_refer::{End, copied_element, own_operand};
 use b67_stack::Cpu;
-use b67_word::Place;
+use b67_word::{Place, Word};
 
-/// Stores as STOD does, or as STON if the operand is kept, where the top cell is a couple of an operand's cell of the top
-/// activation record and the cell under it is an operand. Else nothing is changed. Whether it was made.
+/// The core address of the element into which a store through a word goes, if the word is a copy of a present array that may be
+/// written. Else 0.
+#[inline(always)]
+fn own_element(cpu: &Cpu, reference: Word) -> u32
+    requires { MayFollow cpu.now reference }
+    ensures { result ≢ 0 → StoresThrough cpu.now reference result }
+{
+    let end = match copied_element(&cpu.core, &cpu.regs, reference) {
+        Some(end) => end,
+        None => return 0,
+    };
+    match end {
+        End::Element { original, index } => match element_address(cpu, original, index) {
+            Ok(at) => at,
+            Err(_) => 0,
+        },
+        _ => 0,
+    }
+}
+
+/// Stores as STOD does, or as STON if the operand is kept, where the cell under the top one is an operand, and the top one a couple
+/// of an operand's cell of the top activation record, or a copy of a present array's element that may be written. Else nothing is
+/// changed. Whether it was made.
 #[inline(always)]
 pub fn store_own(cpu: &mut Cpu, keeps: bool, next: Place) -> bool
     requires { RunsSome cpu.old }
@@ -28,7 +51,12 @@ pub fn store_own(cpu: &mut Cpu, keeps: bool, next: Place) -> bool
     if lower.tag() != 0 {
         return false;
     }
-    let at = own_operand(&cpu.core, &cpu.regs, &cpu.display, upper);
+    let cell = own_operand(&cpu.core, &cpu.regs, &cpu.display, upper);
+    if cell != 0 {
+        put(cpu, cell, lower, keeps, next);
+        return true;
+    }
+    let at = own_element(cpu, upper);
     if at == 0 {
         return false;
     }

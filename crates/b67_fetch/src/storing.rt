@@ -20,7 +20,7 @@ use b67_word::{Fault, Place, Word};
 /// The core address of an element that is to be stored into. Else what the operator answers: MEMORY PROTECT if the
 /// array is read-only, then that it is absent.
 #[inline(always)]
-fn element_address(cpu: &Cpu, original: u32, index: u32) -> Result<u32, Step>
+pub(crate) fn element_address(cpu: &Cpu, original: u32, index: u32) -> Result<u32, Step>
     requires { HoldsElement cpu.now original index }
     ensures { ForEach cpu.now (λ x plan s m t. (n : ℕ) → original ≡ plan.home m.constants.number n → HasElement m.progress.job n index → ElementAt x plan m n original index result) }
 {

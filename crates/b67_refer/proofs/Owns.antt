@@ -1,5 +1,8 @@
 -- Cells of the running stack's top activation record.
-use Rattle.std.proofs.Common.{◌≡◌, ℕ, ◌+◌, ◌-◌, ◌%◌, ◌<◌, ◌≤◌, ◌^◌, List, Some, Ok, refl, sym, ◌∙◌, ap, arith, ⊎_elim, subst, length, get_or}
+use Rattle.std.proofs.Common.{◌≡◌, ℕ, ◌+◌, ◌-◌, ◌%◌, ◌<◌, ◌≤◌, ◌^◌, List, Some, Ok, sym, ◌∙◌, ap, arith, ⊎_elim, subst, length, get_or, Bool, true}
+use Rattle.std.specs.Prelude.{not}
+use Rattle.std.specs.List.{slice_get}
+use Rattle.std.proofs.lemmas.Bool.{not-true}
 use Rattle.std.proofs.lemmas.Option.{same_Some}
 use Rattle.std.proofs.Math.Nat.{mod-le}
 use Rattle.b67_word.specs.Tagged.{Tagged}
@@ -9,6 +12,8 @@ use Rattle.b67_word.specs.Couples.{couple, level_bits}
 use Rattle.b67_ctl.specs.declared.registers.Regs.{Regs}
 use Rattle.b67_ctl.specs.declared.references.Irw.{Irw}
 use Rattle.b67_ctl.specs.Layout.{irw_word, IsIrw}
+use Rattle.b67_ctl.specs.declared.descriptors.DataDesc.{DataDesc}
+use Rattle.b67_ctl.specs.Descriptors.{data_word, IsDataDesc}
 use Rattle.b67_model.specs.Words as Words
 use Rattle.b67_model.specs.Chase as Chase
 use Rattle.b67_model.specs.declared.limits.TheConstants.{MOST_LINKS}
@@ -21,8 +26,8 @@ use Rattle.b67_refer.specs.declared.ends.End.TheVariants as end
 use Rattle.b67_refer.specs.LiveEnds.{IsReference, LinkMeets}
 use Rattle.b67_refer.specs.Ends.{HasTagAt, EndMeets}
 use Rattle.b67_refer.proofs.Bases.{dictionary_is, dictionary_low}
-use Rattle.b67_refer.proofs.Chains.{level_is}
 use Rattle.b67_refer.proofs.Follows.{is_reference, follows_reference}
+use Rattle.b67_refer.proofs.Links.{cell_described, end_own}
 use Rattle.b67_refer.proofs.Founds.{task_tops, top_inside, address_small}
 use Rattle.b67_refer.proofs.Names.{irw_is, finds_name, turn, turn_end}
 use Rattle.b67_refer.proofs.Seats.{seat}
@@ -97,3 +102,13 @@ module _ (core : List Tagged) (r : Regs) (a : RunningContext core r) (q : Place)
       let t = turn core r (live_of a) q at v found in
       let e = turn_end core r (live_of a) q MOST_LINKS at v t (end.Cell at) (omega arith) (operand_link at t.frame t.offset t.word t.cell tag) in
       subst (λ (y : Answer Chase.End). EndMeets a q (Ok (end.Cell at)) y) (sym (follows_reference core r (live_of a) q v ref)) e
+
+  -- and one to an original to its array
+  pub own_ends_array : (at : ℕ) (v : Word) → IsReference v → FindsCell a q (Ok at) (place_of (here a.member a.task q) v) → HasTagAt core at 5 → (u : Tagged) → slice_get core at ≡ Some u
+      → (original : Bool) → ((d : DataDesc) → IsDataDesc d → u ≡ data_word d → original ≡ not d.copy) → original ≡ true → EndMeets a q (Ok (end.Array at)) (follow (here a.member a.task q) v)
+  own_ends_array at v ref found tag u there original known is =
+      let t = turn core r (live_of a) q at v found in
+      let k = cell_described core r (live_of a) q at t.frame t.offset t.word u t.cell tag there in
+      let own = not-true k.0.copy (sym (known k.0 k.1 k.2) ∙ is) in
+      let e = turn_end core r (live_of a) q MOST_LINKS at v t (end.Array at) (omega arith) (end_own core r (live_of a) q at t.frame t.offset t.word k.0 t.cell.names k.3 own) in
+      subst (λ (y : Answer Chase.End). EndMeets a q (Ok (end.Array at)) y) (sym (follows_reference core r (live_of a) q v ref)) e

@@ -9,12 +9,12 @@ use Rattle.b67_refer.specs.declared.ends.End.{End}
 use Rattle.b67_refer.specs.RunningContext.{RunningContext, IsShown}
 use Rattle.b67_refer.specs.Cells.{StandsFor, FindsCell}
 use Rattle.b67_refer.specs.LiveEnds.{IsReference}
-use Rattle.b67_refer.specs.Ends.{HasTagAt, EndMeets}
+use Rattle.b67_refer.specs.Ends.{EndMeets}
 
--- a reference's word names the cell at an address, whose word has a tag
-abbrev pub NamesCell : (core : List Tagged) (r : Regs) (display : List ℕ) (w : Tagged) (tag cell : ℕ) → Type 0
-NamesCell core r display w tag cell = (a : RunningContext core r) (q : Place) → IsShown a display → (at owner : ℕ) (v : Word) → StandsFor a at owner w v
-    → IsReference v × FindsCell a q (Ok cell) (place_of (here a.member a.task q) v) × HasTagAt core cell tag
+-- a reference's word names the cell at an address
+abbrev pub NamesCell : (core : List Tagged) (r : Regs) (display : List ℕ) (w : Tagged) (cell : ℕ) → Type 0
+NamesCell core r display w cell = (a : RunningContext core r) (q : Place) → IsShown a display → (at owner : ℕ) (v : Word) → StandsFor a at owner w v
+    → IsReference v × FindsCell a q (Ok cell) (place_of (here a.member a.task q) v)
 
 -- a word leads to an end
 abbrev pub LeadsTo : (core : List Tagged) (r : Regs) (display : List ℕ) (w : Tagged) → End → Type 0

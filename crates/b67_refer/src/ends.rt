@@ -44,7 +44,7 @@ pub fn owner(core: &Core, copy: DataDesc) -> u32
 
 /// The element of an array at an index. INVALID INDEX if the array, as it is now, is no longer than the index.
 #[inline(always)]
-fn element_at(core: &Core, regs: &Regs, original: u32, index: u32) -> Result<End, Fault>
+pub(crate) fn element_at(core: &Core, regs: &Regs, original: u32, index: u32) -> Result<End, Fault>
     requires { (a : LiveContext core.now regs.now) × (n : ℕ) × (original ≡ a.plan.home a.member.constants.number n) × NamesArray a.member.progress.job.arrays (reach a) n }
     ensures { (a : LiveContext core.now regs.now) (q : Place) (n : ℕ) → original ≡ a.plan.home a.member.constants.number n
         → NamesArray a.member.progress.job.arrays (reach a) n → EndMeets a q result (element_end (here a.member a.runner q) n index) }

@@ -16,5 +16,5 @@ pub use cells::{cell_at, cell_of};
 pub use couples::couple_at;
 pub use ends::{End, chase, owner};
 pub use environment::{rebuild, rebuild_known};
-pub use own::own_operand;
+pub use own::{copied_element, own_array, own_operand};
 pub use spots::{Spot, spot_of};

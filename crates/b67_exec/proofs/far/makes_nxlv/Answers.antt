@@ -1,7 +1,19 @@
+use Rattle.std.proofs.Common.{Bool, sym, subst}
 use Rattle.b67_model.specs.declared.operators.Op.TheVariants.{Plain}
 use Rattle.b67_model.specs.declared.operators.Code.TheVariants as codes
-use Rattle.b67_exec.proofs.Fars.{on_by}
+use Rattle.b67_stack.specs.declared.Cpu.{Cpu}
+use Rattle.b67_layout.specs.Meets.{RunsSome}
+use Rattle.b67_exec.specs.Far.{MadeOn}
+use Rattle.b67_exec.proofs.Mades.{on_rest}
 use Rattle.b67_exec.proofs.far.makes_nxlv.Goals as goal
 
+pub returns-then-takes_own : goal.returns-then-takes_own
+returns-then-takes_own c = subst (λ (b : Bool). MadeOn (Plain codes.Nxlv) c.args.next c.args.cpu.now b c.takes_own.new.cpu) c.if-takes_own.true c.takes_own.ensures
+
+pub makes_far_nxlv-requires : goal.makes_far_nxlv-requires
+makes_far_nxlv-requires c = subst (λ (z : Cpu). RunsSome z) (sym (on_rest (Plain codes.Nxlv) c.args.next c.args.cpu.now c.takes_own.new.cpu c.takes_own.result c.if-takes_own.false c.takes_own.ensures)) c.requires
+
 pub returns : goal.returns
-returns c = on_by (Plain codes.Nxlv) c.args.next c.args.cpu.now c.nxlv-step.new.cpu c.requires c.nxlv-step.result c.is_done.result c.is_done.ensures c.nxlv-step.ensures.row c.nxlv-step.ensures.stays
+returns c =
+    subst (λ (z : Cpu). MadeOn (Plain codes.Nxlv) c.args.next z c.makes_far_nxlv.result c.makes_far_nxlv.new.cpu)
+    (on_rest (Plain codes.Nxlv) c.args.next c.args.cpu.now c.takes_own.new.cpu c.takes_own.result c.if-takes_own.false c.takes_own.ensures) c.makes_far_nxlv.ensures

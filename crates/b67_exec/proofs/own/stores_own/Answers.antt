@@ -5,6 +5,9 @@ use Rattle.b67_exec.specs.Far.{MadeOn}
 use Rattle.b67_exec.proofs.Owns.{stod_made, ston_made}
 use Rattle.b67_exec.proofs.own.stores_own.Goals as goal
 
+pub returns-in-Load : goal.returns-in-Load
+returns-in-Load c = let P : Code → Type 0 = λ k. MadeOn (Plain k) c.args.next c.args.cpu.now c.loads_own.result c.loads_own.new.cpu in subst P (sym c.in-Load.is) c.loads_own.ensures
+
 pub returns-in-Stod : goal.returns-in-Stod
 returns-in-Stod c =
     let P : Code → Type 0 = λ k. MadeOn (Plain k) c.args.next c.args.cpu.now c.store_own.result c.store_own.new.cpu in
