@@ -12,7 +12,7 @@ ghost use Rattle.b67_entry.specs.Left.{Returns, caller_regs, caller_stack, here_
 ghost use Rattle.b67_entry.specs.Returned.{ReturnsWord, with_word};
 
 use crate::enter::accident_on;
-use crate::leave::{caller, is_critical};
+use crate::leave::{caller, go_on, is_critical};
 use crate::refusals::refusal;
 use b67_ctl::Regs;
 use b67_exec_cells::element;
@@ -20,18 +20,18 @@ use b67_refer::{End, chase, rebuild_known};
 use b67_stack::{Cpu, Step, What};
 use b67_word::{Fault, Word};
 
-/// Goes on with these registers and this display, and a word more on the stack.
+/// Goes on at the stack and the place of these registers, with this display, and a word more on the stack.
 #[inline(always)]
 fn put(cpu: &mut Cpu, regs: Regs, display: [u32; 32], word: Word)
     requires { regs.s + 1 < length cpu.old.core }
     ensures { cpu.new ≡ with_word cpu.old regs display word }
 {
-    cpu.regs = regs;
+    go_on(cpu, regs);
     cpu.display = display;
     cpu.put(word);
 }
 
-/// Goes on with these registers, whose environment the display then shows, and a word more on the stack.
+/// Goes on at the stack and the place of these registers, whose environment the display then shows, and a word more on the stack.
 #[inline(always)]
 fn settle(cpu: &mut Cpu, regs: Regs, value: Word)
     requires run { RunningContext cpu.old.core regs }
@@ -41,8 +41,8 @@ fn settle(cpu: &mut Cpu, regs: Regs, value: Word)
     ensures rest { cpu.new ≡ with_word cpu.old regs cpu.new.display value }
 {
     let known = cpu.regs.level;
-    cpu.regs = regs;
-    rebuild_known(&cpu.core, &cpu.regs, &mut cpu.display, known);
+    rebuild_known(&cpu.core, &regs, &mut cpu.display, known);
+    go_on(cpu, regs);
     cpu.put(value);
 }
 
