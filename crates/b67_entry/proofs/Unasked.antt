@@ -52,6 +52,10 @@ module _ (cpu : Cpu) (r : Regs) (a : RunningContext cpu.core r) (q : Place) (at 
   pub level_small : level_of_frame (frame (here a.member a.task q) f) ≤ 31
   level_small = let w = site cpu.core r a q f e.cell.names e.own in omega (arith, w.level, w.high)
 
+  -- it lies in a task's record
+  pub level_low : 2 ≤ level_of_frame (frame (here a.member a.task q) f)
+  level_low = let w = site cpu.core r a q f e.cell.names e.own in omega (arith, w.level, w.low)
+
   on_stack : RunsOn (with_objects a.left (machine_view a.plan a.session.jobs)) a.plan.running (stack_of_task a.plan a.member.constants.number a.member.progress.job a.plan.running a.task)
   on_stack = Accidents.on_stack a.left a.storage cpu.core r a.marks a.plan a.session a.member a.task a.holds a.running level f (record { value = true; segment = segment; place = place }) (record { stack = 0; disp = 0 })
 

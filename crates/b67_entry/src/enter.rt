@@ -15,13 +15,13 @@ ghost use Rattle.b67_stack.specs.declared.Step.TheVariants.{Done};
 ghost use Rattle.b67_layout.specs.Meets.{RunsSome, ForEach, Meets, here};
 ghost use Rattle.b67_exec_cells.specs.Tops.{StaysInSegment};
 ghost use Rattle.b67_refer.specs.RunningContext.{RunningContext, IsShown};
-ghost use Rattle.b67_refer.specs.Displays.{HoldsEnvironment};
+ghost use Rattle.b67_refer.specs.Displays.{HoldsEnvironment, EntersIn};
 ghost use Rattle.b67_entry.specs.Procedures.{ReachesProc, CanEnter, EntersOrFaults, HoldsUnder, CallsWith, CallsOrMeets};
 ghost use Rattle.b67_model.specs.Words.{Word};
 
 use b67_core::Core;
 use b67_ctl::{Mscw, Pcw, Rcw, Regs};
-use b67_refer::{Activation, End, activation_of, chase, rebuild_known};
+use b67_refer::{Activation, End, activation_of, chase, rebuild_entered};
 use b67_stack::{Cpu, Step};
 use b67_word::{Fault, Place};
 
@@ -66,19 +66,20 @@ fn entered_mark(regs: &Regs, env: Activation, level: u8, value: bool, back: u16)
     }
 }
 
-/// The task goes on at a procedure's first operator, in the environment of its top activation record. The display holds an
-/// environment up to level `known`.
+/// The task goes on at a procedure's first operator, in the environment of its top activation record, which was entered in
+/// `env`. The display holds an environment up to level `known`.
 #[inline(always)]
-fn begin(cpu: &mut Cpu, procedure: Pcw, known: u8)
+fn begin(cpu: &mut Cpu, procedure: Pcw, env: Activation, known: u8)
     requires run { RunningContext cpu.old.core (record cpu.old.regs { level = procedure.level; segment = procedure.segment; place = procedure.place }) }
     requires known { HoldsEnvironment cpu.old.core cpu.old.regs cpu.old.display known }
+    requires top { EntersIn cpu.old.core (record cpu.old.regs { level = procedure.level; segment = procedure.segment; place = procedure.place }) env.stack env.disp }
     ensures display { (a : RunningContext cpu.old.core (record cpu.old.regs { level = procedure.level; segment = procedure.segment; place = procedure.place })) → IsShown a cpu.new.display }
     ensures rest { cpu.new ≡ record cpu.old { regs = record cpu.old.regs { level = procedure.level; segment = procedure.segment; place = procedure.place }; display = cpu.new.display } }
 {
     cpu.regs.level = procedure.level;
     cpu.regs.segment = procedure.segment;
     cpu.regs.place = procedure.place;
-    rebuild_known(&cpu.core, &cpu.regs, &mut cpu.display, known);
+    rebuild_entered(&cpu.core, &cpu.regs, &mut cpu.display, known, env.stack, env.disp);
 }
 
 /// The top activation record, which is marked, enters the procedure of a cell that its first cell refers to: that cell
@@ -109,7 +110,7 @@ fn enter(cpu: &mut Cpu, cell: u32, next: Place) -> Step
     };
     cpu.core.set(cpu.regs.f, mark.word());
     cpu.core.set(cpu.regs.f + 1, caller.word());
-    begin(cpu, procedure, cpu.regs.level);
+    begin(cpu, procedure, env, cpu.regs.level);
     Step::Done
 }
 
@@ -182,7 +183,7 @@ pub fn accident_on(
         f: regs.s + 1,
         ..regs
     };
-    begin(cpu, procedure, known);
+    begin(cpu, procedure, env, known);
     Step::Done
 }
 

@@ -15,6 +15,6 @@ pub use activation::{Activation, activation_of};
 pub use cells::{cell_at, cell_of};
 pub use couples::couple_at;
 pub use ends::{End, chase, owner};
-pub use environment::{rebuild, rebuild_known};
+pub use environment::{rebuild, rebuild_entered, rebuild_known};
 pub use own::own_operand;
 pub use spots::{Spot, spot_of};

@@ -3,6 +3,7 @@ use Rattle.std.specs.List.{slice_get}
 use Rattle.b67_word.specs.Tagged.{Tagged}
 use Rattle.b67_core.proofs.Writes.{slice_get-set_other}
 use Rattle.b67_ctl.specs.declared.programs.Pcw.{Pcw}
+use Rattle.b67_ctl.specs.declared.marks.Mscw.{Mscw}
 use Rattle.b67_ctl.specs.Layout.{IsMscw}
 use Rattle.b67_model.specs.State.{frame}
 use Rattle.b67_model.specs.Environment.{level_of_frame}
@@ -10,6 +11,7 @@ use Rattle.b67_stack.specs.declared.Cpu.{Cpu}
 use Rattle.b67_layout.specs.Meets.{here}
 use Rattle.b67_refer.specs.declared.activation.Activation.{Activation}
 use Rattle.b67_refer.proofs.Displays.{holds_on}
+use Rattle.b67_entry.proofs.Environments.{enters_in}
 use Rattle.b67_entry.proofs.Unasked as Unasked
 use Rattle.b67_entry.proofs.Unasked.{pcw_there, pcw_fits, level_small, rooms}
 use Rattle.b67_entry.proofs.enter.accident_on.Goals as goal
@@ -108,6 +110,25 @@ begin-requires-clause-known c =
     let room : r.s + 2 ≤ r.losr = omega (arith, c.if-regs-lt2.false, (rooms c.args.cpu.now r a q c.args.cell f segment level place e.procedure).last) in
     holds_on c.set-2.new.self r (record r { s = r.s + 2; f = r.s + 1 }) c.args.cpu.now.display c.args.known refl refl refl
     (c.requires.known room c.set-2.new.self (λ i one two. others r.s c.args.cpu.now.core c.set.new.self c.set-2.new.self c.word.result c.word-2.result c.set.ensures.value c.set-2.ensures.value i one two))
+
+pub begin-requires-clause-top : goal.begin-requires-clause-top
+begin-requires-clause-top c =
+    let (a, q, f, segment, level, place, e) = c.requires.procedure in
+    let cpu = c.args.cpu.now in
+    let r = c.args.regs in
+    let env = c.activation_of-env.ensures a q f segment level place e.procedure in
+    let pcw = c.procedure_at-procedure.ensures (Unasked.pcw cpu r a q c.args.cell f segment level place e.procedure) (pcw_fits cpu r a q c.args.cell f segment level place e.procedure) (pcw_there cpu r a q c.args.cell f segment level place e.procedure) in
+    let is = Unasked.mark_is cpu r a q c.args.cell f segment level place e.procedure c.args.value c.args.back c.requires.back c.activation_of-env.result c.procedure_at-procedure.result env pcw c.entered_mark-mark.result c.entered_mark-mark.ensures in
+    let good : IsMscw c.entered_mark-mark.result = subst IsMscw (sym is) (Unasked.mark_good cpu r a q c.args.cell f segment level place e.procedure c.args.value c.args.back c.requires.back) in
+    let one : c.activation_of-env.result.level ≡ level_of_frame (frame (here a.member a.task q) f) = ap (λ (z : Activation). z.level) env in
+    let low = Unasked.level_low cpu r a q c.args.cell f segment level place e.procedure in
+    let room = rooms cpu r a q c.args.cell f segment level place e.procedure in
+    let p = c.procedure_at-procedure.result in
+    enters_in cpu.core c.set.new.self c.set-2.new.self (record r { s = r.s + 2; f = r.s + 1; level = p.level; segment = p.segment; place = p.place }) (r.s + 2)
+    c.entered_mark-mark.result c.word.result c.word-2.result c.activation_of-env.result.stack c.activation_of-env.result.disp
+    good (omega (arith, room.last, room.under, room.inside, c.if-regs-lt2.false)) (λ z. omega (arith, z)) c.set.ensures.value c.word.ensures c.set-2.ensures.value
+    (ap (λ (k : Mscw). k.entered) c.entered_mark-mark.ensures) (ap (λ (k : Mscw). k.env_stack) c.entered_mark-mark.ensures) (ap (λ (k : Mscw). k.env_disp) c.entered_mark-mark.ensures)
+    (omega (arith, one, low, c.if-env-procedure.false))
 
 pub returns : goal.returns
 returns c = record {

@@ -1,5 +1,6 @@
 use Rattle.std.proofs.Common.{◌≡◌, ◌+◌, refl, sym, ap, arith, subst}
 use Rattle.b67_ctl.specs.declared.programs.Pcw.{Pcw}
+use Rattle.b67_ctl.specs.declared.marks.Mscw.{Mscw}
 use Rattle.b67_ctl.specs.Layout.{IsMscw}
 use Rattle.b67_model.specs.State.{frame}
 use Rattle.b67_model.specs.Environment.{level_of_frame}
@@ -9,7 +10,7 @@ use Rattle.b67_refer.specs.declared.activation.Activation.{Activation}
 use Rattle.b67_entry.proofs.Unasked as Unasked
 use Rattle.b67_entry.proofs.Unasked.{pcw_there, pcw_fits, level_small, rooms}
 use Rattle.b67_entry.proofs.Called as Called
-use Rattle.b67_entry.proofs.Environments.{holds_entered}
+use Rattle.b67_entry.proofs.Environments.{holds_entered, enters_in}
 use Rattle.b67_entry.proofs.enter.enter.Goals as goal
 
 pub procedure_at-procedure-requires : goal.procedure_at-procedure-requires
@@ -90,6 +91,24 @@ begin-requires-clause-known c =
     let (a, f, segment, level, place, reference, arguments, e, w) = c.requires.procedure in
     let two = Called.two_words c.args.cpu.now a c.args.next c.requires.next c.args.cell f segment level place reference arguments e w in
     holds_entered c.args.cpu.now a (e.stands.shows a.member a.task a.running) w.some w.marked two.1 c.set.new.self c.set-2.new.self c.word.result c.word-2.result c.set.ensures.value c.set-2.ensures.value
+
+pub begin-requires-clause-top : goal.begin-requires-clause-top
+begin-requires-clause-top c =
+    let (a, f, segment, level, place, reference, arguments, e, w) = c.requires.procedure in
+    let cpu = c.args.cpu.now in
+    let env = c.activation_of-env.ensures a c.args.next f segment level place e.procedure in
+    let pcw = c.procedure_at-procedure.ensures (Unasked.pcw cpu cpu.regs a c.args.next c.args.cell f segment level place e.procedure) (pcw_fits cpu cpu.regs a c.args.next c.args.cell f segment level place e.procedure) (pcw_there cpu cpu.regs a c.args.next c.args.cell f segment level place e.procedure) in
+    let top = c.top_mark-top.ensures a.storage (machine_view a.plan a.session.jobs) (stack_of_task a.plan a.member.constants.number a.member.progress.job a.plan.running a.task) e.stands.holds.memory (runs_here a.storage cpu a.plan a.session a.member a.task e.stands a.running) in
+    let is = Called.mark_is cpu a c.args.next c.requires.next c.args.cell f segment level place reference arguments e w c.activation_of-env.result c.procedure_at-procedure.result c.top_mark-top.result env pcw top c.entered_mark-mark.result c.entered_mark-mark.ensures in
+    let good : IsMscw c.entered_mark-mark.result = subst IsMscw (sym is) (Called.mark_good cpu a c.args.next c.requires.next c.args.cell f segment level place reference arguments e w) in
+    let one : c.activation_of-env.result.level ≡ level_of_frame (frame (here a.member a.task c.args.next) f) = ap (λ (z : Activation). z.level) env in
+    let low = Unasked.level_low cpu cpu.regs a c.args.next c.args.cell f segment level place e.procedure in
+    let r = rooms cpu cpu.regs a c.args.next c.args.cell f segment level place e.procedure in
+    enters_in cpu.core c.set.new.self c.set-2.new.self (record cpu.regs { level = c.procedure_at-procedure.result.level; segment = c.procedure_at-procedure.result.segment; place = c.procedure_at-procedure.result.place }) (cpu.regs.f + 1)
+    c.entered_mark-mark.result c.word.result c.word-2.result c.activation_of-env.result.stack c.activation_of-env.result.disp
+    good (omega (arith, r.top, r.last, r.under, r.inside)) (λ z. omega (arith, z)) c.set.ensures.value c.word.ensures c.set-2.ensures.value
+    (ap (λ (k : Mscw). k.entered) c.entered_mark-mark.ensures) (ap (λ (k : Mscw). k.env_stack) c.entered_mark-mark.ensures) (ap (λ (k : Mscw). k.env_disp) c.entered_mark-mark.ensures)
+    (omega (arith, one, low, c.if-env-procedure.false))
 
 pub returns : goal.returns
 returns c = record {
