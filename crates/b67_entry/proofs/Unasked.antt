@@ -20,9 +20,15 @@ use Rattle.b67_refer.specs.Ends.{IsProcAt}
 use Rattle.b67_refer.specs.RunningContext.{RunningContext, IsShown}
 use Rattle.b67_refer.specs.declared.activation.Activation.{Activation}
 use Rattle.b67_entry.specs.Procedures.{RecordEntered}
+use Rattle.b67_entry.specs.Left.{going_on}
 use Rattle.b67_entry.proofs.Sites.{site}
 use Rattle.b67_entry.proofs.Accidental as Accidental
 use Rattle.b67_entry.proofs.Segments.{few_segments}
+
+-- the registers that are written are those of the slot
+pub same_regs : (r v : Regs) → going_on r v ≡ v → (p : Pcw)
+    → ◌≡◌ {A = Regs} (record v { s = v.s + 2; f = v.s + 1; level = p.level; segment = p.segment; place = p.place }) (record r { s = v.s + 2; f = v.s + 1; level = p.level; segment = p.segment; place = p.place })
+same_regs r v slot p = sym (ap (λ (z : Regs). let y : Regs = record z { s = v.s + 2; f = v.s + 1; level = p.level; segment = p.segment; place = p.place } in y) slot)
 
 module _ (cpu : Cpu) (r : Regs) (a : RunningContext cpu.core r) (q : Place) (at f segment level : ℕ) (place : Place) (e : IsProcAt a q at f segment level place) where
   abbrev pub pcw : Pcw

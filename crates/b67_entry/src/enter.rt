@@ -178,11 +178,8 @@ pub fn accident_on(
     };
     cpu.core.set(regs.s + 1, mark.word());
     cpu.core.set(regs.s + 2, caller.word());
-    cpu.regs = Regs {
-        s: regs.s + 2,
-        f: regs.s + 1,
-        ..regs
-    };
+    cpu.regs.s = regs.s + 2;
+    cpu.regs.f = regs.s + 1;
     begin(cpu, procedure, env, known);
     Step::Done
 }

@@ -13,7 +13,10 @@ use Rattle.b67_refer.specs.declared.activation.Activation.{Activation}
 use Rattle.b67_refer.proofs.Displays.{holds_on}
 use Rattle.b67_entry.proofs.Environments.{enters_in}
 use Rattle.b67_entry.proofs.Unasked as Unasked
-use Rattle.b67_entry.proofs.Unasked.{pcw_there, pcw_fits, level_small, rooms}
+use Rattle.b67_entry.proofs.Unasked.{pcw_there, pcw_fits, level_small, rooms, same_regs}
+use Rattle.b67_ctl.specs.declared.registers.Regs.{Regs}
+use Rattle.b67_refer.specs.RunningContext.{RunningContext, IsShown}
+use Rattle.b67_refer.specs.Displays.{EntersIn}
 use Rattle.b67_entry.proofs.enter.accident_on.Goals as goal
 
 -- two words were written over a top: the others stay
@@ -101,14 +104,16 @@ begin-requires-clause-run c =
     let two : c.procedure_at-procedure.result.level ≡ level = ap (λ (z : Pcw). z.level) pcw in
     let test : level_of_frame (frame (here a.member a.task q) f) + 1 ≡ level = omega (arith, one, two, c.if-env-procedure.false) in
     let room : c.args.regs.s + 2 ≤ c.args.regs.losr = omega (arith, c.if-regs-lt2.false, (rooms c.args.cpu.now c.args.regs a q c.args.cell f segment level place e.procedure).last) in
-    Unasked.scene_with c.args.cpu.now c.args.regs a q c.args.cell f segment level place e.procedure c.args.value c.args.back c.requires.back test room (e.clear room) c.set-2.new.self c.procedure_at-procedure.result core pcw
+    subst (λ (z : Regs). RunningContext c.set-2.new.self z) (same_regs c.args.cpu.now.regs c.args.regs e.slot c.procedure_at-procedure.result)
+    (Unasked.scene_with c.args.cpu.now c.args.regs a q c.args.cell f segment level place e.procedure c.args.value c.args.back c.requires.back test room (e.clear room) c.set-2.new.self c.procedure_at-procedure.result core pcw)
 
 pub begin-requires-clause-known : goal.begin-requires-clause-known
 begin-requires-clause-known c =
     let (a, q, f, segment, level, place, e) = c.requires.procedure in
     let r = c.args.regs in
     let room : r.s + 2 ≤ r.losr = omega (arith, c.if-regs-lt2.false, (rooms c.args.cpu.now r a q c.args.cell f segment level place e.procedure).last) in
-    holds_on c.set-2.new.self r (record r { s = r.s + 2; f = r.s + 1 }) c.args.cpu.now.display c.args.known refl refl refl
+    let cpu = c.args.cpu.now in
+    holds_on c.set-2.new.self r (record cpu.regs { s = r.s + 2; f = r.s + 1 }) cpu.display c.args.known (ap (λ (z : Regs). z.stacks) e.slot) (ap (λ (z : Regs). z.stack_size) e.slot) (ap (λ (z : Regs). z.dict) e.slot)
     (c.requires.known room c.set-2.new.self (λ i one two. others r.s c.args.cpu.now.core c.set.new.self c.set-2.new.self c.word.result c.word-2.result c.set.ensures.value c.set-2.ensures.value i one two))
 
 pub begin-requires-clause-top : goal.begin-requires-clause-top
@@ -124,11 +129,13 @@ begin-requires-clause-top c =
     let low = Unasked.level_low cpu r a q c.args.cell f segment level place e.procedure in
     let room = rooms cpu r a q c.args.cell f segment level place e.procedure in
     let p = c.procedure_at-procedure.result in
-    enters_in cpu.core c.set.new.self c.set-2.new.self (record r { s = r.s + 2; f = r.s + 1; level = p.level; segment = p.segment; place = p.place }) (r.s + 2)
+    let stack = c.activation_of-env.result.stack in
+    let disp = c.activation_of-env.result.disp in
+    subst (λ (z : Regs). EntersIn c.set-2.new.self z stack disp) (same_regs cpu.regs r e.slot p) (enters_in cpu.core c.set.new.self c.set-2.new.self (record r { s = r.s + 2; f = r.s + 1; level = p.level; segment = p.segment; place = p.place }) (r.s + 2)
     c.entered_mark-mark.result c.word.result c.word-2.result c.activation_of-env.result.stack c.activation_of-env.result.disp
     good (omega (arith, room.last, room.under, room.inside, c.if-regs-lt2.false)) (λ z. omega (arith, z)) c.set.ensures.value c.word.ensures c.set-2.ensures.value
     (ap (λ (k : Mscw). k.entered) c.entered_mark-mark.ensures) (ap (λ (k : Mscw). k.env_stack) c.entered_mark-mark.ensures) (ap (λ (k : Mscw). k.env_disp) c.entered_mark-mark.ensures)
-    (omega (arith, one, low, c.if-env-procedure.false))
+    (omega (arith, one, low, c.if-env-procedure.false)))
 
 pub returns : goal.returns
 returns c = record {
@@ -141,7 +148,12 @@ returns c = record {
       let two : c.procedure_at-procedure.result.level ≡ level = ap (λ (z : Pcw). z.level) pcw in
       let test : level_of_frame (frame (here a.member a.task q) f) + 1 ≡ level = omega (arith, one, two, c.if-env-procedure.false) in
       let room : c.args.regs.s + 2 ≤ c.args.regs.losr = omega (arith, c.if-regs-lt2.false, (rooms c.args.cpu.now c.args.regs a q c.args.cell f segment level place e.procedure).last) in
-      Unasked.done c.args.cpu.now c.args.regs a q c.args.cell f segment level place e.procedure c.args.value c.args.back c.requires.back test room (e.clear room) c.set-2.new.self c.procedure_at-procedure.result c.begin.new.cpu core pcw e.marks c.begin.ensures.rest c.begin.ensures.display;
+      let old = c.args.cpu.now in
+      let one_regs = sym (same_regs old.regs c.args.regs e.slot c.procedure_at-procedure.result) in
+      let d = c.begin.new.cpu.display in
+      Unasked.done c.args.cpu.now c.args.regs a q c.args.cell f segment level place e.procedure c.args.value c.args.back c.requires.back test room (e.clear room) c.set-2.new.self c.procedure_at-procedure.result c.begin.new.cpu core pcw e.marks
+      (c.begin.ensures.rest ∙ ap (λ (z : Regs). let y : Cpu = record { core = c.set-2.new.self; regs = z; display = d; critical = old.critical } in y) one_regs)
+      (subst (λ (z : Regs). (b : RunningContext c.set-2.new.self z) → IsShown b d) one_regs c.begin.ensures.display);
   above = λ i low.
       let top = ap (λ (k : Cpu). k.regs.s) c.begin.ensures.rest in
       ap (λ (k : Cpu). slice_get k.core i) c.begin.ensures.rest ∙ over c.args.regs.s c.args.cpu.now.core c.set.new.self c.set-2.new.self c.word.result c.word-2.result c.set.ensures.value c.set-2.ensures.value i (omega arith);
