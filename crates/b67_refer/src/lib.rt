@@ -10,6 +10,7 @@ mod ends;
 mod environment;
 mod own;
 mod spots;
+mod stuffed;
 
 pub use activation::{Activation, activation_of};
 pub use cells::{cell_at, cell_of};
@@ -18,3 +19,4 @@ pub use ends::{End, chase, owner};
 pub use environment::{rebuild, rebuild_entered, rebuild_known};
 pub use own::own_operand;
 pub use spots::{Spot, spot_of};
+pub use stuffed::stuffed_operand;
