@@ -13,5 +13,5 @@ pub use b67_exec_cells::namc;
 pub use indexing::{indx, nxlv};
 pub use loading::{load, valc, value};
 pub use own::store_own;
-pub use storing::{stod, ston};
+pub use storing::{Stored, stod, ston, store};
 pub use stuffing::stff;
