@@ -12,8 +12,7 @@ use Rattle.b67_model.specs.Common.{Word, cell, follow, NamesEntered}
 use Rattle.b67_layout.specs.Meets.{here}
 use Rattle.b67_stack.specs.Stacks.{StackPlace}
 use Rattle.b67_refer.specs.RunningContext.{RunningContext, LiveContext, live_of}
-use Rattle.b67_refer.specs.LiveCells.{reach, view, frame_at_core, CellMeets}
-use Rattle.b67_refer.specs.LiveCells as live
+use Rattle.b67_refer.specs.LiveCells.{reach, view, CellMeets}
 use Rattle.b67_refer.specs.Cells.{StandsFor}
 use Rattle.b67_refer.specs.declared.ends.End.TheVariants as end
 use Rattle.b67_refer.specs.Ends.{HasTagAt, EndMeets}

@@ -10,7 +10,7 @@ use Rattle.b67_ctl.specs.declared.marks.Mscw.{Mscw}
 use Rattle.b67_ctl.specs.Layout.{mscw_word, IsMscw, flag_bit}
 use Rattle.b67_stack.specs.Stacks.{mark_of, mark_place}
 use Rattle.b67_stack.proofs.Bases.{base-apart}
-use Rattle.b67_layout.specs.Common.{slot_of, spot_in, outer_spots, head, frame_address, here}
+use Rattle.b67_layout.specs.Common.{slot_of, spot_in, outer_spots, head, here}
 use Rattle.b67_layout.proofs.Frames.{height-is}
 use Rattle.b67_lemmas.specs.Lists.{Has}
 use Rattle.b67_model.specs.State as State
@@ -24,7 +24,7 @@ use Rattle.b67_refer.proofs.Marks.{low_is}
 use Rattle.b67_refer.proofs.Rule.{seat_address}
 use Rattle.b67_refer.proofs.Unders.{one_word}
 use Rattle.b67_refer.proofs.Turns.{start, mark_ends}
-use Rattle.b67_refer.proofs.Chains.{Written, written_start, level, level_is, level_low, level_at, mark_of_level, address_at, slot_below, address_one, address_zero, written_more, Reads}
+use Rattle.b67_refer.proofs.Chains.{Written, written_start, level, level_low, level_at, mark_of_level, address_at, slot_below, address_one, address_zero, written_more, Reads}
 
 -- other registers of the same stacks and dictionary
 pub holds_on : (core : List Tagged) (r v : Regs) (display : List ℕ) (known : ℕ) → v.stacks ≡ r.stacks → v.stack_size ≡ r.stack_size → v.dict ≡ r.dict → HoldsEnvironment core r display known → HoldsEnvironment core v display known

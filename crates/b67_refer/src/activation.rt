@@ -14,6 +14,9 @@ use crate::spots::spot_of;
 use b67_core::Core;
 use b67_ctl::Regs;
 
+/// How many of the running stack's activation records, from the last one down, are looked at by their marks alone.
+const NEAR_RECORDS: u32 = 2;
+
 /// An activation record in a slot: the slot's number, the displacement of its mark, and its level.
 #[derive(Clone, Copy, Debug, PartialEq, Eq)]
 pub struct Activation {
@@ -24,16 +27,25 @@ pub struct Activation {
 
 /// The address of the mark under a cell of an entered activation record. The word over the mark has tag 3, the cells'
 /// have other tags. Words are looked at from the cell down, and the running stack's marks from its last one down, in turns: so
-/// it takes the fewer of both.
+/// it takes the fewer of both, after the last marks.
 #[inline(always)]
 fn mark_under(core: &Core, regs: &Regs, cell: u32) -> u32
     requires { (a : RunningContext core.now regs.now) × (q : Place) × (f : ℕ) × (segment : ℕ) × (level : ℕ) × (place : Place) × IsProcAt a q cell f segment level place }
     ensures { (a : RunningContext core.now regs.now) (q : Place) (f segment level : ℕ) (place : Place) → IsProcAt a q cell f segment level place
         → result ≡ frame_at_core a f }
 {
+    let mut last = regs.f;
+    let mut end = regs.s + 1;
+    for _turn in 0..NEAR_RECORDS {
+        if last < cell && cell < end && core.get(last + 1).tag() == 3 {
+            return last;
+        }
+        end = last;
+        last -= u32::from(mark_at(core, last).back);
+    }
     let mut at = cell;
-    let mut mark = regs.f;
-    let mut past = regs.s + 1;
+    let mut mark = last;
+    let mut past = end;
     'down: loop {
         if mark < cell && cell < past && core.get(mark + 1).tag() == 3 {
             return mark;

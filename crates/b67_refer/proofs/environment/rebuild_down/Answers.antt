@@ -1,8 +1,8 @@
-use Rattle.std.proofs.Common.{◌∙◌, ◌≢◌, arith, subst, ap, Some, sym, ◌+◌, ◌*◌, ◌-◌, ◌≡◌, ◌<◌, ℕ}
+use Rattle.std.proofs.Common.{◌∙◌, arith, ap, Some, ◌-◌, ◌<◌}
 use Rattle.std.proofs.lemmas.List.{length-set}
 use Rattle.std.proofs.lemmas.Option.{slice_get-get_or}
 use Rattle.b67_refer.specs.RunningContext.{live_of}
-use Rattle.b67_refer.proofs.Chains.{level_small, turn_mark, turn_next, address_at}
+use Rattle.b67_refer.proofs.Chains.{level_small, turn_mark, turn_next}
 use Rattle.b67_refer.proofs.Displays.{shown_from, shown_all, holds_over, turn_slot}
 use Rattle.b67_refer.proofs.environment.rebuild_down.Goals as goal
 
