@@ -39,3 +39,7 @@ pub record EntersIn (core : List Tagged) (r : Regs) (slot disp : ℕ) : Type 0 w
   pub slot_is : mark.env_stack ≡ slot
   pub disp_is : mark.env_disp ≡ disp
   pub high : 2 < r.level
+
+-- the mark of that record is at an address
+abbrev pub EntersOver : (core : List Tagged) (r : Regs) (under : ℕ) → Type 0
+EntersOver core r under = (slot : ℕ) × (disp : ℕ) × EntersIn core r slot disp × (under ≡ r.stacks + slot * r.stack_size + disp)

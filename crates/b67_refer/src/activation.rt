@@ -1,6 +1,6 @@
 //! The activation record in which a procedure lies.
 
-ghost use Rattle.std.specs.Prelude.{◌≡◌, ℕ, List};
+ghost use Rattle.std.specs.Prelude.{◌≡◌, ℕ, ◌+◌, ◌*◌, List};
 ghost use Rattle.b67_word.specs.declared.couples.Place.{Place};
 ghost use Rattle.b67_model.specs.Environment.{level_of_frame};
 ghost use Rattle.b67_model.specs.State.{frame};
@@ -59,6 +59,33 @@ fn mark_under(core: &Core, regs: &Regs, cell: u32) -> u32
     }
 }
 
+/// The activation record in which the cell of a procedure lies, and the core address of its mark.
+#[derive(Clone, Copy, Debug, PartialEq, Eq)]
+pub struct Enclosure {
+    pub record: Activation,
+    pub mark: u32,
+}
+
+/// The activation record in which the cell of a procedure lies, and where its mark stands.
+#[inline(always)]
+pub fn enclosure_of(core: &Core, regs: &Regs, cell: u32) -> Enclosure
+    requires { (a : RunningContext core.now regs.now) × (q : Place) × (f : ℕ) × (segment : ℕ) × (level : ℕ) × (place : Place) × IsProcAt a q cell f segment level place }
+    ensures home { (a : RunningContext core.now regs.now) (q : Place) (f segment level : ℕ) (place : Place) → IsProcAt a q cell f segment level place
+        → result.record ≡ record { stack = (view a f).stack; disp = (view a f).disp; level = level_of_frame (frame (here a.member a.task q) f) } }
+    ensures mark { regs.now.stacks + result.record.stack * regs.now.stack_size + result.record.disp ≡ result.mark }
+{
+    let mark = mark_under(core, regs, cell);
+    let spot = spot_of(regs, mark);
+    Enclosure {
+        record: Activation {
+            stack: spot.slot as u16,
+            disp: spot.disp as u16,
+            level: mark_at(core, mark).level,
+        },
+        mark,
+    }
+}
+
 /// The activation record in which the cell of a procedure lies: the environment of the procedure's activations.
 #[inline(always)]
 pub fn activation_of(core: &Core, regs: &Regs, cell: u32) -> Activation
@@ -66,11 +93,5 @@ pub fn activation_of(core: &Core, regs: &Regs, cell: u32) -> Activation
     ensures { (a : RunningContext core.now regs.now) (q : Place) (f segment level : ℕ) (place : Place) → IsProcAt a q cell f segment level place
         → result ≡ record { stack = (view a f).stack; disp = (view a f).disp; level = level_of_frame (frame (here a.member a.task q) f) } }
 {
-    let mark = mark_under(core, regs, cell);
-    let spot = spot_of(regs, mark);
-    Activation {
-        stack: spot.slot as u16,
-        disp: spot.disp as u16,
-        level: mark_at(core, mark).level,
-    }
+    enclosure_of(core, regs, cell).record
 }

@@ -8,7 +8,7 @@ ghost use Rattle.b67_stack.specs.Stacks.{StackPlace};
 ghost use Rattle.b67_layout.specs.Placement.{base_of as base_of_stack, address_of as address_of_spot};
 ghost use Rattle.b67_layout.specs.Session.{frame_address};
 ghost use Rattle.b67_refer.specs.RunningContext.{RunningContext, LiveContext, IsShown, IsStackOf};
-ghost use Rattle.b67_refer.specs.Displays.{HoldsEnvironment, ShowsAbove, EntersIn};
+ghost use Rattle.b67_refer.specs.Displays.{HoldsEnvironment, ShowsAbove, EntersOver};
 
 use b67_core::Core;
 use b67_ctl::{MCP_STACK, Mscw, Regs, SLOTS};
@@ -129,23 +129,14 @@ pub fn rebuild_known(core: &Core, regs: &Regs, display: &mut [u32; 32], known: u
     rebuild_down(core, regs, display, known, regs.level, at);
 }
 
-/// As `rebuild_known`, where the top activation record is entered: the record of its environment lies in this slot, at this
-/// displacement.
+/// As `rebuild_known`, where the top activation record is entered, and the mark of its environment's record is at an address.
 #[inline(always)]
-pub fn rebuild_entered(
-    core: &Core,
-    regs: &Regs,
-    display: &mut [u32; 32],
-    known: u8,
-    slot: u16,
-    disp: u16,
-)
+pub fn rebuild_entered(core: &Core, regs: &Regs, display: &mut [u32; 32], known: u8, under: u32)
     requires run { RunningContext core.now regs.now }
     requires known { HoldsEnvironment core.now regs.now display.old known }
-    requires top { EntersIn core.now regs.now slot disp }
+    requires top { EntersOver core.now regs.now under }
     ensures { (a : RunningContext core.now regs.now) → IsShown a display.new }
 {
     display[regs.level as usize] = regs.f;
-    let at = address_in_slot(core, regs, slot, disp);
-    rebuild_down(core, regs, display, known, regs.level - 1, at);
+    rebuild_down(core, regs, display, known, regs.level - 1, under);
 }

@@ -12,7 +12,7 @@ mod own;
 mod spots;
 mod stuffed;
 
-pub use activation::{Activation, activation_of};
+pub use activation::{Activation, Enclosure, activation_of, enclosure_of};
 pub use cells::{cell_at, cell_of};
 pub use couples::couple_at;
 pub use ends::{End, chase, owner};

@@ -16,7 +16,7 @@ use Rattle.b67_entry.proofs.Unasked as Unasked
 use Rattle.b67_entry.proofs.Unasked.{pcw_there, pcw_fits, level_small, rooms, same_regs}
 use Rattle.b67_ctl.specs.declared.registers.Regs.{Regs}
 use Rattle.b67_refer.specs.RunningContext.{RunningContext, IsShown}
-use Rattle.b67_refer.specs.Displays.{EntersIn}
+use Rattle.b67_refer.specs.Displays.{EntersOver}
 use Rattle.b67_entry.proofs.enter.accident_on.Goals as goal
 
 -- two words were written over a top: the others stay
@@ -36,8 +36,8 @@ procedure_at-procedure-requires c =
 pub overflow_add-env : goal.overflow_add-env
 overflow_add-env c =
     let (a, q, f, segment, level, place, e) = c.requires.procedure in
-    let env = c.activation_of-env.ensures a q f segment level place e.procedure in
-    let is : c.activation_of-env.result.level ≡ level_of_frame (frame (here a.member a.task q) f) = ap (λ (z : Activation). z.level) env in
+    let env = c.enclosure_of-home.ensures.home a q f segment level place e.procedure in
+    let is : c.enclosure_of-home.result.record.level ≡ level_of_frame (frame (here a.member a.task q) f) = ap (λ (z : Activation). z.level) env in
     omega (arith, is, level_small c.args.cpu.now c.args.regs a q c.args.cell f segment level place e.procedure)
 
 pub overflow_sub-regs : goal.overflow_sub-regs
@@ -61,9 +61,9 @@ set-requires-2 c = let (a, q, f, segment, level, place, e) = c.requires.procedur
 pub word-requires : goal.word-requires
 word-requires c =
     let (a, q, f, segment, level, place, e) = c.requires.procedure in
-    let env = c.activation_of-env.ensures a q f segment level place e.procedure in
+    let env = c.enclosure_of-home.ensures.home a q f segment level place e.procedure in
     let pcw = c.procedure_at-procedure.ensures (Unasked.pcw c.args.cpu.now c.args.regs a q c.args.cell f segment level place e.procedure) (pcw_fits c.args.cpu.now c.args.regs a q c.args.cell f segment level place e.procedure) (pcw_there c.args.cpu.now c.args.regs a q c.args.cell f segment level place e.procedure) in
-    subst IsMscw (sym (Unasked.mark_is c.args.cpu.now c.args.regs a q c.args.cell f segment level place e.procedure c.args.value c.args.back c.requires.back c.activation_of-env.result c.procedure_at-procedure.result env pcw c.entered_mark-mark.result c.entered_mark-mark.ensures))
+    subst IsMscw (sym (Unasked.mark_is c.args.cpu.now c.args.regs a q c.args.cell f segment level place e.procedure c.args.value c.args.back c.requires.back c.enclosure_of-home.result.record c.procedure_at-procedure.result env pcw c.entered_mark-mark.result c.entered_mark-mark.ensures))
     (Unasked.mark_good c.args.cpu.now c.args.regs a q c.args.cell f segment level place e.procedure c.args.value c.args.back c.requires.back)
 
 pub word-requires-2 : goal.word-requires-2
@@ -72,9 +72,9 @@ word-requires-2 c = let (a, q, f, segment, level, place, e) = c.requires.procedu
 pub returns-then-env-procedure : goal.returns-then-env-procedure
 returns-then-env-procedure c = record {
   row = λ a q f segment level place e.
-      let env = c.activation_of-env.ensures a q f segment level place e.procedure in
+      let env = c.enclosure_of-home.ensures.home a q f segment level place e.procedure in
       let pcw = c.procedure_at-procedure.ensures (Unasked.pcw c.args.cpu.now c.args.regs a q c.args.cell f segment level place e.procedure) (pcw_fits c.args.cpu.now c.args.regs a q c.args.cell f segment level place e.procedure) (pcw_there c.args.cpu.now c.args.regs a q c.args.cell f segment level place e.procedure) in
-      let one : c.activation_of-env.result.level ≡ level_of_frame (frame (here a.member a.task q) f) = ap (λ (z : Activation). z.level) env in
+      let one : c.enclosure_of-home.result.record.level ≡ level_of_frame (frame (here a.member a.task q) f) = ap (λ (z : Activation). z.level) env in
       let two : c.procedure_at-procedure.result.level ≡ level = ap (λ (z : Pcw). z.level) pcw in
       (Unasked.refused c.args.cpu.now c.args.regs a q c.args.cell f segment level place e.procedure c.args.value c.args.back c.requires.back (λ z. c.if-env-procedure.true (omega (arith, one, two, z))), refl);
   above = λ i h. refl;
@@ -84,9 +84,9 @@ returns-then-env-procedure c = record {
 pub returns-then-regs-lt2 : goal.returns-then-regs-lt2
 returns-then-regs-lt2 c = record {
   row = λ a q f segment level place e.
-      let env = c.activation_of-env.ensures a q f segment level place e.procedure in
+      let env = c.enclosure_of-home.ensures.home a q f segment level place e.procedure in
       let pcw = c.procedure_at-procedure.ensures (Unasked.pcw c.args.cpu.now c.args.regs a q c.args.cell f segment level place e.procedure) (pcw_fits c.args.cpu.now c.args.regs a q c.args.cell f segment level place e.procedure) (pcw_there c.args.cpu.now c.args.regs a q c.args.cell f segment level place e.procedure) in
-      let one : c.activation_of-env.result.level ≡ level_of_frame (frame (here a.member a.task q) f) = ap (λ (z : Activation). z.level) env in
+      let one : c.enclosure_of-home.result.record.level ≡ level_of_frame (frame (here a.member a.task q) f) = ap (λ (z : Activation). z.level) env in
       let two : c.procedure_at-procedure.result.level ≡ level = ap (λ (z : Pcw). z.level) pcw in
       (Unasked.full c.args.cpu.now c.args.regs a q c.args.cell f segment level place e.procedure c.args.value c.args.back c.requires.back (omega (arith, one, two, c.if-env-procedure.false)) (omega (arith, c.if-regs-lt2.true, (rooms c.args.cpu.now c.args.regs a q c.args.cell f segment level place e.procedure).last)), refl);
   above = λ i h. refl;
@@ -96,11 +96,11 @@ returns-then-regs-lt2 c = record {
 pub begin-requires-clause-run : goal.begin-requires-clause-run
 begin-requires-clause-run c =
     let (a, q, f, segment, level, place, e) = c.requires.procedure in
-    let env = c.activation_of-env.ensures a q f segment level place e.procedure in
+    let env = c.enclosure_of-home.ensures.home a q f segment level place e.procedure in
     let pcw = c.procedure_at-procedure.ensures (Unasked.pcw c.args.cpu.now c.args.regs a q c.args.cell f segment level place e.procedure) (pcw_fits c.args.cpu.now c.args.regs a q c.args.cell f segment level place e.procedure) (pcw_there c.args.cpu.now c.args.regs a q c.args.cell f segment level place e.procedure) in
-    let mark = Unasked.mark_is c.args.cpu.now c.args.regs a q c.args.cell f segment level place e.procedure c.args.value c.args.back c.requires.back c.activation_of-env.result c.procedure_at-procedure.result env pcw c.entered_mark-mark.result c.entered_mark-mark.ensures in
+    let mark = Unasked.mark_is c.args.cpu.now c.args.regs a q c.args.cell f segment level place e.procedure c.args.value c.args.back c.requires.back c.enclosure_of-home.result.record c.procedure_at-procedure.result env pcw c.entered_mark-mark.result c.entered_mark-mark.ensures in
     let core = Unasked.core_is c.args.cpu.now c.args.regs a q c.args.cell f segment level place e.procedure c.args.value c.args.back c.requires.back c.word.result c.word-2.result c.entered_mark-mark.result c.set.new.self c.set-2.new.self c.set.ensures.value c.word.ensures mark c.set-2.ensures.value c.word-2.ensures in
-    let one : c.activation_of-env.result.level ≡ level_of_frame (frame (here a.member a.task q) f) = ap (λ (z : Activation). z.level) env in
+    let one : c.enclosure_of-home.result.record.level ≡ level_of_frame (frame (here a.member a.task q) f) = ap (λ (z : Activation). z.level) env in
     let two : c.procedure_at-procedure.result.level ≡ level = ap (λ (z : Pcw). z.level) pcw in
     let test : level_of_frame (frame (here a.member a.task q) f) + 1 ≡ level = omega (arith, one, two, c.if-env-procedure.false) in
     let room : c.args.regs.s + 2 ≤ c.args.regs.losr = omega (arith, c.if-regs-lt2.false, (rooms c.args.cpu.now c.args.regs a q c.args.cell f segment level place e.procedure).last) in
@@ -121,30 +121,30 @@ begin-requires-clause-top c =
     let (a, q, f, segment, level, place, e) = c.requires.procedure in
     let cpu = c.args.cpu.now in
     let r = c.args.regs in
-    let env = c.activation_of-env.ensures a q f segment level place e.procedure in
+    let env = c.enclosure_of-home.ensures.home a q f segment level place e.procedure in
     let pcw = c.procedure_at-procedure.ensures (Unasked.pcw cpu r a q c.args.cell f segment level place e.procedure) (pcw_fits cpu r a q c.args.cell f segment level place e.procedure) (pcw_there cpu r a q c.args.cell f segment level place e.procedure) in
-    let is = Unasked.mark_is cpu r a q c.args.cell f segment level place e.procedure c.args.value c.args.back c.requires.back c.activation_of-env.result c.procedure_at-procedure.result env pcw c.entered_mark-mark.result c.entered_mark-mark.ensures in
+    let is = Unasked.mark_is cpu r a q c.args.cell f segment level place e.procedure c.args.value c.args.back c.requires.back c.enclosure_of-home.result.record c.procedure_at-procedure.result env pcw c.entered_mark-mark.result c.entered_mark-mark.ensures in
     let good : IsMscw c.entered_mark-mark.result = subst IsMscw (sym is) (Unasked.mark_good cpu r a q c.args.cell f segment level place e.procedure c.args.value c.args.back c.requires.back) in
-    let one : c.activation_of-env.result.level ≡ level_of_frame (frame (here a.member a.task q) f) = ap (λ (z : Activation). z.level) env in
+    let one : c.enclosure_of-home.result.record.level ≡ level_of_frame (frame (here a.member a.task q) f) = ap (λ (z : Activation). z.level) env in
     let low = Unasked.level_low cpu r a q c.args.cell f segment level place e.procedure in
     let room = rooms cpu r a q c.args.cell f segment level place e.procedure in
     let p = c.procedure_at-procedure.result in
-    let stack = c.activation_of-env.result.stack in
-    let disp = c.activation_of-env.result.disp in
-    subst (λ (z : Regs). EntersIn c.set-2.new.self z stack disp) (same_regs cpu.regs r e.slot p) (enters_in cpu.core c.set.new.self c.set-2.new.self (record r { s = r.s + 2; f = r.s + 1; level = p.level; segment = p.segment; place = p.place }) (r.s + 2)
-    c.entered_mark-mark.result c.word.result c.word-2.result c.activation_of-env.result.stack c.activation_of-env.result.disp
+    let stack = c.enclosure_of-home.result.record.stack in
+    let disp = c.enclosure_of-home.result.record.disp in
+    subst (λ (z : Regs). EntersOver c.set-2.new.self z c.enclosure_of-home.result.mark) (same_regs cpu.regs r e.slot p) (stack, disp, enters_in cpu.core c.set.new.self c.set-2.new.self (record r { s = r.s + 2; f = r.s + 1; level = p.level; segment = p.segment; place = p.place }) (r.s + 2)
+    c.entered_mark-mark.result c.word.result c.word-2.result c.enclosure_of-home.result.record.stack c.enclosure_of-home.result.record.disp
     good (omega (arith, room.last, room.under, room.inside, c.if-regs-lt2.false)) (λ z. omega (arith, z)) c.set.ensures.value c.word.ensures c.set-2.ensures.value
     (ap (λ (k : Mscw). k.entered) c.entered_mark-mark.ensures) (ap (λ (k : Mscw). k.env_stack) c.entered_mark-mark.ensures) (ap (λ (k : Mscw). k.env_disp) c.entered_mark-mark.ensures)
-    (omega (arith, one, low, c.if-env-procedure.false)))
+    (omega (arith, one, low, c.if-env-procedure.false)), sym c.enclosure_of-home.ensures.mark)
 
 pub returns : goal.returns
 returns c = record {
   row = λ a q f segment level place e.
-      let env = c.activation_of-env.ensures a q f segment level place e.procedure in
+      let env = c.enclosure_of-home.ensures.home a q f segment level place e.procedure in
       let pcw = c.procedure_at-procedure.ensures (Unasked.pcw c.args.cpu.now c.args.regs a q c.args.cell f segment level place e.procedure) (pcw_fits c.args.cpu.now c.args.regs a q c.args.cell f segment level place e.procedure) (pcw_there c.args.cpu.now c.args.regs a q c.args.cell f segment level place e.procedure) in
-      let mark = Unasked.mark_is c.args.cpu.now c.args.regs a q c.args.cell f segment level place e.procedure c.args.value c.args.back c.requires.back c.activation_of-env.result c.procedure_at-procedure.result env pcw c.entered_mark-mark.result c.entered_mark-mark.ensures in
+      let mark = Unasked.mark_is c.args.cpu.now c.args.regs a q c.args.cell f segment level place e.procedure c.args.value c.args.back c.requires.back c.enclosure_of-home.result.record c.procedure_at-procedure.result env pcw c.entered_mark-mark.result c.entered_mark-mark.ensures in
       let core = Unasked.core_is c.args.cpu.now c.args.regs a q c.args.cell f segment level place e.procedure c.args.value c.args.back c.requires.back c.word.result c.word-2.result c.entered_mark-mark.result c.set.new.self c.set-2.new.self c.set.ensures.value c.word.ensures mark c.set-2.ensures.value c.word-2.ensures in
-      let one : c.activation_of-env.result.level ≡ level_of_frame (frame (here a.member a.task q) f) = ap (λ (z : Activation). z.level) env in
+      let one : c.enclosure_of-home.result.record.level ≡ level_of_frame (frame (here a.member a.task q) f) = ap (λ (z : Activation). z.level) env in
       let two : c.procedure_at-procedure.result.level ≡ level = ap (λ (z : Pcw). z.level) pcw in
       let test : level_of_frame (frame (here a.member a.task q) f) + 1 ≡ level = omega (arith, one, two, c.if-env-procedure.false) in
       let room : c.args.regs.s + 2 ≤ c.args.regs.losr = omega (arith, c.if-regs-lt2.false, (rooms c.args.cpu.now c.args.regs a q c.args.cell f segment level place e.procedure).last) in
