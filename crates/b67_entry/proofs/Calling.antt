@@ -43,6 +43,7 @@ module _ (x : Storage) (old : Cpu) (plan : Placement) (s : Session) (m : Session
 
   pub can_enter : CanEnter old (regs_left x old plan s m t o h runs a) (scene x old plan s m t o h runs a) a.back.place cell f segment level place
   can_enter = record {
+    slot = refl;
     marks = refl;
     clear = λ room u k.
         (let there = (objects-after plan s.jobs m (record m.progress { job = job_at x old plan s m t o h runs a Ready }) a.f.identity m.progress.job.next_array runs.member (running_in_order plan s m t o runs).0.tasks.names refl).back u k in

@@ -1,5 +1,5 @@
 -- What was computed on the registers of the caller, which stand in no register yet.
-use Rattle.std.proofs.Common.{◌≡◌, ℕ, List, Result, sym, true, subst}
+use Rattle.std.proofs.Common.{◌≡◌, ℕ, List, Result, Ok, sym, true, subst}
 use Rattle.b67_word.specs.Tagged.{Tagged}
 use Rattle.b67_word.specs.declared.couples.Place.{Place}
 use Rattle.b67_word.specs.declared.faults.Fault.{Fault}
@@ -13,6 +13,7 @@ use Rattle.b67_refer.specs.declared.ends.End.{End}
 use Rattle.b67_refer.specs.RunningContext.{RunningContext, IsShown}
 use Rattle.b67_refer.specs.Cells.{StandsFor}
 use Rattle.b67_refer.specs.Ends.{IsProcAt, EndMeets}
+use Rattle.b67_refer.specs.Own.{EndsAt}
 use Rattle.b67_entry.specs.Procedures.{CanEnter, EntersOrFaults}
 use Rattle.b67_entry.specs.Left.{Returns, caller_regs, caller_stack}
 use Rattle.b67_entry.specs.Returned.{with_word, ReturnsWord}
@@ -45,6 +46,18 @@ module _ (x : Storage) (old : Cpu) (plan : Placement) (s : Session) (m : Session
       → ((c : RunningContext old.core z) (q : Place) → IsShown c display → (at owner : ℕ) (u : Word) → StandsFor c at owner w u → EndMeets c q found (follow (here c.member c.task q) u))
       → EndMeets (scene x old plan s m t o h runs a) a.back.place found (follow (seen x old plan s m t o h runs a) v) in
       subst P (sym is) (λ all ends. ends (scene x old plan s m t o h runs a) a.back.place (all (scene x old plan s m t o h runs a)) 0 a.next.identity v (stands_for x old plan s m t o h runs a v w b 0)) shown meets
+
+  -- what a look at the word alone asks for
+  pub stands_there : (v : Word) (w : Tagged) → ReturnsWord x plan m t old a v w → (c : RunningContext old.core r) × (at : ℕ) × (owner : ℕ) × (u : Word) × StandsFor c at owner w u
+  stands_there v w b =
+      let P : Regs → Type 0 = λ z. (c : RunningContext old.core z) × (at : ℕ) × (owner : ℕ) × (u : Word) × StandsFor c at owner w u in
+      subst P (sym is) (scene x old plan s m t o h runs a, 0, a.next.identity, v, stands_for x old plan s m t o h runs a v w b 0)
+
+  -- the end at which it came
+  pub end_there : (v : Word) (w : Tagged) → ReturnsWord x plan m t old a v w → (found : End) → EndsAt old.core r w found → EndMeets (scene x old plan s m t o h runs a) a.back.place (Ok found) (follow (seen x old plan s m t o h runs a) v)
+  end_there v w b found ends =
+      let P : Regs → Type 0 = λ z. EndsAt old.core z w found → EndMeets (scene x old plan s m t o h runs a) a.back.place (Ok found) (follow (seen x old plan s m t o h runs a) v) in
+      subst P (sym is) (λ each. each (scene x old plan s m t o h runs a) a.back.place 0 a.next.identity v (stands_for x old plan s m t o h runs a v w b 0)) ends
 
   -- the machine that was made
   pub made_there : (value : Tagged) (display : List ℕ) (new : Cpu) (answer : Answer Done) → new ≡ with_word old r display value → IsMade x plan s m old (with_word old (regs_left x old plan s m t o h runs a) display value) answer → IsMade x plan s m old new answer

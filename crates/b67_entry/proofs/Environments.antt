@@ -1,16 +1,18 @@
 -- The display before an entry or an exit holds the running environment.
-use Rattle.std.proofs.Common.{◌≡◌, ◌≢◌, ℕ, ◌+◌, ◌-◌, ◌<◌, ◌≤◌, List, [], ◌∷◌, Option, refl, sym, ◌∙◌, ap, arith, slice_set, subst}
+use Rattle.std.proofs.Common.{◌≡◌, ◌≢◌, ℕ, ◌+◌, ◌-◌, ◌<◌, ◌≤◌, List, [], ◌∷◌, Option, Some, true, refl, sym, ◌∙◌, ap, arith, length, slice_set, subst}
 use Rattle.std.specs.List.{slice_get}
-use Rattle.b67_core.proofs.Writes.{slice_get-set_other}
+use Rattle.b67_core.proofs.Writes.{slice_get-set_same, slice_get-set_other}
 use Rattle.b67_word.specs.Tagged.{Tagged}
 use Rattle.b67_ctl.specs.declared.registers.Regs.{Regs}
+use Rattle.b67_ctl.specs.declared.marks.Mscw.{Mscw}
+use Rattle.b67_ctl.specs.Layout.{mscw_word, IsMscw}
 use Rattle.b67_model.specs.State as State
 use Rattle.b67_model.specs.Common.{Session, SessionJob, Task, Frame, Return, Standing, top, running, running_from, level_of_frame, level_of_standing}
 use Rattle.b67_stack.specs.declared.Cpu.{Cpu}
 use Rattle.b67_stack.specs.Common.{Activation, Storage}
 use Rattle.b67_layout.specs.Common.{IsInOrderButCounts, Placement, IsRunning, RepresentsSession}
 use Rattle.b67_refer.specs.RunningContext.{RunningContext, IsShown}
-use Rattle.b67_refer.specs.Displays.{HoldsEnvironment}
+use Rattle.b67_refer.specs.Displays.{HoldsEnvironment, EntersIn}
 use Rattle.b67_refer.proofs.Chains.{level, level_is, level_low, address_at}
 use Rattle.b67_refer.proofs.Displays.{shown_holds, holds_on, low_mark, other_level, last_mark}
 use Rattle.b67_refer.proofs.Scenes.{scene}
@@ -26,6 +28,19 @@ pub record SameSlots (r v : Regs) : Type 0 where
 
 pub caller_slots : (cpu : Cpu) (v : Regs) (below : List Activation) (back : Return) → v ≡ caller_regs cpu.regs below back → SameSlots cpu.regs v
 caller_slots cpu v below back e = record { stacks = ap (λ (z : Regs). z.stacks) e; size = ap (λ (z : Regs). z.stack_size) e; dictionary = ap (λ (z : Regs). z.dict) e; last = ap (λ (z : Regs). z.losr) e }
+
+-- the mark of an entered record was written, and then another word
+pub enters_in : (core one two : List Tagged) (r : Regs) (over : ℕ) (m : Mscw) (v w : Tagged) (stack disp : ℕ) → IsMscw m → r.f < length core → r.f ≢ over → one ≡ slice_set core r.f v → v ≡ mscw_word m → two ≡ slice_set one over w
+    → m.entered ≡ true → m.env_stack ≡ stack → m.env_disp ≡ disp → 2 < r.level → EntersIn two r stack disp
+enters_in core one two r over m v w stack disp fits inside ne e1 ev e2 entered slot_is disp_is high = record {
+  mark = m;
+  fits = fits;
+  there = ap (λ (k : List Tagged). slice_get k r.f) e2 ∙ slice_get-set_other one over r.f w ne ∙ ap (λ (k : List Tagged). slice_get k r.f) e1 ∙ slice_get-set_same core r.f v inside ∙ ap Some ev;
+  entered = entered;
+  slot_is = slot_is;
+  disp_is = disp_is;
+  high = high;
+}
 
 -- the running task, with nothing to release
 abbrev pub plain : (x : Storage) (cpu : Cpu) (plan : Placement) (s : Session) (m : SessionJob) (t : Task) → IsInOrderButCounts s → RepresentsSession x cpu plan s → IsRunning plan s.jobs m t → RunningContext cpu.core cpu.regs

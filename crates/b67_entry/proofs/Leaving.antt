@@ -13,7 +13,7 @@ use Rattle.b67_refer.proofs.Scenes.{member_in_order}
 use Rattle.b67_layout_records.proofs.Nowhere.{activations-same}
 use Rattle.b67_layout_records.proofs.Leaves.{Leaver, task_at, may_leave, below-same, Frames-below, runs_after, holds_after, for_running_after}
 use Rattle.b67_layout_records.proofs.LeftOrders.{left_ready}
-use Rattle.b67_entry.specs.Left.{MayReturn, caller_regs, Returns}
+use Rattle.b67_entry.specs.Left.{MayReturn, caller_regs, going_on, Returns}
 use Rattle.b67_entry.proofs.Exits.{exit_left}
 use Rattle.b67_lemmas.proofs.Members.{keyed_has}
 
@@ -133,3 +133,10 @@ module _ (x : Storage) (old : Cpu) (plan : Placement) (s : Session) (m : Session
   exit_done q r display e shown =
       let P : Regs → Type 0 = λ v. ((b : RunningContext old.core v) → IsShown b display) → IsMade x plan s m old (record { core = old.core; regs = v; display = display; critical = old.critical }) (exit (here m t q)) in
       subst P (sym e) (λ show. exit_made q display (show scene_left)) shown
+
+  -- the machine that goes on there
+  pub exit_goes_on : (q : Place) (r : Regs) (display : List ℕ) (new : Cpu) → r ≡ regs_left → ((b : RunningContext old.core r) → IsShown b display) → new ≡ record old { regs = going_on old.regs r; display = display }
+      → IsMade x plan s m old new (exit (here m t q))
+  exit_goes_on q r display new e shown is =
+      let stays : going_on old.regs r ≡ r = ap (going_on old.regs) e ∙ sym e in
+      subst (λ (z : Cpu). IsMade x plan s m old z (exit (here m t q))) (sym (is ∙ ap (λ (v : Regs). record old { regs = v; display = display }) stays)) (exit_done q r display e shown)

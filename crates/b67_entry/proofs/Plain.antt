@@ -23,6 +23,7 @@ module _ (cpu : Cpu) (a : RunningContext cpu.core cpu.regs) where
 module _ (cpu : Cpu) (a : RunningContext cpu.core cpu.regs) (q : Place) (at f segment level : ℕ) (place : Place) (e : ReachesProc cpu a q at f segment level place) where
   pub plain_enters : CanEnter cpu cpu.regs (plain_scene cpu a e.ordered e.stands) q at f segment level place
   plain_enters = record {
+    slot = refl;
     marks = refl;
     clear = λ room. clear_settled a.storage cpu.core cpu.regs (machine_view a.plan a.session.jobs) cpu.regs.slot (stack_of_task a.plan a.member.constants.number a.member.progress.job a.plan.running a.task) e.stands.holds.memory (runs_here a.storage cpu a.plan a.session a.member a.task e.stands a.running) room e.stands.holds.settled;
     procedure = record {

@@ -20,9 +20,15 @@ use Rattle.b67_refer.specs.Ends.{IsProcAt}
 use Rattle.b67_refer.specs.RunningContext.{RunningContext, IsShown}
 use Rattle.b67_refer.specs.declared.activation.Activation.{Activation}
 use Rattle.b67_entry.specs.Procedures.{RecordEntered}
+use Rattle.b67_entry.specs.Left.{going_on}
 use Rattle.b67_entry.proofs.Sites.{site}
 use Rattle.b67_entry.proofs.Accidental as Accidental
 use Rattle.b67_entry.proofs.Segments.{few_segments}
+
+-- the registers that are written are those of the slot
+pub same_regs : (r v : Regs) → going_on r v ≡ v → (p : Pcw)
+    → ◌≡◌ {A = Regs} (record v { s = v.s + 2; f = v.s + 1; level = p.level; segment = p.segment; place = p.place }) (record r { s = v.s + 2; f = v.s + 1; level = p.level; segment = p.segment; place = p.place })
+same_regs r v slot p = sym (ap (λ (z : Regs). let y : Regs = record z { s = v.s + 2; f = v.s + 1; level = p.level; segment = p.segment; place = p.place } in y) slot)
 
 module _ (cpu : Cpu) (r : Regs) (a : RunningContext cpu.core r) (q : Place) (at f segment level : ℕ) (place : Place) (e : IsProcAt a q at f segment level place) where
   abbrev pub pcw : Pcw
@@ -51,6 +57,10 @@ module _ (cpu : Cpu) (r : Regs) (a : RunningContext cpu.core r) (q : Place) (at 
 
   pub level_small : level_of_frame (frame (here a.member a.task q) f) ≤ 31
   level_small = let w = site cpu.core r a q f e.cell.names e.own in omega (arith, w.level, w.high)
+
+  -- it lies in a task's record
+  pub level_low : 2 ≤ level_of_frame (frame (here a.member a.task q) f)
+  level_low = let w = site cpu.core r a q f e.cell.names e.own in omega (arith, w.level, w.low)
 
   on_stack : RunsOn (with_objects a.left (machine_view a.plan a.session.jobs)) a.plan.running (stack_of_task a.plan a.member.constants.number a.member.progress.job a.plan.running a.task)
   on_stack = Accidents.on_stack a.left a.storage cpu.core r a.marks a.plan a.session a.member a.task a.holds a.running level f (record { value = true; segment = segment; place = place }) (record { stack = 0; disp = 0 })

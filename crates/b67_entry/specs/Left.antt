@@ -22,6 +22,10 @@ pub record MayReturn (cpu : Cpu) : Type 0 where
   pub entered : top.head ≡ Entered level environment (Some back)
   pub some : below ≢ []
 
+-- registers that go on at the stack and the place of others, in the same slot
+abbrev pub going_on : Regs → Regs → Regs
+going_on r v = record r { s = v.s; f = v.f; level = v.level; segment = v.segment; place = v.place }
+
 -- the registers on the stack below, where the caller goes on
 abbrev pub caller_regs : Regs → List Activation → Return → Regs
 caller_regs r below back =

@@ -12,11 +12,13 @@ use Rattle.b67_stack.specs.declared.Step.TheVariants as step
 use Rattle.b67_stack.specs.MachineView.{PagedObject}
 use Rattle.b67_stack.specs.Represents.{Storage}
 use Rattle.b67_refer.specs.RunningContext.{RunningContext}
+use Rattle.b67_entry.specs.Left.{going_on}
 use Rattle.b67_refer.specs.Displays.{HoldsEnvironment}
 use Rattle.b67_refer.specs.Ends.{IsProcAt, IsReference}
 
--- a procedure's cell is reached on these registers, and no original stands on the two words over their top
+-- a procedure's cell is reached on these registers, which are of the machine's slot, and no original stands on the two words over their top
 pub record CanEnter (cpu : Cpu) (r : Regs) (a : RunningContext cpu.core r) (q : Place) (at f segment level : ℕ) (place : Place) : Type 0 where
+  pub slot : going_on cpu.regs r ≡ r
   pub marks : cpu.critical ≡ a.marks
   pub clear : r.s + 2 ≤ r.losr → (t : PagedObject) → Has (a.left ++ (machine_view a.plan a.session.jobs).objects) t → (t.home ≢ r.s + 1) × (t.home ≢ r.s + 2)
   pub procedure : IsProcAt a q at f segment level place

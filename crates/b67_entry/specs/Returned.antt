@@ -6,7 +6,7 @@ use Rattle.b67_model.specs.Common.{Word, Task, SessionJob, returnable}
 use Rattle.b67_stack.specs.declared.Cpu.{Cpu}
 use Rattle.b67_stack.specs.Represents.{Storage}
 use Rattle.b67_layout.specs.Placement.{Placement}
-use Rattle.b67_entry.specs.Left.{Returns}
+use Rattle.b67_entry.specs.Left.{Returns, going_on}
 use Rattle.b67_entry.specs.Words.{IsTopWord}
 
 -- the top word and the frame that is left with it
@@ -14,6 +14,6 @@ pub record ReturnsWord (x : Storage) (plan : Placement) (m : SessionJob) (t : Ta
   pub word : IsTopWord x plan m t cpu v w
   pub passes : returnable m.progress.job a.f.identity v ≡ Ok v
 
--- the machine with these registers, this display and a word more on the stack
+-- the machine that goes on at these registers' stack and place, with this display and a word more on the stack
 abbrev pub with_word : Cpu → Regs → List ℕ → Tagged → Cpu
-with_word cpu r display w = record { core = slice_set cpu.core (r.s + 1) w; regs = record r { s = r.s + 1 }; display = display; critical = cpu.critical }
+with_word cpu r display w = record { core = slice_set cpu.core (r.s + 1) w; regs = record (going_on cpu.regs r) { s = r.s + 1 }; display = display; critical = cpu.critical }

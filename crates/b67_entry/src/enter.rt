@@ -15,13 +15,13 @@ ghost use Rattle.b67_stack.specs.declared.Step.TheVariants.{Done};
 ghost use Rattle.b67_layout.specs.Meets.{RunsSome, ForEach, Meets, here};
 ghost use Rattle.b67_exec_cells.specs.Tops.{StaysInSegment};
 ghost use Rattle.b67_refer.specs.RunningContext.{RunningContext, IsShown};
-ghost use Rattle.b67_refer.specs.Displays.{HoldsEnvironment};
+ghost use Rattle.b67_refer.specs.Displays.{HoldsEnvironment, EntersOver};
 ghost use Rattle.b67_entry.specs.Procedures.{ReachesProc, CanEnter, EntersOrFaults, HoldsUnder, CallsWith, CallsOrMeets};
 ghost use Rattle.b67_model.specs.Words.{Word};
 
 use b67_core::Core;
 use b67_ctl::{Mscw, Pcw, Rcw, Regs};
-use b67_refer::{Activation, End, activation_of, chase, rebuild_known};
+use b67_refer::{Activation, End, chase, enclosure_of, rebuild_entered};
 use b67_stack::{Cpu, Step};
 use b67_word::{Fault, Place};
 
@@ -66,19 +66,20 @@ fn entered_mark(regs: &Regs, env: Activation, level: u8, value: bool, back: u16)
     }
 }
 
-/// The task goes on at a procedure's first operator, in the environment of its top activation record. The display holds an
-/// environment up to level `known`.
+/// The task goes on at a procedure's first operator, in the environment of its top activation record, which was entered in
+/// that of the mark at `under`. The display holds an environment up to level `known`.
 #[inline(always)]
-fn begin(cpu: &mut Cpu, procedure: Pcw, known: u8)
+fn begin(cpu: &mut Cpu, procedure: Pcw, under: u32, known: u8)
     requires run { RunningContext cpu.old.core (record cpu.old.regs { level = procedure.level; segment = procedure.segment; place = procedure.place }) }
     requires known { HoldsEnvironment cpu.old.core cpu.old.regs cpu.old.display known }
+    requires top { EntersOver cpu.old.core (record cpu.old.regs { level = procedure.level; segment = procedure.segment; place = procedure.place }) under }
     ensures display { (a : RunningContext cpu.old.core (record cpu.old.regs { level = procedure.level; segment = procedure.segment; place = procedure.place })) → IsShown a cpu.new.display }
     ensures rest { cpu.new ≡ record cpu.old { regs = record cpu.old.regs { level = procedure.level; segment = procedure.segment; place = procedure.place }; display = cpu.new.display } }
 {
     cpu.regs.level = procedure.level;
     cpu.regs.segment = procedure.segment;
     cpu.regs.place = procedure.place;
-    rebuild_known(&cpu.core, &cpu.regs, &mut cpu.display, known);
+    rebuild_entered(&cpu.core, &cpu.regs, &mut cpu.display, known, under);
 }
 
 /// The top activation record, which is marked, enters the procedure of a cell that its first cell refers to: that cell
@@ -95,7 +96,8 @@ fn enter(cpu: &mut Cpu, cell: u32, next: Place) -> Step
         → ReachesProc cpu.old a next cell f segment level place → CallsWith a.task reference arguments
         → Meets a.storage a.plan a.session a.member result cpu.old cpu.new (rows.enters (here a.member a.task next) arguments (AtProc f segment level place)) }
 {
-    let env = activation_of(&cpu.core, &cpu.regs, cell);
+    let home = enclosure_of(&cpu.core, &cpu.regs, cell);
+    let env = home.record;
     let procedure = procedure_at(&cpu.core, cell);
     if env.level + 1 != procedure.level {
         return Step::Fault(Fault::InvalidOperand);
@@ -109,7 +111,7 @@ fn enter(cpu: &mut Cpu, cell: u32, next: Place) -> Step
     };
     cpu.core.set(cpu.regs.f, mark.word());
     cpu.core.set(cpu.regs.f + 1, caller.word());
-    begin(cpu, procedure, cpu.regs.level);
+    begin(cpu, procedure, home.mark, cpu.regs.level);
     Step::Done
 }
 
@@ -160,7 +162,8 @@ pub fn accident_on(
     ensures above { (i : ℕ) → cpu.new.regs.s < i → slice_get cpu.new.core i ≡ slice_get cpu.old.core i }
     ensures top { result ≡ Done → cpu.new.regs.s ≡ regs.s + 2 }
 {
-    let env = activation_of(&cpu.core, &regs, cell);
+    let home = enclosure_of(&cpu.core, &regs, cell);
+    let env = home.record;
     let procedure = procedure_at(&cpu.core, cell);
     if env.level + 1 != procedure.level {
         return Step::Fault(Fault::InvalidOperand);
@@ -177,12 +180,9 @@ pub fn accident_on(
     };
     cpu.core.set(regs.s + 1, mark.word());
     cpu.core.set(regs.s + 2, caller.word());
-    cpu.regs = Regs {
-        s: regs.s + 2,
-        f: regs.s + 1,
-        ..regs
-    };
-    begin(cpu, procedure, known);
+    cpu.regs.s = regs.s + 2;
+    cpu.regs.f = regs.s + 1;
+    begin(cpu, procedure, home.mark, known);
     Step::Done
 }
 

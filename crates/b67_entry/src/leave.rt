@@ -9,7 +9,7 @@ ghost use Rattle.b67_model.specs.Steps.{is_critical as depended_on};
 ghost use Rattle.b67_stack.specs.Stacks.{top_mark as top_mark_of};
 ghost use Rattle.b67_stack.specs.declared.Step.TheVariants.{Done};
 ghost use Rattle.b67_layout.specs.Meets.{RunsSome, ForEach, Meets, here};
-ghost use Rattle.b67_entry.specs.Left.{MayReturn, caller_regs};
+ghost use Rattle.b67_entry.specs.Left.{MayReturn, caller_regs, going_on};
 
 use b67_ctl::{Mscw, Rcw, Regs};
 use b67_refer::rebuild_known;
@@ -43,6 +43,18 @@ pub fn caller(cpu: &Cpu, mark: Mscw) -> Regs
     }
 }
 
+/// The task goes on at the stack and the place of these registers, which are of the same slot: the others stay.
+#[inline(always)]
+pub(crate) fn go_on(cpu: &mut Cpu, regs: Regs)
+    ensures { cpu.new ≡ record cpu.old { regs = going_on cpu.old.regs regs } }
+{
+    cpu.regs.s = regs.s;
+    cpu.regs.f = regs.f;
+    cpu.regs.level = regs.level;
+    cpu.regs.segment = regs.segment;
+    cpu.regs.place = regs.place;
+}
+
 /// EXIT: leaves the running activation record: the stack's top is below its mark, and no word changes. Its arrays are gone,
 /// and are left to release. Faults if the top one is only marked, or if a live task depends on it. `Ended`, with
 /// nothing changed, if it is the task's outermost.
@@ -64,7 +76,8 @@ pub fn exit(cpu: &mut Cpu) -> Step
         return Step::Ended;
     }
     let known = cpu.regs.level;
-    cpu.regs = caller(cpu, mark);
-    rebuild_known(&cpu.core, &cpu.regs, &mut cpu.display, known);
+    let regs = caller(cpu, mark);
+    rebuild_known(&cpu.core, &regs, &mut cpu.display, known);
+    go_on(cpu, regs);
     Step::Done
 }

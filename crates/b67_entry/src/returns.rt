@@ -12,26 +12,26 @@ ghost use Rattle.b67_entry.specs.Left.{Returns, caller_regs, caller_stack, here_
 ghost use Rattle.b67_entry.specs.Returned.{ReturnsWord, with_word};
 
 use crate::enter::accident_on;
-use crate::leave::{caller, is_critical};
+use crate::leave::{caller, go_on, is_critical};
 use crate::refusals::refusal;
 use b67_ctl::Regs;
 use b67_exec_cells::element;
-use b67_refer::{End, chase, rebuild_known};
+use b67_refer::{End, chase, rebuild_known, stuffed_operand};
 use b67_stack::{Cpu, Step, What};
 use b67_word::{Fault, Word};
 
-/// Goes on with these registers and this display, and a word more on the stack.
+/// Goes on at the stack and the place of these registers, with this display, and a word more on the stack.
 #[inline(always)]
 fn put(cpu: &mut Cpu, regs: Regs, display: [u32; 32], word: Word)
     requires { regs.s + 1 < length cpu.old.core }
     ensures { cpu.new ≡ with_word cpu.old regs display word }
 {
-    cpu.regs = regs;
+    go_on(cpu, regs);
     cpu.display = display;
     cpu.put(word);
 }
 
-/// Goes on with these registers, whose environment the display then shows, and a word more on the stack.
+/// Goes on at the stack and the place of these registers, whose environment the display then shows, and a word more on the stack.
 #[inline(always)]
 fn settle(cpu: &mut Cpu, regs: Regs, value: Word)
     requires run { RunningContext cpu.old.core regs }
@@ -41,8 +41,8 @@ fn settle(cpu: &mut Cpu, regs: Regs, value: Word)
     ensures rest { cpu.new ≡ with_word cpu.old regs cpu.new.display value }
 {
     let known = cpu.regs.level;
-    cpu.regs = regs;
-    rebuild_known(&cpu.core, &cpu.regs, &mut cpu.display, known);
+    rebuild_known(&cpu.core, &regs, &mut cpu.display, known);
+    go_on(cpu, regs);
     cpu.put(value);
 }
 
@@ -79,6 +79,48 @@ fn evaluate(cpu: &mut Cpu, regs: Regs, display: [u32; 32], word: Word) -> Step
     }
 }
 
+/// As `evaluate`, behind a call, with the caller's display made first.
+#[inline(never)]
+fn evaluate_apart(cpu: &mut Cpu, regs: Regs, word: Word) -> Step
+    requires run { (r : RunsSome cpu.old) × (a : Returns r.member r.task) × (v : Words.Word) × ReturnsWord r.storage r.plan r.member r.task cpu.old a v word
+        × (regs ≡ caller_regs cpu.old.regs (caller_stack r.plan r.member r.task a) a.back) }
+    requires left { RunningContext cpu.old.core regs }
+    requires known { HoldsEnvironment cpu.old.core regs cpu.old.display cpu.old.regs.level }
+    requires tag { word.tag ≢ 0 }
+    ensures row { ForEach cpu.old (λ x plan s m t. (a : Returns m t) (v : Words.Word) → ReturnsWord x plan m t cpu.old a v word
+        → regs ≡ caller_regs cpu.old.regs (caller_stack plan m t a) a.back
+        → Meets x plan s m result cpu.old cpu.new (rows.returned (here_left m t a) v true)) }
+    ensures above { (i : ℕ) → cpu.new.regs.s < i → slice_get cpu.new.core i ≡ slice_get cpu.old.core i }
+    ensures top { result ≡ Done → (regs.s < cpu.new.regs.s) × (cpu.new.regs.s ≤ regs.s + 2) }
+{
+    let mut display = cpu.display;
+    rebuild_known(&cpu.core, &regs, &mut display, cpu.regs.level);
+    evaluate(cpu, regs, display, word)
+}
+
+/// As `evaluate`. A stuffed reference to an operand, as most words are, needs no display first.
+#[inline(always)]
+fn value_of(cpu: &mut Cpu, regs: Regs, word: Word) -> Step
+    requires run { (r : RunsSome cpu.old) × (a : Returns r.member r.task) × (v : Words.Word) × ReturnsWord r.storage r.plan r.member r.task cpu.old a v word
+        × (regs ≡ caller_regs cpu.old.regs (caller_stack r.plan r.member r.task a) a.back) }
+    requires left { RunningContext cpu.old.core regs }
+    requires known { HoldsEnvironment cpu.old.core regs cpu.old.display cpu.old.regs.level }
+    requires tag { word.tag ≢ 0 }
+    ensures row { ForEach cpu.old (λ x plan s m t. (a : Returns m t) (v : Words.Word) → ReturnsWord x plan m t cpu.old a v word
+        → regs ≡ caller_regs cpu.old.regs (caller_stack plan m t a) a.back
+        → Meets x plan s m result cpu.old cpu.new (rows.returned (here_left m t a) v true)) }
+    ensures above { (i : ℕ) → cpu.new.regs.s < i → slice_get cpu.new.core i ≡ slice_get cpu.old.core i }
+    ensures top { result ≡ Done → (regs.s < cpu.new.regs.s) × (cpu.new.regs.s ≤ regs.s + 2) }
+{
+    let at = stuffed_operand(&cpu.core, &regs, word);
+    if at == 0 {
+        return evaluate_apart(cpu, regs, word);
+    }
+    let value = cpu.core.get(at);
+    settle(cpu, regs, value);
+    Step::Done
+}
+
 /// RETN: leaves the running activation record with the word at the top of the stack, which goes on the caller's record,
 /// and which is evaluated first where the caller wants a value. One word is then on the caller's record, or the two of a
 /// procedure that was entered, and no word above these changes. The record's arrays are gone, and are left to release.
@@ -112,9 +154,7 @@ pub fn retn(cpu: &mut Cpu) -> Step
     }
     let regs = caller(cpu, mark);
     if mark.value && word.tag() != 0 {
-        let mut display = cpu.display;
-        rebuild_known(&cpu.core, &regs, &mut display, cpu.regs.level);
-        return evaluate(cpu, regs, display, word);
+        return value_of(cpu, regs, word);
     }
     settle(cpu, regs, word);
     Step::Done

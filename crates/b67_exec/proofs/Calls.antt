@@ -1,5 +1,5 @@
 -- LOAD and the stores, where a procedure at the end of a reference is still to be entered.
-use Rattle.std.proofs.Common.{◌≡◌, ◌≢◌, ℕ, Bool, true, sym, subst}
+use Rattle.std.proofs.Common.{◌≡◌, ◌≢◌, ℕ, Bool, true, Ok, sym, subst}
 use Rattle.b67_word.specs.declared.couples.Place.{Place}
 use Rattle.b67_model.specs.Common.{Answer, Done, Task, SessionJob, cells_of}
 use Rattle.b67_model.specs.Rows as rows
@@ -9,7 +9,12 @@ use Rattle.b67_stack.specs.declared.Step.TheVariants as step
 use Rattle.b67_layout.specs.Common.{RepresentsSession, RunsSome, ForEach, here, Meets}
 use Rattle.b67_fetch.specs.Fetches.{enters_at, top_end, EntersOrMeets}
 use Rattle.b67_fetch.specs.Stores.{store_end}
-use Rattle.b67_exec.specs.Procedures.{EntersTop}
+use Rattle.b67_word.specs.Tagged.{Tagged}
+use Rattle.b67_model.specs.Chase as Chase
+use Rattle.b67_refer.specs.declared.ends.End.TheVariants as end
+use Rattle.b67_refer.specs.Own.{LeadsTo}
+use Rattle.b67_refer.specs.Ends.{EndMeets}
+use Rattle.b67_exec.specs.Procedures.{EntersTop, IsCellFrom}
 use Rattle.b67_exec.specs.Stores.{StoresInProc}
 use Rattle.b67_exec.proofs.Entered.{met_by, called_by}
 
@@ -66,3 +71,9 @@ store_row keeps next m t = rows.store keeps (here m t next) (cells_of (here m t 
 
 pub store_due : (old mid : Cpu) (next : Place) (keeps : Bool) (n : ℕ) → Fetched old mid (store_enters next) (store_row keeps next) (step.Call n) → RunsSome old → StoresInProc mid
 store_due old mid next keeps n each q = record { runs = same_run old mid (store_enters next) (store_row keeps next) n each q; place = next; enters = is_due old mid (store_enters next) (store_row keeps next) n each q }
+
+-- where a word was followed to a procedure
+pub cell_from : (cpu : Cpu) (w : Tagged) (cell : ℕ) → LeadsTo cpu.core cpu.regs cpu.display w (end.Proc cell) → IsCellFrom cpu w cell
+cell_from cpu w cell leads a q f segment level place l =
+    let P : Answer Chase.End → Type 0 = λ z. EndMeets a q (Ok (end.Proc cell)) z in
+    subst P l.ends (leads a q l.shown l.at l.owner l.word l.stands)

@@ -6,6 +6,7 @@ use Rattle.std.proofs.lemmas.Bool.{cases_eq}
 use Rattle.std.proofs.lemmas.Bool.Decides.{eqb_tells}
 use Rattle.b67_word.specs.Tagged.{Tagged}
 use Rattle.b67_word.specs.declared.couples.Place.{Place}
+use Rattle.b67_ctl.specs.declared.registers.Regs.{Regs}
 use Rattle.b67_word.specs.declared.faults.Fault.TheVariants.{InvalidOperand, StackOverflow}
 use Rattle.b67_model.specs.Common.{Answer, ◌>>◌, needs, AtProc, accident, back_to, level_of_frame, NamesEntered, number_of, Session, Frame, Entered, Array, Task, Job, JobProgress, SessionJob, top, with_top_cells, with_task, height, frame, Done, Goes, cells_of, Word, Proc}
 use Rattle.b67_layout.specs.Common.{IsInOrderButCounts, Placement, address_of, machine_view, stack_of_task, IsRunning, SessionHoldsBut, RepresentsSession, RepresentsSessionBut, here, with_job, IsMade}
@@ -23,6 +24,7 @@ use Rattle.b67_refer.specs.Ends.{IsProcAt}
 use Rattle.b67_refer.proofs.Scenes.{scene}
 use Rattle.b67_stack.proofs.ClearHeads.{clear_settled}
 use Rattle.b67_entry.specs.Procedures.{CanEnter, RecordEntered, EntersOrFaults}
+use Rattle.b67_entry.specs.Left.{going_on}
 use Rattle.b67_exec.proofs.Looks.{spots-same, reach-same, level-same, cell-same}
 
 cells-back : (fs : List Frame) (cs : List Word) → with_top_cells (with_top_cells fs cs) (top (with_top_cells fs cs)).cells ≡ with_top_cells fs cs
@@ -92,8 +94,9 @@ module _ (x : Storage) (old : Cpu) (plan : Placement) (s : Session) (m : Session
         };
       }
 
-  pub can_enter : (q : Place) (at f segment level : ℕ) (place : Place) → IsProcAt scene0 q at f segment level place → CanEnter cpu0 (record old.regs { s = level0 }) scene0 q at f segment level place
-  can_enter q at f segment level place i = record {
+  pub can_enter : cpu0.regs ≡ old.regs → (q : Place) (at f segment level : ℕ) (place : Place) → IsProcAt scene0 q at f segment level place → CanEnter cpu0 (record old.regs { s = level0 }) scene0 q at f segment level place
+  can_enter same q at f segment level place i = record {
+    slot = ap (λ (z : Regs). going_on z (record old.regs { s = level0 })) same;
     marks = critical;
     clear = λ fits. clear_settled x cpu0.core (record old.regs { s = level0 }) (machine_view plan session0.jobs) plan.running (stack_of_task plan m.constants.number (with_task m.progress.job (task_with t cs t.place)) plan.running task0) holds0.memory
         (runs_on plan session0.jobs member0 task0 holds0.fits.rows (keyed_has number_of m.constants.number session0.jobs member0 runs0.member).0 (keyed_has (λ (u : Task). u.number) t.number (with_task m.progress.job (task_with t cs t.place)).tasks task0 runs0.task).0 runs0.slot runs0.member runs0.task)

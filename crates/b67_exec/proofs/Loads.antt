@@ -112,7 +112,7 @@ module _ (x : Storage) (cpu : Cpu) (plan : Placement) (s : Session) (m : Session
     pub enters_without : (cell : ℕ) → IsProcAt (here_scene x cpu plan s m t ordered h runs) q cell at_end.frame at_end.segment at_end.level at_end.place
         → CanEnter cpu (record cpu.regs { s = cpu.regs.s - 1 }) scene_without q cell at_end.frame at_end.segment at_end.level at_end.place
     enters_without cell i =
-        can_enter x cpu plan s m t ordered h runs top_is.rest ordered_without cpu (cpu.regs.s - 1) refl holds_without q cell at_end.frame at_end.segment at_end.level at_end.place
+        can_enter x cpu plan s m t ordered h runs top_is.rest ordered_without cpu (cpu.regs.s - 1) refl holds_without refl q cell at_end.frame at_end.segment at_end.level at_end.place
         (proc_moves x cpu plan s m t ordered h runs top_is.rest ordered_without cpu (cpu.regs.s - 1) refl holds_without q (top_is.word ∷ []) top_is.rest [] cell at_end.frame at_end.segment at_end.level at_end.place top_is.is refl
         (λ g l p k. ⊎_elim (λ (e : top_is.word ≡ Proc g l p). not_proc m t q top_is.word (AtProc at_end.frame at_end.segment at_end.level at_end.place) g l p at_end.is e) (λ z. z) k)
         (λ i v e tag. e) i)

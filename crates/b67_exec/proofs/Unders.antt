@@ -124,7 +124,7 @@ module _ (x : Storage) (cpu : Cpu) (plan : Placement) (s : Session) (m : Session
 
   pub under_enters : (cell : ℕ) → IsProcAt (here_scene x cpu plan s m t ordered h runs) q cell p.frame p.segment p.level p.place → CanEnter under_cpu (record cpu.regs { s = cpu.regs.s - 1 }) under_scene q cell p.frame p.segment p.level p.place
   under_enters cell i =
-      can_enter x cpu plan s m t ordered h runs (Operand bits ∷ rest) under_ordered under_cpu (cpu.regs.s - 1) refl under_holds q cell p.frame p.segment p.level p.place
+      can_enter x cpu plan s m t ordered h runs (Operand bits ∷ rest) under_ordered under_cpu (cpu.regs.s - 1) refl under_holds refl q cell p.frame p.segment p.level p.place
       (proc_moves x cpu plan s m t ordered h runs (Operand bits ∷ rest) under_ordered under_cpu (cpu.regs.s - 1) refl under_holds q (Operand bits ∷ a ∷ []) rest (Operand bits ∷ []) cell p.frame p.segment p.level p.place e refl
       (λ g l z k. no_proc (here m t q) bits a p.frame p.segment p.level p.place p.is g l z k)
       (λ k w there tag. ⊎_elim

@@ -8,6 +8,7 @@ use Rattle.b67_layout.specs.Common.{here, RunsSome, cells}
 use Rattle.b67_fetch.specs.Fetches.{enters_at, top_end}
 use Rattle.b67_refer.specs.RunningContext.{RunningContext, IsShown}
 use Rattle.b67_refer.specs.Cells.{StandsFor}
+use Rattle.b67_refer.specs.Ends.{IsProcAt}
 
 -- the running task, seen on these registers, follows a word to a procedure
 pub record LeadsToProcedure (cpu : Cpu) (a : RunningContext cpu.core cpu.regs) (q : Place) (w : Tagged) (f segment level : ℕ) (place : Place) : Type 0 where
@@ -17,6 +18,10 @@ pub record LeadsToProcedure (cpu : Cpu) (a : RunningContext cpu.core cpu.regs) (
   pub word : Word
   pub stands : StandsFor a at owner w word
   pub ends : follow (here a.member a.task q) word ≡ Ok (AtProc f segment level place)
+
+-- where a word leads to a procedure, this is the procedure's cell
+abbrev pub IsCellFrom : (cpu : Cpu) (w : Tagged) (cell : ℕ) → Type 0
+IsCellFrom cpu w cell = (a : RunningContext cpu.core cpu.regs) (q : Place) (f segment level : ℕ) (place : Place) → LeadsToProcedure cpu a q w f segment level place → IsProcAt a q cell f segment level place
 
 -- a running task's top cell leads to a procedure
 pub record EntersTop (cpu : Cpu) : Type 0 where

@@ -7,24 +7,26 @@ ghost use Rattle.b67_model.specs.Steps.{cells_of};
 ghost use Rattle.b67_layout.specs.Meets.{here, Meets, RunsSome, ForEach};
 ghost use Rattle.b67_layout.specs.Tops.{cells};
 ghost use Rattle.b67_fetch.specs.Fetches.{enters_at};
-ghost use Rattle.b67_fetch.specs.Stores.{store_end};
+ghost use Rattle.b67_fetch.specs.Stores.{store_end, StoresInto};
 ghost use Rattle.b67_refer.specs.Ends.{IsProcAt};
+ghost use Rattle.b67_exec.specs.Procedures.{IsCellFrom};
 ghost use Rattle.b67_exec.specs.Stores.{ValueOver, StoresInProc};
 
-use crate::evaluating::{enter_in_place, evaluate, load, procedure_cell};
+use crate::evaluating::enter_over;
 use b67_ctl::Regs;
 use b67_entry::accident_on;
 use b67_exec_cells::two_cells;
+use b67_fetch::{Stored, store};
 use b67_stack::{Cpu, Step};
 use b67_word::{Place, Word};
 
-/// Enters the procedure to which the second cell from the top leads, where the value on top takes that cell's place.
+/// Enters the procedure of a cell, to which the second cell from the top leads, where the value on top takes that cell's place.
 #[inline(always)]
-fn enter_under(cpu: &mut Cpu, lower: Word, upper: Word) -> Step
-    requires { (a : RunsSome cpu.old) × (q : Place) × ValueOver cpu.old a.storage a.plan a.member a.task q lower upper }
+fn enter_under(cpu: &mut Cpu, lower: Word, upper: Word, cell: u32) -> Step
+    requires over { (a : RunsSome cpu.old) × (q : Place) × ValueOver cpu.old a.storage a.plan a.member a.task q lower upper }
+    requires cell { IsCellFrom cpu.old lower cell }
     ensures row { ForEach cpu.old (λ x plan s m t. (q : Place) (keeps : Bool) → ValueOver cpu.old x plan m t q lower upper → Meets x plan s m result cpu.old cpu.new (rows.store keeps (here m t q) (cells t))) }
 {
-    let cell = procedure_cell(cpu, lower);
     cpu.core.set(cpu.regs.s - 1, upper);
     let without = Regs {
         s: cpu.regs.s - 1,
@@ -39,10 +41,11 @@ fn enter_under(cpu: &mut Cpu, lower: Word, upper: Word) -> Step
     }
 }
 
-/// Enters the procedure to which one of the two top cells leads; the other one, a value, stays.
+/// Enters the procedure of a cell, to which one of the two top cells leads; the other one, a value, stays.
 #[inline(always)]
-pub(crate) fn enter(cpu: &mut Cpu) -> Step
-    requires { StoresInProc cpu.old }
+pub(crate) fn enter(cpu: &mut Cpu, cell: u32) -> Step
+    requires due { StoresInProc cpu.old }
+    requires cell { StoresInto cpu.old cell }
     ensures row { ForEach cpu.old (λ x plan s m t. (q : Place) (keeps : Bool) → enters_at (store_end (here m t q) (cells t)) ≡ true → Meets x plan s m result cpu.old cpu.new (rows.store keeps (here m t q) (cells t))) }
 {
     let (lower, upper) = match two_cells(cpu) {
@@ -50,9 +53,9 @@ pub(crate) fn enter(cpu: &mut Cpu) -> Step
         Err(_) => unreachable!(),
     };
     if upper.tag() == 0 {
-        enter_under(cpu, lower, upper)
+        enter_under(cpu, lower, upper, cell)
     } else {
-        enter_in_place(cpu)
+        enter_over(cpu, cell)
     }
 }
 
@@ -66,9 +69,9 @@ pub fn stod(cpu: &mut Cpu, next: Place) -> Step
     requires { RunsSome cpu.old }
     ensures row { ForEach cpu.old (λ x plan s m t. let h = here m t next in Meets x plan s m result cpu.old cpu.new (rows.store false h (cells_of h))) }
 {
-    match b67_fetch::stod(cpu, next) {
-        Step::Call(_) => enter(cpu),
-        step => step,
+    match store(cpu, false, next) {
+        Stored::Made(step) => step,
+        Stored::Procedure(cell) => enter(cpu, cell),
     }
 }
 
@@ -78,8 +81,8 @@ pub fn ston(cpu: &mut Cpu, next: Place) -> Step
     requires { RunsSome cpu.old }
     ensures row { ForEach cpu.old (λ x plan s m t. let h = here m t next in Meets x plan s m result cpu.old cpu.new (rows.store true h (cells_of h))) }
 {
-    match b67_fetch::ston(cpu, next) {
-        Step::Call(_) => enter(cpu),
-        step => step,
+    match store(cpu, true, next) {
+        Stored::Made(step) => step,
+        Stored::Procedure(cell) => enter(cpu, cell),
     }
 }

@@ -1,6 +1,7 @@
 //! Operators that read through references, where a procedure at the end of one is entered.
 
-ghost use Rattle.std.specs.Prelude.{◌≡◌, ℕ, true, ◌^◌, ◌<◌};
+ghost use Rattle.std.specs.Prelude.{◌≡◌, ℕ, true, ◌^◌, ◌<◌, Some, slice_get};
+ghost use Rattle.b67_word.specs.Tagged.{Tagged};
 ghost use Rattle.b67_ctl.specs.Layout.{IsPlace};
 ghost use Rattle.b67_word.specs.declared.couples.Place.{Place};
 ghost use Rattle.b67_model.specs.Rows as rows;
@@ -10,7 +11,7 @@ ghost use Rattle.b67_refer.specs.RunningContext.{RunningContext};
 ghost use Rattle.b67_refer.specs.Ends.{IsProcAt};
 ghost use Rattle.b67_layout.specs.Tops.{cells};
 ghost use Rattle.b67_fetch.specs.Fetches.{enters_at, top_end};
-ghost use Rattle.b67_exec.specs.Procedures.{LeadsToProcedure, EntersTop};
+ghost use Rattle.b67_exec.specs.Procedures.{LeadsToProcedure, EntersTop, IsCellFrom};
 
 use b67_ctl::{Irw, Regs};
 use b67_entry::{accident, accident_on};
@@ -54,6 +55,20 @@ pub fn evaluate(cpu: &mut Cpu, couple: u16, next: Place) -> Step
     }
 }
 
+/// Enters the procedure of a cell, to which the top cell leads, in the top cell's place. It returns to the running operator.
+#[inline(always)]
+pub(crate) fn enter_over(cpu: &mut Cpu, cell: u32) -> Step
+    requires top { EntersTop cpu.old }
+    requires cell { (w : Tagged) × (slice_get cpu.old.core cpu.old.regs.s ≡ Some w) × IsCellFrom cpu.old w cell }
+    ensures row { ForEach cpu.old (λ x plan s m t. (q : Place) → enters_at (top_end (here m t q) (cells t)) ≡ true → Meets x plan s m result cpu.old cpu.new (rows.load (here m t q) (cells t))) }
+{
+    let without = Regs {
+        s: cpu.regs.s - 1,
+        ..cpu.regs
+    };
+    accident_on(cpu, without, cpu.regs.level, cell, false, cpu.regs.place)
+}
+
 /// Enters the procedure to which the top cell leads, in that cell's place. It returns to the running operator. INVALID
 /// OPERAND if its level doesn't fit, STACK OVERFLOW.
 #[inline(always)]
@@ -62,11 +77,7 @@ pub fn enter_in_place(cpu: &mut Cpu) -> Step
     ensures row { ForEach cpu.old (λ x plan s m t. (q : Place) → enters_at (top_end (here m t q) (cells t)) ≡ true → Meets x plan s m result cpu.old cpu.new (rows.load (here m t q) (cells t))) }
 {
     let cell = procedure_cell(cpu, cpu.core.get(cpu.regs.s));
-    let without = Regs {
-        s: cpu.regs.s - 1,
-        ..cpu.regs
-    };
-    accident_on(cpu, without, cpu.regs.level, cell, false, cpu.regs.place)
+    enter_over(cpu, cell)
 }
 
 /// Puts the value or the row copy to which the top cell leads in its place, and goes on at `next`; a procedure there is

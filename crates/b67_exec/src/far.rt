@@ -15,7 +15,7 @@ use crate::operators::on_top;
 use crate::own::{indexes_own, takes_own};
 use b67_ctl::Irw;
 use b67_entry::{accident, entr, exit, retn};
-use b67_fetch::{indx, nxlv, stff, value};
+use b67_fetch::{Stored, indx, nxlv, stff, store, value};
 use b67_model::Code;
 use b67_refer::{End, chase};
 use b67_stack::{Cpu, Step};
@@ -163,9 +163,9 @@ pub(crate) fn makes_stod(cpu: &mut Cpu, next: Place) -> Went
     requires { RunsSome cpu.old }
     ensures { MadeWent (Plain codes.Stod) next cpu.old result cpu.new }
 {
-    match b67_fetch::stod(cpu, next) {
-        Step::Call(_) => entered(enter(cpu)),
-        step => stayed(step),
+    match store(cpu, false, next) {
+        Stored::Made(step) => stayed(step),
+        Stored::Procedure(cell) => entered(enter(cpu, cell)),
     }
 }
 
@@ -175,9 +175,9 @@ pub(crate) fn makes_ston(cpu: &mut Cpu, next: Place) -> Went
     requires { RunsSome cpu.old }
     ensures { MadeWent (Plain codes.Ston) next cpu.old result cpu.new }
 {
-    match b67_fetch::ston(cpu, next) {
-        Step::Call(_) => entered(enter(cpu)),
-        step => stayed(step),
+    match store(cpu, true, next) {
+        Stored::Made(step) => stayed(step),
+        Stored::Procedure(cell) => entered(enter(cpu, cell)),
     }
 }
 

@@ -11,3 +11,4 @@ pub mod Words
 pub mod Stores
 pub mod StoreContext
 pub mod Owns
+pub mod Chosen

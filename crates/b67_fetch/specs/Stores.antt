@@ -1,10 +1,11 @@
 -- Stores through references.
-use Rattle.std.specs.Prelude.{◌≡◌, ◌≢◌, ℕ, ◌+◌, ◌-◌, Bool, true, false, List, [], ◌∷◌, Some, None, Result, Ok, Err, slice_set}
+use Rattle.std.specs.Prelude.{◌≡◌, ◌≢◌, ℕ, ◌+◌, ◌-◌, Bool, true, false, List, [], ◌∷◌, Some, None, Result, Ok, Err, slice_set, slice_get}
 use Rattle.b67_word.specs.Tagged.{Tagged}
 use Rattle.b67_word.specs.declared.couples.Place.{Place}
 use Rattle.b67_word.specs.declared.faults.Fault.TheVariants.{StackUnderflow, MemoryProtect}
 use Rattle.b67_model.specs.Common.{Answer, ◌>>=◌, array, in_order, End, follow, Word, operand, SessionJob, OperatorContext}
 use Rattle.b67_stack.specs.declared.Cpu.{Cpu}
+use Rattle.b67_stack.specs.declared.TheConstants.{PROCEDURE}
 use Rattle.b67_stack.specs.declared.Step.{Step}
 use Rattle.b67_stack.specs.declared.Step.TheVariants as step
 use Rattle.b67_stack.specs.declared.What.TheVariants as what
@@ -15,6 +16,8 @@ use Rattle.b67_refer.specs.declared.ends.End.{End as EndAt}
 use Rattle.b67_refer.specs.declared.ends.End.TheVariants as end
 use Rattle.b67_refer.specs.Own.{LeadsTo}
 use Rattle.b67_exec_cells.specs.Elements.{HasElement}
+use Rattle.b67_fetch.specs.declared.storing.Stored.{Stored}
+use Rattle.b67_fetch.specs.declared.storing.Stored.TheVariants as came
 
 -- where a number among these cells is to be stored: where the other of the top two leads
 abbrev pub store_end : OperatorContext → List Word → Answer End
@@ -52,3 +55,18 @@ pub record StoresThrough (cpu : Cpu) (w : Tagged) (at : ℕ) : Type 0 where
   pub end : EndAt
   pub leads : LeadsTo cpu.core cpu.regs cpu.display w end
   pub there : StoresTo cpu end at
+
+-- the step of a store
+abbrev pub store_step : Stored → Step
+store_step (came.Made made) = made
+store_step (came.Procedure cell) = step.Call PROCEDURE
+
+-- of the two top words the upper one, or the lower one under an operand, leads to the procedure of a cell
+abbrev pub StoresInto : Cpu → (cell : ℕ) → Type 0
+StoresInto cpu cell = (u v : Tagged) → slice_get cpu.core (cpu.regs.s - 1) ≡ Some u → slice_get cpu.core cpu.regs.s ≡ Some v
+    → (v.tag ≡ 0 → LeadsTo cpu.core cpu.regs cpu.display u (end.Proc cell)) × (v.tag ≢ 0 → LeadsTo cpu.core cpu.regs cpu.display v (end.Proc cell))
+
+-- a store comes to a procedure's cell if the reference leads there; else it calls nothing
+abbrev pub CameTo : Cpu → Stored → Type 0
+CameTo cpu (came.Made made) = (n : ℕ) → made ≢ step.Call n
+CameTo cpu (came.Procedure cell) = StoresInto cpu cell

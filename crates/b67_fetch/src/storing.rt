@@ -10,12 +10,30 @@ ghost use Rattle.b67_layout.specs.Meets.{here, RunsSome, ForEach};
 ghost use Rattle.b67_exec_cells.specs.Elements.{HasElement, HoldsElement};
 ghost use Rattle.b67_exec_cells.specs.Tops.{StaysInSegment};
 ghost use Rattle.b67_fetch.specs.Fetches.{enters_at, EntersOrMeets};
-ghost use Rattle.b67_fetch.specs.Stores.{store_end, ElementAt, stored};
+ghost use Rattle.b67_fetch.specs.Stores.{store_end, ElementAt, stored, store_step, CameTo};
 
 use b67_exec_cells::{array_descriptor, two_cells};
 use b67_refer::{End, chase};
 use b67_stack::{Cpu, PROCEDURE, Step, What};
 use b67_word::{Fault, Place, Word};
+
+/// What a store came to: the step, or the cell of the procedure to which the reference leads, with nothing changed.
+#[derive(Clone, Copy, Debug)]
+pub enum Stored {
+    Made(Step),
+    Procedure(u32),
+}
+
+/// The step that a store is, where a procedure is still to be entered.
+#[inline(always)]
+fn step_of(stored: Stored) -> Step
+    ensures { result ≡ store_step stored }
+{
+    match stored {
+        Stored::Made(step) => step,
+        Stored::Procedure(_) => Step::Call(PROCEDURE),
+    }
+}
 
 /// The core address of an element that is to be stored into. Else what the operator answers: MEMORY PROTECT if the
 /// array is read-only, then that it is absent.
@@ -55,14 +73,15 @@ pub(crate) fn put(cpu: &mut Cpu, at: u32, w: Word, keeps: bool, next: Place)
 /// Stores the operand of the two top cells where the other one leads, and takes both off, or only the reference if
 /// the operand is kept.
 #[inline(always)]
-fn store(cpu: &mut Cpu, keeps: bool, next: Place) -> Step
+pub fn store(cpu: &mut Cpu, keeps: bool, next: Place) -> Stored
     requires { RunsSome cpu.old }
-    ensures row { ForEach cpu.old (λ x plan s m t. let h = here m t next in EntersOrMeets x plan s m result cpu.old cpu.new (enters_at (store_end h (cells_of h))) (rows.store keeps h (cells_of h))) }
-    ensures stays { result ≡ Done → StaysInSegment cpu.old cpu.new next }
+    ensures row { ForEach cpu.old (λ x plan s m t. let h = here m t next in EntersOrMeets x plan s m (store_step result) cpu.old cpu.new (enters_at (store_end h (cells_of h))) (rows.store keeps h (cells_of h))) }
+    ensures stays { store_step result ≡ Done → StaysInSegment cpu.old cpu.new next }
+    ensures comes { CameTo cpu.new result }
 {
     let (lower, upper) = match two_cells(cpu) {
         Ok(two) => two,
-        Err(fault) => return Step::Fault(fault),
+        Err(fault) => return Stored::Made(Step::Fault(fault)),
     };
     let (reference, value) = if upper.tag() == 0 {
         (lower, upper)
@@ -70,23 +89,25 @@ fn store(cpu: &mut Cpu, keeps: bool, next: Place) -> Step
         (upper, lower)
     };
     if value.tag() != 0 {
-        return Step::Fault(Fault::InvalidOperand);
+        return Stored::Made(Step::Fault(Fault::InvalidOperand));
     }
     let end = match chase(&cpu.core, &cpu.regs, &cpu.display, reference) {
         Ok(end) => end,
-        Err(fault) => return Step::Fault(fault),
+        Err(fault) => return Stored::Made(Step::Fault(fault)),
     };
     let at = match end {
         End::Cell(at) => at,
         End::Element { original, index } => match element_address(cpu, original, index) {
             Ok(at) => at,
-            Err(step) => return step,
+            Err(step) => return Stored::Made(step),
         },
-        End::Array(_) | End::Intrinsic(_) => return Step::Fault(Fault::MemoryProtect),
-        End::Proc(_) => return Step::Call(PROCEDURE),
+        End::Array(_) | End::Intrinsic(_) => {
+            return Stored::Made(Step::Fault(Fault::MemoryProtect));
+        }
+        End::Proc(cell) => return Stored::Procedure(cell),
     };
     put(cpu, at, value, keeps, next);
-    Step::Done
+    Stored::Made(Step::Done)
 }
 
 /// Stores the operand of the two top cells where the other one leads, takes both off, and goes on at `next`. STACK
@@ -98,7 +119,8 @@ pub fn stod(cpu: &mut Cpu, next: Place) -> Step
     ensures row { ForEach cpu.old (λ x plan s m t. let h = here m t next in EntersOrMeets x plan s m result cpu.old cpu.new (enters_at (store_end h (cells_of h))) (rows.store false h (cells_of h))) }
     ensures stays { result ≡ Done → StaysInSegment cpu.old cpu.new next }
 {
-    store(cpu, false, next)
+    let stored = store(cpu, false, next);
+    step_of(stored)
 }
 
 /// Stores as STOD does, but the operand stays on the stack.
@@ -108,5 +130,6 @@ pub fn ston(cpu: &mut Cpu, next: Place) -> Step
     ensures row { ForEach cpu.old (λ x plan s m t. let h = here m t next in EntersOrMeets x plan s m result cpu.old cpu.new (enters_at (store_end h (cells_of h))) (rows.store true h (cells_of h))) }
     ensures stays { result ≡ Done → StaysInSegment cpu.old cpu.new next }
 {
-    store(cpu, true, next)
+    let stored = store(cpu, true, next);
+    step_of(stored)
 }

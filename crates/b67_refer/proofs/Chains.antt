@@ -17,6 +17,7 @@ use Rattle.b67_stack.proofs.Tops.{level-small}
 use Rattle.b67_layout.specs.Common.{slot_of, base_spot, outer_spots, address_of, frame_address, here}
 use Rattle.b67_layout.proofs.Frames.{level-is}
 use Rattle.b67_refer.specs.RunningContext.{RunningContext, IsShown, IsStackOf, live_of}
+use Rattle.b67_refer.specs.Displays.{ShowsAbove}
 use Rattle.b67_refer.proofs.Slots.{whole, registers}
 use Rattle.b67_refer.proofs.Seats.{has_task, order_of}
 use Rattle.b67_refer.proofs.Bases.{dictionary_is, of_slot}
@@ -157,10 +158,8 @@ module _ (core : List Tagged) (r : Regs) (a : RunningContext core r) where
   address_zero = sym (address_low 0 (omega arith))
 
   -- the display is written down to a level, and at is the address of that level's frame
-  pub record Written (at n : ℕ) (display : List ℕ) : Type 0 where
-    pub low : n ≤ level
-    pub address : at ≡ address_at a.task.place n
-    pub done : (k : ℕ) → n < k → k ≤ level → slice_get display k ≡ Some (address_at a.task.place k)
+  abbrev pub Written : (at n : ℕ) (display : List ℕ) → Type 0
+  Written at n display = ShowsAbove a at n display
 
   pub written_start : (at : ℕ) (display : List ℕ) → at ≡ frame_address a.plan a.member a.task (running a.task.frames).identity → Written at r.level display
   written_start at display e = record {

@@ -1,5 +1,5 @@
 -- Displays that hold an environment, and where they agree with the running one.
-use Rattle.std.proofs.Common.{Bool, true, false, ◌≡◌, ◌≢◌, ℕ, zero, suc, ◌+◌, ◌-◌, ◌*◌, ◌<◌, ◌≤◌, ◌^◌, List, ◌∷◌, Some, refl, sym, ◌∙◌, ap, arith, subst, length, slice_set, ⊎_elim, inl, inr}
+use Rattle.std.proofs.Common.{Bool, true, false, ◌≡◌, ◌≢◌, ℕ, zero, suc, ◌+◌, ◌-◌, ◌*◌, ◌<◌, ◌≤◌, ◌^◌, List, [], ◌∷◌, Some, refl, sym, ◌∙◌, ap, arith, subst, length, slice_set, ⊎_elim, inl, inr}
 use Rattle.std.specs.List.{slice_get}
 use Rattle.std.proofs.lemmas.Bool.{cases_eq, cases_lt}
 use Rattle.std.proofs.lemmas.Option.{same_Some}
@@ -10,20 +10,21 @@ use Rattle.b67_ctl.specs.declared.marks.Mscw.{Mscw}
 use Rattle.b67_ctl.specs.Layout.{mscw_word, IsMscw, flag_bit}
 use Rattle.b67_stack.specs.Stacks.{mark_of, mark_place}
 use Rattle.b67_stack.proofs.Bases.{base-apart}
-use Rattle.b67_layout.specs.Common.{slot_of, spot_in, outer_spots, head, frame_address, here}
+use Rattle.b67_layout.specs.Common.{slot_of, spot_in, outer_spots, head, here}
 use Rattle.b67_layout.proofs.Frames.{height-is}
 use Rattle.b67_lemmas.specs.Lists.{Has}
 use Rattle.b67_model.specs.State as State
 use Rattle.b67_model.specs.Common.{Frame, Standing, frame_at, height, level_of_frame, level_of_standing, Known, base as base_known}
 use Rattle.b67_refer.specs.RunningContext.{RunningContext, LiveContext, IsShown, live_of}
-use Rattle.b67_refer.specs.Displays.{HoldsMark, HoldsEnvironment}
+use Rattle.b67_refer.specs.Displays.{HoldsMark, HoldsEnvironment, EntersIn}
 use Rattle.b67_refer.proofs.Bases.{viewed, of_slot}
 use Rattle.b67_refer.proofs.Slots.{base, acts, Part, mark_in, part_mark, whole, registers}
 use Rattle.b67_refer.proofs.Seats.{seat}
 use Rattle.b67_refer.proofs.Marks.{low_is}
 use Rattle.b67_refer.proofs.Rule.{seat_address}
 use Rattle.b67_refer.proofs.Unders.{one_word}
-use Rattle.b67_refer.proofs.Chains.{Written, level, level_is, level_low, level_at, mark_of_level, address_at, slot_below, address_one, address_zero, written_more, Reads}
+use Rattle.b67_refer.proofs.Turns.{start, mark_ends}
+use Rattle.b67_refer.proofs.Chains.{Written, written_start, level, level_low, level_at, mark_of_level, address_at, slot_below, address_one, address_zero, written_more, Reads}
 
 -- other registers of the same stacks and dictionary
 pub holds_on : (core : List Tagged) (r v : Regs) (display : List ℕ) (known : ℕ) → v.stacks ≡ r.stacks → v.stack_size ≡ r.stack_size → v.dict ≡ r.dict → HoldsEnvironment core r display known → HoldsEnvironment core v display known
@@ -42,24 +43,35 @@ holds_on core r v display known stacks size dict h = record {
   mcp = h.mcp;
 }
 
+-- up to a lower level
+pub holds_to : (core : List Tagged) (r : Regs) (display : List ℕ) (known up : ℕ) → up ≤ known → HoldsEnvironment core r display known → HoldsEnvironment core r display up
+holds_to core r display known up low h = record { marks = λ n two below. h.marks n two (omega (arith, below, low)); dictionary = h.dictionary; mcp = h.mcp }
+
 -- the fields of one word
 fields : (far entered stack disp value level back far' entered' stack' disp' value' level' back' : ℕ)
     → entered < 2 → stack < 2 ^ 10 → disp < 2 ^ 16 → value < 2 → level < 2 ^ 5 → back < 2 ^ 14
     → entered' < 2 → stack' < 2 ^ 10 → disp' < 2 ^ 16 → value' < 2 → level' < 2 ^ 5 → back' < 2 ^ 14
     → far * 2 ^ 47 + entered * 2 ^ 46 + stack * 2 ^ 36 + disp * 2 ^ 20 + value * 2 ^ 19 + level * 2 ^ 14 + back ≡ far' * 2 ^ 47 + entered' * 2 ^ 46 + stack' * 2 ^ 36 + disp' * 2 ^ 20 + value' * 2 ^ 19 + level' * 2 ^ 14 + back'
-    → (stack ≡ stack') × (disp ≡ disp') × (level ≡ level')
-fields far entered stack disp value level back far' entered' stack' disp' value' level' back' a b c d e f a' b' c' d' e' f' z = (omega arith, omega arith, omega arith)
+    → (stack ≡ stack') × (disp ≡ disp') × (level ≡ level') × (entered ≡ entered')
+fields far entered stack disp value level back far' entered' stack' disp' value' level' back' a b c d e f a' b' c' d' e' f' z = (omega arith, omega arith, omega arith, omega arith)
 
 flag_small : (b : Bool) → flag_bit b < 2
 flag_small true = omega arith
 flag_small false = omega arith
 
+one_flag : (b d : Bool) → flag_bit b ≡ flag_bit d → b ≡ d
+one_flag true true e = refl
+one_flag true false e = absurd (omega (arith, e))
+one_flag false true e = absurd (omega (arith, e))
+one_flag false false e = refl
+
 -- the mark of a word is one
-pub one_mark : (m n : Mscw) → IsMscw m → IsMscw n → mscw_word m ≡ mscw_word n → (m.env_stack ≡ n.env_stack) × (m.env_disp ≡ n.env_disp) × (m.level ≡ n.level)
+pub one_mark : (m n : Mscw) → IsMscw m → IsMscw n → mscw_word m ≡ mscw_word n → (m.env_stack ≡ n.env_stack) × (m.env_disp ≡ n.env_disp) × (m.level ≡ n.level) × (m.entered ≡ n.entered)
 one_mark m n fm fn e =
-    fields (flag_bit m.far) (flag_bit m.entered) m.env_stack m.env_disp (flag_bit m.value) m.level m.back (flag_bit n.far) (flag_bit n.entered) n.env_stack n.env_disp (flag_bit n.value) n.level n.back
+    let f = fields (flag_bit m.far) (flag_bit m.entered) m.env_stack m.env_disp (flag_bit m.value) m.level m.back (flag_bit n.far) (flag_bit n.entered) n.env_stack n.env_disp (flag_bit n.value) n.level n.back
     (flag_small m.entered) fm.env_stack fm.env_disp (flag_small m.value) fm.level fm.back (flag_small n.entered) fn.env_stack fn.env_disp (flag_small n.value) fn.level fn.back
-    (ap (λ (w : Tagged). w.bits) e)
+    (ap (λ (w : Tagged). w.bits) e) in
+    (f.0, f.1, f.2, one_flag m.entered n.entered f.3)
 
 module _ (core : List Tagged) (r : Regs) (a : RunningContext core r) where
   -- a level at which both agree, and the next one
@@ -133,6 +145,27 @@ module _ (core : List Tagged) (r : Regs) (a : RunningContext core r) where
       let k = mark_of_level core r a a.task.place (n - 1) up in
       let there : slice_get core at ≡ Some (mscw_word k.mark) = ap (slice_get core) (w.address ∙ ap (address_at core r a a.task.place) e) ∙ k.there in
       subst (λ (z : Mscw). (z.env_stack < a.plan.peak) × (r.stacks + z.env_stack * r.stack_size + z.env_disp ≡ address_at core r a a.task.place (n - 1))) (sym (read k.mark k.fits there)) (slot_below core r a (n - 1) up (omega (arith, high)))
+
+  -- the top record is entered: the walk begins there, and goes on in the slot that its mark names
+  module _ (slot disp : ℕ) (e : EntersIn core r slot disp) where
+    pub from_top : (display : List ℕ) → Written core r a r.f r.level display
+    from_top display =
+        let k = mark_ends core r a r.f (start core r a) in
+        let word : mscw_word k.0 ≡ mscw_word e.mark = same_Some _ _ (sym k.2 ∙ e.there) in
+        written_start core r a r.f display (k.3 ((one_mark k.0 e.mark k.1 e.fits word).3 ∙ e.entered))
+
+    pub named_slot : (slot < a.plan.peak) × (r.stacks + slot * r.stack_size + disp ≡ address_at core r a a.task.place (r.level - 1))
+    named_slot =
+        let w = from_top [] in
+        let at : r.level ≡ suc (r.level - 1) = omega (arith, e.high) in
+        let up : suc (r.level - 1) ≤ level core r a = omega (arith, at, w.low) in
+        let k = mark_of_level core r a a.task.place (r.level - 1) up in
+        let word : mscw_word k.mark ≡ mscw_word e.mark = same_Some _ _ (sym k.there ∙ ap (slice_get core) (sym (w.address ∙ ap (address_at core r a a.task.place) at)) ∙ e.there) in
+        let one = one_mark k.mark e.mark k.fits e.fits word in
+        let below = slot_below core r a (r.level - 1) up (omega (arith, e.high)) in
+        let s : k.mark.env_stack ≡ slot = one.0 ∙ e.slot_is in
+        let d : k.mark.env_disp ≡ disp = one.1 ∙ e.disp_is in
+        (subst (λ (n : ℕ). n < a.plan.peak) s below.0, ap (λ (n : ℕ). r.stacks + slot * r.stack_size + n) (sym d) ∙ ap (λ (n : ℕ). r.stacks + n * r.stack_size + k.mark.env_disp) (sym s) ∙ below.1)
 
   -- the marks of the running environment, of levels above 2
   module _ (k : ℕ) (two : 2 < k) (up : k ≤ level core r a) where

@@ -22,3 +22,4 @@ pub mod Walks
 pub mod Splits
 pub mod Enclosures
 pub mod Owns
+pub mod Alone

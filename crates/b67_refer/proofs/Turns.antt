@@ -87,13 +87,18 @@ module _ (core : List Tagged) (r : Regs) (a : RunningContext core r) where
   pub has_mark : (at : ℕ) → On at → (m : Mscw) × IsMscw m × (slice_get core at ≡ Some (mscw_word m))
   has_mark at on = let g = part_mark core r (live_of a) slot outer on.top on.frame on.below on.part in (mark_in core r (live_of a) slot outer on.frame on.below, g.0, ap (slice_get core) on.at_is ∙ g.1)
 
-  pub ends : (at : ℕ) (m : Mscw) → On at → Reads core r a at m → m.entered ≡ true → at ≡ frame_address a.plan a.member a.task (running a.task.frames).identity
-  ends at m on d e =
-      let is = read at m on d in
-      let run : running (on.frame ∷ on.below) ≡ on.frame = entered_only slot (spot_in slot outer on.below) on.frame.standing (acts core r (live_of a) slot outer on.below) on.frame (running on.below) (ap (λ (k : Mscw). k.entered) (sym is) ∙ e) in
+  ends_at : (at : ℕ) (on : On at) → (mark_in core r (live_of a) slot outer on.frame on.below).entered ≡ true → at ≡ frame_address a.plan a.member a.task (running a.task.frames).identity
+  ends_at at on e =
+      let run : running (on.frame ∷ on.below) ≡ on.frame = entered_only slot (spot_in slot outer on.below) on.frame.standing (acts core r (live_of a) slot outer on.below) on.frame (running on.below) e in
       let spot : spots a.plan a.member.constants.number a.member.progress.job a.task on.frame.identity ≡ record { stack = slot; disp = height on.below } = on.sees on.frame.identity (inl refl) ∙ (let t : (on.frame.identity == on.frame.identity) ≡ true = eq-eqb on.frame.identity on.frame.identity refl in rw t refl) in
       on.at_is ∙ sym (slot_address core r (live_of a) slot (height on.below) on.top_is.used) ∙ ap (address_of a.plan) (sym spot)
       ∙ ap (λ (f : Frame). frame_address a.plan a.member a.task f.identity) (sym run ∙ on.same)
+
+  pub ends : (at : ℕ) (m : Mscw) → On at → Reads core r a at m → m.entered ≡ true → at ≡ frame_address a.plan a.member a.task (running a.task.frames).identity
+  ends at m on d e = ends_at at on (ap (λ (k : Mscw). k.entered) (sym (read at m on d)) ∙ e)
+
+  pub mark_ends : (at : ℕ) → On at → (m : Mscw) × IsMscw m × (slice_get core at ≡ Some (mscw_word m)) × (m.entered ≡ true → at ≡ frame_address a.plan a.member a.task (running a.task.frames).identity)
+  mark_ends at on = let g = part_mark core r (live_of a) slot outer on.top on.frame on.below on.part in (mark_in core r (live_of a) slot outer on.frame on.below, g.0, ap (slice_get core) on.at_is ∙ g.1, ends_at at on)
 
   pub goes : (at : ℕ) (m : Mscw) → On at → Reads core r a at m → m.entered ≡ false → (1 ≤ m.back) × (m.back ≤ at) × On (at - m.back)
   goes at m on d e = by_below on.below refl where

@@ -20,3 +20,7 @@ NamesCell core r display w cell = (a : RunningContext core r) (q : Place) → Is
 abbrev pub LeadsTo : (core : List Tagged) (r : Regs) (display : List ℕ) (w : Tagged) → End → Type 0
 LeadsTo core r display w end = (a : RunningContext core r) (q : Place) → IsShown a display → (at owner : ℕ) (v : Word) → StandsFor a at owner w v
     → EndMeets a q (Ok end) (follow (here a.member a.task q) v)
+
+-- a word leads to an end, whatever the display shows
+abbrev pub EndsAt : (core : List Tagged) (r : Regs) (w : Tagged) → End → Type 0
+EndsAt core r w end = (a : RunningContext core r) (q : Place) (at owner : ℕ) (v : Word) → StandsFor a at owner w v → EndMeets a q (Ok end) (follow (here a.member a.task q) v)

@@ -1,6 +1,6 @@
 //! The activation record in which a procedure lies.
 
-ghost use Rattle.std.specs.Prelude.{◌≡◌, ℕ, List};
+ghost use Rattle.std.specs.Prelude.{◌≡◌, ℕ, ◌+◌, ◌*◌, List};
 ghost use Rattle.b67_word.specs.declared.couples.Place.{Place};
 ghost use Rattle.b67_model.specs.Environment.{level_of_frame};
 ghost use Rattle.b67_model.specs.State.{frame};
@@ -14,6 +14,9 @@ use crate::spots::spot_of;
 use b67_core::Core;
 use b67_ctl::Regs;
 
+/// How many of the running stack's activation records, from the last one down, are looked at by their marks alone.
+const NEAR_RECORDS: u32 = 2;
+
 /// An activation record in a slot: the slot's number, the displacement of its mark, and its level.
 #[derive(Clone, Copy, Debug, PartialEq, Eq)]
 pub struct Activation {
@@ -24,16 +27,25 @@ pub struct Activation {
 
 /// The address of the mark under a cell of an entered activation record. The word over the mark has tag 3, the cells'
 /// have other tags. Words are looked at from the cell down, and the running stack's marks from its last one down, in turns: so
-/// it takes the fewer of both.
+/// it takes the fewer of both, after the last marks.
 #[inline(always)]
 fn mark_under(core: &Core, regs: &Regs, cell: u32) -> u32
     requires { (a : RunningContext core.now regs.now) × (q : Place) × (f : ℕ) × (segment : ℕ) × (level : ℕ) × (place : Place) × IsProcAt a q cell f segment level place }
     ensures { (a : RunningContext core.now regs.now) (q : Place) (f segment level : ℕ) (place : Place) → IsProcAt a q cell f segment level place
         → result ≡ frame_at_core a f }
 {
+    let mut last = regs.f;
+    let mut end = regs.s + 1;
+    for _turn in 0..NEAR_RECORDS {
+        if last < cell && cell < end && core.get(last + 1).tag() == 3 {
+            return last;
+        }
+        end = last;
+        last -= u32::from(mark_at(core, last).back);
+    }
     let mut at = cell;
-    let mut mark = regs.f;
-    let mut past = regs.s + 1;
+    let mut mark = last;
+    let mut past = end;
     'down: loop {
         if mark < cell && cell < past && core.get(mark + 1).tag() == 3 {
             return mark;
@@ -47,6 +59,33 @@ fn mark_under(core: &Core, regs: &Regs, cell: u32) -> u32
     }
 }
 
+/// The activation record in which the cell of a procedure lies, and the core address of its mark.
+#[derive(Clone, Copy, Debug, PartialEq, Eq)]
+pub struct Enclosure {
+    pub record: Activation,
+    pub mark: u32,
+}
+
+/// The activation record in which the cell of a procedure lies, and where its mark stands.
+#[inline(always)]
+pub fn enclosure_of(core: &Core, regs: &Regs, cell: u32) -> Enclosure
+    requires { (a : RunningContext core.now regs.now) × (q : Place) × (f : ℕ) × (segment : ℕ) × (level : ℕ) × (place : Place) × IsProcAt a q cell f segment level place }
+    ensures home { (a : RunningContext core.now regs.now) (q : Place) (f segment level : ℕ) (place : Place) → IsProcAt a q cell f segment level place
+        → result.record ≡ record { stack = (view a f).stack; disp = (view a f).disp; level = level_of_frame (frame (here a.member a.task q) f) } }
+    ensures mark { regs.now.stacks + result.record.stack * regs.now.stack_size + result.record.disp ≡ result.mark }
+{
+    let mark = mark_under(core, regs, cell);
+    let spot = spot_of(regs, mark);
+    Enclosure {
+        record: Activation {
+            stack: spot.slot as u16,
+            disp: spot.disp as u16,
+            level: mark_at(core, mark).level,
+        },
+        mark,
+    }
+}
+
 /// The activation record in which the cell of a procedure lies: the environment of the procedure's activations.
 #[inline(always)]
 pub fn activation_of(core: &Core, regs: &Regs, cell: u32) -> Activation
@@ -54,11 +93,5 @@ pub fn activation_of(core: &Core, regs: &Regs, cell: u32) -> Activation
     ensures { (a : RunningContext core.now regs.now) (q : Place) (f segment level : ℕ) (place : Place) → IsProcAt a q cell f segment level place
         → result ≡ record { stack = (view a f).stack; disp = (view a f).disp; level = level_of_frame (frame (here a.member a.task q) f) } }
 {
-    let mark = mark_under(core, regs, cell);
-    let spot = spot_of(regs, mark);
-    Activation {
-        stack: spot.slot as u16,
-        disp: spot.disp as u16,
-        level: mark_at(core, mark).level,
-    }
+    enclosure_of(core, regs, cell).record
 }

@@ -1,6 +1,6 @@
 //! The running environment, and the display that shows it.
 
-ghost use Rattle.std.specs.Prelude.{◌≡◌, ℕ, ◌+◌, ◌*◌, ◌<◌, ◌^◌, Some, slice_get};
+ghost use Rattle.std.specs.Prelude.{◌≡◌, ℕ, ◌+◌, ◌*◌, ◌<◌, ◌≤◌, ◌^◌, Some, slice_get};
 ghost use Rattle.b67_ctl.specs.declared.marks.Mscw.{Mscw};
 ghost use Rattle.b67_ctl.specs.Layout.{mscw_word, IsMscw};
 ghost use Rattle.b67_model.specs.Environment.{running as running_frame};
@@ -8,7 +8,7 @@ ghost use Rattle.b67_stack.specs.Stacks.{StackPlace};
 ghost use Rattle.b67_layout.specs.Placement.{base_of as base_of_stack, address_of as address_of_spot};
 ghost use Rattle.b67_layout.specs.Session.{frame_address};
 ghost use Rattle.b67_refer.specs.RunningContext.{RunningContext, LiveContext, IsShown, IsStackOf};
-ghost use Rattle.b67_refer.specs.Displays.{HoldsEnvironment};
+ghost use Rattle.b67_refer.specs.Displays.{HoldsEnvironment, ShowsAbove, EntersOver};
 
 use b67_core::Core;
 use b67_ctl::{MCP_STACK, Mscw, Regs, SLOTS};
@@ -92,16 +92,19 @@ fn address_in_slot(core: &Core, regs: &Regs, slot: u16, disp: u16) -> u32
     regs.stacks + u32::from(slot) * u32::from(regs.stack_size) + u32::from(disp)
 }
 
-/// As `rebuild`, where the display holds an environment up to level `known`, whichever it is. It is written from the running
-/// level down to the first level at which it agrees: below that it is right already.
+/// Goes on with the display, which shows the running environment above a level: `at` is the address of the activation record
+/// that the environment has at that level. The display is written from there down to the first level at which it agrees.
+/// Up to level `known`, and below the one that is written, it holds an environment, whichever it is.
 #[inline(always)]
-pub fn rebuild_known(core: &Core, regs: &Regs, display: &mut [u32; 32], known: u8)
+fn rebuild_down(core: &Core, regs: &Regs, display: &mut [u32; 32], known: u8, level: u8, at: u32)
     requires run { RunningContext core.now regs.now }
-    requires known { HoldsEnvironment core.now regs.now display.old known }
+    requires low { 2 ≤ level }
+    requires known { (up : ℕ) → up ≤ known → up ≤ level → HoldsEnvironment core.now regs.now display.old up }
+    requires above { (a : RunningContext core.now regs.now) → ShowsAbove a at level display.old }
     ensures { (a : RunningContext core.now regs.now) → IsShown a display.new }
 {
-    let mut at = running(core, regs);
-    let mut level = regs.level;
+    let mut at = at;
+    let mut level = level;
     'out: while level > 2 {
         if level <= known && display[level as usize] == at {
             return;
@@ -112,4 +115,28 @@ pub fn rebuild_known(core: &Core, regs: &Regs, display: &mut [u32; 32], known: u
         level -= 1;
     }
     display[2] = at;
+}
+
+/// As `rebuild`, where the display holds an environment up to level `known`, whichever it is. It is written from the running
+/// level down to the first level at which it agrees: below that it is right already.
+#[inline(always)]
+pub fn rebuild_known(core: &Core, regs: &Regs, display: &mut [u32; 32], known: u8)
+    requires run { RunningContext core.now regs.now }
+    requires known { HoldsEnvironment core.now regs.now display.old known }
+    ensures { (a : RunningContext core.now regs.now) → IsShown a display.new }
+{
+    let at = running(core, regs);
+    rebuild_down(core, regs, display, known, regs.level, at);
+}
+
+/// As `rebuild_known`, where the top activation record is entered, and the mark of its environment's record is at an address.
+#[inline(always)]
+pub fn rebuild_entered(core: &Core, regs: &Regs, display: &mut [u32; 32], known: u8, under: u32)
+    requires run { RunningContext core.now regs.now }
+    requires known { HoldsEnvironment core.now regs.now display.old known }
+    requires top { EntersOver core.now regs.now under }
+    ensures { (a : RunningContext core.now regs.now) → IsShown a display.new }
+{
+    display[regs.level as usize] = regs.f;
+    rebuild_down(core, regs, display, known, regs.level - 1, under);
 }

@@ -10,11 +10,13 @@ mod ends;
 mod environment;
 mod own;
 mod spots;
+mod stuffed;
 
-pub use activation::{Activation, activation_of};
+pub use activation::{Activation, Enclosure, activation_of, enclosure_of};
 pub use cells::{cell_at, cell_of};
 pub use couples::couple_at;
 pub use ends::{End, chase, owner};
-pub use environment::{rebuild, rebuild_known};
+pub use environment::{rebuild, rebuild_entered, rebuild_known};
 pub use own::{copied_element, own_array, own_operand};
 pub use spots::{Spot, spot_of};
+pub use stuffed::stuffed_operand;

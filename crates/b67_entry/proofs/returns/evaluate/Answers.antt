@@ -1,4 +1,4 @@
-use Rattle.std.proofs.Common.{ℕ, ◌+◌, ◌∷◌, Some, Option, Result, Ok, ◌∙◌, ap, arith, refl, subst}
+use Rattle.std.proofs.Common.{◌+◌, ◌∷◌, Some, Option, Result, Ok, ◌∙◌, ap, arith, refl, subst}
 use Rattle.b67_word.specs.Tagged.{Tagged}
 use Rattle.b67_word.specs.declared.faults.Fault.{Fault}
 use Rattle.b67_model.specs.Chase.{follow}

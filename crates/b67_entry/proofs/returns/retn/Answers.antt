@@ -83,18 +83,18 @@ caller-regs-requires c =
     let k = context c.args.cpu.now c.top_mark-mark.result c.top_mark-mark.ensures c.if-not-mark.false c.get-word.result c.get-word.ensures c.if-cpu.false c.refusal.result c.refusal.ensures c.in-None.is c.is_critical.result c.is_critical.ensures c.if-is_critical.false c.if-mark-eq0.false c.requires in
     (returning c.args.cpu.now c.top_mark-mark.result c.get-word.result c.requires k, k.mark_is)
 
-pub rebuild_known-requires-clause-run : goal.rebuild_known-requires-clause-run
-rebuild_known-requires-clause-run c =
+pub value_of-requires-clause-left : goal.value_of-requires-clause-left
+value_of-requires-clause-left c =
     let k = context c.args.cpu.now c.top_mark-mark.result c.top_mark-mark.ensures c.if-not-mark.false c.get-word.result c.get-word.ensures c.if-cpu.false c.refusal.result c.refusal.ensures c.in-None.is c.is_critical.result c.is_critical.ensures c.if-is_critical.false c.if-mark-eq0.false c.requires in
     context_left c.args.cpu.now c.top_mark-mark.result c.get-word.result c.requires k c.caller-regs.result c.caller-regs.ensures
 
-pub rebuild_known-requires-clause-known : goal.rebuild_known-requires-clause-known
-rebuild_known-requires-clause-known c =
+pub value_of-requires-clause-known : goal.value_of-requires-clause-known
+value_of-requires-clause-known c =
     let k = context c.args.cpu.now c.top_mark-mark.result c.top_mark-mark.ensures c.if-not-mark.false c.get-word.result c.get-word.ensures c.if-cpu.false c.refusal.result c.refusal.ensures c.in-None.is c.is_critical.result c.is_critical.ensures c.if-is_critical.false c.if-mark-eq0.false c.requires in
     held_left c.args.cpu.now c.top_mark-mark.result c.get-word.result c.requires k c.caller-regs.result c.caller-regs.ensures
 
-pub evaluate-requires-clause-run : goal.evaluate-requires-clause-run
-evaluate-requires-clause-run c =
+pub value_of-requires-clause-run : goal.value_of-requires-clause-run
+value_of-requires-clause-run c =
     let k = context c.args.cpu.now c.top_mark-mark.result c.top_mark-mark.ensures c.if-not-mark.false c.get-word.result c.get-word.ensures c.if-cpu.false c.refusal.result c.refusal.ensures c.in-None.is c.is_critical.result c.is_critical.ensures c.if-is_critical.false c.if-mark-eq0.false c.requires in
     (c.requires, k.leaver, k.value, k.word, regs_are c.args.cpu.now c.top_mark-mark.result c.get-word.result c.requires k c.caller-regs.result c.caller-regs.ensures)
 
@@ -104,12 +104,12 @@ returns-then-tag-ne0 c = record {
       (let r : RunsSome c.args.cpu.now = record { storage = x; plan = plan; session = s; member = m; task = t; ordered = o; stands = h; running = runs } in
       let k = context c.args.cpu.now c.top_mark-mark.result c.top_mark-mark.ensures c.if-not-mark.false c.get-word.result c.get-word.ensures c.if-cpu.false c.refusal.result c.refusal.ensures c.in-None.is c.is_critical.result c.is_critical.ensures c.if-is_critical.false c.if-mark-eq0.false r in
       let e = regs_are c.args.cpu.now c.top_mark-mark.result c.get-word.result r k c.caller-regs.result c.caller-regs.ensures in
-      evaluated x c.args.cpu.now plan s m t o h runs k.leaver k.value c.get-word.result k.word next c.evaluate.result c.evaluate.new.cpu (sym k.wants ∙ c.if-mark.true) (c.evaluate.ensures.row x plan s m t o h runs k.leaver k.value k.word e));
-  above = c.evaluate.ensures.above;
+      evaluated x c.args.cpu.now plan s m t o h runs k.leaver k.value c.get-word.result k.word next c.value_of.result c.value_of.new.cpu (sym k.wants ∙ c.if-mark.true) (c.value_of.ensures.row x plan s m t o h runs k.leaver k.value k.word e));
+  above = c.value_of.ensures.above;
   top = λ e.
       let k = context c.args.cpu.now c.top_mark-mark.result c.top_mark-mark.ensures c.if-not-mark.false c.get-word.result c.get-word.ensures c.if-cpu.false c.refusal.result c.refusal.ensures c.in-None.is c.is_critical.result c.is_critical.ensures c.if-is_critical.false c.if-mark-eq0.false c.requires in
       let low = top_low c.args.cpu.now c.top_mark-mark.result c.get-word.result c.requires k c.caller-regs.result c.caller-regs.ensures in
-      let z = c.evaluate.ensures.top e in
+      let z = c.value_of.ensures.top e in
       (omega arith, omega arith);
 }
 

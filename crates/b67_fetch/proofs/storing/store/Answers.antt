@@ -1,11 +1,15 @@
 use Rattle.std.proofs.Common.{◌≡◌, ℕ, sym, ◌∙◌, ap, subst, refl, inl, inr, Result, Ok, Err, ◌∷◌, arith}
 use Rattle.b67_word.specs.Tagged.{Tagged, word}
+use Rattle.b67_word.specs.declared.faults.Fault.{Fault}
 use Rattle.b67_word.specs.declared.faults.Fault.TheVariants.{MemoryProtect}
 use Rattle.std.specs.Prelude.{if◌then◌else◌}
+use Rattle.std.proofs.lemmas.Option.{same_Some}
 use Rattle.b67_model.specs.Common.{◌>>=◌, Operand, store_at, in_order, follow}
 use Rattle.b67_stack.specs.declared.Cpu.{Cpu}
 use Rattle.b67_stack.specs.declared.Step.{Step}
 use Rattle.b67_stack.specs.declared.Step.TheVariants as step
+use Rattle.b67_refer.specs.declared.ends.End.{End}
+use Rattle.b67_refer.specs.declared.ends.End.TheVariants as end
 use Rattle.b67_layout.specs.Meets.{here}
 use Rattle.b67_exec_cells.proofs.Put.{room}
 use Rattle.b67_refer.specs.RunningContext.{live_of}
@@ -14,6 +18,7 @@ use Rattle.b67_layout.specs.Tops.{cells}
 use Rattle.b67_exec_cells.specs.Tops.{GivesTwo}
 use Rattle.b67_fetch.specs.Fetches.{enters_at, EntersOrMeets}
 use Rattle.b67_fetch.specs.Stores.{ElementAt, stored}
+use Rattle.b67_fetch.proofs.Chosen.{Leads, two_words, chosen_leads}
 use Rattle.b67_fetch.proofs.Words.{Choice, given, no_operand, followed}
 use Rattle.b67_fetch.proofs.Stores.{missing, refused, followed_end, at_fault, at_proc, at_array, at_intrinsic, cell_inside, element_inside, holds, cell_done, element_done, element_not}
 use Rattle.b67_fetch.proofs.StoreContext.{context, leads_to, MeetsElement}
@@ -83,6 +88,17 @@ returns-in-Err-element_address-clause-stays c = λ e.
     let P : Result ℕ Step → Type 0 = λ z. ElementAt i.runs.storage i.runs.plan i.runs.member i.number c.in-Element.original c.in-Element.index z in
     absurd (subst P (c.in-Err-element_address.is ∙ ap Err e) (c.element_address.ensures i.runs.storage i.runs.plan i.runs.session i.runs.member i.runs.task i.runs.ordered i.runs.stands i.runs.running i.number i.home i.element))
 
+pub returns-in-Err-element_address-clause-comes : goal.returns-in-Err-element_address-clause-comes
+returns-in-Err-element_address-clause-comes c = λ n e.
+    let r = c.requires in
+    let x = r.storage in let plan = r.plan in let s = r.session in let m = r.member in let t = r.task in let o = r.ordered in let h = r.stands in let runs = r.running in
+    let ch : Choice c.in-Ok.two c.if-tag-eq0.reference = elim c.if-tag-eq0.branch [ then-tag-eq0 w ↦ inl (sym c.tag.ensures.value ∙ w.if-tag-eq0.true, w.reference-is) | else-tag-eq0 w ↦ inr (λ z. w.if-tag-eq0.false (c.tag.ensures.value ∙ z), w.reference-is) ] in
+    let old = c.args.cpu.now in let q = c.args.next in let p = c.if-tag-eq0.reference in
+    let k = context x old plan s m t o h runs q c.in-Ok.two p (c.in-Ok.ensures.cells x plan s m t o h runs) ch (sym c.tag-2.ensures.value ∙ c.if-tag-ne0.false) c.chase.result c.chase.ensures.running in
+    let i = holds x old plan s m t o h runs q c.args.keeps c.in-Element.original c.in-Element.index (follow (here m t q) (in_order k.cells.first k.cells.second).0) (leads_to x old plan s m t o h runs q p c.chase.result _ k (c.in-Ok-chase.is ∙ ap Ok c.in-Element.is)) in
+    let P : Result ℕ Step → Type 0 = λ z. ElementAt i.runs.storage i.runs.plan i.runs.member i.number c.in-Element.original c.in-Element.index z in
+    absurd (subst P (c.in-Err-element_address.is ∙ ap Err e) (c.element_address.ensures i.runs.storage i.runs.plan i.runs.session i.runs.member i.runs.task i.runs.ordered i.runs.stands i.runs.running i.number i.home i.element))
+
 pub returns-in-Array-clause-row : goal.returns-in-Array-clause-row
 returns-in-Array-clause-row c = λ x plan s m t o h runs.
     let ch : Choice c.in-Ok.two c.if-tag-eq0.reference = elim c.if-tag-eq0.branch [ then-tag-eq0 w ↦ inl (sym c.tag.ensures.value ∙ w.if-tag-eq0.true, w.reference-is) | else-tag-eq0 w ↦ inr (λ z. w.if-tag-eq0.false (c.tag.ensures.value ∙ z), w.reference-is) ] in
@@ -100,7 +116,7 @@ returns-in-Proc-clause-row c = λ x plan s m t o h runs.
     let old = c.args.cpu.now in let q = c.args.next in let p = c.if-tag-eq0.reference in
     let k = context x old plan s m t o h runs q c.in-Ok.two p (c.in-Ok.ensures.cells x plan s m t o h runs) ch (sym c.tag-2.ensures.value ∙ c.if-tag-ne0.false) c.chase.result c.chase.ensures.running in
     followed_end x old plan s m t o h runs q c.args.keeps p k.cells (step.Call 255) old k.bits k.operand
-    (at_proc x old plan s m t o h runs q c.args.keeps (step.Call 255) old k.cells.rest k.bits c.in-Proc.field-0 (follow (here m t q) (in_order k.cells.first k.cells.second).0) (leads_to x old plan s m t o h runs q p c.chase.result _ k (c.in-Ok-chase.is ∙ ap Ok c.in-Proc.is)) refl refl)
+    (at_proc x old plan s m t o h runs q c.args.keeps (step.Call 255) old k.cells.rest k.bits c.in-Proc.cell (follow (here m t q) (in_order k.cells.first k.cells.second).0) (leads_to x old plan s m t o h runs q p c.chase.result _ k (c.in-Ok-chase.is ∙ ap Ok c.in-Proc.is)) refl refl)
 
 pub put-requires-clause-at : goal.put-requires-clause-at
 put-requires-clause-at c =
@@ -136,3 +152,28 @@ returns-clause-row c = λ x plan s m t o h runs.
           back w.in-Ok-element_address.at w.at-is (element_done x old plan s m t o h runs q c.args.keeps k.cells.first k.cells.second k.cells.rest k.cells.is c.in-Ok.ensures.above k.bits k.operand w.in-Element.original w.in-Element.index w.in-Ok-element_address.at
           (leads_to x old plan s m t o h runs q p c.chase.result _ k (c.in-Ok-chase.is ∙ ap Ok w.in-Element.is)) (subst E w.in-Ok-element_address.is (w.element_address.ensures x plan s m t o h runs)))
     ])
+
+pub returns-in-Err-clause-comes : goal.returns-in-Err-clause-comes
+returns-in-Err-clause-comes c = λ n e. cc
+
+pub returns-then-tag-ne0-clause-comes : goal.returns-then-tag-ne0-clause-comes
+returns-then-tag-ne0-clause-comes c = λ n e. cc
+
+pub returns-in-Err-chase-clause-comes : goal.returns-in-Err-chase-clause-comes
+returns-in-Err-chase-clause-comes c = λ n e. cc
+
+pub returns-in-Array-clause-comes : goal.returns-in-Array-clause-comes
+returns-in-Array-clause-comes c = λ n e. cc
+
+pub returns-in-Proc-clause-comes : goal.returns-in-Proc-clause-comes
+returns-in-Proc-clause-comes c = λ u v under over.
+    let r = c.requires in
+    let old = c.args.cpu.now in
+    let ch : Choice c.in-Ok.two c.if-tag-eq0.reference = elim c.if-tag-eq0.branch [ then-tag-eq0 w ↦ inl (sym c.tag.ensures.value ∙ w.if-tag-eq0.true, w.reference-is) | else-tag-eq0 w ↦ inr (λ z. w.if-tag-eq0.false (c.tag.ensures.value ∙ z), w.reference-is) ] in
+    let L : Tagged → Type 0 = λ w. Leads old w (Ok (end.Proc c.in-Proc.cell)) in
+    let leads : L c.if-tag-eq0.reference.0 = subst (λ (z : Result End Fault). Leads old c.if-tag-eq0.reference.0 z) (c.in-Ok-chase.is ∙ ap Ok c.in-Proc.is) c.chase.ensures.running in
+    let two = two_words r.storage r.plan r.member r.task old (cells r.task) c.in-Ok.two (c.in-Ok.ensures.cells r.storage r.plan r.session r.member r.task r.ordered r.stands r.running) in
+    chosen_leads c.in-Ok.two c.if-tag-eq0.reference ch u v (same_Some _ _ (sym two.0 ∙ under)) (same_Some _ _ (sym two.1 ∙ over)) L leads
+
+pub returns-clause-comes : goal.returns-clause-comes
+returns-clause-comes c = λ n e. cc

@@ -2,7 +2,7 @@ use Rattle.std.proofs.Common.{◌≡◌, ℕ, ◌<◌, ◌≤◌, length}
 use Rattle.b67_refer.specs.RunningContext.{RunningContext}
 use Rattle.b67_refer.specs.Displays.{HoldsEnvironment}
 use Rattle.b67_refer.proofs.Chains.{Written}
-use Rattle.b67_refer.proofs.environment.rebuild_known.Given as goal
+use Rattle.b67_refer.proofs.environment.rebuild_down.Given as goal
 
 abbrev pub invariant-out : goal.invariant-out
 invariant-out l = record {
