@@ -38,22 +38,22 @@ stuffed_operand-stuffed-requires c =
       followed_stands q.storage c.args.cpu.now q.plan q.session q.member q.task q.ordered q.stands q.running c.in-Ok.two.1 two.upper two.top,
     )
 
-pub put-requires-2-clause-at : goal.put-requires-2-clause-at
-put-requires-2-clause-at c =
+pub put-requires-then-stuffed-ne0-clause-at : goal.put-requires-then-stuffed-ne0-clause-at
+put-requires-then-stuffed-ne0-clause-at c =
     let q = c.requires in
     let two = two_followed q.storage c.args.cpu.now q.plan q.session q.member q.task c.in-Ok.two.0 c.in-Ok.two.1 q.ordered q.running (c.in-Ok.ensures.cells q.storage q.plan q.session q.member q.task q.ordered q.stands q.running) in
     own_inside q.storage c.args.cpu.now q.plan q.session q.member q.task q.ordered q.stands q.running c.args.next c.args.keeps c.in-Ok.two.0 c.in-Ok.two.1
     (c.in-Ok.ensures.cells q.storage q.plan q.session q.member q.task q.ordered q.stands q.running) (sym c.tag.ensures.value ∙ c.if-tag-ne0.false) c.stuffed_operand-stuffed.result
     (stuffed_through q.storage c.args.cpu.now q.plan q.session q.member q.task q.ordered q.stands q.running c.in-Ok.two.1 two.upper two.top c.stuffed_operand-stuffed.result (c.stuffed_operand-stuffed.ensures c.if-stuffed-ne0.true))
 
-pub put-requires-2-clause-top : goal.put-requires-2-clause-top
-put-requires-2-clause-top c = let r = c.requires in let g = room r.storage c.args.cpu.now r.plan r.session r.member r.task r.ordered r.stands r.running in omega (arith, g.last, g.under, g.inside)
+pub put-requires-then-stuffed-ne0-clause-top : goal.put-requires-then-stuffed-ne0-clause-top
+put-requires-then-stuffed-ne0-clause-top c = let r = c.requires in let g = room r.storage c.args.cpu.now r.plan r.session r.member r.task r.ordered r.stands r.running in omega (arith, g.last, g.under, g.inside)
 
 pub returns-then-stuffed-ne0-clause-row : goal.returns-then-stuffed-ne0-clause-row
 returns-then-stuffed-ne0-clause-row c = λ made x plan s m t o h runs.
     let two = two_followed x c.args.cpu.now plan s m t c.in-Ok.two.0 c.in-Ok.two.1 o runs (c.in-Ok.ensures.cells x plan s m t o h runs) in
     own_stored x c.args.cpu.now plan s m t o h runs c.args.next c.args.keeps c.in-Ok.two.0 c.in-Ok.two.1 (c.in-Ok.ensures.cells x plan s m t o h runs) (sym c.tag.ensures.value ∙ c.if-tag-ne0.false) c.stuffed_operand-stuffed.result
-    (stuffed_through x c.args.cpu.now plan s m t o h runs c.in-Ok.two.1 two.upper two.top c.stuffed_operand-stuffed.result (c.stuffed_operand-stuffed.ensures c.if-stuffed-ne0.true)) c.in-Ok.ensures.above c.put-2.new.cpu c.put-2.ensures
+    (stuffed_through x c.args.cpu.now plan s m t o h runs c.in-Ok.two.1 two.upper two.top c.stuffed_operand-stuffed.result (c.stuffed_operand-stuffed.ensures c.if-stuffed-ne0.true)) c.in-Ok.ensures.above c.put-then-stuffed-ne0.new.cpu c.put-then-stuffed-ne0.ensures
 
 pub own_element-at-requires : goal.own_element-at-requires
 own_element-at-requires c =
@@ -61,16 +61,16 @@ own_element-at-requires c =
     let two = two_followed q.storage c.args.cpu.now q.plan q.session q.member q.task c.in-Ok.two.0 c.in-Ok.two.1 q.ordered q.running (c.in-Ok.ensures.cells q.storage q.plan q.session q.member q.task q.ordered q.stands q.running) in
     record { runs = q; word = two.upper; followed = two.top }
 
-pub put-requires-3-clause-at : goal.put-requires-3-clause-at
-put-requires-3-clause-at c =
+pub put-requires-2-clause-at : goal.put-requires-2-clause-at
+put-requires-2-clause-at c =
     let q = c.requires in
     own_inside q.storage c.args.cpu.now q.plan q.session q.member q.task q.ordered q.stands q.running c.args.next c.args.keeps c.in-Ok.two.0 c.in-Ok.two.1
     (c.in-Ok.ensures.cells q.storage q.plan q.session q.member q.task q.ordered q.stands q.running) (sym c.tag.ensures.value ∙ c.if-tag-ne0.false) c.own_element-at.result (c.own_element-at.ensures c.if-at-eq0.false)
 
-pub put-requires-3-clause-top : goal.put-requires-3-clause-top
-put-requires-3-clause-top c = let r = c.requires in let g = room r.storage c.args.cpu.now r.plan r.session r.member r.task r.ordered r.stands r.running in omega (arith, g.last, g.under, g.inside)
+pub put-requires-2-clause-top : goal.put-requires-2-clause-top
+put-requires-2-clause-top c = let r = c.requires in let g = room r.storage c.args.cpu.now r.plan r.session r.member r.task r.ordered r.stands r.running in omega (arith, g.last, g.under, g.inside)
 
 pub returns-clause-row : goal.returns-clause-row
 returns-clause-row c = λ made x plan s m t o h runs.
     own_stored x c.args.cpu.now plan s m t o h runs c.args.next c.args.keeps c.in-Ok.two.0 c.in-Ok.two.1 (c.in-Ok.ensures.cells x plan s m t o h runs) (sym c.tag.ensures.value ∙ c.if-tag-ne0.false)
-    c.own_element-at.result (c.own_element-at.ensures c.if-at-eq0.false) c.in-Ok.ensures.above c.put-3.new.cpu c.put-3.ensures
+    c.own_element-at.result (c.own_element-at.ensures c.if-at-eq0.false) c.in-Ok.ensures.above c.put-2.new.cpu c.put-2.ensures
