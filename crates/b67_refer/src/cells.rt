@@ -100,8 +100,7 @@ fn has_first_cell(core: &Core, regs: &Regs, base: u32, offset: u16) -> bool
 
 /// Whether a cell is one of the few first ones of a record of the running stack: they are looked at without a call.
 #[inline(always)]
-fn is_among_few(regs: &Regs, base: u32, offset: u16) -> bool
-{
+fn is_among_few(regs: &Regs, base: u32, offset: u16) -> bool {
     offset < FEW_CELLS && base >= regs.bosr && base <= regs.losr
 }
 
@@ -205,7 +204,11 @@ pub(crate) fn near_cell(core: &Core, regs: &Regs, base: u32, offset: u16) -> u32
             if !is_among_few(regs, base, offset) {
                 return 0;
             }
-            if has_first_cell(core, regs, base, offset) { at } else { 0 }
+            if has_first_cell(core, regs, base, offset) {
+                at
+            } else {
+                0
+            }
         }
     }
 }

@@ -114,7 +114,13 @@ fn end_at(core: &Core, regs: &Regs, at: u32) -> Result<Option<End>, Fault>
 
 /// The cell that a reference word names. Few cells deep in the running stack may be looked at without a call.
 #[inline(always)]
-fn named_cell(core: &Core, regs: &Regs, display: &[u32; 32], w: Word, few: bool) -> Result<u32, Fault>
+fn named_cell(
+    core: &Core,
+    regs: &Regs,
+    display: &[u32; 32],
+    w: Word,
+    few: bool,
+) -> Result<u32, Fault>
     requires { (a : LiveContext core.now regs.now) × IsShown (running_of a) display.now × (at : ℕ) × (owner : ℕ) × (v : Words.Word) × StandsFor a at owner w v × IsReference v }
     ensures { (a : LiveContext core.now regs.now) (q : Place) → IsShown (running_of a) display.now → (at owner : ℕ) (v : Words.Word) → StandsFor a at owner w v
         → IsReference v → FromEither (λ (b : LiveContext core.now regs.now). FindsCell b q result (place_of (here a.member a.runner q) v)) a }

@@ -23,7 +23,7 @@ pub returns-then-mark-base : goal.returns-then-mark-base
 returns-then-mark-base c = λ has is a q f n own e low.
     let there = walk_there c.args.core.now c.args.regs.now a c.args.base c.loop-turn.mark c.loop-turn.past (c.loop-turn.invariant a) c.if-mark-base.true in
     let found = subst (λ (i : ℕ). CellMeets a q f c.args.offset (cell_or_none (nat_lt (c.args.base + i) c.loop-turn.past) (c.args.base + c.args.offset)) (cell (here a.member a.task q) f c.args.offset)) (sym c.from.ensures)
-        (either_way c.args.core.now c.args.regs.now a q f c.args.base c.args.offset c.loop-turn.past n e own low there) in
+    (either_way c.args.core.now c.args.regs.now a q f c.args.base c.args.offset c.loop-turn.past n e own low there) in
     subst (λ (b : Bool). CellMeets a q f c.args.offset (cell_or_none b (c.args.base + c.args.offset)) (cell (here a.member a.task q) f c.args.offset)) (same_Some _ _ is) found
 
 pub mark_at-requires : goal.mark_at-requires

@@ -51,7 +51,7 @@ returns-in-Ok-None c = λ w names a q shown spot owner v stands.
     let m = subst (λ (y : Result (Option End) Fault). First c.args.core.now c.args.regs.now a q c.args.at v n.0 n.1 y) (c.in-Ok-None.is ∙ ap Ok c.in-Ok-None.field-0-is) (c.end_at.ensures (live_of a) q t.frame t.offset t.word t.cell) in
     let rest = from_rest c.args.core.now c.args.regs.now a q c.args.at v n.0 n.1 c.get.result m c.get.ensures in
     let e = from_running a (λ (b : LiveContext c.args.core.now c.args.regs.now). EndMeets b q c.chase_reference.result (chase_on (here a.member a.task q) MORE_LINKS (Leads rest.word)))
-        (c.chase_reference.ensures (live_of a) q shown rest.at rest.owner rest.word rest.stands rest.reference) in
+    (c.chase_reference.ensures (live_of a) q shown rest.at rest.owner rest.word rest.stands rest.reference) in
     from_more c.args.core.now c.args.regs.now a q c.args.at v n.0 n.1 c.get.result rest MORE_LINKS (omega arith) c.chase_reference.result e
 
 pub returns-in-Err : goal.returns-in-Err

@@ -61,9 +61,11 @@ returns-clause-names c = λ some a q shown at owner v stands.
     let found = c.near_cell.ensures some (live_of a) q f (names_level c.args.core.now c.args.regs.now a q c.args.display.now shown c.couple_at-c.result low) own (display_at c.args.core.now c.args.regs.now a q c.args.display.now shown c.couple_at-c.result low) (omega (arith, c.if-c-lt2-2.false)) in
     let i = c.in-Some.ensures.some in
     let ref = is_reference c.args.core.now c.args.regs.now (live_of a) at owner c.args.w v stands (ap (λ (x : Tagged). x.tag) i.1) in
-    let e = irw_is c.args.core.now c.args.regs.now (live_of a) at owner c.args.w v c.in-Some.name stands ref i.0 i.1 in
-    (ref, finds_name c.args.core.now c.args.regs.now (live_of a) q v c.in-Some.name.couple c.couple_at-c.result (Ok c.near_cell.result) e c.couple_at-c.ensures
-        (subst (λ (y : Answer (ℕ × ℕ)). FindsCell a q (Ok c.near_cell.result) y) (sym is) found))
+    let e = irw_is c.args.core.now c.args.regs.now (live_of a) at owner c.args.w v c.in-Some.name stands ref i.0 i.1 in (
+      ref,
+      finds_name c.args.core.now c.args.regs.now (live_of a) q v c.in-Some.name.couple c.couple_at-c.result (Ok c.near_cell.result) e c.couple_at-c.ensures
+          (subst (λ (y : Answer (ℕ × ℕ)). FindsCell a q (Ok c.near_cell.result) y) (sym is) found),
+    )
 
 pub returns-clause-inside : goal.returns-clause-inside
 returns-clause-inside c = λ some.
