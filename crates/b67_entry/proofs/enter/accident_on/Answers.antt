@@ -131,11 +131,16 @@ begin-requires-clause-top c =
     let p = c.procedure_at-procedure.result in
     let stack = c.enclosure_of-home.result.record.stack in
     let disp = c.enclosure_of-home.result.record.disp in
-    subst (λ (z : Regs). EntersOver c.set-2.new.self z c.enclosure_of-home.result.mark) (same_regs cpu.regs r e.slot p) (stack, disp, enters_in cpu.core c.set.new.self c.set-2.new.self (record r { s = r.s + 2; f = r.s + 1; level = p.level; segment = p.segment; place = p.place }) (r.s + 2)
-    c.entered_mark-mark.result c.word.result c.word-2.result c.enclosure_of-home.result.record.stack c.enclosure_of-home.result.record.disp
-    good (omega (arith, room.last, room.under, room.inside, c.if-regs-lt2.false)) (λ z. omega (arith, z)) c.set.ensures.value c.word.ensures c.set-2.ensures.value
-    (ap (λ (k : Mscw). k.entered) c.entered_mark-mark.ensures) (ap (λ (k : Mscw). k.env_stack) c.entered_mark-mark.ensures) (ap (λ (k : Mscw). k.env_disp) c.entered_mark-mark.ensures)
-    (omega (arith, one, low, c.if-env-procedure.false)), sym c.enclosure_of-home.ensures.mark)
+    subst (λ (z : Regs). EntersOver c.set-2.new.self z c.enclosure_of-home.result.mark) (same_regs cpu.regs r e.slot p) (
+      stack,
+      disp,
+      enters_in cpu.core c.set.new.self c.set-2.new.self (record r { s = r.s + 2; f = r.s + 1; level = p.level; segment = p.segment; place = p.place }) (r.s + 2)
+          c.entered_mark-mark.result c.word.result c.word-2.result c.enclosure_of-home.result.record.stack c.enclosure_of-home.result.record.disp
+          good (omega (arith, room.last, room.under, room.inside, c.if-regs-lt2.false)) (λ z. omega (arith, z)) c.set.ensures.value c.word.ensures c.set-2.ensures.value
+          (ap (λ (k : Mscw). k.entered) c.entered_mark-mark.ensures) (ap (λ (k : Mscw). k.env_stack) c.entered_mark-mark.ensures) (ap (λ (k : Mscw). k.env_disp) c.entered_mark-mark.ensures)
+          (omega (arith, one, low, c.if-env-procedure.false)),
+      sym c.enclosure_of-home.ensures.mark,
+    )
 
 pub returns : goal.returns
 returns c = record {

@@ -103,12 +103,16 @@ begin-requires-clause-top c =
     let good : IsMscw c.entered_mark-mark.result = subst IsMscw (sym is) (Called.mark_good cpu a c.args.next c.requires.next c.args.cell f segment level place reference arguments e w) in
     let one : c.enclosure_of-home.result.record.level ≡ level_of_frame (frame (here a.member a.task c.args.next) f) = ap (λ (z : Activation). z.level) env in
     let low = Unasked.level_low cpu cpu.regs a c.args.next c.args.cell f segment level place e.procedure in
-    let r = rooms cpu cpu.regs a c.args.next c.args.cell f segment level place e.procedure in
-    (c.enclosure_of-home.result.record.stack, c.enclosure_of-home.result.record.disp, enters_in cpu.core c.set.new.self c.set-2.new.self (record cpu.regs { level = c.procedure_at-procedure.result.level; segment = c.procedure_at-procedure.result.segment; place = c.procedure_at-procedure.result.place }) (cpu.regs.f + 1)
-    c.entered_mark-mark.result c.word.result c.word-2.result c.enclosure_of-home.result.record.stack c.enclosure_of-home.result.record.disp
-    good (omega (arith, r.top, r.last, r.under, r.inside)) (λ z. omega (arith, z)) c.set.ensures.value c.word.ensures c.set-2.ensures.value
-    (ap (λ (k : Mscw). k.entered) c.entered_mark-mark.ensures) (ap (λ (k : Mscw). k.env_stack) c.entered_mark-mark.ensures) (ap (λ (k : Mscw). k.env_disp) c.entered_mark-mark.ensures)
-    (omega (arith, one, low, c.if-env-procedure.false)), sym c.enclosure_of-home.ensures.mark)
+    let r = rooms cpu cpu.regs a c.args.next c.args.cell f segment level place e.procedure in (
+      c.enclosure_of-home.result.record.stack,
+      c.enclosure_of-home.result.record.disp,
+      enters_in cpu.core c.set.new.self c.set-2.new.self (record cpu.regs { level = c.procedure_at-procedure.result.level; segment = c.procedure_at-procedure.result.segment; place = c.procedure_at-procedure.result.place }) (cpu.regs.f + 1)
+          c.entered_mark-mark.result c.word.result c.word-2.result c.enclosure_of-home.result.record.stack c.enclosure_of-home.result.record.disp
+          good (omega (arith, r.top, r.last, r.under, r.inside)) (λ z. omega (arith, z)) c.set.ensures.value c.word.ensures c.set-2.ensures.value
+          (ap (λ (k : Mscw). k.entered) c.entered_mark-mark.ensures) (ap (λ (k : Mscw). k.env_stack) c.entered_mark-mark.ensures) (ap (λ (k : Mscw). k.env_disp) c.entered_mark-mark.ensures)
+          (omega (arith, one, low, c.if-env-procedure.false)),
+      sym c.enclosure_of-home.ensures.mark,
+    )
 
 pub returns : goal.returns
 returns c = record {

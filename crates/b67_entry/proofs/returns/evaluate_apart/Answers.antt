@@ -1,4 +1,4 @@
-use Rattle.std.proofs.Common.{◌+◌, ◌≤◌, arith}
+use Rattle.std.proofs.Common.{arith}
 use Rattle.b67_layout.proofs.Starts.{meets_runs}
 use Rattle.b67_entry.proofs.Again.{again, marks_again, regs_again, left_again, held_again, low_again}
 use Rattle.b67_entry.proofs.returns.evaluate_apart.Goals as goal

@@ -1,4 +1,4 @@
-use Rattle.std.proofs.Common.{◌≡◌, ◌∙◌, ℕ, sym, subst, arith, refl, Ok}
+use Rattle.std.proofs.Common.{◌∙◌, sym, subst, arith, refl, Ok}
 use Rattle.b67_word.specs.Tagged.{Tagged}
 use Rattle.b67_model.specs.declared.operators.Op.TheVariants.{Valc}
 use Rattle.b67_refer.specs.declared.ends.End.TheVariants as end
@@ -35,8 +35,8 @@ value-requires-clause-end c =
     let cpu = c.args.cpu.now in
     let at = c.near_place-at.result in
     let leads : LeadsTo cpu.core cpu.regs cpu.display c.word.result (end.Cell at) = λ a q shown spot owner v stands.
-        (let n = c.near_place-at.ensures.names c.if-at-eq0.false a q shown spot owner v stands in
-        own_ends cpu.core cpu.regs a q at v n.0 n.1 (c.get.result, c.get.ensures, sym c.tag.ensures.value ∙ c.if-tag-ne0.false)) in
+    (let n = c.near_place-at.ensures.names c.if-at-eq0.false a q shown spot owner v stands in
+    own_ends cpu.core cpu.regs a q at v n.0 n.1 (c.get.result, c.get.ensures, sym c.tag.ensures.value ∙ c.if-tag-ne0.false)) in
     couple_ends cpu c.args.couple c.args.next c.word.result c.requires.couple c.word.ensures (Ok (end.Cell at)) leads c.requires.runs (end.Cell at) refl
 
 pub value-requires-clause-cells : goal.value-requires-clause-cells
@@ -47,8 +47,8 @@ returns c =
     let cpu = c.args.cpu.now in
     let at = c.near_place-at.result in
     let leads : LeadsTo cpu.core cpu.regs cpu.display c.word.result (end.Cell at) = λ a q shown spot owner v stands.
-        (let n = c.near_place-at.ensures.names c.if-at-eq0.false a q shown spot owner v stands in
-        own_ends cpu.core cpu.regs a q at v n.0 n.1 (c.get.result, c.get.ensures, sym c.tag.ensures.value ∙ c.if-tag-ne0.false)) in
+    (let n = c.near_place-at.ensures.names c.if-at-eq0.false a q shown spot owner v stands in
+    own_ends cpu.core cpu.regs a q at v n.0 n.1 (c.get.result, c.get.ensures, sym c.tag.ensures.value ∙ c.if-tag-ne0.false)) in
     stayed_by (Valc c.args.couple) c.args.next cpu c.value.new.cpu c.requires.runs c.value.result c.stayed.result c.stayed.ensures
     (couple_pushes cpu c.args.couple c.args.next c.word.result c.requires.couple c.word.ensures (Ok (end.Cell at)) leads (end.Cell at) refl
     (λ cell e. let z : ⊥ = cc in z) c.value.result c.value.new.cpu c.value.ensures.row) c.value.ensures.stays
