@@ -17,7 +17,7 @@ use b67_ctl::Irw;
 use b67_entry::{accident, entr, exit, retn};
 use b67_fetch::{Stored, indx, nxlv, stff, store, value};
 use b67_model::Code;
-use b67_refer::{End, chase};
+use b67_refer::{End, chase, chase_from};
 use b67_stack::{Cpu, Step};
 use b67_word::Place;
 
@@ -42,7 +42,7 @@ pub(crate) fn is_done(step: Step) -> bool
 
 /// Whether a step was made after which the task goes on behind the operator.
 #[inline(always)]
-fn stayed(step: Step) -> Went
+pub(crate) fn stayed(step: Step) -> Went
     ensures { SaysOn step result }
 {
     match step {
@@ -136,6 +136,24 @@ pub(crate) fn makes_valc(cpu: &mut Cpu, couple: u16, next: Place) -> Went
     ensures { MadeWent (Valc couple) next cpu.old result cpu.new }
 {
     let end = match chase(&cpu.core, &cpu.regs, &cpu.display, Irw { couple }.word()) {
+        Ok(end) => end,
+        Err(_) => return Went::Not,
+    };
+    match end {
+        End::Proc(cell) => entered(accident(cpu, cell, true, next)),
+        _ => stayed(value(cpu, 0, end, next)),
+    }
+}
+
+/// VALC of the couple that names the cell at an address.
+#[inline(never)]
+pub(crate) fn makes_valc_from(cpu: &mut Cpu, at: u32, next: Place) -> Went
+    requires runs { RunsSome cpu.old }
+    requires named { (couple : ℕ) × (couple < 2 ^ 14) × NamesCell cpu.old.core cpu.old.regs cpu.old.display (irw_word (record { couple = couple })) at }
+    requires next { IsPlace next }
+    ensures { (couple : ℕ) → couple < 2 ^ 14 → NamesCell cpu.old.core cpu.old.regs cpu.old.display (irw_word (record { couple = couple })) at → MadeWent (Valc couple) next cpu.old result cpu.new }
+{
+    let end = match chase_from(&cpu.core, &cpu.regs, &cpu.display, at) {
         Ok(end) => end,
         Err(_) => return Went::Not,
     };

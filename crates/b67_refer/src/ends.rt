@@ -120,15 +120,15 @@ fn named_cell(core: &Core, regs: &Regs, display: &[u32; 32], w: Word) -> Result<
     }
 }
 
-/// Follows a chain of references, of at most 1,024 links.
+/// Follows a chain of references, of at most so many links.
 #[inline(always)]
-fn chase_reference(core: &Core, regs: &Regs, display: &[u32; 32], w: Word) -> Result<End, Fault>
+fn chase_reference(core: &Core, regs: &Regs, display: &[u32; 32], w: Word, links: u32) -> Result<End, Fault>
     requires { (a : LiveContext core.now regs.now) × IsShown (running_of a) display.now × (at : ℕ) × (owner : ℕ) × (v : Words.Word) × StandsFor a at owner w v × IsReference v }
     ensures { (a : LiveContext core.now regs.now) (q : Place) → IsShown (running_of a) display.now → (at owner : ℕ) (v : Words.Word) → StandsFor a at owner w v
-        → IsReference v → FromEither (λ (b : LiveContext core.now regs.now). EndMeets b q result (chase_of (here a.member a.runner q) v)) a }
+        → IsReference v → FromEither (λ (b : LiveContext core.now regs.now). EndMeets b q result (chase_on (here a.member a.runner q) links (Leads v))) a }
 {
     let mut w = w;
-    for _i in 0..MOST_LINKS {
+    for _i in 0..links {
         let at = match named_cell(core, regs, display, w) {
             Ok(at) => at,
             Err(fault) => return Err(fault),
@@ -140,6 +140,19 @@ fn chase_reference(core: &Core, regs: &Regs, display: &[u32; 32], w: Word) -> Re
         }
     }
     Err(Fault::Loop)
+}
+
+/// Where a reference of the running task leads that names the cell at an address.
+#[inline(always)]
+pub fn chase_from(core: &Core, regs: &Regs, display: &[u32; 32], at: u32) -> Result<End, Fault>
+    requires { (w : Tagged) × NamesCell core.now regs.now display.now w at × LeadsSomewhere core.now regs.now display.now w }
+    ensures { (w : Tagged) → NamesCell core.now regs.now display.now w at → Leads core.now regs.now display.now w result }
+{
+    match end_at(core, regs, at) {
+        Ok(Some(end)) => Ok(end),
+        Ok(None) => chase_reference(core, regs, display, core.get(at), MOST_LINKS - 1),
+        Err(fault) => Err(fault),
+    }
 }
 
 /// Where a word leads: a reference to the end of its chain, an element copy to its element. The faults: INVALID ADDRESS
@@ -155,7 +168,7 @@ pub fn chase(core: &Core, regs: &Regs, display: &[u32; 32], w: Word) -> Result<E
         → FromEither (λ (b : LiveContext core.now regs.now). EndMeets b q result (follow (here a.member a.runner q) v)) a }
 {
     if w.tag() == 1 {
-        return chase_reference(core, regs, display, w);
+        return chase_reference(core, regs, display, w, MOST_LINKS);
     }
     if w.tag() != 5 {
         return Err(Fault::InvalidOperand);

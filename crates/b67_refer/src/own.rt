@@ -14,13 +14,12 @@ use b67_core::Core;
 use b67_ctl::{DataDesc, Irw, Regs};
 use b67_word::Word;
 
-/// The core address of the cell of the running stack's top activation record that a couple's word names, if the word there has
-/// this tag. Else 0.
+/// The core address of the cell of the running stack's top activation record that a couple's word names. Else 0.
 #[inline(always)]
-fn own_cell(core: &Core, regs: &Regs, display: &[u32; 32], w: Word, tag: u16) -> u32
+pub fn own_place(core: &Core, regs: &Regs, display: &[u32; 32], w: Word) -> u32
     requires { (a : RunningContext core.now regs.now) × IsShown a display.now }
     ensures names { result ≢ 0 → NamesCell core.now regs.now display.now w result }
-    ensures tagged { result ≢ 0 → HasTagAt core.now result tag }
+    ensures inside { result ≢ 0 → result < length core.now }
     ensures couple { result ≢ 0 → w.tag ≡ 1 }
 {
     let name = match Irw::from_word(w) {
@@ -36,7 +35,25 @@ fn own_cell(core: &Core, regs: &Regs, display: &[u32; 32], w: Word, tag: u16) ->
         return 0;
     }
     let at = base + u32::from(c.disp);
-    if at > regs.s || core.get(at).tag() != tag {
+    if at > regs.s {
+        return 0;
+    }
+    at
+}
+
+/// As `own_place`, if the word there has this tag.
+#[inline(always)]
+fn own_cell(core: &Core, regs: &Regs, display: &[u32; 32], w: Word, tag: u16) -> u32
+    requires { (a : RunningContext core.now regs.now) × IsShown a display.now }
+    ensures names { result ≢ 0 → NamesCell core.now regs.now display.now w result }
+    ensures tagged { result ≢ 0 → HasTagAt core.now result tag }
+    ensures couple { result ≢ 0 → w.tag ≡ 1 }
+{
+    let at = own_place(core, regs, display, w);
+    if at == 0 {
+        return 0;
+    }
+    if core.get(at).tag() != tag {
         return 0;
     }
     at
