@@ -15,7 +15,7 @@ use crate::operators::on_top;
 use crate::own::{indexes_own, takes_own};
 use b67_ctl::Irw;
 use b67_entry::{accident, entr, exit, retn};
-use b67_fetch::{Stored, indx, nxlv, stff, store, value};
+use b67_fetch::{Stored, indx, nxlv, stff, store, store_from, value};
 use b67_model::Code;
 use b67_refer::{End, chase, chase_from};
 use b67_stack::{Cpu, Step};
@@ -194,6 +194,19 @@ pub(crate) fn makes_ston(cpu: &mut Cpu, next: Place) -> Went
     ensures { MadeWent (Plain codes.Ston) next cpu.old result cpu.new }
 {
     match store(cpu, true, next) {
+        Stored::Made(step) => stayed(step),
+        Stored::Procedure(cell) => entered(enter(cpu, cell)),
+    }
+}
+
+/// STOD or STON, where the top cell names the cell at an address.
+#[inline(never)]
+pub(crate) fn makes_store_from(cpu: &mut Cpu, at: u32, keeps: bool, next: Place) -> Went
+    requires runs { RunsSome cpu.old }
+    requires named { NamesOnTop cpu.old at }
+    ensures { MadeWent (Plain (code_of_store keeps)) next cpu.old result cpu.new }
+{
+    match store_from(cpu, at, keeps, next) {
         Stored::Made(step) => stayed(step),
         Stored::Procedure(cell) => entered(enter(cpu, cell)),
     }

@@ -15,7 +15,7 @@ mod stuffed;
 pub use activation::{Activation, Enclosure, activation_of, enclosure_of};
 pub use cells::{cell_at, cell_of};
 pub use couples::couple_at;
-pub use ends::{End, chase, chase_from, owner};
+pub use ends::{End, chase, chase_from, chase_known, owner};
 pub use environment::{rebuild, rebuild_entered, rebuild_known};
 pub use own::{copied_element, own_array, own_operand, own_place};
 pub use spots::{Spot, spot_of};
