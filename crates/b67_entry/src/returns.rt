@@ -81,7 +81,7 @@ fn evaluate(cpu: &mut Cpu, regs: Regs, display: [u32; 32], word: Word) -> Step
 
 /// As `evaluate`, behind a call, with the caller's display made first.
 #[inline(never)]
-fn evaluate_apart(cpu: &mut Cpu, regs: Regs, word: Word) -> Step
+fn evaluate_apart(cpu: &mut Cpu, word: Word) -> Step
     requires run { (r : RunsSome cpu.old) × (a : Returns r.member r.task) × (v : Words.Word) × ReturnsWord r.storage r.plan r.member r.task cpu.old a v word
         × (regs ≡ caller_regs cpu.old.regs (caller_stack r.plan r.member r.task a) a.back) }
     requires left { RunningContext cpu.old.core regs }
@@ -93,6 +93,7 @@ fn evaluate_apart(cpu: &mut Cpu, regs: Regs, word: Word) -> Step
     ensures above { (i : ℕ) → cpu.new.regs.s < i → slice_get cpu.new.core i ≡ slice_get cpu.old.core i }
     ensures top { result ≡ Done → (regs.s < cpu.new.regs.s) × (cpu.new.regs.s ≤ regs.s + 2) }
 {
+    let regs = caller(cpu, cpu.top_mark());
     let mut display = cpu.display;
     rebuild_known(&cpu.core, &regs, &mut display, cpu.regs.level);
     evaluate(cpu, regs, display, word)
@@ -114,7 +115,7 @@ fn value_of(cpu: &mut Cpu, regs: Regs, word: Word) -> Step
 {
     let at = stuffed_operand(&cpu.core, &regs, word);
     if at == 0 {
-        return evaluate_apart(cpu, regs, word);
+        return evaluate_apart(cpu, word);
     }
     let value = cpu.core.get(at);
     settle(cpu, regs, value);

@@ -53,11 +53,11 @@ fn is_plain(core: &Core, from: u32, to: u32) -> bool
     true
 }
 
-/// Whether an activation record deep in a stack has a cell at an offset: no mark lies between. Of the running stack, cells are
+/// As `has_deep_cell`, of any stack and at any offset. Of the running stack, cells are
 /// looked at from the record's first one up, and marks from the last one down, in turns: so it takes the fewer of both. Of
 /// other stacks, and if there are few, the cells alone.
 #[inline(never)]
-fn has_deep_cell(core: &Core, regs: &Regs, base: u32, offset: u16) -> bool
+fn has_far_cell(core: &Core, regs: &Regs, base: u32, offset: u16) -> bool
     requires { (a : LiveContext core.now regs.now) × (f : ℕ) × NamesEntered (live.reach a) f × (1 < f) × (base ≡ live.frame_at_core a f) × (2 ≤ offset) }
     ensures { (a : LiveContext core.now regs.now) (q : Place) (f : ℕ) → NamesEntered (live.reach a) f → 1 < f → base ≡ live.frame_at_core a f → 2 ≤ offset
         → live.CellMeets a q f offset (live.cell_or_none result (base + offset)) (cell (here a.member a.task q) f offset) }
@@ -82,6 +82,24 @@ fn has_deep_cell(core: &Core, regs: &Regs, base: u32, offset: u16) -> bool
         mark -= u32::from(mark_at(core, mark).back);
     }
     true
+}
+
+/// Whether an activation record deep in a stack has a cell at an offset: no mark lies between. The few first cells of the running
+/// stack's records are looked at without a call.
+#[inline(always)]
+fn has_deep_cell(core: &Core, regs: &Regs, base: u32, offset: u16) -> bool
+    requires { (a : LiveContext core.now regs.now) × (f : ℕ) × NamesEntered (live.reach a) f × (1 < f) × (base ≡ live.frame_at_core a f) × (2 ≤ offset) }
+    ensures { (a : LiveContext core.now regs.now) (q : Place) (f : ℕ) → NamesEntered (live.reach a) f → 1 < f → base ≡ live.frame_at_core a f → 2 ≤ offset
+        → live.CellMeets a q f offset (live.cell_or_none result (base + offset)) (cell (here a.member a.task q) f offset) }
+{
+    if offset >= FEW_CELLS || base < regs.bosr || base > regs.losr {
+        return has_far_cell(core, regs, base, offset);
+    }
+    let at = base + u32::from(offset);
+    if at > top_of(core, regs, base) {
+        return false;
+    }
+    is_plain(core, base + 2, at)
 }
 
 /// The cell at an offset of an activation record whose mark is at an address of a slot. The last records of the running stack
