@@ -102,8 +102,28 @@ fn has_deep_cell(core: &Core, regs: &Regs, base: u32, offset: u16) -> bool
     is_plain(core, base + 2, at)
 }
 
-/// The cell at an offset of an activation record whose mark is at an address of a slot. The last records of the running stack
-/// end where the next one's mark stands, or at the top.
+/// Whether one of the running stack's last activation records has a cell at an offset: they end where the next one's mark stands,
+/// or at the top. None of other records.
+#[inline(always)]
+fn has_near_cell(core: &Core, regs: &Regs, base: u32, offset: u16) -> Option<bool>
+    requires { (a : LiveContext core.now regs.now) × (f : ℕ) × NamesEntered (live.reach a) f × (1 < f) × (base ≡ live.frame_at_core a f) × (2 ≤ offset) }
+    ensures { (a : LiveContext core.now regs.now) (q : Place) (f : ℕ) → NamesEntered (live.reach a) f → 1 < f → base ≡ live.frame_at_core a f → 2 ≤ offset
+        → (has : Bool) → result ≡ Some has → live.CellMeets a q f offset (live.cell_or_none has (base + offset)) (cell (here a.member a.task q) f offset) }
+{
+    let at = base + u32::from(offset);
+    let mut mark = regs.f;
+    let mut past = regs.s + 1;
+    for _turn in 0..NEAR_RECORDS {
+        if mark == base {
+            return Some(at < past);
+        }
+        past = mark;
+        mark -= u32::from(mark_at(core, mark).back);
+    }
+    None
+}
+
+/// The cell at an offset of an activation record whose mark is at an address of a slot.
 #[inline(always)]
 fn slot_cell(core: &Core, regs: &Regs, base: u32, offset: u16) -> Result<u32, Fault>
     requires { (a : LiveContext core.now regs.now) × (f : ℕ) × NamesEntered (live.reach a) f × (1 < f) × (base ≡ live.frame_at_core a f) }
@@ -113,23 +133,29 @@ fn slot_cell(core: &Core, regs: &Regs, base: u32, offset: u16) -> Result<u32, Fa
     if offset < 2 {
         return Err(Fault::InvalidAddress);
     }
-    let at = base + u32::from(offset);
-    let mut mark = regs.f;
-    let mut past = regs.s + 1;
-    for _turn in 0..NEAR_RECORDS {
-        if mark == base {
-            if at >= past {
-                return Err(Fault::InvalidAddress);
-            }
-            return Ok(at);
-        }
-        past = mark;
-        mark -= u32::from(mark_at(core, mark).back);
+    let has = match has_near_cell(core, regs, base, offset) {
+        Some(has) => has,
+        None => has_deep_cell(core, regs, base, offset),
+    };
+    if !has {
+        return Err(Fault::InvalidAddress);
     }
-    if has_deep_cell(core, regs, base, offset) {
-        return Ok(at);
+    Ok(base + u32::from(offset))
+}
+
+/// The core address of the cell that a stuffed reference names, if that is one of the running stack's last activation records.
+/// Else 0.
+#[inline(always)]
+pub(crate) fn near_cell_at(core: &Core, regs: &Regs, r: Sirw) -> u32
+{
+    if r.stack >= u16::from(SLOTS) || r.offset < 2 {
+        return 0;
     }
-    Err(Fault::InvalidAddress)
+    let base = address_of(core, regs, r.stack, r.disp);
+    match has_near_cell(core, regs, base, r.offset) {
+        Some(true) => base + u32::from(r.offset),
+        _ => 0,
+    }
 }
 
 /// The cell at an offset of the dictionary, or of the MCP, whose mark is at address 0.
