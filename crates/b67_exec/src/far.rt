@@ -16,6 +16,7 @@ use crate::own::{indexes_own, takes_own};
 use b67_ctl::Irw;
 use b67_entry::{accident, entr, exit, retn};
 use b67_fetch::{Stored, indx, nxlv, stff, store, store_from, value};
+use b67_exec_cells::mpcw;
 use b67_model::Code;
 use b67_refer::{End, chase, chase_from};
 use b67_stack::{Cpu, Step};
@@ -70,6 +71,16 @@ pub(crate) fn makes_plain(cpu: &mut Cpu, code: Code, next: Place) -> bool
     ensures { MadeOn (Plain code) next cpu.old result cpu.new }
 {
     let step = on_top(cpu, code, next);
+    is_done(step)
+}
+
+/// MPCW.
+#[inline(never)]
+pub(crate) fn makes_mpcw(cpu: &mut Cpu, bits: u64, next: Place) -> bool
+    requires { RunsSome cpu.old }
+    ensures { MadeOn (Mpcw bits) next cpu.old result cpu.new }
+{
+    let step = mpcw(cpu, bits, next);
     is_done(step)
 }
 

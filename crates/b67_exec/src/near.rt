@@ -11,7 +11,7 @@ ghost use Rattle.b67_exec.specs.Near.{ReaderBehind, WentOn, MadeNear, Makes, out
 ghost use Rattle.b67_exec.specs.Far.{MadeOn, MadeWent, MadeLeaving, LeavesBy, LeadsTo};
 
 use crate::far::{
-    Went, is_done, makes_entr, makes_exit, makes_indx, makes_load, makes_nxlv, makes_plain,
+    Went, is_done, makes_entr, makes_exit, makes_indx, makes_load, makes_mpcw, makes_nxlv, makes_plain,
     makes_retn, makes_stff, makes_stod, makes_ston, makes_store_from,
 };
 use crate::firsts::{Near, near_of};
@@ -219,6 +219,37 @@ fn literal_8(cpu: &mut Cpu, reader: &mut Reader) -> bool
     };
     let step = literal(cpu, u64::from(first(second)), place(next));
     went_on(step, reader, next)
+}
+
+/// The bits of the next word of the code, and the reader behind it. None at the end of the code.
+#[inline(always)]
+fn word_behind(cpu: &Cpu, r: Reader) -> Option<(u64, Reader)>
+{
+    if u32::from(r.word) + 2 >= r.code.words {
+        return None;
+    }
+    let literal = reader_to(cpu, r.code, Place { word: r.word + 1, syllable: 0 });
+    let next = reader_to(cpu, r.code, Place { word: r.word + 2, syllable: 0 });
+    Some((literal.bits >> 16, next))
+}
+
+/// MPCW.
+#[inline(always)]
+fn makes_procedure(cpu: &mut Cpu, reader: &mut Reader) -> bool
+    requires runs { RunsSome cpu.old }
+    requires stands { ReaderBehind cpu.old reader.old 0 }
+    requires begins { form_of (reader.old.bits / 2 ^ 56) ≡ Some (Literal ops.Mpcw) }
+    ensures { MadeNear cpu.old reader.old result cpu.new reader.new }
+{
+    let (bits, next) = match word_behind(cpu, *reader) {
+        Some(two) => two,
+        None => return false,
+    };
+    if !makes_mpcw(cpu, bits, place(next)) {
+        return false;
+    }
+    *reader = next;
+    true
 }
 
 /// A branch that is always taken, also at the end of the code. One to a place outside the segment isn't made here.
@@ -508,6 +539,7 @@ pub fn operate_near(cpu: &mut Cpu, reader: &mut Reader) -> Made
         Near::Valc => evaluates(cpu, reader),
         Near::Namc => on(names(cpu, reader)),
         Near::Lt8 => on(literal_8(cpu, reader)),
+        Near::Mpcw => on(makes_procedure(cpu, reader)),
         Near::Zero => on(pushes_zero(cpu, reader)),
         Near::One => on(pushes_one(cpu, reader)),
         Near::Add => on(numbers(cpu, reader, Numeric::Add)),

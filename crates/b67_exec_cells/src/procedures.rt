@@ -35,7 +35,7 @@ fn is_procedure(cpu: &Cpu, bits: u64) -> bool
 
 /// Pushes the word of a procedure of the running job, which the literal is, and goes on at `next`. INVALID OPERATOR if
 /// it names no segment or has other bits, then STACK OVERFLOW.
-#[inline(never)]
+#[inline]
 pub fn mpcw(cpu: &mut Cpu, bits: u64, next: Place) -> Step
     requires { RunsSome cpu.old }
     ensures row { ForEach cpu.old (λ x plan s m t. Meets x plan s m result cpu.old cpu.new (rows.mpcw (here m t next) bits)) }
