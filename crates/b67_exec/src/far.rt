@@ -15,10 +15,10 @@ use crate::operators::on_top;
 use crate::own::{indexes_own, takes_own};
 use b67_ctl::Irw;
 use b67_entry::{accident, entr, exit, retn};
-use b67_fetch::{Stored, indx, nxlv, stff, store, store_from, value};
+use b67_fetch::{Stored, indx, nxlv, stff, stff_near, store, value};
 use b67_exec_cells::mpcw;
 use b67_model::Code;
-use b67_refer::{End, chase, chase_from};
+use b67_refer::{End, chase, chase_from, near_place};
 use b67_stack::{Cpu, Step};
 use b67_word::Place;
 
@@ -128,9 +128,9 @@ pub(crate) fn makes_nxlv(cpu: &mut Cpu, next: Place) -> bool
     makes_far_nxlv(cpu, next)
 }
 
-/// STFF.
+/// STFF of any couple.
 #[inline(never)]
-pub(crate) fn makes_stff(cpu: &mut Cpu, next: Place) -> bool
+fn makes_far_stff(cpu: &mut Cpu, next: Place) -> bool
     requires { RunsSome cpu.old }
     ensures { MadeOn (Plain codes.Stff) next cpu.old result cpu.new }
 {
@@ -138,9 +138,21 @@ pub(crate) fn makes_stff(cpu: &mut Cpu, next: Place) -> bool
     is_done(step)
 }
 
-/// VALC.
+/// STFF, first as of a cell that is found without a call: so no register need be kept for the general case.
 #[inline(never)]
-pub(crate) fn makes_valc(cpu: &mut Cpu, couple: u16, next: Place) -> Went
+pub(crate) fn makes_stff(cpu: &mut Cpu, next: Place) -> bool
+    requires { RunsSome cpu.old }
+    ensures { MadeOn (Plain codes.Stff) next cpu.old result cpu.new }
+{
+    if stff_near(cpu, next) {
+        return true;
+    }
+    makes_far_stff(cpu, next)
+}
+
+/// VALC of any couple.
+#[inline(never)]
+fn makes_far_valc(cpu: &mut Cpu, couple: u16, next: Place) -> Went
     requires runs { RunsSome cpu.old }
     requires couple { couple < 2 ^ 14 }
     requires next { IsPlace next }
@@ -154,6 +166,24 @@ pub(crate) fn makes_valc(cpu: &mut Cpu, couple: u16, next: Place) -> Went
         End::Proc(cell) => entered(accident(cpu, cell, true, next)),
         _ => stayed(value(cpu, 0, end, next)),
     }
+}
+
+/// VALC, first as of a cell that is found without a call: so no register need be kept for the general case.
+#[inline(never)]
+pub(crate) fn makes_valc(cpu: &mut Cpu, couple: u16, next: Place) -> Went
+    requires runs { RunsSome cpu.old }
+    requires couple { couple < 2 ^ 14 }
+    requires next { IsPlace next }
+    ensures { MadeWent (Valc couple) next cpu.old result cpu.new }
+{
+    let at = near_place(&cpu.core, &cpu.regs, &cpu.display, Irw { couple }.word());
+    if at == 0 {
+        return makes_far_valc(cpu, couple, next);
+    }
+    if cpu.core.get(at).tag() != 0 {
+        return makes_valc_from(cpu, at, next);
+    }
+    stayed(value(cpu, 0, End::Cell(at), next))
 }
 
 /// VALC of the couple that names the cell at an address.
@@ -205,19 +235,6 @@ pub(crate) fn makes_ston(cpu: &mut Cpu, next: Place) -> Went
     ensures { MadeWent (Plain codes.Ston) next cpu.old result cpu.new }
 {
     match store(cpu, true, next) {
-        Stored::Made(step) => stayed(step),
-        Stored::Procedure(cell) => entered(enter(cpu, cell)),
-    }
-}
-
-/// STOD or STON, where the top cell names the cell at an address.
-#[inline(never)]
-pub(crate) fn makes_store_from(cpu: &mut Cpu, at: u32, keeps: bool, next: Place) -> Went
-    requires runs { RunsSome cpu.old }
-    requires named { NamesOnTop cpu.old at }
-    ensures { MadeWent (Plain (code_of_store keeps)) next cpu.old result cpu.new }
-{
-    match store_from(cpu, at, keeps, next) {
         Stored::Made(step) => stayed(step),
         Stored::Procedure(cell) => entered(enter(cpu, cell)),
     }

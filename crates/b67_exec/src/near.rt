@@ -12,10 +12,10 @@ ghost use Rattle.b67_exec.specs.Far.{MadeOn, MadeWent, MadeLeaving, LeavesBy, Le
 
 use crate::far::{
     Went, is_done, makes_entr, makes_exit, makes_indx, makes_load, makes_mpcw, makes_nxlv, makes_plain,
-    makes_retn, makes_stff, makes_stod, makes_ston, makes_store_from,
+    makes_retn, makes_stff, makes_stod, makes_ston,
 };
 use crate::firsts::{Near, near_of};
-use crate::own::{evaluates_own, own_top, stores_own};
+use crate::own::{evaluates_own, stores_own};
 use crate::reader::{Reader, behind, first, place, reader_to};
 use b67_arith::Numeric;
 use b67_entry::mkst;
@@ -432,14 +432,8 @@ fn makes_fetch(cpu: &mut Cpu, code: Code, next: Place) -> Went
 {
     match code {
         Code::Load => makes_load(cpu, next),
-        Code::Stod => {
-            let own = own_top(cpu);
-            if own == 0 { makes_stod(cpu, next) } else { makes_store_from(cpu, own, false, next) }
-        }
-        Code::Ston => {
-            let own = own_top(cpu);
-            if own == 0 { makes_ston(cpu, next) } else { makes_store_from(cpu, own, true, next) }
-        }
+        Code::Stod => makes_stod(cpu, next),
+        Code::Ston => makes_ston(cpu, next),
         _ => unreachable!(),
     }
 }

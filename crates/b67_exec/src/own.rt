@@ -34,15 +34,6 @@ pub(crate) fn evaluates_own(cpu: &mut Cpu, couple: u16, next: Place) -> Went
     stayed(value(cpu, 0, End::Cell(at), next))
 }
 
-/// The core address of the cell of the top activation record that the top cell names. Else 0.
-#[inline(always)]
-pub(crate) fn own_top(cpu: &Cpu) -> u32
-    requires { RunsSome cpu.now }
-    ensures { result ≢ 0 → NamesOnTop cpu.now result }
-{
-    own_place(&cpu.core, &cpu.regs, &cpu.display, cpu.core.get(cpu.regs.s))
-}
-
 /// LOAD of an operand whose cell is in the top activation record, and whether it was made.
 #[inline(always)]
 fn loads_own(cpu: &mut Cpu, next: Place) -> bool

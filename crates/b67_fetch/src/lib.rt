@@ -13,5 +13,5 @@ pub use b67_exec_cells::namc;
 pub use indexing::{indx, indx_at, nxlv, nxlv_at, own_item};
 pub use loading::{load, valc, value};
 pub use own::store_own;
-pub use storing::{Stored, stod, ston, store, store_from};
-pub use stuffing::stff;
+pub use storing::{Stored, stod, ston, store};
+pub use stuffing::{stff, stff_near};

@@ -13,7 +13,7 @@ ghost use Rattle.b67_fetch.specs.Fetches.{enters_at, EntersOrMeets};
 ghost use Rattle.b67_fetch.specs.Stores.{store_end, ElementAt, stored, store_step, CameTo};
 
 use b67_exec_cells::{array_descriptor, two_cells};
-use b67_refer::{End, chase_known};
+use b67_refer::{End, chase};
 use b67_stack::{Cpu, PROCEDURE, Step, What};
 use b67_word::{Fault, Place, Word};
 
@@ -71,11 +71,10 @@ pub(crate) fn put(cpu: &mut Cpu, at: u32, w: Word, keeps: bool, next: Place)
 }
 
 /// Stores the operand of the two top cells where the other one leads, and takes both off, or only the reference if
-/// the operand is kept. The top one names the cell at an address, or where that is 0 any one.
+/// the operand is kept.
 #[inline(always)]
-fn store_known(cpu: &mut Cpu, own: u32, keeps: bool, next: Place) -> Stored
-    requires runs { RunsSome cpu.old }
-    requires own { own ≢ 0 → NamesOnTop cpu.old own }
+pub fn store(cpu: &mut Cpu, keeps: bool, next: Place) -> Stored
+    requires { RunsSome cpu.old }
     ensures row { ForEach cpu.old (λ x plan s m t. let h = here m t next in EntersOrMeets x plan s m (store_step result) cpu.old cpu.new (enters_at (store_end h (cells_of h))) (rows.store keeps h (cells_of h))) }
     ensures stays { store_step result ≡ Done → StaysInSegment cpu.old cpu.new next }
     ensures comes { CameTo cpu.new result }
@@ -92,7 +91,7 @@ fn store_known(cpu: &mut Cpu, own: u32, keeps: bool, next: Place) -> Stored
     if value.tag() != 0 {
         return Stored::Made(Step::Fault(Fault::InvalidOperand));
     }
-    let end = match chase_known(&cpu.core, &cpu.regs, &cpu.display, reference, own) {
+    let end = match chase(&cpu.core, &cpu.regs, &cpu.display, reference) {
         Ok(end) => end,
         Err(fault) => return Stored::Made(Step::Fault(fault)),
     };
@@ -109,31 +108,6 @@ fn store_known(cpu: &mut Cpu, own: u32, keeps: bool, next: Place) -> Stored
     };
     put(cpu, at, value, keeps, next);
     Stored::Made(Step::Done)
-}
-
-/// Stores the operand of the two top cells where the other one leads, and takes both off, or only the reference if
-/// the operand is kept.
-#[inline(always)]
-pub fn store(cpu: &mut Cpu, keeps: bool, next: Place) -> Stored
-    requires { RunsSome cpu.old }
-    ensures row { ForEach cpu.old (λ x plan s m t. let h = here m t next in EntersOrMeets x plan s m (store_step result) cpu.old cpu.new (enters_at (store_end h (cells_of h))) (rows.store keeps h (cells_of h))) }
-    ensures stays { store_step result ≡ Done → StaysInSegment cpu.old cpu.new next }
-    ensures comes { CameTo cpu.new result }
-{
-    store_known(cpu, 0, keeps, next)
-}
-
-/// Stores the operand of the two top cells where the other one leads, and takes both off, or only the reference if
-/// the operand is kept. The top one names the cell at an address.
-#[inline(always)]
-pub fn store_from(cpu: &mut Cpu, own: u32, keeps: bool, next: Place) -> Stored
-    requires runs { RunsSome cpu.old }
-    requires own { NamesOnTop cpu.old own }
-    ensures row { ForEach cpu.old (λ x plan s m t. let h = here m t next in EntersOrMeets x plan s m (store_step result) cpu.old cpu.new (enters_at (store_end h (cells_of h))) (rows.store keeps h (cells_of h))) }
-    ensures stays { store_step result ≡ Done → StaysInSegment cpu.old cpu.new next }
-    ensures comes { CameTo cpu.new result }
-{
-    store_known(cpu, own, keeps, next)
 }
 
 /// Stores the operand of the two top cells where the other one leads, takes both off, and goes on at `next`. STACK

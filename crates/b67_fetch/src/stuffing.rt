@@ -13,7 +13,7 @@ ghost use Rattle.b67_refer.specs.Cells.{reach, view, frame_at_core};
 use b67_core::Core;
 use b67_ctl::{DICTIONARY_STACKS, Irw, MCP_STACK, Regs, STACK_VECTOR, Sirw, VectorWord};
 use b67_exec_cells::{branch_to, put_over, top_cell};
-use b67_refer::{cell_of, couple_at, spot_of};
+use b67_refer::{cell_of, couple_at, near_place, spot_of};
 use b67_stack::{Cpu, Step};
 use b67_word::{Fault, Place};
 
@@ -76,5 +76,28 @@ pub fn stff(cpu: &mut Cpu, next: Place) -> Step
             put_over(cpu, 1, reference.word(), next)
         }
         Err(fault) => Step::Fault(fault),
+    }
+}
+
+/// STFF of a couple whose cell is found without a call, and whether it was made. Else nothing is changed.
+#[inline(always)]
+pub fn stff_near(cpu: &mut Cpu, next: Place) -> bool
+{
+    let w = match top_cell(cpu) {
+        Ok(word) => word,
+        Err(_) => return false,
+    };
+    if near_place(&cpu.core, &cpu.regs, &cpu.display, w) == 0 {
+        return false;
+    }
+    let couple = match Irw::from_word(w) {
+        Some(name) => couple_at(name.couple, cpu.regs.level),
+        None => return false,
+    };
+    let base = cpu.display[usize::from(couple.level)];
+    let reference = stuffed(&cpu.core, &cpu.regs, base, couple.disp);
+    match put_over(cpu, 1, reference.word(), next) {
+        Step::Done => true,
+        _ => false,
     }
 }

@@ -143,19 +143,51 @@ fn slot_cell(core: &Core, regs: &Regs, base: u32, offset: u16) -> Result<u32, Fa
     Ok(base + u32::from(offset))
 }
 
-/// The core address of the cell that a stuffed reference names, if that is one of the running stack's last activation records.
-/// Else 0.
+/// The cell at an offset of an activation record whose mark is at an address of a slot, deep in a stack by a call.
+#[inline(always)]
+fn far_slot_cell(core: &Core, regs: &Regs, base: u32, offset: u16) -> Result<u32, Fault>
+    requires { (a : LiveContext core.now regs.now) × (f : ℕ) × NamesEntered (live.reach a) f × (1 < f) × (base ≡ live.frame_at_core a f) }
+    ensures { (a : LiveContext core.now regs.now) (q : Place) (f : ℕ) → NamesEntered (live.reach a) f → 1 < f → base ≡ live.frame_at_core a f
+        → live.CellMeets a q f offset result (cell (here a.member a.task q) f offset) }
+{
+    if offset < 2 {
+        return Err(Fault::InvalidAddress);
+    }
+    let has = match has_near_cell(core, regs, base, offset) {
+        Some(has) => has,
+        None => has_far_cell(core, regs, base, offset),
+    };
+    if !has {
+        return Err(Fault::InvalidAddress);
+    }
+    Ok(base + u32::from(offset))
+}
+
+/// The cell at an offset of an activation record, if that is one of the running stack's last ones, or the cell one of the few first
+/// ones of a record deeper there. Else 0: so nothing is called.
+#[inline(always)]
+pub(crate) fn near_cell(core: &Core, regs: &Regs, base: u32, offset: u16) -> u32
+{
+    let at = base + u32::from(offset);
+    match has_near_cell(core, regs, base, offset) {
+        Some(has) => if has { at } else { 0 },
+        None => {
+            if offset >= FEW_CELLS || base < regs.bosr || base > regs.losr || at > regs.s {
+                return 0;
+            }
+            if is_plain(core, base + 2, at) { at } else { 0 }
+        }
+    }
+}
+
+/// The core address of the cell that a stuffed reference names, as `near_cell`.
 #[inline(always)]
 pub(crate) fn near_cell_at(core: &Core, regs: &Regs, r: Sirw) -> u32
 {
     if r.stack >= u16::from(SLOTS) || r.offset < 2 {
         return 0;
     }
-    let base = address_of(core, regs, r.stack, r.disp);
-    match has_near_cell(core, regs, base, r.offset) {
-        Some(true) => base + u32::from(r.offset),
-        _ => 0,
-    }
+    near_cell(core, regs, address_of(core, regs, r.stack, r.disp), r.offset)
 }
 
 /// The cell at an offset of the dictionary, or of the MCP, whose mark is at address 0.
@@ -191,7 +223,7 @@ pub fn cell_of(core: &Core, regs: &Regs, display: &[u32; 32], c: Couple) -> Resu
     }
     let base = display[c.level as usize];
     if c.level > 1 {
-        return slot_cell(core, regs, base, c.disp);
+        return far_slot_cell(core, regs, base, c.disp);
     }
     base_cell(core, regs, base, c.disp)
 }

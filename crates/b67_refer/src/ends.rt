@@ -180,17 +180,3 @@ pub fn chase(core: &Core, regs: &Regs, display: &[u32; 32], w: Word) -> Result<E
     let original = owner(core, d);
     element_at(core, regs, original, d.length)
 }
-
-/// Where a word of the running task leads, which names the cell at an address, or where that is 0 any one.
-#[inline(always)]
-pub fn chase_known(core: &Core, regs: &Regs, display: &[u32; 32], w: Word, own: u32) -> Result<End, Fault>
-    requires stands { (a : RunningContext core.now regs.now) × IsShown a display.now × (at : ℕ) × (owner : ℕ) × (v : Words.Word) × StandsFor (live_of a) at owner w v }
-    requires own { own ≢ 0 → NamesCell core.now regs.now display.now w own }
-    ensures { (a : RunningContext core.now regs.now) (q : Place) → IsShown a display.now → (at owner : ℕ) (v : Words.Word) → StandsFor (live_of a) at owner w v
-        → EndMeets (live_of a) q result (follow (here a.member a.task q) v) }
-{
-    if own == 0 {
-        return chase(core, regs, display, w);
-    }
-    chase_from(core, regs, display, own)
-}

@@ -8,6 +8,7 @@ ghost use Rattle.b67_refer.specs.Ends.{HasTagAt};
 ghost use Rattle.b67_refer.specs.Own.{NamesCell, LeadsTo};
 ghost use Rattle.b67_refer.specs.declared.ends.End.TheVariants as end;
 
+use crate::cells::near_cell;
 use crate::couples::couple_at;
 use crate::ends::{End, element_at, owner};
 use b67_core::Core;
@@ -39,6 +40,21 @@ pub fn own_place(core: &Core, regs: &Regs, display: &[u32; 32], w: Word) -> u32
         return 0;
     }
     at
+}
+
+/// The core address of the cell that a couple's word names, as `near_cell`.
+#[inline(always)]
+pub fn near_place(core: &Core, regs: &Regs, display: &[u32; 32], w: Word) -> u32
+{
+    let name = match Irw::from_word(w) {
+        Some(name) => name,
+        None => return 0,
+    };
+    let c = couple_at(name.couple, regs.level);
+    if c.level > regs.level || c.level < 2 || c.disp < 2 {
+        return 0;
+    }
+    near_cell(core, regs, display[c.level as usize], c.disp)
 }
 
 /// As `own_place`, if the word there has this tag.
