@@ -232,14 +232,36 @@ pub fn cell_of(core: &Core, regs: &Regs, display: &[u32; 32], c: Couple) -> Resu
 /// of any live task of the running task's job, and, where it is a dictionary, that of this job. INVALID ADDRESS exactly if
 /// there is no such cell.
 #[inline(always)]
-pub fn cell_at(core: &Core, regs: &Regs, r: Sirw) -> Result<u32, Fault>
+fn stuffed_cell(core: &Core, regs: &Regs, r: Sirw, few: bool) -> Result<u32, Fault>
     requires { (a : LiveContext core.now regs.now) × (f : ℕ) × NamesEntered (live.reach a) f × (live.view a f ≡ record { stack = r.stack; disp = r.disp }) }
     ensures { (a : LiveContext core.now regs.now) (q : Place) (f : ℕ) → NamesEntered (live.reach a) f → live.view a f ≡ record { stack = r.stack; disp = r.disp }
         → live.CellMeets a q f r.offset result (cell (here a.member a.task q) f r.offset) }
 {
     let base = address_of(core, regs, r.stack, r.disp);
     if r.stack < u16::from(SLOTS) {
-        return slot_cell(core, regs, base, r.offset);
+        return if few { slot_cell(core, regs, base, r.offset) } else { far_slot_cell(core, regs, base, r.offset) };
     }
     base_cell(core, regs, base, r.offset)
+}
+
+/// The core address of the cell that a stuffed reference names. It needs the reference's activation record alive, in the reach
+/// of any live task of the running task's job, and, where it is a dictionary, that of this job. INVALID ADDRESS exactly if
+/// there is no such cell.
+#[inline(always)]
+pub fn cell_at(core: &Core, regs: &Regs, r: Sirw) -> Result<u32, Fault>
+    requires { (a : LiveContext core.now regs.now) × (f : ℕ) × NamesEntered (live.reach a) f × (live.view a f ≡ record { stack = r.stack; disp = r.disp }) }
+    ensures { (a : LiveContext core.now regs.now) (q : Place) (f : ℕ) → NamesEntered (live.reach a) f → live.view a f ≡ record { stack = r.stack; disp = r.disp }
+        → live.CellMeets a q f r.offset result (cell (here a.member a.task q) f r.offset) }
+{
+    stuffed_cell(core, regs, r, false)
+}
+
+/// As `cell_at`, with the few first cells of a record deep in the running stack looked at without a call.
+#[inline(always)]
+pub(crate) fn few_cell_at(core: &Core, regs: &Regs, r: Sirw) -> Result<u32, Fault>
+    requires { (a : LiveContext core.now regs.now) × (f : ℕ) × NamesEntered (live.reach a) f × (live.view a f ≡ record { stack = r.stack; disp = r.disp }) }
+    ensures { (a : LiveContext core.now regs.now) (q : Place) (f : ℕ) → NamesEntered (live.reach a) f → live.view a f ≡ record { stack = r.stack; disp = r.disp }
+        → live.CellMeets a q f r.offset result (cell (here a.member a.task q) f r.offset) }
+{
+    stuffed_cell(core, regs, r, true)
 }

@@ -12,7 +12,7 @@ ghost use Rattle.b67_refer.specs.LiveCells.{reach, StandsFor, IsCellAt, FindsCel
 ghost use Rattle.b67_refer.specs.LiveEnds.{IsReference, EndMeets, LinkMeets};
 ghost use Rattle.b67_refer.specs.Ends.{IsCopyOf, HasTagAt};
 
-use crate::cells::{cell_at, cell_of};
+use crate::cells::{cell_at, cell_of, few_cell_at};
 use crate::couples::couple_at;
 use b67_core::Core;
 use b67_ctl::{AreaHead, DataDesc, IntrinsicPcw, Irw, Regs, Sirw};
@@ -109,27 +109,27 @@ fn end_at(core: &Core, regs: &Regs, at: u32) -> Result<Option<End>, Fault>
 
 /// The cell that a reference word names.
 #[inline(always)]
-fn named_cell(core: &Core, regs: &Regs, display: &[u32; 32], w: Word) -> Result<u32, Fault>
+fn named_cell(core: &Core, regs: &Regs, display: &[u32; 32], w: Word, few: bool) -> Result<u32, Fault>
     requires { (a : LiveContext core.now regs.now) × IsShown (running_of a) display.now × (at : ℕ) × (owner : ℕ) × (v : Words.Word) × StandsFor a at owner w v × IsReference v }
     ensures { (a : LiveContext core.now regs.now) (q : Place) → IsShown (running_of a) display.now → (at owner : ℕ) (v : Words.Word) → StandsFor a at owner w v
         → IsReference v → FromEither (λ (b : LiveContext core.now regs.now). FindsCell b q result (place_of (here a.member a.runner q) v)) a }
 {
     match Irw::from_word(w) {
         Some(r) => cell_of(core, regs, display, couple_at(r.couple, regs.level)),
-        None => cell_at(core, regs, Sirw::read(w)),
+        None => if few { few_cell_at(core, regs, Sirw::read(w)) } else { cell_at(core, regs, Sirw::read(w)) },
     }
 }
 
 /// Follows a chain of references, of at most so many links.
 #[inline(always)]
-fn chase_reference(core: &Core, regs: &Regs, display: &[u32; 32], w: Word, links: u32) -> Result<End, Fault>
+fn chase_reference(core: &Core, regs: &Regs, display: &[u32; 32], w: Word, links: u32, few: bool) -> Result<End, Fault>
     requires { (a : LiveContext core.now regs.now) × IsShown (running_of a) display.now × (at : ℕ) × (owner : ℕ) × (v : Words.Word) × StandsFor a at owner w v × IsReference v }
     ensures { (a : LiveContext core.now regs.now) (q : Place) → IsShown (running_of a) display.now → (at owner : ℕ) (v : Words.Word) → StandsFor a at owner w v
         → IsReference v → FromEither (λ (b : LiveContext core.now regs.now). EndMeets b q result (chase_on (here a.member a.runner q) links (Leads v))) a }
 {
     let mut w = w;
     for _i in 0..links {
-        let at = match named_cell(core, regs, display, w) {
+        let at = match named_cell(core, regs, display, w, few) {
             Ok(at) => at,
             Err(fault) => return Err(fault),
         };
@@ -150,7 +150,7 @@ pub fn chase_from(core: &Core, regs: &Regs, display: &[u32; 32], at: u32) -> Res
 {
     match end_at(core, regs, at) {
         Ok(Some(end)) => Ok(end),
-        Ok(None) => chase_reference(core, regs, display, core.get(at), MOST_LINKS - 1),
+        Ok(None) => chase_reference(core, regs, display, core.get(at), MOST_LINKS - 1, true),
         Err(fault) => Err(fault),
     }
 }
@@ -168,7 +168,7 @@ pub fn chase(core: &Core, regs: &Regs, display: &[u32; 32], w: Word) -> Result<E
         → FromEither (λ (b : LiveContext core.now regs.now). EndMeets b q result (follow (here a.member a.runner q) v)) a }
 {
     if w.tag() == 1 {
-        return chase_reference(core, regs, display, w, MOST_LINKS);
+        return chase_reference(core, regs, display, w, MOST_LINKS, false);
     }
     if w.tag() != 5 {
         return Err(Fault::InvalidOperand);
