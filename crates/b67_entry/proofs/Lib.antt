@@ -1,3 +1,4 @@
+pub mod Again
 pub mod Callers
 pub mod Criticals
 pub mod Exits

@@ -79,26 +79,24 @@ fn evaluate(cpu: &mut Cpu, regs: Regs, display: [u32; 32], word: Word) -> Step
     }
 }
 
-/// As `evaluate`, behind a call, with the caller's display made first.
+/// As `evaluate`, behind a call, with the caller's registers and display made first.
 #[inline(never)]
-fn evaluate_apart(cpu: &mut Cpu, regs: Regs, word: Word) -> Step
-    requires run { (r : RunsSome cpu.old) × (a : Returns r.member r.task) × (v : Words.Word) × ReturnsWord r.storage r.plan r.member r.task cpu.old a v word
-        × (regs ≡ caller_regs cpu.old.regs (caller_stack r.plan r.member r.task a) a.back) }
-    requires left { RunningContext cpu.old.core regs }
-    requires known { HoldsEnvironment cpu.old.core regs cpu.old.display cpu.old.regs.level }
+fn evaluate_apart(cpu: &mut Cpu, word: Word) -> Step
+    requires run { (r : RunsSome cpu.old) × (a : Returns r.member r.task) × (v : Words.Word) × ReturnsWord r.storage r.plan r.member r.task cpu.old a v word }
     requires tag { word.tag ≢ 0 }
     ensures row { ForEach cpu.old (λ x plan s m t. (a : Returns m t) (v : Words.Word) → ReturnsWord x plan m t cpu.old a v word
-        → regs ≡ caller_regs cpu.old.regs (caller_stack plan m t a) a.back
         → Meets x plan s m result cpu.old cpu.new (rows.returned (here_left m t a) v true)) }
     ensures above { (i : ℕ) → cpu.new.regs.s < i → slice_get cpu.new.core i ≡ slice_get cpu.old.core i }
-    ensures top { result ≡ Done → (regs.s < cpu.new.regs.s) × (cpu.new.regs.s ≤ regs.s + 2) }
+    ensures top { result ≡ Done → (cpu.old.regs.f ≤ cpu.new.regs.s) × (cpu.new.regs.s ≤ cpu.old.regs.f + 1) }
 {
+    let mark = cpu.top_mark();
+    let regs = caller(cpu, mark);
     let mut display = cpu.display;
     rebuild_known(&cpu.core, &regs, &mut display, cpu.regs.level);
     evaluate(cpu, regs, display, word)
 }
 
-/// As `evaluate`. A stuffed reference to an operand, as most words are, needs no display first.
+/// As `evaluate`. A stuffed reference to an operand in the last records, as most words are, needs no display first.
 #[inline(always)]
 fn value_of(cpu: &mut Cpu, regs: Regs, word: Word) -> Step
     requires run { (r : RunsSome cpu.old) × (a : Returns r.member r.task) × (v : Words.Word) × ReturnsWord r.storage r.plan r.member r.task cpu.old a v word
@@ -114,7 +112,7 @@ fn value_of(cpu: &mut Cpu, regs: Regs, word: Word) -> Step
 {
     let at = stuffed_operand(&cpu.core, &regs, word);
     if at == 0 {
-        return evaluate_apart(cpu, regs, word);
+        return evaluate_apart(cpu, word);
     }
     let value = cpu.core.get(at);
     settle(cpu, regs, value);

@@ -1,10 +1,11 @@
 //! Far operators that are read syllable after syllable, each behind a call of its own that answers by a bit or two.
 
-ghost use Rattle.std.specs.Prelude.{◌≡◌, ◌^◌, ◌<◌, true};
-ghost use Rattle.b67_ctl.specs.Layout.{IsPlace};
+ghost use Rattle.std.specs.Prelude.{◌≡◌, ◌^◌, ◌<◌, ℕ, true};
+ghost use Rattle.b67_ctl.specs.Layout.{IsPlace, irw_word};
 ghost use Rattle.b67_model.specs.declared.operators.Op.TheVariants.{Plain, Valc};
 ghost use Rattle.b67_model.specs.declared.operators.Code.TheVariants as codes;
 ghost use Rattle.b67_layout.specs.Meets.{RunsSome};
+ghost use Rattle.b67_refer.specs.Own.{NamesCell};
 ghost use Rattle.b67_exec.specs.Operators.{is_on_top};
 ghost use Rattle.b67_exec.specs.Near.{SaysDone};
 ghost use Rattle.b67_exec.specs.Far.{MadeOn, MadeAway, MadeWent, MadeLeaving, SaysOn, SaysAway};
@@ -15,9 +16,10 @@ use crate::operators::on_top;
 use crate::own::{indexes_own, takes_own};
 use b67_ctl::Irw;
 use b67_entry::{accident, entr, exit, retn};
-use b67_fetch::{Stored, indx, nxlv, stff, store, value};
+use b67_exec_cells::top_cell;
+use b67_fetch::{Stored, indx, nxlv, stff, stff_named, store, value};
 use b67_model::Code;
-use b67_refer::{End, chase};
+use b67_refer::{End, chase, chase_from, near_place};
 use b67_stack::{Cpu, Step};
 use b67_word::Place;
 
@@ -42,7 +44,7 @@ pub(crate) fn is_done(step: Step) -> bool
 
 /// Whether a step was made after which the task goes on behind the operator.
 #[inline(always)]
-fn stayed(step: Step) -> Went
+pub(crate) fn stayed(step: Step) -> Went
     ensures { SaysOn step result }
 {
     match step {
@@ -117,9 +119,9 @@ pub(crate) fn makes_nxlv(cpu: &mut Cpu, next: Place) -> bool
     makes_far_nxlv(cpu, next)
 }
 
-/// STFF.
+/// STFF of any couple.
 #[inline(never)]
-pub(crate) fn makes_stff(cpu: &mut Cpu, next: Place) -> bool
+fn makes_far_stff(cpu: &mut Cpu, next: Place) -> bool
     requires { RunsSome cpu.old }
     ensures { MadeOn (Plain codes.Stff) next cpu.old result cpu.new }
 {
@@ -127,7 +129,42 @@ pub(crate) fn makes_stff(cpu: &mut Cpu, next: Place) -> bool
     is_done(step)
 }
 
-/// VALC.
+/// STFF, first as of a cell that is found without a call: so no register need be kept for the general case.
+#[inline(never)]
+pub(crate) fn makes_stff(cpu: &mut Cpu, next: Place) -> bool
+    requires { RunsSome cpu.old }
+    ensures { MadeOn (Plain codes.Stff) next cpu.old result cpu.new }
+{
+    let w = match top_cell(cpu) {
+        Ok(word) => word,
+        Err(_) => return false,
+    };
+    if near_place(&cpu.core, &cpu.regs, &cpu.display, w) == 0 {
+        return makes_far_stff(cpu, next);
+    }
+    let step = stff_named(cpu, w, next);
+    is_done(step)
+}
+
+/// VALC of any couple.
+#[inline(never)]
+fn makes_far_valc(cpu: &mut Cpu, couple: u16, next: Place) -> Went
+    requires runs { RunsSome cpu.old }
+    requires couple { couple < 2 ^ 14 }
+    requires next { IsPlace next }
+    ensures { MadeWent (Valc couple) next cpu.old result cpu.new }
+{
+    let end = match chase(&cpu.core, &cpu.regs, &cpu.display, Irw { couple }.word()) {
+        Ok(end) => end,
+        Err(_) => return Went::Not,
+    };
+    match end {
+        End::Proc(cell) => entered(accident(cpu, cell, true, next)),
+        _ => stayed(value(cpu, 0, end, next)),
+    }
+}
+
+/// VALC, first as of a cell that is found without a call: so no register need be kept for the general case.
 #[inline(never)]
 pub(crate) fn makes_valc(cpu: &mut Cpu, couple: u16, next: Place) -> Went
     requires runs { RunsSome cpu.old }
@@ -135,7 +172,25 @@ pub(crate) fn makes_valc(cpu: &mut Cpu, couple: u16, next: Place) -> Went
     requires next { IsPlace next }
     ensures { MadeWent (Valc couple) next cpu.old result cpu.new }
 {
-    let end = match chase(&cpu.core, &cpu.regs, &cpu.display, Irw { couple }.word()) {
+    let at = near_place(&cpu.core, &cpu.regs, &cpu.display, Irw { couple }.word());
+    if at == 0 {
+        return makes_far_valc(cpu, couple, next);
+    }
+    if cpu.core.get(at).tag() != 0 {
+        return makes_valc_from(cpu, at, next);
+    }
+    stayed(value(cpu, 0, End::Cell(at), next))
+}
+
+/// VALC of the couple that names the cell at an address.
+#[inline(never)]
+pub(crate) fn makes_valc_from(cpu: &mut Cpu, at: u32, next: Place) -> Went
+    requires runs { RunsSome cpu.old }
+    requires named { (couple : ℕ) × (couple < 2 ^ 14) × NamesCell cpu.old.core cpu.old.regs cpu.old.display (irw_word (record { couple = couple })) at }
+    requires next { IsPlace next }
+    ensures { (couple : ℕ) → couple < 2 ^ 14 → NamesCell cpu.old.core cpu.old.regs cpu.old.display (irw_word (record { couple = couple })) at → MadeWent (Valc couple) next cpu.old result cpu.new }
+{
+    let end = match chase_from(&cpu.core, &cpu.regs, &cpu.display, at) {
         Ok(end) => end,
         Err(_) => return Went::Not,
     };

@@ -12,10 +12,10 @@ ghost use Rattle.b67_exec.specs.Far.{MadeOn, MadeWent, MadeLeaving, LeavesBy, Le
 
 use crate::far::{
     Went, is_done, makes_entr, makes_exit, makes_indx, makes_load, makes_nxlv, makes_plain,
-    makes_retn, makes_stff, makes_stod, makes_ston, makes_valc,
+    makes_retn, makes_stff, makes_stod, makes_ston,
 };
 use crate::firsts::{Near, near_of};
-use crate::own::{stores_own, values_own};
+use crate::own::{evaluates_own, stores_own};
 use crate::reader::{Reader, behind, first, place, reader_to};
 use b67_arith::Numeric;
 use b67_entry::mkst;
@@ -376,11 +376,7 @@ fn evaluates(cpu: &mut Cpu, reader: &mut Reader) -> Made
         None => return Made::Not,
     };
     let named = couple(first(*reader), first(second));
-    if values_own(cpu, named, place(next)) {
-        *reader = next;
-        return Made::On;
-    }
-    let went = makes_valc(cpu, named, place(next));
+    let went = evaluates_own(cpu, named, place(next));
     goes(went, reader, next)
 }
 

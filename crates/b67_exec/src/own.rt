@@ -3,31 +3,36 @@
 ghost use Rattle.std.specs.Prelude.{◌≡◌, ◌^◌, ◌<◌, true};
 ghost use Rattle.b67_model.specs.declared.operators.Op.TheVariants.{Plain, Valc};
 ghost use Rattle.b67_model.specs.declared.operators.Code.TheVariants as codes;
+ghost use Rattle.b67_ctl.specs.Layout.{IsPlace};
 ghost use Rattle.b67_layout.specs.Meets.{RunsSome};
 ghost use Rattle.b67_exec.specs.Operators.{may_enter};
-ghost use Rattle.b67_exec.specs.Far.{MadeOn};
+ghost use Rattle.b67_exec.specs.Far.{MadeOn, MadeWent};
 
-use crate::far::is_done;
+use crate::far::{Went, is_done, makes_valc, makes_valc_from, stayed};
 use b67_ctl::Irw;
 use b67_exec_cells::top_cell;
 use b67_fetch::{indx_at, nxlv_at, own_item, store_own, value};
 use b67_model::Code;
-use b67_refer::{End, own_operand};
+use b67_refer::{End, own_operand, own_place};
 use b67_stack::Cpu;
 use b67_word::Place;
 
-/// VALC of an operand whose cell is in the top activation record, and whether it was made.
+/// VALC, first as of a cell of the top activation record, and what became of it.
 #[inline(always)]
-pub(crate) fn values_own(cpu: &mut Cpu, couple: u16, next: Place) -> bool
+pub(crate) fn evaluates_own(cpu: &mut Cpu, couple: u16, next: Place) -> Went
     requires runs { RunsSome cpu.old }
     requires couple { couple < 2 ^ 14 }
-    ensures { MadeOn (Valc couple) next cpu.old result cpu.new }
+    requires next { IsPlace next }
+    ensures { MadeWent (Valc couple) next cpu.old result cpu.new }
 {
-    let at = own_operand(&cpu.core, &cpu.regs, &cpu.display, Irw { couple }.word());
+    let at = own_place(&cpu.core, &cpu.regs, &cpu.display, Irw { couple }.word());
     if at == 0 {
-        return false;
+        return makes_valc(cpu, couple, next);
     }
-    is_done(value(cpu, 0, End::Cell(at), next))
+    if cpu.core.get(at).tag() != 0 {
+        return makes_valc_from(cpu, at, next);
+    }
+    stayed(value(cpu, 0, End::Cell(at), next))
 }
 
 /// LOAD of an operand whose cell is in the top activation record, and whether it was made.

@@ -1,7 +1,10 @@
 -- STOD and STON where the top cell is followed without a search, and arrays found so.
-use Rattle.std.proofs.Common.{◌≡◌, ℕ, ◌+◌, ◌<◌, ◌≤◌, ◌∷◌, Bool, true, false, Ok, refl, sym, arith, inr, length, subst}
+use Rattle.std.proofs.Common.{◌≡◌, ℕ, ◌+◌, ◌<◌, ◌≤◌, ◌∷◌, List, Bool, true, false, Ok, Err, refl, sym, arith, inr, length, subst}
 use Rattle.b67_word.specs.Tagged.{Tagged, word}
 use Rattle.b67_word.specs.declared.couples.Place.{Place}
+use Rattle.b67_word.specs.declared.faults.Fault.{Fault}
+use Rattle.b67_word.specs.declared.faults.Fault.TheVariants.{InvalidOperand}
+use Rattle.b67_ctl.specs.declared.registers.Regs.{Regs}
 use Rattle.std.specs.Prelude.{if◌then◌else◌}
 use Rattle.b67_model.specs.Chase as Chase
 use Rattle.b67_model.specs.Common.{Answer, ◌>>=◌, Done, Operand, Session, Task, SessionJob, cells_of, follow, in_order, Word, array_of}
@@ -13,7 +16,9 @@ use Rattle.b67_stack.specs.Represents.{Storage}
 use Rattle.b67_refer.specs.declared.ends.End.{End}
 use Rattle.b67_refer.specs.declared.ends.End.TheVariants as end
 use Rattle.b67_refer.specs.Ends.{EndMeets}
-use Rattle.b67_refer.specs.Own.{LeadsTo}
+use Rattle.b67_refer.specs.Own.{LeadsTo, EndsAt}
+use Rattle.b67_refer.specs.RunningContext.{RunningContext, live_of}
+use Rattle.b67_refer.proofs.Follows.{follows_none}
 use Rattle.b67_exec_cells.specs.Tops.{GivesTwo}
 use Rattle.b67_fetch.specs.Fetches.{EntersOrMeets, IsFollowed, enters_at}
 use Rattle.b67_fetch.specs.Indexes.{FindsArray}
@@ -31,6 +36,25 @@ done_made x plan s m old new false answer i = i
 -- a store through a couple of an operand's cell goes to this cell
 pub operand_through : (cpu : Cpu) (w : Tagged) (at : ℕ) → w.tag ≡ 1 → LeadsTo cpu.core cpu.regs cpu.display w (end.Cell at) → StoresThrough cpu w at
 operand_through cpu w at one leads = record { other = λ z. omega (arith, z, one); end = end.Cell at; leads = leads; there = refl }
+
+-- so does one through a stuffed reference
+both_ends : (core : List Tagged) (r : Regs) (a : RunningContext core r) (q : Place) (fault : Fault) (e : End) (y : Answer Chase.End) → EndMeets a q (Err fault) y → EndMeets a q (Ok e) y → ⊥
+both_ends core r a q fault e (Ok found) m n = m
+both_ends core r a q fault e (Err found) m n = n
+
+pub stuffed_through : (x : Storage) (cpu : Cpu) (plan : Placement) (s : Session) (m : SessionJob) (t : Task) (o : IsInOrderButCounts s) (h : RepresentsSession x cpu plan s) (runs : IsRunning plan s.jobs m t) (w : Tagged) (v : Word) → IsFollowed x plan m t w v
+    → (at : ℕ) → EndsAt cpu.core cpu.regs w (end.Cell at) → StoresThrough cpu w at
+stuffed_through x cpu plan s m t o h runs w v i at ends = record {
+  other = λ zero.
+      (let a = here_scene x cpu plan s m t o h runs in
+      let stands = followed_stands x cpu plan s m t o h runs w v i in
+      both_ends cpu.core cpu.regs a a.task.place InvalidOperand (end.Cell at) (follow (here a.member a.task a.task.place) v)
+      (follows_none cpu.core cpu.regs (live_of a) a.task.place i.at i.owner w v stands (λ one. omega (arith, zero, one)) (λ five. omega (arith, zero, five)))
+      (ends a a.task.place i.at i.owner v stands));
+  end = end.Cell at;
+  leads = λ a q shown. ends a q;
+  there = refl;
+}
 
 module _ (x : Storage) (old : Cpu) (plan : Placement) (s : Session) (m : SessionJob) (t : Task) (o : IsInOrderButCounts s) (h : RepresentsSession x old plan s) (runs : IsRunning plan s.jobs m t) (q : Place) (keeps : Bool)
     (lower upper : Tagged) (found : GivesTwo x plan m t old (cells t) (Ok (lower, upper))) (zero : lower.tag ≡ 0) (at : ℕ) (through : StoresThrough old upper at) where

@@ -25,6 +25,7 @@ use Rattle.b67_refer.proofs.Names.{irw_is, stuffed}
 use Rattle.b67_refer.proofs.Unders.{named_above, named_at, names_level, display_at}
 use Rattle.b67_exec_cells.proofs.Rows.{Replaces}
 use Rattle.b67_refer.specs.RunningContext.{live_of}
+use Rattle.b67_refer.specs.Own.{NamesCell}
 use Rattle.b67_fetch.proofs.Values.{TopFollowed, here_scene, here_shown, followed_stands}
 
 module _ (x : Storage) (cpu : Cpu) (plan : Placement) (s : Session) (m : SessionJob) (t : Task) (ordered : IsInOrderButCounts s) (h : RepresentsSession x cpu plan s) (runs : IsRunning plan s.jobs m t) (q : Place) (w : Tagged) (top : TopFollowed x plan m t w) where
@@ -73,6 +74,13 @@ module _ (x : Storage) (cpu : Cpu) (plan : Placement) (s : Session) (m : Session
       place_is =
           let N : Couple → Answer (ℕ × ℕ) = λ z. named (here m t q) z in
           ap (place_of (here m t q)) named_word ∙ ap N (sym (split ∙ ap (couple name.couple) (level_is cpu.core cpu.regs (here_scene x cpu plan s m t ordered h runs))))
+
+      -- the cell that the word names
+      pub named_found : (found : ℕ) → NamesCell cpu.core cpu.regs cpu.display w found → FindsCell (here_scene x cpu plan s m t ordered h runs) q (Ok found) (named (here m t q) c)
+      named_found found names =
+          let scene = here_scene x cpu plan s m t ordered h runs in
+          let F : Answer (ℕ × ℕ) → Type 0 = λ p. FindsCell scene q (Ok found) p in
+          subst F place_is (names scene q (here_shown x cpu plan s m t ordered h runs) top.followed.at top.followed.owner top.word stands).1
 
       word_is : stff_word (here m t q) top.word ≡ (named (here m t q) c >>= λ at. cell (here m t q) at.0 at.1 >>= λ v. Ok (Ref at.0 at.1))
       word_is =

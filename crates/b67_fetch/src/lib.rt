@@ -14,4 +14,4 @@ pub use indexing::{indx, indx_at, nxlv, nxlv_at, own_item};
 pub use loading::{load, valc, value};
 pub use own::store_own;
 pub use storing::{Stored, stod, ston, store};
-pub use stuffing::stff;
+pub use stuffing::{stff, stff_named};

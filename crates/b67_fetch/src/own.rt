@@ -10,7 +10,7 @@ ghost use Rattle.b67_fetch.specs.Stores.{StoresThrough};
 
 use crate::storing::{element_address, put};
 use b67_exec_cells::two_cells;
-use b67_refer::{End, copied_element, own_operand};
+use b67_refer::{End, copied_element, own_operand, stuffed_operand};
 use b67_stack::Cpu;
 use b67_word::{Place, Word};
 
@@ -54,6 +54,11 @@ pub fn store_own(cpu: &mut Cpu, keeps: bool, next: Place) -> bool
     let cell = own_operand(&cpu.core, &cpu.regs, &cpu.display, upper);
     if cell != 0 {
         put(cpu, cell, lower, keeps, next);
+        return true;
+    }
+    let stuffed = stuffed_operand(&cpu.core, &cpu.regs, upper);
+    if stuffed != 0 {
+        put(cpu, stuffed, lower, keeps, next);
         return true;
     }
     let at = own_element(cpu, upper);

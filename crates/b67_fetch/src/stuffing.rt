@@ -1,11 +1,13 @@
 //! The operator that stuffs a reference: a couple becomes the name of its cell's activation record.
 
-ghost use Rattle.std.specs.Prelude.{◌≡◌, ℕ, ◌^◌, ◌<◌};
+ghost use Rattle.std.specs.Prelude.{◌≡◌, ℕ, ◌+◌, ◌^◌, ◌<◌, ◌≤◌, Ok};
 ghost use Rattle.b67_ctl.specs.Layout.{IsSirw};
 ghost use Rattle.b67_model.specs.InOrder.{NamesEntered};
 ghost use Rattle.b67_model.specs.Rows as rows;
 ghost use Rattle.b67_stack.specs.declared.Step.TheVariants.{Done};
 ghost use Rattle.b67_layout.specs.Meets.{here, Meets, RunsSome, ForEach};
+ghost use Rattle.b67_layout.specs.Tops.{cells, GivesTop};
+ghost use Rattle.b67_refer.specs.Own.{NamesCell};
 ghost use Rattle.b67_exec_cells.specs.Tops.{StaysInSegment};
 ghost use Rattle.b67_refer.specs.RunningContext.{RunningContext};
 ghost use Rattle.b67_refer.specs.Cells.{reach, view, frame_at_core};
@@ -15,7 +17,7 @@ use b67_ctl::{DICTIONARY_STACKS, Irw, MCP_STACK, Regs, STACK_VECTOR, Sirw, Vecto
 use b67_exec_cells::{branch_to, put_over, top_cell};
 use b67_refer::{cell_of, couple_at, spot_of};
 use b67_stack::{Cpu, Step};
-use b67_word::{Fault, Place};
+use b67_word::{Fault, Place, Word};
 
 /// The stuffed reference to an offset of the activation record whose mark is at an address: in a slot, the dictionary's
 /// or the MCP's.
@@ -77,4 +79,24 @@ pub fn stff(cpu: &mut Cpu, next: Place) -> Step
         }
         Err(fault) => Step::Fault(fault),
     }
+}
+
+/// STFF of the word on top, a reference to a cell that is there: nothing is searched.
+#[inline(always)]
+pub fn stff_named(cpu: &mut Cpu, w: Word, next: Place) -> Step
+    requires runs { RunsSome cpu.old }
+    requires top { ForEach cpu.old (λ x plan s m t. GivesTop x plan m t cpu.old (cells t) (Ok w)) }
+    requires above { cpu.old.regs.f + 1 ≤ cpu.old.regs.s }
+    requires reference { w.tag ≡ 1 }
+    requires named { (cell : ℕ) × NamesCell cpu.old.core cpu.old.regs cpu.old.display w cell }
+    ensures row { ForEach cpu.old (λ x plan s m t. let h = here m t next in Meets x plan s m result cpu.old cpu.new (rows.on_cells (rows.stff h) h)) }
+    ensures stays { result ≡ Done → StaysInSegment cpu.old cpu.new next }
+{
+    let couple = match Irw::from_word(w) {
+        Some(name) => couple_at(name.couple, cpu.regs.level),
+        None => return branch_to(cpu, next),
+    };
+    let base = cpu.display[usize::from(couple.level)];
+    let reference = stuffed(&cpu.core, &cpu.regs, base, couple.disp);
+    put_over(cpu, 1, reference.word(), next)
 }

@@ -12,7 +12,7 @@ use Rattle.b67_word.specs.declared.faults.Fault.TheVariants.{Loop}
 use Rattle.b67_ctl.specs.declared.registers.Regs.{Regs}
 use Rattle.b67_ctl.specs.declared.references.Irw.{Irw}
 use Rattle.b67_ctl.specs.Layout.{irw_word, IsIrw, sirw_word, IsSirw}
-use Rattle.b67_model.specs.Common.{Answer, Word, Operand, Name, Ref, Row, Element, Original, Proc, Intrinsic, height, cell, named, place_of, Link, Stops, Leads, link_at, link_in, link_from, link, chase_on, chase, NamesEntered}
+use Rattle.b67_model.specs.Common.{Answer, Word, Operand, Name, Ref, Row, Element, Original, Proc, Intrinsic, height, cell, named, place_of, Link, Stops, Leads, link_at, link_in, link_from, link, chase_on, NamesEntered}
 use Rattle.b67_model.specs.Words as Words
 use Rattle.b67_stack.specs.Stacks.{StackPlace}
 use Rattle.b67_layout.specs.Placement.{base_spot}
@@ -26,7 +26,6 @@ use Rattle.b67_refer.proofs.Unders.{seat_low}
 use Rattle.b67_refer.proofs.Marks.{stack_known, view_low}
 use Rattle.b67_refer.proofs.Chains.{level_is}
 use Rattle.b67_refer.proofs.SeenFrom.{eye, seen, either}
-use Rattle.b67_model.specs.declared.limits.TheConstants.{MOST_LINKS}
 
 module _ (core : List Tagged) (r : Regs) (a : LiveContext core r) where
   -- the fields of a reference's spot fit its word
@@ -159,18 +158,18 @@ module _ (core : List Tagged) (r : Regs) (a : LiveContext core r) where
     leads f offset (Words.Segment n) h = absurd h
 
     -- what is still to be followed of a chain
-    pub record Rest (links : ℕ) (first : Word) (w : Tagged) : Type 0 where
+    pub record Rest (whole links : ℕ) (first : Word) (w : Tagged) : Type 0 where
       pub at : ℕ
       pub owner : ℕ
       pub word : Word
       pub stands : StandsFor a at owner w word
       pub reference : IsReference word
-      pub same : chase_on (here a.member a.runner q) MOST_LINKS (Leads first) ≡ chase_on (here a.member a.runner q) links (Leads word)
+      pub same : chase_on (here a.member a.runner q) whole (Leads first) ≡ chase_on (here a.member a.runner q) links (Leads word)
 
-    pub turn_on : (n at : ℕ) (first word : Word) (v : Tagged) → chase_on (here a.member a.runner q) MOST_LINKS (Leads first) ≡ chase_on (here a.member a.runner q) n (Leads word) → (t : Turn at word) → 0 < n
-        → LinkMeets a q (Ok None) (link_at (here a.member a.runner q) t.frame t.offset t.word) → slice_get core at ≡ Some v → Rest (n - 1) first v
-    turn_on zero at first word v same t some h there = absurd (omega (arith, some))
-    turn_on (suc n) at first word v same t some h there =
+    pub turn_on : (whole n at : ℕ) (first word : Word) (v : Tagged) → chase_on (here a.member a.runner q) whole (Leads first) ≡ chase_on (here a.member a.runner q) n (Leads word) → (t : Turn at word) → 0 < n
+        → LinkMeets a q (Ok None) (link_at (here a.member a.runner q) t.frame t.offset t.word) → slice_get core at ≡ Some v → Rest whole (n - 1) first v
+    turn_on whole zero at first word v same t some h there = absurd (omega (arith, some))
+    turn_on whole (suc n) at first word v same t some h there =
         let k = leads t.frame t.offset t.word h in
         let is : t.cell.word ≡ v = same_Some _ _ (sym t.cell.there ∙ there) in
         let P : Tagged → Type 0 = λ x. StandsFor a at t.frame x t.word in
@@ -184,20 +183,20 @@ module _ (core : List Tagged) (r : Regs) (a : LiveContext core r) where
           same = same ∙ ap (chase_on (here a.member a.runner q) n) (t.is ∙ k.1) ∙ ap (λ i. chase_on (here a.member a.runner q) i (Leads t.word)) m;
         }
 
-    pub turn_last : (n : ℕ) (first : Word) (w : Tagged) → n ≡ 0 → Rest n first w → EndMeets a q (Err Loop) (chase_on (here a.member a.runner q) MOST_LINKS (Leads first))
-    turn_last n first w none l =
+    pub turn_last : (whole n : ℕ) (first : Word) (w : Tagged) → n ≡ 0 → Rest whole n first w → EndMeets a q (Err Loop) (chase_on (here a.member a.runner q) whole (Leads first))
+    turn_last whole n first w none l =
         let P : Answer Rattle.b67_model.specs.Chase.End → Type 0 = λ y. EndMeets a q (Err Loop) y in
         subst P (sym (l.same ∙ ap (λ i. chase_on (here a.member a.runner q) i (Leads l.word)) none)) refl
 
 -- a turn of a chain whose words are seen from one of two tasks
-module _ (core : List Tagged) (r : Regs) (a : LiveContext core r) (q : Place) (n : ℕ) (first : Word) (w : Tagged) where
+module _ (core : List Tagged) (r : Regs) (a : LiveContext core r) (q : Place) (whole n : ℕ) (first : Word) (w : Tagged) where
   abbrev pub SomeRest : Type 0
-  SomeRest = (own : Bool) × Rest core r (eye a own) q n first w
+  SomeRest = (own : Bool) × Rest core r (eye a own) q whole n first w
 
   -- the cell that is named next, and from where it is seen
   pub record CellFound (at : ℕ) : Type 0 where
     pub own : Bool
-    pub rest : Rest core r (eye a own) q n first w
+    pub rest : Rest core r (eye a own) q whole n first w
     pub next : Bool
     pub turned : Turn core r (eye a next) q at rest.word
 
@@ -207,15 +206,15 @@ module _ (core : List Tagged) (r : Regs) (a : LiveContext core r) (q : Place) (n
       record { own = l.0; rest = l.1; next = next; turned = turn core r (eye a next) q at l.1.word h }
 
   -- an end is that of the whole chain
-  pub ends_chain : (own next : Bool) (l : Rest core r (eye a own) q n first w) (found : Result End Fault) → EndMeets (eye a next) q found (chase_on (here a.member a.runner q) n (Leads l.word))
-      → FromEither (λ (d : LiveContext core r). EndMeets d q found (chase (here a.member a.runner q) first)) a
+  pub ends_chain : (own next : Bool) (l : Rest core r (eye a own) q whole n first w) (found : Result End Fault) → EndMeets (eye a next) q found (chase_on (here a.member a.runner q) n (Leads l.word))
+      → FromEither (λ (d : LiveContext core r). EndMeets d q found (chase_on (here a.member a.runner q) whole (Leads first))) a
   ends_chain own next l found e =
-      either a (λ (d : LiveContext core r). EndMeets d q found (chase (here a.member a.runner q) first)) next
+      either a (λ (d : LiveContext core r). EndMeets d q found (chase_on (here a.member a.runner q) whole (Leads first))) next
       (subst (λ (y : Answer Rattle.b67_model.specs.Chase.End). EndMeets (eye a next) q found y) (sym l.same) e)
 
   -- a cell that isn't there
   pub ends_missing : (l : SomeRest) (fault : Fault) → 0 < n → FromEither (λ (d : LiveContext core r). FindsCell d q (Err fault) (place_of (here a.member a.runner q) l.1.word)) (eye a l.0)
-      → FromEither (λ (d : LiveContext core r). EndMeets d q (Err fault) (chase (here a.member a.runner q) first)) a
+      → FromEither (λ (d : LiveContext core r). EndMeets d q (Err fault) (chase_on (here a.member a.runner q) whole (Leads first))) a
   ends_missing l fault some found =
       let (next, h) = seen a (λ (d : LiveContext core r). FindsCell d q (Err fault) (place_of (here a.member a.runner q) l.1.word)) l.0 found in
       ends_chain l.0 next l.1 (Err fault) (subst (λ (y : Answer Rattle.b67_model.specs.Chase.End). EndMeets (eye a next) q (Err fault) y) (sym (turn_err core r (eye a next) q n l.1.word fault some h)) refl)

@@ -1,9 +1,9 @@
 -- Cells of the running stack's top activation record.
-use Rattle.std.proofs.Common.{◌≡◌, ℕ, ◌+◌, ◌-◌, ◌%◌, ◌<◌, ◌≤◌, ◌^◌, List, Some, Ok, sym, ◌∙◌, ap, arith, ⊎_elim, subst, length, get_or, Bool, true}
+use Rattle.std.proofs.Common.{◌≡◌, ℕ, ◌+◌, ◌-◌, ◌%◌, ◌<◌, ◌≤◌, ◌^◌, List, Option, Some, None, Result, Ok, Err, refl, sym, ◌∙◌, ap, arith, ⊎_elim, subst, length, get_or, Bool, true}
 use Rattle.std.specs.Prelude.{not}
 use Rattle.std.specs.List.{slice_get}
 use Rattle.std.proofs.lemmas.Bool.{not-true}
-use Rattle.std.proofs.lemmas.Option.{same_Some}
+use Rattle.std.proofs.lemmas.Option.{same_Some, slice_get_within}
 use Rattle.std.proofs.Math.Nat.{mod-le}
 use Rattle.b67_word.specs.Tagged.{Tagged}
 use Rattle.b67_word.specs.declared.couples.Place.{Place}
@@ -17,11 +17,13 @@ use Rattle.b67_ctl.specs.Descriptors.{data_word, IsDataDesc}
 use Rattle.b67_model.specs.Words as Words
 use Rattle.b67_model.specs.Chase as Chase
 use Rattle.b67_model.specs.declared.limits.TheConstants.{MOST_LINKS}
-use Rattle.b67_model.specs.Common.{Answer, Word, Operand, Name, Ref, Row, Element, Original, Proc, Intrinsic, link_at, cell, named, place_of, follow, reach_of, NamesEntered, frame_at}
+use Rattle.b67_model.specs.Common.{Answer, Word, Operand, Name, Ref, Row, Element, Original, Proc, Intrinsic, Leads, link_at, chase_on, cell, named, place_of, follow, reach_of, NamesEntered, frame_at}
 use Rattle.b67_layout.specs.Common.{frame_address, here}
 use Rattle.b67_refer.specs.RunningContext.{RunningContext, LiveContext, live_of, IsShown}
 use Rattle.b67_refer.specs.LiveCells as live
 use Rattle.b67_refer.specs.Cells.{StandsFor, FindsCell}
+use Rattle.b67_word.specs.declared.faults.Fault.{Fault}
+use Rattle.b67_refer.specs.declared.ends.End.{End}
 use Rattle.b67_refer.specs.declared.ends.End.TheVariants as end
 use Rattle.b67_refer.specs.LiveEnds.{IsReference, LinkMeets}
 use Rattle.b67_refer.specs.Ends.{HasTagAt, EndMeets}
@@ -29,7 +31,7 @@ use Rattle.b67_refer.proofs.Bases.{dictionary_is, dictionary_low}
 use Rattle.b67_refer.proofs.Follows.{is_reference, follows_reference}
 use Rattle.b67_refer.proofs.Links.{cell_described, end_own}
 use Rattle.b67_refer.proofs.Founds.{task_tops, top_inside, address_small}
-use Rattle.b67_refer.proofs.Names.{irw_is, finds_name, turn, turn_end}
+use Rattle.b67_refer.proofs.Names.{Rest, Turn, irw_is, finds_name, turn, turn_end, turn_fault, turn_on}
 use Rattle.b67_refer.proofs.Seats.{seat}
 use Rattle.b67_refer.proofs.Slots.{registers}
 use Rattle.b67_refer.proofs.Unders.{is_task, last_slot, named_at, names_level, display_at}
@@ -112,3 +114,37 @@ module _ (core : List Tagged) (r : Regs) (a : RunningContext core r) (q : Place)
       let own = not-true k.0.copy (sym (known k.0 k.1 k.2) ∙ is) in
       let e = turn_end core r (live_of a) q MOST_LINKS at v t (end.Array at) (omega arith) (end_own core r (live_of a) q at t.frame t.offset t.word k.0 t.cell.names k.3 own) in
       subst (λ (y : Answer Chase.End). EndMeets a q (Ok (end.Array at)) y) (sym (follows_reference core r (live_of a) q v ref)) e
+
+-- a cell that is there lies in core
+pub cell_inside : (core : List Tagged) (r : Regs) (a : RunningContext core r) (q : Place) (f offset at : ℕ) → live.CellMeets (live_of a) q f offset (Ok at) (cell (here a.member a.task q) f offset) → at < length core
+cell_inside core r a q f offset at = by_cell (cell (here a.member a.task q) f offset) where
+  by_cell : (y : Answer Word) → live.CellMeets (live_of a) q f offset (Ok at) y → at < length core
+  by_cell (Ok u) i = slice_get_within core at i.word i.there
+  by_cell (Err y) i = absurd i
+
+-- a chain goes on from the cell that its first reference names
+module _ (core : List Tagged) (r : Regs) (a : RunningContext core r) (q : Place) (at : ℕ) (v : Word) (ref : IsReference v) (found : FindsCell a q (Ok at) (place_of (here a.member a.task q) v)) where
+  abbrev pub first_turn : Turn core r (live_of a) q at v
+  first_turn = turn core r (live_of a) q at v found
+
+  abbrev pub First : Result (Option End) Fault → Type 0
+  First link = LinkMeets (live_of a) q link (link_at (here a.member a.task q) first_turn.frame first_turn.offset first_turn.word)
+
+  follows : (end : Result End Fault) → EndMeets a q end (chase_on (here a.member a.task q) MOST_LINKS (Leads v)) → EndMeets a q end (follow (here a.member a.task q) v)
+  follows end e = subst (λ (y : Answer Chase.End). EndMeets a q end y) (sym (follows_reference core r (live_of a) q v ref)) e
+
+  pub from_end : (end : End) → First (Ok (Some end)) → EndMeets a q (Ok end) (follow (here a.member a.task q) v)
+  from_end end m = follows (Ok end) (turn_end core r (live_of a) q MOST_LINKS at v first_turn end (omega arith) m)
+
+  pub from_fault : (fault : Fault) → First (Err fault) → EndMeets a q (Err fault) (follow (here a.member a.task q) v)
+  from_fault fault m = follows (Err fault) (turn_fault core r (live_of a) q MOST_LINKS at v first_turn fault (omega arith) m)
+
+  pub from_rest : (w : Tagged) → First (Ok None) → slice_get core at ≡ Some w → Rest core r (live_of a) q MOST_LINKS (MOST_LINKS - 1) v w
+  from_rest w m there = turn_on core r (live_of a) q MOST_LINKS MOST_LINKS at v v w refl first_turn (omega arith) m there
+
+  pub from_more : (w : Tagged) (rest : Rest core r (live_of a) q MOST_LINKS (MOST_LINKS - 1) v w) (links : ℕ) → links ≡ MOST_LINKS - 1 → (end : Result End Fault)
+      → EndMeets a q end (chase_on (here a.member a.task q) links (Leads rest.word)) → EndMeets a q end (follow (here a.member a.task q) v)
+  from_more w rest links few end e =
+      let P : Answer Chase.End → Type 0 = λ y. EndMeets a q end y in
+      let Q : ℕ → Type 0 = λ i. EndMeets a q end (chase_on (here a.member a.task q) i (Leads rest.word)) in
+      follows end (subst P (sym rest.same) (subst Q few e))

@@ -1,7 +1,8 @@
 -- References to cells of the running stack's top activation record.
-use Rattle.std.specs.Prelude.{ℕ, List, Ok}
+use Rattle.std.specs.Prelude.{ℕ, List, Result, Ok}
 use Rattle.b67_word.specs.Tagged.{Tagged}
 use Rattle.b67_word.specs.declared.couples.Place.{Place}
+use Rattle.b67_word.specs.declared.faults.Fault.{Fault}
 use Rattle.b67_ctl.specs.declared.registers.Regs.{Regs}
 use Rattle.b67_model.specs.Common.{Word, place_of, follow}
 use Rattle.b67_layout.specs.Meets.{here}
@@ -16,10 +17,14 @@ abbrev pub NamesCell : (core : List Tagged) (r : Regs) (display : List ℕ) (w :
 NamesCell core r display w cell = (a : RunningContext core r) (q : Place) → IsShown a display → (at owner : ℕ) (v : Word) → StandsFor a at owner w v
     → IsReference v × FindsCell a q (Ok cell) (place_of (here a.member a.task q) v)
 
+-- where a word leads, or why it leads nowhere
+abbrev pub FollowsTo : (core : List Tagged) (r : Regs) (display : List ℕ) (w : Tagged) → Result End Fault → Type 0
+FollowsTo core r display w found = (a : RunningContext core r) (q : Place) → IsShown a display → (at owner : ℕ) (v : Word) → StandsFor a at owner w v
+    → EndMeets a q found (follow (here a.member a.task q) v)
+
 -- a word leads to an end
 abbrev pub LeadsTo : (core : List Tagged) (r : Regs) (display : List ℕ) (w : Tagged) → End → Type 0
-LeadsTo core r display w end = (a : RunningContext core r) (q : Place) → IsShown a display → (at owner : ℕ) (v : Word) → StandsFor a at owner w v
-    → EndMeets a q (Ok end) (follow (here a.member a.task q) v)
+LeadsTo core r display w end = FollowsTo core r display w (Ok end)
 
 -- a word leads to an end, whatever the display shows
 abbrev pub EndsAt : (core : List Tagged) (r : Regs) (w : Tagged) → End → Type 0

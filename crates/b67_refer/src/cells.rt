@@ -1,6 +1,6 @@
 //! The cells that references name.
 
-ghost use Rattle.std.specs.Prelude.{◌≡◌, ℕ, ◌+◌, ◌^◌, ◌<◌, ◌≤◌, List, Result, length};
+ghost use Rattle.std.specs.Prelude.{◌≡◌, ◌≢◌, ℕ, ◌+◌, ◌^◌, ◌<◌, ◌≤◌, Bool, List, Some, Result, Ok, length};
 ghost use Rattle.b67_word.specs.declared.couples.Place.{Place};
 ghost use Rattle.b67_model.specs.InOrder.{NamesEntered};
 ghost use Rattle.b67_model.specs.Cells.{cell, named};
@@ -53,11 +53,10 @@ fn is_plain(core: &Core, from: u32, to: u32) -> bool
     true
 }
 
-/// Whether an activation record deep in a stack has a cell at an offset: no mark lies between. Of the running stack, cells are
-/// looked at from the record's first one up, and marks from the last one down, in turns: so it takes the fewer of both. Of
-/// other stacks, and if there are few, the cells alone.
+/// As `has_deep_cell`, of any stack. Of the running one, cells are looked at from the record's first one up, and marks from the
+/// last one down, in turns: so it takes the fewer of both. Of other stacks, and if there are few, the cells alone.
 #[inline(never)]
-fn has_deep_cell(core: &Core, regs: &Regs, base: u32, offset: u16) -> bool
+fn has_far_cell(core: &Core, regs: &Regs, base: u32, offset: u16) -> bool
     requires { (a : LiveContext core.now regs.now) × (f : ℕ) × NamesEntered (live.reach a) f × (1 < f) × (base ≡ live.frame_at_core a f) × (2 ≤ offset) }
     ensures { (a : LiveContext core.now regs.now) (q : Place) (f : ℕ) → NamesEntered (live.reach a) f → 1 < f → base ≡ live.frame_at_core a f → 2 ≤ offset
         → live.CellMeets a q f offset (live.cell_or_none result (base + offset)) (cell (here a.member a.task q) f offset) }
@@ -84,8 +83,73 @@ fn has_deep_cell(core: &Core, regs: &Regs, base: u32, offset: u16) -> bool
     true
 }
 
-/// The cell at an offset of an activation record whose mark is at an address of a slot. The last records of the running stack
-/// end where the next one's mark stands, or at the top.
+/// Whether an activation record deep in a stack has a cell at an offset: no mark lies between. Its cells are looked at from the first
+/// one up.
+#[inline(always)]
+fn has_first_cell(core: &Core, regs: &Regs, base: u32, offset: u16) -> bool
+    requires { (a : LiveContext core.now regs.now) × (f : ℕ) × NamesEntered (live.reach a) f × (1 < f) × (base ≡ live.frame_at_core a f) × (2 ≤ offset) }
+    ensures { (a : LiveContext core.now regs.now) (q : Place) (f : ℕ) → NamesEntered (live.reach a) f → 1 < f → base ≡ live.frame_at_core a f → 2 ≤ offset
+        → live.CellMeets a q f offset (live.cell_or_none result (base + offset)) (cell (here a.member a.task q) f offset) }
+{
+    let at = base + u32::from(offset);
+    if at > top_of(core, regs, base) {
+        return false;
+    }
+    is_plain(core, base + 2, at)
+}
+
+/// Whether a cell is one of the few first ones of a record of the running stack: they are looked at without a call.
+#[inline(always)]
+fn is_among_few(regs: &Regs, base: u32, offset: u16) -> bool {
+    offset < FEW_CELLS && base >= regs.bosr && base <= regs.losr
+}
+
+/// Whether an activation record deep in a stack has a cell at an offset: no mark lies between.
+#[inline(always)]
+fn has_deep_cell(core: &Core, regs: &Regs, base: u32, offset: u16) -> bool
+    requires { (a : LiveContext core.now regs.now) × (f : ℕ) × NamesEntered (live.reach a) f × (1 < f) × (base ≡ live.frame_at_core a f) × (2 ≤ offset) }
+    ensures { (a : LiveContext core.now regs.now) (q : Place) (f : ℕ) → NamesEntered (live.reach a) f → 1 < f → base ≡ live.frame_at_core a f → 2 ≤ offset
+        → live.CellMeets a q f offset (live.cell_or_none result (base + offset)) (cell (here a.member a.task q) f offset) }
+{
+    if is_among_few(regs, base, offset) {
+        return has_first_cell(core, regs, base, offset);
+    }
+    has_far_cell(core, regs, base, offset)
+}
+
+/// Whether one of the running stack's last activation records has a cell at an offset: it ends where the next one's mark stands,
+/// or at the top. None of any other record.
+#[inline(always)]
+fn has_near_cell(core: &Core, regs: &Regs, base: u32, offset: u16) -> Option<bool>
+    requires { (a : LiveContext core.now regs.now) × (f : ℕ) × NamesEntered (live.reach a) f × (1 < f) × (base ≡ live.frame_at_core a f) × (2 ≤ offset) }
+    ensures { (has : Bool) → result ≡ Some has → (a : LiveContext core.now regs.now) (q : Place) (f : ℕ) → NamesEntered (live.reach a) f → 1 < f → base ≡ live.frame_at_core a f → 2 ≤ offset
+        → live.CellMeets a q f offset (live.cell_or_none has (base + offset)) (cell (here a.member a.task q) f offset) }
+{
+    let at = base + u32::from(offset);
+    let mut mark = regs.f;
+    let mut past = regs.s + 1;
+    for _turn in 0..NEAR_RECORDS {
+        if mark == base {
+            return Some(at < past);
+        }
+        past = mark;
+        mark -= u32::from(mark_at(core, mark).back);
+    }
+    None
+}
+
+/// A cell's address, if there is the cell. Else INVALID ADDRESS.
+#[inline(always)]
+fn cell_or_fault(has: bool, at: u32) -> Result<u32, Fault>
+    ensures { result ≡ live.cell_or_none has at }
+{
+    if has {
+        return Ok(at);
+    }
+    Err(Fault::InvalidAddress)
+}
+
+/// The cell at an offset of an activation record whose mark is at an address of a slot.
 #[inline(always)]
 fn slot_cell(core: &Core, regs: &Regs, base: u32, offset: u16) -> Result<u32, Fault>
     requires { (a : LiveContext core.now regs.now) × (f : ℕ) × NamesEntered (live.reach a) f × (1 < f) × (base ≡ live.frame_at_core a f) }
@@ -96,22 +160,74 @@ fn slot_cell(core: &Core, regs: &Regs, base: u32, offset: u16) -> Result<u32, Fa
         return Err(Fault::InvalidAddress);
     }
     let at = base + u32::from(offset);
-    let mut mark = regs.f;
-    let mut past = regs.s + 1;
-    for _turn in 0..NEAR_RECORDS {
-        if mark == base {
-            if at >= past {
-                return Err(Fault::InvalidAddress);
-            }
-            return Ok(at);
+    match has_near_cell(core, regs, base, offset) {
+        Some(has) => cell_or_fault(has, at),
+        None => {
+            let has = has_deep_cell(core, regs, base, offset);
+            cell_or_fault(has, at)
         }
-        past = mark;
-        mark -= u32::from(mark_at(core, mark).back);
     }
-    if has_deep_cell(core, regs, base, offset) {
-        return Ok(at);
+}
+
+/// As `slot_cell`, with the cells of a record deep in a stack behind a call.
+#[inline(always)]
+fn far_slot_cell(core: &Core, regs: &Regs, base: u32, offset: u16) -> Result<u32, Fault>
+    requires { (a : LiveContext core.now regs.now) × (f : ℕ) × NamesEntered (live.reach a) f × (1 < f) × (base ≡ live.frame_at_core a f) }
+    ensures { (a : LiveContext core.now regs.now) (q : Place) (f : ℕ) → NamesEntered (live.reach a) f → 1 < f → base ≡ live.frame_at_core a f
+        → live.CellMeets a q f offset result (cell (here a.member a.task q) f offset) }
+{
+    if offset < 2 {
+        return Err(Fault::InvalidAddress);
     }
-    Err(Fault::InvalidAddress)
+    let at = base + u32::from(offset);
+    match has_near_cell(core, regs, base, offset) {
+        Some(has) => cell_or_fault(has, at),
+        None => {
+            let has = has_far_cell(core, regs, base, offset);
+            cell_or_fault(has, at)
+        }
+    }
+}
+
+/// The cell at an offset of an activation record, if that is one of the running stack's last ones, or the cell one of the few first
+/// ones of a record deeper there. Else 0: it may be there. Nothing is called.
+#[inline(always)]
+pub(crate) fn near_cell(core: &Core, regs: &Regs, base: u32, offset: u16) -> u32
+    requires { (a : LiveContext core.now regs.now) × (f : ℕ) × NamesEntered (live.reach a) f × (1 < f) × (base ≡ live.frame_at_core a f) × (2 ≤ offset) }
+    ensures { result ≢ 0 → (a : LiveContext core.now regs.now) (q : Place) (f : ℕ) → NamesEntered (live.reach a) f → 1 < f → base ≡ live.frame_at_core a f → 2 ≤ offset
+        → live.CellMeets a q f offset (Ok result) (cell (here a.member a.task q) f offset) }
+{
+    let at = base + u32::from(offset);
+    match has_near_cell(core, regs, base, offset) {
+        Some(has) => if has { at } else { 0 },
+        None => {
+            if !is_among_few(regs, base, offset) {
+                return 0;
+            }
+            if has_first_cell(core, regs, base, offset) {
+                at
+            } else {
+                0
+            }
+        }
+    }
+}
+
+/// The core address of the cell that a stuffed reference names, as `near_cell`.
+#[inline(always)]
+pub(crate) fn near_cell_at(core: &Core, regs: &Regs, r: Sirw) -> u32
+    requires { (a : LiveContext core.now regs.now) × (f : ℕ) × NamesEntered (live.reach a) f × (live.view a f ≡ record { stack = r.stack; disp = r.disp }) }
+    ensures { result ≢ 0 → (a : LiveContext core.now regs.now) (q : Place) (f : ℕ) → NamesEntered (live.reach a) f → live.view a f ≡ record { stack = r.stack; disp = r.disp }
+        → live.CellMeets a q f r.offset (Ok result) (cell (here a.member a.task q) f r.offset) }
+{
+    if r.stack >= u16::from(SLOTS) {
+        return 0;
+    }
+    if r.offset < 2 {
+        return 0;
+    }
+    let base = address_of(core, regs, r.stack, r.disp);
+    near_cell(core, regs, base, r.offset)
 }
 
 /// The cell at an offset of the dictionary, or of the MCP, whose mark is at address 0.
@@ -147,7 +263,7 @@ pub fn cell_of(core: &Core, regs: &Regs, display: &[u32; 32], c: Couple) -> Resu
     }
     let base = display[c.level as usize];
     if c.level > 1 {
-        return slot_cell(core, regs, base, c.disp);
+        return far_slot_cell(core, regs, base, c.disp);
     }
     base_cell(core, regs, base, c.disp)
 }
@@ -163,7 +279,34 @@ pub fn cell_at(core: &Core, regs: &Regs, r: Sirw) -> Result<u32, Fault>
 {
     let base = address_of(core, regs, r.stack, r.disp);
     if r.stack < u16::from(SLOTS) {
+        return far_slot_cell(core, regs, base, r.offset);
+    }
+    base_cell(core, regs, base, r.offset)
+}
+
+/// As `cell_at`, with the few first cells of a record deep in the running stack looked at without a call.
+#[inline(always)]
+fn few_cell_at(core: &Core, regs: &Regs, r: Sirw) -> Result<u32, Fault>
+    requires { (a : LiveContext core.now regs.now) × (f : ℕ) × NamesEntered (live.reach a) f × (live.view a f ≡ record { stack = r.stack; disp = r.disp }) }
+    ensures { (a : LiveContext core.now regs.now) (q : Place) (f : ℕ) → NamesEntered (live.reach a) f → live.view a f ≡ record { stack = r.stack; disp = r.disp }
+        → live.CellMeets a q f r.offset result (cell (here a.member a.task q) f r.offset) }
+{
+    let base = address_of(core, regs, r.stack, r.disp);
+    if r.stack < u16::from(SLOTS) {
         return slot_cell(core, regs, base, r.offset);
     }
     base_cell(core, regs, base, r.offset)
+}
+
+/// As `cell_at`, or as `few_cell_at`.
+#[inline(always)]
+pub(crate) fn stuffed_cell(core: &Core, regs: &Regs, r: Sirw, few: bool) -> Result<u32, Fault>
+    requires { (a : LiveContext core.now regs.now) × (f : ℕ) × NamesEntered (live.reach a) f × (live.view a f ≡ record { stack = r.stack; disp = r.disp }) }
+    ensures { (a : LiveContext core.now regs.now) (q : Place) (f : ℕ) → NamesEntered (live.reach a) f → live.view a f ≡ record { stack = r.stack; disp = r.disp }
+        → live.CellMeets a q f r.offset result (cell (here a.member a.task q) f r.offset) }
+{
+    if few {
+        return few_cell_at(core, regs, r);
+    }
+    cell_at(core, regs, r)
 }

@@ -1,23 +1,28 @@
 //! Where references end.
 
 ghost use Rattle.std.specs.Prelude.{◌≡◌, ℕ, List, Result, Option, Some, Ok, slice_get};
+ghost use Rattle.b67_word.specs.Tagged.{Tagged};
 ghost use Rattle.b67_word.specs.declared.couples.Place.{Place};
 ghost use Rattle.b67_model.specs.Words as Words;
 ghost use Rattle.b67_model.specs.Cells.{place_of};
-ghost use Rattle.b67_model.specs.Chase.{element_end, link_at, chase as chase_of, follow};
+ghost use Rattle.b67_model.specs.Chase.{Leads, element_end, link_at, chase_on, follow};
 ghost use Rattle.b67_model.specs.InOrder.{NamesArray};
 ghost use Rattle.b67_layout.specs.Meets.{here};
 ghost use Rattle.b67_refer.specs.RunningContext.{RunningContext, LiveContext, IsShown, live_of, running_of, FromEither};
 ghost use Rattle.b67_refer.specs.LiveCells.{reach, StandsFor, IsCellAt, FindsCell};
 ghost use Rattle.b67_refer.specs.LiveEnds.{IsReference, EndMeets, LinkMeets};
 ghost use Rattle.b67_refer.specs.Ends.{IsCopyOf, HasTagAt};
+ghost use Rattle.b67_refer.specs.Own.{NamesCell, FollowsTo};
 
-use crate::cells::{cell_at, cell_of};
+use crate::cells::{cell_of, stuffed_cell};
 use crate::couples::couple_at;
 use b67_core::Core;
 use b67_ctl::{AreaHead, DataDesc, IntrinsicPcw, Irw, Regs, Sirw};
 use b67_model::MOST_LINKS;
 use b67_word::{Fault, Word};
+
+/// How many links of a chain may follow its first one.
+const MORE_LINKS: u32 = MOST_LINKS - 1;
 
 /// Where a reference ends: at the cell of an operand, at an element of an array, at an array, at the cell of a
 /// procedure, or at an intrinsic procedure. Cells are core addresses, and arrays the core addresses of their originals.
@@ -107,29 +112,42 @@ fn end_at(core: &Core, regs: &Regs, at: u32) -> Result<Option<End>, Fault>
     }
 }
 
-/// The cell that a reference word names.
+/// The cell that a reference word names. Few cells deep in the running stack may be looked at without a call.
 #[inline(always)]
-fn named_cell(core: &Core, regs: &Regs, display: &[u32; 32], w: Word) -> Result<u32, Fault>
+fn named_cell(
+    core: &Core,
+    regs: &Regs,
+    display: &[u32; 32],
+    w: Word,
+    few: bool,
+) -> Result<u32, Fault>
     requires { (a : LiveContext core.now regs.now) × IsShown (running_of a) display.now × (at : ℕ) × (owner : ℕ) × (v : Words.Word) × StandsFor a at owner w v × IsReference v }
     ensures { (a : LiveContext core.now regs.now) (q : Place) → IsShown (running_of a) display.now → (at owner : ℕ) (v : Words.Word) → StandsFor a at owner w v
         → IsReference v → FromEither (λ (b : LiveContext core.now regs.now). FindsCell b q result (place_of (here a.member a.runner q) v)) a }
 {
     match Irw::from_word(w) {
         Some(r) => cell_of(core, regs, display, couple_at(r.couple, regs.level)),
-        None => cell_at(core, regs, Sirw::read(w)),
+        None => stuffed_cell(core, regs, Sirw::read(w), few),
     }
 }
 
-/// Follows a chain of references, of at most 1,024 links.
+/// Follows a chain of references, of at most so many links.
 #[inline(always)]
-fn chase_reference(core: &Core, regs: &Regs, display: &[u32; 32], w: Word) -> Result<End, Fault>
+fn chase_reference(
+    core: &Core,
+    regs: &Regs,
+    display: &[u32; 32],
+    w: Word,
+    links: u32,
+    few: bool,
+) -> Result<End, Fault>
     requires { (a : LiveContext core.now regs.now) × IsShown (running_of a) display.now × (at : ℕ) × (owner : ℕ) × (v : Words.Word) × StandsFor a at owner w v × IsReference v }
     ensures { (a : LiveContext core.now regs.now) (q : Place) → IsShown (running_of a) display.now → (at owner : ℕ) (v : Words.Word) → StandsFor a at owner w v
-        → IsReference v → FromEither (λ (b : LiveContext core.now regs.now). EndMeets b q result (chase_of (here a.member a.runner q) v)) a }
+        → IsReference v → FromEither (λ (b : LiveContext core.now regs.now). EndMeets b q result (chase_on (here a.member a.runner q) links (Leads v))) a }
 {
     let mut w = w;
-    for _i in 0..MOST_LINKS {
-        let at = match named_cell(core, regs, display, w) {
+    for _i in 0..links {
+        let at = match named_cell(core, regs, display, w, few) {
             Ok(at) => at,
             Err(fault) => return Err(fault),
         };
@@ -140,6 +158,20 @@ fn chase_reference(core: &Core, regs: &Regs, display: &[u32; 32], w: Word) -> Re
         }
     }
     Err(Fault::Loop)
+}
+
+/// Where a reference of the running task leads that names the cell at an address.
+#[inline(always)]
+pub fn chase_from(core: &Core, regs: &Regs, display: &[u32; 32], at: u32) -> Result<End, Fault>
+    requires { (a : RunningContext core.now regs.now) × IsShown a display.now × (w : Tagged) × NamesCell core.now regs.now display.now w at
+        × (spot : ℕ) × (owner : ℕ) × (v : Words.Word) × StandsFor (live_of a) spot owner w v }
+    ensures { (w : Tagged) → NamesCell core.now regs.now display.now w at → FollowsTo core.now regs.now display.now w result }
+{
+    match end_at(core, regs, at) {
+        Ok(Some(end)) => Ok(end),
+        Ok(None) => chase_reference(core, regs, display, core.get(at), MORE_LINKS, true),
+        Err(fault) => Err(fault),
+    }
 }
 
 /// Where a word leads: a reference to the end of its chain, an element copy to its element. The faults: INVALID ADDRESS
@@ -155,7 +187,7 @@ pub fn chase(core: &Core, regs: &Regs, display: &[u32; 32], w: Word) -> Result<E
         → FromEither (λ (b : LiveContext core.now regs.now). EndMeets b q result (follow (here a.member a.runner q) v)) a }
 {
     if w.tag() == 1 {
-        return chase_reference(core, regs, display, w);
+        return chase_reference(core, regs, display, w, MOST_LINKS, false);
     }
     if w.tag() != 5 {
         return Err(Fault::InvalidOperand);

@@ -7,13 +7,13 @@ ghost use Rattle.b67_refer.specs.Cells.{StandsFor};
 ghost use Rattle.b67_refer.specs.Own.{EndsAt};
 ghost use Rattle.b67_refer.specs.declared.ends.End.TheVariants as end;
 
-use crate::cells::cell_at;
+use crate::cells::near_cell_at;
 use b67_core::Core;
 use b67_ctl::{Irw, Regs, Sirw};
 use b67_word::Word;
 
-/// The core address of the operand's cell that a stuffed reference names. Else 0: the word may be another one, or lead
-/// anywhere. The display needn't be there.
+/// The core address of the operand's cell that a stuffed reference names, one of the running stack's last activation records. Else
+/// 0: the word may be another one, or lead anywhere. The display needn't be there.
 #[inline(always)]
 pub fn stuffed_operand(core: &Core, regs: &Regs, w: Word) -> u32
     requires { (a : RunningContext core.now regs.now) × (at : ℕ) × (owner : ℕ) × (v : Words.Word) × StandsFor a at owner w v }
@@ -26,10 +26,10 @@ pub fn stuffed_operand(core: &Core, regs: &Regs, w: Word) -> u32
         Some(_) => return 0,
         None => {}
     }
-    let at = match cell_at(core, regs, Sirw::read(w)) {
-        Ok(at) => at,
-        Err(_) => return 0,
-    };
+    let at = near_cell_at(core, regs, Sirw::read(w));
+    if at == 0 {
+        return 0;
+    }
     if core.get(at).tag() != 0 {
         return 0;
     }

@@ -1,4 +1,8 @@
+use Rattle.std.proofs.Common.{◌≡◌, ◌+◌, ◌∙◌, ap, arith}
+use Rattle.b67_ctl.specs.declared.registers.Regs.{Regs}
 use Rattle.b67_refer.specs.declared.ends.End.TheVariants as end
+use Rattle.b67_entry.proofs.Callers.{below_mark}
+use Rattle.b67_entry.proofs.Leaving.{may_return}
 use Rattle.b67_entry.proofs.Retning.{not_operand}
 use Rattle.b67_entry.proofs.Putting.{room_left, put_above, put_top}
 use Rattle.b67_entry.proofs.Evaluating.{cell_inside, cell_made}
@@ -20,10 +24,18 @@ stuffed_operand-at-requires c =
     stands_there x cpu plan s m t o h runs a c.args.regs is v c.args.word b
 
 pub evaluate_apart-requires-clause-run : goal.evaluate_apart-requires-clause-run
-evaluate_apart-requires-clause-run c = c.requires.run
+evaluate_apart-requires-clause-run c = let (run, a, v, b, is) = c.requires.run in (run, a, v, b)
 
 pub returns-then-at-eq0 : goal.returns-then-at-eq0
-returns-then-at-eq0 c = record { row = c.evaluate_apart.ensures.row; above = c.evaluate_apart.ensures.above; top = c.evaluate_apart.ensures.top }
+returns-then-at-eq0 c = record {
+  row = λ x plan s m t o h runs a v b is. c.evaluate_apart.ensures.row x plan s m t o h runs a v b;
+  above = c.evaluate_apart.ensures.above;
+  top = λ e.
+      let (run, a, v, b, is) = c.requires.run in
+      let low : c.args.regs.s + 1 ≡ c.args.cpu.now.regs.f = ap (λ (z : Regs). z.s + 1) is ∙ below_mark c.args.cpu.now (may_return run.storage c.args.cpu.now run.plan run.session run.member run.task run.ordered run.stands run.running a) in
+      let z = c.evaluate_apart.ensures.top e in
+      (omega (arith, low, z.0), omega (arith, low, z.1));
+}
 
 pub get-value-requires : goal.get-value-requires
 get-value-requires c =

@@ -1,8 +1,5 @@
-use Rattle.std.proofs.Common.{◌≡◌, Some, Ok, sym, ◌∙◌}
-use Rattle.b67_layout.specs.Meets.{ForEach}
+use Rattle.std.proofs.Common.{sym, ◌∙◌}
 use Rattle.b67_layout.proofs.Fresh.{running_in_order}
-use Rattle.b67_exec_cells.specs.Running.{GivesReading}
-use Rattle.b67_exec.specs.Operators.{ParametersHaveBits}
 use Rattle.b67_exec.proofs.Readings.{read_fits}
 use Rattle.b67_exec.proofs.Unknown.{unknown_made, unknown_not}
 use Rattle.b67_exec.proofs.operators.operate_unknown.Goals as goal

@@ -1,4 +1,4 @@
-use Rattle.std.proofs.Common.{ℕ, ◌-◌, List, [], ◌∷◌, Some, sym, subst, refl, arith}
+use Rattle.std.proofs.Common.{ℕ, List, [], ◌∷◌, Some, sym, subst, refl, arith}
 use Rattle.b67_model.specs.Common.{Word, Operand, element, leaves_cells}
 use Rattle.b67_model.specs.Rows as rows
 use Rattle.b67_layout.specs.Meets.{here, Meets}

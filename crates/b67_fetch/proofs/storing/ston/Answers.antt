@@ -1,4 +1,4 @@
-use Rattle.std.proofs.Common.{◌≡◌, sym, ◌∙◌, subst, true}
+use Rattle.std.proofs.Common.{sym, ◌∙◌, subst, true}
 use Rattle.b67_model.specs.Steps.{cells_of}
 use Rattle.b67_model.specs.Rows as rows
 use Rattle.b67_stack.specs.declared.Step.{Step}

@@ -1,4 +1,4 @@
-use Rattle.std.proofs.Common.{◌∙◌, ◌-◌, ◌+◌, ◌≤◌, ℕ, sym, arith, subst}
+use Rattle.std.proofs.Common.{◌∙◌, ◌-◌, ℕ, sym, arith, subst}
 use Rattle.b67_refer.specs.RunningContext.{live_of}
 use Rattle.b67_refer.proofs.Scans.{over_start, over_inside, over_ends, over_next}
 use Rattle.b67_refer.proofs.Walks.{top_small}

@@ -10,8 +10,8 @@ address_of-base-requires c =
     let (a, f, n, e) = c.requires in
     (a, subst (λ (z : StackPlace). IsStackOf a z.stack) e (stack_known c.args.core.now c.args.regs.now a f n.standing n.among))
 
-pub slot_cell-requires : goal.slot_cell-requires
-slot_cell-requires c =
+pub far_slot_cell-requires : goal.far_slot_cell-requires
+far_slot_cell-requires c =
     let (a, f, n, e) = c.requires in
     let k = subst (λ (z : StackPlace). IsStackOf a z.stack) e (stack_known c.args.core.now c.args.regs.now a f n.standing n.among) in
     let own = own_stack c.args.core.now c.args.regs.now a f (omega (arith, ap (λ (z : StackPlace). z.stack) e, c.if-r-from.true, c.from.ensures)) in
@@ -21,7 +21,7 @@ pub returns-then-r-from : goal.returns-then-r-from
 returns-then-r-from c = λ a q f n e.
     let k = subst (λ (z : StackPlace). IsStackOf a z.stack) e (stack_known c.args.core.now c.args.regs.now a f n.standing n.among) in
     let own = own_stack c.args.core.now c.args.regs.now a f (omega (arith, ap (λ (z : StackPlace). z.stack) e, c.if-r-from.true, c.from.ensures)) in
-    c.slot_cell.ensures a q f n own (c.address_of-base.ensures a k ∙ ap (address_of a.plan) (sym e))
+    c.far_slot_cell.ensures a q f n own (c.address_of-base.ensures a k ∙ ap (address_of a.plan) (sym e))
 
 pub base_cell-requires : goal.base_cell-requires
 base_cell-requires c =

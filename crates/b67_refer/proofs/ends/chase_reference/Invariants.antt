@@ -7,9 +7,8 @@ use Rattle.b67_refer.specs.LiveEnds.{IsReference}
 use Rattle.b67_refer.proofs.SeenFrom.{eye}
 use Rattle.b67_refer.proofs.Names.{Rest}
 use Rattle.b67_refer.proofs.ends.chase_reference.Given as goal
-use Rattle.b67_model.specs.declared.limits.TheConstants.{MOST_LINKS}
 
 abbrev pub invariant-loop-i : goal.invariant-loop-i
 invariant-loop-i l =
     (a : LiveContext l.core l.regs) (q : Place) → IsShown (running_of a) l.display → (at owner : ℕ) (v : Word) → StandsFor a at owner l.initial.w v → IsReference v
-    → (own : Bool) × Rest l.core l.regs (eye a own) q (MOST_LINKS - l._i) v l.w
+    → (own : Bool) × Rest l.core l.regs (eye a own) q l.links (l.links - l._i) v l.w

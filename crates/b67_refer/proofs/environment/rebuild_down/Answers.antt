@@ -1,4 +1,4 @@
-use Rattle.std.proofs.Common.{◌∙◌, arith, ap, Some, ◌-◌, ◌<◌}
+use Rattle.std.proofs.Common.{◌∙◌, arith, ap, Some, ◌<◌}
 use Rattle.std.proofs.lemmas.List.{length-set}
 use Rattle.std.proofs.lemmas.Option.{slice_get-get_or}
 use Rattle.b67_refer.specs.RunningContext.{live_of}

@@ -1,79 +1,35 @@
-use Rattle.std.proofs.Common.{◌≤◌, ◌+◌, ◌∙◌, refl, sym, ap, arith, get_or, ℕ}
-use Rattle.b67_word.specs.Tagged.{Tagged}
-use Rattle.b67_refer.proofs.Chains.{level_is, level_small}
-use Rattle.b67_refer.proofs.Owns.{own_small, own_finds, split_small}
+use Rattle.std.proofs.Common.{◌∙◌, refl, sym}
 use Rattle.b67_refer.proofs.own.own_cell.Goals as goal
 
-pub returns-in-None-clause-names : goal.returns-in-None-clause-names
-returns-in-None-clause-names c = λ some. absurd (some refl)
+pub own_place-at-requires : goal.own_place-at-requires
+own_place-at-requires c = c.requires
 
-pub returns-in-None-clause-couple : goal.returns-in-None-clause-couple
-returns-in-None-clause-couple c = λ some. absurd (some refl)
+pub returns-then-at-eq0-clause-names : goal.returns-then-at-eq0-clause-names
+returns-then-at-eq0-clause-names c = λ some. absurd (some refl)
 
-pub returns-in-None-clause-tagged : goal.returns-in-None-clause-tagged
-returns-in-None-clause-tagged c = λ some. absurd (some refl)
+pub returns-then-at-eq0-clause-tagged : goal.returns-then-at-eq0-clause-tagged
+returns-then-at-eq0-clause-tagged c = λ some. absurd (some refl)
 
-pub couple_at-c-requires-clause-bits : goal.couple_at-c-requires-clause-bits
-couple_at-c-requires-clause-bits c = c.in-Some.ensures.some.0.couple
-
-pub couple_at-c-requires-clause-level : goal.couple_at-c-requires-clause-level
-couple_at-c-requires-clause-level c = let a = c.requires.0 in omega (arith, level_is c.args.core.now c.args.regs.now a, level_small c.args.core.now c.args.regs.now a)
-
-pub returns-then-c-regs-clause-names : goal.returns-then-c-regs-clause-names
-returns-then-c-regs-clause-names c = λ some. absurd (some refl)
-
-pub returns-then-c-regs-clause-couple : goal.returns-then-c-regs-clause-couple
-returns-then-c-regs-clause-couple c = λ some. absurd (some refl)
-
-pub returns-then-c-regs-clause-tagged : goal.returns-then-c-regs-clause-tagged
-returns-then-c-regs-clause-tagged c = λ some. absurd (some refl)
-
-pub bounds-display-c : goal.bounds-display-c
-bounds-display-c c = let a = c.requires.0 in omega (arith, c.if-c-regs.false, level_is c.args.core.now c.args.regs.now a, level_small c.args.core.now c.args.regs.now a)
-
-pub returns-then-base-regs-clause-names : goal.returns-then-base-regs-clause-names
-returns-then-base-regs-clause-names c = λ some. absurd (some refl)
-
-pub returns-then-base-regs-clause-couple : goal.returns-then-base-regs-clause-couple
-returns-then-base-regs-clause-couple c = λ some. absurd (some refl)
-
-pub returns-then-base-regs-clause-tagged : goal.returns-then-base-regs-clause-tagged
-returns-then-base-regs-clause-tagged c = λ some. absurd (some refl)
-
-pub overflow_add-at : goal.overflow_add-at
-overflow_add-at c =
-    let (a, shown) = c.requires in
-    let low : c.couple_at-c.result.level ≤ c.args.regs.now.level = omega (arith, c.if-c-regs.false) in
-    let s = own_small c.args.core.now c.args.regs.now a a.task.place c.args.display.now shown c.couple_at-c.result low c.if-base-regs.false in
-    omega (arith, s.0, c.if-base-regs.false, c.from.ensures, split_small c.in-Some.name.couple c.args.regs.now.level c.couple_at-c.result c.couple_at-c.ensures c.in-Some.ensures.some.0.couple)
+pub returns-then-at-eq0-clause-couple : goal.returns-then-at-eq0-clause-couple
+returns-then-at-eq0-clause-couple c = λ some. absurd (some refl)
 
 pub get-requires : goal.get-requires
-get-requires c =
-    let (a, shown) = c.requires in
-    let low : c.couple_at-c.result.level ≤ c.args.regs.now.level = omega (arith, c.if-c-regs.false) in
-    let s = own_small c.args.core.now c.args.regs.now a a.task.place c.args.display.now shown c.couple_at-c.result low c.if-base-regs.false in
-    omega (arith, s.1, c.if-at-regs.false)
+get-requires c = c.own_place-at.ensures.inside c.if-at-eq0.false
 
-pub returns-then-at-regs-clause-names : goal.returns-then-at-regs-clause-names
-returns-then-at-regs-clause-names c = λ some. absurd (some refl)
+pub returns-then-tag-clause-names : goal.returns-then-tag-clause-names
+returns-then-tag-clause-names c = λ some. absurd (some refl)
 
-pub returns-then-at-regs-clause-couple : goal.returns-then-at-regs-clause-couple
-returns-then-at-regs-clause-couple c = λ some. absurd (some refl)
+pub returns-then-tag-clause-tagged : goal.returns-then-tag-clause-tagged
+returns-then-tag-clause-tagged c = λ some. absurd (some refl)
 
-pub returns-then-at-regs-clause-tagged : goal.returns-then-at-regs-clause-tagged
-returns-then-at-regs-clause-tagged c = λ some. absurd (some refl)
+pub returns-then-tag-clause-couple : goal.returns-then-tag-clause-couple
+returns-then-tag-clause-couple c = λ some. absurd (some refl)
 
 pub returns-clause-names : goal.returns-clause-names
-returns-clause-names c = λ some a q shown at owner v stands.
-    let low : c.couple_at-c.result.level ≤ c.args.regs.now.level = omega (arith, c.if-c-regs.false) in
-    let i = c.in-Some.ensures.some in
-    let base : ℕ = get_or c.args.display.now c.couple_at-c.result.level 0 in
-    let f = own_finds c.args.core.now c.args.regs.now a q c.args.display.now shown c.couple_at-c.result low c.if-base-regs.false c.in-Some.name i.0 c.couple_at-c.ensures at owner c.args.w v stands i.1
-    (omega (arith, c.if-c-lt2.false)) (base + c.from.result) (ap (λ (n : ℕ). base + n) c.from.ensures) (omega (arith, c.if-at-regs.false)) in
-    f
+returns-clause-names c = c.own_place-at.ensures.names
 
 pub returns-clause-tagged : goal.returns-clause-tagged
 returns-clause-tagged c = λ some. (c.get.result, c.get.ensures, sym c.tag.ensures.value ∙ c.if-tag.false)
 
 pub returns-clause-couple : goal.returns-clause-couple
-returns-clause-couple c = λ some. ap (λ (x : Tagged). x.tag) c.in-Some.ensures.some.1
+returns-clause-couple c = c.own_place-at.ensures.couple

@@ -5,7 +5,7 @@ use Rattle.b67_layout.specs.Meets.{here}
 use Rattle.b67_refer.specs.LiveCells.{CellMeets, IsPlain, cell_or_none}
 use Rattle.b67_refer.proofs.Founds.{top, under_top, task_misses, task_marks, task_lands, task_plain, top_inside, address_small}
 use Rattle.b67_refer.proofs.Walks.{top_small, has_mark, either_way, plain_more, Walk, walk_start, walk_there, walk_down}
-use Rattle.b67_refer.proofs.cells.has_deep_cell.Goals as goal
+use Rattle.b67_refer.proofs.cells.has_far_cell.Goals as goal
 
 pub overflow_add-at : goal.overflow_add-at
 overflow_add-at c =

@@ -3,7 +3,7 @@ use Rattle.std.specs.List.{slice_get}
 use Rattle.b67_word.specs.Tagged.{Tagged}
 use Rattle.b67_refer.specs.RunningContext.{LiveContext}
 use Rattle.b67_refer.proofs.Walks.{Walk}
-use Rattle.b67_refer.proofs.cells.has_deep_cell.Given as goal
+use Rattle.b67_refer.proofs.cells.has_far_cell.Given as goal
 
 abbrev pub invariant-loop-k : goal.invariant-loop-k
 invariant-loop-k l = record {
