@@ -1,6 +1,6 @@
 //! MKST, ENTR, and the accidental entry of a procedure.
 
-ghost use Rattle.std.specs.Prelude.{◌≡◌, ℕ, not, ◌==◌, ◌+◌, ◌<◌, true, List, Some, slice_get};
+ghost use Rattle.std.specs.Prelude.{◌≡◌, ◌≢◌, ℕ, not, ◌==◌, ◌+◌, ◌<◌, true, List, Some, None, slice_get};
 ghost use Rattle.b67_ctl.specs.Layout.{IsPlace, IsPcw, pcw_word};
 ghost use Rattle.b67_ctl.specs.declared.programs.Pcw.{Pcw};
 ghost use Rattle.b67_ctl.specs.declared.registers.Regs.{Regs};
@@ -11,19 +11,22 @@ ghost use Rattle.b67_model.specs.Chase.{AtProc};
 ghost use Rattle.b67_model.specs.Entry as rows;
 ghost use Rattle.b67_model.specs.Entry.{back_to};
 ghost use Rattle.b67_model.specs.Rows as operators;
+ghost use Rattle.b67_stack.specs.declared.Step as ways;
 ghost use Rattle.b67_stack.specs.declared.Step.TheVariants.{Done};
 ghost use Rattle.b67_layout.specs.Meets.{RunsSome, ForEach, Meets, here};
 ghost use Rattle.b67_exec_cells.specs.Tops.{StaysInSegment};
 ghost use Rattle.b67_refer.specs.RunningContext.{RunningContext, IsShown};
 ghost use Rattle.b67_refer.specs.Displays.{HoldsEnvironment, EntersOver};
+ghost use Rattle.b67_refer.specs.Own.{LeadsTo};
+ghost use Rattle.b67_refer.specs.declared.ends.End.TheVariants as end;
 ghost use Rattle.b67_entry.specs.Procedures.{ReachesProc, CanEnter, EntersOrFaults, HoldsUnder, CallsWith, CallsOrMeets};
-ghost use Rattle.b67_model.specs.Words.{Word};
+ghost use Rattle.b67_model.specs.Words as Words;
 
 use b67_core::Core;
-use b67_ctl::{Mscw, Pcw, Rcw, Regs};
-use b67_refer::{Activation, End, chase, enclosure_of, rebuild_entered};
+use b67_ctl::{IntrinsicPcw, Mscw, Pcw, Rcw, Regs};
+use b67_refer::{Activation, End, chase, enclosure_of, near_place, rebuild_entered};
 use b67_stack::{Cpu, Step};
-use b67_word::{Fault, Place};
+use b67_word::{Fault, Place, Word};
 
 /// MKST: puts a mark on the stack, or faults if the stack is as high as its slot. The task goes on at `next`.
 #[inline]
@@ -89,10 +92,10 @@ fn begin(cpu: &mut Cpu, procedure: Pcw, under: u32, known: u8)
 /// activation record.
 #[inline(always)]
 fn enter(cpu: &mut Cpu, cell: u32, next: Place) -> Step
-    requires procedure { (a : RunningContext cpu.old.core cpu.old.regs) × (f : ℕ) × (segment : ℕ) × (level : ℕ) × (place : Place) × (reference : Word) × (arguments : List Word)
+    requires procedure { (a : RunningContext cpu.old.core cpu.old.regs) × (f : ℕ) × (segment : ℕ) × (level : ℕ) × (place : Place) × (reference : Words.Word) × (arguments : List Words.Word)
         × ReachesProc cpu.old a next cell f segment level place × CallsWith a.task reference arguments }
     requires next { IsPlace next }
-    ensures row { (a : RunningContext cpu.old.core cpu.old.regs) (f segment level : ℕ) (place : Place) (reference : Word) (arguments : List Word)
+    ensures row { (a : RunningContext cpu.old.core cpu.old.regs) (f segment level : ℕ) (place : Place) (reference : Words.Word) (arguments : List Words.Word)
         → ReachesProc cpu.old a next cell f segment level place → CallsWith a.task reference arguments
         → Meets a.storage a.plan a.session a.member result cpu.old cpu.new (rows.enters (here a.member a.task next) arguments (AtProc f segment level place)) }
 {
@@ -113,6 +116,52 @@ fn enter(cpu: &mut Cpu, cell: u32, next: Place) -> Step
     cpu.core.set(cpu.regs.f + 1, caller.word());
     begin(cpu, procedure, home.mark, cpu.regs.level);
     Step::Done
+}
+
+/// The core address of the procedure's cell to which a word leads, if the word is that of a couple that names this cell, and the
+/// cell lies near. Else 0: the word may lead anywhere.
+#[inline(always)]
+fn near_procedure(cpu: &Cpu, w: Word) -> u32
+    requires { (a : RunningContext cpu.now.core cpu.now.regs) × IsShown a cpu.now.display }
+    ensures leads { result ≢ 0 → LeadsTo cpu.now.core cpu.now.regs cpu.now.display w (end.Proc result) }
+    ensures couple { result ≢ 0 → w.tag ≡ 1 }
+{
+    let at = near_place(&cpu.core, &cpu.regs, &cpu.display, w);
+    if at == 0 {
+        return 0;
+    }
+    let word = cpu.core.get(at);
+    if word.tag() != 7 {
+        return 0;
+    }
+    match IntrinsicPcw::from_word(word) {
+        Some(_) => 0,
+        None => at,
+    }
+}
+
+/// ENTR, as `entr` makes it, where the reference is a couple that names the cell of a procedure near by. None, with nothing
+/// changed, if it may lead elsewhere.
+#[inline(always)]
+pub fn entr_near(cpu: &mut Cpu, next: Place) -> Option<Step>
+    requires runs { RunsSome cpu.old }
+    requires next { IsPlace next }
+    ensures row { (step : ways.Step) → result ≡ Some step → ForEach cpu.old (λ x plan s m t. CallsOrMeets x plan s m step cpu.old cpu.new (called_on (here m t next) (top_of (here m t next)).standing) (operators.entr (here m t next) (top_of (here m t next)).standing)) }
+    ensures kept { result ≡ None → cpu.new ≡ cpu.old }
+{
+    if cpu.top_mark().entered {
+        return None;
+    }
+    if cpu.regs.s == cpu.regs.f {
+        return None;
+    }
+    let first = cpu.core.get(cpu.regs.f + 1);
+    let cell = near_procedure(cpu, first);
+    if cell == 0 {
+        return None;
+    }
+    let step = enter(cpu, cell, next);
+    Some(step)
 }
 
 /// ENTR: enters the procedure that the first cell of the marked activation record on top refers to. Its caller goes on

@@ -15,7 +15,7 @@ use crate::evaluating::enter_in_place;
 use crate::operators::on_top;
 use crate::own::{indexes_own, takes_own};
 use b67_ctl::Irw;
-use b67_entry::{accident, entr, exit, retn};
+use b67_entry::{accident, entr, entr_near, exit, retn};
 use b67_exec_cells::top_cell;
 use b67_fetch::{Stored, indx, nxlv, stff, stff_named, store, value};
 use b67_model::Code;
@@ -236,15 +236,28 @@ pub(crate) fn makes_ston(cpu: &mut Cpu, next: Place) -> Went
     }
 }
 
-/// ENTR.
+/// ENTR, wherever its reference leads.
 #[inline(never)]
-pub(crate) fn makes_entr(cpu: &mut Cpu, next: Place) -> bool
+fn makes_far_entr(cpu: &mut Cpu, next: Place) -> bool
     requires runs { RunsSome cpu.old }
     requires next { IsPlace next }
     ensures { MadeAway (Plain codes.Entr) next cpu.old result cpu.new }
 {
     let step = entr(cpu, next);
     is_done(step)
+}
+
+/// ENTR. Most procedures that are called lie near by: they are entered here, and no chain is followed.
+#[inline(never)]
+pub(crate) fn makes_entr(cpu: &mut Cpu, next: Place) -> bool
+    requires runs { RunsSome cpu.old }
+    requires next { IsPlace next }
+    ensures { MadeAway (Plain codes.Entr) next cpu.old result cpu.new }
+{
+    match entr_near(cpu, next) {
+        Some(step) => is_done(step),
+        None => makes_far_entr(cpu, next),
+    }
 }
 
 /// EXIT.
