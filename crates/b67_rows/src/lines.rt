@@ -26,7 +26,8 @@ pub fn words_of<'a>(alloc: Global, text: &'a str) -> Result<Vec<&'a str>, AllocE
 
 /// Whether each word of a text is a number.
 pub fn are_numbers(text: &str) -> bool {
-    text.split_whitespace().all(|word| word.parse::<i64>().is_ok())
+    text.split_whitespace()
+        .all(|word| word.parse::<i64>().is_ok())
 }
 
 /// Appends the words of a text that are numbers.

@@ -22,9 +22,19 @@ fn number_of(code: ExitCode) -> u8 {
 
 /// Serves a call.
 pub fn serve_call(rt: &HostRuntime, call: Call<'_>) -> io::Result<Told> {
-    let Call { words, mut tape, mut paper } = call;
+    let Call {
+        words,
+        mut tape,
+        mut paper,
+    } = call;
     let mut devices = rt.clone()?;
-    let code = serve(rt.alloc(), words.as_slice(), &mut devices, &mut tape, &mut paper);
+    let code = serve(
+        rt.alloc(),
+        words.as_slice(),
+        &mut devices,
+        &mut tape,
+        &mut paper,
+    );
     let status = number_of(code);
     Ok(Told {
         paper,
