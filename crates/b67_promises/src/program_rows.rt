@@ -36,6 +36,13 @@ fn served(
     (status, printed)
 }
 
+// The status and the count of bytes are these, and the lines stand in front.
+fn is_served(rt: &impl Abort, was: (u8, usize), paper: &[u8], status: u8, lines: &[u8]) {
+    assert_eq!(rt; was.0, status);
+    assert_eq!(rt; was.1, lines.len());
+    assert!(rt; paper.starts_with(lines));
+}
+
 /// Calls over so many sectors of zeros and so much room, and compares the status and what is printed.
 fn serves_so(
     rt: &impl Abort,
@@ -56,8 +63,7 @@ fn serves_so(
         sectors.as_mut_slice(),
         paper.as_mut_slice(),
     );
-    assert_eq!(rt; was, (status, lines.len()));
-    assert!(rt; paper.as_slice().starts_with(lines.as_bytes()));
+    is_served(rt, was, paper.as_slice(), status, lines.as_bytes());
     Ok(())
 }
 

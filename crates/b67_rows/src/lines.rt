@@ -5,7 +5,10 @@ use std::alloc::{AllocError, Global};
 
 /// The first word of a line, and what stands behind it.
 pub fn parted(line: &str) -> (&str, &str) {
-    line.split_once(' ').unwrap_or((line, ""))
+    match line.split_once(' ') {
+        Some(parts) => parts,
+        None => (line, ""),
+    }
 }
 
 /// What stands behind the first word of a line, if it is this word.
@@ -22,6 +25,11 @@ fn unquoted(word: &str) -> &str {
 /// The words of a text.
 pub fn words_of<'a>(alloc: Global, text: &'a str) -> Result<Vec<&'a str>, AllocError> {
     text.split_whitespace().map(unquoted).collect(alloc)
+}
+
+/// Whether a word is among these.
+pub fn is_among(words: &[&str], word: &str) -> bool {
+    words.contains(&word)
 }
 
 /// Whether each word of a text is a number.

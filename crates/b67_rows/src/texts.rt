@@ -13,13 +13,18 @@ struct Many<'a> {
     text: &'a str,
 }
 
+fn count_of(word: &str) -> Option<u32> {
+    word.parse::<u32>().ok()
+}
+
 fn many_of(rest: &str) -> Option<Many<'_>> {
     let (first, rest) = parted(rest);
     let (last, text) = parted(rest);
-    match (first.parse::<u32>(), last.parse::<u32>()) {
-        (Ok(first), Ok(last)) => Some(Many { first, last, text }),
-        _ => None,
-    }
+    Some(Many {
+        first: count_of(first)?,
+        last: count_of(last)?,
+        text,
+    })
 }
 
 /// Whether a line is one that a text has by itself.
