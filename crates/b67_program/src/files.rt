@@ -34,7 +34,7 @@ pub trait Devices {
 }
 
 /// Whether two paths lead to one file, as far as the system says.
-pub(crate) fn lead_to_one_file(rt: &HostRuntime, path: &str, other: &str) -> bool {
+pub fn lead_to_one_file(rt: &HostRuntime, path: &str, other: &str) -> bool {
     match (fs::metadata(rt, path), fs::metadata(rt, other)) {
         (Ok(one), Ok(two)) => one.dev() == two.dev() && one.ino() == two.ino(),
         _ => false,

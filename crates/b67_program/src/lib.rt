@@ -9,12 +9,10 @@ mod lent;
 mod reading;
 mod serving;
 mod starting;
-#[cfg(test)]
-mod tests;
 mod words;
 
 pub use b67_job::{backing_path, command_of, run};
-pub use files::{Devices, SystemFile};
+pub use files::{Devices, SystemFile, lead_to_one_file};
 pub use in_memory::{print_into, serve_in_memory, tape_of};
 pub use lent::LentSectors;
 pub use reading::{InputFault, read_input};

@@ -1,7 +1,6 @@
 //! The program's call over memory alone, and which paths lead to one file. Over the system's files it is rows of `b67_rows`.
 
-use crate::files::lead_to_one_file;
-use crate::serve_in_memory;
+use b67_program::{lead_to_one_file, serve_in_memory};
 use std::alloc::Global;
 use std::fs;
 use std::process::Abort;
@@ -24,6 +23,26 @@ fn paths_lead_to_one_file(rt: HostRuntime) -> Result<(), Fail> {
     Ok(())
 }
 
+// Makes a call: its status, and how many bytes it printed.
+fn served(
+    alloc: Global,
+    words: &[&str],
+    text: &[u8],
+    sectors: &mut [[u64; 30]],
+    lines: &mut [u8],
+) -> (u8, usize) {
+    let mut printed = 0;
+    let status = serve_in_memory(alloc, words, text, sectors, lines, &mut printed);
+    (status, printed)
+}
+
+// The status and the count of bytes are these, and the lines stand in front.
+fn is_served(rt: &impl Abort, was: (u8, usize), paper: &[u8], status: u8, lines: &[u8]) {
+    assert_eq!(rt; was.0, status);
+    assert_eq!(rt; was.1, lines.len());
+    assert!(rt; paper.starts_with(lines));
+}
+
 /// Calls over so many sectors of zeros and so much room, and compares the status and what is printed.
 fn serves_so(
     rt: &impl Abort,
@@ -37,18 +56,14 @@ fn serves_so(
 ) -> Result<(), Fail> {
     let mut sectors = Vec::from_elem(alloc, [0u64; 30], count)?;
     let mut paper = Vec::from_elem(alloc, 0u8, room)?;
-    let mut printed = 0;
-    let was = serve_in_memory(
+    let was = served(
         alloc,
         words,
         text.as_bytes(),
         sectors.as_mut_slice(),
         paper.as_mut_slice(),
-        &mut printed,
     );
-    assert_eq!(rt; was, status);
-    assert_eq!(rt; printed, lines.len());
-    assert!(rt; paper.as_slice().starts_with(lines.as_bytes()));
+    is_served(rt, was, paper.as_slice(), status, lines.as_bytes());
     Ok(())
 }
 
