@@ -238,8 +238,10 @@ fn a_folder_and_a_missing_folder_fail(rt: HostRuntime) -> Result<(), Fail> {
     every_call_fails(&rt, missing.as_str());
     every_call_fails(&rt, "");
     every_call_fails(&rt, "/dev/null");
-    let is_folder = fs::metadata(&rt, folder.as_str()).map(|it| it.is_dir());
-    same(&rt, is_folder.ok(), Some(true));
+    let is_folder = fs::metadata(&rt, folder.as_str())
+        .expect(&rt, "a folder")
+        .is_dir();
+    same(&rt, is_folder, true);
     same(&rt, fs::exists(&rt, missing.as_str()).ok(), Some(false));
     remove(&rt, folder);
     Ok(())
