@@ -1,7 +1,8 @@
 //! A file of sectors over real files, in folders that the tests make where they run.
 
+use crate::given::same;
 use b67_backing::{Backing, FileBacking};
-use std::alloc::Global;
+use std::alloc::{Alloc, Global};
 use std::fs::{File, OpenFile, OpenOptions, Permissions};
 use std::os::unix::fs::PermissionsExt;
 use std::process::Abort;
@@ -21,6 +22,15 @@ fn folder(rt: &HostRuntime, test: &str) -> Result<String, Fail> {
     Ok(name)
 }
 
+/// The path of a file in it.
+fn path_in(rt: &(impl Abort + Alloc<A = Global>), folder: &str) -> String {
+    format!(in rt.alloc(); "{folder}/b").expect(rt, "memory")
+}
+
+fn remove(rt: &(impl Abort + Files + Alloc), folder: String) {
+    fs::remove_dir_all(rt, folder).expect(rt, "a folder");
+}
+
 /// A file of these bytes, with zeros up to a length.
 fn make_file(rt: &impl Files, path: &str, start: &[u8], length: u64) -> io::Result<()> {
     fs::write(rt, path, start)?;
@@ -28,6 +38,14 @@ fn make_file(rt: &impl Files, path: &str, start: &[u8], length: u64) -> io::Resu
         .write(true)
         .open(rt, path)?
         .set_len(length)
+}
+
+fn length_of(rt: &(impl Abort + Files), path: &str) -> u64 {
+    fs::metadata(rt, path).expect(rt, "a file").len()
+}
+
+fn bytes_of(rt: &(impl Abort + Files<File = File> + Alloc<A = Global>), path: &str) -> Vec<u8> {
+    fs::read(rt, path).expect(rt, "a file")
 }
 
 /// The numbers of sector n: no byte is 0, and the last two are those of n and of the number's place in the sector.
@@ -39,15 +57,31 @@ fn numbers_of(n: u32) -> [u64; 30] {
     numbers
 }
 
-/// The bytes of sector n.
-fn bytes_of(alloc: Global, n: u32) -> Result<Vec<u8>, Fail> {
-    let mut bytes = Vec::new(alloc);
+/// The bytes of sector n stand at a place.
+fn lies_at(rt: &impl Abort, bytes: &[u8], n: u32, place: usize) {
     for i in 0..30u8 {
-        for byte in [7, 6, 5, 4, 3, 2, (n % 100) as u8 + 1, i + 1] {
-            bytes.push(byte)?;
-        }
+        let at = place.saturating_add(8 * usize::from(i));
+        let wanted = [7, 6, 5, 4, 3, 2, (n % 100) as u8 + 1, i + 1];
+        same(
+            rt,
+            (n, bytes.get(at..at.saturating_add(8))),
+            (n, Some(wanted.as_slice())),
+        );
     }
-    Ok(bytes)
+}
+
+/// Sector n is written as its numbers.
+fn writes<B: Backing>(rt: &impl Abort, backing: &mut B, n: u32) {
+    assert!(rt; 1 <= n && n <= backing.sectors());
+    same(rt, (n, backing.write(n, &numbers_of(n)).is_ok()), (n, true));
+}
+
+/// Sector n is read as these numbers.
+fn reads<B: Backing>(rt: &impl Abort, backing: &mut B, n: u32, numbers: [u64; 30]) {
+    assert!(rt; 1 <= n && n <= backing.sectors());
+    let mut sector = [1; 30];
+    same(rt, (n, backing.read(n, &mut sector).is_ok()), (n, true));
+    same(rt, (n, sector), (n, numbers));
 }
 
 /// The sectors that are written, and the places of their first bytes.
@@ -63,151 +97,181 @@ const PLACES: [(u32, usize); 9] = [
     (65_536, 15_728_400),
 ];
 
+fn writes_each<B: Backing>(rt: &impl Abort, backing: &mut B, places: &[(u32, usize)]) {
+    for (n, _) in places {
+        writes(rt, backing, *n);
+    }
+}
+
+fn each_lies(rt: &impl Abort, bytes: &[u8], places: &[(u32, usize)]) {
+    for (n, place) in places {
+        lies_at(rt, bytes, *n, *place);
+    }
+}
+
+fn reads_each<B: Backing>(rt: &impl Abort, backing: &mut B, places: &[(u32, usize)]) {
+    for (n, _) in places {
+        reads(rt, backing, *n, numbers_of(*n));
+    }
+}
+
 #[test]
 fn sectors_lie_at_their_places(rt: HostRuntime) -> Result<(), Fail> {
     let folder = folder(&rt, "places")?;
-    let path = format!(in rt.alloc(); "{folder}/b")?;
+    let path = path_in(&rt, folder.as_str());
     {
         let mut backing = FileBacking::at(&rt, path.as_str());
-        assert_eq!(rt; backing.sectors(), 65_536);
-        assert_eq!(rt; fs::metadata(&rt, path.as_str())?.len(), LENGTH);
-        for (n, _) in PLACES {
-            assert!(rt; backing.write(n, &numbers_of(n)).is_ok(), "sector {n}");
-        }
+        same(&rt, backing.sectors(), 65_536);
+        same(&rt, length_of(&rt, path.as_str()), LENGTH);
+        writes_each(&rt, &mut backing, &PLACES);
     }
-    let bytes = fs::read(&rt, path.as_str())?;
-    assert_eq!(rt; bytes.len() as u64, LENGTH);
-    for (n, place) in PLACES {
-        let wanted = bytes_of(rt.alloc(), n)?;
-        assert_eq!(rt;
-            bytes.get(place..place + 240),
-            Some(wanted.as_slice()),
-            "sector {n}"
-        );
-    }
-    assert_eq!(rt; bytes.iter().filter(|byte| **byte != 0).count(), 9 * 240);
+    let bytes = bytes_of(&rt, path.as_str());
+    same(&rt, bytes.len() as u64, LENGTH);
+    each_lies(&rt, &bytes, &PLACES);
+    same(
+        &rt,
+        bytes.iter().filter(|byte| **byte != 0).count(),
+        9 * 240,
+    );
     let mut backing = FileBacking::at(&rt, path.as_str());
-    for (n, _) in PLACES {
-        let mut sector = [0; 30];
-        assert!(rt; backing.read(n, &mut sector).is_ok(), "sector {n}");
-        assert_eq!(rt; sector, numbers_of(n), "sector {n}");
-    }
-    for n in [4, 32_766, 32_770, 65_533] {
-        let mut sector = [1; 30];
-        assert!(rt; backing.read(n, &mut sector).is_ok(), "sector {n}");
-        assert_eq!(rt; sector, [0; 30], "sector {n}");
-    }
-    fs::remove_dir_all(&rt, folder)?;
+    reads_each(&rt, &mut backing, &PLACES);
+    reads(&rt, &mut backing, 4, [0; 30]);
+    reads(&rt, &mut backing, 32_766, [0; 30]);
+    reads(&rt, &mut backing, 32_770, [0; 30]);
+    reads(&rt, &mut backing, 65_533, [0; 30]);
+    remove(&rt, folder);
     Ok(())
+}
+
+/// A write and a read of sector n fail.
+fn fails<B: Backing>(rt: &impl Abort, backing: &mut B, n: u32, path: &str) {
+    assert!(rt; 1 <= n && n <= backing.sectors());
+    same(
+        rt,
+        (path, n, backing.write(n, &[7; 30]).is_err()),
+        (path, n, true),
+    );
+    same(
+        rt,
+        (path, n, backing.read(n, &mut [0; 30]).is_err()),
+        (path, n, true),
+    );
 }
 
 /// Every call on the sectors at a path fails.
 fn every_call_fails(rt: &(impl Abort + Files<File = File>), path: &str) {
     let mut backing = FileBacking::at(rt, path);
-    assert_eq!(rt; backing.sectors(), 65_536);
-    for n in [1, 2, 65_536] {
-        assert!(rt; backing.write(n, &[7; 30]).is_err(), "{path}, sector {n}");
-        assert!(rt;
-            backing.read(n, &mut [0; 30]).is_err(),
-            "{path}, sector {n}"
-        );
-    }
+    same(rt, backing.sectors(), 65_536);
+    fails(rt, &mut backing, 1, path);
+    fails(rt, &mut backing, 2, path);
+    fails(rt, &mut backing, 65_536, path);
+}
+
+/// A file of another length stays as it is.
+fn stays(rt: &(impl Abort + Files<File = File> + Alloc<A = Global>), path: &str, length: u64) {
+    make_file(rt, path, b"?JOB SUM\n", length).expect(rt, "a file");
+    let before = bytes_of(rt, path);
+    same(rt, before.len() as u64, length);
+    every_call_fails(rt, path);
+    assert!(rt; bytes_of(rt, path) == before, "a file of {length} bytes");
 }
 
 #[test]
 fn files_of_other_lengths_stay(rt: HostRuntime) -> Result<(), Fail> {
     let folder = folder(&rt, "lengths")?;
-    let path = format!(in rt.alloc(); "{folder}/b")?;
-    for length in [1, 9, 239, 240, LENGTH - 1, LENGTH + 1, 20_000_000] {
-        make_file(&rt, path.as_str(), b"?JOB SUM\n".as_slice(), length)?;
-        let before = fs::read(&rt, path.as_str())?;
-        assert_eq!(rt; before.len() as u64, length);
-        every_call_fails(&rt, path.as_str());
-        assert!(rt;
-            fs::read(&rt, path.as_str())? == before,
-            "a file of {length} bytes"
-        );
-    }
-    fs::remove_dir_all(&rt, folder)?;
+    let path = path_in(&rt, folder.as_str());
+    stays(&rt, path.as_str(), 1);
+    stays(&rt, path.as_str(), 9);
+    stays(&rt, path.as_str(), 239);
+    stays(&rt, path.as_str(), 240);
+    stays(&rt, path.as_str(), LENGTH - 1);
+    stays(&rt, path.as_str(), LENGTH + 1);
+    stays(&rt, path.as_str(), 20_000_000);
+    remove(&rt, folder);
     Ok(())
 }
 
 #[test]
 fn an_empty_file_gets_its_length(rt: HostRuntime) -> Result<(), Fail> {
     let folder = folder(&rt, "empty")?;
-    let path = format!(in rt.alloc(); "{folder}/b")?;
-    make_file(&rt, path.as_str(), b"".as_slice(), 0)?;
+    let path = path_in(&rt, folder.as_str());
+    make_file(&rt, path.as_str(), b"", 0).expect(&rt, "a file");
     let mut backing = FileBacking::at(&rt, path.as_str());
-    assert_eq!(rt; fs::metadata(&rt, path.as_str())?.len(), LENGTH);
-    assert!(rt; backing.read(65_536, &mut [1; 30]).is_ok());
-    fs::remove_dir_all(&rt, folder)?;
+    same(&rt, length_of(&rt, path.as_str()), LENGTH);
+    reads(&rt, &mut backing, 65_536, [0; 30]);
+    remove(&rt, folder);
     Ok(())
+}
+
+/// A file that another handle has locked stays as it is.
+fn stays_held(rt: &(impl Abort + Files<File = File> + Alloc<A = Global>), path: &str, length: u64) {
+    make_file(rt, path, b"", length).expect(rt, "a file");
+    let other = fs::open(rt, path).expect(rt, "a file");
+    other.lock_shared().expect(rt, "a lock");
+    every_call_fails(rt, path);
+    same(rt, length_of(rt, path), length);
 }
 
 #[test]
 fn a_file_that_another_handle_holds_stays(rt: HostRuntime) -> Result<(), Fail> {
     let folder = folder(&rt, "held")?;
-    let path = format!(in rt.alloc(); "{folder}/b")?;
-    for length in [0, LENGTH] {
-        make_file(&rt, path.as_str(), b"".as_slice(), length)?;
-        let other = fs::open(&rt, path.as_str())?;
-        other.lock_shared()?;
-        every_call_fails(&rt, path.as_str());
-        assert_eq!(rt; fs::metadata(&rt, path.as_str())?.len(), length);
-    }
+    let path = path_in(&rt, folder.as_str());
+    stays_held(&rt, path.as_str(), 0);
+    stays_held(&rt, path.as_str(), LENGTH);
     {
         let mut first = FileBacking::at(&rt, path.as_str());
-        assert!(rt; first.write(1, &numbers_of(1)).is_ok());
+        writes(&rt, &mut first, 1);
         every_call_fails(&rt, path.as_str());
-        let mut sector = [0; 30];
-        assert!(rt; first.read(1, &mut sector).is_ok());
-        assert_eq!(rt; sector, numbers_of(1));
+        reads(&rt, &mut first, 1, numbers_of(1));
     }
     let mut later = FileBacking::at(&rt, path.as_str());
-    let mut sector = [0; 30];
-    assert!(rt; later.read(1, &mut sector).is_ok());
-    assert_eq!(rt; sector, numbers_of(1));
-    fs::remove_dir_all(&rt, folder)?;
+    reads(&rt, &mut later, 1, numbers_of(1));
+    remove(&rt, folder);
     Ok(())
 }
 
 #[test]
 fn a_folder_and_a_missing_folder_fail(rt: HostRuntime) -> Result<(), Fail> {
     let folder = folder(&rt, "folders")?;
-    let missing = format!(in rt.alloc(); "{folder}/none/b")?;
+    let missing = format!(in rt.alloc(); "{folder}/none/b").expect(&rt, "memory");
     every_call_fails(&rt, folder.as_str());
     every_call_fails(&rt, missing.as_str());
     every_call_fails(&rt, "");
     every_call_fails(&rt, "/dev/null");
-    assert!(rt; fs::metadata(&rt, folder.as_str())?.is_dir());
-    assert!(rt; !fs::exists(&rt, missing.as_str())?);
-    fs::remove_dir_all(&rt, folder)?;
+    let is_folder = fs::metadata(&rt, folder.as_str())
+        .expect(&rt, "a folder")
+        .is_dir();
+    same(&rt, is_folder, true);
+    same(&rt, fs::exists(&rt, missing.as_str()).ok(), Some(false));
+    remove(&rt, folder);
     Ok(())
+}
+
+/// A file of the right length stays as it is under a mode that doesn't let it be read and written.
+fn stays_under(rt: &(impl Abort + Files<File = File> + Alloc<A = Global>), path: &str, mode: u32) {
+    make_file(rt, path, b"7", LENGTH).expect(rt, "a file");
+    fs::set_permissions(rt, path, Permissions::from_mode(mode)).expect(rt, "a mode");
+    let how = OpenOptions::new().read(true).write(true).open(rt, path);
+    let may = how.is_ok();
+    drop(how);
+    if !may {
+        every_call_fails(rt, path);
+    }
+    fs::set_permissions(rt, path, Permissions::from_mode(0o600)).expect(rt, "a mode");
+    let bytes = bytes_of(rt, path);
+    same(rt, bytes.len() as u64, LENGTH);
+    same(rt, bytes.first(), Some(&b'7'));
+    fs::remove_file(rt, path).expect(rt, "a file");
 }
 
 // Who may do all is refused nothing: then the file is opened.
 #[test]
 fn a_file_without_permission_stays(rt: HostRuntime) -> Result<(), Fail> {
     let folder = folder(&rt, "permission")?;
-    let path = format!(in rt.alloc(); "{folder}/b")?;
-    for mode in [0o000, 0o200, 0o400] {
-        make_file(&rt, path.as_str(), b"7".as_slice(), LENGTH)?;
-        fs::set_permissions(&rt, path.as_str(), Permissions::from_mode(mode))?;
-        let how = OpenOptions::new()
-            .read(true)
-            .write(true)
-            .open(&rt, path.as_str());
-        let may = how.is_ok();
-        drop(how);
-        if !may {
-            every_call_fails(&rt, path.as_str());
-        }
-        fs::set_permissions(&rt, path.as_str(), Permissions::from_mode(0o600))?;
-        let bytes = fs::read(&rt, path.as_str())?;
-        assert_eq!(rt; bytes.len() as u64, LENGTH);
-        assert_eq!(rt; bytes.first(), Some(&b'7'));
-        fs::remove_file(&rt, path.as_str())?;
-    }
-    fs::remove_dir_all(&rt, folder)?;
+    let path = path_in(&rt, folder.as_str());
+    stays_under(&rt, path.as_str(), 0o000);
+    stays_under(&rt, path.as_str(), 0o200);
+    stays_under(&rt, path.as_str(), 0o400);
+    remove(&rt, folder);
     Ok(())
 }

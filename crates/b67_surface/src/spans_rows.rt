@@ -3,6 +3,7 @@
 ghost use Rattle.std.specs.Prelude.{◌≡◌, ◌<◌, ℕ, IfOk};
 ghost use Rattle.b67_overlay.specs.Examples.{IsFamily};
 
+use crate::given::same;
 use b67_core::Core;
 use b67_ctl::{Regs, Toscw};
 use b67_overlay::{Span, search_span};
@@ -77,13 +78,13 @@ fn family(alloc: Global) -> Result<Cpu, AllocError>
     })
 }
 
-/// The spans of an original in the five slots.
+/// The span of an original in each of the five slots: from where, up to where, or None.
 fn spans_are(rt: &impl Abort, cpu: &Cpu, original: u32, spans: [Option<Span>; 5])
     requires family { IsFamily cpu.now }
     requires inside { original < 247 }
 {
     for slot in 0..5u8 {
-        assert_eq!(rt; search_span(cpu, original, slot), spans[slot as usize]);
+        same(rt, search_span(cpu, original, slot), spans[slot as usize]);
     }
 }
 

@@ -3,6 +3,7 @@
 ghost use Rattle.std.specs.Prelude.{◌≡◌, IsTrue};
 ghost use Rattle.b67_model.specs.Encoding.{has_bits};
 
+use crate::given::same;
 use arrayvec::ArrayVec;
 use b67_syllable::{Code, Op, Undecodable, decode, encode};
 use b67_word::{Place, Word};
@@ -26,30 +27,33 @@ fn code() -> [Word; 3] {
 #[test]
 fn reads_a_program(rt: HostRuntime) {
     let code = code();
-    assert_eq!(rt;
+    same(
+        &rt,
         decode(&code, at(0, 0)),
-        Ok((Op::Plain(Code::Mkst), at(0, 1)))
+        Ok((Op::Plain(Code::Mkst), at(0, 1))),
     );
-    assert_eq!(rt; decode(&code, at(0, 1)), Ok((Op::Namc(9), at(0, 3))));
-    assert_eq!(rt; decode(&code, at(0, 5)), Ok((Op::Lt8(3), at(1, 1))));
-    assert_eq!(rt;
+    same(&rt, decode(&code, at(0, 1)), Ok((Op::Namc(9), at(0, 3))));
+    same(&rt, decode(&code, at(0, 5)), Ok((Op::Lt8(3), at(1, 1))));
+    same(
+        &rt,
         decode(&code, at(1, 3)),
-        Ok((Op::Plain(Code::Exit), at(1, 4)))
+        Ok((Op::Plain(Code::Exit), at(1, 4))),
     );
 }
 
 #[test]
 fn refuses_in_order(rt: HostRuntime) {
     let code = code();
-    assert_eq!(rt; decode(&code, at(0, 6)), Err(Undecodable::BadPlace));
-    assert_eq!(rt; decode(&code, at(0, 255)), Err(Undecodable::BadPlace));
-    assert_eq!(rt; decode(&code, at(3, 0)), Err(Undecodable::BadPlace));
-    assert_eq!(rt; decode(&[], at(0, 0)), Err(Undecodable::BadPlace));
-    assert_eq!(rt; decode(&code, at(2, 5)), Err(Undecodable::PastEnd));
+    same(&rt, decode(&code, at(0, 6)), Err(Undecodable::BadPlace));
+    same(&rt, decode(&code, at(0, 255)), Err(Undecodable::BadPlace));
+    same(&rt, decode(&code, at(3, 0)), Err(Undecodable::BadPlace));
+    same(&rt, decode(&[], at(0, 0)), Err(Undecodable::BadPlace));
+    same(&rt, decode(&code, at(2, 5)), Err(Undecodable::PastEnd));
     let no_operator = [Word::of(0, 0x83)];
-    assert_eq!(rt;
+    same(
+        &rt,
         decode(&no_operator, at(0, 5)),
-        Err(Undecodable::NotAdmitted)
+        Err(Undecodable::NotAdmitted),
     );
 }
 
@@ -57,8 +61,8 @@ fn is_spelled(rt: &impl Abort, op: Op, syllables: &[u8], literal: Option<u64>)
     requires { IsTrue (has_bits op) }
 {
     let mut out = ArrayVec::new();
-    assert_eq!(rt; encode(op, &mut out), literal);
-    assert_eq!(rt; out.as_slice(), syllables);
+    same(rt, encode(op, &mut out), literal);
+    same(rt, out.as_slice(), syllables);
 }
 
 #[test]
