@@ -70,10 +70,7 @@ fn program_in<'a>(
         next += 1;
         if is_head(line.kind) {
             let own = own_from(lines, next);
-            match put_part(alloc, names, segments, line, own, &mut file) {
-                Ok(()) => {}
-                Err(fault) => return Err(fault),
-            }
+            put_part(alloc, names, segments, line, own, &mut file)?;
         }
     }
     Ok(file)

@@ -121,10 +121,7 @@ fn many_entries_of(alloc: Global, count: u8, bytes: &[u8]) -> Result<(Entries, &
     let mut before = 0;
     let mut rest = bytes;
     'entries: for _ in 0..count {
-        let (entry, after) = match entry_of(before, rest) {
-            Ok(found) => found,
-            Err(e) => return Err(e),
-        };
+        let (entry, after) = entry_of(before, rest)?;
         entries.push(entry)?;
         before = entry_count(entry);
         rest = after;
@@ -148,14 +145,8 @@ fn segment_of(alloc: Global, version: u8, bytes: &[u8]) -> Result<(Segment, &[u8
     ensures { Gives (λ x. (x.0, x.1.now)) result (segment_at version bytes.now) }
 {
     let (level, rest) = u8_at(bytes)?;
-    let (entries, rest) = match entries_of(alloc, version, rest) {
-        Ok(found) => found,
-        Err(e) => return Err(e),
-    };
-    let (code, rest) = match words_of(alloc, 3, MOST_SEGMENT, rest) {
-        Ok(found) => found,
-        Err(e) => return Err(e),
-    };
+    let (entries, rest) = entries_of(alloc, version, rest)?;
+    let (code, rest) = words_of(alloc, 3, MOST_SEGMENT, rest)?;
     Ok((
         Segment {
             level,
@@ -177,10 +168,7 @@ fn segments_of(
     let mut segments = Segments::new(alloc);
     let mut rest = bytes;
     'segments: for _ in 0..count {
-        let (segment, after) = match segment_of(alloc, version, rest) {
-            Ok(found) => found,
-            Err(e) => return Err(e),
-        };
+        let (segment, after) = segment_of(alloc, version, rest)?;
         segments.push(segment)?;
         rest = after;
     }
@@ -193,10 +181,7 @@ fn rows_of(alloc: Global, count: u16, bytes: &[u8]) -> Result<(Rows, &[u8]), Rea
     let mut rows = Rows::new(alloc);
     let mut rest = bytes;
     'rows: for _ in 0..count {
-        let (row, after) = match words_of(alloc, 0, MOST_ARRAY, rest) {
-            Ok(found) => found,
-            Err(e) => return Err(e),
-        };
+        let (row, after) = words_of(alloc, 0, MOST_ARRAY, rest)?;
         rows.push(row)?;
         rest = after;
     }
@@ -236,14 +221,8 @@ fn whole(alloc: Global, bytes: &[u8]) -> Result<Codefile, ReadError>
 {
     let (version, rest) = header_of(bytes)?;
     let ((segments, rows), rest) = counts_of(rest)?;
-    let (segments, rest) = match segments_of(alloc, version, segments, rest) {
-        Ok(found) => found,
-        Err(e) => return Err(e),
-    };
-    let (rows, rest) = match rows_of(alloc, rows, rest) {
-        Ok(found) => found,
-        Err(e) => return Err(e),
-    };
+    let (segments, rest) = segments_of(alloc, version, segments, rest)?;
+    let (rows, rest) = rows_of(alloc, rows, rest)?;
     if !rest.is_empty() {
         return Err(ReadError::Format(FormatError::Trailing {
             remaining: rest.len(),

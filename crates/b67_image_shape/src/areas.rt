@@ -174,10 +174,7 @@ fn past_span(core: &Core, kinds: &[u8], w: Walk, housed: &mut [bool]) -> Option<
     if core.get(w.at).part(46, 2) == 3 {
         return past_hole(core, w);
     }
-    let a = match read_area(core, w.at) {
-        Some(a) => a,
-        None => return None,
-    };
+    let a = read_area(core, w.at)?;
     if !area_fits(core, kinds, w.at + 1, a) {
         return None;
     }
