@@ -101,10 +101,7 @@ fn files_of(alloc: Global, jobs: &[Job]) -> Result<VecDeque<Codefile>, AdmitFaul
 {
     let mut files = VecDeque::new(alloc);
     'jobs: for job in jobs {
-        let file = match file_of(alloc, job) {
-            Ok(file) => file,
-            Err(fault) => return Err(fault),
-        };
+        let file = file_of(alloc, job)?;
         match files.push_back(file) {
             Ok(()) => {}
             Err(_) => return Err(AdmitFault::Memory),
@@ -128,10 +125,7 @@ fn admitted_all(
         let Some(file) = files.pop_front() else {
             return Err(AdmitFault::Memory);
         };
-        let program = match admitted_one(alloc, job.card, file) {
-            Ok(program) => program,
-            Err(fault) => return Err(fault),
-        };
+        let program = admitted_one(alloc, job.card, file)?;
         match programs.push(program) {
             Ok(()) => {}
             Err(_) => return Err(AdmitFault::Memory),

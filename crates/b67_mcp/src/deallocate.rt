@@ -18,10 +18,7 @@ pub(crate) fn deallocate(machine: &mut Machine) -> Result<(), Fault>
     ensures row { ForCalls machine.old DEALLOCATE (λ x told plan s m t. AnswerMeets x told plan s m t result machine.old machine.new) }
     ensures kept { Keeps machine.old machine.new }
 {
-    let original = match array_to_empty(&machine.cpu) {
-        Ok(original) => original,
-        Err(fault) => return Err(fault),
-    };
+    let original = array_to_empty(&machine.cpu)?;
     let next = next_place(machine);
     empty_array(
         &mut machine.cpu,

@@ -19,10 +19,7 @@ pub(crate) fn declare(machine: &mut Machine) -> Result<(), Fault>
     ensures changed { ChangesStack machine.old machine.new }
     ensures sectors { machine.new.sectors ≡ machine.old.sectors }
 {
-    let length = match array_length(&machine.cpu) {
-        Ok(length) => length,
-        Err(fault) => return Err(fault),
-    };
+    let length = array_length(&machine.cpu)?;
     let next = next_place(machine);
     answer_array(&mut machine.cpu, length, next);
     Ok(())

@@ -42,10 +42,7 @@ pub(crate) fn read(machine: &mut Machine) -> Result<(), Fault>
 {
     let next = next_place(machine);
     let at = running_row(machine).job as usize - 1;
-    let number = match take_number(&machine.cpu, &mut machine.tasks, at) {
-        Ok(number) => number,
-        Err(fault) => return Err(fault),
-    };
+    let number = take_number(&machine.cpu, &mut machine.tasks, at)?;
     answer_call(&mut machine.cpu, number, next);
     Ok(())
 }

@@ -36,10 +36,7 @@ pub fn array_length(cpu: &Cpu) -> Result<u32, Fault>
     requires { CallSome cpu.now }
     ensures row { ForEach cpu.now (λ x plan s m t. (reference : words.Word) (arguments : List words.Word) → IsCall t reference arguments → LengthMeets m t arguments result) }
 {
-    let w = match only_argument(cpu) {
-        Ok(w) => w,
-        Err(fault) => return Err(fault),
-    };
+    let w = only_argument(cpu)?;
     let length = length_in(w);
     if length.is_ok() && is_critical(cpu) {
         return Err(Fault::CriticalBlock);

@@ -16,10 +16,7 @@ pub fn print_value(cpu: &Cpu) -> Result<i64, Fault>
     requires { CallSome cpu.now }
     ensures row { ForEach cpu.now (λ x plan s m t. (reference : words.Word) (arguments : List words.Word) → IsCall t reference arguments → PrintMeets m t arguments result) }
 {
-    let w = match only_argument(cpu) {
-        Ok(w) => w,
-        Err(fault) => return Err(fault),
-    };
+    let w = only_argument(cpu)?;
     let value = whole(w);
     if value.is_ok() && is_critical(cpu) {
         return Err(Fault::CriticalBlock);

@@ -32,14 +32,8 @@ pub fn array_to_empty(cpu: &Cpu) -> Result<u32, Fault>
     requires { CallSome cpu.now }
     ensures row { ForEach cpu.now (λ x plan s m t. (reference : words.Word) (arguments : List words.Word) → IsCall t reference arguments → EmptyMeets plan m t arguments result) }
 {
-    let w = match only_argument(cpu) {
-        Ok(w) => w,
-        Err(fault) => return Err(fault),
-    };
-    let original = match copied(cpu, w) {
-        Ok(original) => original,
-        Err(fault) => return Err(fault),
-    };
+    let w = only_argument(cpu)?;
+    let original = copied(cpu, w)?;
     let desc = array_descriptor(cpu, original);
     if desc.read_only {
         return Err(Fault::MemoryProtect);
@@ -59,18 +53,9 @@ pub fn array_to_resize(cpu: &Cpu) -> Result<Resizing, Fault>
     if count_cells(cpu) != 3 {
         return Err(Fault::InvalidOperand);
     }
-    let (copy, number) = match two_cells(cpu) {
-        Ok(cells) => cells,
-        Err(fault) => return Err(fault),
-    };
-    let original = match copied(cpu, copy) {
-        Ok(original) => original,
-        Err(fault) => return Err(fault),
-    };
-    let after = match length_in(number) {
-        Ok(length) => length,
-        Err(fault) => return Err(fault),
-    };
+    let (copy, number) = two_cells(cpu)?;
+    let original = copied(cpu, copy)?;
+    let after = length_in(number)?;
     let desc = array_descriptor(cpu, original);
     if desc.read_only {
         return Err(Fault::MemoryProtect);

@@ -61,10 +61,7 @@ pub fn row_to_print(cpu: &Cpu) -> Result<RowFound, Fault>
     ensures row { ForEach cpu.now (λ x plan s m t. (reference : words.Word) (arguments : List words.Word) → IsCall t reference arguments → RowMeets x plan m t cpu.now.core arguments result) }
     ensures present { ForEach cpu.now (λ x plan s m t. (reference : words.Word) (arguments : List words.Word) → IsCall t reference arguments → RowTouches x plan m arguments result) }
 {
-    let original = match argument(cpu) {
-        Ok(original) => original,
-        Err(fault) => return Err(fault),
-    };
+    let original = argument(cpu)?;
     let desc = array_descriptor(cpu, original);
     if !desc.present {
         return Ok(RowFound::Absent(original));

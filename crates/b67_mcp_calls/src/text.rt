@@ -66,10 +66,7 @@ fn add<K: Sink>(
         begun.room -= 1;
         return Ok(());
     }
-    match put_rest(paper, &begun.line, begun.start, printed) {
-        Ok(()) => {}
-        Err(failed) => return Err(failed),
-    }
+    put_rest(paper, &begun.line, begun.start, printed)?;
     begun.start += begun.line.len() as u64 + 1;
     begun.line = name_line(job, task);
     add_value(&mut begun.line, value);
@@ -98,10 +95,7 @@ pub fn say_row<K: Sink>(
         start: 0,
     };
     for w in row {
-        match add(&mut begun, job, task, value_in(*w), printed, paper) {
-            Ok(()) => {}
-            Err(failed) => return Err(failed),
-        }
+        add(&mut begun, job, task, value_in(*w), printed, paper)?;
     }
     put_rest(paper, &begun.line, begun.start, printed)
 }

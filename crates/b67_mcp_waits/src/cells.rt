@@ -68,14 +68,8 @@ pub(crate) fn cell_given(cpu: &Cpu) -> Result<CellFound, Fault>
     ensures { ForEach cpu.now (λ x plan s m t. (reference : words.Word) (arguments : List words.Word) → IsCall t reference arguments
         → (q : Place) → FindsOperand plan m t cpu.now.core q result (end_given (here m t q) arguments)) }
 {
-    let w = match only_argument(cpu) {
-        Ok(w) => w,
-        Err(fault) => return Err(fault),
-    };
-    let at = match operand_cell(&cpu.core, &cpu.regs, &cpu.display, w) {
-        Ok(at) => at,
-        Err(fault) => return Err(fault),
-    };
+    let w = only_argument(cpu)?;
+    let at = operand_cell(&cpu.core, &cpu.regs, &cpu.display, w)?;
     let mark = mark_under(&cpu.core, &cpu.regs, at);
     Ok(CellFound {
         at,

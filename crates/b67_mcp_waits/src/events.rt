@@ -24,10 +24,7 @@ pub fn wait_at(machine: &mut Machine, next: Place) -> Result<Option<TaskState>, 
     ensures kept { Keeps machine.old machine.new }
     ensures sectors { machine.new.sectors ≡ machine.old.sectors }
 {
-    let found = match cell_given(&machine.cpu) {
-        Ok(found) => found,
-        Err(fault) => return Err(fault),
-    };
+    let found = cell_given(&machine.cpu)?;
     if machine.cpu.core.get(found.at).bits() == 0 {
         return Ok(Some(TaskState::WaitsAt {
             mark: found.mark,
@@ -49,10 +46,7 @@ pub fn cause(machine: &mut Machine, next: Place) -> Result<(), Fault>
     ensures kept { Keeps machine.old machine.new }
     ensures sectors { machine.new.sectors ≡ machine.old.sectors }
 {
-    let found = match cell_given(&machine.cpu) {
-        Ok(found) => found,
-        Err(fault) => return Err(fault),
-    };
+    let found = cell_given(&machine.cpu)?;
     if is_critical(&machine.cpu) {
         return Err(Fault::CriticalBlock);
     }

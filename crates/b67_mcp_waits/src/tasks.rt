@@ -56,10 +56,7 @@ pub fn await_task(machine: &mut Machine, next: Place) -> Result<Option<TaskState
     ensures kept { Keeps machine.old machine.new }
     ensures sectors { machine.new.sectors ≡ machine.old.sectors }
 {
-    let number = match number_in(&machine.cpu) {
-        Ok(number) => number,
-        Err(fault) => return Err(fault),
-    };
+    let number = number_in(&machine.cpu)?;
     let job = running_job(machine);
     if lives(&machine.tasks, job, number) {
         return Ok(Some(awaiting(number, machine.tasks.next_number(job))));
@@ -80,10 +77,7 @@ pub fn status_of(machine: &mut Machine, next: Place) -> Result<(), Fault>
     ensures kept { Keeps machine.old machine.new }
     ensures sectors { machine.new.sectors ≡ machine.old.sectors }
 {
-    let number = match number_in(&machine.cpu) {
-        Ok(number) => number,
-        Err(fault) => return Err(fault),
-    };
+    let number = number_in(&machine.cpu)?;
     if is_critical(&machine.cpu) {
         return Err(Fault::CriticalBlock);
     }

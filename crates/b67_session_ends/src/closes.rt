@@ -65,15 +65,12 @@ pub fn close<K: Sink>(
 {
     let dead = endings(&machine.tasks, chosen.row, ending);
     let all = with_stuck(&machine.tasks, chosen.job, dead.as_slice());
-    match put_endings(
+    put_endings(
         paper,
         chosen.job,
         all.as_slice(),
         &mut machine.tasks.printed,
-    ) {
-        Ok(()) => {}
-        Err(failed) => return Err(failed),
-    }
+    )?;
     end_family(machine, chosen.row, chosen.job, dead.as_slice());
     end_stuck(machine, chosen.job);
     count_one(&mut machine.tasks, chosen);

@@ -35,10 +35,7 @@ pub fn end_by_limit<K: Sink>(machine: &mut Machine, paper: &mut K) -> Result<(),
     let job = machine.tasks.last_job;
     let live = live_of(&machine.tasks, job);
     let ended = all_ended(live.as_slice(), Ending::Limit);
-    match put_endings(paper, job, ended.as_slice(), &mut machine.tasks.printed) {
-        Ok(()) => {}
-        Err(failed) => return Err(failed),
-    }
+    put_endings(paper, job, ended.as_slice(), &mut machine.tasks.printed)?;
     end_job(machine, job);
     machine.tasks.printed = 0;
     Ok(())

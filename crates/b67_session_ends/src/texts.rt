@@ -28,10 +28,7 @@ pub fn put_endings<K: Sink>(
     for one in ended {
         let task = *one;
         let line = ending_line(job, task.number, task.ending);
-        match put_rest(paper, &line, start, printed) {
-            Ok(()) => {}
-            Err(failed) => return Err(failed),
-        }
+        put_rest(paper, &line, start, printed)?;
         start += line.len() as u64 + 1;
     }
     Ok(())

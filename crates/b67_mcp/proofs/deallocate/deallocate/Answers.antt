@@ -1,4 +1,5 @@
 use Rattle.std.proofs.Common.{List, length, refl, sym, ap, ◌∙◌, subst}
+use Rattle.std.proofs.lemmas.Result.{err_from_is_err_and}
 use Rattle.b67_word.specs.Tagged.{Tagged}
 use Rattle.b67_word.specs.declared.couples.Place.{Place}
 use Rattle.b67_model.specs.declared.operators.Op.TheVariants.{Plain}
@@ -22,9 +23,11 @@ use Rattle.b67_mcp.proofs.deallocate.deallocate.Goals as goal
 pub array_to_empty-requires : goal.array_to_empty-requires
 array_to_empty-requires c = call_some c.args.machine.now 17 c.requires
 
-pub returns-in-Err-clause-row : goal.returns-in-Err-clause-row
-returns-in-Err-clause-row c = λ x told plan s m t o h runs code called.
-    (let k = calling m t 17 called in (k.is ∙ c.in-Err.ensures.row x plan s m t o h.session runs k.reference k.arguments k.call k.next, refl))
+pub returns-in_err-original-clause-row : goal.returns-in_err-original-clause-row
+returns-in_err-original-clause-row c =
+    let failed = err_from_is_err_and c.from_residual.result c.from_residual.ensures.1 in
+    rw (failed.1, failed.2) (λ x told plan s m t o h runs code called.
+    (let k = calling m t 17 called in (k.is ∙ c.in_err-original.ensures.row x plan s m t o h.session runs k.reference k.arguments k.call k.next, refl)))
 
 pub next_place-next-requires : goal.next_place-next-requires
 next_place-next-requires c = reads_of c.args.machine.now 17 c.requires
@@ -33,13 +36,13 @@ pub empty_array-requires : goal.empty_array-requires
 empty_array-requires c =
     let q = c.requires.runs in
     let k = calling q.member q.task 17 c.requires.called in
-    let r = c.in-Ok.ensures.row q.storage q.plan q.session q.member q.task q.ordered q.stands.session q.running k.reference k.arguments k.call in (
+    let r = c.in_ok-original.ensures.row q.storage q.plan q.session q.member q.task q.ordered q.stands.session q.running k.reference k.arguments k.call in (
       q.storage,
       q.told,
       machine_view q.plan q.session.jobs,
       array_object q.plan q.member.constants.number r.which.array,
       seen q.storage q.told c.args.machine.now q.plan q.session q.ordered q.stands,
-      is_array q.storage q.told c.args.machine.now q.plan q.session q.member q.task q.ordered q.stands q.running r.which.array r.which.among c.in-Ok.original r.which.home r.which.writable,
+      is_array q.storage q.told c.args.machine.now q.plan q.session q.member q.task q.ordered q.stands q.running r.which.array r.which.among c.in_ok-original.original r.which.home r.which.writable,
     )
 
 pub cut_call-requires-clause-call : goal.cut_call-requires-clause-call
@@ -47,13 +50,13 @@ cut_call-requires-clause-call c =
     let q = c.requires.runs in
     let old = c.args.machine.now in
     let k = calling q.member q.task 17 c.requires.called in
-    let r = c.in-Ok.ensures.row q.storage q.plan q.session q.member q.task q.ordered q.stands.session q.running k.reference k.arguments k.call in
+    let r = c.in_ok-original.ensures.row q.storage q.plan q.session q.member q.task q.ordered q.stands.session q.running k.reference k.arguments k.call in
     let a = r.which.array in
     let object = array_object q.plan q.member.constants.number a in
     let p = machine_view q.plan q.session.jobs in
     let e = c.empty_array.ensures in
     let view = seen q.storage q.told old q.plan q.session q.ordered q.stands in
-    let array = is_array q.storage q.told old q.plan q.session q.member q.task q.ordered q.stands q.running a r.which.among c.in-Ok.original r.which.home r.which.writable in
+    let array = is_array q.storage q.told old q.plan q.session q.member q.task q.ordered q.stands q.running a r.which.among c.in_ok-original.original r.which.home r.which.writable in
     let mid : Machine = record old { cpu = c.empty_array.new.cpu; areas = c.empty_array.new.areas; sectors = c.empty_array.new.sectors } in
     let stands = stands_emptied q.storage q.told old q.plan q.session q.member q.task q.ordered q.stands q.running a r.which.among c.empty_array.new.cpu c.empty_array.new.areas c.empty_array.new.sectors e.keeps
     (e.outside q.storage q.told p object view array)
@@ -64,13 +67,13 @@ pub returns-clause-row : goal.returns-clause-row
 returns-clause-row c = λ x told plan s m t o h runs code called.
     (let old = c.args.machine.now in
     let k = calling m t 17 called in
-    let r = c.in-Ok.ensures.row x plan s m t o h.session runs k.reference k.arguments k.call in
+    let r = c.in_ok-original.ensures.row x plan s m t o h.session runs k.reference k.arguments k.call in
     let a = r.which.array in
     let object = array_object plan m.constants.number a in
     let p = machine_view plan s.jobs in
     let e = c.empty_array.ensures in
     let view = seen x told old plan s o h in
-    let array = is_array x told old plan s m t o h runs a r.which.among c.in-Ok.original r.which.home r.which.writable in
+    let array = is_array x told old plan s m t o h runs a r.which.among c.in_ok-original.original r.which.home r.which.writable in
     let mid : Machine = record old { cpu = c.empty_array.new.cpu; areas = c.empty_array.new.areas; sectors = c.empty_array.new.sectors } in
     let stands = stands_emptied x told old plan s m t o h runs a r.which.among c.empty_array.new.cpu c.empty_array.new.areas c.empty_array.new.sectors e.keeps
     (e.outside x told p object view array)

@@ -1,4 +1,5 @@
 use Rattle.std.proofs.Common.{◌≡◌, ℕ, refl, sym, ◌∙◌, subst}
+use Rattle.std.proofs.lemmas.Result.{err_from_is_err_and}
 use Rattle.b67_word.specs.declared.couples.Place.{Place}
 use Rattle.b67_layout.specs.Meets.{with_job}
 use Rattle.b67_model.specs.declared.operators.Op.TheVariants.{Plain}
@@ -24,9 +25,11 @@ home_here plan j n at = rw (eq-eqb j j refl, eq-eqb n n refl) refl
 pub array_length-requires : goal.array_length-requires
 array_length-requires c = call_some c.args.machine.now 8 c.requires
 
-pub returns-in-Err-clause-row : goal.returns-in-Err-clause-row
-returns-in-Err-clause-row c = λ x told plan s m t o h runs code called.
-    (let k = calling m t 8 called in (k.is ∙ c.in-Err.ensures.row x plan s m t o h.session runs k.reference k.arguments k.call k.next, refl))
+pub returns-in_err-length-clause-row : goal.returns-in_err-length-clause-row
+returns-in_err-length-clause-row c =
+    let failed = err_from_is_err_and c.from_residual.result c.from_residual.ensures.1 in
+    rw (failed.1, failed.2) (λ x told plan s m t o h runs code called.
+    (let k = calling m t 8 called in (k.is ∙ c.in_err-length.ensures.row x plan s m t o h.session runs k.reference k.arguments k.call k.next, refl)))
 
 pub next_place-next-requires : goal.next_place-next-requires
 next_place-next-requires c = reads_of c.args.machine.now 8 c.requires
@@ -35,20 +38,20 @@ pub answer_array-requires-clause-call : goal.answer_array-requires-clause-call
 answer_array-requires-clause-call c =
     let q = c.requires.runs in
     let k = calling q.member q.task 8 c.requires.called in
-    let r = c.in-Ok.ensures.row q.storage q.plan q.session q.member q.task q.ordered q.stands.session q.running k.reference k.arguments k.call in
+    let r = c.in_ok-length.ensures.row q.storage q.plan q.session q.member q.task q.ordered q.stands.session q.running k.reference k.arguments k.call in
     record { runs = (call_some c.args.machine.now 8 c.requires).runs; may = r.2 }
 
 pub answer_array-requires-clause-some : goal.answer_array-requires-clause-some
 answer_array-requires-clause-some c =
     let q = c.requires.runs in
     let k = calling q.member q.task 8 c.requires.called in
-    (c.in-Ok.ensures.row q.storage q.plan q.session q.member q.task q.ordered q.stands.session q.running k.reference k.arguments k.call).0
+    (c.in_ok-length.ensures.row q.storage q.plan q.session q.member q.task q.ordered q.stands.session q.running k.reference k.arguments k.call).0
 
 pub answer_array-requires-clause-small : goal.answer_array-requires-clause-small
 answer_array-requires-clause-small c =
     let q = c.requires.runs in
     let k = calling q.member q.task 8 c.requires.called in
-    (c.in-Ok.ensures.row q.storage q.plan q.session q.member q.task q.ordered q.stands.session q.running k.reference k.arguments k.call).1
+    (c.in_ok-length.ensures.row q.storage q.plan q.session q.member q.task q.ordered q.stands.session q.running k.reference k.arguments k.call).1
 
 pub returns-clause-row : goal.returns-clause-row
 returns-clause-row c = λ x told plan s m t o h runs code called.
@@ -56,8 +59,8 @@ returns-clause-row c = λ x told plan s m t o h runs code called.
     let old = c.args.machine.now in
     let cpu = c.answer_array.new.cpu in
     let new : Machine = record old { cpu = cpu } in
-    let n = c.in-Ok.length in
-    let r = c.in-Ok.ensures.row x plan s m t o h.session runs k.reference k.arguments k.call in
+    let n = c.in_ok-length.length in
+    let r = c.in_ok-length.ensures.row x plan s m t o h.session runs k.reference k.arguments k.call in
     let q = c.next_place-next.result in
     let there = with_home plan m.constants.number m.progress.job.next_array cpu.regs.s in
     let same = one_behind m t q k.next (c.next_place-next.ensures.behind x told plan s m t o h runs code) (Plain Entr, k.reading) in
@@ -85,13 +88,13 @@ returns-clause-kept c =
     let old = c.args.machine.now in
     let cpu = c.answer_array.new.cpu in
     let k = calling q.member q.task 8 c.requires.called in
-    let r = c.in-Ok.ensures.row q.storage q.plan q.session q.member q.task q.ordered q.stands.session q.running k.reference k.arguments k.call in
+    let r = c.in_ok-length.ensures.row q.storage q.plan q.session q.member q.task q.ordered q.stands.session q.running k.reference k.arguments k.call in
     let session = c.answer_array.ensures.stands q.storage q.plan q.session q.member q.task q.ordered q.stands.session q.running r.2 in
-    record { core = same_size q.storage (storage_without q.storage cpu.regs.s) old.cpu cpu q.plan (with_home q.plan q.member.constants.number q.member.progress.job.next_array cpu.regs.s) q.session (with_job q.session q.member (job_declared q.member q.task c.in-Ok.length c.next_place-next.result)) q.stands.session session refl refl; sectors = refl; given = refl }
+    record { core = same_size q.storage (storage_without q.storage cpu.regs.s) old.cpu cpu q.plan (with_home q.plan q.member.constants.number q.member.progress.job.next_array cpu.regs.s) q.session (with_job q.session q.member (job_declared q.member q.task c.in_ok-length.length c.next_place-next.result)) q.stands.session session refl refl; sectors = refl; given = refl }
 
 pub returns-clause-changed : goal.returns-clause-changed
 returns-clause-changed c =
     let q = c.requires.runs in
     let k = calling q.member q.task 8 c.requires.called in
-    let r = c.in-Ok.ensures.row q.storage q.plan q.session q.member q.task q.ordered q.stands.session q.running k.reference k.arguments k.call in
+    let r = c.in_ok-length.ensures.row q.storage q.plan q.session q.member q.task q.ordered q.stands.session q.running k.reference k.arguments k.call in
     c.answer_array.ensures.changed q.storage q.plan q.session q.member q.task q.ordered q.stands.session q.running r.2

@@ -1,4 +1,5 @@
 use Rattle.std.proofs.Common.{ℕ, ◌-◌, Ok, refl, sym, ◌∙◌, ap, arith, subst, slice_set}
+use Rattle.std.proofs.lemmas.Result.{err_from_is_err_and}
 use Rattle.std.specs.List.{slice_get}
 use Rattle.b67_word.specs.declared.couples.Place.{Place}
 use Rattle.b67_model.specs.declared.operators.Op.TheVariants.{Plain}
@@ -43,24 +44,26 @@ take_number-requires c =
       c.requires.countable j.row (has_get tasks.jobs (q.member.constants.number - 1) j.row j.at),
     )
 
-pub returns-in-Err-clause-row : goal.returns-in-Err-clause-row
-returns-in-Err-clause-row c = λ x told plan s m t o h runs code called.
+pub returns-in_err-number-clause-row : goal.returns-in_err-number-clause-row
+returns-in_err-number-clause-row c =
+    let failed = err_from_is_err_and c.from_residual.result c.from_residual.ensures.1 in
+    rw (failed.1, failed.2) (λ x told plan s m t o h runs code called.
     (let k = calling m t 11 called in
     let old = c.args.machine.now in
     let j = job_in old.tasks plan s m t o h.tables runs in
     let at = ap (λ (n : ℕ). slice_get old.tasks.jobs (n - 1)) (c.running_row.ensures.job x told plan s m t o h runs code) ∙ j.at in
-    let did = c.in-Err.ensures.takes j.row at in
+    let did = c.in_err-number.ensures.takes j.row at in
     let meets = did.takes x plan s m t o h.session runs k.reference k.arguments k.call j.shows in
-    (k.is ∙ meets.0 k.next, ap (λ (z : Tasks). record old { tasks = z }) (tasks_same old.tasks c.take_number.new.tasks (c.running_row.result.job - 1) j.row did.new at did.is meets.1 c.take_number.ensures.rest)))
+    (k.is ∙ meets.0 k.next, ap (λ (z : Tasks). record old { tasks = z }) (tasks_same old.tasks c.take_number.new.tasks (c.running_row.result.job - 1) j.row did.new at did.is meets.1 c.take_number.ensures.rest))))
 
-pub returns-in-Err-clause-kept : goal.returns-in-Err-clause-kept
-returns-in-Err-clause-kept c =
+pub returns-in_err-number-clause-kept : goal.returns-in_err-number-clause-kept
+returns-in_err-number-clause-kept c =
     let q = c.requires.calls.runs in
     let k = calling q.member q.task 11 c.requires.calls.called in
     let old = c.args.machine.now in
     let j = job_in old.tasks q.plan q.session q.member q.task q.ordered q.stands.tables q.running in
     let at = ap (λ (n : ℕ). slice_get old.tasks.jobs (n - 1)) (c.running_row.ensures.job q.storage q.told q.plan q.session q.member q.task q.ordered q.stands q.running c.requires.calls.code) ∙ j.at in
-    let did = c.in-Err.ensures.takes j.row at in
+    let did = c.in_err-number.ensures.takes j.row at in
     let meets = did.takes q.storage q.plan q.session q.member q.task q.ordered q.stands.session q.running k.reference k.arguments k.call j.shows in
     kept_is old (record old { tasks = c.take_number.new.tasks }) (ap (λ (z : Tasks). record old { tasks = z }) (tasks_same old.tasks c.take_number.new.tasks (c.running_row.result.job - 1) j.row did.new at did.is meets.1 c.take_number.ensures.rest))
 
@@ -71,7 +74,7 @@ answer_call-requires-clause-call c =
     let old = c.args.machine.now in
     let j = job_in old.tasks q.plan q.session q.member q.task q.ordered q.stands.tables q.running in
     let at = ap (λ (n : ℕ). slice_get old.tasks.jobs (n - 1)) (c.running_row.ensures.job q.storage q.told q.plan q.session q.member q.task q.ordered q.stands q.running c.requires.calls.code) ∙ j.at in
-    let did = c.in-Ok.ensures.takes j.row at in
+    let did = c.in_ok-number.ensures.takes j.row at in
     record { runs = (call_some old 11 c.requires.calls).runs; may = (did.takes q.storage q.plan q.session q.member q.task q.ordered q.stands.session q.running k.reference k.arguments k.call j.shows).may }
 
 pub returns-clause-row : goal.returns-clause-row
@@ -84,7 +87,7 @@ returns-clause-row c = λ x told plan s m t o h runs code called.
     let j = job_in old.tasks plan s m t o h.tables runs in
     let ej = c.running_row.ensures.job x told plan s m t o h runs code in
     let at = ap (λ (n : ℕ). slice_get old.tasks.jobs (n - 1)) ej ∙ j.at in
-    let did = c.in-Ok.ensures.takes j.row at in
+    let did = c.in_ok-number.ensures.takes j.row at in
     let meets = did.takes x plan s m t o h.session runs k.reference k.arguments k.call j.shows in
     let taken = read_from m.progress.job.numbers in
     let q = c.next_place-next.result in
@@ -101,7 +104,7 @@ returns-clause-row c = λ x told plan s m t o h runs code called.
         stands = subst P same (record {
           session = session;
           storage = record { low = h.storage.low; size = h.storage.size ∙ sym size; shelf = h.storage.shelf; device = h.storage.device };
-          tables = tables_read plan s m t o runs q k.arguments old.tasks tasks h.tables j.row did.new c.in-Ok.number j.at is c.take_number.ensures.rest meets;
+          tables = tables_read plan s m t o runs q k.arguments old.tasks tasks h.tables j.row did.new c.in_ok-number.number j.at is c.take_number.ensures.rest meets;
         });
         printed = ap (λ (z : Tasks). z.printed) c.take_number.ensures.rest;
       },
@@ -116,7 +119,7 @@ returns-clause-kept c =
     let cpu = c.answer_call.new.cpu in
     let j = job_in old.tasks q.plan q.session q.member q.task q.ordered q.stands.tables q.running in
     let at = ap (λ (n : ℕ). slice_get old.tasks.jobs (n - 1)) (c.running_row.ensures.job q.storage q.told q.plan q.session q.member q.task q.ordered q.stands q.running c.requires.calls.code) ∙ j.at in
-    let did = c.in-Ok.ensures.takes j.row at in
+    let did = c.in_ok-number.ensures.takes j.row at in
     let meets = did.takes q.storage q.plan q.session q.member q.task q.ordered q.stands.session q.running k.reference k.arguments k.call j.shows in
     let taken = read_from q.member.progress.job.numbers in
     let session = c.answer_call.ensures.stands q.storage q.plan q.session q.member q.task q.ordered q.stands.session q.running taken.0 taken.1 meets.may meets.is in
@@ -124,7 +127,7 @@ returns-clause-kept c =
       core = same_size q.storage q.storage old.cpu cpu q.plan q.plan q.session (with_job q.session q.member (job_read q.member q.task c.next_place-next.result)) q.stands.session session refl refl;
       sectors = refl;
       given = given_put old.tasks c.take_number.new.tasks (ap given_of c.take_number.ensures.rest)
-          (rows_put old.tasks.jobs c.take_number.new.tasks.jobs (c.running_row.result.job - 1) j.row did.new at did.is (same_given q.plan q.member q.task k.arguments j.row did.new (Ok c.in-Ok.number) meets));
+          (rows_put old.tasks.jobs c.take_number.new.tasks.jobs (c.running_row.result.job - 1) j.row did.new at did.is (same_given q.plan q.member q.task k.arguments j.row did.new (Ok c.in_ok-number.number) meets));
     }
 
 pub returns-clause-changed : goal.returns-clause-changed
@@ -134,6 +137,6 @@ returns-clause-changed c =
     let old = c.args.machine.now in
     let j = job_in old.tasks q.plan q.session q.member q.task q.ordered q.stands.tables q.running in
     let at = ap (λ (n : ℕ). slice_get old.tasks.jobs (n - 1)) (c.running_row.ensures.job q.storage q.told q.plan q.session q.member q.task q.ordered q.stands q.running c.requires.calls.code) ∙ j.at in
-    let did = c.in-Ok.ensures.takes j.row at in
+    let did = c.in_ok-number.ensures.takes j.row at in
     let meets = did.takes q.storage q.plan q.session q.member q.task q.ordered q.stands.session q.running k.reference k.arguments k.call j.shows in
     c.answer_call.ensures.changed q.storage q.plan q.session q.member q.task q.ordered q.stands.session q.running meets.may

@@ -1,4 +1,5 @@
 use Rattle.std.proofs.Common.{ℕ, List, map, length, refl, sym, ◌∙◌, ap, subst, slice_set}
+use Rattle.std.proofs.lemmas.Result.{err_from_is_err_and}
 use Rattle.std.proofs.lemmas.Option.{slice_get_within}
 use Rattle.b67_word.specs.Tagged.{Tagged, word}
 use Rattle.b67_model.specs.Common.{Answer, ◌>>=◌, End, AtCell, causes}
@@ -18,13 +19,15 @@ use Rattle.b67_mcp_waits.proofs.events.cause.Goals as goal
 pub cell_given-requires : goal.cell_given-requires
 cell_given-requires c = call_some c.args.machine.now c.requires.call
 
-pub returns-in-Err-clause-row : goal.returns-in-Err-clause-row
-returns-in-Err-clause-row c = λ x told plan s m t o h runs r arguments call.
+pub returns-in_err-found-clause-row : goal.returns-in_err-found-clause-row
+returns-in_err-found-clause-row c =
+    let failed = err_from_is_err_and c.from_residual.result c.from_residual.ensures.1 in
+    rw (failed.1, failed.2) (λ x told plan s m t o h runs r arguments call.
     (let q = c.args.next in
-    (cause_is (here m t q) arguments ∙ cause_fault x c.args.machine.now.cpu plan s m t o h.session runs q c.in-Err.fault (end_given (here m t q) arguments) (c.in-Err.ensures x plan s m t o h.session runs r arguments call q), refl))
+    (cause_is (here m t q) arguments ∙ cause_fault x c.args.machine.now.cpu plan s m t o h.session runs q c.in_err-found.field-0.0 (end_given (here m t q) arguments) (c.in_err-found.ensures x plan s m t o h.session runs r arguments call q), refl)))
 
-pub returns-in-Err-clause-kept : goal.returns-in-Err-clause-kept
-returns-in-Err-clause-kept c = keeps_same c.args.machine.now
+pub returns-in_err-found-clause-kept : goal.returns-in_err-found-clause-kept
+returns-in_err-found-clause-kept c = keeps_same c.args.machine.now
 
 pub is_critical-requires : goal.is_critical-requires
 is_critical-requires c = runs_some c.args.machine.now c.requires.call.runs
@@ -33,7 +36,7 @@ pub returns-then-is_critical-clause-row : goal.returns-then-is_critical-clause-r
 returns-then-is_critical-clause-row c = λ x told plan s m t o h runs r arguments call.
     (let q = c.args.next in
     let cpu = c.args.machine.now.cpu in
-    let e = found_here x cpu plan s m t o h.session runs q c.in-Ok.found (end_given (here m t q) arguments) (c.in-Ok.ensures x plan s m t o h.session runs r arguments call q) in (
+    let e = found_here x cpu plan s m t o h.session runs q c.in_ok-found.found (end_given (here m t q) arguments) (c.in_ok-found.ensures x plan s m t o h.session runs r arguments call q) in (
       cause_is (here m t q) arguments ∙ ap (λ (y : Answer End). y >>= causes (here m t q)) e.is
           ∙ row_critical m t q e.f e.offset e.bits (sym (c.is_critical.ensures x plan s m t o h.session runs) ∙ c.if-is_critical.true),
       refl,
@@ -51,9 +54,9 @@ set-requires c =
     let g = k.runs in
     let q = c.args.next in
     let cpu = c.args.machine.now.cpu in
-    let found = c.in-Ok.ensures g.storage g.plan g.session g.member g.task g.ordered g.stands.session g.running k.reference k.arguments k.call q in
-    let e = found_here g.storage cpu g.plan g.session g.member g.task g.ordered g.stands.session g.running q c.in-Ok.found (end_given (here g.member g.task q) k.arguments) found in
-    slice_get_within cpu.core c.in-Ok.found.at (word 0 e.bits) e.cell.there
+    let found = c.in_ok-found.ensures g.storage g.plan g.session g.member g.task g.ordered g.stands.session g.running k.reference k.arguments k.call q in
+    let e = found_here g.storage cpu g.plan g.session g.member g.task g.ordered g.stands.session g.running q c.in_ok-found.found (end_given (here g.member g.task q) k.arguments) found in
+    slice_get_within cpu.core c.in_ok-found.found.at (word 0 e.bits) e.cell.there
 
 pub cut_call-requires-clause-call : goal.cut_call-requires-clause-call
 cut_call-requires-clause-call c =
@@ -61,36 +64,36 @@ cut_call-requires-clause-call c =
     let g = k.runs in
     let q = c.args.next in
     let old = c.args.machine.now in
-    let found = c.in-Ok.ensures g.storage g.plan g.session g.member g.task g.ordered g.stands.session g.running k.reference k.arguments k.call q in
-    let e = found_here g.storage old.cpu g.plan g.session g.member g.task g.ordered g.stands.session g.running q c.in-Ok.found (end_given (here g.member g.task q) k.arguments) found in
+    let found = c.in_ok-found.ensures g.storage g.plan g.session g.member g.task g.ordered g.stands.session g.running k.reference k.arguments k.call q in
+    let e = found_here g.storage old.cpu g.plan g.session g.member g.task g.ordered g.stands.session g.running q c.in_ok-found.found (end_given (here g.member g.task q) k.arguments) found in
     let may = may_end g.member g.task k.reference k.arguments k.call (here g.member g.task q) (AtCell e.f e.offset e.bits) e.is
     (sym (c.is_critical.ensures g.storage g.plan g.session g.member g.task g.ordered g.stands.session g.running) ∙ c.if-is_critical.false) in
     let tasks : Tasks = record old.tasks { rows = c.wake_rows.new.rows } in
     let items = c.wake_rows.ensures
-    ∙ ap (λ (n : ℕ). map (woken_row n c.in-Ok.found.mark c.in-Ok.found.offset) old.tasks.rows.items) (c.running_job-job.ensures g.storage g.told g.plan g.session g.member g.task g.ordered g.stands g.running) in
-    let caused = stands_caused g.storage g.told old g.plan g.session g.member g.task g.ordered g.stands g.running q c.in-Ok.found e.f e.offset e.bits e.cell tasks refl items in
-    let core = c.set.ensures.value ∙ ap (slice_set old.cpu.core c.in-Ok.found.at) c.of.ensures in
+    ∙ ap (λ (n : ℕ). map (woken_row n c.in_ok-found.found.mark c.in_ok-found.found.offset) old.tasks.rows.items) (c.running_job-job.ensures g.storage g.told g.plan g.session g.member g.task g.ordered g.stands g.running) in
+    let caused = stands_caused g.storage g.told old g.plan g.session g.member g.task g.ordered g.stands g.running q c.in_ok-found.found e.f e.offset e.bits e.cell tasks refl items in
+    let core = c.set.ensures.value ∙ ap (slice_set old.cpu.core c.in_ok-found.found.at) c.of.ensures in
     let P : List Tagged → Type 0 = λ z. CutSome (record old.cpu { core = z }) in
     subst P (sym core) (record {
       runs = record {
         storage = g.storage;
         plan = g.plan;
-        session = s2 g.storage g.told old g.plan g.session g.member g.task g.ordered g.stands g.running q c.in-Ok.found e.f e.offset e.bits e.cell;
-        member = m2 g.storage g.told old g.plan g.session g.member g.task g.ordered g.stands g.running q c.in-Ok.found e.f e.offset e.bits e.cell;
-        task = t2 g.storage g.told old g.plan g.session g.member g.task g.ordered g.stands g.running q c.in-Ok.found e.f e.offset e.bits e.cell;
-        ordered = order2 g.storage g.told old g.plan g.session g.member g.task g.ordered g.stands g.running q c.in-Ok.found e.f e.offset e.bits e.cell;
+        session = s2 g.storage g.told old g.plan g.session g.member g.task g.ordered g.stands g.running q c.in_ok-found.found e.f e.offset e.bits e.cell;
+        member = m2 g.storage g.told old g.plan g.session g.member g.task g.ordered g.stands g.running q c.in_ok-found.found e.f e.offset e.bits e.cell;
+        task = t2 g.storage g.told old g.plan g.session g.member g.task g.ordered g.stands g.running q c.in_ok-found.found e.f e.offset e.bits e.cell;
+        ordered = order2 g.storage g.told old g.plan g.session g.member g.task g.ordered g.stands g.running q c.in_ok-found.found e.f e.offset e.bits e.cell;
         stands = caused.session;
-        running = runs2 g.storage g.told old g.plan g.session g.member g.task g.ordered g.stands g.running q c.in-Ok.found e.f e.offset e.bits e.cell;
+        running = runs2 g.storage g.told old g.plan g.session g.member g.task g.ordered g.stands g.running q c.in_ok-found.found e.f e.offset e.bits e.cell;
       };
-      may = may2 g.storage g.told old g.plan g.session g.member g.task g.ordered g.stands g.running q c.in-Ok.found e.f e.offset e.bits e.cell may;
+      may = may2 g.storage g.told old g.plan g.session g.member g.task g.ordered g.stands g.running q c.in_ok-found.found e.f e.offset e.bits e.cell may;
     })
 
 pub returns-clause-row : goal.returns-clause-row
 returns-clause-row c = λ x told plan s m t o h runs r arguments call.
     (let q = c.args.next in
     let old = c.args.machine.now in
-    let f = c.in-Ok.found in
-    let e = found_here x old.cpu plan s m t o h.session runs q c.in-Ok.found (end_given (here m t q) arguments) (c.in-Ok.ensures x plan s m t o h.session runs r arguments call q) in
+    let f = c.in_ok-found.found in
+    let e = found_here x old.cpu plan s m t o h.session runs q c.in_ok-found.found (end_given (here m t q) arguments) (c.in_ok-found.ensures x plan s m t o h.session runs r arguments call q) in
     let may = may_end m t r arguments call (here m t q) (AtCell e.f e.offset e.bits) e.is (sym (c.is_critical.ensures x plan s m t o h.session runs) ∙ c.if-is_critical.false) in
     let tasks : Tasks = record old.tasks { rows = c.wake_rows.new.rows } in
     let items = c.wake_rows.ensures

@@ -1,4 +1,5 @@
 use Rattle.std.proofs.Common.{◌≡◌, ◌≢◌, ℕ, [], List, length, refl, sym, ◌∙◌, ap}
+use Rattle.std.proofs.lemmas.Result.{err_from_is_err_and}
 use Rattle.std.proofs.lemmas.Option.{same_Some, slice_get_within}
 use Rattle.b67_lemmas.proofs.Members.{length_change}
 use Rattle.b67_word.specs.Tagged.{Tagged, word}
@@ -18,13 +19,15 @@ use Rattle.b67_mcp_waits.proofs.events.wait_at.Goals as goal
 pub cell_given-requires : goal.cell_given-requires
 cell_given-requires c = call_some c.args.machine.now c.requires.call
 
-pub returns-in-Err-clause-row : goal.returns-in-Err-clause-row
-returns-in-Err-clause-row c = λ x told plan s m t o h runs r arguments call.
+pub returns-in_err-found-clause-row : goal.returns-in_err-found-clause-row
+returns-in_err-found-clause-row c =
+    let failed = err_from_is_err_and c.from_residual.result c.from_residual.ensures.1 in
+    rw (failed.1, failed.2) (λ x told plan s m t o h runs r arguments call.
     (let q = c.args.next in
-    (wait_is (here m t q) arguments ∙ wait_fault x c.args.machine.now.cpu plan s m t o h.session runs q c.in-Err.fault (end_given (here m t q) arguments) (c.in-Err.ensures x plan s m t o h.session runs r arguments call q), refl))
+    (wait_is (here m t q) arguments ∙ wait_fault x c.args.machine.now.cpu plan s m t o h.session runs q c.in_err-found.field-0.0 (end_given (here m t q) arguments) (c.in_err-found.ensures x plan s m t o h.session runs r arguments call q), refl)))
 
-pub returns-in-Err-clause-kept : goal.returns-in-Err-clause-kept
-returns-in-Err-clause-kept c = keeps_same c.args.machine.now
+pub returns-in_err-found-clause-kept : goal.returns-in_err-found-clause-kept
+returns-in_err-found-clause-kept c = keeps_same c.args.machine.now
 
 pub get-requires : goal.get-requires
 get-requires c =
@@ -32,21 +35,21 @@ get-requires c =
     let g = k.runs in
     let q = c.args.next in
     let cpu = c.args.machine.now.cpu in
-    let found = c.in-Ok.ensures g.storage g.plan g.session g.member g.task g.ordered g.stands.session g.running k.reference k.arguments k.call q in
-    let e = found_here g.storage cpu g.plan g.session g.member g.task g.ordered g.stands.session g.running q c.in-Ok.found (end_given (here g.member g.task q) k.arguments) found in
-    slice_get_within cpu.core c.in-Ok.found.at (word 0 e.bits) e.cell.there
+    let found = c.in_ok-found.ensures g.storage g.plan g.session g.member g.task g.ordered g.stands.session g.running k.reference k.arguments k.call q in
+    let e = found_here g.storage cpu g.plan g.session g.member g.task g.ordered g.stands.session g.running q c.in_ok-found.found (end_given (here g.member g.task q) k.arguments) found in
+    slice_get_within cpu.core c.in_ok-found.found.at (word 0 e.bits) e.cell.there
 
 pub returns-then-bits-eq0-clause-row : goal.returns-then-bits-eq0-clause-row
 returns-then-bits-eq0-clause-row c = λ x told plan s m t o h runs r arguments call.
     (let q = c.args.next in
     let cpu = c.args.machine.now.cpu in
-    let e = found_here x cpu plan s m t o h.session runs q c.in-Ok.found (end_given (here m t q) arguments) (c.in-Ok.ensures x plan s m t o h.session runs r arguments call q) in
+    let e = found_here x cpu plan s m t o h.session runs q c.in_ok-found.found (end_given (here m t q) arguments) (c.in_ok-found.ensures x plan s m t o h.session runs r arguments call q) in
     let same = same_Some c.get.result (word 0 e.bits) (sym c.get.ensures ∙ e.cell.there) in
     let zero : e.bits ≡ 0 = ap (λ (w : Tagged). w.bits) (sym same) ∙ sym c.bits.ensures.value ∙ c.if-bits-eq0.true in (
       record {
         condition = State.WaitsAt e.f e.offset;
         is = wait_is (here m t q) arguments ∙ ap (λ (y : Answer End). y >>= waits_at (here m t q)) e.is ∙ wait_zero x cpu plan s m t o h.session runs q e.f e.offset e.bits zero;
-        shows = ap (λ (i : ℕ). WaitsAtCell i c.in-Ok.found.offset) e.cell.mark ∙ ap (λ (i : ℕ). WaitsAtCell (frame_address plan m t e.f) i) e.cell.offset_is;
+        shows = ap (λ (i : ℕ). WaitsAtCell i c.in_ok-found.found.offset) e.cell.mark ∙ ap (λ (i : ℕ). WaitsAtCell (frame_address plan m t e.f) i) e.cell.offset_is;
       },
       refl,
     ))
@@ -61,7 +64,7 @@ pub returns-then-is_critical-clause-row : goal.returns-then-is_critical-clause-r
 returns-then-is_critical-clause-row c = λ x told plan s m t o h runs r arguments call.
     (let q = c.args.next in
     let cpu = c.args.machine.now.cpu in
-    let e = found_here x cpu plan s m t o h.session runs q c.in-Ok.found (end_given (here m t q) arguments) (c.in-Ok.ensures x plan s m t o h.session runs r arguments call q) in
+    let e = found_here x cpu plan s m t o h.session runs q c.in_ok-found.found (end_given (here m t q) arguments) (c.in_ok-found.ensures x plan s m t o h.session runs r arguments call q) in
     let same = same_Some c.get.result (word 0 e.bits) (sym c.get.ensures ∙ e.cell.there) in
     let some : e.bits ≢ 0 = λ z. c.if-bits-eq0.false (c.bits.ensures.value ∙ ap (λ (w : Tagged). w.bits) same ∙ z) in (
       wait_is (here m t q) arguments ∙ ap (λ (y : Answer End). y >>= waits_at (here m t q)) e.is ∙ wait_other x cpu plan s m t o h.session runs q e.f e.offset e.bits some
@@ -78,8 +81,8 @@ cut_call-requires-clause-call c =
     let g = k.runs in
     let q = c.args.next in
     let cpu = c.args.machine.now.cpu in
-    let found = c.in-Ok.ensures g.storage g.plan g.session g.member g.task g.ordered g.stands.session g.running k.reference k.arguments k.call q in
-    let e = found_here g.storage cpu g.plan g.session g.member g.task g.ordered g.stands.session g.running q c.in-Ok.found (end_given (here g.member g.task q) k.arguments) found in
+    let found = c.in_ok-found.ensures g.storage g.plan g.session g.member g.task g.ordered g.stands.session g.running k.reference k.arguments k.call q in
+    let e = found_here g.storage cpu g.plan g.session g.member g.task g.ordered g.stands.session g.running q c.in_ok-found.found (end_given (here g.member g.task q) k.arguments) found in
     record {
       runs = runs_some c.args.machine.now g;
       may = may_end g.member g.task k.reference k.arguments k.call (here g.member g.task q) (AtCell e.f e.offset e.bits) e.is
@@ -90,7 +93,7 @@ pub returns-clause-row : goal.returns-clause-row
 returns-clause-row c = λ x told plan s m t o h runs r arguments call.
     (let q = c.args.next in
     let k = c.args.machine.now in
-    let e = found_here x k.cpu plan s m t o h.session runs q c.in-Ok.found (end_given (here m t q) arguments) (c.in-Ok.ensures x plan s m t o h.session runs r arguments call q) in
+    let e = found_here x k.cpu plan s m t o h.session runs q c.in_ok-found.found (end_given (here m t q) arguments) (c.in_ok-found.ensures x plan s m t o h.session runs r arguments call q) in
     let same = same_Some c.get.result (word 0 e.bits) (sym c.get.ensures ∙ e.cell.there) in
     let some : e.bits ≢ 0 = λ z. c.if-bits-eq0.false (c.bits.ensures.value ∙ ap (λ (w : Tagged). w.bits) same ∙ z) in
     let free = sym (c.is_critical.ensures x plan s m t o h.session runs) ∙ c.if-is_critical.false in

@@ -1,4 +1,5 @@
 use Rattle.std.proofs.Common.{◌+◌, List, ℕ, map, refl, ap, ◌∙◌, subst}
+use Rattle.std.proofs.lemmas.Result.{err_from_is_err_and}
 use Rattle.b67_task_end.specs.Family.{pair_of}
 use Rattle.b67_task_tables.specs.declared.tables.Tasks.{Tasks}
 use Rattle.b67_session_lines.specs.Parts.{TookRest, TookMore}
@@ -43,21 +44,23 @@ returns-clause-closes g c = λ x told plan s m t w.
       subst (λ (l : List ℕ). TookRest g.K.Sink.taken c.args.paper.now c.put_endings.new.paper l k.tasks.printed)
           (all_text x told k plan s m t c.args.chosen w c.args.ending c.endings-dead.result.items c.as_slice.result.now c.with_stuck-all.result.items c.as_slice-2.result.now
           (c.endings-dead.ensures plan s m t (holds x told k plan s m t c.args.chosen w) w.row) c.as_slice.ensures.value c.with_stuck-all.ensures c.as_slice-2.ensures.value)
-          c.in-Ok.ensures.whole,
+          c.in_ok-put_endings.ensures.whole,
       c.count_one.ensures.printed,
       c.count_one.ensures.made ∙ ap (λ (z : Tasks). z.made + 1) same,
       closed_by x told k plan s m t c.args.chosen w c.put_endings.new.printed c.args.ending c.end_family.new.machine e c.end_stuck.new.machine c.end_stuck.ensures.stands c.count_one.new.tasks c.count_one.ensures,
     ))
 
-pub returns-in-Err-clause-closes : goal.returns-in-Err-clause-closes
-returns-in-Err-clause-closes g c = λ x told plan s m t w.
+pub returns-in_err-put_endings-clause-closes : goal.returns-in_err-put_endings-clause-closes
+returns-in_err-put_endings-clause-closes g c =
+    let p = err_from_is_err_and c.from_residual.result c.from_residual.ensures.1 in
+    rw p.1 (λ x told plan s m t w.
     (let k = c.args.machine.now in (
       subst (λ (l : List ℕ). TookMore g.K.Sink.taken c.args.paper.now c.put_endings.new.paper l k.tasks.printed c.put_endings.new.printed)
           (all_text x told k plan s m t c.args.chosen w c.args.ending c.endings-dead.result.items c.as_slice.result.now c.with_stuck-all.result.items c.as_slice-2.result.now
           (c.endings-dead.ensures plan s m t (holds x told k plan s m t c.args.chosen w) w.row) c.as_slice.ensures.value c.with_stuck-all.ensures c.as_slice-2.ensures.value)
-          c.in-Err.ensures.part,
+          c.in_err-put_endings.ensures.part,
       refl,
-    ))
+    )))
 
 pub returns-clause-keeps : goal.returns-clause-keeps
 returns-clause-keeps g c =
@@ -65,5 +68,5 @@ returns-clause-keeps g c =
     (same_tasks c.args.machine.now.tasks c.end_family.new.machine.tasks c.end_stuck.new.machine.tasks c.put_endings.new.printed c.end_stuck.ensures.tasks c.end_family.ensures.tasks)
     c.count_one.ensures (c.end_stuck.ensures.len ∙ c.end_family.ensures.len) (c.end_stuck.ensures.count ∙ c.end_family.ensures.count)
 
-pub returns-in-Err-clause-keeps : goal.returns-in-Err-clause-keeps
-returns-in-Err-clause-keeps g c = keeps_cut c.args.machine.now c.put_endings.new.printed
+pub returns-in_err-put_endings-clause-keeps : goal.returns-in_err-put_endings-clause-keeps
+returns-in_err-put_endings-clause-keeps g c = keeps_cut c.args.machine.now c.put_endings.new.printed

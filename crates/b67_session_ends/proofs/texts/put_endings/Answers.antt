@@ -1,4 +1,5 @@
 use Rattle.std.proofs.Common.{◌+◌, ◌++◌, List, ℕ, map, drop, subst, arith}
+use Rattle.std.proofs.lemmas.Result.{err_from_is_err_and}
 use Rattle.b67_io.specs.Line.{ended}
 use Rattle.b67_task_end.specs.Family.{pair_of}
 use Rattle.b67_session_ends.specs.Texts.{endings_text}
@@ -20,19 +21,20 @@ loop-one-preserved g c =
     let behind = endings_text c.args.job (map pair_of (drop (c.loop-one.one-index + 1) c.args.ended.now)) in
     record {
       start = omega (arith, c.loop-one.invariant.start, c.len.ensures.room);
-      later = omega (arith, c.loop-one.invariant.later, c.in-Ok.ensures.cause.later);
+      later = omega (arith, c.loop-one.invariant.later, c.in_ok-put_rest.ensures.cause.later);
       printing =
           subst (λ (n : ℕ). IsPrinting g.K.Sink.taken c.args.paper.now c.put_rest.new.sink (endings_text c.args.job (map pair_of c.args.ended.now)) c.args.printed.now c.put_rest.new.printed n behind) (omega (arith, c.len.ensures.len))
           (printing_then g.K.Sink.taken c.args.paper.now c.loop-one.paper (endings_text c.args.job (map pair_of c.args.ended.now)) c.ending_line-line.result behind c.args.printed.now c.loop-one.printed c.loop-one.start p
-          c.put_rest.new.sink c.put_rest.new.printed (c.in-Ok.ensures.text p.lines behind p.long p.past) (omega (arith, c.in-Ok.ensures.whole)) (omega (arith, c.in-Ok.ensures.whole)));
+          c.put_rest.new.sink c.put_rest.new.printed (c.in_ok-put_rest.ensures.text p.lines behind p.long p.past) (omega (arith, c.in_ok-put_rest.ensures.whole)) (omega (arith, c.in_ok-put_rest.ensures.whole)));
     }
 
-pub returns-in-Err-clause-part : goal.returns-in-Err-clause-part
-returns-in-Err-clause-part g c =
-    let p = context g (goal.at.returns-in-Err-clause-part g c).After-put_rest in
+pub returns-in_err-put_rest-clause-part : goal.returns-in_err-put_rest-clause-part
+returns-in_err-put_rest-clause-part g c =
+    let p = context g (goal.at.returns-in_err-put_rest-clause-part g c).After-put_rest in
     let behind = endings_text c.args.job (map pair_of (drop (c.loop-one.one-index + 1) c.args.ended.now)) in
-    more_then g.K.Sink.taken c.args.paper.now c.loop-one.paper (endings_text c.args.job (map pair_of c.args.ended.now)) c.ending_line-line.result behind c.args.printed.now c.loop-one.printed c.loop-one.start p
-    c.put_rest.new.sink c.put_rest.new.printed (c.in-Err.ensures.text p.lines behind p.long p.past) c.in-Err.ensures.part.0 c.in-Err.ensures.part.1
+    let r = err_from_is_err_and c.from_residual.result c.from_residual.ensures.1 in
+    rw r.1 (more_then g.K.Sink.taken c.args.paper.now c.loop-one.paper (endings_text c.args.job (map pair_of c.args.ended.now)) c.ending_line-line.result behind c.args.printed.now c.loop-one.printed c.loop-one.start p
+    c.put_rest.new.sink c.put_rest.new.printed (c.in_err-put_rest.ensures.text p.lines behind p.long p.past) c.in_err-put_rest.ensures.part.0 c.in_err-put_rest.ensures.part.1)
 
 pub returns-clause-whole : goal.returns-clause-whole
 returns-clause-whole g c =
