@@ -108,10 +108,7 @@ impl Hand {
     {
         let _held = self.len();
         'bytes: for byte in bytes {
-            match self.punch_one(sink, *byte) {
-                Ok(()) => {}
-                Err(failed) => return Err(failed),
-            }
+            self.punch_one(sink, *byte)?;
         }
         Ok(())
     }
