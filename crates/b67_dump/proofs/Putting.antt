@@ -1,6 +1,7 @@
 -- Texts that are put one after the other.
 use Rattle.std.proofs.Common.{◌≡◌, ℕ, zero, suc, ◌+◌, ◌<◌, ◌≤◌, List, [], ◌++◌, length, Ok, Err, sym, ap, subst, ◌∙◌, append-nil, append_assoc, length-append, arith}
 use Rattle.std.specs.Prelude.{Option, Result, ⊤, slice_get, Some, map, option_map}
+use Rattle.std.specs.Result.{IsErr}
 use Rattle.std.proofs.Math.Seq.{take-append-add}
 use Rattle.std.proofs.lemmas.List.{take-append-le}
 use Rattle.std.proofs.lemmas.Option.{slice_get-map}
@@ -47,6 +48,11 @@ module _ {K : Type 0} (taken : K → Option (List ℕ)) (faults : K → ℕ) whe
   -- a beginning of a text is one of a longer text
   pub puts_stop : (a b : K) (failed : Failed) (x whole : List ℕ) → (rest : List ℕ) × (whole ≡ x ++ rest) → PutsText taken faults a b (Err failed) x → PutsText taken faults a b (Err failed) whole
   puts_stop a b failed x whole (rest, e) p = subst (PutsText taken faults a b (Err failed)) (sym e) (record { whole = tt; part = part_before a b x rest p.part; cause = p.cause })
+
+  -- a failure that is passed on
+  pub puts_passed : (a b : K) (r : Result ⊤ Failed) (failed : Failed) (text : List ℕ) → IsErr r → PutsText taken faults a b (Err failed) text → PutsText taken faults a b r text
+  puts_passed a b (Ok done) failed text is p = absurd (let z : ⊥ = cc in z)
+  puts_passed a b (Err other) failed text is p = record { whole = tt; part = p.part; cause = record { later = p.cause.later; failed = p.cause.failed } }
 
   pub puts_as : (a b : K) (r : Result ⊤ Failed) (x y : List ℕ) → x ≡ y → PutsText taken faults a b r x → PutsText taken faults a b r y
   puts_as a b r x y e p = subst (PutsText taken faults a b r) e p

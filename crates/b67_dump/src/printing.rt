@@ -52,13 +52,10 @@ fn put_cells<K: Sink>(
 {
     let mut done = 0;
     'cells: while done < count {
-        match put(
+        put(
             sink,
             &cell_line(machine, landmarks, row, job, 2 + done, from + done),
-        ) {
-            Ok(()) => {}
-            Err(failed) => return Err(failed),
-        }
+        )?;
         done += 1;
     }
     Ok(())
@@ -81,10 +78,7 @@ fn put_record<K: Sink>(
     requires below { top < 2 ^ 50 }
     ensures { PutsText K.taken K.faults sink.old sink.new result (record_text (sight_of machine.now) (job_row row.now) job number mark top) }
 {
-    match put(sink, &frame_line(machine, landmarks, job, number, mark)) {
-        Ok(()) => {}
-        Err(failed) => return Err(failed),
-    }
+    put(sink, &frame_line(machine, landmarks, job, number, mark))?;
     let head = 1 + word_seen_at(&machine.cpu.core, mark).part(46, 1);
     let from = mark + head;
     put_cells(
@@ -124,10 +118,7 @@ fn put_records<K: Sink>(
         let last = top_at(core, stops, top.f, left, top.s);
         let mark = mark_at(core, stops, top.f, left);
         let number = u64::from(count - left);
-        match put_record(sink, machine, landmarks, row, job, number, mark, last) {
-            Ok(()) => {}
-            Err(failed) => return Err(failed),
-        }
+        put_record(sink, machine, landmarks, row, job, number, mark, last)?;
     }
     Ok(())
 }
@@ -170,10 +161,7 @@ fn put_tasks<K: Sink>(
     let mut left = tasks.len();
     'tasks: while left > 0 {
         left -= 1;
-        match put_task(sink, machine, landmarks, row, job, row_at(tasks, left)) {
-            Ok(()) => {}
-            Err(failed) => return Err(failed),
-        }
+        put_task(sink, machine, landmarks, row, job, row_at(tasks, left))?;
     }
     Ok(())
 }
@@ -193,10 +181,7 @@ fn put_jobs<K: Sink>(sink: &mut K, machine: &Machine, landmarks: &[Landmark]) ->
 {
     let jobs = machine.tasks.jobs.as_slice();
     'jobs: for at in 0..jobs.len() {
-        match put_tasks(sink, machine, landmarks, job_at(jobs, at), at as u64 + 1) {
-            Ok(()) => {}
-            Err(failed) => return Err(failed),
-        }
+        put_tasks(sink, machine, landmarks, job_at(jobs, at), at as u64 + 1)?;
     }
     Ok(())
 }

@@ -2,6 +2,7 @@
 use Rattle.std.proofs.Common.{◌≡◌, ℕ, zero, suc, ◌+◌, ◌*◌, ◌-◌, ◌/◌, ◌<◌, ◌≤◌, List, [], ◌∷◌, ◌++◌, length, map, take, drop, get_or, Ok, Err, refl, sym, ap, subst, ◌∙◌, append-nil, append_assoc, length-append, length-drop, arith}
 use Rattle.std.specs.Prelude.{Option, Result, ⊤, OnOk, OnErr}
 use Rattle.std.specs.List.{flat_map, range_with_len}
+use Rattle.std.specs.Result.{IsErr}
 use Rattle.std.proofs.Math.Seq.{take-append-add, take-add}
 use Rattle.std.proofs.lemmas.Grind.{flat_map-append}
 use Rattle.std.proofs.lemmas.List.Concat.{flat_map-cons}
@@ -145,11 +146,17 @@ punched_then taken a b c hand mid now (Err failed) x y p q =
     subst (TookPart taken a c) (sym full) (TookPart-then p.1 q)
 
 -- a failure within the first of two
-pub punched_stop : {K : Type 0} (taken : K → Option (List ℕ)) (a b : K) (hand now : List ℕ) (e : Failed) (x y : List ℕ) → Punched taken a b hand now (Err e) x → Punched taken a b hand now (Err e) (x ++ y)
-punched_stop taken a b hand now e x y p =
-    let cut : hand ++ (x ++ y) ≡ (hand ++ x) ++ y = sym (append_assoc hand x y) in
-    let full : full_cards (hand ++ (x ++ y)) ≡ full_cards (hand ++ x) ++ full_cards (left_over (hand ++ x) ++ y) = ap full_cards cut ∙ full_then (hand ++ x) y in
-    subst (TookPart taken a b) (sym full) (TookPart-longer (full_cards (hand ++ x)) (full_cards (left_over (hand ++ x) ++ y)) p)
+pub punched_stop : {K : Type 0} (taken : K → Option (List ℕ)) (a b : K) (hand now : List ℕ) (r : Result ⊤ Failed) (x y more : List ℕ) → IsErr r → y ≡ x → TookPart taken a b (full_cards (hand ++ y)) → Punched taken a b hand now r (x ++ more)
+punched_stop taken a b hand now (Ok done) x y more is same p = absurd (let z : ⊥ = cc in z)
+punched_stop taken a b hand now (Err e) x y more is same p =
+    let cut : hand ++ (x ++ more) ≡ (hand ++ x) ++ more = sym (append_assoc hand x more) in
+    let full : full_cards (hand ++ (x ++ more)) ≡ full_cards (hand ++ x) ++ full_cards (left_over (hand ++ x) ++ more) = ap full_cards cut ∙ full_then (hand ++ x) more in
+    let part : TookPart taken a b (full_cards (hand ++ x)) = subst (λ (bytes : List ℕ). TookPart taken a b (full_cards (hand ++ bytes))) same p in
+    subst (TookPart taken a b) (sym full) (TookPart-longer (full_cards (hand ++ x)) (full_cards (left_over (hand ++ x) ++ more)) part)
+
+-- the same bytes in other words
+pub punched_is : {K : Type 0} (taken : K → Option (List ℕ)) (a b : K) (hand now : List ℕ) (r : Result ⊤ Failed) (x y : List ℕ) → x ≡ y → Punched taken a b hand now r x → Punched taken a b hand now r y
+punched_is taken a b hand now r x y e p = subst (λ (bytes : List ℕ). Punched taken a b hand now r bytes) e p
 
 -- ---- items of a list
 
@@ -192,11 +199,12 @@ pub byte_on : {K : Type 0} (taken : K → Option (List ℕ)) (a b c : K) (hand m
 byte_on taken a b c hand mid now xs i lt p q =
     subst (λ (ys : List ℕ). Punched taken a c hand now (Ok tt) ys) (sym (one_on xs i lt)) (punched_then taken a b c hand mid now (Ok tt) (take i xs) (get_or xs i 0 ∷ []) p q)
 
-pub byte_stop : {K : Type 0} (taken : K → Option (List ℕ)) (a b c : K) (hand mid now xs : List ℕ) (i : ℕ) (e : Failed) → i < length xs → Punched taken a b hand mid (Ok tt) (take i xs) → Punched taken b c mid now (Err e) (get_or xs i 0 ∷ [])
-    → Punched taken a c hand now (Err e) xs
-byte_stop taken a b c hand mid now xs i e lt p q =
+pub byte_stop : {K : Type 0} (taken : K → Option (List ℕ)) (a b c : K) (hand mid now xs : List ℕ) (i : ℕ) (r : Result ⊤ Failed) → IsErr r → i < length xs → Punched taken a b hand mid (Ok tt) (take i xs) → TookPart taken b c (full_cards (mid ++ get_or xs i 0 ∷ []))
+    → Punched taken a c hand now r xs
+byte_stop taken a b c hand mid now xs i (Ok done) is lt p q = absurd (let z : ⊥ = cc in z)
+byte_stop taken a b c hand mid now xs i (Err e) is lt p q =
     let front : Punched taken a c hand now (Err e) (take (i + 1) xs) = subst (λ (ys : List ℕ). Punched taken a c hand now (Err e) ys) (sym (one_on xs i lt)) (punched_then taken a b c hand mid now (Err e) (take i xs) (get_or xs i 0 ∷ []) p q) in
-    subst (λ (ys : List ℕ). Punched taken a c hand now (Err e) ys) (take-append-drop (i + 1) xs) (punched_stop taken a c hand now e (take (i + 1) xs) (drop (i + 1) xs) front)
+    subst (λ (ys : List ℕ). Punched taken a c hand now (Err e) ys) (take-append-drop (i + 1) xs) (punched_stop taken a c hand now (Err e) (take (i + 1) xs) (take (i + 1) xs) (drop (i + 1) xs) refl refl front)
 
 pub bytes_end : {K : Type 0} (taken : K → Option (List ℕ)) (a b : K) (hand now xs : List ℕ) (i : ℕ) → length xs ≤ i → Punched taken a b hand now (Ok tt) (take i xs) → Punched taken a b hand now (Ok tt) xs
 bytes_end taken a b hand now xs i le p = subst (λ (ys : List ℕ). Punched taken a b hand now (Ok tt) ys) (take_all i xs le) p
@@ -208,11 +216,13 @@ item_on f taken a b c hand mid now head xs d i lt p q =
     let e : (head ++ flat_map f (take i xs)) ++ f (get_or xs i d) ≡ head ++ flat_map f (take (i + 1) xs) = append_assoc head (flat_map f (take i xs)) (f (get_or xs i d)) ∙ ap (λ (t : List ℕ). head ++ t) (sym (item_at f xs d i lt)) in
     subst (λ (ys : List ℕ). Punched taken a c hand now (Ok tt) ys) e (punched_then taken a b c hand mid now (Ok tt) (head ++ flat_map f (take i xs)) (f (get_or xs i d)) p q)
 
-pub item_stop : {X : Type 0} {K : Type 0} (f : X → List ℕ) (taken : K → Option (List ℕ)) (a b c : K) (hand mid now head : List ℕ) (xs : List X) (d : X) (i : ℕ) (e : Failed) → i < length xs
-    → Punched taken a b hand mid (Ok tt) (head ++ flat_map f (take i xs)) → Punched taken b c mid now (Err e) (f (get_or xs i d)) → Punched taken a c hand now (Err e) (head ++ flat_map f xs)
-item_stop f taken a b c hand mid now head xs d i e lt p q =
+pub item_stop : {X : Type 0} {K : Type 0} (f : X → List ℕ) (taken : K → Option (List ℕ)) (a b c : K) (hand mid now head : List ℕ) (xs : List X) (d : X) (i : ℕ) (r : Result ⊤ Failed) (y : List ℕ) → IsErr r → y ≡ f (get_or xs i d) → i < length xs
+    → Punched taken a b hand mid (Ok tt) (head ++ flat_map f (take i xs)) → TookPart taken b c (full_cards (mid ++ y)) → Punched taken a c hand now r (head ++ flat_map f xs)
+item_stop f taken a b c hand mid now head xs d i (Ok done) y is same lt p q = absurd (let z : ⊥ = cc in z)
+item_stop f taken a b c hand mid now head xs d i (Err e) y is same lt p q =
     let one : (head ++ flat_map f (take i xs)) ++ f (get_or xs i d) ≡ head ++ flat_map f (take (i + 1) xs) = append_assoc head (flat_map f (take i xs)) (f (get_or xs i d)) ∙ ap (λ (t : List ℕ). head ++ t) (sym (item_at f xs d i lt)) in
-    let front = punched_stop taken a c hand now e (head ++ flat_map f (take (i + 1) xs)) (flat_map f (drop (i + 1) xs)) (subst (λ (ys : List ℕ). Punched taken a c hand now (Err e) ys) one (punched_then taken a b c hand mid now (Err e) (head ++ flat_map f (take i xs)) (f (get_or xs i d)) p q)) in
+    let item : Punched taken b c mid now (Err e) (f (get_or xs i d)) = punched_is taken b c mid now (Err e) y (f (get_or xs i d)) same q in
+    let front = punched_stop taken a c hand now (Err e) (head ++ flat_map f (take (i + 1) xs)) (head ++ flat_map f (take (i + 1) xs)) (flat_map f (drop (i + 1) xs)) refl refl (subst (λ (ys : List ℕ). Punched taken a c hand now (Err e) ys) one (punched_then taken a b c hand mid now (Err e) (head ++ flat_map f (take i xs)) (f (get_or xs i d)) p item)) in
     subst (λ (ys : List ℕ). Punched taken a c hand now (Err e) ys) (append_assoc head (flat_map f (take (i + 1) xs)) (flat_map f (drop (i + 1) xs)) ∙ ap (λ (t : List ℕ). head ++ t) (items_are f xs (i + 1))) front
 
 pub items_end : {X : Type 0} {K : Type 0} (f : X → List ℕ) (taken : K → Option (List ℕ)) (a b : K) (hand now head : List ℕ) (xs : List X) (i : ℕ) → length xs ≤ i
@@ -236,14 +246,11 @@ pub window_on : {X : Type 0} {K : Type 0} (f : X → List ℕ) (taken : K → Op
 window_on f taken a b c hand mid now head xs i m p q =
     subst (λ (ys : List ℕ). Punched taken a c hand now (Ok tt) ys) (windows_are f head xs i m) (punched_then taken a b c hand mid now (Ok tt) (head ++ flat_map f (take i xs)) (flat_map f (take m (drop i xs))) p q)
 
-pub window_stop : {X : Type 0} {K : Type 0} (f : X → List ℕ) (taken : K → Option (List ℕ)) (a b c : K) (hand mid now head : List ℕ) (xs : List X) (i m : ℕ) (e : Failed)
-    → Punched taken a b hand mid (Ok tt) (head ++ flat_map f (take i xs)) → Punched taken b c mid now (Err e) (flat_map f (take m (drop i xs))) → Punched taken a c hand now (Err e) (head ++ flat_map f xs)
-window_stop f taken a b c hand mid now head xs i m e p q =
+pub window_stop : {X : Type 0} {K : Type 0} (f : X → List ℕ) (taken : K → Option (List ℕ)) (a b c : K) (hand mid now head : List ℕ) (xs : List X) (i m : ℕ) (r : Result ⊤ Failed) → IsErr r
+    → Punched taken a b hand mid (Ok tt) (head ++ flat_map f (take i xs)) → TookPart taken b c (full_cards (mid ++ flat_map f (take m (drop i xs)))) → Punched taken a c hand now r (head ++ flat_map f xs)
+window_stop f taken a b c hand mid now head xs i m (Ok done) is p q = absurd (let z : ⊥ = cc in z)
+window_stop f taken a b c hand mid now head xs i m (Err e) is p q =
     let front : Punched taken a c hand now (Err e) (head ++ flat_map f (take (i + m) xs)) =
     subst (λ (ys : List ℕ). Punched taken a c hand now (Err e) ys) (windows_are f head xs i m) (punched_then taken a b c hand mid now (Err e) (head ++ flat_map f (take i xs)) (flat_map f (take m (drop i xs))) p q) in
     subst (λ (ys : List ℕ). Punched taken a c hand now (Err e) ys) (append_assoc head (flat_map f (take (i + m) xs)) (flat_map f (drop (i + m) xs)) ∙ ap (λ (t : List ℕ). head ++ t) (items_are f xs (i + m)))
-    (punched_stop taken a c hand now e (head ++ flat_map f (take (i + m) xs)) (flat_map f (drop (i + m) xs)) front)
-
--- the same bytes in other words
-pub punched_is : {K : Type 0} (taken : K → Option (List ℕ)) (a b : K) (hand now : List ℕ) (r : Result ⊤ Failed) (x y : List ℕ) → x ≡ y → Punched taken a b hand now r x → Punched taken a b hand now r y
-punched_is taken a b hand now r x y e p = subst (λ (bytes : List ℕ). Punched taken a b hand now r bytes) e p
+    (punched_stop taken a c hand now (Err e) (head ++ flat_map f (take (i + m) xs)) (head ++ flat_map f (take (i + m) xs)) (flat_map f (drop (i + m) xs)) refl refl front)

@@ -12,7 +12,6 @@ use Rattle.std.proofs.Math.Facts.{Fits-of_z}
 use Rattle.std.proofs.lemmas.Int.{to_z-of_z}
 use Rattle.b67_word.specs.Common.{IsWord}
 use Rattle.b67_word.specs.Numbers.{number}
-use Rattle.b67_ctl.specs.declared.registers.Regs.{Regs}
 use Rattle.b67_backing.specs.Shelf.{Table, row}
 use Rattle.b67_backing.specs.Links.{table_link, links_in}
 use Rattle.b67_model_text.specs.declared.deck.Switch.{Switch}

@@ -30,14 +30,13 @@ field_ok taken a b c hand mid now xs x y e p q =
 
 -- the sink failed within a field
 pub first_err : {K : Type 0} (taken : K → Option (List ℕ)) (a b : K) (hand now : List ℕ) (r : Result ⊤ Failed) (x y : List ℕ) (ys : List (List ℕ)) → IsErr r → y ≡ x → TookPart taken a b (full_cards (hand ++ y)) → Punched taken a b hand now r (joined (x ∷ ys))
-first_err taken a b hand now (Ok done) x y ys i e p = absurd (let z : ⊥ = cc in z)
-first_err taken a b hand now (Err f) x y ys i e p = subst (λ (t : List ℕ). Punched taken a b hand now (Err f) (t ++ joined ys)) e (punched_stop taken a b hand now f y (joined ys) p)
+first_err taken a b hand now r x y ys i e p = punched_stop taken a b hand now r x y (joined ys) i e p
 
 pub field_err : {K : Type 0} (taken : K → Option (List ℕ)) (a b c : K) (hand mid now : List ℕ) (r : Result ⊤ Failed) (xs : List (List ℕ)) (x y : List ℕ) (ys : List (List ℕ)) → IsErr r → y ≡ x → Punched taken a b hand mid (Ok tt) (joined xs) → TookPart taken b c (full_cards (mid ++ y)) → Punched taken a c hand now r (joined (xs ++ x ∷ ys))
 field_err taken a b c hand mid now (Ok done) xs x y ys i e p q = absurd (let z : ⊥ = cc in z)
 field_err taken a b c hand mid now (Err f) xs x y ys i e p q =
     subst (Punched taken a c hand now (Err f)) (ap (λ (t : List ℕ). joined xs ++ (t ++ joined ys)) e ∙ sym (joined_append xs (x ∷ ys)))
-    (punched_then taken a b c hand mid now (Err f) (joined xs) (y ++ joined ys) p (punched_stop taken b c mid now f y (joined ys) q))
+    (punched_then taken a b c hand mid now (Err f) (joined xs) (y ++ joined ys) p (punched_stop taken b c mid now (Err f) y y (joined ys) refl refl q))
 
 -- the fields of an image in its brackets
 pub eleven : (a b c d e f g h i j k : List ℕ) → joined (a ∷ b ∷ c ∷ d ∷ e ∷ f ∷ g ∷ h ∷ i ∷ j ∷ k ∷ []) ≡ a ++ ((b ++ (c ++ (d ++ e))) ++ (f ++ (g ++ (h ++ (i ++ (j ++ k))))))

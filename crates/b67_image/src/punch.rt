@@ -36,10 +36,7 @@ pub fn put_text<K: Sink>(sink: &mut K, text: &[u8]) -> Result<(), Failed>
 {
     let mut done = 0;
     'put: while done < text.len() {
-        match sink.put(&text[done..]) {
-            Ok(k) => done += k,
-            Err(failed) => return Err(failed),
-        }
+        done += sink.put(&text[done..])?;
     }
     Ok(())
 }
@@ -108,10 +105,7 @@ impl Hand {
     {
         let _held = self.len();
         'bytes: for byte in bytes {
-            match self.punch_one(sink, *byte) {
-                Ok(()) => {}
-                Err(failed) => return Err(failed),
-            }
+            self.punch_one(sink, *byte)?;
         }
         Ok(())
     }

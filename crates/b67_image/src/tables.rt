@@ -59,10 +59,7 @@ fn many_switches(alloc: Global, count: u32, bytes: &[u8]) -> Result<(Switches, &
     let mut switches = Switches::new(alloc);
     let mut rest = bytes;
     'each: for _ in 0..count {
-        let (switch, after) = match read_switch(rest) {
-            Ok(found) => found,
-            Err(e) => return Err(e),
-        };
+        let (switch, after) = read_switch(rest)?;
         switches.push(switch)?;
         rest = after;
     }
@@ -115,10 +112,7 @@ fn many_numbers(alloc: Global, count: u32, bytes: &[u8]) -> Result<(Numbers, &[u
     let mut numbers = Numbers::new(alloc);
     let mut rest = bytes;
     'each: for _ in 0..count {
-        let (number, after) = match read_signed(rest) {
-            Ok(found) => found,
-            Err(e) => return Err(e),
-        };
+        let (number, after) = read_signed(rest)?;
         numbers.push(number)?;
         rest = after;
     }
@@ -263,10 +257,7 @@ fn many_rows(count: u32, bytes: &[u8]) -> Result<(ArrayVec<TaskRow, 120>, &[u8])
     let mut rows = ArrayVec::<TaskRow, 120>::new();
     let mut rest = bytes;
     'each: for _ in 0..count {
-        let (row, after) = match read_row(rest) {
-            Ok(found) => found,
-            Err(e) => return Err(e),
-        };
+        let (row, after) = read_row(rest)?;
         rows.push(row);
         rest = after;
     }

@@ -42,15 +42,9 @@ fn put_core<K: Sink>(sink: &mut K, hand: &mut Hand, core: &Core) -> Result<(), F
     ensures cause { HasCause K.faults sink.old sink.new result }
 {
     let size = core.size();
-    match put_count(sink, hand, size as usize) {
-        Ok(()) => {}
-        Err(failed) => return Err(failed),
-    }
+    put_count(sink, hand, size as usize)?;
     'words: for at in 0..size {
-        match hand.punch(sink, &to_number(core.get(at)).to_be_bytes()) {
-            Ok(()) => {}
-            Err(failed) => return Err(failed),
-        }
+        hand.punch(sink, &to_number(core.get(at)).to_be_bytes())?;
     }
     Ok(())
 }
@@ -61,10 +55,7 @@ fn put_display<K: Sink>(sink: &mut K, hand: &mut Hand, addresses: &[u32]) -> Res
 {
     let _held = hand.len();
     'each: for n in addresses {
-        match hand.punch(sink, &n.to_be_bytes()) {
-            Ok(()) => {}
-            Err(failed) => return Err(failed),
-        }
+        hand.punch(sink, &n.to_be_bytes())?;
     }
     Ok(())
 }
@@ -75,10 +66,7 @@ fn put_critical<K: Sink>(sink: &mut K, hand: &mut Hand, places: &[u16]) -> Resul
 {
     let _held = hand.len();
     'each: for n in places {
-        match hand.punch(sink, &n.to_be_bytes()) {
-            Ok(()) => {}
-            Err(failed) => return Err(failed),
-        }
+        hand.punch(sink, &n.to_be_bytes())?;
     }
     Ok(())
 }
@@ -88,17 +76,11 @@ fn put_sectors<K: Sink>(sink: &mut K, hand: &mut Hand, sectors: &Sectors) -> Res
     ensures cause { HasCause K.faults sink.old sink.new result }
 {
     let count = sectors.count();
-    match put_count(sink, hand, count as usize) {
-        Ok(()) => {}
-        Err(failed) => return Err(failed),
-    }
+    put_count(sink, hand, count as usize)?;
     let mut done = 0;
     'windows: while done < count {
         let many = (count - done).min(WINDOW);
-        match put_window(sink, hand, sectors, done, many) {
-            Ok(()) => {}
-            Err(failed) => return Err(failed),
-        }
+        put_window(sink, hand, sectors, done, many)?;
         done += many;
     }
     Ok(())
@@ -124,10 +106,7 @@ fn put_window<K: Sink>(
     sectors.mark_free(before + 1, &mut marks);
     'each: for k in 0..many {
         let link = sectors.link_marked(before + k + 1, marks[k as usize]);
-        match hand.punch(sink, &link.to_be_bytes()) {
-            Ok(()) => {}
-            Err(failed) => return Err(failed),
-        }
+        hand.punch(sink, &link.to_be_bytes())?;
     }
     Ok(())
 }
@@ -136,15 +115,9 @@ fn put_switches<K: Sink>(sink: &mut K, hand: &mut Hand, switches: &[Switch]) -> 
     ensures row { Punched K.taken sink.old sink.new hand.old hand.new result (listed_bytes switch_bytes switches.now) }
     ensures cause { HasCause K.faults sink.old sink.new result }
 {
-    match put_count(sink, hand, switches.len()) {
-        Ok(()) => {}
-        Err(failed) => return Err(failed),
-    }
+    put_count(sink, hand, switches.len())?;
     'each: for switch in switches {
-        match hand.punch(sink, switch_item(*switch).as_slice()) {
-            Ok(()) => {}
-            Err(failed) => return Err(failed),
-        }
+        hand.punch(sink, switch_item(*switch).as_slice())?;
     }
     Ok(())
 }
@@ -162,16 +135,10 @@ fn put_numbers<K: Sink>(sink: &mut K, hand: &mut Hand, numbers: &[i64]) -> Resul
     ensures cause { HasCause K.faults sink.old sink.new result }
 {
     let count = numbers.len();
-    match put_count(sink, hand, count) {
-        Ok(()) => {}
-        Err(failed) => return Err(failed),
-    }
+    put_count(sink, hand, count)?;
     'each: for at in 0..count {
         let number = read_number(numbers, at);
-        match hand.punch(sink, &number.cast_unsigned().to_be_bytes()) {
-            Ok(()) => {}
-            Err(failed) => return Err(failed),
-        }
+        hand.punch(sink, &number.cast_unsigned().to_be_bytes())?;
     }
     Ok(())
 }
@@ -194,15 +161,9 @@ fn put_jobs<K: Sink>(sink: &mut K, hand: &mut Hand, jobs: &[JobRow]) -> Result<(
     ensures row { Punched K.taken sink.old sink.new hand.old hand.new result (listed_bytes job_bytes jobs.now) }
     ensures cause { HasCause K.faults sink.old sink.new result }
 {
-    match put_count(sink, hand, jobs.len()) {
-        Ok(()) => {}
-        Err(failed) => return Err(failed),
-    }
+    put_count(sink, hand, jobs.len())?;
     'each: for job in jobs {
-        match put_job(sink, hand, job) {
-            Ok(()) => {}
-            Err(failed) => return Err(failed),
-        }
+        put_job(sink, hand, job)?;
     }
     Ok(())
 }
@@ -211,15 +172,9 @@ fn put_rows<K: Sink>(sink: &mut K, hand: &mut Hand, rows: &[TaskRow]) -> Result<
     ensures row { Punched K.taken sink.old sink.new hand.old hand.new result (listed_bytes task_row_bytes rows.now) }
     ensures cause { HasCause K.faults sink.old sink.new result }
 {
-    match put_count(sink, hand, rows.len()) {
-        Ok(()) => {}
-        Err(failed) => return Err(failed),
-    }
+    put_count(sink, hand, rows.len())?;
     'each: for row in rows {
-        match hand.punch(sink, row_item(*row).as_slice()) {
-            Ok(()) => {}
-            Err(failed) => return Err(failed),
-        }
+        hand.punch(sink, row_item(*row).as_slice())?;
     }
     Ok(())
 }

@@ -5,7 +5,7 @@ use Rattle.b67_task_tables.specs.declared.tables.JobRow.{JobRow}
 use Rattle.b67_task_tables.specs.Tables.{job_row}
 use Rattle.b67_layout_shown.specs.Machines.{sight_of}
 use Rattle.b67_dump.specs.Walk.{walk_text}
-use Rattle.b67_dump.proofs.Putting.{got_mapped}
+use Rattle.b67_dump.proofs.Putting.{got_mapped, puts_passed}
 use Rattle.b67_dump.proofs.Printed.{no_job, job_turn, job_stop, all_jobs}
 use Rattle.b67_dump.proofs.printing.put_jobs.Goals as goal
 
@@ -17,15 +17,16 @@ jobs-preserved g c =
     let same = ap (λ (l : List JobRow). length l) c.as_slice-jobs.ensures in
     let long = length-map c.args.machine.now.tasks.jobs job_row in
     job_turn g.K.Sink.taken g.K.Sink.faults (sight_of c.args.machine.now) c.args.sink.now c.jobs.sink c.put_tasks.new.sink (map job_row c.args.machine.now.tasks.jobs) c.jobs.at (job_row c.job_at.result.now) (omega (arith, same, long, c.jobs-test.true)) c.jobs.invariant
-    (got_mapped job_row c.args.machine.now.tasks.jobs c.jobs.at c.job_at.result.now (subst (λ (l : List JobRow). slice_get l c.jobs.at ≡ Some c.job_at.result.now) c.as_slice-jobs.ensures c.job_at.ensures)) c.in-Ok.ensures
+    (got_mapped job_row c.args.machine.now.tasks.jobs c.jobs.at c.job_at.result.now (subst (λ (l : List JobRow). slice_get l c.jobs.at ≡ Some c.job_at.result.now) c.as_slice-jobs.ensures c.job_at.ensures)) c.in_ok-put_tasks.ensures
 
-pub returns-in-Err : goal.returns-in-Err
+pub returns-in_err-put_tasks : goal.returns-in_err-put_tasks
 unfolding walk_text
-returns-in-Err g c =
+returns-in_err-put_tasks g c =
     let same = ap (λ (l : List JobRow). length l) c.as_slice-jobs.ensures in
     let long = length-map c.args.machine.now.tasks.jobs job_row in
-    job_stop g.K.Sink.taken g.K.Sink.faults (sight_of c.args.machine.now) c.args.sink.now c.jobs.sink c.put_tasks.new.sink c.in-Err.failed (map job_row c.args.machine.now.tasks.jobs) c.jobs.at (job_row c.job_at.result.now) (omega (arith, same, long, c.jobs-test.true)) c.jobs.invariant
-    (got_mapped job_row c.args.machine.now.tasks.jobs c.jobs.at c.job_at.result.now (subst (λ (l : List JobRow). slice_get l c.jobs.at ≡ Some c.job_at.result.now) c.as_slice-jobs.ensures c.job_at.ensures)) c.in-Err.ensures
+    puts_passed g.K.Sink.taken g.K.Sink.faults c.args.sink.now c.put_tasks.new.sink c.from_residual.result c.in_err-put_tasks.field-0.0 _ c.from_residual.ensures.0
+    (job_stop g.K.Sink.taken g.K.Sink.faults (sight_of c.args.machine.now) c.args.sink.now c.jobs.sink c.put_tasks.new.sink c.in_err-put_tasks.field-0.0 (map job_row c.args.machine.now.tasks.jobs) c.jobs.at (job_row c.job_at.result.now) (omega (arith, same, long, c.jobs-test.true)) c.jobs.invariant
+    (got_mapped job_row c.args.machine.now.tasks.jobs c.jobs.at c.job_at.result.now (subst (λ (l : List JobRow). slice_get l c.jobs.at ≡ Some c.job_at.result.now) c.as_slice-jobs.ensures c.job_at.ensures)) c.in_err-put_tasks.ensures)
 
 pub returns : goal.returns
 unfolding walk_text

@@ -5,6 +5,7 @@ use Rattle.b67_layout_shown.specs.Machines.{sight_of}
 use Rattle.b67_dump.specs.Walk.{marks_in}
 use Rattle.b67_dump.specs.Landmarks.{AreStops}
 use Rattle.b67_dump.proofs.Stopped.{mark_near}
+use Rattle.b67_dump.proofs.Putting.{puts_passed}
 use Rattle.b67_dump.proofs.Printed.{no_record, mark_turn, mark_stop, all_records, top_near}
 use Rattle.b67_dump.proofs.printing.put_records.Goals as goal
 
@@ -49,19 +50,20 @@ records-preserved g c =
     let low : c.records.left - 1 < length marks = omega (arith, inside, c.records-test.true) in (
       omega (arith, inside),
       mark_turn g.K.Sink.taken g.K.Sink.faults k (job_row c.args.row.now) c.args.job c.args.sink.now c.records.sink c.put_record.new.sink (Ok tt) c.args.top.s marks c.records.left c.from-number.result c.mark_at-mark.result c.top_at-last.result c.records-test.true inside c.records.invariant.1
-          (omega (arith, c.from-number.ensures, many)) (slice_get-get_or marks (c.records.left - 1) 0 low ∙ ap Some (sym (c.mark_at-mark.ensures k.regs.stack_size low))) (c.top_at-last.ensures k.regs.stack_size (omega (arith, inside))) c.in-Ok.ensures,
+          (omega (arith, c.from-number.ensures, many)) (slice_get-get_or marks (c.records.left - 1) 0 low ∙ ap Some (sym (c.mark_at-mark.ensures k.regs.stack_size low))) (c.top_at-last.ensures k.regs.stack_size (omega (arith, inside))) c.in_ok-put_record.ensures,
     )
 
-pub returns-in-Err : goal.returns-in-Err
-returns-in-Err g c =
+pub returns-in_err-put_record : goal.returns-in_err-put_record
+returns-in_err-put_record g c =
     let k = sight_of c.args.machine.now in
     let marks = marks_in k.core k.regs.stack_size c.args.top.f in
     let inside = c.records.invariant.0 in
     let many : c.count_marks-count.result ≡ length marks = c.count_marks-count.ensures ∙ ap (λ n. length (marks_in k.core n c.args.top.f)) c.from.ensures in
     let low : c.records.left - 1 < length marks = omega (arith, inside, c.records-test.true) in
-    all_records g.K.Sink.taken g.K.Sink.faults k (job_row c.args.row.now) c.args.job c.args.sink.now c.put_record.new.sink (Err c.in-Err.failed) k.regs.stack_size c.args.top.f c.args.top.s 0 marks refl refl
-    (mark_stop g.K.Sink.taken g.K.Sink.faults k (job_row c.args.row.now) c.args.job c.args.sink.now c.records.sink c.put_record.new.sink c.in-Err.failed c.args.top.s marks c.records.left c.from-number.result c.mark_at-mark.result c.top_at-last.result c.records-test.true inside c.records.invariant.1
-    (omega (arith, c.from-number.ensures, many)) (slice_get-get_or marks (c.records.left - 1) 0 low ∙ ap Some (sym (c.mark_at-mark.ensures k.regs.stack_size low))) (c.top_at-last.ensures k.regs.stack_size (omega (arith, inside))) c.in-Err.ensures)
+    puts_passed g.K.Sink.taken g.K.Sink.faults c.args.sink.now c.put_record.new.sink c.from_residual.result c.in_err-put_record.field-0.0 _ c.from_residual.ensures.0
+    (all_records g.K.Sink.taken g.K.Sink.faults k (job_row c.args.row.now) c.args.job c.args.sink.now c.put_record.new.sink (Err c.in_err-put_record.field-0.0) k.regs.stack_size c.args.top.f c.args.top.s 0 marks refl refl
+    (mark_stop g.K.Sink.taken g.K.Sink.faults k (job_row c.args.row.now) c.args.job c.args.sink.now c.records.sink c.put_record.new.sink c.in_err-put_record.field-0.0 c.args.top.s marks c.records.left c.from-number.result c.mark_at-mark.result c.top_at-last.result c.records-test.true inside c.records.invariant.1
+    (omega (arith, c.from-number.ensures, many)) (slice_get-get_or marks (c.records.left - 1) 0 low ∙ ap Some (sym (c.mark_at-mark.ensures k.regs.stack_size low))) (c.top_at-last.ensures k.regs.stack_size (omega (arith, inside))) c.in_err-put_record.ensures))
 
 pub returns : goal.returns
 returns g c =

@@ -1,4 +1,4 @@
-use Rattle.std.proofs.Common.{ℕ, List, ◌++◌, ◌∷◌, [], ◌∙◌, ap, length, refl}
+use Rattle.std.proofs.Common.{ℕ, List, ◌∷◌, [], ◌∙◌, ap, length}
 use Rattle.b67_image.specs.Spelling.{one_byte, four_bytes, listed_bytes, signed_bytes, job_front}
 use Rattle.b67_image.proofs.Fields.{first_ok, field_ok, first_err, field_err}
 use Rattle.b67_image.proofs.writing.put_job.Goals as goal

@@ -1,7 +1,7 @@
-use Rattle.std.proofs.Common.{◌++◌, ◌∷◌, [], ◌∙◌, ap, refl, subst, Ok}
+use Rattle.std.proofs.Common.{◌∷◌, [], ◌∙◌, ap, refl, subst, Ok}
 use Rattle.std.specs.List.{flat_map}
 use Rattle.b67_backing.specs.Links.{links_in}
-use Rattle.b67_image.specs.Parts.{parts_of, told_counts}
+use Rattle.b67_image.specs.Parts.{told_counts}
 use Rattle.b67_image.specs.Spelling.{image_header, image_bytes, two_bytes, four_bytes, eight_bytes, listed_bytes, tagged_bytes, regs_bytes, areas_bytes, counts_bytes, switch_bytes, job_bytes, task_row_bytes}
 use Rattle.b67_image.specs.Punching.{Punched}
 use Rattle.b67_image.proofs.Fields.{first_ok, field_ok, first_err, field_err, eleven}

@@ -1,4 +1,4 @@
-use Rattle.std.proofs.Common.{◌∙◌, length, Ok, Err, arith}
+use Rattle.std.proofs.Common.{◌∙◌, length, Ok, refl, arith}
 use Rattle.std.specs.List.{flat_map}
 use Rattle.b67_image.proofs.Chunks.{punched_stop, punched_is, item_on, item_stop, items_end}
 use Rattle.b67_image.specs.Spelling.{four_bytes, switch_bytes}
@@ -6,15 +6,15 @@ use Rattle.b67_image.proofs.writing.put_switches.Goals as goal
 
 pub each-preserved : goal.each-preserved
 each-preserved g c = (
-  omega (arith, c.each.invariant.0, c.in-Ok-punch.ensures.cause.later),
-  item_on (switch_bytes) g.K.Sink.taken c.args.sink.now c.each.sink c.punch.new.sink c.args.hand.now c.each.hand c.punch.new.self (four_bytes (length c.args.switches.now)) c.args.switches.now _ c.each.switch-index c.each-test.true c.each.invariant.1 (punched_is g.K.Sink.taken c.each.sink c.punch.new.sink c.each.hand c.punch.new.self (Ok tt) _ _ (c.as_slice.ensures ∙ c.switch_item.ensures) c.in-Ok-punch.ensures.row),
+  omega (arith, c.each.invariant.0, c.in_ok-punch.ensures.cause.later),
+  item_on (switch_bytes) g.K.Sink.taken c.args.sink.now c.each.sink c.punch.new.sink c.args.hand.now c.each.hand c.punch.new.self (four_bytes (length c.args.switches.now)) c.args.switches.now _ c.each.switch-index c.each-test.true c.each.invariant.1 (punched_is g.K.Sink.taken c.each.sink c.punch.new.sink c.each.hand c.punch.new.self (Ok tt) _ _ (c.as_slice.ensures ∙ c.switch_item.ensures) c.in_ok-punch.ensures.row),
 )
 
-pub returns-in-Err-punch-clause-row : goal.returns-in-Err-punch-clause-row
-returns-in-Err-punch-clause-row g c = item_stop (switch_bytes) g.K.Sink.taken c.args.sink.now c.each.sink c.punch.new.sink c.args.hand.now c.each.hand c.punch.new.self (four_bytes (length c.args.switches.now)) c.args.switches.now _ c.each.switch-index c.in-Err-punch.failed c.each-test.true c.each.invariant.1 (punched_is g.K.Sink.taken c.each.sink c.punch.new.sink c.each.hand c.punch.new.self (Err c.in-Err-punch.failed) _ _ (c.as_slice.ensures ∙ c.switch_item.ensures) c.in-Err-punch.ensures.row)
+pub returns-in_err-punch-clause-row : goal.returns-in_err-punch-clause-row
+returns-in_err-punch-clause-row g c = item_stop (switch_bytes) g.K.Sink.taken c.args.sink.now c.each.sink c.punch.new.sink c.args.hand.now c.each.hand c.punch.new.self (four_bytes (length c.args.switches.now)) c.args.switches.now _ c.each.switch-index c.from_residual-in_err-punch.result _ c.from_residual-in_err-punch.ensures.0 (c.as_slice.ensures ∙ c.switch_item.ensures) c.each-test.true c.each.invariant.1 c.in_err-punch.ensures.row
 
-pub returns-in-Err-clause-row : goal.returns-in-Err-clause-row
-returns-in-Err-clause-row g c = punched_stop g.K.Sink.taken c.args.sink.now c.put_count.new.sink c.args.hand.now c.put_count.new.hand c.in-Err.failed (four_bytes (length c.args.switches.now)) (flat_map (switch_bytes) c.args.switches.now) c.in-Err.ensures.row
+pub returns-in_err-put_count-clause-row : goal.returns-in_err-put_count-clause-row
+returns-in_err-put_count-clause-row g c = punched_stop g.K.Sink.taken c.args.sink.now c.put_count.new.sink c.args.hand.now c.put_count.new.hand c.from_residual.result (four_bytes (length c.args.switches.now)) _ (flat_map (switch_bytes) c.args.switches.now) c.from_residual.ensures.0 refl c.in_err-put_count.ensures.row
 
 pub returns-clause-row : goal.returns-clause-row
 returns-clause-row g c = items_end (switch_bytes) g.K.Sink.taken c.args.sink.now c.each.sink c.args.hand.now c.each.hand (four_bytes (length c.args.switches.now)) c.args.switches.now c.each.switch-index c.each-test.false c.each.invariant.1
