@@ -19,11 +19,20 @@ use Rattle.b67_job.specs.Texts.{PrintsAndAnswers, all_taken, cut_short, only}
 use Rattle.std.specs.Prelude.{is_some}
 use Rattle.b67_task_tables.specs.declared.tables.Machine.{Machine}
 use Rattle.b67_program.specs.Input.{IsTakenIn}
+use Rattle.b67_program.specs.Opening.{Finds}
 use Rattle.b67_program.specs.Served.{IsCarriedOut, IsAnswered, carried_out, reading_failed, text_wants_memory, IsServed, over_file, over_memory, sectors_want_memory}
 use Rattle.b67_promises.specs.Paging.{AsksForRun}
 use Rattle.b67_promises.proofs.Calls.{Prints_so, call_prints, short_call, short_at, lone}
 use Rattle.b67_promises.proofs.OneLines.{usage_is_one, reading_is_one, memory_is_one}
 use Rattle.b67_promises.proofs.Words.{asks_run, run_words}
+
+-- a file tells its sectors if it is told what its path's file holds
+pub found_tells : {R B : Type 0} (kept : R → List ℕ → Option (List (List ℕ))) (holds : B → Option (List (List ℕ))) (now : R) → ((path : List ℕ) → kept now path ≢ None) → (path : List ℕ) (file : B) → Finds kept holds now path file → holds file ≢ None
+found_tells kept holds now known path file f none = by_kept (kept now path) refl
+  where
+    by_kept : (o : Option (List (List ℕ))) → kept now path ≡ o → ⊥
+    by_kept None e = known path e
+    by_kept (Some all) e = none-some all (sym none ∙ f.told all e)
 
 answers_so : {K : Type 0} (taken : K → Option (List ℕ)) (faults : K → ℕ) (old new : K) (status : ℕ) (text : List ℕ) (answer : ℕ) → EndsPrinting taken faults old new status text answer → PrintsAndAnswers taken faults old new status (only text) answer
 answers_so taken faults old new status text answer (all_printed a took) = all_taken a took
@@ -48,7 +57,7 @@ module _ {S K : Type 0} (words : List (Bor (List ℕ))) (w : AsksForRun words) (
   usage left' faults' deck deck' d machine none (goes_on g) = absurd (none-some commands.Resume (sym none ∙ g.of.is))
 
   -- a run: all bytes were read
-  all_read : (read : List ℕ) → IsTakenIn (Some limit) left source_faults input input' (Ok read) → bytes ≡ read
+  pub all_read : (read : List ℕ) → IsTakenIn (Some limit) left source_faults input input' (Ok read) → bytes ≡ read
   all_read read t =
       let g = t.gave.told bytes told in
       let size : length bytes ≡ length read + length g.0 = ap length g.1 ∙ length-append read g.0 in
@@ -73,8 +82,8 @@ module _ {S K : Type 0} (words : List (Bor (List ℕ))) (w : AsksForRun words) (
   by_answer d tells (text_wants_memory reads kept ends) =
       short_call taken faults old new (judgement bytes) None 9 (only memory_text) answer (short_at 9 9 refl (inl (omega arith))) (λ r. lone r (only memory_text) memory_text memory_is_one refl) (answers_so taken faults old new 9 memory_text answer ends)
 
-  pub serve_prints : {B : Type 0} (holds : B → Option (List (List ℕ))) (size broken : B → ℕ) (finds leaves : List ℕ → B → Type 0) → ((file : B) → holds file ≢ None) → IsServed words left source_faults input input' finds leaves (device_of holds size broken) taken faults old new answer → So
-  serve_prints holds size broken finds leaves tells (over_file path file file' is found left_so a) = by_answer (device_of holds size broken file file') (tells file) a
+  pub serve_prints : {B : Type 0} (holds : B → Option (List (List ℕ))) (size broken : B → ℕ) (finds leaves : List ℕ → B → Type 0) → ((path : List ℕ) (file : B) → finds path file → holds file ≢ None) → IsServed words left source_faults input input' finds leaves (device_of holds size broken) taken faults old new answer → So
+  serve_prints holds size broken finds leaves tells (over_file path file file' is found left_so a) = by_answer (device_of holds size broken file file') (tells path file found) a
   serve_prints holds size broken finds leaves tells (over_memory held held' none zeros reads writes calm a) =
       by_answer (device_of memory_told (λ b. length (memory_sectors b)) memory_faults held held') (λ e. none-some (memory_sectors held) (sym e)) a
   serve_prints holds size broken finds leaves tells (sectors_want_memory none ends) =
