@@ -20,6 +20,7 @@ pub states_in_order : (d : Deck) (fs : List Codefile) (n : ℕ) → DeckInRange 
 states_in_order d fs n range loaded = record {
   ordered = λ j low. runs_stay_in_order j d.stack d.quantum (map switch_of d.switches) (openings_of d.jobs (map program_of fs)) (deck_within d fs range loaded);
   made = λ j low m t f. runs_make_their_words j d.stack d.quantum (map switch_of d.switches) (openings_of d.jobs (map program_of fs)) m t f;
+  each = λ j less m t f. sessions_keep_or_make_their_words 1 (after j (session_of d (map program_of fs))) m t f;
 }
 
 -- steps keep a session in order but for its places
@@ -45,6 +46,7 @@ states_follow steps first o = record {
   in_order = λ j low. stays_ordered j first o;
   places = λ ordered admitted j low. stays_placed j first ordered admitted;
   made = λ j low m t f. sessions_keep_or_make_their_words j first m t f;
+  each = λ j less m t f. sessions_keep_or_make_their_words 1 (after j first) m t f;
 }
 
 -- and each job has run apart
