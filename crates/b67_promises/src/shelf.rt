@@ -1,0 +1,132 @@
+//! One file of 64 sectors in memory, whatever the path: devices of which it is told what their files hold. The premises of the theorems
+//! on the program's call are met here, over a tape and a paper in memory.
+
+ghost use Rattle.std.specs.Prelude.{◌≡◌, ◌≤◌, ℕ, List, Some, None, length};
+ghost use Rattle.std.specs.Process.{exit_status};
+ghost use Rattle.b67_io.specs.Told.{Took};
+ghost use Rattle.b67_io.specs.Free.{free_left};
+ghost use Rattle.b67_io.specs.Paper.{paper_told};
+ghost use Rattle.b67_model_text.specs.Deck.{limit};
+ghost use Rattle.b67_promises.specs.Paging.{AsksForRun, SameLines};
+ghost use Rattle.b67_promises.specs.Described.{IsRunCommand, IsAnsweredSo};
+
+use crate::described::serve_described;
+use crate::paging::serve_twice;
+use b67_backing::Backing;
+use b67_io::{FreeTape, Paper};
+use b67_program::Devices;
+use b67_word::Failed;
+use std::alloc::Global;
+use std::process::ExitCode;
+
+/// The sectors of the file, while they are used.
+#[derive(Drop)]
+pub struct ShelfFile {
+    held: [[u64; 30]; 64],
+    calls: u64,
+    ghost long: { length held ≡ 64 },
+}
+
+impl Backing for ShelfFile {
+    ghost holds = { λ f. Some f.held };
+
+    ghost size = { λ _. 64 };
+
+    ghost faults = { λ _. 0 };
+
+    ghost calls = { λ f. f.calls };
+
+    fn sectors(&self) -> u32 {
+        64
+    }
+
+    fn read(&mut self, n: u32, into: &mut [u64; 30]) -> Result<(), Failed> {
+        self.calls = self.calls.saturating_add(1);
+        *into = self.held[n as usize - 1];
+        Ok(())
+    }
+
+    fn write(&mut self, n: u32, from: &[u64; 30]) -> Result<(), Failed> {
+        self.calls = self.calls.saturating_add(1);
+        self.held[n as usize - 1] = *from;
+        Ok(())
+    }
+}
+
+/// The file of every path.
+#[derive(Drop)]
+pub struct Shelf {
+    held: [[u64; 30]; 64],
+    ghost long: { length held ≡ 64 },
+}
+
+impl Shelf {
+    /// A file of zeros.
+    pub fn new() -> Self {
+        Shelf {
+            held: [[0; 30]; 64],
+        }
+    }
+}
+
+impl Devices for Shelf {
+    type File = ShelfFile;
+
+    ghost opened = { λ _. None };
+
+    ghost kept = { λ d _. Some d.held };
+
+    fn open(&mut self, _path: &str) -> ShelfFile {
+        ShelfFile {
+            held: self.held,
+            calls: 0,
+        }
+    }
+
+    fn close(&mut self, _path: &str, file: ShelfFile) {
+        let held = file.held;
+        self.held = held;
+    }
+}
+
+/// Serves a deck on a shelf. With no premise on a device left: what is printed, and the status, are what the model's machine gives.
+pub fn serve_on_shelf(
+    alloc: Global,
+    words: &[&str],
+    shelf: &mut Shelf,
+    input: &mut FreeTape,
+    printer: &mut Paper,
+) -> ExitCode
+    ensures { (core : ℕ) → IsRunCommand core words.now → length (free_left input.old) ≤ limit
+        → (text : List ℕ) × Took paper_told printer.old printer.new text × IsAnsweredSo None core 64 (free_left input.old) (exit_status result) text }
+{
+    serve_described(alloc, words, shelf, input, printer)
+}
+
+/// Serves one deck on two shelves. With no premise on a device left: core and sectors change no line.
+pub fn serve_on_shelves(
+    alloc: Global,
+    words: &[&str],
+    shelf: &mut Shelf,
+    input: &mut FreeTape,
+    printer: &mut Paper,
+    other_words: &[&str],
+    other_shelf: &mut Shelf,
+    other_input: &mut FreeTape,
+    other_printer: &mut Paper,
+) -> (ExitCode, ExitCode)
+    ensures { AsksForRun words.now → AsksForRun other_words.now → free_left other_input.old ≡ free_left input.old → length (free_left input.old) ≤ limit
+        → SameLines paper_told printer.old printer.new (exit_status result.0) paper_told other_printer.old other_printer.new (exit_status result.1) }
+{
+    serve_twice(
+        alloc,
+        words,
+        shelf,
+        input,
+        printer,
+        other_words,
+        other_shelf,
+        other_input,
+        other_printer,
+    )
+}
