@@ -18,6 +18,7 @@ use Rattle.b67_stack.specs.Common.{Location, LieUpward, PagedObject, MachineView
 use Rattle.b67_layout.specs.Common.{Placement, array_object, code_objects}
 use Rattle.b67_layout_shown.specs.Reading.{word_seen_at, is_set, desc_in}
 use Rattle.b67_layout_shown.specs.Shown.{numbers_seen, contents_by, numbers_read, segments_from, row_cells, segment_cells}
+use Rattle.b67_layout_shown.specs.ButNames.{code_lengths}
 use Rattle.b67_layout_shown.proofs.Bits.{desc_read, seg_read}
 use Rattle.b67_layout_shown.proofs.Stacks.{word_is}
 use Rattle.b67_layout_shown.proofs.Upward.{up_rows, up_segments, rows_turned, segments_turned}
@@ -75,6 +76,7 @@ pub record IsRead (old new : List ℕ) : Type 0 where
 -- segments
 pub record AreShown (ss shown : List Segment) : Type 0 where
   pub long : length shown ≡ length ss
+  pub lengths : code_lengths shown ≡ code_lengths ss
   pub order : AllByRecursion SegmentInOrder shown
 
 module _ (x : Storage) (core : List Tagged) (r : Regs) (p : MachineView) (stands : Represents x core r p) where
@@ -116,7 +118,7 @@ module _ (x : Storage) (core : List Tagged) (r : Regs) (p : MachineView) (stands
 
   pub segments_read : (plan : Placement) (j n : ℕ) (ss : List Segment) → ((t : PagedObject) → Has (code_objects plan j n ss) t → Has p.objects t) → AllByRecursion SegmentInOrder ss
       → (at : ℕ) → at ≡ plan.dictionary j + 1 + n → AreShown ss (segments_from core at (length ss))
-  segments_read plan j n [] inside all at e = record { long = refl; order = tt }
+  segments_read plan j n [] inside all at e = record { long = refl; lengths = refl; order = tt }
   segments_read plan j n (s ∷ more) inside all at e =
       let t : PagedObject = record { home = plan.dictionary j + 1 + n; kind = kind.Code; numbers = s.code } in
       let there = inside t (inl refl) in
@@ -136,6 +138,7 @@ module _ (x : Storage) (core : List Tagged) (r : Regs) (p : MachineView) (stands
       let rest = segments_read plan j (n + 1) more (λ u k. inside u (inr k)) all.1 (at + 1) (omega (arith, e)) in
       record {
         long = ap suc rest.long;
+        lengths = ap (λ q. q ∷ code_lengths (segments_from core (at + 1) (length more))) (ap (λ (ns : List ℕ). length ns) code ∙ c.long) ∙ ap (λ (qs : List ℕ). length s.code ∷ qs) rest.lengths;
         order = (
           subst (λ (ns : List ℕ). SegmentInOrder (record { level = 0; entries = []; code = ns })) (sym code)
               (record { length_low = omega (arith, long, low); length_high = omega (arith, long, high); words = c.bits own.words }),

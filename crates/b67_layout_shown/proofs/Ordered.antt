@@ -19,7 +19,7 @@ use Rattle.b67_layout_shown.proofs.Contents.{dictionary_is, AreShown, segments_r
 use Rattle.b67_layout_shown.proofs.Placing.{job_order}
 use Rattle.b67_layout_shown.proofs.Whole.{job_is}
 
-same_frame : (f : Frame) (i : ℕ) (st : Standing) (ws : List Word) → i ≡ f.identity → st ≡ f.standing → ws ≡ f.cells → record { identity = i; standing = st; cells = ws } ≡ f
+pub same_frame : (f : Frame) (i : ℕ) (st : Standing) (ws : List Word) → i ≡ f.identity → st ≡ f.standing → ws ≡ f.cells → record { identity = i; standing = st; cells = ws } ≡ f
 same_frame f i st ws ei es ew = rw (ei, es, ew) refl
 
 -- a dictionary's words go by the number of its segments
