@@ -1,5 +1,5 @@
 -- What a call answers behind which a far operator stands, by the step there.
-use Rattle.std.proofs.Common.{◌≡◌, ◌≢◌, ◌+◌, List, Bool, true, false, ap, subst, arith}
+use Rattle.std.proofs.Common.{◌≡◌, ◌≢◌, ◌+◌, List, Bool, true, false, ap, sym, subst, arith}
 use Rattle.std.specs.Prelude.{slice_get}
 use Rattle.b67_word.specs.Tagged.{Tagged}
 use Rattle.b67_word.specs.declared.couples.Place.{Place}
@@ -8,47 +8,98 @@ use Rattle.b67_model.specs.Common.{row, called}
 use Rattle.b67_stack.specs.declared.Cpu.{Cpu}
 use Rattle.b67_stack.specs.declared.Step.{Step}
 use Rattle.b67_stack.specs.declared.Step.TheVariants.{Done}
-use Rattle.b67_layout.specs.Common.{RunsSome, ForEach, here}
+use Rattle.b67_layout.specs.Common.{RunsSome, here}
 use Rattle.b67_exec_cells.specs.Tops.{StaysInSegment}
-use Rattle.b67_entry.specs.Procedures.{CallsOrMeets}
 use Rattle.b67_exec.specs.Operators.{CutsRecord}
 use Rattle.b67_exec.specs.Near.{SaysDone}
-use Rattle.b67_exec.specs.Far.{MadeOn, MadeAway, MadeWent, MadeLeaving, SaysOn, SaysAway}
+use Rattle.b67_exec.specs.Far.{Answers, RowMade, Refused, MadeOn, MadeAway, MadeWent, MadeLeaving, SaysOn, SaysAway, SaysMade, ShortlyOn, ShortlyAway, OnShortly, AwayShortly, WentShortly, LeavesShortly}
 use Rattle.b67_exec.specs.declared.far.Went.{Went}
 use Rattle.b67_exec.specs.declared.far.Went.TheVariants as wents
 use Rattle.b67_exec.proofs.Nears.{unmade}
 
--- what a step answers is the operator's row
-abbrev pub Answers : Op → Place → Cpu → Cpu → Step → Type 0
-Answers op next old new step = ForEach old (λ x plan s m t. CallsOrMeets x plan s m step old new (called op (here m t next)) (row op (here m t next)))
-
 module _ (op : Op) (next : Place) (old new : Cpu) (r : RunsSome old) where
-  same : (step : Step) → step ≢ Done → Answers op next old new step → new ≡ old
+  pub same : (step : Step) → step ≢ Done → Answers op next old new step → new ≡ old
   same step other each =
       let h = here r.member r.task next in
       unmade r.storage r.plan r.session r.member step old new (called op h) (row op h) other (each r.storage r.plan r.session r.member r.task r.ordered r.stands r.running)
 
-  pub on_by : (step : Step) (made : Bool) → SaysDone step made → Answers op next old new step → (step ≡ Done → StaysInSegment old new next) → MadeOn op next old made new
-  on_by step true done each stays = (subst (Answers op next old new) done each, stays done)
-  on_by step false other each stays = same step other each
+  -- another answer is the reason
+  pub refused : (step why : Step) → why ≡ step → step ≢ Done → Answers op next old new step → Refused op next old new why
+  refused step why is other each = record {
+    same = same step other each;
+    other = subst (λ (z : Step). z ≢ Done) (sym is) other;
+    row = subst (Answers op next old new) (sym is) each;
+  }
 
-  pub away_by : (step : Step) (made : Bool) → SaysDone step made → Answers op next old new step → MadeAway op next old made new
-  away_by step true done each = subst (Answers op next old new) done each
-  away_by step false other each = same step other each
+  pub on_by : (step : Step) (made : Bool) (why : Step) → SaysDone step made why → Answers op next old new step → (step ≡ Done → StaysInSegment old new next) → MadeOn op next old made new why
+  on_by step true why done each stays = (subst (Answers op next old new) done each, stays done)
+  on_by step false why says each stays = refused step why says.0 says.1 each
 
-  pub stayed_by : (step : Step) (went : Went) → SaysOn step went → Answers op next old new step → (step ≡ Done → StaysInSegment old new next) → MadeWent op next old went new
-  stayed_by step wents.On done each stays = (subst (Answers op next old new) done each, stays done)
-  stayed_by step wents.Away says each stays = absurd says
-  stayed_by step wents.Not other each stays = same step other each
+  pub away_by : (step : Step) (made : Bool) (why : Step) → SaysDone step made why → Answers op next old new step → MadeAway op next old made new why
+  away_by step true why done each = subst (Answers op next old new) done each
+  away_by step false why says each = refused step why says.0 says.1 each
 
-  pub entered_by : (step : Step) (went : Went) → SaysAway step went → Answers op next old new step → MadeWent op next old went new
-  entered_by step wents.On says each = absurd says
-  entered_by step wents.Away done each = subst (Answers op next old new) done each
-  entered_by step wents.Not other each = same step other each
+  pub stayed_by : (step : Step) (went : Went) (why : Step) → SaysOn step went why → Answers op next old new step → (step ≡ Done → StaysInSegment old new next) → MadeWent op next old went new why
+  stayed_by step wents.On why done each stays = (subst (Answers op next old new) done each, stays done)
+  stayed_by step wents.Away why says each stays = absurd says
+  stayed_by step wents.Not why says each stays = refused step why says.0 says.1 each
 
-pub leaving_by : (op : Op) (old new : Cpu) → RunsSome old → (step : Step) (made : Bool) → SaysDone step made → ((next : Place) → Answers op next old new step) → (step ≡ Done → CutsRecord old new) → MadeLeaving op old made new
-leaving_by op old new r step true done each cuts = (λ next. subst (Answers op next old new) done (each next), cuts done)
-leaving_by op old new r step false other each cuts = same op r.task.place old new r step other (each r.task.place)
+  pub entered_by : (step : Step) (went : Went) (why : Step) → SaysAway step went why → Answers op next old new step → MadeWent op next old went new why
+  entered_by step wents.On why says each = absurd says
+  entered_by step wents.Away why done each = subst (Answers op next old new) done each
+  entered_by step wents.Not why says each = refused step why says.0 says.1 each
+
+  -- short ways
+  pub on_shortly : (step : Step) (made : Bool) → SaysMade step made → Answers op next old new step → (step ≡ Done → StaysInSegment old new next) → OnShortly op next old made new
+  on_shortly step true done each stays = (subst (Answers op next old new) done each, stays done)
+  on_shortly step false other each stays = same step other each
+
+  pub away_shortly : (step : Step) (made : Bool) → SaysMade step made → Answers op next old new step → AwayShortly op next old made new
+  away_shortly step true done each = subst (Answers op next old new) done each
+  away_shortly step false other each = same step other each
+
+  pub stayed_shortly : (step : Step) (went : Went) → ShortlyOn step went → Answers op next old new step → (step ≡ Done → StaysInSegment old new next) → WentShortly op next old went new
+  stayed_shortly step wents.On done each stays = (subst (Answers op next old new) done each, stays done)
+  stayed_shortly step wents.Away says each stays = absurd says
+  stayed_shortly step wents.Not other each stays = same step other each
+
+  pub entered_shortly : (step : Step) (went : Went) → ShortlyAway step went → Answers op next old new step → WentShortly op next old went new
+  entered_shortly step wents.On says each = absurd says
+  entered_shortly step wents.Away done each = subst (Answers op next old new) done each
+  entered_shortly step wents.Not other each = same step other each
+
+pub leaving_by : (op : Op) (old new : Cpu) → RunsSome old → (step : Step) (made : Bool) (why : Step) → SaysDone step made why → ((next : Place) → Answers op next old new step) → (step ≡ Done → CutsRecord old new) → MadeLeaving op old made new why
+leaving_by op old new r step true why done each cuts = (λ next. subst (Answers op next old new) done (each next), cuts done)
+leaving_by op old new r step false why says each cuts = λ next. refused op next old new r step why says.0 says.1 (each next)
+
+pub leaving_shortly : (op : Op) (old new : Cpu) → RunsSome old → (step : Step) (made : Bool) → SaysMade step made → ((next : Place) → Answers op next old new step) → (step ≡ Done → CutsRecord old new) → LeavesShortly op old made new
+leaving_shortly op old new r step true done each cuts = (λ next. subst (Answers op next old new) done (each next), cuts done)
+leaving_shortly op old new r step false other each cuts = same op r.task.place old new r step other (each r.task.place)
+
+-- a short way that isn't one
+pub on_rest : (op : Op) (next : Place) (old new : Cpu) (made : Bool) → made ≡ false → OnShortly op next old made new → new ≡ old
+on_rest op next old new true is m = absurd (let z : ⊥ = cc in z)
+on_rest op next old new false is m = m
+
+pub on_short : (op : Op) (next : Place) (old new : Cpu) (made : Bool) → made ≡ true → OnShortly op next old made new → RowMade op next old new × StaysInSegment old new next
+on_short op next old new true is m = m
+on_short op next old new false is m = absurd (let z : ⊥ = cc in z)
+
+pub away_rest : (op : Op) (next : Place) (old new : Cpu) (made : Bool) → made ≡ false → AwayShortly op next old made new → new ≡ old
+away_rest op next old new true is m = absurd (let z : ⊥ = cc in z)
+away_rest op next old new false is m = m
+
+pub away_short : (op : Op) (next : Place) (old new : Cpu) (made : Bool) → made ≡ true → AwayShortly op next old made new → RowMade op next old new
+away_short op next old new true is m = m
+away_short op next old new false is m = absurd (let z : ⊥ = cc in z)
+
+pub leaving_rest : (op : Op) (old new : Cpu) (made : Bool) → made ≡ false → LeavesShortly op old made new → new ≡ old
+leaving_rest op old new true is m = absurd (let z : ⊥ = cc in z)
+leaving_rest op old new false is m = m
+
+pub leaving_short : (op : Op) (old new : Cpu) (made : Bool) → made ≡ true → LeavesShortly op old made new → ((next : Place) → RowMade op next old new) × CutsRecord old new
+leaving_short op old new true is m = m
+leaving_short op old new false is m = absurd (let z : ⊥ = cc in z)
 
 -- EXIT leaves core as it was
 pub exit_cuts : (old new : Cpu) → new.core ≡ old.core → new.regs.s + 1 ≡ old.regs.f → CutsRecord old new

@@ -11,7 +11,8 @@ pub mod Readers
 pub mod NearTable
 pub mod Through
 pub mod Fars
-pub mod Unknown
+pub mod Wholes
+mod Stopping
 pub mod Mades
 pub mod Calls
 pub mod Valcs

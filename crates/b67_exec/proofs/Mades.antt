@@ -8,7 +8,10 @@ use Rattle.b67_model.specs.declared.operators.Code.{Code}
 use Rattle.b67_model.specs.declared.operators.Code.TheVariants as codes
 use Rattle.b67_model.specs.Common.{Alone, form_of}
 use Rattle.b67_stack.specs.declared.Cpu.{Cpu}
+use Rattle.b67_stack.specs.declared.Step.{Step}
 use Rattle.b67_stack.specs.declared.Step.TheVariants as answers
+use Rattle.b67_word.specs.declared.faults.Fault.TheVariants.{InvalidOperator}
+use Rattle.b67_exec_cells.specs.Tops.{StaysInSegment}
 use Rattle.b67_layout.specs.Common.{RunsSome}
 use Rattle.b67_layout.proofs.Fresh.{running_in_order}
 use Rattle.b67_exec_cells.proofs.Codes.{present}
@@ -20,10 +23,10 @@ use Rattle.b67_exec.specs.declared.far.Went.{Went}
 use Rattle.b67_exec.specs.declared.far.Went.TheVariants as wents
 use Rattle.b67_exec.specs.declared.near.Made.{Made}
 use Rattle.b67_exec.specs.declared.near.Made.TheVariants as outcome
-use Rattle.b67_exec.specs.Near.{ReaderBehind, reader_place, NearMade, MadeNear, FarMade, Makes, outcome_of}
-use Rattle.b67_exec.specs.Far.{MadeOn, MadeAway, MadeWent, MadeLeaving, LeavesBy, LeadsTo}
+use Rattle.b67_exec.specs.Near.{HoldsCode, ReaderBehind, reader_place, NearMade, MadeNear, FarMade, Makes, Stops, outcome_of}
+use Rattle.b67_exec.specs.Far.{RowMade, Refused, MadeOn, MadeAway, MadeWent, MadeLeaving, LeavesBy, LeadsTo}
 use Rattle.b67_exec.proofs.Readings.{read_fits, operator_read}
-use Rattle.b67_exec.proofs.Through.{ReadsThrough, far_made, far_on, lone_to, one_on}
+use Rattle.b67_exec.proofs.Through.{ReadsThrough, ReadsNone, far_made, far_on, lone_to, one_on, refused_stops, unread_stops}
 
 -- ---- those that leave no activation record
 
@@ -51,45 +54,52 @@ place_behind cpu op next q r read at =
 
 module _ (old new : Cpu) (before next : Reader) (op : Op) (q : Place) (r : RunsSome old) (b : ReaderBehind old before 0) (read : ReadsThrough old op next) (at : q ≡ reader_place next) (stays : is_leaving op ≡ false) where
   -- it goes on behind itself
-  pub on_made : (made : Bool) → made ≡ true → MadeOn op q old made new → NearMade old new next
-  on_made true is m = far_on old new before next op q b.code read at m.0 stays r m.1
-  on_made false is m = absurd (let z : ⊥ = cc in z)
+  pub on_made : (made : Bool) (why : Step) → made ≡ true → MadeOn op q old made new why → NearMade old new next
+  on_made true why is m = far_on old new before next op q b.code read at m.0 stays r m.1
+  on_made false why is m = absurd (let z : ⊥ = cc in z)
 
   -- or elsewhere
-  pub away_made : (made : Bool) → made ≡ true → MadeAway op q old made new → FarMade old new
-  away_made true is m = far_made old new before next op q b.code read at m stays
-  away_made false is m = absurd (let z : ⊥ = cc in z)
+  pub away_made : (made : Bool) (why : Step) → made ≡ true → MadeAway op q old made new why → FarMade old new
+  away_made true why is m = far_made old new before next op q b.code read at m stays
+  away_made false why is m = absurd (let z : ⊥ = cc in z)
+
+  -- by a short way
+  pub short_made : RowMade op q old new × StaysInSegment old new q → NearMade old new next
+  short_made m = far_on old new before next op q b.code read at m.0 stays r m.1
+
+  -- it was refused
+  pub refusing : (why : Step) → Refused op q old new why → Stops old why
+  refusing why m = refused_stops old new before.code op (reader_place next) why b.code read.reads (subst (λ (z : Place). Refused op z old new why) at m)
+
+  pub on_refused : (made : Bool) (why : Step) → made ≡ false → MadeOn op q old made new why → (new ≡ old) × Stops old why
+  on_refused true why is m = absurd (let z : ⊥ = cc in z)
+  on_refused false why is m = (m.same, refusing why m)
+
+  pub away_refused : (made : Bool) (why : Step) → made ≡ false → MadeAway op q old made new why → (new ≡ old) × Stops old why
+  away_refused true why is m = absurd (let z : ⊥ = cc in z)
+  away_refused false why is m = (m.same, refusing why m)
 
   -- either
-  pub went_made : (went : Went) (made : Made) (after : Reader) → MadeWent op q old went new → LeadsTo went before next made after → Makes old before made new after
-  went_made wents.On made after m g =
-      subst (λ (z : Made). Makes old before z new after) (sym g.0) (subst (λ (z : Reader). NearMade old new z) (sym g.1) (far_on old new before next op q b.code read at m.0 stays r m.1))
-  went_made wents.Away made after m g = subst (λ (z : Made). Makes old before z new after) (sym g) (far_made old new before next op q b.code read at m stays)
-  went_made wents.Not made after m g = subst (λ (z : Made). Makes old before z new after) (sym g.0) (m, g.1)
-
--- it wasn't made
-pub on_rest : (op : Op) (q : Place) (old new : Cpu) (made : Bool) → made ≡ false → MadeOn op q old made new → new ≡ old
-on_rest op q old new true is m = absurd (let z : ⊥ = cc in z)
-on_rest op q old new false is m = m
-
-pub away_rest : (op : Op) (q : Place) (old new : Cpu) (made : Bool) → made ≡ false → MadeAway op q old made new → new ≡ old
-away_rest op q old new true is m = absurd (let z : ⊥ = cc in z)
-away_rest op q old new false is m = m
+  pub went_made : (went : Went) (made : Made) (after : Reader) (why : Step) → MadeWent op q old went new why → LeadsTo went before next made after → Makes old before made new after why
+  went_made wents.On made after why m g =
+      subst (λ (z : Made). Makes old before z new after why) (sym g.0) (subst (λ (z : Reader). NearMade old new z) (sym g.1) (far_on old new before next op q b.code read at m.0 stays r m.1))
+  went_made wents.Away made after why m g = subst (λ (z : Made). Makes old before z new after why) (sym g) (far_made old new before next op q b.code read at m stays)
+  went_made wents.Not made after why m g = subst (λ (z : Made). Makes old before z new after why) (sym g.0) (m.same, g.1, refusing why m)
 
 -- it leaves an activation record, whose words go up to the top of the stack
-pub leaving_made : (op : Op) (old new : Cpu) (made : Bool) → made ≡ true → MadeLeaving op old made new → LeavesBy op old (outcome.Left (old.regs.s + 1)) new
-leaving_made op old new true is m = (m.0, m.1, refl)
-leaving_made op old new false is m = absurd (let z : ⊥ = cc in z)
+pub leaving_made : (op : Op) (old new : Cpu) (made : Bool) (why : Step) → made ≡ true → MadeLeaving op old made new why → LeavesBy op old (outcome.Left (old.regs.s + 1)) new why
+leaving_made op old new true why is m = (m.0, m.1, refl)
+leaving_made op old new false why is m = absurd (let z : ⊥ = cc in z)
 
-pub leaving_rest : (op : Op) (old new : Cpu) (made : Bool) → made ≡ false → MadeLeaving op old made new → new ≡ old
-leaving_rest op old new true is m = absurd (let z : ⊥ = cc in z)
-leaving_rest op old new false is m = m
+pub leaving_refused : (op : Op) (old new : Cpu) (made : Bool) (why : Step) → made ≡ false → MadeLeaving op old made new why → LeavesBy op old outcome.Not new why
+leaving_refused op old new true why is m = absurd (let z : ⊥ = cc in z)
+leaving_refused op old new false why is m = m
 
 pub top_fits : (old : Cpu) → RunsSome old → old.regs.s + 1 < 2 ^ 20
 top_fits old r = let g = room r.storage old r.plan r.session r.member r.task r.ordered r.stands r.running in omega (arith, g.last, g.under, g.inside, g.bound)
 
-pub left_made : (old new : Cpu) (before : Reader) (code : Code) (made : Made) → ReaderBehind old before 0 → form_of (before.bits / 2 ^ 56) ≡ Some (Alone code) → is_leaving (Plain code) ≡ true → LeavesBy (Plain code) old made new → Makes old before made new before
-left_made old new before code (outcome.Left upto) b begins leaving m =
+pub left_made : (old new : Cpu) (before : Reader) (code : Code) (made : Made) → ReaderBehind old before 0 → form_of (before.bits / 2 ^ 56) ≡ Some (Alone code) → is_leaving (Plain code) ≡ true → (why : Step) → LeavesBy (Plain code) old made new why → Makes old before made new before why
+left_made old new before code (outcome.Left upto) b begins leaving why m =
     let read = lone_to old before b code begins in
     record {
       row = λ x plan s m2 t ordered h runs.
@@ -99,12 +109,24 @@ left_made old new before code (outcome.Left upto) b begins leaving m =
       cuts = m.1;
       upto = m.2;
     }
-left_made old new before code outcome.On b begins leaving m = absurd m
-left_made old new before code outcome.Away b begins leaving m = absurd m
-left_made old new before code outcome.Not b begins leaving m = (m, refl)
+left_made old new before code outcome.On b begins leaving why m = absurd m
+left_made old new before code outcome.Away b begins leaving why m = absurd m
+left_made old new before code outcome.Not b begins leaving why m =
+    let read = lone_to old before b code begins in
+    let no = m (one_on old) in
+    (no.same, refl, refused_stops old new before.code (Plain code) (one_on old) why b.code read no)
 
 -- ---- as what a reader's operator answers
 
-pub near_outcome : (old new : Cpu) (before after : Reader) (made : Bool) (answer : Made) → answer ≡ outcome_of made → MadeNear old before made new after → Makes old before answer new after
-near_outcome old new before after true answer is m = subst (λ (z : Made). Makes old before z new after) (sym is) m
-near_outcome old new before after false answer is m = subst (λ (z : Made). Makes old before z new after) (sym is) m
+pub near_outcome : (old new : Cpu) (before after : Reader) (made : Bool) (answer : Made) (why : Step) → answer ≡ outcome_of made → MadeNear old before made new after why → Makes old before answer new after why
+near_outcome old new before after true answer why is m = subst (λ (z : Made). Makes old before z new after why) (sym is) m
+near_outcome old new before after false answer why is m = subst (λ (z : Made). Makes old before z new after why) (sym is) m
+
+-- ---- no operator is read
+
+pub none_near : (old : Cpu) (before : Reader) (made : Bool) (why : Step) → made ≡ false → why ≡ answers.Fault InvalidOperator → HoldsCode old before.code → ReadsNone old → MadeNear old before made old before why
+none_near old before true why is fault code none = absurd (let z : ⊥ = cc in z)
+none_near old before false why is fault code none = (refl, refl, subst (λ (z : Step). Stops old z) (sym fault) (unread_stops old before.code code none))
+
+pub none_made : (old : Cpu) (before : Reader) (made : Bool) (answer : Made) (why : Step) → made ≡ false → answer ≡ outcome_of made → why ≡ answers.Fault InvalidOperator → HoldsCode old before.code → ReadsNone old → Makes old before answer old before why
+none_made old before made answer why is says fault code none = near_outcome old old before before made answer why says (none_near old before made why is fault code none)

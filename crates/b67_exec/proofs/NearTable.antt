@@ -8,12 +8,12 @@ use Rattle.b67_model.specs.Operators.{Form, form_of}
 use Rattle.b67_exec.specs.declared.firsts.Near.{Near}
 use Rattle.b67_exec.specs.declared.firsts.Near.TheVariants as nears
 use Rattle.b67_exec.specs.declared.firsts.TheConstants.{NEARS}
-use Rattle.b67_exec.specs.Operators.{is_on_top}
+use Rattle.b67_exec.specs.Operators.{is_on_top, IsWhole}
 use Rattle.b67_exec.specs.Firsts.{near_form}
 
--- a row says the form of its syllable, or nothing
+-- a row says the form of its syllable, or that an operator is read whole there
 abbrev Says : Option Form → ℕ → Type 0
-Says None first = Unit {0}
+Says None first = IsWhole (form_of first)
 Says (Some f) first = form_of first ≡ Some f
 
 abbrev AllSay : ℕ → List Near → Type 0
@@ -21,7 +21,7 @@ AllSay first [] = Unit {0}
 AllSay first (n ∷ ns) = Says (near_form n first) first × AllSay (first + 1) ns
 
 all_say : AllSay 0 NEARS
-all_say = (refl, (refl, (refl, (refl, (refl, (refl, (refl, (refl, (refl, (refl, (refl, (refl, (refl, (refl, (refl, (refl, (refl, (refl, (refl, (refl, (refl, (refl, (refl, (refl, (refl, (refl, (refl, (refl, (refl, (refl, (refl, (refl, (refl, (refl, (refl, (refl, (refl, (refl, (refl, (refl, (refl, (refl, (refl, (refl, (refl, (refl, (refl, (refl, (refl, (refl, (refl, (refl, (refl, (refl, (refl, (refl, (refl, (refl, (refl, (refl, (refl, (refl, (refl, (refl, (refl, (refl, (refl, (refl, (refl, (refl, (refl, (refl, (refl, (refl, (refl, (refl, (refl, (refl, (refl, (refl, (refl, (refl, (refl, (refl, (refl, (refl, (refl, (refl, (refl, (refl, (refl, (refl, (refl, (refl, (refl, (refl, (refl, (refl, (refl, (refl, (refl, (refl, (refl, (refl, (refl, (refl, (refl, (refl, (refl, (refl, (refl, (refl, (refl, (refl, (refl, (refl, (refl, (refl, (refl, (refl, (refl, (refl, (refl, (refl, (refl, (refl, (refl, (refl, (refl, (refl, (refl, (tt, (refl, (refl, (tt, (tt, (refl, (refl, (refl, (refl, (refl, (refl, (refl, (tt, (refl, (refl, (refl, (refl, (refl, (tt, (tt, (tt, (tt, (tt, (tt, (tt, (tt, (tt, (tt, (tt, (refl, (refl, (refl, (refl, (tt, (tt, (refl, (refl, (tt, (tt, (tt, (refl, (tt, (refl, (refl, (refl, (refl, (refl, (refl, (tt, (refl, (refl, (refl, (refl, (refl, (refl, (tt, (tt, (tt, (refl, (tt, (tt, (tt, (tt, (tt, (tt, (tt, (tt, (tt, (tt, (tt, (tt, (tt, (tt, (tt, (tt, (tt, (tt, (tt, (tt, (tt, (tt, (tt, (tt, (tt, (tt, (tt, (tt, (tt, (tt, (tt, (tt, (tt, (tt, (tt, (tt, (tt, (tt, (tt, (tt, (tt, (tt, (tt, (tt, (tt, (tt, (tt, (tt, (tt, (tt, (tt, (tt, (tt, (tt, (tt, (tt, (tt, (tt, (tt, (tt, (tt, (tt, (tt, (tt, (refl, (refl, tt))))))))))))))))))))))))))))))))))))))))))))))))))))))))))))))))))))))))))))))))))))))))))))))))))))))))))))))))))))))))))))))))))))))))))))))))))))))))))))))))))))))))))))))))))))))))))))))))))))))))))))))))))))))))))))))))))))))))))))))))))))))))))))))))
+all_say = (refl, (refl, (refl, (refl, (refl, (refl, (refl, (refl, (refl, (refl, (refl, (refl, (refl, (refl, (refl, (refl, (refl, (refl, (refl, (refl, (refl, (refl, (refl, (refl, (refl, (refl, (refl, (refl, (refl, (refl, (refl, (refl, (refl, (refl, (refl, (refl, (refl, (refl, (refl, (refl, (refl, (refl, (refl, (refl, (refl, (refl, (refl, (refl, (refl, (refl, (refl, (refl, (refl, (refl, (refl, (refl, (refl, (refl, (refl, (refl, (refl, (refl, (refl, (refl, (refl, (refl, (refl, (refl, (refl, (refl, (refl, (refl, (refl, (refl, (refl, (refl, (refl, (refl, (refl, (refl, (refl, (refl, (refl, (refl, (refl, (refl, (refl, (refl, (refl, (refl, (refl, (refl, (refl, (refl, (refl, (refl, (refl, (refl, (refl, (refl, (refl, (refl, (refl, (refl, (refl, (refl, (refl, (refl, (refl, (refl, (refl, (refl, (refl, (refl, (refl, (refl, (refl, (refl, (refl, (refl, (refl, (refl, (refl, (refl, (refl, (refl, (refl, (refl, (refl, (refl, (refl, (tt, (refl, (refl, (tt, (tt, (refl, (refl, (refl, (refl, (refl, (refl, (refl, (tt, (refl, (refl, (refl, (refl, (refl, (tt, ((λ n. refl), (tt, (tt, (tt, ((λ m n. refl), (tt, ((λ m n. refl), (tt, ((λ n. refl), (tt, (refl, (refl, (refl, (refl, (tt, (tt, (refl, (refl, (tt, (tt, (tt, (refl, (tt, (refl, (refl, (refl, (refl, (refl, (refl, (refl, (refl, (refl, (refl, (refl, (refl, (refl, (tt, (tt, (tt, (refl, ((λ n. refl), ((λ n. refl), (tt, (tt, (tt, (tt, (tt, (tt, (tt, (tt, (tt, (tt, (tt, (tt, (tt, (tt, (tt, (tt, (tt, (tt, (tt, (tt, (tt, (tt, (tt, (tt, (tt, (tt, (tt, (tt, (tt, (tt, (tt, (tt, (tt, (tt, (tt, (tt, (tt, (tt, (tt, (tt, (tt, (tt, (tt, (tt, (tt, (tt, (tt, (tt, (tt, (tt, (tt, (tt, (tt, (tt, (tt, (tt, (tt, (tt, (tt, (tt, (tt, (tt, (refl, (refl, tt))))))))))))))))))))))))))))))))))))))))))))))))))))))))))))))))))))))))))))))))))))))))))))))))))))))))))))))))))))))))))))))))))))))))))))))))))))))))))))))))))))))))))))))))))))))))))))))))))))))))))))))))))))))))))))))))))))))))))))))))))))))))))))))))
 
 row_says : (from : ℕ) (ns : List Near) (i : ℕ) (n : Near) → AllSay from ns → slice_get ns i ≡ Some n → (first : ℕ) → first ≡ from + i → Says (near_form n first) first
 row_says from [] i n all e first is = absurd (none-some n e)
@@ -38,6 +38,9 @@ says_form (Some g) first f h e = h ∙ e
 
 pub near_says : (first : ℕ) (n : Near) (f : Form) → slice_get NEARS first ≡ Some n → near_form n first ≡ Some f → form_of first ≡ Some f
 near_says first n f at e = says_form (near_form n first) first f (row_says 0 NEARS first n all_say at first (omega arith)) e
+
+pub other_says : (first : ℕ) (n : Near) → slice_get NEARS first ≡ Some n → n ≡ nears.Other → IsWhole (form_of first)
+other_says first n at is = subst (λ (z : Near). Says (near_form z first) first) is (row_says 0 NEARS first n all_say at first (omega arith))
 
 -- a far row is on the top cells
 abbrev is_far_row : Near → Bool

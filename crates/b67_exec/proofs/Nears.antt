@@ -1,8 +1,7 @@
 -- A near operator: other cells on the running stack, and the same segment, held as it was.
 use Rattle.std.proofs.Common.{◌≡◌, ◌≢◌, ℕ, ◌+◌, ◌-◌, ◌*◌, ◌^◌, ◌≤◌, Bool, true, false, List, [], ◌∷◌, ◌++◌, map, flat_map, length, Option, Some, None, Ok, Err, refl, sym, ◌∙◌, ap, subst, arith}
-use Rattle.std.specs.Prelude.{nat_le, if◌then◌else◌}
+use Rattle.std.specs.Prelude.{nat_le}
 use Rattle.std.specs.List.{slice_get, slice_range}
-use Rattle.std.proofs.lemmas.Bool.{not-true}
 use Rattle.std.proofs.lemmas.List.{length-map}
 use Rattle.std.proofs.lemmas.Option.{same_Some}
 use Rattle.b67_word.specs.Tagged.{Tagged, word, contents}
@@ -17,23 +16,23 @@ use Rattle.b67_lemmas.proofs.Members.{change_found, has_append_right, keyed_has}
 use Rattle.b67_lemmas.proofs.Places.{get_within}
 use Rattle.b67_lemmas.specs.Keyed.{keyed}
 use Rattle.b67_model.specs.declared.operators.Op.{Op}
-use Rattle.b67_model.specs.declared.operators.Op.TheVariants.{Valc, Namc, Lt8, Lt16, Lt48, Mpcw, Brun, Brtr, Brfl, Bset, Brst, Isol, Insr, Plain}
+use Rattle.b67_model.specs.declared.operators.Op.TheVariants.{Namc, Lt8, Lt16, Plain}
 use Rattle.b67_model.specs.declared.operators.Code.{Code}
 use Rattle.b67_model.specs.declared.operators.Code.TheVariants as codes
-use Rattle.b67_model.specs.Common.{Answer, ◌>>=◌, Word, Done, Goes, Line, Task, Job, SessionJob, Session, Segment, operand, with_task, with_top_cells, height, leaves_cells, branch_if, OperatorContext, row, called, code_of, number_of}
+use Rattle.b67_model.specs.Common.{Answer, ◌>>=◌, Word, Done, Goes, Line, Task, Job, SessionJob, Session, Segment, with_task, with_top_cells, height, leaves_cells, OperatorContext, row, called, code_of, number_of}
 use Rattle.b67_stack.specs.declared.Cpu.{Cpu}
 use Rattle.b67_stack.specs.declared.Step.{Step}
 use Rattle.b67_stack.specs.declared.Step.TheVariants as answers
 use Rattle.b67_stack.specs.Common.{PagedObject, Storage, Content}
 use Rattle.b67_stack.proofs.Lies.{upward-range}
-use Rattle.b67_layout.specs.Common.{Placement, IsInOrderButCounts, IsRunning, RepresentsSession, RepresentsSessionBut, RunsSome, ForEach, here, with_job, objects_gone, IsMade, Meets, code_objects, objects_of, array_object, cells}
+use Rattle.b67_layout.specs.Common.{Placement, IsInOrderButCounts, IsRunning, RepresentsSession, RepresentsSessionBut, RunsSome, here, with_job, objects_gone, IsMade, Meets, code_objects, objects_of, array_object}
 use Rattle.b67_layout.proofs.Common.{task_with, running_in_order}
 use Rattle.b67_exec_cells.specs.Running.{code_held, code_desc, GivesSegment}
 use Rattle.b67_exec_cells.proofs.Codes.{code_object, code-read, present, word-is, desc-fits}
 use Rattle.b67_exec_cells.proofs.Replaced.{before, member_objects}
 use Rattle.b67_entry.specs.Procedures.{CallsOrMeets}
 use Rattle.b67_layout_step.specs.Keeping.{is_leaving}
-use Rattle.b67_exec.specs.Operators.{goes_far, is_far}
+use Rattle.b67_exec.specs.Operators.{is_quick}
 use Rattle.b67_exec.specs.Near.{HoldsCode, is_straight, branch_op}
 
 -- ---- what was answered
@@ -77,11 +76,7 @@ module _ (m : SessionJob) (t : Task) (job : Job) (printed : List Line) (touched 
   by_cells q goes (Err why) e = absurd (let z : ⊥ = cc in z)
   by_cells q goes (Ok ds) e = leaves q goes ds e
 
-  by_operand : (o : Answer ℕ) (f : ℕ → Answer Done) → ((n : ℕ) → f n ≡ Ok (Goes job printed touched) → LeavesCells) → (o >>= f) ≡ Ok (Goes job printed touched) → LeavesCells
-  by_operand (Err why) f g e = absurd (let z : ⊥ = cc in z)
-  by_operand (Ok n) f g e = g n e
-
-  by_code : (q : Place) → Goes_to q → (code : Code) → goes_far code ≡ false → row (Plain code) (here m t q) ≡ Ok (Goes job printed touched) → LeavesCells
+  by_code : (q : Place) → Goes_to q → (code : Code) → is_quick code ≡ true → row (Plain code) (here m t q) ≡ Ok (Goes job printed touched) → LeavesCells
   by_code q goes codes.Zero near e = leaves q goes _ e
   by_code q goes codes.One near e = leaves q goes _ e
   by_code q goes codes.Push near e = leaves q goes _ e
@@ -104,34 +99,8 @@ module _ (m : SessionJob) (t : Task) (job : Job) (printed : List Line) (touched 
   straight_leaves q goes (Namc couple) near e = leaves q goes _ e
   straight_leaves q goes (Lt8 n) near e = leaves q goes _ e
   straight_leaves q goes (Lt16 n) near e = leaves q goes _ e
-  straight_leaves q goes (Lt48 bits) near e = leaves q goes _ e
-  straight_leaves q goes (Plain code) near e = by_code q goes code (not-true _ near) e
+  straight_leaves q goes (Plain code) near e = by_code q goes code near e
   straight_leaves q goes _ near e = absurd (let z : ⊥ = cc in z)
-
-  either : (q target : Place) → Goes_to q → Goes_to target → (b : Bool) → Goes_to (if b then target else q)
-  either q target goes taken true = taken
-  either q target goes taken false = goes
-
-  by_taken : (wanted : Bool) (q target : Place) → Goes_to q → Goes_to target → (cs : List Word) → branch_if wanted (here m t q) cs target ≡ Ok (Goes job printed touched) → LeavesCells
-  by_taken wanted q target goes taken [] e = absurd (let z : ⊥ = cc in z)
-  by_taken wanted q target goes taken (a ∷ rest) e = by_operand (operand a) _ (λ n k. leaves _ (either q target goes taken _) rest k) e
-
-  -- any near one
-  pub near_leaves : ((p : Place) → Goes_to p) → (q : Place) (op : Op) → is_far op ≡ false → row op (here m t q) ≡ Ok (Goes job printed touched) → LeavesCells
-  near_leaves goes q (Namc couple) near e = leaves q (goes q) _ e
-  near_leaves goes q (Lt8 n) near e = leaves q (goes q) _ e
-  near_leaves goes q (Lt16 n) near e = leaves q (goes q) _ e
-  near_leaves goes q (Lt48 bits) near e = leaves q (goes q) _ e
-  near_leaves goes q (Brun target) near e = leaves target (goes target) _ e
-  near_leaves goes q (Brtr target) near e = by_taken true q target (goes q) (goes target) (cells t) e
-  near_leaves goes q (Brfl target) near e = by_taken false q target (goes q) (goes target) (cells t) e
-  near_leaves goes q (Plain code) near e = by_code q (goes q) code near e
-  near_leaves goes q (Valc couple) near e = absurd (let z : ⊥ = cc in z)
-  near_leaves goes q (Mpcw bits) near e = absurd (let z : ⊥ = cc in z)
-  near_leaves goes q (Bset n) near e = absurd (let z : ⊥ = cc in z)
-  near_leaves goes q (Brst n) near e = absurd (let z : ⊥ = cc in z)
-  near_leaves goes q (Isol high width) near e = absurd (let z : ⊥ = cc in z)
-  near_leaves goes q (Insr high width) near e = absurd (let z : ⊥ = cc in z)
 
 -- ---- descriptors
 
@@ -263,41 +232,22 @@ module _ (old new : Cpu) (r : RunsSome old) (answer : Answer Done) (k : IsMade r
   pub segment_on : new.regs.segment ≡ old.regs.segment
   segment_on = let now = shows.holds.running _ _ found_member in let before_it = r.stands.holds.running r.member r.task r.running in omega (arith, now.segment, before_it.segment)
 
--- and so it is after any answer
-pub code_after : (old new : Cpu) (desc : SegDesc) (r : RunsSome old) (op : Op) (q : Place) (answered : Step) → is_far op ≡ false → HoldsCode old desc
-    → ForEach old (λ x plan s m t. CallsOrMeets x plan s m answered old new (called op (here m t q)) (row op (here m t q))) → HoldsCode new desc
-code_after old new desc r op q answered near code rows = by answered (rows r.storage r.plan r.session r.member r.task r.ordered r.stands r.running) where
-  kept : new ≡ old → HoldsCode new desc
-  kept same = subst (λ (z : Cpu). HoldsCode z desc) (sym same) code
-
-  by : (a : Step) → CallsOrMeets r.storage r.plan r.session r.member a old new (called op (here r.member r.task q)) (row op (here r.member r.task q)) → HoldsCode new desc
-  by answers.Done i =
-      let k = made_near r.storage r.plan r.session r.member old new (called op (here r.member r.task q)) (row op (here r.member r.task q)) i in
-      let G : Place → Type 0 = λ p. Unit {0} in
-      let l = near_leaves r.member r.task k.job [] k.touched G (λ p. tt) q op near k.is in
-      let made = row op (here r.member r.task q) in
-      holds_on old new desc r made k (dict_on old new r made k G l) (segment_on old new r made k G l) code
-  by (answers.Absent found) i = kept (unmade r.storage r.plan r.session r.member (answers.Absent found) old new (called op (here r.member r.task q)) (row op (here r.member r.task q)) (λ e. cc) i)
-  by (answers.Call n) i = kept (unmade r.storage r.plan r.session r.member (answers.Call n) old new (called op (here r.member r.task q)) (row op (here r.member r.task q)) (λ e. cc) i)
-  by (answers.Fault fault) i = kept (unmade r.storage r.plan r.session r.member (answers.Fault fault) old new (called op (here r.member r.task q)) (row op (here r.member r.task q)) (λ e. cc) i)
-  by answers.Ended i = kept (unmade r.storage r.plan r.session r.member answers.Ended old new (called op (here r.member r.task q)) (row op (here r.member r.task q)) (λ e. cc) i)
-
 -- a near operator leaves no activation record and calls no intrinsic
-code_stays : (code : Code) → goes_far code ≡ false → is_leaving (Plain code) ≡ false
+code_stays : (code : Code) → is_quick code ≡ true → is_leaving (Plain code) ≡ false
 code_stays codes.Exit near = absurd (let z : ⊥ = cc in z)
 code_stays codes.Retn near = absurd (let z : ⊥ = cc in z)
 code_stays _ near = refl
 
 pub straight_stays : (op : Op) → is_straight op ≡ true → is_leaving op ≡ false
-straight_stays (Plain code) near = code_stays code (not-true _ near)
+straight_stays (Plain code) near = code_stays code near
 straight_stays _ near = refl
 
-code_calls : (code : Code) → goes_far code ≡ false → (h : OperatorContext) → called (Plain code) h ≡ None
+code_calls : (code : Code) → is_quick code ≡ true → (h : OperatorContext) → called (Plain code) h ≡ None
 code_calls codes.Entr near h = absurd (let z : ⊥ = cc in z)
 code_calls _ near h = refl
 
 pub straight_calls : (op : Op) → is_straight op ≡ true → (h : OperatorContext) → called op h ≡ None
-straight_calls (Plain code) near h = code_calls code (not-true _ near) h
+straight_calls (Plain code) near h = code_calls code near h
 straight_calls _ near h = refl
 
 pub branch_stays : (always wanted : Bool) (target : Place) → is_leaving (branch_op always wanted target) ≡ false

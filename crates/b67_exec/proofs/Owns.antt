@@ -17,20 +17,19 @@ use Rattle.b67_refer.specs.Own.{LeadsTo}
 use Rattle.b67_exec_cells.specs.Tops.{NoOriginals, StaysInSegment}
 use Rattle.b67_fetch.specs.Fetches.{FindsEnd, IsEnd, SomeEnd, EntersOrMeets, is_procedure_end, value_at_end}
 use Rattle.b67_fetch.proofs.Values.{here_scene, here_shown, followed_stands, finds_end, some_end, top_followed, followed_plain, load_row}
-use Rattle.b67_exec.specs.Far.{MadeOn}
+use Rattle.b67_exec.specs.Far.{Answers, OnShortly}
 use Rattle.b67_exec.proofs.Entered.{met_at}
-use Rattle.b67_exec.proofs.Fars.{Answers}
 
 module _ (next : Place) (old new : Cpu) where
   -- what a store made
   abbrev Stored : Bool → Type 0
   Stored keeps = ForEach old (λ x plan s m t. IsMade x plan s m old new (rows.store keeps (here m t next) (cells_of (here m t next))))
 
-  pub stod_made : (made : Bool) → (made ≡ true → Stored false) → (made ≡ true → StaysInSegment old new next) → (made ≡ false → new ≡ old) → MadeOn (Plain codes.Stod) next old made new
+  pub stod_made : (made : Bool) → (made ≡ true → Stored false) → (made ≡ true → StaysInSegment old new next) → (made ≡ false → new ≡ old) → OnShortly (Plain codes.Stod) next old made new
   stod_made true each stays rest = (each refl, stays refl)
   stod_made false each stays rest = rest refl
 
-  pub ston_made : (made : Bool) → (made ≡ true → Stored true) → (made ≡ true → StaysInSegment old new next) → (made ≡ false → new ≡ old) → MadeOn (Plain codes.Ston) next old made new
+  pub ston_made : (made : Bool) → (made ≡ true → Stored true) → (made ≡ true → StaysInSegment old new next) → (made ≡ false → new ≡ old) → OnShortly (Plain codes.Ston) next old made new
   ston_made true each stays rest = (each refl, stays refl)
   ston_made false each stays rest = rest refl
 

@@ -1,12 +1,12 @@
 -- Code that is read syllable after syllable.
-use Rattle.std.proofs.Common.{◌≡◌, ℕ, ◌+◌, ◌-◌, ◌*◌, ◌/◌, ◌%◌, ◌^◌, ◌<◌, ◌≤◌, List, get_or, length, Some, sym, ◌∙◌, ap, arith, subst, inl, inr}
+use Rattle.std.proofs.Common.{◌≡◌, ℕ, ◌+◌, ◌-◌, ◌*◌, ◌/◌, ◌%◌, ◌^◌, ◌<◌, ◌≤◌, List, get_or, length, Some, None, sym, ◌∙◌, ap, arith, subst, inl, inr}
 use Rattle.std.specs.Prelude.{slice_index}
 use Rattle.std.specs.List.{slice_range}
 use Rattle.std.proofs.lemmas.Bool.{cases_eq}
 use Rattle.b67_word.specs.Tagged.{Tagged, contents}
 use Rattle.b67_word.specs.declared.couples.Place.{Place}
 use Rattle.b67_ctl.specs.declared.descriptors.SegDesc.{SegDesc}
-use Rattle.b67_model.specs.Common.{Task, SessionJob, Session, code_of, count_at}
+use Rattle.b67_model.specs.Common.{Task, SessionJob, Session, form_of, code_of, count_at}
 use Rattle.b67_stack.specs.declared.Cpu.{Cpu}
 use Rattle.b67_stack.specs.Common.{Storage}
 use Rattle.b67_layout.specs.Common.{Placement, IsInOrderButCounts, IsRunning, RepresentsSession}
@@ -73,12 +73,13 @@ module _ (x : Storage) (cpu : Cpu) (plan : Placement) (s : Session) (m : Session
       omega (arith, words-are, ap length c, length-map words (λ (v : Tagged). v.bits))
 
 -- the next syllable of the word
-pub stepped : (r : Reader) (code : List ℕ) (k : ℕ) → ReaderAt r code k → r.syllable < 5 → (more : ℕ) → more ≡ k + 1 → ReaderAt (record r { syllable = r.syllable + 1; bits = r.bits * 2 ^ 8 % 2 ^ 64 }) code more
-stepped r code k a some more is = record {
+pub stepped : (r : Reader) (code : List ℕ) (k : ℕ) → ReaderAt r code k → r.word < length code → r.syllable < 5 → (more : ℕ) → more ≡ k + 1 → ReaderAt (record r { syllable = r.syllable + 1; bits = r.bits * 2 ^ 8 % 2 ^ 64 }) code more
+stepped r code k a inside some more is = record {
   in_word = omega (arith, some);
   at = omega (arith, a.at, is);
-  inside = a.inside;
-  bits = ap (λ (z : ℕ). z * 2 ^ 8 % 2 ^ 64) a.bits ∙ shifted_is (slice_index code r.word) r.syllable some;
+  within = omega (arith, a.at, is, inside, some);
+  bits = λ there. ap (λ (z : ℕ). z * 2 ^ 8 % 2 ^ 64) (a.bits inside) ∙ shifted_is (slice_index code r.word) r.syllable some;
+  ends = λ out. absurd (omega (arith, out, inside));
 }
 
 -- the first one of the next word
@@ -87,8 +88,20 @@ pub crossed : (r : Reader) (code : List ℕ) (k : ℕ) → ReaderAt r code k →
 crossed r code k a last inside bits is small more more_is = record {
   in_word = omega arith;
   at = omega (arith, a.at, a.in_word, last, more_is);
-  inside = inside;
-  bits = omega (arith, is, small);
+  within = omega (arith, a.at, a.in_word, more_is, inside);
+  bits = λ there. omega (arith, is, small);
+  ends = λ out. absurd (omega (arith, out, inside));
+}
+
+-- the end of the code
+pub ended : (r : Reader) (code : List ℕ) (k : ℕ) → ReaderAt r code k → r.word < length code → 5 ≤ r.syllable → length code ≤ r.word + 1 → (bits more : ℕ) → more ≡ k + 1 → form_of (bits / 2 ^ 56) ≡ None
+    → ReaderAt (record { code = r.code; word = r.word + 1; syllable = 0; bits = bits }) code more
+ended r code k a inside last out bits more more_is none = record {
+  in_word = omega arith;
+  at = omega (arith, a.at, a.in_word, last, more_is);
+  within = omega (arith, a.at, a.in_word, last, more_is, inside);
+  bits = λ there. absurd (omega (arith, there, out));
+  ends = λ past. none;
 }
 
 -- the one at a place
@@ -100,6 +113,7 @@ begun desc code place word bits by in_word inside word_is small by_is bits_is =
     record {
       in_word = in_word;
       at = omega arith;
-      inside = inside;
-      bits = bits_is ∙ ap (λ (z : ℕ). z * 2 ^ (8 * by) % 2 ^ 64) word_is ∙ ap (λ (z : ℕ). w * 2 ^ 16 * 2 ^ (8 * z) % 2 ^ 64) by_is ∙ from_is w place.syllable in_word low;
+      within = omega (arith, in_word, inside);
+      ends = λ out. absurd (omega (arith, out, inside));
+      bits = λ there. bits_is ∙ ap (λ (z : ℕ). z * 2 ^ (8 * by) % 2 ^ 64) word_is ∙ ap (λ (z : ℕ). w * 2 ^ 16 * 2 ^ (8 * z) % 2 ^ 64) by_is ∙ from_is w place.syllable in_word low;
     }

@@ -1,14 +1,20 @@
 -- An operator read syllable after syllable, and where the reader stands once the task has gone on.
-use Rattle.std.proofs.Common.{◌≡◌, ℕ, ◌+◌, ◌-◌, ◌*◌, ◌/◌, ◌%◌, ◌^◌, ◌<◌, ◌≤◌, Bool, true, false, List, [], ◌∷◌, length, Option, Some, None, Ok, refl, sym, ◌∙◌, ap, subst, arith}
+use Rattle.std.proofs.Common.{◌≡◌, ℕ, ◌+◌, ◌-◌, ◌*◌, ◌/◌, ◌%◌, ◌^◌, ◌<◌, ◌≤◌, ◌≢◌, Bool, true, false, List, [], ◌∷◌, length, Option, Some, None, Ok, Err, refl, sym, ◌∙◌, ap, subst, arith, inl, inr}
 use Rattle.std.specs.Prelude.{nat_lt, nat_le, slice_index}
+use Rattle.std.proofs.lemmas.Option.{none-some}
+use Rattle.std.proofs.lemmas.Bool.{cases_lt}
 use Rattle.std.proofs.lemmas.Bool.Decides.{nat_tests}
 use Rattle.b67_word.specs.declared.couples.Place.{Place}
+use Rattle.b67_word.specs.declared.faults.Fault.TheVariants.{InvalidOperator}
+use Rattle.b67_ctl.specs.declared.descriptors.SegDesc.{SegDesc}
 use Rattle.b67_arith.specs.declared.numerics.Numeric.{Numeric}
 use Rattle.b67_arith.specs.declared.numerics.Numeric.TheVariants as numeric
 use Rattle.b67_arith.specs.Numerics.{of_numbers}
 use Rattle.b67_model.specs.declared.operators.Op.{Op}
 use Rattle.b67_model.specs.declared.operators.Op.TheVariants.{Plain}
 use Rattle.b67_model.specs.declared.operators.Code.{Code}
+use Rattle.b67_model.specs.declared.operators.Undecodable.{Undecodable}
+use Rattle.b67_model.specs.declared.operators.Undecodable.TheVariants.{PastEnd}
 use Rattle.b67_model.specs.Common.{Answer, Done, Form, Alone, OneMore, TwoMore, Task, SessionJob, Session, Reading, form_of, syllable, count_at, place_at, ends_at, reads, operator_at, reading_of, code_of, row, called, OperatorContext, Word, operand, on_cells, on_two, branch_if, leaves_cells, cells_of}
 use Rattle.b67_stack.specs.declared.Cpu.{Cpu}
 use Rattle.b67_stack.specs.declared.Step.{Step}
@@ -24,12 +30,13 @@ use Rattle.b67_entry.specs.Procedures.{CallsOrMeets}
 use Rattle.b67_layout_step.specs.Keeping.{is_leaving}
 use Rattle.b67_exec.specs.Operators.{OperatorMeets, leaves_record}
 use Rattle.b67_exec.specs.declared.reader.Reader.{Reader}
-use Rattle.b67_exec.specs.Near.{HoldsCode, ReaderAt, ReaderBehind, reader_place, is_straight, WentOn, NearMade, MadeNear, FarMade, code_of_numbers, resting_code, branch_op}
+use Rattle.b67_exec.specs.Far.{Refused}
+use Rattle.b67_exec.specs.Near.{HoldsCode, ReaderAt, ReaderBehind, ReaderInside, EndsBehind, Stops, reader_place, is_straight, WentOn, NearMade, MadeNear, FarMade, code_of_numbers, resting_code, branch_op}
 use Rattle.b67_exec.specs.declared.firsts.Near.{Near}
 use Rattle.b67_exec.specs.Firsts.{near_form}
 use Rattle.b67_exec.proofs.Nears.{unmet, made_near, LeavesCells, leaves, straight_leaves, straight_stays, straight_calls, branch_stays, branch_calls, holds_on, code_on, place_on, dict_on, segment_on}
 use Rattle.b67_exec.proofs.Readings.{operator_read}
-use Rattle.b67_exec.proofs.Readers.{top_is}
+use Rattle.b67_exec.proofs.Readers.{top_is, words-are}
 
 -- ---- what is read
 
@@ -39,11 +46,11 @@ same_place p q word syllable = by p.word p.syllable word syllable where
   by w k same_w same_k = rw (same_w, same_k) refl
 
 -- the syllable on top of a reader
-syllable_at : (r : Reader) (code : List ℕ) (k : ℕ) → ReaderAt r code k → r.bits / 2 ^ 56 ≡ syllable code k
-syllable_at r code k a =
+pub syllable_at : (r : Reader) (code : List ℕ) (k : ℕ) → ReaderAt r code k → r.word < length code → r.bits / 2 ^ 56 ≡ syllable code k
+syllable_at r code k a inside =
     let word : k / 6 ≡ r.word = omega (arith, a.at, a.in_word) in
     let rest : 5 - k % 6 ≡ 5 - r.syllable = omega (arith, a.at, a.in_word) in
-    ap (λ (z : ℕ). z / 2 ^ 56) a.bits ∙ top_is (slice_index code r.word) r.syllable a.in_word
+    ap (λ (z : ℕ). z / 2 ^ 56) (a.bits inside) ∙ top_is (slice_index code r.word) r.syllable a.in_word
     ∙ ap (λ (z : ℕ). slice_index code r.word / 256 ^ z % 256) (sym rest) ∙ ap (λ (z : ℕ). slice_index code z / 256 ^ (5 - k % 6) % 256) (sym word)
 
 -- its place
@@ -56,51 +63,71 @@ place_is r code k a =
 -- the code goes on up to it
 ends_before : (next : Reader) (code : List ℕ) (k : ℕ) (op : Op) → ReaderAt next code k → ends_at code k op ≡ Ok (op, reader_place next)
 ends_before next code k op a =
-    let test : nat_le k (6 * length code) ≡ true = (let low : k ≤ 6 * length code = omega (arith, a.at, a.in_word, a.inside) in grind (arith, nat_tests)) in
+    let test : nat_le k (6 * length code) ≡ true = (let low : k ≤ 6 * length code = a.within in grind (arith, nat_tests)) in
     rw test (ap (λ (p : Place). Ok (op, p)) (place_is next code k a))
 
 -- or ends behind its last syllable
-ends_behind : (last : Reader) (code : List ℕ) (k : ℕ) (op : Op) → ReaderAt last code k → ends_at code (k + 1) op ≡ Ok (op, place_at (k + 1))
-ends_behind last code k op a =
-    let test : nat_le (k + 1) (6 * length code) ≡ true = (let low : k + 1 ≤ 6 * length code = omega (arith, a.at, a.in_word, a.inside) in grind (arith, nat_tests)) in
+ends_behind : (last : Reader) (code : List ℕ) (k : ℕ) (op : Op) → ReaderAt last code k → last.word < length code → ends_at code (k + 1) op ≡ Ok (op, place_at (k + 1))
+ends_behind last code k op a inside =
+    let test : nat_le (k + 1) (6 * length code) ≡ true = (let low : k + 1 ≤ 6 * length code = omega (arith, a.at, a.in_word, inside) in grind (arith, nat_tests)) in
     rw test refl
+
+-- an operator goes past the end of the code
+past_end : (code : List ℕ) (k : ℕ) (op : Op) → 6 * length code < k → ends_at code k op ≡ Err PastEnd
+past_end code k op past =
+    let test : nat_le k (6 * length code) ≡ false = grind (arith, nat_tests) in
+    rw test refl
+
+-- where a first syllable begins an operator, it isn't behind the end of the code
+within_code : (r : Reader) (code : List ℕ) (k : ℕ) (f : Form) → ReaderAt r code k → form_of (r.bits / 2 ^ 56) ≡ Some f → r.word < length code
+within_code r code k f a is = elim (cases_lt r.word (length code)) [
+  | inl low ↦ low
+  | inr high ↦ absurd (none-some f (sym (a.ends high) ∙ is))
+]
 
 module _ (code : List ℕ) (at : Place) (r : Reader) (in_word : at.syllable < 6) (a : ReaderAt r code (count_at at + 0)) where
   begins : (f : Form) → form_of (r.bits / 2 ^ 56) ≡ Some f → operator_at code at ≡ reads code (count_at at) (Some f)
   begins f is =
+      let there = within_code r code (count_at at + 0) f a is in
       let one : nat_lt at.syllable 6 ≡ true = grind (arith, nat_tests) in
-      let inside : at.word < length code = omega (arith, a.at, a.in_word, a.inside, in_word) in
+      let inside : at.word < length code = omega (arith, a.at, a.in_word, there, in_word) in
       let two : nat_lt at.word (length code) ≡ true = grind (arith, nat_tests) in
       let same : count_at at + 0 ≡ count_at at = omega arith in
-      let first : r.bits / 2 ^ 56 ≡ syllable code (count_at at) = syllable_at r code (count_at at + 0) a ∙ ap (syllable code) same in
+      let first : r.bits / 2 ^ 56 ≡ syllable code (count_at at) = syllable_at r code (count_at at + 0) a there ∙ ap (syllable code) same in
       let form : form_of (syllable code (count_at at)) ≡ Some f = ap form_of (sym first) ∙ is in
       rw (one, two) (ap (reads code (count_at at)) form)
 
   lone : (op : Code) (next : Reader) → form_of (r.bits / 2 ^ 56) ≡ Some (Alone op) → ReaderAt next code (count_at at + 1) → operator_at code at ≡ Ok (Plain op, reader_place next)
   lone op next is b = begins (Alone op) is ∙ ends_before next code (count_at at + 1) (Plain op) b
 
-  pair : (op : ℕ → Op) (second next : Reader) → form_of (r.bits / 2 ^ 56) ≡ Some (OneMore op) → ReaderAt second code (count_at at + 1) → ReaderAt next code (count_at at + 2) → operator_at code at ≡ Ok (op (second.bits / 2 ^ 56), reader_place next)
-  pair op second next is b c =
-      begins (OneMore op) is ∙ ap (λ (z : ℕ). ends_at code (count_at at + 2) (op z)) (sym (syllable_at second code (count_at at + 1) b)) ∙ ends_before next code (count_at at + 2) (op (second.bits / 2 ^ 56)) c
+  pair : (op : ℕ → Op) (second next : Reader) → form_of (r.bits / 2 ^ 56) ≡ Some (OneMore op) → ReaderAt second code (count_at at + 1) → second.word < length code → ReaderAt next code (count_at at + 2) → operator_at code at ≡ Ok (op (second.bits / 2 ^ 56), reader_place next)
+  pair op second next is b two c =
+      begins (OneMore op) is ∙ ap (λ (z : ℕ). ends_at code (count_at at + 2) (op z)) (sym (syllable_at second code (count_at at + 1) b two)) ∙ ends_before next code (count_at at + 2) (op (second.bits / 2 ^ 56)) c
 
-  triple : (op : ℕ → ℕ → Op) (second third next : Reader) → form_of (r.bits / 2 ^ 56) ≡ Some (TwoMore op) → ReaderAt second code (count_at at + 1) → ReaderAt third code (count_at at + 2) → ReaderAt next code (count_at at + 3)
+  triple : (op : ℕ → ℕ → Op) (second third next : Reader) → form_of (r.bits / 2 ^ 56) ≡ Some (TwoMore op) → ReaderAt second code (count_at at + 1) → second.word < length code → ReaderAt third code (count_at at + 2) → third.word < length code → ReaderAt next code (count_at at + 3)
       → operator_at code at ≡ Ok (op (second.bits / 2 ^ 56) (third.bits / 2 ^ 56), reader_place next)
-  triple op second third next is b c d =
-      begins (TwoMore op) is ∙ ap (λ (z : ℕ). ends_at code (count_at at + 3) (op z (syllable code (count_at at + 2)))) (sym (syllable_at second code (count_at at + 1) b))
-      ∙ ap (λ (z : ℕ). ends_at code (count_at at + 3) (op (second.bits / 2 ^ 56) z)) (sym (syllable_at third code (count_at at + 2) c)) ∙ ends_before next code (count_at at + 3) (op (second.bits / 2 ^ 56) (third.bits / 2 ^ 56)) d
+  triple op second third next is b two c three d =
+      begins (TwoMore op) is ∙ ap (λ (z : ℕ). ends_at code (count_at at + 3) (op z (syllable code (count_at at + 2)))) (sym (syllable_at second code (count_at at + 1) b two))
+      ∙ ap (λ (z : ℕ). ends_at code (count_at at + 3) (op (second.bits / 2 ^ 56) z)) (sym (syllable_at third code (count_at at + 2) c three)) ∙ ends_before next code (count_at at + 3) (op (second.bits / 2 ^ 56) (third.bits / 2 ^ 56)) d
 
   lone_behind : (op : Code) → form_of (r.bits / 2 ^ 56) ≡ Some (Alone op) → operator_at code at ≡ Ok (Plain op, place_at (count_at at + 0 + 1))
   lone_behind op is =
       let more : count_at at + 1 ≡ count_at at + 0 + 1 = omega arith in
-      begins (Alone op) is ∙ ap (λ (z : ℕ). ends_at code z (Plain op)) more ∙ ends_behind r code (count_at at + 0) (Plain op) a
+      begins (Alone op) is ∙ ap (λ (z : ℕ). ends_at code z (Plain op)) more ∙ ends_behind r code (count_at at + 0) (Plain op) a (within_code r code (count_at at + 0) (Alone op) a is)
 
-  triple_behind : (op : ℕ → ℕ → Op) (second third : Reader) → form_of (r.bits / 2 ^ 56) ≡ Some (TwoMore op) → ReaderAt second code (count_at at + 1) → ReaderAt third code (count_at at + 2)
+  triple_behind : (op : ℕ → ℕ → Op) (second third : Reader) → form_of (r.bits / 2 ^ 56) ≡ Some (TwoMore op) → ReaderAt second code (count_at at + 1) → second.word < length code → ReaderAt third code (count_at at + 2) → third.word < length code
       → operator_at code at ≡ Ok (op (second.bits / 2 ^ 56) (third.bits / 2 ^ 56), place_at (count_at at + 2 + 1))
-  triple_behind op second third is b c =
+  triple_behind op second third is b two c three =
       let more : count_at at + 3 ≡ count_at at + 2 + 1 = omega arith in
-      begins (TwoMore op) is ∙ ap (λ (z : ℕ). ends_at code (count_at at + 3) (op z (syllable code (count_at at + 2)))) (sym (syllable_at second code (count_at at + 1) b))
-      ∙ ap (λ (z : ℕ). ends_at code (count_at at + 3) (op (second.bits / 2 ^ 56) z)) (sym (syllable_at third code (count_at at + 2) c))
-      ∙ ap (λ (z : ℕ). ends_at code z (op (second.bits / 2 ^ 56) (third.bits / 2 ^ 56))) more ∙ ends_behind third code (count_at at + 2) (op (second.bits / 2 ^ 56) (third.bits / 2 ^ 56)) c
+      begins (TwoMore op) is ∙ ap (λ (z : ℕ). ends_at code (count_at at + 3) (op z (syllable code (count_at at + 2)))) (sym (syllable_at second code (count_at at + 1) b two))
+      ∙ ap (λ (z : ℕ). ends_at code (count_at at + 3) (op (second.bits / 2 ^ 56) z)) (sym (syllable_at third code (count_at at + 2) c three))
+      ∙ ap (λ (z : ℕ). ends_at code z (op (second.bits / 2 ^ 56) (third.bits / 2 ^ 56))) more ∙ ends_behind third code (count_at at + 2) (op (second.bits / 2 ^ 56) (third.bits / 2 ^ 56)) c three
+
+  pair_past : (op : ℕ → Op) → form_of (r.bits / 2 ^ 56) ≡ Some (OneMore op) → count_at at + 1 ≡ 6 * length code → operator_at code at ≡ Err PastEnd
+  pair_past op is end = begins (OneMore op) is ∙ past_end code (count_at at + 2) (op (syllable code (count_at at + 1))) (omega (arith, end))
+
+  triple_past : (op : ℕ → ℕ → Op) (n : ℕ) → form_of (r.bits / 2 ^ 56) ≡ Some (TwoMore op) → n ≤ 2 → count_at at + n ≡ 6 * length code → operator_at code at ≡ Err PastEnd
+  triple_past op n is few end = begins (TwoMore op) is ∙ past_end code (count_at at + 3) (op (syllable code (count_at at + 1)) (syllable code (count_at at + 2))) (omega (arith, end, few))
 
 -- the operator at the running place was read, and a reader stands behind it
 pub record ReadsThrough (cpu : Cpu) (op : Op) (next : Reader) : Type 0 where
@@ -112,12 +139,26 @@ pub record ReadsThrough (cpu : Cpu) (op : Op) (next : Reader) : Type 0 where
 abbrev pub ReadsTo : Cpu → Op → Place → Type 0
 ReadsTo cpu op next = ForEach cpu (λ x plan s m t. ◌≡◌ {A = Reading} (Ok (op, next)) (reading_of m.constants t))
 
+-- no operator stands there
+abbrev pub ReadsNone : Cpu → Type 0
+ReadsNone cpu = ForEach cpu (λ x plan s m t. (u : Undecodable) × ◌≡◌ {A = Reading} (Err u) (reading_of m.constants t))
+
 -- the place behind an operator of one syllable, and of three
 abbrev pub one_on : Cpu → Place
 one_on cpu = place_at (count_at cpu.regs.place + 0 + 1)
 
 abbrev pub three_on : Cpu → Place
 three_on cpu = place_at (count_at cpu.regs.place + 2 + 1)
+
+-- a reader isn't at the end
+inside_code : (cpu : Cpu) (r : Reader) (n : ℕ) → ReaderInside cpu r n → ForEach cpu (λ x plan s m t. r.word < length (code_of m.constants t.segment))
+inside_code cpu r n i x plan s m t ordered h runs = let same = words-are x cpu plan s m t ordered h runs r.code (i.behind.code x plan s m t ordered h runs) in omega (arith, same, i.inside)
+
+pub inside_of : (cpu : Cpu) (r : Reader) (n : ℕ) (f : Form) → RunsSome cpu → ReaderBehind cpu r n → form_of (r.bits / 2 ^ 56) ≡ Some f → ReaderInside cpu r n
+inside_of cpu r n f q b is =
+    let same = words-are q.storage cpu q.plan q.session q.member q.task q.ordered q.stands q.running r.code (b.code q.storage q.plan q.session q.member q.task q.ordered q.stands q.running) in
+    let low = within_code r (code_of q.member.constants q.task.segment) (count_at q.task.place + n) f (b.at q.storage q.plan q.session q.member q.task q.ordered q.stands q.running) is in
+    record { behind = b; inside = omega (arith, same, low) }
 
 module _ (cpu : Cpu) (r : Reader) (b : ReaderBehind cpu r 0) where
   in_its_word : (x : Storage) (plan : Placement) (s : Session) (m : SessionJob) (t : Task) → RepresentsSession x cpu plan s → IsRunning plan s.jobs m t → t.place.syllable < 6
@@ -140,39 +181,70 @@ module _ (cpu : Cpu) (r : Reader) (b : ReaderBehind cpu r 0) where
       subst P (sym (h.holds.running m t runs).place) read
 
   -- one with a syllable
-  pub pair_through : (op : ℕ → Op) (second next : Reader) (low : ℕ) (made : Op) → form_of (r.bits / 2 ^ 56) ≡ Some (OneMore op) → ReaderBehind cpu second (0 + 1) → ReaderBehind cpu next (0 + 1 + 1) → low ≡ second.bits / 2 ^ 56 → made ≡ op low → ReadsThrough cpu made next
+  pub pair_through : (op : ℕ → Op) (second next : Reader) (low : ℕ) (made : Op) → form_of (r.bits / 2 ^ 56) ≡ Some (OneMore op) → ReaderInside cpu second (0 + 1) → ReaderBehind cpu next (0 + 1 + 1) → low ≡ second.bits / 2 ^ 56 → made ≡ op low → ReadsThrough cpu made next
   pair_through op second next low made is c d low_is made_is =
       let same : op (second.bits / 2 ^ 56) ≡ made = ap op (sym low_is) ∙ sym made_is in
       record {
         reads = λ x plan s m t ordered h runs.
             let R : Op → Type 0 = λ o. ◌≡◌ {A = Reading} (Ok (o, reader_place next)) (reading_of m.constants t) in
-            subst R same (sym (pair (code_of m.constants t.segment) t.place r (in_its_word x plan s m t h runs) (b.at x plan s m t ordered h runs) op second next is (c.at x plan s m t ordered h runs) (d.at x plan s m t ordered h runs)));
+            subst R same (sym (pair (code_of m.constants t.segment) t.place r (in_its_word x plan s m t h runs) (b.at x plan s m t ordered h runs) op second next is (c.behind.at x plan s m t ordered h runs) (inside_code cpu second (0 + 1) c x plan s m t ordered h runs) (d.at x plan s m t ordered h runs)));
         length = 0 + 1 + 1;
         stands = d;
       }
 
   -- one with two
-  pub triple_through : (op : ℕ → ℕ → Op) (second third next : Reader) (high low : ℕ) (made : Op) → form_of (r.bits / 2 ^ 56) ≡ Some (TwoMore op) → ReaderBehind cpu second (0 + 1) → ReaderBehind cpu third (0 + 1 + 1) → ReaderBehind cpu next (0 + 1 + 1 + 1)
+  pub triple_through : (op : ℕ → ℕ → Op) (second third next : Reader) (high low : ℕ) (made : Op) → form_of (r.bits / 2 ^ 56) ≡ Some (TwoMore op) → ReaderInside cpu second (0 + 1) → ReaderInside cpu third (0 + 1 + 1) → ReaderBehind cpu next (0 + 1 + 1 + 1)
       → high ≡ second.bits / 2 ^ 56 → low ≡ third.bits / 2 ^ 56 → made ≡ op high low → ReadsThrough cpu made next
   triple_through op second third next high low made is c d e high_is low_is made_is =
       let same : op (second.bits / 2 ^ 56) (third.bits / 2 ^ 56) ≡ made = ap (λ (z : ℕ). op z (third.bits / 2 ^ 56)) (sym high_is) ∙ ap (op high) (sym low_is) ∙ sym made_is in
       record {
         reads = λ x plan s m t ordered h runs.
             let R : Op → Type 0 = λ o. ◌≡◌ {A = Reading} (Ok (o, reader_place next)) (reading_of m.constants t) in
-            subst R same (sym (triple (code_of m.constants t.segment) t.place r (in_its_word x plan s m t h runs) (b.at x plan s m t ordered h runs) op second third next is (c.at x plan s m t ordered h runs) (d.at x plan s m t ordered h runs) (e.at x plan s m t ordered h runs)));
+            subst R same (sym (triple (code_of m.constants t.segment) t.place r (in_its_word x plan s m t h runs) (b.at x plan s m t ordered h runs) op second third next is (c.behind.at x plan s m t ordered h runs) (inside_code cpu second (0 + 1) c x plan s m t ordered h runs) (d.behind.at x plan s m t ordered h runs) (inside_code cpu third (0 + 1 + 1) d x plan s m t ordered h runs) (e.at x plan s m t ordered h runs)));
         length = 0 + 1 + 1 + 1;
         stands = e;
       }
 
   -- one with two, behind which no reader need stand
-  pub triple_to : (op : ℕ → ℕ → Op) (second third : Reader) (high low : ℕ) (made : Op) → form_of (r.bits / 2 ^ 56) ≡ Some (TwoMore op) → ReaderBehind cpu second (0 + 1) → ReaderBehind cpu third (0 + 1 + 1)
+  pub triple_to : (op : ℕ → ℕ → Op) (second third : Reader) (high low : ℕ) (made : Op) → form_of (r.bits / 2 ^ 56) ≡ Some (TwoMore op) → ReaderInside cpu second (0 + 1) → ReaderInside cpu third (0 + 1 + 1)
       → high ≡ second.bits / 2 ^ 56 → low ≡ third.bits / 2 ^ 56 → made ≡ op high low → ReadsTo cpu made (three_on cpu)
   triple_to op second third high low made is c d high_is low_is made_is = λ x plan s m t ordered h runs.
       let same : op (second.bits / 2 ^ 56) (third.bits / 2 ^ 56) ≡ made = ap (λ (z : ℕ). op z (third.bits / 2 ^ 56)) (sym high_is) ∙ ap (op high) (sym low_is) ∙ sym made_is in
       let R : Op → Type 0 = λ o. ◌≡◌ {A = Reading} (Ok (o, place_at (count_at t.place + 2 + 1))) (reading_of m.constants t) in
-      let read = subst R same (sym (triple_behind (code_of m.constants t.segment) t.place r (in_its_word x plan s m t h runs) (b.at x plan s m t ordered h runs) op second third is (c.at x plan s m t ordered h runs) (d.at x plan s m t ordered h runs))) in
+      let read = subst R same (sym (triple_behind (code_of m.constants t.segment) t.place r (in_its_word x plan s m t h runs) (b.at x plan s m t ordered h runs) op second third is (c.behind.at x plan s m t ordered h runs) (inside_code cpu second (0 + 1) c x plan s m t ordered h runs) (d.behind.at x plan s m t ordered h runs) (inside_code cpu third (0 + 1 + 1) d x plan s m t ordered h runs))) in
       let P : Place → Type 0 = λ p. ◌≡◌ {A = Reading} (Ok (made, place_at (count_at p + 2 + 1))) (reading_of m.constants t) in
       subst P (sym (h.holds.running m t runs).place) read
+
+  -- none: the code ends too early
+  pub pair_ends : (op : ℕ → Op) → form_of (r.bits / 2 ^ 56) ≡ Some (OneMore op) → EndsBehind cpu (0 + 1) → ReadsNone cpu
+  pair_ends op is end = λ x plan s m t ordered h runs.
+      (PastEnd, sym (pair_past (code_of m.constants t.segment) t.place r (in_its_word x plan s m t h runs) (b.at x plan s m t ordered h runs) op is (end x plan s m t ordered h runs)))
+
+  pub triple_ends : (op : ℕ → ℕ → Op) (n : ℕ) → form_of (r.bits / 2 ^ 56) ≡ Some (TwoMore op) → n ≤ 2 → EndsBehind cpu n → ReadsNone cpu
+  triple_ends op n is few end = λ x plan s m t ordered h runs.
+      (PastEnd, sym (triple_past (code_of m.constants t.segment) t.place r (in_its_word x plan s m t h runs) (b.at x plan s m t ordered h runs) op n is few (end x plan s m t ordered h runs)))
+
+-- ---- what isn't made
+
+-- no operator is read
+pub unread_stops : (cpu : Cpu) (desc : SegDesc) → HoldsCode cpu desc → ReadsNone cpu → Stops cpu (answers.Fault InvalidOperator)
+unread_stops cpu desc code none = record {
+  other = λ e. cc;
+  row = λ x plan s m t ordered h runs.
+      let given = code x plan s m t ordered h runs in
+      let read = none x plan s m t ordered h runs in
+      operator_read x plan s m t (answers.Fault InvalidOperator) cpu cpu desc.address (Err read.0) (present x cpu plan s m t ordered h runs desc given.0 given.1) read.1 (refl, refl);
+}
+
+-- one that was read is refused
+pub refused_stops : (old new : Cpu) (desc : SegDesc) (op : Op) (q : Place) (why : Step) → HoldsCode old desc → ReadsTo old op q → Refused op q old new why → Stops old why
+refused_stops old new desc op q why code read r = record {
+  other = r.other;
+  row = λ x plan s m t ordered h runs.
+      let given = code x plan s m t ordered h runs in
+      let C : Cpu → Type 0 = λ z. CallsOrMeets x plan s m why old z (called op (here m t q)) (row op (here m t q)) in
+      operator_read x plan s m t why old old desc.address (Ok (op, q)) (present x old plan s m t ordered h runs desc given.0 given.1) (read x plan s m t ordered h runs) (subst C r.same (r.row x plan s m t ordered h runs));
+}
 
 -- ---- what is made
 
@@ -235,9 +307,9 @@ pub goes_to : (x : Storage) (plan : Placement) (s : Session) (m : SessionJob) (t
 goes_to x plan s m t old new q at is g = subst (λ (p : Place). GoesWith x plan s m t old new p) (sym is) g
 
 -- an operator that goes on behind it
-pub straight_made : (old new : Cpu) (before next after : Reader) (op : Op) (answered : Step) (made : Bool) → RunsSome old → ReaderBehind old before 0 → is_straight op ≡ true → ReadsThrough old op next
-    → ForEach old (λ x plan s m t. Meets x plan s m answered old new (row op (here m t (reader_place next)))) → WentOn answered made before next after → MadeNear old before made new after
-straight_made old new before next after op answered true r b near read each w =
+pub straight_made : (old new : Cpu) (before next after : Reader) (op : Op) (answered : Step) (made : Bool) (why : Step) → RunsSome old → ReaderBehind old before 0 → is_straight op ≡ true → ReadsThrough old op next
+    → ForEach old (λ x plan s m t. Meets x plan s m answered old new (row op (here m t (reader_place next)))) → WentOn answered made before next after why → MadeNear old before made new after why
+straight_made old new before next after op answered true why r b near read each w =
     let done : ForEach old (λ x plan s m t. IsMade x plan s m old new (row op (here m t (reader_place next)))) = λ x plan s m t ordered h runs. subst (λ (z : Step). Meets x plan s m z old new (row op (here m t (reader_place next)))) w.0 (each x plan s m t ordered h runs) in
     let k = done r.storage r.plan r.session r.member r.task r.ordered r.stands r.running in
     let answer : Answer Done = row op (here r.member r.task (reader_place next)) in
@@ -249,8 +321,16 @@ straight_made old new before next after op answered true r b near read each w =
       stands = subst (λ (z : Reader). ReaderBehind new z 0) (sym w.1)
           (stands_with old new r answer k next (count_at r.task.place + read.length) l read.stands.code (read.stands.at r.storage r.plan r.session r.member r.task r.ordered r.stands r.running));
     }
-straight_made old new before next after op answered false r b near read each w =
-    (unmet r.storage r.plan r.session r.member answered old new (row op (here r.member r.task (reader_place next))) w.0 (each r.storage r.plan r.session r.member r.task r.ordered r.stands r.running), w.1)
+straight_made old new before next after op answered false why r b near read each w =
+    let same = unmet r.storage r.plan r.session r.member answered old new (row op (here r.member r.task (reader_place next))) w.1 (each r.storage r.plan r.session r.member r.task r.ordered r.stands r.running) in
+    let no : Refused op (reader_place next) old new why = record {
+      same = same;
+      other = subst (λ (z : Step). z ≢ answers.Done) (sym w.0) w.1;
+      row = λ x plan s m t ordered h runs.
+          let C : Option ℕ → Type 0 = λ o. CallsOrMeets x plan s m why old new o (row op (here m t (reader_place next))) in
+          subst C (sym (straight_calls op near (here m t (reader_place next)))) (subst (λ (z : Step). Meets x plan s m z old new (row op (here m t (reader_place next)))) (sym w.0) (each x plan s m t ordered h runs));
+    } in
+    (same, w.2, refused_stops old new before.code op (reader_place next) why b.code read.reads no)
 
 -- a branch: a reader stands where the task goes on
 pub branch_made : (old new : Cpu) (before at : Reader) (always wanted : Bool) (target next : Place) (r : RunsSome old) → ReaderBehind old before 0 → ReadsTo old (branch_op always wanted target) next

@@ -23,7 +23,7 @@ use Rattle.b67_exec_cells.specs.Tops.{NoOriginals}
 use Rattle.b67_fetch.specs.Fetches.{IsEnd, SomeEnd, EntersOrMeets, is_procedure_end, value_at_end}
 use Rattle.b67_fetch.proofs.Values.{here_scene, here_shown, followed_stands, couple_followed, finds_end, some_end, valc_row}
 use Rattle.b67_exec.proofs.Entered.{reaches, valc_enters, met_at}
-use Rattle.b67_exec.proofs.Fars.{Answers}
+use Rattle.b67_exec.specs.Far.{Answers}
 
 -- what following the word answered
 abbrev pub Chased : Cpu → Tagged → Result End Fault → Type 0

@@ -1,9 +1,10 @@
 -- What making the operator at the running place answers and leaves.
 use Rattle.std.specs.Prelude.{◌≡◌, ℕ, ◌+◌, ◌^◌, ◌<◌, ◌≤◌, Bool, true, false, Option, Some, None, Ok, Err, slice_get}
 use Rattle.b67_model.specs.declared.operators.Op.{Op}
-use Rattle.b67_model.specs.declared.operators.Op.TheVariants.{Valc, Namc, Lt8, Lt16, Lt48, Brun, Brtr, Brfl, Plain}
+use Rattle.b67_model.specs.declared.operators.Op.TheVariants.{Valc, Namc, Lt48, Mpcw, Brun, Brtr, Brfl, Bset, Brst, Isol, Insr}
 use Rattle.b67_model.specs.declared.operators.Code.{Code}
 use Rattle.b67_model.specs.declared.operators.Code.TheVariants as codes
+use Rattle.b67_model.specs.Operators.{Form, Alone, OneMore, TwoMore, Literal}
 use Rattle.b67_model.specs.Common.{Reading, step, Task, SessionJob, Session}
 use Rattle.b67_stack.specs.declared.Cpu.{Cpu}
 use Rattle.b67_stack.specs.declared.What.TheVariants as what
@@ -23,26 +24,27 @@ ParametersHaveBits (Namc couple) = couple < 2 ^ 14
 ParametersHaveBits (Lt48 bits) = bits < 2 ^ 48
 ParametersHaveBits _ = Unit {0}
 
--- operators without parameters that are near: sums, differences, comparisons, and those that push, move or take off cells
-abbrev pub goes_far : Code → Bool
-goes_far codes.Add = false
-goes_far codes.Subt = false
-goes_far codes.Less = false
-goes_far codes.Greq = false
-goes_far codes.Grtr = false
-goes_far codes.Lseq = false
-goes_far codes.Equl = false
-goes_far codes.Neql = false
-goes_far codes.Zero = false
-goes_far codes.One = false
-goes_far codes.Push = false
-goes_far codes.Noop = false
-goes_far codes.Dlet = false
-goes_far codes.Exch = false
-goes_far codes.Dupl = false
-goes_far _ = true
+-- operators without parameters that are made in the loop itself: sums, differences, comparisons, and those that push, move or
+-- take off cells
+abbrev pub is_quick : Code → Bool
+is_quick codes.Add = true
+is_quick codes.Subt = true
+is_quick codes.Less = true
+is_quick codes.Greq = true
+is_quick codes.Grtr = true
+is_quick codes.Lseq = true
+is_quick codes.Equl = true
+is_quick codes.Neql = true
+is_quick codes.Zero = true
+is_quick codes.One = true
+is_quick codes.Push = true
+is_quick codes.Noop = true
+is_quick codes.Dlet = true
+is_quick codes.Exch = true
+is_quick codes.Dupl = true
+is_quick _ = false
 
--- those that are far but on the top cells alone, or no operator
+-- those behind a call that are on the top cells alone, or no operator
 abbrev pub is_on_top : Code → Bool
 is_on_top codes.Mult = true
 is_on_top codes.Idiv = true
@@ -56,7 +58,7 @@ is_on_top codes.Same = true
 is_on_top codes.Nvld = true
 is_on_top _ = false
 
--- other far ones behind which the task goes on
+-- others behind which the task goes on
 abbrev pub goes_behind : Code → Bool
 goes_behind codes.Indx = true
 goes_behind codes.Nxlv = true
@@ -71,17 +73,30 @@ may_enter codes.Stod = true
 may_enter codes.Ston = true
 may_enter _ = false
 
--- the others that are near push a literal or a reference, or branch
-abbrev pub is_far : Op → Bool
-is_far (Plain code) = goes_far code
-is_far (Namc couple) = false
-is_far (Lt8 n) = false
-is_far (Lt16 n) = false
-is_far (Lt48 bits) = false
-is_far (Brun target) = false
-is_far (Brtr target) = false
-is_far (Brfl target) = false
-is_far _ = true
+-- those that are read whole, not syllable after syllable, as branches are to a place outside the segment
+abbrev pub is_whole : Op → Bool
+is_whole (Lt48 bits) = true
+is_whole (Mpcw bits) = true
+is_whole (Bset n) = true
+is_whole (Brst n) = true
+is_whole (Isol high width) = true
+is_whole (Insr high width) = true
+is_whole (Brun target) = true
+is_whole (Brtr target) = true
+is_whole (Brfl target) = true
+is_whole _ = false
+
+-- what a first syllable begins is read whole, or is no operator
+abbrev pub IsWhole : Option Form → Type 0
+IsWhole None = Unit {0}
+IsWhole (Some (Alone code)) = ⊥
+IsWhole (Some (OneMore op)) = (low : ℕ) → is_whole (op low) ≡ true
+IsWhole (Some (TwoMore op)) = (high low : ℕ) → is_whole (op high low) ≡ true
+IsWhole (Some (Literal op)) = (bits : ℕ) → is_whole (op bits) ≡ true
+
+abbrev pub ReadsWhole : Reading → Type 0
+ReadsWhole (Err why) = Unit {0}
+ReadsWhole (Ok read) = is_whole read.0 ≡ true
 
 -- where the running segment is absent, nothing has changed; where it calls an intrinsic, neither; else its row was made
 abbrev pub OperatorAt : Storage → Placement → Session → SessionJob → Task → Step → Cpu → Cpu → Option ℕ → Type 0

@@ -1,9 +1,8 @@
-//! Operators that store through references, where a procedure at the end of one is entered.
+//! A procedure to which one of the two top cells leads is entered, and the other cell stays.
 
-ghost use Rattle.std.specs.Prelude.{◌≡◌, ℕ, Bool, true, false};
+ghost use Rattle.std.specs.Prelude.{◌≡◌, ℕ, Bool, true};
 ghost use Rattle.b67_word.specs.declared.couples.Place.{Place};
 ghost use Rattle.b67_model.specs.Rows as rows;
-ghost use Rattle.b67_model.specs.Steps.{cells_of};
 ghost use Rattle.b67_layout.specs.Meets.{here, Meets, RunsSome, ForEach};
 ghost use Rattle.b67_layout.specs.Tops.{cells};
 ghost use Rattle.b67_fetch.specs.Fetches.{enters_at};
@@ -16,9 +15,8 @@ use crate::evaluating::enter_over;
 use b67_ctl::Regs;
 use b67_entry::accident_on;
 use b67_exec_cells::two_cells;
-use b67_fetch::{Stored, store};
 use b67_stack::{Cpu, Step};
-use b67_word::{Place, Word};
+use b67_word::Word;
 
 /// Enters the procedure of a cell, to which the second cell from the top leads, where the value on top takes that cell's place.
 #[inline(always)]
@@ -56,33 +54,5 @@ pub(crate) fn enter(cpu: &mut Cpu, cell: u32) -> Step
         enter_under(cpu, lower, upper, cell)
     } else {
         enter_over(cpu, cell)
-    }
-}
-
-/// Stores the operand of the two top cells where the other one leads, takes both off, and goes on at `next`. A procedure
-/// there is entered in the reference's place, and the operator is executed again with what it returns. STACK UNDERFLOW,
-/// INVALID OPERAND if none of the two is an operand or the procedure's level doesn't fit, the faults of references,
-/// MEMORY PROTECT if it ends at a read-only element, an array or an intrinsic, STACK OVERFLOW. If an element's array
-/// is absent, nothing is changed.
-#[inline(never)]
-pub fn stod(cpu: &mut Cpu, next: Place) -> Step
-    requires { RunsSome cpu.old }
-    ensures row { ForEach cpu.old (λ x plan s m t. let h = here m t next in Meets x plan s m result cpu.old cpu.new (rows.store false h (cells_of h))) }
-{
-    match store(cpu, false, next) {
-        Stored::Made(step) => step,
-        Stored::Procedure(cell) => enter(cpu, cell),
-    }
-}
-
-/// Stores as STOD does, but the operand stays on the stack.
-#[inline(never)]
-pub fn ston(cpu: &mut Cpu, next: Place) -> Step
-    requires { RunsSome cpu.old }
-    ensures row { ForEach cpu.old (λ x plan s m t. let h = here m t next in Meets x plan s m result cpu.old cpu.new (rows.store true h (cells_of h))) }
-{
-    match store(cpu, true, next) {
-        Stored::Made(step) => step,
-        Stored::Procedure(cell) => enter(cpu, cell),
     }
 }

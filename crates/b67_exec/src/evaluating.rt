@@ -1,11 +1,9 @@
-//! Operators that read through references, where a procedure at the end of one is entered.
+//! A procedure to which the top cell leads is entered.
 
-ghost use Rattle.std.specs.Prelude.{◌≡◌, ℕ, true, ◌^◌, ◌<◌, Some, slice_get};
+ghost use Rattle.std.specs.Prelude.{◌≡◌, ℕ, true, Some, slice_get};
 ghost use Rattle.b67_word.specs.Tagged.{Tagged};
-ghost use Rattle.b67_ctl.specs.Layout.{IsPlace};
 ghost use Rattle.b67_word.specs.declared.couples.Place.{Place};
 ghost use Rattle.b67_model.specs.Rows as rows;
-ghost use Rattle.b67_model.specs.Steps.{cells_of};
 ghost use Rattle.b67_layout.specs.Meets.{here, Meets, RunsSome, ForEach};
 ghost use Rattle.b67_refer.specs.RunningContext.{RunningContext};
 ghost use Rattle.b67_refer.specs.Ends.{IsProcAt};
@@ -13,12 +11,11 @@ ghost use Rattle.b67_layout.specs.Tops.{cells};
 ghost use Rattle.b67_fetch.specs.Fetches.{enters_at, top_end};
 ghost use Rattle.b67_exec.specs.Procedures.{LeadsToProcedure, EntersTop, IsCellFrom};
 
-use b67_ctl::{Irw, Regs};
-use b67_entry::{accident, accident_on};
-use b67_fetch::value;
+use b67_ctl::Regs;
+use b67_entry::accident_on;
 use b67_refer::{End, chase};
 use b67_stack::{Cpu, Step};
-use b67_word::{Place, Word};
+use b67_word::Word;
 
 /// The core address of the cell of the procedure to which a word leads.
 #[inline(always)]
@@ -32,26 +29,6 @@ pub fn procedure_cell(cpu: &Cpu, w: Word) -> u32
             _ => unreachable!(),
         },
         Err(_) => unreachable!(),
-    }
-}
-
-/// Pushes the value to which a couple of 14 bits leads, and goes on at `next`; a procedure there is entered, and its
-/// value pushed when it returns. The faults of references, INVALID OPERAND if it ends at an array or an intrinsic or
-/// if the procedure's level doesn't fit, STACK OVERFLOW. If an array is absent, nothing is changed.
-#[inline(never)]
-pub fn evaluate(cpu: &mut Cpu, couple: u16, next: Place) -> Step
-    requires runs { RunsSome cpu.old }
-    requires couple { couple < 2 ^ 14 }
-    requires next { IsPlace next }
-    ensures row { ForEach cpu.old (λ x plan s m t. Meets x plan s m result cpu.old cpu.new (rows.valc (here m t next) couple)) }
-{
-    let end = match chase(&cpu.core, &cpu.regs, &cpu.display, Irw { couple }.word()) {
-        Ok(end) => end,
-        Err(fault) => return Step::Fault(fault),
-    };
-    match end {
-        End::Proc(cell) => accident(cpu, cell, true, next),
-        _ => value(cpu, 0, end, next),
     }
 }
 
@@ -78,19 +55,4 @@ pub fn enter_in_place(cpu: &mut Cpu) -> Step
 {
     let cell = procedure_cell(cpu, cpu.core.get(cpu.regs.s));
     enter_over(cpu, cell)
-}
-
-/// Puts the value or the row copy to which the top cell leads in its place, and goes on at `next`; a procedure there is
-/// entered in its place, and the operator is executed again with what it returns. STACK UNDERFLOW, the faults of references,
-/// INVALID OPERAND if it ends at an intrinsic or if the procedure's level doesn't fit, STACK OVERFLOW. If an
-/// element's array is absent, nothing is changed.
-#[inline(never)]
-pub fn load(cpu: &mut Cpu, next: Place) -> Step
-    requires { RunsSome cpu.old }
-    ensures row { ForEach cpu.old (λ x plan s m t. let h = here m t next in Meets x plan s m result cpu.old cpu.new (rows.load h (cells_of h))) }
-{
-    match b67_fetch::load(cpu, next) {
-        Step::Call(_) => enter_in_place(cpu),
-        step => step,
-    }
 }

@@ -4,13 +4,13 @@ ghost use Rattle.std.specs.Prelude.{◌≡◌, ◌<◌, Some, slice_get, length,
 ghost use Rattle.b67_model.specs.declared.operators.Code.{Code};
 ghost use Rattle.b67_model.specs.Operators.{Form, form_of};
 ghost use Rattle.b67_exec.specs.declared.firsts.Near.TheVariants as near;
-ghost use Rattle.b67_exec.specs.Operators.{is_on_top};
+ghost use Rattle.b67_exec.specs.Operators.{is_on_top, IsWhole};
 ghost use Rattle.b67_exec.specs.Firsts.{near_form};
 
 use b67_model::Code;
 
 /// An operator by its first syllable, where it is read syllable after syllable. `Far` is for those on the top cells that stand
-/// behind one call, and `Other` for all else, also for what is no operator.
+/// behind one call, and `Other` for those that are read whole and for what is no operator.
 #[derive(Clone, Copy)]
 pub enum Near {
     Other,
@@ -18,6 +18,7 @@ pub enum Near {
     Valc,
     Namc,
     Lt8,
+    Lt16,
     Zero,
     One,
     Add,
@@ -229,7 +230,7 @@ const NEARS: [Near; 256] = [
     Near::Zero,
     Near::One,
     Near::Lt8,
-    Near::Other,
+    Near::Lt16,
     Near::Push,
     Near::Dlet,
     Near::Exch,
@@ -321,6 +322,7 @@ fn near_in(nears: &[Near], i: u8) -> Near
 pub fn near_of(first: u8) -> Near
     ensures form { (f : Form) → near_form result first ≡ Some f → form_of first ≡ Some f }
     ensures far { (code : Code) → result ≡ near.Far code → is_on_top code ≡ true }
+    ensures whole { result ≡ near.Other → IsWhole (form_of first) }
 {
     near_in(&NEARS, first)
 }

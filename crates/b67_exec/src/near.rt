@@ -1,22 +1,27 @@
-//! Near operators, read syllable after syllable.
+//! The operator at the running place, read syllable after syllable: one arm for each first syllable.
 
-ghost use Rattle.std.specs.Prelude.{◌≡◌, ◌/◌, ◌^◌, ◌*◌, ◌+◌, ◌%◌, Some, true, false};
+ghost use Rattle.std.specs.Prelude.{◌≡◌, ◌/◌, ◌^◌, ◌*◌, ◌+◌, ◌%◌, ◌<◌, Some, true, false};
+ghost use Rattle.b67_ctl.specs.Layout.{IsPlace};
 ghost use Rattle.b67_model.specs.declared.operators.Op.TheVariants as ops;
 ghost use Rattle.b67_model.specs.declared.operators.Code.TheVariants as codes;
-ghost use Rattle.b67_model.specs.Operators.{form_of, Alone, OneMore, branch};
+ghost use Rattle.b67_model.specs.Operators.{form_of, Alone, OneMore, TwoMore, branch};
+ghost use Rattle.b67_stack.specs.declared.Step.TheVariants as answers;
+ghost use Rattle.b67_word.specs.declared.faults.Fault.TheVariants.{InvalidOperator};
 ghost use Rattle.b67_layout.specs.Meets.{RunsSome};
 ghost use Rattle.b67_layout_step.specs.Keeping.{is_leaving};
-ghost use Rattle.b67_exec.specs.Operators.{is_on_top, goes_behind, may_enter};
+ghost use Rattle.b67_exec.specs.Operators.{is_on_top, goes_behind, may_enter, IsWhole};
 ghost use Rattle.b67_exec.specs.Near.{ReaderBehind, WentOn, MadeNear, Makes, outcome_of, code_of_numbers, resting_code, branch_op};
-ghost use Rattle.b67_exec.specs.Far.{MadeOn, MadeWent, MadeLeaving, LeavesBy, LeadsTo};
+ghost use Rattle.b67_exec.specs.Far.{MadeOn, MadeAway, MadeWent, MadeLeaving, LeavesBy, LeadsTo};
 
 use crate::far::{
-    Went, is_done, makes_entr, makes_exit, makes_indx, makes_load, makes_nxlv, makes_plain,
-    makes_retn, makes_stff, makes_stod, makes_ston,
+    Went, is_done, makes_entr, makes_exit, makes_far_entr, makes_far_stff, makes_far_valc,
+    makes_indx, makes_last_exit, makes_last_retn, makes_load, makes_nxlv, makes_plain, makes_retn,
+    makes_stff, makes_stod, makes_ston,
 };
 use crate::firsts::{Near, near_of};
+use crate::operators::makes_whole;
 use crate::own::{evaluates_own, stores_own};
-use crate::reader::{Reader, behind, first, place, reader_to};
+use crate::reader::{Reader, after, behind, first, place, reader_to};
 use b67_arith::Numeric;
 use b67_entry::mkst;
 use b67_exec_cells::{
@@ -24,7 +29,7 @@ use b67_exec_cells::{
 };
 use b67_model::Code;
 use b67_stack::{Cpu, Step};
-use b67_word::{Place, Word};
+use b67_word::{Fault, Place};
 
 /// What became of an operator: it was made, and its task goes on in the segment, or elsewhere, or elsewhere with an activation
 /// record left, whose words go up to below an address; or it wasn't made.
@@ -36,18 +41,31 @@ pub enum Made {
     Not,
 }
 
-/// Whether an operator was made. The reader then goes on behind it.
+/// Whether an operator was made. The reader then goes on behind it. If it wasn't, `why` is what it answered.
 #[inline(always)]
-fn went_on(step: Step, reader: &mut Reader, next: Reader) -> bool
-    ensures { WentOn step result reader.old next reader.new }
+fn went_on(step: Step, reader: &mut Reader, next: Reader, why: &mut Step) -> bool
+    ensures { WentOn step result reader.old next reader.new why.new }
 {
     match step {
         Step::Done => {
             *reader = next;
             true
         }
-        _ => false,
+        other => {
+            *why = other;
+            false
+        }
     }
+}
+
+/// No operator is read: its syllables go past the end of the code.
+#[inline(always)]
+fn unread(why: &mut Step) -> bool
+    ensures is { why.new ≡ answers.Fault InvalidOperator }
+    ensures made { result ≡ false }
+{
+    *why = Step::Fault(Fault::InvalidOperator);
+    false
 }
 
 /// A couple whose highest six bits are in an operator's first syllable.
@@ -71,273 +89,286 @@ fn target(high: u8, low: u8) -> Place
 
 /// A sum, a difference or a comparison.
 #[inline(always)]
-fn numbers(cpu: &mut Cpu, reader: &mut Reader, op: Numeric) -> bool
+fn numbers(cpu: &mut Cpu, reader: &mut Reader, op: Numeric, why: &mut Step) -> bool
     requires runs { RunsSome cpu.old }
     requires stands { ReaderBehind cpu.old reader.old 0 }
     requires begins { form_of (reader.old.bits / 2 ^ 56) ≡ Some (Alone (code_of_numbers op)) }
-    ensures { MadeNear cpu.old reader.old result cpu.new reader.new }
+    ensures { MadeNear cpu.old reader.old result cpu.new reader.new why.new }
 {
-    let next = match behind(cpu, *reader) {
-        Some(next) => next,
-        None => return false,
-    };
+    let next = after(cpu, *reader);
     let step = on_numbers(cpu, op, place(next));
-    went_on(step, reader, next)
+    went_on(step, reader, next, why)
 }
 
 /// ZERO.
 #[inline(always)]
-fn pushes_zero(cpu: &mut Cpu, reader: &mut Reader) -> bool
+fn pushes_zero(cpu: &mut Cpu, reader: &mut Reader, why: &mut Step) -> bool
     requires runs { RunsSome cpu.old }
     requires stands { ReaderBehind cpu.old reader.old 0 }
     requires begins { form_of (reader.old.bits / 2 ^ 56) ≡ Some (Alone codes.Zero) }
-    ensures { MadeNear cpu.old reader.old result cpu.new reader.new }
+    ensures { MadeNear cpu.old reader.old result cpu.new reader.new why.new }
 {
-    let next = match behind(cpu, *reader) {
-        Some(next) => next,
-        None => return false,
-    };
+    let next = after(cpu, *reader);
     let step = literal(cpu, 0, place(next));
-    went_on(step, reader, next)
+    went_on(step, reader, next, why)
 }
 
 /// ONE.
 #[inline(always)]
-fn pushes_one(cpu: &mut Cpu, reader: &mut Reader) -> bool
+fn pushes_one(cpu: &mut Cpu, reader: &mut Reader, why: &mut Step) -> bool
     requires runs { RunsSome cpu.old }
     requires stands { ReaderBehind cpu.old reader.old 0 }
     requires begins { form_of (reader.old.bits / 2 ^ 56) ≡ Some (Alone codes.One) }
-    ensures { MadeNear cpu.old reader.old result cpu.new reader.new }
+    ensures { MadeNear cpu.old reader.old result cpu.new reader.new why.new }
 {
-    let next = match behind(cpu, *reader) {
-        Some(next) => next,
-        None => return false,
-    };
+    let next = after(cpu, *reader);
     let step = literal(cpu, 1, place(next));
-    went_on(step, reader, next)
+    went_on(step, reader, next, why)
 }
 
 /// PUSH or NOOP.
 #[inline(always)]
-fn rests(cpu: &mut Cpu, reader: &mut Reader, pushes: bool) -> bool
+fn rests(cpu: &mut Cpu, reader: &mut Reader, pushes: bool, why: &mut Step) -> bool
     requires runs { RunsSome cpu.old }
     requires stands { ReaderBehind cpu.old reader.old 0 }
     requires begins { form_of (reader.old.bits / 2 ^ 56) ≡ Some (Alone (resting_code pushes)) }
-    ensures { MadeNear cpu.old reader.old result cpu.new reader.new }
+    ensures { MadeNear cpu.old reader.old result cpu.new reader.new why.new }
 {
-    let next = match behind(cpu, *reader) {
-        Some(next) => next,
-        None => return false,
-    };
+    let next = after(cpu, *reader);
     let step = branch_to(cpu, place(next));
-    went_on(step, reader, next)
+    went_on(step, reader, next, why)
 }
 
 /// DLET.
 #[inline(always)]
-fn deletes(cpu: &mut Cpu, reader: &mut Reader) -> bool
+fn deletes(cpu: &mut Cpu, reader: &mut Reader, why: &mut Step) -> bool
     requires runs { RunsSome cpu.old }
     requires stands { ReaderBehind cpu.old reader.old 0 }
     requires begins { form_of (reader.old.bits / 2 ^ 56) ≡ Some (Alone codes.Dlet) }
-    ensures { MadeNear cpu.old reader.old result cpu.new reader.new }
+    ensures { MadeNear cpu.old reader.old result cpu.new reader.new why.new }
 {
-    let next = match behind(cpu, *reader) {
-        Some(next) => next,
-        None => return false,
-    };
+    let next = after(cpu, *reader);
     let step = dlet(cpu, place(next));
-    went_on(step, reader, next)
+    went_on(step, reader, next, why)
 }
 
 /// EXCH.
 #[inline(always)]
-fn exchanges(cpu: &mut Cpu, reader: &mut Reader) -> bool
+fn exchanges(cpu: &mut Cpu, reader: &mut Reader, why: &mut Step) -> bool
     requires runs { RunsSome cpu.old }
     requires stands { ReaderBehind cpu.old reader.old 0 }
     requires begins { form_of (reader.old.bits / 2 ^ 56) ≡ Some (Alone codes.Exch) }
-    ensures { MadeNear cpu.old reader.old result cpu.new reader.new }
+    ensures { MadeNear cpu.old reader.old result cpu.new reader.new why.new }
 {
-    let next = match behind(cpu, *reader) {
-        Some(next) => next,
-        None => return false,
-    };
+    let next = after(cpu, *reader);
     let step = exch(cpu, place(next));
-    went_on(step, reader, next)
+    went_on(step, reader, next, why)
 }
 
 /// DUPL.
 #[inline(always)]
-fn doubles(cpu: &mut Cpu, reader: &mut Reader) -> bool
+fn doubles(cpu: &mut Cpu, reader: &mut Reader, why: &mut Step) -> bool
     requires runs { RunsSome cpu.old }
     requires stands { ReaderBehind cpu.old reader.old 0 }
     requires begins { form_of (reader.old.bits / 2 ^ 56) ≡ Some (Alone codes.Dupl) }
-    ensures { MadeNear cpu.old reader.old result cpu.new reader.new }
+    ensures { MadeNear cpu.old reader.old result cpu.new reader.new why.new }
 {
-    let next = match behind(cpu, *reader) {
-        Some(next) => next,
-        None => return false,
-    };
+    let next = after(cpu, *reader);
     let step = dupl(cpu, place(next));
-    went_on(step, reader, next)
+    went_on(step, reader, next, why)
 }
 
 /// A couple as a reference.
 #[inline(always)]
-fn names(cpu: &mut Cpu, reader: &mut Reader) -> bool
+fn names(cpu: &mut Cpu, reader: &mut Reader, why: &mut Step) -> bool
     requires runs { RunsSome cpu.old }
     requires stands { ReaderBehind cpu.old reader.old 0 }
     requires begins { form_of (reader.old.bits / 2 ^ 56) ≡ Some (OneMore (λ low. ops.Namc (reader.old.bits / 2 ^ 56 % 64 * 256 + low))) }
-    ensures { MadeNear cpu.old reader.old result cpu.new reader.new }
+    ensures { MadeNear cpu.old reader.old result cpu.new reader.new why.new }
 {
     let second = match behind(cpu, *reader) {
         Some(second) => second,
-        None => return false,
+        None => return unread(why),
     };
-    let next = match behind(cpu, second) {
-        Some(next) => next,
-        None => return false,
-    };
+    let next = after(cpu, second);
     let step = namc(cpu, couple(first(*reader), first(second)), place(next));
-    went_on(step, reader, next)
+    went_on(step, reader, next, why)
 }
 
 /// A literal of eight bits.
 #[inline(always)]
-fn literal_8(cpu: &mut Cpu, reader: &mut Reader) -> bool
+fn literal_8(cpu: &mut Cpu, reader: &mut Reader, why: &mut Step) -> bool
     requires runs { RunsSome cpu.old }
     requires stands { ReaderBehind cpu.old reader.old 0 }
     requires begins { form_of (reader.old.bits / 2 ^ 56) ≡ Some (OneMore ops.Lt8) }
-    ensures { MadeNear cpu.old reader.old result cpu.new reader.new }
+    ensures { MadeNear cpu.old reader.old result cpu.new reader.new why.new }
 {
     let second = match behind(cpu, *reader) {
         Some(second) => second,
-        None => return false,
+        None => return unread(why),
     };
-    let next = match behind(cpu, second) {
-        Some(next) => next,
-        None => return false,
-    };
+    let next = after(cpu, second);
     let step = literal(cpu, u64::from(first(second)), place(next));
-    went_on(step, reader, next)
+    went_on(step, reader, next, why)
 }
 
-/// A branch that is always taken, also at the end of the code. One to a place outside the segment isn't made here.
+/// A literal of sixteen bits.
 #[inline(always)]
-fn jumps(cpu: &mut Cpu, reader: &mut Reader) -> bool
+fn literal_16(cpu: &mut Cpu, reader: &mut Reader, why: &mut Step) -> bool
+    requires runs { RunsSome cpu.old }
+    requires stands { ReaderBehind cpu.old reader.old 0 }
+    requires begins { form_of (reader.old.bits / 2 ^ 56) ≡ Some (TwoMore (λ high low. ops.Lt16 (high * 256 + low))) }
+    ensures { MadeNear cpu.old reader.old result cpu.new reader.new why.new }
+{
+    let second = match behind(cpu, *reader) {
+        Some(second) => second,
+        None => return unread(why),
+    };
+    let third = match behind(cpu, second) {
+        Some(third) => third,
+        None => return unread(why),
+    };
+    let next = after(cpu, third);
+    let bits = u64::from(first(second)) * 256 + u64::from(first(third));
+    let step = literal(cpu, bits, place(next));
+    went_on(step, reader, next, why)
+}
+
+/// An operator that is read whole, or none, or a branch elsewhere.
+#[inline(always)]
+fn reads_whole(cpu: &mut Cpu, reader: Reader, why: &mut Step) -> Made
+    requires runs { RunsSome cpu.old }
+    requires stands { ReaderBehind cpu.old reader 0 }
+    requires whole { IsWhole (form_of (reader.bits / 2 ^ 56)) }
+    ensures { Makes cpu.old reader result cpu.new reader why.new }
+{
+    let _ = reader;
+    if makes_whole(cpu, why) {
+        Made::Away
+    } else {
+        Made::Not
+    }
+}
+
+/// A branch that is always taken, also at the end of the code.
+#[inline(always)]
+fn jumps(cpu: &mut Cpu, reader: &mut Reader, why: &mut Step) -> Made
     requires runs { RunsSome cpu.old }
     requires stands { ReaderBehind cpu.old reader.old 0 }
     requires begins { form_of (reader.old.bits / 2 ^ 56) ≡ Some (branch (branch_op true true)) }
-    ensures { MadeNear cpu.old reader.old result cpu.new reader.new }
+    ensures { Makes cpu.old reader.old result cpu.new reader.new why.new }
 {
     let second = match behind(cpu, *reader) {
         Some(second) => second,
-        None => return false,
+        None => return reads_whole(cpu, *reader, why),
     };
     let third = match behind(cpu, second) {
         Some(third) => third,
-        None => return false,
+        None => return reads_whole(cpu, *reader, why),
     };
     let to = target(first(second), first(third));
     if to.syllable >= 6 || u32::from(to.word) >= reader.code.words {
-        return false;
+        return reads_whole(cpu, *reader, why);
     }
     *reader = reader_to(cpu, reader.code, to);
     drop_cells(cpu, 0, to);
-    true
+    Made::On
 }
 
-/// A branch that is taken where bit 0 of the top cell is as wanted, then also at the end of the code. One to a place outside the
-/// segment isn't made here.
+/// A branch that is taken where bit 0 of the top cell is as wanted, then also at the end of the code.
 #[inline(always)]
-fn branches(cpu: &mut Cpu, reader: &mut Reader, wanted: bool) -> bool
+fn branches(cpu: &mut Cpu, reader: &mut Reader, wanted: bool, why: &mut Step) -> Made
     requires runs { RunsSome cpu.old }
     requires stands { ReaderBehind cpu.old reader.old 0 }
     requires begins { form_of (reader.old.bits / 2 ^ 56) ≡ Some (branch (branch_op false wanted)) }
-    ensures { MadeNear cpu.old reader.old result cpu.new reader.new }
+    ensures { Makes cpu.old reader.old result cpu.new reader.new why.new }
 {
     let second = match behind(cpu, *reader) {
         Some(second) => second,
-        None => return false,
+        None => return reads_whole(cpu, *reader, why),
     };
     let third = match behind(cpu, second) {
         Some(third) => third,
-        None => return false,
+        None => return reads_whole(cpu, *reader, why),
     };
     let top = match top_cell(cpu) {
         Ok(top) => top,
-        Err(_) => return false,
+        Err(_) => return reads_whole(cpu, *reader, why),
     };
     if top.tag() != 0 {
-        return false;
+        return reads_whole(cpu, *reader, why);
     }
     if (top.bits() % 2 == 1) == wanted {
         let to = target(first(second), first(third));
         if to.syllable >= 6 || u32::from(to.word) >= reader.code.words {
-            return false;
+            return reads_whole(cpu, *reader, why);
         }
         *reader = reader_to(cpu, reader.code, to);
         drop_cells(cpu, 1, to);
-        return true;
+        return Made::On;
     }
-    let next = match behind(cpu, third) {
-        Some(next) => next,
-        None => return false,
-    };
+    let next = after(cpu, third);
     drop_cells(cpu, 1, place(next));
     *reader = next;
-    true
+    Made::On
 }
 
 /// An operator without parameters on the top cells.
 #[inline(always)]
-fn computes(cpu: &mut Cpu, reader: &mut Reader, code: Code) -> bool
+fn computes(cpu: &mut Cpu, reader: &mut Reader, code: Code, why: &mut Step) -> bool
     requires runs { RunsSome cpu.old }
     requires stands { ReaderBehind cpu.old reader.old 0 }
     requires begins { form_of (reader.old.bits / 2 ^ 56) ≡ Some (Alone code) }
     requires top { is_on_top code ≡ true }
-    ensures { MadeNear cpu.old reader.old result cpu.new reader.new }
+    ensures { MadeNear cpu.old reader.old result cpu.new reader.new why.new }
 {
-    let next = match behind(cpu, *reader) {
-        Some(next) => next,
-        None => return false,
-    };
-    if !makes_plain(cpu, code, place(next)) {
+    let next = after(cpu, *reader);
+    if !makes_plain(cpu, code, place(next), why) {
         return false;
     }
     *reader = next;
     true
 }
 
+/// STFF, and whether it was made: the short way, and then the long one.
+#[inline(always)]
+fn makes_any_stff(cpu: &mut Cpu, next: Place, why: &mut Step) -> bool
+    requires { RunsSome cpu.old }
+    ensures { MadeOn (ops.Plain codes.Stff) next cpu.old result cpu.new why.new }
+{
+    if makes_stff(cpu, next) {
+        return true;
+    }
+    makes_far_stff(cpu, next, why)
+}
+
 /// INDX, NXLV, MKST or STFF, and whether it was made.
 #[inline(always)]
-fn makes_behind(cpu: &mut Cpu, code: Code, next: Place) -> bool
+fn makes_behind(cpu: &mut Cpu, code: Code, next: Place, why: &mut Step) -> bool
     requires runs { RunsSome cpu.old }
     requires behind { goes_behind code ≡ true }
-    ensures { MadeOn (ops.Plain code) next cpu.old result cpu.new }
+    ensures { MadeOn (ops.Plain code) next cpu.old result cpu.new why.new }
 {
     match code {
-        Code::Indx => makes_indx(cpu, next),
-        Code::Nxlv => makes_nxlv(cpu, next),
-        Code::Mkst => is_done(mkst(cpu, next)),
-        Code::Stff => makes_stff(cpu, next),
+        Code::Indx => makes_indx(cpu, next, why),
+        Code::Nxlv => makes_nxlv(cpu, next, why),
+        Code::Mkst => is_done(mkst(cpu, next), why),
+        Code::Stff => makes_any_stff(cpu, next, why),
         _ => unreachable!(),
     }
 }
 
 /// INDX, NXLV, MKST or STFF.
 #[inline(always)]
-fn stays(cpu: &mut Cpu, reader: &mut Reader, code: Code) -> bool
+fn stays(cpu: &mut Cpu, reader: &mut Reader, code: Code, why: &mut Step) -> bool
     requires runs { RunsSome cpu.old }
     requires stands { ReaderBehind cpu.old reader.old 0 }
     requires begins { form_of (reader.old.bits / 2 ^ 56) ≡ Some (Alone code) }
     requires behind { goes_behind code ≡ true }
-    ensures { MadeNear cpu.old reader.old result cpu.new reader.new }
+    ensures { MadeNear cpu.old reader.old result cpu.new reader.new why.new }
 {
-    let next = match behind(cpu, *reader) {
-        Some(next) => next,
-        None => return false,
-    };
-    if !makes_behind(cpu, code, place(next)) {
+    let next = after(cpu, *reader);
+    if !makes_behind(cpu, code, place(next), why) {
         return false;
     }
     *reader = next;
@@ -359,121 +390,148 @@ fn goes(went: Went, reader: &mut Reader, next: Reader) -> Made
     }
 }
 
+/// VALC, and what became of it: the short ways, and then the long one.
+#[inline(always)]
+fn makes_any_valc(cpu: &mut Cpu, couple: u16, next: Place, why: &mut Step) -> Went
+    requires runs { RunsSome cpu.old }
+    requires couple { couple < 2 ^ 14 }
+    requires next { IsPlace next }
+    ensures { MadeWent (ops.Valc couple) next cpu.old result cpu.new why.new }
+{
+    match evaluates_own(cpu, couple, next) {
+        Went::On => Went::On,
+        Went::Away => Went::Away,
+        Went::Not => makes_far_valc(cpu, couple, next, why),
+    }
+}
+
 /// VALC.
 #[inline(always)]
-fn evaluates(cpu: &mut Cpu, reader: &mut Reader) -> Made
+fn evaluates(cpu: &mut Cpu, reader: &mut Reader, why: &mut Step) -> Made
     requires runs { RunsSome cpu.old }
     requires stands { ReaderBehind cpu.old reader.old 0 }
     requires begins { form_of (reader.old.bits / 2 ^ 56) ≡ Some (OneMore (λ low. ops.Valc (reader.old.bits / 2 ^ 56 % 64 * 256 + low))) }
-    ensures { Makes cpu.old reader.old result cpu.new reader.new }
+    ensures { Makes cpu.old reader.old result cpu.new reader.new why.new }
 {
     let second = match behind(cpu, *reader) {
         Some(second) => second,
-        None => return Made::Not,
+        None => return on(unread(why)),
     };
-    let next = match behind(cpu, second) {
-        Some(next) => next,
-        None => return Made::Not,
-    };
+    let next = after(cpu, second);
     let named = couple(first(*reader), first(second));
-    let went = evaluates_own(cpu, named, place(next));
+    let went = makes_any_valc(cpu, named, place(next), why);
     goes(went, reader, next)
-}
-
-/// Whether a store is refused that wasn't made without a search: the cell on top is an array's descriptor.
-#[inline(always)]
-fn is_refused(code: Code, top: Word) -> bool
-    ensures { result ≡ true → top.tag ≡ 5 }
-{
-    match code {
-        Code::Stod => top.tag() == 5,
-        Code::Ston => top.tag() == 5,
-        _ => false,
-    }
 }
 
 /// LOAD, STOD or STON, and what became of it.
 #[inline(always)]
-fn makes_fetch(cpu: &mut Cpu, code: Code, next: Place) -> Went
+fn makes_fetch(cpu: &mut Cpu, code: Code, next: Place, why: &mut Step) -> Went
     requires runs { RunsSome cpu.old }
     requires enters { may_enter code ≡ true }
-    ensures { MadeWent (ops.Plain code) next cpu.old result cpu.new }
+    ensures { MadeWent (ops.Plain code) next cpu.old result cpu.new why.new }
 {
     match code {
-        Code::Load => makes_load(cpu, next),
-        Code::Stod => makes_stod(cpu, next),
-        Code::Ston => makes_ston(cpu, next),
+        Code::Load => makes_load(cpu, next, why),
+        Code::Stod => makes_stod(cpu, next, why),
+        Code::Ston => makes_ston(cpu, next, why),
         _ => unreachable!(),
     }
 }
 
 /// LOAD, STOD or STON.
 #[inline(always)]
-fn fetches(cpu: &mut Cpu, reader: &mut Reader, code: Code) -> Made
+fn fetches(cpu: &mut Cpu, reader: &mut Reader, code: Code, why: &mut Step) -> Made
     requires runs { RunsSome cpu.old }
     requires stands { ReaderBehind cpu.old reader.old 0 }
     requires begins { form_of (reader.old.bits / 2 ^ 56) ≡ Some (Alone code) }
     requires enters { may_enter code ≡ true }
-    ensures { Makes cpu.old reader.old result cpu.new reader.new }
+    ensures { Makes cpu.old reader.old result cpu.new reader.new why.new }
 {
-    let next = match behind(cpu, *reader) {
-        Some(next) => next,
-        None => return Made::Not,
-    };
+    let next = after(cpu, *reader);
     if stores_own(cpu, code, place(next)) {
         *reader = next;
         return Made::On;
     }
-    let top = cpu.core.get(cpu.regs.s);
-    if is_refused(code, top) {
-        return Made::Not;
-    }
-    let went = makes_fetch(cpu, code, place(next));
+    let went = makes_fetch(cpu, code, place(next), why);
     goes(went, reader, next)
+}
+
+/// ENTR, and whether it was made: the short way, and then the long one.
+#[inline(always)]
+fn makes_any_entr(cpu: &mut Cpu, next: Place, why: &mut Step) -> bool
+    requires runs { RunsSome cpu.old }
+    requires next { IsPlace next }
+    ensures { MadeAway (ops.Plain codes.Entr) next cpu.old result cpu.new why.new }
+{
+    if makes_entr(cpu, next) {
+        return true;
+    }
+    makes_far_entr(cpu, next, why)
 }
 
 /// ENTR.
 #[inline(always)]
-fn enters(cpu: &mut Cpu, reader: Reader) -> Made
+fn enters(cpu: &mut Cpu, reader: Reader, why: &mut Step) -> Made
     requires runs { RunsSome cpu.old }
     requires stands { ReaderBehind cpu.old reader 0 }
     requires begins { form_of (reader.bits / 2 ^ 56) ≡ Some (Alone codes.Entr) }
-    ensures { Makes cpu.old reader result cpu.new reader }
+    ensures { Makes cpu.old reader result cpu.new reader why.new }
 {
-    let next = match behind(cpu, reader) {
-        Some(next) => next,
-        None => return Made::Not,
-    };
-    if makes_entr(cpu, place(next)) {
+    let next = after(cpu, reader);
+    if makes_any_entr(cpu, place(next), why) {
         Made::Away
     } else {
         Made::Not
     }
 }
 
+/// EXIT, and whether it was made.
+#[inline(always)]
+fn makes_any_exit(cpu: &mut Cpu, why: &mut Step) -> bool
+    requires { RunsSome cpu.old }
+    ensures { MadeLeaving (ops.Plain codes.Exit) cpu.old result cpu.new why.new }
+{
+    if makes_exit(cpu) {
+        return true;
+    }
+    makes_last_exit(cpu, why)
+}
+
+/// RETN, and whether it was made.
+#[inline(always)]
+fn makes_any_retn(cpu: &mut Cpu, why: &mut Step) -> bool
+    requires { RunsSome cpu.old }
+    ensures { MadeLeaving (ops.Plain codes.Retn) cpu.old result cpu.new why.new }
+{
+    if makes_retn(cpu) {
+        return true;
+    }
+    makes_last_retn(cpu, why)
+}
+
 /// EXIT or RETN, and whether it was made.
 #[inline(always)]
-fn makes_leaving(cpu: &mut Cpu, code: Code) -> bool
+fn makes_leaving(cpu: &mut Cpu, code: Code, why: &mut Step) -> bool
     requires runs { RunsSome cpu.old }
     requires leaves { is_leaving (ops.Plain code) ≡ true }
-    ensures { MadeLeaving (ops.Plain code) cpu.old result cpu.new }
+    ensures { MadeLeaving (ops.Plain code) cpu.old result cpu.new why.new }
 {
     match code {
-        Code::Exit => makes_exit(cpu),
-        Code::Retn => makes_retn(cpu),
+        Code::Exit => makes_any_exit(cpu, why),
+        Code::Retn => makes_any_retn(cpu, why),
         _ => unreachable!(),
     }
 }
 
 /// EXIT or RETN.
 #[inline(always)]
-fn exits(cpu: &mut Cpu, code: Code) -> Made
+fn exits(cpu: &mut Cpu, code: Code, why: &mut Step) -> Made
     requires runs { RunsSome cpu.old }
     requires leaves { is_leaving (ops.Plain code) ≡ true }
-    ensures { LeavesBy (ops.Plain code) cpu.old result cpu.new }
+    ensures { LeavesBy (ops.Plain code) cpu.old result cpu.new why.new }
 {
     let upto = cpu.regs.s + 1;
-    if makes_leaving(cpu, code) {
+    if makes_leaving(cpu, code, why) {
         Made::Left(upto)
     } else {
         Made::Not
@@ -488,47 +546,48 @@ fn on(made: bool) -> Made
     if made { Made::On } else { Made::Not }
 }
 
-/// Executes the operator at the running place, at which the reader stands, if its first syllable is known and its answer is `Done`.
-/// Where the task goes on in the segment, the reader then stands at the new place. At `Not` nothing is changed.
+/// Executes the operator at the running place, at which the reader stands. Where the task goes on in the segment, the reader then
+/// stands at the new place. At `Not` nothing is changed, and `why` is the reason.
 #[inline(always)]
-pub fn operate_near(cpu: &mut Cpu, reader: &mut Reader) -> Made
+pub fn operate(cpu: &mut Cpu, reader: &mut Reader, why: &mut Step) -> Made
     requires runs { RunsSome cpu.old }
     requires stands { ReaderBehind cpu.old reader.old 0 }
-    ensures { Makes cpu.old reader.old result cpu.new reader.new }
+    ensures { Makes cpu.old reader.old result cpu.new reader.new why.new }
 {
     match near_of(first(*reader)) {
-        Near::Other => Made::Not,
-        Near::Far(code) => on(computes(cpu, reader, code)),
-        Near::Valc => evaluates(cpu, reader),
-        Near::Namc => on(names(cpu, reader)),
-        Near::Lt8 => on(literal_8(cpu, reader)),
-        Near::Zero => on(pushes_zero(cpu, reader)),
-        Near::One => on(pushes_one(cpu, reader)),
-        Near::Add => on(numbers(cpu, reader, Numeric::Add)),
-        Near::Subt => on(numbers(cpu, reader, Numeric::Subt)),
-        Near::Less => on(numbers(cpu, reader, Numeric::Less)),
-        Near::Greq => on(numbers(cpu, reader, Numeric::Greq)),
-        Near::Grtr => on(numbers(cpu, reader, Numeric::Grtr)),
-        Near::Lseq => on(numbers(cpu, reader, Numeric::Lseq)),
-        Near::Equl => on(numbers(cpu, reader, Numeric::Equl)),
-        Near::Neql => on(numbers(cpu, reader, Numeric::Neql)),
-        Near::Push => on(rests(cpu, reader, true)),
-        Near::Noop => on(rests(cpu, reader, false)),
-        Near::Dlet => on(deletes(cpu, reader)),
-        Near::Exch => on(exchanges(cpu, reader)),
-        Near::Dupl => on(doubles(cpu, reader)),
-        Near::Brfl => on(branches(cpu, reader, false)),
-        Near::Brtr => on(branches(cpu, reader, true)),
-        Near::Brun => on(jumps(cpu, reader)),
-        Near::Indx => on(stays(cpu, reader, Code::Indx)),
-        Near::Nxlv => on(stays(cpu, reader, Code::Nxlv)),
-        Near::Mkst => on(stays(cpu, reader, Code::Mkst)),
-        Near::Stff => on(stays(cpu, reader, Code::Stff)),
-        Near::Stod => fetches(cpu, reader, Code::Stod),
-        Near::Ston => fetches(cpu, reader, Code::Ston),
-        Near::Load => fetches(cpu, reader, Code::Load),
-        Near::Entr => enters(cpu, *reader),
-        Near::Exit => exits(cpu, Code::Exit),
-        Near::Retn => exits(cpu, Code::Retn),
+        Near::Other => reads_whole(cpu, *reader, why),
+        Near::Far(code) => on(computes(cpu, reader, code, why)),
+        Near::Valc => evaluates(cpu, reader, why),
+        Near::Namc => on(names(cpu, reader, why)),
+        Near::Lt8 => on(literal_8(cpu, reader, why)),
+        Near::Lt16 => on(literal_16(cpu, reader, why)),
+        Near::Zero => on(pushes_zero(cpu, reader, why)),
+        Near::One => on(pushes_one(cpu, reader, why)),
+        Near::Add => on(numbers(cpu, reader, Numeric::Add, why)),
+        Near::Subt => on(numbers(cpu, reader, Numeric::Subt, why)),
+        Near::Less => on(numbers(cpu, reader, Numeric::Less, why)),
+        Near::Greq => on(numbers(cpu, reader, Numeric::Greq, why)),
+        Near::Grtr => on(numbers(cpu, reader, Numeric::Grtr, why)),
+        Near::Lseq => on(numbers(cpu, reader, Numeric::Lseq, why)),
+        Near::Equl => on(numbers(cpu, reader, Numeric::Equl, why)),
+        Near::Neql => on(numbers(cpu, reader, Numeric::Neql, why)),
+        Near::Push => on(rests(cpu, reader, true, why)),
+        Near::Noop => on(rests(cpu, reader, false, why)),
+        Near::Dlet => on(deletes(cpu, reader, why)),
+        Near::Exch => on(exchanges(cpu, reader, why)),
+        Near::Dupl => on(doubles(cpu, reader, why)),
+        Near::Brfl => branches(cpu, reader, false, why),
+        Near::Brtr => branches(cpu, reader, true, why),
+        Near::Brun => jumps(cpu, reader, why),
+        Near::Indx => on(stays(cpu, reader, Code::Indx, why)),
+        Near::Nxlv => on(stays(cpu, reader, Code::Nxlv, why)),
+        Near::Mkst => on(stays(cpu, reader, Code::Mkst, why)),
+        Near::Stff => on(stays(cpu, reader, Code::Stff, why)),
+        Near::Stod => fetches(cpu, reader, Code::Stod, why),
+        Near::Ston => fetches(cpu, reader, Code::Ston, why),
+        Near::Load => fetches(cpu, reader, Code::Load, why),
+        Near::Entr => enters(cpu, *reader, why),
+        Near::Exit => exits(cpu, Code::Exit, why),
+        Near::Retn => exits(cpu, Code::Retn, why),
     }
 }

@@ -6,9 +6,9 @@ ghost use Rattle.b67_model.specs.declared.operators.Code.TheVariants as codes;
 ghost use Rattle.b67_ctl.specs.Layout.{IsPlace};
 ghost use Rattle.b67_layout.specs.Meets.{RunsSome};
 ghost use Rattle.b67_exec.specs.Operators.{may_enter};
-ghost use Rattle.b67_exec.specs.Far.{MadeOn, MadeWent};
+ghost use Rattle.b67_exec.specs.Far.{OnShortly, WentShortly};
 
-use crate::far::{Went, is_done, makes_valc, makes_valc_from, stayed};
+use crate::far::{Went, has_stayed, is_made, makes_valc, makes_valc_from};
 use b67_ctl::Irw;
 use b67_exec_cells::top_cell;
 use b67_fetch::{indx_at, nxlv_at, own_item, store_own, value};
@@ -23,7 +23,7 @@ pub(crate) fn evaluates_own(cpu: &mut Cpu, couple: u16, next: Place) -> Went
     requires runs { RunsSome cpu.old }
     requires couple { couple < 2 ^ 14 }
     requires next { IsPlace next }
-    ensures { MadeWent (Valc couple) next cpu.old result cpu.new }
+    ensures { WentShortly (Valc couple) next cpu.old result cpu.new }
 {
     let at = own_place(&cpu.core, &cpu.regs, &cpu.display, Irw { couple }.word());
     if at == 0 {
@@ -32,14 +32,14 @@ pub(crate) fn evaluates_own(cpu: &mut Cpu, couple: u16, next: Place) -> Went
     if cpu.core.get(at).tag() != 0 {
         return makes_valc_from(cpu, at, next);
     }
-    stayed(value(cpu, 0, End::Cell(at), next))
+    has_stayed(value(cpu, 0, End::Cell(at), next))
 }
 
 /// LOAD of an operand whose cell is in the top activation record, and whether it was made.
 #[inline(always)]
 fn loads_own(cpu: &mut Cpu, next: Place) -> bool
     requires { RunsSome cpu.old }
-    ensures { MadeOn (Plain codes.Load) next cpu.old result cpu.new }
+    ensures { OnShortly (Plain codes.Load) next cpu.old result cpu.new }
 {
     let w = match top_cell(cpu) {
         Ok(word) => word,
@@ -49,7 +49,7 @@ fn loads_own(cpu: &mut Cpu, next: Place) -> bool
     if at == 0 {
         return false;
     }
-    is_done(value(cpu, 1, End::Cell(at), next))
+    is_made(value(cpu, 1, End::Cell(at), next))
 }
 
 /// LOAD, or STOD or STON of an operand, through such a reference, and whether it was made.
@@ -57,7 +57,7 @@ fn loads_own(cpu: &mut Cpu, next: Place) -> bool
 pub(crate) fn stores_own(cpu: &mut Cpu, code: Code, next: Place) -> bool
     requires runs { RunsSome cpu.old }
     requires enters { may_enter code ≡ true }
-    ensures { MadeOn (Plain code) next cpu.old result cpu.new }
+    ensures { OnShortly (Plain code) next cpu.old result cpu.new }
 {
     match code {
         Code::Load => loads_own(cpu, next),
@@ -71,10 +71,10 @@ pub(crate) fn stores_own(cpu: &mut Cpu, code: Code, next: Place) -> bool
 #[inline(always)]
 pub(crate) fn indexes_own(cpu: &mut Cpu, next: Place) -> bool
     requires { RunsSome cpu.old }
-    ensures { MadeOn (Plain codes.Indx) next cpu.old result cpu.new }
+    ensures { OnShortly (Plain codes.Indx) next cpu.old result cpu.new }
 {
     match own_item(cpu) {
-        Some((original, index)) => is_done(indx_at(cpu, original, index, next)),
+        Some((original, index)) => is_made(indx_at(cpu, original, index, next)),
         None => false,
     }
 }
@@ -83,10 +83,10 @@ pub(crate) fn indexes_own(cpu: &mut Cpu, next: Place) -> bool
 #[inline(always)]
 pub(crate) fn takes_own(cpu: &mut Cpu, next: Place) -> bool
     requires { RunsSome cpu.old }
-    ensures { MadeOn (Plain codes.Nxlv) next cpu.old result cpu.new }
+    ensures { OnShortly (Plain codes.Nxlv) next cpu.old result cpu.new }
 {
     match own_item(cpu) {
-        Some((original, index)) => is_done(nxlv_at(cpu, original, index, next)),
+        Some((original, index)) => is_made(nxlv_at(cpu, original, index, next)),
         None => false,
     }
 }

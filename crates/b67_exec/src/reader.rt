@@ -1,16 +1,17 @@
 //! Reading code syllable after syllable.
 
-ghost use Rattle.std.specs.Prelude.{◌≡◌, ◌+◌, ◌-◌, ◌*◌, ◌/◌, ◌^◌, ◌<◌, ◌≤◌, ℕ, IfSome, slice_index};
+ghost use Rattle.std.specs.Prelude.{◌≡◌, ◌+◌, ◌-◌, ◌*◌, ◌/◌, ◌^◌, ◌<◌, ◌≤◌, ℕ, None, IfSome, slice_index};
 ghost use Rattle.b67_model.specs.Operators.{count_at};
 ghost use Rattle.b67_model.specs.Rows.{code_of};
 ghost use Rattle.b67_layout.specs.Meets.{RunsSome, ForEach};
-ghost use Rattle.b67_exec.specs.Near.{HoldsCode, ReaderAt, ReaderBehind};
+ghost use Rattle.b67_exec.specs.Near.{HoldsCode, ReaderAt, ReaderBehind, ReaderInside, EndsBehind, IsOutside, Stops};
 
 use b67_ctl::SegDesc;
-use b67_stack::Cpu;
-use b67_word::Place;
+use b67_exec_cells::present_segment;
+use b67_stack::{Cpu, Step, What};
+use b67_word::{Fault, Place};
 
-/// Where a syllable of the running segment's code stands, with what is left of its word from it on.
+/// Where a syllable of the running segment's code stands, with what is left of its word from it on; or the end of the code.
 #[derive(Clone, Copy, Debug, PartialEq, Eq)]
 pub struct Reader {
     /// The segment's descriptor.
@@ -59,7 +60,8 @@ pub fn place(r: Reader) -> Place
 pub fn behind(cpu: &Cpu, r: Reader) -> Option<Reader>
     requires runs { RunsSome cpu.now }
     requires stands { (n : ℕ) × ReaderBehind cpu.now r n }
-    ensures { (n : ℕ) → ReaderBehind cpu.now r n → IfSome result (λ next. ReaderBehind cpu.now next (n + 1)) }
+    ensures next { (n : ℕ) → ReaderInside cpu.now r n → IfSome result (λ next. ReaderInside cpu.now next (n + 1)) }
+    ensures end { (n : ℕ) → ReaderInside cpu.now r n → result ≡ None → EndsBehind cpu.now (n + 1) }
 {
     if r.syllable < 5 {
         return Some(Reader {
@@ -79,6 +81,41 @@ pub fn behind(cpu: &Cpu, r: Reader) -> Option<Reader>
         syllable: 0,
         bits: loaded(cpu, r.code, word),
     })
+}
+
+/// What stands behind a segment's code for a reader: no operator begins so.
+const END: u64 = 0xFD00_0000_0000_0000;
+
+/// The next syllable, or the end of the code.
+#[inline(always)]
+pub fn after(cpu: &Cpu, r: Reader) -> Reader
+    requires runs { RunsSome cpu.now }
+    requires stands { (n : ℕ) × ReaderBehind cpu.now r n }
+    ensures { (n : ℕ) → ReaderInside cpu.now r n → ReaderBehind cpu.now result (n + 1) }
+{
+    if r.syllable < 5 {
+        return Reader {
+            code: r.code,
+            word: r.word,
+            syllable: r.syllable + 1,
+            bits: r.bits << 8,
+        };
+    }
+    let word = r.word + 1;
+    if u32::from(word) >= r.code.words {
+        return Reader {
+            code: r.code,
+            word,
+            syllable: 0,
+            bits: END,
+        };
+    }
+    Reader {
+        code: r.code,
+        word,
+        syllable: 0,
+        bits: loaded(cpu, r.code, word),
+    }
 }
 
 /// A reader at a place inside the running segment.
@@ -102,14 +139,39 @@ pub fn reader_to(cpu: &Cpu, code: SegDesc, at: Place) -> Reader
 
 /// A reader at the running place. None if the place is outside the running segment.
 #[inline(always)]
-pub fn reader_at(cpu: &Cpu, code: SegDesc) -> Option<Reader>
+fn reader_at(cpu: &Cpu, code: SegDesc) -> Option<Reader>
     requires runs { RunsSome cpu.now }
     requires code { HoldsCode cpu.now code }
-    ensures { IfSome result (λ r. ReaderBehind cpu.now r 0) }
+    ensures reader { IfSome result (λ r. ReaderBehind cpu.now r 0) }
+    ensures outside { result ≡ None → IsOutside cpu.now.regs.place code }
 {
     let at = cpu.regs.place;
     if at.syllable >= 6 || u32::from(at.word) >= code.words {
         return None;
     }
     Some(reader_to(cpu, code, at))
+}
+
+/// A reader at the running place. None if the running segment is absent, or the place is outside it: then no operator is made, and
+/// `why` is the reason.
+#[inline(always)]
+pub fn reader_here(cpu: &Cpu, why: &mut Step) -> Option<Reader>
+    requires { RunsSome cpu.now }
+    ensures reader { IfSome result (λ r. ReaderBehind cpu.now r 0) }
+    ensures why { result ≡ None → Stops cpu.now why.new }
+{
+    let code = match present_segment(cpu) {
+        Some(code) => code,
+        None => {
+            *why = Step::Absent(What::Code(cpu.regs.segment));
+            return None;
+        }
+    };
+    match reader_at(cpu, code) {
+        Some(reader) => Some(reader),
+        None => {
+            *why = Step::Fault(Fault::InvalidOperator);
+            None
+        }
+    }
 }

@@ -3,17 +3,18 @@ use Rattle.std.proofs.Common.{◌≡◌, ℕ, ◌+◌, ◌^◌, ◌<◌, ◌≤�
 use Rattle.b67_model.specs.Common.{Session}
 use Rattle.b67_layout.specs.Common.{Placement, RepresentsStorage}
 use Rattle.b67_stack.specs.declared.Cpu.{Cpu}
+use Rattle.b67_stack.specs.declared.Step.{Step}
 use Rattle.b67_stack.specs.declared.Step.TheVariants.{Done}
 use Rattle.b67_stack.specs.MachineView.{PagedObject}
 use Rattle.b67_stack.specs.Represents.{Storage}
 use Rattle.b67_exec.specs.Operators.{CutsRecord}
-use Rattle.b67_exec.specs.Near.{FarMade, LeftMade}
+use Rattle.b67_exec.specs.Near.{FarMade, LeftMade, Stops}
 use Rattle.b67_task_release.specs.Left.{IsLeft, AreReleased}
 use Rattle.b67_task_tables.specs.declared.tables.Machine.{Machine}
 use Rattle.b67_task_tables.specs.Runs.{RunsTask, Keeps}
 use Rattle.b67_session.specs.Makes.{MakesInSegment, ForEachReady}
 use Rattle.b67_session.proofs.Gives.{Lefts, upto_fits, asks, in_turn, kept_after, gives}
-use Rattle.b67_session.proofs.OperatorsMade.{operator_made, operator_length}
+use Rattle.b67_session.proofs.OperatorsMade.{operator_made, not_made, operator_length}
 
 -- one that leaves no record
 pub stays_made : (old : Machine) (new : Cpu) → FarMade old.cpu new → ForEachReady old (λ x told plan s m t. MakesInSegment x told plan s m t Done old (record old { cpu = new }))
@@ -26,6 +27,14 @@ stays_keeps old new r made = record {
   sectors = refl;
   given = refl;
 }
+
+-- what isn't made, by its reason
+pub stopped : (k : Machine) (why : Step) → Stops k.cpu why → ForEachReady k (λ x told plan s m t. MakesInSegment x told plan s m t why k k)
+stopped k why stops x told plan s m t o h runs ready = not_made x told plan s m t k o h runs ready k.cpu why stops.other (stops.row x plan s m t o h.session runs)
+
+-- the first operator of a turn was made, or this is the reason
+pub stopped_first : (old new : Machine) (why : Step) → new ≡ old → Stops new.cpu why → ForEachReady old (λ x told plan s m t. MakesInSegment x told plan s m t why old new)
+stopped_first old new why same stops = subst (λ (z : Machine). ForEachReady z (λ x told plan s m t. MakesInSegment x told plan s m t why z new)) same (stopped new why stops)
 
 -- what giving back its arrays, up to an address, says of a machine
 abbrev pub GivesUpto : Machine → Cpu → ℕ → Machine → Type 0

@@ -1,17 +1,20 @@
 //! The next operator, with what it wants brought into core.
 
-ghost use Rattle.std.specs.Prelude.{◌≡◌, ◌+◌, length};
+ghost use Rattle.std.specs.Prelude.{◌≡◌, ◌≢◌, ◌+◌, length};
 ghost use Rattle.b67_layout_storage.specs.Machine.{DeviceAfterCalls, content_after};
 ghost use Rattle.b67_mcp.specs.Running.{JobsHaveRoom, CallCauses, Keeps};
+ghost use Rattle.b67_stack.specs.declared.Step.TheVariants.{Done};
+ghost use Rattle.b67_exec.specs.Near.{Stops};
 ghost use Rattle.b67_session.specs.Attempts.{RunsOver, ForEachOver, AttemptRow, WithCodeRow, LastRow, TablesStay};
 
 use crate::bringing::bring_wanted;
 use crate::outcomes::Attempt;
-use crate::tries::{Tried, try_once};
-use crate::turns::make_one;
+use crate::tries::{Tried, carry_out, try_once};
+use crate::turns::make_told;
 use b67_backing::Backing;
 use b67_io::Sink;
 use b67_mcp::Stop;
+use b67_stack::Step;
 use b67_task_tables::Machine;
 use b67_word::{Ending, Fault};
 
@@ -73,6 +76,68 @@ fn with_code<B: Backing, K: Sink>(
     }
 }
 
+/// Executes the next operator as `attempt` does, by its answer, which isn't `Done`.
+#[inline(always)]
+fn attempt_seen<B: Backing, K: Sink>(
+    machine: &mut Machine,
+    why: Step,
+    backing: &mut B,
+    paper: &mut K,
+) -> Result<Attempt, Stop>
+    requires runs { RunsOver machine.old (B.holds backing.old) }
+    requires jobs { JobsHaveRoom machine.old.tasks.jobs }
+    requires same { B.size backing.old + 1 ≡ length machine.old.sectors.links }
+    requires why { Stops machine.old.cpu why }
+    ensures row { ForEachOver machine.old (B.holds backing.old) (λ x plan s m t.
+        AttemptRow B.holds K.taken x (content_after x.device (B.holds backing.new)) (length machine.old.cpu.core) (B.size backing.old) machine.old.tasks.printed plan s m t result machine.new
+        backing.old backing.new paper.old paper.new) }
+    ensures causes { CallCauses B.faults K.faults backing.old backing.new paper.old paper.new result }
+    ensures kept { Keeps machine.old machine.new }
+    ensures tables { TablesStay result machine.old.tasks machine.new.tasks }
+    ensures device { DeviceAfterCalls B.holds B.size B.calls B.faults backing.old backing.new }
+{
+    match carry_out(machine, why, backing, paper) {
+        Ok(Tried::Made) => Ok(Attempt::Made),
+        Ok(Tried::Ends(ending)) => Ok(Attempt::Ends(ending)),
+        Ok(Tried::Waits(state)) => Ok(Attempt::Waits(state)),
+        Ok(Tried::Absent(wanted)) => match bring_wanted(machine, backing, wanted) {
+            Ok(()) => with_code(machine, backing, paper),
+            Err(stop) => Err(stop),
+        },
+        Err(stop) => Err(stop),
+    }
+}
+
+/// Executes the next operator as `attempt` does. If `why` isn't `Done`, it is what the operator was seen to answer. Then
+/// it is `Done`.
+#[inline(always)]
+pub(crate) fn attempt_told<B: Backing, K: Sink>(
+    machine: &mut Machine,
+    why: &mut Step,
+    backing: &mut B,
+    paper: &mut K,
+) -> Result<Attempt, Stop>
+    requires runs { RunsOver machine.old (B.holds backing.old) }
+    requires jobs { JobsHaveRoom machine.old.tasks.jobs }
+    requires same { B.size backing.old + 1 ≡ length machine.old.sectors.links }
+    requires why { why.old ≢ Done → Stops machine.old.cpu why.old }
+    ensures done { why.new ≡ Done }
+    ensures row { ForEachOver machine.old (B.holds backing.old) (λ x plan s m t.
+        AttemptRow B.holds K.taken x (content_after x.device (B.holds backing.new)) (length machine.old.cpu.core) (B.size backing.old) machine.old.tasks.printed plan s m t result machine.new
+        backing.old backing.new paper.old paper.new) }
+    ensures causes { CallCauses B.faults K.faults backing.old backing.new paper.old paper.new result }
+    ensures kept { Keeps machine.old machine.new }
+    ensures tables { TablesStay result machine.old.tasks machine.new.tasks }
+    ensures device { DeviceAfterCalls B.holds B.size B.calls B.faults backing.old backing.new }
+{
+    if make_told(machine, why) {
+        return Ok(Attempt::Made);
+    }
+    let seen = *why;
+    *why = Step::Done;
+    attempt_seen(machine, seen, backing, paper)
+}
+
 /// Executes the next operator of the running task, including an intrinsic's call. The running segment and the array that it
 /// touches are brought into core first, and other areas are evicted if need be.
 ///
@@ -105,39 +170,6 @@ pub fn attempt<B: Backing, K: Sink>(
     ensures tables { TablesStay result machine.old.tasks machine.new.tasks }
     ensures device { DeviceAfterCalls B.holds B.size B.calls B.faults backing.old backing.new }
 {
-    match try_once(machine, backing, paper) {
-        Ok(Tried::Made) => Ok(Attempt::Made),
-        Ok(Tried::Ends(ending)) => Ok(Attempt::Ends(ending)),
-        Ok(Tried::Waits(state)) => Ok(Attempt::Waits(state)),
-        Ok(Tried::Absent(wanted)) => match bring_wanted(machine, backing, wanted) {
-            Ok(()) => with_code(machine, backing, paper),
-            Err(stop) => Err(stop),
-        },
-        Err(stop) => Err(stop),
-    }
-}
-
-/// Executes the next operator as `attempt` does. If `near`, it is first tried as in a turn, which most operators are made by.
-#[inline(always)]
-pub(crate) fn attempt_near<B: Backing, K: Sink>(
-    machine: &mut Machine,
-    near: bool,
-    backing: &mut B,
-    paper: &mut K,
-) -> Result<Attempt, Stop>
-    requires runs { RunsOver machine.old (B.holds backing.old) }
-    requires jobs { JobsHaveRoom machine.old.tasks.jobs }
-    requires same { B.size backing.old + 1 ≡ length machine.old.sectors.links }
-    ensures row { ForEachOver machine.old (B.holds backing.old) (λ x plan s m t.
-        AttemptRow B.holds K.taken x (content_after x.device (B.holds backing.new)) (length machine.old.cpu.core) (B.size backing.old) machine.old.tasks.printed plan s m t result machine.new
-        backing.old backing.new paper.old paper.new) }
-    ensures causes { CallCauses B.faults K.faults backing.old backing.new paper.old paper.new result }
-    ensures kept { Keeps machine.old machine.new }
-    ensures tables { TablesStay result machine.old.tasks machine.new.tasks }
-    ensures device { DeviceAfterCalls B.holds B.size B.calls B.faults backing.old backing.new }
-{
-    if make_one(machine, near) {
-        return Ok(Attempt::Made);
-    }
-    attempt(machine, backing, paper)
+    let mut why = Step::Done;
+    attempt_told(machine, &mut why, backing, paper)
 }

@@ -19,6 +19,7 @@ use b67_backing::Backing;
 use b67_io::Sink;
 use b67_mcp::Stop;
 use b67_session_ends::{end_by_limit, is_at_limit};
+use b67_stack::Step;
 use b67_task_tables::{Machine, Tasks};
 
 /// How far a slice came: no task lives; the count of the halt is reached and a task lives; all its steps were made.
@@ -64,18 +65,16 @@ fn go_on<B: Backing, K: Sink>(
     ensures device { DeviceAfterCalls B.holds B.size B.calls B.faults backing.old backing.new }
 {
     let mut made = 0;
-    let mut near = true;
+    let mut why = Step::Done;
     'turn: while made < n {
         if let Some(progress) = pause(&machine.tasks, machine.tasks.halt) {
             return Ok(progress);
         }
-        match step(machine, near, backing, paper) {
+        match step(machine, &mut why, backing, paper) {
             Ok(()) => {}
             Err(stop) => return Err(stop),
         }
-        let more = go_on_with_turn(machine, n - made - 1);
-        made += 1 + more.made;
-        near = !more.stopped;
+        made += 1 + go_on_with_turn(machine, n - made - 1, &mut why);
     }
     match pause(&machine.tasks, machine.tasks.halt) {
         Some(progress) => Ok(progress),

@@ -7,7 +7,9 @@ ghost use Rattle.b67_layout_storage.specs.Machine.{Says, DeviceAfterCalls, conte
 ghost use Rattle.b67_io.specs.Causes.{Rose};
 ghost use Rattle.b67_law_sessions.specs.Orders.{IsInOrderButLimit};
 ghost use Rattle.b67_law_sessions.specs.Turns.{IsNext};
+ghost use Rattle.b67_stack.specs.declared.Step.TheVariants.{Done};
 ghost use Rattle.b67_stack.specs.Represents.{Storage};
+ghost use Rattle.b67_exec.specs.Near.{Stops};
 ghost use Rattle.b67_layout.specs.Placement.{Placement};
 ghost use Rattle.b67_task_tables.specs.Runs.{Keeps};
 ghost use Rattle.b67_task_tables.specs.Tables.{MachineRepresents};
@@ -17,13 +19,14 @@ ghost use Rattle.b67_session.specs.AttemptPassed.{CallCauses};
 ghost use Rattle.b67_session.specs.Slices.{IsStepDue, StandsAt, IfPresent};
 ghost use Rattle.b67_session.specs.Steps.{EndsStep, Steps};
 
-use crate::attempting::attempt_near;
+use crate::attempting::attempt_told;
 use crate::outcomes::Attempt;
 use crate::turns::give_turn;
 use b67_backing::Backing;
 use b67_io::Sink;
 use b67_mcp::Stop;
 use b67_session_ends::{close, count_one, finish, make_wait};
+use b67_stack::Step;
 use b67_task_switch::choose;
 use b67_task_tables::Machine;
 
@@ -47,16 +50,19 @@ fn end_step<K: Sink>(machine: &mut Machine, paper: &mut K) -> Result<(), Stop>
 
 /// Makes one step of a session of which a task lives, with its text printed and its operator counted. After a `Stop` it isn't
 /// counted, and the machine represents the state before it; but if the printer failed in the lines of LIMIT, the step is made
-/// and counted but for these lines and the tasks' ends. If `near`, the operator is first tried as in a turn; the step is the same.
+/// and counted but for these lines and the tasks' ends. If `why` isn't `Done`, it is what the operator at the running place was
+/// seen to answer; the step is the same. Then it is `Done`.
 #[inline(always)]
 pub(crate) fn step<B: Backing, K: Sink>(
     machine: &mut Machine,
-    near: bool,
+    why: &mut Step,
     backing: &mut B,
     paper: &mut K,
 ) -> Result<(), Stop>
     requires due { IsStepDue (B.holds backing.old) machine.old }
     requires sized { B.size backing.old + 1 ≡ length machine.old.sectors.links }
+    requires why { why.old ≢ Done → Stops machine.old.cpu why.old }
+    ensures done { why.new ≡ Done }
     ensures row { (said : Option (List (List ℕ))) (s : Session) → Says said (B.holds backing.old) → StandsAt said machine.old s
         → Steps K.taken (content_after said (B.holds backing.new)) (said ≢ None) (B.size backing.old) s result machine.old machine.new paper.old paper.new }
     ensures present { (said : Option (List (List ℕ))) (s : Session) (m : SessionJob) (t : Task) → Says said (B.holds backing.old) → (h : StandsAt said machine.old s) → IsNext s m t
@@ -69,8 +75,8 @@ pub(crate) fn step<B: Backing, K: Sink>(
         Some(chosen) => chosen,
         None => unreachable!(),
     };
-    give_turn(machine, chosen.row);
-    match attempt_near(machine, near, backing, paper) {
+    give_turn(machine, chosen.row, why);
+    match attempt_told(machine, why, backing, paper) {
         Ok(Attempt::Made) => {
             count_one(&mut machine.tasks, chosen);
             end_step(machine, paper)

@@ -2,12 +2,13 @@
 
 ghost use Rattle.std.specs.Prelude.{◌≡◌, ◌+◌, length};
 ghost use Rattle.b67_layout_storage.specs.Machine.{DeviceAfterCalls};
+ghost use Rattle.b67_exec.specs.Near.{Stops};
 ghost use Rattle.b67_task_tables.specs.Runs.{Keeps};
 ghost use Rattle.b67_mcp.specs.Running.{JobsHaveRoom, CallCauses};
 ghost use Rattle.b67_session.specs.Makes.{ForEachReady};
 ghost use Rattle.b67_session.specs.Tries.{ReadyRuns, TryRow};
 
-use crate::making::make;
+use crate::turns::make;
 use b67_backing::Backing;
 use b67_io::Sink;
 use b67_mcp::{CallEnd, Stop, intrinsic};
@@ -23,6 +24,40 @@ pub enum Tried {
     Absent(What),
     Ends(Ending),
     Waits(TaskState),
+}
+
+/// What is due where the next operator of the running task isn't made by itself and `why` is its answer: an intrinsic is called, or
+/// the answer is handed on. All else as `try_once`.
+#[inline(never)]
+pub(crate) fn carry_out<B: Backing, K: Sink>(
+    machine: &mut Machine,
+    why: Step,
+    backing: &mut B,
+    paper: &mut K,
+) -> Result<Tried, Stop>
+    requires runs { ReadyRuns machine.old }
+    requires jobs { JobsHaveRoom machine.old.tasks.jobs }
+    requires same { B.size backing.old + 1 ≡ length machine.old.sectors.links }
+    requires why { Stops machine.old.cpu why }
+    ensures tried { ForEachReady machine.old (λ x told plan s m t.
+        TryRow B.holds K.taken (B.size backing.old) x told plan s m t result machine.old machine.new backing.old backing.new paper.old paper.new) }
+    ensures causes { CallCauses B.faults K.faults backing.old backing.new paper.old paper.new result }
+    ensures keeps { Keeps machine.old machine.new }
+    ensures device { DeviceAfterCalls B.holds B.size B.calls B.faults backing.old backing.new }
+{
+    match why {
+        Step::Done => unreachable!(),
+        Step::Absent(found) => Ok(Tried::Absent(found)),
+        Step::Fault(fault) => Ok(Tried::Ends(Ending::Faulted(fault))),
+        Step::Ended => Ok(Tried::Ends(Ending::Ended)),
+        Step::Call(n) => match intrinsic(machine, n, backing, paper) {
+            Ok(CallEnd::Done) => Ok(Tried::Made),
+            Ok(CallEnd::Absent(found)) => Ok(Tried::Absent(found)),
+            Ok(CallEnd::Fault(fault)) => Ok(Tried::Ends(Ending::Faulted(fault))),
+            Ok(CallEnd::Waits(state)) => Ok(Tried::Waits(state)),
+            Err(stop) => Err(stop),
+        },
+    }
 }
 
 /// Makes the next operator of the running task, an intrinsic's call included, unless what it wants is absent. Nothing has
@@ -50,15 +85,6 @@ pub fn try_once<B: Backing, K: Sink>(
 {
     match make(machine) {
         Step::Done => Ok(Tried::Made),
-        Step::Absent(found) => Ok(Tried::Absent(found)),
-        Step::Fault(fault) => Ok(Tried::Ends(Ending::Faulted(fault))),
-        Step::Ended => Ok(Tried::Ends(Ending::Ended)),
-        Step::Call(n) => match intrinsic(machine, n, backing, paper) {
-            Ok(CallEnd::Done) => Ok(Tried::Made),
-            Ok(CallEnd::Absent(found)) => Ok(Tried::Absent(found)),
-            Ok(CallEnd::Fault(fault)) => Ok(Tried::Ends(Ending::Faulted(fault))),
-            Ok(CallEnd::Waits(state)) => Ok(Tried::Waits(state)),
-            Err(stop) => Err(stop),
-        },
+        why => carry_out(machine, why, backing, paper),
     }
 }

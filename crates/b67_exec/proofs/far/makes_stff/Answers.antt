@@ -1,7 +1,7 @@
 use Rattle.b67_model.specs.declared.operators.Op.TheVariants.{Plain}
 use Rattle.b67_model.specs.declared.operators.Code.TheVariants as codes
 use Rattle.b67_fetch.proofs.Values.{here_scene, here_shown}
-use Rattle.b67_exec.proofs.Fars.{on_by}
+use Rattle.b67_exec.proofs.Fars.{on_shortly}
 use Rattle.b67_exec.proofs.far.makes_stff.Goals as goal
 
 pub near_place-requires : goal.near_place-requires
@@ -24,4 +24,4 @@ pub stff_named-step-requires-clause-named : goal.stff_named-step-requires-clause
 stff_named-step-requires-clause-named c = (c.near_place.result, c.near_place.ensures.names c.if-near_place-eq0.false)
 
 pub returns : goal.returns
-returns c = on_by (Plain codes.Stff) c.args.next c.args.cpu.now c.stff_named-step.new.cpu c.requires c.stff_named-step.result c.is_done.result c.is_done.ensures c.stff_named-step.ensures.row c.stff_named-step.ensures.stays
+returns c = on_shortly (Plain codes.Stff) c.args.next c.args.cpu.now c.stff_named-step.new.cpu c.requires c.stff_named-step.result c.is_made.result c.is_made.ensures c.stff_named-step.ensures.row c.stff_named-step.ensures.stays

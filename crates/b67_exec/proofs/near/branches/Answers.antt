@@ -7,11 +7,31 @@ use Rattle.b67_layout.specs.Common.{here, IsMade}
 use Rattle.b67_exec_cells.proofs.Rows.{Drops}
 use Rattle.b67_exec_cells.proofs.Targets.{branch_taken, branch_passed}
 use Rattle.b67_exec.specs.Near.{HoldsCode, branch_op, reader_place}
-use Rattle.b67_exec.proofs.Through.{three_on, triple_to, triple_through, drops_operand, goes_to, branch_made, branch_row, aimed}
+use Rattle.b67_model.specs.Operators.{branch}
+use Rattle.b67_model.specs.Operators.{form_of}
+use Rattle.b67_exec.proofs.Wholes.{whole_branch}
+use Rattle.b67_exec.proofs.Through.{inside_of, three_on, triple_to, triple_through, drops_operand, goes_to, branch_made, branch_row, aimed}
 use Rattle.b67_exec.proofs.near.branches.Goals as goal
 
 pub behind-requires-2-clause-stands : goal.behind-requires-2-clause-stands
-behind-requires-2-clause-stands c = (0 + 1, c.in-Some.ensures 0 c.requires.stands)
+behind-requires-2-clause-stands c =
+    let d = c.in-Some.ensures.next 0 (inside_of c.args.cpu.now c.args.reader.now 0 (branch (branch_op false c.args.wanted)) c.requires.runs c.requires.stands c.requires.begins) in
+    (0 + 1, d.behind)
+
+pub reads_whole-requires-clause-whole : goal.reads_whole-requires-clause-whole
+reads_whole-requires-clause-whole c = whole_branch false c.args.wanted (form_of (c.args.reader.now.bits / 2 ^ 56)) c.requires.begins
+
+pub reads_whole-requires-in-None-behind-clause-whole : goal.reads_whole-requires-in-None-behind-clause-whole
+reads_whole-requires-in-None-behind-clause-whole c = whole_branch false c.args.wanted (form_of (c.args.reader.now.bits / 2 ^ 56)) c.requires.begins
+
+pub reads_whole-requires-in-Err-clause-whole : goal.reads_whole-requires-in-Err-clause-whole
+reads_whole-requires-in-Err-clause-whole c = whole_branch false c.args.wanted (form_of (c.args.reader.now.bits / 2 ^ 56)) c.requires.begins
+
+pub reads_whole-requires-then-tag-ne0-clause-whole : goal.reads_whole-requires-then-tag-ne0-clause-whole
+reads_whole-requires-then-tag-ne0-clause-whole c = whole_branch false c.args.wanted (form_of (c.args.reader.now.bits / 2 ^ 56)) c.requires.begins
+
+pub reads_whole-requires-then-to-ge6-clause-whole : goal.reads_whole-requires-then-to-ge6-clause-whole
+reads_whole-requires-then-to-ge6-clause-whole c = whole_branch false c.args.wanted (form_of (c.args.reader.now.bits / 2 ^ 56)) c.requires.begins
 
 pub reader_to-requires-clause-code : goal.reader_to-requires-clause-code
 reader_to-requires-clause-code c = c.requires.stands.code
@@ -30,8 +50,8 @@ returns-then-bits-wanted c =
     let top = c.in-Ok.top in
     let r = c.requires.runs in
     let b = c.requires.stands in
-    let d = c.in-Some.ensures 0 b in
-    let e = c.in-Some-behind.ensures (0 + 1) d in
+    let d = c.in-Some.ensures.next 0 (inside_of old before 0 (branch (branch_op false c.args.wanted)) r b c.requires.begins) in
+    let e = c.in-Some-behind.ensures.next (0 + 1) d in
     let op : ℕ → ℕ → Op = λ high low. branch_op false wanted (record { word = high % 32 * 256 + low; syllable = high / 32 }) in
     let there = aimed old aim to r c.if-to-ge6.false c.reader_to.ensures.at in
     let plain = sym c.tag.ensures.value ∙ c.if-tag-ne0.false in
@@ -46,8 +66,11 @@ returns-then-bits-wanted c =
     (drops_operand r.storage r.plan r.session r.member r.task old new to top (c.in-Ok.ensures.cell r.storage r.plan r.session r.member r.task r.ordered r.stands r.running) plain (c.drop_cells.ensures.row r.storage r.plan r.session r.member r.task r.ordered r.stands r.running)))
     (subst (HoldsCode old) (sym c.reader_to.ensures.code) b.code) (count_at to + 0) (c.reader_to.ensures.at r.storage r.plan r.session r.member r.task r.ordered r.stands r.running)
 
-pub behind-requires-3-clause-stands : goal.behind-requires-3-clause-stands
-behind-requires-3-clause-stands c = (0 + 1 + 1, c.in-Some-behind.ensures (0 + 1) (c.in-Some.ensures 0 c.requires.stands))
+pub after-next-requires-clause-stands : goal.after-next-requires-clause-stands
+after-next-requires-clause-stands c =
+    let d = c.in-Some.ensures.next 0 (inside_of c.args.cpu.now c.args.reader.now 0 (branch (branch_op false c.args.wanted)) c.requires.runs c.requires.stands c.requires.begins) in
+    let e = c.in-Some-behind.ensures.next (0 + 1) d in
+    (0 + 1 + 1, e.behind)
 
 pub drop_cells-requires-2-clause-cells : goal.drop_cells-requires-2-clause-cells
 drop_cells-requires-2-clause-cells c = c.in-Ok.ensures.above
@@ -58,13 +81,13 @@ returns c =
     let new = c.drop_cells-2.new.cpu in
     let before = c.args.reader.now in
     let wanted = c.args.wanted in
-    let next = c.in-Some-behind-2.next in
+    let next = c.after-next.result in
     let top = c.in-Ok.top in
     let r = c.requires.runs in
     let b = c.requires.stands in
-    let d = c.in-Some.ensures 0 b in
-    let e = c.in-Some-behind.ensures (0 + 1) d in
-    let f = c.in-Some-behind-2.ensures (0 + 1 + 1) e in
+    let d = c.in-Some.ensures.next 0 (inside_of old before 0 (branch (branch_op false c.args.wanted)) r b c.requires.begins) in
+    let e = c.in-Some-behind.ensures.next (0 + 1) d in
+    let f = c.after-next.ensures (0 + 1 + 1) e in
     let op : ℕ → ℕ → Op = λ high low. branch_op false wanted (record { word = high % 32 * 256 + low; syllable = high / 32 }) in
     let to : Place = record { word = (c.in-Some.second.bits / 2 ^ 56) % 32 * 256 + c.in-Some-behind.third.bits / 2 ^ 56; syllable = (c.in-Some.second.bits / 2 ^ 56) / 32 } in
     let q = reader_place next in

@@ -2,8 +2,9 @@ use Rattle.std.proofs.Common.{refl}
 use Rattle.b67_model.specs.declared.operators.Op.TheVariants.{Plain}
 use Rattle.b67_model.specs.declared.operators.Code.TheVariants as codes
 use Rattle.b67_model.specs.Common.{on_cells, exch}
+use Rattle.b67_model.specs.Operators.{Alone}
 use Rattle.b67_exec.specs.Near.{reader_place}
-use Rattle.b67_exec.proofs.Through.{lone_through, straight_made, each_as}
+use Rattle.b67_exec.proofs.Through.{lone_through, straight_made, inside_of, each_as}
 use Rattle.b67_exec.proofs.near.exchanges.Goals as goal
 
 pub returns : goal.returns
@@ -11,8 +12,8 @@ returns c =
     let old = c.args.cpu.now in
     let new = c.exch-step.new.cpu in
     let before = c.args.reader.now in
-    let next = c.in-Some.next in
+    let next = c.after-next.result in
     let b = c.requires.stands in
-    let d = c.in-Some.ensures 0 b in
-    straight_made old new before next c.went_on.new.reader (Plain codes.Exch) c.exch-step.result c.went_on.result c.requires.runs b refl (lone_through old before b codes.Exch next c.requires.begins d)
+    let d = c.after-next.ensures 0 (inside_of old before 0 (Alone codes.Exch) c.requires.runs b c.requires.begins) in
+    straight_made old new before next c.went_on.new.reader (Plain codes.Exch) c.exch-step.result c.went_on.result c.went_on.new.why c.requires.runs b refl (lone_through old before b codes.Exch next c.requires.begins d)
     (each_as old new c.exch-step.result (Plain codes.Exch) c.place.result (reader_place next) (λ h. on_cells exch h) c.place.ensures (λ h. refl) c.exch-step.ensures.row) c.went_on.ensures

@@ -1,14 +1,28 @@
-use Rattle.std.proofs.Common.{ℕ, ◌+◌, ◌*◌, ◌%◌, ◌/◌, [], refl, ap, subst, sym, true}
+use Rattle.std.proofs.Common.{ℕ, ◌+◌, ◌*◌, ◌%◌, ◌/◌, ◌^◌, [], refl, ap, subst, sym, true}
 use Rattle.b67_model.specs.declared.operators.Op.{Op}
 use Rattle.b67_model.specs.Common.{count_at}
 use Rattle.b67_layout.specs.Tops.{cells}
 use Rattle.b67_exec_cells.proofs.Rows.{marked}
 use Rattle.b67_exec.specs.Near.{HoldsCode, branch_op}
-use Rattle.b67_exec.proofs.Through.{three_on, triple_to, drops_none, goes_to, branch_made, aimed}
+use Rattle.b67_model.specs.Operators.{branch}
+use Rattle.b67_model.specs.Operators.{form_of}
+use Rattle.b67_exec.proofs.Wholes.{whole_branch}
+use Rattle.b67_exec.proofs.Through.{inside_of, three_on, triple_to, drops_none, goes_to, branch_made, aimed}
 use Rattle.b67_exec.proofs.near.jumps.Goals as goal
 
 pub behind-requires-2-clause-stands : goal.behind-requires-2-clause-stands
-behind-requires-2-clause-stands c = (0 + 1, c.in-Some.ensures 0 c.requires.stands)
+behind-requires-2-clause-stands c =
+    let d = c.in-Some.ensures.next 0 (inside_of c.args.cpu.now c.args.reader.now 0 (branch (branch_op true true)) c.requires.runs c.requires.stands c.requires.begins) in
+    (0 + 1, d.behind)
+
+pub reads_whole-requires-clause-whole : goal.reads_whole-requires-clause-whole
+reads_whole-requires-clause-whole c = whole_branch true true (form_of (c.args.reader.now.bits / 2 ^ 56)) c.requires.begins
+
+pub reads_whole-requires-in-None-behind-clause-whole : goal.reads_whole-requires-in-None-behind-clause-whole
+reads_whole-requires-in-None-behind-clause-whole c = whole_branch true true (form_of (c.args.reader.now.bits / 2 ^ 56)) c.requires.begins
+
+pub reads_whole-requires-then-to-ge6-clause-whole : goal.reads_whole-requires-then-to-ge6-clause-whole
+reads_whole-requires-then-to-ge6-clause-whole c = whole_branch true true (form_of (c.args.reader.now.bits / 2 ^ 56)) c.requires.begins
 
 pub reader_to-requires-clause-code : goal.reader_to-requires-clause-code
 reader_to-requires-clause-code c = c.requires.stands.code
@@ -25,8 +39,8 @@ returns c =
     let aim = c.reader_to.result in
     let r = c.requires.runs in
     let b = c.requires.stands in
-    let d = c.in-Some.ensures 0 b in
-    let e = c.in-Some-behind.ensures (0 + 1) d in
+    let d = c.in-Some.ensures.next 0 (inside_of old before 0 (branch (branch_op true true)) r b c.requires.begins) in
+    let e = c.in-Some-behind.ensures.next (0 + 1) d in
     let op : ℕ → ℕ → Op = λ high low. branch_op true true (record { word = high % 32 * 256 + low; syllable = high / 32 }) in
     let there = aimed old aim to r c.if-to-ge6.false c.reader_to.ensures.at in
     branch_made old new before aim true true to (three_on old) r b

@@ -7,7 +7,7 @@ use Rattle.b67_refer.proofs.Owns.{own_ends}
 use Rattle.b67_exec_cells.proofs.Put.{room}
 use Rattle.b67_fetch.proofs.Values.{here_scene, here_shown}
 use Rattle.b67_exec.proofs.Valcs.{couple_ends, couple_pushes}
-use Rattle.b67_exec.proofs.Fars.{stayed_by}
+use Rattle.b67_exec.proofs.Fars.{stayed_shortly}
 use Rattle.b67_exec.proofs.own.evaluates_own.Goals as goal
 
 pub own_place-at-requires : goal.own_place-at-requires
@@ -49,6 +49,6 @@ returns c =
     let leads : LeadsTo cpu.core cpu.regs cpu.display c.word.result (end.Cell at) = λ a q shown spot owner v stands.
     (let n = c.own_place-at.ensures.names c.if-at-eq0.false a q shown spot owner v stands in
     own_ends cpu.core cpu.regs a q at v n.0 n.1 (c.get.result, c.get.ensures, sym c.tag.ensures.value ∙ c.if-tag-ne0.false)) in
-    stayed_by (Valc c.args.couple) c.args.next cpu c.value.new.cpu c.requires.runs c.value.result c.stayed.result c.stayed.ensures
+    stayed_shortly (Valc c.args.couple) c.args.next cpu c.value.new.cpu c.requires.runs c.value.result c.has_stayed.result c.has_stayed.ensures
     (couple_pushes cpu c.args.couple c.args.next c.word.result c.requires.couple c.word.ensures (Ok (end.Cell at)) leads (end.Cell at) refl
     (λ cell e. let z : ⊥ = cc in z) c.value.result c.value.new.cpu c.value.ensures.row) c.value.ensures.stays

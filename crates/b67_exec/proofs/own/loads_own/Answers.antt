@@ -1,7 +1,7 @@
 use Rattle.b67_model.specs.declared.operators.Op.TheVariants.{Plain}
 use Rattle.b67_model.specs.declared.operators.Code.TheVariants as codes
 use Rattle.b67_fetch.proofs.Values.{here_scene, here_shown}
-use Rattle.b67_exec.proofs.Fars.{on_by}
+use Rattle.b67_exec.proofs.Fars.{on_shortly}
 use Rattle.b67_exec.proofs.Owns.{loads_end, own_loads}
 use Rattle.b67_exec.proofs.own.loads_own.Goals as goal
 
@@ -20,5 +20,5 @@ value-requires-clause-end c =
 
 pub returns : goal.returns
 returns c =
-    on_by (Plain codes.Load) c.args.next c.args.cpu.now c.value.new.cpu c.requires c.value.result c.is_done.result c.is_done.ensures
+    on_shortly (Plain codes.Load) c.args.next c.args.cpu.now c.value.new.cpu c.requires c.value.result c.is_made.result c.is_made.ensures
     (own_loads c.args.cpu.now c.args.next c.in-Ok.word c.own_operand-at.result (c.own_operand-at.ensures.leads c.if-at-eq0.false) c.in-Ok.ensures.cell c.value.result c.value.new.cpu c.value.ensures.row) c.value.ensures.stays

@@ -5,8 +5,8 @@ use Rattle.b67_model.specs.Common.{code_of, count_at}
 use Rattle.b67_exec.specs.Near.{HoldsCode, ReaderAt}
 use Rattle.b67_exec.proofs.reader.reader_at.Goals as goal
 
-pub returns : goal.returns
-returns c = record {
+pub returns-clause-reader : goal.returns-clause-reader
+returns-clause-reader c = record {
   code = (let P : SegDesc → Type 0 = λ d. HoldsCode c.args.cpu.now d in subst P (sym c.reader_to.ensures.code) c.requires.code);
   in_word = c.if-at-ge6.false;
   at = λ x plan s m t ordered h runs.

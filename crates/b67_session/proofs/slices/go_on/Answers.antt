@@ -59,6 +59,7 @@ module _ (g : Over) (c : After-step g) where
 
 pub turn-init : goal.turn-init
 turn-init g c = record {
+  why = λ e. absurd (e refl);
   few = omega arith;
   later = omega arith;
   device = Served-none g.B.Backing.holds g.B.Backing.size g.B.Backing.calls g.B.Backing.faults c.args.backing.now;
@@ -96,16 +97,16 @@ module _ (g : Over) (c : After-step g) (is : c.step.result ≡ Ok tt) (due : c.t
       (content_after told (g.B.Backing.holds c.step.new.backing)) (known_still told (g.B.Backing.holds c.turn.backing) (tells g c told s says h)) c.step.new.machine c.step.new.paper
       c.turn.invariant.keeps due (stepped g c told s says h (Ok tt) is)
 
-pub go_on_with_turn-more-requires-clause-stands : goal.go_on_with_turn-more-requires-clause-stands
-go_on_with_turn-more-requires-clause-stands g c =
-    let a = (goal.at.go_on_with_turn-more-requires-clause-stands g c).After-step in
+pub go_on_with_turn-requires-clause-stands : goal.go_on_with_turn-requires-clause-stands
+go_on_with_turn-requires-clause-stands g c =
+    let a = (goal.at.go_on_with_turn-requires-clause-stands g c).After-step in
     let l = c.requires.begins.stands in
     let one = one_more g a c.in-Ok.is c.in_default.ensures.1 l.said l.session l.says l.stands in
     record { said = content_after l.said (g.B.Backing.holds c.step.new.backing); session = one.session; stands = one.stands }
 
-pub go_on_with_turn-more-requires-clause-unprinted : goal.go_on_with_turn-more-requires-clause-unprinted
-go_on_with_turn-more-requires-clause-unprinted g c =
-    let a = (goal.at.go_on_with_turn-more-requires-clause-unprinted g c).After-step in
+pub go_on_with_turn-requires-clause-unprinted : goal.go_on_with_turn-requires-clause-unprinted
+go_on_with_turn-requires-clause-unprinted g c =
+    let a = (goal.at.go_on_with_turn-requires-clause-unprinted g c).After-step in
     let l = c.requires.begins.stands in
     (one_more g a c.in-Ok.is c.in_default.ensures.1 l.said l.session l.says l.stands).texts.some (omega arith)
 
@@ -113,17 +114,18 @@ pub turn-preserved : goal.turn-preserved
 turn-preserved g c =
     let a = (goal.at.turn-preserved g c).After-step in
     let is : c.step.result ≡ Ok tt = c.in-Ok.is in
-    let more = c.go_on_with_turn-more.result.made in
+    let more = c.go_on_with_turn.result in
     let total : c.turn.made + (1 + more) ≡ c.turn.made + 1 + more = omega arith in
     record {
-      few = omega (arith, c.go_on_with_turn-more.ensures.few);
+      few = omega (arith, c.go_on_with_turn.ensures.few);
+      why = c.go_on_with_turn.ensures.stops;
       later = omega (arith, c.turn.invariant.later, c.step.ensures.causes.printer.later);
       device = Served-then g.B.Backing.holds g.B.Backing.size g.B.Backing.calls g.B.Backing.faults c.args.backing.now c.turn.backing c.step.new.backing c.turn.invariant.device c.step.ensures.device;
-      keeps = keeps_then c.args.machine.now c.step.new.machine c.go_on_with_turn-more.new.machine (keeps g a) c.go_on_with_turn-more.ensures.keeps;
+      keeps = keeps_then c.args.machine.now c.step.new.machine c.go_on_with_turn.new.machine (keeps g a) c.go_on_with_turn.ensures.keeps;
       going = λ said s says h.
           let one = one_more g a is c.in_default.ensures.1 said s says h in
-          going-turn g.K.Sink.taken (said ≢ None) (content_after said (g.B.Backing.holds c.step.new.backing)) (c.turn.made + 1) more (c.turn.made + (1 + more)) s c.args.machine.now c.step.new.machine c.go_on_with_turn-more.new.machine c.args.paper.now c.step.new.paper
-          one (keeps g a) (omega arith) (c.go_on_with_turn-more.ensures.row (content_after said (g.B.Backing.holds c.step.new.backing)) one.session one.stands) total;
+          going-turn g.K.Sink.taken (said ≢ None) (content_after said (g.B.Backing.holds c.step.new.backing)) (c.turn.made + 1) more (c.turn.made + (1 + more)) s c.args.machine.now c.step.new.machine c.go_on_with_turn.new.machine c.args.paper.now c.step.new.paper
+          one (keeps g a) (omega arith) (c.go_on_with_turn.ensures.row (content_after said (g.B.Backing.holds c.step.new.backing)) one.session one.stands) total;
       begun = λ none. absurd (omega (arith, none));
       none = λ none. absurd (none_made c.args.machine.now c.turn.machine c.turn.made c.turn.invariant.none (λ zero. (c.turn.invariant.begun zero).0) c.in_default.ensures.0 none);
       unprinted = λ none. absurd (omega (arith, none));
@@ -135,13 +137,13 @@ turn-preserved g c =
           ((present g a said s says h m t next (Ok progress.More) later (omega arith) (λ room. tt) (λ whole. not_full_ok progress.More) (λ sum size e. absurd cc)).hole tells few fits none).written;
       areas = λ said s m t h job says next few alone hand counted.
           let later = made_no_fewer (stepped g a said s says h (Ok tt) is) in
-          let same : c.go_on_with_turn-more.new.machine ≡ c.step.new.machine = c.go_on_with_turn-more.ensures.rests (omega (arith, few)) in
+          let same : c.go_on_with_turn.new.machine ≡ c.step.new.machine = c.go_on_with_turn.ensures.rests (omega (arith, few)) in
           let there = (present g a said s says h m t next (Ok progress.More) later (omega arith) (λ room. tt) (λ whole. not_full_ok progress.More) (λ sum size e. absurd cc)).areas job few alone hand
           (ap (λ (z : Machine). z.tasks.made) (sym same) ∙ counted) in
           subst (λ (z : Machine). StepKeepsAreas h.storage h.plan s m t job z) (sym same) there;
       left = λ said s m t h says next few wants counted.
           let later = made_no_fewer (stepped g a said s says h (Ok tt) is) in
-          let same : c.go_on_with_turn-more.new.machine ≡ c.step.new.machine = c.go_on_with_turn-more.ensures.rests (omega (arith, few)) in
+          let same : c.go_on_with_turn.new.machine ≡ c.step.new.machine = c.go_on_with_turn.ensures.rests (omega (arith, few)) in
           let there = (present g a said s says h m t next (Ok progress.More) later (omega arith) (λ room. tt) (λ whole. not_full_ok progress.More) (λ sum size e. absurd cc)).left few wants
           (ap (λ (z : Machine). z.tasks.made) (sym same) ∙ counted) in
           subst (λ (z : Machine). StepLeaves h.storage h.plan s m t z) (sym same) there;

@@ -12,200 +12,200 @@ use Rattle.b67_session.proofs.Rooms.{can_number}
 use Rattle.b67_session.proofs.Turned.{Tries, who, has_row, turned, runs_over}
 use Rattle.b67_session.proofs.TriedSteps.{tries_as, made_counts, made_between, made_row, made_present, close_counts, closed_between, closed_row, closed_present, cut_row, cut_present, ending_made, ending_so, ending_chose, ending_closes, waiting_made, waiting_so, waiting_some, waiting_closes, stop_row, stop_present, ending_leaves, waiting_leaves}
 use Rattle.b67_session.proofs.steps.step.Given.{Over}
-use Rattle.b67_session.proofs.steps.step.Goals.{After-attempt_near}
+use Rattle.b67_session.proofs.steps.step.Goals.{After-attempt_told}
 use Rattle.b67_session.proofs.steps.step.Goals as goal
 
 -- a task has the turn, and its operator was tried
-context : (g : Over) (c : After-attempt_near g) → Tries g.B.Backing.holds g.K.Sink.taken (g.B.Backing.holds c.args.backing.now) (g.B.Backing.holds c.attempt_near.new.backing) (g.B.Backing.size c.args.backing.now) c.args.machine.now c.in-Some.chosen c.give_turn.new.machine c.attempt_near.result c.attempt_near.new.machine c.args.backing.now c.attempt_near.new.backing c.args.paper.now c.attempt_near.new.paper
+context : (g : Over) (c : After-attempt_told g) → Tries g.B.Backing.holds g.K.Sink.taken (g.B.Backing.holds c.args.backing.now) (g.B.Backing.holds c.attempt_told.new.backing) (g.B.Backing.size c.args.backing.now) c.args.machine.now c.in-Some.chosen c.give_turn.new.machine c.attempt_told.result c.attempt_told.new.machine c.args.backing.now c.attempt_told.new.backing c.args.paper.now c.attempt_told.new.paper
 context g c = record {
   chooses = c.in-Some.ensures.choice;
   counts = c.in-Some.ensures.room;
   gives = c.give_turn.ensures.stands;
   tables = c.give_turn.ensures.tables;
   core = c.give_turn.ensures.len;
-  row = c.attempt_near.ensures.row;
-  stay = c.attempt_near.ensures.tables;
-  halt = halt_kept c.give_turn.new.machine c.attempt_near.new.machine c.attempt_near.ensures.kept;
+  row = c.attempt_told.ensures.row;
+  stay = c.attempt_told.ensures.tables;
+  halt = halt_kept c.give_turn.new.machine c.attempt_told.new.machine c.attempt_told.ensures.kept;
 }
 
-halted : (g : Over) (c : After-attempt_near g) → c.attempt_near.new.machine.tasks.halt ≡ c.args.machine.now.tasks.halt
-halted g c = halt_kept c.give_turn.new.machine c.attempt_near.new.machine c.attempt_near.ensures.kept ∙ ap (λ (z : Tasks). z.halt) c.give_turn.ensures.tables
+halted : (g : Over) (c : After-attempt_told g) → c.attempt_told.new.machine.tasks.halt ≡ c.args.machine.now.tasks.halt
+halted g c = halt_kept c.give_turn.new.machine c.attempt_told.new.machine c.attempt_told.ensures.kept ∙ ap (λ (z : Tasks). z.halt) c.give_turn.ensures.tables
 
-kept : (g : Over) (c : After-attempt_near g) → Keeps c.args.machine.now c.attempt_near.new.machine
-kept g c = turn_keeps c.args.machine.now c.give_turn.new.machine c.attempt_near.new.machine c.in-Some.chosen.row c.give_turn.ensures.tables c.give_turn.ensures.len c.give_turn.ensures.sectors c.attempt_near.ensures.kept
+kept : (g : Over) (c : After-attempt_told g) → Keeps c.args.machine.now c.attempt_told.new.machine
+kept g c = turn_keeps c.args.machine.now c.give_turn.new.machine c.attempt_told.new.machine c.in-Some.chosen.row c.give_turn.ensures.tables c.give_turn.ensures.len c.give_turn.ensures.sectors c.attempt_told.ensures.kept
 
-pub give_turn-requires : goal.give_turn-requires
-give_turn-requires g c =
+pub give_turn-requires-clause-row : goal.give_turn-requires-clause-row
+give_turn-requires-clause-row g c =
     let l = c.requires.due.lives.some in
     has_row l.said c.args.machine.now l.session l.stands c.in-Some.chosen (c.in-Some.ensures.choice l.stands.plan l.session l.stands.ordered l.stands.stands.tables)
 
-pub attempt_near-requires-clause-runs : goal.attempt_near-requires-clause-runs
-attempt_near-requires-clause-runs g c =
+pub attempt_told-requires-clause-runs : goal.attempt_told-requires-clause-runs
+attempt_told-requires-clause-runs g c =
     let l = c.requires.due.lives.some in
     let chooses = c.in-Some.ensures.choice l.stands.plan l.session l.stands.ordered l.stands.stands.tables in
     let w = who l.said c.args.machine.now l.session l.stands c.in-Some.chosen chooses in
     runs_over l.said (g.B.Backing.holds c.args.backing.now) l.says c.give_turn.new.machine l.session w.member w.task c.in-Some.chosen
     (turned l.said c.args.machine.now l.session l.stands c.in-Some.chosen chooses c.give_turn.new.machine c.give_turn.ensures.stands (c.in-Some.ensures.room l.stands.plan l.session l.stands.ordered l.stands.stands.tables))
 
-pub attempt_near-requires-clause-jobs : goal.attempt_near-requires-clause-jobs
-attempt_near-requires-clause-jobs g c =
+pub attempt_told-requires-clause-jobs : goal.attempt_told-requires-clause-jobs
+attempt_told-requires-clause-jobs g c =
     let l = c.requires.due.lives.some in
     subst (λ (z : Tasks). JobsHaveRoom z.jobs) (sym c.give_turn.ensures.tables) (record { countable = c.requires.due.countable; number = can_number l.stands.plan l.session c.args.machine.now.tasks l.stands.ordered l.stands.stands.tables })
 
 pub count_one-requires : goal.count_one-requires
 count_one-requires g c =
     let l = c.requires.due.lives.some in
-    made_counts (tries_as c.attempt_near.result (Ok attempts.Made) (c.in-Ok-Made.is ∙ ap (λ (z : Attempt). Ok z) c.in-Ok-Made.field-0-is) (context g (goal.at.count_one-requires g c).After-attempt_near)) l.said l.session l.says l.stands
+    made_counts (tries_as c.attempt_told.result (Ok attempts.Made) (c.in-Ok-Made.is ∙ ap (λ (z : Attempt). Ok z) c.in-Ok-Made.field-0-is) (context g (goal.at.count_one-requires g c).After-attempt_told)) l.said l.session l.says l.stands
 
 pub end_step-requires : goal.end_step-requires
 end_step-requires g c =
     let l = c.requires.due.lives.some in
-    made_between (tries_as c.attempt_near.result (Ok attempts.Made) (c.in-Ok-Made.is ∙ ap (λ (z : Attempt). Ok z) c.in-Ok-Made.field-0-is) (context g (goal.at.end_step-requires g c).After-attempt_near)) l.said l.session l.says l.stands c.count_one.new.tasks c.count_one.ensures
+    made_between (tries_as c.attempt_told.result (Ok attempts.Made) (c.in-Ok-Made.is ∙ ap (λ (z : Attempt). Ok z) c.in-Ok-Made.field-0-is) (context g (goal.at.end_step-requires g c).After-attempt_told)) l.said l.session l.says l.stands c.count_one.new.tasks c.count_one.ensures
 
 pub returns-in-Ok-Made-clause-row : goal.returns-in-Ok-Made-clause-row
 returns-in-Ok-Made-clause-row g c = λ said s says h.
-    made_row (tries_as c.attempt_near.result (Ok attempts.Made) (c.in-Ok-Made.is ∙ ap (λ (z : Attempt). Ok z) c.in-Ok-Made.field-0-is) (context g (goal.at.returns-in-Ok-Made-clause-row g c).After-attempt_near)) said s says h c.count_one.new.tasks c.count_one.ensures c.end_step.result c.end_step.new.machine c.end_step.new.paper c.end_step.ensures.finishes c.end_step.ensures.tasks
+    made_row (tries_as c.attempt_told.result (Ok attempts.Made) (c.in-Ok-Made.is ∙ ap (λ (z : Attempt). Ok z) c.in-Ok-Made.field-0-is) (context g (goal.at.returns-in-Ok-Made-clause-row g c).After-attempt_told)) said s says h c.count_one.new.tasks c.count_one.ensures c.end_step.result c.end_step.new.machine c.end_step.new.paper c.end_step.ensures.finishes c.end_step.ensures.tasks
 
 pub returns-in-Ok-Made-clause-present : goal.returns-in-Ok-Made-clause-present
 returns-in-Ok-Made-clause-present g c = λ said s m t says h next.
-    made_present (tries_as c.attempt_near.result (Ok attempts.Made) (c.in-Ok-Made.is ∙ ap (λ (z : Attempt). Ok z) c.in-Ok-Made.field-0-is) (context g (goal.at.returns-in-Ok-Made-clause-present g c).After-attempt_near)) said s says h c.count_one.new.tasks c.count_one.ensures c.end_step.result c.end_step.new.machine c.end_step.new.paper c.end_step.ensures.finishes m t next
+    made_present (tries_as c.attempt_told.result (Ok attempts.Made) (c.in-Ok-Made.is ∙ ap (λ (z : Attempt). Ok z) c.in-Ok-Made.field-0-is) (context g (goal.at.returns-in-Ok-Made-clause-present g c).After-attempt_told)) said s says h c.count_one.new.tasks c.count_one.ensures c.end_step.result c.end_step.new.machine c.end_step.new.paper c.end_step.ensures.finishes m t next
 
 pub returns-in-Ok-Made-clause-causes : goal.returns-in-Ok-Made-clause-causes
 returns-in-Ok-Made-clause-causes g c =
-    step_causes g.B.Backing.faults g.K.Sink.faults c.args.backing.now c.attempt_near.new.backing c.args.paper.now c.attempt_near.new.paper c.end_step.new.paper c.end_step.result c.attempt_near.ensures.causes.printer.later c.end_step.ensures.later c.end_step.ensures.cause c.end_step.ensures.other
+    step_causes g.B.Backing.faults g.K.Sink.faults c.args.backing.now c.attempt_told.new.backing c.args.paper.now c.attempt_told.new.paper c.end_step.new.paper c.end_step.result c.attempt_told.ensures.causes.printer.later c.end_step.ensures.later c.end_step.ensures.cause c.end_step.ensures.other
 
 pub returns-in-Ok-Made-clause-kept : goal.returns-in-Ok-Made-clause-kept
 returns-in-Ok-Made-clause-kept g c =
-    let a = (goal.at.returns-in-Ok-Made-clause-kept g c).After-attempt_near in
-    let k = kept g a in let mid = record c.attempt_near.new.machine { tasks = c.count_one.new.tasks } in keeps_then c.args.machine.now mid c.end_step.new.machine (record { core = k.core; sectors = k.sectors; given = c.count_one.ensures.given ∙ k.given }) c.end_step.ensures.keeps
+    let a = (goal.at.returns-in-Ok-Made-clause-kept g c).After-attempt_told in
+    let k = kept g a in let mid = record c.attempt_told.new.machine { tasks = c.count_one.new.tasks } in keeps_then c.args.machine.now mid c.end_step.new.machine (record { core = k.core; sectors = k.sectors; given = c.count_one.ensures.given ∙ k.given }) c.end_step.ensures.keeps
 
 pub close-requires-clause-row : goal.close-requires-clause-row
 close-requires-clause-row g c =
     let l = c.requires.due.lives.some in
-    ending_chose c.in-Ok-Ends.ending (tries_as c.attempt_near.result (Ok (attempts.Ends c.in-Ok-Ends.ending)) (c.in-Ok-Ends.is ∙ ap (λ (z : Attempt). Ok z) c.in-Ok-Ends.field-0-is) (context g (goal.at.close-requires-clause-row g c).After-attempt_near)) l.said l.session l.says l.stands
+    ending_chose c.in-Ok-Ends.ending (tries_as c.attempt_told.result (Ok (attempts.Ends c.in-Ok-Ends.ending)) (c.in-Ok-Ends.is ∙ ap (λ (z : Attempt). Ok z) c.in-Ok-Ends.field-0-is) (context g (goal.at.close-requires-clause-row g c).After-attempt_told)) l.said l.session l.says l.stands
 
 pub close-requires-clause-room : goal.close-requires-clause-room
 close-requires-clause-room g c =
     let l = c.requires.due.lives.some in
-    let x = (tries_as c.attempt_near.result (Ok (attempts.Ends c.in-Ok-Ends.ending)) (c.in-Ok-Ends.is ∙ ap (λ (z : Attempt). Ok z) c.in-Ok-Ends.field-0-is) (context g (goal.at.close-requires-clause-room g c).After-attempt_near)) in
+    let x = (tries_as c.attempt_told.result (Ok (attempts.Ends c.in-Ok-Ends.ending)) (c.in-Ok-Ends.is ∙ ap (λ (z : Attempt). Ok z) c.in-Ok-Ends.field-0-is) (context g (goal.at.close-requires-clause-room g c).After-attempt_told)) in
     close_counts (attempts.Ends c.in-Ok-Ends.ending) x x.stay l.said l.session l.says l.stands (ending_made c.in-Ok-Ends.ending x l.said l.session l.says l.stands) (ending_so c.in-Ok-Ends.ending x l.said l.session l.says l.stands)
 
 pub end_step-requires-in-Ok : goal.end_step-requires-in-Ok
 end_step-requires-in-Ok g c =
     let l = c.requires.due.lives.some in
-    let x = (tries_as c.attempt_near.result (Ok (attempts.Ends c.in-Ok-Ends.ending)) (c.in-Ok-Ends.is ∙ ap (λ (z : Attempt). Ok z) c.in-Ok-Ends.field-0-is) (context g (goal.at.end_step-requires-in-Ok g c).After-attempt_near)) in
+    let x = (tries_as c.attempt_told.result (Ok (attempts.Ends c.in-Ok-Ends.ending)) (c.in-Ok-Ends.is ∙ ap (λ (z : Attempt). Ok z) c.in-Ok-Ends.field-0-is) (context g (goal.at.end_step-requires-in-Ok g c).After-attempt_told)) in
     closed_between (attempts.Ends c.in-Ok-Ends.ending) x x.stay l.said l.session l.says l.stands (ending_made c.in-Ok-Ends.ending x l.said l.session l.says l.stands) (ending_so c.in-Ok-Ends.ending x l.said l.session l.says l.stands) c.close.new.machine c.close.new.paper (ending_closes c.in-Ok-Ends.ending x l.said l.session l.says l.stands (Ok tt) c.close.new.machine c.close.new.paper c.in-Ok.ensures.closes)
 
 pub returns-in-Ok-clause-row : goal.returns-in-Ok-clause-row
 returns-in-Ok-clause-row g c = λ said s says h.
-    (let x = (tries_as c.attempt_near.result (Ok (attempts.Ends c.in-Ok-Ends.ending)) (c.in-Ok-Ends.is ∙ ap (λ (z : Attempt). Ok z) c.in-Ok-Ends.field-0-is) (context g (goal.at.returns-in-Ok-clause-row g c).After-attempt_near)) in
+    (let x = (tries_as c.attempt_told.result (Ok (attempts.Ends c.in-Ok-Ends.ending)) (c.in-Ok-Ends.is ∙ ap (λ (z : Attempt). Ok z) c.in-Ok-Ends.field-0-is) (context g (goal.at.returns-in-Ok-clause-row g c).After-attempt_told)) in
     closed_row (attempts.Ends c.in-Ok-Ends.ending) x x.stay said s says h (ending_made c.in-Ok-Ends.ending x said s says h) (ending_so c.in-Ok-Ends.ending x said s says h) c.close.new.machine c.close.new.paper (ending_closes c.in-Ok-Ends.ending x said s says h (Ok tt) c.close.new.machine c.close.new.paper c.in-Ok.ensures.closes) c.end_step-in-Ok.result c.end_step-in-Ok.new.machine c.end_step-in-Ok.new.paper c.end_step-in-Ok.ensures.finishes c.end_step-in-Ok.ensures.tasks)
 
 pub returns-in-Ok-clause-present : goal.returns-in-Ok-clause-present
 returns-in-Ok-clause-present g c = λ said s m t says h next.
-    (let x = (tries_as c.attempt_near.result (Ok (attempts.Ends c.in-Ok-Ends.ending)) (c.in-Ok-Ends.is ∙ ap (λ (z : Attempt). Ok z) c.in-Ok-Ends.field-0-is) (context g (goal.at.returns-in-Ok-clause-present g c).After-attempt_near)) in
+    (let x = (tries_as c.attempt_told.result (Ok (attempts.Ends c.in-Ok-Ends.ending)) (c.in-Ok-Ends.is ∙ ap (λ (z : Attempt). Ok z) c.in-Ok-Ends.field-0-is) (context g (goal.at.returns-in-Ok-clause-present g c).After-attempt_told)) in
     closed_present (attempts.Ends c.in-Ok-Ends.ending) x x.stay said s says h (ending_made c.in-Ok-Ends.ending x said s says h) (ending_so c.in-Ok-Ends.ending x said s says h) c.close.new.machine c.close.new.paper (ending_closes c.in-Ok-Ends.ending x said s says h (Ok tt) c.close.new.machine c.close.new.paper c.in-Ok.ensures.closes) c.end_step-in-Ok.result c.end_step-in-Ok.new.machine c.end_step-in-Ok.new.paper c.end_step-in-Ok.ensures.finishes (λ e. let b : ⊥ = cc in b)
     (λ wants. ending_leaves c.in-Ok-Ends.ending x said s says h wants c.close.new.machine c.close.new.paper c.in-Ok.ensures.closes c.end_step-in-Ok.result c.end_step-in-Ok.new.machine c.end_step-in-Ok.new.paper c.end_step-in-Ok.ensures.finishes) m t next)
 
 pub returns-in-Ok-clause-causes : goal.returns-in-Ok-clause-causes
 returns-in-Ok-clause-causes g c =
-    step_causes g.B.Backing.faults g.K.Sink.faults c.args.backing.now c.attempt_near.new.backing c.args.paper.now c.close.new.paper c.end_step-in-Ok.new.paper c.end_step-in-Ok.result (omega (arith, c.attempt_near.ensures.causes.printer.later, c.close.ensures.cause.later)) c.end_step-in-Ok.ensures.later c.end_step-in-Ok.ensures.cause c.end_step-in-Ok.ensures.other
+    step_causes g.B.Backing.faults g.K.Sink.faults c.args.backing.now c.attempt_told.new.backing c.args.paper.now c.close.new.paper c.end_step-in-Ok.new.paper c.end_step-in-Ok.result (omega (arith, c.attempt_told.ensures.causes.printer.later, c.close.ensures.cause.later)) c.end_step-in-Ok.ensures.later c.end_step-in-Ok.ensures.cause c.end_step-in-Ok.ensures.other
 
 pub returns-in-Ok-clause-kept : goal.returns-in-Ok-clause-kept
 returns-in-Ok-clause-kept g c =
-    let a = (goal.at.returns-in-Ok-clause-kept g c).After-attempt_near in
-    keeps_then c.args.machine.now c.close.new.machine c.end_step-in-Ok.new.machine (keeps_then c.args.machine.now c.attempt_near.new.machine c.close.new.machine (kept g a) c.close.ensures.keeps) c.end_step-in-Ok.ensures.keeps
+    let a = (goal.at.returns-in-Ok-clause-kept g c).After-attempt_told in
+    keeps_then c.args.machine.now c.close.new.machine c.end_step-in-Ok.new.machine (keeps_then c.args.machine.now c.attempt_told.new.machine c.close.new.machine (kept g a) c.close.ensures.keeps) c.end_step-in-Ok.ensures.keeps
 
 pub returns-in-Err-close-clause-row : goal.returns-in-Err-close-clause-row
 returns-in-Err-close-clause-row g c = λ said s says h.
-    (let x = (tries_as c.attempt_near.result (Ok (attempts.Ends c.in-Ok-Ends.ending)) (c.in-Ok-Ends.is ∙ ap (λ (z : Attempt). Ok z) c.in-Ok-Ends.field-0-is) (context g (goal.at.returns-in-Err-close-clause-row g c).After-attempt_near)) in
-    cut_row (attempts.Ends c.in-Ok-Ends.ending) x x.stay said s says h (ending_made c.in-Ok-Ends.ending x said s says h) (ending_so c.in-Ok-Ends.ending x said s says h) c.in-Err-close._failed c.close.new.machine c.close.new.paper c.requires.due.before_halt (halted g (goal.at.returns-in-Err-close-clause-row g c).After-attempt_near) (ending_closes c.in-Ok-Ends.ending x said s says h (Err c.in-Err-close._failed) c.close.new.machine c.close.new.paper c.in-Err-close.ensures.closes))
+    (let x = (tries_as c.attempt_told.result (Ok (attempts.Ends c.in-Ok-Ends.ending)) (c.in-Ok-Ends.is ∙ ap (λ (z : Attempt). Ok z) c.in-Ok-Ends.field-0-is) (context g (goal.at.returns-in-Err-close-clause-row g c).After-attempt_told)) in
+    cut_row (attempts.Ends c.in-Ok-Ends.ending) x x.stay said s says h (ending_made c.in-Ok-Ends.ending x said s says h) (ending_so c.in-Ok-Ends.ending x said s says h) c.in-Err-close._failed c.close.new.machine c.close.new.paper c.requires.due.before_halt (halted g (goal.at.returns-in-Err-close-clause-row g c).After-attempt_told) (ending_closes c.in-Ok-Ends.ending x said s says h (Err c.in-Err-close._failed) c.close.new.machine c.close.new.paper c.in-Err-close.ensures.closes))
 
 pub returns-in-Err-close-clause-present : goal.returns-in-Err-close-clause-present
 returns-in-Err-close-clause-present g c = λ said s m t says h next.
-    (let x = (tries_as c.attempt_near.result (Ok (attempts.Ends c.in-Ok-Ends.ending)) (c.in-Ok-Ends.is ∙ ap (λ (z : Attempt). Ok z) c.in-Ok-Ends.field-0-is) (context g (goal.at.returns-in-Err-close-clause-present g c).After-attempt_near)) in
+    (let x = (tries_as c.attempt_told.result (Ok (attempts.Ends c.in-Ok-Ends.ending)) (c.in-Ok-Ends.is ∙ ap (λ (z : Attempt). Ok z) c.in-Ok-Ends.field-0-is) (context g (goal.at.returns-in-Err-close-clause-present g c).After-attempt_told)) in
     cut_present (attempts.Ends c.in-Ok-Ends.ending) x x.stay said s says h (ending_made c.in-Ok-Ends.ending x said s says h) (ending_so c.in-Ok-Ends.ending x said s says h) c.in-Err-close._failed c.close.new.machine c.close.new.paper (λ e. let b : ⊥ = cc in b)
     (ap (λ (k : Machine). k.tasks.made) (ending_closes c.in-Ok-Ends.ending x said s says h (Err c.in-Err-close._failed) c.close.new.machine c.close.new.paper c.in-Err-close.ensures.closes).1) m t next)
 
 pub returns-in-Err-close-clause-causes : goal.returns-in-Err-close-clause-causes
 returns-in-Err-close-clause-causes g c =
-    step_causes g.B.Backing.faults g.K.Sink.faults c.args.backing.now c.attempt_near.new.backing c.args.paper.now c.attempt_near.new.paper c.close.new.paper _ c.attempt_near.ensures.causes.printer.later c.close.ensures.cause.later (λ e. c.in-Err-close.ensures.cause.failed) (λ e. absurd cc)
+    step_causes g.B.Backing.faults g.K.Sink.faults c.args.backing.now c.attempt_told.new.backing c.args.paper.now c.attempt_told.new.paper c.close.new.paper _ c.attempt_told.ensures.causes.printer.later c.close.ensures.cause.later (λ e. c.in-Err-close.ensures.cause.failed) (λ e. absurd cc)
 
 pub returns-in-Err-close-clause-kept : goal.returns-in-Err-close-clause-kept
 returns-in-Err-close-clause-kept g c =
-    let a = (goal.at.returns-in-Err-close-clause-kept g c).After-attempt_near in
-    keeps_then c.args.machine.now c.attempt_near.new.machine c.close.new.machine (kept g a) c.close.ensures.keeps
+    let a = (goal.at.returns-in-Err-close-clause-kept g c).After-attempt_told in
+    keeps_then c.args.machine.now c.attempt_told.new.machine c.close.new.machine (kept g a) c.close.ensures.keeps
 
 pub make_wait-requires-clause-row : goal.make_wait-requires-clause-row
 make_wait-requires-clause-row g c =
     let l = c.requires.due.lives.some in
-    waiting_some c.in-Ok-Waits.state (tries_as c.attempt_near.result (Ok (attempts.Waits c.in-Ok-Waits.state)) (c.in-Ok-Waits.is ∙ ap (λ (z : Attempt). Ok z) c.in-Ok-Waits.field-0-is) (context g (goal.at.make_wait-requires-clause-row g c).After-attempt_near)) l.said l.session l.says l.stands
+    waiting_some c.in-Ok-Waits.state (tries_as c.attempt_told.result (Ok (attempts.Waits c.in-Ok-Waits.state)) (c.in-Ok-Waits.is ∙ ap (λ (z : Attempt). Ok z) c.in-Ok-Waits.field-0-is) (context g (goal.at.make_wait-requires-clause-row g c).After-attempt_told)) l.said l.session l.says l.stands
 
 pub make_wait-requires-clause-room : goal.make_wait-requires-clause-room
 make_wait-requires-clause-room g c =
     let l = c.requires.due.lives.some in
-    let x = (tries_as c.attempt_near.result (Ok (attempts.Waits c.in-Ok-Waits.state)) (c.in-Ok-Waits.is ∙ ap (λ (z : Attempt). Ok z) c.in-Ok-Waits.field-0-is) (context g (goal.at.make_wait-requires-clause-room g c).After-attempt_near)) in
+    let x = (tries_as c.attempt_told.result (Ok (attempts.Waits c.in-Ok-Waits.state)) (c.in-Ok-Waits.is ∙ ap (λ (z : Attempt). Ok z) c.in-Ok-Waits.field-0-is) (context g (goal.at.make_wait-requires-clause-room g c).After-attempt_told)) in
     close_counts (attempts.Waits c.in-Ok-Waits.state) x x.stay l.said l.session l.says l.stands (waiting_made c.in-Ok-Waits.state x l.said l.session l.says l.stands) (waiting_so c.in-Ok-Waits.state x l.said l.session l.says l.stands)
 
 pub end_step-requires-in-Ok-make_wait : goal.end_step-requires-in-Ok-make_wait
 end_step-requires-in-Ok-make_wait g c =
     let l = c.requires.due.lives.some in
-    let x = (tries_as c.attempt_near.result (Ok (attempts.Waits c.in-Ok-Waits.state)) (c.in-Ok-Waits.is ∙ ap (λ (z : Attempt). Ok z) c.in-Ok-Waits.field-0-is) (context g (goal.at.end_step-requires-in-Ok-make_wait g c).After-attempt_near)) in
+    let x = (tries_as c.attempt_told.result (Ok (attempts.Waits c.in-Ok-Waits.state)) (c.in-Ok-Waits.is ∙ ap (λ (z : Attempt). Ok z) c.in-Ok-Waits.field-0-is) (context g (goal.at.end_step-requires-in-Ok-make_wait g c).After-attempt_told)) in
     closed_between (attempts.Waits c.in-Ok-Waits.state) x x.stay l.said l.session l.says l.stands (waiting_made c.in-Ok-Waits.state x l.said l.session l.says l.stands) (waiting_so c.in-Ok-Waits.state x l.said l.session l.says l.stands) c.make_wait.new.machine c.make_wait.new.paper (waiting_closes c.in-Ok-Waits.state x l.said l.session l.says l.stands (Ok tt) c.make_wait.new.machine c.make_wait.new.paper c.in-Ok-make_wait.ensures.holds)
 
 pub returns-in-Ok-make_wait-clause-row : goal.returns-in-Ok-make_wait-clause-row
 returns-in-Ok-make_wait-clause-row g c = λ said s says h.
-    (let x = (tries_as c.attempt_near.result (Ok (attempts.Waits c.in-Ok-Waits.state)) (c.in-Ok-Waits.is ∙ ap (λ (z : Attempt). Ok z) c.in-Ok-Waits.field-0-is) (context g (goal.at.returns-in-Ok-make_wait-clause-row g c).After-attempt_near)) in
+    (let x = (tries_as c.attempt_told.result (Ok (attempts.Waits c.in-Ok-Waits.state)) (c.in-Ok-Waits.is ∙ ap (λ (z : Attempt). Ok z) c.in-Ok-Waits.field-0-is) (context g (goal.at.returns-in-Ok-make_wait-clause-row g c).After-attempt_told)) in
     closed_row (attempts.Waits c.in-Ok-Waits.state) x x.stay said s says h (waiting_made c.in-Ok-Waits.state x said s says h) (waiting_so c.in-Ok-Waits.state x said s says h) c.make_wait.new.machine c.make_wait.new.paper (waiting_closes c.in-Ok-Waits.state x said s says h (Ok tt) c.make_wait.new.machine c.make_wait.new.paper c.in-Ok-make_wait.ensures.holds) c.end_step-in-Ok-make_wait.result c.end_step-in-Ok-make_wait.new.machine c.end_step-in-Ok-make_wait.new.paper c.end_step-in-Ok-make_wait.ensures.finishes c.end_step-in-Ok-make_wait.ensures.tasks)
 
 pub returns-in-Ok-make_wait-clause-present : goal.returns-in-Ok-make_wait-clause-present
 returns-in-Ok-make_wait-clause-present g c = λ said s m t says h next.
-    (let x = (tries_as c.attempt_near.result (Ok (attempts.Waits c.in-Ok-Waits.state)) (c.in-Ok-Waits.is ∙ ap (λ (z : Attempt). Ok z) c.in-Ok-Waits.field-0-is) (context g (goal.at.returns-in-Ok-make_wait-clause-present g c).After-attempt_near)) in
+    (let x = (tries_as c.attempt_told.result (Ok (attempts.Waits c.in-Ok-Waits.state)) (c.in-Ok-Waits.is ∙ ap (λ (z : Attempt). Ok z) c.in-Ok-Waits.field-0-is) (context g (goal.at.returns-in-Ok-make_wait-clause-present g c).After-attempt_told)) in
     closed_present (attempts.Waits c.in-Ok-Waits.state) x x.stay said s says h (waiting_made c.in-Ok-Waits.state x said s says h) (waiting_so c.in-Ok-Waits.state x said s says h) c.make_wait.new.machine c.make_wait.new.paper (waiting_closes c.in-Ok-Waits.state x said s says h (Ok tt) c.make_wait.new.machine c.make_wait.new.paper c.in-Ok-make_wait.ensures.holds) c.end_step-in-Ok-make_wait.result c.end_step-in-Ok-make_wait.new.machine c.end_step-in-Ok-make_wait.new.paper c.end_step-in-Ok-make_wait.ensures.finishes (λ e. let b : ⊥ = cc in b)
     (λ wants. waiting_leaves c.in-Ok-Waits.state x said s says h wants c.make_wait.new.machine c.make_wait.new.paper c.in-Ok-make_wait.ensures.holds c.end_step-in-Ok-make_wait.result c.end_step-in-Ok-make_wait.new.machine c.end_step-in-Ok-make_wait.new.paper c.end_step-in-Ok-make_wait.ensures.finishes) m t next)
 
 pub returns-in-Ok-make_wait-clause-causes : goal.returns-in-Ok-make_wait-clause-causes
 returns-in-Ok-make_wait-clause-causes g c =
-    step_causes g.B.Backing.faults g.K.Sink.faults c.args.backing.now c.attempt_near.new.backing c.args.paper.now c.make_wait.new.paper c.end_step-in-Ok-make_wait.new.paper c.end_step-in-Ok-make_wait.result (omega (arith, c.attempt_near.ensures.causes.printer.later, c.make_wait.ensures.cause.later)) c.end_step-in-Ok-make_wait.ensures.later c.end_step-in-Ok-make_wait.ensures.cause c.end_step-in-Ok-make_wait.ensures.other
+    step_causes g.B.Backing.faults g.K.Sink.faults c.args.backing.now c.attempt_told.new.backing c.args.paper.now c.make_wait.new.paper c.end_step-in-Ok-make_wait.new.paper c.end_step-in-Ok-make_wait.result (omega (arith, c.attempt_told.ensures.causes.printer.later, c.make_wait.ensures.cause.later)) c.end_step-in-Ok-make_wait.ensures.later c.end_step-in-Ok-make_wait.ensures.cause c.end_step-in-Ok-make_wait.ensures.other
 
 pub returns-in-Ok-make_wait-clause-kept : goal.returns-in-Ok-make_wait-clause-kept
 returns-in-Ok-make_wait-clause-kept g c =
-    let a = (goal.at.returns-in-Ok-make_wait-clause-kept g c).After-attempt_near in
-    keeps_then c.args.machine.now c.make_wait.new.machine c.end_step-in-Ok-make_wait.new.machine (keeps_then c.args.machine.now c.attempt_near.new.machine c.make_wait.new.machine (kept g a) c.make_wait.ensures.keeps) c.end_step-in-Ok-make_wait.ensures.keeps
+    let a = (goal.at.returns-in-Ok-make_wait-clause-kept g c).After-attempt_told in
+    keeps_then c.args.machine.now c.make_wait.new.machine c.end_step-in-Ok-make_wait.new.machine (keeps_then c.args.machine.now c.attempt_told.new.machine c.make_wait.new.machine (kept g a) c.make_wait.ensures.keeps) c.end_step-in-Ok-make_wait.ensures.keeps
 
 pub returns-in-Err-make_wait-clause-row : goal.returns-in-Err-make_wait-clause-row
 returns-in-Err-make_wait-clause-row g c = λ said s says h.
-    (let x = (tries_as c.attempt_near.result (Ok (attempts.Waits c.in-Ok-Waits.state)) (c.in-Ok-Waits.is ∙ ap (λ (z : Attempt). Ok z) c.in-Ok-Waits.field-0-is) (context g (goal.at.returns-in-Err-make_wait-clause-row g c).After-attempt_near)) in
-    cut_row (attempts.Waits c.in-Ok-Waits.state) x x.stay said s says h (waiting_made c.in-Ok-Waits.state x said s says h) (waiting_so c.in-Ok-Waits.state x said s says h) c.in-Err-make_wait._failed c.make_wait.new.machine c.make_wait.new.paper c.requires.due.before_halt (halted g (goal.at.returns-in-Err-make_wait-clause-row g c).After-attempt_near) (waiting_closes c.in-Ok-Waits.state x said s says h (Err c.in-Err-make_wait._failed) c.make_wait.new.machine c.make_wait.new.paper c.in-Err-make_wait.ensures.holds))
+    (let x = (tries_as c.attempt_told.result (Ok (attempts.Waits c.in-Ok-Waits.state)) (c.in-Ok-Waits.is ∙ ap (λ (z : Attempt). Ok z) c.in-Ok-Waits.field-0-is) (context g (goal.at.returns-in-Err-make_wait-clause-row g c).After-attempt_told)) in
+    cut_row (attempts.Waits c.in-Ok-Waits.state) x x.stay said s says h (waiting_made c.in-Ok-Waits.state x said s says h) (waiting_so c.in-Ok-Waits.state x said s says h) c.in-Err-make_wait._failed c.make_wait.new.machine c.make_wait.new.paper c.requires.due.before_halt (halted g (goal.at.returns-in-Err-make_wait-clause-row g c).After-attempt_told) (waiting_closes c.in-Ok-Waits.state x said s says h (Err c.in-Err-make_wait._failed) c.make_wait.new.machine c.make_wait.new.paper c.in-Err-make_wait.ensures.holds))
 
 pub returns-in-Err-make_wait-clause-present : goal.returns-in-Err-make_wait-clause-present
 returns-in-Err-make_wait-clause-present g c = λ said s m t says h next.
-    (let x = (tries_as c.attempt_near.result (Ok (attempts.Waits c.in-Ok-Waits.state)) (c.in-Ok-Waits.is ∙ ap (λ (z : Attempt). Ok z) c.in-Ok-Waits.field-0-is) (context g (goal.at.returns-in-Err-make_wait-clause-present g c).After-attempt_near)) in
+    (let x = (tries_as c.attempt_told.result (Ok (attempts.Waits c.in-Ok-Waits.state)) (c.in-Ok-Waits.is ∙ ap (λ (z : Attempt). Ok z) c.in-Ok-Waits.field-0-is) (context g (goal.at.returns-in-Err-make_wait-clause-present g c).After-attempt_told)) in
     cut_present (attempts.Waits c.in-Ok-Waits.state) x x.stay said s says h (waiting_made c.in-Ok-Waits.state x said s says h) (waiting_so c.in-Ok-Waits.state x said s says h) c.in-Err-make_wait._failed c.make_wait.new.machine c.make_wait.new.paper (λ e. let b : ⊥ = cc in b)
     (ap (λ (k : Machine). k.tasks.made) (waiting_closes c.in-Ok-Waits.state x said s says h (Err c.in-Err-make_wait._failed) c.make_wait.new.machine c.make_wait.new.paper c.in-Err-make_wait.ensures.holds).1) m t next)
 
 pub returns-in-Err-make_wait-clause-causes : goal.returns-in-Err-make_wait-clause-causes
 returns-in-Err-make_wait-clause-causes g c =
-    step_causes g.B.Backing.faults g.K.Sink.faults c.args.backing.now c.attempt_near.new.backing c.args.paper.now c.attempt_near.new.paper c.make_wait.new.paper _ c.attempt_near.ensures.causes.printer.later c.make_wait.ensures.cause.later (λ e. c.in-Err-make_wait.ensures.cause.failed) (λ e. absurd cc)
+    step_causes g.B.Backing.faults g.K.Sink.faults c.args.backing.now c.attempt_told.new.backing c.args.paper.now c.attempt_told.new.paper c.make_wait.new.paper _ c.attempt_told.ensures.causes.printer.later c.make_wait.ensures.cause.later (λ e. c.in-Err-make_wait.ensures.cause.failed) (λ e. absurd cc)
 
 pub returns-in-Err-make_wait-clause-kept : goal.returns-in-Err-make_wait-clause-kept
 returns-in-Err-make_wait-clause-kept g c =
-    let a = (goal.at.returns-in-Err-make_wait-clause-kept g c).After-attempt_near in
-    keeps_then c.args.machine.now c.attempt_near.new.machine c.make_wait.new.machine (kept g a) c.make_wait.ensures.keeps
+    let a = (goal.at.returns-in-Err-make_wait-clause-kept g c).After-attempt_told in
+    keeps_then c.args.machine.now c.attempt_told.new.machine c.make_wait.new.machine (kept g a) c.make_wait.ensures.keeps
 
 pub returns-in-Err-clause-row : goal.returns-in-Err-clause-row
 returns-in-Err-clause-row g c = λ said s says h.
-    stop_row c.in-Err.stop (tries_as c.attempt_near.result (Err c.in-Err.stop) c.in-Err.is (context g (goal.at.returns-in-Err-clause-row g c).After-attempt_near)) said s says h c.requires.due.before_halt (halted g (goal.at.returns-in-Err-clause-row g c).After-attempt_near)
+    stop_row c.in-Err.stop (tries_as c.attempt_told.result (Err c.in-Err.stop) c.in-Err.is (context g (goal.at.returns-in-Err-clause-row g c).After-attempt_told)) said s says h c.requires.due.before_halt (halted g (goal.at.returns-in-Err-clause-row g c).After-attempt_told)
 
 pub returns-in-Err-clause-present : goal.returns-in-Err-clause-present
 returns-in-Err-clause-present g c = λ said s m t says h next.
-    stop_present c.in-Err.stop (tries_as c.attempt_near.result (Err c.in-Err.stop) c.in-Err.is (context g (goal.at.returns-in-Err-clause-present g c).After-attempt_near)) said s says h m t next
+    stop_present c.in-Err.stop (tries_as c.attempt_told.result (Err c.in-Err.stop) c.in-Err.is (context g (goal.at.returns-in-Err-clause-present g c).After-attempt_told)) said s says h m t next
 
 pub returns-in-Err-clause-causes : goal.returns-in-Err-clause-causes
 returns-in-Err-clause-causes g c =
-    caused_stop g.B.Backing.faults g.K.Sink.faults c.args.backing.now c.attempt_near.new.backing c.args.paper.now c.attempt_near.new.paper c.in-Err.stop c.in-Err.ensures.causes
+    caused_stop g.B.Backing.faults g.K.Sink.faults c.args.backing.now c.attempt_told.new.backing c.args.paper.now c.attempt_told.new.paper c.in-Err.stop c.in-Err.ensures.causes
 
 pub returns-in-Err-clause-kept : goal.returns-in-Err-clause-kept
 returns-in-Err-clause-kept g c =
-    let a = (goal.at.returns-in-Err-clause-kept g c).After-attempt_near in
+    let a = (goal.at.returns-in-Err-clause-kept g c).After-attempt_told in
     kept g a

@@ -7,7 +7,7 @@ use Rattle.b67_lemmas.proofs.Places.{get_within}
 
 pub returns-then-machine-row-clause-len : goal.returns-then-machine-row-clause-len
 returns-then-machine-row-clause-len c =
-    let q = c.requires in
+    let q = c.requires.row in
     let (r, at) = get_within c.args.machine.now.tasks.rows.items c.args.row q.inside in
     let after = c.switch_to.ensures.stands q.storage q.told q.plan q.session r q.ordered q.stands at in
     sym after.storage.size ∙ ap (λ (x : Areas). x.size) c.switch_to.ensures.areas ∙ q.stands.storage.size

@@ -1,13 +1,14 @@
 use Rattle.std.proofs.Common.{◌≡◌, ◌≢◌, ◌+◌, ◌-◌, refl, sym, ◌∙◌, subst, arith}
 use Rattle.b67_exec.specs.declared.far.Went.TheVariants as wents
-use Rattle.b67_task_tables.specs.Runs.{RunsTask}
+use Rattle.b67_exec.specs.Near.{Stops}
+use Rattle.b67_task_tables.specs.declared.tables.Machine.{Machine}
 use Rattle.b67_session.proofs.Begins.{begins_none, begins_same, begins_more, begins_runs}
 use Rattle.b67_session.proofs.Going.{keeps_on}
 use Rattle.b67_session.proofs.Turning.{turn_as, some_runs, turn_runs, turn_same, turn_next}
 use Rattle.b67_session.proofs.turns.make_in_segment.Goals as goal
 
-pub present_segment-requires : goal.present_segment-requires
-present_segment-requires c = some_runs c.args.machine.now c.requires.runs
+pub reader_here-requires : goal.reader_here-requires
+reader_here-requires c = some_runs c.args.machine.now c.requires.runs
 
 pub returns-in-None-clause-row : goal.returns-in-None-clause-row
 returns-in-None-clause-row c = λ said steps core s size h. turn_as said steps c.args.most s core c.args.machine.now h (steps + (c.args.most - c.args.most)) c.args.most (omega arith) refl
@@ -15,105 +16,79 @@ returns-in-None-clause-row c = λ said steps core s size h. turn_as said steps c
 pub returns-in-None-clause-first : goal.returns-in-None-clause-first
 returns-in-None-clause-first c = begins_none (c.args.most - c.args.most) c.args.machine.now (omega arith)
 
-pub reader_at-requires-clause-runs : goal.reader_at-requires-clause-runs
-reader_at-requires-clause-runs c = some_runs c.args.machine.now c.requires.runs
+pub returns-in-None-clause-stops : goal.returns-in-None-clause-stops
+returns-in-None-clause-stops c = λ e. c.reader_here.ensures.why c.in-None.is
 
-pub reader_at-requires-clause-code : goal.reader_at-requires-clause-code
-reader_at-requires-clause-code c = c.in-Some.ensures
-
-pub returns-in-None-reader_at-clause-row : goal.returns-in-None-reader_at-clause-row
-returns-in-None-reader_at-clause-row c = λ said steps core s size h. turn_as said steps c.args.most s core c.args.machine.now h (steps + (c.args.most - c.args.most)) c.args.most (omega arith) refl
-
-pub returns-in-None-reader_at-clause-first : goal.returns-in-None-reader_at-clause-first
-returns-in-None-reader_at-clause-first c = begins_none (c.args.most - c.args.most) c.args.machine.now (omega arith)
+pub returns-in-None-clause-left : goal.returns-in-None-clause-left
+returns-in-None-clause-left c = λ e. c.requires.some
 
 pub operator-init : goal.operator-init
 operator-init c = record {
   few = omega arith;
   tables = refl;
   keeps = record { core = refl; sectors = refl; given = refl };
-  stands = c.in-Some-reader_at.ensures;
+  stands = c.in-Some.ensures.reader;
   first = begins_none (c.args.most - c.args.most) c.args.machine.now (omega arith);
   turn = λ said steps core s size h. turn_as said steps c.args.most s core c.args.machine.now h (steps + (c.args.most - c.args.most)) c.args.most (omega arith) refl;
 }
 
 -- ---- an operator at the reader
 
-pub make_near-requires-clause-runs : goal.make_near-requires-clause-runs
-make_near-requires-clause-runs c =
+pub make_next-requires-clause-runs : goal.make_next-requires-clause-runs
+make_next-requires-clause-runs c =
     begins_runs c.args.most c.operator.room c.args.machine.now c.operator.machine (omega (arith, c.operator-test.true)) c.operator.invariant.few c.operator.invariant.first c.requires.runs
     (λ two. let q = c.requires.goes two in
     turn_runs q.said (q.steps + (c.args.most - c.operator.room)) c.operator.room q.first q.core c.operator.machine (c.operator.invariant.turn q.said q.steps q.core q.first q.size q.turn) (omega (arith, c.operator-test.true)))
 
-pub make_near-requires-clause-stands : goal.make_near-requires-clause-stands
-make_near-requires-clause-stands c = c.operator.invariant.stands
+pub make_next-requires-clause-stands : goal.make_next-requires-clause-stands
+make_next-requires-clause-stands c = c.operator.invariant.stands
 
 pub operator-preserved : goal.operator-preserved
 operator-preserved c =
-    let other : c.make_near.result ≢ wents.Not = λ e. let is = c.in-On.is in let z : ⊥ = cc in z in
+    let other : c.make_next.result ≢ wents.Not = λ e. let is = c.in-On.is in let z : ⊥ = cc in z in
     record {
       few = omega (arith, c.operator.invariant.few);
-      tables = c.make_near.ensures.tasks ∙ c.operator.invariant.tables;
-      keeps = keeps_on c.args.machine.now c.operator.machine c.make_near.new.machine c.operator.invariant.keeps c.make_near.ensures.keeps;
-      stands = c.make_near.ensures.stands c.in-On.is;
-      first = begins_more (c.args.most - c.operator.room) (c.args.most - (c.operator.room - 1)) c.args.machine.now c.operator.machine c.operator.machine c.make_near.new.machine (omega (arith, c.operator.invariant.few, c.operator-test.true)) refl
-          (c.make_near.ensures.row other) c.operator.invariant.first;
+      tables = c.make_next.ensures.tasks ∙ c.operator.invariant.tables;
+      keeps = keeps_on c.args.machine.now c.operator.machine c.make_next.new.machine c.operator.invariant.keeps c.make_next.ensures.keeps;
+      stands = c.make_next.ensures.stands c.in-On.is;
+      first = begins_more (c.args.most - c.operator.room) (c.args.most - (c.operator.room - 1)) c.args.machine.now c.operator.machine c.operator.machine c.make_next.new.machine (omega (arith, c.operator.invariant.few, c.operator-test.true)) refl
+          (c.make_next.ensures.row other) c.operator.invariant.first;
       turn = λ said steps core s size h.
-          turn_next said steps c.args.most c.operator.room s core c.operator.machine c.operator.machine c.make_near.new.machine c.operator-test.true c.operator.invariant.few refl (c.operator.invariant.keeps.core ∙ size) (c.operator.invariant.turn said steps core s size h)
-          (c.make_near.ensures.row other);
+          turn_next said steps c.args.most c.operator.room s core c.operator.machine c.operator.machine c.make_next.new.machine c.operator-test.true c.operator.invariant.few refl (c.operator.invariant.keeps.core ∙ size) (c.operator.invariant.turn said steps core s size h)
+          (c.make_next.ensures.row other);
     }
 
 pub returns-in-Away : goal.returns-in-Away
 returns-in-Away c =
-    let other : c.make_near.result ≢ wents.Not = λ e. let is = c.in-Away.is in let z : ⊥ = cc in z in
+    let other : c.make_next.result ≢ wents.Not = λ e. let is = c.in-Away.is in let z : ⊥ = cc in z in
     record {
       few = omega (arith, c.operator.invariant.few);
       some = λ e. omega (arith, c.operator.invariant.few, c.operator-test.true);
-      first = begins_more (c.args.most - c.operator.room) (c.args.most - (c.operator.room - 1)) c.args.machine.now c.operator.machine c.operator.machine c.make_near.new.machine (omega (arith, c.operator.invariant.few, c.operator-test.true)) refl
-          (c.make_near.ensures.row other) c.operator.invariant.first;
+      left = λ e. absurd (let z : ⊥ = cc in z);
+      stops = λ e. absurd (let z : ⊥ = cc in z);
+      first = begins_more (c.args.most - c.operator.room) (c.args.most - (c.operator.room - 1)) c.args.machine.now c.operator.machine c.operator.machine c.make_next.new.machine (omega (arith, c.operator.invariant.few, c.operator-test.true)) refl
+          (c.make_next.ensures.row other) c.operator.invariant.first;
       row = λ said steps core s size h.
-          turn_next said steps c.args.most c.operator.room s core c.operator.machine c.operator.machine c.make_near.new.machine c.operator-test.true c.operator.invariant.few refl (c.operator.invariant.keeps.core ∙ size) (c.operator.invariant.turn said steps core s size h)
-          (c.make_near.ensures.row other);
-      tables = c.make_near.ensures.tasks ∙ c.operator.invariant.tables;
-      keeps = keeps_on c.args.machine.now c.operator.machine c.make_near.new.machine c.operator.invariant.keeps c.make_near.ensures.keeps;
+          turn_next said steps c.args.most c.operator.room s core c.operator.machine c.operator.machine c.make_next.new.machine c.operator-test.true c.operator.invariant.few refl (c.operator.invariant.keeps.core ∙ size) (c.operator.invariant.turn said steps core s size h)
+          (c.make_next.ensures.row other);
+      tables = c.make_next.ensures.tasks ∙ c.operator.invariant.tables;
+      keeps = keeps_on c.args.machine.now c.operator.machine c.make_next.new.machine c.operator.invariant.keeps c.make_next.ensures.keeps;
     }
 
--- ---- another one, before which the machine is as it was
+-- ---- it isn't made, and the machine is as it was
 
-pub make_unknown-requires : goal.make_unknown-requires
-make_unknown-requires c =
-    record {
-      runs = subst RunsTask (sym (c.make_near.ensures.rest c.in-Not.is))
-          (begins_runs c.args.most c.operator.room c.args.machine.now c.operator.machine (omega (arith, c.operator-test.true)) c.operator.invariant.few c.operator.invariant.first c.requires.runs
-          (λ two. let q = c.requires.goes two in
-          turn_runs q.said (q.steps + (c.args.most - c.operator.room)) c.operator.room q.first q.core c.operator.machine (c.operator.invariant.turn q.said q.steps q.core q.first q.size q.turn) (omega (arith, c.operator-test.true))));
-    }
-
-pub returns-then-not-make_unknown : goal.returns-then-not-make_unknown
-returns-then-not-make_unknown c =
-    let tried : c.make_near.new.machine ≡ c.operator.machine = c.make_near.ensures.rest c.in-Not.is in
-    let same : c.make_unknown.new.machine ≡ c.make_near.new.machine = c.make_unknown.ensures.rest c.if-not-make_unknown.true in
+pub returns-in-Not : goal.returns-in-Not
+returns-in-Not c =
+    let same : c.make_next.new.machine ≡ c.operator.machine = c.make_next.ensures.rest c.in-Not.is in
     record {
       few = c.operator.invariant.few;
       some = λ e. absurd (let z : ⊥ = cc in z);
-      first = begins_same (c.args.most - c.operator.room) c.args.machine.now c.operator.machine c.make_unknown.new.machine (same ∙ tried) c.operator.invariant.first;
-      row = λ said steps core s size h. turn_same said (steps + (c.args.most - c.operator.room)) c.operator.room s core c.operator.machine c.make_unknown.new.machine (same ∙ tried) (c.operator.invariant.turn said steps core s size h);
-      tables = c.make_unknown.ensures.tasks ∙ c.make_near.ensures.tasks ∙ c.operator.invariant.tables;
-      keeps = keeps_on c.args.machine.now c.make_near.new.machine c.make_unknown.new.machine (keeps_on c.args.machine.now c.operator.machine c.make_near.new.machine c.operator.invariant.keeps c.make_near.ensures.keeps) c.make_unknown.ensures.keeps;
-    }
-
-pub returns-in-operator : goal.returns-in-operator
-returns-in-operator c =
-    record {
-      few = omega (arith, c.operator.invariant.few);
-      some = λ e. omega (arith, c.operator.invariant.few, c.operator-test.true);
-      first = begins_more (c.args.most - c.operator.room) (c.args.most - (c.operator.room - 1)) c.args.machine.now c.operator.machine c.make_near.new.machine c.make_unknown.new.machine (omega (arith, c.operator.invariant.few, c.operator-test.true)) (c.make_near.ensures.rest c.in-Not.is)
-          (c.make_unknown.ensures.row c.if-not-make_unknown.false) c.operator.invariant.first;
-      row = λ said steps core s size h.
-          turn_next said steps c.args.most c.operator.room s core c.operator.machine c.make_near.new.machine c.make_unknown.new.machine c.operator-test.true c.operator.invariant.few (c.make_near.ensures.rest c.in-Not.is) (c.operator.invariant.keeps.core ∙ size) (c.operator.invariant.turn said steps core s size h)
-          (c.make_unknown.ensures.row c.if-not-make_unknown.false);
-      tables = c.make_unknown.ensures.tasks ∙ c.make_near.ensures.tasks ∙ c.operator.invariant.tables;
-      keeps = keeps_on c.args.machine.now c.make_near.new.machine c.make_unknown.new.machine (keeps_on c.args.machine.now c.operator.machine c.make_near.new.machine c.operator.invariant.keeps c.make_near.ensures.keeps) c.make_unknown.ensures.keeps;
+      left = λ e. omega (arith, c.operator-test.true);
+      stops = λ e. subst (λ (z : Machine). Stops z.cpu c.make_next.new.why) (sym same) (c.make_next.ensures.why c.in-Not.is);
+      first = begins_same (c.args.most - c.operator.room) c.args.machine.now c.operator.machine c.make_next.new.machine same c.operator.invariant.first;
+      row = λ said steps core s size h. turn_same said (steps + (c.args.most - c.operator.room)) c.operator.room s core c.operator.machine c.make_next.new.machine same (c.operator.invariant.turn said steps core s size h);
+      tables = c.make_next.ensures.tasks ∙ c.operator.invariant.tables;
+      keeps = keeps_on c.args.machine.now c.operator.machine c.make_next.new.machine c.operator.invariant.keeps c.make_next.ensures.keeps;
     }
 
 pub returns-clause-some : goal.returns-clause-some

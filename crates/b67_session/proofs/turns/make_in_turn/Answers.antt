@@ -1,5 +1,5 @@
 use Rattle.std.proofs.Common.{◌+◌, ◌-◌, length, refl, ◌∙◌, arith}
-use Rattle.std.proofs.lemmas.Bool.{not-false}
+use Rattle.std.proofs.lemmas.Bool.{not-false, not-true}
 use Rattle.b67_session.proofs.Begins.{begins_none, begins_as, begins_then, begins_runs}
 use Rattle.b67_session.proofs.Going.{keeps_on}
 use Rattle.b67_session.proofs.Turning.{turn_as, turn_begins, turn_runs, made_in_turn}
@@ -8,6 +8,7 @@ use Rattle.b67_session.proofs.turns.make_in_turn.Goals as goal
 pub segment-init : goal.segment-init
 segment-init c = record {
   few = omega arith;
+  why = refl;
   tables = refl;
   keeps = record { core = refl; sectors = refl; given = refl };
   first = begins_none (c.args.room - c.args.room) c.args.machine.now (omega arith);
@@ -40,6 +41,8 @@ returns-then-not-next c =
     let left = c.make_in_segment-next.result.room in
     record {
       few = omega arith;
+      all = λ all. (let low = next.left (not-true _ c.if-not-next.true) in absurd (omega (arith, all, low, next.few, c.segment.invariant.few)));
+      stops = λ low. next.stops (not-true _ c.if-not-next.true);
       first = begins_as (c.args.room - c.segment.left + (c.segment.left - left)) (c.args.room - left) c.args.machine.now c.make_in_segment-next.new.machine (omega (arith, next.few, c.segment.invariant.few))
           (begins_then (c.args.room - c.segment.left) (c.segment.left - left) c.args.machine.now c.segment.machine c.make_in_segment-next.new.machine c.segment.invariant.first next.first);
       row = λ x said plan s o h w.
@@ -56,6 +59,7 @@ segment-preserved c =
     let left = c.make_in_segment-next.result.room in
     record {
       few = omega (arith, next.few, c.segment.invariant.few);
+      why = c.segment.invariant.why;
       first = begins_as (c.args.room - c.segment.left + (c.segment.left - left)) (c.args.room - left) c.args.machine.now c.make_in_segment-next.new.machine (omega (arith, next.few, c.segment.invariant.few))
           (begins_then (c.args.room - c.segment.left) (c.segment.left - left) c.args.machine.now c.segment.machine c.make_in_segment-next.new.machine c.segment.invariant.first next.first);
       tables = next.tables ∙ c.segment.invariant.tables;
@@ -69,7 +73,12 @@ pub segment-smaller : goal.segment-smaller
 segment-smaller c = c.make_in_segment-next.ensures.some (not-false _ c.if-not-next.false)
 
 pub returns-clause-row : goal.returns-clause-row
-returns-clause-row c = λ x said plan s o h w. made_in_turn said (c.args.room - c.segment.left) c.segment.left s (length c.args.machine.now.cpu.core) c.segment.machine (c.segment.invariant.turn x said plan s o h w)
+returns-clause-row c = λ x said plan s o h w.
+    made_in_turn said c.args.room c.segment.left s (length c.args.machine.now.cpu.core) c.segment.machine
+    (turn_as said (c.args.room - c.segment.left) c.segment.left s (length c.args.machine.now.cpu.core) c.segment.machine (c.segment.invariant.turn x said plan s o h w) c.args.room c.segment.left (omega (arith, c.segment-test.false)) refl)
+
+pub returns-clause-all : goal.returns-clause-all
+returns-clause-all c = λ all. c.segment.invariant.why
 
 pub returns-clause-first : goal.returns-clause-first
-returns-clause-first c = c.segment.invariant.first
+returns-clause-first c = begins_as (c.args.room - c.segment.left) c.args.room c.args.machine.now c.segment.machine (omega (arith, c.segment-test.false)) c.segment.invariant.first

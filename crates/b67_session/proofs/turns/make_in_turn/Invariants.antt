@@ -12,6 +12,7 @@ use Rattle.b67_session.proofs.turns.make_in_turn.Given as goal
 abbrev pub invariant-segment : goal.invariant-segment
 invariant-segment l = record {
   few : l.left ≤ l.room;
+  why : l.why ≡ l.initial.why;
   tables : l.machine.tasks ≡ l.initial.machine.tasks;
   keeps : Keeps l.initial.machine l.machine;
   first : BeginsWith (l.room - l.left) l.initial.machine l.machine;

@@ -1,0 +1,47 @@
+use Rattle.std.proofs.Common.{◌+◌, arith, refl}
+use Rattle.b67_model.specs.Common.{code_of, count_at}
+use Rattle.b67_exec_cells.proofs.Codes.{short}
+use Rattle.b67_exec.proofs.Readers.{words-are, stepped, crossed, ended}
+use Rattle.b67_exec.proofs.reader.after.Goals as goal
+
+pub returns-then-r-lt5 : goal.returns-then-r-lt5
+returns-then-r-lt5 c = λ n i.
+    let b = i.behind in
+    record {
+      code = b.code;
+      in_word = b.in_word;
+      at = λ x plan s m t ordered h runs.
+          let same = words-are x c.args.cpu.now plan s m t ordered h runs c.args.r.code (b.code x plan s m t ordered h runs) in
+          stepped c.args.r (code_of m.constants t.segment) (count_at t.place + n) (b.at x plan s m t ordered h runs) (omega (arith, same, i.inside)) c.if-r-lt5.true (count_at t.place + (n + 1)) (omega arith);
+    }
+
+pub overflow_add-word : goal.overflow_add-word
+overflow_add-word c =
+    let q = c.requires.runs in
+    let b = c.requires.stands.1 in
+    let long = short q.storage c.args.cpu.now q.plan q.session q.member q.task q.ordered q.stands q.running in
+    let a = b.at q.storage q.plan q.session q.member q.task q.ordered q.stands q.running in
+    omega (arith, long, a.at, a.within)
+
+pub returns-then-from-r : goal.returns-then-from-r
+returns-then-from-r c = λ n i.
+    let b = i.behind in
+    record {
+      code = b.code;
+      in_word = b.in_word;
+      at = λ x plan s m t ordered h runs.
+          let same = words-are x c.args.cpu.now plan s m t ordered h runs c.args.r.code (b.code x plan s m t ordered h runs) in
+          ended c.args.r (code_of m.constants t.segment) (count_at t.place + n) (b.at x plan s m t ordered h runs) (omega (arith, same, i.inside)) (omega (arith, c.if-r-lt5.false)) (omega (arith, same, c.if-from-r.true, c.from.ensures)) _ (count_at t.place + (n + 1)) (omega arith) refl;
+    }
+
+pub returns : goal.returns
+returns c = λ n i.
+    let b = i.behind in
+    record {
+      code = b.code;
+      in_word = b.in_word;
+      at = λ x plan s m t ordered h runs.
+          let same = words-are x c.args.cpu.now plan s m t ordered h runs c.args.r.code (b.code x plan s m t ordered h runs) in
+          crossed c.args.r (code_of m.constants t.segment) (count_at t.place + n) (b.at x plan s m t ordered h runs) (omega (arith, c.if-r-lt5.false)) (omega (arith, same, c.if-from-r.false, c.from.ensures))
+          c.loaded.result (c.loaded.ensures x plan s m t ordered h runs) c.loaded.type_inv (count_at t.place + (n + 1)) (omega arith);
+    }
