@@ -80,6 +80,24 @@ fn own_cell(core: &Core, regs: &Regs, display: &[u32; 32], w: Word, tag: u16) ->
     at
 }
 
+/// As `near_place`, if the word there has this tag.
+#[inline(always)]
+fn near_tagged(core: &Core, regs: &Regs, display: &[u32; 32], w: Word, tag: u16) -> u32
+    requires { (a : RunningContext core.now regs.now) × IsShown a display.now }
+    ensures names { result ≢ 0 → NamesCell core.now regs.now display.now w result }
+    ensures tagged { result ≢ 0 → HasTagAt core.now result tag }
+    ensures couple { result ≢ 0 → w.tag ≡ 1 }
+{
+    let at = near_place(core, regs, display, w);
+    if at == 0 {
+        return 0;
+    }
+    if core.get(at).tag() != tag {
+        return 0;
+    }
+    at
+}
+
 /// The core address of the operand's cell to which a word leads, if the word is that of a couple that names this cell, one of the
 /// running stack's top activation record. Else 0: the word may lead anywhere.
 #[inline(always)]
@@ -91,15 +109,15 @@ pub fn own_operand(core: &Core, regs: &Regs, display: &[u32; 32], w: Word) -> u3
     own_cell(core, regs, display, w, 0)
 }
 
-/// The core address of the original to which a word leads, if the word is that of a couple that names this cell, one of the running
-/// stack's top activation record. Else 0: the word may lead anywhere.
+/// The core address of the original to which a word leads, if the word is that of a couple that names this cell, and the cell lies
+/// near. Else 0: the word may lead anywhere.
 #[inline(always)]
 pub fn own_array(core: &Core, regs: &Regs, display: &[u32; 32], w: Word) -> u32
     requires { (a : RunningContext core.now regs.now) × IsShown a display.now }
     ensures leads { result ≢ 0 → LeadsTo core.now regs.now display.now w (end.Array result) }
     ensures couple { result ≢ 0 → w.tag ≡ 1 }
 {
-    let at = own_cell(core, regs, display, w, 5);
+    let at = near_tagged(core, regs, display, w, 5);
     if at == 0 {
         return 0;
     }
