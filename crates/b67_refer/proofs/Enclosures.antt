@@ -1,4 +1,4 @@
--- The activation record of the running stack in which a procedure's cell lies, met on the way down its marks.
+-- The activation record of a stack in which a procedure's cell lies, met on the way down its marks.
 use Rattle.std.proofs.Common.{◌≡◌, ℕ, ◌+◌, ◌-◌, ◌<◌, ◌≤◌, List, Some, refl, sym, ◌∙◌, ap, arith, ◌⊎◌, ⊎_elim, inl, inr, subst}
 use Rattle.std.specs.List.{slice_get}
 use Rattle.std.proofs.lemmas.Bool.{cases_lt}
@@ -7,17 +7,18 @@ use Rattle.b67_word.specs.declared.couples.Place.{Place}
 use Rattle.b67_ctl.specs.declared.registers.Regs.{Regs}
 use Rattle.b67_ctl.specs.declared.marks.Mscw.{Mscw}
 use Rattle.b67_ctl.specs.Layout.{mscw_word, IsMscw}
-use Rattle.b67_model.specs.Common.{Proc}
+use Rattle.b67_model.specs.Common.{Proc, height}
 use Rattle.b67_refer.specs.RunningContext.{RunningContext, live_of}
 use Rattle.b67_refer.specs.Cells.{frame_at_core}
+use Rattle.b67_refer.specs.LiveCells.{IsUnder}
 use Rattle.b67_refer.specs.Ends.{IsProcAt}
 use Rattle.b67_refer.proofs.Seats.{seat}
-use Rattle.b67_refer.proofs.Rule.{no_mark_under, return_tag}
+use Rattle.b67_refer.proofs.Rule.{cells_end, seat_address, no_mark_under, return_tag}
 use Rattle.b67_refer.proofs.Scans.{mark_there, bounds}
-use Rattle.b67_refer.proofs.Walks.{Spans, top_spans, has_mark, plain, down}
+use Rattle.b67_refer.proofs.Walks.{Spans, top_spans, slot_spans, has_mark, plain, down}
 
 module _ (core : List Tagged) (r : Regs) (a : RunningContext core r) where
-  -- a mark of the running stack, and the one over it or the place over the top. Under the lowest mark there is none
+  -- a mark of a stack, and the one over it or the place over the top. Under the lowest mark there is none
   pub record Between (mark past : ℕ) : Type 0 where
     pub over : ℕ
     pub spans : Spans core r (live_of a) mark over
@@ -25,6 +26,39 @@ module _ (core : List Tagged) (r : Regs) (a : RunningContext core r) where
 
   pub between_start : Between r.f (r.s + 1)
   between_start = record { over = r.s + 1; spans = top_spans core r (live_of a); is = inl refl }
+
+  -- in the stack of the procedure's frame
+  pub cell_under : (q : Place) (cell f segment level : ℕ) (place : Place) (p : IsProcAt a q cell f segment level place) → (top : ℕ) × IsUnder (live_of a) cell top
+  cell_under q cell f segment level place p =
+      let b = seat core r (live_of a) f p.cell.names.standing p.cell.names.among p.own in
+      let z = cells_end core r (live_of a) q f p.cell.names.standing b p.cell.names.entered p.own in
+      let at = seat_address core r (live_of a) q f p.cell.names.standing b p.cell.names.entered p.own in
+      let i = (bounds core r a q cell f segment level place p).1 in
+      let c = p.cell.address in (
+        b.top,
+        record {
+          slot = b.slot;
+          disp = height b.below + p.offset;
+          low = omega (arith, z, at, i, b.part.low, b.part.room);
+          at = omega (arith, c, at);
+          is = b.top_is;
+        },
+      )
+
+  pub between_under : (q : Place) (cell f segment level : ℕ) (place : Place) (p : IsProcAt a q cell f segment level place) (mark past : ℕ)
+      → ((top : ℕ) (under : IsUnder (live_of a) cell top) → mark ≡ under.is.mark) → ((top : ℕ) → IsUnder (live_of a) cell top → past ≡ top + 1) → Between mark past
+  unfolding cell_under
+  between_under q cell f segment level place p mark past is ends =
+      let b = seat core r (live_of a) f p.cell.names.standing p.cell.names.among p.own in
+      let c = cell_under q cell f segment level place p in
+      let S : ℕ → Type 0 = λ m. Spans core r (live_of a) m (c.0 + 1) in
+      record { over = c.0 + 1; spans = subst S (sym (is c.0 c.1)) (slot_spans core r (live_of a) cell c.0 c.1 b.held.holder b.held.live b.held.slot); is = inl (ends c.0 c.1) }
+
+  pub between_at : (m n p o : ℕ) → m ≡ n → p ≡ o → Between n o → Between m p
+  between_at m n p o e i b =
+      let S : ℕ → Type 0 = λ x. Between x o in
+      let T : ℕ → Type 0 = λ x. Between m x in
+      subst T (sym i) (subst S (sym e) b)
 
   pub between_mark : (mark past : ℕ) → Between mark past → (m : Mscw) × IsMscw m × (slice_get core mark ≡ Some (mscw_word m))
   between_mark mark past b = has_mark core r (live_of a) mark b.over b.spans

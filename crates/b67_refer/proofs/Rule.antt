@@ -150,7 +150,7 @@ module _ (core : List Tagged) (r : Regs) (a : LiveContext core r) where
         omega (arith, n, m, w, h, z)
 
     -- where the cells end
-    cells_end : base core r a b.slot + stack_words (acts core r a b.slot b.outer (b.frame ∷ b.below)) + 1 ≡ frame_address a.plan a.member a.task f + 2 + length b.frame.cells
+    pub cells_end : base core r a b.slot + stack_words (acts core r a b.slot b.outer (b.frame ∷ b.below)) + 1 ≡ frame_address a.plan a.member a.task f + 2 + length b.frame.cells
     cells_end =
         let k = b.slot in
         let m = head_high k b.outer b.frame.standing (acts core r a k b.outer b.below) b.below entered in

@@ -13,7 +13,7 @@ use Rattle.b67_law_order.proofs.Replaced.{numbers_append}
 use Rattle.b67_layout.specs.Placement.{slot_of, spot_in, outer_spots, spots}
 use Rattle.b67_refer.specs.RunningContext.{LiveContext}
 use Rattle.b67_refer.specs.LiveCells.{IsTop}
-use Rattle.b67_refer.proofs.Slots.{Part, drop, part_from, whole}
+use Rattle.b67_refer.proofs.Slots.{Part, Held, drop, part_from, whole}
 
 -- what other frames' spots look like: frames whose identities are above one don't hide the dictionary and the MCP
 pub spot_low : (k : ℕ) (outer : ℕ → StackPlace) (fs : List Frame) (id : ℕ) → id ≤ 1 → ((f : Frame) → Has fs f → 1 < f.identity) → spot_in k outer fs id ≡ outer id
@@ -35,6 +35,7 @@ module _ (core : List Tagged) (r : Regs) (a : LiveContext core r) where
     pub stands : frame.standing ≡ s
     pub spot : view id ≡ record { stack = slot; disp = height below }
     pub part : Part core r a slot outer top (frame ∷ below)
+    pub held : Held core r a slot top
     pub top_is : IsTop a slot top
     pub sees : (g : ℕ) → Has (known_numbers (map known_of (frame ∷ below) ++ known)) g → view g ≡ spot_in slot outer (frame ∷ below) g
     pub among : (k : Known) → Has (map known_of (frame ∷ below) ++ known) k → Has reach k
@@ -61,6 +62,7 @@ module _ (core : List Tagged) (r : Regs) (a : LiveContext core r) where
         stands = q.stands;
         spot = same id here ∙ q.spot;
         part = q.part;
+        held = q.held;
         top_is = q.top_is;
         sees = λ g h. same g (numbered g h) ∙ q.sees g h;
         among = λ k h. within k (q.among k h);
@@ -70,7 +72,7 @@ module _ (core : List Tagged) (r : Regs) (a : LiveContext core r) where
       }
 
   -- among frames of one stack
-  find_in : (k : ℕ) (outer : ℕ → StackPlace) (known : List Known) (top bound : ℕ) (fs : List Frame) → Part core r a k outer top fs → IsTop a k top
+  find_in : (k : ℕ) (outer : ℕ → StackPlace) (known : List Known) (top bound : ℕ) (fs : List Frame) → Part core r a k outer top fs → Held core r a k top
       → FramesInOrder (IsSegment a.member.constants) a.member.progress.job.arrays known fs → ((f : Frame) → Has fs f → IsFrame a.member.progress.job f) → Falls bound (known_numbers (map known_of fs ++ known))
       → (id : ℕ) (s : Standing) → Has (map known_of fs) (id, s) → Seat (spot_in k outer fs) (map known_of fs ++ known) id s
   find_in k outer known top bound [] p t o live falls id s h = absurd h
@@ -87,7 +89,8 @@ module _ (core : List Tagged) (r : Regs) (a : LiveContext core r) where
         stands = ap (λ (q : Known). q.1) e;
         spot = rw (eq-eqb f.identity id named) refl;
         part = p;
-        top_is = t;
+        held = t;
+        top_is = t.top_is;
         sees = λ g h. refl;
         among = λ q h. h;
         order = o;
@@ -127,7 +130,7 @@ module _ (core : List Tagged) (r : Regs) (a : LiveContext core r) where
       rw ne (apart f.identity fs known g falls.1 h k outer)
 
   -- frames of one stack over an outer reach
-  find_both : (k : ℕ) (outer : ℕ → StackPlace) (known : List Known) (top bound : ℕ) (fs : List Frame) → Part core r a k outer top fs → IsTop a k top
+  find_both : (k : ℕ) (outer : ℕ → StackPlace) (known : List Known) (top bound : ℕ) (fs : List Frame) → Part core r a k outer top fs → Held core r a k top
       → FramesInOrder (IsSegment a.member.constants) a.member.progress.job.arrays known fs → ((f : Frame) → Has fs f → IsFrame a.member.progress.job f) → Falls bound (known_numbers (map known_of fs ++ known))
       → (id : ℕ) (s : Standing) → (Has known (id, s) → Seat outer known id s) → Has (map known_of fs ++ known) (id, s) → Seat (spot_in k outer fs) (map known_of fs ++ known) id s
   find_both k outer known top bound fs p t o live falls id s rest h = ⊎_elim
@@ -162,7 +165,7 @@ module _ (core : List Tagged) (r : Regs) (a : LiveContext core r) where
       let fs = from_frame u.critical q.frames in
       let h' : Has (map known_of fs ++ known) (id, s) = rw birth.found at h in
       let seat : Seat (spot_in k outer fs) (map known_of fs ++ known) id s =
-      find_both k outer known w.top down.0 fs (part_from core r a k outer w.top u.critical q.frames part) w.top_is (order_from known u.critical q.frames frames)
+      find_both k outer known w.top down.0 fs (part_from core r a k outer w.top u.critical q.frames part) (record { holder = q; live = found; slot = refl; top_is = w.top_is }) (order_from known u.critical q.frames frames)
       (λ f m. record { task = q; live = at.0; among = from_has u.critical q.frames f m }) down.1 id s (λ m. find_outer q at.0 more birth.line id s high m) h' in
       let F : ℕ → Option Task → Type 0 = λ i v. Seat (spot_in i (outer_spots a.plan a.member.constants.number job (critical_of v) more) (from_frame u.critical (frames_of_task v)))
       (map known_of (from_frame u.critical (frames_of_task v)) ++ outer_reach job (critical_of v) more) id s in
@@ -186,5 +189,5 @@ module _ (core : List Tagged) (r : Regs) (a : LiveContext core r) where
       let job = a.member.progress.job in
       let w = whole core r a a.task a.live in
       let o = order_of a.task has_task in
-      find_both (slot_of a.plan a.member.constants.number a.task.number) (outer_spots a.plan a.member.constants.number job a.task.critical a.task.parents) (outer_of job a.task) w.top job.next_frame a.task.frames w.part w.top_is o.frames
+      find_both (slot_of a.plan a.member.constants.number a.task.number) (outer_spots a.plan a.member.constants.number job a.task.critical a.task.parents) (outer_of job a.task) w.top job.next_frame a.task.frames w.part (record { holder = a.task; live = a.live; slot = refl; top_is = w.top_is }) o.frames
       (λ f m. record { task = a.task; live = has_task; among = m }) o.falls id s (λ m. find_outer a.task has_task a.task.parents refl id s high m) h

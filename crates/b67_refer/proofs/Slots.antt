@@ -97,14 +97,23 @@ module _ (core : List Tagged) (r : Regs) (a : LiveContext core r) where
   pub record Whole (u : Task) : Type 0 where
     pub top : ℕ
     pub top_is : IsTop a (slot_of a.plan a.member.constants.number u.number) top
+    pub top_words : top ≡ base (slot_of a.plan a.member.constants.number u.number) + stack_words (acts (slot_of a.plan a.member.constants.number u.number) (outer_spots a.plan a.member.constants.number a.member.progress.job u.critical u.parents) u.frames)
+    pub mark_is : top_is.mark ≡ base (slot_of a.plan a.member.constants.number u.number) + mark_place (acts (slot_of a.plan a.member.constants.number u.number) (outer_spots a.plan a.member.constants.number a.member.progress.job u.critical u.parents) u.frames)
     pub part : Part (slot_of a.plan a.member.constants.number u.number) (outer_spots a.plan a.member.constants.number a.member.progress.job u.critical u.parents) top u.frames
+
+  -- slot k holds the whole stack of a live task, with this top
+  pub record Held (k top : ℕ) : Type 0 where
+    pub holder : Task
+    pub live : keyed (λ (v : Task). v.number) holder.number a.member.progress.job.tasks ≡ Some holder
+    pub slot : k ≡ slot_of a.plan a.member.constants.number holder.number
+    pub top_is : IsTop a k top
 
   by_slot : (k : ℕ) (stack : List Activation) (b : Bool) → k < a.plan.peak → (let y = if b then Running stack else Waiting stack in
       RepresentsSlot core r (with_objects a.left (machine_view a.plan a.session.jobs)) k y → SlotFits (with_objects a.left (machine_view a.plan a.session.jobs)) k y
       → LieDownward (Fits a.storage.held) core (suc (base k)) (words k (stack_of y))
-      → IsStack a.plan.size stack × LieDownward (Fits a.storage.held) core (suc (base k)) (words k stack) × IsTop a k (base k + stack_words stack) × (r.slot ≡ k → r.f ≡ base k + mark_place stack))
-  by_slot k stack true used s f l = (f.0, l, record { used = used; by = inl (s.slot, s.top) }, λ e. s.mark)
-  by_slot k stack false used s f l = (f.0, l, record { used = used; by = inr (s.0, (toscw_of stack, toscw_fits, s.1, refl)) }, λ e. absurd (s.0 e)) where
+      → IsStack a.plan.size stack × LieDownward (Fits a.storage.held) core (suc (base k)) (words k stack) × ((t : IsTop a k (base k + stack_words stack)) × (t.mark ≡ base k + mark_place stack)) × (r.slot ≡ k → r.f ≡ base k + mark_place stack))
+  by_slot k stack true used s f l = (f.0, l, (record { used = used; mark = base k + mark_place stack; by = inl (s.slot, s.top, s.mark) }, refl), λ e. s.mark)
+  by_slot k stack false used s f l = (f.0, l, (record { used = used; mark = base k + mark_place stack; by = inr (s.0, (toscw_of stack, toscw_fits, s.1, refl, refl)) }, refl), λ e. absurd (s.0 e)) where
     toscw_fits : IsToscw (toscw_of stack)
     toscw_fits =
         let small = a.holds.memory.slots.laid.room in
@@ -122,7 +131,9 @@ module _ (core : List Tagged) (r : Regs) (a : LiveContext core r) where
       let b = by_slot k stack (k == a.plan.running) s.0 (subst S s.1 (a.holds.memory.slots.slots k s.0)) (subst F s.1 (a.holds.memory.slots.laid.slots k s.0)) (subst L s.1 (a.holds.memory.stacks k s.0)) in
       record {
         top = base k + stack_words stack;
-        top_is = b.2;
+        top_is = b.2.0;
+        top_words = refl;
+        mark_is = b.2.1;
         part = record { lies = b.1; heads = b.0.heads; low = omega arith; room = omega (arith, b.0.fits); above = inl refl; last = λ e. inl (refl, b.3 e) };
       }
 

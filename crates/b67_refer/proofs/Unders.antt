@@ -4,7 +4,7 @@ use Rattle.std.specs.Prelude.{nat_le}
 use Rattle.std.specs.List.{slice_get}
 use Rattle.std.proofs.lemmas.Nat.{div-mul-add}
 use Rattle.std.proofs.lemmas.Bool.{cases_eq, cases_lt, lt-leb, le-leb}
-use Rattle.std.proofs.lemmas.Option.{get_or_from_slice_get}
+use Rattle.std.proofs.lemmas.Option.{get_or_from_slice_get, same_Some}
 use Rattle.b67_word.specs.Tagged.{Tagged}
 use Rattle.b67_word.specs.declared.couples.Place.{Place}
 use Rattle.b67_word.specs.declared.couples.Couple.{Couple}
@@ -20,7 +20,7 @@ use Rattle.b67_stack.proofs.Tops.{mark_high}
 use Rattle.b67_refer.proofs.Slots.{registers, whole}
 use Rattle.b67_layout.proofs.Frames.{height-is}
 use Rattle.b67_refer.specs.RunningContext.{RunningContext, LiveContext, IsShown}
-use Rattle.b67_refer.specs.LiveCells.{IsUnder}
+use Rattle.b67_refer.specs.LiveCells.{IsTop, IsUnder}
 use Rattle.b67_refer.proofs.Bases.{stacks_is, size_is, slot_inside, dictionary_is, dictionary_low}
 use Rattle.b67_refer.proofs.Seats.{seat}
 use Rattle.b67_refer.proofs.Rule.{seat_address}
@@ -46,19 +46,41 @@ module _ (core : List Tagged) (r : Regs) (a : LiveContext core r) where
       let d : from - r.stacks ≡ slot * r.stack_size + disp = omega (arith, at) in
       sym (ap (λ n. n / r.stack_size) d ∙ div-mul-add slot r.stack_size disp low) ∙ slot_found from top r.stack_size u refl
 
-  pub top_running : (from top slot disp : ℕ) (u : IsUnder a from top) → r.stacks + slot * r.stack_size + disp ≡ from → disp < r.stack_size → slot ≡ r.slot → r.s ≡ top
-  top_running from top slot disp u at low runs = ⊎_elim (λ b. b.1) (λ b. absurd (b.0 (sym runs ∙ spot_slot from top slot disp u at low))) u.is.by
+  pub top_running : (from top slot disp : ℕ) (u : IsUnder a from top) → r.stacks + slot * r.stack_size + disp ≡ from → disp < r.stack_size → slot ≡ r.slot → (r.s ≡ top) × (r.f ≡ u.is.mark)
+  top_running from top slot disp u at low runs = ⊎_elim (λ b. (b.1, b.2)) (λ b. absurd (b.0 (sym runs ∙ spot_slot from top slot disp u at low))) u.is.by
 
   pub top_waiting : (from top slot disp : ℕ) (u : IsUnder a from top) → r.stacks + slot * r.stack_size + disp ≡ from → disp < r.stack_size → (slot ≡ r.slot → ⊥)
-      → (w : Toscw) × IsToscw w × (slice_get core (r.stacks + slot * r.stack_size) ≡ Some (toscw_word w)) × (r.stacks + slot * r.stack_size + w.s ≡ top)
+      → (w : Toscw) × IsToscw w × (slice_get core (r.stacks + slot * r.stack_size) ≡ Some (toscw_word w)) × (r.stacks + slot * r.stack_size + w.s ≡ top) × (r.stacks + slot * r.stack_size + w.f ≡ u.is.mark)
   top_waiting from top slot disp u at low runs =
       let found = spot_slot from top slot disp u at low in
       let first : r.stacks + slot * r.stack_size ≡ a.plan.stacks + u.slot * a.plan.size =
       ap (λ n. r.stacks + n * r.stack_size) found ∙ ap (λ n. r.stacks + u.slot * n) (size_is core r a) ∙ ap (λ n. n + u.slot * a.plan.size) (stacks_is core r a) in
       ⊎_elim
       (λ b. absurd (runs (found ∙ sym b.0)))
-      (λ b. (b.1.0, b.1.1, ap (slice_get core) first ∙ b.1.2, ap (λ n. n + b.1.0.s) first ∙ b.1.3))
+      (λ b. (b.1.0, b.1.1, ap (slice_get core) first ∙ b.1.2, ap (λ n. n + b.1.0.s) first ∙ b.1.3, ap (λ n. n + b.1.0.f) first ∙ b.1.4))
       u.is.by
+
+  -- a stack has one top, and one last mark
+  pub same_ends : (k l over under : ℕ) → k ≡ l → (x : IsTop a k over) (y : IsTop a l under) → (over ≡ under) × (x.mark ≡ y.mark)
+  same_ends k l over under same x y = ⊎_elim
+      (λ b. ⊎_elim (λ d. (sym b.1 ∙ d.1, sym b.2 ∙ d.2)) (λ d. absurd (d.0 (b.0 ∙ same))) y.by)
+      (λ b. ⊎_elim (λ d. absurd (b.0 (d.0 ∙ sym same))) (λ d. both b.1.0 d.1.0 b.1.1 d.1.1 (same_Some _ _ (sym b.1.2 ∙ ap (slice_get core) first ∙ d.1.2)) b.1.3 b.1.4 d.1.3 d.1.4) y.by)
+      x.by where
+        first : a.plan.stacks + k * a.plan.size ≡ a.plan.stacks + l * a.plan.size
+        first = ap (λ n. a.plan.stacks + n * a.plan.size) same
+
+        both : (v w : Toscw) → IsToscw v → IsToscw w → toscw_word v ≡ toscw_word w → a.plan.stacks + k * a.plan.size + v.s ≡ over → a.plan.stacks + k * a.plan.size + v.f ≡ x.mark
+            → a.plan.stacks + l * a.plan.size + w.s ≡ under → a.plan.stacks + l * a.plan.size + w.f ≡ y.mark → (over ≡ under) × (x.mark ≡ y.mark)
+        both v w fits small is at mark there its =
+            let bits = ap (λ (z : Tagged). z.bits) is in
+            let i = fits.level in
+            let j = fits.f in
+            let m = small.level in
+            let n = small.f in
+            let from = first in
+            let tops : v.s ≡ w.s = omega (arith, bits, i, j, m, n) in
+            let marks : v.f ≡ w.f = omega (arith, bits, i, j, m, n) in
+            (omega (arith, tops, at, there, from), omega (arith, marks, mark, its, from))
 
   pub slots_under : (from top : ℕ) → IsUnder a from top → r.stacks ≤ from
   slots_under from top u = let k = stacks_is core r a in let at = u.at in omega (arith, k, at)

@@ -1,4 +1,4 @@
--- The walk down the marks of the running stack: between two of them lie the words of one activation record.
+-- The walk down the marks of a stack: between two of them lie the words of one activation record.
 use Rattle.std.proofs.Common.{◌≡◌, ℕ, suc, ◌+◌, ◌-◌, ◌<◌, ◌≤◌, ◌^◌, List, [], ◌∷◌, ◌++◌, map, length, reverse, Some, Ok, Err, refl, sym, ◌∙◌, ap, arith, ◌⊎◌, ⊎_elim, inl, inr, subst, true, false}
 use Rattle.std.specs.List.{slice_get}
 use Rattle.std.specs.Prelude.{nat_lt}
@@ -13,6 +13,7 @@ use Rattle.b67_ctl.specs.declared.marks.Mscw.{Mscw}
 use Rattle.b67_ctl.specs.Layout.{mscw_word, IsMscw}
 use Rattle.b67_lemmas.specs.Lists.{Has}
 use Rattle.b67_lemmas.proofs.Members.{all_in, has_get, has_reverse_back, keyed_has}
+use Rattle.b67_model.specs.Keyed.{keyed}
 use Rattle.b67_model.specs.State as State
 use Rattle.b67_model.specs.Common.{Frame, Standing, Task, height, cell, Known, known_of, outer_of, reach_of, IsEntered, IsSegment, NamesEntered, WordInOrder, FramesInOrder, TaskInOrder}
 use Rattle.b67_stack.specs.Common.{Fits, StackPlace, Activation, head_size, mark_of, mark_place, stack_words, top_size, headed, words}
@@ -26,7 +27,7 @@ use Rattle.b67_refer.proofs.Seats.{seat, order_of}
 use Rattle.b67_refer.proofs.Bases.{slot_inside}
 use Rattle.b67_refer.proofs.Rule.{end_some, end_lies, get_reverse, word_tag, seat_address}
 use Rattle.b67_refer.proofs.Turns.{back_of}
-use Rattle.b67_refer.proofs.Unders.{one_word, same_slot}
+use Rattle.b67_refer.proofs.Unders.{one_word, same_slot, same_ends}
 use Rattle.b67_refer.proofs.Founds.{task_misses, task_marks, task_lands}
 
 two_words : (spot : ℕ → StackPlace) (s : Standing) → head_size (head spot s) ≤ 2
@@ -58,71 +59,90 @@ plain_more core from k v plain at other j w low high there tag = ⊎_elim
     (cases_lt j k)
 
 module _ (core : List Tagged) (r : Regs) (a : LiveContext core r) where
-  abbrev pub slot : ℕ
-  slot = slot_of a.plan a.member.constants.number a.runner.number
+  abbrev pub slot : Task → ℕ
+  slot u = slot_of a.plan a.member.constants.number u.number
 
-  abbrev pub outer : ℕ → StackPlace
-  outer = outer_spots a.plan a.member.constants.number a.member.progress.job a.runner.critical a.runner.parents
+  abbrev pub outer : Task → ℕ → StackPlace
+  outer u = outer_spots a.plan a.member.constants.number a.member.progress.job u.critical u.parents
 
-  abbrev pub known : List Known
-  known = outer_of a.member.progress.job a.runner
+  abbrev pub known : Task → List Known
+  known u = outer_of a.member.progress.job u
 
-  -- a mark of the running stack, and the address past the words of its record
+  -- a mark of a live task's stack, and the address past the words of its record
   pub record Spans (mark past : ℕ) : Type 0 where
+    pub holder : Task
+    pub live : keyed (λ (v : Task). v.number) holder.number a.member.progress.job.tasks ≡ Some holder
     pub frame : Frame
     pub below : List Frame
-    pub part : Part core r a slot outer r.s (frame ∷ below)
-    pub order : FramesInOrder (IsSegment a.member.constants) a.member.progress.job.arrays known (frame ∷ below)
-    pub mark_is : mark ≡ base core r a slot + height below
-    pub past_is : past ≡ base core r a slot + height (frame ∷ below)
+    pub part : Part core r a (slot holder) (outer holder) (whole core r a holder live).top (frame ∷ below)
+    pub order : FramesInOrder (IsSegment a.member.constants) a.member.progress.job.arrays (known holder) (frame ∷ below)
+    pub mark_is : mark ≡ base core r a (slot holder) + height below
+    pub past_is : past ≡ base core r a (slot holder) + height (frame ∷ below)
 
   -- the running stack's top word is in core
   pub top_small : r.s < 2 ^ 20
   top_small =
       let g = registers core r a in
       let w = whole core r a a.runner a.running.task in
-      let i = slot_inside core r a slot w.top_is.used in
+      let i = slot_inside core r a (slot a.runner) w.top_is.used in
       let top = g.top in
       omega (arith, w.part.low, w.part.room, top, i.0, i.1, i.2)
 
-  -- the walk begins at the last mark, whose record ends with the top word
-  pub top_spans : Spans r.f (r.s + 1)
-  top_spans = by_frames a.runner.frames refl where
-    o : TaskInOrder (IsSegment a.member.constants) a.member.constants a.member.progress.job a.runner
-    o = order_of core r a a.runner (keyed_has (λ (v : Task). v.number) a.runner.number a.member.progress.job.tasks a.runner a.running.task).0
+  -- the walk begins at a stack's last mark, whose record ends with the top word
+  pub last_spans : (u : Task) (ku : keyed (λ (v : Task). v.number) u.number a.member.progress.job.tasks ≡ Some u) → Spans (whole core r a u ku).top_is.mark ((whole core r a u ku).top + 1)
+  last_spans u ku = by_frames u.frames refl where
+    o : TaskInOrder (IsSegment a.member.constants) a.member.constants a.member.progress.job u
+    o = order_of core r a u (keyed_has (λ (v : Task). v.number) u.number a.member.progress.job.tasks u ku).0
 
-    by_frames : (fs : List Frame) → a.runner.frames ≡ fs → Spans r.f (r.s + 1)
+    by_frames : (fs : List Frame) → u.frames ≡ fs → Spans (whole core r a u ku).top_is.mark ((whole core r a u ku).top + 1)
     by_frames [] e = absurd (o.some e)
     by_frames (f ∷ below) e =
-        let w = whole core r a a.runner a.running.task in
-        let g = registers core r a in
-        let P : List Frame → Type 0 = λ fs. Part core r a slot outer r.s fs in
-        let F : List Frame → Type 0 = λ fs. FramesInOrder (IsSegment a.member.constants) a.member.progress.job.arrays known fs in
-        let T : ℕ → Type 0 = λ t. Part core r a slot outer t a.runner.frames in
-        let top : w.top ≡ r.s = ⊎_elim (λ z. sym z.1) (λ z. absurd (z.0 g.slot)) w.top_is.by in
-        let high : height a.runner.frames ≡ height below + State.words_of f = ap height e in
-        let all : height a.runner.frames ≡ suc (stack_words (acts core r a slot outer a.runner.frames)) = height-is a.plan a.member.constants.number a.member.progress.job slot outer a.runner.frames in
-        let last : mark_place (acts core r a slot outer a.runner.frames) ≡ height below =
-        ap (λ (fs : List Frame). mark_place (acts core r a slot outer fs)) e ∙ (let h = height-is a.plan a.member.constants.number a.member.progress.job slot outer below in omega (arith, h)) in
-        let s = g.top in
+        let w = whole core r a u ku in
+        let P : List Frame → Type 0 = λ fs. Part core r a (slot u) (outer u) w.top fs in
+        let F : List Frame → Type 0 = λ fs. FramesInOrder (IsSegment a.member.constants) a.member.progress.job.arrays (known u) fs in
+        let high : height u.frames ≡ height below + State.words_of f = ap height e in
+        let all : height u.frames ≡ suc (stack_words (acts core r a (slot u) (outer u) u.frames)) = height-is a.plan a.member.constants.number a.member.progress.job (slot u) (outer u) u.frames in
+        let last : mark_place (acts core r a (slot u) (outer u) u.frames) ≡ height below =
+        ap (λ (fs : List Frame). mark_place (acts core r a (slot u) (outer u) fs)) e ∙ (let h = height-is a.plan a.member.constants.number a.member.progress.job (slot u) (outer u) below in omega (arith, h)) in
+        let s = w.top_words in
         record {
+          holder = u;
+          live = ku;
           frame = f;
           below = below;
-          part = subst P e (subst T top w.part);
+          part = subst P e w.part;
           order = subst F e o.frames;
-          mark_is = g.mark ∙ ap (λ (n : ℕ). base core r a slot + n) last;
+          mark_is = w.mark_is ∙ ap (λ (n : ℕ). base core r a (slot u) + n) last;
           past_is = omega (arith, s, high, all);
         }
+
+  -- the same from an address of the stack
+  pub slot_spans : (at top : ℕ) (under : IsUnder a at top) (u : Task) (ku : keyed (λ (v : Task). v.number) u.number a.member.progress.job.tasks ≡ Some u) → under.slot ≡ slot u → Spans under.is.mark (top + 1)
+  slot_spans at top under u ku k =
+      let w = whole core r a u ku in
+      let ends = same_ends core r a under.slot (slot u) top w.top k under.is w.top_is in
+      let S : ℕ → Type 0 = λ m. Spans m (w.top + 1) in
+      let T : ℕ → Type 0 = λ p. Spans under.is.mark (p + 1) in
+      subst T (sym ends.0) (subst S (sym ends.1) (last_spans u ku))
+
+  pub top_spans : Spans r.f (r.s + 1)
+  top_spans =
+      let w = whole core r a a.runner a.running.task in
+      let g = registers core r a in
+      let ends : (r.s ≡ w.top) × (r.f ≡ w.top_is.mark) = ⊎_elim (λ z. (z.1, z.2)) (λ z. absurd (z.0 g.slot)) w.top_is.by in
+      let S : ℕ → Type 0 = λ m. Spans m (w.top + 1) in
+      let T : ℕ → Type 0 = λ p. Spans r.f (p + 1) in
+      subst T (sym ends.0) (subst S (sym ends.1) (last_spans a.runner a.running.task))
 
   module _ (mark past : ℕ) (x : Spans mark past) where
     -- the mark in core
     pub has_mark : (m : Mscw) × IsMscw m × (slice_get core mark ≡ Some (mscw_word m))
-    has_mark = let g = part_mark core r a slot outer r.s x.frame x.below x.part in (mark_in core r a slot outer x.frame x.below, g.0, ap (slice_get core) x.mark_is ∙ g.1)
+    has_mark = let g = part_mark core r a (slot x.holder) (outer x.holder) (whole core r a x.holder x.live).top x.frame x.below x.part in (mark_in core r a (slot x.holder) (outer x.holder) x.frame x.below, g.0, ap (slice_get core) x.mark_is ∙ g.1)
 
-    all_words : height (x.frame ∷ x.below) ≡ suc (stack_words (acts core r a slot outer (x.frame ∷ x.below)))
-    all_words = height-is a.plan a.member.constants.number a.member.progress.job slot outer (x.frame ∷ x.below)
+    all_words : height (x.frame ∷ x.below) ≡ suc (stack_words (acts core r a (slot x.holder) (outer x.holder) (x.frame ∷ x.below)))
+    all_words = height-is a.plan a.member.constants.number a.member.progress.job (slot x.holder) (outer x.holder) (x.frame ∷ x.below)
 
-    pub ends_inside : past ≤ r.s + 1
+    pub ends_inside : past ≤ (whole core r a x.holder x.live).top + 1
     ends_inside = let n = all_words in let e = x.past_is in let low = x.part.low in omega (arith, n, e, low)
 
     -- no word behind its head has tag 3
@@ -133,97 +153,98 @@ module _ (core : List Tagged) (r : Regs) (a : LiveContext core r) where
         let j = a.member.constants.number in
         let fs = x.frame ∷ x.below in
         let cells = x.frame.cells in
-        let within = map known_of fs ++ known in
-        let spot = spot_in slot outer fs in
-        let below = acts core r a slot outer x.below in
-        let first = head (spot_in slot outer x.below) x.frame.standing in
-        let under = headed slot first below (words slot below) in
-        let count : length under ≡ head_size first + length (words slot below) = headed-length slot first below (words slot below) in
-        let lower : length (words slot below) ≡ stack_words below = words-length slot below in
-        let high : height x.below ≡ suc (stack_words below) = height-is a.plan j job slot outer x.below in
-        let two : head_size first ≤ 2 = two_words (spot_in slot outer x.below) x.frame.standing in
+        let within = map known_of fs ++ known x.holder in
+        let spot = spot_in (slot x.holder) (outer x.holder) fs in
+        let below = acts core r a (slot x.holder) (outer x.holder) x.below in
+        let first = head (spot_in (slot x.holder) (outer x.holder) x.below) x.frame.standing in
+        let under = headed (slot x.holder) first below (words (slot x.holder) below) in
+        let count : length under ≡ head_size first + length (words (slot x.holder) below) = headed-length (slot x.holder) first below (words (slot x.holder) below) in
+        let lower : length (words (slot x.holder) below) ≡ stack_words below = words-length (slot x.holder) below in
+        let high : height x.below ≡ suc (stack_words below) = height-is a.plan j job (slot x.holder) (outer x.holder) x.below in
+        let two : head_size first ≤ 2 = two_words (spot_in (slot x.holder) (outer x.holder) x.below) x.frame.standing in
         let many : length (map (shape a.plan j job spot) cells) ≡ length cells = length-map cells (shape a.plan j job spot) in
         let n : height fs ≡ suc (stack_words below + (head_size first + length (map (shape a.plan j job spot) cells))) = all_words in
         let m = x.mark_is in
         let e = x.past_is in
-        let i = k - (suc (base core r a slot) + length under) in
+        let i = k - (suc (base core r a (slot x.holder)) + length under) in
         let inside : i < length cells = omega (arith, count, lower, high, two, many, n, m, e, low, up) in
-        let at : suc (base core r a slot) + length under + i ≡ k = omega (arith, count, lower, high, two, m, low) in
+        let at : suc (base core r a (slot x.holder)) + length under + i ≡ k = omega (arith, count, lower, high, two, m, low) in
         let c = end_some cells i inside in
         let has : Has cells c.0 = has_reverse_back cells c.0 (has_get (reverse cells) i c.0 (get_reverse cells i ∙ c.1)) in
         let order : WordInOrder P job.arrays within x.frame.identity c.0 = all_in (WordInOrder P job.arrays within x.frame.identity) cells c.0 x.order.0.0 has in
-        let l = end_lies (Fits a.storage.held) core (suc (base core r a slot)) (shape a.plan j job spot) cells under i c.0 x.part.lies c.1 in
-        word_tag P job.arrays within x.frame.identity a.storage.held a.plan j job spot c.0 (suc (base core r a slot) + length under + i) l.0 order l.2
+        let l = end_lies (Fits a.storage.held) core (suc (base core r a (slot x.holder))) (shape a.plan j job spot) cells under i c.0 x.part.lies c.1 in
+        word_tag P job.arrays within x.frame.identity a.storage.held a.plan j job spot c.0 (suc (base core r a (slot x.holder)) + length under + i) l.0 order l.2
         (ap (λ (z : Tagged). z.tag) (same_Some _ _ (sym l.1 ∙ ap (slice_get core) at ∙ there)) ∙ tag)
 
     -- the record below it, if there is one
     pub down : (m : Mscw) → ((k : Mscw) → IsMscw k → slice_get core mark ≡ Some (mscw_word k) → m ≡ k) → (m.back ≤ mark) × ((mark - m.back ≡ mark) ⊎ Spans (mark - m.back) mark)
     unfolding has_mark
     down m read = by_below x.below refl where
-      is : m ≡ mark_in core r a slot outer x.frame x.below
+      is : m ≡ mark_in core r a (slot x.holder) (outer x.holder) x.frame x.below
       is = let k = has_mark in read k.0 k.1 k.2
 
-      back : m.back ≡ top_size (acts core r a slot outer x.below)
-      back = ap (λ (k : Mscw). k.back) is ∙ back_of slot (spot_in slot outer x.below) x.frame.standing (acts core r a slot outer x.below)
+      back : m.back ≡ top_size (acts core r a (slot x.holder) (outer x.holder) x.below)
+      back = ap (λ (k : Mscw). k.back) is ∙ back_of (slot x.holder) (spot_in (slot x.holder) (outer x.holder) x.below) x.frame.standing (acts core r a (slot x.holder) (outer x.holder) x.below)
 
       by_below : (fs : List Frame) → x.below ≡ fs → (m.back ≤ mark) × ((mark - m.back ≡ mark) ⊎ Spans (mark - m.back) mark)
       by_below [] z =
-          let none : m.back ≡ 0 = back ∙ ap (λ (gs : List Frame). top_size (acts core r a slot outer gs)) z in
+          let none : m.back ≡ 0 = back ∙ ap (λ (gs : List Frame). top_size (acts core r a (slot x.holder) (outer x.holder) gs)) z in
           (omega (arith, none), inl (omega (arith, none)))
       by_below (g ∷ fs) z =
-          let P : List Frame → Type 0 = λ gs. Part core r a slot outer r.s gs in
-          let F : List Frame → Type 0 = λ gs. FramesInOrder (IsSegment a.member.constants) a.member.progress.job.arrays known gs in
-          let size : m.back ≡ State.words_of g = back ∙ ap (λ (gs : List Frame). top_size (acts core r a slot outer gs)) z ∙ size-is a.plan a.member.constants.number a.member.progress.job slot outer g fs in
+          let P : List Frame → Type 0 = λ gs. Part core r a (slot x.holder) (outer x.holder) (whole core r a x.holder x.live).top gs in
+          let F : List Frame → Type 0 = λ gs. FramesInOrder (IsSegment a.member.constants) a.member.progress.job.arrays (known x.holder) gs in
+          let size : m.back ≡ State.words_of g = back ∙ ap (λ (gs : List Frame). top_size (acts core r a (slot x.holder) (outer x.holder) gs)) z ∙ size-is a.plan a.member.constants.number a.member.progress.job (slot x.holder) (outer x.holder) g fs in
           let high : height x.below ≡ height fs + State.words_of g = ap height z in
           let e = x.mark_is in (
             omega (arith, size, high, e),
             inr (record {
+              holder = x.holder;
+              live = x.live;
               frame = g;
               below = fs;
-              part = subst P z (drop core r a slot outer r.s x.frame x.below x.part);
+              part = subst P z (drop core r a (slot x.holder) (outer x.holder) (whole core r a x.holder x.live).top x.frame x.below x.part);
               order = subst F z x.order.2;
               mark_is = omega (arith, size, high, e);
-              past_is = e ∙ ap (λ (gs : List Frame). base core r a slot + height gs) z;
+              past_is = e ∙ ap (λ (gs : List Frame). base core r a (slot x.holder) + height gs) z;
             }),
           )
 
   -- the record at a mark of the running stack, which an offset is looked up in
   module _ (q : Place) (f from offset past : ℕ) (n : NamesEntered (reach_of a.member.progress.job a.task) f) (e : from ≡ frame_address a.plan a.member a.task f) (own : 1 < f) (low : 2 ≤ offset) (x : Spans from past) where
-    under_top : IsUnder a from r.s
+    under_top : IsUnder a from (whole core r a x.holder x.live).top
     under_top =
-        let g = registers core r a in
-        let high = height-is a.plan a.member.constants.number a.member.progress.job slot outer x.below in
-        let some = one_word (spot_in slot outer x.below) x.frame.standing in
+        let high = height-is a.plan a.member.constants.number a.member.progress.job (slot x.holder) (outer x.holder) x.below in
+        let some = one_word (spot_in (slot x.holder) (outer x.holder) x.below) x.frame.standing in
         record {
-          slot = slot;
+          slot = slot x.holder;
           disp = height x.below;
           low = omega (arith, high, some, x.part.low, x.part.room);
           at = x.mark_is;
-          is = record { used = (whole core r a a.runner a.running.task).top_is.used; by = inl (g.slot, refl) };
+          is = (whole core r a x.holder x.live).top_is;
         }
 
-    same_top : (seat core r a f n.standing n.among own).top ≡ r.s
+    same_top : (seat core r a f n.standing n.among own).top ≡ (whole core r a x.holder x.live).top
     unfolding under_top
     same_top =
         let b = seat core r a f n.standing n.among own in
-        let g = registers core r a in
-        let k : slot ≡ b.slot = same_slot core r a f n own from r.s under_top (sym e) in
-        ⊎_elim (λ z. sym z.1) (λ z. absurd (z.0 (g.slot ∙ k))) b.top_is.by
+        let w = whole core r a x.holder x.live in
+        let k : slot x.holder ≡ b.slot = same_slot core r a f n own from w.top under_top (sym e) in
+        (same_ends core r a b.slot (slot x.holder) b.top w.top (sym k) b.top_is w.top_is).0
 
     entered_there : IsEntered x.frame.standing
     entered_there =
         let b = seat core r a f n.standing n.among own in
         let mine = part_mark core r a b.slot b.outer b.top b.frame b.below b.part in
-        let its = part_mark core r a slot outer r.s x.frame x.below x.part in
-        let at : base core r a b.slot + height b.below ≡ base core r a slot + height x.below = sym (seat_address core r a q f n.standing b n.entered own) ∙ sym e ∙ x.mark_is in
-        same_mark b.slot slot (spot_in b.slot b.outer b.below) (spot_in slot outer x.below) b.frame.standing x.frame.standing (acts core r a b.slot b.outer b.below) (acts core r a slot outer x.below)
+        let its = part_mark core r a (slot x.holder) (outer x.holder) (whole core r a x.holder x.live).top x.frame x.below x.part in
+        let at : base core r a b.slot + height b.below ≡ base core r a (slot x.holder) + height x.below = sym (seat_address core r a q f n.standing b n.entered own) ∙ sym e ∙ x.mark_is in
+        same_mark b.slot (slot x.holder) (spot_in b.slot b.outer b.below) (spot_in (slot x.holder) (outer x.holder) x.below) b.frame.standing x.frame.standing (acts core r a b.slot b.outer b.below) (acts core r a (slot x.holder) (outer x.holder) x.below)
         (subst IsEntered (sym b.stands) n.entered) its.0 (same_Some _ _ (sym mine.1 ∙ ap (slice_get core) at ∙ its.1))
 
     past_head : from + 2 ≤ past
     past_head =
-        let two = entered_words (spot_in slot outer x.below) x.frame.standing entered_there in
+        let two = entered_words (spot_in (slot x.holder) (outer x.holder) x.below) x.frame.standing entered_there in
         let all = all_words from past x in
-        let high = height-is a.plan a.member.constants.number a.member.progress.job slot outer x.below in
+        let high = height-is a.plan a.member.constants.number a.member.progress.job (slot x.holder) (outer x.holder) x.below in
         let m = x.mark_is in
         let z = x.past_is in
         omega (arith, two, all, high, m, z)
@@ -236,11 +257,11 @@ module _ (core : List Tagged) (r : Regs) (a : LiveContext core r) where
 
     pub outside_misses : past ≤ from + offset → CellMeets a q f offset (Err InvalidAddress) (cell (here a.member a.task q) f offset)
     outside_misses far = ⊎_elim
-        (λ (z : base core r a slot + stack_words (acts core r a slot outer (x.frame ∷ x.below)) ≡ r.s).
+        (λ (z : base core r a (slot x.holder) + stack_words (acts core r a (slot x.holder) (outer x.holder) (x.frame ∷ x.below)) ≡ (whole core r a x.holder x.live).top).
         (let all = all_words from past x in let p = x.past_is in let top = same_top in task_misses core r a q f from offset n e own (inr (omega (arith, z, all, p, top, far)))))
         (λ z.
         (let all = all_words from past x in let p = x.past_is in
-        let at : past ≡ suc (base core r a slot) + stack_words (acts core r a slot outer (x.frame ∷ x.below)) = omega (arith, all, p) in
+        let at : past ≡ suc (base core r a (slot x.holder)) + stack_words (acts core r a (slot x.holder) (outer x.holder) (x.frame ∷ x.below)) = omega (arith, all, p) in
         task_marks core r a q f from offset n e own past z.0 past_head far (ap (slice_get core) at ∙ z.1) z.2))
         x.part.above
 
@@ -258,6 +279,12 @@ module _ (core : List Tagged) (r : Regs) (a : LiveContext core r) where
 
   pub walk_start : (from : ℕ) → Walk from r.f (r.s + 1)
   walk_start from = record { over = r.s + 1; spans = top_spans; is = inl refl }
+
+  -- from the last mark of the stack in which a frame lies
+  pub walk_under : (f from top : ℕ) (n : NamesEntered (reach_of a.member.progress.job a.task) f) (own : 1 < f) → from ≡ frame_address a.plan a.member a.task f → (under : IsUnder a from top) → Walk from under.is.mark (top + 1)
+  walk_under f from top n own e under =
+      let h = (seat core r a f n.standing n.among own).held in
+      record { over = top + 1; spans = slot_spans from top under h.holder h.live (same_slot core r a f n own from top under (sym e) ∙ h.slot); is = inl refl }
 
   pub walk_there : (from mark past : ℕ) → Walk from mark past → mark ≡ from → Spans from past
   walk_there from mark past x e =

@@ -44,11 +44,13 @@ module _ {core : List Tagged} {r : Regs} (a : LiveContext core r) where
       Fits a.storage.held (shape a.plan a.member.constants.number a.member.progress.job view w) at v
       × WordInOrder (IsSegment a.member.constants) a.member.progress.job.arrays reach owner w
 
-  -- the top word of the stack in slot k has this address: by the register, or by the word at the stack's base
+  -- the top word of the stack in slot k has this address, and its last mark that one: by the registers, or by the word at the
+  -- stack's base
   pub record IsTop (k top : ℕ) : Type 0 where
     pub used : k < a.plan.peak
-    pub by : ((r.slot ≡ k) × (r.s ≡ top))
-        ⊎ ((r.slot ≢ k) × ((w : Toscw) × IsToscw w × (slice_get core (a.plan.stacks + k * a.plan.size) ≡ Some (toscw_word w)) × (a.plan.stacks + k * a.plan.size + w.s ≡ top)))
+    pub mark : ℕ
+    pub by : ((r.slot ≡ k) × (r.s ≡ top) × (r.f ≡ mark))
+        ⊎ ((r.slot ≢ k) × ((w : Toscw) × IsToscw w × (slice_get core (a.plan.stacks + k * a.plan.size) ≡ Some (toscw_word w)) × (a.plan.stacks + k * a.plan.size + w.s ≡ top) × (a.plan.stacks + k * a.plan.size + w.f ≡ mark)))
 
   module _ (q : Place) where
     -- the cell of an entered frame at an offset has this address, and this word

@@ -9,8 +9,9 @@ ghost use Rattle.b67_refer.specs.RunningContext.{RunningContext};
 ghost use Rattle.b67_refer.specs.Cells.{view, frame_at_core};
 ghost use Rattle.b67_refer.specs.Ends.{IsProcAt};
 
+use crate::cells::last_record;
 use crate::environment::mark_at;
-use crate::spots::spot_of;
+use crate::spots::{is_elsewhere, spot_of};
 use b67_core::Core;
 use b67_ctl::Regs;
 
@@ -26,8 +27,8 @@ pub struct Activation {
 }
 
 /// The address of the mark under a cell of an entered activation record. The word over the mark has tag 3, the cells'
-/// have other tags. Words are looked at from the cell down, and the running stack's marks from its last one down, in turns: so
-/// it takes the fewer of both, after the last marks.
+/// have other tags. Words are looked at from the cell down, and the marks of the stack from its last one down, in turns: so it
+/// takes the fewer of both, after the running stack's last marks.
 #[inline(always)]
 fn mark_under(core: &Core, regs: &Regs, cell: u32) -> u32
     requires { (a : RunningContext core.now regs.now) × (q : Place) × (f : ℕ) × (segment : ℕ) × (level : ℕ) × (place : Place) × IsProcAt a q cell f segment level place }
@@ -46,6 +47,11 @@ fn mark_under(core: &Core, regs: &Regs, cell: u32) -> u32
     let mut at = cell;
     let mut mark = last;
     let mut past = end;
+    if is_elsewhere(regs, cell) {
+        let other = last_record(core, regs, cell);
+        mark = other.mark;
+        past = other.past;
+    }
     'down: loop {
         if mark < cell && cell < past && core.get(mark + 1).tag() == 3 {
             return mark;

@@ -23,19 +23,34 @@ const NEAR_RECORDS: u32 = 3;
 /// Below this offset a cell deep in a stack is looked for from below alone.
 const FEW_CELLS: u16 = 16;
 
-/// The address of the top word of the stack in which an address of a slot is.
+/// The last activation record of a stack: where its mark stands, and the address behind its last word.
+#[derive(Clone, Copy, Debug, PartialEq, Eq)]
+pub(crate) struct LastRecord {
+    pub mark: u32,
+    pub past: u32,
+}
+
+/// The last activation record of the stack in which an address of a slot is. Of the running stack registers tell it, of any
+/// other its base word.
 #[inline(always)]
-fn top_of(core: &Core, regs: &Regs, base: u32) -> u32
-    requires { (a : LiveContext core.now regs.now) × (top : ℕ) × live.IsUnder a base top }
-    ensures { (a : LiveContext core.now regs.now) (top : ℕ) → live.IsUnder a base top → result ≡ top }
+pub(crate) fn last_record(core: &Core, regs: &Regs, at: u32) -> LastRecord
+    requires { (a : LiveContext core.now regs.now) × (top : ℕ) × live.IsUnder a at top }
+    ensures mark { (a : LiveContext core.now regs.now) (top : ℕ) → (under : live.IsUnder a at top) → result.mark ≡ under.is.mark }
+    ensures past { (a : LiveContext core.now regs.now) (top : ℕ) → live.IsUnder a at top → result.past ≡ top + 1 }
 {
-    let slot = spot_of(regs, base).slot;
+    let slot = spot_of(regs, at).slot;
     if slot == u32::from(regs.slot) {
-        return regs.s;
+        return LastRecord {
+            mark: regs.f,
+            past: regs.s + 1,
+        };
     }
     let first = regs.stacks + slot * u32::from(regs.stack_size);
     let top = Toscw::read(core.get(first));
-    first + u32::from(top.s)
+    LastRecord {
+        mark: first + u32::from(top.f),
+        past: first + u32::from(top.s) + 1,
+    }
 }
 
 /// Whether no word from an address up to another, with both, is a mark or a return word.
@@ -53,8 +68,8 @@ fn is_plain(core: &Core, from: u32, to: u32) -> bool
     true
 }
 
-/// As `has_deep_cell`, of any stack. Of the running one, cells are looked at from the record's first one up, and marks from the
-/// last one down, in turns: so it takes the fewer of both. Of other stacks, and if there are few, the cells alone.
+/// As `has_deep_cell`, of any stack, behind a call. Cells are looked at from the record's first one up, and marks from the stack's
+/// last one down, in turns: so it takes the fewer of both. If there are few, the cells alone.
 #[inline(never)]
 fn has_far_cell(core: &Core, regs: &Regs, base: u32, offset: u16) -> bool
     requires { (a : LiveContext core.now regs.now) × (f : ℕ) × NamesEntered (live.reach a) f × (1 < f) × (base ≡ live.frame_at_core a f) × (2 ≤ offset) }
@@ -62,14 +77,15 @@ fn has_far_cell(core: &Core, regs: &Regs, base: u32, offset: u16) -> bool
         → live.CellMeets a q f offset (live.cell_or_none result (base + offset)) (cell (here a.member a.task q) f offset) }
 {
     let at = base + u32::from(offset);
-    if at > top_of(core, regs, base) {
+    let last = last_record(core, regs, base);
+    if at >= last.past {
         return false;
     }
-    if offset < FEW_CELLS || base < regs.bosr || base > regs.losr {
+    if offset < FEW_CELLS {
         return is_plain(core, base + 2, at);
     }
-    let mut mark = regs.f;
-    let mut past = regs.s + 1;
+    let mut mark = last.mark;
+    let mut past = last.past;
     for k in base + 2..at + 1 {
         if mark == base {
             return at < past;
@@ -92,7 +108,7 @@ fn has_first_cell(core: &Core, regs: &Regs, base: u32, offset: u16) -> bool
         → live.CellMeets a q f offset (live.cell_or_none result (base + offset)) (cell (here a.member a.task q) f offset) }
 {
     let at = base + u32::from(offset);
-    if at > top_of(core, regs, base) {
+    if at >= last_record(core, regs, base).past {
         return false;
     }
     is_plain(core, base + 2, at)

@@ -12,6 +12,12 @@ pub struct Spot {
     pub disp: u32,
 }
 
+/// Whether an address lies outside the running task's slot.
+#[inline(always)]
+pub(crate) fn is_elsewhere(regs: &Regs, at: u32) -> bool {
+    at < regs.bosr || at > regs.losr
+}
+
 /// The slot in which an address lies, and its displacement there. It divides only if that isn't the running task's slot.
 #[inline(always)]
 pub fn spot_of(regs: &Regs, at: u32) -> Spot

@@ -12,7 +12,7 @@ invariant-loop-turn l = (a : RunningContext l.core l.regs) → Between l.core l.
 abbrev pub invariant-down : goal.invariant-down
 invariant-down l = record {
   scan : (a : RunningContext l.core l.regs) (q : Place) (f segment level : ℕ) (place : Place) (p : IsProcAt a q l.cell f segment level place) → Over l.core l.regs a q l.cell f segment level place p l.at;
-  walk : (a : RunningContext l.core l.regs) → Between l.core l.regs a l.mark l.past;
+  walk : (a : RunningContext l.core l.regs) (q : Place) (f segment level : ℕ) (place : Place) → IsProcAt a q l.cell f segment level place → Between l.core l.regs a l.mark l.past;
 }
 
 abbrev pub decreases-down : goal.decreases-down
