@@ -30,7 +30,7 @@ pub fn is_word(w: Word, tag: u8, bits: u64) -> bool
     ensures yes { OnTrue result (w ≡ word tag bits) }
     ensures not { OnFalse result (w ≡ word tag bits → ⊥) }
 {
-    if w.tag() as u8 != tag {
+    if w.tag() != tag {
         return false;
     }
     w.bits() == bits
@@ -117,10 +117,10 @@ fn read_area(core: &Core, at: u32) -> Option<Info>
     };
     let head_again = a.head();
     let tail_again = a.tail();
-    if !is_word(head, head_again.tag() as u8, head_again.bits()) {
+    if !is_word(head, head_again.tag(), head_again.bits()) {
         return None;
     }
-    if !is_word(tail, tail_again.tag() as u8, tail_again.bits()) {
+    if !is_word(tail, tail_again.tag(), tail_again.bits()) {
         return None;
     }
     Some(a)

@@ -25,7 +25,7 @@ pub fn word_is(core: &Core, at: u64, tag: u8, bits: u64) -> bool
         return false;
     }
     let w = core.get(at as u32);
-    w.tag() as u8 == tag && w.bits() == bits
+    w.tag() == tag && w.bits() == bits
 }
 
 /// Whether the words of the first intrinsics stand.

@@ -60,7 +60,7 @@ fn is_described(core: &Core, at: u32, kind: Kind) -> bool
 {
     let w = core.get(at);
     let again = described(kind, w);
-    is_word(w, again.tag() as u8, again.bits())
+    is_word(w, again.tag(), again.bits())
 }
 
 /// The tag of the words of an object.
@@ -93,7 +93,7 @@ fn have_tag(core: &Core, at: u32, words: u32, tag: u8) -> bool
 {
     let _size = core.size();
     'each: for j in 0..words {
-        if core.get(at + j).tag() as u8 != tag {
+        if core.get(at + j).tag() != tag {
             return false;
         }
     }

@@ -64,7 +64,7 @@ pub fn near_place(core: &Core, regs: &Regs, display: &[u32; 32], w: Word) -> u32
 
 /// As `own_place`, if the word there has this tag.
 #[inline(always)]
-fn own_cell(core: &Core, regs: &Regs, display: &[u32; 32], w: Word, tag: u16) -> u32
+fn own_cell(core: &Core, regs: &Regs, display: &[u32; 32], w: Word, tag: u8) -> u32
     requires { (a : RunningContext core.now regs.now) × IsShown a display.now }
     ensures names { result ≢ 0 → NamesCell core.now regs.now display.now w result }
     ensures tagged { result ≢ 0 → HasTagAt core.now result tag }
@@ -82,7 +82,7 @@ fn own_cell(core: &Core, regs: &Regs, display: &[u32; 32], w: Word, tag: u16) ->
 
 /// As `near_place`, if the word there has this tag.
 #[inline(always)]
-fn near_tagged(core: &Core, regs: &Regs, display: &[u32; 32], w: Word, tag: u16) -> u32
+fn near_tagged(core: &Core, regs: &Regs, display: &[u32; 32], w: Word, tag: u8) -> u32
     requires { (a : RunningContext core.now regs.now) × IsShown a display.now }
     ensures names { result ≢ 0 → NamesCell core.now regs.now display.now w result }
     ensures tagged { result ≢ 0 → HasTagAt core.now result tag }

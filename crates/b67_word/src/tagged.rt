@@ -51,11 +51,11 @@ impl Word {
     }
 
     /// The tag, below 8.
-    pub fn tag(self) -> u16
+    pub fn tag(self) -> u8
         ensures value { result ≡ self.tag }
         ensures small { result < 8 }
     {
-        (self.0 / TAG_WEIGHT) as u16
+        (self.0 / TAG_WEIGHT) as u8
     }
 
     /// The 48 bits of the word, as a number.
