@@ -6,7 +6,8 @@
 #
 # PROGRAM is `b67` on the path if it isn't given. Each deck of decks/ is opened, run and stepped through, and every key is pressed.
 # After each the state on the page is compared with what PROGRAM's `image` and `dump` print at that count. Bad input is tried, too.
-# Any complaint of the browser's console counts as a difference. With FOLDER pictures of the page are written there. Two minutes on a
+# A deck of one's own is reloaded, and the page is opened under policies that forbid workers or WebAssembly (in Chromium). Any complaint
+# of the browser's console counts as a difference. TRIES=keeps,policies tries these parts alone; check/page.mjs names them. With FOLDER pictures of the page are written there. Two minutes on a
 # machine that does nothing else.
 #
 # The last line is `N the same, M different`. Status 1 if anything differs, 2 if something is missing. No part of the gate.

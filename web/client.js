@@ -1,4 +1,6 @@
-// The page's side of the worker: questions and answers, progress, and Stop, which ends the worker and starts it anew.
+// The page's side of the worker: questions and answers, progress, and Stop, which ends the worker and starts it anew. Where a policy allows
+// no worker, the same work is done in the page, which then can't answer while it computes.
+import {Desk} from './worker.js';
 
 export class Client {
   // `source` is the script's text, `bytes` the module's; `hear` gets what the worker tells unasked, `busy` whether it works.
@@ -7,13 +9,27 @@ export class Client {
     this.address = URL.createObjectURL(new Blob([source], {type: 'text/javascript'}));
   }
 
-  // Starts a worker; fails where the browser can't run the module.
-  start() {
+  // Starts a worker, or a desk in the page; fails where the browser can't run the module.
+  async start() {
+    try {
+      if (!this.desk) return await this.startWorker();
+    } catch {
+      this.worker?.terminate();
+      this.worker = null;
+    }
+    this.desk = new Desk(message => this.hear(message));
+    await this.ask('start', {bytes: this.bytes, compares: this.compares});
+  }
+  startWorker() {
     this.worker = new Worker(this.address);
     this.worker.onmessage = ({data}) => (data.id ? this.answered(data) : this.hear(data));
     this.worker.onerror = event => this.failAll(event.message ?? 'the worker has failed');
-    this.ready = this.ask('start', {bytes: this.bytes, compares: this.compares});
-    return this.ready;
+    return this.ask('start', {bytes: this.bytes, compares: this.compares});
+  }
+
+  // Whether the work is done in the page itself.
+  get alone() {
+    return Boolean(this.desk);
   }
 
   ask(ask, data) {
@@ -21,12 +37,14 @@ export class Client {
     this.busy(this.asked.size + 1);
     return new Promise((resolve, reject) => {
       this.asked.set(id, {resolve, reject});
-      this.worker.postMessage({id, ask, data});
+      if (this.desk) setTimeout(() => this.desk.answers(id, ask, data).then(message => this.answered(message)), 15);
+      else this.worker.postMessage({id, ask, data});
     });
   }
 
   answered({id, result, problem}) {
-    const {resolve, reject} = this.asked.get(id);
+    const {resolve, reject} = this.asked.get(id) ?? {};
+    if (!resolve) return; // stopped by then
     this.asked.delete(id);
     this.busy(this.asked.size);
     if (problem === undefined) resolve(result);
@@ -41,7 +59,7 @@ export class Client {
 
   // Ends what is computed, at once.
   stop() {
-    this.worker.terminate();
+    this.worker?.terminate();
     this.failAll('stopped');
     return this.start();
   }

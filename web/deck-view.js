@@ -42,7 +42,12 @@ export function withNumbers(deck, job, numbers) {
 
 // The numbers beside the cards; the refused card's is marked.
 export function showNumbers(deck, refused) {
-  put(byId('gutter'), cardsOf(deck || ' ').map((_, k) => element('div', {class: k + 1 === refused ? 'refused' : ''}, String(k + 1))));
+  const box = byId('gutter'), many = cardsOf(deck || ' ').length;
+  while (box.childElementCount > many) box.lastChild.remove();
+  const more = Array.from({length: many - box.childElementCount}, (_, k) => element('div', {}, String(box.childElementCount + k + 1)));
+  if (more.length) box.append(...more);
+  for (const row of box.querySelectorAll('.refused')) row.classList.remove('refused');
+  if (refused) box.children[refused - 1]?.classList.add('refused');
 }
 
 // Selects a card in the editor and brings it into view.

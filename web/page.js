@@ -4,16 +4,20 @@ import {Client} from './client.js';
 import {decksOf} from './decks.js';
 import {tablesOf} from './messages.js';
 import {hashOf, momentOf} from './address.js';
+import {isPacked, unpacked} from './share.js';
+import {storageOf} from './keep.js';
+import {Editor, USUAL_CORE} from './editor.js';
 import {helpLine, helpTable} from './keys.js';
 import {perform} from './acts.js';
 import {lessonsList} from './lessons.js';
-import {showJobs, showNumbers, showResult} from './deck-view.js';
+import {showResult} from './deck-view.js';
 import {nameOfFollowed} from './follow.js';
 import {showDeck, showLine, showMoment} from './step-view.js';
 
-const [LEAST_CORE, USUAL_CORE, MOST_CORE, MOST_FILLED, PLAY_MILLISECONDS] = [256, 4096, 1048575, 65536, 500];
+const [LEAST_CORE, MOST_CORE, MOST_FILLED, PLAY_MILLISECONDS] = [256, 1048575, 65536, 500];
 const [STATES_KEPT, AHEAD, ADDRESS_MILLISECONDS] = [60, [1, 2, -1, 3, -2, 4], 200]; // of states: how many are kept, and which are made ahead
 const NO_BROWSER = 'This browser can’t run the machine, which needs WebAssembly with memories of 64 bits: open this page in a Chrome, Edge or Firefox of 2025 or later.';
+const NO_POLICY = 'The policy under which this page was sent forbids WebAssembly, so the machine can’t run here: save the page, and open the file.';
 const NO_JOB = 'This deck has no job, so nothing runs: choose a deck, or write ?JOB and its cards.';
 
 export class Page {
@@ -26,7 +30,8 @@ export class Page {
     this.turn = 0;
     this.going = null;
     this.working = 0;
-    this.name = '';
+    this.storage = storageOf(globalThis);
+    this.editor = new Editor(this.decks, this.storage, () => this.addressSoon());
   }
 
   // Starts the worker, or says why it can't run.
@@ -36,18 +41,14 @@ export class Page {
       compares: /[?&]compare/.test(location.search), hear: it => this.hear(it), busy: many => this.busy(many),
     });
     this.lists();
-    try {
-      if (!WebAssembly.validate(bytes)) throw new Error('no memory64');
-      await this.client.start();
-    } catch {
-      this.disabled = true;
-      this.say(NO_BROWSER);
-    }
+    const can = globalThis.WebAssembly?.validate(bytes);
+    const problem = can ? await this.client.start().then(() => '', () => NO_POLICY) : NO_BROWSER;
+    this.disabled = Boolean(problem);
     await this.follow();
+    if (problem) this.say(problem);
   }
 
   lists() {
-    put(byId('pick'), [...this.decks.keys()].map(name => element('option', {value: name}, name)));
     put(byId('part'), [...this.decks.keys()].map(name => element('option', {value: name, selected: name === 'library'}, name)));
     put(byId('lessons'), element('h2', {}, 'Lessons'), lessonsList());
     put(byId('help-line'), helpLine((act, way) => perform(this, act, way)));
@@ -117,42 +118,6 @@ export class Page {
 
   // ------------------------------------------------------------ the deck
 
-  choose(name) {
-    const deck = this.decks.get(name);
-    if (!deck) return;
-    if (this.name === 'edited') this.keep();
-    byId('pick').value = name;
-    byId('core').value = deck.core;
-    this.edited(deck.text, name, deck.about);
-  }
-
-  // Keeps the deck that was edited, under a name of its own in the list.
-  keep() {
-    if (!this.decks.has('edited')) byId('pick').append(element('option', {value: 'edited'}, 'edited'));
-    this.decks.set('edited', {name: 'edited', core: byId('core').value, about: 'The deck that was edited.', text: byId('deck').value});
-  }
-
-  // Another text is in the editor.
-  edited(text, name, about) {
-    byId('deck').value = text;
-    this.name = name;
-    put(byId('about'), about);
-    put(byId('outcome'));
-    put(byId('ran'));
-    byId('take').disabled = byId('resume').disabled = true;
-    showNumbers(text, 0);
-    showJobs(text);
-  }
-
-  typed() {
-    const {value} = byId('deck');
-    const deck = this.decks.get(byId('pick').value);
-    this.name = deck?.text === value ? deck.name : 'edited';
-    put(byId('about'), this.name === 'edited' ? 'This deck was edited.' : deck.about);
-    showNumbers(value, 0);
-    showJobs(value);
-  }
-
   async command(words, {text = byId('deck').value, refusedOf, sectors, resumes} = {}) {
     const result = await this.client.ask('call', {words, text, sectors, resumes});
     this.ran = {status: result.status, text: result.text};
@@ -202,14 +167,14 @@ export class Page {
     });
   }
   take() {
-    this.edited(`?JOB BOUND\n?HEX\n${this.bound}?END\n`, 'edited', 'The codefile that bind has made.');
+    this.editor.take(`?JOB BOUND\n?HEX\n${this.bound}?END\n`, 'The codefile that bind has made.');
   }
 
   async open(file) {
     const bytes = new Uint8Array(await file.arrayBuffer());
     this.show('deck');
     byId('core').value = USUAL_CORE;
-    this.edited(new TextDecoder('latin1').decode(bytes).replace(/\r\n/g, '\n'), 'edited', `The file ${file.name}.`);
+    this.editor.take(new TextDecoder('latin1').decode(bytes).replace(/\r\n/g, '\n'), `The file ${file.name}.`);
   }
 
   // ------------------------------------------------------------ steps
@@ -221,6 +186,7 @@ export class Page {
     byId('edit').setAttribute('aria-pressed', String(view === 'deck'));
     byId('step').setAttribute('aria-pressed', String(view === 'step'));
     if (view === 'deck') this.play(false);
+    this.addressSoon();
   }
 
   // Steps through the deck of the editor: at a count, or where it was left if deck and core are the same.
@@ -231,7 +197,7 @@ export class Page {
         const {status} = await this.command(['check'], {sectors: 1});
         if (status) return this.show('deck');
         if (!hasJob(text)) throw new Error(NO_JOB);
-        this.session = {text, core, name: this.name, stops: new Set(), briefs: new Map(), states: new Map(), end: null, other: null, wanted: null, way: 1};
+        this.session = {text, core, name: this.editor.name, code: await this.editor.addressed(), stops: new Set(), briefs: new Map(), states: new Map(), end: null, other: null, wanted: null, way: 1};
         this.view.followed = '';
         const begun = await this.client.ask('operators', {deck: text, core});
         Object.assign(this.session, begun);
@@ -295,15 +261,44 @@ export class Page {
     document.body.dataset.compared = state.compared;
     byId('two').setAttribute('aria-pressed', String(other !== null));
     showMoment(session, this.view, this.rows);
-    this.addresses ??= setTimeout(() => this.address(), ADDRESS_MILLISECONDS);
+    this.addressSoon();
     this.prepare();
   }
 
-  // Puts the moment that is shown into the address.
-  address() {
+  // Puts what is shown into the address, soon or now: the moment, or the deck.
+  addressSoon() {
+    this.addresses ??= setTimeout(() => this.address(), ADDRESS_MILLISECONDS);
+  }
+  async address() {
+    clearTimeout(this.addresses);
     this.addresses = null;
-    const {name, core, state, other} = this.session ?? {};
-    if (state && document.body.dataset.view === 'step') history.replaceState(null, '', location.search + hashOf({deck: name, core, count: state.count, other}));
+    const address = await this.addressNow();
+    if (!this.addresses && location.hash !== address) history.replaceState(null, '', location.search + address);
+  }
+  async addressNow() {
+    const {code, core, state, other} = this.session ?? {};
+    if (state && document.body.dataset.view === 'step') return hashOf({deck: code, core, count: state.count, other});
+    return hashOf({deck: await this.editor.addressed(), core: Number(byId('core').value) || USUAL_CORE});
+  }
+
+  // Opens a deck of the list, or a new one; what was open before is one step back in the browser's history.
+  async leaves(opens) {
+    await this.address();
+    history.pushState(null, '', location.href);
+    this.show('deck');
+    opens();
+  }
+
+  // Shows an address that leads to what is open now.
+  link() {
+    return this.guard(async () => {
+      await this.address();
+      byId('link-text').value = location.href;
+      byId('link-said').textContent = !isPacked(location.hash.slice(1)) && this.editor.isOwn() ? 'This deck is too long for an address. The one above works in this browser only: save the deck as a file to hand it on.'
+        : `${location.href.length.toLocaleString('en')} characters. ${location.protocol === 'file:' ? 'Whoever has this page as a file opens it there: what counts begins at the sign #.' : ''}`;
+      byId('link-dialog').showModal();
+      byId('link-text').select();
+    });
   }
 
   // Asks for the states around the one that is shown, first in the way that was gone, and for what the time line needs.
@@ -340,16 +335,21 @@ export class Page {
     clearTimeout(this.addresses);
     this.addresses = null;
     const moment = momentOf(hash);
-    if (!moment) return this.name ? undefined : this.choose('two');
+    if (!moment) return this.editor.name ? undefined : this.editor.choose('two');
     const {session} = this;
-    const shown = session?.state && document.body.dataset.view === 'step' && session.name === moment.deck && session.core === moment.core
+    const shown = session?.state && document.body.dataset.view === 'step' && [session.name, session.code].includes(moment.deck) && session.core === moment.core
       && session.state.count === moment.count && session.other === moment.other;
     if (!shown) await this.guard(() => this.openAt(moment));
   }
   async openAt({deck, core, count, other}) {
-    if (!this.decks.has(deck) && this.name !== deck) return this.say(`There is no deck ${deck} in this page: choose one from the list.`);
-    if (this.name !== deck) this.choose(deck);
+    const text = isPacked(deck) ? await unpacked(deck) : null, {editor} = this;
+    if (text === null && !editor.has(deck)) {
+      if (!editor.name) editor.choose('two');
+      throw new Error(`There is no deck ${deck} in this page: choose one from the list.`);
+    }
+    if (text === null && editor.name !== deck) editor.choose(deck);
     if (core) byId('core').value = core;
+    if (text !== null && editor.text !== text) editor.take(text, 'The deck of an address.');
     if (other) byId('other').value = other;
     if (other) this.core('other');
     byId('two').setAttribute('aria-pressed', String(Boolean(other)));
@@ -374,7 +374,7 @@ export class Page {
   told() {
     const {state, otherState, other} = this.session ?? {}, steps = document.body.dataset.view === 'step' && state;
     return {
-      view: document.body.dataset.view, deck: this.name === 'edited' ? '' : this.name, core: Number(byId('core').value),
+      view: document.body.dataset.view, deck: this.editor.isOwn() ? '' : this.editor.name, core: Number(byId('core').value),
       text: byId('deck').value, count: steps ? state.count : null, ...toldOf(steps ? state : null),
       ran: this.ran, message: byId('message').textContent, shown: `${byId('outcome').innerText}\n${byId('ran').innerText}`,
       ...(steps && otherState ? {other: {core: other, ...toldOf(otherState)}} : {}),

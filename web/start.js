@@ -24,19 +24,31 @@ function listenToDeck(page) {
     run: () => page.run(), check: () => page.check(), step: () => page.step(), edit: () => page.show('deck'),
     image: () => page.image(), resume: () => page.resume(), exercise: () => page.exercise(), bind: () => page.bind(),
     take: () => page.take(), two: () => perform(page, 'two'), 'help-button': () => perform(page, 'help'),
-    'lessons-button': () => toggleLessons(page), 'put-numbers': () => putNumbers(page), stop: () => perform(page, 'escape'),
+    'lessons-button': () => toggleLessons(page), link: () => page.link(), save: () => page.editor.save(), 'delete': () => page.editor.remove(),
+    'new': () => page.guard(() => page.leaves(() => page.editor.begin())), 'link-copy': () => copyLink(), 'put-numbers': () => putNumbers(page), stop: () => perform(page, 'escape'),
   };
   for (const [id, act] of Object.entries(clicks)) byId(id).onclick = act;
-  byId('pick').onchange = () => { page.show('deck'); page.choose(byId('pick').value); };
+  byId('pick').onchange = () => {
+    const name = byId('pick').value;
+    return page.guard(() => page.leaves(() => page.editor.choose(name)));
+  };
   byId('file').onchange = () => byId('file').files[0] && page.guard(() => page.open(byId('file').files[0]));
-  byId('deck').oninput = () => page.typed();
+  byId('deck').oninput = () => page.editor.typed();
+  addEventListener('pagehide', () => page.editor.keepNow());
   byId('deck').onscroll = () => { byId('gutter').scrollTop = byId('deck').scrollTop; };
   byId('job').onchange = () => { byId('numbers').value = numbersForRead(byId('deck').value, Number(byId('job').value)); };
 }
 
 function putNumbers(page) {
   byId('deck').value = withNumbers(byId('deck').value, Number(byId('job').value), byId('numbers').value);
-  page.typed();
+  page.editor.typed();
+}
+
+// Copies the address, or marks it where the browser doesn't allow that.
+async function copyLink() {
+  byId('link-text').select();
+  const done = await navigator.clipboard?.writeText(byId('link-text').value).then(() => true, () => false);
+  byId('link-copy').textContent = done ? 'Copied' : 'Copy it by hand';
 }
 
 function listenToSteps(page) {
@@ -45,7 +57,11 @@ function listenToSteps(page) {
     byId('count').blur();
     page.guard(() => page.goTo(Math.floor(Number(byId('count').value)) || 0));
   };
-  byId('core').onchange = () => { if (document.body.dataset.view === 'step') page.step(page.session.state.count, page.session.other); };
+  byId('core').onchange = () => {
+    page.editor.keepSoon();
+    page.addressSoon();
+    if (document.body.dataset.view === 'step') page.step(page.session.state.count, page.session.other);
+  };
   byId('other').onchange = () => page.guard(() => {
     if (page.session?.other === null || document.body.dataset.view !== 'step') return;
     page.session.other = page.core('other');
@@ -85,6 +101,7 @@ function moveInCards(event) {
 }
 
 async function start() {
+  byId('dead').remove();
   const page = new Page();
   listenToDeck(page);
   listenToSteps(page);

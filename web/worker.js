@@ -9,7 +9,7 @@ const MOST_SHOWN = 1 << 24; // bytes that a command may print
 const MOST_OF_IMAGE = 1 << 26;
 const SOON = 100000; // operators, within which the end is looked for at once
 
-class Desk {
+export class Desk {
   constructor(post) {
     Object.assign(this, {post, searches: new Map(), deck: null, ahead: [], wanted: null, left: null});
   }
@@ -18,6 +18,16 @@ class Desk {
     this.compares = compares;
     this.ready = programOf(bytes);
     this.program = await this.ready;
+  }
+
+  // The answer to a question of this number.
+  async answers(id, ask, data) {
+    try {
+      if (ask !== 'start') await this.ready;
+      return {id, result: await this[ask](data)};
+    } catch (problem) {
+      return {id, problem: String(problem.message ?? problem)};
+    }
   }
 
   // Carries out a command; `resumes`: over the text and the sectors that the last image has left.
@@ -130,12 +140,5 @@ function shownOfBefore({tasks, things}) {
 // Answers the page's messages, each with its number.
 export function serve() {
   const desk = new Desk(message => postMessage(message));
-  self.onmessage = async ({data: {id, ask, data}}) => {
-    try {
-      if (ask !== 'start') await desk.ready;
-      postMessage({id, result: await desk[ask](data)});
-    } catch (problem) {
-      postMessage({id, problem: String(problem.message ?? problem)});
-    }
-  };
+  self.onmessage = async ({data: {id, ask, data}}) => postMessage(await desk.answers(id, ask, data));
 }

@@ -42,7 +42,8 @@ export class Firefox {
     Object.assign(it, {waiting: new Map(), calls: 0, errors: [], rest: Buffer.alloc(0)});
     it.socket = await connected(port);
     it.socket.on('data', bytes => it.hears(bytes));
-    await it.call('WebDriver:NewSession', {capabilities: {alwaysMatch: {timeouts: {script: 300000}}}});
+    await it.call('WebDriver:NewSession', {});
+    await it.call('WebDriver:SetTimeouts', {script: 300000}); // of a wish in NewSession Marionette takes no notice
     await it.call('WebDriver:Navigate', {url: 'about:blank'});
     await it.size(width, height);
     return it;

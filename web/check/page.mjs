@@ -5,6 +5,7 @@
 // compared with what the native program's `image` and `dump` print at that count. Then two cores side by side, and bad input. With
 // FOLDER it also writes pictures there. Prints each difference, each complaint of the console, and at last `N the same, M different`.
 import fs from 'node:fs';
+import http from 'node:http';
 import os from 'node:os';
 import path from 'node:path';
 import {pathToFileURL} from 'node:url';
@@ -211,6 +212,70 @@ async function bad_input() {
   wants(state.ran?.status === 8 && state.message, `a deck that prints without end: ${state.ran?.status} ${state.message}`);
 }
 
+// A deck of one's own is there again after a reload, by its address, by Back and from the list, at the same operator.
+async function keeps() {
+  const text = '?JOB OWN\n?ASM\nSEGMENT MAIN 2\nMKST\nNAMC 0,9\nLT8 42\nENTR\nEXIT\n?END\n';
+  const is = async (what, count) => {
+    const state = await stateNow();
+    wants(state.text === text && state.count === count && !state.message, `${what}: ${state.count} ${told(state.text)} ${state.message}`);
+    compares(what, state, text);
+  };
+  const shows = async what => {
+    await browser.until('window.b67?.ready');
+    await browser.value('b67.ready');
+    await is(what, 3);
+  };
+  await writes(text, 4096);
+  await browser.click('#step');
+  await stateNow();
+  for (let k = 0; k < 3; k++) await pressed('own', text, 'ArrowRight');
+  await browser.until("location.hash.startsWith('#deck:') && location.hash.endsWith(',4096,3')", 5);
+  const address = await browser.value('location.href');
+  await browser.value('setTimeout(() => location.reload()) * 0');
+  await new Promise(goes => setTimeout(goes, 800));
+  await shows('own deck after a reload');
+  await opens('jensen,4096,13');
+  await browser.value('history.back()');
+  await browser.until("document.getElementById('deck').value.includes('OWN')", 10);
+  await is('own deck after Back', 3);
+  await browser.opens('about:blank');
+  await browser.opens(address);
+  await shows('own deck by its address');
+  await opens('two,630');
+  await browser.value("{ const it = document.getElementById('pick'); it.value = [...it.options].find(option => option.text.includes('OWN')).value; it.dispatchEvent(new Event('change')); } 0");
+  await browser.until("document.getElementById('deck').value.includes('OWN')", 10);
+  await opens('deck:AAAA,4096,3');
+  wants(/isn’t whole/.test((await stateNow()).message), 'half an address: no sentence');
+}
+
+// Under policies that forbid workers, storage or scripts the page runs, or says truly why not.
+const POLICIES = [
+  ["script-src 'unsafe-inline' 'wasm-unsafe-eval' blob:; worker-src blob:", ''],
+  ["script-src 'unsafe-inline' 'wasm-unsafe-eval'; worker-src 'none'", ''],
+  ["sandbox allow-scripts; script-src 'unsafe-inline' 'wasm-unsafe-eval' blob:", ''],
+  ["script-src 'unsafe-inline'; worker-src 'none'", 'forbids WebAssembly'],
+];
+async function policies() {
+  const bytes = fs.readFileSync(page);
+  const server = http.createServer((asked, answer) => {
+    const policy = POLICIES[Number(asked.url.slice(1))]?.[0];
+    answer.writeHead(200, {'content-type': 'text/html', ...(policy && {'content-security-policy': policy})}).end(bytes);
+  });
+  await new Promise(goes => server.listen(0, '127.0.0.1', goes));
+  for (const [k, [policy, sentence]] of POLICIES.entries()) {
+    await browser.opens(`http://127.0.0.1:${server.address().port}/${k}`);
+    await browser.until('window.b67?.ready');
+    await browser.value('b67.ready');
+    await browser.click('#new');
+    await browser.click('#run');
+    const {ran, message} = await stateNow();
+    wants(sentence ? message.includes(sentence) : ran?.text === '1.1 5\n1.1 ENDED\n' && !message, `under ${policy}: ${told(ran?.text)} ${message}`);
+  }
+  browser.errors.length = 0; // a policy's complaints are wanted here
+  server.closeAllConnections();
+  server.close();
+}
+
 async function without_memory64() {
   await starts('WebAssembly.validate = () => false; WebAssembly.compile = () => Promise.reject(new WebAssembly.CompileError("no"));');
   const state = await stateNow();
@@ -234,8 +299,7 @@ async function takes_pictures() {
   }
 }
 
-async function tries_all() {
-  await starts();
+async function each_deck() {
   for (const name of fs.readdirSync(folder).sort()) {
     const args = path.join(folder, name, 'args'), words = fs.existsSync(args) ? fs.readFileSync(args, 'latin1').split('\n') : [];
     if (words[0] !== 'run') continue;
@@ -244,10 +308,14 @@ async function tries_all() {
     await steps(name, text, core);
     if (KEYED.includes(name)) await keys(name, text, core);
   }
-  await two_cores();
-  await follows();
-  await bad_input();
-  if (pictures) await takes_pictures();
+}
+
+// All parts, or those that TRIES names.
+async function tries_all() {
+  const parts = {each_deck, two_cores, follows, bad_input, keeps, ...(isFirefox ? {} : {policies}), ...(pictures ? {takes_pictures} : {})};
+  const named = process.env.TRIES?.split(',');
+  await starts();
+  for (const [name, part] of Object.entries(parts)) if (!named || named.includes(name)) await part();
   await ends();
   if (!isFirefox) await without_memory64();
 }

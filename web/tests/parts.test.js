@@ -8,11 +8,13 @@ import {endingOf} from '../changes.js';
 import {followedText, nextChoice} from '../follow.js';
 import {numbersForRead, withNumbers} from '../deck-view.js';
 import {decksOf} from '../decks.js';
+import {OwnDecks} from '../keep.js';
 import {actOf, KEYS} from '../keys.js';
 import {momentsOfLessons} from '../lessons.js';
 import {least} from '../machine.js';
 import {spansText} from '../memory.js';
 import {explained, statusText, tablesOf} from '../messages.js';
+import {isPacked, packed, unpacked} from '../share.js';
 import {coupleText, numberText} from '../words.js';
 import {decks} from './native.js';
 
@@ -24,6 +26,47 @@ test('addresses', () => {
   assert.deepEqual(momentOf('#two'), {deck: 'two', core: undefined, count: null, other: null});
   assert.equal(momentOf('#<b>'), null);
   assert.equal(hashOf({deck: 'two', core: 630, count: 0, other: null}), '#two,630,0');
+});
+
+test('a deck in an address', async () => {
+  for (const text of ['', '?JOB A\n?ASM\nEXIT\n?END\n', 'é – “ÿ”\n', 'NOOP\n'.repeat(5000)]) {
+    const part = await packed(text);
+    assert.ok(isPacked(part));
+    assert.deepEqual(momentOf(`#${part},4096,7`), {deck: part, core: 4096, count: 7, other: null});
+    assert.equal(await unpacked(part), text);
+    if (text) await assert.rejects(unpacked(part.slice(0, -3)), /isn’t whole/);
+  }
+});
+
+// A storage as browsers have, with room for so many entries.
+function storageFor(most) {
+  const kept = new Map();
+  return {get length() { return kept.size; }, key: k => [...kept.keys()][k] ?? null, getItem: key => kept.get(key) ?? null, removeItem: key => kept.delete(key),
+    setItem: (key, value) => { if (!kept.has(key) && kept.size >= most) throw new Error('full'); kept.set(key, value); }};
+}
+
+test('decks of one’s own are kept, by two tabs too', () => {
+  const storage = storageFor(100), one = new OwnDecks(storage), other = new OwnDecks(storage);
+  assert.equal(one.begin('a\n', 4096, 'two', 1), 'mine-1');
+  assert.equal(other.begin('b\n', 630, '', 2), 'mine-2');
+  one.put('mine-1', {text: 'aa\n', core: '700'}, 3);
+  const later = new OwnDecks(storage);
+  assert.deepEqual(later.list().map(({name, text, core, from}) => [name, text, core, from]), [['mine-1', 'aa\n', 700, 'two'], ['mine-2', 'b\n', 630, '']]);
+  later.remove('mine-1');
+  assert.deepEqual(new OwnDecks(storage).list().map(it => it.name), ['mine-2']);
+});
+
+test('decks of one’s own without storage, or in a full one', () => {
+  const none = new OwnDecks(null), full = new OwnDecks(storageFor(0));
+  for (const own of [none, full]) {
+    assert.equal(own.begin('a\n', 4096, '', 1), 'mine-1');
+    assert.equal(own.put('mine-1', {text: 'b\n', core: 4096}, 2), false);
+    assert.equal(own.get('mine-1').text, 'b\n');
+  }
+  const many = new OwnDecks(null);
+  for (let k = 0; k < 70; k++) many.begin(`${k}\n`, 4096, '', k);
+  assert.equal(many.list().length, 60);
+  assert.equal(many.list()[0].text, '69\n');
 });
 
 test('couples by the running level, and numbers', () => {

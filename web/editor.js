@@ -1,0 +1,123 @@
+// The deck in the editor: which one it is, those of one's own, and what keeps it: the address, the browser, a file.
+import {byId, element, put} from './elements.js';
+import {OwnDecks, saveFile} from './keep.js';
+import {MOST_OF_ADDRESS, packed} from './share.js';
+import {jobsOf} from './cards.js';
+import {showJobs, showNumbers} from './deck-view.js';
+
+export const USUAL_CORE = 4096;
+const KEEP_MILLISECONDS = 300;
+const NEW_DECK = '?JOB MINE\n?ASM\nSEGMENT MAIN 2\nMKST            ; print(2 + 3)\nNAMC 0,9\nLT8 2\nLT8 3\nADD\nENTR\nEXIT\n?END\n';
+
+export class Editor {
+  // `decks` are those of the repository; `changed` is called when another deck is open, or the same with another text.
+  constructor(decks, storage, changed) {
+    Object.assign(this, {decks, changed, own: new OwnDecks(storage), name: '', about: '', kept: Boolean(storage)});
+  }
+
+  get text() {
+    return byId('deck').value;
+  }
+  isOwn(name = this.name) {
+    return !this.decks.has(name);
+  }
+  has(name) {
+    return this.decks.has(name) || Boolean(this.own.get(name));
+  }
+
+  // The list: first the decks of one's own, the one changed last on top.
+  list() {
+    const mine = this.own.list().map(({name, text}) => element('option', {value: name}, `${name} ${jobsOf(text)[0] ?? ''}`));
+    const groups = [element('optgroup', {label: 'yours, kept in this browser'}, mine), element('optgroup', {label: 'decks'}, [...this.decks.keys()].map(name => element('option', {value: name}, name)))];
+    put(byId('pick'), mine.length ? groups : groups[1]);
+    byId('pick').value = this.name;
+  }
+
+  // Opens a deck by its name, in its own core.
+  choose(name) {
+    this.keepNow();
+    const deck = this.decks.get(name) ?? this.own.get(name);
+    if (!deck) return;
+    byId('core').value = deck.core;
+    this.open(deck.text, name, deck.about);
+  }
+
+  // Puts a text into the editor that isn't in the list: it is the reader's own from now on. `about` says where it comes from.
+  take(text, about, from = '') {
+    this.keepNow();
+    const found = [...this.decks.values()].find(deck => deck.text === text) ?? this.own.withText(text);
+    this.open(text, found?.name ?? this.own.begin(text, byId('core').value, from), found?.about ?? about);
+  }
+  begin() {
+    byId('core').value = USUAL_CORE;
+    this.take(NEW_DECK, 'A deck to begin with: change it, and Run.');
+  }
+
+  open(text, name, about) {
+    Object.assign(this, {name, about});
+    byId('deck').value = text;
+    this.list();
+    this.tell();
+    for (const id of ['outcome', 'ran']) put(byId(id));
+    byId('take').disabled = byId('resume').disabled = true;
+    showNumbers(text, 0);
+    showJobs(text);
+    this.changed();
+  }
+
+  // After a change by hand. A deck of the repository becomes one of one's own.
+  typed() {
+    if (!this.isOwn() && this.decks.get(this.name).text !== this.text) {
+      this.name = this.own.begin(this.text, byId('core').value, this.name);
+      this.about = '';
+      this.list();
+    }
+    this.keepSoon();
+    this.tell();
+    showNumbers(this.text, 0);
+    showJobs(this.text);
+    this.changed();
+  }
+
+  keepSoon() {
+    clearTimeout(this.keeping);
+    if (this.isOwn()) this.keeping = setTimeout(() => this.keepNow(), KEEP_MILLISECONDS);
+  }
+  keepNow() {
+    clearTimeout(this.keeping);
+    if (!this.name || !this.isOwn()) return;
+    const was = this.own.get(this.name), core = byId('core').value;
+    if (was?.text === this.text && was.core === Number(core)) return;
+    this.kept = this.own.put(this.name, {text: this.text, core});
+    this.tell();
+  }
+
+  // What is said of the deck: of one's own also what keeps it.
+  tell() {
+    const mine = this.isOwn(), from = this.own.get(this.name)?.from;
+    byId('delete').hidden = !mine;
+    const begun = this.about || (from ? `Yours, begun from ${from}.` : 'Yours.');
+    put(byId('about'), mine ? `${begun} ${this.kept ? 'It is kept in this browser.' : 'This browser keeps nothing for this page: Save or Link keeps the deck.'}` : this.about);
+  }
+
+  // What stands for the deck in an address. A deck that is too long for that has its name there, which this browser alone knows.
+  async addressed() {
+    const {name, text} = this;
+    if (!this.isOwn()) return name;
+    const part = text.length > 40 * MOST_OF_ADDRESS ? '' : await packed(text);
+    return part && part.length <= MOST_OF_ADDRESS ? part : name;
+  }
+
+  save() {
+    this.keepNow();
+    saveFile(this.text, `${(jobsOf(this.text)[0] || this.name).toLowerCase().replace(/[^a-z0-9_-]+/g, '-')}.deck`);
+  }
+
+  remove() {
+    clearTimeout(this.keeping);
+    const from = this.own.get(this.name)?.from;
+    this.own.remove(this.name);
+    this.name = '';
+    this.choose(this.decks.has(from) ? from : 'two');
+  }
+}

@@ -1,0 +1,29 @@
+// A deck in an address: `deck:` and its text, deflated, in the sixty-four signs that addresses may have.
+const MARK = 'deck:';
+export const MOST_OF_ADDRESS = 30000; // characters; a longer deck has no address
+
+async function through(stream, bytes) {
+  return new Uint8Array(await new Response(new Blob([bytes]).stream().pipeThrough(stream)).arrayBuffer());
+}
+
+// Whether the part of an address is a deck itself, and no name of one.
+export function isPacked(part) {
+  return part.startsWith(MARK);
+}
+
+export async function packed(text) {
+  const bytes = await through(new CompressionStream('deflate-raw'), new TextEncoder().encode(text));
+  const signs = Array.from(bytes, byte => String.fromCharCode(byte)).join('');
+  return MARK + btoa(signs).replaceAll('+', '-').replaceAll('/', '_').replace(/=+$/, '');
+}
+
+// The deck of such a part; fails if it is none, as when an address was cut.
+export async function unpacked(part) {
+  try {
+    const signs = atob(part.slice(MARK.length).replaceAll('-', '+').replaceAll('_', '/'));
+    const bytes = await through(new DecompressionStream('deflate-raw'), Uint8Array.from(signs, sign => sign.charCodeAt(0)));
+    return new TextDecoder('utf-8', {fatal: true}).decode(bytes);
+  } catch {
+    throw new Error('The deck in this address isn’t whole. Was the address cut? Ask for it anew, or for the deck as a file.');
+  }
+}
