@@ -2,13 +2,15 @@
 import {byId, element, put} from './elements.js';
 import {cardsOf, jobsOf} from './cards.js';
 import {lineRow} from './draw-cards.js';
+import {endingOf} from './changes.js';
 import {explained, statusText} from './messages.js';
+import {fittingCauses} from './faults.js';
 
 const [MOST_LINES, LAST_LINES] = [2000, 200];
 
 // What status 0 means, by command.
 const DONE = {
-  run: 'All tasks have ended. A task that ended by a fault also gives 0: read its line.',
+  run: 'All tasks have ended.',
   check: 'The deck is admitted: each job with its segments and data rows.',
   resume: 'All tasks have ended. These are the lines that the run had still to print.',
   exercise: 'All tasks have ended.',
@@ -61,11 +63,36 @@ function markCard(card) {
   byId('gutter').scrollTop = area.scrollTop;
 }
 
+// Whether a command has done what was wanted: a halt is wanted, a fault isn't.
+function outcomeOf(status, lines) {
+  if (status === 3) return 'halted';
+  return status || lines.some(line => endingOf(line)?.bad) ? 'bad' : '';
+}
+
+// Says where a run met its first fault, and what was wrong there; `look` shows the machine before it, `card` is marked.
+export function showFault(rows, {task, name, count, operator, said, fits}, look) {
+  const means = explained(rows, `${task} ${name}`), place = operator.card ? `card ${operator.card}` : `the place ${operator.place}`;
+  const causes = fittingCauses(means?.advice ?? '', fits);
+  put(byId('outcome').querySelector('.fault-told') ?? byId('outcome').appendChild(element('div', {class: 'fault-told'})),
+    element('p', {}, `Task ${task} ended by ${name} at operator ${count.toLocaleString('en')}, ${place}: `, element('strong', {}, operator.text), `. ${means?.means ?? ''} ${said}`),
+    causes ? element('p', {class: 'dim'}, causes) : null,
+    element('p', {}, element('button', {type: 'button', id: 'look', onclick: look}, 'Look at the machine before it')));
+  if (operator.card) showNumbers(byId('deck').value, operator.card);
+  byId('gutter').querySelector('.refused')?.scrollIntoView({block: 'nearest'});
+  byId('deck').scrollTop = byId('gutter').scrollTop;
+}
+
+// A button that does what helps, below what a command has given.
+export function offer(text, act) {
+  byId('outcome').append(element('p', {}, element('button', {type: 'button', class: 'offer', onclick: act}, text)));
+}
+
 // What a command has given: its status with its meaning, the lines, and what a refusal or a fault means.
 export function showResult(rows, {words, status, text, milliseconds, place}, refusedOf = 'deck') {
   const lines = text.split('\n').slice(0, -1), last = lines.at(-1) ?? '', said = status === 2 ? explained(rows, last) : null;
-  const {means, advice} = said ?? (status ? statusText(rows, status, last) : {means: DONE[words[0]], advice: ''});
-  put(byId('outcome'), element('p', {class: status ? 'status bad' : 'status'},
+  const faulty = lines.some(line => endingOf(line)?.bad);
+  const {means, advice} = said ?? (status ? statusText(rows, status, last) : {means: DONE[words[0]], advice: faulty ? 'A task ended by a fault.' : ''});
+  put(byId('outcome'), element('p', {class: `status ${outcomeOf(status, lines)}`},
     element('strong', {}, said ? `${last}. ` : `${words[0]}: status ${status}. `), means, ' ', advice,
     place?.[0] ? ` It is card ${place[0]}: ${place[1]}.` : '', element('span', {class: 'dim'}, ` ${Math.ceil(milliseconds)} ms`)));
   put(byId('ran'), resultRows(lines, said ? null : rows));

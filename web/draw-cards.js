@@ -40,27 +40,28 @@ function markStop(row, stops) {
   row.firstChild.setAttribute('aria-pressed', String(stops));
 }
 
-// Marks the card just made, the next one and the breakpoints, and brings the first one into view.
-export function markCards(box, state, stops) {
+// Marks the card just made, the next one, the one that faults, and the breakpoints, and brings the first one into view.
+export function markCards(box, state, stops, faulty) {
   const now = rowOf(box, cardKey(state.operator)), next = rowOf(box, cardKey(state.next)), shown = now ?? next;
   const {scrollTop, clientHeight} = box, at = shown?.offsetTop; // asked before anything changes
-  for (const row of box.querySelectorAll('.now, .next')) {
-    row.classList.remove('now', 'next');
+  for (const row of box.querySelectorAll('.now, .next, .faulty')) {
+    row.classList.remove('now', 'next', 'faulty');
     row.removeAttribute('aria-current');
   }
   now?.classList.add('now');
   now?.setAttribute('aria-current', 'step');
   next?.classList.add('next');
+  rowOf(box, faulty ? cardKey(faulty) : '')?.classList.add('faulty');
   for (const row of box.querySelectorAll('.stopped')) if (!stops.has(row.dataset.key)) markStop(row, false);
   for (const key of stops) markStop(rowOf(box, key), true);
   if (shown && (at < scrollTop + 20 || at > scrollTop + clientHeight - 60)) box.scrollTop = at - clientHeight / 2;
 }
 
-// A line, in the colour of its task; the meaning of a fault below it.
+// A line, in the colour of its task; the meaning of a fault below it. Its causes stand where the machine before it is known.
 export function lineRow(line, rows, fresh) {
   const task = /^\d+\.\d+ /.test(line) ? taskClass(line.split(' ')[0]) : '';
   const said = rows && /^\d+\.\d+ ENDED$/.test(line) ? null : rows && explained(rows, line);
-  return [element('div', {class: `line ${task} ${fresh ? 'fresh' : ''}`}, line), said ? element('div', {class: 'meaning'}, said.means, ' ', said.advice) : null];
+  return [element('div', {class: `line ${task} ${fresh ? 'fresh' : ''}`}, line), said ? element('div', {class: 'meaning'}, said.means) : null];
 }
 
 // The lines that were printed, the last one in view.

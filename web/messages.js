@@ -3,6 +3,26 @@
 const OF_TASK = /^\d+\.\d+ ([A-Z][A-Z ]*)$/;
 const OF_CARD = /^(DECK|ASM|CODEFILE|LOAD|BIND|IMAGE) (\d+) REASON (\d+)/;
 
+// What the page says in place of a row's advice: it has buttons and keys where the program has options and scripts.
+const OURS = {
+  'Statuses:0': 'If the deck shouldn’t be empty: write ?JOB and its cards.',
+  'Statuses:3': 'Step shows the machine at that moment, and Resume goes on from an image.',
+  'Statuses:4': 'Take at least `need` words of core: type the number above, or press the button. A later operator may need more still. A smaller ?STACK card lowers the need, for each task that lives at once.',
+  'Statuses:9': 'Close other pages, or take a smaller core.',
+  'Endings and faults:LIMIT': 'An endless loop: step back from here, and look at what the loop tests. Or a long run: raise ?LIMIT, to 100,000,000 at most. An operator that waits is counted again when its task is woken.',
+  'Endings and faults:DEADLOCK': 'Tasks that wait for each other in a circle; a WAIT of an event that was caused before its cell was set to 0, or that nobody causes; a STOD into the cell where CAUSE was meant; a task that awaits itself. Let all take shared things in one order.',
+  'Endings and faults:STACK OVERFLOW': 'A loop that pushes in each turn: look at what a turn leaves on the stack. Or a recursion that misses its end: look at the arguments of the ENTR that recurs; only if they come nearer to the end, raise ?STACK, to 16,383 at most, and the core with it.',
+  'DECK:5': '?STACK, ?QUANTUM, ?HALT and ?SWITCH go before the first ?JOB; in a job the order is ?LIMIT, ?ASM or ?HEX, ?DATA, ?END. A text that doesn’t begin with a ? card is no deck: begin with ?JOB, a name, and ?ASM on the next card. A comment outside an ?ASM body; a space before the ?.',
+};
+const LACKING = /scripts\/|--core|--backing|\bPATH\b|`(?:resume|dump|asm|convert)`|tracer?\b|standard (?:in|out)put/i;
+
+// Advice in the page's words: the page's own, or that of the row without the clauses on what the page hasn't.
+function advised(key, cell = '', numbers = {}) {
+  if (OURS[key]) return plain(OURS[key], numbers);
+  const clauses = cell.split(/(?<=[.;]) +/).filter(clause => !LACKING.test(clause)), text = plain(clauses.join(' '), numbers);
+  return text.replace(/;$/, '.');
+}
+
 // The text of a cell, without marks; a name in a code span becomes its number.
 function plain(text, numbers = {}) {
   return text.trim().replace(/\[([^\]]*)\]\([^)]*\)/g, '$1').replace(/`([^`]*)`/g, (_, name) => numbers[name] ?? name);
@@ -28,10 +48,15 @@ export function explained(rows, line) {
   const refusal = OF_CARD.exec(line), ending = OF_TASK.exec(line);
   if (refusal) {
     const [, kind, card, reason] = refusal, row = rows.get(`${kind}:${reason}`);
-    return row && {card: kind === 'BIND' ? 0 : Number(card), means: `${SUBJECTS[kind]} ${card} ${plain(row[1])}.`, advice: plain(row[2] ?? '')};
+    return row && {card: kind === 'BIND' ? 0 : Number(card), means: `${SUBJECTS[kind]} ${card} ${plain(row[1])}.`, advice: advised(`${kind}:${reason}`, row[2])};
   }
   const row = ending && rows.get(`Endings and faults:${ending[1]}`);
-  return row ? {card: 0, means: plain(row[1]), advice: plain(row[2] ?? '')} : null;
+  return row ? {card: 0, means: plain(row[1]), advice: advised(`Endings and faults:${ending[1]}`, row[2])} : null;
+}
+
+// What a status means, without what the page hasn't.
+function meant(status, cell, numbers) {
+  return status === 3 ? 'The count of ?HALT was reached while a task lives.' : plain(cell, numbers);
 }
 
 // What a status means, with the numbers of the run's last line in it.
@@ -41,5 +66,5 @@ export function statusText(rows, status, lastLine) {
   const found = /^(NO CORE|BACKING FULL) (\d+) (\d+)$/.exec(lastLine ?? '');
   const names = found && (found[1] === 'NO CORE' ? ['need', 'core'] : ['sum', 'sectors']);
   const numbers = found ? {[names[0]]: found[2], [names[1]]: found[3]} : {};
-  return {means: plain(row[2], numbers), advice: plain(row[3] ?? '', numbers)};
+  return {means: meant(status, row[2], numbers), advice: advised(`Statuses:${status}`, row[3], numbers)};
 }

@@ -12,6 +12,11 @@ export const OPERATORS = new Map(TABLE.match(/\S+ \S+ \S+/g).map(entry => {
   return [parseInt(byte, 16), [name, Number(wants)]];
 }));
 
+// How many words of the top record an operator takes; the others take none.
+export const TAKES = {STFF: 1, LOAD: 1, STOD: 2, STON: 2, INDX: 2, NXLV: 2, ADD: 2, SUBT: 2, MULT: 2, IDIV: 2, RDIV: 2, CHSN: 1, LESS: 2, LSEQ: 2,
+  GREQ: 2, GRTR: 2, EQUL: 2, NEQL: 2, SAME: 2, LAND: 2, LOR: 2, LEQV: 2, LNOT: 1, BSET: 1, BRST: 1, ISOL: 1, INSR: 2, BRTR: 1, BRFL: 1, DLET: 1,
+  EXCH: 2, DUPL: 1, RETN: 1, ENTR: 1};
+
 export const INTRINSICS = {8: 'ARRAYDEC', 9: 'PRINT', 10: 'PRINTROW', 11: 'READ', 12: 'PROCESS', 13: 'AWAIT', 14: 'STATUS',
   15: 'WAIT', 16: 'CAUSE', 17: 'DEALLOCATE', 18: 'RESIZE'};
 

@@ -10,11 +10,13 @@ import {Editor, USUAL_CORE} from './editor.js';
 import {helpLine, helpTable} from './keys.js';
 import {perform} from './acts.js';
 import {lessonsList} from './lessons.js';
-import {showResult} from './deck-view.js';
+import {offer, showFault, showResult} from './deck-view.js';
+import {endingOf} from './changes.js';
 import {nameOfFollowed} from './follow.js';
 import {showDeck, showLine, showMoment} from './step-view.js';
 
 const [LEAST_CORE, MOST_CORE, MOST_FILLED, PLAY_MILLISECONDS] = [256, 1048575, 65536, 500];
+const SOON_FOUND = 250; // milliseconds of a run whose fault is looked for unasked
 const [STATES_KEPT, AHEAD, ADDRESS_MILLISECONDS] = [60, [1, 2, -1, 3, -2, 4], 200]; // of states: how many are kept, and which are made ahead
 const NO_BROWSER = 'This browser can’t run the machine, which needs WebAssembly with memories of 64 bits: open this page in a Chrome, Edge or Firefox of 2025 or later.';
 const NO_POLICY = 'The policy under which this page was sent forbids WebAssembly, so the machine can’t run here: save the page, and open the file.';
@@ -81,7 +83,11 @@ export class Page {
     if (progress) this.progress = progress;
     const {session} = this;
     if (progress || !session?.state || session.text !== deck) return;
-    if (state) return keepState(session, core, state);
+    if (state) {
+      keepState(session, core, state);
+      if (state.wrongs.length && core === session.core && state.count === session.state.count + 1) this.redraw(); // the next operator faults
+      return;
+    }
     if (session.core !== core) return;
     for (const brief of briefs) session.briefs.set(brief.count, brief);
     session.end = end ?? session.end;
@@ -138,7 +144,27 @@ export class Page {
 
   run() {
     this.show('deck');
-    return this.guard(() => this.command(['run', '--core', String(this.core()), '--backing', 'b']));
+    return this.guard(async () => {
+      const core = this.core(), text = this.editor.text, result = await this.command(['run', '--core', String(core), '--backing', 'b']);
+      await this.helps(text, core, result);
+    });
+  }
+
+  // After a run that ended otherwise than it should: a core that suffices, or the place of the first fault, at once if that is soon found.
+  async helps(text, core, {status, text: printed, milliseconds}) {
+    if (status === 4) return this.offerCore(text, core);
+    const fault = printed.split('\n').slice(0, -1).map(endingOf).find(it => it?.bad);
+    if (!fault || !hasJob(text)) return;
+    const find = async () => {
+      const found = await this.client.ask('fault', {deck: text, core});
+      if (found && text === this.editor.text) showFault(this.rows, found, () => this.step(found.count - 1));
+    };
+    if (milliseconds < SOON_FOUND) await find();
+    else offer('Find the operator of the first fault', () => this.guard(find));
+  }
+  async offerCore(text, core) {
+    const words = await this.client.ask('coreFor', {deck: text, core});
+    if (words && words <= MOST_CORE && text === this.editor.text) offer(`Take ${words.toLocaleString('en')} words of core, and run`, () => { byId('core').value = words; byId('core').onchange(); this.run(); });
   }
   check() {
     this.show('deck');
@@ -197,7 +223,7 @@ export class Page {
         const {status} = await this.command(['check'], {sectors: 1});
         if (status) return this.show('deck');
         if (!hasJob(text)) throw new Error(NO_JOB);
-        this.session = {text, core, name: this.editor.name, code: await this.editor.addressed(), stops: new Set(), briefs: new Map(), states: new Map(), end: null, other: null, wanted: null, way: 1};
+        this.session = {text, core, name: this.editor.name, code: await this.editor.addressed(), stops: new Set(), briefs: new Map(), states: new Map(), faults: new Map(), end: null, other: null, wanted: null, way: 1};
         this.view.followed = '';
         const begun = await this.client.ask('operators', {deck: text, core});
         Object.assign(this.session, begun);
@@ -214,6 +240,7 @@ export class Page {
     this.ran = {status: refused.status, text: refused.text};
     this.show('deck');
     showResult(this.rows, {words: ['step'], milliseconds: 0, ...refused}, 'none');
+    return refused.status === 4 ? this.offerCore(this.editor.text, this.core()) : undefined;
   }
 
   ask(name, data, core = this.session.core) {
@@ -260,7 +287,7 @@ export class Page {
     session.briefs.set(state.count, state.brief);
     document.body.dataset.compared = state.compared;
     byId('two').setAttribute('aria-pressed', String(other !== null));
-    showMoment(session, this.view, this.rows);
+    this.draws();
     this.addressSoon();
     this.prepare();
   }
@@ -396,16 +423,20 @@ export class Page {
     byId('play').textContent = on ? 'pause' : 'play';
   }
 
+  draws() {
+    showMoment(this.session, this.view, this.rows, act => perform(this, act));
+  }
   redraw() {
-    if (this.session?.state && document.body.dataset.view === 'step') showMoment(this.session, this.view, this.rows);
+    if (this.session?.state && document.body.dataset.view === 'step') this.draws();
   }
 }
 
 // Keeps a state among those of a session that were sent last, and gives it.
-function keepState({states}, core, state) {
+function keepState({states, faults}, core, state) {
   const key = `${core} ${state.count}`;
   states.delete(key);
   states.set(key, state);
+  if (state.wrongs.length) faults.set(state.count, {wrongs: state.wrongs, operator: state.operator});
   if (states.size > STATES_KEPT) states.delete(states.keys().next().value);
   return state;
 }

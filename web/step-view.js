@@ -9,6 +9,7 @@ import {changesList, showMemory} from './draw-memory.js';
 import {showTimeline, windowOf} from './timeline.js';
 import {followedText} from './follow.js';
 import {statusText} from './messages.js';
+import {faultShown, showFaultNote} from './fault-note.js';
 
 // The operator's name and operands, without a label.
 function operatorText(operator) {
@@ -47,7 +48,7 @@ function endsText(endings) {
 }
 
 function endText(state, rows, ends) {
-  if (state.status === 0) return `${ends}. No task lives any more`;
+  if (state.status === 0) return `${ends}. No task lives any more; what you see is the machine before this operator`;
   const {means, advice} = statusText(rows, state.status, state.lines.shown.at(-1));
   return `the run stops here. ${means} ${advice}`;
 }
@@ -90,21 +91,23 @@ function measured() {
 }
 
 // Draws all of a session's state.
-export function showMoment(session, view, rows) {
-  const {state, stops} = session;
+export function showMoment(session, view, rows, act) {
+  const {state, stops} = session, fault = faultShown(session), shown = state.remains ?? state;
   document.body.classList.toggle('two', Boolean(session.otherState));
   byId('pair').hidden = !session.otherState;
   byId('right').hidden = Boolean(session.otherState);
+  showFaultNote(fault, rows, act);
   const {stacks, line} = measured();
-  markCards(byId('cards'), state, stops);
+  markCards(byId('cards'), state, stops, fault?.operator);
   showPrinted(byId('printed'), state.lines, state.fresh.length);
-  showStacks(byId('stacks'), state, session.operators, view, stacks);
+  byId('stacks').classList.toggle('past', shown !== state);
+  showStacks(byId('stacks'), shown, session.operators, {...view, wrong: new Set(fault?.wrongs.flatMap(it => it.cells))}, stacks);
   showCount(session);
   showOperator(state, rows);
   if (session.otherState) showPair(session, view);
   else {
     putKept(byId('changed'), changesPart(state));
-    showMemory(byId('memory'), state, view.followed);
+    showMemory(byId('memory'), shown, view.followed);
     byId('dump').textContent = state.dump || 'No task lives.';
   }
   showFollowed(state, view);

@@ -4,6 +4,8 @@ import {programOf, textOf} from './program.js';
 import {operatorsOf} from './cards.js';
 import {Machine} from './machine.js';
 import {Search} from './search.js';
+import {endingOf} from './changes.js';
+import {wrongOf} from './faults.js';
 
 const MOST_SHOWN = 1 << 24; // bytes that a command may print
 const MOST_OF_IMAGE = 1 << 26;
@@ -62,8 +64,26 @@ export class Desk {
     const search = this.search(deck, core), {machine} = search;
     machine.last ??= end ?? undefined;
     const state = machine.state(count);
-    const before = state.count ? shownOfBefore(machine.machine(state.count - 1)) : null;
-    return {...state, before, end: machine.last ?? null, compared: machine.compared, brief: search.brief(state.count)};
+    const then = state.count ? machine.machine(state.count - 1) : null, over = state.status !== undefined && then?.tasks.length;
+    return {...state, before: then && shownOfBefore(then), remains: over ? remainsOf(then) : null, wrongs: wrongsOf(state, then), end: machine.last ?? null,
+      compared: machine.compared, brief: search.brief(state.count)};
+  }
+
+  // The first fault of a run: its count, its operator and what was wrong; null where no task ends by a fault.
+  fault({deck, core}) {
+    const search = this.search(deck, core), count = search.firstFault(), state = this.state({deck, core, count}), [wrong] = state.wrongs;
+    return wrong ? {...wrong, count, operator: state.operator} : null;
+  }
+
+  // The least core in which a run doesn't end for want of words.
+  coreFor({deck, core}) {
+    for (let words = core, tries = 0; tries < 100; tries++) {
+      const {status, bytes} = this.program.call(['run', '--core', String(words), '--backing', 'b'], deck, {room: MOST_SHOWN});
+      const need = status === 4 && /^NO CORE (\d+) /m.exec(textOf(bytes.subarray(-60)));
+      if (!need) return words;
+      words = Number(need[1]);
+    }
+    return null;
   }
 
   // What the page needs to begin with a deck: the operators of its jobs, where it ends if that is soon said, and why it
@@ -126,6 +146,17 @@ export class Desk {
     this.post({deck, core, briefs, end: search.machine.last ?? null});
     this.wanted = count > to ? null : {deck, core, from: count, to};
   }
+}
+
+// What is shown of a run that has ended: the last machine, of which nothing is new.
+function remainsOf({count, tasks, numbers, areas, things, sectorsUsed, coreWords}) {
+  return {count, tasks, numbers, areas, things, sectorsUsed, coreWords, freshCells: []};
+}
+
+// Of each task that a fault has just ended: its name, the fault, and what was wrong in the machine before.
+function wrongsOf({fresh, operator}, before) {
+  const endings = before && operator ? fresh.map(endingOf).filter(it => it?.bad) : [];
+  return endings.map(({task, name}) => ({task, name, ...(name === 'PARENT' ? {said: '', fits: null, cells: []} : wrongOf(name, before, operator))}));
 }
 
 // Of the machine before an operator what the page shows with it: how many records each task had, the topmost one, and the numbers of

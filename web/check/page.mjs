@@ -212,6 +212,32 @@ async function bad_input() {
   wants(state.ran?.status === 8 && state.message, `a deck that prints without end: ${state.ran?.status} ${state.message}`);
 }
 
+// A fault: Run says so and marks its card, a button shows the machine before it, and the last machine stays in view. A halt isn't red.
+async function faults() {
+  const shown = selector => browser.value(`[...document.querySelectorAll('${selector}')].filter(it => it.offsetParent || it.ownerSVGElement).map(it => it.textContent).join('|')`);
+  await writes('?JOB T\n?ASM\nSEGMENT MAIN 2\nLT8 7\nMKST\nNAMC 0,9\nNAMC 2,2\nONE\nADD\nENTR\nEXIT\n?END\n', 630);
+  await browser.click('#run');
+  await stateNow();
+  wants(/^Take \d+ words of core, and run$/.test(await shown('.offer')), 'no button for a core that suffices');
+  await browser.click('.offer');
+  await stateNow();
+  await browser.until("document.querySelector('#look')", 10);
+  wants(await shown('#gutter .refused') === '9' && /status 0/.test(await shown('.status.bad')), `a fault at card 9: ${await shown('#gutter .refused')} ${await shown('.status')}`);
+  await browser.click('#look');
+  let state = await stateNow();
+  await browser.until("!document.getElementById('fault').hidden", 10);
+  wants(state.count === 5 && await shown('#cards .faulty .stop') === '9' && await shown('#stacks .wrong-sign') === '✕', `before a fault: ${state.count}`);
+  await browser.click('#fault button');
+  state = await stateNow();
+  wants(state.count === 6 && /couple 2,2/.test(await shown('#fault')) && await shown('#stacks.past .wrong-sign') === '✕', `at a fault: ${state.count} ${await shown('#fault')}`);
+  await browser.click('#fault button');
+  wants((await stateNow()).count === 5, 'one step back from a fault isn’t one click');
+  await opens('halt,4096');
+  await browser.click('#run');
+  await stateNow();
+  wants(/status 3/.test(await shown('.status.halted')), `a wanted halt: ${await shown('.status')}`);
+}
+
 // A deck of one's own is there again after a reload, by its address, by Back and from the list, at the same operator.
 async function keeps() {
   const text = '?JOB OWN\n?ASM\nSEGMENT MAIN 2\nMKST\nNAMC 0,9\nLT8 42\nENTR\nEXIT\n?END\n';
@@ -312,7 +338,7 @@ async function each_deck() {
 
 // All parts, or those that TRIES names.
 async function tries_all() {
-  const parts = {each_deck, two_cores, follows, bad_input, keeps, ...(isFirefox ? {} : {policies}), ...(pictures ? {takes_pictures} : {})};
+  const parts = {each_deck, two_cores, follows, bad_input, faults, keeps, ...(isFirefox ? {} : {policies}), ...(pictures ? {takes_pictures} : {})};
   const named = process.env.TRIES?.split(',');
   await starts();
   for (const [name, part] of Object.entries(parts)) if (!named || named.includes(name)) await part();

@@ -106,7 +106,7 @@ test('the words of MESSAGES', () => {
   assert.match(explained(rows, '1.1 STACK UNDERFLOW').means, /more words than the top record has/);
   assert.equal(explained(rows, '1.1 23'), null);
   assert.equal(statusText(rows, 4, 'NO CORE 630 629').means, 'The next operator, or the opening, needs 630 words, and core has 629 words.');
-  assert.match(statusText(rows, 4, 'NO CORE 630 629').advice, /^Give --core at least 630 /);
+  assert.match(statusText(rows, 4, 'NO CORE 630 629').advice, /^Take at least 630 words of core/);
 });
 
 test('decks in the page', () => {
