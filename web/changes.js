@@ -1,6 +1,7 @@
 // What an operator changed: between the state before it and the state after it.
 import {countOf} from './words.js';
 import {spansText} from './memory.js';
+import {effectOf} from './effect.js';
 
 const ENDING = /^(\d+\.\d+) ([A-Z].*)$/;
 
@@ -126,7 +127,15 @@ function elements(before, after) {
   });
 }
 
+// The lines that were printed between two states.
+function printedBetween(before, after) {
+  const many = after.lines.total - before.lines.total;
+  return many ? after.lines.shown.slice(-many).map(text => ({kind: 'line', text})) : [];
+}
+
+// All that an operator changed: first what it did by itself, then its lines, tasks, paging and stores. At the end the lines alone.
 export function changesOf(before, after) {
-  if (!before || after.status !== undefined) return [];
-  return [...tasksChanged(before, after), ...pagingOf(before, after), ...stored(before, after), ...storedAgain(before, after), ...elements(before, after)];
+  if (!before) return [];
+  if (after.status !== undefined) return printedBetween(before, after);
+  return [...effectOf(before, after), ...printedBetween(before, after), ...tasksChanged(before, after), ...pagingOf(before, after), ...stored(before, after), ...storedAgain(before, after), ...elements(before, after)];
 }

@@ -8,13 +8,15 @@ const [MOST_AREAS, NUMBERS_SHOWN, SHORT_ARRAY, SECTORS_IN_ROW] = [24, 40, 16, 24
 // The kinds of changes: the colour and the words of each.
 const CHANGES = {
   in: ['in', 'comes into core'], out: ['out', 'leaves core'], turn: ['turn', 'copy turned'], made: ['in', 'new in core'],
-  gone: ['quiet', 'gone'], task: ['quiet', 'task'], cell: ['quiet', 'store'],
+  gone: ['quiet', 'gone'], task: ['turn', 'task'], cell: ['quiet', 'store'], line: ['ink', 'prints'], took: ['quiet', 'takes'], pushed: ['quiet', 'pushes'],
+  call: ['call', 'calls'], entered: ['call', 'enters'], began: ['call', 'begins'], left: ['call', 'leaves'], goes: ['quiet', 'goes'],
 };
 
 export function changesList({changes, status, count}) {
-  if (status !== undefined || count === 0) return element('p', {class: 'dim'}, count ? 'The run is over.' : 'Nothing has run yet.');
-  if (!changes.length) return element('p', {class: 'dim'}, 'In core, nothing but the stack of the task that runs.');
-  return element('ul', {class: 'changes'}, changes.map(({kind, text}) => element('li', {}, chip(CHANGES[kind][0], CHANGES[kind][1]), ` ${text}`)));
+  if (count === 0) return element('p', {class: 'dim'}, 'Nothing has run yet.');
+  const over = status === undefined ? [] : element('li', {class: 'dim'}, 'The run is over.');
+  if (!changes.length && status === undefined) return element('p', {class: 'dim'}, 'Nothing but the place of the next operator.');
+  return element('ul', {class: 'changes'}, changes.map(({kind, text}) => element('li', {}, chip(CHANGES[kind][0], CHANGES[kind][1]), ` ${text}`)), over);
 }
 
 // The bar: each part is as wide as the root of its words, so that small ones are seen.

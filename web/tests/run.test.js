@@ -42,6 +42,21 @@ const CHANGED = [
   ['switched', 12, 33, /^cell 2,2, in record 1 of task 1\.1: 0 becomes 1$/],
   ['switched', 17, 18, /^cell 2,2, in record 1 of task 1\.1: 1 is stored, and it was 1 already$/],
   ['jensen', 21, 24, /^cell 2,2, in record 1 of task 1\.1: 0 becomes 1$/],
+  ['jensen', 9, 13, /^the couple 2,5, which names cell 5 of record 1 now$/],
+  ['jensen', 10, 14, /^a reference to cell 5 of record 1$/],
+  ['jensen', 13, 17, /^SUM, with a reference to cell 5 of record 1 and a reference to cell 4 of record 1$/],
+  ['jensen', 13, 17, /^record 3, level 3: its static link leads to record 1$/],
+  ['jensen', 17, 24, /^IREF, unasked: STOD met its entry\. STOD is made again when it has returned$/],
+  ['jensen', 20, 50, /^record 4$/],
+  ['jensen', 20, 50, /^a reference to cell 2 of record 1, which it hands back$/],
+  ['jensen', 21, 24, /^1 and a reference to cell 2 of record 1$/],
+  ['jensen', 28, 28, /^on at card 29$/],
+  ['jensen', 30, 30, /^SQ, unasked: VALC met its entry\. The value that it hands back takes the place$/],
+  ['jensen', 321, 18, /^PRINT of the MCP, with 385$/],
+  ['jensen', 321, 18, /^1\.1 385$/],
+  ['two', 4, 9, /^an array of 200$/],
+  ['switched', 6, 13, /^PROCESS of the MCP, with the couple 2,3$/],
+  ['switched', 6, 13, /^2$/],
 ];
 
 test('what an operator changed', async () => {
@@ -50,6 +65,18 @@ test('what an operator changed', async () => {
     const {changes, operator} = searchOf(name).machine.state(count);
     assert.equal(operator.card, card);
     assert.ok(changes.some(change => text.test(change.text)), `${name} ${count}: ${JSON.stringify(changes)}`);
+  }
+});
+
+test('each operator of some runs is told', async () => {
+  for (const name of ['swap', 'switched', 'entry']) {
+    await turn();
+    const {machine} = searchOf(name), end = machine.end();
+    for (let count = 1; count < end; count++) {
+      const {changes, operator} = machine.state(count);
+      assert.ok(changes.length || /^(NOOP|PUSH)$/.test(operator.text), `${name} ${count}: ${operator.text}`);
+      assert.ok(changes.every(it => !/undefined|NaN/.test(it.text)), `${name} ${count}: ${JSON.stringify(changes)}`);
+    }
   }
 });
 
