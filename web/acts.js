@@ -2,13 +2,25 @@
 import {byId} from './elements.js';
 import {cardKey} from './search.js';
 import {nextChoice} from './follow.js';
+import {savePicture} from './picture.js';
 
-const [SMALLEST, LARGEST] = [11, 28];
+const [SMALLEST, LARGEST, OF_CLASS] = [11, 28, 19];
 
 function resize(page, by) {
-  page.view.size = Math.max(SMALLEST, Math.min(LARGEST, page.view.size + by));
+  resizeTo(page, Math.max(SMALLEST, Math.min(LARGEST, page.view.size + by)));
+}
+function resizeTo(page, size) {
+  page.view.size = size;
   document.documentElement.style.fontSize = `${page.view.size}px`;
   page.redraw();
+}
+
+// The view for a class has no bars, and large letters; the size that was there before comes back after it.
+function togglePresent(page) {
+  const on = document.body.classList.toggle('present');
+  if (on) page.view.sizeBefore = page.view.size;
+  byId('leave-class').hidden = !on;
+  resizeTo(page, on ? Math.max(OF_CLASS, page.view.size) : page.view.sizeBefore ?? page.view.size);
 }
 
 export function toggleLessons(page) {
@@ -27,8 +39,9 @@ function toggleTwo(page) {
   });
 }
 
-// Stops what is computed; where nothing is, closes the lessons.
+// Stops what is computed; where nothing is, leaves the view for a class, or closes the lessons.
 function escape(page) {
+  if (document.body.classList.contains('present') && byId('busy').hidden) return togglePresent(page);
   if (!byId('busy').hidden) return page.guard(() => page.stopped());
   if (!byId('lessons').hidden) toggleLessons(page);
 }
@@ -40,6 +53,7 @@ const ALWAYS = {
   lessons: page => toggleLessons(page),
   help: () => byId('help').showModal(),
   two: page => toggleTwo(page),
+  present: page => togglePresent(page),
   edit: page => page.show('deck'),
   escape,
 };
@@ -67,6 +81,8 @@ const STEPS = {
   play: page => page.play(),
   fold: page => { page.view.folds = !page.view.folds; page.redraw(); },
   arrows: page => { page.view.allArrows = !page.view.allArrows; page.redraw(); },
+  fit: page => { page.view.fit = !page.view.fit; page.redraw(); },
+  picture: page => page.guard(() => savePicture(byId('stacks'), `${page.session.name}-${page.session.state.count}`)),
   wide: page => { document.body.classList.toggle('wide'); page.redraw(); },
 };
 

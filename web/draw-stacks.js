@@ -3,7 +3,7 @@ import {drawn, put, putKept, set, taskClass} from './elements.js';
 import {INTRINSICS} from './operators.js';
 import {arrowsOf, drawArrows, legend} from './draw-arrows.js';
 
-const LEAST_SCALE = 0.85;
+const [LEAST_SCALE, LEAST_FIT, MOST_FIT] = [0.85, 0.2, 2.2];
 const [ROW, CHARACTER, LEFT, GAP, MOST_ROWS] = [20, 7.9, 34, 56, 46];
 const [MOST_CELLS, LOWEST, TOPMOST] = [40, 8, 24]; // of a record; of more the lowest and the topmost ones are drawn
 
@@ -27,7 +27,14 @@ class StacksDrawing {
   constructor(state, operators, view) {
     Object.assign(this, {state, operators, view, parts: [], records: new Map(), cells: new Map(), lowest: 40, highest: 0});
     this.fresh = new Set(state.freshCells);
+    this.short = view.fit && state.tasks.length > 3;
     this.tasks = [...state.tasks].sort((a, b) => a.name.localeCompare(b.name, 'en', {numeric: true}));
+  }
+
+  // A text as it is drawn: shorter if many stacks are to be in view.
+  text(long) {
+    if (!this.short) return long;
+    return long.replace(/^waits at cell (\d+) of record (\S+) (\d+)$/, 'waits $2 r$3 c$1').replace('awaits the end of task', 'awaits').replaceAll(' record ', ' r').replaceAll(', cell ', ' c').replace(' · not in core', ' out');
   }
 
   // Adds a part: what makes it at the origin, by a key that says all it depends on, and its place.
@@ -40,7 +47,7 @@ class StacksDrawing {
     this.tasks.forEach((task, column) => {
       const width = this.widthOf(task);
       this.drawTask(task, column, x, width);
-      x += Math.max(width, task.condition.length * CHARACTER - 10) + GAP;
+      x += Math.max(width, this.text(task.condition).length * CHARACTER - 10) + (this.short ? GAP - 14 : GAP);
     });
     const arrows = arrowsOf(this.tasks);
     const {paths, lowest, shown} = drawArrows(arrows, this);
@@ -52,8 +59,8 @@ class StacksDrawing {
   // A width of whole steps, so that it is seldom another one.
   widthOf(task) {
     const texts = task.records.flatMap(record => [20 + 5.2 * record.display.length, this.linkLine(task, record).length + 2,
-      ...record.cells.map(cell => shownText(cell).length + 11)]);
-    return Math.ceil(Math.max(this.tasks.length > 2 ? 170 : 230, Math.max(...texts) * CHARACTER) / 10) * 10;
+      ...record.cells.map(cell => this.text(shownText(cell)).length + 11)]);
+    return Math.ceil(Math.max(this.short ? 140 : this.tasks.length > 2 ? 170 : 230, Math.max(...texts) * CHARACTER) / 10) * 10;
   }
 
   // The stack of a child stands on the record to which its bottom record's static link leads.
@@ -61,8 +68,8 @@ class StacksDrawing {
     let y = (column && this.records.get(task.records[0].link)?.y) || 0;
     this.lowest = Math.max(this.lowest, y + 62);
     const next = `next: ${this.placeText(task.name, task.next)}`, title = `task ${task.name}${task.runs ? ' · runs' : ''}`;
-    this.add([title, task.condition, next].join('|'), x, y, () => [textAt(0, 19, `title ${taskClass(task.name)}`, title),
-      textAt(0, 36, 'dim', task.condition), textAt(0, 53, 'dim', next)]);
+    this.add([title, task.condition, next, this.short].join('|'), x, y, () => [textAt(0, 19, `title ${taskClass(task.name)}`, title),
+      textAt(0, 36, 'dim', this.text(task.condition)), textAt(0, 53, 'dim', next)]);
     this.cells.set(`task ${task.name}`, {x, width, y: y + 15, column});
     for (const part of this.folded(task)) {
       y -= Array.isArray(part) ? this.drawFold(task, part, column, x, y, width) : this.drawRecord(task, part, column, x, y, width);
@@ -79,7 +86,7 @@ class StacksDrawing {
   // Where a record's static link leads, and where it returns to; nothing comes after a bottom record.
   linkLine(task, record) {
     if (record.level < 0) return '';
-    return `${linkText(record)}${record.back ? ` · returns to ${this.placeText(task.name, record.back)}` : ''}`;
+    return this.text(linkText(record)) + (record.back ? ` · ${this.short ? 'to' : 'returns to'} ${this.placeText(task.name, record.back)}` : '');
   }
 
   // The records of a task; of a long stack those that nothing near the top needs are put together.
@@ -141,7 +148,7 @@ class StacksDrawing {
   shownRow(row, id) {
     if (row.folded) return {folded: row.folded.length};
     const name = `${id} ${row.at}`;
-    return {at: row.at, tag: row.tag, text: shownText(row), fresh: this.fresh.has(name), followed: this.view.followed === name, wrong: this.view.wrong?.has(name)};
+    return {at: row.at, tag: row.tag, text: this.text(shownText(row)), fresh: this.fresh.has(name), followed: this.view.followed === name, wrong: this.view.wrong?.has(name)};
   }
 
   // S, the top word, and F, the topmost mark.
@@ -195,7 +202,8 @@ function pictureOf(box) {
 export function showStacks(box, state, operators, view, {clientWidth, clientHeight, scrollLeft, scrollTop}) {
   if (!state.tasks.length) return put(box, noMachine(state));
   const drawing = new StacksDrawing(state, operators, view), {width, height, top, paths} = drawing.draw();
-  const size = Math.min(1, Math.max(LEAST_SCALE, (clientWidth - 26) / width)) * view.size / 14;
+  const usual = Math.min(1, Math.max(LEAST_SCALE, (clientWidth - 26) / width)) * view.size / 14;
+  const size = view.fit ? Math.max(LEAST_FIT, Math.min(MOST_FIT, (clientWidth - 26) / width, (clientHeight - 28) / height)) : usual;
   const full = Math.max(height, (clientHeight - 24) / size), above = top - (full - height);
   const picture = pictureOf(box), {svg} = picture;
   Object.assign(picture, {cells: drawing.cells, size, above});
@@ -203,10 +211,18 @@ export function showStacks(box, state, operators, view, {clientWidth, clientHeig
   svg.setAttribute('aria-label', spoken(state));
   putKept(svg.firstChild, drawing.parts.map(({key, make}) => [key, make])).forEach((node, k) => set(node, 'transform', drawing.parts[k].place));
   putKept(svg.lastChild, paths);
-  const running = drawing.tasks.find(task => task.runs), at = running && drawing.records.get(`${running.name} 1`);
-  const inView = at && at.x * size >= scrollLeft && (at.x + at.width) * size <= scrollLeft + clientWidth;
-  if (at && !inView) box.scrollLeft = Math.max(0, at.x * size - 60);
-  if (scrollTop) box.scrollTop = 0;
+  const running = drawing.tasks.find(task => task.runs), at = running && drawing.records.get(`${running.name} ${running.records.length}`);
+  if (at) bringIn(box, {x: at.x * size, right: (at.x + at.width) * size, y: (at.y - above) * size}, {clientWidth, clientHeight, scrollLeft, scrollTop, key: `${state.count} ${running.name} ${running.records.length}`});
+}
+
+const watched = new WeakMap(); // by its box: the record on top that was brought into view last
+
+// Brings the topmost record of the running task into view if another one is on top now; else the box stays where it was scrolled to.
+function bringIn(box, {x, right, y}, {clientWidth, clientHeight, scrollLeft, scrollTop, key}) {
+  if (x < scrollLeft || right > scrollLeft + clientWidth) box.scrollLeft = Math.max(0, x - 60);
+  const [, ...record] = key.split(' '), last = watched.get(box);
+  watched.set(box, record.join(' '));
+  if (last !== record.join(' ') && last?.split(' ')[0] !== record[0] && (y < scrollTop || y > scrollTop + clientHeight - 20)) box.scrollTop = Math.max(0, y - clientHeight / 2);
 }
 
 // The name of the cell at a place of the window; null if there is none.

@@ -17,7 +17,7 @@ export const KEYS = [
   {key: 'b', act: 'stop', what: 'breakpoint at the next card, or none there (a click on a card does the same)', short: 'breakpoint'},
   {key: 'Enter', act: 'stopped', shift: true, what: 'go to the next breakpoint', short: 'go to it'},
   {key: 'Backspace', act: 'stoppedBack', what: 'back to the breakpoint before'},
-  {key: 'p', act: 'play', what: 'play and stop', short: 'play'},
+  {key: 'p', act: 'play', what: 'play and stop; the speed stands beside the button', short: 'play'},
   {key: 'Home', act: 'first', what: 'operator 0: the machine before the run'},
   {key: 'End', act: 'last', what: 'the end of the run'},
   {key: 'PageDown', act: 'tenForth', what: 'ten operators'},
@@ -26,6 +26,9 @@ export const KEYS = [
   {key: 'z', act: 'fold', what: 'fold long stacks, or show all records and cells'},
   {key: 'a', act: 'arrows', what: 'all arrows, or those of the running task'},
   {key: 'w', act: 'wide', what: 'the stacks alone, or all', short: 'stacks alone'},
+  {key: 'k', act: 'present', what: 'for a class: cards and stacks without bars, in large letters; again: all', short: 'class'},
+  {key: 'm', act: 'fit', what: 'all stacks in view, or in the size of the letters', short: 'fit'},
+  {key: 'i', act: 'picture', what: 'the picture of the stacks as a file (SVG)'},
   {key: '+', act: 'larger', what: 'larger letters', short: 'larger'},
   {key: '-', act: 'smaller', what: 'smaller letters'},
   {key: 'l', act: 'lessons', what: 'lessons', short: 'lessons'},
@@ -34,8 +37,15 @@ export const KEYS = [
   {key: '?', act: 'help', what: 'all keys, and how to read the picture', short: 'help'},
 ];
 
+// Whether letters and signs act as keys; it can be switched off, for those who speak to their computer.
+const letters = {on: true};
+export function setLetters(on) {
+  letters.on = on;
+}
+
 // What a pressed key does, with its way; null for a key that does nothing.
 export function actOf(key, shift) {
+  if (!letters.on && key.length === 1 && key !== ' ') return null;
   const name = key === ' ' ? 'ArrowRight' : key.length === 1 && key !== '?' ? key.toLowerCase() : key;
   const found = KEYS.find(it => it.key === name);
   return found ? {act: found.act, way: shift && found.shift ? -1 : 1} : null;

@@ -5,9 +5,9 @@ import {decksOf} from './decks.js';
 import {tablesOf} from './messages.js';
 import {hashOf, momentOf} from './address.js';
 import {isPacked, unpacked} from './share.js';
-import {storageOf} from './keep.js';
+import {keepValue, keptValue, storageOf} from './keep.js';
 import {Editor, USUAL_CORE} from './editor.js';
-import {helpLine, helpTable} from './keys.js';
+import {helpLine, helpTable, setLetters} from './keys.js';
 import {perform} from './acts.js';
 import {lessonsList} from './lessons.js';
 import {offer, showFault, showResult} from './deck-view.js';
@@ -15,7 +15,7 @@ import {endingOf} from './changes.js';
 import {nameOfFollowed} from './follow.js';
 import {showDeck, showLine, showMoment} from './step-view.js';
 
-const [LEAST_CORE, MOST_CORE, MOST_FILLED, PLAY_MILLISECONDS] = [256, 1048575, 65536, 500];
+const [LEAST_CORE, MOST_CORE, MOST_FILLED] = [256, 1048575, 65536];
 const SOON_FOUND = 250; // milliseconds of a run whose fault is looked for unasked
 const [STATES_KEPT, AHEAD, ADDRESS_MILLISECONDS] = [60, [1, 2, -1, 3, -2, 4], 200]; // of states: how many are kept, and which are made ahead
 const NO_BROWSER = 'This browser can’t run the machine, which needs WebAssembly with memories of 64 bits: open this page in a Chrome, Edge or Firefox of 2025 or later.';
@@ -26,7 +26,7 @@ export class Page {
   constructor() {
     this.decks = decksOf(byId('decks').textContent.trim() + '\n');
     this.rows = tablesOf(byId('messages').textContent);
-    this.view = {size: parseFloat(getComputedStyle(document.documentElement).fontSize), folds: true, allArrows: false, followed: ''};
+    this.view = {size: parseFloat(getComputedStyle(document.documentElement).fontSize), folds: true, allArrows: false, fit: false, followed: ''};
     this.session = null;
     this.ran = null;
     this.turn = 0;
@@ -55,7 +55,16 @@ export class Page {
     put(byId('lessons'), element('h2', {}, 'Lessons'), lessonsList());
     put(byId('help-line'), helpLine((act, way) => perform(this, act, way)));
     const close = element('button', {type: 'button', class: 'close', onclick: () => byId('help').close()}, 'Close');
-    put(byId('help'), close, ...helpPicture(), element('h2', {}, 'Keys'), helpTable());
+    put(byId('help'), close, ...helpPicture(), element('h2', {}, 'Keys'), element('p', {}, element('label', {}, element('input', {type: 'checkbox', id: 'letter-keys', onchange: event => this.letterKeys(event.target.checked)}), ' Letters act as keys')), helpTable());
+    this.letterKeys(keptValue(this.storage, 'b67-letters') ?? true);
+  }
+
+  // Lets letters act as keys, or not; the browser keeps the choice.
+  letterKeys(on) {
+    setLetters(on);
+    keepValue(this.storage, 'b67-letters', on);
+    byId('letter-keys').checked = on;
+    byId('help-line').hidden = !on;
   }
 
   // ------------------------------------------------------------ what is told
@@ -417,9 +426,9 @@ export class Page {
   play(on = !this.playing) {
     clearInterval(this.playing);
     this.playing = on ? setInterval(() => {
-      if (this.session.state.status !== undefined) this.play(false);
+      if (!this.session?.state || this.session.state.status !== undefined) this.play(false);
       else if (!this.going) this.goBy(1);
-    }, PLAY_MILLISECONDS) : null;
+    }, Number(byId('speed').value)) : null;
     byId('play').textContent = on ? 'pause' : 'play';
   }
 
@@ -469,7 +478,7 @@ function helpPicture() {
     'A box is an activation record: at its foot its number, level and static link, then the place to which it returns, then its cells. A dashed box is a record that MKST has begun.',
     'The small number in a cell is its tag: 0 a number, 1 a reference, 5 an array or a copy of one, 7 the entry of a procedure. D[3] is the display register of level 3.',
     'Yellow is what the last operator changed. A copy of an array leads into core, or to the array’s original if the words were not in core.',
-    'On the line of time each column is an operator in the colour of its task; a dot is a printed line, a cross a fault, a green triangle words that came into core, a red one words that left it.',
+    'On the line of time each column is an operator in the colour of its task; as high as its stack is deep; a dot is a printed line, a cross a fault, a triangle that points up words that came into core, one that points down words that left it. Point at a column to read it; drag along the line to go there.',
   ];
   return [element('h2', {}, 'The picture'), ...lines.map(line => element('p', {}, line))];
 }

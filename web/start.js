@@ -67,7 +67,10 @@ function listenToSteps(page) {
     page.session.other = page.core('other');
     return page.goTo(page.session.state.count);
   });
-  byId('line').onclick = event => page.guard(() => page.goTo(countAt(byId('line'), page.session.window, event.clientX)));
+  const goes = event => page.guard(() => page.goTo(countAt(byId('line'), page.session.window, event.clientX)));
+  byId('line').onpointerdown = event => { if (event.button === 0) { byId('line').setPointerCapture(event.pointerId); goes(event); } };
+  byId('line').onpointermove = event => { if (event.buttons & 1) goes(event); };
+  byId('leave-class').onclick = () => perform(page, 'present');
   byId('cards').addEventListener('keydown', moveInCards);
   byId('stacks').onclick = event => {
     const name = cellAt(byId('stacks'), event);

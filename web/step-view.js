@@ -71,13 +71,20 @@ function showCount(session) {
 export function showLine(session, width = byId('line').clientWidth || 1000) {
   session.window = windowOf(session.state.count, session.end, session.window);
   const {state, window, briefs, stops, end} = session, line = byId('line'), all = end ?? window.to;
-  showTimeline(line, {count: state.count, window, briefs, stops, width});
+  const deepest = showTimeline(line, {count: state.count, window, briefs, stops, width}), depth = depthText(state, deepest);
+  if (byId('depth').textContent !== depth) byId('depth').textContent = depth;
   for (const [name, value] of [['now', state.count], ['min', 0], ['max', all]]) set(line, `aria-value${name}`, value);
   set(line, 'aria-valuetext', `${state.count} of ${end ?? 'many'} operators`);
   const part = byId('part-shown');
   byId('whole').hidden = window.from === 0 && window.to >= all;
   part.style.left = `${window.from / all * 100}%`;
   part.style.width = `${Math.max(0.5, (window.to - window.from) / all * 100)}%`;
+}
+
+// How deep the stack of the running task is, and how deep one gets on the line of time.
+function depthText({tasks, last}, deepest) {
+  const records = tasks.find(task => task.name === last)?.records.filter(it => it.level >= 0).length;
+  return records ? `${last}: ${countOf(records, 'record')} entered, ${deepest} at most on this line` : '';
 }
 
 export function showDeck(session, toggle) {

@@ -12,33 +12,47 @@ export function windowOf(count, end, old) {
   return {from, to: Math.min(from + WINDOW, end ?? Infinity)};
 }
 
-function column(brief, x, width, stopped) {
+// The records that the task of an operator has after it.
+function depthOf({depths, task}) {
+  return depths[task] ?? 0;
+}
+
+function titleOf({count, task, card, text, paging, lines, bad, depths}) {
+  const moves = {in: 'words come into core', out: 'words leave core'};
+  return [`operator ${count}`, task ? `${task} card ${card}: ${text}` : '', depths[task] ? `${depths[task]} records` : '', ...paging.map(way => moves[way]), lines ? `prints ${lines} ${lines > 1 ? 'lines' : 'line'}` : '', bad ? 'a fault' : '']
+    .filter(Boolean).join('; ');
+}
+
+// A column: as high as the stack of its task is deep; below it words that came in point up, words that left point down.
+function column(brief, x, width, stopped, deepest) {
   const middle = x + width / 2, inner = Math.max(width - (width > 4 ? 1 : 0), 0.6);
-  const parts = [drawn('rect', {x, y: 12, width: inner, height: 13, class: brief.task ? taskClass(brief.task) : 'quiet'})];
+  const high = 4 + 14 * Math.min(1, Math.sqrt(Math.max(0, depthOf(brief) - 1) / Math.max(4, deepest - 1))), parts = [drawn('rect', {x, y: 28 - high, width: inner, height: high, class: brief.task ? taskClass(brief.task) : 'quiet'})];
   if (brief.bad) parts.push(drawn('text', {x: middle - 5, y: 10, class: 'fault'}, '✕'));
   else if (brief.lines) parts.push(drawn('circle', {cx: middle, cy: 6, r: 3, class: 'printed'}));
-  if (brief.paging.length) parts.push(drawn('path', {d: `M${middle} 27l-4.5 8h9z`, class: brief.paging.includes('out') ? 'out' : 'in'}));
-  if (stopped) parts.push(drawn('rect', {x, y: 12, width: Math.max(width, 2), height: 13, class: 'stopped'}));
-  return parts;
+  if (brief.paging.includes('in')) parts.push(drawn('path', {d: `M${middle} 30l-4 6h8z`, class: 'in'}));
+  if (brief.paging.includes('out')) parts.push(drawn('path', {d: `M${middle} 43l-4 -6h8z`, class: 'out'}));
+  if (stopped) parts.push(drawn('rect', {x, y: 10, width: Math.max(width, 2), height: 18, class: 'stopped'}));
+  return drawn('g', {}, drawn('title', {}, titleOf(brief)), drawn('rect', {x, y: 0, width, height: 44, class: 'under'}), parts);
 }
 
 // Draws the window in a picture of this width. While window and breakpoints stay, only new columns are added and the cursor moved.
 export function showTimeline(picture, {count, window, briefs, stops, width}) {
-  const step = width / (window.to - window.from + 1), frame = [window.from, window.to, width, ...stops].join();
+  const step = width / (window.to - window.from + 1), deepest = Math.max(1, ...[...briefs.values()].filter(it => it.count >= window.from && it.count <= window.to).map(depthOf)), frame = [window.from, window.to, width, deepest, ...stops].join();
   let shown = shownIn.get(picture);
   if (shown?.briefs !== briefs || shown.frame !== frame) {
     shown = {briefs, frame, counts: new Set(), columns: drawn('g'), cursor: drawn('path', {class: 'cursor'})};
     shownIn.set(picture, shown);
-    set(picture, 'viewBox', `0 0 ${width} 38`);
+    set(picture, 'viewBox', `0 0 ${width} 44`);
     put(picture, shown.columns, shown.cursor);
   }
   for (let at = window.from; at <= window.to; at++) {
     const brief = briefs.get(at);
     if (!brief || shown.counts.has(at)) continue;
     shown.counts.add(at);
-    shown.columns.append(...column(brief, (at - window.from) * step, step, stops.has(brief.card)));
+    shown.columns.append(column(brief, (at - window.from) * step, step, stops.has(brief.card), deepest));
   }
-  set(shown.cursor, 'd', `M${(count - window.from + 0.5) * step} 0v38`);
+  set(shown.cursor, 'd', `M${(count - window.from + 0.5) * step} 0v44`);
+  return deepest;
 }
 
 // The count at a place of the line.
