@@ -12,11 +12,13 @@ function row(key, kind, shown, said, text, toggle) {
 }
 
 // A card as a row, with its comment apart.
-function cardRow(card, number, toggle) {
+function cardRow(card, number, toggle, help) {
   const command = card.startsWith('?'), at = command ? -1 : card.indexOf(';');
   const kind = command ? 'command' : /^(SEGMENT|ROW)/.test(card) ? 'heading' : '';
   const text = at >= 0 ? [card.slice(0, at), element('span', {class: 'comment'}, card.slice(at))] : [card || ' '];
-  return row(String(number), kind, String(number), `card ${number}`, text, toggle);
+  const made = row(String(number), kind, String(number), `card ${number}`, text, toggle), said = command ? '' : help(card);
+  if (said) made.lastChild.title = said;
+  return made;
 }
 
 // A program without cards: its operators, by their places.
@@ -24,8 +26,8 @@ function operatorRows(operators, job, toggle) {
   return Object.entries(operators).map(([place, [, text]]) => row(`${job}/${place}`, '', place, place, text, toggle));
 }
 
-export function showCards(box, deck, operators, toggle) {
-  const rows = cardsOf(deck).map((card, k) => cardRow(card, k + 1, toggle));
+export function showCards(box, deck, operators, toggle, help) {
+  const rows = cardsOf(deck).map((card, k) => cardRow(card, k + 1, toggle, help));
   const without = operators.flatMap((table, k) => (Object.values(table).some(([card]) => card) ? [] : operatorRows(table, k + 1, toggle)));
   put(box, rows, without);
 }

@@ -1,6 +1,7 @@
 // The drawing of the stacks: a column of records for each task, from the bottom up; arrows are drawn by draw-arrows.js.
 import {drawn, put, putKept, set, taskClass} from './elements.js';
 import {INTRINSICS} from './operators.js';
+import {heldBy} from './reading.js';
 import {arrowsOf, drawArrows, legend} from './draw-arrows.js';
 
 const [LEAST_SCALE, LEAST_FIT, MOST_FIT] = [0.85, 0.2, 2.2];
@@ -148,7 +149,7 @@ class StacksDrawing {
   shownRow(row, id) {
     if (row.folded) return {folded: row.folded.length};
     const name = `${id} ${row.at}`;
-    return {at: row.at, tag: row.tag, text: this.text(shownText(row)), fresh: this.fresh.has(name), followed: this.view.followed === name, wrong: this.view.wrong?.has(name)};
+    return {at: row.at, tag: row.tag, text: this.text(shownText(row)), fresh: this.fresh.has(name), followed: this.view.followed === name, wrong: this.view.wrong?.has(name), said: `tag ${row.tag}: ${heldBy(row)}`};
   }
 
   // S, the top word, and F, the topmost mark.
@@ -176,13 +177,14 @@ function foldParts(many, y, width) {
   return [drawn('rect', {x: 1, y: y + 1, width: width - 2, height: ROW - 1, class: 'fold'}), textAt(8, y + 14.5, 'dim', `… ${many} cells (z shows them) …`)];
 }
 
-function cellParts({tag, text, fresh, followed, wrong}, name, y, width) {
+function cellParts({tag, text, fresh, followed, wrong, said}, name, y, width) {
   return [fresh ? drawn('rect', {x: 1, y: y + 1, width: width - 2, height: ROW - 1, class: 'fresh'}) : null,
     drawn('path', {d: `M0 ${y + ROW}h${width}`, class: 'rule'}), textAt(6, y + 14.5, 'dim', name),
     drawn('rect', {x: 52, y: y + 3, width: 15, height: 14, rx: 2, class: `tag tag-${tag}`}), textAt(55.5, y + 14.5, 'tag-text', String(tag)),
     textAt(74, y + 14.5, '', text),
     wrong ? [drawn('rect', {x: 1.5, y: y + 1.5, width: width - 3, height: ROW - 3, class: 'wrong'}), textAt(width - 16, y + 14.5, 'wrong-sign', '✕')] : null,
-    followed ? drawn('rect', {x: 1.5, y: y + 1.5, width: width - 3, height: ROW - 3, class: 'followed'}) : null];
+    followed ? drawn('rect', {x: 1.5, y: y + 1.5, width: width - 3, height: ROW - 3, class: 'followed'}) : null,
+    drawn('rect', {x: 0, y, width, height: ROW, class: 'under'}, drawn('title', {}, said))];
 }
 
 const pictures = new WeakMap(); // by its box: the picture's element, what is drawn, and its size

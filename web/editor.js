@@ -1,5 +1,6 @@
 // The deck in the editor: which one it is, those of one's own, and what keeps it: the address, the browser, a file.
 import {byId, element, put} from './elements.js';
+import {GROUPS} from './decks.js';
 import {OwnDecks, saveFile} from './keep.js';
 import {MOST_OF_ADDRESS, packed} from './share.js';
 import {jobsOf} from './cards.js';
@@ -8,6 +9,11 @@ import {showJobs, showNumbers} from './deck-view.js';
 export const USUAL_CORE = 4096;
 const KEEP_MILLISECONDS = 300;
 const NEW_DECK = '?JOB MINE\n?ASM\nSEGMENT MAIN 2\nMKST            ; print(2 + 3)\nNAMC 0,9\nLT8 2\nLT8 3\nADD\nENTR\nEXIT\n?END\n';
+
+// The first words of a line about a deck.
+function shortened(about) {
+  return about.length > 62 ? `${about.slice(0, 60).replace(/ \S*$/, '')} …` : about;
+}
 
 export class Editor {
   // `decks` are those of the repository; `changed` is called when another deck is open, or the same with another text.
@@ -28,8 +34,9 @@ export class Editor {
   // The list: first the decks of one's own, the one changed last on top.
   list() {
     const mine = this.own.list().map(({name, text}) => element('option', {value: name}, `${name} ${jobsOf(text)[0] ?? ''}`));
-    const groups = [element('optgroup', {label: 'yours, kept in this browser'}, mine), element('optgroup', {label: 'decks'}, [...this.decks.keys()].map(name => element('option', {value: name}, name)))];
-    put(byId('pick'), mine.length ? groups : groups[1]);
+    const line = name => element('option', {value: name, title: this.decks.get(name).about}, `${name}: ${shortened(this.decks.get(name).about)}`);
+    put(byId('pick'), mine.length ? element('optgroup', {label: this.kept ? 'yours, kept in this browser' : 'yours'}, mine) : null,
+      GROUPS.map(([label, names]) => element('optgroup', {label}, names.filter(name => this.decks.has(name)).map(line))));
     byId('pick').value = this.name;
   }
 

@@ -1,9 +1,13 @@
 """Puts the page's parts into one file: `python3 web/join.py MODULE.wasm OUT.html`, called by scripts/web.sh.
 
-Five lines of page.html are placeholders. Each is replaced by a text, and nothing else is changed:
+Nine lines of page.html are placeholders. Each is replaced by a text, and nothing else is changed:
 - @STYLE@: page.css;
 - @DECKS@: for each deck of decks/ that is run, a line `#DECK NAME CORE`, a line `#ABOUT` with the first line of its README, and its cards;
 - @MESSAGES@: the headings and the rows of tables of docs/MESSAGES.md;
+- @OPERATORS@: the tables of operators and intrinsics of docs/MACHINE.md, sections 11 and 12;
+- @GLOSSARY@: the rows of tables of docs/GLOSSARY.md;
+- @PROVED@: the section "The page" of docs/TRUST.md;
+- @VERSION@: the version that CITATION.cff has;
 - @MODULE@: the module, in base64;
 - @SCRIPT@: the modules that modules.txt lists, in its order, without their import lines and the word `export`.
 
@@ -44,6 +48,38 @@ def decks():
 def messages():
     lines = (TOP / "docs/MESSAGES.md").read_text(encoding="utf-8").splitlines(keepends=True)
     return "".join(line for line in lines if line.startswith(("## ", "|")))
+
+
+def section(path, heading):
+    """What stands under a heading, up to the next one."""
+    text = (TOP / path).read_text(encoding="utf-8")
+    found = re.search(rf"^{re.escape(heading)}\n(.*?)(?=^#|\Z)", text, re.M | re.S) or stop(f"{path}: no heading {heading!r}")
+    return found[1]
+
+
+def rows(text, columns):
+    """The rows of tables of so many columns, without their heads."""
+    found = [line for line in text.splitlines() if line.startswith("|") and line.count("|") == columns + 1]
+    return "".join(f"{line}\n" for line, after in zip(found, found[1:] + [""]) if not line.startswith("|--") and not after.startswith("|--"))
+
+
+def operators():
+    machine = "docs/MACHINE.md"
+    return rows(section(machine, "## 11. Operators"), 5) + rows(section(machine, "## 12. Intrinsics"), 4)
+
+
+def glossary():
+    text = (TOP / "docs/GLOSSARY.md").read_text(encoding="utf-8")
+    return rows(text, 3) + rows(text, 2)
+
+
+def proved():
+    """Without links and backquotes."""
+    return re.sub(r"\[([^\]]*)\]\([^)]*\)|`", lambda found: found[1] or "", section("docs/TRUST.md", "### The page"))
+
+
+def version():
+    return re.search(r"^version: (\S+)", (TOP / "CITATION.cff").read_text(encoding="utf-8"), re.M)[1]
 
 
 def names_in(text):
@@ -91,10 +127,12 @@ def main():
         sys.exit(print("usage: python3 web/join.py MODULE.wasm OUT.html", file=sys.stderr) or 2)
     module = base64.b64encode(pathlib.Path(sys.argv[1]).read_bytes()).decode()
     page = (HERE / "page.html").read_text(encoding="utf-8")
-    texts = {"@STYLE@": styles(), "@DECKS@": decks(), "@MESSAGES@": messages(), "@SCRIPT@": script(), "@MODULE@": module}
+    texts = {"@STYLE@": styles(), "@DECKS@": decks(), "@MESSAGES@": messages(), "@OPERATORS@": operators(),
+             "@GLOSSARY@": glossary(), "@PROVED@": proved(), "@VERSION@": version(), "@SCRIPT@": script(), "@MODULE@": module}
     for mark, text in texts.items():
         page = put(page, mark, text)
     pathlib.Path(sys.argv[2]).write_text(page, encoding="utf-8", newline="\n")
 
 
-main()
+if __name__ == "__main__":
+    main()

@@ -41,6 +41,11 @@ export function tablesOf(text) {
   return rows;
 }
 
+// The cells of the rows of a text of tables, without marks.
+export function rowsOfTable(text) {
+  return text.split('\n').filter(line => line.startsWith('|')).map(line => line.split('|').slice(1, -1).map(cell => plain(cell)));
+}
+
 const SUBJECTS = {DECK: 'Card', ASM: 'Card', IMAGE: 'Card', CODEFILE: 'The bytes under card', BIND: 'Pair', LOAD: 'The program of the job that begins at card'};
 
 // What a refusal, a fault or another last line means: {card, means, advice}; null for a line without a row.

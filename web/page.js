@@ -7,7 +7,9 @@ import {hashOf, momentOf} from './address.js';
 import {isPacked, unpacked} from './share.js';
 import {keepValue, keptValue, storageOf} from './keep.js';
 import {Editor, USUAL_CORE} from './editor.js';
-import {helpLine, helpTable, setLetters} from './keys.js';
+import {helpLine, setLetters} from './keys.js';
+import {fillHelp} from './help.js';
+import {Lexicon} from './lexicon.js';
 import {perform} from './acts.js';
 import {lessonsList} from './lessons.js';
 import {offer, showFault, showResult} from './deck-view.js';
@@ -27,6 +29,7 @@ export class Page {
     this.decks = decksOf(byId('decks').textContent.trim() + '\n');
     this.rows = tablesOf(byId('messages').textContent);
     this.view = {size: parseFloat(getComputedStyle(document.documentElement).fontSize), folds: true, allArrows: false, fit: false, followed: ''};
+    this.lexicon = new Lexicon(byId('operators').textContent, byId('glossary').textContent);
     this.session = null;
     this.ran = null;
     this.turn = 0;
@@ -54,8 +57,8 @@ export class Page {
     put(byId('part'), [...this.decks.keys()].map(name => element('option', {value: name, selected: name === 'library'}, name)));
     put(byId('lessons'), element('h2', {}, 'Lessons'), lessonsList());
     put(byId('help-line'), helpLine((act, way) => perform(this, act, way)));
-    const close = element('button', {type: 'button', class: 'close', onclick: () => byId('help').close()}, 'Close');
-    put(byId('help'), close, ...helpPicture(), element('h2', {}, 'Keys'), element('p', {}, element('label', {}, element('input', {type: 'checkbox', id: 'letter-keys', onchange: event => this.letterKeys(event.target.checked)}), ' Letters act as keys')), helpTable());
+    const letters = element('input', {type: 'checkbox', id: 'letter-keys', onchange: event => this.letterKeys(event.target.checked)});
+    fillHelp(this.lexicon, element('p', {}, element('label', {}, letters, ' Letters act as keys')));
     this.letterKeys(keptValue(this.storage, 'b67-letters') ?? true);
   }
 
@@ -289,7 +292,7 @@ export class Page {
   async showState(state) {
     const {session} = this, {other} = session, otherState = other === null ? null : await this.stateAt(state.count, other);
     if (session !== this.session) return;
-    if (!session.state) showDeck(session, key => this.toggle(key));
+    if (!session.state) showDeck(session, key => this.toggle(key), card => this.lexicon.ofCard(card));
     session.way = session.state && state.count < session.state.count ? -1 : 1;
     this.show('step');
     Object.assign(session, {state, otherState, end: state.end ?? session.end});
@@ -433,6 +436,7 @@ export class Page {
   }
 
   draws() {
+    byId('what').title = this.lexicon.ofCard(this.session.state.operator?.text ?? '');
     showMoment(this.session, this.view, this.rows, act => perform(this, act));
   }
   redraw() {
@@ -470,15 +474,4 @@ function nothingFound(kind, way, state, followed) {
 // What `image` prints without the cards of the image.
 function withoutImage(text) {
   return text.replace(/\?IMAGE\n[^?]*\?END\n/, cards => `?IMAGE\n(${(cards.split('\n').length - 3).toLocaleString('en')} cards)\n?END\n`);
-}
-
-function helpPicture() {
-  const lines = [
-    'The column of a task is its stack; it grows upwards, and a child’s stack stands on the record to which its static link leads.',
-    'A box is an activation record: at its foot its number, level and static link, then the place to which it returns, then its cells. A dashed box is a record that MKST has begun.',
-    'The small number in a cell is its tag: 0 a number, 1 a reference, 5 an array or a copy of one, 7 the entry of a procedure. D[3] is the display register of level 3.',
-    'Yellow is what the last operator changed. A copy of an array leads into core, or to the array’s original if the words were not in core.',
-    'On the line of time each column is an operator in the colour of its task; as high as its stack is deep; a dot is a printed line, a cross a fault, a triangle that points up words that came into core, one that points down words that left it. Point at a column to read it; drag along the line to go there.',
-  ];
-  return [element('h2', {}, 'The picture'), ...lines.map(line => element('p', {}, line))];
 }

@@ -34,6 +34,7 @@ function listenToDeck(page) {
   };
   byId('file').onchange = () => byId('file').files[0] && page.guard(() => page.open(byId('file').files[0]));
   byId('deck').oninput = () => page.editor.typed();
+  document.addEventListener('selectionchange', () => showCardHelp(page));
   addEventListener('pagehide', () => page.editor.keepNow());
   byId('deck').onscroll = () => { byId('gutter').scrollTop = byId('deck').scrollTop; };
   byId('job').onchange = () => { byId('numbers').value = numbersForRead(byId('deck').value, Number(byId('job').value)); };
@@ -42,6 +43,14 @@ function listenToDeck(page) {
 function putNumbers(page) {
   byId('deck').value = withNumbers(byId('deck').value, Number(byId('job').value), byId('numbers').value);
   page.editor.typed();
+}
+
+// Says what the operator of the card does in which the caret stands.
+function showCardHelp(page) {
+  const {value, selectionStart} = byId('deck');
+  if (document.activeElement !== byId('deck') || value.length > 200000) return;
+  const card = value.slice(0, selectionStart).split('\n').length, said = page.lexicon.ofCard(value.split('\n')[card - 1] ?? '');
+  byId('card-help').textContent = said ? `Card ${card}. ${said}` : '';
 }
 
 // Copies the address, or marks it where the browser doesn't allow that.

@@ -87,8 +87,8 @@ function depthText({tasks, last}, deepest) {
   return records ? `${last}: ${countOf(records, 'record')} entered, ${deepest} at most on this line` : '';
 }
 
-export function showDeck(session, toggle) {
-  showCards(byId('cards'), session.text, session.operators, toggle);
+export function showDeck(session, toggle, help) {
+  showCards(byId('cards'), session.text, session.operators, toggle, help);
 }
 
 // What the boxes measure. It is asked once, before anything is drawn.

@@ -1,13 +1,17 @@
 // The page's other parts, by data: expected values stand here, never from the program.
 import assert from 'node:assert/strict';
 import {readFileSync} from 'node:fs';
+import {spawnSync} from 'node:child_process';
 import {test} from 'node:test';
+import {fileURLToPath} from 'node:url';
 import {hashOf, momentOf} from '../address.js';
 import {cardsOf} from '../cards.js';
 import {endingOf} from '../changes.js';
 import {followedText, nextChoice} from '../follow.js';
 import {numbersForRead, withNumbers} from '../deck-view.js';
-import {decksOf} from '../decks.js';
+import {decksOf, GROUPS} from '../decks.js';
+import {intrinsicsIn, Lexicon, operatorsIn} from '../lexicon.js';
+import {INTRINSICS, MEANINGS, OPERATORS, TAKES} from '../operators.js';
 import {OwnDecks} from '../keep.js';
 import {actOf, KEYS} from '../keys.js';
 import {momentsOfLessons} from '../lessons.js';
@@ -121,6 +125,42 @@ test('each key does one thing', () => {
   assert.deepEqual(actOf('O', true), {act: 'line', way: -1});
   assert.deepEqual(actOf('ArrowLeft', false), {act: 'back', way: 1});
   assert.equal(actOf('x', false), null);
+});
+
+// What join.py takes out of docs, asked of itself.
+function joined(name) {
+  const made = spawnSync('python3', ['-c', `import sys; sys.dont_write_bytecode = True; import join; sys.stdout.write(join.${name}())`], {cwd: fileURLToPath(new URL('..', import.meta.url)), encoding: 'utf8'});
+  assert.equal(made.status, 0, made.stderr);
+  return made.stdout;
+}
+
+test('the operators of the page are those of MACHINE: names, codes, and how many words each takes', () => {
+  const text = joined('operators'), table = operatorsIn(text), intrinsics = intrinsicsIn(text);
+  const names = new Set([...[...OPERATORS.values()].map(([name]) => name), 'VALC', 'NAMC']);
+  assert.deepEqual(new Set(table.keys()), names);
+  for (const [byte, [name]] of OPERATORS) assert.equal(parseInt(table.get(name).code, 16), byte, name);
+  for (const name of names) assert.ok(MEANINGS[name], name);
+  for (const [name, {does}] of table) {
+    const takes = /^((?:[a-z] )+)->/.exec(does);
+    if (takes) assert.equal(TAKES[name], takes[1].trim().split(' ').length, name);
+  }
+  for (const [number, name] of Object.entries(INTRINSICS)) assert.ok(intrinsics.get(number).call.startsWith(`${name}(`), name);
+});
+
+test('what a card’s operator does', () => {
+  const lexicon = new Lexicon(joined('operators'), joined('glossary'));
+  assert.match(lexicon.ofCard('TOP: ADD  ; the sum'), /^ADD, syllable 80: adds the two numbers on top\. a b -> a \+ b$/);
+  assert.match(lexicon.ofCard('NAMC 0,9'), /the intrinsic PRINT, which prints the value/);
+  for (const card of ['SEGMENT MAIN 2', '; ADD', '', 'ROW R', '?END']) assert.equal(lexicon.ofCard(card), '');
+  const terms = new Map(lexicon.terms.map(cells => [cells[0], cells.at(-1)]));
+  for (const term of ['couple', 'accidental entry', 'thunk', 'dictionary', 'hole', 'sector, chain', 'theorem']) assert.ok(terms.get(term), term);
+  assert.match(joined('proved'), /Nothing proves that the WebAssembly/);
+  assert.match(joined('version'), /^\d+\.\d+\.\d+$/);
+});
+
+test('each deck of the page is in one group', () => {
+  const grouped = GROUPS.flatMap(([, names]) => names);
+  assert.deepEqual(grouped.toSorted(), decks().map(deck => deck.name).toSorted());
 });
 
 test('what is followed', () => {

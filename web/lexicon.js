@@ -1,0 +1,46 @@
+// The words of the machine: its operators and intrinsics from docs/MACHINE.md, and the terms of docs/GLOSSARY.md, as the page holds them.
+import {element} from './elements.js';
+import {INTRINSICS, MEANINGS} from './operators.js';
+import {rowsOfTable} from './messages.js';
+
+// The operators: name to {code, parameters, does, faults}. A row of the table may have several, with a code for each.
+export function operatorsIn(text) {
+  const found = new Map();
+  for (const [names, codes, parameters, does, faults] of rowsOfTable(text)) {
+    const each = names.split(/,? +/).filter(name => /^[A-Z][A-Z0-9]+$/.test(name)), code = codes.split(' ');
+    each.forEach((name, k) => found.set(name, {code: /^top bits/.test(codes) ? codes : code[k], parameters, does, faults}));
+  }
+  return found;
+}
+
+// The intrinsics: number to {call, does}.
+export function intrinsicsIn(text) {
+  return new Map(rowsOfTable(text).filter(row => /^\d+$/.test(row[0])).map(([number, call, does]) => [number, {call, does}]));
+}
+
+export class Lexicon {
+  constructor(operators, glossary) {
+    Object.assign(this, {operators: operatorsIn(operators), intrinsics: intrinsicsIn(operators), terms: rowsOfTable(glossary)});
+  }
+
+  // What a card's operator does, in a line; empty for a card without one.
+  ofCard(card) {
+    const [name, operand = ''] = card.replace(/;.*/, '').trim().replace(/^[A-Z][A-Z0-9]*: */, '').split(/\s+/), row = this.operators.get(name);
+    if (!row) return '';
+    const couple = /^0,(\d+)$/.exec(operand), intrinsic = couple && this.intrinsics.get(couple[1]);
+    const said = intrinsic ? `pushes the couple of the intrinsic ${INTRINSICS[couple[1]]}, which ${intrinsic.does}` : `${MEANINGS[name]}. ${/^(nothing|$)/.test(row.does) ? '' : row.does}`;
+    return `${name}, syllable ${row.code}${row.parameters ? ` and then ${row.parameters}` : ''}: ${said}`.trim();
+  }
+
+  operatorTable() {
+    return element('table', {}, element('tbody', {}, element('tr', {}, ['operator', 'syllable', 'then', 'takes and leaves; rules', 'in a line'].map(name => element('th', {}, name))),
+      [...this.operators].map(([name, row]) => element('tr', {}, element('td', {}, element('strong', {}, name)), element('td', {class: 'number'}, row.code), element('td', {}, row.parameters),
+        element('td', {}, row.does), element('td', {}, MEANINGS[name])))));
+  }
+  intrinsicTable() {
+    return element('table', {}, element('tbody', {}, [...this.intrinsics].map(([number, row]) => element('tr', {}, element('td', {class: 'number'}, `0,${number}`), element('td', {}, row.call), element('td', {}, row.does)))));
+  }
+  glossary() {
+    return element('dl', {}, this.terms.map(cells => [element('dt', {}, cells[0]), element('dd', {}, cells.at(-1), cells.length > 2 && cells[1] ? element('span', {class: 'dim'}, ` (Burroughs: ${cells[1]})`) : null)]));
+  }
+}
