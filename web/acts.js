@@ -23,11 +23,11 @@ function togglePresent(page) {
   resizeTo(page, on ? Math.max(OF_CLASS, page.view.size) : page.view.sizeBefore ?? page.view.size);
 }
 
-export function toggleLessons(page) {
+export function toggleLessons(page, shown = byId('lessons').hidden) {
   const panel = byId('lessons');
-  panel.hidden = !panel.hidden;
+  panel.hidden = !shown;
   byId('lessons-button').setAttribute('aria-pressed', String(!panel.hidden));
-  if (!panel.hidden) panel.querySelector('a')?.focus();
+  if (shown) panel.querySelector('summary')?.focus({preventScroll: true});
   page.redraw();
 }
 
@@ -79,6 +79,7 @@ const STEPS = {
   stoppedBack: page => page.find('stopped', -1),
   stop: page => page.toggle(cardKey(page.session.state.next ?? page.session.state.operator)),
   play: page => page.play(),
+  quiz: page => page.course.predict(),
   fold: page => { page.view.folds = !page.view.folds; page.redraw(); },
   arrows: page => { page.view.allArrows = !page.view.allArrows; page.redraw(); },
   fit: page => { page.view.fit = !page.view.fit; page.redraw(); },

@@ -8,6 +8,12 @@ export function momentOf(hash) {
   return {deck, core: core && Number(core), count: count === undefined ? null : Number(count), other: other ? Number(other) : null};
 }
 
+// The lesson or the task that an address names: `#lesson:3`, `#task:3.2`; null for another address.
+export function courseOf(hash) {
+  const found = /^#(lesson|task):([0-9.]+)$/.exec(hash);
+  return found && {kind: found[1], id: found[2]};
+}
+
 export function hashOf({deck, core, count, other}) {
   return `#${[deck, core, count, other].filter(part => part !== null && part !== undefined).join(',')}`;
 }

@@ -59,6 +59,21 @@ export function markCards(box, state, stops, faulty) {
   if (shown && (at < scrollTop + 20 || at > scrollTop + clientHeight - 60)) box.scrollTop = at - clientHeight / 2;
 }
 
+// The text in ALGOL beside the cards: the line of the operator just made, and that of the next one.
+export function showAlgol(box, {algol, state}) {
+  box.parentNode.hidden = !algol;
+  if (!algol) return;
+  if (box.dataset.text !== algol.lines[0] + algol.lines.length) put(box, algol.lines.map(line => element('li', {}, line)));
+  box.dataset.text = algol.lines[0] + algol.lines.length;
+  const [now, next] = [state.operator, state.next].map(it => box.children[algol.cards.get(it?.card)]);
+  for (const row of box.children) {
+    row.classList.toggle('now', row === now);
+    row.classList.toggle('next', row === next);
+  }
+  const {scrollTop, clientHeight} = box, shown = now ?? next;
+  if (shown && (shown.offsetTop < scrollTop || shown.offsetTop > scrollTop + clientHeight - 24)) box.scrollTop = shown.offsetTop - clientHeight / 2;
+}
+
 // A line, in the colour of its task; the meaning of a fault below it. Its causes stand where the machine before it is known.
 export function lineRow(line, rows, fresh) {
   const task = /^\d+\.\d+ /.test(line) ? taskClass(line.split(' ')[0]) : '';

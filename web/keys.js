@@ -17,6 +17,7 @@ export const KEYS = [
   {key: 'b', act: 'stop', what: 'breakpoint at the next card, or none there (a click on a card does the same)', short: 'breakpoint'},
   {key: 'Enter', act: 'stopped', shift: true, what: 'go to the next breakpoint', short: 'go to it'},
   {key: 'Backspace', act: 'stoppedBack', what: 'back to the breakpoint before'},
+  {key: 'q', act: 'quiz', what: 'predict: a question before each step, marked by the machine; again: none', short: 'predict'},
   {key: 'p', act: 'play', what: 'play and stop; the speed stands beside the button', short: 'play'},
   {key: 'Home', act: 'first', what: 'operator 0: the machine before the run'},
   {key: 'End', act: 'last', what: 'the end of the run'},

@@ -3,15 +3,16 @@ import {byId, element, put} from './elements.js';
 import {Client} from './client.js';
 import {decksOf} from './decks.js';
 import {tablesOf} from './messages.js';
-import {hashOf, momentOf} from './address.js';
+import {courseOf, hashOf, momentOf} from './address.js';
 import {isPacked, unpacked} from './share.js';
 import {keepValue, keptValue, storageOf} from './keep.js';
 import {Editor, USUAL_CORE} from './editor.js';
 import {helpLine, setLetters} from './keys.js';
 import {fillHelp} from './help.js';
 import {Lexicon} from './lexicon.js';
-import {perform} from './acts.js';
-import {lessonsList} from './lessons.js';
+import {perform, toggleLessons} from './acts.js';
+import {algolOf} from './algol.js';
+import {Course} from './course-view.js';
 import {offer, showFault, showResult} from './deck-view.js';
 import {endingOf} from './changes.js';
 import {nameOfFollowed} from './follow.js';
@@ -37,6 +38,7 @@ export class Page {
     this.working = 0;
     this.storage = storageOf(globalThis);
     this.editor = new Editor(this.decks, this.storage, () => this.addressSoon());
+    this.course = new Course(this);
   }
 
   // Starts the worker, or says why it can't run.
@@ -55,7 +57,7 @@ export class Page {
 
   lists() {
     put(byId('part'), [...this.decks.keys()].map(name => element('option', {value: name, selected: name === 'library'}, name)));
-    put(byId('lessons'), element('h2', {}, 'Lessons'), lessonsList());
+    this.course.list();
     put(byId('help-line'), helpLine((act, way) => perform(this, act, way)));
     const letters = element('input', {type: 'checkbox', id: 'letter-keys', onchange: event => this.letterKeys(event.target.checked)});
     fillHelp(this.lexicon, element('p', {}, element('label', {}, letters, ' Letters act as keys')));
@@ -137,12 +139,13 @@ export class Page {
   // ------------------------------------------------------------ the deck
 
   async command(words, {text = byId('deck').value, refusedOf, sectors, resumes} = {}) {
-    const result = await this.client.ask('call', {words, text, sectors, resumes});
+    const result = await this.client.ask('call', {words, text, sectors, resumes}), core = this.core();
     this.ran = {status: result.status, text: result.text};
     if (result.status === 2 && !refusedOf) result.place = await this.placeOf(text, result.text);
     showResult(this.rows, {words, ...result, text: words[0] === 'image' ? withoutImage(result.text) : result.text}, refusedOf);
     if (result.status === 0 && /run|check/.test(words[0]) && !hasJob(text)) this.say(NO_JOB);
     if (result.status === 8) this.say('More is printed than the page takes, which is 16 MB: give the job a lower ?LIMIT, or let it print less.');
+    if (/^(run|resume|check)$/.test(words[0]) && result.status < 4) await this.course.ran(words, text, result, core);
     return result;
   }
 
@@ -235,7 +238,7 @@ export class Page {
         const {status} = await this.command(['check'], {sectors: 1});
         if (status) return this.show('deck');
         if (!hasJob(text)) throw new Error(NO_JOB);
-        this.session = {text, core, name: this.editor.name, code: await this.editor.addressed(), stops: new Set(), briefs: new Map(), states: new Map(), faults: new Map(), end: null, other: null, wanted: null, way: 1};
+        this.session = {text, core, name: this.editor.name, algol: algolOf(this.editor.name), code: await this.editor.addressed(), stops: new Set(), briefs: new Map(), states: new Map(), faults: new Map(), end: null, other: null, wanted: null, way: 1};
         this.view.followed = '';
         const begun = await this.client.ask('operators', {deck: text, core});
         Object.assign(this.session, begun);
@@ -286,12 +289,29 @@ export class Page {
 
   // Goes so many operators forth or back, from where the last wish leads.
   goBy(count) {
+    if (this.course.predicting && count === 1) return this.guard(() => this.predicts());
     return this.guard(() => this.goTo((this.session.wanted ?? this.session.state.count) + count));
+  }
+
+  // A step with a question before it, where the operator deserves one.
+  async predicts() {
+    const {session} = this, now = session.state;
+    if (this.asking) return;
+    this.asking = true;
+    try {
+      const then = await this.stateAt(now.count + 1, session.core);
+      this.working--; // while the pupil thinks, nothing is under way
+      await this.course.asks(now, then, `${session.name},${session.core},${now.count}`).finally(() => { this.working++; });
+      if (session === this.session && session.state === now) await this.goTo(now.count + 1);
+    } finally {
+      this.asking = false;
+    }
   }
 
   async showState(state) {
     const {session} = this, {other} = session, otherState = other === null ? null : await this.stateAt(state.count, other);
     if (session !== this.session) return;
+    if (this.asking) this.course.leave?.();
     if (!session.state) showDeck(session, key => this.toggle(key), card => this.lexicon.ofCard(card));
     session.way = session.state && state.count < session.state.count ? -1 : 1;
     this.show('step');
@@ -300,6 +320,7 @@ export class Page {
     document.body.dataset.compared = state.compared;
     byId('two').setAttribute('aria-pressed', String(other !== null));
     this.draws();
+    this.course.sees(session, state).catch(() => {});
     this.addressSoon();
     this.prepare();
   }
@@ -373,13 +394,30 @@ export class Page {
   async follow(hash = location.hash) {
     clearTimeout(this.addresses);
     this.addresses = null;
-    const moment = momentOf(hash);
+    const course = courseOf(hash), moment = momentOf(hash);
+    if (course) return this.guard(() => this.opensCourse(course));
     if (!moment) return this.editor.name ? undefined : this.editor.choose('two');
     const {session} = this;
     const shown = session?.state && document.body.dataset.view === 'step' && [session.name, session.code].includes(moment.deck) && session.core === moment.core
       && session.state.count === moment.count && session.other === moment.other;
     if (!shown) await this.guard(() => this.openAt(moment));
   }
+  // A lesson or a task; without a deck before it the page shows its first one beside.
+  async opensCourse({kind, id}) {
+    if (!this.editor.name) this.editor.choose('two');
+    if (!await this.course.opens(kind, id)) throw new Error(`There is no ${kind} ${id} in this page: see the list of lessons.`);
+  }
+  openAddress(address) {
+    return this.openAt(momentOf(`#${address}`));
+  }
+  newDeck() {
+    this.show('deck');
+    this.editor.begin();
+  }
+  showLessons(shown) {
+    if (byId('lessons').hidden === shown) toggleLessons(this, shown);
+  }
+
   async openAt({deck, core, count, other}) {
     const text = isPacked(deck) ? await unpacked(deck) : null, {editor} = this;
     if (text === null && !editor.has(deck)) {

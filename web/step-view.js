@@ -3,7 +3,7 @@ import {byId, element, put, putKept, set, taskClass} from './elements.js';
 import {countOf} from './words.js';
 import {INTRINSICS, MEANINGS} from './operators.js';
 import {endingOf} from './changes.js';
-import {showCards, markCards, showPrinted, lineRow} from './draw-cards.js';
+import {showAlgol, showCards, markCards, showPrinted, lineRow} from './draw-cards.js';
 import {showStacks} from './draw-stacks.js';
 import {changesList, showMemory} from './draw-memory.js';
 import {showTimeline, windowOf} from './timeline.js';
@@ -84,7 +84,7 @@ export function showLine(session, width = byId('line').clientWidth || 1000) {
 // How deep the stack of the running task is, and how deep one gets on the line of time.
 function depthText({tasks, last}, deepest) {
   const records = tasks.find(task => task.name === last)?.records.filter(it => it.level >= 0).length;
-  return records ? `${last}: ${countOf(records, 'record')} entered, ${deepest} at most on this line` : '';
+  return records ? `${countOf(records, 'record')} deep${deepest > 1 ? `, ${deepest} at most` : ''}` : '';
 }
 
 export function showDeck(session, toggle, help) {
@@ -106,6 +106,7 @@ export function showMoment(session, view, rows, act) {
   showFaultNote(fault, rows, act);
   const {stacks, line} = measured();
   markCards(byId('cards'), state, stops, fault?.operator);
+  showAlgol(byId('algol'), session);
   showPrinted(byId('printed'), state.lines, state.fresh.length);
   byId('stacks').classList.toggle('past', shown !== state);
   showStacks(byId('stacks'), shown, session.operators, {...view, wrong: new Set(fault?.wrongs.flatMap(it => it.cells))}, stacks);

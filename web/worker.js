@@ -4,11 +4,13 @@ import {programOf, textOf} from './program.js';
 import {operatorsOf} from './cards.js';
 import {Machine} from './machine.js';
 import {Search} from './search.js';
+import {TASKS} from './course.js';
 import {endingOf} from './changes.js';
 import {wrongOf} from './faults.js';
 
 const MOST_SHOWN = 1 << 24; // bytes that a command may print
 const MOST_OF_IMAGE = 1 << 26;
+const MOST_BEFORE = 1000; // operators in which a first moment is looked for
 const SOON = 100000; // operators, within which the end is looked for at once
 
 export class Desk {
@@ -73,6 +75,13 @@ export class Desk {
   fault({deck, core}) {
     const search = this.search(deck, core), count = search.firstFault(), state = this.state({deck, core, count}), [wrong] = state.wrongs;
     return wrong ? {...wrong, count, operator: state.operator} : null;
+  }
+
+  // Whether what a task wants holds of no state before this count.
+  isFirst({deck, core, id, count}) {
+    const {machine} = this.search(deck, core), task = TASKS.find(it => it.id === id);
+    for (let at = 1; at < Math.min(count, MOST_BEFORE); at++) if (task.holds(machine.state(at))) return false;
+    return count <= MOST_BEFORE;
   }
 
   // The least core in which a run doesn't end for want of words.

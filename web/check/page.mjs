@@ -238,6 +238,48 @@ async function faults() {
   wants(/status 3/.test(await shown('.status.halted')), `a wanted halt: ${await shown('.status')}`);
 }
 
+// A task of each kind, by its address: it is done only when it should be, and the mark is there after a reload.
+async function course() {
+  const task = () => browser.value("document.getElementById('task').hidden ? '' : document.getElementById('task').innerText"), quiz = "document.getElementById('quiz')";
+  const opensTask = async id => {
+    await opens(`task:${id}`);
+    await browser.value('document.activeElement.blur()');
+  };
+  await opensTask('2.1');
+  await browser.until(`${quiz}.querySelector('form')`, 10);
+  await browser.value(`[...${quiz}.querySelectorAll('button')].find(it => it.textContent === '1.1 record 3').click()`);
+  await browser.until(`${quiz}.textContent.includes('No:')`, 10);
+  wants(!/✓/.test(await task()), 'a wrong prediction is marked as right');
+  await opensTask('2.1');
+  await browser.until(`${quiz}.querySelector('form')`, 10);
+  await browser.value(`[...${quiz}.querySelectorAll('button')].find(it => it.textContent === '1.1 record 1').click()`);
+  await browser.until("document.getElementById('task').textContent.includes('✓')", 10);
+  await opensTask('4.2');
+  for (let k = 0; k < 17; k++) {
+    wants(!/✓/.test(await task()), `task 4.2 is done at ${k}`);
+    await pressed('switched', deckOf('switched'), 'ArrowRight');
+  }
+  await browser.until("document.getElementById('task').textContent.includes('✓')", 10);
+  await opensTask('1.5');
+  await browser.click('#run');
+  await stateNow();
+  wants(!/✓/.test(await task()), 'a deck that prints 5 has printed 42');
+  await browser.value("{ const it = document.getElementById('deck'); it.value = it.value.replace('LT8 3', 'LT8 40'); it.dispatchEvent(new Event('input', {bubbles: true})); } 0");
+  await browser.click('#run');
+  await browser.until("document.getElementById('task').textContent.includes('✓')", 10);
+  wants(/in another core too/.test(await task()), `a deck that prints 42: ${await task()}`);
+  await browser.value('setTimeout(() => location.reload()) * 0');
+  await new Promise(goes => setTimeout(goes, 800));
+  await browser.until('window.b67?.ready');
+  await browser.value('b67.ready');
+  wants(await browser.value("document.getElementById('lessons-button').textContent") === 'Lessons 3/29', 'marks are lost by a reload');
+  await opens('task:9.9');
+  wants(/no task 9\.9/.test((await stateNow()).message), 'a task that isn’t there: no sentence');
+  await opens('jensen,4096,30');
+  const lines = await browser.value("['now', 'next'].map(kind => document.querySelector(`#algol .${kind}`)?.textContent.trim() ?? '').join('|')");
+  wants(lines === 'do total := total + term;|i × i))', `beside card 30 stand ${lines}`);
+}
+
 // A deck of one's own is there again after a reload, by its address, by Back and from the list, at the same operator.
 async function keeps() {
   const text = '?JOB OWN\n?ASM\nSEGMENT MAIN 2\nMKST\nNAMC 0,9\nLT8 42\nENTR\nEXIT\n?END\n';
@@ -338,7 +380,7 @@ async function each_deck() {
 
 // All parts, or those that TRIES names.
 async function tries_all() {
-  const parts = {each_deck, two_cores, follows, bad_input, faults, keeps, ...(isFirefox ? {} : {policies}), ...(pictures ? {takes_pictures} : {})};
+  const parts = {each_deck, two_cores, follows, bad_input, faults, course, keeps, ...(isFirefox ? {} : {policies}), ...(pictures ? {takes_pictures} : {})};
   const named = process.env.TRIES?.split(',');
   await starts();
   for (const [name, part] of Object.entries(parts)) if (!named || named.includes(name)) await part();

@@ -14,7 +14,7 @@ import {intrinsicsIn, Lexicon, operatorsIn} from '../lexicon.js';
 import {INTRINSICS, MEANINGS, OPERATORS, TAKES} from '../operators.js';
 import {OwnDecks} from '../keep.js';
 import {actOf, KEYS} from '../keys.js';
-import {momentsOfLessons} from '../lessons.js';
+import {momentsOfLessons} from '../course.js';
 import {least} from '../machine.js';
 import {spansText} from '../memory.js';
 import {explained, statusText, tablesOf} from '../messages.js';
@@ -181,6 +181,6 @@ test('lessons lead to moments of decks that are there', () => {
   for (const address of momentsOfLessons()) {
     const moment = momentOf(address);
     assert.ok(names.has(moment.deck) && moment.count !== null, address);
-    assert.equal(moment.core, names.get(moment.deck), address);
+    assert.ok(moment.core >= names.get(moment.deck), address);
   }
 });

@@ -1,0 +1,61 @@
+// Predict: a question about the next operator, made from the machine's own next state, which marks the answer. There is no key to it.
+import {operatorParts, recordsOf} from './reading.js';
+
+const COMPUTES = /^(ADD|SUBT|MULT|IDIV|RDIV|CHSN|LESS|LSEQ|GREQ|GRTR|EQUL|NEQL|NXLV|ISOL|INSR|LAND|LOR)$/;
+const [MOST_CHOICES, RECORD] = [6, / record /];
+
+// Which task makes the next operator, where several are ready and another one than before does it.
+function aboutTask(now, then) {
+  const ready = now.tasks.filter(it => it.condition === 'ready').map(it => it.name);
+  if (ready.length < 2 || !now.last || then.last === now.last) return null;
+  return {ask: `Task ${now.last} made the last operator, and ${ready.length} tasks are ready. Which one makes the next?`, choices: ready, right: [then.last], hides: true};
+}
+
+// What leaves core, where an array or a segment is wanted that has no room.
+function aboutPaging(now, then) {
+  const out = then.changes.filter(it => it.kind === 'out').map(it => it.text), choices = now.things.filter(it => it.at).map(it => it.text);
+  const right = choices.filter(it => out.some(text => text.startsWith(`${it},`)));
+  return right.length && choices.length > 1 ? {ask: 'This operator wants words for which core has no room. What leaves core?', choices: choices.slice(0, MOST_CHOICES), right} : null;
+}
+
+// Where the static link of a procedure's record leads.
+function aboutLink(now, then) {
+  const {task} = now.next, was = recordsOf(now, task), is = recordsOf(then, task), top = is.at(-1);
+  const entered = top && top.level >= 0 && (is.length > was.length || is.length === was.length && was.at(-1)?.level < 0);
+  if (!entered || !top.link.includes(' ') || top.link.startsWith('DICT')) return null;
+  const name = link => link.replace(' ', ' record '), all = then.tasks.flatMap(it => it.records.filter(record => record.level >= 0 && record !== top).map(record => `${it.name} record ${record.number}`));
+  if (all.length < 2) return null;
+  const right = name(top.link), near = all.filter(it => it !== right).slice(-MOST_CHOICES + 2);
+  return {ask: `This operator enters a procedure of level ${top.level}. To which record does the static link of its record lead?`, choices: all.filter(it => it === right || it === all[0] || near.includes(it)), right: [right]};
+}
+
+function aboutLine(now, then) {
+  const line = then.fresh.find(it => /^\d+\.\d+ -?\d+$/.test(it));
+  return line ? {ask: 'A number is printed. Which one?', right: [line.split(' ')[1]]} : null;
+}
+
+function aboutFault(now, then) {
+  const wrong = then.wrongs?.[0];
+  return wrong && wrong.name !== 'LIMIT' ? {ask: 'This operator ends its task. By which fault?', right: [wrong.name],
+    choices: [...new Set([wrong.name, 'INVALID OPERAND', 'STACK UNDERFLOW', 'INVALID INDEX', 'INTEGER OVERFLOW', 'DEADLOCK', 'CRITICAL BLOCK'])].slice(0, MOST_CHOICES).sort()} : null;
+}
+
+function aboutTop(now, then) {
+  const cell = recordsOf(then, now.next.task).at(-1)?.cells.at(-1);
+  if (!COMPUTES.test(operatorParts(now.next)[0]) || cell?.kind !== 'NUM' || cell.text.startsWith('#')) return null;
+  return {ask: 'Which number is on top of the stack after it?', right: [cell.text]};
+}
+
+// The question that the next operator deserves; null for none.
+export function questionOf(now, then) {
+  if (!now.next || !then || then.count !== now.count + 1) return null;
+  for (const about of [aboutFault, aboutTask, aboutPaging, aboutLink, aboutLine, aboutTop]) {
+    const found = about(now, then);
+    if (found) return found;
+  }
+  return null;
+}
+
+export function isRight(question, answer) {
+  return question.right.includes(answer.trim().replace(/^\+/, '').replace(RECORD, ' record '));
+}
