@@ -4,6 +4,7 @@ import {dumpText} from './dump.js';
 import {openedText} from './opened.js';
 import {operatorsOf, cardsOf, jobsOf, segmentNames} from './cards.js';
 import {stateOf} from './state.js';
+import {presentIn} from './memory.js';
 import {changesOf, freshCells} from './changes.js';
 import {textOf} from './program.js';
 
@@ -104,6 +105,16 @@ export class Machine {
     const fresh = before ? Math.min(after.lines.total - before.lines.total, LINES_SENT) : 0;
     return {...after, operator, fresh: fresh ? after.lines.shown.slice(-fresh) : [], changes: changesOf(before, after),
       freshCells: freshCells(before, after)};
+  }
+
+  // What a search looks at first: who made the operator, what is next, how deep the stacks are, and whose words are in core. It is a
+  // fourth of a state's work, and is compared with nothing: the state that a search comes to is.
+  glance(count) {
+    const {status, bytes} = this.run('image', count);
+    if (status !== HALTED) return {over: true};
+    const image = new Image(bytes), task = nextTask(image), place = image.placeOf(task).join('@');
+    return {task: `${image.lastJob}.${image.lastTask}`, next: {task: task.name, place, ...this.operatorAt(task.job, place)}, present: presentIn(image),
+      depths: Object.fromEntries(image.tasks.map(it => [it.name, it.records.filter(record => record.entered).length]))};
   }
 
   // The same without the changes. What was made lately is kept.

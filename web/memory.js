@@ -39,6 +39,17 @@ function fixedAreas(image) {
   return areas;
 }
 
+// The owners of the areas that core holds, in a text: it differs if words came in or left.
+export function presentIn(image) {
+  const owners = [];
+  for (let at = image.low; at < image.coreWords;) {
+    const head = image.content(at), hole = bits(head, 47, 46) === 3;
+    if (!hole) owners.push(bits(head, 19, 0));
+    at += Math.max(1, bits(head, 39, 20) + (hole ? 0 : 2));
+  }
+  return owners.sort((a, b) => a - b).join();
+}
+
 // Areas and holes from the first word above the stacks; `present` learns where each owner's words are.
 function freeAreas(image, present, names) {
   const areas = [];

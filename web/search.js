@@ -3,6 +3,8 @@
 import {endingOf} from './changes.js';
 import {least, MOST_OPERATORS} from './machine.js';
 
+const MOST_GLANCES = 20000;
+
 // What the time line and the searches need of a state.
 function briefOf(state) {
   const {count, operator, fresh, changes, tasks, status} = state;
@@ -22,9 +24,19 @@ export function cardKey(operator) {
   return operator.card ? String(operator.card) : `${operator.task.split('.')[0]}/${operator.place}`;
 }
 
+// How far a search has come, and how fast.
+function progressText(many, count, milliseconds) {
+  return `${many.toLocaleString('en')} operators looked through, at ${count.toLocaleString('en')}; ${Math.round(many / milliseconds * 1000)} in a second, Esc stops`;
+}
+
+// A glance at a machine whose state is made.
+function glanceOf({next, tasks}) {
+  return {task: '', next, present: '', depths: Object.fromEntries(tasks.map(task => [task.name, task.records.filter(record => record.level >= 0).length]))};
+}
+
 export class Search {
   constructor(machine, tell) {
-    Object.assign(this, {machine, tell, briefs: new Map(), sent: new Set(), told: 0});
+    Object.assign(this, {machine, tell, briefs: new Map(), glances: new Map(), sent: new Set(), told: 0});
   }
 
   brief(count) {
@@ -32,11 +44,20 @@ export class Search {
     return this.briefs.get(count);
   }
 
+  // What the machine tells at a glance; that of operator 0 is made of its state.
+  glance(count) {
+    if (!this.glances.has(count)) {
+      this.glances.set(count, count ? this.machine.glance(count) : glanceOf(this.machine.machine(0)));
+      if (this.glances.size > MOST_GLANCES) this.glances.delete(this.glances.keys().next().value);
+    }
+    return this.glances.get(count);
+  }
+
   // The count that a search from `from` comes to: forwards (way 1) or backwards (way -1). `what` are the breakpoints, or what is followed.
   find(kind, from, way, what) {
     if (kind === 'line') return way > 0 ? this.nextLine(from) : this.lineBefore(from);
     if (kind === 'fault') return way > 0 ? this.nextLine(from, line => endingOf(line)) : this.lineBefore(from, line => endingOf(line));
-    return this.walk(this.testOf(kind, from, way, what), from, way, kind === 'over' || kind === 'out');
+    return this.walk({quick: this.quickOf(kind, from, what), test: this.testOf(kind, from, way, what)}, from, way, kind === 'over' || kind === 'out');
   }
 
   // The count that prints the next line that passes.
@@ -57,6 +78,17 @@ export class Search {
     return this.nextLine(0, line => endingOf(line)?.bad) ?? this.machine.end();
   }
 
+  // What must hold at a glance for the test of a kind to hold.
+  quickOf(kind, from, what) {
+    const here = this.brief(from).task, next = this.machine.machine(from).next?.task ?? here, depths = this.brief(from).depths;
+    const made = count => this.glance(count - 1).next;
+    if (kind === 'over') return ({task, depths: now}) => task === next && (now[next] ?? -1) <= (depths[next] ?? -1);
+    if (kind === 'out') return ({depths: now}) => (now[here] ?? -1) < (depths[here] ?? -1);
+    if (kind === 'paging') return ({present}, count) => present !== this.glance(count - 1).present;
+    if (kind === 'task') return ({task}, count) => task !== this.glance(count - 1).task;
+    if (kind === 'store') return (_, count) => /\b(STO[DN]|ENTR)$/.test(made(count)?.text ?? 'ENTR');
+    return (_, count) => !made(count) || what.includes(cardKey(made(count)));
+  }
   testOf(kind, from, way, what) {
     const depth = (count, task) => this.brief(count).depths[task] ?? -1;
     const here = this.brief(from).task, next = this.machine.machine(from).next?.task ?? here;
@@ -74,10 +106,13 @@ export class Search {
   }
 
   // Goes from state to state until the test holds. If it never does: to the run's end or its beginning, or nowhere.
-  walk(test, from, way, ends) {
+  walk({quick, test}, from, way, ends) {
+    const begun = performance.now();
     for (let count = from + way; ; count += way) {
       if (count <= 0) return ends ? 0 : null;
-      if (performance.now() > this.told + 200) this.say(`${Math.abs(count - from).toLocaleString('en')} operators looked through, at ${count.toLocaleString('en')}`);
+      if (performance.now() > this.told + 200) this.say(progressText(Math.abs(count - from), count, performance.now() - begun));
+      const glance = this.glance(count);
+      if (!glance.over && !quick(glance, count)) continue;
       const brief = this.brief(count), over = brief.count < count;
       if (!over && test(count)) return count;
       if (over || brief.status !== undefined && way > 0) return ends && brief.count > from ? brief.count : null;
