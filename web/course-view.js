@@ -60,7 +60,8 @@ export class Course {
     this.page.showLessons(true);
     byId(`lesson-${lesson.id}`).open = true;
     if (task) await this.begin(task);
-    (task ? document.querySelector(`[data-task="${id}"]`) : byId(`lesson-${id}`)).scrollIntoView({block: 'start'});
+    if (task && matchMedia('(max-width:800px)').matches) scrollTo(0, 0); // on a phone the task stands above, and the list below
+    else (task ? document.querySelector(`[data-task="${id}"]`) : byId(`lesson-${id}`)).scrollIntoView({block: 'start'});
     return true;
   }
   async begin(task) {
@@ -85,28 +86,24 @@ export class Course {
   // Marks a task as done, and says so.
   done(task, said) {
     this.progress.mark(task.id);
-    if (this.current?.id === task.id || !this.current) {
-      this.current = task;
-      this.tell(said, true);
-    }
+    if (this.current === task) this.tell(said, true);
     this.showMarks();
   }
 
-  // Looks whether the state that is shown is what a task wants to be found.
+  // Looks whether the state that is shown is what the task that is being done wants to be found.
   async sees({name, text, core}, state) {
-    for (const task of foundBy(name, state, () => true)) {
-      if (this.progress.isDone(task.id) && this.current?.id !== task.id) continue;
+    for (const task of foundBy(name, state).filter(it => it === this.current)) {
       const first = !task.first || await this.page.client.ask('isFirst', {deck: text, core, id: task.id, count: state.count}).catch(() => false);
       if (first) this.done(task, `Found: operator ${state.count}${state.operator ? `, ${operatorParts(state.operator).join(' ')}` : ''}.`);
-      else if (this.current?.id === task.id) this.tell(`${task.text} Here it holds too, but not for the first time.`);
+      else this.tell(`${task.text} Here it holds too, but not for the first time.`);
     }
   }
 
-  // Looks whether a command has fulfilled a task of writing; lines are looked at in a second core, too.
+  // Looks whether a command has fulfilled the task of writing; lines are looked at in a second core, too.
   async ran(words, text, {status, text: printed}, core) {
+    if (this.current?.kind !== 'write') return;
     const least = words[0] === 'run' && status === 0 && /^\?JOB TEN$/m.test(text) ? await this.page.client.ask('coreFor', {deck: text, core: 256}) : null;
-    for (const task of writtenBy({words, text, status, printed, core, least})) {
-      if (this.progress.isDone(task.id) && this.current?.id !== task.id) continue;
+    for (const task of writtenBy({words, text, status, printed, core, least}).filter(it => it === this.current)) {
       if (!task.lines) this.done(task, `Done${core === least ? `: ${core} words are the fewest` : ''}.`);
       else if (await this.sameElsewhere(text, printed, core)) this.done(task, 'Done: these are the lines, and in another core too.');
     }

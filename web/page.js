@@ -401,6 +401,7 @@ export class Page {
     const shown = session?.state && document.body.dataset.view === 'step' && [session.name, session.code].includes(moment.deck) && session.core === moment.core
       && session.state.count === moment.count && session.other === moment.other;
     if (!shown) await this.guard(() => this.openAt(moment));
+    if (matchMedia('(max-width:800px)').matches) scrollTo(0, 0);
   }
   // A lesson or a task; without a deck before it the page shows its first one beside.
   async opensCourse({kind, id}) {

@@ -28,9 +28,9 @@ export class Progress {
   }
 }
 
-// The tasks that a state fulfils: those to find in its deck. `first` wants the first moment of its kind, which `isFirst` tells.
-export function foundBy(name, state, isFirst) {
-  return TASKS.filter(task => task.kind === 'find' && deckOfTask(task) === name && state.count > 0 && task.holds(state) && (!task.first || isFirst(task)));
+// The tasks that a state fulfils: those to find in its deck. Of a task that wants the first such moment the worker tells whether it is.
+export function foundBy(name, state) {
+  return TASKS.filter(task => task.kind === 'find' && deckOfTask(task) === name && state.count > 0 && task.holds(state));
 }
 
 // The tasks of writing that a command fulfils by itself; `least` is the least core in which its deck runs.

@@ -45,7 +45,7 @@ for (const task of TASKS.filter(it => it.kind === 'find')) {
     const desk = deskOf(), {deck, core} = momentOf(`#${task.at}`), text = texts.get(deck);
     if (task.id === '5.3') {
       const end = desk.state({deck: text, core: 4096, count: 100});
-      assert.deepEqual(foundBy(deck, end, () => true).map(it => it.id), ['5.3']);
+      assert.deepEqual(foundBy(deck, end).map(it => it.id), ['5.3']);
       assert.ok(!task.holds(desk.state({deck: text, core: 630, count: 100})));
       return;
     }
@@ -54,7 +54,7 @@ for (const task of TASKS.filter(it => it.kind === 'find')) {
       if (count % 20 === 0) await turn();
       const state = desk.state({deck: text, core, count});
       assert.ok(state.count === count, `${task.id} isn't found up to ${count}`);
-      if (!foundBy(deck, state, () => true).includes(task)) continue;
+      if (!foundBy(deck, state).includes(task)) continue;
       if (FOUND[task.id]) assert.equal(count, FOUND[task.id]);
       if (task.first) assert.equal(desk.isFirst({deck: text, core, id: task.id, count}), true);
       return;
