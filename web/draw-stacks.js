@@ -206,7 +206,7 @@ export function showStacks(box, state, operators, view, {clientWidth, clientHeig
   const drawing = new StacksDrawing(state, operators, view), {width, height, top, paths} = drawing.draw();
   const usual = Math.min(1, Math.max(LEAST_SCALE, (clientWidth - 26) / width)) * view.size / 14;
   const size = view.fit ? Math.max(LEAST_FIT, Math.min(MOST_FIT, (clientWidth - 26) / width, (clientHeight - 28) / height)) : usual;
-  const full = Math.max(height, (clientHeight - 24) / size), above = top - (full - height);
+  const full = view.prints ? height : Math.max(height, (clientHeight - 24) / size), above = top - (full - height);
   const picture = pictureOf(box), {svg} = picture;
   Object.assign(picture, {cells: drawing.cells, size, above});
   for (const [name, value] of Object.entries({width: width * size, height: full * size, viewBox: `0 ${above} ${width} ${full}`})) set(svg, name, value);

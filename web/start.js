@@ -93,6 +93,7 @@ function listenToSteps(page) {
   document.addEventListener('keydown', event => onKey(page, event));
   window.addEventListener('hashchange', event => page.follow(event.newURL ? new URL(event.newURL).hash : location.hash));
   window.addEventListener('resize', () => page.redraw());
+  for (const [name, prints] of [['beforeprint', true], ['afterprint', false]]) window.addEventListener(name, () => { page.view.prints = prints; page.redraw(); });
 }
 
 // What tests ask of the page.
